@@ -1,0 +1,52 @@
+-- Lists of numbers in which none comes twice, and their edits.
+use Rattle.std.specs.Prelude.{◌≡◌, ℕ, zero, suc, List, [], ◌∷◌, Bool, false, if◌then◌else◌, ◌==◌, nat_eq}
+use Rattle.std.specs.List.{list_any}
+
+-- whether the list has `x`
+abbrev pub member : ℕ → List ℕ → Bool
+member x ys = list_any (nat_eq x) ys
+
+-- no number comes twice
+abbrev pub Distinct : List ℕ → Type 0
+Distinct [] = Unit {0}
+Distinct (x ∷ xs) = (member x xs ≡ false) × Distinct xs
+
+-- the numbers below `n`, the greatest first
+abbrev pub below : ℕ → List ℕ
+below zero = []
+below (suc n) = n ∷ below n
+
+-- the list without each `x`
+abbrev pub without : ℕ → List ℕ → List ℕ
+without x [] = []
+without x (y ∷ ys) = if x == y then without x ys else y ∷ without x ys
+
+-- the list with `x` right after the first `p`
+abbrev pub right_after : ℕ → ℕ → List ℕ → List ℕ
+right_after x p [] = []
+right_after x p (y ∷ ys) = if p == y then y ∷ x ∷ ys else y ∷ right_after x p ys
+
+-- the first number, and `e` where there is none
+abbrev pub head_or : ℕ → List ℕ → ℕ
+head_or e [] = e
+head_or e (x ∷ xs) = x
+
+-- the last number, and `e` where there is none
+abbrev pub last_or : ℕ → List ℕ → ℕ
+last_or e [] = e
+last_or e (x ∷ xs) = last_or x xs
+
+-- what stands right after `x`, and `e` at the end
+abbrev pub next_of : ℕ → ℕ → List ℕ → ℕ
+next_of e x [] = e
+next_of e x (y ∷ ys) = if x == y then head_or e ys else next_of e x ys
+
+-- what stands right before `x`, and `e` at the start
+abbrev pub prev_of : ℕ → ℕ → List ℕ → ℕ
+prev_of e x [] = e
+prev_of e x (y ∷ ys) = if x == y then e else prev_of y x ys
+
+-- how many stand before `x`
+abbrev pub place_of : ℕ → List ℕ → ℕ
+place_of x [] = 0
+place_of x (y ∷ ys) = if x == y then 0 else suc (place_of x ys)
