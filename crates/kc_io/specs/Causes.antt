@@ -1,0 +1,15 @@
+-- When a call may answer that the outside failed.
+use Rattle.std.specs.Prelude.{◌≤◌, ◌+◌, ◌-◌, ◌^◌, ℕ, min, OnErr, Result}
+
+-- one more, up to the last value of a `u64`
+abbrev pub one_more : ℕ → ℕ
+one_more count = min (count + 1) (2 ^ 64 - 1)
+
+-- the count has risen, or stands at the last value of its type
+abbrev pub Rose : ℕ → ℕ → Type 0
+Rose before after = one_more before ≤ after
+
+-- the count has not fallen, and an error comes only where it rose
+pub record HasCause {T E : Type 0} (before after : ℕ) (result : Result T E) : Type 0 where
+  pub later : before ≤ after
+  pub failed : OnErr result (Rose before after)
