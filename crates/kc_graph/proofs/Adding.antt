@@ -1,0 +1,131 @@
+-- An edge more in the rows is an edge more in the graph.
+use Rattle.std.proofs.Common.{◌≡◌, ◌≤◌, ◌<◌, ◌+◌, ◌*◌, ℕ, Bool, true, false, cond, ◌&&◌, ◌||◌, List, [], length, get_or, set, eqb, ltb, refl, sym, ◌∙◌, ap, subst, inl, inr, arith, length-set, eq-eqb, ne_eqb, lt-ltb, ltb-true, ap₂, replicate}
+use Rattle.std.specs.List.Sorted.{IsStrictlyIncreasing}
+use Rattle.std.specs.List.{sum_by, All}
+use Rattle.std.specs.Ordering.{eq_by_cmp}
+use Rattle.std.specs.Cmp.{both_ways}
+use Rattle.std.specs.FinSet.{FinSet, contains, insert, len, contains-insert, len-insert, same_set}
+use Rattle.std.proofs.lemmas.List.Sums.{sum_by-set, sum_by-le}
+use Rattle.std.proofs.lemmas.Bool.{cases_Bool, cases_eq, or_cases, or_left, or_right, or_from, and_parts, and_from, false_from_ne_true}
+use Rattle.std.proofs.Math.Bool.{or-false}
+use Rattle.kc_lists.specs.Lists.{below, member}
+use Rattle.kc_graph.specs.SimpleGraph.{SimpleGraph, adjacent, pair_cmp}
+use Rattle.kc_graph.specs.Edges.{edge, with_edge}
+use Rattle.kc_graph.specs.Rows.{row, graph_of, IsAdjacency, BothInserted}
+use Rattle.kc_lists.proofs.Counting.{member-below, length-below, count-all, count-le, Distinct-from_pairs}
+use Rattle.std.proofs.lemmas.List.Folds.{sum_by-replicate}
+use Rattle.std.proofs.lemmas.List.Elements.{All-from_get_or}
+use Rattle.std.proofs.lemmas.List.Kept.{AllPairs-from_increasing}
+use Rattle.std.proofs.Math.Nat.{mul-le-mul_left}
+use Rattle.kc_graph.proofs.Buckets.{row-set_same, row-set_other}
+use Rattle.kc_graph.proofs.Ends.{joins, joins-true, joins-sym, joins-edge, edge-joins, contains-edge}
+use Rattle.kc_graph.proofs.RowsLemmas.{contains-edges, size-graph_of, adjacent-graph_of, pair_total, pair_exact, same_pair, tied_pair}
+
+module _ (old new : List (List ℕ)) (u v : ℕ) (differ : u ≡ v → ⊥) (lu : u < length old) (lv : v < length old) (both : BothInserted old new u v) where
+  new-length : length new ≡ length old
+  new-length = ap length both.rows ∙ length-set (set old u both.first) v both.second ∙ length-set old u both.first
+
+  at-v : row new v ≡ both.second
+  at-v = ap (λ t. row t v) both.rows ∙ row-set_same (set old u both.first) v both.second (omega (arith, length-set old u both.first))
+
+  at-u : row new u ≡ both.first
+  at-u = ap (λ t. row t u) both.rows ∙ row-set_other (set old u both.first) v u both.second differ ∙ row-set_same old u both.first lu
+
+  at-other : (a : ℕ) → (a ≡ u → ⊥) → (a ≡ v → ⊥) → row new a ≡ row old a
+  at-other a nu nv = ap (λ t. row t a) both.rows ∙ row-set_other (set old u both.first) v a both.second nv ∙ row-set_other old u a both.first nu
+
+  gained : (a b : ℕ) → member b (row new a) ≡ (member b (row old a) || joins u v a b)
+  gained a b = elim (cases_eq a u) [
+    | inl e ↦
+        let j : joins u v a b ≡ eqb b v = ap₂ (λ s t. (s && eqb b v) || (t && eqb b u)) (eq-eqb a u e) (ne_eqb a v (λ f. differ (sym e ∙ f))) ∙ or-false (eqb b v) in
+        ap (λ k. member b (row new k)) e ∙ ap (member b) at-u ∙ both.at_first.gained b ∙ ap₂ (λ s t. s || t) (ap (λ k. member b (row old k)) (sym e)) (sym j)
+    | inr nu ↦ elim (cases_eq a v) [
+      | inl e ↦
+          let j : joins u v a b ≡ eqb b u = ap₂ (λ s t. (s && eqb b v) || (t && eqb b u)) (ne_eqb a u nu) (eq-eqb a v e) in
+          ap (λ k. member b (row new k)) e ∙ ap (member b) at-v ∙ both.at_second.gained b ∙ ap₂ (λ s t. s || t) (ap (λ k. member b (row old k)) (sym e)) (sym j)
+      | inr nv ↦
+          let j : joins u v a b ≡ false = ap₂ (λ s t. (s && eqb b v) || (t && eqb b u)) (ne_eqb a u nu) (ne_eqb a v nv) in
+          ap (member b) (at-other a nu nv) ∙ sym (ap (λ t. member b (row old a) || t) j ∙ or-false (member b (row old a)))
+    ]
+  ]
+
+  pub adjacency : IsAdjacency old → IsAdjacency new
+  adjacency h = record {
+    ascends = λ a. elim (cases_eq a u) [
+      | inl e ↦ subst IsStrictlyIncreasing (sym (ap (row new) e ∙ at-u)) both.at_first.ascends
+      | inr nu ↦ elim (cases_eq a v) [
+        | inl e ↦ subst IsStrictlyIncreasing (sym (ap (row new) e ∙ at-v)) both.at_second.ascends
+        | inr nv ↦ subst IsStrictlyIncreasing (sym (at-other a nu nv)) (h.ascends a)
+      ]
+    ];
+    within = λ a b m. elim (or_cases _ _ (sym (gained a b) ∙ m)) [
+      | inl k ↦ omega (arith, h.within a b k, new-length)
+      | inr k ↦ elim (joins-true u v a b k) [ inl p ↦ omega (arith, p.1, new-length) | inr p ↦ omega (arith, p.1, new-length) ]
+    ];
+    irreflexive = λ a. gained a a ∙ or_from (member a (row old a)) (joins u v a a) (h.irreflexive a)
+        (false_from_ne_true (joins u v a a) (λ k. elim (joins-true u v a a k) [ inl p ↦ differ (sym p.0 ∙ p.1) | inr p ↦ differ (sym p.1 ∙ p.0) ]));
+    symmetric = λ a b. gained a b ∙ ap₂ (λ s t. s || t) (h.symmetric a b) (joins-sym u v a b) ∙ sym (gained b a);
+  }
+
+  pub graph_of-added : graph_of new ≡ with_edge (graph_of old) u v
+  graph_of-added =
+      let edges : (graph_of new).edges ≡ insert (graph_of old).edges (edge u v) = same_set pair_total pair_exact _ _ (λ q.
+      let a : ℕ = q.0 in let b : ℕ = q.1 in
+      contains-edges new a b ∙ both_ways _ _
+      (λ h.
+      let p = and_parts (ltb a b) (member b (row new a)) h in
+      contains-insert pair_total (graph_of old).edges (edge u v) (a, b) ∙ elim (or_cases _ _ (sym (gained a b) ∙ p.1)) [
+        | inl k ↦ or_right (eq_by_cmp pair_cmp (a, b) (edge u v)) _ (contains-edges old a b ∙ and_from _ _ p.0 k)
+        | inr k ↦ or_left _ _ (tied_pair (a, b) (edge u v) (joins-edge u v a b differ (ltb-true a b p.0) k))
+      ])
+      (λ h. elim (or_cases _ _ (sym (contains-insert pair_total (graph_of old).edges (edge u v) (a, b)) ∙ h)) [
+        | inl k ↦ let p = edge-joins u v a b differ (same_pair (a, b) (edge u v) k) in and_from _ _ (lt-ltb a b p.0) (gained a b ∙ or_right (member b (row old a)) _ p.1)
+        | inr k ↦ let p = and_parts (ltb a b) (member b (row old a)) (sym (contains-edges old a b) ∙ k) in and_from _ _ p.0 (gained a b ∙ or_left _ _ p.1)
+      ])) in
+      let size : (graph_of new).size ≡ (graph_of old).size = size-graph_of new ∙ new-length ∙ sym (size-graph_of old) in
+      ap₂ (λ (n : ℕ) (e : FinSet pair_cmp). let g : SimpleGraph = record { size = n; edges = e } in g) size edges
+
+  pub sum-added : sum_by length new ≡ sum_by length old + 2
+  sum-added =
+      let mid : List (List ℕ) = set old u both.first in
+      let a : sum_by length mid + length (row old u) ≡ sum_by length old + length both.first = sum_by-set length old u both.first [] lu in
+      let b : sum_by length (set mid v both.second) + length (row mid v) ≡ sum_by length mid + length both.second = sum_by-set length mid v both.second [] (omega (arith, length-set old u both.first)) in
+      let c : length (row mid v) ≡ length (row old v) = ap length (row-set_other old u v both.first (λ e. differ (sym e))) in
+      omega (arith, a, b, c, both.at_first.longer, both.at_second.longer, ap (sum_by length) both.rows)
+
+  pub len-added : IsAdjacency old → member v (row old u) ≡ false → len (graph_of new).edges ≡ len (graph_of old).edges + 1
+  len-added h lacks =
+      let absent : contains (graph_of old).edges (edge u v) ≡ false = contains-edge (graph_of old) u v differ ∙ adjacent-graph_of old h u v ∙ lacks in
+      ap (λ (g : SimpleGraph). len g.edges) graph_of-added ∙ len-insert pair_total (graph_of old).edges (edge u v) ∙ ap (λ t. cond t (len (graph_of old).edges) (len (graph_of old).edges + 1)) absent
+
+pub sum-none : (n : ℕ) → sum_by (length {A = ℕ}) (replicate n []) ≡ 0
+sum-none n = sum_by-replicate (length {A = ℕ}) n [] ∙ omega arith
+
+-- there are few enough edges to be counted
+pub few_edges : (rows : List (List ℕ)) → IsAdjacency rows → length rows < 4294967296 → sum_by (length {A = ℕ}) rows < 18446744073709551616
+few_edges rows h small =
+    let n : ℕ = length rows in
+    let each : All (λ r. length r ≤ n) rows = All-from_get_or (λ (r : List ℕ). length r ≤ n) rows [] (λ i l.
+    let yes : ℕ → Bool = λ _. true in
+    omega (
+      arith,
+      count-all yes (row rows i) (λ x _. refl),
+      count-all yes (below n) (λ x _. refl),
+      length-below n,
+      count-le yes (row rows i) (below n) (Distinct-from_pairs (row rows i) (λ a b d lt lb e. let k : get_or (row rows i) a d < get_or (row rows i) b d = AllPairs-from_increasing (row rows i) (h.ascends i) a b d lt lb in absurd (omega arith)))
+          (λ x m _. member-below x n (h.within i x m)),
+    )) in
+    let most : sum_by (length {A = ℕ}) rows ≤ n * n = sum_by-le (length {A = ℕ}) n rows each in
+    let square : n * n ≤ n * 4294967295 = mul-le-mul_left n (omega arith) in
+    omega (arith, most, square)
+
+-- an edge that is there
+pub present : (g : SimpleGraph) (u v : ℕ) → (u ≡ v → ⊥) → adjacent g u v ≡ true → g ≡ with_edge g u v
+present g u v differ a =
+    let there : contains g.edges (edge u v) ≡ true = contains-edge g u v differ ∙ a in
+    let same : g.edges ≡ insert g.edges (edge u v) = same_set pair_total pair_exact _ _ (λ q. sym (contains-insert pair_total g.edges (edge u v) q ∙
+    elim (cases_Bool (eq_by_cmp pair_cmp q (edge u v))) [
+      | inl t ↦ or_left _ _ t ∙ sym (ap (contains g.edges) (same_pair q (edge u v) t) ∙ there)
+      | inr f ↦ ap (λ b. b || contains g.edges q) f
+    ])) in
+    ap (λ (e : FinSet pair_cmp). let x : SimpleGraph = record { size = g.size; edges = e } in x) same

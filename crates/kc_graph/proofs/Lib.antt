@@ -1,0 +1,13 @@
+pub mod Adding
+pub mod Buckets
+pub mod Deleting
+pub mod Ends
+pub mod Existence
+pub mod Filing
+pub mod Inserting
+pub mod Law
+pub mod Lowering
+pub mod PeelingLemmas
+pub mod Places
+pub mod Removing
+pub mod RowsLemmas

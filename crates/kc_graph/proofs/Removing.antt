@@ -1,0 +1,103 @@
+-- An edge less in the rows is an edge less in the graph.
+use Rattle.std.proofs.Common.{◌≡◌, ◌<◌, ◌+◌, ◌-◌, ℕ, true, false, cond, not, ◌&&◌, ◌||◌, List, [], length, set, eqb, ltb, sym, ◌∙◌, ap, ap₂, subst, inl, inr, arith, true≢false, length-set, eq-eqb, ne_eqb, ltb-true}
+use Rattle.std.specs.List.Sorted.{IsStrictlyIncreasing}
+use Rattle.std.specs.List.{sum_by}
+use Rattle.std.specs.Ordering.{eq_by_cmp}
+use Rattle.std.specs.Cmp.{both_ways}
+use Rattle.std.specs.FinSet.{FinSet, contains, remove, len, contains-remove, len-remove, same_set}
+use Rattle.std.proofs.lemmas.List.Sums.{sum_by-set}
+use Rattle.std.proofs.lemmas.Bool.{cases_Bool, cases_eq, and_parts, and_from, and_left, false_from_ne_true, not_from_false, not_from_true, not-true}
+use Rattle.std.proofs.Math.Bool.{or-false, and-true}
+use Rattle.kc_lists.specs.Lists.{member}
+use Rattle.kc_graph.specs.SimpleGraph.{SimpleGraph, adjacent, pair_cmp}
+use Rattle.kc_graph.specs.Edges.{edge, without_edge}
+use Rattle.kc_graph.specs.Rows.{row, graph_of, IsAdjacency, BothDeleted}
+use Rattle.kc_graph.proofs.Buckets.{row-set_same, row-set_other}
+use Rattle.kc_graph.proofs.Ends.{joins, joins-sym, joins-edge, edge-joins, contains-edge}
+use Rattle.kc_graph.proofs.RowsLemmas.{contains-edges, size-graph_of, adjacent-graph_of, pair_total, pair_exact, same_pair, tied_pair}
+
+module _ (old new : List (List ℕ)) (u v : ℕ) (differ : u ≡ v → ⊥) (lu : u < length old) (lv : v < length old) (both : BothDeleted old new u v) where
+  new-length : length new ≡ length old
+  new-length = ap length both.rows ∙ length-set (set old u both.first) v both.second ∙ length-set old u both.first
+
+  at-v : row new v ≡ both.second
+  at-v = ap (λ t. row t v) both.rows ∙ row-set_same (set old u both.first) v both.second (omega (arith, length-set old u both.first))
+
+  at-u : row new u ≡ both.first
+  at-u = ap (λ t. row t u) both.rows ∙ row-set_other (set old u both.first) v u both.second differ ∙ row-set_same old u both.first lu
+
+  at-other : (a : ℕ) → (a ≡ u → ⊥) → (a ≡ v → ⊥) → row new a ≡ row old a
+  at-other a nu nv = ap (λ t. row t a) both.rows ∙ row-set_other (set old u both.first) v a both.second nv ∙ row-set_other old u a both.first nu
+
+  kept : (a b : ℕ) → member b (row new a) ≡ (member b (row old a) && not (joins u v a b))
+  kept a b = elim (cases_eq a u) [
+    | inl e ↦
+        let j : joins u v a b ≡ eqb b v = ap₂ (λ s t. (s && eqb b v) || (t && eqb b u)) (eq-eqb a u e) (ne_eqb a v (λ f. differ (sym e ∙ f))) ∙ or-false (eqb b v) in
+        ap (λ k. member b (row new k)) e ∙ ap (member b) at-u ∙ both.at_first.kept b ∙ ap₂ (λ s t. s && not t) (ap (λ k. member b (row old k)) (sym e)) (sym j)
+    | inr nu ↦ elim (cases_eq a v) [
+      | inl e ↦
+          let j : joins u v a b ≡ eqb b u = ap₂ (λ s t. (s && eqb b v) || (t && eqb b u)) (ne_eqb a u nu) (eq-eqb a v e) in
+          ap (λ k. member b (row new k)) e ∙ ap (member b) at-v ∙ both.at_second.kept b ∙ ap₂ (λ s t. s && not t) (ap (λ k. member b (row old k)) (sym e)) (sym j)
+      | inr nv ↦
+          let j : joins u v a b ≡ false = ap₂ (λ s t. (s && eqb b v) || (t && eqb b u)) (ne_eqb a u nu) (ne_eqb a v nv) in
+          ap (member b) (at-other a nu nv) ∙ sym (ap (λ t. member b (row old a) && not t) j ∙ and-true (member b (row old a)))
+    ]
+  ]
+
+  pub adjacency : IsAdjacency old → IsAdjacency new
+  adjacency h = record {
+    ascends = λ a. elim (cases_eq a u) [
+      | inl e ↦ subst IsStrictlyIncreasing (sym (ap (row new) e ∙ at-u)) both.at_first.ascends
+      | inr nu ↦ elim (cases_eq a v) [
+        | inl e ↦ subst IsStrictlyIncreasing (sym (ap (row new) e ∙ at-v)) both.at_second.ascends
+        | inr nv ↦ subst IsStrictlyIncreasing (sym (at-other a nu nv)) (h.ascends a)
+      ]
+    ];
+    within = λ a b m. let k = and_parts (member b (row old a)) (not (joins u v a b)) (sym (kept a b) ∙ m) in omega (arith, h.within a b k.0, new-length);
+    irreflexive = λ a. kept a a ∙ and_left (member a (row old a)) _ (h.irreflexive a);
+    symmetric = λ a b. kept a b ∙ ap₂ (λ s t. s && not t) (h.symmetric a b) (joins-sym u v a b) ∙ sym (kept b a);
+  }
+
+  pub graph_of-removed : graph_of new ≡ without_edge (graph_of old) u v
+  graph_of-removed =
+      let edges : (graph_of new).edges ≡ remove (graph_of old).edges (edge u v) = same_set pair_total pair_exact _ _ (λ q.
+      let a : ℕ = q.0 in let b : ℕ = q.1 in
+      contains-edges new a b ∙ both_ways _ _
+      (λ h.
+      let p = and_parts (ltb a b) (member b (row new a)) h in
+      let k = and_parts (member b (row old a)) (not (joins u v a b)) (sym (kept a b) ∙ p.1) in
+      let other : eq_by_cmp pair_cmp (a, b) (edge u v) ≡ false = false_from_ne_true _
+      (λ t. true≢false (sym (edge-joins u v a b differ (same_pair (a, b) (edge u v) t)).1 ∙ not-true (joins u v a b) k.1)) in
+      contains-remove pair_total (graph_of old).edges (edge u v) (a, b) ∙ and_from _ _ (not_from_false _ other) (contains-edges old a b ∙ and_from _ _ p.0 k.0))
+      (λ h.
+      let p = and_parts (not (eq_by_cmp pair_cmp (a, b) (edge u v))) (contains (graph_of old).edges (a, b)) (sym (contains-remove pair_total (graph_of old).edges (edge u v) (a, b)) ∙ h) in
+      let k = and_parts (ltb a b) (member b (row old a)) (sym (contains-edges old a b) ∙ p.1) in
+      let apart : joins u v a b ≡ false = false_from_ne_true _
+      (λ j. true≢false (sym (tied_pair (a, b) (edge u v) (joins-edge u v a b differ (ltb-true a b k.0) j)) ∙ not-true (eq_by_cmp pair_cmp (a, b) (edge u v)) p.0)) in
+      and_from _ _ k.0 (kept a b ∙ and_from _ _ k.1 (not_from_false _ apart)))) in
+      let size : (graph_of new).size ≡ (graph_of old).size = size-graph_of new ∙ new-length ∙ sym (size-graph_of old) in
+      ap₂ (λ (n : ℕ) (e : FinSet pair_cmp). let g : SimpleGraph = record { size = n; edges = e } in g) size edges
+
+  pub sum-removed : sum_by length new + 2 ≡ sum_by length old
+  sum-removed =
+      let mid : List (List ℕ) = set old u both.first in
+      let a : sum_by length mid + length (row old u) ≡ sum_by length old + length both.first = sum_by-set length old u both.first [] lu in
+      let b : sum_by length (set mid v both.second) + length (row mid v) ≡ sum_by length mid + length both.second = sum_by-set length mid v both.second [] (omega (arith, length-set old u both.first)) in
+      let c : length (row mid v) ≡ length (row old v) = ap length (row-set_other old u v both.first (λ e. differ (sym e))) in
+      omega (arith, a, b, c, both.at_first.shorter, both.at_second.shorter, ap (sum_by length) both.rows)
+
+  pub len-removed : IsAdjacency old → member v (row old u) ≡ true → len (graph_of new).edges ≡ len (graph_of old).edges - 1
+  len-removed h here =
+      let there : contains (graph_of old).edges (edge u v) ≡ true = contains-edge (graph_of old) u v differ ∙ adjacent-graph_of old h u v ∙ here in
+      ap (λ (g : SimpleGraph). len g.edges) graph_of-removed ∙ len-remove pair_total (graph_of old).edges (edge u v) ∙ ap (λ t. cond t (len (graph_of old).edges - 1) (len (graph_of old).edges)) there
+
+-- an edge that is not there
+pub missing : (g : SimpleGraph) (u v : ℕ) → (u ≡ v → ⊥) → adjacent g u v ≡ false → g ≡ without_edge g u v
+missing g u v differ a =
+    let absent : contains g.edges (edge u v) ≡ false = contains-edge g u v differ ∙ a in
+    let same : g.edges ≡ remove g.edges (edge u v) = same_set pair_total pair_exact _ _ (λ q. sym (contains-remove pair_total g.edges (edge u v) q ∙
+    elim (cases_Bool (eq_by_cmp pair_cmp q (edge u v))) [
+      | inl t ↦ and_left _ _ (not_from_true _ t) ∙ sym (ap (contains g.edges) (same_pair q (edge u v) t) ∙ absent)
+      | inr f ↦ ap (λ b. not b && contains g.edges q) f
+    ])) in
+    ap (λ (e : FinSet pair_cmp). let x : SimpleGraph = record { size = g.size; edges = e } in x) same

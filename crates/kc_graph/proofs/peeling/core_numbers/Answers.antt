@@ -1,0 +1,5 @@
+use Rattle.kc_graph.proofs.Law.{certified}
+use Rattle.kc_graph.proofs.peeling.core_numbers.Goals as goal
+
+pub returns : goal.returns
+returns c = certified c.args.graph.now c.in_ok-removal.removal.core.items c.in_ok-removal.removal.order.items c.in_ok-removal.ensures

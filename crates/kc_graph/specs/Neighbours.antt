@@ -1,0 +1,11 @@
+-- The neighbours of a vertex as a list.
+use Rattle.std.specs.Prelude.{◌≡◌, ◌<◌, ℕ, List, true}
+use Rattle.std.specs.List.Sorted.{IsStrictlyIncreasing}
+use Rattle.kc_lists.specs.Lists.{member}
+use Rattle.kc_graph.specs.SimpleGraph.{SimpleGraph, adjacent}
+
+-- exactly the neighbours of `v`, in ascending order
+pub record AreNeighbours (g : SimpleGraph) (v : ℕ) (ws : List ℕ) : Type 0 where
+  pub ascending : IsStrictlyIncreasing ws
+  pub within : (w : ℕ) → member w ws ≡ true → w < g.size
+  pub exact : (w : ℕ) → member w ws ≡ adjacent g v w

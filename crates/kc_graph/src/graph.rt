@@ -1,0 +1,120 @@
+//! A graph, kept as the neighbours of each vertex in ascending order.
+ghost use Rattle.std.specs.Prelude.{◌≡◌, ◌≢◌, ◌<◌, IfOk, OnOk, OnErr, not, ℕ};
+ghost use Rattle.std.specs.FinSet as set;
+ghost use Rattle.kc_graph.specs.SimpleGraph.{SimpleGraph, adjacent};
+ghost use Rattle.kc_graph.specs.Edges.{with_edge, without_edge};
+ghost use Rattle.kc_graph.specs.Neighbours.{AreNeighbours};
+
+use crate::NoMemory;
+use crate::rows::{copy_of, delete_both, insert_both, place_in};
+use std::alloc::Global;
+use std::marker::Model;
+
+/// A simple undirected graph: its vertices are the numbers from 0 to below `vertices`, and its edges are a set of pairs of two
+/// different ones.
+#[derive(Debug, Drop)]
+pub struct Graph {
+    rows: Vec<Vec<u32>>,
+    edges: u64,
+}
+
+impl Model for Graph {
+    ghost use Rattle.kc_graph.specs.SimpleGraph.{SimpleGraph};
+    ghost use Rattle.kc_graph.specs.Rows.{graph_of, lists, code_of_graph, IsKept};
+
+    ghost Value = { SimpleGraph };
+
+    ghost coded = { code_of_graph };
+
+    ghost view = { λ a. graph_of (lists a.rows.items) };
+
+    ghost invariant = { λ a. IsKept (lists a.rows.items) a.edges };
+}
+
+impl Graph {
+    /// A graph with this number of vertices and no edges, or `NoMemory` where there is none for an empty row a vertex.
+    pub fn new(alloc: Global, vertices: u32) -> Result<Graph, NoMemory>
+        ensures { IfOk result (λ g. g ≡ record { size = vertices; edges = set.empty }) }
+    {
+        let mut rows = Vec::with_capacity(alloc, vertices as usize)?;
+        for _ in 0..vertices {
+            rows.push(Vec::new(alloc))?;
+        }
+        Ok(Graph { rows, edges: 0 })
+    }
+
+    /// How many vertices there are: they are the numbers below this.
+    pub fn vertices(&self) -> u32
+        ensures { result ≡ self.now.size }
+    {
+        self.rows.len() as u32
+    }
+
+    /// How many edges there are, each counted once.
+    pub fn edges(&self) -> u64
+        ensures { result ≡ set.len self.now.edges }
+    {
+        self.edges
+    }
+
+    /// The neighbours of a vertex, in ascending order.
+    pub fn neighbours(&self, v: u32) -> &[u32]
+        requires { v < self.now.size }
+        ensures { AreNeighbours self.now v result.now }
+    {
+        &self.rows[v as usize]
+    }
+
+    /// Whether an edge joins the two vertices, in either order. No vertex is its own neighbour.
+    pub fn has(&self, u: u32, v: u32) -> bool
+        requires { u < self.now.size }
+        ensures { result ≡ adjacent self.now u v }
+    {
+        place_in(&self.rows[u as usize], v).is_ok()
+    }
+
+    /// Adds the edge between two vertices, and tells whether it was not there before. The vertices stay the same. Where there is no
+    /// memory for it, the graph stays as it was and the answer is `NoMemory`.
+    ///
+    /// Edges that come in ascending order, each with its lesser end first, cost no search and move nothing.
+    pub fn add(&mut self, u: u32, v: u32) -> Result<bool, NoMemory>
+        requires differ { u ≢ v }
+        requires u_in { u < self.old.size }
+        requires v_in { v < self.old.size }
+        ensures is_new { IfOk result (λ is_new. is_new ≡ not (adjacent self.old u v)) }
+        ensures ok { OnOk result (self.new ≡ with_edge self.old u v) }
+        ensures err { OnErr result (self.new ≡ self.old) }
+    {
+        if self.has(u, v) {
+            return Ok(false);
+        }
+        insert_both(&mut self.rows, u, v)?;
+        self.edges += 1;
+        Ok(true)
+    }
+
+    /// Removes the edge between two vertices, and tells whether it was there before. The vertices stay the same. It takes no memory.
+    pub fn remove(&mut self, u: u32, v: u32) -> bool
+        requires differ { u ≢ v }
+        requires u_in { u < self.old.size }
+        requires v_in { v < self.old.size }
+        ensures was_there { result ≡ adjacent self.old u v }
+        ensures removed { self.new ≡ without_edge self.old u v }
+    {
+        if !self.has(u, v) {
+            return false;
+        }
+        delete_both(&mut self.rows, u, v);
+        self.edges -= 1;
+        true
+    }
+
+    /// The same graph once more.
+    pub(crate) fn copy(&self, alloc: Global) -> Result<Graph, NoMemory>
+        ensures { IfOk result (λ g. g ≡ self.now) }
+    {
+        let rows = copy_of(alloc, &self.rows)?;
+        let edges = self.edges;
+        Ok(Graph { rows, edges })
+    }
+}

@@ -1,0 +1,45 @@
+//! Simple undirected graphs, their core numbers, and the order that certifies them.
+//!
+//! The core number of a vertex is the greatest k for which some set of vertices has it, and gives each member at least k neighbours
+//! inside (Seidman 1983). `Graph` is a set of edges that come and go. `decompose` gives the core numbers of a graph with an order of
+//! its vertices that certifies them (Zhang, Yu, Zhang and Qin 2017), and `core_numbers` gives them alone. `Lawful` holds a graph with
+//! certified numbers, so that whoever is handed one needs no proof of its own.
+//!
+//! `specs/SimpleGraph.antt`, `Core.antt`, `Certificate.antt` and `Edges.antt` say what these words mean; the other files there serve
+//! the crate's own proofs. The three laws below have no code: certified numbers are the core numbers, a graph has one list of core
+//! numbers and no more, and it has one. The crate stands on `kc_lists` and the standard library.
+#![tactic(auto)]
+
+mod graph;
+mod lawful;
+mod peeling;
+mod rows;
+#[cfg(test)]
+mod tests;
+mod update;
+
+ghost use Rattle.std.specs.Prelude.{◌≡◌, ℕ, List};
+ghost use Rattle.kc_graph.specs.SimpleGraph.{SimpleGraph};
+ghost use Rattle.kc_graph.specs.Core.{AreCoreNumbers};
+ghost use Rattle.kc_graph.specs.Certificate.{Certifies};
+
+pub use graph::Graph;
+pub use lawful::Lawful;
+pub use peeling::{core_numbers, decompose};
+pub use std::alloc::AllocError as NoMemory;
+pub use update::Update;
+
+/// Numbers that an order certifies are the core numbers.
+pub fn certified_numbers_are_core_numbers()
+    ensures { (g : SimpleGraph) (core order : List ℕ) → Certifies g core order → AreCoreNumbers g core }
+{}
+
+/// A graph has no two lists of core numbers.
+pub fn core_numbers_are_unique()
+    ensures { (g : SimpleGraph) (first second : List ℕ) → AreCoreNumbers g first → AreCoreNumbers g second → first ≡ second }
+{}
+
+/// Every graph has core numbers, and an order that certifies them.
+pub fn certified_numbers_exist()
+    ensures { (g : SimpleGraph) → (core : List ℕ) × (order : List ℕ) × Certifies g core order }
+{}
