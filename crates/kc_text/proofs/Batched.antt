@@ -1,0 +1,169 @@
+-- Batches between the numbers that stand for ids.
+use Rattle.std.proofs.Common.{◌≡◌, ◌≢◌, ◌≤◌, ◌<◌, ℕ, suc, zero, Bool, true, false, List, [], ◌∷◌, length, map, get_or, refl, sym, ap, subst, ◌∙◌, arith, nat_eq, eqb-true, eq-eqb, min, max, inl, inr, Vec, Global, None}
+use Rattle.std.specs.Prelude.{All}
+use Rattle.std.specs.List.{flat_map}
+use Rattle.std.specs.Set.{is_member}
+use Rattle.std.proofs.lemmas.Bool.{or_cases, and_parts, and_from, or_left, or_right, false≢true}
+use Rattle.std.proofs.lemmas.List.{get_or-map, length-map}
+use Rattle.std.proofs.lemmas.List.Folds.{list_any-append}
+use Rattle.kc_graph.specs.declared.update.Update.{Update}
+use Rattle.kc_text.specs.declared.change.Change.{Change}
+use Rattle.kc_text.specs.declared.input.Input.{Input}
+use Rattle.kc_text.specs.declared.reading.Reading.{Reading}
+use Rattle.kc_text.specs.Inputs.{AreAmong, AreEdges, AreIds, AreUpdates, IsBatch, IsInput, edge_of, numbered_change, parts_of, place, start_graph}
+use Rattle.kc_text.specs.Meaning.{Means, Told, batches, changes, ends, ends_of, meaning, name_same, names}
+use Rattle.kc_text.specs.Readers.{outcome}
+use Rattle.kc_text.specs.Readings.{IsReading}
+use Rattle.kc_text.proofs.Limits.{AreFit, IsFit, fit-batches, meaning-fit}
+use Rattle.kc_text.proofs.NamedPairs.{Same, parts-same}
+use Rattle.kc_text.proofs.Places.{length-AreIds, place-below, place-injective}
+use Rattle.kc_text.proofs.Telling.{change_ends, ends-told, ends-batches}
+
+-- an update of the batch, and the change that it is
+record IsUpdate (ids : List ℕ) (u : Update) (c : Change) : Type 0 where
+  a-in : is_member nat_eq ids c.a ≡ true
+  b-in : is_member nat_eq ids c.b ≡ true
+  least : u.u ≡ min (place ids c.a) (place ids c.b)
+  most : u.v ≡ max (place ids c.a) (place ids c.b)
+
+-- a change in place of one that is missing
+no_change : Change
+no_change = record { add = false; a = 0; b = 0 }
+
+update-at : (ids : List ℕ) (batch : List Change) (updates : List Update) → AreUpdates ids batch updates → AreAmong ids (ends (map ends_of batch)) → (i : ℕ) (d : Update) → i < length updates
+    → (i < length batch) × IsUpdate ids (get_or updates i d) (get_or batch i no_change)
+update-at ids batch updates same among i d l =
+    let count : length updates ≡ length batch = sym (length-map updates parts_of) ∙ (ap (length) same ∙ length-map batch (numbered_change ids)) in
+    let l' : i < length batch = omega arith in
+    let parts : parts_of (get_or updates i d) ≡ numbered_change ids (get_or batch i no_change) =
+    sym (get_or-map parts_of updates i d (parts_of d) l) ∙ ap (λ (t : List (Bool × ℕ × ℕ)). get_or t i (parts_of d)) same
+    ∙ get_or-map (numbered_change ids) batch i no_change (parts_of d) l' in
+    let (a, b) = change_ends batch i no_change l' in (
+      l',
+      record {
+        a-in = among _ a;
+        b-in = among _ b;
+        least = ap (λ (p : Bool × ℕ × ℕ). p.1) parts;
+        most = ap (λ (p : Bool × ℕ × ℕ). p.2) parts;
+      },
+    )
+
+named-again : (ids : List ℕ) (u v : Update) (c d : Change) → IsUpdate ids u c → IsUpdate ids v d → edge_of u ≡ edge_of v → name_same d c ≡ true
+named-again ids u v c d p q e =
+    let least : u.u ≡ v.u = ap (λ (x : ℕ × ℕ). x.0) e in
+    let most : u.v ≡ v.v = ap (λ (x : ℕ × ℕ). x.1) e in
+    let same : Same (place ids d.a) (place ids d.b) (place ids c.a) (place ids c.b) ≡ true = parts-same (place ids d.a) (place ids d.b) (place ids c.a) (place ids c.b) (sym q.least ∙ (sym least ∙ p.least)) (sym q.most ∙ (sym most ∙ p.most)) in
+    elim (or_cases _ _ same) [
+      | inl k ↦
+          let (x, y) = and_parts _ _ k in
+          or_left _ _ (and_from _ _ (eq-eqb d.a c.a (place-injective ids d.a c.a q.a-in (eqb-true _ _ x))) (eq-eqb d.b c.b (place-injective ids d.b c.b q.b-in (eqb-true _ _ y))))
+      | inr k ↦
+          let (x, y) = and_parts _ _ k in
+          or_right _ _ (and_from _ _ (eq-eqb d.a c.b (place-injective ids d.a c.b q.a-in (eqb-true _ _ x))) (eq-eqb d.b c.a (place-injective ids d.b c.a q.b-in (eqb-true _ _ y))))
+    ]
+
+pub fit-updates : (ids : List ℕ) (batch : List Change) (updates : List Update) → AreUpdates ids batch updates → AreAmong ids (ends (map ends_of batch)) → IsFit batch → IsBatch (length ids) updates
+fit-updates ids batch updates same among fit = record {
+  within = λ i d l.
+      let (l', is) = update-at ids batch updates same among i d l in
+      omega (arith, is.most, place-below ids (get_or batch i no_change).a is.a-in, place-below ids (get_or batch i no_change).b is.b-in);
+  apart = λ i j d l m. λ e.
+      let (li, is) = update-at ids batch updates same among i d (omega arith) in
+      let (lj, js) = update-at ids batch updates same among j d m in
+      absurd (false≢true (sym (fit.once i j no_change l lj) ∙ named-again ids _ _ _ _ is js e));
+}
+
+-- what holds of the lists holds of the vectors that keep them
+pub All-items : (P : List Change → Type 0) (vectors : List (Vec Change Global)) (lists : List (List Change)) → map (λ batch. batch.items) vectors ≡ lists → All P lists → All (λ batch. P batch.items) vectors
+All-items P vectors lists e h = λ i d l. subst P (ap (λ (t : List (List Change)). get_or t i d.items) (sym e) ∙ get_or-map (λ (batch : Vec Change Global). batch.items) vectors i d d.items l) (h i d.items (omega (arith, ap (length) e, length-map vectors (λ (batch : Vec Change Global). batch.items))))
+
+-- the ids of a batch are among those of all
+ids-of_batch : (lists : List (List Change)) (i : ℕ) (d : List Change) (id : ℕ) → i < length lists → is_member nat_eq (ends (map ends_of (get_or lists i d))) id ≡ true
+    → is_member nat_eq (ends (map ends_of (flat_map (λ batch. batch) lists))) id ≡ true
+ids-of_batch [] i d id l h = absurd (omega arith)
+ids-of_batch (list ∷ lists) zero d id l h =
+    ap (λ (t : List ℕ). is_member nat_eq t id) (ends-batches list (flat_map (λ batch. batch) lists))
+    ∙ list_any-append (nat_eq id) (ends (map ends_of list)) (ends (map ends_of (flat_map (λ batch. batch) lists))) ∙ or_left _ _ h
+ids-of_batch (list ∷ lists) (suc i) d id l h =
+    ap (λ (t : List ℕ). is_member nat_eq t id) (ends-batches list (flat_map (λ batch. batch) lists))
+    ∙ list_any-append (nat_eq id) (ends (map ends_of list)) (ends (map ends_of (flat_map (λ batch. batch) lists))) ∙ or_right _ _ (ids-of_batch lists i d id (omega arith) h)
+
+pub among-edges : (told : Told) (ids : List ℕ) → AreIds (names told) ids → AreAmong ids (ends told.edges)
+among-edges told ids h = λ id m. h.exact id ∙ (ap (λ (t : List ℕ). is_member nat_eq t id) (ends-told told.edges (changes told))
+    ∙ list_any-append (nat_eq id) (ends told.edges) (ends (map ends_of (changes told))) ∙ or_left _ _ m)
+
+pub among-batches : (told : Told) (ids : List ℕ) → AreIds (names told) ids → All (λ batch. AreAmong ids (ends (map ends_of batch))) (batches told)
+among-batches told ids h = λ i d l id m. h.exact id ∙ (ap (λ (t : List ℕ). is_member nat_eq t id) (ends-told told.edges (changes told))
+    ∙ list_any-append (nat_eq id) (ends told.edges) (ends (map ends_of (changes told))) ∙ or_right _ _ (ids-of_batch (batches told) i d id l m))
+
+-- the batches of updates are those of changes
+pub numbered-batches : (ids : List ℕ) (updates : List (Vec Update Global)) (vectors : List (Vec Change Global)) (lists : List (List Change)) → map (λ batch. batch.items) vectors ≡ lists
+    → map (λ batch. map parts_of batch.items) updates ≡ map (λ batch. map (numbered_change ids) batch.items) vectors → map (λ batch. map parts_of batch.items) updates ≡ map (map (numbered_change ids)) lists
+numbered-batches ids updates vectors lists e same = same ∙ (through vectors ∙ ap (map (map (numbered_change ids))) e)
+  where
+    through : (vectors : List (Vec Change Global)) → map (λ batch. map (numbered_change ids) batch.items) vectors ≡ map (map (numbered_change ids)) (map (λ batch. batch.items) vectors)
+    through [] = refl
+    through (batch ∷ vectors) = ap (λ t. map (numbered_change ids) batch.items ∷ t) (through vectors)
+
+-- each batch of updates is fit
+pub fit-input : (ids : List ℕ) (updates : List (Vec Update Global)) (lists : List (List Change)) → map (λ batch. map parts_of batch.items) updates ≡ map (map (numbered_change ids)) lists
+    → All IsFit lists → All (λ batch. AreAmong ids (ends (map ends_of batch))) lists → All (λ batch. IsBatch (length ids) batch.items) updates
+fit-input ids updates lists same fit among = λ i d l.
+    let count : length updates ≡ length lists = sym (length-map updates (λ (batch : Vec Update Global). map parts_of batch.items)) ∙ (ap (length) same ∙ length-map lists (map (numbered_change ids))) in
+    let l' : i < length lists = omega arith in
+    let parts : AreUpdates ids (get_or lists i []) (get_or updates i d).items =
+    sym (get_or-map (λ (batch : Vec Update Global). map parts_of batch.items) updates i d (map parts_of d.items) l) ∙ ap (λ (t : List (List (Bool × ℕ × ℕ))). get_or t i (map parts_of d.items)) same
+    ∙ get_or-map (map (numbered_change ids)) lists i [] (map parts_of d.items) l' in
+    fit-updates ids (get_or lists i []) (get_or updates i d).items parts (among i [] l') (fit i [] l')
+
+-- what a reading has that ended with no refusal
+pub record Accepted (bytes : List ℕ) (reading : Reading) : Type 0 where
+  pub told : Told
+  pub means : meaning bytes ≡ Means told
+  pub read : IsReading told reading
+  pub few : length reading.ids.items ≤ 262144
+  pub fit : All IsFit (batches told)
+
+pub accepted : (bytes : List ℕ) (reading : Reading) → (told : Told) × IsReading told reading × (meaning bytes ≡ outcome told reading.refusal) → reading.refusal ≡ None → Accepted bytes reading
+accepted bytes reading (told, read, ended) none =
+    let means : meaning bytes ≡ Means told = ended ∙ ap (outcome told) none in
+    let fit : AreFit told = meaning-fit bytes told means in
+    record {
+      told = told;
+      means = means;
+      read = read;
+      few = omega (arith, length-AreIds (names told) reading.ids.items read.ids, fit.few);
+      fit = fit-batches told.earlier told.last fit.earlier fit.last;
+    }
+
+pub accepted-edges : (bytes : List ℕ) (reading : Reading) → Accepted bytes reading → AreAmong reading.ids.items (ends reading.edges.items)
+accepted-edges bytes reading a = subst (λ (es : List (ℕ × ℕ)). AreAmong reading.ids.items (ends es)) (sym a.read.edges) (among-edges a.told reading.ids.items a.read.ids)
+
+pub accepted-batches : (bytes : List ℕ) (reading : Reading) → Accepted bytes reading → All (λ batch. AreAmong reading.ids.items (ends (map ends_of batch.items))) reading.batches.items
+accepted-batches bytes reading a = All-items (λ batch. AreAmong reading.ids.items (ends (map ends_of batch))) reading.batches.items (batches a.told) a.read.batches (among-batches a.told reading.ids.items a.read.ids)
+
+pub accepted-apart : (bytes : List ℕ) (reading : Reading) → Accepted bytes reading → All (λ batch. All (λ c. c.a ≢ c.b) batch.items) reading.batches.items
+accepted-apart bytes reading a = All-items (λ (batch : List Change). All (λ c. c.a ≢ c.b) batch) reading.batches.items (batches a.told) a.read.batches (λ i d l. (a.fit i d l).apart)
+
+-- the input that is made of it
+pub made : (bytes : List ℕ) (reading : Reading) (input : Input) → Accepted bytes reading → input.ids.items ≡ reading.ids.items → AreEdges (start_graph reading.ids.items reading.edges.items) input.start.items
+    → map (λ batch. map parts_of batch.items) input.batches.items ≡ map (λ batch. map (numbered_change reading.ids.items) batch.items) reading.batches.items
+    → (told : Told) × (meaning bytes ≡ Means told) × IsInput told input
+made bytes reading input a ids start parts = (
+  a.told,
+  a.means,
+  record {
+    named = subst (AreIds (names a.told)) (sym ids) a.read.ids;
+    start = subst (λ (xs : List ℕ). AreEdges (start_graph xs a.told.edges) input.start.items) (sym ids) (subst (λ (es : List (ℕ × ℕ)). AreEdges (start_graph reading.ids.items es) input.start.items) a.read.edges start);
+    batches = subst (λ (xs : List ℕ). map (λ batch. map parts_of batch.items) input.batches.items ≡ map (map (numbered_change xs)) (batches a.told)) (sym ids)
+        (numbered-batches reading.ids.items input.batches.items reading.batches.items (batches a.told) a.read.batches parts);
+  },
+)
+
+pub made-batches : (bytes : List ℕ) (reading : Reading) (input : Input) → Accepted bytes reading → input.ids.items ≡ reading.ids.items
+    → map (λ batch. map parts_of batch.items) input.batches.items ≡ map (λ batch. map (numbered_change reading.ids.items) batch.items) reading.batches.items
+    → All (λ batch. IsBatch (length input.ids.items) batch.items) input.batches.items
+made-batches bytes reading input a ids parts =
+    subst (λ (xs : List ℕ). All (λ batch. IsBatch (length xs) batch.items) input.batches.items) (sym ids)
+    (fit-input reading.ids.items input.batches.items (batches a.told) (numbered-batches reading.ids.items input.batches.items reading.batches.items (batches a.told) a.read.batches parts) a.fit
+    (among-batches a.told reading.ids.items a.read.ids))

@@ -1,0 +1,12 @@
+pub mod Batched
+pub mod Counts
+pub mod FieldCuts
+pub mod Keeping
+pub mod Limits
+pub mod LineCuts
+pub mod Members
+pub mod NamedPairs
+pub mod Pairs
+pub mod Places
+pub mod Ranges
+pub mod Telling

@@ -1,0 +1,53 @@
+-- Pairs that are named in either direction.
+use Rattle.std.proofs.Common.{◌≡◌, ℕ, Bool, true, false, cond, not, ◌&&◌, ◌||◌, List, [], ◌∷◌, refl, ap, ◌∙◌, arith, nat_eq, eqb-true, eq-eqb, inl, inr, ap₂, min, max}
+use Rattle.std.specs.List.{list_any}
+use Rattle.std.specs.Cmp.{both_ways}
+use Rattle.std.proofs.lemmas.Bool.{cases_eq, or_cases, or_left, or_right, and_parts, and_from}
+use Rattle.kc_text.specs.declared.change.Change.{Change}
+use Rattle.kc_text.specs.Batches.{is_pair, pair_of}
+use Rattle.std.specs.Prelude.{Some, None}
+use Rattle.kc_text.specs.declared.kind.Kind.TheVariants.{LoopInBatch, EdgeTwiceInBatch}
+use Rattle.kc_text.specs.Meaning.{name_same, unfit}
+
+abbrev pub Same : ℕ → ℕ → ℕ → ℕ → Bool
+Same a b x y = (nat_eq a x && nat_eq b y) || (nat_eq a y && nat_eq b x)
+
+same-parts : (a b x y : ℕ) → Same a b x y ≡ true → (min a b ≡ min x y) × (max a b ≡ max x y)
+same-parts a b x y h = elim (or_cases _ _ h) [
+  | inl k ↦ let p = and_parts _ _ k in let e : a ≡ x = eqb-true a x p.0 in let f : b ≡ y = eqb-true b y p.1 in (omega arith, omega arith)
+  | inr k ↦ let p = and_parts _ _ k in let e : a ≡ y = eqb-true a y p.0 in let f : b ≡ x = eqb-true b x p.1 in (omega arith, omega arith)
+]
+
+pub parts-same : (a b x y : ℕ) → min a b ≡ min x y → max a b ≡ max x y → Same a b x y ≡ true
+parts-same a b x y l m = elim (cases_eq a x) [
+  | inl e ↦ or_left _ _ (and_from _ _ (eq-eqb a x e) (eq-eqb b y (omega arith)))
+  | inr ne ↦ or_right _ _ (and_from _ _ (eq-eqb a y (omega arith)) (eq-eqb b x (omega arith)))
+]
+
+pub name_same-is : (c d : Change) → name_same c d ≡ is_pair (pair_of c) (pair_of d)
+name_same-is c d = both_ways _ _
+    (λ h. let p = same-parts c.a c.b d.a d.b h in and_from _ _ (eq-eqb (min c.a c.b) (min d.a d.b) p.0) (eq-eqb (max c.a c.b) (max d.a d.b) p.1))
+    (λ h. let p = and_parts _ _ h in parts-same c.a c.b d.a d.b (eqb-true (min c.a c.b) (min d.a d.b) p.0) (eqb-true (max c.a c.b) (max d.a d.b) p.1))
+
+pub named_before : (c : Change) (batch : List Change) → list_any (name_same c) batch ≡ list_any (λ d. is_pair (pair_of c) (pair_of d)) batch
+named_before c [] = refl
+named_before c (d ∷ batch) = ap₂ (λ (x y : Bool). x || y) (name_same-is c d) (named_before c batch)
+
+pub unfit-named : (c : Change) (batch : List Change) → nat_eq c.a c.b ≡ false → list_any (λ d. is_pair (pair_of c) (pair_of d)) batch ≡ true → unfit (Some batch) c ≡ Some EdgeTwiceInBatch
+unfit-named c batch apart named =
+    ap (λ b. cond b (Some LoopInBatch) (cond (list_any (name_same c) batch) (Some EdgeTwiceInBatch) None)) apart
+    ∙ ap (λ b. cond b (Some EdgeTwiceInBatch) None) (named_before c batch ∙ named)
+
+pub unfit-fresh : (c : Change) (batch : List Change) → nat_eq c.a c.b ≡ false → list_any (λ d. is_pair (pair_of c) (pair_of d)) batch ≡ false → unfit (Some batch) c ≡ None
+unfit-fresh c batch apart fresh =
+    ap (λ b. cond b (Some LoopInBatch) (cond (list_any (name_same c) batch) (Some EdgeTwiceInBatch) None)) apart
+    ∙ ap (λ b. cond b (Some EdgeTwiceInBatch) None) (named_before c batch ∙ fresh)
+
+-- what an insert says of the key before it
+pub had-before : (added had : Bool) → added ≡ not had → added ≡ false → had ≡ true
+had-before added true e f = refl
+had-before added false e f = cc
+
+pub lacked-before : (added had : Bool) → added ≡ not had → added ≡ true → had ≡ false
+lacked-before added true e f = cc
+lacked-before added false e f = refl

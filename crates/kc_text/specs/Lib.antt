@@ -1,0 +1,9 @@
+pub mod Batches
+pub mod Buckets
+pub mod Forms
+pub mod Inputs
+pub mod Kinds
+pub mod Lines
+pub mod Meaning
+pub mod Readers
+pub mod Readings

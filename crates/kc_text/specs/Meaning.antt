@@ -1,0 +1,103 @@
+-- What a text means: all that its lines tell, or the first line that is refused.
+use Rattle.std.specs.Prelude.{ℕ, ◌+◌, ◌&&◌, ◌||◌, Bool, List, [], ◌∷◌, ◌++◌, length, map, nat_lt, nat_eq, if◌then◌else◌, Option, Some, None, is_some}
+use Rattle.std.specs.List.{flat_map, list_any}
+use Rattle.std.specs.Option.{option_to_list, unwrap_or}
+use Rattle.std.specs.Set.{distinct_count}
+use Rattle.kc_text.specs.declared.change.Change as change
+use Rattle.kc_text.specs.declared.kind.Kind.{Kind}
+use Rattle.kc_text.specs.declared.kind.Kind.TheVariants.{LoopInBatch, EdgeTwiceInBatch, UpdateOutsideBatch, EdgeLineInBatch, TooManyVertices, TooManyEdgeLines, TooManyUpdates, TooManyBatches, TooLong}
+use Rattle.kc_text.specs.declared.line.Line.{Line}
+use Rattle.kc_text.specs.declared.line.Line.TheVariants.{Nothing, Edge, Batch, Change, Wrong}
+use Rattle.kc_text.specs.Forms.{all_said}
+
+-- What lines have told, all in their order: the edges of the edge lines, loops and repeats among them, the batches before the last
+-- one, and the last one, once there is a batch line.
+pub record Told : Type 0 where
+  pub edges : List (ℕ × ℕ)
+  pub earlier : List (List change.Change)
+  pub last : Option (List change.Change)
+
+abbrev pub nothing_told : Told
+nothing_told = record { edges = []; earlier = []; last = None }
+
+abbrev pub batches : Told → List (List change.Change)
+batches told = told.earlier ++ option_to_list told.last
+
+-- the changes of all batches
+abbrev pub changes : Told → List change.Change
+changes told = flat_map (λ batch. batch) (batches told)
+
+-- the ends of edges
+abbrev pub ends : List (ℕ × ℕ) → List ℕ
+ends [] = []
+ends (e ∷ edges) = e.0 ∷ e.1 ∷ ends edges
+
+abbrev pub ends_of : change.Change → ℕ × ℕ
+ends_of c = (c.a, c.b)
+
+-- all ids that were named, each as often as it was
+abbrev pub names : Told → List ℕ
+names told = ends (told.edges ++ map ends_of (changes told))
+
+-- what is told with one more line
+abbrev pub with_line : Told → Line → Told
+with_line told Nothing = told
+with_line told (Edge a b) = record told { edges = told.edges ++ (a, b) ∷ [] }
+with_line told Batch = record told { earlier = batches told; last = Some [] }
+with_line told (Change c) = record told { last = Some (unwrap_or told.last [] ++ c ∷ []) }
+with_line told (Wrong kind) = told
+
+-- whether both name the same pair, in either direction
+abbrev pub name_same : change.Change → change.Change → Bool
+name_same c d = (nat_eq c.a d.a && nat_eq c.b d.b) || (nat_eq c.a d.b && nat_eq c.b d.a)
+
+-- why the last batch, if there is one, can't have one more change: it belongs in a batch, joins two ids, and no pair is named twice
+abbrev pub unfit : Option (List change.Change) → change.Change → Option Kind
+unfit None c = Some UpdateOutsideBatch
+unfit (Some batch) c = if nat_eq c.a c.b then Some LoopInBatch else if list_any (name_same c) batch then Some EdgeTwiceInBatch else None
+
+-- the first of the limits that is passed, if one is
+abbrev pub first_limit : Bool → Bool → Bool → Bool → Option Kind
+first_limit ids edge_lines updates batches =
+    if ids then Some TooManyVertices
+    else if edge_lines then Some TooManyEdgeLines
+    else if updates then Some TooManyUpdates
+    else if batches then Some TooManyBatches
+    else None
+
+-- the limits: 262,144 different ids, 2,097,152 edge lines, 1,048,576 changes in all batches, and 4,096 batches
+abbrev pub passed_limit : Told → Option Kind
+passed_limit told = first_limit (nat_lt 262144 (distinct_count nat_eq (names told))) (nat_lt 2097152 (length told.edges)) (nat_lt 1048576 (length (changes told))) (nat_lt 4096 (length (batches told)))
+
+-- the first cause of two checks
+abbrev pub or_else : Option Kind → Option Kind → Option Kind
+or_else (Some kind) next = Some kind
+or_else None next = next
+
+-- Why a line is refused, if it is, after what the lines before it have told: its form is wrong, or it doesn't stand in its place (an
+-- edge line stands before any batch line, a change after one), or it doesn't fit its batch, or a limit is passed with it.
+abbrev pub refusal : Told → Line → Option Kind
+refusal told Nothing = None
+refusal told (Edge a b) = if is_some told.last then Some EdgeLineInBatch else passed_limit (with_line told (Edge a b))
+refusal told Batch = passed_limit (with_line told Batch)
+refusal told (Change c) = or_else (unfit told.last c) (passed_limit (with_line told (Change c)))
+refusal told (Wrong kind) = Some kind
+
+-- The first line that is refused, and why, or else what all lines tell.
+pub data Meaning : Type 0 where
+  Refuses : ℕ → Kind → Meaning
+  Means : Told → Meaning
+
+-- a line that is refused ends the reading, and else it goes on
+abbrev pub ends_or : Option Kind → ℕ → Meaning → Meaning
+ends_or (Some kind) line rest = Refuses line kind
+ends_or None line rest = rest
+
+-- the meaning of the rest of the lines, after so many lines that have told this
+abbrev pub reading : ℕ → Told → List Line → Meaning
+reading done told [] = Means told
+reading done told (line ∷ rest) = ends_or (refusal told line) (done + 1) (reading (done + 1) (with_line told line) rest)
+
+-- what the bytes of a text mean
+abbrev pub meaning : List ℕ → Meaning
+meaning bytes = if nat_lt 67108864 (length bytes) then Refuses 0 TooLong else reading 0 nothing_told (all_said bytes)

@@ -1,0 +1,47 @@
+-- What a reader has been told so far.
+use Rattle.std.specs.Prelude.{◌≡◌, ◌≤◌, ◌⊎◌, ◌||◌, ℕ, Bool, true, false, List, map, length, Option, Some, None, is_some, nat_lt, IfSome, nat_eq}
+use Rattle.std.specs.Option.{option_map}
+use Rattle.std.specs.Set.{distinct_count, is_member}
+use Rattle.std.specs.HashSet.{HashSet, contains, hash_set_len}
+use Rattle.kc_text.specs.declared.reader.Reader.{Reader}
+use Rattle.kc_text.specs.declared.refusal.Refusal.{Refusal}
+use Rattle.kc_text.specs.Batches.{HasPairs}
+use Rattle.kc_text.specs.Meaning.{Meaning, Means, Refuses, Told, changes, names}
+
+abbrev pub told_by : Reader → Told
+told_by reader = record {
+  edges = reader.edges.items;
+  earlier = map (λ batch. batch.items) reader.earlier.items;
+  last = option_map (λ batch. batch.changes.items) reader.last;
+}
+
+-- the set, if there is one, has just these ids
+abbrev pub HasIds : {S : Type 0} → Option (HashSet ℕ S) → List ℕ → Type 0
+HasIds ids named = IfSome ids (λ ids. (id : ℕ) → contains nat_eq ids id ≡ is_member nat_eq named id)
+
+-- what a reader keeps beside what it was told
+pub record IsKept (reader : Reader) : Type 0 where
+  pub ids : HasIds reader.ids (names (told_by reader))
+  pub pairs : IfSome reader.last (λ batch. HasPairs batch.pairs batch.changes.items)
+  pub changes : reader.changes ≡ length (changes (told_by reader))
+
+-- it counts the ids line by line, or they are within the limit
+abbrev pub IsExact : Reader → Type 0
+IsExact reader = (is_some reader.ids ≡ true) ⊎ (distinct_count nat_eq (names (told_by reader)) ≤ 262144)
+
+-- the set, if there is one, has two more ids
+abbrev pub Gains : {S : Type 0} → Option (HashSet ℕ S) → Option (HashSet ℕ S) → ℕ → ℕ → Type 0
+Gains None None a b = Unit {0}
+Gains None (Some new) a b = ⊥
+Gains (Some old) None a b = ⊥
+Gains (Some old) (Some new) a b = (id : ℕ) → contains nat_eq new id ≡ (nat_eq id b || (nat_eq id a || contains nat_eq old id))
+
+-- whether the set, if there is one, has too many ids
+abbrev pub is_over : {S : Type 0} → Option (HashSet ℕ S) → Bool
+is_over None = false
+is_over (Some ids) = nat_lt 262144 (hash_set_len ids)
+
+-- the meaning, as the reading ends
+abbrev pub outcome : Told → Option Refusal → Meaning
+outcome told None = Means told
+outcome told (Some refusal) = Refuses refusal.line refusal.kind

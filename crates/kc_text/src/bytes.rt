@@ -1,0 +1,46 @@
+ghost use Rattle.std.specs.Prelude.{◌≡◌, ◌∷◌, ◌<◌, [], length, drop, MatchOption, IfSome};
+ghost use Rattle.std.specs.List.{position_or_len};
+ghost use Rattle.std.specs.Str.Lines.{strip_carriage_return};
+ghost use Rattle.kc_text.specs.Lines.{is_newline, lines};
+
+fn without_return(line: &[u8]) -> &[u8]
+    ensures { result.now ≡ strip_carriage_return line.now }
+{
+    match line.split_last() {
+        Some((last, front)) => if *last == b'\r' { front } else { line },
+        None => line,
+    }
+}
+
+/// Where the first newline stands, or the end.
+fn line_len(bytes: &[u8]) -> usize
+    ensures { result ≡ position_or_len is_newline bytes.now }
+{
+    for (i, b) in bytes.iter().enumerate() {
+        if *b == b'\n' {
+            return i;
+        }
+    }
+    bytes.len()
+}
+
+fn without_first(bytes: &[u8]) -> &[u8]
+    ensures { result.now ≡ drop 1 bytes.now }
+{
+    match bytes.split_first() {
+        Some((_, rest)) => rest,
+        None => bytes,
+    }
+}
+
+/// The first line without its line end, and what follows it.
+pub(crate) fn cut_line(bytes: &[u8]) -> Option<(&[u8], &[u8])>
+    ensures lines { MatchOption result (lines bytes.now ≡ []) (λ r. lines bytes.now ≡ r.0.now ∷ lines r.1.now) }
+    ensures shorter { IfSome result (λ r. length r.1.now < length bytes.now) }
+{
+    if bytes.is_empty() {
+        return None;
+    }
+    let (line, rest) = bytes.split_at(line_len(bytes));
+    Some((without_return(line), without_first(rest)))
+}

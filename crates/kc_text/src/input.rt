@@ -1,0 +1,13 @@
+use kc_graph::Update;
+
+/// A graph and the batches that change it. The vertices are the numbers from 0 that stand for the ids in ascending order.
+#[derive(Drop)]
+pub struct Input {
+    /// Every id that the text names, ascending. The vertex `i` stands for `ids[i]`.
+    pub ids: Vec<u32>,
+    /// The edges before the first batch, ascending, each once and with its lesser end first.
+    pub start: Vec<(u32, u32)>,
+    /// The batches in the order of the text, each with its updates in the order of their lines. An update that changes nothing, since
+    /// its edge is there already or isn't there, stands among them.
+    pub batches: Vec<Vec<Update>>,
+}

@@ -1,0 +1,77 @@
+ghost use Rattle.std.specs.Prelude.{◌≡◌, Some};
+ghost use Rattle.kc_text.specs.Kinds.{number_of, name_of, text_of};
+
+use std::fmt;
+
+/// Why a line is refused, by the first check that it fails.
+#[derive(Clone, Copy, Debug, PartialEq, Eq)]
+pub enum Kind {
+    /// A field that has to be a number has a byte that is no decimal digit.
+    NotANumber = 1,
+    /// The line ends before its second number.
+    MissingField = 2,
+    /// A field follows where the line has to end.
+    ExtraField = 3,
+    /// A number is greater than the greatest id, 4,294,967,295.
+    NumberTooLarge = 4,
+    /// An add or remove line names one id twice.
+    LoopInBatch = 5,
+    /// An add or remove line names a pair that was named in the same batch before, in either
+    /// direction and by either sign.
+    EdgeTwiceInBatch = 6,
+    /// An add or remove line stands before any batch line.
+    UpdateOutsideBatch = 7,
+    /// An edge line stands after a batch line.
+    EdgeLineInBatch = 8,
+    /// With this line there are more than 262,144 different ids.
+    TooManyVertices = 9,
+    /// With this line there are more than 2,097,152 edge lines.
+    TooManyEdgeLines = 10,
+    /// With this line there are more than 1,048,576 add and remove lines.
+    TooManyUpdates = 11,
+    /// With this line there are more than 4,096 batch lines.
+    TooManyBatches = 12,
+    /// There are more than 67,108,864 bytes. No line is meant, and `parse`, which takes no more, never gives it.
+    TooLong = 13,
+}
+
+impl Kind {
+    /// The number of the kind in messages.
+    pub fn number(self) -> u32
+        ensures { result ≡ number_of self }
+    {
+        self as u32
+    }
+
+    /// The name of the kind in messages.
+    pub fn name(self) -> &'static str
+        ensures { result.now ≡ name_of self }
+    {
+        match self {
+            Kind::NotANumber => "NotANumber",
+            Kind::MissingField => "MissingField",
+            Kind::ExtraField => "ExtraField",
+            Kind::NumberTooLarge => "NumberTooLarge",
+            Kind::LoopInBatch => "LoopInBatch",
+            Kind::EdgeTwiceInBatch => "EdgeTwiceInBatch",
+            Kind::UpdateOutsideBatch => "UpdateOutsideBatch",
+            Kind::EdgeLineInBatch => "EdgeLineInBatch",
+            Kind::TooManyVertices => "TooManyVertices",
+            Kind::TooManyEdgeLines => "TooManyEdgeLines",
+            Kind::TooManyUpdates => "TooManyUpdates",
+            Kind::TooManyBatches => "TooManyBatches",
+            Kind::TooLong => "TooLong",
+        }
+    }
+}
+
+/// Writes the number and the name, as in `3 ExtraField`.
+impl fmt::Display for Kind {
+    ghost output = { λ kind. Some (text_of kind) };
+
+    fn fmt<W: fmt::Write>(&self, f: &mut fmt::Formatter<W>) -> fmt::Result {
+        let number = self.number();
+        let name = self.name();
+        write!(f, "{number} {name}")
+    }
+}

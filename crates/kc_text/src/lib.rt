@@ -1,0 +1,90 @@
+//! Reads the text of a graph: the edges of a SNAP edge list (Leskovec and Krevl 2014), two ids a line with comment lines between
+//! them, and behind them batches of changes. A line `batch` begins a batch, and its changes are lines as `+ 5 9` and `- 5 9`.
+//!
+//! [`parse`] gives the input that a text means, or the first line that is refused, with the first check that it fails. What a text
+//! means is defined in `specs/`: `Lines` cuts it into lines and fields, `Forms` says what one line says, `Meaning` judges each line
+//! after what the lines before it have told, and `Inputs` numbers the ids. The other files there serve the crate's own proofs.
+//!
+//! Reading is linear but for sorts. The different ids are counted at the end, where they are sorted anyway; only where there are too
+//! many of them is the text read again, to find the line with which there were. The crate stands on `kc_graph`, for a graph's edges
+//! as a set of pairs and for its updates.
+#![tactic(auto)]
+
+mod batch;
+mod buckets;
+mod bytes;
+mod change;
+mod fault;
+mod fields;
+mod ids;
+mod input;
+mod kind;
+mod line;
+mod number;
+mod numbering;
+mod reader;
+mod reading;
+mod refusal;
+#[cfg(test)]
+mod tests;
+
+ghost use Rattle.std.specs.Prelude.{◌≡◌, ◌≢◌, ◌≤◌, ◌<◌, ◌^◌, All, IfOk, IsErrOf, length, map};
+ghost use Rattle.std.specs.List.Sorted.{IsStrictlyIncreasing};
+ghost use Rattle.kc_text.specs.Inputs.{AreAmong, AreEdges, IsBatch, IsInput, numbered_change, parts_of, start_graph};
+ghost use Rattle.kc_text.specs.Meaning.{Means, Refuses, Told, ends, ends_of, meaning};
+ghost use Rattle.kc_text.specs.declared.refusal.Refusal.{Refusal};
+
+use crate::buckets::Buckets;
+use crate::change::Change;
+use crate::numbering::{batches_of, start_of};
+use crate::reading::{Reading, read_text};
+pub use fault::ParseFault;
+pub use input::Input;
+pub use kind::Kind;
+pub use refusal::Refusal;
+pub use std::alloc::AllocError as NoMemory;
+use std::alloc::Global;
+
+/// The input between the numbers that stand for the ids.
+fn input_of(
+    alloc: Global,
+    ids: Vec<u32>,
+    edges: &[(u32, u32)],
+    batches: &[Vec<Change>],
+) -> Result<Input, NoMemory>
+    requires ascending { IsStrictlyIncreasing ids.items }
+    requires few { length ids.items < 2 ^ 32 }
+    requires edges { AreAmong ids.items (ends edges.now) }
+    requires batches { All (λ batch. AreAmong ids.items (ends (map ends_of batch.items))) batches.now }
+    requires apart { All (λ batch. All (λ c. c.a ≢ c.b) batch.items) batches.now }
+    ensures ids { IfOk result (λ input. input.ids.items ≡ ids.items) }
+    ensures start { IfOk result (λ input. AreEdges (start_graph ids.items edges.now) input.start.items) }
+    ensures batches { IfOk result (λ input. map (λ batch. map parts_of batch.items) input.batches.items ≡ map (λ batch. map (numbered_change ids.items) batch.items) batches.now) }
+{
+    let buckets = Buckets::new(alloc, &ids)?;
+    let start = start_of(alloc, &ids, &buckets, edges)?;
+    let batches = batches_of(alloc, &ids, &buckets, batches)?;
+    Ok(Input {
+        ids,
+        start,
+        batches,
+    })
+}
+
+/// The input that a text of at most 67,108,864 bytes means.
+///
+/// `Refused` comes exactly where a line is refused, with the first such line and the first check that it fails; `NoMemory` where there
+/// is no memory to read the text. No two updates of a batch are of one edge, so it doesn't matter in which order they are applied.
+pub fn parse(alloc: Global, bytes: &[u8]) -> Result<Input, ParseFault>
+    requires { length bytes.now ≤ 67108864 }
+    ensures input { IfOk result (λ input. (told : Told) × (meaning bytes.now ≡ Means told) × IsInput told input) }
+    ensures few { IfOk result (λ input. length input.ids.items ≤ 262144) }
+    ensures batches { IfOk result (λ input. All (λ batch. IsBatch (length input.ids.items) batch.items) input.batches.items) }
+    ensures refused { (r : Refusal) → IsErrOf result (ParseFault.Refused r) → meaning bytes.now ≡ Refuses r.line r.kind }
+{
+    let reading = read_text(alloc, bytes)?;
+    if let Some(refusal) = reading.refusal {
+        return Err(ParseFault::Refused(refusal));
+    }
+    Ok(input_of(alloc, reading.ids, &reading.edges, &reading.batches)?)
+}

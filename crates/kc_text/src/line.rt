@@ -1,0 +1,97 @@
+ghost use Rattle.std.specs.Prelude.{◌≡◌};
+ghost use Rattle.kc_text.specs.Lines.{fields};
+ghost use Rattle.kc_text.specs.Forms.{batch_line, change_line, edge_line, is_comment, said_by, two_numbers};
+
+use crate::change::Change;
+use crate::fields::cut_field;
+use crate::kind::Kind;
+use crate::number::number;
+
+/// What one line says.
+#[derive(Clone, Copy)]
+pub enum Line {
+    /// The line is blank or a comment.
+    Nothing,
+    /// There is an edge between the two ids.
+    Edge(u32, u32),
+    /// A batch begins.
+    Batch,
+    /// The batch has one more change.
+    Change(Change),
+    /// The line has none of these forms, for this cause.
+    Wrong(Kind),
+}
+
+fn is_comment(field: &[u8]) -> bool
+    ensures { result ≡ is_comment field.now }
+{
+    match field.first() {
+        Some(b) => *b == b'#' || *b == b'%',
+        None => false,
+    }
+}
+
+/// The two numbers that are all of the text's fields.
+fn two_numbers(text: &[u8]) -> Result<(u32, u32), Kind>
+    ensures { result ≡ two_numbers (fields text.now) }
+{
+    let Some((first, rest)) = cut_field(text) else {
+        return Err(Kind::MissingField);
+    };
+    let a = number(first)?;
+    let Some((second, rest)) = cut_field(rest) else {
+        return Err(Kind::MissingField);
+    };
+    let b = number(second)?;
+    if cut_field(rest).is_some() {
+        return Err(Kind::ExtraField);
+    }
+    Ok((a, b))
+}
+
+fn edge_line(text: &[u8]) -> Line
+    ensures { result ≡ edge_line (two_numbers (fields text.now)) }
+{
+    match two_numbers(text) {
+        Ok((a, b)) => Line::Edge(a, b),
+        Err(kind) => Line::Wrong(kind),
+    }
+}
+
+fn batch_line(rest: &[u8]) -> Line
+    ensures { result ≡ batch_line (fields rest.now) }
+{
+    match cut_field(rest) {
+        Some(_) => Line::Wrong(Kind::ExtraField),
+        None => Line::Batch,
+    }
+}
+
+fn change_line(add: bool, rest: &[u8]) -> Line
+    ensures { result ≡ change_line add (two_numbers (fields rest.now)) }
+{
+    match two_numbers(rest) {
+        Ok((a, b)) => Line::Change(Change { add, a, b }),
+        Err(kind) => Line::Wrong(kind),
+    }
+}
+
+/// What a line says. Its first field tells which form it has.
+pub(crate) fn read_line(line: &[u8]) -> Line
+    ensures { result ≡ said_by line.now }
+{
+    let Some((first, rest)) = cut_field(line) else {
+        return Line::Nothing;
+    };
+    if is_comment(first) {
+        Line::Nothing
+    } else if first == b"batch".as_slice() {
+        batch_line(rest)
+    } else if first == b"+".as_slice() {
+        change_line(true, rest)
+    } else if first == b"-".as_slice() {
+        change_line(false, rest)
+    } else {
+        edge_line(line)
+    }
+}

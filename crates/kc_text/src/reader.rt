@@ -1,0 +1,233 @@
+ghost use Rattle.std.specs.Prelude.{◌≡◌, ◌≤◌, ◌<◌, ◌+◌, ◌^◌, ◌++◌, [], None, Some, length, map, IfOk, OnOk, IfSome, IsSome, is_some, true, nat_eq, unwrap_or, ◌∷◌};
+ghost use Rattle.std.specs.HashSet.{IsUnique};
+ghost use Rattle.std.specs.Option.{option_map, option_to_list};
+ghost use Rattle.kc_text.specs.declared.line.Line.TheVariants as said;
+ghost use Rattle.kc_text.specs.Batches.{HasPairs};
+ghost use Rattle.kc_text.specs.Meaning.{batches, first_limit, nothing_told, passed_limit, refusal, unfit, with_line};
+ghost use Rattle.kc_text.specs.Readers.{told_by, Gains, IsExact, IsKept, is_over};
+
+use crate::NoMemory;
+use crate::batch::Batch;
+use crate::change::Change;
+use crate::kind::Kind;
+use crate::line::Line;
+use std::alloc::Global;
+use std::collections::HashSet;
+
+/// The most different ids.
+pub(crate) const MOST_IDS: usize = 262_144;
+
+/// The most edge lines.
+const MOST_EDGE_LINES: usize = 2_097_152;
+
+/// The most changes in all batches.
+const MOST_UPDATES: usize = 1_048_576;
+
+/// The most batches.
+const MOST_BATCHES: usize = 4096;
+
+/// What the lines so far have told.
+#[derive(Drop)]
+pub(crate) struct Reader {
+    edges: Vec<(u32, u32)>,
+    /// The batches before the last.
+    earlier: Vec<Vec<Change>>,
+    last: Option<Batch>,
+    /// How many changes there are in all batches.
+    changes: usize,
+    /// The different ids, where they are counted line by line.
+    ids: Option<HashSet<u32>>,
+}
+
+/// Counts two ids, where ids are counted.
+fn count_ids(ids: &mut Option<HashSet<u32>>, a: u32, b: u32) -> Result<(), NoMemory>
+    ensures counts { OnOk result (is_some ids.new ≡ is_some ids.old) }
+    ensures gains { OnOk result (Gains ids.old ids.new a b) }
+{
+    if let Some(ids) = ids {
+        ids.insert(a)?;
+        ids.insert(b)?;
+    }
+    Ok(())
+}
+
+/// Whether ids are counted and there are too many.
+fn are_over(ids: &Option<HashSet<u32>>) -> bool
+    ensures over { result ≡ is_over ids.now }
+    ensures unique { IfSome ids.now (IsUnique nat_eq) }
+{
+    match ids {
+        None => false,
+        Some(ids) => ids.len() > MOST_IDS,
+    }
+}
+
+/// The first of the limits that is passed.
+fn first_limit(ids: bool, edge_lines: bool, updates: bool, batches: bool) -> Option<Kind>
+    ensures { result ≡ first_limit ids edge_lines updates batches }
+{
+    if ids {
+        Some(Kind::TooManyVertices)
+    } else if edge_lines {
+        Some(Kind::TooManyEdgeLines)
+    } else if updates {
+        Some(Kind::TooManyUpdates)
+    } else if batches {
+        Some(Kind::TooManyBatches)
+    } else {
+        None
+    }
+}
+
+/// Takes a change into the last batch, or gives the cause if it doesn't fit.
+fn take_into(last: &mut Option<Batch>, change: Change) -> Result<Option<Kind>, NoMemory>
+    requires { IfSome last.old (λ batch. HasPairs batch.pairs batch.changes.items) }
+    ensures pairs { IfOk result (λ cause. cause ≡ None → IfSome last.new (λ batch. HasPairs batch.pairs batch.changes.items)) }
+    ensures changes { IfOk result (λ cause. cause ≡ None → option_map (λ batch. batch.changes.items) last.new ≡ Some (unwrap_or (option_map (λ batch. batch.changes.items) last.old) [] ++ change ∷ [])) }
+    ensures same { IfOk result (λ cause. IsSome cause → option_map (λ batch. batch.changes.items) last.new ≡ option_map (λ batch. batch.changes.items) last.old) }
+    ensures refused { IfOk result (λ cause. cause ≡ unfit (option_map (λ batch. batch.changes.items) last.old) change) }
+{
+    match last {
+        None => Ok(Some(Kind::UpdateOutsideBatch)),
+        Some(batch) => batch.take(change),
+    }
+}
+
+/// Puts a batch that is read behind the earlier ones.
+fn close(earlier: &mut Vec<Vec<Change>>, last: Option<Batch>) -> Result<(), NoMemory>
+    ensures { OnOk result (map (λ batch. batch.items) earlier.new.items ≡ map (λ batch. batch.items) earlier.old.items ++ option_to_list (option_map (λ batch. batch.changes.items) last)) }
+{
+    if let Some(batch) = last {
+        earlier.push(batch.into_changes())?;
+    }
+    Ok(())
+}
+
+impl Reader {
+    /// A reader that leaves it to the end to look for too many ids.
+    pub(crate) fn new(alloc: Global) -> Reader
+        ensures told { told_by result ≡ nothing_told }
+        ensures kept { IsKept result }
+    {
+        Reader {
+            edges: Vec::new(alloc),
+            earlier: Vec::new(alloc),
+            last: None,
+            changes: 0,
+            ids: None,
+        }
+    }
+
+    /// A reader that looks for too many ids at each line.
+    pub(crate) fn counting(alloc: Global) -> Reader
+        ensures told { told_by result ≡ nothing_told }
+        ensures kept { IsKept result }
+        ensures counts { is_some result.ids ≡ true }
+    {
+        Reader {
+            edges: Vec::new(alloc),
+            earlier: Vec::new(alloc),
+            last: None,
+            changes: 0,
+            ids: Some(HashSet::new(alloc)),
+        }
+    }
+
+    /// Takes what one line says, or gives the cause if the line is refused.
+    pub(crate) fn take(&mut self, alloc: Global, line: Line) -> Result<Option<Kind>, NoMemory>
+        requires kept { IsKept self.old }
+        requires few { self.old.changes < 2 ^ 32 }
+        ensures kept { IfOk result (λ cause. cause ≡ None → IsKept self.new) }
+        ensures told { IfOk result (λ cause. cause ≡ None → told_by self.new ≡ with_line (told_by self.old) line) }
+        ensures refused { IfOk result (λ cause. IsExact self.new → cause ≡ refusal (told_by self.old) line) }
+        ensures exact { OnOk result (IsExact self.new → IsExact self.old) }
+        ensures counts { OnOk result (is_some self.new.ids ≡ is_some self.old.ids) }
+        ensures grows { OnOk result (self.new.changes ≤ self.old.changes + 1) }
+    {
+        match line {
+            Line::Nothing => Ok(None),
+            Line::Edge(a, b) => self.take_edge(a, b),
+            Line::Batch => self.take_batch(alloc),
+            Line::Change(change) => self.take_change(change),
+            Line::Wrong(kind) => Ok(Some(kind)),
+        }
+    }
+
+    fn take_edge(&mut self, a: u32, b: u32) -> Result<Option<Kind>, NoMemory>
+        requires { IsKept self.old }
+        ensures kept { IfOk result (λ cause. cause ≡ None → IsKept self.new) }
+        ensures told { IfOk result (λ cause. cause ≡ None → told_by self.new ≡ with_line (told_by self.old) (said.Edge a b)) }
+        ensures refused { IfOk result (λ cause. IsExact self.new → cause ≡ refusal (told_by self.old) (said.Edge a b)) }
+        ensures exact { OnOk result (IsExact self.new → IsExact self.old) }
+        ensures counts { OnOk result (is_some self.new.ids ≡ is_some self.old.ids) }
+        ensures same { OnOk result (self.new.changes ≡ self.old.changes) }
+    {
+        if self.last.is_some() {
+            return Ok(Some(Kind::EdgeLineInBatch));
+        }
+        self.edges.push((a, b))?;
+        count_ids(&mut self.ids, a, b)?;
+        Ok(self.passed_limit())
+    }
+
+    fn take_batch(&mut self, alloc: Global) -> Result<Option<Kind>, NoMemory>
+        requires { IsKept self.old }
+        ensures kept { OnOk result (IsKept self.new) }
+        ensures told { OnOk result (told_by self.new ≡ with_line (told_by self.old) said.Batch) }
+        ensures refused { IfOk result (λ cause. IsExact self.new → cause ≡ refusal (told_by self.old) said.Batch) }
+        ensures exact { OnOk result (IsExact self.new → IsExact self.old) }
+        ensures counts { OnOk result (is_some self.new.ids ≡ is_some self.old.ids) }
+        ensures same { OnOk result (self.new.changes ≡ self.old.changes) }
+    {
+        let before = self.last.replace(Batch::new(alloc));
+        close(&mut self.earlier, before)?;
+        Ok(self.passed_limit())
+    }
+
+    fn take_change(&mut self, change: Change) -> Result<Option<Kind>, NoMemory>
+        requires kept { IsKept self.old }
+        requires few { self.old.changes < 2 ^ 32 }
+        ensures kept { IfOk result (λ cause. cause ≡ None → IsKept self.new) }
+        ensures told { IfOk result (λ cause. cause ≡ None → told_by self.new ≡ with_line (told_by self.old) (said.Change change)) }
+        ensures refused { IfOk result (λ cause. IsExact self.new → cause ≡ refusal (told_by self.old) (said.Change change)) }
+        ensures exact { OnOk result (IsExact self.new → IsExact self.old) }
+        ensures counts { OnOk result (is_some self.new.ids ≡ is_some self.old.ids) }
+        ensures grows { OnOk result (self.new.changes ≤ self.old.changes + 1) }
+    {
+        if let Some(kind) = take_into(&mut self.last, change)? {
+            return Ok(Some(kind));
+        }
+        self.changes += 1;
+        count_ids(&mut self.ids, change.a, change.b)?;
+        Ok(self.passed_limit())
+    }
+
+    /// The edges of the edge lines and the changes of the batches.
+    pub(crate) fn into_lists(self) -> Result<(Vec<(u32, u32)>, Vec<Vec<Change>>), NoMemory>
+        ensures edges { IfOk result (λ lists. lists.0.items ≡ (told_by self).edges) }
+        ensures batches { IfOk result (λ lists. map (λ batch. batch.items) lists.1.items ≡ batches (told_by self)) }
+    {
+        let mut batches = self.earlier;
+        close(&mut batches, self.last)?;
+        Ok((self.edges, batches))
+    }
+
+    fn batches(&self) -> usize
+        ensures { result ≡ length (batches (told_by self.now)) }
+    {
+        self.earlier.len() + usize::from(self.last.is_some())
+    }
+
+    /// The first limit that is passed.
+    fn passed_limit(&self) -> Option<Kind>
+        requires { IsKept self.now }
+        ensures { IsExact self.now → result ≡ passed_limit (told_by self.now) }
+    {
+        first_limit(
+            are_over(&self.ids),
+            self.edges.len() > MOST_EDGE_LINES,
+            self.changes > MOST_UPDATES,
+            self.batches() > MOST_BATCHES,
+        )
+    }
+}

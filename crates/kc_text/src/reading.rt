@@ -1,0 +1,78 @@
+ghost use Rattle.std.specs.Prelude.{◌≡◌, ◌≤◌, IfOk, OnOk, is_some, length};
+ghost use Rattle.kc_text.specs.Forms.{all_said};
+ghost use Rattle.kc_text.specs.Meaning.{Told, meaning, nothing_told, reading};
+ghost use Rattle.kc_text.specs.Readers.{told_by, IsExact, IsKept, outcome};
+ghost use Rattle.kc_text.specs.Readings.{IsEnd, IsReading};
+
+use crate::NoMemory;
+use crate::bytes::cut_line;
+use crate::change::Change;
+use crate::ids::ids_of;
+use crate::line::read_line;
+use crate::reader::{MOST_IDS, Reader};
+use crate::refusal::Refusal;
+use std::alloc::Global;
+
+/// What a reading of a text has found, up to the line that is refused or to the end.
+#[derive(Drop)]
+pub(crate) struct Reading {
+    /// The ends of the edge lines, in their order.
+    pub(crate) edges: Vec<(u32, u32)>,
+    /// The batches, with their changes, in their order.
+    pub(crate) batches: Vec<Vec<Change>>,
+    /// The different ids, ascending.
+    pub(crate) ids: Vec<u32>,
+    /// The first line that is refused, if one is.
+    pub(crate) refusal: Option<Refusal>,
+}
+
+/// Reads line after line, up to the first that is refused.
+fn read_lines(alloc: Global, reader: &mut Reader, bytes: &[u8]) -> Result<Option<Refusal>, NoMemory>
+    requires fresh { told_by reader.old ≡ nothing_told }
+    requires kept { IsKept reader.old }
+    requires few { length bytes.now ≤ 67108864 }
+    ensures exact { IfOk result (λ refusal. IsExact reader.new → reading 0 nothing_told (all_said bytes.now) ≡ outcome (told_by reader.new) refusal) }
+    ensures counts { OnOk result (is_some reader.new.ids ≡ is_some reader.old.ids) }
+{
+    let mut rest = bytes;
+    let mut line = 0u32;
+    while let Some((text, more)) = cut_line(rest) {
+        line += 1;
+        if let Some(kind) = reader.take(alloc, read_line(text))? {
+            return Ok(Some(Refusal { line, kind }));
+        }
+        rest = more;
+    }
+    Ok(None)
+}
+
+fn read(alloc: Global, mut reader: Reader, bytes: &[u8]) -> Result<Reading, NoMemory>
+    requires fresh { told_by reader ≡ nothing_told }
+    requires kept { IsKept reader }
+    requires few { length bytes.now ≤ 67108864 }
+    ensures { IfOk result (λ reading. (told : Told) × IsReading told reading × IsEnd (is_some reader.ids) bytes.now told reading) }
+{
+    let refusal = read_lines(alloc, &mut reader, bytes)?;
+    let (edges, batches) = reader.into_lists()?;
+    let ids = ids_of(alloc, &edges, &batches)?;
+    Ok(Reading {
+        edges,
+        batches,
+        ids,
+        refusal,
+    })
+}
+
+/// Reads the text. The ids are counted when all is read. Only where there are too many of them, a
+/// second reading counts them line by line, to find the line with which there were.
+pub(crate) fn read_text(alloc: Global, bytes: &[u8]) -> Result<Reading, NoMemory>
+    requires { length bytes.now ≤ 67108864 }
+    ensures { IfOk result (λ reading. (told : Told) × IsReading told reading × (meaning bytes.now ≡ outcome told reading.refusal)) }
+{
+    let reading = read(alloc, Reader::new(alloc), bytes)?;
+    if reading.ids.len() <= MOST_IDS {
+        return Ok(reading);
+    }
+    drop(reading);
+    read(alloc, Reader::counting(alloc), bytes)
+}
