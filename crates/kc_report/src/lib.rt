@@ -1,0 +1,67 @@
+//! The lines that a run writes: one line about the graph and one about each batch, and a line for each vertex with
+//! its core number.
+//!
+//! Each call appends to a text that grows, takes no memory but that text's, and leaves it as it was where there is
+//! none. The bytes are pinned by the definitions of `specs/Lines.antt`. The crate stands on std and on `itoa`, which
+//! prints a number into a buffer on the stack.
+#![tactic(auto)]
+
+mod pieces;
+
+ghost use Rattle.std.specs.Prelude.{◌≡◌, ◌++◌, length, OnErr, OnOk};
+ghost use Rattle.kc_report.specs.Lines.{core_lines, line_text};
+
+use crate::pieces::{put_core_lines, put_line};
+use std::alloc::AllocError as NoMemory;
+
+/// A line about the graph or about a batch of updates.
+#[derive(Clone, Copy, Debug, PartialEq, Eq)]
+pub enum Line {
+    /// The graph at the start: how many vertices and edges it has, and its greatest core number (0 for no vertices).
+    Graph {
+        vertices: u32,
+        edges: u64,
+        top: u32,
+    },
+    /// A batch: its number from 1, how many of its updates added an edge, removed one or changed nothing, and then
+    /// the edges and the greatest core number after it.
+    Batch {
+        number: u32,
+        added: u32,
+        removed: u32,
+        kept: u32,
+        edges: u64,
+        top: u32,
+    },
+}
+
+/// Appends the line. Where there is no memory for it, `out` stays as it was.
+pub fn summary(out: &mut Vec<u8>, line: &Line) -> Result<(), NoMemory>
+    ensures ok { OnOk result (out.new.items ≡ out.old.items ++ line_text line.now) }
+    ensures err { OnErr result (out.new.items ≡ out.old.items) }
+{
+    let before = out.len();
+    let written = put_line(out, line);
+    if written.is_err() {
+        out.truncate(before);
+    }
+    written
+}
+
+/// Appends a line for each vertex: its id and its core number. Both lists go by the dense numbers of the vertices.
+/// Where there is no memory for all lines, `out` stays as it was.
+pub fn core_lines(out: &mut Vec<u8>, ids: &[u32], core: &[u32]) -> Result<(), NoMemory>
+    requires { length ids.now ≡ length core.now }
+    ensures ok { OnOk result (out.new.items ≡ out.old.items ++ core_lines ids.now core.now) }
+    ensures err { OnErr result (out.new.items ≡ out.old.items) }
+{
+    let before = out.len();
+    let written = put_core_lines(out, ids, core);
+    if written.is_err() {
+        out.truncate(before);
+    }
+    written
+}
+
+#[cfg(test)]
+mod tests;

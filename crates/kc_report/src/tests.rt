@@ -1,0 +1,28 @@
+// The lines as they are printed.
+use crate::{Line, core_lines, summary};
+use std::test::Fail;
+
+#[test]
+fn lines_follow_one_another(rt: HostRuntime) -> Result<(), Fail> {
+    let graph = Line::Graph {
+        vertices: 4,
+        edges: 3,
+        top: 1,
+    };
+    let batch = Line::Batch {
+        number: 1,
+        added: 1,
+        removed: 0,
+        kept: 0,
+        edges: 4,
+        top: 2,
+    };
+    let mut out = Vec::new(rt.alloc());
+    summary(&mut out, &graph)?;
+    summary(&mut out, &batch)?;
+    core_lines(&mut out, &[1, 20, 4_294_967_295], &[2, 2, 0])?;
+    let wanted =
+        b"graph vertices 4 edges 3 top 1\nbatch 1 added 1 removed 0 kept 0 edges 4 top 2\n1 2\n20 2\n4294967295 0\n";
+    assert_eq!(rt; out.as_slice(), wanted.as_slice());
+    Ok(())
+}
