@@ -1,0 +1,5 @@
+use Rattle.kc_cert.proofs.Falling.{RisenTo}
+use Rattle.kc_cert.proofs.conditions.never_falls.Given as goal
+
+abbrev pub invariant-loop-v : goal.invariant-loop-v
+invariant-loop-v l = RisenTo l.core l.order l.v-index l.last

@@ -1,0 +1,39 @@
+//! Checks of certificates: whether numbers and an order show that the numbers are the core numbers of a graph.
+//!
+//! `check` tells for lists of any length and content whether they meet the certificate of `kc_graph`
+//! (`kc_graph/specs/Certificate.antt`), in time linear in the edges. What it accepts are the core numbers (Seidman 1983), by the law of
+//! that certificate. `conditions` has one function for each condition, with its own exact contract, and `specs/Conditions.antt` their
+//! names. The crate stands on `kc_graph` and `kc_lists`.
+#![tactic(auto)]
+
+mod conditions;
+#[cfg(test)]
+mod tests;
+
+ghost use Rattle.std.specs.Prelude.{◌≡◌, ◌↔◌, IfOk, IsTrue};
+ghost use Rattle.kc_graph.specs.Certificate.{Certifies};
+ghost use Rattle.kc_graph.specs.Core.{AreCoreNumbers};
+
+use crate::conditions::{has_enough_as_high, has_few_later, is_enumeration, never_falls};
+use kc_graph::Graph;
+pub use std::alloc::AllocError as NoMemory;
+use std::alloc::Global;
+
+/// Whether `core` has a number for each vertex of the graph, indexed by the vertex, and `order` certifies these numbers: it has each
+/// vertex once, the numbers never fall along it, and each vertex has at most as many later neighbours as its number and at least as
+/// many neighbours whose number is no less (Zhang, Yu, Zhang and Qin 2017). The numbers that it accepts are the core numbers.
+///
+/// The two lists may have any length and content. `NoMemory` comes where there is none for a mark for each vertex.
+pub fn check(alloc: Global, graph: &Graph, core: &[u32], order: &[u32]) -> Result<bool, NoMemory>
+    ensures exact { IfOk result (λ yes. IsTrue yes ↔ Certifies graph.now core.now order.now) }
+    ensures seidman { IfOk result (λ yes. IsTrue yes → AreCoreNumbers graph.now core.now) }
+{
+    let n = graph.vertices();
+    if core.len() != n as usize || !is_enumeration(alloc, n, order)? {
+        return Ok(false);
+    }
+    let rising = never_falls(core, order);
+    let few_later = has_few_later(alloc, graph, core, order)?;
+    let enough_as_high = has_enough_as_high(graph, core);
+    Ok(rising && few_later && enough_as_high)
+}
