@@ -1,0 +1,166 @@
+-- The updates of a batch, applied one after the other.
+use Rattle.std.proofs.Common.{◌≡◌, ◌≢◌, ◌<◌, ◌+◌, ℕ, Bool, true, false, cond, not, ◌&&◌, ◌||◌, List, [], ◌∷◌, ◌++◌, length, get_or, take, map, refl, sym, ap, ap₂, ◌∙◌, arith, true≢false, lt-ltb, ltb}
+use Rattle.std.specs.Prelude.{All, AllPairs, count_by}
+use Rattle.std.specs.List.{filter, list_any, sum_by}
+use Rattle.std.specs.Ordering.{eq_by_cmp}
+use Rattle.std.specs.FinSet as set
+use Rattle.std.proofs.lemmas.Bool.{and_parts, false_from_ne_true}
+use Rattle.std.proofs.lemmas.List.Folds.{list_any-append, list_any_none}
+use Rattle.std.proofs.lemmas.List.{get_or-take, get_or_default, length-take-le, map_more}
+use Rattle.std.proofs.lemmas.List.Elements.{All-map}
+use Rattle.std.proofs.lemmas.List.Sums.{sum_by-append}
+use Rattle.kc_graph.specs.SimpleGraph.{SimpleGraph, adjacent, pair_cmp}
+use Rattle.kc_graph.specs.Edges.{edge, with_edge, without_edge}
+use Rattle.kc_graph.specs.declared.update.Update.{Update}
+use Rattle.kc_graph.proofs.RowsLemmas.{pair_total, pair_exact, same_pair}
+use Rattle.kc_text.specs.Inputs.{parts_of}
+use Rattle.kc_text.specs.Inputs as inputs
+use Rattle.kc_top.specs.Batches.{adds, edge_of, edges_after, graph_after, graph_with, is_add, is_applied, removes}
+
+-- the sign of an update, and its two ends
+abbrev pub Part : Type 0
+Part = Bool × ℕ × ℕ
+
+-- whether the update adds the edge, or removes it
+abbrev adds_it : ℕ × ℕ → Part → Bool
+adds_it q update = is_add update && eq_by_cmp pair_cmp q (edge_of update)
+
+abbrev removes_it : ℕ × ℕ → Part → Bool
+removes_it q update = not (is_add update) && eq_by_cmp pair_cmp q (edge_of update)
+
+any-kept : (keep : Part → Bool) (q : ℕ × ℕ) (batch : List Part)
+    → list_any (eq_by_cmp pair_cmp q) (map edge_of (filter keep batch)) ≡ list_any (λ update. keep update && eq_by_cmp pair_cmp q (edge_of update)) batch
+any-kept keep q [] = refl
+any-kept keep q (x ∷ batch) =
+    elim (keep x) as (λ k. list_any (eq_by_cmp pair_cmp q) (map edge_of (cond k (x ∷ filter keep batch) (filter keep batch))) ≡ ((k && eq_by_cmp pair_cmp q (edge_of x)) || list_any (λ update. keep update && eq_by_cmp pair_cmp q (edge_of update)) batch)) [
+      | true ↦ ap (λ t. eq_by_cmp pair_cmp q (edge_of x) || t) (any-kept keep q batch)
+      | false ↦ any-kept keep q batch
+    ]
+
+-- which edges are there after a batch
+contains-after : (edges : set.FinSet pair_cmp) (batch : List Part) (q : ℕ × ℕ)
+    → set.contains (edges_after edges batch) q ≡ ((set.contains edges q || list_any (adds_it q) batch) && not (list_any (removes_it q) batch))
+unfolding edges_after
+contains-after edges batch q =
+    let some : set.FinSet pair_cmp = set.union edges (set.from_list (adds batch)) in
+    let gone : set.FinSet pair_cmp = set.from_list (removes batch) in
+    set.contains-difference pair_total some gone q
+    ∙ ap₂ (λ (s t : Bool). s && not t)
+    (set.contains-union pair_total edges (set.from_list (adds batch)) q ∙ ap (λ t. set.contains edges q || t) (set.contains-from_list pair_total (adds batch) q ∙ any-kept is_add q batch))
+    (set.contains-from_list pair_total (removes batch) q ∙ any-kept (λ update. not (is_add update)) q batch)
+
+or-none : (a : Bool) → ((a || false) && not false) ≡ a
+or-none true = refl
+or-none false = refl
+
+pub graph_after-nil : (g : SimpleGraph) → graph_after g [] ≡ g
+graph_after-nil g =
+    let same : edges_after g.edges [] ≡ g.edges = set.same_set pair_total pair_exact _ _ (λ q. contains-after g.edges [] q ∙ or-none (set.contains g.edges q)) in
+    ap (λ (e : set.FinSet pair_cmp). let x : SimpleGraph = record { size = g.size; edges = e } in x) same
+
+-- no update of the batch names the edge
+abbrev Spares : ℕ × ℕ → List Part → Type 0
+Spares q batch = All (λ update. edge_of update ≢ q) batch
+
+none-names : (keep : Part → Bool) (q : ℕ × ℕ) (batch : List Part) → Spares q batch → list_any (λ update. keep update && eq_by_cmp pair_cmp q (edge_of update)) batch ≡ false
+none-names keep q batch spares = list_any_none (λ update. keep update && eq_by_cmp pair_cmp q (edge_of update)) batch
+    (λ i d l. false_from_ne_true _ (λ t. spares i d l (sym (same_pair q (edge_of (get_or batch i d)) (and_parts (keep (get_or batch i d)) _ t).1))))
+
+-- an edge that the batch doesn't name is there after it just where it was before
+contains-spared : (edges : set.FinSet pair_cmp) (batch : List Part) (q : ℕ × ℕ) → Spares q batch → set.contains (edges_after edges batch) q ≡ set.contains edges q
+contains-spared edges batch q spares =
+    contains-after edges batch q ∙ ap₂ (λ (a r : Bool). (set.contains edges q || a) && not r) (none-names is_add q batch spares) (none-names (λ update. not (is_add update)) q batch spares) ∙ or-none (set.contains edges q)
+
+pub is_applied-later : (edges : set.FinSet pair_cmp) (batch : List Part) (x : Part) → Spares (edge_of x) batch → is_applied (edges_after edges batch) x ≡ is_applied edges x
+is_applied-later edges batch x spares = ap (λ t. cond (is_add x) (not t) t) (contains-spared edges batch (edge_of x) spares)
+
+-- one more add: e says whether the edge asked for is the added one, and then it is not removed
+add-more : (c a r e : Bool) → (e ≡ true → r ≡ false) → (e || ((c || a) && not r)) ≡ ((c || (a || (e || false))) && not (r || false))
+add-more c a true true h = absurd (true≢false (h refl))
+add-more true a false true h = refl
+add-more false true false true h = refl
+add-more false false false true h = refl
+add-more true a true false h = refl
+add-more true a false false h = refl
+add-more false true true false h = refl
+add-more false true false false h = refl
+add-more false false true false h = refl
+add-more false false false false h = refl
+
+remove-more : (c a r e : Bool) → (not e && ((c || a) && not r)) ≡ ((c || (a || false)) && not (r || (e || false)))
+remove-more true a true true = refl
+remove-more true a true false = refl
+remove-more true a false true = refl
+remove-more true a false false = refl
+remove-more false true true true = refl
+remove-more false true true false = refl
+remove-more false true false true = refl
+remove-more false true false false = refl
+remove-more false false true true = refl
+remove-more false false true false = refl
+remove-more false false false true = refl
+remove-more false false false false = refl
+
+module _ (edges : set.FinSet pair_cmp) (batch : List Part) (x : Part) (spares : Spares (edge_of x) batch) where
+  contains-push : (q : ℕ × ℕ)
+      → set.contains (cond (is_add x) (set.insert (edges_after edges batch) (edge_of x)) (set.remove (edges_after edges batch) (edge_of x))) q ≡ set.contains (edges_after edges (batch ++ x ∷ [])) q
+  contains-push q =
+      let c : Bool = set.contains edges q in
+      let a : Bool = list_any (adds_it q) batch in
+      let r : Bool = list_any (removes_it q) batch in
+      let e : Bool = eq_by_cmp pair_cmp q (edge_of x) in
+      let before : set.contains (edges_after edges batch) q ≡ ((c || a) && not r) = contains-after edges batch q in
+      let after : set.contains (edges_after edges (batch ++ x ∷ [])) q ≡ ((c || (a || (adds_it q x || false))) && not (r || (removes_it q x || false))) =
+      contains-after edges (batch ++ x ∷ []) q ∙ ap₂ (λ (s t : Bool). (c || s) && not t) (list_any-append (adds_it q) batch (x ∷ [])) (list_any-append (removes_it q) batch (x ∷ [])) in
+      let spared : e ≡ true → r ≡ false = λ t. ap (λ (p : ℕ × ℕ). list_any (removes_it p) batch) (same_pair q (edge_of x) t) ∙ none-names (λ update. not (is_add update)) (edge_of x) batch spares in
+      elim (is_add x) as (λ b. set.contains (cond b (set.insert (edges_after edges batch) (edge_of x)) (set.remove (edges_after edges batch) (edge_of x))) q ≡ ((c || (a || ((b && e) || false))) && not (r || ((not b && e) || false)))) [
+        | true ↦ set.contains-insert pair_total (edges_after edges batch) (edge_of x) q ∙ ap (λ t. e || t) before ∙ add-more c a r e spared
+        | false ↦ set.contains-remove pair_total (edges_after edges batch) (edge_of x) q ∙ ap (λ t. not e && t) before ∙ remove-more c a r e
+      ] ∙ sym after
+
+  edges_after-push : cond (is_add x) (set.insert (edges_after edges batch) (edge_of x)) (set.remove (edges_after edges batch) (edge_of x)) ≡ edges_after edges (batch ++ x ∷ [])
+  edges_after-push = set.same_set pair_total pair_exact _ _ contains-push
+
+-- an update that the batch before it spares is one more of the batch
+pub graph_after-push : (g : SimpleGraph) (batch : List Part) (x : Part) → Spares (edge_of x) batch → graph_with (graph_after g batch) x ≡ graph_after g (batch ++ x ∷ [])
+graph_after-push g batch x spares = ap (λ (e : set.FinSet pair_cmp). let y : SimpleGraph = record { size = g.size; edges = e } in y) (edges_after-push g.edges batch x spares)
+
+edge-ordered : (u v : ℕ) → u < v → edge u v ≡ (u, v)
+edge-ordered u v l = ap (λ t. cond t (u, v) (v, u)) (lt-ltb u v l)
+
+pub contains-ordered : (g : SimpleGraph) (u v : ℕ) → u < v → adjacent g u v ≡ set.contains g.edges (u, v)
+contains-ordered g u v l = ap (λ t. cond t (set.contains g.edges (u, v)) (ltb v u && set.contains g.edges (v, u))) (lt-ltb u v l)
+
+pub graph_with-add : (g : SimpleGraph) (u v : ℕ) → u < v → with_edge g u v ≡ graph_with g (true, u, v)
+graph_with-add g u v l = ap (λ (p : ℕ × ℕ). let x : SimpleGraph = record { size = g.size; edges = set.insert g.edges p } in x) (edge-ordered u v l)
+
+pub graph_with-remove : (g : SimpleGraph) (u v : ℕ) → u < v → without_edge g u v ≡ graph_with g (false, u, v)
+graph_with-remove g u v l = ap (λ (p : ℕ × ℕ). let x : SimpleGraph = record { size = g.size; edges = set.remove g.edges p } in x) (edge-ordered u v l)
+
+count_by-push : (p : Part → Bool) (batch : List Part) (x : Part) → count_by p (batch ++ x ∷ []) ≡ cond (p x) (count_by p batch + 1) (count_by p batch)
+count_by-push p batch x =
+    let both : count_by p (batch ++ x ∷ []) ≡ count_by p batch + count_by p (x ∷ []) = sum_by-append (λ y. cond (p y) 1 0) batch (x ∷ []) in
+    both ∙ elim (p x) as (λ b. count_by p batch + sum_by (λ (c : Bool). cond c 1 0) (b ∷ []) ≡ cond b (count_by p batch + 1) (count_by p batch)) [ true ↦ refl | false ↦ omega arith ]
+
+-- the update `x` at the place `i` of a batch of updates of different edges
+module _ (batch : List Update) (i : ℕ) (x : Update) (l : i < length batch) (here : x ≡ get_or batch i x) where
+  more : map parts_of (take (i + 1) batch) ≡ map parts_of (take i batch) ++ parts_of x ∷ []
+  more = map_more parts_of batch i x l ∙ ap (λ (u : Update). map parts_of (take i batch) ++ parts_of u ∷ []) (sym here)
+
+  -- those before it spare its edge
+  spares : AllPairs (λ u w. inputs.edge_of u ≢ inputs.edge_of w) batch → Spares (edge_of (parts_of x)) (map parts_of (take i batch))
+  spares apart = All-map (λ u. edge_of u ≢ edge_of (parts_of x)) parts_of (take i batch) (λ j d k e.
+      let short : length (take i batch) ≡ i = length-take-le i batch (omega arith) in
+      apart j i d (omega (arith, short)) l
+      (ap inputs.edge_of (sym (get_or-take i batch j d (omega (arith, short)))) ∙ e ∙ ap inputs.edge_of (here ∙ get_or_default batch i x d l)))
+
+  pub graph_after-more : (g : SimpleGraph) → AllPairs (λ u w. inputs.edge_of u ≢ inputs.edge_of w) batch → graph_with (graph_after g (map parts_of (take i batch))) (parts_of x) ≡ graph_after g (map parts_of (take (i + 1) batch))
+  graph_after-more g apart = graph_after-push g (map parts_of (take i batch)) (parts_of x) (spares apart) ∙ ap (graph_after g) (sym more)
+
+  pub is_applied-here : (edges : set.FinSet pair_cmp) → AllPairs (λ u w. inputs.edge_of u ≢ inputs.edge_of w) batch → is_applied (edges_after edges (map parts_of (take i batch))) (parts_of x) ≡ is_applied edges (parts_of x)
+  is_applied-here edges apart = is_applied-later edges (map parts_of (take i batch)) (parts_of x) (spares apart)
+
+  -- a count goes on where the update passes
+  pub count_by-more : (p : Part → Bool) (passes : Bool) (n n' : ℕ) → passes ≡ p (parts_of x) → n ≡ count_by p (map parts_of (take i batch)) → n' ≡ cond passes (n + 1) n → n' ≡ count_by p (map parts_of (take (i + 1) batch))
+  count_by-more p passes n n' e before after =
+      after ∙ ap₂ (λ (b : Bool) (k : ℕ). cond b (k + 1) k) e before ∙ sym (ap (count_by p) more ∙ count_by-push p (map parts_of (take i batch)) (parts_of x))

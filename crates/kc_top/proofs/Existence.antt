@@ -1,0 +1,89 @@
+-- Every input has a text.
+use Rattle.std.proofs.Common.{◌≡◌, ◌≤◌, ◌<◌, ◌+◌, ℕ, suc, zero, Bool, true, List, [], ◌∷◌, ◌++◌, length, get_or, max, refl, ap, ◌∙◌, arith, inl, inr}
+use Rattle.std.specs.Prelude.{filter}
+use Rattle.std.specs.Cmp.{both_ways}
+use Rattle.std.specs.List.Sorted.{IsStrictlyIncreasing}
+use Rattle.std.proofs.lemmas.Bool.{cases_eq}
+use Rattle.std.proofs.lemmas.List.Kept.{IsStrictlyIncreasing-filter}
+use Rattle.kc_graph.specs.SimpleGraph.{SimpleGraph}
+use Rattle.kc_graph.specs.Core.{AreCoreNumbers}
+use Rattle.kc_graph.proofs.Existence.{certificate_exists}
+use Rattle.kc_graph.proofs.Law.{certified}
+use Rattle.kc_lists.specs.Lists.{member}
+use Rattle.kc_lists.proofs.Members.{member-cases, member-head, member-tail}
+use Rattle.kc_lists.proofs.Counting.{filter-member, member-filter}
+use Rattle.kc_report.specs.Lines.{core_lines}
+use Rattle.kc_text.specs.Inputs.{AreIds, start_graph}
+use Rattle.kc_text.specs.Meaning.{Meaning, Means, Refuses, Told, names}
+use Rattle.kc_top.specs.Batches.{graph_after}
+use Rattle.kc_top.specs.Text.{AreCoresAfter, IsOutput, IsText, first_line, last_of, lines_about, numbered_batches}
+
+-- the n numbers from a on
+abbrev numbers_from : ℕ → ℕ → List ℕ
+numbers_from a zero = []
+numbers_from a (suc n) = a ∷ numbers_from (suc a) n
+
+length-numbers_from : (a n : ℕ) → length (numbers_from a n) ≡ n
+length-numbers_from a zero = refl
+length-numbers_from a (suc n) = omega (arith, length-numbers_from (suc a) n)
+
+get_or-numbers_from : (a n k : ℕ) → k < n → get_or (numbers_from a n) k 0 ≡ a + k
+get_or-numbers_from a zero k l = absurd (omega arith)
+get_or-numbers_from a (suc n) zero l = omega arith
+get_or-numbers_from a (suc n) (suc k) l = omega (arith, get_or-numbers_from (suc a) n k (omega arith))
+
+increasing : (a n : ℕ) → IsStrictlyIncreasing (numbers_from a n)
+increasing a n = λ k l.
+    let long : length (numbers_from a n) ≡ n = length-numbers_from a n in
+    omega (arith, get_or-numbers_from a n k (omega arith), get_or-numbers_from a n (k + 1) (omega arith))
+
+member-numbers_from : (a n x : ℕ) → a ≤ x → x < a + n → member x (numbers_from a n) ≡ true
+member-numbers_from a zero x low high = absurd (omega arith)
+member-numbers_from a (suc n) x low high = elim (cases_eq x a) [
+  | inl e ↦ ap (λ (y : ℕ). member y (a ∷ numbers_from (suc a) n)) e ∙ member-head a (numbers_from (suc a) n)
+  | inr ne ↦ member-tail x a (numbers_from (suc a) n) (member-numbers_from (suc a) n x (omega arith) (omega arith))
+]
+
+-- a number above all of the list
+abbrev above : List ℕ → ℕ
+above [] = 0
+above (x ∷ xs) = max (x + 1) (above xs)
+
+member-above : (x : ℕ) (xs : List ℕ) → member x xs ≡ true → x < above xs
+member-above x [] m = absurd (cc)
+member-above x (y ∷ xs) m = elim (member-cases x y xs m) [ inl e ↦ omega arith | inr m' ↦ omega (arith, member-above x xs m') ]
+
+ids_exist : (named : List ℕ) → (ids : List ℕ) × AreIds named ids
+ids_exist named =
+    let all : List ℕ = numbers_from 0 (above named) in (
+      filter (λ x. member x named) all,
+      record {
+        ascending = IsStrictlyIncreasing-filter (λ x. member x named) all (increasing 0 (above named));
+        exact = λ x. both_ways _ _ (λ m. (member-filter (λ y. member y named) x all m).1)
+            (λ m. filter-member (λ y. member y named) x all (member-numbers_from 0 (above named) x (omega arith) (omega (arith, member-above x named m))) m);
+      },
+    )
+
+cores_exist : (g : SimpleGraph) → (core : List ℕ) × AreCoreNumbers g core
+cores_exist g = let (core, order, shown) = certificate_exists g in (core, certified g core order shown)
+
+later_exist : (g : SimpleGraph) (batches : List (List (Bool × ℕ × ℕ))) → (later : List (List ℕ)) × AreCoresAfter g batches later
+later_exist g [] = ([], tt)
+later_exist g (batch ∷ batches) =
+    let (core, numbers) = cores_exist (graph_after g batch) in
+    let (later, more) = later_exist (graph_after g batch) batches in
+    (core ∷ later, (numbers, more))
+
+pub text_exists : (told : Told) → (text : List ℕ) × IsText told text
+text_exists told =
+    let (ids, named) = ids_exist (names told) in
+    let start : SimpleGraph = start_graph ids told.edges in
+    let (core, numbers) = cores_exist start in
+    let (later, numbers_later) = later_exist start (numbered_batches ids told) in (
+      first_line start core ++ (lines_about 1 start (numbered_batches ids told) later ++ core_lines ids (last_of core later)),
+      record { ids = ids; core = core; later = later; named = named; numbers = numbers; numbers_later = numbers_later; is = refl },
+    )
+
+pub output_exists : (m : Meaning) → (text : List ℕ) × IsOutput m text
+output_exists (Refuses line kind) = ([], refl)
+output_exists (Means told) = text_exists told

@@ -1,0 +1,90 @@
+-- No input has two texts.
+use Rattle.std.proofs.Common.{◌≡◌, ◌<◌, ℕ, suc, zero, Bool, true, false, ◌||◌, List, [], ◌∷◌, ◌++◌, length, get_or, nat_eq, refl, sym, ap, ap₂, subst, ◌∙◌, arith, inl, inr, eq-eqb, eqb-true}
+use Rattle.std.specs.Set.{is_member}
+use Rattle.std.proofs.lemmas.Bool.{cases_Bool, or_left, false≢true, false_from_ne_true}
+use Rattle.std.proofs.lemmas.List.Kept.{AllPairs-from_increasing}
+use Rattle.kc_graph.specs.SimpleGraph.{SimpleGraph}
+use Rattle.kc_graph.specs.Core.{AreCoreNumbers}
+use Rattle.kc_graph.proofs.Law.{core-unique}
+use Rattle.kc_lists.proofs.Counting.{Contains-from_member}
+use Rattle.kc_lists.proofs.Members.{member-cases}
+use Rattle.kc_report.specs.Lines.{core_lines}
+use Rattle.kc_text.specs.Inputs.{AreIds, start_graph}
+use Rattle.kc_text.specs.Meaning.{Told, names}
+use Rattle.kc_top.specs.Batches.{graph_after}
+use Rattle.kc_top.specs.Text.{AreCoresAfter, IsText, first_line, last_of, lines_about, numbered_batches}
+
+-- each number is below those after it
+abbrev Rises : List ℕ → Type 0
+Rises [] = Unit {0}
+Rises (x ∷ xs) = ((y : ℕ) → is_member nat_eq xs y ≡ true → x < y) × Rises xs
+
+any_default : (xs : List ℕ) (k d e : ℕ) → k < length xs → get_or xs k d ≡ get_or xs k e
+any_default [] k d e l = absurd (omega arith)
+any_default (x ∷ xs) zero d e l = refl
+any_default (x ∷ xs) (suc k) d e l = any_default xs k d e (omega arith)
+
+rises_from : (xs : List ℕ) → ((i j : ℕ) → i < j → j < length xs → get_or xs i 0 < get_or xs j 0) → Rises xs
+rises_from [] up = tt
+rises_from (x ∷ xs) up = (
+  λ y m. (
+      let (k, l, e) = Contains-from_member xs y m in
+      let lt : x < get_or xs k 0 = up 0 (suc k) (omega arith) (omega arith) in
+      omega (arith, lt, any_default xs k 0 y l, e)
+      ),
+  rises_from xs (λ i j a b. up (suc i) (suc j) (omega arith) (omega arith)),
+)
+
+head_is_member : (x : ℕ) (xs : List ℕ) → is_member nat_eq (x ∷ xs) x ≡ true
+head_is_member x xs = or_left (nat_eq x x) _ (eq-eqb x x refl)
+
+-- a list that rises has no number twice, so its head is in no tail
+not_behind : (x : ℕ) (xs : List ℕ) → ((y : ℕ) → is_member nat_eq xs y ≡ true → x < y) → is_member nat_eq xs x ≡ false
+not_behind x xs above = false_from_ne_true (is_member nat_eq xs x) (λ m. let l : x < x = above x m in absurd (omega arith))
+
+same_numbers : (xs ys : List ℕ) → Rises xs → Rises ys → ((q : ℕ) → is_member nat_eq xs q ≡ is_member nat_eq ys q) → xs ≡ ys
+same_numbers [] [] a b h = refl
+same_numbers [] (y ∷ ys) a b h = absurd (false≢true (h y ∙ head_is_member y ys))
+same_numbers (x ∷ xs) [] a b h = absurd (false≢true (sym (h x) ∙ head_is_member x xs))
+same_numbers (x ∷ xs) (y ∷ ys) a b h =
+    let e : x ≡ y = elim (member-cases x y ys (sym (h x) ∙ head_is_member x xs)) [
+      | inl s ↦ s
+      | inr m ↦ elim (member-cases y x xs (h y ∙ head_is_member y ys)) [
+        | inl s ↦ sym s
+        | inr n ↦ let p : y < x = b.0 x m in let q : x < y = a.0 y n in absurd (omega arith)
+      ]
+    ] in
+    ap₂ (λ (z : ℕ) (zs : List ℕ). z ∷ zs) e (same_numbers xs ys a.1 b.1 (λ q. elim (cases_Bool (nat_eq q x)) [
+      | inl t ↦
+          let s : q ≡ x = eqb-true q x t in
+          let s' : q ≡ y = s ∙ e in
+          ap (is_member nat_eq xs) s ∙ not_behind x xs a.0 ∙ sym (ap (is_member nat_eq ys) s' ∙ not_behind y ys b.0)
+      | inr f ↦
+          let f' : nat_eq q y ≡ false = subst (λ (z : ℕ). nat_eq q z ≡ false) e f in
+          sym (ap (λ t. t || is_member nat_eq xs q) f) ∙ h q ∙ ap (λ t. t || is_member nat_eq ys q) f'
+    ]))
+
+ids-unique : (named first second : List ℕ) → AreIds named first → AreIds named second → first ≡ second
+ids-unique named first second a b =
+    same_numbers first second (rises_from first (λ i j. AllPairs-from_increasing first a.ascending i j 0)) (rises_from second (λ i j. AllPairs-from_increasing second b.ascending i j 0)) (λ q. a.exact q ∙ sym (b.exact q))
+
+later-unique : (g : SimpleGraph) (batches : List (List (Bool × ℕ × ℕ))) (first second : List (List ℕ)) → AreCoresAfter g batches first → AreCoresAfter g batches second → first ≡ second
+later-unique g [] [] [] a b = refl
+later-unique g [] [] (core ∷ cores) a b = absurd b
+later-unique g [] (core ∷ cores) second a b = absurd a
+later-unique g (batch ∷ batches) [] second a b = absurd a
+later-unique g (batch ∷ batches) (x ∷ xs) [] a b = absurd b
+later-unique g (batch ∷ batches) (x ∷ xs) (y ∷ ys) a b =
+    ap₂ (λ (core : List ℕ) (cores : List (List ℕ)). core ∷ cores) (core-unique (graph_after g batch) x y a.0 b.0) (later-unique (graph_after g batch) batches xs ys a.1 b.1)
+
+pub text-unique : (told : Told) (first second : List ℕ) → IsText told first → IsText told second → first ≡ second
+text-unique told first second a b =
+    let start : List ℕ → SimpleGraph = λ ids. start_graph ids told.edges in
+    let numbered : List ℕ → List (List (Bool × ℕ × ℕ)) = λ ids. numbered_batches ids told in
+    let ids : a.ids ≡ b.ids = ids-unique (names told) a.ids b.ids a.named b.named in
+    let numbers : AreCoreNumbers (start b.ids) a.core = subst (λ (ids : List ℕ). AreCoreNumbers (start ids) a.core) ids a.numbers in
+    let core : a.core ≡ b.core = core-unique (start b.ids) a.core b.core numbers b.numbers in
+    let numbers_later : AreCoresAfter (start b.ids) (numbered b.ids) a.later = subst (λ (ids : List ℕ). AreCoresAfter (start ids) (numbered ids) a.later) ids a.numbers_later in
+    let later : a.later ≡ b.later = later-unique (start b.ids) (numbered b.ids) a.later b.later numbers_later b.numbers_later in
+    let text : List ℕ → List ℕ → List (List ℕ) → List ℕ = λ ids core later. first_line (start ids) core ++ (lines_about 1 (start ids) (numbered ids) later ++ core_lines ids (last_of core later)) in
+    a.is ∙ ap₂ (λ (ids core : List ℕ). text ids core a.later) ids core ∙ ap (text b.ids b.core) later ∙ sym b.is

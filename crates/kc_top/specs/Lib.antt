@@ -1,0 +1,7 @@
+pub mod Batches
+pub mod ErrLines
+pub mod Limits
+pub mod Outcome
+pub mod Statuses
+pub mod Stops
+pub mod Text

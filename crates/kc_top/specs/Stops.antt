@@ -1,0 +1,49 @@
+-- Where a run stops: its status and its line.
+use Rattle.std.specs.Prelude.{◌≡◌, ℕ, List, [], codes, IfSome, string_bytes, Result, Ok, Err, ⊤, Option}
+use Rattle.kc_io.specs.Causes.{Rose}
+use Rattle.kc_text.specs.declared.kind.Kind.{Kind}
+use Rattle.kc_text.specs.Meaning.{Refuses, meaning}
+use Rattle.kc_top.specs.ErrLines.{refused_line, usage_line}
+use Rattle.kc_top.specs.declared.Status.{Status}
+use Rattle.kc_top.specs.declared.Status.TheVariants as status
+use Rattle.kc_top.specs.declared.ending.Stop.{Stop}
+use Rattle.kc_top.specs.declared.ending.Stop.TheVariants as stop
+
+abbrev pub status_of : Stop → Status
+status_of stop.Usage = status.Usage
+status_of (stop.Refused line) = status.Refused
+status_of stop.ReadFault = status.ReadFault
+status_of stop.WriteFault = status.WriteFault
+status_of stop.NoMemory = status.NoMemory
+
+abbrev pub line_of : Stop → List ℕ
+line_of stop.Usage = usage_line
+line_of (stop.Refused line) = string_bytes line
+line_of stop.ReadFault = codes "read fault\n"
+line_of stop.WriteFault = codes "write fault\n"
+line_of stop.NoMemory = codes "no memory\n"
+
+-- a refusal with its line, or want of memory for it
+abbrev pub IsRefusal : Stop → ℕ → Kind → Type 0
+IsRefusal (stop.Refused line) n kind = string_bytes line ≡ refused_line n kind
+IsRefusal stop.NoMemory n kind = ⊤
+IsRefusal stop.Usage n kind = ⊥
+IsRefusal stop.ReadFault n kind = ⊥
+IsRefusal stop.WriteFault n kind = ⊥
+
+-- why no text came of a source
+abbrev pub HasNoText : Stop → Option (List ℕ) → ℕ → ℕ → Type 0
+HasNoText (stop.Refused line) input faults faults' = (n : ℕ) × (kind : Kind) × (string_bytes line ≡ refused_line n kind) × IfSome input (λ bytes. meaning bytes ≡ Refuses n kind)
+HasNoText stop.ReadFault input faults faults' = Rose faults faults'
+HasNoText stop.NoMemory input faults faults' = ⊤
+HasNoText stop.Usage input faults faults' = ⊥
+HasNoText stop.WriteFault input faults faults' = ⊥
+
+-- how a run ended that stopped here or not
+abbrev pub ended : Result (Unit {0}) Stop → Status
+ended (Ok u) = status.Done
+ended (Err s) = status_of s
+
+abbrev pub last_line : Result (Unit {0}) Stop → List ℕ
+last_line (Ok u) = []
+last_line (Err s) = line_of s
