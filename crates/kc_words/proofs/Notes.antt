@@ -1,0 +1,143 @@
+-- What a note packs, read again.
+use Rattle.std.proofs.Common.{◌≡◌, ℕ, ◌+◌, ◌*◌, ◌/◌, ◌%◌, ◌^◌, ◌<◌, ◌∙◌, Bool, true, false, cond, eqb, ap, arith, bit_or, bit_and, refl, sym, subst, inl, inr}
+use Rattle.std.proofs.lemmas.Bool.{cases_Bool, eqb-true, eqb-false, eq-eqb, ne_eqb}
+use Rattle.std.proofs.lemmas.Nat.{shl_whole, or_shifted, shl_below, and_mask}
+use Rattle.kc_words.specs.declared.note.NoteWord.{NoteWord}
+use Rattle.kc_words.specs.declared.note.NoteWord.TheVariants.{Nothing, Enter, Put, Take}
+use Rattle.kc_words.specs.NoteWord.{note_word, note_of, spare_of, IsFitting}
+use Rattle.kc_words.proofs.Packing.{shifted_pair}
+
+-- what is read, by the kind
+pub note_of-nothing : (n : ℕ) → n / 2 ^ 62 ≡ 0 → note_of n ≡ Nothing
+unfolding note_of
+note_of-nothing n e = rw e
+
+pub note_of-enter : (n : ℕ) → n / 2 ^ 62 ≡ 1 → note_of n ≡ Enter (eqb (n / 2 ^ 61 % 2) 1) (n / 2 ^ 40 % 2 ^ 21) (n / 2 ^ 18 % 2 ^ 18) (n % 2 ^ 18)
+unfolding note_of
+note_of-enter n e = rw e
+
+pub note_of-put : (n : ℕ) → n / 2 ^ 62 ≡ 2 → note_of n ≡ Put (n / 2 ^ 21 % 2 ^ 21) (n % 2 ^ 21)
+unfolding note_of
+note_of-put n e = rw e
+
+pub note_of-take : (n : ℕ) → n / 2 ^ 62 ≡ 3 → note_of n ≡ Take (n % 2 ^ 21)
+unfolding note_of
+note_of-take n e = rw e
+
+-- as the program reads it
+pub enter_masked : (n : ℕ) → n / 2 ^ 62 ≡ 1 → Enter (eqb (bit_and (n / 2 ^ 61) 1) 1) (bit_and (n / 2 ^ 40) 2097151) (bit_and (n / 2 ^ 18) 262143) (bit_and n 262143) ≡ note_of n
+enter_masked n e = rw (and_mask (n / 2 ^ 61) 1, and_mask (n / 2 ^ 40) 21, and_mask (n / 2 ^ 18) 18, and_mask n 18) (sym (note_of-enter n e))
+
+pub put_masked : (n : ℕ) → n / 2 ^ 62 ≡ 2 → Put (bit_and (n / 2 ^ 21) 2097151) (bit_and n 2097151) ≡ note_of n
+put_masked n e = rw (and_mask (n / 2 ^ 21) 21, and_mask n 21) (sym (note_of-put n e))
+
+pub take_masked : (n : ℕ) → n / 2 ^ 62 ≡ 3 → Take (bit_and n 2097151) ≡ note_of n
+take_masked n e = rw (and_mask n 21) (sym (note_of-take n e))
+
+-- what is read packs to the same word where no spare bit is set
+bit_part : (b : ℕ) → b < 2 → cond (eqb b 1) (2 ^ 61) 0 ≡ b * 2 ^ 61
+bit_part b l = elim (cases_Bool (eqb b 1)) [
+  | inl t ↦ rw t (let e : b ≡ 1 = eqb-true b 1 t in omega arith)
+  | inr f ↦ rw f (let e = eqb-false b 1 f in let z : b ≡ 0 = omega arith in omega arith)
+]
+
+pub nothing_back : (n : ℕ) → n / 2 ^ 62 ≡ 0 → (note_word (note_of n) ≡ n → spare_of n ≡ 0) × (spare_of n ≡ 0 → note_word (note_of n) ≡ n)
+unfolding note_of note_word spare_of
+nothing_back n e = rw e (λ w. omega arith, λ w. omega arith)
+
+pub enter_back : (n : ℕ) → n / 2 ^ 62 ≡ 1 → (note_word (note_of n) ≡ n → spare_of n ≡ 0) × (spare_of n ≡ 0 → note_word (note_of n) ≡ n)
+unfolding note_of note_word spare_of
+enter_back n e =
+    let b : cond (eqb (n / 2 ^ 61 % 2) 1) (2 ^ 61) 0 ≡ (n / 2 ^ 61 % 2) * 2 ^ 61 = bit_part (n / 2 ^ 61 % 2) (omega arith) in
+    rw (e, b) (λ w. omega arith, λ w. omega arith)
+
+pub put_back : (n : ℕ) → n / 2 ^ 62 ≡ 2 → (note_word (note_of n) ≡ n → spare_of n ≡ 0) × (spare_of n ≡ 0 → note_word (note_of n) ≡ n)
+unfolding note_of note_word spare_of
+put_back n e = rw e (λ w. omega arith, λ w. omega arith)
+
+pub take_back : (n : ℕ) → n / 2 ^ 62 ≡ 3 → (note_word (note_of n) ≡ n → spare_of n ≡ 0) × (spare_of n ≡ 0 → note_word (note_of n) ≡ n)
+unfolding note_of note_word spare_of
+take_back n e = rw e (λ w. omega arith, λ w. omega arith)
+
+-- shifts and `|` are sums of products where the fields fit
+pub shifted_enter : (k i u v : ℕ) → k < 2 ^ 3 → i < 2 ^ 21 → u < 2 ^ 18 → v < 2 ^ 18 → bit_or (bit_or (bit_or (k * 2 ^ 61 % 2 ^ 64) (i * 2 ^ 40 % 2 ^ 64)) (u * 2 ^ 18 % 2 ^ 64)) v ≡ k * 2 ^ 61 + i * 2 ^ 40 + u * 2 ^ 18 + v
+shifted_enter k i u v p q r s =
+    let i-is : i * 2 ^ 40 % 2 ^ 64 ≡ i * 2 ^ 40 = shl_whole i 21 40 64 q (omega arith) in
+    let u-is : u * 2 ^ 18 % 2 ^ 64 ≡ u * 2 ^ 18 = shl_whole u 18 18 64 r (omega arith) in
+    let one : bit_or (k * 2 ^ 61 % 2 ^ 64) (i * 2 ^ 40) ≡ k * 2 ^ 61 + i * 2 ^ 40 = shifted_pair k 3 (i * 2 ^ 40) 61 p refl (shl_below i 21 40 q) in
+    let one' : k * 2 ^ 61 + i * 2 ^ 40 ≡ (k * 2 ^ 25 + i * 2 ^ 4) * 2 ^ 36 = omega arith in
+    let two : bit_or ((k * 2 ^ 25 + i * 2 ^ 4) * 2 ^ 36) (u * 2 ^ 18) ≡ (k * 2 ^ 25 + i * 2 ^ 4) * 2 ^ 36 + u * 2 ^ 18 = or_shifted (k * 2 ^ 25 + i * 2 ^ 4) 36 (u * 2 ^ 18) (shl_below u 18 18 r) in
+    let two' : (k * 2 ^ 25 + i * 2 ^ 4) * 2 ^ 36 + u * 2 ^ 18 ≡ (k * 2 ^ 43 + i * 2 ^ 22 + u) * 2 ^ 18 = omega arith in
+    let three : bit_or ((k * 2 ^ 43 + i * 2 ^ 22 + u) * 2 ^ 18) v ≡ (k * 2 ^ 43 + i * 2 ^ 22 + u) * 2 ^ 18 + v = or_shifted (k * 2 ^ 43 + i * 2 ^ 22 + u) 18 v s in
+    rw (i-is, u-is, one, one', two, two', three) (omega arith)
+
+pub shifted_put : (x p : ℕ) → x < 2 ^ 21 → p < 2 ^ 21 → bit_or (bit_or (2 * 2 ^ 62) (x * 2 ^ 21 % 2 ^ 64)) p ≡ 2 * 2 ^ 62 + x * 2 ^ 21 + p
+shifted_put x p q r =
+    let x-is : x * 2 ^ 21 % 2 ^ 64 ≡ x * 2 ^ 21 = shl_whole x 21 21 64 q (omega arith) in
+    let below : x * 2 ^ 21 < 2 ^ 62 = omega arith in
+    let one : bit_or (2 * 2 ^ 62) (x * 2 ^ 21) ≡ 2 * 2 ^ 62 + x * 2 ^ 21 = or_shifted 2 62 (x * 2 ^ 21) below in
+    let one' : 2 * 2 ^ 62 + x * 2 ^ 21 ≡ (2 * 2 ^ 41 + x) * 2 ^ 21 = omega arith in
+    ap (λ z. bit_or (bit_or (2 * 2 ^ 62) z) p) x-is ∙ (ap (λ z. bit_or z p) (one ∙ one') ∙ (or_shifted (2 * 2 ^ 41 + x) 21 p r ∙ omega arith))
+
+pub shifted_take : (x : ℕ) → x < 2 ^ 21 → bit_or (3 * 2 ^ 62) x ≡ 3 * 2 ^ 62 + x
+shifted_take x q = or_shifted 3 62 x (omega arith)
+
+-- and what was packed is read
+four : {A : Type 0} → (f : Bool → ℕ → ℕ → ℕ → A) → (a b : Bool) (i j u v w x : ℕ) → a ≡ b → i ≡ j → u ≡ v → w ≡ x → f a i u w ≡ f b j v x
+four f a b i j u v w x p q r s = rw (p, q, r, s)
+
+pub note_of-note_word : (w : NoteWord) → IsFitting w → note_of (note_word w) ≡ w
+unfolding note_word
+note_of-note_word Nothing f = note_of-nothing 0 refl
+note_of-note_word (Enter true i u v) f =
+    let n = 2 ^ 62 + 2 ^ 61 + i * 2 ^ 40 + u * 2 ^ 18 + v in
+    note_of-enter n (omega arith) ∙ four Enter (eqb (n / 2 ^ 61 % 2) 1) true (n / 2 ^ 40 % 2 ^ 21) i (n / 2 ^ 18 % 2 ^ 18) u (n % 2 ^ 18) v (eq-eqb (n / 2 ^ 61 % 2) 1 (omega arith)) (omega arith) (omega arith) (omega arith)
+note_of-note_word (Enter false i u v) f =
+    let n = 2 ^ 62 + 0 + i * 2 ^ 40 + u * 2 ^ 18 + v in
+    note_of-enter n (omega arith) ∙ four Enter (eqb (n / 2 ^ 61 % 2) 1) false (n / 2 ^ 40 % 2 ^ 21) i (n / 2 ^ 18 % 2 ^ 18) u (n % 2 ^ 18) v (ne_eqb (n / 2 ^ 61 % 2) 1 (λ e. omega arith)) (omega arith) (omega arith) (omega arith)
+note_of-note_word (Put x p) f =
+    let n = 2 * 2 ^ 62 + x * 2 ^ 21 + p in
+    let x-is : n / 2 ^ 21 % 2 ^ 21 ≡ x = omega arith in
+    let p-is : n % 2 ^ 21 ≡ p = omega arith in
+    note_of-put n (omega arith) ∙ (ap (λ z. Put z (n % 2 ^ 21)) x-is ∙ ap (λ z. Put x z) p-is)
+note_of-note_word (Take x) f =
+    let n = 3 * 2 ^ 62 + x in
+    note_of-take n (omega arith) ∙ ap Take (omega arith)
+
+-- as the program packs it
+pub record Packed (w : NoteWord) (n : ℕ) : Type 0 where
+  pub word : n ≡ note_word w
+  pub back : note_of n ≡ w
+
+packed : (w : NoteWord) (n : ℕ) → IsFitting w → n ≡ note_word w → Packed w n
+packed w n f e = record { word = e; back = ap note_of e ∙ note_of-note_word w f }
+
+enter_word : (k : ℕ) (add : Bool) (i u v : ℕ) → k ≡ cond add 3 2 → k * 2 ^ 61 + i * 2 ^ 40 + u * 2 ^ 18 + v ≡ note_word (Enter add i u v)
+unfolding note_word
+enter_word k true i u v e = omega arith
+enter_word k false i u v e = omega arith
+
+kind_small : (k : ℕ) (add : Bool) → k ≡ cond add 3 2 → k < 2 ^ 3
+kind_small k true e = omega arith
+kind_small k false e = omega arith
+
+pub enter_packed : (w : NoteWord) (k : ℕ) (add : Bool) (i u v : ℕ) → IsFitting w → w ≡ Enter add i u v → k ≡ cond add 3 2 → Packed w (bit_or (bit_or (bit_or (k * 2 ^ 61 % 2 ^ 64) (i * 2 ^ 40 % 2 ^ 64)) (u * 2 ^ 18 % 2 ^ 64)) v)
+enter_packed w k add i u v f e kind =
+    let f' : IsFitting (Enter add i u v) = subst IsFitting e f in
+    packed w _ f (shifted_enter k i u v (kind_small k add kind) f'.0 f'.1 f'.2 ∙ (enter_word k add i u v kind ∙ ap note_word (sym e)))
+
+pub put_packed : (w : NoteWord) (x p : ℕ) → IsFitting w → w ≡ Put x p → Packed w (bit_or (bit_or (2 * 2 ^ 62) (x * 2 ^ 21 % 2 ^ 64)) p)
+unfolding note_word
+put_packed w x p f e =
+    let f' : IsFitting (Put x p) = subst IsFitting e f in
+    packed w _ f (shifted_put x p f'.0 f'.1 ∙ ap note_word (sym e))
+
+pub take_packed : (w : NoteWord) (x : ℕ) → IsFitting w → w ≡ Take x → Packed w (bit_or (3 * 2 ^ 62) x)
+unfolding note_word
+take_packed w x f e =
+    let f' : IsFitting (Take x) = subst IsFitting e f in
+    packed w _ f (shifted_take x f' ∙ ap note_word (sym e))
+
+pub nothing_packed : (w : NoteWord) → IsFitting w → w ≡ Nothing → Packed w 0
+unfolding note_word
+nothing_packed w f e = packed w 0 f (ap note_word (sym e))

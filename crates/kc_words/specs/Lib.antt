@@ -1,0 +1,5 @@
+pub mod ItemWord
+pub mod GroupWord
+pub mod VertexWord
+pub mod NoteWord
+pub mod Order

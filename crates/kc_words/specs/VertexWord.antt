@@ -1,0 +1,9 @@
+-- What a vertex's word packs, by powers of two.
+use Rattle.std.specs.Prelude.{ℕ, ◌+◌, ◌*◌, ◌/◌, ◌%◌, ◌^◌}
+use Rattle.kc_words.specs.declared.vertex.VertexWord.{VertexWord}
+
+unfoldable pub vertex_word : VertexWord → ℕ
+vertex_word w = w.stamp * 2 ^ 32 + w.core
+
+unfoldable pub vertex_of : ℕ → VertexWord
+vertex_of n = record { stamp = n / 2 ^ 32; core = n % 2 ^ 32 }
