@@ -1,0 +1,172 @@
+-- How many items a group has, that a group number is free, and the gap above a group.
+use Rattle.std.proofs.Common.{◌≡◌, ℕ, suc, zero, ◌+◌, ◌-◌, ◌<◌, ◌≤◌, true, cond, List, [], ◌∷◌, ◌++◌, length, get_or, take, drop, eqb, refl, sym, ◌∙◌, ap, subst, ◌⊎◌, inl, inr, arith}
+use Rattle.std.proofs.lemmas.Bool.{ne_eqb, eqb-true, eqb-false, eq-eqb, cases_eq, cases_Bool, false≢true}
+use Rattle.std.proofs.lemmas.List.{append_assoc, take_all, take_more, take-append-drop, length-take-le, take_rest, length-drop}
+use Rattle.kc_lists.specs.Lists.{member, Distinct, without, right_after, next_of, head_or}
+use Rattle.kc_lists.proofs.Members.{member-head, member-tail, member-cases, member-append, member-append_right, without-member, without-none, Distinct-cut, next_of-cut, next_of-in}
+use Rattle.kc_words.specs.Order.{Labels, labels, InOrder}
+use Rattle.kc_list.specs.Places.{Before, Placed, Sound, Segment, runs, size_of, top_end}
+use Rattle.kc_list.proofs.Order.{parts, Before-then}
+use Rattle.kc_list.proofs.Gathering.{all_before, Follows-all, tail_order, size-append, size-all}
+
+-- the size of a group is that of its segment
+size-none : (f : ℕ → ℕ) (g : ℕ) (xs : List ℕ) → ((y : ℕ) → member y xs ≡ true → f y ≡ g → ⊥) → size_of f g xs ≡ 0
+size-none f g [] h = refl
+size-none f g (x ∷ xs) h = rw (ne_eqb (f x) g (h x (member-head x xs))) (omega (arith, size-none f g xs (λ y k. h y (member-tail y x xs k))))
+
+pub segment_size : (a : Labels) (list : List ℕ) (g : ℕ) (m : List ℕ) → Segment a list g m → size_of a.group g list ≡ length m
+segment_size a list g m seg =
+    omega (arith, ap (size_of a.group g) seg.is, size-append a.group g seg.front (m ++ seg.back), size-append a.group g m seg.back, size-all a.group g m seg.members, size-none a.group g seg.front (λ y k. seg.others y (inl k)), size-none a.group g seg.back (λ y k. seg.others y (inr k)))
+
+-- how the sizes change as an item moves
+pub size-without : (f : ℕ → ℕ) (g x : ℕ) (xs : List ℕ) → Distinct xs → member x xs ≡ true → size_of f g (without x xs) + cond (eqb (f x) g) 1 0 ≡ size_of f g xs
+size-without f g x [] d m = absurd (false≢true m)
+size-without f g x (y ∷ ys) d m =
+    elim (cases_Bool (eqb x y)) [
+      | inl t ↦
+          let e : x ≡ y = eqb-true x y t in
+          let rest : without x ys ≡ ys = without-none x ys (ap (λ z. member z ys) e ∙ d.0) in
+          rw t (omega (arith, ap (size_of f g) rest, ap {B = ℕ} (λ z. cond (eqb (f z) g) 1 0) e))
+      | inr t ↦
+          let m' : member x ys ≡ true = elim (member-cases x y ys m) [ inl e ↦ absurd (eqb-false x y t e) | inr k ↦ k ] in
+          rw t (omega (arith, size-without f g x ys d.1 m'))
+    ]
+
+pub size-right_after : (f : ℕ → ℕ) (g x p : ℕ) (xs : List ℕ) → Distinct xs → member p xs ≡ true → size_of f g (right_after x p xs) ≡ size_of f g xs + cond (eqb (f x) g) 1 0
+size-right_after f g x p [] d m = absurd (false≢true m)
+size-right_after f g x p (y ∷ ys) d m =
+    elim (cases_Bool (eqb p y)) [
+      | inl t ↦ rw t (omega arith)
+      | inr t ↦
+          let m' : member p ys ≡ true = elim (member-cases p y ys m) [ inl e ↦ absurd (eqb-false p y t e) | inr k ↦ k ] in
+          rw t (omega (arith, size-right_after f g x p ys d.1 m'))
+    ]
+
+pub size-agree : (f h : ℕ → ℕ) (g : ℕ) (xs : List ℕ) → ((y : ℕ) → member y xs ≡ true → h y ≡ f y) → size_of h g xs ≡ size_of f g xs
+size-agree f h g [] e = refl
+size-agree f h g (x ∷ xs) e = omega (arith, ap {B = ℕ} (λ z. cond (eqb z g) 1 0) (e x (member-head x xs)), size-agree f h g xs (λ y k. e y (member-tail y x xs k)))
+
+-- a list that has all of 1 to k has at least k
+no_longer : (x : ℕ) (xs : List ℕ) → length (without x xs) ≤ length xs
+no_longer x [] = omega arith
+no_longer x (y ∷ ys) = elim (cases_Bool (eqb x y)) [ inl t ↦ rw t (omega (arith, no_longer x ys)) | inr t ↦ rw t (omega (arith, no_longer x ys)) ]
+
+shorter : (x : ℕ) (xs : List ℕ) → member x xs ≡ true → suc (length (without x xs)) ≤ length xs
+shorter x [] m = absurd (false≢true m)
+shorter x (y ∷ ys) m =
+    elim (cases_Bool (eqb x y)) [
+      | inl t ↦ rw t (omega (arith, no_longer x ys))
+      | inr t ↦ rw t (omega (arith, shorter x ys (elim (member-cases x y ys m) [ inl e ↦ absurd (eqb-false x y t e) | inr k ↦ k ])))
+    ]
+
+pub covers : (k : ℕ) (xs : List ℕ) → ((h : ℕ) → 0 < h → h ≤ k → member h xs ≡ true) → k ≤ length xs
+covers zero xs f = omega arith
+covers (suc k) xs f =
+    let m = f (suc k) (omega arith) (omega arith) in
+    omega (arith, shorter (suc k) xs m, covers k (without (suc k) xs) (λ h p q. without-member h (suc k) xs (f h p (omega arith)) (omega arith)))
+
+pub runs_short : (f : ℕ → ℕ) (xs : List ℕ) → length (runs f xs) ≤ length xs
+runs_short f [] = omega arith
+runs_short f (x ∷ []) = omega arith
+runs_short f (x ∷ y ∷ ys) = let rest : length (runs f (y ∷ ys)) ≤ suc (length ys) = runs_short f (y ∷ ys) in elim (cases_Bool (eqb (f x) (f y))) [ inl t ↦ rw t (omega (arith, rest)) | inr t ↦ rw t (omega (arith, rest)) ]
+
+regroup : (f m : List ℕ) (l : ℕ) (b : List ℕ) → f ++ ((m ++ l ∷ []) ++ b) ≡ (f ++ m) ++ l ∷ b
+regroup f m l b = simp append_assoc
+
+above_back : (n : ℕ) (a : Labels) (t z : ℕ) (back : List ℕ) → InOrder (Before a) back → ((y : ℕ) → member y back ≡ true → y < n) → t < top_end n a (head_or n back) → member z back ≡ true → t < a.top (a.group z)
+above_back n a t z [] h f lt m = absurd (false≢true m)
+above_back n a t z (q ∷ back) h f lt m =
+    let low : t < a.top (a.group q) = rw (ne_eqb q n (let b : q < n = f q (member-head q back) in omega arith)) at lt in
+    elim (member-cases z q back m) [
+      | inl e ↦ omega (arith, low, ap (λ y. a.top (a.group y)) e)
+      | inr k ↦ elim (Follows-all (Before a) (Before-then a) q z back h k) [ inl e ↦ omega (arith, low, ap a.top e.0) | inr u ↦ omega (arith, low, u) ]
+    ]
+
+pub top_gap : (n : ℕ) (ws list : List ℕ) (g last t : ℕ) (m : List ℕ) → Sound n ws list → Segment (labels n ws) list g (m ++ last ∷ []) → t < top_end n (labels n ws) (next_of n last list) → (z : ℕ) → member z list ≡ true → (labels n ws).top g < (labels n ws).top ((labels n ws).group z) → t < (labels n ws).top ((labels n ws).group z)
+top_gap n ws list g last t m s seg lt z z-in above =
+    let a = labels n ws in
+    let whole : list ≡ (seg.front ++ m) ++ last ∷ seg.back = seg.is ∙ regroup seg.front m last seg.back in
+    let order : InOrder (Before a) ((seg.front ++ m) ++ last ∷ seg.back) = subst (InOrder (Before a)) whole s.order in
+    let apart = Distinct-cut last (seg.front ++ m) seg.back (subst Distinct whole s.distinct) in
+    let next : next_of n last list ≡ head_or n seg.back = ap (next_of n last) whole ∙ next_of-cut n last (seg.front ++ m) seg.back apart.0 in
+    let last-g : a.group last ≡ g = seg.members last (member-append_right last m (last ∷ []) (member-head last [])) in
+    elim (member-append z (seg.front ++ m) (last ∷ seg.back) (ap (member z) (sym whole) ∙ z-in)) [
+      | inl k ↦ elim (all_before (Before a) (Before-then a) z last (seg.front ++ m) seg.back order k) [
+        | inl e ↦ absurd (let u = ap a.top (e.0 ∙ last-g) in omega (arith, u, above))
+        | inr u ↦ absurd (let v = ap a.top last-g in omega (arith, u, v, above))
+      ]
+      | inr k ↦ elim (member-cases z last seg.back k) [
+        | inl e ↦ absurd (let u = ap a.top (ap a.group e ∙ last-g) in omega (arith, u, above))
+        | inr q ↦ above_back n a t z seg.back (tail_order (Before a) last seg.back ((parts (Before a) (seg.front ++ m) (last ∷ seg.back) order).right)) (λ y y-in. (s.inside y (ap (member y) whole ∙ member-append_right y (seg.front ++ m) (last ∷ seg.back) (member-tail y last seg.back y-in))).below) (subst (λ w. t < top_end n a w) next lt) q
+      ]
+    ]
+
+pub next_in : (n : ℕ) (ws list : List ℕ) (x q : ℕ) → Sound n ws list → q ≡ next_of n x list → (q ≡ n → ⊥) → (member q list ≡ true) × Placed n (labels n ws) q
+next_in n ws list x q s e ne =
+    let m : member q list ≡ true = elim (next_of-in n x list) [ inl z ↦ absurd (ne (e ∙ z)) | inr k ↦ ap (λ w. member w list) e ∙ k ] in
+    (m, s.inside q m)
+
+top_room_first : (n : ℕ) (a : Labels) (g last : ℕ) (back : List ℕ) → a.group last ≡ g → InOrder (Before a) (last ∷ back) → ((y : ℕ) → member y back ≡ true → (a.group y ≡ g → ⊥)) → ((y : ℕ) → member y back ≡ true → y < n) → ((y : ℕ) → member y back ≡ true → a.top g < a.top (a.group y) → a.top g + 2 ≤ a.top (a.group y)) → a.top g + 2 ≤ 1099511627776 → a.top g + 2 ≤ top_end n a (head_or n back)
+top_room_first n a g last [] e h f l k z = rw (eq-eqb n n refl) z
+top_room_first n a g last (q ∷ back) e h f l k z =
+    let q-in = member-head q back in
+    let b : q < n = l q q-in in
+    let up : a.top g < a.top (a.group q) = elim h.0 [ inl t ↦ absurd (f q q-in (sym t.0 ∙ e)) | inr u ↦ omega (arith, u, ap a.top e) ] in
+    rw (ne_eqb q n (let c = b in omega arith)) (k q q-in up)
+
+pub top_room : (n : ℕ) (ws list : List ℕ) (g last : ℕ) (m : List ℕ) → Sound n ws list → Segment (labels n ws) list g (m ++ last ∷ []) → ((z : ℕ) → member z list ≡ true → (labels n ws).top g < (labels n ws).top ((labels n ws).group z) → (labels n ws).top g + 2 ≤ (labels n ws).top ((labels n ws).group z)) → (labels n ws).top g + 2 ≤ 1099511627776 → (labels n ws).top g + 2 ≤ top_end n (labels n ws) (next_of n last list)
+top_room n ws list g last m s seg k z =
+    let a = labels n ws in
+    let whole : list ≡ (seg.front ++ m) ++ last ∷ seg.back = seg.is ∙ regroup seg.front m last seg.back in
+    let order : InOrder (Before a) ((seg.front ++ m) ++ last ∷ seg.back) = subst (InOrder (Before a)) whole s.order in
+    let apart = Distinct-cut last (seg.front ++ m) seg.back (subst Distinct whole s.distinct) in
+    let next : next_of n last list ≡ head_or n seg.back = ap (next_of n last) whole ∙ next_of-cut n last (seg.front ++ m) seg.back apart.0 in
+    let in' : (y : ℕ) → member y seg.back ≡ true → member y list ≡ true = λ y y-in. ap (member y) whole ∙ member-append_right y (seg.front ++ m) (last ∷ seg.back) (member-tail y last seg.back y-in) in
+    subst (λ q. a.top g + 2 ≤ top_end n a q) (sym next) (top_room_first n a g last seg.back (seg.members last (member-append_right last m (last ∷ []) (member-head last []))) ((parts (Before a) (seg.front ++ m) (last ∷ seg.back) order).right) (λ y y-in. seg.others y (inr y-in)) (λ y y-in. (s.inside y (in' y y-in)).below) (λ y y-in. k y (in' y y-in)) z)
+
+-- the array of a full group
+pub record Full (into : List ℕ) (count : ℕ) : Type 0 where
+  pub whole : take count into ≡ into
+  pub last : into ≡ take 63 into ++ get_or into 63 0 ∷ []
+  pub halves : into ≡ take 32 into ++ drop 32 into
+
+pub full : (into : List ℕ) (count : ℕ) → length into ≡ 64 → count ≤ length into → length (take count into) ≡ 64 → Full into count
+full into count e l k = record {
+  whole = take_all count into (omega (arith, length-take-le count into l));
+  last = sym (take_all 64 into (omega arith)) ∙ take_more into 63 0 (omega arith);
+  halves = sym (take-append-drop 32 into);
+}
+
+-- the parts of a full group
+pub record Halves (n : ℕ) (a : Labels) (list : List ℕ) (g : ℕ) (m : List ℕ) : Type 0 where
+  pub last : Segment a list g (take 63 m ++ get_or m 63 0 ∷ [])
+  pub halves : Segment a list g (take 32 m ++ take (length m - 32) (drop 32 m))
+  pub upper : (y : ℕ) → member y (take (length m - 32) (drop 32 m)) ≡ true → member y m ≡ true
+  pub cases : (y : ℕ) → member y m ≡ true → (member y (take 32 m) ≡ true) ⊎ (member y (take (length m - 32) (drop 32 m)) ≡ true)
+  pub low_length : length (take 32 m) ≡ 32
+  pub up_length : length (take (length m - 32) (drop 32 m)) ≡ 32
+
+pub halves : (n : ℕ) (a : Labels) (list : List ℕ) (g : ℕ) (m : List ℕ) → Segment a list g m → length m ≡ 64 → Halves n a list g m
+halves n a list g m seg e =
+    let last : m ≡ take 63 m ++ get_or m 63 0 ∷ [] = sym (take_all 64 m (omega arith)) ∙ take_more m 63 0 (omega arith) in
+    let two : m ≡ take 32 m ++ take (length m - 32) (drop 32 m) = sym (take-append-drop 32 m) ∙ ap (λ zs. take 32 m ++ zs) (sym (take_rest m 32)) in
+    record {
+      last = subst (Segment a list g) last seg;
+      halves = subst (Segment a list g) two seg;
+      upper = λ y k. ap (member y) two ∙ member-append_right y (take 32 m) (take (length m - 32) (drop 32 m)) k;
+      cases = λ y k. member-append y (take 32 m) (take (length m - 32) (drop 32 m)) (ap (member y) (sym two) ∙ k);
+      low_length = length-take-le 32 m (omega arith);
+      up_length = ap length (take_rest m 32) ∙ (length-drop 32 m ∙ omega arith);
+    }
+
+pub top_end_high : (n : ℕ) (ws list : List ℕ) (x : ℕ) → Sound n ws list → top_end n (labels n ws) (next_of n x list) ≤ 1099511627776
+top_end_high n ws list x s = elim (cases_eq (next_of n x list) n) [
+  | inl e ↦ rw (eq-eqb (next_of n x list) n e) (omega arith)
+  | inr ne ↦ rw (ne_eqb (next_of n x list) n ne) (let p = (next_in n ws list x (next_of n x list) s refl ne).1 in omega (arith, p.top_high))
+]
+
+pub half_size : (a : Labels) (list : List ℕ) (g h p : ℕ) (low ups : List ℕ) → Segment a list g low → Segment a list h ups → length low ≡ 32 → length ups ≡ 32 → (member p low ≡ true) ⊎ (member p ups ≡ true) → size_of a.group (a.group p) list ≡ 32
+half_size a list g h p low ups s t l u k = elim k [
+  | inl m ↦ ap (λ z. size_of a.group z list) (s.members p m) ∙ (segment_size a list g low s ∙ l)
+  | inr m ↦ ap (λ z. size_of a.group z list) (t.members p m) ∙ (segment_size a list h ups t ∙ u)
+]

@@ -1,0 +1,188 @@
+-- The members of a group stand together.
+use Rattle.std.proofs.Common.{◌≡◌, ℕ, suc, ◌+◌, ◌<◌, ◌≤◌, true, List, [], ◌∷◌, ◌++◌, length, set, take, refl, sym, ◌∙◌, ap, subst, ◌⊎◌, inl, inr, arith}
+use Rattle.std.proofs.lemmas.Bool.{eq-eqb, cases_eq, false≢true}
+use Rattle.std.proofs.lemmas.List.{append_assoc, length-append, take_more_set}
+use Rattle.kc_lists.specs.Lists.{member, Distinct, last_or, prev_of, head_or, next_of, place_of}
+use Rattle.kc_lists.proofs.Members.{member-head, member-tail, member-cases, member-append, member-append_left, member-append_right, cut, Distinct-cut, prev_of-cut, next_of-cut, prev-place, some_or_none, last_or-push}
+use Rattle.kc_words.specs.Order.{Labels, labels, InOrder, Follows}
+use Rattle.kc_list.specs.Places.{Before, Sound, Segment, First, size_of}
+use Rattle.kc_list.proofs.Order.{parts, Before-then}
+
+-- each is related to all that stand behind it
+pub Follows-all : (R : ℕ → ℕ → Type 0) → ((x y z : ℕ) → R x y → R y z → R x z) → (x z : ℕ) (ys : List ℕ) → Follows R x ys → member z ys ≡ true → R x z
+Follows-all R t x z [] h m = absurd (false≢true m)
+Follows-all R t x z (y ∷ ys) h m = elim (member-cases z y ys m) [ inl e ↦ subst (R x) (sym e) h.0 | inr k ↦ t x y z h.0 (Follows-all R t y z ys h.1 k) ]
+
+pub tail_order : (R : ℕ → ℕ → Type 0) (x : ℕ) (xs : List ℕ) → InOrder R (x ∷ xs) → InOrder R xs
+tail_order R x [] h = tt
+tail_order R x (y ∷ xs) h = h.1
+
+member-cases-end : (y : ℕ) (l : List ℕ) (z : ℕ) → member y (l ++ z ∷ []) ≡ true → (member y l ≡ true) ⊎ (y ≡ z)
+member-cases-end y l z m = elim (member-append y l (z ∷ []) m) [ inl k ↦ inl k | inr k ↦ elim (member-cases y z [] k) [ inl e ↦ inr e | inr none ↦ absurd (false≢true none) ] ]
+
+pub all_before : (R : ℕ → ℕ → Type 0) → ((x y z : ℕ) → R x y → R y z → R x z) → (z y : ℕ) (l r : List ℕ) → InOrder R (l ++ y ∷ r) → member z l ≡ true → R z y
+all_before R t z y [] r h m = absurd (false≢true m)
+all_before R t z y (x ∷ l) r h m =
+    elim (member-cases z x l m) [
+      | inl e ↦ subst (λ u. R u y) (sym e) (Follows-all R t x y (l ++ y ∷ r) h (member-append_right y l (y ∷ r) (member-head y r)))
+      | inr k ↦ all_before R t z y l r (tail_order R x (l ++ y ∷ r) h) k
+    ]
+
+pub first_found : (n : ℕ) (ws list : List ℕ) (g x q : ℕ) → Sound n ws list → member x list ≡ true → (labels n ws).group x ≡ g → q ≡ prev_of n x list → ((q ≡ n → ⊥) → (labels n ws).group q ≡ g → ⊥) → First (labels n ws) list g x
+first_found n ws list g x q s m x-g q-is stop =
+    let a = labels n ws in
+    let c = cut x list m in
+    let apart = Distinct-cut x c.front c.back (subst Distinct c.is s.distinct) in
+    let is : q ≡ last_or n c.front = q-is ∙ (ap (prev_of n x) c.is ∙ prev_of-cut n x c.front c.back apart.0) in
+    record {
+      front = c.front;
+      back = c.back;
+      is = c.is;
+      group = x-g;
+      none = elim (some_or_none c.front) [
+        | inl none ↦ λ y k e. false≢true (ap (member y) (sym none) ∙ k)
+        | inr w ↦ λ y k e.
+            let last : q ≡ w.last = is ∙ (ap (last_or n) w.is ∙ last_or-push n w.front w.last) in
+            let split : list ≡ w.front ++ w.last ∷ (x ∷ c.back) = c.is ∙ (ap (λ zs. zs ++ x ∷ c.back) w.is ∙ append_assoc w.front (w.last ∷ []) (x ∷ c.back)) in
+            let order : InOrder (Before a) (w.front ++ w.last ∷ (x ∷ c.back)) = subst (InOrder (Before a)) split s.order in
+            let last-in : member w.last list ≡ true = ap (member w.last) split ∙ member-append_right w.last w.front (w.last ∷ x ∷ c.back) (member-head w.last (x ∷ c.back)) in
+            let q-n : q ≡ n → ⊥ = λ z. let b : w.last < n = (s.inside w.last last-in).below in absurd (let u : w.last ≡ n = sym last ∙ z in omega arith) in
+            let other : a.group w.last ≡ g → ⊥ = λ z. stop q-n (ap a.group last ∙ z) in
+            let step : Before a w.last x = ((parts (Before a) w.front (w.last ∷ x ∷ c.back) order).right).0 in
+            let below : a.top (a.group w.last) < a.top g = elim step [ inl t ↦ absurd (other (t.0 ∙ x-g)) | inr t ↦ omega (arith, t, ap a.top x-g) ] in
+            elim (member-cases-end y w.front w.last (ap (member y) (sym w.is) ∙ k)) [
+              | inl in-front ↦ elim (all_before (Before a) (Before-then a) y w.last w.front (x ∷ c.back) order in-front) [
+                | inl t ↦ absurd (other (sym t.0 ∙ e))
+                | inr t ↦ absurd (let u = ap a.top e in omega (arith, t, below, u))
+              ]
+              | inr is-last ↦ absurd (other (ap a.group (sym is-last) ∙ e))
+            ]
+      ];
+    }
+
+pub back_facts : (n : ℕ) (ws list : List ℕ) (first before : ℕ) → Sound n ws list → member first list ≡ true → before ≡ prev_of n first list → (before ≡ n → ⊥) → (member before list ≡ true) × (before < n) × (suc (place_of before list) ≡ place_of first list)
+back_facts n ws list first before s m is ne =
+    let k = prev-place n first list s.distinct m (λ y y-in e. let b : y < n = (s.inside y y-in).below in absurd (omega arith)) (λ e. ne (is ∙ e)) in
+    let in' : member before list ≡ true = ap (λ z. member z list) is ∙ k.0 in
+    (in', (s.inside before in').below, ap (λ z. suc (place_of z list)) is ∙ k.1)
+
+-- so far: `m` was collected, and x comes next
+pub record Collected (n : ℕ) (a : Labels) (list : List ℕ) (g x : ℕ) (m : List ℕ) : Type 0 where
+  pub front : List ℕ
+  pub rest : List ℕ
+  pub is : list ≡ front ++ (m ++ rest)
+  pub members : (y : ℕ) → member y m ≡ true → a.group y ≡ g
+  pub none : (y : ℕ) → member y front ≡ true → a.group y ≡ g → ⊥
+  pub head : x ≡ head_or n rest
+
+pub size-append : (f : ℕ → ℕ) (g : ℕ) (xs ys : List ℕ) → size_of f g (xs ++ ys) ≡ size_of f g xs + size_of f g ys
+size-append f g [] ys = omega arith
+size-append f g (x ∷ xs) ys = omega (arith, size-append f g xs ys)
+
+pub size-all : (f : ℕ → ℕ) (g : ℕ) (xs : List ℕ) → ((y : ℕ) → member y xs ≡ true → f y ≡ g) → size_of f g xs ≡ length xs
+size-all f g [] h = refl
+size-all f g (x ∷ xs) h = rw (eq-eqb (f x) g (h x (member-head x xs))) (omega (arith, size-all f g xs (λ y k. h y (member-tail y x xs k))))
+
+pub collected-none : (n : ℕ) (a : Labels) (list : List ℕ) (g x : ℕ) → First a list g x → Collected n a list g x []
+collected-none n a list g x f = record { front = f.front; rest = x ∷ f.back; is = f.is; members = λ y k. absurd (false≢true k); none = f.none; head = refl }
+
+-- one more
+pub record CollectStep (n : ℕ) (a : Labels) (list : List ℕ) (g x : ℕ) (m : List ℕ) : Type 0 where
+  pub below : x < n
+  pub x_in : member x list ≡ true
+  pub size : length m + 1 ≤ size_of a.group g list
+  pub more : Collected n a list g (next_of n x list) (m ++ x ∷ [])
+  pub length_less : length m < length list
+
+-- what is left begins with x
+pub cons_rest : (n x : ℕ) (rest : List ℕ) → x ≡ head_or n rest → (x ≡ n → ⊥) → (r : List ℕ) × (rest ≡ x ∷ r)
+cons_rest n x [] e ne = absurd (ne e)
+cons_rest n x (y ∷ r) e ne = (r, ap (λ z. z ∷ r) (sym e))
+
+pub collect_in : (n : ℕ) (ws list : List ℕ) (g x : ℕ) (m : List ℕ) → Sound n ws list → Collected n (labels n ws) list g x m → (x ≡ n → ⊥) → (member x list ≡ true) × (x < n)
+collect_in n ws list g x m s c ne =
+    let r = cons_rest n x c.rest c.head ne in
+    let is : list ≡ c.front ++ (m ++ x ∷ r.0) = c.is ∙ ap (λ zs. c.front ++ (m ++ zs)) r.1 in
+    let in' : member x list ≡ true = ap (member x) is ∙ member-append_right x c.front (m ++ x ∷ r.0) (member-append_right x m (x ∷ r.0) (member-head x r.0)) in
+    (in', (s.inside x in').below)
+
+pub collect_step : (n : ℕ) (ws list : List ℕ) (g x : ℕ) (m : List ℕ) → Sound n ws list → Collected n (labels n ws) list g x m → (x ≡ n → ⊥) → (labels n ws).group x ≡ g → CollectStep n (labels n ws) list g x m
+collect_step n ws list g x m s c ne x-g =
+    let a = labels n ws in
+    let k = collect_in n ws list g x m s c ne in
+    let r = cons_rest n x c.rest c.head ne in
+    let is : list ≡ c.front ++ (m ++ x ∷ r.0) = c.is ∙ ap (λ zs. c.front ++ (m ++ zs)) r.1 in
+    let is' : list ≡ (c.front ++ m) ++ x ∷ r.0 = is ∙ sym (append_assoc c.front m (x ∷ r.0)) in
+    let is2 : list ≡ c.front ++ ((m ++ x ∷ []) ++ r.0) = is ∙ ap (λ zs. c.front ++ zs) (sym (append_assoc m (x ∷ []) r.0)) in
+    let apart = Distinct-cut x (c.front ++ m) r.0 (subst Distinct is' s.distinct) in
+    let all : (y : ℕ) → member y (m ++ x ∷ []) ≡ true → a.group y ≡ g = λ y q. elim (member-cases-end y m x q) [ inl p ↦ c.members y p | inr e ↦ ap a.group e ∙ x-g ] in
+    record {
+      below = k.1;
+      x_in = k.0;
+      size = omega (arith, ap (size_of a.group g) is2, size-append a.group g c.front ((m ++ x ∷ []) ++ r.0), size-append a.group g (m ++ x ∷ []) r.0, size-all a.group g (m ++ x ∷ []) all, length-append m (x ∷ []));
+      more = record { front = c.front; rest = r.0; is = is2; members = all; none = c.none; head = ap (next_of n x) is' ∙ next_of-cut n x (c.front ++ m) r.0 apart.0 };
+      length_less = omega (arith, ap length is, length-append c.front (m ++ x ∷ r.0), length-append m (x ∷ r.0));
+    }
+
+none_left : (n x : ℕ) (rest : List ℕ) → x ≡ head_or n rest → x ≡ n → ((z : ℕ) → member z rest ≡ true → z ≡ n → ⊥) → (y : ℕ) → member y rest ≡ true → ⊥
+none_left n x [] e w f y m = false≢true m
+none_left n x (z ∷ r) e w f y m = f z (member-head z r) (sym e ∙ w)
+
+rest_none : (n : ℕ) (ws list : List ℕ) (g x some : ℕ) (m : List ℕ) → Sound n ws list → (c : Collected n (labels n ws) list g x m) → ((x ≡ n → ⊥) → (labels n ws).group x ≡ g → ⊥) → member some m ≡ true → (y : ℕ) → member y c.rest ≡ true → (labels n ws).group y ≡ g → ⊥
+rest_none n ws list g x some m s c stop some-in y y-in y-g =
+    let a = labels n ws in
+    elim (cases_eq x n) [
+      | inl e ↦ none_left n x c.rest c.head e (λ z k. let q : z < n = (s.inside z (ap (member z) c.is ∙ member-append_right z c.front (m ++ c.rest) (member-append_right z m c.rest k))).below in (λ w. absurd (omega arith))) y y-in
+      | inr ne ↦
+          let r = cons_rest n x c.rest c.head ne in
+          let other : a.group x ≡ g → ⊥ = stop ne in
+          let cut-some = cut some m some-in in
+          let is : list ≡ c.front ++ (m ++ x ∷ r.0) = c.is ∙ ap (λ zs. c.front ++ (m ++ zs)) r.1 in
+          let is' : list ≡ (c.front ++ m) ++ x ∷ r.0 = is ∙ sym (append_assoc c.front m (x ∷ r.0)) in
+          let order : InOrder (Before a) ((c.front ++ m) ++ x ∷ r.0) = subst (InOrder (Before a)) is' s.order in
+          let up : a.top g < a.top (a.group x) = elim (all_before (Before a) (Before-then a) some x (c.front ++ m) r.0 order (member-append_right some c.front m some-in)) [
+            | inl t ↦ absurd (other (sym t.0 ∙ c.members some some-in))
+            | inr t ↦ omega (arith, t, ap a.top (c.members some some-in))
+          ] in
+          elim (member-cases y x r.0 (ap (member y) (sym r.1) ∙ y-in)) [
+            | inl e ↦ other (ap a.group (sym e) ∙ y-g)
+            | inr k ↦ elim (Follows-all (Before a) (Before-then a) x y r.0 ((parts (Before a) (c.front ++ m) (x ∷ r.0) order).right) k) [
+              | inl t ↦ other (t.0 ∙ y-g)
+              | inr t ↦ absurd (let u = ap a.top y-g in omega (arith, t, up, u))
+            ]
+          ]
+    ]
+
+-- at the end
+pub collected : (n : ℕ) (ws list : List ℕ) (g x : ℕ) (m : List ℕ) → Sound n ws list → Collected n (labels n ws) list g x m → ((x ≡ n → ⊥) → (labels n ws).group x ≡ g → ⊥) → (y : ℕ) → member y m ≡ true → Segment (labels n ws) list g m
+collected n ws list g x m s c stop some some-in =
+    let a = labels n ws in
+    record {
+      front = c.front;
+      back = c.rest;
+      is = c.is;
+      members = c.members;
+      others = λ y k e. elim k [
+        | inl p ↦ c.none y p e
+        | inr p ↦ rest_none n ws list g x some m s c stop some-in y p e
+      ];
+    }
+
+-- the first has been collected, or comes next
+pub begun : (x count first : ℕ) (into : List ℕ) → count < length into → ((count ≡ 0) × (x ≡ first)) ⊎ (member first (take count into) ≡ true) → member first (take (count + 1) (set into count x)) ≡ true
+begun x count first into l h =
+    ap (member first) (take_more_set into count x l) ∙ elim h [
+      | inl e ↦ member-append_right first (take count into) (x ∷ []) (ap (λ z. member first (z ∷ [])) e.1 ∙ member-head first [])
+      | inr m ↦ member-append_left first (take count into) (x ∷ []) m
+    ]
+
+pub gathered : (n : ℕ) (ws list : List ℕ) (g x first count : ℕ) (into : List ℕ) → Sound n ws list → First (labels n ws) list g first → Collected n (labels n ws) list g x (take count into) → ((x ≡ n → ⊥) → (labels n ws).group x ≡ g → ⊥) → ((count ≡ 0) × (x ≡ first)) ⊎ (member first (take count into) ≡ true) → Segment (labels n ws) list g (take count into)
+gathered n ws list g x first count into s f c stop h =
+    elim h [
+      | inl e ↦
+          let first-in : member first list ≡ true = ap (member first) f.is ∙ member-append_right first f.front (first ∷ f.back) (member-head first f.back) in
+          let below : first < n = (s.inside first first-in).below in
+          let ne : x ≡ n → ⊥ = λ w. absurd (let u : x ≡ first = e.1 in omega arith) in
+          absurd (stop ne (ap (labels n ws).group e.1 ∙ f.group))
+      | inr m ↦ collected n ws list g x (take count into) s c stop first m
+    ]

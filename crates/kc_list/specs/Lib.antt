@@ -1,0 +1,6 @@
+pub mod Places
+pub mod Sheets
+pub mod Tally
+pub mod Views
+pub mod Opening
+pub mod Plain

@@ -1,0 +1,40 @@
+-- What callers see of the list.
+use Rattle.std.specs.Prelude.{◌≡◌, ℕ, ◌+◌, ◌<◌, ◌≤◌, List, [], ◌∷◌, ◌++◌, length, slice_index, true}
+use Rattle.kc_lists.specs.Lists.{member}
+use Rattle.kc_list.specs.declared.sheet.Write.{Write}
+use Rattle.kc_words.specs.Order.{Ordered}
+use Rattle.kc_list.specs.Places.{Sound}
+use Rattle.kc_list.specs.Sheets.{Paper, stored, OrderedAlong, RaisedAlong}
+use Rattle.kc_list.specs.Tally.{Tallied}
+
+-- the items are the numbers below `items`, those below `fixed` stay in the list; `opening` and `words` are by word number
+pub record Plain : Type 0 where
+  pub items : ℕ
+  pub fixed : ℕ
+  pub opening : List ℕ
+  pub words : List ℕ
+  pub list : List ℕ
+  pub writes : List Write
+
+-- the writes make the new words of the old. Each raises its word's version by one. The pairs of labels order the list as it was
+-- at each moment before the last write, which is to the word of x, and as it is now after it
+pub record Written (n : ℕ) (before after : List ℕ) (x : ℕ) (old new : List ℕ) (writes : List Write) : Type 0 where
+  pub front : List Write
+  pub last : Write
+  pub are : writes ≡ front ++ last ∷ []
+  pub words : new ≡ stored old writes
+  pub along : OrderedAlong n before old front
+  pub now : Ordered n new after
+  pub raised : RaisedAlong old writes
+  pub last_is : last.word ≡ 1 + x
+
+-- what is kept between two calls: the labels, the sizes of the groups, and memory enough for a call
+pub record IsWhole (n fixed : ℕ) (list : List ℕ) (sheet : Paper) (sizes : List ℕ) (scratch : ℕ) (opening : List ℕ) : Type 0 where
+  pub sound : Sound n sheet.words list
+  pub small : n ≤ 2097150
+  pub fixed_in : (x : ℕ) → x < fixed → member x list ≡ true
+  pub tallied : Tallied n sheet.words list sizes
+  pub scratch_room : n ≤ scratch
+  pub write_room : n + 98 ≤ sheet.room
+  pub opening_length : length opening ≡ n + n + 2
+  pub note : slice_index sheet.words 0 ≡ 0

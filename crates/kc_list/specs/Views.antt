@@ -1,0 +1,116 @@
+-- The words of the contracts, over a list and the sheet that has its words.
+use Rattle.std.specs.Prelude.{◌≡◌, ℕ, ◌+◌, ◌/◌, ◌<◌, ◌≤◌, List, [], ◌∷◌, ◌++◌, slice_index, slice_set, true}
+use Rattle.kc_links.specs.Ring.{Chain}
+use Rattle.kc_lists.specs.Lists.{member, next_of}
+use Rattle.kc_words.specs.Order.{PairBelow, labels}
+use Rattle.kc_list.specs.Places.{Sound, Segment, First, Free, Splitting, NotOf, HasGap, size_of, runs, gap_end, top_end, evens}
+use Rattle.kc_list.specs.Sheets.{Paper, Steps, version}
+use Rattle.kc_list.specs.Tally.{Tallied}
+use Rattle.kc_list.specs.Tally as tally
+
+-- labels
+
+-- the group of item x, and its label in the group
+abbrev pub group_at : Chain → Paper → ℕ → ℕ
+group_at c p x = (labels c.size p.words).group x
+
+abbrev pub bottom_at : Chain → Paper → ℕ → ℕ
+bottom_at c p x = (labels c.size p.words).bottom x
+
+-- the label of group g
+abbrev pub top_at : Chain → Paper → ℕ → ℕ
+top_at c p g = (labels c.size p.words).top g
+
+abbrev pub version_at : Paper → ℕ → ℕ
+version_at p w = version p.words w
+
+-- `count` labels that share a room evenly
+abbrev pub evenly : ℕ → ℕ → List ℕ
+evenly count room = evens count (room / (count + 1)) 0
+
+-- the labels order the list
+abbrev pub IsSound : Chain → Paper → Type 0
+IsSound c p = Sound c.size p.words c.list
+
+abbrev pub IsPairBelow : Chain → Paper → ℕ → ℕ → Type 0
+IsPairBelow c p x y = PairBelow (labels c.size p.words) x y
+
+-- groups
+
+abbrev pub group_size : Chain → Paper → ℕ → ℕ
+group_size c p g = size_of (labels c.size p.words).group g c.list
+
+abbrev pub groups_in_use : Chain → Paper → List ℕ
+groups_in_use c p = runs (labels c.size p.words).group c.list
+
+abbrev pub IsFree : Chain → Paper → ℕ → Type 0
+IsFree c p h = Free c.size (labels c.size p.words) c.list h
+
+-- the items of group g, in order
+abbrev pub AreMembers : Chain → Paper → ℕ → List ℕ → Type 0
+AreMembers c p g m = Segment (labels c.size p.words) c.list g m
+
+abbrev pub IsFirst : Chain → Paper → ℕ → ℕ → Type 0
+IsFirst c p g x = First (labels c.size p.words) c.list g x
+
+abbrev pub IsSplitting : Chain → Paper → ℕ → ℕ → List ℕ → List ℕ → List ℕ → ℕ → Type 0
+IsSplitting c p g h low ups ls i = Splitting c.size (labels c.size p.words) c.list g h low ups ls i
+
+-- word w is that of no item of group g
+abbrev pub IsNoWordOf : Chain → Paper → ℕ → ℕ → Type 0
+IsNoWordOf c p g w = NotOf (labels c.size p.words) c.list g w
+
+abbrev pub AreSizes : Chain → Paper → List ℕ → Type 0
+AreSizes c p sizes = Tallied c.size p.words c.list sizes
+
+-- the group of p can take x
+abbrev pub TakesItem : Chain → Paper → ℕ → ℕ → Type 0
+TakesItem c s x p = tally.TakesItem c.size s.words c.list x p
+
+-- gaps
+
+-- where the labels end that an item right after p may have
+abbrev pub end_after : Chain → Paper → ℕ → ℕ
+end_after c s p = gap_end c.size s.words c.list p
+
+abbrev pub HasLabelAfter : Chain → Paper → ℕ → Type 0
+HasLabelAfter c s p = HasGap c.size s.words c.list p
+
+-- where the labels end that a group may have right after the group whose last item is x
+abbrev pub end_above : Chain → Paper → ℕ → ℕ
+end_above c p x = top_end c.size (labels c.size p.words) (next_of c.size x c.list)
+
+-- label t is below those of the groups after g
+abbrev pub FitsAbove : Chain → Paper → ℕ → ℕ → Type 0
+FitsAbove c p g t = (z : ℕ) → member z c.list ≡ true → top_at c p g < top_at c p (group_at c p z) → t < top_at c p (group_at c p z)
+
+-- a label fits between that of group g and each greater one
+abbrev pub HasLabelsAbove : Chain → Paper → ℕ → Type 0
+HasLabelsAbove c p g = (z : ℕ) → member z c.list ≡ true → top_at c p g < top_at c p (group_at c p z) → top_at c p g + 2 ≤ top_at c p (group_at c p z)
+
+abbrev pub TopsAreApart : Chain → Paper → Type 0
+TopsAreApart c p = (g : ℕ) → member g (groups_in_use c p) ≡ true → (h : ℕ) → member h (groups_in_use c p) ≡ true → top_at c p g < top_at c p h → top_at c p g + 2 ≤ top_at c p h
+
+-- from one sheet to another
+
+-- the list is in order after each write
+abbrev pub KeepsOrder : Chain → Paper → Paper → Type 0
+KeepsOrder c p q = Steps c.size c.list p q
+
+-- p has a label after it, or the words of its group's items are as they were
+abbrev pub KeepsGroup : Chain → Paper → Paper → ℕ → Type 0
+KeepsGroup c s t p = tally.KeepsGroup c.size s.words t.words c.list p
+
+abbrev pub RisesByOne : Paper → Paper → Type 0
+RisesByOne p q = (w : ℕ) → version q.words w ≤ version p.words w + 1
+
+abbrev pub ItemsMayRise : Paper → List ℕ → Type 0
+ItemsMayRise p list = (y : ℕ) → member y list ≡ true → version p.words (1 + y) < 16777215
+
+-- no word changes but word w
+abbrev pub SetsWord : ℕ → Paper → Paper → Type 0
+SetsWord w p q = q.words ≡ slice_set p.words w (slice_index q.words w)
+
+-- one write is added, of the new value of word w
+abbrev pub AddsWrite : ℕ → Paper → Paper → Type 0
+AddsWrite w p q = q.writes ≡ p.writes ++ record { word = w; value = slice_index q.words w } ∷ []

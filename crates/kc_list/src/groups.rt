@@ -1,0 +1,126 @@
+// How many items each group has, and which group numbers are free.
+ghost use Rattle.std.specs.Prelude.{◌≡◌, ◌<◌, ◌≤◌, ◌+◌, ◌-◌, ◌^◌, ℕ, length, slice_index, slice_set, IfOk};
+ghost use Rattle.kc_list.specs.Tally.{opening_count};
+
+use std::alloc::{AllocError, Global};
+use std::marker::Model;
+
+/// The sizes of the groups, by group number; those that are 0 are also kept as a stack of free
+/// numbers. The groups are numbered from 1, and place 0 says nothing.
+#[derive(Drop)]
+pub struct Groups {
+    sizes: Vec<u32>,
+    free: Vec<u32>,
+    free_count: usize,
+}
+
+impl Model for Groups {
+    ghost use Rattle.std.specs.Prelude.{List, ℕ, length, take, ◌≡◌, ◌≤◌, ◌+◌};
+
+    ghost Value = { List ℕ };
+
+    ghost use Rattle.kc_list.specs.Tally.{IsTally};
+
+    ghost view = { λ a. a.sizes.items };
+
+    ghost invariant = { λ a. IsTally a.sizes.items (take a.free_count a.free.items)
+        × (a.free_count ≤ length a.free.items)
+        × (length a.free.items + 1 ≡ length a.sizes.items) };
+}
+
+impl Groups {
+    /// The groups of a list of `len` items of which 32 by 32 are put into groups, from group 1 on.
+    pub fn open(alloc: Global, items: u32, len: u32) -> Result<Self, AllocError>
+        requires few { items ≤ 2097150 }
+        requires within { len ≤ items }
+        ensures length { IfOk result (λ a. length a ≡ items + 2) }
+        ensures none { IfOk result (λ a. slice_index a 0 ≡ 0) }
+        ensures sizes { IfOk result (λ a. (g : ℕ) → 0 < g → g ≤ items + 1
+            → slice_index a g ≡ opening_count len g) }
+    {
+        let mut sizes = vec![in alloc; 0u32; items as usize + 2]?;
+        let mut free = vec![in alloc; 0u32; items as usize + 1]?;
+        fill_sizes(&mut sizes, len);
+        fill_free(&mut free);
+        let used = len.div_ceil(32);
+        Ok(Groups {
+            sizes,
+            free,
+            free_count: (items + 1 - used) as usize,
+        })
+    }
+
+    /// How many items a group has.
+    pub fn size(&self, group: u32) -> u32
+        requires { group < length self.now }
+        ensures { result ≡ slice_index self.now group }
+    {
+        self.sizes[group as usize]
+    }
+
+    /// An item joins a group that has items.
+    pub fn enter(&mut self, group: u32)
+        requires within { group < length self.old }
+        requires used { 0 < slice_index self.old group }
+        requires fits { slice_index self.old group < 2 ^ 31 }
+        ensures { self.new ≡ slice_set self.old group (slice_index self.old group + 1) }
+    {
+        let size = self.sizes[group as usize];
+        self.sizes[group as usize] = size + 1;
+    }
+
+    /// An item leaves a group. A group with no items is free.
+    pub fn leave(&mut self, group: u32)
+        requires low { 0 < group }
+        requires within { group < length self.old }
+        requires used { 0 < slice_index self.old group }
+        ensures { self.new ≡ slice_set self.old group (slice_index self.old group - 1) }
+    {
+        let size = self.sizes[group as usize];
+        self.sizes[group as usize] = size - 1;
+        if size == 1 {
+            self.free[self.free_count] = group;
+            self.free_count += 1;
+        }
+    }
+
+    /// Half of a full group of 64 items becomes a group of its own, with a number that was free.
+    pub fn split(&mut self, group: u32) -> u32
+        requires within { group < length self.old }
+        requires full { slice_index self.old group ≡ 64 }
+        requires spare { (h : ℕ) × (0 < h) × (h < length self.old) × (slice_index self.old h ≡ 0) }
+        ensures low { 0 < result }
+        ensures within { result < length self.old }
+        ensures was_free { slice_index self.old result ≡ 0 }
+        ensures sizes { self.new ≡ slice_set (slice_set self.old group 32) result 32 }
+    {
+        self.free_count -= 1;
+        let fresh = self.free[self.free_count];
+        self.sizes[group as usize] = 32;
+        self.sizes[fresh as usize] = 32;
+        fresh
+    }
+}
+
+/// The sizes at the opening, by group number; place 0 stays.
+fn fill_sizes(sizes: &mut [u32], len: u32)
+    requires { length sizes.old < 2 ^ 24 }
+    ensures none { slice_index sizes.new 0 ≡ slice_index sizes.old 0 }
+    ensures sizes { (g : ℕ) → 0 < g → g < length sizes.old → slice_index sizes.new g ≡ opening_count len g }
+{
+    for g in 1..sizes.len() {
+        let before = 32 * (g as u32 - 1);
+        sizes[g] = len.saturating_sub(before).min(32);
+    }
+}
+
+/// All group numbers, the greatest first.
+fn fill_free(free: &mut [u32])
+    requires { length free.old < 2 ^ 24 }
+    ensures { (i : ℕ) → i < length free.old → slice_index free.new i ≡ length free.old - i }
+{
+    let count = free.len();
+    for i in 0..count {
+        free[i] = (count - i) as u32;
+    }
+}

@@ -1,0 +1,44 @@
+//! A list in which any two items are compared by their labels, with constant work.
+//!
+//! `PlainOrder` is the two-level list of Dietz and Sleator (1987) on one thread. Its labels are kept
+//! in words, as a shared table keeps them, and each call tells by which writes the words become what
+//! they are now, so that another structure can store them one at a time.
+//!
+//! What is promised: under `put_after` and `take` it is a plain list; after every write but the last
+//! of a call the labels order the list as it was before the call, and after the last as it is now;
+//! each write raises its word's version by one; no word is written more than once in a call, but for
+//! the moved item's, which is written at most twice; no call after `open` takes memory.
+//!
+//! How it is kept, from the bottom up: `sheet` has the words and the writes, `groups` the sizes of the
+//! groups, `kc_links` the neighbours of each item. `gather` lists a group, `spread` and `tops` give it
+//! or all groups new labels, `split` moves its upper half. `room` and `halve` decide which of these a
+//! put needs, `place` makes the last write, and `plain` puts it together.
+#![tactic(auto)]
+
+mod gather;
+mod groups;
+mod halve;
+mod opening;
+mod place;
+mod plain;
+mod room;
+mod scratch;
+mod sheet;
+mod split;
+mod spread;
+mod tops;
+
+/// The labels of items in a group are from 1 to below this: they have 19 bits.
+const BOTTOM_END: u32 = 524_288;
+
+/// The same, as the room that the labels of a group share.
+const BOTTOM_ROOM: u64 = 524_288;
+
+/// The labels of groups are from 1 to below this: they have 40 bits.
+const TOP_ROOM: u64 = 1_099_511_627_776;
+
+pub use plain::PlainOrder;
+pub use sheet::Write;
+
+#[cfg(test)]
+mod tests;

@@ -1,0 +1,221 @@
+// The list of one thread, with the writes that its words need.
+ghost use Rattle.std.specs.Prelude.{◌≡◌, ◌≢◌, ◌<◌, ◌≤◌, ◌+◌, ◌*◌, ◌↔◌, ℕ, length, slice_index, true, [], IfOk, MatchOption, IsTrue};
+ghost use Rattle.kc_words.specs.ItemWord.{item_of};
+ghost use Rattle.kc_lists.specs.Lists.{member, Distinct, without, right_after, next_of, prev_of, place_of};
+ghost use Rattle.kc_words.specs.Order.{labels, Ordered, PairBelow};
+ghost use Rattle.kc_list.specs.Sheets.{version, highest_of};
+ghost use Rattle.kc_list.specs.Plain.{Plain, Written};
+
+use crate::groups::Groups;
+use crate::halve::make_group_room;
+use crate::opening::{link, opening_words};
+use crate::place::{move_item, pair_below, take_item};
+use crate::room::make_room;
+use crate::scratch::Scratch;
+use crate::sheet::{Sheet, Write};
+use kc_links::Links;
+use kc_words::{ItemWord, Shape};
+use std::alloc::{AllocError as NoMemory, Global};
+use std::marker::Model;
+
+/// A list of items, any two of which are compared by their labels with constant work (Dietz and
+/// Sleator, 1987). The labels are in words, as a shared table has them, and each call says by which
+/// writes, one after another, the words become what they are now.
+///
+/// Items are numbers below `items`. Those below `fixed` are in the list from its opening on, and
+/// stay. Item `x` has word `1 + x` and group `g`, which is from 1 to `items + 1`, has word
+/// `items + g`. The words have versions of 24 bits, which count the writes to them.
+#[derive(Drop)]
+pub struct PlainOrder {
+    links: Links,
+    sheet: Sheet,
+    groups: Groups,
+    scratch: Scratch,
+    opening: Vec<u64>,
+    fixed: u32,
+}
+
+impl Model for PlainOrder {
+    ghost use Rattle.kc_list.specs.Plain.{Plain};
+
+    ghost Value = { Plain };
+
+    ghost use Rattle.kc_list.specs.Plain.{IsWhole};
+
+    ghost view = { λ a. record {
+      items = a.links.size;
+      fixed = a.fixed;
+      opening = a.opening.items;
+      words = a.sheet.words;
+      list = a.links.list;
+      writes = a.sheet.writes;
+    } };
+
+    ghost invariant = { λ a. IsWhole a.links.size a.fixed a.links.list a.sheet a.groups a.scratch a.opening.items };
+}
+
+impl PlainOrder {
+    /// A list with the items of `order`, in that order. It takes all memory that later calls need.
+    pub fn open(alloc: Global, shape: Shape, order: &[u32]) -> Result<Self, NoMemory>
+        requires distinct { Distinct order.now }
+        requires within { (x : ℕ) → member x order.now ≡ true → x < shape.items }
+        requires fixed_in { (x : ℕ) → x < shape.fixed → member x order.now ≡ true }
+        ensures items { IfOk result (λ a. a.items ≡ shape.items) }
+        ensures fixed { IfOk result (λ a. a.fixed ≡ shape.fixed) }
+        ensures list { IfOk result (λ a. a.list ≡ order.now) }
+        ensures writes { IfOk result (λ a. a.writes ≡ []) }
+        ensures opening { IfOk result (λ a. a.words ≡ a.opening) }
+        ensures versions { IfOk result (λ a. (w : ℕ) → 1 ≤ w → w ≤ 2 * shape.items + 1
+            → version a.words w ≡ shape.version) }
+        ensures highest { IfOk result (λ a. highest_of a.words ≡ shape.version) }
+        ensures ordered { IfOk result (λ a. Ordered shape.items a.words order.now) }
+        ensures long { IfOk result (λ a. length a.words ≡ 2 * shape.items + 2) }
+        ensures note { IfOk result (λ a. slice_index a.words 0 ≡ 0) }
+    {
+        let links = link(alloc, shape.items, order)?;
+        let words = opening_words(alloc, shape.items, shape.version, order)?;
+        let opening = words.as_slice().to_vec(alloc)?;
+        let sheet = Sheet::open(alloc, words, shape.version, shape.items as usize + 98)?;
+        let groups = Groups::open(alloc, shape.items, order.len() as u32)?;
+        let scratch = Scratch::new(alloc, shape.items as usize)?;
+        Ok(PlainOrder {
+            links,
+            sheet,
+            groups,
+            scratch,
+            opening,
+            fixed: shape.fixed,
+        })
+    }
+
+    /// The value with which an item's or a group's word opened.
+    pub fn opening(&self, word: u32) -> u64
+        requires low { 1 ≤ word }
+        requires high { word ≤ 2 * self.now.items + 1 }
+        ensures { result ≡ slice_index self.now.opening word }
+    {
+        self.opening[word as usize]
+    }
+
+    /// What the last call wrote, in order; nothing after the opening.
+    pub fn writes(&self) -> &[Write]
+        ensures { result.now ≡ self.now.writes }
+    {
+        self.sheet.writes()
+    }
+
+    /// Moves or adds `x` right after `p`.
+    ///
+    /// An `x` in the list counts as an item of its old group until its own write, which is the last.
+    /// No word is written more than once, but for that of `x`, which is written at most twice.
+    pub fn put_after(&mut self, x: u32, p: u32)
+        requires p_in { member p self.old.list ≡ true }
+        requires x_within { x < self.old.items }
+        requires differ { x ≢ p }
+        requires versions { highest_of self.old.words + 3 ≤ 16777215 }
+        ensures items { self.new.items ≡ self.old.items }
+        ensures fixed { self.new.fixed ≡ self.old.fixed }
+        ensures opening { self.new.opening ≡ self.old.opening }
+        ensures list { self.new.list ≡ right_after x p (without x self.old.list) }
+        ensures written { Written self.old.items self.old.list self.new.list x
+            self.old.words self.new.words self.new.writes }
+        ensures once { (w : ℕ) → w ≢ 1 + x → version self.new.words w ≤ version self.old.words w + 1 }
+        ensures twice { version self.new.words (1 + x) ≤ version self.old.words (1 + x) + 2 }
+        ensures highest { highest_of self.new.words ≤ highest_of self.old.words + 2 }
+    {
+        let PlainOrder {
+            links,
+            sheet,
+            groups,
+            scratch,
+            ..
+        } = self;
+        sheet.clear();
+        make_group_room(links, sheet, groups, scratch, x, p);
+        make_room(links, sheet, p);
+        move_item(links, sheet, groups, x, p);
+    }
+
+    /// Takes `x` out, by one write.
+    pub fn take(&mut self, x: u32)
+        requires x_in { member x self.old.list ≡ true }
+        requires free { self.old.fixed ≤ x }
+        requires versions { highest_of self.old.words + 3 ≤ 16777215 }
+        ensures items { self.new.items ≡ self.old.items }
+        ensures fixed { self.new.fixed ≡ self.old.fixed }
+        ensures opening { self.new.opening ≡ self.old.opening }
+        ensures list { self.new.list ≡ without x self.old.list }
+        ensures written { Written self.old.items self.old.list self.new.list x
+            self.old.words self.new.words self.new.writes }
+        ensures single { length self.new.writes ≡ 1 }
+        ensures highest { highest_of self.new.words ≤ highest_of self.old.words + 1 }
+        ensures out { item_of (slice_index self.new.words (1 + x))
+            ≡ record { version = version self.old.words (1 + x) + 1; group = 0; bottom = 0 } }
+    {
+        let PlainOrder {
+            links,
+            sheet,
+            groups,
+            ..
+        } = self;
+        sheet.clear();
+        take_item(links, sheet, groups, x);
+    }
+
+    /// Whether `x` stands before `y`.
+    pub fn precedes(&self, x: u32, y: u32) -> bool
+        requires x_in { member x self.now.list ≡ true }
+        requires y_in { member y self.now.list ≡ true }
+        requires differ { x ≢ y }
+        ensures by_list { IsTrue result ↔ (place_of x self.now.list < place_of y self.now.list) }
+        ensures by_labels { IsTrue result ↔ PairBelow (labels self.now.items self.now.words) x y }
+    {
+        pair_below(&self.links, &self.sheet, x, y)
+    }
+
+    /// Whether `x` is in the list.
+    pub fn present(&self, x: u32) -> bool
+        requires { x < self.now.items }
+        ensures { IsTrue result ↔ (member x self.now.list ≡ true) }
+    {
+        ItemWord::of(self.sheet.word(1 + x)).group != 0
+    }
+
+    /// What stands right before `x`; `None` where `x` is the first.
+    pub fn before(&self, x: u32) -> Option<u32>
+        requires { member x self.now.list ≡ true }
+        ensures { MatchOption result (prev_of self.now.items x self.now.list ≡ self.now.items)
+            (λ y. (y ≡ prev_of self.now.items x self.now.list) × (member y self.now.list ≡ true)) }
+    {
+        let before = self.links.prev(x);
+        if before == self.links.size() {
+            None
+        } else {
+            Some(before)
+        }
+    }
+
+    /// What stands right after `x`; `None` where `x` is the last.
+    pub fn after(&self, x: u32) -> Option<u32>
+        requires { member x self.now.list ≡ true }
+        ensures { MatchOption result (next_of self.now.items x self.now.list ≡ self.now.items)
+            (λ y. (y ≡ next_of self.now.items x self.now.list) × (member y self.now.list ≡ true)) }
+    {
+        let next = self.links.next(x);
+        if next == self.links.size() {
+            None
+        } else {
+            Some(next)
+        }
+    }
+
+    /// The greatest version of any item's or group's word.
+    pub fn highest(&self) -> u32
+        ensures value { result ≡ highest_of self.now.words }
+        ensures greatest { (w : ℕ) → version self.now.words w ≤ result }
+        ensures reached { (w : ℕ) × (1 ≤ w) × (w ≤ 2 * self.now.items + 1)
+            × (version self.now.words w ≡ result) }
+    {
+        self.sheet.highest()
+    }
+}
