@@ -1,0 +1,178 @@
+-- What the written-out logs make of the small table, and why those that break a condition are not legal.
+use Rattle.std.proofs.Common.{◌≡◌, ◌<◌, ◌≤◌, ℕ, true, false, List, [], ◌∷◌, ◌++◌, refl, sym, ◌∙◌, ap, arith, ◌⊎◌, inl, inr, length}
+use Rattle.std.specs.Prelude.{Bool, not, ◌&&◌, ◌||◌}
+use Rattle.std.specs.Ordering.{eq_by_cmp}
+use Rattle.std.specs.FinSet as set
+use Rattle.kc_graph.specs.SimpleGraph.{pair_cmp}
+use Rattle.kc_graph.proofs.RowsLemmas.{pair_total, pair_exact}
+use Rattle.std.proofs.lemmas.Bool.{false≢true}
+use Rattle.kc_words.specs.ItemWord.{item_of, item_word}
+use Rattle.kc_words.specs.GroupWord.{group_of, group_word}
+use Rattle.kc_words.specs.VertexWord.{vertex_of, vertex_word}
+use Rattle.kc_words.specs.NoteWord.{note_of, note_word}
+use Rattle.kc_words.specs.declared.note.NoteWord.TheVariants.{Enter, Put, Take}
+use Rattle.kc_table.specs.Log.{event}
+use Rattle.kc_table.specs.Edges.{edges_after}
+use Rattle.kc_table.specs.State.{state_of}
+use Rattle.kc_table.specs.Legal.{Legal, Opens}
+use Rattle.kc_table.specs.Samples.{shape, item, vertex, note, opening, one_put, put_and_take, open_section, sealed_section, two_entries, pair_shape, pair_opening, pair_put, no_edges, one_edge, longer_opening, noted_opening, ahead_opening, missing_opening, tied_opening, stamped_opening}
+use Rattle.kc_table.proofs.LegalLogs.{legal-last, legal-holds}
+
+pub opening_list : (state_of shape opening []).list ≡ 0 ∷ 1 ∷ []
+unfolding state_of item_of item_word group_of group_word
+opening_list = refl
+
+pub pair_put-list : (state_of pair_shape pair_opening pair_put).list ≡ 0 ∷ 1 ∷ []
+unfolding state_of item_of note_of
+pair_put-list = refl
+
+pub one_put-list : (state_of shape opening one_put).list ≡ 0 ∷ 2 ∷ 1 ∷ []
+unfolding state_of item_of item_word group_of group_word note_of note_word
+one_put-list = refl
+
+pub put_and_take-list : (state_of shape opening put_and_take).list ≡ 0 ∷ 2 ∷ []
+unfolding state_of item_of item_word group_of group_word note_of note_word
+put_and_take-list = refl
+
+pub open_section-unsealed : (state_of shape opening open_section).unsealed ≡ 0 ∷ []
+unfolding state_of item_of item_word group_of group_word note_of note_word
+open_section-unsealed = refl
+
+pub two_entries-list : (state_of shape opening two_entries).list ≡ 1 ∷ 0 ∷ []
+unfolding state_of item_of item_word group_of group_word note_of note_word
+two_entries-list = refl
+
+pub two_entries-entries : (state_of shape opening two_entries).entries ≡ record { index = 7; add = true; u = 0; v = 1 } ∷ record { index = 8; add = false; u = 0; v = 1 } ∷ []
+unfolding state_of item_of item_word group_of group_word note_of note_word
+two_entries-entries = refl
+
+pub two_entries-unsealed : (state_of shape opening two_entries).unsealed ≡ []
+unfolding state_of item_of item_word group_of group_word note_of note_word
+two_entries-unsealed = refl
+
+-- what was put into an empty set and taken out again
+removed_again : (p : ℕ × ℕ) → set.remove (set.insert (set.empty {R = pair_cmp}) p) p ≡ set.empty
+removed_again p = set.same_set pair_total pair_exact _ _ (λ q.
+    set.contains-remove pair_total (set.insert set.empty p) p q ∙ (ap (λ b. not (eq_by_cmp pair_cmp q p) && b) (set.contains-insert pair_total set.empty p q ∙ ap (λ b. eq_by_cmp pair_cmp q p || b) (set.contains-empty pair_cmp q)) ∙ (neither (eq_by_cmp pair_cmp q p) ∙ sym (set.contains-empty pair_cmp q))))
+  where
+    neither : (b : Bool) → (not b && (b || false)) ≡ false
+    neither true = refl
+    neither false = refl
+
+pub edges-before : edges_after no_edges shape opening two_entries 1 ≡ no_edges
+unfolding state_of item_of item_word group_of group_word note_of note_word
+edges-before = refl
+
+pub edges-first : edges_after no_edges shape opening two_entries 2 ≡ one_edge
+unfolding state_of item_of item_word group_of group_word note_of note_word
+edges-first = refl
+
+pub edges-second : edges_after no_edges shape opening two_entries 3 ≡ no_edges
+unfolding state_of item_of item_word group_of group_word note_of note_word
+edges-second = ap (λ edges. record { size = 2; edges = edges }) (removed_again (0, 1))
+
+pub edges-later : edges_after no_edges shape opening two_entries 9 ≡ no_edges
+unfolding state_of item_of item_word group_of group_word note_of note_word
+edges-later = ap (λ edges. record { size = 2; edges = edges }) (removed_again (0, 1))
+
+-- openings
+pub longer_opening-refused : Opens shape longer_opening → ⊥
+longer_opening-refused h = omega (arith, h.one_each)
+
+pub noted_opening-refused : Opens shape noted_opening → ⊥
+noted_opening-refused h = omega (arith, h.no_note)
+
+pub ahead_opening-refused : Opens shape ahead_opening → ⊥
+unfolding item_of item_word
+ahead_opening-refused h = let e : ◌≡◌ {A = ℕ} 1 0 = h.versions 2 (omega arith, omega arith) in omega (arith, e)
+
+pub missing_opening-refused : Opens shape missing_opening → ⊥
+unfolding item_of item_word group_of group_word
+missing_opening-refused h = let e : false ≡ true = h.vertices 0 (omega arith) in false≢true e
+
+pub tied_opening-refused : Opens shape tied_opening → ⊥
+unfolding item_of item_word group_of group_word
+tied_opening-refused h =
+    let k : ((100 < 100) ⊎ ((◌≡◌ {A = ℕ} 100 100) × (20 < 20))) = h.holds.ordered.pairs.0 in
+    elim k [ inl l ↦ omega (arith, l) | inr l ↦ omega (arith, l.1) ]
+
+pub stamped_opening-refused : Opens shape stamped_opening → ⊥
+unfolding vertex_of vertex_word
+stamped_opening-refused h = let l : 2 ≤ 1 = h.holds.stamps 0 (omega arith) in omega (arith, l)
+
+-- stores
+pub there : Legal shape opening (event 9 0 ∷ []) → ⊥
+there h = let l : 9 < 9 = (legal-last shape opening [] (event 9 0) h).there in omega (arith, l)
+
+pub fits : Legal shape opening (event 0 18446744073709551617 ∷ []) → ⊥
+fits h = let l : 18446744073709551617 < 18446744073709551616 = (legal-last shape opening [] (event 0 18446744073709551617) h).fits in omega (arith, l)
+
+pub follows : Legal shape opening (note (Put 2 0) ∷ event 2 (item 1 1 12) ∷ []) → ⊥
+unfolding state_of note_of note_word
+follows h = let e : ◌≡◌ {A = ℕ} 2 3 = (legal-last shape opening (note (Put 2 0) ∷ []) (event 2 (item 1 1 12)) h).follows in omega (arith, e)
+
+pub put_of_an_item : Legal shape opening (note (Put 3 0) ∷ []) → ⊥
+unfolding state_of item_of item_word group_of group_word note_of note_word
+put_of_an_item h = let l : 3 < 3 = ((legal-last shape opening [] (note (Put 3 0)) h).note refl).0 in omega (arith, l)
+
+pub put_after_a_listed_item : Legal shape opening (note (Put 1 2) ∷ []) → ⊥
+unfolding state_of item_of item_word group_of group_word note_of note_word
+put_after_a_listed_item h = let e : false ≡ true = ((legal-last shape opening [] (note (Put 1 2)) h).note refl).1 in false≢true e
+
+pub put_after_another : Legal shape opening (note (Put 1 1) ∷ []) → ⊥
+unfolding state_of item_of item_word group_of group_word note_of note_word
+put_after_another h = let ne : (◌≡◌ {A = ℕ} 1 1) → ⊥ = ((legal-last shape opening [] (note (Put 1 1)) h).note refl).2 in ne refl
+
+pub put_in_a_section : Legal shape opening (note (Put 0 1) ∷ []) → ⊥
+unfolding state_of item_of item_word group_of group_word note_of note_word
+put_in_a_section h = let l : 0 < 0 = (((legal-last shape opening [] (note (Put 0 1)) h).note refl).3 (omega arith)).inside in omega (arith, l)
+
+pub put_once : Legal shape opening (sealed_section ++ note (Put 0 1) ∷ []) → ⊥
+unfolding state_of item_of item_word group_of group_word note_of note_word vertex_of vertex_word
+put_once h = let l : 2 < 2 = (((legal-last shape opening sealed_section (note (Put 0 1)) h).note refl).3 (omega arith)).once in omega (arith, l)
+
+pub take_of_a_listed_item : Legal shape opening (note (Take 2) ∷ []) → ⊥
+unfolding state_of item_of item_word group_of group_word note_of note_word
+take_of_a_listed_item h = let e : false ≡ true = ((legal-last shape opening [] (note (Take 2)) h).note refl).0 in false≢true e
+
+pub take_of_no_vertex : Legal shape opening (note (Take 0) ∷ []) → ⊥
+unfolding state_of item_of item_word group_of group_word note_of note_word
+take_of_no_vertex h = let l : 1 ≤ 0 = ((legal-last shape opening [] (note (Take 0)) h).note refl).1 in omega (arith, l)
+
+pub closed : Legal shape opening (open_section ++ note (Enter false 8 0 1) ∷ []) → ⊥
+unfolding state_of item_of item_word group_of group_word note_of note_word
+closed h = let e : ◌≡◌ {A = List ℕ} (0 ∷ []) [] = (legal-last shape opening open_section (note (Enter false 8 0 1)) h).note refl in omega (arith, ap length e)
+
+pub version_stays : Legal shape opening (event 2 (item 0 1 25) ∷ []) → ⊥
+unfolding state_of item_of item_word
+version_stays h = let e : ◌≡◌ {A = ℕ} 0 1 = (legal-last shape opening [] (event 2 (item 0 1 25)) h).fresh (omega arith, omega arith) in omega (arith, e)
+
+pub version_leaps : Legal shape opening (event 2 (item 2 1 25) ∷ []) → ⊥
+unfolding state_of item_of item_word
+version_leaps h = let e : ◌≡◌ {A = ℕ} 2 1 = (legal-last shape opening [] (event 2 (item 2 1 25)) h).fresh (omega arith, omega arith) in omega (arith, e)
+
+pub sealed_in_a_section : Legal shape opening (event 8 (vertex 1 0) ∷ []) → ⊥
+unfolding state_of
+sealed_in_a_section h = let l : 0 < 0 = ((legal-last shape opening [] (event 8 (vertex 1 0)) h).seals 0 refl).inside in omega (arith, l)
+
+pub own_stamp : Legal shape opening (note (Enter true 7 0 1) ∷ event 8 (vertex 1 0) ∷ []) → ⊥
+unfolding state_of note_of note_word vertex_of vertex_word
+own_stamp h = let e : ◌≡◌ {A = ℕ} 1 2 = ((legal-last shape opening (note (Enter true 7 0 1) ∷ []) (event 8 (vertex 1 0)) h).seals 0 refl).stamp in omega (arith, e)
+
+pub sealed_once : Legal shape opening (sealed_section ++ event 8 (vertex 2 0) ∷ []) → ⊥
+unfolding state_of note_of note_word vertex_of vertex_word
+sealed_once h = let l : 2 < 2 = ((legal-last shape opening sealed_section (event 8 (vertex 2 0)) h).seals 0 refl).later in omega (arith, l)
+
+pub ordered : Legal shape opening (event 2 (item 1 1 10) ∷ []) → ⊥
+unfolding state_of item_of item_word group_of group_word
+ordered h =
+    let k : ((100 < 100) ⊎ ((◌≡◌ {A = ℕ} 100 100) × (10 < 10))) = (legal-holds shape opening (event 2 (item 1 1 10) ∷ []) h).ordered.pairs.0 in
+    elim k [ inl l ↦ omega (arith, l) | inr l ↦ omega (arith, l.1) ]
+
+pub inside : Legal shape opening (event 2 (item 1 0 25) ∷ []) → ⊥
+unfolding state_of item_of item_word group_of group_word
+inside h = let l : 0 < 0 = ((legal-holds shape opening (event 2 (item 1 0 25) ∷ []) h).ordered.inside 1 refl).0 in omega (arith, l)
+
+pub outside : Legal shape opening (event 3 (item 1 1 40) ∷ []) → ⊥
+unfolding state_of item_of item_word group_of group_word
+outside h = let e : ◌≡◌ {A = ℕ} 1 0 = (legal-holds shape opening (event 3 (item 1 1 40) ∷ []) h).ordered.outside 2 (omega arith) refl in omega (arith, e)

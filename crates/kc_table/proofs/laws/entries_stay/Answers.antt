@@ -1,0 +1,5 @@
+use Rattle.kc_table.proofs.LegalLogs.{entries-prefix}
+use Rattle.kc_table.proofs.laws.entries_stay.Goals as goal
+
+pub returns : goal.returns
+returns c = entries-prefix

@@ -1,0 +1,11 @@
+use Rattle.kc_table.proofs.Listed.{stands}
+use Rattle.kc_table.proofs.laws.the_list_has_distinct_items_and_each_vertex.Goals as goal
+
+pub returns-clause-distinct : goal.returns-clause-distinct
+returns-clause-distinct c = λ shape opening log h. (stands shape opening log h).listed.distinct
+
+pub returns-clause-items : goal.returns-clause-items
+returns-clause-items c = λ shape opening log x h m. (stands shape opening log h).listed.within x m
+
+pub returns-clause-vertices : goal.returns-clause-vertices
+returns-clause-vertices c = λ shape opening log v h l. (stands shape opening log h).listed.vertices v l

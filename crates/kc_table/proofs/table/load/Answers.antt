@@ -1,0 +1,8 @@
+use Rattle.std.proofs.Common.{rules}
+use Rattle.kc_table.proofs.Steps.{loads}
+use Rattle.kc_table.proofs.table.load.Goals as goal
+
+pub load-requires : goal.load-requires
+load-requires c =
+    let same = c.pass.view_is in
+    (search rules, search rules, loads _ _ _ _ _ c.pass.invariant.1)

@@ -1,0 +1,6 @@
+use Rattle.std.proofs.Common.{rules}
+use Rattle.kc_table.proofs.Steps.{splits}
+use Rattle.kc_table.proofs.table.split.Goals as goal
+
+pub split_seat-requires : goal.split_seat-requires
+split_seat-requires c = (search rules, search rules, splits _ _ _ c.pass.invariant.1)

@@ -1,0 +1,24 @@
+use Rattle.std.proofs.Common.{◌++◌, [], ◌∷◌, sym, ap, ◌∙◌, subst}
+use Rattle.kc_table.specs.Log.{Seen, event}
+use Rattle.kc_table.specs.Legal.{Opens}
+use Rattle.kc_table.specs.Samples.{pair_shape, pair_opening}
+use Rattle.kc_table.proofs.TestTables.{pair_is, pair_opens, pair_first, pair_second, legal_at}
+use Rattle.kc_table.proofs.tests.a_told_pass_and_one_split_from_it_load_what_was_stored.Goals as goal
+
+pub open-requires : goal.open-requires
+open-requires g c = subst (λ s. Opens s pair_opening) (sym (pair_is _ _ _ _)) pair_opens
+
+pub store-requires-clause-legal : goal.store-requires-clause-legal
+store-requires-clause-legal g c =
+    let of = c.in_ok-words.ensures in
+    legal_at c.in_ok-words.seat (event 0 9223372036856872960) pair_shape pair_opening [] (ap (λ (s : Seen). s.table.shape) of.writer ∙ (of.words.0 ∙ pair_is _ _ _ _)) (ap (λ (s : Seen). s.table.opening) of.writer ∙ of.words.1) (ap (λ (s : Seen). s.log) of.writer) pair_first
+
+pub store-requires-2-clause-legal : goal.store-requires-2-clause-legal
+store-requires-2-clause-legal g c =
+    let of = c.in_ok-words.ensures in
+    let first = c.store.ensures in
+    legal_at c.store.new.writer (event 2 1099512545280) pair_shape pair_opening (event 0 9223372036856872960 ∷ [])
+    (ap (λ (s : Seen). s.table.shape) first ∙ (ap (λ (s : Seen). s.table.shape) of.writer ∙ (of.words.0 ∙ pair_is _ _ _ _)))
+    (ap (λ (s : Seen). s.table.opening) first ∙ (ap (λ (s : Seen). s.table.opening) of.writer ∙ of.words.1))
+    (ap (λ (s : Seen). s.log) first ∙ ap (λ (s : Seen). s.log ++ event 0 9223372036856872960 ∷ []) of.writer)
+    pair_second

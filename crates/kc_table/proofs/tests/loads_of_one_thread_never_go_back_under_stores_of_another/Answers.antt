@@ -1,0 +1,11 @@
+use Rattle.std.proofs.Common.{sym, ◌∙◌, subst}
+use Rattle.kc_table.specs.Legal.{Opens}
+use Rattle.kc_table.specs.Samples.{lone_words}
+use Rattle.kc_table.proofs.TestTables.{lone_is, lone_opens}
+use Rattle.kc_table.proofs.tests.loads_of_one_thread_never_go_back_under_stores_of_another.Goals as goal
+
+pub open-requires : goal.open-requires
+open-requires g c = subst (λ s. Opens s (lone_words 0)) (sym (lone_is _ _ _ _)) lone_opens
+
+pub one_stores_and_one_loads-never_fell-requires-clause-lone : goal.one_stores_and_one_loads-never_fell-requires-clause-lone
+one_stores_and_one_loads-never_fell-requires-clause-lone g c κs = (c.in_ok-words.ensures.words.0 ∙ lone_is _ _ _ _, c.in_ok-words.ensures.words.1)

@@ -1,0 +1,6 @@
+pub mod Edges
+pub mod Legal
+pub mod Log
+pub mod Rule
+pub mod Samples
+pub mod State

@@ -1,0 +1,44 @@
+-- A table's log: the stores of its one writer, oldest first.
+use Rattle.std.specs.Prelude.{refl, ℕ, List, [], ◌∷◌, slice_index, slice_set}
+use Rattle.std.specs.FinSet as set
+use Rattle.std.proofs.lemmas.Bool.{leb-true}
+use Rattle.atomic_table.specs.Seated.{TableId}
+use Rattle.kc_graph.specs.SimpleGraph.{SimpleGraph}
+use Rattle.kc_words.specs.declared.shape.Shape.{Shape}
+use Rattle.kc_table.specs.declared.view.Event.{Event}
+
+-- which table it is, its shape and its opening words
+pub record TableName : Type 0 where
+  pub id : TableId
+  pub shape : Shape
+  pub opening : List ℕ
+
+-- a prefix of a table's log
+pub record Seen : Type 0 where
+  pub table : TableName
+  pub log : List Event
+
+-- the store of a value to a word
+abbrev pub event : ℕ → ℕ → Event
+event word value = record { word = word; value = value }
+
+-- the words after these stores
+abbrev pub words_after : List ℕ → List Event → List ℕ
+words_after ws [] = ws
+words_after ws (e ∷ es) = words_after (slice_set ws e.word e.value) es
+
+-- the last value stored to a word, else its opening value
+abbrev pub value_at : List ℕ → List Event → ℕ → ℕ
+value_at opening log w = slice_index (words_after opening log) w
+
+-- the shape of no table
+abbrev pub no_shape : Shape
+no_shape = record { items = 1; fixed = 0; base = 0; version = 0; some_items = leb-true 1 1 refl; few_items = leb-true 1 2097150 refl; fixed_in = leb-true 0 1 refl; version_in = leb-true 0 16777215 refl }
+
+-- the name of no table
+abbrev pub no_table : TableName
+no_table = record { id = record { words = 0; slots = 0; views_name = 0; atom = 0; block = 0; offset = 0; slot_names = [] }; shape = no_shape; opening = [] }
+
+-- the graph of no table
+abbrev pub no_graph : SimpleGraph
+no_graph = record { size = 0; edges = set.empty }

@@ -1,0 +1,70 @@
+-- The rule of the words, and what each step tells.
+use Rattle.std.specs.Prelude.{◌≡◌, ℕ, List, [], ◌∷◌, ◌++◌, true, false}
+use mathlib.Core.List.{IsPrefix}
+use mathlib.Core.Option.{some}
+use lib.ListN.{get_elem?}
+use Rattle.atomic_table.specs.Table.{State, Me, Step}
+use Rattle.kc_table.specs.declared.view.Event.{Event}
+use Rattle.kc_words.specs.declared.shape.Shape.{Shape}
+use Rattle.kc_table.specs.declared.view.Opening.{Opening}
+use Rattle.kc_table.specs.declared.view.View.{View}
+use Rattle.kc_table.specs.Log.{words_after, value_at, event, no_shape}
+use Rattle.kc_table.specs.Legal.{Legal}
+
+abbrev pub EachBegins : List (List Event) → List Event → Type 0
+EachBegins [] log = Unit {0}
+EachBegins (p ∷ ps) log = IsPrefix p log × EachBegins ps log
+
+-- what a seat knows is so, unless it is spent: which table it is, and beginnings of the log
+pub record Knows (shape : Shape) (opening : List ℕ) (log : List Event) (v : View) : Type 0 where
+  pub same_shape : v.shape ≡ shape
+  pub same_opening : v.opening ≡ opening
+  pub begins : IsPrefix v.seen log
+  pub kept_begin : EachBegins v.kept log
+
+-- and there is one writer, which has seen the whole log
+pub record Fits (shape : Shape) (opening : List ℕ) (log : List Event) (writer seat : ℕ) (v : View) : Type 0 where
+  pub knows : v.spent ≡ false → Knows shape opening log v
+  pub wrote : v.writes ≡ true → (seat ≡ writer) × (v.seen ≡ log)
+
+pub record Keeps {S : Type 0} (k : Opening) (s : State S View) : Type 0 where
+  pub log : List Event
+  pub writer : ℕ
+  pub words : s.words ≡ words_after k.words.items log
+  pub legal : Legal k.shape k.words.items log
+  pub each : (seat : ℕ) (v : View) → get_elem? s.views seat ≡ some v → Fits k.shape k.words.items log writer seat v
+
+abbrev pub first_view : Opening → View
+first_view k = record { spent = false; writes = true; shape = k.shape; opening = k.words.items; seen = []; kept = [] }
+
+-- a pass that has seen as much
+abbrev pub pass_of : View → View
+pass_of v = record { spent = false; writes = false; shape = v.shape; opening = v.opening; seen = v.seen; kept = [] }
+
+-- a view that was told of another
+abbrev pub told : View → View → View
+told v w = record { spent = v.spent; writes = v.writes; shape = v.shape; opening = v.opening; seen = v.seen; kept = w.seen ∷ v.kept }
+
+abbrev pub nobody : View
+nobody = record { spent = true; writes = false; shape = no_shape; opening = []; seen = []; kept = [] }
+
+-- a store makes the log longer by one
+abbrev pub adds : View → Event → View
+adds v e = record { spent = v.spent; writes = v.writes; shape = v.shape; opening = v.opening; seen = v.seen ++ e ∷ []; kept = v.kept }
+
+abbrev pub sees : View → List Event → View
+sees v log = record { spent = v.spent; writes = v.writes; shape = v.shape; opening = v.opening; seen = log; kept = [] }
+
+-- what a load tells
+pub record Looked (v : View) (word found : ℕ) (log : List Event) : Type 0 where
+  pub longer : IsPrefix v.seen log
+  pub kept_begin : EachBegins v.kept log
+  pub value : found ≡ value_at v.opening log word
+  pub legal : Legal v.shape v.opening log
+  pub whole : v.writes ≡ true → log ≡ v.seen
+
+abbrev pub Loads : {S : Type 0} → Step S → Me S View → ℕ → Me S View → Type 0
+Loads st m found m' = (m'.1 ≡ m.1) × (m'.0 ≡ sees m.0 m'.0.seen) × Looked m.0 st.word found m'.0.seen
+
+abbrev pub Stores : {S : Type 0} → Step S → Me S View → ℕ → Me S View → Type 0
+Stores st m found m' = m' ≡ (adds m.0 (event st.word found), m.1)

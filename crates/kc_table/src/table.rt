@@ -1,0 +1,113 @@
+// The steps: open a table, store, load, and what passes tell each other.
+ghost use Rattle.std.specs.Prelude.{◌≡◌, ◌<◌, ◌++◌, [], ◌∷◌, IfOk};
+ghost use mathlib.Core.List.{IsPrefix};
+ghost use Rattle.kc_table.specs.Log.{value_at, event};
+ghost use Rattle.kc_table.specs.State.{word_count};
+ghost use Rattle.kc_table.specs.Legal.{Legal, Opens};
+
+use crate::pass::Pass;
+use crate::rule::{Fork, Look, Put, Told};
+use crate::view::Opening;
+use crate::words::Words;
+use crate::writer_seat::WriterSeat;
+use atomic_table::Table;
+use kc_words::Shape;
+use std::alloc::{AllocError as NoMemory, Global};
+use std::mem;
+
+/// A new table with these opening words and an empty log, its writer's seat, and a first pass.
+pub fn open(
+    alloc: Global,
+    shape: Shape,
+    words: &[u64],
+) -> Result<(Words, WriterSeat, Pass), NoMemory>
+    requires { Opens shape words.now }
+    ensures words { IfOk result (λ r. (r.0.shape ≡ shape) × (r.0.opening ≡ words.now)) }
+    ensures writer { IfOk result (λ r. r.1 ≡ record { table = r.0; log = [] }) }
+    ensures pass { IfOk result (λ r. r.2 ≡ record { table = r.0; log = [] }) }
+{
+    let opening = Opening {
+        shape,
+        words: words.to_vec(alloc)?,
+    };
+    let (table, mut seat) = Table::of_words(alloc, words, &opening)?;
+    let pass = Pass {
+        seat: table.shared.split_seat::<Fork>(&mut seat),
+    };
+    Ok((Words { shape, table }, WriterSeat { seat }, pass))
+}
+
+/// Stores a value to a word: one atomic store. The log grows by it, and has to be legal with it.
+pub fn store(words: &Words, writer: &mut WriterSeat, word: u32, value: u64)
+    requires table { writer.old.table ≡ words.now }
+    requires word { word < word_count words.now.shape }
+    requires legal { Legal writer.old.table.shape writer.old.table.opening (writer.old.log ++ event word value ∷ []) }
+    ensures { writer.new ≡ record { table = writer.old.table; log = writer.old.log ++ event word value ∷ [] } }
+{
+    words
+        .table
+        .shared
+        .store::<Put>(&mut writer.seat, word as usize, value);
+}
+
+/// The value of a word: one atomic load. The pass has then seen a prefix of the log that extends what it had seen, and the answer is
+/// the word's value after that prefix.
+pub fn load(words: &Words, pass: &mut Pass, word: u32) -> u64
+    requires table { pass.old.table ≡ words.now }
+    requires word { word < word_count words.now.shape }
+    ensures table { pass.new.table ≡ pass.old.table }
+    ensures longer { IsPrefix pass.old.log pass.new.log }
+    ensures legal { Legal pass.new.table.shape pass.new.table.opening pass.new.log }
+    ensures value { result ≡ value_at pass.new.table.opening pass.new.log word }
+{
+    words
+        .table
+        .shared
+        .load::<Look>(&mut pass.seat, word as usize)
+}
+
+/// Another pass that has seen as much.
+pub fn split(words: &Words, pass: &mut Pass) -> Pass
+    requires table { pass.old.table ≡ words.now }
+    ensures old { pass.new ≡ pass.old }
+    ensures new { result ≡ pass.old }
+{
+    Pass {
+        seat: words.table.shared.split_seat::<Fork>(&mut pass.seat),
+    }
+}
+
+/// One pass takes in what another has seen: both are then prefixes of what it has seen.
+pub fn meet(words: &Words, pass: &mut Pass, other: Pass)
+    requires table { (pass.old.table ≡ words.now) × (other.table ≡ words.now) }
+    ensures table { pass.new.table ≡ pass.old.table }
+    ensures this { IsPrefix pass.old.log pass.new.log }
+    ensures that { IsPrefix other.log pass.new.log }
+    ensures legal { Legal pass.new.table.shape pass.new.table.opening pass.new.log }
+{
+    let Pass { seat } = other;
+    words.table.shared.join_seat::<Told>(&mut pass.seat, seat);
+    words.table.shared.load::<Look>(&mut pass.seat, 0);
+}
+
+/// The pass is told the whole log, of which it had seen a prefix.
+pub fn tell(words: &Words, writer: &mut WriterSeat, pass: &mut Pass)
+    requires table { (pass.old.table ≡ words.now) × (writer.old.table ≡ words.now) }
+    ensures writer { writer.new ≡ writer.old }
+    ensures pass { pass.new ≡ writer.old }
+    ensures longer { IsPrefix pass.old.log writer.old.log }
+    ensures legal { Legal writer.old.table.shape writer.old.table.opening writer.old.log }
+{
+    let shared = &words.table.shared;
+    let new = shared.split_seat::<Fork>(&mut writer.seat);
+    let old = mem::replace(&mut pass.seat, new);
+    shared.join_seat::<Told>(&mut writer.seat, old);
+    shared.load::<Look>(&mut writer.seat, 0);
+}
+
+/// The shape that the table was opened with.
+pub fn shape(words: &Words) -> Shape
+    ensures { result ≡ words.now.shape }
+{
+    words.shape
+}
