@@ -1,0 +1,9 @@
+pub mod Again
+pub mod Comparing
+pub mod Ending
+pub mod Opened
+pub mod Reading
+pub mod Relabelling
+pub mod Sections
+pub mod Stood
+pub mod Writing

@@ -1,0 +1,5 @@
+use Rattle.std.proofs.Common.{◌≡◌}
+use Rattle.kc_order.proofs.tests.ask_a_long_list.Given as goal
+
+abbrev pub invariant-loop-x : goal.invariant-loop-x
+invariant-loop-x g l = l.pass.table ≡ l.fn.pass.table

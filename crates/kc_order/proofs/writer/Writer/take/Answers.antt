@@ -1,0 +1,33 @@
+use Rattle.std.proofs.Common.{subst}
+use Rattle.kc_words.specs.NoteWord.{note_word}
+use Rattle.kc_words.specs.declared.note.NoteWord.TheVariants.{Take}
+use Rattle.kc_table.specs.Legal.{Legal}
+use Rattle.kc_table.specs.Log.{Seen}
+use Rattle.kc_order.specs.Writers.{Takes}
+use Rattle.kc_order.proofs.Writing.{Wrote, highest-at, item-fits, taken-at, taken-list}
+use Rattle.kc_order.proofs.writer.Writer.take.Goals as goal
+
+pub take-requires-clause-versions : goal.take-requires-clause-versions
+take-requires-clause-versions c = highest-at c.self.inside.seat c.args.self.now c.self.inside.plain c.self.view_is c.self.invariant c.requires.versions
+
+pub store_writes-requires-clause-fitting : goal.store_writes-requires-clause-fitting
+store_writes-requires-clause-fitting c = item-fits c.args.self.now c.args.x (subst (λ (s : Seen). Legal s.table.shape s.table.opening s.log) c.self.view_is c.self.invariant.legal) c.requires.x_in
+
+pub store_writes-requires-clause-legal : goal.store_writes-requires-clause-legal
+store_writes-requires-clause-legal c =
+    let e = c.take.ensures in
+    let w : Wrote c.self.inside.seat c.take.new.self (note_word (Take c.args.x)) c.args.x c.writes.result.now = taken-at c.self.inside.seat c.args.self.now c.args.words.now c.self.inside.plain c.take.new.self c.args.x c.writes.result.now c.self.view_is c.requires.table c.self.invariant c.requires.versions c.requires.x_in c.requires.free c.writes.ensures e.items e.fixed e.list e.written e.highest in
+    w.legal_
+
+pub invariant_of-self : goal.invariant_of-self
+invariant_of-self c =
+    let e = c.take.ensures in
+    let w : Wrote c.self.inside.seat c.take.new.self (note_word (Take c.args.x)) c.args.x c.writes.result.now = taken-at c.self.inside.seat c.args.self.now c.args.words.now c.self.inside.plain c.take.new.self c.args.x c.writes.result.now c.self.view_is c.requires.table c.self.invariant c.requires.versions c.requires.x_in c.requires.free c.writes.ensures e.items e.fixed e.list e.written e.highest in
+    w.tied c.store_writes.new.seat c.store_writes.ensures
+
+pub returns : goal.returns
+returns c =
+    let e = c.take.ensures in
+    let w : Wrote c.self.inside.seat c.take.new.self (note_word (Take c.args.x)) c.args.x c.writes.result.now = taken-at c.self.inside.seat c.args.self.now c.args.words.now c.self.inside.plain c.take.new.self c.args.x c.writes.result.now c.self.view_is c.requires.table c.self.invariant c.requires.versions c.requires.x_in c.requires.free c.writes.ensures e.items e.fixed e.list e.written e.highest in
+    let takes : Takes c.self.inside.seat c.store_writes.new.seat c.args.x = taken-list c.self.inside.seat c.store_writes.new.seat c.self.inside.plain c.take.new.self c.args.x c.writes.result.now c.self.invariant w e.list c.store_writes.ensures in
+    subst (λ s. Takes s c.store_writes.new.seat c.args.x) c.self.view_is takes

@@ -1,0 +1,4 @@
+pub mod Collected
+pub mod Shared
+pub mod Standing
+pub mod Writers

@@ -1,0 +1,94 @@
+-- What a writer's calls do to the log.
+use Rattle.std.specs.Prelude.{◌≡◌, ◌<◌, ◌≤◌, ◌+◌, ◌-◌, ◌*◌, ℕ, List, [], ◌∷◌, ◌++◌, All, length, slice_index, map, take, drop}
+use Rattle.kc_lists.specs.Lists.{without, right_after}
+use Rattle.kc_words.specs.ItemWord.{item_of}
+use Rattle.kc_words.specs.NoteWord.{note_word}
+use Rattle.kc_words.specs.declared.note.NoteWord.{NoteWord}
+use Rattle.kc_words.specs.declared.note.NoteWord.TheVariants.{Put, Take}
+use Rattle.kc_list.specs.declared.sheet.Write.{Write}
+use Rattle.kc_list.specs.Plain.{Plain}
+use Rattle.kc_table.specs.declared.view.Event.{Event}
+use Rattle.kc_table.specs.Log.{Seen, TableName, event, value_at}
+use Rattle.kc_table.specs.State.{state_of, first_vertex}
+use Rattle.kc_table.specs.Legal.{Legal, Follows, IsVersioned, version_of}
+use Rattle.kc_order.specs.Standing.{list_after}
+
+-- the greatest version of an item's or a group's word after the log
+pub record IsHighest (table : TableName) (log : List Event) (highest : ℕ) : Type 0 where
+  pub bound : (word : ℕ) → IsVersioned table.shape word → version_of (value_at table.opening log word) ≤ highest
+  pub word : ℕ
+  pub versioned : IsVersioned table.shape word
+  pub reached : version_of (value_at table.opening log word) ≡ highest
+
+-- each word can be stored three times more
+abbrev pub HasVersionsLeft : TableName → List Event → Type 0
+HasVersionsLeft table log = (word : ℕ) → IsVersioned table.shape word → version_of (value_at table.opening log word) + 3 ≤ 16777215
+
+-- the log grows by stores that change labels alone, then by a note and the store of the word of its item
+pub record EndsWith (old new : Seen) (note : NoteWord) (x : ℕ) : Type 0 where
+  pub table : new.table ≡ old.table
+  pub relabels : List Event
+  pub versioned : All (λ e. IsVersioned old.table.shape e.word) relabels
+  pub value : ℕ
+  pub log : new.log ≡ old.log ++ (relabels ++ event 0 (note_word note) ∷ event (1 + x) value ∷ [])
+  pub legal : Legal new.table.shape new.table.opening new.log
+
+-- x stands right after p now, and all others as they did
+pub record Puts (old new : Seen) (x p : ℕ) : Type 0 where
+  pub ends : EndsWith old new (Put x p) x
+  pub list : list_after new.table new.log ≡ right_after x p (without x (list_after old.table old.log))
+
+-- x is out now
+pub record Takes (old new : Seen) (x : ℕ) : Type 0 where
+  pub ends : EndsWith old new (Take x) x
+  pub list : list_after new.table new.log ≡ without x (list_after old.table old.log)
+
+-- the stores of a plain list's writes
+abbrev pub stores_of : List Write → List Event
+stores_of writes = map (λ (w : Write). event w.word w.value) writes
+
+-- the last of a list, alone, and those before it
+abbrev pub front_of : List Write → List Write
+front_of writes = take (length writes - 1) writes
+
+abbrev pub end_of : List Write → List Write
+end_of writes = drop (length writes - 1) writes
+
+-- the log with all writes but the last, then with the note, and then with the last write
+abbrev pub log_of_front : List Event → List Write → List Event
+log_of_front log writes = log ++ stores_of (front_of writes)
+
+abbrev pub log_of_note : List Event → List Write → ℕ → List Event
+log_of_note log writes value = log_of_front log writes ++ event 0 value ∷ []
+
+abbrev pub log_of_all : List Event → List Write → ℕ → List Event
+log_of_all log writes value = log_of_note log writes value ++ stores_of (end_of writes)
+
+-- each of them is legal
+pub record AreLegal (seen : Seen) (writes : List Write) (value : ℕ) : Type 0 where
+  pub front : Legal seen.table.shape seen.table.opening (log_of_front seen.log writes)
+  pub note : Legal seen.table.shape seen.table.opening (log_of_note seen.log writes value)
+  pub all : Legal seen.table.shape seen.table.opening (log_of_all seen.log writes value)
+
+-- The plain list has the words and the list of the log, and nothing is announced.
+pub record Tied (seen : Seen) (plain : Plain) : Type 0 where
+  pub legal : Legal seen.table.shape seen.table.opening seen.log
+  pub items : plain.items ≡ seen.table.shape.items
+  pub fixed : plain.fixed ≡ seen.table.shape.fixed
+  pub list : plain.list ≡ list_after seen.table seen.log
+  pub long : length plain.words ≡ first_vertex seen.table.shape
+  pub words : (word : ℕ) → IsVersioned seen.table.shape word → slice_index plain.words word ≡ value_at seen.table.opening seen.log word
+  pub note : (item_of (slice_index plain.words 0)).version ≡ 0
+  pub quiet : (word : ℕ) → Follows (state_of seen.table.shape seen.table.opening seen.log).note word
+
+-- the log grows by one store
+pub record Stores (old new : Seen) (word value : ℕ) : Type 0 where
+  pub is : new ≡ record { table = old.table; log = old.log ++ event word value ∷ [] }
+  pub legal : Legal new.table.shape new.table.opening new.log
+
+-- no note, the words of the items and groups, and those of the vertices
+pub record IsOpening (words opening vertex : List ℕ) (items : ℕ) : Type 0 where
+  pub long : length words ≡ 2 * items + 2 + length vertex
+  pub note : slice_index words 0 ≡ 0
+  pub plain : (w : ℕ) → 1 ≤ w → w < 2 * items + 2 → slice_index words w ≡ slice_index opening w
+  pub vertices : (v : ℕ) → v < length vertex → slice_index words (2 * items + 2 + v) ≡ slice_index vertex v

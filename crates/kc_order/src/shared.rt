@@ -1,0 +1,160 @@
+// A list that many threads ask and, under a lock, change.
+ghost use Rattle.std.specs.Prelude.{◌≡◌, ◌≢◌, ◌<◌, ◌≤◌, ◌+◌, OnOk, IfErr};
+ghost use mathlib.Core.List.{IsPrefix};
+ghost use Rattle.kc_order.specs.Shared.{EndsWithPut, EndsWithTake, IsReady, IsRefusal};
+ghost use Rattle.kc_order.specs.Standing.{Compares};
+
+use crate::answer::Answer;
+use crate::collect::precedes;
+use crate::fault::OrderFault;
+use crate::writer::Writer;
+use kc_table::{Name, Pass, Words};
+use kc_words::LAST_VERSION;
+use std::marker::PhantomData;
+use std::sync::{Mutex, Wait};
+
+/// The greatest version that leaves room for the stores of a put or a take.
+const LAST_HIGHEST: u32 = LAST_VERSION - 3;
+
+/// The value behind the lock: the writer of K's table, which has no vertices.
+#[derive(Drop)]
+struct Kept<K: Name> {
+    writer: Writer,
+    of: PhantomData<K>,
+    ghost of_table: { writer.table ≡ K.table },
+    ghost no_vertices: { K.table.shape.fixed ≡ 0 },
+}
+
+impl<K: Name> Kept<K> {
+    /// Tells the pass the log, and says whether the item is in the list and versions are left.
+    fn look(&mut self, words: &Words, pass: &mut Pass, item: u32) -> Result<(), OrderFault>
+        requires table { (pass.old.table ≡ K.table) × (words.now ≡ K.table) }
+        requires item { item < K.table.shape.items }
+        ensures writer { self.new.writer ≡ self.old.writer }
+        ensures pass { pass.new ≡ self.new.writer }
+        ensures longer { IsPrefix pass.old.log pass.new.log }
+        ensures ready { OnOk result (IsReady K.table pass.new.log item) }
+        ensures refused { IfErr result (λ fault. IsRefusal K.table pass.new.log item fault) }
+    {
+        self.writer.tell(words, pass);
+        if !self.writer.present(item) {
+            return Err(OrderFault::Absent { item });
+        }
+        let highest = self.writer.highest();
+        if highest > LAST_HIGHEST {
+            return Err(OrderFault::Spent { highest });
+        }
+        Ok(())
+    }
+
+    fn put_after(
+        &mut self,
+        words: &Words,
+        pass: &mut Pass,
+        x: u32,
+        p: u32,
+    ) -> Result<(), OrderFault>
+        requires table { (pass.old.table ≡ K.table) × (words.now ≡ K.table) }
+        requires items { (x < K.table.shape.items) × (p < K.table.shape.items) }
+        requires differ { x ≢ p }
+        ensures table { pass.new.table ≡ K.table }
+        ensures longer { IsPrefix pass.old.log pass.new.log }
+        ensures put { OnOk result (EndsWithPut K.table pass.old.log pass.new.log x p) }
+        ensures refused { IfErr result (λ fault. IsRefusal K.table pass.new.log p fault) }
+    {
+        self.look(words, pass, p)?;
+        self.writer.put_after(words, x, p);
+        self.writer.tell(words, pass);
+        Ok(())
+    }
+
+    fn take(&mut self, words: &Words, pass: &mut Pass, x: u32) -> Result<(), OrderFault>
+        requires table { (pass.old.table ≡ K.table) × (words.now ≡ K.table) }
+        requires item { x < K.table.shape.items }
+        ensures table { pass.new.table ≡ K.table }
+        ensures longer { IsPrefix pass.old.log pass.new.log }
+        ensures taken { OnOk result (EndsWithTake K.table pass.old.log pass.new.log x) }
+        ensures refused { IfErr result (λ fault. IsRefusal K.table pass.new.log x fault) }
+    {
+        self.look(words, pass, x)?;
+        self.writer.take(words, x);
+        self.writer.tell(words, pass);
+        Ok(())
+    }
+}
+
+/// The words of K's table, and its writer under a lock. All items may come and go: the table has no vertices.
+#[derive(Drop)]
+pub struct SharedOrder<K: Name> {
+    words: Words,
+    kept: Mutex<Kept<K>>,
+    ghost of_table: { words ≡ K.table },
+}
+
+impl<K: Name> SharedOrder<K> {
+    /// The list of K's table. It takes no memory.
+    pub fn new(words: Words, writer: Writer) -> SharedOrder<K>
+        requires table { (words ≡ K.table) × (writer.table ≡ K.table) }
+        requires no_vertices { K.table.shape.fixed ≡ 0 }
+    {
+        SharedOrder {
+            words,
+            kept: Mutex::new(Kept {
+                writer,
+                of: PhantomData,
+            }),
+        }
+    }
+
+    /// The words, for loads and passes.
+    pub fn words(&self) -> &Words
+        ensures { result.now ≡ K.table }
+    {
+        &self.words
+    }
+
+    /// Moves or adds `x` right after `p`, under the lock. The pass is told the log there, so each answer speaks of what it has seen now.
+    ///
+    /// `Absent` where `p` is out of the list, and `Spent` where it is in it and the versions of the words are spent; nothing is stored
+    /// then.
+    pub fn put_after<R: Wait>(
+        &self,
+        rt: &R,
+        pass: &mut Pass,
+        x: u32,
+        p: u32,
+    ) -> Result<(), OrderFault>
+        requires table { pass.old.table ≡ K.table }
+        requires items { (x < K.table.shape.items) × (p < K.table.shape.items) }
+        requires differ { x ≢ p }
+        ensures table { pass.new.table ≡ K.table }
+        ensures longer { IsPrefix pass.old.log pass.new.log }
+        ensures put { OnOk result (EndsWithPut K.table pass.old.log pass.new.log x p) }
+        ensures refused { IfErr result (λ fault. IsRefusal K.table pass.new.log p fault) }
+    {
+        self.kept.lock(rt).put_after(&self.words, pass, x, p)
+    }
+
+    /// Takes `x` out, under the lock, with the same refusals of `x`.
+    pub fn take<R: Wait>(&self, rt: &R, pass: &mut Pass, x: u32) -> Result<(), OrderFault>
+        requires table { pass.old.table ≡ K.table }
+        requires item { x < K.table.shape.items }
+        ensures table { pass.new.table ≡ K.table }
+        ensures longer { IsPrefix pass.old.log pass.new.log }
+        ensures taken { OnOk result (EndsWithTake K.table pass.old.log pass.new.log x) }
+        ensures refused { IfErr result (λ fault. IsRefusal K.table pass.new.log x fault) }
+    {
+        self.kept.lock(rt).take(&self.words, pass, x)
+    }
+
+    /// How two items stand, as `precedes` tells. It takes no lock.
+    pub fn precedes(&self, pass: &mut Pass, x: u32, y: u32) -> Answer
+        requires table { pass.old.table ≡ K.table }
+        requires items { (x < K.table.shape.items) × (y < K.table.shape.items) }
+        ensures table { pass.new.table ≡ K.table }
+        ensures longer { IsPrefix pass.old.log pass.new.log }
+        ensures answer { Compares K.table pass.old.log pass.new.log x y result }
+    {
+        precedes(&self.words, pass, x, y)
+    }
+}

@@ -1,0 +1,125 @@
+// Comparisons beneath puts, takes, splits and new labels.
+ghost use Rattle.std.specs.Prelude.{◌≡◌, ◌<◌, ◌≤◌};
+
+use crate::{Answer, OrderFault, SharedOrder, Writer, first_collect, second_collect};
+use kc_table::{Name, Pass, Words};
+use kc_words::{LAST_VERSION, Shape};
+use std::marker::Brand;
+use std::process::Abort;
+use std::sync::Wait;
+use std::test::Fail;
+
+/// A list of `items` items of which none is a vertex.
+const fn plain(items: u32) -> Shape
+    requires low { 1 ≤ items }
+    requires high { items ≤ 2097150 }
+    ensures { (result.items ≡ items) × (result.fixed ≡ 0) }
+{
+    Shape {
+        items,
+        fixed: 0,
+        base: 0,
+        version: 0,
+    }
+}
+
+/// A put of a writer, where the list and the versions allow it.
+fn put<R: Abort>(rt: &R, words: &Words, writer: &mut Writer, x: u32, p: u32)
+    requires table { writer.old.table ≡ words.now }
+    requires free { words.now.shape.fixed ≡ 0 }
+    ensures { writer.new.table ≡ writer.old.table }
+{
+    let items = kc_table::shape(words).items;
+    assert!(rt; x < items && p < items && x != p);
+    assert!(rt; writer.present(p) && writer.highest() <= LAST_VERSION - 3);
+    writer.put_after(words, x, p);
+}
+
+#[test]
+fn a_split_beneath_a_comparison_is_noticed(rt: HostRuntime) -> Result<(), Fail> {
+    let order = [
+        0, 1, 2, 3, 4, 5, 6, 7, 8, 9, 10, 11, 12, 13, 14, 15, 16, 17, 18, 19, 20, 21, 22, 23, 24,
+        25, 26, 27, 28, 29, 30, 31,
+    ];
+    let (words, mut writer, mut pass) = Writer::open(rt.alloc(), plain(100), &order, &[])?;
+    for x in 32..64 {
+        put(&rt, &words, &mut writer, x, x - 1);
+    }
+    writer.tell(&words, &mut pass);
+    let Ok(collect) = first_collect(&words, &mut pass, 63, 0) else {
+        return Err("both are in the list".into());
+    };
+    put(&rt, &words, &mut writer, 64, 0);
+    writer.tell(&words, &mut pass);
+    let Answer::Again(again) = second_collect(&words, &mut pass, collect) else {
+        return Err("item 63 moved to another group".into());
+    };
+    assert_eq!(rt; again.word, 64);
+    assert!(rt; again.first != again.second);
+    Ok(())
+}
+
+/// Row by row: one item, a take, and the rest of a short list.
+fn ask_a_short_list<K: Name, R: Wait + Abort>(rt: &R, words: Words, writer: Writer, mut pass: Pass)
+    requires table { (words ≡ K.table) × (writer.table ≡ K.table) × (pass.table ≡ K.table) }
+    requires shape { (K.table.shape.items ≡ 6) × (K.table.shape.fixed ≡ 0) }
+{
+    let shared = SharedOrder::<K>::new(words, writer);
+    assert_eq!(rt; shared.precedes(&mut pass, 3, 3), Answer::Same);
+    assert_eq!(rt; shared.take(rt, &mut pass, 5), Ok(()));
+    assert_eq!(rt;
+        shared.precedes(&mut pass, 0, 5),
+        Answer::Absent { item: 5 }
+    );
+    for k in 0..4 {
+        assert_eq!(rt; shared.precedes(&mut pass, k, k + 1), Answer::Before);
+        assert_eq!(rt; shared.precedes(&mut pass, k + 1, k), Answer::After);
+    }
+    assert_eq!(rt;
+        shared.take(rt, &mut pass, 5),
+        Err(OrderFault::Absent { item: 5 })
+    );
+    assert_eq!(rt; shared.put_after(rt, &mut pass, 5, 0), Ok(()));
+    assert_eq!(rt; shared.precedes(&mut pass, 5, 1), Answer::Before);
+}
+
+#[test]
+fn a_taken_item_is_absent_and_the_others_stand_as_they_did(rt: HostRuntime) -> Result<(), Fail> {
+    let (words, writer, pass) = Writer::open(rt.alloc(), plain(6), &[0, 1, 2, 3, 4, 5], &[])?;
+    ask_a_short_list::<Brand, _>(&rt, words, writer, pass);
+    Ok(())
+}
+
+const MANY: u32 = 100_000;
+
+/// Puts 1, 2 and so on, each right after 0, so that they stand from the last put to the first.
+fn put_each_after_0<K: Name, R: Wait + Abort>(rt: &R, shared: &SharedOrder<K>, pass: &mut Pass)
+    requires table { pass.old.table ≡ K.table }
+    requires items { MANY < K.table.shape.items }
+    ensures { pass.new.table ≡ K.table }
+{
+    for x in 1..=MANY {
+        assert_eq!(rt; shared.put_after(rt, pass, x, 0), Ok(()));
+    }
+}
+
+fn ask_a_long_list<K: Name, R: Wait + Abort>(rt: &R, words: Words, writer: Writer, mut pass: Pass)
+    requires table { (words ≡ K.table) × (writer.table ≡ K.table) × (pass.table ≡ K.table) }
+    requires shape { (MANY < K.table.shape.items) × (K.table.shape.fixed ≡ 0) }
+{
+    let shared = SharedOrder::<K>::new(words, writer);
+    put_each_after_0(rt, &shared, &mut pass);
+    assert_eq!(rt; shared.precedes(&mut pass, 0, MANY), Answer::Before);
+    for x in 1..MANY {
+        assert_eq!(rt; shared.precedes(&mut pass, x + 1, x), Answer::Before);
+    }
+}
+
+#[test]
+fn many_puts_after_the_first_item_stand_from_the_last_to_the_first(
+    rt: HostRuntime,
+) -> Result<(), Fail> {
+    let (words, writer, pass) = Writer::open(rt.alloc(), plain(MANY + 1), &[0], &[])?;
+    ask_a_long_list::<Brand, _>(&rt, words, writer, pass);
+    Ok(())
+}
