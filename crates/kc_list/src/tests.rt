@@ -77,7 +77,8 @@ fn a_full_group_is_split_from_its_last_item_on(rt: HostRuntime) -> Result<(), Fa
     }
     put(&rt, &mut order, 64, 0);
     assert_eq!(rt; order.writes().len(), 34);
-    assert!(rt; order.writes()[0].word > 100);
+    let moved = ItemWord::of(order.writes()[1].value);
+    assert_eq!(rt; order.writes()[0].word, 100 + moved.group);
     assert_eq!(rt; order.writes()[1].word, 64);
     assert_eq!(rt; order.writes()[33].word, 65);
     Ok(())
@@ -86,8 +87,10 @@ fn a_full_group_is_split_from_its_last_item_on(rt: HostRuntime) -> Result<(), Fa
 #[test]
 fn puts_after_the_first_item_stand_in_reverse(rt: HostRuntime) -> Result<(), Fail> {
     let mut order = ascending(rt.alloc(), 100_001, 1)?;
+    let mut relabels = Relabels::default();
     for x in 1..100_001 {
         put(&rt, &mut order, x, 0);
+        relabels.count(&rt, 100_001, order.writes());
     }
     let mut before = 0;
     for x in (1..100_001).rev() {
@@ -110,25 +113,33 @@ fn check_neighbours(rt: &impl Abort, order: &PlainOrder, x: u32, y: u32)
     assert!(rt; !order.precedes(y, x));
 }
 
-/// How often a call made new labels.
+/// How often calls made new labels, and the most writes of one that made none for groups.
 #[derive(Clone, Copy, Default, Drop)]
 struct Relabels {
     spreads: u64,
     splits: u64,
     respreads: u64,
+    most: usize,
 }
 
 impl Relabels {
-    /// Counts what a call of a list of `items` items wrote.
-    fn count(&mut self, items: u32, writes: &[Write]) {
+    /// Counts what a call of a list of `items` items wrote. Where it neither splits a group nor
+    /// spreads all of them, it writes at most 64 words: those of the items of a group.
+    fn count(&mut self, rt: &impl Abort, items: u32, writes: &[Write]) {
         let tops = writes.iter().filter(|write| write.word > items).count();
         if tops > 1 {
             self.respreads = self.respreads.wrapping_add(1);
-        } else if tops == 1 {
+            return;
+        }
+        if tops == 1 {
             self.splits = self.splits.wrapping_add(1);
-        } else if writes.len() > 1 {
+            return;
+        }
+        assert!(rt; writes.len() <= 64);
+        if writes.len() > 1 {
             self.spreads = self.spreads.wrapping_add(1);
         }
+        self.most = self.most.max(writes.len());
     }
 }
 
@@ -199,7 +210,7 @@ fn the_list_is_a_plain_list(rt: HostRuntime) -> Result<(), Fail> {
         let x = next_random(&mut state) % 999 + 1;
         let random = next_random(&mut state);
         step(&rt, &mut order, &mut plain, turn, x as u32, random)?;
-        relabels.count(1_000, order.writes());
+        relabels.count(&rt, 1_000, order.writes());
     }
     let mut before = 0;
     for x in plain.iter().skip(1) {
@@ -208,5 +219,6 @@ fn the_list_is_a_plain_list(rt: HostRuntime) -> Result<(), Fail> {
         before = *x;
     }
     assert!(rt; relabels.spreads > 0 && relabels.splits > 0 && relabels.respreads > 0);
+    assert_eq!(rt; relabels.most, 64);
     Ok(())
 }
