@@ -1,6 +1,9 @@
 // Comparisons beneath puts, takes, splits and new labels.
 ghost use Rattle.std.specs.Prelude.{◌≡◌, ◌<◌, ◌≤◌};
 
+mod handing;
+mod racing;
+
 use crate::{Answer, OrderFault, SharedOrder, Writer, first_collect, second_collect};
 use kc_table::{Name, Pass, Words};
 use kc_words::{LAST_VERSION, Shape};
