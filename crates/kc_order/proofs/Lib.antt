@@ -1,5 +1,6 @@
 pub mod Again
 pub mod Comparing
+pub mod Cutting
 pub mod Ending
 pub mod Opened
 pub mod Reading

@@ -9,7 +9,7 @@ use kc_table::{Words, WriterSeat, store};
 use kc_words::NoteWord;
 
 /// Stores writes one by one.
-fn store_each(words: &Words, seat: &mut WriterSeat, writes: &[Write])
+pub(crate) fn store_each(words: &Words, seat: &mut WriterSeat, writes: &[Write])
     requires table { seat.old.table ≡ words.now }
     requires legal { Legal seat.old.table.shape seat.old.table.opening (seat.old.log ++ stores_of writes.now) }
     ensures { seat.new ≡ record { table = seat.old.table; log = seat.old.log ++ stores_of writes.now } }

@@ -1,12 +1,14 @@
 // Comparisons beneath puts, takes, splits and new labels.
-ghost use Rattle.std.specs.Prelude.{◌≡◌, ◌<◌, ◌≤◌};
+ghost use Rattle.std.specs.Prelude.{◌≡◌, ◌<◌, ◌≤◌, IfOk};
 
+mod cutting;
 mod handing;
 mod racing;
 
 use crate::{Answer, OrderFault, SharedOrder, Writer, first_collect, second_collect};
 use kc_table::{Name, Pass, Words};
 use kc_words::{LAST_VERSION, Shape};
+use std::alloc::AllocError;
 use std::marker::Brand;
 use std::process::Abort;
 use std::sync::Wait;
@@ -38,17 +40,28 @@ fn put<R: Abort>(rt: &R, words: &Words, writer: &mut Writer, x: u32, p: u32)
     writer.put_after(words, x, p);
 }
 
-#[test]
-fn a_split_beneath_a_comparison_is_noticed(rt: HostRuntime) -> Result<(), Fail> {
-    let order = [
-        0, 1, 2, 3, 4, 5, 6, 7, 8, 9, 10, 11, 12, 13, 14, 15, 16, 17, 18, 19, 20, 21, 22, 23, 24,
-        25, 26, 27, 28, 29, 30, 31,
-    ];
-    let (words, mut writer, mut pass) = Writer::open(rt.alloc(), plain(100), &order, &[])?;
+/// The first half of a full group.
+const HALF: [u32; 32] = [
+    0, 1, 2, 3, 4, 5, 6, 7, 8, 9, 10, 11, 12, 13, 14, 15, 16, 17, 18, 19, 20, 21, 22, 23, 24, 25,
+    26, 27, 28, 29, 30, 31,
+];
+
+/// A list of 100 items, of which 0 to 63 are in it, in ascending order and in one group.
+fn one_full_group<R: Abort + AllocGlobal>(rt: &R) -> Result<(Words, Writer, Pass), AllocError>
+    ensures shape { IfOk result (λ r. (r.0.shape.items ≡ 100) × (r.0.shape.fixed ≡ 0)) }
+    ensures tables { IfOk result (λ r. (r.1.table ≡ r.0) × (r.2.table ≡ r.0)) }
+{
+    let (words, mut writer, mut pass) = Writer::open(rt.alloc(), plain(100), &HALF, &[])?;
     for x in 32..64 {
-        put(&rt, &words, &mut writer, x, x - 1);
+        put(rt, &words, &mut writer, x, x - 1);
     }
     writer.tell(&words, &mut pass);
+    Ok((words, writer, pass))
+}
+
+#[test]
+fn a_split_beneath_a_comparison_is_noticed(rt: HostRuntime) -> Result<(), Fail> {
+    let (words, mut writer, mut pass) = one_full_group(&rt)?;
     let Ok(collect) = first_collect(&words, &mut pass, 63, 0) else {
         return Err("both are in the list".into());
     };

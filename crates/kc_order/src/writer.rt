@@ -18,6 +18,9 @@ use kc_words::{INDICES, NoteWord, Shape, VERTICES, VertexWord};
 use std::alloc::{AllocError as NoMemory, Global};
 use std::marker::Model;
 
+#[cfg(test)]
+pub(crate) mod beneath;
+
 /// The right to change the list, with the list as it is. Contracts see its table and the whole log.
 #[derive(Drop)]
 pub struct Writer {
