@@ -12,7 +12,7 @@ use std::thread;
 use std::thread::Threads;
 
 /// The last round. In round k items 2k - 1 and 2k are put right after 0, and then 2k - 1 is taken.
-const ROUNDS: u32 = 10_000;
+const ROUNDS: u32 = 30_000;
 
 /// A round that is over, with a pass that has seen it.
 #[derive(Drop)]
@@ -21,7 +21,7 @@ struct Over<K: Name> {
     pass: Pass,
     of: PhantomData<K>,
     ghost of_table: { pass.table ≡ K.table },
-    ghost within: { (0 < round) × (round ≤ 10000) },
+    ghost within: { (0 < round) × (round ≤ 30000) },
 }
 
 /// The last round that is over, where nobody has met it yet.

@@ -2,4 +2,4 @@ use Rattle.std.proofs.Common.{◌≡◌, ◌≤◌}
 use Rattle.kc_order.proofs.tests.racing.compare_all.Given as goal
 
 abbrev pub invariant-loop : goal.invariant-loop
-invariant-loop g l = (l.pass.table ≡ l.fn.pass.table) × (l.told.round ≤ 10000)
+invariant-loop g l = (l.pass.table ≡ l.fn.pass.table) × (l.told.round ≤ 30000)
