@@ -1,5 +1,5 @@
 -- Batches between the numbers that stand for ids.
-use Rattle.std.proofs.Common.{◌≡◌, ◌≢◌, ◌≤◌, ◌<◌, ℕ, suc, zero, Bool, true, false, List, [], ◌∷◌, length, map, get_or, refl, sym, ap, subst, ◌∙◌, arith, nat_eq, eqb-true, eq-eqb, min, max, inl, inr, Vec, Global, None}
+use Rattle.std.proofs.Common.{◌≡◌, ◌≢◌, ◌≤◌, ◌<◌, ℕ, suc, zero, Bool, true, List, [], ◌∷◌, length, map, get_or, refl, sym, ap, subst, ◌∙◌, arith, nat_eq, eqb-true, eq-eqb, min, max, inl, inr, Vec, Global, None}
 use Rattle.std.specs.Prelude.{All}
 use Rattle.std.specs.List.{flat_map}
 use Rattle.std.specs.Set.{is_member}
@@ -15,7 +15,7 @@ use Rattle.kc_text.specs.Meaning.{Means, Told, batches, changes, ends, ends_of, 
 use Rattle.kc_text.specs.Readers.{outcome}
 use Rattle.kc_text.specs.Readings.{IsReading}
 use Rattle.kc_text.proofs.Limits.{AreFit, IsFit, fit-batches, meaning-fit}
-use Rattle.kc_text.proofs.NamedPairs.{Same, parts-same}
+use Rattle.kc_text.proofs.NamedPairs.{Same, no_change, parts-same}
 use Rattle.kc_text.proofs.Places.{length-AreIds, place-below, place-injective}
 use Rattle.kc_text.proofs.Telling.{change_ends, ends-told, ends-batches}
 
@@ -25,10 +25,6 @@ record IsUpdate (ids : List ℕ) (u : Update) (c : Change) : Type 0 where
   b-in : is_member nat_eq ids c.b ≡ true
   least : u.u ≡ min (place ids c.a) (place ids c.b)
   most : u.v ≡ max (place ids c.a) (place ids c.b)
-
--- a change in place of one that is missing
-no_change : Change
-no_change = record { add = false; a = 0; b = 0 }
 
 update-at : (ids : List ℕ) (batch : List Change) (updates : List Update) → AreUpdates ids batch updates → AreAmong ids (ends (map ends_of batch)) → (i : ℕ) (d : Update) → i < length updates
     → (i < length batch) × IsUpdate ids (get_or updates i d) (get_or batch i no_change)

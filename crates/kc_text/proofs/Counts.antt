@@ -1,5 +1,5 @@
 -- Counting different ids.
-use Rattle.std.proofs.Common.{◌≡◌, ◌≤◌, ◌⊎◌, ℕ, Bool, true, false, cond, ◌||◌, List, [], ◌∷◌, ◌++◌, refl, sym, ap, ◌∙◌, inl, inr, nat_eq, nat_lt, le-ltb, arith, eqb-true, Option, Some, None}
+use Rattle.std.proofs.Common.{◌≡◌, ◌≤◌, ◌⊎◌, ℕ, Bool, true, false, cond, ◌||◌, List, [], ◌∷◌, ◌++◌, refl, sym, ap, ◌∙◌, inl, inr, nat_eq, nat_lt, le-ltb, eqb-true, Option, Some, None}
 use Rattle.std.specs.Prelude.{IfSome, is_some}
 use Rattle.std.specs.Set.{is_member, distinct_count, unique_keys}
 use Rattle.std.specs.HashSet.{HashSet, IsUnique, contains}
@@ -47,6 +47,9 @@ distinct_count-le_from_members xs ys within =
 abbrev pub NamesMore : List ℕ → List ℕ → ℕ → ℕ → Type 0
 NamesMore xs ys a b = (q : ℕ) → is_member nat_eq ys q ≡ (nat_eq q b || (nat_eq q a || is_member nat_eq xs q))
 
+pub fewer_names : (xs ys : List ℕ) (a b : ℕ) → NamesMore xs ys a b → distinct_count nat_eq xs ≤ distinct_count nat_eq ys
+fewer_names xs ys a b more = distinct_count-le_from_members xs ys (λ q h. more q ∙ or_right (nat_eq q b) _ (or_right (nat_eq q a) _ h))
+
 abbrev pub Has : {S : Type 0} → Option (HashSet ℕ S) → List ℕ → Type 0
 Has ids xs = IfSome ids (λ s. (q : ℕ) → contains nat_eq s q ≡ is_member nat_eq xs q)
 
@@ -58,13 +61,6 @@ has_more (Some r) (Some s) xs ys a b more gains had = λ q. gains q ∙ ap (λ t
 
 abbrev pub Exact : {S : Type 0} → Option (HashSet ℕ S) → List ℕ → Type 0
 Exact ids xs = (is_some ids ≡ true) ⊎ (distinct_count nat_eq xs ≤ 262144)
-
-pub exact_before : {S : Type 0} (old new : Option (HashSet ℕ S)) (xs ys : List ℕ) (a b : ℕ) → NamesMore xs ys a b → is_some new ≡ is_some old → Exact new ys → Exact old xs
-exact_before old new xs ys a b more same (inl counts) = inl (sym same ∙ counts)
-exact_before old new xs ys a b more same (inr few) =
-    let fewer : distinct_count nat_eq xs ≤ distinct_count nat_eq ys =
-    distinct_count-le_from_members xs ys (λ q h. more q ∙ or_right (nat_eq q b) _ (or_right (nat_eq q a) _ h)) in
-    inr (omega arith)
 
 pub over_is : {S : Type 0} (ids : Option (HashSet ℕ S)) (xs : List ℕ) → Has ids xs → IfSome ids (IsUnique nat_eq) → Exact ids xs → is_over ids ≡ nat_lt 262144 (distinct_count nat_eq xs)
 over_is None xs has unique (inl counts) = absurd (false≢true counts)

@@ -1,7 +1,9 @@
 pub mod Batched
+pub mod Clear
 pub mod Counts
 pub mod FieldCuts
 pub mod Keeping
+pub mod Keyed
 pub mod Limits
 pub mod LineCuts
 pub mod Members
@@ -9,4 +11,5 @@ pub mod NamedPairs
 pub mod Pairs
 pub mod Places
 pub mod Ranges
+pub mod Sure
 pub mod Telling

@@ -1,5 +1,5 @@
 -- Pairs that are named in either direction.
-use Rattle.std.proofs.Common.{◌≡◌, ℕ, Bool, true, false, cond, not, ◌&&◌, ◌||◌, List, [], ◌∷◌, refl, ap, ◌∙◌, arith, nat_eq, eqb-true, eq-eqb, inl, inr, ap₂, min, max}
+use Rattle.std.proofs.Common.{◌≡◌, ℕ, Bool, true, false, cond, ◌&&◌, ◌||◌, List, [], ◌∷◌, refl, ap, ◌∙◌, arith, nat_eq, eqb-true, eq-eqb, inl, inr, ap₂, min, max}
 use Rattle.std.specs.List.{list_any}
 use Rattle.std.specs.Cmp.{both_ways}
 use Rattle.std.proofs.lemmas.Bool.{cases_eq, or_cases, or_left, or_right, and_parts, and_from}
@@ -8,6 +8,10 @@ use Rattle.kc_text.specs.Batches.{is_pair, pair_of}
 use Rattle.std.specs.Prelude.{Some, None}
 use Rattle.kc_text.specs.declared.kind.Kind.TheVariants.{LoopInBatch, EdgeTwiceInBatch}
 use Rattle.kc_text.specs.Meaning.{name_same, unfit}
+
+-- a change in place of one that is missing
+pub no_change : Change
+no_change = record { add = false; a = 0; b = 0 }
 
 abbrev pub Same : ℕ → ℕ → ℕ → ℕ → Bool
 Same a b x y = (nat_eq a x && nat_eq b y) || (nat_eq a y && nat_eq b x)
@@ -33,21 +37,7 @@ pub named_before : (c : Change) (batch : List Change) → list_any (name_same c)
 named_before c [] = refl
 named_before c (d ∷ batch) = ap₂ (λ (x y : Bool). x || y) (name_same-is c d) (named_before c batch)
 
-pub unfit-named : (c : Change) (batch : List Change) → nat_eq c.a c.b ≡ false → list_any (λ d. is_pair (pair_of c) (pair_of d)) batch ≡ true → unfit (Some batch) c ≡ Some EdgeTwiceInBatch
-unfit-named c batch apart named =
-    ap (λ b. cond b (Some LoopInBatch) (cond (list_any (name_same c) batch) (Some EdgeTwiceInBatch) None)) apart
-    ∙ ap (λ b. cond b (Some EdgeTwiceInBatch) None) (named_before c batch ∙ named)
-
 pub unfit-fresh : (c : Change) (batch : List Change) → nat_eq c.a c.b ≡ false → list_any (λ d. is_pair (pair_of c) (pair_of d)) batch ≡ false → unfit (Some batch) c ≡ None
 unfit-fresh c batch apart fresh =
     ap (λ b. cond b (Some LoopInBatch) (cond (list_any (name_same c) batch) (Some EdgeTwiceInBatch) None)) apart
     ∙ ap (λ b. cond b (Some EdgeTwiceInBatch) None) (named_before c batch ∙ fresh)
-
--- what an insert says of the key before it
-pub had-before : (added had : Bool) → added ≡ not had → added ≡ false → had ≡ true
-had-before added true e f = refl
-had-before added false e f = cc
-
-pub lacked-before : (added had : Bool) → added ≡ not had → added ≡ true → had ≡ false
-lacked-before added true e f = cc
-lacked-before added false e f = refl

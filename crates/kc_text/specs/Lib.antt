@@ -4,6 +4,7 @@ pub mod Forms
 pub mod Inputs
 pub mod Kinds
 pub mod Lines
+pub mod Looks
 pub mod Meaning
 pub mod Readers
 pub mod Readings

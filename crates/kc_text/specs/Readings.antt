@@ -1,10 +1,11 @@
 -- What a reading of a text has found.
-use Rattle.std.specs.Prelude.{◌≡◌, ◌≤◌, ◌⊎◌, ℕ, Bool, true, List, map, nat_eq}
-use Rattle.std.specs.Set.{distinct_count}
+use Rattle.std.specs.Prelude.{◌≡◌, ◌⊎◌, ℕ, List, map, true}
 use Rattle.kc_text.specs.declared.reading.Reading.{Reading}
+use Rattle.kc_text.specs.declared.look.Look.{Look}
 use Rattle.kc_text.specs.Inputs.{AreIds}
+use Rattle.kc_text.specs.Looks.{is_exact}
 use Rattle.kc_text.specs.Meaning.{Told, batches, meaning, names}
-use Rattle.kc_text.specs.Readers.{outcome}
+use Rattle.kc_text.specs.Readers.{IsClear, outcome}
 
 -- a reading has what was told, and its ids
 pub record IsReading (told : Told) (reading : Reading) : Type 0 where
@@ -12,6 +13,6 @@ pub record IsReading (told : Told) (reading : Reading) : Type 0 where
   pub batches : map (λ batch. batch.items) reading.batches.items ≡ batches told
   pub ids : AreIds (names told) reading.ids.items
 
--- it ended as the meaning says, if the ids were counted line by line, or if they are within the limit
-abbrev pub IsEnd : Bool → List ℕ → Told → Reading → Type 0
-IsEnd counts bytes told reading = ((counts ≡ true) ⊎ (distinct_count nat_eq (names told) ≤ 262144)) → meaning bytes ≡ outcome told reading.refusal
+-- it ended as the meaning says, if it looked at each line, or if there was nothing to find
+abbrev pub IsEnd : Look → List ℕ → Told → Reading → Type 0
+IsEnd look bytes told reading = ((is_exact look ≡ true) ⊎ IsClear told) → meaning bytes ≡ outcome told reading.refusal

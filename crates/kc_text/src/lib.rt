@@ -5,9 +5,9 @@
 //! means is defined in `specs/`: `Lines` cuts it into lines and fields, `Forms` says what one line says, `Meaning` judges each line
 //! after what the lines before it have told, and `Inputs` numbers the ids. The other files there serve the crate's own proofs.
 //!
-//! Reading is linear but for sorts. The different ids are counted at the end, where they are sorted anyway; only where there are too
-//! many of them is the text read again, to find the line with which there were. The crate stands on `kc_graph`, for a graph's edges
-//! as a set of pairs and for its updates.
+//! Reading is linear but for sorts. The different ids are counted at the end, where they are sorted anyway, and each batch's pairs are
+//! sorted there too. Only where there are too many ids, or a batch names a pair twice, is the text read again, to find the line. The
+//! crate stands on `kc_graph`, for a graph's edges as a set of pairs and for its updates.
 #![tactic(auto)]
 
 mod batch;
@@ -20,8 +20,10 @@ mod ids;
 mod input;
 mod kind;
 mod line;
+mod look;
 mod number;
 mod numbering;
+mod once;
 mod reader;
 mod reading;
 mod refusal;

@@ -2,15 +2,17 @@ ghost use Rattle.std.specs.Prelude.{◌≡◌, ◌≤◌, ◌<◌, ◌+◌, ◌^
 ghost use Rattle.std.specs.HashSet.{IsUnique};
 ghost use Rattle.std.specs.Option.{option_map, option_to_list};
 ghost use Rattle.kc_text.specs.declared.line.Line.TheVariants as said;
-ghost use Rattle.kc_text.specs.Batches.{HasPairs};
+ghost use Rattle.kc_text.specs.Batches.{IsSure, KeepsPairs};
+ghost use Rattle.kc_text.specs.Looks.{is_exact};
 ghost use Rattle.kc_text.specs.Meaning.{batches, first_limit, nothing_told, passed_limit, refusal, unfit, with_line};
-ghost use Rattle.kc_text.specs.Readers.{told_by, Gains, IsExact, IsKept, is_over};
+ghost use Rattle.kc_text.specs.Readers.{told_by, Gains, HasIds, IsExact, IsKept, is_over};
 
 use crate::NoMemory;
 use crate::batch::Batch;
 use crate::change::Change;
 use crate::kind::Kind;
 use crate::line::Line;
+use crate::look::Look;
 use std::alloc::Global;
 use std::collections::HashSet;
 
@@ -35,13 +37,24 @@ pub(crate) struct Reader {
     last: Option<Batch>,
     /// How many changes there are in all batches.
     changes: usize,
-    /// The different ids, where they are counted line by line.
+    /// The different ids, where they are looked at line by line.
     ids: Option<HashSet<u32>>,
 }
 
-/// Counts two ids, where ids are counted.
+/// The set of no ids, where they are looked at.
+fn no_ids(alloc: Global, look: Look) -> Option<HashSet<u32>>
+    ensures looks { is_some result ≡ is_exact look }
+    ensures ids { HasIds result [] }
+{
+    match look {
+        Look::Quick => None,
+        Look::Exact => Some(HashSet::new(alloc)),
+    }
+}
+
+/// Counts two ids, where they are looked at.
 fn count_ids(ids: &mut Option<HashSet<u32>>, a: u32, b: u32) -> Result<(), NoMemory>
-    ensures counts { OnOk result (is_some ids.new ≡ is_some ids.old) }
+    ensures looks { OnOk result (is_some ids.new ≡ is_some ids.old) }
     ensures gains { OnOk result (Gains ids.old ids.new a b) }
 {
     if let Some(ids) = ids {
@@ -51,7 +64,7 @@ fn count_ids(ids: &mut Option<HashSet<u32>>, a: u32, b: u32) -> Result<(), NoMem
     Ok(())
 }
 
-/// Whether ids are counted and there are too many.
+/// Whether ids are looked at and there are too many.
 fn are_over(ids: &Option<HashSet<u32>>) -> bool
     ensures over { result ≡ is_over ids.now }
     ensures unique { IfSome ids.now (IsUnique nat_eq) }
@@ -81,11 +94,12 @@ fn first_limit(ids: bool, edge_lines: bool, updates: bool, batches: bool) -> Opt
 
 /// Takes a change into the last batch, or gives the cause if it doesn't fit.
 fn take_into(last: &mut Option<Batch>, change: Change) -> Result<Option<Kind>, NoMemory>
-    requires { IfSome last.old (λ batch. HasPairs batch.pairs batch.changes.items) }
-    ensures pairs { IfOk result (λ cause. cause ≡ None → IfSome last.new (λ batch. HasPairs batch.pairs batch.changes.items)) }
+    requires { IfSome last.old (λ batch. KeepsPairs batch.pairs batch.changes.items) }
+    ensures pairs { IfOk result (λ cause. cause ≡ None → IfSome last.new (λ batch. KeepsPairs batch.pairs batch.changes.items)) }
+    ensures looks { OnOk result (option_map (λ batch. is_some batch.pairs) last.new ≡ option_map (λ batch. is_some batch.pairs) last.old) }
     ensures changes { IfOk result (λ cause. cause ≡ None → option_map (λ batch. batch.changes.items) last.new ≡ Some (unwrap_or (option_map (λ batch. batch.changes.items) last.old) [] ++ change ∷ [])) }
     ensures same { IfOk result (λ cause. IsSome cause → option_map (λ batch. batch.changes.items) last.new ≡ option_map (λ batch. batch.changes.items) last.old) }
-    ensures refused { IfOk result (λ cause. cause ≡ unfit (option_map (λ batch. batch.changes.items) last.old) change) }
+    ensures refused { IfOk result (λ cause. IfSome last.new (λ batch. IsSure batch.pairs batch.changes.items) → cause ≡ unfit (option_map (λ batch. batch.changes.items) last.old) change) }
 {
     match last {
         None => Ok(Some(Kind::UpdateOutsideBatch)),
@@ -104,32 +118,27 @@ fn close(earlier: &mut Vec<Vec<Change>>, last: Option<Batch>) -> Result<(), NoMe
 }
 
 impl Reader {
-    /// A reader that leaves it to the end to look for too many ids.
-    pub(crate) fn new(alloc: Global) -> Reader
+    pub(crate) fn new(alloc: Global, look: Look) -> Reader
         ensures told { told_by result ≡ nothing_told }
         ensures kept { IsKept result }
+        ensures looks { is_some result.ids ≡ is_exact look }
     {
         Reader {
             edges: Vec::new(alloc),
             earlier: Vec::new(alloc),
             last: None,
             changes: 0,
-            ids: None,
+            ids: no_ids(alloc, look),
         }
     }
 
-    /// A reader that looks for too many ids at each line.
-    pub(crate) fn counting(alloc: Global) -> Reader
-        ensures told { told_by result ≡ nothing_told }
-        ensures kept { IsKept result }
-        ensures counts { is_some result.ids ≡ true }
+    /// How it looks.
+    fn look(&self) -> Look
+        ensures { is_exact result ≡ is_some self.now.ids }
     {
-        Reader {
-            edges: Vec::new(alloc),
-            earlier: Vec::new(alloc),
-            last: None,
-            changes: 0,
-            ids: Some(HashSet::new(alloc)),
+        match &self.ids {
+            None => Look::Quick,
+            Some(_) => Look::Exact,
         }
     }
 
@@ -141,7 +150,7 @@ impl Reader {
         ensures told { IfOk result (λ cause. cause ≡ None → told_by self.new ≡ with_line (told_by self.old) line) }
         ensures refused { IfOk result (λ cause. IsExact self.new → cause ≡ refusal (told_by self.old) line) }
         ensures exact { OnOk result (IsExact self.new → IsExact self.old) }
-        ensures counts { OnOk result (is_some self.new.ids ≡ is_some self.old.ids) }
+        ensures looks { OnOk result (is_some self.new.ids ≡ is_some self.old.ids) }
         ensures grows { OnOk result (self.new.changes ≤ self.old.changes + 1) }
     {
         match line {
@@ -159,7 +168,7 @@ impl Reader {
         ensures told { IfOk result (λ cause. cause ≡ None → told_by self.new ≡ with_line (told_by self.old) (said.Edge a b)) }
         ensures refused { IfOk result (λ cause. IsExact self.new → cause ≡ refusal (told_by self.old) (said.Edge a b)) }
         ensures exact { OnOk result (IsExact self.new → IsExact self.old) }
-        ensures counts { OnOk result (is_some self.new.ids ≡ is_some self.old.ids) }
+        ensures looks { OnOk result (is_some self.new.ids ≡ is_some self.old.ids) }
         ensures same { OnOk result (self.new.changes ≡ self.old.changes) }
     {
         if self.last.is_some() {
@@ -176,10 +185,11 @@ impl Reader {
         ensures told { OnOk result (told_by self.new ≡ with_line (told_by self.old) said.Batch) }
         ensures refused { IfOk result (λ cause. IsExact self.new → cause ≡ refusal (told_by self.old) said.Batch) }
         ensures exact { OnOk result (IsExact self.new → IsExact self.old) }
-        ensures counts { OnOk result (is_some self.new.ids ≡ is_some self.old.ids) }
+        ensures looks { OnOk result (is_some self.new.ids ≡ is_some self.old.ids) }
         ensures same { OnOk result (self.new.changes ≡ self.old.changes) }
     {
-        let before = self.last.replace(Batch::new(alloc));
+        let batch = Batch::new(alloc, self.look());
+        let before = self.last.replace(batch);
         close(&mut self.earlier, before)?;
         Ok(self.passed_limit())
     }
@@ -191,7 +201,7 @@ impl Reader {
         ensures told { IfOk result (λ cause. cause ≡ None → told_by self.new ≡ with_line (told_by self.old) (said.Change change)) }
         ensures refused { IfOk result (λ cause. IsExact self.new → cause ≡ refusal (told_by self.old) (said.Change change)) }
         ensures exact { OnOk result (IsExact self.new → IsExact self.old) }
-        ensures counts { OnOk result (is_some self.new.ids ≡ is_some self.old.ids) }
+        ensures looks { OnOk result (is_some self.new.ids ≡ is_some self.old.ids) }
         ensures grows { OnOk result (self.new.changes ≤ self.old.changes + 1) }
     {
         if let Some(kind) = take_into(&mut self.last, change)? {

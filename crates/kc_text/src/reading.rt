@@ -1,4 +1,5 @@
-ghost use Rattle.std.specs.Prelude.{◌≡◌, ◌≤◌, IfOk, OnOk, is_some, length};
+ghost use Rattle.std.specs.Prelude.{◌≡◌, ◌≤◌, ◌↔◌, All, IfOk, IsTrue, OnOk, is_some, length};
+ghost use Rattle.kc_text.specs.Batches.{NamesOnce};
 ghost use Rattle.kc_text.specs.Forms.{all_said};
 ghost use Rattle.kc_text.specs.Meaning.{Told, meaning, nothing_told, reading};
 ghost use Rattle.kc_text.specs.Readers.{told_by, IsExact, IsKept, outcome};
@@ -9,6 +10,8 @@ use crate::bytes::cut_line;
 use crate::change::Change;
 use crate::ids::ids_of;
 use crate::line::read_line;
+use crate::look::Look;
+use crate::once::all_name_once;
 use crate::reader::{MOST_IDS, Reader};
 use crate::refusal::Refusal;
 use std::alloc::Global;
@@ -32,7 +35,7 @@ fn read_lines(alloc: Global, reader: &mut Reader, bytes: &[u8]) -> Result<Option
     requires kept { IsKept reader.old }
     requires few { length bytes.now ≤ 67108864 }
     ensures exact { IfOk result (λ refusal. IsExact reader.new → reading 0 nothing_told (all_said bytes.now) ≡ outcome (told_by reader.new) refusal) }
-    ensures counts { OnOk result (is_some reader.new.ids ≡ is_some reader.old.ids) }
+    ensures looks { OnOk result (is_some reader.new.ids ≡ is_some reader.old.ids) }
 {
     let mut rest = bytes;
     let mut line = 0u32;
@@ -46,12 +49,11 @@ fn read_lines(alloc: Global, reader: &mut Reader, bytes: &[u8]) -> Result<Option
     Ok(None)
 }
 
-fn read(alloc: Global, mut reader: Reader, bytes: &[u8]) -> Result<Reading, NoMemory>
-    requires fresh { told_by reader ≡ nothing_told }
-    requires kept { IsKept reader }
-    requires few { length bytes.now ≤ 67108864 }
-    ensures { IfOk result (λ reading. (told : Told) × IsReading told reading × IsEnd (is_some reader.ids) bytes.now told reading) }
+fn read(alloc: Global, look: Look, bytes: &[u8]) -> Result<Reading, NoMemory>
+    requires { length bytes.now ≤ 67108864 }
+    ensures { IfOk result (λ reading. (told : Told) × IsReading told reading × IsEnd look bytes.now told reading) }
 {
+    let mut reader = Reader::new(alloc, look);
     let refusal = read_lines(alloc, &mut reader, bytes)?;
     let (edges, batches) = reader.into_lists()?;
     let ids = ids_of(alloc, &edges, &batches)?;
@@ -63,16 +65,26 @@ fn read(alloc: Global, mut reader: Reader, bytes: &[u8]) -> Result<Reading, NoMe
     })
 }
 
-/// Reads the text. The ids are counted when all is read. Only where there are too many of them, a
-/// second reading counts them line by line, to find the line with which there were.
+/// Whether there are not too many ids, and no batch names a pair twice.
+fn is_clear(alloc: Global, reading: &Reading) -> Result<bool, NoMemory>
+    ensures { IfOk result (λ clear. IsTrue clear ↔ (length reading.now.ids.items ≤ 262144) × All (λ batch. NamesOnce batch.items) reading.now.batches.items) }
+{
+    if reading.ids.len() > MOST_IDS {
+        return Ok(false);
+    }
+    all_name_once(alloc, &reading.batches)
+}
+
+/// Reads the text. The ids are counted and the pairs compared when all is read. Only where there are too many ids, or a batch names a
+/// pair twice, a second reading looks at each line, to find the first that is refused.
 pub(crate) fn read_text(alloc: Global, bytes: &[u8]) -> Result<Reading, NoMemory>
     requires { length bytes.now ≤ 67108864 }
     ensures { IfOk result (λ reading. (told : Told) × IsReading told reading × (meaning bytes.now ≡ outcome told reading.refusal)) }
 {
-    let reading = read(alloc, Reader::new(alloc), bytes)?;
-    if reading.ids.len() <= MOST_IDS {
+    let reading = read(alloc, Look::Quick, bytes)?;
+    if is_clear(alloc, &reading)? {
         return Ok(reading);
     }
     drop(reading);
-    read(alloc, Reader::counting(alloc), bytes)
+    read(alloc, Look::Exact, bytes)
 }

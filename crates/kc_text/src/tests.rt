@@ -115,6 +115,21 @@ fn wrong_batches(rt: HostRuntime) -> Result<(), Fail> {
 }
 
 #[test]
+fn pairs_named_twice(rt: HostRuntime) -> Result<(), Fail> {
+    let twice = Kind::EdgeTwiceInBatch;
+    check_refusal(&rt, b"batch\n+ 1 2\n- 2 1\nx\n", 3, twice)?;
+    check_refusal(&rt, b"batch\n+ 1 2\nx\n- 2 1\n", 3, Kind::NotANumber)?;
+    check_refusal(&rt, b"batch\n+ 1 2\n+ 3 3\n+ 1 2\n", 3, Kind::LoopInBatch)?;
+    check_refusal(&rt, b"batch\n+ 1 2\n+ 1 2\nbatch\n+ 1 2\n", 3, twice)?;
+    check_refusal(&rt, b"batch\n+ 1 2\nbatch\n+ 2 1\n+ 3 1\n+ 1 2\n", 6, twice)?;
+    check_refusal(&rt, b"batch\n+ 0 4294967295\n+ 4294967295 0\n", 3, twice)?;
+    let apart = b"batch\n+ 0 4294967295\n+ 1 0\n+ 4294967295 1\nbatch\n- 0 1\n";
+    let input = parse(rt.alloc(), apart).map_err(|_| "refused")?;
+    assert_eq!(rt; input.batches.len(), 2);
+    Ok(())
+}
+
+#[test]
 fn too_many_batches(rt: HostRuntime) -> Result<(), Fail> {
     let mut text = Vec::new(rt.alloc());
     for _ in 0..4097 {

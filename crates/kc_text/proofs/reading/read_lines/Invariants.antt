@@ -9,7 +9,7 @@ abbrev pub invariant-loop-text : goal.invariant-loop-text
 invariant-loop-text l = record {
   same : IsExact l.reader → reading 0 nothing_told (all_said l.fn.bytes) ≡ reading l.line (told_by l.reader) (all_said l.rest);
   kept : IsKept l.reader;
-  counts : is_some l.reader.ids ≡ is_some l.fn.reader.ids;
+  looks : is_some l.reader.ids ≡ is_some l.fn.reader.ids;
   few : l.reader.changes ≤ l.line;
   shorter : l.line + length l.rest ≤ length l.fn.bytes;
 }

@@ -1,6 +1,9 @@
-use Rattle.std.proofs.Common.{inr, arith}
-use Rattle.kc_text.proofs.Places.{length-AreIds}
+use Rattle.std.proofs.Common.{inr}
+use Rattle.kc_text.proofs.Clear.{clear-reading}
 use Rattle.kc_text.proofs.reading.read_text.Goals as goal
 
-pub returns-then-len-le-MOST_IDS : goal.returns-then-len-le-MOST_IDS
-returns-then-len-le-MOST_IDS c = let (told, read, end) = c.in_ok-reading.ensures in (told, read, end (inr (omega (arith, length-AreIds _ _ read.ids))))
+pub returns-then-branch : goal.returns-then-branch
+returns-then-branch c =
+    let (told, read, end) = c.in_ok-reading.ensures in
+    let (few, once) = c.in_ok-is_clear.ensures.0 c.if-branch.true in
+    (told, read, end (inr (clear-reading told c.in_ok-reading.reading read few once)))
