@@ -6,7 +6,7 @@ use crate::NoMemory;
 use crate::change::Change;
 use std::alloc::Global;
 
-/// The pair of a change as one number, with the lesser id in its upper half: numbers are sorted faster than pairs.
+/// The pair of a change as one number, with the lesser id in its upper half, so that pairs are sorted as numbers are.
 fn key_of(change: Change) -> u64
     ensures { halves result ≡ pair_of change }
 {
