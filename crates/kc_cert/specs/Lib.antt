@@ -1,1 +1,3 @@
 pub mod Conditions
+pub mod Local
+pub mod Ranks

@@ -1,7 +1,7 @@
 -- The neighbours of a vertex as a list.
-use Rattle.std.specs.Prelude.{◌≡◌, ◌<◌, ℕ, List, true}
+use Rattle.std.specs.Prelude.{◌≡◌, ◌<◌, ℕ, List, true, filter, reverse}
 use Rattle.std.specs.List.Sorted.{IsStrictlyIncreasing}
-use Rattle.kc_lists.specs.Lists.{member}
+use Rattle.kc_lists.specs.Lists.{member, below}
 use Rattle.kc_graph.specs.SimpleGraph.{SimpleGraph, adjacent}
 
 -- exactly the neighbours of `v`, in ascending order
@@ -9,3 +9,7 @@ pub record AreNeighbours (g : SimpleGraph) (v : ℕ) (ws : List ℕ) : Type 0 wh
   pub ascending : IsStrictlyIncreasing ws
   pub within : (w : ℕ) → member w ws ≡ true → w < g.size
   pub exact : (w : ℕ) → member w ws ≡ adjacent g v w
+
+-- the neighbours of `v`, in ascending order
+abbrev pub neighbours_of : SimpleGraph → ℕ → List ℕ
+neighbours_of g v = reverse (filter (adjacent g v) (below g.size))

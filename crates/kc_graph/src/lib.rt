@@ -12,11 +12,14 @@
 
 mod graph;
 mod lawful;
+mod neighbours;
 mod peeling;
+mod plan;
 mod rows;
 #[cfg(test)]
 mod tests;
 mod update;
+mod used;
 
 ghost use Rattle.std.specs.Prelude.{◌≡◌, ℕ, List};
 ghost use Rattle.kc_graph.specs.SimpleGraph.{SimpleGraph};
@@ -25,9 +28,12 @@ ghost use Rattle.kc_graph.specs.Certificate.{Certifies};
 
 pub use graph::Graph;
 pub use lawful::Lawful;
+pub use neighbours::Neighbours;
 pub use peeling::{core_numbers, decompose};
+pub use plan::{Moves, Plan};
 pub use std::alloc::AllocError as NoMemory;
 pub use update::Update;
+pub use used::{Used, UsedEdges, UsedOrder, UsedPlace};
 
 /// Numbers that an order certifies are the core numbers.
 pub fn certified_numbers_are_core_numbers()

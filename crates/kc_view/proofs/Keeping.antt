@@ -1,0 +1,128 @@
+-- What a view kept, it keeps: lists and core numbers that were told stay, and a state that agrees now agreed before.
+use Rattle.std.proofs.Common.{◌≡◌, ◌≤◌, ◌<◌, ◌+◌, ℕ, suc, Bool, true, false, cond, List, [], ◌∷◌, ◌++◌, length, get_or, eqb, ltb, refl, sym, ◌∙◌, ap, subst, inl, inr, arith, eqb-true, le_refl, le_trans}
+use Rattle.std.specs.Prelude.{All, Option, Some, None, is_some}
+use Rattle.std.specs.Option.{unwrap_or}
+use Rattle.std.proofs.lemmas.Bool.{cases_Bool, false≢true}
+use Rattle.std.proofs.lemmas.List.{append_assoc, append-nil, get_or_append_left, length-append}
+use Rattle.kc_lists.specs.Lists.{place_of}
+use Rattle.kc_graph.specs.Lawful.{Ranked}
+use Rattle.kc_graph.specs.Neighbours.{neighbours_of}
+use Rattle.kc_graph.specs.declared.used.UsedEdges.{UsedEdges}
+use Rattle.kc_graph.specs.declared.used.UsedPlace.{UsedPlace}
+use Rattle.kc_graph.specs.declared.used.UsedOrder.{UsedOrder}
+use Rattle.kc_view.specs.Answers.{Answers, Agrees, list_in, core_in, has_list, has_core, list_of, core_of, with_order}
+use Rattle.kc_view.specs.Views.{Further, Shown, Lasts, GoesOn}
+use Rattle.kc_words.specs.declared.again.Again.{Again}
+
+-- what holds of a list holds of its front
+pub All-front : {A : Type 0} (P : A → Type 0) (xs ys : List A) → All P (xs ++ ys) → All P xs
+All-front {A} P xs ys h k d l = subst P (get_or_append_left xs ys d k l) (h k d (omega (arith, l, length-append xs ys)))
+
+list_in-front : (w : ℕ) (xs ys : List UsedEdges) → is_some (list_in w xs) ≡ true → list_in w (xs ++ ys) ≡ list_in w xs
+list_in-front w [] ys h = absurd (false≢true h)
+list_in-front w (x ∷ xs) ys h =
+    elim (eqb w x.vertex) as (λ b. is_some (cond b (Some x.neighbours) (list_in w xs)) ≡ true → cond b (Some x.neighbours) (list_in w (xs ++ ys)) ≡ cond b (Some x.neighbours) (list_in w xs)) [
+      | true ↦ λ _. refl
+      | false ↦ λ k. list_in-front w xs ys k
+    ] h
+
+core_in-front : (w : ℕ) (xs ys : List UsedPlace) → is_some (core_in w xs) ≡ true → core_in w (xs ++ ys) ≡ core_in w xs
+core_in-front w [] ys h = absurd (false≢true h)
+core_in-front w (x ∷ xs) ys h =
+    elim (eqb w x.vertex) as (λ b. is_some (cond b (Some x.core) (core_in w xs)) ≡ true → cond b (Some x.core) (core_in w (xs ++ ys)) ≡ cond b (Some x.core) (core_in w xs)) [
+      | true ↦ λ _. refl
+      | false ↦ λ k. core_in-front w xs ys k
+    ] h
+
+list-same : (old new : Answers) (w : ℕ) → Further old new → has_list old w ≡ true → list_in w new.edges ≡ list_in w old.edges
+list-same old new w f h = ap (list_in w) f.edges.1 ∙ list_in-front w old.edges f.edges.0 h
+
+core-same : (old new : Answers) (w : ℕ) → Further old new → has_core old w ≡ true → core_in w new.places ≡ core_in w old.places
+core-same old new w f h = ap (core_in w) f.places.1 ∙ core_in-front w old.places f.places.0 h
+
+-- a list that was told stays, and so does a core number
+pub still_has_list : (old new : Answers) (w : ℕ) → Further old new → has_list old w ≡ true → has_list new w ≡ true
+still_has_list old new w f h = ap is_some (list-same old new w f h) ∙ h
+
+pub same_list : (old new : Answers) (w : ℕ) → Further old new → has_list old w ≡ true → list_of new w ≡ list_of old w
+same_list old new w f h = ap (λ o. unwrap_or o []) (list-same old new w f h)
+
+pub still_has_core : (old new : Answers) (w : ℕ) → Further old new → has_core old w ≡ true → has_core new w ≡ true
+still_has_core old new w f h = ap is_some (core-same old new w f h) ∙ h
+
+pub same_core : (old new : Answers) (w : ℕ) → Further old new → has_core old w ≡ true → core_of new w ≡ core_of old w
+same_core old new w f h = ap (λ o. unwrap_or o 0) (core-same old new w f h)
+
+-- a state that agrees with all answers agrees with the first of them
+pub agreed : (old new : Answers) (s : Ranked) → Further old new → Agrees new s → Agrees old s
+agreed old new s f a = record {
+  edges = All-front (λ e. (e.vertex < s.graph.size) × (e.neighbours ≡ neighbours_of s.graph e.vertex)) old.edges f.edges.0
+  (subst (All (λ e. (e.vertex < s.graph.size) × (e.neighbours ≡ neighbours_of s.graph e.vertex))) f.edges.1 a.edges);
+  places = All-front (λ p. (p.vertex < s.graph.size) × (p.core ≡ get_or s.core p.vertex 0)) old.places f.places.0
+  (subst (All (λ p. (p.vertex < s.graph.size) × (p.core ≡ get_or s.core p.vertex 0))) f.places.1 a.places);
+  orders = All-front (λ o. (o.x < s.graph.size) × (o.y < s.graph.size) × (o.before ≡ ltb (place_of o.x s.order) (place_of o.y s.order))) old.orders f.orders.0
+  (subst (All (λ o. (o.x < s.graph.size) × (o.y < s.graph.size) × (o.before ≡ ltb (place_of o.x s.order) (place_of o.y s.order)))) f.orders.1 a.orders);
+}
+
+pub Further-refl : (a : Answers) → Further a a
+Further-refl a = record { edges = ([], sym (append-nil a.edges)); places = ([], sym (append-nil a.places)); orders = ([], sym (append-nil a.orders)) }
+
+pub Further-trans : (a b c : Answers) → Further a b → Further b c → Further a c
+Further-trans a b c f g = record {
+  edges = (f.edges.0 ++ g.edges.0, g.edges.1 ∙ (ap (λ xs. xs ++ g.edges.0) f.edges.1 ∙ append_assoc a.edges f.edges.0 g.edges.0));
+  places = (f.places.0 ++ g.places.0, g.places.1 ∙ (ap (λ xs. xs ++ g.places.0) f.places.1 ∙ append_assoc a.places f.places.0 g.places.0));
+  orders = (f.orders.0 ++ g.orders.0, g.orders.1 ∙ (ap (λ xs. xs ++ g.orders.0) f.orders.1 ∙ append_assoc a.orders f.orders.0 g.orders.0));
+}
+
+pub Lasts-refl : (a : Shown) (missed : Again → Type 0) (given : Answers → Type 0) → Lasts a a missed missed given given
+Lasts-refl a missed given = record { same_size = refl; misses = le_refl a.misses; still_missed = λ x h. h; still_given = λ x h. h }
+
+pub Lasts-trans : (a b c : Shown) (missed missed' missed'' : Again → Type 0) (given given' given'' : Answers → Type 0) → Lasts a b missed missed' given given' → Lasts b c missed' missed'' given' given'' → Lasts a c missed missed'' given given''
+Lasts-trans a b c missed missed' missed'' given given' given'' f g = record {
+  same_size = g.same_size ∙ f.same_size;
+  misses = le_trans f.misses g.misses;
+  still_missed = λ x h. g.still_missed x (f.still_missed x h);
+  still_given = λ x h. g.still_given x (f.still_given x h);
+}
+
+pub GoesOn-refl : (a : Shown) (missed : Again → Type 0) (given : Answers → Type 0) → GoesOn a a missed missed given given
+GoesOn-refl a missed given = record { lasts = Lasts-refl a missed given; further = Further-refl a.kept }
+
+pub GoesOn-trans : (a b c : Shown) (missed missed' missed'' : Again → Type 0) (given given' given'' : Answers → Type 0) → GoesOn a b missed missed' given given' → GoesOn b c missed' missed'' given' given'' → GoesOn a c missed missed'' given given''
+GoesOn-trans a b c missed missed' missed'' given given' given'' f g = record {
+  lasts = Lasts-trans a b c missed missed' missed'' given given' given'' f.lasts g.lasts;
+  further = Further-trans a.kept b.kept c.kept f.further g.further;
+}
+
+-- what a state that agrees says of a list that was told
+list_in-true : (s : Ranked) (w : ℕ) (xs : List UsedEdges) → All (λ e. (e.vertex < s.graph.size) × (e.neighbours ≡ neighbours_of s.graph e.vertex)) xs → is_some (list_in w xs) ≡ true
+    → (w < s.graph.size) × (unwrap_or (list_in w xs) [] ≡ neighbours_of s.graph w)
+list_in-true s w [] a h = absurd (false≢true h)
+list_in-true s w (x ∷ xs) a h =
+    elim (eqb w x.vertex) as (λ b. eqb w x.vertex ≡ b → is_some (cond b (Some x.neighbours) (list_in w xs)) ≡ true → (w < s.graph.size) × (unwrap_or (cond b (Some x.neighbours) (list_in w xs)) [] ≡ neighbours_of s.graph w)) [
+      | true ↦ λ e _. let k = a 0 x (omega arith) in let same : w ≡ x.vertex = eqb-true w x.vertex e in (omega (arith, k.0, same), k.1 ∙ ap (neighbours_of s.graph) (sym same))
+      | false ↦ λ e k. list_in-true s w xs (λ i d l. a (suc i) d (omega arith)) k
+    ] refl h
+
+pub list-true : (a : Answers) (s : Ranked) (w : ℕ) → Agrees a s → has_list a w ≡ true → (w < s.graph.size) × (list_of a w ≡ neighbours_of s.graph w)
+list-true a s w g h = list_in-true s w a.edges g.edges h
+
+core_in-true : (s : Ranked) (w : ℕ) (xs : List UsedPlace) → All (λ p. (p.vertex < s.graph.size) × (p.core ≡ get_or s.core p.vertex 0)) xs → is_some (core_in w xs) ≡ true
+    → (w < s.graph.size) × (unwrap_or (core_in w xs) 0 ≡ get_or s.core w 0)
+core_in-true s w [] a h = absurd (false≢true h)
+core_in-true s w (x ∷ xs) a h =
+    elim (eqb w x.vertex) as (λ b. eqb w x.vertex ≡ b → is_some (cond b (Some x.core) (core_in w xs)) ≡ true → (w < s.graph.size) × (unwrap_or (cond b (Some x.core) (core_in w xs)) 0 ≡ get_or s.core w 0)) [
+      | true ↦ λ e _. let k = a 0 x (omega arith) in let same : w ≡ x.vertex = eqb-true w x.vertex e in (omega (arith, k.0, same), k.1 ∙ ap (λ v. get_or s.core v 0) (sym same))
+      | false ↦ λ e k. core_in-true s w xs (λ i d l. a (suc i) d (omega arith)) k
+    ] refl h
+
+pub core-true : (a : Answers) (s : Ranked) (w : ℕ) → Agrees a s → has_core a w ≡ true → (w < s.graph.size) × (core_of a w ≡ get_or s.core w 0)
+core-true a s w g h = core_in-true s w a.places g.places h
+
+last-of : {A : Type 0} (P : A → Type 0) (xs : List A) (x : A) → All P (xs ++ x ∷ []) → P x
+last-of {A} P [] x h = h 0 x (omega arith)
+last-of {A} P (y ∷ xs) x h = last-of P xs x (λ i d l. h (suc i) d (omega arith))
+
+-- and of an order
+pub order-true : (a : Answers) (s : Ranked) (o : UsedOrder) → Agrees (with_order a o) s → (o.x < s.graph.size) × (o.y < s.graph.size) × (o.before ≡ ltb (place_of o.x s.order) (place_of o.y s.order))
+order-true a s o g = last-of (λ o. (o.x < s.graph.size) × (o.y < s.graph.size) × (o.before ≡ ltb (place_of o.x s.order) (place_of o.y s.order))) a.orders o g.orders
