@@ -1,13 +1,11 @@
 -- What the certificate asks at a vertex of the state after a plan, by counts over all vertices.
-use Rattle.std.proofs.Common.{◌≡◌, ◌≢◌, ◌≤◌, ◌<◌, ◌+◌, ℕ, Bool, true, false, cond, ◌&&◌, ◌||◌, List, [], ◌∷◌, drop, length, get_or, set, eqb, leb, refl, sym, ◌∙◌, ap, inl, inr, arith, true≢false, eq-eqb, ne_eqb, length-set}
+use Rattle.std.proofs.Common.{◌≡◌, ◌≤◌, ◌<◌, ◌+◌, ℕ, Bool, true, false, ◌&&◌, ◌||◌, List, [], ◌∷◌, drop, length, get_or, set, eqb, leb, refl, sym, ◌∙◌, ap, inl, inr, arith, true≢false, eq-eqb, ne_eqb, length-set}
 use Rattle.std.specs.Prelude.{count_by}
 use Rattle.std.proofs.lemmas.Bool.{cases_Bool, cases_eq, or_parts}
 use Rattle.std.proofs.lemmas.List.{get_or-set_same, get_or-set_other}
 use Rattle.kc_lists.specs.Lists.{member, Distinct, below, place_of}
-use Rattle.kc_lists.proofs.Members.{member-head, member-tail}
 use Rattle.kc_lists.proofs.Counting.{member-below, Distinct-below}
 use Rattle.kc_graph.specs.SimpleGraph.{SimpleGraph, adjacent, degree_among}
-use Rattle.kc_graph.specs.Lawful.{Ranked}
 use Rattle.kc_graph.specs.Plans.{renumbered}
 use Rattle.kc_cert.specs.Local.{HoldsAt}
 use Rattle.kc_cert.specs.Ranks.{Orders}

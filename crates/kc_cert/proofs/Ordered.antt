@@ -1,11 +1,11 @@
 -- The order of a certified state, by ranks.
-use Rattle.std.proofs.Common.{◌≡◌, ◌≢◌, ◌≤◌, ◌<◌, ◌+◌, ℕ, suc, Bool, true, false, cond, ◌&&◌, List, [], ◌∷◌, drop, length, get_or, eqb, ltb, leb, refl, sym, ◌∙◌, ap, subst, inl, inr, arith, true≢false, eq-eqb, ne_eqb, lt-ltb}
+use Rattle.std.proofs.Common.{◌≡◌, ◌≢◌, ◌≤◌, ◌<◌, ◌+◌, ℕ, suc, Bool, true, false, cond, ◌&&◌, List, [], ◌∷◌, drop, length, get_or, ltb, leb, refl, sym, ◌∙◌, ap, subst, inl, inr, arith, true≢false, eq-eqb, ne_eqb, lt-ltb}
 use Rattle.std.proofs.lemmas.Bool.{cases_Bool, cases_eq, cases_order, false≢true, false_from_ne_true}
 use Rattle.std.proofs.lemmas.List.Elements.{All-contains}
 use Rattle.std.specs.Prelude.{count_by, AllPairs}
 use Rattle.kc_lists.specs.Lists.{member, Distinct, below}
 use Rattle.kc_lists.proofs.Members.{member-head, member-tail}
-use Rattle.kc_lists.proofs.Counting.{member-other, member-below, below-member, Distinct-below, member-from_Contains, Contains-from_member, Distinct-from_pairs, pairs_from_Distinct, count-le, member-get_or}
+use Rattle.kc_lists.proofs.Counting.{member-other, member-below, below-member, Distinct-below, member-from_Contains, Contains-from_member, Distinct-from_pairs, pairs_from_Distinct, member-get_or}
 use Rattle.kc_graph.specs.SimpleGraph.{SimpleGraph, adjacent, degree_among}
 use Rattle.kc_graph.specs.Certificate.{Certifies, Enumerates, degree_as_high}
 use Rattle.kc_cert.specs.Ranks.{rank_in, Ascends, Orders}

@@ -7,6 +7,7 @@
 #![tactic(auto)]
 
 mod conditions;
+mod state;
 #[cfg(test)]
 mod tests;
 
@@ -16,6 +17,7 @@ ghost use Rattle.kc_graph.specs.Core.{AreCoreNumbers};
 
 use crate::conditions::{has_enough_as_high, has_few_later, is_enumeration, never_falls};
 use kc_graph::Graph;
+pub use state::State;
 pub use std::alloc::AllocError as NoMemory;
 use std::alloc::Global;
 

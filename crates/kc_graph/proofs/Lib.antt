@@ -7,6 +7,7 @@ pub mod Filing
 pub mod Inserting
 pub mod Law
 pub mod Lowering
+pub mod NeighbourLists
 pub mod PeelingLemmas
 pub mod Places
 pub mod Removing

@@ -17,7 +17,10 @@ pub enum Moves {
         shifts: Vec<(u32, u32)>,
     },
     /// The vertices of `fall`, which have the core number `level`, get the one below, and become the back of that level in this order.
-    Fall { level: u32, fall: Vec<u32> },
+    Fall {
+        level: u32,
+        fall: Vec<u32>,
+    },
 }
 
 /// An update with the moves that keep core numbers and order right, and what these moves rest on.

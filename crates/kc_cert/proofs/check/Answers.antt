@@ -1,4 +1,4 @@
-use Rattle.std.proofs.Common.{ℕ, ◌≡◌, ◌∙◌, subst}
+use Rattle.std.proofs.Common.{ℕ, ◌∙◌, subst}
 use Rattle.kc_graph.specs.Certificate.{Enumerates}
 use Rattle.kc_graph.proofs.Law.{certified}
 use Rattle.kc_cert.proofs.Counts.{all_conditions, enough_in}
