@@ -1,6 +1,7 @@
 pub mod Adding
 pub mod Buckets
 pub mod Deleting
+pub mod EdgeChanges
 pub mod Ends
 pub mod Existence
 pub mod Filing
