@@ -6,3 +6,5 @@ pub mod Sums
 pub mod Final
 pub mod Ordered
 pub mod Holding
+pub mod Arranging
+pub mod Keeping

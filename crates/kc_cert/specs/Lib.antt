@@ -1,3 +1,4 @@
 pub mod Conditions
 pub mod Local
 pub mod Ranks
+pub mod Stands

@@ -3,7 +3,11 @@
 //! `check` tells for lists of any length and content whether they meet the certificate of `kc_graph`
 //! (`kc_graph/specs/Certificate.antt`), in time linear in the edges. What it accepts are the core numbers (Seidman 1983), by the law of
 //! that certificate. `conditions` has one function for each condition, with its own exact contract, and `specs/Conditions.antt` their
-//! names. The crate stands on `kc_graph` and `kc_lists`.
+//! names.
+//!
+//! A plan of an update needs no whole check. It passes the local test of `specs/Local.antt` where its moves fit and the certificate
+//! holds at the ends of the edge, at the vertices that move and at their neighbours. `local_plans_keep_the_certificate` is the law that a
+//! certified state stays certified then. `State` is what such a test asks of a state. The crate stands on `kc_graph` and `kc_lists`.
 #![tactic(auto)]
 
 mod conditions;
@@ -14,6 +18,10 @@ mod tests;
 ghost use Rattle.std.specs.Prelude.{◌≡◌, ◌↔◌, IfOk, IsTrue};
 ghost use Rattle.kc_graph.specs.Certificate.{Certifies};
 ghost use Rattle.kc_graph.specs.Core.{AreCoreNumbers};
+ghost use Rattle.kc_graph.specs.Lawful.{IsCertified, Ranked};
+ghost use Rattle.kc_graph.specs.Plans.{state_after};
+ghost use Rattle.kc_graph.specs.declared.plan.Plan.{Plan};
+ghost use Rattle.kc_cert.specs.Local.{IsLocal};
 
 use crate::conditions::{has_enough_as_high, has_few_later, is_enumeration, never_falls};
 use kc_graph::Graph;
@@ -39,3 +47,8 @@ pub fn check(alloc: Global, graph: &Graph, core: &[u32], order: &[u32]) -> Resul
     let enough_as_high = has_enough_as_high(graph, core);
     Ok(rising && few_later && enough_as_high)
 }
+
+/// A state stays certified after a plan that passes the local test in it.
+pub fn local_plans_keep_the_certificate()
+    ensures { (s : Ranked) (plan : Plan) → IsCertified s → IsLocal s plan → IsCertified (state_after plan s) }
+{}

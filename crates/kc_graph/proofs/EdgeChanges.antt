@@ -1,5 +1,5 @@
 -- Who is adjacent once an edge came or went.
-use Rattle.std.proofs.Common.{◌≡◌, ◌<◌, ℕ, Bool, true, false, cond, not, ◌&&◌, ◌||◌, ltb, refl, sym, ◌∙◌, ap, ap₂, inl, inr, arith, lt-ltb, le-ltb}
+use Rattle.std.proofs.Common.{◌≡◌, ◌<◌, ℕ, Bool, false, not, ◌&&◌, ◌||◌, ltb, refl, sym, ◌∙◌, ap, ap₂, inl, inr, arith, lt-ltb, le-ltb}
 use Rattle.std.specs.Cmp.{both_ways}
 use Rattle.std.specs.Ordering.{eq_by_cmp}
 use Rattle.std.specs.FinSet.{contains, insert, remove, contains-insert, contains-remove}

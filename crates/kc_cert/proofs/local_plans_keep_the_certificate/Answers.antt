@@ -1,0 +1,5 @@
+use Rattle.kc_cert.proofs.Keeping.{certified_after}
+use Rattle.kc_cert.proofs.local_plans_keep_the_certificate.Goals as goal
+
+pub returns : goal.returns
+returns c = certified_after
