@@ -1,8 +1,8 @@
 -- What a view kept, it keeps: lists and core numbers that were told stay, and a state that agrees now agreed before.
-use Rattle.std.proofs.Common.{◌≡◌, ◌≤◌, ◌<◌, ◌+◌, ℕ, suc, Bool, true, false, cond, List, [], ◌∷◌, ◌++◌, length, get_or, eqb, ltb, refl, sym, ◌∙◌, ap, subst, inl, inr, arith, eqb-true, le_refl, le_trans}
-use Rattle.std.specs.Prelude.{All, Option, Some, None, is_some}
+use Rattle.std.proofs.Common.{◌≡◌, ◌<◌, ℕ, suc, true, false, cond, List, [], ◌∷◌, ◌++◌, get_or, eqb, ltb, refl, sym, ◌∙◌, ap, subst, arith, eqb-true, le_refl, le_trans}
+use Rattle.std.specs.Prelude.{All, Some, is_some}
 use Rattle.std.specs.Option.{unwrap_or}
-use Rattle.std.proofs.lemmas.Bool.{cases_Bool, false≢true}
+use Rattle.std.proofs.lemmas.Bool.{false≢true}
 use Rattle.std.proofs.lemmas.List.{append_assoc, append-nil, get_or_append_left, length-append}
 use Rattle.kc_lists.specs.Lists.{place_of}
 use Rattle.kc_graph.specs.Lawful.{Ranked}
@@ -57,11 +57,11 @@ same_core old new w f h = ap (λ o. unwrap_or o 0) (core-same old new w f h)
 pub agreed : (old new : Answers) (s : Ranked) → Further old new → Agrees new s → Agrees old s
 agreed old new s f a = record {
   edges = All-front (λ e. (e.vertex < s.graph.size) × (e.neighbours ≡ neighbours_of s.graph e.vertex)) old.edges f.edges.0
-  (subst (All (λ e. (e.vertex < s.graph.size) × (e.neighbours ≡ neighbours_of s.graph e.vertex))) f.edges.1 a.edges);
+      (subst (All (λ e. (e.vertex < s.graph.size) × (e.neighbours ≡ neighbours_of s.graph e.vertex))) f.edges.1 a.edges);
   places = All-front (λ p. (p.vertex < s.graph.size) × (p.core ≡ get_or s.core p.vertex 0)) old.places f.places.0
-  (subst (All (λ p. (p.vertex < s.graph.size) × (p.core ≡ get_or s.core p.vertex 0))) f.places.1 a.places);
+      (subst (All (λ p. (p.vertex < s.graph.size) × (p.core ≡ get_or s.core p.vertex 0))) f.places.1 a.places);
   orders = All-front (λ o. (o.x < s.graph.size) × (o.y < s.graph.size) × (o.before ≡ ltb (place_of o.x s.order) (place_of o.y s.order))) old.orders f.orders.0
-  (subst (All (λ o. (o.x < s.graph.size) × (o.y < s.graph.size) × (o.before ≡ ltb (place_of o.x s.order) (place_of o.y s.order)))) f.orders.1 a.orders);
+      (subst (All (λ o. (o.x < s.graph.size) × (o.y < s.graph.size) × (o.before ≡ ltb (place_of o.x s.order) (place_of o.y s.order)))) f.orders.1 a.orders);
 }
 
 pub Further-refl : (a : Answers) → Further a a

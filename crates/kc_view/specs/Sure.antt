@@ -1,5 +1,5 @@
 -- When a plan is right wherever its answers are.
-use Rattle.std.specs.Prelude.{◌≡◌, ◌<◌, ◌⊎◌, ◌++◌, ℕ, Bool, true, false, List, [], slice_index, nat_eq, nat_lt, All, if◌then◌else◌}
+use Rattle.std.specs.Prelude.{◌≡◌, ◌<◌, ◌⊎◌, ◌++◌, ℕ, Bool, true, false, List, [], slice_index, nat_lt, All, if◌then◌else◌}
 use Rattle.std.specs.List.{list_any}
 use Rattle.kc_lists.specs.Lists.{member, Distinct, place_of}
 use Rattle.kc_graph.specs.SimpleGraph.{SimpleGraph, adjacent}
@@ -37,7 +37,7 @@ pub record IsSparing (s : Ranked) (plan : Plan) : Type 0 where
   pub kept : is_applied plan.update s.graph ≡ false → moved_vertices plan.moves ≡ []
   pub inserted : plan.update.add ≡ true → (x : ℕ) → member x (moved_vertices plan.moves) ≡ true → InForward s plan.update x
   pub removed : plan.update.add ≡ false → is_applied plan.update s.graph ≡ true → (core : List ℕ) → AreCoreNumbers (updated plan.update s.graph) core
-    → (x : ℕ) → x < s.graph.size → member x (moved_vertices plan.moves) ≡ nat_lt (slice_index core x) (slice_index s.core x)
+      → (x : ℕ) → x < s.graph.size → member x (moved_vertices plan.moves) ≡ nat_lt (slice_index core x) (slice_index s.core x)
 
 -- In every certified state of which its answers are true, the plan passes the local test and moves no more than it should.
 abbrev pub IsSure : Plan → Type 0

@@ -1,5 +1,5 @@
 -- What contracts see of a view, and what each call on one leaves.
-use Rattle.std.specs.Prelude.{◌≡◌, ◌≢◌, ◌≤◌, ◌+◌, ◌-◌, ◌^◌, ⊤, ◌⊎◌, ◌++◌, ℕ, true, false, min, List}
+use Rattle.std.specs.Prelude.{◌≡◌, ◌≢◌, ◌≤◌, ◌+◌, ◌-◌, ◌^◌, ⊤, ◌++◌, ℕ, true, false, min, List}
 use Rattle.kc_words.specs.declared.again.Again.{Again}
 use Rattle.kc_graph.specs.declared.used.UsedEdges.{UsedEdges}
 use Rattle.kc_graph.specs.declared.used.UsedPlace.{UsedPlace}
