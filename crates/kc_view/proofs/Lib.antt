@@ -1,2 +1,4 @@
 pub mod Among
+pub mod Ascending
 pub mod Keeping
+pub mod Marking

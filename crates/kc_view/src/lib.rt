@@ -1,8 +1,18 @@
-//! What a planner of updates asks of a graph, and what it answers.
+//! What a planner of updates asks of a graph, and what it is answered.
+//!
+//! A `View` shows a graph with core numbers and an order by single answers: the list of a vertex, its core number, and which of two
+//! vertices stands first. It keeps each answer, so that a plan can be handed on with all that it rests on. The answers need not be
+//! those of one state, and a call may miss.
+//!
+//! `specs/Answers.antt` says what was asked and answered, and when a state agrees with it; `Views.antt` says what each call leaves;
+//! `Sure.antt` says when a plan is right wherever its answers are. `PlainView` is a view of a graph at rest: it never misses, and all
+//! its answers are true of that graph. The crate stands on `kc_graph`, and its definitions on `kc_lists`, `kc_words` and `kc_cert`.
 #![tactic(auto)]
 
 mod fault;
+mod plain;
 mod view;
 
 pub use fault::{PlanFault, ViewFault};
+pub use plain::PlainView;
 pub use view::View;

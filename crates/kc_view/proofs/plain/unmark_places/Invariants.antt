@@ -1,0 +1,6 @@
+use Rattle.std.proofs.Common.{◌≡◌, ◌&&◌, ℕ, not, is_some, false, slice_index_or, take}
+use Rattle.kc_view.specs.Answers.{core_in}
+use Rattle.kc_view.proofs.plain.unmark_places.Given as goal
+
+abbrev pub invariant-loop-place : goal.invariant-loop-place
+invariant-loop-place l = (w : ℕ) → slice_index_or l.is_placed w false ≡ (slice_index_or l.fn.is_placed w false && not (is_some (core_in w (take l.place-index l.places))))
