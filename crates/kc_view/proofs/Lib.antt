@@ -1,4 +1,5 @@
 pub mod Among
 pub mod Ascending
 pub mod Keeping
+pub mod Looking
 pub mod Marking

@@ -20,7 +20,7 @@ use Rattle.kc_view.specs.Plain.{Keeps}
 use Rattle.kc_view.proofs.Ascending.{neighbours-are}
 use Rattle.kc_view.proofs.Keeping.{still_has_list, still_has_core, list-true}
 
-list_in-push : (w : ℕ) (xs : List UsedEdges) (e : UsedEdges) → is_some (list_in w xs) ≡ false → list_in w (xs ++ e ∷ []) ≡ cond (eqb w e.vertex) (Some e.neighbours) None
+pub list_in-push : (w : ℕ) (xs : List UsedEdges) (e : UsedEdges) → is_some (list_in w xs) ≡ false → list_in w (xs ++ e ∷ []) ≡ cond (eqb w e.vertex) (Some e.neighbours) None
 list_in-push w [] e h = refl
 list_in-push w (x ∷ xs) e h =
     elim (eqb w x.vertex) as (λ b. is_some (cond b (Some x.neighbours) (list_in w xs)) ≡ false → cond b (Some x.neighbours) (list_in w (xs ++ e ∷ [])) ≡ cond (eqb w e.vertex) (Some e.neighbours) None) [
@@ -28,7 +28,7 @@ list_in-push w (x ∷ xs) e h =
       | false ↦ λ k. list_in-push w xs e k
     ] h
 
-core_in-push : (w : ℕ) (xs : List UsedPlace) (p : UsedPlace) → is_some (core_in w xs) ≡ false → core_in w (xs ++ p ∷ []) ≡ cond (eqb w p.vertex) (Some p.core) None
+pub core_in-push : (w : ℕ) (xs : List UsedPlace) (p : UsedPlace) → is_some (core_in w xs) ≡ false → core_in w (xs ++ p ∷ []) ≡ cond (eqb w p.vertex) (Some p.core) None
 core_in-push w [] p h = refl
 core_in-push w (x ∷ xs) p h =
     elim (eqb w x.vertex) as (λ b. is_some (cond b (Some x.core) (core_in w xs)) ≡ false → cond b (Some x.core) (core_in w (xs ++ p ∷ [])) ≡ cond (eqb w p.vertex) (Some p.core) None) [

@@ -6,3 +6,5 @@ pub mod PlainCode
 pub mod Search
 pub mod Sure
 pub mod Views
+pub mod Whim
+pub mod WhimCode

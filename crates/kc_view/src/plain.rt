@@ -1,10 +1,11 @@
 //! A view of a graph at rest.
-ghost use Rattle.std.specs.Prelude.{◌≡◌, ◌<◌, ◌++◌, ◌&&◌, ℕ, not, is_some, false, [], ◌∷◌, All, IfOk, OnOk, OnErr, length, slice_index_or};
+ghost use Rattle.std.specs.Prelude.{◌≡◌, ◌<◌, ◌&&◌, ℕ, not, is_some, false, All, IfOk, length, slice_index_or};
 ghost use Rattle.kc_view.specs.Answers.{nothing_answered, list_in, core_in};
 
 use crate::fault::ViewFault;
+use crate::keep::{keep_list, keep_order, keep_place};
 use crate::view::View;
-use kc_graph::{Lawful, Neighbours, NoMemory, Used, UsedEdges, UsedOrder, UsedPlace};
+use kc_graph::{Lawful, NoMemory, Used, UsedEdges, UsedOrder, UsedPlace};
 use std::alloc::Global;
 use std::marker::Model;
 use std::mem;
@@ -109,49 +110,6 @@ impl View for PlainView<'_> {
             orders: mem::replace(&mut self.orders, Vec::new(self.alloc)),
         }
     }
-}
-
-/// Keeps the list of a vertex. Where there is no memory for it, what was kept stays as it was.
-fn keep_list(
-    alloc: Global,
-    edges: &mut Vec<UsedEdges>,
-    vertex: u32,
-    list: &[u32],
-) -> Result<(), NoMemory>
-    ensures ok { OnOk result (edges.new.items ≡ edges.old.items ++ record { vertex = vertex; at = 0; neighbours = list.now } ∷ []) }
-    ensures err { OnErr result (edges.new.items ≡ edges.old.items) }
-{
-    let neighbours = Neighbours::copy_of(alloc, list)?;
-    let at = 0;
-    edges.push(UsedEdges {
-        vertex,
-        at,
-        neighbours,
-    })?;
-    Ok(())
-}
-
-/// Keeps the core number of a vertex. Where there is no memory for it, what was kept stays as it was.
-fn keep_place(places: &mut Vec<UsedPlace>, vertex: u32, core: u32) -> Result<(), NoMemory>
-    ensures ok { OnOk result (places.new.items ≡ places.old.items ++ record { vertex = vertex; stamp = 0; core = core } ∷ []) }
-    ensures err { OnErr result (places.new.items ≡ places.old.items) }
-{
-    let stamp = 0;
-    places.push(UsedPlace {
-        vertex,
-        stamp,
-        core,
-    })?;
-    Ok(())
-}
-
-/// Keeps the order of two vertices. Where there is no memory for it, what was kept stays as it was.
-fn keep_order(orders: &mut Vec<UsedOrder>, x: u32, y: u32, before: bool) -> Result<(), NoMemory>
-    ensures ok { OnOk result (orders.new.items ≡ orders.old.items ++ record { x = x; y = y; before = before } ∷ []) }
-    ensures err { OnErr result (orders.new.items ≡ orders.old.items) }
-{
-    orders.push(UsedOrder { x, y, before })?;
-    Ok(())
 }
 
 /// Takes the mark from each vertex whose list was kept.
