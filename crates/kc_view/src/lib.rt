@@ -14,6 +14,8 @@ mod draws;
 mod fault;
 mod keep;
 mod plain;
+#[cfg(test)]
+mod tests;
 mod view;
 mod whim;
 

@@ -1,0 +1,158 @@
+//! Both views, each call with its answer.
+ghost use Rattle.std.specs.Prelude.{◌≢◌, ◌<◌};
+
+use crate::{PlainView, View, ViewFault, WhimView};
+use kc_graph::{Graph, Lawful, Used, UsedOrder, UsedPlace, decompose};
+use kc_words::Again;
+use std::alloc::Global;
+use std::process::Abort;
+use std::test::Fail;
+
+/// A triangle with a tail, and a vertex alone. The core numbers are 2, 2, 2, 1 and 0.
+fn triangle_with_a_tail<R: Abort + AllocGlobal>(rt: &R) -> Result<Lawful, Fail> {
+    let mut graph = Graph::new(rt.alloc(), 5)?;
+    for (u, v) in [(0, 1), (0, 2), (1, 2), (2, 3)] {
+        assert!(rt; u != v && u < graph.vertices() && v < graph.vertices());
+        graph.add(u, v)?;
+    }
+    Ok(decompose(rt.alloc(), &graph)?)
+}
+
+/// The list of a vertex, asked entry by entry.
+fn list_of<V: View>(alloc: Global, view: &mut V, w: u32) -> Result<Vec<u32>, Fail>
+    requires { w < (V.shown view.old).size }
+{
+    let degree = view.degree(w)?;
+    let mut list = Vec::new(alloc);
+    for i in 0..degree {
+        list.push(view.neighbour(w, i))?;
+    }
+    Ok(list)
+}
+
+/// Two core numbers and an order.
+fn compared<V: View>(view: &mut V, x: u32, y: u32) -> Result<(u32, u32, bool), ViewFault>
+    requires differ { x ≢ y }
+    requires first { x < (V.shown view.old).size }
+    requires second { y < (V.shown view.old).size }
+{
+    let first = view.core(x)?;
+    let second = view.core(y)?;
+    let before = view.precedes(x, y)?;
+    Ok((first, second, before))
+}
+
+/// The lists of these vertices were asked, and nothing else.
+fn assert_lists<R: Abort>(rt: &R, used: &Used, vertices: &[u32]) {
+    assert_eq!(rt; used.edges.len(), vertices.len());
+    for (list, vertex) in used.edges.iter().zip(vertices) {
+        assert_eq!(rt; (list.vertex, list.at), (*vertex, 0));
+    }
+    assert!(rt; used.places.is_empty() && used.orders.is_empty());
+}
+
+#[test]
+fn lists_of_a_graph_at_rest(rt: HostRuntime) -> Result<(), Fail> {
+    let lawful = triangle_with_a_tail(&rt)?;
+    let mut view = PlainView::new(rt.alloc(), &lawful)?;
+    for (w, list) in [
+        (2, [0, 1, 3].as_slice()),
+        (4, [].as_slice()),
+        (0, [1, 2].as_slice()),
+        (2, [0, 1, 3].as_slice()),
+    ] {
+        assert!(rt; w < view.state().graph().vertices());
+        assert_eq!(rt;
+            list_of(rt.alloc(), &mut view, w)?.as_slice(),
+            list,
+            "at {w}"
+        );
+    }
+    assert_lists(&rt, &view.used(), &[2, 4, 0]);
+    assert_lists(&rt, &view.used(), &[]);
+    Ok(())
+}
+
+#[test]
+fn orders_of_a_graph_at_rest(rt: HostRuntime) -> Result<(), Fail> {
+    let lawful = triangle_with_a_tail(&rt)?;
+    let mut view = PlainView::new(rt.alloc(), &lawful)?;
+    for (x, y, answer) in [(3, 0, (1, 2, true)), (0, 3, (2, 1, false))] {
+        let vertices = view.state().graph().vertices();
+        assert!(rt; x != y && x < vertices && y < vertices);
+        assert_eq!(rt; compared(&mut view, x, y)?, answer);
+    }
+    let used = view.used();
+    let places = [(3, 1), (0, 2)];
+    assert!(rt; used.places.iter().map(|p| (p.vertex, p.core)).eq(places));
+    let orders = [(3, 0, true), (0, 3, false)];
+    assert!(rt; used.orders.iter().map(|o| (o.x, o.y, o.before)).eq(orders));
+    assert_lists(&rt, &view.used(), &[]);
+    Ok(())
+}
+
+/// The two loads that misses tell of here.
+fn again() -> Again
+    ensures { result.first ≢ result.second }
+{
+    Again {
+        word: 4,
+        first: 1,
+        second: 2,
+    }
+}
+
+#[test]
+fn lists_of_a_whim_fit_no_graph(rt: HostRuntime) -> Result<(), Fail> {
+    let mut view = WhimView::new(rt.alloc(), 9, 7, None, again());
+    let mut one_way = false;
+    for x in 1..9 {
+        assert!(rt; x < view.vertices());
+        let there = list_of(rt.alloc(), &mut view, x)?;
+        assert!(rt; 0 < view.vertices());
+        let back = list_of(rt.alloc(), &mut view, 0)?;
+        assert!(rt; !there.contains(&x) && !back.contains(&0));
+        one_way = one_way || there.contains(&0) != back.contains(&x);
+    }
+    assert!(rt; one_way);
+    assert_lists(&rt, &view.used(), &[1, 0, 2, 3, 4, 5, 6, 7, 8]);
+    assert_lists(&rt, &view.used(), &[]);
+    Ok(())
+}
+
+#[test]
+fn orders_of_a_whim_change(rt: HostRuntime) -> Result<(), Fail> {
+    let mut view = WhimView::new(rt.alloc(), 2, 3, None, again());
+    let mut answers = [false, false];
+    for _ in 0..20 {
+        assert!(rt; 1 < view.vertices());
+        let (_, _, before) = compared(&mut view, 0, 1)?;
+        answers[before as usize] = true;
+    }
+    assert_eq!(rt; answers, [true, true]);
+    let used = view.used();
+    assert_eq!(rt; (used.places.len(), used.orders.len()), (2, 20));
+    assert_lists(&rt, &view.used(), &[]);
+    Ok(())
+}
+
+/// The first of six calls that misses.
+fn first_miss<R: Abort + AllocGlobal>(rt: &R, patience: Option<u64>) -> Option<u64> {
+    let mut view = WhimView::new(rt.alloc(), 3, 1, patience, again());
+    for call in 0..6u64 {
+        assert!(rt; 2 < view.vertices());
+        if let Err(fault) = view.core(2) {
+            assert_eq!(rt; fault, ViewFault::Miss(again()));
+            return Some(call);
+        }
+    }
+    None
+}
+
+#[test]
+fn the_call_that_is_to_miss_misses(rt: HostRuntime) {
+    for patience in 0..4u64 {
+        assert_eq!(rt; first_miss(&rt, Some(patience)), Some(patience));
+    }
+    assert_eq!(rt; first_miss(&rt, None), None);
+}
