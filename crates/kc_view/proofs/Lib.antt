@@ -1,5 +1,4 @@
 pub mod Among
-pub mod Ascending
 pub mod Keeping
 pub mod Looking
 pub mod Marking

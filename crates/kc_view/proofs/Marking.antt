@@ -17,7 +17,7 @@ use Rattle.kc_view.specs.Answers.{Answers, Agrees, list_in, core_in, has_list, h
 use Rattle.kc_view.specs.Lists.{IsListOf}
 use Rattle.kc_view.specs.Views.{Further, TellsList, TellsCore}
 use Rattle.kc_view.specs.Plain.{Keeps}
-use Rattle.kc_view.proofs.Ascending.{neighbours-are}
+use Rattle.kc_graph.proofs.NeighbourLists.{neighbours_are}
 use Rattle.kc_view.proofs.Keeping.{still_has_list, still_has_core, list-true}
 
 pub list_in-push : (w : ℕ) (xs : List UsedEdges) (e : UsedEdges) → is_some (list_in w xs) ≡ false → list_in w (xs ++ e ∷ []) ≡ cond (eqb w e.vertex) (Some e.neighbours) None
@@ -74,7 +74,7 @@ pub keeps_list : (s : Ranked) (a : Answers) (listed placed : List Bool) (e : Use
 keeps_list s a listed placed e k l near = record {
   few = k.few;
   agrees = record {
-    edges = All-push (λ (x : UsedEdges). (x.vertex < s.graph.size) × (x.neighbours ≡ neighbours_of s.graph x.vertex)) a.edges e k.agrees.edges (l, neighbours-are s.graph e.vertex e.neighbours near);
+    edges = All-push (λ (x : UsedEdges). (x.vertex < s.graph.size) × (x.neighbours ≡ neighbours_of s.graph x.vertex)) a.edges e k.agrees.edges (l, neighbours_are s.graph e.vertex e.neighbours near);
     places = k.agrees.places;
     orders = k.agrees.orders;
   };
@@ -164,4 +164,4 @@ unmark_place marks old xs i p l is v was =
 
 -- the neighbours of a vertex whose list was kept
 pub same_neighbours : (s : Ranked) (a : Answers) (w : ℕ) (ws : List ℕ) → Agrees a s → AreNeighbours s.graph w ws → has_list a w ≡ true → ws ≡ list_of a w
-same_neighbours s a w ws agrees near told = neighbours-are s.graph w ws near ∙ sym (list-true a s w agrees told).1
+same_neighbours s a w ws agrees near told = neighbours_are s.graph w ws near ∙ sym (list-true a s w agrees told).1
