@@ -8,3 +8,5 @@ pub mod Ordered
 pub mod Holding
 pub mod Arranging
 pub mod Keeping
+pub mod Chaining
+pub mod Listing

@@ -48,7 +48,8 @@ Ascends-without r x (y ∷ ys) a =
       | false ↦ (λ z m. a.0 z (member-without z x ys m).0, Ascends-without r x ys a.1)
     ]
 
-placed_has : (x w : ℕ) (ys : List ℕ) → member w ys ≡ true → (z : ℕ) → member z (right_after x w ys) ≡ (member z ys || eqb z x)
+-- what stands in a list once a number is put right after another
+pub placed_has : (x w : ℕ) (ys : List ℕ) → member w ys ≡ true → (z : ℕ) → member z (right_after x w ys) ≡ (member z ys || eqb z x)
 placed_has x w [] m z = absurd (false≢true m)
 placed_has x w (y ∷ ys) m z =
     elim (eqb w y) as (λ b. eqb w y ≡ b → member z (cond b (y ∷ x ∷ ys) (y ∷ right_after x w ys)) ≡ (eqb z y || member z ys || eqb z x)) [

@@ -1,4 +1,6 @@
+pub mod Arrangements
 pub mod Conditions
 pub mod Local
 pub mod Ranks
+pub mod Shifting
 pub mod Stands

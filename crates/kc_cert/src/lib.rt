@@ -10,7 +10,9 @@
 //! certified state stays certified then. `State` is what such a test asks of a state. The crate stands on `kc_graph` and `kc_lists`.
 #![tactic(auto)]
 
+mod chains;
 mod conditions;
+mod places;
 mod state;
 #[cfg(test)]
 mod tests;
