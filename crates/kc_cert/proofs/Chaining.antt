@@ -1,13 +1,13 @@
 -- The comparison by chains is that of the ranks after the shifts.
-use Rattle.std.proofs.Common.{◌≡◌, ◌≢◌, ◌≤◌, ◌<◌, ◌+◌, ◌⊎◌, ℕ, suc, zero, Bool, true, false, cond, not, ◌&&◌, ◌||◌, List, [], ◌∷◌, ◌++◌, Option, Some, None, length, get_or, drop, subst, eqb, ltb, leb, refl, sym, ◌∙◌, ap, ap₂, inl, inr, arith, true≢false, eq-eqb, ne_eqb, eqb-true, lt-ltb}
+use Rattle.std.proofs.Common.{◌≡◌, ◌≢◌, ◌<◌, ◌+◌, ℕ, suc, zero, Bool, true, false, cond, not, ◌||◌, List, [], ◌∷◌, ◌++◌, Option, Some, None, length, get_or, drop, subst, eqb, ltb, refl, sym, ◌∙◌, ap, ap₂, inl, inr, arith, true≢false, eq-eqb, ne_eqb, eqb-true, lt-ltb}
 use Rattle.std.specs.Prelude.{is_some, unwrap_or}
 use Rattle.std.specs.List.{insert}
 use Rattle.std.proofs.lemmas.List.{drop_more}
 use mathlib.Core.Path.{fun_ext}
-use Rattle.std.proofs.lemmas.Bool.{cases_Bool, cases_eq, cases_order, cases_lt, or_parts, or_cases, or_right, or_left, or_from, false≢true, ltb-true, ltb-false, le-ltb, eqb-false, false_from_ne_true, true_from_ne_false}
+use Rattle.std.proofs.lemmas.Bool.{cases_Bool, cases_eq, cases_lt, or_cases, or_right, or_left, or_from, false≢true, le-ltb, true_from_ne_false}
 use Rattle.kc_lists.specs.Lists.{member, Distinct, right_after, place_of}
-use Rattle.kc_lists.proofs.Members.{member-head, member-tail, member-cases, not_member-cons, not_member-parts, member-right_after, right_after-member, Distinct-right_after}
-use Rattle.kc_lists.proofs.Counting.{member-push, member-push_left, member-push_cases, Distinct-push, member-other, member-get_or}
+use Rattle.kc_lists.proofs.Members.{member-head, member-tail, not_member-parts, Distinct-right_after}
+use Rattle.kc_lists.proofs.Counting.{member-push, member-push_cases, Distinct-push, member-other, member-get_or}
 use Rattle.kc_cert.specs.Local.{firsts, seconds, AreInTurn}
 use Rattle.kc_cert.specs.Ranks.{moved, place_after}
 use Rattle.kc_cert.specs.Shifting.{place_in, anchor_of, with_anchor, line_with, home_with, line_after, home_after, no_home, chain_after}
@@ -406,8 +406,7 @@ linked_next shifts i line line' home home' l h e f =
     let next : drop i shifts ≡ p ∷ rest = drop_more shifts i (0, 0) l in
     let g : home' ≡ home_with p.0 p.1 home = fun_ext f in
     let more : Linked (line_with p.0 p.1 line) (home_with p.0 p.1 home) rest = linked_more line home p rest (subst (λ (t : List (ℕ × ℕ)). Linked line home t) next h) in
-    let at : Linked line' (home_with p.0 p.1 home) rest = subst (λ (t : List ℕ). Linked t (home_with p.0 p.1 home) rest) (sym e) more in
-    (
+    let at : Linked line' (home_with p.0 p.1 home) rest = subst (λ (t : List ℕ). Linked t (home_with p.0 p.1 home) rest) (sym e) more in (
       subst (λ (t : ℕ → Option ℕ). Linked line' t rest) (sym g) at,
       ap (λ (t : List ℕ). line_after t rest) e ∙ ap (line_after line) (sym next),
       ap (λ (t : ℕ → Option ℕ). home_after t rest) g ∙ ap (home_after home) (sym next),

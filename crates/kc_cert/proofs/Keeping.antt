@@ -24,7 +24,7 @@ use Rattle.kc_cert.proofs.Ordered.{enumerates, few-ranked, enough-below}
 use Rattle.kc_cert.proofs.Holding.{holds-from}
 use Rattle.kc_cert.proofs.Arranging.{Arranged, arranged, Orders-pairs}
 
-ends_differ : (update : Update) → update.u ≡ update.v → ⊥
+pub ends_differ : (update : Update) → update.u ≡ update.v → ⊥
 ends_differ update e = let l : update.u < update.v = update.ordered in omega arith
 
 -- who is adjacent after an update
@@ -40,7 +40,7 @@ same_either_way : (add a e u v : Bool) (j k : Bool) → u ≡ false → v ≡ fa
 same_either_way add a e u v j k hu hv h = grind arith
 
 -- the neighbours of a vertex that is no end stay
-adjacent-elsewhere : (update : Update) (g : SimpleGraph) (z y : ℕ) → eqb z update.u ≡ false → eqb z update.v ≡ false → adjacent (updated update g) z y ≡ adjacent g z y
+pub adjacent-elsewhere : (update : Update) (g : SimpleGraph) (z y : ℕ) → eqb z update.u ≡ false → eqb z update.v ≡ false → adjacent (updated update g) z y ≡ adjacent g z y
 adjacent-elsewhere update g z y a b =
     same_either_way update.add (adjacent g z y) (adjacent (updated update g) z y) (eqb z update.u) (eqb z update.v) (eqb y update.v) (eqb y update.u) a b (adjacent-updated update g z y)
 
@@ -50,7 +50,7 @@ adjacent-after update Plain g z y a b = adjacent-elsewhere update g z y a b
 adjacent-after update (Rise level rise shifts) g z y a b = adjacent-elsewhere update g z y a b
 adjacent-after update (Fall level fall) g z y a b = adjacent-elsewhere update g z y a b
 
-size-updated : (update : Update) (g : SimpleGraph) → (updated update g).size ≡ g.size
+pub size-updated : (update : Update) (g : SimpleGraph) → (updated update g).size ≡ g.size
 size-updated update g =
     elim update.add as (λ b. (let h : SimpleGraph = cond b (with_edge g update.u update.v) (without_edge g update.u update.v) in h.size) ≡ g.size) [ true ↦ refl | false ↦ refl ]
 

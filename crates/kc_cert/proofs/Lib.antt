@@ -10,3 +10,7 @@ pub mod Arranging
 pub mod Keeping
 pub mod Chaining
 pub mod Listing
+pub mod Turns
+pub mod Asking
+pub mod Tallying
+pub mod Looking

@@ -1,10 +1,10 @@
 -- Places in a list, one number after the other.
-use Rattle.std.proofs.Common.{◌≡◌, ◌≢◌, ℕ, suc, Bool, true, false, cond, ◌||◌, List, [], ◌∷◌, ◌++◌, Option, Some, None, length, eqb, refl, sym, ◌∙◌, ap, ap₂, inl, inr, arith, true≢false, eq-eqb, ne_eqb, eqb-true}
+use Rattle.std.proofs.Common.{◌≡◌, ◌≢◌, ℕ, suc, Bool, true, false, cond, ◌||◌, List, [], ◌∷◌, ◌++◌, Some, None, length, eqb, refl, sym, ◌∙◌, ap, ap₂, inl, inr, arith, true≢false, eq-eqb, ne_eqb}
 use Rattle.std.specs.Prelude.{is_some}
-use Rattle.std.proofs.lemmas.Bool.{cases_Bool, cases_eq, false≢true, false_from_ne_true, or_right}
+use Rattle.std.proofs.lemmas.Bool.{cases_eq, false≢true, false_from_ne_true, or_right}
 use Rattle.kc_lists.specs.Lists.{member, Distinct, place_of}
-use Rattle.kc_lists.proofs.Members.{member-head, member-tail, not_member-parts}
-use Rattle.kc_lists.proofs.Counting.{member-push, member-push_left, member-other, Distinct-push}
+use Rattle.kc_lists.proofs.Members.{not_member-parts}
+use Rattle.kc_lists.proofs.Counting.{member-push, member-push_left, member-other}
 use Rattle.kc_cert.specs.Shifting.{place_in}
 use Rattle.kc_cert.proofs.Chaining.{place_of-push, place_of-first, place_of-next}
 
@@ -41,7 +41,7 @@ pub place_in-push : (x q : ℕ) (xs : List ℕ) → member x xs ≡ false → pl
 place_in-push x q xs n = elim (cases_eq x q) [
   | inl e ↦
       let here : place_in (xs ++ x ∷ []) x ≡ Some (length xs) =
-          ap₂ (λ (t : Bool) (k : ℕ). cond t (Some k) None) (member-push x x xs ∙ or_right (member x xs) (eqb x x) (eq-eqb x x refl)) (place_of-end x xs n) in
+      ap₂ (λ (t : Bool) (k : ℕ). cond t (Some k) None) (member-push x x xs ∙ or_right (member x xs) (eqb x x) (eq-eqb x x refl)) (place_of-end x xs n) in
       ap (place_in (xs ++ x ∷ [])) (sym e) ∙ (here ∙ sym (ap (λ b. cond b (Some (length xs)) (place_in xs q)) (eq-eqb x q e)))
   | inr ne ↦ other-push x q xs (λ e. absurd (ne (sym e))) ∙ sym (ap (λ b. cond b (Some (length xs)) (place_in xs q)) (ne_eqb x q ne))
 ]

@@ -5,6 +5,7 @@ use Rattle.kc_lists.specs.Lists.{Distinct}
 use Rattle.kc_graph.specs.declared.plan.Moves.{Moves}
 use Rattle.kc_cert.specs.declared.places.Places.{Places}
 use Rattle.kc_cert.specs.declared.chains.Chains.{Chains}
+use Rattle.kc_cert.specs.Stands.{leaving, shifts_of}
 use Rattle.kc_cert.specs.Shifting.{place_in, line_after, home_after, no_home}
 
 -- the places of the numbers of a list
@@ -16,3 +17,8 @@ pub record ArePlacesIn (list : List ℕ) (places : Places) : Type 0 where
 pub record AreChainsOf (shifts : List (ℕ × ℕ)) (chains : Chains) : Type 0 where
   pub anchors : (y : ℕ) → get nat_eq chains.anchors y ≡ home_after no_home shifts y
   pub places : (x : ℕ) → get nat_eq chains.places.of x ≡ place_in (line_after [] shifts) x
+
+-- the places of the vertices that leave their level, and the chains of the shifts
+pub record Shows (moves : Moves) (front : Places) (put : Chains) : Type 0 where
+  pub leaving : (x : ℕ) → get nat_eq front.of x ≡ place_in (leaving moves) x
+  pub shifted : AreChainsOf (shifts_of moves) put

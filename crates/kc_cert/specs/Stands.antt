@@ -1,6 +1,9 @@
 -- Where moves put the vertices, asked one at a time.
-use Rattle.std.specs.Prelude.{ℕ, ◌+◌, ◌-◌, Bool, false, List, [], nat_le, nat_lt, slice_index}
+use Rattle.std.specs.Prelude.{ℕ, ◌+◌, ◌-◌, Bool, false, not, ◌||◌, List, [], Option, None, Some, nat_eq, nat_le, nat_lt, slice_index, if◌then◌else◌}
+use Rattle.std.specs.Option.{option_eq}
 use Rattle.kc_graph.specs.Lawful.{Ranked}
+use Rattle.kc_graph.specs.Plans.{updated, moved_by}
+use Rattle.kc_graph.specs.declared.update.Update.{Update}
 use Rattle.kc_graph.specs.declared.plan.Moves.{Moves}
 use Rattle.kc_graph.specs.declared.plan.Moves.TheVariants.{Kept, Plain, Rise, Fall}
 use Rattle.kc_cert.specs.Ranks.{rank_in, place_after, then_after}
@@ -35,3 +38,15 @@ is_low (Fall level fall) core y = nat_lt (slice_index core y) level
 -- whether `y` stands after `z` once the moves are made
 abbrev pub stands_after : Moves → Ranked → ℕ → ℕ → Bool
 stands_after moves s z y = then_after (is_low moves s.core) (leaving moves) (rank_in (leaving moves)) (place_after (rank_in s.order) (shifts_of moves)) z y
+
+-- the other end of an update's edge, where `z` is one
+abbrev pub other_end : Update → ℕ → Option ℕ
+other_end update z = if nat_eq z update.u then Some update.v else (if nat_eq z update.v then Some update.u else None)
+
+-- whether a neighbour of `z` stays one
+abbrev pub keeps : Update → ℕ → ℕ → Bool
+keeps update z y = update.add || not (option_eq nat_eq (other_end update z) (Some y))
+
+-- all after an update that is applied, and moves
+abbrev pub changed_by : Update → Moves → Ranked → Ranked
+changed_by update moves s = record (moved_by moves s) { graph = updated update s.graph }

@@ -6,14 +6,20 @@
 //! names.
 //!
 //! A plan of an update needs no whole check. It passes the local test of `specs/Local.antt` where its moves fit and the certificate
-//! holds at the ends of the edge, at the vertices that move and at their neighbours. `local_plans_keep_the_certificate` is the law that a
-//! certified state stays certified then. `State` is what such a test asks of a state. The crate stands on `kc_graph` and `kc_lists`.
+//! holds at the ends of the edge, at the vertices that move and at their neighbours. `local_plans_keep_the_certificate` is the law that
+//! a certified state stays certified then, and `local_check` tells for any plan whether it passes, in any `State`, without making the
+//! moves: `fitting` has whether they fit, `chains` compares shifted vertices, `arrangement` all vertices, and `tally` counts at one
+//! (`specs/Stands.antt`, `Shifting.antt`). The crate stands on `kc_graph` and `kc_lists`.
 #![tactic(auto)]
 
+mod arrangement;
 mod chains;
 mod conditions;
+mod fitting;
+mod local;
 mod places;
 mod state;
+mod tally;
 #[cfg(test)]
 mod tests;
 
@@ -27,6 +33,7 @@ ghost use Rattle.kc_cert.specs.Local.{IsLocal};
 
 use crate::conditions::{has_enough_as_high, has_few_later, is_enumeration, never_falls};
 use kc_graph::Graph;
+pub use local::local_check;
 pub use state::State;
 pub use std::alloc::AllocError as NoMemory;
 use std::alloc::Global;

@@ -1,4 +1,4 @@
-use Rattle.std.proofs.Common.{◌≡◌, ℕ, List, [], drop, nat_eq}
+use Rattle.std.proofs.Common.{◌≡◌, [], drop, nat_eq}
 use Rattle.std.specs.HashMap.{get}
 use Rattle.kc_cert.specs.Shifting.{line_after, home_after, no_home}
 use Rattle.kc_cert.proofs.Chaining.{Linked}

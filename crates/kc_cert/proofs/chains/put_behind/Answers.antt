@@ -1,4 +1,4 @@
-use Rattle.std.proofs.Common.{◌≡◌, ℕ, List, length, get_or, sym, ◌∙◌, ap, arith}
+use Rattle.std.proofs.Common.{ℕ, List, length, get_or, sym, ◌∙◌, ap, arith}
 use Rattle.kc_cert.proofs.Chaining.{inserted-behind}
 use Rattle.kc_cert.proofs.chains.put_behind.Goals as goal
 
