@@ -1,0 +1,55 @@
+use Rattle.std.proofs.Common.{◌≡◌, ◌<◌, ℕ, Bool, true, List, [], ◌∷◌, length, eqb, refl, sym, ◌∙◌, ap, subst, arith, eqb-true}
+use Rattle.kc_lists.specs.Lists.{member}
+use Rattle.kc_graph.specs.SimpleGraph.{adjacent}
+use Rattle.kc_graph.specs.Lawful.{Ranked}
+use Rattle.kc_graph.proofs.NeighbourLists.{neighbours_has}
+use Rattle.kc_view.specs.Answers.{Answers, Agrees, has_list, list_of}
+use Rattle.kc_view.proofs.Keeping.{agreed, list-true}
+use Rattle.kc_remove.specs.Falling.{Asks}
+use Rattle.kc_remove.proofs.Sureness.{kept-sure, plain-sure, fall-sure, some-level}
+use Rattle.kc_remove.proofs.removal.moves_of.Goals as goal
+
+-- the first list tells whether the edge is there
+tells-edge : (a : Answers) (s : Ranked) (u v : ℕ) (b : Bool) → Agrees a s → has_list a u ≡ true → v < s.graph.size → b ≡ member v (list_of a u) → adjacent s.graph u v ≡ b
+tells-edge a s u v b agrees read l is = sym (is ∙ (ap (member v) (list-true a s u agrees read).1 ∙ neighbours_has s.graph u v l))
+
+no_items : (xs : List ℕ) (n : ℕ) (b : Bool) → length xs ≡ n → b ≡ eqb n 0 → b ≡ true → xs ≡ []
+no_items [] n b l e t = refl
+no_items (x ∷ xs) n b l e t = let k : n ≡ 0 = eqb-true n 0 (sym e ∙ t) in absurd (omega arith)
+
+pub returns-then-not-branch-clause-sure : goal.returns-then-not-branch-clause-sure
+returns-then-not-branch-clause-sure g c = λ s used h l a.
+    let e = c.in_ok-has_edge.ensures in
+    kept-sure c.args.update used s c.requires.removes h l (tells-edge (g.V.View.shown c.has_edge.new.view).kept s c.args.update.u c.args.update.v c.in_ok-has_edge.field-0 a e.read l e.told ∙ c.if-not-branch.true)
+
+pub returns-then-level-eq0-clause-sure : goal.returns-then-level-eq0-clause-sure
+returns-then-level-eq0-clause-sure g c = λ s used h l a.
+    let e = c.in_ok-has_edge.ensures in
+    let first = agreed _ _ s c.level_of.ensures.goes_on.further a in
+    let there : adjacent s.graph c.args.update.u c.args.update.v ≡ true = tells-edge (g.V.View.shown c.has_edge.new.view).kept s c.args.update.u c.args.update.v c.in_ok-has_edge.field-0 first e.read l e.told ∙ c.if-not-branch.false in
+    let some : 0 < c.in_ok-level.level = some-level c.args.update s c.in_ok-level.level h l there (c.in_ok-level.ensures.told s a) in
+    absurd (omega (arith, some, c.if-level-eq0.true))
+
+pub returns-then-is_empty-clause-asks : goal.returns-then-is_empty-clause-asks
+returns-then-is_empty-clause-asks g c =
+    let list = c.in_ok-list.field-0.list in
+    let none : list.items ≡ [] = no_items list.items list.len c.is_empty.result (sym list.ok.0) c.is_empty.ensures c.if-is_empty.true in
+    subst (Asks c.args.update (g.V.View.shown c.find_fallen.new.view).kept) none c.in_ok-list.ensures.tidy.asks
+
+pub returns-then-is_empty-clause-sure : goal.returns-then-is_empty-clause-sure
+returns-then-is_empty-clause-sure g c = λ s used h l a.
+    let e = c.in_ok-has_edge.ensures in
+    let second = agreed _ _ s c.find_fallen.ensures.goes_on.further a in
+    let first = agreed _ _ s c.level_of.ensures.goes_on.further second in
+    let there : adjacent s.graph c.args.update.u c.args.update.v ≡ true = tells-edge (g.V.View.shown c.has_edge.new.view).kept s c.args.update.u c.args.update.v c.in_ok-has_edge.field-0 first e.read l e.told ∙ c.if-not-branch.false in
+    let list = c.in_ok-list.field-0.list in
+    let none : list.items ≡ [] = no_items list.items list.len c.is_empty.result (sym list.ok.0) c.is_empty.ensures c.if-is_empty.true in
+    plain-sure c.args.update used s c.in_ok-level.level c.in_ok-list.field-0 c.requires.removes h l there (c.in_ok-level.ensures.told s second) (c.in_ok-list.ensures.ended s a) none
+
+pub returns-clause-sure : goal.returns-clause-sure
+returns-clause-sure g c = λ s used h l a.
+    let e = c.in_ok-has_edge.ensures in
+    let second = agreed _ _ s c.find_fallen.ensures.goes_on.further a in
+    let first = agreed _ _ s c.level_of.ensures.goes_on.further second in
+    let there : adjacent s.graph c.args.update.u c.args.update.v ≡ true = tells-edge (g.V.View.shown c.has_edge.new.view).kept s c.args.update.u c.args.update.v c.in_ok-has_edge.field-0 first e.read l e.told ∙ c.if-not-branch.false in
+    fall-sure c.args.update used s c.in_ok-level.level c.in_ok-list.field-0 c.requires.removes h l there (c.in_ok-level.ensures.told s second) (c.in_ok-list.ensures.ended s a)

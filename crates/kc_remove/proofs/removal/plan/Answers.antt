@@ -1,0 +1,15 @@
+use Rattle.std.proofs.Common.{sym, subst}
+use Rattle.kc_cert.specs.Local.{moved_vertices}
+use Rattle.kc_view.specs.Answers.{Answers, Agrees, answers_in}
+use Rattle.kc_remove.specs.Falling.{Asks}
+use Rattle.kc_remove.proofs.removal.plan.Goals as goal
+
+pub returns-clause-sure : goal.returns-clause-sure
+returns-clause-sure g c = λ s h l a.
+    c.in_ok-moves.ensures.sure s c.used-used.result h l (subst (λ (x : Answers). Agrees x s) c.used-used.ensures.all a)
+
+pub returns-clause-asked : goal.returns-clause-asked
+returns-clause-asked g c =
+    let asks : Asks c.args.update (answers_in c.used-used.result) (moved_vertices c.in_ok-moves.moves) =
+    subst (λ (x : Answers). Asks c.args.update x (moved_vertices c.in_ok-moves.moves)) (sym c.used-used.ensures.all) c.in_ok-moves.ensures.asks in
+    record { edges = asks.lists; orders = asks.orders }

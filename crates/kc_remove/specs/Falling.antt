@@ -1,0 +1,59 @@
+-- The visited and the fallen, and what holds of them.
+use Rattle.std.specs.Prelude.{◌≡◌, ◌≢◌, ◌<◌, ◌⊎◌, ◌++◌, ℕ, Bool, true, List, [], ◌∷◌, All, Some, is_some, length, nat_lt, if◌then◌else◌}
+use Rattle.std.specs.List.{list_any}
+use Rattle.kc_lists.specs.Lists.{member, Distinct}
+use Rattle.kc_graph.specs.Lawful.{Ranked}
+use Rattle.kc_graph.specs.declared.update.Update.{Update}
+use Rattle.kc_view.specs.Answers.{Answers, has_list, list_of}
+use Rattle.kc_view.specs.Search.{OnLevel}
+use Rattle.kc_view.specs.Sure.{is_listed}
+use Rattle.kc_view.specs.Views.{Shown}
+use Rattle.kc_remove.specs.Cascade.{Cascade, nobody}
+use Rattle.kc_remove.specs.Removed.{search_of, is_end}
+use Rattle.kc_remove.specs.Visits.{visit_of, support_in, seen_in, fallen_in}
+use Rattle.kc_remove.specs.declared.falling.Falling.{Falling}
+
+abbrev pub is_visited : Falling → ℕ → Bool
+is_visited f y = is_some (visit_of f.visits y)
+
+abbrev pub support_at : Falling → ℕ → ℕ
+support_at f y = support_in (visit_of f.visits y)
+
+abbrev pub seen_at : Falling → ℕ → ℕ
+seen_at f y = seen_in (visit_of f.visits y)
+
+abbrev pub has_fallen : Falling → ℕ → Bool
+has_fallen f y = fallen_in (visit_of f.visits y)
+
+-- `y` has this support now, and is put on the list if that is too little
+pub record Settles (level y support seen : ℕ) (old new : Falling) : Type 0 where
+  pub visit : visit_of new.visits y ≡ Some (record { support = support; seen = seen; fallen = nat_lt support level })
+  pub others : (z : ℕ) → z ≢ y → visit_of new.visits z ≡ visit_of old.visits z
+  pub list : new.list.items ≡ (if nat_lt support level then old.list.items ++ y ∷ [] else old.list.items)
+
+-- `y` is an end of the edge, or a neighbour of one that fell
+abbrev pub IsNear : Update → Answers → List ℕ → ℕ → Type 0
+IsNear update a fall y = (y ≡ update.u) ⊎ (y ≡ update.v) ⊎ (list_any (λ x. member y (list_of a x)) fall ≡ true)
+
+-- what was asked: lists of such vertices alone, core numbers of the ends and of neighbours of vertices whose lists were asked, no order
+pub record Asks (update : Update) (a : Answers) (fall : List ℕ) : Type 0 where
+  pub lists : All (λ e. IsNear update a fall e.vertex) a.edges
+  pub cores : All (λ p. (p.vertex ≡ update.u) ⊎ (p.vertex ≡ update.v) ⊎ (is_listed a p.vertex ≡ true)) a.places
+  pub orders : a.orders ≡ []
+
+-- what holds for every view
+pub record IsTidy (update : Update) (shown : Shown) (f : Falling) : Type 0 where
+  pub marked : (z : ℕ) → has_fallen f z ≡ member z f.list.items
+  pub once : Distinct f.list.items
+  pub within : (z : ℕ) → is_visited f z ≡ true → z < shown.size
+  pub listed : (z : ℕ) → is_visited f z ≡ true → has_list shown.kept z ≡ true
+  pub asks : Asks update shown.kept f.list.items
+
+-- what holds in a state that agrees with the answers
+abbrev pub FallsIn : Update → ℕ → Ranked → Falling → ℕ → (ℕ → Bool) → Type 0
+FallsIn update level s f turn part = Cascade (search_of update level s) f.list.items turn part (is_visited f) (support_at f) (seen_at f) nobody
+
+-- all turns are done, and each end of the level was visited
+pub record HasEnded (update : Update) (level : ℕ) (s : Ranked) (f : Falling) : Type 0 where
+  pub falls : FallsIn update level s f (length f.list.items) nobody
+  pub ends : (z : ℕ) → OnLevel (search_of update level s) z → is_end update z ≡ true → is_visited f z ≡ true

@@ -1,0 +1,5 @@
+pub mod Cascade
+pub mod Falling
+pub mod Removed
+pub mod Sure
+pub mod Visits

@@ -1,0 +1,26 @@
+-- What is kept of the vertices that were visited.
+use Rattle.std.specs.Prelude.{ℕ, Bool, false, Option, Some, None, nat_eq}
+use Rattle.std.specs.declared.hash.FoldHasher.{FoldHasher}
+use Rattle.std.specs.declared.hash.BuildHasherDefault.{BuildHasherDefault}
+use Rattle.std.specs.HashMap.{get, HashMap}
+use Rattle.kc_remove.specs.declared.falling.Visit.{Visit}
+
+-- a visit for each vertex that has one
+abbrev pub Visits : Type 0
+Visits = HashMap ℕ Visit (BuildHasherDefault FoldHasher)
+
+abbrev pub visit_of : Visits → ℕ → Option Visit
+visit_of visits y = get nat_eq visits y
+
+-- what a visit says
+abbrev pub support_in : Option Visit → ℕ
+support_in None = 0
+support_in (Some visit) = visit.support
+
+abbrev pub seen_in : Option Visit → ℕ
+seen_in None = 0
+seen_in (Some visit) = visit.seen
+
+abbrev pub fallen_in : Option Visit → Bool
+fallen_in None = false
+fallen_in (Some visit) = visit.fallen

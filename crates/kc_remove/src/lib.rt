@@ -1,0 +1,23 @@
+//! The plan of an update that removes an edge.
+//!
+//! Where an edge goes, only vertices of the lesser core number of its two ends can lose, and each loses one (Zhang, Yu, Zhang and Qin
+//! 2017). `plan` visits the ends and goes on from each vertex that falls to its neighbours: a visited vertex keeps a support, its
+//! neighbours that are as high and have not fallen, and falls where that is less than its core number. It asks a `View` of `kc_view`
+//! one list or core number at a time, and no order, and looks at nothing but what it asks.
+//!
+//! Where all answers are those of one certified state, the plan passes the local test of `kc_cert` there and moves exactly the vertices
+//! whose core number falls. It names only vertices whose lists were read, and asks no more than the ends of the edge and neighbours of
+//! those that fall. It returns for every view, also where the answers fit no state. `specs/Sure.antt` says the first of this;
+//! `Cascade.antt` says what the search keeps true on its way, in a state that agrees with the answers so far, and `Falling.antt` what
+//! holds for every view. The crate stands on `kc_view` and `kc_graph`, and its proofs on `kc_cert`.
+#![tactic(auto)]
+
+mod asking;
+mod falling;
+mod removal;
+mod support;
+#[cfg(test)]
+mod tests;
+mod turns;
+
+pub use removal::plan;

@@ -1,0 +1,148 @@
+//! The plan of an update that removes an edge.
+ghost use Rattle.std.specs.Prelude.{◌≡◌, ◌≢◌, ◌<◌, ◌++◌, ◌⊎◌, ℕ, min, [], true, false, slice_index, IfOk, OnOk, IfErr};
+ghost use Rattle.kc_lists.specs.Lists.{member};
+ghost use Rattle.kc_graph.specs.Lawful.{Ranked};
+ghost use Rattle.kc_cert.specs.Local.{moved_vertices};
+ghost use Rattle.kc_view.specs.Answers.{Agrees, nothing_answered, answers_in, has_list, list_of};
+ghost use Rattle.kc_view.specs.Sure.{NamesOnlyRead, AsksCoresNearby, AsksFallen, anchors};
+ghost use Rattle.kc_view.specs.Views.{Lasts, GoesOn, HasPlanCause};
+ghost use Rattle.kc_remove.specs.Cascade.{nobody};
+ghost use Rattle.kc_remove.specs.Falling.{is_visited, Asks, IsTidy, FallsIn, HasEnded};
+ghost use Rattle.kc_remove.specs.Sure.{IsSureWithin, AreSure};
+ghost use Rattle.kc_remove.specs.Visits.{visit_of};
+
+use crate::asking::{core_of, degree_of, is_listed};
+use crate::falling::Falling;
+use crate::support::visit;
+use crate::turns::take_turns;
+use kc_graph::{Moves, Plan, Update};
+use kc_view::{PlanFault, View};
+use std::alloc::Global;
+
+/// Whether the list of the lesser end has the other one.
+fn has_edge<V: View>(view: &mut V, update: Update) -> Result<bool, PlanFault>
+    requires vertex { update.v < (V.shown view.old).size }
+    requires fresh { (V.shown view.old).kept ≡ nothing_answered }
+    ensures goes_on { GoesOn (V.shown view.old) (V.shown view.new) (V.is_missed view.old) (V.is_missed view.new) (V.is_given view.old) (V.is_given view.new) }
+    ensures cause { IfErr result (λ fault. HasPlanCause (V.shown view.old) (V.shown view.new) (V.is_missed view.new) fault) }
+    ensures asks { OnOk result (Asks update (V.shown view.new).kept []) }
+    ensures read { OnOk result (has_list (V.shown view.new).kept update.u ≡ true) }
+    ensures told { IfOk result (λ there. there ≡ member update.v (list_of (V.shown view.new).kept update.u)) }
+{
+    let degree = degree_of(view, update.u)?;
+    Ok(is_listed(view, update.u, degree, update.v))
+}
+
+/// The lesser core number of the two ends.
+fn level_of<V: View>(view: &mut V, update: Update) -> Result<u32, PlanFault>
+    requires vertex { update.v < (V.shown view.old).size }
+    requires asks { Asks update (V.shown view.old).kept [] }
+    ensures goes_on { GoesOn (V.shown view.old) (V.shown view.new) (V.is_missed view.old) (V.is_missed view.new) (V.is_given view.old) (V.is_given view.new) }
+    ensures cause { IfErr result (λ fault. HasPlanCause (V.shown view.old) (V.shown view.new) (V.is_missed view.new) fault) }
+    ensures asks { OnOk result (Asks update (V.shown view.new).kept []) }
+    ensures told { IfOk result (λ level. (s : Ranked) → Agrees (V.shown view.new).kept s → level ≡ min (slice_index s.core update.u) (slice_index s.core update.v)) }
+{
+    let first = core_of(view, update.u)?;
+    let second = core_of(view, update.v)?;
+    Ok(first.min(second))
+}
+
+/// Visits an end of the edge, if its core number is that of the level.
+fn visit_end<V: View>(
+    view: &mut V,
+    update: Update,
+    level: u32,
+    end: u32,
+    falling: &mut Falling,
+) -> Result<(), PlanFault>
+    requires vertex { end < (V.shown view.old).size }
+    requires is_end { (end ≡ update.u) ⊎ (end ≡ update.v) }
+    requires is_new { is_visited falling.old end ≡ false }
+    requires tidy { IsTidy update (V.shown view.old) falling.old }
+    ensures goes_on { GoesOn (V.shown view.old) (V.shown view.new) (V.is_missed view.old) (V.is_missed view.new) (V.is_given view.old) (V.is_given view.new) }
+    ensures cause { IfErr result (λ fault. HasPlanCause (V.shown view.old) (V.shown view.new) (V.is_missed view.new) fault) }
+    ensures tidy { OnOk result (IsTidy update (V.shown view.new) falling.new) }
+    ensures others { OnOk result ((z : ℕ) → z ≢ end → visit_of falling.new.visits z ≡ visit_of falling.old.visits z) }
+    ensures visited { OnOk result ((s : Ranked) → Agrees (V.shown view.new).kept s → slice_index s.core end ≡ level → is_visited falling.new end ≡ true) }
+    ensures falls { OnOk result ((s : Ranked) → Agrees (V.shown view.new).kept s → FallsIn update level s falling.old 0 nobody → FallsIn update level s falling.new 0 nobody) }
+{
+    let core = core_of(view, end)?;
+    if core == level {
+        visit(view, update, level, end, falling)?;
+    }
+    Ok(())
+}
+
+/// All vertices that fall, from those of the two ends that do.
+fn find_fallen<V: View>(
+    alloc: Global,
+    view: &mut V,
+    update: Update,
+    level: u32,
+) -> Result<Falling, PlanFault>
+    requires vertex { update.v < (V.shown view.old).size }
+    requires asks { Asks update (V.shown view.old).kept [] }
+    ensures goes_on { GoesOn (V.shown view.old) (V.shown view.new) (V.is_missed view.old) (V.is_missed view.new) (V.is_given view.old) (V.is_given view.new) }
+    ensures cause { IfErr result (λ fault. HasPlanCause (V.shown view.old) (V.shown view.new) (V.is_missed view.new) fault) }
+    ensures tidy { IfOk result (λ falling. IsTidy update (V.shown view.new) falling) }
+    ensures ended { IfOk result (λ falling. (s : Ranked) → Agrees (V.shown view.new).kept s → HasEnded update level s falling) }
+{
+    let mut falling = Falling::new(alloc);
+    visit_end(view, update, level, update.u, &mut falling)?;
+    visit_end(view, update, level, update.v, &mut falling)?;
+    take_turns(view, update, level, &mut falling)?;
+    Ok(falling)
+}
+
+/// The moves that keep core numbers and order right when the edge goes.
+fn moves_of<V: View>(alloc: Global, view: &mut V, update: Update) -> Result<Moves, PlanFault>
+    requires removes { update.add ≡ false }
+    requires vertex { update.v < (V.shown view.old).size }
+    requires fresh { (V.shown view.old).kept ≡ nothing_answered }
+    ensures goes_on { GoesOn (V.shown view.old) (V.shown view.new) (V.is_missed view.old) (V.is_missed view.new) (V.is_given view.old) (V.is_given view.new) }
+    ensures cause { IfErr result (λ fault. HasPlanCause (V.shown view.old) (V.shown view.new) (V.is_missed view.new) fault) }
+    ensures asks { IfOk result (λ moves. Asks update (V.shown view.new).kept (moved_vertices moves)) }
+    ensures named { IfOk result (λ moves. (x : ℕ) → member x (moved_vertices moves ++ anchors moves) ≡ true → has_list (V.shown view.new).kept x ≡ true) }
+    ensures sure { IfOk result (λ moves. AreSure update (V.shown view.new).kept moves) }
+{
+    if !has_edge(view, update)? {
+        return Ok(Moves::Kept);
+    }
+    let level = level_of(view, update)?;
+    if level == 0 {
+        return Ok(Moves::Plain);
+    }
+    let Falling { list, .. } = find_fallen(alloc, view, update, level)?;
+    if list.is_empty() {
+        return Ok(Moves::Plain);
+    }
+    Ok(Moves::Fall { level, fall: list })
+}
+
+/// The plan of an update that removes an edge: which vertices lose one from their core number, in the order in which they then stand
+/// behind all of the level below. It asks the lists of the lesser end, of the ends that may fall, and of neighbours of those that do.
+///
+/// `Miss` comes only where a call on the view missed, and `NoMemory` where there is no memory, for the view or for the search. At `Ok` the
+/// view has handed out all that it kept.
+pub fn plan<V: View>(alloc: Global, view: &mut V, update: Update) -> Result<Plan, PlanFault>
+    requires removes { update.add ≡ false }
+    requires vertex { update.v < (V.shown view.old).size }
+    requires fresh { (V.shown view.old).kept ≡ nothing_answered }
+    ensures lasts { Lasts (V.shown view.old) (V.shown view.new) (V.is_missed view.old) (V.is_missed view.new) (V.is_given view.old) (V.is_given view.new) }
+    ensures update { IfOk result (λ plan. plan.update ≡ update) }
+    ensures sure { IfOk result IsSureWithin }
+    ensures named { IfOk result NamesOnlyRead }
+    ensures cores { IfOk result AsksCoresNearby }
+    ensures asked { IfOk result AsksFallen }
+    ensures given { IfOk result (λ plan. V.is_given view.new (answers_in plan.used)) }
+    ensures emptied { OnOk result ((V.shown view.new).kept ≡ nothing_answered) }
+    ensures cause { IfErr result (λ fault. HasPlanCause (V.shown view.old) (V.shown view.new) (V.is_missed view.new) fault) }
+{
+    let moves = moves_of(alloc, view, update)?;
+    let used = view.used();
+    Ok(Plan {
+        update,
+        used,
+        moves,
+    })
+}
