@@ -1,5 +1,5 @@
 //! Small graphs, with answers worked out by hand.
-use crate::{Graph, NoMemory, core_numbers, decompose};
+use crate::{Graph, Neighbours, NoMemory, core_numbers, decompose};
 use std::process::Abort;
 use std::test::Fail;
 
@@ -89,4 +89,17 @@ fn core_numbers_of_small_graphs(rt: HostRuntime) -> Result<(), Fail> {
         (1, 4),
     ];
     check(&rt, 5, &all_of_four_and_one_more, &[3, 3, 3, 3, 2])
+}
+
+#[test]
+fn a_list_of_neighbours_is_shared_and_stays(rt: HostRuntime) -> Result<(), Fail> {
+    let list = Neighbours::copy_of(rt.alloc(), &[1, 3, 7])?;
+    let other = list.share()?;
+    drop(list);
+    assert_eq!(rt; other.as_slice(), [1, 3, 7].as_slice());
+    let mut items = Vec::new(rt.alloc());
+    items.push(5u32)?;
+    let list = Neighbours::from_vec(items)?;
+    assert_eq!(rt; list.as_slice(), [5].as_slice());
+    Ok(())
 }
