@@ -4,11 +4,11 @@ ghost use Rattle.kc_lists.specs.Lists.{member};
 ghost use Rattle.kc_graph.specs.Lawful.{Ranked};
 ghost use Rattle.kc_cert.specs.Local.{moved_vertices};
 ghost use Rattle.kc_view.specs.Answers.{Agrees, nothing_answered, answers_in, has_list, list_of};
-ghost use Rattle.kc_view.specs.Sure.{NamesOnlyRead, AsksCoresNearby, AsksFallen, anchors};
+ghost use Rattle.kc_view.specs.Sure.{IsSure, NamesOnlyRead, AsksCoresNearby, AsksFallen, anchors};
 ghost use Rattle.kc_view.specs.Views.{Lasts, GoesOn, HasPlanCause};
 ghost use Rattle.kc_remove.specs.Cascade.{nobody};
 ghost use Rattle.kc_remove.specs.Falling.{is_visited, Asks, IsTidy, FallsIn, HasEnded};
-ghost use Rattle.kc_remove.specs.Sure.{IsSureWithin, AreSure};
+ghost use Rattle.kc_remove.specs.Sure.{AreSure};
 ghost use Rattle.kc_remove.specs.Visits.{visit_of};
 
 use crate::asking::{core_of, degree_of, is_listed};
@@ -130,7 +130,7 @@ pub fn plan<V: View>(alloc: Global, view: &mut V, update: Update) -> Result<Plan
     requires fresh { (V.shown view.old).kept ≡ nothing_answered }
     ensures lasts { Lasts (V.shown view.old) (V.shown view.new) (V.is_missed view.old) (V.is_missed view.new) (V.is_given view.old) (V.is_given view.new) }
     ensures update { IfOk result (λ plan. plan.update ≡ update) }
-    ensures sure { IfOk result IsSureWithin }
+    ensures sure { IfOk result IsSure }
     ensures named { IfOk result NamesOnlyRead }
     ensures cores { IfOk result AsksCoresNearby }
     ensures asked { IfOk result AsksFallen }

@@ -39,9 +39,10 @@ pub record IsSparing (s : Ranked) (plan : Plan) : Type 0 where
   pub removed : plan.update.add ≡ false → is_applied plan.update s.graph ≡ true → (core : List ℕ) → AreCoreNumbers (updated plan.update s.graph) core
       → (x : ℕ) → x < s.graph.size → member x (moved_vertices plan.moves) ≡ nat_lt (slice_index core x) (slice_index s.core x)
 
--- In every certified state of which its answers are true, the plan passes the local test and moves no more than it should.
+-- In every certified state that has the ends of the edge and of which its answers are true, the plan passes the local test and moves no
+-- more than it should.
 abbrev pub IsSure : Plan → Type 0
-IsSure plan = (s : Ranked) → IsCertified s → Agrees (answers_in plan.used) s → IsLocal s plan × IsSparing s plan
+IsSure plan = (s : Ranked) → IsCertified s → plan.update.v < s.graph.size → Agrees (answers_in plan.used) s → IsLocal s plan × IsSparing s plan
 
 -- the vertices after which moves put others
 abbrev pub anchors : Moves → List ℕ
