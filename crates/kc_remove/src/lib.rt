@@ -12,7 +12,6 @@
 //! holds for every view. The crate stands on `kc_view` and `kc_graph`, and its proofs on `kc_cert`.
 #![tactic(auto)]
 
-mod asking;
 mod falling;
 mod removal;
 mod support;

@@ -11,12 +11,12 @@ ghost use Rattle.kc_remove.specs.Falling.{is_visited, Asks, IsTidy, FallsIn, Has
 ghost use Rattle.kc_remove.specs.Sure.{AreSure};
 ghost use Rattle.kc_remove.specs.Visits.{visit_of};
 
-use crate::asking::{core_of, degree_of, is_listed};
+
 use crate::falling::Falling;
 use crate::support::visit;
 use crate::turns::take_turns;
 use kc_graph::{Moves, Plan, Update};
-use kc_view::{PlanFault, View};
+use kc_view::{PlanFault, View, core_of, degree_of, is_neighbour};
 use std::alloc::Global;
 
 /// Whether the list of the lesser end has the other one.
@@ -30,7 +30,7 @@ fn has_edge<V: View>(view: &mut V, update: Update) -> Result<bool, PlanFault>
     ensures told { IfOk result (λ there. there ≡ member update.v (list_of (V.shown view.new).kept update.u)) }
 {
     let degree = degree_of(view, update.u)?;
-    Ok(is_listed(view, update.u, degree, update.v))
+    Ok(is_neighbour(view, update.u, degree, update.v))
 }
 
 /// The lesser core number of the two ends.

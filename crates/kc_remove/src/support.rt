@@ -12,10 +12,9 @@ ghost use Rattle.kc_remove.specs.Removed.{search_of, is_removed, is_counted};
 ghost use Rattle.kc_remove.specs.Falling.{is_visited, IsNear, IsTidy, FallsIn};
 ghost use Rattle.kc_remove.specs.Visits.{visit_of};
 
-use crate::asking::{core_of, degree_of};
 use crate::falling::Falling;
 use kc_graph::Update;
-use kc_view::{PlanFault, View};
+use kc_view::{PlanFault, View, core_of, degree_of};
 
 /// Whether the edge that goes joins the two.
 pub(crate) fn is_removed(update: Update, x: u32, y: u32) -> bool

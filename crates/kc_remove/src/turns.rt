@@ -9,11 +9,10 @@ ghost use Rattle.kc_remove.specs.Cascade.{nobody};
 ghost use Rattle.kc_remove.specs.Removed.{has_come};
 ghost use Rattle.kc_remove.specs.Falling.{is_visited, IsTidy, FallsIn};
 
-use crate::asking::{core_of, degree_of};
 use crate::falling::Falling;
 use crate::support::{is_removed, visit};
 use kc_graph::Update;
-use kc_view::{PlanFault, View};
+use kc_view::{PlanFault, View, core_of, degree_of};
 
 /// The vertex `x`, which fell, has its turn, and comes to its neighbour `y`: this is visited now, or has one less.
 fn come_to<V: View>(

@@ -2,3 +2,5 @@ pub mod Among
 pub mod Keeping
 pub mod Looking
 pub mod Marking
+pub mod Asked
+pub mod Halving

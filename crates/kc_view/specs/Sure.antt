@@ -7,6 +7,7 @@ use Rattle.kc_graph.specs.Core.{AreCoreNumbers}
 use Rattle.kc_graph.specs.Lawful.{Ranked, IsCertified}
 use Rattle.kc_graph.specs.Plans.{is_applied, updated}
 use Rattle.kc_graph.specs.declared.update.Update.{Update}
+use Rattle.kc_graph.specs.declared.used.Used.{Used}
 use Rattle.kc_graph.specs.declared.plan.Plan.{Plan}
 use Rattle.kc_graph.specs.declared.plan.Moves.{Moves}
 use Rattle.kc_graph.specs.declared.plan.Moves.TheVariants.{Kept, Plain, Rise, Fall}
@@ -44,6 +45,12 @@ pub record IsSparing (s : Ranked) (plan : Plan) : Type 0 where
 abbrev pub IsSure : Plan → Type 0
 IsSure plan = (s : Ranked) → IsCertified s → plan.update.v < s.graph.size → Agrees (answers_in plan.used) s → IsLocal s plan × IsSparing s plan
 
+-- In every certified state that has the ends of the edge and of which the answers are true, these moves pass the local test and move no
+-- more than they should, whatever else the plan keeps.
+abbrev pub AreSure : Update → Answers → Moves → Type 0
+AreSure update a moves = (s : Ranked) (used : Used) → IsCertified s → update.v < s.graph.size → Agrees a s
+    → IsLocal s (record { update = update; used = used; moves = moves }) × IsSparing s (record { update = update; used = used; moves = moves })
+
 -- the vertices after which moves put others
 abbrev pub anchors : Moves → List ℕ
 anchors Kept = []
@@ -60,8 +67,11 @@ abbrev pub is_listed : Answers → ℕ → Bool
 is_listed a y = list_any (λ e. member y e.neighbours) a.edges
 
 -- core numbers are asked only of the ends and of neighbours of vertices whose lists were asked
+abbrev pub AsksCores : Update → Answers → Type 0
+AsksCores update a = All (λ p. (p.vertex ≡ update.u) ⊎ (p.vertex ≡ update.v) ⊎ (is_listed a p.vertex ≡ true)) a.places
+
 abbrev pub AsksCoresNearby : Plan → Type 0
-AsksCoresNearby plan = All (λ p. (p.vertex ≡ plan.update.u) ⊎ (p.vertex ≡ plan.update.v) ⊎ (is_listed (answers_in plan.used) p.vertex ≡ true)) plan.used.places.items
+AsksCoresNearby plan = AsksCores plan.update (answers_in plan.used)
 
 -- where the answers are those of one state, lists are asked only of the lesser end and of vertices that the new edge concerns
 abbrev pub AsksForward : Plan → Type 0

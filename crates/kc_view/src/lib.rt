@@ -10,6 +10,7 @@
 //! `kc_graph`, and its definitions on `kc_lists`, `kc_words` and `kc_cert`.
 #![tactic(auto)]
 
+mod asking;
 mod draws;
 mod fault;
 mod keep;
@@ -19,6 +20,7 @@ mod tests;
 mod view;
 mod whim;
 
+pub use asking::{core_of, degree_of, is_neighbour, stands_before};
 pub use fault::{PlanFault, ViewFault};
 pub use plain::PlainView;
 pub use view::View;
