@@ -15,12 +15,13 @@ use Rattle.kc_graph.proofs.Law.{certified, core-unique}
 use Rattle.kc_cert.specs.Local.{IsLocal, HoldsAt}
 use Rattle.kc_cert.proofs.Keeping.{certified_after}
 use Rattle.kc_view.specs.Sure.{IsSparing}
+use Rattle.kc_view.proofs.Still.{kept-is_sure, number_then-is}
 use Rattle.kc_remove.specs.Cascade.{Thinned, Cascade, nobody}
 use Rattle.kc_remove.specs.Falling.{is_visited, support_at, seen_at, HasEnded}
 use Rattle.kc_remove.specs.Removed.{is_end, search_of}
 use Rattle.kc_remove.specs.declared.falling.Falling.{Falling}
 use Rattle.kc_remove.proofs.Ending.{lowered}
-use Rattle.kc_remove.proofs.Holding.{kept-holds, plain-holds, fall-holds, renumbered-is}
+use Rattle.kc_remove.proofs.Holding.{plain-holds, fall-holds}
 use Rattle.kc_remove.proofs.Thinning.{thinned}
 
 pub applied-is : (update : Update) (g : SimpleGraph) → update.add ≡ false → is_applied update g ≡ adjacent g update.u update.v
@@ -32,21 +33,7 @@ updated-is update g e = ap (λ (b : Bool). cond b (with_edge g update.u update.v
 -- the edge is not there
 pub kept-sure : (update : Update) (used : Used) (s : Ranked) → update.add ≡ false → IsCertified s → update.v < s.graph.size → adjacent s.graph update.u update.v ≡ false
     → IsLocal s (record { update = update; used = used; moves = Kept }) × IsSparing s (record { update = update; used = used; moves = Kept })
-kept-sure update used s removes h l gone =
-    let none : is_applied update s.graph ≡ false = applied-is update s.graph removes ∙ gone in (
-      record {
-        ends = l;
-        kept = sym (ap not none);
-        moves_fit = tt;
-        holds = λ z lz _. kept-holds s h z lz;
-      },
-      record {
-        once = tt;
-        kept = λ _. refl;
-        inserted = λ add. absurd (true≢false (sym add ∙ removes));
-        removed = λ _ applied. absurd (true≢false (sym applied ∙ none));
-      },
-    )
+kept-sure update used s removes h l gone = kept-is_sure update used s h l (applied-is update s.graph removes ∙ gone)
 
 same_number : (a b : ℕ) → a ≡ b → false ≡ ltb a b
 same_number a b e = grind arith
@@ -113,7 +100,7 @@ fall-sure update used s level f removes h l a least ended =
         inserted = λ add. absurd (true≢false (sym add ∙ removes));
         removed = λ _ _ core are x lx.
             let same : core ≡ renumbered fall (level - 1) s.core = numbers-after s (record { update = update; used = used; moves = Fall level f.list }) h local core are in
-            let number : get_or core x 0 ≡ lowered (λ y. get_or s.core y 0) level fall x = ap (λ (xs : List ℕ). get_or xs x 0) same ∙ renumbered-is s level fall x h lx in
+            let number : get_or core x 0 ≡ lowered (λ y. get_or s.core y 0) level fall x = ap (λ (xs : List ℕ). get_or xs x 0) same ∙ number_then-is s fall (level - 1) x h lx in
             elim (cases_Bool (member x fall)) [
               | inl m ↦
                   let down : get_or core x 0 ≡ level - 1 = number ∙ ap (λ b. cond b (level - 1) (get_or s.core x 0)) m in

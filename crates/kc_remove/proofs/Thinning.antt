@@ -15,6 +15,7 @@ use Rattle.kc_cert.specs.Ranks.{rank_in}
 use Rattle.kc_cert.proofs.Sums.{one_if, count-one-in, count-some}
 use Rattle.kc_cert.proofs.Ordered.{order-has, rank-apart, few-ranked, enough-below, ranks-rise, adjacent-sym}
 use Rattle.kc_view.specs.Search.{search_in}
+use Rattle.kc_view.proofs.Among.{at_most_one}
 use Rattle.kc_remove.specs.Cascade.{Thinned}
 
 -- in a certified state a vertex with a neighbour has a core number of 1 at least
@@ -48,9 +49,6 @@ low_end a j l n = grind arith
 
 gone : (a j l : Bool) → j ≡ true → ((a && not j) && l) ≡ false
 gone a j l n = grind arith
-
-at_most_one : (b : Bool) → one_if b ≤ 1
-at_most_one b = grind arith
 
 -- whether `z` is an end of the edge
 abbrev pub is_end : ℕ → ℕ → ℕ → Bool

@@ -1,5 +1,4 @@
 pub mod Cascade
 pub mod Falling
 pub mod Removed
-pub mod Sure
 pub mod Visits

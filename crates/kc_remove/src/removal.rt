@@ -4,11 +4,10 @@ ghost use Rattle.kc_lists.specs.Lists.{member};
 ghost use Rattle.kc_graph.specs.Lawful.{Ranked};
 ghost use Rattle.kc_cert.specs.Local.{moved_vertices};
 ghost use Rattle.kc_view.specs.Answers.{Agrees, nothing_answered, answers_in, has_list, list_of};
-ghost use Rattle.kc_view.specs.Sure.{IsSure, NamesOnlyRead, AsksCoresNearby, AsksFallen, anchors};
+ghost use Rattle.kc_view.specs.Sure.{AreSure, IsSure, NamesOnlyRead, AsksCoresNearby, AsksFallen, anchors};
 ghost use Rattle.kc_view.specs.Views.{Lasts, GoesOn, HasPlanCause};
 ghost use Rattle.kc_remove.specs.Cascade.{nobody};
 ghost use Rattle.kc_remove.specs.Falling.{is_visited, Asks, IsTidy, FallsIn, HasEnded};
-ghost use Rattle.kc_remove.specs.Sure.{AreSure};
 ghost use Rattle.kc_remove.specs.Visits.{visit_of};
 
 

@@ -37,3 +37,6 @@ and-sum a p q r h = elim (cases_Bool a) [ inl t ↦ let k = h t in grind (arith,
 -- two tests that never both pass
 pub among-sum : (s : Search) (z : ℕ) (p q r : ℕ → Bool) → ((y : ℕ) → y < s.size → s.adj z y ≡ true → one_if (r y) ≡ one_if (p y) + one_if (q y)) → among s z r ≡ among s z p + among s z q
 among-sum s z p q r h = count-sum (λ y. s.adj z y && p y) (λ y. s.adj z y && q y) (λ y. s.adj z y && r y) (below s.size) (λ y m. and-sum (s.adj z y) (p y) (q y) (r y) (h y (below-member y s.size m)))
+
+pub at_most_one : (b : Bool) → one_if b ≤ 1
+at_most_one b = grind arith

@@ -1,6 +1,7 @@
 pub mod Among
+pub mod Asked
+pub mod Halving
 pub mod Keeping
 pub mod Looking
 pub mod Marking
-pub mod Asked
-pub mod Halving
+pub mod Still
