@@ -8,7 +8,8 @@ use Rattle.kc_cert.proofs.Ordered.{rank-here, rank-other}
 use Rattle.kc_view.specs.Search.{Search, among, after, OnLevel}
 use Rattle.kc_view.proofs.Among.{among-mono}
 use Rattle.kc_remove.specs.Cascade.{Thinned, support, Cascade, nobody}
-use Rattle.kc_remove.proofs.Falls.{kept_support, take-member}
+use Rattle.kc_view.proofs.Fronts.{take-member}
+use Rattle.kc_remove.proofs.Falls.{kept_support}
 
 -- the core number of a vertex after the fall
 abbrev pub lowered : (ℕ → ℕ) → ℕ → List ℕ → ℕ → ℕ

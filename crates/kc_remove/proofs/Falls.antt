@@ -1,25 +1,20 @@
 -- Each step of the search for the vertices that fall keeps what is known.
 use Rattle.std.proofs.Common.{◌≡◌, ◌≢◌, ◌≤◌, ◌<◌, ◌+◌, ◌-◌, ℕ, suc, zero, max, Bool, true, false, cond, not, ◌&&◌, ◌||◌, List, [], ◌∷◌, ◌++◌, take, length, get_or, eqb, leb, refl, sym, ◌∙◌, ap, subst, inl, inr, arith, true≢false, eq-eqb, ne_eqb, length-append}
-use Rattle.std.proofs.lemmas.Bool.{cases_Bool, cases_eq, cases_lt, eqb-false, false≢true, or_left, or_right}
+use Rattle.std.proofs.lemmas.Bool.{cases_Bool, cases_eq, cases_lt, eqb-false, false≢true, or_right}
 use Rattle.std.proofs.lemmas.List.{take-append-le, get_or_append_left}
 use Rattle.std.proofs.Math.Seq.{get_or-append_seam, take-length}
 use Rattle.kc_lists.specs.Lists.{member, Distinct}
-use Rattle.kc_lists.proofs.Members.{member-tail, member-cases}
 use Rattle.kc_lists.proofs.Counting.{member-push, member-push_cases, member-push_none, member-get_or, take-not_here, Distinct-push}
 use Rattle.kc_cert.proofs.Sums.{one_if}
 use Rattle.kc_view.specs.Search.{Search, among, OnLevel}
 use Rattle.kc_view.proofs.Among.{among-one, among-mono}
+use Rattle.kc_view.proofs.Fronts.{take-member}
 use Rattle.kc_remove.specs.Cascade.{Thinned, support, taken, Cascade, nobody}
 
 -- with more gone the support is no more
 support-fewer : (s : Search) (gone more : List ℕ) (z : ℕ) → ((y : ℕ) → member y gone ≡ true → member y more ≡ true) → support s more z ≤ support s gone z
 support-fewer s gone more z sub = among-mono s z (λ y. leb s.level (s.core y) && not (member y more)) (λ y. leb s.level (s.core y) && not (member y gone)) (λ y l a t.
     let k : member y gone ≡ true → member y more ≡ true = sub y in grind (arith, k, t))
-
-pub take-member : (n : ℕ) (xs : List ℕ) (y : ℕ) → member y (take n xs) ≡ true → member y xs ≡ true
-take-member zero xs y m = absurd (false≢true m)
-take-member (suc n) [] y m = m
-take-member (suc n) (x ∷ xs) y m = elim (member-cases y x (take n xs) m) [ inl e ↦ or_left (eqb y x) (member y xs) (eq-eqb y x e) | inr k ↦ member-tail y x xs (take-member n xs y k) ]
 
 pub take-more : (i : ℕ) (xs : List ℕ) → i < length xs → take (i + 1) xs ≡ take i xs ++ get_or xs i 0 ∷ []
 take-more i [] l = absurd (omega arith)

@@ -1,8 +1,6 @@
 -- What holds for every view, from step to step.
 use Rattle.std.proofs.Common.{◌≡◌, ◌≢◌, ◌≤◌, ◌<◌, ◌⊎◌, ℕ, Bool, true, false, cond, ◌||◌, List, [], ◌∷◌, ◌++◌, length, get_or, eqb, ltb, refl, sym, ◌∙◌, ap, subst, inl, inr, arith, true≢false, ne_eqb, eq-eqb, length-append}
 use Rattle.std.specs.Prelude.{Option, Some, None, is_some}
-use Rattle.std.specs.Option.{unwrap_or}
-use Rattle.std.specs.List.{list_any}
 use Rattle.std.proofs.lemmas.Bool.{cases_Bool, cases_eq, false≢true, or_left, or_right, false_from_ne_true}
 use Rattle.std.proofs.lemmas.List.{append-nil, get_or_append_left}
 use Rattle.std.proofs.lemmas.List.Elements.{All-push, All-weaker}
@@ -13,9 +11,10 @@ use Rattle.kc_lists.proofs.Members.{below_bound}
 use Rattle.kc_lists.proofs.Counting.{member-push, member-push_left, Distinct-push}
 use Rattle.kc_graph.specs.declared.update.Update.{Update}
 use Rattle.kc_graph.specs.declared.used.UsedEdges.{UsedEdges}
-use Rattle.kc_view.specs.Answers.{Answers, list_in, has_list, list_of, has_core, with_list}
+use Rattle.kc_view.specs.Answers.{Answers, has_list, list_of, has_core, with_list}
 use Rattle.kc_view.specs.Sure.{is_listed}
 use Rattle.kc_view.specs.Views.{Shown, Further, TellsList, TellsCore}
+use Rattle.kc_view.proofs.Asked.{is_listed-from}
 use Rattle.kc_view.proofs.Keeping.{still_has_list, same_list, Further-refl}
 use Rattle.kc_remove.specs.Visits.{visit_of, fallen_in}
 use Rattle.kc_remove.specs.Falling.{is_visited, has_fallen, Settles, IsNear, Asks, IsTidy}
@@ -37,18 +36,6 @@ near-grows update a b fall more y f read grows near = elim near [
       let (x, m, t) = any-some (λ x. member y (list_of a x)) fall h in
       inr (inr (some-any (λ x. member y (list_of b x)) x more (grows x m) (ap (member y) (same_list a b x f (read x m)) ∙ t)))
 ]
-
-listed_in : (x y : ℕ) (es : List UsedEdges) → is_some (list_in x es) ≡ true → member y (unwrap_or (list_in x es) []) ≡ true → list_any (λ e. member y e.neighbours) es ≡ true
-listed_in x y [] h m = absurd (false≢true h)
-listed_in x y (e ∷ es) h m =
-    elim (eqb x e.vertex) as (λ b. is_some (cond b (Some e.neighbours) (list_in x es)) ≡ true → member y (unwrap_or (cond b (Some e.neighbours) (list_in x es)) []) ≡ true → (member y e.neighbours || list_any (λ e. member y e.neighbours) es) ≡ true) [
-      | true ↦ λ _ k. or_left (member y e.neighbours) _ k
-      | false ↦ λ k n. or_right (member y e.neighbours) _ (listed_in x y es k n)
-    ] h m
-
--- a neighbour on a list that was told
-pub is_listed-from : (a : Answers) (x y : ℕ) → has_list a x ≡ true → member y (list_of a x) ≡ true → is_listed a y ≡ true
-is_listed-from a x y h m = listed_in x y a.edges h m
 
 -- a core number more
 pub asks-core : (update : Update) (a b : Answers) (fall : List ℕ) (y : ℕ) → Asks update a fall → TellsCore a b y → (y ≡ update.u) ⊎ (y ≡ update.v) ⊎ (is_listed a y ≡ true) → Asks update b fall

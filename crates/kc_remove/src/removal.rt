@@ -10,7 +10,6 @@ ghost use Rattle.kc_remove.specs.Cascade.{nobody};
 ghost use Rattle.kc_remove.specs.Falling.{is_visited, Asks, IsTidy, FallsIn, HasEnded};
 ghost use Rattle.kc_remove.specs.Visits.{visit_of};
 
-
 use crate::falling::Falling;
 use crate::support::visit;
 use crate::turns::take_turns;

@@ -1,5 +1,6 @@
 pub mod Among
 pub mod Asked
+pub mod Fronts
 pub mod Halving
 pub mod Keeping
 pub mod Looking

@@ -1,7 +1,7 @@
 //! Both views, each call with its answer.
 ghost use Rattle.std.specs.Prelude.{◌≢◌, ◌<◌};
 
-use crate::{PlainView, View, ViewFault, WhimView};
+use crate::{PlainView, PlanFault, View, ViewFault, WhimView, degree_of, is_neighbour};
 use kc_graph::{Graph, Lawful, Used, UsedOrder, UsedPlace, decompose};
 use kc_words::Again;
 use std::alloc::Global;
@@ -30,6 +30,14 @@ fn list_of<V: View>(alloc: Global, view: &mut V, w: u32) -> Result<Vec<u32>, Fai
     Ok(list)
 }
 
+/// Whether the list of `w` has `y`, looked for by halving.
+fn has_neighbour<V: View>(view: &mut V, w: u32, y: u32) -> Result<bool, PlanFault>
+    requires { w < (V.shown view.old).size }
+{
+    let degree = degree_of(view, w)?;
+    Ok(is_neighbour(view, w, degree, y))
+}
+
 /// Two core numbers and an order.
 fn compared<V: View>(view: &mut V, x: u32, y: u32) -> Result<(u32, u32, bool), ViewFault>
     requires differ { x ≢ y }
@@ -49,6 +57,30 @@ fn assert_lists<R: Abort>(rt: &R, used: &Used, vertices: &[u32]) {
         assert_eq!(rt; (list.vertex, list.at), (*vertex, 0));
     }
     assert!(rt; used.places.is_empty() && used.orders.is_empty());
+}
+
+#[test]
+fn neighbours_are_found_by_halving(rt: HostRuntime) -> Result<(), Fail> {
+    let lawful = triangle_with_a_tail(&rt)?;
+    let mut view = PlainView::new(rt.alloc(), &lawful)?;
+    let lists = [
+        [1, 2].as_slice(),
+        [0, 2].as_slice(),
+        [0, 1, 3].as_slice(),
+        [2].as_slice(),
+        [].as_slice(),
+    ];
+    for (w, list) in (0..5).zip(lists) {
+        for y in 0..6 {
+            assert!(rt; w < view.state().graph().vertices());
+            assert_eq!(rt;
+                has_neighbour(&mut view, w, y)?,
+                list.contains(&y),
+                "{w} and {y}"
+            );
+        }
+    }
+    Ok(())
 }
 
 #[test]
