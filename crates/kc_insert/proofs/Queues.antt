@@ -1,0 +1,87 @@
+-- Lists in the order of a rank, and a number put in at its place.
+use Rattle.std.proofs.Common.{◌≡◌, ◌≢◌, ◌≤◌, ◌<◌, ◌&&◌, ◌||◌, ℕ, suc, zero, Bool, true, false, not, List, [], ◌∷◌, length, take, drop, get_or, eqb, refl, sym, ◌∙◌, ap, inl, inr, arith, true≢false, eqb-true, eq-eqb, ne_eqb}
+use Rattle.std.specs.List.{insert}
+use Rattle.std.proofs.lemmas.Bool.{cases_eq, or_cases, false_from_ne_true}
+use Rattle.kc_lists.specs.Lists.{member, Distinct}
+use Rattle.kc_lists.proofs.Members.{member-head, member-tail}
+use Rattle.kc_lists.proofs.Counting.{member-get_or, drop-member}
+use Rattle.kc_cert.specs.Ranks.{rank_in, Ascends}
+use Rattle.kc_cert.proofs.Ordered.{rank-here}
+
+-- one that stands further on has the greater rank
+pub Ascends-at : (r : ℕ → ℕ) (xs : List ℕ) (i j : ℕ) → Ascends r xs → i < j → j < length xs → r (get_or xs i 0) < r (get_or xs j 0)
+Ascends-at r [] i j a lt l = absurd (omega arith)
+Ascends-at r (x ∷ xs) i zero a lt l = absurd (omega arith)
+Ascends-at r (x ∷ xs) zero (suc j) a lt l = a.0 (get_or xs j 0) (member-get_or xs j 0 (omega arith))
+Ascends-at r (x ∷ xs) (suc i) (suc j) a lt l = Ascends-at r xs i j a.1 (omega arith) (omega arith)
+
+pub Ascends-drop : (r : ℕ → ℕ) (n : ℕ) (xs : List ℕ) → Ascends r xs → Ascends r (drop n xs)
+Ascends-drop r zero xs a = a
+Ascends-drop r (suc n) [] a = a
+Ascends-drop r (suc n) (x ∷ xs) a = Ascends-drop r n xs a.1
+
+or_comm : (a b : Bool) → (a || b) ≡ (b || a)
+or_comm a b = grind arith
+
+or_assoc : (a b c : Bool) → (a || (b || c)) ≡ ((a || b) || c)
+or_assoc a b c = grind arith
+
+pub inserted-has : (xs : List ℕ) (i y z : ℕ) → member z (insert xs i y) ≡ (member z xs || eqb z y)
+inserted-has xs zero y z = or_comm (eqb z y) (member z xs)
+inserted-has [] (suc i) y z = or_comm (eqb z y) false
+inserted-has (x ∷ xs) (suc i) y z = ap (λ b. eqb z x || b) (inserted-has xs i y z) ∙ or_assoc (eqb z x) (member z xs) (eqb z y)
+
+other : (a e : Bool) → a ≡ false → e ≡ false → (a || e) ≡ false
+other a e h k = grind arith
+
+pub inserted-once : (xs : List ℕ) (i y : ℕ) → Distinct xs → member y xs ≡ false → Distinct (insert xs i y)
+inserted-once xs zero y d out = (out, d)
+inserted-once [] (suc i) y d out = (out, d)
+inserted-once (x ∷ xs) (suc i) y d out = (
+  inserted-has xs i y x ∙ other (member x xs) (eqb x y) d.0 (ne_eqb x y (λ e. true≢false (sym (ap (λ k. member k (x ∷ xs)) (sym e) ∙ member-head x xs) ∙ out))),
+  inserted-once xs i y d.1 (false_from_ne_true _ (λ m. true≢false (sym (member-tail y x xs m) ∙ out))),
+)
+
+-- where it goes behind the first `n`, these stay
+pub inserted-front : (xs : List ℕ) (n i y : ℕ) → n ≤ i → n ≤ length xs → take n (insert xs i y) ≡ take n xs
+inserted-front xs zero i y le l = refl
+inserted-front [] (suc n) i y le l = absurd (omega arith)
+inserted-front (x ∷ xs) (suc n) zero y le l = absurd (omega arith)
+inserted-front (x ∷ xs) (suc n) (suc i) y le l = ap (λ ys. x ∷ ys) (inserted-front xs n i y (omega arith) (omega arith))
+
+pub inserted-ascends : (r : ℕ → ℕ) (xs : List ℕ) (i y : ℕ) → Ascends r xs → i ≤ length xs → ((k : ℕ) → k < i → r (get_or xs k 0) < r y) → ((k : ℕ) → i ≤ k → k < length xs → r y ≤ r (get_or xs k 0))
+    → ((z : ℕ) → member z xs ≡ true → r z ≢ r y) → Ascends r (insert xs i y)
+inserted-ascends r xs zero y a l before behind apart = (
+  λ z m. let h = rank-here z xs m in
+      let le : r y ≤ r (get_or xs (rank_in xs z) 0) = behind (rank_in xs z) (omega arith) h.0 in
+      omega (arith, le, ap r h.1, apart z m),
+  a,
+)
+inserted-ascends r [] (suc i) y a l before behind apart = absurd (omega arith)
+inserted-ascends r (x ∷ xs) (suc i) y a l before behind apart = (
+  λ z m. elim (or_cases (member z xs) (eqb z y) (sym (inserted-has xs i y z) ∙ m)) [
+    | inl k ↦ a.0 z k
+    | inr e ↦ let lt : r x < r y = before 0 (omega arith) in omega (arith, lt, ap r (eqb-true z y e))
+  ],
+  inserted-ascends r xs i y a.1 (omega arith) (λ k lt. before (suc k) (omega arith)) (λ k le lk. behind (suc k) (omega arith) (omega arith)) (λ z m. apart z (member-tail z x xs m)),
+)
+
+and-yes : (a : Bool) → a ≡ (a && not false)
+and-yes a = grind arith
+
+gone : (e m t : Bool) → e ≡ true → ((e || m) && not (e || t)) ≡ false
+gone e m t h = grind arith
+
+passed : (e m t : Bool) → e ≡ false → ((e || m) && not (e || t)) ≡ (m && not t)
+passed e m t h = grind arith
+
+-- what stands behind the first `n`
+pub drop-has : (n z : ℕ) (xs : List ℕ) → Distinct xs → member z (drop n xs) ≡ (member z xs && not (member z (take n xs)))
+drop-has zero z xs d = and-yes (member z xs)
+drop-has (suc n) z [] d = refl
+drop-has (suc n) z (x ∷ xs) d = elim (cases_eq z x) [
+  | inl e ↦
+      let out : member z (drop n xs) ≡ false = false_from_ne_true _ (λ m. true≢false (sym (drop-member n z xs m) ∙ (ap (λ k. member k xs) e ∙ d.0))) in
+      out ∙ sym (gone (eqb z x) (member z xs) (member z (take n xs)) (eq-eqb z x e))
+  | inr ne ↦ drop-has n z xs d.1 ∙ sym (passed (eqb z x) (member z xs) (member z (take n xs)) (ne_eqb z x ne))
+]

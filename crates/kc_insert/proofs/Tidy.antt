@@ -1,0 +1,148 @@
+-- What holds for every view, from step to step.
+use Rattle.std.proofs.Common.{◌≡◌, ◌≤◌, ◌<◌, ◌⊎◌, ℕ, true, false, List, [], ◌∷◌, ◌++◌, length, take, get_or, sym, ◌∙◌, ap, subst, inl, inr, arith, true≢false}
+use Rattle.std.specs.Prelude.{is_some}
+use Rattle.std.proofs.lemmas.Bool.{cases_Bool, cases_eq, false_from_ne_true}
+use Rattle.std.proofs.lemmas.List.{take_more}
+use Rattle.std.proofs.lemmas.List.Elements.{All-push, All-weaker}
+use Rattle.kc_lists.specs.Lists.{member, Distinct}
+use Rattle.kc_lists.proofs.Counting.{member-get_or, member-push_left, member-push_cases, take-not_here}
+use Rattle.kc_lists.proofs.Members.{below_bound}
+use Rattle.kc_graph.specs.declared.update.Update.{Update}
+use Rattle.kc_graph.specs.declared.used.UsedOrder.{UsedOrder}
+use Rattle.kc_view.specs.Answers.{Answers, has_list, has_core, with_order}
+use Rattle.kc_cert.specs.Local.{firsts, seconds}
+use Rattle.kc_view.specs.Sure.{is_listed, AsksCores}
+use Rattle.kc_view.specs.Views.{Shown, Further, TellsList, TellsCore}
+use Rattle.kc_view.proofs.Asked.{cores-more, cores-listed}
+use Rattle.kc_view.proofs.Fronts.{take-member}
+use Rattle.kc_view.proofs.Keeping.{still_has_list, still_has_core}
+use Rattle.kc_insert.specs.Marks.{candidate_in, turn_in, weak_in}
+use Rattle.kc_insert.specs.Rising.{is_queued, is_candidate, is_weak, turn_at, left, IsOrderly, Asks, IsTidy}
+use Rattle.kc_insert.specs.Turns.{Leaves}
+use Rattle.kc_insert.specs.declared.rising.Mark.{Mark}
+use Rattle.kc_insert.specs.declared.rising.Rising.{Rising}
+
+-- a list more
+pub asks-list : (update : Update) (a b : Answers) (queue : List ℕ) (y : ℕ) → Asks update a queue → TellsList a b y → (y ≡ update.u) ⊎ (member y queue ≡ true) → Asks update b queue
+asks-list update a b queue y asks tells near = elim (cases_Bool (has_list a y)) [
+  | inl h ↦ subst (λ (x : Answers). Asks update x queue) (sym (tells.before h)) asks
+  | inr n ↦
+      let (e, is, eq) = tells.now n in
+      subst (λ (x : Answers). Asks update x queue) (sym eq) (record {
+        lists = All-push (λ q. (q.vertex ≡ update.u) ⊎ (member q.vertex queue ≡ true)) a.edges e asks.lists (subst (λ (z : ℕ). (z ≡ update.u) ⊎ (member z queue ≡ true)) (sym is) near);
+        cores = subst (λ (x : Answers). AsksCores update x) eq (cores-listed update a b y asks.cores tells);
+      })
+]
+
+-- a core number more
+pub asks-core : (update : Update) (a b : Answers) (queue : List ℕ) (y : ℕ) → Asks update a queue → TellsCore a b y → (y ≡ update.u) ⊎ (y ≡ update.v) ⊎ (is_listed a y ≡ true) → Asks update b queue
+asks-core update a b queue y asks tells near = elim (cases_Bool (has_core a y)) [
+  | inl h ↦ subst (λ (x : Answers). Asks update x queue) (sym (tells.before h)) asks
+  | inr n ↦
+      let (p, is, eq) = tells.now n in
+      subst (λ (x : Answers). Asks update x queue) (sym eq) (record {
+        lists = asks.lists;
+        cores = subst (λ (x : Answers). AsksCores update x) eq (cores-more update a b y asks.cores tells near);
+      })
+]
+
+-- an order more
+pub asks-order : (update : Update) (a b : Answers) (queue : List ℕ) (o : UsedOrder) → Asks update a queue → b ≡ with_order a o → Asks update b queue
+asks-order update a b queue o asks eq = subst (λ (x : Answers). Asks update x queue) (sym eq) (record { lists = asks.lists; cores = asks.cores })
+
+-- more were queued
+pub asks-queued : (update : Update) (a : Answers) (queue queue' : List ℕ) → Asks update a queue → ((x : ℕ) → member x queue ≡ true → member x queue' ≡ true) → Asks update a queue'
+asks-queued update a queue queue' asks grows = record {
+  lists = All-weaker (λ q. (q.vertex ≡ update.u) ⊎ (member q.vertex queue ≡ true)) (λ q. (q.vertex ≡ update.u) ⊎ (member q.vertex queue' ≡ true)) (λ q k. elim k [ inl h ↦ inl h | inr h ↦ inr (grows q.vertex h) ]) a.edges asks.lists;
+  cores = asks.cores;
+}
+
+-- the view goes on
+pub tidy-view : (update : Update) (old new : Shown) (r : Rising) → IsTidy update old r → new.size ≡ old.size → Further old.kept new.kept → Asks update new.kept r.queue.items → IsTidy update new r
+tidy-view update old new r t size further asks = record {
+  orderly = t.orderly;
+  within = λ z m. let l : z < old.size = t.within z m in omega (arith, l, size);
+  placed = λ z m. still_has_core old.kept new.kept z further (t.placed z m);
+  read = λ z m. still_has_list old.kept new.kept z further (t.read z m);
+  asks = asks;
+}
+
+-- queue, candidates and evicted go on
+pub tidy-rising : (update : Update) (shown : Shown) (old new : Rising) → IsTidy update shown old → IsOrderly new
+    → ((z : ℕ) → member z old.queue.items ≡ true → member z new.queue.items ≡ true)
+    → ((z : ℕ) → member z new.queue.items ≡ true → (member z old.queue.items ≡ true) ⊎ ((z < shown.size) × (has_core shown.kept z ≡ true)))
+    → ((z : ℕ) → member z (left new) ≡ true → (member z (left old) ≡ true) ⊎ (has_list shown.kept z ≡ true)) → IsTidy update shown new
+tidy-rising update shown old new t orderly grows from read = record {
+  orderly = orderly;
+  within = λ z m. elim (from z m) [ inl k ↦ t.within z k | inr k ↦ k.0 ];
+  placed = λ z m. elim (from z m) [ inl k ↦ t.placed z k | inr k ↦ k.1 ];
+  read = λ z m. elim (read z m) [ inl k ↦ t.read z k | inr k ↦ k ];
+  asks = asks-queued update shown.kept old.queue.items new.queue.items t.asks grows;
+}
+
+-- no more are queued than there are vertices
+pub queue-fits : (update : Update) (shown : Shown) (r : Rising) → IsTidy update shown r → length r.queue.items ≤ shown.size
+queue-fits update shown r t = below_bound shown.size r.queue.items t.orderly.once t.within
+
+-- who has left the queue was in it
+pub left-queued : (r : Rising) (z : ℕ) → member z (left r) ≡ true → member z r.queue.items ≡ true
+left-queued r z m = take-member r.turn r.queue.items z m
+
+pub weak-fits : (update : Update) (shown : Shown) (r : Rising) → IsTidy update shown r → length r.weak.items ≤ shown.size
+weak-fits update shown r t = below_bound shown.size r.weak.items t.orderly.weak_once (λ x m. t.within x (left-queued r x (t.orderly.weak_left x m)))
+
+-- the first of those that wait leaves the queue
+pub left-more : (w : ℕ) (mark : Mark) (old new : Rising) → Leaves w mark old new → old.turn < length old.queue.items → get_or old.queue.items old.turn 0 ≡ w → left new ≡ left old ++ w ∷ []
+left-more w mark old new l lt first =
+    ap (λ xs. take new.turn xs) l.queue ∙ (ap (λ n. take n old.queue.items) l.turn ∙ (take_more old.queue.items old.turn 0 lt ∙ ap (λ y. left old ++ y ∷ []) first))
+
+-- and is found in no list
+pub first-not_left : (w : ℕ) (r : Rising) → IsOrderly r → r.turn < length r.queue.items → get_or r.queue.items r.turn 0 ≡ w → member w (left r) ≡ false
+first-not_left w r o lt first = subst (λ (y : ℕ). member y (left r) ≡ false) first (take-not_here r.turn r.queue.items lt o.once)
+
+pub leave-orderly : (w : ℕ) (mark : Mark) (old new : Rising) → IsOrderly old → Leaves w mark old new → old.turn < length old.queue.items → get_or old.queue.items old.turn 0 ≡ w
+    → (mark.is_candidate ≡ true → mark.turn ≡ old.turn) → mark.is_weak ≡ false → IsOrderly new
+leave-orderly w mark old new o l lt first turn none =
+    let out : member w (left old) ≡ false = first-not_left w old o lt first in
+    let there : member w old.queue.items ≡ true = subst (λ (y : ℕ). member y old.queue.items ≡ true) first (member-get_or old.queue.items old.turn 0 lt) in
+    let more : left new ≡ left old ++ w ∷ [] = left-more w mark old new l lt first in
+    let grows : (z : ℕ) → member z (left old) ≡ true → member z (left new) ≡ true = λ z m. ap (member z) more ∙ member-push_left z w (left old) m in
+    record {
+      once = subst Distinct (sym l.queue) o.once;
+      marked = λ z. elim (cases_eq z w) [
+        | inl e ↦ ap (is_queued new) e ∙ (ap is_some l.marks.here ∙ sym (ap (member z) l.queue ∙ (ap (λ y. member y old.queue.items) e ∙ there)))
+        | inr ne ↦ ap is_some (l.marks.others z ne) ∙ (o.marked z ∙ sym (ap (member z) l.queue))
+      ];
+      turn_in = let k : length new.queue.items ≡ length old.queue.items = ap length l.queue in omega (arith, k, l.turn, lt);
+      turned = λ z c. elim (cases_eq z w) [
+        | inl e ↦
+            let here : mark.is_candidate ≡ true = sym (ap candidate_in l.marks.here) ∙ (ap (is_candidate new) (sym e) ∙ c) in
+            let at : turn_at new z ≡ old.turn = ap (turn_at new) e ∙ (ap turn_in l.marks.here ∙ turn here) in (
+              omega (arith, at, l.turn),
+              ap (λ xs. get_or xs (turn_at new z) 0) l.queue ∙ (ap (λ n. get_or old.queue.items n 0) at ∙ (first ∙ sym e)),
+            )
+        | inr ne ↦
+            let k = o.turned z (sym (ap candidate_in (l.marks.others z ne)) ∙ c) in
+            let at : turn_at new z ≡ turn_at old z = ap turn_in (l.marks.others z ne) in (
+              omega (arith, at, l.turn, k.0),
+              ap (λ xs. get_or xs (turn_at new z) 0) l.queue ∙ (ap (λ n. get_or old.queue.items n 0) at ∙ k.1),
+            )
+      ];
+      weak_once = subst Distinct (sym l.weak) o.weak_once;
+      weak_marked = λ z. elim (cases_eq z w) [
+        | inl e ↦
+            let absent : member w old.weak.items ≡ false = false_from_ne_true _ (λ m. true≢false (sym (o.weak_left w m) ∙ out)) in
+            ap (is_weak new) e ∙ (ap weak_in l.marks.here ∙ (none ∙ sym (ap (member z) l.weak ∙ (ap (λ y. member y old.weak.items) e ∙ absent))))
+        | inr ne ↦ ap weak_in (l.marks.others z ne) ∙ (o.weak_marked z ∙ sym (ap (member z) l.weak))
+      ];
+      weak_left = λ z m. grows z (o.weak_left z (sym (ap (member z) l.weak) ∙ m));
+      shifted = ap firsts l.shifts ∙ (o.shifted ∙ sym (ap (λ xs. take (length new.shifts.items) xs) l.weak ∙ ap (λ xs. take (length xs) old.weak.items) l.shifts));
+      anchored = λ z m. grows z (o.anchored z (sym (ap (λ xs. member z (seconds xs)) l.shifts) ∙ m));
+    }
+
+-- so that it is still tidy
+pub leave-tidy : (update : Update) (shown : Shown) (w : ℕ) (mark : Mark) (old new : Rising) → IsTidy update shown old → Leaves w mark old new → old.turn < length old.queue.items → get_or old.queue.items old.turn 0 ≡ w
+    → (mark.is_candidate ≡ true → mark.turn ≡ old.turn) → mark.is_weak ≡ false → has_list shown.kept w ≡ true → IsTidy update shown new
+leave-tidy update shown w mark old new t l lt first turn none read =
+    tidy-rising update shown old new t (leave-orderly w mark old new t.orderly l lt first turn none) (λ z m. ap (member z) l.queue ∙ m) (λ z m. inl (sym (ap (member z) l.queue) ∙ m))
+    (λ z m. elim (member-push_cases z w (left old) (sym (ap (member z) (left-more w mark old new l lt first)) ∙ m)) [ inl k ↦ inl k | inr e ↦ inr (ap (has_list shown.kept) e ∙ read) ])

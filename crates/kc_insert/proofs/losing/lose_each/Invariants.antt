@@ -1,0 +1,10 @@
+use Rattle.std.proofs.Common.{take}
+use Rattle.kc_insert.specs.Rising.{IsOrderly}
+use Rattle.kc_insert.specs.Turns.{Loses}
+use Rattle.kc_insert.proofs.losing.lose_each.Given as goal
+
+abbrev pub invariant-loop-y : goal.invariant-loop-y
+invariant-loop-y l = record {
+  orderly : IsOrderly l.rising;
+  loses : Loses l.level l.loss (take l.y-index l.row) l.fn.rising l.rising;
+}

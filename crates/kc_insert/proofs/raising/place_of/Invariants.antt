@@ -1,0 +1,26 @@
+use Rattle.std.proofs.Common.{◌≡◌, ◌≤◌, ◌<◌, ◌-◌, ℕ, true, length}
+use Rattle.kc_lists.specs.Lists.{member}
+use Rattle.kc_graph.specs.Lawful.{Ranked}
+use Rattle.kc_graph.specs.declared.update.Update.{Update}
+use Rattle.kc_cert.specs.Ranks.{rank_in, Ascends}
+use Rattle.kc_view.specs.Answers.{Agrees}
+use Rattle.kc_view.specs.Views.{GoesOn}
+use Rattle.kc_insert.specs.Rising.{left, IsTidy}
+use Rattle.kc_insert.specs.Turns.{IsPlaceWithin}
+use Rattle.kc_insert.proofs.raising.place_of.Given as goal
+
+abbrev pub invariant-loop-low : goal.invariant-loop-low
+invariant-loop-low g l =
+    let v = g.V.View in
+    record {
+      goes_on : GoesOn (v.shown l.fn.view) (v.shown l.view) (v.is_missed l.fn.view) (v.is_missed l.view) (v.is_given l.fn.view) (v.is_given l.view);
+      tidy : (update : Update) → IsTidy update (v.shown l.fn.view) l.rising → IsTidy update (v.shown l.view) l.rising;
+      from : l.rising.turn ≤ l.low;
+      up : l.low ≤ l.high;
+      within : l.high ≤ length l.rising.queue.items;
+      place : (s : Ranked) → Agrees (v.shown l.view).kept s → Ascends (rank_in s.order) l.rising.queue.items → ((z : ℕ) → member z (left l.rising) ≡ true → rank_in s.order z < rank_in s.order l.x)
+          → IsPlaceWithin (rank_in s.order) l.rising.queue.items l.x l.low l.high;
+    }
+
+abbrev pub decreases-loop-low : goal.decreases-loop-low
+decreases-loop-low g l = l.high - l.low

@@ -1,0 +1,7 @@
+use Rattle.std.proofs.Common.{◌≡◌, take}
+use Rattle.std.specs.List.{filter}
+use Rattle.kc_insert.specs.Rising.{is_candidate}
+use Rattle.kc_insert.proofs.rising.Rising.candidates.Given as goal
+
+abbrev pub invariant-loop-y : goal.invariant-loop-y
+invariant-loop-y l = l.list.items ≡ filter (is_candidate l.self) (take l.y-index l.self.queue.items)

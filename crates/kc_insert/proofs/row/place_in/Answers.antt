@@ -1,0 +1,6 @@
+use Rattle.std.proofs.lemmas.List.Sorted.{searched}
+use Rattle.kc_graph.proofs.RowsLemmas.{rises}
+use Rattle.kc_insert.proofs.row.place_in.Goals as goal
+
+pub returns : goal.returns
+returns c = searched c.args.row.now c.args.other c.binary_search.result c.binary_search.ensures.position (rises c.args.row.now c.requires)

@@ -1,0 +1,24 @@
+use Rattle.std.proofs.Common.{◌≡◌, ◌-◌, ℕ, true, length}
+use Rattle.kc_lists.specs.Lists.{member}
+use Rattle.kc_graph.specs.Lawful.{Ranked}
+use Rattle.kc_view.specs.Answers.{Agrees}
+use Rattle.kc_view.specs.Views.{GoesOn}
+use Rattle.kc_insert.specs.Added.{search_of}
+use Rattle.kc_insert.specs.Rising.{left, IsTidy}
+use Rattle.kc_insert.specs.Searching.{Widened}
+use Rattle.kc_insert.specs.Turns.{Settling}
+use Rattle.kc_insert.proofs.settling.evict_weak.Given as goal
+
+abbrev pub invariant-loop-alloc : goal.invariant-loop-alloc
+invariant-loop-alloc g l =
+    let v = g.V.View in
+    record {
+      goes_on : GoesOn (v.shown l.fn.view) (v.shown l.view) (v.is_missed l.fn.view) (v.is_missed l.view) (v.is_given l.fn.view) (v.is_given l.view);
+      tidy : IsTidy l.update (v.shown l.view) l.rising;
+      anchor : member l.anchor (left l.rising) ≡ true;
+      turn : l.rising.turn ≡ l.fn.rising.turn;
+      settling : (s : Ranked) (root : ℕ) → Agrees (v.shown l.view).kept s → Widened (search_of l.update l.level s) root → Settling (search_of l.update l.level s) root l.fn.rising l.w → Settling (search_of l.update l.level s) root l.rising l.anchor;
+    }
+
+abbrev pub decreases-loop-alloc : goal.decreases-loop-alloc
+decreases-loop-alloc g l = (g.V.View.shown l.fn.view).size - length l.rising.shifts.items

@@ -1,0 +1,6 @@
+pub mod Added
+pub mod Marks
+pub mod Rising
+pub mod Searching
+pub mod Sure
+pub mod Turns

@@ -1,0 +1,34 @@
+-- What is kept of the vertices that were queued.
+use Rattle.std.specs.Prelude.{ℕ, Bool, false, Option, Some, None, nat_eq}
+use Rattle.std.specs.declared.hash.FoldHasher.{FoldHasher}
+use Rattle.std.specs.declared.hash.BuildHasherDefault.{BuildHasherDefault}
+use Rattle.std.specs.HashMap.{get, HashMap}
+use Rattle.kc_insert.specs.declared.rising.Mark.{Mark}
+
+-- a mark for each vertex that has one
+abbrev pub Marks : Type 0
+Marks = HashMap ℕ Mark (BuildHasherDefault FoldHasher)
+
+abbrev pub mark_of : Marks → ℕ → Option Mark
+mark_of marks y = get nat_eq marks y
+
+-- what a mark says
+abbrev pub earlier_in : Option Mark → ℕ
+earlier_in None = 0
+earlier_in (Some mark) = mark.earlier
+
+abbrev pub later_in : Option Mark → ℕ
+later_in None = 0
+later_in (Some mark) = mark.later
+
+abbrev pub turn_in : Option Mark → ℕ
+turn_in None = 0
+turn_in (Some mark) = mark.turn
+
+abbrev pub candidate_in : Option Mark → Bool
+candidate_in None = false
+candidate_in (Some mark) = mark.is_candidate
+
+abbrev pub weak_in : Option Mark → Bool
+weak_in None = false
+weak_in (Some mark) = mark.is_weak

@@ -1,0 +1,73 @@
+//! The turns of the queue.
+ghost use Rattle.std.specs.Prelude.{◌≡◌, ◌<◌, ◌≤◌, ◌+◌, ℕ, length, OnOk, IfErr};
+ghost use Rattle.kc_graph.specs.Lawful.{Ranked};
+ghost use Rattle.kc_view.specs.Answers.{Agrees};
+ghost use Rattle.kc_view.specs.Views.{GoesOn, HasPlanCause};
+ghost use Rattle.kc_insert.specs.Added.{search_of};
+ghost use Rattle.kc_insert.specs.Rising.{IsTidy};
+ghost use Rattle.kc_insert.specs.Searching.{Widened};
+ghost use Rattle.kc_insert.specs.Turns.{Between};
+
+use crate::ahead::look_ahead;
+use crate::raising::raise;
+use crate::rising::{Mark, Rising};
+use crate::row::row_of;
+use crate::settling::settle;
+use kc_graph::Update;
+use kc_view::{PlanFault, View};
+use std::alloc::Global;
+
+/// The turn of the vertex that waits first: it becomes a candidate, or is settled, or leaves the queue and changes nothing.
+fn take_turn<V: View>(
+    alloc: Global,
+    view: &mut V,
+    update: Update,
+    level: u32,
+    rising: &mut Rising,
+) -> Result<(), PlanFault>
+    requires ends { update.v < (V.shown view.old).size }
+    requires turn { rising.old.turn < length rising.old.queue.items }
+    requires tidy { IsTidy update (V.shown view.old) rising.old }
+    ensures goes_on { GoesOn (V.shown view.old) (V.shown view.new) (V.is_missed view.old) (V.is_missed view.new) (V.is_given view.old) (V.is_given view.new) }
+    ensures cause { IfErr result (λ fault. HasPlanCause (V.shown view.old) (V.shown view.new) (V.is_missed view.new) fault) }
+    ensures tidy { OnOk result (IsTidy update (V.shown view.new) rising.new) }
+    ensures turn { OnOk result (rising.new.turn ≡ rising.old.turn + 1) }
+    ensures turns { OnOk result ((s : Ranked) (root : ℕ) → update.v < s.graph.size → Agrees (V.shown view.new).kept s → Widened (search_of update level s) root
+        → Between (search_of update level s) root rising.old → Between (search_of update level s) root rising.new) }
+{
+    let w = rising.queue[rising.turn];
+    let row = row_of(alloc, view, update, w)?;
+    let ahead = look_ahead(alloc, view, update, level, w, &row)?;
+    let earlier = rising.earlier_of(w);
+    if earlier.saturating_add(ahead.count) > level as usize {
+        return raise(view, w, earlier, &ahead, rising);
+    }
+    if earlier > 0 {
+        return settle(alloc, view, update, level, w, &row, rising);
+    }
+    rising.leave(w, Mark::past())?;
+    Ok(())
+}
+
+/// Takes the turns of all that wait, and of those that are queued meanwhile.
+pub(crate) fn take_turns<V: View>(
+    alloc: Global,
+    view: &mut V,
+    update: Update,
+    level: u32,
+    rising: &mut Rising,
+) -> Result<(), PlanFault>
+    requires ends { update.v < (V.shown view.old).size }
+    requires tidy { IsTidy update (V.shown view.old) rising.old }
+    ensures goes_on { GoesOn (V.shown view.old) (V.shown view.new) (V.is_missed view.old) (V.is_missed view.new) (V.is_given view.old) (V.is_given view.new) }
+    ensures cause { IfErr result (λ fault. HasPlanCause (V.shown view.old) (V.shown view.new) (V.is_missed view.new) fault) }
+    ensures tidy { OnOk result (IsTidy update (V.shown view.new) rising.new) }
+    ensures ended { OnOk result (rising.new.turn ≡ length rising.new.queue.items) }
+    ensures turns { OnOk result ((s : Ranked) (root : ℕ) → update.v < s.graph.size → Agrees (V.shown view.new).kept s → Widened (search_of update level s) root
+        → Between (search_of update level s) root rising.old → Between (search_of update level s) root rising.new) }
+{
+    while rising.turn < rising.queue.len() {
+        take_turn(alloc, view, update, level, rising)?;
+    }
+    Ok(())
+}
