@@ -1,0 +1,21 @@
+//! Tests that cross crates: the planners over long sequences of updates.
+//!
+//! Each plan is judged by what knows nothing of the planner that made it: the local test and the whole check of `kc_cert`, a
+//! decomposition of the graph after it, and moves that are made here by what `Moves` says. What the planners were answered is compared
+//! with the state itself. Over a view that answers what it likes they have to return. The crate has no code but its tests.
+#![tactic(auto)]
+
+#[cfg(test)]
+mod draws;
+#[cfg(test)]
+mod levels;
+#[cfg(test)]
+mod planning;
+#[cfg(test)]
+mod sequences;
+#[cfg(test)]
+mod shapes;
+#[cfg(test)]
+mod tally;
+#[cfg(test)]
+mod whims;
