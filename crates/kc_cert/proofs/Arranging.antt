@@ -2,9 +2,9 @@
 use Rattle.std.proofs.Common.{◌≡◌, ◌≢◌, ◌≤◌, ◌<◌, ◌+◌, ◌-◌, ℕ, suc, zero, Bool, true, false, cond, ◌&&◌, ◌||◌, List, [], ◌∷◌, ◌++◌, length, get_or, eqb, ltb, leb, refl, sym, ◌∙◌, ap, ap₂, inl, inr, arith, true≢false, eq-eqb, lt-ltb}
 use Rattle.std.specs.Prelude.{AllPairs}
 use Rattle.std.proofs.lemmas.Bool.{cases_Bool, cases_eq, cases_lt, or_parts, false≢true, ltb-true, ltb-false, leb-true, leb-false, le-ltb}
-use Rattle.kc_lists.specs.Lists.{member, Distinct, below}
-use Rattle.kc_lists.proofs.Members.{member-head, member-tail, not_member-append, member-append_left, member-append_right}
-use Rattle.kc_lists.proofs.Counting.{member-get_or, member-below}
+use Rattle.kc_distinct.specs.Lists.{member, Distinct, below}
+use Rattle.kc_distinct.proofs.Members.{member-head, member-tail, not_member-append, member-append_left, member-append_right}
+use Rattle.kc_distinct.proofs.Counting.{member-get_or, member-below}
 use Rattle.kc_graph.specs.Lawful.{Ranked, IsCertified}
 use Rattle.kc_graph.specs.Plans.{put_between, shifted, renumbered, moved_by}
 use Rattle.kc_graph.specs.declared.plan.Moves.{Moves}

@@ -4,9 +4,9 @@ use Rattle.std.specs.Prelude.{unwrap_or, count_by}
 use Rattle.std.specs.Bool.{beq}
 use Rattle.std.proofs.lemmas.Bool.{false≢true}
 use mathlib.Core.Path.{fun_ext}
-use Rattle.kc_lists.specs.Lists.{member, Distinct, below, place_of}
-use Rattle.kc_lists.proofs.Members.{member-head}
-use Rattle.kc_lists.proofs.Counting.{member-below, Distinct-below}
+use Rattle.kc_distinct.specs.Lists.{member, Distinct, below, place_of}
+use Rattle.kc_distinct.proofs.Members.{member-head}
+use Rattle.kc_distinct.proofs.Counting.{member-below, Distinct-below}
 use Rattle.kc_graph.specs.SimpleGraph.{SimpleGraph, adjacent, degree_among}
 use Rattle.kc_graph.specs.Certificate.{degree_as_high}
 use Rattle.kc_graph.specs.declared.update.Update.{Update}

@@ -2,9 +2,9 @@
 use Rattle.std.proofs.Common.{◌≡◌, ◌≢◌, ◌≤◌, ◌<◌, ◌+◌, ℕ, Bool, true, false, not, ◌||◌, List, [], ◌∷◌, drop, length, get_or, eqb, refl, sym, ◌∙◌, ap, subst, inl, inr, arith, true≢false, eq-eqb, ne_eqb}
 use Rattle.std.specs.List.{list_any}
 use Rattle.std.proofs.lemmas.Bool.{cases_Bool, cases_eq, or_cases, or_left, or_right, or_from, or_parts, false≢true}
-use Rattle.kc_lists.specs.Lists.{member, place_of}
-use Rattle.kc_lists.proofs.Members.{member-cases, member-head}
-use Rattle.kc_lists.proofs.Counting.{member-below, Contains-from_member}
+use Rattle.kc_distinct.specs.Lists.{member, place_of}
+use Rattle.kc_distinct.proofs.Members.{member-cases, member-head}
+use Rattle.kc_distinct.proofs.Counting.{member-below, Contains-from_member}
 use Rattle.kc_graph.specs.SimpleGraph.{SimpleGraph, adjacent, degree_among}
 use Rattle.kc_graph.specs.Neighbours.{neighbours_of}
 use Rattle.kc_graph.specs.Lawful.{Ranked, IsCertified}

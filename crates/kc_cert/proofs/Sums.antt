@@ -2,9 +2,9 @@
 use Rattle.std.proofs.Common.{◌≡◌, ◌≢◌, ◌≤◌, ◌<◌, ◌+◌, ℕ, Bool, true, false, cond, List, [], ◌∷◌, refl, sym, ◌∙◌, ap, inl, inr, arith, true≢false}
 use Rattle.std.specs.Prelude.{count_by}
 use Rattle.std.proofs.lemmas.Bool.{cases_eq, false≢true}
-use Rattle.kc_lists.specs.Lists.{member, Distinct}
-use Rattle.kc_lists.proofs.Members.{member-head, member-tail, member-cases}
-use Rattle.kc_lists.proofs.Counting.{member-other, count-agree, count-le, count-yes, count-no, count-cons}
+use Rattle.kc_distinct.specs.Lists.{member, Distinct}
+use Rattle.kc_distinct.proofs.Members.{member-head, member-tail, member-cases}
+use Rattle.kc_distinct.proofs.Counting.{member-other, count-agree, count-le, count-yes, count-no, count-cons}
 
 abbrev pub one_if : Bool → ℕ
 one_if b = cond b 1 0

@@ -3,9 +3,9 @@ use Rattle.std.proofs.Common.{◌≡◌, ◌≤◌, ◌<◌, ◌+◌, ℕ, suc, 
 use Rattle.std.specs.Prelude.{⊤, MatchOption}
 use Rattle.std.proofs.lemmas.Bool.{cases_Bool, cases_eq, cases_lt, false≢true, false_from_ne_true}
 use Rattle.std.proofs.lemmas.List.{take_more}
-use Rattle.kc_lists.specs.Lists.{member, Distinct, place_of}
-use Rattle.kc_lists.proofs.Members.{member-head, member-tail, member-cases, member-append, not_member-append, not_member-parts}
-use Rattle.kc_lists.proofs.Counting.{member-other, drop-member}
+use Rattle.kc_distinct.specs.Lists.{member, Distinct, place_of}
+use Rattle.kc_distinct.proofs.Members.{member-head, member-tail, member-cases, member-append, not_member-append, not_member-parts}
+use Rattle.kc_distinct.proofs.Counting.{member-other, drop-member}
 use Rattle.kc_graph.specs.Lawful.{Ranked}
 use Rattle.kc_cert.specs.Local.{firsts, seconds, AreInTurn, IsOfLevel}
 use Rattle.kc_cert.specs.Shifting.{place_in}

@@ -1,7 +1,7 @@
 -- What the maps hold by which moves are asked.
 use Rattle.std.specs.Prelude.{◌≡◌, ◌↔◌, ℕ, IsTrue, List, [], nat_eq}
 use Rattle.std.specs.HashMap.{get}
-use Rattle.kc_lists.specs.Lists.{Distinct}
+use Rattle.kc_distinct.specs.Lists.{Distinct}
 use Rattle.kc_graph.specs.declared.plan.Moves.{Moves}
 use Rattle.kc_cert.specs.declared.places.Places.{Places}
 use Rattle.kc_cert.specs.declared.chains.Chains.{Chains}

@@ -1,6 +1,6 @@
 -- The conditions of the certificate, one by one.
 use Rattle.std.specs.Prelude.{◌≤◌, ◌<◌, ◌+◌, ◌&&◌, ℕ, List, length, slice_index, AllPairs, count_by, drop, nat_le}
-use Rattle.kc_lists.specs.Lists.{below}
+use Rattle.kc_distinct.specs.Lists.{below}
 use Rattle.kc_graph.specs.SimpleGraph.{SimpleGraph, adjacent, degree_among}
 
 -- the numbers never fall along the order

@@ -1,6 +1,6 @@
 //! Core numbers and order after moves, asked a vertex at a time.
 ghost use Rattle.std.specs.Prelude.{◌≡◌, ◌≢◌, ◌<◌, ℕ, IfOk, slice_index, false};
-ghost use Rattle.kc_lists.specs.Lists.{member, Distinct};
+ghost use Rattle.kc_distinct.specs.Lists.{member, Distinct};
 ghost use Rattle.kc_graph.specs.Lawful.{Ranked, IsCertified};
 ghost use Rattle.kc_graph.specs.Plans.{moved_by};
 ghost use Rattle.kc_cert.specs.Local.{firsts, AreInTurn, MovesFit};

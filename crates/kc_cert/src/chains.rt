@@ -1,7 +1,7 @@
 //! Shifts, compared without making them.
 ghost use Rattle.std.specs.Prelude.{◌≡◌, ◌≢◌, ◌<◌, ℕ, [], IfOk, OnOk, true, false, length, nat_eq, slice_index, is_some, if◌then◌else◌, Some};
 ghost use Rattle.std.specs.HashMap.{get};
-ghost use Rattle.kc_lists.specs.Lists.{member, Distinct, right_after};
+ghost use Rattle.kc_distinct.specs.Lists.{member, Distinct, right_after};
 ghost use Rattle.kc_graph.specs.Lawful.{Ranked};
 ghost use Rattle.kc_cert.specs.Local.{firsts, AreInTurn};
 ghost use Rattle.kc_cert.specs.Ranks.{rank_in};

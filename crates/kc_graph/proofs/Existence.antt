@@ -2,9 +2,9 @@
 use Rattle.std.proofs.Common.{◌≡◌, ◌≢◌, ◌≤◌, ◌<◌, ◌+◌, ◌-◌, ℕ, suc, zero, Bool, true, false, not, ◌&&◌, ◌++◌, ◌⊎◌, List, [], ◌∷◌, length, set, replicate, sym, ap, ◌∙◌, inl, inr, arith, nat_le, leb-true, le-leb, length-append, length-set, true≢false}
 use Rattle.std.proofs.lemmas.Bool.{cases_Bool, cases_eq, cases_lt, and_parts, and_from, false≢true, not-true, true_from_ne_false, eqb-false}
 use Rattle.std.proofs.lemmas.List.{get_or-set_same, get_or-set_other, get_or-replicate, length-replicate}
-use Rattle.kc_lists.specs.Lists.{member}
-use Rattle.kc_lists.proofs.Members.{below_bound}
-use Rattle.kc_lists.proofs.Counting.{member-push_none}
+use Rattle.kc_distinct.specs.Lists.{member}
+use Rattle.kc_distinct.proofs.Members.{below_bound}
+use Rattle.kc_distinct.proofs.Counting.{member-push_none}
 use Rattle.kc_graph.specs.SimpleGraph.{SimpleGraph}
 use Rattle.kc_graph.specs.Certificate.{Certifies}
 use Rattle.kc_graph.specs.Peeling.{at, Peeled, remaining}

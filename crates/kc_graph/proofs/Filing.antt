@@ -3,9 +3,9 @@ use Rattle.std.proofs.Common.{◌≡◌, ◌≢◌, ◌≤◌, ◌<◌, ◌+◌,
 use Rattle.std.specs.List.{filter}
 use Rattle.std.proofs.lemmas.Bool.{cases_Bool, cases_eq, cases_lt, false≢true, or_right, and_parts, and_from, and_right, eqb-false, false_from_ne_true, true_from_ne_false}
 use Rattle.std.proofs.Math.Bool.{and-true}
-use Rattle.kc_lists.specs.Lists.{member, Distinct}
-use Rattle.kc_lists.proofs.Members.{member-head, member-tail, member-append, member-append_left, member-append_right, append-not_member, Distinct-cut}
-use Rattle.kc_lists.proofs.Counting.{member-push, member-push_left, member-push_cases, member-push_none, member-filter, filter-member, Distinct-filter, Distinct-push}
+use Rattle.kc_distinct.specs.Lists.{member, Distinct}
+use Rattle.kc_distinct.proofs.Members.{member-head, member-tail, member-append, member-append_left, member-append_right, append-not_member, Distinct-cut}
+use Rattle.kc_distinct.proofs.Counting.{member-push, member-push_left, member-push_cases, member-push_none, member-filter, filter-member, Distinct-filter, Distinct-push}
 use Rattle.kc_graph.specs.SimpleGraph.{SimpleGraph, adjacent}
 use Rattle.kc_graph.specs.Certificate.{Certifies}
 use Rattle.kc_graph.specs.Neighbours.{AreNeighbours}

@@ -6,8 +6,8 @@ use Rattle.std.proofs.lemmas.List.Elements.{filter-append}
 use Rattle.std.proofs.lemmas.List.Sums.{sum_by-set}
 use Rattle.std.proofs.lemmas.Bool.{cases_eq, and_from, and_left, and_right, or_right}
 use Rattle.std.proofs.Math.Bool.{or-false}
-use Rattle.kc_lists.specs.Lists.{Distinct, member}
-use Rattle.kc_lists.proofs.Counting.{member-push, take-not_here}
+use Rattle.kc_distinct.specs.Lists.{Distinct, member}
+use Rattle.kc_distinct.proofs.Counting.{member-push, take-not_here}
 use Rattle.kc_graph.specs.Rows.{row}
 use Rattle.kc_graph.specs.Peeling.{at, work, Lowered}
 use Rattle.kc_graph.proofs.Buckets.{row-set_same, row-set_other}

@@ -6,8 +6,8 @@ use Rattle.std.proofs.lemmas.List.{take-append-le, get_or_append_left}
 use Rattle.std.proofs.lemmas.List.Quantifiers.{all_pairs_push}
 use Rattle.std.proofs.Math.Bool.{or-false, and-true}
 use Rattle.std.proofs.Math.Seq.{get_or-append_seam, take-length}
-use Rattle.kc_lists.specs.Lists.{Distinct, below, member}
-use Rattle.kc_lists.proofs.Counting.{member-get_or, Contains-from_member, pairs_from_Distinct, count-le, count-mono, count-miss, member-push, member-push_cases, member-push_none, Distinct-push, member-below, below-member, Distinct-below, length-below, drop-member, Distinct-drop, drop-not_take, count-agree, count-without, count-all}
+use Rattle.kc_distinct.specs.Lists.{Distinct, below, member}
+use Rattle.kc_distinct.proofs.Counting.{member-get_or, Contains-from_member, pairs_from_Distinct, count-le, count-mono, count-miss, member-push, member-push_cases, member-push_none, Distinct-push, member-below, below-member, Distinct-below, length-below, drop-member, Distinct-drop, drop-not_take, count-agree, count-without, count-all}
 use Rattle.kc_graph.specs.SimpleGraph.{SimpleGraph, adjacent, degree_among}
 use Rattle.kc_graph.specs.Certificate.{Certifies, degree_as_high}
 use Rattle.kc_graph.specs.Neighbours.{AreNeighbours}

@@ -1,6 +1,6 @@
 -- What a plan makes of a graph with its core numbers and their order.
 use Rattle.std.specs.Prelude.{ℕ, ◌+◌, ◌-◌, Bool, not, ◌&&◌, List, [], ◌∷◌, ◌++◌, filter, slice_index, slice_set, nat_le, nat_lt, if◌then◌else◌}
-use Rattle.kc_lists.specs.Lists.{member, right_after, without}
+use Rattle.kc_distinct.specs.Lists.{member, right_after, without}
 use Rattle.kc_graph.specs.SimpleGraph.{SimpleGraph, adjacent}
 use Rattle.kc_graph.specs.Edges.{with_edge, without_edge}
 use Rattle.kc_graph.specs.Lawful.{Ranked}

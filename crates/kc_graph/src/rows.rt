@@ -3,7 +3,7 @@ ghost use Rattle.std.specs.Prelude.{◌≡◌, ◌≢◌, ◌<◌, ℕ, List, tr
 ghost use Rattle.std.specs.List.Sorted.{IsStrictlyIncreasing};
 ghost use Rattle.std.specs.declared.vec.Vec.{Vec};
 ghost use Rattle.std.specs.declared.alloc.Global.{Global};
-ghost use Rattle.kc_lists.specs.Lists.{member};
+ghost use Rattle.kc_distinct.specs.Lists.{member};
 ghost use Rattle.kc_graph.specs.Rows.{lists, row, IsPlace, Inserted, Deleted, IsAdjacency, BothInserted, BothDeleted};
 
 use crate::NoMemory;

@@ -1,7 +1,7 @@
 -- What the search leaves once the queue is empty, with all candidates raised: both counts of the certificate, at each vertex.
 use Rattle.std.proofs.Common.{◌≡◌, ◌≢◌, ◌≤◌, ◌<◌, ◌+◌, ℕ, Bool, true, false, cond, ◌&&◌, ◌||◌, List, [], ltb, leb, sym, ◌∙◌, ap, subst, inl, inr, arith, true≢false, eq-eqb, le_trans}
 use Rattle.std.proofs.lemmas.Bool.{cases_Bool, cases_eq, cases_lt, cases_order, false≢true}
-use Rattle.kc_lists.specs.Lists.{member}
+use Rattle.kc_distinct.specs.Lists.{member}
 use Rattle.kc_cert.specs.Ranks.{then_after}
 use Rattle.kc_cert.proofs.Sums.{one_if}
 use Rattle.kc_view.specs.Search.{Search, among, on_level, above, after, OnLevel}

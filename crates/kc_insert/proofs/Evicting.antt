@@ -4,9 +4,9 @@ use Rattle.std.specs.Prelude.{is_some}
 use Rattle.std.specs.Vec.{vec_len}
 use Rattle.std.proofs.lemmas.Bool.{cases_Bool, cases_eq, cases_order, false≢true, false_from_ne_true}
 use Rattle.std.proofs.lemmas.List.{take_more, drop_more, drop_all, drop_at, drop-append-le, length_push, get_or_read}
-use Rattle.kc_lists.specs.Lists.{member, Distinct}
-use Rattle.kc_lists.proofs.Members.{member-head, member-tail, member-cases, member-append, member-append_left, member-append_right, not_member-cons}
-use Rattle.kc_lists.proofs.Counting.{member-get_or, member-push_cases, Distinct-drop}
+use Rattle.kc_distinct.specs.Lists.{member, Distinct}
+use Rattle.kc_distinct.proofs.Members.{member-head, member-tail, member-cases, member-append, member-append_left, member-append_right, not_member-cons}
+use Rattle.kc_distinct.proofs.Counting.{member-get_or, member-push_cases, Distinct-drop}
 use Rattle.kc_graph.specs.declared.update.Update.{Update}
 use Rattle.kc_cert.specs.Local.{firsts, seconds}
 use Rattle.kc_cert.specs.Ranks.{Ascends}

@@ -3,8 +3,8 @@ use Rattle.std.proofs.Common.{◌≡◌, ◌≤◌, ◌<◌, ◌+◌, ℕ, Bool,
 use Rattle.std.specs.Prelude.{count_by}
 use Rattle.std.proofs.lemmas.Bool.{and_parts}
 use Rattle.std.proofs.lemmas.List.{take_more}
-use Rattle.kc_lists.specs.Lists.{member, Distinct, below}
-use Rattle.kc_lists.proofs.Counting.{member-push, Distinct-push, member-below, below-member, Distinct-below, count-agree, count-le}
+use Rattle.kc_distinct.specs.Lists.{member, Distinct, below}
+use Rattle.kc_distinct.proofs.Counting.{member-push, Distinct-push, member-below, below-member, Distinct-below, count-agree, count-le}
 use Rattle.kc_cert.proofs.Sums.{one_if}
 use Rattle.kc_cert.proofs.Tallying.{count-more}
 use Rattle.kc_view.specs.Search.{Search, on_level, above, after}

@@ -3,9 +3,9 @@ use Rattle.std.proofs.Common.{◌≡◌, ◌≢◌, ◌≤◌, ◌<◌, ◌+◌,
 use Rattle.std.specs.Prelude.{is_some}
 use Rattle.std.proofs.lemmas.Bool.{cases_Bool, cases_eq, false≢true, false_from_ne_true}
 use Rattle.std.proofs.lemmas.List.{append-nil, append_assoc, take-append-le}
-use Rattle.kc_lists.specs.Lists.{member, Distinct}
-use Rattle.kc_lists.proofs.Members.{member-head, member-tail, member-cases, member-append_left}
-use Rattle.kc_lists.proofs.Counting.{member-push, member-push_left, member-push_cases, Distinct-push}
+use Rattle.kc_distinct.specs.Lists.{member, Distinct}
+use Rattle.kc_distinct.proofs.Members.{member-head, member-tail, member-cases, member-append_left}
+use Rattle.kc_distinct.proofs.Counting.{member-push, member-push_left, member-push_cases, Distinct-push}
 use Rattle.kc_cert.specs.Local.{firsts, seconds}
 use Rattle.kc_cert.proofs.Final.{filter-has}
 use Rattle.kc_insert.specs.Marks.{mark_of, earlier_in, later_in, turn_in, candidate_in, weak_in}

@@ -2,9 +2,9 @@
 use Rattle.std.proofs.Common.{◌≡◌, ◌≢◌, ◌≤◌, ◌<◌, ◌&&◌, ◌||◌, ℕ, suc, zero, Bool, true, false, not, List, [], ◌∷◌, length, take, drop, get_or, eqb, refl, sym, ◌∙◌, ap, inl, inr, arith, true≢false, eqb-true, eq-eqb, ne_eqb}
 use Rattle.std.specs.List.{insert}
 use Rattle.std.proofs.lemmas.Bool.{cases_eq, or_cases, false_from_ne_true}
-use Rattle.kc_lists.specs.Lists.{member, Distinct}
-use Rattle.kc_lists.proofs.Members.{member-head, member-tail}
-use Rattle.kc_lists.proofs.Counting.{member-get_or, drop-member}
+use Rattle.kc_distinct.specs.Lists.{member, Distinct}
+use Rattle.kc_distinct.proofs.Members.{member-head, member-tail}
+use Rattle.kc_distinct.proofs.Counting.{member-get_or, drop-member}
 use Rattle.kc_cert.specs.Ranks.{rank_in, Ascends}
 use Rattle.kc_cert.proofs.Ordered.{rank-here}
 

@@ -3,9 +3,9 @@ use Rattle.std.proofs.Common.{◌≡◌, ◌≢◌, ◌≤◌, ◌<◌, ◌+◌,
 use Rattle.std.specs.Prelude.{count_by}
 use Rattle.std.proofs.lemmas.Bool.{cases_eq, or_cases, or_right, and_parts, false_from_ne_true}
 use Rattle.std.proofs.lemmas.List.{drop_more}
-use Rattle.kc_lists.specs.Lists.{member, below}
-use Rattle.kc_lists.proofs.Members.{member-head}
-use Rattle.kc_lists.proofs.Counting.{member-get_or, member-push_cases, Distinct-below, count-le, count-miss}
+use Rattle.kc_distinct.specs.Lists.{member, below}
+use Rattle.kc_distinct.proofs.Members.{member-head}
+use Rattle.kc_distinct.proofs.Counting.{member-get_or, member-push_cases, Distinct-below, count-le, count-miss}
 use Rattle.kc_cert.specs.Ranks.{Ascends}
 use Rattle.kc_cert.proofs.Sums.{one_if}
 use Rattle.kc_view.specs.Search.{Search, after, OnLevel}

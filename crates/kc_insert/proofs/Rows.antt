@@ -1,6 +1,6 @@
 -- The neighbours once the edge is there, in a state that agrees with the answers.
 use Rattle.std.proofs.Common.{◌≡◌, ◌≢◌, ◌<◌, ℕ, true, ◌||◌, List, sym, ◌∙◌, ap, arith}
-use Rattle.kc_lists.specs.Lists.{member}
+use Rattle.kc_distinct.specs.Lists.{member}
 use Rattle.kc_graph.specs.SimpleGraph.{adjacent}
 use Rattle.kc_graph.specs.Edges.{with_edge}
 use Rattle.kc_graph.specs.Lawful.{Ranked}

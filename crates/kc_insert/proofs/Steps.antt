@@ -1,9 +1,9 @@
 -- Each step of the search keeps what is known.
 use Rattle.std.proofs.Common.{◌≡◌, ◌≢◌, ◌≤◌, ◌<◌, ◌+◌, ◌-◌, ℕ, Bool, true, false, ◌&&◌, ◌||◌, List, [], ◌∷◌, eqb, ltb, leb, refl, sym, ◌∙◌, ap, subst, inl, inr, arith, true≢false, eq-eqb, ne_eqb, lt_irrefl, lt-ltb, le-leb, le_of_eq, le_of_lt}
 use Rattle.std.proofs.lemmas.Bool.{cases_Bool, cases_eq, cases_lt, cases_order, false≢true, and_parts, and_from, or_cases, or_left, or_right, or_from}
-use Rattle.kc_lists.specs.Lists.{member, below}
-use Rattle.kc_lists.proofs.Members.{member-head, member-tail, member-cases}
-use Rattle.kc_lists.proofs.Counting.{member-other}
+use Rattle.kc_distinct.specs.Lists.{member, below}
+use Rattle.kc_distinct.proofs.Members.{member-head, member-tail, member-cases}
+use Rattle.kc_distinct.proofs.Counting.{member-other}
 use Rattle.kc_cert.specs.Ranks.{moved}
 use Rattle.kc_cert.proofs.Sums.{one_if, count-none}
 use Rattle.kc_cert.proofs.Placing.{moved-itself, moved-other}

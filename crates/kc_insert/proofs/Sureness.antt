@@ -1,8 +1,8 @@
 -- The moves of an insertion pass the local test, and move only vertices that the new edge concerns.
 use Rattle.std.proofs.Common.{◌≡◌, ◌<◌, ◌+◌, ℕ, min, Bool, true, false, cond, not, List, [], ◌∷◌, ◌++◌, get_or, leb, refl, sym, ◌∙◌, ap, subst, inl, inr, true≢false, Vec, Global}
 use Rattle.std.proofs.lemmas.Bool.{false≢true, false_from_ne_true}
-use Rattle.kc_lists.specs.Lists.{member, Distinct}
-use Rattle.kc_lists.proofs.Members.{member-head, member-tail, member-append, append-not_member}
+use Rattle.kc_distinct.specs.Lists.{member, Distinct}
+use Rattle.kc_distinct.proofs.Members.{member-head, member-tail, member-append, append-not_member}
 use Rattle.kc_graph.specs.SimpleGraph.{SimpleGraph, adjacent}
 use Rattle.kc_graph.specs.Edges.{with_edge, without_edge}
 use Rattle.kc_graph.specs.Lawful.{Ranked, IsCertified}

@@ -1,9 +1,9 @@
 -- The whole search, with its shifts: each turn keeps what is known.
 use Rattle.std.proofs.Common.{◌≡◌, ◌≢◌, ◌≤◌, ◌<◌, ◌+◌, ℕ, true, false, ◌&&◌, ◌||◌, List, [], ◌∷◌, ◌++◌, ltb, leb, refl, sym, ◌∙◌, ap, subst, ◌⊎◌, inl, inr, arith, true≢false, le_trans}
 use Rattle.std.proofs.lemmas.Bool.{cases_eq, false≢true, false_from_ne_true}
-use Rattle.kc_lists.specs.Lists.{member, Distinct}
-use Rattle.kc_lists.proofs.Members.{member-head, not_member-cons, not_member-parts, append-not_member}
-use Rattle.kc_lists.proofs.Counting.{member-push_cases, Distinct-push}
+use Rattle.kc_distinct.specs.Lists.{member, Distinct}
+use Rattle.kc_distinct.proofs.Members.{member-head, not_member-cons, not_member-parts, append-not_member}
+use Rattle.kc_distinct.proofs.Counting.{member-push_cases, Distinct-push}
 use Rattle.kc_cert.specs.Local.{firsts, seconds, AreInTurn}
 use Rattle.kc_cert.specs.Ranks.{moved, place_after}
 use Rattle.kc_view.specs.Search.{Search, on_level, above, after, OnLevel}

@@ -1,9 +1,9 @@
 -- A vertex that has no candidate before it leaves the queue, and nothing else changes.
 use Rattle.std.proofs.Common.{◌≡◌, ◌≤◌, ◌<◌, ◌+◌, ℕ, true, false, ◌&&◌, List, ◌∷◌, length, get_or, refl, sym, ◌∙◌, ap, subst, inl, inr, arith, true≢false}
 use Rattle.std.proofs.lemmas.Bool.{cases_eq, false_from_ne_true}
-use Rattle.kc_lists.specs.Lists.{member}
-use Rattle.kc_lists.proofs.Counting.{member-push_cases, member-filter}
-use Rattle.kc_lists.proofs.Members.{member-head}
+use Rattle.kc_distinct.specs.Lists.{member}
+use Rattle.kc_distinct.proofs.Counting.{member-push_cases, member-filter}
+use Rattle.kc_distinct.proofs.Members.{member-head}
 use Rattle.kc_cert.specs.Ranks.{Ascends}
 use Rattle.kc_cert.proofs.Final.{filter-has}
 use Rattle.kc_view.specs.Search.{Search}

@@ -1,6 +1,6 @@
 -- Raising core numbers after an edge was added: what the search for the vertices that rise keeps true.
 use Rattle.std.specs.Prelude.{◌≡◌, ◌≢◌, ◌≤◌, ◌<◌, ◌+◌, ◌-◌, ℕ, true, false, ◌&&◌, ◌||◌, List, nat_le, nat_lt, if◌then◌else◌}
-use Rattle.kc_lists.specs.Lists.{member, Distinct}
+use Rattle.kc_distinct.specs.Lists.{member, Distinct}
 use Rattle.kc_cert.specs.Local.{firsts, seconds, AreInTurn}
 use Rattle.kc_cert.specs.Ranks.{Ascends, place_after}
 use Rattle.kc_view.specs.Search.{Search, among, on_level, above, after, OnLevel}

@@ -1,7 +1,7 @@
 -- What the code's steps make of queue, candidates and evicted, and what holds of these in a state that agrees with the answers.
 use Rattle.std.specs.Prelude.{◌≡◌, ◌≢◌, ◌≤◌, ◌<◌, ◌+◌, ◌-◌, ◌^◌, ◌⊎◌, ◌++◌, ◌&&◌, ◌||◌, ℕ, Bool, true, false, not, min, List, [], ◌∷◌, Some, None, length, slice_index, nat_lt, nat_le, if◌then◌else◌}
 use Rattle.std.specs.List.{insert}
-use Rattle.kc_lists.specs.Lists.{member}
+use Rattle.kc_distinct.specs.Lists.{member}
 use Rattle.kc_cert.specs.Ranks.{Ascends}
 use Rattle.kc_view.specs.Search.{Search, on_level, above, after, OnLevel}
 use Rattle.kc_insert.specs.Marks.{mark_of}

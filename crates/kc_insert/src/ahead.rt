@@ -1,6 +1,6 @@
 //! Where the neighbours of a vertex stand.
 ghost use Rattle.std.specs.Prelude.{◌≡◌, ◌≢◌, ◌<◌, ◌+◌, ◌-◌, ◌^◌, ◌++◌, ◌&&◌, ◌||◌, ℕ, List, [], ◌∷◌, true, count_by, IfOk, OnOk, IfErr, if◌then◌else◌};
-ghost use Rattle.kc_lists.specs.Lists.{member, Distinct};
+ghost use Rattle.kc_distinct.specs.Lists.{member, Distinct};
 ghost use Rattle.kc_graph.specs.Lawful.{Ranked};
 ghost use Rattle.kc_view.specs.Answers.{Agrees, has_list, list_of, has_core};
 ghost use Rattle.kc_view.specs.Lists.{IsListOf};

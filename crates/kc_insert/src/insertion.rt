@@ -1,6 +1,6 @@
 //! The plan of an update that adds an edge.
 ghost use Rattle.std.specs.Prelude.{◌≡◌, ◌<◌, ◌++◌, ◌⊎◌, ℕ, min, [], true, slice_index, IfOk, OnOk, IfErr, length};
-ghost use Rattle.kc_lists.specs.Lists.{member};
+ghost use Rattle.kc_distinct.specs.Lists.{member};
 ghost use Rattle.kc_graph.specs.Lawful.{Ranked};
 ghost use Rattle.kc_cert.specs.Local.{moved_vertices};
 ghost use Rattle.kc_view.specs.Answers.{Agrees, nothing_answered, answers_in, has_list, list_of, has_core};

@@ -1,6 +1,6 @@
 //! What the neighbours of a vertex lose that will not rise.
 ghost use Rattle.std.specs.Prelude.{◌≡◌, OnOk};
-ghost use Rattle.kc_lists.specs.Lists.{Distinct};
+ghost use Rattle.kc_distinct.specs.Lists.{Distinct};
 ghost use Rattle.kc_insert.specs.Rising.{IsOrderly};
 ghost use Rattle.kc_insert.specs.Turns.{taken_from, LosesOne, Loses};
 

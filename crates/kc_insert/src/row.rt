@@ -1,7 +1,7 @@
 //! The neighbours of a vertex once the edge is there.
 ghost use Rattle.std.specs.Prelude.{◌≡◌, ◌≢◌, ◌<◌, ◌||◌, ◌⊎◌, ℕ, List, true, false, length, nat_eq, MatchOption, IfOk, OnOk, IfErr};
 ghost use Rattle.std.specs.List.Sorted.{IsStrictlyIncreasing};
-ghost use Rattle.kc_lists.specs.Lists.{member};
+ghost use Rattle.kc_distinct.specs.Lists.{member};
 ghost use Rattle.kc_graph.specs.Rows.{IsPlace};
 ghost use Rattle.kc_view.specs.Answers.{has_list, list_of};
 ghost use Rattle.kc_view.specs.Lists.{IsListOf};

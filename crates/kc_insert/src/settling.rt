@@ -1,6 +1,6 @@
 //! A vertex that cannot rise leaves the queue, and the candidates that are too weak without it are evicted.
 ghost use Rattle.std.specs.Prelude.{◌≡◌, ◌<◌, ◌≤◌, ◌+◌, ◌||◌, ℕ, true, length, slice_index, IfOk, OnOk, IfErr};
-ghost use Rattle.kc_lists.specs.Lists.{member};
+ghost use Rattle.kc_distinct.specs.Lists.{member};
 ghost use Rattle.kc_graph.specs.Lawful.{Ranked};
 ghost use Rattle.kc_view.specs.Answers.{Agrees, has_list, list_of};
 ghost use Rattle.kc_view.specs.Lists.{IsListOf};

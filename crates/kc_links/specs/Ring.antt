@@ -1,6 +1,6 @@
 -- A list kept as a ring through one more number, its size.
 use Rattle.std.specs.Prelude.{◌≡◌, ℕ, zero, suc, ◌+◌, ◌<◌, ◌^◌, List, [], ◌∷◌, ◌++◌, length, slice_index, true}
-use Rattle.kc_lists.specs.Lists.{member, Distinct}
+use Rattle.kc_distinct.specs.Lists.{member, Distinct}
 
 pub record Chain : Type 0 where
   pub size : ℕ

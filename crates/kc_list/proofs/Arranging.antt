@@ -3,8 +3,8 @@ use Rattle.std.proofs.Common.{◌≡◌, ◌≢◌, ℕ, suc, zero, ◌+◌, ◌
 use Rattle.std.proofs.lemmas.Bool.{cases_eq, cases_lt, cases_Bool, eq-eqb, ne_eqb, false≢true, true≢false}
 use Rattle.std.proofs.lemmas.List.{length-set, get_or-set_same, get_or-set_other}
 use Rattle.kc_words.specs.ItemWord.{item_of}
-use Rattle.kc_lists.specs.Lists.{member}
-use Rattle.kc_lists.proofs.Members.{member-head, member-tail, member-cases, below_bound}
+use Rattle.kc_distinct.specs.Lists.{member}
+use Rattle.kc_distinct.proofs.Members.{member-head, member-tail, member-cases, below_bound}
 use Rattle.kc_words.specs.Order.{labels}
 use Rattle.kc_list.specs.Places.{Sound, Free, HasGap, NotOf, runs, size_of}
 use Rattle.kc_list.specs.Tally.{Tallied, KeepsGroup}

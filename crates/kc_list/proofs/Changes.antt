@@ -3,14 +3,14 @@ use Rattle.std.proofs.Common.{◌≡◌, ◌≢◌, ℕ, ◌+◌, ◌<◌, true,
 use Rattle.std.proofs.lemmas.Bool.{cases_Bool, ne_eqb, false≢true, true≢false, false_from_ne_true}
 use Rattle.std.proofs.lemmas.List.{length-take-le, length-drop}
 use Rattle.kc_words.specs.ItemWord.{item_of}
-use Rattle.kc_lists.specs.Lists.{member}
-use Rattle.kc_lists.proofs.Members.{member-head, member-tail, member-cases, not_member-cons}
+use Rattle.kc_distinct.specs.Lists.{member}
+use Rattle.kc_distinct.proofs.Members.{member-head, member-tail, member-cases, not_member-cons}
 use Rattle.kc_words.specs.Order.{Labels, labels}
 use Rattle.kc_list.specs.Places.{Sound, Segment, Free, HasGap, NotOf, size_of, evens}
 use Rattle.kc_list.specs.Sheets.{ChangesOnly}
 use Rattle.kc_list.proofs.Spreading.{segment_in}
 use Rattle.kc_list.proofs.Rooms.{room_after_spread}
-use Rattle.kc_lists.proofs.Counting.{drop-member}
+use Rattle.kc_distinct.proofs.Counting.{drop-member}
 use Rattle.kc_list.proofs.Counts.{segment_size}
 
 -- the words of some items

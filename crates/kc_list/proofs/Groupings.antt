@@ -5,8 +5,8 @@ use Rattle.std.proofs.lemmas.List.{append_assoc, append-nil, length-append, leng
 use Rattle.std.proofs.lemmas.Nat.{le-div, div-add-mod'}
 use Rattle.kc_relabel.specs.Labels.{Ascends, written, schedule_of}
 use Rattle.kc_relabel.proofs.Rising.{Writes, schedule-along, Along-take}
-use Rattle.kc_lists.specs.Lists.{member, Distinct, head_or, next_of, place_of}
-use Rattle.kc_lists.proofs.Members.{member-head, member-cases, member-append_right, Distinct-cut, next_of-cut, place_of-cut, not_member-parts, below_bound}
+use Rattle.kc_distinct.specs.Lists.{member, Distinct, head_or, next_of, place_of}
+use Rattle.kc_distinct.proofs.Members.{member-head, member-cases, member-append_right, Distinct-cut, next_of-cut, place_of-cut, not_member-parts, below_bound}
 use Rattle.kc_words.specs.Order.{Labels, labels}
 use Rattle.kc_list.specs.Places.{Sound, runs, evens}
 use Rattle.kc_list.proofs.Spreading.{Ascends-evens, length-evens, get_or-evens}

@@ -7,8 +7,8 @@ use Rattle.std.proofs.lemmas.Nat.{le-div, div-add-mod'}
 use Rattle.kc_words.specs.declared.item.ItemWord.{ItemWord}
 use Rattle.kc_words.specs.ItemWord.{item_of}
 use Rattle.kc_words.specs.GroupWord.{group_of}
-use Rattle.kc_lists.specs.Lists.{member, Distinct}
-use Rattle.kc_lists.proofs.Members.{below_bound}
+use Rattle.kc_distinct.specs.Lists.{member, Distinct}
+use Rattle.kc_distinct.proofs.Members.{below_bound}
 use Rattle.kc_relabel.proofs.Once.{Distinct-at}
 use Rattle.kc_words.specs.Order.{labels, InOrder, Follows}
 use Rattle.kc_list.specs.Places.{Before, Sound, size_of}

@@ -3,8 +3,8 @@ use Rattle.std.proofs.Common.{◌≡◌, ℕ, suc, ◌+◌, ◌*◌, ◌/◌, �
 use Rattle.std.proofs.lemmas.Bool.{ne_eqb, eq-eqb}
 use Rattle.std.proofs.lemmas.List.{append_assoc, length-append, get_or-map, get_or_at}
 use Rattle.std.proofs.lemmas.Nat.{le-div, div-add-mod'}
-use Rattle.kc_lists.specs.Lists.{member, Distinct, head_or, next_of}
-use Rattle.kc_lists.proofs.Members.{member-head, member-tail, member-append, member-append_right, cut, Distinct-cut, next_of-cut}
+use Rattle.kc_distinct.specs.Lists.{member, Distinct, head_or, next_of}
+use Rattle.kc_distinct.proofs.Members.{member-head, member-tail, member-append, member-append_right, cut, Distinct-cut, next_of-cut}
 use Rattle.kc_words.specs.Order.{Labels, labels}
 use Rattle.kc_list.specs.Places.{Sound, Segment, evens, end_at, gap_end}
 use Rattle.kc_list.proofs.Spreading.{get_or-evens}

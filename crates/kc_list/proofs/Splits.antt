@@ -9,8 +9,8 @@ use Rattle.kc_words.specs.declared.item.ItemWord.{ItemWord}
 use Rattle.kc_words.specs.declared.group.GroupWord.{GroupWord}
 use Rattle.kc_relabel.specs.Labels.{Ascends}
 use Rattle.kc_relabel.proofs.Rising.{Ascends-rises}
-use Rattle.kc_lists.specs.Lists.{member, Distinct}
-use Rattle.kc_lists.proofs.Members.{member-head, member-tail, member-cases, member-append, member-append_left, member-append_right, Distinct-cut}
+use Rattle.kc_distinct.specs.Lists.{member, Distinct}
+use Rattle.kc_distinct.proofs.Members.{member-head, member-tail, member-cases, member-append, member-append_left, member-append_right, Distinct-cut}
 use Rattle.kc_words.specs.Order.{Labels, labels, InOrder}
 use Rattle.kc_list.specs.Places.{Before, Placed, Sound, Segment, Free, Splitting, ItemStored, GroupStored, evens}
 use Rattle.kc_list.proofs.Order.{AtFirst, AtLast, AtFirst-mono, Agrees, agreed, replaced, parts}

@@ -9,8 +9,8 @@ use Rattle.kc_relabel.specs.Labels.{Ascends, written, places, schedule_of}
 use Rattle.kc_relabel.proofs.Rising.{Writes, written-append, schedule-along, Along-take}
 use Rattle.std.proofs.lemmas.Nat.{le-div, div-add-mod'}
 use Rattle.kc_relabel.proofs.Once.{Distinct-at, place_at, length-places}
-use Rattle.kc_lists.specs.Lists.{member, Distinct}
-use Rattle.kc_lists.proofs.Members.{member-head, member-tail, member-cases, member-append_left, member-append_right, not_member-append, not_member-parts}
+use Rattle.kc_distinct.specs.Lists.{member, Distinct}
+use Rattle.kc_distinct.proofs.Members.{member-head, member-tail, member-cases, member-append_left, member-append_right, not_member-append, not_member-parts}
 use Rattle.kc_words.specs.Order.{Labels, labels, InOrder, Follows, Ordered}
 use Rattle.kc_list.specs.Places.{Before, Placed, Sound, Segment, ItemStored, evens}
 use Rattle.kc_list.specs.Sheets.{ChangesOnly, Paper, stored, OrderedAlong, RaisedAlong, Raises, Steps, version}

@@ -5,8 +5,8 @@ use Rattle.std.proofs.lemmas.List.{length-set, get_or-set_same, get_or-set_other
 use Rattle.kc_words.specs.ItemWord.{item_of, item_word, IsFitting}
 use Rattle.kc_words.proofs.Packing.{item_of-item_word}
 use Rattle.kc_words.specs.declared.item.ItemWord.{ItemWord}
-use Rattle.kc_lists.specs.Lists.{member, without, right_after}
-use Rattle.kc_lists.proofs.Members.{member-without, without-member, without-none, Distinct-without}
+use Rattle.kc_distinct.specs.Lists.{member, without, right_after}
+use Rattle.kc_distinct.proofs.Members.{member-without, without-member, without-none, Distinct-without}
 use Rattle.kc_words.specs.Order.{labels}
 use Rattle.kc_list.specs.Places.{Before, Placed, Sound, ItemStored, size_of}
 use Rattle.kc_list.specs.Tally.{Tallied, TakesItem}

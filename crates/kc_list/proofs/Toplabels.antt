@@ -13,8 +13,8 @@ use Rattle.kc_list.specs.Sheets.{ChangesOnly, Paper, Steps, version}
 use Rattle.kc_list.specs.declared.sheet.Write.{Write}
 use Rattle.kc_list.proofs.Putting.{ordered_from}
 use Rattle.kc_list.proofs.Splits.{same_version}
-use Rattle.kc_lists.specs.Lists.{member, Distinct}
-use Rattle.kc_lists.proofs.Members.{member-head, member-tail, member-cases}
+use Rattle.kc_distinct.specs.Lists.{member, Distinct}
+use Rattle.kc_distinct.proofs.Members.{member-head, member-tail, member-cases}
 use Rattle.kc_words.specs.Order.{Labels, labels, InOrder}
 use Rattle.kc_list.specs.Places.{Before, Sound, GroupStored, runs}
 use Rattle.kc_list.proofs.Stores.{group_stored}

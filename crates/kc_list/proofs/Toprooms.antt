@@ -1,8 +1,8 @@
 -- Room for a top label above a full group.
 use Rattle.std.proofs.Common.{◌≡◌, ℕ, ◌+◌, ◌<◌, ◌≤◌, true, false, List, [], ◌∷◌, ◌++◌, length, get_or, take, map, ◌∙◌, subst, inl, inr, arith}
 use Rattle.std.proofs.lemmas.Bool.{false≢true, false_from_ne_true}
-use Rattle.kc_lists.specs.Lists.{member, next_of}
-use Rattle.kc_lists.proofs.Members.{member-head, member-tail, member-cases}
+use Rattle.kc_distinct.specs.Lists.{member, next_of}
+use Rattle.kc_distinct.proofs.Members.{member-head, member-tail, member-cases}
 use Rattle.kc_words.specs.Order.{labels}
 use Rattle.kc_list.specs.Places.{Sound, Segment, Free, runs, size_of, top_end}
 use Rattle.kc_list.proofs.Spreading.{segment_in, member-at}

@@ -1,6 +1,6 @@
 -- The place of an item: the label of its group, and its own label in the group.
 use Rattle.std.specs.Prelude.{if◌then◌else◌, ◌≡◌, ◌≢◌, ℕ, zero, suc, ◌+◌, ◌*◌, ◌<◌, ◌≤◌, ◌⊎◌, List, [], ◌∷◌, ◌++◌, length, take, drop, map, true, false, ◌==◌}
-use Rattle.kc_lists.specs.Lists.{member, Distinct, next_of}
+use Rattle.kc_distinct.specs.Lists.{member, Distinct, next_of}
 use Rattle.kc_words.specs.Order.{InOrder, Labels, labels}
 
 abbrev pub IfFirst : (ℕ → Type 0) → List ℕ → Type 0

@@ -1,6 +1,6 @@
 -- The words, and what was stored to them.
 use Rattle.std.specs.Prelude.{◌≡◌, ℕ, ◌+◌, ◌<◌, List, [], ◌∷◌, ◌++◌, length, slice_index, slice_set, max, false}
-use Rattle.kc_lists.specs.Lists.{member}
+use Rattle.kc_distinct.specs.Lists.{member}
 use Rattle.kc_words.specs.ItemWord.{item_of}
 use Rattle.kc_list.specs.declared.sheet.Write.{Write}
 use Rattle.kc_words.specs.Order.{Ordered}

@@ -1,6 +1,6 @@
 -- The sizes of the groups, and the free numbers.
 use Rattle.std.specs.Prelude.{◌≡◌, ℕ, ◌+◌, ◌-◌, ◌*◌, ◌<◌, ◌≤◌, ◌⊎◌, List, length, slice_index, min, true}
-use Rattle.kc_lists.specs.Lists.{member, Distinct}
+use Rattle.kc_distinct.specs.Lists.{member, Distinct}
 use Rattle.kc_words.specs.Order.{labels}
 use Rattle.kc_list.specs.Places.{size_of, HasGap}
 

@@ -1,7 +1,7 @@
 -- The words of the contracts, over a list and the sheet that has its words.
 use Rattle.std.specs.Prelude.{◌≡◌, ℕ, ◌+◌, ◌/◌, ◌<◌, ◌≤◌, List, [], ◌∷◌, ◌++◌, slice_index, slice_set, true}
 use Rattle.kc_links.specs.Ring.{Chain}
-use Rattle.kc_lists.specs.Lists.{member, next_of}
+use Rattle.kc_distinct.specs.Lists.{member, next_of}
 use Rattle.kc_words.specs.Order.{PairBelow, labels}
 use Rattle.kc_list.specs.Places.{Sound, Segment, First, Free, Splitting, NotOf, HasGap, size_of, runs, gap_end, top_end, evens}
 use Rattle.kc_list.specs.Sheets.{Paper, Steps, version}

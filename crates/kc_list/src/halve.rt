@@ -1,6 +1,6 @@
 // A full group becomes two.
 ghost use Rattle.std.specs.Prelude.{◌≡◌, ◌≢◌, ◌<◌, ◌≤◌, ◌+◌, ◌⊎◌, ◌∷◌, ℕ, length, slice_index, take, drop, map, true};
-ghost use Rattle.kc_lists.specs.Lists.{member};
+ghost use Rattle.kc_distinct.specs.Lists.{member};
 ghost use Rattle.kc_words.specs.Order.{labels};
 ghost use Rattle.kc_list.specs.Places.{evens};
 ghost use Rattle.kc_list.specs.Sheets.{version, ChangesOnly};

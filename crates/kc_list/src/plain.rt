@@ -1,7 +1,7 @@
 // The list of one thread, with the writes that its words need.
 ghost use Rattle.std.specs.Prelude.{◌≡◌, ◌≢◌, ◌<◌, ◌≤◌, ◌+◌, ◌*◌, ◌↔◌, ℕ, length, slice_index, true, [], IfOk, MatchOption, IsTrue};
 ghost use Rattle.kc_words.specs.ItemWord.{item_of};
-ghost use Rattle.kc_lists.specs.Lists.{member, Distinct, without, right_after, next_of, prev_of, place_of};
+ghost use Rattle.kc_distinct.specs.Lists.{member, Distinct, without, right_after, next_of, prev_of, place_of};
 ghost use Rattle.kc_words.specs.Order.{labels, Ordered, PairBelow};
 ghost use Rattle.kc_list.specs.Sheets.{version, highest_of};
 ghost use Rattle.kc_list.specs.Plain.{Plain, Written};

@@ -1,6 +1,6 @@
 // Room for a label right after an item, in its group.
 ghost use Rattle.std.specs.Prelude.{◌≡◌, ◌<◌, ◌≤◌, ◌+◌, ℕ, length, slice_index, true};
-ghost use Rattle.kc_lists.specs.Lists.{member};
+ghost use Rattle.kc_distinct.specs.Lists.{member};
 ghost use Rattle.kc_list.specs.Sheets.{version};
 ghost use Rattle.kc_list.specs.Views.{IsSound, group_at, group_size, HasLabelAfter, KeepsOrder, IsNoWordOf, RisesByOne, ItemsMayRise};
 

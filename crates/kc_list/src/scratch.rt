@@ -1,6 +1,6 @@
 // Room for new labels of all groups.
 ghost use Rattle.std.specs.Prelude.{◌≡◌, ◌<◌, ◌≤◌, ◌+◌, ℕ, length, map, true, IfOk};
-ghost use Rattle.kc_lists.specs.Lists.{member};
+ghost use Rattle.kc_distinct.specs.Lists.{member};
 ghost use Rattle.kc_words.specs.Order.{labels};
 ghost use Rattle.kc_list.specs.Sheets.{version, ChangesOnly};
 ghost use Rattle.kc_list.specs.Views.{IsSound, top_at, KeepsOrder, groups_in_use, version_at, RisesByOne, evenly, TopsAreApart};

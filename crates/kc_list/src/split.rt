@@ -1,6 +1,6 @@
 // A group's upper members get a group of their own.
 ghost use Rattle.std.specs.Prelude.{◌≡◌, ◌<◌, ◌≤◌, ◌+◌, ◌/◌, ◌++◌, ◌∷◌, ℕ, length, slice_index, map};
-ghost use Rattle.kc_lists.specs.Lists.{member};
+ghost use Rattle.kc_distinct.specs.Lists.{member};
 ghost use Rattle.kc_list.specs.Sheets.{version, ChangesOnly};
 ghost use Rattle.kc_list.specs.Views.{IsSound, bottom_at, top_at, AreMembers, KeepsOrder, IsFree, IsSplitting, version_at, RisesByOne, SetsWord, AddsWrite, ItemsMayRise, evenly, FitsAbove};
 

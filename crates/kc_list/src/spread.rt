@@ -1,6 +1,6 @@
 // New labels for the members of a group, one store after another.
 ghost use Rattle.std.specs.Prelude.{◌≡◌, ◌<◌, ◌≤◌, ◌+◌, ◌/◌, ◌^◌, ℕ, length, slice_index, slice_set, take, map, true};
-ghost use Rattle.kc_lists.specs.Lists.{member, Distinct};
+ghost use Rattle.kc_distinct.specs.Lists.{member, Distinct};
 ghost use Rattle.kc_relabel.specs.Labels.{Ascends, written, places};
 ghost use Rattle.kc_words.specs.Order.{labels};
 ghost use Rattle.kc_list.specs.Sheets.{version, ChangesOnly};

@@ -1,7 +1,7 @@
 -- After its relabelling stores a put or a take stores its note and then the word of its item.
 use Rattle.std.proofs.Common.{◌≡◌, ℕ, ◌+◌, ◌<◌, ◌≤◌, ◌^◌, true, List, [], ◌∷◌, ◌++◌, length, set, get_or, refl, sym, ap, ◌∙◌, subst, arith, get_or-set_other, length-set}
 use Rattle.std.proofs.lemmas.Bool.{ne_eqb}
-use Rattle.kc_lists.specs.Lists.{member}
+use Rattle.kc_distinct.specs.Lists.{member}
 use Rattle.kc_words.specs.ItemWord.{item_of}
 use Rattle.kc_words.specs.VertexWord.{vertex_of}
 use Rattle.kc_words.specs.NoteWord.{note_of}

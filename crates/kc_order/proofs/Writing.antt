@@ -2,8 +2,8 @@
 use Rattle.std.proofs.Common.{◌≡◌, ◌≢◌, ◌⊎◌, ℕ, zero, suc, ◌+◌, ◌<◌, ◌≤◌, ◌^◌, true, cond, List, [], ◌∷◌, ◌++◌, length, set, take, drop, get_or, refl, sym, ap, ◌∙◌, subst, inl, inr, arith, get_or-set_same, get_or-set_other, length-set, append_assoc, append-nil, length-append}
 use Rattle.std.proofs.lemmas.List.{take-append-le, drop-append-le, take_all}
 use Rattle.std.proofs.lemmas.Bool.{cases_eq, eq-eqb}
-use Rattle.kc_lists.specs.Lists.{member, without, right_after}
-use Rattle.kc_lists.proofs.Members.{member-right_after, member-without}
+use Rattle.kc_distinct.specs.Lists.{member, without, right_after}
+use Rattle.kc_distinct.proofs.Members.{member-right_after, member-without}
 use Rattle.kc_words.specs.ItemWord.{item_of}
 use Rattle.kc_words.specs.VertexWord.{vertex_of}
 use Rattle.kc_words.specs.NoteWord.{note_word, IsFitting}

@@ -1,7 +1,7 @@
 -- How two items stand in the list of a log, and what a comparison may answer.
 use Rattle.std.specs.Prelude.{◌≡◌, ◌≢◌, ◌<◌, ◌≤◌, ◌+◌, ◌⊎◌, ℕ, List, true, false}
 use mathlib.Core.List.{IsPrefix}
-use Rattle.kc_lists.specs.Lists.{member, place_of}
+use Rattle.kc_distinct.specs.Lists.{member, place_of}
 use Rattle.kc_words.specs.ItemWord.{item_of}
 use Rattle.kc_words.specs.declared.again.Again.{Again}
 use Rattle.kc_table.specs.declared.view.Event.{Event}

@@ -1,6 +1,6 @@
 -- What a writer's calls do to the log.
 use Rattle.std.specs.Prelude.{◌≡◌, ◌<◌, ◌≤◌, ◌+◌, ◌-◌, ◌*◌, ℕ, List, [], ◌∷◌, ◌++◌, All, length, slice_index, map, take, drop}
-use Rattle.kc_lists.specs.Lists.{without, right_after}
+use Rattle.kc_distinct.specs.Lists.{without, right_after}
 use Rattle.kc_words.specs.ItemWord.{item_of}
 use Rattle.kc_words.specs.NoteWord.{note_word}
 use Rattle.kc_words.specs.declared.note.NoteWord.{NoteWord}

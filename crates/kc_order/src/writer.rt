@@ -1,7 +1,7 @@
 // The one writer of a shared list.
 ghost use Rattle.std.specs.Prelude.{◌≡◌, ◌≢◌, ◌<◌, ◌≤◌, ◌+◌, ◌↔◌, ℕ, [], true, length, slice_index, IfOk, IsTrue, MatchOption};
 ghost use mathlib.Core.List.{IsPrefix};
-ghost use Rattle.kc_lists.specs.Lists.{Distinct, member, next_of, prev_of};
+ghost use Rattle.kc_distinct.specs.Lists.{Distinct, member, next_of, prev_of};
 ghost use Rattle.kc_words.specs.NoteWord.{note_word};
 ghost use Rattle.kc_words.specs.VertexWord.{vertex_of, vertex_word};
 ghost use Rattle.kc_words.specs.declared.note.NoteWord.TheVariants.{Enter};

@@ -1,8 +1,8 @@
 -- What the vertices that fell leave: both counts of the certificate, at each vertex.
 use Rattle.std.proofs.Common.{◌≡◌, ◌≤◌, ◌<◌, ◌-◌, ℕ, suc, zero, Bool, true, false, cond, not, ◌&&◌, List, [], ◌∷◌, take, length, ltb, leb, sym, ◌∙◌, ap, subst, inl, inr, arith, true≢false, eq-eqb, le_trans, lt-ltb}
 use Rattle.std.proofs.lemmas.Bool.{cases_Bool, cases_eq, cases_lt, false≢true, false_from_ne_true}
-use Rattle.kc_lists.specs.Lists.{member}
-use Rattle.kc_lists.proofs.Counting.{member-other}
+use Rattle.kc_distinct.specs.Lists.{member}
+use Rattle.kc_distinct.proofs.Counting.{member-other}
 use Rattle.kc_cert.specs.Ranks.{rank_in, then_after}
 use Rattle.kc_cert.proofs.Ordered.{rank-here, rank-other}
 use Rattle.kc_view.specs.Search.{Search, among, after, OnLevel}

@@ -1,7 +1,7 @@
 -- The moves of a removal pass the local test, and move just the vertices that lose one.
 use Rattle.std.proofs.Common.{◌≡◌, ◌<◌, ◌-◌, ℕ, min, Bool, true, false, cond, not, List, [], length, get_or, ltb, refl, sym, ◌∙◌, ap, subst, inl, inr, arith, true≢false, lt-ltb}
 use Rattle.std.proofs.lemmas.Bool.{cases_Bool}
-use Rattle.kc_lists.specs.Lists.{member}
+use Rattle.kc_distinct.specs.Lists.{member}
 use Rattle.kc_graph.specs.SimpleGraph.{SimpleGraph, adjacent}
 use Rattle.kc_graph.specs.Edges.{without_edge, with_edge}
 use Rattle.kc_graph.specs.Core.{AreCoreNumbers}

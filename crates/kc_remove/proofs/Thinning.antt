@@ -2,8 +2,8 @@
 use Rattle.std.proofs.Common.{◌≡◌, ◌≢◌, ◌≤◌, ◌<◌, ◌+◌, ◌⊎◌, ℕ, min, Bool, true, false, not, ◌&&◌, ◌||◌, List, get_or, eqb, ltb, leb, refl, sym, ◌∙◌, ap, subst, inl, inr, arith, true≢false, eq-eqb, ne_eqb, lt-ltb}
 use Rattle.std.specs.Prelude.{count_by}
 use Rattle.std.proofs.lemmas.Bool.{cases_eq, cases_lt, cases_order, and_from, false_from_ne_true, or_parts, or_from}
-use Rattle.kc_lists.specs.Lists.{member, below}
-use Rattle.kc_lists.proofs.Counting.{member-below, Distinct-below, count-mono, count-agree}
+use Rattle.kc_distinct.specs.Lists.{member, below}
+use Rattle.kc_distinct.proofs.Counting.{member-below, Distinct-below, count-mono, count-agree}
 use Rattle.kc_graph.specs.SimpleGraph.{SimpleGraph, adjacent}
 use Rattle.kc_graph.specs.Edges.{without_edge}
 use Rattle.kc_graph.specs.Certificate.{Certifies}

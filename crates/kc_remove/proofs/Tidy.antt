@@ -6,9 +6,9 @@ use Rattle.std.proofs.lemmas.List.{append-nil, get_or_append_left}
 use Rattle.std.proofs.lemmas.List.Elements.{All-push, All-weaker}
 use Rattle.std.proofs.lemmas.List.Folds.{list_any-append}
 use Rattle.std.proofs.Math.Bool.{or-false}
-use Rattle.kc_lists.specs.Lists.{member, Distinct}
-use Rattle.kc_lists.proofs.Members.{below_bound}
-use Rattle.kc_lists.proofs.Counting.{member-push, member-push_left, Distinct-push}
+use Rattle.kc_distinct.specs.Lists.{member, Distinct}
+use Rattle.kc_distinct.proofs.Members.{below_bound}
+use Rattle.kc_distinct.proofs.Counting.{member-push, member-push_left, Distinct-push}
 use Rattle.kc_graph.specs.declared.update.Update.{Update}
 use Rattle.kc_graph.specs.declared.used.UsedEdges.{UsedEdges}
 use Rattle.kc_view.specs.Answers.{Answers, has_list, list_of, has_core, with_list}

@@ -1,6 +1,6 @@
 //! The support of a vertex: its neighbours that are as high, the edge that goes and the fallen left out.
 ghost use Rattle.std.specs.Prelude.{◌≡◌, ◌≢◌, ◌<◌, ◌≤◌, ◌++◌, ◌-◌, ◌⊎◌, ℕ, Bool, [], ◌∷◌, true, false, length, slice_index, IfOk, OnOk, IfErr};
-ghost use Rattle.kc_lists.specs.Lists.{member};
+ghost use Rattle.kc_distinct.specs.Lists.{member};
 ghost use Rattle.kc_graph.specs.SimpleGraph.{adjacent};
 ghost use Rattle.kc_graph.specs.Edges.{without_edge};
 ghost use Rattle.kc_graph.specs.Lawful.{Ranked};

@@ -1,8 +1,8 @@
 -- The list of a legal log: its items are distinct items of the table, and each vertex is in it.
 use Rattle.std.proofs.Common.{◌≡◌, ◌≢◌, ◌⊎◌, ℕ, zero, suc, ◌+◌, ◌<◌, ◌≤◌, true, false, cond, List, [], ◌∷◌, eqb, refl, sym, ap, ◌∙◌, subst, inl, inr, arith}
 use Rattle.std.proofs.lemmas.Bool.{cases_Bool, cases_eq, eqb-true, eq-eqb, true≢false, false≢true, false_from_ne_true, or_left}
-use Rattle.kc_lists.specs.Lists.{member, Distinct, without, right_after}
-use Rattle.kc_lists.proofs.Members.{member-tail, member-cases, member-without, without-member, not_member-without, not_member-parts, Distinct-without, member-right_after, right_after-member, Distinct-right_after}
+use Rattle.kc_distinct.specs.Lists.{member, Distinct, without, right_after}
+use Rattle.kc_distinct.proofs.Members.{member-tail, member-cases, member-without, without-member, not_member-without, not_member-parts, Distinct-without, member-right_after, right_after-member, Distinct-right_after}
 use Rattle.kc_words.specs.Order.{Labels, labels}
 use Rattle.kc_words.specs.NoteWord.{note_of}
 use Rattle.kc_words.specs.declared.note.NoteWord.{NoteWord}

@@ -1,8 +1,8 @@
 -- The tables of the tests open rightly, and their stores keep the logs legal.
 use Rattle.std.proofs.Common.{◌≡◌, ◌<◌, ◌≤◌, ◌+◌, ◌*◌, ℕ, suc, zero, true, false, List, [], ◌∷◌, ◌++◌, refl, sym, ◌∙◌, ap, subst, arith, inl, inr, get_or}
 use Rattle.std.proofs.lemmas.Bool.{false≢true, true≢false}
-use Rattle.kc_lists.specs.Lists.{member}
-use Rattle.kc_lists.proofs.Members.{member-cases}
+use Rattle.kc_distinct.specs.Lists.{member}
+use Rattle.kc_distinct.proofs.Members.{member-cases}
 use Rattle.kc_words.specs.ItemWord.{item_of}
 use Rattle.kc_words.specs.GroupWord.{group_of}
 use Rattle.kc_words.specs.VertexWord.{vertex_of}

@@ -1,6 +1,6 @@
 -- What a log has made of a table: its words, the list that its notes stand for, the entries, and what the last section has left open.
 use Rattle.std.specs.Prelude.{ℕ, zero, suc, ◌+◌, ◌*◌, ◌-◌, List, [], ◌∷◌, ◌++◌, Bool, slice_set, nat_lt, nat_le, ◌&&◌, if◌then◌else◌, ◌==◌}
-use Rattle.kc_lists.specs.Lists.{without, right_after}
+use Rattle.kc_distinct.specs.Lists.{without, right_after}
 use Rattle.kc_words.specs.NoteWord.{note_of}
 use Rattle.kc_words.specs.Order.{Labels, labels}
 use Rattle.kc_words.specs.declared.note.NoteWord.{NoteWord}

@@ -1,7 +1,7 @@
 // What the definitions of a log mean, as laws over the definitions alone.
 ghost use Rattle.std.specs.Prelude.{◌≡◌, ◌+◌, ◌<◌, ℕ, Bool, List, [], ◌∷◌, ◌++◌, true, false};
 ghost use mathlib.Core.List.{IsPrefix};
-ghost use Rattle.kc_lists.specs.Lists.{Distinct, member};
+ghost use Rattle.kc_distinct.specs.Lists.{Distinct, member};
 ghost use Rattle.kc_words.specs.declared.note.NoteWord.TheVariants.{Enter, Put, Take};
 ghost use Rattle.kc_words.specs.declared.shape.Shape.{Shape};
 ghost use Rattle.kc_table.specs.declared.view.Event.{Event};

@@ -9,9 +9,9 @@ use Rattle.kc_graph.specs.SimpleGraph.{SimpleGraph}
 use Rattle.kc_graph.specs.Core.{AreCoreNumbers}
 use Rattle.kc_graph.proofs.Existence.{certificate_exists}
 use Rattle.kc_graph.proofs.Law.{certified}
-use Rattle.kc_lists.specs.Lists.{member}
-use Rattle.kc_lists.proofs.Members.{member-cases, member-head, member-tail}
-use Rattle.kc_lists.proofs.Counting.{filter-member, member-filter}
+use Rattle.kc_distinct.specs.Lists.{member}
+use Rattle.kc_distinct.proofs.Members.{member-cases, member-head, member-tail}
+use Rattle.kc_distinct.proofs.Counting.{filter-member, member-filter}
 use Rattle.kc_report.specs.Lines.{core_lines}
 use Rattle.kc_text.specs.Inputs.{AreIds, start_graph}
 use Rattle.kc_text.specs.Meaning.{Meaning, Means, Refuses, Told, names}

@@ -6,8 +6,8 @@ use Rattle.std.proofs.lemmas.List.Kept.{AllPairs-from_increasing}
 use Rattle.kc_graph.specs.SimpleGraph.{SimpleGraph}
 use Rattle.kc_graph.specs.Core.{AreCoreNumbers}
 use Rattle.kc_graph.proofs.Law.{core-unique}
-use Rattle.kc_lists.proofs.Counting.{Contains-from_member}
-use Rattle.kc_lists.proofs.Members.{member-cases}
+use Rattle.kc_distinct.proofs.Counting.{Contains-from_member}
+use Rattle.kc_distinct.proofs.Members.{member-cases}
 use Rattle.kc_report.specs.Lines.{core_lines}
 use Rattle.kc_text.specs.Inputs.{AreIds, start_graph}
 use Rattle.kc_text.specs.Meaning.{Told, names}

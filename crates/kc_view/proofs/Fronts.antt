@@ -1,8 +1,8 @@
 -- The front of a list.
 use Rattle.std.proofs.Common.{◌≡◌, ℕ, suc, zero, true, List, [], ◌∷◌, take, eqb, inl, inr, eq-eqb}
 use Rattle.std.proofs.lemmas.Bool.{false≢true, or_left}
-use Rattle.kc_lists.specs.Lists.{member}
-use Rattle.kc_lists.proofs.Members.{member-tail, member-cases}
+use Rattle.kc_distinct.specs.Lists.{member}
+use Rattle.kc_distinct.proofs.Members.{member-tail, member-cases}
 
 -- who stands in front stands in the list
 pub take-member : (n : ℕ) (xs : List ℕ) (y : ℕ) → member y (take n xs) ≡ true → member y xs ≡ true

@@ -4,7 +4,7 @@ use Rattle.std.specs.Prelude.{All, Some, is_some}
 use Rattle.std.specs.Option.{unwrap_or}
 use Rattle.std.proofs.lemmas.Bool.{false≢true}
 use Rattle.std.proofs.lemmas.List.{append_assoc, append-nil, get_or_append_left, length-append}
-use Rattle.kc_lists.specs.Lists.{place_of}
+use Rattle.kc_distinct.specs.Lists.{place_of}
 use Rattle.kc_graph.specs.Lawful.{Ranked}
 use Rattle.kc_graph.specs.Neighbours.{neighbours_of}
 use Rattle.kc_graph.specs.declared.used.UsedEdges.{UsedEdges}

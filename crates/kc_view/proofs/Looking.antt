@@ -3,8 +3,8 @@ use Rattle.std.proofs.Common.{◌≡◌, ◌≢◌, ◌≤◌, ◌<◌, ◌+◌,
 use Rattle.std.specs.Prelude.{All, Some, None, is_some}
 use Rattle.std.proofs.lemmas.Bool.{cases_eq, false≢true}
 use Rattle.std.proofs.lemmas.List.{get_or_append_left, get_or_push, length-append, take_more}
-use Rattle.kc_lists.proofs.Members.{member-cases, member-append, append-not_member, not_member-cons, below_bound}
-use Rattle.kc_lists.proofs.Counting.{member-get_or}
+use Rattle.kc_distinct.proofs.Members.{member-cases, member-append, append-not_member, not_member-cons, below_bound}
+use Rattle.kc_distinct.proofs.Counting.{member-get_or}
 use Rattle.kc_graph.proofs.RowsLemmas.{Distinct-from_increasing}
 use Rattle.kc_graph.specs.declared.used.UsedEdges.{UsedEdges}
 use Rattle.kc_graph.specs.declared.used.UsedPlace.{UsedPlace}

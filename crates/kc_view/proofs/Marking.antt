@@ -6,7 +6,7 @@ use Rattle.std.proofs.Math.Bool.{or-false, and-false}
 use Rattle.std.proofs.lemmas.Bool.{cases_Bool, cases_eq, false≢true, or_right}
 use Rattle.std.proofs.lemmas.List.{get_or-set_same, get_or-set_other, get_or_read, append-nil, take_more}
 use Rattle.std.proofs.lemmas.List.Elements.{All-push}
-use Rattle.kc_lists.proofs.Members.{below_bound}
+use Rattle.kc_distinct.proofs.Members.{below_bound}
 use Rattle.kc_graph.specs.Lawful.{Ranked}
 use Rattle.kc_graph.specs.Neighbours.{AreNeighbours, neighbours_of}
 use Rattle.kc_graph.specs.declared.used.UsedEdges.{UsedEdges}

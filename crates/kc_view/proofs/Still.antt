@@ -2,8 +2,8 @@
 use Rattle.std.proofs.Common.{◌≡◌, ◌≤◌, ◌<◌, ℕ, Bool, false, cond, not, ◌&&◌, List, get_or, ltb, leb, refl, sym, ◌∙◌, ap, subst, inl, inr, arith, true≢false, lt-ltb}
 use Rattle.std.specs.Prelude.{count_by}
 use Rattle.std.proofs.lemmas.Bool.{cases_Bool, false≢true}
-use Rattle.kc_lists.specs.Lists.{member, Distinct, below}
-use Rattle.kc_lists.proofs.Counting.{below-member, count-agree}
+use Rattle.kc_distinct.specs.Lists.{member, Distinct, below}
+use Rattle.kc_distinct.proofs.Counting.{below-member, count-agree}
 use Rattle.kc_graph.specs.SimpleGraph.{SimpleGraph, adjacent}
 use Rattle.kc_graph.specs.Lawful.{Ranked, IsCertified}
 use Rattle.kc_graph.specs.Plans.{is_applied, renumbered}

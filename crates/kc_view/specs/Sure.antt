@@ -1,7 +1,7 @@
 -- When a plan is right wherever its answers are.
 use Rattle.std.specs.Prelude.{◌≡◌, ◌<◌, ◌⊎◌, ◌++◌, ℕ, Bool, true, false, List, [], slice_index, nat_lt, All, if◌then◌else◌}
 use Rattle.std.specs.List.{list_any}
-use Rattle.kc_lists.specs.Lists.{member, Distinct, place_of}
+use Rattle.kc_distinct.specs.Lists.{member, Distinct, place_of}
 use Rattle.kc_graph.specs.SimpleGraph.{SimpleGraph, adjacent}
 use Rattle.kc_graph.specs.Core.{AreCoreNumbers}
 use Rattle.kc_graph.specs.Lawful.{Ranked, IsCertified}

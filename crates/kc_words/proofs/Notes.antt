@@ -12,7 +12,7 @@ pub note_of-nothing : (n : ℕ) → n / 2 ^ 62 ≡ 0 → note_of n ≡ Nothing
 unfolding note_of
 note_of-nothing n e = rw e
 
-pub note_of-enter : (n : ℕ) → n / 2 ^ 62 ≡ 1 → note_of n ≡ Enter (eqb (n / 2 ^ 61 % 2) 1) (n / 2 ^ 40 % 2 ^ 21) (n / 2 ^ 18 % 2 ^ 18) (n % 2 ^ 18)
+pub note_of-enter : (n : ℕ) → n / 2 ^ 62 ≡ 1 → note_of n ≡ Enter (eqb (n / 2 ^ 61 % 2) 1) (n / 2 ^ 39 % 2 ^ 22) (n / 2 ^ 19 % 2 ^ 19) (n % 2 ^ 19)
 unfolding note_of
 note_of-enter n e = rw e
 
@@ -25,8 +25,8 @@ unfolding note_of
 note_of-take n e = rw e
 
 -- as the program reads it
-pub enter_masked : (n : ℕ) → n / 2 ^ 62 ≡ 1 → Enter (eqb (bit_and (n / 2 ^ 61) 1) 1) (bit_and (n / 2 ^ 40) 2097151) (bit_and (n / 2 ^ 18) 262143) (bit_and n 262143) ≡ note_of n
-enter_masked n e = rw (and_mask (n / 2 ^ 61) 1, and_mask (n / 2 ^ 40) 21, and_mask (n / 2 ^ 18) 18, and_mask n 18) (sym (note_of-enter n e))
+pub enter_masked : (n : ℕ) → n / 2 ^ 62 ≡ 1 → Enter (eqb (bit_and (n / 2 ^ 61) 1) 1) (bit_and (n / 2 ^ 39) 4194303) (bit_and (n / 2 ^ 19) 524287) (bit_and n 524287) ≡ note_of n
+enter_masked n e = rw (and_mask (n / 2 ^ 61) 1, and_mask (n / 2 ^ 39) 22, and_mask (n / 2 ^ 19) 19, and_mask n 19) (sym (note_of-enter n e))
 
 pub put_masked : (n : ℕ) → n / 2 ^ 62 ≡ 2 → Put (bit_and (n / 2 ^ 21) 2097151) (bit_and n 2097151) ≡ note_of n
 put_masked n e = rw (and_mask (n / 2 ^ 21) 21, and_mask n 21) (sym (note_of-put n e))
@@ -60,15 +60,15 @@ unfolding note_of note_word spare_of
 take_back n e = rw e (λ w. omega arith, λ w. omega arith)
 
 -- shifts and `|` are sums of products where the fields fit
-pub shifted_enter : (k i u v : ℕ) → k < 2 ^ 3 → i < 2 ^ 21 → u < 2 ^ 18 → v < 2 ^ 18 → bit_or (bit_or (bit_or (k * 2 ^ 61 % 2 ^ 64) (i * 2 ^ 40 % 2 ^ 64)) (u * 2 ^ 18 % 2 ^ 64)) v ≡ k * 2 ^ 61 + i * 2 ^ 40 + u * 2 ^ 18 + v
+pub shifted_enter : (k i u v : ℕ) → k < 2 ^ 3 → i < 2 ^ 22 → u < 2 ^ 19 → v < 2 ^ 19 → bit_or (bit_or (bit_or (k * 2 ^ 61 % 2 ^ 64) (i * 2 ^ 39 % 2 ^ 64)) (u * 2 ^ 19 % 2 ^ 64)) v ≡ k * 2 ^ 61 + i * 2 ^ 39 + u * 2 ^ 19 + v
 shifted_enter k i u v p q r s =
-    let i-is : i * 2 ^ 40 % 2 ^ 64 ≡ i * 2 ^ 40 = shl_whole i 21 40 64 q (omega arith) in
-    let u-is : u * 2 ^ 18 % 2 ^ 64 ≡ u * 2 ^ 18 = shl_whole u 18 18 64 r (omega arith) in
-    let one : bit_or (k * 2 ^ 61 % 2 ^ 64) (i * 2 ^ 40) ≡ k * 2 ^ 61 + i * 2 ^ 40 = shifted_pair k 3 (i * 2 ^ 40) 61 p refl (shl_below i 21 40 q) in
-    let one' : k * 2 ^ 61 + i * 2 ^ 40 ≡ (k * 2 ^ 25 + i * 2 ^ 4) * 2 ^ 36 = omega arith in
-    let two : bit_or ((k * 2 ^ 25 + i * 2 ^ 4) * 2 ^ 36) (u * 2 ^ 18) ≡ (k * 2 ^ 25 + i * 2 ^ 4) * 2 ^ 36 + u * 2 ^ 18 = or_shifted (k * 2 ^ 25 + i * 2 ^ 4) 36 (u * 2 ^ 18) (shl_below u 18 18 r) in
-    let two' : (k * 2 ^ 25 + i * 2 ^ 4) * 2 ^ 36 + u * 2 ^ 18 ≡ (k * 2 ^ 43 + i * 2 ^ 22 + u) * 2 ^ 18 = omega arith in
-    let three : bit_or ((k * 2 ^ 43 + i * 2 ^ 22 + u) * 2 ^ 18) v ≡ (k * 2 ^ 43 + i * 2 ^ 22 + u) * 2 ^ 18 + v = or_shifted (k * 2 ^ 43 + i * 2 ^ 22 + u) 18 v s in
+    let i-is : i * 2 ^ 39 % 2 ^ 64 ≡ i * 2 ^ 39 = shl_whole i 22 39 64 q (omega arith) in
+    let u-is : u * 2 ^ 19 % 2 ^ 64 ≡ u * 2 ^ 19 = shl_whole u 19 19 64 r (omega arith) in
+    let one : bit_or (k * 2 ^ 61 % 2 ^ 64) (i * 2 ^ 39) ≡ k * 2 ^ 61 + i * 2 ^ 39 = shifted_pair k 3 (i * 2 ^ 39) 61 p refl (shl_below i 22 39 q) in
+    let one' : k * 2 ^ 61 + i * 2 ^ 39 ≡ (k * 2 ^ 23 + i * 2) * 2 ^ 38 = omega arith in
+    let two : bit_or ((k * 2 ^ 23 + i * 2) * 2 ^ 38) (u * 2 ^ 19) ≡ (k * 2 ^ 23 + i * 2) * 2 ^ 38 + u * 2 ^ 19 = or_shifted (k * 2 ^ 23 + i * 2) 38 (u * 2 ^ 19) (shl_below u 19 19 r) in
+    let two' : (k * 2 ^ 23 + i * 2) * 2 ^ 38 + u * 2 ^ 19 ≡ (k * 2 ^ 42 + i * 2 ^ 20 + u) * 2 ^ 19 = omega arith in
+    let three : bit_or ((k * 2 ^ 42 + i * 2 ^ 20 + u) * 2 ^ 19) v ≡ (k * 2 ^ 42 + i * 2 ^ 20 + u) * 2 ^ 19 + v = or_shifted (k * 2 ^ 42 + i * 2 ^ 20 + u) 19 v s in
     rw (i-is, u-is, one, one', two, two', three) (omega arith)
 
 pub shifted_put : (x p : ℕ) → x < 2 ^ 21 → p < 2 ^ 21 → bit_or (bit_or (2 * 2 ^ 62) (x * 2 ^ 21 % 2 ^ 64)) p ≡ 2 * 2 ^ 62 + x * 2 ^ 21 + p
@@ -90,11 +90,11 @@ pub note_of-note_word : (w : NoteWord) → IsFitting w → note_of (note_word w)
 unfolding note_word
 note_of-note_word Nothing f = note_of-nothing 0 refl
 note_of-note_word (Enter true i u v) f =
-    let n = 2 ^ 62 + 2 ^ 61 + i * 2 ^ 40 + u * 2 ^ 18 + v in
-    note_of-enter n (omega arith) ∙ four Enter (eqb (n / 2 ^ 61 % 2) 1) true (n / 2 ^ 40 % 2 ^ 21) i (n / 2 ^ 18 % 2 ^ 18) u (n % 2 ^ 18) v (eq-eqb (n / 2 ^ 61 % 2) 1 (omega arith)) (omega arith) (omega arith) (omega arith)
+    let n = 2 ^ 62 + 2 ^ 61 + i * 2 ^ 39 + u * 2 ^ 19 + v in
+    note_of-enter n (omega arith) ∙ four Enter (eqb (n / 2 ^ 61 % 2) 1) true (n / 2 ^ 39 % 2 ^ 22) i (n / 2 ^ 19 % 2 ^ 19) u (n % 2 ^ 19) v (eq-eqb (n / 2 ^ 61 % 2) 1 (omega arith)) (omega arith) (omega arith) (omega arith)
 note_of-note_word (Enter false i u v) f =
-    let n = 2 ^ 62 + 0 + i * 2 ^ 40 + u * 2 ^ 18 + v in
-    note_of-enter n (omega arith) ∙ four Enter (eqb (n / 2 ^ 61 % 2) 1) false (n / 2 ^ 40 % 2 ^ 21) i (n / 2 ^ 18 % 2 ^ 18) u (n % 2 ^ 18) v (ne_eqb (n / 2 ^ 61 % 2) 1 (λ e. omega arith)) (omega arith) (omega arith) (omega arith)
+    let n = 2 ^ 62 + 0 + i * 2 ^ 39 + u * 2 ^ 19 + v in
+    note_of-enter n (omega arith) ∙ four Enter (eqb (n / 2 ^ 61 % 2) 1) false (n / 2 ^ 39 % 2 ^ 22) i (n / 2 ^ 19 % 2 ^ 19) u (n % 2 ^ 19) v (ne_eqb (n / 2 ^ 61 % 2) 1 (λ e. omega arith)) (omega arith) (omega arith) (omega arith)
 note_of-note_word (Put x p) f =
     let n = 2 * 2 ^ 62 + x * 2 ^ 21 + p in
     let x-is : n / 2 ^ 21 % 2 ^ 21 ≡ x = omega arith in
@@ -112,7 +112,7 @@ pub record Packed (w : NoteWord) (n : ℕ) : Type 0 where
 packed : (w : NoteWord) (n : ℕ) → IsFitting w → n ≡ note_word w → Packed w n
 packed w n f e = record { word = e; back = ap note_of e ∙ note_of-note_word w f }
 
-enter_word : (k : ℕ) (add : Bool) (i u v : ℕ) → k ≡ cond add 3 2 → k * 2 ^ 61 + i * 2 ^ 40 + u * 2 ^ 18 + v ≡ note_word (Enter add i u v)
+enter_word : (k : ℕ) (add : Bool) (i u v : ℕ) → k ≡ cond add 3 2 → k * 2 ^ 61 + i * 2 ^ 39 + u * 2 ^ 19 + v ≡ note_word (Enter add i u v)
 unfolding note_word
 enter_word k true i u v e = omega arith
 enter_word k false i u v e = omega arith
@@ -121,7 +121,7 @@ kind_small : (k : ℕ) (add : Bool) → k ≡ cond add 3 2 → k < 2 ^ 3
 kind_small k true e = omega arith
 kind_small k false e = omega arith
 
-pub enter_packed : (w : NoteWord) (k : ℕ) (add : Bool) (i u v : ℕ) → IsFitting w → w ≡ Enter add i u v → k ≡ cond add 3 2 → Packed w (bit_or (bit_or (bit_or (k * 2 ^ 61 % 2 ^ 64) (i * 2 ^ 40 % 2 ^ 64)) (u * 2 ^ 18 % 2 ^ 64)) v)
+pub enter_packed : (w : NoteWord) (k : ℕ) (add : Bool) (i u v : ℕ) → IsFitting w → w ≡ Enter add i u v → k ≡ cond add 3 2 → Packed w (bit_or (bit_or (bit_or (k * 2 ^ 61 % 2 ^ 64) (i * 2 ^ 39 % 2 ^ 64)) (u * 2 ^ 19 % 2 ^ 64)) v)
 enter_packed w k add i u v f e kind =
     let f' : IsFitting (Enter add i u v) = subst IsFitting e f in
     packed w _ f (shifted_enter k i u v (kind_small k add kind) f'.0 f'.1 f'.2 ∙ (enter_word k add i u v kind ∙ ap note_word (sym e)))

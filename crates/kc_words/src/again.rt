@@ -1,4 +1,4 @@
-// What a reader answers that has to read again.
+//! What a reader answers that has to read again.
 
 /// A word had one value at the first look and another at the second, so what was read between the
 /// two may fit no single moment.

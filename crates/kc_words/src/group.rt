@@ -1,6 +1,11 @@
-// The word of a group.
+//! The word of a group.
 ghost use Rattle.std.specs.Prelude.{◌≡◌};
 ghost use Rattle.kc_words.specs.GroupWord.{group_word, group_of, IsFitting};
+
+use crate::layout::TOP_BITS;
+
+/// The bits of the top label.
+const TOP_MASK: u64 = (1 << TOP_BITS) - 1;
 
 /// The label of a group among the groups of the two-level list (Dietz and Sleator, 1987). The
 /// version counts the stores to the word.
@@ -18,7 +23,7 @@ impl GroupWord {
         ensures word { result ≡ group_word self }
         ensures read_back { group_of result ≡ self }
     {
-        u64::from(self.version) << 40 | self.top
+        u64::from(self.version) << TOP_BITS | self.top
     }
 
     /// What a word packs. Every word is the word of a group.
@@ -28,8 +33,8 @@ impl GroupWord {
         ensures packed_back { group_word result ≡ word }
     {
         GroupWord {
-            version: (word >> 40) as u32,
-            top: word & 0xFF_FFFF_FFFF,
+            version: (word >> TOP_BITS) as u32,
+            top: word & TOP_MASK,
         }
     }
 }

@@ -1,6 +1,17 @@
-// The word of an item.
+//! The word of an item.
 ghost use Rattle.std.specs.Prelude.{◌≡◌};
 ghost use Rattle.kc_words.specs.ItemWord.{item_word, item_of, IsFitting};
+
+use crate::layout::{BOTTOM_BITS, GROUP_BITS};
+
+/// The place of the version.
+const VERSION_SHIFT: u32 = GROUP_BITS + BOTTOM_BITS;
+
+/// The bits of a group's number.
+const GROUP_MASK: u64 = (1 << GROUP_BITS) - 1;
+
+/// The bits of a bottom label.
+const BOTTOM_MASK: u64 = (1 << BOTTOM_BITS) - 1;
 
 /// An item's place in the two-level list: its group, where 0 says that the item is out, and its
 /// label in the group (Dietz and Sleator, 1987). The version counts the stores to the word.
@@ -19,7 +30,9 @@ impl ItemWord {
         ensures word { result ≡ item_word self }
         ensures read_back { item_of result ≡ self }
     {
-        u64::from(self.version) << 40 | u64::from(self.group) << 19 | u64::from(self.bottom)
+        u64::from(self.version) << VERSION_SHIFT
+            | u64::from(self.group) << BOTTOM_BITS
+            | u64::from(self.bottom)
     }
 
     /// What a word packs. Every word is the word of an item.
@@ -29,9 +42,9 @@ impl ItemWord {
         ensures packed_back { item_word result ≡ word }
     {
         ItemWord {
-            version: (word >> 40) as u32,
-            group: (word >> 19 & 0x1F_FFFF) as u32,
-            bottom: (word & 0x7_FFFF) as u32,
+            version: (word >> VERSION_SHIFT) as u32,
+            group: (word >> BOTTOM_BITS & GROUP_MASK) as u32,
+            bottom: (word & BOTTOM_MASK) as u32,
         }
     }
 }

@@ -5,12 +5,13 @@
 //! `pack` packs, and says for which words `pack` gives back what `of` reads. `Shape` numbers the
 //! words of a table. No call takes memory. `specs/Order.antt` says when the words order a list: the
 //! order list keeps that, and the table's log is legal only where it holds. The crate stands on the
-//! words of `kc_lists`.
+//! words of `kc_distinct`.
 #![tactic(auto)]
 
 pub mod again;
 pub mod group;
 pub mod item;
+pub mod layout;
 pub mod note;
 pub mod shape;
 pub mod version;
@@ -19,16 +20,11 @@ pub mod vertex;
 pub use again::Again;
 pub use group::GroupWord;
 pub use item::ItemWord;
+pub use layout::{BOTTOM_ROOM, INDICES, ITEMS, LAST_VERSION, TOP_ROOM, VERTICES};
 pub use note::NoteWord;
 pub use shape::Shape;
-pub use version::{LAST_VERSION, next_version};
+pub use version::next_version;
 pub use vertex::VertexWord;
-
-/// The most vertices that a graph may have. A vertex number is below it, and takes 18 bits.
-pub const VERTICES: u32 = 262_144;
-
-/// The most updates of a run. The index of an update is below it, and takes 21 bits.
-pub const INDICES: u32 = 2_097_152;
 
 #[cfg(test)]
 mod tests;

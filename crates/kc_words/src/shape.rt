@@ -1,5 +1,6 @@
-// Where the words of a table stand.
+//! Where the words of a table stand.
 ghost use Rattle.std.specs.Prelude.{◌≡◌, ◌≤◌, ◌<◌, ◌+◌, ◌*◌};
+ghost use Rattle.kc_words.specs.declared.layout.TheConstants.{ITEMS, LAST_VERSION};
 
 /// How many words a table has of each kind. Word 0 is the note; then come a word for each item,
 /// one for each group (there is one more group than items), and one for each vertex.
@@ -14,9 +15,9 @@ pub struct Shape {
     /// The version that every item and group word opens with.
     pub version: u32,
     ghost some_items: { 1 ≤ items },
-    ghost few_items: { items ≤ 2097150 },
+    ghost few_items: { items ≤ ITEMS },
     ghost fixed_in: { fixed ≤ items },
-    ghost version_in: { version ≤ 16777215 },
+    ghost version_in: { version ≤ LAST_VERSION },
 }
 
 impl Shape {

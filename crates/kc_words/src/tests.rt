@@ -30,8 +30,8 @@ fn the_notes_have_their_layouts(rt: HostRuntime) {
         u: 0,
         v: 2,
     };
-    assert_eq!(rt; enter.pack(), 6_917_530_127_152_709_634);
-    assert_eq!(rt; NoteWord::of(6_917_530_127_152_709_634), enter);
+    assert_eq!(rt; enter.pack(), 6_917_529_577_396_895_746);
+    assert_eq!(rt; NoteWord::of(6_917_529_577_396_895_746), enter);
 
     let put = NoteWord::Put { x: 5, p: 3 };
     assert_eq!(rt; put.pack(), 9_223_372_036_865_261_571);
@@ -70,8 +70,8 @@ fn the_last_version_has_none_after_it(rt: HostRuntime) {
 
 #[test]
 fn the_numbers_fit_their_fields(rt: HostRuntime) {
-    assert_eq!(rt; VERTICES, 1 << 18);
-    assert_eq!(rt; INDICES, 1 << 21);
+    assert_eq!(rt; VERTICES, 1 << 19);
+    assert_eq!(rt; INDICES, 1 << 22);
     let again = Again {
         word: 3,
         first: 1,

@@ -1,8 +1,7 @@
-// How the version of a word goes on.
+//! How the version of a word goes on.
 ghost use Rattle.std.specs.Prelude.{◌≡◌, ◌≤◌, ◌+◌, ◌↔◌, IsNone, IfSome};
 
-/// The last version that an item's or a group's word can have: versions have 24 bits.
-pub const LAST_VERSION: u32 = 16_777_215;
+use crate::layout::LAST_VERSION;
 
 /// The version after this one; `None` at the last version (and at a number that is no version).
 pub fn next_version(version: u32) -> Option<u32>

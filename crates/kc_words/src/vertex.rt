@@ -1,6 +1,11 @@
-// The word of a vertex.
+//! The word of a vertex.
 ghost use Rattle.std.specs.Prelude.{◌≡◌, ◌+◌, ◌*◌, ◌/◌, ◌%◌, ◌^◌};
 ghost use Rattle.kc_words.specs.VertexWord.{vertex_word, vertex_of};
+
+use crate::layout::CORE_BITS;
+
+/// The bits of a core number.
+const CORE_MASK: u64 = (1 << CORE_BITS) - 1;
 
 /// A vertex's core number, and the number of the update that stored it.
 ///
@@ -25,17 +30,17 @@ impl VertexWord {
         ensures packed_back { vertex_word result ≡ word }
     {
         VertexWord {
-            stamp: (word >> 32) as u32,
-            core: (word & 0xFFFF_FFFF) as u32,
+            stamp: (word >> CORE_BITS) as u32,
+            core: (word & CORE_MASK) as u32,
         }
     }
 }
 
 /// The two numbers side by side.
 fn joined(high: u32, low: u32) -> u64
-    ensures sum { result ≡ high * 2 ^ 32 + low }
-    ensures high_again { result / 2 ^ 32 ≡ high }
-    ensures low_again { result % 2 ^ 32 ≡ low }
+    ensures sum { result ≡ high * 2 ^ CORE_BITS + low }
+    ensures high_again { result / 2 ^ CORE_BITS ≡ high }
+    ensures low_again { result % 2 ^ CORE_BITS ≡ low }
 {
-    u64::from(high) << 32 | u64::from(low)
+    u64::from(high) << CORE_BITS | u64::from(low)
 }

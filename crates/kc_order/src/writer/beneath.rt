@@ -1,7 +1,7 @@
 // A put whose stores are made one by one, with a comparison between any two of them.
 ghost use Rattle.std.specs.Prelude.{◌≡◌, ◌≢◌, ◌<◌, ◌≤◌, ◌+◌, ◌++◌, ◌∷◌, [], true, length, IfErr, IfOk};
 ghost use mathlib.Core.List.{IsPrefix};
-ghost use Rattle.kc_lists.specs.Lists.{member};
+ghost use Rattle.kc_distinct.specs.Lists.{member};
 ghost use Rattle.kc_words.specs.NoteWord.{IsFitting, note_word};
 ghost use Rattle.kc_table.specs.Legal.{Legal};
 ghost use Rattle.kc_order.specs.Standing.{list_after};

@@ -1,5 +1,5 @@
 use Rattle.std.proofs.Common.{◌≢◌, get_or, ◌∙◌, ap, arith}
-use Rattle.kc_lists.specs.Lists.{place_of}
+use Rattle.kc_distinct.specs.Lists.{place_of}
 use Rattle.kc_cert.proofs.Ordered.{rank-here}
 use Rattle.kc_cert.proofs.chains.place_from_end.Goals as goal
 

@@ -1,5 +1,5 @@
 use Rattle.std.proofs.Common.{refl, ◌∙◌, subst, arith}
-use Rattle.kc_lists.proofs.Counting.{Contains-from_member}
+use Rattle.kc_distinct.proofs.Counting.{Contains-from_member}
 use Rattle.kc_graph.proofs.Places.{any_default}
 use Rattle.kc_cert.specs.Local.{IsOfLevel}
 use Rattle.kc_cert.proofs.fitting.are_of_level.Goals as goal

@@ -2,8 +2,8 @@ use Rattle.std.proofs.Common.{◌≡◌, ◌≤◌, ◌<◌, ◌+◌, ◌||◌, 
 use Rattle.std.specs.Prelude.{count_by}
 use Rattle.std.proofs.lemmas.Bool.{or_cases, or_right, and_parts, false_from_ne_true}
 use Rattle.std.proofs.lemmas.List.{take_all, take_more}
-use Rattle.kc_lists.specs.Lists.{member}
-use Rattle.kc_lists.proofs.Counting.{member-get_or, member-push, member-push_left, take-not_here}
+use Rattle.kc_distinct.specs.Lists.{member}
+use Rattle.kc_distinct.proofs.Counting.{member-get_or, member-push, member-push_left, take-not_here}
 use Rattle.kc_graph.proofs.RowsLemmas.{Distinct-from_increasing}
 use Rattle.kc_view.specs.Answers.{has_core}
 use Rattle.kc_view.proofs.Keeping.{GoesOn-trans, agreed, still_has_core, still_has_list, same_list}

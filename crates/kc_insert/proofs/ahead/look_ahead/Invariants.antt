@@ -1,6 +1,6 @@
 use Rattle.std.proofs.Common.{◌≡◌, ◌≤◌, ◌&&◌, ℕ, List, true, take}
 use Rattle.std.specs.Prelude.{count_by}
-use Rattle.kc_lists.specs.Lists.{member, Distinct}
+use Rattle.kc_distinct.specs.Lists.{member, Distinct}
 use Rattle.kc_graph.specs.Lawful.{Ranked}
 use Rattle.kc_view.specs.Answers.{Agrees, has_core}
 use Rattle.kc_view.specs.Views.{GoesOn}

@@ -1,6 +1,6 @@
 use Rattle.std.proofs.Common.{◌≡◌, ◌<◌, ◌⊎◌, ◌&&◌, ◌||◌, ℕ, Bool, true, cond, get_or, eqb, ltb, sym, ◌∙◌, ap, subst, inl, inr, arith, eqb-true}
 use Rattle.std.proofs.lemmas.Bool.{or_cases, and_parts}
-use Rattle.kc_lists.specs.Lists.{member}
+use Rattle.kc_distinct.specs.Lists.{member}
 use Rattle.kc_graph.specs.declared.update.Update.{Update}
 use Rattle.kc_view.specs.Answers.{Answers, Agrees, has_list, list_of}
 use Rattle.kc_view.specs.Sure.{is_listed}

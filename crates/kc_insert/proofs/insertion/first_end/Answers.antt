@@ -1,5 +1,5 @@
 use Rattle.std.proofs.Common.{◌≡◌, ◌<◌, ℕ, Bool, true, false, cond, get_or, ltb, ◌∙◌, subst, arith}
-use Rattle.kc_lists.specs.Lists.{place_of}
+use Rattle.kc_distinct.specs.Lists.{place_of}
 use Rattle.kc_graph.specs.declared.used.UsedOrder.{UsedOrder}
 use Rattle.kc_view.specs.Answers.{Answers, Agrees}
 use Rattle.kc_view.proofs.Keeping.{agreed, core-true, order-true}

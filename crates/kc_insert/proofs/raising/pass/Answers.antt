@@ -1,6 +1,6 @@
 use Rattle.std.proofs.Common.{◌≡◌, false, None, sym, ◌∙◌, ap, inl, arith}
 use Rattle.std.specs.Prelude.{is_some}
-use Rattle.kc_lists.specs.Lists.{member}
+use Rattle.kc_distinct.specs.Lists.{member}
 use Rattle.kc_view.proofs.Keeping.{still_has_core}
 use Rattle.kc_insert.specs.Marks.{mark_of}
 use Rattle.kc_insert.proofs.Passing.{enqueued-passes, passes-tidy, passes-ascends}

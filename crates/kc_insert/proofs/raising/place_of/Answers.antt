@@ -1,7 +1,7 @@
 use Rattle.std.proofs.Common.{◌≡◌, ◌<◌, ◌+◌, ◌-◌, ◌/◌, length, get_or, sym, ◌∙◌, ap, subst, arith}
 use Rattle.std.proofs.lemmas.List.{get_or_read}
-use Rattle.kc_lists.specs.Lists.{member}
-use Rattle.kc_lists.proofs.Counting.{member-get_or}
+use Rattle.kc_distinct.specs.Lists.{member}
+use Rattle.kc_distinct.proofs.Counting.{member-get_or}
 use Rattle.kc_view.specs.Answers.{Answers, Agrees}
 use Rattle.kc_view.proofs.Keeping.{GoesOn-refl, GoesOn-trans, agreed, order-true, still_has_core}
 use Rattle.kc_insert.proofs.Passing.{place-first, place-up, place-down}

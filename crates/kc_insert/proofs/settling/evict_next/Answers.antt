@@ -1,5 +1,5 @@
 use Rattle.std.proofs.Common.{◌≡◌, ℕ, List, sym, ◌∙◌, subst, inr}
-use Rattle.kc_lists.specs.Lists.{Distinct}
+use Rattle.kc_distinct.specs.Lists.{Distinct}
 use Rattle.kc_graph.proofs.RowsLemmas.{Distinct-from_increasing}
 use Rattle.kc_insert.specs.Rising.{turn_at}
 use Rattle.kc_insert.specs.Turns.{Loses}

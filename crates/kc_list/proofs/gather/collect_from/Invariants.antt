@@ -1,5 +1,5 @@
 use Rattle.std.proofs.Common.{◌≡◌, ◌≤◌, ◌-◌, length, take, true, ◌⊎◌}
-use Rattle.kc_lists.specs.Lists.{member}
+use Rattle.kc_distinct.specs.Lists.{member}
 use Rattle.kc_words.specs.Order.{labels}
 use Rattle.kc_list.proofs.Gathering.{Collected}
 use Rattle.kc_list.proofs.gather.collect_from.Given as goal

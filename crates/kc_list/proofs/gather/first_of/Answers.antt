@@ -1,6 +1,6 @@
 use Rattle.std.proofs.Common.{◌≡◌, suc, arith, ap, sym, ◌∙◌}
 use Rattle.kc_words.specs.ItemWord.{item_of}
-use Rattle.kc_lists.specs.Lists.{place_of}
+use Rattle.kc_distinct.specs.Lists.{place_of}
 use Rattle.kc_list.proofs.Gathering.{back_facts, first_found}
 use Rattle.kc_list.proofs.gather.first_of.Goals as goal
 

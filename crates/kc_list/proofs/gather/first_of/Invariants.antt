@@ -1,5 +1,5 @@
 use Rattle.std.proofs.Common.{◌≡◌, true}
-use Rattle.kc_lists.specs.Lists.{member, place_of, prev_of}
+use Rattle.kc_distinct.specs.Lists.{member, place_of, prev_of}
 use Rattle.kc_words.specs.Order.{labels}
 use Rattle.kc_list.proofs.gather.first_of.Given as goal
 

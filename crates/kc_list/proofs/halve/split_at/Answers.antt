@@ -1,8 +1,8 @@
 use Rattle.std.proofs.Common.{◌≡◌, arith, ap, sym, ◌∙◌, true, refl, take, drop, subst}
-use Rattle.kc_lists.proofs.Members.{member-append}
+use Rattle.kc_distinct.proofs.Members.{member-append}
 use Rattle.kc_list.proofs.Changes.{halved}
 use Rattle.kc_words.specs.ItemWord.{item_of}
-use Rattle.kc_lists.specs.Lists.{member}
+use Rattle.kc_distinct.specs.Lists.{member}
 use Rattle.kc_words.specs.Order.{labels}
 use Rattle.kc_list.specs.Places.{Segment}
 use Rattle.kc_list.proofs.Rooms.{in_segment}

@@ -1,6 +1,6 @@
 use Rattle.std.proofs.Common.{ap, ◌∙◌, get_or, arith}
-use Rattle.kc_lists.specs.Lists.{member}
-use Rattle.kc_lists.proofs.Counting.{take-not_here}
+use Rattle.kc_distinct.specs.Lists.{member}
+use Rattle.kc_distinct.proofs.Counting.{take-not_here}
 use Rattle.kc_list.proofs.Spreading.{member-at}
 use Rattle.kc_list.proofs.opening.link.Goals as goal
 

@@ -1,6 +1,6 @@
 use Rattle.std.proofs.Common.{◌<◌, arith, sym, ◌∙◌, inl, inr}
-use Rattle.kc_lists.specs.Lists.{next_of}
-use Rattle.kc_lists.proofs.Members.{next_of-in}
+use Rattle.kc_distinct.specs.Lists.{next_of}
+use Rattle.kc_distinct.proofs.Members.{next_of-in}
 use Rattle.kc_list.proofs.place.gap.Goals as goal
 
 pub overflow_add-q : goal.overflow_add-q

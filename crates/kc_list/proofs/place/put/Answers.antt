@@ -1,7 +1,7 @@
 use Rattle.std.proofs.Common.{◌+◌, arith, ap, sym, ◌∙◌, refl, eqb, not}
 use Rattle.kc_words.specs.declared.item.ItemWord.{ItemWord}
 use Rattle.kc_words.specs.ItemWord.{item_of}
-use Rattle.kc_lists.proofs.Members.{without-member, not_member-without}
+use Rattle.kc_distinct.proofs.Members.{without-member, not_member-without}
 use Rattle.kc_list.proofs.Putting.{in_by_group, put_stored}
 use Rattle.kc_list.proofs.place.put.Goals as goal
 

@@ -1,5 +1,5 @@
 use Rattle.std.proofs.Common.{arith, ◌++◌, ◌+◌, map}
-use Rattle.kc_lists.proofs.Members.{member-append_right}
+use Rattle.kc_distinct.proofs.Members.{member-append_right}
 use Rattle.kc_words.specs.Order.{labels}
 use Rattle.kc_list.proofs.Spreading.{segment_in, only-after}
 use Rattle.kc_list.proofs.Splits.{lower_segment, upper_segment, Steps-then, versions-then, version_kept}

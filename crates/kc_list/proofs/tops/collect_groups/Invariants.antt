@@ -1,5 +1,5 @@
 use Rattle.std.proofs.Common.{◌≤◌, ◌-◌, length, take}
-use Rattle.kc_lists.specs.Lists.{place_of}
+use Rattle.kc_distinct.specs.Lists.{place_of}
 use Rattle.kc_words.specs.Order.{labels}
 use Rattle.kc_list.proofs.Groupings.{Grouped}
 use Rattle.kc_list.proofs.tops.collect_groups.Given as goal

@@ -1,5 +1,5 @@
 use Rattle.std.proofs.Common.{◌+◌, subst, length, take, map, arith, List, ℕ}
-use Rattle.kc_lists.proofs.Members.{below_bound}
+use Rattle.kc_distinct.proofs.Members.{below_bound}
 use Rattle.kc_words.specs.Order.{labels}
 use Rattle.kc_list.specs.Places.{runs}
 use Rattle.kc_list.specs.Sheets.{ChangesOnly}

@@ -1,5 +1,5 @@
 use Rattle.std.proofs.Common.{◌≡◌, ◌+◌, ◌/◌, ap, sym, subst, ◌∙◌, length, take, map, arith}
-use Rattle.kc_lists.specs.Lists.{Distinct}
+use Rattle.kc_distinct.specs.Lists.{Distinct}
 use Rattle.kc_relabel.specs.Labels.{schedule_of}
 use Rattle.kc_relabel.proofs.Rising.{Ascends-rises}
 use Rattle.kc_words.specs.Order.{labels}

@@ -1,5 +1,5 @@
 use Rattle.std.proofs.Common.{◌≡◌, ◌<◌, ℕ, Bool, true, List, [], ◌∷◌, length, eqb, refl, sym, ◌∙◌, ap, subst, arith, eqb-true}
-use Rattle.kc_lists.specs.Lists.{member}
+use Rattle.kc_distinct.specs.Lists.{member}
 use Rattle.kc_graph.specs.SimpleGraph.{adjacent}
 use Rattle.kc_graph.specs.Lawful.{Ranked}
 use Rattle.kc_graph.proofs.NeighbourLists.{neighbours_has}

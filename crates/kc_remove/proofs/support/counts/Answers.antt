@@ -1,5 +1,5 @@
 use Rattle.std.proofs.Common.{◌≡◌, ℕ, Bool, false, not, ◌&&◌, leb, get_or, sym, ◌∙◌, arith}
-use Rattle.kc_lists.specs.Lists.{member}
+use Rattle.kc_distinct.specs.Lists.{member}
 use Rattle.kc_view.proofs.Keeping.{core-true}
 use Rattle.kc_remove.specs.Removed.{is_removed}
 use Rattle.kc_remove.proofs.Tidy.{tidy-neighbour}

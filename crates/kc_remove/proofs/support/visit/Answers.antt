@@ -1,5 +1,5 @@
 use Rattle.std.proofs.Common.{◌≡◌, ◌<◌, true, false, length, arith}
-use Rattle.kc_lists.specs.Lists.{member}
+use Rattle.kc_distinct.specs.Lists.{member}
 use Rattle.kc_view.specs.Answers.{has_list}
 use Rattle.kc_view.proofs.Keeping.{GoesOn-trans, still_has_list, list-true}
 use Rattle.kc_remove.proofs.Stepping.{visited-falls}

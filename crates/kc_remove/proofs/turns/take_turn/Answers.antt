@@ -1,7 +1,7 @@
 use Rattle.std.proofs.Common.{◌≡◌, ◌<◌, ℕ, true, get_or, arith}
 use Rattle.std.proofs.lemmas.List.{get_or_read}
-use Rattle.kc_lists.specs.Lists.{member}
-use Rattle.kc_lists.proofs.Counting.{member-get_or}
+use Rattle.kc_distinct.specs.Lists.{member}
+use Rattle.kc_distinct.proofs.Counting.{member-get_or}
 use Rattle.kc_remove.proofs.Tidy.{fallen-visited}
 use Rattle.kc_remove.proofs.turns.take_turn.Goals as goal
 

@@ -1,5 +1,5 @@
 use Rattle.std.proofs.Common.{sym, subst}
-use Rattle.kc_lists.specs.Lists.{Distinct}
+use Rattle.kc_distinct.specs.Lists.{Distinct}
 use Rattle.kc_cert.proofs.Chaining.{Distinct-with_anchor}
 use Rattle.kc_cert.proofs.chains.Line.shift.Goals as goal
 

@@ -1,6 +1,6 @@
 use Rattle.std.proofs.Common.{◌≡◌, ◌↔◌, ℕ, IsTrue, nat_eq, take}
 use Rattle.std.specs.HashMap.{get}
-use Rattle.kc_lists.specs.Lists.{Distinct}
+use Rattle.kc_distinct.specs.Lists.{Distinct}
 use Rattle.kc_cert.specs.Shifting.{place_in}
 use Rattle.kc_cert.proofs.places.Places.in_list.Given as goal
 

@@ -2,7 +2,7 @@ use Rattle.std.proofs.Common.{◌≡◌, ◌<◌, ◌+◌, ◌-◌, ◌++◌, �
 use Rattle.std.proofs.Math.Seq.{take-append_seam}
 use Rattle.std.specs.FinSet as set
 use Rattle.std.specs.List.{sum_by}
-use Rattle.kc_lists.specs.Lists.{member}
+use Rattle.kc_distinct.specs.Lists.{member}
 use Rattle.kc_graph.specs.SimpleGraph.{SimpleGraph, adjacent}
 use Rattle.kc_graph.specs.Edges.{without_edge}
 use Rattle.kc_graph.specs.Rows.{lists, row, graph_of, IsKept, BothDeleted}

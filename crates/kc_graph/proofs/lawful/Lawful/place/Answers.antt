@@ -1,8 +1,8 @@
 use Rattle.std.proofs.Common.{◌≡◌, ◌<◌, ℕ, List, length, get_or, ap, sym, ◌∙◌, arith, Some}
 use Rattle.std.specs.List.{slice_get}
 use Rattle.std.proofs.lemmas.Option.{slice_get-get_or}
-use Rattle.kc_lists.specs.Lists.{place_of}
-use Rattle.kc_lists.proofs.Counting.{Distinct-from_pairs}
+use Rattle.kc_distinct.specs.Lists.{place_of}
+use Rattle.kc_distinct.proofs.Counting.{Distinct-from_pairs}
 use Rattle.kc_graph.specs.Lawful.{Ranked}
 use Rattle.kc_graph.proofs.Places.{length-enumerates, place_of-at, any_default}
 use Rattle.kc_graph.proofs.lawful.Lawful.place.Goals as goal

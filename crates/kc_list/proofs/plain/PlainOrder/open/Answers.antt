@@ -1,5 +1,5 @@
 use Rattle.std.proofs.Common.{◌+◌, [], ap, sym, ◌∙◌, length, arith}
-use Rattle.kc_lists.proofs.Members.{below_bound}
+use Rattle.kc_distinct.proofs.Members.{below_bound}
 use Rattle.kc_list.specs.Sheets.{Paper}
 use Rattle.kc_list.specs.Plain.{IsWhole}
 use Rattle.kc_list.proofs.Putting.{ordered_from}

@@ -1,7 +1,7 @@
 use Rattle.std.proofs.Common.{◌<◌, ◌+◌, ℕ, List, ap, subst, ◌∙◌, get_or, arith}
 use Rattle.std.proofs.lemmas.List.{get_or-set_other}
 use Rattle.kc_words.specs.ItemWord.{item_of}
-use Rattle.kc_lists.specs.Lists.{member}
+use Rattle.kc_distinct.specs.Lists.{member}
 use Rattle.kc_words.specs.Order.{Ordered}
 use Rattle.kc_list.specs.Plain.{Written}
 use Rattle.kc_list.proofs.Putting.{ordered_from}

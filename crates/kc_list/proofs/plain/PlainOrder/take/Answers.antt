@@ -1,6 +1,6 @@
 use Rattle.std.proofs.Common.{◌≢◌, ◌+◌, ℕ, List, ap, sym, subst, ◌∙◌, get_or, length, arith}
-use Rattle.kc_lists.specs.Lists.{member}
-use Rattle.kc_lists.proofs.Members.{without-member}
+use Rattle.kc_distinct.specs.Lists.{member}
+use Rattle.kc_distinct.proofs.Members.{without-member}
 use Rattle.kc_words.specs.Order.{Ordered}
 use Rattle.kc_list.specs.Plain.{Written}
 use Rattle.kc_list.proofs.Putting.{ordered_from}

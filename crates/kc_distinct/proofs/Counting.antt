@@ -2,8 +2,8 @@
 use Rattle.std.proofs.Common.{◌≡◌, ◌≢◌, ◌≤◌, ◌<◌, ◌+◌, ℕ, suc, zero, Bool, true, false, cond, ◌||◌, List, [], ◌∷◌, length, get_or, eqb, refl, sym, ◌∙◌, ap, ◌⊎◌, inl, inr, arith, true≢false, eqb-true, eq-eqb, ne_eqb, lt_irrefl, ◌++◌, drop, take}
 use Rattle.std.specs.Prelude.{AllPairs, Contains, count_by}
 use Rattle.std.specs.List.{filter}
-use Rattle.kc_lists.specs.Lists.{member, Distinct, below}
-use Rattle.kc_lists.proofs.Members.{member-head, member-tail, member-cases}
+use Rattle.kc_distinct.specs.Lists.{member, Distinct, below}
+use Rattle.kc_distinct.proofs.Members.{member-head, member-tail, member-cases}
 use Rattle.std.proofs.lemmas.Bool.{eqb-false, cases_Bool, cases_eq, or_cases, or_left, or_right, false≢true, or_parts, or_from, false_from_ne_true}
 use Rattle.std.proofs.lemmas.List.Sums.{sum_by-cons}
 use Rattle.std.proofs.lemmas.List.Elements.{Contains-get_or}

@@ -6,7 +6,7 @@
 #![tactic(auto)]
 
 ghost use Rattle.std.specs.Prelude.{◌≡◌, ◌<◌, ◌≤◌, ℕ, Bool, List, true, count_by, length};
-ghost use Rattle.kc_lists.specs.Lists.{member, Distinct};
+ghost use Rattle.kc_distinct.specs.Lists.{member, Distinct};
 
 /// Distinct numbers that pass a test are no more than those that pass it in a list that has each of them.
 pub fn counts_follow_membership()

@@ -2,7 +2,7 @@
 use Rattle.std.proofs.Common.{◌≡◌, ℕ, suc, zero, ◌<◌, ◌≤◌, true, false, cond, List, [], ◌∷◌, ◌++◌, length, eqb, refl, sym, ◌∙◌, ap, subst, ◌⊎◌, inl, inr, arith}
 use Rattle.std.proofs.lemmas.Bool.{eqb-true, eqb-false, eq-eqb, ne_eqb, cases_Bool, or_cases, or_left, or_right, or_parts, or_from, false≢true, true≢false, false_from_ne_true}
 use Rattle.std.proofs.lemmas.List.{append_assoc, length-append}
-use Rattle.kc_lists.specs.Lists.{member, Distinct, without, right_after, head_or, last_or, next_of, prev_of, place_of}
+use Rattle.kc_distinct.specs.Lists.{member, Distinct, without, right_after, head_or, last_or, next_of, prev_of, place_of}
 
 pub member-head : (x : ℕ) (xs : List ℕ) → member x (x ∷ xs) ≡ true
 member-head x xs = or_left (eqb x x) (member x xs) (eq-eqb x x refl)

@@ -1,0 +1,5 @@
+use Rattle.kc_distinct.proofs.Counting.{count-le}
+use Rattle.kc_distinct.proofs.counts_follow_membership.Goals as goal
+
+pub returns : goal.returns
+returns c = count-le

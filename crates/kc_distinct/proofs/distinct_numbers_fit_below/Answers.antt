@@ -1,0 +1,5 @@
+use Rattle.kc_distinct.proofs.Members.{below_bound}
+use Rattle.kc_distinct.proofs.distinct_numbers_fit_below.Goals as goal
+
+pub returns : goal.returns
+returns c = below_bound

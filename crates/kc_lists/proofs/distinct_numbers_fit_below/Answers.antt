@@ -1,5 +1,0 @@
-use Rattle.kc_lists.proofs.Members.{below_bound}
-use Rattle.kc_lists.proofs.distinct_numbers_fit_below.Goals as goal
-
-pub returns : goal.returns
-returns c = below_bound
