@@ -61,11 +61,15 @@ at_least-ascends k core (suc n) = elim (cases_Bool (nat_le k (slice_index core n
 
 -- who has many neighbours has few
 in_lower : (g : SimpleGraph) (j k v : ℕ) → k ≤ j → IsInCore g j v → IsInCore g k v
-in_lower g j k v l (members, many, here) = (members, record {
-  vertices = many.vertices;
-  distinct = many.distinct;
-  degrees = λ i d lt. omega (arith, l, many.degrees i d lt);
-}, here)
+in_lower g j k v l (members, many, here) = (
+  members,
+  record {
+    vertices = many.vertices;
+    distinct = many.distinct;
+    degrees = λ i d lt. omega (arith, l, many.degrees i d lt);
+  },
+  here,
+)
 
 -- a member of a k-core is a vertex
 in_graph : (g : SimpleGraph) (k v : ℕ) → IsInCore g k v → v < g.size
