@@ -2,6 +2,7 @@ pub mod Again
 pub mod Comparing
 pub mod Cutting
 pub mod Ending
+pub mod Leaving
 pub mod Opened
 pub mod Reading
 pub mod Relabelling

@@ -31,7 +31,7 @@ impl<K: Name> Kept<K> {
         requires table { (pass.old.table ≡ K.table) × (words.now ≡ K.table) }
         requires item { item < K.table.shape.items }
         ensures writer { self.new.writer ≡ self.old.writer }
-        ensures pass { pass.new ≡ self.new.writer }
+        ensures pass { pass.new ≡ record { table = self.new.writer.table; log = self.new.writer.log; loads = 0; splits = 0 } }
         ensures longer { IsPrefix pass.old.log pass.new.log }
         ensures ready { OnOk result (IsReady K.table pass.new.log item) }
         ensures refused { IfErr result (λ fault. IsRefusal K.table pass.new.log item fault) }
