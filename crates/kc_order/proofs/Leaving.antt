@@ -1,8 +1,8 @@
 -- What a put, a take, a note of an entry and a vertex word leave beside the list.
-use Rattle.std.proofs.Common.{◌≡◌, ◌≢◌, ℕ, suc, ◌+◌, ◌-◌, ◌<◌, ◌≤◌, true, false, cond, ◌&&◌, List, [], ◌∷◌, ◌++◌, eqb, leb, ltb, set, get_or}
-use Rattle.std.proofs.Common.{length, refl, sym, ap, ◌∙◌, subst, inl, inr, arith, get_or-set_same, get_or-set_other, eq-eqb, ne_eqb}
+use Rattle.std.proofs.Common.{◌≡◌, ℕ, suc, ◌+◌, ◌-◌, ◌<◌, cond, ◌&&◌, List, [], ◌∷◌, ◌++◌, ltb, set, get_or}
+use Rattle.std.proofs.Common.{refl, sym, ap, ◌∙◌, subst, arith, get_or-set_other, eq-eqb}
 use Rattle.std.specs.Prelude.{All}
-use Rattle.std.proofs.lemmas.Bool.{cases_eq, lt-leb}
+use Rattle.std.proofs.lemmas.Bool.{lt-leb}
 use Rattle.kc_distinct.specs.Lists.{without}
 use Rattle.kc_words.specs.NoteWord.{note_of, note_word, IsFitting}
 use Rattle.kc_words.proofs.Notes.{note_of-note_word}
@@ -11,7 +11,7 @@ use Rattle.kc_words.specs.declared.note.NoteWord.TheVariants.{Put, Take}
 use Rattle.kc_words.specs.declared.shape.Shape.{Shape}
 use Rattle.kc_table.specs.declared.entry.Entry.{Entry}
 use Rattle.kc_table.specs.declared.view.Event.{Event}
-use Rattle.kc_table.specs.Log.{Seen, TableName, event, value_at}
+use Rattle.kc_table.specs.Log.{Seen, TableName, event}
 use Rattle.kc_table.specs.State.{State, after_store, after_stores, state_of, first_vertex, entered, unsealed_from, put_in, sealed}
 use Rattle.kc_table.specs.Legal.{FollowsNote, IsVersioned}
 use Rattle.kc_table.proofs.LegalLogs.{after_stores-append, state_of-words}
@@ -119,7 +119,7 @@ pub put-leaves : (old new : Seen) (x p : ℕ) → EndsWith old new (Put x p) x �
     → Leaves new (entries_after old) (with_open old.table.shape.fixed x (unsealed_after old)) (vertex_word_after old)
 put-leaves old new x p e fitting low quiet =
     let open_is : put_in old.table.shape (Put x p) (1 + x) (unsealed_after old) ≡ with_open old.table.shape.fixed x (unsealed_after old) =
-        ap (λ b. cond (b && ltb x old.table.shape.fixed) (x ∷ unsealed_after old) (unsealed_after old)) (eq-eqb (1 + x) (1 + x) refl) in
+    ap (λ b. cond (b && ltb x old.table.shape.fixed) (x ∷ unsealed_after old) (unsealed_after old)) (eq-eqb (1 + x) (1 + x) refl) in
     subst (λ us. Leaves new (entries_after old) us (vertex_word_after old)) open_is (EndsWith-leaves old new (Put x p) x e fitting (put-of_item x p) low quiet)
 
 -- what a take leaves

@@ -6,6 +6,7 @@ pub mod Leaving
 pub mod Opened
 pub mod Reading
 pub mod Relabelling
+pub mod Running
 pub mod Sections
 pub mod Stood
 pub mod Writing

@@ -2,7 +2,6 @@
 use Rattle.std.proofs.Common.{◌≡◌, ℕ, ◌+◌, ◌*◌, ◌-◌, ◌<◌, ◌≤◌, ◌^◌, true, false, cond, List, [], ◌∷◌, length, set, get_or, eqb, leb, refl, sym, ap, ◌∙◌, subst, inl, inr, arith, get_or-set_same, get_or-set_other, length-set}
 use Rattle.std.proofs.lemmas.Bool.{cases_eq, ne_eqb, lt-leb}
 use Rattle.kc_distinct.specs.Lists.{member, without}
-use Rattle.kc_distinct.proofs.Members.{member-head, member-tail}
 use Rattle.kc_words.specs.ItemWord.{item_of}
 use Rattle.kc_words.specs.GroupWord.{group_of}
 use Rattle.kc_words.specs.VertexWord.{vertex_of}

@@ -142,7 +142,7 @@ enter-leaves seen add index u v fitting =
 -- what a vertex word leaves beside the list
 pub vertex-leaves : (seen : Seen) (plain : Plain) (v value : ℕ) → Tied seen plain → v < seen.table.shape.fixed
     → Leaves (record { table = seen.table; log = seen.log ++ event (first_vertex seen.table.shape + v) value ∷ [] }) (entries_after seen) (without v (unsealed_after seen))
-        (λ w. cond (eqb w v) value (vertex_word_after seen w))
+    (λ w. cond (eqb w v) value (vertex_word_after seen w))
 vertex-leaves seen plain v value tied below =
     let shape = seen.table.shape in
     let opening = seen.table.opening in
@@ -155,7 +155,7 @@ vertex-leaves seen plain v value tied below =
     let long : length s.words ≡ word_count shape = (goes shape opening seen.log plain tied.legal tied.long tied.words tied.quiet).long in
     let here : w - first_vertex shape ≡ v = omega arith in
     let sealed_is : sealed shape w s.unsealed ≡ without v s.unsealed =
-        ap (λ b. cond b (without (w - first_vertex shape) s.unsealed) s.unsealed) (le-leb (first_vertex shape) w (omega arith)) ∙ ap (λ k. without k s.unsealed) here in
+    ap (λ b. cond b (without (w - first_vertex shape) s.unsealed) s.unsealed) (le-leb (first_vertex shape) w (omega arith)) ∙ ap (λ k. without k s.unsealed) here in
     record {
       entries_are = made.entries_are;
       unsealed_are = made.unsealed_are ∙ (put_in-quiet shape s.note w (sealed shape w s.unsealed) tied.quiet ∙ sealed_is);

@@ -1,5 +1,5 @@
 -- A word that names no group is that of an item that is out; any other names a group of the table.
-use Rattle.std.proofs.Common.{◌≡◌, ◌+◌, ◌<◌, ◌∙◌, ℕ, ap, refl, sym, subst, arith}
+use Rattle.std.proofs.Common.{◌≡◌, ◌<◌, ◌∙◌, ℕ, ap, refl, sym, subst, arith}
 use Rattle.kc_words.specs.ItemWord.{item_of}
 use Rattle.kc_table.specs.Log.{TableName}
 use Rattle.kc_order.specs.Standing.{LoadsWord}

@@ -1,7 +1,7 @@
 -- The four second loads are one chain: each word that is the same leads to the next, and the first that differs ends it.
 use Rattle.std.proofs.Common.{refl, subst}
 use Rattle.kc_words.specs.declared.again.Again.{Again}
-use Rattle.kc_order.specs.Collected.{Loaded, words_of}
+use Rattle.kc_order.specs.Collected.{words_of}
 use Rattle.kc_order.specs.Standing.{FindsOther, FindsSame}
 use Rattle.kc_order.proofs.Again.{finds_other-here, finds_other-later, if_none, if_some}
 use Rattle.kc_order.proofs.collect.Collect.load_again.Goals as goal
