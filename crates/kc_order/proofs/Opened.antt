@@ -70,8 +70,11 @@ follows-placed a w x [] h p q f = (h, tt)
 follows-placed a w x (z ∷ zs) h p q f =
     elim (cases_Bool (is_below a x z)) [
       | inl t ↦ rw t (h, (below-true a x z t, p.1))
-      | inr isnt ↦ rw isnt (p.0, follows-placed a z x zs (f z (member-head z zs) isnt) p.1 (InOrder-tail (PairBelow a) z zs q)
-          (λ y m. f y (member-tail y z zs m)))
+      | inr isnt ↦ rw isnt (
+        p.0,
+        follows-placed a z x zs (f z (member-head z zs) isnt) p.1 (InOrder-tail (PairBelow a) z zs q)
+            (λ y m. f y (member-tail y z zs m)),
+      )
     ]
 
 in_order-placed : (a : Labels) (x : ℕ) (zs : List ℕ) → InOrder (PairBelow a) zs → ((z : ℕ) → member z zs ≡ true → is_below a x z ≡ false → PairBelow a z x) → InOrder (PairBelow a) (placed a x zs)

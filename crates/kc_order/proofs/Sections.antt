@@ -115,7 +115,7 @@ sealed_at seen plain v value tied below fits seals =
 pub enter-leaves : (seen : Seen) (add : Bool) (index u v : ℕ) → IsFitting (Enter add index u v)
     → let entry : Entry = record { index = index; add = add; u = u; v = v } in
     Leaves (record { table = seen.table; log = seen.log ++ event 0 (note_word (Enter add index u v)) ∷ [] }) (entries_after seen ++ entry ∷ []) []
-        (vertex_word_after seen)
+    (vertex_word_after seen)
 enter-leaves seen add index u v fitting =
     let shape = seen.table.shape in
     let n = Enter add index u v in
@@ -131,7 +131,7 @@ enter-leaves seen add index u v fitting =
       unsealed = [];
     } in
     let at : state_of shape seen.table.opening (seen.log ++ e ∷ []) ≡ t = state_of-push shape seen.table.opening seen.log e ∙ ap (λ z. noted-as s value z)
-        note in
+    note in
     let made = leaves-state seen.table (seen.log ++ e ∷ []) t at (λ word. tt) in
     record {
       entries_are = made.entries_are;
@@ -160,7 +160,7 @@ vertex-leaves seen plain v value tied below =
     let here : w - first_vertex shape ≡ v = omega arith in
     let sealed_is : sealed shape w s.unsealed ≡ without v s.unsealed =
     ap (λ b. cond b (without (w - first_vertex shape) s.unsealed) s.unsealed) (le-leb (first_vertex shape) w (omega arith)) ∙ ap (λ k. without k s.unsealed)
-        here in
+    here in
     record {
       entries_are = made.entries_are;
       unsealed_are = made.unsealed_are ∙ (put_in-quiet shape s.note w (sealed shape w s.unsealed) tied.quiet ∙ sealed_is);

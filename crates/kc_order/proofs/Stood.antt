@@ -55,8 +55,8 @@ stands-first a x y list order distinct x-in y-in differ less =
             let d = cut x c.back k in
             let split : list ≡ (c.front ++ y ∷ d.front) ++ x ∷ d.back = c.is ∙ (ap (λ l. c.front ++ y ∷ l) d.is ∙ sym (append_assoc c.front (y ∷ d.front) (x ∷ d.back))) in
             absurd (PairBelow-asym a x y less
-                (in_order-before (PairBelow a) (pair-trans a) y x (c.front ++ y ∷ d.front) d.back (subst (InOrder (PairBelow a)) split order)
-                    (member-append_right y c.front (y ∷ d.front) (member-head y d.front))))
+            (in_order-before (PairBelow a) (pair-trans a) y x (c.front ++ y ∷ d.front) d.back (subst (InOrder (PairBelow a)) split order)
+            (member-append_right y c.front (y ∷ d.front) (member-head y d.front))))
       ]
     ]
 
@@ -70,7 +70,7 @@ held_between table l m old new versioned held a begun b one =
     let legal : Legal table.shape table.opening q = subst (λ (t : TableName). Legal t.shape t.opening q) is one.legal in
     let again : l.value ≡ value_at table.opening q l.word = one.held ∙ ap (λ (t : TableName). value_at t.opening q l.word) is in
     held ∙ sym (fresh table.shape table.opening l.word l.prefix m q versioned a m_q (legal-prefix table.shape table.opening m q m_q legal) legal
-        (sym held ∙ again))
+    (sym held ∙ again))
 
 -- all four values were their words' after the collect's last prefix
 pub all_held : (c : Collected) (old new : PassSeen) → IsCollect c → old.table ≡ c.table → IsPrefix c.group_y.prefix old.log → FindsSame old (words_of c) new

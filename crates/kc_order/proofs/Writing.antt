@@ -357,7 +357,7 @@ raised-at_most ws (w ∷ writes) k h =
       | inl e ↦
           let here : sheet.version (set ws w.word w.value) k ≡ (item_of w.value).version =
           ap (λ z. (item_of (get_or (set ws z w.value) k 0)).version) e ∙ ap (λ z. (item_of z).version)
-              (get_or-set_same ws k w.value 0 (omega (arith, h.0.high, e))) in
+          (get_or-set_same ws k w.value 0 (omega (arith, h.0.high, e))) in
           omega (arith, rest, here, h.0.version_is, ap (sheet.version ws) e)
       | inr ne ↦ omega (arith, rest, ap (λ z. (item_of z).version) (get_or-set_other ws w.word k w.value 0 (λ e. ne (sym e))))
     ]

@@ -170,9 +170,9 @@ module _ (shape : Shape) (opening : List ℕ) (v : ℕ) (low : v < shape.fixed) 
                   ∙ member-append_left v (puts_in shape opening log n) (item_put s.note e.word) (was.stamped (sym stamp ∙ (is ∙ number)));
               is_open = λ m. ap (member v) puts ∙ elim
                   (or_cases (member v (item_put s.note e.word)) (member v (sealed shape e.word s.unsealed)) (sym unsealed ∙ m)) [
-                | inl k ↦ member-append_right v (puts_in shape opening log n) (item_put s.note e.word) k
-                | inr k ↦ member-append_left v (puts_in shape opening log n) (item_put s.note e.word) (was.is_open (open-sealed shape v e.word s.unsealed k))
-              ];
+                    | inl k ↦ member-append_right v (puts_in shape opening log n) (item_put s.note e.word) k
+                    | inr k ↦ member-append_left v (puts_in shape opening log n) (item_put s.note e.word) (was.is_open (open-sealed shape v e.word s.unsealed k))
+                  ];
             }
       ]
 

@@ -25,14 +25,14 @@ returns-in-Some-load_again-2-clause-other c = subst (λ s. FindsOther c.args.pas
 pub returns-clause-same : goal.returns-clause-same
 returns-clause-same c = if_none c.load_again-4.result c.load_again-4.ensures.same
     (λ last. subst (λ s. FindsSame c.args.pass.now (words_of s) c.load_again-4.new.pass) c.self.view_is (
-  c.load_again.new.pass,
-  c.in_default.ensures.same,
-  (
-    c.load_again-2.new.pass,
-    c.in_default-load_again.ensures.same,
-    (c.load_again-3.new.pass, c.in_default-load_again-2.ensures.same, (c.load_again-4.new.pass, last, refl)),
-  ),
-))
+      c.load_again.new.pass,
+      c.in_default.ensures.same,
+      (
+        c.load_again-2.new.pass,
+        c.in_default-load_again.ensures.same,
+        (c.load_again-3.new.pass, c.in_default-load_again-2.ensures.same, (c.load_again-4.new.pass, last, refl)),
+      ),
+    ))
 
 pub returns-clause-other : goal.returns-clause-other
 returns-clause-other c = if_some c.load_again-4.result c.load_again-4.ensures.other (λ (again : Again) last.
