@@ -178,5 +178,5 @@ tied-open shape plain words order vertex table seen opening h same items fixed l
           long = long ∙ ap (λ (z : Shape). 2 * z.items + 2) (sym s);
           words = λ w k. ap (λ l. get_or l w 0) same ∙ (sym (h.plain w k.0 (omega (arith, k.1, ap (λ (z : Shape). z.items) s))) ∙ ap (λ l. get_or l w 0) (sym o));
           note = note;
-          quiet = λ w. subst (λ z. legal.Follows z.note w) (sym begun) tt;
+          quiet = λ w. subst (λ z. legal.FollowsNote z.note w) (sym begun) tt;
         }

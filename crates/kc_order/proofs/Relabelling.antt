@@ -53,20 +53,20 @@ pub record Goes (shape : Shape) (s : State) (ws : List ℕ) : Type 0 where
   pub listed : Listed shape s.list
   pub words : (w : ℕ) → 1 ≤ w → w < first_vertex shape → get_or s.words w 0 ≡ get_or ws w 0
   pub stamps : (v : ℕ) → v < shape.fixed → legal.stamp_in shape s v ≤ legal.last_entry shape s
-  pub quiet : (w : ℕ) → legal.Follows s.note w
+  pub quiet : (w : ℕ) → legal.FollowsNote s.note w
 
 -- a word with a version is no note
 not_note : (w : ℕ) → 1 ≤ w → eqb w 0 ≡ false
 not_note w l = ne_eqb w 0 (λ e. omega (arith, l, e))
 
 -- a store of an item's or a group's word where nothing is announced changes the words alone
-pub store-quiet : (note : NoteWord) (w : ℕ) (list : List ℕ) → ((v : ℕ) → legal.Follows note v) → moved note w list ≡ list
+pub store-quiet : (note : NoteWord) (w : ℕ) (list : List ℕ) → ((v : ℕ) → legal.FollowsNote note v) → moved note w list ≡ list
 store-quiet Nothing w list q = refl
 store-quiet (Enter add index u v) w list q = refl
 store-quiet (Put x p) w list q = absurd (omega (arith, q 0))
 store-quiet (Take x) w list q = absurd (omega (arith, q 0))
 
-put_in-quiet : (shape : Shape) (note : NoteWord) (w : ℕ) (unsealed : List ℕ) → ((v : ℕ) → legal.Follows note v) → put_in shape note w unsealed ≡ unsealed
+put_in-quiet : (shape : Shape) (note : NoteWord) (w : ℕ) (unsealed : List ℕ) → ((v : ℕ) → legal.FollowsNote note v) → put_in shape note w unsealed ≡ unsealed
 put_in-quiet shape Nothing w unsealed q = refl
 put_in-quiet shape (Enter add index u v) w unsealed q = refl
 put_in-quiet shape (Put x p) w unsealed q = absurd (omega (arith, q 0))
@@ -76,7 +76,7 @@ put_in-quiet shape (Take x) w unsealed q = refl
 abbrev relabelled : State → Event → State
 relabelled s e = record { words = set s.words e.word e.value; list = s.list; note = Nothing; entries = s.entries; unsealed = s.unsealed }
 
-pub after-relabel : (shape : Shape) (s : State) (e : Event) → 1 ≤ e.word → e.word < first_vertex shape → ((w : ℕ) → legal.Follows s.note w) → after_store shape s e ≡ relabelled s e
+pub after-relabel : (shape : Shape) (s : State) (e : Event) → 1 ≤ e.word → e.word < first_vertex shape → ((w : ℕ) → legal.FollowsNote s.note w) → after_store shape s e ≡ relabelled s e
 after-relabel shape s e low high q =
     let no_vertex : leb (first_vertex shape) e.word ≡ false = lt-leb (first_vertex shape) e.word high in
     rw (not_note e.word low) (λ i. record {

@@ -23,7 +23,7 @@ pub stored-aside : (seen : Seen) (plain : Plain) (e : Event) → Tied seen plain
     → ((w : ℕ) → 1 ≤ w → w < first_vertex seen.table.shape → e.word ≢ w)
     → (t : State) → after_store seen.table.shape (state_of seen.table.shape seen.table.opening seen.log) e ≡ t
     → t.list ≡ (state_of seen.table.shape seen.table.opening seen.log).list → t.words ≡ set (state_of seen.table.shape seen.table.opening seen.log).words e.word e.value
-    → ((v : ℕ) → v < seen.table.shape.fixed → legal.stamp_in seen.table.shape t v ≤ legal.last_entry seen.table.shape t) → ((w : ℕ) → legal.Follows t.note w)
+    → ((v : ℕ) → v < seen.table.shape.fixed → legal.stamp_in seen.table.shape t v ≤ legal.last_entry seen.table.shape t) → ((w : ℕ) → legal.FollowsNote t.note w)
     → legal.Legal seen.table.shape seen.table.opening (seen.log ++ e ∷ []) × ((now : Seen) → now ≡ record { table = seen.table; log = seen.log ++ e ∷ [] } → Tied now plain)
 stored-aside seen plain e tied may aside t is t-list t-words stamps quiet =
     let shape = seen.table.shape in
@@ -43,7 +43,7 @@ stored-aside seen plain e tied may aside t is t-list t-words stamps quiet =
         long = tied.long;
         words = λ w h. tied.words w h ∙ (ap (λ l. get_or l w 0) (sym (state_of-words shape opening seen.log)) ∙ (sym (same w h.0 h.1) ∙ (ap (λ z. get_or z.words w 0) (sym at) ∙ ap (λ l. get_or l w 0) (state_of-words shape opening (seen.log ++ e ∷ [])))));
         note = tied.note;
-        quiet = λ w. subst (λ z. legal.Follows z.note w) (sym at) (quiet w);
+        quiet = λ w. subst (λ z. legal.FollowsNote z.note w) (sym at) (quiet w);
       },
     )
 

@@ -120,7 +120,7 @@ module _ (shape : Shape) (opening : List ℕ) where
 
   -- what stays between the stores of a call holds where it begins
   pub goes : (log : List Event) (plain : Plain) → legal.Legal shape opening log → length plain.words ≡ first_vertex shape
-      → ((w : ℕ) → legal.IsVersioned shape w → get_or plain.words w 0 ≡ value_at opening log w) → ((w : ℕ) → legal.Follows (state_of shape opening log).note w) → Goes shape (state_of shape opening log) plain.words
+      → ((w : ℕ) → legal.IsVersioned shape w → get_or plain.words w 0 ≡ value_at opening log w) → ((w : ℕ) → legal.FollowsNote (state_of shape opening log).note w) → Goes shape (state_of shape opening log) plain.words
   goes log plain h long words quiet = record {
     long = ap length (state_of-words shape opening log) ∙ (length-words_after opening log ∙ (legal-opens shape opening log h).one_each);
     plain_long = long;
@@ -146,7 +146,7 @@ MayAfter shape s n = (t : State) → t.list ≡ s.list → t.entries ≡ s.entri
 
 pub wrote : (seen : Seen) (old new : Plain) (n : NoteWord) (x : ℕ) (writes : List Write) → Tied seen old → IsFitting n → writes ≡ new.writes → new.items ≡ old.items → new.fixed ≡ old.fixed
     → Written old.items old.list new.list x old.words new.words new.writes → ((w : ℕ) → sheet.version new.words w ≤ 16777215) → x < seen.table.shape.items → ((y : ℕ) → member y new.list ≡ true → y < seen.table.shape.items)
-    → MayAfter seen.table.shape (state_of seen.table.shape seen.table.opening seen.log) n → ((entries : List Entry) → entered n entries ≡ entries) → legal.Follows n (1 + x) → moved n (1 + x) old.list ≡ new.list → note_word n < 2 ^ 64
+    → MayAfter seen.table.shape (state_of seen.table.shape seen.table.opening seen.log) n → ((entries : List Entry) → entered n entries ≡ entries) → legal.FollowsNote n (1 + x) → moved n (1 + x) old.list ≡ new.list → note_word n < 2 ^ 64
     → Wrote seen new (note_word n) x writes
 wrote seen old new n x writes tied fitting same items fixed w few x-in within may no-entry follows after fits =
     let shape = seen.table.shape in
@@ -211,7 +211,7 @@ wrote seen old new n x writes tied fitting same items fixed w few x-in within ma
         long = new-long;
         words = λ k h. ap (λ z. get_or z k 0) new-words ∙ (done.words k h.0 h.1 ∙ ap (λ l. value_at opening l k) (sym all));
         note = plain-note;
-        quiet = λ k. subst (λ l. legal.Follows (state_of shape opening l).note k) (sym all) (done.quiet k);
+        quiet = λ k. subst (λ l. legal.FollowsNote (state_of shape opening l).note k) (sym all) (done.quiet k);
       };
       ends_ = λ m is-v now is. record {
         table = ap (λ z. z.table) is;

@@ -10,7 +10,7 @@ use Rattle.kc_list.specs.Plain.{Plain}
 use Rattle.kc_table.specs.declared.view.Event.{Event}
 use Rattle.kc_table.specs.Log.{Seen, TableName, event, value_at}
 use Rattle.kc_table.specs.State.{state_of, first_vertex}
-use Rattle.kc_table.specs.Legal.{Legal, Follows, IsVersioned, version_of}
+use Rattle.kc_table.specs.Legal.{Legal, FollowsNote, IsVersioned, version_of}
 use Rattle.kc_order.specs.Standing.{list_after}
 
 -- the greatest version of an item's or a group's word after the log
@@ -79,7 +79,7 @@ pub record Tied (seen : Seen) (plain : Plain) : Type 0 where
   pub long : length plain.words ≡ first_vertex seen.table.shape
   pub words : (word : ℕ) → IsVersioned seen.table.shape word → slice_index plain.words word ≡ value_at seen.table.opening seen.log word
   pub note : (item_of (slice_index plain.words 0)).version ≡ 0
-  pub quiet : (word : ℕ) → Follows (state_of seen.table.shape seen.table.opening seen.log).note word
+  pub quiet : (word : ℕ) → FollowsNote (state_of seen.table.shape seen.table.opening seen.log).note word
 
 -- the log grows by one store
 pub record Stores (old new : Seen) (word value : ℕ) : Type 0 where

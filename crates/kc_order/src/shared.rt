@@ -153,7 +153,7 @@ impl<K: Name> SharedOrder<K> {
         requires items { (x < K.table.shape.items) × (y < K.table.shape.items) }
         ensures table { pass.new.table ≡ K.table }
         ensures longer { IsPrefix pass.old.log pass.new.log }
-        ensures answer { Compares K.table pass.old.log pass.new.log x y result }
+        ensures answer { Compares pass.old pass.new x y result }
     {
         precedes(&self.words, pass, x, y)
     }
