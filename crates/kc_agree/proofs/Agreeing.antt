@@ -20,6 +20,7 @@ use Rattle.kc_table.specs.declared.view.Event.{Event}
 use Rattle.kc_table.specs.Edges.{edges_after}
 use Rattle.kc_table.specs.Log.{TableName}
 use Rattle.kc_table.proofs.Prefixes.{prefix_trans}
+use Rattle.kc_table.proofs.Stamps.{same-stamp}
 use Rattle.kc_view.specs.Answers.{Answers, Agrees, answers_in, core_in}
 use Rattle.kc_view.specs.Sure.{IsSure, IsSparing}
 use Rattle.kc_order.specs.Standing.{list_after}
@@ -28,7 +29,7 @@ use Rattle.kc_agree.specs.Reads.{WasList, WasPlace, WasOrder, WereRead, From}
 use Rattle.kc_agree.specs.Stamps.{place_stamp, edge_stamp}
 use Rattle.kc_agree.specs.States.{IsStateOf, IsAtRest, AreCurrent, vertices_in}
 use Rattle.kc_agree.proofs.Growing.{reads_stay}
-use Rattle.kc_agree.proofs.Current.{same_word, stays_put}
+use Rattle.kc_agree.proofs.Unmoved.{stays_put, stays_since}
 use Rattle.kc_agree.proofs.Neighbouring.{current_list}
 use Rattle.kc_agree.proofs.Standing.{first_of_two, filter-order, same_standing}
 
@@ -40,10 +41,6 @@ found_place P w (x ∷ ps) all h =
       | true ↦ λ e _. (x, sym (eqb-true w x.vertex e), all 0 x (omega arith))
       | false ↦ λ _ k. found_place P w ps (λ i d l. all (suc i) d (omega (arith, l))) k
     ] refl h
-
--- an item that stays between two prefixes stays between two that are nearer
-pub stays_since : (table : TableName) (p m q : List Event) (x : ℕ) → IsPrefix p m → StaysPut table p q x → StaysPut table m q x
-stays_since table p m q x pre h = λ log e a b. h log e (prefix_trans p m log pre a) b
 
 module _ (table : TableName) (opened : SimpleGraph) (stamps : List ℕ) (log : List Event) (s : Ranked) (rest : IsAtRest table log)
     (state : IsStateOf table opened log s) where
@@ -57,8 +54,8 @@ module _ (table : TableName) (opened : SimpleGraph) (stamps : List ℕ) (log : L
   -- a core number
   pub place_now : (p : UsedPlace) → WasPlace table log p → place_stamp table log p.vertex ≤ p.stamp → p.core ≡ get_or s.core p.vertex 0
   place_now p was le =
-      let word = same_word table was.prefix log p.vertex was.begins rest.legal (omega (arith, le, was.stamp)) in
-      sym was.core ∙ (ap (λ z. (vertex_of z).core) (sym word) ∙ sym (state.core p.vertex was.vertex))
+      let word = same-stamp table.shape table.opening was.prefix log p.vertex was.begins rest.legal (omega (arith, le, was.stamp)) in
+      sym was.core ∙ (ap (λ z. (vertex_of z).core) word ∙ sym (state.core p.vertex was.vertex))
 
   -- a vertex of which a place was read that is that of now has not been put since
   pub stays : (a : Answers) (prefix : List Event) (x : ℕ)
@@ -73,7 +70,7 @@ module _ (table : TableName) (opened : SimpleGraph) (stamps : List ℕ) (log : L
       let w : WasPlace table prefix p = read is in
       let longer : IsPrefix w.prefix log = prefix_trans w.prefix prefix log w.begins begins in
       let still : StaysPut table w.prefix log p.vertex =
-          stays_put table w.prefix log p.vertex w.vertex longer rest (omega (arith, current, w.stamp)) in (
+          stays_put table w.prefix log p.vertex w.vertex longer rest.legal rest.closed (omega (arith, current, w.stamp)) in (
         subst (λ v. StaysPut table prefix log v) is (stays_since table w.prefix prefix log p.vertex w.begins still),
         omega (arith, w.vertex, is),
       )

@@ -12,12 +12,13 @@ use Rattle.kc_table.specs.declared.view.Event.{Event}
 use Rattle.kc_table.specs.Edges.{after_entries}
 use Rattle.kc_table.specs.Log.{TableName}
 use Rattle.kc_table.proofs.Prefixes.{prefix_trans}
+use Rattle.kc_table.proofs.Stamps.{number-grows}
 use Rattle.kc_view.specs.Answers.{Answers, nothing_answered, has_core, with_list, with_place, with_order}
 use Rattle.kc_view.proofs.Keeping.{still_has_core}
 use Rattle.kc_order.specs.Standing.{list_after}
 use Rattle.kc_agree.specs.Reads.{WasList, WasPlace, WasOrder, WereRead, IsOrderOf}
-use Rattle.kc_agree.specs.Stamps.{made_by, number_after}
-use Rattle.kc_agree.proofs.Neighbouring.{number_grows, same_edges}
+use Rattle.kc_agree.specs.Stamps.{made_by, number_of}
+use Rattle.kc_agree.proofs.Neighbouring.{same_edges}
 
 module _ (table : TableName) (opened : SimpleGraph) where
   -- As the log grows. -----------------------------------------------------------------------------------
@@ -25,7 +26,7 @@ module _ (table : TableName) (opened : SimpleGraph) where
   pub list_stays : (p q : List Event) (e : UsedEdges) → IsPrefix p q → WasList table opened p e → WasList table opened q e
   list_stays p q e pre h = record {
     vertex = h.vertex;
-    at = omega (arith, h.at, number_grows table p q pre);
+    at = omega (arith, h.at, number-grows table.shape table.opening p q pre);
     list = subst (λ g. AreNeighbours g e.vertex e.neighbours) (sym (same_edges table opened p q e.at pre h.at)) h.list;
   }
 
@@ -150,7 +151,7 @@ module _ (table : TableName) (opened : SimpleGraph) where
   -- Lists that are published. ---------------------------------------------------------------------------
 
   -- the present neighbours, under the number of all entries
-  pub published : (log : List Event) (e : UsedEdges) → e.vertex < table.shape.fixed → e.at ≡ number_after table log
+  pub published : (log : List Event) (e : UsedEdges) → e.vertex < table.shape.fixed → e.at ≡ number_of table log
       → AreNeighbours (after_entries opened (made_by table log).entries) e.vertex e.neighbours → WasList table opened log e
   published log e low is h =
       let entries = (made_by table log).entries in

@@ -20,7 +20,7 @@ use Rattle.kc_table.specs.declared.view.Event.{Event}
 use Rattle.kc_table.specs.Edges.{after_entry, after_entries, edges_after}
 use Rattle.kc_table.specs.Log.{TableName}
 use Rattle.kc_table.proofs.LegalLogs.{entries-prefix}
-use Rattle.kc_agree.specs.Stamps.{made_by, number_after, changes_graph, names, last_change, edge_stamp, IsLastChange}
+use Rattle.kc_agree.specs.Stamps.{made_by, number_of, changes_graph, names, last_change, edge_stamp, IsLastChange}
 
 -- An edge from a vertex to itself is none. ---------------------------------------------------------
 
@@ -180,19 +180,14 @@ current_neighbours table opened stamps log v at ws le =
 
 -- Along a log. ----------------------------------------------------------------------------------------
 
+-- the front of a longer list
 take_front : {A : Type 0} (k : ℕ) (xs ys : List A) → k ≤ length xs → take k (xs ++ ys) ≡ take k xs
 take_front zero xs ys l = refl
 take_front {A} (suc k) [] ys l = absurd (omega (arith, l))
 take_front {A} (suc k) (x ∷ xs) ys l = ap (λ zs. x ∷ zs) (take_front k xs ys (omega (arith, l)))
 
--- the number of the last entry never falls
-pub number_grows : (table : TableName) (p q : List Event) → IsPrefix p q → number_after table p ≤ number_after table q
-number_grows table p q pre =
-    let more = entries-prefix table.shape table.opening p q pre in
-    omega (arith, ap length more.1, length-append (made_by table p).entries more.0)
-
--- and the edges after a number of entries that were made stay as they were
-pub same_edges : (table : TableName) (opened : SimpleGraph) (p q : List Event) (at : ℕ) → IsPrefix p q → at ≤ number_after table p
+-- the edges after a number of entries that were made stay as they were
+pub same_edges : (table : TableName) (opened : SimpleGraph) (p q : List Event) (at : ℕ) → IsPrefix p q → at ≤ number_of table p
     → edges_after opened table.shape table.opening q at ≡ edges_after opened table.shape table.opening p at
 same_edges table opened p q at pre le =
     let more = entries-prefix table.shape table.opening p q pre in
@@ -219,7 +214,7 @@ pub stamp_next : (table : TableName) (opened : SimpleGraph) (stamps : List ℕ) 
     → (made_by table new).entries ≡ (made_by table old).entries ++ x ∷ []
     → edge_stamp table opened stamps new v
     ≡ cond (changes_graph x (after_entries opened (made_by table old).entries) && names x v)
-        (number_after table old + 1) (edge_stamp table opened stamps old v)
+        (number_of table old + 1) (edge_stamp table opened stamps old v)
 stamp_next table opened stamps old new x v is =
     ap (λ es. last_change opened es table.shape.base v (get_or stamps v 0)) is
     ∙ last_change-push opened (made_by table old).entries x table.shape.base v (get_or stamps v 0)

@@ -2,15 +2,17 @@
 use Rattle.std.proofs.Common.{◌≡◌, ◌≢◌, ℕ, ◌+◌, ◌*◌, ◌<◌, Bool, true, false, List, sym, ap, ◌∙◌, subst, arith}
 use mathlib.Core.List.{IsPrefix}
 use Rattle.kc_graph.specs.SimpleGraph.{SimpleGraph}
+use Rattle.kc_graph.specs.declared.used.UsedPlace.{UsedPlace}
 use Rattle.kc_words.specs.VertexWord.{vertex_of}
 use Rattle.kc_words.specs.declared.shape.Shape.{Shape}
 use Rattle.kc_words.specs.declared.vertex.VertexWord.{VertexWord}
 use Rattle.kc_table.specs.declared.view.Event.{Event}
 use Rattle.kc_table.specs.Log.{TableName, value_at}
 use Rattle.kc_table.specs.State.{first_vertex}
+use Rattle.kc_table.proofs.Stamps.{stamp-is}
 use Rattle.kc_view.specs.Answers.{Answers, has_core, with_place, with_order}
 use Rattle.kc_agree.specs.Reads.{StoodSo, WereRead, place_after}
-use Rattle.kc_agree.specs.Stamps.{word_after}
+use Rattle.kc_agree.specs.Stamps.{place_stamp}
 use Rattle.kc_agree.proofs.Answering.{loaded_place, compared}
 use Rattle.kc_agree.proofs.Growing.{reads_stay}
 
@@ -21,15 +23,18 @@ same_read t t' opened old new a b table longer same h =
     let later : WereRead t opened new b = subst (WereRead t opened new) (sym same) (reads_stay t opened old new a longer h) in
     subst (λ z. WereRead z opened new b) (sym table) later
 
--- the vertex word that a load has found is that after the log
-pub found_word : (t t' words : TableName) (shape : Shape) (new : List Event) (v word found : ℕ) (w : VertexWord)
+-- the place of a vertex as a load has found it is that after the log
+pub loaded_is : (t t' words : TableName) (shape : Shape) (new : List Event) (v word found : ℕ) (w : VertexWord)
     → t' ≡ t → t ≡ words → shape ≡ words.shape → word ≡ 2 * shape.items + 2 + v
-    → found ≡ value_at t'.opening new word → w ≡ vertex_of found → w ≡ word_after t' new v
-found_word t t' words shape new v word found w table named shape-is word-is is w-is =
+    → found ≡ value_at t'.opening new word → w ≡ vertex_of found
+    → ◌≡◌ {A = UsedPlace} (record { vertex = v; stamp = w.stamp; core = w.core }) (place_after t' new v)
+loaded_is t t' words shape new v word found w table named shape-is word-is is w-is =
     let items = ap (λ (z : Shape). z.items) shape-is in
     let here : word ≡ first_vertex t'.shape + v =
         omega (arith, word-is, items, ap (λ (z : TableName). z.shape.items) (table ∙ named)) in
-    w-is ∙ ap vertex_of (is ∙ ap (value_at t'.opening new) here)
+    let all : w ≡ vertex_of (value_at t'.opening new (first_vertex t'.shape + v)) = w-is ∙ ap vertex_of (is ∙ ap (value_at t'.opening new) here) in
+    let stamp : w.stamp ≡ place_stamp t' new v = ap (λ (z : VertexWord). z.stamp) all ∙ sym (stamp-is t'.shape t'.opening new v) in
+    λ i. record { vertex = v; stamp = stamp i; core = (all i).core }
 
 -- a place
 pub core_read : (t t' words : TableName) (opened : SimpleGraph) (old new : List Event) (a b : Answers) (v : ℕ)

@@ -13,7 +13,9 @@ use Rattle.kc_table.proofs.LegalLogs.{state_of-push}
 use Rattle.kc_table.proofs.Prefixes.{prefix_self, prefix_trans}
 use Rattle.kc_order.specs.Standing.{list_after, StandsBefore}
 use Rattle.kc_agree.specs.Moved.{Announces, Moves, StaysPut}
-use Rattle.kc_agree.specs.Stamps.{made_by}
+use Rattle.kc_agree.specs.Stamps.{made_by, place_stamp}
+use Rattle.kc_agree.specs.States.{IsAtRest}
+use Rattle.kc_agree.proofs.Unmoved.{stays_put, stays_since}
 
 -- the next numbers of two compare as they do
 both_next : (a b : ℕ) → ltb (suc a) (suc b) ≡ ltb a b
@@ -188,3 +190,14 @@ stands_too table p q x y pre hx hy =
       λ h. record { first = same.1 ∙ h.first; second = same.2 ∙ h.second; before = ltb-true _ _ (same.0 ∙ lt-ltb _ _ h.before) },
       λ h. record { first = sym same.1 ∙ h.first; second = sym same.2 ∙ h.second; before = ltb-true _ _ (sym same.0 ∙ lt-ltb _ _ h.before) },
     )
+
+-- so of two vertices whose place stamps have not risen
+pub stands_still : (table : TableName) (p m q : List Event) (x y : ℕ) → x < table.shape.fixed → y < table.shape.fixed
+    → IsPrefix p m → IsPrefix m q → IsAtRest table q
+    → place_stamp table q x ≤ place_stamp table p x → place_stamp table q y ≤ place_stamp table p y
+    → StandsBefore x y (list_after table m) ↔ StandsBefore x y (list_after table q)
+stands_still table p m q x y lx ly a b rest sx sy =
+    let pre = prefix_trans p m q a b in
+    let x_still = stays_put table p q x lx pre rest.legal rest.closed sx in
+    let y_still = stays_put table p q y ly pre rest.legal rest.closed sy in
+    stands_too table m q x y b (stays_since table p m q x a x_still) (stays_since table p m q y a y_still)

@@ -15,12 +15,12 @@ use Rattle.kc_table.specs.Edges.{edges_after}
 use Rattle.kc_table.specs.Log.{TableName}
 use Rattle.kc_order.specs.Standing.{Compares, StandsBefore, StoodBefore, list_after}
 use Rattle.kc_order.specs.declared.answer.Answer.TheVariants as answer
-use Rattle.kc_agree.specs.Stamps.{number_after, place_stamp, word_after}
+use Rattle.kc_agree.specs.Stamps.{core_after, number_of, place_stamp}
 
 -- a list of a vertex: after the first `at` entries, all of which the log holds, these were its neighbours
 pub record WasList (table : TableName) (opened : SimpleGraph) (log : List Event) (e : UsedEdges) : Type 0 where
   pub vertex : e.vertex < table.shape.fixed
-  pub at : e.at ≤ number_after table log
+  pub at : e.at ≤ number_of table log
   pub list : AreNeighbours (edges_after opened table.shape table.opening log e.at) e.vertex e.neighbours
 
 -- a place of a vertex: after some prefix of the log its word had this stamp and this core number
@@ -28,8 +28,8 @@ pub record WasPlace (table : TableName) (log : List Event) (p : UsedPlace) : Typ
   pub vertex : p.vertex < table.shape.fixed
   pub prefix : List Event
   pub begins : IsPrefix prefix log
-  pub stamp : (word_after table prefix p.vertex).stamp ≡ p.stamp
-  pub core : (word_after table prefix p.vertex).core ≡ p.core
+  pub stamp : place_stamp table prefix p.vertex ≡ p.stamp
+  pub core : core_after table prefix p.vertex ≡ p.core
 
 -- the answer is how the two items stand in the list
 pub record IsOrderOf (list : List ℕ) (o : UsedOrder) : Type 0 where
@@ -59,7 +59,7 @@ From plan table opened log = WereRead table opened log (answers_in plan.used)
 
 -- the place of a vertex as it is after the log
 abbrev pub place_after : TableName → List Event → ℕ → UsedPlace
-place_after table log v = record { vertex = v; stamp = place_stamp table log v; core = (word_after table log v).core }
+place_after table log v = record { vertex = v; stamp = place_stamp table log v; core = core_after table log v }
 
 -- x stood before y, or y before x, after a prefix between the two
 abbrev pub StoodSo : TableName → List Event → List Event → ℕ → ℕ → Bool → Type 0

@@ -2,30 +2,29 @@
 use Rattle.std.specs.Prelude.{◌≡◌, ℕ, suc, Bool, true, not, ◌&&◌, ◌||◌, ◌==◌, ◌+◌, List, [], ◌∷◌, ◌++◌, length, slice_index, if◌then◌else◌}
 use Rattle.kc_graph.specs.SimpleGraph.{SimpleGraph, adjacent}
 use Rattle.kc_words.specs.VertexWord.{vertex_of}
-use Rattle.kc_words.specs.declared.vertex.VertexWord.{VertexWord}
 use Rattle.kc_table.specs.declared.entry.Entry.{Entry}
 use Rattle.kc_table.specs.declared.view.Event.{Event}
 use Rattle.kc_table.specs.Edges.{after_entry, after_entries}
 use Rattle.kc_table.specs.Log.{TableName, value_at}
+use Rattle.kc_table.specs.Sections.{number_after, stamp_after}
 use Rattle.kc_table.specs.State.{State, state_of, first_vertex}
-use Rattle.kc_table.specs.Legal.{last_entry}
 
 -- what the log has made of the table
 abbrev pub made_by : TableName → List Event → State
 made_by table log = state_of table.shape table.opening log
 
--- the number of the log's last entry, over all tables of the run
-abbrev pub number_after : TableName → List Event → ℕ
-number_after table log = last_entry table.shape (made_by table log)
+-- the number of the log's last entry, over all tables of the run: that of its last section
+abbrev pub number_of : TableName → List Event → ℕ
+number_of table log = number_after table.shape table.opening log
 
--- the word of a vertex after the log: its place stamp, and its core number
-abbrev pub word_after : TableName → List Event → ℕ → VertexWord
-word_after table log v = vertex_of (value_at table.opening log (first_vertex table.shape + v))
+-- the core number in the word of a vertex after the log
+abbrev pub core_after : TableName → List Event → ℕ → ℕ
+core_after table log v = (vertex_of (value_at table.opening log (first_vertex table.shape + v))).core
 
--- The place stamp of a vertex after the log: the number of the last section that put it and stored its word, or, where none has, the
--- stamp with which the table opened.
+-- The place stamp of a vertex after the log, which its word has too: the number of the last section that put it and stored its word, or,
+-- where none has, the stamp with which the table opened.
 abbrev pub place_stamp : TableName → List Event → ℕ → ℕ
-place_stamp table log v = (word_after table log v).stamp
+place_stamp table log v = stamp_after table.shape table.opening log v
 
 -- whether the entry changes the graph: its edge is to be added and is not there, or to be removed and is
 abbrev pub changes_graph : Entry → SimpleGraph → Bool

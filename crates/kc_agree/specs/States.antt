@@ -13,7 +13,7 @@ use Rattle.kc_table.specs.Edges.{after_entries}
 use Rattle.kc_table.specs.Legal.{Legal, IsClosed}
 use Rattle.kc_table.specs.Log.{TableName}
 use Rattle.kc_order.specs.Standing.{list_after}
-use Rattle.kc_agree.specs.Stamps.{made_by, place_stamp, word_after, edge_stamp}
+use Rattle.kc_agree.specs.Stamps.{core_after, edge_stamp, made_by, place_stamp}
 
 -- the vertices of a list of items, without the heads
 abbrev pub vertices_in : ℕ → List ℕ → List ℕ
@@ -24,7 +24,7 @@ vertices_in fixed list = filter (λ x. nat_lt x fixed) list
 pub record IsStateOf (table : TableName) (opened : SimpleGraph) (log : List Event) (s : Ranked) : Type 0 where
   pub size : s.graph.size ≡ table.shape.fixed
   pub graph : s.graph ≡ after_entries opened (made_by table log).entries
-  pub core : (v : ℕ) → v < table.shape.fixed → slice_index s.core v ≡ (word_after table log v).core
+  pub core : (v : ℕ) → v < table.shape.fixed → slice_index s.core v ≡ core_after table log v
   pub order : s.order ≡ vertices_in table.shape.fixed (list_after table log)
 
 -- The log is legal, and no section is left open: so it is whenever the lock of the state is free.

@@ -19,39 +19,39 @@ ghost use Rattle.kc_table.specs.declared.view.Event.{Event};
 ghost use Rattle.kc_table.specs.Edges.{after_entries, after_entry, edges_after};
 ghost use Rattle.kc_table.specs.Legal.{Legal};
 ghost use Rattle.kc_table.specs.Log.{TableName};
+ghost use Rattle.kc_table.specs.Sections.{puts_in};
 ghost use Rattle.kc_view.specs.Answers.{Agrees, Answers, answers_in, has_core, nothing_answered, with_list, with_order, with_place};
 ghost use Rattle.kc_view.specs.Sure.{IsSparing, IsSure};
 ghost use Rattle.kc_order.specs.Standing.{StandsBefore, list_after};
 ghost use Rattle.kc_agree.specs.Moved.{StaysPut};
 ghost use Rattle.kc_agree.specs.Reads.{From, IsOrderOf, StoodSo, WasList, WasPlace, WereRead, place_after};
-ghost use Rattle.kc_agree.specs.Sections.{PutIn, SealedIn, SealsWhatWasPut};
-ghost use Rattle.kc_agree.specs.Stamps.{IsLastChange, changes_graph, edge_stamp, made_by, names, number_after, place_stamp, word_after};
+ghost use Rattle.kc_agree.specs.Sections.{SealedIn};
+ghost use Rattle.kc_agree.specs.Stamps.{IsLastChange, changes_graph, core_after, edge_stamp, made_by, names, number_of, place_stamp};
 ghost use Rattle.kc_agree.specs.States.{AreCurrent, AreOwn, ArePresent, IsAtRest, IsStateOf};
 ghost use Rattle.kc_agree.specs.Stale.{AllCurrent, IsFirstStale};
 ghost use Rattle.kc_agree.specs.declared.stale.Stale.{Stale};
 
-/// The stamp in a vertex's word never falls along a legal log.
-pub fn place_stamps_never_fall()
-    ensures { (table : TableName) (first last : List Event) (v : ℕ) → IsPrefix first last → Legal table.shape table.opening last
-        → place_stamp table first v ≤ place_stamp table last v }
-{}
-
-/// Where a vertex had a stamp after some prefix of a log at rest that is no less than that of now, no store since then has put it, its
-/// word is the same, and it was not left open there.
+/// Where a vertex had a place stamp after some prefix of a log at rest that is no less than that of now, no store since then has put it,
+/// its core number is what it was, and it was not left open there: a put before the prefix that is sealed behind it gives a greater stamp.
 pub fn a_present_stamp_means_not_put_since()
     ensures still { (table : TableName) (first last : List Event) (v : ℕ) → v < table.shape.fixed → IsPrefix first last
         → IsAtRest table last → place_stamp table last v ≤ place_stamp table first v → StaysPut table first last v }
-    ensures word { (table : TableName) (first last : List Event) (v : ℕ) → IsPrefix first last → Legal table.shape table.opening last
-        → place_stamp table last v ≤ place_stamp table first v → word_after table last v ≡ word_after table first v }
-    ensures sealed { (table : TableName) (first last : List Event) (v : ℕ) → IsPrefix first last → IsAtRest table last
-        → place_stamp table last v ≤ place_stamp table first v → member v (made_by table first).unsealed ≡ false }
+    ensures core { (table : TableName) (first last : List Event) (v : ℕ) → IsPrefix first last → Legal table.shape table.opening last
+        → place_stamp table last v ≤ place_stamp table first v → core_after table last v ≡ core_after table first v }
+    ensures sealed { (table : TableName) (first last : List Event) (v : ℕ) → v < table.shape.fixed → IsPrefix first last
+        → IsAtRest table last → place_stamp table last v ≤ place_stamp table first v → member v (made_by table first).unsealed ≡ false }
 {}
 
-/// Two items that no store between two prefixes moves stand at the second as they did at the first.
+/// Two items that no store between two prefixes moves stand at the second as they did at the first. So two vertices whose place stamps
+/// are those of now stand as they did at any moment since the stamps were read.
 pub fn two_that_are_not_moved_stand_as_they_did()
-    ensures { (table : TableName) (first last : List Event) (x y : ℕ) → IsPrefix first last
+    ensures still { (table : TableName) (first last : List Event) (x y : ℕ) → IsPrefix first last
         → StaysPut table first last x → StaysPut table first last y
         → StandsBefore x y (list_after table first) ↔ StandsBefore x y (list_after table last) }
+    ensures stamps { (table : TableName) (first between last : List Event) (x y : ℕ) → x < table.shape.fixed → y < table.shape.fixed
+        → IsPrefix first between → IsPrefix between last → IsAtRest table last
+        → place_stamp table last x ≤ place_stamp table first x → place_stamp table last y ≤ place_stamp table first y
+        → StandsBefore x y (list_after table between) ↔ StandsBefore x y (list_after table last) }
 {}
 
 /// The neighbours of a vertex after a number of entries that is no less than its edge stamp are those of now.
@@ -102,7 +102,7 @@ pub fn one_answer_more()
 /// under any number up to that of the last entry before the table.
 pub fn lists_that_may_be_told()
     ensures present { (table : TableName) (opened : SimpleGraph) (log : List Event) (e : UsedEdges)
-        → e.vertex < table.shape.fixed → e.at ≡ number_after table log
+        → e.vertex < table.shape.fixed → e.at ≡ number_of table log
         → AreNeighbours (after_entries opened (made_by table log).entries) e.vertex e.neighbours → WasList table opened log e }
     ensures opening { (table : TableName) (opened : SimpleGraph) (log : List Event) (e : UsedEdges)
         → e.vertex < table.shape.fixed → e.at ≤ table.shape.base
@@ -147,7 +147,7 @@ pub fn an_entry_changes_the_stamps_of_its_ends()
         → (made_by table new).entries ≡ (made_by table old).entries ++ e ∷ []
         → edge_stamp table opened stamps new v
         ≡ (if changes_graph e (after_entries opened (made_by table old).entries) && names e v
-            then number_after table old + 1
+            then number_of table old + 1
             else edge_stamp table opened stamps old v) }
     ensures graph { (table : TableName) (opened : SimpleGraph) (old new : List Event) (e : Entry)
         → (made_by table new).entries ≡ (made_by table old).entries ++ e ∷ []
@@ -166,21 +166,20 @@ pub fn a_local_plan_changes_the_graph_as_its_entry_does()
 /// number of an entry that named the vertex and changed the graph.
 pub fn an_edge_stamp_is_the_number_of_an_entry()
     ensures bound { (table : TableName) (opened : SimpleGraph) (stamps : List ℕ) (log : List Event) (v : ℕ)
-        → slice_index stamps v ≤ table.shape.base → edge_stamp table opened stamps log v ≤ number_after table log }
+        → slice_index stamps v ≤ table.shape.base → edge_stamp table opened stamps log v ≤ number_of table log }
     ensures entry { (table : TableName) (opened : SimpleGraph) (stamps : List ℕ) (log : List Event) (v : ℕ)
         → slice_index stamps v < edge_stamp table opened stamps log v
         → IsLastChange opened (made_by table log).entries table.shape.base v (edge_stamp table opened stamps log v) }
 {}
 
-/// A place stamp that has risen between two prefixes is the number of the section in which the vertex's word was stored since. Where each
-/// word that is stored is that of a vertex put in the same section, it is the number of a section that put the vertex; and after a log
-/// at rest no section that put the vertex has a greater number.
+/// A place stamp that has risen between two prefixes is the number of the section in which the vertex's word was stored since, and which
+/// has put it. After a log at rest no section that put the vertex has a greater number.
 pub fn a_place_stamp_is_the_number_of_a_section()
     ensures sealed { (table : TableName) (first last : List Event) (v : ℕ) → IsPrefix first last → Legal table.shape table.opening last
         → place_stamp table first v < place_stamp table last v → SealedIn table first last v (place_stamp table last v) }
-    ensures put { (table : TableName) (first last : List Event) (v : ℕ) → IsPrefix first last → Legal table.shape table.opening last
-        → SealsWhatWasPut table last
-        → place_stamp table first v < place_stamp table last v → PutIn table [] last v (place_stamp table last v) }
+    ensures put { (table : TableName) (first last : List Event) (v : ℕ) → v < table.shape.fixed → IsPrefix first last
+        → Legal table.shape table.opening last → place_stamp table first v < place_stamp table last v
+        → member v (puts_in table.shape table.opening last (place_stamp table last v)) ≡ true }
     ensures last { (table : TableName) (log : List Event) (v number : ℕ) → v < table.shape.fixed → IsAtRest table log
-        → PutIn table [] log v number → number ≤ place_stamp table log v }
+        → member v (puts_in table.shape table.opening log number) ≡ true → number ≤ place_stamp table log v }
 {}

@@ -7,7 +7,7 @@ ghost use Rattle.kc_view.specs.Answers.{answers_in, has_core, with_order, with_p
 ghost use Rattle.kc_order.specs.Standing.{Compares};
 ghost use Rattle.kc_order.specs.declared.answer.Answer.TheVariants as answer;
 ghost use Rattle.kc_agree.specs.Reads.{HasOrderCause, StoodSo, WereRead, place_after};
-ghost use Rattle.kc_agree.specs.Stamps.{word_after};
+ghost use Rattle.kc_agree.specs.Stamps.{core_after};
 
 use kc_graph::{Used, UsedOrder, UsedPlace};
 use kc_order::{Answer, precedes};
@@ -23,7 +23,7 @@ pub fn read_core(words: &Words, pass: &mut Pass, used: &mut Used, v: u32) -> Res
     requires once { has_core (answers_in used.old) v ≡ false }
     ensures table { pass.new.table ≡ pass.old.table }
     ensures longer { IsPrefix pass.old.log pass.new.log }
-    ensures core { IfOk result (λ core. core ≡ (word_after pass.new.table pass.new.log v).core) }
+    ensures core { IfOk result (λ core. core ≡ core_after pass.new.table pass.new.log v) }
     ensures told { IfOk result (λ _. answers_in used.new ≡ with_place (answers_in used.old) (place_after pass.new.table pass.new.log v)) }
     ensures same { OnErr result (answers_in used.new ≡ answers_in used.old) }
     ensures read { (opened : SimpleGraph) → WereRead pass.old.table opened pass.old.log (answers_in used.old)

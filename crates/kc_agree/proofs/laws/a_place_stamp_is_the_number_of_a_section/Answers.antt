@@ -6,7 +6,7 @@ pub returns-clause-sealed : goal.returns-clause-sealed
 returns-clause-sealed c = λ table first last v pre legal lt. sealed_since table v first last pre legal lt
 
 pub returns-clause-put : goal.returns-clause-put
-returns-clause-put c = λ table first last v pre legal seals lt. risen_was_put table v first last pre legal seals lt
+returns-clause-put c = λ table first last v low pre legal lt. risen_was_put table v low first last pre legal lt
 
 pub returns-clause-last : goal.returns-clause-last
-returns-clause-last c = λ table log v number low rest put. put_no_later table v log number low rest put
+returns-clause-last c = λ table log v number low rest put. put_no_later table v low log number rest.legal rest.closed put
