@@ -1,12 +1,11 @@
 -- What a second load tells of a first, and second loads one after the other.
-use Rattle.std.proofs.Common.{◌≡◌, ◌≢◌, ℕ, ◌+◌, ◌<◌, List, [], ◌∷◌, ◌++◌, length, refl, ap, ◌∙◌, arith}
+use Rattle.std.proofs.Common.{◌≡◌, ℕ, ◌+◌, ◌<◌, List, [], ◌∷◌, length, refl, ap, arith}
 use Rattle.std.specs.Prelude.{Option, None, Some, IfNone, IfSome}
 use mathlib.Core.List.{IsPrefix}
 use Rattle.kc_words.specs.declared.again.Again.{Again}
 use Rattle.kc_table.specs.Legal.{Legal}
 use Rattle.kc_table.specs.Log.{PassSeen, value_at}
 use Rattle.kc_table.specs.State.{word_count}
-use Rattle.kc_table.proofs.Prefixes.{prefix_self, prefix_trans}
 use Rattle.kc_order.specs.Collected.{Collected, IsCollect, Loaded}
 use Rattle.kc_order.specs.Standing.{FindsOther, FindsSame, LoadsOther, LoadsWord, Steps}
 

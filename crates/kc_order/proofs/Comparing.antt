@@ -1,5 +1,5 @@
 -- What two collects answer together.
-use Rattle.std.proofs.Common.{◌≡◌, ◌≢◌, ℕ, ◌+◌, List, subst, sym, arith}
+use Rattle.std.proofs.Common.{◌≡◌, ◌≢◌, ℕ, List, subst}
 use mathlib.Core.List.{IsPrefix}
 use Rattle.kc_table.specs.declared.view.Event.{Event}
 use Rattle.kc_table.specs.Log.{PassSeen, TableName}
@@ -39,7 +39,7 @@ compares old middle new x y a c is of begins ends first goes_on differ second =
       second = e;
     } in
     let between = last-between old.log middle.log new.log c is begins ends goes_on in
-    let names = λ i. (of.0 i, (of.1 i, of.2 i)) in
+    let names : ◌≡◌ {A = TableName × (ℕ × ℕ)} (c.table, (c.x, c.y)) (old.table, (x, y)) = λ i. (of.0 i, (of.1 i, of.2 i)) in
     elim a as (λ b. EndsSecond c middle new b → Compares old new x y b) [
       | Before ↦ λ e. (
         differ,

@@ -6,6 +6,7 @@ use Rattle.kc_words.specs.ItemWord.{item_of}
 use Rattle.kc_words.specs.VertexWord.{vertex_of}
 use Rattle.kc_words.specs.NoteWord.{note_of}
 use Rattle.kc_words.specs.Order.{Ordered}
+use Rattle.kc_words.specs.declared.layout.TheConstants.{LAST_VERSION}
 use Rattle.kc_words.specs.declared.note.NoteWord.{NoteWord}
 use Rattle.kc_words.specs.declared.note.NoteWord.TheVariants.{Nothing}
 use Rattle.kc_words.specs.declared.shape.Shape.{Shape}
@@ -45,7 +46,7 @@ pub record Ends (shape : Shape) (s : State) (ws : List ℕ) (n : NoteWord) (v x 
   pub x_in : x < shape.items
   pub last_is : last.word ≡ 1 + x
   pub raises : sheet.Raises ws last
-  pub few : (item_of last.value).version ≤ 16777215
+  pub few : (item_of last.value).version ≤ LAST_VERSION
   pub now : Ordered shape.items (set ws last.word last.value) after
   pub after_is : moved n (1 + x) s.list ≡ after
 
