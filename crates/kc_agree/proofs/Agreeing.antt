@@ -70,7 +70,7 @@ module _ (table : TableName) (opened : SimpleGraph) (stamps : List ℕ) (log : L
       let w : WasPlace table prefix p = read is in
       let longer : IsPrefix w.prefix log = prefix_trans w.prefix prefix log w.begins begins in
       let still : StaysPut table w.prefix log p.vertex =
-          stays_put table w.prefix log p.vertex w.vertex longer rest.legal rest.closed (omega (arith, current, w.stamp)) in (
+      stays_put table w.prefix log p.vertex w.vertex longer rest.legal rest.closed (omega (arith, current, w.stamp)) in (
         subst (λ v. StaysPut table prefix log v) is (stays_since table w.prefix prefix log p.vertex w.begins still),
         omega (arith, w.vertex, is),
       )
@@ -85,7 +85,7 @@ module _ (table : TableName) (opened : SimpleGraph) (stamps : List ℕ) (log : L
       let then = list_after table was.prefix in
       let same = same_standing o.x o.y table was.prefix log was.begins x.0 y.0 in
       let alone : first_of_two o.x o.y (vertices_in table.shape.fixed list) ≡ first_of_two o.x o.y list =
-          filter-order (λ z. ltb z table.shape.fixed) o.x o.y list (lt-ltb o.x table.shape.fixed x.1) (lt-ltb o.y table.shape.fixed y.1) in
+      filter-order (λ z. ltb z table.shape.fixed) o.x o.y list (lt-ltb o.x table.shape.fixed x.1) (lt-ltb o.y table.shape.fixed y.1) in
       let now : first_of_two o.x o.y s.order ≡ first_of_two o.x o.y then = ap (first_of_two o.x o.y) state.order ∙ (alone ∙ same.0) in
       let told : o.before ≡ first_of_two o.x o.y then = elim (cases_Bool o.before) [
         | inl t ↦ t ∙ sym (lt-ltb _ _ (was.stood.before t).before)

@@ -38,11 +38,11 @@ pub compared : (table : TableName) (opened : SimpleGraph) (old new : List Event)
     → WereRead table opened old a → WereRead table opened new (with_order a (record { x = x; y = y; before = before }))
 compared table opened old new a x y true differ rx ry stood h =
     let is : IsOrderOf (list_after table stood.prefix) (record { x = x; y = y; before = true }) =
-        record { before = λ _. stood.stood; after = λ f. absurd (true≢false f) } in
+    record { before = λ _. stood.stood; after = λ f. absurd (true≢false f) } in
     one_order table opened old stood.prefix new a _ stood.between.extends stood.between.extended differ rx ry is h
 compared table opened old new a x y false differ rx ry stood h =
     let is : IsOrderOf (list_after table stood.prefix) (record { x = x; y = y; before = false }) =
-        record { before = λ f. absurd (false≢true f); after = λ _. stood.stood } in
+    record { before = λ f. absurd (false≢true f); after = λ _. stood.stood } in
     one_order table opened old stood.prefix new a _ stood.between.extends stood.between.extended differ rx ry is h
 
 -- where no stamp is less than those of the lists, all are current

@@ -1,5 +1,5 @@
 -- An edge stamp that is that of now means that the vertex has the neighbours that it had.
-use Rattle.std.proofs.Common.{◌≡◌, ◌↔◌, ℕ, zero, suc, ◌+◌, ◌-◌, ◌<◌, ◌≤◌, Bool, true, false, cond, not, ◌&&◌, ◌||◌, List, [], ◌∷◌, ◌++◌, length, take, get_or, reverse, eqb, ltb, refl, sym, ap, ap₂, ◌∙◌, subst, inl, inr, arith, lt-ltb, eq-eqb, length-append}
+use Rattle.std.proofs.Common.{◌≡◌, ◌↔◌, ℕ, zero, suc, ◌+◌, ◌-◌, ◌<◌, ◌≤◌, Bool, true, false, cond, not, ◌&&◌, ◌||◌, List, [], ◌∷◌, ◌++◌, length, take, get_or, reverse, eqb, ltb, refl, sym, ap, ap₂, ◌∙◌, subst, inl, inr, arith, lt-ltb, eq-eqb}
 use Rattle.std.specs.List.{filter}
 use Rattle.std.specs.Ordering.{eq_by_cmp}
 use Rattle.std.specs.FinSet.{contains, contains-insert, contains-remove}
@@ -140,9 +140,9 @@ same_row g (e ∷ es) number v stamp at le w =
           let from : ℕ → ℕ = λ k. last_change (after_entry g e) es (suc number) v k in
           let more : suc number ≤ from (suc number) = no_less (after_entry g e) es (suc number) v (suc number) (omega arith) in
           let none : (changes_graph e g && names e v) ≡ false = false_from_ne_true _ (λ t.
-              let is : from (cond (changes_graph e g && names e v) (suc number) stamp) ≡ from (suc number) =
-                  ap (λ b. from (cond b (suc number) stamp)) t in
-              omega (arith, more, is, le, behind)) in
+          let is : from (cond (changes_graph e g && names e v) (suc number) stamp) ≡ from (suc number) =
+          ap (λ b. from (cond b (suc number) stamp)) t in
+          omega (arith, more, is, le, behind)) in
           let zero_now : at - number ≡ 0 = omega (arith, behind) in
           let zero_then : at - suc number ≡ 0 = omega (arith, behind) in
           rest
@@ -214,7 +214,7 @@ pub stamp_next : (table : TableName) (opened : SimpleGraph) (stamps : List ℕ) 
     → (made_by table new).entries ≡ (made_by table old).entries ++ x ∷ []
     → edge_stamp table opened stamps new v
     ≡ cond (changes_graph x (after_entries opened (made_by table old).entries) && names x v)
-        (number_of table old + 1) (edge_stamp table opened stamps old v)
+    (number_of table old + 1) (edge_stamp table opened stamps old v)
 stamp_next table opened stamps old new x v is =
     ap (λ es. last_change opened es table.shape.base v (get_or stamps v 0)) is
     ∙ last_change-push opened (made_by table old).entries x table.shape.base v (get_or stamps v 0)

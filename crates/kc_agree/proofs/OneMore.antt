@@ -7,11 +7,12 @@ use Rattle.kc_words.specs.VertexWord.{vertex_of}
 use Rattle.kc_words.specs.declared.shape.Shape.{Shape}
 use Rattle.kc_words.specs.declared.vertex.VertexWord.{VertexWord}
 use Rattle.kc_table.specs.declared.view.Event.{Event}
-use Rattle.kc_table.specs.Log.{TableName, value_at}
+use Rattle.kc_table.specs.Log.{PassSeen, TableName, value_at}
 use Rattle.kc_table.specs.State.{first_vertex}
 use Rattle.kc_table.proofs.Stamps.{stamp-is}
 use Rattle.kc_view.specs.Answers.{Answers, has_core, with_place, with_order}
-use Rattle.kc_agree.specs.Reads.{StoodSo, WereRead, place_after}
+use Rattle.kc_order.specs.Standing.{Compares}
+use Rattle.kc_agree.specs.Reads.{StoodSo, WereRead, order_answer, place_after}
 use Rattle.kc_agree.specs.Stamps.{place_stamp}
 use Rattle.kc_agree.proofs.Answering.{loaded_place, compared}
 use Rattle.kc_agree.proofs.Growing.{reads_stay}
@@ -31,7 +32,7 @@ pub loaded_is : (t t' words : TableName) (shape : Shape) (new : List Event) (v w
 loaded_is t t' words shape new v word found w table named shape-is word-is is w-is =
     let items = ap (λ (z : Shape). z.items) shape-is in
     let here : word ≡ first_vertex t'.shape + v =
-        omega (arith, word-is, items, ap (λ (z : TableName). z.shape.items) (table ∙ named)) in
+    omega (arith, word-is, items, ap (λ (z : TableName). z.shape.items) (table ∙ named)) in
     let all : w ≡ vertex_of (value_at t'.opening new (first_vertex t'.shape + v)) = w-is ∙ ap vertex_of (is ∙ ap (value_at t'.opening new) here) in
     let stamp : w.stamp ≡ place_stamp t' new v = ap (λ (z : VertexWord). z.stamp) all ∙ sym (stamp-is t'.shape t'.opening new v) in
     λ i. record { vertex = v; stamp = stamp i; core = (all i).core }
@@ -52,3 +53,8 @@ pub order_read : (t t' : TableName) (opened : SimpleGraph) (old new : List Event
 order_read t t' opened old new a b x y before table stood more differ rx ry h =
     let later : WereRead t opened new b = subst (WereRead t opened new) (sym more) (compared t opened old new a x y before differ rx ry stood h) in
     subst (λ z. WereRead z opened new b) (sym table) later
+
+-- how a comparison that told it found the two
+pub stood_so : (old new : PassSeen) (x y : ℕ) (before : Bool) → Compares old new x y (order_answer before) → StoodSo old.table old.log new.log x y before
+stood_so old new x y true h = h.1
+stood_so old new x y false h = h.1

@@ -78,9 +78,9 @@ module _ (table : TableName) (opened : SimpleGraph) (stamps : List ℕ) (log : L
       let my = listed.vertices o.y ly in
       let list = list_after table log in
       let is : o.before ≡ ltb (place_of o.x list) (place_of o.y list) =
-          own.stands
-          ∙ (ap (first_of_two o.x o.y) state.order
-          ∙ filter-order (λ z. ltb z table.shape.fixed) o.x o.y list (lt-ltb o.x table.shape.fixed lx) (lt-ltb o.y table.shape.fixed ly)) in
+      own.stands
+      ∙ (ap (first_of_two o.x o.y) state.order
+      ∙ filter-order (λ z. ltb z table.shape.fixed) o.x o.y list (lt-ltb o.x table.shape.fixed lx) (lt-ltb o.y table.shape.fixed ly)) in
       record {
         differ = own.differ;
         first_read = own.first_read;

@@ -1,5 +1,5 @@
 -- A place stamp that has risen is the number of the section in which the word was stored, and which put the vertex.
-use Rattle.std.proofs.Common.{◌≡◌, ◌≢◌, ℕ, ◌+◌, ◌<◌, ◌≤◌, true, false, cond, List, [], ◌∷◌, ◌++◌, length, eqb}
+use Rattle.std.proofs.Common.{◌≡◌, ◌≢◌, ℕ, ◌+◌, ◌<◌, ◌≤◌, true, cond, List, [], ◌∷◌, ◌++◌, length, eqb}
 use Rattle.std.proofs.Common.{refl, sym, ap, ◌∙◌, subst, inl, inr, arith, eqb-true, eq-eqb, append_assoc, append-nil}
 use Rattle.std.specs.Prelude.{◌||◌}
 use Rattle.std.proofs.lemmas.Bool.{cases_Bool, cases_eq, cases_lt, false≢true, or_cases}
@@ -114,7 +114,7 @@ module _ (table : TableName) (v : ℕ) (low : v < table.shape.fixed) where
             let put = item_put s.note e.word in
             let rest = sealed table.shape e.word s.unsealed in
             let unsealed : member v next.unsealed ≡ (member v put || member v rest) =
-                ap (λ z. member v z.unsealed) (push log e) ∙ (rw f refl ∙ put_in-is table.shape v low s.note e.word rest) in
+            ap (λ z. member v z.unsealed) (push log e) ∙ (rw f refl ∙ put_in-is table.shape v low s.note e.word rest) in
             let entries : next.entries ≡ s.entries = ap (λ z. z.entries) (push log e) ∙ rw f refl in
             let n = number_of table log in
             let number : number_of table (log ++ e ∷ []) ≡ n = ap (λ (es : List Entry). table.shape.base + length es) entries in
@@ -164,8 +164,8 @@ module _ (table : TableName) (v : ℕ) (low : v < table.shape.fixed) where
             omega (arith, stored.0, stamps-rise table.shape table.opening next q v pre h)
         | inr other ↦
             let still : member v (made_by table next).unsealed ≡ true =
-                ap (λ s. member v s.unsealed) (push p e)
-                ∙ still-open table.shape v low (made_by table p) e (legal-last table.shape table.opening p e legal) other m in
+            ap (λ s. member v s.unsealed) (push p e)
+            ∙ still-open table.shape v low (made_by table p) e (legal-last table.shape table.opening p e legal) other m in
             omega (arith, bound-since more next q on h closed still, number-grows table.shape table.opening p next (e ∷ [], refl))
       ]
 
@@ -191,17 +191,17 @@ module _ (table : TableName) (v : ℕ) (low : v < table.shape.fixed) where
       let legal = legal-prefix table.shape table.opening next q (more, on) h in
       let put = item_put (made_by table p).note e.word in
       let here : Put_in next k → k ≤ place_stamp table q v = λ n.
-          let all = sym (ap (member v) (puts_in-push table.shape table.opening p e k)) ∙ n in
-          elim (member-append v (puts_in table.shape table.opening p k) (new_put p e k) all) [
-            | inl was ↦ begins was
-            | inr new ↦ elim (cases_Bool (eqb (number_of table p) k)) [
-              | inl t ↦
-                  let is_put : member v put ≡ true = sym (ap (λ b. member v (cond b put [])) t) ∙ new in
-                  let bound = bound-since more next q on h closed (opens p e legal is_put) in
-                  omega (arith, bound, eqb-true _ _ t, number-grows table.shape table.opening p next (e ∷ [], refl))
-              | inr f ↦ absurd (false≢true (sym (ap (λ b. member v (cond b put [])) f) ∙ new))
-            ]
-          ] in
+      let all = sym (ap (member v) (puts_in-push table.shape table.opening p e k)) ∙ n in
+      elim (member-append v (puts_in table.shape table.opening p k) (new_put p e k) all) [
+        | inl was ↦ begins was
+        | inr new ↦ elim (cases_Bool (eqb (number_of table p) k)) [
+          | inl t ↦
+              let is_put : member v put ≡ true = sym (ap (λ b. member v (cond b put [])) t) ∙ new in
+              let bound = bound-since more next q on h closed (opens p e legal is_put) in
+              omega (arith, bound, eqb-true _ _ t, number-grows table.shape table.opening p next (e ∷ [], refl))
+          | inr f ↦ absurd (false≢true (sym (ap (λ b. member v (cond b put [])) f) ∙ new))
+        ]
+      ] in
       no_later-since more next q k on h closed here m
 
   pub put_no_later : (q : List Event) (k : ℕ) → Legal table.shape table.opening q → IsClosed (made_by table q)

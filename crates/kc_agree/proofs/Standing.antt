@@ -1,5 +1,5 @@
 -- How two items stand that are not moved.
-use Rattle.std.proofs.Common.{◌≡◌, ◌≢◌, ◌↔◌, ltb-true, ℕ, suc, ◌+◌, Bool, true, false, cond, List, [], ◌∷◌, ◌++◌, eqb, ltb, refl, sym, ap, ap₂, ◌∙◌, subst, inl, inr, arith, lt-ltb, le-ltb, eqb-true, ne_eqb, append_assoc, append-nil}
+use Rattle.std.proofs.Common.{◌≡◌, ◌≢◌, ◌↔◌, ltb-true, ℕ, suc, ◌+◌, ◌<◌, ◌≤◌, Bool, true, false, cond, List, [], ◌∷◌, ◌++◌, eqb, ltb, refl, sym, ap, ap₂, ◌∙◌, subst, inl, inr, arith, lt-ltb, le-ltb, eqb-true, ne_eqb, append_assoc, append-nil}
 use Rattle.std.specs.List.{filter}
 use Rattle.std.proofs.lemmas.Bool.{cases_Bool, cases_lt, true≢false}
 use mathlib.Core.List.{IsPrefix}
@@ -165,7 +165,7 @@ module _ (x y : ℕ) where
         let longer : IsPrefix log next = (e ∷ [], refl) in
         let whole : IsPrefix next (log ++ e ∷ more) = (more, is) in
         let later : (z : ℕ) → StaysPut table log (log ++ e ∷ more) z → StaysPut table next (next ++ more) z =
-            λ z h l f a b. h l f (prefix_trans log next l longer a) (b.0, b.1 ∙ is) in
+        λ z h l f a b. h l f (prefix_trans log next l longer a) (b.0, b.1 ∙ is) in
         let rest : Same (list_after table (next ++ more)) (list_after table next) = more-stores more next (later x hx) (later y hy) in
         same_trans (list_after table (log ++ e ∷ more)) (list_after table next) (list_after table log)
         (subst (λ (l : List Event). Same (list_after table l) (list_after table next)) is rest)

@@ -43,7 +43,7 @@ module _ (table : TableName) (p q : List Event) (v : ℕ) (low : v < table.shape
   pub stays_put : StaysPut table p q v
   stays_put = λ log e a b moves.
       let before : Legal table.shape table.opening log =
-          legal-prefix table.shape table.opening log (log ++ e ∷ []) (e ∷ [], refl) (legal-prefix table.shape table.opening (log ++ e ∷ []) q b legal) in
+      legal-prefix table.shape table.opening log (log ++ e ∷ []) (e ∷ [], refl) (legal-prefix table.shape table.opening (log ++ e ∷ []) q b legal) in
       let s = made_by table log in
       let put = moved-put table.shape s.list s.note e.word v low (stands table.shape table.opening log before).announced moves.0 moves.1 in
       elim (put-since table.shape table.opening v low p log e q a b legal put) [

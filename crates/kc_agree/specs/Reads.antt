@@ -12,8 +12,9 @@ use Rattle.kc_view.specs.declared.fault.ViewFault.{ViewFault}
 use Rattle.kc_view.specs.declared.fault.ViewFault.TheVariants.{Miss, NoMemory}
 use Rattle.kc_table.specs.declared.view.Event.{Event}
 use Rattle.kc_table.specs.Edges.{edges_after}
-use Rattle.kc_table.specs.Log.{TableName}
+use Rattle.kc_table.specs.Log.{PassSeen, TableName}
 use Rattle.kc_order.specs.Standing.{Compares, StandsBefore, StoodBefore, list_after}
+use Rattle.kc_order.specs.declared.answer.Answer.{Answer}
 use Rattle.kc_order.specs.declared.answer.Answer.TheVariants as answer
 use Rattle.kc_agree.specs.Stamps.{core_after, number_of, place_stamp}
 
@@ -66,7 +67,12 @@ abbrev pub StoodSo : TableName → List Event → List Event → ℕ → ℕ →
 StoodSo table old new x y true = StoodBefore table old new x y
 StoodSo table old new x y false = StoodBefore table old new y x
 
+-- what a comparison answers that finds the first of two before the second, or behind it
+abbrev pub order_answer : Bool → Answer
+order_answer true = answer.Before
+order_answer false = answer.After
+
 -- Why the order of two vertices was not read: a word differed between its two loads, or there was no memory.
-abbrev pub HasOrderCause : TableName → List Event → List Event → ℕ → ℕ → ViewFault → Type 0
-HasOrderCause table old new x y (Miss again) = Compares table old new x y (answer.Again again)
-HasOrderCause table old new x y NoMemory = ⊤
+abbrev pub HasOrderCause : PassSeen → PassSeen → ℕ → ℕ → ViewFault → Type 0
+HasOrderCause old new x y (Miss again) = Compares old new x y (answer.Again again)
+HasOrderCause old new x y NoMemory = ⊤

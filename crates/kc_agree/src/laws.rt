@@ -147,8 +147,8 @@ pub fn an_entry_changes_the_stamps_of_its_ends()
         → (made_by table new).entries ≡ (made_by table old).entries ++ e ∷ []
         → edge_stamp table opened stamps new v
         ≡ (if changes_graph e (after_entries opened (made_by table old).entries) && names e v
-            then number_of table old + 1
-            else edge_stamp table opened stamps old v) }
+        then number_of table old + 1
+        else edge_stamp table opened stamps old v) }
     ensures graph { (table : TableName) (opened : SimpleGraph) (old new : List Event) (e : Entry)
         → (made_by table new).entries ≡ (made_by table old).entries ++ e ∷ []
         → after_entries opened (made_by table new).entries ≡ after_entry (after_entries opened (made_by table old).entries) e }

@@ -4,9 +4,9 @@ ghost use Rattle.std.specs.Prelude.{◌≡◌, ◌≢◌, ◌<◌, true, false, 
 ghost use mathlib.Core.List.{IsPrefix};
 ghost use Rattle.kc_graph.specs.SimpleGraph.{SimpleGraph};
 ghost use Rattle.kc_view.specs.Answers.{answers_in, has_core, with_order, with_place};
-ghost use Rattle.kc_order.specs.Standing.{Compares};
+ghost use Rattle.kc_order.specs.Standing.{Compares, Steps};
 ghost use Rattle.kc_order.specs.declared.answer.Answer.TheVariants as answer;
-ghost use Rattle.kc_agree.specs.Reads.{HasOrderCause, StoodSo, WereRead, place_after};
+ghost use Rattle.kc_agree.specs.Reads.{HasOrderCause, WereRead, order_answer, place_after};
 ghost use Rattle.kc_agree.specs.Stamps.{core_after};
 
 use kc_graph::{Used, UsedOrder, UsedPlace};
@@ -23,6 +23,7 @@ pub fn read_core(words: &Words, pass: &mut Pass, used: &mut Used, v: u32) -> Res
     requires once { has_core (answers_in used.old) v ≡ false }
     ensures table { pass.new.table ≡ pass.old.table }
     ensures longer { IsPrefix pass.old.log pass.new.log }
+    ensures steps { Steps pass.old pass.new 1 0 }
     ensures core { IfOk result (λ core. core ≡ core_after pass.new.table pass.new.log v) }
     ensures told { IfOk result (λ _. answers_in used.new ≡ with_place (answers_in used.old) (place_after pass.new.table pass.new.log v)) }
     ensures same { OnErr result (answers_in used.new ≡ answers_in used.old) }
@@ -56,10 +57,10 @@ pub fn read_order(
     requires second_read { has_core (answers_in used.old) y ≡ true }
     ensures table { pass.new.table ≡ pass.old.table }
     ensures longer { IsPrefix pass.old.log pass.new.log }
-    ensures stood { IfOk result (λ before. StoodSo pass.old.table pass.old.log pass.new.log x y before) }
+    ensures compared { IfOk result (λ before. Compares pass.old pass.new x y (order_answer before)) }
     ensures told { IfOk result (λ before. answers_in used.new ≡ with_order (answers_in used.old) (record { x = x; y = y; before = before })) }
     ensures same { OnErr result (answers_in used.new ≡ answers_in used.old) }
-    ensures cause { IfErr result (λ fault. HasOrderCause pass.old.table pass.old.log pass.new.log x y fault) }
+    ensures cause { IfErr result (λ fault. HasOrderCause pass.old pass.new x y fault) }
     ensures read { (opened : SimpleGraph) → WereRead pass.old.table opened pass.old.log (answers_in used.old)
         → WereRead pass.new.table opened pass.new.log (answers_in used.new) }
 {
@@ -81,8 +82,8 @@ fn compare(words: &Words, pass: &mut Pass, x: u32, y: u32) -> Result<bool, Again
     requires differ { x ≢ y }
     ensures table { pass.new.table ≡ pass.old.table }
     ensures longer { IsPrefix pass.old.log pass.new.log }
-    ensures stood { IfOk result (λ before. StoodSo pass.old.table pass.old.log pass.new.log x y before) }
-    ensures again { IfErr result (λ again. Compares pass.old.table pass.old.log pass.new.log x y (answer.Again again)) }
+    ensures compared { IfOk result (λ before. Compares pass.old pass.new x y (order_answer before)) }
+    ensures again { IfErr result (λ again. Compares pass.old pass.new x y (answer.Again again)) }
 {
     match precedes(words, pass, x, y) {
         Answer::Before => Ok(true),

@@ -21,8 +21,8 @@ returns-clause-read c = λ opened h.
     let before = c.args.pass.now in
     let after = c.load.new.pass in
     let place =
-        loaded_is before.table after.table c.args.words.now c.shape.result after.log c.args.v c.vertex-word.result c.load.result c.of-stamp.result
-        c.load.ensures.table c.requires.table c.shape.ensures c.vertex-word.ensures c.load.ensures.value c.of-stamp.ensures.fields in
+    loaded_is before.table after.table c.args.words.now c.shape.result after.log c.args.v c.vertex-word.result c.load.result c.of-stamp.result
+    c.load.ensures.table c.requires.table c.shape.ensures c.vertex-word.ensures c.load.ensures.value c.of-stamp.ensures.fields in
     core_read before.table after.table c.args.words.now opened before.log after.log (answers_in used) _ c.args.v
     c.load.ensures.table c.requires.table c.requires.vertex c.load.ensures.longer
     (ap of c.in_ok-push.ensures.items ∙ ap (with_place (answers_in used)) place) c.requires.once h
@@ -34,6 +34,6 @@ returns-clause-told c =
     let before = c.args.pass.now in
     let after = c.load.new.pass in
     let place =
-        loaded_is before.table after.table c.args.words.now c.shape.result after.log c.args.v c.vertex-word.result c.load.result c.of-stamp.result
-        c.load.ensures.table c.requires.table c.shape.ensures c.vertex-word.ensures c.load.ensures.value c.of-stamp.ensures.fields in
+    loaded_is before.table after.table c.args.words.now c.shape.result after.log c.args.v c.vertex-word.result c.load.result c.of-stamp.result
+    c.load.ensures.table c.requires.table c.shape.ensures c.vertex-word.ensures c.load.ensures.value c.of-stamp.ensures.fields in
     ap of c.in_ok-push.ensures.items ∙ ap (with_place (answers_in used)) place

@@ -2,7 +2,7 @@
 use Rattle.std.proofs.Common.{ap, refl, List}
 use Rattle.kc_graph.specs.declared.used.UsedOrder.{UsedOrder}
 use Rattle.kc_view.specs.Answers.{Answers, answers_in}
-use Rattle.kc_agree.proofs.OneMore.{same_read, order_read}
+use Rattle.kc_agree.proofs.OneMore.{same_read, order_read, stood_so}
 use Rattle.kc_agree.proofs.reading.read_order.Goals as goal
 
 pub returns-in-Err-clause-read : goal.returns-in-Err-clause-read
@@ -28,5 +28,5 @@ returns-in-Ok-push-clause-read c = λ opened h.
     let before = c.args.pass.now in
     let after = c.compare.new.pass in
     order_read before.table after.table opened before.log after.log (answers_in used) _ c.args.x c.args.y c.in-Ok.before
-    c.compare.ensures.table c.in-Ok.ensures.stood (ap of c.in-Ok-push.ensures.items) c.requires.differ
+    c.compare.ensures.table (stood_so before after c.args.x c.args.y c.in-Ok.before c.in-Ok.ensures.compared) (ap of c.in-Ok-push.ensures.items) c.requires.differ
     c.requires.first_read c.requires.second_read h
