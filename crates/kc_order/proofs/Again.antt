@@ -32,7 +32,8 @@ finds_same-steps old (l ∷ ls) new (next, one, rest) =
     record { loaded = omega (arith, one.steps.loaded, more.loaded); split = omega (arith, one.steps.split, more.split) }
 
 -- the first of the words differs
-pub finds_other-here : (old new : PassSeen) (l : Loaded) (ls : List Loaded) (again : Again) → LoadsOther old new l.word l.value again → FindsOther old (l ∷ ls) new again
+pub finds_other-here : (old new : PassSeen) (l : Loaded) (ls : List Loaded) (again : Again) → LoadsOther old new l.word l.value again
+    → FindsOther old (l ∷ ls) new again
 finds_other-here old new l ls again h = record {
   front = [];
   other = l;
@@ -45,7 +46,8 @@ finds_other-here old new l ls again h = record {
 }
 
 -- or it is the same, and one of the others does
-pub finds_other-later : (old next new : PassSeen) (l : Loaded) (ls : List Loaded) (again : Again) → LoadsWord old next l.word l.value → FindsOther next ls new again
+pub finds_other-later : (old next new : PassSeen) (l : Loaded) (ls : List Loaded) (again : Again) → LoadsWord old next l.word l.value
+    → FindsOther next ls new again
     → FindsOther old (l ∷ ls) new again
 finds_other-later old next new l ls again one h = record {
   front = l ∷ h.front;

@@ -87,7 +87,8 @@ leaves-state table log t is quiet = record {
 }
 
 -- the word of a vertex, as the state has it
-pub state-word : (seen : Seen) (v : ℕ) → get_or (state_of seen.table.shape seen.table.opening seen.log).words (first_vertex seen.table.shape + v) 0 ≡ vertex_word_after seen v
+pub state-word : (seen : Seen) (v : ℕ)
+    → get_or (state_of seen.table.shape seen.table.opening seen.log).words (first_vertex seen.table.shape + v) 0 ≡ vertex_word_after seen v
 state-word seen v = ap (λ ws. get_or ws (first_vertex seen.table.shape + v) 0) (state_of-words seen.table.shape seen.table.opening seen.log)
 
 -- A log that ends with a note and the store of its item leaves the entries and the vertices' words as they were, and nothing announced;

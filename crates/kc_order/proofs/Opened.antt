@@ -70,7 +70,11 @@ follows-placed a w x [] h p q f = (h, tt)
 follows-placed a w x (z ∷ zs) h p q f =
     elim (cases_Bool (is_below a x z)) [
       | inl t ↦ rw t (h, (below-true a x z t, p.1))
-      | inr isnt ↦ rw isnt (p.0, follows-placed a z x zs (f z (member-head z zs) isnt) p.1 (InOrder-tail (PairBelow a) z zs q) (λ y m. f y (member-tail y z zs m)))
+      | inr isnt ↦ rw isnt (
+        p.0,
+        follows-placed a z x zs (f z (member-head z zs) isnt) p.1 (InOrder-tail (PairBelow a) z zs q)
+            (λ y m. f y (member-tail y z zs m)),
+      )
     ]
 
 in_order-placed : (a : Labels) (x : ℕ) (zs : List ℕ) → InOrder (PairBelow a) zs → ((z : ℕ) → member z zs ≡ true → is_below a x z ≡ false → PairBelow a z x) → InOrder (PairBelow a) (placed a x zs)
@@ -128,7 +132,8 @@ module _ (n : ℕ) (ws order : List ℕ) (o : Ordered n ws order) where
       ]
 
   pub listed-is : ((x : ℕ) → member x order ≡ true → x < n) → listed a n ≡ order
-  listed-is within = same-order (PairBelow a) (pair-trans a) (PairBelow-asym a) (listed a n) order (in_order-listed n (omega arith)) o.pairs (λ z m. listed-in n z (omega arith) m) (λ z m. in-listed n z (omega arith) (within z m) m)
+  listed-is within = same-order (PairBelow a) (pair-trans a) (PairBelow-asym a) (listed a n) order (in_order-listed n (omega arith)) o.pairs
+      (λ z m. listed-in n z (omega arith) m) (λ z m. in-listed n z (omega arith) (within z m) m)
 
 pub zero-version : (item_of 0).version ≡ 0
 unfolding item_of
@@ -139,7 +144,8 @@ pub record Opening (shape : Shape) (words : List ℕ) (order : List ℕ) : Type 
   pub opens : legal.Opens shape words
   pub list : listed (labels shape.items words) shape.items ≡ order
 
-pub opening-of : (shape : Shape) (plain : Plain) (words order vertex : List ℕ) → AreOpeningWords words plain.opening vertex shape.items → plain.words ≡ plain.opening
+pub opening-of : (shape : Shape) (plain : Plain) (words order vertex : List ℕ) → AreOpeningWords words plain.opening vertex shape.items
+    → plain.words ≡ plain.opening
     → ((w : ℕ) → 1 ≤ w → w ≤ 2 * shape.items + 1 → version plain.words w ≡ shape.version) → Ordered shape.items plain.words order → ((x : ℕ) → member x order ≡ true → x < shape.items)
     → ((v : ℕ) → v < shape.fixed → member v order ≡ true) → length vertex ≡ shape.fixed → ((v : ℕ) → v < shape.fixed → (vertex_of (get_or vertex v 0)).stamp ≤ shape.base) → Opening shape words order
 opening-of shape plain words order vertex h same versions o within vertices long stamps =
@@ -161,7 +167,8 @@ opening-of shape plain words order vertex h same versions o within vertices long
     }
 
 -- and the writer's plain list is tied to its empty log
-pub tied-open : (shape : Shape) (plain : Plain) (words order vertex : List ℕ) (table : TableName) (seen : Seen) → Opening shape words order → AreOpeningWords words plain.opening vertex shape.items → plain.words ≡ plain.opening
+pub tied-open : (shape : Shape) (plain : Plain) (words order vertex : List ℕ) (table : TableName) (seen : Seen) → Opening shape words order
+    → AreOpeningWords words plain.opening vertex shape.items → plain.words ≡ plain.opening
     → plain.items ≡ shape.items → plain.fixed ≡ shape.fixed → plain.list ≡ order → length plain.words ≡ 2 * shape.items + 2 → version plain.words 0 ≡ 0
     → (table.shape ≡ shape) × (table.opening ≡ words) → seen ≡ record { table = table; log = [] } → Tied seen plain
 tied-open shape plain words order vertex table seen opening h same items fixed list long note named is =

@@ -29,7 +29,8 @@ found_in table log x value legal below is some =
     ]
 
 -- one whose word names none is out of it, and no vertex
-pub found_out : (old new : PassSeen) (x value : ℕ) → LoadsWord old new (1 + x) value → x < new.table.shape.items → (item_of value).group ≡ 0 → FoundOut old new x
+pub found_out : (old new : PassSeen) (x value : ℕ) → LoadsWord old new (1 + x) value → x < new.table.shape.items → (item_of value).group ≡ 0
+    → FoundOut old new x
 found_out old new x value one below none =
     let o = ordered_after new.table new.log one.legal in
     let here : (item_of value).group ≡ (item_of (value_at new.table.opening new.log (1 + x))).group = ap (λ v. (item_of v).group) one.held in

@@ -58,7 +58,8 @@ store-quiet (Enter add index u v) w list q = refl
 store-quiet (Put x p) w list q = absurd (omega (arith, q 0))
 store-quiet (Take x) w list q = absurd (omega (arith, q 0))
 
-pub put_in-quiet : (shape : Shape) (note : NoteWord) (w : ℕ) (unsealed : List ℕ) → ((v : ℕ) → legal.FollowsNote note v) → put_in shape note w unsealed ≡ unsealed
+pub put_in-quiet : (shape : Shape) (note : NoteWord) (w : ℕ) (unsealed : List ℕ) → ((v : ℕ) → legal.FollowsNote note v)
+    → put_in shape note w unsealed ≡ unsealed
 put_in-quiet shape Nothing w unsealed q = refl
 put_in-quiet shape (Enter add index u v) w unsealed q = refl
 put_in-quiet shape (Put x p) w unsealed q = absurd (omega (arith, q 0))
@@ -68,7 +69,8 @@ put_in-quiet shape (Take x) w unsealed q = refl
 abbrev pub relabelled : State → Event → State
 relabelled s e = record { words = set s.words e.word e.value; list = s.list; note = Nothing; entries = s.entries; unsealed = s.unsealed }
 
-pub after-relabel : (shape : Shape) (s : State) (e : Event) → 1 ≤ e.word → e.word < first_vertex shape → ((w : ℕ) → legal.FollowsNote s.note w) → after_store shape s e ≡ relabelled s e
+pub after-relabel : (shape : Shape) (s : State) (e : Event) → 1 ≤ e.word → e.word < first_vertex shape → ((w : ℕ) → legal.FollowsNote s.note w)
+    → after_store shape s e ≡ relabelled s e
 after-relabel shape s e low high q =
     let no_vertex : leb (first_vertex shape) e.word ≡ false = lt-leb (first_vertex shape) e.word high in
     rw (not_note e.word low) (λ i. record {
@@ -96,7 +98,8 @@ set-agree xs ys k v w x-in y-in same =
       | inr ne ↦ get_or-set_other xs k w v 0 (λ e. ne (sym e)) ∙ (same ∙ sym (get_or-set_other ys k w v 0 (λ e. ne (sym e))))
     ]
 
-pub relabel : (shape : Shape) (s : State) (ws : List ℕ) (w : Write) → Goes shape s ws → sheet.Raises ws w → (item_of w.value).version ≤ LAST_VERSION → Ordered shape.items (set ws w.word w.value) s.list → Relabels shape s ws (event w.word w.value)
+pub relabel : (shape : Shape) (s : State) (ws : List ℕ) (w : Write) → Goes shape s ws → sheet.Raises ws w → (item_of w.value).version ≤ LAST_VERSION
+    → Ordered shape.items (set ws w.word w.value) s.list → Relabels shape s ws (event w.word w.value)
 relabel shape s ws w g r few o =
     let high : w.word < first_vertex shape = omega (arith, r.high, g.plain_long) in
     let in-words : w.word < length s.words = omega (arith, high, g.long) in
@@ -150,7 +153,8 @@ ordered-first : (n : ℕ) (list ws : List ℕ) (writes : List Write) → sheet.O
 ordered-first n list ws [] h = h
 ordered-first n list ws (s ∷ ss) h = h.0
 
-pub relabel-all : (shape : Shape) (s : State) (ws : List ℕ) (writes : List Write) → Goes shape s ws → sheet.RaisedAlong ws writes → sheet.OrderedAlong shape.items s.list ws writes → ((w : ℕ) → sheet.version (sheet.stored ws writes) w ≤ LAST_VERSION) → RelabelsAll shape s ws writes
+pub relabel-all : (shape : Shape) (s : State) (ws : List ℕ) (writes : List Write) → Goes shape s ws → sheet.RaisedAlong ws writes
+    → sheet.OrderedAlong shape.items s.list ws writes → ((w : ℕ) → sheet.version (sheet.stored ws writes) w ≤ LAST_VERSION) → RelabelsAll shape s ws writes
 relabel-all shape s ws [] g r o few = record { legal_ = tt; goes = g; list = refl; entries = refl; words = λ v. refl }
 relabel-all shape s ws (w ∷ writes) g r o few =
     let e = event w.word w.value in

@@ -1,5 +1,6 @@
 -- The stores that open a section and seal its vertices.
-use Rattle.std.proofs.Common.{◌≡◌, ◌≢◌, ℕ, ◌+◌, ◌*◌, ◌<◌, ◌≤◌, ◌^◌, ◌-◌, Bool, true, false, cond, eqb, List, [], ◌∷◌, ◌++◌, length, set, get_or, eq-eqb, ne_eqb, le-leb, refl, sym, ap, ◌∙◌, subst, inl, inr, arith, get_or-set_same, get_or-set_other, length-append}
+use Rattle.std.proofs.Common.{◌≡◌, ◌≢◌, ℕ, ◌+◌, ◌*◌, ◌<◌, ◌≤◌, ◌^◌, ◌-◌, Bool, true, false, cond, eqb, List, [], ◌∷◌, ◌++◌, length, set, get_or, eq-eqb}
+use Rattle.std.proofs.Common.{ne_eqb, le-leb, refl, sym, ap, ◌∙◌, subst, inl, inr, arith, get_or-set_same, get_or-set_other, length-append}
 use Rattle.std.proofs.lemmas.Bool.{cases_eq}
 use Rattle.kc_distinct.specs.Lists.{without}
 use Rattle.kc_words.specs.VertexWord.{vertex_of, vertex_word}
@@ -29,7 +30,8 @@ pub stored-aside : (seen : Seen) (plain : Plain) (e : Event) → Tied seen plain
     → ((w : ℕ) → 1 ≤ w → w < first_vertex seen.table.shape → e.word ≢ w)
     → (t : State) → after_store seen.table.shape (state_of seen.table.shape seen.table.opening seen.log) e ≡ t
     → t.list ≡ (state_of seen.table.shape seen.table.opening seen.log).list → t.words ≡ set (state_of seen.table.shape seen.table.opening seen.log).words e.word e.value
-    → ((v : ℕ) → v < seen.table.shape.fixed → legal.stamp_in seen.table.shape t v ≤ legal.last_entry seen.table.shape t) → ((w : ℕ) → legal.FollowsNote t.note w)
+    → ((v : ℕ) → v < seen.table.shape.fixed → legal.stamp_in seen.table.shape t v ≤ legal.last_entry seen.table.shape t)
+    → ((w : ℕ) → legal.FollowsNote t.note w)
     → legal.Legal seen.table.shape seen.table.opening (seen.log ++ e ∷ []) × ((now : Seen) → now ≡ record { table = seen.table; log = seen.log ++ e ∷ [] } → Tied now plain)
 stored-aside seen plain e tied may aside t is t-list t-words stamps quiet =
     let shape = seen.table.shape in
@@ -112,7 +114,8 @@ sealed_at seen plain v value tied below fits seals =
 -- what an Enter note leaves beside the list
 pub enter-leaves : (seen : Seen) (add : Bool) (index u v : ℕ) → IsFitting (Enter add index u v)
     → let entry : Entry = record { index = index; add = add; u = u; v = v } in
-    Leaves (record { table = seen.table; log = seen.log ++ event 0 (note_word (Enter add index u v)) ∷ [] }) (entries_after seen ++ entry ∷ []) [] (vertex_word_after seen)
+    Leaves (record { table = seen.table; log = seen.log ++ event 0 (note_word (Enter add index u v)) ∷ [] }) (entries_after seen ++ entry ∷ []) []
+    (vertex_word_after seen)
 enter-leaves seen add index u v fitting =
     let shape = seen.table.shape in
     let n = Enter add index u v in
@@ -127,7 +130,8 @@ enter-leaves seen add index u v fitting =
       entries = s.entries ++ record { index = index; add = add; u = u; v = v } ∷ [];
       unsealed = [];
     } in
-    let at : state_of shape seen.table.opening (seen.log ++ e ∷ []) ≡ t = state_of-push shape seen.table.opening seen.log e ∙ ap (λ z. noted-as s value z) note in
+    let at : state_of shape seen.table.opening (seen.log ++ e ∷ []) ≡ t = state_of-push shape seen.table.opening seen.log e ∙ ap (λ z. noted-as s value z)
+    note in
     let made = leaves-state seen.table (seen.log ++ e ∷ []) t at (λ word. tt) in
     record {
       entries_are = made.entries_are;
@@ -155,7 +159,8 @@ vertex-leaves seen plain v value tied below =
     let long : length s.words ≡ word_count shape = (goes shape opening seen.log plain tied.legal tied.long tied.words tied.quiet).long in
     let here : w - first_vertex shape ≡ v = omega arith in
     let sealed_is : sealed shape w s.unsealed ≡ without v s.unsealed =
-    ap (λ b. cond b (without (w - first_vertex shape) s.unsealed) s.unsealed) (le-leb (first_vertex shape) w (omega arith)) ∙ ap (λ k. without k s.unsealed) here in
+    ap (λ b. cond b (without (w - first_vertex shape) s.unsealed) s.unsealed) (le-leb (first_vertex shape) w (omega arith)) ∙ ap (λ k. without k s.unsealed)
+    here in
     record {
       entries_are = made.entries_are;
       unsealed_are = made.unsealed_are ∙ (put_in-quiet shape s.note w (sealed shape w s.unsealed) tied.quiet ∙ sealed_is);
@@ -173,7 +178,8 @@ vertex-leaves seen plain v value tied below =
 -- and what a call leaves, where its seat was seen as `now`
 pub leaves-now : (seen now new : Seen) (word value : ℕ) (entries : Seen → List Entry) (unsealed : Seen → List ℕ) (words : Seen → ℕ → ℕ) → seen ≡ now
     → new ≡ record { table = seen.table; log = seen.log ++ event word value ∷ [] }
-    → Leaves (record { table = seen.table; log = seen.log ++ event word value ∷ [] }) (entries seen) (unsealed seen) (words seen) → Leaves new (entries now) (unsealed now) (words now)
+    → Leaves (record { table = seen.table; log = seen.log ++ event word value ∷ [] }) (entries seen) (unsealed seen) (words seen)
+    → Leaves new (entries now) (unsealed now) (words now)
 leaves-now seen now new word value entries unsealed words is new-is h =
     subst (λ (z : Seen × Seen). Leaves z.0 (entries z.1) (unsealed z.1) (words z.1)) (λ i. (sym new-is i, is i)) h
 

@@ -54,7 +54,9 @@ stands-first a x y list order distinct x-in y-in differ less =
         | inr k ↦
             let d = cut x c.back k in
             let split : list ≡ (c.front ++ y ∷ d.front) ++ x ∷ d.back = c.is ∙ (ap (λ l. c.front ++ y ∷ l) d.is ∙ sym (append_assoc c.front (y ∷ d.front) (x ∷ d.back))) in
-            absurd (PairBelow-asym a x y less (in_order-before (PairBelow a) (pair-trans a) y x (c.front ++ y ∷ d.front) d.back (subst (InOrder (PairBelow a)) split order) (member-append_right y c.front (y ∷ d.front) (member-head y d.front))))
+            absurd (PairBelow-asym a x y less
+            (in_order-before (PairBelow a) (pair-trans a) y x (c.front ++ y ∷ d.front) d.back (subst (InOrder (PairBelow a)) split order)
+            (member-append_right y c.front (y ∷ d.front) (member-head y d.front))))
       ]
     ]
 
@@ -67,10 +69,12 @@ held_between table l m old new versioned held a begun b one =
     let m_q : IsPrefix m q = prefix_trans m old.log q b one.longer in
     let legal : Legal table.shape table.opening q = subst (λ (t : TableName). Legal t.shape t.opening q) is one.legal in
     let again : l.value ≡ value_at table.opening q l.word = one.held ∙ ap (λ (t : TableName). value_at t.opening q l.word) is in
-    held ∙ sym (fresh table.shape table.opening l.word l.prefix m q versioned a m_q (legal-prefix table.shape table.opening m q m_q legal) legal (sym held ∙ again))
+    held ∙ sym (fresh table.shape table.opening l.word l.prefix m q versioned a m_q (legal-prefix table.shape table.opening m q m_q legal) legal
+    (sym held ∙ again))
 
 -- all four values were their words' after the collect's last prefix
-pub all_held : (c : Collected) (old new : PassSeen) → IsCollect c → old.table ≡ c.table → IsPrefix c.group_y.prefix old.log → FindsSame old (words_of c) new → AllHeld c
+pub all_held : (c : Collected) (old new : PassSeen) → IsCollect c → old.table ≡ c.table → IsPrefix c.group_y.prefix old.log → FindsSame old (words_of c) new
+    → AllHeld c
 all_held c old new h begun before found =
     let p = found.0 in
     let item-x = found.1 in
@@ -92,8 +96,10 @@ all_held c old new h begun before found =
     let of-r = group-x.table ∙ of-q in (
       held_between c.table c.item_x m old p (omega (arith, h.item_x_is), omega (arith, h.item_x_is, h.x_in)) h.item_x_held first begun before item-x,
       held_between c.table c.item_y m p q (omega (arith, h.item_y_is), omega (arith, h.item_y_is, h.y_in)) h.item_y_held second of-p at-p item-y,
-      held_between c.table c.group_x m q r (omega (arith, h.group_x_is, h.x_listed), omega (arith, h.group_x_is, h.x_group)) h.group_x_held third of-q at-q group-x,
-      held_between c.table c.group_y m r s (omega (arith, h.group_y_is, h.y_listed), omega (arith, h.group_y_is, h.y_group)) h.group_y_held (prefix_self m) of-r at-r group-y,
+      held_between c.table c.group_x m q r (omega (arith, h.group_x_is, h.x_listed), omega (arith, h.group_x_is, h.x_group)) h.group_x_held third of-q at-q
+          group-x,
+      held_between c.table c.group_y m r s (omega (arith, h.group_y_is, h.y_listed), omega (arith, h.group_y_is, h.y_group)) h.group_y_held (prefix_self m)
+          of-r at-r group-y,
     )
 
 -- what the words say at one moment: the pair of x is less

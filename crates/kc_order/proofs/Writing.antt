@@ -1,5 +1,6 @@
 -- What a put or a take of a plain list means for the log of its table.
-use Rattle.std.proofs.Common.{◌≡◌, ◌≢◌, ◌⊎◌, ℕ, zero, suc, ◌+◌, ◌-◌, ◌<◌, ◌≤◌, ◌^◌, true, cond, List, [], ◌∷◌, ◌++◌, length, set, take, drop, get_or, refl, sym, ap, ◌∙◌, subst, inl, inr, arith, get_or-set_same, get_or-set_other, length-set, append_assoc, append-nil, length-append}
+use Rattle.std.proofs.Common.{◌≡◌, ◌≢◌, ◌⊎◌, ℕ, zero, suc, ◌+◌, ◌-◌, ◌<◌, ◌≤◌, ◌^◌, true, cond, List, [], ◌∷◌, ◌++◌, length, set, take, drop, get_or, refl}
+use Rattle.std.proofs.Common.{sym, ap, ◌∙◌, subst, inl, inr, arith, get_or-set_same, get_or-set_other, length-set, append_assoc, append-nil, length-append}
 use Rattle.std.proofs.lemmas.List.{take-append-le, drop-append-le, take_all}
 use Rattle.std.proofs.lemmas.Bool.{cases_eq, eq-eqb}
 use Rattle.kc_distinct.specs.Lists.{member, without, right_after}
@@ -25,7 +26,8 @@ use Rattle.kc_table.specs.Legal as legal
 use Rattle.kc_table.proofs.LegalLogs.{legal-push, legal-prefix, legal-last, legal-opens, legal-holds, state_of-push, state_of-words, after_stores-append}
 use Rattle.kc_table.proofs.Listed.{stands}
 use Rattle.kc_order.specs.Standing.{list_after}
-use Rattle.kc_order.specs.Writers.{AreRaised, HasVersionsLeft, EndsWith, Puts, Takes, Tied, stores_of, front_of, end_of, log_of_front, log_of_note, log_of_all, AreLegal}
+use Rattle.kc_order.specs.Writers.{AreRaised, HasVersionsLeft, EndsWith, Puts, Takes, Tied, stores_of, front_of, end_of, log_of_front, log_of_note}
+use Rattle.kc_order.specs.Writers.{log_of_all, AreLegal}
 use Rattle.kc_order.proofs.Relabelling.{Goes, RelabelsAll, relabel-all}
 use Rattle.kc_order.proofs.Ending.{Ends, Ended, ends}
 use Rattle.kc_order.proofs.Leaving.{put-leaves, take-leaves}
@@ -122,7 +124,8 @@ module _ (shape : Shape) (opening : List ℕ) where
 
   -- what stays between the stores of a call holds where it begins
   pub goes : (log : List Event) (plain : Plain) → legal.Legal shape opening log → length plain.words ≡ first_vertex shape
-      → ((w : ℕ) → legal.IsVersioned shape w → get_or plain.words w 0 ≡ value_at opening log w) → ((w : ℕ) → legal.FollowsNote (state_of shape opening log).note w) → Goes shape (state_of shape opening log) plain.words
+      → ((w : ℕ) → legal.IsVersioned shape w → get_or plain.words w 0 ≡ value_at opening log w)
+      → ((w : ℕ) → legal.FollowsNote (state_of shape opening log).note w) → Goes shape (state_of shape opening log) plain.words
   goes log plain h long words quiet = record {
     long = ap length (state_of-words shape opening log) ∙ (length-words_after opening log ∙ (legal-opens shape opening log h).one_each);
     plain_long = long;
@@ -147,8 +150,10 @@ abbrev pub MayAfter : Shape → State → NoteWord → Type 0
 MayAfter shape s n = (t : State) → t.list ≡ s.list → t.entries ≡ s.entries → ((k : ℕ) → legal.stamp_in shape t k ≡ legal.stamp_in shape s k) → legal.MayNote shape t n
 
 pub wrote : (seen : Seen) (old new : Plain) (n : NoteWord) (x : ℕ) (writes : List Write) → Tied seen old → IsFitting n → writes ≡ new.writes → new.items ≡ old.items → new.fixed ≡ old.fixed
-    → Written old.items old.list new.list x old.words new.words new.writes → ((w : ℕ) → sheet.version new.words w ≤ LAST_VERSION) → x < seen.table.shape.items → ((y : ℕ) → member y new.list ≡ true → y < seen.table.shape.items)
-    → MayAfter seen.table.shape (state_of seen.table.shape seen.table.opening seen.log) n → ((entries : List Entry) → entered n entries ≡ entries) → legal.FollowsNote n (1 + x) → moved n (1 + x) old.list ≡ new.list → note_word n < 2 ^ 64
+    → Written old.items old.list new.list x old.words new.words new.writes → ((w : ℕ) → sheet.version new.words w ≤ LAST_VERSION)
+    → x < seen.table.shape.items → ((y : ℕ) → member y new.list ≡ true → y < seen.table.shape.items)
+    → MayAfter seen.table.shape (state_of seen.table.shape seen.table.opening seen.log) n → ((entries : List Entry) → entered n entries ≡ entries)
+    → legal.FollowsNote n (1 + x) → moved n (1 + x) old.list ≡ new.list → note_word n < 2 ^ 64
     → Wrote seen new (note_word n) x writes
 wrote seen old new n x writes tied fitting same items fixed w few x-in within may no-entry follows after fits =
     let shape = seen.table.shape in
@@ -229,7 +234,8 @@ wrote seen old new n x writes tied fitting same items fixed w few x-in within ma
 -- Calls of a writer. -------------------------------------------------------------------------------
 
 -- the versions of a plain list are within what its table's words leave
-pub plain-versions : (seen : Seen) (plain : Plain) → Tied seen plain → HasVersionsLeft seen.table seen.log → (w : ℕ) → sheet.version plain.words w + 3 ≤ LAST_VERSION
+pub plain-versions : (seen : Seen) (plain : Plain) → Tied seen plain → HasVersionsLeft seen.table seen.log → (w : ℕ)
+    → sheet.version plain.words w + 3 ≤ LAST_VERSION
 unfolding item_of
 plain-versions seen plain tied left zero = omega (arith, tied.note)
 plain-versions seen plain tied left (suc w) =
@@ -315,17 +321,20 @@ taken-at seen now words old new x writes is table tied left x-in free =
     taken seen old new x writes tied (subst (λ (z : Seen). HasVersionsLeft z.table z.log) (sym is) left) (ap (λ (z : Seen). member x (list_after z.table z.log)) is ∙ x-in) (subst (λ (z : Shape). z.fixed ≤ x) (sym shape) free)
 
 -- a plain list's greatest version leaves room where the table's words do
-pub highest-at : (seen now : Seen) (plain : Plain) → seen ≡ now → Tied seen plain → HasVersionsLeft now.table now.log → sheet.highest_of plain.words + 3 ≤ LAST_VERSION
+pub highest-at : (seen now : Seen) (plain : Plain) → seen ≡ now → Tied seen plain → HasVersionsLeft now.table now.log
+    → sheet.highest_of plain.words + 3 ≤ LAST_VERSION
 highest-at seen now plain is tied left = plain-highest seen plain tied (subst (λ (z : Seen). HasVersionsLeft z.table z.log) (sym is) left)
 
 -- the numbers of a put fit their note
-pub put-fits : (now : Seen) (words : TableName) (x p : ℕ) → legal.Legal now.table.shape now.table.opening now.log → now.table ≡ words → x < words.shape.items → member p (list_after now.table now.log) ≡ true → (x < 2 ^ ITEM_BITS) × (p < 2 ^ ITEM_BITS)
+pub put-fits : (now : Seen) (words : TableName) (x p : ℕ) → legal.Legal now.table.shape now.table.opening now.log → now.table ≡ words → x < words.shape.items
+    → member p (list_after now.table now.log) ≡ true → (x < 2 ^ ITEM_BITS) × (p < 2 ^ ITEM_BITS)
 put-fits now words x p h table x-in p-in =
     let items = ap (λ (t : TableName). t.shape.items) table in
     let p-below = (stands now.table.shape now.table.opening now.log h).listed.within p p-in in
     (omega (arith, x-in, words.shape.few_items), omega (arith, p-below, items, words.shape.few_items))
 
-pub item-fits : (now : Seen) (x : ℕ) → legal.Legal now.table.shape now.table.opening now.log → member x (list_after now.table now.log) ≡ true → x < 2 ^ ITEM_BITS
+pub item-fits : (now : Seen) (x : ℕ) → legal.Legal now.table.shape now.table.opening now.log → member x (list_after now.table now.log) ≡ true
+    → x < 2 ^ ITEM_BITS
 item-fits now x h x-in = let below = (stands now.table.shape now.table.opening now.log h).listed.within x x-in in omega (arith, below, now.table.shape.few_items)
 
 -- no word of a plain list has been written more than twice
@@ -339,14 +348,16 @@ raised-now seen now old new tied after table twice = λ k h.
     omega (arith, twice k, ap (λ z. (item_of z).version) (tied.words k h), ap (λ z. (item_of z).version) (after.words k there))
 
 -- each word's version rises by at most the number of the writes
-raised-at_most : (ws : List ℕ) (writes : List Write) (k : ℕ) → sheet.RaisedAlong ws writes → sheet.version (sheet.stored ws writes) k ≤ sheet.version ws k + length writes
+raised-at_most : (ws : List ℕ) (writes : List Write) (k : ℕ) → sheet.RaisedAlong ws writes
+    → sheet.version (sheet.stored ws writes) k ≤ sheet.version ws k + length writes
 raised-at_most ws [] k h = omega arith
 raised-at_most ws (w ∷ writes) k h =
     let rest = raised-at_most (set ws w.word w.value) writes k h.1 in
     elim (cases_eq w.word k) [
       | inl e ↦
           let here : sheet.version (set ws w.word w.value) k ≡ (item_of w.value).version =
-          ap (λ z. (item_of (get_or (set ws z w.value) k 0)).version) e ∙ ap (λ z. (item_of z).version) (get_or-set_same ws k w.value 0 (omega (arith, h.0.high, e))) in
+          ap (λ z. (item_of (get_or (set ws z w.value) k 0)).version) e ∙ ap (λ z. (item_of z).version)
+          (get_or-set_same ws k w.value 0 (omega (arith, h.0.high, e))) in
           omega (arith, rest, here, h.0.version_is, ap (sheet.version ws) e)
       | inr ne ↦ omega (arith, rest, ap (λ z. (item_of z).version) (get_or-set_other ws w.word k w.value 0 (λ e. ne (sym e))))
     ]
@@ -392,15 +403,18 @@ taken-list seen now old new x writes tied w x-in list is twice =
     }
 
 -- the same, where the writer's seat was seen as `before`, of the table `words`
-pub put-now : (seen before now : Seen) (words : TableName) (old new : Plain) (x p : ℕ) (writes : List Write) → seen ≡ before → before.table ≡ words → Tied seen old
-    → Wrote seen new (note_word (Put x p)) x writes → x < words.shape.items → member p (list_after before.table before.log) ≡ true → new.list ≡ right_after x p (without x old.list)
+pub put-now : (seen before now : Seen) (words : TableName) (old new : Plain) (x p : ℕ) (writes : List Write) → seen ≡ before → before.table ≡ words
+    → Tied seen old
+    → Wrote seen new (note_word (Put x p)) x writes → x < words.shape.items → member p (list_after before.table before.log) ≡ true
+    → new.list ≡ right_after x p (without x old.list)
     → now ≡ record { table = seen.table; log = log_of_all seen.log writes (note_word (Put x p)) } → AtMostTwice old new → Puts before now x p
 put-now seen before now words old new x p writes is table tied w x-in p-in list now-is twice =
     let named : seen.table ≡ words = ap (λ (z : Seen). z.table) is ∙ table in
     subst (λ s. Puts s now x p) is (put-list seen now old new x p writes tied w (subst (λ (t : TableName). x < t.shape.items) (sym named) x-in)
     (ap (λ (z : Seen). member p (list_after z.table z.log)) is ∙ p-in) list now-is twice)
 
-pub taken-now : (seen before now : Seen) (old new : Plain) (x : ℕ) (writes : List Write) → seen ≡ before → Tied seen old → Wrote seen new (note_word (Take x)) x writes
+pub taken-now : (seen before now : Seen) (old new : Plain) (x : ℕ) (writes : List Write) → seen ≡ before → Tied seen old
+    → Wrote seen new (note_word (Take x)) x writes
     → member x (list_after before.table before.log) ≡ true → new.list ≡ without x old.list
     → now ≡ record { table = seen.table; log = log_of_all seen.log writes (note_word (Take x)) } → AtMostTwice old new → Takes before now x
 taken-now seen before now old new x writes is tied w x-in list now-is twice = subst (λ s. Takes s now x) is

@@ -62,7 +62,8 @@ module _ (shape : Shape) (opening : List ℕ) where
       → puts_in shape opening (log ++ e ∷ []) k ≡ puts_in shape opening log k
   adds-elsewhere log e k other =
       puts_in-push log e k
-      ∙ (ap (λ b. puts_in shape opening log k ++ cond b (item_put (state_of shape opening log).note e.word) []) (ne_eqb (number_after shape opening log) k other)
+      ∙ (ap (λ b. puts_in shape opening log k ++ cond b (item_put (state_of shape opening log).note e.word) [])
+      (ne_eqb (number_after shape opening log) k other)
       ∙ append-nil (puts_in shape opening log k))
 
   -- a store to the note word puts nothing
@@ -73,7 +74,8 @@ module _ (shape : Shape) (opening : List ℕ) where
   note-puts (Take x) word z = refl
 
   -- a section that has not begun has put nothing
-  late-since : (more p q : List Event) (k : ℕ) → p ++ more ≡ q → number_after shape opening q < k → puts_in shape opening p k ≡ [] → puts_in shape opening q k ≡ []
+  late-since : (more p q : List Event) (k : ℕ) → p ++ more ≡ q → number_after shape opening q < k → puts_in shape opening p k ≡ []
+      → puts_in shape opening q k ≡ []
   late-since [] p q k is lt none = ap (λ (l : List Event). puts_in shape opening l k) (sym is ∙ append-nil p) ∙ none
   late-since (e ∷ more) p q k is lt none =
       let fewer = number-grows shape opening p q (e ∷ more, is) in
@@ -103,7 +105,8 @@ record Tells (v stamp number : ℕ) (unsealed puts : List ℕ) : Type 0 where
 -- a note: where it is that of an entry, a section begins that has put nothing
 tells-note : (v stamp base : ℕ) (entries : List Entry) (us : List ℕ) (puts : ℕ → List ℕ) (note : NoteWord) → stamp ≤ base + length entries
     → ((k : ℕ) → base + length entries < k → puts k ≡ []) → (0 < length entries → Tells v stamp (base + length entries) us (puts (base + length entries)))
-    → 0 < length (entered note entries) → Tells v stamp (base + length (entered note entries)) (unsealed_from note us) (puts (base + length (entered note entries)))
+    → 0 < length (entered note entries)
+    → Tells v stamp (base + length (entered note entries)) (unsealed_from note us) (puts (base + length (entered note entries)))
 tells-note v stamp base entries us puts Nothing low late h some = h some
 tells-note v stamp base entries us puts (Put x p) low late h some = h some
 tells-note v stamp base entries us puts (Take x) low late h some = h some
@@ -165,10 +168,11 @@ module _ (shape : Shape) (opening : List ℕ) (v : ℕ) (low : v < shape.fixed) 
               ];
               stamped = λ is. ap (member v) puts
                   ∙ member-append_left v (puts_in shape opening log n) (item_put s.note e.word) (was.stamped (sym stamp ∙ (is ∙ number)));
-              is_open = λ m. ap (member v) puts ∙ elim (or_cases (member v (item_put s.note e.word)) (member v (sealed shape e.word s.unsealed)) (sym unsealed ∙ m)) [
-                | inl k ↦ member-append_right v (puts_in shape opening log n) (item_put s.note e.word) k
-                | inr k ↦ member-append_left v (puts_in shape opening log n) (item_put s.note e.word) (was.is_open (open-sealed shape v e.word s.unsealed k))
-              ];
+              is_open = λ m. ap (member v) puts ∙ elim
+                  (or_cases (member v (item_put s.note e.word)) (member v (sealed shape e.word s.unsealed)) (sym unsealed ∙ m)) [
+                    | inl k ↦ member-append_right v (puts_in shape opening log n) (item_put s.note e.word) k
+                    | inr k ↦ member-append_left v (puts_in shape opening log n) (item_put s.note e.word) (was.is_open (open-sealed shape v e.word s.unsealed k))
+                  ];
             }
       ]
 
@@ -254,7 +258,8 @@ module _ (shape : Shape) (opening : List ℕ) where
       entry-closed shape s e (legal-last shape opening before e h) is (omega (arith, more, ap length noted))
 
   -- and so it is for an earlier section, by the stamps where it was closed
-  pub put-exactly_earlier : (v : ℕ) → v < shape.fixed → (before : List Event) (e : Event) (log : List Event) → IsPrefix (before ++ e ∷ []) log → Legal shape opening log
+  pub put-exactly_earlier : (v : ℕ) → v < shape.fixed → (before : List Event) (e : Event) (log : List Event) → IsPrefix (before ++ e ∷ []) log
+      → Legal shape opening log
       → number_after shape opening before < number_after shape opening (before ++ e ∷ []) → 0 < length (state_of shape opening before).entries
       → (member v (puts_in shape opening log (number_after shape opening before)) ≡ true) ↔ (stamp_after shape opening before v ≡ number_after shape opening before)
   put-exactly_earlier v low before e log pre h lt some =

@@ -16,7 +16,9 @@ use Rattle.kc_table.specs.Edges.{edges_after}
 use Rattle.kc_table.specs.Sections.{puts_in}
 use Rattle.kc_table.specs.State.{state_of}
 use Rattle.kc_table.specs.Legal.{Legal, Opens}
-use Rattle.kc_table.specs.Samples.{shape, item, vertex, note, opening, one_put, put_and_take, open_section, sealed_section, sealed_unmoved, two_entries, pair_shape, pair_opening, pair_put, no_edges, one_edge, longer_opening, noted_opening, ahead_opening, missing_opening, tied_opening, stamped_opening}
+use Rattle.kc_table.specs.Samples.{shape, item, vertex, note, opening, one_put, put_and_take, open_section, sealed_section, sealed_unmoved, two_entries}
+use Rattle.kc_table.specs.Samples.{pair_shape, pair_opening, pair_put, no_edges, one_edge, longer_opening, noted_opening, ahead_opening, missing_opening}
+use Rattle.kc_table.specs.Samples.{tied_opening, stamped_opening}
 use Rattle.kc_table.proofs.LegalLogs.{legal-last, legal-holds}
 
 pub opening_list : (state_of shape opening []).list ≡ 0 ∷ 1 ∷ []

@@ -10,7 +10,8 @@ pub returns-then-is_before-clause-answer : goal.returns-then-is_before-clause-an
 returns-then-is_before-clause-answer c =
     let same = c.in_default.ensures.same in
     let is : IsCollect c.args.collect = subst IsCollect c.collect.view_is c.collect.invariant in
-    let held : AllHeld c.args.collect = all_held c.args.collect c.args.pass.now c.load_again.new.pass is (c.requires.table.0 ∙ sym c.requires.table.1) c.requires.last same in
+    let held : AllHeld c.args.collect = all_held c.args.collect c.args.pass.now c.load_again.new.pass is (c.requires.table.0 ∙ sym c.requires.table.1)
+    c.requires.last same in
     let steps = finds_same-steps c.args.pass.now (words_of c.args.collect) c.load_again.new.pass same in
     (same, steps, stood_before c.args.collect is held (c.if-is_before.ensures.0 refl))
 
@@ -18,6 +19,7 @@ pub returns-clause-answer : goal.returns-clause-answer
 returns-clause-answer c =
     let same = c.in_default.ensures.same in
     let is : IsCollect c.args.collect = subst IsCollect c.collect.view_is c.collect.invariant in
-    let held : AllHeld c.args.collect = all_held c.args.collect c.args.pass.now c.load_again.new.pass is (c.requires.table.0 ∙ sym c.requires.table.1) c.requires.last same in
+    let held : AllHeld c.args.collect = all_held c.args.collect c.args.pass.now c.load_again.new.pass is (c.requires.table.0 ∙ sym c.requires.table.1)
+    c.requires.last same in
     let steps = finds_same-steps c.args.pass.now (words_of c.args.collect) c.load_again.new.pass same in
     (same, steps, stood_after c.args.collect is held (λ less. false≢true (c.if-is_before.ensures.1 less)))

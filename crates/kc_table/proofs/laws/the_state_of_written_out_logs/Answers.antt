@@ -1,5 +1,6 @@
 -- Each is a sample of which the definitions compute.
-use Rattle.kc_table.proofs.Samples.{opening_list, pair_put-list, one_put-list, put_and_take-list, open_section-unsealed, two_entries-list, two_entries-entries, two_entries-unsealed, puts-before, puts-first, puts-second}
+use Rattle.kc_table.proofs.Samples.{opening_list, pair_put-list, one_put-list, put_and_take-list, open_section-unsealed, two_entries-list}
+use Rattle.kc_table.proofs.Samples.{two_entries-entries, two_entries-unsealed, puts-before, puts-first, puts-second}
 use Rattle.kc_table.proofs.laws.the_state_of_written_out_logs.Goals as goal
 
 pub returns-clause-opening : goal.returns-clause-opening

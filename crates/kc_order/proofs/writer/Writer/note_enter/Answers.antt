@@ -30,7 +30,9 @@ pub returns-clause-leaves : goal.returns-clause-leaves
 returns-clause-leaves c =
     let fitting : IsFitting (Enter c.args.update.add c.args.index c.args.update.u c.args.update.v) = (c.requires.index, c.requires.fits.0, c.requires.fits.1) in
     let entry : Entry = record { index = c.args.index; add = c.args.update.add; u = c.args.update.u; v = c.args.update.v } in
-    let new : c.store.new.writer ≡ record { table = c.self.inside.seat.table; log = c.self.inside.seat.log ++ event 0 (note_word (Enter c.args.update.add c.args.index c.args.update.u c.args.update.v)) ∷ [] } =
+    let i = c.self.inside.seat in
+    let word = note_word (Enter c.args.update.add c.args.index c.args.update.u c.args.update.v) in
+    let new : c.store.new.writer ≡ record { table = i.table; log = i.log ++ event 0 word ∷ [] } =
     c.store.ensures ∙ ap (λ (value : ℕ). record { table = c.self.inside.seat.table; log = c.self.inside.seat.log ++ event 0 value ∷ [] }) c.pack.ensures.word in
     leaves-now c.self.inside.seat c.args.self.now c.store.new.writer 0 (note_word (Enter c.args.update.add c.args.index c.args.update.u c.args.update.v))
     (λ (s : Seen). entries_after s ++ entry ∷ []) (λ _. []) vertex_word_after c.self.view_is new

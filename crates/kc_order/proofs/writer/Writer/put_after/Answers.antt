@@ -36,6 +36,7 @@ pub returns : goal.returns
 returns c =
     let e = c.put_after.ensures in
     let w : Wrote c.self.inside.seat c.put_after.new.self (note_word (Put c.args.x c.args.p)) c.args.x c.writes.result.now = put-at c.self.inside.seat c.args.self.now c.args.words.now c.self.inside.plain c.put_after.new.self c.args.x c.args.p c.writes.result.now c.self.view_is c.requires.table c.self.invariant c.requires.versions c.requires.x_in c.requires.p_in c.requires.differ c.requires.section c.writes.ensures e.items e.fixed e.list e.written e.highest in
-    put-now c.self.inside.seat c.args.self.now c.store_writes.new.seat c.args.words.now c.self.inside.plain c.put_after.new.self c.args.x c.args.p c.writes.result.now
+    put-now c.self.inside.seat c.args.self.now c.store_writes.new.seat c.args.words.now c.self.inside.plain c.put_after.new.self c.args.x c.args.p
+    c.writes.result.now
     c.self.view_is c.requires.table c.self.invariant w c.requires.x_in c.requires.p_in e.list c.store_writes.ensures
     (twice-put c.self.inside.plain c.put_after.new.self c.args.x e.once e.twice)

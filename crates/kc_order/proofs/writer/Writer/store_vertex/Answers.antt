@@ -35,8 +35,11 @@ returns-clause-leaves c =
     let value = vertex_word record { stamp = c.args.stamp; core = c.args.core } in
     let shape : i.table.shape ≡ c.args.words.now.shape = ap (λ (t : TableName). t.shape) (ap (λ (z : Seen). z.table) c.self.view_is ∙ c.requires.table) in
     let below = subst (λ (s : Shape). c.args.v < s.fixed) (sym shape) c.requires.vertex in
-    let word : c.vertex-word.result ≡ first_vertex i.table.shape + c.args.v = c.vertex-word.ensures ∙ ap (λ (s : Shape). first_vertex s + c.args.v) (c.shape.ensures ∙ sym shape) in
+    let word : c.vertex-word.result ≡ first_vertex i.table.shape + c.args.v = c.vertex-word.ensures ∙ ap (λ (s : Shape). first_vertex s + c.args.v)
+    (c.shape.ensures ∙ sym shape) in
     let new : c.store.new.writer ≡ record { table = i.table; log = i.log ++ event (first_vertex i.table.shape + c.args.v) value ∷ [] } =
     c.store.ensures ∙ ap (λ (e : ℕ × ℕ). record { table = i.table; log = i.log ++ event e.0 e.1 ∷ [] }) (λ j. (word j, c.pack.ensures.word j)) in
-    leaves-now i c.args.self.now c.store.new.writer (first_vertex i.table.shape + c.args.v) value entries_after (λ (s : Seen). without c.args.v (unsealed_after s))
-    (λ (s : Seen) (w : ℕ). cond (eqb w c.args.v) value (vertex_word_after s w)) c.self.view_is new (vertex-leaves i c.self.inside.plain c.args.v value c.self.invariant below)
+    leaves-now i c.args.self.now c.store.new.writer (first_vertex i.table.shape + c.args.v) value entries_after
+    (λ (s : Seen). without c.args.v (unsealed_after s))
+    (λ (s : Seen) (w : ℕ). cond (eqb w c.args.v) value (vertex_word_after s w)) c.self.view_is new
+    (vertex-leaves i c.self.inside.plain c.args.v value c.self.invariant below)
