@@ -11,9 +11,9 @@ use Rattle.kc_graph.specs.Edges.{edge, with_edge, without_edge}
 use Rattle.kc_graph.specs.Neighbours.{AreNeighbours, neighbours_of}
 use Rattle.kc_graph.proofs.Adding.{present}
 use Rattle.kc_graph.proofs.Removing.{missing}
-use Rattle.kc_graph.proofs.EdgeChanges.{adjacent-with, adjacent-without, adjacent-either}
+use Rattle.kc_graph.proofs.EdgeChanges.{adjacent-with, adjacent-without}
 use Rattle.kc_graph.proofs.Ends.{joins, joins-true}
-use Rattle.kc_graph.proofs.Law.{adjacent-self}
+use Rattle.kc_graph.proofs.Law.{adjacent-self, adjacent-sym}
 use Rattle.kc_graph.proofs.RowsLemmas.{pair_total, same_pair}
 use Rattle.kc_table.specs.declared.entry.Entry.{Entry}
 use Rattle.kc_table.specs.declared.view.Event.{Event}
@@ -42,7 +42,7 @@ same-by_pairs : (g h : SimpleGraph) → ((a b : ℕ) → a < b → contains h.ed
 same-by_pairs g h same a b = elim (cases_order a b) [
   | inl e ↦ ap (adjacent h a) (sym e) ∙ (adjacent-self h a ∙ sym (ap (adjacent g a) (sym e) ∙ adjacent-self g a))
   | inr (inl l) ↦ adjacent-below h a b l ∙ (same a b l ∙ sym (adjacent-below g a b l))
-  | inr (inr l) ↦ adjacent-either h a b ∙ (adjacent-below h b a l ∙ (same b a l ∙ (sym (adjacent-below g b a l) ∙ adjacent-either g b a)))
+  | inr (inr l) ↦ adjacent-sym h a b ∙ (adjacent-below h b a l ∙ (same b a l ∙ (sym (adjacent-below g b a l) ∙ adjacent-sym g b a)))
 ]
 
 with-itself : (g : SimpleGraph) (u a b : ℕ) → adjacent (with_edge g u u) a b ≡ adjacent g a b
@@ -62,7 +62,7 @@ named e v w j = elim (joins-true e.u e.v v w j) [
 ]
 
 joined : (g : SimpleGraph) (u v a b : ℕ) → joins u v a b ≡ true → adjacent g a b ≡ adjacent g u v
-joined g u v a b j = elim (joins-true u v a b j) [ inl p ↦ ap₂ (adjacent g) p.0 p.1 | inr p ↦ ap₂ (adjacent g) p.0 p.1 ∙ adjacent-either g v u ]
+joined g u v a b j = elim (joins-true u v a b j) [ inl p ↦ ap₂ (adjacent g) p.0 p.1 | inr p ↦ ap₂ (adjacent g) p.0 p.1 ∙ adjacent-sym g v u ]
 
 not_both : (p q : Bool) → (p && q) ≡ false → q ≡ true → p ≡ false
 not_both p q h k = grind (arith, h, k)
