@@ -24,12 +24,11 @@ use Rattle.kc_agree.specs.Stamps.{made_by, number_of, changes_graph, names, last
 
 -- An edge from a vertex to itself is none. ---------------------------------------------------------
 
-adjacent-below : (g : SimpleGraph) (a b : ℕ) → a < b → adjacent g a b ≡ contains g.edges (a, b)
-adjacent-below g a b l = rw (lt-ltb a b l) refl
-
+-- such an edge's pair
 edge-itself : (u : ℕ) → edge u u ≡ (u, u)
 edge-itself u = elim (ltb u u) as (λ b. ◌≡◌ {A = ℕ × ℕ} (cond b (u, u) (u, u)) (u, u)) [ true ↦ refl | false ↦ refl ]
 
+-- no pair of a lesser and a greater vertex is that
 no_edge : (u a b : ℕ) → a < b → eq_by_cmp pair_cmp (a, b) (edge u u) ≡ false
 no_edge u a b l = false_from_ne_true _ (λ t.
     let e : (a, b) ≡ (u, u) = same_pair (a, b) (edge u u) t ∙ edge-itself u in
@@ -41,10 +40,11 @@ no_edge u a b l = false_from_ne_true _ (λ t.
 same-by_pairs : (g h : SimpleGraph) → ((a b : ℕ) → a < b → contains h.edges (a, b) ≡ contains g.edges (a, b)) → (a b : ℕ) → adjacent h a b ≡ adjacent g a b
 same-by_pairs g h same a b = elim (cases_order a b) [
   | inl e ↦ ap (adjacent h a) (sym e) ∙ (adjacent-self h a ∙ sym (ap (adjacent g a) (sym e) ∙ adjacent-self g a))
-  | inr (inl l) ↦ adjacent-below h a b l ∙ (same a b l ∙ sym (adjacent-below g a b l))
-  | inr (inr l) ↦ adjacent-sym h a b ∙ (adjacent-below h b a l ∙ (same b a l ∙ (sym (adjacent-below g b a l) ∙ adjacent-sym g b a)))
+  | inr (inl l) ↦ rw (lt-ltb a b l) (same a b l)
+  | inr (inr l) ↦ adjacent-sym h a b ∙ (rw (lt-ltb b a l) (same b a l) ∙ adjacent-sym g b a)
 ]
 
+-- putting it or taking it changes no edge
 with-itself : (g : SimpleGraph) (u a b : ℕ) → adjacent (with_edge g u u) a b ≡ adjacent g a b
 with-itself g u = same-by_pairs g (with_edge g u u) (λ a b l.
     contains-insert pair_total g.edges (edge u u) (a, b) ∙ ap (λ t. t || contains g.edges (a, b)) (no_edge u a b l))
@@ -55,15 +55,18 @@ without-itself g u = same-by_pairs g (without_edge g u u) (λ a b l.
 
 -- An entry that is not applied, or that does not name the vertex. ----------------------------------
 
+-- an end of an edge that the entry joins is named
 named : (e : Entry) (v w : ℕ) → joins e.u e.v v w ≡ true → names e v ≡ true
 named e v w j = elim (joins-true e.u e.v v w j) [
   | inl p ↦ or_left (eqb v e.u) (eqb v e.v) (eq-eqb v e.u p.0)
   | inr p ↦ or_right (eqb v e.u) (eqb v e.v) (eq-eqb v e.v p.0)
 ]
 
+-- the same two ends are one edge
 joined : (g : SimpleGraph) (u v a b : ℕ) → joins u v a b ≡ true → adjacent g a b ≡ adjacent g u v
 joined g u v a b j = elim (joins-true u v a b j) [ inl p ↦ ap₂ (adjacent g) p.0 p.1 | inr p ↦ ap₂ (adjacent g) p.0 p.1 ∙ adjacent-sym g v u ]
 
+-- truth tables
 not_both : (p q : Bool) → (p && q) ≡ false → q ≡ true → p ≡ false
 not_both p q h k = grind (arith, h, k)
 
@@ -76,6 +79,7 @@ removed a j h = elim (cases_Bool j) [ inl t ↦ let k = h t in grind (arith, t, 
 not_not : (b : Bool) → not b ≡ false → b ≡ true
 not_not b h = grind (arith, h)
 
+-- an edge that is there is put, or one that is not there is taken, or other ends are asked for
 with-same : (g : SimpleGraph) (u v a b : ℕ) → (joins u v a b ≡ true → adjacent g u v ≡ true) → adjacent (with_edge g u v) a b ≡ adjacent g a b
 with-same g u v a b h = elim (cases_eq u v) [
   | inl e ↦ ap (λ z. adjacent (with_edge g u z) a b) (sym e) ∙ with-itself g u a b
@@ -97,13 +101,16 @@ unchanged g e v none w =
       | false ↦ λ h. without-same g e.u e.v v w (λ j. not_both _ _ h (named e v w j))
     ] none
 
+-- an entry leaves the number of vertices
 pub size-after : (g : SimpleGraph) (e : Entry) → (after_entry g e).size ≡ g.size
 size-after g e = elim e.add as (λ b. (cond b (with_edge g e.u e.v) (without_edge g e.u e.v)).size ≡ g.size) [ true ↦ refl | false ↦ refl ]
 
+-- and so do all
 pub size-after_all : (g : SimpleGraph) (es : List Entry) → (after_entries g es).size ≡ g.size
 size-after_all g [] = refl
 size-after_all g (e ∷ es) = size-after_all (after_entry g e) es ∙ size-after g e
 
+-- of the same edges the same list
 same_neighbours : (g h : SimpleGraph) (v : ℕ) → h.size ≡ g.size → ((w : ℕ) → adjacent h v w ≡ adjacent g v w) → neighbours_of h v ≡ neighbours_of g v
 same_neighbours g h v size same i = reverse (filter (λ w. same w i) (below (size i)))
 
@@ -122,6 +129,7 @@ no_less g (e ∷ es) number v stamp l =
       | false ↦ no_less (after_entry g e) es (suc number) v stamp (omega (arith, l))
     ]
 
+-- nothing is taken of none
 take_none : (k : ℕ) → ◌≡◌ {A = List Entry} (take k []) []
 take_none zero = refl
 take_none (suc k) = refl
@@ -155,6 +163,7 @@ pub current_row : (table : TableName) (opened : SimpleGraph) (stamps : List ℕ)
     → (w : ℕ) → adjacent (after_entries opened (made_by table log).entries) v w ≡ adjacent (edges_after opened table.shape table.opening log at) v w
 current_row table opened stamps log v at le = same_row opened (made_by table log).entries table.shape.base v _ at le
 
+-- the graphs have as many vertices
 pub same_size : (table : TableName) (opened : SimpleGraph) (log : List Event) (at : ℕ)
     → (after_entries opened (made_by table log).entries).size ≡ (edges_after opened table.shape table.opening log at).size
 same_size table opened log at =
@@ -168,6 +177,7 @@ current_list table opened stamps log v at le =
     same_neighbours (edges_after opened table.shape table.opening log at) (after_entries opened (made_by table log).entries) v
     (same_size table opened log at) (current_row table opened stamps log v at le)
 
+-- in the words of neighbours
 pub current_neighbours : (table : TableName) (opened : SimpleGraph) (stamps : List ℕ) (log : List Event) (v at : ℕ) (ws : List ℕ)
     → edge_stamp table opened stamps log v ≤ at
     → AreNeighbours (edges_after opened table.shape table.opening log at) v ws ↔ AreNeighbours (after_entries opened (made_by table log).entries) v ws
@@ -196,10 +206,12 @@ same_edges table opened p q at pre le =
 
 -- One entry more. ---------------------------------------------------------------------------------------
 
+-- one entry behind all others
 pub after_entries-push : (g : SimpleGraph) (es : List Entry) (x : Entry) → after_entries g (es ++ x ∷ []) ≡ after_entry (after_entries g es) x
 after_entries-push g [] x = refl
 after_entries-push g (e ∷ es) x = after_entries-push (after_entry g e) es x
 
+-- and the last change with it
 last_change-push : (g : SimpleGraph) (es : List Entry) (x : Entry) (number v stamp : ℕ)
     → last_change g (es ++ x ∷ []) number v stamp
     ≡ cond (changes_graph x (after_entries g es) && names x v) (number + length es + 1) (last_change g es number v stamp)
@@ -209,7 +221,7 @@ last_change-push g (e ∷ es) x number v stamp =
     last_change-push (after_entry g e) es x (suc number) v now
     ∙ ap (λ n. cond (changes_graph x (after_entries (after_entry g e) es) && names x v) n (last_change (after_entry g e) es (suc number) v now)) (omega arith)
 
--- the edge stamps, and the graph
+-- the edge stamps of a log with one entry more
 pub stamp_next : (table : TableName) (opened : SimpleGraph) (stamps : List ℕ) (old new : List Event) (x : Entry) (v : ℕ)
     → (made_by table new).entries ≡ (made_by table old).entries ++ x ∷ []
     → edge_stamp table opened stamps new v
@@ -219,6 +231,7 @@ stamp_next table opened stamps old new x v is =
     ap (λ es. last_change opened es table.shape.base v (get_or stamps v 0)) is
     ∙ last_change-push opened (made_by table old).entries x table.shape.base v (get_or stamps v 0)
 
+-- and the graph
 pub graph_next : (table : TableName) (opened : SimpleGraph) (old new : List Event) (x : Entry)
     → (made_by table new).entries ≡ (made_by table old).entries ++ x ∷ []
     → after_entries opened (made_by table new).entries ≡ after_entry (after_entries opened (made_by table old).entries) x
@@ -234,6 +247,7 @@ not_applied g e differ none =
 
 -- A stamp is the number of an entry, or as it was at the opening. ----------------------------------------
 
+-- a stamp that has risen is the number of an entry that changed the vertex's edges
 pub last_changed : (g : SimpleGraph) (es : List Entry) (number v stamp : ℕ) → stamp < last_change g es number v stamp
     → IsLastChange g es number v (last_change g es number v stamp)
 last_changed g [] number v stamp lt = absurd (omega (arith, lt))

@@ -28,5 +28,6 @@ returns-in-Ok-push-clause-read c = λ opened h.
     let before = c.args.pass.now in
     let after = c.compare.new.pass in
     order_read before.table after.table opened before.log after.log (answers_in used) _ c.args.x c.args.y c.in-Ok.before
-    c.compare.ensures.table (stood_so before after c.args.x c.args.y c.in-Ok.before c.in-Ok.ensures.compared) (ap of c.in-Ok-push.ensures.items) c.requires.differ
+    c.compare.ensures.table (stood_so before after c.args.x c.args.y c.in-Ok.before c.in-Ok.ensures.compared)
+    (ap of c.in-Ok-push.ensures.items) c.requires.differ
     c.requires.first_read c.requires.second_read h
