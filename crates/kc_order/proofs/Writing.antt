@@ -328,10 +328,11 @@ item-fits now x h x-in = let below = (stands now.table.shape now.table.opening n
 
 -- what a put and a take leave, in the words of the contracts
 pub put-list : (seen now : Seen) (old new : Plain) (x p : ℕ) (writes : List Write) → Tied seen old → Wrote seen new (note_word (Put x p)) x writes → new.list ≡ right_after x p (without x old.list)
-    → now ≡ record { table = seen.table; log = log_of_all seen.log writes (note_word (Put x p)) } → Puts seen now x p
-put-list seen now old new x p writes tied w list is = record {
+    → now ≡ record { table = seen.table; log = log_of_all seen.log writes (note_word (Put x p)) } → ((k : ℕ) → sheet.version new.words k ≤ sheet.version old.words k + 2) → Puts seen now x p
+put-list seen now old new x p writes tied w list is raised = record {
   ends = w.ends_ (Put x p) refl now is;
   list = ap (λ (z : Seen). list_after z.table z.log) is ∙ (w.list ∙ (list ∙ ap (λ l. right_after x p (without x l)) tied.list));
+  raised = λ k h. omega (arith, raised k, ap (λ z. (item_of z).version) (tied.words k h), ap (λ z. (item_of z).version) ((w.tied now is).words k (subst (λ (z : Seen). legal.IsVersioned z.table.shape k) (sym is) h)));
 }
 
 pub taken-list : (seen now : Seen) (old new : Plain) (x : ℕ) (writes : List Write) → Tied seen old → Wrote seen new (note_word (Take x)) x writes → new.list ≡ without x old.list

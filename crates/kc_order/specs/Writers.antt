@@ -37,6 +37,8 @@ pub record EndsWith (old new : Seen) (note : NoteWord) (x : ℕ) : Type 0 where
 pub record Puts (old new : Seen) (x p : ℕ) : Type 0 where
   pub ends : EndsWith old new (Put x p) x
   pub list : list_after new.table new.log ≡ right_after x p (without x (list_after old.table old.log))
+  -- no word of an item or a group is stored more than twice
+  pub raised : (word : ℕ) → IsVersioned old.table.shape word → version_of (value_at new.table.opening new.log word) ≤ version_of (value_at old.table.opening old.log word) + 2
 
 -- x is out now
 pub record Takes (old new : Seen) (x : ℕ) : Type 0 where
