@@ -1,5 +1,5 @@
 -- Laws on plans of certified states.
-use Rattle.std.proofs.Common.{◌≡◌, ◌<◌, ◌≤◌, ◌+◌, ℕ, Bool, true, false, ◌&&◌, ◌||◌, List, length, get_or, leb, refl, sym, ◌∙◌, ap, ap₂, subst, ◌-◌}
+use Rattle.std.proofs.Common.{◌≡◌, ◌<◌, ◌≤◌, ◌+◌, ◌*◌, ℕ, Bool, true, false, ◌&&◌, ◌||◌, List, length, get_or, leb, refl, sym, ◌∙◌, ap, ap₂, subst, ◌-◌}
 use Rattle.std.proofs.Common.{arith, true≢false}
 use Rattle.std.specs.Prelude.{count_by}
 use Rattle.std.proofs.lemmas.Bool.{and_left, false≢true, false_from_ne_true}
@@ -13,13 +13,15 @@ use Rattle.kc_graph.specs.Plans.{moved_by, state_after, put_between, shifted, re
 use Rattle.kc_graph.specs.declared.plan.Moves.{Moves}
 use Rattle.kc_graph.specs.declared.plan.Moves.TheVariants.{Kept, Plain, Rise, Fall}
 use Rattle.kc_graph.specs.declared.plan.Plan.{Plan}
+use Rattle.kc_words.specs.declared.layout.TheConstants.{LAST_VERSION}
 use Rattle.kc_graph.proofs.Law.{adjacent-self}
 use Rattle.kc_cert.specs.Local.{firsts, IsOfLevel, IsLocal, MovesFit, moved_vertices}
 use Rattle.kc_cert.proofs.Ordered.{order-distinct}
 use Rattle.kc_cert.proofs.Keeping.{certified_after, size-after}
-use Rattle.kc_table.specs.Log.{TableName}
+use Rattle.kc_table.specs.Log.{Seen, TableName}
+use Rattle.kc_order.specs.Writers.{IsHighest}
 use Rattle.kc_levels.specs.Heads.{with_heads, after_puts, under, up_to}
-use Rattle.kc_levels.specs.Levels.{Levelled, size_of}
+use Rattle.kc_levels.specs.Levels.{Levelled, OpensSection, size_of}
 use Rattle.kc_levels.specs.Makes.{AreLevelsOf, HasVersions, IsFresh, Makes, MayMake, as_ranked, puts_of, backwards}
 use Rattle.kc_levels.proofs.Planned.{moves-made}
 use Rattle.kc_levels.proofs.Opening.{order-below}
@@ -99,14 +101,14 @@ moved-as s t (Fall level fall) core order = (
   ap (renumbered fall.items (level - 1)) core,
 )
 
--- in a fresh section the moves of a local plan may be made
-pub may-make-local : (s : Ranked) (plan : Plan) (l : Levelled) → IsCertified s → IsLocal s plan → AreLevelsOf s l → IsFresh l
+-- in a fresh section moves that fit may be made where they lead to a certified state
+may-make-fitting : (s : Ranked) (plan : Plan) (l : Levelled) → MovesFit s plan.moves → IsCertified (state_after plan s) → AreLevelsOf s l → IsFresh l
     → HasVersions l (length (moved_vertices plan.moves)) → MayMake l plan.moves
-may-make-local s plan l h local of fresh room =
+may-make-fitting s plan l fits certified of fresh room =
     let next : Ranked = state_after plan s in
     let moved = moved-as s (as_ranked l) plan.moves of.core of.order in
-    let fit : MovesFit (as_ranked l) plan.moves = fits-as s (as_ranked l) plan.moves of.size of.core local.moves_fit in
-    let low : (v : ℕ) → v < next.graph.size → get_or next.core v 0 < next.graph.size = certified-low next (certified_after s plan h local) in
+    let fit : MovesFit (as_ranked l) plan.moves = fits-as s (as_ranked l) plan.moves of.size of.core fits in
+    let low : (v : ℕ) → v < next.graph.size → get_or next.core v 0 < next.graph.size = certified-low next certified in
     let size : next.graph.size ≡ size_of l = size-after plan.update plan.moves s.graph ∙ sym of.size in
     record {
       are = fresh.are;
@@ -118,6 +120,11 @@ may-make-local s plan l h local of fresh room =
       versions = room;
     }
 
+-- so may those of a local plan
+pub may-make-local : (s : Ranked) (plan : Plan) (l : Levelled) → IsCertified s → IsLocal s plan → AreLevelsOf s l → IsFresh l
+    → HasVersions l (length (moved_vertices plan.moves)) → MayMake l plan.moves
+may-make-local s plan l h local of fresh room = may-make-fitting s plan l local.moves_fit (certified_after s plan h local) of fresh room
+
 -- and lead to the levels of the state after the plan
 pub made-local : (s : Ranked) (plan : Plan) (old new : Levelled) → AreLevelsOf s old → Makes old new plan.moves → AreLevelsOf (state_after plan s) new
 made-local s plan old new of made =
@@ -127,3 +134,14 @@ made-local s plan old new of made =
       order = made.order_is ∙ moved.0;
       core = made.core_is ∙ moved.1;
     }
+
+-- They may be made once the section is open, where the greatest version leaves room for a put of each vertex that they move.
+pub may-make-opened : (s : Ranked) (plan : Plan) (old new : Levelled) (index most highest : ℕ) → IsLocal s plan → IsCertified (state_after plan s)
+    → AreLevelsOf s old → OpensSection old new index plan.update → IsHighest new.table new.log highest
+    → most ≡ length (moved_vertices plan.moves) → highest + 3 * most ≤ LAST_VERSION → MayMake new plan.moves
+may-make-opened s plan old new index most highest local certified of opens greatest count room =
+    let size : size_of new ≡ size_of old = ap (λ (z : Seen). z.table.shape.fixed) opens.stores.is in
+    may-make-fitting s plan new local.moves_fit certified
+    record { size = size ∙ of.size; order = opens.order_is ∙ of.order; core = opens.core_is ∙ of.core }
+    record { are = opens.are; open_ = opens.open_is; unmoved = opens.unsealed; may_move = λ v l. opens.may_move v (omega (arith, l, size)) }
+    (λ word k. omega (arith, greatest.bound word k, count, room))

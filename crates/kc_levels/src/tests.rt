@@ -1,5 +1,5 @@
 //! Sections of small graphs: the moves of whole plans, and moves made one by one.
-ghost use Rattle.std.specs.Prelude.{◌≡◌, ◌×◌, IfOk, false, length};
+ghost use Rattle.std.specs.Prelude.{◌≡◌, ◌<◌, IfOk, false, length};
 ghost use Rattle.kc_graph.specs.Plans.{state_after};
 ghost use Rattle.kc_levels.specs.Levels.{AreLevels, size_of};
 ghost use Rattle.kc_levels.specs.Makes.{AreLevelsOf};
@@ -70,12 +70,18 @@ fn make_plan<R: Abort + AllocGlobal>(
     ensures closed { IfOk result (λ _. AreLevels levels.new × (levels.new.open_ ≡ false)) }
     ensures of { IfOk result (λ _. AreLevelsOf (state_after plan.now state.now) levels.new) }
 {
-    assert!(rt; local_check(rt.alloc(), state, plan)?);
+    let is_local = local_check(rt.alloc(), state, plan)?;
+    if !is_local {
+        return Err("the plan fails the local test".into());
+    }
     assert!(rt; levels.number() < LAST_NUMBER);
     levels.open_section(words, 0, plan.update);
     let most = moved_count(&plan.moves);
     assert!(rt; most <= VERTICES as usize);
-    assert!(rt; levels.highest() as usize + 3 * most <= LAST_VERSION as usize);
+    let spent = levels.highest() as usize + 3 * most;
+    if spent > LAST_VERSION as usize {
+        return Err("the versions are spent".into());
+    }
     make_moves(levels, words, &plan.moves);
     levels.end_section();
     Ok(())
@@ -83,7 +89,7 @@ fn make_plan<R: Abort + AllocGlobal>(
 
 /// The vertices stand in this order, each before the next, and at these levels; the last section moved just these.
 fn assert_stand<R: Abort>(rt: &R, levels: &Levels, left: Left)
-    requires { length left.core ≡ size_of levels.now }
+    requires { length left.core.now ≡ size_of levels.now }
 {
     let mut at = levels.first();
     for v in left.order {
