@@ -20,7 +20,7 @@ pub struct Graph {
 
 impl Model for Graph {
     ghost use Rattle.kc_graph.specs.SimpleGraph.{SimpleGraph};
-    ghost use Rattle.kc_graph.specs.Rows.{graph_of, lists, code_of_graph, IsKept};
+    ghost use Rattle.kc_graph.specs.Rows.{graph_of, lists, code_of_graph, HoldsEdges};
 
     ghost Value = { SimpleGraph };
 
@@ -28,7 +28,7 @@ impl Model for Graph {
 
     ghost view = { λ a. graph_of (lists a.rows.items) };
 
-    ghost invariant = { λ a. IsKept (lists a.rows.items) a.edges };
+    ghost invariant = { λ a. HoldsEdges (lists a.rows.items) a.edges };
 }
 
 impl Graph {
