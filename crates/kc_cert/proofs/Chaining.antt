@@ -66,10 +66,10 @@ place_of-first y v vs e = ap (λ b. cond b 0 (suc (place_of y vs))) (eq-eqb y v 
 pub place_of-next : (y v : ℕ) (vs : List ℕ) → y ≢ v → place_of y (v ∷ vs) ≡ suc (place_of y vs)
 place_of-next y v vs ne = ap (λ b. cond b 0 (suc (place_of y vs))) (ne_eqb y v ne)
 
-right_after-here : (x w v : ℕ) (vs : List ℕ) → w ≡ v → right_after x w (v ∷ vs) ≡ v ∷ x ∷ vs
+pub right_after-here : (x w v : ℕ) (vs : List ℕ) → w ≡ v → right_after x w (v ∷ vs) ≡ v ∷ x ∷ vs
 right_after-here x w v vs e = ap (λ b. cond b (v ∷ x ∷ vs) (v ∷ right_after x w vs)) (eq-eqb w v e)
 
-right_after-next : (x w v : ℕ) (vs : List ℕ) → w ≢ v → right_after x w (v ∷ vs) ≡ v ∷ right_after x w vs
+pub right_after-next : (x w v : ℕ) (vs : List ℕ) → w ≢ v → right_after x w (v ∷ vs) ≡ v ∷ right_after x w vs
 right_after-next x w v vs ne = ap (λ b. cond b (v ∷ x ∷ vs) (v ∷ right_after x w vs)) (ne_eqb w v ne)
 
 both_next : (a b : ℕ) → ltb (suc a) (suc b) ≡ ltb a b

@@ -97,7 +97,7 @@ pub record IsPutRight (s : Ranked) (level : ℕ) (rise : List ℕ) (shifts : Lis
 abbrev pub ArePutRight : Ranked → ℕ → List ℕ → List (ℕ × ℕ) → Type 0
 ArePutRight s level rise shifts = ((w : ℕ) → member w (seconds shifts) ≡ true → IsOfLevel s level w × (member w rise ≡ false)) × AreInTurn shifts
 
-seconds-at : (shifts : List (ℕ × ℕ)) (k : ℕ) → k < length shifts → member (get_or shifts k (0, 0)).1 (seconds shifts) ≡ true
+pub seconds-at : (shifts : List (ℕ × ℕ)) (k : ℕ) → k < length shifts → member (get_or shifts k (0, 0)).1 (seconds shifts) ≡ true
 seconds-at [] k l = absurd (omega arith)
 seconds-at (shift ∷ shifts) zero l = member-head shift.1 (seconds shifts)
 seconds-at (shift ∷ shifts) (suc k) l = member-tail (get_or shifts k (0, 0)).1 shift.1 (seconds shifts) (seconds-at shifts k (omega arith))

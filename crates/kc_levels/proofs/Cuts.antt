@@ -6,6 +6,7 @@ use Rattle.std.proofs.lemmas.Bool.{cases_Bool, cases_eq, false≢true, false_fro
 use Rattle.kc_distinct.specs.Lists.{member, Distinct, without, right_after, last_or, prev_of}
 use Rattle.kc_distinct.proofs.Counting.{member-filter}
 use Rattle.kc_distinct.proofs.Members.{member-head, member-tail, member-cases, not_member-parts, member-last_or, without-none}
+use Rattle.kc_cert.proofs.Chaining.{right_after-here, right_after-next}
 
 -- the first passes and stays
 pub filter-yes : (p : ℕ → Bool) (x : ℕ) (xs : List ℕ) → p x ≡ true → filter p (x ∷ xs) ≡ x ∷ filter p xs
@@ -97,14 +98,6 @@ filter-but q v (x ∷ xs) =
           ap (λ b. cond b (x ∷ filter test xs) (filter test xs)) is
           ∙ (ap (λ (zs : List ℕ). cond (q x) (x ∷ zs) zs) (filter-but q v xs) ∙ ap (filter q) (sym (without-next v x xs ne)))
     ]
-
--- the first is the place
-pub right_after-here : (x p y : ℕ) (ys : List ℕ) → p ≡ y → right_after x p (y ∷ ys) ≡ y ∷ x ∷ ys
-right_after-here x p y ys e = ap (λ b. cond b (y ∷ x ∷ ys) (y ∷ right_after x p ys)) (eq-eqb p y e)
-
--- the first is not the place
-pub right_after-next : (x p y : ℕ) (ys : List ℕ) → p ≢ y → right_after x p (y ∷ ys) ≡ y ∷ right_after x p ys
-right_after-next x p y ys ne = ap (λ b. cond b (y ∷ x ∷ ys) (y ∷ right_after x p ys)) (ne_eqb p y ne)
 
 -- where the place is not in the list, nothing changes
 pub right_after-none : (x p : ℕ) (ys : List ℕ) → member p ys ≡ false → right_after x p ys ≡ ys

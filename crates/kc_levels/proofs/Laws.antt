@@ -2,7 +2,7 @@
 use Rattle.std.proofs.Common.{◌≡◌, ◌<◌, ◌≤◌, ◌+◌, ◌*◌, ℕ, Bool, true, false, ◌&&◌, ◌||◌, List, length, get_or, leb, refl, sym, ◌∙◌, ap, ap₂, subst, ◌-◌}
 use Rattle.std.proofs.Common.{arith, true≢false}
 use Rattle.std.specs.Prelude.{count_by}
-use Rattle.std.proofs.lemmas.Bool.{and_left, false≢true, false_from_ne_true}
+use Rattle.std.proofs.lemmas.Bool.{and_left, false_from_ne_true}
 use Rattle.kc_distinct.specs.Lists.{member, Distinct}
 use Rattle.kc_distinct.proofs.Members.{below_bound}
 use Rattle.kc_distinct.proofs.Counting.{count-miss, member-from_Contains}
@@ -15,7 +15,7 @@ use Rattle.kc_graph.specs.declared.plan.Moves.TheVariants.{Kept, Plain, Rise, Fa
 use Rattle.kc_graph.specs.declared.plan.Plan.{Plan}
 use Rattle.kc_words.specs.declared.layout.TheConstants.{LAST_VERSION}
 use Rattle.kc_graph.proofs.Law.{adjacent-self}
-use Rattle.kc_cert.specs.Local.{firsts, IsOfLevel, IsLocal, MovesFit, moved_vertices}
+use Rattle.kc_cert.specs.Local.{firsts, level_of, IsOfLevel, IsLocal, MovesFit, moved_vertices}
 use Rattle.kc_cert.proofs.Ordered.{order-distinct}
 use Rattle.kc_cert.proofs.Keeping.{certified_after, size-after}
 use Rattle.kc_table.specs.Log.{Seen, TableName}
@@ -49,15 +49,15 @@ pub puts-once : (s : Ranked) (moves : Moves) → MovesFit s moves
 puts-once s Kept fit = (tt, λ v. refl)
 puts-once s Plain fit = (tt, λ v. refl)
 puts-once s (Rise level rise shifts) fit =
-    let both = both-distinct rise.items (firsts shifts.items) fit.0 in (
+    let both = both-distinct rise.items (firsts shifts.items) fit.once in (
       Distinct-append (firsts shifts.items) (backwards rise.items) both.1 (Distinct-backwards rise.items both.0)
           (λ y m. member-backwards y rise.items
-          ∙ false_from_ne_true (member y rise.items) (λ q. true≢false (sym m ∙ Distinct-apart rise.items (firsts shifts.items) fit.0 y q))),
+          ∙ false_from_ne_true (member y rise.items) (λ q. true≢false (sym m ∙ Distinct-apart rise.items (firsts shifts.items) fit.once y q))),
       λ v. has-both v (firsts shifts.items) (backwards rise.items)
           ∙ (ap (λ q. member v (firsts shifts.items) || q) (member-backwards v rise.items)
           ∙ (or_swap (member v (firsts shifts.items)) (member v rise.items) ∙ sym (has-both v rise.items (firsts shifts.items)))),
     )
-puts-once s (Fall level fall) fit = (fit.0, λ v. refl)
+puts-once s (Fall level fall) fit = (fit.once, λ v. refl)
 
 -- What a planner's state tells of the levels. --------------------------------------------------------
 
@@ -67,25 +67,14 @@ of-level-as s t level x size core h = record { vertex = omega (arith, h.vertex, 
 
 -- moves that fit, in states with the same numbers
 fits-as : (s t : Ranked) (moves : Moves) → t.graph.size ≡ s.graph.size → t.core ≡ s.core → MovesFit s moves → MovesFit t moves
-fits-as s t Kept size core fit = tt
-fits-as s t Plain size core fit = tt
-fits-as s t (Rise level rise shifts) size core fit = (
-  fit.0,
-  λ x m. of-level-as s t level x size core (fit.1 x m),
-  λ w m. (of-level-as s t level w size core (fit.2 w m).0, (fit.2 w m).1),
-  fit.3,
-)
-fits-as s t (Fall level fall) size core fit = (
-  fit.0,
-  λ x m. (of-level-as s t level x size core (fit.1 x m).0, (fit.1 x m).1),
-)
-
--- moves that fit move vertices
-moved-in : (s : Ranked) (moves : Moves) → MovesFit s moves → (v : ℕ) → member v (moved_vertices moves) ≡ true → v < s.graph.size
-moved-in s Kept fit v m = absurd (false≢true m)
-moved-in s Plain fit v m = absurd (false≢true m)
-moved-in s (Rise level rise shifts) fit v m = (fit.1 v m).vertex
-moved-in s (Fall level fall) fit v m = (fit.1 v m).0.vertex
+fits-as s t moves size core fit = record {
+  once = fit.once;
+  of_level = λ x m. of-level-as s t (level_of moves) x size core (fit.of_level x m);
+  above_0 = fit.above_0;
+  after_level = λ w m. of-level-as s t (level_of moves) w size core (fit.after_level w m);
+  after_staying = fit.after_staying;
+  in_turn = fit.in_turn;
+}
 
 -- what moves make, in states with the same numbers and order
 moved-as : (s t : Ranked) (moves : Moves) → t.core ≡ s.core → t.order ≡ s.order
@@ -115,7 +104,7 @@ may-make-fitting s plan l fits certified of fresh room =
       open_ = fresh.open_;
       fit = fit;
       fresh = fresh.unmoved;
-      once = λ v m. (fresh.may_move v (moved-in (as_ranked l) plan.moves fit v m)).once;
+      once = λ v m. (fresh.may_move v (fit.of_level v m).vertex).once;
       low = λ v k. subst (λ (c : List ℕ). get_or c v 0 < size_of l) (sym moved.1) (omega (arith, low v (omega (arith, k, size)), size));
       versions = room;
     }

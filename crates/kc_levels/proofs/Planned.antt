@@ -344,18 +344,18 @@ moves-made s (Rise level rise shifts) h fit =
     let all : (y : ℕ) → y < n → member y s.order ≡ true = λ y l. order-has n s.order h.enumerates y ∙ member-below y n l in
     let within : (y : ℕ) → member y s.order ≡ true → y < n = λ y m. below-member y n (sym (order-has n s.order h.enumerates y) ∙ m) in
     let f : AreOf n s.core level (firsts shifts.items) = λ x m. let k =
-    fit.1 x (member-append_right x rise.items (firsts shifts.items) m) in (k.vertex, k.of_level) in
-    let g : AreOf n s.core level (seconds shifts.items) = λ x m. let k = (fit.2 x m).0 in (k.vertex, k.of_level) in
+    fit.of_level x (member-append_right x rise.items (firsts shifts.items) m) in (k.vertex, k.of_level) in
+    let g : AreOf n s.core level (seconds shifts.items) = λ x m. let k = fit.after_level x m in (k.vertex, k.of_level) in
     let there : List ℕ = shifted shifts.items s.order in
-    let same : (y : ℕ) → member y there ≡ member y s.order = shifted-has shifts.items s.order fit.3 (λ x m. all x (f x m).0) (λ x m. all x (g x m).0) in
-    ap (put_each_first (n + (level + 1)) rise.items) (shifts-made n level s.core shifts.items s.order h.long within all fit.3 f g)
+    let same : (y : ℕ) → member y there ≡ member y s.order = shifted-has shifts.items s.order fit.in_turn (λ x m. all x (f x m).0) (λ x m. all x (g x m).0) in
+    ap (put_each_first (n + (level + 1)) rise.items) (shifts-made n level s.core shifts.items s.order h.long within all fit.in_turn f g)
     ∙ rise-made n level s.core there rise.items record {
       long = h.long;
       within = λ y m. within y (sym (same y) ∙ m);
       all = λ y l. same y ∙ all y l;
       distinct = shifted-distinct shifts.items s.order (order-distinct n s.order h.enumerates);
-      once = Distinct-front rise.items (firsts shifts.items) fit.0;
-      of_level = λ x m. let k = fit.1 x (member-append_left x rise.items (firsts shifts.items) m) in (k.vertex, k.of_level);
+      once = Distinct-front rise.items (firsts shifts.items) fit.once;
+      of_level = λ x m. let k = fit.of_level x (member-append_left x rise.items (firsts shifts.items) m) in (k.vertex, k.of_level);
       low = h.low;
     }
   where
@@ -367,12 +367,12 @@ moves-made s (Rise level rise shifts) h fit =
         (Distinct-right_after shift.0 shift.1 (without shift.0 order) (Distinct-without shift.0 order d) (not_member-without shift.0 order))
 moves-made s (Fall level fall) h fit =
     let n : ℕ = s.graph.size in
-    fall-made n level s.core s.order fall.items (λ x m. (fit.1 x m).1) record {
+    fall-made n level s.core s.order fall.items (λ x m. fit.above_0 x m) record {
       long = h.long;
       within = λ y m. below-member y n (sym (order-has n s.order h.enumerates y) ∙ m);
       all = λ y l. order-has n s.order h.enumerates y ∙ member-below y n l;
       distinct = order-distinct n s.order h.enumerates;
-      once = fit.0;
-      of_level = λ x m. let k = (fit.1 x m).0 in (k.vertex, k.of_level);
+      once = fit.once;
+      of_level = λ x m. let k = fit.of_level x m in (k.vertex, k.of_level);
       low = h.low;
     }

@@ -4,6 +4,7 @@ use Rattle.std.specs.List.{filter}
 use Rattle.std.proofs.lemmas.Bool.{cases_Bool, cases_eq, cases_order, false≢true, lt-ltb}
 use Rattle.kc_distinct.specs.Lists.{member, place_of}
 use Rattle.kc_distinct.proofs.Counting.{filter-member, member-other}
+use Rattle.kc_cert.proofs.Chaining.{place_of-first, place_of-next}
 use Rattle.kc_table.specs.Log.{Seen}
 use Rattle.kc_table.proofs.Listed.{Listed, stands}
 use Rattle.kc_order.specs.Standing.{StandsBefore, list_after}
@@ -11,29 +12,21 @@ use Rattle.kc_levels.specs.Heads.{vertices_of}
 use Rattle.kc_levels.specs.Levels.{Levelled, levelled, Tallied, size_of}
 use Rattle.kc_levels.proofs.Cuts.{filter-yes, filter-no}
 
--- the place of the first
-place-here : (x y : ℕ) (ys : List ℕ) → x ≡ y → place_of x (y ∷ ys) ≡ 0
-place-here x y ys e = ap (λ b. cond b 0 (suc (place_of x ys))) (eq-eqb x y e)
-
--- the place of another
-place-next : (x y : ℕ) (ys : List ℕ) → x ≢ y → place_of x (y ∷ ys) ≡ suc (place_of x ys)
-place-next x y ys ne = ap (λ b. cond b 0 (suc (place_of x ys))) (ne_eqb x y ne)
-
 -- a filter keeps which of two that pass stands first
 place-filter : (p : ℕ → Bool) (x y : ℕ) (xs : List ℕ) → p x ≡ true → p y ≡ true → place_of x xs < place_of y xs
     → place_of x (filter p xs) < place_of y (filter p xs)
 place-filter p x y [] px py l = absurd (omega (arith, l))
 place-filter p x y (z ∷ xs) px py l = elim (cases_eq y z) [
-  | inl e ↦ absurd (omega (arith, l, place-here y z xs e))
+  | inl e ↦ absurd (omega (arith, l, place_of-first y z xs e))
   | inr ny ↦ elim (cases_eq x z) [
     | inl e ↦
         let is = filter-yes p z xs (sym (ap p e) ∙ px) in
-        omega (arith, ap (place_of x) is, ap (place_of y) is, place-here x z (filter p xs) e, place-next y z (filter p xs) ny)
+        omega (arith, ap (place_of x) is, ap (place_of y) is, place_of-first x z (filter p xs) e, place_of-next y z (filter p xs) ny)
     | inr nx ↦
-        let rest = place-filter p x y xs px py (omega (arith, l, place-next x z xs nx, place-next y z xs ny)) in
+        let rest = place-filter p x y xs px py (omega (arith, l, place_of-next x z xs nx, place_of-next y z xs ny)) in
         elim (cases_Bool (p z)) [
           | inl t ↦ let is = filter-yes p z xs t in omega
-              (arith, rest, ap (place_of x) is, ap (place_of y) is, place-next x z (filter p xs) nx, place-next y z (filter p xs) ny)
+              (arith, rest, ap (place_of x) is, ap (place_of y) is, place_of-next x z (filter p xs) nx, place_of-next y z (filter p xs) ny)
           | inr f ↦ let is = filter-no p z xs f in omega (arith, rest, ap (place_of x) is, ap (place_of y) is)
         ]
   ]
@@ -43,10 +36,10 @@ place-filter p x y (z ∷ xs) px py l = elim (cases_eq y z) [
 place-apart : (x y : ℕ) (xs : List ℕ) → member x xs ≡ true → x ≢ y → place_of x xs ≢ place_of y xs
 place-apart x y [] m ne = absurd (false≢true m)
 place-apart x y (z ∷ xs) m ne = elim (cases_eq x z) [
-  | inl e ↦ λ q. omega (arith, q, place-here x z xs e, place-next y z xs (λ k. ne (e ∙ sym k)))
+  | inl e ↦ λ q. omega (arith, q, place_of-first x z xs e, place_of-next y z xs (λ k. ne (e ∙ sym k)))
   | inr nx ↦ elim (cases_eq y z) [
-    | inl e ↦ λ q. omega (arith, q, place-here y z xs e, place-next x z xs nx)
-    | inr ny ↦ λ q. place-apart x y xs (member-other x z xs nx m) ne (omega (arith, q, place-next x z xs nx, place-next y z xs ny))
+    | inl e ↦ λ q. omega (arith, q, place_of-first y z xs e, place_of-next x z xs nx)
+    | inr ny ↦ λ q. place-apart x y xs (member-other x z xs nx m) ne (omega (arith, q, place_of-next x z xs nx, place_of-next y z xs ny))
   ]
 ]
 

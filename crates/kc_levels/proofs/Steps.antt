@@ -144,12 +144,6 @@ firsts-at [] i l = absurd (omega (arith, l))
 firsts-at (s ∷ shifts) zero l = member-head s.0 (firsts shifts)
 firsts-at (s ∷ shifts) (suc i) l = member-tail (get_or shifts i (0, 0)).0 s.0 (firsts shifts) (firsts-at shifts i (omega (arith, l)))
 
--- the second is among the seconds
-pub seconds-at : (shifts : List (ℕ × ℕ)) (i : ℕ) → i < length shifts → member (get_or shifts i (0, 0)).1 (seconds shifts) ≡ true
-seconds-at [] i l = absurd (omega (arith, l))
-seconds-at (s ∷ shifts) zero l = member-head s.1 (seconds shifts)
-seconds-at (s ∷ shifts) (suc i) l = member-tail (get_or shifts i (0, 0)).1 s.1 (seconds shifts) (seconds-at shifts i (omega (arith, l)))
-
 -- no vertex is put after itself
 pub turn-differs : (shifts : List (ℕ × ℕ)) (i : ℕ) → i < length shifts → AreInTurn shifts → (get_or shifts i (0, 0)).0 ≢ (get_or shifts i (0, 0)).1
 turn-differs [] i l t = absurd (omega (arith, l))

@@ -18,7 +18,7 @@ room : (l : Levelled) (moves : Moves) (level : ℕ) (rise : Vec ℕ Global) (shi
 room l moves level rise shifts xs may is same v m =
     let h = subst (MayMake l) is may in
     let there : member v rise.items ≡ true = ap (member v) (sym same) ∙ m in
-    let vertex : v < size_of l = (h.fit.1 v (member-append_left v rise.items (firsts shifts.items) there)).vertex in
+    let vertex : v < size_of l = (h.fit.of_level v (member-append_left v rise.items (firsts shifts.items) there)).vertex in
     omega (arith, h.low v vertex, renumbered-moved rise.items (level + 1) l.core v (omega (arith, vertex, h.are.long)) there)
 
 made-rise : (old new : Levelled) (moves : Moves) (level : ℕ) (rise : Vec ℕ Global) (shifts : Vec (ℕ × ℕ) Global) (xs : List ℕ) (ys : List (ℕ × ℕ))

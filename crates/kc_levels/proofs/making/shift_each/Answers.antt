@@ -1,7 +1,8 @@
 -- One shift more at each turn.
 use Rattle.std.proofs.Common.{ℕ, get_or, ap, arith, refl}
 use Rattle.kc_table.specs.Log.{TableName}
-use Rattle.kc_levels.proofs.Steps.{puts-none, shift-may, shift-step, seconds-at, firsts-at, turn-differs}
+use Rattle.kc_cert.proofs.Turns.{seconds-at}
+use Rattle.kc_levels.proofs.Steps.{puts-none, shift-may, shift-step, firsts-at, turn-differs}
 use Rattle.kc_levels.proofs.making.shift_each.Goals as goal
 
 pub loop-x-init : goal.loop-x-init
