@@ -1,5 +1,5 @@
 -- Laws on plans of certified states.
-use Rattle.std.proofs.Common.{◌≡◌, ◌<◌, ◌≤◌, ◌+◌, ◌*◌, ℕ, Bool, true, false, ◌&&◌, ◌||◌, List, length, get_or, leb, refl, sym, ◌∙◌, ap, ap₂, subst, ◌-◌}
+use Rattle.std.proofs.Common.{◌≡◌, ◌<◌, ◌≤◌, ◌+◌, ◌*◌, ℕ, Bool, false, ◌&&◌, ◌||◌, List, length, get_or, leb, refl, sym, ◌∙◌, ap, ap₂, subst, ◌-◌}
 use Rattle.std.proofs.Common.{arith, true≢false}
 use Rattle.std.specs.Prelude.{count_by}
 use Rattle.std.proofs.lemmas.Bool.{and_left, false_from_ne_true}

@@ -6,7 +6,7 @@ use Rattle.std.proofs.lemmas.Bool.{cases_Bool, cases_lt, false_from_ne_true, lt-
 use Rattle.std.proofs.lemmas.List.{set-get_or}
 use Rattle.std.proofs.lemmas.List.Elements.{filter-append}
 use Rattle.kc_distinct.specs.Lists.{member, Distinct, without, prev_of}
-use Rattle.kc_distinct.proofs.Members.{member-head, member-tail, member-append_left, member-append_right, not_member-append, append-not_member}
+use Rattle.kc_distinct.proofs.Members.{member-head, member-tail, member-append_left, member-append_right, append-not_member}
 use Rattle.kc_distinct.proofs.Members.{Distinct-cut, Distinct-right_after, Distinct-without, not_member-without}
 use Rattle.kc_distinct.proofs.Counting.{member-filter, member-below, below-member, Distinct-filter, member-push}
 use Rattle.kc_distinct.proofs.Shared.{Distinct-append, Distinct-front}

@@ -1,5 +1,5 @@
 -- How vertices stand in the list is how they stand in the order.
-use Rattle.std.proofs.Common.{◌↔◌, ◌≡◌, ◌≢◌, ◌<◌, ℕ, suc, Bool, true, cond, List, [], ◌∷◌, ltb, sym, ◌∙◌, ap, subst, inl, inr, arith, eq-eqb, ne_eqb}
+use Rattle.std.proofs.Common.{◌↔◌, ◌≡◌, ◌≢◌, ◌<◌, ℕ, Bool, true, List, [], ◌∷◌, ltb, sym, ◌∙◌, ap, subst, inl, inr, arith}
 use Rattle.std.specs.List.{filter}
 use Rattle.std.proofs.lemmas.Bool.{cases_Bool, cases_eq, cases_order, false≢true, lt-ltb}
 use Rattle.kc_distinct.specs.Lists.{member, place_of}

@@ -11,7 +11,7 @@ use Rattle.kc_distinct.proofs.Counting.{member-push, member-get_or, take-not_her
 use Rattle.kc_distinct.proofs.Shared.{Distinct-front, Distinct-back}
 use Rattle.kc_words.specs.VertexWord.{vertex_of, vertex_word}
 use Rattle.kc_graph.specs.Plans.{put_between, renumbered, shifted}
-use Rattle.kc_cert.specs.Local.{firsts, seconds, AreInTurn}
+use Rattle.kc_cert.specs.Local.{firsts, AreInTurn}
 use Rattle.kc_cert.proofs.Turns.{firsts-more}
 use Rattle.kc_table.specs.Log.{Seen, TableName}
 use Rattle.kc_table.specs.State.{first_vertex}

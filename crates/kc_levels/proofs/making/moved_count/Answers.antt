@@ -1,5 +1,5 @@
 -- As many vertices are shifted as there are shifts.
-use Rattle.std.proofs.Common.{◌≡◌, ℕ, length, ap, sym, ◌∙◌, arith, length-append}
+use Rattle.std.proofs.Common.{length, ap, arith, length-append}
 use Rattle.kc_cert.specs.Local.{firsts, moved_vertices}
 use Rattle.kc_graph.specs.declared.plan.Moves.{Moves}
 use Rattle.kc_levels.proofs.Steps.{length-firsts}
