@@ -13,7 +13,8 @@ use Rattle.kc_cert.proofs.Chaining.{place_of-first, place_of-next}
 use Rattle.kc_cert.proofs.Ordered.{rank-here}
 use Rattle.kc_distinct.proofs.Shared.{Distinct-back}
 
-firsts-append : (xs ys : List (ℕ × ℕ)) → firsts (xs ++ ys) ≡ firsts xs ++ firsts ys
+-- the vertices of some shifts and then of more
+pub firsts-append : (xs ys : List (ℕ × ℕ)) → firsts (xs ++ ys) ≡ firsts xs ++ firsts ys
 firsts-append [] ys = refl
 firsts-append (x ∷ xs) ys = ap (λ (zs : List ℕ). x.0 ∷ zs) (firsts-append xs ys)
 

@@ -71,7 +71,7 @@ enter-at s log core stamps number size index update h fits u-in v-in most stores
       rising = subst (Rises core) (sym order-is) are.rising;
       long = are.long;
       low = are.low;
-      quiet = λ w. subst (λ (z : State). legal.Follows z.note w) (sym at) tt;
+      quiet = λ w. subst (λ (z : State). legal.FollowsNote z.note w) (sym at) tt;
       words = λ w l out. ap (λ (z : ℕ). (vertex_of z).core) (words w) ∙ are.words w l (ap (member w) none);
       unsealed = λ w m. absurd (false≢true (sym (ap (member w) now-none) ∙ m));
       inside = λ q. omega (arith, many);

@@ -19,10 +19,10 @@ use Rattle.kc_cert.specs.Local.{firsts, level_of, IsOfLevel, IsLocal, MovesFit, 
 use Rattle.kc_cert.proofs.Ordered.{order-distinct}
 use Rattle.kc_cert.proofs.Keeping.{certified_after, size-after}
 use Rattle.kc_table.specs.Log.{Seen, TableName}
-use Rattle.kc_order.specs.Writers.{IsHighest}
+use Rattle.kc_order.specs.Writers.{HasRoom, IsHighest}
 use Rattle.kc_levels.specs.Heads.{with_heads, after_puts, under, up_to}
 use Rattle.kc_levels.specs.Levels.{Levelled, OpensSection, size_of}
-use Rattle.kc_levels.specs.Makes.{AreLevelsOf, HasVersions, IsFresh, Makes, MayMake, as_ranked, puts_of, backwards}
+use Rattle.kc_levels.specs.Makes.{AreLevelsOf, IsFresh, Makes, MayMake, as_ranked, puts_of, backwards}
 use Rattle.kc_levels.proofs.Planned.{moves-made}
 use Rattle.kc_levels.proofs.Opening.{order-below}
 use Rattle.kc_levels.proofs.Steps.{both-distinct, Distinct-apart, Distinct-backwards, member-backwards, has-both, or_swap}
@@ -92,7 +92,7 @@ moved-as s t (Fall level fall) core order = (
 
 -- in a fresh section moves that fit may be made where they lead to a certified state
 may-make-fitting : (s : Ranked) (plan : Plan) (l : Levelled) → MovesFit s plan.moves → IsCertified (state_after plan s) → AreLevelsOf s l → IsFresh l
-    → HasVersions l (length (moved_vertices plan.moves)) → MayMake l plan.moves
+    → HasRoom l.table l.log (3 * length (moved_vertices plan.moves)) → MayMake l plan.moves
 may-make-fitting s plan l fits certified of fresh room =
     let next : Ranked = state_after plan s in
     let moved = moved-as s (as_ranked l) plan.moves of.core of.order in
@@ -111,7 +111,7 @@ may-make-fitting s plan l fits certified of fresh room =
 
 -- so may those of a local plan
 pub may-make-local : (s : Ranked) (plan : Plan) (l : Levelled) → IsCertified s → IsLocal s plan → AreLevelsOf s l → IsFresh l
-    → HasVersions l (length (moved_vertices plan.moves)) → MayMake l plan.moves
+    → HasRoom l.table l.log (3 * length (moved_vertices plan.moves)) → MayMake l plan.moves
 may-make-local s plan l h local of fresh room = may-make-fitting s plan l local.moves_fit (certified_after s plan h local) of fresh room
 
 -- and lead to the levels of the state after the plan

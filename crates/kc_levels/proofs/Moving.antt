@@ -1,5 +1,5 @@
 -- What a put of a vertex makes of levels.
-use Rattle.std.proofs.Common.{◌⊎◌, ◌≡◌, ◌≢◌, ◌<◌, ◌≤◌, ◌+◌, ◌*◌, ◌^◌, ℕ, zero, suc, Bool, true, List, [], ◌∷◌, ◌++◌, length, get_or, set, ltb, refl}
+use Rattle.std.proofs.Common.{◌⊎◌, ◌≡◌, ◌≢◌, ◌<◌, ◌≤◌, ◌+◌, ◌*◌, ℕ, zero, suc, Bool, true, List, [], ◌∷◌, ◌++◌, length, get_or, set, ltb, refl}
 use Rattle.std.proofs.Common.{sym, ◌∙◌, ap, ap₂, subst, inl, inr, arith, true≢false, length-set}
 use Rattle.std.proofs.lemmas.Bool.{cases_eq, lt-ltb, ltb-true, ltb-false, leb-true, leb-false, false≢true}
 use Rattle.std.proofs.lemmas.List.{get_or-set_same, get_or-set_other, get_or_read}
@@ -9,7 +9,6 @@ use Rattle.kc_distinct.proofs.Members.{member-last_or}
 use Rattle.kc_distinct.proofs.Counting.{member-filter, filter-member, Distinct-filter, member-get_or, pairs_from_Distinct, Contains-from_member}
 use Rattle.kc_distinct.proofs.Counting.{member-from_Contains}
 use Rattle.kc_words.specs.VertexWord.{vertex_of}
-use Rattle.kc_words.specs.declared.layout.TheConstants.{ITEM_BITS}
 use Rattle.kc_graph.specs.Certificate.{Enumerates}
 use Rattle.kc_graph.specs.Plans.{put_between}
 use Rattle.kc_cert.proofs.Final.{final-has}
@@ -74,10 +73,9 @@ moved-at s log core core' open_ v p order' are may puts p-in list-is rises withi
     let old : Levelled = levelled s core open_ in
     let now : Seen = record { table = s.table; log = log } in
     let t : State = state_of shape s.table.opening log in
-    let fits : shape.items < 2 ^ ITEM_BITS = omega (arith, shape.few_items) in
     let vertex : v < n = may.vertex in
     let state : PutState shape (state_in old) t v =
-    puts-state s now v p puts are.quiet vertex (omega (arith, vertex, shape.fixed_in, fits)) (omega (arith, p-in, fits)) in
+    puts-state s log v p puts vertex in
     let low-all : (w : ℕ) → w < n → get_or core' w 0 < n = λ w l. elim (cases_eq w v) [
       | inl e ↦ omega (arith, low, ap (λ (k : ℕ). get_or core' k 0) e)
       | inr ne ↦ omega (arith, others w ne, are.low w l)

@@ -14,9 +14,9 @@ use Rattle.kc_words.specs.declared.shape.Shape.{Shape}
 use Rattle.kc_words.specs.declared.layout.TheConstants.{STAMP_BITS, VERTICES}
 use Rattle.kc_graph.specs.Certificate.{Enumerates}
 use Rattle.kc_cert.proofs.Ordered.{order-distinct, order-has}
-use Rattle.kc_table.specs.Log.{Seen, TableName}
+use Rattle.kc_table.specs.Log.{PassSeen, Seen, TableName}
 use Rattle.kc_table.specs.State.{State, state_of, opened, first_vertex}
-use Rattle.kc_table.specs.Legal.{Legal, Follows}
+use Rattle.kc_table.specs.Legal.{Legal, FollowsNote}
 use Rattle.kc_table.proofs.LegalLogs.{state_of-nil}
 use Rattle.kc_order.specs.Standing.{list_after}
 use Rattle.kc_levels.specs.Heads.{level_part, parts_from, with_heads, no_part, vertices_of}
@@ -228,7 +228,7 @@ pub opened-levels : (words : TableName) (n : ℕ) (order core stamps : List ℕ)
     → Legal words.shape words.opening [] → list_after words [] ≡ with_heads n order core
     → ((v : ℕ) → v < n → get_or words.opening (first_vertex words.shape + v) 0 ≡ vertex_word (record { stamp = get_or stamps v 0; core = get_or core v 0 }))
     → Tallied (levelled (record { table = words; log = [] }) core false) stamps base n
-    × OpensLevels order core stamps base version words (levelled (record { table = words; log = [] }) core false) (record { table = words; log = [] })
+    × OpensLevels order core stamps base version words (levelled (record { table = words; log = [] }) core false) (record { table = words; log = []; loads = 0; splits = 0 })
 opened-levels words n order core stamps base version items fixed base-is version-is long long' few fits enumerates pairs low most lawful list vertex =
     let s : Seen = record { table = words; log = [] } in
     let shape = words.shape in
@@ -254,7 +254,7 @@ opened-levels words n order core stamps base version items fixed base-is version
       rising = subst (Rises core) (sym order-is) rises;
       long = sym long ∙ sym fixed;
       low = λ v l. omega (arith, low v (omega (arith, l, fixed)), fixed);
-      quiet = λ w. subst (λ (z : State). Follows z.note w) (sym at) tt;
+      quiet = λ w. subst (λ (z : State). FollowsNote z.note w) (sym at) tt;
       words = λ v l out. (fields v (omega (arith, l, fixed))).1;
       unsealed = λ v m. absurd (false≢true (sym (ap (member v) none) ∙ m));
       inside = λ q. absurd (false≢true q);
@@ -281,14 +281,14 @@ opened-levels words n order core stamps base version items fixed base-is version
     )
 
 -- the same in the words of the code
-pub open-leaves : (words : TableName) (writer pass : Seen) (shape : Shape) (n : ℕ) (order core stamps levels kept list items vertex : List ℕ)
+pub open-leaves : (words : TableName) (writer : Seen) (pass : PassSeen) (shape : Shape) (n : ℕ) (order core stamps levels kept list items vertex : List ℕ)
     (base version : ℕ) → words.shape ≡ shape → shape.items ≡ 2 * n + 1 → shape.fixed ≡ n → shape.base ≡ base → shape.version ≡ version
     → n ≡ length core → length stamps ≡ n → n ≤ VERTICES → base < 2 ^ STAMP_BITS → Enumerates n order
     → AllPairs (λ v w. get_or core v 0 ≤ get_or core w 0) order → ((v : ℕ) → v < n → get_or core v 0 < n) → ((v : ℕ) → v < n → get_or stamps v 0 ≤ base)
     → Legal words.shape words.opening [] → list_after words [] ≡ list → list ≡ items → items ≡ with_heads n order core
     → ((v : ℕ) → v < n → get_or words.opening (first_vertex shape + v) 0 ≡ get_or vertex v 0)
     → ((v : ℕ) → v < n → get_or vertex v 0 ≡ vertex_word (record { stamp = get_or stamps v 0; core = get_or core v 0 }))
-    → writer ≡ record { table = words; log = [] } → pass ≡ record { table = words; log = [] } → levels ≡ core → kept ≡ stamps
+    → writer ≡ record { table = words; log = [] } → pass ≡ record { table = words; log = []; loads = 0; splits = 0 } → levels ≡ core → kept ≡ stamps
     → Tallied (levelled writer levels false) kept base n × OpensLevels order core stamps base version words (levelled writer levels false) pass
 open-leaves words writer pass shape n order core stamps levels kept list items vertex base version shape-is i-is f-is b-is v-is long long' few fits
     enumerates pairs low most lawful listed same is opening each writer-is pass-is levels-is kept-is =
@@ -296,6 +296,6 @@ open-leaves words writer pass shape n order core stamps levels kept list items v
     (ap (λ (z : Shape). z.fixed) shape-is ∙ f-is) (ap (λ (z : Shape). z.base) shape-is ∙ b-is) (ap (λ (z : Shape). z.version) shape-is ∙ v-is)
     long long' few fits enumerates pairs low most lawful (listed ∙ (same ∙ is))
     (λ v l. ap (λ (z : Shape). get_or words.opening (first_vertex z + v) 0) shape-is ∙ (opening v l ∙ each v l)) in
-    subst (λ (z : (Seen × Seen) × (List ℕ × List ℕ)). Tallied (levelled z.0.0 z.1.0 false) z.1.1 base n
+    subst (λ (z : (Seen × PassSeen) × (List ℕ × List ℕ)). Tallied (levelled z.0.0 z.1.0 false) z.1.1 base n
     × OpensLevels order core stamps base version words (levelled z.0.0 z.1.0 false) z.0.1)
     (λ i. ((sym writer-is i, sym pass-is i), (sym levels-is i, sym kept-is i))) done

@@ -6,39 +6,26 @@ use Rattle.std.proofs.lemmas.List.{get_or-set_same, get_or-set_other, get_or_rea
 use Rattle.kc_distinct.specs.Lists.{member, without}
 use Rattle.kc_distinct.proofs.Members.{member-without, without-member}
 use Rattle.kc_words.specs.VertexWord.{vertex_of, vertex_word}
-use Rattle.kc_words.specs.declared.note.NoteWord.{NoteWord}
-use Rattle.kc_words.specs.declared.note.NoteWord.TheVariants.{Nothing, Enter, Put, Take}
 use Rattle.kc_words.specs.declared.shape.Shape.{Shape}
 use Rattle.kc_words.specs.declared.layout.TheConstants.{CORE_BITS, STAMP_BITS}
 use Rattle.kc_table.specs.declared.view.Event.{Event}
-use Rattle.kc_table.specs.Log.{Seen, TableName, event, words_after}
-use Rattle.kc_table.specs.State.{State, state_of, first_vertex, word_count, after_store, put_in, sealed}
+use Rattle.kc_table.specs.Log.{Seen, TableName, event}
+use Rattle.kc_table.specs.State.{State, state_of, first_vertex, word_count, after_store, sealed}
 use Rattle.kc_table.specs.Legal as legal
+use Rattle.kc_table.proofs.Steps.{length-words_after}
 use Rattle.kc_table.proofs.LegalLogs.{state_of-push, state_of-words, legal-opens}
 use Rattle.kc_order.specs.Standing.{list_after}
 use Rattle.kc_order.specs.Writers.{Stores}
-use Rattle.kc_order.proofs.Relabelling.{store-quiet}
+use Rattle.kc_order.proofs.Relabelling.{put_in-quiet, store-quiet}
 use Rattle.kc_order.proofs.Ending.{after-item}
 use Rattle.kc_graph.specs.Certificate.{Enumerates}
 use Rattle.kc_levels.specs.Heads.{vertices_of, with_heads}
 use Rattle.kc_levels.specs.Levels.{Levelled, levelled, AreLevels, Rises, Tallied, SealsOne, state_in, number_of, unsealed_in}
 
--- where nothing is announced, no vertex is put
-put_in-quiet : (shape : Shape) (note : NoteWord) (w : ℕ) (unsealed : List ℕ) → ((v : ℕ) → legal.Follows note v) → put_in shape note w unsealed ≡ unsealed
-put_in-quiet shape Nothing w unsealed q = refl
-put_in-quiet shape (Enter add index u v) w unsealed q = refl
-put_in-quiet shape (Put x p) w unsealed q = absurd (omega (arith, q 0))
-put_in-quiet shape (Take x) w unsealed q = refl
-
--- stores keep the number of words
-length-words : (ws : List ℕ) (es : List Event) → length (words_after ws es) ≡ length ws
-length-words ws [] = refl
-length-words ws (e ∷ es) = length-words (set ws e.word e.value) es ∙ length-set ws e.word e.value
-
 -- a table has all its words
 pub has-words : (shape : Shape) (opening : List ℕ) (log : List Event) → legal.Legal shape opening log
     → length (state_of shape opening log).words ≡ word_count shape
-has-words shape opening log h = ap length (state_of-words shape opening log) ∙ (length-words opening log ∙ (legal-opens shape opening log h).one_each)
+has-words shape opening log h = ap length (state_of-words shape opening log) ∙ (length-words_after opening log ∙ (legal-opens shape opening log h).one_each)
 
 -- what the store of a vertex's word leaves
 pub record SealState (shape : Shape) (s t : State) (v value : ℕ) : Type 0 where
@@ -47,10 +34,10 @@ pub record SealState (shape : Shape) (s t : State) (v value : ℕ) : Type 0 wher
   pub unsealed : t.unsealed ≡ without v s.unsealed
   pub here : get_or t.words (first_vertex shape + v) 0 ≡ value
   pub others : (w : ℕ) → w ≢ v → get_or t.words (first_vertex shape + w) 0 ≡ get_or s.words (first_vertex shape + w) 0
-  pub quiet : (w : ℕ) → legal.Follows t.note w
+  pub quiet : (w : ℕ) → legal.FollowsNote t.note w
 
 -- what the store of a vertex word leaves
-after-seal : (shape : Shape) (s : State) (v value : ℕ) → v < shape.fixed → length s.words ≡ word_count shape → ((w : ℕ) → legal.Follows s.note w)
+after-seal : (shape : Shape) (s : State) (v value : ℕ) → v < shape.fixed → length s.words ≡ word_count shape → ((w : ℕ) → legal.FollowsNote s.note w)
     → SealState shape s (after_store shape s (event (first_vertex shape + v) value)) v value
 after-seal shape s v value vertex long quiet =
     let word : ℕ = first_vertex shape + v in
@@ -91,6 +78,7 @@ may-seal old s words core stamps open_ number size v k is h table is-open moved 
       inside = h.are.inside o;
       stamp = fields.0 ∙ h.number_is;
       later = omega (arith, (h.are.unsealed v m).1, fields.0, h.number_is);
+      put = m;
     } in
     subst (λ (t : TableName). legal.Seals t.shape (state_of s.table.shape s.table.opening s.log) v (vertex_word (record { stamp = number; core = k }))) at here
 

@@ -1,5 +1,5 @@
 -- The puts and seals of a plan, one at a time.
-use Rattle.std.proofs.Common.{◌≡◌, ◌≢◌, ◌<◌, ◌≤◌, ◌+◌, ◌-◌, ℕ, zero, suc, Bool, true, false, not, ◌&&◌, ◌||◌, List, [], ◌∷◌, ◌++◌, length, get_or}
+use Rattle.std.proofs.Common.{◌≡◌, ◌≢◌, ◌<◌, ◌≤◌, ◌+◌, ◌*◌, ◌-◌, ℕ, zero, suc, Bool, true, false, not, ◌&&◌, ◌||◌, List, [], ◌∷◌, ◌++◌, length, get_or}
 use Rattle.std.proofs.Common.{set, take, drop, eqb, refl, sym, ◌∙◌, ap, ap₂, subst, inl, inr, arith, true≢false, eq-eqb, ne_eqb, length-append}
 use Rattle.std.proofs.lemmas.Bool.{cases_Bool, cases_eq, false≢true, or_parts, or_right, false_from_ne_true, leb-true, le-leb, lt-ltb, ltb-true}
 use Rattle.std.proofs.lemmas.List.{set-get_or, take_more}
@@ -12,26 +12,43 @@ use Rattle.kc_distinct.proofs.Shared.{Distinct-front, Distinct-back}
 use Rattle.kc_words.specs.VertexWord.{vertex_of, vertex_word}
 use Rattle.kc_graph.specs.Plans.{put_between, renumbered, shifted}
 use Rattle.kc_cert.specs.Local.{firsts, AreInTurn}
-use Rattle.kc_cert.proofs.Turns.{firsts-more}
+use Rattle.kc_cert.proofs.Turns.{firsts-append, firsts-more}
 use Rattle.kc_table.specs.Log.{Seen, TableName}
 use Rattle.kc_table.specs.State.{first_vertex}
-use Rattle.kc_table.specs.Legal.{IsVersioned}
-use Rattle.kc_order.specs.Writers.{Puts, Stores, HasVersionsLeft}
+use Rattle.kc_order.specs.Writers.{HasRoom, HasVersionsLeft, Puts, PutsEach, Stores}
+use Rattle.kc_order.proofs.Running.{room-less, room-run}
 use Rattle.kc_levels.specs.Heads.{put, under, up_to}
 use Rattle.kc_levels.specs.Levels.{Levelled, AreLevels, MayMove, MovesTo, SealsOne, Rises, seen, size_of, number_of, word_at, unsealed_in}
-use Rattle.kc_levels.specs.Makes.{PutsEach, SealsEach, backwards, HasVersions, PutsAll, MayPutAll, SealsAll, MakesAll}
+use Rattle.kc_levels.specs.Makes.{PutsInTurn, SealsInTurn, backwards, PutsAll, MayPutAll, SealsAll, MakesAll}
 use Rattle.kc_levels.proofs.Cuts.{filter-all, filter-none, filter-yes, filter-no}
 use Rattle.kc_levels.proofs.Planned.{rise-step, fall-step, renumbered-set, renumbered-push}
 
+-- one for each shift
+pub length-firsts : (shifts : List (ℕ × ℕ)) → length (firsts shifts) ≡ length shifts
+length-firsts [] = refl
+length-firsts (s ∷ shifts) = ap suc (length-firsts shifts)
+
+-- puts and then more
+run-append : (old : Seen) (puts more : List (ℕ × ℕ)) (mid new : Seen) → PutsEach old puts mid → PutsEach mid more new → PutsEach old (puts ++ more) new
+run-append old [] more mid new a b = subst (λ (s : Seen). PutsEach s more new) a b
+run-append old (put ∷ puts) more mid new a b = (a.0, a.1, run-append a.0 puts more mid new a.2 b)
+
+-- the same of the vertices that they put
+puts-chain : (old : Seen) (vs ws : List ℕ) (mid new : Seen) → PutsInTurn old vs mid → PutsInTurn mid ws new → PutsInTurn old (vs ++ ws) new
+puts-chain old vs ws mid new a b = record {
+  puts = a.puts ++ b.puts;
+  vertices = firsts-append a.puts b.puts ∙ ap₂ (λ (xs ys : List ℕ). xs ++ ys) a.vertices b.vertices;
+  run = run-append old a.puts b.puts mid new a.run b.run;
+}
+
 -- one put more
-puts-push : (old : Seen) (vs : List ℕ) (mid new : Seen) (v p : ℕ) → PutsEach old vs mid → Puts mid new v p → PutsEach old (vs ++ v ∷ []) new
-puts-push old [] mid new v p h m = (new, p, subst (λ (s : Seen). Puts s new v p) h m, refl)
-puts-push old (x ∷ vs) mid new v p h m = (h.0, h.1, h.2, puts-push h.0 vs mid new v p h.3 m)
+puts-push : (old : Seen) (vs : List ℕ) (mid new : Seen) (v p : ℕ) → PutsInTurn old vs mid → Puts mid new v p → PutsInTurn old (vs ++ v ∷ []) new
+puts-push old vs mid new v p h m = puts-chain old vs (v ∷ []) mid new h record { puts = (v, p) ∷ []; vertices = refl; run = (new, m, refl) }
 
 -- one seal more
 seals-push : (stamp : ℕ) (core : List ℕ) (old : Seen) (vs : List ℕ) (mid new : Seen) (v : ℕ) → mid.table ≡ old.table
-    → SealsEach stamp core old vs mid → Stores mid new (first_vertex old.table.shape + v)
-    (vertex_word (record { stamp = stamp; core = get_or core v 0 })) → SealsEach stamp core old (vs ++ v ∷ []) new
+    → SealsInTurn stamp core old vs mid → Stores mid new (first_vertex old.table.shape + v)
+    (vertex_word (record { stamp = stamp; core = get_or core v 0 })) → SealsInTurn stamp core old (vs ++ v ∷ []) new
 seals-push stamp core old [] mid new v t h m =
     (new, subst (λ (s : Seen). Stores s new (first_vertex old.table.shape + v) (vertex_word (record { stamp = stamp; core = get_or core v 0 }))) h m, refl)
 seals-push stamp core old (x ∷ vs) mid new v t h m =
@@ -53,7 +70,7 @@ or_more a b c = grind arith
 -- no put yet
 pub puts-none : (old : Levelled) → AreLevels old → PutsAll old old [] old.order old.core
 puts-none old are = record {
-  puts = refl;
+  puts = record { puts = []; vertices = refl; run = refl };
   table = refl;
   order_is = refl;
   core_is = refl;
@@ -62,7 +79,6 @@ puts-none old are = record {
   unsealed = λ v. or_no (member v (unsealed_in old));
   entries = refl;
   words = λ w. refl;
-  raised = λ word h. omega arith;
 }
 
 -- one put more
@@ -79,12 +95,6 @@ puts-step old mid new vs v p order core order' core' h m = record {
       ∙ (or_more (member w (unsealed_in old)) (member w vs) (eqb w v) ∙ ap (λ b. member w (unsealed_in old) || b) (sym (member-push w v vs))));
   entries = m.entries ∙ h.entries;
   words = λ w. m.words w ∙ h.words w;
-  raised = λ word k. omega (
-    arith,
-    m.puts.raised word (subst (λ (t : TableName). IsVersioned t.shape word) (sym h.table) k),
-    h.raised word k,
-    length-append vs (v ∷ []),
-  );
 }
 
 -- puts, with order and levels under equal names
@@ -105,12 +115,16 @@ may-move old mid all vs order core v may h m out =
       once = omega (arith, k.2, number, ap (λ (z : ℕ). (vertex_of z).stamp) (h.words v));
     }
 
+-- one put for each vertex
+puts-count : (old new : Seen) (vs : List ℕ) (h : PutsInTurn old vs new) → length h.puts ≡ length vs
+puts-count old new vs h = sym (length-firsts h.puts) ∙ ap length h.vertices
+
 -- each put before the last leaves room for it
-pub versions-left : (old mid : Levelled) (vs order core : List ℕ) (total : ℕ) → HasVersions old total → PutsAll old mid vs order core
-    → length vs < total → HasVersionsLeft mid.table mid.log
-versions-left old mid vs order core total room h l word k =
-    let k' : IsVersioned old.table.shape word = subst (λ (t : TableName). IsVersioned t.shape word) h.table k in
-    omega (arith, room word k', h.raised word k', l)
+pub versions-left : (old mid : Levelled) (vs order core : List ℕ) (total : ℕ) → HasRoom old.table old.log (3 * total)
+    → PutsAll old mid vs order core → length vs < total → HasVersionsLeft mid.table mid.log
+versions-left old mid vs order core total room h l =
+    room-run (seen old) (seen mid) h.puts.puts 3 h.puts.run
+    (room-less (seen old) (3 * total) (2 * length h.puts.puts + 3) (omega (arith, l, puts-count (seen old) (seen mid) vs h.puts)) room)
 
 -- Shifts. ------------------------------------------------------------------------------------------
 
@@ -159,11 +173,6 @@ first-not_before (s ∷ shifts) (suc i) l d =
     let x : ℕ = (get_or shifts i (0, 0)).0 in
     let ne : x ≢ s.0 = λ e. true≢false (sym (firsts-at shifts i (omega (arith, l))) ∙ (ap (λ (z : ℕ). member z (firsts shifts)) e ∙ d.0)) in
     ap₂ (λ (a b : Bool). a || b) (ne_eqb x s.0 ne) (first-not_before shifts i (omega (arith, l)) d.1)
-
--- one for each shift
-pub length-firsts : (shifts : List (ℕ × ℕ)) → length (firsts shifts) ≡ length shifts
-length-firsts [] = refl
-length-firsts (s ∷ shifts) = ap suc (length-firsts shifts)
 
 -- Rises and falls. ---------------------------------------------------------------------------------
 
@@ -432,15 +441,10 @@ seal_shifted-next old mid new shifts i l once h m =
 
 -- All together. ------------------------------------------------------------------------------------
 
--- puts and then more
-puts-chain : (old : Seen) (vs ws : List ℕ) (mid new : Seen) → PutsEach old vs mid → PutsEach mid ws new → PutsEach old (vs ++ ws) new
-puts-chain old [] ws mid new a b = subst (λ (s : Seen). PutsEach s ws new) a b
-puts-chain old (v ∷ vs) ws mid new a b = (a.0, a.1, a.2, puts-chain a.0 vs ws mid new a.3 b)
-
 -- seals and then more
-seals-chain : (stamp : ℕ) (core : List ℕ) (old : Seen) (vs ws : List ℕ) (mid new : Seen) → SealsEach stamp core old vs mid
-    → SealsEach stamp core mid ws new → SealsEach stamp core old (vs ++ ws) new
-seals-chain stamp core old [] ws mid new a b = subst (λ (s : Seen). SealsEach stamp core s ws new) a b
+seals-chain : (stamp : ℕ) (core : List ℕ) (old : Seen) (vs ws : List ℕ) (mid new : Seen) → SealsInTurn stamp core old vs mid
+    → SealsInTurn stamp core mid ws new → SealsInTurn stamp core old (vs ++ ws) new
+seals-chain stamp core old [] ws mid new a b = subst (λ (s : Seen). SealsInTurn stamp core s ws new) a b
 seals-chain stamp core old (v ∷ vs) ws mid new a b = (a.0, a.1, seals-chain stamp core a.0 vs ws mid new a.2 b)
 
 -- three, in either grouping
@@ -465,7 +469,6 @@ puts-then old mid new vs ws order core order' core' a b = record {
       ∙ (or_assoc (member v (unsealed_in old)) (member v vs) (member v ws) ∙ ap (λ t. member v (unsealed_in old) || t) (sym (has-both v vs ws))));
   entries = b.entries ∙ a.entries;
   words = λ w. b.words w ∙ a.words w;
-  raised = λ word k. omega (arith, a.raised word k, b.raised word (subst (λ (t : TableName). IsVersioned t.shape word) (sym a.table) k), length-append vs ws);
 }
 
 -- some seals and then more
@@ -474,7 +477,7 @@ seals-then old mid new vs ws a b =
     let number : number_of mid ≡ number_of old = ap₂ (λ (x y : ℕ). x + y) (ap (λ (t : TableName). t.shape.base) a.table) (ap length a.entries) in
     record {
       seals = seals-chain (number_of old) old.core (seen old) vs ws (seen mid) (seen new) a.seals
-          (subst (λ (z : ℕ × List ℕ). SealsEach z.0 z.1 (seen mid) ws (seen new)) (λ i. (number i, a.core_is i)) b.seals);
+          (subst (λ (z : ℕ × List ℕ). SealsInTurn z.0 z.1 (seen mid) ws (seen new)) (λ i. (number i, a.core_is i)) b.seals);
       table = b.table ∙ a.table;
       order_is = b.order_is ∙ a.order_is;
       core_is = b.core_is ∙ a.core_is;
@@ -507,7 +510,7 @@ makes old mid new puts vs order core a b fresh same =
     record {
       between = seen mid;
       puts_are = a.puts;
-      seals_are = subst (λ (z : ℕ × List ℕ). SealsEach z.0 z.1 (seen mid) vs (seen new)) (λ i. (number i, sym b.core_is i)) b.seals;
+      seals_are = subst (λ (z : ℕ × List ℕ). SealsInTurn z.0 z.1 (seen mid) vs (seen new)) (λ i. (number i, sym b.core_is i)) b.seals;
       table = b.table ∙ a.table;
       order_is = b.order_is ∙ a.order_is;
       core_is = b.core_is ∙ a.core_is;
@@ -528,9 +531,9 @@ may-then old mid all vs ws order core may h size sub = record {
   are = h.are;
   open_ = h.open_is ∙ may.open_;
   unmoved = λ v m. let k = sub v m in let moves = may-move old mid all vs order core v may h k.0 k.1 in (moves.vertex, moves.unmoved, moves.once);
-  versions = λ word k.
-      let k' : IsVersioned old.table.shape word = subst (λ (t : TableName). IsVersioned t.shape word) h.table k in
-      omega (arith, may.versions word k', h.raised word k', size);
+  versions = room-run (seen old) (seen mid) h.puts.puts (3 * length ws) h.puts.run
+      (room-less (seen old) (3 * length all) (2 * length h.puts.puts + 3 * length ws) (omega (arith, size, puts-count (seen old) (seen mid) vs h.puts))
+      may.versions);
 }
 
 -- what was put is not sealed

@@ -8,9 +8,9 @@ use Rattle.kc_words.specs.declared.note.NoteWord.TheVariants.{Enter}
 use Rattle.kc_graph.specs.declared.update.Update.{Update}
 use Rattle.kc_graph.specs.Certificate.{Enumerates}
 use Rattle.kc_table.specs.declared.view.Event.{Event}
-use Rattle.kc_table.specs.Log.{Seen, TableName}
+use Rattle.kc_table.specs.Log.{PassSeen, Seen, TableName}
 use Rattle.kc_table.specs.State.{State, state_of, first_vertex}
-use Rattle.kc_table.specs.Legal.{Legal, Follows, last_entry, stamp_in}
+use Rattle.kc_table.specs.Legal.{Legal, FollowsNote, last_entry, stamp_in}
 use Rattle.kc_order.specs.Standing.{list_after}
 use Rattle.kc_order.specs.Writers.{Puts, Stores}
 use Rattle.kc_levels.specs.Heads.{vertices_of, with_heads}
@@ -70,7 +70,7 @@ pub record AreLevels (l : Levelled) : Type 0 where
   pub long : length l.core ≡ size_of l
   pub low : (v : ℕ) → v < size_of l → slice_index l.core v < size_of l
   -- nothing is announced
-  pub quiet : (word : ℕ) → Follows (state_in l).note word
+  pub quiet : (word : ℕ) → FollowsNote (state_in l).note word
   -- the word of a vertex has its level, but for those that were moved and not sealed
   pub words : (v : ℕ) → v < size_of l → member v (unsealed_in l) ≡ false → (vertex_of (word_at l v)).core ≡ slice_index l.core v
   pub unsealed : (v : ℕ) → member v (unsealed_in l) ≡ true → (v < size_of l) × (stamp_at l v < number_of l)
@@ -130,9 +130,9 @@ pub record OpensSection (old new : Levelled) (index : ℕ) (update : Update) : T
   pub words : (w : ℕ) → word_at new w ≡ word_at old w
 
 -- Levels with a fresh table: these vertices in this order and at these levels, with these stamps; nothing was stored.
-pub record OpensLevels (order core stamps : List ℕ) (base version : ℕ) (words : TableName) (levels : Levelled) (pass : Seen) : Type 0 where
+pub record OpensLevels (order core stamps : List ℕ) (base version : ℕ) (words : TableName) (levels : Levelled) (pass : PassSeen) : Type 0 where
   pub is : levels ≡ record { table = words; log = []; order = order; core = core; open_ = false }
-  pub pass_is : pass ≡ record { table = words; log = [] }
+  pub pass_is : pass ≡ record { table = words; log = []; loads = 0; splits = 0 }
   pub are : AreLevels levels
   pub size : size_of levels ≡ length core
   pub base_is : levels.table.shape.base ≡ base

@@ -1,30 +1,29 @@
 -- What making all moves of a plan does: its puts, one at a time, and then the words of the vertices that were moved.
-use Rattle.std.specs.Prelude.{◌≡◌, ◌≤◌, ◌<◌, ◌+◌, ◌*◌, ℕ, true, false, not, ◌||◌, ◌&&◌, List, [], ◌∷◌, ◌++◌, length, slice_index}
+use Rattle.std.specs.Prelude.{◌≡◌, ◌<◌, ◌+◌, ◌*◌, ℕ, true, false, not, ◌||◌, ◌&&◌, List, [], ◌∷◌, ◌++◌, length, slice_index}
 use Rattle.std.specs.FinSet as set
 use Rattle.kc_distinct.specs.Lists.{member}
 use Rattle.kc_words.specs.VertexWord.{vertex_word}
-use Rattle.kc_words.specs.declared.layout.TheConstants.{LAST_VERSION}
 use Rattle.kc_graph.specs.Lawful.{Ranked}
 use Rattle.kc_graph.specs.Plans.{moved_by}
 use Rattle.kc_graph.specs.declared.plan.Moves.{Moves}
 use Rattle.kc_graph.specs.declared.plan.Moves.TheVariants.{Kept, Plain, Rise, Fall}
 use Rattle.kc_cert.specs.Local.{firsts, MovesFit, moved_vertices}
-use Rattle.kc_table.specs.Log.{Seen, value_at}
+use Rattle.kc_table.specs.Log.{Seen}
 use Rattle.kc_table.specs.State.{first_vertex}
-use Rattle.kc_table.specs.Legal.{IsVersioned, version_of}
-use Rattle.kc_order.specs.Writers.{Puts, Stores}
+use Rattle.kc_order.specs.Writers.{HasRoom, PutsEach, Stores}
 use Rattle.kc_levels.specs.Levels.{Levelled, AreLevels, MayMove, seen, size_of, state_in, number_of, stamp_at, word_at, unsealed_in}
 
--- each vertex in turn was put once
-abbrev pub PutsEach : Seen → List ℕ → Seen → Type 0
-PutsEach old [] new = new ≡ old
-PutsEach old (v ∷ vs) new = (next : Seen) × (p : ℕ) × Puts old next v p × PutsEach next vs new
+-- these vertices were put in turn, each once
+pub record PutsInTurn (old : Seen) (vs : List ℕ) (new : Seen) : Type 0 where
+  pub puts : List (ℕ × ℕ)
+  pub vertices : firsts puts ≡ vs
+  pub run : PutsEach old puts new
 
 -- the word of each vertex in turn was stored once, with this stamp and these levels
-abbrev pub SealsEach : ℕ → List ℕ → Seen → List ℕ → Seen → Type 0
-SealsEach stamp core old [] new = new ≡ old
-SealsEach stamp core old (v ∷ vs) new = (next : Seen) × Stores old next (first_vertex old.table.shape + v)
-    (vertex_word (record { stamp = stamp; core = slice_index core v })) × SealsEach stamp core next vs new
+abbrev pub SealsInTurn : ℕ → List ℕ → Seen → List ℕ → Seen → Type 0
+SealsInTurn stamp core old [] new = new ≡ old
+SealsInTurn stamp core old (v ∷ vs) new = (next : Seen) × Stores old next (first_vertex old.table.shape + v)
+    (vertex_word (record { stamp = stamp; core = slice_index core v })) × SealsInTurn stamp core next vs new
 
 abbrev pub backwards : List ℕ → List ℕ
 backwards [] = []
@@ -37,13 +36,9 @@ puts_of Plain = []
 puts_of (Rise level rise shifts) = firsts shifts.items ++ backwards rise.items
 puts_of (Fall level fall) = fall.items
 
--- each word of an item or a group may be stored so many times more, and three times beyond
-abbrev pub HasVersions : Levelled → ℕ → Type 0
-HasVersions l puts = (word : ℕ) → IsVersioned l.table.shape word → version_of (value_at l.table.opening l.log word) + 3 * puts ≤ LAST_VERSION
-
 -- these vertices were put, each once; the order and the levels are these
 pub record PutsAll (old new : Levelled) (vs order core : List ℕ) : Type 0 where
-  pub puts : PutsEach (seen old) vs (seen new)
+  pub puts : PutsInTurn (seen old) vs (seen new)
   pub table : new.table ≡ old.table
   pub order_is : new.order ≡ order
   pub core_is : new.core ≡ core
@@ -52,19 +47,18 @@ pub record PutsAll (old new : Levelled) (vs order core : List ℕ) : Type 0 wher
   pub unsealed : (v : ℕ) → member v (unsealed_in new) ≡ (member v (unsealed_in old) || member v vs)
   pub entries : (state_in new).entries ≡ (state_in old).entries
   pub words : (w : ℕ) → word_at new w ≡ word_at old w
-  pub raised : (word : ℕ) → IsVersioned old.table.shape word
-      → version_of (value_at new.table.opening new.log word) ≤ version_of (value_at old.table.opening old.log word) + 2 * length vs
 
 -- these vertices may be put now, each once
 pub record MayPutAll (l : Levelled) (vs : List ℕ) : Type 0 where
   pub are : AreLevels l
   pub open_ : l.open_ ≡ true
   pub unmoved : (v : ℕ) → member v vs ≡ true → (v < size_of l) × (member v (unsealed_in l) ≡ false) × (stamp_at l v < number_of l)
-  pub versions : HasVersions l (length vs)
+  -- three versions a put
+  pub versions : HasRoom l.table l.log (3 * length vs)
 
 -- these vertices were sealed, each once
 pub record SealsAll (old new : Levelled) (vs : List ℕ) : Type 0 where
-  pub seals : SealsEach (number_of old) old.core (seen old) vs (seen new)
+  pub seals : SealsInTurn (number_of old) old.core (seen old) vs (seen new)
   pub table : new.table ≡ old.table
   pub order_is : new.order ≡ old.order
   pub core_is : new.core ≡ old.core
@@ -87,13 +81,13 @@ pub record MayMake (l : Levelled) (moves : Moves) : Type 0 where
   pub fresh : unsealed_in l ≡ []
   pub once : (v : ℕ) → member v (moved_vertices moves) ≡ true → stamp_at l v < number_of l
   pub low : (v : ℕ) → v < size_of l → slice_index (moved_by moves (as_ranked l)).core v < size_of l
-  pub versions : HasVersions l (length (moved_vertices moves))
+  pub versions : HasRoom l.table l.log (3 * length (moved_vertices moves))
 
 -- These vertices were put and these sealed, all in turn, and nothing else was stored; the order and the levels are these.
 pub record MakesAll (old new : Levelled) (puts vs order core : List ℕ) : Type 0 where
   pub between : Seen
-  pub puts_are : PutsEach (seen old) puts between
-  pub seals_are : SealsEach (number_of old) new.core between vs (seen new)
+  pub puts_are : PutsInTurn (seen old) puts between
+  pub seals_are : SealsInTurn (number_of old) new.core between vs (seen new)
   pub table : new.table ≡ old.table
   pub order_is : new.order ≡ order
   pub core_is : new.core ≡ core

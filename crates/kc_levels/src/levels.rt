@@ -229,7 +229,7 @@ impl Levels {
     pub fn tell(&mut self, words: &Words, pass: &mut Pass)
         requires table { (pass.old.table ≡ words.now) × (self.old.table ≡ words.now) }
         ensures levels { self.new ≡ self.old }
-        ensures pass { pass.new ≡ seen self.old }
+        ensures pass { pass.new ≡ record { table = self.old.table; log = self.old.log; loads = 0; splits = 0 } }
         ensures longer { IsPrefix pass.old.log self.old.log }
         ensures are { AreLevels self.new }
     {

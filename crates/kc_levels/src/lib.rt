@@ -11,7 +11,7 @@ mod making;
 #[cfg(test)]
 mod tests;
 
-ghost use Rattle.std.specs.Prelude.{◌≡◌, ◌<◌, ℕ, length, slice_index};
+ghost use Rattle.std.specs.Prelude.{◌≡◌, ◌<◌, ◌*◌, ℕ, length, slice_index};
 ghost use Rattle.kc_distinct.specs.Lists.{member, Distinct};
 ghost use Rattle.kc_graph.specs.Lawful.{IsCertified, Ranked};
 ghost use Rattle.kc_graph.specs.declared.plan.Plan.{Plan};
@@ -19,8 +19,9 @@ ghost use Rattle.kc_graph.specs.Certificate.{Enumerates};
 ghost use Rattle.kc_graph.specs.Plans.{moved_by, state_after};
 ghost use Rattle.kc_graph.specs.declared.plan.Moves.{Moves};
 ghost use Rattle.kc_cert.specs.Local.{IsLocal, MovesFit, moved_vertices};
+ghost use Rattle.kc_order.specs.Writers.{HasRoom};
 ghost use Rattle.kc_levels.specs.Heads.{after_puts, with_heads};
-ghost use Rattle.kc_levels.specs.Makes.{AreLevelsOf, HasVersions, IsFresh, Makes, MayMake, puts_of};
+ghost use Rattle.kc_levels.specs.Makes.{AreLevelsOf, IsFresh, Makes, MayMake, puts_of};
 ghost use Rattle.kc_levels.specs.Levels.{Levelled};
 
 pub use levels::{LAST_NUMBER, Levels};
@@ -56,7 +57,7 @@ pub fn certified_numbers_are_low()
 /// that state may be made, where the versions of the words leave room.
 pub fn local_plans_may_be_made()
     ensures { (s : Ranked) (plan : Plan) (l : Levelled) → IsCertified s → IsLocal s plan → AreLevelsOf s l → IsFresh l
-        → HasVersions l (length (moved_vertices plan.moves)) → MayMake l plan.moves }
+        → HasRoom l.table l.log (3 * length (moved_vertices plan.moves)) → MayMake l plan.moves }
 {}
 
 /// Over the levels of a state, the moves of a plan lead to the levels of the state after it.
