@@ -154,7 +154,13 @@ fn ask_a_short_list<K: Name, R: Wait + Abort>(rt: &R, words: Words, writer: Writ
     take(rt, &shared, &mut pass, 5, Ok(()));
     ask(rt, &shared, &mut pass, 0, 5, Answer::Absent { item: 5 });
     ask_each_pair(rt, &shared, &mut pass);
-    take(rt, &shared, &mut pass, 5, Err(OrderFault::Absent { item: 5 }));
+    take(
+        rt,
+        &shared,
+        &mut pass,
+        5,
+        Err(OrderFault::Absent { item: 5 }),
+    );
     put_after_0(rt, &shared, &mut pass, 5);
     ask(rt, &shared, &mut pass, 5, 1, Answer::Before);
 }
