@@ -20,7 +20,7 @@ use Rattle.kc_list.specs.Plain.{Plain, Written}
 use Rattle.kc_list.proofs.Highest.{version-highest, highest-below}
 use Rattle.kc_table.specs.declared.view.Event.{Event}
 use Rattle.kc_table.specs.declared.entry.Entry.{Entry}
-use Rattle.kc_table.specs.Log.{TableName, Seen, event, value_at, words_after}
+use Rattle.kc_table.specs.Log.{TableName, Seen, event, value_at}
 use Rattle.kc_table.specs.State.{State, after_stores, state_of, first_vertex, word_count, moved, entered}
 use Rattle.kc_table.specs.Legal as legal
 use Rattle.kc_table.proofs.LegalLogs.{legal-push, legal-prefix, legal-last, legal-opens, legal-holds, state_of-push, state_of-words, after_stores-append}
