@@ -307,7 +307,8 @@ near-more place now n line home x w lw held out h y z ly lz my mz e =
             | inr nz ↦
                 let az = anchor_with-other x w z home nz in
                 ap₂ ltb (moved-other now x w y ny) (moved-other now x w z nz)
-                ∙ (ltb-double (now y) (now z) ∙ (near-open place now n line home w held h y z ly lz (still-in x w line y ny my) (still-in x w line z nz mz) (sym ay ∙ (e ∙ az))
+                ∙ (ltb-double (now y) (now z) ∙ (near-open place now n line home w held h y z ly lz (still-in x w line y ny my) (still-in x w line z nz mz)
+                (sym ay ∙ (e ∙ az))
                 ∙ sym (ap₂ ltb (put y ny) (put z nz) ∙ others_stay (place_of w opened) (place_of y opened) (place_of z opened))))
           ]
     ]

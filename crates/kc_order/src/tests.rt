@@ -81,10 +81,15 @@ fn changed_beneath<R: Abort>(
     }
 }
 
+/// The same, in a table of its own.
+fn changed_word<R: Abort + AllocGlobal>(rt: &R) -> Result<Option<Again>, AllocError> {
+    let (words, mut writer, mut pass) = one_full_group(rt)?;
+    Ok(changed_beneath(rt, &words, &mut writer, &mut pass))
+}
+
 #[test]
 fn a_split_beneath_a_comparison_is_noticed(rt: HostRuntime) -> Result<(), Fail> {
-    let (words, mut writer, mut pass) = one_full_group(&rt)?;
-    let Some(again) = changed_beneath(&rt, &words, &mut writer, &mut pass) else {
+    let Some(again) = changed_word(&rt)? else {
         return Err("both are in the list, and item 63 moved to another group".into());
     };
     assert_eq!(rt; again.word, 64);

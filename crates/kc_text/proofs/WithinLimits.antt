@@ -14,6 +14,7 @@ use Rattle.kc_text.specs.declared.line.Line.{Line}
 use Rattle.kc_text.specs.declared.line.Line.TheVariants as said
 use Rattle.kc_text.specs.Forms.{all_said}
 use Rattle.kc_text.specs.Meaning.{Told, Means, Refuses, batches, changes, ends_or, first_limit, meaning, name_same, names, nothing_told, or_else, passed_limit, reading, refusal, unfit, with_line}
+use Rattle.kc_text.specs.declared.limits.TheConstants.{MOST_IDS, MOST_EDGE_LINES, MOST_UPDATES, MOST_BATCHES, MOST_BYTES}
 
 -- no change is a loop, and no two name the same pair
 pub record IsFit (batch : List Change) : Type 0 where
@@ -21,19 +22,20 @@ pub record IsFit (batch : List Change) : Type 0 where
   pub once : AllPairs (λ c d. name_same d c ≡ false) batch
 
 pub record AreFit (told : Told) : Type 0 where
-  pub few : distinct_count nat_eq (names told) ≤ 262144
+  pub few : distinct_count nat_eq (names told) ≤ MOST_IDS
   pub earlier : All IsFit told.earlier
   pub last : IfSome told.last IsFit
 
 fit-nothing : IsFit []
 fit-nothing = record { apart = All-nil (λ (c : Change). c.a ≢ c.b); once = λ i j d l m. absurd (omega arith) }
 
-not_over : (told : Told) → passed_limit told ≡ None → distinct_count nat_eq (names told) ≤ 262144
-not_over told h = elim (cases_Bool (nat_lt 262144 (distinct_count nat_eq (names told)))) [
+not_over : (told : Told) → passed_limit told ≡ None → distinct_count nat_eq (names told) ≤ MOST_IDS
+not_over told h = elim (cases_Bool (nat_lt MOST_IDS (distinct_count nat_eq (names told)))) [
   | inl over ↦
-      let some : passed_limit told ≡ Some TooManyVertices = ap (λ b. first_limit b (nat_lt 2097152 (length told.edges)) (nat_lt 1048576 (length (changes told))) (nat_lt 4096 (length (batches told)))) over in
+      let some : passed_limit told ≡ Some TooManyVertices = ap (λ b. first_limit b (nat_lt MOST_EDGE_LINES (length told.edges))
+      (nat_lt MOST_UPDATES (length (changes told))) (nat_lt MOST_BATCHES (length (batches told)))) over in
       absurd (let e : Some TooManyVertices ≡ None = sym some ∙ h in cc)
-  | inr within ↦ omega (arith, ltb-false 262144 (distinct_count nat_eq (names told)) within)
+  | inr within ↦ omega (arith, ltb-false MOST_IDS (distinct_count nat_eq (names told)) within)
 ]
 
 -- both checks of two found nothing
@@ -72,7 +74,8 @@ pub fit-batches : (earlier : List (List Change)) (last : Option (List Change)) �
 fit-batches earlier None h l = All-append IsFit earlier [] h (All-nil IsFit)
 fit-batches earlier (Some batch) h l = All-append IsFit earlier (batch ∷ []) h (All-cons IsFit batch [] l (All-nil IsFit))
 
-edge_taken : (told : Told) (a b : ℕ) → refusal told (said.Edge a b) ≡ None → passed_limit (with_line told (said.Edge a b)) ≡ None
+-- an edge line that is taken passes no limit
+pub edge_taken : (told : Told) (a b : ℕ) → refusal told (said.Edge a b) ≡ None → passed_limit (with_line told (said.Edge a b)) ≡ None
 edge_taken told a b h = elim (is_some told.last) as (λ t. cond t (Some EdgeLineInBatch) (passed_limit (with_line told (said.Edge a b))) ≡ None → passed_limit (with_line told (said.Edge a b)) ≡ None) [
   | true ↦ λ e. absurd (cc)
   | false ↦ λ e. e
@@ -96,7 +99,8 @@ reading-fit done told (line ∷ rest) all fit h =
     ] refl h
 
 pub meaning-fit : (bytes : List ℕ) (all : Told) → meaning bytes ≡ Means all → AreFit all
-meaning-fit bytes all h = elim (nat_lt 67108864 (length bytes)) as (λ b. cond b (Refuses 0 TooLong) (reading 0 nothing_told (all_said bytes)) ≡ Means all → AreFit all) [
-  | true ↦ λ e. absurd (cc)
-  | false ↦ λ e. reading-fit 0 nothing_told (all_said bytes) all (record { few = omega arith; earlier = All-nil IsFit; last = tt }) e
-] h
+meaning-fit bytes all h = elim (nat_lt MOST_BYTES (length bytes)) as
+    (λ b. cond b (Refuses 0 TooLong) (reading 0 nothing_told (all_said bytes)) ≡ Means all → AreFit all) [
+      | true ↦ λ e. absurd (cc)
+      | false ↦ λ e. reading-fit 0 nothing_told (all_said bytes) all (record { few = omega arith; earlier = All-nil IsFit; last = tt }) e
+    ] h
