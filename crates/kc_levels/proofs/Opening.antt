@@ -229,7 +229,7 @@ pub opened-levels : (words : TableName) (n : ℕ) (order core stamps : List ℕ)
     → ((v : ℕ) → v < n → get_or words.opening (first_vertex words.shape + v) 0 ≡ vertex_word (record { stamp = get_or stamps v 0; core = get_or core v 0 }))
     → Tallied (levelled (record { table = words; log = [] }) core false) stamps base n
     × OpensLevels order core stamps base version words (levelled (record { table = words; log = [] }) core false)
-        (record { table = words; log = []; loads = 0; splits = 0 })
+    (record { table = words; log = []; loads = 0; splits = 0 })
 opened-levels words n order core stamps base version items fixed base-is version-is long long' few fits enumerates pairs low most lawful list vertex =
     let s : Seen = record { table = words; log = [] } in
     let shape = words.shape in
