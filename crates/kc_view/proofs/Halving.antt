@@ -1,12 +1,11 @@
 -- A number is looked for in an ascending list by halving.
-use Rattle.std.proofs.Common.{◌≡◌, ◌≢◌, ◌≤◌, ◌<◌, ◌+◌, ℕ, Bool, true, false, List, length, get_or, ltb, sym, ◌∙◌, ap, inl, inr, arith, ltb-true}
+use Rattle.std.proofs.Common.{◌≡◌, ◌≤◌, ◌<◌, ◌+◌, ℕ, false, List, length, get_or, inl, inr, arith}
 use Rattle.std.specs.List.Sorted.{IsStrictlyIncreasing}
 use Rattle.std.proofs.lemmas.Bool.{cases_lt, false_from_ne_true}
 use Rattle.kc_distinct.specs.Lists.{member}
 use Rattle.kc_graph.proofs.RowsLemmas.{rises}
 use Rattle.kc_cert.specs.Ranks.{rank_in}
 use Rattle.kc_cert.proofs.Ordered.{rank-here}
-use Rattle.kc_view.specs.Lists.{IsListOf}
 
 -- where it can't stand: before `low`, and from `high` on
 pub record StandsBetween (xs : List ℕ) (y low high : ℕ) : Type 0 where
