@@ -10,18 +10,13 @@ use Rattle.kc_graph.specs.Plans.{put_between, shifted, renumbered, moved_by}
 use Rattle.kc_graph.specs.declared.plan.Moves.{Moves}
 use Rattle.kc_graph.specs.declared.plan.Moves.TheVariants.{Kept, Plain, Rise, Fall}
 use Rattle.kc_cert.specs.Local.{firsts, seconds, AreInTurn, moved_vertices, MovesFit}
-use Rattle.kc_cert.specs.Ranks.{rank_in, Ascends, Orders, moved, place_after, then_after}
+use Rattle.kc_cert.specs.Ranks.{rank_in, AscendsBy, Orders, moved, place_after, then_after}
 use Rattle.kc_cert.specs.Stands.{leaving, stands_after}
 use Rattle.kc_cert.proofs.Placing.{moved-itself, moved-other, shifted-has, shifted-ascends, Orders-from_Ascends}
 use Rattle.kc_cert.proofs.Ordered.{rank-ascends, order-has, order-distinct, ranks-rise}
 use Rattle.kc_cert.proofs.Final.{final-orders, final-has, after-itself}
 use Rattle.kc_cert.proofs.Holding.{length-renumbered, renumbered-other, renumbered-moved}
-
-doubled : (a b : ℕ) → ltb (a + a) (b + b) ≡ ltb a b
-doubled a b = elim (cases_lt a b) [
-  | inl l ↦ lt-ltb (a + a) (b + b) (omega arith) ∙ sym (lt-ltb a b l)
-  | inr l ↦ le-ltb (a + a) (b + b) (omega arith) ∙ sym (le-ltb a b l)
-]
+use Rattle.kc_distinct.proofs.Shared.{ltb-double, Distinct-front}
 
 -- two vertices that no shift moves stand as before
 pub place_after-still : (place : ℕ → ℕ) (shifts : List (ℕ × ℕ)) (y z : ℕ) → member y (firsts shifts) ≡ false → member z (firsts shifts) ≡ false
@@ -32,7 +27,7 @@ place_after-still place (p ∷ shifts) y z my mz =
     let nz = or_parts (eqb z p.0) (member z (firsts shifts)) mz in
     let ey : moved place p.0 p.1 y ≡ place y + place y = moved-other place p.0 p.1 y (λ e. true≢false (sym (eq-eqb y p.0 e) ∙ ny.0)) in
     let ez : moved place p.0 p.1 z ≡ place z + place z = moved-other place p.0 p.1 z (λ e. true≢false (sym (eq-eqb z p.0 e) ∙ nz.0)) in
-    place_after-still (moved place p.0 p.1) shifts y z ny.1 nz.1 ∙ (ap₂ ltb ey ez ∙ doubled (place y) (place z))
+    place_after-still (moved place p.0 p.1) shifts y z ny.1 nz.1 ∙ (ap₂ ltb ey ez ∙ ltb-double (place y) (place z))
 
 -- of two of the vertices below `n`, one with a lesser number stands first
 abbrev pub GoByNumber : List ℕ → ℕ → (ℕ → ℕ) → Type 0
@@ -132,7 +127,7 @@ arranged_by s low front shifts level next moved h leaving others =
     let in_order : (x : ℕ) → x < n → member x s.order ≡ true = λ x l. all x ∙ member-below x n l in
     let f : (x : ℕ) → member x (firsts shifts) ≡ true → member x s.order ≡ true = λ x m. in_order x (leaving.firsts_level x m).0 in
     let w : (x : ℕ) → member x (seconds shifts) ≡ true → member x s.order ≡ true = λ x m. in_order x (leaving.seconds_level x m).0 in
-    let up : Ascends place (shifted shifts s.order) = shifted-ascends (rank_in s.order) shifts s.order (rank-ascends s.order (order-distinct n s.order h.enumerates)) leaving.in_turn f w in
+    let up : AscendsBy place (shifted shifts s.order) = shifted-ascends (rank_in s.order) shifts s.order (rank-ascends s.order (order-distinct n s.order h.enumerates)) leaving.in_turn f w in
     let same : (y : ℕ) → member y (shifted shifts s.order) ≡ member y s.order = shifted-has shifts s.order leaving.in_turn f w in
     let by_number : GoByNumber s.core n place = place_after-by_number s.core n level (rank_in s.order) shifts leaving.firsts_level leaving.seconds_level (ranks_by_number s h) in
     record {
@@ -168,10 +163,6 @@ arranged-still s h =
       order_stays = λ y z ly lz my mz. refl;
     }
 
-Distinct-front : (xs ys : List ℕ) → Distinct (xs ++ ys) → Distinct xs
-Distinct-front [] ys d = tt
-Distinct-front (x ∷ xs) ys d = ((not_member-append x xs ys d.0).0, Distinct-front xs ys d.1)
-
 -- what moves that fit make of the order and the numbers
 pub arranged : (s : Ranked) (moves : Moves) → IsCertified s → MovesFit s moves → Arranged s (moved_by moves s).core (moved_by moves s).order (moved_vertices moves) (stands_after moves s)
 arranged s Kept h fit = arranged-still s h
@@ -179,11 +170,11 @@ arranged s Plain h fit = arranged-still s h
 arranged s (Rise level rise shifts) h fit =
     let low : ℕ → Bool = λ y. leb (get_or s.core y 0) level in
     arranged_by s low rise.items shifts.items level (level + 1) (rise.items ++ firsts shifts.items) h (record {
-      once = Distinct-front rise.items (firsts shifts.items) fit.0;
-      front_level = λ x m. let k = fit.1 x (member-append_left x rise.items (firsts shifts.items) m) in (k.vertex, k.of_level);
-      firsts_level = λ x m. let k = fit.1 x (member-append_right x rise.items (firsts shifts.items) m) in (k.vertex, k.of_level);
-      seconds_level = λ w m. let k = (fit.2 w m).0 in (k.vertex, k.of_level);
-      in_turn = fit.3;
+      once = Distinct-front rise.items (firsts shifts.items) fit.once;
+      front_level = λ x m. let k = fit.of_level x (member-append_left x rise.items (firsts shifts.items) m) in (k.vertex, k.of_level);
+      firsts_level = λ x m. let k = fit.of_level x (member-append_right x rise.items (firsts shifts.items) m) in (k.vertex, k.of_level);
+      seconds_level = λ w m. let k = fit.after_level w m in (k.vertex, k.of_level);
+      in_turn = fit.in_turn;
       low_below = λ y t. omega (arith, leb-true (get_or s.core y 0) level t);
       high_above = λ y t. omega (arith, leb-false (get_or s.core y 0) level t);
       low_first = λ y z a b. omega (arith, leb-true (get_or s.core y 0) level a, leb-false (get_or s.core z 0) level b);
@@ -191,8 +182,8 @@ arranged s (Rise level rise shifts) h fit =
 arranged s (Fall level fall) h fit =
     let low : ℕ → Bool = λ y. ltb (get_or s.core y 0) level in
     arranged_by s low fall.items [] level (level - 1) fall.items h (record {
-      once = fit.0;
-      front_level = λ x m. let k = (fit.1 x m).0 in (k.vertex, k.of_level);
+      once = fit.once;
+      front_level = λ x m. let k = fit.of_level x m in (k.vertex, k.of_level);
       firsts_level = λ x m. absurd (false≢true m);
       seconds_level = λ x m. absurd (false≢true m);
       in_turn = tt;

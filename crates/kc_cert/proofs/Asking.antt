@@ -1,5 +1,5 @@
 -- What the maps of an arrangement tell.
-use Rattle.std.proofs.Common.{◌≡◌, ◌≢◌, ◌≤◌, ◌<◌, ◌+◌, ◌-◌, ℕ, Bool, true, false, cond, not, ◌&&◌, drop, leb, List, [], ◌∷◌, ◌++◌, Option, length, get_or, ltb, refl, ◌∙◌, ap, ap₂, arith, true≢false}
+use Rattle.std.proofs.Common.{◌≡◌, ◌≢◌, ◌≤◌, ◌<◌, ◌+◌, ◌-◌, ℕ, Bool, true, false, cond, not, ◌&&◌, drop, leb, List, [], ◌∷◌, Option, length, get_or, ltb, refl, ◌∙◌, ap, ap₂, arith, true≢false}
 use Rattle.std.specs.Prelude.{unwrap_or, count_by}
 use Rattle.std.specs.Bool.{beq}
 use Rattle.std.proofs.lemmas.Bool.{false≢true}
@@ -23,6 +23,7 @@ use Rattle.kc_cert.proofs.Placing.{Orders-distinct, later-count}
 use Rattle.kc_cert.proofs.Sums.{count-same}
 use Rattle.kc_cert.proofs.Ordered.{order-has, rank-apart}
 use Rattle.kc_cert.proofs.Chaining.{Linked, Chained, linked_none, chained_none, linked_all, chained_all, chain_after-is}
+use Rattle.kc_distinct.proofs.Shared.{Distinct-back}
 
 -- the core number of a vertex after moves
 pub core-moved : (s : Ranked) (moves : Moves) (y : ℕ) → y < length s.core → get_or (moved_by moves s).core y 0 ≡ cond (member y (leaving moves)) (next_level moves) (get_or s.core y 0)
@@ -30,10 +31,6 @@ core-moved s Kept y l = refl
 core-moved s Plain y l = refl
 core-moved s (Rise level rise shifts) y l = renumbered-at rise.items (level + 1) s.core y l
 core-moved s (Fall level fall) y l = renumbered-at fall.items (level - 1) s.core y l
-
-Distinct-back : (xs ys : List ℕ) → Distinct (xs ++ ys) → Distinct ys
-Distinct-back [] ys d = d
-Distinct-back (x ∷ xs) ys d = Distinct-back xs ys d.1
 
 -- shifts that fit
 pub record ShiftsFit (s : Ranked) (shifts : List (ℕ × ℕ)) : Type 0 where
@@ -47,7 +44,11 @@ no_shifts s = record { in_turn = tt; once = tt; within = λ w m. absurd (false�
 pub shifts_fit : (s : Ranked) (moves : Moves) → MovesFit s moves → ShiftsFit s (shifts_of moves)
 shifts_fit s Kept fit = no_shifts s
 shifts_fit s Plain fit = no_shifts s
-shifts_fit s (Rise level rise shifts) fit = record { in_turn = fit.3; once = Distinct-back rise.items (firsts shifts.items) fit.0; within = λ w m. (fit.2 w m).0.vertex }
+shifts_fit s (Rise level rise shifts) fit = record {
+  in_turn = fit.in_turn;
+  once = Distinct-back rise.items (firsts shifts.items) fit.once;
+  within = λ w m. (fit.after_level w m).vertex;
+}
 shifts_fit s (Fall level fall) fit = no_shifts s
 
 -- the chains of moves that fit

@@ -13,6 +13,7 @@ use Rattle.kc_cert.specs.Ranks.{moved, place_after}
 use Rattle.kc_cert.specs.Shifting.{place_in, anchor_of, with_anchor, line_with, home_with, line_after, home_after, no_home, chain_after}
 use Rattle.kc_cert.proofs.Placing.{moved-itself, moved-other, placed_has}
 use Rattle.kc_cert.proofs.Sums.{one_if}
+use Rattle.kc_distinct.proofs.Shared.{ltb-double}
 
 -- a line and anchors that the shifts to come can go on with
 pub record Linked (line : List ℕ) (home : ℕ → Option ℕ) (shifts : List (ℕ × ℕ)) : Type 0 where
@@ -124,13 +125,6 @@ put_before pw pz = grind arith
 
 put_behind : (pw pz : ℕ) → ltb (pz + one_if (ltb pw pz)) (pw + 1) ≡ not (ltb pw pz)
 put_behind pw pz = grind arith
-
--- the same of ranks
-doubled : (a b : ℕ) → ltb (a + a) (b + b) ≡ ltb a b
-doubled a b = elim (cases_lt a b) [
-  | inl l ↦ lt-ltb (a + a) (b + b) (omega arith) ∙ sym (lt-ltb a b l)
-  | inr l ↦ le-ltb (a + a) (b + b) (omega arith) ∙ sym (le-ltb a b l)
-]
 
 doubled_before : (w z : ℕ) → ltb (w + w + 1) (z + z) ≡ ltb w z
 doubled_before w z = elim (cases_lt w z) [
@@ -272,7 +266,7 @@ far-more place now n line home x w lw h y z ly lz ne = elim (cases_eq y x) [
         | inr nz ↦
             let az = anchor_with-other x w z home nz in
             ap₂ ltb (moved-other now x w y ny) (moved-other now x w z nz)
-            ∙ (doubled (now y) (now z) ∙ (h.far y z ly lz (λ e. ne (ay ∙ (e ∙ sym az))) ∙ ap₂ ltb (ap place (sym ay)) (ap place (sym az))))
+            ∙ (ltb-double (now y) (now z) ∙ (h.far y z ly lz (λ e. ne (ay ∙ (e ∙ sym az))) ∙ ap₂ ltb (ap place (sym ay)) (ap place (sym az))))
       ]
 ]
 
@@ -313,7 +307,7 @@ near-more place now n line home x w lw held out h y z ly lz my mz e =
             | inr nz ↦
                 let az = anchor_with-other x w z home nz in
                 ap₂ ltb (moved-other now x w y ny) (moved-other now x w z nz)
-                ∙ (doubled (now y) (now z) ∙ (near-open place now n line home w held h y z ly lz (still-in x w line y ny my) (still-in x w line z nz mz) (sym ay ∙ (e ∙ az))
+                ∙ (ltb-double (now y) (now z) ∙ (near-open place now n line home w held h y z ly lz (still-in x w line y ny my) (still-in x w line z nz mz) (sym ay ∙ (e ∙ az))
                 ∙ sym (ap₂ ltb (put y ny) (put z nz) ∙ others_stay (place_of w opened) (place_of y opened) (place_of z opened))))
           ]
     ]

@@ -10,7 +10,7 @@ use Rattle.kc_graph.specs.SimpleGraph.{SimpleGraph, adjacent, degree_among}
 use Rattle.kc_graph.specs.Neighbours.{AreNeighbours}
 use Rattle.kc_graph.specs.Certificate.{Enumerates, Certifies, degree_as_high}
 use Rattle.kc_graph.proofs.PeelingLemmas.{neighbours-distinct}
-use Rattle.kc_cert.specs.Conditions.{NeverFalls, HasFewLater, HasEnoughAsHigh, as_high}
+use Rattle.kc_cert.specs.Conditions.{NeverFalls, HasFewLater, HasEnoughAsHigh}
 use Rattle.kc_cert.proofs.Enumerating.{MarkedTo}
 
 pub neighbours_within : (g : SimpleGraph) (v : ℕ) (ws : List ℕ) → AreNeighbours g v ws → All (λ w. w < g.size) ws
@@ -35,18 +35,18 @@ later_count g v j order ws marks e near marked =
     omega (arith, here, up, among, back, down)
 
 -- the neighbours whose number is no less
-pub high_count : (g : SimpleGraph) (v : ℕ) (core ws : List ℕ) → AreNeighbours g v ws → count_by (λ w. nat_le (get_or core v 0) (get_or core w 0)) ws ≡ as_high g core v
+pub high_count : (g : SimpleGraph) (v : ℕ) (core ws : List ℕ) → AreNeighbours g v ws → count_by (λ w. nat_le (get_or core v 0) (get_or core w 0)) ws ≡ degree_as_high g core (below g.size) v
 high_count g v core ws near =
     let high : ℕ → Bool = λ w. adjacent g v w && nat_le (get_or core v 0) (get_or core w 0) in
     let here : count_by (λ w. nat_le (get_or core v 0) (get_or core w 0)) ws ≡ count_by high ws = count-agree (λ w. nat_le (get_or core v 0) (get_or core w 0)) high ws
     (λ w m. sym (ap (λ b. b && nat_le (get_or core v 0) (get_or core w 0)) (sym (near.exact w) ∙ m))) in
-    let up : count_by high ws ≤ as_high g core v = count-le high ws (below g.size) (neighbours-distinct g v ws near) (λ w m _. member-below w g.size (near.within w m)) in
-    let down : as_high g core v ≤ count_by high ws = count-le high (below g.size) ws (Distinct-below g.size) (λ w _ t. near.exact w ∙ (and_parts (adjacent g v w) (nat_le (get_or core v 0) (get_or core w 0)) t).0) in
+    let up : count_by high ws ≤ degree_as_high g core (below g.size) v = count-le high ws (below g.size) (neighbours-distinct g v ws near) (λ w m _. member-below w g.size (near.within w m)) in
+    let down : degree_as_high g core (below g.size) v ≤ count_by high ws = count-le high (below g.size) ws (Distinct-below g.size) (λ w _ t. near.exact w ∙ (and_parts (adjacent g v w) (nat_le (get_or core v 0) (get_or core w 0)) t).0) in
     omega (arith, here, up, down)
 
 -- over all vertices and over the order
-pub as_high-order : (g : SimpleGraph) (core order : List ℕ) (v : ℕ) → Enumerates g.size order → as_high g core v ≡ degree_as_high g core order v
-as_high-order g core order v e =
+pub degree_as_high-order : (g : SimpleGraph) (core order : List ℕ) (v : ℕ) → Enumerates g.size order → degree_as_high g core (below g.size) v ≡ degree_as_high g core order v
+degree_as_high-order g core order v e =
     let high : ℕ → Bool = λ w. adjacent g v w && nat_le (get_or core v 0) (get_or core w 0) in
     let up : count_by high (below g.size) ≤ count_by high order = count-le high (below g.size) order (Distinct-below g.size) (λ w m _. member-from_Contains order w (e.complete w (below-member w g.size m))) in
     let down : count_by high order ≤ count_by high (below g.size) = count-le high order (below g.size) (Distinct-from_pairs order e.distinct)
@@ -65,8 +65,8 @@ all_conditions g core order n e rising few high = record {
   enumerates = e;
   rising = rising;
   few_later = few;
-  enough_as_high = λ v l. omega (arith, high v l, as_high-order g core order v e);
+  enough_as_high = λ v l. omega (arith, high v l, degree_as_high-order g core order v e);
 }
 
 pub enough_in : (g : SimpleGraph) (core order : List ℕ) → Certifies g core order → HasEnoughAsHigh g core
-enough_in g core order h v l = omega (arith, h.enough_as_high v l, as_high-order g core order v h.enumerates)
+enough_in g core order h v l = omega (arith, h.enough_as_high v l, degree_as_high-order g core order v h.enumerates)

@@ -1,8 +1,8 @@
 -- Numbers along an order.
 use Rattle.std.proofs.Common.{◌≡◌, ◌≤◌, ◌<◌, ◌+◌, ◌-◌, ℕ, List, length, get_or, ap, arith, inl, inr}
 use Rattle.std.proofs.lemmas.Bool.{cases_eq}
-use Rattle.kc_graph.proofs.Places.{any_default}
 use Rattle.kc_cert.specs.Conditions.{NeverFalls}
+use Rattle.kc_distinct.proofs.Shared.{get_or-any}
 
 abbrev number_at : List ℕ → List ℕ → ℕ → ℕ
 number_at core order k = get_or core (get_or order k 0) 0
@@ -35,7 +35,7 @@ risen_more core order i last h up = record {
 
 pub risen_all : (core order : List ℕ) (last : ℕ) → RisenTo core order (length order) last → NeverFalls core order
 risen_all core order last h i j d lt l =
-    omega (arith, h.pairs i j lt l, ap (λ x. get_or core x 0) (any_default order i d 0 (omega arith)), ap (λ x. get_or core x 0) (any_default order j d 0 l))
+    omega (arith, h.pairs i j lt l, ap (λ x. get_or core x 0) (get_or-any order i d 0 (omega arith)), ap (λ x. get_or core x 0) (get_or-any order j d 0 l))
 
 -- a number that is less than the one before
 pub falls : (core order : List ℕ) (i last : ℕ) → RisenTo core order i last → i < length order → number_at core order i < last → NeverFalls core order → ⊥

@@ -6,7 +6,7 @@ use Rattle.std.proofs.lemmas.List.Folds.{list_any-append}
 use Rattle.kc_distinct.specs.Lists.{member, Distinct}
 use Rattle.kc_distinct.proofs.Counting.{member-filter, filter-member}
 use Rattle.kc_graph.specs.Plans.{put_between}
-use Rattle.kc_cert.specs.Ranks.{Ascends, Orders, part, then_after}
+use Rattle.kc_cert.specs.Ranks.{AscendsBy, Orders, part, then_after}
 use Rattle.kc_cert.proofs.Placing.{Ascends-filter, Orders-from_Ascends, Orders-append}
 
 part-low : (r low : Bool) → low ≡ true → not r ≡ true → ◌≡◌ {A = ℕ} (cond r 1 (cond low 0 2)) 0
@@ -45,12 +45,12 @@ three m a low f g sub hf hg = grind arith
 pub not_itself : (p : ℕ) (r : Bool) (n m : ℕ) → (ltb p p || (eqb p p && cond r (ltb n n) (ltb m m))) ≡ false
 not_itself p r n m = grind arith
 
-pub Ascends-distinct : (r : ℕ → ℕ) (xs : List ℕ) → Ascends r xs → Distinct xs
+pub Ascends-distinct : (r : ℕ → ℕ) (xs : List ℕ) → AscendsBy r xs → Distinct xs
 Ascends-distinct r [] a = tt
 Ascends-distinct r (x ∷ xs) a = (false_from_ne_true _ (λ m. lt_irrefl (r x) (a.0 x m)), Ascends-distinct r xs a.1)
 
 -- the order after the moves is that of `then_after`
-pub final-orders : (is_low : ℕ → Bool) (cands : List ℕ) (inside place : ℕ → ℕ) (order : List ℕ) → Ascends inside cands → Ascends place order
+pub final-orders : (is_low : ℕ → Bool) (cands : List ℕ) (inside place : ℕ → ℕ) (order : List ℕ) → AscendsBy inside cands → AscendsBy place order
     → Orders (then_after is_low cands inside place) (put_between is_low cands order)
 final-orders is_low cands inside place order up a =
     let lt : ℕ → ℕ → Bool = then_after is_low cands inside place in

@@ -14,3 +14,4 @@ pub mod Turns
 pub mod Asking
 pub mod Tallying
 pub mod Looking
+pub mod FittingMoves

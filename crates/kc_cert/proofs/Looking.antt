@@ -3,7 +3,7 @@ use Rattle.std.proofs.Common.{◌≡◌, ◌≢◌, ◌≤◌, ◌<◌, ◌+◌,
 use Rattle.std.specs.List.{list_any}
 use Rattle.std.proofs.lemmas.Bool.{cases_Bool, cases_eq, or_cases, or_left, or_right, or_from, or_parts, false≢true}
 use Rattle.kc_distinct.specs.Lists.{member, place_of}
-use Rattle.kc_distinct.proofs.Members.{member-cases, member-head}
+use Rattle.kc_distinct.proofs.Members.{member-cases}
 use Rattle.kc_distinct.proofs.Counting.{member-below, Contains-from_member}
 use Rattle.kc_graph.specs.SimpleGraph.{SimpleGraph, adjacent, degree_among}
 use Rattle.kc_graph.specs.Neighbours.{neighbours_of}
@@ -13,21 +13,22 @@ use Rattle.kc_graph.specs.declared.update.Update.{Update}
 use Rattle.kc_graph.specs.declared.plan.Moves.{Moves}
 use Rattle.kc_graph.specs.declared.plan.Moves.TheVariants.{Kept, Plain, Rise, Fall}
 use Rattle.kc_graph.specs.declared.plan.Plan.{Plan}
-use Rattle.kc_graph.proofs.EdgeChanges.{adjacent-either}
 use Rattle.kc_graph.proofs.NeighbourLists.{neighbours_has, neighbours_within}
-use Rattle.kc_graph.proofs.Places.{any_default}
 use Rattle.kc_cert.specs.Local.{MovesFit, HoldsAt, IsLocal, is_kept, is_looked_at, moved_vertices}
 use Rattle.kc_cert.specs.Looks.{HoldsLocally}
 use Rattle.kc_cert.specs.Ranks.{rank_in}
 use Rattle.kc_cert.specs.Stands.{changed_by}
 use Rattle.kc_cert.proofs.Ordered.{rank-here, order-has}
 use Rattle.kc_cert.proofs.Keeping.{adjacent-elsewhere}
+use Rattle.kc_distinct.proofs.Shared.{list_any-some, get_or-any}
+use Rattle.kc_graph.proofs.Law.{adjacent-sym}
+use Rattle.kc_cert.proofs.FittingMoves.{kept_fits}
 
 -- what holds at each place holds of each member
 pub each_member : (P : ℕ → Type 0) (xs : List ℕ) (n : ℕ) → length xs ≤ n → ((k : ℕ) → k < n → P (get_or xs k 0)) → (x : ℕ) → member x xs ≡ true → P x
 each_member P xs n l h x m =
     let (k, lk, e) = Contains-from_member xs x m in
-    subst P (any_default xs k 0 x lk ∙ e) (h k (omega arith))
+    subst P (get_or-any xs k 0 x lk ∙ e) (h k (omega arith))
 
 -- a vertex is a neighbour where its list has it
 pub not_adjacent : (g : SimpleGraph) (u v n : ℕ) → v < g.size → length (neighbours_of g u) ≤ n → ((k : ℕ) → k < n → get_or (neighbours_of g u) k 0 ≢ v) → adjacent g u v ≡ true → ⊥
@@ -46,8 +47,8 @@ holds_certified s z h l =
 pub moved_vertex : (s : Ranked) (moves : Moves) (x : ℕ) → MovesFit s moves → member x (moved_vertices moves) ≡ true → x < s.graph.size
 moved_vertex s Kept x fit m = absurd (false≢true m)
 moved_vertex s Plain x fit m = absurd (false≢true m)
-moved_vertex s (Rise level rise shifts) x fit m = (fit.1 x m).vertex
-moved_vertex s (Fall level fall) x fit m = (fit.1 x m).0.vertex
+moved_vertex s (Rise level rise shifts) x fit m = (fit.of_level x m).vertex
+moved_vertex s (Fall level fall) x fit m = (fit.of_level x m).vertex
 
 after-changed : (s : Ranked) (update : Update) (moves : Moves) → is_kept moves ≡ false → (let t : Ranked = record (moved_by moves s) { graph = graph_after update moves s.graph } in t) ≡ changed_by update moves s
 after-changed s update Kept n = absurd (true≢false n)
@@ -62,7 +63,7 @@ after-kept s update (Rise level rise shifts) y = absurd (false≢true y)
 after-kept s update (Fall level fall) y = absurd (false≢true y)
 
 fit-kept : (s : Ranked) (moves : Moves) → is_kept moves ≡ true → MovesFit s moves
-fit-kept s Kept y = tt
+fit-kept s Kept y = kept_fits s
 fit-kept s Plain y = absurd (false≢true y)
 fit-kept s (Rise level rise shifts) y = absurd (false≢true y)
 fit-kept s (Fall level fall) y = absurd (false≢true y)
@@ -75,13 +76,6 @@ kept_local s plan h l kept applied = record {
   moves_fit = fit-kept s plan.moves kept;
   holds = λ z lz _. subst (λ (t : Ranked). HoldsAt t z) (sym (after-kept s plan.update plan.moves kept)) (holds_certified s z h lz);
 }
-
-one_of_them : (p : ℕ → Bool) (xs : List ℕ) → list_any p xs ≡ true → (x : ℕ) × (member x xs ≡ true) × (p x ≡ true)
-one_of_them p [] h = absurd (false≢true h)
-one_of_them p (x ∷ xs) h = elim (or_cases (p x) (list_any p xs) h) [
-  | inl y ↦ (x, member-head x xs, y)
-  | inr k ↦ let (y, m, t) = one_of_them p xs k in (y, or_right (eqb y x) (member y xs) m, t)
-]
 
 them : (p : ℕ → Bool) (xs : List ℕ) (x : ℕ) → member x xs ≡ true → p x ≡ true → list_any p xs ≡ true
 them p [] x m t = absurd (false≢true m)
@@ -108,9 +102,9 @@ looks_good s plan h z l looked =
               | inr k ↦ elim (or_cases (member z (moved_vertices plan.moves)) _ k) [
                 | inl m ↦ (h.around z m).here
                 | inr any ↦
-                    let (x, m, a) = one_of_them (adjacent t.graph z) (moved_vertices plan.moves) any in
+                    let (x, m, a) = list_any-some (adjacent t.graph z) (moved_vertices plan.moves) any in
                     let before : adjacent s.graph z x ≡ true = sym (adjacent-elsewhere plan.update s.graph z x (ne_eqb z plan.update.u nu) (ne_eqb z plan.update.v nv)) ∙ a in
-                    (h.around x m).beside z (neighbours_has s.graph x z l ∙ (adjacent-either s.graph x z ∙ before))
+                    (h.around x m).beside z (neighbours_has s.graph x z l ∙ (adjacent-sym s.graph x z ∙ before))
               ]
             ]
       ]
@@ -137,7 +131,7 @@ holds_there s plan l fit h =
                   | inl e ↦ end y near.0 e
                   | inr n ↦
                       let p = or_parts (eqb y u) (eqb y v) n in
-                      let a : adjacent t.graph y x ≡ true = adjacent-elsewhere plan.update s.graph y x p.0 p.1 ∙ (adjacent-either s.graph y x ∙ near.1) in
+                      let a : adjacent t.graph y x ≡ true = adjacent-elsewhere plan.update s.graph y x p.0 p.1 ∙ (adjacent-sym s.graph y x ∙ near.1) in
                       h y near.0 (or_right (eqb y u || eqb y v) _ (or_right (member y moved) _ (them (adjacent t.graph y) moved x m a)))
                 ];
           };

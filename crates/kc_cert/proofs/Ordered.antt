@@ -1,5 +1,5 @@
 -- The order of a certified state, by ranks.
-use Rattle.std.proofs.Common.{◌≡◌, ◌≢◌, ◌≤◌, ◌<◌, ◌+◌, ℕ, suc, Bool, true, false, cond, ◌&&◌, List, [], ◌∷◌, drop, length, get_or, ltb, leb, refl, sym, ◌∙◌, ap, subst, inl, inr, arith, true≢false, eq-eqb, ne_eqb, lt-ltb}
+use Rattle.std.proofs.Common.{◌≡◌, ◌≢◌, ◌≤◌, ◌<◌, ◌+◌, ℕ, suc, Bool, true, cond, ◌&&◌, List, [], ◌∷◌, drop, length, get_or, ltb, leb, refl, sym, ◌∙◌, ap, subst, inl, inr, arith, true≢false, eq-eqb, ne_eqb, lt-ltb}
 use Rattle.std.proofs.lemmas.Bool.{cases_Bool, cases_eq, cases_order, false≢true, false_from_ne_true}
 use Rattle.std.proofs.lemmas.List.Elements.{All-contains}
 use Rattle.std.specs.Prelude.{count_by, AllPairs}
@@ -8,7 +8,7 @@ use Rattle.kc_distinct.proofs.Members.{member-head, member-tail}
 use Rattle.kc_distinct.proofs.Counting.{member-other, member-below, below-member, Distinct-below, member-from_Contains, Contains-from_member, Distinct-from_pairs, pairs_from_Distinct, member-get_or}
 use Rattle.kc_graph.specs.SimpleGraph.{SimpleGraph, adjacent, degree_among}
 use Rattle.kc_graph.specs.Certificate.{Certifies, Enumerates, degree_as_high}
-use Rattle.kc_cert.specs.Ranks.{rank_in, Ascends, Orders}
+use Rattle.kc_cert.specs.Ranks.{rank_in, AscendsBy, Orders}
 use Rattle.kc_cert.proofs.Placing.{Orders-from_Ascends, later-count}
 use Rattle.kc_cert.proofs.Sums.{count-same}
 
@@ -30,14 +30,14 @@ rank-here x (y ∷ ys) m = elim (cases_eq x y) [
       (omega (arith, k.0, z), ap (λ k. get_or (y ∷ ys) k 0) z ∙ k.1)
 ]
 
-Ascends-later : (x : ℕ) (xs ys : List ℕ) → ((y : ℕ) → member y ys ≡ true → y ≢ x) → Ascends (rank_in xs) ys → Ascends (rank_in (x ∷ xs)) ys
+Ascends-later : (x : ℕ) (xs ys : List ℕ) → ((y : ℕ) → member y ys ≡ true → y ≢ x) → AscendsBy (rank_in xs) ys → AscendsBy (rank_in (x ∷ xs)) ys
 Ascends-later x xs [] ne a = tt
 Ascends-later x xs (y ∷ ys) ne a = (
   λ z m. omega (arith, a.0 z m, rank-other y x xs (ne y (member-head y ys)), rank-other z x xs (ne z (member-tail z y ys m))),
   Ascends-later x xs ys (λ z m. ne z (member-tail z y ys m)) a.1,
 )
 
-pub rank-ascends : (xs : List ℕ) → Distinct xs → Ascends (rank_in xs) xs
+pub rank-ascends : (xs : List ℕ) → Distinct xs → AscendsBy (rank_in xs) xs
 rank-ascends [] d = tt
 rank-ascends (x ∷ xs) d = (
   λ y m. let ne : y ≢ x = λ e. true≢false (sym m ∙ (ap (λ n. member n xs) e ∙ d.0)) in omega (arith, rank-self x xs, rank-other y x xs ne),
@@ -106,11 +106,4 @@ ranks-rise core order up x y mx my lt = elim (cases_order (rank_in order x) (ran
       let ey : get_or core (get_or order (rank_in order y) 0) 0 ≡ get_or core y 0 = ap (λ n. get_or core n 0) hy.1 in
       let ex : get_or core (get_or order (rank_in order x) 0) 0 ≡ get_or core x 0 = ap (λ n. get_or core n 0) hx.1 in
       absurd (omega arith)
-]
-
-pub adjacent-sym : (g : SimpleGraph) (v w : ℕ) → adjacent g v w ≡ adjacent g w v
-adjacent-sym g v w = elim (cases_order v w) [
-  | inl e ↦ ap (λ k. adjacent g k w) e ∙ ap (adjacent g w) (sym e)
-  | inr (inl lt) ↦ let a : ltb v w ≡ true = lt-ltb v w lt in let b : ltb w v ≡ false = grind (arith, lt) in grind (arith, a, b)
-  | inr (inr lt) ↦ let a : ltb w v ≡ true = lt-ltb w v lt in let b : ltb v w ≡ false = grind (arith, lt) in grind (arith, a, b)
 ]

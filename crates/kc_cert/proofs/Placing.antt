@@ -9,7 +9,9 @@ use Rattle.kc_distinct.proofs.Members.{member-head, member-tail, member-cases, m
 use Rattle.kc_distinct.proofs.Counting.{member-other, member-filter, count-no, count-agree}
 use Rattle.kc_graph.specs.Plans.{shifted}
 use Rattle.kc_cert.specs.Local.{firsts, seconds, AreInTurn}
-use Rattle.kc_cert.specs.Ranks.{Ascends, moved, place_after, Orders}
+use Rattle.kc_cert.specs.Ranks.{AscendsBy, moved, place_after, Orders}
+use Rattle.kc_distinct.proofs.Shared.{or-swap, and-fails}
+use Rattle.std.proofs.Math.Bool.{or_assoc}
 
 pub moved-itself : (place : ℕ → ℕ) (x last y : ℕ) → y ≡ x → moved place x last y ≡ place last + place last + 1
 moved-itself place x last y e = ap (λ b. cond b (place last + place last + 1) (place y + place y)) (eq-eqb y x e)
@@ -17,33 +19,24 @@ moved-itself place x last y e = ap (λ b. cond b (place last + place last + 1) (
 pub moved-other : (place : ℕ → ℕ) (x last y : ℕ) → y ≢ x → moved place x last y ≡ place y + place y
 moved-other place x last y ne = ap (λ b. cond b (place last + place last + 1) (place y + place y)) (ne_eqb y x ne)
 
-or_swap : (a b c : Bool) → (a || (b || c)) ≡ ((a || c) || b)
-or_swap a b c = grind arith
-
-or_assoc : (a b c : Bool) → (a || (b || c)) ≡ ((a || b) || c)
-or_assoc a b c = grind arith
-
 or-no : (a : Bool) → (a || false) ≡ a
 or-no a = grind arith
-
-and-false : (a b : Bool) → b ≡ false → (a && b) ≡ false
-and-false a b h = grind arith
 
 and-yes : (a b : Bool) → b ≡ true → a ≡ (a && b)
 and-yes a b h = grind arith
 
-pub Ascends-filter : (r : ℕ → ℕ) (p : ℕ → Bool) (xs : List ℕ) → Ascends r xs → Ascends r (filter p xs)
+pub Ascends-filter : (r : ℕ → ℕ) (p : ℕ → Bool) (xs : List ℕ) → AscendsBy r xs → AscendsBy r (filter p xs)
 Ascends-filter r p [] a = tt
 Ascends-filter r p (x ∷ xs) a =
-    elim (p x) as (λ b. Ascends r (cond b (x ∷ filter p xs) (filter p xs))) [
+    elim (p x) as (λ b. AscendsBy r (cond b (x ∷ filter p xs) (filter p xs))) [
       | true ↦ (λ y m. a.0 y (member-filter p y xs m).0, Ascends-filter r p xs a.1)
       | false ↦ Ascends-filter r p xs a.1
     ]
 
-Ascends-without : (r : ℕ → ℕ) (x : ℕ) (xs : List ℕ) → Ascends r xs → Ascends r (without x xs)
+Ascends-without : (r : ℕ → ℕ) (x : ℕ) (xs : List ℕ) → AscendsBy r xs → AscendsBy r (without x xs)
 Ascends-without r x [] a = tt
 Ascends-without r x (y ∷ ys) a =
-    elim (eqb x y) as (λ b. Ascends r (cond b (without x ys) (y ∷ without x ys))) [
+    elim (eqb x y) as (λ b. AscendsBy r (cond b (without x ys) (y ∷ without x ys))) [
       | true ↦ Ascends-without r x ys a.1
       | false ↦ (λ z m. a.0 z (member-without z x ys m).0, Ascends-without r x ys a.1)
     ]
@@ -53,11 +46,11 @@ pub placed_has : (x w : ℕ) (ys : List ℕ) → member w ys ≡ true → (z : �
 placed_has x w [] m z = absurd (false≢true m)
 placed_has x w (y ∷ ys) m z =
     elim (eqb w y) as (λ b. eqb w y ≡ b → member z (cond b (y ∷ x ∷ ys) (y ∷ right_after x w ys)) ≡ (eqb z y || member z ys || eqb z x)) [
-      | true ↦ λ _. or_swap (eqb z y) (eqb z x) (member z ys)
-      | false ↦ λ e. ap (λ b. eqb z y || b) (placed_has x w ys (member-other w y ys (λ k. eqb-false w y e k) m) z) ∙ or_assoc (eqb z y) (member z ys) (eqb z x)
+      | true ↦ λ _. or-swap (eqb z y) (eqb z x) (member z ys)
+      | false ↦ λ e. ap (λ b. eqb z y || b) (placed_has x w ys (member-other w y ys (λ k. eqb-false w y e k) m) z) ∙ sym (or_assoc (eqb z y) (member z ys) (eqb z x))
     ] refl
 
-Ascends-moved : (r : ℕ → ℕ) (x w : ℕ) (ys : List ℕ) → Ascends r ys → member x ys ≡ false → Ascends (moved r x w) ys
+Ascends-moved : (r : ℕ → ℕ) (x w : ℕ) (ys : List ℕ) → AscendsBy r ys → member x ys ≡ false → AscendsBy (moved r x w) ys
 Ascends-moved r x w [] a m = tt
 Ascends-moved r x w (y ∷ ys) a m =
     let k = or_parts (eqb x y) (member x ys) m in
@@ -69,7 +62,7 @@ Ascends-moved r x w (y ∷ ys) a m =
       Ascends-moved r x w ys a.1 k.1,
     )
 
-Ascends-placed : (r : ℕ → ℕ) (x w : ℕ) (ys : List ℕ) → Ascends r ys → member x ys ≡ false → member w ys ≡ true → Ascends (moved r x w) (right_after x w ys)
+Ascends-placed : (r : ℕ → ℕ) (x w : ℕ) (ys : List ℕ) → AscendsBy r ys → member x ys ≡ false → member w ys ≡ true → AscendsBy (moved r x w) (right_after x w ys)
 Ascends-placed r x w [] a m mw = absurd (false≢true mw)
 Ascends-placed r x w (y ∷ ys) a m mw =
     let k = or_parts (eqb x y) (member x ys) m in
@@ -79,7 +72,7 @@ Ascends-placed r x w (y ∷ ys) a m mw =
     let others : (z : ℕ) → member z ys ≡ true → (r y < r z) × (moved r x w z ≡ r z + r z) = λ z in'.
     let nz : z ≢ x = λ e. true≢false (sym in' ∙ (ap (λ n. member n ys) e ∙ k.1)) in
     (a.0 z in', moved-other r x w z nz) in
-    elim (eqb w y) as (λ b. eqb w y ≡ b → Ascends (moved r x w) (cond b (y ∷ x ∷ ys) (y ∷ right_after x w ys))) [
+    elim (eqb w y) as (λ b. eqb w y ≡ b → AscendsBy (moved r x w) (cond b (y ∷ x ∷ ys) (y ∷ right_after x w ys))) [
       | true ↦ λ e.
           let same : r y ≡ r w = ap r (sym (eqb-true w y e)) in (
             λ z in'. elim (member-cases z x ys in') [
@@ -116,7 +109,7 @@ put_after-has x w order mx mw ne z =
       | inr nz ↦ ap (λ b. b || eqb z x) (left x z order nz) ∙ (ap (λ b. member z order || b) (ne_eqb z x nz) ∙ or-no (member z order))
     ]
 
-pub put_after-ascends : (r : ℕ → ℕ) (x w : ℕ) (order : List ℕ) → Ascends r order → member w order ≡ true → w ≢ x → Ascends (moved r x w) (right_after x w (without x order))
+pub put_after-ascends : (r : ℕ → ℕ) (x w : ℕ) (order : List ℕ) → AscendsBy r order → member w order ≡ true → w ≢ x → AscendsBy (moved r x w) (right_after x w (without x order))
 put_after-ascends r x w order a mw ne =
     Ascends-placed r x w (without x order) (Ascends-without r x order a) (not_member-without x order) (left x w order ne ∙ mw)
 
@@ -132,8 +125,8 @@ shifted-has (p ∷ shifts) order t f s z =
     put_after-has p.0 p.1 order (f p.0 (member-head p.0 (firsts shifts))) (s p.1 (member-head p.1 (seconds shifts))) (not_itself p.1 p.0 (firsts shifts) t.0) in
     shifted-has shifts (right_after p.0 p.1 (without p.0 order)) t.1 (λ x m. same x ∙ f x (member-tail x p.0 (firsts shifts) m)) (λ x m. same x ∙ s x (member-tail x p.1 (seconds shifts) m)) z ∙ same z
 
-pub shifted-ascends : (r : ℕ → ℕ) (shifts : List (ℕ × ℕ)) (order : List ℕ) → Ascends r order → AreInTurn shifts → ((x : ℕ) → member x (firsts shifts) ≡ true → member x order ≡ true) → ((x : ℕ) → member x (seconds shifts) ≡ true → member x order ≡ true)
-    → Ascends (place_after r shifts) (shifted shifts order)
+pub shifted-ascends : (r : ℕ → ℕ) (shifts : List (ℕ × ℕ)) (order : List ℕ) → AscendsBy r order → AreInTurn shifts → ((x : ℕ) → member x (firsts shifts) ≡ true → member x order ≡ true) → ((x : ℕ) → member x (seconds shifts) ≡ true → member x order ≡ true)
+    → AscendsBy (place_after r shifts) (shifted shifts order)
 shifted-ascends r [] order a t f s = a
 shifted-ascends r (p ∷ shifts) order a t f s =
     let ne : p.1 ≢ p.0 = not_itself p.1 p.0 (firsts shifts) t.0 in
@@ -142,7 +135,7 @@ shifted-ascends r (p ∷ shifts) order a t f s =
     (λ x m. same x ∙ f x (member-tail x p.0 (firsts shifts) m)) (λ x m. same x ∙ s x (member-tail x p.1 (seconds shifts) m))
 
 -- a list in the order of a test
-pub Orders-from_Ascends : (lt : ℕ → ℕ → Bool) (r : ℕ → ℕ) (xs : List ℕ) → ((y z : ℕ) → member y xs ≡ true → member z xs ≡ true → r y < r z → (lt y z ≡ true) × (lt z y ≡ false)) → Ascends r xs → Orders lt xs
+pub Orders-from_Ascends : (lt : ℕ → ℕ → Bool) (r : ℕ → ℕ) (xs : List ℕ) → ((y z : ℕ) → member y xs ≡ true → member z xs ≡ true → r y < r z → (lt y z ≡ true) × (lt z y ≡ false)) → AscendsBy r xs → Orders lt xs
 Orders-from_Ascends lt r [] h a = tt
 Orders-from_Ascends lt r (x ∷ xs) h a = (
   λ z m. h x z (member-head x xs) (member-tail z x xs m) (a.0 z m),
@@ -173,11 +166,11 @@ later-count lt q z (y ∷ ys) i o m =
     let both : ℕ → Bool = λ n. q n && lt z n in
     elim (cases_eq z y) [
       | inl e ↦
-          let no_more : both y ≡ false = and-false (q y) (lt z y) (ap (lt z) (sym e) ∙ i z) in
+          let no_more : both y ≡ false = and-fails (q y) (lt z y) (ap (lt z) (sym e) ∙ i z) in
           let all : count_by q ys ≡ count_by both ys = count-agree q both ys (λ n k. and-yes (q n) (lt z n) (ap (λ v. lt v n) e ∙ (o.0 n k).0)) in
           ap (λ n. count_by q (drop n (y ∷ ys))) (place-here z y ys e) ∙ (all ∙ sym (count-no both y ys no_more))
       | inr ne ↦
           let m' : member z ys ≡ true = member-other z y ys ne m in
-          let no_more : both y ≡ false = and-false (q y) (lt z y) (o.0 z m').1 in
+          let no_more : both y ≡ false = and-fails (q y) (lt z y) (o.0 z m').1 in
           ap (λ n. count_by q (drop n (y ∷ ys))) (place-other z y ys ne) ∙ (later-count lt q z ys i o.1 m' ∙ sym (count-no both y ys no_more))
     ]

@@ -12,9 +12,8 @@ use Rattle.kc_graph.specs.SimpleGraph.{SimpleGraph, adjacent}
 use Rattle.kc_graph.specs.Neighbours.{neighbours_of}
 use Rattle.kc_graph.specs.Plans.{is_applied, updated}
 use Rattle.kc_graph.specs.declared.update.Update.{Update}
-use Rattle.kc_graph.proofs.Law.{adjacent-self}
+use Rattle.kc_graph.proofs.Law.{adjacent-self, adjacent-sym}
 use Rattle.kc_graph.proofs.Ends.{joins, joins-true}
-use Rattle.kc_graph.proofs.EdgeChanges.{adjacent-either}
 use Rattle.kc_graph.proofs.NeighbourLists.{Rises, neighbours_rise, neighbours_has, neighbours_within}
 use Rattle.kc_cert.specs.Stands.{other_end, keeps}
 use Rattle.kc_cert.proofs.Sums.{one_if, count-one-in, count-none, count-sum}
@@ -129,7 +128,7 @@ count-updated update g z q l applied =
           let new' : adjacent g update.u update.v ≡ false = not-true (adjacent g update.u update.v) (ap (λ b. cond b (not (adjacent g update.u update.v)) (adjacent g update.u update.v)) (sym add) ∙ applied) in
           let not_both : (y : ℕ) → join y ≡ true → adjacent g z y ≡ false = λ y t. elim (joins-true update.u update.v z y t) [
             | inl p ↦ ap₂ (adjacent g) p.0 p.1 ∙ new'
-            | inr p ↦ ap₂ (adjacent g) p.0 p.1 ∙ (adjacent-either g update.v update.u ∙ new')
+            | inr p ↦ ap₂ (adjacent g) p.0 p.1 ∙ (adjacent-sym g update.v update.u ∙ new')
           ] in
           let sum = count-sum (λ y. adjacent g z y && q y) (λ y. join y && q y) after (below g.size)
           (λ y m. apart (adjacent (updated update g) z y) (adjacent g z y) (join y) (q y) (adjacent-updated update g z y ∙ ap (λ b. cond b (adjacent g z y || join y) (adjacent g z y && not (join y))) add) (not_both y)) in

@@ -11,6 +11,7 @@ use Rattle.kc_cert.specs.Local.{firsts, seconds, AreInTurn, IsOfLevel}
 use Rattle.kc_cert.specs.Shifting.{place_in}
 use Rattle.kc_cert.proofs.Chaining.{place_of-first, place_of-next}
 use Rattle.kc_cert.proofs.Ordered.{rank-here}
+use Rattle.kc_distinct.proofs.Shared.{Distinct-back}
 
 firsts-append : (xs ys : List (ℕ × ℕ)) → firsts (xs ++ ys) ≡ firsts xs ++ firsts ys
 firsts-append [] ys = refl
@@ -52,10 +53,6 @@ not_dropped (suc k) w (x ∷ xs) m l = elim (cases_eq w x) [
   | inl e ↦ absurd (omega (arith, place_of-first w x xs e))
   | inr ne ↦ not_dropped k w xs (member-other w x xs ne m) (omega (arith, place_of-next w x xs ne))
 ]
-
-Distinct-back : (xs ys : List ℕ) → Distinct (xs ++ ys) → Distinct ys
-Distinct-back [] ys d = d
-Distinct-back (x ∷ xs) ys d = Distinct-back xs ys d.1
 
 place_in-out : (xs : List ℕ) (w : ℕ) → member w xs ≡ false → place_in xs w ≡ None
 place_in-out xs w n = ap (λ b. cond b (Some (place_of w xs)) None) n

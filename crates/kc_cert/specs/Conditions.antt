@@ -1,7 +1,8 @@
 -- The conditions of the certificate, one by one.
-use Rattle.std.specs.Prelude.{◌≤◌, ◌<◌, ◌+◌, ◌&&◌, ℕ, List, length, slice_index, AllPairs, count_by, drop, nat_le}
+use Rattle.std.specs.Prelude.{◌≤◌, ◌<◌, ◌+◌, ℕ, List, length, slice_index, AllPairs, drop}
 use Rattle.kc_distinct.specs.Lists.{below}
-use Rattle.kc_graph.specs.SimpleGraph.{SimpleGraph, adjacent, degree_among}
+use Rattle.kc_graph.specs.SimpleGraph.{SimpleGraph, degree_among}
+use Rattle.kc_graph.specs.Certificate.{degree_as_high}
 
 -- the numbers never fall along the order
 abbrev pub NeverFalls : List ℕ → List ℕ → Type 0
@@ -9,12 +10,9 @@ NeverFalls core order = AllPairs (λ v w. slice_index core v ≤ slice_index cor
 
 -- each vertex has at most as many later neighbours as its number
 abbrev pub HasFewLater : SimpleGraph → List ℕ → List ℕ → Type 0
-HasFewLater g core order = (i : ℕ) → i < length order → degree_among g (drop (i + 1) order) (slice_index order i) ≤ slice_index core (slice_index order i)
-
--- how many neighbours of `v` have a number no less than `v` has
-abbrev pub as_high : SimpleGraph → List ℕ → ℕ → ℕ
-as_high g core v = count_by (λ w. adjacent g v w && nat_le (slice_index core v) (slice_index core w)) (below g.size)
+HasFewLater g core order =
+    (i : ℕ) → i < length order → degree_among g (drop (i + 1) order) (slice_index order i) ≤ slice_index core (slice_index order i)
 
 -- each vertex has at least as many neighbours whose number is no less
 abbrev pub HasEnoughAsHigh : SimpleGraph → List ℕ → Type 0
-HasEnoughAsHigh g core = (v : ℕ) → v < g.size → slice_index core v ≤ as_high g core v
+HasEnoughAsHigh g core = (v : ℕ) → v < g.size → slice_index core v ≤ degree_as_high g core (below g.size) v

@@ -9,6 +9,7 @@ use Rattle.kc_graph.specs.Plans.{is_applied, state_after}
 use Rattle.kc_graph.specs.declared.plan.Moves.{Moves}
 use Rattle.kc_graph.specs.declared.plan.Moves.TheVariants.{Kept, Plain, Rise, Fall}
 use Rattle.kc_graph.specs.declared.plan.Plan.{Plan}
+use Rattle.kc_cert.specs.Stands.{leaving, shifts_of}
 
 -- the vertices that shifts move
 abbrev pub firsts : List (ℕ × ℕ) → List ℕ
@@ -37,14 +38,34 @@ pub record IsOfLevel (s : Ranked) (level x : ℕ) : Type 0 where
   pub vertex : x < s.graph.size
   pub of_level : slice_index s.core x ≡ level
 
--- Each vertex moves once, and has the core number that the moves speak of. Shifts put vertices after others of this core number that
--- don't rise, and that either don't move or moved before.
-abbrev pub MovesFit : Ranked → Moves → Type 0
-MovesFit s Kept = ⊤
-MovesFit s Plain = ⊤
-MovesFit s (Rise level rise shifts) = Distinct (rise.items ++ firsts shifts.items) × ((x : ℕ) → member x (rise.items ++ firsts shifts.items) ≡ true → IsOfLevel s level x)
-    × ((w : ℕ) → member w (seconds shifts.items) ≡ true → IsOfLevel s level w × (member w rise.items ≡ false)) × AreInTurn shifts.items
-MovesFit s (Fall level fall) = Distinct fall.items × ((x : ℕ) → member x fall.items ≡ true → IsOfLevel s level x × (0 < level))
+-- the core number that the moves speak of, which is 0 where they move nothing
+abbrev pub level_of : Moves → ℕ
+level_of Kept = 0
+level_of Plain = 0
+level_of (Rise level rise shifts) = level
+level_of (Fall level fall) = level
+
+-- the vertices that fall
+abbrev pub falling : Moves → List ℕ
+falling Kept = []
+falling Plain = []
+falling (Rise level rise shifts) = []
+falling (Fall level fall) = fall.items
+
+-- The moves can be made in a state.
+pub record MovesFit (s : Ranked) (moves : Moves) : Type 0 where
+  -- each vertex moves once
+  pub once : Distinct (moved_vertices moves)
+  -- and has the core number that the moves speak of
+  pub of_level : (x : ℕ) → member x (moved_vertices moves) ≡ true → IsOfLevel s (level_of moves) x
+  -- which is above 0 where it falls
+  pub above_0 : (x : ℕ) → member x (falling moves) ≡ true → 0 < level_of moves
+  -- shifts put vertices after others of this core number
+  pub after_level : (w : ℕ) → member w (seconds (shifts_of moves)) ≡ true → IsOfLevel s (level_of moves) w
+  -- that don't leave it
+  pub after_staying : (w : ℕ) → member w (seconds (shifts_of moves)) ≡ true → member w (leaving moves) ≡ false
+  -- and that either don't move or moved before
+  pub in_turn : AreInTurn (shifts_of moves)
 
 abbrev pub is_kept : Moves → Bool
 is_kept Kept = true
@@ -59,7 +80,8 @@ pub record HoldsAt (s : Ranked) (z : ℕ) : Type 0 where
 
 -- whether the local test looks at the vertex: an end of the edge, a vertex that moves, or a neighbour of one that does
 abbrev pub is_looked_at : Plan → SimpleGraph → ℕ → Bool
-is_looked_at plan g z = (nat_eq z plan.update.u || nat_eq z plan.update.v) || (member z (moved_vertices plan.moves) || list_any (adjacent g z) (moved_vertices plan.moves))
+is_looked_at plan g z =
+    (nat_eq z plan.update.u || nat_eq z plan.update.v) || (member z (moved_vertices plan.moves) || list_any (adjacent g z) (moved_vertices plan.moves))
 
 -- The plan passes the local test in a state.
 pub record IsLocal (s : Ranked) (plan : Plan) : Type 0 where

@@ -7,9 +7,9 @@ abbrev pub rank_in : List ℕ → ℕ → ℕ
 rank_in order x = place_of x order
 
 -- each stands before those after it
-abbrev pub Ascends : (ℕ → ℕ) → List ℕ → Type 0
-Ascends rank [] = ⊤
-Ascends rank (x ∷ xs) = ((y : ℕ) → member y xs ≡ true → rank x < rank y) × Ascends rank xs
+abbrev pub AscendsBy : (ℕ → ℕ) → List ℕ → Type 0
+AscendsBy rank [] = ⊤
+AscendsBy rank (x ∷ xs) = ((y : ℕ) → member y xs ≡ true → rank x < rank y) × AscendsBy rank xs
 
 -- the ranks after `x` was put right after `p`, all of them doubled to make room
 abbrev pub moved : (ℕ → ℕ) → ℕ → ℕ → ℕ → ℕ

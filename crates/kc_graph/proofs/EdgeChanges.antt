@@ -7,7 +7,7 @@ use Rattle.std.proofs.lemmas.Bool.{cases_order, false_from_ne_true}
 use Rattle.kc_graph.specs.SimpleGraph.{SimpleGraph, adjacent, pair_cmp}
 use Rattle.kc_graph.specs.Edges.{edge, with_edge, without_edge}
 use Rattle.kc_graph.proofs.Ends.{joins, joins-true, joins-sym, joins-edge, edge-joins}
-use Rattle.kc_graph.proofs.Law.{adjacent-self}
+use Rattle.kc_graph.proofs.Law.{adjacent-self, adjacent-sym}
 use Rattle.kc_graph.proofs.RowsLemmas.{pair_total, same_pair, tied_pair}
 
 same_edge : (u v a b : ℕ) → (u ≡ v → ⊥) → a < b → eq_by_cmp pair_cmp (a, b) (edge u v) ≡ joins u v a b
@@ -38,13 +38,6 @@ without_below : (g : SimpleGraph) (u v a b : ℕ) → (u ≡ v → ⊥) → a < 
 without_below g u v a b differ l =
     contains-remove pair_total g.edges (edge u v) (a, b) ∙ (ap₂ (λ (s t : Bool). not s && t) (same_edge u v a b differ l) (sym (adjacent-below g a b l)) ∙ and_swap (joins u v a b) (adjacent g a b))
 
-pub adjacent-either : (g : SimpleGraph) (v w : ℕ) → adjacent g v w ≡ adjacent g w v
-adjacent-either g v w = elim (cases_order v w) [
-  | inl e ↦ ap₂ (adjacent g) e (sym e)
-  | inr (inl l) ↦ adjacent-below g v w l ∙ sym (adjacent-above g w v l)
-  | inr (inr l) ↦ adjacent-above g v w l ∙ sym (adjacent-below g w v l)
-]
-
 -- after an edge came
 pub adjacent-with : (g : SimpleGraph) (u v a b : ℕ) → (u ≡ v → ⊥) → adjacent (with_edge g u v) a b ≡ (adjacent g a b || joins u v a b)
 adjacent-with g u v a b differ = elim (cases_order a b) [
@@ -54,7 +47,7 @@ adjacent-with g u v a b differ = elim (cases_order a b) [
       let alone' : adjacent (with_edge g u v) a b ≡ false = ap (adjacent (with_edge g u v) a) (sym e) ∙ adjacent-self (with_edge g u v) a in
       alone' ∙ sym (ap₂ (λ (s t : Bool). s || t) alone other)
   | inr (inl l) ↦ adjacent-below (with_edge g u v) a b l ∙ with_below g u v a b differ l
-  | inr (inr l) ↦ adjacent-above (with_edge g u v) a b l ∙ (with_below g u v b a differ l ∙ ap₂ (λ (s t : Bool). s || t) (adjacent-either g b a) (joins-sym u v b a))
+  | inr (inr l) ↦ adjacent-above (with_edge g u v) a b l ∙ (with_below g u v b a differ l ∙ ap₂ (λ (s t : Bool). s || t) (adjacent-sym g b a) (joins-sym u v b a))
 ]
 
 -- after an edge went
@@ -65,5 +58,5 @@ adjacent-without g u v a b differ = elim (cases_order a b) [
       let alone' : adjacent (without_edge g u v) a b ≡ false = ap (adjacent (without_edge g u v) a) (sym e) ∙ adjacent-self (without_edge g u v) a in
       alone' ∙ sym (ap (λ t. t && not (joins u v a b)) alone)
   | inr (inl l) ↦ adjacent-below (without_edge g u v) a b l ∙ without_below g u v a b differ l
-  | inr (inr l) ↦ adjacent-above (without_edge g u v) a b l ∙ (without_below g u v b a differ l ∙ ap₂ (λ (s t : Bool). s && not t) (adjacent-either g b a) (joins-sym u v b a))
+  | inr (inr l) ↦ adjacent-above (without_edge g u v) a b l ∙ (without_below g u v b a differ l ∙ ap₂ (λ (s t : Bool). s && not t) (adjacent-sym g b a) (joins-sym u v b a))
 ]

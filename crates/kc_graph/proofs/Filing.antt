@@ -4,20 +4,18 @@ use Rattle.std.specs.List.{filter}
 use Rattle.std.proofs.lemmas.Bool.{cases_Bool, cases_eq, cases_lt, false≢true, or_right, and_parts, and_from, and_right, eqb-false, false_from_ne_true, true_from_ne_false}
 use Rattle.std.proofs.Math.Bool.{and-true}
 use Rattle.kc_distinct.specs.Lists.{member, Distinct}
-use Rattle.kc_distinct.proofs.Members.{member-head, member-tail, member-append, member-append_left, member-append_right, append-not_member, Distinct-cut}
+use Rattle.kc_distinct.proofs.Members.{member-append, member-append_left, member-append_right, append-not_member, Distinct-cut}
 use Rattle.kc_distinct.proofs.Counting.{member-push, member-push_left, member-push_cases, member-push_none, member-filter, filter-member, Distinct-filter, Distinct-push}
 use Rattle.kc_graph.specs.SimpleGraph.{SimpleGraph, adjacent}
 use Rattle.kc_graph.specs.Certificate.{Certifies}
 use Rattle.kc_graph.specs.Neighbours.{AreNeighbours}
 use Rattle.kc_graph.specs.Rows.{row}
-use Rattle.kc_graph.specs.Peeling.{at, remaining, Filed, Peels, Takes, work, Lowered, Files}
+use Rattle.kc_graph.specs.Peeling.{at, remaining, Filed, Peels, IsAboutToTake, work, Lowered, Files}
 use Rattle.kc_graph.proofs.RowsLemmas.{row-replicate}
 use Rattle.kc_graph.proofs.Buckets.{row-set_same, row-set_other, row_past}
-use Rattle.kc_graph.proofs.PeelingLemmas.{start, raise, take_one, finish, one_if, adjacent-sym, remaining-taken, neighbours-distinct}
-
-pub Distinct-append : (xs ys : List ℕ) → Distinct xs → Distinct ys → ((x : ℕ) → member x xs ≡ true → member x ys ≡ false) → Distinct (xs ++ ys)
-Distinct-append [] ys a b apart = b
-Distinct-append (x ∷ xs) ys a b apart = (append-not_member x xs ys a.0 (apart x (member-head x xs)), Distinct-append xs ys a.1 b (λ y m. apart y (member-tail y x xs m)))
+use Rattle.kc_graph.proofs.PeelingLemmas.{start, raise, take_one, finish, one_if, remaining-taken, neighbours-distinct}
+use Rattle.kc_distinct.proofs.Shared.{Distinct-append}
+use Rattle.kc_graph.proofs.Law.{adjacent-sym}
 
 -- what a pop does to the buckets
 pub record Popped (level v : ℕ) (old rows : List (List ℕ)) : Type 0 where
@@ -88,7 +86,7 @@ filed_popped level v core taken taken' old rows f p out in' = record {
 }
 
 -- a vertex comes out of the bucket of its number, to be taken
-pub popped_takes : (g : SimpleGraph) (level v : ℕ) (core taken : List ℕ) (old rows : List (List ℕ)) → Peels g level core taken old → Popped level v old rows → at core v ≡ level → Takes g level v core taken rows
+pub popped_takes : (g : SimpleGraph) (level v : ℕ) (core taken : List ℕ) (old rows : List (List ℕ)) → Peels g level core taken old → Popped level v old rows → at core v ≡ level → IsAboutToTake g level v core taken rows
 popped_takes g level v core taken old rows h p here = record {
   peeled = h.peeled;
   exact = h.exact;
@@ -163,11 +161,11 @@ filed_lowered level ws core taken rows core' rows' h f done d within =
     }
 
 -- who is taken has no greater number
-pub taken_low : (g : SimpleGraph) (level v : ℕ) (core taken : List ℕ) (rows : List (List ℕ)) → Takes g level v core taken rows → (u : ℕ) → member u (taken ++ v ∷ []) ≡ true → at core u ≤ level
+pub taken_low : (g : SimpleGraph) (level v : ℕ) (core taken : List ℕ) (rows : List (List ℕ)) → IsAboutToTake g level v core taken rows → (u : ℕ) → member u (taken ++ v ∷ []) ≡ true → at core u ≤ level
 taken_low g level v core taken rows t u m = elim (member-push_cases u v taken m) [ inl k ↦ t.peeled.done u k | inr e ↦ omega (arith, t.here, ap (at core) e) ]
 
 -- a vertex is taken, and its neighbours lose one
-pub took : (g : SimpleGraph) (level v : ℕ) (core taken ws : List ℕ) (rows : List (List ℕ)) (core' : List ℕ) (rows' : List (List ℕ)) → Takes g level v core taken rows → AreNeighbours g v ws
+pub took : (g : SimpleGraph) (level v : ℕ) (core taken ws : List ℕ) (rows : List (List ℕ)) (core' : List ℕ) (rows' : List (List ℕ)) → IsAboutToTake g level v core taken rows → AreNeighbours g v ws
     → Lowered level ws core rows core' rows' → Peels g level core' (taken ++ v ∷ []) rows'
 took g level v core taken ws rows core' rows' t near h =
     let low : (u : ℕ) → at core u ≤ level → at core u ≡ at core' u = λ u. lowered_low level u ws core rows core' rows' h in

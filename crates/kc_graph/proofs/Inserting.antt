@@ -1,5 +1,5 @@
 -- A number goes into an ascending row.
-use Rattle.std.proofs.Common.{◌≡◌, ◌≤◌, ◌<◌, ◌+◌, ◌-◌, ℕ, Bool, true, false, ◌||◌, List, [], ◌∷◌, length, get_or, take, drop, eqb, refl, sym, ◌∙◌, ap, subst, inl, inr, arith, true≢false, take-append-drop, Result, Ok, Err}
+use Rattle.std.proofs.Common.{◌≡◌, ◌≤◌, ◌<◌, ◌+◌, ◌-◌, ℕ, false, ◌||◌, List, [], ◌∷◌, length, get_or, take, drop, eqb, sym, ◌∙◌, ap, subst, inl, inr, arith, true≢false, take-append-drop, Result, Ok, Err}
 use Rattle.std.specs.List.{insert}
 use Rattle.std.specs.Result.{OnErr, IsOk, is_ok}
 use Rattle.std.specs.List.Sorted.{IsStrictlyIncreasing}
@@ -9,19 +9,13 @@ use Rattle.std.proofs.lemmas.List.Folds.{list_any-append}
 use Rattle.kc_distinct.specs.Lists.{member}
 use Rattle.kc_graph.specs.Rows.{Inserted, IsPlace}
 use Rattle.kc_graph.proofs.RowsLemmas.{place-found}
-
-or_move : (a b c : Bool) → (a || (b || c)) ≡ ((a || c) || b)
-or_move true b c = refl
-or_move false true true = refl
-or_move false true false = refl
-or_move false false true = refl
-or_move false false false = refl
+use Rattle.kc_distinct.proofs.Shared.{or-swap}
 
 inserted_at : (xs : List ℕ) (w i : ℕ) → IsStrictlyIncreasing xs → i ≤ length xs → ((k : ℕ) → k < i → get_or xs k 0 < w) → ((k : ℕ) → i ≤ k → k < length xs → w < get_or xs k 0) → Inserted xs (insert xs i w) w
 inserted_at xs w i up le low high = record {
   longer = length-insert xs i w le;
   gained = λ b.
-      list_any-append (eqb b) (take i xs) (w ∷ drop i xs) ∙ or_move (member b (take i xs)) (eqb b w) (member b (drop i xs))
+      list_any-append (eqb b) (take i xs) (w ∷ drop i xs) ∙ or-swap (member b (take i xs)) (eqb b w) (member b (drop i xs))
       ∙ ap (λ t. t || eqb b w) (sym (list_any-append (eqb b) (take i xs) (drop i xs)) ∙ ap (member b) (take-append-drop i xs));
   ascends = λ k l.
       let n : length (insert xs i w) ≡ length xs + 1 = length-insert xs i w le in

@@ -1,8 +1,8 @@
 -- Certified numbers are the core numbers.
-use Rattle.std.proofs.Common.{◌≡◌, ◌≤◌, ◌<◌, ◌+◌, ℕ, suc, Bool, true, false, ◌&&◌, List, [], ◌∷◌, length, get_or, drop, leb, refl, sym, ◌∙◌, ap, subst, inl, inr, arith, true≢false, le_refl, le_trans, leb-true, le-leb, le-ltb}
+use Rattle.std.proofs.Common.{◌≡◌, ◌≤◌, ◌<◌, ◌+◌, ℕ, suc, Bool, true, false, ◌&&◌, List, [], ◌∷◌, length, get_or, drop, leb, refl, sym, ◌∙◌, ap, subst, inl, inr, arith, true≢false, le_refl, le_trans, leb-true, le-leb, le-ltb, ap₂, lt-ltb, le_of_lt}
 use Rattle.std.specs.Prelude.{⊤, AllPairs}
 use Rattle.std.specs.List.{filter}
-use Rattle.std.proofs.lemmas.Bool.{cases_Bool, and_parts, false≢true}
+use Rattle.std.proofs.lemmas.Bool.{cases_Bool, and_parts, false≢true, cases_order}
 use Rattle.std.proofs.lemmas.List.{ext_get_or}
 use Rattle.std.proofs.lemmas.List.Elements.{All-contains, All-filter}
 use Rattle.kc_distinct.specs.Lists.{Distinct, member}
@@ -15,6 +15,14 @@ use Rattle.kc_distinct.proofs.Counting.{member-other, member-get_or, member-from
 -- no vertex is its own neighbour
 pub adjacent-self : (g : SimpleGraph) (v : ℕ) → adjacent g v v ≡ false
 adjacent-self g v = rw (le-ltb v v (le_refl v)) refl
+
+-- whose neighbour a vertex is, that is its neighbour
+pub adjacent-sym : (g : SimpleGraph) (v w : ℕ) → adjacent g v w ≡ adjacent g w v
+adjacent-sym g v w = elim (cases_order v w) [
+  | inl e ↦ ap₂ (adjacent g) e (sym e)
+  | inr (inl l) ↦ rw (lt-ltb v w l, le-ltb w v (le_of_lt l)) refl
+  | inr (inr l) ↦ rw (le-ltb v w (le_of_lt l), lt-ltb w v l) refl
+]
 
 -- the numbers never fall along the list
 abbrev Rising : (ℕ → ℕ) → List ℕ → Type 0

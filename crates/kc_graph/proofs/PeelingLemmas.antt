@@ -1,7 +1,7 @@
 -- Taking vertices one by one: what stays true while each vertex that is taken has few neighbours left.
-use Rattle.std.proofs.Common.{◌≡◌, ◌≢◌, ◌≤◌, ◌<◌, ◌+◌, ℕ, min, Bool, true, false, cond, not, ◌&&◌, ◌||◌, List, [], ◌∷◌, ◌++◌, length, get_or, take, drop, eqb, leb, refl, sym, ◌∙◌, ap, ap₂, subst, ◌⊎◌, inl, inr, arith, le_trans, le_of_lt, leb-true, le-leb, lt-ltb, le-ltb, eq-eqb, ne_eqb, length-append}
+use Rattle.std.proofs.Common.{◌≡◌, ◌≢◌, ◌≤◌, ◌<◌, ◌+◌, ℕ, min, Bool, true, false, cond, not, ◌&&◌, ◌||◌, List, [], ◌∷◌, ◌++◌, length, get_or, take, drop, eqb, leb, refl, sym, ◌∙◌, ap, subst, ◌⊎◌, inl, inr, arith, le_trans, leb-true, le-leb, eq-eqb, ne_eqb, length-append}
 use Rattle.std.specs.Prelude.{count_by}
-use Rattle.std.proofs.lemmas.Bool.{cases_Bool, cases_eq, cases_lt, cases_order, and_parts, and_from, and_left, and_right, or_right, false≢true, not-true, not_from_true, not_from_false, eqb-false}
+use Rattle.std.proofs.lemmas.Bool.{cases_Bool, cases_eq, cases_lt, and_parts, and_from, and_left, and_right, or_right, false≢true, not-true, not_from_true, not_from_false, eqb-false}
 use Rattle.std.proofs.lemmas.List.{take-append-le, get_or_append_left}
 use Rattle.std.proofs.lemmas.List.Quantifiers.{all_pairs_push}
 use Rattle.std.proofs.Math.Bool.{or-false, and-true}
@@ -157,15 +157,6 @@ remaining-lt g taken v l = omega (arith, count-miss (λ w. adjacent g v w && not
 
 abbrev pub one_if : Bool → ℕ
 one_if b = cond b 1 0
-
-pub adjacent-sym : (g : SimpleGraph) (v w : ℕ) → adjacent g v w ≡ adjacent g w v
-adjacent-sym g v w = elim (cases_order v w) [
-  | inl e ↦ ap₂ (adjacent g) e (sym e)
-  | inr o ↦ elim o [
-    | inl l ↦ rw (lt-ltb v w l, le-ltb w v (le_of_lt l)) refl
-    | inr l ↦ rw (le-ltb v w (le_of_lt l), lt-ltb w v l) refl
-  ]
-]
 
 -- a vertex that is taken is left to none of its neighbours
 pub remaining-taken : (g : SimpleGraph) (taken : List ℕ) (u v : ℕ) → v < g.size → member v taken ≡ false → remaining g taken u ≡ remaining g (taken ++ v ∷ []) u + cond (adjacent g u v) 1 0

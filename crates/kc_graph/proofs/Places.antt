@@ -8,6 +8,7 @@ use Rattle.kc_distinct.proofs.Members.{below_bound}
 use Rattle.kc_distinct.proofs.Counting.{member-get_or, Contains-from_member, member-from_Contains, Distinct-from_pairs, count-all, count-le, Distinct-below, below-member, length-below}
 use Rattle.kc_graph.specs.Certificate.{Enumerates}
 use Rattle.kc_graph.specs.Lawful.{ArePlaces}
+use Rattle.kc_distinct.proofs.Shared.{get_or-any}
 
 -- the first places are known
 pub record PlacedTo (n i : ℕ) (order places : List ℕ) : Type 0 where
@@ -46,17 +47,12 @@ placed_more n i order places e l h =
       ];
     }
 
-pub any_default : (xs : List ℕ) (k d e : ℕ) → k < length xs → get_or xs k d ≡ get_or xs k e
-any_default [] k d e l = absurd (omega arith)
-any_default (x ∷ xs) zero d e l = refl
-any_default (x ∷ xs) (suc k) d e l = any_default xs k d e (omega arith)
-
 pub placed_all : (n : ℕ) (order places : List ℕ) → Enumerates n order → PlacedTo n (length order) order places → ArePlaces order places
 placed_all n order places e h =
     let m : length order ≡ n = length-enumerates n order e in
     let stands : (v : ℕ) → v < length order → (get_or places v 0 < length order) × (get_or order (get_or places v 0) 0 ≡ v) = λ v l.
     let (k, lk, at-k) = e.complete v (omega arith) in
-    let is : get_or order k 0 ≡ v = any_default order k 0 v lk ∙ at-k in
+    let is : get_or order k 0 ≡ v = get_or-any order k 0 v lk ∙ at-k in
     let place : get_or places v 0 ≡ k = ap (λ x. get_or places x 0) (sym is) ∙ h.right k lk in
     (omega arith, ap (λ j. get_or order j 0) place ∙ is) in
     record { one_each = h.one_each ∙ sym m; within = λ v l. (stands v l).0; right = λ v l. (stands v l).1 }

@@ -6,7 +6,7 @@ use Rattle.std.specs.Cmp.{IsTotalOrder, Equal-is, tied_itself, both_ways, nat_cm
 use Rattle.std.specs.FinSet.{contains, from_list, contains-from_list, IsAntisymmetric, FinSet, empty}
 use Rattle.std.proofs.lemmas.Cmp.{on_total, then_total}
 use Rattle.std.proofs.lemmas.Map.Lookups.{exact_pairs, exact_unsigned}
-use Rattle.std.proofs.lemmas.Bool.{cases_eq, cases_lt, or_cases, or_left, or_right, and_parts, and_from, false≢true, false_from_ne_true, ltb-true, cases_order}
+use Rattle.std.proofs.lemmas.Bool.{cases_lt, or_cases, or_left, or_right, and_parts, and_from, false≢true, false_from_ne_true, ltb-true, cases_order}
 use Rattle.std.proofs.lemmas.List.Folds.{list_any-append}
 use Rattle.kc_distinct.specs.Lists.{member, Distinct}
 use Rattle.kc_distinct.proofs.Members.{member-cases, member-tail}
@@ -23,6 +23,7 @@ use Rattle.kc_graph.specs.Neighbours.{AreNeighbours}
 use Rattle.kc_graph.specs.Rows.{lists, row, pairs_from, graph_of, IsAdjacency, IsPlace}
 use Rattle.kc_graph.proofs.Law.{adjacent-self}
 use Rattle.kc_distinct.proofs.Counting.{member-get_or, Contains-from_member, Distinct-from_pairs}
+use Rattle.kc_distinct.proofs.Shared.{get_or-any, never_falls}
 
 pub pair_total : IsTotalOrder pair_cmp
 pair_total = then_total (on_total (λ (x : ℕ × ℕ). x.0) nat_cmp_total) (on_total (λ (x : ℕ × ℕ). x.1) nat_cmp_total)
@@ -157,14 +158,6 @@ unfolding graph_of
 graph_of-none n =
     ap₂ (λ (m : ℕ) (e : FinSet pair_cmp). let g : SimpleGraph = record { size = m; edges = e } in g) (length-replicate n []) (ap from_list (pairs_from-none 0 n))
 
-get_or-any : (xs : List ℕ) (k d e : ℕ) → k < length xs → get_or xs k d ≡ get_or xs k e
-get_or-any [] k d e l = absurd (omega arith)
-get_or-any (x ∷ xs) zero d e l = refl
-get_or-any (x ∷ xs) (suc k) d e l = get_or-any xs k d e (omega arith)
-
-pub rises : (xs : List ℕ) → IsStrictlyIncreasing xs → (i j : ℕ) → i ≤ j → j < length xs → get_or xs i 0 ≤ get_or xs j 0
-rises xs up i j le l = elim (cases_eq i j) [ inl e ↦ omega (arith, ap (λ k. get_or xs k 0) e) | inr ne ↦ omega (arith, AllPairs-from_increasing xs up i j 0 (omega arith) l) ]
-
 -- an ascending row has no number twice
 pub Distinct-from_increasing : (xs : List ℕ) → IsStrictlyIncreasing xs → Distinct xs
 Distinct-from_increasing xs up = Distinct-from_pairs xs (λ i j d lt l e. let k : get_or xs i d < get_or xs j d = AllPairs-from_increasing xs up i j d lt l in absurd (omega arith))
@@ -172,7 +165,7 @@ Distinct-from_increasing xs up = Distinct-from_pairs xs (λ i j d lt l e. let k 
 pub place_at_end : (xs : List ℕ) (w last : ℕ) → IsStrictlyIncreasing xs → Some last ≡ slice_get xs (length xs - 1) → last < w → IsPlace xs w (Err (length xs))
 place_at_end xs w last up is lt = (
   omega arith,
-  λ k l. let e : get_or xs (length xs - 1) 0 ≡ last = get_or_from_slice_get xs (length xs - 1) last 0 (sym is) in omega (arith, rises xs up k (length xs - 1) (omega arith) (omega arith)),
+  λ k l. let e : get_or xs (length xs - 1) 0 ≡ last = get_or_from_slice_get xs (length xs - 1) last 0 (sym is) in omega (arith, never_falls xs up k (length xs - 1) (omega arith) (omega arith)),
   λ k le l. absurd (omega arith),
 )
 

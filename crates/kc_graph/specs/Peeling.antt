@@ -29,8 +29,8 @@ pub record Peeled (g : SimpleGraph) (level : ℕ) (core taken : List ℕ) : Type
   pub enough : (v : ℕ) → v < g.size → min (at core v) level ≤ as_high g core (min (at core v) level) v
 
 -- The number of a vertex that is left is how many neighbours it has left, or `level` where that is more.
-abbrev pub IsExact : SimpleGraph → ℕ → List ℕ → List ℕ → Type 0
-IsExact g level core taken = (v : ℕ) → v < g.size → member v taken ≡ false → at core v ≡ max (remaining g taken v) level
+abbrev pub LeftAreCounted : SimpleGraph → ℕ → List ℕ → List ℕ → Type 0
+LeftAreCounted g level core taken = (v : ℕ) → v < g.size → member v taken ≡ false → at core v ≡ max (remaining g taken v) level
 
 -- A vertex that is left stands in the bucket of its number, and a taken one does not. No vertex stands twice in a bucket, or in one
 -- below its number.
@@ -43,13 +43,13 @@ pub record Filed (core taken : List ℕ) (buckets : List (List ℕ)) : Type 0 wh
 -- vertices have been taken up to a level
 pub record Peels (g : SimpleGraph) (level : ℕ) (core taken : List ℕ) (buckets : List (List ℕ)) : Type 0 where
   pub peeled : Peeled g level core taken
-  pub exact : IsExact g level core taken
+  pub exact : LeftAreCounted g level core taken
   pub filed : Filed core taken buckets
 
 -- `v`, whose number is `level`, has come out of its bucket, and is about to be taken.
-pub record Takes (g : SimpleGraph) (level v : ℕ) (core taken : List ℕ) (buckets : List (List ℕ)) : Type 0 where
+pub record IsAboutToTake (g : SimpleGraph) (level v : ℕ) (core taken : List ℕ) (buckets : List (List ℕ)) : Type 0 where
   pub peeled : Peeled g level core taken
-  pub exact : IsExact g level core taken
+  pub exact : LeftAreCounted g level core taken
   pub filed : Filed core (taken ++ v ∷ []) buckets
   pub vertex : v < g.size
   pub left : member v taken ≡ false

@@ -34,7 +34,7 @@ pub record IsAdjacency (rows : List (List ℕ)) : Type 0 where
   pub symmetric : (v w : ℕ) → member w (row rows v) ≡ member v (row rows w)
 
 -- the rows of a graph with this number of edges, each of which stands in two rows
-pub record IsKept (rows : List (List ℕ)) (edges : ℕ) : Type 0 where
+pub record HoldsEdges (rows : List (List ℕ)) (edges : ℕ) : Type 0 where
   pub adjacency : IsAdjacency rows
   pub few : length rows < 2 ^ 32
   pub counted : edges ≡ set.len (graph_of rows).edges

@@ -9,7 +9,7 @@ ghost use Rattle.kc_graph.specs.Core.{AreCoreNumbers};
 ghost use Rattle.kc_graph.specs.Certificate.{Certifies};
 ghost use Rattle.kc_graph.specs.Lawful.{IsCertified};
 ghost use Rattle.kc_graph.specs.Rows.{lists, row};
-ghost use Rattle.kc_graph.specs.Peeling.{at, remaining, work, Peels, Takes, Lowered, Files};
+ghost use Rattle.kc_graph.specs.Peeling.{at, remaining, work, Peels, IsAboutToTake, Lowered, Files};
 
 use crate::NoMemory;
 use crate::graph::Graph;
@@ -24,7 +24,7 @@ struct Removal {
 }
 
 /// Puts a vertex into a bucket.
-fn push_into(buckets: &mut [Vec<u32>], b: u32, w: u32) -> Result<(), NoMemory>
+pub(crate) fn push_into(buckets: &mut [Vec<u32>], b: u32, w: u32) -> Result<(), NoMemory>
     requires { b < length buckets.old }
     ensures { OnOk result (lists buckets.new ≡ slice_set (lists buckets.old) b (row (lists buckets.old) b ++ w ∷ [])) }
 {
@@ -86,7 +86,7 @@ fn take_vertex(
     order: &mut Vec<u32>,
     buckets: &mut [Vec<u32>],
 ) -> Result<(), NoMemory>
-    requires { Takes graph.now level v core.old order.old.items (lists buckets.old) }
+    requires { IsAboutToTake graph.now level v core.old order.old.items (lists buckets.old) }
     ensures peels { OnOk result (Peels graph.now level core.new order.new.items (lists buckets.new)) }
     ensures work { OnOk result (work level core.new (lists buckets.new) ≤ work level core.old (lists buckets.old)) }
 {

@@ -7,7 +7,7 @@ use Rattle.kc_distinct.specs.Lists.{member, Distinct}
 use Rattle.kc_distinct.proofs.Members.{member-head, member-cases, not_member-cons}
 use Rattle.kc_graph.specs.declared.update.Update.{Update}
 use Rattle.kc_cert.specs.Local.{firsts, seconds}
-use Rattle.kc_cert.specs.Ranks.{Ascends}
+use Rattle.kc_cert.specs.Ranks.{AscendsBy}
 use Rattle.kc_view.specs.Answers.{has_core}
 use Rattle.kc_view.specs.Search.{Search, Forward, at_root}
 use Rattle.kc_view.specs.Views.{Shown}
@@ -69,7 +69,7 @@ begin-between s root r b w =
       s.rank root,
       record {
         lined = record {
-          ascends = subst (Ascends s.rank) (sym b.queue) (λ y m. absurd (false≢true m), tt);
+          ascends = subst (AscendsBy s.rank) (sym b.queue) (λ y m. absurd (false≢true m), tt);
           reached = λ z m. subst (Forward s root) (sym (only-root root r b z m)) at_root;
           passed = λ z m. absurd (true≢false (sym m ∙ ap (member z) (none-left root r b)));
         };

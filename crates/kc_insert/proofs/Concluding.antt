@@ -12,7 +12,7 @@ use Rattle.kc_graph.specs.declared.update.Update.{Update}
 use Rattle.kc_graph.specs.declared.used.Used.{Used}
 use Rattle.kc_graph.specs.declared.plan.Moves.TheVariants.{Plain, Rise}
 use Rattle.kc_cert.specs.Local.{IsLocal, firsts, seconds}
-use Rattle.kc_cert.specs.Ranks.{Ascends}
+use Rattle.kc_cert.specs.Ranks.{AscendsBy}
 use Rattle.kc_cert.proofs.Placing.{Ascends-filter}
 use Rattle.kc_view.specs.Answers.{has_list}
 use Rattle.kc_view.specs.Search.{Search}
@@ -83,5 +83,5 @@ some-sure update used s level root r rise adds h l new least is o ended b all =
     let k = ended-turns q root r ended b in
     rise-sure update used s level root b.0 (earlier_at r) (later_at r) rise r.shifts adds h l new least is
     (subst (λ (xs : List ℕ). BetweenTurns q root xs [] b.0 (earlier_at r) (later_at r) r.shifts.items) (sym all) k)
-    (subst (Ascends q.rank) (sym all) (Ascends-filter q.rank (is_candidate r) r.queue.items b.1.lined.ascends))
+    (subst (AscendsBy q.rank) (sym all) (Ascends-filter q.rank (is_candidate r) r.queue.items b.1.lined.ascends))
     (λ x m. b.1.lined.reached x (moved-queued r x o (subst (λ (xs : List ℕ). member x (xs ++ firsts r.shifts.items) ≡ true) all m)))

@@ -9,7 +9,7 @@ use Rattle.kc_distinct.proofs.Members.{member-head, member-tail, member-cases, m
 use Rattle.kc_distinct.proofs.Counting.{member-get_or, member-push_cases, Distinct-drop}
 use Rattle.kc_graph.specs.declared.update.Update.{Update}
 use Rattle.kc_cert.specs.Local.{firsts, seconds}
-use Rattle.kc_cert.specs.Ranks.{Ascends}
+use Rattle.kc_cert.specs.Ranks.{AscendsBy}
 use Rattle.kc_view.specs.Search.{Search, after, OnLevel}
 use Rattle.kc_view.specs.Views.{Shown}
 use Rattle.kc_view.proofs.Fronts.{firsts-push, seconds-push}
@@ -45,7 +45,7 @@ same-waiting : (old new : Rising) → new.queue.items ≡ old.queue.items → ne
 same-waiting old new queue turn = ap (λ n. drop n new.queue.items) turn ∙ ap (drop old.turn) queue
 
 -- the turns of two candidates come in the order of their ranks
-pub turn-order : (rank : ℕ → ℕ) (r : Rising) → IsOrderly r → Ascends rank r.queue.items → (y x : ℕ) → is_candidate r y ≡ true → is_candidate r x ≡ true → ltb (turn_at r y) (turn_at r x) ≡ ltb (rank y) (rank x)
+pub turn-order : (rank : ℕ → ℕ) (r : Rising) → IsOrderly r → AscendsBy rank r.queue.items → (y x : ℕ) → is_candidate r y ≡ true → is_candidate r x ≡ true → ltb (turn_at r y) (turn_at r x) ≡ ltb (rank y) (rank x)
 turn-order rank r o up y x cy cx =
     let ky = o.turned y cy in
     let kx = o.turned x cx in
@@ -72,7 +72,7 @@ turn-order rank r o up y x cy cx =
 not-before : (a b r q : ℕ) → ltb a b ≡ ltb r q → ltb b a ≡ ltb q r → a ≢ b → not (ltb a b) ≡ ltb q r
 not-before a b r q h k ne = grind arith
 
-turn-behind : (rank : ℕ → ℕ) (r : Rising) → IsOrderly r → Ascends rank r.queue.items → (y x : ℕ) → is_candidate r y ≡ true → is_candidate r x ≡ true → y ≢ x → not (ltb (turn_at r y) (turn_at r x)) ≡ ltb (rank x) (rank y)
+turn-behind : (rank : ℕ → ℕ) (r : Rising) → IsOrderly r → AscendsBy rank r.queue.items → (y x : ℕ) → is_candidate r y ≡ true → is_candidate r x ≡ true → y ≢ x → not (ltb (turn_at r y) (turn_at r x)) ≡ ltb (rank x) (rank y)
 turn-behind rank r o up y x cy cx ne =
     not-before (turn_at r y) (turn_at r x) (rank y) (rank x) (turn-order rank r o up y x cy cx) (turn-order rank r o up x y cx cy)
     (λ e. ne (sym (o.turned y cy).1 ∙ (ap (λ n. get_or r.queue.items n 0) e ∙ (o.turned x cx).1)))
@@ -146,7 +146,7 @@ open-from m l h n = grind arith
 
 lined-same : (q : Search) (root frontier : ℕ) (old new : Rising) → LinedUp q root old frontier → new.queue.items ≡ old.queue.items → new.turn ≡ old.turn → LinedUp q root new frontier
 lined-same q root frontier old new l queue turn = record {
-  ascends = subst (Ascends q.rank) (sym queue) l.ascends;
+  ascends = subst (AscendsBy q.rank) (sym queue) l.ascends;
   reached = λ z m. l.reached z (sym (ap (member z) queue) ∙ m);
   passed = λ z m. l.passed z (sym (ap (member z) (same-left old new queue turn)) ∙ m);
 }
@@ -178,7 +178,7 @@ evicted-now q root x anchor frontier row old mid new w o o' ev l lt first exact 
     let was : (y : ℕ) → member y (cands new) ≡ true → (y ≢ x) × (is_candidate old y ≡ true) × OnLevel q y = λ y m.
     let ne : y ≢ x = λ e. true≢false (sym m ∙ (ap (λ k. member k (cands new)) e ∙ drop'.itself)) in
     (ne, sym (same_cand y ne) ∙ (sym (cands-has new o' y) ∙ m), b.searching.cand_level y (sym (drop'.others y ne) ∙ m)) in
-    let up : Ascends q.rank old.queue.items = st.lined.ascends in
+    let up : AscendsBy q.rank old.queue.items = st.lined.ascends in
     let next = turn_evict q root (cands old) (waiting old) frontier (earlier_at old) (later_at old) old.shifts.items rest x anchor w b (cands new) (pending new) (earlier_at new) (later_at new)
     (record {
       dropped = drop';
@@ -304,7 +304,7 @@ settled-now q root w mark row old mid new wide o o' lv plain l lt first exact we
       q.rank w + 1,
       record {
         lined = record {
-          ascends = subst (Ascends q.rank) (sym queue) at.lined.ascends;
+          ascends = subst (AscendsBy q.rank) (sym queue) at.lined.ascends;
           reached = λ z m. at.lined.reached z (sym (ap (member z) queue) ∙ m);
           passed = λ z m. elim (member-push_cases z w (left old) (sym (ap (member z) gone) ∙ m)) [
             | inl k ↦ let p : q.rank z < frontier = at.lined.passed z k in omega (arith, p, w_open)

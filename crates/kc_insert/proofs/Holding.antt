@@ -7,7 +7,7 @@ use Rattle.kc_graph.specs.SimpleGraph.{SimpleGraph}
 use Rattle.kc_graph.specs.Lawful.{Ranked, IsCertified}
 use Rattle.kc_graph.specs.Plans.{shifted, put_between, renumbered}
 use Rattle.kc_cert.specs.Local.{HoldsAt, firsts, seconds}
-use Rattle.kc_cert.specs.Ranks.{rank_in, Ascends, place_after, Orders, then_after}
+use Rattle.kc_cert.specs.Ranks.{rank_in, AscendsBy, place_after, Orders, then_after}
 use Rattle.kc_cert.proofs.Ordered.{order-has, order-distinct, rank-ascends}
 use Rattle.kc_cert.proofs.Placing.{shifted-has, shifted-ascends}
 use Rattle.kc_cert.proofs.Final.{final-orders, final-has, after-itself}
@@ -36,7 +36,7 @@ plain-holds s g level root frontier earlier later h size w b z l =
 
 -- where vertices rise, and others are shifted
 pub rise-holds : (s : Ranked) (g : SimpleGraph) (level root : ℕ) (rise : List ℕ) (frontier : ℕ) (earlier later : ℕ → ℕ) (shifts : List (ℕ × ℕ)) → IsCertified s → g.size ≡ s.graph.size → Widened (search_in g s level) root
-    → BetweenTurns (search_in g s level) root rise [] frontier earlier later shifts → Ascends (rank_in s.order) rise
+    → BetweenTurns (search_in g s level) root rise [] frontier earlier later shifts → AscendsBy (rank_in s.order) rise
     → (z : ℕ) → z < s.graph.size → HoldsAt (record { graph = g; core = renumbered rise (level + 1) s.core; order = put_between (λ y. leb (get_or s.core y 0) level) rise (shifted shifts s.order) }) z
 rise-holds s g level root rise frontier earlier later shifts h size w b up z l =
     let q : Search = search_in g s level in
@@ -49,7 +49,7 @@ rise-holds s g level root rise frontier earlier later shifts h size w b up z l =
     let first_in : (x : ℕ) → member x (firsts shifts) ≡ true → member x s.order ≡ true = λ x m. there x (b.shifts_fit.first_level x m).here in
     let second_in : (x : ℕ) → member x (seconds shifts) ≡ true → member x s.order ≡ true = λ x m. there x (b.shifts_fit.second_level x m).here in
     let has : (y : ℕ) → member y (shifted shifts s.order) ≡ member y s.order = shifted-has shifts s.order b.shifts_fit.in_turn first_in second_in in
-    let ascends : Ascends place (shifted shifts s.order) = shifted-ascends rank shifts s.order (rank-ascends s.order d) b.shifts_fit.in_turn first_in second_in in
+    let ascends : AscendsBy place (shifted shifts s.order) = shifted-ascends rank shifts s.order (rank-ascends s.order d) b.shifts_fit.in_turn first_in second_in in
     let orders : Orders lt (put_between low rise (shifted shifts s.order)) = final-orders low rise rank place (shifted shifts s.order) up ascends in
     moved-holds s g rise (put_between low rise (shifted shifts s.order)) (level + 1) lt h size (after-itself low rise rank place) orders
     (λ y. final-has low rise (shifted shifts s.order) (λ x m. has x ∙ there x (b.searching.cand_level x m).here) y ∙ has y) z l

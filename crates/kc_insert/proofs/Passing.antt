@@ -10,7 +10,7 @@ use Rattle.kc_distinct.proofs.Counting.{member-get_or, member-push}
 use Rattle.kc_distinct.proofs.Shared.{or-absorbs}
 use Rattle.kc_graph.specs.declared.update.Update.{Update}
 use Rattle.kc_cert.specs.Local.{firsts, seconds}
-use Rattle.kc_cert.specs.Ranks.{Ascends}
+use Rattle.kc_cert.specs.Ranks.{AscendsBy}
 use Rattle.kc_view.specs.Answers.{has_core}
 use Rattle.kc_view.specs.Views.{Shown}
 use Rattle.kc_insert.specs.Marks.{mark_of, earlier_in, later_in, turn_in, candidate_in, weak_in}
@@ -35,7 +35,7 @@ place-first rank queue x turn high le e left_first = record {
   behind = λ k lk l. absurd (omega arith);
 }
 
-pub place-up : (rank : ℕ → ℕ) (queue : List ℕ) (x low high middle y : ℕ) → Ascends rank queue → IsPlaceWithin rank queue x low high → middle < length queue → y ≡ get_or queue middle 0 → true ≡ ltb (rank y) (rank x)
+pub place-up : (rank : ℕ → ℕ) (queue : List ℕ) (x low high middle y : ℕ) → AscendsBy rank queue → IsPlaceWithin rank queue x low high → middle < length queue → y ≡ get_or queue middle 0 → true ≡ ltb (rank y) (rank x)
     → IsPlaceWithin rank queue x (middle + 1) high
 place-up rank queue x low high middle y a p l at told = record {
   before = λ k lt.
@@ -47,7 +47,7 @@ place-up rank queue x low high middle y a p l at told = record {
   behind = p.behind;
 }
 
-pub place-down : (rank : ℕ → ℕ) (queue : List ℕ) (x low high middle y : ℕ) → Ascends rank queue → IsPlaceWithin rank queue x low high → middle < length queue → y ≡ get_or queue middle 0 → false ≡ ltb (rank y) (rank x)
+pub place-down : (rank : ℕ → ℕ) (queue : List ℕ) (x low high middle y : ℕ) → AscendsBy rank queue → IsPlaceWithin rank queue x low high → middle < length queue → y ≡ get_or queue middle 0 → false ≡ ltb (rank y) (rank x)
     → IsPlaceWithin rank queue x low middle
 place-down rank queue x low high middle y a p l at told = record {
   before = p.before;
@@ -174,9 +174,9 @@ passed-more x xs old mid new o d p late =
     }
 
 -- where `x` goes to its place the queue stays in order
-pub passes-ascends : (rank : ℕ → ℕ) (x place : ℕ) (queue new : List ℕ) → new ≡ insert queue place x → member x queue ≡ false → place ≤ length queue → IsPlaceWithin rank queue x place place → ((z : ℕ) → member z queue ≡ true → rank z ≡ rank x → z ≡ x) → Ascends rank queue → Ascends rank new
+pub passes-ascends : (rank : ℕ → ℕ) (x place : ℕ) (queue new : List ℕ) → new ≡ insert queue place x → member x queue ≡ false → place ≤ length queue → IsPlaceWithin rank queue x place place → ((z : ℕ) → member z queue ≡ true → rank z ≡ rank x → z ≡ x) → AscendsBy rank queue → AscendsBy rank new
 passes-ascends rank x place queue new e out le p apart up =
-    subst (Ascends rank) (sym e) (inserted-ascends rank queue place x up le p.before p.behind (λ z m k. true≢false (sym m ∙ (ap (λ n. member n queue) (apart z m k) ∙ out))))
+    subst (AscendsBy rank) (sym e) (inserted-ascends rank queue place x up le p.before p.behind (λ z m k. true≢false (sym m ∙ (ap (λ n. member n queue) (apart z m k) ∙ out))))
 
 -- a vertex that was never queued
 pub enqueued-passes : (x place : ℕ) (old new : Rising) → mark_of old.marks x ≡ None → MarksOne x (record { earlier = 1; later = 0; turn = 0; is_candidate = false; is_weak = false }) old new → new.queue.items ≡ insert old.queue.items place x

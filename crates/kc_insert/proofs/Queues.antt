@@ -6,17 +6,17 @@ use Rattle.std.proofs.Math.Bool.{or_assoc}
 use Rattle.kc_distinct.specs.Lists.{member, Distinct}
 use Rattle.kc_distinct.proofs.Members.{member-head, member-tail}
 use Rattle.kc_distinct.proofs.Counting.{member-get_or, drop-member}
-use Rattle.kc_cert.specs.Ranks.{rank_in, Ascends}
+use Rattle.kc_cert.specs.Ranks.{rank_in, AscendsBy}
 use Rattle.kc_cert.proofs.Ordered.{rank-here}
 
 -- one that stands further on has the greater rank
-pub Ascends-at : (r : ℕ → ℕ) (xs : List ℕ) (i j : ℕ) → Ascends r xs → i < j → j < length xs → r (get_or xs i 0) < r (get_or xs j 0)
+pub Ascends-at : (r : ℕ → ℕ) (xs : List ℕ) (i j : ℕ) → AscendsBy r xs → i < j → j < length xs → r (get_or xs i 0) < r (get_or xs j 0)
 Ascends-at r [] i j a lt l = absurd (omega arith)
 Ascends-at r (x ∷ xs) i zero a lt l = absurd (omega arith)
 Ascends-at r (x ∷ xs) zero (suc j) a lt l = a.0 (get_or xs j 0) (member-get_or xs j 0 (omega arith))
 Ascends-at r (x ∷ xs) (suc i) (suc j) a lt l = Ascends-at r xs i j a.1 (omega arith) (omega arith)
 
-pub Ascends-drop : (r : ℕ → ℕ) (n : ℕ) (xs : List ℕ) → Ascends r xs → Ascends r (drop n xs)
+pub Ascends-drop : (r : ℕ → ℕ) (n : ℕ) (xs : List ℕ) → AscendsBy r xs → AscendsBy r (drop n xs)
 Ascends-drop r zero xs a = a
 Ascends-drop r (suc n) [] a = a
 Ascends-drop r (suc n) (x ∷ xs) a = Ascends-drop r n xs a.1
@@ -47,8 +47,8 @@ inserted-front [] (suc n) i y le l = absurd (omega arith)
 inserted-front (x ∷ xs) (suc n) zero y le l = absurd (omega arith)
 inserted-front (x ∷ xs) (suc n) (suc i) y le l = ap (λ ys. x ∷ ys) (inserted-front xs n i y (omega arith) (omega arith))
 
-pub inserted-ascends : (r : ℕ → ℕ) (xs : List ℕ) (i y : ℕ) → Ascends r xs → i ≤ length xs → ((k : ℕ) → k < i → r (get_or xs k 0) < r y) → ((k : ℕ) → i ≤ k → k < length xs → r y ≤ r (get_or xs k 0))
-    → ((z : ℕ) → member z xs ≡ true → r z ≢ r y) → Ascends r (insert xs i y)
+pub inserted-ascends : (r : ℕ → ℕ) (xs : List ℕ) (i y : ℕ) → AscendsBy r xs → i ≤ length xs → ((k : ℕ) → k < i → r (get_or xs k 0) < r y) → ((k : ℕ) → i ≤ k → k < length xs → r y ≤ r (get_or xs k 0))
+    → ((z : ℕ) → member z xs ≡ true → r z ≢ r y) → AscendsBy r (insert xs i y)
 inserted-ascends r xs zero y a l before behind apart = (
   λ z m. let h = rank-here z xs m in
       let le : r y ≤ r (get_or xs (rank_in xs z) 0) = behind (rank_in xs z) (omega arith) h.0 in

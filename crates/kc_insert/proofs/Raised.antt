@@ -6,7 +6,7 @@ use Rattle.std.proofs.lemmas.List.{drop_more}
 use Rattle.kc_distinct.specs.Lists.{member, below}
 use Rattle.kc_distinct.proofs.Members.{member-head}
 use Rattle.kc_distinct.proofs.Counting.{member-get_or, member-push_cases, Distinct-below, count-le, count-miss}
-use Rattle.kc_cert.specs.Ranks.{Ascends}
+use Rattle.kc_cert.specs.Ranks.{AscendsBy}
 use Rattle.kc_cert.proofs.Sums.{one_if}
 use Rattle.kc_view.specs.Search.{Search, after, OnLevel, Forward, at_root, further}
 use Rattle.kc_insert.specs.Marks.{earlier_in, later_in, candidate_in}
@@ -73,7 +73,7 @@ waits : (r : Rising) → IsOrderly r → (z : ℕ) → member z (waiting r) ≡ 
 waits r o z = drop-has r.turn z r.queue.items o.once
 
 pub raised-now : (q : Search) (root w : ℕ) (mark : Mark) (a : Ahead) (old mid new : Rising) → Widened q root → IsOrderly old → IsOrderly mid → IsOrderly new → Leaves w mark old mid → mark.is_candidate ≡ true → mark.earlier ≡ earlier_at old w → mark.later ≡ a.count
-    → PassedOn a.next.items mid new → old.turn < length old.queue.items → get_or old.queue.items old.turn 0 ≡ w → length old.queue.items < 2 ^ 64 → q.level < earlier_at old w + a.count → IsAheadOf q w a → (Ascends q.rank mid.queue.items → Ascends q.rank new.queue.items)
+    → PassedOn a.next.items mid new → old.turn < length old.queue.items → get_or old.queue.items old.turn 0 ≡ w → length old.queue.items < 2 ^ 64 → q.level < earlier_at old w + a.count → IsAheadOf q w a → (AscendsBy q.rank mid.queue.items → AscendsBy q.rank new.queue.items)
     → IsBetweenTurns q root old → IsBetweenTurns q root new
 raised-now q root w mark a old mid new c o om on l cand same_earlier same_later p lt first fits strong ahead' up (frontier, b) =
     let next : List ℕ = a.next.items in
@@ -110,7 +110,7 @@ raised-now q root w mark a old mid new c o om on l cand same_earlier same_later 
     let waits_is : (z : ℕ) → member z (waiting new) ≡ (member z (waiting mid) || member z next) = λ z.
     waits new on z ∙ (in_rest (member z new.queue.items) (member z mid.queue.items) (member z (left new)) (member z (left mid)) (member z next) (p.queue z) (ap (member z) p.same_left)
     (λ k. false_from_ne_true _ (λ m. true≢false (sym k ∙ not_left z m))) ∙ ap (λ t. t || member z next) (sym (waits mid om z))) in
-    let ascends : Ascends q.rank new.queue.items = up (subst (Ascends q.rank) (sym l.queue) b.lined.ascends) in (
+    let ascends : AscendsBy q.rank new.queue.items = up (subst (AscendsBy q.rank) (sym l.queue) b.lined.ascends) in (
       q.rank w + 1,
       record {
         lined = record {

@@ -12,7 +12,7 @@ use Rattle.kc_graph.specs.declared.update.Update.{Update}
 use Rattle.kc_graph.specs.declared.used.Used.{Used}
 use Rattle.kc_graph.specs.declared.plan.Moves.TheVariants.{Kept, Plain, Rise}
 use Rattle.kc_cert.specs.Local.{IsLocal, IsOfLevel, HoldsAt, firsts}
-use Rattle.kc_cert.specs.Ranks.{rank_in, Ascends}
+use Rattle.kc_cert.specs.Ranks.{rank_in, AscendsBy}
 use Rattle.kc_cert.proofs.Final.{Ascends-distinct}
 use Rattle.kc_view.specs.Search.{OnLevel, Search, Forward, search_in}
 use Rattle.kc_view.specs.Sure.{IsSparing, InForward, root_of}
@@ -21,6 +21,7 @@ use Rattle.kc_insert.specs.Added.{search_with}
 use Rattle.kc_insert.specs.Searching.{Widened, BetweenTurns}
 use Rattle.kc_insert.proofs.Holding.{plain-holds, rise-holds}
 use Rattle.kc_insert.proofs.Widening.{widened}
+use Rattle.kc_cert.proofs.FittingMoves.{plain_fits, rise_fits}
 
 pub applied-is : (update : Update) (g : SimpleGraph) → update.add ≡ true → is_applied update g ≡ not (adjacent g update.u update.v)
 applied-is update g e = ap (λ b. cond b (not (adjacent g update.u update.v)) (adjacent g update.u update.v)) e
@@ -51,7 +52,7 @@ plain-sure update used s level root frontier earlier later adds h l new least is
       record {
         ends = l;
         kept = sym (ap not applied);
-        moves_fit = tt;
+        moves_fit = plain_fits s;
         holds = λ z lz _. subst (λ (g : SimpleGraph). HoldsAt (record { graph = g; core = s.core; order = s.order }) z) (sym (updated-is update s.graph adds))
             (plain-holds s (with_edge s.graph update.u update.v) level root frontier earlier later h refl w b z lz);
       },
@@ -66,7 +67,7 @@ plain-sure update used s level root frontier earlier later adds h l new least is
 -- some rise, or are shifted
 pub rise-sure : (update : Update) (used : Used) (s : Ranked) (level root frontier : ℕ) (earlier later : ℕ → ℕ) (rise : Vec ℕ Global) (shifts : Vec (ℕ × ℕ) Global) → update.add ≡ true → IsCertified s → update.v < s.graph.size → adjacent s.graph update.u update.v ≡ false
     → level ≡ min (get_or s.core update.u 0) (get_or s.core update.v 0) → root ≡ root_of s update
-    → BetweenTurns (search_with update level s) root rise.items [] frontier earlier later shifts.items → Ascends (rank_in s.order) rise.items
+    → BetweenTurns (search_with update level s) root rise.items [] frontier earlier later shifts.items → AscendsBy (rank_in s.order) rise.items
     → ((x : ℕ) → member x (rise.items ++ firsts shifts.items) ≡ true → Forward (search_with update level s) root x)
     → IsLocal s (record { update = update; used = used; moves = Rise level rise shifts }) × IsSparing s (record { update = update; used = used; moves = Rise level rise shifts })
 rise-sure update used s level root frontier earlier later rise shifts adds h l new least is b up reached =
@@ -79,12 +80,12 @@ rise-sure update used s level root frontier earlier later rise shifts adds h l n
       record {
         ends = l;
         kept = sym (ap not applied);
-        moves_fit = (
-          once,
-          λ x m. elim (member-append x rise.items (firsts shifts.items) m) [ inl k ↦ of_level x (b.searching.cand_level x k) | inr k ↦ of_level x (fit.first_level x k) ],
-          λ x m. (of_level x (fit.second_level x m), fit.second_done x m),
-          fit.in_turn,
-        );
+        moves_fit = rise_fits s level rise shifts once
+            (λ x m. elim (member-append x rise.items (firsts shifts.items) m) [
+              | inl k ↦ of_level x (b.searching.cand_level x k)
+              | inr k ↦ of_level x (fit.first_level x k)
+            ])
+            (λ x m. (of_level x (fit.second_level x m), fit.second_done x m)) fit.in_turn;
         holds = λ z lz _. subst (λ (g : SimpleGraph). HoldsAt (record { graph = g; core = renumbered rise.items (level + 1) s.core; order = put_between (λ y. leb (get_or s.core y 0) level) rise.items (shifted shifts.items s.order) }) z) (sym (updated-is update s.graph adds))
             (rise-holds s (with_edge s.graph update.u update.v) level root rise.items frontier earlier later shifts.items h refl w b up z lz);
       },

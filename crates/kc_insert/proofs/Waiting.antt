@@ -4,7 +4,7 @@ use Rattle.std.proofs.lemmas.Bool.{cases_eq, false_from_ne_true}
 use Rattle.kc_distinct.specs.Lists.{member}
 use Rattle.kc_distinct.proofs.Counting.{member-push_cases, member-filter}
 use Rattle.kc_distinct.proofs.Members.{member-head}
-use Rattle.kc_cert.specs.Ranks.{Ascends}
+use Rattle.kc_cert.specs.Ranks.{AscendsBy}
 use Rattle.kc_cert.proofs.Final.{filter-has}
 use Rattle.kc_view.specs.Search.{Search}
 use Rattle.kc_insert.specs.Marks.{candidate_in, earlier_in, later_in}
@@ -82,7 +82,7 @@ pass-between s root w old new c o lt first l few none (f, b) =
       s.rank w + 1,
       record {
         lined = record {
-          ascends = subst (Ascends s.rank) (sym l.queue) b.lined.ascends;
+          ascends = subst (AscendsBy s.rank) (sym l.queue) b.lined.ascends;
           reached = λ z m. b.lined.reached z (sym (ap (member z) l.queue) ∙ m);
           passed = λ z m. elim (member-push_cases z w (left old) (sym (ap (member z) (left-more w mark old new l lt first)) ∙ m)) [
             | inl k ↦ omega (arith, b.lined.passed z k, open')

@@ -2,7 +2,7 @@
 use Rattle.std.specs.Prelude.{◌≡◌, ◌≢◌, ◌≤◌, ◌<◌, ◌+◌, ◌-◌, ℕ, true, false, ◌&&◌, ◌||◌, List, nat_le, nat_lt, if◌then◌else◌}
 use Rattle.kc_distinct.specs.Lists.{member, Distinct}
 use Rattle.kc_cert.specs.Local.{firsts, seconds, AreInTurn}
-use Rattle.kc_cert.specs.Ranks.{Ascends, place_after}
+use Rattle.kc_cert.specs.Ranks.{AscendsBy, place_after}
 use Rattle.kc_view.specs.Search.{Search, among, on_level, above, after, OnLevel}
 
 -- neighbours of a greater core number, or later ones of the level
@@ -39,7 +39,7 @@ pub record Searching (s : Search) (root : ℕ) (cands queue : List ℕ) (frontie
   pub cand_passed : (x : ℕ) → member x cands ≡ true → s.rank x < frontier
   pub queue_level : (x : ℕ) → member x queue ≡ true → OnLevel s x
   pub queue_open : (x : ℕ) → member x queue ≡ true → frontier ≤ s.rank x
-  pub queue_ascends : Ascends s.rank queue
+  pub queue_ascends : AscendsBy s.rank queue
   pub root_queued : frontier ≤ s.rank root → member root queue ≡ true
   pub queued : (x y : ℕ) → member x cands ≡ true → OnLevel s y → s.adj x y ≡ true → frontier ≤ s.rank y → member y queue ≡ true
   pub earlier_of_cand : (x : ℕ) → member x cands ≡ true → earlier x ≡ coming s cands x
@@ -85,7 +85,7 @@ pub record Raised (s : Search) (cands : List ℕ) (w : ℕ) (queue : List ℕ) (
   pub later_kept : (x : ℕ) → member x cands ≡ true → later' x ≡ later x
   pub more : (y : ℕ) → OnLevel s y → earlier' y ≡ earlier y + (if s.adj w y && after s w y then 1 else 0)
   pub added : Adds cands w cands'
-  pub queue_ascends : Ascends s.rank queue'
+  pub queue_ascends : AscendsBy s.rank queue'
   pub queue_from : (y : ℕ) → OnLevel s y → member y queue' ≡ (member y queue || (s.adj w y && after s w y))
   pub queue_level : (y : ℕ) → member y queue' ≡ true → OnLevel s y
 

@@ -2,7 +2,7 @@
 use Rattle.std.specs.Prelude.{◌≡◌, ◌≢◌, ◌≤◌, ◌<◌, ◌+◌, ◌-◌, ◌^◌, ◌⊎◌, ◌++◌, ◌&&◌, ◌||◌, ℕ, Bool, true, false, not, min, List, [], ◌∷◌, Some, None, length, slice_index, nat_lt, nat_le, if◌then◌else◌}
 use Rattle.std.specs.List.{insert}
 use Rattle.kc_distinct.specs.Lists.{member}
-use Rattle.kc_cert.specs.Ranks.{Ascends}
+use Rattle.kc_cert.specs.Ranks.{AscendsBy}
 use Rattle.kc_view.specs.Search.{Search, on_level, above, after, OnLevel, Forward}
 use Rattle.kc_insert.specs.Marks.{mark_of}
 use Rattle.kc_insert.specs.Rising.{is_queued, earlier_at, later_at, turn_at, is_candidate, is_weak, cands, left, waiting, pending}
@@ -154,7 +154,7 @@ pub record IsAheadOf (s : Search) (w : ℕ) (a : Ahead) : Type 0 where
 
 -- The queue is in order, all in it were reached, and those that have left stand before `frontier`.
 pub record LinedUp (s : Search) (root : ℕ) (r : Rising) (frontier : ℕ) : Type 0 where
-  pub ascends : Ascends s.rank r.queue.items
+  pub ascends : AscendsBy s.rank r.queue.items
   pub reached : (z : ℕ) → member z r.queue.items ≡ true → Forward s root z
   pub passed : (z : ℕ) → member z (left r) ≡ true → s.rank z < frontier
 

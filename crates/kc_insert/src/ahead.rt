@@ -103,8 +103,10 @@ pub(crate) fn look_ahead<V: View>(
     ensures asks { OnOk result ((queue : List ℕ) → AsksQueued update (V.shown view.old).kept queue → AsksQueued update (V.shown view.new).kept queue) }
     ensures from { IfOk result (λ ahead. (y : ℕ) → member y ahead.next.items ≡ true → (member y row.now ≡ true) × (has_core (V.shown view.new).kept y ≡ true)) }
     ensures once { IfOk result (λ ahead. Distinct ahead.next.items) }
-    ensures count { IfOk result (λ ahead. (s : Ranked) → Agrees (V.shown view.new).kept s → ahead.count ≡ count_by (λ y. is_ahead (side_in (search_with update level s) w y)) row.now) }
-    ensures next { IfOk result (λ ahead. (s : Ranked) → Agrees (V.shown view.new).kept s → (y : ℕ) → member y ahead.next.items ≡ (member y row.now && is_next (side_in (search_with update level s) w y))) }
+    ensures count { IfOk result (λ ahead. (s : Ranked) → Agrees (V.shown view.new).kept s
+        → ahead.count ≡ count_by (λ y. is_ahead (side_in (search_with update level s) w y)) row.now) }
+    ensures next { IfOk result (λ ahead. (s : Ranked) → Agrees (V.shown view.new).kept s → (y : ℕ)
+        → member y ahead.next.items ≡ (member y row.now && is_next (side_in (search_with update level s) w y))) }
 {
     let mut ahead = Ahead {
         count: 0,

@@ -79,7 +79,8 @@ fn find_root<V: View>(view: &mut V, update: Update) -> Result<Root, PlanFault>
     ensures asks { OnOk result (AsksQueued update (V.shown view.new).kept []) }
     ensures placed { OnOk result ((has_core (V.shown view.new).kept update.u ≡ true) × (has_core (V.shown view.new).kept update.v ≡ true)) }
     ensures end { IfOk result (λ root. (root.vertex ≡ update.u) ⊎ (root.vertex ≡ update.v)) }
-    ensures level { IfOk result (λ root. (s : Ranked) → Agrees (V.shown view.new).kept s → root.level ≡ min (slice_index s.core update.u) (slice_index s.core update.v)) }
+    ensures level { IfOk result (λ root. (s : Ranked) → Agrees (V.shown view.new).kept s
+        → root.level ≡ min (slice_index s.core update.u) (slice_index s.core update.v)) }
     ensures root { IfOk result (λ root. (s : Ranked) → Agrees (V.shown view.new).kept s → root.vertex ≡ root_of s update) }
 {
     let first = core_of(view, update.u)?;
@@ -104,7 +105,8 @@ fn find_rising<V: View>(
     ensures cause { IfErr result (λ fault. HasPlanCause (V.shown view.old) (V.shown view.new) fault) }
     ensures tidy { IfOk result (λ rising. IsTidyRising update (V.shown view.new) rising) }
     ensures ended { IfOk result (λ rising. rising.turn ≡ length rising.queue.items) }
-    ensures turns { IfOk result (λ rising. (s : Ranked) → update.v < s.graph.size → Agrees (V.shown view.new).kept s → Widened (search_with update root.level s) root.vertex → IsBetweenTurns (search_with update root.level s) root.vertex rising) }
+    ensures turns { IfOk result (λ rising. (s : Ranked) → update.v < s.graph.size → Agrees (V.shown view.new).kept s
+        → Widened (search_with update root.level s) root.vertex → IsBetweenTurns (search_with update root.level s) root.vertex rising) }
 {
     let mut rising = Rising::start(alloc, root.vertex)?;
     take_turns(alloc, view, update, root.level, &mut rising)?;

@@ -3,7 +3,7 @@ ghost use Rattle.std.specs.Prelude.{◌≡◌, ◌≢◌, ◌<◌, ◌≤◌, �
 ghost use Rattle.kc_distinct.specs.Lists.{member, Distinct};
 ghost use Rattle.kc_graph.specs.Lawful.{Ranked};
 ghost use Rattle.kc_graph.specs.declared.update.Update.{Update};
-ghost use Rattle.kc_cert.specs.Ranks.{rank_in, Ascends};
+ghost use Rattle.kc_cert.specs.Ranks.{rank_in, AscendsBy};
 ghost use Rattle.kc_view.specs.Answers.{Agrees, has_list, has_core};
 ghost use Rattle.kc_view.specs.Search.{after};
 ghost use Rattle.kc_view.specs.Views.{GoesOn, HasPlanCause};
@@ -26,7 +26,8 @@ fn place_of<V: View>(view: &mut V, x: u32, rising: &Rising) -> Result<usize, Pla
     ensures tidy { OnOk result ((update : Update) → IsTidyRising update (V.shown view.old) rising.now → IsTidyRising update (V.shown view.new) rising.now) }
     ensures from { IfOk result (λ place. rising.now.turn ≤ place) }
     ensures within { IfOk result (λ place. place ≤ length rising.now.queue.items) }
-    ensures place { IfOk result (λ place. (s : Ranked) → Agrees (V.shown view.new).kept s → Ascends (rank_in s.order) rising.now.queue.items → ((z : ℕ) → member z (left rising.now) ≡ true → rank_in s.order z < rank_in s.order x)
+    ensures place { IfOk result (λ place. (s : Ranked) → Agrees (V.shown view.new).kept s → AscendsBy (rank_in s.order) rising.now.queue.items
+        → ((z : ℕ) → member z (left rising.now) ≡ true → rank_in s.order z < rank_in s.order x)
         → IsPlaceWithin (rank_in s.order) rising.now.queue.items x place place) }
 {
     let mut low = rising.turn;
@@ -51,7 +52,8 @@ fn pass<V: View>(view: &mut V, x: u32, rising: &mut Rising) -> Result<(), PlanFa
     ensures cause { IfErr result (λ fault. HasPlanCause (V.shown view.old) (V.shown view.new) fault) }
     ensures tidy { OnOk result ((update : Update) → IsTidyRising update (V.shown view.old) rising.old → IsTidyRising update (V.shown view.new) rising.new) }
     ensures passes { OnOk result (Passes x rising.old rising.new) }
-    ensures ascends { OnOk result ((s : Ranked) → Agrees (V.shown view.new).kept s → StandsBehindLeft (rank_in s.order) rising.old [] x → Ascends (rank_in s.order) rising.old.queue.items → Ascends (rank_in s.order) rising.new.queue.items) }
+    ensures ascends { OnOk result ((s : Ranked) → Agrees (V.shown view.new).kept s → StandsBehindLeft (rank_in s.order) rising.old [] x
+        → AscendsBy (rank_in s.order) rising.old.queue.items → AscendsBy (rank_in s.order) rising.new.queue.items) }
 {
     let Some(mark) = rising.find(x) else {
         let place = place_of(view, x, rising)?;
@@ -72,7 +74,9 @@ fn pass_on<V: View>(view: &mut V, next: &[u32], rising: &mut Rising) -> Result<(
     ensures cause { IfErr result (λ fault. HasPlanCause (V.shown view.old) (V.shown view.new) fault) }
     ensures tidy { OnOk result ((update : Update) → IsTidyRising update (V.shown view.old) rising.old → IsTidyRising update (V.shown view.new) rising.new) }
     ensures passed { OnOk result (PassedOn next.now rising.old rising.new) }
-    ensures ascends { OnOk result ((s : Ranked) → Agrees (V.shown view.new).kept s → ((y : ℕ) → member y next.now ≡ true → StandsBehindLeft (rank_in s.order) rising.old next.now y) → Ascends (rank_in s.order) rising.old.queue.items → Ascends (rank_in s.order) rising.new.queue.items) }
+    ensures ascends { OnOk result ((s : Ranked) → Agrees (V.shown view.new).kept s
+        → ((y : ℕ) → member y next.now ≡ true → StandsBehindLeft (rank_in s.order) rising.old next.now y)
+        → AscendsBy (rank_in s.order) rising.old.queue.items → AscendsBy (rank_in s.order) rising.new.queue.items) }
 {
     for x in next {
         pass(view, *x, rising)?;
@@ -100,7 +104,8 @@ pub(crate) fn raise<V: View>(
     ensures cause { IfErr result (λ fault. HasPlanCause (V.shown view.old) (V.shown view.new) fault) }
     ensures tidy { OnOk result ((update : Update) → IsTidyRising update (V.shown view.old) rising.old → IsTidyRising update (V.shown view.new) rising.new) }
     ensures turn { OnOk result (rising.new.turn ≡ rising.old.turn + 1) }
-    ensures raised { OnOk result ((update : Update) (level : ℕ) (s : Ranked) (root : ℕ) → Agrees (V.shown view.new).kept s → Widened (search_with update level s) root → level < earlier + ahead.now.count → IsAheadOf (search_with update level s) w ahead.now
+    ensures raised { OnOk result ((update : Update) (level : ℕ) (s : Ranked) (root : ℕ) → Agrees (V.shown view.new).kept s
+        → Widened (search_with update level s) root → level < earlier + ahead.now.count → IsAheadOf (search_with update level s) w ahead.now
         → IsBetweenTurns (search_with update level s) root rising.old → IsBetweenTurns (search_with update level s) root rising.new) }
 {
     rising.leave(w, Mark::candidate(earlier, ahead.count, rising.turn))?;

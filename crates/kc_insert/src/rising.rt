@@ -122,7 +122,8 @@ impl Rising {
         requires { place ≤ length self.old.queue.items }
         ensures marks { OnOk result (MarksOne x (record { earlier = 1; later = 0; turn = 0; is_candidate = false; is_weak = false }) self.old self.new) }
         ensures queue { OnOk result (self.new.queue.items ≡ insert self.old.queue.items place x) }
-        ensures rest { OnOk result ((self.new.turn ≡ self.old.turn) × (self.new.weak.items ≡ self.old.weak.items) × (self.new.shifts.items ≡ self.old.shifts.items)) }
+        ensures rest { OnOk result ((self.new.turn ≡ self.old.turn) × (self.new.weak.items ≡ self.old.weak.items)
+            × (self.new.shifts.items ≡ self.old.shifts.items)) }
     {
         let mark = Mark {
             earlier: 1,
@@ -136,7 +137,8 @@ impl Rising {
     /// Counts one candidate more before a queued vertex.
     pub fn count_candidate(&mut self, x: u32, mark: Mark) -> Result<(), NoMemory>
         ensures marks { OnOk result (MarksOne x (record mark { earlier = min (mark.earlier + 1) (2 ^ 64 - 1) }) self.old self.new) }
-        ensures rest { OnOk result ((self.new.queue.items ≡ self.old.queue.items) × (self.new.turn ≡ self.old.turn) × (self.new.weak.items ≡ self.old.weak.items) × (self.new.shifts.items ≡ self.old.shifts.items)) }
+        ensures rest { OnOk result ((self.new.queue.items ≡ self.old.queue.items) × (self.new.turn ≡ self.old.turn)
+            × (self.new.weak.items ≡ self.old.weak.items) × (self.new.shifts.items ≡ self.old.shifts.items)) }
     {
         let earlier = mark.earlier.saturating_add(1);
         self.marks.insert(x, Mark { earlier, ..mark })?;

@@ -15,7 +15,8 @@ use std::alloc::Global;
 
 /// The other end of the edge, where `w` is one.
 fn other_end(update: Update, w: u32) -> Option<u32>
-    ensures { MatchOption result ((y : ℕ) → is_added update w y ≡ false) (λ other. ((y : ℕ) → is_added update w y ≡ nat_eq y other) × ((other ≡ update.u) ⊎ (other ≡ update.v)) × (other ≢ w)) }
+    ensures { MatchOption result ((y : ℕ) → is_added update w y ≡ false) (λ other. ((y : ℕ) → is_added update w y ≡ nat_eq y other)
+        × ((other ≡ update.u) ⊎ (other ≡ update.v)) × (other ≢ w)) }
 {
     if w == update.u {
         Some(update.v)
@@ -73,7 +74,8 @@ pub(crate) fn row_of<V: View>(
     ensures goes_on { GoesOn (V.shown view.old) (V.shown view.new) }
     ensures cause { IfErr result (λ fault. HasPlanCause (V.shown view.old) (V.shown view.new) fault) }
     ensures told { OnOk result (TellsList (V.shown view.old).kept (V.shown view.new).kept w) }
-    ensures asks { OnOk result ((queue : List ℕ) → AsksQueued update (V.shown view.old).kept queue → (w ≡ update.u) ⊎ (member w queue ≡ true) → AsksQueued update (V.shown view.new).kept queue) }
+    ensures asks { OnOk result ((queue : List ℕ) → AsksQueued update (V.shown view.old).kept queue → (w ≡ update.u) ⊎ (member w queue ≡ true)
+        → AsksQueued update (V.shown view.new).kept queue) }
     ensures row { IfOk result (λ row. IsListOf (V.shown view.new).size w row.items) }
     ensures has { IfOk result (λ row. (y : ℕ) → member y row.items ≡ (member y (list_of (V.shown view.new).kept w) || is_added update w y)) }
 {

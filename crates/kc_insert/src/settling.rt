@@ -93,7 +93,8 @@ pub(crate) fn settle<V: View>(
     ensures cause { IfErr result (λ fault. HasPlanCause (V.shown view.old) (V.shown view.new) fault) }
     ensures tidy { OnOk result (IsTidyRising update (V.shown view.new) rising.new) }
     ensures turn { OnOk result (rising.new.turn ≡ rising.old.turn + 1) }
-    ensures settled { OnOk result ((s : Ranked) (root : ℕ) → Agrees (V.shown view.new).kept s → Widened (search_with update level s) root → earlier_at rising.old w + ahead (search_with update level s) w ≤ level
+    ensures settled { OnOk result ((s : Ranked) (root : ℕ) → Agrees (V.shown view.new).kept s → Widened (search_with update level s) root
+        → earlier_at rising.old w + ahead (search_with update level s) w ≤ level
         → IsBetweenTurns (search_with update level s) root rising.old → IsBetweenTurns (search_with update level s) root rising.new) }
 {
     rising.leave(w, Mark::past())?;

@@ -32,7 +32,8 @@ fn take_turn<V: View>(
     ensures cause { IfErr result (λ fault. HasPlanCause (V.shown view.old) (V.shown view.new) fault) }
     ensures tidy { OnOk result (IsTidyRising update (V.shown view.new) rising.new) }
     ensures turn { OnOk result (rising.new.turn ≡ rising.old.turn + 1) }
-    ensures turns { OnOk result ((s : Ranked) (root : ℕ) → update.v < s.graph.size → Agrees (V.shown view.new).kept s → Widened (search_with update level s) root
+    ensures turns { OnOk result ((s : Ranked) (root : ℕ) → update.v < s.graph.size → Agrees (V.shown view.new).kept s
+        → Widened (search_with update level s) root
         → IsBetweenTurns (search_with update level s) root rising.old → IsBetweenTurns (search_with update level s) root rising.new) }
 {
     let w = rising.queue[rising.turn];
@@ -63,7 +64,8 @@ pub(crate) fn take_turns<V: View>(
     ensures cause { IfErr result (λ fault. HasPlanCause (V.shown view.old) (V.shown view.new) fault) }
     ensures tidy { OnOk result (IsTidyRising update (V.shown view.new) rising.new) }
     ensures ended { OnOk result (rising.new.turn ≡ length rising.new.queue.items) }
-    ensures turns { OnOk result ((s : Ranked) (root : ℕ) → update.v < s.graph.size → Agrees (V.shown view.new).kept s → Widened (search_with update level s) root
+    ensures turns { OnOk result ((s : Ranked) (root : ℕ) → update.v < s.graph.size → Agrees (V.shown view.new).kept s
+        → Widened (search_with update level s) root
         → IsBetweenTurns (search_with update level s) root rising.old → IsBetweenTurns (search_with update level s) root rising.new) }
 {
     while rising.turn < rising.queue.len() {

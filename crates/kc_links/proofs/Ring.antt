@@ -5,10 +5,15 @@ use Rattle.std.proofs.lemmas.List.{get_or-set_same, get_or-set_other, append_ass
 use Rattle.kc_distinct.specs.Lists.{member, Distinct, without, right_after, head_or, last_or, next_of, prev_of}
 use Rattle.kc_links.specs.Ring.{walk, Link, Path, IsRing}
 use Rattle.kc_distinct.proofs.Members.{member-head, member-tail, member-cases, member-append, member-append_left, member-append_right, not_member-parts, not_member-append, cut, Distinct-cut, Distinct-insert, without-cut, right_after-cut, next_of-cut, prev_of-cut, ended, last_or-push, member-last_or, below_bound}
+use Rattle.kc_distinct.proofs.Shared.{some_length, Distinct-front}
 
-pub Path-mono : (R S : ℕ → ℕ → Type 0) (x : ℕ) (xs : List ℕ) (e : ℕ) → ((y z : ℕ) → member y (x ∷ xs) ≡ true → member z (xs ++ e ∷ []) ≡ true → R y z → S y z) → Path R x (xs ++ e ∷ []) → Path S x (xs ++ e ∷ [])
+pub Path-mono : (R S : ℕ → ℕ → Type 0) (x : ℕ) (xs : List ℕ) (e : ℕ)
+    → ((y z : ℕ) → member y (x ∷ xs) ≡ true → member z (xs ++ e ∷ []) ≡ true → R y z → S y z) → Path R x (xs ++ e ∷ []) → Path S x (xs ++ e ∷ [])
 Path-mono R S x [] e f h = (f x e (member-head x []) (member-head e []) h.0, tt)
-Path-mono R S x (y ∷ ys) e f h = (f x y (member-head x (y ∷ ys)) (member-head y (ys ++ e ∷ [])) h.0, Path-mono R S y ys e (λ u v p q r. f u v (member-tail u x (y ∷ ys) p) (member-tail v y (ys ++ e ∷ []) q) r) h.1)
+Path-mono R S x (y ∷ ys) e f h = (
+  f x y (member-head x (y ∷ ys)) (member-head y (ys ++ e ∷ [])) h.0,
+  Path-mono R S y ys e (λ u v p q r. f u v (member-tail u x (y ∷ ys) p) (member-tail v y (ys ++ e ∷ []) q) r) h.1,
+)
 
 -- a path in two parts
 pub Path-left : (R : ℕ → ℕ → Type 0) (x : ℕ) (l : List ℕ) (p : ℕ) (r : List ℕ) → Path R x (l ++ p ∷ r) → Path R x (l ++ p ∷ [])
@@ -40,15 +45,22 @@ apart x y xs m n e = true≢false (sym m ∙ (ap (λ z. member z xs) e ∙ n))
 pub Link-kept : (next prev : List ℕ) (a v b w y z : ℕ) → y ≢ a → z ≢ b → Link next prev y z → Link (set next a v) (set prev b w) y z
 Link-kept next prev a v b w y z n m h = (get_or-set_other next a y v 0 n ∙ h.0, get_or-set_other prev b z w 0 m ∙ h.1)
 
-Link-twice : (next prev : List ℕ) (p x q y z : ℕ) → y ≢ p → y ≢ x → z ≢ x → z ≢ q → Link next prev y z → Link (set (set next p x) x q) (set (set prev x p) q x) y z
-Link-twice next prev p x q y z n m m' n' h = (get_or-set_other (set next p x) x y q 0 m ∙ (get_or-set_other next p y x 0 n ∙ h.0), get_or-set_other (set prev x p) q z x 0 n' ∙ (get_or-set_other prev x z p 0 m' ∙ h.1))
+Link-twice : (next prev : List ℕ) (p x q y z : ℕ) → y ≢ p → y ≢ x → z ≢ x → z ≢ q → Link next prev y z
+    → Link (set (set next p x) x q) (set (set prev x p) q x) y z
+Link-twice next prev p x q y z n m m' n' h = (
+  get_or-set_other (set next p x) x y q 0 m ∙ (get_or-set_other next p y x 0 n ∙ h.0),
+  get_or-set_other (set prev x p) q z x 0 n'
+      ∙ (get_or-set_other prev x z p 0 m' ∙ h.1),
+)
 
-pub path_at : (next prev : List ℕ) (s : ℕ) (l : List ℕ) (p : ℕ) (r : List ℕ) → Path (Link next prev) s ((l ++ p ∷ r) ++ s ∷ []) → Path (Link next prev) s (l ++ p ∷ []) × Path (Link next prev) p (r ++ s ∷ [])
+pub path_at : (next prev : List ℕ) (s : ℕ) (l : List ℕ) (p : ℕ) (r : List ℕ) → Path (Link next prev) s ((l ++ p ∷ r) ++ s ∷ [])
+    → Path (Link next prev) s (l ++ p ∷ []) × Path (Link next prev) p (r ++ s ∷ [])
 path_at next prev s l p r h =
     let h' : Path (Link next prev) s (l ++ p ∷ (r ++ s ∷ [])) = subst (Path (Link next prev) s) (append_assoc l (p ∷ r) (s ∷ [])) h in
     (Path-left (Link next prev) s l p (r ++ s ∷ []) h', Path-right (Link next prev) s l p (r ++ s ∷ []) h')
 
-pub path_from : (next prev : List ℕ) (s : ℕ) (l : List ℕ) (p : ℕ) (r : List ℕ) → Path (Link next prev) s (l ++ p ∷ []) → Path (Link next prev) p (r ++ s ∷ []) → Path (Link next prev) s ((l ++ p ∷ r) ++ s ∷ [])
+pub path_from : (next prev : List ℕ) (s : ℕ) (l : List ℕ) (p : ℕ) (r : List ℕ) → Path (Link next prev) s (l ++ p ∷ [])
+    → Path (Link next prev) p (r ++ s ∷ []) → Path (Link next prev) s ((l ++ p ∷ r) ++ s ∷ [])
 path_from next prev s l p r h k = subst (Path (Link next prev) s) (sym (append_assoc l (p ∷ r) (s ∷ []))) (Path-join (Link next prev) s l p (r ++ s ∷ []) h k)
 
 Distinct-right : (l : List ℕ) (p : ℕ) (r : List ℕ) → Distinct (l ++ p ∷ r) → Distinct r
@@ -76,21 +88,35 @@ pub before_is : (next prev : List ℕ) (a : ℕ) (l : List ℕ) (p : ℕ) → Pa
 before_is next prev a [] p h = h.0.1
 before_is next prev a (y ∷ l) p h = before_is next prev y l p h.1
 
-new_tail : (next prev : List ℕ) (s x p q : ℕ) (r : List ℕ) → Path (Link next prev) p (r ++ s ∷ []) → q ≡ get_or next p 0 → s ≢ x → Distinct r → ((y : ℕ) → member y r ≡ true → (y ≢ p) × (y ≢ x) × (y < s)) → Link (set (set next p x) x q) (set (set prev x p) q x) x q → Path (Link (set (set next p x) x q) (set (set prev x p) q x)) x (r ++ s ∷ [])
+new_tail : (next prev : List ℕ) (s x p q : ℕ) (r : List ℕ) → Path (Link next prev) p (r ++ s ∷ []) → q ≡ get_or next p 0 → s ≢ x → Distinct r
+    → ((y : ℕ) → member y r ≡ true → (y ≢ p) × (y ≢ x) × (y < s)) → Link (set (set next p x) x q) (set (set prev x p) q x) x q
+    → Path (Link (set (set next p x) x q) (set (set prev x p) q x)) x (r ++ s ∷ [])
 new_tail next prev s x p q [] h e n d f k = (subst (λ z. Link (set (set next p x) x q) (set (set prev x p) q x) x z) (e ∙ h.0.0) k, tt)
 new_tail next prev s x p q (y ∷ r) h e n d f k =
     let is : q ≡ y = e ∙ h.0.0 in (
       subst (λ z. Link (set (set next p x) x q) (set (set prev x p) q x) x z) is k,
       Path-mono (Link next prev) (Link (set (set next p x) x q) (set (set prev x p) q x)) y r s
           (λ u v u-in v-in w.
-          let v-x : v ≢ x = elim (member-append v r (s ∷ []) v-in) [ inl in-r ↦ (f v (member-tail v y r in-r)).1 | inr in-s ↦ elim (member-cases v s [] in-s) [ inl is-s ↦ (λ z. n (sym is-s ∙ z)) | inr none ↦ absurd (false≢true none) ] ] in
-          let v-q : v ≢ q = elim (member-append v r (s ∷ []) v-in) [ inl in-r ↦ (λ z. true≢false (sym in-r ∙ (ap (λ w. member w r) (z ∙ is) ∙ d.0))) | inr in-s ↦ elim (member-cases v s [] in-s) [ inl is-s ↦ (let low : y < s = (f y (member-head y r)).2 in omega arith) | inr none ↦ absurd (false≢true none) ] ] in
+          let v-x : v ≢ x = elim (member-append v r (s ∷ []) v-in) [
+            | inl in-r ↦ (f v (member-tail v y r in-r)).1
+            | inr in-s ↦
+                elim (member-cases v s [] in-s) [ inl is-s ↦ (λ z. n (sym is-s ∙ z)) | inr none ↦ absurd (false≢true none) ]
+          ] in
+          let v-q : v ≢ q = elim (member-append v r (s ∷ []) v-in) [
+            | inl in-r ↦ (λ z. true≢false (sym in-r ∙ (ap (λ w. member w r) (z ∙ is) ∙ d.0)))
+            | inr in-s ↦ elim (member-cases v s [] in-s) [
+              | inl is-s ↦ (let low : y < s = (f y (member-head y r)).2 in omega arith)
+              | inr none ↦
+                  absurd (false≢true none)
+            ]
+          ] in
           Link-twice next prev p x q u v (f u u-in).0 (f u u-in).1 v-x v-q w)
           h.1,
     )
 
 -- the ring with x between p and q
-pub ring_insert : (next prev : List ℕ) (s x p q : ℕ) (l r : List ℕ) → IsRing next prev s (l ++ p ∷ r) → q ≡ get_or next p 0 → x < s → member x (l ++ p ∷ r) ≡ false → IsRing (set (set next p x) x q) (set (set prev x p) q x) s (l ++ p ∷ x ∷ r)
+pub ring_insert : (next prev : List ℕ) (s x p q : ℕ) (l r : List ℕ) → IsRing next prev s (l ++ p ∷ r) → q ≡ get_or next p 0 → x < s
+    → member x (l ++ p ∷ r) ≡ false → IsRing (set (set next p x) x q) (set (set prev x p) q x) s (l ++ p ∷ x ∷ r)
 ring_insert next prev s x p q l r h e below out =
     let (left, right) = path_at next prev s l p r h.path in
     let (p-l, p-r, rest) = Distinct-cut p l r h.distinct in
@@ -100,7 +126,9 @@ ring_insert next prev s x p q l r h e below out =
     let p-x : p ≢ x = λ z. x-p (sym z) in
     let left-below : (y : ℕ) → member y l ≡ true → y < s = λ y m. h.within y (member-append_left y l (p ∷ r) m) in
     let right-below : (y : ℕ) → member y r ≡ true → y < s = λ y m. h.within y (member-append_right y l (p ∷ r) (member-tail y p r m)) in
-    let apart-list : Distinct (l ++ p ∷ x ∷ r) = subst Distinct (append_assoc l (p ∷ []) (x ∷ r)) (Distinct-insert x (l ++ p ∷ []) r (subst Distinct (sym (append_assoc l (p ∷ []) r)) h.distinct) (ap (member x) (append_assoc l (p ∷ []) r) ∙ out)) in
+    let apart-list : Distinct (l ++ p ∷ x ∷ r) =
+    subst Distinct (append_assoc l (p ∷ []) (x ∷ r))
+    (Distinct-insert x (l ++ p ∷ []) r (subst Distinct (sym (append_assoc l (p ∷ []) r)) h.distinct) (ap (member x) (append_assoc l (p ∷ []) r) ∙ out)) in
     let to-x : q ≢ x → Link (set (set next p x) x q) (set (set prev x p) q x) p x = λ q-x. (
       get_or-set_other (set next p x) x p q 0 p-x ∙ get_or-set_same next p x 0 (omega (arith, h.next_length)),
       get_or-set_other (set prev x p) q x x 0 (λ z. q-x (sym z)) ∙ get_or-set_same prev x p 0 (omega (arith, h.prev_length)),
@@ -118,14 +146,19 @@ ring_insert next prev s x p q l r h e below out =
       | inr in-p ↦ elim (member-cases z p [] in-p) [ inl is-p ↦ (λ w. x-p (sym w ∙ is-p), omega arith, inr is-p) | inr none ↦ absurd (false≢true none) ]
     ] in
     let left-with : ((z : ℕ) → member z (l ++ p ∷ []) ≡ true → z ≢ q) → Path (Link (set (set next p x) x q) (set (set prev x p) q x)) s (l ++ p ∷ []) =
-    λ z-q. Path-mono (Link next prev) (Link (set (set next p x) x q) (set (set prev x p) q x)) s l p (λ y z y-in z-in k. Link-twice next prev p x q y z (y-left y y-in).0 (y-left y y-in).1 (z-left z z-in).0 (z-q z z-in) k) left in
+    λ z-q. Path-mono (Link next prev) (Link (set (set next p x) x q) (set (set prev x p) q x)) s l p
+    (λ y z y-in z-in k. Link-twice next prev p x q y z (y-left y y-in).0 (y-left y y-in).1 (z-left z z-in).0 (z-q z z-in) k) left in
     let right-facts : (y : ℕ) → member y r ≡ true → (y ≢ p) × (y ≢ x) × (y < s) = λ y m. (apart y p r m p-r, apart y x r m x-r, right-below y m) in
     let q-in : (q ≡ s) ⊎ (member q r ≡ true) = elim (after_in next prev s p r right) [ inl z ↦ inl (e ∙ z) | inr m ↦ inr (ap (λ w. member w r) e ∙ m) ] in
     let q-x : q ≢ x = elim q-in [ inl z ↦ omega arith | inr m ↦ apart q x r m x-r ] in
     let q-s : q ≤ s = elim q-in [ inl z ↦ omega arith | inr m ↦ omega (arith, right-below q m) ] in
     let z-q : (z : ℕ) → member z (l ++ p ∷ []) ≡ true → z ≢ q = λ z m. elim q-in [
       | inl is-s ↦ (let low : z < s = (z-left z m).1 in omega arith)
-      | inr in-r ↦ elim (z-left z m).2 [ inl in-l ↦ (λ w. apart_parts l p r h.distinct z q in-l in-r w) | inr is-p ↦ (λ w. apart q p r in-r p-r (sym w ∙ is-p)) ]
+      | inr in-r ↦ elim (z-left z m).2 [
+        | inl in-l ↦ (λ w. apart_parts l p r h.distinct z q in-l in-r w)
+        | inr is-p ↦
+            (λ w. apart q p r in-r p-r (sym w ∙ is-p))
+      ]
     ] in
     record {
       next_length = length-set (set next p x) x q ∙ (length-set next p x ∙ h.next_length);
@@ -134,66 +167,85 @@ ring_insert next prev s x p q l r h e below out =
       distinct = apart-list;
       within = λ y m. elim (member-append y l (p ∷ x ∷ r) m) [
         | inl in-l ↦ left-below y in-l
-        | inr in-r ↦ elim (member-cases y p (x ∷ r) in-r) [ inl is-p ↦ omega arith | inr in-x ↦ elim (member-cases y x r in-x) [ inl is-x ↦ omega arith | inr in-r' ↦ right-below y in-r' ] ]
+        | inr in-r ↦ elim (member-cases y p (x ∷ r) in-r)
+            [ inl is-p ↦ omega arith | inr in-x ↦ elim (member-cases y x r in-x) [ inl is-x ↦ omega arith | inr in-r' ↦ right-below y in-r' ] ]
       ];
-      path = path_from (set (set next p x) x q) (set (set prev x p) q x) s l p (x ∷ r) (left-with z-q) (to-x q-x, new_tail next prev s x p q r right e (omega arith) (Distinct-right l p r h.distinct) right-facts (from-x q-s));
+      path = path_from (set (set next p x) x q) (set (set prev x p) q x) s l p (x ∷ r) (left-with z-q)
+          (to-x q-x, new_tail next prev s x p q r right e (omega arith) (Distinct-right l p r h.distinct) right-facts (from-x q-s));
     }
 
-joined_tail : (next prev : List ℕ) (s x p q : ℕ) (r : List ℕ) → Path (Link next prev) x (r ++ s ∷ []) → q ≡ get_or next x 0 → Distinct r → ((y : ℕ) → member y r ≡ true → (y ≢ p) × (y < s)) → Link (set next p q) (set prev q p) p q → Path (Link (set next p q) (set prev q p)) p (r ++ s ∷ [])
+joined_tail : (next prev : List ℕ) (s x p q : ℕ) (r : List ℕ) → Path (Link next prev) x (r ++ s ∷ []) → q ≡ get_or next x 0 → Distinct r
+    → ((y : ℕ) → member y r ≡ true → (y ≢ p) × (y < s)) → Link (set next p q) (set prev q p) p q → Path (Link (set next p q) (set prev q p)) p (r ++ s ∷ [])
 joined_tail next prev s x p q [] h e d f k = (subst (λ z. Link (set next p q) (set prev q p) p z) (e ∙ h.0.0) k, tt)
 joined_tail next prev s x p q (y ∷ r) h e d f k =
     let is : q ≡ y = e ∙ h.0.0 in (
       subst (λ z. Link (set next p q) (set prev q p) p z) is k,
       Path-mono (Link next prev) (Link (set next p q) (set prev q p)) y r s
           (λ u v u-in v-in w.
-          let v-q : v ≢ q = elim (member-append v r (s ∷ []) v-in) [ inl in-r ↦ (λ z. true≢false (sym in-r ∙ (ap (λ w. member w r) (z ∙ is) ∙ d.0))) | inr in-s ↦ elim (member-cases v s [] in-s) [ inl is-s ↦ (let low : y < s = (f y (member-head y r)).1 in omega arith) | inr none ↦ absurd (false≢true none) ] ] in
+          let v-q : v ≢ q = elim (member-append v r (s ∷ []) v-in) [
+            | inl in-r ↦ (λ z. true≢false (sym in-r ∙ (ap (λ w. member w r) (z ∙ is) ∙ d.0)))
+            | inr in-s ↦ elim (member-cases v s [] in-s) [
+              | inl is-s ↦ (let low : y < s = (f y (member-head y r)).1 in omega arith)
+              | inr none ↦
+                  absurd (false≢true none)
+            ]
+          ] in
           Link-kept next prev p q q p u v (f u u-in).0 v-q w)
           h.1,
     )
 
-ring_path : (next prev : List ℕ) (s x p q : ℕ) (l r : List ℕ) → p ≡ last_or s l → ((z : ℕ) → member z l ≡ true → (z < s) × (z ≢ q)) → Distinct l → Path (Link next prev) s (l ++ x ∷ []) → Path (Link (set next p q) (set prev q p)) p (r ++ s ∷ []) → Path (Link (set next p q) (set prev q p)) s ((l ++ r) ++ s ∷ [])
+ring_path : (next prev : List ℕ) (s x p q : ℕ) (l r : List ℕ) → p ≡ last_or s l → ((z : ℕ) → member z l ≡ true → (z < s) × (z ≢ q)) → Distinct l
+    → Path (Link next prev) s (l ++ x ∷ []) → Path (Link (set next p q) (set prev q p)) p (r ++ s ∷ [])
+    → Path (Link (set next p q) (set prev q p)) s ((l ++ r) ++ s ∷ [])
 ring_path next prev s x p q [] r e f d h k = subst (λ z. Path (Link (set next p q) (set prev q p)) z (r ++ s ∷ [])) e k
 ring_path next prev s x p q (y ∷ ys) r e f d h k =
     let w = ended y ys in
     let last : p ≡ w.last = e ∙ (ap (last_or s) w.is ∙ last_or-push s w.front w.last) in
     let split : y ∷ ys ≡ w.front ++ p ∷ [] = w.is ∙ ap (λ z. w.front ++ z ∷ []) (sym last) in
-    let h' : Path (Link next prev) s (w.front ++ p ∷ (x ∷ [])) = subst (Path (Link next prev) s) (ap (λ zs. zs ++ x ∷ []) split ∙ append_assoc w.front (p ∷ []) (x ∷ [])) h in
+    let h' : Path (Link next prev) s (w.front ++ p ∷ (x ∷ [])) =
+    subst (Path (Link next prev) s) (ap (λ zs. zs ++ x ∷ []) split ∙ append_assoc w.front (p ∷ []) (x ∷ [])) h in
     let left : Path (Link next prev) s (w.front ++ p ∷ []) = Path-left (Link next prev) s w.front p (x ∷ []) h' in
     let d' : Distinct (w.front ++ p ∷ []) = subst Distinct split d in
     let f' : (z : ℕ) → member z (w.front ++ p ∷ []) ≡ true → (z < s) × (z ≢ q) = λ z m. f z (ap (member z) split ∙ m) in
     let p-s : p < s = (f' p (member-append_right p w.front (p ∷ []) (member-head p []))).0 in
-    let new : Path (Link (set next p q) (set prev q p)) s (w.front ++ p ∷ []) = Path-mono (Link next prev) (Link (set next p q) (set prev q p)) s w.front p (λ u v u-in v-in z.
+    let new : Path (Link (set next p q) (set prev q p)) s (w.front ++ p ∷ []) =
+    Path-mono (Link next prev) (Link (set next p q) (set prev q p)) s w.front p (λ u v u-in v-in z.
     let u-p : u ≢ p = elim (member-cases u s w.front u-in) [ inl is-s ↦ omega arith | inr in-f ↦ apart u p w.front in-f (Distinct-cut p w.front [] d').0 ] in
     Link-kept next prev p q q p u v u-p (f' v v-in).1 z) left in
     subst (λ zs. Path (Link (set next p q) (set prev q p)) s (zs ++ s ∷ [])) (sym (append_assoc w.front (p ∷ []) r) ∙ ap (λ zs. zs ++ r) (sym split))
     (path_from (set next p q) (set prev q p) s w.front p r new k)
 
-Distinct-left : (l r : List ℕ) → Distinct (l ++ r) → Distinct l
-Distinct-left [] r d = tt
-Distinct-left (y ∷ l) r d = ((not_member-append y l r d.0).0, Distinct-left l r d.1)
-
 -- the ring without x
-pub ring_remove : (next prev : List ℕ) (s x p q : ℕ) (l r : List ℕ) → IsRing next prev s (l ++ x ∷ r) → p ≡ get_or prev x 0 → q ≡ get_or next x 0 → IsRing (set next p q) (set prev q p) s (l ++ r) × (p ≤ s) × (q ≤ s)
+pub ring_remove : (next prev : List ℕ) (s x p q : ℕ) (l r : List ℕ) → IsRing next prev s (l ++ x ∷ r) → p ≡ get_or prev x 0 → q ≡ get_or next x 0
+    → IsRing (set next p q) (set prev q p) s (l ++ r) × (p ≤ s) × (q ≤ s)
 ring_remove next prev s x p q l r h p-is q-is =
     let (left, right) = path_at next prev s l x r h.path in
     let (x-l, x-r, rest) = Distinct-cut x l r h.distinct in
     let left-below : (y : ℕ) → member y l ≡ true → y < s = λ y m. h.within y (member-append_left y l (x ∷ r) m) in
     let right-below : (y : ℕ) → member y r ≡ true → y < s = λ y m. h.within y (member-append_right y l (x ∷ r) (member-tail y x r m)) in
     let p-last : p ≡ last_or s l = p-is ∙ before_is next prev s l x left in
-    let p-in : (p ≡ s) ⊎ (member p l ≡ true) = elim (member-cases p s l (ap (λ z. member z (s ∷ l)) p-last ∙ member-last_or s l)) [ inl z ↦ inl z | inr m ↦ inr m ] in
+    let p-in : (p ≡ s) ⊎ (member p l ≡ true) =
+    elim (member-cases p s l (ap (λ z. member z (s ∷ l)) p-last ∙ member-last_or s l)) [ inl z ↦ inl z | inr m ↦ inr m ] in
     let q-in : (q ≡ s) ⊎ (member q r ≡ true) = elim (after_in next prev s x r right) [ inl z ↦ inl (q-is ∙ z) | inr m ↦ inr (ap (λ w. member w r) q-is ∙ m) ] in
     let p-s : p ≤ s = elim p-in [ inl z ↦ omega arith | inr m ↦ omega (arith, left-below p m) ] in
     let q-s : q ≤ s = elim q-in [ inl z ↦ omega arith | inr m ↦ omega (arith, right-below q m) ] in
-    let right-facts : (y : ℕ) → member y r ≡ true → (y ≢ p) × (y < s) = λ y m. (elim p-in [ inl z ↦ (let low : y < s = right-below y m in omega arith) | inr k ↦ (λ w. apart_parts l x r h.distinct p y k m (sym w)) ], right-below y m) in
-    let left-facts : (z : ℕ) → member z l ≡ true → (z < s) × (z ≢ q) = λ z m. (left-below z m, elim q-in [ inl w ↦ (let low : z < s = left-below z m in omega arith) | inr k ↦ apart_parts l x r h.distinct z q m k ]) in
-    let link : Link (set next p q) (set prev q p) p q = (get_or-set_same next p q 0 (omega (arith, h.next_length)), get_or-set_same prev q p 0 (omega (arith, h.prev_length))) in (
+    let right-facts : (y : ℕ) → member y r ≡ true → (y ≢ p) × (y < s) =
+    λ y m. (
+      elim p-in [ inl z ↦ (let low : y < s = right-below y m in omega arith) | inr k ↦ (λ w. apart_parts l x r h.distinct p y k m (sym w)) ],
+      right-below y m,
+    ) in
+    let left-facts : (z : ℕ) → member z l ≡ true → (z < s) × (z ≢ q) =
+    λ z m. (left-below z m, elim q-in [ inl w ↦ (let low : z < s = left-below z m in omega arith) | inr k ↦ apart_parts l x r h.distinct z q m k ]) in
+    let link : Link (set next p q) (set prev q p) p q =
+    (get_or-set_same next p q 0 (omega (arith, h.next_length)), get_or-set_same prev q p 0 (omega (arith, h.prev_length))) in (
       record {
         next_length = length-set next p q ∙ h.next_length;
         prev_length = length-set prev q p ∙ h.prev_length;
         small = h.small;
         distinct = rest;
         within = λ y m. elim (member-append y l r m) [ inl in-l ↦ left-below y in-l | inr in-r ↦ right-below y in-r ];
-        path = ring_path next prev s x p q l r p-last left-facts (Distinct-left l (x ∷ r) h.distinct) left (joined_tail next prev s x p q r right q-is (Distinct-right l x r h.distinct) right-facts link);
+        path = ring_path next prev s x p q l r p-last left-facts (Distinct-front l (x ∷ r) h.distinct) left
+            (joined_tail next prev s x p q r right q-is (Distinct-right l x r h.distinct) right-facts link);
       },
       p-s,
       q-s,
@@ -211,13 +263,15 @@ pub next_read : (next prev : List ℕ) (s x : ℕ) (xs : List ℕ) → IsRing ne
 next_read next prev s x xs h m =
     let c = cut x xs m in
     let h' : IsRing next prev s (c.front ++ x ∷ c.back) = subst (IsRing next prev s) c.is h in
-    after_is next prev s x c.back (path_at next prev s c.front x c.back h'.path).1 ∙ (sym (next_of-cut s x c.front c.back (Distinct-cut x c.front c.back h'.distinct).0) ∙ ap (next_of s x) (sym c.is))
+    after_is next prev s x c.back (path_at next prev s c.front x c.back h'.path).1
+    ∙ (sym (next_of-cut s x c.front c.back (Distinct-cut x c.front c.back h'.distinct).0) ∙ ap (next_of s x) (sym c.is))
 
 pub prev_read : (next prev : List ℕ) (s x : ℕ) (xs : List ℕ) → IsRing next prev s xs → member x xs ≡ true → get_or prev x 0 ≡ prev_of s x xs
 prev_read next prev s x xs h m =
     let c = cut x xs m in
     let h' : IsRing next prev s (c.front ++ x ∷ c.back) = subst (IsRing next prev s) c.is h in
-    before_is next prev s c.front x (path_at next prev s c.front x c.back h'.path).0 ∙ (sym (prev_of-cut s x c.front c.back (Distinct-cut x c.front c.back h'.distinct).0) ∙ ap (prev_of s x) (sym c.is))
+    before_is next prev s c.front x (path_at next prev s c.front x c.back h'.path).0
+    ∙ (sym (prev_of-cut s x c.front c.back (Distinct-cut x c.front c.back h'.distinct).0) ∙ ap (prev_of s x) (sym c.is))
 
 pub record Removed (next prev : List ℕ) (s x p q n : ℕ) (xs : List ℕ) : Type 0 where
   pub ring : IsRing (set next p q) (set prev q p) s (walk (n - 1) (get_or (set next p q) s 0) (set next p q))
@@ -225,7 +279,8 @@ pub record Removed (next prev : List ℕ) (s x p q n : ℕ) (xs : List ℕ) : Ty
   pub p_fits : p ≤ s
   pub q_fits : q ≤ s
 
-pub removed : (next prev : List ℕ) (s x p q n : ℕ) (xs : List ℕ) → IsRing next prev s xs → n ≡ length xs → member x xs ≡ true → p ≡ get_or prev x 0 → q ≡ get_or next x 0 → Removed next prev s x p q n xs
+pub removed : (next prev : List ℕ) (s x p q n : ℕ) (xs : List ℕ) → IsRing next prev s xs → n ≡ length xs → member x xs ≡ true → p ≡ get_or prev x 0
+    → q ≡ get_or next x 0 → Removed next prev s x p q n xs
 removed next prev s x p q n xs h e m p-is q-is =
     let c = cut x xs m in
     let h' : IsRing next prev s (c.front ++ x ∷ c.back) = subst (IsRing next prev s) c.is h in
@@ -245,43 +300,56 @@ pub record Inserted (next prev : List ℕ) (s x p q n : ℕ) (xs : List ℕ) : T
   pub list : walk (n + 1) (get_or (set (set next p x) x q) s 0) (set (set next p x) x q) ≡ right_after x p xs
   pub q_fits : q ≤ s
 
-pub inserted : (next prev : List ℕ) (s x p q n : ℕ) (xs : List ℕ) → IsRing next prev s xs → n ≡ length xs → member p xs ≡ true → member x xs ≡ false → x < s → q ≡ get_or next p 0 → Inserted next prev s x p q n xs
+pub inserted : (next prev : List ℕ) (s x p q n : ℕ) (xs : List ℕ) → IsRing next prev s xs → n ≡ length xs → member p xs ≡ true → member x xs ≡ false → x < s
+    → q ≡ get_or next p 0 → Inserted next prev s x p q n xs
 inserted next prev s x p q n xs h e m out below q-is =
     let c = cut p xs m in
     let h' : IsRing next prev s (c.front ++ p ∷ c.back) = subst (IsRing next prev s) c.is h in
     let apart' = Distinct-cut p c.front c.back h'.distinct in
     let new = ring_insert next prev s x p q c.front c.back h' q-is below (ap (member x) (sym c.is) ∙ out) in
     let right = (path_at next prev s c.front p c.back h'.path).1 in
-    let size : n + 1 ≡ length (c.front ++ p ∷ x ∷ c.back) = omega (arith, ap length c.is, length-append c.front (p ∷ c.back), length-append c.front (p ∷ x ∷ c.back)) in
+    let size : n + 1 ≡ length (c.front ++ p ∷ x ∷ c.back) =
+    omega (arith, ap length c.is, length-append c.front (p ∷ c.back), length-append c.front (p ∷ x ∷ c.back)) in
     let list = walked (set (set next p x) x q) (set (set prev x p) q x) s (n + 1) (c.front ++ p ∷ x ∷ c.back) new size in
     record {
       ring = subst (IsRing (set (set next p x) x q) (set (set prev x p) q x) s) (sym list) new;
       list = list ∙ (sym (right_after-cut x p c.front c.back apart'.0) ∙ ap (right_after x p) (sym c.is));
-      q_fits = elim (after_in next prev s p c.back right) [ inl z ↦ omega (arith, q-is, z) | inr k ↦ omega (arith, q-is, h.within (get_or next p 0) (ap (member (get_or next p 0)) c.is ∙ member-append_right (get_or next p 0) c.front (p ∷ c.back) (member-tail (get_or next p 0) p c.back k))) ];
+      q_fits = elim (after_in next prev s p c.back right) [
+        | inl z ↦ omega (arith, q-is, z)
+        | inr k ↦
+            omega (
+              arith,
+              q-is,
+              h.within (get_or next p 0)
+                  (ap (member (get_or next p 0)) c.is ∙ member-append_right (get_or next p 0) c.front (p ∷ c.back) (member-tail (get_or next p 0) p c.back k)),
+            )
+      ];
     }
 
-some_length : (x : ℕ) (xs : List ℕ) → member x xs ≡ true → 0 < length xs
-some_length x [] m = absurd (false≢true m)
-some_length x (y ∷ ys) m = omega arith
-
 -- as the program reads it
-pub insert_facts : (next prev : List ℕ) (s x p q n : ℕ) (xs : List ℕ) → IsRing next prev s (walk n (get_or next s 0) next) → walk n (get_or next s 0) next ≡ xs → member p xs ≡ true → member x xs ≡ false → x < s → q ≡ get_or next p q → Inserted next prev s x p q n xs × (n < 2 ^ 31)
+pub insert_facts : (next prev : List ℕ) (s x p q n : ℕ) (xs : List ℕ) → IsRing next prev s (walk n (get_or next s 0) next)
+    → walk n (get_or next s 0) next ≡ xs → member p xs ≡ true → member x xs ≡ false → x < s → q ≡ get_or next p q
+    → Inserted next prev s x p q n xs × (n < 2 ^ 31)
 insert_facts next prev s x p q n xs h e m out below q-is =
     let h' : IsRing next prev s xs = subst (IsRing next prev s) e h in
     let size : n ≡ length xs = sym (length-walk n (get_or next s 0) next) ∙ ap length e in
     let p-in : p < length next = omega (arith, h'.within p m, h'.next_length) in
     (inserted next prev s x p q n xs h' size m out below (get_or_read next p q p-in q-is 0), omega (arith, below_bound s xs h'.distinct h'.within, h'.small))
 
-pub remove_facts : (next prev : List ℕ) (s x p q n : ℕ) (xs : List ℕ) → IsRing next prev s (walk n (get_or next s 0) next) → walk n (get_or next s 0) next ≡ xs → member x xs ≡ true → p ≡ get_or prev x p → q ≡ get_or next x q → Removed next prev s x p q n xs × (0 < n)
+pub remove_facts : (next prev : List ℕ) (s x p q n : ℕ) (xs : List ℕ) → IsRing next prev s (walk n (get_or next s 0) next)
+    → walk n (get_or next s 0) next ≡ xs → member x xs ≡ true → p ≡ get_or prev x p → q ≡ get_or next x q → Removed next prev s x p q n xs × (0 < n)
 remove_facts next prev s x p q n xs h e m p-is q-is =
     let h' : IsRing next prev s xs = subst (IsRing next prev s) e h in
     let size : n ≡ length xs = sym (length-walk n (get_or next s 0) next) ∙ ap length e in
     let in-next : x < length next = omega (arith, h'.within x m, h'.next_length) in
-    let in-prev : x < length prev = omega (arith, h'.within x m, h'.prev_length) in
-    (removed next prev s x p q n xs h' size m (get_or_read prev x p in-prev p-is 0) (get_or_read next x q in-next q-is 0), omega (arith, size, some_length x xs m))
+    let in-prev : x < length prev = omega (arith, h'.within x m, h'.prev_length) in (
+      removed next prev s x p q n xs h' size m (get_or_read prev x p in-prev p-is 0) (get_or_read next x q in-next q-is 0),
+      omega (arith, size, some_length x xs m),
+    )
 
 -- the ring with x at its end
-ring_push : (next prev : List ℕ) (s x p : ℕ) (xs : List ℕ) → IsRing next prev s xs → p ≡ get_or prev s 0 → x < s → member x xs ≡ false → IsRing (set (set next p x) x s) (set (set prev x p) s x) s (xs ++ x ∷ []) × (p ≤ s)
+ring_push : (next prev : List ℕ) (s x p : ℕ) (xs : List ℕ) → IsRing next prev s xs → p ≡ get_or prev s 0 → x < s → member x xs ≡ false
+    → IsRing (set (set next p x) x s) (set (set prev x p) s x) s (xs ++ x ∷ []) × (p ≤ s)
 ring_push next prev s x p [] h e below out =
     let p-s : p ≡ s = e ∙ h.path.0.1 in
     let s-x : s ≢ x = omega arith in
@@ -294,7 +362,8 @@ ring_push next prev s x p [] h e below out =
         within = λ y m. elim (member-cases y x [] m) [ inl is-x ↦ omega arith | inr none ↦ absurd (false≢true none) ];
         path = (
           (
-            ap (λ z. get_or (set (set next p x) x s) z 0) (sym p-s) ∙ (get_or-set_other (set next p x) x p s 0 p-x ∙ get_or-set_same next p x 0 (omega (arith, h.next_length))),
+            ap (λ z. get_or (set (set next p x) x s) z 0) (sym p-s)
+                ∙ (get_or-set_other (set next p x) x p s 0 p-x ∙ get_or-set_same next p x 0 (omega (arith, h.next_length))),
             get_or-set_other (set prev x p) s x x 0 (λ z. s-x (sym z)) ∙ (get_or-set_same prev x p 0 (omega (arith, h.prev_length)) ∙ p-s),
           ),
           (
@@ -316,8 +385,11 @@ ring_push next prev s x p (y ∷ ys) h e below out =
     let h' : IsRing next prev s (w.front ++ p ∷ []) = subst (IsRing next prev s) split h in
     let right = (path_at next prev s w.front p [] h'.path).1 in
     let p-in : p < s = h'.within p (member-append_right p w.front (p ∷ []) (member-head p [])) in
-    let new = ring_insert next prev s x p s w.front [] h' (sym (after_is next prev s p [] right)) below (ap (member x) (sym split) ∙ out) in
-    (subst (IsRing (set (set next p x) x s) (set (set prev x p) s x) s) (sym (append_assoc w.front (p ∷ []) (x ∷ [])) ∙ ap (λ zs. zs ++ x ∷ []) (sym split)) new, omega arith)
+    let new = ring_insert next prev s x p s w.front [] h' (sym (after_is next prev s p [] right)) below (ap (member x) (sym split) ∙ out) in (
+      subst (IsRing (set (set next p x) x s) (set (set prev x p) s x) s) (sym (append_assoc w.front (p ∷ []) (x ∷ [])) ∙ ap (λ zs. zs ++ x ∷ []) (sym split))
+          new,
+      omega arith,
+    )
 
 pub record Pushed (next prev : List ℕ) (s x p n : ℕ) (xs : List ℕ) : Type 0 where
   pub ring : IsRing (set (set next p x) x s) (set (set prev x p) s x) s (walk (n + 1) (get_or (set (set next p x) x s) s 0) (set (set next p x) x s))
@@ -325,7 +397,8 @@ pub record Pushed (next prev : List ℕ) (s x p n : ℕ) (xs : List ℕ) : Type 
   pub p_fits : p ≤ s
   pub short : n < 2 ^ 31
 
-pub push_facts : (next prev : List ℕ) (s x p n : ℕ) (xs : List ℕ) → IsRing next prev s (walk n (get_or next s 0) next) → walk n (get_or next s 0) next ≡ xs → member x xs ≡ false → x < s → p ≡ get_or prev s p → Pushed next prev s x p n xs
+pub push_facts : (next prev : List ℕ) (s x p n : ℕ) (xs : List ℕ) → IsRing next prev s (walk n (get_or next s 0) next) → walk n (get_or next s 0) next ≡ xs
+    → member x xs ≡ false → x < s → p ≡ get_or prev s p → Pushed next prev s x p n xs
 push_facts next prev s x p n xs h e out below p-is =
     let h' : IsRing next prev s xs = subst (IsRing next prev s) e h in
     let size : n ≡ length xs = sym (length-walk n (get_or next s 0) next) ∙ ap length e in

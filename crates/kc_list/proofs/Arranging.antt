@@ -1,5 +1,5 @@
 -- A group is made ready to take an item.
-use Rattle.std.proofs.Common.{◌≡◌, ◌≢◌, ℕ, suc, zero, ◌+◌, ◌<◌, ◌≤◌, true, false, List, [], ◌∷◌, length, get_or, set, refl, sym, ◌∙◌, ap, ◌⊎◌, inl, inr, arith}
+use Rattle.std.proofs.Common.{◌≡◌, ◌≢◌, ℕ, suc, zero, ◌+◌, ◌<◌, ◌≤◌, true, List, [], ◌∷◌, length, get_or, set, refl, sym, ◌∙◌, ap, ◌⊎◌, inl, inr, arith}
 use Rattle.std.proofs.lemmas.Bool.{cases_eq, cases_lt, cases_Bool, eq-eqb, ne_eqb, false≢true, true≢false}
 use Rattle.std.proofs.lemmas.List.{length-set, get_or-set_same, get_or-set_other}
 use Rattle.kc_words.specs.ItemWord.{item_of}
@@ -11,6 +11,7 @@ use Rattle.kc_list.specs.Tally.{Tallied, KeepsGroup}
 use Rattle.kc_list.specs.Sheets.{version}
 use Rattle.kc_list.proofs.Counts.{covers, runs_short, size-agree}
 use Rattle.kc_list.proofs.Toplabels.{item_runs}
+use Rattle.kc_list.specs.declared.limits.TheConstants.{HALF_ITEMS}
 
 -- a group with no items is the group of none
 pub size_zero : (f : ℕ → ℕ) (h : ℕ) (xs : List ℕ) (y : ℕ) → size_of f h xs ≡ 0 → member y xs ≡ true → f y ≡ h → ⊥
@@ -31,7 +32,8 @@ used_group f h (x ∷ xs) ne = elim (cases_eq (f x) h) [
 ]
 
 pub free_group : (n : ℕ) (ws list sizes : List ℕ) (h : ℕ) → Tallied n ws list sizes → 0 < h → h ≤ n + 1 → get_or sizes h 0 ≡ 0 → Free n (labels n ws) list h
-free_group n ws list sizes h t low high z = record { low = low; high = high; unused = λ y m e. size_zero (labels n ws).group h list y (sym (t.counts h low high) ∙ z) m e }
+free_group n ws list sizes h t low high z =
+    record { low = low; high = high; unused = λ y m e. size_zero (labels n ws).group h list y (sym (t.counts h low high) ∙ z) m e }
 
 -- of n + 1 numbers one is free
 search_free : (sizes : List ℕ) (k : ℕ) → ((h : ℕ) × (0 < h) × (h ≤ k) × (get_or sizes h 0 ≡ 0)) ⊎ ((h : ℕ) → 0 < h → h ≤ k → get_or sizes h 0 ≢ 0)
@@ -55,38 +57,55 @@ spare_group n ws list sizes s t = elim (search_free sizes (n + 1)) [
 ]
 
 -- sizes where the groups of all items stay
-pub tally_agree : (n : ℕ) (ws vs list sizes : List ℕ) → ((y : ℕ) → member y list ≡ true → (labels n vs).group y ≡ (labels n ws).group y) → Tallied n ws list sizes → Tallied n vs list sizes
-tally_agree n ws vs list sizes f t = record { length_is = t.length_is; counts = λ g low high. t.counts g low high ∙ sym (size-agree (labels n ws).group (labels n vs).group g list f); most = t.most }
+pub tally_agree : (n : ℕ) (ws vs list sizes : List ℕ) → ((y : ℕ) → member y list ≡ true → (labels n vs).group y ≡ (labels n ws).group y)
+    → Tallied n ws list sizes → Tallied n vs list sizes
+tally_agree n ws vs list sizes f t =
+    record {
+      length_is = t.length_is;
+      counts = λ g low high. t.counts g low high ∙ sym (size-agree (labels n ws).group (labels n vs).group g list f);
+      most =
+          t.most;
+    }
 
-pub items_agree : (n : ℕ) (ws vs list : List ℕ) (y : ℕ) → Sound n ws list → ((w : ℕ) → w ≤ n → get_or vs w 0 ≡ get_or ws w 0) → member y list ≡ true → (labels n vs).group y ≡ (labels n ws).group y
+pub items_agree : (n : ℕ) (ws vs list : List ℕ) (y : ℕ) → Sound n ws list → ((w : ℕ) → w ≤ n → get_or vs w 0 ≡ get_or ws w 0) → member y list ≡ true
+    → (labels n vs).group y ≡ (labels n ws).group y
 items_agree n ws vs list y s f m = let below : y < n = (s.inside y m).below in ap (λ z. (item_of z).group) (f (1 + y) (omega arith))
 
 -- sizes where a full group is cut in two
-pub tally_halved : (n : ℕ) (ws vs list sizes : List ℕ) (g h : ℕ) → Tallied n ws list sizes → g ≤ n + 1 → h ≤ n + 1 → size_of (labels n vs).group g list ≡ 32 → size_of (labels n vs).group h list ≡ 32 → ((k : ℕ) → k ≢ g → k ≢ h → size_of (labels n vs).group k list ≡ size_of (labels n ws).group k list) → Tallied n vs list (set (set sizes g 32) h 32)
+pub tally_halved : (n : ℕ) (ws vs list sizes : List ℕ) (g h : ℕ) → Tallied n ws list sizes → g ≤ n + 1 → h ≤ n + 1
+    → size_of (labels n vs).group g list ≡ HALF_ITEMS → size_of (labels n vs).group h list ≡ HALF_ITEMS
+    → ((k : ℕ) → k ≢ g → k ≢ h → size_of (labels n vs).group k list ≡ size_of (labels n ws).group k list)
+    → Tallied n vs list (set (set sizes g HALF_ITEMS) h HALF_ITEMS)
 tally_halved n ws vs list sizes g h t g-high h-high left fresh others =
-    let at-h : get_or (set (set sizes g 32) h 32) h 0 ≡ 32 = get_or-set_same (set sizes g 32) h 32 0 (omega (arith, length-set sizes g 32, t.length_is)) in
-    let at-g : g ≢ h → get_or (set (set sizes g 32) h 32) g 0 ≡ 32 = λ ne. get_or-set_other (set sizes g 32) h g 32 0 ne ∙ get_or-set_same sizes g 32 0 (omega (arith, t.length_is)) in
-    let at : (k : ℕ) → k ≢ g → k ≢ h → get_or (set (set sizes g 32) h 32) k 0 ≡ get_or sizes k 0 = λ k n-g n-h. get_or-set_other (set sizes g 32) h k 32 0 n-h ∙ get_or-set_other sizes g k 32 0 n-g in
+    let at-h : get_or (set (set sizes g HALF_ITEMS) h HALF_ITEMS) h 0 ≡ HALF_ITEMS =
+    get_or-set_same (set sizes g HALF_ITEMS) h HALF_ITEMS 0 (omega (arith, length-set sizes g HALF_ITEMS, t.length_is)) in
+    let at-g : g ≢ h → get_or (set (set sizes g HALF_ITEMS) h HALF_ITEMS) g 0 ≡ HALF_ITEMS =
+    λ ne. get_or-set_other (set sizes g HALF_ITEMS) h g HALF_ITEMS 0 ne ∙ get_or-set_same sizes g HALF_ITEMS 0 (omega (arith, t.length_is)) in
+    let at : (k : ℕ) → k ≢ g → k ≢ h → get_or (set (set sizes g HALF_ITEMS) h HALF_ITEMS) k 0 ≡ get_or sizes k 0 =
+    λ k n-g n-h. get_or-set_other (set sizes g HALF_ITEMS) h k HALF_ITEMS 0 n-h ∙ get_or-set_other sizes g k HALF_ITEMS 0 n-g in
     record {
-      length_is = length-set (set sizes g 32) h 32 ∙ (length-set sizes g 32 ∙ t.length_is);
+      length_is = length-set (set sizes g HALF_ITEMS) h HALF_ITEMS ∙ (length-set sizes g HALF_ITEMS ∙ t.length_is);
       counts = λ k low high. elim (cases_eq k h) [
-        | inl e ↦ ap (λ i. get_or (set (set sizes g 32) h 32) i 0) e ∙ (at-h ∙ sym (ap (λ i. size_of (labels n vs).group i list) e ∙ fresh))
+        | inl e ↦ ap (λ i. get_or (set (set sizes g HALF_ITEMS) h HALF_ITEMS) i 0) e ∙ (at-h ∙ sym (ap (λ i. size_of (labels n vs).group i list) e ∙ fresh))
         | inr n-h ↦ elim (cases_eq k g) [
-          | inl e ↦ ap (λ i. get_or (set (set sizes g 32) h 32) i 0) e ∙ (at-g (λ q. n-h (e ∙ q)) ∙ sym (ap (λ i. size_of (labels n vs).group i list) e ∙ left))
+          | inl e ↦ ap (λ i. get_or (set (set sizes g HALF_ITEMS) h HALF_ITEMS) i 0) e
+              ∙ (at-g (λ q. n-h (e ∙ q)) ∙ sym (ap (λ i. size_of (labels n vs).group i list) e ∙ left))
           | inr n-g ↦ at k n-g n-h ∙ (t.counts k low high ∙ sym (others k n-g n-h))
         ]
       ];
       most = λ k. elim (cases_eq k h) [
-        | inl e ↦ omega (arith, ap (λ i. get_or (set (set sizes g 32) h 32) i 0) e, at-h)
+        | inl e ↦ omega (arith, ap (λ i. get_or (set (set sizes g HALF_ITEMS) h HALF_ITEMS) i 0) e, at-h)
         | inr n-h ↦ elim (cases_eq k g) [
-          | inl e ↦ omega (arith, ap (λ i. get_or (set (set sizes g 32) h 32) i 0) e, at-g (λ q. n-h (e ∙ q)))
+          | inl e ↦ omega (arith, ap (λ i. get_or (set (set sizes g HALF_ITEMS) h HALF_ITEMS) i 0) e, at-g (λ q. n-h (e ∙ q)))
           | inr n-g ↦ omega (arith, at k n-g n-h, t.most k)
         ]
       ];
     }
 
 -- no word is stored more than once: first those of groups, then those of the fresh group and its items
-pub once_split : (n : ℕ) (ws qs vs list : List ℕ) (h : ℕ) → ((w : ℕ) → w ≤ n → get_or qs w 0 ≡ get_or ws w 0) → get_or qs (n + h) 0 ≡ get_or ws (n + h) 0 → ((w : ℕ) → version qs w ≤ version ws w + 1) → ((w : ℕ) → version vs w ≤ version qs w + 1) → ((w : ℕ) → w ≢ n + h → NotOf (labels n vs) list h w → get_or vs w 0 ≡ get_or qs w 0) → Sound n vs list → (w : ℕ) → version vs w ≤ version ws w + 1
+pub once_split : (n : ℕ) (ws qs vs list : List ℕ) (h : ℕ) → ((w : ℕ) → w ≤ n → get_or qs w 0 ≡ get_or ws w 0) → get_or qs (n + h) 0 ≡ get_or ws (n + h) 0
+    → ((w : ℕ) → version qs w ≤ version ws w + 1) → ((w : ℕ) → version vs w ≤ version qs w + 1)
+    → ((w : ℕ) → w ≢ n + h → NotOf (labels n vs) list h w → get_or vs w 0 ≡ get_or qs w 0) → Sound n vs list → (w : ℕ) → version vs w ≤ version ws w + 1
 once_split n ws qs vs list h items unused first second only s w = elim (cases_lt n w) [
   | inr low ↦ omega (arith, second w, ap (λ z. (item_of z).version) (items w low))
   | inl high ↦ elim (cases_eq w (n + h)) [
@@ -95,17 +114,23 @@ once_split n ws qs vs list h items unused first second only s w = elim (cases_lt
   ]
 ]
 
-pub keeps_split : (n : ℕ) (ws qs vs list : List ℕ) (g h p : ℕ) → ((labels n vs).group p ≡ g) ⊎ ((labels n vs).group p ≡ h) → ((labels n vs).group p ≡ h → HasGap n vs list p) → (g ≡ h → ⊥) → 0 < h → ((w : ℕ) → w ≢ n + h → NotOf (labels n vs) list h w → get_or vs w 0 ≡ get_or qs w 0) → ((w : ℕ) → w ≤ n → get_or qs w 0 ≡ get_or ws w 0) → Sound n vs list → KeepsGroup n ws vs list p
+pub keeps_split : (n : ℕ) (ws qs vs list : List ℕ) (g h p : ℕ) → ((labels n vs).group p ≡ g) ⊎ ((labels n vs).group p ≡ h)
+    → ((labels n vs).group p ≡ h → HasGap n vs list p) → (g ≡ h → ⊥) → 0 < h
+    → ((w : ℕ) → w ≢ n + h → NotOf (labels n vs) list h w → get_or vs w 0 ≡ get_or qs w 0) → ((w : ℕ) → w ≤ n → get_or qs w 0 ≡ get_or ws w 0)
+    → Sound n vs list → KeepsGroup n ws vs list p
 keeps_split n ws qs vs list g h p in-group gap apart low only items s = elim in-group [
   | inr e ↦ inl (gap e)
   | inl e ↦ inr (λ y m y-g.
       let below : y < n = (s.inside y m).below in
       let ne : 1 + y ≢ n + h = omega arith in
-      only (1 + y) ne (λ z z-in z-h w. let same : y ≡ z = omega (arith, w) in apart (sym e ∙ (sym y-g ∙ (ap (labels n vs).group same ∙ z-h)))) ∙ items (1 + y) (omega arith))
+      only (1 + y) ne (λ z z-in z-h w. let same : y ≡ z = omega (arith, w) in apart (sym e ∙ (sym y-g ∙ (ap (labels n vs).group same ∙ z-h))))
+      ∙ items (1 + y) (omega arith))
 ]
 
 -- then the items of p's group, where p has no label after it
-pub once_spread : (n : ℕ) (ws qs vs list : List ℕ) (p : ℕ) → KeepsGroup n ws qs list p → (HasGap n qs list p → (w : ℕ) → get_or vs w 0 ≡ get_or qs w 0) → ((w : ℕ) → NotOf (labels n qs) list ((labels n qs).group p) w → get_or vs w 0 ≡ get_or qs w 0) → ((w : ℕ) → version qs w ≤ version ws w + 1) → ((w : ℕ) → version vs w ≤ version qs w + 1) → (w : ℕ) → version vs w ≤ version ws w + 1
+pub once_spread : (n : ℕ) (ws qs vs list : List ℕ) (p : ℕ) → KeepsGroup n ws qs list p → (HasGap n qs list p → (w : ℕ) → get_or vs w 0 ≡ get_or qs w 0)
+    → ((w : ℕ) → NotOf (labels n qs) list ((labels n qs).group p) w → get_or vs w 0 ≡ get_or qs w 0) → ((w : ℕ) → version qs w ≤ version ws w + 1)
+    → ((w : ℕ) → version vs w ≤ version qs w + 1) → (w : ℕ) → version vs w ≤ version ws w + 1
 once_spread n ws qs vs list p keeps kept only first second w = elim keeps [
   | inl gap ↦ omega (arith, first w, ap (λ z. (item_of z).version) (kept gap w))
   | inr same ↦ elim (of_group w) [
@@ -114,7 +139,8 @@ once_spread n ws qs vs list p keeps kept only first second w = elim keeps [
   ]
 ]
   where
-    of_group : (v : ℕ) → ((y : ℕ) × (v ≡ 1 + y) × (member y list ≡ true) × ((labels n qs).group y ≡ (labels n qs).group p)) ⊎ NotOf (labels n qs) list ((labels n qs).group p) v
+    of_group : (v : ℕ) → ((y : ℕ) × (v ≡ 1 + y) × (member y list ≡ true) × ((labels n qs).group y ≡ (labels n qs).group p)) ⊎ NotOf (labels n qs) list
+        ((labels n qs).group p) v
     of_group zero = inr (λ y m e z. absurd (omega arith))
     of_group (suc v) = elim (cases_Bool (member v list)) [
       | inl m ↦ elim (cases_eq ((labels n qs).group v) ((labels n qs).group p)) [

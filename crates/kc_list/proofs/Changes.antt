@@ -12,6 +12,8 @@ use Rattle.kc_list.proofs.Spreading.{segment_in}
 use Rattle.kc_list.proofs.Rooms.{room_after_spread}
 use Rattle.kc_distinct.proofs.Counting.{drop-member}
 use Rattle.kc_list.proofs.Counts.{segment_size}
+use Rattle.kc_words.specs.declared.layout.TheConstants.{BOTTOM_ROOM}
+use Rattle.kc_list.specs.declared.limits.TheConstants.{GROUP_ITEMS, HALF_ITEMS, HALF_STEP}
 
 -- the words of some items
 pub member-words : (w : ℕ) (m : List ℕ) → member w (map (λ y. 1 + y) m) ≡ true → (y : ℕ) × (w ≡ 1 + y) × (member y m ≡ true)
@@ -22,13 +24,16 @@ member-words w (x ∷ m) k = elim (member-cases w (1 + x) (map (λ y. 1 + y) m) 
 ]
 
 pub not_of : (a : Labels) (list : List ℕ) (g : ℕ) (m : List ℕ) (w : ℕ) → Segment a list g m → NotOf a list g w → member w (map (λ y. 1 + y) m) ≡ false
-not_of a list g m w seg f = false_from_ne_true (member w (map (λ y. 1 + y) m)) (λ k. let r = member-words w m k in f r.0 (segment_in a list g m seg r.0 r.2) (seg.members r.0 r.2) r.1)
+not_of a list g m w seg f = false_from_ne_true (member w (map (λ y. 1 + y) m))
+    (λ k. let r = member-words w m k in f r.0 (segment_in a list g m seg r.0 r.2) (seg.members r.0 r.2) r.1)
 
 pub not_word : (y : ℕ) (m : List ℕ) → member y m ≡ false → member (1 + y) (map (λ z. 1 + z) m) ≡ false
-not_word y m o = false_from_ne_true (member (1 + y) (map (λ z. 1 + z) m)) (λ k. let r = member-words (1 + y) m k in let e : y ≡ r.0 = omega (arith, r.1) in true≢false (sym r.2 ∙ (ap (λ z. member z m) (sym e) ∙ o)))
+not_word y m o = false_from_ne_true (member (1 + y) (map (λ z. 1 + z) m)) (λ k. let r = member-words (1 + y) m k in let e : y ≡ r.0 = omega (arith, r.1) in
+    true≢false (sym r.2 ∙ (ap (λ z. member z m) (sym e) ∙ o)))
 
 -- the group of each item, where one group is spread
-pub spread_groups : (n : ℕ) (ws vs list : List ℕ) (g : ℕ) (m : List ℕ) (y : ℕ) → Segment (labels n ws) list g m → Segment (labels n vs) list g m → ChangesOnly (map (λ z. 1 + z) m) ws vs → (labels n vs).group y ≡ (labels n ws).group y
+pub spread_groups : (n : ℕ) (ws vs list : List ℕ) (g : ℕ) (m : List ℕ) (y : ℕ) → Segment (labels n ws) list g m → Segment (labels n vs) list g m
+    → ChangesOnly (map (λ z. 1 + z) m) ws vs → (labels n vs).group y ≡ (labels n ws).group y
 spread_groups n ws vs list g m y s t only = elim (cases_Bool (member y m)) [
   | inl k ↦ t.members y k ∙ sym (s.members y k)
   | inr o ↦ ap (λ z. (item_of z).group) (only.same (1 + y) (not_word y m o))
@@ -37,37 +42,43 @@ spread_groups n ws vs list g m y s t only = elim (cases_Bool (member y m)) [
 -- sizes where items agree on being in the group
 size-agree_at : (f h : ℕ → ℕ) (g : ℕ) (xs : List ℕ) → ((y : ℕ) → member y xs ≡ true → eqb (h y) g ≡ eqb (f y) g) → size_of h g xs ≡ size_of f g xs
 size-agree_at f h g [] e = refl
-size-agree_at f h g (x ∷ xs) e = omega (arith, ap {B = ℕ} (λ b. cond b 1 0) (e x (member-head x xs)), size-agree_at f h g xs (λ y k. e y (member-tail y x xs k)))
+size-agree_at f h g (x ∷ xs) e =
+    omega (arith, ap {B = ℕ} (λ b. cond b 1 0) (e x (member-head x xs)), size-agree_at f h g xs (λ y k. e y (member-tail y x xs k)))
 
 -- a full group is cut in two: what the two have, and what others keep
 pub record Halved (n : ℕ) (ws vs list : List ℕ) (g h p : ℕ) : Type 0 where
-  pub left : size_of (labels n vs).group g list ≡ 32
-  pub fresh : size_of (labels n vs).group h list ≡ 32
+  pub left : size_of (labels n vs).group g list ≡ HALF_ITEMS
+  pub fresh : size_of (labels n vs).group h list ≡ HALF_ITEMS
   pub others : (k : ℕ) → k ≢ g → k ≢ h → size_of (labels n vs).group k list ≡ size_of (labels n ws).group k list
   pub gap : (labels n vs).group p ≡ h → HasGap n vs list p
   pub only : (w : ℕ) → w ≢ n + h → NotOf (labels n vs) list h w → get_or vs w 0 ≡ get_or ws w 0
   pub group : ((labels n vs).group p ≡ g) ⊎ ((labels n vs).group p ≡ h)
 
-pub halved : (n : ℕ) (ws vs list : List ℕ) (g h p : ℕ) (m : List ℕ) → Sound n ws list → Sound n vs list → Segment (labels n ws) list g m → length m ≡ 64 → Free n (labels n ws) list h → Segment (labels n vs) list g (take 32 m) → Segment (labels n vs) list h (drop 32 m) → map (labels n vs).bottom (drop 32 m) ≡ evens 32 15887 0 → ChangesOnly ((n + h) ∷ map (λ y. 1 + y) (drop 32 m)) ws vs → member p list ≡ true → ((member p (take 32 m) ≡ true) ⊎ (member p (drop 32 m) ≡ true)) → Halved n ws vs list g h p
+pub halved : (n : ℕ) (ws vs list : List ℕ) (g h p : ℕ) (m : List ℕ) → Sound n ws list → Sound n vs list → Segment (labels n ws) list g m
+    → length m ≡ GROUP_ITEMS → Free n (labels n ws) list h → Segment (labels n vs) list g (take HALF_ITEMS m)
+    → Segment (labels n vs) list h (drop HALF_ITEMS m) → map (labels n vs).bottom (drop HALF_ITEMS m) ≡ evens HALF_ITEMS HALF_STEP 0
+    → ChangesOnly ((n + h) ∷ map (λ y. 1 + y) (drop HALF_ITEMS m)) ws vs → member p list ≡ true
+    → ((member p (take HALF_ITEMS m) ≡ true) ⊎ (member p (drop HALF_ITEMS m) ≡ true)) → Halved n ws vs list g h p
 halved n ws vs list g h p m s t seg len free low up bottoms only p-in p-half =
     let a = labels n ws in
     let b = labels n vs in
-    let up-length : length (drop 32 m) ≡ 32 = omega (arith, length-drop 32 m, len) in
-    let same : (y : ℕ) → member y list ≡ true → member y (drop 32 m) ≡ false → b.group y ≡ a.group y = λ y k o.
+    let up-length : length (drop HALF_ITEMS m) ≡ HALF_ITEMS = omega (arith, length-drop HALF_ITEMS m, len) in
+    let same : (y : ℕ) → member y list ≡ true → member y (drop HALF_ITEMS m) ≡ false → b.group y ≡ a.group y = λ y k o.
     let below : y < n = (s.inside y k).below in
     let ne : 1 + y ≢ n + h = (let z = free.low in omega arith) in
-    ap (λ z. (item_of z).group) (only.same (1 + y) (not_member-cons (1 + y) (n + h) (map (λ z. 1 + z) (drop 32 m)) ne (not_word y (drop 32 m) o))) in
-    let was : (y : ℕ) → member y (drop 32 m) ≡ true → a.group y ≡ g = λ y k. seg.members y (drop-member 32 y m k) in
+    ap (λ z. (item_of z).group) (only.same (1 + y)
+    (not_member-cons (1 + y) (n + h) (map (λ z. 1 + z) (drop HALF_ITEMS m)) ne (not_word y (drop HALF_ITEMS m) o))) in
+    let was : (y : ℕ) → member y (drop HALF_ITEMS m) ≡ true → a.group y ≡ g = λ y k. seg.members y (drop-member HALF_ITEMS y m k) in
     record {
-      left = segment_size b list g (take 32 m) low ∙ length-take-le 32 m (omega arith);
-      fresh = segment_size b list h (drop 32 m) up ∙ up-length;
-      others = λ k n-g n-h. size-agree_at a.group b.group k list (λ y y-in. elim (cases_Bool (member y (drop 32 m))) [
+      left = segment_size b list g (take HALF_ITEMS m) low ∙ length-take-le HALF_ITEMS m (omega arith);
+      fresh = segment_size b list h (drop HALF_ITEMS m) up ∙ up-length;
+      others = λ k n-g n-h. size-agree_at a.group b.group k list (λ y y-in. elim (cases_Bool (member y (drop HALF_ITEMS m))) [
         | inl in-up ↦ ne_eqb (b.group y) k (λ e. n-h (sym e ∙ up.members y in-up)) ∙ sym (ne_eqb (a.group y) k (λ e. n-g (sym e ∙ was y in-up)))
         | inr out ↦ ap (λ z. eqb z k) (same y y-in out)
       ]);
       gap = λ e.
-          let p-seg : Segment b list (b.group p) (drop 32 m) = subst (λ z. Segment b list z (drop 32 m)) (sym e) up in
-          room_after_spread n vs list (drop 32 m) p t p-seg (omega arith) p-in (bottoms ∙ sym (ap (λ z. evens z (524288 / (z + 1)) 0) up-length));
-      only = λ w ne f. only.same w (not_member-cons w (n + h) (map (λ y. 1 + y) (drop 32 m)) ne (not_of b list h (drop 32 m) w up f));
+          let p-seg : Segment b list (b.group p) (drop HALF_ITEMS m) = subst (λ z. Segment b list z (drop HALF_ITEMS m)) (sym e) up in
+          room_after_spread n vs list (drop HALF_ITEMS m) p t p-seg (omega arith) p-in (bottoms ∙ sym (ap (λ z. evens z (BOTTOM_ROOM / (z + 1)) 0) up-length));
+      only = λ w ne f. only.same w (not_member-cons w (n + h) (map (λ y. 1 + y) (drop HALF_ITEMS m)) ne (not_of b list h (drop HALF_ITEMS m) w up f));
       group = elim p-half [ inl k ↦ inl (low.members p k) | inr k ↦ inr (up.members p k) ];
     }

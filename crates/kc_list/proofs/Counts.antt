@@ -7,7 +7,10 @@ use Rattle.kc_distinct.proofs.Members.{member-head, member-tail, member-cases, m
 use Rattle.kc_words.specs.Order.{Labels, labels, InOrder}
 use Rattle.kc_list.specs.Places.{Before, Placed, Sound, Segment, runs, size_of, top_end}
 use Rattle.kc_list.proofs.Order.{parts, Before-then}
-use Rattle.kc_list.proofs.Gathering.{all_before, Follows-all, tail_order, size-append, size-all}
+use Rattle.kc_list.proofs.Gathering.{all_before, size-append, size-all}
+use Rattle.kc_words.specs.declared.layout.TheConstants.{TOP_ROOM}
+use Rattle.kc_list.specs.declared.limits.TheConstants.{GROUP_ITEMS, HALF_ITEMS}
+use Rattle.kc_words.proofs.Ordering.{Follows-all, InOrder-tail}
 
 -- the size of a group is that of its segment
 size-none : (f : ℕ → ℕ) (g : ℕ) (xs : List ℕ) → ((y : ℕ) → member y xs ≡ true → f y ≡ g → ⊥) → size_of f g xs ≡ 0
@@ -16,7 +19,15 @@ size-none f g (x ∷ xs) h = rw (ne_eqb (f x) g (h x (member-head x xs))) (omega
 
 pub segment_size : (a : Labels) (list : List ℕ) (g : ℕ) (m : List ℕ) → Segment a list g m → size_of a.group g list ≡ length m
 segment_size a list g m seg =
-    omega (arith, ap (size_of a.group g) seg.is, size-append a.group g seg.front (m ++ seg.back), size-append a.group g m seg.back, size-all a.group g m seg.members, size-none a.group g seg.front (λ y k. seg.others y (inl k)), size-none a.group g seg.back (λ y k. seg.others y (inr k)))
+    omega (
+      arith,
+      ap (size_of a.group g) seg.is,
+      size-append a.group g seg.front (m ++ seg.back),
+      size-append a.group g m seg.back,
+      size-all a.group g m seg.members,
+      size-none a.group g seg.front (λ y k. seg.others y (inl k)),
+      size-none a.group g seg.back (λ y k. seg.others y (inr k)),
+    )
 
 -- how the sizes change as an item moves
 pub size-without : (f : ℕ → ℕ) (g x : ℕ) (xs : List ℕ) → Distinct xs → member x xs ≡ true → size_of f g (without x xs) + cond (eqb (f x) g) 1 0 ≡ size_of f g xs
@@ -32,7 +43,8 @@ size-without f g x (y ∷ ys) d m =
           rw t (omega (arith, size-without f g x ys d.1 m'))
     ]
 
-pub size-right_after : (f : ℕ → ℕ) (g x p : ℕ) (xs : List ℕ) → Distinct xs → member p xs ≡ true → size_of f g (right_after x p xs) ≡ size_of f g xs + cond (eqb (f x) g) 1 0
+pub size-right_after : (f : ℕ → ℕ) (g x p : ℕ) (xs : List ℕ) → Distinct xs → member p xs ≡ true
+    → size_of f g (right_after x p xs) ≡ size_of f g xs + cond (eqb (f x) g) 1 0
 size-right_after f g x p [] d m = absurd (false≢true m)
 size-right_after f g x p (y ∷ ys) d m =
     elim (cases_Bool (eqb p y)) [
@@ -44,7 +56,11 @@ size-right_after f g x p (y ∷ ys) d m =
 
 pub size-agree : (f h : ℕ → ℕ) (g : ℕ) (xs : List ℕ) → ((y : ℕ) → member y xs ≡ true → h y ≡ f y) → size_of h g xs ≡ size_of f g xs
 size-agree f h g [] e = refl
-size-agree f h g (x ∷ xs) e = omega (arith, ap {B = ℕ} (λ z. cond (eqb z g) 1 0) (e x (member-head x xs)), size-agree f h g xs (λ y k. e y (member-tail y x xs k)))
+size-agree f h g (x ∷ xs) e = omega (
+  arith,
+  ap {B = ℕ} (λ z. cond (eqb z g) 1 0) (e x (member-head x xs)),
+  size-agree f h g xs (λ y k. e y (member-tail y x xs k)),
+)
 
 -- a list that has all of 1 to k has at least k
 no_longer : (x : ℕ) (xs : List ℕ) → length (without x xs) ≤ length xs
@@ -68,12 +84,14 @@ covers (suc k) xs f =
 pub runs_short : (f : ℕ → ℕ) (xs : List ℕ) → length (runs f xs) ≤ length xs
 runs_short f [] = omega arith
 runs_short f (x ∷ []) = omega arith
-runs_short f (x ∷ y ∷ ys) = let rest : length (runs f (y ∷ ys)) ≤ suc (length ys) = runs_short f (y ∷ ys) in elim (cases_Bool (eqb (f x) (f y))) [ inl t ↦ rw t (omega (arith, rest)) | inr t ↦ rw t (omega (arith, rest)) ]
+runs_short f (x ∷ y ∷ ys) = let rest : length (runs f (y ∷ ys)) ≤ suc (length ys) = runs_short f (y ∷ ys) in
+    elim (cases_Bool (eqb (f x) (f y))) [ inl t ↦ rw t (omega (arith, rest)) | inr t ↦ rw t (omega (arith, rest)) ]
 
 regroup : (f m : List ℕ) (l : ℕ) (b : List ℕ) → f ++ ((m ++ l ∷ []) ++ b) ≡ (f ++ m) ++ l ∷ b
 regroup f m l b = simp append_assoc
 
-above_back : (n : ℕ) (a : Labels) (t z : ℕ) (back : List ℕ) → InOrder (Before a) back → ((y : ℕ) → member y back ≡ true → y < n) → t < top_end n a (head_or n back) → member z back ≡ true → t < a.top (a.group z)
+above_back : (n : ℕ) (a : Labels) (t z : ℕ) (back : List ℕ) → InOrder (Before a) back → ((y : ℕ) → member y back ≡ true → y < n)
+    → t < top_end n a (head_or n back) → member z back ≡ true → t < a.top (a.group z)
 above_back n a t z [] h f lt m = absurd (false≢true m)
 above_back n a t z (q ∷ back) h f lt m =
     let low : t < a.top (a.group q) = rw (ne_eqb q n (let b : q < n = f q (member-head q back) in omega arith)) at lt in
@@ -82,7 +100,9 @@ above_back n a t z (q ∷ back) h f lt m =
       | inr k ↦ elim (Follows-all (Before a) (Before-then a) q z back h k) [ inl e ↦ omega (arith, low, ap a.top e.0) | inr u ↦ omega (arith, low, u) ]
     ]
 
-pub top_gap : (n : ℕ) (ws list : List ℕ) (g last t : ℕ) (m : List ℕ) → Sound n ws list → Segment (labels n ws) list g (m ++ last ∷ []) → t < top_end n (labels n ws) (next_of n last list) → (z : ℕ) → member z list ≡ true → (labels n ws).top g < (labels n ws).top ((labels n ws).group z) → t < (labels n ws).top ((labels n ws).group z)
+pub top_gap : (n : ℕ) (ws list : List ℕ) (g last t : ℕ) (m : List ℕ) → Sound n ws list → Segment (labels n ws) list g (m ++ last ∷ [])
+    → t < top_end n (labels n ws) (next_of n last list) → (z : ℕ) → member z list ≡ true → (labels n ws).top g < (labels n ws).top ((labels n ws).group z)
+    → t < (labels n ws).top ((labels n ws).group z)
 top_gap n ws list g last t m s seg lt z z-in above =
     let a = labels n ws in
     let whole : list ≡ (seg.front ++ m) ++ last ∷ seg.back = seg.is ∙ regroup seg.front m last seg.back in
@@ -97,7 +117,9 @@ top_gap n ws list g last t m s seg lt z z-in above =
       ]
       | inr k ↦ elim (member-cases z last seg.back k) [
         | inl e ↦ absurd (let u = ap a.top (ap a.group e ∙ last-g) in omega (arith, u, above))
-        | inr q ↦ above_back n a t z seg.back (tail_order (Before a) last seg.back ((parts (Before a) (seg.front ++ m) (last ∷ seg.back) order).right)) (λ y y-in. (s.inside y (ap (member y) whole ∙ member-append_right y (seg.front ++ m) (last ∷ seg.back) (member-tail y last seg.back y-in))).below) (subst (λ w. t < top_end n a w) next lt) q
+        | inr q ↦ above_back n a t z seg.back (InOrder-tail (Before a) last seg.back ((parts (Before a) (seg.front ++ m) (last ∷ seg.back) order).right))
+            (λ y y-in. (s.inside y (ap (member y) whole
+            ∙ member-append_right y (seg.front ++ m) (last ∷ seg.back) (member-tail y last seg.back y-in))).below) (subst (λ w. t < top_end n a w) next lt) q
       ]
     ]
 
@@ -106,7 +128,10 @@ next_in n ws list x q s e ne =
     let m : member q list ≡ true = elim (next_of-in n x list) [ inl z ↦ absurd (ne (e ∙ z)) | inr k ↦ ap (λ w. member w list) e ∙ k ] in
     (m, s.inside q m)
 
-top_room_first : (n : ℕ) (a : Labels) (g last : ℕ) (back : List ℕ) → a.group last ≡ g → InOrder (Before a) (last ∷ back) → ((y : ℕ) → member y back ≡ true → (a.group y ≡ g → ⊥)) → ((y : ℕ) → member y back ≡ true → y < n) → ((y : ℕ) → member y back ≡ true → a.top g < a.top (a.group y) → a.top g + 2 ≤ a.top (a.group y)) → a.top g + 2 ≤ 1099511627776 → a.top g + 2 ≤ top_end n a (head_or n back)
+top_room_first : (n : ℕ) (a : Labels) (g last : ℕ) (back : List ℕ) → a.group last ≡ g → InOrder (Before a) (last ∷ back)
+    → ((y : ℕ) → member y back ≡ true → (a.group y ≡ g → ⊥)) → ((y : ℕ) → member y back ≡ true → y < n)
+    → ((y : ℕ) → member y back ≡ true → a.top g < a.top (a.group y) → a.top g + 2 ≤ a.top (a.group y)) → a.top g + 2 ≤ TOP_ROOM
+    → a.top g + 2 ≤ top_end n a (head_or n back)
 top_room_first n a g last [] e h f l k z = rw (eq-eqb n n refl) z
 top_room_first n a g last (q ∷ back) e h f l k z =
     let q-in = member-head q back in
@@ -114,58 +139,75 @@ top_room_first n a g last (q ∷ back) e h f l k z =
     let up : a.top g < a.top (a.group q) = elim h.0 [ inl t ↦ absurd (f q q-in (sym t.0 ∙ e)) | inr u ↦ omega (arith, u, ap a.top e) ] in
     rw (ne_eqb q n (let c = b in omega arith)) (k q q-in up)
 
-pub top_room : (n : ℕ) (ws list : List ℕ) (g last : ℕ) (m : List ℕ) → Sound n ws list → Segment (labels n ws) list g (m ++ last ∷ []) → ((z : ℕ) → member z list ≡ true → (labels n ws).top g < (labels n ws).top ((labels n ws).group z) → (labels n ws).top g + 2 ≤ (labels n ws).top ((labels n ws).group z)) → (labels n ws).top g + 2 ≤ 1099511627776 → (labels n ws).top g + 2 ≤ top_end n (labels n ws) (next_of n last list)
+pub top_room : (n : ℕ) (ws list : List ℕ) (g last : ℕ) (m : List ℕ) → Sound n ws list → Segment (labels n ws) list g (m ++ last ∷ [])
+    → ((z : ℕ) → member z list ≡ true → (labels n ws).top g < (labels n ws).top ((labels n ws).group z)
+    → (labels n ws).top g + 2 ≤ (labels n ws).top ((labels n ws).group z)) → (labels n ws).top g + 2 ≤ TOP_ROOM
+    → (labels n ws).top g + 2 ≤ top_end n (labels n ws) (next_of n last list)
 top_room n ws list g last m s seg k z =
     let a = labels n ws in
     let whole : list ≡ (seg.front ++ m) ++ last ∷ seg.back = seg.is ∙ regroup seg.front m last seg.back in
     let order : InOrder (Before a) ((seg.front ++ m) ++ last ∷ seg.back) = subst (InOrder (Before a)) whole s.order in
     let apart = Distinct-cut last (seg.front ++ m) seg.back (subst Distinct whole s.distinct) in
     let next : next_of n last list ≡ head_or n seg.back = ap (next_of n last) whole ∙ next_of-cut n last (seg.front ++ m) seg.back apart.0 in
-    let in' : (y : ℕ) → member y seg.back ≡ true → member y list ≡ true = λ y y-in. ap (member y) whole ∙ member-append_right y (seg.front ++ m) (last ∷ seg.back) (member-tail y last seg.back y-in) in
-    subst (λ q. a.top g + 2 ≤ top_end n a q) (sym next) (top_room_first n a g last seg.back (seg.members last (member-append_right last m (last ∷ []) (member-head last []))) ((parts (Before a) (seg.front ++ m) (last ∷ seg.back) order).right) (λ y y-in. seg.others y (inr y-in)) (λ y y-in. (s.inside y (in' y y-in)).below) (λ y y-in. k y (in' y y-in)) z)
+    let in' : (y : ℕ) → member y seg.back ≡ true → member y list ≡ true = λ y y-in. ap (member y) whole
+    ∙ member-append_right y (seg.front ++ m) (last ∷ seg.back) (member-tail y last seg.back y-in) in
+    subst (λ q. a.top g + 2 ≤ top_end n a q) (sym next)
+    (top_room_first n a g last seg.back (seg.members last (member-append_right last m (last ∷ []) (member-head last [])))
+    ((parts (Before a) (seg.front ++ m) (last ∷ seg.back) order).right) (λ y y-in. seg.others y (inr y-in)) (λ y y-in. (s.inside y (in' y y-in)).below)
+    (λ y y-in. k y (in' y y-in)) z)
 
 -- the array of a full group
 pub record Full (into : List ℕ) (count : ℕ) : Type 0 where
   pub whole : take count into ≡ into
-  pub last : into ≡ take 63 into ++ get_or into 63 0 ∷ []
-  pub halves : into ≡ take 32 into ++ drop 32 into
+  pub last : into ≡ take (GROUP_ITEMS - 1) into ++ get_or into (GROUP_ITEMS - 1) 0 ∷ []
+  pub halves : into ≡ take HALF_ITEMS into ++ drop HALF_ITEMS into
 
-pub full : (into : List ℕ) (count : ℕ) → length into ≡ 64 → count ≤ length into → length (take count into) ≡ 64 → Full into count
+pub full : (into : List ℕ) (count : ℕ) → length into ≡ GROUP_ITEMS → count ≤ length into → length (take count into) ≡ GROUP_ITEMS → Full into count
 full into count e l k = record {
   whole = take_all count into (omega (arith, length-take-le count into l));
-  last = sym (take_all 64 into (omega arith)) ∙ take_more into 63 0 (omega arith);
-  halves = sym (take-append-drop 32 into);
+  last = sym (take_all GROUP_ITEMS into (omega arith)) ∙ take_more into (GROUP_ITEMS - 1) 0 (omega arith);
+  halves = sym (take-append-drop HALF_ITEMS into);
 }
+
+-- what was gathered of a full group fills the array
+pub full_segment : (a : Labels) (list : List ℕ) (g count : ℕ) (into : List ℕ) → Segment a list g (take count into)
+    → length into ≡ GROUP_ITEMS → count ≤ length into → size_of a.group g list ≡ GROUP_ITEMS → Segment a list g into
+full_segment a list g count into seg len within size =
+    let k = segment_size a list g (take count into) seg in
+    subst (Segment a list g) (full into count len within (omega (arith, k, size))).whole seg
 
 -- the parts of a full group
 pub record Halves (n : ℕ) (a : Labels) (list : List ℕ) (g : ℕ) (m : List ℕ) : Type 0 where
-  pub last : Segment a list g (take 63 m ++ get_or m 63 0 ∷ [])
-  pub halves : Segment a list g (take 32 m ++ take (length m - 32) (drop 32 m))
-  pub upper : (y : ℕ) → member y (take (length m - 32) (drop 32 m)) ≡ true → member y m ≡ true
-  pub cases : (y : ℕ) → member y m ≡ true → (member y (take 32 m) ≡ true) ⊎ (member y (take (length m - 32) (drop 32 m)) ≡ true)
-  pub low_length : length (take 32 m) ≡ 32
-  pub up_length : length (take (length m - 32) (drop 32 m)) ≡ 32
+  pub last : Segment a list g (take (GROUP_ITEMS - 1) m ++ get_or m (GROUP_ITEMS - 1) 0 ∷ [])
+  pub halves : Segment a list g (take HALF_ITEMS m ++ take (length m - HALF_ITEMS) (drop HALF_ITEMS m))
+  pub upper : (y : ℕ) → member y (take (length m - HALF_ITEMS) (drop HALF_ITEMS m)) ≡ true → member y m ≡ true
+  pub cases : (y : ℕ) → member y m ≡ true → (member y (take HALF_ITEMS m) ≡ true) ⊎ (member y (take (length m - HALF_ITEMS) (drop HALF_ITEMS m)) ≡ true)
+  pub low_length : length (take HALF_ITEMS m) ≡ HALF_ITEMS
+  pub up_length : length (take (length m - HALF_ITEMS) (drop HALF_ITEMS m)) ≡ HALF_ITEMS
 
-pub halves : (n : ℕ) (a : Labels) (list : List ℕ) (g : ℕ) (m : List ℕ) → Segment a list g m → length m ≡ 64 → Halves n a list g m
+pub halves : (n : ℕ) (a : Labels) (list : List ℕ) (g : ℕ) (m : List ℕ) → Segment a list g m → length m ≡ GROUP_ITEMS → Halves n a list g m
 halves n a list g m seg e =
-    let last : m ≡ take 63 m ++ get_or m 63 0 ∷ [] = sym (take_all 64 m (omega arith)) ∙ take_more m 63 0 (omega arith) in
-    let two : m ≡ take 32 m ++ take (length m - 32) (drop 32 m) = sym (take-append-drop 32 m) ∙ ap (λ zs. take 32 m ++ zs) (sym (take_rest m 32)) in
+    let last : m ≡ take (GROUP_ITEMS - 1) m ++ get_or m (GROUP_ITEMS - 1) 0 ∷ [] = sym (take_all GROUP_ITEMS m (omega arith))
+    ∙ take_more m (GROUP_ITEMS - 1) 0 (omega arith) in
+    let two : m ≡ take HALF_ITEMS m ++ take (length m - HALF_ITEMS) (drop HALF_ITEMS m) = sym (take-append-drop HALF_ITEMS m)
+    ∙ ap (λ zs. take HALF_ITEMS m ++ zs) (sym (take_rest m HALF_ITEMS)) in
     record {
       last = subst (Segment a list g) last seg;
       halves = subst (Segment a list g) two seg;
-      upper = λ y k. ap (member y) two ∙ member-append_right y (take 32 m) (take (length m - 32) (drop 32 m)) k;
-      cases = λ y k. member-append y (take 32 m) (take (length m - 32) (drop 32 m)) (ap (member y) (sym two) ∙ k);
-      low_length = length-take-le 32 m (omega arith);
-      up_length = ap length (take_rest m 32) ∙ (length-drop 32 m ∙ omega arith);
+      upper = λ y k. ap (member y) two ∙ member-append_right y (take HALF_ITEMS m) (take (length m - HALF_ITEMS) (drop HALF_ITEMS m)) k;
+      cases = λ y k. member-append y (take HALF_ITEMS m) (take (length m - HALF_ITEMS) (drop HALF_ITEMS m)) (ap (member y) (sym two) ∙ k);
+      low_length = length-take-le HALF_ITEMS m (omega arith);
+      up_length = ap length (take_rest m HALF_ITEMS) ∙ (length-drop HALF_ITEMS m ∙ omega arith);
     }
 
-pub top_end_high : (n : ℕ) (ws list : List ℕ) (x : ℕ) → Sound n ws list → top_end n (labels n ws) (next_of n x list) ≤ 1099511627776
+pub top_end_high : (n : ℕ) (ws list : List ℕ) (x : ℕ) → Sound n ws list → top_end n (labels n ws) (next_of n x list) ≤ TOP_ROOM
 top_end_high n ws list x s = elim (cases_eq (next_of n x list) n) [
   | inl e ↦ rw (eq-eqb (next_of n x list) n e) (omega arith)
   | inr ne ↦ rw (ne_eqb (next_of n x list) n ne) (let p = (next_in n ws list x (next_of n x list) s refl ne).1 in omega (arith, p.top_high))
 ]
 
-pub half_size : (a : Labels) (list : List ℕ) (g h p : ℕ) (low ups : List ℕ) → Segment a list g low → Segment a list h ups → length low ≡ 32 → length ups ≡ 32 → (member p low ≡ true) ⊎ (member p ups ≡ true) → size_of a.group (a.group p) list ≡ 32
+pub half_size : (a : Labels) (list : List ℕ) (g h p : ℕ) (low ups : List ℕ) → Segment a list g low → Segment a list h ups → length low ≡ HALF_ITEMS
+    → length ups ≡ HALF_ITEMS → (member p low ≡ true) ⊎ (member p ups ≡ true) → size_of a.group (a.group p) list ≡ HALF_ITEMS
 half_size a list g h p low ups s t l u k = elim k [
   | inl m ↦ ap (λ z. size_of a.group z list) (s.members p m) ∙ (segment_size a list g low s ∙ l)
   | inr m ↦ ap (λ z. size_of a.group z list) (t.members p m) ∙ (segment_size a list h ups t ∙ u)

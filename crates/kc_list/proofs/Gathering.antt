@@ -4,31 +4,25 @@ use Rattle.std.proofs.lemmas.Bool.{eq-eqb, cases_eq, false≢true}
 use Rattle.std.proofs.lemmas.List.{append_assoc, length-append, take_more_set}
 use Rattle.kc_distinct.specs.Lists.{member, Distinct, last_or, prev_of, head_or, next_of, place_of}
 use Rattle.kc_distinct.proofs.Members.{member-head, member-tail, member-cases, member-append, member-append_left, member-append_right, cut, Distinct-cut, prev_of-cut, next_of-cut, prev-place, some_or_none, last_or-push}
-use Rattle.kc_words.specs.Order.{Labels, labels, InOrder, Follows}
+use Rattle.kc_words.specs.Order.{Labels, labels, InOrder}
 use Rattle.kc_list.specs.Places.{Before, Sound, Segment, First, size_of}
 use Rattle.kc_list.proofs.Order.{parts, Before-then}
-
--- each is related to all that stand behind it
-pub Follows-all : (R : ℕ → ℕ → Type 0) → ((x y z : ℕ) → R x y → R y z → R x z) → (x z : ℕ) (ys : List ℕ) → Follows R x ys → member z ys ≡ true → R x z
-Follows-all R t x z [] h m = absurd (false≢true m)
-Follows-all R t x z (y ∷ ys) h m = elim (member-cases z y ys m) [ inl e ↦ subst (R x) (sym e) h.0 | inr k ↦ t x y z h.0 (Follows-all R t y z ys h.1 k) ]
-
-pub tail_order : (R : ℕ → ℕ → Type 0) (x : ℕ) (xs : List ℕ) → InOrder R (x ∷ xs) → InOrder R xs
-tail_order R x [] h = tt
-tail_order R x (y ∷ xs) h = h.1
+use Rattle.kc_words.proofs.Ordering.{Follows-all, InOrder-tail}
 
 member-cases-end : (y : ℕ) (l : List ℕ) (z : ℕ) → member y (l ++ z ∷ []) ≡ true → (member y l ≡ true) ⊎ (y ≡ z)
-member-cases-end y l z m = elim (member-append y l (z ∷ []) m) [ inl k ↦ inl k | inr k ↦ elim (member-cases y z [] k) [ inl e ↦ inr e | inr none ↦ absurd (false≢true none) ] ]
+member-cases-end y l z m = elim (member-append y l (z ∷ []) m)
+    [ inl k ↦ inl k | inr k ↦ elim (member-cases y z [] k) [ inl e ↦ inr e | inr none ↦ absurd (false≢true none) ] ]
 
 pub all_before : (R : ℕ → ℕ → Type 0) → ((x y z : ℕ) → R x y → R y z → R x z) → (z y : ℕ) (l r : List ℕ) → InOrder R (l ++ y ∷ r) → member z l ≡ true → R z y
 all_before R t z y [] r h m = absurd (false≢true m)
 all_before R t z y (x ∷ l) r h m =
     elim (member-cases z x l m) [
       | inl e ↦ subst (λ u. R u y) (sym e) (Follows-all R t x y (l ++ y ∷ r) h (member-append_right y l (y ∷ r) (member-head y r)))
-      | inr k ↦ all_before R t z y l r (tail_order R x (l ++ y ∷ r) h) k
+      | inr k ↦ all_before R t z y l r (InOrder-tail R x (l ++ y ∷ r) h) k
     ]
 
-pub first_found : (n : ℕ) (ws list : List ℕ) (g x q : ℕ) → Sound n ws list → member x list ≡ true → (labels n ws).group x ≡ g → q ≡ prev_of n x list → ((q ≡ n → ⊥) → (labels n ws).group q ≡ g → ⊥) → First (labels n ws) list g x
+pub first_found : (n : ℕ) (ws list : List ℕ) (g x q : ℕ) → Sound n ws list → member x list ≡ true → (labels n ws).group x ≡ g → q ≡ prev_of n x list
+    → ((q ≡ n → ⊥) → (labels n ws).group q ≡ g → ⊥) → First (labels n ws) list g x
 first_found n ws list g x q s m x-g q-is stop =
     let a = labels n ws in
     let c = cut x list m in
@@ -45,7 +39,8 @@ first_found n ws list g x q s m x-g q-is stop =
             let last : q ≡ w.last = is ∙ (ap (last_or n) w.is ∙ last_or-push n w.front w.last) in
             let split : list ≡ w.front ++ w.last ∷ (x ∷ c.back) = c.is ∙ (ap (λ zs. zs ++ x ∷ c.back) w.is ∙ append_assoc w.front (w.last ∷ []) (x ∷ c.back)) in
             let order : InOrder (Before a) (w.front ++ w.last ∷ (x ∷ c.back)) = subst (InOrder (Before a)) split s.order in
-            let last-in : member w.last list ≡ true = ap (member w.last) split ∙ member-append_right w.last w.front (w.last ∷ x ∷ c.back) (member-head w.last (x ∷ c.back)) in
+            let last-in : member w.last list ≡ true = ap (member w.last) split
+            ∙ member-append_right w.last w.front (w.last ∷ x ∷ c.back) (member-head w.last (x ∷ c.back)) in
             let q-n : q ≡ n → ⊥ = λ z. let b : w.last < n = (s.inside w.last last-in).below in absurd (let u : w.last ≡ n = sym last ∙ z in omega arith) in
             let other : a.group w.last ≡ g → ⊥ = λ z. stop q-n (ap a.group last ∙ z) in
             let step : Before a w.last x = ((parts (Before a) w.front (w.last ∷ x ∷ c.back) order).right).0 in
@@ -60,7 +55,8 @@ first_found n ws list g x q s m x-g q-is stop =
       ];
     }
 
-pub back_facts : (n : ℕ) (ws list : List ℕ) (first before : ℕ) → Sound n ws list → member first list ≡ true → before ≡ prev_of n first list → (before ≡ n → ⊥) → (member before list ≡ true) × (before < n) × (suc (place_of before list) ≡ place_of first list)
+pub back_facts : (n : ℕ) (ws list : List ℕ) (first before : ℕ) → Sound n ws list → member first list ≡ true → before ≡ prev_of n first list
+    → (before ≡ n → ⊥) → (member before list ≡ true) × (before < n) × (suc (place_of before list) ≡ place_of first list)
 back_facts n ws list first before s m is ne =
     let k = prev-place n first list s.distinct m (λ y y-in e. let b : y < n = (s.inside y y-in).below in absurd (omega arith)) (λ e. ne (is ∙ e)) in
     let in' : member before list ≡ true = ap (λ z. member z list) is ∙ k.0 in
@@ -99,14 +95,16 @@ pub cons_rest : (n x : ℕ) (rest : List ℕ) → x ≡ head_or n rest → (x �
 cons_rest n x [] e ne = absurd (ne e)
 cons_rest n x (y ∷ r) e ne = (r, ap (λ z. z ∷ r) (sym e))
 
-pub collect_in : (n : ℕ) (ws list : List ℕ) (g x : ℕ) (m : List ℕ) → Sound n ws list → Collected n (labels n ws) list g x m → (x ≡ n → ⊥) → (member x list ≡ true) × (x < n)
+pub collect_in : (n : ℕ) (ws list : List ℕ) (g x : ℕ) (m : List ℕ) → Sound n ws list → Collected n (labels n ws) list g x m → (x ≡ n → ⊥)
+    → (member x list ≡ true) × (x < n)
 collect_in n ws list g x m s c ne =
     let r = cons_rest n x c.rest c.head ne in
     let is : list ≡ c.front ++ (m ++ x ∷ r.0) = c.is ∙ ap (λ zs. c.front ++ (m ++ zs)) r.1 in
     let in' : member x list ≡ true = ap (member x) is ∙ member-append_right x c.front (m ++ x ∷ r.0) (member-append_right x m (x ∷ r.0) (member-head x r.0)) in
     (in', (s.inside x in').below)
 
-pub collect_step : (n : ℕ) (ws list : List ℕ) (g x : ℕ) (m : List ℕ) → Sound n ws list → Collected n (labels n ws) list g x m → (x ≡ n → ⊥) → (labels n ws).group x ≡ g → CollectStep n (labels n ws) list g x m
+pub collect_step : (n : ℕ) (ws list : List ℕ) (g x : ℕ) (m : List ℕ) → Sound n ws list → Collected n (labels n ws) list g x m → (x ≡ n → ⊥)
+    → (labels n ws).group x ≡ g → CollectStep n (labels n ws) list g x m
 collect_step n ws list g x m s c ne x-g =
     let a = labels n ws in
     let k = collect_in n ws list g x m s c ne in
@@ -115,12 +113,28 @@ collect_step n ws list g x m s c ne x-g =
     let is' : list ≡ (c.front ++ m) ++ x ∷ r.0 = is ∙ sym (append_assoc c.front m (x ∷ r.0)) in
     let is2 : list ≡ c.front ++ ((m ++ x ∷ []) ++ r.0) = is ∙ ap (λ zs. c.front ++ zs) (sym (append_assoc m (x ∷ []) r.0)) in
     let apart = Distinct-cut x (c.front ++ m) r.0 (subst Distinct is' s.distinct) in
-    let all : (y : ℕ) → member y (m ++ x ∷ []) ≡ true → a.group y ≡ g = λ y q. elim (member-cases-end y m x q) [ inl p ↦ c.members y p | inr e ↦ ap a.group e ∙ x-g ] in
+    let all : (y : ℕ) → member y (m ++ x ∷ []) ≡ true → a.group y ≡ g =
+    λ y q. elim (member-cases-end y m x q) [ inl p ↦ c.members y p | inr e ↦ ap a.group e ∙ x-g ] in
     record {
       below = k.1;
       x_in = k.0;
-      size = omega (arith, ap (size_of a.group g) is2, size-append a.group g c.front ((m ++ x ∷ []) ++ r.0), size-append a.group g (m ++ x ∷ []) r.0, size-all a.group g (m ++ x ∷ []) all, length-append m (x ∷ []));
-      more = record { front = c.front; rest = r.0; is = is2; members = all; none = c.none; head = ap (next_of n x) is' ∙ next_of-cut n x (c.front ++ m) r.0 apart.0 };
+      size = omega (
+        arith,
+        ap (size_of a.group g) is2,
+        size-append a.group g c.front ((m ++ x ∷ []) ++ r.0),
+        size-append a.group g (m ++ x ∷ []) r.0,
+        size-all a.group g (m ++ x ∷ []) all,
+        length-append m (x ∷ []),
+      );
+      more = record {
+        front = c.front;
+        rest = r.0;
+        is = is2;
+        members = all;
+        none = c.none;
+        head = ap (next_of n x) is'
+            ∙ next_of-cut n x (c.front ++ m) r.0 apart.0;
+      };
       length_less = omega (arith, ap length is, length-append c.front (m ++ x ∷ r.0), length-append m (x ∷ r.0));
     }
 
@@ -128,11 +142,14 @@ none_left : (n x : ℕ) (rest : List ℕ) → x ≡ head_or n rest → x ≡ n �
 none_left n x [] e w f y m = false≢true m
 none_left n x (z ∷ r) e w f y m = f z (member-head z r) (sym e ∙ w)
 
-rest_none : (n : ℕ) (ws list : List ℕ) (g x some : ℕ) (m : List ℕ) → Sound n ws list → (c : Collected n (labels n ws) list g x m) → ((x ≡ n → ⊥) → (labels n ws).group x ≡ g → ⊥) → member some m ≡ true → (y : ℕ) → member y c.rest ≡ true → (labels n ws).group y ≡ g → ⊥
+rest_none : (n : ℕ) (ws list : List ℕ) (g x some : ℕ) (m : List ℕ) → Sound n ws list → (c : Collected n (labels n ws) list g x m)
+    → ((x ≡ n → ⊥) → (labels n ws).group x ≡ g → ⊥) → member some m ≡ true → (y : ℕ) → member y c.rest ≡ true → (labels n ws).group y ≡ g → ⊥
 rest_none n ws list g x some m s c stop some-in y y-in y-g =
     let a = labels n ws in
     elim (cases_eq x n) [
-      | inl e ↦ none_left n x c.rest c.head e (λ z k. let q : z < n = (s.inside z (ap (member z) c.is ∙ member-append_right z c.front (m ++ c.rest) (member-append_right z m c.rest k))).below in (λ w. absurd (omega arith))) y y-in
+      | inl e ↦ none_left n x c.rest c.head e
+          (λ z k. let q : z < n = (s.inside z (ap (member z) c.is ∙ member-append_right z c.front (m ++ c.rest) (member-append_right z m c.rest k))).below in
+          (λ w. absurd (omega arith))) y y-in
       | inr ne ↦
           let r = cons_rest n x c.rest c.head ne in
           let other : a.group x ≡ g → ⊥ = stop ne in
@@ -140,7 +157,8 @@ rest_none n ws list g x some m s c stop some-in y y-in y-g =
           let is : list ≡ c.front ++ (m ++ x ∷ r.0) = c.is ∙ ap (λ zs. c.front ++ (m ++ zs)) r.1 in
           let is' : list ≡ (c.front ++ m) ++ x ∷ r.0 = is ∙ sym (append_assoc c.front m (x ∷ r.0)) in
           let order : InOrder (Before a) ((c.front ++ m) ++ x ∷ r.0) = subst (InOrder (Before a)) is' s.order in
-          let up : a.top g < a.top (a.group x) = elim (all_before (Before a) (Before-then a) some x (c.front ++ m) r.0 order (member-append_right some c.front m some-in)) [
+          let up : a.top g < a.top (a.group x) =
+          elim (all_before (Before a) (Before-then a) some x (c.front ++ m) r.0 order (member-append_right some c.front m some-in)) [
             | inl t ↦ absurd (other (sym t.0 ∙ c.members some some-in))
             | inr t ↦ omega (arith, t, ap a.top (c.members some some-in))
           ] in
@@ -154,7 +172,8 @@ rest_none n ws list g x some m s c stop some-in y y-in y-g =
     ]
 
 -- at the end
-pub collected : (n : ℕ) (ws list : List ℕ) (g x : ℕ) (m : List ℕ) → Sound n ws list → Collected n (labels n ws) list g x m → ((x ≡ n → ⊥) → (labels n ws).group x ≡ g → ⊥) → (y : ℕ) → member y m ≡ true → Segment (labels n ws) list g m
+pub collected : (n : ℕ) (ws list : List ℕ) (g x : ℕ) (m : List ℕ) → Sound n ws list → Collected n (labels n ws) list g x m
+    → ((x ≡ n → ⊥) → (labels n ws).group x ≡ g → ⊥) → (y : ℕ) → member y m ≡ true → Segment (labels n ws) list g m
 collected n ws list g x m s c stop some some-in =
     let a = labels n ws in
     record {
@@ -169,14 +188,17 @@ collected n ws list g x m s c stop some some-in =
     }
 
 -- the first has been collected, or comes next
-pub begun : (x count first : ℕ) (into : List ℕ) → count < length into → ((count ≡ 0) × (x ≡ first)) ⊎ (member first (take count into) ≡ true) → member first (take (count + 1) (set into count x)) ≡ true
+pub begun : (x count first : ℕ) (into : List ℕ) → count < length into → ((count ≡ 0) × (x ≡ first)) ⊎ (member first (take count into) ≡ true)
+    → member first (take (count + 1) (set into count x)) ≡ true
 begun x count first into l h =
     ap (member first) (take_more_set into count x l) ∙ elim h [
       | inl e ↦ member-append_right first (take count into) (x ∷ []) (ap (λ z. member first (z ∷ [])) e.1 ∙ member-head first [])
       | inr m ↦ member-append_left first (take count into) (x ∷ []) m
     ]
 
-pub gathered : (n : ℕ) (ws list : List ℕ) (g x first count : ℕ) (into : List ℕ) → Sound n ws list → First (labels n ws) list g first → Collected n (labels n ws) list g x (take count into) → ((x ≡ n → ⊥) → (labels n ws).group x ≡ g → ⊥) → ((count ≡ 0) × (x ≡ first)) ⊎ (member first (take count into) ≡ true) → Segment (labels n ws) list g (take count into)
+pub gathered : (n : ℕ) (ws list : List ℕ) (g x first count : ℕ) (into : List ℕ) → Sound n ws list → First (labels n ws) list g first
+    → Collected n (labels n ws) list g x (take count into) → ((x ≡ n → ⊥) → (labels n ws).group x ≡ g → ⊥)
+    → ((count ≡ 0) × (x ≡ first)) ⊎ (member first (take count into) ≡ true) → Segment (labels n ws) list g (take count into)
 gathered n ws list g x first count into s f c stop h =
     elim h [
       | inl e ↦

@@ -4,7 +4,7 @@ use Rattle.std.proofs.lemmas.Bool.{eqb-true, eqb-false, ne_eqb, eq-eqb, cases_lt
 use Rattle.std.proofs.lemmas.List.{append_assoc, append-nil, length-append, length-map, get_or-map}
 use Rattle.std.proofs.lemmas.Nat.{le-div, div-add-mod'}
 use Rattle.kc_relabel.specs.Labels.{Ascends, written, schedule_of}
-use Rattle.kc_relabel.proofs.Rising.{Writes, schedule-along, Along-take}
+use Rattle.kc_relabel.proofs.Rising.{Writes, schedule-along, Along-take, Ascends-low}
 use Rattle.kc_distinct.specs.Lists.{member, Distinct, head_or, next_of, place_of}
 use Rattle.kc_distinct.proofs.Members.{member-head, member-cases, member-append_right, Distinct-cut, next_of-cut, place_of-cut, not_member-parts, below_bound}
 use Rattle.kc_words.specs.Order.{Labels, labels}
@@ -13,6 +13,7 @@ use Rattle.kc_list.proofs.Spreading.{Ascends-evens, length-evens, get_or-evens}
 use Rattle.kc_list.proofs.Gathering.{cons_rest}
 use Rattle.kc_list.proofs.Counts.{runs_short}
 use Rattle.kc_list.proofs.Toplabels.{runs_distinct, runs_item}
+use Rattle.kc_words.specs.declared.layout.TheConstants.{ITEMS, TOP_ROOM}
 
 -- the groups that follow group `g`
 abbrev pub runs_after : ℕ → (ℕ → ℕ) → List ℕ → List ℕ
@@ -45,7 +46,8 @@ pub record Grouped (n : ℕ) (a : Labels) (list : List ℕ) (x last : ℕ) (foun
   pub so_far : found ++ runs_after last a.group rest ≡ runs a.group list
 
 pub grouped-none : (n : ℕ) (ws list : List ℕ) → Sound n ws list → Grouped n (labels n ws) list (head_or n list) 0 []
-grouped-none n ws list s = record { done = []; rest = list; is = refl; head = refl; so_far = sym (runs_all (labels n ws).group list (λ x m. (s.inside x m).group_low)) }
+grouped-none n ws list s = record
+    { done = []; rest = list; is = refl; head = refl; so_far = sym (runs_all (labels n ws).group list (λ x m. (s.inside x m).group_low)) }
 
 place_of-none : (x : ℕ) (xs : List ℕ) → member x xs ≡ false → place_of x xs ≡ length xs
 place_of-none x [] m = refl
@@ -62,7 +64,8 @@ pub record GroupStep (n : ℕ) (a : Labels) (list : List ℕ) (x : ℕ) : Type 0
   pub nearer : suc (place_of x list) ≡ place_of (next_of n x list) list
   pub short : place_of x list < length list
 
-pub group_step : (n : ℕ) (ws list : List ℕ) (x last : ℕ) (found : List ℕ) → Sound n ws list → Grouped n (labels n ws) list x last found → (x ≡ n → ⊥) → GroupStep n (labels n ws) list x
+pub group_step : (n : ℕ) (ws list : List ℕ) (x last : ℕ) (found : List ℕ) → Sound n ws list → Grouped n (labels n ws) list x last found → (x ≡ n → ⊥)
+    → GroupStep n (labels n ws) list x
 group_step n ws list x last found s g ne =
     let r = cons_rest n x g.rest g.head ne in
     let is : list ≡ g.done ++ x ∷ r.0 = g.is ∙ ap (λ zs. g.done ++ zs) r.1 in
@@ -73,7 +76,8 @@ group_step n ws list x last found s g ne =
     let n-out : member n list ≡ false = elim (cases_Bool (member n list)) [ inl t ↦ absurd (let b = (s.inside n t).below in omega arith) | inr f ↦ f ] in
     let here : place_of x list ≡ length g.done = ap (place_of x) is ∙ place_of-cut x g.done r.0 apart.0 in
     let there : place_of (next_of n x list) list ≡ length (g.done ++ x ∷ []) =
-    ap (λ y. place_of y list) next ∙ (ap (place_of (head_or n r.0)) is' ∙ place_of-head n (g.done ++ x ∷ []) r.0 (subst Distinct is' s.distinct) (ap (member n) (sym is') ∙ n-out)) in
+    ap (λ y. place_of y list) next
+    ∙ (ap (place_of (head_or n r.0)) is' ∙ place_of-head n (g.done ++ x ∷ []) r.0 (subst Distinct is' s.distinct) (ap (member n) (sym is') ∙ n-out)) in
     record {
       below = (s.inside x x-in).below;
       x_in = x-in;
@@ -81,7 +85,8 @@ group_step n ws list x last found s g ne =
       short = omega (arith, here, ap length is, length-append g.done (x ∷ r.0));
     }
 
-pub grouped-same : (n : ℕ) (ws list : List ℕ) (x last : ℕ) (found : List ℕ) → Sound n ws list → Grouped n (labels n ws) list x last found → (x ≡ n → ⊥) → (labels n ws).group x ≡ last → Grouped n (labels n ws) list (next_of n x list) last found
+pub grouped-same : (n : ℕ) (ws list : List ℕ) (x last : ℕ) (found : List ℕ) → Sound n ws list → Grouped n (labels n ws) list x last found → (x ≡ n → ⊥)
+    → (labels n ws).group x ≡ last → Grouped n (labels n ws) list (next_of n x list) last found
 grouped-same n ws list x last found s g ne e =
     let a = labels n ws in
     let r = cons_rest n x g.rest g.head ne in
@@ -96,7 +101,9 @@ grouped-same n ws list x last found s g ne e =
       so_far = rw (eq-eqb (a.group x) last e) at after;
     }
 
-pub grouped-new : (n : ℕ) (ws list : List ℕ) (x last : ℕ) (found : List ℕ) → Sound n ws list → Grouped n (labels n ws) list x last found → (x ≡ n → ⊥) → ((labels n ws).group x ≡ last → ⊥) → Grouped n (labels n ws) list (next_of n x list) ((labels n ws).group x) (found ++ (labels n ws).group x ∷ []) × (length found < length list)
+pub grouped-new : (n : ℕ) (ws list : List ℕ) (x last : ℕ) (found : List ℕ) → Sound n ws list → Grouped n (labels n ws) list x last found → (x ≡ n → ⊥)
+    → ((labels n ws).group x ≡ last → ⊥) → Grouped n (labels n ws) list (next_of n x list) ((labels n ws).group x) (found ++ (labels n ws).group x ∷ []) ×
+    (length found < length list)
 grouped-new n ws list x last found s g ne new =
     let a = labels n ws in
     let r = cons_rest n x g.rest g.head ne in
@@ -118,7 +125,8 @@ none_rest : (n x : ℕ) (rest : List ℕ) → x ≡ head_or n rest → x ≡ n �
 none_rest n x [] e is f = refl
 none_rest n x (y ∷ ys) e is f = absurd (let b = f y (member-head y ys) in omega arith)
 
-pub grouped-all : (n : ℕ) (ws list : List ℕ) (x last : ℕ) (found : List ℕ) → Sound n ws list → Grouped n (labels n ws) list x last found → x ≡ n → found ≡ runs (labels n ws).group list
+pub grouped-all : (n : ℕ) (ws list : List ℕ) (x last : ℕ) (found : List ℕ) → Sound n ws list → Grouped n (labels n ws) list x last found → x ≡ n
+    → found ≡ runs (labels n ws).group list
 grouped-all n ws list x last found s g is =
     let none : g.rest ≡ [] = none_rest n x g.rest g.head is (λ y m. (s.inside y (ap (member y) g.is ∙ member-append_right y g.done g.rest m)).below) in
     sym (append-nil found) ∙ (ap (λ zs. found ++ runs_after last (labels n ws).group zs) (sym none) ∙ g.so_far)
@@ -133,22 +141,23 @@ group_in n ws list gs g s e m =
     (omega (arith, from.2, (s.inside from.0 from.1).group_low), omega (arith, from.2, (s.inside from.0 from.1).group_high))
 
 -- labels at even distances rise
-low_end : (low low' end : ℕ) (xs : List ℕ) → low ≤ low' → Ascends low' end xs → Ascends low end xs
-low_end low low' end [] l h = omega (arith, h)
-low_end low low' end (x ∷ xs) l h = (omega (arith, h.0), h.1)
-
 pub evens-rise : (n room : ℕ) → n + 1 ≤ room → Ascends 1 room (evens n (room / (n + 1)) 0)
 evens-rise n room l =
     let some : 1 ≤ room / (n + 1) = le-div 1 room (n + 1) (omega arith) (omega arith) in
     let all : (0 + n + 1) * (room / (n + 1)) ≤ room = let e = div-add-mod' room (n + 1) in omega (arith, e) in
-    low_end 1 (0 * (room / (n + 1)) + 1) room (evens n (room / (n + 1)) 0) (omega arith) (Ascends-evens n (room / (n + 1)) 0 room some all)
+    Ascends-low 1 (0 * (room / (n + 1)) + 1) room (evens n (room / (n + 1)) 0) (omega arith) (Ascends-evens n (room / (n + 1)) 0 room some all)
 
-pub tops-ascend : (n : ℕ) (ws list gs : List ℕ) (out : Writes) (k : ℕ) → Sound n ws list → gs ≡ runs (labels n ws).group list → length gs + 1 ≤ 1099511627776 → out ≡ schedule_of (map (labels n ws).top gs) (evens (length gs) (1099511627776 / (length gs + 1)) 0) → Ascends 1 1099511627776 (written (map (labels n ws).top gs) (take k out))
+pub tops-ascend : (n : ℕ) (ws list gs : List ℕ) (out : Writes) (k : ℕ) → Sound n ws list → gs ≡ runs (labels n ws).group list → length gs + 1 ≤ TOP_ROOM
+    → out ≡ schedule_of (map (labels n ws).top gs) (evens (length gs) (TOP_ROOM / (length gs + 1)) 0)
+    → Ascends 1 TOP_ROOM (written (map (labels n ws).top gs) (take k out))
 tops-ascend n ws list gs out k s g l e =
     let t = (labels n ws).top in
-    let old : Ascends 1 1099511627776 (map (labels n ws).top gs) = subst (λ hs. Ascends 1 1099511627776 (map (labels n ws).top hs)) (sym g) (runs_distinct n ws list s).1 in
-    let along = (schedule-along 1 1099511627776 (map (labels n ws).top gs) (evens (length gs) (1099511627776 / (length gs + 1)) 0) (omega (arith, length-map gs (labels n ws).top, length-evens (length gs) (1099511627776 / (length gs + 1)) 0)) old (evens-rise (length gs) 1099511627776 l)).0 in
-    rw e (Along-take (Ascends 1 1099511627776) (map (labels n ws).top gs) (schedule_of (map (labels n ws).top gs) (evens (length gs) (1099511627776 / (length gs + 1)) 0)) k along)
+    let old : Ascends 1 TOP_ROOM (map (labels n ws).top gs) =
+    subst (λ hs. Ascends 1 TOP_ROOM (map (labels n ws).top hs)) (sym g) (runs_distinct n ws list s).1 in
+    let along = (schedule-along 1 TOP_ROOM (map (labels n ws).top gs) (evens (length gs) (TOP_ROOM / (length gs + 1)) 0)
+    (omega (arith, length-map gs (labels n ws).top, length-evens (length gs) (TOP_ROOM / (length gs + 1)) 0)) old (evens-rise (length gs) TOP_ROOM l)).0 in
+    rw e (Along-take (Ascends 1 TOP_ROOM) (map (labels n ws).top gs)
+    (schedule_of (map (labels n ws).top gs) (evens (length gs) (TOP_ROOM / (length gs + 1)) 0)) k along)
 
 -- by index
 pub index_of : (x : ℕ) (xs : List ℕ) → member x xs ≡ true → (i : ℕ) × (i < length xs) × (get_or xs i 0 ≡ x)
@@ -159,10 +168,12 @@ index_of x (y ∷ ys) m = elim (member-cases x y ys m) [
 ]
 
 -- labels at even distances differ by two or more
-pub evens-apart : (t : ℕ → ℕ) (gs : List ℕ) (step room g h : ℕ) → map t gs ≡ evens (length gs) step 0 → 2 ≤ step → (length gs + 1) * step ≤ room → member g gs ≡ true → (t g + 2 ≤ room) × (member h gs ≡ true → t g < t h → t g + 2 ≤ t h)
+pub evens-apart : (t : ℕ → ℕ) (gs : List ℕ) (step room g h : ℕ) → map t gs ≡ evens (length gs) step 0 → 2 ≤ step → (length gs + 1) * step ≤ room
+    → member g gs ≡ true → (t g + 2 ≤ room) × (member h gs ≡ true → t g < t h → t g + 2 ≤ t h)
 evens-apart t gs step room g h e two all m =
     let i = index_of g gs m in
-    let at : (k : ℕ) → k < length gs → t (get_or gs k 0) ≡ (k + 1) * step = λ k l. sym (get_or-map t gs k 0 0 l) ∙ (ap (λ zs. get_or zs k 0) e ∙ (get_or-evens (length gs) step 0 k l ∙ (let z : 0 + k + 1 ≡ k + 1 = omega arith in ap (λ y. y * step) z))) in
+    let at : (k : ℕ) → k < length gs → t (get_or gs k 0) ≡ (k + 1) * step = λ k l. sym (get_or-map t gs k 0 0 l)
+    ∙ (ap (λ zs. get_or zs k 0) e ∙ (get_or-evens (length gs) step 0 k l ∙ (let z : 0 + k + 1 ≡ k + 1 = omega arith in ap (λ y. y * step) z))) in
     let g-is : t g ≡ (i.0 + 1) * step = ap t (sym i.2) ∙ at i.0 i.1 in
     let next : (i.0 + 1 + 1) * step ≡ (i.0 + 1) * step + step = omega arith in
     let end : (i.0 + 1 + 1) * step ≤ (length gs + 1) * step = mul-le-mul_right step (omega (arith, i.1)) in (
@@ -176,9 +187,10 @@ evens-apart t gs step room g h e two all m =
           ],
     )
 
-pub tops_gaps : (t : ℕ → ℕ) (gs rs : List ℕ) (g h : ℕ) → gs ≡ rs → length gs ≤ 2097150 → map t gs ≡ evens (length gs) (1099511627776 / (length gs + 1)) 0 → member g rs ≡ true → (t g + 2 ≤ 1099511627776) × (member h rs ≡ true → t g < t h → t g + 2 ≤ t h)
+pub tops_gaps : (t : ℕ → ℕ) (gs rs : List ℕ) (g h : ℕ) → gs ≡ rs → length gs ≤ ITEMS → map t gs ≡ evens (length gs) (TOP_ROOM / (length gs + 1)) 0
+    → member g rs ≡ true → (t g + 2 ≤ TOP_ROOM) × (member h rs ≡ true → t g < t h → t g + 2 ≤ t h)
 tops_gaps t gs rs g h e few tops m =
-    let two : 2 ≤ 1099511627776 / (length gs + 1) = le-div 2 1099511627776 (length gs + 1) (omega arith) (omega arith) in
-    let all : (length gs + 1) * (1099511627776 / (length gs + 1)) ≤ 1099511627776 = let d = div-add-mod' 1099511627776 (length gs + 1) in omega (arith, d) in
-    let k = evens-apart t gs (1099511627776 / (length gs + 1)) 1099511627776 g h tops two all (ap (member g) e ∙ m) in
+    let two : 2 ≤ TOP_ROOM / (length gs + 1) = le-div 2 TOP_ROOM (length gs + 1) (omega arith) (omega arith) in
+    let all : (length gs + 1) * (TOP_ROOM / (length gs + 1)) ≤ TOP_ROOM = let d = div-add-mod' TOP_ROOM (length gs + 1) in omega (arith, d) in
+    let k = evens-apart t gs (TOP_ROOM / (length gs + 1)) TOP_ROOM g h tops two all (ap (member g) e ∙ m) in
     (k.0, λ m' lt. k.1 (ap (member h) e ∙ m') lt)

@@ -7,19 +7,22 @@ use Rattle.kc_list.specs.declared.sheet.Write.{Write}
 use Rattle.kc_list.specs.Sheets.{version, highest_of}
 
 -- after a store that raises a version
-pub highest-set : (ws : List ℕ) (i v : ℕ) → i < length ws → version ws i ≤ (item_of v).version → highest_of (set ws i v) ≡ max (highest_of ws) (item_of v).version
+pub highest-set : (ws : List ℕ) (i v : ℕ) → i < length ws → version ws i ≤ (item_of v).version
+    → highest_of (set ws i v) ≡ max (highest_of ws) (item_of v).version
 highest-set [] i v l h = absurd (omega arith)
 highest-set (w ∷ ws) zero v l h = omega arith
 highest-set (w ∷ ws) (suc i) v l h = omega (arith, highest-set ws i v (omega arith) h)
 
 -- as the program keeps it
-pub highest_stored : (inside old : List ℕ) (high v i r : ℕ) (w : ItemWord) → inside ≡ old → high ≡ highest_of inside → i < length old → (item_of v).version ≡ version old i + 1 → w ≡ item_of v → r ≡ max high w.version → r ≡ highest_of (set inside i v)
+pub highest_stored : (inside old : List ℕ) (high v i r : ℕ) (w : ItemWord) → inside ≡ old → high ≡ highest_of inside → i < length old
+    → (item_of v).version ≡ version old i + 1 → w ≡ item_of v → r ≡ max high w.version → r ≡ highest_of (set inside i v)
 highest_stored inside old high v i r w is e l rise w-is r-is =
     let l' : i < length inside = omega (arith, ap length is) in
     let up : version inside i ≤ (item_of v).version = omega (arith, rise, ap (λ us. version us i) is) in
     r-is ∙ (omega (arith, e, ap (λ z. z.version) w-is, highest-set inside i v l' up))
 
-pub room_stored : (buffer ws : List Write) (count room : ℕ) (s : Write) → count ≤ length buffer → take count buffer ≡ ws → length buffer ≡ room → length ws < room → count + 1 ≤ length (set buffer count s)
+pub room_stored : (buffer ws : List Write) (count room : ℕ) (s : Write) → count ≤ length buffer → take count buffer ≡ ws → length buffer ≡ room
+    → length ws < room → count + 1 ≤ length (set buffer count s)
 room_stored buffer ws count room s l e is r = omega (arith, length-set buffer count s, length-take-le count buffer l, ap length e)
 
 -- no version is greater

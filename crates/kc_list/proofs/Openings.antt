@@ -15,45 +15,63 @@ use Rattle.kc_list.specs.Places.{Before, Sound, size_of}
 use Rattle.kc_list.specs.Sheets.{ChangesOnly, version, highest_of}
 use Rattle.kc_list.specs.Tally.{Tallied, opening_count}
 use Rattle.kc_list.specs.Opening.{IsOpening, opening_item, opening_group, opening_groups}
-use Rattle.kc_list.proofs.Spreading.{only-more, member-map, member-at}
+use Rattle.kc_list.proofs.Spreading.{only-more, member-map}
 use Rattle.kc_list.proofs.Splits.{same_version}
 use Rattle.kc_list.proofs.Changes.{not_word, member-words}
 use Rattle.kc_list.proofs.Groupings.{index_of}
 use Rattle.kc_list.proofs.Highest.{highest-all}
+use Rattle.kc_words.specs.declared.layout.TheConstants.{ITEMS, BOTTOM_ROOM, TOP_ROOM}
+use Rattle.kc_list.specs.declared.limits.TheConstants.{OPENING_ITEMS}
+use Rattle.kc_distinct.proofs.Counting.{member-get_or}
 
 -- one item more has its word
-pub item_there : (len i count v b : ℕ) (w : ItemWord) → i < len → count ≡ min (len - (i - i % 32)) 32 → b ≡ (i % 32 + 1) * (524288 / (count + 1)) → w ≡ record { version = v; group = 1 + i / 32; bottom = b } → w ≡ opening_item v len i
+pub item_there : (len i count v b : ℕ) (w : ItemWord) → i < len → count ≡ min (len - (i - i % OPENING_ITEMS)) OPENING_ITEMS
+    → b ≡ (i % OPENING_ITEMS + 1) * (BOTTOM_ROOM / (count + 1)) → w ≡ record { version = v; group = 1 + i / OPENING_ITEMS; bottom = b }
+    → w ≡ opening_item v len i
 item_there len i count v b w l c-is b-is w-is =
-    let same : count ≡ opening_count len (1 + i / 32) = c-is ∙ omega arith in
-    w-is ∙ ap (λ z. record { version = v; group = 1 + i / 32; bottom = z }) (b-is ∙ ap (λ z. (i % 32 + 1) * (524288 / (z + 1))) same)
+    let same : count ≡ opening_count len (1 + i / OPENING_ITEMS) = c-is ∙ omega arith in
+    w-is ∙ ap (λ z. record { version = v; group = 1 + i / OPENING_ITEMS; bottom = z }) (b-is ∙ ap (λ z. (i % OPENING_ITEMS + 1) * (BOTTOM_ROOM / (z + 1))) same)
 
-pub placed_step : (order start ws : List ℕ) (v i w : ℕ) → Distinct order → i < length order → 1 + get_or order i 0 < length ws → item_of w ≡ opening_item v (length order) i → ((k : ℕ) → k < i → item_of (get_or ws (1 + get_or order k 0) 0) ≡ opening_item v (length order) k) → ChangesOnly (map (λ x. 1 + x) order) start ws
-    → ((k : ℕ) → k < i + 1 → item_of (get_or (set ws (1 + get_or order i 0) w) (1 + get_or order k 0) 0) ≡ opening_item v (length order) k) × ChangesOnly (map (λ x. 1 + x) order) start (set ws (1 + get_or order i 0) w)
+pub placed_step : (order start ws : List ℕ) (v i w : ℕ) → Distinct order → i < length order → 1 + get_or order i 0 < length ws
+    → item_of w ≡ opening_item v (length order) i → ((k : ℕ) → k < i → item_of (get_or ws (1 + get_or order k 0) 0) ≡ opening_item v (length order) k)
+    → ChangesOnly (map (λ x. 1 + x) order) start ws
+    → ((k : ℕ) → k < i + 1 → item_of (get_or (set ws (1 + get_or order i 0) w) (1 + get_or order k 0) 0) ≡ opening_item v (length order) k) × ChangesOnly
+    (map (λ x. 1 + x) order) start (set ws (1 + get_or order i 0) w)
 placed_step order start ws v i w d l in-ws is before only = (
   λ k k-i. elim (cases_eq k i) [
-    | inl e ↦ ap (λ z. item_of (get_or (set ws (1 + get_or order i 0) w) (1 + get_or order z 0) 0)) e ∙ (ap item_of (get_or-set_same ws (1 + get_or order i 0) w 0 in-ws) ∙ (is ∙ ap (opening_item v (length order)) (sym e)))
+    | inl e ↦ ap (λ z. item_of (get_or (set ws (1 + get_or order i 0) w) (1 + get_or order z 0) 0)) e
+        ∙ (ap item_of (get_or-set_same ws (1 + get_or order i 0) w 0 in-ws) ∙ (is ∙ ap (opening_item v (length order)) (sym e)))
     | inr ne ↦
         let k-less : k < i = omega arith in
         let apart : 1 + get_or order k 0 ≢ 1 + get_or order i 0 = λ e. Distinct-at order k i d k-less l (omega arith) in
         ap item_of (get_or-set_other ws (1 + get_or order i 0) (1 + get_or order k 0) w 0 apart) ∙ before k k-less
   ],
-  only-more (map (λ x. 1 + x) order) start ws (set ws (1 + get_or order i 0) w) (1 + get_or order i 0) w only (member-map (λ x. 1 + x) order (get_or order i 0) (member-at order i l)) refl,
+  only-more (map (λ x. 1 + x) order) start ws (set ws (1 + get_or order i 0) w) (1 + get_or order i 0) w only
+      (member-map (λ x. 1 + x) order (get_or order i 0) (member-get_or order i 0 l)) refl,
 )
 
 -- all words
-pub opening_from : (n v : ℕ) (order start mid ws : List ℕ) → Distinct order → ((x : ℕ) → member x order ≡ true → x < n) → length start ≡ n + n + 2 → get_or start 0 0 ≡ 0 → ((w : ℕ) → 0 < w → w < n + n + 2 → item_of (get_or start w 0) ≡ record { version = v; group = 0; bottom = 0 })
-    → ((i : ℕ) → i < length order → item_of (get_or mid (1 + get_or order i 0) 0) ≡ opening_item v (length order) i) → ChangesOnly (map (λ x. 1 + x) order) start mid
-    → length ws ≡ n + n + 2 → ((j : ℕ) → j < opening_groups (length order) → group_of (get_or ws (n + (1 + j)) 0) ≡ opening_group v (length order) j) → ((w : ℕ) → (w ≤ n) ⊎ (n + opening_groups (length order) < w) → get_or ws w 0 ≡ get_or mid w 0) → IsOpening n v order ws
+pub opening_from : (n v : ℕ) (order start mid ws : List ℕ) → Distinct order → ((x : ℕ) → member x order ≡ true → x < n) → length start ≡ n + n + 2
+    → get_or start 0 0 ≡ 0 → ((w : ℕ) → 0 < w → w < n + n + 2 → item_of (get_or start w 0) ≡ record { version = v; group = 0; bottom = 0 })
+    → ((i : ℕ) → i < length order → item_of (get_or mid (1 + get_or order i 0) 0) ≡ opening_item v (length order) i)
+    → ChangesOnly (map (λ x. 1 + x) order) start mid
+    → length ws ≡ n + n + 2 → ((j : ℕ) → j < opening_groups (length order) → group_of (get_or ws (n + (1 + j)) 0) ≡ opening_group v (length order) j)
+    → ((w : ℕ) → (w ≤ n) ⊎ (n + opening_groups (length order) < w) → get_or ws w 0 ≡ get_or mid w 0) → IsOpening n v order ws
 opening_from n v order start mid ws d within s-len s-note s-blank placed only w-len tops w-only =
-    let not_high : (w : ℕ) → n < w → member w (map (λ x. 1 + x) order) ≡ false = λ w l. false_from_ne_true (member w (map (λ x. 1 + x) order)) (λ m. let r = member-words w order m in let b = within r.0 r.2 in absurd (omega (arith, r.1, b))) in
-    let zero_out : member 0 (map (λ x. 1 + x) order) ≡ false = false_from_ne_true (member 0 (map (λ x. 1 + x) order)) (λ m. let r = member-words 0 order m in absurd (omega (arith, r.1))) in
+    let not_high : (w : ℕ) → n < w → member w (map (λ x. 1 + x) order) ≡ false =
+    λ w l. false_from_ne_true (member w (map (λ x. 1 + x) order)) (λ m. let r = member-words w order m in let b = within r.0 r.2 in
+    absurd (omega (arith, r.1, b))) in
+    let zero_out : member 0 (map (λ x. 1 + x) order) ≡ false =
+    false_from_ne_true (member 0 (map (λ x. 1 + x) order)) (λ m. let r = member-words 0 order m in absurd (omega (arith, r.1))) in
     record {
       size = w-len;
       note = w-only 0 (inl (omega arith)) ∙ (only.same 0 zero_out ∙ s-note);
-      placed = λ i l. let b = within (get_or order i 0) (member-at order i l) in ap item_of (w-only (1 + get_or order i 0) (inl (omega (arith, b)))) ∙ placed i l;
+      placed = λ i l. let b = within (get_or order i 0) (member-get_or order i 0 l) in ap item_of (w-only (1 + get_or order i 0) (inl (omega (arith, b))))
+          ∙ placed i l;
       out = λ x l o. ap item_of (w-only (1 + x) (inl (omega arith)) ∙ only.same (1 + x) (not_word x order o)) ∙ s-blank (1 + x) (omega arith) (omega arith);
       tops = tops;
-      unused = λ g low high. ap (λ z. (item_of z).version) (w-only (n + g) (inr (omega arith)) ∙ only.same (n + g) (not_high (n + g) (omega arith))) ∙ ap (λ z. z.version) (s-blank (n + g) (omega arith) (omega arith));
+      unused = λ g low high. ap (λ z. (item_of z).version) (w-only (n + g) (inr (omega arith)) ∙ only.same (n + g) (not_high (n + g) (omega arith)))
+          ∙ ap (λ z. z.version) (s-blank (n + g) (omega arith) (omega arith));
     }
 
 -- in order, by places
@@ -63,13 +81,18 @@ InOrder-at R (x ∷ xs) f = follow x xs f
   where
     follow : (y : ℕ) (ys : List ℕ) → ((i : ℕ) → i + 1 < length (y ∷ ys) → R (get_or (y ∷ ys) i 0) (get_or (y ∷ ys) (i + 1) 0)) → Follows R y ys
     follow y [] g = tt
-    follow y (z ∷ zs) g = (g 0 (omega arith), follow z zs (λ i l. let s : suc i + 1 ≡ suc (i + 1) = omega arith in subst (λ k. R (get_or (z ∷ zs) i 0) (get_or (y ∷ z ∷ zs) k 0)) s (g (suc i) (omega arith))))
+    follow y (z ∷ zs) g = (
+      g 0 (omega arith),
+      follow z zs (λ i l. let s : suc i + 1 ≡ suc (i + 1) = omega arith in
+          subst (λ k. R (get_or (z ∷ zs) i 0) (get_or (y ∷ z ∷ zs) k 0)) s (g (suc i) (omega arith))),
+    )
 
 -- what the words say of the items and groups
 pub record Reads (n len : ℕ) (order ws : List ℕ) : Type 0 where
-  pub group : (i : ℕ) → i < len → (labels n ws).group (get_or order i 0) ≡ 1 + i / 32
-  pub bottom : (i : ℕ) → i < len → (labels n ws).bottom (get_or order i 0) ≡ (i % 32 + 1) * (524288 / (opening_count len (1 + i / 32) + 1))
-  pub top : (j : ℕ) → j < opening_groups len → (labels n ws).top (1 + j) ≡ (j + 1) * (1099511627776 / (opening_groups len + 1))
+  pub group : (i : ℕ) → i < len → (labels n ws).group (get_or order i 0) ≡ 1 + i / OPENING_ITEMS
+  pub bottom : (i : ℕ) → i < len
+      → (labels n ws).bottom (get_or order i 0) ≡ (i % OPENING_ITEMS + 1) * (BOTTOM_ROOM / (opening_count len (1 + i / OPENING_ITEMS) + 1))
+  pub top : (j : ℕ) → j < opening_groups len → (labels n ws).top (1 + j) ≡ (j + 1) * (TOP_ROOM / (opening_groups len + 1))
 
 reads : (n v : ℕ) (order ws : List ℕ) → IsOpening n v order ws → Reads n (length order) order ws
 reads n v order ws o = record {
@@ -92,72 +115,102 @@ step_some c room l = (le-div 1 room (c + 1) (omega arith) (omega arith), let e =
 first_product : (a s : ℕ) → 1 ≤ s → 1 ≤ (a + 1) * s
 first_product a s l = omega (arith, next_product a s)
 
-pub opened_sound : (n v : ℕ) (order ws : List ℕ) → n ≤ 2097150 → Distinct order → ((x : ℕ) → member x order ≡ true → x < n) → IsOpening n v order ws → Sound n ws order
+pub opened_sound : (n v : ℕ) (order ws : List ℕ) → n ≤ ITEMS → Distinct order → ((x : ℕ) → member x order ≡ true → x < n) → IsOpening n v order ws
+    → Sound n ws order
 opened_sound n v order ws small d within o =
     let a = labels n ws in
     let r = reads n v order ws o in
     let len = length order in
     let few : length order ≤ n = below_bound n order d within in
     let k = opening_groups (length order) in
-    let S = step_some (opening_groups (length order)) 1099511627776 (omega arith) in
+    let S = step_some (opening_groups (length order)) TOP_ROOM (omega arith) in
     record {
       size = o.size;
       distinct = d;
       order = InOrder-at (Before (labels n ws)) order (λ i l.
           let l0 : i < length order = omega arith in
-          elim (cases_eq (i % 32) 31) [
+          elim (cases_eq (i % OPENING_ITEMS) (OPENING_ITEMS - 1)) [
             | inr inner ↦
-                let same : (i + 1) / 32 ≡ i / 32 = omega arith in
-                let more : (i + 1) % 32 ≡ i % 32 + 1 = omega arith in
-                let c = opening_count (length order) (1 + i / 32) in
-                let s = step_some (opening_count (length order) (1 + i / 32)) 524288 (omega arith) in
-                let next : (labels n ws).bottom (get_or order (i + 1) 0) ≡ (i % 32 + 1 + 1) * (524288 / (opening_count (length order) (1 + i / 32) + 1)) = r.bottom (i + 1) l ∙ (ap (λ z. ((i + 1) % 32 + 1) * (524288 / (opening_count (length order) (1 + z) + 1))) same ∙ ap (λ z. (z + 1) * (524288 / (opening_count (length order) (1 + i / 32) + 1))) more) in
-                inl (r.group i l0 ∙ (ap (λ z. 1 + z) (sym same) ∙ sym (r.group (i + 1) l)), omega (arith, r.bottom i l0, next, next_product (i % 32 + 1) (524288 / (opening_count (length order) (1 + i / 32) + 1)), s.0))
+                let same : (i + 1) / OPENING_ITEMS ≡ i / OPENING_ITEMS = omega arith in
+                let more : (i + 1) % OPENING_ITEMS ≡ i % OPENING_ITEMS + 1 = omega arith in
+                let c = opening_count (length order) (1 + i / OPENING_ITEMS) in
+                let s = step_some (opening_count (length order) (1 + i / OPENING_ITEMS)) BOTTOM_ROOM (omega arith) in
+                let next : (labels n ws).bottom (get_or order (i + 1) 0) ≡ (i % OPENING_ITEMS + 1 + 1) *
+                (BOTTOM_ROOM / (opening_count (length order) (1 + i / OPENING_ITEMS) + 1)) = r.bottom (i + 1) l
+                ∙ (ap (λ z. ((i + 1) % OPENING_ITEMS + 1) * (BOTTOM_ROOM / (opening_count (length order) (1 + z) + 1))) same
+                ∙ ap (λ z. (z + 1) * (BOTTOM_ROOM / (opening_count (length order) (1 + i / OPENING_ITEMS) + 1))) more) in
+                inl (
+                  r.group i l0 ∙ (ap (λ z. 1 + z) (sym same) ∙ sym (r.group (i + 1) l)),
+                  omega (
+                    arith,
+                    r.bottom i l0,
+                    next,
+                    next_product (i % OPENING_ITEMS + 1) (BOTTOM_ROOM / (opening_count (length order) (1 + i / OPENING_ITEMS) + 1)),
+                    s.0,
+                  ),
+                )
             | inl last ↦
-                let more : (i + 1) / 32 ≡ i / 32 + 1 = omega arith in
-                let here : (labels n ws).top ((labels n ws).group (get_or order i 0)) ≡ (i / 32 + 1) * (1099511627776 / (opening_groups (length order) + 1)) = ap (labels n ws).top (r.group i l0) ∙ r.top (i / 32) (omega arith) in
-                let there : (labels n ws).top ((labels n ws).group (get_or order (i + 1) 0)) ≡ (i / 32 + 1 + 1) * (1099511627776 / (opening_groups (length order) + 1)) = ap (labels n ws).top (r.group (i + 1) l) ∙ (r.top ((i + 1) / 32) (omega arith) ∙ ap (λ z. (z + 1) * (1099511627776 / (opening_groups (length order) + 1))) more) in
-                inr (omega (arith, here, there, next_product (i / 32 + 1) (1099511627776 / (opening_groups (length order) + 1)), S.0))
+                let more : (i + 1) / OPENING_ITEMS ≡ i / OPENING_ITEMS + 1 = omega arith in
+                let here : (labels n ws).top ((labels n ws).group (get_or order i 0)) ≡ (i / OPENING_ITEMS + 1) *
+                (TOP_ROOM / (opening_groups (length order) + 1)) = ap (labels n ws).top (r.group i l0) ∙ r.top (i / OPENING_ITEMS) (omega arith) in
+                let there : (labels n ws).top ((labels n ws).group (get_or order (i + 1) 0)) ≡ (i / OPENING_ITEMS + 1 + 1) *
+                (TOP_ROOM / (opening_groups (length order) + 1)) = ap (labels n ws).top (r.group (i + 1) l)
+                ∙ (r.top ((i + 1) / OPENING_ITEMS) (omega arith) ∙ ap (λ z. (z + 1) * (TOP_ROOM / (opening_groups (length order) + 1))) more) in
+                inr (omega (arith, here, there, next_product (i / OPENING_ITEMS + 1) (TOP_ROOM / (opening_groups (length order) + 1)), S.0))
           ]);
       inside = λ x m.
           let at = index_of x order m in
           let i = at.0 in
           let l : at.0 < length order = at.1 in
-          let c = opening_count (length order) (1 + at.0 / 32) in
-          let s = step_some (opening_count (length order) (1 + at.0 / 32)) 524288 (omega arith) in
-          let group-is : (labels n ws).group x ≡ 1 + at.0 / 32 = ap (labels n ws).group (sym at.2) ∙ r.group at.0 at.1 in
-          let bottom-is : (labels n ws).bottom x ≡ (at.0 % 32 + 1) * (524288 / (opening_count (length order) (1 + at.0 / 32) + 1)) = ap (labels n ws).bottom (sym at.2) ∙ r.bottom at.0 at.1 in
-          let top-is : (labels n ws).top ((labels n ws).group x) ≡ (at.0 / 32 + 1) * (1099511627776 / (opening_groups (length order) + 1)) = ap (labels n ws).top group-is ∙ r.top (at.0 / 32) (omega arith) in
-          let in-group : at.0 % 32 + 1 ≤ opening_count (length order) (1 + at.0 / 32) = omega arith in
+          let c = opening_count (length order) (1 + at.0 / OPENING_ITEMS) in
+          let s = step_some (opening_count (length order) (1 + at.0 / OPENING_ITEMS)) BOTTOM_ROOM (omega arith) in
+          let group-is : (labels n ws).group x ≡ 1 + at.0 / OPENING_ITEMS = ap (labels n ws).group (sym at.2) ∙ r.group at.0 at.1 in
+          let bottom-is : (labels n ws).bottom x ≡ (at.0 % OPENING_ITEMS + 1) * (BOTTOM_ROOM / (opening_count (length order) (1 + at.0 / OPENING_ITEMS) + 1))
+          = ap (labels n ws).bottom (sym at.2) ∙ r.bottom at.0 at.1 in
+          let top-is : (labels n ws).top ((labels n ws).group x) ≡ (at.0 / OPENING_ITEMS + 1) * (TOP_ROOM / (opening_groups (length order) + 1)) =
+          ap (labels n ws).top group-is ∙ r.top (at.0 / OPENING_ITEMS) (omega arith) in
+          let in-group : at.0 % OPENING_ITEMS + 1 ≤ opening_count (length order) (1 + at.0 / OPENING_ITEMS) = omega arith in
           record {
             below = within x m;
             group_low = omega (arith, group-is);
             group_high = omega (arith, group-is, few);
-            bottom_low = omega (arith, bottom-is, first_product (at.0 % 32) (524288 / (opening_count (length order) (1 + at.0 / 32) + 1)) s.0);
-            bottom_high = omega (arith, bottom-is, below_end (at.0 % 32 + 1) (opening_count (length order) (1 + at.0 / 32)) 524288 in-group s.0 s.1);
-            top_low = omega (arith, top-is, first_product (at.0 / 32) (1099511627776 / (opening_groups (length order) + 1)) S.0);
-            top_high = omega (arith, top-is, below_end (at.0 / 32 + 1) (opening_groups (length order)) 1099511627776 (omega arith) S.0 S.1);
+            bottom_low = omega (
+              arith,
+              bottom-is,
+              first_product (at.0 % OPENING_ITEMS) (BOTTOM_ROOM / (opening_count (length order) (1 + at.0 / OPENING_ITEMS) + 1)) s.0,
+            );
+            bottom_high = omega (
+              arith,
+              bottom-is,
+              below_end (at.0 % OPENING_ITEMS + 1) (opening_count (length order) (1 + at.0 / OPENING_ITEMS)) BOTTOM_ROOM
+                  in-group s.0 s.1,
+            );
+            top_low = omega (arith, top-is, first_product (at.0 / OPENING_ITEMS) (TOP_ROOM / (opening_groups (length order) + 1)) S.0);
+            top_high = omega (arith, top-is, below_end (at.0 / OPENING_ITEMS + 1) (opening_groups (length order)) TOP_ROOM (omega arith) S.0 S.1);
           };
       outside = λ x l out. ap (λ z. z.group) (o.out x l out);
     }
 
 -- how many items of a list are in each group
-size-opened : (f : ℕ → ℕ) (g s : ℕ) (xs : List ℕ) → 0 < g → ((k : ℕ) → k < length xs → f (get_or xs k 0) ≡ 1 + (s + k) / 32) → size_of f g xs + min 32 (s - 32 * (g - 1)) ≡ min 32 (s + length xs - 32 * (g - 1))
+size-opened : (f : ℕ → ℕ) (g s : ℕ) (xs : List ℕ) → 0 < g → ((k : ℕ) → k < length xs → f (get_or xs k 0) ≡ 1 + (s + k) / OPENING_ITEMS)
+    → size_of f g xs + min OPENING_ITEMS (s - OPENING_ITEMS * (g - 1)) ≡ min OPENING_ITEMS (s + length xs - OPENING_ITEMS * (g - 1))
 size-opened f g s [] low h = omega arith
 size-opened f g s (x ∷ xs) low h =
     let rest = size-opened f g (s + 1) xs low (λ k l. h (suc k) (omega arith) ∙ omega arith) in
-    let here : f x ≡ 1 + s / 32 = h 0 (omega arith) ∙ omega arith in
+    let here : f x ≡ 1 + s / OPENING_ITEMS = h 0 (omega arith) ∙ omega arith in
     elim (cases_eq (f x) g) [
       | inl e ↦ rw (eq-eqb (f x) g e) (omega (arith, rest, here, e))
-      | inr ne ↦ rw (ne_eqb (f x) g ne) (let other : g ≢ 1 + s / 32 = λ q. ne (here ∙ sym q) in omega (arith, rest))
+      | inr ne ↦ rw (ne_eqb (f x) g ne) (let other : g ≢ 1 + s / OPENING_ITEMS = λ q. ne (here ∙ sym q) in omega (arith, rest))
     ]
 
-pub opened_tallied : (n v : ℕ) (order ws sizes : List ℕ) → Distinct order → ((x : ℕ) → member x order ≡ true → x < n) → IsOpening n v order ws → length sizes ≡ n + 2 → get_or sizes 0 0 ≡ 0 → ((g : ℕ) → 0 < g → g ≤ n + 1 → get_or sizes g 0 ≡ opening_count (length order) g) → Tallied n ws order sizes
+pub opened_tallied : (n v : ℕ) (order ws sizes : List ℕ) → Distinct order → ((x : ℕ) → member x order ≡ true → x < n) → IsOpening n v order ws
+    → length sizes ≡ n + 2 → get_or sizes 0 0 ≡ 0 → ((g : ℕ) → 0 < g → g ≤ n + 1 → get_or sizes g 0 ≡ opening_count (length order) g) → Tallied n ws order sizes
 opened_tallied n v order ws sizes d within o len zero-is sized =
     let r = reads n v order ws o in
     record {
       length_is = len;
-      counts = λ g low high. sized g low high ∙ sym (let k = size-opened (labels n ws).group g 0 order low (λ i l. r.group i l ∙ omega arith) in omega (arith, k));
+      counts = λ g low high. sized g low high
+          ∙ sym (let k = size-opened (labels n ws).group g 0 order low (λ i l. r.group i l ∙ omega arith) in omega (arith, k));
       most = λ g. elim (cases_eq g 0) [
         | inl z ↦ omega (arith, ap (λ i. get_or sizes i 0) z, zero-is)
         | inr some ↦ elim (cases_lt (n + 1) g) [
@@ -200,7 +253,10 @@ opened_highest n v order ws o =
     ])
 
 -- before any item is placed
-pub blank_facts : (n v : ℕ) (ys : List ℕ) → length ys ≡ n + n + 2 → ((w : ℕ) → w < length ys → item_of (get_or ys w 0) ≡ record { version = v; group = 0; bottom = 0 }) → (length (set ys 0 0) ≡ n + n + 2) × (get_or (set ys 0 0) 0 0 ≡ 0) × ((w : ℕ) → 0 < w → w < n + n + 2 → item_of (get_or (set ys 0 0) w 0) ≡ record { version = v; group = 0; bottom = 0 })
+pub blank_facts : (n v : ℕ) (ys : List ℕ) → length ys ≡ n + n + 2
+    → ((w : ℕ) → w < length ys → item_of (get_or ys w 0) ≡ record { version = v; group = 0; bottom = 0 })
+    → (length (set ys 0 0) ≡ n + n + 2) × (get_or (set ys 0 0) 0 0 ≡ 0) ×
+    ((w : ℕ) → 0 < w → w < n + n + 2 → item_of (get_or (set ys 0 0) w 0) ≡ record { version = v; group = 0; bottom = 0 })
 blank_facts n v ys l e = (
   length-set ys 0 0 ∙ l,
   get_or-set_same ys 0 0 0 (omega arith),

@@ -6,6 +6,7 @@ use Rattle.kc_distinct.specs.Lists.{member, without}
 use Rattle.kc_words.specs.Order.{Labels, PairBelow, Follows, InOrder}
 use Rattle.kc_list.specs.Places.{Before, IfFirst}
 use Rattle.kc_distinct.proofs.Members.{member-head, member-tail, member-append_right}
+use Rattle.kc_words.proofs.Ordering.{InOrder-tail, InOrder-mono}
 
 abbrev pub AtFirst : (ℕ → Type 0) → List ℕ → Type 0
 AtFirst P ys = IfFirst P ys
@@ -24,14 +25,6 @@ Before-then a x y z h k =
       | inl s ↦ elim k [ inl s' ↦ inl (s.0 ∙ s'.0, omega (arith, s.1, s'.1)) | inr t ↦ inr (omega (arith, ap a.top s.0, t)) ]
       | inr t ↦ elim k [ inl s' ↦ inr (omega (arith, ap a.top s'.0, t)) | inr t' ↦ inr (omega (arith, t, t')) ]
     ]
-
-pub Follows-mono : (R S : ℕ → ℕ → Type 0) (x : ℕ) (xs : List ℕ) → ((y z : ℕ) → member y (x ∷ xs) ≡ true → member z (x ∷ xs) ≡ true → R y z → S y z) → Follows R x xs → Follows S x xs
-Follows-mono R S x [] f h = tt
-Follows-mono R S x (y ∷ ys) f h = (f x y (member-head x (y ∷ ys)) (member-tail y x (y ∷ ys) (member-head y ys)) h.0, Follows-mono R S y ys (λ u v p q r. f u v (member-tail u x (y ∷ ys) p) (member-tail v x (y ∷ ys) q) r) h.1)
-
-pub InOrder-mono : (R S : ℕ → ℕ → Type 0) (xs : List ℕ) → ((y z : ℕ) → member y xs ≡ true → member z xs ≡ true → R y z → S y z) → InOrder R xs → InOrder S xs
-InOrder-mono R S [] f h = tt
-InOrder-mono R S (x ∷ xs) f h = Follows-mono R S x xs f h
 
 -- the list in two parts
 pub record Parts (R : ℕ → ℕ → Type 0) (l r : List ℕ) : Type 0 where
@@ -90,7 +83,8 @@ InOrder-without R t x (y ∷ z ∷ zs) h =
     ]
 
 -- what holds of the first, and passes on, holds of the first that stays
-pub AtFirst-without : (R : ℕ → ℕ → Type 0) (P : ℕ → Type 0) → ((y z : ℕ) → P y → R y z → P z) → (x : ℕ) (ys : List ℕ) → InOrder R ys → AtFirst P ys → AtFirst P (without x ys)
+pub AtFirst-without : (R : ℕ → ℕ → Type 0) (P : ℕ → Type 0) → ((y z : ℕ) → P y → R y z → P z) → (x : ℕ) (ys : List ℕ) → InOrder R ys → AtFirst P ys
+    → AtFirst P (without x ys)
 AtFirst-without R P t x [] h p = tt
 AtFirst-without R P t x (y ∷ []) h p = elim (eqb x y) as (λ b. AtFirst P (cond b [] (y ∷ []))) [ true ↦ tt | false ↦ p ]
 AtFirst-without R P t x (y ∷ z ∷ zs) h p =
@@ -113,10 +107,6 @@ AtLast-push P [] x h = h
 AtLast-push P (y ∷ []) x h = h
 AtLast-push P (y ∷ z ∷ xs) x h = AtLast-push P (z ∷ xs) x h
 
-InOrder-tail : (R : ℕ → ℕ → Type 0) (x : ℕ) (xs : List ℕ) → InOrder R (x ∷ xs) → InOrder R xs
-InOrder-tail R x [] h = tt
-InOrder-tail R x (y ∷ xs) h = h.1
-
 -- THE FIRST LEMMA: labels that agree at each item of the list
 pub record Agrees (a b : Labels) (x : ℕ) : Type 0 where
   pub group : b.group x ≡ a.group x
@@ -134,7 +124,8 @@ pub agreed : (a b : Labels) (xs : List ℕ) → ((x : ℕ) → member x xs ≡ t
 agreed a b xs f h = InOrder-mono (Before a) (Before b) xs (λ y z p q r. Before-agrees a b y z (f y p) (f z q) r) h
 
 -- THE SECOND AND THIRD: one item gets another place between its neighbours
-pub replaced : (a b : Labels) (y : ℕ) (l r : List ℕ) → ((x : ℕ) → member x (l ++ r) ≡ true → Agrees a b x) → AtLast (λ x. Before b x y) l → AtFirst (Before b y) r → InOrder (Before a) (l ++ y ∷ r) → InOrder (Before b) (l ++ y ∷ r)
+pub replaced : (a b : Labels) (y : ℕ) (l r : List ℕ) → ((x : ℕ) → member x (l ++ r) ≡ true → Agrees a b x) → AtLast (λ x. Before b x y) l
+    → AtFirst (Before b y) r → InOrder (Before a) (l ++ y ∷ r) → InOrder (Before b) (l ++ y ∷ r)
 replaced a b y l r f p q h = InOrder-put (Before b) y l r (agreed a b (l ++ r) f (InOrder-taken (Before a) (Before-then a) y l r h)) p q
 
 -- the place between p and what follows it is free for label `v` in group `g`
@@ -160,12 +151,15 @@ pub without-around : (x p : ℕ) (l r : List ℕ) → (x ≡ p → ⊥) → with
 without-around x p l r ne = without-append x l (p ∷ r) ∙ ap (λ b. without x l ++ cond b (without x r) (p ∷ without x r)) (ne_eqb x p ne)
 
 -- THE FOURTH: x comes to stand right after p
-pub put_right_after : (a b : Labels) (x p g v : ℕ) (l r : List ℕ) → ((y : ℕ) → member y (without x (l ++ p ∷ r)) ≡ true → Agrees a b y) → (x ≡ p → ⊥) → b.group x ≡ g → b.bottom x ≡ v → b.top g ≡ a.top g → a.group p ≡ g → a.bottom p < v → AtFirst (Beyond a g v) r → InOrder (Before a) (l ++ p ∷ r) → InOrder (Before b) (without x l ++ p ∷ x ∷ without x r)
+pub put_right_after : (a b : Labels) (x p g v : ℕ) (l r : List ℕ) → ((y : ℕ) → member y (without x (l ++ p ∷ r)) ≡ true → Agrees a b y) → (x ≡ p → ⊥)
+    → b.group x ≡ g → b.bottom x ≡ v → b.top g ≡ a.top g → a.group p ≡ g → a.bottom p < v → AtFirst (Beyond a g v) r → InOrder (Before a) (l ++ p ∷ r)
+    → InOrder (Before b) (without x l ++ p ∷ x ∷ without x r)
 put_right_after a b x p g v l r f ne e-g e-v e-t p-g p-v room h =
     let around = without-around x p l r ne in
     let f' : (y : ℕ) → member y (without x l ++ p ∷ without x r) ≡ true → Agrees a b y = λ y m. f y (ap (member y) around ∙ m) in
     let apart = append_assoc (without x l) (p ∷ []) (without x r) in
-    let kept : InOrder (Before b) (without x l ++ p ∷ without x r) = agreed a b (without x l ++ p ∷ without x r) f' (subst (InOrder (Before a)) around (InOrder-without (Before a) (Before-then a) x (l ++ p ∷ r) h)) in
+    let kept : InOrder (Before b) (without x l ++ p ∷ without x r) =
+    agreed a b (without x l ++ p ∷ without x r) f' (subst (InOrder (Before a)) around (InOrder-without (Before a) (Before-then a) x (l ++ p ∷ r) h)) in
     let p-agrees : Agrees a b p = f' p (member-append_right p (without x l) (p ∷ without x r) (member-head p (without x r))) in
     let before : Before b p x = inl (p-agrees.group ∙ (p-g ∙ sym e-g), omega (arith, p-agrees.bottom, p-v, e-v)) in
     let rights : InOrder (Before a) r = InOrder-tail (Before a) p r ((parts (Before a) l (p ∷ r) h).right) in
@@ -177,4 +171,5 @@ put_right_after a b x p g v l r f ne e-g e-v e-t p-g p-v room h =
       | inr t ↦ inr (omega (arith, q-agrees.top, ap b.top e-g, e-t, t))
     ]) room' in
     subst (InOrder (Before b)) (append_assoc (without x l) (p ∷ []) (x ∷ without x r))
-    (InOrder-put (Before b) x (without x l ++ p ∷ []) (without x r) (subst (InOrder (Before b)) (sym apart) kept) (AtLast-push (λ y. Before b y x) (without x l) p before) after)
+    (InOrder-put (Before b) x (without x l ++ p ∷ []) (without x r) (subst (InOrder (Before b)) (sym apart) kept)
+    (AtLast-push (λ y. Before b y x) (without x l) p before) after)

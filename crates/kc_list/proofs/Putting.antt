@@ -9,8 +9,10 @@ use Rattle.kc_distinct.specs.Lists.{member, Distinct, without, right_after, next
 use Rattle.kc_distinct.proofs.Members.{member-head, member-tail, member-append_right, cut, Distinct-cut, right_after-cut, next_of-cut, next_of-in, member-without, without-member, not_member-without, Distinct-without, member-right_after, right_after-member, Distinct-right_after}
 use Rattle.kc_words.specs.Order.{Labels, labels, InOrder, Ordered, PairBelow}
 use Rattle.kc_list.specs.Places.{Before, Placed, Sound, ItemStored, end_at, gap_end}
-use Rattle.kc_list.proofs.Order.{AtFirst, Beyond, Agrees, Before-pairs, InOrder-mono, parts, put_right_after, without-around}
+use Rattle.kc_list.proofs.Order.{AtFirst, Beyond, Agrees, Before-pairs, parts, put_right_after, without-around}
 use Rattle.kc_list.proofs.Stores.{item_stored}
+use Rattle.kc_words.specs.declared.layout.TheConstants.{ITEMS, BOTTOM_ROOM}
+use Rattle.kc_words.proofs.Ordering.{InOrder-mono}
 
 pub ordered_from : (n : ℕ) (ws list : List ℕ) → Sound n ws list → Ordered n ws list
 ordered_from n ws list s = record {
@@ -39,40 +41,58 @@ Placed-agrees n a b x e p = record {
 }
 
 -- what follows p is beyond its gap
-beyond_first : (n : ℕ) (a : Labels) (p v : ℕ) (l r : List ℕ) → ((y : ℕ) → member y (l ++ p ∷ r) ≡ true → Placed n a y) → InOrder (Before a) (l ++ p ∷ r) → v < end_at n a p (head_or n r) → AtFirst (Beyond a (a.group p) v) r
+beyond_first : (n : ℕ) (a : Labels) (p v : ℕ) (l r : List ℕ) → ((y : ℕ) → member y (l ++ p ∷ r) ≡ true → Placed n a y) → InOrder (Before a) (l ++ p ∷ r)
+    → v < end_at n a p (head_or n r) → AtFirst (Beyond a (a.group p) v) r
 beyond_first n a p v l [] f h lt = tt
 beyond_first n a p v l (q ∷ r) f h lt =
-    let q-n : eqb q n ≡ false = ne_eqb q n (let b : q < n = (f q (member-append_right q l (p ∷ q ∷ r) (member-tail q p (q ∷ r) (member-head q r)))).below in omega arith) in
+    let q-n : eqb q n ≡ false = ne_eqb q n (let b : q < n = (f q (member-append_right q l (p ∷ q ∷ r) (member-tail q p (q ∷ r) (member-head q r)))).below in
+    omega arith) in
     let step : Before a p q = ((parts (Before a) l (p ∷ q ∷ r) h).right).0 in
     elim (cases_Bool (eqb (a.group q) (a.group p))) [
       | inl t ↦ inl (eqb-true (a.group q) (a.group p) t, rw (q-n, t) at lt)
       | inr f' ↦ elim step [ inl s ↦ absurd (eqb-false (a.group q) (a.group p) f' (sym s.0)) | inr t ↦ inr t ]
     ]
 
-pub gap_below : (n : ℕ) (a : Labels) (p q : ℕ) → ((q ≡ n → ⊥) → a.bottom q < 524288) → end_at n a p q ≤ 524288
+pub gap_below : (n : ℕ) (a : Labels) (p q : ℕ) → ((q ≡ n → ⊥) → a.bottom q < BOTTOM_ROOM) → end_at n a p q ≤ BOTTOM_ROOM
 gap_below n a p q f =
     elim (cases_Bool (eqb q n)) [
       | inl t ↦ rw t (omega arith)
-      | inr t ↦ rw t (elim (eqb (a.group q) (a.group p)) as (λ b. cond b (a.bottom q) 524288 ≤ 524288) [ true ↦ omega (arith, f (eqb-false q n t)) | false ↦ omega arith ])
+      | inr t ↦ rw t (elim (eqb (a.group q) (a.group p)) as (λ b. cond b (a.bottom q) BOTTOM_ROOM ≤ BOTTOM_ROOM)
+          [ true ↦ omega (arith, f (eqb-false q n t)) | false ↦ omega arith ])
     ]
 
-pub put_sound : (n : ℕ) (ws list : List ℕ) (x p label v : ℕ) (w : ItemWord) → Sound n ws list → member p list ≡ true → x < n → (x ≡ p → ⊥) → (labels n ws).bottom p < label → label < gap_end n ws list p → item_of v ≡ w → w.group ≡ (labels n ws).group p → w.bottom ≡ label → Sound n (set ws (1 + x) v) (right_after x p (without x list))
+pub put_sound : (n : ℕ) (ws list : List ℕ) (x p label v : ℕ) (w : ItemWord) → Sound n ws list → member p list ≡ true → x < n → (x ≡ p → ⊥)
+    → (labels n ws).bottom p < label → label < gap_end n ws list p → item_of v ≡ w → w.group ≡ (labels n ws).group p → w.bottom ≡ label
+    → Sound n (set ws (1 + x) v) (right_after x p (without x list))
 put_sound n ws list x p label v w s p-in below ne low high is w-g w-b =
     let a = labels n ws in
     let b = labels n (set ws (1 + x) v) in
     let st : ItemStored a b n x w.group w.bottom = item_stored n ws x v w below s.size is in
     let c = cut p list p-in in
-    let agrees : (y : ℕ) → member y (without x list) ≡ true → Agrees a b y = λ y m. let k = member-without y x list m in item_agrees a b n x w.group w.bottom y st k.1 (s.inside y k.0).group_low in
+    let agrees : (y : ℕ) → member y (without x list) ≡ true → Agrees a b y = λ y m. let k = member-without y x list m in
+    item_agrees a b n x w.group w.bottom y st k.1 (s.inside y k.0).group_low in
     let p-apart = Distinct-cut p c.front c.back (subst Distinct c.is s.distinct) in
     let next : next_of n p list ≡ head_or n c.back = ap (next_of n p) c.is ∙ next_of-cut n p c.front c.back p-apart.0 in
-    let room : AtFirst (Beyond a (a.group p) label) c.back = beyond_first n a p label c.front c.back (λ y m. s.inside y (ap (member y) c.is ∙ m)) (subst (InOrder (Before a)) c.is s.order) (subst (λ q. label < end_at n a p q) next high) in
+    let room : AtFirst (Beyond a (a.group p) label) c.back =
+    beyond_first n a p label c.front c.back (λ y m. s.inside y (ap (member y) c.is ∙ m)) (subst (InOrder (Before a)) c.is s.order)
+    (subst (λ q. label < end_at n a p q) next high) in
     let p-placed : Placed n a p = s.inside p p-in in
     let top-same : b.top (a.group p) ≡ a.top (a.group p) = st.tops (a.group p) p-placed.group_low in
-    let moved : InOrder (Before b) (without x c.front ++ p ∷ x ∷ without x c.back) = put_right_after a b x p (a.group p) label c.front c.back (λ y m. agrees y (ap (λ zs. member y (without x zs)) c.is ∙ m)) ne (st.group ∙ w-g) (st.bottom ∙ w-b) top-same refl low room (subst (InOrder (Before a)) c.is s.order) in
-    let p-front : member p (without x c.front) ≡ false = false_from_ne_true (member p (without x c.front)) (λ m. true≢false (sym (member-without p x c.front m).0 ∙ p-apart.0)) in
-    let new : right_after x p (without x list) ≡ without x c.front ++ p ∷ x ∷ without x c.back = ap (λ zs. right_after x p (without x zs)) c.is ∙ (ap (right_after x p) (without-around x p c.front c.back ne) ∙ right_after-cut x p (without x c.front) (without x c.back) p-front) in
+    let moved : InOrder (Before b) (without x c.front ++ p ∷ x ∷ without x c.back) =
+    put_right_after a b x p (a.group p) label c.front c.back (λ y m. agrees y (ap (λ zs. member y (without x zs)) c.is ∙ m)) ne (st.group ∙ w-g)
+    (st.bottom ∙ w-b) top-same refl low room (subst (InOrder (Before a)) c.is s.order) in
+    let p-front : member p (without x c.front) ≡ false =
+    false_from_ne_true (member p (without x c.front)) (λ m. true≢false (sym (member-without p x c.front m).0 ∙ p-apart.0)) in
+    let new : right_after x p (without x list) ≡ without x c.front ++ p ∷ x ∷ without x c.back = ap (λ zs. right_after x p (without x zs)) c.is
+    ∙ (ap (right_after x p) (without-around x p c.front c.back ne) ∙ right_after-cut x p (without x c.front) (without x c.back) p-front) in
     let p-still : member p (without x list) ≡ true = without-member p x list p-in (λ e. ne (sym e)) in
-    let label-high : label < 524288 = omega (arith, high, gap_below n a p (next_of n p list) (λ out. elim (next_of-in n p list) [ inl e ↦ absurd (out e) | inr m ↦ (s.inside (next_of n p list) m).bottom_high ])) in
+    let label-high : label < BOTTOM_ROOM =
+    omega (
+      arith,
+      high,
+      gap_below n a p (next_of n p list)
+          (λ out. elim (next_of-in n p list) [ inl e ↦ absurd (out e) | inr m ↦ (s.inside (next_of n p list) m).bottom_high ]),
+    ) in
     record {
       size = length-set ws (1 + x) v ∙ s.size;
       distinct = Distinct-right_after x p (without x list) (Distinct-without x list s.distinct) (not_member-without x list);
@@ -91,7 +111,9 @@ put_sound n ws list x p label v w s p-in below ne low high is w-g w-b =
       ];
       outside = λ y y-n m.
           let y-x : y ≡ x → ⊥ = λ e. true≢false (sym (right_after-member y x p (without x list) p-still (inl e)) ∙ m) in
-          let y-out : member y list ≡ false = false_from_ne_true (member y list) (λ k. true≢false (sym (right_after-member y x p (without x list) p-still (inr (without-member y x list k y-x))) ∙ m)) in
+          let y-out : member y list ≡ false =
+          false_from_ne_true (member y list)
+          (λ k. true≢false (sym (right_after-member y x p (without x list) p-still (inr (without-member y x list k y-x))) ∙ m)) in
           st.groups y y-x ∙ s.outside y y-n y-out;
     }
 
@@ -104,9 +126,16 @@ in_by_group n ws list x s l =
     ]
 
 -- as the program stores it
-pub put_stored : (n : ℕ) (ws list : List ℕ) (x p label : ℕ) (w : ItemWord) → Sound n ws list → n ≤ 2097150 → member p list ≡ true → x < n → (x ≡ p → ⊥) → (labels n ws).bottom p < label → label < gap_end n ws list p → w.version < 2 ^ 24 → w.group ≡ (labels n ws).group p → w.bottom ≡ label → FitsItem w × Sound n (set ws (1 + x) (item_word w)) (right_after x p (without x list)) × (item_of (get_or (set ws (1 + x) (item_word w)) (1 + x) 0) ≡ w)
+pub put_stored : (n : ℕ) (ws list : List ℕ) (x p label : ℕ) (w : ItemWord) → Sound n ws list → n ≤ ITEMS → member p list ≡ true → x < n → (x ≡ p → ⊥)
+    → (labels n ws).bottom p < label → label < gap_end n ws list p → w.version < 2 ^ 24 → w.group ≡ (labels n ws).group p → w.bottom ≡ label
+    → FitsItem w × Sound n (set ws (1 + x) (item_word w)) (right_after x p (without x list)) × (item_of (get_or (set ws (1 + x) (item_word w)) (1 + x) 0) ≡ w)
 put_stored n ws list x p label w s small p-in below ne low high v-fits w-g w-b =
     let g-high : (labels n ws).group p ≤ n + 1 = (s.inside p p-in).group_high in
-    let l-high : gap_end n ws list p ≤ 524288 = gap_below n (labels n ws) p (next_of n p list) (λ out. elim (next_of-in n p list) [ inl e ↦ absurd (out e) | inr m ↦ (s.inside (next_of n p list) m).bottom_high ]) in
-    let fits : FitsItem w = (v-fits, omega arith, omega arith) in
-    (fits, put_sound n ws list x p label (item_word w) w s p-in below ne low high (item_of-item_word w fits) w-g w-b, ap item_of (get_or-set_same ws (1 + x) (item_word w) 0 (omega (arith, s.size))) ∙ item_of-item_word w fits)
+    let l-high : gap_end n ws list p ≤ BOTTOM_ROOM =
+    gap_below n (labels n ws) p (next_of n p list)
+    (λ out. elim (next_of-in n p list) [ inl e ↦ absurd (out e) | inr m ↦ (s.inside (next_of n p list) m).bottom_high ]) in
+    let fits : FitsItem w = (v-fits, omega arith, omega arith) in (
+      fits,
+      put_sound n ws list x p label (item_word w) w s p-in below ne low high (item_of-item_word w fits) w-g w-b,
+      ap item_of (get_or-set_same ws (1 + x) (item_word w) 0 (omega (arith, s.size))) ∙ item_of-item_word w fits,
+    )

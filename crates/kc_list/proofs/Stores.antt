@@ -8,7 +8,8 @@ use Rattle.kc_words.specs.declared.group.GroupWord.{GroupWord}
 use Rattle.kc_words.specs.Order.{labels}
 use Rattle.kc_list.specs.Places.{ItemStored, GroupStored}
 
-pub item_stored : (n : ℕ) (ws : List ℕ) (y v : ℕ) (w : ItemWord) → y < n → length ws ≡ n + n + 2 → item_of v ≡ w → ItemStored (labels n ws) (labels n (set ws (1 + y) v)) n y w.group w.bottom
+pub item_stored : (n : ℕ) (ws : List ℕ) (y v : ℕ) (w : ItemWord) → y < n → length ws ≡ n + n + 2 → item_of v ≡ w
+    → ItemStored (labels n ws) (labels n (set ws (1 + y) v)) n y w.group w.bottom
 item_stored n ws y v w l e is =
     let same : get_or (set ws (1 + y) v) (1 + y) 0 ≡ v = get_or-set_same ws (1 + y) v 0 (omega arith) in
     let word : item_of (get_or (set ws (1 + y) v) (1 + y) 0) ≡ w = ap item_of same ∙ is in
@@ -20,7 +21,8 @@ item_stored n ws y v w l e is =
       tops = λ h low. let d : n + h ≢ 1 + y = omega arith in ap (λ z. (group_of z).top) (get_or-set_other ws (1 + y) (n + h) v 0 d);
     }
 
-pub group_stored : (n : ℕ) (ws : List ℕ) (g v : ℕ) (w : GroupWord) → 0 < g → g ≤ n + 1 → length ws ≡ n + n + 2 → group_of v ≡ w → GroupStored (labels n ws) (labels n (set ws (n + g) v)) n g w.top
+pub group_stored : (n : ℕ) (ws : List ℕ) (g v : ℕ) (w : GroupWord) → 0 < g → g ≤ n + 1 → length ws ≡ n + n + 2 → group_of v ≡ w
+    → GroupStored (labels n ws) (labels n (set ws (n + g) v)) n g w.top
 group_stored n ws g v w low high e is =
     let same : get_or (set ws (n + g) v) (n + g) 0 ≡ v = get_or-set_same ws (n + g) v 0 (omega arith) in
     record {

@@ -15,12 +15,14 @@ use Rattle.kc_list.proofs.Stores.{item_stored}
 use Rattle.kc_list.proofs.Putting.{item_agrees, Placed-agrees}
 use Rattle.kc_list.proofs.Counts.{size-without, size-right_after, size-agree}
 
-pub take_sound : (n : ℕ) (ws list : List ℕ) (x v : ℕ) (w : ItemWord) → Sound n ws list → member x list ≡ true → item_of v ≡ w → w.group ≡ 0 → Sound n (set ws (1 + x) v) (without x list)
+pub take_sound : (n : ℕ) (ws list : List ℕ) (x v : ℕ) (w : ItemWord) → Sound n ws list → member x list ≡ true → item_of v ≡ w → w.group ≡ 0
+    → Sound n (set ws (1 + x) v) (without x list)
 take_sound n ws list x v w s x-in is out =
     let a = labels n ws in
     let b = labels n (set ws (1 + x) v) in
     let st : ItemStored a b n x w.group w.bottom = item_stored n ws x v w (s.inside x x-in).below s.size is in
-    let agrees : (y : ℕ) → member y (without x list) ≡ true → Agrees a b y = λ y m. let k = member-without y x list m in item_agrees a b n x w.group w.bottom y st k.1 (s.inside y k.0).group_low in
+    let agrees : (y : ℕ) → member y (without x list) ≡ true → Agrees a b y = λ y m. let k = member-without y x list m in
+    item_agrees a b n x w.group w.bottom y st k.1 (s.inside y k.0).group_low in
     record {
       size = length-set ws (1 + x) v ∙ s.size;
       distinct = Distinct-without x list s.distinct;
@@ -40,7 +42,8 @@ pub record TakeFacts (n : ℕ) (ws list : List ℕ) (x : ℕ) (w : ItemWord) : T
   pub sound : Sound n (set ws (1 + x) (item_word w)) (without x list)
   pub again : item_of (get_or (set ws (1 + x) (item_word w)) (1 + x) 0) ≡ w
 
-pub take_facts : (n : ℕ) (ws list : List ℕ) (x : ℕ) (w : ItemWord) → Sound n ws list → member x list ≡ true → w.version < 2 ^ 24 → w.group ≡ 0 → w.bottom ≡ 0 → TakeFacts n ws list x w
+pub take_facts : (n : ℕ) (ws list : List ℕ) (x : ℕ) (w : ItemWord) → Sound n ws list → member x list ≡ true → w.version < 2 ^ 24 → w.group ≡ 0 → w.bottom ≡ 0
+    → TakeFacts n ws list x w
 take_facts n ws list x w s x-in v g b =
     let fits : IsFitting w = (v, omega arith, omega arith) in
     let below : x < n = (s.inside x x-in).below in
@@ -52,13 +55,16 @@ take_facts n ws list x w s x-in v g b =
 
 -- the other items keep their groups
 stored_other : (n : ℕ) (ws vs : List ℕ) (x v y : ℕ) → vs ≡ set ws (1 + x) v → y ≢ x → (labels n vs).group y ≡ (labels n ws).group y
-stored_other n ws vs x v y e ne = let d : 1 + y ≢ 1 + x = λ q. ne (omega arith) in ap (λ z. (item_of z).group) (ap (λ us. get_or us (1 + y) 0) e ∙ get_or-set_other ws (1 + x) (1 + y) v 0 d)
+stored_other n ws vs x v y e ne = let d : 1 + y ≢ 1 + x = λ q. ne (omega arith) in
+    ap (λ z. (item_of z).group) (ap (λ us. get_or us (1 + y) 0) e ∙ get_or-set_other ws (1 + x) (1 + y) v 0 d)
 
 -- without x, a group has one less where x is in it
-pub size_less : (n : ℕ) (ws vs list : List ℕ) (x v k : ℕ) → Sound n ws list → x < n → vs ≡ set ws (1 + x) v → 0 < k → size_of (labels n vs).group k (without x list) + cond (eqb ((labels n ws).group x) k) 1 0 ≡ size_of (labels n ws).group k list
+pub size_less : (n : ℕ) (ws vs list : List ℕ) (x v k : ℕ) → Sound n ws list → x < n → vs ≡ set ws (1 + x) v → 0 < k
+    → size_of (labels n vs).group k (without x list) + cond (eqb ((labels n ws).group x) k) 1 0 ≡ size_of (labels n ws).group k list
 size_less n ws vs list x v k s below e low =
     let f = (labels n ws).group in
-    let kept : size_of (labels n vs).group k (without x list) ≡ size_of (labels n ws).group k (without x list) = size-agree (labels n ws).group (labels n vs).group k (without x list) (λ y m. stored_other n ws vs x v y e (member-without y x list m).1) in
+    let kept : size_of (labels n vs).group k (without x list) ≡ size_of (labels n ws).group k (without x list) =
+    size-agree (labels n ws).group (labels n vs).group k (without x list) (λ y m. stored_other n ws vs x v y e (member-without y x list m).1) in
     elim (cases_Bool (member x list)) [
       | inl x-in ↦ omega (arith, kept, size-without (labels n ws).group k x list s.distinct x-in)
       | inr x-out ↦
@@ -66,18 +72,28 @@ size_less n ws vs list x v k s below e low =
           rw none (omega (arith, kept, ap (size_of (labels n ws).group k) (without-none x list x-out)))
     ]
 
-pub tally_taken : (n : ℕ) (ws vs list sizes : List ℕ) (x v g : ℕ) → Sound n ws list → member x list ≡ true → Tallied n ws list sizes → vs ≡ set ws (1 + x) v → g ≡ (labels n ws).group x → Tallied n vs (without x list) (set sizes g (get_or sizes g 0 - 1))
+pub tally_taken : (n : ℕ) (ws vs list sizes : List ℕ) (x v g : ℕ) → Sound n ws list → member x list ≡ true → Tallied n ws list sizes → vs ≡ set ws (1 + x) v
+    → g ≡ (labels n ws).group x → Tallied n vs (without x list) (set sizes g (get_or sizes g 0 - 1))
 tally_taken n ws vs list sizes x v g s x-in t e g-is =
     let placed : Placed n (labels n ws) x = s.inside x x-in in
     let g-low : 0 < g = omega (arith, placed.group_low) in
     let g-high : g ≤ n + 1 = omega (arith, placed.group_high) in
-    let here : get_or (set sizes g (get_or sizes g 0 - 1)) g 0 ≡ get_or sizes g 0 - 1 = get_or-set_same sizes g (get_or sizes g 0 - 1) 0 (omega (arith, t.length_is)) in
+    let here : get_or (set sizes g (get_or sizes g 0 - 1)) g 0 ≡ get_or sizes g 0 - 1 =
+    get_or-set_same sizes g (get_or sizes g 0 - 1) 0 (omega (arith, t.length_is)) in
     record {
       length_is = length-set sizes g (get_or sizes g 0 - 1) ∙ t.length_is;
       counts = λ k low high. let less = size_less n ws vs list x v k s placed.below e low in elim (cases_eq k g) [
         | inl q ↦ let yes : eqb ((labels n ws).group x) k ≡ true = eq-eqb ((labels n ws).group x) k (omega arith) in
             let one = rw yes at less in
-            ap (λ i. get_or (set sizes g (get_or sizes g 0 - 1)) i 0) q ∙ omega (arith, here, t.counts g g-low g-high, one, ap (λ i. size_of (labels n ws).group i list) q, ap (λ i. size_of (labels n vs).group i (without x list)) q)
+            ap (λ i. get_or (set sizes g (get_or sizes g 0 - 1)) i 0) q
+            ∙ omega (
+              arith,
+              here,
+              t.counts g g-low g-high,
+              one,
+              ap (λ i. size_of (labels n ws).group i list) q,
+              ap (λ i. size_of (labels n vs).group i (without x list)) q,
+            )
         | inr ne ↦ let no-k : eqb ((labels n ws).group x) k ≡ false = ne_eqb ((labels n ws).group x) k (λ w. ne (sym (g-is ∙ w))) in
             let none = rw no-k at less in
             get_or-set_other sizes g k (get_or sizes g 0 - 1) 0 ne ∙ omega (arith, t.counts k low high, none)
@@ -89,7 +105,8 @@ tally_taken n ws vs list sizes x v g s x-in t e g-is =
     }
 
 -- a group that has an item is not empty
-pub used_size : (n : ℕ) (ws list sizes : List ℕ) (y : ℕ) → Sound n ws list → Tallied n ws list sizes → member y list ≡ true → 0 < get_or sizes ((labels n ws).group y) 0
+pub used_size : (n : ℕ) (ws list sizes : List ℕ) (y : ℕ) → Sound n ws list → Tallied n ws list sizes → member y list ≡ true
+    → 0 < get_or sizes ((labels n ws).group y) 0
 used_size n ws list sizes y s t m =
     let p : Placed n (labels n ws) y = s.inside y m in
     let k = size-without (labels n ws).group ((labels n ws).group y) y list s.distinct m in
@@ -97,16 +114,24 @@ used_size n ws list sizes y s t m =
     omega (arith, t.counts ((labels n ws).group y) p.group_low p.group_high, one)
 
 -- x comes to a group
-pub size_more : (n : ℕ) (ws vs list : List ℕ) (x p v k : ℕ) → Sound n ws list → x < n → member p list ≡ true → (x ≡ p → ⊥) → vs ≡ set ws (1 + x) v → (labels n vs).group x ≡ (labels n ws).group p → 0 < k → size_of (labels n vs).group k (right_after x p (without x list)) + cond (eqb ((labels n ws).group x) k) 1 0 ≡ size_of (labels n ws).group k list + cond (eqb ((labels n ws).group p) k) 1 0
+pub size_more : (n : ℕ) (ws vs list : List ℕ) (x p v k : ℕ) → Sound n ws list → x < n → member p list ≡ true → (x ≡ p → ⊥) → vs ≡ set ws (1 + x) v
+    → (labels n vs).group x ≡ (labels n ws).group p → 0 < k
+    → size_of (labels n vs).group k (right_after x p (without x list)) + cond (eqb ((labels n ws).group x) k) 1 0 ≡ size_of (labels n ws).group k list + cond
+    (eqb ((labels n ws).group p) k) 1 0
 size_more n ws vs list x p v k s below p-in ne e to low =
     let less = size_less n ws vs list x v k s below e low in
-    let more = size-right_after (labels n vs).group k x p (without x list) (Distinct-without x list s.distinct) (without-member p x list p-in (λ q. ne (sym q))) in
+    let more = size-right_after (labels n vs).group k x p (without x list) (Distinct-without x list s.distinct)
+    (without-member p x list p-in (λ q. ne (sym q))) in
     omega (arith, less, more, ap {B = ℕ} (λ g. cond (eqb g k) 1 0) to)
 
-pub tally_moved : (n : ℕ) (ws vs list sizes new : List ℕ) (x p v from to : ℕ) → Sound n ws list → x < n → member p list ≡ true → (x ≡ p → ⊥) → Tallied n ws list sizes → TakesItem n ws list x p → vs ≡ set ws (1 + x) v → (labels n vs).group x ≡ (labels n ws).group p → from ≡ (labels n ws).group x → to ≡ (labels n ws).group p → length new ≡ length sizes → get_or new 0 0 ≡ get_or sizes 0 0 → ((k : ℕ) → 0 < k → get_or new k 0 + cond (eqb from k) 1 0 ≡ get_or sizes k 0 + cond (eqb to k) 1 0) → Tallied n vs (right_after x p (without x list)) new
+pub tally_moved : (n : ℕ) (ws vs list sizes new : List ℕ) (x p v from to : ℕ) → Sound n ws list → x < n → member p list ≡ true → (x ≡ p → ⊥)
+    → Tallied n ws list sizes → TakesItem n ws list x p → vs ≡ set ws (1 + x) v → (labels n vs).group x ≡ (labels n ws).group p
+    → from ≡ (labels n ws).group x → to ≡ (labels n ws).group p → length new ≡ length sizes → get_or new 0 0 ≡ get_or sizes 0 0
+    → ((k : ℕ) → 0 < k → get_or new k 0 + cond (eqb from k) 1 0 ≡ get_or sizes k 0 + cond (eqb to k) 1 0) → Tallied n vs (right_after x p (without x list)) new
 tally_moved n ws vs list sizes new x p v from to s below p-in ne t takes e group from-is to-is len zero-is each =
     let placed : Placed n (labels n ws) p = s.inside p p-in in
-    let size-to : get_or sizes to 0 ≡ size_of (labels n ws).group ((labels n ws).group p) list = ap (λ g. get_or sizes g 0) to-is ∙ t.counts ((labels n ws).group p) placed.group_low placed.group_high in
+    let size-to : get_or sizes to 0 ≡ size_of (labels n ws).group ((labels n ws).group p) list = ap (λ g. get_or sizes g 0) to-is
+    ∙ t.counts ((labels n ws).group p) placed.group_low placed.group_high in
     record {
       length_is = len ∙ t.length_is;
       counts = λ k low high.
@@ -117,7 +142,8 @@ tally_moved n ws vs list sizes new x p v from to s below p-in ne t takes e group
         | inr some ↦ elim (cases_eq to k) [
           | inl q ↦ elim takes [
             | inl less ↦ omega (arith, each k (omega arith), rw (eq-eqb to k q) at (each k (omega arith)), size-to, less, ap (λ i. get_or sizes i 0) q)
-            | inr same ↦ (let q' : from ≡ k = from-is ∙ (same ∙ (sym to-is ∙ q)) in omega (arith, rw (eq-eqb to k q, eq-eqb from k q') at (each k (omega arith)), t.most k))
+            | inr same ↦ (let q' : from ≡ k = from-is ∙ (same ∙ (sym to-is ∙ q)) in
+                omega (arith, rw (eq-eqb to k q, eq-eqb from k q') at (each k (omega arith)), t.most k))
           ]
           | inr other ↦ omega (arith, rw (ne_eqb to k other) at (each k (omega arith)), t.most k)
         ]
@@ -127,13 +153,22 @@ tally_moved n ws vs list sizes new x p v from to s below p-in ne t takes e group
 -- one more, and one less
 pub bumped : (sizes : List ℕ) (to k : ℕ) → to < length sizes → get_or (set sizes to (get_or sizes to 0 + 1)) k 0 ≡ get_or sizes k 0 + cond (eqb to k) 1 0
 bumped sizes to k l = elim (cases_eq k to) [
-  | inl e ↦ rw (eq-eqb to k (sym e)) (ap (λ i. get_or (set sizes to (get_or sizes to 0 + 1)) i 0) e ∙ (get_or-set_same sizes to (get_or sizes to 0 + 1) 0 l ∙ ap (λ i. get_or sizes i 0 + 1) (sym e)))
+  | inl e ↦ rw (eq-eqb to k (sym e))
+      (ap (λ i. get_or (set sizes to (get_or sizes to 0 + 1)) i 0) e
+      ∙ (get_or-set_same sizes to (get_or sizes to 0 + 1) 0 l ∙ ap (λ i. get_or sizes i 0 + 1) (sym e)))
   | inr ne ↦ rw (ne_eqb to k (λ e. ne (sym e))) (get_or-set_other sizes to k (get_or sizes to 0 + 1) 0 ne ∙ omega arith)
 ]
 
-pub dropped : (sizes : List ℕ) (from k : ℕ) → from < length sizes → 0 < get_or sizes from 0 → get_or (set sizes from (get_or sizes from 0 - 1)) k 0 + cond (eqb from k) 1 0 ≡ get_or sizes k 0
+pub dropped : (sizes : List ℕ) (from k : ℕ) → from < length sizes → 0 < get_or sizes from 0
+    → get_or (set sizes from (get_or sizes from 0 - 1)) k 0 + cond (eqb from k) 1 0 ≡ get_or sizes k 0
 dropped sizes from k l some = elim (cases_eq k from) [
-  | inl e ↦ rw (eq-eqb from k (sym e)) (omega (arith, ap (λ i. get_or (set sizes from (get_or sizes from 0 - 1)) i 0) e, get_or-set_same sizes from (get_or sizes from 0 - 1) 0 l, ap (λ i. get_or sizes i 0) e))
+  | inl e ↦ rw (eq-eqb from k (sym e))
+      (omega (
+        arith,
+        ap (λ i. get_or (set sizes from (get_or sizes from 0 - 1)) i 0) e,
+        get_or-set_same sizes from (get_or sizes from 0 - 1) 0 l,
+        ap (λ i. get_or sizes i 0) e,
+      ))
   | inr ne ↦ rw (ne_eqb from k (λ e. ne (sym e))) (omega (arith, get_or-set_other sizes from k (get_or sizes from 0 - 1) 0 ne))
 ]
 
@@ -149,7 +184,8 @@ pub record Moving (n : ℕ) (ws list sizes : List ℕ) (x p from to : ℕ) : Typ
   pub from_used : (from ≡ 0 → ⊥) → 0 < get_or (set sizes to (get_or sizes to 0 + 1)) from 0
   pub from_within : (from ≡ 0 → ⊥) → from < length (set sizes to (get_or sizes to 0 + 1))
 
-pub moving : (n : ℕ) (ws list sizes : List ℕ) (x p from to : ℕ) → Sound n ws list → x < n → member p list ≡ true → Tallied n ws list sizes → from ≡ (labels n ws).group x → to ≡ (labels n ws).group p → Moving n ws list sizes x p from to
+pub moving : (n : ℕ) (ws list sizes : List ℕ) (x p from to : ℕ) → Sound n ws list → x < n → member p list ≡ true → Tallied n ws list sizes
+    → from ≡ (labels n ws).group x → to ≡ (labels n ws).group p → Moving n ws list sizes x p from to
 moving n ws list sizes x p from to s below p-in t from-is to-is =
     let placed : Placed n (labels n ws) p = s.inside p p-in in
     let to-in : to < length sizes = omega (arith, placed.group_high, t.length_is) in
@@ -157,25 +193,39 @@ moving n ws list sizes x p from to s below p-in t from-is to-is =
       to_used = omega (arith, used_size n ws list sizes p s t p-in, ap (λ g. get_or sizes g 0) to-is);
       to_in = to-in;
       to_low = omega (arith, placed.group_low);
-      from_used = λ ne. omega (arith, bumped sizes to from to-in, used_size n ws list sizes x s t (from_in n ws list x from s below from-is ne), ap (λ g. get_or sizes g 0) from-is);
-      from_within = λ ne. let q : Placed n (labels n ws) x = s.inside x (from_in n ws list x from s below from-is ne) in omega (arith, q.group_high, t.length_is, length-set sizes to (get_or sizes to 0 + 1));
+      from_used = λ ne. omega (
+        arith,
+        bumped sizes to from to-in,
+        used_size n ws list sizes x s t (from_in n ws list x from s below from-is ne),
+        ap (λ g. get_or sizes g 0) from-is,
+      );
+      from_within = λ ne. let q : Placed n (labels n ws) x = s.inside x (from_in n ws list x from s below from-is ne) in
+          omega (arith, q.group_high, t.length_is, length-set sizes to (get_or sizes to 0 + 1));
     }
 
 -- an item that was in the list moves
-pub moved_in : (n : ℕ) (ws vs list sizes : List ℕ) (x p v from to : ℕ) → Sound n ws list → x < n → member p list ≡ true → (x ≡ p → ⊥) → Tallied n ws list sizes → TakesItem n ws list x p → vs ≡ set ws (1 + x) v → (labels n vs).group x ≡ (labels n ws).group p → from ≡ (labels n ws).group x → to ≡ (labels n ws).group p → (from ≡ 0 → ⊥)
-    → Tallied n vs (right_after x p (without x list)) (set (set sizes to (get_or sizes to 0 + 1)) from (get_or (set sizes to (get_or sizes to 0 + 1)) from 0 - 1))
+pub moved_in : (n : ℕ) (ws vs list sizes : List ℕ) (x p v from to : ℕ) → Sound n ws list → x < n → member p list ≡ true → (x ≡ p → ⊥)
+    → Tallied n ws list sizes → TakesItem n ws list x p → vs ≡ set ws (1 + x) v → (labels n vs).group x ≡ (labels n ws).group p
+    → from ≡ (labels n ws).group x → to ≡ (labels n ws).group p → (from ≡ 0 → ⊥)
+    → Tallied n vs (right_after x p (without x list))
+    (set (set sizes to (get_or sizes to 0 + 1)) from (get_or (set sizes to (get_or sizes to 0 + 1)) from 0 - 1))
 moved_in n ws vs list sizes x p v from to s below p-in ne t takes e group from-is to-is some =
     let m = moving n ws list sizes x p from to s below p-in t from-is to-is in
     let mid = set sizes to (get_or sizes to 0 + 1) in
     let from-0 : 0 ≢ from = λ z. some (sym z) in
     let to-0 : 0 ≢ to = (let l = m.to_low in omega arith) in
-    tally_moved n ws vs list sizes (set (set sizes to (get_or sizes to 0 + 1)) from (get_or (set sizes to (get_or sizes to 0 + 1)) from 0 - 1)) x p v from to s below p-in ne t takes e group from-is to-is
-    (length-set (set sizes to (get_or sizes to 0 + 1)) from (get_or (set sizes to (get_or sizes to 0 + 1)) from 0 - 1) ∙ length-set sizes to (get_or sizes to 0 + 1))
-    (get_or-set_other (set sizes to (get_or sizes to 0 + 1)) from 0 (get_or (set sizes to (get_or sizes to 0 + 1)) from 0 - 1) 0 from-0 ∙ get_or-set_other sizes to 0 (get_or sizes to 0 + 1) 0 to-0)
+    tally_moved n ws vs list sizes (set (set sizes to (get_or sizes to 0 + 1)) from (get_or (set sizes to (get_or sizes to 0 + 1)) from 0 - 1)) x p v from to
+    s below p-in ne t takes e group from-is to-is
+    (length-set (set sizes to (get_or sizes to 0 + 1)) from (get_or (set sizes to (get_or sizes to 0 + 1)) from 0 - 1)
+    ∙ length-set sizes to (get_or sizes to 0 + 1))
+    (get_or-set_other (set sizes to (get_or sizes to 0 + 1)) from 0 (get_or (set sizes to (get_or sizes to 0 + 1)) from 0 - 1) 0 from-0
+    ∙ get_or-set_other sizes to 0 (get_or sizes to 0 + 1) 0 to-0)
     (λ k low. dropped (set sizes to (get_or sizes to 0 + 1)) from k (m.from_within some) (m.from_used some) ∙ bumped sizes to k m.to_in)
 
 -- an item is put in
-pub moved_new : (n : ℕ) (ws vs list sizes : List ℕ) (x p v from to : ℕ) → Sound n ws list → x < n → member p list ≡ true → (x ≡ p → ⊥) → Tallied n ws list sizes → TakesItem n ws list x p → vs ≡ set ws (1 + x) v → (labels n vs).group x ≡ (labels n ws).group p → from ≡ (labels n ws).group x → to ≡ (labels n ws).group p → from ≡ 0
+pub moved_new : (n : ℕ) (ws vs list sizes : List ℕ) (x p v from to : ℕ) → Sound n ws list → x < n → member p list ≡ true → (x ≡ p → ⊥)
+    → Tallied n ws list sizes → TakesItem n ws list x p → vs ≡ set ws (1 + x) v → (labels n vs).group x ≡ (labels n ws).group p
+    → from ≡ (labels n ws).group x → to ≡ (labels n ws).group p → from ≡ 0
     → Tallied n vs (right_after x p (without x list)) (set sizes to (get_or sizes to 0 + 1))
 moved_new n ws vs list sizes x p v from to s below p-in ne t takes e group from-is to-is none =
     let m = moving n ws list sizes x p from to s below p-in t from-is to-is in

@@ -18,7 +18,9 @@ use Rattle.kc_distinct.proofs.Members.{member-head, member-tail, member-cases}
 use Rattle.kc_words.specs.Order.{Labels, labels, InOrder}
 use Rattle.kc_list.specs.Places.{Before, Sound, GroupStored, runs}
 use Rattle.kc_list.proofs.Stores.{group_stored}
-use Rattle.kc_list.proofs.Spreading.{map_stored, member-at, Ascends-at, written-more, place-in, two-apart, Steps-none, Steps-push, raises_from, only-none, only-more, member-map}
+use Rattle.kc_list.proofs.Spreading.{map_stored, Ascends-at, written-more, place-in, two-apart, Steps-none, Steps-push, raises_from, only-none, only-more, member-map}
+use Rattle.kc_words.specs.declared.layout.TheConstants.{LAST_VERSION, TOP_ROOM}
+use Rattle.kc_distinct.proofs.Counting.{member-get_or}
 
 -- the groups of a list begin with that of its first
 pub runs_head : (f : ℕ → ℕ) (x : ℕ) (xs : List ℕ) → (gs : List ℕ) × (runs f (x ∷ xs) ≡ f x ∷ gs)
@@ -31,19 +33,23 @@ runs_head f x (y ∷ ys) =
     ]
 
 -- the top labels of the groups ascend where the list is in order
-pub tops_from_order : (a : Labels) (end low x : ℕ) (xs : List ℕ) → ((y : ℕ) → member y (x ∷ xs) ≡ true → a.top (a.group y) < end) → low ≤ a.top (a.group x) → InOrder (Before a) (x ∷ xs) → Ascends low end (map a.top (runs a.group (x ∷ xs)))
+pub tops_from_order : (a : Labels) (end low x : ℕ) (xs : List ℕ) → ((y : ℕ) → member y (x ∷ xs) ≡ true → a.top (a.group y) < end) → low ≤ a.top (a.group x)
+    → InOrder (Before a) (x ∷ xs) → Ascends low end (map a.top (runs a.group (x ∷ xs)))
 tops_from_order a end low x [] f l h = (l, f x (member-head x []))
 tops_from_order a end low x (y ∷ ys) f l h =
     let f' : (z : ℕ) → member z (y ∷ ys) ≡ true → a.top (a.group z) < end = λ z m. f z (member-tail z x (y ∷ ys) m) in
     elim (cases_Bool (eqb (a.group x) (a.group y))) [
-      | inl t ↦ let same : a.group x ≡ a.group y = eqb-true (a.group x) (a.group y) t in rw t (tops_from_order a end low y ys f' (omega (arith, ap a.top same, l)) h.1)
+      | inl t ↦ let same : a.group x ≡ a.group y = eqb-true (a.group x) (a.group y) t in
+          rw t (tops_from_order a end low y ys f' (omega (arith, ap a.top same, l)) h.1)
       | inr t ↦
           let up : a.top (a.group x) < a.top (a.group y) = elim h.0 [ inl s ↦ absurd (eqb-false (a.group x) (a.group y) t s.0) | inr u ↦ u ] in
           rw t (l, tops_from_order a end (suc (a.top (a.group x))) y ys f' up h.1)
     ]
 
 -- and other labels that ascend keep the order
-pub order_from_tops : (a b : Labels) (end low x : ℕ) (xs : List ℕ) → ((y : ℕ) → member y (x ∷ xs) ≡ true → (b.group y ≡ a.group y) × (b.bottom y ≡ a.bottom y)) → Ascends low end (map b.top (runs a.group (x ∷ xs))) → InOrder (Before a) (x ∷ xs) → InOrder (Before b) (x ∷ xs)
+pub order_from_tops : (a b : Labels) (end low x : ℕ) (xs : List ℕ)
+    → ((y : ℕ) → member y (x ∷ xs) ≡ true → (b.group y ≡ a.group y) × (b.bottom y ≡ a.bottom y)) → Ascends low end (map b.top (runs a.group (x ∷ xs)))
+    → InOrder (Before a) (x ∷ xs) → InOrder (Before b) (x ∷ xs)
 order_from_tops a b end low x [] f k h = tt
 order_from_tops a b end low x (y ∷ ys) f k h =
     let fx = f x (member-head x (y ∷ ys)) in
@@ -57,7 +63,8 @@ order_from_tops a b end low x (y ∷ ys) f k h =
       | inr t ↦
           let k' : Ascends low end (b.top (a.group x) ∷ map b.top (runs a.group (y ∷ ys))) = rw t at k in
           let head = runs_head a.group y ys in
-          let k2 : Ascends (suc (b.top (a.group x))) end (map b.top (a.group y ∷ head.0)) = subst (λ gs. Ascends (suc (b.top (a.group x))) end (map b.top gs)) head.1 k'.1 in
+          let k2 : Ascends (suc (b.top (a.group x))) end (map b.top (a.group y ∷ head.0)) =
+          subst (λ gs. Ascends (suc (b.top (a.group x))) end (map b.top gs)) head.1 k'.1 in
           (inr (omega (arith, ap b.top fx.0, ap b.top fy.0, k2.0)), order_from_tops a b end (suc (b.top (a.group x))) y ys f' k'.1 h.1)
     ]
 
@@ -96,7 +103,11 @@ runs_item f g (x ∷ y ∷ ys) m =
 
 pub item_runs : (f : ℕ → ℕ) (y : ℕ) (xs : List ℕ) → member y xs ≡ true → member (f y) (runs f xs) ≡ true
 item_runs f y [] m = absurd (false≢true m)
-item_runs f y (x ∷ []) m = elim (member-cases y x [] m) [ inl e ↦ ap (λ z. member z (f x ∷ [])) (ap f e) ∙ member-head (f x) [] | inr k ↦ absurd (false≢true k) ]
+item_runs f y (x ∷ []) m = elim (member-cases y x [] m) [
+  | inl e ↦ ap (λ z. member z (f x ∷ [])) (ap f e) ∙ member-head (f x) []
+  | inr k ↦
+      absurd (false≢true k)
+]
 item_runs f y (x ∷ z ∷ zs) m =
     let head = runs_head f x (z ∷ zs) in
     elim (member-cases y x (z ∷ zs) m) [
@@ -121,31 +132,36 @@ runs-same f g (x ∷ y ∷ ys) h =
     let hx = h x (member-head x (y ∷ ys)) in
     let hy = h y (member-tail y x (y ∷ ys) (member-head y ys)) in
     let rest = runs-same f g (y ∷ ys) (λ z m. h z (member-tail z x (y ∷ ys) m)) in
-    ap (λ u. cond (eqb u (g y)) (runs g (y ∷ ys)) (u ∷ runs g (y ∷ ys))) hx ∙ (ap (λ u. cond (eqb (f x) u) (runs g (y ∷ ys)) (f x ∷ runs g (y ∷ ys))) hy ∙ ap (λ rs. cond (eqb (f x) (f y)) rs (f x ∷ rs)) rest)
+    ap (λ u. cond (eqb u (g y)) (runs g (y ∷ ys)) (u ∷ runs g (y ∷ ys))) hx
+    ∙ (ap (λ u. cond (eqb (f x) u) (runs g (y ∷ ys)) (f x ∷ runs g (y ∷ ys))) hy ∙ ap (λ rs. cond (eqb (f x) (f y)) rs (f x ∷ rs)) rest)
 
-pub retopped : (n : ℕ) (ws list gs : List ℕ) (i : ℕ) (w : GroupWord) → Sound n ws list → gs ≡ runs (labels n ws).group list → i < length gs → w.version < 2 ^ 24 → Ascends 1 1099511627776 (set (map (labels n ws).top gs) i w.top) → Retopped n ws list gs i w
+pub retopped : (n : ℕ) (ws list gs : List ℕ) (i : ℕ) (w : GroupWord) → Sound n ws list → gs ≡ runs (labels n ws).group list → i < length gs
+    → w.version < 2 ^ 24 → Ascends 1 TOP_ROOM (set (map (labels n ws).top gs) i w.top) → Retopped n ws list gs i w
 retopped n ws [] gs i w s e l v-fits asc = absurd (omega (arith, ap length e))
 retopped n ws (x ∷ xs) gs i w s e l v-fits asc =
     let a = labels n ws in
     let b = labels n (set ws (n + get_or gs i 0) (group_word w)) in
-    let g-in : member (get_or gs i 0) gs ≡ true = member-at gs i l in
+    let g-in : member (get_or gs i 0) gs ≡ true = member-get_or gs i 0 l in
     let from = runs_item a.group (get_or gs i 0) (x ∷ xs) (ap (member (get_or gs i 0)) (sym e) ∙ g-in) in
     let at = s.inside from.0 from.1 in
     let low : 0 < get_or gs i 0 = omega (arith, from.2, at.group_low) in
     let high : get_or gs i 0 ≤ n + 1 = omega (arith, from.2, at.group_high) in
-    let range = Ascends-at 1 1099511627776 (set (map a.top gs) i w.top) i asc (omega (arith, length-set (map a.top gs) i w.top, length-map gs a.top)) in
+    let range = Ascends-at 1 TOP_ROOM (set (map a.top gs) i w.top) i asc (omega (arith, length-set (map a.top gs) i w.top, length-map gs a.top)) in
     let read = get_or-set_same (map a.top gs) i w.top 0 (omega (arith, length-map gs a.top)) in
     let fits : FitsGroup w = (v-fits, omega (arith, range.1, read)) in
     let st : GroupStored a b n (get_or gs i 0) w.top = group_stored n ws (get_or gs i 0) (group_word w) w low high s.size (group_of-group_word w fits) in
-    let old : Ascends 1 1099511627776 (map a.top gs) = subst (λ hs. Ascends 1 1099511627776 (map a.top hs)) (sym e) (tops_from_order a 1099511627776 1 x xs (λ y m. (s.inside y m).top_high) (s.inside x (member-head x xs)).top_low s.order) in
-    let apart : Distinct gs = (Ascends-distinct a.top 1 1099511627776 gs old).0 in
+    let old : Ascends 1 TOP_ROOM (map a.top gs) =
+    subst (λ hs. Ascends 1 TOP_ROOM (map a.top hs)) (sym e)
+    (tops_from_order a TOP_ROOM 1 x xs (λ y m. (s.inside y m).top_high) (s.inside x (member-head x xs)).top_low s.order) in
+    let apart : Distinct gs = (Ascends-distinct a.top 1 TOP_ROOM gs old).0 in
     let new : map b.top gs ≡ set (map a.top gs) i w.top = map_stored a.top b.top gs i w.top apart l st.top st.tops in
-    let same : (y : ℕ) → member y (x ∷ xs) ≡ true → (b.group y ≡ a.group y) × (b.bottom y ≡ a.bottom y) = λ y m. let k = (s.inside y m).below in (st.groups y k, st.bottoms y k) in
-    let asc' : Ascends 1 1099511627776 (map b.top gs) = subst (Ascends 1 1099511627776) (sym new) asc in
-    let order : InOrder (Before b) (x ∷ xs) = order_from_tops a b 1099511627776 1 x xs same (subst (λ hs. Ascends 1 1099511627776 (map b.top hs)) e asc') s.order in
-    let in-range : (y : ℕ) → member y (x ∷ xs) ≡ true → (1 ≤ b.top (b.group y)) × (b.top (b.group y) < 1099511627776) = λ y m.
+    let same : (y : ℕ) → member y (x ∷ xs) ≡ true → (b.group y ≡ a.group y) × (b.bottom y ≡ a.bottom y) = λ y m. let k = (s.inside y m).below in
+    (st.groups y k, st.bottoms y k) in
+    let asc' : Ascends 1 TOP_ROOM (map b.top gs) = subst (Ascends 1 TOP_ROOM) (sym new) asc in
+    let order : InOrder (Before b) (x ∷ xs) = order_from_tops a b TOP_ROOM 1 x xs same (subst (λ hs. Ascends 1 TOP_ROOM (map b.top hs)) e asc') s.order in
+    let in-range : (y : ℕ) → member y (x ∷ xs) ≡ true → (1 ≤ b.top (b.group y)) × (b.top (b.group y) < TOP_ROOM) = λ y m.
     let k : member (a.group y) gs ≡ true = ap (member (a.group y)) e ∙ item_runs a.group y (x ∷ xs) m in
-    let r = all_range b.top 1 1099511627776 gs (a.group y) asc' k in
+    let r = all_range b.top 1 TOP_ROOM gs (a.group y) asc' k in
     (omega (arith, ap b.top (same y m).0, r.0), omega (arith, ap b.top (same y m).0, r.1)) in
     record {
       fits = fits;
@@ -175,20 +191,28 @@ pub record RetopFacts (n : ℕ) (ws list gs : List ℕ) (i : ℕ) (w : GroupWord
   pub read : get_or (set ws (n + get_or gs i 0) (group_word w)) (n + get_or gs i 0) 0 ≡ group_word w
   pub again : (item_of (get_or (set ws (n + get_or gs i 0) (group_word w)) (n + get_or gs i 0) 0)).version ≡ w.version
 
-pub retop_facts : (n : ℕ) (ws list gs : List ℕ) (i : ℕ) (w : GroupWord) → Sound n ws list → gs ≡ runs (labels n ws).group list → i < length gs → w.version < 2 ^ 24 → Ascends 1 1099511627776 (set (map (labels n ws).top gs) i w.top) → RetopFacts n ws list gs i w
+pub retop_facts : (n : ℕ) (ws list gs : List ℕ) (i : ℕ) (w : GroupWord) → Sound n ws list → gs ≡ runs (labels n ws).group list → i < length gs
+    → w.version < 2 ^ 24 → Ascends 1 TOP_ROOM (set (map (labels n ws).top gs) i w.top) → RetopFacts n ws list gs i w
 retop_facts n ws list gs i w s e l v-fits asc =
     let all = retopped n ws list gs i w s e l v-fits asc in
-    let read : get_or (set ws (n + get_or gs i 0) (group_word w)) (n + get_or gs i 0) 0 ≡ group_word w = get_or-set_same ws (n + get_or gs i 0) (group_word w) 0 (omega (arith, s.size, all.below)) in
-    record { all = all; read = read; again = same_version (get_or (set ws (n + get_or gs i 0) (group_word w)) (n + get_or gs i 0) 0) ∙ ap (λ z. z.version) (ap group_of read ∙ group_of-group_word w all.fits) }
+    let read : get_or (set ws (n + get_or gs i 0) (group_word w)) (n + get_or gs i 0) 0 ≡ group_word w =
+    get_or-set_same ws (n + get_or gs i 0) (group_word w) 0 (omega (arith, s.size, all.below)) in
+    record {
+      all = all;
+      read = read;
+      again = same_version (get_or (set ws (n + get_or gs i 0) (group_word w)) (n + get_or gs i 0) 0)
+          ∙ ap (λ z. z.version) (ap group_of read ∙ group_of-group_word w all.fits);
+    }
 
-pub group_range : (n : ℕ) (ws list gs : List ℕ) (i : ℕ) → Sound n ws list → gs ≡ runs (labels n ws).group list → i < length gs → (0 < get_or gs i 0) × (get_or gs i 0 ≤ n + 1)
+pub group_range : (n : ℕ) (ws list gs : List ℕ) (i : ℕ) → Sound n ws list → gs ≡ runs (labels n ws).group list → i < length gs
+    → (0 < get_or gs i 0) × (get_or gs i 0 ≤ n + 1)
 group_range n ws list gs i s e l =
-    let from = runs_item (labels n ws).group (get_or gs i 0) list (ap (member (get_or gs i 0)) (sym e) ∙ member-at gs i l) in
+    let from = runs_item (labels n ws).group (get_or gs i 0) list (ap (member (get_or gs i 0)) (sym e) ∙ member-get_or gs i 0 l) in
     (omega (arith, from.2, (s.inside from.0 from.1).group_low), omega (arith, from.2, (s.inside from.0 from.1).group_high))
 
 pub group_below : (n : ℕ) (ws list gs : List ℕ) (i : ℕ) → Sound n ws list → gs ≡ runs (labels n ws).group list → i < length gs → get_or gs i 0 ≤ n + 1
 group_below n ws list gs i s e l =
-    let from = runs_item (labels n ws).group (get_or gs i 0) list (ap (member (get_or gs i 0)) (sym e) ∙ member-at gs i l) in
+    let from = runs_item (labels n ws).group (get_or gs i 0) list (ap (member (get_or gs i 0)) (sym e) ∙ member-get_or gs i 0 l) in
     omega (arith, from.2, (s.inside from.0 from.1).group_high)
 
 -- after j steps of a schedule
@@ -199,48 +223,81 @@ pub record Topway (n : ℕ) (list : List ℕ) (p q : Paper) (gs : List ℕ) (ss 
   pub steps : Steps n list p q
   pub versions : (w : ℕ) → version q.words w ≤ version p.words w + 1
   pub only : ChangesOnly (map (λ g. n + g) gs) p.words q.words
-  pub waiting : (k : ℕ) → j ≤ k → k < length ss → version q.words (n + get_or gs (get_or ss k (0, 0)).0 0) ≡ version p.words (n + get_or gs (get_or ss k (0, 0)).0 0)
+  pub waiting : (k : ℕ) → j ≤ k → k < length ss
+      → version q.words (n + get_or gs (get_or ss k (0, 0)).0 0) ≡ version p.words (n + get_or gs (get_or ss k (0, 0)).0 0)
   pub length_is : length q.writes ≡ length p.writes + j
   pub room : q.room ≡ p.room
 
-pub topway-none : (n : ℕ) (list : List ℕ) (p : Paper) (gs : List ℕ) (ss : Writes) → Sound n p.words list → gs ≡ runs (labels n p.words).group list → Topway n list p p gs ss 0
-topway-none n list p gs ss s e = record { sound = s; groups = e; tops = refl; steps = Steps-none n list p (ordered_from n p.words list s); versions = λ w. omega arith; only = only-none (map (λ g. n + g) gs) p.words; waiting = λ k _ _. refl; length_is = omega arith; room = refl }
+pub topway-none : (n : ℕ) (list : List ℕ) (p : Paper) (gs : List ℕ) (ss : Writes) → Sound n p.words list → gs ≡ runs (labels n p.words).group list
+    → Topway n list p p gs ss 0
+topway-none n list p gs ss s e =
+    record {
+      sound = s;
+      groups = e;
+      tops = refl;
+      steps = Steps-none n list p (ordered_from n p.words list s);
+      versions = λ w. omega arith;
+      only =
+          only-none (map (λ g. n + g) gs) p.words;
+      waiting = λ k _ _. refl;
+      length_is = omega arith;
+      room = refl;
+    }
 
-pub topway-ascends : (n : ℕ) (list : List ℕ) (p q : Paper) (gs : List ℕ) (ss : Writes) (j : ℕ) → Topway n list p q gs ss j → ((k : ℕ) → k ≤ length ss → Ascends 1 1099511627776 (written (map (labels n p.words).top gs) (take k ss))) → j < length ss → Ascends 1 1099511627776 (set (map (labels n q.words).top gs) (get_or ss j (0, 0)).0 (get_or ss j (0, 0)).1)
+pub topway-ascends : (n : ℕ) (list : List ℕ) (p q : Paper) (gs : List ℕ) (ss : Writes) (j : ℕ) → Topway n list p q gs ss j
+    → ((k : ℕ) → k ≤ length ss → Ascends 1 TOP_ROOM (written (map (labels n p.words).top gs) (take k ss))) → j < length ss
+    → Ascends 1 TOP_ROOM (set (map (labels n q.words).top gs) (get_or ss j (0, 0)).0 (get_or ss j (0, 0)).1)
 topway-ascends n list p q gs ss j h asc l =
-    subst (Ascends 1 1099511627776) (written-more (map (labels n p.words).top gs) ss j l ∙ ap (λ xs. set xs (get_or ss j (0, 0)).0 (get_or ss j (0, 0)).1) (sym h.tops)) (asc (j + 1) (omega arith))
+    subst (Ascends 1 TOP_ROOM) (written-more (map (labels n p.words).top gs) ss j l
+    ∙ ap (λ xs. set xs (get_or ss j (0, 0)).0 (get_or ss j (0, 0)).1) (sym h.tops)) (asc (j + 1) (omega arith))
 
-pub topway-version : (n : ℕ) (list : List ℕ) (p q : Paper) (gs : List ℕ) (ss : Writes) (j : ℕ) → Topway n list p q gs ss j → ((g : ℕ) → member g gs ≡ true → version p.words (n + g) < 16777215) → (get_or ss j (0, 0)).0 < length gs → j < length ss → version q.words (n + get_or gs (get_or ss j (0, 0)).0 0) < 16777215
-topway-version n list p q gs ss j h v p-in l = omega (arith, h.waiting j (omega arith) l, v (get_or gs (get_or ss j (0, 0)).0 0) (member-at gs (get_or ss j (0, 0)).0 p-in))
+pub topway-version : (n : ℕ) (list : List ℕ) (p q : Paper) (gs : List ℕ) (ss : Writes) (j : ℕ) → Topway n list p q gs ss j
+    → ((g : ℕ) → member g gs ≡ true → version p.words (n + g) < LAST_VERSION) → (get_or ss j (0, 0)).0 < length gs → j < length ss
+    → version q.words (n + get_or gs (get_or ss j (0, 0)).0 0) < LAST_VERSION
+topway-version n list p q gs ss j h v p-in l =
+    omega (arith, h.waiting j (omega arith) l, v (get_or gs (get_or ss j (0, 0)).0 0) (member-get_or gs (get_or ss j (0, 0)).0 0 p-in))
 
-pub topway-more : (n : ℕ) (list : List ℕ) (p q r : Paper) (gs : List ℕ) (ss : Writes) (j v : ℕ) → Topway n list p q gs ss j → j < length ss → Distinct gs → Distinct (places ss) → ((p : ℕ) → member p (places ss) ≡ true → p < length gs)
-    → Sound n r.words list → gs ≡ runs (labels n r.words).group list → map (labels n r.words).top gs ≡ set (map (labels n q.words).top gs) (get_or ss j (0, 0)).0 (get_or ss j (0, 0)).1
-    → r.words ≡ set q.words (n + get_or gs (get_or ss j (0, 0)).0 0) v → r.writes ≡ q.writes ++ record { word = n + get_or gs (get_or ss j (0, 0)).0 0; value = v } ∷ []
-    → version r.words (n + get_or gs (get_or ss j (0, 0)).0 0) ≡ version q.words (n + get_or gs (get_or ss j (0, 0)).0 0) + 1 → r.room ≡ q.room → Topway n list p r gs ss (j + 1)
+pub topway-more : (n : ℕ) (list : List ℕ) (p q r : Paper) (gs : List ℕ) (ss : Writes) (j v : ℕ) → Topway n list p q gs ss j → j < length ss → Distinct gs
+    → Distinct (places ss) → ((p : ℕ) → member p (places ss) ≡ true → p < length gs)
+    → Sound n r.words list → gs ≡ runs (labels n r.words).group list
+    → map (labels n r.words).top gs ≡ set (map (labels n q.words).top gs) (get_or ss j (0, 0)).0 (get_or ss j (0, 0)).1
+    → r.words ≡ set q.words (n + get_or gs (get_or ss j (0, 0)).0 0) v
+    → r.writes ≡ q.writes ++ record { word = n + get_or gs (get_or ss j (0, 0)).0 0; value = v } ∷ []
+    → version r.words (n + get_or gs (get_or ss j (0, 0)).0 0) ≡ version q.words (n + get_or gs (get_or ss j (0, 0)).0 0) + 1 → r.room ≡ q.room
+    → Topway n list p r gs ss (j + 1)
 topway-more n list p q r gs ss j v h l d once within sound groups tops words writes ver room =
-    let other : (w : ℕ) → w ≢ n + get_or gs (get_or ss j (0, 0)).0 0 → version r.words w ≡ version q.words w = λ w ne. ap (λ z. (item_of z).version) (ap (λ ws. get_or ws w 0) words ∙ get_or-set_other q.words (n + get_or gs (get_or ss j (0, 0)).0 0) w v 0 ne) in
+    let other : (w : ℕ) → w ≢ n + get_or gs (get_or ss j (0, 0)).0 0 → version r.words w ≡ version q.words w =
+    λ w ne. ap (λ z. (item_of z).version) (ap (λ ws. get_or ws w 0) words ∙ get_or-set_other q.words (n + get_or gs (get_or ss j (0, 0)).0 0) w v 0 ne) in
     let one : Write = record { word = n + get_or gs (get_or ss j (0, 0)).0 0; value = v } in
     record {
       sound = sound;
       groups = groups;
       tops = tops ∙ (ap (λ xs. set xs (get_or ss j (0, 0)).0 (get_or ss j (0, 0)).1) h.tops ∙ sym (written-more (map (labels n p.words).top gs) ss j l));
-      steps = Steps-push n list p q r one h.steps words writes (ordered_from n r.words list sound) (raises_from q.words r.words (n + get_or gs (get_or ss j (0, 0)).0 0) v (omega (arith, (group_range n q.words list gs (get_or ss j (0, 0)).0 h.sound h.groups (place-in gs ss j within l)).0)) (omega (arith, (group_range n q.words list gs (get_or ss j (0, 0)).0 h.sound h.groups (place-in gs ss j within l)).1, h.sound.size)) words ver);
+      steps = Steps-push n list p q r one h.steps words writes (ordered_from n r.words list sound)
+          (raises_from q.words r.words (n + get_or gs (get_or ss j (0, 0)).0 0) v
+          (omega (arith, (group_range n q.words list gs (get_or ss j (0, 0)).0 h.sound h.groups (place-in gs ss j within l)).0))
+          (omega (arith, (group_range n q.words list gs (get_or ss j (0, 0)).0 h.sound h.groups (place-in gs ss j within l)).1, h.sound.size)) words ver);
       versions = λ w. elim (cases_eq w (n + get_or gs (get_or ss j (0, 0)).0 0)) [
         | inl e ↦ subst (λ u. version r.words u ≤ version p.words u + 1) (sym e) (omega (arith, ver, h.waiting j (omega arith) l))
         | inr ne ↦ omega (arith, other w ne, h.versions w)
       ];
-      only = only-more (map (λ g. n + g) gs) p.words q.words r.words (n + get_or gs (get_or ss j (0, 0)).0 0) v h.only (member-map (λ g. n + g) gs (get_or gs (get_or ss j (0, 0)).0 0) (member-at gs (get_or ss j (0, 0)).0 (place-in gs ss j within l))) words;
+      only = only-more (map (λ g. n + g) gs) p.words q.words r.words (n + get_or gs (get_or ss j (0, 0)).0 0) v h.only
+          (member-map (λ g. n + g) gs (get_or gs (get_or ss j (0, 0)).0 0) (member-get_or gs (get_or ss j (0, 0)).0 0 (place-in gs ss j within l))) words;
       waiting = λ k j-k k-in.
-          let differ : (get_or ss j (0, 0)).0 ≢ (get_or ss k (0, 0)).0 = λ e. Distinct-at (places ss) j k once (omega arith) (omega (arith, length-places ss)) (place_at ss j ∙ (e ∙ sym (place_at ss k))) in
-          let apart : n + get_or gs (get_or ss k (0, 0)).0 0 ≢ n + get_or gs (get_or ss j (0, 0)).0 0 = λ e. two-apart gs (get_or ss j (0, 0)).0 (get_or ss k (0, 0)).0 d differ (place-in gs ss j within l) (place-in gs ss k within k-in) (omega arith) in
+          let differ : (get_or ss j (0, 0)).0 ≢ (get_or ss k (0, 0)).0 =
+          λ e. Distinct-at (places ss) j k once (omega arith) (omega (arith, length-places ss)) (place_at ss j ∙ (e ∙ sym (place_at ss k))) in
+          let apart : n + get_or gs (get_or ss k (0, 0)).0 0 ≢ n + get_or gs (get_or ss j (0, 0)).0 0 =
+          λ e. two-apart gs (get_or ss j (0, 0)).0 (get_or ss k (0, 0)).0 d differ (place-in gs ss j within l) (place-in gs ss k within k-in)
+          (omega arith) in
           other (n + get_or gs (get_or ss k (0, 0)).0 0) apart ∙ h.waiting k (omega arith) k-in;
       length_is = ap length writes ∙ omega (arith, length_push q.writes one, h.length_is);
       room = room ∙ h.room;
     }
 
 -- the groups are distinct
-pub runs_distinct : (n : ℕ) (ws list : List ℕ) → Sound n ws list → Distinct (runs (labels n ws).group list) × Ascends 1 1099511627776 (map (labels n ws).top (runs (labels n ws).group list))
+pub runs_distinct : (n : ℕ) (ws list : List ℕ) → Sound n ws list
+    → Distinct (runs (labels n ws).group list) × Ascends 1 TOP_ROOM (map (labels n ws).top (runs (labels n ws).group list))
 runs_distinct n ws [] s = (tt, omega arith)
 runs_distinct n ws (x ∷ xs) s =
-    let asc = tops_from_order (labels n ws) 1099511627776 1 x xs (λ y m. (s.inside y m).top_high) (s.inside x (member-head x xs)).top_low s.order in
-    ((Ascends-distinct (labels n ws).top 1 1099511627776 (runs (labels n ws).group (x ∷ xs)) asc).0, asc)
+    let asc = tops_from_order (labels n ws) TOP_ROOM 1 x xs (λ y m. (s.inside y m).top_high) (s.inside x (member-head x xs)).top_low s.order in
+    ((Ascends-distinct (labels n ws).top 1 TOP_ROOM (runs (labels n ws).group (x ∷ xs)) asc).0, asc)

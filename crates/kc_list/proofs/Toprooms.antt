@@ -1,13 +1,16 @@
 -- Room for a top label above a full group.
-use Rattle.std.proofs.Common.{◌≡◌, ℕ, ◌+◌, ◌<◌, ◌≤◌, true, false, List, [], ◌∷◌, ◌++◌, length, get_or, take, map, ◌∙◌, subst, inl, inr, arith}
+use Rattle.std.proofs.Common.{◌≡◌, ℕ, ◌+◌, ◌-◌, ◌<◌, ◌≤◌, true, false, List, [], ◌∷◌, ◌++◌, length, get_or, take, map, ◌∙◌, inl, inr, arith}
 use Rattle.std.proofs.lemmas.Bool.{false≢true, false_from_ne_true}
 use Rattle.kc_distinct.specs.Lists.{member, next_of}
 use Rattle.kc_distinct.proofs.Members.{member-head, member-tail, member-cases}
 use Rattle.kc_words.specs.Order.{labels}
 use Rattle.kc_list.specs.Places.{Sound, Segment, Free, runs, size_of, top_end}
-use Rattle.kc_list.proofs.Spreading.{segment_in, member-at}
-use Rattle.kc_list.proofs.Counts.{segment_size, full, halves, top_gap, top_end_high}
+use Rattle.kc_list.proofs.Spreading.{segment_in}
+use Rattle.kc_list.proofs.Counts.{full_segment, halves, top_gap, top_end_high}
 use Rattle.kc_list.proofs.Toplabels.{runs_item}
+use Rattle.kc_words.specs.declared.layout.TheConstants.{TOP_ROOM}
+use Rattle.kc_list.specs.declared.limits.TheConstants.{GROUP_ITEMS}
+use Rattle.kc_distinct.proofs.Counting.{member-get_or}
 
 -- the words of some groups
 member-shift : (w n : ℕ) (gs : List ℕ) → member w (map (λ g. n + g) gs) ≡ true → (g : ℕ) × (w ≡ n + g) × (member g gs ≡ true)
@@ -32,24 +35,29 @@ no_free_word n ws list h f = false_from_ne_true (member (n + h) (map (λ g. n + 
 
 -- the last member of a full group
 pub record Last (n : ℕ) (ws list : List ℕ) (g : ℕ) (into : List ℕ) : Type 0 where
-  pub inside : member (get_or into 63 0) list ≡ true
-  pub group : (labels n ws).group (get_or into 63 0) ≡ g
-  pub segment : Segment (labels n ws) list g (take 63 into ++ get_or into 63 0 ∷ [])
+  pub inside : member (get_or into (GROUP_ITEMS - 1) 0) list ≡ true
+  pub group : (labels n ws).group (get_or into (GROUP_ITEMS - 1) 0) ≡ g
+  pub segment : Segment (labels n ws) list g (take (GROUP_ITEMS - 1) into ++ get_or into (GROUP_ITEMS - 1) 0 ∷ [])
 
-pub last_facts : (n : ℕ) (ws list : List ℕ) (g count : ℕ) (into : List ℕ) → Segment (labels n ws) list g (take count into) → length into ≡ 64 → count ≤ length into → size_of (labels n ws).group g list ≡ 64 → Last n ws list g into
+pub last_facts : (n : ℕ) (ws list : List ℕ) (g count : ℕ) (into : List ℕ) → Segment (labels n ws) list g (take count into) → length into ≡ GROUP_ITEMS
+    → count ≤ length into → size_of (labels n ws).group g list ≡ GROUP_ITEMS → Last n ws list g into
 last_facts n ws list g count into seg len within size =
-    let k = segment_size (labels n ws) list g (take count into) seg in
-    let f = full into count len within (omega (arith, k, size)) in
-    let seg' : Segment (labels n ws) list g into = subst (Segment (labels n ws) list g) f.whole seg in
-    let last-in : member (get_or into 63 0) into ≡ true = member-at into 63 (omega arith) in
+    let seg' : Segment (labels n ws) list g into = full_segment (labels n ws) list g count into seg len within size in
+    let last-in : member (get_or into (GROUP_ITEMS - 1) 0) into ≡ true = member-get_or into (GROUP_ITEMS - 1) 0 (omega arith) in
     record {
-      inside = segment_in (labels n ws) list g into seg' (get_or into 63 0) last-in;
-      group = seg'.members (get_or into 63 0) last-in;
+      inside = segment_in (labels n ws) list g into seg' (get_or into (GROUP_ITEMS - 1) 0) last-in;
+      group = seg'.members (get_or into (GROUP_ITEMS - 1) 0) last-in;
       segment = (halves n (labels n ws) list g into seg' len).last;
     }
 
 -- where the gap is wide enough
-pub wide_gap : (n : ℕ) (ws list : List ℕ) (g : ℕ) (into : List ℕ) (low high : ℕ) → Sound n ws list → Last n ws list g into → low ≡ (labels n ws).top g → high ≡ top_end n (labels n ws) (next_of n (get_or into 63 0) list) → low + 2 ≤ high → ((z : ℕ) → member z list ≡ true → (labels n ws).top g < (labels n ws).top ((labels n ws).group z) → (labels n ws).top g + 2 ≤ (labels n ws).top ((labels n ws).group z)) × ((labels n ws).top g + 2 ≤ 1099511627776)
+pub wide_gap : (n : ℕ) (ws list : List ℕ) (g : ℕ) (into : List ℕ) (low high : ℕ) → Sound n ws list → Last n ws list g into → low ≡ (labels n ws).top g
+    → high ≡ top_end n (labels n ws) (next_of n (get_or into (GROUP_ITEMS - 1) 0) list) → low + 2 ≤ high
+    → ((z : ℕ) → member z list ≡ true → (labels n ws).top g < (labels n ws).top ((labels n ws).group z)
+    → (labels n ws).top g + 2 ≤ (labels n ws).top ((labels n ws).group z)) × ((labels n ws).top g + 2 ≤ TOP_ROOM)
 wide_gap n ws list g into low high s last low-is high-is wide =
-    let lt : (labels n ws).top g + 1 < top_end n (labels n ws) (next_of n (get_or into 63 0) list) = omega (arith, low-is, high-is, wide) in
-    (λ z m up. let k = top_gap n ws list g (get_or into 63 0) ((labels n ws).top g + 1) (take 63 into) s last.segment lt z m up in omega arith, omega (arith, lt, top_end_high n ws list (get_or into 63 0) s))
+    let lt : (labels n ws).top g + 1 < top_end n (labels n ws) (next_of n (get_or into (GROUP_ITEMS - 1) 0) list) = omega (arith, low-is, high-is, wide) in (
+      λ z m up. let k = top_gap n ws list g (get_or into (GROUP_ITEMS - 1) 0) ((labels n ws).top g + 1) (take (GROUP_ITEMS - 1) into) s last.segment lt z m up
+          in omega arith,
+      omega (arith, lt, top_end_high n ws list (get_or into (GROUP_ITEMS - 1) 0) s),
+    )

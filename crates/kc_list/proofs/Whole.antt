@@ -5,7 +5,7 @@ use Rattle.std.proofs.lemmas.List.{get_or-set_other, append_assoc, length-append
 use Rattle.kc_words.specs.ItemWord.{item_of}
 use Rattle.kc_distinct.specs.Lists.{member, Distinct, without, right_after, next_of, prev_of, place_of}
 use Rattle.kc_distinct.proofs.Members.{member-head, member-tail, member-cases, member-append, cut, Distinct-cut, without-member, right_after-member, next_of-in, place_of-cut}
-use Rattle.kc_words.specs.Order.{Labels, labels, PairBelow, InOrder, Ordered}
+use Rattle.kc_words.specs.Order.{labels, PairBelow, InOrder, Ordered}
 use Rattle.kc_list.specs.Places.{Before, Sound, size_of}
 use Rattle.kc_list.specs.Sheets.{Paper, Steps, Raises, RaisedAlong, stored, version, highest_of}
 use Rattle.kc_list.specs.Plain.{Written}
@@ -13,13 +13,17 @@ use Rattle.kc_list.specs.Tally.{TakesItem}
 use Rattle.kc_list.proofs.Counts.{size-agree}
 use Rattle.kc_list.specs.declared.sheet.Write.{Write}
 use Rattle.kc_list.proofs.Order.{parts, Before-then, Before-pairs}
-use Rattle.kc_list.proofs.Gathering.{all_before, Follows-all}
+use Rattle.kc_list.proofs.Gathering.{all_before}
 use Rattle.kc_list.proofs.Spreading.{stored-append}
 use Rattle.kc_list.proofs.Splits.{RaisedAlong-append}
 use Rattle.kc_list.proofs.Highest.{version-highest, highest-below}
+use Rattle.kc_words.specs.declared.layout.TheConstants.{LAST_VERSION}
+use Rattle.kc_words.proofs.Ordering.{Follows-all, PairBelow-asym}
 
 -- the writes of a call
-pub written_from : (n : ℕ) (before after : List ℕ) (x : ℕ) (p q r : Paper) (v : ℕ) → p.writes ≡ [] → Steps n before p q → r.words ≡ set q.words (1 + x) v → r.writes ≡ q.writes ++ record { word = 1 + x; value = v } ∷ [] → Ordered n r.words after → Raises q.words (record { word = 1 + x; value = v }) → Written n before after x p.words r.words r.writes
+pub written_from : (n : ℕ) (before after : List ℕ) (x : ℕ) (p q r : Paper) (v : ℕ) → p.writes ≡ [] → Steps n before p q → r.words ≡ set q.words (1 + x) v
+    → r.writes ≡ q.writes ++ record { word = 1 + x; value = v } ∷ [] → Ordered n r.words after → Raises q.words (record { word = 1 + x; value = v })
+    → Written n before after x p.words r.words r.writes
 written_from n before after x p q r v none h words writes o rise =
     let one : Write = record { word = 1 + x; value = v } in
     let are : r.writes ≡ h.added ++ one ∷ [] = writes ∙ ap (λ ss. ss ++ one ∷ []) (h.writes ∙ ap (λ ss. ss ++ h.added) none) in
@@ -37,9 +41,11 @@ written_from n before after x p q r v none h words writes o rise =
 -- the note's word stays
 note_stays : (ws : List ℕ) (ss : List Write) → RaisedAlong ws ss → get_or (stored ws ss) 0 0 ≡ get_or ws 0 0
 note_stays ws [] h = refl
-note_stays ws (s ∷ ss) h = let ne : 0 ≢ s.word = (let l = h.0.low in omega arith) in note_stays (set ws s.word s.value) ss h.1 ∙ get_or-set_other ws s.word 0 s.value 0 ne
+note_stays ws (s ∷ ss) h = let ne : 0 ≢ s.word = (let l = h.0.low in omega arith) in note_stays (set ws s.word s.value) ss h.1
+    ∙ get_or-set_other ws s.word 0 s.value 0 ne
 
-pub note_kept : (n : ℕ) (before after : List ℕ) (x : ℕ) (ws vs : List ℕ) (ss : List Write) → Written n before after x ws vs ss → get_or ws 0 0 ≡ 0 → get_or vs 0 0 ≡ 0
+pub note_kept : (n : ℕ) (before after : List ℕ) (x : ℕ) (ws vs : List ℕ) (ss : List Write) → Written n before after x ws vs ss → get_or ws 0 0 ≡ 0
+    → get_or vs 0 0 ≡ 0
 note_kept n before after x ws vs ss h z = ap (λ us. get_or us 0 0) h.words ∙ (note_stays ws ss h.raised ∙ z)
 
 -- what is in the list is in it after a put, and after a take of another
@@ -63,16 +69,12 @@ place-back : (x : ℕ) (l r : List ℕ) → member x l ≡ false → length l �
 place-back x [] r m = omega arith
 place-back x (y ∷ l) r m = elim (cases_eq x y) [
   | inl e ↦ absurd (true≢false (sym (ap (λ z. member z (y ∷ l)) e ∙ member-head y l) ∙ m))
-  | inr ne ↦ rw (ne_eqb x y ne) (omega (arith, place-back x l r (elim (cases_Bool (member x l)) [ inl t ↦ absurd (true≢false (sym (member-tail x y l t) ∙ m)) | inr f ↦ f ])))
+  | inr ne ↦ rw (ne_eqb x y ne) (omega
+      (arith, place-back x l r (elim (cases_Bool (member x l)) [ inl t ↦ absurd (true≢false (sym (member-tail x y l t) ∙ m)) | inr f ↦ f ])))
 ]
 
-pairs_apart : (a : Labels) (x y : ℕ) → PairBelow a x y → PairBelow a y x → ⊥
-pairs_apart a x y h k = elim h [
-  | inl t ↦ elim k [ inl u ↦ absurd (omega (arith, t, u)) | inr e ↦ absurd (omega (arith, t, e.0)) ]
-  | inr e ↦ elim k [ inl u ↦ absurd (omega (arith, u, e.0)) | inr e' ↦ absurd (omega (arith, e.1, e'.1)) ]
-]
-
-pub precedes_list : (n : ℕ) (ws list : List ℕ) (x y : ℕ) → Sound n ws list → member x list ≡ true → member y list ≡ true → x ≢ y → (PairBelow (labels n ws) x y → place_of x list < place_of y list) × (place_of x list < place_of y list → PairBelow (labels n ws) x y)
+pub precedes_list : (n : ℕ) (ws list : List ℕ) (x y : ℕ) → Sound n ws list → member x list ≡ true → member y list ≡ true → x ≢ y
+    → (PairBelow (labels n ws) x y → place_of x list < place_of y list) × (place_of x list < place_of y list → PairBelow (labels n ws) x y)
 precedes_list n ws list x y s x-in y-in ne =
     let a = labels n ws in
     let c = cut y list y-in in
@@ -88,16 +90,19 @@ precedes_list n ws list x y s x-in y-in ne =
             | inl k ↦ absurd (true≢false (sym k ∙ f))
             | inr k ↦ elim (member-cases x y c.back k) [ inl e ↦ absurd (ne e) | inr m ↦ m ]
           ] in
-          let after : PairBelow a y x = Before-pairs a y x (Follows-all (Before a) (Before-then a) y x c.back ((parts (Before a) c.front (y ∷ c.back) order).right) in-back) in
+          let after : PairBelow a y x = Before-pairs a y x
+          (Follows-all (Before a) (Before-then a) y x c.back ((parts (Before a) c.front (y ∷ c.back) order).right) in-back) in
           let front-one : member x (c.front ++ y ∷ []) ≡ false = elim (cases_Bool (member x (c.front ++ y ∷ []))) [
-            | inl k ↦ absurd (elim (member-append x c.front (y ∷ []) k) [ inl q ↦ true≢false (sym q ∙ f) | inr q ↦ elim (member-cases x y [] q) [ inl e ↦ ne e | inr none ↦ false≢true none ] ])
+            | inl k ↦ absurd (elim (member-append x c.front (y ∷ []) k)
+                [ inl q ↦ true≢false (sym q ∙ f) | inr q ↦ elim (member-cases x y [] q) [ inl e ↦ ne e | inr none ↦ false≢true none ] ])
             | inr o ↦ o
           ] in
           let whole : list ≡ (c.front ++ y ∷ []) ++ c.back = c.is ∙ sym (append_assoc c.front (y ∷ []) c.back) in
-          let here : length (c.front ++ y ∷ []) ≤ place_of x list = subst (λ zs. length (c.front ++ y ∷ []) ≤ place_of x zs) (sym whole) (place-back x (c.front ++ y ∷ []) c.back front-one) in
+          let here : length (c.front ++ y ∷ []) ≤ place_of x list =
+          subst (λ zs. length (c.front ++ y ∷ []) ≤ place_of x zs) (sym whole) (place-back x (c.front ++ y ∷ []) c.back front-one) in
           let y-at : place_of y list ≡ length c.front = ap (place_of y) c.is ∙ place_of-cut y c.front c.back apart.0 in
           let no-less : place_of x list < place_of y list → ⊥ = λ lt. absurd (omega (arith, here, y-at, lt, length-append c.front (y ∷ []))) in
-          (λ h. absurd (pairs_apart a x y h after), λ lt. absurd (no-less lt))
+          (λ h. absurd (PairBelow-asym a x y h after), λ lt. absurd (no-less lt))
     ]
 
 -- what stands right before and after an item is in the list
@@ -143,9 +148,15 @@ reached n h ws e note is =
     ]
 
 -- what a spread leaves of it
-pub takes_kept : (n : ℕ) (ws vs list : List ℕ) (x p : ℕ) → Sound n ws list → Sound n vs list → x < n → member p list ≡ true → ((y : ℕ) → member y list ≡ true → (labels n vs).group y ≡ (labels n ws).group y) → TakesItem n ws list x p → TakesItem n vs list x p
+pub takes_kept : (n : ℕ) (ws vs list : List ℕ) (x p : ℕ) → Sound n ws list → Sound n vs list → x < n → member p list ≡ true
+    → ((y : ℕ) → member y list ≡ true → (labels n vs).group y ≡ (labels n ws).group y) → TakesItem n ws list x p → TakesItem n vs list x p
 takes_kept n ws vs list x p s t below p-in same takes = elim takes [
-  | inl less ↦ inl (omega (arith, less, ap (λ g. size_of (labels n vs).group g list) (same p p-in), size-agree (labels n ws).group (labels n vs).group ((labels n ws).group p) list same))
+  | inl less ↦ inl (omega (
+    arith,
+    less,
+    ap (λ g. size_of (labels n vs).group g list) (same p p-in),
+    size-agree (labels n ws).group (labels n vs).group ((labels n ws).group p) list same,
+  ))
   | inr e ↦ elim (cases_Bool (member x list)) [
     | inl m ↦ inr (same x m ∙ (e ∙ sym (same p p-in)))
     | inr o ↦ absurd (let low = (s.inside p p-in).group_low in let z = s.outside x below o in omega arith)
@@ -153,11 +164,12 @@ takes_kept n ws vs list x p s t below p-in same takes = elim takes [
 ]
 
 -- the versions that a call starts from
-pub spare_versions : (ws us now : List ℕ) (w : ℕ) → us ≡ ws → ws ≡ now → highest_of now + 3 ≤ 16777215 → version us w + 3 ≤ 16777215
+pub spare_versions : (ws us now : List ℕ) (w : ℕ) → us ≡ ws → ws ≡ now → highest_of now + 3 ≤ LAST_VERSION → version us w + 3 ≤ LAST_VERSION
 spare_versions ws us now w e is h = omega (arith, version-highest us w, ap highest_of (e ∙ is), h)
 
 -- the greatest version after one store, and after a whole put
-pub highest_once : (ws vs : List ℕ) (w v k : ℕ) → vs ≡ set ws w v → version vs w ≡ version ws w + 1 → ((u : ℕ) → u ≢ w → version ws u ≤ k) → version ws w + 1 ≤ k → highest_of vs ≤ k
+pub highest_once : (ws vs : List ℕ) (w v k : ℕ) → vs ≡ set ws w v → version vs w ≡ version ws w + 1 → ((u : ℕ) → u ≢ w → version ws u ≤ k)
+    → version ws w + 1 ≤ k → highest_of vs ≤ k
 highest_once ws vs w v k e ver others here = highest-below vs k (λ u. elim (cases_eq u w) [
   | inl is ↦ omega (arith, ap (version vs) is, ver, here)
   | inr ne ↦ omega (arith, others u ne, ap (λ z. (item_of z).version) (ap (λ us. get_or us u 0) e ∙ get_or-set_other ws w u v 0 ne))

@@ -2,6 +2,7 @@
 use Rattle.std.specs.Prelude.{if◌then◌else◌, ◌≡◌, ◌≢◌, ℕ, zero, suc, ◌+◌, ◌*◌, ◌<◌, ◌≤◌, ◌⊎◌, List, [], ◌∷◌, ◌++◌, length, take, drop, map, true, false, ◌==◌}
 use Rattle.kc_distinct.specs.Lists.{member, Distinct, next_of}
 use Rattle.kc_words.specs.Order.{InOrder, Labels, labels}
+use Rattle.kc_words.specs.declared.layout.TheConstants.{BOTTOM_ROOM, TOP_ROOM}
 
 abbrev pub IfFirst : (ℕ → Type 0) → List ℕ → Type 0
 IfFirst P [] = Unit {0}
@@ -17,9 +18,9 @@ pub record Placed (n : ℕ) (a : Labels) (x : ℕ) : Type 0 where
   pub group_low : 0 < a.group x
   pub group_high : a.group x ≤ n + 1
   pub bottom_low : 0 < a.bottom x
-  pub bottom_high : a.bottom x < 524288
+  pub bottom_high : a.bottom x < BOTTOM_ROOM
   pub top_low : 0 < a.top (a.group x)
-  pub top_high : a.top (a.group x) < 1099511627776
+  pub top_high : a.top (a.group x) < TOP_ROOM
 
 -- what the words keep of the list between any two stores
 pub record Sound (n : ℕ) (ws : List ℕ) (list : List ℕ) : Type 0 where
@@ -46,7 +47,7 @@ pub record GroupStored (a b : Labels) (n g t : ℕ) : Type 0 where
 
 -- where the room after p ends: at the next item's label in its group, or at the end of all labels
 abbrev pub end_at : ℕ → Labels → ℕ → ℕ → ℕ
-end_at n a p q = if q == n then 524288 else if a.group q == a.group p then a.bottom q else 524288
+end_at n a p q = if q == n then BOTTOM_ROOM else if a.group q == a.group p then a.bottom q else BOTTOM_ROOM
 
 abbrev pub gap_end : ℕ → List ℕ → List ℕ → ℕ → ℕ
 gap_end n ws list p = end_at n (labels n ws) p (next_of n p list)
@@ -89,7 +90,7 @@ pub record Splitting (n : ℕ) (a : Labels) (list : List ℕ) (g h : ℕ) (low u
   pub h_low : 0 < h
   pub h_high : h ≤ n + 1
   pub tops : a.top g < a.top h
-  pub top_high : a.top h < 1099511627776
+  pub top_high : a.top h < TOP_ROOM
   pub after : IfFirst (λ z. a.top h < a.top (a.group z)) back
   pub bottoms : map a.bottom (drop i ups) ≡ drop i ls
 
@@ -114,4 +115,4 @@ pub record First (a : Labels) (list : List ℕ) (g x : ℕ) : Type 0 where
 
 -- where the gap above a group ends, whose last member is followed by q
 abbrev pub top_end : ℕ → Labels → ℕ → ℕ
-top_end n a q = if q == n then 1099511627776 else a.top (a.group q)
+top_end n a q = if q == n then TOP_ROOM else a.top (a.group q)

@@ -6,6 +6,8 @@ use Rattle.kc_words.specs.Order.{Ordered}
 use Rattle.kc_list.specs.Places.{Sound}
 use Rattle.kc_list.specs.Sheets.{Paper, stored, OrderedAlong, RaisedAlong}
 use Rattle.kc_list.specs.Tally.{Tallied}
+use Rattle.kc_words.specs.declared.layout.TheConstants.{ITEMS}
+use Rattle.kc_list.specs.declared.limits.TheConstants.{ITEM_WRITES}
 
 -- the items are the numbers below `items`, those below `fixed` stay in the list; `opening` and `words` are by word number
 pub record Plain : Type 0 where
@@ -31,10 +33,10 @@ pub record Written (n : ℕ) (before after : List ℕ) (x : ℕ) (old new : List
 -- what is kept between two calls: the labels, the sizes of the groups, and memory enough for a call
 pub record IsWhole (n fixed : ℕ) (list : List ℕ) (sheet : Paper) (sizes : List ℕ) (scratch : ℕ) (opening : List ℕ) : Type 0 where
   pub sound : Sound n sheet.words list
-  pub small : n ≤ 2097150
+  pub small : n ≤ ITEMS
   pub fixed_in : (x : ℕ) → x < fixed → member x list ≡ true
   pub tallied : Tallied n sheet.words list sizes
   pub scratch_room : n ≤ scratch
-  pub write_room : n + 98 ≤ sheet.room
+  pub write_room : n + ITEM_WRITES ≤ sheet.room
   pub opening_length : length opening ≡ n + n + 2
   pub note : slice_index sheet.words 0 ≡ 0

@@ -7,6 +7,7 @@ use Rattle.kc_list.specs.Places.{Sound, Segment, First, Free, Splitting, NotOf, 
 use Rattle.kc_list.specs.Sheets.{Paper, Steps, version}
 use Rattle.kc_list.specs.Tally.{Tallied}
 use Rattle.kc_list.specs.Tally as tally
+use Rattle.kc_words.specs.declared.layout.TheConstants.{LAST_VERSION}
 
 -- labels
 
@@ -89,7 +90,8 @@ abbrev pub HasLabelsAbove : Chain → Paper → ℕ → Type 0
 HasLabelsAbove c p g = (z : ℕ) → member z c.list ≡ true → top_at c p g < top_at c p (group_at c p z) → top_at c p g + 2 ≤ top_at c p (group_at c p z)
 
 abbrev pub TopsAreApart : Chain → Paper → Type 0
-TopsAreApart c p = (g : ℕ) → member g (groups_in_use c p) ≡ true → (h : ℕ) → member h (groups_in_use c p) ≡ true → top_at c p g < top_at c p h → top_at c p g + 2 ≤ top_at c p h
+TopsAreApart c p = (g : ℕ) → member g (groups_in_use c p) ≡ true → (h : ℕ) → member h (groups_in_use c p) ≡ true → top_at c p g < top_at c p h
+    → top_at c p g + 2 ≤ top_at c p h
 
 -- from one sheet to another
 
@@ -105,7 +107,7 @@ abbrev pub RisesByOne : Paper → Paper → Type 0
 RisesByOne p q = (w : ℕ) → version q.words w ≤ version p.words w + 1
 
 abbrev pub ItemsMayRise : Paper → List ℕ → Type 0
-ItemsMayRise p list = (y : ℕ) → member y list ≡ true → version p.words (1 + y) < 16777215
+ItemsMayRise p list = (y : ℕ) → member y list ≡ true → version p.words (1 + y) < LAST_VERSION
 
 -- no word changes but word w
 abbrev pub SetsWord : ℕ → Paper → Paper → Type 0

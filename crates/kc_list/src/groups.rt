@@ -1,7 +1,9 @@
-// How many items each group has, and which group numbers are free.
+//! How many items each group has, and which group numbers are free.
 ghost use Rattle.std.specs.Prelude.{◌≡◌, ◌<◌, ◌≤◌, ◌+◌, ◌-◌, ◌^◌, ℕ, length, slice_index, slice_set, IfOk};
 ghost use Rattle.kc_list.specs.Tally.{opening_count};
 
+use crate::limits::{GROUP_ITEMS, HALF_ITEMS, OPENING_ITEMS};
+use kc_words::ITEMS;
 use std::alloc::{AllocError, Global};
 use std::marker::Model;
 
@@ -29,9 +31,10 @@ impl Model for Groups {
 }
 
 impl Groups {
-    /// The groups of a list of `len` items of which 32 by 32 are put into groups, from group 1 on.
+    /// The groups of a list of `len` items of which `OPENING_ITEMS` at a time are put
+    /// into groups, from group 1 on.
     pub fn open(alloc: Global, items: u32, len: u32) -> Result<Self, AllocError>
-        requires few { items ≤ 2097150 }
+        requires few { items ≤ ITEMS }
         requires within { len ≤ items }
         ensures length { IfOk result (λ a. length a ≡ items + 2) }
         ensures none { IfOk result (λ a. slice_index a 0 ≡ 0) }
@@ -42,7 +45,7 @@ impl Groups {
         let mut free = vec![in alloc; 0u32; items as usize + 1]?;
         fill_sizes(&mut sizes, len);
         fill_free(&mut free);
-        let used = len.div_ceil(32);
+        let used = len.div_ceil(OPENING_ITEMS);
         Ok(Groups {
             sizes,
             free,
@@ -84,39 +87,39 @@ impl Groups {
         }
     }
 
-    /// Half of a full group of 64 items becomes a group of its own, with a number that was free.
+    /// Half of a full group becomes a group of its own, with a number that was free.
     pub fn split(&mut self, group: u32) -> u32
         requires within { group < length self.old }
-        requires full { slice_index self.old group ≡ 64 }
+        requires full { slice_index self.old group ≡ GROUP_ITEMS }
         requires spare { (h : ℕ) × (0 < h) × (h < length self.old) × (slice_index self.old h ≡ 0) }
         ensures low { 0 < result }
         ensures within { result < length self.old }
         ensures was_free { slice_index self.old result ≡ 0 }
-        ensures sizes { self.new ≡ slice_set (slice_set self.old group 32) result 32 }
+        ensures sizes { self.new ≡ slice_set (slice_set self.old group HALF_ITEMS) result HALF_ITEMS }
     {
         self.free_count -= 1;
         let fresh = self.free[self.free_count];
-        self.sizes[group as usize] = 32;
-        self.sizes[fresh as usize] = 32;
+        self.sizes[group as usize] = HALF_ITEMS;
+        self.sizes[fresh as usize] = HALF_ITEMS;
         fresh
     }
 }
 
 /// The sizes at the opening, by group number; place 0 stays.
 fn fill_sizes(sizes: &mut [u32], len: u32)
-    requires { length sizes.old < 2 ^ 24 }
+    requires { length sizes.old ≤ ITEMS + 2 }
     ensures none { slice_index sizes.new 0 ≡ slice_index sizes.old 0 }
     ensures sizes { (g : ℕ) → 0 < g → g < length sizes.old → slice_index sizes.new g ≡ opening_count len g }
 {
     for g in 1..sizes.len() {
-        let before = 32 * (g as u32 - 1);
-        sizes[g] = len.saturating_sub(before).min(32);
+        let before = OPENING_ITEMS * (g as u32 - 1);
+        sizes[g] = len.saturating_sub(before).min(OPENING_ITEMS);
     }
 }
 
 /// All group numbers, the greatest first.
 fn fill_free(free: &mut [u32])
-    requires { length free.old < 2 ^ 24 }
+    requires { length free.old ≤ ITEMS + 1 }
     ensures { (i : ℕ) → i < length free.old → slice_index free.new i ≡ length free.old - i }
 {
     let count = free.len();

@@ -1,4 +1,4 @@
-// A full group becomes two.
+//! A full group becomes two.
 ghost use Rattle.std.specs.Prelude.{◌≡◌, ◌≢◌, ◌<◌, ◌≤◌, ◌+◌, ◌⊎◌, ◌∷◌, ℕ, length, slice_index, take, drop, map, true};
 ghost use Rattle.kc_distinct.specs.Lists.{member};
 ghost use Rattle.kc_words.specs.Order.{labels};
@@ -6,20 +6,20 @@ ghost use Rattle.kc_list.specs.Places.{evens};
 ghost use Rattle.kc_list.specs.Sheets.{version, ChangesOnly};
 ghost use Rattle.kc_list.specs.Views.{IsSound, group_at, bottom_at, top_at, group_size, HasLabelAfter, HasLabelsAbove, AreMembers, KeepsOrder, IsFree, AreSizes, TakesItem, KeepsGroup, IsNoWordOf, end_above, version_at, RisesByOne, ItemsMayRise};
 
-use crate::TOP_ROOM;
 use crate::gather::gather;
 use crate::groups::Groups;
+use crate::limits::{GROUP_ITEMS, HALF_ITEMS, HALF_STEP};
 use crate::place::gap;
 use crate::scratch::Scratch;
 use crate::sheet::Sheet;
 use crate::split::split;
 use kc_links::Links;
-use kc_words::{GroupWord, ItemWord};
+use kc_words::{GroupWord, ITEMS, ItemWord, LAST_VERSION, TOP_ROOM};
 
 /// The label of a group whose last member is `last`, and where the gap above it ends.
 fn top_gap(links: &Links, sheet: &Sheet, group: u32, last: u32) -> (u64, u64)
     requires sound { IsSound links.now sheet.now }
-    requires small { links.now.size ≤ 2097150 }
+    requires small { links.now.size ≤ ITEMS }
     requires last_in { member last links.now.list ≡ true }
     requires group { group_at links.now sheet.now last ≡ group }
     ensures low { result.0 ≡ top_at links.now sheet.now group }
@@ -38,7 +38,7 @@ fn top_gap(links: &Links, sheet: &Sheet, group: u32, last: u32) -> (u64, u64)
 /// The middle of the gap above a group.
 fn top_between(links: &Links, sheet: &Sheet, group: u32, last: u32) -> u64
     requires sound { IsSound links.now sheet.now }
-    requires small { links.now.size ≤ 2097150 }
+    requires small { links.now.size ≤ ITEMS }
     requires last_in { member last links.now.list ≡ true }
     requires group { group_at links.now sheet.now last ≡ group }
     requires gap { top_at links.now sheet.now group + 2 ≤ end_above links.now sheet.now last }
@@ -52,53 +52,53 @@ fn top_between(links: &Links, sheet: &Sheet, group: u32, last: u32) -> u64
 /// Splits a full group.
 fn split_full(links: &Links, sheet: &mut Sheet, group: u32, fresh: u32, members: &[u32])
     requires sound { IsSound links.now sheet.old }
-    requires small { links.now.size ≤ 2097150 }
-    requires length { length members.now ≡ 64 }
+    requires small { links.now.size ≤ ITEMS }
+    requires length { length members.now ≡ GROUP_ITEMS }
     requires segment { AreMembers links.now sheet.old group members.now }
     requires free { IsFree links.now sheet.old fresh }
     requires gap { HasLabelsAbove links.now sheet.old group }
-    requires gap_high { top_at links.now sheet.old group + 2 ≤ 1099511627776 }
-    requires version_free { version_at sheet.old (links.now.size + fresh) < 16777215 }
+    requires gap_high { top_at links.now sheet.old group + 2 ≤ TOP_ROOM }
+    requires version_free { version_at sheet.old (links.now.size + fresh) < LAST_VERSION }
     requires version { ItemsMayRise sheet.old links.now.list }
-    requires room { length sheet.old.writes + 64 ≤ sheet.old.room }
+    requires room { length sheet.old.writes + GROUP_ITEMS ≤ sheet.old.room }
     ensures sound { IsSound links.now sheet.new }
     ensures size { (p : ℕ) → member p members.now ≡ true
-        → group_size links.now sheet.new (group_at links.now sheet.new p) ≡ 32 }
+        → group_size links.now sheet.new (group_at links.now sheet.new p) ≡ HALF_ITEMS }
     ensures steps { KeepsOrder links.now sheet.old sheet.new }
     ensures versions { RisesByOne sheet.old sheet.new }
-    ensures lower { AreMembers links.now sheet.new group (take 32 members.now) }
-    ensures upper { AreMembers links.now sheet.new fresh (drop 32 members.now) }
-    ensures bottoms { map (bottom_at links.now sheet.new) (drop 32 members.now) ≡ evens 32 15887 0 }
-    ensures only { ChangesOnly ((links.now.size + fresh) ∷ map (λ y. 1 + y) (drop 32 members.now))
+    ensures lower { AreMembers links.now sheet.new group (take HALF_ITEMS members.now) }
+    ensures upper { AreMembers links.now sheet.new fresh (drop HALF_ITEMS members.now) }
+    ensures bottoms { map (bottom_at links.now sheet.new) (drop HALF_ITEMS members.now) ≡ evens HALF_ITEMS HALF_STEP 0 }
+    ensures only { ChangesOnly ((links.now.size + fresh) ∷ map (λ y. 1 + y) (drop HALF_ITEMS members.now))
         sheet.old.words sheet.new.words }
-    ensures length { length sheet.new.writes ≡ length sheet.old.writes + 33 }
+    ensures length { length sheet.new.writes ≡ length sheet.old.writes + HALF_ITEMS + 1 }
     ensures room { sheet.new.room ≡ sheet.old.room }
 {
-    let top = top_between(links, sheet, group, members[63]);
-    let low = &members[..32];
-    let ups = &members[32..];
+    let top = top_between(links, sheet, group, members[GROUP_ITEMS - 1]);
+    let low = &members[..HALF_ITEMS as usize];
+    let ups = &members[HALF_ITEMS as usize..];
     split(links, sheet, group, fresh, top, low, ups);
 }
 
 /// Splits the full group of `p`.
 fn split_at(links: &Links, sheet: &mut Sheet, p: u32, fresh: u32, members: &mut [u32])
     requires sound { IsSound links.now sheet.old }
-    requires small { links.now.size ≤ 2097150 }
+    requires small { links.now.size ≤ ITEMS }
     requires p_in { member p links.now.list ≡ true }
-    requires length { length members.old ≡ 64 }
-    requires size { group_size links.now sheet.old (group_at links.now sheet.old p) ≡ 64 }
+    requires length { length members.old ≡ GROUP_ITEMS }
+    requires size { group_size links.now sheet.old (group_at links.now sheet.old p) ≡ GROUP_ITEMS }
     requires free { IsFree links.now sheet.old fresh }
     requires gap { HasLabelsAbove links.now sheet.old (group_at links.now sheet.old p) }
-    requires gap_high { top_at links.now sheet.old (group_at links.now sheet.old p) + 2 ≤ 1099511627776 }
-    requires version_free { version_at sheet.old (links.now.size + fresh) < 16777215 }
+    requires gap_high { top_at links.now sheet.old (group_at links.now sheet.old p) + 2 ≤ TOP_ROOM }
+    requires version_free { version_at sheet.old (links.now.size + fresh) < LAST_VERSION }
     requires version { ItemsMayRise sheet.old links.now.list }
-    requires room { length sheet.old.writes + 64 ≤ sheet.old.room }
+    requires room { length sheet.old.writes + GROUP_ITEMS ≤ sheet.old.room }
     ensures sound { IsSound links.now sheet.new }
-    ensures size { group_size links.now sheet.new (group_at links.now sheet.new p) ≡ 32 }
+    ensures size { group_size links.now sheet.new (group_at links.now sheet.new p) ≡ HALF_ITEMS }
     ensures steps { KeepsOrder links.now sheet.old sheet.new }
     ensures versions { RisesByOne sheet.old sheet.new }
-    ensures size_left { group_size links.now sheet.new (group_at links.now sheet.old p) ≡ 32 }
-    ensures size_fresh { group_size links.now sheet.new fresh ≡ 32 }
+    ensures size_left { group_size links.now sheet.new (group_at links.now sheet.old p) ≡ HALF_ITEMS }
+    ensures size_fresh { group_size links.now sheet.new fresh ≡ HALF_ITEMS }
     ensures sizes { (g : ℕ) → g ≢ group_at links.now sheet.old p → g ≢ fresh
         → group_size links.now sheet.new g ≡ group_size links.now sheet.old g }
     ensures gap { group_at links.now sheet.new p ≡ fresh → HasLabelAfter links.now sheet.new p }
@@ -106,7 +106,7 @@ fn split_at(links: &Links, sheet: &mut Sheet, p: u32, fresh: u32, members: &mut 
         → slice_index sheet.new.words w ≡ slice_index sheet.old.words w }
     ensures group { (group_at links.now sheet.new p ≡ group_at links.now sheet.old p)
         ⊎ (group_at links.now sheet.new p ≡ fresh) }
-    ensures length { length sheet.new.writes ≡ length sheet.old.writes + 33 }
+    ensures length { length sheet.new.writes ≡ length sheet.old.writes + HALF_ITEMS + 1 }
     ensures room { sheet.new.room ≡ sheet.old.room }
 {
     let group = ItemWord::of(sheet.word(1 + p)).group;
@@ -117,16 +117,16 @@ fn split_at(links: &Links, sheet: &mut Sheet, p: u32, fresh: u32, members: &mut 
 /// Sees to it that there is a top label between the full group of `p` and what follows it.
 fn make_top_room(links: &Links, sheet: &mut Sheet, scratch: &mut Scratch, p: u32)
     requires sound { IsSound links.now sheet.old }
-    requires small { links.now.size ≤ 2097150 }
+    requires small { links.now.size ≤ ITEMS }
     requires p_in { member p links.now.list ≡ true }
-    requires size { group_size links.now sheet.old (group_at links.now sheet.old p) ≡ 64 }
+    requires size { group_size links.now sheet.old (group_at links.now sheet.old p) ≡ GROUP_ITEMS }
     requires scratch { links.now.size ≤ scratch.old }
-    requires version { (w : ℕ) → version_at sheet.old w < 16777215 }
+    requires version { (w : ℕ) → version_at sheet.old w < LAST_VERSION }
     requires room { length sheet.old.writes + links.now.size ≤ sheet.old.room }
     ensures scratch { scratch.new ≡ scratch.old }
     ensures sound { IsSound links.now sheet.new }
     ensures gap { HasLabelsAbove links.now sheet.new (group_at links.now sheet.new p) }
-    ensures gap_high { top_at links.now sheet.new (group_at links.now sheet.new p) + 2 ≤ 1099511627776 }
+    ensures gap_high { top_at links.now sheet.new (group_at links.now sheet.new p) + 2 ≤ TOP_ROOM }
     ensures steps { KeepsOrder links.now sheet.old sheet.new }
     ensures items { (w : ℕ) → w ≤ links.now.size
         → slice_index sheet.new.words w ≡ slice_index sheet.old.words w }
@@ -136,10 +136,10 @@ fn make_top_room(links: &Links, sheet: &mut Sheet, scratch: &mut Scratch, p: u32
     ensures length { length sheet.new.writes ≤ length sheet.old.writes + links.now.size }
     ensures room { sheet.new.room ≡ sheet.old.room }
 {
-    let mut members = [0u32; 64];
+    let mut members = [0u32; GROUP_ITEMS];
     gather(links, sheet, p, &mut members);
     let group = ItemWord::of(sheet.word(1 + p)).group;
-    let (low, high) = top_gap(links, sheet, group, members[63]);
+    let (low, high) = top_gap(links, sheet, group, members[GROUP_ITEMS - 1]);
     if low + 2 <= high {
         return;
     }
@@ -149,27 +149,27 @@ fn make_top_room(links: &Links, sheet: &mut Sheet, scratch: &mut Scratch, p: u32
 /// Splits the full group of `p`, with new labels for all groups before it where they stand too close.
 fn split_group(links: &Links, sheet: &mut Sheet, groups: &mut Groups, scratch: &mut Scratch, p: u32)
     requires sound { IsSound links.now sheet.old }
-    requires small { links.now.size ≤ 2097150 }
+    requires small { links.now.size ≤ ITEMS }
     requires p_in { member p links.now.list ≡ true }
     requires tallied { AreSizes links.now sheet.old groups.old }
-    requires size { group_size links.now sheet.old (group_at links.now sheet.old p) ≡ 64 }
+    requires size { group_size links.now sheet.old (group_at links.now sheet.old p) ≡ GROUP_ITEMS }
     requires scratch { links.now.size ≤ scratch.old }
-    requires version { (w : ℕ) → version_at sheet.old w < 16777214 }
-    requires room { length sheet.old.writes + links.now.size + 64 ≤ sheet.old.room }
+    requires version { (w : ℕ) → version_at sheet.old w + 1 < LAST_VERSION }
+    requires room { length sheet.old.writes + links.now.size + GROUP_ITEMS ≤ sheet.old.room }
     ensures scratch { scratch.new ≡ scratch.old }
     ensures sound { IsSound links.now sheet.new }
     ensures tallied { AreSizes links.now sheet.new groups.new }
-    ensures size { group_size links.now sheet.new (group_at links.now sheet.new p) ≡ 32 }
+    ensures size { group_size links.now sheet.new (group_at links.now sheet.new p) ≡ HALF_ITEMS }
     ensures steps { KeepsOrder links.now sheet.old sheet.new }
     ensures kept { KeepsGroup links.now sheet.old sheet.new p }
     ensures versions { RisesByOne sheet.old sheet.new }
-    ensures length { length sheet.new.writes ≤ length sheet.old.writes + links.now.size + 33 }
+    ensures length { length sheet.new.writes ≤ length sheet.old.writes + links.now.size + HALF_ITEMS + 1 }
     ensures room { sheet.new.room ≡ sheet.old.room }
 {
     make_top_room(links, sheet, scratch, p);
     let group = ItemWord::of(sheet.word(1 + p)).group;
     let fresh = groups.split(group);
-    let mut members = [0u32; 64];
+    let mut members = [0u32; GROUP_ITEMS];
     split_at(links, sheet, p, fresh, &mut members);
 }
 
@@ -183,13 +183,13 @@ pub fn make_group_room(
     p: u32,
 )
     requires sound { IsSound links.now sheet.old }
-    requires small { links.now.size ≤ 2097150 }
+    requires small { links.now.size ≤ ITEMS }
     requires p_in { member p links.now.list ≡ true }
     requires x_within { x < links.now.size }
     requires tallied { AreSizes links.now sheet.old groups.old }
     requires scratch { links.now.size ≤ scratch.old }
-    requires version { (w : ℕ) → version_at sheet.old w < 16777214 }
-    requires room { length sheet.old.writes + links.now.size + 64 ≤ sheet.old.room }
+    requires version { (w : ℕ) → version_at sheet.old w + 1 < LAST_VERSION }
+    requires room { length sheet.old.writes + links.now.size + GROUP_ITEMS ≤ sheet.old.room }
     ensures scratch { scratch.new ≡ scratch.old }
     ensures sound { IsSound links.now sheet.new }
     ensures tallied { AreSizes links.now sheet.new groups.new }
@@ -197,11 +197,11 @@ pub fn make_group_room(
     ensures steps { KeepsOrder links.now sheet.old sheet.new }
     ensures kept { KeepsGroup links.now sheet.old sheet.new p }
     ensures versions { RisesByOne sheet.old sheet.new }
-    ensures length { length sheet.new.writes ≤ length sheet.old.writes + links.now.size + 33 }
+    ensures length { length sheet.new.writes ≤ length sheet.old.writes + links.now.size + HALF_ITEMS + 1 }
     ensures room { sheet.new.room ≡ sheet.old.room }
 {
     let here = ItemWord::of(sheet.word(1 + p)).group;
-    if groups.size(here) < 64 {
+    if (groups.size(here) as usize) < GROUP_ITEMS {
         return;
     }
     let (low, high) = gap(links, sheet, p);

@@ -18,6 +18,7 @@
 mod gather;
 mod groups;
 mod halve;
+pub mod limits;
 mod opening;
 mod place;
 mod plain;
@@ -28,15 +29,7 @@ mod split;
 mod spread;
 mod tops;
 
-/// The labels of items in a group are from 1 to below this: they have 19 bits.
-const BOTTOM_END: u32 = 524_288;
-
-/// The same, as the room that the labels of a group share.
-const BOTTOM_ROOM: u64 = 524_288;
-
-/// The labels of groups are from 1 to below this: they have 40 bits.
-const TOP_ROOM: u64 = 1_099_511_627_776;
-
+pub use limits::{GROUP_ITEMS, HALF_ITEMS, HALF_STEP, ITEM_WRITES, OPENING_ITEMS};
 pub use plain::PlainOrder;
 pub use sheet::Write;
 

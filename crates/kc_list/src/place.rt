@@ -1,4 +1,4 @@
-// Where an item stands, and how it comes to stand elsewhere.
+//! Where an item stands, and how it comes to stand elsewhere.
 ghost use Rattle.std.specs.Prelude.{◌≡◌, ◌≢◌, ◌<◌, ◌≤◌, ◌+◌, ◌-◌, ◌/◌, length, slice_index, true, IsTrue, ◌↔◌};
 ghost use Rattle.kc_distinct.specs.Lists.{member, without, right_after};
 ghost use Rattle.kc_words.specs.ItemWord.{item_of};
@@ -6,16 +6,18 @@ ghost use Rattle.kc_words.specs.Order.{labels};
 ghost use Rattle.kc_list.specs.Sheets.{version};
 ghost use Rattle.kc_list.specs.Views.{IsSound, group_at, bottom_at, HasLabelAfter, AreSizes, TakesItem, end_after, IsPairBelow, version_at, SetsWord, AddsWrite};
 
-use crate::BOTTOM_END;
 use crate::groups::Groups;
 use crate::sheet::Sheet;
 use kc_links::Links;
-use kc_words::{GroupWord, ItemWord};
+use kc_words::{BOTTOM_ROOM, GroupWord, ITEMS, ItemWord, LAST_VERSION};
+
+/// Where the labels of a group end, as an item's word has them.
+const BOTTOM_END: u32 = BOTTOM_ROOM as u32;
 
 /// The room for labels right after `p`, in its group.
 pub fn gap(links: &Links, sheet: &Sheet, p: u32) -> (u32, u32)
     requires sound { IsSound links.now sheet.now }
-    requires small { links.now.size ≤ 2097150 }
+    requires small { links.now.size ≤ ITEMS }
     requires p_in { member p links.now.list ≡ true }
     ensures low { result.0 ≡ bottom_at links.now sheet.now p }
     ensures high { result.1 ≡ end_after links.now sheet.now p }
@@ -48,13 +50,13 @@ fn take_out(links: &mut Links, x: u32, is_in: bool)
 /// Puts `x` right after `p`, with a label of the gap.
 pub fn put(links: &mut Links, sheet: &mut Sheet, x: u32, p: u32, label: u32)
     requires sound { IsSound links.old sheet.old }
-    requires small { links.old.size ≤ 2097150 }
+    requires small { links.old.size ≤ ITEMS }
     requires p_in { member p links.old.list ≡ true }
     requires x_within { x < links.old.size }
     requires differ { x ≢ p }
     requires low { bottom_at links.old sheet.old p < label }
     requires high { label < end_after links.old sheet.old p }
-    requires version { version_at sheet.old (1 + x) < 16777215 }
+    requires version { version_at sheet.old (1 + x) < LAST_VERSION }
     requires room { length sheet.old.writes < sheet.old.room }
     ensures size { links.new.size ≡ links.old.size }
     ensures list { links.new.list ≡ right_after x p (without x links.old.list) }
@@ -80,9 +82,9 @@ pub fn put(links: &mut Links, sheet: &mut Sheet, x: u32, p: u32, label: u32)
 /// Takes `x` out of the list: its word has no group and no label then.
 pub fn take(links: &mut Links, sheet: &mut Sheet, x: u32)
     requires sound { IsSound links.old sheet.old }
-    requires small { links.old.size ≤ 2097150 }
+    requires small { links.old.size ≤ ITEMS }
     requires x_in { member x links.old.list ≡ true }
-    requires version { version_at sheet.old (1 + x) < 16777215 }
+    requires version { version_at sheet.old (1 + x) < LAST_VERSION }
     requires room { length sheet.old.writes < sheet.old.room }
     ensures size { links.new.size ≡ links.old.size }
     ensures list { links.new.list ≡ without x links.old.list }
@@ -106,14 +108,14 @@ pub fn take(links: &mut Links, sheet: &mut Sheet, x: u32)
 /// Moves `x` right after `p`, where the group of `p` can take it and has a label for it.
 pub fn move_item(links: &mut Links, sheet: &mut Sheet, groups: &mut Groups, x: u32, p: u32)
     requires sound { IsSound links.old sheet.old }
-    requires small { links.old.size ≤ 2097150 }
+    requires small { links.old.size ≤ ITEMS }
     requires p_in { member p links.old.list ≡ true }
     requires x_within { x < links.old.size }
     requires differ { x ≢ p }
     requires tallied { AreSizes links.old sheet.old groups.old }
     requires takes { TakesItem links.old sheet.old x p }
     requires gap { HasLabelAfter links.old sheet.old p }
-    requires version { version_at sheet.old (1 + x) < 16777215 }
+    requires version { version_at sheet.old (1 + x) < LAST_VERSION }
     requires room { length sheet.old.writes < sheet.old.room }
     ensures size { links.new.size ≡ links.old.size }
     ensures list { links.new.list ≡ right_after x p (without x links.old.list) }
@@ -137,10 +139,10 @@ pub fn move_item(links: &mut Links, sheet: &mut Sheet, groups: &mut Groups, x: u
 /// Takes `x` out of the list and out of its group.
 pub fn take_item(links: &mut Links, sheet: &mut Sheet, groups: &mut Groups, x: u32)
     requires sound { IsSound links.old sheet.old }
-    requires small { links.old.size ≤ 2097150 }
+    requires small { links.old.size ≤ ITEMS }
     requires x_in { member x links.old.list ≡ true }
     requires tallied { AreSizes links.old sheet.old groups.old }
-    requires version { version_at sheet.old (1 + x) < 16777215 }
+    requires version { version_at sheet.old (1 + x) < LAST_VERSION }
     requires room { length sheet.old.writes < sheet.old.room }
     ensures size { links.new.size ≡ links.old.size }
     ensures list { links.new.list ≡ without x links.old.list }
@@ -160,7 +162,7 @@ pub fn take_item(links: &mut Links, sheet: &mut Sheet, groups: &mut Groups, x: u
 /// Whether the pair of labels of `x` is less than that of `y`.
 pub fn pair_below(links: &Links, sheet: &Sheet, x: u32, y: u32) -> bool
     requires sound { IsSound links.now sheet.now }
-    requires small { links.now.size ≤ 2097150 }
+    requires small { links.now.size ≤ ITEMS }
     requires x_in { member x links.now.list ≡ true }
     requires y_in { member y links.now.list ≡ true }
     ensures { IsTrue result ↔ IsPairBelow links.now sheet.now x y }

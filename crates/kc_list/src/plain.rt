@@ -1,4 +1,4 @@
-// The list of one thread, with the writes that its words need.
+//! The list of one thread, with the writes that its words need.
 ghost use Rattle.std.specs.Prelude.{◌≡◌, ◌≢◌, ◌<◌, ◌≤◌, ◌+◌, ◌*◌, ◌↔◌, ℕ, length, slice_index, true, [], IfOk, MatchOption, IsTrue};
 ghost use Rattle.kc_words.specs.ItemWord.{item_of};
 ghost use Rattle.kc_distinct.specs.Lists.{member, Distinct, without, right_after, next_of, prev_of, place_of};
@@ -8,13 +8,14 @@ ghost use Rattle.kc_list.specs.Plain.{Plain, Written};
 
 use crate::groups::Groups;
 use crate::halve::make_group_room;
+use crate::limits::ITEM_WRITES;
 use crate::opening::{link, opening_words};
 use crate::place::{move_item, pair_below, take_item};
 use crate::room::make_room;
 use crate::scratch::Scratch;
 use crate::sheet::{Sheet, Write};
 use kc_links::Links;
-use kc_words::{ItemWord, Shape};
+use kc_words::{ItemWord, LAST_VERSION, Shape};
 use std::alloc::{AllocError as NoMemory, Global};
 use std::marker::Model;
 
@@ -75,7 +76,12 @@ impl PlainOrder {
         let links = link(alloc, shape.items, order)?;
         let words = opening_words(alloc, shape.items, shape.version, order)?;
         let opening = words.as_slice().to_vec(alloc)?;
-        let sheet = Sheet::open(alloc, words, shape.version, shape.items as usize + 98)?;
+        let sheet = Sheet::open(
+            alloc,
+            words,
+            shape.version,
+            shape.items as usize + ITEM_WRITES,
+        )?;
         let groups = Groups::open(alloc, shape.items, order.len() as u32)?;
         let scratch = Scratch::new(alloc, shape.items as usize)?;
         Ok(PlainOrder {
@@ -112,7 +118,7 @@ impl PlainOrder {
         requires p_in { member p self.old.list ≡ true }
         requires x_within { x < self.old.items }
         requires differ { x ≢ p }
-        requires versions { highest_of self.old.words + 3 ≤ 16777215 }
+        requires versions { highest_of self.old.words + 3 ≤ LAST_VERSION }
         ensures items { self.new.items ≡ self.old.items }
         ensures fixed { self.new.fixed ≡ self.old.fixed }
         ensures opening { self.new.opening ≡ self.old.opening }
@@ -140,7 +146,7 @@ impl PlainOrder {
     pub fn take(&mut self, x: u32)
         requires x_in { member x self.old.list ≡ true }
         requires free { self.old.fixed ≤ x }
-        requires versions { highest_of self.old.words + 3 ≤ 16777215 }
+        requires versions { highest_of self.old.words + 3 ≤ LAST_VERSION }
         ensures items { self.new.items ≡ self.old.items }
         ensures fixed { self.new.fixed ≡ self.old.fixed }
         ensures opening { self.new.opening ≡ self.old.opening }

@@ -1,4 +1,4 @@
-// Room for new labels of all groups.
+//! Room for new labels of all groups.
 ghost use Rattle.std.specs.Prelude.{◌≡◌, ◌<◌, ◌≤◌, ◌+◌, ℕ, length, map, true, IfOk};
 ghost use Rattle.kc_distinct.specs.Lists.{member};
 ghost use Rattle.kc_words.specs.Order.{labels};
@@ -8,6 +8,7 @@ ghost use Rattle.kc_list.specs.Views.{IsSound, top_at, KeepsOrder, groups_in_use
 use crate::sheet::Sheet;
 use crate::tops::spread_tops_in;
 use kc_links::Links;
+use kc_words::{ITEMS, LAST_VERSION, TOP_ROOM};
 use std::alloc::{AllocError, Global};
 use std::marker::Model;
 
@@ -53,15 +54,15 @@ impl Scratch {
     pub fn spread_tops(&mut self, links: &Links, sheet: &mut Sheet)
         requires room_here { links.now.size ≤ self.old }
         requires sound { IsSound links.now sheet.old }
-        requires small { links.now.size ≤ 2097150 }
+        requires small { links.now.size ≤ ITEMS }
         requires version { (g : ℕ) → 0 < g → g ≤ links.now.size + 1
-            → version_at sheet.old (links.now.size + g) < 16777215 }
+            → version_at sheet.old (links.now.size + g) < LAST_VERSION }
         requires room { length sheet.old.writes + links.now.size ≤ sheet.old.room }
         ensures same_room { self.new ≡ self.old }
         ensures sound { IsSound links.now sheet.new }
         ensures gaps { TopsAreApart links.now sheet.new }
         ensures gaps_high { (g : ℕ) → member g (groups_in_use links.now sheet.new) ≡ true
-            → top_at links.now sheet.new g + 2 ≤ 1099511627776 }
+            → top_at links.now sheet.new g + 2 ≤ TOP_ROOM }
         ensures steps { KeepsOrder links.now sheet.old sheet.new }
         ensures only { ChangesOnly (map (λ g. links.now.size + g) (groups_in_use links.now sheet.old))
             sheet.old.words sheet.new.words }

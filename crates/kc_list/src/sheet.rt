@@ -1,4 +1,4 @@
-// The words of the list, and the writes that the last call made.
+//! The words of the list, and the writes that the last call made.
 ghost use Rattle.std.specs.Prelude.{◌≡◌, ◌<◌, ◌+◌, ◌++◌, ◌∷◌, [], length, slice_index, slice_set, take, IfOk};
 ghost use Rattle.kc_words.specs.ItemWord.{item_of};
 ghost use Rattle.kc_list.specs.Sheets.{Paper, version, highest_of};

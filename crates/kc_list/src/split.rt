@@ -1,14 +1,14 @@
-// A group's upper members get a group of their own.
+//! A group's upper members get a group of their own.
 ghost use Rattle.std.specs.Prelude.{◌≡◌, ◌<◌, ◌≤◌, ◌+◌, ◌/◌, ◌++◌, ◌∷◌, ℕ, length, slice_index, map};
 ghost use Rattle.kc_distinct.specs.Lists.{member};
 ghost use Rattle.kc_list.specs.Sheets.{version, ChangesOnly};
 ghost use Rattle.kc_list.specs.Views.{IsSound, bottom_at, top_at, AreMembers, KeepsOrder, IsFree, IsSplitting, version_at, RisesByOne, SetsWord, AddsWrite, ItemsMayRise, evenly, FitsAbove};
 
-use crate::BOTTOM_ROOM;
+use crate::limits::GROUP_ITEMS;
 use crate::sheet::Sheet;
 use kc_links::Links;
 use kc_relabel::spread;
-use kc_words::{GroupWord, ItemWord};
+use kc_words::{BOTTOM_ROOM, GroupWord, ITEMS, ItemWord, LAST_VERSION, TOP_ROOM};
 
 /// Stores the word of the member at a place with its new group and label.
 fn move_up(
@@ -22,19 +22,19 @@ fn move_up(
     label: u64,
 )
     requires sound { IsSound links.now sheet.old }
-    requires small { links.now.size ≤ 2097150 }
+    requires small { links.now.size ≤ ITEMS }
     requires some_low { 0 < length low.now }
-    requires count { length ups.now ≤ 64 }
+    requires count { length ups.now ≤ GROUP_ITEMS }
     requires place_in { place < length ups.now }
     requires splitting { IsSplitting links.now sheet.old group fresh low.now ups.now
-        (evenly (length ups.now) 524288) (place + 1) }
+        (evenly (length ups.now) BOTTOM_ROOM) (place + 1) }
     requires label { label ≡ slice_index
-        (evenly (length ups.now) 524288) place }
-    requires version { version_at sheet.old (1 + slice_index ups.now place) < 16777215 }
+        (evenly (length ups.now) BOTTOM_ROOM) place }
+    requires version { version_at sheet.old (1 + slice_index ups.now place) < LAST_VERSION }
     requires room { length sheet.old.writes < sheet.old.room }
     ensures sound { IsSound links.now sheet.new }
     ensures splitting { IsSplitting links.now sheet.new group fresh low.now ups.now
-        (evenly (length ups.now) 524288) place }
+        (evenly (length ups.now) BOTTOM_ROOM) place }
     ensures words { SetsWord (1 + slice_index ups.now place) sheet.old sheet.new }
     ensures writes { AddsWrite (1 + slice_index ups.now place) sheet.old sheet.new }
     ensures version { version_at sheet.new (1 + slice_index ups.now place)
@@ -54,16 +54,16 @@ fn move_up(
 /// Moves the upper members, from the last to the first.
 fn move_all(links: &Links, sheet: &mut Sheet, group: u32, fresh: u32, low: &[u32], ups: &[u32])
     requires sound { IsSound links.now sheet.old }
-    requires small { links.now.size ≤ 2097150 }
+    requires small { links.now.size ≤ ITEMS }
     requires some_low { 0 < length low.now }
-    requires count { length ups.now ≤ 64 }
+    requires count { length ups.now ≤ GROUP_ITEMS }
     requires splitting { IsSplitting links.now sheet.old group fresh low.now ups.now
-        (evenly (length ups.now) 524288) (length ups.now) }
+        (evenly (length ups.now) BOTTOM_ROOM) (length ups.now) }
     requires version { ItemsMayRise sheet.old ups.now }
     requires room { length sheet.old.writes + length ups.now ≤ sheet.old.room }
     ensures sound { IsSound links.now sheet.new }
     ensures splitting { IsSplitting links.now sheet.new group fresh low.now ups.now
-        (evenly (length ups.now) 524288) 0 }
+        (evenly (length ups.now) BOTTOM_ROOM) 0 }
     ensures steps { KeepsOrder links.now sheet.old sheet.new }
     ensures versions { RisesByOne sheet.old sheet.new }
     ensures only { ChangesOnly (map (λ y. 1 + y) ups.now) sheet.old.words sheet.new.words }
@@ -91,18 +91,18 @@ fn store_top(
     ups: &[u32],
 )
     requires sound { IsSound links.now sheet.old }
-    requires small { links.now.size ≤ 2097150 }
+    requires small { links.now.size ≤ ITEMS }
     requires some_low { 0 < length low.now }
     requires segment { AreMembers links.now sheet.old group (low.now ++ ups.now) }
     requires free { IsFree links.now sheet.old fresh }
     requires above { top_at links.now sheet.old group < top }
-    requires high { top < 1099511627776 }
+    requires high { top < TOP_ROOM }
     requires gap { FitsAbove links.now sheet.old group top }
-    requires version { version_at sheet.old (links.now.size + fresh) < 16777215 }
+    requires version { version_at sheet.old (links.now.size + fresh) < LAST_VERSION }
     requires room { length sheet.old.writes < sheet.old.room }
     ensures sound { IsSound links.now sheet.new }
     ensures splitting { IsSplitting links.now sheet.new group fresh low.now ups.now
-        (evenly (length ups.now) 524288) (length ups.now) }
+        (evenly (length ups.now) BOTTOM_ROOM) (length ups.now) }
     ensures steps { KeepsOrder links.now sheet.old sheet.new }
     ensures words { SetsWord (links.now.size + fresh) sheet.old sheet.new }
     ensures length { length sheet.new.writes ≡ length sheet.old.writes + 1 }
@@ -129,21 +129,21 @@ pub fn split(
     ups: &[u32],
 )
     requires sound { IsSound links.now sheet.old }
-    requires small { links.now.size ≤ 2097150 }
+    requires small { links.now.size ≤ ITEMS }
     requires some_low { 0 < length low.now }
-    requires count { length ups.now ≤ 64 }
+    requires count { length ups.now ≤ GROUP_ITEMS }
     requires segment { AreMembers links.now sheet.old group (low.now ++ ups.now) }
     requires free { IsFree links.now sheet.old fresh }
     requires above { top_at links.now sheet.old group < top }
-    requires high { top < 1099511627776 }
+    requires high { top < TOP_ROOM }
     requires gap { FitsAbove links.now sheet.old group top }
-    requires version { version_at sheet.old (links.now.size + fresh) < 16777215 }
+    requires version { version_at sheet.old (links.now.size + fresh) < LAST_VERSION }
     requires versions { ItemsMayRise sheet.old ups.now }
     requires room { length sheet.old.writes + length ups.now < sheet.old.room }
     ensures sound { IsSound links.now sheet.new }
     ensures lower { AreMembers links.now sheet.new group low.now }
     ensures upper { AreMembers links.now sheet.new fresh ups.now }
-    ensures bottoms { map (bottom_at links.now sheet.new) ups.now ≡ evenly (length ups.now) 524288 }
+    ensures bottoms { map (bottom_at links.now sheet.new) ups.now ≡ evenly (length ups.now) BOTTOM_ROOM }
     ensures steps { KeepsOrder links.now sheet.old sheet.new }
     ensures only { ChangesOnly ((links.now.size + fresh) ∷ map (λ y. 1 + y) ups.now)
         sheet.old.words sheet.new.words }

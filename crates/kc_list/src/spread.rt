@@ -1,4 +1,4 @@
-// New labels for the members of a group, one store after another.
+//! New labels for the members of a group, one store after another.
 ghost use Rattle.std.specs.Prelude.{◌≡◌, ◌<◌, ◌≤◌, ◌+◌, ◌/◌, ◌^◌, ℕ, length, slice_index, slice_set, take, map, true};
 ghost use Rattle.kc_distinct.specs.Lists.{member, Distinct};
 ghost use Rattle.kc_relabel.specs.Labels.{Ascends, written, places};
@@ -6,20 +6,20 @@ ghost use Rattle.kc_words.specs.Order.{labels};
 ghost use Rattle.kc_list.specs.Sheets.{version, ChangesOnly};
 ghost use Rattle.kc_list.specs.Views.{IsSound, bottom_at, AreMembers, KeepsOrder, version_at, RisesByOne, SetsWord, AddsWrite, ItemsMayRise, evenly};
 
-use crate::BOTTOM_ROOM;
+use crate::limits::GROUP_ITEMS;
 use crate::sheet::Sheet;
 use kc_links::Links;
 use kc_relabel::{schedule, spread};
-use kc_words::ItemWord;
+use kc_words::{BOTTOM_ROOM, ITEMS, ItemWord, LAST_VERSION};
 
 /// Stores the word of one member with another label.
 fn relabel(links: &Links, sheet: &mut Sheet, members: &[u32], group: u32, place: u32, label: u64)
     requires sound { IsSound links.now sheet.old }
-    requires small { links.now.size ≤ 2097150 }
+    requires small { links.now.size ≤ ITEMS }
     requires segment { AreMembers links.now sheet.old group members.now }
     requires place_in { place < length members.now }
-    requires ascends { Ascends 1 524288 (slice_set (map (bottom_at links.now sheet.old) members.now) place label) }
-    requires version { version_at sheet.old (1 + slice_index members.now place) < 16777215 }
+    requires ascends { Ascends 1 BOTTOM_ROOM (slice_set (map (bottom_at links.now sheet.old) members.now) place label) }
+    requires version { version_at sheet.old (1 + slice_index members.now place) < LAST_VERSION }
     requires room { length sheet.old.writes < sheet.old.room }
     ensures sound { IsSound links.now sheet.new }
     ensures segment { AreMembers links.now sheet.new group members.now }
@@ -44,12 +44,12 @@ fn relabel(links: &Links, sheet: &mut Sheet, members: &[u32], group: u32, place:
 /// Stores new labels in the order of a schedule.
 fn relabel_all(links: &Links, sheet: &mut Sheet, members: &[u32], group: u32, steps: &[(u32, u64)])
     requires sound { IsSound links.now sheet.old }
-    requires small { links.now.size ≤ 2097150 }
+    requires small { links.now.size ≤ ITEMS }
     requires segment { AreMembers links.now sheet.old group members.now }
     requires once { Distinct (places steps.now) }
     requires within { (p : ℕ) → member p (places steps.now) ≡ true → p < length members.now }
     requires ascends { (k : ℕ) → k ≤ length steps.now
-        → Ascends 1 524288 (written (map (bottom_at links.now sheet.old) members.now) (take k steps.now)) }
+        → Ascends 1 BOTTOM_ROOM (written (map (bottom_at links.now sheet.old) members.now) (take k steps.now)) }
     requires version { ItemsMayRise sheet.old members.now }
     requires room { length sheet.old.writes + length steps.now ≤ sheet.old.room }
     ensures sound { IsSound links.now sheet.new }
@@ -70,7 +70,7 @@ fn relabel_all(links: &Links, sheet: &mut Sheet, members: &[u32], group: u32, st
 /// The labels of the members.
 fn read_labels(links: &Links, sheet: &Sheet, members: &[u32], into: &mut [u64])
     requires words { length sheet.now.words ≡ links.now.size + links.now.size + 2 }
-    requires small { links.now.size ≤ 2097150 }
+    requires small { links.now.size ≤ ITEMS }
     requires length { length into.old ≡ length members.now }
     requires within { (y : ℕ) → member y members.now ≡ true → y < links.now.size }
     ensures { into.new ≡ map (bottom_at links.now sheet.now) members.now }
@@ -104,17 +104,17 @@ fn spread_with(
     steps: &mut [(u32, u64)],
 )
     requires sound { IsSound links.now sheet.old }
-    requires small { links.now.size ≤ 2097150 }
+    requires small { links.now.size ≤ ITEMS }
     requires segment { AreMembers links.now sheet.old group members.now }
     requires old_length { length old.old ≡ length members.now }
     requires new_length { length new.old ≡ length members.now }
     requires steps_length { length steps.old ≡ length members.now }
-    requires count { length members.now ≤ 64 }
+    requires count { length members.now ≤ GROUP_ITEMS }
     requires version { ItemsMayRise sheet.old members.now }
     requires room { length sheet.old.writes + length members.now ≤ sheet.old.room }
     ensures sound { IsSound links.now sheet.new }
     ensures segment { AreMembers links.now sheet.new group members.now }
-    ensures bottoms { map (bottom_at links.now sheet.new) members.now ≡ evenly (length members.now) 524288 }
+    ensures bottoms { map (bottom_at links.now sheet.new) members.now ≡ evenly (length members.now) BOTTOM_ROOM }
     ensures steps { KeepsOrder links.now sheet.old sheet.new }
     ensures only { ChangesOnly (map (λ y. 1 + y) members.now) sheet.old.words sheet.new.words }
     ensures versions { RisesByOne sheet.old sheet.new }
@@ -130,14 +130,14 @@ fn spread_with(
 /// Spreads the labels of a group evenly.
 pub fn spread_group(links: &Links, sheet: &mut Sheet, members: &[u32], group: u32)
     requires sound { IsSound links.now sheet.old }
-    requires small { links.now.size ≤ 2097150 }
+    requires small { links.now.size ≤ ITEMS }
     requires segment { AreMembers links.now sheet.old group members.now }
-    requires count { length members.now ≤ 64 }
+    requires count { length members.now ≤ GROUP_ITEMS }
     requires version { ItemsMayRise sheet.old members.now }
     requires room { length sheet.old.writes + length members.now ≤ sheet.old.room }
     ensures sound { IsSound links.now sheet.new }
     ensures segment { AreMembers links.now sheet.new group members.now }
-    ensures bottoms { map (bottom_at links.now sheet.new) members.now ≡ evenly (length members.now) 524288 }
+    ensures bottoms { map (bottom_at links.now sheet.new) members.now ≡ evenly (length members.now) BOTTOM_ROOM }
     ensures steps { KeepsOrder links.now sheet.old sheet.new }
     ensures only { ChangesOnly (map (λ y. 1 + y) members.now) sheet.old.words sheet.new.words }
     ensures versions { RisesByOne sheet.old sheet.new }
@@ -145,9 +145,9 @@ pub fn spread_group(links: &Links, sheet: &mut Sheet, members: &[u32], group: u3
     ensures room { sheet.new.room ≡ sheet.old.room }
 {
     let count = members.len();
-    let mut old = [0u64; 64];
-    let mut new = [0u64; 64];
-    let mut steps = [(0u32, 0u64); 64];
+    let mut old = [0u64; GROUP_ITEMS];
+    let mut new = [0u64; GROUP_ITEMS];
+    let mut steps = [(0u32, 0u64); GROUP_ITEMS];
     spread_with(
         links,
         sheet,

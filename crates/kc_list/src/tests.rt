@@ -1,23 +1,33 @@
-ghost use Rattle.std.specs.Prelude.{◌≡◌, ◌<◌, ◌≤◌, IfOk};
+//! The list over long runs, beside a plain list, and its labels in a few small ones.
+ghost use Rattle.std.specs.Prelude.{◌≡◌, ◌<◌, ◌≤◌, ℕ, length, slice_index, IfOk};
 
-use crate::{PlainOrder, Write};
-use kc_words::{GroupWord, ItemWord, Shape};
+use crate::{GROUP_ITEMS, PlainOrder, Write};
+use kc_words::{GroupWord, ITEMS, ItemWord, LAST_VERSION, Shape};
 use std::alloc::{AllocError, Global};
 use std::process::Abort;
 use std::test::Fail;
 
+/// The numbers below `len`, in ascending order.
+fn numbers(alloc: Global, len: u32) -> Result<Vec<u32>, AllocError>
+    ensures length { IfOk result (λ a. length a.items ≡ len) }
+    ensures each { IfOk result (λ a. (k : ℕ) → k < len → slice_index a.items k ≡ k) }
+{
+    let mut numbers = Vec::new(alloc);
+    for x in 0..len {
+        numbers.push(x)?;
+    }
+    Ok(numbers)
+}
+
 /// A list of `items` items, of which those below `len` are in it, in ascending order.
 fn ascending(alloc: Global, items: u32, len: u32) -> Result<PlainOrder, AllocError>
     requires some { 1 ≤ items }
-    requires few { items ≤ 2097150 }
+    requires few { items ≤ ITEMS }
     requires within { len ≤ items }
     ensures items { IfOk result (λ a. a.items ≡ items) }
     ensures fixed { IfOk result (λ a. a.fixed ≡ 0) }
 {
-    let mut order = Vec::new(alloc);
-    for x in 0..len {
-        order.push(x)?;
-    }
+    let order = numbers(alloc, len)?;
     let shape = Shape {
         items,
         fixed: 0,
@@ -36,67 +46,103 @@ fn put(rt: &impl Abort, order: &mut PlainOrder, x: u32, p: u32)
 {
     assert!(rt; order.present(p));
     assert!(rt; x != p);
-    assert!(rt; order.highest() <= 16_777_212);
+    assert!(rt; order.highest() <= LAST_VERSION - 3);
     order.put_after(x, p);
 }
 
-#[test]
-fn a_put_takes_the_middle_of_the_gap(rt: HostRuntime) -> Result<(), Fail> {
-    let mut order = ascending(rt.alloc(), 2, 1)?;
+/// Puts 1 behind 0, which is alone, and looks at the word.
+fn check_middle(rt: &impl Abort, order: &mut PlainOrder)
+    requires { order.old.items ≡ 2 }
+{
     let first = ItemWord::of(order.opening(1));
-    put(&rt, &mut order, 1, 0);
+    put(rt, order, 1, 0);
     assert_eq!(rt; order.writes().len(), 1);
     assert_eq!(rt; order.writes()[0].word, 2);
     let word = ItemWord::of(order.writes()[0].value);
     assert_eq!(rt; word.version, 1);
     assert_eq!(rt; word.group, first.group);
     assert_eq!(rt; word.bottom, 393_216);
+}
+
+#[test]
+fn a_put_takes_the_middle_of_the_gap(rt: HostRuntime) -> Result<(), Fail> {
+    let mut order = ascending(rt.alloc(), 2, 1)?;
+    check_middle(&rt, &mut order);
     Ok(())
+}
+
+/// Looks at the labels of a list that opened with one group.
+fn check_opening(rt: &impl Abort, order: &PlainOrder, items: u32, bottom: u32)
+    requires some { 1 ≤ items }
+    requires few { items ≤ ITEMS }
+    requires items { order.now.items ≡ items }
+{
+    let first = ItemWord::of(order.opening(1));
+    assert_eq!(rt; first.bottom, bottom);
+    assert!(rt; 1 <= first.group && first.group <= items + 1);
+    let group = GroupWord::of(order.opening(items + first.group));
+    assert_eq!(rt; group.top, 549_755_813_888);
+    assert_eq!(rt; order.writes().len(), 0);
+    assert_eq!(rt; order.highest(), 0);
 }
 
 #[test]
 fn a_list_opens_with_even_labels(rt: HostRuntime) -> Result<(), Fail> {
-    for (items, bottom) in [(1, 262_144), (32, 15_887)] {
-        let order = ascending(rt.alloc(), items, items)?;
-        let first = ItemWord::of(order.opening(1));
-        assert_eq!(rt; first.bottom, bottom, "of {items} items");
-        assert!(rt; 1 <= first.group && first.group <= items + 1);
-        let group = GroupWord::of(order.opening(items + first.group));
-        assert_eq!(rt; group.top, 549_755_813_888);
-        assert_eq!(rt; order.writes().len(), 0);
-        assert_eq!(rt; order.highest(), 0);
-    }
+    check_opening(&rt, &ascending(rt.alloc(), 1, 1)?, 1, 262_144);
+    check_opening(&rt, &ascending(rt.alloc(), 32, 32)?, 32, 15_887);
     Ok(())
 }
 
-#[test]
-fn a_full_group_is_split_from_its_last_item_on(rt: HostRuntime) -> Result<(), Fail> {
-    let mut order = ascending(rt.alloc(), 100, 32)?;
+/// Fills the group of 0 to 31, and puts one item more into it.
+fn check_split(rt: &impl Abort, order: &mut PlainOrder)
+    requires { order.old.items ≡ 100 }
+{
     for x in 32..64 {
-        put(&rt, &mut order, x, x - 1);
+        put(rt, order, x, x - 1);
     }
-    put(&rt, &mut order, 64, 0);
+    put(rt, order, 64, 0);
     assert_eq!(rt; order.writes().len(), 34);
     let moved = ItemWord::of(order.writes()[1].value);
     assert_eq!(rt; order.writes()[0].word, 100 + moved.group);
     assert_eq!(rt; order.writes()[1].word, 64);
     assert_eq!(rt; order.writes()[33].word, 65);
+}
+
+#[test]
+fn a_full_group_is_split_from_its_last_item_on(rt: HostRuntime) -> Result<(), Fail> {
+    let mut order = ascending(rt.alloc(), 100, 32)?;
+    check_split(&rt, &mut order);
     Ok(())
+}
+
+/// Puts all items, each right after 0.
+fn put_all_after_0(rt: &impl Abort, order: &mut PlainOrder)
+    requires { order.old.items ≡ 100001 }
+    ensures { order.new.items ≡ order.old.items }
+{
+    let mut relabels = Relabels::default();
+    for x in 1..100_001 {
+        put(rt, order, x, 0);
+        relabels.count(rt, 100_001, order.writes());
+    }
+}
+
+/// The items stand from the last to the first, behind 0.
+fn check_reverse(rt: &impl Abort, order: &PlainOrder)
+    requires { order.now.items ≡ 100001 }
+{
+    let mut before = 0;
+    for x in (1..100_001).rev() {
+        check_neighbours(rt, order, before, x);
+        before = x;
+    }
 }
 
 #[test]
 fn puts_after_the_first_item_stand_in_reverse(rt: HostRuntime) -> Result<(), Fail> {
     let mut order = ascending(rt.alloc(), 100_001, 1)?;
-    let mut relabels = Relabels::default();
-    for x in 1..100_001 {
-        put(&rt, &mut order, x, 0);
-        relabels.count(&rt, 100_001, order.writes());
-    }
-    let mut before = 0;
-    for x in (1..100_001).rev() {
-        check_neighbours(&rt, &order, before, x);
-        before = x;
-    }
+    put_all_after_0(&rt, &mut order);
+    check_reverse(&rt, &order);
     Ok(())
 }
 
@@ -124,7 +170,7 @@ struct Relabels {
 
 impl Relabels {
     /// Counts what a call of a list of `items` items wrote. Where it neither splits a group nor
-    /// spreads all of them, it writes at most 64 words: those of the items of a group.
+    /// spreads all of them, it writes at most the words of the items of a group.
     fn count(&mut self, rt: &impl Abort, items: u32, writes: &[Write]) {
         let tops = writes.iter().filter(|write| write.word > items).count();
         if tops > 1 {
@@ -135,7 +181,7 @@ impl Relabels {
             self.splits = self.splits.wrapping_add(1);
             return;
         }
-        assert!(rt; writes.len() <= 64);
+        assert!(rt; writes.len() <= GROUP_ITEMS);
         if writes.len() > 1 {
             self.spreads = self.spreads.wrapping_add(1);
         }
@@ -183,7 +229,7 @@ fn step(
         plain.remove(at);
     }
     if old.is_some() && random % 8 == 0 {
-        assert!(rt; order.present(x) && order.highest() <= 16_777_212);
+        assert!(rt; order.present(x) && order.highest() <= LAST_VERSION - 3);
         order.take(x);
         assert_eq!(rt; order.writes().len(), 1);
         return Ok(());
@@ -197,28 +243,54 @@ fn step(
     Ok(())
 }
 
-#[test]
-fn the_list_is_a_plain_list(rt: HostRuntime) -> Result<(), Fail> {
-    let mut order = ascending(rt.alloc(), 1_000, 500)?;
-    let mut plain = Vec::new(rt.alloc());
-    for x in 0..500u32 {
-        plain.push(x)?;
-    }
+/// Many turns in the list and in a plain one, and what they wrote.
+fn take_turns(
+    rt: &impl Abort,
+    order: &mut PlainOrder,
+    plain: &mut Vec<u32>,
+) -> Result<Relabels, Fail>
+    requires items { order.old.items ≡ 1000 }
+    requires fixed { order.old.fixed ≡ 0 }
+    ensures { order.new.items ≡ order.old.items }
+{
     let mut state = 1;
     let mut relabels = Relabels::default();
     for turn in 0..100_000 {
         let x = next_random(&mut state) % 999 + 1;
         let random = next_random(&mut state);
-        step(&rt, &mut order, &mut plain, turn, x as u32, random)?;
-        relabels.count(&rt, 1_000, order.writes());
+        step(rt, order, plain, turn, x as u32, random)?;
+        relabels.count(rt, 1_000, order.writes());
     }
+    Ok(relabels)
+}
+
+/// The items of the list stand as those of a plain one do, which begins with 0.
+fn check_order(rt: &impl Abort, order: &PlainOrder, plain: &[u32])
+    requires { order.now.items ≡ 1000 }
+{
     let mut before = 0;
     for x in plain.iter().skip(1) {
         assert!(rt; *x < 1_000);
-        check_neighbours(&rt, &order, before, *x);
+        check_neighbours(rt, order, before, *x);
         before = *x;
     }
+}
+
+/// Many turns in both, which make labels anew in each way that there is.
+fn check_turns(rt: &impl Abort, order: &mut PlainOrder, plain: &mut Vec<u32>) -> Result<(), Fail>
+    requires items { order.old.items ≡ 1000 }
+    requires fixed { order.old.fixed ≡ 0 }
+{
+    let relabels = take_turns(rt, order, plain)?;
+    check_order(rt, order, plain);
     assert!(rt; relabels.spreads > 0 && relabels.splits > 0 && relabels.respreads > 0);
     assert_eq!(rt; relabels.most, 64);
     Ok(())
+}
+
+#[test]
+fn the_list_is_a_plain_list(rt: HostRuntime) -> Result<(), Fail> {
+    let mut order = ascending(rt.alloc(), 1_000, 500)?;
+    let mut plain = numbers(rt.alloc(), 500)?;
+    check_turns(&rt, &mut order, &mut plain)
 }

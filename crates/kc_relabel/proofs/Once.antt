@@ -5,7 +5,8 @@ use Rattle.std.proofs.lemmas.List.{append-nil, append_assoc}
 use Rattle.kc_distinct.specs.Lists.{member, Distinct}
 use Rattle.kc_distinct.proofs.Members.{member-head, member-tail, member-cases, member-append, append-not_member, Distinct-insert}
 use Rattle.kc_relabel.specs.Labels.{ups, downs, schedule_of, places}
-use Rattle.kc_relabel.proofs.Rising.{Writes, later, ups-suc, downs-suc}
+use Rattle.kc_relabel.proofs.Rising.{Writes, later, ups-suc, downs-suc, later-append}
+use Rattle.kc_distinct.proofs.Counting.{member-get_or}
 
 pub places-append : (ws vs : Writes) → places (ws ++ vs) ≡ places ws ++ places vs
 places-append [] vs = refl
@@ -25,23 +26,23 @@ not_zero ws = false_from_ne_true (member 0 (places (later ws))) (λ m. let k = l
 later-distinct : (ws : Writes) → Distinct (places ws) → Distinct (places (later ws))
 later-distinct [] d = tt
 later-distinct (w ∷ ws) d = (
-  false_from_ne_true (member (suc w.0) (places (later ws))) (λ m. let k = later-places (suc w.0) ws m in let e : w.0 ≡ k.0 = (let s : suc w.0 ≡ suc k.0 = k.1 in omega arith) in true≢false (sym k.2 ∙ (ap (λ q. member q (places ws)) (sym e) ∙ d.0))),
+  false_from_ne_true (member (suc w.0) (places (later ws))) (λ m. let k = later-places (suc w.0) ws m in let e : w.0 ≡ k.0 =
+      (let s : suc w.0 ≡ suc k.0 = k.1 in omega arith) in true≢false (sym k.2 ∙ (ap (λ q. member q (places ws)) (sym e) ∙ d.0))),
   later-distinct ws d.1,
 )
 
-later-append' : (ws vs : Writes) → later (ws ++ vs) ≡ later ws ++ later vs
-later-append' [] vs = refl
-later-append' (w ∷ ws) vs = ap (λ us. (suc w.0, w.1) ∷ us) (later-append' ws vs)
-
 -- the schedule of longer lists
-pub schedule-cons : (a b : ℕ) (os ns : List ℕ) → schedule_of (a ∷ os) (b ∷ ns) ≡ (later (ups 0 os ns) ++ cond (ltb a b) ((0, b) ∷ []) []) ++ (cond (ltb b a) ((0, b) ∷ []) [] ++ later (downs 0 os ns))
-schedule-cons a b os ns = ap (λ us. (us ++ cond (ltb a b) ((0, b) ∷ []) []) ++ (cond (ltb b a) ((0, b) ∷ []) [] ++ downs 1 os ns)) (ups-suc 0 os ns) ∙ ap (λ ds. (later (ups 0 os ns) ++ cond (ltb a b) ((0, b) ∷ []) []) ++ (cond (ltb b a) ((0, b) ∷ []) [] ++ ds)) (downs-suc 0 os ns)
+pub schedule-cons : (a b : ℕ) (os ns : List ℕ)
+    → schedule_of (a ∷ os) (b ∷ ns) ≡ (later (ups 0 os ns) ++ cond (ltb a b) ((0, b) ∷ []) []) ++ (cond (ltb b a) ((0, b) ∷ []) [] ++ later (downs 0 os ns))
+schedule-cons a b os ns = ap (λ us. (us ++ cond (ltb a b) ((0, b) ∷ []) []) ++ (cond (ltb b a) ((0, b) ∷ []) [] ++ downs 1 os ns)) (ups-suc 0 os ns)
+    ∙ ap (λ ds. (later (ups 0 os ns) ++ cond (ltb a b) ((0, b) ∷ []) []) ++ (cond (ltb b a) ((0, b) ∷ []) [] ++ ds)) (downs-suc 0 os ns)
 
 both-later : (us ds : Writes) → Distinct (places (us ++ ds)) → Distinct (places (later us) ++ places (later ds))
-both-later us ds d = subst Distinct (ap places (later-append' us ds) ∙ places-append (later us) (later ds)) (later-distinct (us ++ ds) d)
+both-later us ds d = subst Distinct (ap places (later-append us ds) ∙ places-append (later us) (later ds)) (later-distinct (us ++ ds) d)
 
 with_zero : (us ds : Writes) (b : ℕ) → Distinct (places (us ++ ds)) → Distinct (places (later us) ++ 0 ∷ places (later ds))
-with_zero us ds b d = Distinct-insert 0 (places (later us)) (places (later ds)) (both-later us ds d) (append-not_member 0 (places (later us)) (places (later ds)) (not_zero us) (not_zero ds))
+with_zero us ds b d = Distinct-insert 0 (places (later us)) (places (later ds)) (both-later us ds d)
+    (append-not_member 0 (places (later us)) (places (later ds)) (not_zero us) (not_zero ds))
 
 pub schedule-once : (os ns : List ℕ) → length os ≡ length ns → Distinct (places (schedule_of os ns))
 schedule-once [] ns e = tt
@@ -53,7 +54,10 @@ schedule-once (a ∷ os) (b ∷ ns) e =
     rw (schedule-cons a b os ns) (elim (cases_lt a b) [
       | inl lt ↦
           let t : ltb a b ≡ true = lt-ltb a b lt in let t' : ltb b a ≡ false = le-ltb b a (omega arith) in
-          rw (t, t') (subst Distinct (sym (places-append (later us ++ (0, b) ∷ []) (later ds) ∙ (ap (λ ps. ps ++ places (later ds)) (places-append (later us) ((0, b) ∷ [])) ∙ append_assoc (places (later us)) (0 ∷ []) (places (later ds))))) (with_zero us ds b d))
+          rw (t, t') (subst Distinct (sym
+          (places-append (later us ++ (0, b) ∷ []) (later ds)
+          ∙ (ap (λ ps. ps ++ places (later ds)) (places-append (later us) ((0, b) ∷ []))
+          ∙ append_assoc (places (later us)) (0 ∷ []) (places (later ds))))) (with_zero us ds b d))
       | inr ge ↦
           let t : ltb a b ≡ false = le-ltb a b ge in
           rw t (elim (ltb b a) as (λ t'. Distinct (places ((later us ++ []) ++ (cond t' ((0, b) ∷ []) [] ++ later ds)))) [
@@ -70,7 +74,8 @@ pub ups-below : (i : ℕ) (os ns : List ℕ) (p : ℕ) → member p (places (ups
 ups-below i [] ns p m = absurd (false≢true m)
 ups-below i (a ∷ os) [] p m = absurd (false≢true m)
 ups-below i (a ∷ os) (b ∷ ns) p m =
-    elim (member-append p (places (ups (suc i) os ns)) (places (cond (ltb a b) ((i, b) ∷ []) [])) (ap (member p) (sym (places-append (ups (suc i) os ns) (cond (ltb a b) ((i, b) ∷ []) []))) ∙ m)) [
+    elim (member-append p (places (ups (suc i) os ns)) (places (cond (ltb a b) ((i, b) ∷ []) []))
+    (ap (member p) (sym (places-append (ups (suc i) os ns) (cond (ltb a b) ((i, b) ∷ []) []))) ∙ m)) [
       | inl k ↦ omega (arith, ups-below (suc i) os ns p k)
       | inr k ↦ one_below i (length os) b (ltb a b) p k
     ]
@@ -79,7 +84,8 @@ pub downs-below : (i : ℕ) (os ns : List ℕ) (p : ℕ) → member p (places (d
 downs-below i [] ns p m = absurd (false≢true m)
 downs-below i (a ∷ os) [] p m = absurd (false≢true m)
 downs-below i (a ∷ os) (b ∷ ns) p m =
-    elim (member-append p (places (cond (ltb b a) ((i, b) ∷ []) [])) (places (downs (suc i) os ns)) (ap (member p) (sym (places-append (cond (ltb b a) ((i, b) ∷ []) []) (downs (suc i) os ns))) ∙ m)) [
+    elim (member-append p (places (cond (ltb b a) ((i, b) ∷ []) [])) (places (downs (suc i) os ns))
+    (ap (member p) (sym (places-append (cond (ltb b a) ((i, b) ∷ []) []) (downs (suc i) os ns))) ∙ m)) [
       | inl k ↦ one_below i (length os) b (ltb b a) p k
       | inr k ↦ omega (arith, downs-below (suc i) os ns p k)
     ]
@@ -92,15 +98,10 @@ schedule-below os ns p m =
     ]
 
 -- by index
-pub member_at : (xs : List ℕ) (i : ℕ) → i < length xs → member (get_or xs i 0) xs ≡ true
-member_at [] i l = absurd (omega arith)
-member_at (x ∷ xs) zero l = member-head x xs
-member_at (x ∷ xs) (suc i) l = member-tail (get_or xs i 0) x xs (member_at xs i (omega arith))
-
 pub Distinct-at : (xs : List ℕ) (i j : ℕ) → Distinct xs → i < j → j < length xs → get_or xs i 0 ≢ get_or xs j 0
 Distinct-at [] i j d l k e = absurd (omega arith)
 Distinct-at (x ∷ xs) i zero d l k e = absurd (omega arith)
-Distinct-at (x ∷ xs) zero (suc j) d l k e = true≢false (sym (member_at xs j (omega arith)) ∙ (ap (λ z. member z xs) (sym e) ∙ d.0))
+Distinct-at (x ∷ xs) zero (suc j) d l k e = true≢false (sym (member-get_or xs j 0 (omega arith)) ∙ (ap (λ z. member z xs) (sym e) ∙ d.0))
 Distinct-at (x ∷ xs) (suc i) (suc j) d l k e = Distinct-at xs i j d.1 (omega arith) (omega arith) e
 
 pub place_at : (ws : Writes) (k : ℕ) → get_or (places ws) k 0 ≡ (get_or ws k (0, 0)).0

@@ -13,7 +13,6 @@ use Rattle.kc_graph.specs.Lawful.{Ranked}
 use Rattle.kc_graph.specs.declared.update.Update.{Update}
 use Rattle.kc_graph.proofs.EdgeChanges.{adjacent-without}
 use Rattle.kc_graph.proofs.NeighbourLists.{neighbours_has, neighbours_within}
-use Rattle.kc_cert.proofs.Ordered.{adjacent-sym}
 use Rattle.kc_cert.proofs.Sums.{one_if}
 use Rattle.kc_view.specs.Answers.{Answers, Agrees, has_list, list_of}
 use Rattle.kc_view.specs.Search.{Search, OnLevel}
@@ -24,6 +23,7 @@ use Rattle.kc_remove.specs.Visits.{support_in, seen_in}
 use Rattle.kc_remove.specs.Falling.{is_visited, support_at, seen_at, Settles, FallsIn}
 use Rattle.kc_remove.specs.declared.falling.Falling.{Falling}
 use Rattle.kc_remove.proofs.Falls.{visit, pass, lose, stay, fall_one, turn_over}
+use Rattle.kc_graph.proofs.Law.{adjacent-sym}
 
 ends-differ : (update : Update) → update.u ≢ update.v
 ends-differ update e = let l : update.u < update.v = update.ordered in absurd (omega (arith, e))

@@ -23,6 +23,7 @@ use Rattle.kc_remove.specs.declared.falling.Falling.{Falling}
 use Rattle.kc_remove.proofs.Ending.{lowered}
 use Rattle.kc_remove.proofs.Holding.{plain-holds, fall-holds}
 use Rattle.kc_remove.proofs.Thinning.{thinned}
+use Rattle.kc_cert.proofs.FittingMoves.{plain_fits, fall_fits}
 
 pub applied-is : (update : Update) (g : SimpleGraph) → update.add ≡ false → is_applied update g ≡ adjacent g update.u update.v
 applied-is update g e = ap (λ b. cond b (not (adjacent g update.u update.v)) (adjacent g update.u update.v)) e
@@ -59,7 +60,7 @@ plain-sure update used s level f removes h l a least ended empty =
     let local : IsLocal s (record { update = update; used = used; moves = Plain }) = record {
       ends = l;
       kept = sym (ap not there);
-      moves_fit = tt;
+      moves_fit = plain_fits s;
       holds = λ z lz _. subst (λ (g : SimpleGraph). HoldsAt (record { graph = g; core = s.core; order = s.order }) z) (sym after)
           (plain-holds s (without_edge s.graph update.u update.v) level (is_end update) (is_visited f) (support_at f) (seen_at f) h refl t c ended.ends z lz);
     } in (
@@ -89,7 +90,7 @@ fall-sure update used s level f removes h l a least ended =
     let local : IsLocal s (record { update = update; used = used; moves = Fall level f.list }) = record {
       ends = l;
       kept = sym (ap not there);
-      moves_fit = (c.distinct, λ x m. let k = c.fall_level x m in (record { vertex = k.here; of_level = k.level }, some));
+      moves_fit = fall_fits s level f.list c.distinct (λ x m. let k = c.fall_level x m in (record { vertex = k.here; of_level = k.level }, some));
       holds = λ z lz _. subst (λ (g : SimpleGraph). HoldsAt (record { graph = g; core = renumbered fall (level - 1) s.core; order = put_between (λ y. ltb (get_or s.core y 0) level) fall s.order }) z) (sym after)
           (fall-holds s (without_edge s.graph update.u update.v) level fall (is_end update) (is_visited f) (support_at f) (seen_at f) h refl t c ended.ends z lz);
     } in (

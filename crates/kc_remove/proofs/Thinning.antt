@@ -10,10 +10,10 @@ use Rattle.kc_graph.specs.Certificate.{Certifies}
 use Rattle.kc_graph.specs.Lawful.{Ranked, IsCertified}
 use Rattle.kc_graph.proofs.Ends.{joins, joins-true, joins-first, joins-second}
 use Rattle.kc_graph.proofs.EdgeChanges.{adjacent-without}
-use Rattle.kc_graph.proofs.Law.{adjacent-self}
+use Rattle.kc_graph.proofs.Law.{adjacent-self, adjacent-sym}
 use Rattle.kc_cert.specs.Ranks.{rank_in}
 use Rattle.kc_cert.proofs.Sums.{one_if, count-one-in, count-some}
-use Rattle.kc_cert.proofs.Ordered.{order-has, rank-apart, few-ranked, enough-below, ranks-rise, adjacent-sym}
+use Rattle.kc_cert.proofs.Ordered.{order-has, rank-apart, few-ranked, enough-below, ranks-rise}
 use Rattle.kc_view.specs.Search.{search_in}
 use Rattle.kc_view.proofs.Among.{at_most_one}
 use Rattle.kc_remove.specs.Cascade.{Thinned}

@@ -39,7 +39,8 @@ fn level_of<V: View>(view: &mut V, update: Update) -> Result<u32, PlanFault>
     ensures goes_on { GoesOn (V.shown view.old) (V.shown view.new) }
     ensures cause { IfErr result (λ fault. HasPlanCause (V.shown view.old) (V.shown view.new) fault) }
     ensures asks { OnOk result (AsksNear update (V.shown view.new).kept []) }
-    ensures told { IfOk result (λ level. (s : Ranked) → Agrees (V.shown view.new).kept s → level ≡ min (slice_index s.core update.u) (slice_index s.core update.v)) }
+    ensures told { IfOk result (λ level. (s : Ranked) → Agrees (V.shown view.new).kept s
+        → level ≡ min (slice_index s.core update.u) (slice_index s.core update.v)) }
 {
     let first = core_of(view, update.u)?;
     let second = core_of(view, update.v)?;
@@ -63,7 +64,8 @@ fn visit_end<V: View>(
     ensures tidy { OnOk result (IsTidyFalling update (V.shown view.new) falling.new) }
     ensures others { OnOk result ((z : ℕ) → z ≢ end → visit_of falling.new.visits z ≡ visit_of falling.old.visits z) }
     ensures visited { OnOk result ((s : Ranked) → Agrees (V.shown view.new).kept s → slice_index s.core end ≡ level → is_visited falling.new end ≡ true) }
-    ensures falls { OnOk result ((s : Ranked) → Agrees (V.shown view.new).kept s → FallsIn update level s falling.old 0 nobody → FallsIn update level s falling.new 0 nobody) }
+    ensures falls { OnOk result ((s : Ranked) → Agrees (V.shown view.new).kept s → FallsIn update level s falling.old 0 nobody
+        → FallsIn update level s falling.new 0 nobody) }
 {
     let core = core_of(view, end)?;
     if core == level {

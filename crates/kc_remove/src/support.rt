@@ -96,10 +96,12 @@ pub(crate) fn visit<V: View>(
     ensures visited { OnOk result (is_visited falling.new y ≡ true) }
     ensures still { OnOk result ((z : ℕ) → is_visited falling.old z ≡ true → is_visited falling.new z ≡ true) }
     ensures others { OnOk result ((z : ℕ) → z ≢ y → visit_of falling.new.visits z ≡ visit_of falling.old.visits z) }
-    ensures further { OnOk result ((j : ℕ) → j < length falling.old.list.items → (j < length falling.new.list.items) × (slice_index falling.new.list.items j ≡ slice_index falling.old.list.items j)) }
+    ensures further { OnOk result ((j : ℕ) → j < length falling.old.list.items
+        → (j < length falling.new.list.items) × (slice_index falling.new.list.items j ≡ slice_index falling.old.list.items j)) }
     ensures falls { OnOk result ((s : Ranked) (turn : ℕ) (part later : ℕ → Bool) → Agrees (V.shown view.new).kept s → slice_index s.core y ≡ level
         → FallsIn update level s falling.old turn part → ((z : ℕ) → z ≢ y → later z ≡ part z)
-        → (later y ≡ true → (turn < length falling.old.list.items) × (adjacent (without_edge s.graph update.u update.v) (slice_index falling.old.list.items turn) y ≡ true))
+        → (later y ≡ true → (turn < length falling.old.list.items)
+            × (adjacent (without_edge s.graph update.u update.v) (slice_index falling.old.list.items turn) y ≡ true))
         → FallsIn update level s falling.new turn later) }
 {
     let degree = degree_of(view, y)?;

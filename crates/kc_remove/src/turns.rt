@@ -77,7 +77,8 @@ fn come_to_each<V: View>(
     ensures tidy { OnOk result (IsTidyFalling update (V.shown view.new) falling.new) }
     ensures still { OnOk result ((z : ℕ) → is_visited falling.old z ≡ true → is_visited falling.new z ≡ true) }
     ensures longer { OnOk result (turn < length falling.new.list.items) }
-    ensures falls { OnOk result ((s : Ranked) → Agrees (V.shown view.new).kept s → FallsIn update level s falling.old turn nobody → FallsIn update level s falling.new (turn + 1) nobody) }
+    ensures falls { OnOk result ((s : Ranked) → Agrees (V.shown view.new).kept s → FallsIn update level s falling.old turn nobody
+        → FallsIn update level s falling.new (turn + 1) nobody) }
 {
     for i in 0..degree {
         let y = view.neighbour(x, i);
@@ -101,7 +102,8 @@ fn take_turn<V: View>(
     ensures tidy { OnOk result (IsTidyFalling update (V.shown view.new) falling.new) }
     ensures still { OnOk result ((z : ℕ) → is_visited falling.old z ≡ true → is_visited falling.new z ≡ true) }
     ensures longer { OnOk result (turn < length falling.new.list.items) }
-    ensures falls { OnOk result ((s : Ranked) → Agrees (V.shown view.new).kept s → FallsIn update level s falling.old turn nobody → FallsIn update level s falling.new (turn + 1) nobody) }
+    ensures falls { OnOk result ((s : Ranked) → Agrees (V.shown view.new).kept s → FallsIn update level s falling.old turn nobody
+        → FallsIn update level s falling.new (turn + 1) nobody) }
 {
     let x = falling.list[turn];
     let degree = degree_of(view, x)?;
@@ -120,7 +122,8 @@ pub(crate) fn take_turns<V: View>(
     ensures cause { IfErr result (λ fault. HasPlanCause (V.shown view.old) (V.shown view.new) fault) }
     ensures tidy { OnOk result (IsTidyFalling update (V.shown view.new) falling.new) }
     ensures still { OnOk result ((z : ℕ) → is_visited falling.old z ≡ true → is_visited falling.new z ≡ true) }
-    ensures falls { OnOk result ((s : Ranked) → Agrees (V.shown view.new).kept s → FallsIn update level s falling.old 0 nobody → FallsIn update level s falling.new (length falling.new.list.items) nobody) }
+    ensures falls { OnOk result ((s : Ranked) → Agrees (V.shown view.new).kept s → FallsIn update level s falling.old 0 nobody
+        → FallsIn update level s falling.new (length falling.new.list.items) nobody) }
 {
     let mut turn = 0;
     while turn < falling.list.len() {

@@ -3,9 +3,9 @@ use Rattle.std.proofs.Common.{◌≡◌, ◌≤◌, ◌<◌, ◌+◌, ℕ, false
 use Rattle.std.specs.List.Sorted.{IsStrictlyIncreasing}
 use Rattle.std.proofs.lemmas.Bool.{cases_lt, false_from_ne_true}
 use Rattle.kc_distinct.specs.Lists.{member}
-use Rattle.kc_graph.proofs.RowsLemmas.{rises}
 use Rattle.kc_cert.specs.Ranks.{rank_in}
 use Rattle.kc_cert.proofs.Ordered.{rank-here}
+use Rattle.kc_distinct.proofs.Shared.{never_falls}
 
 -- where it can't stand: before `low`, and from `high` on
 pub record StandsBetween (xs : List ℕ) (y low high : ℕ) : Type 0 where
@@ -17,14 +17,14 @@ anywhere xs y high e = record { before = λ k l. absurd (omega arith); behind = 
 
 pub stands-later : (xs : List ℕ) (y low high middle : ℕ) → IsStrictlyIncreasing xs → StandsBetween xs y low high → middle < length xs → get_or xs middle 0 < y → StandsBetween xs y (middle + 1) high
 stands-later xs y low high middle up b l less = record {
-  before = λ k lk. let r : get_or xs k 0 ≤ get_or xs middle 0 = rises xs up k middle (omega arith) l in omega arith;
+  before = λ k lk. let r : get_or xs k 0 ≤ get_or xs middle 0 = never_falls xs up k middle (omega arith) l in omega arith;
   behind = b.behind;
 }
 
 pub stands-earlier : (xs : List ℕ) (y low high middle : ℕ) → IsStrictlyIncreasing xs → StandsBetween xs y low high → y < get_or xs middle 0 → StandsBetween xs y low middle
 stands-earlier xs y low high middle up b more = record {
   before = b.before;
-  behind = λ k le l. let r : get_or xs middle 0 ≤ get_or xs k 0 = rises xs up middle k le l in omega arith;
+  behind = λ k le l. let r : get_or xs middle 0 ≤ get_or xs k 0 = never_falls xs up middle k le l in omega arith;
 }
 
 pub stands-nowhere : (xs : List ℕ) (y low high : ℕ) → StandsBetween xs y low high → high ≤ low → member y xs ≡ false

@@ -16,6 +16,7 @@ use Rattle.kc_cert.proofs.Ordered.{order-has, order-distinct, rank-ascends, few-
 use Rattle.kc_cert.proofs.Placing.{Orders-from_Ascends}
 use Rattle.kc_cert.proofs.Holding.{holds-from, renumbered-other, renumbered-moved}
 use Rattle.kc_view.specs.Sure.{IsSparing}
+use Rattle.kc_cert.proofs.FittingMoves.{kept_fits}
 
 -- where core numbers and order stay
 pub still-holds : (s : Ranked) (g : SimpleGraph) → IsCertified s → g.size ≡ s.graph.size → (z : ℕ) → z < s.graph.size
@@ -70,7 +71,7 @@ kept-is_sure update used s h l none = (
   record {
     ends = l;
     kept = sym (ap not none);
-    moves_fit = tt;
+    moves_fit = kept_fits s;
     holds = λ z lz _. kept-holds s h z lz;
   },
   record {

@@ -2,7 +2,7 @@ use Rattle.std.proofs.Common.{◌≡◌, ℕ, true, take}
 use Rattle.kc_distinct.specs.Lists.{member}
 use Rattle.kc_graph.specs.Lawful.{Ranked}
 use Rattle.kc_graph.specs.declared.update.Update.{Update}
-use Rattle.kc_cert.specs.Ranks.{rank_in, Ascends}
+use Rattle.kc_cert.specs.Ranks.{rank_in, AscendsBy}
 use Rattle.kc_view.specs.Answers.{Agrees}
 use Rattle.kc_view.specs.Views.{GoesOn}
 use Rattle.kc_insert.specs.Rising.{IsTidyRising}
@@ -16,5 +16,5 @@ invariant-loop-x g l =
       goes_on : GoesOn (v.shown l.fn.view) (v.shown l.view);
       tidy : (update : Update) → IsTidyRising update (v.shown l.fn.view) l.fn.rising → IsTidyRising update (v.shown l.view) l.rising;
       passed : PassedOn (take l.x-index l.next) l.fn.rising l.rising;
-      ascends : (s : Ranked) → Agrees (v.shown l.view).kept s → ((y : ℕ) → member y l.next ≡ true → StandsBehindLeft (rank_in s.order) l.fn.rising l.next y) → Ascends (rank_in s.order) l.fn.rising.queue.items → Ascends (rank_in s.order) l.rising.queue.items;
+      ascends : (s : Ranked) → Agrees (v.shown l.view).kept s → ((y : ℕ) → member y l.next ≡ true → StandsBehindLeft (rank_in s.order) l.fn.rising l.next y) → AscendsBy (rank_in s.order) l.fn.rising.queue.items → AscendsBy (rank_in s.order) l.rising.queue.items;
     }

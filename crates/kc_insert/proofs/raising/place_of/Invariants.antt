@@ -2,7 +2,7 @@ use Rattle.std.proofs.Common.{◌≡◌, ◌≤◌, ◌<◌, ◌-◌, ℕ, true,
 use Rattle.kc_distinct.specs.Lists.{member}
 use Rattle.kc_graph.specs.Lawful.{Ranked}
 use Rattle.kc_graph.specs.declared.update.Update.{Update}
-use Rattle.kc_cert.specs.Ranks.{rank_in, Ascends}
+use Rattle.kc_cert.specs.Ranks.{rank_in, AscendsBy}
 use Rattle.kc_view.specs.Answers.{Agrees}
 use Rattle.kc_view.specs.Views.{GoesOn}
 use Rattle.kc_insert.specs.Rising.{left, IsTidyRising}
@@ -18,7 +18,7 @@ invariant-loop-low g l =
       from : l.rising.turn ≤ l.low;
       up : l.low ≤ l.high;
       within : l.high ≤ length l.rising.queue.items;
-      place : (s : Ranked) → Agrees (v.shown l.view).kept s → Ascends (rank_in s.order) l.rising.queue.items → ((z : ℕ) → member z (left l.rising) ≡ true → rank_in s.order z < rank_in s.order l.x)
+      place : (s : Ranked) → Agrees (v.shown l.view).kept s → AscendsBy (rank_in s.order) l.rising.queue.items → ((z : ℕ) → member z (left l.rising) ≡ true → rank_in s.order z < rank_in s.order l.x)
           → IsPlaceWithin (rank_in s.order) l.rising.queue.items l.x l.low l.high;
     }
 

@@ -1,6 +1,6 @@
 use Rattle.std.proofs.lemmas.List.Sorted.{searched}
-use Rattle.kc_graph.proofs.RowsLemmas.{rises}
 use Rattle.kc_insert.proofs.row.place_in.Goals as goal
+use Rattle.kc_distinct.proofs.Shared.{never_falls}
 
 pub returns : goal.returns
-returns c = searched c.args.row.now c.args.other c.binary_search.result c.binary_search.ensures.position (rises c.args.row.now c.requires)
+returns c = searched c.args.row.now c.args.other c.binary_search.result c.binary_search.ensures.position (never_falls c.args.row.now c.requires)

@@ -1,23 +1,32 @@
+-- The ring with `x` between its last number and the seam.
 use Rattle.std.proofs.Common.{ap, arith}
 use Rattle.kc_links.proofs.Ring.{push_facts}
 use Rattle.kc_links.proofs.Links.push_back.Goals as goal
 
 pub index_mut-requires : goal.index_mut-requires
 index_mut-requires c =
-    let f = push_facts c.self.inside.next.items c.self.inside.prev.items c.self.inside.size c.args.x c.index-last.result.now c.self.inside.len c.args.self.now.list c.self.invariant (ap (λ v. v.list) c.self.view_is) c.requires.x_out (omega (arith, ap (λ v. v.size) c.self.view_is, c.requires.x_within)) c.index-last.ensures in
+    let f = push_facts c.self.inside.next.items c.self.inside.prev.items c.self.inside.size c.args.x c.index-last.result.now c.self.inside.len
+    c.args.self.now.list c.self.invariant (ap (λ v. v.list) c.self.view_is) c.requires.x_out
+    (omega (arith, ap (λ v. v.size) c.self.view_is, c.requires.x_within)) c.index-last.ensures in
     omega (arith, f.p_fits, c.self.invariant.next_length)
 
 pub overflow_add-self : goal.overflow_add-self
 overflow_add-self c =
-    let f = push_facts c.self.inside.next.items c.self.inside.prev.items c.self.inside.size c.args.x c.index-last.result.now c.self.inside.len c.args.self.now.list c.self.invariant (ap (λ v. v.list) c.self.view_is) c.requires.x_out (omega (arith, ap (λ v. v.size) c.self.view_is, c.requires.x_within)) c.index-last.ensures in
+    let f = push_facts c.self.inside.next.items c.self.inside.prev.items c.self.inside.size c.args.x c.index-last.result.now c.self.inside.len
+    c.args.self.now.list c.self.invariant (ap (λ v. v.list) c.self.view_is) c.requires.x_out
+    (omega (arith, ap (λ v. v.size) c.self.view_is, c.requires.x_within)) c.index-last.ensures in
     omega (arith, f.short)
 
 pub invariant_of-self : goal.invariant_of-self
 invariant_of-self c =
-    let f = push_facts c.self.inside.next.items c.self.inside.prev.items c.self.inside.size c.args.x c.index-last.result.now c.self.inside.len c.args.self.now.list c.self.invariant (ap (λ v. v.list) c.self.view_is) c.requires.x_out (omega (arith, ap (λ v. v.size) c.self.view_is, c.requires.x_within)) c.index-last.ensures in
+    let f = push_facts c.self.inside.next.items c.self.inside.prev.items c.self.inside.size c.args.x c.index-last.result.now c.self.inside.len
+    c.args.self.now.list c.self.invariant (ap (λ v. v.list) c.self.view_is) c.requires.x_out
+    (omega (arith, ap (λ v. v.size) c.self.view_is, c.requires.x_within)) c.index-last.ensures in
     f.ring
 
 pub returns-clause-list : goal.returns-clause-list
 returns-clause-list c =
-    let f = push_facts c.self.inside.next.items c.self.inside.prev.items c.self.inside.size c.args.x c.index-last.result.now c.self.inside.len c.args.self.now.list c.self.invariant (ap (λ v. v.list) c.self.view_is) c.requires.x_out (omega (arith, ap (λ v. v.size) c.self.view_is, c.requires.x_within)) c.index-last.ensures in
+    let f = push_facts c.self.inside.next.items c.self.inside.prev.items c.self.inside.size c.args.x c.index-last.result.now c.self.inside.len
+    c.args.self.now.list c.self.invariant (ap (λ v. v.list) c.self.view_is) c.requires.x_out
+    (omega (arith, ap (λ v. v.size) c.self.view_is, c.requires.x_within)) c.index-last.ensures in
     f.list

@@ -1,3 +1,4 @@
+-- The numbers before the next are listed, the greatest first.
 use Rattle.std.proofs.Common.{◌≡◌, ◌<◌, ◌-◌, ℕ, get_or}
 use Rattle.kc_list.proofs.groups.fill_free.Given as goal
 

@@ -1,3 +1,4 @@
+-- The groups before the next have their sizes.
 use Rattle.std.proofs.Common.{◌≡◌, ◌<◌, ℕ, get_or}
 use Rattle.kc_list.specs.Tally.{opening_count}
 use Rattle.kc_list.proofs.groups.fill_sizes.Given as goal

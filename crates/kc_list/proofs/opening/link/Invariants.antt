@@ -1,3 +1,4 @@
+-- The places that were pushed are those before the next, which is not among them.
 use Rattle.std.proofs.Common.{◌≡◌, take}
 use Rattle.kc_list.proofs.opening.link.Given as goal
 

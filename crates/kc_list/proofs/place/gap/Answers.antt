@@ -1,3 +1,4 @@
+-- What follows `p` is an item, which has a word.
 use Rattle.std.proofs.Common.{◌<◌, arith, sym, ◌∙◌, inl, inr}
 use Rattle.kc_distinct.specs.Lists.{next_of}
 use Rattle.kc_distinct.proofs.Members.{next_of-in}

@@ -1,3 +1,4 @@
+-- Labels at even distances leave room after each member of the group.
 use Rattle.std.proofs.Common.{◌≤◌, ◌∙◌, ap, arith, sym, refl, length, take, subst}
 use Rattle.std.proofs.lemmas.List.{length-take-le}
 use Rattle.kc_words.specs.Order.{labels}
@@ -7,23 +8,36 @@ use Rattle.kc_list.proofs.Rooms.{in_segment, room_after_spread}
 use Rattle.kc_words.specs.ItemWord.{item_of}
 use Rattle.kc_list.proofs.Changes.{spread_groups, not_of}
 use Rattle.kc_list.proofs.room.spread_at.Goals as goal
+use Rattle.kc_list.specs.declared.limits.TheConstants.{GROUP_ITEMS}
 
 pub spread_group-requires-clause-version : goal.spread_group-requires-clause-version
-spread_group-requires-clause-version c y m = c.requires.version y (segment_in (labels c.args.links.now.size c.args.sheet.now.words) c.args.links.now.list _ (take c.gather-count.result c.gather-count.new.into) c.gather-count.ensures.segment y m)
+spread_group-requires-clause-version c y m =
+    c.requires.version y (segment_in (labels c.args.links.now.size c.args.sheet.now.words) c.args.links.now.list _
+    (take c.gather-count.result c.gather-count.new.into) c.gather-count.ensures.segment y m)
 
 pub returns-clause-gap : goal.returns-clause-gap
 returns-clause-gap c =
     let m = take c.gather-count.result c.gather-count.new.into in
-    let p-m = in_segment (labels c.args.links.now.size c.args.sheet.now.words) c.args.links.now.list _ (take c.gather-count.result c.gather-count.new.into) c.args.p c.gather-count.ensures.segment c.requires.p_in refl in
+    let p-m = in_segment (labels c.args.links.now.size c.args.sheet.now.words) c.args.links.now.list _ (take c.gather-count.result c.gather-count.new.into)
+    c.args.p c.gather-count.ensures.segment c.requires.p_in refl in
     let g-new = c.spread_group.ensures.segment.members c.args.p p-m in
-    let few : length (take c.gather-count.result c.gather-count.new.into) ≤ 64 = omega (arith, length-take-le c.gather-count.result c.gather-count.new.into (omega arith)) in
-    room_after_spread c.args.links.now.size c.spread_group.new.sheet.words c.args.links.now.list (take c.gather-count.result c.gather-count.new.into) c.args.p c.spread_group.ensures.sound
-    (subst (λ z. Segment (labels c.args.links.now.size c.spread_group.new.sheet.words) c.args.links.now.list z (take c.gather-count.result c.gather-count.new.into)) (sym g-new) c.spread_group.ensures.segment)
+    let few : length (take c.gather-count.result c.gather-count.new.into) ≤ GROUP_ITEMS =
+    omega (arith, length-take-le c.gather-count.result c.gather-count.new.into (omega arith)) in
+    room_after_spread c.args.links.now.size c.spread_group.new.sheet.words c.args.links.now.list (take c.gather-count.result c.gather-count.new.into)
+    c.args.p c.spread_group.ensures.sound
+    (subst (λ z. Segment (labels c.args.links.now.size c.spread_group.new.sheet.words) c.args.links.now.list z
+    (take c.gather-count.result c.gather-count.new.into)) (sym g-new) c.spread_group.ensures.segment)
     few c.requires.p_in c.spread_group.ensures.bottoms
 
 pub returns-clause-groups : goal.returns-clause-groups
 returns-clause-groups c y k =
-    spread_groups c.args.links.now.size c.args.sheet.now.words c.spread_group.new.sheet.words c.args.links.now.list _ (take c.gather-count.result c.gather-count.new.into) y c.gather-count.ensures.segment (subst (λ z. Segment (labels c.args.links.now.size c.spread_group.new.sheet.words) c.args.links.now.list z (take c.gather-count.result c.gather-count.new.into)) (ap (λ w. w.group) (c.of-group.ensures.fields ∙ ap item_of c.word.ensures)) c.spread_group.ensures.segment) c.spread_group.ensures.only
+    spread_groups c.args.links.now.size c.args.sheet.now.words c.spread_group.new.sheet.words c.args.links.now.list _
+    (take c.gather-count.result c.gather-count.new.into) y c.gather-count.ensures.segment
+    (subst (λ z. Segment (labels c.args.links.now.size c.spread_group.new.sheet.words) c.args.links.now.list z
+    (take c.gather-count.result c.gather-count.new.into)) (ap (λ w. w.group) (c.of-group.ensures.fields ∙ ap item_of c.word.ensures))
+    c.spread_group.ensures.segment) c.spread_group.ensures.only
 
 pub returns-clause-only : goal.returns-clause-only
-returns-clause-only c w f = c.spread_group.ensures.only.same w (not_of (labels c.args.links.now.size c.args.sheet.now.words) c.args.links.now.list _ (take c.gather-count.result c.gather-count.new.into) w c.gather-count.ensures.segment f)
+returns-clause-only c w f = c.spread_group.ensures.only.same w
+    (not_of (labels c.args.links.now.size c.args.sheet.now.words) c.args.links.now.list _ (take c.gather-count.result c.gather-count.new.into) w
+    c.gather-count.ensures.segment f)

@@ -1,3 +1,4 @@
+-- The labels before the next are the first of those at even distances.
 use Rattle.std.proofs.Common.{◌≡◌, take, ◌/◌, ◌+◌}
 use Rattle.kc_list.specs.Places.{evens}
 use Rattle.kc_list.proofs.spread.even_labels.Given as goal

@@ -1,14 +1,17 @@
+-- The labels before the next are read.
 use Rattle.std.proofs.Common.{arith, ap, ◌∙◌, get_or}
 use Rattle.kc_words.specs.ItemWord.{item_of}
 use Rattle.kc_words.specs.Order.{labels}
-use Rattle.kc_list.proofs.Spreading.{bottoms-step, member-at}
+use Rattle.kc_list.proofs.Spreading.{bottoms-step}
+use Rattle.kc_distinct.proofs.Counting.{member-get_or}
 use Rattle.kc_list.proofs.spread.read_labels.Goals as goal
 
 pub overflow_add-y : goal.overflow_add-y
-overflow_add-y c = omega (arith, c.requires.within (get_or c.args.members.now c.loop-i.i 0) (member-at c.args.members.now c.loop-i.i c.loop-i-test.true))
+overflow_add-y c = omega (arith, c.requires.within (get_or c.args.members.now c.loop-i.i 0) (member-get_or c.args.members.now c.loop-i.i 0 c.loop-i-test.true))
 
 pub word-requires : goal.word-requires
-word-requires c = omega (arith, c.requires.within (get_or c.args.members.now c.loop-i.i 0) (member-at c.args.members.now c.loop-i.i c.loop-i-test.true))
+word-requires c = omega (arith, c.requires.within (get_or c.args.members.now c.loop-i.i 0) (member-get_or c.args.members.now c.loop-i.i 0 c.loop-i-test.true))
 
 pub loop-i-preserved : goal.loop-i-preserved
-loop-i-preserved c = bottoms-step (labels c.args.links.now.size c.args.sheet.now.words).bottom c.args.members.now c.loop-i.i _ c.loop-i.into (omega arith) c.loop-i-test.true (c.from.ensures ∙ ap (λ w. w.bottom) (c.of.ensures.fields ∙ ap item_of c.word.ensures)) c.loop-i.invariant
+loop-i-preserved c = bottoms-step (labels c.args.links.now.size c.args.sheet.now.words).bottom c.args.members.now c.loop-i.i _ c.loop-i.into (omega arith)
+    c.loop-i-test.true (c.from.ensures ∙ ap (λ w. w.bottom) (c.of.ensures.fields ∙ ap item_of c.word.ensures)) c.loop-i.invariant

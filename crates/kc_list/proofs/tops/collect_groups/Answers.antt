@@ -1,3 +1,4 @@
+-- The groups of the items so far are collected, and `last` is the group of the item before.
 use Rattle.std.proofs.Common.{◌<◌, ℕ, arith, ap, sym, ◌∙◌, length, take, subst, List}
 use Rattle.std.proofs.lemmas.List.{take_more_set, length-set, length-take-le}
 use Rattle.kc_words.specs.ItemWord.{item_of}
@@ -10,37 +11,64 @@ pub loop-x-init : goal.loop-x-init
 loop-x-init c = (rw c.first-x.ensures (grouped-none c.args.links.now.size c.args.sheet.now.words c.args.links.now.list c.requires.sound), omega arith)
 
 pub overflow_add-x : goal.overflow_add-x
-overflow_add-x c = omega (arith, (group_step c.args.links.now.size c.args.sheet.now.words c.args.links.now.list c.loop-x.x c.loop-x.last (take c.loop-x.count c.loop-x.into) c.requires.sound c.loop-x.invariant.0 (λ e. c.loop-x-test.true (e ∙ sym c.size.ensures))).below, c.requires.small)
+overflow_add-x c = omega (
+  arith,
+  (group_step c.args.links.now.size c.args.sheet.now.words c.args.links.now.list c.loop-x.x c.loop-x.last (take c.loop-x.count c.loop-x.into)
+      c.requires.sound c.loop-x.invariant.0 (λ e. c.loop-x-test.true (e ∙ sym c.size.ensures))).below,
+  c.requires.small,
+)
 
 pub word-requires : goal.word-requires
-word-requires c = omega (arith, (group_step c.args.links.now.size c.args.sheet.now.words c.args.links.now.list c.loop-x.x c.loop-x.last (take c.loop-x.count c.loop-x.into) c.requires.sound c.loop-x.invariant.0 (λ e. c.loop-x-test.true (e ∙ sym c.size.ensures))).below, c.requires.sound.size)
+word-requires c = omega (
+  arith,
+  (group_step c.args.links.now.size c.args.sheet.now.words c.args.links.now.list c.loop-x.x c.loop-x.last (take c.loop-x.count c.loop-x.into)
+      c.requires.sound c.loop-x.invariant.0 (λ e. c.loop-x-test.true (e ∙ sym c.size.ensures))).below,
+  c.requires.sound.size,
+)
 
 pub bounds-into-count : goal.bounds-into-count
 bounds-into-count c =
-    let g = grouped-new c.args.links.now.size c.args.sheet.now.words c.args.links.now.list c.loop-x.x c.loop-x.last (take c.loop-x.count c.loop-x.into) c.requires.sound c.loop-x.invariant.0 (λ e. c.loop-x-test.true (e ∙ sym c.size.ensures)) (λ e. c.if-group-last.true ((ap (λ w. w.group) (c.of-group.ensures.fields ∙ ap item_of c.word.ensures)) ∙ e)) in
+    let g = grouped-new c.args.links.now.size c.args.sheet.now.words c.args.links.now.list c.loop-x.x c.loop-x.last (take c.loop-x.count c.loop-x.into)
+    c.requires.sound c.loop-x.invariant.0 (λ e. c.loop-x-test.true (e ∙ sym c.size.ensures))
+    (λ e. c.if-group-last.true ((ap (λ w. w.group) (c.of-group.ensures.fields ∙ ap item_of c.word.ensures)) ∙ e)) in
     omega (arith, g.1, length-take-le c.loop-x.count c.loop-x.into c.loop-x.invariant.1, c.requires.room)
 
 pub next-x-requires : goal.next-x-requires
-next-x-requires c = (group_step c.args.links.now.size c.args.sheet.now.words c.args.links.now.list c.loop-x.x c.loop-x.last (take c.loop-x.count c.loop-x.into) c.requires.sound c.loop-x.invariant.0 (λ e. c.loop-x-test.true (e ∙ sym c.size.ensures))).x_in
+next-x-requires c = (group_step c.args.links.now.size c.args.sheet.now.words c.args.links.now.list c.loop-x.x c.loop-x.last
+    (take c.loop-x.count c.loop-x.into) c.requires.sound c.loop-x.invariant.0 (λ e. c.loop-x-test.true (e ∙ sym c.size.ensures))).x_in
 
 pub loop-x-preserved : goal.loop-x-preserved
 loop-x-preserved c =
     elim c.if-group-last.branch [
       | then-group-last w ↦
-          let g = grouped-new c.args.links.now.size c.args.sheet.now.words c.args.links.now.list c.loop-x.x c.loop-x.last (take c.loop-x.count c.loop-x.into) c.requires.sound c.loop-x.invariant.0 (λ e. c.loop-x-test.true (e ∙ sym c.size.ensures)) (λ e. w.if-group-last.true ((ap (λ w. w.group) (c.of-group.ensures.fields ∙ ap item_of c.word.ensures)) ∙ e)) in
-          let room : c.loop-x.count < length c.loop-x.into = omega (arith, g.1, length-take-le c.loop-x.count c.loop-x.into c.loop-x.invariant.1, c.requires.room) in
-          let P : List ℕ → Type 0 = λ m. Grouped c.args.links.now.size (labels c.args.links.now.size c.args.sheet.now.words) c.args.links.now.list c.next-x.result c.of-group.result.group m in
-          let more = grouped-new c.args.links.now.size c.args.sheet.now.words c.args.links.now.list c.loop-x.x c.loop-x.last (take c.loop-x.count c.loop-x.into) c.requires.sound c.loop-x.invariant.0 (λ e. c.loop-x-test.true (e ∙ sym c.size.ensures)) (λ e. w.if-group-last.true ((ap (λ w. w.group) (c.of-group.ensures.fields ∙ ap item_of c.word.ensures)) ∙ e)) in
-          rw (w.into-is, w.count-is, w.last-is) (subst P (sym (take_more_set c.loop-x.into c.loop-x.count c.of-group.result.group room)) (rw (c.next-x.ensures, (ap (λ w. w.group) (c.of-group.ensures.fields ∙ ap item_of c.word.ensures))) more.0), omega (arith, length-set c.loop-x.into c.loop-x.count c.of-group.result.group, room))
+          let g = grouped-new c.args.links.now.size c.args.sheet.now.words c.args.links.now.list c.loop-x.x c.loop-x.last (take c.loop-x.count c.loop-x.into)
+          c.requires.sound c.loop-x.invariant.0 (λ e. c.loop-x-test.true (e ∙ sym c.size.ensures))
+          (λ e. w.if-group-last.true ((ap (λ w. w.group) (c.of-group.ensures.fields ∙ ap item_of c.word.ensures)) ∙ e)) in
+          let room : c.loop-x.count < length c.loop-x.into =
+          omega (arith, g.1, length-take-le c.loop-x.count c.loop-x.into c.loop-x.invariant.1, c.requires.room) in
+          let P : List ℕ → Type 0 = λ m. Grouped c.args.links.now.size (labels c.args.links.now.size c.args.sheet.now.words) c.args.links.now.list
+          c.next-x.result c.of-group.result.group m in
+          let more = grouped-new c.args.links.now.size c.args.sheet.now.words c.args.links.now.list c.loop-x.x c.loop-x.last
+          (take c.loop-x.count c.loop-x.into) c.requires.sound c.loop-x.invariant.0 (λ e. c.loop-x-test.true (e ∙ sym c.size.ensures))
+          (λ e. w.if-group-last.true ((ap (λ w. w.group) (c.of-group.ensures.fields ∙ ap item_of c.word.ensures)) ∙ e)) in
+          rw (w.into-is, w.count-is, w.last-is) (
+            subst P (sym (take_more_set c.loop-x.into c.loop-x.count c.of-group.result.group room))
+                (rw (c.next-x.ensures, (ap (λ w. w.group) (c.of-group.ensures.fields ∙ ap item_of c.word.ensures))) more.0),
+            omega (arith, length-set c.loop-x.into c.loop-x.count c.of-group.result.group, room),
+          )
       | else-group-last w ↦
-          let same = grouped-same c.args.links.now.size c.args.sheet.now.words c.args.links.now.list c.loop-x.x c.loop-x.last (take c.loop-x.count c.loop-x.into) c.requires.sound c.loop-x.invariant.0 (λ e. c.loop-x-test.true (e ∙ sym c.size.ensures)) (sym (ap (λ w. w.group) (c.of-group.ensures.fields ∙ ap item_of c.word.ensures)) ∙ w.if-group-last.false) in
+          let same = grouped-same c.args.links.now.size c.args.sheet.now.words c.args.links.now.list c.loop-x.x c.loop-x.last
+          (take c.loop-x.count c.loop-x.into) c.requires.sound c.loop-x.invariant.0 (λ e. c.loop-x-test.true (e ∙ sym c.size.ensures))
+          (sym (ap (λ w. w.group) (c.of-group.ensures.fields ∙ ap item_of c.word.ensures)) ∙ w.if-group-last.false) in
           rw (w.into-is, w.count-is, w.last-is, c.next-x.ensures) (same, c.loop-x.invariant.1)
     ]
 
 pub loop-x-smaller : goal.loop-x-smaller
 loop-x-smaller c =
-    let s = group_step c.args.links.now.size c.args.sheet.now.words c.args.links.now.list c.loop-x.x c.loop-x.last (take c.loop-x.count c.loop-x.into) c.requires.sound c.loop-x.invariant.0 (λ e. c.loop-x-test.true (e ∙ sym c.size.ensures)) in
+    let s = group_step c.args.links.now.size c.args.sheet.now.words c.args.links.now.list c.loop-x.x c.loop-x.last (take c.loop-x.count c.loop-x.into)
+    c.requires.sound c.loop-x.invariant.0 (λ e. c.loop-x-test.true (e ∙ sym c.size.ensures)) in
     rw c.next-x.ensures (omega (arith, s.nearer, s.short))
 
 pub returns-clause-groups : goal.returns-clause-groups
-returns-clause-groups c = grouped-all c.args.links.now.size c.args.sheet.now.words c.args.links.now.list c.loop-x.x c.loop-x.last (take c.loop-x.count c.loop-x.into) c.requires.sound c.loop-x.invariant.0 (c.loop-x-test.false ∙ c.size.ensures)
+returns-clause-groups c = grouped-all c.args.links.now.size c.args.sheet.now.words c.args.links.now.list c.loop-x.x c.loop-x.last
+    (take c.loop-x.count c.loop-x.into) c.requires.sound c.loop-x.invariant.0 (c.loop-x-test.false ∙ c.size.ensures)

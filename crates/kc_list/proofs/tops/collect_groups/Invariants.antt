@@ -1,3 +1,4 @@
+-- The groups of the items so far are collected, and `last` is the group of the item before.
 use Rattle.std.proofs.Common.{◌≤◌, ◌-◌, length, take}
 use Rattle.kc_distinct.specs.Lists.{place_of}
 use Rattle.kc_words.specs.Order.{labels}

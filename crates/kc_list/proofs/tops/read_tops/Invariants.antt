@@ -1,3 +1,4 @@
+-- The labels before the next are read.
 use Rattle.std.proofs.Common.{◌≡◌, take, map}
 use Rattle.kc_words.specs.Order.{labels}
 use Rattle.kc_list.proofs.tops.read_tops.Given as goal

@@ -1,3 +1,4 @@
+-- The steps of the places from `left` on are written.
 use Rattle.std.proofs.Common.{◌≡◌, ◌≤◌, ◌+◌, length, take, drop}
 use Rattle.kc_relabel.specs.Labels.{ups}
 use Rattle.kc_relabel.proofs.scheduling.list_growing.Given as goal

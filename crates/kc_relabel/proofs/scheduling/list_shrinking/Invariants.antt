@@ -1,3 +1,4 @@
+-- The steps of the places before the next are written, with what is still to come the whole schedule.
 use Rattle.std.proofs.Common.{◌≡◌, ◌≤◌, ◌++◌, length, take, drop}
 use Rattle.kc_relabel.specs.Labels.{downs, schedule_of}
 use Rattle.kc_relabel.proofs.scheduling.list_shrinking.Given as goal

@@ -1,3 +1,4 @@
+-- The rows with one number more each are those of the graph with the edge.
 use Rattle.std.proofs.Common.{arith, sym, ap, subst, ◌∙◌, ◌≡◌, ◌<◌, ◌+◌, ℕ, List, take, drop, length, Vec, Global, false, ◌++◌}
 use Rattle.std.proofs.Math.Seq.{take-append_seam}
 use Rattle.std.specs.FinSet as fin
@@ -5,7 +6,7 @@ use Rattle.std.specs.List.{sum_by}
 use Rattle.kc_distinct.specs.Lists.{member}
 use Rattle.kc_graph.specs.SimpleGraph.{SimpleGraph, adjacent}
 use Rattle.kc_graph.specs.Edges.{with_edge}
-use Rattle.kc_graph.specs.Rows.{lists, row, graph_of, IsKept, BothInserted}
+use Rattle.kc_graph.specs.Rows.{lists, row, graph_of, HoldsEdges, BothInserted}
 use Rattle.kc_graph.proofs.Buckets.{length-lists}
 use Rattle.kc_graph.proofs.RowsLemmas.{size-view, adjacent-graph_of}
 use Rattle.kc_graph.proofs.Adding.{adjacency, graph_of-added, sum-added, len-added, few_edges, present}
@@ -41,7 +42,7 @@ invariant_of-self-2 c =
     sym (adjacent-graph_of (lists old) c.self.invariant.adjacency c.args.u c.args.v) ∙ ap (λ (g : SimpleGraph). adjacent g c.args.u c.args.v) c.self.view_is ∙ sym c.has.ensures ∙ c.if-has.false in
     let one : fin.len (graph_of (lists now)).edges ≡ fin.len (graph_of (lists old)).edges + 1 = len-added (lists old) (lists now) c.args.u c.args.v c.requires.differ u-in v-in both c.self.invariant.adjacency lacks in
     let two : sum_by (length {A = ℕ}) (lists now) ≡ sum_by (length {A = ℕ}) (lists old) + 2 = sum-added (lists old) (lists now) c.args.u c.args.v c.requires.differ u-in v-in both in
-    subst (λ (t : List (Vec ℕ Global)). IsKept (lists t) (c.self.inside.edges + 1)) (sym e)
+    subst (λ (t : List (Vec ℕ Global)). HoldsEdges (lists t) (c.self.inside.edges + 1)) (sym e)
     (record {
       adjacency = adjacency (lists old) (lists now) c.args.u c.args.v c.requires.differ u-in v-in both c.self.invariant.adjacency;
       few = omega (arith, length-lists now, length-lists old, n, c.self.invariant.few);

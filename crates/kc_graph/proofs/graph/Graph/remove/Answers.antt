@@ -1,3 +1,4 @@
+-- The rows with one number less each are those of the graph without the edge.
 use Rattle.std.proofs.Common.{◌≡◌, ◌<◌, ◌+◌, ◌-◌, ◌++◌, ℕ, List, length, take, drop, true, arith, sym, ap, subst, ◌∙◌, Vec, Global}
 use Rattle.std.proofs.Math.Seq.{take-append_seam}
 use Rattle.std.specs.FinSet as set
@@ -5,7 +6,7 @@ use Rattle.std.specs.List.{sum_by}
 use Rattle.kc_distinct.specs.Lists.{member}
 use Rattle.kc_graph.specs.SimpleGraph.{SimpleGraph, adjacent}
 use Rattle.kc_graph.specs.Edges.{without_edge}
-use Rattle.kc_graph.specs.Rows.{lists, row, graph_of, IsKept, BothDeleted}
+use Rattle.kc_graph.specs.Rows.{lists, row, graph_of, HoldsEdges, BothDeleted}
 use Rattle.kc_graph.proofs.Buckets.{length-lists}
 use Rattle.kc_graph.proofs.RowsLemmas.{size-view, adjacent-graph_of}
 use Rattle.kc_graph.proofs.Removing.{adjacency, graph_of-removed, sum-removed, len-removed, missing}
@@ -38,7 +39,7 @@ invariant_of-self c =
     sym (adjacent-graph_of (lists old) c.self.invariant.adjacency c.args.u c.args.v) ∙ ap (λ (g : SimpleGraph). adjacent g c.args.u c.args.v) c.self.view_is ∙ sym c.has.ensures ∙ c.if-not-has.false in
     let one : set.len (graph_of (lists now)).edges ≡ set.len (graph_of (lists old)).edges - 1 = len-removed (lists old) (lists now) c.args.u c.args.v c.requires.differ u-in v-in both c.self.invariant.adjacency here in
     let two : sum_by (length {A = ℕ}) (lists now) + 2 ≡ sum_by (length {A = ℕ}) (lists old) = sum-removed (lists old) (lists now) c.args.u c.args.v c.requires.differ u-in v-in both in
-    subst (λ (t : List (Vec ℕ Global)). IsKept (lists t) (c.self.inside.edges - 1)) (sym e)
+    subst (λ (t : List (Vec ℕ Global)). HoldsEdges (lists t) (c.self.inside.edges - 1)) (sym e)
     (record {
       adjacency = adjacency (lists old) (lists now) c.args.u c.args.v c.requires.differ u-in v-in both c.self.invariant.adjacency;
       few = omega (arith, length-lists now, length-lists old, n, c.self.invariant.few);

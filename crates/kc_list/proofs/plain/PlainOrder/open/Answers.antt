@@ -1,7 +1,9 @@
+-- The opening words are sound, have the sizes that are counted, and one version.
 use Rattle.std.proofs.Common.{◌+◌, [], ap, sym, ◌∙◌, length, arith}
 use Rattle.kc_distinct.proofs.Members.{below_bound}
 use Rattle.kc_list.specs.Sheets.{Paper}
 use Rattle.kc_list.specs.Plain.{IsWhole}
+use Rattle.kc_list.specs.declared.limits.TheConstants.{ITEM_WRITES}
 use Rattle.kc_list.proofs.Putting.{ordered_from}
 use Rattle.kc_list.proofs.Openings.{opened_sound, opened_tallied, opened_versions, opened_highest}
 use Rattle.kc_list.proofs.plain.PlainOrder.open.Goals as goal
@@ -17,13 +19,16 @@ open-requires-2-clause-within c = below_bound c.args.shape.items c.args.order.no
 
 pub invariant_of-result : goal.invariant_of-result
 invariant_of-result c =
-    let sheet : Paper = record { words = c.in_ok-words.words.items; writes = []; room = c.args.shape.items + 98 } in
+    let sheet : Paper = record { words = c.in_ok-words.words.items; writes = []; room = c.args.shape.items + ITEM_WRITES } in
     let copied = c.in_ok-opening.ensures.items_if_clones_equal (λ x y h. h) ∙ c.as_slice.ensures.value in
-    let whole : IsWhole c.args.shape.items c.args.shape.fixed c.args.order.now sheet c.in_ok-groups.groups c.in_ok-scratch.scratch c.in_ok-opening.opening.items = record {
-      sound = opened_sound c.args.shape.items c.args.shape.version c.args.order.now c.in_ok-words.words.items c.args.shape.few_items c.requires.distinct c.requires.within c.in_ok-words.ensures;
+    let whole : IsWhole c.args.shape.items c.args.shape.fixed c.args.order.now sheet c.in_ok-groups.groups c.in_ok-scratch.scratch
+    c.in_ok-opening.opening.items = record {
+      sound = opened_sound c.args.shape.items c.args.shape.version c.args.order.now c.in_ok-words.words.items c.args.shape.few_items c.requires.distinct
+          c.requires.within c.in_ok-words.ensures;
       small = c.args.shape.few_items;
       fixed_in = c.requires.fixed_in;
-      tallied = opened_tallied c.args.shape.items c.args.shape.version c.args.order.now c.in_ok-words.words.items c.in_ok-groups.groups c.requires.distinct c.requires.within c.in_ok-words.ensures c.in_ok-groups.ensures.length c.in_ok-groups.ensures.none c.in_ok-groups.ensures.sizes;
+      tallied = opened_tallied c.args.shape.items c.args.shape.version c.args.order.now c.in_ok-words.words.items c.in_ok-groups.groups c.requires.distinct
+          c.requires.within c.in_ok-words.ensures c.in_ok-groups.ensures.length c.in_ok-groups.ensures.none c.in_ok-groups.ensures.sizes;
       scratch_room = omega (arith, c.in_ok-scratch.ensures);
       write_room = omega arith;
       opening_length = ap length copied ∙ c.in_ok-words.ensures.size;
@@ -32,10 +37,15 @@ invariant_of-result c =
     rw (c.in_ok-links.ensures, c.in_ok-sheet.ensures) whole
 
 pub returns-clause-versions : goal.returns-clause-versions
-returns-clause-versions c = rw c.in_ok-sheet.ensures (opened_versions c.args.shape.items c.args.shape.version c.args.order.now c.in_ok-words.words.items c.in_ok-words.ensures)
+returns-clause-versions c = rw c.in_ok-sheet.ensures
+    (opened_versions c.args.shape.items c.args.shape.version c.args.order.now c.in_ok-words.words.items c.in_ok-words.ensures)
 
 pub returns-clause-ordered : goal.returns-clause-ordered
-returns-clause-ordered c = rw c.in_ok-sheet.ensures (ordered_from c.args.shape.items c.in_ok-words.words.items c.args.order.now (opened_sound c.args.shape.items c.args.shape.version c.args.order.now c.in_ok-words.words.items c.args.shape.few_items c.requires.distinct c.requires.within c.in_ok-words.ensures))
+returns-clause-ordered c = rw c.in_ok-sheet.ensures
+    (ordered_from c.args.shape.items c.in_ok-words.words.items c.args.order.now
+    (opened_sound c.args.shape.items c.args.shape.version c.args.order.now c.in_ok-words.words.items c.args.shape.few_items c.requires.distinct
+    c.requires.within c.in_ok-words.ensures))
 
 pub returns-clause-highest : goal.returns-clause-highest
-returns-clause-highest c = rw c.in_ok-sheet.ensures (opened_highest c.args.shape.items c.args.shape.version c.args.order.now c.in_ok-words.words.items c.in_ok-words.ensures)
+returns-clause-highest c = rw c.in_ok-sheet.ensures
+    (opened_highest c.args.shape.items c.args.shape.version c.args.order.now c.in_ok-words.words.items c.in_ok-words.ensures)

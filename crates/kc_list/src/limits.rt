@@ -1,0 +1,21 @@
+//! How many items a group has, how far apart the labels of a half stand, and how much a call writes.
+//!
+//! Each limit has a name of its own, also where two of them are one number.
+
+use kc_words::BOTTOM_ROOM;
+
+/// The most items of a group.
+pub const GROUP_ITEMS: usize = 64;
+
+/// The items of a group at the opening. The last group may have fewer.
+pub const OPENING_ITEMS: u32 = 32;
+
+/// The items of each half, where a full group is split.
+pub const HALF_ITEMS: u32 = 32;
+
+/// How far apart the labels of the upper half stand after a split.
+pub const HALF_STEP: u64 = BOTTOM_ROOM / (HALF_ITEMS as u64 + 1);
+
+/// The most words that a call writes beside those of groups that are in use: the new group's, those
+/// of the upper half, those of a group that is spread, and the moved item's.
+pub const ITEM_WRITES: usize = 1 + HALF_ITEMS as usize + GROUP_ITEMS + 1;
