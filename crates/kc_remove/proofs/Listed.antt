@@ -4,9 +4,7 @@ use Rattle.std.specs.Prelude.{count_by}
 use Rattle.std.specs.List.{list_any}
 use Rattle.std.proofs.lemmas.Bool.{false≢true, or_cases, or_left, or_right}
 use Rattle.kc_distinct.specs.Lists.{member, below}
-use Rattle.kc_distinct.proofs.Members.{member-head, member-tail}
 use Rattle.kc_distinct.proofs.Counting.{member-below, below-member, Distinct-below, member-get_or, count-agree, count-le}
-use Rattle.kc_distinct.proofs.Shared.{list_any-some}
 use Rattle.kc_graph.specs.SimpleGraph.{adjacent}
 use Rattle.kc_graph.specs.Neighbours.{neighbours_of}
 use Rattle.kc_graph.specs.Edges.{without_edge}

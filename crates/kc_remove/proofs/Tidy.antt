@@ -1,17 +1,14 @@
 -- What holds for every view, from step to step.
-use Rattle.std.proofs.Common.{◌≡◌, ◌≢◌, ◌≤◌, ◌<◌, ◌⊎◌, ℕ, Bool, true, false, cond, ◌||◌, List, [], ◌∷◌, ◌++◌, length, get_or, eqb, ltb, refl, sym, ◌∙◌, ap, subst, inl, inr, arith, true≢false, ne_eqb, eq-eqb, length-append}
+use Rattle.std.proofs.Common.{◌≡◌, ◌≤◌, ◌<◌, ◌⊎◌, ℕ, Bool, true, false, cond, List, [], ◌∷◌, ◌++◌, length, get_or, eqb, ltb, refl, sym, ◌∙◌, ap, subst, inl, inr, arith, true≢false, eq-eqb, length-append}
 use Rattle.std.specs.Prelude.{Option, Some, None, is_some}
-use Rattle.std.proofs.lemmas.Bool.{cases_Bool, cases_eq, false≢true, or_left, or_right, false_from_ne_true}
-use Rattle.std.proofs.lemmas.List.{append-nil, get_or_append_left}
+use Rattle.std.proofs.lemmas.Bool.{cases_Bool, cases_eq, false≢true, or_right, false_from_ne_true}
+use Rattle.std.proofs.lemmas.List.{get_or_append_left}
 use Rattle.std.proofs.lemmas.List.Elements.{All-push, All-weaker}
-use Rattle.std.proofs.lemmas.List.Folds.{list_any-append}
-use Rattle.std.proofs.Math.Bool.{or-false}
-use Rattle.kc_distinct.specs.Lists.{member, Distinct}
+use Rattle.kc_distinct.specs.Lists.{member}
 use Rattle.kc_distinct.proofs.Members.{below_bound}
-use Rattle.kc_distinct.proofs.Counting.{member-push, member-push_left, Distinct-push}
+use Rattle.kc_distinct.proofs.Counting.{member-push}
 use Rattle.kc_distinct.proofs.Shared.{list_any-some, member-grown_left, member-grown_other, Distinct-grown}
 use Rattle.kc_graph.specs.declared.update.Update.{Update}
-use Rattle.kc_graph.specs.declared.used.UsedEdges.{UsedEdges}
 use Rattle.kc_view.specs.Answers.{Answers, has_list, list_of, has_core, with_list}
 use Rattle.kc_view.specs.Sure.{is_listed, AsksCores}
 use Rattle.kc_view.specs.Views.{Shown, Further, TellsList, TellsCore}

@@ -124,7 +124,8 @@ fn moves_of<V: View>(alloc: Global, view: &mut V, update: Update) -> Result<Move
 /// behind all of the level below. It asks the lists of the lesser end, of the ends that may fall, and of neighbours of those that do.
 ///
 /// `Miss` comes only where a call on the view missed, and `NoMemory` where there is no memory, for the view or for the search. At `Ok` the
-/// view has handed out all that it kept.
+/// view has handed out, once, all that this call asked, and keeps nothing; after a fault it has handed out nothing, and keeps what it was
+/// asked.
 pub fn plan<V: View>(alloc: Global, view: &mut V, update: Update) -> Result<Plan, PlanFault>
     requires removes { update.add ≡ false }
     requires vertex { update.v < (V.shown view.old).size }

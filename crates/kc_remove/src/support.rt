@@ -101,7 +101,7 @@ pub(crate) fn visit<V: View>(
     ensures falls { OnOk result ((s : Ranked) (turn : ℕ) (part later : ℕ → Bool) → Agrees (V.shown view.new).kept s → slice_index s.core y ≡ level
         → FallsIn update level s falling.old turn part → ((z : ℕ) → z ≢ y → later z ≡ part z)
         → (later y ≡ true → (turn < length falling.old.list.items)
-            × (adjacent (without_edge s.graph update.u update.v) (slice_index falling.old.list.items turn) y ≡ true))
+        × (adjacent (without_edge s.graph update.u update.v) (slice_index falling.old.list.items turn) y ≡ true))
         → FallsIn update level s falling.new turn later) }
 {
     let degree = degree_of(view, y)?;

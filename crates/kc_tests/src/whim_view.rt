@@ -57,7 +57,13 @@ impl Model for WhimView {
 impl WhimView {
     /// A view of this many vertices. With some patience it answers so many calls, the next one misses with these two loads, and it goes
     /// on; with none it never misses.
-    pub(crate) fn new(alloc: Global, size: u32, seed: u64, patience: Option<u64>, again: Again) -> WhimView
+    pub(crate) fn new(
+        alloc: Global,
+        size: u32,
+        seed: u64,
+        patience: Option<u64>,
+        again: Again,
+    ) -> WhimView
         requires { again.first ≢ again.second }
         ensures { result ≡ record { size = size; kept = nothing_answered; handed = 0; misses = 0; again = again } }
     {

@@ -25,11 +25,7 @@ pub fn keep_list(
 }
 
 /// Keeps the core number of a vertex. Where there is no memory for it, what was kept stays as it was.
-pub fn keep_place(
-    places: &mut Vec<UsedPlace>,
-    vertex: u32,
-    core: u32,
-) -> Result<(), NoMemory>
+pub fn keep_place(places: &mut Vec<UsedPlace>, vertex: u32, core: u32) -> Result<(), NoMemory>
     ensures ok { OnOk result (places.new.items ≡ places.old.items ++ record { vertex = vertex; stamp = 0; core = core } ∷ []) }
     ensures err { OnErr result (places.new.items ≡ places.old.items) }
 {
@@ -43,12 +39,7 @@ pub fn keep_place(
 }
 
 /// Keeps the order of two vertices. Where there is no memory for it, what was kept stays as it was.
-pub fn keep_order(
-    orders: &mut Vec<UsedOrder>,
-    x: u32,
-    y: u32,
-    before: bool,
-) -> Result<(), NoMemory>
+pub fn keep_order(orders: &mut Vec<UsedOrder>, x: u32, y: u32, before: bool) -> Result<(), NoMemory>
     ensures ok { OnOk result (orders.new.items ≡ orders.old.items ++ record { x = x; y = y; before = before } ∷ []) }
     ensures err { OnErr result (orders.new.items ≡ orders.old.items) }
 {

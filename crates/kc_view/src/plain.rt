@@ -39,8 +39,8 @@ impl<'a> Model for PlainView<'a> {
     } };
 
     ghost invariant = { λ a. KeepsAnswers a.state.now
-      (record { edges = a.edges.items; places = a.places.items; orders = a.orders.items })
-      a.is_listed.items a.is_placed.items };
+        (record { edges = a.edges.items; places = a.places.items; orders = a.orders.items })
+        a.is_listed.items a.is_placed.items };
 }
 
 impl<'a> PlainView<'a> {

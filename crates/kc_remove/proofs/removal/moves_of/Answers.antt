@@ -1,10 +1,6 @@
-use Rattle.std.proofs.Common.{◌≡◌, ◌<◌, ℕ, Bool, true, List, [], ◌∷◌, length, eqb, refl, sym, ◌∙◌, ap, subst, arith, eqb-true}
-use Rattle.kc_distinct.specs.Lists.{member}
+use Rattle.std.proofs.Common.{◌≡◌, ◌<◌, ℕ, Bool, true, List, [], ◌∷◌, length, eqb, refl, sym, ◌∙◌, subst, arith, eqb-true}
 use Rattle.kc_graph.specs.SimpleGraph.{adjacent}
-use Rattle.kc_graph.specs.Lawful.{Ranked}
-use Rattle.kc_graph.proofs.NeighbourLists.{neighbours_has}
-use Rattle.kc_view.specs.Answers.{Answers, Agrees, has_list, list_of}
-use Rattle.kc_view.proofs.Keeping.{agreed, list-true, tells-edge}
+use Rattle.kc_view.proofs.Keeping.{agreed, tells-edge}
 use Rattle.kc_remove.specs.Falling.{AsksNear}
 use Rattle.kc_remove.proofs.Sureness.{kept-sure, plain-sure, fall-sure, some-level}
 use Rattle.kc_remove.proofs.removal.moves_of.Goals as goal
