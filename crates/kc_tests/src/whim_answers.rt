@@ -1,5 +1,5 @@
 //! A view that answers what it likes, each call with its answer.
-ghost use Rattle.std.specs.Prelude.{◌<◌};
+ghost use Rattle.std.specs.Prelude.{◌<◌, ◌≢◌};
 
 use crate::whim_view::{WhimView, again};
 use kc_graph::Used;
@@ -18,6 +18,17 @@ fn list_of(alloc: Global, view: &mut WhimView, w: u32) -> Result<Vec<u32>, Fail>
         list.push(view.neighbour(w, i))?;
     }
     Ok(list)
+}
+
+/// How two vertices stand, once their core numbers were asked.
+fn order_of<V: View>(view: &mut V, x: u32, y: u32) -> Result<bool, ViewFault>
+    requires differ { x ≢ y }
+    requires first { x < (V.shown view.old).size }
+    requires second { y < (V.shown view.old).size }
+{
+    let _first = view.core(x)?;
+    let _second = view.core(y)?;
+    view.precedes(x, y)
 }
 
 /// The lists of these vertices were asked, and nothing else.
@@ -55,9 +66,7 @@ fn orders_of_a_whim_change(rt: HostRuntime) -> Result<(), Fail> {
     let mut answers = [false, false];
     for _ in 0..20 {
         assert!(rt; 1 < view.vertices());
-        view.core(0)?;
-        view.core(1)?;
-        let before = view.precedes(0, 1)?;
+        let before = order_of(&mut view, 0, 1)?;
         answers[before as usize] = true;
     }
     assert_eq!(rt; answers, [true, true]);
