@@ -1,3 +1,4 @@
+-- The pass stays one of the table.
 use Rattle.std.proofs.Common.{◌≡◌}
 use Rattle.kc_order.proofs.tests.ask_each_pair.Given as goal
 
