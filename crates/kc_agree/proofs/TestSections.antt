@@ -1,6 +1,5 @@
 -- What the sections of the tests leave: the stamp of a vertex is below the number of a section that has begun.
 use Rattle.std.proofs.Common.{◌≡◌, ◌+◌, ◌<◌, ◌≤◌, ℕ, zero, suc, get_or, List, [], ◌∷◌, ◌++◌, length, refl, sym, ap, ◌∙◌, subst, arith, length-append}
-use mathlib.Core.List.{IsPrefix}
 use Rattle.kc_words.specs.VertexWord.{vertex_of}
 use Rattle.kc_table.specs.declared.entry.Entry.{Entry}
 use Rattle.kc_table.specs.declared.view.Event.{Event}
@@ -9,7 +8,7 @@ use Rattle.kc_table.specs.Log.{Seen, TableName, event}
 use Rattle.kc_table.specs.State.{state_of}
 use Rattle.kc_table.proofs.LegalLogs.{legal-holds, legal-prefix, state_of-nil}
 use Rattle.kc_table.proofs.Stamps.{stamp-is}
-use Rattle.kc_order.specs.Writers.{Leaves, Puts, Stores, entries_after, unsealed_after, vertex_word_after}
+use Rattle.kc_order.specs.Writers.{Leaves, Stores, entries_after, unsealed_after, vertex_word_after}
 use Rattle.kc_agree.specs.Stamps.{number_of, place_stamp}
 
 -- the same word has the same stamp
