@@ -1,4 +1,4 @@
-//! Tests that cross crates: the planners over long sequences of updates.
+//! Tests that cross crates: the planners over long sequences of updates, and sections of levels that make what they plan.
 //!
 //! Each plan is judged by what knows nothing of the planner that made it: the local test and the whole check of `kc_cert`, a
 //! decomposition of the graph after it, and moves that are made here by what `Moves` says. What the planners were answered is compared
@@ -11,6 +11,8 @@ mod draws;
 mod levels;
 #[cfg(test)]
 mod planning;
+#[cfg(test)]
+mod sections;
 #[cfg(test)]
 mod sequences;
 #[cfg(test)]

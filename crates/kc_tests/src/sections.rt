@@ -1,0 +1,111 @@
+//! Sections of levels: the moves of each plan leave the order and the numbers that a plain list and a decomposition have after it.
+ghost use Rattle.std.specs.Prelude.{◌≡◌, ◌<◌, IfOk, false};
+ghost use Rattle.kc_graph.specs.Plans.{state_after};
+ghost use Rattle.kc_levels.specs.Levels.{AreLevels, size_of};
+ghost use Rattle.kc_levels.specs.Makes.{AreLevelsOf};
+
+use crate::draws::Draws;
+use crate::planning::{plan_of, state_after};
+use crate::shapes::{Case, cases};
+use crate::tally::Tally;
+use kc_cert::local_check;
+use kc_graph::{Lawful, Plan};
+use kc_levels::{LAST_NUMBER, Levels, make_moves, moved_count};
+use kc_table::Words;
+use kc_words::{LAST_VERSION, VERTICES};
+use std::process::Abort;
+use std::test::Fail;
+
+/// Levels of a state, over a fresh table.
+fn levels_of<R: Abort + AllocGlobal>(rt: &R, state: &Lawful) -> Result<(Words, Levels), Fail>
+    ensures table { IfOk result (λ r. r.1.table ≡ r.0) }
+    ensures closed { IfOk result (λ r. AreLevels r.1 × (r.1.open_ ≡ false)) }
+    ensures of { IfOk result (λ r. AreLevelsOf state.now r.1) }
+{
+    let core = state.core();
+    assert!(rt; core.len() <= VERTICES as usize);
+    let stamps = vec![in rt.alloc(); 0u32; core.len()]?;
+    let (words, levels, _) = Levels::open(rt.alloc(), state.order(), core, &stamps, 0, 0)?;
+    Ok((words, levels))
+}
+
+/// Makes the moves of a plan in a section of its own, where the plan passes the local test in the state whose levels these are.
+fn make_plan<R: Abort + AllocGlobal>(
+    rt: &R,
+    words: &Words,
+    levels: &mut Levels,
+    state: &Lawful,
+    plan: &Plan,
+) -> Result<(), Fail>
+    requires table { levels.old.table ≡ words.now }
+    requires closed { AreLevels levels.old × (levels.old.open_ ≡ false) }
+    requires of { AreLevelsOf state.now levels.old }
+    ensures of { IfOk result (λ _. AreLevelsOf (state_after plan.now state.now) levels.new) }
+{
+    let is_local = local_check(rt.alloc(), state, plan)?;
+    if !is_local {
+        return Err("the plan fails the local test".into());
+    }
+    assert!(rt; levels.number() < LAST_NUMBER);
+    levels.open_section(words, 0, plan.update);
+    let most = moved_count(&plan.moves);
+    assert!(rt; most <= VERTICES as usize);
+    let spent = levels.highest() as usize + 3 * most;
+    if spent > LAST_VERSION as usize {
+        return Err("the versions are spent".into());
+    }
+    make_moves(levels, words, &plan.moves);
+    levels.end_section();
+    Ok(())
+}
+
+/// A walk over the levels finds the order of a state, and each vertex at the level of its core number.
+fn assert_levels_of<R: Abort>(rt: &R, levels: &Levels, state: &Lawful, vertices: u32)
+    requires { vertices ≡ size_of levels.now }
+{
+    let mut at = levels.first();
+    for v in state.order() {
+        assert_eq!(rt; at, Some(*v));
+        assert!(rt; *v < vertices);
+        at = levels.next(*v);
+    }
+    assert_eq!(rt; at, None);
+    for v in 0..vertices {
+        assert_eq!(rt;
+            state.core().get(v as usize).copied(),
+            Some(levels.level_of(v))
+        );
+    }
+}
+
+/// So many updates of a graph, each made in a section of levels of the state before it.
+fn run<R: Abort + AllocGlobal>(
+    rt: &R,
+    case: Case,
+    updates: u32,
+    tally: &mut Tally,
+) -> Result<(), Fail> {
+    let mut draws = Draws::new(case.seed);
+    let mut state = case.begin(rt.alloc(), &mut draws)?;
+    for _ in 0..updates {
+        assert!(rt; state.graph().vertices() > 1);
+        let plan = plan_of(rt.alloc(), &state, draws.update(state.graph()))?;
+        tally.count(&plan);
+        let (words, mut levels) = levels_of(rt, &state)?;
+        let vertices = state.graph().vertices();
+        make_plan(rt, &words, &mut levels, &state, &plan)?;
+        state = state_after(rt, &state, &plan)?;
+        assert_levels_of(rt, &levels, &state, vertices);
+    }
+    Ok(())
+}
+
+#[test]
+fn sections_leave_the_levels_of_the_state_after(rt: HostRuntime) -> Result<(), Fail> {
+    let mut tally = Tally::new();
+    for case in cases() {
+        run(&rt, case, 720, &mut tally)?;
+    }
+    assert!(rt; tally.has_all(), "{tally:?}");
+    Ok(())
+}
