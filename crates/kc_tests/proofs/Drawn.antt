@@ -1,5 +1,5 @@
 -- What a step leaves of a view that answers what it likes.
-use Rattle.std.proofs.Common.{ℕ, refl, le_refl}
+use Rattle.std.proofs.Common.{refl, le_refl}
 use Rattle.kc_graph.specs.declared.used.UsedEdges.{UsedEdges}
 use Rattle.kc_view.specs.Answers.{with_list}
 use Rattle.kc_view.specs.Lists.{IsListOf}

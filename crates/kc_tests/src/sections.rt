@@ -9,7 +9,7 @@ use crate::planning::{plan_of, state_after};
 use crate::shapes::{Case, cases};
 use crate::tally::Tally;
 use kc_cert::local_check;
-use kc_graph::{Lawful, Plan};
+use kc_graph::{Lawful, Plan, Update};
 use kc_levels::{LAST_NUMBER, Levels, make_moves, moved_count};
 use kc_table::Words;
 use kc_words::{LAST_VERSION, VERTICES};
@@ -40,6 +40,7 @@ fn make_plan<R: Abort + AllocGlobal>(
     requires table { levels.old.table ≡ words.now }
     requires closed { AreLevels levels.old × (levels.old.open_ ≡ false) }
     requires of { AreLevelsOf state.now levels.old }
+    ensures table { levels.new.table ≡ words.now }
     ensures of { IfOk result (λ _. AreLevelsOf (state_after plan.now state.now) levels.new) }
 {
     let is_local = local_check(rt.alloc(), state, plan)?;
@@ -78,6 +79,32 @@ fn assert_levels_of<R: Abort>(rt: &R, levels: &Levels, state: &Lawful, vertices:
     }
 }
 
+/// Levels of a state, after a section that made the moves of a plan.
+fn levels_after<R: Abort + AllocGlobal>(rt: &R, state: &Lawful, plan: &Plan) -> Result<Levels, Fail>
+    ensures { IfOk result (λ levels. size_of levels ≡ state.now.graph.size) }
+{
+    let (words, mut levels) = levels_of(rt, state)?;
+    make_plan(rt, &words, &mut levels, state, plan)?;
+    Ok(levels)
+}
+
+/// The state after an update, which a section of levels of the state before it leaves too.
+fn updated<R: Abort + AllocGlobal>(
+    rt: &R,
+    state: &Lawful,
+    update: Update,
+    tally: &mut Tally,
+) -> Result<Lawful, Fail>
+    requires { update.v < state.now.graph.size }
+{
+    let plan = plan_of(rt.alloc(), state, update)?;
+    tally.count(&plan);
+    let levels = levels_after(rt, state, &plan)?;
+    let after = state_after(rt, state, &plan)?;
+    assert_levels_of(rt, &levels, &after, state.graph().vertices());
+    Ok(after)
+}
+
 /// So many updates of a graph, each made in a section of levels of the state before it.
 fn run<R: Abort + AllocGlobal>(
     rt: &R,
@@ -89,13 +116,7 @@ fn run<R: Abort + AllocGlobal>(
     let mut state = case.begin(rt.alloc(), &mut draws)?;
     for _ in 0..updates {
         assert!(rt; state.graph().vertices() > 1);
-        let plan = plan_of(rt.alloc(), &state, draws.update(state.graph()))?;
-        tally.count(&plan);
-        let (words, mut levels) = levels_of(rt, &state)?;
-        let vertices = state.graph().vertices();
-        make_plan(rt, &words, &mut levels, &state, &plan)?;
-        state = state_after(rt, &state, &plan)?;
-        assert_levels_of(rt, &levels, &state, vertices);
+        state = updated(rt, &state, draws.update(state.graph()), tally)?;
     }
     Ok(())
 }

@@ -1,8 +1,6 @@
 -- A list is drawn at the first call for a vertex, and found at a later one.
-use Rattle.std.proofs.Common.{◌≡◌, ℕ, false, List, [], length, sym, ◌∙◌, ap, subst, arith}
+use Rattle.std.proofs.Common.{◌≡◌, ℕ, false, List, length, sym, ◌∙◌, ap, subst, arith}
 use Rattle.std.specs.Prelude.{Some, is_some}
-use Rattle.std.specs.Option.{unwrap_or}
-use Rattle.std.proofs.lemmas.List.Elements.{All-push}
 use Rattle.kc_graph.specs.declared.used.UsedEdges.{UsedEdges}
 use Rattle.kc_view.specs.Answers.{Answers, has_list, list_in, with_list}
 use Rattle.kc_view.specs.Lists.{IsListOf}

@@ -1,5 +1,5 @@
 -- Nothing is kept any more.
-use Rattle.std.proofs.Common.{ℕ, sym, ◌∙◌, ap, subst, Vec, Global}
+use Rattle.std.proofs.Common.{sym, ◌∙◌, ap, subst, Vec, Global}
 use Rattle.kc_graph.specs.declared.used.UsedEdges.{UsedEdges}
 use Rattle.kc_view.specs.Lists.{AreLists}
 use Rattle.kc_view.proofs.Keeping.{no-lists}
