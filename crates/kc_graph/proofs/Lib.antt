@@ -1,10 +1,12 @@
 pub mod Adding
 pub mod Buckets
+pub mod Bulking
 pub mod Deleting
 pub mod EdgeChanges
 pub mod Ends
 pub mod Existence
 pub mod Filing
+pub mod Handshake
 pub mod Inserting
 pub mod Law
 pub mod Lowering

@@ -1,12 +1,13 @@
 //! A graph, kept as the neighbours of each vertex in ascending order.
-ghost use Rattle.std.specs.Prelude.{◌≡◌, ◌≢◌, ◌<◌, IfOk, OnOk, OnErr, not, ℕ};
+ghost use Rattle.std.specs.Prelude.{◌≡◌, ◌≢◌, ◌<◌, ◌^◌, IfOk, OnOk, OnErr, not, ℕ, length};
 ghost use Rattle.std.specs.FinSet as set;
 ghost use Rattle.kc_graph.specs.SimpleGraph.{SimpleGraph, adjacent};
 ghost use Rattle.kc_graph.specs.Edges.{with_edge, without_edge};
 ghost use Rattle.kc_graph.specs.Neighbours.{AreNeighbours};
+ghost use Rattle.kc_graph.specs.Rows.{IsAdjacency, graph_of, lists};
 
 use crate::NoMemory;
-use crate::rows::{copy_of, delete_both, insert_both, place_in};
+use crate::rows::{copy_of, delete_both, entries_in, insert_both, place_in};
 use std::alloc::Global;
 use std::marker::Model;
 
@@ -41,6 +42,16 @@ impl Graph {
             rows.push(Vec::new(alloc))?;
         }
         Ok(Graph { rows, edges: 0 })
+    }
+
+    /// The graph of rows that say which vertices are neighbours.
+    pub(crate) fn from_rows(rows: Vec<Vec<u32>>) -> Graph
+        requires adjacency { IsAdjacency (lists rows.items) }
+        requires few { length rows.items < 2 ^ 32 }
+        ensures { result ≡ graph_of (lists rows.items) }
+    {
+        let edges = entries_in(&rows) / 2;
+        Graph { rows, edges }
     }
 
     /// How many vertices there are: they are the numbers below this.

@@ -10,6 +10,7 @@
 //! numbers and no more, and it has one. The crate stands on `kc_distinct` and the standard library.
 #![tactic(auto)]
 
+mod bulk;
 mod graph;
 mod lawful;
 mod neighbours;
@@ -26,6 +27,7 @@ ghost use Rattle.kc_graph.specs.SimpleGraph.{SimpleGraph};
 ghost use Rattle.kc_graph.specs.Core.{AreCoreNumbers};
 ghost use Rattle.kc_graph.specs.Certificate.{Certifies};
 
+pub use bulk::{Edge, listed_edges_are_the_edges};
 pub use graph::Graph;
 pub use lawful::Lawful;
 pub use neighbours::Neighbours;

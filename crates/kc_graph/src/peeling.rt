@@ -24,7 +24,7 @@ struct Removal {
 }
 
 /// Puts a vertex into a bucket.
-fn push_into(buckets: &mut [Vec<u32>], b: u32, w: u32) -> Result<(), NoMemory>
+pub(crate) fn push_into(buckets: &mut [Vec<u32>], b: u32, w: u32) -> Result<(), NoMemory>
     requires { b < length buckets.old }
     ensures { OnOk result (lists buckets.new ≡ slice_set (lists buckets.old) b (row (lists buckets.old) b ++ w ∷ [])) }
 {

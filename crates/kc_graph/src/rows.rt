@@ -1,5 +1,5 @@
 //! Ascending rows of numbers: what a graph keeps for each vertex.
-ghost use Rattle.std.specs.Prelude.{◌≡◌, ◌≢◌, ◌<◌, ℕ, List, true, false, length, vec_len, vec_capacity, slice_index_or, slice_set, IfOk, OnOk, OnErr, IsOk};
+ghost use Rattle.std.specs.Prelude.{◌≡◌, ◌≢◌, ◌<◌, ◌^◌, ℕ, List, true, false, length, vec_len, vec_capacity, slice_index_or, slice_set, IfOk, OnOk, OnErr, IsOk, sum_by};
 ghost use Rattle.std.specs.List.Sorted.{IsStrictlyIncreasing};
 ghost use Rattle.std.specs.declared.vec.Vec.{Vec};
 ghost use Rattle.std.specs.declared.alloc.Global.{Global};
@@ -117,4 +117,17 @@ pub(crate) fn copy_of(alloc: Global, rows: &[Vec<u32>]) -> Result<Vec<Vec<u32>>,
         copies.push(Vec::from_slice(alloc, row)?)?;
     }
     Ok(copies)
+}
+
+/// How many entries the rows have together.
+pub(crate) fn entries_in(rows: &[Vec<u32>]) -> u64
+    requires adjacency { IsAdjacency (lists rows.now) }
+    requires few { length rows.now < 2 ^ 32 }
+    ensures { result ≡ sum_by length (lists rows.now) }
+{
+    let mut entries = 0;
+    for row in rows {
+        entries += row.len() as u64;
+    }
+    entries
 }

@@ -1,24 +1,63 @@
--- What a second load tells of a first.
-use Rattle.std.proofs.Common.{◌≡◌, ◌≢◌, ℕ, ◌<◌, List, ap, ◌∙◌, arith}
+-- What a second load tells of a first, and second loads one after the other.
+use Rattle.std.proofs.Common.{◌≡◌, ℕ, ◌+◌, ◌<◌, List, [], ◌∷◌, length, refl, ap, arith}
 use Rattle.std.specs.Prelude.{Option, None, Some, IfNone, IfSome}
 use mathlib.Core.List.{IsPrefix}
 use Rattle.kc_words.specs.declared.again.Again.{Again}
-use Rattle.kc_table.specs.declared.view.Event.{Event}
-use Rattle.kc_table.specs.Log.{TableName, value_at}
+use Rattle.kc_table.specs.Legal.{Legal}
+use Rattle.kc_table.specs.Log.{PassSeen, value_at}
 use Rattle.kc_table.specs.State.{word_count}
 use Rattle.kc_order.specs.Collected.{Collected, IsCollect, Loaded}
-use Rattle.kc_order.specs.Standing.{LoadedSame, LoadedOther}
+use Rattle.kc_order.specs.Standing.{FindsOther, FindsSame, LoadsOther, LoadsWord, Steps}
 
-pub same_here : (table t : TableName) (old p new : List Event) (l : Loaded) → t ≡ table → IsPrefix old p → IsPrefix p new → l.value ≡ value_at t.opening p l.word → LoadedSame table old new l
-same_here table t old p new l e a b is = record { prefix = p; between = record { extends = a; extended = b }; had = is ∙ ap (λ (z : TableName). value_at z.opening p l.word) e }
+-- one load, as its clauses tell of it
+pub loads_word : (old new : PassSeen) (word value : ℕ) → new.table ≡ old.table → IsPrefix old.log new.log → Legal new.table.shape new.table.opening new.log
+    → value ≡ value_at new.table.opening new.log word → (new.loads ≡ old.loads + 1) × (new.splits ≡ old.splits) → LoadsWord old new word value
+loads_word old new word value table longer legal held counted = record {
+  table = table;
+  longer = longer;
+  legal = legal;
+  held = held;
+  steps = record { loaded = counted.0; split = omega (arith, counted.1) };
+}
 
-pub other_here : (table t : TableName) (old p new : List Event) (l : Loaded) (again : Again) → t ≡ table → IsPrefix old p → IsPrefix p new
-    → (again.word ≡ l.word) × (again.first ≡ l.value) × (again.second ≡ value_at t.opening p l.word) × (again.first ≢ again.second) → LoadedOther table old new l again
-other_here table t old p new l again e a b h = record {
-  word = h.0;
-  first = h.1;
-  second = record { prefix = p; between = record { extends = a; extended = b }; had = h.2 ∙ ap (λ (z : TableName). value_at z.opening p l.word) e };
-  differ = h.3;
+-- steps that follow others are made beside them
+pub steps-then : (old next new : PassSeen) (a b c d : ℕ) → Steps old next a b → Steps next new c d → Steps old new (a + c) (b + d)
+steps-then old next new a b c d h k = record { loaded = omega (arith, h.loaded, k.loaded); split = omega (arith, h.split, k.split) }
+
+-- as many loads are made as words are found the same
+pub finds_same-steps : (old : PassSeen) (ls : List Loaded) (new : PassSeen) → FindsSame old ls new → Steps old new (length ls) 0
+finds_same-steps old [] new is = record { loaded = omega (arith, ap (λ (s : PassSeen). s.loads) is); split = omega (arith, ap (λ (s : PassSeen). s.splits) is) }
+finds_same-steps old (l ∷ ls) new (next, one, rest) =
+    let more = finds_same-steps next ls new rest in
+    record { loaded = omega (arith, one.steps.loaded, more.loaded); split = omega (arith, one.steps.split, more.split) }
+
+-- the first of the words differs
+pub finds_other-here : (old new : PassSeen) (l : Loaded) (ls : List Loaded) (again : Again) → LoadsOther old new l.word l.value again
+    → FindsOther old (l ∷ ls) new again
+finds_other-here old new l ls again h = record {
+  front = [];
+  other = l;
+  back = ls;
+  are = refl;
+  middle = old;
+  same = refl;
+  differs = h;
+  steps = record { loaded = omega (arith, h.loaded.steps.loaded); split = omega (arith, h.loaded.steps.split) };
+}
+
+-- or it is the same, and one of the others does
+pub finds_other-later : (old next new : PassSeen) (l : Loaded) (ls : List Loaded) (again : Again) → LoadsWord old next l.word l.value
+    → FindsOther next ls new again
+    → FindsOther old (l ∷ ls) new again
+finds_other-later old next new l ls again one h = record {
+  front = l ∷ h.front;
+  other = h.other;
+  back = h.back;
+  are = ap (λ z. l ∷ z) h.are;
+  middle = h.middle;
+  same = (next, one, h.same);
+  differs = h.differs;
+  steps = record { loaded = omega (arith, one.steps.loaded, h.steps.loaded); split = omega (arith, one.steps.split, h.steps.split) };
 }
 
 -- the four words are words of the table

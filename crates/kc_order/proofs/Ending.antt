@@ -6,6 +6,7 @@ use Rattle.kc_words.specs.ItemWord.{item_of}
 use Rattle.kc_words.specs.VertexWord.{vertex_of}
 use Rattle.kc_words.specs.NoteWord.{note_of}
 use Rattle.kc_words.specs.Order.{Ordered}
+use Rattle.kc_words.specs.declared.layout.TheConstants.{LAST_VERSION}
 use Rattle.kc_words.specs.declared.note.NoteWord.{NoteWord}
 use Rattle.kc_words.specs.declared.note.NoteWord.TheVariants.{Nothing}
 use Rattle.kc_words.specs.declared.shape.Shape.{Shape}
@@ -41,11 +42,11 @@ pub record Ends (shape : Shape) (s : State) (ws : List ℕ) (n : NoteWord) (v x 
   pub note_fits : v < 2 ^ 64
   pub may : legal.MayNote shape s n
   pub no_entry : (entries : List Entry) → entered n entries ≡ entries
-  pub follows : legal.Follows n (1 + x)
+  pub follows : legal.FollowsNote n (1 + x)
   pub x_in : x < shape.items
   pub last_is : last.word ≡ 1 + x
   pub raises : sheet.Raises ws last
-  pub few : (item_of last.value).version ≤ 16777215
+  pub few : (item_of last.value).version ≤ LAST_VERSION
   pub now : Ordered shape.items (set ws last.word last.value) after
   pub after_is : moved n (1 + x) s.list ≡ after
 
@@ -55,7 +56,7 @@ pub record Ended (shape : Shape) (opening : List ℕ) (log : List Event) (v x : 
   pub legal_ : legal.Legal shape opening ((log ++ event 0 v ∷ []) ++ event (1 + x) last.value ∷ [])
   pub list : (state_of shape opening ((log ++ event 0 v ∷ []) ++ event (1 + x) last.value ∷ [])).list ≡ after
   pub words : (w : ℕ) → 1 ≤ w → w < first_vertex shape → get_or (set ws last.word last.value) w 0 ≡ value_at opening ((log ++ event 0 v ∷ []) ++ event (1 + x) last.value ∷ []) w
-  pub quiet : (w : ℕ) → legal.Follows (state_of shape opening ((log ++ event 0 v ∷ []) ++ event (1 + x) last.value ∷ [])).note w
+  pub quiet : (w : ℕ) → legal.FollowsNote (state_of shape opening ((log ++ event 0 v ∷ []) ++ event (1 + x) last.value ∷ [])).note w
 
 pub ends : (shape : Shape) (opening : List ℕ) (log : List Event) (ws : List ℕ) (n : NoteWord) (v x : ℕ) (last : Write) (after : List ℕ) → legal.Legal shape opening log → Ends shape (state_of shape opening log) ws n v x last after
     → ((y : ℕ) → member y after ≡ true → y < shape.items) → Ended shape opening log v x last ws after
@@ -89,7 +90,7 @@ ends shape opening log ws n v x last after lawful h within =
     let may-item : legal.MayStore shape t e = record {
       there = omega (arith, high);
       fits = value-fits last.value h.few;
-      follows = subst (λ z. legal.Follows z (1 + x)) (sym h.note_is) h.follows;
+      follows = subst (λ z. legal.FollowsNote z (1 + x)) (sym h.note_is) h.follows;
       note = λ k. absurd (omega (arith, k));
       fresh = λ _. h.raises.version_is ∙ ap (λ z. (item_of z).version + 1) (ap (λ k. get_or ws k 0) h.last_is ∙ (sym (g.words (1 + x) (omega arith) high) ∙ sym (note-words (1 + x) (omega arith))));
       seals = λ k is. absurd (omega (arith, is, high));
@@ -111,5 +112,5 @@ ends shape opening log ws n v x last after lawful h within =
           (subst (legal.Holds shape) (sym (ap (λ z. after_store shape z e) at-note ∙ is)) item-holds);
       list = ap (λ z. z.list) at-end ∙ list;
       words = λ w low up. sym (agree w low up) ∙ (ap (λ z. get_or z.words w 0) (sym at-end) ∙ ap (λ l. get_or l w 0) (state_of-words shape opening ((log ++ event 0 v ∷ []) ++ e ∷ [])));
-      quiet = λ w. subst (λ z. legal.Follows z.note w) (sym at-end) tt;
+      quiet = λ w. subst (λ z. legal.FollowsNote z.note w) (sym at-end) tt;
     }

@@ -2,9 +2,11 @@ pub mod Again
 pub mod Comparing
 pub mod Cutting
 pub mod Ending
+pub mod Leaving
 pub mod Opened
 pub mod Reading
 pub mod Relabelling
+pub mod Running
 pub mod Sections
 pub mod Stood
 pub mod Writing

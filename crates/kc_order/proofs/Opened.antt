@@ -13,10 +13,11 @@ use Rattle.kc_table.specs.Legal as legal
 use Rattle.kc_table.specs.Log.{TableName, Seen}
 use Rattle.kc_table.specs.State.{is_below, placed, listed, opened, state_of}
 use Rattle.kc_table.proofs.LegalLogs.{legal-nil, state_of-nil}
-use Rattle.kc_order.specs.Writers.{IsOpening, Tied}
+use Rattle.kc_order.specs.Writers.{AreOpeningWords, Tied}
 use Rattle.kc_order.proofs.Relabelling.{ordered-agree}
 use Rattle.kc_table.proofs.Listed.{member-placed, placed-member, listed-within}
-use Rattle.kc_order.proofs.Stood.{follows-all, in_order-tail, pair-trans, pair-asym, one-less}
+use Rattle.kc_words.proofs.Ordering.{Follows-all, InOrder-tail, PairBelow-asym}
+use Rattle.kc_order.proofs.Stood.{pair-trans, one-less}
 
 -- what one test of two pairs tells
 below-true : (a : Labels) (x y : ℕ) → is_below a x y ≡ true → PairBelow a x y
@@ -50,18 +51,18 @@ same-order R t asym (x ∷ xs) (y ∷ ys) p q f g =
       | inl e ↦ e
       | inr x-later ↦ elim (member-cases y x xs (g y (member-head y ys))) [
         | inl e ↦ sym e
-        | inr y-later ↦ absurd (asym x y (follows-all R t x y xs p y-later) (follows-all R t y x ys q x-later))
+        | inr y-later ↦ absurd (asym x y (Follows-all R t x y xs p y-later) (Follows-all R t y x ys q x-later))
       ]
     ] in
     let lower : (z : ℕ) → member z xs ≡ true → member z ys ≡ true = λ z m. elim (member-cases z y ys (f z (member-tail z x xs m))) [
-      | inl e ↦ absurd (let r : R x x = subst (R x) (e ∙ sym heads) (follows-all R t x z xs p m) in asym x x r r)
+      | inl e ↦ absurd (let r : R x x = subst (R x) (e ∙ sym heads) (Follows-all R t x z xs p m) in asym x x r r)
       | inr k ↦ k
     ] in
     let upper : (z : ℕ) → member z ys ≡ true → member z xs ≡ true = λ z m. elim (member-cases z x xs (g z (member-tail z y ys m))) [
-      | inl e ↦ absurd (let r : R y y = subst (R y) (e ∙ heads) (follows-all R t y z ys q m) in asym y y r r)
+      | inl e ↦ absurd (let r : R y y = subst (R y) (e ∙ heads) (Follows-all R t y z ys q m) in asym y y r r)
       | inr k ↦ k
     ] in
-    ap (λ z. z ∷ xs) heads ∙ ap (λ zs. y ∷ zs) (same-order R t asym xs ys (in_order-tail R x xs p) (in_order-tail R y ys q) lower upper)
+    ap (λ z. z ∷ xs) heads ∙ ap (λ zs. y ∷ zs) (same-order R t asym xs ys (InOrder-tail R x xs p) (InOrder-tail R y ys q) lower upper)
 
 -- a list stays in order where an item is placed by its pair
 follows-placed : (a : Labels) (w x : ℕ) (zs : List ℕ) → PairBelow a w x → Follows (PairBelow a) w zs → InOrder (PairBelow a) zs → ((z : ℕ) → member z zs ≡ true → is_below a x z ≡ false → PairBelow a z x) → Follows (PairBelow a) w (placed a x zs)
@@ -69,7 +70,11 @@ follows-placed a w x [] h p q f = (h, tt)
 follows-placed a w x (z ∷ zs) h p q f =
     elim (cases_Bool (is_below a x z)) [
       | inl t ↦ rw t (h, (below-true a x z t, p.1))
-      | inr isnt ↦ rw isnt (p.0, follows-placed a z x zs (f z (member-head z zs) isnt) p.1 (in_order-tail (PairBelow a) z zs q) (λ y m. f y (member-tail y z zs m)))
+      | inr isnt ↦ rw isnt (
+        p.0,
+        follows-placed a z x zs (f z (member-head z zs) isnt) p.1 (InOrder-tail (PairBelow a) z zs q)
+            (λ y m. f y (member-tail y z zs m)),
+      )
     ]
 
 in_order-placed : (a : Labels) (x : ℕ) (zs : List ℕ) → InOrder (PairBelow a) zs → ((z : ℕ) → member z zs ≡ true → is_below a x z ≡ false → PairBelow a z x) → InOrder (PairBelow a) (placed a x zs)
@@ -77,7 +82,7 @@ in_order-placed a x [] h f = tt
 in_order-placed a x (z ∷ zs) h f =
     elim (cases_Bool (is_below a x z)) [
       | inl t ↦ rw t (below-true a x z t, h)
-      | inr isnt ↦ rw isnt (follows-placed a z x zs (f z (member-head z zs) isnt) h (in_order-tail (PairBelow a) z zs h) (λ y m. f y (member-tail y z zs m)))
+      | inr isnt ↦ rw isnt (follows-placed a z x zs (f z (member-head z zs) isnt) h (InOrder-tail (PairBelow a) z zs h) (λ y m. f y (member-tail y z zs m)))
     ]
 
 module _ (n : ℕ) (ws order : List ℕ) (o : Ordered n ws order) where
@@ -127,7 +132,8 @@ module _ (n : ℕ) (ws order : List ℕ) (o : Ordered n ws order) where
       ]
 
   pub listed-is : ((x : ℕ) → member x order ≡ true → x < n) → listed a n ≡ order
-  listed-is within = same-order (PairBelow a) (pair-trans a) (pair-asym a) (listed a n) order (in_order-listed n (omega arith)) o.pairs (λ z m. listed-in n z (omega arith) m) (λ z m. in-listed n z (omega arith) (within z m) m)
+  listed-is within = same-order (PairBelow a) (pair-trans a) (PairBelow-asym a) (listed a n) order (in_order-listed n (omega arith)) o.pairs
+      (λ z m. listed-in n z (omega arith) m) (λ z m. in-listed n z (omega arith) (within z m) m)
 
 pub zero-version : (item_of 0).version ≡ 0
 unfolding item_of
@@ -138,7 +144,8 @@ pub record Opening (shape : Shape) (words : List ℕ) (order : List ℕ) : Type 
   pub opens : legal.Opens shape words
   pub list : listed (labels shape.items words) shape.items ≡ order
 
-pub opening-of : (shape : Shape) (plain : Plain) (words order vertex : List ℕ) → IsOpening words plain.opening vertex shape.items → plain.words ≡ plain.opening
+pub opening-of : (shape : Shape) (plain : Plain) (words order vertex : List ℕ) → AreOpeningWords words plain.opening vertex shape.items
+    → plain.words ≡ plain.opening
     → ((w : ℕ) → 1 ≤ w → w ≤ 2 * shape.items + 1 → version plain.words w ≡ shape.version) → Ordered shape.items plain.words order → ((x : ℕ) → member x order ≡ true → x < shape.items)
     → ((v : ℕ) → v < shape.fixed → member v order ≡ true) → length vertex ≡ shape.fixed → ((v : ℕ) → v < shape.fixed → (vertex_of (get_or vertex v 0)).stamp ≤ shape.base) → Opening shape words order
 opening-of shape plain words order vertex h same versions o within vertices long stamps =
@@ -160,7 +167,8 @@ opening-of shape plain words order vertex h same versions o within vertices long
     }
 
 -- and the writer's plain list is tied to its empty log
-pub tied-open : (shape : Shape) (plain : Plain) (words order vertex : List ℕ) (table : TableName) (seen : Seen) → Opening shape words order → IsOpening words plain.opening vertex shape.items → plain.words ≡ plain.opening
+pub tied-open : (shape : Shape) (plain : Plain) (words order vertex : List ℕ) (table : TableName) (seen : Seen) → Opening shape words order
+    → AreOpeningWords words plain.opening vertex shape.items → plain.words ≡ plain.opening
     → plain.items ≡ shape.items → plain.fixed ≡ shape.fixed → plain.list ≡ order → length plain.words ≡ 2 * shape.items + 2 → version plain.words 0 ≡ 0
     → (table.shape ≡ shape) × (table.opening ≡ words) → seen ≡ record { table = table; log = [] } → Tied seen plain
 tied-open shape plain words order vertex table seen opening h same items fixed list long note named is =
@@ -178,5 +186,5 @@ tied-open shape plain words order vertex table seen opening h same items fixed l
           long = long ∙ ap (λ (z : Shape). 2 * z.items + 2) (sym s);
           words = λ w k. ap (λ l. get_or l w 0) same ∙ (sym (h.plain w k.0 (omega (arith, k.1, ap (λ (z : Shape). z.items) s))) ∙ ap (λ l. get_or l w 0) (sym o));
           note = note;
-          quiet = λ w. subst (λ z. legal.Follows z.note w) (sym begun) tt;
+          quiet = λ w. subst (λ z. legal.FollowsNote z.note w) (sym begun) tt;
         }

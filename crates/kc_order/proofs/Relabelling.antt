@@ -2,11 +2,12 @@
 use Rattle.std.proofs.Common.{◌≡◌, ℕ, ◌+◌, ◌*◌, ◌-◌, ◌<◌, ◌≤◌, ◌^◌, true, false, cond, List, [], ◌∷◌, length, set, get_or, eqb, leb, refl, sym, ap, ◌∙◌, subst, inl, inr, arith, get_or-set_same, get_or-set_other, length-set}
 use Rattle.std.proofs.lemmas.Bool.{cases_eq, ne_eqb, lt-leb}
 use Rattle.kc_distinct.specs.Lists.{member, without}
-use Rattle.kc_distinct.proofs.Members.{member-head, member-tail}
 use Rattle.kc_words.specs.ItemWord.{item_of}
 use Rattle.kc_words.specs.GroupWord.{group_of}
 use Rattle.kc_words.specs.VertexWord.{vertex_of}
-use Rattle.kc_words.specs.Order.{labels, PairBelow, Follows, InOrder, Ordered}
+use Rattle.kc_words.specs.Order.{labels, PairBelow, Ordered}
+use Rattle.kc_words.proofs.Ordering.{InOrder-mono}
+use Rattle.kc_words.specs.declared.layout.TheConstants.{LAST_VERSION}
 use Rattle.kc_words.specs.declared.note.NoteWord.{NoteWord}
 use Rattle.kc_words.specs.declared.note.NoteWord.TheVariants.{Nothing, Enter, Put, Take}
 use Rattle.kc_words.specs.declared.shape.Shape.{Shape}
@@ -19,15 +20,6 @@ use Rattle.kc_table.specs.Legal as legal
 use Rattle.kc_table.proofs.Listed.{Listed}
 use Rattle.kc_order.specs.Writers.{stores_of}
 
-follows-mono : (R S : ℕ → ℕ → Type 0) (x : ℕ) (ys : List ℕ) → ((y z : ℕ) → member y (x ∷ ys) ≡ true → member z (x ∷ ys) ≡ true → R y z → S y z) → Follows R x ys → Follows S x ys
-follows-mono R S x [] f h = tt
-follows-mono R S x (y ∷ ys) f h =
-    (f x y (member-head x (y ∷ ys)) (member-tail y x (y ∷ ys) (member-head y ys)) h.0, follows-mono R S y ys (λ u v p q. f u v (member-tail u x (y ∷ ys) p) (member-tail v x (y ∷ ys) q)) h.1)
-
-in_order-mono : (R S : ℕ → ℕ → Type 0) (xs : List ℕ) → ((y z : ℕ) → member y xs ≡ true → member z xs ≡ true → R y z → S y z) → InOrder R xs → InOrder S xs
-in_order-mono R S [] f h = tt
-in_order-mono R S (x ∷ xs) f h = follows-mono R S x xs f h
-
 -- two words that agree but for the note and the vertices order a list alike
 pub ordered-agree : (n : ℕ) (ws vs list : List ℕ) → Ordered n ws list → ((x : ℕ) → member x list ≡ true → x < n) → ((w : ℕ) → 1 ≤ w → w < 2 * n + 2 → get_or vs w 0 ≡ get_or ws w 0) → Ordered n vs list
 ordered-agree n ws vs list o within same =
@@ -38,7 +30,7 @@ ordered-agree n ws vs list o within same =
     let bottom : (x : ℕ) → x < n → b.bottom x ≡ a.bottom x = λ x l. ap (λ v. (item_of v).bottom) (item x l) in
     let top : (x : ℕ) → member x list ≡ true → b.top (b.group x) ≡ a.top (a.group x) = λ x m. ap b.top (group x (within x m)) ∙ ap (λ v. (group_of v).top) (same (n + a.group x) (omega (arith, (o.inside x m).0)) (omega (arith, (o.inside x m).1))) in
     record {
-      pairs = in_order-mono (PairBelow a) (PairBelow b) list (λ y z y-in z-in h. elim h [
+      pairs = InOrder-mono (PairBelow a) (PairBelow b) list (λ y z y-in z-in h. elim h [
         | inl lt ↦ inl (omega (arith, lt, top y y-in, top z z-in))
         | inr e ↦ inr (top y y-in ∙ (e.0 ∙ sym (top z z-in)), omega (arith, e.1, bottom y (within y y-in), bottom z (within z z-in)))
       ]) o.pairs;
@@ -53,30 +45,32 @@ pub record Goes (shape : Shape) (s : State) (ws : List ℕ) : Type 0 where
   pub listed : Listed shape s.list
   pub words : (w : ℕ) → 1 ≤ w → w < first_vertex shape → get_or s.words w 0 ≡ get_or ws w 0
   pub stamps : (v : ℕ) → v < shape.fixed → legal.stamp_in shape s v ≤ legal.last_entry shape s
-  pub quiet : (w : ℕ) → legal.Follows s.note w
+  pub quiet : (w : ℕ) → legal.FollowsNote s.note w
 
 -- a word with a version is no note
 not_note : (w : ℕ) → 1 ≤ w → eqb w 0 ≡ false
 not_note w l = ne_eqb w 0 (λ e. omega (arith, l, e))
 
 -- a store of an item's or a group's word where nothing is announced changes the words alone
-pub store-quiet : (note : NoteWord) (w : ℕ) (list : List ℕ) → ((v : ℕ) → legal.Follows note v) → moved note w list ≡ list
+pub store-quiet : (note : NoteWord) (w : ℕ) (list : List ℕ) → ((v : ℕ) → legal.FollowsNote note v) → moved note w list ≡ list
 store-quiet Nothing w list q = refl
 store-quiet (Enter add index u v) w list q = refl
 store-quiet (Put x p) w list q = absurd (omega (arith, q 0))
 store-quiet (Take x) w list q = absurd (omega (arith, q 0))
 
-put_in-quiet : (shape : Shape) (note : NoteWord) (w : ℕ) (unsealed : List ℕ) → ((v : ℕ) → legal.Follows note v) → put_in shape note w unsealed ≡ unsealed
+pub put_in-quiet : (shape : Shape) (note : NoteWord) (w : ℕ) (unsealed : List ℕ) → ((v : ℕ) → legal.FollowsNote note v)
+    → put_in shape note w unsealed ≡ unsealed
 put_in-quiet shape Nothing w unsealed q = refl
 put_in-quiet shape (Enter add index u v) w unsealed q = refl
 put_in-quiet shape (Put x p) w unsealed q = absurd (omega (arith, q 0))
 put_in-quiet shape (Take x) w unsealed q = refl
 
 -- the state after a store of an item's or a group's word where nothing is announced
-abbrev relabelled : State → Event → State
+abbrev pub relabelled : State → Event → State
 relabelled s e = record { words = set s.words e.word e.value; list = s.list; note = Nothing; entries = s.entries; unsealed = s.unsealed }
 
-pub after-relabel : (shape : Shape) (s : State) (e : Event) → 1 ≤ e.word → e.word < first_vertex shape → ((w : ℕ) → legal.Follows s.note w) → after_store shape s e ≡ relabelled s e
+pub after-relabel : (shape : Shape) (s : State) (e : Event) → 1 ≤ e.word → e.word < first_vertex shape → ((w : ℕ) → legal.FollowsNote s.note w)
+    → after_store shape s e ≡ relabelled s e
 after-relabel shape s e low high q =
     let no_vertex : leb (first_vertex shape) e.word ≡ false = lt-leb (first_vertex shape) e.word high in
     rw (not_note e.word low) (λ i. record {
@@ -93,7 +87,7 @@ pub record Relabels (shape : Shape) (s : State) (ws : List ℕ) (e : Event) : Ty
   pub holds : legal.Holds shape (relabelled s e)
   pub goes : Goes shape (relabelled s e) (set ws e.word e.value)
 
-pub value-fits : (value : ℕ) → (item_of value).version ≤ 16777215 → value < 2 ^ 64
+pub value-fits : (value : ℕ) → (item_of value).version ≤ LAST_VERSION → value < 2 ^ 64
 unfolding item_of
 value-fits value h = omega (arith, h)
 
@@ -104,7 +98,8 @@ set-agree xs ys k v w x-in y-in same =
       | inr ne ↦ get_or-set_other xs k w v 0 (λ e. ne (sym e)) ∙ (same ∙ sym (get_or-set_other ys k w v 0 (λ e. ne (sym e))))
     ]
 
-pub relabel : (shape : Shape) (s : State) (ws : List ℕ) (w : Write) → Goes shape s ws → sheet.Raises ws w → (item_of w.value).version ≤ 16777215 → Ordered shape.items (set ws w.word w.value) s.list → Relabels shape s ws (event w.word w.value)
+pub relabel : (shape : Shape) (s : State) (ws : List ℕ) (w : Write) → Goes shape s ws → sheet.Raises ws w → (item_of w.value).version ≤ LAST_VERSION
+    → Ordered shape.items (set ws w.word w.value) s.list → Relabels shape s ws (event w.word w.value)
 relabel shape s ws w g r few o =
     let high : w.word < first_vertex shape = omega (arith, r.high, g.plain_long) in
     let in-words : w.word < length s.words = omega (arith, high, g.long) in
@@ -158,7 +153,8 @@ ordered-first : (n : ℕ) (list ws : List ℕ) (writes : List Write) → sheet.O
 ordered-first n list ws [] h = h
 ordered-first n list ws (s ∷ ss) h = h.0
 
-pub relabel-all : (shape : Shape) (s : State) (ws : List ℕ) (writes : List Write) → Goes shape s ws → sheet.RaisedAlong ws writes → sheet.OrderedAlong shape.items s.list ws writes → ((w : ℕ) → sheet.version (sheet.stored ws writes) w ≤ 16777215) → RelabelsAll shape s ws writes
+pub relabel-all : (shape : Shape) (s : State) (ws : List ℕ) (writes : List Write) → Goes shape s ws → sheet.RaisedAlong ws writes
+    → sheet.OrderedAlong shape.items s.list ws writes → ((w : ℕ) → sheet.version (sheet.stored ws writes) w ≤ LAST_VERSION) → RelabelsAll shape s ws writes
 relabel-all shape s ws [] g r o few = record { legal_ = tt; goes = g; list = refl; entries = refl; words = λ v. refl }
 relabel-all shape s ws (w ∷ writes) g r o few =
     let e = event w.word w.value in

@@ -1,21 +1,28 @@
 -- The stores that open a section and seal its vertices.
-use Rattle.std.proofs.Common.{◌≡◌, ◌≢◌, ℕ, ◌+◌, ◌*◌, ◌<◌, ◌≤◌, ◌^◌, Bool, true, false, [], ◌∷◌, ◌++◌, length, set, get_or, refl, sym, ap, ◌∙◌, subst, inl, inr, arith, get_or-set_same, get_or-set_other, length-append}
+use Rattle.std.proofs.Common.{◌≡◌, ◌≢◌, ℕ, ◌+◌, ◌*◌, ◌<◌, ◌≤◌, ◌^◌, ◌-◌, Bool, true, false, cond, eqb, List, [], ◌∷◌, ◌++◌, length, set, get_or, eq-eqb}
+use Rattle.std.proofs.Common.{ne_eqb, le-leb, refl, sym, ap, ◌∙◌, subst, inl, inr, arith, get_or-set_same, get_or-set_other, length-append}
 use Rattle.std.proofs.lemmas.Bool.{cases_eq}
+use Rattle.kc_distinct.specs.Lists.{without}
 use Rattle.kc_words.specs.VertexWord.{vertex_of, vertex_word}
 use Rattle.kc_words.specs.NoteWord.{note_of, note_word, IsFitting}
 use Rattle.kc_words.proofs.Notes.{note_of-note_word}
 use Rattle.kc_words.specs.Order.{Ordered}
+use Rattle.kc_words.specs.declared.layout.TheConstants.{CORE_BITS, STAMP_BITS}
+use Rattle.kc_words.specs.declared.note.NoteWord.{NoteWord}
 use Rattle.kc_words.specs.declared.note.NoteWord.TheVariants.{Enter}
 use Rattle.kc_list.specs.Plain.{Plain}
+use Rattle.kc_table.specs.declared.entry.Entry.{Entry}
 use Rattle.kc_table.specs.declared.view.Event.{Event}
 use Rattle.kc_table.specs.Log.{Seen, event}
-use Rattle.kc_table.specs.State.{State, after_store, state_of, first_vertex, word_count, entered, unsealed_from}
+use Rattle.kc_table.specs.State.{State, after_store, state_of, first_vertex, word_count, entered, unsealed_from, sealed}
 use Rattle.kc_table.specs.Legal as legal
 use Rattle.kc_table.proofs.LegalLogs.{legal-push, legal-holds, state_of-push, state_of-words}
 use Rattle.kc_table.proofs.Listed.{stands}
-use Rattle.kc_order.specs.Writers.{Tied, Stores}
+use Rattle.kc_table.proofs.Steps.{value_at-other}
+use Rattle.kc_order.specs.Writers.{Leaves, Stores, Tied, entries_after, unsealed_after, vertex_word_after}
 use Rattle.kc_order.proofs.Ending.{ended, after-item}
-use Rattle.kc_order.proofs.Relabelling.{ordered-agree, store-quiet}
+use Rattle.kc_order.proofs.Leaving.{leaves-state, state-word}
+use Rattle.kc_order.proofs.Relabelling.{ordered-agree, put_in-quiet, store-quiet}
 use Rattle.kc_order.proofs.Writing.{goes}
 
 -- a store of a word that is no item's and no group's, after which the list and its words are as they were
@@ -23,7 +30,8 @@ pub stored-aside : (seen : Seen) (plain : Plain) (e : Event) → Tied seen plain
     → ((w : ℕ) → 1 ≤ w → w < first_vertex seen.table.shape → e.word ≢ w)
     → (t : State) → after_store seen.table.shape (state_of seen.table.shape seen.table.opening seen.log) e ≡ t
     → t.list ≡ (state_of seen.table.shape seen.table.opening seen.log).list → t.words ≡ set (state_of seen.table.shape seen.table.opening seen.log).words e.word e.value
-    → ((v : ℕ) → v < seen.table.shape.fixed → legal.stamp_in seen.table.shape t v ≤ legal.last_entry seen.table.shape t) → ((w : ℕ) → legal.Follows t.note w)
+    → ((v : ℕ) → v < seen.table.shape.fixed → legal.stamp_in seen.table.shape t v ≤ legal.last_entry seen.table.shape t)
+    → ((w : ℕ) → legal.FollowsNote t.note w)
     → legal.Legal seen.table.shape seen.table.opening (seen.log ++ e ∷ []) × ((now : Seen) → now ≡ record { table = seen.table; log = seen.log ++ e ∷ [] } → Tied now plain)
 stored-aside seen plain e tied may aside t is t-list t-words stamps quiet =
     let shape = seen.table.shape in
@@ -43,7 +51,7 @@ stored-aside seen plain e tied may aside t is t-list t-words stamps quiet =
         long = tied.long;
         words = λ w h. tied.words w h ∙ (ap (λ l. get_or l w 0) (sym (state_of-words shape opening seen.log)) ∙ (sym (same w h.0 h.1) ∙ (ap (λ z. get_or z.words w 0) (sym at) ∙ ap (λ l. get_or l w 0) (state_of-words shape opening (seen.log ++ e ∷ [])))));
         note = tied.note;
-        quiet = λ w. subst (λ z. legal.Follows z.note w) (sym at) (quiet w);
+        quiet = λ w. subst (λ z. legal.FollowsNote z.note w) (sym at) (quiet w);
       },
     )
 
@@ -103,6 +111,78 @@ sealed_at seen plain v value tied below fits seals =
     ] in
     stored-aside seen plain e tied may (λ k low high h. omega (arith, h, high)) t (after-item shape s e (omega arith)) (store-quiet s.note w s.list tied.quiet) refl stamps (λ k. tt)
 
+-- what an Enter note leaves beside the list
+pub enter-leaves : (seen : Seen) (add : Bool) (index u v : ℕ) → IsFitting (Enter add index u v)
+    → let entry : Entry = record { index = index; add = add; u = u; v = v } in
+    Leaves (record { table = seen.table; log = seen.log ++ event 0 (note_word (Enter add index u v)) ∷ [] }) (entries_after seen ++ entry ∷ []) []
+    (vertex_word_after seen)
+enter-leaves seen add index u v fitting =
+    let shape = seen.table.shape in
+    let n = Enter add index u v in
+    let value = note_word n in
+    let e = event 0 value in
+    let s = state_of shape seen.table.opening seen.log in
+    let note : note_of value ≡ n = note_of-note_word n fitting in
+    let t : State = record {
+      words = set s.words 0 value;
+      list = s.list;
+      note = n;
+      entries = s.entries ++ record { index = index; add = add; u = u; v = v } ∷ [];
+      unsealed = [];
+    } in
+    let at : state_of shape seen.table.opening (seen.log ++ e ∷ []) ≡ t = state_of-push shape seen.table.opening seen.log e ∙ ap (λ z. noted-as s value z)
+    note in
+    let made = leaves-state seen.table (seen.log ++ e ∷ []) t at (λ word. tt) in
+    record {
+      entries_are = made.entries_are;
+      unsealed_are = made.unsealed_are;
+      words_are = λ k. value_at-other seen.table.opening seen.log e (first_vertex shape + k) (λ q. omega (arith, q));
+      quiet = made.quiet;
+    }
+  where
+    noted-as : State → ℕ → NoteWord → State
+    noted-as s value z = record { words = set s.words 0 value; list = s.list; note = z; entries = entered z s.entries; unsealed = unsealed_from z s.unsealed }
+
+-- what a vertex word leaves beside the list
+pub vertex-leaves : (seen : Seen) (plain : Plain) (v value : ℕ) → Tied seen plain → v < seen.table.shape.fixed
+    → Leaves (record { table = seen.table; log = seen.log ++ event (first_vertex seen.table.shape + v) value ∷ [] }) (entries_after seen) (without v (unsealed_after seen))
+    (λ w. cond (eqb w v) value (vertex_word_after seen w))
+vertex-leaves seen plain v value tied below =
+    let shape = seen.table.shape in
+    let opening = seen.table.opening in
+    let s = state_of shape opening seen.log in
+    let w = first_vertex shape + v in
+    let e = event w value in
+    let t = ended shape s e in
+    let at : state_of shape opening (seen.log ++ e ∷ []) ≡ t = state_of-push shape opening seen.log e ∙ after-item shape s e (omega arith) in
+    let made = leaves-state seen.table (seen.log ++ e ∷ []) t at (λ word. tt) in
+    let long : length s.words ≡ word_count shape = (goes shape opening seen.log plain tied.legal tied.long tied.words tied.quiet).long in
+    let here : w - first_vertex shape ≡ v = omega arith in
+    let sealed_is : sealed shape w s.unsealed ≡ without v s.unsealed =
+    ap (λ b. cond b (without (w - first_vertex shape) s.unsealed) s.unsealed) (le-leb (first_vertex shape) w (omega arith)) ∙ ap (λ k. without k s.unsealed)
+    here in
+    record {
+      entries_are = made.entries_are;
+      unsealed_are = made.unsealed_are ∙ (put_in-quiet shape s.note w (sealed shape w s.unsealed) tied.quiet ∙ sealed_is);
+      words_are = λ k. made.words_are k ∙ elim (cases_eq k v) [
+        | inl q ↦
+            ap (λ z. get_or (set s.words w value) (first_vertex shape + z) 0) q
+            ∙ (get_or-set_same s.words w value 0 (omega (arith, long, below)) ∙ ap (λ b. cond b value (vertex_word_after seen k)) (sym (eq-eqb k v q)))
+        | inr ne ↦
+            get_or-set_other s.words w (first_vertex shape + k) value 0 (λ q. ne (omega (arith, q)))
+            ∙ (state-word seen k ∙ ap (λ b. cond b value (vertex_word_after seen k)) (sym (ne_eqb k v ne)))
+      ];
+      quiet = made.quiet;
+    }
+
+-- and what a call leaves, where its seat was seen as `now`
+pub leaves-now : (seen now new : Seen) (word value : ℕ) (entries : Seen → List Entry) (unsealed : Seen → List ℕ) (words : Seen → ℕ → ℕ) → seen ≡ now
+    → new ≡ record { table = seen.table; log = seen.log ++ event word value ∷ [] }
+    → Leaves (record { table = seen.table; log = seen.log ++ event word value ∷ [] }) (entries seen) (unsealed seen) (words seen)
+    → Leaves new (entries now) (unsealed now) (words now)
+leaves-now seen now new word value entries unsealed words is new-is h =
+    subst (λ (z : Seen × Seen). Leaves z.0 (entries z.1) (unsealed z.1) (words z.1)) (λ i. (sym new-is i, is i)) h
+
 -- what one store leaves, in the words of the contracts
 pub stores-now : (seen now new : Seen) (word value : ℕ) → seen ≡ now → legal.Legal seen.table.shape seen.table.opening (seen.log ++ event word value ∷ []) → new ≡ record { table = seen.table; log = seen.log ++ event word value ∷ [] } → Stores now new word value
 stores-now seen now new word value is lawful new-is = record {
@@ -110,6 +190,6 @@ stores-now seen now new word value is lawful new-is = record {
   legal = subst (λ (z : Seen). legal.Legal z.table.shape z.table.opening z.log) (sym new-is) lawful;
 }
 
-pub fits-vertex : (stamp core : ℕ) → stamp < 2 ^ 32 → core < 2 ^ 32 → vertex_word (record { stamp = stamp; core = core }) < 2 ^ 64
+pub fits-vertex : (stamp core : ℕ) → stamp < 2 ^ STAMP_BITS → core < 2 ^ CORE_BITS → vertex_word (record { stamp = stamp; core = core }) < 2 ^ 64
 unfolding vertex_word
 fits-vertex stamp core a b = omega (arith, a, b)

@@ -7,33 +7,26 @@ use Rattle.kc_distinct.specs.Lists.{member, Distinct, place_of}
 use Rattle.kc_distinct.proofs.Members.{member-head, member-cases, member-append, member-append_right, cut, Distinct-cut, place_of-cut}
 use Rattle.kc_words.specs.ItemWord.{item_of}
 use Rattle.kc_words.specs.GroupWord.{group_of}
-use Rattle.kc_words.specs.Order.{Labels, labels, PairBelow, Follows, InOrder}
+use Rattle.kc_words.specs.Order.{Labels, labels, PairBelow, InOrder}
+use Rattle.kc_words.proofs.Ordering.{Follows-all, InOrder-tail, PairBelow-asym}
 use Rattle.kc_table.specs.declared.view.Event.{Event}
-use Rattle.kc_table.specs.Log.{TableName, value_at, words_after}
+use Rattle.kc_table.specs.Log.{PassSeen, TableName, value_at, words_after}
 use Rattle.kc_table.specs.Legal.{Legal, IsVersioned}
 use Rattle.kc_table.proofs.Fresh.{fresh}
 use Rattle.kc_table.proofs.LegalLogs.{legal-prefix}
 use Rattle.kc_table.proofs.Listed.{stands}
 use Rattle.kc_table.proofs.Prefixes.{prefix_self, prefix_trans}
-use Rattle.kc_order.specs.Collected.{Collected, IsCollect, Loaded, Held, AllHeld, PairLess, group_in}
-use Rattle.kc_order.specs.Standing.{list_after, StandsBefore, LoadedSame, IsUnchanged}
+use Rattle.kc_order.specs.Collected.{Collected, IsCollect, Loaded, Held, AllHeld, PairLess, group_in, words_of}
+use Rattle.kc_order.specs.Standing.{list_after, FindsSame, LoadsWord, StandsBefore}
 use Rattle.kc_order.proofs.Reading.{ordered_after, found_in}
 
--- an order that goes on is one from each to all behind it
-pub follows-all : (R : ℕ → ℕ → Type 0) → ((x y z : ℕ) → R x y → R y z → R x z) → (x z : ℕ) (ys : List ℕ) → Follows R x ys → member z ys ≡ true → R x z
-follows-all R t x z [] h m = absurd (false≢true m)
-follows-all R t x z (y ∷ ys) h m = elim (member-cases z y ys m) [ inl e ↦ subst (R x) (sym e) h.0 | inr k ↦ t x y z h.0 (follows-all R t y z ys h.1 k) ]
-
-pub in_order-tail : (R : ℕ → ℕ → Type 0) (x : ℕ) (xs : List ℕ) → InOrder R (x ∷ xs) → InOrder R xs
-in_order-tail R x [] h = tt
-in_order-tail R x (y ∷ xs) h = h.1
-
+-- what stands before an item of a list in order is related to it
 in_order-before : (R : ℕ → ℕ → Type 0) → ((x y z : ℕ) → R x y → R y z → R x z) → (x y : ℕ) (l r : List ℕ) → InOrder R (l ++ y ∷ r) → member x l ≡ true → R x y
 in_order-before R t x y [] r h m = absurd (false≢true m)
 in_order-before R t x y (z ∷ l) r h m =
     elim (member-cases x z l m) [
-      | inl e ↦ subst (λ u. R u y) (sym e) (follows-all R t z y (l ++ y ∷ r) h (member-append_right y l (y ∷ r) (member-head y r)))
-      | inr k ↦ in_order-before R t x y l r (in_order-tail R z (l ++ y ∷ r) h) k
+      | inl e ↦ subst (λ u. R u y) (sym e) (Follows-all R t z y (l ++ y ∷ r) h (member-append_right y l (y ∷ r) (member-head y r)))
+      | inr k ↦ in_order-before R t x y l r (InOrder-tail R z (l ++ y ∷ r) h) k
     ]
 
 pub pair-trans : (a : Labels) (x y z : ℕ) → PairBelow a x y → PairBelow a y z → PairBelow a x z
@@ -41,13 +34,6 @@ pair-trans a x y z h k =
     elim h [
       | inl lt ↦ elim k [ inl lt' ↦ inl (omega (arith, lt, lt')) | inr e ↦ inl (omega (arith, lt, e.0)) ]
       | inr e ↦ elim k [ inl lt ↦ inl (omega (arith, lt, e.0)) | inr e' ↦ inr (e.0 ∙ e'.0, omega (arith, e.1, e'.1)) ]
-    ]
-
-pub pair-asym : (a : Labels) (x y : ℕ) → PairBelow a x y → PairBelow a y x → ⊥
-pair-asym a x y h k =
-    elim h [
-      | inl lt ↦ elim k [ inl lt' ↦ omega (arith, lt, lt') | inr e ↦ omega (arith, lt, e.0) ]
-      | inr e ↦ elim k [ inl lt ↦ omega (arith, lt, e.0) | inr e' ↦ omega (arith, e.1, e'.1) ]
     ]
 
 -- of two items of a list in order, the one with the lesser pair stands first
@@ -68,34 +54,53 @@ stands-first a x y list order distinct x-in y-in differ less =
         | inr k ↦
             let d = cut x c.back k in
             let split : list ≡ (c.front ++ y ∷ d.front) ++ x ∷ d.back = c.is ∙ (ap (λ l. c.front ++ y ∷ l) d.is ∙ sym (append_assoc c.front (y ∷ d.front) (x ∷ d.back))) in
-            absurd (pair-asym a x y less (in_order-before (PairBelow a) (pair-trans a) y x (c.front ++ y ∷ d.front) d.back (subst (InOrder (PairBelow a)) split order) (member-append_right y c.front (y ∷ d.front) (member-head y d.front))))
+            absurd (PairBelow-asym a x y less
+            (in_order-before (PairBelow a) (pair-trans a) y x (c.front ++ y ∷ d.front) d.back (subst (InOrder (PairBelow a)) split order)
+            (member-append_right y c.front (y ∷ d.front) (member-head y d.front))))
       ]
     ]
 
 -- a value that two loads gave was the word's after each prefix between them
-held_between : (table : TableName) (l : Loaded) (m old new : List Event) → IsVersioned table.shape l.word → Held table l → IsPrefix l.prefix m → IsPrefix m old → LoadedSame table old new l → Legal table.shape table.opening new → l.value ≡ value_at table.opening m l.word
-held_between table l m old new versioned held a b same legal =
-    let q = same.prefix in
-    let m_q : IsPrefix m q = prefix_trans m old q b same.between.extends in
-    let legal_q : Legal table.shape table.opening q = legal-prefix table.shape table.opening q new same.between.extended legal in
-    held ∙ sym (fresh table.shape table.opening l.word l.prefix m q versioned a m_q (legal-prefix table.shape table.opening m q m_q legal_q) legal_q (sym held ∙ same.had))
+held_between : (table : TableName) (l : Loaded) (m : List Event) (old new : PassSeen) → IsVersioned table.shape l.word → Held table l → IsPrefix l.prefix m
+    → old.table ≡ table → IsPrefix m old.log → LoadsWord old new l.word l.value → l.value ≡ value_at table.opening m l.word
+held_between table l m old new versioned held a begun b one =
+    let is : new.table ≡ table = one.table ∙ begun in
+    let q = new.log in
+    let m_q : IsPrefix m q = prefix_trans m old.log q b one.longer in
+    let legal : Legal table.shape table.opening q = subst (λ (t : TableName). Legal t.shape t.opening q) is one.legal in
+    let again : l.value ≡ value_at table.opening q l.word = one.held ∙ ap (λ (t : TableName). value_at t.opening q l.word) is in
+    held ∙ sym (fresh table.shape table.opening l.word l.prefix m q versioned a m_q (legal-prefix table.shape table.opening m q m_q legal) legal
+    (sym held ∙ again))
 
 -- all four values were their words' after the collect's last prefix
-pub all_held : (c : Collected) (old new : List Event) → IsCollect c → IsPrefix c.group_y.prefix old → IsUnchanged c old new → Legal c.table.shape c.table.opening new → AllHeld c
-all_held c old new h before same legal =
+pub all_held : (c : Collected) (old new : PassSeen) → IsCollect c → old.table ≡ c.table → IsPrefix c.group_y.prefix old.log → FindsSame old (words_of c) new
+    → AllHeld c
+all_held c old new h begun before found =
+    let p = found.0 in
+    let item-x = found.1 in
+    let q = found.2.0 in
+    let item-y = found.2.1 in
+    let r = found.2.2.0 in
+    let group-x = found.2.2.1 in
+    let s = found.2.2.2.0 in
+    let group-y = found.2.2.2.1 in
     let m = c.group_y.prefix in
     let third : IsPrefix c.group_x.prefix m = h.third_last in
     let second : IsPrefix c.item_y.prefix m = prefix_trans c.item_y.prefix c.group_x.prefix m h.second_third third in
-    let first : IsPrefix c.item_x.prefix m = prefix_trans c.item_x.prefix c.item_y.prefix m h.first_second second in (
-      held_between c.table c.item_x m old new (omega (arith, h.item_x_is), omega (arith, h.item_x_is, h.x_in)) h.item_x_held first before same.0 legal,
-      held_between c.table c.item_y m old new (omega (arith, h.item_y_is), omega (arith, h.item_y_is, h.y_in)) h.item_y_held second before same.1 legal,
-      held_between c.table c.group_x m old new (omega (arith, h.group_x_is, h.x_listed), omega (arith, h.group_x_is, h.x_group)) h.group_x_held third before same.2 legal,
-      held_between c.table c.group_y m old new (omega (arith, h.group_y_is, h.y_listed), omega (arith, h.group_y_is, h.y_group)) h.group_y_held (prefix_self m) before same.3 legal,
+    let first : IsPrefix c.item_x.prefix m = prefix_trans c.item_x.prefix c.item_y.prefix m h.first_second second in
+    let at-p = prefix_trans m old.log p.log before item-x.longer in
+    let at-q = prefix_trans m p.log q.log at-p item-y.longer in
+    let at-r = prefix_trans m q.log r.log at-q group-x.longer in
+    let of-p = item-x.table ∙ begun in
+    let of-q = item-y.table ∙ of-p in
+    let of-r = group-x.table ∙ of-q in (
+      held_between c.table c.item_x m old p (omega (arith, h.item_x_is), omega (arith, h.item_x_is, h.x_in)) h.item_x_held first begun before item-x,
+      held_between c.table c.item_y m p q (omega (arith, h.item_y_is), omega (arith, h.item_y_is, h.y_in)) h.item_y_held second of-p at-p item-y,
+      held_between c.table c.group_x m q r (omega (arith, h.group_x_is, h.x_listed), omega (arith, h.group_x_is, h.x_group)) h.group_x_held third of-q at-q
+          group-x,
+      held_between c.table c.group_y m r s (omega (arith, h.group_y_is, h.y_listed), omega (arith, h.group_y_is, h.y_group)) h.group_y_held (prefix_self m)
+          of-r at-r group-y,
     )
-
--- the collect with its items exchanged
-abbrev turned : Collected → Collected
-turned c = record { table = c.table; x = c.y; y = c.x; item_x = c.item_y; item_y = c.item_x; group_x = c.group_y; group_y = c.group_x }
 
 -- what the words say at one moment: the pair of x is less
 stood_at : (table : TableName) (m : List Event) (x y : ℕ) (ix iy gx gy : ℕ) → Legal table.shape table.opening m → x ≢ y → x < table.shape.items → y < table.shape.items → 0 < (item_of ix).group → 0 < (item_of iy).group

@@ -1,5 +1,5 @@
 -- What contracts see of a collect: two items, the words that were loaded with their values, and the prefixes after which they were.
-use Rattle.std.specs.Prelude.{◌≡◌, ◌≢◌, ◌<◌, ◌≤◌, ◌+◌, ◌⊎◌, ℕ, List}
+use Rattle.std.specs.Prelude.{◌≡◌, ◌≢◌, ◌<◌, ◌≤◌, ◌+◌, ◌⊎◌, ℕ, List, [], ◌∷◌}
 use mathlib.Core.List.{IsPrefix}
 use Rattle.kc_words.specs.ItemWord.{item_of}
 use Rattle.kc_words.specs.GroupWord.{group_of}
@@ -13,14 +13,20 @@ pub record Loaded : Type 0 where
   pub value : ℕ
   pub prefix : List Event
 
+-- `seen` is what the collect's own pass has seen
 pub record Collected : Type 0 where
   pub table : TableName
+  pub seen : List Event
   pub x : ℕ
   pub y : ℕ
   pub item_x : Loaded
   pub item_y : Loaded
   pub group_x : Loaded
   pub group_y : Loaded
+
+-- the four words, in the order of their loads
+abbrev pub words_of : Collected → List Loaded
+words_of c = c.item_x ∷ c.item_y ∷ c.group_x ∷ c.group_y ∷ []
 
 -- the word had the value after the prefix
 abbrev pub Held : TableName → Loaded → Type 0
@@ -30,8 +36,8 @@ Held table l = l.value ≡ value_at table.opening l.prefix l.word
 abbrev pub group_in : Loaded → ℕ
 group_in l = (item_of l.value).group
 
--- The words are those of the two items and of the groups that these name, which are groups of the table and not group 0. Each value was its word's after
--- its prefix, and each prefix extends the one before. The last one is legal.
+-- The words are those of the two items and of the groups that these name, which are groups of the table and not group 0. Each value was
+-- its word's after its prefix, and each prefix extends the one before. The last one is legal, and the collect's own pass has seen it.
 pub record IsCollect (c : Collected) : Type 0 where
   pub differ : c.x ≢ c.y
   pub x_in : c.x < c.table.shape.items
@@ -52,6 +58,7 @@ pub record IsCollect (c : Collected) : Type 0 where
   pub second_third : IsPrefix c.item_y.prefix c.group_x.prefix
   pub third_last : IsPrefix c.group_x.prefix c.group_y.prefix
   pub legal : Legal c.table.shape c.table.opening c.group_y.prefix
+  pub own : c.seen ≡ c.group_y.prefix
 
 -- the value was the word's after the collect's last prefix
 abbrev pub HeldLast : Collected → Loaded → Type 0

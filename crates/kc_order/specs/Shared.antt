@@ -2,6 +2,7 @@
 use Rattle.std.specs.Prelude.{◌≡◌, ◌<◌, ◌+◌, ℕ, List, true, false}
 use mathlib.Core.List.{IsPrefix}
 use Rattle.kc_distinct.specs.Lists.{member}
+use Rattle.kc_words.specs.declared.layout.TheConstants.{LAST_VERSION}
 use Rattle.kc_table.specs.declared.view.Event.{Event}
 use Rattle.kc_table.specs.Log.{TableName}
 use Rattle.kc_order.specs.Standing.{list_after}
@@ -28,7 +29,7 @@ pub record EndsWithTake (table : TableName) (old new : List Event) (x : ℕ) : T
 -- why nothing was stored: the item is out of the list, or it is in it and the versions of the words are spent
 abbrev pub IsRefusal : TableName → List Event → ℕ → OrderFault → Type 0
 IsRefusal table log item (Absent named) = (named ≡ item) × (member item (list_after table log) ≡ false)
-IsRefusal table log item (Spent highest) = (member item (list_after table log) ≡ true) × IsHighest table log highest × (16777215 < highest + 3)
+IsRefusal table log item (Spent highest) = (member item (list_after table log) ≡ true) × IsHighest table log highest × (LAST_VERSION < highest + 3)
 
 -- the item is in the list, and each word can be stored three times more
 pub record IsReady (table : TableName) (log : List Event) (item : ℕ) : Type 0 where

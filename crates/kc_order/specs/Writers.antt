@@ -1,16 +1,19 @@
 -- What a writer's calls do to the log.
 use Rattle.std.specs.Prelude.{◌≡◌, ◌<◌, ◌≤◌, ◌+◌, ◌-◌, ◌*◌, ℕ, List, [], ◌∷◌, ◌++◌, All, length, slice_index, map, take, drop}
+use Rattle.std.specs.Prelude.{nat_lt, if◌then◌else◌}
 use Rattle.kc_distinct.specs.Lists.{without, right_after}
 use Rattle.kc_words.specs.ItemWord.{item_of}
 use Rattle.kc_words.specs.NoteWord.{note_word}
+use Rattle.kc_words.specs.declared.layout.TheConstants.{LAST_VERSION}
 use Rattle.kc_words.specs.declared.note.NoteWord.{NoteWord}
 use Rattle.kc_words.specs.declared.note.NoteWord.TheVariants.{Put, Take}
 use Rattle.kc_list.specs.declared.sheet.Write.{Write}
 use Rattle.kc_list.specs.Plain.{Plain}
+use Rattle.kc_table.specs.declared.entry.Entry.{Entry}
 use Rattle.kc_table.specs.declared.view.Event.{Event}
 use Rattle.kc_table.specs.Log.{Seen, TableName, event, value_at}
 use Rattle.kc_table.specs.State.{state_of, first_vertex}
-use Rattle.kc_table.specs.Legal.{Legal, Follows, IsVersioned, version_of}
+use Rattle.kc_table.specs.Legal.{Legal, FollowsNote, IsVersioned, version_of}
 use Rattle.kc_order.specs.Standing.{list_after}
 
 -- the greatest version of an item's or a group's word after the log
@@ -20,9 +23,13 @@ pub record IsHighest (table : TableName) (log : List Event) (highest : ℕ) : Ty
   pub versioned : IsVersioned table.shape word
   pub reached : version_of (value_at table.opening log word) ≡ highest
 
--- each word can be stored three times more
+-- each word of an item or a group can be stored so many times more
+abbrev pub HasRoom : TableName → List Event → ℕ → Type 0
+HasRoom table log room = (word : ℕ) → IsVersioned table.shape word → version_of (value_at table.opening log word) + room ≤ LAST_VERSION
+
+-- each can be stored three times more
 abbrev pub HasVersionsLeft : TableName → List Event → Type 0
-HasVersionsLeft table log = (word : ℕ) → IsVersioned table.shape word → version_of (value_at table.opening log word) + 3 ≤ 16777215
+HasVersionsLeft table log = HasRoom table log 3
 
 -- the log grows by stores that change labels alone, then by a note and the store of the word of its item
 pub record EndsWith (old new : Seen) (note : NoteWord) (x : ℕ) : Type 0 where
@@ -33,15 +40,52 @@ pub record EndsWith (old new : Seen) (note : NoteWord) (x : ℕ) : Type 0 where
   pub log : new.log ≡ old.log ++ (relabels ++ event 0 (note_word note) ∷ event (1 + x) value ∷ [])
   pub legal : Legal new.table.shape new.table.opening new.log
 
--- x stands right after p now, and all others as they did
+-- the entries after the log, and the vertices that its last section has put and not sealed
+abbrev pub entries_after : Seen → List Entry
+entries_after seen = (state_of seen.table.shape seen.table.opening seen.log).entries
+
+abbrev pub unsealed_after : Seen → List ℕ
+unsealed_after seen = (state_of seen.table.shape seen.table.opening seen.log).unsealed
+
+-- the word of vertex v after the log
+abbrev pub vertex_word_after : Seen → ℕ → ℕ
+vertex_word_after seen v = value_at seen.table.opening seen.log (first_vertex seen.table.shape + v)
+
+-- What a call leaves beside the list: these entries, these vertices put and not sealed, and these words of the vertices; and nothing is
+-- announced.
+pub record Leaves (new : Seen) (entries : List Entry) (unsealed : List ℕ) (words : ℕ → ℕ) : Type 0 where
+  pub entries_are : entries_after new ≡ entries
+  pub unsealed_are : unsealed_after new ≡ unsealed
+  pub words_are : (v : ℕ) → vertex_word_after new v ≡ words v
+  pub quiet : (word : ℕ) → FollowsNote (state_of new.table.shape new.table.opening new.log).note word
+
+-- no word of an item or a group has risen by more than two versions
+abbrev pub AreRaised : Seen → Seen → Type 0
+AreRaised old new = (word : ℕ) → IsVersioned old.table.shape word
+    → version_of (value_at new.table.opening new.log word) ≤ version_of (value_at old.table.opening old.log word) + 2
+
+-- with an item that was put, where it is one of the `fixed` vertices
+abbrev pub with_open : ℕ → ℕ → List ℕ → List ℕ
+with_open fixed x unsealed = if nat_lt x fixed then x ∷ unsealed else unsealed
+
+-- x stands right after p now, and all others as they did; a vertex is open
 pub record Puts (old new : Seen) (x p : ℕ) : Type 0 where
   pub ends : EndsWith old new (Put x p) x
   pub list : list_after new.table new.log ≡ right_after x p (without x (list_after old.table old.log))
+  pub raised : AreRaised old new
+  pub leaves : Leaves new (entries_after old) (with_open old.table.shape.fixed x (unsealed_after old)) (vertex_word_after old)
 
 -- x is out now
 pub record Takes (old new : Seen) (x : ℕ) : Type 0 where
   pub ends : EndsWith old new (Take x) x
   pub list : list_after new.table new.log ≡ without x (list_after old.table old.log)
+  pub raised : AreRaised old new
+  pub leaves : Leaves new (entries_after old) (unsealed_after old) (vertex_word_after old)
+
+-- puts one after the other, each of an item right after another
+abbrev pub PutsEach : Seen → List (ℕ × ℕ) → Seen → Type 0
+PutsEach old [] new = new ≡ old
+PutsEach old (put ∷ puts) new = (next : Seen) × Puts old next put.0 put.1 × PutsEach next puts new
 
 -- the stores of a plain list's writes
 abbrev pub stores_of : List Write → List Event
@@ -79,7 +123,7 @@ pub record Tied (seen : Seen) (plain : Plain) : Type 0 where
   pub long : length plain.words ≡ first_vertex seen.table.shape
   pub words : (word : ℕ) → IsVersioned seen.table.shape word → slice_index plain.words word ≡ value_at seen.table.opening seen.log word
   pub note : (item_of (slice_index plain.words 0)).version ≡ 0
-  pub quiet : (word : ℕ) → Follows (state_of seen.table.shape seen.table.opening seen.log).note word
+  pub quiet : (word : ℕ) → FollowsNote (state_of seen.table.shape seen.table.opening seen.log).note word
 
 -- the log grows by one store
 pub record Stores (old new : Seen) (word value : ℕ) : Type 0 where
@@ -87,7 +131,7 @@ pub record Stores (old new : Seen) (word value : ℕ) : Type 0 where
   pub legal : Legal new.table.shape new.table.opening new.log
 
 -- no note, the words of the items and groups, and those of the vertices
-pub record IsOpening (words opening vertex : List ℕ) (items : ℕ) : Type 0 where
+pub record AreOpeningWords (words opening vertex : List ℕ) (items : ℕ) : Type 0 where
   pub long : length words ≡ 2 * items + 2 + length vertex
   pub note : slice_index words 0 ≡ 0
   pub plain : (w : ℕ) → 1 ≤ w → w < 2 * items + 2 → slice_index words w ≡ slice_index opening w

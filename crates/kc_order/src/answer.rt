@@ -1,4 +1,4 @@
-// What a comparison answers.
+//! What a comparison answers. Each answer is tied to its cause by the contract of `precedes`.
 use kc_words::Again;
 
 /// How two items stand in the list.

@@ -1,12 +1,14 @@
-// The double collect: the words of two items and of their groups, each loaded twice.
+//! The double collect: the words of two items and of their groups, each loaded twice.
+//!
+//! Each call says which loads it makes, in their order, and what they found: so an answer comes by the loads of this very call, and
+//! `precedes` makes its two collects once. It takes no lock and no memory.
 ghost use Rattle.std.specs.Prelude.{◌≡◌, ◌≢◌, ◌<◌, ◌≤◌, ◌+◌, ◌↔◌, IfErr, IfNone, IfOk, IfSome, IsTrue};
 ghost use mathlib.Core.List.{IsPrefix};
 ghost use Rattle.kc_table.specs.Legal.{Legal};
-ghost use Rattle.kc_table.specs.Log.{value_at};
 ghost use Rattle.kc_table.specs.State.{word_count};
 ghost use Rattle.kc_words.specs.ItemWord.{item_of};
-ghost use Rattle.kc_order.specs.Collected.{IsCollect, PairLess};
-ghost use Rattle.kc_order.specs.Standing.{Compares, EndsCollect, EndsSecond, FoundOut, IsAgain, IsUnchanged};
+ghost use Rattle.kc_order.specs.Collected.{IsCollect, PairLess, words_of};
+ghost use Rattle.kc_order.specs.Standing.{Compares, EndsCollect, EndsSecond, FindsOther, FindsSame, FoundOut, LoadsOther, LoadsWord, Steps};
 ghost use Rattle.kc_order.specs.declared.answer.Answer.TheVariants as answer;
 
 use crate::answer::Answer;
@@ -26,7 +28,8 @@ struct LoadedWord {
 /// The words of two items and of their groups, as a first collect loaded them.
 ///
 /// Contracts see the items, the four words with their values, and for each the prefix of the log after which it had that value. The
-/// last of these prefixes is where a second collect that finds nothing changed says how the items stood.
+/// last of these prefixes is where a second collect that finds nothing changed says how the items stood; the collect's own pass has seen
+/// it.
 #[derive(Drop)]
 pub struct Collect {
     x: u32,
@@ -46,6 +49,7 @@ impl Model for Collect {
 
     ghost view = { λ c. record {
       table = c.pass.table;
+      seen = c.pass.log;
       x = c.x;
       y = c.y;
       item_x = record { word = c.item_x.word; value = c.item_x.value; prefix = c.item_x.at.value.log };
@@ -56,6 +60,7 @@ impl Model for Collect {
 
     ghost invariant = { λ c. IsCollect record {
       table = c.pass.table;
+      seen = c.pass.log;
       x = c.x;
       y = c.y;
       item_x = record { word = c.item_x.word; value = c.item_x.value; prefix = c.item_x.at.value.log };
@@ -73,7 +78,7 @@ fn load_word(words: &Words, pass: &mut Pass, word: u32) -> LoadedWord
     ensures longer { IsPrefix pass.old.log pass.new.log }
     ensures legal { Legal pass.new.table.shape pass.new.table.opening pass.new.log }
     ensures word { result.word ≡ word }
-    ensures value { result.value ≡ value_at pass.new.table.opening pass.new.log word }
+    ensures loaded { LoadsWord pass.old pass.new word result.value }
     ensures moment { result.at.value ≡ pass.new }
 {
     let value = load(words, pass, word);
@@ -92,10 +97,10 @@ fn load_item(words: &Words, pass: &mut Pass, x: u32) -> Result<LoadedWord, Answe
     ensures longer { IsPrefix pass.old.log pass.new.log }
     ensures legal { Legal pass.new.table.shape pass.new.table.opening pass.new.log }
     ensures word { IfOk result (λ l. l.word ≡ 1 + x) }
-    ensures value { IfOk result (λ l. l.value ≡ value_at pass.new.table.opening pass.new.log (1 + x)) }
+    ensures loaded { IfOk result (λ l. LoadsWord pass.old pass.new (1 + x) l.value) }
     ensures moment { IfOk result (λ l. l.at.value ≡ pass.new) }
     ensures group { IfOk result (λ l. (0 < (item_of l.value).group) × ((item_of l.value).group ≤ words.now.shape.items + 1)) }
-    ensures absent { IfErr result (λ a. (a ≡ answer.Absent x) × FoundOut pass.new.table pass.old.log pass.new.log x) }
+    ensures absent { IfErr result (λ a. (a ≡ answer.Absent x) × FoundOut pass.old pass.new x) }
 {
     let loaded = load_word(words, pass, shape(words).item(x));
     if ItemWord::of(loaded.value).group == 0 {
@@ -104,9 +109,9 @@ fn load_item(words: &Words, pass: &mut Pass, x: u32) -> Result<LoadedWord, Answe
     Ok(loaded)
 }
 
-/// Loads the words of two items and then those of the groups that they name.
+/// Loads the words of two items and then those of the groups that they name: four loads, and the split of the collect's own pass.
 ///
-/// Where an item's word names no group, that item is absent; `x` is looked at before `y`. A vertex never is.
+/// Where an item's word names no group, that item is absent; `x` is looked at before `y`, and no more is loaded. A vertex never is.
 pub fn first_collect(words: &Words, pass: &mut Pass, x: u32, y: u32) -> Result<Collect, Answer>
     requires table { pass.old.table ≡ words.now }
     requires differ { x ≢ y }
@@ -118,7 +123,8 @@ pub fn first_collect(words: &Words, pass: &mut Pass, x: u32, y: u32) -> Result<C
     ensures of { IfOk result (λ c. (c.table ≡ pass.old.table) × (c.x ≡ x) × (c.y ≡ y)) }
     ensures begins { IfOk result (λ c. IsPrefix pass.old.log c.item_x.prefix) }
     ensures ends { IfOk result (λ c. IsPrefix c.group_y.prefix pass.new.log) }
-    ensures absent { IfErr result (λ a. EndsCollect pass.old.table pass.old.log pass.new.log x y a) }
+    ensures steps { IfOk result (λ c. Steps pass.old pass.new 4 1) }
+    ensures absent { IfErr result (λ a. EndsCollect pass.old pass.new x y a) }
 {
     let shape = shape(words);
     let item_x = load_item(words, pass, x)?;
@@ -146,9 +152,8 @@ fn load_again(words: &Words, pass: &mut Pass, loaded: &LoadedWord) -> Option<Aga
     ensures table { pass.new.table ≡ pass.old.table }
     ensures longer { IsPrefix pass.old.log pass.new.log }
     ensures legal { Legal pass.new.table.shape pass.new.table.opening pass.new.log }
-    ensures same { IfNone result (loaded.now.value ≡ value_at pass.new.table.opening pass.new.log loaded.now.word) }
-    ensures other { IfSome result (λ again. (again.word ≡ loaded.now.word) × (again.first ≡ loaded.now.value)
-        × (again.second ≡ value_at pass.new.table.opening pass.new.log loaded.now.word) × (again.first ≢ again.second)) }
+    ensures same { IfNone result (LoadsWord pass.old pass.new loaded.now.word loaded.now.value) }
+    ensures other { IfSome result (λ again. LoadsOther pass.old pass.new loaded.now.word loaded.now.value again) }
 {
     let second = load(words, pass, loaded.word);
     if second == loaded.value {
@@ -168,8 +173,8 @@ impl Collect {
         ensures table { pass.new.table ≡ pass.old.table }
         ensures longer { IsPrefix pass.old.log pass.new.log }
         ensures legal { Legal pass.new.table.shape pass.new.table.opening pass.new.log }
-        ensures same { IfNone result (IsUnchanged self.now pass.old.log pass.new.log) }
-        ensures other { IfSome result (IsAgain self.now pass.old.log pass.new.log) }
+        ensures same { IfNone result (FindsSame pass.old (words_of self.now) pass.new) }
+        ensures other { IfSome result (FindsOther pass.old (words_of self.now) pass.new) }
     {
         if let Some(again) = load_again(words, pass, &self.item_x) {
             return Some(again);
@@ -199,14 +204,14 @@ impl Collect {
     }
 }
 
-/// Loads the same four words once more. Where none differs, the answer is how the items stood after the collect's last prefix; else the
-/// first word that differs is named.
+/// Loads the same four words once more, in their order. Where none differs, the answer is how the items stood after the collect's last
+/// prefix; else the first word that differs is named, and no more is loaded.
 pub fn second_collect(words: &Words, pass: &mut Pass, collect: Collect) -> Answer
     requires table { (pass.old.table ≡ words.now) × (collect.table ≡ words.now) }
     requires last { IsPrefix collect.group_y.prefix pass.old.log }
     ensures table { pass.new.table ≡ pass.old.table }
     ensures longer { IsPrefix pass.old.log pass.new.log }
-    ensures answer { EndsSecond collect pass.old.log pass.new.log result }
+    ensures answer { EndsSecond collect pass.old pass.new result }
 {
     if let Some(again) = collect.load_again(words, pass) {
         return Answer::Again(again);
@@ -221,15 +226,16 @@ pub fn second_collect(words: &Words, pass: &mut Pass, collect: Collect) -> Answe
 /// How two items stand in the list after one prefix of the log that extends what the pass had seen and that what it has seen now
 /// extends. It takes no lock and no memory.
 ///
-/// `Same` comes where they are one item, `Absent` where the word of one names no group, and `Again` where a word differs between its
-/// two loads.
+/// `Same` comes where they are one item, without a load. `Absent` comes where the word of one names no group, by the first load or the
+/// second. Else two collects are made, once: `Before` and `After` come where no word differs between its two loads, after eight loads, and
+/// `Again` where one does, after four loads and those up to that word.
 pub fn precedes(words: &Words, pass: &mut Pass, x: u32, y: u32) -> Answer
     requires table { pass.old.table ≡ words.now }
     requires x_in { x < words.now.shape.items }
     requires y_in { y < words.now.shape.items }
     ensures table { pass.new.table ≡ pass.old.table }
     ensures longer { IsPrefix pass.old.log pass.new.log }
-    ensures answer { Compares pass.old.table pass.old.log pass.new.log x y result }
+    ensures answer { Compares pass.old pass.new x y result }
 {
     if x == y {
         return Answer::Same;

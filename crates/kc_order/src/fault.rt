@@ -1,4 +1,4 @@
-// Why a shared list is not changed.
+//! Why a shared list is not changed. Each fault is tied to its cause by the contracts of `SharedOrder`.
 
 /// Why a put or a take stored nothing.
 #[derive(Clone, Copy, Debug, Drop, Eq, PartialEq)]

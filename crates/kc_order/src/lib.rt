@@ -6,12 +6,14 @@
 //! the same four again. No value ever comes back to one of these words, so equal values held all four words at one moment, and the
 //! answer is how the list stood then: after one prefix of the writer's log that holds all that the caller had seen.
 //!
-//! Comparisons, loads and collects take no lock and no memory. Nothing is said of progress: a comparison may answer `Again` each time.
+//! Comparisons, loads and collects take no lock and no memory. Each contract says how many loads and splits of its pass it makes, so a
+//! comparison makes its two collects once. Nothing is said of progress: a comparison may answer `Again` each time.
 #![tactic(auto)]
 
 pub mod answer;
 pub mod collect;
 pub mod fault;
+pub mod laws;
 pub mod shared;
 mod storing;
 #[cfg(test)]

@@ -1,4 +1,7 @@
-// A list that many threads ask and, under a lock, change.
+//! A list that many threads ask and, under a lock, change.
+//!
+//! `SharedOrder` keeps the words outside of the lock and the writer behind it: comparisons take no lock, and a put or a take tells the
+//! caller's pass the log while it holds the lock.
 ghost use Rattle.std.specs.Prelude.{◌≡◌, ◌≢◌, ◌<◌, ◌≤◌, ◌+◌, OnOk, IfErr};
 ghost use mathlib.Core.List.{IsPrefix};
 ghost use Rattle.kc_order.specs.Shared.{EndsWithPut, EndsWithTake, IsReady, IsRefusal};
@@ -31,7 +34,7 @@ impl<K: Name> Kept<K> {
         requires table { (pass.old.table ≡ K.table) × (words.now ≡ K.table) }
         requires item { item < K.table.shape.items }
         ensures writer { self.new.writer ≡ self.old.writer }
-        ensures pass { pass.new ≡ self.new.writer }
+        ensures pass { pass.new ≡ record { table = self.new.writer.table; log = self.new.writer.log; loads = 0; splits = 0 } }
         ensures longer { IsPrefix pass.old.log pass.new.log }
         ensures ready { OnOk result (IsReady K.table pass.new.log item) }
         ensures refused { IfErr result (λ fault. IsRefusal K.table pass.new.log item fault) }
@@ -58,6 +61,7 @@ impl<K: Name> Kept<K> {
         requires items { (x < K.table.shape.items) × (p < K.table.shape.items) }
         requires differ { x ≢ p }
         ensures table { pass.new.table ≡ K.table }
+        ensures anew { (pass.new.loads ≡ 0) × (pass.new.splits ≡ 0) }
         ensures longer { IsPrefix pass.old.log pass.new.log }
         ensures put { OnOk result (EndsWithPut K.table pass.old.log pass.new.log x p) }
         ensures refused { IfErr result (λ fault. IsRefusal K.table pass.new.log p fault) }
@@ -72,6 +76,7 @@ impl<K: Name> Kept<K> {
         requires table { (pass.old.table ≡ K.table) × (words.now ≡ K.table) }
         requires item { x < K.table.shape.items }
         ensures table { pass.new.table ≡ K.table }
+        ensures anew { (pass.new.loads ≡ 0) × (pass.new.splits ≡ 0) }
         ensures longer { IsPrefix pass.old.log pass.new.log }
         ensures taken { OnOk result (EndsWithTake K.table pass.old.log pass.new.log x) }
         ensures refused { IfErr result (λ fault. IsRefusal K.table pass.new.log x fault) }
@@ -114,6 +119,7 @@ impl<K: Name> SharedOrder<K> {
     }
 
     /// Moves or adds `x` right after `p`, under the lock. The pass is told the log there, so each answer speaks of what it has seen now.
+    /// It begins anew with no load and no split.
     ///
     /// `Absent` where `p` is out of the list, and `Spent` where it is in it and the versions of the words are spent; nothing is stored
     /// then.
@@ -128,6 +134,7 @@ impl<K: Name> SharedOrder<K> {
         requires items { (x < K.table.shape.items) × (p < K.table.shape.items) }
         requires differ { x ≢ p }
         ensures table { pass.new.table ≡ K.table }
+        ensures anew { (pass.new.loads ≡ 0) × (pass.new.splits ≡ 0) }
         ensures longer { IsPrefix pass.old.log pass.new.log }
         ensures put { OnOk result (EndsWithPut K.table pass.old.log pass.new.log x p) }
         ensures refused { IfErr result (λ fault. IsRefusal K.table pass.new.log p fault) }
@@ -140,6 +147,7 @@ impl<K: Name> SharedOrder<K> {
         requires table { pass.old.table ≡ K.table }
         requires item { x < K.table.shape.items }
         ensures table { pass.new.table ≡ K.table }
+        ensures anew { (pass.new.loads ≡ 0) × (pass.new.splits ≡ 0) }
         ensures longer { IsPrefix pass.old.log pass.new.log }
         ensures taken { OnOk result (EndsWithTake K.table pass.old.log pass.new.log x) }
         ensures refused { IfErr result (λ fault. IsRefusal K.table pass.new.log x fault) }
@@ -153,7 +161,7 @@ impl<K: Name> SharedOrder<K> {
         requires items { (x < K.table.shape.items) × (y < K.table.shape.items) }
         ensures table { pass.new.table ≡ K.table }
         ensures longer { IsPrefix pass.old.log pass.new.log }
-        ensures answer { Compares K.table pass.old.log pass.new.log x y result }
+        ensures answer { Compares pass.old pass.new x y result }
     {
         precedes(&self.words, pass, x, y)
     }

@@ -1,4 +1,4 @@
-// Storing the writes of a plain list.
+//! Storing the writes of a plain list, one by one, with the note right before the last of them.
 ghost use Rattle.std.specs.Prelude.{◌≡◌, ◌<◌, ◌++◌, length};
 ghost use Rattle.kc_words.specs.NoteWord.{IsFitting, note_word};
 ghost use Rattle.kc_table.specs.Legal.{Legal};

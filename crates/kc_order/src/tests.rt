@@ -1,5 +1,6 @@
-// Comparisons beneath puts, takes, splits and new labels.
+//! Comparisons beneath puts, takes, splits and new labels, on one thread and on two.
 ghost use Rattle.std.specs.Prelude.{◌≡◌, ◌<◌, ◌≤◌, IfOk};
+ghost use Rattle.kc_words.specs.declared.layout.TheConstants.{ITEMS};
 
 mod cutting;
 mod handing;
@@ -17,7 +18,7 @@ use std::test::Fail;
 /// A list of `items` items of which none is a vertex.
 const fn plain(items: u32) -> Shape
     requires low { 1 ≤ items }
-    requires high { items ≤ 2097150 }
+    requires high { items ≤ ITEMS }
     ensures { (result.items ≡ items) × (result.fixed ≡ 0) }
 {
     Shape {

@@ -1,14 +1,18 @@
-// The one writer of a shared list.
-ghost use Rattle.std.specs.Prelude.{◌≡◌, ◌≢◌, ◌<◌, ◌≤◌, ◌+◌, ◌↔◌, ℕ, [], true, length, slice_index, IfOk, IsTrue, MatchOption};
+//! The one writer of a shared list.
+//!
+//! Each call keeps the log legal at each single store, and says what became of the list, of the versions, of the entries, of the vertices
+//! that are put and not sealed, and of the vertices' words.
+ghost use Rattle.std.specs.Prelude.{◌≡◌, ◌≢◌, ◌<◌, ◌≤◌, ◌+◌, ◌++◌, ◌∷◌, ◌↔◌, ◌==◌, if◌then◌else◌, ℕ, [], true, length, slice_index, IfOk, IsTrue, MatchOption};
 ghost use mathlib.Core.List.{IsPrefix};
-ghost use Rattle.kc_distinct.specs.Lists.{Distinct, member, next_of, prev_of};
+ghost use Rattle.kc_distinct.specs.Lists.{Distinct, member, next_of, prev_of, without};
 ghost use Rattle.kc_words.specs.NoteWord.{note_word};
 ghost use Rattle.kc_words.specs.VertexWord.{vertex_of, vertex_word};
 ghost use Rattle.kc_words.specs.declared.note.NoteWord.TheVariants.{Enter};
 ghost use Rattle.kc_table.specs.Legal.{Legal, MayPut, Seals};
 ghost use Rattle.kc_table.specs.State.{first_vertex, state_of};
 ghost use Rattle.kc_order.specs.Standing.{StandsBefore, list_after};
-ghost use Rattle.kc_order.specs.Writers.{HasVersionsLeft, IsHighest, IsOpening, Puts, Stores, Takes};
+ghost use Rattle.kc_order.specs.Writers.{AreOpeningWords, HasVersionsLeft, IsHighest, Leaves, Puts, Stores, Takes};
+ghost use Rattle.kc_order.specs.Writers.{entries_after, unsealed_after, vertex_word_after};
 
 use crate::storing::store_writes;
 use kc_graph::Update;
@@ -58,7 +62,7 @@ impl Writer {
         ensures vertex { IfOk result (λ r. (v : ℕ) → v < shape.fixed → slice_index r.0.opening (first_vertex shape + v) ≡ slice_index vertex.now v) }
         ensures legal { IfOk result (λ r. Legal r.0.shape r.0.opening []) }
         ensures writer { IfOk result (λ r. r.1 ≡ record { table = r.0; log = [] }) }
-        ensures pass { IfOk result (λ r. r.2 ≡ record { table = r.0; log = [] }) }
+        ensures pass { IfOk result (λ r. r.2 ≡ record { table = r.0; log = []; loads = 0; splits = 0 }) }
     {
         let plain = PlainOrder::open(alloc, shape, order)?;
         let words = opening_words(alloc, shape, &plain, vertex)?;
@@ -66,7 +70,8 @@ impl Writer {
         Ok((words, Writer { seat, plain }, pass))
     }
 
-    /// Moves or adds `x` right after `p`: all label changes first, then the note, and then the store at which the list changes.
+    /// Moves or adds `x` right after `p`: all label changes first, then the note, and then the store at which the list changes. No word is
+    /// stored more than twice.
     pub fn put_after(&mut self, words: &Words, x: u32, p: u32)
         requires table { self.old.table ≡ words.now }
         requires x_in { x < words.now.shape.items }
@@ -80,6 +85,7 @@ impl Writer {
         plain.put_after(x, p);
         store_writes(words, seat, plain.writes(), NoteWord::Put { x, p });
     }
+
     /// Takes `x` out: the note, and then the store at which the list changes.
     pub fn take(&mut self, words: &Words, x: u32)
         requires table { self.old.table ≡ words.now }
@@ -100,7 +106,9 @@ impl Writer {
         requires ends { (update.u < words.now.shape.items) × (update.v < words.now.shape.items) }
         requires fits { (update.u < VERTICES) × (update.v < VERTICES) }
         requires closed { (state_of self.old.table.shape self.old.table.opening self.old.log).unsealed ≡ [] }
-        ensures { Stores self.old self.new 0 (note_word (Enter update.add index update.u update.v)) }
+        ensures stored { Stores self.old self.new 0 (note_word (Enter update.add index update.u update.v)) }
+        ensures leaves { Leaves self.new (entries_after self.old ++ record { index = index; add = update.add; u = update.u; v = update.v } ∷ []) []
+            (vertex_word_after self.old) }
     {
         let note = NoteWord::Enter {
             add: update.add,
@@ -116,7 +124,9 @@ impl Writer {
         requires table { self.old.table ≡ words.now }
         requires vertex { v < words.now.shape.fixed }
         requires section { Seals words.now.shape (state_of self.old.table.shape self.old.table.opening self.old.log) v (vertex_word (record { stamp = stamp; core = core })) }
-        ensures { Stores self.old self.new (first_vertex words.now.shape + v) (vertex_word (record { stamp = stamp; core = core })) }
+        ensures stored { Stores self.old self.new (first_vertex words.now.shape + v) (vertex_word (record { stamp = stamp; core = core })) }
+        ensures leaves { Leaves self.new (entries_after self.old) (without v (unsealed_after self.old))
+            (λ w. if w == v then vertex_word (record { stamp = stamp; core = core }) else vertex_word_after self.old w) }
     {
         let word = shape(words).vertex(v);
         store(
@@ -176,7 +186,7 @@ impl Writer {
     pub fn tell(&mut self, words: &Words, pass: &mut Pass)
         requires table { (pass.old.table ≡ words.now) × (self.old.table ≡ words.now) }
         ensures writer { self.new ≡ self.old }
-        ensures pass { pass.new ≡ self.old }
+        ensures pass { pass.new ≡ record { table = self.old.table; log = self.old.log; loads = 0; splits = 0 } }
         ensures longer { IsPrefix pass.old.log self.old.log }
         ensures legal { Legal self.old.table.shape self.old.table.opening self.old.log }
     {
@@ -192,7 +202,7 @@ fn opening_words(
     vertex: &[u64],
 ) -> Result<Vec<u64>, NoMemory>
     requires items { plain.now.items ≡ shape.items }
-    ensures { IfOk result (λ words. IsOpening words.items plain.now.opening vertex.now shape.items) }
+    ensures { IfOk result (λ words. AreOpeningWords words.items plain.now.opening vertex.now shape.items) }
 {
     let mut words = Vec::with_capacity(alloc, shape.words() as usize)?;
     words.push(0)?;

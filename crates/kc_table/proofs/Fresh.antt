@@ -11,6 +11,12 @@ use Rattle.kc_table.specs.State.{State, opened, after_store, after_stores, state
 use Rattle.kc_table.specs.Legal.{MayStore, Legal, LegalFrom, IsVersioned, version_of}
 use Rattle.kc_table.proofs.LegalLogs.{after_store-words, state_of-words, legal_from-back, after_stores-append}
 
+-- no store changes how many words there are
+length-stores : (shape : Shape) (s : State) (es : List Event) → length (after_stores shape s es).words ≡ length s.words
+length-stores shape s [] = refl
+length-stores shape s (e ∷ es) =
+    length-stores shape (after_store shape s e) es ∙ (ap length (after_store-words shape s e) ∙ length-set s.words e.word e.value)
+
 -- A word at which each allowed store raises the key of its value.
 module _ (shape : Shape) (w : ℕ) (key : ℕ → ℕ) (raises : (s : State) (e : Event) → MayStore shape s e → e.word ≡ w → key (get_or s.words w 0) < key e.value) where
   -- the key rises, or the value stays
@@ -39,16 +45,13 @@ module _ (shape : Shape) (w : ℕ) (key : ℕ → ℕ) (raises : (s : State) (e 
       rises-trans _ _ _ (one_rises s e long h.0) (from_rises (after_store shape s e) es long' h.2)
 
   module _ (opening : List ℕ) where
-    length-after : (s : State) (es : List Event) → length (after_stores shape s es).words ≡ length s.words
-    length-after s [] = refl
-    length-after s (e ∷ es) = length-after (after_store shape s e) es ∙ (ap length (after_store-words shape s e) ∙ length-set s.words e.word e.value)
-
+    -- between two prefixes of a legal log the key rises, or the value stays
     rises : (p q : List Event) → IsPrefix p q → Legal shape opening q → Rises (value_at opening p w) (value_at opening q w)
     unfolding Legal state_of
     rises p q pre h =
         let here = after_stores shape (opened shape opening) p in
         let from : LegalFrom shape here pre.0 = legal_from-back shape (opened shape opening) p pre.0 (subst (LegalFrom shape (opened shape opening)) (sym pre.1) h.1) in
-        let long : length here.words ≡ word_count shape = length-after (opened shape opening) p ∙ h.0.one_each in
+        let long : length here.words ≡ word_count shape = length-stores shape (opened shape opening) p ∙ h.0.one_each in
         let r = from_rises here pre.0 long from in
         let all : after_stores shape here pre.0 ≡ state_of shape opening q = sym (after_stores-append shape (opened shape opening) p pre.0) ∙ ap (after_stores shape (opened shape opening)) pre.1 in
         subst (λ (z : ℕ × ℕ). Rises z.0 z.1) (λ i. (ap (λ ws. get_or ws w 0) (state_of-words shape opening p) i, ap (λ ws. get_or ws w 0) (ap (λ s. s.words) all ∙ state_of-words shape opening q) i)) r
@@ -78,3 +81,15 @@ fresh shape opening w p m q versioned = comes_not_back shape w version_of (versi
 pub fresh_vertex : (shape : Shape) (opening : List ℕ) (v : ℕ) (p m q : List Event) → IsPrefix p m → IsPrefix m q → Legal shape opening m → Legal shape opening q
     → value_at opening p (first_vertex shape + v) ≡ value_at opening q (first_vertex shape + v) → value_at opening m (first_vertex shape + v) ≡ value_at opening p (first_vertex shape + v)
 fresh_vertex shape opening v p m q = comes_not_back shape (first_vertex shape + v) (λ value. (vertex_of value).stamp) (stamp_raises shape v) opening p m q
+
+-- along a legal log a vertex's word gets a greater stamp, or stays
+pub vertex-rises : (shape : Shape) (opening : List ℕ) (v : ℕ) (p q : List Event) → IsPrefix p q → Legal shape opening q
+    → ((vertex_of (value_at opening p (first_vertex shape + v))).stamp < (vertex_of (value_at opening q (first_vertex shape + v))).stamp)
+    ⊎ (value_at opening p (first_vertex shape + v) ≡ value_at opening q (first_vertex shape + v))
+vertex-rises shape opening v = rises shape (first_vertex shape + v) (λ value. (vertex_of value).stamp) (stamp_raises shape v) opening
+
+-- a legal log leaves as many words as the shape has
+pub long-after : (shape : Shape) (opening : List ℕ) (log : List Event) → Legal shape opening log
+    → length (state_of shape opening log).words ≡ word_count shape
+unfolding Legal state_of
+long-after shape opening log h = length-stores shape (opened shape opening) log ∙ h.0.one_each

@@ -2,6 +2,8 @@ pub mod Fresh
 pub mod LegalLogs
 pub mod Listed
 pub mod Prefixes
+pub mod Putting
 pub mod Samples
+pub mod Stamps
 pub mod Steps
 pub mod TestTables

@@ -13,9 +13,12 @@ use Rattle.kc_words.specs.NoteWord.{note_of, note_word}
 use Rattle.kc_words.specs.declared.note.NoteWord.TheVariants.{Enter, Put, Take}
 use Rattle.kc_table.specs.Log.{event}
 use Rattle.kc_table.specs.Edges.{edges_after}
+use Rattle.kc_table.specs.Sections.{puts_in}
 use Rattle.kc_table.specs.State.{state_of}
 use Rattle.kc_table.specs.Legal.{Legal, Opens}
-use Rattle.kc_table.specs.Samples.{shape, item, vertex, note, opening, one_put, put_and_take, open_section, sealed_section, two_entries, pair_shape, pair_opening, pair_put, no_edges, one_edge, longer_opening, noted_opening, ahead_opening, missing_opening, tied_opening, stamped_opening}
+use Rattle.kc_table.specs.Samples.{shape, item, vertex, note, opening, one_put, put_and_take, open_section, sealed_section, sealed_unmoved, two_entries}
+use Rattle.kc_table.specs.Samples.{pair_shape, pair_opening, pair_put, no_edges, one_edge, longer_opening, noted_opening, ahead_opening, missing_opening}
+use Rattle.kc_table.specs.Samples.{tied_opening, stamped_opening}
 use Rattle.kc_table.proofs.LegalLogs.{legal-last, legal-holds}
 
 pub opening_list : (state_of shape opening []).list ≡ 0 ∷ 1 ∷ []
@@ -49,6 +52,19 @@ two_entries-entries = refl
 pub two_entries-unsealed : (state_of shape opening two_entries).unsealed ≡ []
 unfolding state_of item_of item_word group_of group_word note_of note_word
 two_entries-unsealed = refl
+
+-- what each section has put
+pub puts-before : puts_in shape opening put_and_take 1 ≡ 2 ∷ []
+unfolding puts_in item_of item_word group_of group_word note_of note_word
+puts-before = refl
+
+pub puts-first : puts_in shape opening two_entries 2 ≡ 0 ∷ []
+unfolding puts_in item_of item_word group_of group_word note_of note_word
+puts-first = refl
+
+pub puts-second : puts_in shape opening two_entries 3 ≡ []
+unfolding puts_in item_of item_word group_of group_word note_of note_word
+puts-second = refl
 
 -- what was put into an empty set and taken out again
 removed_again : (p : ℕ × ℕ) → set.remove (set.insert (set.empty {R = pair_cmp}) p) p ≡ set.empty
@@ -155,9 +171,18 @@ pub sealed_in_a_section : Legal shape opening (event 8 (vertex 1 0) ∷ []) → 
 unfolding state_of
 sealed_in_a_section h = let l : 0 < 0 = ((legal-last shape opening [] (event 8 (vertex 1 0)) h).seals 0 refl).inside in omega (arith, l)
 
-pub own_stamp : Legal shape opening (note (Enter true 7 0 1) ∷ event 8 (vertex 1 0) ∷ []) → ⊥
+pub own_stamp : Legal shape opening (open_section ++ event 8 (vertex 1 0) ∷ []) → ⊥
 unfolding state_of note_of note_word vertex_of vertex_word
-own_stamp h = let e : ◌≡◌ {A = ℕ} 1 2 = ((legal-last shape opening (note (Enter true 7 0 1) ∷ []) (event 8 (vertex 1 0)) h).seals 0 refl).stamp in omega (arith, e)
+own_stamp h =
+    let e : ◌≡◌ {A = ℕ} 1 2 = ((legal-last shape opening open_section (event 8 (vertex 1 0)) h).seals 0 refl).stamp in
+    omega (arith, e)
+
+-- the vertex was not put
+pub sealed_where_put : Legal shape opening sealed_unmoved → ⊥
+unfolding state_of note_of note_word vertex_of vertex_word
+sealed_where_put h =
+    let e : false ≡ true = ((legal-last shape opening (note (Enter true 7 0 1) ∷ []) (event 8 (vertex 2 0)) h).seals 0 refl).put in
+    false≢true e
 
 pub sealed_once : Legal shape opening (sealed_section ++ event 8 (vertex 2 0) ∷ []) → ⊥
 unfolding state_of note_of note_word vertex_of vertex_word

@@ -1,18 +1,20 @@
 -- Each step keeps the rule.
 use Rattle.std.proofs.Common.{◌≡◌, ◌≢◌, ℕ, zero, suc, List, [], ◌∷◌, ◌++◌, set, get_or, true, false, true≢false, refl, sym, ap, ◌∙◌, subst, ⊎_elim}
+use Rattle.std.proofs.Common.{length, length-set, get_or-set_same, get_or-set_other, arith}
 use lib.Seq.{set-get_or}
 use mathlib.Core.List.{IsPrefix}
 use mathlib.Core.Option.{some, none, some-injective, some-ne-none}
 use lib.ListN.{get_elem?}
 use Rattle.atomic_table.specs.Table.{State, Me, step, keeps, stepped, opening, Allows, Splits, Joins}
-use Rattle.atomic_table.proofs.Lists.{at_set, at_snoc, set_again}
+use Rattle.atomic_table.proofs.Lists.{at_set, at_snoc}
 use Rattle.kc_table.specs.declared.view.Event.{Event}
 use Rattle.kc_words.specs.declared.shape.Shape.{Shape}
 use Rattle.kc_table.specs.declared.view.Opening.{Opening}
 use Rattle.kc_table.specs.declared.view.View.{View}
-use Rattle.kc_table.specs.Log.{words_after, event}
+use Rattle.kc_table.specs.Log.{words_after, value_at, event}
 use Rattle.kc_table.specs.Legal.{Legal}
-use Rattle.kc_table.specs.Rule.{EachBegins, Fits, Keeps, first_view, pass_of, told, nobody, adds, sees, Loads, Stores}
+use Rattle.kc_table.specs.Rule.{EachBegins, Fits, Keeps, first_view, pass_of, parted, told, nobody, adds, sees, TellsLoad, TellsStore}
+use Rattle.kc_table.proofs.LegalLogs.{legal-last, legal-opens}
 use Rattle.kc_table.proofs.Prefixes.{prefix_self, prefix_push}
 
 off : {X : Type 0} → false ≡ true → X
@@ -21,6 +23,25 @@ off e = absurd (true≢false (sym e))
 pub words_after-push : (ws : List ℕ) (es : List Event) (e : Event) → words_after ws (es ++ e ∷ []) ≡ set (words_after ws es) e.word e.value
 words_after-push ws [] e = refl
 words_after-push ws (x ∷ es) e = words_after-push (set ws x.word x.value) es e
+
+length-words_after : (ws : List ℕ) (es : List Event) → length (words_after ws es) ≡ length ws
+length-words_after ws [] = refl
+length-words_after ws (e ∷ es) = length-words_after (set ws e.word e.value) es ∙ length-set ws e.word e.value
+
+-- a store leaves each other word
+pub value_at-other : (opening : List ℕ) (log : List Event) (e : Event) (word : ℕ) → word ≢ e.word
+    → value_at opening (log ++ e ∷ []) word ≡ value_at opening log word
+value_at-other opening log e word other =
+    ap (λ ws. get_or ws word 0) (words_after-push opening log e) ∙ get_or-set_other (words_after opening log) e.word word e.value 0 other
+
+-- and gives its own its value
+pub value_at-stored : (shape : Shape) (opening : List ℕ) (log : List Event) (e : Event) → Legal shape opening (log ++ e ∷ [])
+    → value_at opening (log ++ e ∷ []) e.word ≡ e.value
+value_at-stored shape opening log e h =
+    let there = (legal-last shape opening log e h).there in
+    let long = (legal-opens shape opening (log ++ e ∷ []) h).one_each in
+    ap (λ ws. get_or ws e.word 0) (words_after-push opening log e)
+    ∙ get_or-set_same (words_after opening log) e.word e.value 0 (omega (arith, there, long, length-words_after opening log))
 
 each_longer : (ps : List (List Event)) (log : List Event) (e : Event) → EachBegins ps log → EachBegins ps (log ++ e ∷ [])
 each_longer [] log e h = tt
@@ -68,7 +89,7 @@ module _ {S : Type 0} (k : Opening) where
     each = fits_set k h.log h.writer s.views id w mine (λ j u _ e. h.each j u e);
   }
 
-  pub loads : (slots id word : ℕ) (me : Me S View) → me.0.spent ≡ false → Allows Rule slots id me word (λ n. n) (Loads (step slots word 0 0 none) me)
+  pub loads : (slots id word : ℕ) (me : Me S View) → me.0.spent ≡ false → Allows Rule slots id me word (λ n. n) (TellsLoad (step slots word 0 0 none) me)
   loads slots id word me live s h len at bound =
       let v = me.0 in
       let f = h.each id v at in
@@ -96,7 +117,7 @@ module _ {S : Type 0} (k : Opening) where
       )
 
   pub stores : (slots id word value : ℕ) (me : Me S View) → me.0.spent ≡ false → me.0.writes ≡ true → Legal me.0.shape me.0.opening (me.0.seen ++ event word value ∷ [])
-      → Allows Rule slots id me word (λ _. value) (λ _. Stores (step slots word value 0 none) me value)
+      → Allows Rule slots id me word (λ _. value) (λ _. TellsStore (step slots word value 0 none) me value)
   stores slots id word value me live writes legal s h len at bound =
       let v = me.0 in
       let f = h.each id v at in
@@ -137,20 +158,26 @@ module _ {S : Type 0} (k : Opening) where
         refl,
       )
 
-  pub splits : (id : ℕ) (v : View) → v.spent ≡ false → Splits Rule id v v (pass_of v)
+  -- a split adds a pass, and the view that it was split from has made a split more
+  pub splits : (id : ℕ) (v : View) → v.spent ≡ false → Splits Rule id v (parted v) (pass_of v)
   splits id v live s h at =
-      let n = (h.each id v at).knows live in record {
+      let f = h.each id v at in
+      let n = f.knows live in
+      let mine : F k h.log h.writer id (parted v) = record {
+        knows = λ _. record { same_shape = n.same_shape; same_opening = n.same_opening; begins = n.begins; kept_begin = n.kept_begin };
+        wrote = f.wrote;
+      } in record {
         log = h.log;
         writer = h.writer;
         words = h.words;
         legal = h.legal;
         each = λ j u e. ⊎_elim
-            (λ was. h.each j u (subst (λ (l : List View). get_elem? l j ≡ some u) (set_again s.views id v at) was))
+            (λ was. fits_set k h.log h.writer s.views id (parted v) mine (λ i w _ e'. h.each i w e') j u was)
             (λ (same : pass_of v ≡ u). subst (F k h.log h.writer j) same record {
               knows = λ _. record { same_shape = n.same_shape; same_opening = n.same_opening; begins = n.begins; kept_begin = tt };
               wrote = λ wr. off wr;
             })
-            (at_snoc (set s.views id v) (pass_of v) u j e);
+            (at_snoc (set s.views id (parted v)) (pass_of v) u j e);
       }
 
   pub joins : (id : ℕ) (v : View) (other : ℕ) (u : View) → v.spent ≡ false → u.spent ≡ false → Joins Rule id v other u (told v u) nobody

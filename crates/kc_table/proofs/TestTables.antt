@@ -8,6 +8,7 @@ use Rattle.kc_words.specs.GroupWord.{group_of}
 use Rattle.kc_words.specs.VertexWord.{vertex_of}
 use Rattle.kc_words.specs.NoteWord.{note_of}
 use Rattle.kc_words.specs.Order.{Ordered}
+use Rattle.kc_words.specs.declared.layout.TheConstants.{ITEMS, LAST_VERSION}
 use Rattle.kc_words.specs.declared.shape.Shape.{Shape}
 use Rattle.std.proofs.Math.Bridge.{le_prop}
 use Rattle.kc_words.specs.declared.note.NoteWord.TheVariants.{Nothing}
@@ -147,7 +148,8 @@ pub stored-none : Stored 0 []
 unfolding item_of group_of
 stored-none = record { legal = legal-nil lone_shape (lone_words 0) lone_opens; state = state_of-nil lone_shape (lone_words 0) }
 
-pub stored-more : (version : ℕ) (log : List Event) → version < 16777215 → Stored version log → Stored (version + 1) (log ++ event 2 ((version + 1) * 1099511627776 + 549755813888) ∷ [])
+pub stored-more : (version : ℕ) (log : List Event) → version < LAST_VERSION → Stored version log
+    → Stored (version + 1) (log ++ event 2 ((version + 1) * 1099511627776 + 549755813888) ∷ [])
 unfolding item_of
 stored-more version log few h =
     let e = event 2 ((version + 1) * 1099511627776 + 549755813888) in
@@ -168,10 +170,12 @@ stored-more version log few h =
     }
 
 -- Shapes with these numbers are the samples' shapes.
-pub pair_is : (a : 1 ≤ 2) (b : 2 ≤ 2097150) (c : 0 ≤ 2) (d : 0 ≤ 16777215) → ◌≡◌ {A = Shape} (record { items = 2; fixed = 0; base = 0; version = 0; some_items = a; few_items = b; fixed_in = c; version_in = d }) pair_shape
+pub pair_is : (a : 1 ≤ 2) (b : 2 ≤ ITEMS) (c : 0 ≤ 2) (d : 0 ≤ LAST_VERSION)
+    → ◌≡◌ {A = Shape} (record { items = 2; fixed = 0; base = 0; version = 0; some_items = a; few_items = b; fixed_in = c; version_in = d }) pair_shape
 pair_is a b c d i = record { items = 2; fixed = 0; base = 0; version = 0; some_items = le_prop a pair_shape.some_items i; few_items = le_prop b pair_shape.few_items i; fixed_in = le_prop c pair_shape.fixed_in i; version_in = le_prop d pair_shape.version_in i }
 
-pub lone_is : (a : 1 ≤ 1) (b : 1 ≤ 2097150) (c : 0 ≤ 1) (d : 0 ≤ 16777215) → ◌≡◌ {A = Shape} (record { items = 1; fixed = 0; base = 0; version = 0; some_items = a; few_items = b; fixed_in = c; version_in = d }) lone_shape
+pub lone_is : (a : 1 ≤ 1) (b : 1 ≤ ITEMS) (c : 0 ≤ 1) (d : 0 ≤ LAST_VERSION)
+    → ◌≡◌ {A = Shape} (record { items = 1; fixed = 0; base = 0; version = 0; some_items = a; few_items = b; fixed_in = c; version_in = d }) lone_shape
 lone_is a b c d i = record { items = 1; fixed = 0; base = 0; version = 0; some_items = le_prop a lone_shape.some_items i; few_items = le_prop b lone_shape.few_items i; fixed_in = le_prop c lone_shape.fixed_in i; version_in = le_prop d lone_shape.version_in i }
 
 -- a log of a table that is one of the samples

@@ -27,15 +27,15 @@ abbrev pub IsVersioned : Shape → ℕ → Type 0
 IsVersioned shape word = (1 ≤ word) × (word < first_vertex shape)
 
 -- After a Put or a Take note its item's word is stored.
-abbrev pub Follows : NoteWord → ℕ → Type 0
-Follows Nothing word = Unit {0}
-Follows (Enter add index u v) word = Unit {0}
-Follows (Put x p) word = word ≡ 1 + x
-Follows (Take x) word = word ≡ 1 + x
+abbrev pub FollowsNote : NoteWord → ℕ → Type 0
+FollowsNote Nothing word = Unit {0}
+FollowsNote (Enter add index u v) word = Unit {0}
+FollowsNote (Put x p) word = word ≡ 1 + x
+FollowsNote (Take x) word = word ≡ 1 + x
 
 -- each vertex that the last section has put was sealed in it, and nothing is announced
 abbrev pub IsClosed : State → Type 0
-IsClosed s = (s.unsealed ≡ []) × ((word : ℕ) → Follows s.note word)
+IsClosed s = (s.unsealed ≡ []) × ((word : ℕ) → FollowsNote s.note word)
 
 -- A vertex is put inside a section alone, and only once: while its stamp is below the section's number.
 pub record MayPut (shape : Shape) (s : State) (x : ℕ) : Type 0 where
@@ -50,21 +50,23 @@ MayNote shape s (Enter add index u v) = s.unsealed ≡ []
 MayNote shape s (Put x p) = (x < shape.items) × (member p s.list ≡ true) × (x ≢ p) × (x < shape.fixed → MayPut shape s x)
 MayNote shape s (Take x) = (member x s.list ≡ true) × (shape.fixed ≤ x)
 
--- The version of a word that has one rises by one. It has 24 bits of 64, so it never passes 16,777,215.
+-- The version of a word that has one rises by one. It has `VERSION_BITS` of 64 bits, so it never passes `LAST_VERSION`.
 abbrev pub IsNewer : ℕ → ℕ → Type 0
 IsNewer old new = version_of new ≡ version_of old + 1
 
--- A vertex word is stored inside a section alone, with the section's number as its stamp, which is greater than the one before.
+-- A vertex word is stored inside a section alone, and only where the section has put the vertex and not stored the word since. Its
+-- stamp is the section's number, which is greater than the one before.
 pub record Seals (shape : Shape) (s : State) (v value : ℕ) : Type 0 where
   pub inside : 0 < length s.entries
   pub stamp : (vertex_of value).stamp ≡ last_entry shape s
   pub later : stamp_in shape s v < (vertex_of value).stamp
+  pub put : member v s.unsealed ≡ true
 
 -- what may be stored next
 pub record MayStore (shape : Shape) (s : State) (e : Event) : Type 0 where
   pub there : e.word < word_count shape
   pub fits : e.value < 2 ^ 64
-  pub follows : Follows s.note e.word
+  pub follows : FollowsNote s.note e.word
   pub note : e.word ≡ 0 → MayNote shape s (note_of e.value)
   pub fresh : IsVersioned shape e.word → IsNewer (slice_index s.words e.word) e.value
   pub seals : (v : ℕ) → e.word ≡ first_vertex shape + v → Seals shape s v e.value

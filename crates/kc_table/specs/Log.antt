@@ -4,6 +4,7 @@ use Rattle.std.specs.FinSet as set
 use Rattle.std.proofs.lemmas.Bool.{leb-true}
 use Rattle.atomic_table.specs.Seated.{TableId}
 use Rattle.kc_graph.specs.SimpleGraph.{SimpleGraph}
+use Rattle.kc_words.specs.declared.layout.TheConstants.{ITEMS, LAST_VERSION}
 use Rattle.kc_words.specs.declared.shape.Shape.{Shape}
 use Rattle.kc_table.specs.declared.view.Event.{Event}
 
@@ -17,6 +18,13 @@ pub record TableName : Type 0 where
 pub record Seen : Type 0 where
   pub table : TableName
   pub log : List Event
+
+-- what a pass has seen, and how many loads and how many splits it has made
+pub record PassSeen : Type 0 where
+  pub table : TableName
+  pub log : List Event
+  pub loads : ℕ
+  pub splits : ℕ
 
 -- the store of a value to a word
 abbrev pub event : ℕ → ℕ → Event
@@ -33,7 +41,16 @@ value_at opening log w = slice_index (words_after opening log) w
 
 -- the shape of no table
 abbrev pub no_shape : Shape
-no_shape = record { items = 1; fixed = 0; base = 0; version = 0; some_items = leb-true 1 1 refl; few_items = leb-true 1 2097150 refl; fixed_in = leb-true 0 1 refl; version_in = leb-true 0 16777215 refl }
+no_shape = record {
+  items = 1;
+  fixed = 0;
+  base = 0;
+  version = 0;
+  some_items = leb-true 1 1 refl;
+  few_items = leb-true 1 ITEMS refl;
+  fixed_in = leb-true 0 1 refl;
+  version_in = leb-true 0 LAST_VERSION refl;
+}
 
 -- the name of no table
 abbrev pub no_table : TableName

@@ -1,5 +1,5 @@
 -- The rule of the words, and what each step tells.
-use Rattle.std.specs.Prelude.{◌≡◌, ℕ, List, [], ◌∷◌, ◌++◌, true, false}
+use Rattle.std.specs.Prelude.{◌≡◌, ◌+◌, ℕ, List, [], ◌∷◌, ◌++◌, true, false}
 use mathlib.Core.List.{IsPrefix}
 use mathlib.Core.Option.{some}
 use lib.ListN.{get_elem?}
@@ -35,25 +35,93 @@ pub record Keeps {S : Type 0} (k : Opening) (s : State S View) : Type 0 where
   pub each : (seat : ℕ) (v : View) → get_elem? s.views seat ≡ some v → Fits k.shape k.words.items log writer seat v
 
 abbrev pub first_view : Opening → View
-first_view k = record { spent = false; writes = true; shape = k.shape; opening = k.words.items; seen = []; kept = [] }
+first_view k = record {
+  spent = false;
+  writes = true;
+  shape = k.shape;
+  opening = k.words.items;
+  seen = [];
+  kept = [];
+  loads = 0;
+  splits = 0;
+}
 
--- a pass that has seen as much
+-- a pass that has seen as much, and has made no load and no split yet
 abbrev pub pass_of : View → View
-pass_of v = record { spent = false; writes = false; shape = v.shape; opening = v.opening; seen = v.seen; kept = [] }
+pass_of v = record {
+  spent = false;
+  writes = false;
+  shape = v.shape;
+  opening = v.opening;
+  seen = v.seen;
+  kept = [];
+  loads = 0;
+  splits = 0;
+}
 
--- a view that was told of another
+-- the view that one was split from: it has made a split more
+abbrev pub parted : View → View
+parted v = record {
+  spent = v.spent;
+  writes = v.writes;
+  shape = v.shape;
+  opening = v.opening;
+  seen = v.seen;
+  kept = v.kept;
+  loads = v.loads;
+  splits = v.splits + 1;
+}
+
+-- a view that was told of another, and has that one's steps beside its own
 abbrev pub told : View → View → View
-told v w = record { spent = v.spent; writes = v.writes; shape = v.shape; opening = v.opening; seen = v.seen; kept = w.seen ∷ v.kept }
+told v w = record {
+  spent = v.spent;
+  writes = v.writes;
+  shape = v.shape;
+  opening = v.opening;
+  seen = v.seen;
+  kept = w.seen ∷ v.kept;
+  loads = v.loads + w.loads;
+  splits = v.splits + w.splits;
+}
 
 abbrev pub nobody : View
-nobody = record { spent = true; writes = false; shape = no_shape; opening = []; seen = []; kept = [] }
+nobody = record {
+  spent = true;
+  writes = false;
+  shape = no_shape;
+  opening = [];
+  seen = [];
+  kept = [];
+  loads = 0;
+  splits = 0;
+}
 
 -- a store makes the log longer by one
 abbrev pub adds : View → Event → View
-adds v e = record { spent = v.spent; writes = v.writes; shape = v.shape; opening = v.opening; seen = v.seen ++ e ∷ []; kept = v.kept }
+adds v e = record {
+  spent = v.spent;
+  writes = v.writes;
+  shape = v.shape;
+  opening = v.opening;
+  seen = v.seen ++ e ∷ [];
+  kept = v.kept;
+  loads = v.loads;
+  splits = v.splits;
+}
 
+-- what a view has seen after one load more
 abbrev pub sees : View → List Event → View
-sees v log = record { spent = v.spent; writes = v.writes; shape = v.shape; opening = v.opening; seen = log; kept = [] }
+sees v log = record {
+  spent = v.spent;
+  writes = v.writes;
+  shape = v.shape;
+  opening = v.opening;
+  seen = log;
+  kept = [];
+  loads = v.loads + 1;
+  splits = v.splits;
+}
 
 -- what a load tells
 pub record Looked (v : View) (word found : ℕ) (log : List Event) : Type 0 where
@@ -63,8 +131,10 @@ pub record Looked (v : View) (word found : ℕ) (log : List Event) : Type 0 wher
   pub legal : Legal v.shape v.opening log
   pub whole : v.writes ≡ true → log ≡ v.seen
 
-abbrev pub Loads : {S : Type 0} → Step S → Me S View → ℕ → Me S View → Type 0
-Loads st m found m' = (m'.1 ≡ m.1) × (m'.0 ≡ sees m.0 m'.0.seen) × Looked m.0 st.word found m'.0.seen
+-- what becomes of a seat and its view where it loads
+abbrev pub TellsLoad : {S : Type 0} → Step S → Me S View → ℕ → Me S View → Type 0
+TellsLoad st m found m' = (m'.1 ≡ m.1) × (m'.0 ≡ sees m.0 m'.0.seen) × Looked m.0 st.word found m'.0.seen
 
-abbrev pub Stores : {S : Type 0} → Step S → Me S View → ℕ → Me S View → Type 0
-Stores st m found m' = m' ≡ (adds m.0 (event st.word found), m.1)
+-- and where it stores
+abbrev pub TellsStore : {S : Type 0} → Step S → Me S View → ℕ → Me S View → Type 0
+TellsStore st m found m' = m' ≡ (adds m.0 (event st.word found), m.1)

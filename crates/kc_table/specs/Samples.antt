@@ -9,6 +9,7 @@ use Rattle.kc_words.specs.VertexWord.{vertex_word}
 use Rattle.kc_words.specs.NoteWord.{note_word}
 use Rattle.kc_words.specs.declared.note.NoteWord.{NoteWord}
 use Rattle.kc_words.specs.declared.note.NoteWord.TheVariants.{Enter, Put, Take}
+use Rattle.kc_words.specs.declared.layout.TheConstants.{ITEMS, LAST_VERSION}
 use Rattle.kc_words.specs.declared.shape.Shape.{Shape}
 use Rattle.kc_table.specs.declared.view.Event.{Event}
 use Rattle.kc_table.specs.Log.{event}
@@ -16,7 +17,16 @@ use Rattle.kc_table.specs.Log.{event}
 -- Three items, of which item 0 is a vertex, and one entry before this table. The words are the note, those of the items 0 to 2, of the
 -- groups 1 to 4, and of vertex 0.
 abbrev pub shape : Shape
-shape = record { items = 3; fixed = 1; base = 1; version = 0; some_items = leb-true 1 3 refl; few_items = leb-true 3 2097150 refl; fixed_in = leb-true 1 3 refl; version_in = leb-true 0 16777215 refl }
+shape = record {
+  items = 3;
+  fixed = 1;
+  base = 1;
+  version = 0;
+  some_items = leb-true 1 3 refl;
+  few_items = leb-true 3 ITEMS refl;
+  fixed_in = leb-true 1 3 refl;
+  version_in = leb-true 0 LAST_VERSION refl;
+}
 
 -- an item's word: its version, its group and its bottom label
 abbrev pub item : ℕ → ℕ → ℕ → ℕ
@@ -53,6 +63,10 @@ open_section = note (Enter true 7 0 1) ∷ note (Put 0 1) ∷ event 1 (item 1 1 
 -- its word is stored
 abbrev pub sealed_section : List Event
 sealed_section = open_section ++ event 8 (vertex 2 1) ∷ []
+
+-- An edge is entered and vertex 0 is not put; then its word is stored, as if it had been. (This log is not legal.)
+abbrev pub sealed_unmoved : List Event
+sealed_unmoved = note (Enter true 7 0 1) ∷ event 8 (vertex 2 0) ∷ []
 
 -- the edge is taken out again, and nothing moves
 abbrev pub two_entries : List Event
@@ -95,7 +109,16 @@ stamped_opening = 0 ∷ item 0 1 10 ∷ item 0 1 20 ∷ item 0 0 0 ∷ group 0 1
 
 -- two items, of which item 0 is the list
 abbrev pub pair_shape : Shape
-pair_shape = record { items = 2; fixed = 0; base = 0; version = 0; some_items = leb-true 1 2 refl; few_items = leb-true 2 2097150 refl; fixed_in = leb-true 0 2 refl; version_in = leb-true 0 16777215 refl }
+pair_shape = record {
+  items = 2;
+  fixed = 0;
+  base = 0;
+  version = 0;
+  some_items = leb-true 1 2 refl;
+  few_items = leb-true 2 ITEMS refl;
+  fixed_in = leb-true 0 2 refl;
+  version_in = leb-true 0 LAST_VERSION refl;
+}
 
 abbrev pub pair_opening : List ℕ
 pair_opening = 0 ∷ 786432 ∷ 0 ∷ 549755813888 ∷ 0 ∷ 0 ∷ []
@@ -106,7 +129,16 @@ pair_put = event 0 9223372036856872960 ∷ event 2 1099512545280 ∷ []
 
 -- one item, which is the list
 abbrev pub lone_shape : Shape
-lone_shape = record { items = 1; fixed = 0; base = 0; version = 0; some_items = leb-true 1 1 refl; few_items = leb-true 1 2097150 refl; fixed_in = leb-true 0 1 refl; version_in = leb-true 0 16777215 refl }
+lone_shape = record {
+  items = 1;
+  fixed = 0;
+  base = 0;
+  version = 0;
+  some_items = leb-true 1 1 refl;
+  few_items = leb-true 1 ITEMS refl;
+  fixed_in = leb-true 0 1 refl;
+  version_in = leb-true 0 LAST_VERSION refl;
+}
 
 -- its words where the word of its group was stored `version` times
 abbrev pub lone_words : ℕ → List ℕ

@@ -1,14 +1,17 @@
-// What the definitions of a log mean, as laws over the definitions alone.
-ghost use Rattle.std.specs.Prelude.{◌≡◌, ◌+◌, ◌<◌, ℕ, Bool, List, [], ◌∷◌, ◌++◌, true, false};
+//! What the definitions of a log mean, as laws over the definitions alone.
+//!
+//! Each function does nothing, and its contract is the law.
+ghost use Rattle.std.specs.Prelude.{◌≡◌, ◌≢◌, ◌+◌, ◌<◌, ◌≤◌, ◌⊎◌, ◌↔◌, ℕ, Bool, List, [], ◌∷◌, ◌++◌, length, true, false};
 ghost use mathlib.Core.List.{IsPrefix};
 ghost use Rattle.kc_distinct.specs.Lists.{Distinct, member};
 ghost use Rattle.kc_words.specs.declared.note.NoteWord.TheVariants.{Enter, Put, Take};
 ghost use Rattle.kc_words.specs.declared.shape.Shape.{Shape};
 ghost use Rattle.kc_table.specs.declared.view.Event.{Event};
 ghost use Rattle.kc_table.specs.Edges.{edges_after};
-ghost use Rattle.kc_table.specs.Legal.{Holds, IsVersioned, Legal, MayStore, Opens};
+ghost use Rattle.kc_table.specs.Legal.{Holds, IsClosed, IsVersioned, Legal, MayStore, Opens};
 ghost use Rattle.kc_table.specs.Log.{event, value_at};
 ghost use Rattle.kc_table.specs.Samples as sample;
+ghost use Rattle.kc_table.specs.Sections.{item_put, number_after, puts_in, stamp_after};
 ghost use Rattle.kc_table.specs.State.{after_store, first_vertex, state_of};
 
 /// A log is legal where the table was opened rightly, each store was one that might follow, and the rules held after it.
@@ -38,6 +41,52 @@ pub fn no_value_comes_back()
         → value_at opening between (first_vertex shape + v) ≡ value_at opening first (first_vertex shape + v) }
 {}
 
+/// A store changes its word alone, which has its value then.
+pub fn a_store_changes_its_word_alone()
+    ensures others { (opening : List ℕ) (log : List Event) (e : Event) (word : ℕ) → word ≢ e.word
+        → value_at opening (log ++ e ∷ []) word ≡ value_at opening log word }
+    ensures stored { (shape : Shape) (opening : List ℕ) (log : List Event) (e : Event) → Legal shape opening (log ++ e ∷ [])
+        → value_at opening (log ++ e ∷ []) e.word ≡ e.value }
+{}
+
+/// Of two prefixes of one log one begins the other.
+pub fn of_two_prefixes_one_begins_the_other()
+    ensures { (first second log : List Event) → IsPrefix first log → IsPrefix second log → IsPrefix first second ⊎ IsPrefix second first }
+{}
+
+/// The stamp of a vertex never falls along a legal log, and where it has not risen, the vertex's word is the same.
+pub fn the_stamp_of_a_vertex_never_falls()
+    ensures never_falls { (shape : Shape) (opening : List ℕ) (first last : List Event) (v : ℕ) → IsPrefix first last → Legal shape opening last
+        → stamp_after shape opening first v ≤ stamp_after shape opening last v }
+    ensures same { (shape : Shape) (opening : List ℕ) (first last : List Event) (v : ℕ) → IsPrefix first last → Legal shape opening last
+        → stamp_after shape opening first v ≡ stamp_after shape opening last v
+        → value_at opening first (first_vertex shape + v) ≡ value_at opening last (first_vertex shape + v) }
+{}
+
+/// A vertex that a store puts, behind some prefix of a legal log, is open at the log's end, or its stamp is greater than after the prefix.
+pub fn a_vertex_that_was_put_is_open_or_has_a_greater_stamp()
+    ensures { (shape : Shape) (opening : List ℕ) (first before log : List Event) (e : Event) (v : ℕ) → v < shape.fixed
+        → IsPrefix first before → IsPrefix (before ++ e ∷ []) log → Legal shape opening log
+        → member v (item_put (state_of shape opening before).note e.word) ≡ true
+        → (member v (state_of shape opening log).unsealed ≡ true) ⊎ (stamp_after shape opening first v < stamp_after shape opening log v) }
+{}
+
+/// A section that is closed has put a vertex exactly where the vertex has the section's number as stamp. What stands before the note of
+/// an entry is closed, so an earlier section has put a vertex exactly where it had that stamp there.
+pub fn a_stamp_tells_whether_its_section_put_the_vertex()
+    ensures last { (shape : Shape) (opening : List ℕ) (log : List Event) (v : ℕ) → v < shape.fixed → Legal shape opening log
+        → IsClosed (state_of shape opening log) → 0 < length (state_of shape opening log).entries
+        → (member v (puts_in shape opening log (number_after shape opening log)) ≡ true)
+        ↔ (stamp_after shape opening log v ≡ number_after shape opening log) }
+    ensures closed { (shape : Shape) (opening : List ℕ) (before : List Event) (e : Event) → Legal shape opening (before ++ e ∷ [])
+        → number_after shape opening before < number_after shape opening (before ++ e ∷ []) → IsClosed (state_of shape opening before) }
+    ensures earlier { (shape : Shape) (opening : List ℕ) (before log : List Event) (e : Event) (v : ℕ) → v < shape.fixed
+        → Legal shape opening log → IsPrefix (before ++ e ∷ []) log → 0 < length (state_of shape opening before).entries
+        → number_after shape opening before < number_after shape opening (before ++ e ∷ [])
+        → (member v (puts_in shape opening log (number_after shape opening before)) ≡ true)
+        ↔ (stamp_after shape opening before v ≡ number_after shape opening before) }
+{}
+
 /// The list of a legal log has distinct items of the table, and each vertex.
 pub fn the_list_has_distinct_items_and_each_vertex()
     ensures distinct { (shape : Shape) (opening : List ℕ) (log : List Event) → Legal shape opening log → Distinct (state_of shape opening log).list }
@@ -56,6 +105,10 @@ pub fn the_state_of_written_out_logs()
     ensures two_entries { (state_of sample.shape sample.opening sample.two_entries).entries
         ≡ record { index = 7; add = true; u = 0; v = 1 } ∷ record { index = 8; add = false; u = 0; v = 1 } ∷ [] }
     ensures two_entries_sealed { (state_of sample.shape sample.opening sample.two_entries).unsealed ≡ [] }
+    // What was put before the first entry of this table, in the section of its first entry, and in that of its second.
+    ensures put_before { puts_in sample.shape sample.opening sample.put_and_take 1 ≡ 2 ∷ [] }
+    ensures put_first { puts_in sample.shape sample.opening sample.two_entries 2 ≡ 0 ∷ [] }
+    ensures put_second { puts_in sample.shape sample.opening sample.two_entries 3 ≡ [] }
 {}
 
 /// The edges after the entries of a written-out log: an edge comes with the first of two, and goes with the second. The table has one
@@ -83,7 +136,7 @@ pub fn each_condition_of_opening_words_counts()
     ensures stamps { Opens sample.shape sample.stamped_opening → ⊥ }
 {}
 
-/// Logs whose last store breaks one condition each are not legal.
+/// Logs whose last store breaks a condition are not legal. Each condition has a log of its own.
 pub fn each_condition_of_a_store_counts()
     // There is no word 9.
     ensures there { Legal sample.shape sample.opening (event 9 0 ∷ []) → ⊥ }
@@ -113,7 +166,9 @@ pub fn each_condition_of_a_store_counts()
     // A vertex word is stored and nothing was entered.
     ensures sealed_in_a_section { Legal sample.shape sample.opening (event 8 (sample.vertex 1 0) ∷ []) → ⊥ }
     // The stamp is that of the section before.
-    ensures own_stamp { Legal sample.shape sample.opening (sample.note (Enter true 7 0 1) ∷ event 8 (sample.vertex 1 0) ∷ []) → ⊥ }
+    ensures own_stamp { Legal sample.shape sample.opening (sample.open_section ++ event 8 (sample.vertex 1 0) ∷ []) → ⊥ }
+    // The section has not put the vertex.
+    ensures sealed_where_put { Legal sample.shape sample.opening sample.sealed_unmoved → ⊥ }
     // A vertex word is stored twice in a section.
     ensures sealed_once { Legal sample.shape sample.opening (sample.sealed_section ++ event 8 (sample.vertex 2 0) ∷ []) → ⊥ }
     // Items 0 and 1 have one pair.

@@ -1,4 +1,6 @@
-// The rule of the words, and what each step of a seat tells.
+//! The rule of the words, and what each step of a seat tells.
+//!
+//! All that is known of the words by all seats is `OneWriter`. Each other type names a step and what its seat knows after it.
 use crate::view::{Opening, View};
 use atomic_table::{Join, Play, Split, TableRule};
 
@@ -13,36 +15,36 @@ impl TableRule<u8, View, Opening> for OneWriter {
     ghost first = { first_view };
 }
 
-/// A load: what was seen grows, or stays.
+/// A load: what was seen grows, or stays, and the seat has made a load more.
 pub(crate) struct Look;
 
 impl Play<u8, View> for Look {
-    ghost use Rattle.kc_table.specs.Rule.{Loads};
+    ghost use Rattle.kc_table.specs.Rule.{TellsLoad};
 
-    ghost then = { Loads };
+    ghost then = { TellsLoad };
 }
 
 /// A store: the log grows by it.
 pub(crate) struct Put;
 
 impl Play<u8, View> for Put {
-    ghost use Rattle.kc_table.specs.Rule.{Stores};
+    ghost use Rattle.kc_table.specs.Rule.{TellsStore};
 
-    ghost then = { Stores };
+    ghost then = { TellsStore };
 }
 
-/// A split: the new seat is a pass that has seen as much.
+/// A split: the new seat is a pass that has seen as much and has made no step, and the old one has made a split more.
 pub(crate) struct Fork;
 
 impl Split<View> for Fork {
-    ghost use Rattle.kc_table.specs.Rule.{pass_of};
+    ghost use Rattle.kc_table.specs.Rule.{parted, pass_of};
 
-    ghost left = { λ v. v };
+    ghost left = { parted };
 
     ghost right = { pass_of };
 }
 
-/// A join: the one keeps what the other has seen beside its own until its next load.
+/// A join: the one keeps what the other has seen beside its own until its next load, and has made the steps of both.
 pub(crate) struct Told;
 
 impl Join<View> for Told {

@@ -1,4 +1,4 @@
-// Steps on real tables.
+//! Steps on real tables: what one pass is told another can load, and what a thread loads while another stores never goes back.
 ghost use Rattle.std.specs.Prelude.{◌≡◌, ◌<◌, ◌≤◌, []};
 ghost use mathlib.Core.List.{IsPrefix};
 ghost use Rattle.kc_table.specs.Samples.{lone_shape, lone_words};

@@ -1,4 +1,4 @@
-// What a seat knows of a table. No value of a view is ever made: it exists in the proofs alone.
+//! What a seat knows of a table, and which steps it has made. No value of a view is ever made: it exists in the proofs alone.
 use kc_words::Shape;
 use std::collections::LinkedList;
 
@@ -15,7 +15,8 @@ pub struct Opening {
     pub words: Vec<u64>,
 }
 
-/// What a seat knows: the table's shape and opening words, the stores that it has seen, and what it was told of since its last load.
+/// What a seat knows: the table's shape and opening words, the stores that it has seen, what it was told of since its last load, and how
+/// many loads and splits it has made.
 pub struct View {
     pub spent: bool,
     pub writes: bool,
@@ -23,4 +24,6 @@ pub struct View {
     pub opening: LinkedList<u64>,
     pub seen: LinkedList<Event>,
     pub kept: LinkedList<LinkedList<Event>>,
+    pub loads: u64,
+    pub splits: u64,
 }

@@ -1,3 +1,4 @@
+-- Each refused log is one of the samples.
 use Rattle.kc_table.proofs.Samples as sample
 use Rattle.kc_table.proofs.laws.each_condition_of_a_store_counts.Goals as goal
 
@@ -57,3 +58,6 @@ returns-clause-inside c = sample.inside
 
 pub returns-clause-outside : goal.returns-clause-outside
 returns-clause-outside c = sample.outside
+
+pub returns-clause-sealed_where_put : goal.returns-clause-sealed_where_put
+returns-clause-sealed_where_put c = sample.sealed_where_put

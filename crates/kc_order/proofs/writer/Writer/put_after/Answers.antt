@@ -1,10 +1,10 @@
+-- The plain list's writes, stored with the note before the last.
 use Rattle.std.proofs.Common.{subst}
 use Rattle.kc_words.specs.NoteWord.{note_word}
 use Rattle.kc_words.specs.declared.note.NoteWord.TheVariants.{Put}
 use Rattle.kc_table.specs.Legal.{Legal}
 use Rattle.kc_table.specs.Log.{Seen}
-use Rattle.kc_order.specs.Writers.{Puts}
-use Rattle.kc_order.proofs.Writing.{Wrote, highest-at, put-fits, put-at, put-list}
+use Rattle.kc_order.proofs.Writing.{Wrote, highest-at, put-fits, put-at, put-now, twice-put}
 use Rattle.kc_order.proofs.writer.Writer.put_after.Goals as goal
 
 pub put_after-requires-clause-versions : goal.put_after-requires-clause-versions
@@ -36,5 +36,7 @@ pub returns : goal.returns
 returns c =
     let e = c.put_after.ensures in
     let w : Wrote c.self.inside.seat c.put_after.new.self (note_word (Put c.args.x c.args.p)) c.args.x c.writes.result.now = put-at c.self.inside.seat c.args.self.now c.args.words.now c.self.inside.plain c.put_after.new.self c.args.x c.args.p c.writes.result.now c.self.view_is c.requires.table c.self.invariant c.requires.versions c.requires.x_in c.requires.p_in c.requires.differ c.requires.section c.writes.ensures e.items e.fixed e.list e.written e.highest in
-    let puts : Puts c.self.inside.seat c.store_writes.new.seat c.args.x c.args.p = put-list c.self.inside.seat c.store_writes.new.seat c.self.inside.plain c.put_after.new.self c.args.x c.args.p c.writes.result.now c.self.invariant w e.list c.store_writes.ensures in
-    subst (λ s. Puts s c.store_writes.new.seat c.args.x c.args.p) c.self.view_is puts
+    put-now c.self.inside.seat c.args.self.now c.store_writes.new.seat c.args.words.now c.self.inside.plain c.put_after.new.self c.args.x c.args.p
+    c.writes.result.now
+    c.self.view_is c.requires.table c.self.invariant w c.requires.x_in c.requires.p_in e.list c.store_writes.ensures
+    (twice-put c.self.inside.plain c.put_after.new.self c.args.x e.once e.twice)

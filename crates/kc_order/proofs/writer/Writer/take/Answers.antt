@@ -1,10 +1,10 @@
+-- The plain list's one write, stored with the note before it.
 use Rattle.std.proofs.Common.{subst}
 use Rattle.kc_words.specs.NoteWord.{note_word}
 use Rattle.kc_words.specs.declared.note.NoteWord.TheVariants.{Take}
 use Rattle.kc_table.specs.Legal.{Legal}
 use Rattle.kc_table.specs.Log.{Seen}
-use Rattle.kc_order.specs.Writers.{Takes}
-use Rattle.kc_order.proofs.Writing.{Wrote, highest-at, item-fits, taken-at, taken-list}
+use Rattle.kc_order.proofs.Writing.{Wrote, highest-at, item-fits, taken-at, taken-now, twice-take}
 use Rattle.kc_order.proofs.writer.Writer.take.Goals as goal
 
 pub take-requires-clause-versions : goal.take-requires-clause-versions
@@ -29,5 +29,5 @@ pub returns : goal.returns
 returns c =
     let e = c.take.ensures in
     let w : Wrote c.self.inside.seat c.take.new.self (note_word (Take c.args.x)) c.args.x c.writes.result.now = taken-at c.self.inside.seat c.args.self.now c.args.words.now c.self.inside.plain c.take.new.self c.args.x c.writes.result.now c.self.view_is c.requires.table c.self.invariant c.requires.versions c.requires.x_in c.requires.free c.writes.ensures e.items e.fixed e.list e.written e.highest in
-    let takes : Takes c.self.inside.seat c.store_writes.new.seat c.args.x = taken-list c.self.inside.seat c.store_writes.new.seat c.self.inside.plain c.take.new.self c.args.x c.writes.result.now c.self.invariant w e.list c.store_writes.ensures in
-    subst (λ s. Takes s c.store_writes.new.seat c.args.x) c.self.view_is takes
+    taken-now c.self.inside.seat c.args.self.now c.store_writes.new.seat c.self.inside.plain c.take.new.self c.args.x c.writes.result.now
+    c.self.view_is c.self.invariant w c.requires.x_in e.list c.store_writes.ensures (twice-take c.self.inside.plain c.take.new.self c.args.x e.written e.single)

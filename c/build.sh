@@ -1,0 +1,23 @@
+#!/bin/sh
+# Makes build/libkcore.a and build/libkcore.so from the proved crate kc_c. Needs `rt` on the path, cc and ar.
+# Prints the folder that they lie in.
+set -eu
+top=$(cd "$(dirname "$0")/.." && pwd)
+build=$top/build
+# The kit's allocator, which calls the program's malloc, realloc and free, lies beside `rt`.
+allocator=$(dirname "$(dirname "$(readlink -f "$(command -v rt)")")")/c/liblibc_c.a
+
+(cd "$top/crates/kc_c" && rt lib) > /dev/null
+mkdir -p "$build"
+rm -f "$build/libkcore.a" "$build/libkcore.so"
+ar -M << END
+create $build/libkcore.a
+addlib $top/crates/kc_c/out/libkc_c.a
+addlib $allocator
+save
+end
+END
+printf 'KCORE { global: kcore_*; local: *; };\n' > "$build/exports.map"
+${CC:-cc} -shared -Wl,-z,text,-z,defs -Wl,--version-script="$build/exports.map" -Wl,--whole-archive "$build/libkcore.a" \
+    -Wl,--no-whole-archive -o "$build/libkcore.so"
+echo "$build"

@@ -1,0 +1,126 @@
+//! Core numbers, their certificates and k-cores, for callers in C.
+//!
+//! A graph is given by its number of vertices, which are the numbers below it, and a list of edges: loops are dropped, and an edge that
+//! is listed again, in either direction, counts once (`kc_graph/specs/Bulk.antt`). Each function below calls one of `kc_graph` or
+//! `kc_cert` and promises what that one does. No function has a `requires`, since nothing checks a caller in C: each argument is tested,
+//! and the `status` of the answer says what was wrong. Where it is not 0 nothing was written.
+//!
+//! | Status | Meaning | `number` |
+//! |---|---|---|
+//! | 0 | done | of `kcore_k_core` the number of members, else 0 |
+//! | 1 | `core` has not one place for each vertex | 0 |
+//! | 2 | `order` has not one place for each vertex | 0 |
+//! | 3 | `members` has not one place for each vertex | 0 |
+//! | 4 | an end of an edge is no vertex | where the first such edge stands |
+//! | 5 | there is no memory | 0 |
+//! | 6 | the order does not certify the numbers | 0 |
+//!
+//! `include/kcore.h` declares the functions for C, and `examples/c` calls them.
+#![tactic(auto)]
+
+mod answer;
+mod calls;
+mod members;
+#[cfg(test)]
+mod tests;
+
+ghost use Rattle.std.specs.Prelude.{◌≡◌, ◌≢◌, ◌&&◌, ◌||◌, ◌==◌, not, true, length, is_some, Some, take, drop};
+ghost use Rattle.kc_graph.specs.Bulk.{graph_with};
+ghost use Rattle.kc_graph.specs.Certificate.{Certifies};
+ghost use Rattle.kc_graph.specs.Core.{AreCoreNumbers};
+ghost use Rattle.kc_c.specs.Answers.{first_stranger};
+ghost use Rattle.kc_c.specs.KCores.{AreCoreMembers};
+
+pub use crate::answer::Answer;
+use crate::answer::answer_to;
+use crate::calls::{check_numbers, write_core_numbers, write_decomposition, write_k_core};
+use kc_graph::Edge;
+use std::alloc::Global;
+
+/// Writes the core number of each vertex to its place in `core`.
+#[unsafe(no_mangle)]
+pub extern "C" fn kcore_core_numbers(
+    alloc: Global,
+    vertices: u32,
+    edges: &[Edge],
+    core: &mut [u32],
+) -> Answer
+    ensures known { (result.status == 0 || result.status == 1 || result.status == 4 || result.status == 5) ≡ true }
+    ensures done { result.status ≡ 0 → AreCoreNumbers (graph_with vertices edges.now) core.new }
+    ensures kept { result.status ≢ 0 → core.new ≡ core.old }
+    ensures core_length { result.status == 1 ≡ not (length core.old == vertices) }
+    ensures stranger { result.status == 4 ≡ (length core.old == vertices && is_some (first_stranger vertices edges.now)) }
+    ensures place { result.status ≡ 4 → first_stranger vertices edges.now ≡ Some result.number }
+    ensures no_place { result.status ≢ 4 → result.number ≡ 0 }
+{
+    answer_to(write_core_numbers(alloc, vertices, edges, core))
+}
+
+/// Writes the core number of each vertex to its place in `core`, and to `order` the vertices in an order that certifies these numbers:
+/// they never fall along it, and each vertex has at most as many later neighbours as its number (a degeneracy order).
+#[unsafe(no_mangle)]
+pub extern "C" fn kcore_degeneracy_order(
+    alloc: Global,
+    vertices: u32,
+    edges: &[Edge],
+    core: &mut [u32],
+    order: &mut [u32],
+) -> Answer
+    ensures known { (result.status == 0 || result.status == 1 || result.status == 2 || result.status == 4 || result.status == 5) ≡ true }
+    ensures certified { result.status ≡ 0 → Certifies (graph_with vertices edges.now) core.new order.new }
+    ensures seidman { result.status ≡ 0 → AreCoreNumbers (graph_with vertices edges.now) core.new }
+    ensures core_kept { result.status ≢ 0 → core.new ≡ core.old }
+    ensures order_kept { result.status ≢ 0 → order.new ≡ order.old }
+    ensures core_length { result.status == 1 ≡ not (length core.old == vertices) }
+    ensures order_length { result.status == 2 ≡ (length core.old == vertices && not (length order.old == vertices)) }
+    ensures stranger { result.status == 4
+        ≡ (length core.old == vertices && length order.old == vertices && is_some (first_stranger vertices edges.now)) }
+    ensures place { result.status ≡ 4 → first_stranger vertices edges.now ≡ Some result.number }
+    ensures no_place { result.status ≢ 4 → result.number ≡ 0 }
+{
+    answer_to(write_decomposition(alloc, vertices, edges, core, order))
+}
+
+/// Whether `core` has a number for each vertex and `order` certifies these numbers, which are the core numbers then. Both may have any
+/// length and content.
+#[unsafe(no_mangle)]
+pub extern "C" fn kcore_check(
+    alloc: Global,
+    vertices: u32,
+    edges: &[Edge],
+    core: &[u32],
+    order: &[u32],
+) -> Answer
+    ensures known { (result.status == 0 || result.status == 4 || result.status == 5 || result.status == 6) ≡ true }
+    ensures certified { result.status ≡ 0 → Certifies (graph_with vertices edges.now) core.now order.now }
+    ensures seidman { result.status ≡ 0 → AreCoreNumbers (graph_with vertices edges.now) core.now }
+    ensures not_certified { result.status ≡ 6 → Certifies (graph_with vertices edges.now) core.now order.now → ⊥ }
+    ensures stranger { result.status == 4 ≡ is_some (first_stranger vertices edges.now) }
+    ensures place { result.status ≡ 4 → first_stranger vertices edges.now ≡ Some result.number }
+    ensures no_place { result.status ≢ 4 → result.number ≡ 0 }
+{
+    answer_to(check_numbers(alloc, vertices, edges, core, order))
+}
+
+/// Writes the vertices of the k-core to the front of `members`, in ascending order; `number` is how many there are. What stands behind
+/// them in `members` stays as it was.
+#[unsafe(no_mangle)]
+pub extern "C" fn kcore_k_core(
+    alloc: Global,
+    vertices: u32,
+    edges: &[Edge],
+    k: u32,
+    members: &mut [u32],
+) -> Answer
+    ensures known { (result.status == 0 || result.status == 3 || result.status == 4 || result.status == 5) ≡ true }
+    ensures done { result.status ≡ 0 → AreCoreMembers (graph_with vertices edges.now) k (take result.number members.new) }
+    ensures rest { result.status ≡ 0 → drop result.number members.new ≡ drop result.number members.old }
+    ensures kept { result.status ≢ 0 → members.new ≡ members.old }
+    ensures members_length { result.status == 3 ≡ not (length members.old == vertices) }
+    ensures stranger { result.status == 4 ≡ (length members.old == vertices && is_some (first_stranger vertices edges.now)) }
+    ensures place { result.status ≡ 4 → first_stranger vertices edges.now ≡ Some result.number }
+    ensures no_place { result.status ≡ 3 → result.number ≡ 0 }
+    ensures no_memory { result.status ≡ 5 → result.number ≡ 0 }
+{
+    answer_to(write_k_core(alloc, vertices, edges, k, members))
+}

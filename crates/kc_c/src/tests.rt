@@ -1,0 +1,131 @@
+//! The exported functions, called with small graphs. The answers are worked out by hand.
+use crate::{Answer, kcore_check, kcore_core_numbers, kcore_degeneracy_order, kcore_k_core};
+use kc_graph::Edge;
+use std::process::Abort;
+use std::test::Fail;
+
+/// Edges of these ends.
+fn edges_of<R: AllocGlobal>(rt: &R, ends: &[(u32, u32)]) -> Result<Vec<Edge>, Fail> {
+    let mut edges = Vec::new(rt.alloc());
+    for (u, v) in ends {
+        edges.push(Edge { u: *u, v: *v })?;
+    }
+    Ok(edges)
+}
+
+/// A triangle with a tail, listed with a loop, a repeat and a repeat the other way round, and a vertex that has a loop alone.
+const TAILED: [(u32, u32); 7] = [(0, 1), (1, 0), (4, 4), (2, 0), (1, 2), (1, 2), (3, 2)];
+
+fn done(number: usize) -> Answer {
+    Answer { status: 0, number }
+}
+
+fn refused(status: u32) -> Answer {
+    Answer { status, number: 0 }
+}
+
+#[test]
+fn the_numbers_and_order_of_a_triangle_with_a_tail(rt: HostRuntime) -> Result<(), Fail> {
+    let edges = edges_of(&rt, &TAILED)?;
+    let mut core = [9; 5];
+    assert_eq!(rt;
+        kcore_core_numbers(rt.alloc(), 5, &edges, &mut core),
+        done(0)
+    );
+    assert_eq!(rt; core, [2, 2, 2, 1, 0]);
+
+    let (mut core, mut order) = ([9; 5], [9; 5]);
+    assert_eq!(rt;
+        kcore_degeneracy_order(rt.alloc(), 5, &edges, &mut core, &mut order),
+        done(0)
+    );
+    assert_eq!(rt; core, [2, 2, 2, 1, 0]);
+    assert_eq!(rt; kcore_check(rt.alloc(), 5, &edges, &core, &order), done(0));
+    Ok(())
+}
+
+#[test]
+fn numbers_that_no_order_certifies(rt: HostRuntime) -> Result<(), Fail> {
+    let edges = edges_of(&rt, &TAILED)?;
+    let order = [4, 3, 0, 1, 2];
+    let cases: [(&str, &[u32], &[u32], u32); 5] = [
+        ("right", &[2, 2, 2, 1, 0], &order, 0),
+        ("a number too high", &[2, 2, 2, 2, 0], &order, 6),
+        ("a number too low", &[2, 2, 1, 1, 0], &order, 6),
+        ("the order falls", &[2, 2, 2, 1, 0], &[3, 4, 0, 1, 2], 6),
+        ("the lists are short", &[2, 2], &[0], 6),
+    ];
+    for (what, core, order, status) in cases {
+        assert_eq!(rt;
+            kcore_check(rt.alloc(), 5, &edges, core, order),
+            refused(status),
+            "{what}"
+        );
+    }
+    Ok(())
+}
+
+#[test]
+fn the_members_of_each_k_core(rt: HostRuntime) -> Result<(), Fail> {
+    let edges = edges_of(&rt, &TAILED)?;
+    let cases: [(u32, usize, [u32; 5]); 4] = [
+        (0, 5, [0, 1, 2, 3, 4]),
+        (1, 4, [0, 1, 2, 3, 9]),
+        (2, 3, [0, 1, 2, 9, 9]),
+        (3, 0, [9, 9, 9, 9, 9]),
+    ];
+    for (k, number, after) in cases {
+        let mut members = [9; 5];
+        assert_eq!(rt;
+            kcore_k_core(rt.alloc(), 5, &edges, k, &mut members),
+            done(number),
+            "{k}"
+        );
+        assert_eq!(rt; members, after, "{k}");
+    }
+    Ok(())
+}
+
+#[test]
+fn a_refused_call_writes_nothing(rt: HostRuntime) -> Result<(), Fail> {
+    let edges = edges_of(&rt, &TAILED)?;
+    let (mut core, mut order) = ([9; 5], [9; 6]);
+    let stranger = Answer {
+        status: 4,
+        number: 2,
+    };
+    assert_eq!(rt;
+        kcore_core_numbers(rt.alloc(), 6, &edges, &mut core),
+        refused(1)
+    );
+    assert_eq!(rt;
+        kcore_core_numbers(rt.alloc(), 4, &edges, &mut core[..4]),
+        stranger
+    );
+    assert_eq!(rt;
+        kcore_degeneracy_order(rt.alloc(), 4, &edges, &mut core, &mut order),
+        refused(1)
+    );
+    assert_eq!(rt;
+        kcore_degeneracy_order(rt.alloc(), 5, &edges, &mut core, &mut order),
+        refused(2)
+    );
+    assert_eq!(rt;
+        kcore_degeneracy_order(rt.alloc(), 4, &edges, &mut core[..4], &mut order[..4]),
+        stranger
+    );
+    assert_eq!(rt; kcore_check(rt.alloc(), 4, &edges, &core, &order), stranger);
+    assert_eq!(rt;
+        kcore_k_core(rt.alloc(), 5, &edges, 1, &mut order),
+        refused(3)
+    );
+    assert_eq!(rt;
+        kcore_k_core(rt.alloc(), 4, &edges, 1, &mut order[..4]),
+        stranger
+    );
+    assert_eq!(rt; core, [9; 5]);
+    assert_eq!(rt; order, [9; 6]);
+
+    assert_eq!(rt; kcore_core_numbers(rt.alloc(), 0, &[], &mut []), done(0));
+    Ok(())
+}

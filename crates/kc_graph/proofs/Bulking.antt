@@ -1,0 +1,119 @@
+-- The graph of rows that have just the listed edges.
+use Rattle.std.proofs.Common.{◌≡◌, ◌≢◌, ◌≤◌, ◌<◌, ◌+◌, ◌-◌, ◌^◌, ◌/◌, ℕ, suc, zero, Bool, true, false, cond, not, ◌&&◌, ◌||◌, List, [], ◌∷◌, ◌++◌, length, map, eqb, ltb, refl, sym, ◌∙◌, ap, ap₂, subst, inl, inr, arith, ltb-true, lt-ltb, le-ltb, eq-eqb, eqb-true, set, Vec, Global}
+use Rattle.std.specs.Prelude.{All}
+use Rattle.std.specs.List.{filter, list_any, dedup}
+use Rattle.std.specs.List.Sorted.{IsStrictlyIncreasing}
+use Rattle.std.specs.Cmp.{both_ways}
+use Rattle.std.specs.Ordering.{eq_by_cmp}
+use Rattle.std.specs.FinSet.{FinSet, contains, contains-from_list, from_list, same_set}
+use Rattle.std.proofs.lemmas.Bool.{cases_Bool, cases_lt, cases_order, or_cases, or_left, or_right, or_from, and_parts, and_from, false≢true, true≢false, false_from_ne_true}
+use Rattle.std.proofs.lemmas.List.Elements.{All-tail}
+use Rattle.std.proofs.lemmas.List.Kept.{Contains-dedup_nat, Contains-from_dedup}
+use Rattle.kc_distinct.specs.Lists.{member}
+use Rattle.kc_distinct.proofs.Counting.{member-from_Contains, Contains-from_member}
+use Rattle.kc_graph.specs.SimpleGraph.{SimpleGraph, adjacent, pair_cmp}
+use Rattle.kc_graph.specs.Edges.{edge}
+use Rattle.kc_graph.specs.Rows.{lists, row, graph_of, IsAdjacency}
+use Rattle.kc_graph.specs.Bulk.{graph_with, is_no_loop, is_within, is_between, are_joined}
+use Rattle.kc_graph.specs.declared.bulk.Edge.{Edge}
+use Rattle.kc_graph.proofs.Buckets.{lists-set, length-lists, row-set_same, row-set_other}
+use Rattle.kc_graph.proofs.Law.{adjacent-self}
+use Rattle.kc_graph.proofs.Ends.{joins, joins-true, joins-edge, edge-joins, joins-sym}
+use Rattle.kc_graph.proofs.RowsLemmas.{pair_total, pair_exact, same_pair, tied_pair, contains-edges, size-graph_of}
+
+-- a list without its repeats has the same members
+pub member-dedup : (w : ℕ) (xs : List ℕ) → member w (dedup eqb xs) ≡ member w xs
+member-dedup w xs = both_ways _ _
+    (λ h. member-from_Contains xs w (Contains-from_dedup eqb xs w (Contains-from_member (dedup eqb xs) w h)))
+    (λ h. member-from_Contains (dedup eqb xs) w (Contains-dedup_nat xs w (Contains-from_member xs w h)))
+
+-- an edge that is no loop is the pair of two ends just where it is between them
+edge-is : (e : Edge) (a b : ℕ) → is_no_loop e ≡ true → eq_by_cmp pair_cmp (a, b) (edge e.u e.v) ≡ (ltb a b && joins e.u e.v a b)
+edge-is e a b two =
+    let differ : e.u ≡ e.v → ⊥ = λ same. true≢false (sym two ∙ ap not (eq-eqb e.u e.v same)) in
+    both_ways _ _
+    (λ h. let k = edge-joins e.u e.v a b differ (same_pair (a, b) (edge e.u e.v) h) in and_from _ _ (lt-ltb a b k.0) k.1)
+    (λ h. let k = and_parts (ltb a b) (joins e.u e.v a b) h in tied_pair (a, b) (edge e.u e.v) (joins-edge e.u e.v a b differ (ltb-true a b k.0) k.1))
+
+and-or : (l a b : Bool) → ((l && a) || (l && b)) ≡ (l && (a || b))
+and-or l a b = grind arith
+
+listed : (edges : List Edge) (a b : ℕ) → list_any (eq_by_cmp pair_cmp (a, b)) (map (λ e. edge e.u e.v) (filter is_no_loop edges)) ≡ (ltb a b && are_joined edges a b)
+listed [] a b = both_ways _ _ (λ h. absurd (false≢true h)) (λ h. absurd (false≢true (and_parts (ltb a b) false h).1))
+listed (e ∷ edges) a b =
+    elim (is_no_loop e) as (λ t. is_no_loop e ≡ t → list_any (eq_by_cmp pair_cmp (a, b)) (map (λ e. edge e.u e.v) (cond t (e ∷ filter is_no_loop edges) (filter is_no_loop edges)))
+        ≡ (ltb a b && ((t && joins e.u e.v a b) || are_joined edges a b))) [
+      | true ↦ λ two. ap₂ (λ s t. s || t) (edge-is e a b two) (listed edges a b) ∙ and-or (ltb a b) (joins e.u e.v a b) (are_joined edges a b)
+      | false ↦ λ _. listed edges a b
+    ] refl
+
+pub contains-with : (vertices : ℕ) (edges : List Edge) (a b : ℕ) → contains (graph_with vertices edges).edges (a, b) ≡ (ltb a b && are_joined edges a b)
+unfolding graph_with
+contains-with vertices edges a b = contains-from_list pair_total (map (λ e. edge e.u e.v) (filter is_no_loop edges)) (a, b) ∙ listed edges a b
+
+pub size-with : (vertices : ℕ) (edges : List Edge) → (graph_with vertices edges).size ≡ vertices
+unfolding graph_with
+size-with vertices edges = refl
+
+-- an edge is between two in either order, and between no vertex and itself
+between-turned : (e : Edge) (v w : ℕ) → is_between v w e ≡ is_between w v e
+between-turned e v w = ap (λ t. is_no_loop e && t) (joins-sym e.u e.v v w)
+
+pub joined-turned : (edges : List Edge) (v w : ℕ) → are_joined edges v w ≡ are_joined edges w v
+joined-turned [] v w = refl
+joined-turned (e ∷ edges) v w = ap₂ (λ s t. s || t) (between-turned e v w) (joined-turned edges v w)
+
+between-itself : (e : Edge) (v : ℕ) → is_between v v e ≡ false
+between-itself e v = false_from_ne_true (is_between v v e) (λ h.
+    let k = and_parts (is_no_loop e) (joins e.u e.v v v) h in
+    let same : e.u ≡ e.v = elim (joins-true e.u e.v v v k.1) [ inl p ↦ sym p.0 ∙ p.1 | inr p ↦ sym p.1 ∙ p.0 ] in
+    true≢false (sym k.0 ∙ ap not (eq-eqb e.u e.v same)))
+
+pub joined-itself : (edges : List Edge) (v : ℕ) → are_joined edges v v ≡ false
+joined-itself [] v = refl
+joined-itself (e ∷ edges) v = or_from _ _ (between-itself e v) (joined-itself edges v)
+
+pub adjacent-with_edges : (vertices : ℕ) (edges : List Edge) (v w : ℕ) → adjacent (graph_with vertices edges) v w ≡ are_joined edges v w
+adjacent-with_edges vertices edges v w = elim (cases_order v w) [
+  | inl e ↦ ap (adjacent (graph_with vertices edges) v) (sym e) ∙ (adjacent-self (graph_with vertices edges) v ∙ sym (ap (are_joined edges v) (sym e) ∙ joined-itself edges v))
+  | inr o ↦ elim o [
+    | inl l ↦ rw (lt-ltb v w l, contains-with vertices edges v w, lt-ltb v w l) refl
+    | inr l ↦ rw (le-ltb v w (omega arith), lt-ltb w v l, contains-with vertices edges w v, lt-ltb w v l) (joined-turned edges w v)
+  ]
+]
+
+-- joined vertices are vertices
+joined-within : (vertices : ℕ) (edges : List Edge) (v w : ℕ) → All (λ e. is_within vertices e ≡ true) edges → are_joined edges v w ≡ true → w < vertices
+joined-within vertices [] v w all h = absurd (false≢true h)
+joined-within vertices (e ∷ edges) v w all h = elim (or_cases (is_between v w e) (are_joined edges v w) h) [
+  | inl k ↦
+      let both = and_parts (ltb e.u vertices) (ltb e.v vertices) (all 0 e (omega arith)) in
+      let first : e.u < vertices = ltb-true e.u vertices both.0 in
+      let second : e.v < vertices = ltb-true e.v vertices both.1 in
+      elim (joins-true e.u e.v v w (and_parts (is_no_loop e) (joins e.u e.v v w) k).1) [ inl p ↦ omega (arith, p.1) | inr p ↦ omega (arith, p.1) ]
+  | inr k ↦ joined-within vertices edges v w (All-tail (λ e. is_within vertices e ≡ true) e edges all) k
+]
+
+module _ (rows : List (List ℕ)) (edges : List Edge) (each : (v w : ℕ) → member w (row rows v) ≡ are_joined edges v w) where
+  pub adjacency-with : ((v : ℕ) → IsStrictlyIncreasing (row rows v)) → All (λ e. is_within (length rows) e ≡ true) edges → IsAdjacency rows
+  adjacency-with ascends all = record {
+    ascends = ascends;
+    within = λ v w m. joined-within (length rows) edges v w all (sym (each v w) ∙ m);
+    irreflexive = λ v. each v v ∙ joined-itself edges v;
+    symmetric = λ v w. each v w ∙ (joined-turned edges v w ∙ sym (each w v));
+  }
+
+  pub graph_of-with : graph_of rows ≡ graph_with (length rows) edges
+  graph_of-with =
+      let same : (graph_of rows).edges ≡ (graph_with (length rows) edges).edges = same_set pair_total pair_exact _ _ (λ q.
+      contains-edges rows q.0 q.1 ∙ (ap (λ t. ltb q.0 q.1 && t) (each q.0 q.1) ∙ sym (contains-with (length rows) edges q.0 q.1))) in
+      let size : (graph_of rows).size ≡ (graph_with (length rows) edges).size = size-graph_of rows ∙ sym (size-with (length rows) edges) in
+      ap₂ (λ (n : ℕ) (e : FinSet pair_cmp). let g : SimpleGraph = record { size = n; edges = e } in g) size same
+
+-- one of several rows is replaced
+module _ (rows : List (Vec ℕ Global)) (i : ℕ) (s : Vec ℕ Global) where
+  pub row-replaced : i < length rows → row (lists (set rows i s)) i ≡ s.items
+  row-replaced l = ap (λ (t : List (List ℕ)). row t i) (lists-set rows i s) ∙ row-set_same (lists rows) i s.items (omega (arith, length-lists rows))
+
+  pub row-other : (x : ℕ) → x ≢ i → row (lists (set rows i s)) x ≡ row (lists rows) x
+  row-other x ne = ap (λ (t : List (List ℕ)). row t x) (lists-set rows i s) ∙ row-set_other (lists rows) i x s.items ne

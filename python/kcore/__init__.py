@@ -1,0 +1,27 @@
+"""Core numbers by proved code.
+
+The core number of a vertex is the greatest k for which some set of vertices has it, and gives each member at least k neighbours inside the
+set [1]_. The functions of this module call a library whose contracts are proved for all inputs. What is said here of results holds of the
+library's; this module, which hands the arguments over, is tested only.
+
+A graph is given as `edges`, in one of three forms:
+
+- an array of two columns and of an integer type, one row for each edge. An array of `numpy.uint32` in rows is read where it lies, and
+  others are copied. Results are arrays.
+- an iterable of pairs of integers. Results are lists.
+- a graph of networkx. Its nodes may be anything, and results speak of nodes.
+
+In the first two forms the vertices are the numbers below `vertices`, or up to the greatest end where `vertices` is left out. Loops are
+dropped, and an edge that is listed again, in either direction, counts once.
+
+The library is the file that the environment variable KCORE_LIBRARY names, or else build/libkcore.so of this repository, which c/build.sh
+makes. Other threads run during a call: none may write the arrays that it is given meanwhile.
+
+References
+----------
+.. [1] S. B. Seidman, "Network structure and minimum degree", Social Networks 5 (1983), 269-287.
+"""
+
+from ._api import NotAVertexError, check, core_numbers, degeneracy_order, k_core
+
+__all__ = ["NotAVertexError", "check", "core_numbers", "degeneracy_order", "k_core"]

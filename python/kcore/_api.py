@@ -1,0 +1,301 @@
+"""The functions that the package hands out."""
+
+from __future__ import annotations
+
+import sys
+from typing import TYPE_CHECKING, Any, Dict, Hashable, Iterable, List, Mapping, Optional, Sequence, Tuple, Union
+
+from . import _library, _lists
+
+if TYPE_CHECKING:
+    import networkx
+    import numpy
+
+    Edges = Union[numpy.ndarray, Iterable[Tuple[int, int]], networkx.Graph]
+    Numbers = Union[numpy.ndarray, List[int], Dict[Hashable, int]]
+    Vertices = Union[numpy.ndarray, List[int], List[Hashable]]
+
+
+class NotAVertexError(ValueError):
+    """An end of an edge is no vertex.
+
+    Attributes
+    ----------
+    place : int
+        Where the edge stands in the list.
+    edge : tuple of int
+        Its ends.
+    vertices : int
+        How many vertices there are.
+    """
+
+    def __init__(self, place: int, edge: Tuple[int, int], vertices: int) -> None:
+        super().__init__(f"edge {place} is {edge}, but the vertices are the numbers below {vertices}")
+        self.place = place
+        self.edge = edge
+        self.vertices = vertices
+
+
+class _Graph:
+    """A graph as the library takes it, and how its results are told."""
+
+    __slots__ = ("ends", "edges", "vertices", "like_array", "nodes")
+
+    def __init__(self, edges: Edges, vertices: Optional[int]) -> None:
+        self.nodes: Optional[List[Hashable]] = None
+        self.like_array = _lists.is_array(edges)
+        try:
+            if self.like_array:
+                if edges.ndim != 2 or edges.shape[1] != 2:
+                    if edges.size:
+                        raise ValueError(f"an array of edges has two columns, and this one has the shape {edges.shape}")
+                self.ends = _lists.from_array(edges)
+            elif _is_networkx(edges):
+                if vertices is not None:
+                    raise TypeError("a graph of networkx has its own vertices")
+                self.nodes = list(edges)
+                numbers = {node: number for number, node in enumerate(self.nodes)}
+                self.ends = _lists.from_pairs((numbers[u], numbers[v]) for u, v in edges.edges())
+                vertices = len(self.nodes)
+            else:
+                self.ends = _lists.from_pairs(edges)
+        except OverflowError:
+            raise ValueError(f"an end of an edge is not in 0 to {_lists.GREATEST}") from None
+        size = self.ends.size if self.like_array else len(self.ends)
+        self.edges = size // 2
+        if vertices is None:
+            vertices = 0 if not size else int(self.ends.max() if self.like_array else max(self.ends)) + 1
+        if not 0 <= vertices <= _lists.GREATEST:
+            raise ValueError(f"there are {vertices} vertices, and 0 to {_lists.GREATEST} are allowed")
+        self.vertices = vertices
+
+    def call(self, function: Any, *arguments: int) -> _library.Answer:
+        """Calls the library. Raises NotAVertexError or MemoryError."""
+        answer = function(self.vertices, _lists.address(self.ends), self.edges, *arguments)
+        if answer.status == _library.NOT_A_VERTEX:
+            if self.like_array:
+                first, second = self.ends.reshape(-1, 2)[answer.number]
+            else:
+                first, second = self.ends[2 * answer.number], self.ends[2 * answer.number + 1]
+            raise NotAVertexError(answer.number, (int(first), int(second)), self.vertices)
+        if answer.status == _library.NO_MEMORY:
+            raise MemoryError("there is no memory for the graph")
+        return answer
+
+    def room(self) -> Any:
+        """A place for each vertex."""
+        return _lists.room(self.vertices, self.like_array)
+
+    def told_numbers(self, core: Any) -> Numbers:
+        """One number for each vertex, as the caller wants it."""
+        if self.nodes is not None:
+            return dict(zip(self.nodes, core))
+        return core if self.like_array else core.tolist()
+
+    def told_vertices(self, listed: Any) -> Vertices:
+        """Vertices, as the caller wants them."""
+        if self.nodes is not None:
+            return [self.nodes[number] for number in listed]
+        return listed if self.like_array else listed.tolist()
+
+
+def _is_networkx(edges: Any) -> bool:
+    networkx = sys.modules.get("networkx")
+    return networkx is not None and isinstance(edges, networkx.Graph)
+
+
+def core_numbers(edges: Edges, vertices: Optional[int] = None) -> Numbers:
+    """The core number of each vertex.
+
+    Parameters
+    ----------
+    edges : array of shape (edges, 2), iterable of pairs of int, or networkx.Graph
+        The edges, in any order. Loops are dropped, and an edge that comes again, in either direction, counts once.
+    vertices : int, optional
+        How many vertices there are: they are the numbers below it. By default one more than the greatest end. Not for a graph of networkx.
+
+    Returns
+    -------
+    array of uint32 of shape (vertices,), list of int, or dict
+        The core number of each vertex at its place. A list for an iterable, and for a graph of networkx a dict with its nodes as keys.
+
+    Raises
+    ------
+    NotAVertexError
+        Where an end is not below `vertices`.
+    ValueError
+        Where the edges are no pairs, or an end or `vertices` does not fit 32 bits.
+    TypeError
+        Where the ends are no integers.
+    MemoryError
+        Where there is no memory.
+
+    Notes
+    -----
+    The core number is the greatest k for which some set of vertices has the vertex, and gives each member at least k neighbours inside the
+    set [1]_. Vertices are taken one after the other, those with the fewest neighbours left first [2]_, in time linear in the edges but for
+    sorting the neighbours of each vertex. Each call makes the graph anew. The direction of edges in a networkx.DiGraph, and how often an
+    edge comes in a networkx.MultiGraph, do not matter.
+
+    References
+    ----------
+    .. [1] S. B. Seidman, "Network structure and minimum degree", Social Networks 5 (1983), 269-287.
+    .. [2] V. Batagelj and M. Zaversnik, "An O(m) algorithm for cores decomposition of networks", 2003, arXiv:cs/0310049.
+
+    Examples
+    --------
+    >>> core_numbers([(0, 1), (1, 2), (2, 0), (2, 3)])
+    [2, 2, 2, 1]
+    >>> core_numbers([(0, 1)], vertices=3)
+    [1, 1, 0]
+    """
+    graph = _Graph(edges, vertices)
+    core = graph.room()
+    graph.call(_library.core_numbers, _lists.address(core), graph.vertices)
+    return graph.told_numbers(core)
+
+
+def degeneracy_order(edges: Edges, vertices: Optional[int] = None) -> Tuple[Numbers, Vertices]:
+    """The core number of each vertex, and the vertices in an order that certifies these numbers.
+
+    Parameters
+    ----------
+    edges : array of shape (edges, 2), iterable of pairs of int, or networkx.Graph
+        The edges, in any order. Loops are dropped, and an edge that comes again, in either direction, counts once.
+    vertices : int, optional
+        How many vertices there are: they are the numbers below it. By default one more than the greatest end. Not for a graph of networkx.
+
+    Returns
+    -------
+    core : array of uint32 of shape (vertices,), list of int, or dict
+        The core number of each vertex, as `core_numbers` returns it.
+    order : array of uint32 of shape (vertices,), list of int, or list of nodes
+        Each vertex once. The numbers never fall along it, and each vertex has at most as many later neighbours as its number.
+
+    Raises
+    ------
+    NotAVertexError, ValueError, TypeError, MemoryError
+        As `core_numbers` does.
+
+    See Also
+    --------
+    check : whether an order certifies numbers, wherever both come from.
+
+    Notes
+    -----
+    Such an order is a degeneracy order [1]_. With it anyone can check the numbers at one pass over the edges [2]_.
+
+    References
+    ----------
+    .. [1] D. W. Matula and L. L. Beck, "Smallest-last ordering and clustering and graph coloring algorithms", Journal of the ACM 30 (1983),
+       417-427.
+    .. [2] Y. Zhang, J. X. Yu, Y. Zhang and L. Qin, "A fast order-based approach for core maintenance", ICDE 2017, 337-348.
+
+    Examples
+    --------
+    >>> core, order = degeneracy_order([(0, 1), (1, 2), (2, 0), (2, 3)])
+    >>> core, order[0]
+    ([2, 2, 2, 1], 3)
+    """
+    graph = _Graph(edges, vertices)
+    core, order = graph.room(), graph.room()
+    graph.call(_library.degeneracy_order, _lists.address(core), graph.vertices, _lists.address(order), graph.vertices)
+    return graph.told_numbers(core), graph.told_vertices(order)
+
+
+def k_core(edges: Edges, k: int, vertices: Optional[int] = None) -> Vertices:
+    """The vertices of the k-core: the greatest set of vertices that gives each member at least `k` neighbours inside.
+
+    Parameters
+    ----------
+    edges : array of shape (edges, 2), iterable of pairs of int, or networkx.Graph
+        The edges, in any order. Loops are dropped, and an edge that comes again, in either direction, counts once.
+    k : int
+        How many neighbours inside each member has.
+    vertices : int, optional
+        How many vertices there are: they are the numbers below it. By default one more than the greatest end. Not for a graph of networkx.
+
+    Returns
+    -------
+    array of uint32, list of int, or list of nodes
+        The members, ascending; of a graph of networkx in the order of its nodes.
+
+    Raises
+    ------
+    NotAVertexError, TypeError, MemoryError
+        As `core_numbers` does.
+    ValueError
+        As `core_numbers` does, and where `k` is negative.
+
+    Examples
+    --------
+    >>> k_core([(0, 1), (1, 2), (2, 0), (2, 3)], 2)
+    [0, 1, 2]
+    """
+    if k < 0:
+        raise ValueError(f"k is {k}, and no number of neighbours is negative")
+    graph = _Graph(edges, vertices)
+    members = graph.room()
+    # No core number is as great as the greatest number of 32 bits, so that number stands for each greater k.
+    answer = graph.call(_library.k_core, min(k, _lists.GREATEST), _lists.address(members), graph.vertices)
+    return graph.told_vertices(members[: answer.number])
+
+
+def check(
+    edges: Edges,
+    core: Union[numpy.ndarray, Sequence[int], Mapping[Hashable, int]],
+    order: Union[numpy.ndarray, Sequence[int], Sequence[Hashable]],
+    vertices: Optional[int] = None,
+) -> bool:
+    """Whether an order certifies that numbers are the core numbers, wherever both come from.
+
+    Parameters
+    ----------
+    edges : array of shape (edges, 2), iterable of pairs of int, or networkx.Graph
+        The edges, in any order. Loops are dropped, and an edge that comes again, in either direction, counts once.
+    core : array, sequence of int, or mapping
+        The number of each vertex at its place; for a graph of networkx a mapping with its nodes as keys.
+    order : array or sequence
+        The vertices, or the nodes, in order.
+    vertices : int, optional
+        How many vertices there are: they are the numbers below it. By default one more than the greatest end. Not for a graph of networkx.
+
+    Returns
+    -------
+    bool
+        True exactly where `core` has a number for each vertex and nothing else, `order` has each vertex once and nothing else, the numbers
+        never fall along it, and each vertex has at most as many later neighbours as its number and at least as many neighbours whose number
+        is no less [1]_. The numbers are the core numbers then. Lists of any length and content may be given.
+
+    Raises
+    ------
+    NotAVertexError, ValueError, MemoryError
+        As `core_numbers` does.
+    TypeError
+        As `core_numbers` does, and where `core` or `order` has something else than integers.
+
+    References
+    ----------
+    .. [1] Y. Zhang, J. X. Yu, Y. Zhang and L. Qin, "A fast order-based approach for core maintenance", ICDE 2017, 337-348.
+
+    Examples
+    --------
+    >>> edges = [(0, 1), (1, 2), (2, 0), (2, 3)]
+    >>> check(edges, [2, 2, 2, 1], [3, 0, 1, 2])
+    True
+    >>> check(edges, [2, 2, 2, 2], [3, 0, 1, 2])
+    False
+    """
+    graph = _Graph(edges, vertices)
+    if graph.nodes is not None:
+        numbers = {node: number for number, node in enumerate(graph.nodes)}
+        if len(core) != len(graph.nodes) or any(node not in core for node in graph.nodes) or any(node not in numbers for node in order):
+            return False
+        core, order = [core[node] for node in graph.nodes], [numbers[node] for node in order]
+    try:
+        core, order = _lists.from_numbers(core), _lists.from_numbers(order)
+    except OverflowError:
+        # A number that does not fit 32 bits is neither a core number nor a vertex.
+        return False
+    answer = graph.call(_library.check, _lists.address(core), len(core), _lists.address(order), len(order))
+    return answer.status == _library.DONE

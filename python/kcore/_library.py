@@ -1,0 +1,40 @@
+"""The library as ctypes sees it. include/kcore.h says what each function does."""
+
+from __future__ import annotations
+
+import ctypes
+import os
+from pathlib import Path
+
+DONE, WRONG_CORE_LENGTH, WRONG_ORDER_LENGTH, WRONG_MEMBERS_LENGTH, NOT_A_VERTEX, NO_MEMORY, NOT_CERTIFIED = range(7)
+
+
+class Answer(ctypes.Structure):
+    """How a call ended: a status, and a number that goes with it."""
+
+    _fields_ = [("status", ctypes.c_uint32), ("number", ctypes.c_size_t)]
+
+
+def _load() -> ctypes.CDLL:
+    named = os.environ.get("KCORE_LIBRARY")
+    path = Path(named) if named else Path(__file__).resolve().parents[2] / "build" / "libkcore.so"
+    if not path.exists():
+        raise ImportError(f"there is no library {path}: make it by c/build.sh, or name it in KCORE_LIBRARY")
+    return ctypes.CDLL(str(path))
+
+
+_library = _load()
+_number, _length, _list = ctypes.c_uint32, ctypes.c_size_t, ctypes.c_void_p
+
+
+def _function(name: str, *arguments: type):
+    function = getattr(_library, name)
+    function.argtypes = [_number, _list, _length, *arguments]
+    function.restype = Answer
+    return function
+
+
+core_numbers = _function("kcore_core_numbers", _list, _length)
+degeneracy_order = _function("kcore_degeneracy_order", _list, _length, _list, _length)
+check = _function("kcore_check", _list, _length, _list, _length)
+k_core = _function("kcore_k_core", _number, _list, _length)

@@ -1,0 +1,240 @@
+"""The module beside networkx and igraph, and each refusal. Tests that need a package or a graph which is not here are skipped, and say so.
+
+graphs/karate.txt is part of the repository. Other graphs are looked for in bench/data, and in the folder that KCORE_GRAPHS names.
+"""
+
+import doctest
+import os
+import random
+import unittest
+from pathlib import Path
+
+import kcore
+from kcore import _api
+
+try:
+    import numpy
+except ImportError:
+    numpy = None
+try:
+    import networkx
+except ImportError:
+    networkx = None
+try:
+    import igraph
+except ImportError:
+    igraph = None
+
+TOP = Path(__file__).resolve().parents[2]
+FOLDERS = [TOP / "graphs", TOP / "bench" / "data", *([Path(os.environ["KCORE_GRAPHS"])] if "KCORE_GRAPHS" in os.environ else [])]
+
+needs_numpy = unittest.skipIf(numpy is None, "NumPy is not installed")
+needs_networkx = unittest.skipIf(networkx is None, "networkx is not installed")
+needs_igraph = unittest.skipIf(igraph is None, "igraph is not installed")
+
+# A triangle with a tail, listed with a loop, a repeat and a repeat the other way round, and a vertex that has a loop alone.
+TAILED = [(0, 1), (1, 0), (4, 4), (2, 0), (1, 2), (1, 2), (3, 2)]
+TAILED_CORE = [2, 2, 2, 1, 0]
+
+
+def random_graphs(count):
+    """Numbers of vertices and lists of edges, with loops and repeats."""
+    draws = random.Random(1)
+    for _ in range(count):
+        vertices = draws.randrange(0, 40)
+        edges = draws.randrange(0, 3 * vertices + 1)
+        yield vertices, [(draws.randrange(vertices), draws.randrange(vertices)) for _ in range(edges)]
+
+
+def edges_of(name):
+    """The edges of a graph with ids that are made dense, or a skip where its file is not here."""
+    for folder in FOLDERS:
+        path = folder / f"{name}.txt"
+        if path.exists():
+            pairs = [line.split()[:2] for line in path.read_text().splitlines() if line[:1].isdigit()]
+            ids = {name: number for number, name in enumerate(sorted({int(end) for pair in pairs for end in pair}))}
+            return [(ids[int(u)], ids[int(v)]) for u, v in pairs]
+    raise unittest.SkipTest(f"there is no {name}.txt in {', '.join(map(str, FOLDERS))}")
+
+
+def numbers_by_networkx(vertices, edges):
+    graph = networkx.Graph()
+    graph.add_nodes_from(range(vertices))
+    graph.add_edges_from((u, v) for u, v in edges if u != v)
+    numbers = networkx.core_number(graph) if vertices else {}
+    return [numbers[v] for v in range(vertices)]
+
+
+def numbers_by_igraph(vertices, edges):
+    return igraph.Graph(vertices, edges).simplify().coreness() if vertices else []
+
+
+class Results(unittest.TestCase):
+    def certified(self, edges, vertices, core, order):
+        self.assertEqual(sorted(order), list(range(vertices)))
+        self.assertTrue(kcore.check(edges, core, order, vertices=vertices))
+
+    def test_examples(self):
+        self.assertEqual(doctest.testmod(_api, verbose=False).failed, 0)
+
+    def test_a_triangle_with_a_tail(self):
+        self.assertEqual(kcore.core_numbers(TAILED), TAILED_CORE)
+        self.assertEqual(kcore.core_numbers(iter(TAILED), vertices=6), TAILED_CORE + [0])
+        self.assertEqual(kcore.core_numbers([list(edge) for edge in TAILED]), TAILED_CORE)
+        core, order = kcore.degeneracy_order(TAILED)
+        self.assertEqual(core, TAILED_CORE)
+        self.certified(TAILED, 5, core, order)
+        members = {0: [0, 1, 2, 3, 4], 1: [0, 1, 2, 3], 2: [0, 1, 2], 3: [], 2**40: []}
+        for k, wanted in members.items():
+            self.assertEqual(kcore.k_core(TAILED, k), wanted)
+
+    def test_no_edges(self):
+        self.assertEqual(kcore.core_numbers([]), [])
+        self.assertEqual(kcore.core_numbers([], vertices=2), [0, 0])
+        self.assertEqual(kcore.degeneracy_order([]), ([], []))
+        self.assertTrue(kcore.check([], [], []))
+
+    def test_what_no_order_certifies(self):
+        order = [4, 3, 0, 1, 2]
+        self.assertTrue(kcore.check(TAILED, TAILED_CORE, order))
+        for core, listed in [
+            ([2, 2, 2, 2, 0], order),
+            ([2, 2, 1, 1, 0], order),
+            (TAILED_CORE, [3, 4, 0, 1, 2]),
+            (TAILED_CORE, [4, 3, 0, 1, 1]),
+            (TAILED_CORE, [4, 3, 0, 1, 5]),
+            (TAILED_CORE, [4, 3, 0, 1]),
+            (TAILED_CORE + [0], order),
+            (TAILED_CORE, [4, 3, 0, 1, 2**32 + 2]),
+            ([2, 2, 2, 1, -1], order),
+            ([], []),
+        ]:
+            self.assertFalse(kcore.check(TAILED, core, listed), (core, listed))
+
+    @needs_numpy
+    def test_arrays(self):
+        for dtype in ["uint32", "int64", "int32", ">u4", "uint8"]:
+            edges = numpy.array(TAILED, dtype=dtype)
+            for given in [edges, numpy.asfortranarray(edges), numpy.repeat(edges, 2, axis=0)[::2]]:
+                core = kcore.core_numbers(given)
+                self.assertEqual((core.dtype, core.tolist()), (numpy.uint32, TAILED_CORE))
+        core, order = kcore.degeneracy_order(edges)
+        self.assertTrue(kcore.check(edges, core, order))
+        self.assertTrue(kcore.check(TAILED, core, order))
+        self.assertFalse(kcore.check(edges, core.astype("int64") - 1, order))
+        self.assertEqual(kcore.k_core(edges, 2).tolist(), [0, 1, 2])
+        self.assertEqual(kcore.core_numbers(numpy.array([])).tolist(), [])
+
+    @needs_numpy
+    def test_an_array_of_uint32_is_not_copied(self):
+        edges = numpy.array(TAILED, dtype=numpy.uint32)
+        self.assertIs(_api._Graph(edges, None).ends, edges)
+
+    @needs_numpy
+    @needs_igraph
+    def test_igraph_has_the_same_numbers(self):
+        for vertices, edges in random_graphs(1000):
+            with self.subTest(vertices=vertices, edges=edges):
+                array = numpy.array(edges, dtype=numpy.uint32).reshape(-1, 2)
+                core, order = kcore.degeneracy_order(array, vertices)
+                self.assertEqual(core.tolist(), numbers_by_igraph(vertices, edges))
+                self.certified(array, vertices, core, order.tolist())
+
+    @needs_networkx
+    def test_networkx_has_the_same_numbers(self):
+        for vertices, edges in random_graphs(300):
+            with self.subTest(vertices=vertices, edges=edges):
+                self.assertEqual(kcore.core_numbers(edges, vertices), numbers_by_networkx(vertices, edges))
+
+    @needs_networkx
+    def test_a_graph_of_networkx(self):
+        for graph in [networkx.karate_club_graph(), networkx.Graph([("a", "b"), ("b", "c"), ("c", "a"), ("c", (1, 2))]), networkx.Graph()]:
+            core, order = kcore.degeneracy_order(graph)
+            self.assertEqual(core, networkx.core_number(graph) if len(graph) else {})
+            self.assertEqual(kcore.core_numbers(graph), core)
+            self.assertTrue(kcore.check(graph, core, order))
+            self.assertFalse(kcore.check(graph, core, [*order, "none"]))
+            self.assertFalse(kcore.check(graph, {**core, "none": 0}, order))
+            for k in range(5):
+                self.assertEqual(set(kcore.k_core(graph, k)), {node for node, number in core.items() if number >= k})
+        with self.assertRaises(TypeError):
+            kcore.core_numbers(networkx.Graph(), vertices=1)
+
+
+class KnownGraphs(unittest.TestCase):
+    """Each graph beside both packages."""
+
+    def compared(self, name):
+        edges = edges_of(name)
+        vertices = 1 + max(max(edge) for edge in edges)
+        core, order = kcore.degeneracy_order(edges)
+        self.assertEqual(core, kcore.core_numbers(edges))
+        self.assertTrue(kcore.check(edges, core, order))
+        if networkx is None or igraph is None:
+            self.skipTest("networkx or igraph is not installed")
+        self.assertEqual(core, numbers_by_igraph(vertices, edges))
+        self.assertEqual(core, numbers_by_networkx(vertices, edges))
+
+    def test_karate(self):
+        self.compared("karate")
+
+    def test_deb_depends(self):
+        self.compared("deb-depends")
+
+    def test_email_enron(self):
+        self.compared("email-Enron")
+
+
+class Refusals(unittest.TestCase):
+    CALLS = [
+        lambda edges, vertices=None: kcore.core_numbers(edges, vertices),
+        lambda edges, vertices=None: kcore.degeneracy_order(edges, vertices),
+        lambda edges, vertices=None: kcore.k_core(edges, 1, vertices),
+        lambda edges, vertices=None: kcore.check(edges, [], [], vertices),
+    ]
+
+    def refused(self, cause, edges, vertices=None, text=""):
+        for call in self.CALLS:
+            with self.assertRaisesRegex(cause, text):
+                call(edges, vertices)
+
+    def test_an_end_that_is_no_vertex(self):
+        lists = [[(0, 1), (1, 2), (3, 0), (4, 4)]]
+        if numpy is not None:
+            lists.append(numpy.array(lists[0]))
+        for edges in lists:
+            for call in self.CALLS:
+                with self.assertRaises(kcore.NotAVertexError) as caught:
+                    call(edges, 3)
+                self.assertEqual((caught.exception.place, caught.exception.edge, caught.exception.vertices), (2, (3, 0), 3))
+                self.assertIn("edge 2 is (3, 0)", str(caught.exception))
+
+    def test_ends_that_do_not_fit(self):
+        self.refused(ValueError, [(0, -1)], text="an end of an edge")
+        self.refused(ValueError, [(0, 2**32)], text="an end of an edge")
+        self.refused(ValueError, [(0, 2**32 - 1)], text="4294967296 vertices")
+        self.refused(ValueError, [], vertices=-1, text="-1 vertices")
+        self.refused(ValueError, [], vertices=2**32, text="4294967296 vertices")
+
+    @needs_numpy
+    def test_arrays_that_do_not_fit(self):
+        self.refused(ValueError, numpy.array([(0, -1)]), text="an end of an edge")
+        self.refused(ValueError, numpy.array([(0, 2**32)]), text="an end of an edge")
+        self.refused(ValueError, numpy.array([0, 1]), text="two columns")
+        self.refused(ValueError, numpy.array([(0, 1, 2)]), text="two columns")
+        self.refused(TypeError, numpy.array([(0.0, 1.0)]), text="no integers")
+
+    def test_what_are_no_edges(self):
+        self.refused(ValueError, [(0, 1, 2)])
+        self.refused(ValueError, [(0,)])
+        self.refused(TypeError, [("a", "b")])
+        self.refused(TypeError, [(0.5, 1)])
+        self.refused(TypeError, 5)
+
+    def test_a_negative_k(self):
+        with self.assertRaisesRegex(ValueError, "k is -1"):
+            kcore.k_core(TAILED, -1)
+
+
+if __name__ == "__main__":
+    unittest.main()
