@@ -3,6 +3,7 @@
 //! Without a word it makes a small run and writes what was counted, which never varies. With the word `time` it makes a large run and
 //! writes beside each count how long one call took. It runs on one thread.
 #![tactic(auto)]
+
 ghost use Rattle.std.specs.Prelude.{◌≡◌, ◌<◌, ◌≤◌};
 ghost use Rattle.bench_order.specs.declared.TheConstants.{ROOM};
 
@@ -16,11 +17,10 @@ use kc_list::PlainOrder;
 use kc_order::Writer;
 use kc_table::{Pass, Words};
 use kc_words::{ITEMS, Shape};
-use std::env;
-use std::io;
 use std::marker::Brand;
 use std::sync::Wait;
-use std::time::{Duration, Instant};
+use std::time::Instant;
+use std::{env, io};
 
 /// The items that a list of one thread has room for.
 const ROOM: u32 = 262_144;
@@ -32,6 +32,7 @@ struct Size {
     puts: u32,
     moves: u32,
     pairs: u32,
+    rounds: u32,
     ghost few: { puts < ROOM },
 }
 
@@ -40,13 +41,15 @@ const SMALL: Size = Size {
     puts: 1_000,
     moves: 10_000,
     pairs: 10_000,
+    rounds: 1,
 };
 
 const LARGE: Size = Size {
     timed: true,
     puts: 100_000,
     moves: 1_000_000,
-    pairs: 20_000_000,
+    pairs: 1_000_000,
+    rounds: 20,
 };
 
 /// A list or a table of so many items, none of which is a vertex.
@@ -73,17 +76,6 @@ fn report(
     start: Instant,
 ) -> io::Result<()> {
     let took = start.elapsed(rt)?;
-    write_row(rt, size, what, counted, calls, took)
-}
-
-fn write_row(
-    rt: &HostRuntime,
-    size: &Size,
-    what: &str,
-    counted: u64,
-    calls: u32,
-    took: Duration,
-) -> io::Result<()> {
     if size.timed {
         let nanoseconds = took.as_secs_f64() * 1e9 / f64::from(calls);
         println!(rt; "{what}: {counted}, {nanoseconds:.1} ns a call")
@@ -100,7 +92,14 @@ fn measure_first(rt: &HostRuntime, size: &Size, items: u32) -> io::Result<()>
     let mut order = PlainOrder::open(rt.alloc(), shape(items), &[0])?;
     let start = Instant::now(rt)?;
     let written = put_after_the_first(&mut order, size.puts);
-    report(rt, size, "words written by puts after the first item", written, size.puts, start)
+    report(
+        rt,
+        size,
+        "words written by puts after the first item",
+        written,
+        size.puts,
+        start,
+    )
 }
 
 /// Puts at the end.
@@ -108,7 +107,14 @@ fn measure_end(rt: &HostRuntime, size: &Size) -> io::Result<()> {
     let mut order = PlainOrder::open(rt.alloc(), shape(ROOM), &[0])?;
     let start = Instant::now(rt)?;
     let written = put_at_the_end(&mut order, size.puts);
-    report(rt, size, "words written by puts at the end", written, size.puts, start)
+    report(
+        rt,
+        size,
+        "words written by puts at the end",
+        written,
+        size.puts,
+        start,
+    )
 }
 
 /// Moves of random items to random places, in a list that has all of them.
@@ -117,7 +123,14 @@ fn measure_moves(rt: &HostRuntime, size: &Size) -> io::Result<()> {
     put_at_the_end(&mut order, ROOM - 1);
     let start = Instant::now(rt)?;
     let written = put_anywhere(&mut order, ROOM, size.moves);
-    report(rt, size, "words written by moves to random places", written, size.moves, start)
+    report(
+        rt,
+        size,
+        "words written by moves to random places",
+        written,
+        size.moves,
+        start,
+    )
 }
 
 /// Puts right after the first item, through a table's writer.
@@ -125,7 +138,14 @@ fn measure_writer(rt: &HostRuntime, size: &Size) -> io::Result<()> {
     let (words, mut writer, _) = Writer::open(rt.alloc(), shape(size.puts + 1), &[0], &[])?;
     let start = Instant::now(rt)?;
     let count = put_by_writer(&words, &mut writer, size.puts);
-    report(rt, size, "puts after the first item, through Writer", count, size.puts, start)
+    report(
+        rt,
+        size,
+        "puts after the first item, through Writer",
+        count,
+        size.puts,
+        start,
+    )
 }
 
 /// The same through the list that threads share.
@@ -133,10 +153,17 @@ fn measure_shared(rt: &HostRuntime, lock: &impl Wait, size: &Size) -> io::Result
     let (words, writer, pass) = Writer::open(rt.alloc(), shape(size.puts + 1), &[0], &[])?;
     let start = Instant::now(rt)?;
     let count = put_under_lock::<Brand, _>(lock, words, writer, pass, size.puts);
-    report(rt, size, "puts after the first item, through SharedOrder", count, size.puts, start)
+    report(
+        rt,
+        size,
+        "puts after the first item, through SharedOrder",
+        count,
+        size.puts,
+        start,
+    )
 }
 
-/// Comparisons of random pairs below a bound, with the time of the draws taken off.
+/// Comparisons of random pairs below a bound, which are drawn before.
 fn measure_pairs(
     rt: &HostRuntime,
     size: &Size,
@@ -146,21 +173,30 @@ fn measure_pairs(
 ) -> io::Result<()>
     requires table { pass.old.table ≡ words.now }
     requires some { 0 < bound }
-    requires within { bound ≤ words.now.shape.items }
     ensures { pass.new.table ≡ pass.old.table }
 {
+    let pairs = draw_pairs(rt.alloc(), bound, size.pairs)?;
+    println!(rt; "pairs of {bound} items: {}", size.pairs)?;
     let start = Instant::now(rt)?;
-    let less = draw_pairs(bound, size.pairs);
-    let drawn = start.elapsed(rt)?;
-    println!(rt; "pairs of {bound} items: {}, of which {less} ascend", size.pairs)?;
-    let start = Instant::now(rt)?;
-    let before = compare_pairs(words, pass, bound, size.pairs);
-    let took = start.elapsed(rt)?.saturating_sub(drawn);
-    write_row(rt, size, "  pairs that stand in their order", before, size.pairs, took)
+    let before = compare_pairs(words, pass, &pairs, size.rounds);
+    let calls = size.pairs.saturating_mul(size.rounds);
+    report(
+        rt,
+        size,
+        "  comparisons that find their order",
+        before,
+        calls,
+        start,
+    )
 }
 
 /// Comparisons of pairs of few items, of more and of all.
-fn measure_all_pairs(rt: &HostRuntime, size: &Size, words: &Words, pass: &mut Pass) -> io::Result<()>
+fn measure_all_pairs(
+    rt: &HostRuntime,
+    size: &Size,
+    words: &Words,
+    pass: &mut Pass,
+) -> io::Result<()>
     requires table { pass.old.table ≡ words.now }
     requires items { 0 < words.now.shape.items }
 {
@@ -173,8 +209,7 @@ fn measure_all_pairs(rt: &HostRuntime, size: &Size, words: &Words, pass: &mut Pa
 
 /// Comparisons in a list that was made by puts after the first item.
 fn measure_comparisons(rt: &HostRuntime, size: &Size) -> io::Result<()> {
-    let (words, mut writer, mut pass) =
-        Writer::open(rt.alloc(), shape(size.puts + 1), &[0], &[])?;
+    let (words, mut writer, mut pass) = Writer::open(rt.alloc(), shape(size.puts + 1), &[0], &[])?;
     put_by_writer(&words, &mut writer, size.puts);
     writer.tell(&words, &mut pass);
     measure_all_pairs(rt, size, &words, &mut pass)
@@ -182,7 +217,11 @@ fn measure_comparisons(rt: &HostRuntime, size: &Size) -> io::Result<()> {
 
 /// Whether the first word is `time`.
 fn is_timed(rt: &HostRuntime) -> io::Result<bool> {
-    Ok(env::args(rt)?.nth(1).is_some_and(|word| word.as_str() == "time"))
+    Ok(
+        env::args(rt)?
+            .nth(1)
+            .is_some_and(|word| word.as_str() == "time"),
+    )
 }
 
 fn main(rt: HostRuntime) -> io::Result<()> {

@@ -1,10 +1,11 @@
 //! Puts and comparisons by way of a shared table, on one thread.
-ghost use Rattle.std.specs.Prelude.{◌≡◌, ◌<◌, ◌≤◌};
+ghost use Rattle.std.specs.Prelude.{◌≡◌, ◌<◌};
 
 use crate::draws::Draws;
 use kc_order::{Answer, SharedOrder, Writer, precedes};
 use kc_table::{Name, Pass, Words};
 use kc_words::LAST_VERSION;
+use std::alloc::{AllocError, Global};
 use std::sync::Wait;
 
 /// Puts 1, 2 and so on, each right after 0, through the table's writer, and counts them.
@@ -46,37 +47,52 @@ pub(crate) fn put_under_lock<K: Name, R: Wait>(
     count
 }
 
-/// Compares random pairs of the items below a bound, and counts those that stand in this order.
-pub(crate) fn compare_pairs(words: &Words, pass: &mut Pass, bound: u32, pairs: u32) -> u64
-    requires table { pass.old.table ≡ words.now }
-    requires some { 0 < bound }
-    requires within { bound ≤ words.now.shape.items }
-    ensures { pass.new.table ≡ pass.old.table }
+/// Random pairs of numbers below a bound.
+pub(crate) fn draw_pairs(
+    alloc: Global,
+    bound: u32,
+    count: u32,
+) -> Result<Vec<(u32, u32)>, AllocError>
+    requires { 0 < bound }
 {
     let mut draws = Draws::new(2);
-    let mut before: u64 = 0;
-    for _ in 0..pairs {
+    let mut pairs = Vec::new(alloc);
+    for _ in 0..count {
         let x = draws.below(bound);
         let y = draws.below(bound);
-        if matches!(precedes(words, pass, x, y), Answer::Before) {
+        pairs.push((x, y))?;
+    }
+    Ok(pairs)
+}
+
+/// Compares each pair, and counts those that stand in their order.
+fn compare_each(words: &Words, pass: &mut Pass, pairs: &[(u32, u32)]) -> u64
+    requires { pass.old.table ≡ words.now }
+    ensures { pass.new.table ≡ pass.old.table }
+{
+    let items = kc_table::shape(words).items;
+    let mut before: u64 = 0;
+    for (x, y) in pairs {
+        if *x < items && *y < items && matches!(precedes(words, pass, *x, *y), Answer::Before) {
             before = before.wrapping_add(1);
         }
     }
     before
 }
 
-/// Draws the same pairs, and compares the numbers in place of the items.
-pub(crate) fn draw_pairs(bound: u32, pairs: u32) -> u64
-    requires { 0 < bound }
+/// Compares all pairs as often as this, and counts those that stand in their order.
+pub(crate) fn compare_pairs(
+    words: &Words,
+    pass: &mut Pass,
+    pairs: &[(u32, u32)],
+    rounds: u32,
+) -> u64
+    requires { pass.old.table ≡ words.now }
+    ensures { pass.new.table ≡ pass.old.table }
 {
-    let mut draws = Draws::new(2);
-    let mut less: u64 = 0;
-    for _ in 0..pairs {
-        let x = draws.below(bound);
-        let y = draws.below(bound);
-        if x < y {
-            less = less.wrapping_add(1);
-        }
+    let mut before: u64 = 0;
+    for _ in 0..rounds {
+        before = before.wrapping_add(compare_each(words, pass, pairs));
     }
-    less
+    before
 }

@@ -12,6 +12,7 @@ use std::io::Read;
 const BYTES: usize = 67_108_864;
 
 /// The edges of a text, between numbers that stand for its ids.
+#[derive(Drop)]
 pub(crate) struct Edges {
     pub vertices: u32,
     pub pairs: Vec<(u32, u32)>,
@@ -49,7 +50,11 @@ pub(crate) fn graph_of(alloc: Global, edges: &Edges) -> Result<Graph, NoMemory> 
 const SEED: u64 = 1;
 
 /// Updates that add random edges which the graph does not have.
-pub(crate) fn insertions(alloc: Global, graph: &Graph, count: usize) -> Result<Vec<Update>, NoMemory> {
+pub(crate) fn insertions(
+    alloc: Global,
+    graph: &Graph,
+    count: usize,
+) -> Result<Vec<Update>, NoMemory> {
     let mut draws = Draws::new(SEED);
     let mut updates = Vec::new(alloc);
     let vertices = graph.vertices();
@@ -67,7 +72,11 @@ pub(crate) fn insertions(alloc: Global, graph: &Graph, count: usize) -> Result<V
 }
 
 /// Updates that remove random edges of the graph.
-pub(crate) fn removals(alloc: Global, edges: &Edges, count: usize) -> Result<Vec<Update>, NoMemory> {
+pub(crate) fn removals(
+    alloc: Global,
+    edges: &Edges,
+    count: usize,
+) -> Result<Vec<Update>, NoMemory> {
     let mut draws = Draws::new(SEED);
     let mut updates = Vec::new(alloc);
     let pairs = edges.pairs.as_slice();

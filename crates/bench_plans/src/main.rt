@@ -13,9 +13,8 @@ use crate::plans::{Asked, plan_insertions, plan_removals};
 use kc_cert::check;
 use kc_graph::{Graph, Lawful, decompose};
 use kc_view::{PlainView, PlanFault};
-use std::env;
-use std::io;
 use std::time::{Duration, Instant};
+use std::{env, io};
 
 /// How much is measured, and whether times are written.
 #[derive(Clone, Copy, Drop)]
@@ -38,7 +37,13 @@ const LARGE: Size = Size {
 };
 
 /// Writes what was counted, and where times are wanted how long it took.
-fn report(rt: &HostRuntime, size: &Size, what: &str, counted: u64, took: Duration) -> io::Result<()> {
+fn report(
+    rt: &HostRuntime,
+    size: &Size,
+    what: &str,
+    counted: u64,
+    took: Duration,
+) -> io::Result<()> {
     if size.timed {
         let milliseconds = took.as_secs_f64() * 1e3;
         println!(rt; "{what}: {counted}, {milliseconds:.2} ms")
@@ -53,10 +58,22 @@ fn measure_check(rt: &HostRuntime, size: &Size, graph: &Graph) -> io::Result<()>
     let state = decompose(rt.alloc(), graph)?;
     let took = start.elapsed(rt)?;
     let top = state.core().iter().copied().max().unwrap_or(0);
-    report(rt, size, "greatest core number by decompose", u64::from(top), took)?;
+    report(
+        rt,
+        size,
+        "greatest core number by decompose",
+        u64::from(top),
+        took,
+    )?;
     let start = Instant::now(rt)?;
     let certified = check(rt.alloc(), graph, state.core(), state.order())?;
-    report(rt, size, "certified by check", u64::from(certified), start.elapsed(rt)?)
+    report(
+        rt,
+        size,
+        "certified by check",
+        u64::from(certified),
+        start.elapsed(rt)?,
+    )
 }
 
 /// Writes what was asked by plans, or why they stopped.
@@ -71,8 +88,14 @@ fn report_plans(
         return println!(rt; "{what}: no memory");
     };
     report(rt, size, what, asked.plans, took)?;
-    println!(rt; "  lists asked: {}, the most of one plan: {}", asked.lists, asked.most_lists)?;
-    println!(rt; "  core numbers asked: {}, orders asked: {}", asked.cores, asked.orders)
+    println!(rt;
+        "  lists asked: {}, the most of one plan: {}",
+        asked.lists, asked.most_lists
+    )?;
+    println!(rt;
+        "  core numbers asked: {}, orders asked: {}",
+        asked.cores, asked.orders
+    )
 }
 
 /// Plans insertions and removals, each in the state of the graph. The updates are drawn before.
@@ -91,7 +114,11 @@ fn measure_plans(rt: &HostRuntime, size: &Size, edges: &Edges, state: &Lawful) -
 
 /// Whether the first word is `time`.
 fn is_timed(rt: &HostRuntime) -> io::Result<bool> {
-    Ok(env::args(rt)?.nth(1).is_some_and(|word| word.as_str() == "time"))
+    Ok(
+        env::args(rt)?
+            .nth(1)
+            .is_some_and(|word| word.as_str() == "time"),
+    )
 }
 
 fn main(rt: HostRuntime) -> io::Result<()> {
@@ -100,7 +127,11 @@ fn main(rt: HostRuntime) -> io::Result<()> {
         return println!(rt; "not the text of a graph");
     };
     let graph = graph_of(rt.alloc(), &edges)?;
-    println!(rt; "graph vertices {} edges {}", graph.vertices(), graph.edges())?;
+    println!(rt;
+        "graph vertices {} edges {}",
+        graph.vertices(),
+        graph.edges()
+    )?;
     for _ in 0..size.rounds {
         measure_check(&rt, &size, &graph)?;
     }
