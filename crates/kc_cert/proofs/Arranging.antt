@@ -127,7 +127,8 @@ arranged_by s low front shifts level next moved h leaving others =
     let in_order : (x : ℕ) → x < n → member x s.order ≡ true = λ x l. all x ∙ member-below x n l in
     let f : (x : ℕ) → member x (firsts shifts) ≡ true → member x s.order ≡ true = λ x m. in_order x (leaving.firsts_level x m).0 in
     let w : (x : ℕ) → member x (seconds shifts) ≡ true → member x s.order ≡ true = λ x m. in_order x (leaving.seconds_level x m).0 in
-    let up : AscendsBy place (shifted shifts s.order) = shifted-ascends (rank_in s.order) shifts s.order (rank-ascends s.order (order-distinct n s.order h.enumerates)) leaving.in_turn f w in
+    let up : AscendsBy place (shifted shifts s.order) = shifted-ascends (rank_in s.order) shifts s.order
+    (rank-ascends s.order (order-distinct n s.order h.enumerates)) leaving.in_turn f w in
     let same : (y : ℕ) → member y (shifted shifts s.order) ≡ member y s.order = shifted-has shifts s.order leaving.in_turn f w in
     let by_number : GoByNumber s.core n place = place_after-by_number s.core n level (rank_in s.order) shifts leaving.firsts_level leaving.seconds_level (ranks_by_number s h) in
     record {

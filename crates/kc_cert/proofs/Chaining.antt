@@ -66,10 +66,10 @@ place_of-first y v vs e = ap (λ b. cond b 0 (suc (place_of y vs))) (eq-eqb y v 
 pub place_of-next : (y v : ℕ) (vs : List ℕ) → y ≢ v → place_of y (v ∷ vs) ≡ suc (place_of y vs)
 place_of-next y v vs ne = ap (λ b. cond b 0 (suc (place_of y vs))) (ne_eqb y v ne)
 
-right_after-here : (x w v : ℕ) (vs : List ℕ) → w ≡ v → right_after x w (v ∷ vs) ≡ v ∷ x ∷ vs
+pub right_after-here : (x w v : ℕ) (vs : List ℕ) → w ≡ v → right_after x w (v ∷ vs) ≡ v ∷ x ∷ vs
 right_after-here x w v vs e = ap (λ b. cond b (v ∷ x ∷ vs) (v ∷ right_after x w vs)) (eq-eqb w v e)
 
-right_after-next : (x w v : ℕ) (vs : List ℕ) → w ≢ v → right_after x w (v ∷ vs) ≡ v ∷ right_after x w vs
+pub right_after-next : (x w v : ℕ) (vs : List ℕ) → w ≢ v → right_after x w (v ∷ vs) ≡ v ∷ right_after x w vs
 right_after-next x w v vs ne = ap (λ b. cond b (v ∷ x ∷ vs) (v ∷ right_after x w vs)) (ne_eqb w v ne)
 
 both_next : (a b : ℕ) → ltb (suc a) (suc b) ≡ ltb a b
@@ -307,7 +307,8 @@ near-more place now n line home x w lw held out h y z ly lz my mz e =
             | inr nz ↦
                 let az = anchor_with-other x w z home nz in
                 ap₂ ltb (moved-other now x w y ny) (moved-other now x w z nz)
-                ∙ (ltb-double (now y) (now z) ∙ (near-open place now n line home w held h y z ly lz (still-in x w line y ny my) (still-in x w line z nz mz) (sym ay ∙ (e ∙ az))
+                ∙ (ltb-double (now y) (now z) ∙ (near-open place now n line home w held h y z ly lz (still-in x w line y ny my) (still-in x w line z nz mz)
+                (sym ay ∙ (e ∙ az))
                 ∙ sym (ap₂ ltb (put y ny) (put z nz) ∙ others_stay (place_of w opened) (place_of y opened) (place_of z opened))))
           ]
     ]

@@ -35,17 +35,21 @@ later_count g v j order ws marks e near marked =
     omega (arith, here, up, among, back, down)
 
 -- the neighbours whose number is no less
-pub high_count : (g : SimpleGraph) (v : ℕ) (core ws : List ℕ) → AreNeighbours g v ws → count_by (λ w. nat_le (get_or core v 0) (get_or core w 0)) ws ≡ degree_as_high g core (below g.size) v
+pub high_count : (g : SimpleGraph) (v : ℕ) (core ws : List ℕ) → AreNeighbours g v ws → count_by (λ w. nat_le (get_or core v 0) (get_or core w 0)) ws
+    ≡ degree_as_high g core (below g.size) v
 high_count g v core ws near =
     let high : ℕ → Bool = λ w. adjacent g v w && nat_le (get_or core v 0) (get_or core w 0) in
     let here : count_by (λ w. nat_le (get_or core v 0) (get_or core w 0)) ws ≡ count_by high ws = count-agree (λ w. nat_le (get_or core v 0) (get_or core w 0)) high ws
     (λ w m. sym (ap (λ b. b && nat_le (get_or core v 0) (get_or core w 0)) (sym (near.exact w) ∙ m))) in
-    let up : count_by high ws ≤ degree_as_high g core (below g.size) v = count-le high ws (below g.size) (neighbours-distinct g v ws near) (λ w m _. member-below w g.size (near.within w m)) in
-    let down : degree_as_high g core (below g.size) v ≤ count_by high ws = count-le high (below g.size) ws (Distinct-below g.size) (λ w _ t. near.exact w ∙ (and_parts (adjacent g v w) (nat_le (get_or core v 0) (get_or core w 0)) t).0) in
+    let up : count_by high ws ≤ degree_as_high g core (below g.size) v = count-le high ws (below g.size) (neighbours-distinct g v ws near)
+    (λ w m _. member-below w g.size (near.within w m)) in
+    let down : degree_as_high g core (below g.size) v ≤ count_by high ws = count-le high (below g.size) ws (Distinct-below g.size)
+    (λ w _ t. near.exact w ∙ (and_parts (adjacent g v w) (nat_le (get_or core v 0) (get_or core w 0)) t).0) in
     omega (arith, here, up, down)
 
 -- over all vertices and over the order
-pub degree_as_high-order : (g : SimpleGraph) (core order : List ℕ) (v : ℕ) → Enumerates g.size order → degree_as_high g core (below g.size) v ≡ degree_as_high g core order v
+pub degree_as_high-order : (g : SimpleGraph) (core order : List ℕ) (v : ℕ) → Enumerates g.size order → degree_as_high g core (below g.size) v
+    ≡ degree_as_high g core order v
 degree_as_high-order g core order v e =
     let high : ℕ → Bool = λ w. adjacent g v w && nat_le (get_or core v 0) (get_or core w 0) in
     let up : count_by high (below g.size) ≤ count_by high order = count-le high (below g.size) order (Distinct-below g.size) (λ w m _. member-from_Contains order w (e.complete w (below-member w g.size m))) in

@@ -47,7 +47,8 @@ placed_has x w [] m z = absurd (false≢true m)
 placed_has x w (y ∷ ys) m z =
     elim (eqb w y) as (λ b. eqb w y ≡ b → member z (cond b (y ∷ x ∷ ys) (y ∷ right_after x w ys)) ≡ (eqb z y || member z ys || eqb z x)) [
       | true ↦ λ _. or-swap (eqb z y) (eqb z x) (member z ys)
-      | false ↦ λ e. ap (λ b. eqb z y || b) (placed_has x w ys (member-other w y ys (λ k. eqb-false w y e k) m) z) ∙ sym (or_assoc (eqb z y) (member z ys) (eqb z x))
+      | false ↦ λ e. ap (λ b. eqb z y || b) (placed_has x w ys (member-other w y ys (λ k. eqb-false w y e k) m) z)
+          ∙ sym (or_assoc (eqb z y) (member z ys) (eqb z x))
     ] refl
 
 Ascends-moved : (r : ℕ → ℕ) (x w : ℕ) (ys : List ℕ) → AscendsBy r ys → member x ys ≡ false → AscendsBy (moved r x w) ys
@@ -109,7 +110,8 @@ put_after-has x w order mx mw ne z =
       | inr nz ↦ ap (λ b. b || eqb z x) (left x z order nz) ∙ (ap (λ b. member z order || b) (ne_eqb z x nz) ∙ or-no (member z order))
     ]
 
-pub put_after-ascends : (r : ℕ → ℕ) (x w : ℕ) (order : List ℕ) → AscendsBy r order → member w order ≡ true → w ≢ x → AscendsBy (moved r x w) (right_after x w (without x order))
+pub put_after-ascends : (r : ℕ → ℕ) (x w : ℕ) (order : List ℕ) → AscendsBy r order → member w order ≡ true → w ≢ x
+    → AscendsBy (moved r x w) (right_after x w (without x order))
 put_after-ascends r x w order a mw ne =
     Ascends-placed r x w (without x order) (Ascends-without r x order a) (not_member-without x order) (left x w order ne ∙ mw)
 
@@ -125,7 +127,8 @@ shifted-has (p ∷ shifts) order t f s z =
     put_after-has p.0 p.1 order (f p.0 (member-head p.0 (firsts shifts))) (s p.1 (member-head p.1 (seconds shifts))) (not_itself p.1 p.0 (firsts shifts) t.0) in
     shifted-has shifts (right_after p.0 p.1 (without p.0 order)) t.1 (λ x m. same x ∙ f x (member-tail x p.0 (firsts shifts) m)) (λ x m. same x ∙ s x (member-tail x p.1 (seconds shifts) m)) z ∙ same z
 
-pub shifted-ascends : (r : ℕ → ℕ) (shifts : List (ℕ × ℕ)) (order : List ℕ) → AscendsBy r order → AreInTurn shifts → ((x : ℕ) → member x (firsts shifts) ≡ true → member x order ≡ true) → ((x : ℕ) → member x (seconds shifts) ≡ true → member x order ≡ true)
+pub shifted-ascends : (r : ℕ → ℕ) (shifts : List (ℕ × ℕ)) (order : List ℕ) → AscendsBy r order → AreInTurn shifts
+    → ((x : ℕ) → member x (firsts shifts) ≡ true → member x order ≡ true) → ((x : ℕ) → member x (seconds shifts) ≡ true → member x order ≡ true)
     → AscendsBy (place_after r shifts) (shifted shifts order)
 shifted-ascends r [] order a t f s = a
 shifted-ascends r (p ∷ shifts) order a t f s =
@@ -135,7 +138,8 @@ shifted-ascends r (p ∷ shifts) order a t f s =
     (λ x m. same x ∙ f x (member-tail x p.0 (firsts shifts) m)) (λ x m. same x ∙ s x (member-tail x p.1 (seconds shifts) m))
 
 -- a list in the order of a test
-pub Orders-from_Ascends : (lt : ℕ → ℕ → Bool) (r : ℕ → ℕ) (xs : List ℕ) → ((y z : ℕ) → member y xs ≡ true → member z xs ≡ true → r y < r z → (lt y z ≡ true) × (lt z y ≡ false)) → AscendsBy r xs → Orders lt xs
+pub Orders-from_Ascends : (lt : ℕ → ℕ → Bool) (r : ℕ → ℕ) (xs : List ℕ) → ((y z : ℕ) → member y xs ≡ true → member z xs ≡ true → r y < r z
+    → (lt y z ≡ true) × (lt z y ≡ false)) → AscendsBy r xs → Orders lt xs
 Orders-from_Ascends lt r [] h a = tt
 Orders-from_Ascends lt r (x ∷ xs) h a = (
   λ z m. h x z (member-head x xs) (member-tail z x xs m) (a.0 z m),

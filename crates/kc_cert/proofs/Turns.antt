@@ -13,7 +13,8 @@ use Rattle.kc_cert.proofs.Chaining.{place_of-first, place_of-next}
 use Rattle.kc_cert.proofs.Ordered.{rank-here}
 use Rattle.kc_distinct.proofs.Shared.{Distinct-back}
 
-firsts-append : (xs ys : List (ℕ × ℕ)) → firsts (xs ++ ys) ≡ firsts xs ++ firsts ys
+-- the vertices of some shifts and then of more
+pub firsts-append : (xs ys : List (ℕ × ℕ)) → firsts (xs ++ ys) ≡ firsts xs ++ firsts ys
 firsts-append [] ys = refl
 firsts-append (x ∷ xs) ys = ap (λ (zs : List ℕ). x.0 ∷ zs) (firsts-append xs ys)
 
@@ -97,7 +98,7 @@ pub record IsPutRight (s : Ranked) (level : ℕ) (rise : List ℕ) (shifts : Lis
 abbrev pub ArePutRight : Ranked → ℕ → List ℕ → List (ℕ × ℕ) → Type 0
 ArePutRight s level rise shifts = ((w : ℕ) → member w (seconds shifts) ≡ true → IsOfLevel s level w × (member w rise ≡ false)) × AreInTurn shifts
 
-seconds-at : (shifts : List (ℕ × ℕ)) (k : ℕ) → k < length shifts → member (get_or shifts k (0, 0)).1 (seconds shifts) ≡ true
+pub seconds-at : (shifts : List (ℕ × ℕ)) (k : ℕ) → k < length shifts → member (get_or shifts k (0, 0)).1 (seconds shifts) ≡ true
 seconds-at [] k l = absurd (omega arith)
 seconds-at (shift ∷ shifts) zero l = member-head shift.1 (seconds shifts)
 seconds-at (shift ∷ shifts) (suc k) l = member-tail (get_or shifts k (0, 0)).1 shift.1 (seconds shifts) (seconds-at shifts k (omega arith))

@@ -1,12 +1,13 @@
 -- The graph of rows that have just the listed edges.
-use Rattle.std.proofs.Common.{◌≡◌, ◌≢◌, ◌≤◌, ◌<◌, ◌+◌, ◌-◌, ◌^◌, ◌/◌, ℕ, suc, zero, Bool, true, false, cond, not, ◌&&◌, ◌||◌, List, [], ◌∷◌, ◌++◌, length, map, eqb, ltb, refl, sym, ◌∙◌, ap, ap₂, subst, inl, inr, arith, ltb-true, lt-ltb, le-ltb, eq-eqb, eqb-true, set, Vec, Global}
+use Rattle.std.proofs.Common.{◌≡◌, ◌≢◌, ◌≤◌, ◌<◌, ℕ, Bool, true, false, cond, not, ◌&&◌, ◌||◌, List, [], ◌∷◌, length, map, eqb, ltb, refl, sym, ◌∙◌}
+use Rattle.std.proofs.Common.{ap, ap₂, inl, inr, arith, ltb-true, lt-ltb, le-ltb, eq-eqb, set, Vec, Global}
 use Rattle.std.specs.Prelude.{All}
 use Rattle.std.specs.List.{filter, list_any, dedup}
 use Rattle.std.specs.List.Sorted.{IsStrictlyIncreasing}
 use Rattle.std.specs.Cmp.{both_ways}
 use Rattle.std.specs.Ordering.{eq_by_cmp}
-use Rattle.std.specs.FinSet.{FinSet, contains, contains-from_list, from_list, same_set}
-use Rattle.std.proofs.lemmas.Bool.{cases_Bool, cases_lt, cases_order, or_cases, or_left, or_right, or_from, and_parts, and_from, false≢true, true≢false, false_from_ne_true}
+use Rattle.std.specs.FinSet.{FinSet, contains, contains-from_list, same_set}
+use Rattle.std.proofs.lemmas.Bool.{cases_lt, cases_order, or_cases, or_from, and_parts, and_from, false≢true, true≢false, false_from_ne_true}
 use Rattle.std.proofs.lemmas.List.Elements.{All-tail}
 use Rattle.std.proofs.lemmas.List.Kept.{Contains-dedup_nat, Contains-from_dedup}
 use Rattle.kc_distinct.specs.Lists.{member}
@@ -38,11 +39,13 @@ edge-is e a b two =
 and-or : (l a b : Bool) → ((l && a) || (l && b)) ≡ (l && (a || b))
 and-or l a b = grind arith
 
-listed : (edges : List Edge) (a b : ℕ) → list_any (eq_by_cmp pair_cmp (a, b)) (map (λ e. edge e.u e.v) (filter is_no_loop edges)) ≡ (ltb a b && are_joined edges a b)
+listed : (edges : List Edge) (a b : ℕ)
+    → list_any (eq_by_cmp pair_cmp (a, b)) (map (λ e. edge e.u e.v) (filter is_no_loop edges)) ≡ (ltb a b && are_joined edges a b)
 listed [] a b = both_ways _ _ (λ h. absurd (false≢true h)) (λ h. absurd (false≢true (and_parts (ltb a b) false h).1))
 listed (e ∷ edges) a b =
-    elim (is_no_loop e) as (λ t. is_no_loop e ≡ t → list_any (eq_by_cmp pair_cmp (a, b)) (map (λ e. edge e.u e.v) (cond t (e ∷ filter is_no_loop edges) (filter is_no_loop edges)))
-        ≡ (ltb a b && ((t && joins e.u e.v a b) || are_joined edges a b))) [
+    elim (is_no_loop e) as (λ t. is_no_loop e ≡ t → list_any (eq_by_cmp pair_cmp (a, b))
+    (map (λ e. edge e.u e.v) (cond t (e ∷ filter is_no_loop edges) (filter is_no_loop edges)))
+    ≡ (ltb a b && ((t && joins e.u e.v a b) || are_joined edges a b))) [
       | true ↦ λ two. ap₂ (λ s t. s || t) (edge-is e a b two) (listed edges a b) ∙ and-or (ltb a b) (joins e.u e.v a b) (are_joined edges a b)
       | false ↦ λ _. listed edges a b
     ] refl
@@ -75,7 +78,8 @@ joined-itself (e ∷ edges) v = or_from _ _ (between-itself e v) (joined-itself 
 
 pub adjacent-with_edges : (vertices : ℕ) (edges : List Edge) (v w : ℕ) → adjacent (graph_with vertices edges) v w ≡ are_joined edges v w
 adjacent-with_edges vertices edges v w = elim (cases_order v w) [
-  | inl e ↦ ap (adjacent (graph_with vertices edges) v) (sym e) ∙ (adjacent-self (graph_with vertices edges) v ∙ sym (ap (are_joined edges v) (sym e) ∙ joined-itself edges v))
+  | inl e ↦ ap (adjacent (graph_with vertices edges) v) (sym e)
+      ∙ (adjacent-self (graph_with vertices edges) v ∙ sym (ap (are_joined edges v) (sym e) ∙ joined-itself edges v))
   | inr o ↦ elim o [
     | inl l ↦ rw (lt-ltb v w l, contains-with vertices edges v w, lt-ltb v w l) refl
     | inr l ↦ rw (le-ltb v w (omega arith), lt-ltb w v l, contains-with vertices edges w v, lt-ltb w v l) (joined-turned edges w v)
@@ -117,3 +121,16 @@ module _ (rows : List (Vec ℕ Global)) (i : ℕ) (s : Vec ℕ Global) where
 
   pub row-other : (x : ℕ) → x ≢ i → row (lists (set rows i s)) x ≡ row (lists rows) x
   row-other x ne = ap (λ (t : List (List ℕ)). row t x) (lists-set rows i s) ∙ row-set_other (lists rows) i x s.items ne
+
+-- one edge more for the rows of a range
+pub joined-more : (m f t b : Bool) → ((m || (f && t)) || (f && b)) ≡ (m || (f && (t || b)))
+joined-more m f t b = grind arith
+
+-- no vertex from `from` on is joined, where all ends are below
+pub joined-below : (vertices from : ℕ) (edges : List Edge) (v w : ℕ) → All (λ e. is_within vertices e ≡ true) edges → vertices ≤ from
+    → (ltb v from && are_joined edges v w) ≡ are_joined edges v w
+joined-below vertices from edges v w all le = elim (cases_lt v from) [
+  | inl l ↦ rw (lt-ltb v from l) refl
+  | inr ge ↦ rw (le-ltb v from ge) (sym (false_from_ne_true (are_joined edges v w) (λ h.
+      absurd (omega (arith, joined-within vertices edges w v all (joined-turned edges w v ∙ h))))))
+]

@@ -47,7 +47,8 @@ adjacent-with g u v a b differ = elim (cases_order a b) [
       let alone' : adjacent (with_edge g u v) a b ≡ false = ap (adjacent (with_edge g u v) a) (sym e) ∙ adjacent-self (with_edge g u v) a in
       alone' ∙ sym (ap₂ (λ (s t : Bool). s || t) alone other)
   | inr (inl l) ↦ adjacent-below (with_edge g u v) a b l ∙ with_below g u v a b differ l
-  | inr (inr l) ↦ adjacent-above (with_edge g u v) a b l ∙ (with_below g u v b a differ l ∙ ap₂ (λ (s t : Bool). s || t) (adjacent-sym g b a) (joins-sym u v b a))
+  | inr (inr l) ↦ adjacent-above (with_edge g u v) a b l ∙ (with_below g u v b a differ l ∙ ap₂ (λ (s t : Bool). s || t) (adjacent-sym g b a)
+      (joins-sym u v b a))
 ]
 
 -- after an edge went
@@ -58,5 +59,6 @@ adjacent-without g u v a b differ = elim (cases_order a b) [
       let alone' : adjacent (without_edge g u v) a b ≡ false = ap (adjacent (without_edge g u v) a) (sym e) ∙ adjacent-self (without_edge g u v) a in
       alone' ∙ sym (ap (λ t. t && not (joins u v a b)) alone)
   | inr (inl l) ↦ adjacent-below (without_edge g u v) a b l ∙ without_below g u v a b differ l
-  | inr (inr l) ↦ adjacent-above (without_edge g u v) a b l ∙ (without_below g u v b a differ l ∙ ap₂ (λ (s t : Bool). s && not t) (adjacent-sym g b a) (joins-sym u v b a))
+  | inr (inr l) ↦ adjacent-above (without_edge g u v) a b l ∙ (without_below g u v b a differ l ∙ ap₂ (λ (s t : Bool). s && not t) (adjacent-sym g b a)
+      (joins-sym u v b a))
 ]

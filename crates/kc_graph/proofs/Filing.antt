@@ -86,7 +86,8 @@ filed_popped level v core taken taken' old rows f p out in' = record {
 }
 
 -- a vertex comes out of the bucket of its number, to be taken
-pub popped_takes : (g : SimpleGraph) (level v : ℕ) (core taken : List ℕ) (old rows : List (List ℕ)) → Peels g level core taken old → Popped level v old rows → at core v ≡ level → IsAboutToTake g level v core taken rows
+pub popped_takes : (g : SimpleGraph) (level v : ℕ) (core taken : List ℕ) (old rows : List (List ℕ)) → Peels g level core taken old
+    → Popped level v old rows → at core v ≡ level → IsAboutToTake g level v core taken rows
 popped_takes g level v core taken old rows h p here = record {
   peeled = h.peeled;
   exact = h.exact;
@@ -161,11 +162,13 @@ filed_lowered level ws core taken rows core' rows' h f done d within =
     }
 
 -- who is taken has no greater number
-pub taken_low : (g : SimpleGraph) (level v : ℕ) (core taken : List ℕ) (rows : List (List ℕ)) → IsAboutToTake g level v core taken rows → (u : ℕ) → member u (taken ++ v ∷ []) ≡ true → at core u ≤ level
+pub taken_low : (g : SimpleGraph) (level v : ℕ) (core taken : List ℕ) (rows : List (List ℕ)) → IsAboutToTake g level v core taken rows → (u : ℕ)
+    → member u (taken ++ v ∷ []) ≡ true → at core u ≤ level
 taken_low g level v core taken rows t u m = elim (member-push_cases u v taken m) [ inl k ↦ t.peeled.done u k | inr e ↦ omega (arith, t.here, ap (at core) e) ]
 
 -- a vertex is taken, and its neighbours lose one
-pub took : (g : SimpleGraph) (level v : ℕ) (core taken ws : List ℕ) (rows : List (List ℕ)) (core' : List ℕ) (rows' : List (List ℕ)) → IsAboutToTake g level v core taken rows → AreNeighbours g v ws
+pub took : (g : SimpleGraph) (level v : ℕ) (core taken ws : List ℕ) (rows : List (List ℕ)) (core' : List ℕ) (rows' : List (List ℕ))
+    → IsAboutToTake g level v core taken rows → AreNeighbours g v ws
     → Lowered level ws core rows core' rows' → Peels g level core' (taken ++ v ∷ []) rows'
 took g level v core taken ws rows core' rows' t near h =
     let low : (u : ℕ) → at core u ≤ level → at core u ≡ at core' u = λ u. lowered_low level u ws core rows core' rows' h in

@@ -165,7 +165,8 @@ Distinct-from_increasing xs up = Distinct-from_pairs xs (λ i j d lt l e. let k 
 pub place_at_end : (xs : List ℕ) (w last : ℕ) → IsStrictlyIncreasing xs → Some last ≡ slice_get xs (length xs - 1) → last < w → IsPlace xs w (Err (length xs))
 place_at_end xs w last up is lt = (
   omega arith,
-  λ k l. let e : get_or xs (length xs - 1) 0 ≡ last = get_or_from_slice_get xs (length xs - 1) last 0 (sym is) in omega (arith, never_falls xs up k (length xs - 1) (omega arith) (omega arith)),
+  λ k l. let e : get_or xs (length xs - 1) 0 ≡ last = get_or_from_slice_get xs (length xs - 1) last 0 (sym is) in
+      omega (arith, never_falls xs up k (length xs - 1) (omega arith) (omega arith)),
   λ k le l. absurd (omega arith),
 )
 

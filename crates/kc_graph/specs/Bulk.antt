@@ -1,5 +1,5 @@
 -- A graph that is given by a list of its edges.
-use Rattle.std.specs.Prelude.{ℕ, Bool, not, ◌&&◌, ◌||◌, ◌==◌, List, map, nat_lt}
+use Rattle.std.specs.Prelude.{ℕ, Bool, not, ◌&&◌, ◌||◌, ◌==◌, List, map, nat_le, nat_lt}
 use Rattle.std.specs.List.{filter, list_any}
 use Rattle.std.specs.FinSet.{from_list}
 use Rattle.kc_graph.specs.SimpleGraph.{SimpleGraph}
@@ -26,3 +26,7 @@ is_between v w e = is_no_loop e && ((v == e.u && w == e.v) || (v == e.v && w == 
 -- whether one of the listed edges that are no loops has these two ends, in either order
 abbrev pub are_joined : List Edge → ℕ → ℕ → Bool
 are_joined edges v w = list_any (is_between v w) edges
+
+-- whether a vertex is one of those from `from` to below `to`
+abbrev pub is_from_to : ℕ → ℕ → ℕ → Bool
+is_from_to from to v = nat_le from v && nat_lt v to

@@ -1,4 +1,4 @@
-// Which calls of a source or a sink in memory fail.
+//! Which calls of a source or a sink in memory fail.
 ghost use Rattle.std.specs.Prelude.{◌≡◌, ◌≤◌};
 ghost use Rattle.kc_io.specs.Calls.{is_next_named, one_called, one_failed};
 

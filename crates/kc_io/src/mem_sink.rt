@@ -1,4 +1,4 @@
-// A sink in memory, some of whose calls fail.
+//! A sink in memory, some of whose calls fail.
 ghost use Rattle.std.specs.Prelude.{◌≡◌, ◌<◌, ◌≤◌, ◌-◌, ◌||◌, [], ℕ, Some, IfOk, is_err, length, min, nat_eq};
 ghost use Rattle.std.specs.Io.KnownBytes.{WriteAppends};
 ghost use Rattle.kc_io.specs.Calls.{after_call, is_next_named};

@@ -1,4 +1,4 @@
-// Where bytes come from.
+//! Where bytes come from.
 ghost use Rattle.std.specs.Prelude.{◌≡◌, ◌<◌, ◌≤◌, ℕ, List, Option, Result, IfSome, IfOk, OnOk, IsErrOf, length};
 ghost use Rattle.std.specs.Io.{ReadsAtMost};
 ghost use Rattle.std.specs.Io.KnownBytes.{ReadConsumes, Consumes, IsAtEnd};
@@ -32,7 +32,7 @@ pub enum ReadAllFault {
     /// The source failed.
     #[error("read fault")]
     ReadFault,
-    /// There are more than [`MOST_BYTES`].
+    /// There are more bytes than [`READ_LIMIT`].
     #[error("too long")]
     TooLong,
     /// There was no memory for the bytes.
@@ -57,7 +57,7 @@ impl From<NoMemory> for ReadAllFault {
 }
 
 /// The most bytes that [`read_all`] gives.
-pub const MOST_BYTES: usize = 67_108_864;
+pub const READ_LIMIT: usize = 67_108_864;
 
 /// How many bytes are asked for at once.
 const PIECE_BYTES: usize = 65_536;
@@ -65,21 +65,21 @@ const PIECE_BYTES: usize = 65_536;
 /// All bytes of the source, up to its end.
 ///
 /// `ReadFault` comes only where the source's count of faults rose in this call, `TooLong` only where the source
-/// gave more than [`MOST_BYTES`]. After each answer the source has lost just the bytes that it gave.
+/// gave more bytes than [`READ_LIMIT`]. After each answer the source has lost just the bytes that it gave.
 pub fn read_all<S: Source>(alloc: Global, source: &mut S) -> Result<Vec<u8>, ReadAllFault>
     ensures whole { IfOk result (λ bytes. IfSome (S.left source.old) (λ told. bytes.items ≡ told)) }
     ensures ended { OnOk result (IsAtEnd (S.left source.new)) }
-    ensures fits { IfOk result (λ bytes. length bytes.items ≤ MOST_BYTES) }
+    ensures fits { IfOk result (λ bytes. length bytes.items ≤ READ_LIMIT) }
     ensures given { (given : List ℕ) × Consumes (S.left source.old) (S.left source.new) given
         × IfOk result (λ bytes. bytes.items ≡ given)
-        × (IsErrOf result ReadAllFault.TooLong → MOST_BYTES < length given) }
+        × (IsErrOf result ReadAllFault.TooLong → READ_LIMIT < length given) }
     ensures later { S.faults source.old ≤ S.faults source.new }
     ensures read_fault { IsErrOf result ReadAllFault.ReadFault → Rose (S.faults source.old) (S.faults source.new) }
-    ensures too_long { IsErrOf result ReadAllFault.TooLong → IfSome (S.left source.old) (λ told. MOST_BYTES < length told) }
+    ensures too_long { IsErrOf result ReadAllFault.TooLong → IfSome (S.left source.old) (λ told. READ_LIMIT < length told) }
 {
     let mut bytes = Vec::new(alloc);
     let mut piece = [0u8; PIECE_BYTES];
-    while bytes.len() <= MOST_BYTES {
+    while bytes.len() <= READ_LIMIT {
         let n = source.read(&mut piece)?;
         if n == 0 {
             return Ok(bytes);

@@ -1,4 +1,4 @@
-// A writer of std as a sink.
+//! A writer of std as a sink.
 ghost use Rattle.std.specs.Prelude.{◌≡◌, None};
 
 use crate::Failed;

@@ -143,9 +143,13 @@ enter-leaves seen add index u v fitting =
     noted-as : State → ℕ → NoteWord → State
     noted-as s value z = record { words = set s.words 0 value; list = s.list; note = z; entries = entered z s.entries; unsealed = unsealed_from z s.unsealed }
 
+-- what has been seen, with one store more
+abbrev pub with_store : Seen → ℕ → ℕ → Seen
+with_store seen word value = record { table = seen.table; log = seen.log ++ event word value ∷ [] }
+
 -- what a vertex word leaves beside the list
 pub vertex-leaves : (seen : Seen) (plain : Plain) (v value : ℕ) → Tied seen plain → v < seen.table.shape.fixed
-    → Leaves (record { table = seen.table; log = seen.log ++ event (first_vertex seen.table.shape + v) value ∷ [] }) (entries_after seen) (without v (unsealed_after seen))
+    → Leaves (with_store seen (first_vertex seen.table.shape + v) value) (entries_after seen) (without v (unsealed_after seen))
     (λ w. cond (eqb w v) value (vertex_word_after seen w))
 vertex-leaves seen plain v value tied below =
     let shape = seen.table.shape in

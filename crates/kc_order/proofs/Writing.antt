@@ -20,11 +20,12 @@ use Rattle.kc_list.specs.Plain.{Plain, Written}
 use Rattle.kc_list.proofs.Highest.{version-highest, highest-below}
 use Rattle.kc_table.specs.declared.view.Event.{Event}
 use Rattle.kc_table.specs.declared.entry.Entry.{Entry}
-use Rattle.kc_table.specs.Log.{TableName, Seen, event, value_at, words_after}
+use Rattle.kc_table.specs.Log.{TableName, Seen, event, value_at}
 use Rattle.kc_table.specs.State.{State, after_stores, state_of, first_vertex, word_count, moved, entered}
 use Rattle.kc_table.specs.Legal as legal
 use Rattle.kc_table.proofs.LegalLogs.{legal-push, legal-prefix, legal-last, legal-opens, legal-holds, state_of-push, state_of-words, after_stores-append}
 use Rattle.kc_table.proofs.Listed.{stands}
+use Rattle.kc_table.proofs.Steps.{length-words_after}
 use Rattle.kc_order.specs.Standing.{list_after}
 use Rattle.kc_order.specs.Writers.{AreRaised, HasVersionsLeft, EndsWith, Puts, Takes, Tied, stores_of, front_of, end_of, log_of_front, log_of_note}
 use Rattle.kc_order.specs.Writers.{log_of_all, AreLegal}
@@ -103,13 +104,7 @@ next-there seen writes i d l h words table =
     let part = next-legal seen now writes i d l refl refl h in
     subst (λ (t : TableName). e.word < word_count t.shape) table (legal-last seen.table.shape seen.table.opening now.log e part).there
 
--- Versions. ----------------------------------------------------------------------------------------
-
 -- Logs that go on. ---------------------------------------------------------------------------------
-
-length-words_after : (ws : List ℕ) (es : List Event) → length (words_after ws es) ≡ length ws
-length-words_after ws [] = refl
-length-words_after ws (e ∷ es) = length-words_after (set ws e.word e.value) es ∙ length-set ws e.word e.value
 
 module _ (shape : Shape) (opening : List ℕ) where
   state_of-append : (log es : List Event) → state_of shape opening (log ++ es) ≡ after_stores shape (state_of shape opening log) es

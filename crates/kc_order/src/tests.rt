@@ -8,7 +8,7 @@ mod racing;
 
 use crate::{Answer, OrderFault, SharedOrder, Writer, first_collect, second_collect};
 use kc_table::{Name, Pass, Words};
-use kc_words::{LAST_VERSION, Shape};
+use kc_words::{Again, LAST_VERSION, Shape};
 use std::alloc::AllocError;
 use std::marker::Brand;
 use std::process::Abort;
@@ -60,20 +60,93 @@ fn one_full_group<R: Abort + AllocGlobal>(rt: &R) -> Result<(Words, Writer, Pass
     Ok((words, writer, pass))
 }
 
+/// The word by which a comparison of 63 with 0 learns that 64 was put after 0 beneath it.
+fn changed_beneath<R: Abort>(
+    rt: &R,
+    words: &Words,
+    writer: &mut Writer,
+    pass: &mut Pass,
+) -> Option<Again>
+    requires table { (writer.old.table ≡ words.now) × (pass.old.table ≡ words.now) }
+    requires shape { (words.now.shape.items ≡ 100) × (words.now.shape.fixed ≡ 0) }
+{
+    let Ok(collect) = first_collect(words, pass, 63, 0) else {
+        return None;
+    };
+    put(rt, words, writer, 64, 0);
+    writer.tell(words, pass);
+    match second_collect(words, pass, collect) {
+        Answer::Again(again) => Some(again),
+        _ => None,
+    }
+}
+
+/// The same, in a table of its own.
+fn changed_word<R: Abort + AllocGlobal>(rt: &R) -> Result<Option<Again>, AllocError> {
+    let (words, mut writer, mut pass) = one_full_group(rt)?;
+    Ok(changed_beneath(rt, &words, &mut writer, &mut pass))
+}
+
 #[test]
 fn a_split_beneath_a_comparison_is_noticed(rt: HostRuntime) -> Result<(), Fail> {
-    let (words, mut writer, mut pass) = one_full_group(&rt)?;
-    let Ok(collect) = first_collect(&words, &mut pass, 63, 0) else {
-        return Err("both are in the list".into());
-    };
-    put(&rt, &words, &mut writer, 64, 0);
-    writer.tell(&words, &mut pass);
-    let Answer::Again(again) = second_collect(&words, &mut pass, collect) else {
-        return Err("item 63 moved to another group".into());
+    let Some(again) = changed_word(&rt)? else {
+        return Err("both are in the list, and item 63 moved to another group".into());
     };
     assert_eq!(rt; again.word, 64);
     assert!(rt; again.first != again.second);
     Ok(())
+}
+
+/// A comparison that has this answer.
+fn ask<K: Name, R: Abort>(
+    rt: &R,
+    shared: &SharedOrder<K>,
+    pass: &mut Pass,
+    x: u32,
+    y: u32,
+    wanted: Answer,
+)
+    requires table { pass.old.table ≡ K.table }
+    requires items { (x < K.table.shape.items) × (y < K.table.shape.items) }
+    ensures { pass.new.table ≡ K.table }
+{
+    assert_eq!(rt; shared.precedes(pass, x, y), wanted);
+}
+
+/// A put right after 0, which is in the list.
+fn put_after_0<K: Name, R: Wait + Abort>(rt: &R, shared: &SharedOrder<K>, pass: &mut Pass, x: u32)
+    requires table { pass.old.table ≡ K.table }
+    requires item { (0 < x) × (x < K.table.shape.items) }
+    ensures { pass.new.table ≡ K.table }
+{
+    assert_eq!(rt; shared.put_after(rt, pass, x, 0), Ok(()));
+}
+
+/// A take that ends so.
+fn take<K: Name, R: Wait + Abort>(
+    rt: &R,
+    shared: &SharedOrder<K>,
+    pass: &mut Pass,
+    x: u32,
+    wanted: Result<(), OrderFault>,
+)
+    requires table { pass.old.table ≡ K.table }
+    requires item { x < K.table.shape.items }
+    ensures { pass.new.table ≡ K.table }
+{
+    assert_eq!(rt; shared.take(rt, pass, x), wanted);
+}
+
+/// Each of the first five of a short list stands before the next.
+fn ask_each_pair<K: Name, R: Abort>(rt: &R, shared: &SharedOrder<K>, pass: &mut Pass)
+    requires table { pass.old.table ≡ K.table }
+    requires items { K.table.shape.items ≡ 6 }
+    ensures { pass.new.table ≡ K.table }
+{
+    for k in 0..4 {
+        ask(rt, shared, pass, k, k + 1, Answer::Before);
+        ask(rt, shared, pass, k + 1, k, Answer::After);
+    }
 }
 
 /// Row by row: one item, a take, and the rest of a short list.
@@ -82,22 +155,19 @@ fn ask_a_short_list<K: Name, R: Wait + Abort>(rt: &R, words: Words, writer: Writ
     requires shape { (K.table.shape.items ≡ 6) × (K.table.shape.fixed ≡ 0) }
 {
     let shared = SharedOrder::<K>::new(words, writer);
-    assert_eq!(rt; shared.precedes(&mut pass, 3, 3), Answer::Same);
-    assert_eq!(rt; shared.take(rt, &mut pass, 5), Ok(()));
-    assert_eq!(rt;
-        shared.precedes(&mut pass, 0, 5),
-        Answer::Absent { item: 5 }
+    ask(rt, &shared, &mut pass, 3, 3, Answer::Same);
+    take(rt, &shared, &mut pass, 5, Ok(()));
+    ask(rt, &shared, &mut pass, 0, 5, Answer::Absent { item: 5 });
+    ask_each_pair(rt, &shared, &mut pass);
+    take(
+        rt,
+        &shared,
+        &mut pass,
+        5,
+        Err(OrderFault::Absent { item: 5 }),
     );
-    for k in 0..4 {
-        assert_eq!(rt; shared.precedes(&mut pass, k, k + 1), Answer::Before);
-        assert_eq!(rt; shared.precedes(&mut pass, k + 1, k), Answer::After);
-    }
-    assert_eq!(rt;
-        shared.take(rt, &mut pass, 5),
-        Err(OrderFault::Absent { item: 5 })
-    );
-    assert_eq!(rt; shared.put_after(rt, &mut pass, 5, 0), Ok(()));
-    assert_eq!(rt; shared.precedes(&mut pass, 5, 1), Answer::Before);
+    put_after_0(rt, &shared, &mut pass, 5);
+    ask(rt, &shared, &mut pass, 5, 1, Answer::Before);
 }
 
 #[test]
@@ -116,7 +186,7 @@ fn put_each_after_0<K: Name, R: Wait + Abort>(rt: &R, shared: &SharedOrder<K>, p
     ensures { pass.new.table ≡ K.table }
 {
     for x in 1..=MANY {
-        assert_eq!(rt; shared.put_after(rt, pass, x, 0), Ok(()));
+        put_after_0(rt, shared, pass, x);
     }
 }
 
@@ -126,9 +196,9 @@ fn ask_a_long_list<K: Name, R: Wait + Abort>(rt: &R, words: Words, writer: Write
 {
     let shared = SharedOrder::<K>::new(words, writer);
     put_each_after_0(rt, &shared, &mut pass);
-    assert_eq!(rt; shared.precedes(&mut pass, 0, MANY), Answer::Before);
+    ask(rt, &shared, &mut pass, 0, MANY, Answer::Before);
     for x in 1..MANY {
-        assert_eq!(rt; shared.precedes(&mut pass, x + 1, x), Answer::Before);
+        ask(rt, &shared, &mut pass, x + 1, x, Answer::Before);
     }
 }
 

@@ -1,4 +1,4 @@
-// The pieces of a line. Where there is no memory, some of them may have been put at the end of the text.
+//! The pieces of a line. Where there is no memory, some of them may have been put at the end of the text.
 ghost use Rattle.std.specs.Prelude.{◌≡◌, [], ◌∷◌, ◌++◌, length, OnOk};
 ghost use Rattle.std.specs.Io.{StartsWith};
 ghost use Rattle.kc_report.specs.Lines.{core_line, core_lines, line_text};

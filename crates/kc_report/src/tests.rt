@@ -1,4 +1,4 @@
-// The lines as they are printed.
+//! The lines as they are printed.
 use crate::{Line, core_lines, summary};
 use std::test::Fail;
 

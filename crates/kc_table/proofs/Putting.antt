@@ -158,6 +158,7 @@ module _ (shape : Shape) (opening : List ℕ) (v : ℕ) (low : v < shape.fixed) 
             }
         | inr other ↦
             let stamp = stamp-other shape opening log e v other in
+            let still = open-sealed shape v e.word s.unsealed in
             record {
               was_put = λ m. elim (member-append v (puts_in shape opening log n) (item_put s.note e.word) (ap (member v) (sym puts) ∙ m)) [
                 | inl k ↦ elim (was.was_put k) [
@@ -171,7 +172,7 @@ module _ (shape : Shape) (opening : List ℕ) (v : ℕ) (low : v < shape.fixed) 
               is_open = λ m. ap (member v) puts ∙ elim
                   (or_cases (member v (item_put s.note e.word)) (member v (sealed shape e.word s.unsealed)) (sym unsealed ∙ m)) [
                     | inl k ↦ member-append_right v (puts_in shape opening log n) (item_put s.note e.word) k
-                    | inr k ↦ member-append_left v (puts_in shape opening log n) (item_put s.note e.word) (was.is_open (open-sealed shape v e.word s.unsealed k))
+                    | inr k ↦ member-append_left v (puts_in shape opening log n) (item_put s.note e.word) (was.is_open (still k))
                   ];
             }
       ]
@@ -257,11 +258,17 @@ module _ (shape : Shape) (opening : List ℕ) where
       let noted : (after_store shape s e).entries ≡ entered (note_of e.value) s.entries = rw (eq-eqb e.word 0 is) refl in
       entry-closed shape s e (legal-last shape opening before e h) is (omega (arith, more, ap length noted))
 
+  -- the section that was the last after `before` has put v exactly where v had its number as stamp there
+  abbrev PutExactly : List Event → List Event → ℕ → Type 0
+  PutExactly log before v =
+      (member v (puts_in shape opening log (number_after shape opening before)) ≡ true)
+      ↔ (stamp_after shape opening before v ≡ number_after shape opening before)
+
   -- and so it is for an earlier section, by the stamps where it was closed
   pub put-exactly_earlier : (v : ℕ) → v < shape.fixed → (before : List Event) (e : Event) (log : List Event) → IsPrefix (before ++ e ∷ []) log
       → Legal shape opening log
       → number_after shape opening before < number_after shape opening (before ++ e ∷ []) → 0 < length (state_of shape opening before).entries
-      → (member v (puts_in shape opening log (number_after shape opening before)) ≡ true) ↔ (stamp_after shape opening before v ≡ number_after shape opening before)
+      → PutExactly log before v
   put-exactly_earlier v low before e log pre h lt some =
       let next = before ++ e ∷ [] in
       let legal = legal-prefix shape opening next log pre h in

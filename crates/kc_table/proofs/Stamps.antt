@@ -178,7 +178,7 @@ module _ (shape : Shape) (opening : List ℕ) where
 
   module _ (v : ℕ) (low : v < shape.fixed) where
     -- what is open after a prefix is open at the end, or its stamp has risen
-    open-since : (more p q : List Event) → p ++ more ≡ q → Legal shape opening q → member v (state_of shape opening p).unsealed ≡ true
+    pub open-since : (more p q : List Event) → p ++ more ≡ q → Legal shape opening q → member v (state_of shape opening p).unsealed ≡ true
         → (member v (state_of shape opening q).unsealed ≡ true) ⊎ (stamp_after shape opening p v < stamp_after shape opening q v)
     open-since [] p q is h m = inl (ap (λ l. member v (state_of shape opening l).unsealed) (sym is ∙ append-nil p) ∙ m)
     open-since (e ∷ more) p q is h m =

@@ -24,7 +24,8 @@ pub words_after-push : (ws : List ℕ) (es : List Event) (e : Event) → words_a
 words_after-push ws [] e = refl
 words_after-push ws (x ∷ es) e = words_after-push (set ws x.word x.value) es e
 
-length-words_after : (ws : List ℕ) (es : List Event) → length (words_after ws es) ≡ length ws
+-- no store changes how many words there are
+pub length-words_after : (ws : List ℕ) (es : List Event) → length (words_after ws es) ≡ length ws
 length-words_after ws [] = refl
 length-words_after ws (e ∷ es) = length-words_after (set ws e.word e.value) es ∙ length-set ws e.word e.value
 

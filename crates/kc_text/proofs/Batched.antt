@@ -14,10 +14,11 @@ use Rattle.kc_text.specs.Inputs.{AreAmong, AreEdges, AreIds, AreUpdates, IsBatch
 use Rattle.kc_text.specs.Meaning.{Means, Told, batches, changes, ends, ends_of, meaning, name_same, names}
 use Rattle.kc_text.specs.Readers.{outcome}
 use Rattle.kc_text.specs.Readings.{IsReading}
-use Rattle.kc_text.proofs.Limits.{AreFit, IsFit, fit-batches, meaning-fit}
+use Rattle.kc_text.proofs.WithinLimits.{AreFit, IsFit, fit-batches, meaning-fit}
 use Rattle.kc_text.proofs.NamedPairs.{Same, no_change, parts-same}
 use Rattle.kc_text.proofs.Places.{length-AreIds, place-below, place-injective}
 use Rattle.kc_text.proofs.Telling.{change_ends, ends-told, ends-batches}
+use Rattle.kc_text.specs.declared.limits.TheConstants.{MOST_IDS}
 
 -- an update of the batch, and the change that it is
 record IsUpdate (ids : List ℕ) (u : Update) (c : Change) : Type 0 where
@@ -117,7 +118,7 @@ pub record Accepted (bytes : List ℕ) (reading : Reading) : Type 0 where
   pub told : Told
   pub means : meaning bytes ≡ Means told
   pub read : IsReading told reading
-  pub few : length reading.ids.items ≤ 262144
+  pub few : length reading.ids.items ≤ MOST_IDS
   pub fit : All IsFit (batches told)
 
 pub accepted : (bytes : List ℕ) (reading : Reading) → (told : Told) × IsReading told reading × (meaning bytes ≡ outcome told reading.refusal) → reading.refusal ≡ None → Accepted bytes reading

@@ -20,12 +20,8 @@ use Rattle.kc_text.specs.Readings.{IsReading}
 use Rattle.kc_text.proofs.Counts.{fewer_names}
 use Rattle.kc_text.proofs.Places.{length-AreIds}
 use Rattle.kc_text.proofs.Telling.{names-batch, names-change, names-edge}
-
-All-front : {X : Type 0} (P : X → Type 0) (xs ys : List X) → All P (xs ++ ys) → All P xs
-All-front P xs ys h = λ i d l. subst P (get_or_append_left xs ys d i l) (h i d (omega (arith, length-append xs ys)))
-
-pub All-end : {X : Type 0} (P : X → Type 0) (xs : List X) (y : X) → All P (xs ++ y ∷ []) → P y
-All-end P xs y h = subst P (get_or-append_seam xs y [] y) (h (length xs) y (omega (arith, length-append xs (y ∷ []))))
+use Rattle.kc_distinct.proofs.Shared.{All-front, All-end}
+use Rattle.kc_text.specs.declared.limits.TheConstants.{MOST_IDS}
 
 once-front : (batch : List Change) (c : Change) → NamesOnce (batch ++ c ∷ []) → NamesOnce batch
 once-front batch c h = λ i j d l m.
@@ -61,7 +57,7 @@ clear-change told c clear = record {
 
 pub clear-batch : (told : Told) → IsClear (with_line told said.Batch) → IsClear told
 clear-batch told clear = record {
-  few = subst (λ (t : List ℕ). distinct_count nat_eq t ≤ 262144) (names-batch told) clear.few;
+  few = subst (λ (t : List ℕ). distinct_count nat_eq t ≤ MOST_IDS) (names-batch told) clear.few;
   once = All-front NamesOnce (batches told) ([] ∷ []) clear.once;
 }
 
@@ -76,7 +72,8 @@ All-kept [] h = All-nil NamesOnce
 All-kept (batch ∷ vectors) h = All-cons NamesOnce batch.items (map (λ batch. batch.items) vectors) (h 0 batch (omega arith)) (All-kept vectors (λ i d l. h (suc i) d (omega arith)))
 
 -- a reading that has nothing to find
-pub clear-reading : (told : Told) (reading : Reading) → IsReading told reading → length reading.ids.items ≤ 262144 → All (λ batch. NamesOnce batch.items) reading.batches.items → IsClear told
+pub clear-reading : (told : Told) (reading : Reading) → IsReading told reading → length reading.ids.items ≤ MOST_IDS
+    → All (λ batch. NamesOnce batch.items) reading.batches.items → IsClear told
 clear-reading told reading read few once = record {
   few = omega (arith, few, length-AreIds (names told) reading.ids.items read.ids);
   once = subst (All NamesOnce) read.batches (All-kept reading.batches.items once);

@@ -10,6 +10,7 @@ use Rattle.std.proofs.lemmas.Map.Keys.{IsDistinct-cons}
 use Rattle.std.proofs.lemmas.Map.Made.{hash_set_len-from_list, length-le_from_is_member}
 use Rattle.kc_text.specs.Meaning.{ends}
 use Rattle.kc_text.specs.Readers.{Gains, is_over}
+use Rattle.kc_text.specs.declared.limits.TheConstants.{MOST_IDS}
 
 pub is_member-unique : (xs : List ℕ) (q : ℕ) → is_member nat_eq (unique_keys nat_eq xs) q ≡ is_member nat_eq xs q
 is_member-unique [] q = refl
@@ -60,12 +61,13 @@ has_more (Some r) None xs ys a b more gains had = absurd gains
 has_more (Some r) (Some s) xs ys a b more gains had = λ q. gains q ∙ ap (λ t. nat_eq q b || (nat_eq q a || t)) (had q) ∙ sym (more q)
 
 abbrev pub Exact : {S : Type 0} → Option (HashSet ℕ S) → List ℕ → Type 0
-Exact ids xs = (is_some ids ≡ true) ⊎ (distinct_count nat_eq xs ≤ 262144)
+Exact ids xs = (is_some ids ≡ true) ⊎ (distinct_count nat_eq xs ≤ MOST_IDS)
 
-pub over_is : {S : Type 0} (ids : Option (HashSet ℕ S)) (xs : List ℕ) → Has ids xs → IfSome ids (IsUnique nat_eq) → Exact ids xs → is_over ids ≡ nat_lt 262144 (distinct_count nat_eq xs)
+pub over_is : {S : Type 0} (ids : Option (HashSet ℕ S)) (xs : List ℕ) → Has ids xs → IfSome ids (IsUnique nat_eq) → Exact ids xs
+    → is_over ids ≡ nat_lt MOST_IDS (distinct_count nat_eq xs)
 over_is None xs has unique (inl counts) = absurd (false≢true counts)
-over_is None xs has unique (inr few) = sym (le-ltb 262144 (distinct_count nat_eq xs) few)
-over_is (Some s) xs has unique exact = ap (λ (n : ℕ). nat_lt 262144 n) (hash_set_len-from_list nat_eq_equiv xs s (has, unique))
+over_is None xs has unique (inr few) = sym (le-ltb MOST_IDS (distinct_count nat_eq xs) few)
+over_is (Some s) xs has unique exact = ap (λ (n : ℕ). nat_lt MOST_IDS n) (hash_set_len-from_list nat_eq_equiv xs s (has, unique))
 
 flip : (a b : Bool) → (a || (b || false)) ≡ (b || (a || false))
 flip true true = refl

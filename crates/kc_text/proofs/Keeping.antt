@@ -13,6 +13,7 @@ use Rattle.kc_text.specs.Readers.{Gains, IsExact, IsKept, is_over, told_by}
 use Rattle.kc_text.proofs.Counts.{NamesMore, has_more, over_is}
 use Rattle.kc_text.proofs.Sure.{looks-after}
 use Rattle.kc_text.proofs.Telling.{changes-more, names-change, names-edge}
+use Rattle.kc_text.specs.declared.limits.TheConstants.{MOST_IDS, MOST_EDGE_LINES, MOST_UPDATES, MOST_BATCHES}
 
 names-after_edge : (old new : Reader) (a b : ℕ) → told_by new ≡ with_line (told_by old) (said.Edge a b) → NamesMore (names (told_by old)) (names (told_by new)) a b
 names-after_edge old new a b told = subst (λ (t : Told). NamesMore (names (told_by old)) (names t) a b) (sym told) (names-edge (told_by old) a b)
@@ -48,8 +49,11 @@ keeps-change old new c told pairs same more gains looks kept = record {
       omega (arith, kept.changes, length-append (changes (told_by old)) (c ∷ []));
 }
 
-pub limit-found : (reader : Reader) (many edge_lines updates batch_lines : Bool) → IsKept reader → IfSome reader.ids (IsUnique nat_eq) → IsExact reader → many ≡ is_over reader.ids → edge_lines ≡ nat_lt 2097152 (length (told_by reader).edges)
-    → updates ≡ nat_lt 1048576 reader.changes → batch_lines ≡ nat_lt 4096 (length (batches (told_by reader))) → first_limit many edge_lines updates batch_lines ≡ passed_limit (told_by reader)
+pub limit-found : (reader : Reader) (many edge_lines updates batch_lines : Bool) → IsKept reader → IfSome reader.ids (IsUnique nat_eq) → IsExact reader
+    → many ≡ is_over reader.ids → edge_lines ≡ nat_lt MOST_EDGE_LINES (length (told_by reader).edges)
+    → updates ≡ nat_lt MOST_UPDATES reader.changes → batch_lines ≡ nat_lt MOST_BATCHES (length (batches (told_by reader)))
+    → first_limit many edge_lines updates batch_lines ≡ passed_limit (told_by reader)
 limit-found reader many edge_lines updates batch_lines kept unique exact m e u b =
     ap₂ (λ (x y : Bool). first_limit x y updates batch_lines) (m ∙ over_is reader.ids (names (told_by reader)) kept.ids unique (elim exact [ inl is ↦ inl is | inr clear ↦ inr clear.few ])) e
-    ∙ ap₂ (λ (x y : Bool). first_limit (nat_lt 262144 (distinct_count nat_eq (names (told_by reader)))) (nat_lt 2097152 (length (told_by reader).edges)) x y) (u ∙ ap (nat_lt 1048576) kept.changes) b
+    ∙ ap₂ (λ (x y : Bool). first_limit (nat_lt MOST_IDS (distinct_count nat_eq (names (told_by reader))))
+    (nat_lt MOST_EDGE_LINES (length (told_by reader).edges)) x y) (u ∙ ap (nat_lt MOST_UPDATES) kept.changes) b

@@ -4,7 +4,7 @@ pub mod Counts
 pub mod FieldCuts
 pub mod Keeping
 pub mod Keyed
-pub mod Limits
+pub mod WithinLimits
 pub mod LineCuts
 pub mod Members
 pub mod NamedPairs

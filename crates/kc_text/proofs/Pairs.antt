@@ -3,29 +3,15 @@ use Rattle.std.proofs.Common.{◌≡◌, ℕ, Bool, true, List, refl, sym, ap, �
 use Rattle.std.specs.Prelude.{Contains}
 use Rattle.std.specs.List.{list_any, dedup}
 use Rattle.std.specs.List.Sorted.{IsPermutation}
-use Rattle.std.specs.Cmp.{IsEquivalence, IsTotalOrder, Equal-is, tied_itself, both_ways, nat_cmp_total}
-use Rattle.std.proofs.lemmas.Cmp.{on_total, then_total}
-use Rattle.std.proofs.lemmas.Map.Lookups.{exact_pairs, exact_unsigned}
+use Rattle.std.specs.Cmp.{IsEquivalence, both_ways}
 use Rattle.std.specs.FinSet as set
-use Rattle.std.specs.FinSet.{IsAntisymmetric}
-use Rattle.std.specs.Ordering.{eq_by_cmp, is_eq, nat_cmp}
+use Rattle.std.specs.Ordering.{eq_by_cmp}
 use Rattle.std.proofs.lemmas.List.Folds.{Any-from_list_any, list_any-from_Any}
 use Rattle.std.proofs.lemmas.List.Kept.{Contains-dedup, Contains-from_dedup}
 use Rattle.std.proofs.lemmas.List.Sorted.{list_any-IsPermutation}
 use Rattle.kc_graph.specs.SimpleGraph.{pair_cmp}
 use Rattle.std.proofs.lemmas.Bool.{and_parts, and_from}
-
-pub pair_total : IsTotalOrder pair_cmp
-pair_total = then_total (on_total (λ (x : ℕ × ℕ). x.0) nat_cmp_total) (on_total (λ (x : ℕ × ℕ). x.1) nat_cmp_total)
-
-pub pair_exact : IsAntisymmetric pair_cmp
-pair_exact = exact_pairs nat_cmp nat_cmp exact_unsigned exact_unsigned
-
-same_pair : (p q : ℕ × ℕ) → eq_by_cmp pair_cmp p q ≡ true → p ≡ q
-same_pair p q h = pair_exact p q ((Equal-is (pair_cmp p q)).0 h)
-
-tied_pair : (p q : ℕ × ℕ) → p ≡ q → eq_by_cmp pair_cmp p q ≡ true
-tied_pair p q e = ap (λ (x : ℕ × ℕ). eq_by_cmp pair_cmp p x) (sym e) ∙ ap is_eq (tied_itself pair_total p)
+use Rattle.kc_graph.proofs.RowsLemmas.{pair_total, pair_exact, same_pair, tied_pair}
 
 any_from_place : {X : Type 0} (p : X → Bool) (xs : List X) (y : X) → Contains xs y → p y ≡ true → list_any p xs ≡ true
 any_from_place p xs y h t = list_any-from_Any p xs (h.0, y, h.1, h.2, t)

@@ -1,5 +1,5 @@
 -- Dense numbers.
-use Rattle.std.proofs.Common.{◌≡◌, ◌≤◌, ◌<◌, ◌+◌, ℕ, suc, zero, Bool, true, false, cond, ◌||◌, List, [], ◌∷◌, ◌++◌, length, get_or, take, nat_eq, nat_lt, refl, sym, ap, subst, ◌∙◌, arith, inl, inr, eq-eqb, lt-ltb, le-ltb, eqb-true, min, max, Option, Some, None, not}
+use Rattle.std.proofs.Common.{◌≡◌, ◌<◌, ◌+◌, ℕ, suc, zero, Bool, true, false, cond, ◌||◌, List, [], ◌∷◌, ◌++◌, length, get_or, take, nat_eq, nat_lt, refl, sym, ap, subst, ◌∙◌, arith, inl, inr, eq-eqb, lt-ltb, le-ltb, eqb-true, min, max, Option, Some, None, not}
 use Rattle.std.specs.Prelude.{All}
 use Rattle.std.specs.List.{filter_map, position_or_len, cons_option}
 use Rattle.std.specs.List.Sorted.{IsStrictlyIncreasing}
@@ -12,13 +12,8 @@ use Rattle.std.proofs.lemmas.List.Sums.{position_or_len_is}
 use Rattle.std.proofs.lemmas.List.Elements.{All-cons, All-nil, filter_map-append}
 use Rattle.std.proofs.lemmas.List.{take_more}
 use Rattle.std.proofs.lemmas.Map.Keys.{IsDistinct-from_apart, sorted_from_strictly_increasing, below_from_sorted}
-use Rattle.std.proofs.lemmas.List.Kept.{AllPairs-from_increasing}
 use Rattle.kc_text.specs.Meaning.{ends}
 use Rattle.kc_text.specs.Inputs.{AreIds, place, numbered, between}
-
--- an ascending list never falls
-pub rises : (xs : List ℕ) → IsStrictlyIncreasing xs → (i j : ℕ) → i ≤ j → j < length xs → get_or xs i 0 ≤ get_or xs j 0
-rises xs up i j le l = elim (cases_eq i j) [ inl e ↦ omega (arith, ap (λ k. get_or xs k 0) e) | inr ne ↦ omega (arith, AllPairs-from_increasing xs up i j 0 (omega arith) l) ]
 
 pub found : (ids : List ℕ) (x i : ℕ) → IsStrictlyIncreasing ids → i < length ids → get_or ids i 0 ≡ x → place ids x ≡ i
 found ids x i up l e =

@@ -12,10 +12,15 @@ use Rattle.std.proofs.lemmas.List.Kept.{AllPairs-from_increasing}
 use Rattle.kc_text.specs.Buckets.{AreBuckets, IsBegin, IsRangeOf}
 use Rattle.kc_text.specs.Inputs.{place}
 use Rattle.kc_text.proofs.Members.{Contains-from_member}
-use Rattle.kc_text.proofs.Places.{found, rises}
+use Rattle.kc_text.proofs.Places.{found}
+use Rattle.kc_distinct.proofs.Shared.{never_falls}
 
-pub never_falls : (xs : List ℕ) → IsStrictlyIncreasing xs → IsNonDecreasingBy (λ (x : ℕ). x) xs
-never_falls xs up = λ i j d le l. elim (cases_eq i j) [ inl e ↦ omega (arith, ap (λ k. get_or xs k d) e) | inr ne ↦ omega (arith, AllPairs-from_increasing xs up i j d (omega arith) l) ]
+-- an ascending list does not decrease, as a sort by the numbers themselves says it
+pub is_non_decreasing : (xs : List ℕ) → IsStrictlyIncreasing xs → IsNonDecreasingBy (λ (x : ℕ). x) xs
+is_non_decreasing xs up = λ i j d le l. elim (cases_eq i j) [
+  | inl e ↦ omega (arith, ap (λ k. get_or xs k d) e)
+  | inr ne ↦ omega (arith, AllPairs-from_increasing xs up i j d (omega arith) l)
+]
 
 -- where a member stands
 stands : (ids : List ℕ) (id : ℕ) → is_member nat_eq ids id ≡ true → (i : ℕ) × (i < length ids) × (get_or ids i 0 ≡ id)
@@ -28,9 +33,6 @@ range-exists ids width begins id h there =
     let k : id / width < length ids = (div-lt_iff_lt-mul {k = width} {x = id} {y = length ids} h.some).1 (omega arith) in
     omega (arith, h.whole)
 
-product-suc : (k width : ℕ) → (k + 1) * width ≡ k * width + width
-product-suc k width = grind arith
-
 pub range-ordered : (ids : List ℕ) (width : ℕ) (begins : List ℕ) (k : ℕ) → AreBuckets ids width begins → k + 1 < length begins → get_or begins k 0 ≤ get_or begins (k + 1) 0
 range-ordered ids width begins k h l = elim (cases_lt (get_or begins (k + 1) 0) (get_or begins k 0)) [
   | inl less ↦
@@ -38,7 +40,8 @@ range-ordered ids width begins k h l = elim (cases_lt (get_or begins (k + 1) 0) 
       let within : get_or begins k 0 ≤ length ids = (h.each k (omega arith)).within in
       let below : get_or ids i 0 < k * width = (h.each k (omega arith)).parted.0 i 0 (omega arith) less in
       let above : (k + 1) * width ≤ get_or ids i 0 = (h.each (k + 1) l).parted.1 i 0 (omega arith) (omega arith) in
-      absurd (omega (arith, product-suc k width))
+      let next : (k + 1) * width ≡ k * width + width = grind arith in
+      absurd (omega arith)
   | inr ok ↦ ok
 ]
 
@@ -46,9 +49,10 @@ pub range-has : (ids : List ℕ) (width : ℕ) (begins : List ℕ) (id low high 
     → low ≡ get_or begins (id / width) 0 → high ≡ get_or begins (id / width + 1) 0 → i < length ids → get_or ids i 0 ≡ id → (low ≤ i) × (i < high)
 range-has ids width begins id low high i h exists low-is high-is l e =
     let least : id / width * width ≤ id = div-mul-le_self id width in
-    let most : id < id / width * width + width = lt-div-mul-add {a = id} {b = width} h.some in (
+    let most : id < id / width * width + width = lt-div-mul-add {a = id} {b = width} h.some in
+    let next : (id / width + 1) * width ≡ id / width * width + width = grind arith in (
       elim (cases_lt i low) [ inl less ↦ absurd (let b = (h.each (id / width) (omega arith)).parted.0 i 0 (omega arith) (omega arith) in omega arith) | inr ok ↦ ok ],
-      elim (cases_lt i high) [ inl ok ↦ ok | inr more ↦ absurd (let b = (h.each (id / width + 1) exists).parted.1 i 0 (omega arith) l in omega (arith, product-suc (id / width) width)) ],
+      elim (cases_lt i high) [ inl ok ↦ ok | inr more ↦ absurd (let b = (h.each (id / width + 1) exists).parted.1 i 0 (omega arith) l in omega (arith, next)) ],
     )
 
 part-rises : (ids : List ℕ) (id before : ℕ) (range : List ℕ) → IsRangeOf ids id before range → (i : ℕ) → i < length range → get_or range i 0 ≡ get_or ids (before + i) 0
@@ -58,7 +62,7 @@ part-rises ids id before range h i l =
 searched_range : (ids : List ℕ) (id before : ℕ) (range : List ℕ) (r : Result ℕ ℕ) → IsRangeOf ids id before range → IsStrictlyIncreasing ids → IsBinarySearchResult (λ y. nat_cmp y id) range r
     → MatchResult r (λ i. (i < length range) × (get_or range i 0 ≡ id)) (λ i. (i ≤ length range) × ((k : ℕ) → k < i → get_or range k 0 < id) × ((k : ℕ) → i ≤ k → k < length range → id < get_or range k 0))
 searched_range ids id before range r h up s = searched range id r s (λ i j le l.
-    let u = rises ids up (before + i) (before + j) (omega arith) (omega (arith, h.within)) in
+    let u = never_falls ids up (before + i) (before + j) (omega arith) (omega (arith, h.within)) in
     omega (arith, part-rises ids id before range h i (omega arith), part-rises ids id before range h j l))
 
 pub found_in_range : (ids : List ℕ) (id before : ℕ) (range : List ℕ) (i : ℕ) → IsRangeOf ids id before range → IsStrictlyIncreasing ids → IsBinarySearchResult (λ y. nat_cmp y id) range (Ok i) → before + i ≡ place ids id

@@ -37,8 +37,8 @@ abbrev pub NamesOnce : List Change → Type 0
 NamesOnce batch = AllPairs (λ c d. name_same d c ≡ false) batch
 
 -- there is a set of the pairs, or none is named twice
-abbrev pub IsSure : {S : Type 0} → Option (HashSet (ℕ × ℕ) S) → List Change → Type 0
-IsSure pairs changes = (is_some pairs ≡ true) ⊎ NamesOnce changes
+abbrev pub FindsRepeats : {S : Type 0} → Option (HashSet (ℕ × ℕ) S) → List Change → Type 0
+FindsRepeats pairs changes = (is_some pairs ≡ true) ⊎ NamesOnce changes
 
 -- the two halves of a number with 64 bits
 abbrev pub halves : ℕ → ℕ × ℕ

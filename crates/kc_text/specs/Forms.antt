@@ -41,27 +41,27 @@ abbrev pub is_comment : List ℕ → Bool
 is_comment [] = false
 is_comment (b ∷ bytes) = b == 35 || b == 37
 
-abbrev pub batch_line : List (List ℕ) → Line
-batch_line [] = Batch
-batch_line (extra ∷ rest) = Wrong ExtraField
+abbrev pub batch_form : List (List ℕ) → Line
+batch_form [] = Batch
+batch_form (extra ∷ rest) = Wrong ExtraField
 
-abbrev pub change_line : Bool → Result (ℕ × ℕ) Kind → Line
-change_line add (Ok pair) = Change (record { add = add; a = pair.0; b = pair.1 })
-change_line add (Err kind) = Wrong kind
+abbrev pub change_form : Bool → Result (ℕ × ℕ) Kind → Line
+change_form add (Ok pair) = Change (record { add = add; a = pair.0; b = pair.1 })
+change_form add (Err kind) = Wrong kind
 
-abbrev pub edge_line : Result (ℕ × ℕ) Kind → Line
-edge_line (Ok pair) = Edge pair.0 pair.1
-edge_line (Err kind) = Wrong kind
+abbrev pub edge_form : Result (ℕ × ℕ) Kind → Line
+edge_form (Ok pair) = Edge pair.0 pair.1
+edge_form (Err kind) = Wrong kind
 
 -- the form of a line is told by its first field
 abbrev pub line_of : List (List ℕ) → Line
 line_of [] = Nothing
 line_of (first ∷ rest) =
     if is_comment first then Nothing
-    else if bytes_eq first (codes "batch") then batch_line rest
-    else if bytes_eq first (codes "+") then change_line true (two_numbers rest)
-    else if bytes_eq first (codes "-") then change_line false (two_numbers rest)
-    else edge_line (two_numbers (first ∷ rest))
+    else if bytes_eq first (codes "batch") then batch_form rest
+    else if bytes_eq first (codes "+") then change_form true (two_numbers rest)
+    else if bytes_eq first (codes "-") then change_form false (two_numbers rest)
+    else edge_form (two_numbers (first ∷ rest))
 
 -- what a line says
 abbrev pub said_by : List ℕ → Line

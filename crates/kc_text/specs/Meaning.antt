@@ -9,6 +9,7 @@ use Rattle.kc_text.specs.declared.kind.Kind.TheVariants.{LoopInBatch, EdgeTwiceI
 use Rattle.kc_text.specs.declared.line.Line.{Line}
 use Rattle.kc_text.specs.declared.line.Line.TheVariants.{Nothing, Edge, Batch, Change, Wrong}
 use Rattle.kc_text.specs.Forms.{all_said}
+use Rattle.kc_text.specs.declared.limits.TheConstants.{MOST_IDS, MOST_EDGE_LINES, MOST_UPDATES, MOST_BATCHES, MOST_BYTES}
 
 -- What lines have told, all in their order: the edges of the edge lines, loops and repeats among them, the batches before the last
 -- one, and the last one, once there is a batch line.
@@ -65,9 +66,11 @@ first_limit ids edge_lines updates batches =
     else if batches then Some TooManyBatches
     else None
 
--- the limits: 262,144 different ids, 2,097,152 edge lines, 1,048,576 changes in all batches, and 4,096 batches
+-- the limits of the different ids, the edge lines, the changes in all batches, and the batches
 abbrev pub passed_limit : Told → Option Kind
-passed_limit told = first_limit (nat_lt 262144 (distinct_count nat_eq (names told))) (nat_lt 2097152 (length told.edges)) (nat_lt 1048576 (length (changes told))) (nat_lt 4096 (length (batches told)))
+passed_limit told =
+    first_limit (nat_lt MOST_IDS (distinct_count nat_eq (names told))) (nat_lt MOST_EDGE_LINES (length told.edges))
+    (nat_lt MOST_UPDATES (length (changes told))) (nat_lt MOST_BATCHES (length (batches told)))
 
 -- the first cause of two checks
 abbrev pub or_else : Option Kind → Option Kind → Option Kind
@@ -100,4 +103,4 @@ reading done told (line ∷ rest) = ends_or (refusal told line) (done + 1) (read
 
 -- what the bytes of a text mean
 abbrev pub meaning : List ℕ → Meaning
-meaning bytes = if nat_lt 67108864 (length bytes) then Refuses 0 TooLong else reading 0 nothing_told (all_said bytes)
+meaning bytes = if nat_lt MOST_BYTES (length bytes) then Refuses 0 TooLong else reading 0 nothing_told (all_said bytes)

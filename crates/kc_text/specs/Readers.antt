@@ -7,6 +7,7 @@ use Rattle.kc_text.specs.declared.reader.Reader.{Reader}
 use Rattle.kc_text.specs.declared.refusal.Refusal.{Refusal}
 use Rattle.kc_text.specs.Batches.{KeepsPairs, NamesOnce}
 use Rattle.kc_text.specs.Meaning.{Meaning, Means, Refuses, Told, batches, changes, names}
+use Rattle.kc_text.specs.declared.limits.TheConstants.{MOST_IDS}
 
 abbrev pub told_by : Reader → Told
 told_by reader = record {
@@ -28,7 +29,7 @@ pub record IsKept (reader : Reader) : Type 0 where
 
 -- the ids are within the limit, and no batch names a pair twice
 pub record IsClear (told : Told) : Type 0 where
-  pub few : distinct_count nat_eq (names told) ≤ 262144
+  pub few : distinct_count nat_eq (names told) ≤ MOST_IDS
   pub once : All NamesOnce (batches told)
 
 -- it looks at the ids and the pairs line by line, or there is nothing to find
@@ -45,7 +46,7 @@ Gains (Some old) (Some new) a b = (id : ℕ) → contains nat_eq new id ≡ (nat
 -- whether the set, if there is one, has too many ids
 abbrev pub is_over : {S : Type 0} → Option (HashSet ℕ S) → Bool
 is_over None = false
-is_over (Some ids) = nat_lt 262144 (hash_set_len ids)
+is_over (Some ids) = nat_lt MOST_IDS (hash_set_len ids)
 
 -- the meaning, as the reading ends
 abbrev pub outcome : Told → Option Refusal → Meaning

@@ -1,5 +1,6 @@
+//! A batch that is being read. It takes changes that fit, each once, and tells why another one is refused.
 ghost use Rattle.std.specs.Prelude.{◌≡◌, ◌∷◌, ◌++◌, [], None, Some, IfOk, OnOk, IsSome, is_some};
-ghost use Rattle.kc_text.specs.Batches.{GainsPair, IsSure, KeepsPairs, had_pair, pair_of};
+ghost use Rattle.kc_text.specs.Batches.{GainsPair, FindsRepeats, KeepsPairs, had_pair, pair_of};
 ghost use Rattle.kc_text.specs.Looks.{is_exact};
 ghost use Rattle.kc_text.specs.Meaning.{unfit};
 
@@ -66,7 +67,7 @@ impl Batch {
         ensures looks { OnOk result (is_some self.new.pairs ≡ is_some self.old.pairs) }
         ensures changes { IfOk result (λ cause. cause ≡ None → self.new.changes.items ≡ self.old.changes.items ++ change ∷ []) }
         ensures same { IfOk result (λ cause. IsSome cause → self.new.changes.items ≡ self.old.changes.items) }
-        ensures refused { IfOk result (λ cause. IsSure self.new.pairs self.new.changes.items → cause ≡ unfit (Some self.old.changes.items) change) }
+        ensures refused { IfOk result (λ cause. FindsRepeats self.new.pairs self.new.changes.items → cause ≡ unfit (Some self.old.changes.items) change) }
     {
         if change.a == change.b {
             return Ok(Some(Kind::LoopInBatch));

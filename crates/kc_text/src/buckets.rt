@@ -1,3 +1,4 @@
+//! Finds the number that stands for an id. The ids are parted into ranges of equal width, so that one is looked for among few.
 ghost use Rattle.std.specs.Prelude.{◌≡◌, ◌<◌, ◌≤◌, ◌*◌, ◌^◌, All, true, length, nat_eq, IfOk};
 ghost use Rattle.std.specs.List.Sorted.{IsStrictlyIncreasing};
 ghost use Rattle.std.specs.Set.{is_member};

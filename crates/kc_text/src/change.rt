@@ -1,3 +1,5 @@
+//! What an add or a remove line says.
+
 /// What an add or remove line says: the edge between two ids comes, where `add` holds, or goes.
 #[derive(Clone, Copy)]
 pub struct Change {

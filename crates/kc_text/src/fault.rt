@@ -1,3 +1,4 @@
+//! Why `parse` gives no input.
 use crate::NoMemory;
 use crate::refusal::Refusal;
 

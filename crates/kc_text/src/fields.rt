@@ -1,3 +1,4 @@
+//! Cuts the first field off a line. Blanks part fields, and an empty field is none.
 ghost use Rattle.std.specs.Prelude.{◌≡◌, ◌∷◌, [], MatchOption};
 ghost use Rattle.std.specs.List.{prefix_len, position_or_len};
 ghost use Rattle.kc_text.specs.Lines.{fields, is_blank};

@@ -1,3 +1,4 @@
+//! What `parse` gives: the ids, the edges at the start, and the batches.
 use kc_graph::Update;
 
 /// A graph and the batches that change it. The vertices are the numbers from 0 that stand for the ids in ascending order.

@@ -1,3 +1,4 @@
+//! The kinds of refusals, each with its number and its name in messages.
 ghost use Rattle.std.specs.Prelude.{◌≡◌, Some};
 ghost use Rattle.kc_text.specs.Kinds.{number_of, name_of, text_of};
 
@@ -23,15 +24,15 @@ pub enum Kind {
     UpdateOutsideBatch = 7,
     /// An edge line stands after a batch line.
     EdgeLineInBatch = 8,
-    /// With this line there are more than 262,144 different ids.
+    /// With this line there are more different ids than [`MOST_IDS`](crate::MOST_IDS).
     TooManyVertices = 9,
-    /// With this line there are more than 2,097,152 edge lines.
+    /// With this line there are more edge lines than [`MOST_EDGE_LINES`](crate::MOST_EDGE_LINES).
     TooManyEdgeLines = 10,
-    /// With this line there are more than 1,048,576 add and remove lines.
+    /// With this line there are more add and remove lines than [`MOST_UPDATES`](crate::MOST_UPDATES).
     TooManyUpdates = 11,
-    /// With this line there are more than 4,096 batch lines.
+    /// With this line there are more batch lines than [`MOST_BATCHES`](crate::MOST_BATCHES).
     TooManyBatches = 12,
-    /// There are more than 67,108,864 bytes. No line is meant, and `parse`, which takes no more, never gives it.
+    /// There are more bytes than [`MOST_BYTES`](crate::MOST_BYTES). No line is meant, and `parse`, which takes no more, never gives it.
     TooLong = 13,
 }
 

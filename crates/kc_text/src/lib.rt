@@ -19,6 +19,7 @@ mod fields;
 mod ids;
 mod input;
 mod kind;
+mod limits;
 mod line;
 mod look;
 mod number;
@@ -35,6 +36,7 @@ ghost use Rattle.std.specs.List.Sorted.{IsStrictlyIncreasing};
 ghost use Rattle.kc_text.specs.Inputs.{AreAmong, AreEdges, IsBatch, IsInput, numbered_change, parts_of, start_graph};
 ghost use Rattle.kc_text.specs.Meaning.{Means, Refuses, Told, ends, ends_of, meaning};
 ghost use Rattle.kc_text.specs.declared.refusal.Refusal.{Refusal};
+ghost use Rattle.kc_text.specs.declared.limits.TheConstants.{MOST_IDS, MOST_BYTES};
 
 use crate::buckets::Buckets;
 use crate::change::Change;
@@ -43,6 +45,7 @@ use crate::reading::{Reading, read_text};
 pub use fault::ParseFault;
 pub use input::Input;
 pub use kind::Kind;
+pub use limits::{MOST_BATCHES, MOST_BYTES, MOST_EDGE_LINES, MOST_IDS, MOST_UPDATES};
 pub use refusal::Refusal;
 pub use std::alloc::AllocError as NoMemory;
 use std::alloc::Global;
@@ -61,7 +64,8 @@ fn input_of(
     requires apart { All (λ batch. All (λ c. c.a ≢ c.b) batch.items) batches.now }
     ensures ids { IfOk result (λ input. input.ids.items ≡ ids.items) }
     ensures start { IfOk result (λ input. AreEdges (start_graph ids.items edges.now) input.start.items) }
-    ensures batches { IfOk result (λ input. map (λ batch. map parts_of batch.items) input.batches.items ≡ map (λ batch. map (numbered_change ids.items) batch.items) batches.now) }
+    ensures batches { IfOk result (λ input. map (λ batch. map parts_of batch.items) input.batches.items
+        ≡ map (λ batch. map (numbered_change ids.items) batch.items) batches.now) }
 {
     let buckets = Buckets::new(alloc, &ids)?;
     let start = start_of(alloc, &ids, &buckets, edges)?;
@@ -73,14 +77,14 @@ fn input_of(
     })
 }
 
-/// The input that a text of at most 67,108,864 bytes means.
+/// The input that a text of at most [`MOST_BYTES`] means.
 ///
 /// `Refused` comes exactly where a line is refused, with the first such line and the first check that it fails; `NoMemory` where there
 /// is no memory to read the text. No two updates of a batch are of one edge, so it doesn't matter in which order they are applied.
 pub fn parse(alloc: Global, bytes: &[u8]) -> Result<Input, ParseFault>
-    requires { length bytes.now ≤ 67108864 }
+    requires { length bytes.now ≤ MOST_BYTES }
     ensures input { IfOk result (λ input. (told : Told) × (meaning bytes.now ≡ Means told) × IsInput told input) }
-    ensures few { IfOk result (λ input. length input.ids.items ≤ 262144) }
+    ensures few { IfOk result (λ input. length input.ids.items ≤ MOST_IDS) }
     ensures batches { IfOk result (λ input. All (λ batch. IsBatch (length input.ids.items) batch.items) input.batches.items) }
     ensures refused { (r : Refusal) → IsErrOf result (ParseFault.Refused r) → meaning bytes.now ≡ Refuses r.line r.kind }
 {

@@ -1,6 +1,7 @@
+//! What one line of a text says, by the form that its first field tells.
 ghost use Rattle.std.specs.Prelude.{◌≡◌};
 ghost use Rattle.kc_text.specs.Lines.{fields};
-ghost use Rattle.kc_text.specs.Forms.{batch_line, change_line, edge_line, is_comment, said_by, two_numbers};
+ghost use Rattle.kc_text.specs.Forms.{batch_form, change_form, edge_form, is_comment, said_by, two_numbers};
 
 use crate::change::Change;
 use crate::fields::cut_field;
@@ -49,8 +50,8 @@ fn two_numbers(text: &[u8]) -> Result<(u32, u32), Kind>
     Ok((a, b))
 }
 
-fn edge_line(text: &[u8]) -> Line
-    ensures { result ≡ edge_line (two_numbers (fields text.now)) }
+fn edge_form(text: &[u8]) -> Line
+    ensures { result ≡ edge_form (two_numbers (fields text.now)) }
 {
     match two_numbers(text) {
         Ok((a, b)) => Line::Edge(a, b),
@@ -58,8 +59,8 @@ fn edge_line(text: &[u8]) -> Line
     }
 }
 
-fn batch_line(rest: &[u8]) -> Line
-    ensures { result ≡ batch_line (fields rest.now) }
+fn batch_form(rest: &[u8]) -> Line
+    ensures { result ≡ batch_form (fields rest.now) }
 {
     match cut_field(rest) {
         Some(_) => Line::Wrong(Kind::ExtraField),
@@ -67,8 +68,8 @@ fn batch_line(rest: &[u8]) -> Line
     }
 }
 
-fn change_line(add: bool, rest: &[u8]) -> Line
-    ensures { result ≡ change_line add (two_numbers (fields rest.now)) }
+fn change_form(add: bool, rest: &[u8]) -> Line
+    ensures { result ≡ change_form add (two_numbers (fields rest.now)) }
 {
     match two_numbers(rest) {
         Ok((a, b)) => Line::Change(Change { add, a, b }),
@@ -86,12 +87,12 @@ pub(crate) fn read_line(line: &[u8]) -> Line
     if is_comment(first) {
         Line::Nothing
     } else if first == b"batch".as_slice() {
-        batch_line(rest)
+        batch_form(rest)
     } else if first == b"+".as_slice() {
-        change_line(true, rest)
+        change_form(true, rest)
     } else if first == b"-".as_slice() {
-        change_line(false, rest)
+        change_form(false, rest)
     } else {
-        edge_line(line)
+        edge_form(line)
     }
 }

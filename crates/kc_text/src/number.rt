@@ -1,3 +1,4 @@
+//! The number that a field of decimal digits spells.
 ghost use Rattle.std.specs.Prelude.{◌≡◌};
 ghost use Rattle.kc_text.specs.Forms.{number};
 

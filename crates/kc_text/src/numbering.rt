@@ -1,3 +1,4 @@
+//! Puts numbers for the ids: the edges at the start and the updates of the batches join the numbers that stand for them.
 ghost use Rattle.std.specs.Prelude.{◌≡◌, ◌≢◌, ◌<◌, ◌^◌, All, true, length, map, nat_eq, IfOk};
 ghost use Rattle.std.specs.List.{filter_map};
 ghost use Rattle.std.specs.List.Sorted.{IsStrictlyIncreasing};

@@ -1,3 +1,4 @@
+//! Whether no batch names a pair twice, told when all is read, by a sort of each batch.
 ghost use Rattle.std.specs.Prelude.{◌≡◌, ◌↔◌, All, IfOk, IsTrue, map, nat_eq};
 ghost use Rattle.std.specs.Set.{distinct_count};
 ghost use Rattle.kc_text.specs.Batches.{NamesOnce, halves, pair_of};

@@ -1,8 +1,9 @@
+//! Takes one line after another and keeps what they tell, or gives the first check that a line fails.
 ghost use Rattle.std.specs.Prelude.{◌≡◌, ◌≤◌, ◌<◌, ◌+◌, ◌^◌, ◌++◌, [], None, Some, length, map, IfOk, OnOk, IfSome, IsSome, is_some, true, nat_eq, unwrap_or, ◌∷◌};
 ghost use Rattle.std.specs.HashSet.{IsUnique};
 ghost use Rattle.std.specs.Option.{option_map, option_to_list};
 ghost use Rattle.kc_text.specs.declared.line.Line.TheVariants as said;
-ghost use Rattle.kc_text.specs.Batches.{IsSure, KeepsPairs};
+ghost use Rattle.kc_text.specs.Batches.{FindsRepeats, KeepsPairs};
 ghost use Rattle.kc_text.specs.Looks.{is_exact};
 ghost use Rattle.kc_text.specs.Meaning.{batches, first_limit, nothing_told, passed_limit, refusal, unfit, with_line};
 ghost use Rattle.kc_text.specs.Readers.{told_by, Gains, HasIds, IsExact, IsKept, is_over};
@@ -11,22 +12,11 @@ use crate::NoMemory;
 use crate::batch::Batch;
 use crate::change::Change;
 use crate::kind::Kind;
+use crate::limits::{MOST_BATCHES, MOST_EDGE_LINES, MOST_IDS, MOST_UPDATES};
 use crate::line::Line;
 use crate::look::Look;
 use std::alloc::Global;
 use std::collections::HashSet;
-
-/// The most different ids.
-pub(crate) const MOST_IDS: usize = 262_144;
-
-/// The most edge lines.
-const MOST_EDGE_LINES: usize = 2_097_152;
-
-/// The most changes in all batches.
-const MOST_UPDATES: usize = 1_048_576;
-
-/// The most batches.
-const MOST_BATCHES: usize = 4096;
 
 /// What the lines so far have told.
 #[derive(Drop)]
@@ -97,9 +87,12 @@ fn take_into(last: &mut Option<Batch>, change: Change) -> Result<Option<Kind>, N
     requires { IfSome last.old (λ batch. KeepsPairs batch.pairs batch.changes.items) }
     ensures pairs { IfOk result (λ cause. cause ≡ None → IfSome last.new (λ batch. KeepsPairs batch.pairs batch.changes.items)) }
     ensures looks { OnOk result (option_map (λ batch. is_some batch.pairs) last.new ≡ option_map (λ batch. is_some batch.pairs) last.old) }
-    ensures changes { IfOk result (λ cause. cause ≡ None → option_map (λ batch. batch.changes.items) last.new ≡ Some (unwrap_or (option_map (λ batch. batch.changes.items) last.old) [] ++ change ∷ [])) }
-    ensures same { IfOk result (λ cause. IsSome cause → option_map (λ batch. batch.changes.items) last.new ≡ option_map (λ batch. batch.changes.items) last.old) }
-    ensures refused { IfOk result (λ cause. IfSome last.new (λ batch. IsSure batch.pairs batch.changes.items) → cause ≡ unfit (option_map (λ batch. batch.changes.items) last.old) change) }
+    ensures changes { IfOk result (λ cause. cause ≡ None → option_map (λ batch. batch.changes.items) last.new
+        ≡ Some (unwrap_or (option_map (λ batch. batch.changes.items) last.old) [] ++ change ∷ [])) }
+    ensures same { IfOk result (λ cause. IsSome cause
+        → option_map (λ batch. batch.changes.items) last.new ≡ option_map (λ batch. batch.changes.items) last.old) }
+    ensures refused { IfOk result (λ cause. IfSome last.new (λ batch. FindsRepeats batch.pairs batch.changes.items)
+        → cause ≡ unfit (option_map (λ batch. batch.changes.items) last.old) change) }
 {
     match last {
         None => Ok(Some(Kind::UpdateOutsideBatch)),

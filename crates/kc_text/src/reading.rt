@@ -1,18 +1,21 @@
+//! Reads a text up to its end or to the first line that is refused, which it names by number and kind.
 ghost use Rattle.std.specs.Prelude.{◌≡◌, ◌≤◌, ◌↔◌, All, IfOk, IsTrue, OnOk, is_some, length};
 ghost use Rattle.kc_text.specs.Batches.{NamesOnce};
 ghost use Rattle.kc_text.specs.Forms.{all_said};
 ghost use Rattle.kc_text.specs.Meaning.{Told, meaning, nothing_told, reading};
 ghost use Rattle.kc_text.specs.Readers.{told_by, IsExact, IsKept, outcome};
 ghost use Rattle.kc_text.specs.Readings.{IsEnd, IsReading};
+ghost use Rattle.kc_text.specs.declared.limits.TheConstants.{MOST_IDS, MOST_BYTES};
 
 use crate::NoMemory;
 use crate::bytes::cut_line;
 use crate::change::Change;
 use crate::ids::ids_of;
+use crate::limits::MOST_IDS;
 use crate::line::read_line;
 use crate::look::Look;
 use crate::once::all_name_once;
-use crate::reader::{MOST_IDS, Reader};
+use crate::reader::Reader;
 use crate::refusal::Refusal;
 use std::alloc::Global;
 
@@ -33,7 +36,7 @@ pub(crate) struct Reading {
 fn read_lines(alloc: Global, reader: &mut Reader, bytes: &[u8]) -> Result<Option<Refusal>, NoMemory>
     requires fresh { told_by reader.old ≡ nothing_told }
     requires kept { IsKept reader.old }
-    requires few { length bytes.now ≤ 67108864 }
+    requires few { length bytes.now ≤ MOST_BYTES }
     ensures exact { IfOk result (λ refusal. IsExact reader.new → reading 0 nothing_told (all_said bytes.now) ≡ outcome (told_by reader.new) refusal) }
     ensures looks { OnOk result (is_some reader.new.ids ≡ is_some reader.old.ids) }
 {
@@ -50,7 +53,7 @@ fn read_lines(alloc: Global, reader: &mut Reader, bytes: &[u8]) -> Result<Option
 }
 
 fn read(alloc: Global, look: Look, bytes: &[u8]) -> Result<Reading, NoMemory>
-    requires { length bytes.now ≤ 67108864 }
+    requires { length bytes.now ≤ MOST_BYTES }
     ensures { IfOk result (λ reading. (told : Told) × IsReading told reading × IsEnd look bytes.now told reading) }
 {
     let mut reader = Reader::new(alloc, look);
@@ -67,7 +70,8 @@ fn read(alloc: Global, look: Look, bytes: &[u8]) -> Result<Reading, NoMemory>
 
 /// Whether there are not too many ids, and no batch names a pair twice.
 fn is_clear(alloc: Global, reading: &Reading) -> Result<bool, NoMemory>
-    ensures { IfOk result (λ clear. IsTrue clear ↔ (length reading.now.ids.items ≤ 262144) × All (λ batch. NamesOnce batch.items) reading.now.batches.items) }
+    ensures { IfOk result (λ clear. IsTrue clear
+        ↔ (length reading.now.ids.items ≤ MOST_IDS) × All (λ batch. NamesOnce batch.items) reading.now.batches.items) }
 {
     if reading.ids.len() > MOST_IDS {
         return Ok(false);
@@ -78,7 +82,7 @@ fn is_clear(alloc: Global, reading: &Reading) -> Result<bool, NoMemory>
 /// Reads the text. The ids are counted and the pairs compared when all is read. Only where there are too many ids, or a batch names a
 /// pair twice, a second reading looks at each line, to find the first that is refused.
 pub(crate) fn read_text(alloc: Global, bytes: &[u8]) -> Result<Reading, NoMemory>
-    requires { length bytes.now ≤ 67108864 }
+    requires { length bytes.now ≤ MOST_BYTES }
     ensures { IfOk result (λ reading. (told : Told) × IsReading told reading × (meaning bytes.now ≡ outcome told reading.refusal)) }
 {
     let reading = read(alloc, Look::Quick, bytes)?;

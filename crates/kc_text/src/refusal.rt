@@ -1,3 +1,4 @@
+//! The line that is refused.
 use crate::kind::Kind;
 
 /// The first line that is refused, and why.

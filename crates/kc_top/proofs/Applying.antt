@@ -15,7 +15,7 @@ use Rattle.kc_graph.specs.declared.update.Update.{Update}
 use Rattle.kc_graph.proofs.RowsLemmas.{pair_total, pair_exact, same_pair}
 use Rattle.kc_text.specs.Inputs.{parts_of}
 use Rattle.kc_text.specs.Inputs as inputs
-use Rattle.kc_top.specs.Batches.{adds, edge_of, edges_after, graph_after, graph_with, is_add, is_applied, removes}
+use Rattle.kc_top.specs.Batches.{edges_added, changed_edge, edges_after_batch, graph_after_batch, graph_with, is_add, is_effective, edges_removed}
 
 -- the sign of an update, and its two ends
 abbrev pub Part : Type 0
@@ -23,56 +23,63 @@ Part = Bool × ℕ × ℕ
 
 -- whether the update adds the edge, or removes it
 abbrev adds_it : ℕ × ℕ → Part → Bool
-adds_it q update = is_add update && eq_by_cmp pair_cmp q (edge_of update)
+adds_it q update = is_add update && eq_by_cmp pair_cmp q (changed_edge update)
 
 abbrev removes_it : ℕ × ℕ → Part → Bool
-removes_it q update = not (is_add update) && eq_by_cmp pair_cmp q (edge_of update)
+removes_it q update = not (is_add update) && eq_by_cmp pair_cmp q (changed_edge update)
 
 any-kept : (keep : Part → Bool) (q : ℕ × ℕ) (batch : List Part)
-    → list_any (eq_by_cmp pair_cmp q) (map edge_of (filter keep batch)) ≡ list_any (λ update. keep update && eq_by_cmp pair_cmp q (edge_of update)) batch
+    → list_any (eq_by_cmp pair_cmp q) (map changed_edge (filter keep batch))
+    ≡ list_any (λ update. keep update && eq_by_cmp pair_cmp q (changed_edge update)) batch
 any-kept keep q [] = refl
 any-kept keep q (x ∷ batch) =
-    elim (keep x) as (λ k. list_any (eq_by_cmp pair_cmp q) (map edge_of (cond k (x ∷ filter keep batch) (filter keep batch))) ≡ ((k && eq_by_cmp pair_cmp q (edge_of x)) || list_any (λ update. keep update && eq_by_cmp pair_cmp q (edge_of update)) batch)) [
-      | true ↦ ap (λ t. eq_by_cmp pair_cmp q (edge_of x) || t) (any-kept keep q batch)
+    elim (keep x) as (λ k. list_any (eq_by_cmp pair_cmp q) (map changed_edge (cond k (x ∷ filter keep batch) (filter keep batch)))
+    ≡ ((k && eq_by_cmp pair_cmp q (changed_edge x)) || list_any (λ update. keep update && eq_by_cmp pair_cmp q (changed_edge update)) batch)) [
+      | true ↦ ap (λ t. eq_by_cmp pair_cmp q (changed_edge x) || t) (any-kept keep q batch)
       | false ↦ any-kept keep q batch
     ]
 
 -- which edges are there after a batch
 contains-after : (edges : set.FinSet pair_cmp) (batch : List Part) (q : ℕ × ℕ)
-    → set.contains (edges_after edges batch) q ≡ ((set.contains edges q || list_any (adds_it q) batch) && not (list_any (removes_it q) batch))
-unfolding edges_after
+    → set.contains (edges_after_batch edges batch) q ≡ ((set.contains edges q || list_any (adds_it q) batch) && not (list_any (removes_it q) batch))
+unfolding edges_after_batch
 contains-after edges batch q =
-    let some : set.FinSet pair_cmp = set.union edges (set.from_list (adds batch)) in
-    let gone : set.FinSet pair_cmp = set.from_list (removes batch) in
+    let some : set.FinSet pair_cmp = set.union edges (set.from_list (edges_added batch)) in
+    let gone : set.FinSet pair_cmp = set.from_list (edges_removed batch) in
     set.contains-difference pair_total some gone q
     ∙ ap₂ (λ (s t : Bool). s && not t)
-    (set.contains-union pair_total edges (set.from_list (adds batch)) q ∙ ap (λ t. set.contains edges q || t) (set.contains-from_list pair_total (adds batch) q ∙ any-kept is_add q batch))
-    (set.contains-from_list pair_total (removes batch) q ∙ any-kept (λ update. not (is_add update)) q batch)
+    (set.contains-union pair_total edges (set.from_list (edges_added batch)) q ∙ ap (λ t. set.contains edges q || t)
+    (set.contains-from_list pair_total (edges_added batch) q ∙ any-kept is_add q batch))
+    (set.contains-from_list pair_total (edges_removed batch) q ∙ any-kept (λ update. not (is_add update)) q batch)
 
 or-none : (a : Bool) → ((a || false) && not false) ≡ a
 or-none true = refl
 or-none false = refl
 
-pub graph_after-nil : (g : SimpleGraph) → graph_after g [] ≡ g
-graph_after-nil g =
-    let same : edges_after g.edges [] ≡ g.edges = set.same_set pair_total pair_exact _ _ (λ q. contains-after g.edges [] q ∙ or-none (set.contains g.edges q)) in
+pub graph_after_batch-nil : (g : SimpleGraph) → graph_after_batch g [] ≡ g
+graph_after_batch-nil g =
+    let same : edges_after_batch g.edges [] ≡ g.edges = set.same_set pair_total pair_exact _ _ (λ q. contains-after g.edges [] q
+    ∙ or-none (set.contains g.edges q)) in
     ap (λ (e : set.FinSet pair_cmp). let x : SimpleGraph = record { size = g.size; edges = e } in x) same
 
 -- no update of the batch names the edge
 abbrev Spares : ℕ × ℕ → List Part → Type 0
-Spares q batch = All (λ update. edge_of update ≢ q) batch
+Spares q batch = All (λ update. changed_edge update ≢ q) batch
 
-none-names : (keep : Part → Bool) (q : ℕ × ℕ) (batch : List Part) → Spares q batch → list_any (λ update. keep update && eq_by_cmp pair_cmp q (edge_of update)) batch ≡ false
-none-names keep q batch spares = list_any_none (λ update. keep update && eq_by_cmp pair_cmp q (edge_of update)) batch
-    (λ i d l. false_from_ne_true _ (λ t. spares i d l (sym (same_pair q (edge_of (get_or batch i d)) (and_parts (keep (get_or batch i d)) _ t).1))))
+none-names : (keep : Part → Bool) (q : ℕ × ℕ) (batch : List Part) → Spares q batch
+    → list_any (λ update. keep update && eq_by_cmp pair_cmp q (changed_edge update)) batch ≡ false
+none-names keep q batch spares = list_any_none (λ update. keep update && eq_by_cmp pair_cmp q (changed_edge update)) batch
+    (λ i d l. false_from_ne_true _ (λ t. spares i d l (sym (same_pair q (changed_edge (get_or batch i d)) (and_parts (keep (get_or batch i d)) _ t).1))))
 
 -- an edge that the batch doesn't name is there after it just where it was before
-contains-spared : (edges : set.FinSet pair_cmp) (batch : List Part) (q : ℕ × ℕ) → Spares q batch → set.contains (edges_after edges batch) q ≡ set.contains edges q
+contains-spared : (edges : set.FinSet pair_cmp) (batch : List Part) (q : ℕ × ℕ) → Spares q batch → set.contains (edges_after_batch edges batch) q
+    ≡ set.contains edges q
 contains-spared edges batch q spares =
     contains-after edges batch q ∙ ap₂ (λ (a r : Bool). (set.contains edges q || a) && not r) (none-names is_add q batch spares) (none-names (λ update. not (is_add update)) q batch spares) ∙ or-none (set.contains edges q)
 
-pub is_applied-later : (edges : set.FinSet pair_cmp) (batch : List Part) (x : Part) → Spares (edge_of x) batch → is_applied (edges_after edges batch) x ≡ is_applied edges x
-is_applied-later edges batch x spares = ap (λ t. cond (is_add x) (not t) t) (contains-spared edges batch (edge_of x) spares)
+pub is_effective-later : (edges : set.FinSet pair_cmp) (batch : List Part) (x : Part) → Spares (changed_edge x) batch
+    → is_effective (edges_after_batch edges batch) x ≡ is_effective edges x
+is_effective-later edges batch x spares = ap (λ t. cond (is_add x) (not t) t) (contains-spared edges batch (changed_edge x) spares)
 
 -- one more add: e says whether the edge asked for is the added one, and then it is not removed
 add-more : (c a r e : Bool) → (e ≡ true → r ≡ false) → (e || ((c || a) && not r)) ≡ ((c || (a || (e || false))) && not (r || false))
@@ -101,29 +108,35 @@ remove-more false false true false = refl
 remove-more false false false true = refl
 remove-more false false false false = refl
 
-module _ (edges : set.FinSet pair_cmp) (batch : List Part) (x : Part) (spares : Spares (edge_of x) batch) where
+module _ (edges : set.FinSet pair_cmp) (batch : List Part) (x : Part) (spares : Spares (changed_edge x) batch) where
   contains-push : (q : ℕ × ℕ)
-      → set.contains (cond (is_add x) (set.insert (edges_after edges batch) (edge_of x)) (set.remove (edges_after edges batch) (edge_of x))) q ≡ set.contains (edges_after edges (batch ++ x ∷ [])) q
+      → set.contains (cond (is_add x) (set.insert (edges_after_batch edges batch) (changed_edge x))
+      (set.remove (edges_after_batch edges batch) (changed_edge x))) q ≡ set.contains (edges_after_batch edges (batch ++ x ∷ [])) q
   contains-push q =
       let c : Bool = set.contains edges q in
       let a : Bool = list_any (adds_it q) batch in
       let r : Bool = list_any (removes_it q) batch in
-      let e : Bool = eq_by_cmp pair_cmp q (edge_of x) in
-      let before : set.contains (edges_after edges batch) q ≡ ((c || a) && not r) = contains-after edges batch q in
-      let after : set.contains (edges_after edges (batch ++ x ∷ [])) q ≡ ((c || (a || (adds_it q x || false))) && not (r || (removes_it q x || false))) =
+      let e : Bool = eq_by_cmp pair_cmp q (changed_edge x) in
+      let before : set.contains (edges_after_batch edges batch) q ≡ ((c || a) && not r) = contains-after edges batch q in
+      let after : set.contains (edges_after_batch edges (batch ++ x ∷ [])) q ≡ ((c || (a || (adds_it q x || false))) && not (r || (removes_it q x || false))) =
       contains-after edges (batch ++ x ∷ []) q ∙ ap₂ (λ (s t : Bool). (c || s) && not t) (list_any-append (adds_it q) batch (x ∷ [])) (list_any-append (removes_it q) batch (x ∷ [])) in
-      let spared : e ≡ true → r ≡ false = λ t. ap (λ (p : ℕ × ℕ). list_any (removes_it p) batch) (same_pair q (edge_of x) t) ∙ none-names (λ update. not (is_add update)) (edge_of x) batch spares in
-      elim (is_add x) as (λ b. set.contains (cond b (set.insert (edges_after edges batch) (edge_of x)) (set.remove (edges_after edges batch) (edge_of x))) q ≡ ((c || (a || ((b && e) || false))) && not (r || ((not b && e) || false)))) [
-        | true ↦ set.contains-insert pair_total (edges_after edges batch) (edge_of x) q ∙ ap (λ t. e || t) before ∙ add-more c a r e spared
-        | false ↦ set.contains-remove pair_total (edges_after edges batch) (edge_of x) q ∙ ap (λ t. not e && t) before ∙ remove-more c a r e
+      let spared : e ≡ true → r ≡ false = λ t. ap (λ (p : ℕ × ℕ). list_any (removes_it p) batch) (same_pair q (changed_edge x) t)
+      ∙ none-names (λ update. not (is_add update)) (changed_edge x) batch spares in
+      elim (is_add x) as (λ b. set.contains (cond b (set.insert (edges_after_batch edges batch) (changed_edge x))
+      (set.remove (edges_after_batch edges batch) (changed_edge x))) q ≡ ((c || (a || ((b && e) || false))) && not (r || ((not b && e) || false)))) [
+        | true ↦ set.contains-insert pair_total (edges_after_batch edges batch) (changed_edge x) q ∙ ap (λ t. e || t) before ∙ add-more c a r e spared
+        | false ↦ set.contains-remove pair_total (edges_after_batch edges batch) (changed_edge x) q ∙ ap (λ t. not e && t) before ∙ remove-more c a r e
       ] ∙ sym after
 
-  edges_after-push : cond (is_add x) (set.insert (edges_after edges batch) (edge_of x)) (set.remove (edges_after edges batch) (edge_of x)) ≡ edges_after edges (batch ++ x ∷ [])
-  edges_after-push = set.same_set pair_total pair_exact _ _ contains-push
+  edges_after_batch-push : cond (is_add x) (set.insert (edges_after_batch edges batch) (changed_edge x))
+      (set.remove (edges_after_batch edges batch) (changed_edge x)) ≡ edges_after_batch edges (batch ++ x ∷ [])
+  edges_after_batch-push = set.same_set pair_total pair_exact _ _ contains-push
 
 -- an update that the batch before it spares is one more of the batch
-pub graph_after-push : (g : SimpleGraph) (batch : List Part) (x : Part) → Spares (edge_of x) batch → graph_with (graph_after g batch) x ≡ graph_after g (batch ++ x ∷ [])
-graph_after-push g batch x spares = ap (λ (e : set.FinSet pair_cmp). let y : SimpleGraph = record { size = g.size; edges = e } in y) (edges_after-push g.edges batch x spares)
+pub graph_after_batch-push : (g : SimpleGraph) (batch : List Part) (x : Part) → Spares (changed_edge x) batch → graph_with (graph_after_batch g batch) x
+    ≡ graph_after_batch g (batch ++ x ∷ [])
+graph_after_batch-push g batch x spares = ap (λ (e : set.FinSet pair_cmp). let y : SimpleGraph = record { size = g.size; edges = e } in y)
+    (edges_after_batch-push g.edges batch x spares)
 
 edge-ordered : (u v : ℕ) → u < v → edge u v ≡ (u, v)
 edge-ordered u v l = ap (λ t. cond t (u, v) (v, u)) (lt-ltb u v l)
@@ -148,17 +161,19 @@ module _ (batch : List Update) (i : ℕ) (x : Update) (l : i < length batch) (he
   more = map_more parts_of batch i x l ∙ ap (λ (u : Update). map parts_of (take i batch) ++ parts_of u ∷ []) (sym here)
 
   -- those before it spare its edge
-  spares : AllPairs (λ u w. inputs.edge_of u ≢ inputs.edge_of w) batch → Spares (edge_of (parts_of x)) (map parts_of (take i batch))
-  spares apart = All-map (λ u. edge_of u ≢ edge_of (parts_of x)) parts_of (take i batch) (λ j d k e.
+  spares : AllPairs (λ u w. inputs.edge_of u ≢ inputs.edge_of w) batch → Spares (changed_edge (parts_of x)) (map parts_of (take i batch))
+  spares apart = All-map (λ u. changed_edge u ≢ changed_edge (parts_of x)) parts_of (take i batch) (λ j d k e.
       let short : length (take i batch) ≡ i = length-take-le i batch (omega arith) in
       apart j i d (omega (arith, short)) l
       (ap inputs.edge_of (sym (get_or-take i batch j d (omega (arith, short)))) ∙ e ∙ ap inputs.edge_of (here ∙ get_or_default batch i x d l)))
 
-  pub graph_after-more : (g : SimpleGraph) → AllPairs (λ u w. inputs.edge_of u ≢ inputs.edge_of w) batch → graph_with (graph_after g (map parts_of (take i batch))) (parts_of x) ≡ graph_after g (map parts_of (take (i + 1) batch))
-  graph_after-more g apart = graph_after-push g (map parts_of (take i batch)) (parts_of x) (spares apart) ∙ ap (graph_after g) (sym more)
+  pub graph_after_batch-more : (g : SimpleGraph) → AllPairs (λ u w. inputs.edge_of u ≢ inputs.edge_of w) batch
+      → graph_with (graph_after_batch g (map parts_of (take i batch))) (parts_of x) ≡ graph_after_batch g (map parts_of (take (i + 1) batch))
+  graph_after_batch-more g apart = graph_after_batch-push g (map parts_of (take i batch)) (parts_of x) (spares apart) ∙ ap (graph_after_batch g) (sym more)
 
-  pub is_applied-here : (edges : set.FinSet pair_cmp) → AllPairs (λ u w. inputs.edge_of u ≢ inputs.edge_of w) batch → is_applied (edges_after edges (map parts_of (take i batch))) (parts_of x) ≡ is_applied edges (parts_of x)
-  is_applied-here edges apart = is_applied-later edges (map parts_of (take i batch)) (parts_of x) (spares apart)
+  pub is_effective-here : (edges : set.FinSet pair_cmp) → AllPairs (λ u w. inputs.edge_of u ≢ inputs.edge_of w) batch
+      → is_effective (edges_after_batch edges (map parts_of (take i batch))) (parts_of x) ≡ is_effective edges (parts_of x)
+  is_effective-here edges apart = is_effective-later edges (map parts_of (take i batch)) (parts_of x) (spares apart)
 
   -- a count goes on where the update passes
   pub count_by-more : (p : Part → Bool) (passes : Bool) (n n' : ℕ) → passes ≡ p (parts_of x) → n ≡ count_by p (map parts_of (take i batch)) → n' ≡ cond passes (n + 1) n → n' ≡ count_by p (map parts_of (take (i + 1) batch))

@@ -15,7 +15,7 @@ use Rattle.kc_distinct.proofs.Counting.{filter-member, member-filter}
 use Rattle.kc_report.specs.Lines.{core_lines}
 use Rattle.kc_text.specs.Inputs.{AreIds, start_graph}
 use Rattle.kc_text.specs.Meaning.{Meaning, Means, Refuses, Told, names}
-use Rattle.kc_top.specs.Batches.{graph_after}
+use Rattle.kc_top.specs.Batches.{graph_after_batch}
 use Rattle.kc_top.specs.Text.{AreCoresAfter, IsOutput, IsText, first_line, last_of, lines_about, numbered_batches}
 
 -- the n numbers from a on
@@ -70,8 +70,8 @@ cores_exist g = let (core, order, shown) = certificate_exists g in (core, certif
 later_exist : (g : SimpleGraph) (batches : List (List (Bool × ℕ × ℕ))) → (later : List (List ℕ)) × AreCoresAfter g batches later
 later_exist g [] = ([], tt)
 later_exist g (batch ∷ batches) =
-    let (core, numbers) = cores_exist (graph_after g batch) in
-    let (later, more) = later_exist (graph_after g batch) batches in
+    let (core, numbers) = cores_exist (graph_after_batch g batch) in
+    let (later, more) = later_exist (graph_after_batch g batch) batches in
     (core ∷ later, (numbers, more))
 
 pub text_exists : (told : Told) → (text : List ℕ) × IsText told text

@@ -1,23 +1,25 @@
 -- What is read is within the limits: there are few batches, and few changes in them.
 use Rattle.std.proofs.Common.{◌≡◌, ◌≤◌, ◌<◌, ◌+◌, ℕ, Bool, true, false, cond, List, [], ◌∷◌, length, get_or, map, ap, sym, subst, ◌∙◌, arith, nat_lt, ltb-false, Option, Some, None, refl, Vec, Global}
-use Rattle.std.specs.Prelude.{All, is_some}
+use Rattle.std.specs.Prelude.{All}
 use Rattle.std.proofs.lemmas.List.{get_or-map, length-map}
 use Rattle.std.proofs.lemmas.List.Folds.{length-flat_map-take}
 use Rattle.kc_graph.specs.declared.update.Update.{Update}
 use Rattle.kc_text.specs.declared.change.Change as change
 use Rattle.kc_text.specs.declared.input.Input.{Input}
 use Rattle.kc_text.specs.declared.kind.Kind.{Kind}
-use Rattle.kc_text.specs.declared.kind.Kind.TheVariants.{EdgeLineInBatch, TooLong}
+use Rattle.kc_text.specs.declared.kind.Kind.TheVariants.{TooLong}
 use Rattle.kc_text.specs.declared.line.Line.{Line}
 use Rattle.kc_text.specs.declared.line.Line.TheVariants as said
 use Rattle.kc_text.specs.Forms.{all_said}
 use Rattle.kc_text.specs.Inputs.{IsBatch, IsInput, numbered_change, parts_of, start_graph}
 use Rattle.kc_text.specs.Meaning.{Told, Means, Refuses, batches, changes, ends_or, first_limit, meaning, nothing_told, or_else, passed_limit, reading, refusal, unfit, with_line}
 use Rattle.kc_top.specs.Limits.{IsWithinLimits}
+use Rattle.kc_text.specs.declared.limits.TheConstants.{MOST_IDS, MOST_UPDATES, MOST_BATCHES, MOST_BYTES}
+use Rattle.kc_text.proofs.WithinLimits.{edge_taken}
 
 record AreFew (told : Told) : Type 0 where
-  few_changes : length (changes told) ≤ 1048576
-  few_batches : length (batches told) ≤ 4096
+  few_changes : length (changes told) ≤ MOST_UPDATES
+  few_batches : length (batches told) ≤ MOST_BATCHES
 
 no_limit : (ids edge_lines updates batch_lines : Bool) → first_limit ids edge_lines updates batch_lines ≡ None → (updates ≡ false) × (batch_lines ≡ false)
 no_limit true edge_lines updates batch_lines h = absurd (cc)
@@ -29,13 +31,10 @@ no_limit false false false false h = (refl, refl)
 few_where_no_limit : (told : Told) → passed_limit told ≡ None → AreFew told
 few_where_no_limit told h =
     let (updates, batch_lines) = no_limit _ _ _ _ h in
-    record { few_changes = omega (arith, ltb-false 1048576 (length (changes told)) updates); few_batches = omega (arith, ltb-false 4096 (length (batches told)) batch_lines) }
-
-edge_taken : (told : Told) (a b : ℕ) → refusal told (said.Edge a b) ≡ None → passed_limit (with_line told (said.Edge a b)) ≡ None
-edge_taken told a b h = elim (is_some told.last) as (λ t. cond t (Some EdgeLineInBatch) (passed_limit (with_line told (said.Edge a b))) ≡ None → passed_limit (with_line told (said.Edge a b)) ≡ None) [
-  | true ↦ λ e. absurd (cc)
-  | false ↦ λ e. e
-] h
+    record {
+      few_changes = omega (arith, ltb-false MOST_UPDATES (length (changes told)) updates);
+      few_batches = omega (arith, ltb-false MOST_BATCHES (length (batches told)) batch_lines);
+    }
 
 second_of : (a b : Option Kind) → or_else a b ≡ None → b ≡ None
 second_of (Some kind) b h = absurd (cc)
@@ -57,10 +56,11 @@ reading-few done told (line ∷ rest) all few h =
     ] refl h
 
 meaning-few : (bytes : List ℕ) (all : Told) → meaning bytes ≡ Means all → AreFew all
-meaning-few bytes all h = elim (nat_lt 67108864 (length bytes)) as (λ b. cond b (Refuses 0 TooLong) (reading 0 nothing_told (all_said bytes)) ≡ Means all → AreFew all) [
-  | true ↦ λ e. absurd (cc)
-  | false ↦ λ e. reading-few 0 nothing_told (all_said bytes) all (record { few_changes = omega arith; few_batches = omega arith }) e
-] h
+meaning-few bytes all h = elim (nat_lt MOST_BYTES (length bytes)) as
+    (λ b. cond b (Refuses 0 TooLong) (reading 0 nothing_told (all_said bytes)) ≡ Means all → AreFew all) [
+      | true ↦ λ e. absurd (cc)
+      | false ↦ λ e. reading-few 0 nothing_told (all_said bytes) all (record { few_changes = omega arith; few_batches = omega arith }) e
+    ] h
 
 abbrev parts_in : Vec Update Global → List (Bool × ℕ × ℕ)
 parts_in batch = map parts_of batch.items
@@ -81,7 +81,8 @@ size-start_graph : (ids : List ℕ) (edges : List (ℕ × ℕ)) → (start_graph
 unfolding start_graph
 size-start_graph ids edges = refl
 
-pub within_limits : (bytes : List ℕ) (told : Told) (input : Input) → meaning bytes ≡ Means told → IsInput told input → length input.ids.items ≤ 262144 → All (λ batch. IsBatch (length input.ids.items) batch.items) input.batches.items → IsWithinLimits input
+pub within_limits : (bytes : List ℕ) (told : Told) (input : Input) → meaning bytes ≡ Means told → IsInput told input → length input.ids.items ≤ MOST_IDS
+    → All (λ batch. IsBatch (length input.ids.items) batch.items) input.batches.items → IsWithinLimits input
 within_limits bytes told input means is few sound =
     let limits : AreFew told = meaning-few bytes told means in
     record {

@@ -1,5 +1,5 @@
 -- No input has two texts.
-use Rattle.std.proofs.Common.{◌≡◌, ◌<◌, ℕ, suc, zero, Bool, true, false, ◌||◌, List, [], ◌∷◌, ◌++◌, length, get_or, nat_eq, refl, sym, ap, ap₂, subst, ◌∙◌, arith, inl, inr, eq-eqb, eqb-true}
+use Rattle.std.proofs.Common.{◌≡◌, ◌<◌, ℕ, suc, Bool, true, false, ◌||◌, List, [], ◌∷◌, ◌++◌, length, get_or, nat_eq, refl, sym, ap, ap₂, subst, ◌∙◌, arith, inl, inr, eq-eqb, eqb-true}
 use Rattle.std.specs.Set.{is_member}
 use Rattle.std.proofs.lemmas.Bool.{cases_Bool, or_left, false≢true, false_from_ne_true}
 use Rattle.std.proofs.lemmas.List.Kept.{AllPairs-from_increasing}
@@ -11,18 +11,14 @@ use Rattle.kc_distinct.proofs.Members.{member-cases}
 use Rattle.kc_report.specs.Lines.{core_lines}
 use Rattle.kc_text.specs.Inputs.{AreIds, start_graph}
 use Rattle.kc_text.specs.Meaning.{Told, names}
-use Rattle.kc_top.specs.Batches.{graph_after}
+use Rattle.kc_top.specs.Batches.{graph_after_batch}
 use Rattle.kc_top.specs.Text.{AreCoresAfter, IsText, first_line, last_of, lines_about, numbered_batches}
+use Rattle.kc_distinct.proofs.Shared.{get_or-any}
 
 -- each number is below those after it
 abbrev Rises : List ℕ → Type 0
 Rises [] = Unit {0}
 Rises (x ∷ xs) = ((y : ℕ) → is_member nat_eq xs y ≡ true → x < y) × Rises xs
-
-any_default : (xs : List ℕ) (k d e : ℕ) → k < length xs → get_or xs k d ≡ get_or xs k e
-any_default [] k d e l = absurd (omega arith)
-any_default (x ∷ xs) zero d e l = refl
-any_default (x ∷ xs) (suc k) d e l = any_default xs k d e (omega arith)
 
 rises_from : (xs : List ℕ) → ((i j : ℕ) → i < j → j < length xs → get_or xs i 0 < get_or xs j 0) → Rises xs
 rises_from [] up = tt
@@ -30,7 +26,7 @@ rises_from (x ∷ xs) up = (
   λ y m. (
       let (k, l, e) = Contains-from_member xs y m in
       let lt : x < get_or xs k 0 = up 0 (suc k) (omega arith) (omega arith) in
-      omega (arith, lt, any_default xs k 0 y l, e)
+      omega (arith, lt, get_or-any xs k 0 y l, e)
       ),
   rises_from xs (λ i j a b. up (suc i) (suc j) (omega arith) (omega arith)),
 )
@@ -75,7 +71,8 @@ later-unique g [] (core ∷ cores) second a b = absurd a
 later-unique g (batch ∷ batches) [] second a b = absurd a
 later-unique g (batch ∷ batches) (x ∷ xs) [] a b = absurd b
 later-unique g (batch ∷ batches) (x ∷ xs) (y ∷ ys) a b =
-    ap₂ (λ (core : List ℕ) (cores : List (List ℕ)). core ∷ cores) (core-unique (graph_after g batch) x y a.0 b.0) (later-unique (graph_after g batch) batches xs ys a.1 b.1)
+    ap₂ (λ (core : List ℕ) (cores : List (List ℕ)). core ∷ cores) (core-unique (graph_after_batch g batch) x y a.0 b.0)
+    (later-unique (graph_after_batch g batch) batches xs ys a.1 b.1)
 
 pub text-unique : (told : Told) (first second : List ℕ) → IsText told first → IsText told second → first ≡ second
 text-unique told first second a b =

@@ -6,22 +6,24 @@ use Rattle.kc_text.specs.declared.kind.Kind.TheVariants.{TooLong}
 use Rattle.kc_text.specs.Forms.{all_said}
 use Rattle.kc_text.specs.Meaning.{Refuses, meaning, nothing_told, reading}
 use Rattle.kc_top.specs.Outcome.{Took, TookSome}
-use Rattle.kc_top.specs.Stops.{IsRefusal, HasNoText, ended, status_of}
+use Rattle.kc_top.specs.Stops.{TellsRefusal, HasNoText, ended, status_of}
 use Rattle.kc_top.specs.Text.{IsTextOf}
 use Rattle.kc_top.specs.declared.ending.Stop.{Stop}
 use Rattle.kc_top.specs.declared.ending.Stop.TheVariants as stop
 use Rattle.kc_top.proofs.Existence.{output_exists}
+use Rattle.kc_text.specs.declared.limits.TheConstants.{MOST_BYTES}
 
-pub HasNoText-refused : (s : Stop) (n : ℕ) (kind : Kind) (input : Option (List ℕ)) (f f' : ℕ) → IsRefusal s n kind → IfSome input (λ bytes. meaning bytes ≡ Refuses n kind) → HasNoText s input f f'
+pub HasNoText-refused : (s : Stop) (n : ℕ) (kind : Kind) (input : Option (List ℕ)) (f f' : ℕ) → TellsRefusal s n kind
+    → IfSome input (λ bytes. meaning bytes ≡ Refuses n kind) → HasNoText s input f f'
 HasNoText-refused (stop.Refused line) n kind input f f' h m = (n, kind, h, m)
 HasNoText-refused stop.NoMemory n kind input f f' h m = tt
 HasNoText-refused stop.Usage n kind input f f' h m = absurd h
 HasNoText-refused stop.ReadFault n kind input f f' h m = absurd h
 HasNoText-refused stop.WriteFault n kind input f f' h m = absurd h
 
-pub too_long_refuses : (input : Option (List ℕ)) → IfSome input (λ all. 67108864 < length all) → IfSome input (λ bytes. meaning bytes ≡ Refuses 0 TooLong)
+pub too_long_refuses : (input : Option (List ℕ)) → IfSome input (λ all. MOST_BYTES < length all) → IfSome input (λ bytes. meaning bytes ≡ Refuses 0 TooLong)
 too_long_refuses None h = tt
-too_long_refuses (Some all) h = ap (λ b. cond b (Refuses 0 TooLong) (reading 0 nothing_told (all_said all))) (lt-ltb 67108864 (length all) h)
+too_long_refuses (Some all) h = ap (λ b. cond b (Refuses 0 TooLong) (reading 0 nothing_told (all_said all))) (lt-ltb MOST_BYTES (length all) h)
 
 pub told_is : (P : List ℕ → Type 0) (input : Option (List ℕ)) (bytes : List ℕ) → IfSome input (λ all. bytes ≡ all) → P bytes → IfSome input P
 told_is P None bytes h p = tt

@@ -9,7 +9,7 @@ use Rattle.kc_report.specs.Lines.{core_lines}
 use Rattle.kc_text.specs.Inputs.{IsInput, parts_of, start_graph}
 use Rattle.kc_text.specs.Meaning.{Told}
 use Rattle.kc_text.specs.declared.input.Input.{Input}
-use Rattle.kc_top.specs.Batches.{graph_after}
+use Rattle.kc_top.specs.Batches.{graph_after_batch}
 use Rattle.kc_top.proofs.Applying.{Part}
 use Rattle.kc_top.specs.Text.{AreCoresAfter, IsText, TellsBatches, first_line, last_of, line_about, lines_about, numbered_batches}
 
@@ -18,18 +18,21 @@ pub length-last_of : (g : SimpleGraph) (batches : List (List Part)) (core : List
 length-last_of g [] core [] e h = e
 length-last_of g [] core (next ∷ later) e h = absurd h
 length-last_of g (batch ∷ batches) core [] e h = absurd h
-length-last_of g (batch ∷ batches) core (next ∷ later) e h = length-last_of (graph_after g batch) batches next later h.0.one_each h.1
+length-last_of g (batch ∷ batches) core (next ∷ later) e h = length-last_of (graph_after_batch g batch) batches next later h.0.one_each h.1
 
 pub tells-none : (number : ℕ) (g : SimpleGraph) (core text : List ℕ) → TellsBatches number g core [] text text core
 tells-none number g core text = record { later = []; numbers = tt; is_last = refl; text = sym (append-nil text) }
 
-pub tells-more : (number : ℕ) (g : SimpleGraph) (core : List ℕ) (batch : List Part) (batches : List (List Part)) (next before middle after last : List ℕ) → AreCoreNumbers (graph_after g batch) next
-    → middle ≡ before ++ line_about number g batch next → TellsBatches (number + 1) (graph_after g batch) next batches middle after last → TellsBatches number g core (batch ∷ batches) before after last
+pub tells-more : (number : ℕ) (g : SimpleGraph) (core : List ℕ) (batch : List Part) (batches : List (List Part)) (next before middle after last : List ℕ)
+    → AreCoreNumbers (graph_after_batch g batch) next
+    → middle ≡ before ++ line_about number g batch next → TellsBatches (number + 1) (graph_after_batch g batch) next batches middle after last
+    → TellsBatches number g core (batch ∷ batches) before after last
 tells-more number g core batch batches next before middle after last numbers line rest = record {
   later = next ∷ rest.later;
   numbers = (numbers, rest.numbers);
   is_last = rest.is_last;
-  text = rest.text ∙ ap (λ (t : List ℕ). t ++ lines_about (number + 1) (graph_after g batch) batches rest.later) line ∙ append_assoc before (line_about number g batch next) (lines_about (number + 1) (graph_after g batch) batches rest.later);
+  text = rest.text ∙ ap (λ (t : List ℕ). t ++ lines_about (number + 1) (graph_after_batch g batch) batches rest.later) line
+      ∙ append_assoc before (line_about number g batch next) (lines_about (number + 1) (graph_after_batch g batch) batches rest.later);
 }
 
 abbrev pub graph_with_edges : ℕ → List (ℕ × ℕ) → SimpleGraph
@@ -64,7 +67,8 @@ parts_in batch = map parts_of batch.items
 
 -- the next of several batches
 pub tells-next : (batches : List (Vec Update Global)) (i : ℕ) (x : Vec Update Global) (updates : List Update) → i < length batches → x ≡ get_or batches i x → updates ≡ x.items
-    → (number : ℕ) (g g' : SimpleGraph) (core next before middle after last : List ℕ) → g' ≡ graph_after g (map parts_of updates) → AreCoreNumbers g' next → middle ≡ before ++ line_about number g (map parts_of updates) next
+    → (number : ℕ) (g g' : SimpleGraph) (core next before middle after last : List ℕ) → g' ≡ graph_after_batch g (map parts_of updates)
+    → AreCoreNumbers g' next → middle ≡ before ++ line_about number g (map parts_of updates) next
     → TellsBatches (number + 1) g' next (drop (i + 1) (map parts_in batches)) middle after last → TellsBatches number g core (drop i (map parts_in batches)) before after last
 tells-next batches i x updates l here same number g g' core next before middle after last changed numbers line rest =
     let batch : List Part = map parts_of updates in

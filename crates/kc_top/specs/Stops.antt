@@ -16,20 +16,20 @@ status_of stop.ReadFault = status.ReadFault
 status_of stop.WriteFault = status.WriteFault
 status_of stop.NoMemory = status.NoMemory
 
-abbrev pub line_of : Stop → List ℕ
-line_of stop.Usage = usage_line
-line_of (stop.Refused line) = string_bytes line
-line_of stop.ReadFault = codes "read fault\n"
-line_of stop.WriteFault = codes "write fault\n"
-line_of stop.NoMemory = codes "no memory\n"
+abbrev pub stop_line : Stop → List ℕ
+stop_line stop.Usage = usage_line
+stop_line (stop.Refused line) = string_bytes line
+stop_line stop.ReadFault = codes "read fault\n"
+stop_line stop.WriteFault = codes "write fault\n"
+stop_line stop.NoMemory = codes "no memory\n"
 
 -- a refusal with its line, or want of memory for it
-abbrev pub IsRefusal : Stop → ℕ → Kind → Type 0
-IsRefusal (stop.Refused line) n kind = string_bytes line ≡ refused_line n kind
-IsRefusal stop.NoMemory n kind = ⊤
-IsRefusal stop.Usage n kind = ⊥
-IsRefusal stop.ReadFault n kind = ⊥
-IsRefusal stop.WriteFault n kind = ⊥
+abbrev pub TellsRefusal : Stop → ℕ → Kind → Type 0
+TellsRefusal (stop.Refused line) n kind = string_bytes line ≡ refused_line n kind
+TellsRefusal stop.NoMemory n kind = ⊤
+TellsRefusal stop.Usage n kind = ⊥
+TellsRefusal stop.ReadFault n kind = ⊥
+TellsRefusal stop.WriteFault n kind = ⊥
 
 -- why no text came of a source
 abbrev pub HasNoText : Stop → Option (List ℕ) → ℕ → ℕ → Type 0
@@ -46,4 +46,4 @@ ended (Err s) = status_of s
 
 abbrev pub last_line : Result (Unit {0}) Stop → List ℕ
 last_line (Ok u) = []
-last_line (Err s) = line_of s
+last_line (Err s) = stop_line s

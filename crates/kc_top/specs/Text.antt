@@ -6,7 +6,7 @@ use Rattle.kc_graph.specs.Core.{AreCoreNumbers, greatest}
 use Rattle.kc_text.specs.Meaning.{Means, Meaning, Refuses, Told, batches, meaning, names}
 use Rattle.kc_text.specs.Inputs.{AreIds, numbered_change, start_graph}
 use Rattle.kc_report.specs.Lines.{batch_line, core_lines, graph_line}
-use Rattle.kc_top.specs.Batches.{added, graph_after, kept, removed}
+use Rattle.kc_top.specs.Batches.{added, graph_after_batch, kept, removed}
 
 -- the first line: how many vertices and edges a graph has, and its greatest core number
 abbrev pub first_line : SimpleGraph → List ℕ → List ℕ
@@ -15,20 +15,21 @@ first_line g core = graph_line g.size (set.len g.edges) (greatest core)
 -- the line about one batch of updates of `g`: what they do, and then the edges and the greatest core number of the graph after them
 abbrev pub line_about : ℕ → SimpleGraph → List (Bool × ℕ × ℕ) → List ℕ → List ℕ
 line_about number g batch core =
-    batch_line number (added g.edges batch) (removed g.edges batch) (kept g.edges batch) (set.len (graph_after g batch).edges) (greatest core)
+    batch_line number (added g.edges batch) (removed g.edges batch) (kept g.edges batch)
+    (set.len (graph_after_batch g batch).edges) (greatest core)
 
 -- the core numbers after each of the batches, which change `g` in turn
 abbrev pub AreCoresAfter : SimpleGraph → List (List (Bool × ℕ × ℕ)) → List (List ℕ) → Type 0
 AreCoresAfter g [] [] = ⊤
 AreCoresAfter g [] (core ∷ cores) = ⊥
 AreCoresAfter g (batch ∷ batches) [] = ⊥
-AreCoresAfter g (batch ∷ batches) (core ∷ cores) = AreCoreNumbers (graph_after g batch) core × AreCoresAfter (graph_after g batch) batches cores
+AreCoresAfter g (batch ∷ batches) (core ∷ cores) = AreCoreNumbers (graph_after_batch g batch) core × AreCoresAfter (graph_after_batch g batch) batches cores
 
 -- the lines about the batches, with the core numbers after each, where the first has this number
 abbrev pub lines_about : ℕ → SimpleGraph → List (List (Bool × ℕ × ℕ)) → List (List ℕ) → List ℕ
 lines_about number g [] cores = []
 lines_about number g (batch ∷ batches) [] = []
-lines_about number g (batch ∷ batches) (core ∷ cores) = line_about number g batch core ++ lines_about (number + 1) (graph_after g batch) batches cores
+lines_about number g (batch ∷ batches) (core ∷ cores) = line_about number g batch core ++ lines_about (number + 1) (graph_after_batch g batch) batches cores
 
 -- the last of the lists, or the first one where there is no other
 abbrev pub last_of : List ℕ → List (List ℕ) → List ℕ

@@ -1,9 +1,10 @@
-// The lines about batches.
+//! The lines about batches.
 ghost use Rattle.std.specs.Prelude.{◌≡◌, ◌≤◌, ◌++◌, All, IfOk, OnOk, length, map};
 ghost use Rattle.kc_graph.specs.Core.{AreCoreNumbers};
 ghost use Rattle.kc_text.specs.Inputs.{IsBatch, parts_of};
-ghost use Rattle.kc_top.specs.Batches.{graph_after};
+ghost use Rattle.kc_top.specs.Batches.{graph_after_batch};
 ghost use Rattle.kc_top.specs.Text.{TellsBatches, line_about};
+ghost use Rattle.kc_text.specs.declared.limits.TheConstants.{MOST_UPDATES, MOST_BATCHES};
 
 use crate::batch::apply;
 use crate::graph::greatest;
@@ -20,8 +21,8 @@ fn put_batch(
     batch: &[Update],
 ) -> Result<Vec<u32>, NoMemory>
     requires batch { IsBatch graph.old.size batch.now }
-    requires few { length batch.now ≤ 1048576 }
-    ensures graph { OnOk result (graph.new ≡ graph_after graph.old (map parts_of batch.now)) }
+    requires few { length batch.now ≤ MOST_UPDATES }
+    ensures graph { OnOk result (graph.new ≡ graph_after_batch graph.old (map parts_of batch.now)) }
     ensures numbers { IfOk result (λ core. AreCoreNumbers graph.new core.items) }
     ensures text { IfOk result (λ core. text.new.items ≡ text.old.items ++ line_about number graph.old (map parts_of batch.now) core.items) }
 {
@@ -47,10 +48,11 @@ pub(crate) fn put_batches(
     mut core: Vec<u32>,
     batches: &[Vec<Update>],
 ) -> Result<Vec<u32>, NoMemory>
-    requires few { length batches.now ≤ 4096 }
+    requires few { length batches.now ≤ MOST_BATCHES }
     requires batches { All (λ batch. IsBatch graph.old.size batch.items) batches.now }
-    requires short { All (λ batch. length batch.items ≤ 1048576) batches.now }
-    ensures { IfOk result (λ last. TellsBatches 1 graph.old core.items (map (λ batch. map parts_of batch.items) batches.now) text.old.items text.new.items last.items) }
+    requires short { All (λ batch. length batch.items ≤ MOST_UPDATES) batches.now }
+    ensures { IfOk result (λ last. TellsBatches 1 graph.old core.items (map (λ batch. map parts_of batch.items) batches.now)
+        text.old.items text.new.items last.items) }
 {
     let mut number = 0;
     for batch in batches {

@@ -1,7 +1,7 @@
-// Where a run stops: its status, and the line about it.
+//! Where a run stops: its status, and the line about it.
 ghost use Rattle.std.specs.Prelude.{◌≡◌, IfOk, string_bytes};
 ghost use Rattle.kc_top.specs.ErrLines.{refused_line, TookLine};
-ghost use Rattle.kc_top.specs.Stops.{IsRefusal, status_of, line_of};
+ghost use Rattle.kc_top.specs.Stops.{TellsRefusal, status_of, stop_line};
 
 use crate::Status;
 use kc_graph::NoMemory;
@@ -32,7 +32,7 @@ fn refused_line(alloc: Global, refusal: Refusal) -> Result<String, NoMemory>
 
 /// The stop at a refusal. Its line is made here, so that ending the run takes no memory.
 pub(crate) fn refused(alloc: Global, refusal: Refusal) -> Stop
-    ensures { IsRefusal result refusal.line refusal.kind }
+    ensures { TellsRefusal result refusal.line refusal.kind }
 {
     match refused_line(alloc, refusal) {
         Ok(line) => Stop::Refused(line),
@@ -50,7 +50,7 @@ fn put_line<E: Sink>(err: &mut E, line: &[u8])
 /// Writes the line about the stop, and gives the status, which is settled before.
 pub(crate) fn finish<E: Sink>(err: &mut E, stop: Stop) -> Status
     ensures status { result ≡ status_of stop }
-    ensures line { TookLine (E.taken err.old) (E.taken err.new) (E.faults err.old) (E.faults err.new) (line_of stop) }
+    ensures line { TookLine (E.taken err.old) (E.taken err.new) (E.faults err.old) (E.faults err.new) (stop_line stop) }
 {
     match stop {
         Stop::Usage => {

@@ -1,4 +1,4 @@
-// The graph of sorted pairs, and the greatest of its core numbers.
+//! The graph of sorted pairs, and the greatest of its core numbers.
 ghost use Rattle.std.specs.Prelude.{◌≡◌, ◌<◌, ℕ, All, IfOk};
 ghost use Rattle.std.specs.FinSet as set;
 ghost use Rattle.kc_graph.specs.Core.{greatest};

@@ -1,4 +1,4 @@
-// The run.
+//! The run.
 ghost use Rattle.std.specs.Prelude.{◌≡◌, ◌<◌, ◌↔◌, ◌⊎◌, ℕ, List, Some, IfOk, IfErr, OnOk, IfSome, length};
 ghost use Rattle.std.specs.Io.KnownBytes.{IsAtEnd};
 ghost use Rattle.kc_io.specs.Causes.{Rose};

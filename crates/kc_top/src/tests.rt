@@ -1,4 +1,4 @@
-// Whole runs, as bytes of both sinks.
+//! Whole runs, as bytes of both sinks.
 use crate::Status;
 use crate::memory::run_in_memory;
 use kc_io::mem_sink::MemSink;

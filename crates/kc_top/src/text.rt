@@ -1,10 +1,11 @@
-// The output of a run, as a text.
+//! The output of a run, as a text.
 ghost use Rattle.std.specs.Prelude.{◌≡◌, ◌≤◌, IfOk, IsErrOf, length};
 ghost use Rattle.kc_text.specs.Inputs.{IsInput};
 ghost use Rattle.kc_text.specs.Meaning.{Refuses, Told, meaning};
 ghost use Rattle.kc_text.specs.declared.refusal.Refusal.{Refusal};
 ghost use Rattle.kc_top.specs.Limits.{IsWithinLimits};
 ghost use Rattle.kc_top.specs.Text.{IsText, IsTextOf};
+ghost use Rattle.kc_text.specs.declared.limits.TheConstants.{MOST_BYTES};
 
 use crate::batch_lines::put_batches;
 use crate::graph::{graph_of, greatest};
@@ -34,7 +35,7 @@ fn lines_of(alloc: Global, input: &Input) -> Result<Vec<u8>, NoMemory>
 
 /// The output for the bytes of an input.
 pub(crate) fn text_of(alloc: Global, bytes: &[u8]) -> Result<Vec<u8>, ParseFault>
-    requires { length bytes.now ≤ 67108864 }
+    requires { length bytes.now ≤ MOST_BYTES }
     ensures text { IfOk result (λ text. IsTextOf bytes.now text.items) }
     ensures refused { (r : Refusal) → IsErrOf result (ParseFault.Refused r) → meaning bytes.now ≡ Refuses r.line r.kind }
 {

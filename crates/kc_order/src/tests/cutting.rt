@@ -1,4 +1,4 @@
-// A comparison that is cut by the stores of a put, between any two of them.
+//! A comparison that is cut by the stores of a put, between any two of them.
 ghost use Rattle.std.specs.Prelude.{◌≡◌, ◌≤◌};
 
 use super::one_full_group;

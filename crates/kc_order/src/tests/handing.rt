@@ -1,7 +1,7 @@
-// One thread puts and hands over what it has seen, and another compares.
+//! One thread puts and hands over what it has seen, and another compares.
 ghost use Rattle.std.specs.Prelude.{◌≡◌, ◌<◌, ◌≤◌};
 
-use super::plain;
+use super::{plain, put_after_0};
 use crate::{Answer, SharedOrder, Writer};
 use kc_table::{Name, Pass, Words, meet, split};
 use std::alloc::Global;
@@ -42,7 +42,7 @@ fn put_one<K: Name, R: Wait + Abort>(
     requires item { (0 < item) × (item ≤ PUTS) }
     ensures { pass.new.table ≡ K.table }
 {
-    assert_eq!(rt; shared.put_after(rt, pass, item, 0), Ok(()));
+    put_after_0(rt, shared, pass, item);
     let next = Handed {
         item,
         pass: split(shared.words(), pass),

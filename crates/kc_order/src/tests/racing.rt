@@ -1,7 +1,7 @@
-// One thread puts and takes without a pause, through splits and new labels of all groups, and another compares meanwhile.
+//! One thread puts and takes without a pause, through splits and new labels of all groups, and another compares meanwhile.
 ghost use Rattle.std.specs.Prelude.{◌≡◌, ◌<◌, ◌≤◌, ◌+◌, ◌*◌};
 
-use super::plain;
+use super::{ask, plain, put_after_0, take};
 use crate::{Answer, SharedOrder, Writer};
 use kc_table::{Name, Pass, Words, meet, split};
 use std::marker::{Brand, PhantomData};
@@ -40,9 +40,9 @@ fn put_and_take<K: Name, R: Wait + Abort>(
     ensures { pass.new.table ≡ K.table }
 {
     let (goes, stays) = (2 * round - 1, 2 * round);
-    assert_eq!(rt; shared.put_after(rt, pass, goes, 0), Ok(()));
-    assert_eq!(rt; shared.put_after(rt, pass, stays, 0), Ok(()));
-    assert_eq!(rt; shared.take(rt, pass, goes), Ok(()));
+    put_after_0(rt, shared, pass, goes);
+    put_after_0(rt, shared, pass, stays);
+    take(rt, shared, pass, goes, Ok(()));
 }
 
 /// What a round that is over hands to the thread that compares.
@@ -106,7 +106,7 @@ impl Told {
         self.check(rt, shared.precedes(pass, 0, last), Answer::Before);
         self.check(rt, shared.precedes(pass, 2, 0), Answer::After);
         let taken = Answer::Absent { item: last - 1 };
-        assert_eq!(rt; shared.precedes(pass, last - 1, 0), taken);
+        ask(rt, shared, pass, last - 1, 0, taken);
         if middle < last {
             self.check(rt, shared.precedes(pass, last, middle), Answer::Before);
             self.check(rt, shared.precedes(pass, middle, last), Answer::After);

@@ -1,6 +1,5 @@
 -- The sum so far is a part of the whole, which fits.
-use Rattle.std.proofs.Common.{◌≡◌, ◌+◌, ℕ, List, [], length, take, ap, sym, ◌∙◌, arith, Vec, Global}
-use Rattle.std.specs.List.{sum_by}
+use Rattle.std.proofs.Common.{◌≡◌, ℕ, List, [], length, ap, arith, Vec, Global}
 use Rattle.std.proofs.lemmas.List.Sums.{sum_by_more, sum_by_more_le}
 use Rattle.kc_graph.specs.Rows.{lists, row}
 use Rattle.kc_graph.proofs.Adding.{few_edges}

@@ -1,3 +1,4 @@
+-- Pairs that are sorted and lose their repeats are the edges of the graph.
 use Rattle.std.proofs.Common.{◌≡◌, ℕ, List, sym, ap, subst, ◌∙◌, length}
 use Rattle.std.specs.Prelude.{All}
 use Rattle.std.specs.List.{dedup, filter_map}
@@ -8,9 +9,10 @@ use Rattle.std.proofs.lemmas.List.Kept.{IsStrictlySortedBy-dedup}
 use Rattle.std.proofs.lemmas.List.Sorted.{All-permutation}
 use Rattle.kc_graph.specs.SimpleGraph.{pair_cmp}
 use Rattle.kc_text.specs.Inputs.{start_graph, numbered}
-use Rattle.kc_text.proofs.Pairs.{pair_total, pair_eq, pair_equiv, equal_pair, pair_ties, same_edges}
+use Rattle.kc_text.proofs.Pairs.{pair_eq, pair_equiv, equal_pair, pair_ties, same_edges}
 use Rattle.kc_text.proofs.Places.{Within, numbered-within}
 use Rattle.kc_text.proofs.numbering.start_of.Goals as goal
+use Rattle.kc_graph.proofs.RowsLemmas.{pair_total}
 
 pub returns : goal.returns
 unfolding start_graph

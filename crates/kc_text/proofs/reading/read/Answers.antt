@@ -1,3 +1,4 @@
+-- What the reader was told, its lists and its ids, is the reading.
 use Rattle.std.proofs.Common.{◌≡◌, ◌≤◌, ℕ, List, ◌++◌, length, map, sym, ap, ap₂, ◌∙◌, subst, cond, inl, inr, le-ltb, Vec, Global}
 use Rattle.std.specs.List.{flat_map}
 use Rattle.kc_text.specs.declared.change.Change.{Change}
@@ -8,9 +9,10 @@ use Rattle.kc_text.specs.Readers.{told_by}
 use Rattle.kc_text.specs.Inputs.{AreIds}
 use Rattle.kc_text.proofs.Telling.{all-items, ends-told}
 use Rattle.kc_text.proofs.reading.read.Goals as goal
+use Rattle.kc_text.specs.declared.limits.TheConstants.{MOST_BYTES}
 
-meaning-is : (bytes : List ℕ) → length bytes ≤ 67108864 → meaning bytes ≡ reading 0 nothing_told (all_said bytes)
-meaning-is bytes l = ap (λ b. cond b (Refuses 0 TooLong) (reading 0 nothing_told (all_said bytes))) (le-ltb 67108864 (length bytes) l)
+meaning-is : (bytes : List ℕ) → length bytes ≤ MOST_BYTES → meaning bytes ≡ reading 0 nothing_told (all_said bytes)
+meaning-is bytes l = ap (λ b. cond b (Refuses 0 TooLong) (reading 0 nothing_told (all_said bytes))) (le-ltb MOST_BYTES (length bytes) l)
 
 -- the ends that were collected are all that was named
 collected : (told : Told) (edges : List (ℕ × ℕ)) (read : List (Vec Change Global)) → edges ≡ told.edges → map (λ batch. batch.items) read ≡ batches told

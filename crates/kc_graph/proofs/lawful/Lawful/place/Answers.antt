@@ -19,7 +19,8 @@ returns-clause-place c =
     let order : List ℕ = c.self.inside.order.items in
     let places : List ℕ = c.self.inside.places.items in
     let v-in : c.args.v < length order = omega (arith, length-enumerates c.self.inside.graph.size order c.self.invariant.0.enumerates, ap (λ (s : Ranked). s.graph.size) c.self.view_is) in
-    let read : c.index.result.now ≡ get_or places c.args.v 0 = c.index.ensures ∙ get_or-any places c.args.v c.index.result.now 0 (omega (arith, c.self.invariant.1.one_each)) in
+    let read : c.index.result.now ≡ get_or places c.args.v 0 = c.index.ensures ∙ get_or-any places c.args.v c.index.result.now 0
+    (omega (arith, c.self.invariant.1.one_each)) in
     let k : ℕ = get_or places c.args.v 0 in
     let at-k = place_of-at order k (Distinct-from_pairs order c.self.invariant.0.enumerates.distinct) (c.self.invariant.1.within c.args.v v-in) in
     read ∙ sym (ap (λ x. place_of x order) (sym (c.self.invariant.1.right c.args.v v-in)) ∙ at-k) ∙ ap (λ (s : Ranked). place_of c.args.v s.order) c.self.view_is
@@ -29,6 +30,7 @@ returns-clause-vertex c =
     let order : List ℕ = c.self.inside.order.items in
     let places : List ℕ = c.self.inside.places.items in
     let v-in : c.args.v < length order = omega (arith, length-enumerates c.self.inside.graph.size order c.self.invariant.0.enumerates, ap (λ (s : Ranked). s.graph.size) c.self.view_is) in
-    let read : c.index.result.now ≡ get_or places c.args.v 0 = c.index.ensures ∙ get_or-any places c.args.v c.index.result.now 0 (omega (arith, c.self.invariant.1.one_each)) in
+    let read : c.index.result.now ≡ get_or places c.args.v 0 = c.index.ensures ∙ get_or-any places c.args.v c.index.result.now 0
+    (omega (arith, c.self.invariant.1.one_each)) in
     let here = slice_get-get_or order (get_or places c.args.v 0) 0 (c.self.invariant.1.within c.args.v v-in) in
     ap (λ (s : Ranked). slice_get s.order c.index.result.now) (sym c.self.view_is) ∙ ap (slice_get order) read ∙ here ∙ ap Some (c.self.invariant.1.right c.args.v v-in)
