@@ -2,8 +2,8 @@
 
     python3 bench/from_python.py [--networkx] FILE..
 
-Each FILE has lines `u v`; ids are made dense first, in the order in which they first come. Each row is the least of some runs. c/build.sh
-makes the library that is called.
+Each FILE has lines `u v`; ids are made dense first, in the order in which they first come. Each row is processor time, the least of some
+runs, of which networkx has one. c/build.sh makes the library that is called.
 """
 
 import argparse
@@ -24,9 +24,9 @@ def least(call, runs):
     """The least of some runs, and the result of the last."""
     times = []
     for _ in range(runs):
-        start = time.perf_counter()
+        start = time.process_time()
         result = call()
-        times.append(time.perf_counter() - start)
+        times.append(time.process_time() - start)
     return min(times), result
 
 

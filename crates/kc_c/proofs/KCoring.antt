@@ -1,5 +1,6 @@
 -- The k-core is the vertices whose core number is no less than k.
-use Rattle.std.proofs.Common.{◌≡◌, ◌≤◌, ◌<◌, ◌+◌, ℕ, suc, zero, true, false, cond, List, [], ◌∷◌, ◌++◌, length, get_or, refl, sym, ◌∙◌, ap, subst, inl, inr, arith, leb-true, le-leb, length-append}
+use Rattle.std.proofs.Common.{◌≡◌, ◌≤◌, ◌<◌, ◌+◌, ℕ, suc, zero, true, false, cond, List, [], ◌∷◌, ◌++◌, length, get_or, refl, sym}
+use Rattle.std.proofs.Common.{◌∙◌, ap, subst, inl, inr, arith, leb-true, le-leb, length-append}
 use Rattle.std.specs.Prelude.{nat_le, slice_index}
 use Rattle.std.specs.List.Sorted.{IsStrictlyIncreasing}
 use Rattle.std.proofs.lemmas.Bool.{cases_Bool, cases_eq, cases_lt, false≢true}
@@ -18,7 +19,8 @@ use Rattle.kc_c.specs.KCores.{AreCoreMembers, at_least}
 at_least-sound : (k : ℕ) (core : List ℕ) (n v : ℕ) → member v (at_least k core n) ≡ true → (v < n) × (k ≤ slice_index core v)
 at_least-sound k core zero v m = absurd (false≢true m)
 at_least-sound k core (suc n) v m =
-    elim (nat_le k (slice_index core n)) as (λ t. nat_le k (slice_index core n) ≡ t → member v (cond t (at_least k core n ++ n ∷ []) (at_least k core n)) ≡ true → (v < suc n) × (k ≤ slice_index core v)) [
+    elim (nat_le k (slice_index core n)) as (λ t. nat_le k (slice_index core n) ≡ t
+    → member v (cond t (at_least k core n ++ n ∷ []) (at_least k core n)) ≡ true → (v < suc n) × (k ≤ slice_index core v)) [
       | true ↦ λ t h. elim (member-push_cases v n (at_least k core n) h) [
         | inl i ↦ let p = at_least-sound k core n v i in (omega (arith, p.0), p.1)
         | inr e ↦ (omega arith, subst (λ x. k ≤ slice_index core x) (sym e) (leb-true k (slice_index core n) t))
@@ -79,11 +81,14 @@ core_members : (g : SimpleGraph) (core : List ℕ) (k : ℕ) → AreCoreNumbers 
 core_members g core k numbers = record {
   ascending = at_least-ascends k core g.size;
   exact = λ v. (
-    λ c. let p = at_least-sound k core g.size v (member-from_Contains (at_least k core g.size) v c) in in_lower g (slice_index core v) k v p.1 (numbers.each v p.0).reached,
-    λ i. let l : v < g.size = in_graph g k v i in Contains-from_member (at_least k core g.size) v (at_least-complete k core g.size v l ((numbers.each v l).greatest k i)),
+    λ c. let p = at_least-sound k core g.size v (member-from_Contains (at_least k core g.size) v c) in
+        in_lower g (slice_index core v) k v p.1 (numbers.each v p.0).reached,
+    λ i. let l : v < g.size = in_graph g k v i in
+        Contains-from_member (at_least k core g.size) v (at_least-complete k core g.size v l ((numbers.each v l).greatest k i)),
   );
 }
 
 -- the front of a list of places is the k-core
-pub front_members : (g : SimpleGraph) (core : List ℕ) (k : ℕ) (front : List ℕ) → AreCoreNumbers g core → front ≡ at_least k core (length core) → AreCoreMembers g k front
+pub front_members : (g : SimpleGraph) (core : List ℕ) (k : ℕ) (front : List ℕ) → AreCoreNumbers g core
+    → front ≡ at_least k core (length core) → AreCoreMembers g k front
 front_members g core k front numbers e = subst (AreCoreMembers g k) (sym (e ∙ ap (at_least k core) numbers.one_each)) (core_members g core k numbers)

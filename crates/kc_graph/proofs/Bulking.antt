@@ -1,5 +1,6 @@
 -- The graph of rows that have just the listed edges.
-use Rattle.std.proofs.Common.{◌≡◌, ◌≢◌, ◌≤◌, ◌<◌, ℕ, Bool, true, false, cond, not, ◌&&◌, ◌||◌, List, [], ◌∷◌, length, map, eqb, ltb, refl, sym, ◌∙◌, ap, ap₂, inl, inr, arith, ltb-true, lt-ltb, le-ltb, eq-eqb, set, Vec, Global}
+use Rattle.std.proofs.Common.{◌≡◌, ◌≢◌, ◌≤◌, ◌<◌, ℕ, Bool, true, false, cond, not, ◌&&◌, ◌||◌, List, [], ◌∷◌, length, map, eqb, ltb, refl, sym, ◌∙◌}
+use Rattle.std.proofs.Common.{ap, ap₂, inl, inr, arith, ltb-true, lt-ltb, le-ltb, eq-eqb, set, Vec, Global}
 use Rattle.std.specs.Prelude.{All}
 use Rattle.std.specs.List.{filter, list_any, dedup}
 use Rattle.std.specs.List.Sorted.{IsStrictlyIncreasing}
@@ -38,10 +39,12 @@ edge-is e a b two =
 and-or : (l a b : Bool) → ((l && a) || (l && b)) ≡ (l && (a || b))
 and-or l a b = grind arith
 
-listed : (edges : List Edge) (a b : ℕ) → list_any (eq_by_cmp pair_cmp (a, b)) (map (λ e. edge e.u e.v) (filter is_no_loop edges)) ≡ (ltb a b && are_joined edges a b)
+listed : (edges : List Edge) (a b : ℕ)
+    → list_any (eq_by_cmp pair_cmp (a, b)) (map (λ e. edge e.u e.v) (filter is_no_loop edges)) ≡ (ltb a b && are_joined edges a b)
 listed [] a b = both_ways _ _ (λ h. absurd (false≢true h)) (λ h. absurd (false≢true (and_parts (ltb a b) false h).1))
 listed (e ∷ edges) a b =
-    elim (is_no_loop e) as (λ t. is_no_loop e ≡ t → list_any (eq_by_cmp pair_cmp (a, b)) (map (λ e. edge e.u e.v) (cond t (e ∷ filter is_no_loop edges) (filter is_no_loop edges)))
+    elim (is_no_loop e) as (λ t. is_no_loop e ≡ t → list_any (eq_by_cmp pair_cmp (a, b))
+    (map (λ e. edge e.u e.v) (cond t (e ∷ filter is_no_loop edges) (filter is_no_loop edges)))
     ≡ (ltb a b && ((t && joins e.u e.v a b) || are_joined edges a b))) [
       | true ↦ λ two. ap₂ (λ s t. s || t) (edge-is e a b two) (listed edges a b) ∙ and-or (ltb a b) (joins e.u e.v a b) (are_joined edges a b)
       | false ↦ λ _. listed edges a b
@@ -75,7 +78,8 @@ joined-itself (e ∷ edges) v = or_from _ _ (between-itself e v) (joined-itself 
 
 pub adjacent-with_edges : (vertices : ℕ) (edges : List Edge) (v w : ℕ) → adjacent (graph_with vertices edges) v w ≡ are_joined edges v w
 adjacent-with_edges vertices edges v w = elim (cases_order v w) [
-  | inl e ↦ ap (adjacent (graph_with vertices edges) v) (sym e) ∙ (adjacent-self (graph_with vertices edges) v ∙ sym (ap (are_joined edges v) (sym e) ∙ joined-itself edges v))
+  | inl e ↦ ap (adjacent (graph_with vertices edges) v) (sym e)
+      ∙ (adjacent-self (graph_with vertices edges) v ∙ sym (ap (are_joined edges v) (sym e) ∙ joined-itself edges v))
   | inr o ↦ elim o [
     | inl l ↦ rw (lt-ltb v w l, contains-with vertices edges v w, lt-ltb v w l) refl
     | inr l ↦ rw (le-ltb v w (omega arith), lt-ltb w v l, contains-with vertices edges w v, lt-ltb w v l) (joined-turned edges w v)
@@ -127,5 +131,6 @@ pub joined-below : (vertices from : ℕ) (edges : List Edge) (v w : ℕ) → All
     → (ltb v from && are_joined edges v w) ≡ are_joined edges v w
 joined-below vertices from edges v w all le = elim (cases_lt v from) [
   | inl l ↦ rw (lt-ltb v from l) refl
-  | inr ge ↦ rw (le-ltb v from ge) (sym (false_from_ne_true (are_joined edges v w) (λ h. absurd (omega (arith, joined-within vertices edges w v all (joined-turned edges w v ∙ h))))))
+  | inr ge ↦ rw (le-ltb v from ge) (sym (false_from_ne_true (are_joined edges v w) (λ h.
+      absurd (omega (arith, joined-within vertices edges w v all (joined-turned edges w v ∙ h))))))
 ]

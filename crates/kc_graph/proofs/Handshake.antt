@@ -1,5 +1,6 @@
 -- Each edge stands in two rows: rows that say who is adjacent have twice as many entries as there are edges.
-use Rattle.std.proofs.Common.{◌≡◌, ◌≤◌, ◌<◌, ◌+◌, ℕ, suc, zero, Bool, true, false, cond, ◌&&◌, ◌||◌, List, [], ◌∷◌, ◌++◌, length, map, ltb, refl, sym, ◌∙◌, ap, ap₂, inl, inr, arith, ltb-true, lt-ltb}
+use Rattle.std.proofs.Common.{◌≡◌, ◌≤◌, ◌<◌, ◌+◌, ℕ, suc, zero, Bool, true, false, cond, ◌&&◌, ◌||◌, List, [], ◌∷◌, ◌++◌, length, map, ltb}
+use Rattle.std.proofs.Common.{refl, sym, ◌∙◌, ap, ap₂, inl, inr, arith, ltb-true, lt-ltb}
 use Rattle.std.specs.List.{filter, list_any, sum_by, count_by}
 use Rattle.std.specs.Cmp.{both_ways}
 use Rattle.std.specs.Ordering.{eq_by_cmp}
@@ -9,7 +10,8 @@ use Rattle.std.proofs.lemmas.List.Folds.{list_any-append}
 use Rattle.std.proofs.lemmas.List.Sums.{sum_by-cons}
 use Rattle.kc_distinct.specs.Lists.{member, below, Distinct}
 use Rattle.kc_distinct.proofs.Members.{not_member-parts}
-use Rattle.kc_distinct.proofs.Counting.{count-cons, count-le, count-all, count-agree, member-filter, filter-member, member-below, Distinct-below, Distinct-filter}
+use Rattle.kc_distinct.proofs.Counting.{count-cons, count-le, count-all, count-agree, member-filter, filter-member}
+use Rattle.kc_distinct.proofs.Counting.{member-below, Distinct-below, Distinct-filter}
 use Rattle.kc_graph.specs.SimpleGraph.{pair_cmp}
 use Rattle.kc_graph.specs.Rows.{row, pairs_from, graph_of, IsAdjacency}
 use Rattle.kc_graph.proofs.RowsLemmas.{pair_total, same_pair, Distinct-from_increasing}
@@ -60,12 +62,14 @@ sum-total f (r ∷ rows) = sum_by-cons f r rows ∙ (ap (λ (s : ℕ). f r + s) 
 length-named : (r : List ℕ) (n : ℕ) → Distinct r → ((w : ℕ) → member w r ≡ true → w < n) → length r ≡ count_by (λ w. member w r) (below n)
 length-named r n once within =
     let all : count_by (λ w. member w r) r ≡ length r = count-all (λ w. member w r) r (λ w m. m) in
-    let up : count_by (λ w. member w r) r ≤ count_by (λ w. member w r) (below n) = count-le (λ w. member w r) r (below n) once (λ w m _. member-below w n (within w m)) in
+    let up : count_by (λ w. member w r) r ≤ count_by (λ w. member w r) (below n) =
+    count-le (λ w. member w r) r (below n) once (λ w m _. member-below w n (within w m)) in
     let down : count_by (λ w. member w r) (below n) ≤ count_by (λ w. member w r) r = count-le (λ w. member w r) (below n) r (Distinct-below n) (λ w _ m. m) in
     omega (arith, all, up, down)
 
 -- the greater numbers of a row
-length-greater : (r : List ℕ) (n u : ℕ) → Distinct r → ((w : ℕ) → member w r ≡ true → w < n) → length (filter (ltb u) r) ≡ count_by (λ w. ltb u w && member w r) (below n)
+length-greater : (r : List ℕ) (n u : ℕ) → Distinct r → ((w : ℕ) → member w r ≡ true → w < n)
+    → length (filter (ltb u) r) ≡ count_by (λ w. ltb u w && member w r) (below n)
 length-greater r n u once within =
     length-named (filter (ltb u) r) n (Distinct-filter (ltb u) r once) (λ w m. within w (member-filter (ltb u) w r m).0)
     ∙ count-agree (λ w. member w (filter (ltb u) r)) (λ w. ltb u w && member w r) (below n) (λ w _. named u w r)
@@ -171,4 +175,5 @@ handshake rows h =
         ∙ total-agree _ _ n (λ w _. count-agree _ _ (below n) (λ v _. ap (λ t. ltb w v && t) (h.symmetric v w)))
 
     ups : total up n ≡ len (from_list {R = pair_cmp} (pairs_from 0 rows))
-    ups = sym (len-pairs 0 rows once ∙ total-agree _ _ n (λ v _. ap (λ k. length (filter (ltb k) (row rows v))) (omega arith) ∙ length-greater (row rows v) n v (once v) (h.within v)))
+    ups = sym (len-pairs 0 rows once ∙ total-agree _ _ n (λ v _.
+        ap (λ k. length (filter (ltb k) (row rows v))) (omega arith) ∙ length-greater (row rows v) n v (once v) (h.within v)))

@@ -1,5 +1,6 @@
 //! Ascending rows of numbers: what a graph keeps for each vertex.
-ghost use Rattle.std.specs.Prelude.{◌≡◌, ◌≢◌, ◌<◌, ◌^◌, ℕ, List, true, false, length, vec_len, vec_capacity, slice_index_or, slice_set, IfOk, OnOk, OnErr, IsOk, sum_by};
+ghost use Rattle.std.specs.Prelude.{◌≡◌, ◌≢◌, ◌<◌, ◌^◌, ℕ, List, true, false, length, vec_len, vec_capacity, slice_index_or, slice_set, IfOk, OnOk, OnErr, IsOk};
+ghost use Rattle.std.specs.List.{sum_by};
 ghost use Rattle.std.specs.List.Sorted.{IsStrictlyIncreasing};
 ghost use Rattle.std.specs.declared.vec.Vec.{Vec};
 ghost use Rattle.std.specs.declared.alloc.Global.{Global};

@@ -9,12 +9,12 @@ use Rattle.kc_graph.specs.declared.update.Update.{Update}
 use Rattle.kc_cert.specs.Local.{firsts, seconds}
 use Rattle.kc_cert.specs.Ranks.{AscendsBy}
 use Rattle.kc_view.specs.Answers.{has_core}
-use Rattle.kc_view.specs.Search.{Search}
+use Rattle.kc_view.specs.Search.{Search, Forward, at_root}
 use Rattle.kc_view.specs.Views.{Shown}
 use Rattle.kc_insert.specs.Marks.{candidate_in, weak_in, earlier_in}
-use Rattle.kc_insert.specs.Rising.{is_queued, is_candidate, is_weak, earlier_at, later_at, cands, left, waiting, IsOrderly, Asks, IsTidy}
-use Rattle.kc_insert.specs.Searching.{Widened, Reached, at_root, BetweenTurns}
-use Rattle.kc_insert.specs.Turns.{Begins, Between}
+use Rattle.kc_insert.specs.Rising.{is_queued, is_candidate, is_weak, earlier_at, later_at, cands, left, waiting, IsOrderly, AsksQueued, IsTidyRising}
+use Rattle.kc_insert.specs.Searching.{Widened, BetweenTurns}
+use Rattle.kc_insert.specs.Turns.{Begins, IsBetweenTurns}
 use Rattle.kc_insert.specs.declared.rising.Rising.{Rising}
 use Rattle.kc_insert.proofs.Tidy.{asks-queued}
 use Rattle.kc_insert.proofs.Turning.{begin}
@@ -51,7 +51,7 @@ begin-orderly root r b = record {
 only-root : (root : ℕ) (r : Rising) → Begins root r → (z : ℕ) → member z r.queue.items ≡ true → z ≡ root
 only-root root r b z m = elim (member-cases z root [] (sym (ap (member z) b.queue) ∙ m)) [ inl e ↦ e | inr k ↦ absurd (false≢true k) ]
 
-pub begin-tidy : (update : Update) (shown : Shown) (root : ℕ) (r : Rising) → Begins root r → root < shown.size → has_core shown.kept root ≡ true → Asks update shown.kept [] → IsTidy update shown r
+pub begin-tidy : (update : Update) (shown : Shown) (root : ℕ) (r : Rising) → Begins root r → root < shown.size → has_core shown.kept root ≡ true → AsksQueued update shown.kept [] → IsTidyRising update shown r
 begin-tidy update shown root r b l placed asks = record {
   orderly = begin-orderly root r b;
   within = λ z m. let e : z ≡ root = only-root root r b z m in omega (arith, e, l);
@@ -61,7 +61,7 @@ begin-tidy update shown root r b l placed asks = record {
 }
 
 -- where the root has too many later neighbours
-pub begin-between : (s : Search) (root : ℕ) (r : Rising) → Begins root r → Widened s root → Between s root r
+pub begin-between : (s : Search) (root : ℕ) (r : Rising) → Begins root r → Widened s root → IsBetweenTurns s root r
 begin-between s root r b w =
     let none : cands r ≡ [] = ap (filter (is_candidate r)) b.queue ∙ ap (λ k. cond k (root ∷ []) []) (no-candidate root r b root) in
     let waits : waiting r ≡ root ∷ [] = ap (λ n. drop n r.queue.items) b.turn ∙ b.queue in
@@ -70,7 +70,7 @@ begin-between s root r b w =
       record {
         lined = record {
           ascends = subst (AscendsBy s.rank) (sym b.queue) (λ y m. absurd (false≢true m), tt);
-          reached = λ z m. subst (Reached s root) (sym (only-root root r b z m)) at_root;
+          reached = λ z m. subst (Forward s root) (sym (only-root root r b z m)) at_root;
           passed = λ z m. absurd (true≢false (sym m ∙ ap (member z) (none-left root r b)));
         };
         turns = subst (λ (xs : List ℕ). BetweenTurns s root xs (waiting r) (s.rank root) (earlier_at r) (later_at r) r.shifts.items) (sym none)

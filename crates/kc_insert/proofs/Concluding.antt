@@ -19,10 +19,10 @@ use Rattle.kc_view.specs.Search.{Search}
 use Rattle.kc_view.specs.Sure.{IsSparing, InForward, root_of}
 use Rattle.kc_view.specs.Views.{Shown}
 use Rattle.kc_view.proofs.Fronts.{take-member}
-use Rattle.kc_insert.specs.Added.{search_of}
-use Rattle.kc_insert.specs.Rising.{is_candidate, earlier_at, later_at, cands, left, waiting, IsOrderly, IsTidy}
+use Rattle.kc_insert.specs.Added.{search_with}
+use Rattle.kc_insert.specs.Rising.{is_candidate, earlier_at, later_at, cands, left, waiting, IsOrderly, IsTidyRising}
 use Rattle.kc_insert.specs.Searching.{Widened, BetweenTurns}
-use Rattle.kc_insert.specs.Turns.{Between}
+use Rattle.kc_insert.specs.Turns.{IsBetweenTurns}
 use Rattle.kc_insert.specs.declared.rising.Rising.{Rising}
 use Rattle.kc_insert.proofs.Sureness.{plain-sure, rise-sure, reached-forward}
 use Rattle.kc_insert.proofs.Tidy.{left-queued}
@@ -45,41 +45,41 @@ none-waits : (r : Rising) → r.turn ≡ length r.queue.items → waiting r ≡ 
 none-waits r ended = drop_all r.turn r.queue.items (omega (arith, ended))
 
 -- so that the lists of all that the moves name were read
-pub named-read : (update : Update) (shown : Shown) (r : Rising) (x : ℕ) → IsTidy update shown r → r.turn ≡ length r.queue.items → member x ((cands r ++ firsts r.shifts.items) ++ seconds r.shifts.items) ≡ true → has_list shown.kept x ≡ true
+pub named-read : (update : Update) (shown : Shown) (r : Rising) (x : ℕ) → IsTidyRising update shown r → r.turn ≡ length r.queue.items → member x ((cands r ++ firsts r.shifts.items) ++ seconds r.shifts.items) ≡ true → has_list shown.kept x ≡ true
 named-read update shown r x t ended m = t.read x (elim (member-append x (cands r ++ firsts r.shifts.items) (seconds r.shifts.items) m) [
   | inl k ↦ ap (member x) (all-left r ended) ∙ moved-queued r x t.orderly k
   | inr k ↦ t.orderly.anchored x k
 ])
 
 -- lists were asked only of the lesser end and of vertices that the new edge concerns
-pub asked-forward : (update : Update) (shown : Shown) (s : Ranked) (level root : ℕ) (r : Rising) → update.add ≡ true → root ≡ root_of s update → Widened (search_of update level s) root → IsTidy update shown r
-    → Between (search_of update level s) root r → All (λ e. (e.vertex ≡ update.u) ⊎ InForward s update e.vertex) shown.kept.edges
+pub asked-forward : (update : Update) (shown : Shown) (s : Ranked) (level root : ℕ) (r : Rising) → update.add ≡ true → root ≡ root_of s update → Widened (search_with update level s) root → IsTidyRising update shown r
+    → IsBetweenTurns (search_with update level s) root r → All (λ e. (e.vertex ≡ update.u) ⊎ InForward s update e.vertex) shown.kept.edges
 asked-forward update shown s level root r adds is w t b =
     let reached = b.1.lined.reached in
     All-weaker (λ e. (e.vertex ≡ update.u) ⊎ (member e.vertex r.queue.items ≡ true)) (λ e. (e.vertex ≡ update.u) ⊎ InForward s update e.vertex)
     (λ e k. elim k [ inl h ↦ inl h | inr h ↦ inr (reached-forward update s level root e.vertex adds (sym w.root_level) is (reached e.vertex h)) ]) shown.kept.edges t.asks.lists
 
-ended-turns : (s : Search) (root : ℕ) (r : Rising) → r.turn ≡ length r.queue.items → (b : Between s root r) → BetweenTurns s root (cands r) [] b.0 (earlier_at r) (later_at r) r.shifts.items
+ended-turns : (s : Search) (root : ℕ) (r : Rising) → r.turn ≡ length r.queue.items → (b : IsBetweenTurns s root r) → BetweenTurns s root (cands r) [] b.0 (earlier_at r) (later_at r) r.shifts.items
 ended-turns s root r ended b = subst (λ (xs : List ℕ). BetweenTurns s root (cands r) xs b.0 (earlier_at r) (later_at r) r.shifts.items) (none-waits r ended) b.1.turns
 
 -- where nobody rises or is shifted
 pub nobody-sure : (update : Update) (used : Used) (s : Ranked) (level root : ℕ) (r : Rising) → update.add ≡ true → IsCertified s → update.v < s.graph.size → adjacent s.graph update.u update.v ≡ false
     → level ≡ min (get_or s.core update.u 0) (get_or s.core update.v 0) → root ≡ root_of s update
-    → r.turn ≡ length r.queue.items → Between (search_of update level s) root r → cands r ≡ [] → r.shifts.items ≡ []
+    → r.turn ≡ length r.queue.items → IsBetweenTurns (search_with update level s) root r → cands r ≡ [] → r.shifts.items ≡ []
     → IsLocal s (record { update = update; used = used; moves = Plain }) × IsSparing s (record { update = update; used = used; moves = Plain })
 nobody-sure update used s level root r adds h l new least is ended b none still =
-    let k = ended-turns (search_of update level s) root r ended b in
+    let k = ended-turns (search_with update level s) root r ended b in
     plain-sure update used s level root b.0 (earlier_at r) (later_at r) adds h l new least is
-    (subst (λ (xs : List ℕ). BetweenTurns (search_of update level s) root xs [] b.0 (earlier_at r) (later_at r) []) none
-    (subst (λ (xs : List (ℕ × ℕ)). BetweenTurns (search_of update level s) root (cands r) [] b.0 (earlier_at r) (later_at r) xs) still k))
+    (subst (λ (xs : List ℕ). BetweenTurns (search_with update level s) root xs [] b.0 (earlier_at r) (later_at r) []) none
+    (subst (λ (xs : List (ℕ × ℕ)). BetweenTurns (search_with update level s) root (cands r) [] b.0 (earlier_at r) (later_at r) xs) still k))
 
 -- where some do
 pub some-sure : (update : Update) (used : Used) (s : Ranked) (level root : ℕ) (r : Rising) (rise : Vec ℕ Global) → update.add ≡ true → IsCertified s → update.v < s.graph.size → adjacent s.graph update.u update.v ≡ false
     → level ≡ min (get_or s.core update.u 0) (get_or s.core update.v 0) → root ≡ root_of s update
-    → IsOrderly r → r.turn ≡ length r.queue.items → Between (search_of update level s) root r → rise.items ≡ cands r
+    → IsOrderly r → r.turn ≡ length r.queue.items → IsBetweenTurns (search_with update level s) root r → rise.items ≡ cands r
     → IsLocal s (record { update = update; used = used; moves = Rise level rise r.shifts }) × IsSparing s (record { update = update; used = used; moves = Rise level rise r.shifts })
 some-sure update used s level root r rise adds h l new least is o ended b all =
-    let q : Search = search_of update level s in
+    let q : Search = search_with update level s in
     let k = ended-turns q root r ended b in
     rise-sure update used s level root b.0 (earlier_at r) (later_at r) rise r.shifts adds h l new least is
     (subst (λ (xs : List ℕ). BetweenTurns q root xs [] b.0 (earlier_at r) (later_at r) r.shifts.items) (sym all) k)

@@ -10,7 +10,7 @@ use Rattle.kc_graph.proofs.RowsLemmas.{Distinct-from_increasing}
 use Rattle.kc_view.specs.Answers.{Answers, Agrees, has_list, list_of}
 use Rattle.kc_view.specs.Lists.{IsListOf}
 use Rattle.kc_view.proofs.Keeping.{list-true}
-use Rattle.kc_insert.specs.Added.{search_of, is_added}
+use Rattle.kc_insert.specs.Added.{search_with, is_added}
 use Rattle.kc_insert.specs.Turns.{side_in, is_ahead, is_next, IsAheadOf}
 use Rattle.kc_insert.specs.declared.ahead.Ahead.{Ahead}
 use Rattle.kc_insert.proofs.Looking.{ahead-is}
@@ -26,11 +26,11 @@ added-within update w y n l t =
     ]
 
 pub ahead-of : (a : Answers) (s : Ranked) (update : Update) (level size w : ℕ) (row : List ℕ) (ahead : Ahead) → Agrees a s → update.v < s.graph.size → has_list a w ≡ true → IsListOf size w row
-    → ((y : ℕ) → member y row ≡ (member y (list_of a w) || is_added update w y)) → ahead.count ≡ count_by (λ y. is_ahead (side_in (search_of update level s) w y)) row
-    → ((y : ℕ) → member y ahead.next.items ≡ (member y row && is_next (side_in (search_of update level s) w y))) → IsAheadOf (search_of update level s) w ahead
+    → ((y : ℕ) → member y row ≡ (member y (list_of a w) || is_added update w y)) → ahead.count ≡ count_by (λ y. is_ahead (side_in (search_with update level s) w y)) row
+    → ((y : ℕ) → member y ahead.next.items ≡ (member y row && is_next (side_in (search_with update level s) w y))) → IsAheadOf (search_with update level s) w ahead
 ahead-of a s update level size w row ahead g l h list has counted next =
     let within : (y : ℕ) → member y row ≡ true → y < s.graph.size = λ y m. elim (or_cases (member y (list_of a w)) (is_added update w y) (sym (has y) ∙ m)) [
       | inl k ↦ (neighbours_within s.graph w y (sym (ap (member y) (list-true a s w g h).1) ∙ k)).0
       | inr k ↦ added-within update w y s.graph.size l k
     ] in
-    ahead-is (search_of update level s) w row ahead (Distinct-from_increasing row list.ascends) within (row-is a s update w row g h has) counted next
+    ahead-is (search_with update level s) w row ahead (Distinct-from_increasing row list.ascends) within (row-is a s update w row g h has) counted next

@@ -12,30 +12,18 @@ use Rattle.kc_cert.specs.Local.{firsts, seconds}
 use Rattle.kc_cert.specs.Ranks.{AscendsBy}
 use Rattle.kc_view.specs.Search.{Search, after, OnLevel}
 use Rattle.kc_view.specs.Views.{Shown}
+use Rattle.kc_view.proofs.Fronts.{firsts-push, seconds-push}
 use Rattle.kc_insert.specs.Marks.{earlier_in, later_in, turn_in, candidate_in, weak_in}
-use Rattle.kc_insert.specs.Rising.{is_queued, earlier_at, later_at, turn_at, is_candidate, is_weak, cands, left, waiting, pending, IsOrderly, IsTidy}
+use Rattle.kc_insert.specs.Rising.{is_queued, earlier_at, later_at, turn_at, is_candidate, is_weak, cands, left, waiting, pending, IsOrderly, IsTidyRising}
 use Rattle.kc_insert.specs.Searching.{ahead, Widened, Drops, BetweenTurns, InSettling}
-use Rattle.kc_insert.specs.Turns.{Leaves, Loses, Evicts, LinedUp, SettlingAt, Between, Settling}
+use Rattle.kc_insert.specs.Turns.{Leaves, Loses, Evicts, LinedUp, SettlingAt, IsBetweenTurns, IsSettling}
 use Rattle.kc_insert.specs.declared.losing.Loss.TheVariants as loss
 use Rattle.kc_insert.specs.declared.rising.Mark.{Mark}
 use Rattle.kc_insert.specs.declared.rising.Rising.{Rising}
 use Rattle.kc_insert.proofs.Losses.{cand-left, cands-has, shifts-fit}
 use Rattle.kc_insert.proofs.Tidy.{left-queued, left-more, first-not_left, tidy-rising}
 use Rattle.kc_insert.proofs.Turning.{turn_evict, turn_settle, turn_settled, settling_same}
-
-firsts-push : (shifts : List (ℕ × ℕ)) (x w : ℕ) → firsts (shifts ++ (x, w) ∷ []) ≡ firsts shifts ++ x ∷ []
-firsts-push [] x w = refl
-firsts-push (p ∷ shifts) x w = ap (λ ys. p.0 ∷ ys) (firsts-push shifts x w)
-
-seconds-push : (shifts : List (ℕ × ℕ)) (x w : ℕ) → seconds (shifts ++ (x, w) ∷ []) ≡ seconds shifts ++ w ∷ []
-seconds-push [] x w = refl
-seconds-push (p ∷ shifts) x w = ap (λ ys. p.1 ∷ ys) (seconds-push shifts x w)
-
-Ascends-at : (r : ℕ → ℕ) (xs : List ℕ) (i j : ℕ) → AscendsBy r xs → i < j → j < length xs → r (get_or xs i 0) < r (get_or xs j 0)
-Ascends-at r [] i j a lt l = absurd (omega arith)
-Ascends-at r (x ∷ xs) i zero a lt l = absurd (omega arith)
-Ascends-at r (x ∷ xs) zero (suc j) a lt l = a.0 (get_or xs j 0) (member-get_or xs j 0 (omega arith))
-Ascends-at r (x ∷ xs) (suc i) (suc j) a lt l = Ascends-at r xs i j a.1 (omega arith) (omega arith)
+use Rattle.kc_insert.proofs.Queues.{Ascends-at}
 
 distinct-apart : (y : ℕ) (xs ys : List ℕ) → Distinct (xs ++ ys) → member y ys ≡ true → member y xs ≡ false
 distinct-apart y [] ys d m = refl
@@ -137,7 +125,7 @@ evict-orderly x anchor old new o e lt first near =
     }
 
 -- queue and turn stay
-pub stays-tidy : (update : Update) (shown : Shown) (old new : Rising) → IsTidy update shown old → IsOrderly new → new.queue.items ≡ old.queue.items → new.turn ≡ old.turn → IsTidy update shown new
+pub stays-tidy : (update : Update) (shown : Shown) (old new : Rising) → IsTidyRising update shown old → IsOrderly new → new.queue.items ≡ old.queue.items → new.turn ≡ old.turn → IsTidyRising update shown new
 stays-tidy update shown old new t o queue turn =
     tidy-rising update shown old new t o (λ z m. ap (member z) queue ∙ m) (λ z m. inl (sym (ap (member z) queue) ∙ m)) (λ z m. inl (sym (ap (member z) (same-left old new queue turn)) ∙ m))
 
@@ -240,7 +228,7 @@ evicted-now q root x anchor frontier row old mid new w o o' ev l lt first exact 
     }
 
 -- nobody is too weak any more
-pub settled-between : (q : Search) (root last : ℕ) (r : Rising) → IsOrderly r → length r.weak.items ≤ length r.shifts.items → Settling q root r last → Between q root r
+pub settled-between : (q : Search) (root last : ℕ) (r : Rising) → IsOrderly r → length r.weak.items ≤ length r.shifts.items → IsSettling q root r last → IsBetweenTurns q root r
 settled-between q root last r o le st =
     let frontier : ℕ = st.0 in
     let none : pending r ≡ [] = drop_all (length r.shifts.items) r.weak.items le in (
@@ -262,7 +250,7 @@ none-less n'' n' n h e e' = grind arith
 -- the first of the queue is settled, and its neighbours lose by it
 pub settled-now : (q : Search) (root w : ℕ) (mark : Mark) (row : List ℕ) (old mid new : Rising) → Widened q root → IsOrderly old → IsOrderly new → Leaves w mark old mid → mark.is_candidate ≡ false → Loses q.level loss.Settled row mid new
     → old.turn < length old.queue.items → get_or old.queue.items old.turn 0 ≡ w → ((y : ℕ) → y < q.size → member y row ≡ q.adj w y) → earlier_at old w + ahead q w ≤ q.level
-    → Between q root old → Settling q root new w
+    → IsBetweenTurns q root old → IsSettling q root new w
 settled-now q root w mark row old mid new wide o o' lv plain l lt first exact weak bt =
     let frontier : ℕ = bt.0 in
     let at = bt.1 in

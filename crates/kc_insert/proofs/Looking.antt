@@ -1,10 +1,10 @@
 -- The neighbours that are ahead of a vertex, counted one by one and all together.
-use Rattle.std.proofs.Common.{◌≡◌, ◌≤◌, ◌<◌, ◌+◌, ℕ, Bool, true, false, cond, not, ◌&&◌, ◌||◌, List, [], ◌∷◌, ◌++◌, length, take, get_or, eqb, ltb, refl, sym, ◌∙◌, ap, subst, arith, eqb-true}
+use Rattle.std.proofs.Common.{◌≡◌, ◌≤◌, ◌<◌, ◌+◌, ℕ, Bool, true, false, cond, not, ◌&&◌, ◌||◌, List, [], ◌∷◌, ◌++◌, length, take, get_or, eqb, ltb, refl, sym, ◌∙◌, ap, arith, eqb-true}
 use Rattle.std.specs.Prelude.{count_by}
 use Rattle.std.proofs.lemmas.Bool.{and_parts}
 use Rattle.std.proofs.lemmas.List.{take_more}
 use Rattle.kc_distinct.specs.Lists.{member, Distinct, below}
-use Rattle.kc_distinct.proofs.Counting.{member-push, Distinct-push, member-below, below-member, Distinct-below, count-agree, count-le}
+use Rattle.kc_distinct.proofs.Counting.{member-push, member-below, below-member, Distinct-below, count-agree, count-le}
 use Rattle.kc_cert.proofs.Sums.{one_if}
 use Rattle.kc_cert.proofs.Tallying.{count-more}
 use Rattle.kc_view.specs.Search.{Search, on_level, above, after}
@@ -23,10 +23,6 @@ or_no a b = grind arith
 pub member-more : (b : Bool) (x y : ℕ) (next next' : List ℕ) → next' ≡ cond b (next ++ x ∷ []) next → member y next' ≡ (member y next || (eqb y x && b))
 member-more true x y next next' e = ap (member y) e ∙ (member-push y x next ∙ ap (λ k. member y next || k) (sym (and-yes (eqb y x))))
 member-more false x y next next' e = ap (member y) e ∙ or_no (member y next) (eqb y x)
-
-pub once-more : (b : Bool) (x : ℕ) (next next' : List ℕ) → next' ≡ cond b (next ++ x ∷ []) next → Distinct next → member x next ≡ false → Distinct next'
-once-more true x next next' e d out = subst Distinct (sym e) (Distinct-push next x d out)
-once-more false x next next' e d out = subst Distinct (sym e) d
 
 next_step : (m' m e b t t' n : Bool) → m' ≡ (m || (e && b)) → m ≡ (t && n) → t' ≡ (t || e) → (e ≡ true → b ≡ n) → m' ≡ (t' && n)
 next_step m' m e b t t' n h k l same = grind arith

@@ -5,7 +5,8 @@ use Rattle.std.proofs.lemmas.Bool.{cases_Bool, cases_eq, false≢true, false_fro
 use Rattle.std.proofs.lemmas.List.{append-nil, append_assoc, take-append-le}
 use Rattle.kc_distinct.specs.Lists.{member, Distinct}
 use Rattle.kc_distinct.proofs.Members.{member-head, member-tail, member-cases, member-append_left}
-use Rattle.kc_distinct.proofs.Counting.{member-push, member-push_left, member-push_cases, Distinct-push}
+use Rattle.kc_distinct.proofs.Counting.{member-push, member-push_cases, Distinct-push}
+use Rattle.kc_distinct.proofs.Shared.{member-grown_other}
 use Rattle.kc_cert.specs.Local.{firsts, seconds}
 use Rattle.kc_cert.proofs.Final.{filter-has}
 use Rattle.kc_insert.specs.Marks.{mark_of, earlier_in, later_in, turn_in, candidate_in, weak_in}
@@ -185,16 +186,8 @@ grown-cases : (found : Bool) (y z : ℕ) (xs ys : List ℕ) → ys ≡ cond foun
 grown-cases true y z xs ys e m = elim (member-push_cases z y xs (sym (ap (member z) e) ∙ m)) [ inl k ↦ inl k | inr q ↦ inr (q, refl) ]
 grown-cases false y z xs ys e m = inl (sym (ap (member z) e) ∙ m)
 
-grown-left : (found : Bool) (y z : ℕ) (xs ys : List ℕ) → ys ≡ cond found (xs ++ y ∷ []) xs → member z xs ≡ true → member z ys ≡ true
-grown-left true y z xs ys e m = ap (member z) e ∙ member-push_left z y xs m
-grown-left false y z xs ys e m = ap (member z) e ∙ m
-
 no-more : (b : Bool) → (b || false) ≡ b
 no-more b = grind arith
-
-grown-other : (found : Bool) (y z : ℕ) (xs ys : List ℕ) → ys ≡ cond found (xs ++ y ∷ []) xs → z ≢ y → member z ys ≡ member z xs
-grown-other true y z xs ys e ne = ap (member z) e ∙ (member-push z y xs ∙ (ap (λ b. member z xs || b) (ne_eqb z y ne) ∙ no-more (member z xs)))
-grown-other false y z xs ys e ne = ap (member z) e
 
 grown-here : (found : Bool) (y : ℕ) (xs ys : List ℕ) → ys ≡ cond found (xs ++ y ∷ []) xs → member y ys ≡ (member y xs || found)
 grown-here true y xs ys e = ap (member y) e ∙ (member-push y y xs ∙ ap (λ b. member y xs || b) (eq-eqb y y refl))
@@ -252,7 +245,7 @@ lose-orderly level loss y old new o l =
       weak_once = grown-distinct found y old.weak.items new.weak.items k.weak o.weak_once (λ f. sym (o.weak_marked y) ∙ (k.was f).1);
       weak_marked = λ z. elim (cases_eq z y) [
         | inl e ↦ ap (is_weak new) e ∙ (k.weak_here ∙ (ap (λ b. b || found) (o.weak_marked y) ∙ (sym (grown-here found y old.weak.items new.weak.items k.weak) ∙ ap (λ n. member n new.weak.items) (sym e))))
-        | inr ne ↦ k.weak_others z ne ∙ (o.weak_marked z ∙ sym (grown-other found y z old.weak.items new.weak.items k.weak ne))
+        | inr ne ↦ k.weak_others z ne ∙ (o.weak_marked z ∙ sym (member-grown_other found y z old.weak.items new.weak.items k.weak ne))
       ];
       weak_left = λ z m. ap (member z) same_left ∙ elim (grown-cases found y z old.weak.items new.weak.items k.weak m) [
         | inl h ↦ o.weak_left z h

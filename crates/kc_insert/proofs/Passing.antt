@@ -7,14 +7,15 @@ use Rattle.std.proofs.lemmas.List.{get_or-take, length-take}
 use Rattle.std.proofs.lemmas.List.Edits.{length-insert}
 use Rattle.kc_distinct.specs.Lists.{member, Distinct}
 use Rattle.kc_distinct.proofs.Counting.{member-get_or, member-push}
+use Rattle.kc_distinct.proofs.Shared.{or-absorbs}
 use Rattle.kc_graph.specs.declared.update.Update.{Update}
 use Rattle.kc_cert.specs.Local.{firsts, seconds}
 use Rattle.kc_cert.specs.Ranks.{AscendsBy}
 use Rattle.kc_view.specs.Answers.{has_core}
 use Rattle.kc_view.specs.Views.{Shown}
 use Rattle.kc_insert.specs.Marks.{mark_of, earlier_in, later_in, turn_in, candidate_in, weak_in}
-use Rattle.kc_insert.specs.Rising.{is_queued, earlier_at, later_at, turn_at, is_candidate, is_weak, left, IsOrderly, IsTidy}
-use Rattle.kc_insert.specs.Turns.{Marks, Passes, PassedOn, IsPlaceWithin}
+use Rattle.kc_insert.specs.Rising.{is_queued, earlier_at, later_at, turn_at, is_candidate, is_weak, left, IsOrderly, IsTidyRising}
+use Rattle.kc_insert.specs.Turns.{MarksOne, Passes, PassedOn, IsPlaceWithin}
 use Rattle.kc_insert.specs.declared.rising.Mark.{Mark}
 use Rattle.kc_insert.specs.declared.rising.Rising.{Rising}
 use Rattle.kc_insert.proofs.Queues.{Ascends-at, inserted-has, inserted-once, inserted-front, inserted-ascends}
@@ -58,13 +59,10 @@ place-down rank queue x low high middle y a p l at told = record {
       ];
 }
 
-there : (m e : Bool) → (e ≡ true → m ≡ true) → m ≡ (m || e)
-there m e h = grind arith
-
 -- the queue has `x` then, and those that have left stay
 pub passes-queue : (x : ℕ) (old new : Rising) → IsOrderly old → Passes x old new → (z : ℕ) → member z new.queue.items ≡ (member z old.queue.items || eqb z x)
 passes-queue x old new o p z = elim (cases_Bool (is_queued old x)) [
-  | inl k ↦ ap (member z) (p.kept k) ∙ there (member z old.queue.items) (eqb z x) (λ e. ap (λ n. member n old.queue.items) (eqb-true z x e) ∙ (sym (o.marked x) ∙ k))
+  | inl k ↦ ap (member z) (p.kept k) ∙ or-absorbs (member z old.queue.items) (eqb z x) (λ e. ap (λ n. member n old.queue.items) (eqb-true z x e) ∙ (sym (o.marked x) ∙ k))
   | inr n ↦ let q = p.queued n in ap (member z) q.3 ∙ inserted-has old.queue.items q.0 x z
 ]
 
@@ -85,7 +83,7 @@ passes-once x old new o p = elim (cases_Bool (is_queued old x)) [
 none_more : (m e : Bool) → e ≡ false → m ≡ (m || e)
 none_more m e h = grind arith
 
--- what was there of `x` and of others stays but for its count
+-- what was or-absorbs of `x` and of others stays but for its count
 pub passes-later : (x : ℕ) (old new : Rising) → Passes x old new → (z : ℕ) → later_at new z ≡ later_at old z
 passes-later x old new p z = elim (cases_eq z x) [ inl e ↦ ap (later_at new) e ∙ (ap later_in p.marks.here ∙ ap (later_at old) (sym e)) | inr ne ↦ ap later_in (p.marks.others z ne) ]
 
@@ -125,7 +123,7 @@ passes-orderly x old new o p =
       anchored = λ z m. ap (member z) stay ∙ o.anchored z (sym (ap (λ xs. member z (seconds xs)) p.shifts) ∙ m);
     }
 
-pub passes-tidy : (update : Update) (shown : Shown) (x : ℕ) (old new : Rising) → IsTidy update shown old → Passes x old new → x < shown.size → has_core shown.kept x ≡ true → IsTidy update shown new
+pub passes-tidy : (update : Update) (shown : Shown) (x : ℕ) (old new : Rising) → IsTidyRising update shown old → Passes x old new → x < shown.size → has_core shown.kept x ≡ true → IsTidyRising update shown new
 passes-tidy update shown x old new t p l placed =
     tidy-rising update shown old new t (passes-orderly x old new t.orderly p) (λ z m. passes-queue x old new t.orderly p z ∙ or_left (member z old.queue.items) (eqb z x) m)
     (λ z m. elim (or_cases (member z old.queue.items) (eqb z x) (sym (passes-queue x old new t.orderly p z) ∙ m)) [
@@ -181,7 +179,7 @@ passes-ascends rank x place queue new e out le p apart up =
     subst (AscendsBy rank) (sym e) (inserted-ascends rank queue place x up le p.before p.behind (λ z m k. true≢false (sym m ∙ (ap (λ n. member n queue) (apart z m k) ∙ out))))
 
 -- a vertex that was never queued
-pub enqueued-passes : (x place : ℕ) (old new : Rising) → mark_of old.marks x ≡ None → Marks x (record { earlier = 1; later = 0; turn = 0; is_candidate = false; is_weak = false }) old new → new.queue.items ≡ insert old.queue.items place x
+pub enqueued-passes : (x place : ℕ) (old new : Rising) → mark_of old.marks x ≡ None → MarksOne x (record { earlier = 1; later = 0; turn = 0; is_candidate = false; is_weak = false }) old new → new.queue.items ≡ insert old.queue.items place x
     → (new.turn ≡ old.turn) × (new.weak.items ≡ old.weak.items) × (new.shifts.items ≡ old.shifts.items) → old.turn ≤ place → place ≤ length old.queue.items → Passes x old new
 enqueued-passes x place old new none marks queue rest from le = record {
   marks = record {

@@ -2,6 +2,7 @@
 use Rattle.std.proofs.Common.{◌≡◌, ◌≢◌, ◌≤◌, ◌<◌, ◌&&◌, ◌||◌, ℕ, suc, zero, Bool, true, false, not, List, [], ◌∷◌, length, take, drop, get_or, eqb, refl, sym, ◌∙◌, ap, inl, inr, arith, true≢false, eqb-true, eq-eqb, ne_eqb}
 use Rattle.std.specs.List.{insert}
 use Rattle.std.proofs.lemmas.Bool.{cases_eq, or_cases, false_from_ne_true}
+use Rattle.std.proofs.Math.Bool.{or_assoc}
 use Rattle.kc_distinct.specs.Lists.{member, Distinct}
 use Rattle.kc_distinct.proofs.Members.{member-head, member-tail}
 use Rattle.kc_distinct.proofs.Counting.{member-get_or, drop-member}
@@ -23,13 +24,10 @@ Ascends-drop r (suc n) (x ∷ xs) a = Ascends-drop r n xs a.1
 or_comm : (a b : Bool) → (a || b) ≡ (b || a)
 or_comm a b = grind arith
 
-or_assoc : (a b c : Bool) → (a || (b || c)) ≡ ((a || b) || c)
-or_assoc a b c = grind arith
-
 pub inserted-has : (xs : List ℕ) (i y z : ℕ) → member z (insert xs i y) ≡ (member z xs || eqb z y)
 inserted-has xs zero y z = or_comm (eqb z y) (member z xs)
 inserted-has [] (suc i) y z = or_comm (eqb z y) false
-inserted-has (x ∷ xs) (suc i) y z = ap (λ b. eqb z x || b) (inserted-has xs i y z) ∙ or_assoc (eqb z x) (member z xs) (eqb z y)
+inserted-has (x ∷ xs) (suc i) y z = ap (λ b. eqb z x || b) (inserted-has xs i y z) ∙ sym (or_assoc (eqb z x) (member z xs) (eqb z y))
 
 other : (a e : Bool) → a ≡ false → e ≡ false → (a || e) ≡ false
 other a e h k = grind arith

@@ -8,11 +8,11 @@ use Rattle.kc_distinct.proofs.Members.{member-head}
 use Rattle.kc_distinct.proofs.Counting.{member-get_or, member-push_cases, Distinct-below, count-le, count-miss}
 use Rattle.kc_cert.specs.Ranks.{AscendsBy}
 use Rattle.kc_cert.proofs.Sums.{one_if}
-use Rattle.kc_view.specs.Search.{Search, after, OnLevel}
+use Rattle.kc_view.specs.Search.{Search, after, OnLevel, Forward, at_root, further}
 use Rattle.kc_insert.specs.Marks.{earlier_in, later_in, candidate_in}
 use Rattle.kc_insert.specs.Rising.{earlier_at, later_at, is_candidate, cands, left, waiting, IsOrderly}
-use Rattle.kc_insert.specs.Searching.{Widened, coming, Reached, at_root, further, BetweenTurns}
-use Rattle.kc_insert.specs.Turns.{Leaves, PassedOn, IsAheadOf, StandsBehindLeft, BetweenAt, Between}
+use Rattle.kc_insert.specs.Searching.{Widened, coming, BetweenTurns}
+use Rattle.kc_insert.specs.Turns.{Leaves, PassedOn, IsAheadOf, StandsBehindLeft, BetweenAt, IsBetweenTurns}
 use Rattle.kc_insert.specs.declared.ahead.Ahead.{Ahead}
 use Rattle.kc_insert.specs.declared.rising.Mark.{Mark}
 use Rattle.kc_insert.specs.declared.rising.Rising.{Rising}
@@ -35,7 +35,7 @@ pub waiting-next : (w : ℕ) (mark : Mark) (old new : Rising) → Leaves w mark 
 waiting-next w mark old new l lt first = drop_more old.queue.items old.turn 0 lt ∙ (ap (λ y. y ∷ drop (old.turn + 1) old.queue.items) first
     ∙ ap (λ ys. w ∷ ys) (sym (ap (λ xs. drop new.turn xs) l.queue ∙ ap (λ n. drop n old.queue.items) l.turn)))
 
-reached-level : (q : Search) (root x : ℕ) → Widened q root → Reached q root x → OnLevel q x
+reached-level : (q : Search) (root x : ℕ) → Widened q root → Forward q root x → OnLevel q x
 reached-level q root x c at_root = record { here = c.root_here; level = c.root_level }
 reached-level q root x c (further y z r o a l) = o
 
@@ -74,7 +74,7 @@ waits r o z = drop-has r.turn z r.queue.items o.once
 
 pub raised-now : (q : Search) (root w : ℕ) (mark : Mark) (a : Ahead) (old mid new : Rising) → Widened q root → IsOrderly old → IsOrderly mid → IsOrderly new → Leaves w mark old mid → mark.is_candidate ≡ true → mark.earlier ≡ earlier_at old w → mark.later ≡ a.count
     → PassedOn a.next.items mid new → old.turn < length old.queue.items → get_or old.queue.items old.turn 0 ≡ w → length old.queue.items < 2 ^ 64 → q.level < earlier_at old w + a.count → IsAheadOf q w a → (AscendsBy q.rank mid.queue.items → AscendsBy q.rank new.queue.items)
-    → Between q root old → Between q root new
+    → IsBetweenTurns q root old → IsBetweenTurns q root new
 raised-now q root w mark a old mid new c o om on l cand same_earlier same_later p lt first fits strong ahead' up (frontier, b) =
     let next : List ℕ = a.next.items in
     let s = b.turns.searching in

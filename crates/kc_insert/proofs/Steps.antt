@@ -4,12 +4,13 @@ use Rattle.std.proofs.lemmas.Bool.{cases_Bool, cases_eq, cases_lt, cases_order, 
 use Rattle.kc_distinct.specs.Lists.{member, below}
 use Rattle.kc_distinct.proofs.Members.{member-head, member-tail, member-cases}
 use Rattle.kc_distinct.proofs.Counting.{member-other}
+use Rattle.kc_distinct.proofs.Shared.{ltb-double}
 use Rattle.kc_cert.specs.Ranks.{moved}
 use Rattle.kc_cert.proofs.Sums.{one_if, count-none}
 use Rattle.kc_cert.proofs.Placing.{moved-itself, moved-other}
 use Rattle.kc_view.specs.Search.{Search, among, on_level, above, after, OnLevel}
 use Rattle.kc_view.proofs.Among.{among-agree, among-one, among-some, among-sum}
-use Rattle.kc_insert.specs.Searching.{ahead, coming, holding, behind, Widened, Searching, AllStrong, Settling, Adds, Drops, Raised, Settled, Evicted, Relisted}
+use Rattle.kc_insert.specs.Searching.{ahead, coming, holding, behind, Widened, Searching, AllStrong, WeakListed, Adds, Drops, Raised, Settled, Evicted, Relisted}
 
 ahead-later-at : (s : Search) (root : ℕ) → Widened s root → (z : ℕ) → OnLevel s z → (y : ℕ) → y < s.size → (s.core z < s.core y → s.rank z < s.rank y) → (s.core y < s.core z → s.rank y < s.rank z) → (above s y || (on_level s y && after s z y)) ≡ after s z y
 ahead-later-at s root c z o y l up down = grind (arith, o.level)
@@ -370,7 +371,7 @@ leave s root cands queue w frontier earlier later place c h earlier' later' r =
 -- the first of the queue is settled
 pub settle : (s : Search) (root : ℕ) (cands queue : List ℕ) (w frontier : ℕ) (earlier later place : ℕ → ℕ) → Widened s root → Searching s root cands (w ∷ queue) frontier earlier later place → AllStrong s cands earlier later
     → (earlier' later' : ℕ → ℕ) (evict : List ℕ) → Settled s cands w earlier later earlier' later' → Relisted s cands [] earlier' later' w evict
-    → Searching s root cands queue (s.rank w + 1) earlier' later' place × Settling s cands (s.rank w + 1) earlier' later' place evict w
+    → Searching s root cands queue (s.rank w + 1) earlier' later' place × WeakListed s cands (s.rank w + 1) earlier' later' place evict w
 settle s root cands queue w frontier earlier later place c h strong earlier' later' evict r l =
     let w_new : member w cands ≡ false = head_new s root cands queue w frontier earlier later place h in (
       leave s root cands queue w frontier earlier later place c h earlier' later' r,
@@ -415,7 +416,7 @@ pass s root cands queue w frontier earlier later place c h few none =
     })
 
 -- once the eviction list is empty
-pub settled : (s : Search) (cands : List ℕ) (frontier : ℕ) (earlier later place : ℕ → ℕ) (last : ℕ) → Settling s cands frontier earlier later place [] last → AllStrong s cands earlier later
+pub settled : (s : Search) (cands : List ℕ) (frontier : ℕ) (earlier later place : ℕ → ℕ) (last : ℕ) → WeakListed s cands frontier earlier later place [] last → AllStrong s cands earlier later
 settled s cands frontier earlier later place last e = record { strong = λ x m. e.strong x m refl }
 
 odd-even : (a b : ℕ) → b ≤ a → ltb (a + a + 1) (b + b) ≡ false
@@ -426,9 +427,6 @@ odd-even_after a b lt = grind arith
 
 even-odd : (a b : ℕ) → b ≤ a → ltb (b + b) (a + a + 1) ≡ true
 even-odd a b le = grind arith
-
-twice-ltb : (a b : ℕ) → ltb (a + a) (b + b) ≡ ltb a b
-twice-ltb a b = grind arith
 
 -- how the count of later neighbours changes when a candidate is evicted
 holding-evicted : (s : Search) (root : ℕ) (cands cands' : List ℕ) (x frontier z : ℕ) → Widened s root → OnLevel s x → s.rank x < frontier → member x cands ≡ true → Drops cands x cands'
@@ -475,7 +473,7 @@ weigh_at u l m m' q rx ry f hu hl hm hm' ne = grind arith
 
 -- an evicted candidate goes past all that had passed, and before the others
 behind-evicted : (s : Search) (root : ℕ) (cands queue : List ℕ) (frontier : ℕ) (earlier later place : ℕ → ℕ) (evict : List ℕ) (x last : ℕ) → Widened s root → Searching s root cands queue frontier earlier later place
-    → Settling s cands frontier earlier later place (x ∷ evict) last → (cands' : List ℕ) → Drops cands x cands' → behind s cands' (moved place x last) x ≡ coming s cands x + holding s cands frontier x
+    → WeakListed s cands frontier earlier later place (x ∷ evict) last → (cands' : List ℕ) → Drops cands x cands' → behind s cands' (moved place x last) x ≡ coming s cands x + holding s cands frontier x
 behind-evicted s root cands queue frontier earlier later place evict x last c h e cands' drop =
     let there : member x cands ≡ true = e.listed x (member-head x evict) in
     let ox : OnLevel s x = h.cand_level x there in
@@ -517,7 +515,7 @@ behind-evicted s root cands queue frontier earlier later place evict x last c h 
     ])
 
 behind-kept : (s : Search) (root : ℕ) (cands queue : List ℕ) (frontier : ℕ) (earlier later place : ℕ → ℕ) (evict : List ℕ) (x last : ℕ) → Searching s root cands queue frontier earlier later place
-    → Settling s cands frontier earlier later place (x ∷ evict) last → (cands' : List ℕ) → Drops cands x cands'
+    → WeakListed s cands frontier earlier later place (x ∷ evict) last → (cands' : List ℕ) → Drops cands x cands'
     → (z : ℕ) → OnLevel s z → s.rank z < frontier → z ≢ x → member z cands ≡ false → behind s cands' (moved place x last) z ≡ behind s cands place z
 behind-kept s root cands queue frontier earlier later place evict x last h e cands' drop z oz passed ne none =
     let there : member x cands ≡ true = e.listed x (member-head x evict) in
@@ -533,15 +531,15 @@ behind-kept s root cands queue frontier earlier later place evict x last h e can
       | inr ny ↦
           let same : member y cands' ≡ member y cands = drop.others y ny in
           let k : moved place x last y ≡ place y + place y = moved-other place x last y ny in
-          let alike : ltb (moved place x last z) (moved place x last y) ≡ ltb (place z) (place y) = rw (here, k) (twice-ltb (place z) (place y)) in
+          let alike : ltb (moved place x last z) (moved place x last y) ≡ ltb (place z) (place y) = rw (here, k) (ltb-double (place z) (place y)) in
           grind (arith, same, alike)
     ])
 
 -- a candidate that has become too weak is evicted
 pub evict_one : (s : Search) (root : ℕ) (cands queue : List ℕ) (frontier : ℕ) (earlier later place : ℕ → ℕ) (evict : List ℕ) (x last : ℕ) → Widened s root → Searching s root cands queue frontier earlier later place
-    → Settling s cands frontier earlier later place (x ∷ evict) last
+    → WeakListed s cands frontier earlier later place (x ∷ evict) last
     → (cands' evict' : List ℕ) (earlier' later' : ℕ → ℕ) → Evicted s cands frontier x earlier later cands' earlier' later' → Relisted s cands' evict earlier' later' x evict'
-    → Searching s root cands' queue frontier earlier' later' (moved place x last) × Settling s cands' frontier earlier' later' (moved place x last) evict' x
+    → Searching s root cands' queue frontier earlier' later' (moved place x last) × WeakListed s cands' frontier earlier' later' (moved place x last) evict' x
 evict_one s root cands queue frontier earlier later place evict x last c h e cands' evict' earlier' later' r l =
     let there : member x cands ≡ true = e.listed x (member-head x evict) in
     let ox : OnLevel s x = h.cand_level x there in

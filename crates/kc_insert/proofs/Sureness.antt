@@ -1,8 +1,9 @@
 -- The moves of an insertion pass the local test, and move only vertices that the new edge concerns.
-use Rattle.std.proofs.Common.{◌≡◌, ◌<◌, ◌+◌, ℕ, min, Bool, true, false, cond, not, List, [], ◌∷◌, ◌++◌, get_or, leb, refl, sym, ◌∙◌, ap, subst, inl, inr, true≢false, Vec, Global}
+use Rattle.std.proofs.Common.{◌≡◌, ◌<◌, ◌+◌, ℕ, min, Bool, true, false, cond, not, [], ◌++◌, get_or, leb, refl, sym, ◌∙◌, ap, subst, inl, inr, true≢false, Vec, Global}
 use Rattle.std.proofs.lemmas.Bool.{false≢true, false_from_ne_true}
 use Rattle.kc_distinct.specs.Lists.{member, Distinct}
-use Rattle.kc_distinct.proofs.Members.{member-head, member-tail, member-append, append-not_member}
+use Rattle.kc_distinct.proofs.Members.{member-append}
+use Rattle.kc_distinct.proofs.Shared.{Distinct-append}
 use Rattle.kc_graph.specs.SimpleGraph.{SimpleGraph, adjacent}
 use Rattle.kc_graph.specs.Edges.{with_edge, without_edge}
 use Rattle.kc_graph.specs.Lawful.{Ranked, IsCertified}
@@ -13,12 +14,11 @@ use Rattle.kc_graph.specs.declared.plan.Moves.TheVariants.{Kept, Plain, Rise}
 use Rattle.kc_cert.specs.Local.{IsLocal, IsOfLevel, HoldsAt, firsts}
 use Rattle.kc_cert.specs.Ranks.{rank_in, AscendsBy}
 use Rattle.kc_cert.proofs.Final.{Ascends-distinct}
-use Rattle.kc_view.specs.Search.{OnLevel}
-use Rattle.kc_view.specs.Sure.{IsSparing, InForward, Forward, root_of}
-use Rattle.kc_view.specs.Sure as sure
+use Rattle.kc_view.specs.Search.{OnLevel, Search, Forward, search_in}
+use Rattle.kc_view.specs.Sure.{IsSparing, InForward, root_of}
 use Rattle.kc_view.proofs.Still.{kept-is_sure}
-use Rattle.kc_insert.specs.Added.{search_of}
-use Rattle.kc_insert.specs.Searching.{Widened, Reached, at_root, further, BetweenTurns}
+use Rattle.kc_insert.specs.Added.{search_with}
+use Rattle.kc_insert.specs.Searching.{Widened, BetweenTurns}
 use Rattle.kc_insert.proofs.Holding.{plain-holds, rise-holds}
 use Rattle.kc_insert.proofs.Widening.{widened}
 use Rattle.kc_cert.proofs.FittingMoves.{plain_fits, rise_fits}
@@ -30,13 +30,11 @@ pub updated-is : (update : Update) (g : SimpleGraph) → update.add ≡ true →
 updated-is update g e = ap (λ (b : Bool). cond b (with_edge g update.u update.v) (without_edge g update.u update.v)) e
 
 -- the vertices that the search reaches are those that the new edge may concern
-forward-from : (update : Update) (s : Ranked) (level root x : ℕ) → level ≡ get_or s.core root 0 → Reached (search_of update level s) root x → Forward s (with_edge s.graph update.u update.v) root x
-forward-from update s level root x at at_root = sure.at_root
-forward-from update s level root x at (further w _ r o a lt) = sure.further w x (forward-from update s level root w at r) o.here (o.level ∙ at) a lt
-
-pub reached-forward : (update : Update) (s : Ranked) (level root x : ℕ) → update.add ≡ true → level ≡ get_or s.core root 0 → root ≡ root_of s update → Reached (search_of update level s) root x → InForward s update x
+pub reached-forward : (update : Update) (s : Ranked) (level root x : ℕ) → update.add ≡ true → level ≡ get_or s.core root 0 → root ≡ root_of s update → Forward (search_with update level s) root x → InForward s update x
 reached-forward update s level root x adds at is r =
-    subst (λ (n : ℕ). Forward s (updated update s.graph) n x) is (subst (λ (g : SimpleGraph). Forward s g root x) (sym (updated-is update s.graph adds)) (forward-from update s level root x at r))
+    let here : search_with update level s ≡ search_in (updated update s.graph) s (get_or s.core (root_of s update) 0) =
+    ap (λ (n : ℕ). search_with update n s) (at ∙ ap (λ y. get_or s.core y 0) is) ∙ ap (λ (g : SimpleGraph). search_in g s (get_or s.core (root_of s update) 0)) (sym (updated-is update s.graph adds)) in
+    subst (λ (q : Search). Forward q (root_of s update) x) here (subst (λ (n : ℕ). Forward (search_with update level s) n x) is r)
 
 -- the edge is there already
 pub kept-sure : (update : Update) (used : Used) (s : Ranked) → update.add ≡ true → IsCertified s → update.v < s.graph.size → adjacent s.graph update.u update.v ≡ true
@@ -46,11 +44,11 @@ kept-sure update used s adds h l there = kept-is_sure update used s h l (applied
 -- no vertex moves
 pub plain-sure : (update : Update) (used : Used) (s : Ranked) (level root frontier : ℕ) (earlier later : ℕ → ℕ) → update.add ≡ true → IsCertified s → update.v < s.graph.size → adjacent s.graph update.u update.v ≡ false
     → level ≡ min (get_or s.core update.u 0) (get_or s.core update.v 0) → root ≡ root_of s update
-    → BetweenTurns (search_of update level s) root [] [] frontier earlier later []
+    → BetweenTurns (search_with update level s) root [] [] frontier earlier later []
     → IsLocal s (record { update = update; used = used; moves = Plain }) × IsSparing s (record { update = update; used = used; moves = Plain })
 plain-sure update used s level root frontier earlier later adds h l new least is b =
     let applied : is_applied update s.graph ≡ true = applied-is update s.graph adds ∙ ap not new in
-    let w : Widened (search_of update level s) root = widened update s level root h l new least is in (
+    let w : Widened (search_with update level s) root = widened update s level root h l new least is in (
       record {
         ends = l;
         kept = sym (ap not applied);
@@ -66,24 +64,19 @@ plain-sure update used s level root frontier earlier later adds h l new least is
       },
     )
 
--- two lists that share no number
-Distinct-both : (xs ys : List ℕ) → Distinct xs → Distinct ys → ((x : ℕ) → member x xs ≡ true → member x ys ≡ false) → Distinct (xs ++ ys)
-Distinct-both [] ys dx dy apart = dy
-Distinct-both (x ∷ xs) ys dx dy apart = (append-not_member x xs ys dx.0 (apart x (member-head x xs)), Distinct-both xs ys dx.1 dy (λ z m. apart z (member-tail z x xs m)))
-
 -- some rise, or are shifted
 pub rise-sure : (update : Update) (used : Used) (s : Ranked) (level root frontier : ℕ) (earlier later : ℕ → ℕ) (rise : Vec ℕ Global) (shifts : Vec (ℕ × ℕ) Global) → update.add ≡ true → IsCertified s → update.v < s.graph.size → adjacent s.graph update.u update.v ≡ false
     → level ≡ min (get_or s.core update.u 0) (get_or s.core update.v 0) → root ≡ root_of s update
-    → BetweenTurns (search_of update level s) root rise.items [] frontier earlier later shifts.items → AscendsBy (rank_in s.order) rise.items
-    → ((x : ℕ) → member x (rise.items ++ firsts shifts.items) ≡ true → Reached (search_of update level s) root x)
+    → BetweenTurns (search_with update level s) root rise.items [] frontier earlier later shifts.items → AscendsBy (rank_in s.order) rise.items
+    → ((x : ℕ) → member x (rise.items ++ firsts shifts.items) ≡ true → Forward (search_with update level s) root x)
     → IsLocal s (record { update = update; used = used; moves = Rise level rise shifts }) × IsSparing s (record { update = update; used = used; moves = Rise level rise shifts })
 rise-sure update used s level root frontier earlier later rise shifts adds h l new least is b up reached =
     let applied : is_applied update s.graph ≡ true = applied-is update s.graph adds ∙ ap not new in
-    let w : Widened (search_of update level s) root = widened update s level root h l new least is in
+    let w : Widened (search_with update level s) root = widened update s level root h l new least is in
     let fit = b.shifts_fit in
     let done : (x : ℕ) → member x rise.items ≡ true → member x (firsts shifts.items) ≡ false = λ x m. false_from_ne_true _ (λ k. true≢false (sym m ∙ fit.first_done x k)) in
-    let once : Distinct (rise.items ++ firsts shifts.items) = Distinct-both rise.items (firsts shifts.items) (Ascends-distinct (rank_in s.order) rise.items up) fit.once done in
-    let of_level : (x : ℕ) → OnLevel (search_of update level s) x → IsOfLevel s level x = λ x o. record { vertex = o.here; of_level = o.level } in (
+    let once : Distinct (rise.items ++ firsts shifts.items) = Distinct-append rise.items (firsts shifts.items) (Ascends-distinct (rank_in s.order) rise.items up) fit.once done in
+    let of_level : (x : ℕ) → OnLevel (search_with update level s) x → IsOfLevel s level x = λ x o. record { vertex = o.here; of_level = o.level } in (
       record {
         ends = l;
         kept = sym (ap not applied);

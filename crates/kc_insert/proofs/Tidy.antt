@@ -17,48 +17,48 @@ use Rattle.kc_view.proofs.Asked.{cores-more, cores-listed}
 use Rattle.kc_view.proofs.Fronts.{take-member}
 use Rattle.kc_view.proofs.Keeping.{still_has_list, still_has_core}
 use Rattle.kc_insert.specs.Marks.{candidate_in, turn_in, weak_in}
-use Rattle.kc_insert.specs.Rising.{is_queued, is_candidate, is_weak, turn_at, left, IsOrderly, Asks, IsTidy}
+use Rattle.kc_insert.specs.Rising.{is_queued, is_candidate, is_weak, turn_at, left, IsOrderly, AsksQueued, IsTidyRising}
 use Rattle.kc_insert.specs.Turns.{Leaves}
 use Rattle.kc_insert.specs.declared.rising.Mark.{Mark}
 use Rattle.kc_insert.specs.declared.rising.Rising.{Rising}
 
 -- a list more
-pub asks-list : (update : Update) (a b : Answers) (queue : List ℕ) (y : ℕ) → Asks update a queue → TellsList a b y → (y ≡ update.u) ⊎ (member y queue ≡ true) → Asks update b queue
+pub asks-list : (update : Update) (a b : Answers) (queue : List ℕ) (y : ℕ) → AsksQueued update a queue → TellsList a b y → (y ≡ update.u) ⊎ (member y queue ≡ true) → AsksQueued update b queue
 asks-list update a b queue y asks tells near = elim (cases_Bool (has_list a y)) [
-  | inl h ↦ subst (λ (x : Answers). Asks update x queue) (sym (tells.before h)) asks
+  | inl h ↦ subst (λ (x : Answers). AsksQueued update x queue) (sym (tells.before h)) asks
   | inr n ↦
       let (e, is, eq) = tells.now n in
-      subst (λ (x : Answers). Asks update x queue) (sym eq) (record {
+      subst (λ (x : Answers). AsksQueued update x queue) (sym eq) (record {
         lists = All-push (λ q. (q.vertex ≡ update.u) ⊎ (member q.vertex queue ≡ true)) a.edges e asks.lists (subst (λ (z : ℕ). (z ≡ update.u) ⊎ (member z queue ≡ true)) (sym is) near);
         cores = subst (λ (x : Answers). AsksCores update x) eq (cores-listed update a b y asks.cores tells);
       })
 ]
 
 -- a core number more
-pub asks-core : (update : Update) (a b : Answers) (queue : List ℕ) (y : ℕ) → Asks update a queue → TellsCore a b y → (y ≡ update.u) ⊎ (y ≡ update.v) ⊎ (is_listed a y ≡ true) → Asks update b queue
+pub asks-core : (update : Update) (a b : Answers) (queue : List ℕ) (y : ℕ) → AsksQueued update a queue → TellsCore a b y → (y ≡ update.u) ⊎ (y ≡ update.v) ⊎ (is_listed a y ≡ true) → AsksQueued update b queue
 asks-core update a b queue y asks tells near = elim (cases_Bool (has_core a y)) [
-  | inl h ↦ subst (λ (x : Answers). Asks update x queue) (sym (tells.before h)) asks
+  | inl h ↦ subst (λ (x : Answers). AsksQueued update x queue) (sym (tells.before h)) asks
   | inr n ↦
       let (p, is, eq) = tells.now n in
-      subst (λ (x : Answers). Asks update x queue) (sym eq) (record {
+      subst (λ (x : Answers). AsksQueued update x queue) (sym eq) (record {
         lists = asks.lists;
         cores = subst (λ (x : Answers). AsksCores update x) eq (cores-more update a b y asks.cores tells near);
       })
 ]
 
 -- an order more
-pub asks-order : (update : Update) (a b : Answers) (queue : List ℕ) (o : UsedOrder) → Asks update a queue → b ≡ with_order a o → Asks update b queue
-asks-order update a b queue o asks eq = subst (λ (x : Answers). Asks update x queue) (sym eq) (record { lists = asks.lists; cores = asks.cores })
+pub asks-order : (update : Update) (a b : Answers) (queue : List ℕ) (o : UsedOrder) → AsksQueued update a queue → b ≡ with_order a o → AsksQueued update b queue
+asks-order update a b queue o asks eq = subst (λ (x : Answers). AsksQueued update x queue) (sym eq) (record { lists = asks.lists; cores = asks.cores })
 
 -- more were queued
-pub asks-queued : (update : Update) (a : Answers) (queue queue' : List ℕ) → Asks update a queue → ((x : ℕ) → member x queue ≡ true → member x queue' ≡ true) → Asks update a queue'
+pub asks-queued : (update : Update) (a : Answers) (queue queue' : List ℕ) → AsksQueued update a queue → ((x : ℕ) → member x queue ≡ true → member x queue' ≡ true) → AsksQueued update a queue'
 asks-queued update a queue queue' asks grows = record {
   lists = All-weaker (λ q. (q.vertex ≡ update.u) ⊎ (member q.vertex queue ≡ true)) (λ q. (q.vertex ≡ update.u) ⊎ (member q.vertex queue' ≡ true)) (λ q k. elim k [ inl h ↦ inl h | inr h ↦ inr (grows q.vertex h) ]) a.edges asks.lists;
   cores = asks.cores;
 }
 
 -- the view goes on
-pub tidy-view : (update : Update) (old new : Shown) (r : Rising) → IsTidy update old r → new.size ≡ old.size → Further old.kept new.kept → Asks update new.kept r.queue.items → IsTidy update new r
+pub tidy-view : (update : Update) (old new : Shown) (r : Rising) → IsTidyRising update old r → new.size ≡ old.size → Further old.kept new.kept → AsksQueued update new.kept r.queue.items → IsTidyRising update new r
 tidy-view update old new r t size further asks = record {
   orderly = t.orderly;
   within = λ z m. let l : z < old.size = t.within z m in omega (arith, l, size);
@@ -68,10 +68,10 @@ tidy-view update old new r t size further asks = record {
 }
 
 -- queue, candidates and evicted go on
-pub tidy-rising : (update : Update) (shown : Shown) (old new : Rising) → IsTidy update shown old → IsOrderly new
+pub tidy-rising : (update : Update) (shown : Shown) (old new : Rising) → IsTidyRising update shown old → IsOrderly new
     → ((z : ℕ) → member z old.queue.items ≡ true → member z new.queue.items ≡ true)
     → ((z : ℕ) → member z new.queue.items ≡ true → (member z old.queue.items ≡ true) ⊎ ((z < shown.size) × (has_core shown.kept z ≡ true)))
-    → ((z : ℕ) → member z (left new) ≡ true → (member z (left old) ≡ true) ⊎ (has_list shown.kept z ≡ true)) → IsTidy update shown new
+    → ((z : ℕ) → member z (left new) ≡ true → (member z (left old) ≡ true) ⊎ (has_list shown.kept z ≡ true)) → IsTidyRising update shown new
 tidy-rising update shown old new t orderly grows from read = record {
   orderly = orderly;
   within = λ z m. elim (from z m) [ inl k ↦ t.within z k | inr k ↦ k.0 ];
@@ -81,14 +81,14 @@ tidy-rising update shown old new t orderly grows from read = record {
 }
 
 -- no more are queued than there are vertices
-pub queue-fits : (update : Update) (shown : Shown) (r : Rising) → IsTidy update shown r → length r.queue.items ≤ shown.size
+pub queue-fits : (update : Update) (shown : Shown) (r : Rising) → IsTidyRising update shown r → length r.queue.items ≤ shown.size
 queue-fits update shown r t = below_bound shown.size r.queue.items t.orderly.once t.within
 
 -- who has left the queue was in it
 pub left-queued : (r : Rising) (z : ℕ) → member z (left r) ≡ true → member z r.queue.items ≡ true
 left-queued r z m = take-member r.turn r.queue.items z m
 
-pub weak-fits : (update : Update) (shown : Shown) (r : Rising) → IsTidy update shown r → length r.weak.items ≤ shown.size
+pub weak-fits : (update : Update) (shown : Shown) (r : Rising) → IsTidyRising update shown r → length r.weak.items ≤ shown.size
 weak-fits update shown r t = below_bound shown.size r.weak.items t.orderly.weak_once (λ x m. t.within x (left-queued r x (t.orderly.weak_left x m)))
 
 -- the first of those that wait leaves the queue
@@ -141,8 +141,8 @@ leave-orderly w mark old new o l lt first turn none =
     }
 
 -- so that it is still tidy
-pub leave-tidy : (update : Update) (shown : Shown) (w : ℕ) (mark : Mark) (old new : Rising) → IsTidy update shown old → Leaves w mark old new → old.turn < length old.queue.items → get_or old.queue.items old.turn 0 ≡ w
-    → (mark.is_candidate ≡ true → mark.turn ≡ old.turn) → mark.is_weak ≡ false → has_list shown.kept w ≡ true → IsTidy update shown new
+pub leave-tidy : (update : Update) (shown : Shown) (w : ℕ) (mark : Mark) (old new : Rising) → IsTidyRising update shown old → Leaves w mark old new → old.turn < length old.queue.items → get_or old.queue.items old.turn 0 ≡ w
+    → (mark.is_candidate ≡ true → mark.turn ≡ old.turn) → mark.is_weak ≡ false → has_list shown.kept w ≡ true → IsTidyRising update shown new
 leave-tidy update shown w mark old new t l lt first turn none read =
     tidy-rising update shown old new t (leave-orderly w mark old new t.orderly l lt first turn none) (λ z m. ap (member z) l.queue ∙ m) (λ z m. inl (sym (ap (member z) l.queue) ∙ m))
     (λ z m. elim (member-push_cases z w (left old) (sym (ap (member z) (left-more w mark old new l lt first)) ∙ m)) [ inl k ↦ inl k | inr e ↦ inr (ap (has_list shown.kept) e ∙ read) ])

@@ -8,21 +8,14 @@ use Rattle.kc_cert.specs.Local.{firsts, seconds, AreInTurn}
 use Rattle.kc_cert.specs.Ranks.{moved, place_after}
 use Rattle.kc_view.specs.Search.{Search, on_level, above, after, OnLevel}
 use Rattle.kc_view.proofs.Among.{among-agree}
-use Rattle.kc_insert.specs.Searching.{ahead, coming, holding, behind, Widened, Searching, Settling, Adds, Drops, Raised, Settled, Evicted, Relisted, Shifts, BetweenTurns, InSettling}
+use Rattle.kc_view.proofs.Fronts.{firsts-push, seconds-push}
+use Rattle.kc_insert.specs.Searching.{ahead, coming, holding, behind, Widened, Searching, WeakListed, Adds, Drops, Raised, Settled, Evicted, Relisted, Shifts, BetweenTurns, InSettling}
 use Rattle.kc_insert.proofs.Steps.{start, raise, settle, pass, settled, evict_one, coming_at, holding_at, behind_at}
 
 -- one shift more
 place_after-push : (r : ℕ → ℕ) (shifts : List (ℕ × ℕ)) (x w : ℕ) → place_after r (shifts ++ (x, w) ∷ []) ≡ moved (place_after r shifts) x w
 place_after-push r [] x w = refl
 place_after-push r (p ∷ shifts) x w = place_after-push (moved r p.0 p.1) shifts x w
-
-firsts-push : (shifts : List (ℕ × ℕ)) (x w : ℕ) → firsts (shifts ++ (x, w) ∷ []) ≡ firsts shifts ++ x ∷ []
-firsts-push [] x w = refl
-firsts-push (p ∷ shifts) x w = ap (λ ys. p.0 ∷ ys) (firsts-push shifts x w)
-
-seconds-push : (shifts : List (ℕ × ℕ)) (x w : ℕ) → seconds (shifts ++ (x, w) ∷ []) ≡ seconds shifts ++ w ∷ []
-seconds-push [] x w = refl
-seconds-push (p ∷ shifts) x w = ap (λ ys. p.1 ∷ ys) (seconds-push shifts x w)
 
 AreInTurn-push : (shifts : List (ℕ × ℕ)) (x w : ℕ) → AreInTurn shifts → w ≢ x → member x (seconds shifts) ≡ false → AreInTurn (shifts ++ (x, w) ∷ [])
 AreInTurn-push [] x w t ne n = (not_member-cons w x [] ne refl, tt)
@@ -144,7 +137,7 @@ turn_evict s root cands queue frontier earlier later shifts evict x last c b can
     let same : place_after s.rank (shifts ++ (x, last) ∷ []) ≡ moved (place_after s.rank shifts) x last = place_after-push s.rank shifts x last in
     record {
       searching = subst (λ (p : ℕ → ℕ). Searching s root cands' queue frontier earlier' later' p) (sym same) next.0;
-      settling = subst (λ (p : ℕ → ℕ). Settling s cands' frontier earlier' later' p evict' x) (sym same) next.1;
+      settling = subst (λ (p : ℕ → ℕ). WeakListed s cands' frontier earlier' later' p evict' x) (sym same) next.1;
       shifts_fit = Shifts-evict s cands cands' frontier x last shifts ox (b.searching.cand_passed x there) there r.dropped e.last_level e.last_passed e.last_done b.shifts_fit;
     }
 

@@ -10,7 +10,7 @@ use Rattle.kc_view.specs.Search.{Search}
 use Rattle.kc_insert.specs.Marks.{candidate_in, earlier_in, later_in}
 use Rattle.kc_insert.specs.Rising.{is_candidate, earlier_at, later_at, cands, left, waiting, IsOrderly}
 use Rattle.kc_insert.specs.Searching.{ahead, Widened, BetweenTurns}
-use Rattle.kc_insert.specs.Turns.{Leaves, Between}
+use Rattle.kc_insert.specs.Turns.{Leaves, IsBetweenTurns}
 use Rattle.kc_insert.specs.declared.rising.Mark.{Mark}
 use Rattle.kc_insert.specs.declared.rising.Rising.{Rising}
 use Rattle.kc_insert.proofs.Losses.{cand-left}
@@ -52,7 +52,7 @@ later-of_cands s root cands queue frontier earlier later shifts b later' same =
 
 -- the mark of `w` says nothing
 pub pass-between : (s : Search) (root w : ℕ) (old new : Rising) → Widened s root → IsOrderly old → old.turn < length old.queue.items → get_or old.queue.items old.turn 0 ≡ w
-    → Leaves w (record { earlier = 0; later = 0; turn = 0; is_candidate = false; is_weak = false }) old new → ahead s w ≤ s.level → earlier_at old w ≡ 0 → Between s root old → Between s root new
+    → Leaves w (record { earlier = 0; later = 0; turn = 0; is_candidate = false; is_weak = false }) old new → ahead s w ≤ s.level → earlier_at old w ≡ 0 → IsBetweenTurns s root old → IsBetweenTurns s root new
 pass-between s root w old new c o lt first l few none (f, b) =
     let mark : Mark = record { earlier = 0; later = 0; turn = 0; is_candidate = false; is_weak = false } in
     let rest : List ℕ = waiting new in

@@ -18,7 +18,7 @@ use Rattle.kc_cert.proofs.Sums.{one_if, count-one-in}
 use Rattle.kc_view.specs.Search.{search_in}
 use Rattle.kc_view.specs.Sure.{root_of}
 use Rattle.kc_view.proofs.Among.{at_most_one}
-use Rattle.kc_insert.specs.Added.{search_of}
+use Rattle.kc_insert.specs.Added.{search_with}
 use Rattle.kc_insert.specs.Searching.{Widened}
 
 later_same : (a' a zr yo zo yr : Bool) (rz ry : ℕ) → a' ≡ (a || ((zr && yo) || (zo && yr))) → zr ≡ false → (zo ≡ true → yr ≡ true → ry < rz) → (a' && ltb rz ry) ≡ (a && ltb rz ry)
@@ -90,7 +90,7 @@ root-second : (a b p q u v : ℕ) → a ≡ b → q < p → cond (ltb a b) u (co
 root-second a b p q u v e l = grind arith
 
 pub widened : (update : Update) (s : Ranked) (level root : ℕ) → IsCertified s → update.v < s.graph.size → adjacent s.graph update.u update.v ≡ false
-    → level ≡ min (get_or s.core update.u 0) (get_or s.core update.v 0) → root ≡ root_of s update → Widened (search_of update level s) root
+    → level ≡ min (get_or s.core update.u 0) (get_or s.core update.v 0) → root ≡ root_of s update → Widened (search_with update level s) root
 widened update s level root h l new least is =
     let u : ℕ = update.u in
     let v : ℕ = update.v in
@@ -100,10 +100,10 @@ widened update s level root h l new least is =
     let rank : ℕ → ℕ = rank_in s.order in
     let there : (y : ℕ) → y < s.graph.size → member y s.order ≡ true = λ y ly. order-has s.graph.size s.order h.enumerates y ∙ member-below y s.graph.size ly in
     let adds : (a b : ℕ) → adjacent (with_edge s.graph u v) a b ≡ (adjacent s.graph a b || joins u v a b) = λ a b. adjacent-with s.graph u v a b (ends_differ update) in
-    let from_u : root_of s update ≡ u → number u ≤ number v → rank u < rank v → Widened (search_of update level s) root = λ e le first.
-    subst (λ (r : ℕ). Widened (search_of update level s) r) (sym (is ∙ e)) (widened-at s u v u v level h lu l (omega (arith, least, le)) first new adds) in
-    let from_v : root_of s update ≡ v → number v ≤ number u → rank v < rank u → Widened (search_of update level s) root = λ e le first.
-    subst (λ (r : ℕ). Widened (search_of update level s) r) (sym (is ∙ e)) (widened-at s u v v u level h l lu (omega (arith, least, le)) first (adjacent-sym s.graph v u ∙ new)
+    let from_u : root_of s update ≡ u → number u ≤ number v → rank u < rank v → Widened (search_with update level s) root = λ e le first.
+    subst (λ (r : ℕ). Widened (search_with update level s) r) (sym (is ∙ e)) (widened-at s u v u v level h lu l (omega (arith, least, le)) first new adds) in
+    let from_v : root_of s update ≡ v → number v ≤ number u → rank v < rank u → Widened (search_with update level s) root = λ e le first.
+    subst (λ (r : ℕ). Widened (search_with update level s) r) (sym (is ∙ e)) (widened-at s u v v u level h l lu (omega (arith, least, le)) first (adjacent-sym s.graph v u ∙ new)
     (λ a b. adds a b ∙ ap (λ k. adjacent s.graph a b || k) (turned (eqb a u) (eqb b v) (eqb a v) (eqb b u)))) in
     elim (cases_order (number u) (number v)) [
       | inr (inl lt) ↦ from_u (root-lesser (number u) (number v) (rank u) (rank v) u v lt) (omega (arith, lt)) (ranks-rise s.core s.order h.rising u v (there u lu) (there v l) lt)

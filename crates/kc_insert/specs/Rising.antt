@@ -58,14 +58,14 @@ pub record IsOrderly (r : Rising) : Type 0 where
   pub anchored : (z : ℕ) → member z (seconds r.shifts.items) ≡ true → member z (left r) ≡ true
 
 -- what was asked: lists of the lesser end and of queued vertices alone, core numbers of the ends and of neighbours on such lists
-pub record Asks (update : Update) (a : Answers) (queue : List ℕ) : Type 0 where
+pub record AsksQueued (update : Update) (a : Answers) (queue : List ℕ) : Type 0 where
   pub lists : All (λ e. (e.vertex ≡ update.u) ⊎ (member e.vertex queue ≡ true)) a.edges
   pub cores : AsksCores update a
 
 -- what holds for every view
-pub record IsTidy (update : Update) (shown : Shown) (r : Rising) : Type 0 where
+pub record IsTidyRising (update : Update) (shown : Shown) (r : Rising) : Type 0 where
   pub orderly : IsOrderly r
   pub within : (z : ℕ) → member z r.queue.items ≡ true → z < shown.size
   pub placed : (z : ℕ) → member z r.queue.items ≡ true → has_core shown.kept z ≡ true
   pub read : (z : ℕ) → member z (left r) ≡ true → has_list shown.kept z ≡ true
-  pub asks : Asks update shown.kept r.queue.items
+  pub asks : AsksQueued update shown.kept r.queue.items

@@ -58,7 +58,7 @@ pub record AllStrong (s : Search) (cands : List ℕ) (earlier later : ℕ → �
   pub strong : (x : ℕ) → member x cands ≡ true → s.level < earlier x + later x
 
 -- while a vertex is settled: `evict` lists the candidates that are too weak, and the next one goes right after `last`
-pub record Settling (s : Search) (cands : List ℕ) (frontier : ℕ) (earlier later place : ℕ → ℕ) (evict : List ℕ) (last : ℕ) : Type 0 where
+pub record WeakListed (s : Search) (cands : List ℕ) (frontier : ℕ) (earlier later place : ℕ → ℕ) (evict : List ℕ) (last : ℕ) : Type 0 where
   pub distinct : Distinct evict
   pub listed : (x : ℕ) → member x evict ≡ true → member x cands ≡ true
   pub weak : (x : ℕ) → member x evict ≡ true → earlier x + later x ≤ s.level
@@ -119,11 +119,6 @@ pub record Shifts (s : Search) (cands : List ℕ) (frontier : ℕ) (shifts : Lis
   pub second_passed : (x : ℕ) → member x (seconds shifts) ≡ true → s.rank x < frontier
   pub second_done : (x : ℕ) → member x (seconds shifts) ≡ true → member x cands ≡ false
 
--- `y` is the root, or walks from it to later neighbours of the level reach `y`
-pub data Reached (s : Search) (root : ℕ) : ℕ → Type 0 where
-  at_root : Reached s root root
-  further : (x y : ℕ) → Reached s root x → OnLevel s y → s.adj x y ≡ true → s.rank x < s.rank y → Reached s root y
-
 -- between two turns
 pub record BetweenTurns (s : Search) (root : ℕ) (cands queue : List ℕ) (frontier : ℕ) (earlier later : ℕ → ℕ) (shifts : List (ℕ × ℕ)) : Type 0 where
   pub searching : Searching s root cands queue frontier earlier later (place_after s.rank shifts)
@@ -133,5 +128,5 @@ pub record BetweenTurns (s : Search) (root : ℕ) (cands queue : List ℕ) (fron
 -- while a vertex is settled
 pub record InSettling (s : Search) (root : ℕ) (cands queue : List ℕ) (frontier : ℕ) (earlier later : ℕ → ℕ) (shifts : List (ℕ × ℕ)) (evict : List ℕ) (last : ℕ) : Type 0 where
   pub searching : Searching s root cands queue frontier earlier later (place_after s.rank shifts)
-  pub settling : Settling s cands frontier earlier later (place_after s.rank shifts) evict last
+  pub settling : WeakListed s cands frontier earlier later (place_after s.rank shifts) evict last
   pub shifts_fit : Shifts s cands frontier shifts

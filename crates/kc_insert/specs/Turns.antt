@@ -3,10 +3,10 @@ use Rattle.std.specs.Prelude.{◌≡◌, ◌≢◌, ◌≤◌, ◌<◌, ◌+◌,
 use Rattle.std.specs.List.{insert}
 use Rattle.kc_distinct.specs.Lists.{member}
 use Rattle.kc_cert.specs.Ranks.{AscendsBy}
-use Rattle.kc_view.specs.Search.{Search, on_level, above, after, OnLevel}
+use Rattle.kc_view.specs.Search.{Search, on_level, above, after, OnLevel, Forward}
 use Rattle.kc_insert.specs.Marks.{mark_of}
 use Rattle.kc_insert.specs.Rising.{is_queued, earlier_at, later_at, turn_at, is_candidate, is_weak, cands, left, waiting, pending}
-use Rattle.kc_insert.specs.Searching.{ahead, Reached, BetweenTurns, InSettling}
+use Rattle.kc_insert.specs.Searching.{ahead, BetweenTurns, InSettling}
 use Rattle.kc_insert.specs.declared.losing.Loss.{Loss}
 use Rattle.kc_insert.specs.declared.losing.Loss.TheVariants.{Settled, Evicted}
 use Rattle.kc_insert.specs.declared.ahead.Ahead.{Ahead}
@@ -25,13 +25,13 @@ pub record Begins (root : ℕ) (r : Rising) : Type 0 where
   pub shifts : r.shifts.items ≡ []
 
 -- one vertex is marked so
-pub record Marks (y : ℕ) (mark : Mark) (old new : Rising) : Type 0 where
+pub record MarksOne (y : ℕ) (mark : Mark) (old new : Rising) : Type 0 where
   pub here : mark_of new.marks y ≡ Some mark
   pub others : (z : ℕ) → z ≢ y → mark_of new.marks z ≡ mark_of old.marks z
 
 -- `w`, which is first of those that wait, leaves the queue
 pub record Leaves (w : ℕ) (mark : Mark) (old new : Rising) : Type 0 where
-  pub marks : Marks w mark old new
+  pub marks : MarksOne w mark old new
   pub queue : new.queue.items ≡ old.queue.items
   pub turn : new.turn ≡ old.turn + 1
   pub weak : new.weak.items ≡ old.weak.items
@@ -43,7 +43,7 @@ passed_mark r x = record { earlier = min (earlier_at r x + 1) (2 ^ 64 - 1); late
 
 -- `x` has one candidate more before it, and is queued if it never was
 pub record Passes (x : ℕ) (old new : Rising) : Type 0 where
-  pub marks : Marks x (passed_mark old x) old new
+  pub marks : MarksOne x (passed_mark old x) old new
   pub kept : is_queued old x ≡ true → new.queue.items ≡ old.queue.items
   pub queued : is_queued old x ≡ false → (place : ℕ) × (old.turn ≤ place) × (place ≤ length old.queue.items) × (new.queue.items ≡ insert old.queue.items place x)
   pub turn : new.turn ≡ old.turn
@@ -89,7 +89,7 @@ grown was is y weak = if was then weak else if is then weak ++ y ∷ [] else wea
 
 -- `y` has these counts now
 pub record Recounts (level y : ℕ) (mark : Mark) (old new : Rising) : Type 0 where
-  pub marks : Marks y (recounted level mark) old new
+  pub marks : MarksOne y (recounted level mark) old new
   pub weak : new.weak.items ≡ grown mark.is_weak (recounted level mark).is_weak y old.weak.items
   pub queue : new.queue.items ≡ old.queue.items
   pub turn : new.turn ≡ old.turn
@@ -116,7 +116,7 @@ pub record Loses (level : ℕ) (loss : Loss) (ys : List ℕ) (old new : Rising) 
 
 -- `x` is no candidate any more, and is put behind `anchor`
 pub record Evicts (x anchor : ℕ) (old new : Rising) : Type 0 where
-  pub marks : Marks x (record { earlier = 0; later = 0; turn = turn_at old x; is_candidate = false; is_weak = true }) old new
+  pub marks : MarksOne x (record { earlier = 0; later = 0; turn = turn_at old x; is_candidate = false; is_weak = true }) old new
   pub queue : new.queue.items ≡ old.queue.items
   pub turn : new.turn ≡ old.turn
   pub weak : new.weak.items ≡ old.weak.items
@@ -155,7 +155,7 @@ pub record IsAheadOf (s : Search) (w : ℕ) (a : Ahead) : Type 0 where
 -- The queue is in order, all in it were reached, and those that have left stand before `frontier`.
 pub record LinedUp (s : Search) (root : ℕ) (r : Rising) (frontier : ℕ) : Type 0 where
   pub ascends : AscendsBy s.rank r.queue.items
-  pub reached : (z : ℕ) → member z r.queue.items ≡ true → Reached s root z
+  pub reached : (z : ℕ) → member z r.queue.items ≡ true → Forward s root z
   pub passed : (z : ℕ) → member z (left r) ≡ true → s.rank z < frontier
 
 -- between two turns
@@ -164,13 +164,13 @@ pub record BetweenAt (s : Search) (root : ℕ) (r : Rising) (frontier : ℕ) : T
   pub turns : BetweenTurns s root (cands r) (waiting r) frontier (earlier_at r) (later_at r) r.shifts.items
   pub calm : length r.shifts.items ≡ length r.weak.items
 
-abbrev pub Between : Search → ℕ → Rising → Type 0
-Between s root r = (frontier : ℕ) × BetweenAt s root r frontier
+abbrev pub IsBetweenTurns : Search → ℕ → Rising → Type 0
+IsBetweenTurns s root r = (frontier : ℕ) × BetweenAt s root r frontier
 
 -- while a vertex is settled
 pub record SettlingAt (s : Search) (root : ℕ) (r : Rising) (frontier last : ℕ) : Type 0 where
   pub lined : LinedUp s root r frontier
   pub settling : InSettling s root (cands r) (waiting r) frontier (earlier_at r) (later_at r) r.shifts.items (pending r) last
 
-abbrev pub Settling : Search → ℕ → Rising → ℕ → Type 0
-Settling s root r last = (frontier : ℕ) × SettlingAt s root r frontier last
+abbrev pub IsSettling : Search → ℕ → Rising → ℕ → Type 0
+IsSettling s root r last = (frontier : ℕ) × SettlingAt s root r frontier last

@@ -5,8 +5,8 @@ ghost use Rattle.kc_graph.specs.Lawful.{Ranked};
 ghost use Rattle.kc_view.specs.Answers.{Agrees, has_list, list_of, has_core};
 ghost use Rattle.kc_view.specs.Lists.{IsListOf};
 ghost use Rattle.kc_view.specs.Views.{GoesOn, HasPlanCause};
-ghost use Rattle.kc_insert.specs.Added.{search_of, is_added};
-ghost use Rattle.kc_insert.specs.Rising.{Asks};
+ghost use Rattle.kc_insert.specs.Added.{search_with, is_added};
+ghost use Rattle.kc_insert.specs.Rising.{AsksQueued};
 ghost use Rattle.kc_insert.specs.Turns.{side_in, is_ahead, is_next};
 
 use kc_graph::{NoMemory, Update};
@@ -65,11 +65,11 @@ fn side_of<V: View>(
     requires placed { has_core (V.shown view.old).kept w ≡ true }
     requires read { has_list (V.shown view.old).kept w ≡ true }
     requires neighbour { (member x (list_of (V.shown view.old).kept w) || is_added update w x) ≡ true }
-    ensures goes_on { GoesOn (V.shown view.old) (V.shown view.new) (V.is_missed view.old) (V.is_missed view.new) (V.is_given view.old) (V.is_given view.new) }
-    ensures cause { IfErr result (λ fault. HasPlanCause (V.shown view.old) (V.shown view.new) (V.is_missed view.new) fault) }
-    ensures asks { OnOk result ((queue : List ℕ) → Asks update (V.shown view.old).kept queue → Asks update (V.shown view.new).kept queue) }
+    ensures goes_on { GoesOn (V.shown view.old) (V.shown view.new) }
+    ensures cause { IfErr result (λ fault. HasPlanCause (V.shown view.old) (V.shown view.new) fault) }
+    ensures asks { OnOk result ((queue : List ℕ) → AsksQueued update (V.shown view.old).kept queue → AsksQueued update (V.shown view.new).kept queue) }
     ensures placed { OnOk result (has_core (V.shown view.new).kept x ≡ true) }
-    ensures told { IfOk result (λ side. (s : Ranked) → Agrees (V.shown view.new).kept s → side ≡ side_in (search_of update level s) w x) }
+    ensures told { IfOk result (λ side. (s : Ranked) → Agrees (V.shown view.new).kept s → side ≡ side_in (search_with update level s) w x) }
 {
     let core = core_of(view, x)?;
     if core > level {
@@ -98,13 +98,15 @@ pub(crate) fn look_ahead<V: View>(
     requires has { (y : ℕ) → member y row.now ≡ (member y (list_of (V.shown view.old).kept w) || is_added update w y) }
     requires placed { has_core (V.shown view.old).kept w ≡ true }
     requires read { has_list (V.shown view.old).kept w ≡ true }
-    ensures goes_on { GoesOn (V.shown view.old) (V.shown view.new) (V.is_missed view.old) (V.is_missed view.new) (V.is_given view.old) (V.is_given view.new) }
-    ensures cause { IfErr result (λ fault. HasPlanCause (V.shown view.old) (V.shown view.new) (V.is_missed view.new) fault) }
-    ensures asks { OnOk result ((queue : List ℕ) → Asks update (V.shown view.old).kept queue → Asks update (V.shown view.new).kept queue) }
+    ensures goes_on { GoesOn (V.shown view.old) (V.shown view.new) }
+    ensures cause { IfErr result (λ fault. HasPlanCause (V.shown view.old) (V.shown view.new) fault) }
+    ensures asks { OnOk result ((queue : List ℕ) → AsksQueued update (V.shown view.old).kept queue → AsksQueued update (V.shown view.new).kept queue) }
     ensures from { IfOk result (λ ahead. (y : ℕ) → member y ahead.next.items ≡ true → (member y row.now ≡ true) × (has_core (V.shown view.new).kept y ≡ true)) }
     ensures once { IfOk result (λ ahead. Distinct ahead.next.items) }
-    ensures count { IfOk result (λ ahead. (s : Ranked) → Agrees (V.shown view.new).kept s → ahead.count ≡ count_by (λ y. is_ahead (side_in (search_of update level s) w y)) row.now) }
-    ensures next { IfOk result (λ ahead. (s : Ranked) → Agrees (V.shown view.new).kept s → (y : ℕ) → member y ahead.next.items ≡ (member y row.now && is_next (side_in (search_of update level s) w y))) }
+    ensures count { IfOk result (λ ahead. (s : Ranked) → Agrees (V.shown view.new).kept s
+        → ahead.count ≡ count_by (λ y. is_ahead (side_in (search_with update level s) w y)) row.now) }
+    ensures next { IfOk result (λ ahead. (s : Ranked) → Agrees (V.shown view.new).kept s → (y : ℕ)
+        → member y ahead.next.items ≡ (member y row.now && is_next (side_in (search_with update level s) w y))) }
 {
     let mut ahead = Ahead {
         count: 0,

@@ -1,17 +1,18 @@
 //! The plan of an update that adds an edge.
-ghost use Rattle.std.specs.Prelude.{◌≡◌, ◌<◌, ◌++◌, ◌⊎◌, ℕ, min, [], true, slice_index, IfOk, OnOk, IfErr, length};
+ghost use Rattle.std.specs.Prelude.{◌≡◌, ◌<◌, ◌++◌, ◌⊎◌, ℕ, min, [], true, slice_index, IfOk, OnOk, IfErr, OnErr, length};
 ghost use Rattle.kc_distinct.specs.Lists.{member};
 ghost use Rattle.kc_graph.specs.Lawful.{Ranked};
 ghost use Rattle.kc_cert.specs.Local.{moved_vertices};
 ghost use Rattle.kc_view.specs.Answers.{Agrees, nothing_answered, answers_in, has_list, list_of, has_core};
 ghost use Rattle.kc_view.specs.Answers.{core_of as core_told};
+ghost use Rattle.kc_view.specs.Lists.{AreLists};
 ghost use Rattle.kc_view.specs.Sure.{IsSure, AreSure, NamesOnlyRead, AsksCores, AsksCoresNearby, AsksForward, anchors, root_of};
-ghost use Rattle.kc_view.specs.Views.{Lasts, GoesOn, HasPlanCause};
-ghost use Rattle.kc_insert.specs.Added.{search_of};
-ghost use Rattle.kc_insert.specs.Rising.{Asks, IsTidy};
+ghost use Rattle.kc_view.specs.Views.{GoesOn, HandsOut, HasPlanCause};
+ghost use Rattle.kc_insert.specs.Added.{search_with};
+ghost use Rattle.kc_insert.specs.Rising.{AsksQueued, IsTidyRising};
 ghost use Rattle.kc_insert.specs.Searching.{Widened};
 ghost use Rattle.kc_insert.specs.Sure.{AskForward};
-ghost use Rattle.kc_insert.specs.Turns.{Between};
+ghost use Rattle.kc_insert.specs.Turns.{IsBetweenTurns};
 
 use crate::rising::Rising;
 use crate::turns::take_turns;
@@ -23,9 +24,9 @@ use std::alloc::Global;
 fn has_edge<V: View>(view: &mut V, update: Update) -> Result<bool, PlanFault>
     requires vertex { update.v < (V.shown view.old).size }
     requires fresh { (V.shown view.old).kept ≡ nothing_answered }
-    ensures goes_on { GoesOn (V.shown view.old) (V.shown view.new) (V.is_missed view.old) (V.is_missed view.new) (V.is_given view.old) (V.is_given view.new) }
-    ensures cause { IfErr result (λ fault. HasPlanCause (V.shown view.old) (V.shown view.new) (V.is_missed view.new) fault) }
-    ensures asks { OnOk result (Asks update (V.shown view.new).kept []) }
+    ensures goes_on { GoesOn (V.shown view.old) (V.shown view.new) }
+    ensures cause { IfErr result (λ fault. HasPlanCause (V.shown view.old) (V.shown view.new) fault) }
+    ensures asks { OnOk result (AsksQueued update (V.shown view.new).kept []) }
     ensures read { OnOk result (has_list (V.shown view.new).kept update.u ≡ true) }
     ensures told { IfOk result (λ there. there ≡ member update.v (list_of (V.shown view.new).kept update.u)) }
 {
@@ -49,10 +50,10 @@ fn first_end<V: View>(
 ) -> Result<u32, PlanFault>
     requires first { (has_core (V.shown view.old).kept update.u ≡ true) × (first ≡ core_told (V.shown view.old).kept update.u) }
     requires second { (has_core (V.shown view.old).kept update.v ≡ true) × (second ≡ core_told (V.shown view.old).kept update.v) }
-    requires asks { Asks update (V.shown view.old).kept [] }
-    ensures goes_on { GoesOn (V.shown view.old) (V.shown view.new) (V.is_missed view.old) (V.is_missed view.new) (V.is_given view.old) (V.is_given view.new) }
-    ensures cause { IfErr result (λ fault. HasPlanCause (V.shown view.old) (V.shown view.new) (V.is_missed view.new) fault) }
-    ensures asks { OnOk result (Asks update (V.shown view.new).kept []) }
+    requires asks { AsksQueued update (V.shown view.old).kept [] }
+    ensures goes_on { GoesOn (V.shown view.old) (V.shown view.new) }
+    ensures cause { IfErr result (λ fault. HasPlanCause (V.shown view.old) (V.shown view.new) fault) }
+    ensures asks { OnOk result (AsksQueued update (V.shown view.new).kept []) }
     ensures end { IfOk result (λ end. (end ≡ update.u) ⊎ (end ≡ update.v)) }
     ensures root { IfOk result (λ end. (s : Ranked) → Agrees (V.shown view.new).kept s → end ≡ root_of s update) }
 {
@@ -72,13 +73,14 @@ fn first_end<V: View>(
 /// The end from which the search goes, and its core number, which is the lesser of the two.
 fn find_root<V: View>(view: &mut V, update: Update) -> Result<Root, PlanFault>
     requires vertex { update.v < (V.shown view.old).size }
-    requires asks { Asks update (V.shown view.old).kept [] }
-    ensures goes_on { GoesOn (V.shown view.old) (V.shown view.new) (V.is_missed view.old) (V.is_missed view.new) (V.is_given view.old) (V.is_given view.new) }
-    ensures cause { IfErr result (λ fault. HasPlanCause (V.shown view.old) (V.shown view.new) (V.is_missed view.new) fault) }
-    ensures asks { OnOk result (Asks update (V.shown view.new).kept []) }
+    requires asks { AsksQueued update (V.shown view.old).kept [] }
+    ensures goes_on { GoesOn (V.shown view.old) (V.shown view.new) }
+    ensures cause { IfErr result (λ fault. HasPlanCause (V.shown view.old) (V.shown view.new) fault) }
+    ensures asks { OnOk result (AsksQueued update (V.shown view.new).kept []) }
     ensures placed { OnOk result ((has_core (V.shown view.new).kept update.u ≡ true) × (has_core (V.shown view.new).kept update.v ≡ true)) }
     ensures end { IfOk result (λ root. (root.vertex ≡ update.u) ⊎ (root.vertex ≡ update.v)) }
-    ensures level { IfOk result (λ root. (s : Ranked) → Agrees (V.shown view.new).kept s → root.level ≡ min (slice_index s.core update.u) (slice_index s.core update.v)) }
+    ensures level { IfOk result (λ root. (s : Ranked) → Agrees (V.shown view.new).kept s
+        → root.level ≡ min (slice_index s.core update.u) (slice_index s.core update.v)) }
     ensures root { IfOk result (λ root. (s : Ranked) → Agrees (V.shown view.new).kept s → root.vertex ≡ root_of s update) }
 {
     let first = core_of(view, update.u)?;
@@ -98,12 +100,13 @@ fn find_rising<V: View>(
     requires ends { update.v < (V.shown view.old).size }
     requires end { (root.vertex ≡ update.u) ⊎ (root.vertex ≡ update.v) }
     requires placed { has_core (V.shown view.old).kept root.vertex ≡ true }
-    requires asks { Asks update (V.shown view.old).kept [] }
-    ensures goes_on { GoesOn (V.shown view.old) (V.shown view.new) (V.is_missed view.old) (V.is_missed view.new) (V.is_given view.old) (V.is_given view.new) }
-    ensures cause { IfErr result (λ fault. HasPlanCause (V.shown view.old) (V.shown view.new) (V.is_missed view.new) fault) }
-    ensures tidy { IfOk result (λ rising. IsTidy update (V.shown view.new) rising) }
+    requires asks { AsksQueued update (V.shown view.old).kept [] }
+    ensures goes_on { GoesOn (V.shown view.old) (V.shown view.new) }
+    ensures cause { IfErr result (λ fault. HasPlanCause (V.shown view.old) (V.shown view.new) fault) }
+    ensures tidy { IfOk result (λ rising. IsTidyRising update (V.shown view.new) rising) }
     ensures ended { IfOk result (λ rising. rising.turn ≡ length rising.queue.items) }
-    ensures turns { IfOk result (λ rising. (s : Ranked) → update.v < s.graph.size → Agrees (V.shown view.new).kept s → Widened (search_of update root.level s) root.vertex → Between (search_of update root.level s) root.vertex rising) }
+    ensures turns { IfOk result (λ rising. (s : Ranked) → update.v < s.graph.size → Agrees (V.shown view.new).kept s
+        → Widened (search_with update root.level s) root.vertex → IsBetweenTurns (search_with update root.level s) root.vertex rising) }
 {
     let mut rising = Rising::start(alloc, root.vertex)?;
     take_turns(alloc, view, update, root.level, &mut rising)?;
@@ -115,8 +118,8 @@ fn moves_of<V: View>(alloc: Global, view: &mut V, update: Update) -> Result<Move
     requires adds { update.add ≡ true }
     requires vertex { update.v < (V.shown view.old).size }
     requires fresh { (V.shown view.old).kept ≡ nothing_answered }
-    ensures goes_on { GoesOn (V.shown view.old) (V.shown view.new) (V.is_missed view.old) (V.is_missed view.new) (V.is_given view.old) (V.is_given view.new) }
-    ensures cause { IfErr result (λ fault. HasPlanCause (V.shown view.old) (V.shown view.new) (V.is_missed view.new) fault) }
+    ensures goes_on { GoesOn (V.shown view.old) (V.shown view.new) }
+    ensures cause { IfErr result (λ fault. HasPlanCause (V.shown view.old) (V.shown view.new) fault) }
     ensures cores { OnOk result (AsksCores update (V.shown view.new).kept) }
     ensures asked { OnOk result (AskForward update (V.shown view.new).kept) }
     ensures named { IfOk result (λ moves. (x : ℕ) → member x (moved_vertices moves ++ anchors moves) ≡ true → has_list (V.shown view.new).kept x ≡ true) }
@@ -141,24 +144,26 @@ fn moves_of<V: View>(alloc: Global, view: &mut V, update: Update) -> Result<Move
 }
 
 /// The plan of an update that adds an edge: which vertices gain one in their core number, in the order in which they then stand in front
-/// of the next level, and which are put behind others of their level. It asks the lists of the lesser end and of vertices that walks
-/// along the order reach from the end that stands first.
+/// of the next level, and which are put behind others of their level. Where its answers are those of one certified state, it asks the
+/// lists of the lesser end and of vertices that walks along the order reach from the end that stands first, and no others.
 ///
 /// `Miss` comes only where a call on the view missed, and `NoMemory` where there is no memory, for the view or for the search. At `Ok` the
-/// view has handed out all that it kept; after a fault it still keeps what it was asked.
+/// view has handed out, once, all that this call asked, and keeps nothing; after a fault it has handed out nothing, and keeps what it was
+/// asked.
 pub fn plan<V: View>(alloc: Global, view: &mut V, update: Update) -> Result<Plan, PlanFault>
     requires adds { update.add ≡ true }
     requires vertex { update.v < (V.shown view.old).size }
     requires fresh { (V.shown view.old).kept ≡ nothing_answered }
-    ensures lasts { Lasts (V.shown view.old) (V.shown view.new) (V.is_missed view.old) (V.is_missed view.new) (V.is_given view.old) (V.is_given view.new) }
+    ensures hands_out { OnOk result (HandsOut (V.shown view.old) (V.shown view.new)) }
+    ensures goes_on { OnErr result (GoesOn (V.shown view.old) (V.shown view.new)) }
     ensures update { IfOk result (λ plan. plan.update ≡ update) }
     ensures sure { IfOk result IsSure }
     ensures named { IfOk result NamesOnlyRead }
     ensures cores { IfOk result AsksCoresNearby }
     ensures asked { IfOk result AsksForward }
-    ensures given { IfOk result (λ plan. V.is_given view.new (answers_in plan.used)) }
-    ensures emptied { OnOk result ((V.shown view.new).kept ≡ nothing_answered) }
-    ensures cause { IfErr result (λ fault. HasPlanCause (V.shown view.old) (V.shown view.new) (V.is_missed view.new) fault) }
+    ensures given { IfOk result (λ plan. (V.shown view.new).is_given (answers_in plan.used)) }
+    ensures lists { IfOk result (λ plan. AreLists (V.shown view.new).size plan.used.edges.items) }
+    ensures cause { IfErr result (λ fault. HasPlanCause (V.shown view.old) (V.shown view.new) fault) }
 {
     let moves = moves_of(alloc, view, update)?;
     let used = view.used();

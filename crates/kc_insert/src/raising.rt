@@ -7,10 +7,10 @@ ghost use Rattle.kc_cert.specs.Ranks.{rank_in, AscendsBy};
 ghost use Rattle.kc_view.specs.Answers.{Agrees, has_list, has_core};
 ghost use Rattle.kc_view.specs.Search.{after};
 ghost use Rattle.kc_view.specs.Views.{GoesOn, HasPlanCause};
-ghost use Rattle.kc_insert.specs.Added.{search_of};
-ghost use Rattle.kc_insert.specs.Rising.{is_queued, left, earlier_at, IsTidy};
+ghost use Rattle.kc_insert.specs.Added.{search_with};
+ghost use Rattle.kc_insert.specs.Rising.{is_queued, left, earlier_at, IsTidyRising};
 ghost use Rattle.kc_insert.specs.Searching.{Widened, ahead};
-ghost use Rattle.kc_insert.specs.Turns.{Passes, PassedOn, Between, IsPlaceWithin, StandsBehindLeft, IsAheadOf};
+ghost use Rattle.kc_insert.specs.Turns.{Passes, PassedOn, IsBetweenTurns, IsPlaceWithin, StandsBehindLeft, IsAheadOf};
 
 use crate::ahead::Ahead;
 use crate::rising::{Mark, Rising};
@@ -20,13 +20,14 @@ use kc_view::{PlanFault, View, stands_before};
 fn place_of<V: View>(view: &mut V, x: u32, rising: &Rising) -> Result<usize, PlanFault>
     requires is_new { member x rising.now.queue.items ≡ false }
     requires placed { has_core (V.shown view.old).kept x ≡ true }
-    requires tidy { (update : Update) × IsTidy update (V.shown view.old) rising.now }
-    ensures goes_on { GoesOn (V.shown view.old) (V.shown view.new) (V.is_missed view.old) (V.is_missed view.new) (V.is_given view.old) (V.is_given view.new) }
-    ensures cause { IfErr result (λ fault. HasPlanCause (V.shown view.old) (V.shown view.new) (V.is_missed view.new) fault) }
-    ensures tidy { OnOk result ((update : Update) → IsTidy update (V.shown view.old) rising.now → IsTidy update (V.shown view.new) rising.now) }
+    requires tidy { (update : Update) × IsTidyRising update (V.shown view.old) rising.now }
+    ensures goes_on { GoesOn (V.shown view.old) (V.shown view.new) }
+    ensures cause { IfErr result (λ fault. HasPlanCause (V.shown view.old) (V.shown view.new) fault) }
+    ensures tidy { OnOk result ((update : Update) → IsTidyRising update (V.shown view.old) rising.now → IsTidyRising update (V.shown view.new) rising.now) }
     ensures from { IfOk result (λ place. rising.now.turn ≤ place) }
     ensures within { IfOk result (λ place. place ≤ length rising.now.queue.items) }
-    ensures place { IfOk result (λ place. (s : Ranked) → Agrees (V.shown view.new).kept s → AscendsBy (rank_in s.order) rising.now.queue.items → ((z : ℕ) → member z (left rising.now) ≡ true → rank_in s.order z < rank_in s.order x)
+    ensures place { IfOk result (λ place. (s : Ranked) → Agrees (V.shown view.new).kept s → AscendsBy (rank_in s.order) rising.now.queue.items
+        → ((z : ℕ) → member z (left rising.now) ≡ true → rank_in s.order z < rank_in s.order x)
         → IsPlaceWithin (rank_in s.order) rising.now.queue.items x place place) }
 {
     let mut low = rising.turn;
@@ -46,12 +47,13 @@ fn place_of<V: View>(view: &mut V, x: u32, rising: &Rising) -> Result<usize, Pla
 fn pass<V: View>(view: &mut V, x: u32, rising: &mut Rising) -> Result<(), PlanFault>
     requires vertex { x < (V.shown view.old).size }
     requires placed { has_core (V.shown view.old).kept x ≡ true }
-    requires tidy { (update : Update) × IsTidy update (V.shown view.old) rising.old }
-    ensures goes_on { GoesOn (V.shown view.old) (V.shown view.new) (V.is_missed view.old) (V.is_missed view.new) (V.is_given view.old) (V.is_given view.new) }
-    ensures cause { IfErr result (λ fault. HasPlanCause (V.shown view.old) (V.shown view.new) (V.is_missed view.new) fault) }
-    ensures tidy { OnOk result ((update : Update) → IsTidy update (V.shown view.old) rising.old → IsTidy update (V.shown view.new) rising.new) }
+    requires tidy { (update : Update) × IsTidyRising update (V.shown view.old) rising.old }
+    ensures goes_on { GoesOn (V.shown view.old) (V.shown view.new) }
+    ensures cause { IfErr result (λ fault. HasPlanCause (V.shown view.old) (V.shown view.new) fault) }
+    ensures tidy { OnOk result ((update : Update) → IsTidyRising update (V.shown view.old) rising.old → IsTidyRising update (V.shown view.new) rising.new) }
     ensures passes { OnOk result (Passes x rising.old rising.new) }
-    ensures ascends { OnOk result ((s : Ranked) → Agrees (V.shown view.new).kept s → StandsBehindLeft (rank_in s.order) rising.old [] x → AscendsBy (rank_in s.order) rising.old.queue.items → AscendsBy (rank_in s.order) rising.new.queue.items) }
+    ensures ascends { OnOk result ((s : Ranked) → Agrees (V.shown view.new).kept s → StandsBehindLeft (rank_in s.order) rising.old [] x
+        → AscendsBy (rank_in s.order) rising.old.queue.items → AscendsBy (rank_in s.order) rising.new.queue.items) }
 {
     let Some(mark) = rising.find(x) else {
         let place = place_of(view, x, rising)?;
@@ -67,12 +69,14 @@ fn pass_on<V: View>(view: &mut V, next: &[u32], rising: &mut Rising) -> Result<(
     requires once { Distinct next.now }
     requires vertices { (y : ℕ) → member y next.now ≡ true → y < (V.shown view.old).size }
     requires placed { (y : ℕ) → member y next.now ≡ true → has_core (V.shown view.old).kept y ≡ true }
-    requires tidy { (update : Update) × IsTidy update (V.shown view.old) rising.old }
-    ensures goes_on { GoesOn (V.shown view.old) (V.shown view.new) (V.is_missed view.old) (V.is_missed view.new) (V.is_given view.old) (V.is_given view.new) }
-    ensures cause { IfErr result (λ fault. HasPlanCause (V.shown view.old) (V.shown view.new) (V.is_missed view.new) fault) }
-    ensures tidy { OnOk result ((update : Update) → IsTidy update (V.shown view.old) rising.old → IsTidy update (V.shown view.new) rising.new) }
+    requires tidy { (update : Update) × IsTidyRising update (V.shown view.old) rising.old }
+    ensures goes_on { GoesOn (V.shown view.old) (V.shown view.new) }
+    ensures cause { IfErr result (λ fault. HasPlanCause (V.shown view.old) (V.shown view.new) fault) }
+    ensures tidy { OnOk result ((update : Update) → IsTidyRising update (V.shown view.old) rising.old → IsTidyRising update (V.shown view.new) rising.new) }
     ensures passed { OnOk result (PassedOn next.now rising.old rising.new) }
-    ensures ascends { OnOk result ((s : Ranked) → Agrees (V.shown view.new).kept s → ((y : ℕ) → member y next.now ≡ true → StandsBehindLeft (rank_in s.order) rising.old next.now y) → AscendsBy (rank_in s.order) rising.old.queue.items → AscendsBy (rank_in s.order) rising.new.queue.items) }
+    ensures ascends { OnOk result ((s : Ranked) → Agrees (V.shown view.new).kept s
+        → ((y : ℕ) → member y next.now ≡ true → StandsBehindLeft (rank_in s.order) rising.old next.now y)
+        → AscendsBy (rank_in s.order) rising.old.queue.items → AscendsBy (rank_in s.order) rising.new.queue.items) }
 {
     for x in next {
         pass(view, *x, rising)?;
@@ -95,13 +99,14 @@ pub(crate) fn raise<V: View>(
     requires once { Distinct ahead.now.next.items }
     requires vertices { (y : ℕ) → member y ahead.now.next.items ≡ true → y < (V.shown view.old).size }
     requires placed { (y : ℕ) → member y ahead.now.next.items ≡ true → has_core (V.shown view.old).kept y ≡ true }
-    requires tidy { (update : Update) × IsTidy update (V.shown view.old) rising.old }
-    ensures goes_on { GoesOn (V.shown view.old) (V.shown view.new) (V.is_missed view.old) (V.is_missed view.new) (V.is_given view.old) (V.is_given view.new) }
-    ensures cause { IfErr result (λ fault. HasPlanCause (V.shown view.old) (V.shown view.new) (V.is_missed view.new) fault) }
-    ensures tidy { OnOk result ((update : Update) → IsTidy update (V.shown view.old) rising.old → IsTidy update (V.shown view.new) rising.new) }
+    requires tidy { (update : Update) × IsTidyRising update (V.shown view.old) rising.old }
+    ensures goes_on { GoesOn (V.shown view.old) (V.shown view.new) }
+    ensures cause { IfErr result (λ fault. HasPlanCause (V.shown view.old) (V.shown view.new) fault) }
+    ensures tidy { OnOk result ((update : Update) → IsTidyRising update (V.shown view.old) rising.old → IsTidyRising update (V.shown view.new) rising.new) }
     ensures turn { OnOk result (rising.new.turn ≡ rising.old.turn + 1) }
-    ensures raised { OnOk result ((update : Update) (level : ℕ) (s : Ranked) (root : ℕ) → Agrees (V.shown view.new).kept s → Widened (search_of update level s) root → level < earlier + ahead.now.count → IsAheadOf (search_of update level s) w ahead.now
-        → Between (search_of update level s) root rising.old → Between (search_of update level s) root rising.new) }
+    ensures raised { OnOk result ((update : Update) (level : ℕ) (s : Ranked) (root : ℕ) → Agrees (V.shown view.new).kept s
+        → Widened (search_with update level s) root → level < earlier + ahead.now.count → IsAheadOf (search_with update level s) w ahead.now
+        → IsBetweenTurns (search_with update level s) root rising.old → IsBetweenTurns (search_with update level s) root rising.new) }
 {
     rising.leave(w, Mark::candidate(earlier, ahead.count, rising.turn))?;
     pass_on(view, &ahead.next, rising)?;

@@ -3,7 +3,7 @@ ghost use Rattle.std.specs.Prelude.{◌≡◌, ◌<◌, ◌≤◌, ◌+◌, ◌-
 ghost use Rattle.std.specs.List.{insert};
 ghost use Rattle.kc_insert.specs.Marks.{mark_of};
 ghost use Rattle.kc_insert.specs.Rising.{is_candidate, cands, earlier_at, turn_at};
-ghost use Rattle.kc_insert.specs.Turns.{Begins, Marks, Leaves, Recounts, Evicts};
+ghost use Rattle.kc_insert.specs.Turns.{Begins, MarksOne, Leaves, Recounts, Evicts};
 
 use kc_graph::NoMemory;
 use std::alloc::Global;
@@ -120,9 +120,10 @@ impl Rising {
     /// Queues a vertex at this place, with one candidate before it.
     pub fn enqueue(&mut self, x: u32, place: usize) -> Result<(), NoMemory>
         requires { place ≤ length self.old.queue.items }
-        ensures marks { OnOk result (Marks x (record { earlier = 1; later = 0; turn = 0; is_candidate = false; is_weak = false }) self.old self.new) }
+        ensures marks { OnOk result (MarksOne x (record { earlier = 1; later = 0; turn = 0; is_candidate = false; is_weak = false }) self.old self.new) }
         ensures queue { OnOk result (self.new.queue.items ≡ insert self.old.queue.items place x) }
-        ensures rest { OnOk result ((self.new.turn ≡ self.old.turn) × (self.new.weak.items ≡ self.old.weak.items) × (self.new.shifts.items ≡ self.old.shifts.items)) }
+        ensures rest { OnOk result ((self.new.turn ≡ self.old.turn) × (self.new.weak.items ≡ self.old.weak.items)
+            × (self.new.shifts.items ≡ self.old.shifts.items)) }
     {
         let mark = Mark {
             earlier: 1,
@@ -135,8 +136,9 @@ impl Rising {
 
     /// Counts one candidate more before a queued vertex.
     pub fn count_candidate(&mut self, x: u32, mark: Mark) -> Result<(), NoMemory>
-        ensures marks { OnOk result (Marks x (record mark { earlier = min (mark.earlier + 1) (2 ^ 64 - 1) }) self.old self.new) }
-        ensures rest { OnOk result ((self.new.queue.items ≡ self.old.queue.items) × (self.new.turn ≡ self.old.turn) × (self.new.weak.items ≡ self.old.weak.items) × (self.new.shifts.items ≡ self.old.shifts.items)) }
+        ensures marks { OnOk result (MarksOne x (record mark { earlier = min (mark.earlier + 1) (2 ^ 64 - 1) }) self.old self.new) }
+        ensures rest { OnOk result ((self.new.queue.items ≡ self.old.queue.items) × (self.new.turn ≡ self.old.turn)
+            × (self.new.weak.items ≡ self.old.weak.items) × (self.new.shifts.items ≡ self.old.shifts.items)) }
     {
         let earlier = mark.earlier.saturating_add(1);
         self.marks.insert(x, Mark { earlier, ..mark })?;

@@ -5,9 +5,9 @@ ghost use Rattle.kc_distinct.specs.Lists.{member};
 ghost use Rattle.kc_graph.specs.Rows.{IsPlace};
 ghost use Rattle.kc_view.specs.Answers.{has_list, list_of};
 ghost use Rattle.kc_view.specs.Lists.{IsListOf};
-ghost use Rattle.kc_view.specs.Views.{GoesOn, TellsList, HasPlanCause};
+ghost use Rattle.kc_view.specs.Views.{KeepsLists, GoesOn, TellsList, HasPlanCause};
 ghost use Rattle.kc_insert.specs.Added.{is_added};
-ghost use Rattle.kc_insert.specs.Rising.{Asks};
+ghost use Rattle.kc_insert.specs.Rising.{AsksQueued};
 
 use kc_graph::{NoMemory, Update};
 use kc_view::{PlanFault, View, degree_of};
@@ -15,7 +15,8 @@ use std::alloc::Global;
 
 /// The other end of the edge, where `w` is one.
 fn other_end(update: Update, w: u32) -> Option<u32>
-    ensures { MatchOption result ((y : ℕ) → is_added update w y ≡ false) (λ other. ((y : ℕ) → is_added update w y ≡ nat_eq y other) × ((other ≡ update.u) ⊎ (other ≡ update.v)) × (other ≢ w)) }
+    ensures { MatchOption result ((y : ℕ) → is_added update w y ≡ false) (λ other. ((y : ℕ) → is_added update w y ≡ nat_eq y other)
+        × ((other ≡ update.u) ⊎ (other ≡ update.v)) × (other ≢ w)) }
 {
     if w == update.u {
         Some(update.v)
@@ -30,7 +31,9 @@ fn other_end(update: Update, w: u32) -> Option<u32>
 fn copy_of<V: View>(alloc: Global, view: &V, w: u32, degree: u32) -> Result<Vec<u32>, NoMemory>
     requires read { has_list (V.shown view.now).kept w ≡ true }
     requires degree { degree ≡ length (list_of (V.shown view.now).kept w) }
-    ensures { IfOk result (λ row. row.items ≡ list_of (V.shown view.now).kept w) }
+    requires lists { KeepsLists (V.shown view.now) }
+    ensures same { IfOk result (λ row. row.items ≡ list_of (V.shown view.now).kept w) }
+    ensures list { IfOk result (λ row. IsListOf (V.shown view.now).size w row.items) }
 {
     let mut row = Vec::with_capacity(alloc, degree as usize)?;
     for i in 0..degree {
@@ -68,10 +71,11 @@ pub(crate) fn row_of<V: View>(
 ) -> Result<Vec<u32>, PlanFault>
     requires vertex { w < (V.shown view.old).size }
     requires ends { update.v < (V.shown view.old).size }
-    ensures goes_on { GoesOn (V.shown view.old) (V.shown view.new) (V.is_missed view.old) (V.is_missed view.new) (V.is_given view.old) (V.is_given view.new) }
-    ensures cause { IfErr result (λ fault. HasPlanCause (V.shown view.old) (V.shown view.new) (V.is_missed view.new) fault) }
+    ensures goes_on { GoesOn (V.shown view.old) (V.shown view.new) }
+    ensures cause { IfErr result (λ fault. HasPlanCause (V.shown view.old) (V.shown view.new) fault) }
     ensures told { OnOk result (TellsList (V.shown view.old).kept (V.shown view.new).kept w) }
-    ensures asks { OnOk result ((queue : List ℕ) → Asks update (V.shown view.old).kept queue → (w ≡ update.u) ⊎ (member w queue ≡ true) → Asks update (V.shown view.new).kept queue) }
+    ensures asks { OnOk result ((queue : List ℕ) → AsksQueued update (V.shown view.old).kept queue → (w ≡ update.u) ⊎ (member w queue ≡ true)
+        → AsksQueued update (V.shown view.new).kept queue) }
     ensures row { IfOk result (λ row. IsListOf (V.shown view.new).size w row.items) }
     ensures has { IfOk result (λ row. (y : ℕ) → member y row.items ≡ (member y (list_of (V.shown view.new).kept w) || is_added update w y)) }
 {

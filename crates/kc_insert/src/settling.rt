@@ -5,10 +5,10 @@ ghost use Rattle.kc_graph.specs.Lawful.{Ranked};
 ghost use Rattle.kc_view.specs.Answers.{Agrees, has_list, list_of};
 ghost use Rattle.kc_view.specs.Lists.{IsListOf};
 ghost use Rattle.kc_view.specs.Views.{GoesOn, HasPlanCause};
-ghost use Rattle.kc_insert.specs.Added.{search_of, is_added};
-ghost use Rattle.kc_insert.specs.Rising.{left, earlier_at, IsTidy};
+ghost use Rattle.kc_insert.specs.Added.{search_with, is_added};
+ghost use Rattle.kc_insert.specs.Rising.{left, earlier_at, IsTidyRising};
 ghost use Rattle.kc_insert.specs.Searching.{Widened, ahead};
-ghost use Rattle.kc_insert.specs.Turns.{Between, Settling};
+ghost use Rattle.kc_insert.specs.Turns.{IsBetweenTurns, IsSettling};
 
 use crate::losing::{Loss, lose_each};
 use crate::rising::{Mark, Rising};
@@ -29,15 +29,15 @@ fn evict_next<V: View>(
     requires ends { update.v < (V.shown view.old).size }
     requires some { length rising.old.shifts.items < length rising.old.weak.items }
     requires anchor { member anchor (left rising.old) ≡ true }
-    requires tidy { IsTidy update (V.shown view.old) rising.old }
-    ensures goes_on { GoesOn (V.shown view.old) (V.shown view.new) (V.is_missed view.old) (V.is_missed view.new) (V.is_given view.old) (V.is_given view.new) }
-    ensures cause { IfErr result (λ fault. HasPlanCause (V.shown view.old) (V.shown view.new) (V.is_missed view.new) fault) }
-    ensures tidy { OnOk result (IsTidy update (V.shown view.new) rising.new) }
+    requires tidy { IsTidyRising update (V.shown view.old) rising.old }
+    ensures goes_on { GoesOn (V.shown view.old) (V.shown view.new) }
+    ensures cause { IfErr result (λ fault. HasPlanCause (V.shown view.old) (V.shown view.new) fault) }
+    ensures tidy { OnOk result (IsTidyRising update (V.shown view.new) rising.new) }
     ensures evicted { IfOk result (λ x. member x (left rising.new) ≡ true) }
     ensures one { OnOk result (length rising.new.shifts.items ≡ length rising.old.shifts.items + 1) }
     ensures turn { OnOk result (rising.new.turn ≡ rising.old.turn) }
-    ensures settling { IfOk result (λ x. (s : Ranked) (root : ℕ) → Agrees (V.shown view.new).kept s → Widened (search_of update level s) root
-        → Settling (search_of update level s) root rising.old anchor → Settling (search_of update level s) root rising.new x) }
+    ensures settling { IfOk result (λ x. (s : Ranked) (root : ℕ) → Agrees (V.shown view.new).kept s → Widened (search_with update level s) root
+        → IsSettling (search_with update level s) root rising.old anchor → IsSettling (search_with update level s) root rising.new x) }
 {
     let x = rising.weak[rising.shifts.len()];
     let row = row_of(alloc, view, update, x)?;
@@ -57,13 +57,13 @@ fn evict_weak<V: View>(
 ) -> Result<(), PlanFault>
     requires ends { update.v < (V.shown view.old).size }
     requires anchor { member w (left rising.old) ≡ true }
-    requires tidy { IsTidy update (V.shown view.old) rising.old }
-    ensures goes_on { GoesOn (V.shown view.old) (V.shown view.new) (V.is_missed view.old) (V.is_missed view.new) (V.is_given view.old) (V.is_given view.new) }
-    ensures cause { IfErr result (λ fault. HasPlanCause (V.shown view.old) (V.shown view.new) (V.is_missed view.new) fault) }
-    ensures tidy { OnOk result (IsTidy update (V.shown view.new) rising.new) }
+    requires tidy { IsTidyRising update (V.shown view.old) rising.old }
+    ensures goes_on { GoesOn (V.shown view.old) (V.shown view.new) }
+    ensures cause { IfErr result (λ fault. HasPlanCause (V.shown view.old) (V.shown view.new) fault) }
+    ensures tidy { OnOk result (IsTidyRising update (V.shown view.new) rising.new) }
     ensures turn { OnOk result (rising.new.turn ≡ rising.old.turn) }
-    ensures settled { OnOk result ((s : Ranked) (root : ℕ) → Agrees (V.shown view.new).kept s → Widened (search_of update level s) root
-        → Settling (search_of update level s) root rising.old w → Between (search_of update level s) root rising.new) }
+    ensures settled { OnOk result ((s : Ranked) (root : ℕ) → Agrees (V.shown view.new).kept s → Widened (search_with update level s) root
+        → IsSettling (search_with update level s) root rising.old w → IsBetweenTurns (search_with update level s) root rising.new) }
 {
     let mut anchor = w;
     while rising.shifts.len() < rising.weak.len() {
@@ -88,13 +88,14 @@ pub(crate) fn settle<V: View>(
     requires read { has_list (V.shown view.old).kept w ≡ true }
     requires row { IsListOf (V.shown view.old).size w row.now }
     requires has { (y : ℕ) → member y row.now ≡ (member y (list_of (V.shown view.old).kept w) || is_added update w y) }
-    requires tidy { IsTidy update (V.shown view.old) rising.old }
-    ensures goes_on { GoesOn (V.shown view.old) (V.shown view.new) (V.is_missed view.old) (V.is_missed view.new) (V.is_given view.old) (V.is_given view.new) }
-    ensures cause { IfErr result (λ fault. HasPlanCause (V.shown view.old) (V.shown view.new) (V.is_missed view.new) fault) }
-    ensures tidy { OnOk result (IsTidy update (V.shown view.new) rising.new) }
+    requires tidy { IsTidyRising update (V.shown view.old) rising.old }
+    ensures goes_on { GoesOn (V.shown view.old) (V.shown view.new) }
+    ensures cause { IfErr result (λ fault. HasPlanCause (V.shown view.old) (V.shown view.new) fault) }
+    ensures tidy { OnOk result (IsTidyRising update (V.shown view.new) rising.new) }
     ensures turn { OnOk result (rising.new.turn ≡ rising.old.turn + 1) }
-    ensures settled { OnOk result ((s : Ranked) (root : ℕ) → Agrees (V.shown view.new).kept s → Widened (search_of update level s) root → earlier_at rising.old w + ahead (search_of update level s) w ≤ level
-        → Between (search_of update level s) root rising.old → Between (search_of update level s) root rising.new) }
+    ensures settled { OnOk result ((s : Ranked) (root : ℕ) → Agrees (V.shown view.new).kept s → Widened (search_with update level s) root
+        → earlier_at rising.old w + ahead (search_with update level s) w ≤ level
+        → IsBetweenTurns (search_with update level s) root rising.old → IsBetweenTurns (search_with update level s) root rising.new) }
 {
     rising.leave(w, Mark::past())?;
     lose_each(row, Loss::Settled, level, rising)?;

@@ -3,10 +3,10 @@ ghost use Rattle.std.specs.Prelude.{◌≡◌, ◌<◌, ◌≤◌, ◌+◌, ℕ,
 ghost use Rattle.kc_graph.specs.Lawful.{Ranked};
 ghost use Rattle.kc_view.specs.Answers.{Agrees};
 ghost use Rattle.kc_view.specs.Views.{GoesOn, HasPlanCause};
-ghost use Rattle.kc_insert.specs.Added.{search_of};
-ghost use Rattle.kc_insert.specs.Rising.{IsTidy};
+ghost use Rattle.kc_insert.specs.Added.{search_with};
+ghost use Rattle.kc_insert.specs.Rising.{IsTidyRising};
 ghost use Rattle.kc_insert.specs.Searching.{Widened};
-ghost use Rattle.kc_insert.specs.Turns.{Between};
+ghost use Rattle.kc_insert.specs.Turns.{IsBetweenTurns};
 
 use crate::ahead::look_ahead;
 use crate::raising::raise;
@@ -27,13 +27,14 @@ fn take_turn<V: View>(
 ) -> Result<(), PlanFault>
     requires ends { update.v < (V.shown view.old).size }
     requires turn { rising.old.turn < length rising.old.queue.items }
-    requires tidy { IsTidy update (V.shown view.old) rising.old }
-    ensures goes_on { GoesOn (V.shown view.old) (V.shown view.new) (V.is_missed view.old) (V.is_missed view.new) (V.is_given view.old) (V.is_given view.new) }
-    ensures cause { IfErr result (λ fault. HasPlanCause (V.shown view.old) (V.shown view.new) (V.is_missed view.new) fault) }
-    ensures tidy { OnOk result (IsTidy update (V.shown view.new) rising.new) }
+    requires tidy { IsTidyRising update (V.shown view.old) rising.old }
+    ensures goes_on { GoesOn (V.shown view.old) (V.shown view.new) }
+    ensures cause { IfErr result (λ fault. HasPlanCause (V.shown view.old) (V.shown view.new) fault) }
+    ensures tidy { OnOk result (IsTidyRising update (V.shown view.new) rising.new) }
     ensures turn { OnOk result (rising.new.turn ≡ rising.old.turn + 1) }
-    ensures turns { OnOk result ((s : Ranked) (root : ℕ) → update.v < s.graph.size → Agrees (V.shown view.new).kept s → Widened (search_of update level s) root
-        → Between (search_of update level s) root rising.old → Between (search_of update level s) root rising.new) }
+    ensures turns { OnOk result ((s : Ranked) (root : ℕ) → update.v < s.graph.size → Agrees (V.shown view.new).kept s
+        → Widened (search_with update level s) root
+        → IsBetweenTurns (search_with update level s) root rising.old → IsBetweenTurns (search_with update level s) root rising.new) }
 {
     let w = rising.queue[rising.turn];
     let row = row_of(alloc, view, update, w)?;
@@ -58,13 +59,14 @@ pub(crate) fn take_turns<V: View>(
     rising: &mut Rising,
 ) -> Result<(), PlanFault>
     requires ends { update.v < (V.shown view.old).size }
-    requires tidy { IsTidy update (V.shown view.old) rising.old }
-    ensures goes_on { GoesOn (V.shown view.old) (V.shown view.new) (V.is_missed view.old) (V.is_missed view.new) (V.is_given view.old) (V.is_given view.new) }
-    ensures cause { IfErr result (λ fault. HasPlanCause (V.shown view.old) (V.shown view.new) (V.is_missed view.new) fault) }
-    ensures tidy { OnOk result (IsTidy update (V.shown view.new) rising.new) }
+    requires tidy { IsTidyRising update (V.shown view.old) rising.old }
+    ensures goes_on { GoesOn (V.shown view.old) (V.shown view.new) }
+    ensures cause { IfErr result (λ fault. HasPlanCause (V.shown view.old) (V.shown view.new) fault) }
+    ensures tidy { OnOk result (IsTidyRising update (V.shown view.new) rising.new) }
     ensures ended { OnOk result (rising.new.turn ≡ length rising.new.queue.items) }
-    ensures turns { OnOk result ((s : Ranked) (root : ℕ) → update.v < s.graph.size → Agrees (V.shown view.new).kept s → Widened (search_of update level s) root
-        → Between (search_of update level s) root rising.old → Between (search_of update level s) root rising.new) }
+    ensures turns { OnOk result ((s : Ranked) (root : ℕ) → update.v < s.graph.size → Agrees (V.shown view.new).kept s
+        → Widened (search_with update level s) root
+        → IsBetweenTurns (search_with update level s) root rising.old → IsBetweenTurns (search_with update level s) root rising.new) }
 {
     while rising.turn < rising.queue.len() {
         take_turn(alloc, view, update, level, rising)?;

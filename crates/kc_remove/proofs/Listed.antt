@@ -4,7 +4,6 @@ use Rattle.std.specs.Prelude.{count_by}
 use Rattle.std.specs.List.{list_any}
 use Rattle.std.proofs.lemmas.Bool.{false≢true, or_cases, or_left, or_right}
 use Rattle.kc_distinct.specs.Lists.{member, below}
-use Rattle.kc_distinct.proofs.Members.{member-head, member-tail}
 use Rattle.kc_distinct.proofs.Counting.{member-below, below-member, Distinct-below, member-get_or, count-agree, count-le}
 use Rattle.kc_graph.specs.SimpleGraph.{adjacent}
 use Rattle.kc_graph.specs.Neighbours.{neighbours_of}
@@ -16,7 +15,7 @@ use Rattle.kc_graph.proofs.NeighbourLists.{neighbours_has, neighbours_within}
 use Rattle.kc_graph.proofs.RowsLemmas.{Distinct-from_increasing}
 use Rattle.kc_view.specs.Lists.{IsListOf}
 use Rattle.kc_remove.specs.Cascade.{support}
-use Rattle.kc_remove.specs.Removed.{search_of, is_removed, is_counted}
+use Rattle.kc_remove.specs.Removed.{search_without, is_removed, is_counted}
 
 same_there : (a a' j t : Bool) → a' ≡ (a && not j) → a ≡ true → (not j && t) ≡ (a' && t)
 same_there a a' j t e h = grind arith
@@ -26,7 +25,7 @@ was_there a a' j t e h = grind arith
 
 -- the neighbours that count are the support
 pub counted-all : (update : Update) (level : ℕ) (s : Ranked) (fall : List ℕ) (size x : ℕ) (row : List ℕ) → IsListOf size x row → row ≡ neighbours_of s.graph x
-    → count_by (is_counted update level s fall x) row ≡ support (search_of update level s) fall x
+    → count_by (is_counted update level s fall x) row ≡ support (search_without update level s) fall x
 counted-all update level s fall size x row list same =
     let now : ℕ → ℕ → Bool = adjacent (without_edge s.graph update.u update.v) in
     let test : ℕ → Bool = λ y. leb level (get_or s.core y 0) && not (member y fall) in
@@ -41,14 +40,6 @@ counted-all update level s fall size x row list same =
     count-le (λ y. now x y && test y) (below s.graph.size) row (Distinct-below s.graph.size) (λ y m t. ap (member y) same ∙
     (neighbours_has s.graph x y (below-member y s.graph.size m) ∙ was_there (adjacent s.graph x y) (now x y) (is_removed update x y) (test y) (edge y) t)) in
     omega (arith, here, up, down)
-
--- what makes a test pass somewhere in a list
-pub any-some : (p : ℕ → Bool) (xs : List ℕ) → list_any p xs ≡ true → (x : ℕ) × (member x xs ≡ true) × (p x ≡ true)
-any-some p [] h = absurd (false≢true h)
-any-some p (x ∷ xs) h = elim (or_cases (p x) (list_any p xs) h) [
-  | inl t ↦ (x, member-head x xs, t)
-  | inr k ↦ let (y, m, t) = any-some p xs k in (y, member-tail y x xs m, t)
-]
 
 pub some-any : (p : ℕ → Bool) (x : ℕ) (xs : List ℕ) → member x xs ≡ true → p x ≡ true → list_any p xs ≡ true
 some-any p x [] m t = absurd (false≢true m)

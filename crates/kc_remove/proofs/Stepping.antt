@@ -5,6 +5,7 @@ use Rattle.std.proofs.lemmas.Bool.{cases_Bool, cases_eq, and_parts, and_from, or
 use Rattle.std.proofs.Math.Bool.{or-false}
 use Rattle.kc_distinct.specs.Lists.{member}
 use Rattle.kc_distinct.proofs.Counting.{member-push}
+use Rattle.kc_distinct.proofs.Shared.{and-fails}
 use Rattle.kc_graph.specs.SimpleGraph.{adjacent}
 use Rattle.kc_graph.specs.Edges.{without_edge}
 use Rattle.kc_graph.specs.Neighbours.{neighbours_of}
@@ -17,7 +18,7 @@ use Rattle.kc_view.specs.Answers.{Answers, Agrees, has_list, list_of}
 use Rattle.kc_view.specs.Search.{Search, OnLevel}
 use Rattle.kc_view.proofs.Keeping.{list-true}
 use Rattle.kc_remove.specs.Cascade.{support, Cascade, nobody}
-use Rattle.kc_remove.specs.Removed.{search_of, is_removed, has_come}
+use Rattle.kc_remove.specs.Removed.{search_without, is_removed, has_come}
 use Rattle.kc_remove.specs.Visits.{support_in, seen_in}
 use Rattle.kc_remove.specs.Falling.{is_visited, support_at, seen_at, Settles, FallsIn}
 use Rattle.kc_remove.specs.declared.falling.Falling.{Falling}
@@ -32,9 +33,6 @@ left_in a j h n = grind arith
 
 left_out : (a j : Bool) → j ≡ true → (a && not j) ≡ false
 left_out a j h = grind arith
-
-none_there : (m a : Bool) → a ≡ false → (m && a) ≡ false
-none_there m a n = grind arith
 
 not_low : (a b : ℕ) → ltb a b ≡ false → b ≤ a
 not_low a b h = grind arith
@@ -78,22 +76,22 @@ pub come-now : (update : Update) (s : Ranked) (x y : ℕ) (row : List ℕ) → a
 come-now update s x y row a = and_from _ _ (member-push y y row ∙ or_right (member y row) (eqb y y) (eq-eqb y y refl)) a
 
 pub come-not : (update : Update) (s : Ranked) (x y : ℕ) (row : List ℕ) → adjacent (without_edge s.graph update.u update.v) x y ≡ false → has_come update s x row y ≡ false
-come-not update s x y row n = none_there (member y row) (adjacent (without_edge s.graph update.u update.v) x y) n
+come-not update s x y row n = and-fails (member y row) (adjacent (without_edge s.graph update.u update.v) x y) n
 
 pub come-late : (update : Update) (s : Ranked) (x y : ℕ) (row : List ℕ) → member y row ≡ false → has_come update s x row y ≡ false
 come-late update s x y row n = ap (λ b. b && adjacent (without_edge s.graph update.u update.v) x y) n
 
 -- the turn comes to a vertex that it does not concern
 pub pass-by : (update : Update) (level : ℕ) (s : Ranked) (turn x y : ℕ) (row : List ℕ) (f : Falling) → turn < length f.list.items → get_or f.list.items turn 0 ≡ x
-    → (adjacent (without_edge s.graph update.u update.v) x y ≡ true → OnLevel (search_of update level s) y → member y f.list.items ≡ true)
+    → (adjacent (without_edge s.graph update.u update.v) x y ≡ true → OnLevel (search_without update level s) y → member y f.list.items ≡ true)
     → FallsIn update level s f turn (has_come update s x row) → FallsIn update level s f turn (has_come update s x (row ++ y ∷ []))
 pass-by update level s turn x y row f l at only c =
     let now : ℕ → ℕ → Bool = adjacent (without_edge s.graph update.u update.v) in
-    pass (search_of update level s) f.list.items turn (has_come update s x row) (has_come update s x (row ++ y ∷ [])) (is_visited f) (support_at f) (seen_at f) c
+    pass (search_without update level s) f.list.items turn (has_come update s x row) (has_come update s x (row ++ y ∷ [])) (is_visited f) (support_at f) (seen_at f) c
     (λ z v out. elim (cases_eq z y) [
       | inr ne ↦ come-other update s x y z row ne
       | inl e ↦
-          let oy : OnLevel (search_of update level s) y = subst (λ (k : ℕ). OnLevel (search_of update level s) k) e (c.visited_level z v) in
+          let oy : OnLevel (search_without update level s) y = subst (λ (k : ℕ). OnLevel (search_without update level s) k) e (c.visited_level z v) in
           let apart : now x y ≡ false = false_from_ne_true _ (λ a. true≢false (sym (only a oy) ∙ (ap (λ k. member k f.list.items) (sym e) ∙ out))) in
           ap (has_come update s x (row ++ y ∷ [])) e ∙ (come-not update s x y (row ++ y ∷ []) apart ∙ sym (ap (has_come update s x row) e ∙ come-not update s x y row apart))
     ])
@@ -102,18 +100,18 @@ pass-by update level s turn x y row f l at only c =
       | inr ne ↦ c.part_visited z (sym (come-other update s x y z row ne) ∙ p) oz
       | inl e ↦
           let a : now x y ≡ true = ap (now x) (sym e) ∙ (and_parts (member z (row ++ y ∷ [])) (now x z) p).1 in
-          c.fall_visited z (ap (λ k. member k f.list.items) e ∙ only a (subst (λ (k : ℕ). OnLevel (search_of update level s) k) e oz))
+          c.fall_visited z (ap (λ k. member k f.list.items) e ∙ only a (subst (λ (k : ℕ). OnLevel (search_without update level s) k) e oz))
     ])
 
 -- a vertex is visited
 pub visited-falls : (update : Update) (level : ℕ) (s : Ranked) (turn : ℕ) (part later : ℕ → Bool) (y sup seen : ℕ) (old new : Falling) → Settles level y sup seen old new → seen ≡ length old.list.items → member y old.list.items ≡ false
-    → is_visited old y ≡ false → OnLevel (search_of update level s) y → sup ≡ support (search_of update level s) old.list.items y
+    → is_visited old y ≡ false → OnLevel (search_without update level s) y → sup ≡ support (search_without update level s) old.list.items y
     → FallsIn update level s old turn part → ((z : ℕ) → z ≢ y → later z ≡ part z)
     → (later y ≡ true → (turn < length old.list.items) × (adjacent (without_edge s.graph update.u update.v) (get_or old.list.items turn 0) y ≡ true))
     → FallsIn update level s new turn later
 visited-falls update level s turn part later y sup seen old new h all out not_yet oy is c same came =
-    settled (search_of update level s) turn later y sup seen old new h out
-    (visit (search_of update level s) old.list.items turn part later (is_visited old) (support_at old) (seen_at old) c y oy not_yet (is_visited new) (support_at new) (seen_at new)
+    settled (search_without update level s) turn later y sup seen old new h out
+    (visit (search_without update level s) old.list.items turn part later (is_visited old) (support_at old) (seen_at old) c y oy not_yet (is_visited new) (support_at new) (seen_at new)
     (ap is_some h.visit) (ap support_in h.visit ∙ is) (ap seen_in h.visit ∙ all) came
     (λ z ne. (ap is_some (h.others z ne), ap support_in (h.others z ne), ap seen_in (h.others z ne), same z ne)))
 
@@ -124,7 +122,7 @@ pub weakened-falls : (update : Update) (level : ℕ) (s : Ranked) (turn : ℕ) (
     → FallsIn update level s old turn part → part y ≡ false → later y ≡ true → ((z : ℕ) → z ≢ y → later z ≡ part z)
     → FallsIn update level s new turn later
 weakened-falls update level s turn part later y sup seen' old new h since out v is l a c before now same =
-    let q : Search = search_of update level s in
+    let q : Search = search_without update level s in
     let grown : (z : ℕ) → is_visited new z ≡ is_visited old z = λ z. elim (cases_eq z y) [ inl e ↦ ap (is_visited new) e ∙ (ap is_some h.visit ∙ sym (ap (is_visited old) e ∙ v)) | inr ne ↦ ap is_some (h.others z ne) ] in
     let seen : (z : ℕ) → seen_at new z ≡ seen_at old z = λ z. elim (cases_eq z y) [ inl e ↦ ap (seen_at new) e ∙ (ap seen_in h.visit ∙ (since ∙ sym (ap (seen_at old) e))) | inr ne ↦ ap seen_in (h.others z ne) ] in
     let lost = lose q old.list.items turn part (is_visited old) (support_at old) (seen_at old) (adjacent-sym (without_edge s.graph update.u update.v)) c l y v out a before later (support_at new) now (ap support_in h.visit ∙ is)
@@ -158,7 +156,7 @@ pub turn-over : (update : Update) (level : ℕ) (s : Ranked) (turn x : ℕ) (row
     → FallsIn update level s f turn (has_come update s x row) → FallsIn update level s f (turn + 1) nobody
 turn-over update level s turn x row f l at same c =
     let now : ℕ → ℕ → Bool = adjacent (without_edge s.graph update.u update.v) in
-    turn_over (search_of update level s) f.list.items turn (has_come update s x row) (is_visited f) (support_at f) (seen_at f) (adjacent-sym (without_edge s.graph update.u update.v)) c l
+    turn_over (search_without update level s) f.list.items turn (has_come update s x row) (is_visited f) (support_at f) (seen_at f) (adjacent-sym (without_edge s.graph update.u update.v)) c l
     (λ y oy a out.
     let here : now x y ≡ true = ap (λ n. now n y) (sym at) ∙ a in
     let was : adjacent s.graph x y ≡ true = (and_parts (adjacent s.graph x y) (not (is_removed update x y)) (sym (adjacent-without s.graph update.u update.v x y (ends-differ update)) ∙ here)).0 in

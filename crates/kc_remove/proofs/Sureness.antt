@@ -18,7 +18,7 @@ use Rattle.kc_view.specs.Sure.{IsSparing}
 use Rattle.kc_view.proofs.Still.{kept-is_sure, number_then-is}
 use Rattle.kc_remove.specs.Cascade.{Thinned, Cascade, nobody}
 use Rattle.kc_remove.specs.Falling.{is_visited, support_at, seen_at, HasEnded}
-use Rattle.kc_remove.specs.Removed.{is_end, search_of}
+use Rattle.kc_remove.specs.Removed.{is_end, search_without}
 use Rattle.kc_remove.specs.declared.falling.Falling.{Falling}
 use Rattle.kc_remove.proofs.Ending.{lowered}
 use Rattle.kc_remove.proofs.Holding.{plain-holds, fall-holds}
@@ -54,9 +54,9 @@ plain-sure update used s level f removes h l a least ended empty =
     let there : is_applied update s.graph ≡ true = applied-is update s.graph removes ∙ a in
     let after : updated update s.graph ≡ without_edge s.graph update.u update.v = updated-is update s.graph removes in
     let up : update.u < update.v = update.ordered in
-    let t : Thinned (search_of update level s) (is_end update) = thinned s update.u update.v level h (λ e. absurd (omega (arith, up, e))) (omega (arith, up, l)) l a least in
-    let c : Cascade (search_of update level s) [] 0 nobody (is_visited f) (support_at f) (seen_at f) nobody =
-    subst (λ (xs : List ℕ). Cascade (search_of update level s) xs (length xs) nobody (is_visited f) (support_at f) (seen_at f) nobody) empty ended.falls in
+    let t : Thinned (search_without update level s) (is_end update) = thinned s update.u update.v level h (λ e. absurd (omega (arith, up, e))) (omega (arith, up, l)) l a least in
+    let c : Cascade (search_without update level s) [] 0 nobody (is_visited f) (support_at f) (seen_at f) nobody =
+    subst (λ (xs : List ℕ). Cascade (search_without update level s) xs (length xs) nobody (is_visited f) (support_at f) (seen_at f) nobody) empty ended.falls in
     let local : IsLocal s (record { update = update; used = used; moves = Plain }) = record {
       ends = l;
       kept = sym (ap not there);
@@ -84,7 +84,7 @@ fall-sure update used s level f removes h l a least ended =
     let there : is_applied update s.graph ≡ true = applied-is update s.graph removes ∙ a in
     let after : updated update s.graph ≡ without_edge s.graph update.u update.v = updated-is update s.graph removes in
     let up : update.u < update.v = update.ordered in
-    let t : Thinned (search_of update level s) (is_end update) = thinned s update.u update.v level h (λ e. absurd (omega (arith, up, e))) (omega (arith, up, l)) l a least in
+    let t : Thinned (search_without update level s) (is_end update) = thinned s update.u update.v level h (λ e. absurd (omega (arith, up, e))) (omega (arith, up, l)) l a least in
     let c = ended.falls in
     let some : 0 < level = t.some_level in
     let local : IsLocal s (record { update = update; used = used; moves = Fall level f.list }) = record {

@@ -1,30 +1,25 @@
 -- What holds for every view, from step to step.
-use Rattle.std.proofs.Common.{◌≡◌, ◌≢◌, ◌≤◌, ◌<◌, ◌⊎◌, ℕ, Bool, true, false, cond, ◌||◌, List, [], ◌∷◌, ◌++◌, length, get_or, eqb, ltb, refl, sym, ◌∙◌, ap, subst, inl, inr, arith, true≢false, ne_eqb, eq-eqb, length-append}
+use Rattle.std.proofs.Common.{◌≡◌, ◌≤◌, ◌<◌, ◌⊎◌, ℕ, Bool, true, false, cond, List, [], ◌∷◌, ◌++◌, length, get_or, eqb, ltb, refl, sym, ◌∙◌, ap, subst, inl, inr, arith, true≢false, eq-eqb, length-append}
 use Rattle.std.specs.Prelude.{Option, Some, None, is_some}
-use Rattle.std.proofs.lemmas.Bool.{cases_Bool, cases_eq, false≢true, or_left, or_right, false_from_ne_true}
-use Rattle.std.proofs.lemmas.List.{append-nil, get_or_append_left}
+use Rattle.std.proofs.lemmas.Bool.{cases_Bool, cases_eq, false≢true, or_right, false_from_ne_true}
+use Rattle.std.proofs.lemmas.List.{get_or_append_left}
 use Rattle.std.proofs.lemmas.List.Elements.{All-push, All-weaker}
-use Rattle.std.proofs.lemmas.List.Folds.{list_any-append}
-use Rattle.std.proofs.Math.Bool.{or-false}
-use Rattle.kc_distinct.specs.Lists.{member, Distinct}
+use Rattle.kc_distinct.specs.Lists.{member}
 use Rattle.kc_distinct.proofs.Members.{below_bound}
-use Rattle.kc_distinct.proofs.Counting.{member-push, member-push_left, Distinct-push}
+use Rattle.kc_distinct.proofs.Counting.{member-push}
+use Rattle.kc_distinct.proofs.Shared.{list_any-some, member-grown_left, member-grown_other, Distinct-grown}
 use Rattle.kc_graph.specs.declared.update.Update.{Update}
-use Rattle.kc_graph.specs.declared.used.UsedEdges.{UsedEdges}
 use Rattle.kc_view.specs.Answers.{Answers, has_list, list_of, has_core, with_list}
-use Rattle.kc_view.specs.Sure.{is_listed}
+use Rattle.kc_view.specs.Sure.{is_listed, AsksCores}
 use Rattle.kc_view.specs.Views.{Shown, Further, TellsList, TellsCore}
-use Rattle.kc_view.proofs.Asked.{is_listed-from}
+use Rattle.kc_view.proofs.Asked.{is_listed-from, cores-more, cores-listed}
 use Rattle.kc_view.proofs.Keeping.{still_has_list, same_list, Further-refl}
+use Rattle.kc_view.proofs.Marking.{Further-list}
 use Rattle.kc_remove.specs.Visits.{visit_of, fallen_in}
-use Rattle.kc_remove.specs.Falling.{is_visited, has_fallen, Settles, IsNear, Asks, IsTidy}
+use Rattle.kc_remove.specs.Falling.{is_visited, has_fallen, Settles, IsNear, AsksNear, IsTidyFalling}
 use Rattle.kc_remove.specs.declared.falling.Falling.{Falling}
 use Rattle.kc_remove.specs.declared.falling.Visit.{Visit}
-use Rattle.kc_remove.proofs.Listed.{any-some, some-any}
-
--- with one answer more
-list-further : (a : Answers) (e : UsedEdges) → Further a (with_list a e)
-list-further a e = record { edges = (e ∷ [], refl); places = ([], sym (append-nil a.places)); orders = ([], sym (append-nil a.orders)) }
+use Rattle.kc_remove.proofs.Listed.{some-any}
 
 -- what is near stays near
 pub near-grows : (update : Update) (a b : Answers) (fall more : List ℕ) (y : ℕ) → Further a b → ((x : ℕ) → member x fall ≡ true → has_list a x ≡ true) → ((x : ℕ) → member x fall ≡ true → member x more ≡ true)
@@ -33,46 +28,41 @@ near-grows update a b fall more y f read grows near = elim near [
   | inl e ↦ inl e
   | inr (inl e) ↦ inr (inl e)
   | inr (inr h) ↦
-      let (x, m, t) = any-some (λ x. member y (list_of a x)) fall h in
+      let (x, m, t) = list_any-some (λ x. member y (list_of a x)) fall h in
       inr (inr (some-any (λ x. member y (list_of b x)) x more (grows x m) (ap (member y) (same_list a b x f (read x m)) ∙ t)))
 ]
 
 -- a core number more
-pub asks-core : (update : Update) (a b : Answers) (fall : List ℕ) (y : ℕ) → Asks update a fall → TellsCore a b y → (y ≡ update.u) ⊎ (y ≡ update.v) ⊎ (is_listed a y ≡ true) → Asks update b fall
+pub asks-core : (update : Update) (a b : Answers) (fall : List ℕ) (y : ℕ) → AsksNear update a fall → TellsCore a b y → (y ≡ update.u) ⊎ (y ≡ update.v) ⊎ (is_listed a y ≡ true) → AsksNear update b fall
 asks-core update a b fall y asks tells near = elim (cases_Bool (has_core a y)) [
-  | inl h ↦ subst (λ (x : Answers). Asks update x fall) (sym (tells.before h)) asks
+  | inl h ↦ subst (λ (x : Answers). AsksNear update x fall) (sym (tells.before h)) asks
   | inr n ↦
       let (p, is, eq) = tells.now n in
-      subst (λ (x : Answers). Asks update x fall) (sym eq) (record {
+      subst (λ (x : Answers). AsksNear update x fall) (sym eq) (record {
         lists = asks.lists;
-        cores = All-push (λ q. (q.vertex ≡ update.u) ⊎ (q.vertex ≡ update.v) ⊎ (is_listed a q.vertex ≡ true)) a.places p asks.cores
-            (subst (λ (z : ℕ). (z ≡ update.u) ⊎ (z ≡ update.v) ⊎ (is_listed a z ≡ true)) (sym is) near);
+        cores = subst (AsksCores update) eq (cores-more update a b y asks.cores tells near);
         orders = asks.orders;
       })
 ]
 
 -- a list more
-pub asks-list : (update : Update) (a b : Answers) (fall : List ℕ) (y : ℕ) → Asks update a fall → TellsList a b y → IsNear update a fall y → ((x : ℕ) → member x fall ≡ true → has_list a x ≡ true) → Asks update b fall
+pub asks-list : (update : Update) (a b : Answers) (fall : List ℕ) (y : ℕ) → AsksNear update a fall → TellsList a b y → IsNear update a fall y → ((x : ℕ) → member x fall ≡ true → has_list a x ≡ true) → AsksNear update b fall
 asks-list update a b fall y asks tells near read = elim (cases_Bool (has_list a y)) [
-  | inl h ↦ subst (λ (x : Answers). Asks update x fall) (sym (tells.before h)) asks
+  | inl h ↦ subst (λ (x : Answers). AsksNear update x fall) (sym (tells.before h)) asks
   | inr n ↦
       let (e, is, eq) = tells.now n in
       let c : Answers = with_list a e in
-      let grown : (z : ℕ) → IsNear update a fall z → IsNear update c fall z = λ z k. near-grows update a c fall fall z (list-further a e) read (λ _ m. m) k in
-      subst (λ (x : Answers). Asks update x fall) (sym eq) (record {
+      let grown : (z : ℕ) → IsNear update a fall z → IsNear update c fall z = λ z k. near-grows update a c fall fall z (Further-list a e) read (λ _ m. m) k in
+      subst (λ (x : Answers). AsksNear update x fall) (sym eq) (record {
         lists = All-push (λ q. IsNear update c fall q.vertex) a.edges e (All-weaker (λ q. IsNear update a fall q.vertex) (λ q. IsNear update c fall q.vertex) (λ q k. grown q.vertex k) a.edges asks.lists)
             (subst (IsNear update c fall) (sym is) (grown y near));
-        cores = All-weaker (λ q. (q.vertex ≡ update.u) ⊎ (q.vertex ≡ update.v) ⊎ (is_listed a q.vertex ≡ true)) (λ q. (q.vertex ≡ update.u) ⊎ (q.vertex ≡ update.v) ⊎ (is_listed c q.vertex ≡ true)) (λ q k. elim k [
-          | inl h ↦ inl h
-          | inr (inl h) ↦ inr (inl h)
-          | inr (inr h) ↦ inr (inr (list_any-append (λ x. member q.vertex x.neighbours) a.edges (e ∷ []) ∙ or_left (is_listed a q.vertex) _ h))
-        ]) a.places asks.cores;
+        cores = subst (AsksCores update) eq (cores-listed update a b y asks.cores tells);
         orders = asks.orders;
       })
 ]
 
 -- more have fallen
-pub asks-fallen : (update : Update) (a : Answers) (fall more : List ℕ) → Asks update a fall → ((x : ℕ) → member x fall ≡ true → has_list a x ≡ true) → ((x : ℕ) → member x fall ≡ true → member x more ≡ true) → Asks update a more
+pub asks-fallen : (update : Update) (a : Answers) (fall more : List ℕ) → AsksNear update a fall → ((x : ℕ) → member x fall ≡ true → has_list a x ≡ true) → ((x : ℕ) → member x fall ≡ true → member x more ≡ true) → AsksNear update a more
 asks-fallen update a fall more asks read grows = record {
   lists = All-weaker (λ q. IsNear update a fall q.vertex) (λ q. IsNear update a more q.vertex) (λ q k. near-grows update a a fall more q.vertex (Further-refl a) read grows k) a.edges asks.lists;
   cores = asks.cores;
@@ -84,17 +74,17 @@ visited_in None h = absurd (false≢true h)
 visited_in (Some v) h = refl
 
 -- the lists of the fallen were read
-pub fallen-visited : (update : Update) (shown : Shown) (f : Falling) → IsTidy update shown f → (x : ℕ) → member x f.list.items ≡ true → is_visited f x ≡ true
+pub fallen-visited : (update : Update) (shown : Shown) (f : Falling) → IsTidyFalling update shown f → (x : ℕ) → member x f.list.items ≡ true → is_visited f x ≡ true
 fallen-visited update shown f t x m = visited_in (visit_of f.visits x) (t.marked x ∙ m)
 
-pub fallen-read : (update : Update) (shown : Shown) (f : Falling) → IsTidy update shown f → (x : ℕ) → member x f.list.items ≡ true → has_list shown.kept x ≡ true
+pub fallen-read : (update : Update) (shown : Shown) (f : Falling) → IsTidyFalling update shown f → (x : ℕ) → member x f.list.items ≡ true → has_list shown.kept x ≡ true
 fallen-read update shown f t x m = t.listed x (fallen-visited update shown f t x m)
 
-pub unvisited-out : (update : Update) (shown : Shown) (f : Falling) → IsTidy update shown f → (x : ℕ) → is_visited f x ≡ false → member x f.list.items ≡ false
+pub unvisited-out : (update : Update) (shown : Shown) (f : Falling) → IsTidyFalling update shown f → (x : ℕ) → is_visited f x ≡ false → member x f.list.items ≡ false
 unvisited-out update shown f t x n = false_from_ne_true _ (λ m. true≢false (sym (fallen-visited update shown f t x m) ∙ n))
 
 -- the view goes on
-pub tidy-view : (update : Update) (old new : Shown) (f : Falling) → IsTidy update old f → new.size ≡ old.size → Further old.kept new.kept → Asks update new.kept f.list.items → IsTidy update new f
+pub tidy-view : (update : Update) (old new : Shown) (f : Falling) → IsTidyFalling update old f → new.size ≡ old.size → Further old.kept new.kept → AsksNear update new.kept f.list.items → IsTidyFalling update new f
 tidy-view update old new f t size further asks = record {
   marked = t.marked;
   once = t.once;
@@ -104,32 +94,20 @@ tidy-view update old new f t size further asks = record {
 }
 
 -- a list was asked
-pub tidy-list : (update : Update) (old new : Shown) (f : Falling) (y : ℕ) → IsTidy update old f → new.size ≡ old.size → Further old.kept new.kept → TellsList old.kept new.kept y → IsNear update old.kept f.list.items y → IsTidy update new f
+pub tidy-list : (update : Update) (old new : Shown) (f : Falling) (y : ℕ) → IsTidyFalling update old f → new.size ≡ old.size → Further old.kept new.kept → TellsList old.kept new.kept y → IsNear update old.kept f.list.items y → IsTidyFalling update new f
 tidy-list update old new f y t size further tells near = tidy-view update old new f t size further (asks-list update old.kept new.kept f.list.items y t.asks tells near (fallen-read update old f t))
 
 -- a core number was asked
-pub tidy-core : (update : Update) (old new : Shown) (f : Falling) (y : ℕ) → IsTidy update old f → new.size ≡ old.size → Further old.kept new.kept → TellsCore old.kept new.kept y → (y ≡ update.u) ⊎ (y ≡ update.v) ⊎ (is_listed old.kept y ≡ true) → IsTidy update new f
+pub tidy-core : (update : Update) (old new : Shown) (f : Falling) (y : ℕ) → IsTidyFalling update old f → new.size ≡ old.size → Further old.kept new.kept → TellsCore old.kept new.kept y → (y ≡ update.u) ⊎ (y ≡ update.v) ⊎ (is_listed old.kept y ≡ true) → IsTidyFalling update new f
 tidy-core update old new f y t size further tells near = tidy-view update old new f t size further (asks-core update old.kept new.kept f.list.items y t.asks tells near)
 
 -- the core number of a neighbour was asked
-pub tidy-neighbour : (update : Update) (old new : Shown) (f : Falling) (x y : ℕ) → IsTidy update old f → (new.size ≡ old.size) × Further old.kept new.kept → TellsCore old.kept new.kept y → has_list old.kept x ≡ true → member y (list_of old.kept x) ≡ true → IsTidy update new f
+pub tidy-neighbour : (update : Update) (old new : Shown) (f : Falling) (x y : ℕ) → IsTidyFalling update old f → (new.size ≡ old.size) × Further old.kept new.kept → TellsCore old.kept new.kept y → has_list old.kept x ≡ true → member y (list_of old.kept x) ≡ true → IsTidyFalling update new f
 tidy-neighbour update old new f x y t goes tells read m = tidy-core update old new f y t goes.0 goes.1 tells (inr (inr (is_listed-from old.kept x y read m)))
-
-grown : (low : Bool) (y x : ℕ) (fall next : List ℕ) → next ≡ cond low (fall ++ y ∷ []) fall → member x fall ≡ true → member x next ≡ true
-grown true y x fall next e m = ap (member x) e ∙ member-push_left x y fall m
-grown false y x fall next e m = ap (member x) e ∙ m
-
-member-grown : (low : Bool) (y x : ℕ) (fall next : List ℕ) → next ≡ cond low (fall ++ y ∷ []) fall → x ≢ y → member x next ≡ member x fall
-member-grown true y x fall next e ne = ap (member x) e ∙ (member-push x y fall ∙ (ap (λ b. member x fall || b) (ne_eqb x y ne) ∙ or-false (member x fall)))
-member-grown false y x fall next e ne = ap (member x) e
 
 member-settled : (low : Bool) (y : ℕ) (fall next : List ℕ) → next ≡ cond low (fall ++ y ∷ []) fall → member y fall ≡ false → member y next ≡ low
 member-settled true y fall next e n = ap (member y) e ∙ (member-push y y fall ∙ or_right (member y fall) (eqb y y) (eq-eqb y y refl))
 member-settled false y fall next e n = ap (member y) e ∙ n
-
-once-grown : (low : Bool) (y : ℕ) (fall next : List ℕ) → next ≡ cond low (fall ++ y ∷ []) fall → Distinct fall → member y fall ≡ false → Distinct next
-once-grown true y fall next e d n = subst Distinct (sym e) (Distinct-push fall y d n)
-once-grown false y fall next e d n = subst Distinct (sym e) d
 
 further-grown : (low : Bool) (y : ℕ) (fall next : List ℕ) → next ≡ cond low (fall ++ y ∷ []) fall → (j : ℕ) → j < length fall → (j < length next) × (get_or next j 0 ≡ get_or fall j 0)
 further-grown true y fall next e j l = (
@@ -148,8 +126,8 @@ settled-still level y support seen old new s z v = elim (cases_eq z y) [
 ]
 
 -- a vertex that is not on the list is settled
-pub settled-tidy : (update : Update) (shown : Shown) (level y support seen : ℕ) (old new : Falling) → IsTidy update shown old → Settles level y support seen old new → y < shown.size → has_list shown.kept y ≡ true → member y old.list.items ≡ false
-    → IsTidy update shown new
+pub settled-tidy : (update : Update) (shown : Shown) (level y support seen : ℕ) (old new : Falling) → IsTidyFalling update shown old → Settles level y support seen old new → y < shown.size → has_list shown.kept y ≡ true → member y old.list.items ≡ false
+    → IsTidyFalling update shown new
 settled-tidy update shown level y support seen old new t s l read out =
     let low : Bool = ltb support level in
     record {
@@ -157,14 +135,14 @@ settled-tidy update shown level y support seen old new t s l read out =
         | inl e ↦
             let here : has_fallen new y ≡ low = ap fallen_in s.visit in
             ap (has_fallen new) e ∙ (here ∙ sym (ap (λ k. member k new.list.items) e ∙ member-settled low y old.list.items new.list.items s.list out))
-        | inr ne ↦ ap fallen_in (s.others z ne) ∙ (t.marked z ∙ sym (member-grown low y z old.list.items new.list.items s.list ne))
+        | inr ne ↦ ap fallen_in (s.others z ne) ∙ (t.marked z ∙ sym (member-grown_other low y z old.list.items new.list.items s.list ne))
       ];
-      once = once-grown low y old.list.items new.list.items s.list t.once out;
+      once = Distinct-grown low y old.list.items new.list.items s.list t.once out;
       within = λ z v. elim (cases_eq z y) [ inl e ↦ omega (arith, l, e) | inr ne ↦ t.within z (sym (ap is_some (s.others z ne)) ∙ v) ];
       listed = λ z v. elim (cases_eq z y) [ inl e ↦ ap (has_list shown.kept) e ∙ read | inr ne ↦ t.listed z (sym (ap is_some (s.others z ne)) ∙ v) ];
-      asks = asks-fallen update shown.kept old.list.items new.list.items t.asks (fallen-read update shown old t) (λ x m. grown low y x old.list.items new.list.items s.list m);
+      asks = asks-fallen update shown.kept old.list.items new.list.items t.asks (fallen-read update shown old t) (λ x m. member-grown_left low y x old.list.items new.list.items s.list m);
     }
 
 -- no more fall than there are vertices
-pub list-fits : (update : Update) (shown : Shown) (f : Falling) → IsTidy update shown f → length f.list.items ≤ shown.size
+pub list-fits : (update : Update) (shown : Shown) (f : Falling) → IsTidyFalling update shown f → length f.list.items ≤ shown.size
 list-fits update shown f t = below_bound shown.size f.list.items t.once (λ x m. t.within x (fallen-visited update shown f t x m))

@@ -6,10 +6,10 @@ use Rattle.kc_graph.specs.Lawful.{Ranked}
 use Rattle.kc_graph.specs.declared.update.Update.{Update}
 use Rattle.kc_view.specs.Answers.{Answers, has_list, list_of}
 use Rattle.kc_view.specs.Search.{OnLevel}
-use Rattle.kc_view.specs.Sure.{is_listed}
+use Rattle.kc_view.specs.Sure.{AsksCores}
 use Rattle.kc_view.specs.Views.{Shown}
 use Rattle.kc_remove.specs.Cascade.{Cascade, nobody}
-use Rattle.kc_remove.specs.Removed.{search_of, is_end}
+use Rattle.kc_remove.specs.Removed.{search_without, is_end}
 use Rattle.kc_remove.specs.Visits.{visit_of, support_in, seen_in, fallen_in}
 use Rattle.kc_remove.specs.declared.falling.Falling.{Falling}
 
@@ -36,24 +36,24 @@ abbrev pub IsNear : Update → Answers → List ℕ → ℕ → Type 0
 IsNear update a fall y = (y ≡ update.u) ⊎ (y ≡ update.v) ⊎ (list_any (λ x. member y (list_of a x)) fall ≡ true)
 
 -- what was asked: lists of such vertices alone, core numbers of the ends and of neighbours of vertices whose lists were asked, no order
-pub record Asks (update : Update) (a : Answers) (fall : List ℕ) : Type 0 where
+pub record AsksNear (update : Update) (a : Answers) (fall : List ℕ) : Type 0 where
   pub lists : All (λ e. IsNear update a fall e.vertex) a.edges
-  pub cores : All (λ p. (p.vertex ≡ update.u) ⊎ (p.vertex ≡ update.v) ⊎ (is_listed a p.vertex ≡ true)) a.places
+  pub cores : AsksCores update a
   pub orders : a.orders ≡ []
 
 -- what holds for every view
-pub record IsTidy (update : Update) (shown : Shown) (f : Falling) : Type 0 where
+pub record IsTidyFalling (update : Update) (shown : Shown) (f : Falling) : Type 0 where
   pub marked : (z : ℕ) → has_fallen f z ≡ member z f.list.items
   pub once : Distinct f.list.items
   pub within : (z : ℕ) → is_visited f z ≡ true → z < shown.size
   pub listed : (z : ℕ) → is_visited f z ≡ true → has_list shown.kept z ≡ true
-  pub asks : Asks update shown.kept f.list.items
+  pub asks : AsksNear update shown.kept f.list.items
 
 -- what holds in a state that agrees with the answers
 abbrev pub FallsIn : Update → ℕ → Ranked → Falling → ℕ → (ℕ → Bool) → Type 0
-FallsIn update level s f turn part = Cascade (search_of update level s) f.list.items turn part (is_visited f) (support_at f) (seen_at f) nobody
+FallsIn update level s f turn part = Cascade (search_without update level s) f.list.items turn part (is_visited f) (support_at f) (seen_at f) nobody
 
 -- all turns are done, and each end of the level was visited
 pub record HasEnded (update : Update) (level : ℕ) (s : Ranked) (f : Falling) : Type 0 where
   pub falls : FallsIn update level s f (length f.list.items) nobody
-  pub ends : (z : ℕ) → OnLevel (search_of update level s) z → is_end update z ≡ true → is_visited f z ≡ true
+  pub ends : (z : ℕ) → OnLevel (search_without update level s) z → is_end update z ≡ true → is_visited f z ≡ true

@@ -8,8 +8,8 @@ use Rattle.kc_graph.specs.declared.update.Update.{Update}
 use Rattle.kc_view.specs.Search.{Search, search_in}
 
 -- the state in which the search goes on
-abbrev pub search_of : Update → ℕ → Ranked → Search
-search_of update level s = search_in (without_edge s.graph update.u update.v) s level
+abbrev pub search_without : Update → ℕ → Ranked → Search
+search_without update level s = search_in (without_edge s.graph update.u update.v) s level
 
 -- whether the edge of the update joins the two
 abbrev pub is_removed : Update → ℕ → ℕ → Bool

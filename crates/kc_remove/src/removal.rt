@@ -1,13 +1,14 @@
 //! The plan of an update that removes an edge.
-ghost use Rattle.std.specs.Prelude.{◌≡◌, ◌≢◌, ◌<◌, ◌++◌, ◌⊎◌, ℕ, min, [], true, false, slice_index, IfOk, OnOk, IfErr};
+ghost use Rattle.std.specs.Prelude.{◌≡◌, ◌≢◌, ◌<◌, ◌++◌, ◌⊎◌, ℕ, min, [], true, false, slice_index, IfOk, OnOk, IfErr, OnErr};
 ghost use Rattle.kc_distinct.specs.Lists.{member};
 ghost use Rattle.kc_graph.specs.Lawful.{Ranked};
 ghost use Rattle.kc_cert.specs.Local.{moved_vertices};
 ghost use Rattle.kc_view.specs.Answers.{Agrees, nothing_answered, answers_in, has_list, list_of};
+ghost use Rattle.kc_view.specs.Lists.{AreLists};
 ghost use Rattle.kc_view.specs.Sure.{AreSure, IsSure, NamesOnlyRead, AsksCoresNearby, AsksFallen, anchors};
-ghost use Rattle.kc_view.specs.Views.{Lasts, GoesOn, HasPlanCause};
+ghost use Rattle.kc_view.specs.Views.{GoesOn, HandsOut, HasPlanCause};
 ghost use Rattle.kc_remove.specs.Cascade.{nobody};
-ghost use Rattle.kc_remove.specs.Falling.{is_visited, Asks, IsTidy, FallsIn, HasEnded};
+ghost use Rattle.kc_remove.specs.Falling.{is_visited, AsksNear, IsTidyFalling, FallsIn, HasEnded};
 ghost use Rattle.kc_remove.specs.Visits.{visit_of};
 
 use crate::falling::Falling;
@@ -21,9 +22,9 @@ use std::alloc::Global;
 fn has_edge<V: View>(view: &mut V, update: Update) -> Result<bool, PlanFault>
     requires vertex { update.v < (V.shown view.old).size }
     requires fresh { (V.shown view.old).kept ≡ nothing_answered }
-    ensures goes_on { GoesOn (V.shown view.old) (V.shown view.new) (V.is_missed view.old) (V.is_missed view.new) (V.is_given view.old) (V.is_given view.new) }
-    ensures cause { IfErr result (λ fault. HasPlanCause (V.shown view.old) (V.shown view.new) (V.is_missed view.new) fault) }
-    ensures asks { OnOk result (Asks update (V.shown view.new).kept []) }
+    ensures goes_on { GoesOn (V.shown view.old) (V.shown view.new) }
+    ensures cause { IfErr result (λ fault. HasPlanCause (V.shown view.old) (V.shown view.new) fault) }
+    ensures asks { OnOk result (AsksNear update (V.shown view.new).kept []) }
     ensures read { OnOk result (has_list (V.shown view.new).kept update.u ≡ true) }
     ensures told { IfOk result (λ there. there ≡ member update.v (list_of (V.shown view.new).kept update.u)) }
 {
@@ -34,11 +35,12 @@ fn has_edge<V: View>(view: &mut V, update: Update) -> Result<bool, PlanFault>
 /// The lesser core number of the two ends.
 fn level_of<V: View>(view: &mut V, update: Update) -> Result<u32, PlanFault>
     requires vertex { update.v < (V.shown view.old).size }
-    requires asks { Asks update (V.shown view.old).kept [] }
-    ensures goes_on { GoesOn (V.shown view.old) (V.shown view.new) (V.is_missed view.old) (V.is_missed view.new) (V.is_given view.old) (V.is_given view.new) }
-    ensures cause { IfErr result (λ fault. HasPlanCause (V.shown view.old) (V.shown view.new) (V.is_missed view.new) fault) }
-    ensures asks { OnOk result (Asks update (V.shown view.new).kept []) }
-    ensures told { IfOk result (λ level. (s : Ranked) → Agrees (V.shown view.new).kept s → level ≡ min (slice_index s.core update.u) (slice_index s.core update.v)) }
+    requires asks { AsksNear update (V.shown view.old).kept [] }
+    ensures goes_on { GoesOn (V.shown view.old) (V.shown view.new) }
+    ensures cause { IfErr result (λ fault. HasPlanCause (V.shown view.old) (V.shown view.new) fault) }
+    ensures asks { OnOk result (AsksNear update (V.shown view.new).kept []) }
+    ensures told { IfOk result (λ level. (s : Ranked) → Agrees (V.shown view.new).kept s
+        → level ≡ min (slice_index s.core update.u) (slice_index s.core update.v)) }
 {
     let first = core_of(view, update.u)?;
     let second = core_of(view, update.v)?;
@@ -56,13 +58,14 @@ fn visit_end<V: View>(
     requires vertex { end < (V.shown view.old).size }
     requires is_end { (end ≡ update.u) ⊎ (end ≡ update.v) }
     requires is_new { is_visited falling.old end ≡ false }
-    requires tidy { IsTidy update (V.shown view.old) falling.old }
-    ensures goes_on { GoesOn (V.shown view.old) (V.shown view.new) (V.is_missed view.old) (V.is_missed view.new) (V.is_given view.old) (V.is_given view.new) }
-    ensures cause { IfErr result (λ fault. HasPlanCause (V.shown view.old) (V.shown view.new) (V.is_missed view.new) fault) }
-    ensures tidy { OnOk result (IsTidy update (V.shown view.new) falling.new) }
+    requires tidy { IsTidyFalling update (V.shown view.old) falling.old }
+    ensures goes_on { GoesOn (V.shown view.old) (V.shown view.new) }
+    ensures cause { IfErr result (λ fault. HasPlanCause (V.shown view.old) (V.shown view.new) fault) }
+    ensures tidy { OnOk result (IsTidyFalling update (V.shown view.new) falling.new) }
     ensures others { OnOk result ((z : ℕ) → z ≢ end → visit_of falling.new.visits z ≡ visit_of falling.old.visits z) }
     ensures visited { OnOk result ((s : Ranked) → Agrees (V.shown view.new).kept s → slice_index s.core end ≡ level → is_visited falling.new end ≡ true) }
-    ensures falls { OnOk result ((s : Ranked) → Agrees (V.shown view.new).kept s → FallsIn update level s falling.old 0 nobody → FallsIn update level s falling.new 0 nobody) }
+    ensures falls { OnOk result ((s : Ranked) → Agrees (V.shown view.new).kept s → FallsIn update level s falling.old 0 nobody
+        → FallsIn update level s falling.new 0 nobody) }
 {
     let core = core_of(view, end)?;
     if core == level {
@@ -79,10 +82,10 @@ fn find_fallen<V: View>(
     level: u32,
 ) -> Result<Falling, PlanFault>
     requires vertex { update.v < (V.shown view.old).size }
-    requires asks { Asks update (V.shown view.old).kept [] }
-    ensures goes_on { GoesOn (V.shown view.old) (V.shown view.new) (V.is_missed view.old) (V.is_missed view.new) (V.is_given view.old) (V.is_given view.new) }
-    ensures cause { IfErr result (λ fault. HasPlanCause (V.shown view.old) (V.shown view.new) (V.is_missed view.new) fault) }
-    ensures tidy { IfOk result (λ falling. IsTidy update (V.shown view.new) falling) }
+    requires asks { AsksNear update (V.shown view.old).kept [] }
+    ensures goes_on { GoesOn (V.shown view.old) (V.shown view.new) }
+    ensures cause { IfErr result (λ fault. HasPlanCause (V.shown view.old) (V.shown view.new) fault) }
+    ensures tidy { IfOk result (λ falling. IsTidyFalling update (V.shown view.new) falling) }
     ensures ended { IfOk result (λ falling. (s : Ranked) → Agrees (V.shown view.new).kept s → HasEnded update level s falling) }
 {
     let mut falling = Falling::new(alloc);
@@ -97,9 +100,9 @@ fn moves_of<V: View>(alloc: Global, view: &mut V, update: Update) -> Result<Move
     requires removes { update.add ≡ false }
     requires vertex { update.v < (V.shown view.old).size }
     requires fresh { (V.shown view.old).kept ≡ nothing_answered }
-    ensures goes_on { GoesOn (V.shown view.old) (V.shown view.new) (V.is_missed view.old) (V.is_missed view.new) (V.is_given view.old) (V.is_given view.new) }
-    ensures cause { IfErr result (λ fault. HasPlanCause (V.shown view.old) (V.shown view.new) (V.is_missed view.new) fault) }
-    ensures asks { IfOk result (λ moves. Asks update (V.shown view.new).kept (moved_vertices moves)) }
+    ensures goes_on { GoesOn (V.shown view.old) (V.shown view.new) }
+    ensures cause { IfErr result (λ fault. HasPlanCause (V.shown view.old) (V.shown view.new) fault) }
+    ensures asks { IfOk result (λ moves. AsksNear update (V.shown view.new).kept (moved_vertices moves)) }
     ensures named { IfOk result (λ moves. (x : ℕ) → member x (moved_vertices moves ++ anchors moves) ≡ true → has_list (V.shown view.new).kept x ≡ true) }
     ensures sure { IfOk result (λ moves. AreSure update (V.shown view.new).kept moves) }
 {
@@ -121,20 +124,22 @@ fn moves_of<V: View>(alloc: Global, view: &mut V, update: Update) -> Result<Move
 /// behind all of the level below. It asks the lists of the lesser end, of the ends that may fall, and of neighbours of those that do.
 ///
 /// `Miss` comes only where a call on the view missed, and `NoMemory` where there is no memory, for the view or for the search. At `Ok` the
-/// view has handed out all that it kept.
+/// view has handed out, once, all that this call asked, and keeps nothing; after a fault it has handed out nothing, and keeps what it was
+/// asked.
 pub fn plan<V: View>(alloc: Global, view: &mut V, update: Update) -> Result<Plan, PlanFault>
     requires removes { update.add ≡ false }
     requires vertex { update.v < (V.shown view.old).size }
     requires fresh { (V.shown view.old).kept ≡ nothing_answered }
-    ensures lasts { Lasts (V.shown view.old) (V.shown view.new) (V.is_missed view.old) (V.is_missed view.new) (V.is_given view.old) (V.is_given view.new) }
+    ensures hands_out { OnOk result (HandsOut (V.shown view.old) (V.shown view.new)) }
+    ensures goes_on { OnErr result (GoesOn (V.shown view.old) (V.shown view.new)) }
     ensures update { IfOk result (λ plan. plan.update ≡ update) }
     ensures sure { IfOk result IsSure }
     ensures named { IfOk result NamesOnlyRead }
     ensures cores { IfOk result AsksCoresNearby }
     ensures asked { IfOk result AsksFallen }
-    ensures given { IfOk result (λ plan. V.is_given view.new (answers_in plan.used)) }
-    ensures emptied { OnOk result ((V.shown view.new).kept ≡ nothing_answered) }
-    ensures cause { IfErr result (λ fault. HasPlanCause (V.shown view.old) (V.shown view.new) (V.is_missed view.new) fault) }
+    ensures given { IfOk result (λ plan. (V.shown view.new).is_given (answers_in plan.used)) }
+    ensures lists { IfOk result (λ plan. AreLists (V.shown view.new).size plan.used.edges.items) }
+    ensures cause { IfErr result (λ fault. HasPlanCause (V.shown view.old) (V.shown view.new) fault) }
 {
     let moves = moves_of(alloc, view, update)?;
     let used = view.used();

@@ -5,11 +5,10 @@ ghost use Rattle.kc_graph.specs.SimpleGraph.{adjacent};
 ghost use Rattle.kc_graph.specs.Edges.{without_edge};
 ghost use Rattle.kc_graph.specs.Lawful.{Ranked};
 ghost use Rattle.kc_view.specs.Answers.{Agrees, has_list, list_of};
-ghost use Rattle.kc_view.specs.Lists.{IsListOf};
-ghost use Rattle.kc_view.specs.Views.{GoesOn, HasPlanCause};
+ghost use Rattle.kc_view.specs.Views.{KeepsLists, GoesOn, HasPlanCause};
 ghost use Rattle.kc_remove.specs.Cascade.{support};
-ghost use Rattle.kc_remove.specs.Removed.{search_of, is_removed, is_counted};
-ghost use Rattle.kc_remove.specs.Falling.{is_visited, IsNear, IsTidy, FallsIn};
+ghost use Rattle.kc_remove.specs.Removed.{search_without, is_removed, is_counted};
+ghost use Rattle.kc_remove.specs.Falling.{is_visited, IsNear, IsTidyFalling, FallsIn};
 ghost use Rattle.kc_remove.specs.Visits.{visit_of};
 
 use crate::falling::Falling;
@@ -35,10 +34,10 @@ fn counts<V: View>(
     requires vertex { y < (V.shown view.old).size }
     requires read { has_list (V.shown view.old).kept x ≡ true }
     requires neighbour { member y (list_of (V.shown view.old).kept x) ≡ true }
-    requires tidy { IsTidy update (V.shown view.old) falling.now }
-    ensures goes_on { GoesOn (V.shown view.old) (V.shown view.new) (V.is_missed view.old) (V.is_missed view.new) (V.is_given view.old) (V.is_given view.new) }
-    ensures cause { IfErr result (λ fault. HasPlanCause (V.shown view.old) (V.shown view.new) (V.is_missed view.new) fault) }
-    ensures tidy { OnOk result (IsTidy update (V.shown view.new) falling.now) }
+    requires tidy { IsTidyFalling update (V.shown view.old) falling.now }
+    ensures goes_on { GoesOn (V.shown view.old) (V.shown view.new) }
+    ensures cause { IfErr result (λ fault. HasPlanCause (V.shown view.old) (V.shown view.new) fault) }
+    ensures tidy { OnOk result (IsTidyFalling update (V.shown view.new) falling.now) }
     ensures told { IfOk result (λ counts. (s : Ranked) → Agrees (V.shown view.new).kept s → counts ≡ is_counted update level s falling.now.list.items x y) }
 {
     if is_removed(update, x, y) {
@@ -62,12 +61,12 @@ fn count_support<V: View>(
 ) -> Result<u32, PlanFault>
     requires read { has_list (V.shown view.old).kept x ≡ true }
     requires degree { degree ≡ length (list_of (V.shown view.old).kept x) }
-    requires list { IsListOf (V.shown view.old).size x (list_of (V.shown view.old).kept x) }
-    requires tidy { IsTidy update (V.shown view.old) falling.now }
-    ensures goes_on { GoesOn (V.shown view.old) (V.shown view.new) (V.is_missed view.old) (V.is_missed view.new) (V.is_given view.old) (V.is_given view.new) }
-    ensures cause { IfErr result (λ fault. HasPlanCause (V.shown view.old) (V.shown view.new) (V.is_missed view.new) fault) }
-    ensures tidy { OnOk result (IsTidy update (V.shown view.new) falling.now) }
-    ensures told { IfOk result (λ n. (s : Ranked) → Agrees (V.shown view.new).kept s → n ≡ support (search_of update level s) falling.now.list.items x) }
+    requires lists { KeepsLists (V.shown view.old) }
+    requires tidy { IsTidyFalling update (V.shown view.old) falling.now }
+    ensures goes_on { GoesOn (V.shown view.old) (V.shown view.new) }
+    ensures cause { IfErr result (λ fault. HasPlanCause (V.shown view.old) (V.shown view.new) fault) }
+    ensures tidy { OnOk result (IsTidyFalling update (V.shown view.new) falling.now) }
+    ensures told { IfOk result (λ n. (s : Ranked) → Agrees (V.shown view.new).kept s → n ≡ support (search_without update level s) falling.now.list.items x) }
 {
     let mut support = 0;
     for i in 0..degree {
@@ -90,17 +89,19 @@ pub(crate) fn visit<V: View>(
     requires vertex { y < (V.shown view.old).size }
     requires is_new { is_visited falling.old y ≡ false }
     requires near { IsNear update (V.shown view.old).kept falling.old.list.items y }
-    requires tidy { IsTidy update (V.shown view.old) falling.old }
-    ensures goes_on { GoesOn (V.shown view.old) (V.shown view.new) (V.is_missed view.old) (V.is_missed view.new) (V.is_given view.old) (V.is_given view.new) }
-    ensures cause { IfErr result (λ fault. HasPlanCause (V.shown view.old) (V.shown view.new) (V.is_missed view.new) fault) }
-    ensures tidy { OnOk result (IsTidy update (V.shown view.new) falling.new) }
+    requires tidy { IsTidyFalling update (V.shown view.old) falling.old }
+    ensures goes_on { GoesOn (V.shown view.old) (V.shown view.new) }
+    ensures cause { IfErr result (λ fault. HasPlanCause (V.shown view.old) (V.shown view.new) fault) }
+    ensures tidy { OnOk result (IsTidyFalling update (V.shown view.new) falling.new) }
     ensures visited { OnOk result (is_visited falling.new y ≡ true) }
     ensures still { OnOk result ((z : ℕ) → is_visited falling.old z ≡ true → is_visited falling.new z ≡ true) }
     ensures others { OnOk result ((z : ℕ) → z ≢ y → visit_of falling.new.visits z ≡ visit_of falling.old.visits z) }
-    ensures further { OnOk result ((j : ℕ) → j < length falling.old.list.items → (j < length falling.new.list.items) × (slice_index falling.new.list.items j ≡ slice_index falling.old.list.items j)) }
+    ensures further { OnOk result ((j : ℕ) → j < length falling.old.list.items
+        → (j < length falling.new.list.items) × (slice_index falling.new.list.items j ≡ slice_index falling.old.list.items j)) }
     ensures falls { OnOk result ((s : Ranked) (turn : ℕ) (part later : ℕ → Bool) → Agrees (V.shown view.new).kept s → slice_index s.core y ≡ level
         → FallsIn update level s falling.old turn part → ((z : ℕ) → z ≢ y → later z ≡ part z)
-        → (later y ≡ true → (turn < length falling.old.list.items) × (adjacent (without_edge s.graph update.u update.v) (slice_index falling.old.list.items turn) y ≡ true))
+        → (later y ≡ true → (turn < length falling.old.list.items)
+        × (adjacent (without_edge s.graph update.u update.v) (slice_index falling.old.list.items turn) y ≡ true))
         → FallsIn update level s falling.new turn later) }
 {
     let degree = degree_of(view, y)?;

@@ -3,11 +3,10 @@ ghost use Rattle.std.specs.Prelude.{◌≡◌, ◌≢◌, ◌<◌, ◌≤◌, �
 ghost use Rattle.kc_distinct.specs.Lists.{member};
 ghost use Rattle.kc_graph.specs.Lawful.{Ranked};
 ghost use Rattle.kc_view.specs.Answers.{Agrees, has_list, list_of};
-ghost use Rattle.kc_view.specs.Lists.{IsListOf};
-ghost use Rattle.kc_view.specs.Views.{GoesOn, HasPlanCause};
+ghost use Rattle.kc_view.specs.Views.{KeepsLists, GoesOn, HasPlanCause};
 ghost use Rattle.kc_remove.specs.Cascade.{nobody};
 ghost use Rattle.kc_remove.specs.Removed.{has_come};
-ghost use Rattle.kc_remove.specs.Falling.{is_visited, IsTidy, FallsIn};
+ghost use Rattle.kc_remove.specs.Falling.{is_visited, IsTidyFalling, FallsIn};
 
 use crate::falling::Falling;
 use crate::support::{is_removed, visit};
@@ -29,10 +28,10 @@ fn come_to<V: View>(
     requires at { slice_index falling.old.list.items turn ≡ x }
     requires read { has_list (V.shown view.old).kept x ≡ true }
     requires neighbour { member y (list_of (V.shown view.old).kept x) ≡ true }
-    requires tidy { IsTidy update (V.shown view.old) falling.old }
-    ensures goes_on { GoesOn (V.shown view.old) (V.shown view.new) (V.is_missed view.old) (V.is_missed view.new) (V.is_given view.old) (V.is_given view.new) }
-    ensures cause { IfErr result (λ fault. HasPlanCause (V.shown view.old) (V.shown view.new) (V.is_missed view.new) fault) }
-    ensures tidy { OnOk result (IsTidy update (V.shown view.new) falling.new) }
+    requires tidy { IsTidyFalling update (V.shown view.old) falling.old }
+    ensures goes_on { GoesOn (V.shown view.old) (V.shown view.new) }
+    ensures cause { IfErr result (λ fault. HasPlanCause (V.shown view.old) (V.shown view.new) fault) }
+    ensures tidy { OnOk result (IsTidyFalling update (V.shown view.new) falling.new) }
     ensures still { OnOk result ((z : ℕ) → is_visited falling.old z ≡ true → is_visited falling.new z ≡ true) }
     ensures longer { OnOk result (turn < length falling.new.list.items) }
     ensures at { OnOk result (slice_index falling.new.list.items turn ≡ x) }
@@ -71,14 +70,15 @@ fn come_to_each<V: View>(
     requires at { slice_index falling.old.list.items turn ≡ x }
     requires read { has_list (V.shown view.old).kept x ≡ true }
     requires degree { degree ≡ length (list_of (V.shown view.old).kept x) }
-    requires list { IsListOf (V.shown view.old).size x (list_of (V.shown view.old).kept x) }
-    requires tidy { IsTidy update (V.shown view.old) falling.old }
-    ensures goes_on { GoesOn (V.shown view.old) (V.shown view.new) (V.is_missed view.old) (V.is_missed view.new) (V.is_given view.old) (V.is_given view.new) }
-    ensures cause { IfErr result (λ fault. HasPlanCause (V.shown view.old) (V.shown view.new) (V.is_missed view.new) fault) }
-    ensures tidy { OnOk result (IsTidy update (V.shown view.new) falling.new) }
+    requires lists { KeepsLists (V.shown view.old) }
+    requires tidy { IsTidyFalling update (V.shown view.old) falling.old }
+    ensures goes_on { GoesOn (V.shown view.old) (V.shown view.new) }
+    ensures cause { IfErr result (λ fault. HasPlanCause (V.shown view.old) (V.shown view.new) fault) }
+    ensures tidy { OnOk result (IsTidyFalling update (V.shown view.new) falling.new) }
     ensures still { OnOk result ((z : ℕ) → is_visited falling.old z ≡ true → is_visited falling.new z ≡ true) }
     ensures longer { OnOk result (turn < length falling.new.list.items) }
-    ensures falls { OnOk result ((s : Ranked) → Agrees (V.shown view.new).kept s → FallsIn update level s falling.old turn nobody → FallsIn update level s falling.new (turn + 1) nobody) }
+    ensures falls { OnOk result ((s : Ranked) → Agrees (V.shown view.new).kept s → FallsIn update level s falling.old turn nobody
+        → FallsIn update level s falling.new (turn + 1) nobody) }
 {
     for i in 0..degree {
         let y = view.neighbour(x, i);
@@ -96,13 +96,14 @@ fn take_turn<V: View>(
     falling: &mut Falling,
 ) -> Result<(), PlanFault>
     requires turn { turn < length falling.old.list.items }
-    requires tidy { IsTidy update (V.shown view.old) falling.old }
-    ensures goes_on { GoesOn (V.shown view.old) (V.shown view.new) (V.is_missed view.old) (V.is_missed view.new) (V.is_given view.old) (V.is_given view.new) }
-    ensures cause { IfErr result (λ fault. HasPlanCause (V.shown view.old) (V.shown view.new) (V.is_missed view.new) fault) }
-    ensures tidy { OnOk result (IsTidy update (V.shown view.new) falling.new) }
+    requires tidy { IsTidyFalling update (V.shown view.old) falling.old }
+    ensures goes_on { GoesOn (V.shown view.old) (V.shown view.new) }
+    ensures cause { IfErr result (λ fault. HasPlanCause (V.shown view.old) (V.shown view.new) fault) }
+    ensures tidy { OnOk result (IsTidyFalling update (V.shown view.new) falling.new) }
     ensures still { OnOk result ((z : ℕ) → is_visited falling.old z ≡ true → is_visited falling.new z ≡ true) }
     ensures longer { OnOk result (turn < length falling.new.list.items) }
-    ensures falls { OnOk result ((s : Ranked) → Agrees (V.shown view.new).kept s → FallsIn update level s falling.old turn nobody → FallsIn update level s falling.new (turn + 1) nobody) }
+    ensures falls { OnOk result ((s : Ranked) → Agrees (V.shown view.new).kept s → FallsIn update level s falling.old turn nobody
+        → FallsIn update level s falling.new (turn + 1) nobody) }
 {
     let x = falling.list[turn];
     let degree = degree_of(view, x)?;
@@ -116,12 +117,13 @@ pub(crate) fn take_turns<V: View>(
     level: u32,
     falling: &mut Falling,
 ) -> Result<(), PlanFault>
-    requires tidy { IsTidy update (V.shown view.old) falling.old }
-    ensures goes_on { GoesOn (V.shown view.old) (V.shown view.new) (V.is_missed view.old) (V.is_missed view.new) (V.is_given view.old) (V.is_given view.new) }
-    ensures cause { IfErr result (λ fault. HasPlanCause (V.shown view.old) (V.shown view.new) (V.is_missed view.new) fault) }
-    ensures tidy { OnOk result (IsTidy update (V.shown view.new) falling.new) }
+    requires tidy { IsTidyFalling update (V.shown view.old) falling.old }
+    ensures goes_on { GoesOn (V.shown view.old) (V.shown view.new) }
+    ensures cause { IfErr result (λ fault. HasPlanCause (V.shown view.old) (V.shown view.new) fault) }
+    ensures tidy { OnOk result (IsTidyFalling update (V.shown view.new) falling.new) }
     ensures still { OnOk result ((z : ℕ) → is_visited falling.old z ≡ true → is_visited falling.new z ≡ true) }
-    ensures falls { OnOk result ((s : Ranked) → Agrees (V.shown view.new).kept s → FallsIn update level s falling.old 0 nobody → FallsIn update level s falling.new (length falling.new.list.items) nobody) }
+    ensures falls { OnOk result ((s : Ranked) → Agrees (V.shown view.new).kept s → FallsIn update level s falling.old 0 nobody
+        → FallsIn update level s falling.new (length falling.new.list.items) nobody) }
 {
     let mut turn = 0;
     while turn < falling.list.len() {

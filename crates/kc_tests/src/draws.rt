@@ -1,10 +1,12 @@
-//! Numbers without a plan, and updates by them.
-ghost use Rattle.std.specs.Prelude.{◌<◌};
+//! Numbers without a plan, and updates and answers by them.
+ghost use Rattle.std.specs.Prelude.{◌<◌, IfOk};
+ghost use Rattle.kc_view.specs.Lists.{IsListOf};
 
-use kc_graph::{Graph, Update};
+use kc_graph::{Graph, NoMemory, Update};
+use std::alloc::Global;
 
 /// Numbers that follow from a seed and from nothing else (Steele, Lea and Flood 2014).
-#[derive(Drop)]
+#[derive(Debug, Drop)]
 pub(crate) struct Draws {
     state: u64,
 }
@@ -75,5 +77,29 @@ impl Draws {
             self.joined_pair(graph)
         };
         Update { add, u, v }
+    }
+
+    /// One side or the other.
+    pub(crate) fn side(&mut self) -> bool {
+        self.next() % 2 == 0
+    }
+
+    /// A core number: mostly one of four, so that vertices meet on a level, and sometimes any number.
+    pub(crate) fn core(&mut self) -> u32 {
+        let any = self.next();
+        if any % 8 == 0 { any } else { any % 4 }
+    }
+
+    /// A list for `w`: each other vertex is on it or not.
+    pub(crate) fn list(&mut self, alloc: Global, size: u32, w: u32) -> Result<Vec<u32>, NoMemory>
+        ensures { IfOk result (λ list. IsListOf size w list.items) }
+    {
+        let mut list = Vec::new(alloc);
+        for y in 0..size {
+            if y != w && self.side() {
+                list.push(y)?;
+            }
+        }
+        Ok(list)
     }
 }

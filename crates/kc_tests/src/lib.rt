@@ -2,7 +2,7 @@
 //!
 //! Each plan is judged by what knows nothing of the planner that made it: the local test and the whole check of `kc_cert`, a
 //! decomposition of the graph after it, and moves that are made here by what `Moves` says. What the planners were answered is compared
-//! with the state itself. Over a view that answers what it likes they have to return. The crate has no code but its tests.
+//! with the state itself. Over a `WhimView`, which answers what it likes, they have to return. The crate has no code but its tests.
 #![tactic(auto)]
 
 #[cfg(test)]
@@ -17,5 +17,9 @@ mod sequences;
 mod shapes;
 #[cfg(test)]
 mod tally;
+#[cfg(test)]
+mod whim_answers;
+#[cfg(test)]
+mod whim_view;
 #[cfg(test)]
 mod whims;

@@ -1,25 +1,12 @@
 //! Planners over views that answer what they like.
-ghost use Rattle.std.specs.Prelude.{◌≢◌};
-
 use crate::planning::plan_over;
 use crate::tally::Tally;
+use crate::whim_view::{WhimView, again};
 use kc_graph::{Moves, NoMemory, Plan, Update};
-use kc_view::{PlanFault, WhimView};
-use kc_words::Again;
+use kc_view::PlanFault;
 use std::alloc::Global;
 use std::process::Abort;
 use std::test::Fail;
-
-/// The two loads that misses tell of here.
-fn again() -> Again
-    ensures { result.first ≢ result.second }
-{
-    Again {
-        word: 4,
-        first: 1,
-        second: 2,
-    }
-}
 
 /// A view to be drawn, and the update that is planned over it.
 #[derive(Clone, Copy, Debug)]

@@ -1,6 +1,6 @@
 -- Which core numbers were asked: those of the ends of an edge and of neighbours that a list told.
-use Rattle.std.proofs.Common.{◌≡◌, ◌⊎◌, ◌||◌, ℕ, true, false, cond, List, [], ◌∷◌, ◌++◌, eqb, sym, ◌∙◌, subst, inl, inr}
-use Rattle.std.specs.Prelude.{All, Some, is_some}
+use Rattle.std.proofs.Common.{◌≡◌, ◌⊎◌, ◌||◌, ℕ, true, false, cond, List, [], ◌∷◌, eqb, sym, ◌∙◌, subst, inl, inr}
+use Rattle.std.specs.Prelude.{Some, is_some}
 use Rattle.std.specs.Option.{unwrap_or}
 use Rattle.std.specs.List.{list_any}
 use Rattle.std.proofs.lemmas.Bool.{cases_Bool, false≢true, or_left, or_right}

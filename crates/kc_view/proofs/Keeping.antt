@@ -1,22 +1,21 @@
 -- What a view kept, it keeps: lists and core numbers that were told stay, and a state that agrees now agreed before.
-use Rattle.std.proofs.Common.{◌≡◌, ◌<◌, ℕ, suc, true, false, cond, List, [], ◌∷◌, ◌++◌, get_or, eqb, ltb, refl, sym, ◌∙◌, ap, subst, arith, eqb-true, le_refl, le_trans}
+use Rattle.std.proofs.Common.{◌≡◌, ◌<◌, ℕ, suc, true, false, cond, List, [], ◌∷◌, ◌++◌, get_or, eqb, ltb, refl, sym, ◌∙◌, ap, subst, arith, eqb-true, le_refl, le_trans, Bool}
 use Rattle.std.specs.Prelude.{All, Some, is_some}
 use Rattle.std.specs.Option.{unwrap_or}
 use Rattle.std.proofs.lemmas.Bool.{false≢true}
-use Rattle.std.proofs.lemmas.List.{append_assoc, append-nil, get_or_append_left, length-append}
-use Rattle.kc_distinct.specs.Lists.{place_of}
+use Rattle.std.proofs.lemmas.List.{append_assoc, append-nil}
+use Rattle.kc_distinct.specs.Lists.{place_of, member}
+use Rattle.kc_distinct.proofs.Shared.{All-front, All-end}
 use Rattle.kc_graph.specs.Lawful.{Ranked}
 use Rattle.kc_graph.specs.Neighbours.{neighbours_of}
 use Rattle.kc_graph.specs.declared.used.UsedEdges.{UsedEdges}
 use Rattle.kc_graph.specs.declared.used.UsedPlace.{UsedPlace}
 use Rattle.kc_graph.specs.declared.used.UsedOrder.{UsedOrder}
+use Rattle.kc_graph.specs.SimpleGraph.{adjacent}
+use Rattle.kc_graph.proofs.NeighbourLists.{neighbours_has}
 use Rattle.kc_view.specs.Answers.{Answers, Agrees, list_in, core_in, has_list, has_core, list_of, core_of, with_order}
+use Rattle.kc_view.specs.Lists.{IsListOf, AreLists}
 use Rattle.kc_view.specs.Views.{Further, Shown, Lasts, GoesOn}
-use Rattle.kc_words.specs.declared.again.Again.{Again}
-
--- what holds of a list holds of its front
-pub All-front : {A : Type 0} (P : A → Type 0) (xs ys : List A) → All P (xs ++ ys) → All P xs
-All-front {A} P xs ys h k d l = subst P (get_or_append_left xs ys d k l) (h k d (omega (arith, l, length-append xs ys)))
 
 list_in-front : (w : ℕ) (xs ys : List UsedEdges) → is_some (list_in w xs) ≡ true → list_in w (xs ++ ys) ≡ list_in w xs
 list_in-front w [] ys h = absurd (false≢true h)
@@ -74,24 +73,26 @@ Further-trans a b c f g = record {
   orders = (f.orders.0 ++ g.orders.0, g.orders.1 ∙ (ap (λ xs. xs ++ g.orders.0) f.orders.1 ∙ append_assoc a.orders f.orders.0 g.orders.0));
 }
 
-pub Lasts-refl : (a : Shown) (missed : Again → Type 0) (given : Answers → Type 0) → Lasts a a missed missed given given
-Lasts-refl a missed given = record { same_size = refl; misses = le_refl a.misses; still_missed = λ x h. h; still_given = λ x h. h }
+pub Lasts-refl : (a : Shown) → Lasts a a
+Lasts-refl a = record { same_size = refl; misses = le_refl a.misses; still_missed = λ x h. h; still_given = λ x h. h }
 
-pub Lasts-trans : (a b c : Shown) (missed missed' missed'' : Again → Type 0) (given given' given'' : Answers → Type 0) → Lasts a b missed missed' given given' → Lasts b c missed' missed'' given' given'' → Lasts a c missed missed'' given given''
-Lasts-trans a b c missed missed' missed'' given given' given'' f g = record {
+pub Lasts-trans : (a b c : Shown) → Lasts a b → Lasts b c → Lasts a c
+Lasts-trans a b c f g = record {
   same_size = g.same_size ∙ f.same_size;
   misses = le_trans f.misses g.misses;
   still_missed = λ x h. g.still_missed x (f.still_missed x h);
   still_given = λ x h. g.still_given x (f.still_given x h);
 }
 
-pub GoesOn-refl : (a : Shown) (missed : Again → Type 0) (given : Answers → Type 0) → GoesOn a a missed missed given given
-GoesOn-refl a missed given = record { lasts = Lasts-refl a missed given; further = Further-refl a.kept }
+pub GoesOn-refl : (a : Shown) → GoesOn a a
+GoesOn-refl a = record { lasts = Lasts-refl a; handed = refl; further = Further-refl a.kept; lists = λ h. h }
 
-pub GoesOn-trans : (a b c : Shown) (missed missed' missed'' : Again → Type 0) (given given' given'' : Answers → Type 0) → GoesOn a b missed missed' given given' → GoesOn b c missed' missed'' given' given'' → GoesOn a c missed missed'' given given''
-GoesOn-trans a b c missed missed' missed'' given given' given'' f g = record {
-  lasts = Lasts-trans a b c missed missed' missed'' given given' given'' f.lasts g.lasts;
+pub GoesOn-trans : (a b c : Shown) → GoesOn a b → GoesOn b c → GoesOn a c
+GoesOn-trans a b c f g = record {
+  lasts = Lasts-trans a b c f.lasts g.lasts;
+  handed = g.handed ∙ f.handed;
   further = Further-trans a.kept b.kept c.kept f.further g.further;
+  lists = λ h. g.lists (f.lists h);
 }
 
 -- what a state that agrees says of a list that was told
@@ -119,10 +120,28 @@ core_in-true s w (x ∷ xs) a h =
 pub core-true : (a : Answers) (s : Ranked) (w : ℕ) → Agrees a s → has_core a w ≡ true → (w < s.graph.size) × (core_of a w ≡ get_or s.core w 0)
 core-true a s w g h = core_in-true s w a.places g.places h
 
-last-of : {A : Type 0} (P : A → Type 0) (xs : List A) (x : A) → All P (xs ++ x ∷ []) → P x
-last-of {A} P [] x h = h 0 x (omega arith)
-last-of {A} P (y ∷ xs) x h = last-of P xs x (λ i d l. h (suc i) d (omega arith))
-
 -- and of an order
 pub order-true : (a : Answers) (s : Ranked) (o : UsedOrder) → Agrees (with_order a o) s → (o.x < s.graph.size) × (o.y < s.graph.size) × (o.before ≡ ltb (place_of o.x s.order) (place_of o.y s.order))
-order-true a s o g = last-of (λ o. (o.x < s.graph.size) × (o.y < s.graph.size) × (o.before ≡ ltb (place_of o.x s.order) (place_of o.y s.order))) a.orders o g.orders
+order-true a s o g = All-end (λ o. (o.x < s.graph.size) × (o.y < s.graph.size) × (o.before ≡ ltb (place_of o.x s.order) (place_of o.y s.order))) a.orders o g.orders
+
+found_list : (n w : ℕ) (xs : List UsedEdges) → All (λ e. IsListOf n e.vertex e.neighbours) xs → is_some (list_in w xs) ≡ true → IsListOf n w (unwrap_or (list_in w xs) [])
+found_list n w [] a h = absurd (false≢true h)
+found_list n w (x ∷ xs) a h =
+    elim (eqb w x.vertex) as (λ b. eqb w x.vertex ≡ b → is_some (cond b (Some x.neighbours) (list_in w xs)) ≡ true → IsListOf n w (unwrap_or (cond b (Some x.neighbours) (list_in w xs)) [])) [
+      | true ↦ λ e _. subst (λ (v : ℕ). IsListOf n v x.neighbours) (sym (eqb-true w x.vertex e)) (a 0 x (omega arith))
+      | false ↦ λ e k. found_list n w xs (λ i d l. a (suc i) d (omega arith)) k
+    ] refl h
+
+-- where all lists are those of their vertices, the one of a vertex that is looked up is
+pub kept-list : (size w : ℕ) (a : Answers) → AreLists size a.edges → has_list a w ≡ true → IsListOf size w (list_of a w)
+unfolding AreLists
+kept-list size w a all h = found_list size w a.edges all h
+
+-- the list of one end tells whether the edge is there
+pub tells-edge : (a : Answers) (s : Ranked) (u v : ℕ) (b : Bool) → Agrees a s → has_list a u ≡ true → v < s.graph.size → b ≡ member v (list_of a u) → adjacent s.graph u v ≡ b
+tells-edge a s u v b agrees read l is = sym (is ∙ (ap (member v) (list-true a s u agrees read).1 ∙ neighbours_has s.graph u v l))
+
+-- and where nothing was answered they are
+pub no-lists : (size : ℕ) → AreLists size []
+unfolding AreLists
+no-lists size k d l = absurd (omega arith)

@@ -1,8 +1,9 @@
 pub mod Among
 pub mod Asked
+pub mod AtRest
 pub mod Fronts
 pub mod Halving
+pub mod Handing
 pub mod Keeping
-pub mod Looking
 pub mod Marking
 pub mod Still

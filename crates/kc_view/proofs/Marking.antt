@@ -1,5 +1,5 @@
 -- The marks of a view of a graph at rest: what is asked first is kept and marked, and all marks go when the answers are handed out.
-use Rattle.std.proofs.Common.{◌≡◌, ◌≤◌, ◌<◌, ◌+◌, ℕ, Bool, true, false, not, cond, ◌&&◌, ◌||◌, List, [], ◌∷◌, ◌++◌, length, get_or, set, take, refl, sym, ◌∙◌, ap, inl, inr, arith, eqb, eq-eqb, ne_eqb, true≢false, length-set}
+use Rattle.std.proofs.Common.{◌≡◌, ◌≤◌, ◌<◌, ◌+◌, ℕ, Bool, true, false, not, cond, ◌&&◌, ◌||◌, List, [], ◌∷◌, ◌++◌, length, get_or, set, take, ltb, refl, sym, ◌∙◌, ap, inl, inr, arith, eqb, eq-eqb, ne_eqb, true≢false, length-set}
 use Rattle.std.specs.Prelude.{Some, None, is_some}
 use Rattle.std.specs.Option.{unwrap_or}
 use Rattle.std.proofs.Math.Bool.{or-false, and-false}
@@ -11,12 +11,14 @@ use Rattle.kc_graph.specs.Lawful.{Ranked}
 use Rattle.kc_graph.specs.Neighbours.{AreNeighbours, neighbours_of}
 use Rattle.kc_graph.specs.declared.used.UsedEdges.{UsedEdges}
 use Rattle.kc_graph.specs.declared.used.UsedPlace.{UsedPlace}
+use Rattle.kc_graph.specs.declared.used.UsedOrder.{UsedOrder}
+use Rattle.kc_distinct.specs.Lists.{place_of}
 use Rattle.kc_graph.proofs.PeelingLemmas.{neighbours-distinct}
 use Rattle.kc_graph.proofs.Law.{adjacent-self}
-use Rattle.kc_view.specs.Answers.{Answers, Agrees, list_in, core_in, has_list, has_core, list_of, core_of, with_list, with_place}
+use Rattle.kc_view.specs.Answers.{Answers, Agrees, list_in, core_in, has_list, has_core, list_of, core_of, with_list, with_place, with_order}
 use Rattle.kc_view.specs.Lists.{IsListOf}
 use Rattle.kc_view.specs.Views.{Further, TellsList, TellsCore}
-use Rattle.kc_view.specs.Plain.{Keeps}
+use Rattle.kc_view.specs.Plain.{KeepsAnswers}
 use Rattle.kc_graph.proofs.NeighbourLists.{neighbours_are}
 use Rattle.kc_view.proofs.Keeping.{still_has_list, still_has_core, list-true}
 
@@ -44,9 +46,15 @@ some-core : (b : Bool) (k : ℕ) → is_some (cond b (Some k) None) ≡ b
 some-core true k = refl
 some-core false k = refl
 
+-- answers with a list more
 pub Further-list : (a : Answers) (e : UsedEdges) → Further a (with_list a e)
 Further-list a e = record { edges = (e ∷ [], refl); places = ([], sym (append-nil a.places)); orders = ([], sym (append-nil a.orders)) }
 
+-- and an order more
+pub Further-order : (a : Answers) (o : UsedOrder) → Further a (with_order a o)
+Further-order a o = record { edges = ([], sym (append-nil a.edges)); places = ([], sym (append-nil a.places)); orders = (o ∷ [], refl) }
+
+-- and a core number more
 pub Further-place : (a : Answers) (p : UsedPlace) → Further a (with_place a p)
 Further-place a p = record { edges = ([], sym (append-nil a.edges)); places = (p ∷ [], refl); orders = ([], sym (append-nil a.orders)) }
 
@@ -70,7 +78,8 @@ mark-more marks v before after l was is w = elim (cases_eq w v) [
   | inr ne ↦ get_or-set_other marks v w true false ne ∙ (was w ∙ sym (is w ∙ (ap (λ b. before w || b) (ne_eqb w v ne) ∙ or-false (before w))))
 ]
 
-pub keeps_list : (s : Ranked) (a : Answers) (listed placed : List Bool) (e : UsedEdges) → Keeps s a listed placed → e.vertex < s.graph.size → AreNeighbours s.graph e.vertex e.neighbours → Keeps s (with_list a e) (set listed e.vertex true) placed
+-- a list more, which is marked
+pub keeps_list : (s : Ranked) (a : Answers) (listed placed : List Bool) (e : UsedEdges) → KeepsAnswers s a listed placed → e.vertex < s.graph.size → AreNeighbours s.graph e.vertex e.neighbours → KeepsAnswers s (with_list a e) (set listed e.vertex true) placed
 keeps_list s a listed placed e k l near = record {
   few = k.few;
   agrees = record {
@@ -84,7 +93,8 @@ keeps_list s a listed placed e k l near = record {
   places = k.places;
 }
 
-pub keeps_place : (s : Ranked) (a : Answers) (listed placed : List Bool) (p : UsedPlace) → Keeps s a listed placed → p.vertex < s.graph.size → p.core ≡ get_or s.core p.vertex 0 → Keeps s (with_place a p) listed (set placed p.vertex true)
+-- a core number more, which is marked
+pub keeps_place : (s : Ranked) (a : Answers) (listed placed : List Bool) (p : UsedPlace) → KeepsAnswers s a listed placed → p.vertex < s.graph.size → p.core ≡ get_or s.core p.vertex 0 → KeepsAnswers s (with_place a p) listed (set placed p.vertex true)
 keeps_place s a listed placed p k l is = record {
   few = k.few;
   agrees = record {
@@ -96,6 +106,22 @@ keeps_place s a listed placed p k l is = record {
   one_each_too = length-set placed p.vertex true ∙ k.one_each_too;
   lists = k.lists;
   places = mark-more placed p.vertex (has_core a) (has_core (with_place a p)) (omega (arith, k.one_each_too, l)) k.places (has_core-more a p);
+}
+
+-- an order more, which is that of the state
+pub keeps_order : (s : Ranked) (a : Answers) (listed placed : List Bool) (o : UsedOrder) → KeepsAnswers s a listed placed → o.x < s.graph.size → o.y < s.graph.size
+    → o.before ≡ ltb (place_of o.x s.order) (place_of o.y s.order) → KeepsAnswers s (with_order a o) listed placed
+keeps_order s a listed placed o k lx ly is = record {
+  few = k.few;
+  agrees = record {
+    edges = k.agrees.edges;
+    places = k.agrees.places;
+    orders = All-push (λ (x : UsedOrder). (x.x < s.graph.size) × (x.y < s.graph.size) × (x.before ≡ ltb (place_of x.x s.order) (place_of x.y s.order))) a.orders o k.agrees.orders (lx, ly, is);
+  };
+  one_each = k.one_each;
+  one_each_too = k.one_each_too;
+  lists = k.lists;
+  places = k.places;
 }
 
 -- what a first call tells
@@ -135,10 +161,10 @@ pub few_neighbours : (s : Ranked) (w : ℕ) (ws : List ℕ) → AreNeighbours s.
 few_neighbours s w ws near = below_bound s.graph.size ws (neighbours-distinct s.graph w ws near) near.within
 
 -- what the mark says
-pub mark_is_list : (s : Ranked) (a : Answers) (listed placed : List Bool) (w : ℕ) (b : Bool) → Keeps s a listed placed → w < s.graph.size → b ≡ get_or listed w b → b ≡ has_list a w
+pub mark_is_list : (s : Ranked) (a : Answers) (listed placed : List Bool) (w : ℕ) (b : Bool) → KeepsAnswers s a listed placed → w < s.graph.size → b ≡ get_or listed w b → b ≡ has_list a w
 mark_is_list s a listed placed w b k l is = get_or_read listed w b (omega (arith, k.one_each, l)) is false ∙ k.lists w
 
-pub mark_is_core : (s : Ranked) (a : Answers) (listed placed : List Bool) (w : ℕ) (b : Bool) → Keeps s a listed placed → w < s.graph.size → b ≡ get_or placed w b → b ≡ has_core a w
+pub mark_is_core : (s : Ranked) (a : Answers) (listed placed : List Bool) (w : ℕ) (b : Bool) → KeepsAnswers s a listed placed → w < s.graph.size → b ≡ get_or placed w b → b ≡ has_core a w
 mark_is_core s a listed placed w b k l is = get_or_read placed w b (omega (arith, k.one_each_too, l)) is false ∙ k.places w
 
 -- a mark less

@@ -6,5 +6,3 @@ pub mod PlainCode
 pub mod Search
 pub mod Sure
 pub mod Views
-pub mod Whim
-pub mod WhimCode

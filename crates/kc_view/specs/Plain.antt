@@ -1,17 +1,17 @@
 -- A graph at rest, as a view of it is seen.
 use Rattle.std.specs.Prelude.{◌≡◌, ◌<◌, ◌^◌, ℕ, Bool, false, List, length, slice_index_or}
-use Rattle.kc_words.specs.declared.again.Again.{Again}
 use Rattle.kc_graph.specs.Lawful.{Ranked}
 use Rattle.kc_view.specs.Answers.{Answers, Agrees, has_list, has_core}
 use Rattle.kc_view.specs.Views.{Shown}
 
--- a state, and what was answered since the answers were last handed out
+-- a state, what was answered since the answers were last handed out, and how often these were
 pub record Resting : Type 0 where
   pub state : Ranked
   pub kept : Answers
+  pub handed : ℕ
 
 -- What was kept is true of the state, and the marks of a vertex say whether its list and its core number were.
-pub record Keeps (s : Ranked) (kept : Answers) (listed placed : List Bool) : Type 0 where
+pub record KeepsAnswers (s : Ranked) (kept : Answers) (listed placed : List Bool) : Type 0 where
   pub few : s.graph.size < 2 ^ 32
   pub agrees : Agrees kept s
   pub one_each : length listed ≡ s.graph.size
@@ -19,14 +19,13 @@ pub record Keeps (s : Ranked) (kept : Answers) (listed placed : List Bool) : Typ
   pub lists : (w : ℕ) → slice_index_or listed w false ≡ has_list kept w
   pub places : (w : ℕ) → slice_index_or placed w false ≡ has_core kept w
 
--- what contracts see of such a view: it has never missed
+-- What contracts see of such a view: it has never missed, no two loads differed, and it has answered what is true of the state.
 abbrev pub shown_at_rest : Resting → Shown
-shown_at_rest r = record { size = r.state.graph.size; kept = r.kept; misses = 0 }
-
--- no two loads differed
-abbrev pub never_missed : Resting → Again → Type 0
-never_missed r again = ⊥
-
--- it has answered what is true of the state
-abbrev pub given_at_rest : Resting → Answers → Type 0
-given_at_rest r answers = Agrees answers r.state
+shown_at_rest r = record {
+  size = r.state.graph.size;
+  kept = r.kept;
+  handed = r.handed;
+  misses = 0;
+  is_missed = λ again. ⊥;
+  is_given = λ answers. Agrees answers r.state;
+}

@@ -21,4 +21,6 @@ abbrev pub code_of_answers : Coded Answers
 code_of_answers = code_by (List UsedEdges × (List UsedPlace × List UsedOrder)) (coded× (coded_list code_of_edges) (coded× (coded_list code_of_place) (coded_list code_of_order))) (λ a. (a.edges, (a.places, a.orders))) (λ p. record { edges = p.0; places = p.1.0; orders = p.1.1 }) (λ _. refl)
 
 abbrev pub code_of_resting : Coded Resting
-code_of_resting = code_by (Ranked × Answers) (coded× code_of_ranked code_of_answers) (λ r. (r.state, r.kept)) (λ p. record { state = p.0; kept = p.1 }) (λ _. refl)
+code_of_resting =
+    code_by (Ranked × (Answers × ℕ)) (coded× code_of_ranked (coded× code_of_answers coded_ℕ)) (λ r. (r.state, (r.kept, r.handed)))
+    (λ p. record { state = p.0; kept = p.1.0; handed = p.1.1 }) (λ _. refl)

@@ -1,5 +1,5 @@
 -- A state after its graph was updated, as a search for the vertices that move sees it.
-use Rattle.std.specs.Prelude.{◌≡◌, ◌<◌, ℕ, Bool, ◌&&◌, count_by, slice_index, nat_lt, nat_eq}
+use Rattle.std.specs.Prelude.{◌≡◌, ◌<◌, ℕ, Bool, true, ◌&&◌, count_by, slice_index, nat_lt, nat_eq}
 use Rattle.kc_distinct.specs.Lists.{below}
 use Rattle.kc_graph.specs.SimpleGraph.{SimpleGraph, adjacent}
 use Rattle.kc_graph.specs.Lawful.{Ranked}
@@ -36,3 +36,8 @@ after s z y = nat_lt (s.rank z) (s.rank y)
 pub record OnLevel (s : Search) (x : ℕ) : Type 0 where
   pub here : x < s.size
   pub level : s.core x ≡ s.level
+
+-- `y` is the root, or walks from it reach `y`, each step of which goes to a later neighbour of the level
+pub data Forward (s : Search) (root : ℕ) : ℕ → Type 0 where
+  at_root : Forward s root root
+  further : (x y : ℕ) → Forward s root x → OnLevel s y → s.adj x y ≡ true → s.rank x < s.rank y → Forward s root y

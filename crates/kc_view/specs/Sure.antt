@@ -2,7 +2,6 @@
 use Rattle.std.specs.Prelude.{◌≡◌, ◌<◌, ◌⊎◌, ◌++◌, ℕ, Bool, true, false, List, [], slice_index, nat_lt, All, if◌then◌else◌}
 use Rattle.std.specs.List.{list_any}
 use Rattle.kc_distinct.specs.Lists.{member, Distinct, place_of}
-use Rattle.kc_graph.specs.SimpleGraph.{SimpleGraph, adjacent}
 use Rattle.kc_graph.specs.Core.{AreCoreNumbers}
 use Rattle.kc_graph.specs.Lawful.{Ranked, IsCertified}
 use Rattle.kc_graph.specs.Plans.{is_applied, updated}
@@ -13,6 +12,7 @@ use Rattle.kc_graph.specs.declared.plan.Moves.{Moves}
 use Rattle.kc_graph.specs.declared.plan.Moves.TheVariants.{Kept, Plain, Rise, Fall}
 use Rattle.kc_cert.specs.Local.{IsLocal, moved_vertices, seconds}
 use Rattle.kc_view.specs.Answers.{Answers, Agrees, answers_in, has_list, list_of}
+use Rattle.kc_view.specs.Search.{Forward, search_in}
 
 -- Of the ends of a new edge, the one of the lesser core number, or where these are equal the one that stands first.
 abbrev pub root_of : Ranked → Update → ℕ
@@ -22,14 +22,9 @@ root_of s update =
     else if nat_lt (place_of update.u s.order) (place_of update.v s.order) then update.u
     else update.v
 
--- `y` is the root, or walks from it reach `y`, each step of which goes to a later neighbour of the root's core number
-pub data Forward (s : Ranked) (after : SimpleGraph) (root : ℕ) : ℕ → Type 0 where
-  at_root : Forward s after root root
-  further : (x y : ℕ) → Forward s after root x → y < s.graph.size → slice_index s.core y ≡ slice_index s.core root → adjacent after x y ≡ true → place_of x s.order < place_of y s.order → Forward s after root y
-
--- the vertices that a new edge may concern
+-- The vertices that a new edge may concern: those that walks from the root reach, along the order and on the root's level.
 abbrev pub InForward : Ranked → Update → ℕ → Type 0
-InForward s update x = Forward s (updated update s.graph) (root_of s update) x
+InForward s update x = Forward (search_in (updated update s.graph) s (slice_index s.core (root_of s update))) (root_of s update) x
 
 -- A plan moves no more than it should: nothing where the update is not applied; for a removal exactly the vertices whose core number
 -- falls; for an insertion vertices that the new edge concerns, each once.

@@ -2,8 +2,7 @@
 ghost use Rattle.std.specs.Prelude.{◌≡◌, ◌≢◌, ◌<◌, ℕ, true, length, IfOk, OnOk, IfErr};
 ghost use Rattle.kc_distinct.specs.Lists.{member};
 ghost use Rattle.kc_view.specs.Answers.{has_list, list_of, has_core, core_of, with_order};
-ghost use Rattle.kc_view.specs.Lists.{IsListOf};
-ghost use Rattle.kc_view.specs.Views.{GoesOn, TellsList, TellsCore, HasPlanCause};
+ghost use Rattle.kc_view.specs.Views.{KeepsLists, GoesOn, TellsList, TellsCore, HasPlanCause};
 
 use crate::fault::PlanFault;
 use crate::view::View;
@@ -11,11 +10,11 @@ use crate::view::View;
 /// The number of neighbours of `w`, as `View::degree` tells it.
 pub fn degree_of<V: View>(view: &mut V, w: u32) -> Result<u32, PlanFault>
     requires { w < (V.shown view.old).size }
-    ensures goes_on { GoesOn (V.shown view.old) (V.shown view.new) (V.is_missed view.old) (V.is_missed view.new) (V.is_given view.old) (V.is_given view.new) }
+    ensures goes_on { GoesOn (V.shown view.old) (V.shown view.new) }
     ensures told { OnOk result (TellsList (V.shown view.old).kept (V.shown view.new).kept w) }
-    ensures list { OnOk result (IsListOf (V.shown view.new).size w (list_of (V.shown view.new).kept w)) }
+    ensures lists { KeepsLists (V.shown view.new) }
     ensures length { IfOk result (λ n. n ≡ length (list_of (V.shown view.new).kept w)) }
-    ensures cause { IfErr result (λ fault. HasPlanCause (V.shown view.old) (V.shown view.new) (V.is_missed view.new) fault) }
+    ensures cause { IfErr result (λ fault. HasPlanCause (V.shown view.old) (V.shown view.new) fault) }
 {
     Ok(view.degree(w)?)
 }
@@ -23,10 +22,11 @@ pub fn degree_of<V: View>(view: &mut V, w: u32) -> Result<u32, PlanFault>
 /// The core number of `w`, as `View::core` tells it.
 pub fn core_of<V: View>(view: &mut V, w: u32) -> Result<u32, PlanFault>
     requires { w < (V.shown view.old).size }
-    ensures goes_on { GoesOn (V.shown view.old) (V.shown view.new) (V.is_missed view.old) (V.is_missed view.new) (V.is_given view.old) (V.is_given view.new) }
+    ensures goes_on { GoesOn (V.shown view.old) (V.shown view.new) }
     ensures told { OnOk result (TellsCore (V.shown view.old).kept (V.shown view.new).kept w) }
+    ensures lists { KeepsLists (V.shown view.new) }
     ensures core { IfOk result (λ k. k ≡ core_of (V.shown view.new).kept w) }
-    ensures cause { IfErr result (λ fault. HasPlanCause (V.shown view.old) (V.shown view.new) (V.is_missed view.new) fault) }
+    ensures cause { IfErr result (λ fault. HasPlanCause (V.shown view.old) (V.shown view.new) fault) }
 {
     Ok(view.core(w)?)
 }
@@ -36,9 +36,10 @@ pub fn stands_before<V: View>(view: &mut V, x: u32, y: u32) -> Result<bool, Plan
     requires differ { x ≢ y }
     requires first { has_core (V.shown view.old).kept x ≡ true }
     requires second { has_core (V.shown view.old).kept y ≡ true }
-    ensures goes_on { GoesOn (V.shown view.old) (V.shown view.new) (V.is_missed view.old) (V.is_missed view.new) (V.is_given view.old) (V.is_given view.new) }
+    ensures goes_on { GoesOn (V.shown view.old) (V.shown view.new) }
+    ensures lists { KeepsLists (V.shown view.new) }
     ensures told { IfOk result (λ before. (V.shown view.new).kept ≡ with_order (V.shown view.old).kept (record { x = x; y = y; before = before })) }
-    ensures cause { IfErr result (λ fault. HasPlanCause (V.shown view.old) (V.shown view.new) (V.is_missed view.new) fault) }
+    ensures cause { IfErr result (λ fault. HasPlanCause (V.shown view.old) (V.shown view.new) fault) }
 {
     Ok(view.precedes(x, y)?)
 }
@@ -47,7 +48,7 @@ pub fn stands_before<V: View>(view: &mut V, x: u32, y: u32) -> Result<bool, Plan
 pub fn is_neighbour<V: View>(view: &V, x: u32, degree: u32, y: u32) -> bool
     requires read { has_list (V.shown view.now).kept x ≡ true }
     requires degree { degree ≡ length (list_of (V.shown view.now).kept x) }
-    requires list { IsListOf (V.shown view.now).size x (list_of (V.shown view.now).kept x) }
+    requires lists { KeepsLists (V.shown view.now) }
     ensures { result ≡ member y (list_of (V.shown view.now).kept x) }
 {
     let mut low = 0;

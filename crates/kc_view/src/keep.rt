@@ -1,12 +1,11 @@
-//! Answers that are kept, and looked up again.
-ghost use Rattle.std.specs.Prelude.{◌≡◌, ◌++◌, [], ◌∷◌, Some, None, OnOk, OnErr, MatchOption};
-ghost use Rattle.kc_view.specs.Answers.{list_in, core_in};
+//! Answers that are kept: what each view does with what it was told.
+ghost use Rattle.std.specs.Prelude.{◌≡◌, ◌++◌, [], ◌∷◌, OnOk, OnErr};
 
 use kc_graph::{Neighbours, NoMemory, UsedEdges, UsedOrder, UsedPlace};
 use std::alloc::Global;
 
 /// Keeps the list of a vertex. Where there is no memory for it, what was kept stays as it was.
-pub(crate) fn keep_list(
+pub fn keep_list(
     alloc: Global,
     edges: &mut Vec<UsedEdges>,
     vertex: u32,
@@ -26,11 +25,7 @@ pub(crate) fn keep_list(
 }
 
 /// Keeps the core number of a vertex. Where there is no memory for it, what was kept stays as it was.
-pub(crate) fn keep_place(
-    places: &mut Vec<UsedPlace>,
-    vertex: u32,
-    core: u32,
-) -> Result<(), NoMemory>
+pub fn keep_place(places: &mut Vec<UsedPlace>, vertex: u32, core: u32) -> Result<(), NoMemory>
     ensures ok { OnOk result (places.new.items ≡ places.old.items ++ record { vertex = vertex; stamp = 0; core = core } ∷ []) }
     ensures err { OnErr result (places.new.items ≡ places.old.items) }
 {
@@ -44,39 +39,10 @@ pub(crate) fn keep_place(
 }
 
 /// Keeps the order of two vertices. Where there is no memory for it, what was kept stays as it was.
-pub(crate) fn keep_order(
-    orders: &mut Vec<UsedOrder>,
-    x: u32,
-    y: u32,
-    before: bool,
-) -> Result<(), NoMemory>
+pub fn keep_order(orders: &mut Vec<UsedOrder>, x: u32, y: u32, before: bool) -> Result<(), NoMemory>
     ensures ok { OnOk result (orders.new.items ≡ orders.old.items ++ record { x = x; y = y; before = before } ∷ []) }
     ensures err { OnErr result (orders.new.items ≡ orders.old.items) }
 {
     orders.push(UsedOrder { x, y, before })?;
     Ok(())
-}
-
-/// The list of `w`, if it was kept.
-pub(crate) fn kept_list(edges: &[UsedEdges], w: u32) -> Option<&[u32]>
-    ensures { MatchOption result (list_in w edges.now ≡ None) (λ list. list_in w edges.now ≡ Some list.now) }
-{
-    for kept in edges {
-        if kept.vertex == w {
-            return Some(kept.neighbours.as_slice());
-        }
-    }
-    None
-}
-
-/// The core number of `w`, if it was kept.
-pub(crate) fn kept_core(places: &[UsedPlace], w: u32) -> Option<u32>
-    ensures { result ≡ core_in w places.now }
-{
-    for kept in places {
-        if kept.vertex == w {
-            return Some(kept.core);
-        }
-    }
-    None
 }

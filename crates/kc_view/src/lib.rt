@@ -6,22 +6,19 @@
 //!
 //! `specs/Answers.antt` says what was asked and answered, and when a state agrees with it; `Views.antt` says what each call leaves;
 //! `Sure.antt` says when a plan is right wherever its answers are. `PlainView` is a view of a graph at rest: it never misses, and all
-//! its answers are true of that graph. `WhimView` answers what it likes: a planner has to return over it too. The crate stands on
-//! `kc_graph`, and its definitions on `kc_distinct`, `kc_words` and `kc_cert`.
+//! its answers are true of that graph. The crate stands on `kc_graph`, and its definitions on `kc_distinct`, `kc_words` and `kc_cert`.
 #![tactic(auto)]
 
 mod asking;
-mod draws;
 mod fault;
 mod keep;
 mod plain;
 #[cfg(test)]
 mod tests;
 mod view;
-mod whim;
 
 pub use asking::{core_of, degree_of, is_neighbour, stands_before};
 pub use fault::{PlanFault, ViewFault};
+pub use keep::{keep_list, keep_order, keep_place};
 pub use plain::PlainView;
 pub use view::View;
-pub use whim::WhimView;

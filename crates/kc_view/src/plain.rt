@@ -21,25 +21,32 @@ pub struct PlainView<'a> {
     orders: Vec<UsedOrder>,
     is_listed: Vec<bool>,
     is_placed: Vec<bool>,
+    handed: u64,
 }
 
 impl<'a> Model for PlainView<'a> {
-    ghost use Rattle.kc_view.specs.Plain.{Resting, Keeps};
+    ghost use Rattle.kc_view.specs.Plain.{Resting, KeepsAnswers};
     ghost use Rattle.kc_view.specs.PlainCode.{code_of_resting};
 
     ghost Value = { Resting };
 
     ghost coded = { code_of_resting };
 
-    ghost view = { λ a. record { state = a.state.now; kept = record { edges = a.edges.items; places = a.places.items; orders = a.orders.items } } };
+    ghost view = { λ a. record {
+      state = a.state.now;
+      kept = record { edges = a.edges.items; places = a.places.items; orders = a.orders.items };
+      handed = a.handed;
+    } };
 
-    ghost invariant = { λ a. Keeps a.state.now (record { edges = a.edges.items; places = a.places.items; orders = a.orders.items }) a.is_listed.items a.is_placed.items };
+    ghost invariant = { λ a. KeepsAnswers a.state.now
+        (record { edges = a.edges.items; places = a.places.items; orders = a.orders.items })
+        a.is_listed.items a.is_placed.items };
 }
 
 impl<'a> PlainView<'a> {
     /// A view of the state with nothing kept, or `NoMemory` where there is none for two marks a vertex.
     pub fn new(alloc: Global, state: &'a Lawful) -> Result<PlainView<'a>, NoMemory>
-        ensures { IfOk result (λ view. view ≡ record { state = state.now; kept = nothing_answered }) }
+        ensures { IfOk result (λ view. view ≡ record { state = state.now; kept = nothing_answered; handed = 0 }) }
     {
         let vertices = state.graph().vertices() as usize;
         let is_listed = vec![in alloc; false; vertices]?;
@@ -52,6 +59,7 @@ impl<'a> PlainView<'a> {
             orders: Vec::new(alloc),
             is_listed,
             is_placed,
+            handed: 0,
         })
     }
 
@@ -64,13 +72,9 @@ impl<'a> PlainView<'a> {
 }
 
 impl View for PlainView<'_> {
-    ghost use Rattle.kc_view.specs.Plain.{shown_at_rest, never_missed, given_at_rest};
+    ghost use Rattle.kc_view.specs.Plain.{shown_at_rest};
 
     ghost shown = { shown_at_rest };
-
-    ghost is_missed = { never_missed };
-
-    ghost is_given = { given_at_rest };
 
     fn degree(&mut self, w: u32) -> Result<u32, ViewFault> {
         let neighbours = self.state.graph().neighbours(w);
@@ -104,6 +108,7 @@ impl View for PlainView<'_> {
     fn used(&mut self) -> Used {
         unmark_lists(&mut self.is_listed, &self.edges);
         unmark_places(&mut self.is_placed, &self.places);
+        self.handed = self.handed.wrapping_add(1);
         Used {
             edges: mem::replace(&mut self.edges, Vec::new(self.alloc)),
             places: mem::replace(&mut self.places, Vec::new(self.alloc)),

@@ -1,9 +1,8 @@
-//! Both views, each call with its answer.
+//! A view of a graph at rest, each call with its answer.
 ghost use Rattle.std.specs.Prelude.{◌≢◌, ◌<◌};
 
-use crate::{PlainView, PlanFault, View, ViewFault, WhimView, degree_of, is_neighbour};
+use crate::{PlainView, PlanFault, View, ViewFault, degree_of, is_neighbour};
 use kc_graph::{Graph, Lawful, Used, UsedOrder, UsedPlace, decompose};
-use kc_words::Again;
 use std::alloc::Global;
 use std::process::Abort;
 use std::test::Fail;
@@ -121,70 +120,4 @@ fn orders_of_a_graph_at_rest(rt: HostRuntime) -> Result<(), Fail> {
     assert!(rt; used.orders.iter().map(|o| (o.x, o.y, o.before)).eq(orders));
     assert_lists(&rt, &view.used(), &[]);
     Ok(())
-}
-
-/// The two loads that misses tell of here.
-fn again() -> Again
-    ensures { result.first ≢ result.second }
-{
-    Again {
-        word: 4,
-        first: 1,
-        second: 2,
-    }
-}
-
-#[test]
-fn lists_of_a_whim_fit_no_graph(rt: HostRuntime) -> Result<(), Fail> {
-    let mut view = WhimView::new(rt.alloc(), 9, 7, None, again());
-    let mut one_way = false;
-    for x in 1..9 {
-        assert!(rt; x < view.vertices());
-        let there = list_of(rt.alloc(), &mut view, x)?;
-        assert!(rt; 0 < view.vertices());
-        let back = list_of(rt.alloc(), &mut view, 0)?;
-        assert!(rt; !there.contains(&x) && !back.contains(&0));
-        one_way = one_way || there.contains(&0) != back.contains(&x);
-    }
-    assert!(rt; one_way);
-    assert_lists(&rt, &view.used(), &[1, 0, 2, 3, 4, 5, 6, 7, 8]);
-    assert_lists(&rt, &view.used(), &[]);
-    Ok(())
-}
-
-#[test]
-fn orders_of_a_whim_change(rt: HostRuntime) -> Result<(), Fail> {
-    let mut view = WhimView::new(rt.alloc(), 2, 3, None, again());
-    let mut answers = [false, false];
-    for _ in 0..20 {
-        assert!(rt; 1 < view.vertices());
-        let (_, _, before) = compared(&mut view, 0, 1)?;
-        answers[before as usize] = true;
-    }
-    assert_eq!(rt; answers, [true, true]);
-    let used = view.used();
-    assert_eq!(rt; (used.places.len(), used.orders.len()), (2, 20));
-    assert_lists(&rt, &view.used(), &[]);
-    Ok(())
-}
-
-/// The first of six calls that misses.
-fn first_miss<R: Abort + AllocGlobal>(rt: &R, patience: Option<u64>) -> Option<u64> {
-    let mut view = WhimView::new(rt.alloc(), 3, 1, patience, again());
-    for call in 0..6u64 {
-        assert!(rt; 2 < view.vertices());
-        if let Err(fault) = view.core(2) {
-            assert_eq!(rt; fault, ViewFault::Miss(again()));
-            return Some(call);
-        }
-    }
-    None
-}
-
-#[test]
-fn the_call_that_is_to_miss_misses(rt: HostRuntime) {
-    for patience in 0..4u64 {
-        assert_eq!(rt; first_miss(&rt, Some(patience)), Some(patience));
-    }
-    assert_eq!(rt; first_miss(&rt, None), None);
 }

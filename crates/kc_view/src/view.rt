@@ -1,9 +1,7 @@
 //! What a planner asks.
 ghost use Rattle.std.specs.Prelude.{◌≡◌, ◌≢◌, ◌<◌, ℕ, true, length, slice_index, IfOk, OnOk, IfErr, OnErr};
-ghost use Rattle.kc_words.specs.declared.again.Again.{Again};
-ghost use Rattle.kc_view.specs.Answers.{Answers, nothing_answered, answers_in, has_list, list_of, has_core, core_of, with_order};
-ghost use Rattle.kc_view.specs.Lists.{IsListOf};
-ghost use Rattle.kc_view.specs.Views.{Shown, Lasts, GoesOn, TellsList, TellsCore, HasCause};
+ghost use Rattle.kc_view.specs.Answers.{answers_in, has_list, list_of, has_core, core_of, with_order};
+ghost use Rattle.kc_view.specs.Views.{Shown, KeepsLists, GoesOn, HandsOut, TellsList, TellsCore, HasViewCause};
 
 use crate::fault::ViewFault;
 use kc_graph::Used;
@@ -13,24 +11,18 @@ use kc_graph::Used;
 /// The answers need not be those of one state: between two of them the graph may have changed. A call that misses saw it change. All
 /// answers since the last `used` are kept, in the order of asking.
 pub trait View {
-    /// The number of vertices, the answers since the last `used`, and how many calls have missed, up to the last value of a `u64`.
+    /// What contracts see of the view.
     ghost shown: { Self → Shown };
-
-    /// Whether two loads of one word differed so. Each view says what that means.
-    ghost is_missed: { Self → Again → Type 0 };
-
-    /// Whether the view has answered so. Each view says what that means for the graph behind it.
-    ghost is_given: { Self → Answers → Type 0 };
 
     /// The number of neighbours of `w`. The whole list is read at the first call for `w`, and is kept.
     fn degree(&mut self, w: u32) -> Result<u32, ViewFault>
         requires { w < (shown self.old).size }
-        ensures goes_on { GoesOn (shown self.old) (shown self.new) (is_missed self.old) (is_missed self.new) (is_given self.old) (is_given self.new) }
+        ensures goes_on { GoesOn (shown self.old) (shown self.new) }
         ensures told { OnOk result (TellsList (shown self.old).kept (shown self.new).kept w) }
-        ensures list { OnOk result (IsListOf (shown self.new).size w (list_of (shown self.new).kept w)) }
+        ensures lists { KeepsLists (shown self.new) }
         ensures length { IfOk result (λ n. n ≡ length (list_of (shown self.new).kept w)) }
         ensures same { OnErr result ((shown self.new).kept ≡ (shown self.old).kept) }
-        ensures cause { IfErr result (λ fault. HasCause (shown self.old) (shown self.new) (is_missed self.new) fault) };
+        ensures cause { IfErr result (λ fault. HasViewCause (shown self.old) (shown self.new) fault) };
 
     /// The neighbour of `w` at place `i` of its list, which was read. The list ascends.
     fn neighbour(&self, w: u32, i: u32) -> u32
@@ -41,26 +33,27 @@ pub trait View {
     /// The core number of `w`, which is read at the first call for `w`, and is kept.
     fn core(&mut self, w: u32) -> Result<u32, ViewFault>
         requires { w < (shown self.old).size }
-        ensures goes_on { GoesOn (shown self.old) (shown self.new) (is_missed self.old) (is_missed self.new) (is_given self.old) (is_given self.new) }
+        ensures goes_on { GoesOn (shown self.old) (shown self.new) }
         ensures told { OnOk result (TellsCore (shown self.old).kept (shown self.new).kept w) }
+        ensures lists { KeepsLists (shown self.new) }
         ensures core { IfOk result (λ k. k ≡ core_of (shown self.new).kept w) }
         ensures same { OnErr result ((shown self.new).kept ≡ (shown self.old).kept) }
-        ensures cause { IfErr result (λ fault. HasCause (shown self.old) (shown self.new) (is_missed self.new) fault) };
+        ensures cause { IfErr result (λ fault. HasViewCause (shown self.old) (shown self.new) fault) };
 
     /// Whether `x` stands before `y` in the order. The core numbers of both were asked.
     fn precedes(&mut self, x: u32, y: u32) -> Result<bool, ViewFault>
         requires differ { x ≢ y }
         requires first { has_core (shown self.old).kept x ≡ true }
         requires second { has_core (shown self.old).kept y ≡ true }
-        ensures goes_on { GoesOn (shown self.old) (shown self.new) (is_missed self.old) (is_missed self.new) (is_given self.old) (is_given self.new) }
+        ensures goes_on { GoesOn (shown self.old) (shown self.new) }
+        ensures lists { KeepsLists (shown self.new) }
         ensures told { IfOk result (λ before. (shown self.new).kept ≡ with_order (shown self.old).kept (record { x = x; y = y; before = before })) }
         ensures same { OnErr result ((shown self.new).kept ≡ (shown self.old).kept) }
-        ensures cause { IfErr result (λ fault. HasCause (shown self.old) (shown self.new) (is_missed self.new) fault) };
+        ensures cause { IfErr result (λ fault. HasViewCause (shown self.old) (shown self.new) fault) };
 
     /// Hands out all answers that were kept, each list in the order of asking, and keeps nothing.
     fn used(&mut self) -> Used
-        ensures lasts { Lasts (shown self.old) (shown self.new) (is_missed self.old) (is_missed self.new) (is_given self.old) (is_given self.new) }
+        ensures hands_out { HandsOut (shown self.old) (shown self.new) }
         ensures all { answers_in result ≡ (shown self.old).kept }
-        ensures given { is_given self.new (answers_in result) }
-        ensures emptied { (shown self.new).kept ≡ nothing_answered };
+        ensures given { (shown self.new).is_given (answers_in result) };
 }

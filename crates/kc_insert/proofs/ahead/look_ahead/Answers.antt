@@ -4,12 +4,13 @@ use Rattle.std.proofs.lemmas.Bool.{or_cases, or_right, and_parts, false_from_ne_
 use Rattle.std.proofs.lemmas.List.{take_all, take_more}
 use Rattle.kc_distinct.specs.Lists.{member}
 use Rattle.kc_distinct.proofs.Counting.{member-get_or, member-push, member-push_left, take-not_here}
+use Rattle.kc_distinct.proofs.Shared.{Distinct-grown}
 use Rattle.kc_graph.proofs.RowsLemmas.{Distinct-from_increasing}
 use Rattle.kc_view.specs.Answers.{has_core}
 use Rattle.kc_view.proofs.Keeping.{GoesOn-trans, agreed, still_has_core, still_has_list, same_list}
-use Rattle.kc_insert.specs.Added.{search_of, is_added}
+use Rattle.kc_insert.specs.Added.{search_with, is_added}
 use Rattle.kc_insert.specs.Turns.{side_in, is_ahead, is_next}
-use Rattle.kc_insert.proofs.Looking.{member-more, once-more, next-more, counted-more}
+use Rattle.kc_insert.proofs.Looking.{member-more, next-more, counted-more}
 use Rattle.kc_insert.proofs.ahead.look_ahead.Goals as goal
 
 few_more : (n' n i : ℕ) (b : Bool) → n ≤ i → n' ≡ n + cond b 1 0 → n' ≤ i + 1
@@ -48,7 +49,7 @@ loop-x-preserved g c =
     let out : member x next ≡ false = false_from_ne_true _ (λ m. true≢false (sym (i.from x m).0 ∙ late)) in
     let seam : take (n + 1) row ≡ take n row ++ x ∷ [] = take_more row n 0 l in
     record {
-      goes_on = GoesOn-trans _ _ _ _ _ _ _ _ _ i.goes_on e;
+      goes_on = GoesOn-trans _ _ _ i.goes_on e;
       few = few_more c.add.new.self.count c.loop-x.ahead.count n (is_ahead side) i.few c.in_ok-add.ensures.count;
       asks = λ queue asks. c.in_ok-side.ensures.asks queue (i.asks queue asks);
       from = λ y m. elim (or_cases (member y next) (eqb y x && is_next side) (sym (member-more (is_next side) x y next _ more) ∙ m)) [
@@ -57,17 +58,17 @@ loop-x-preserved g c =
             let at : y ≡ x = eqb-true y x (and_parts (eqb y x) (is_next side) k).0 in
             (ap (member y) seam ∙ (member-push y x (take n row) ∙ or_right (member y (take n row)) (eqb y x) (eq-eqb y x at)), ap (has_core (g.V.View.shown c.side_of.new.view).kept) at ∙ c.in_ok-side.ensures.placed)
       ];
-      once = once-more (is_next side) x next _ more i.once out;
+      once = Distinct-grown (is_next side) x next _ more i.once out;
       count = λ s a.
           let told = c.in_ok-side.ensures.told s a in
-          counted-more (search_of c.args.update c.args.level s) c.args.w x n c.loop-x.ahead.count c.add.new.self.count row side l refl told c.in_ok-add.ensures.count (i.count s (agreed _ _ s e.further a));
+          counted-more (search_with c.args.update c.args.level s) c.args.w x n c.loop-x.ahead.count c.add.new.self.count row side l refl told c.in_ok-add.ensures.count (i.count s (agreed _ _ s e.further a));
       next = λ s a y.
           let told = c.in_ok-side.ensures.told s a in
-          next-more (search_of c.args.update c.args.level s) c.args.w x y n row next _ side l refl told more (i.next s (agreed _ _ s e.further a) y);
+          next-more (search_with c.args.update c.args.level s) c.args.w x y n row next _ side l refl told more (i.next s (agreed _ _ s e.further a) y);
     }
 
 pub returns-clause-count : goal.returns-clause-count
 returns-clause-count g c = λ s a.
     let row : List ℕ = c.args.row.now in
-    let p : ℕ → Bool = λ y. is_ahead (side_in (search_of c.args.update c.args.level s) c.args.w y) in
+    let p : ℕ → Bool = λ y. is_ahead (side_in (search_with c.args.update c.args.level s) c.args.w y) in
     c.loop-x.invariant.count s a ∙ ap (count_by p) (take_all c.loop-x.x-index row (omega (arith, c.loop-x-test.false)))

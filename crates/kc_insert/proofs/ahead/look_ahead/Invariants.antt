@@ -4,8 +4,8 @@ use Rattle.kc_distinct.specs.Lists.{member, Distinct}
 use Rattle.kc_graph.specs.Lawful.{Ranked}
 use Rattle.kc_view.specs.Answers.{Agrees, has_core}
 use Rattle.kc_view.specs.Views.{GoesOn}
-use Rattle.kc_insert.specs.Added.{search_of}
-use Rattle.kc_insert.specs.Rising.{Asks}
+use Rattle.kc_insert.specs.Added.{search_with}
+use Rattle.kc_insert.specs.Rising.{AsksQueued}
 use Rattle.kc_insert.specs.Turns.{side_in, is_ahead, is_next}
 use Rattle.kc_insert.proofs.ahead.look_ahead.Given as goal
 
@@ -13,11 +13,11 @@ abbrev pub invariant-loop-x : goal.invariant-loop-x
 invariant-loop-x g l =
     let v = g.V.View in
     record {
-      goes_on : GoesOn (v.shown l.fn.view) (v.shown l.view) (v.is_missed l.fn.view) (v.is_missed l.view) (v.is_given l.fn.view) (v.is_given l.view);
+      goes_on : GoesOn (v.shown l.fn.view) (v.shown l.view);
       few : l.ahead.count ≤ l.x-index;
-      asks : (queue : List ℕ) → Asks l.update (v.shown l.fn.view).kept queue → Asks l.update (v.shown l.view).kept queue;
+      asks : (queue : List ℕ) → AsksQueued l.update (v.shown l.fn.view).kept queue → AsksQueued l.update (v.shown l.view).kept queue;
       from : (y : ℕ) → member y l.ahead.next.items ≡ true → (member y (take l.x-index l.row) ≡ true) × (has_core (v.shown l.view).kept y ≡ true);
       once : Distinct l.ahead.next.items;
-      count : (s : Ranked) → Agrees (v.shown l.view).kept s → l.ahead.count ≡ count_by (λ y. is_ahead (side_in (search_of l.update l.level s) l.w y)) (take l.x-index l.row);
-      next : (s : Ranked) → Agrees (v.shown l.view).kept s → (y : ℕ) → member y l.ahead.next.items ≡ (member y (take l.x-index l.row) && is_next (side_in (search_of l.update l.level s) l.w y));
+      count : (s : Ranked) → Agrees (v.shown l.view).kept s → l.ahead.count ≡ count_by (λ y. is_ahead (side_in (search_with l.update l.level s) l.w y)) (take l.x-index l.row);
+      next : (s : Ranked) → Agrees (v.shown l.view).kept s → (y : ℕ) → member y l.ahead.next.items ≡ (member y (take l.x-index l.row) && is_next (side_in (search_with l.update l.level s) l.w y));
     }

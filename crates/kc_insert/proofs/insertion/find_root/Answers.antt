@@ -22,7 +22,7 @@ first_end-requires-clause-asks g c =
     asks-core update one two [] update.v (asks-core update old one [] update.u c.requires.asks c.in_ok-first.ensures.told (inl refl)) c.in_ok-second.ensures.told (inr (inl refl))
 
 pub returns-clause-goes_on : goal.returns-clause-goes_on
-returns-clause-goes_on g c = GoesOn-trans _ _ _ _ _ _ _ _ _ (GoesOn-trans _ _ _ _ _ _ _ _ _ c.core_of.ensures.goes_on c.core_of-2.ensures.goes_on) c.first_end.ensures.goes_on
+returns-clause-goes_on g c = GoesOn-trans _ _ _ (GoesOn-trans _ _ _ c.core_of.ensures.goes_on c.core_of-2.ensures.goes_on) c.first_end.ensures.goes_on
 
 pub returns-clause-placed : goal.returns-clause-placed
 returns-clause-placed g c =

@@ -1,12 +1,9 @@
-use Rattle.std.proofs.Common.{◌≡◌, ◌<◌, ℕ, Bool, true, false, List, [], ◌∷◌, ◌++◌, length, eqb, refl, sym, ◌∙◌, ap, subst, arith, eqb-true}
+use Rattle.std.proofs.Common.{◌≡◌, ◌<◌, ℕ, Bool, true, false, List, [], ◌∷◌, ◌++◌, length, eqb, refl, sym, ◌∙◌, subst, arith, eqb-true}
 use Rattle.kc_distinct.specs.Lists.{member}
 use Rattle.kc_graph.specs.SimpleGraph.{adjacent}
-use Rattle.kc_graph.specs.Lawful.{Ranked}
-use Rattle.kc_graph.proofs.NeighbourLists.{neighbours_has}
-use Rattle.kc_view.specs.Answers.{Answers, Agrees, has_list, list_of}
-use Rattle.kc_view.proofs.Keeping.{GoesOn-trans, agreed, list-true, core-true}
+use Rattle.kc_view.proofs.Keeping.{GoesOn-trans, agreed, core-true, tells-edge}
 use Rattle.kc_cert.specs.Local.{firsts, seconds}
-use Rattle.kc_insert.specs.Added.{search_of}
+use Rattle.kc_insert.specs.Added.{search_with}
 use Rattle.kc_insert.specs.Rising.{cands}
 use Rattle.kc_insert.specs.Searching.{Widened}
 use Rattle.kc_insert.specs.declared.rising.Rising.{Rising}
@@ -14,10 +11,6 @@ use Rattle.kc_insert.proofs.Concluding.{named-read, asked-forward, nobody-sure, 
 use Rattle.kc_insert.proofs.Sureness.{kept-sure}
 use Rattle.kc_insert.proofs.Widening.{widened}
 use Rattle.kc_insert.proofs.insertion.moves_of.Goals as goal
-
--- the first list tells whether the edge is there
-tells-edge : (a : Answers) (s : Ranked) (u v : ℕ) (b : Bool) → Agrees a s → has_list a u ≡ true → v < s.graph.size → b ≡ member v (list_of a u) → adjacent s.graph u v ≡ b
-tells-edge a s u v b agrees read l is = sym (is ∙ (ap (member v) (list-true a s u agrees read).1 ∙ neighbours_has s.graph u v l))
 
 no_items : {A : Type 0} (xs : List A) (n : ℕ) (b : Bool) → length xs ≡ n → b ≡ eqb n 0 → b ≡ true → xs ≡ []
 no_items [] n b l e t = refl
@@ -29,10 +22,10 @@ returns-then-branch-clause-sure g c = λ s used h l a.
     kept-sure c.args.update used s c.requires.adds h l (tells-edge (g.V.View.shown c.has_edge.new.view).kept s c.args.update.u c.args.update.v c.in_ok-has_edge.field-0 a e.read l e.told ∙ c.if-branch.true)
 
 pub returns-in_err-rise-clause-goes_on : goal.returns-in_err-rise-clause-goes_on
-returns-in_err-rise-clause-goes_on g c = GoesOn-trans _ _ _ _ _ _ _ _ _ (GoesOn-trans _ _ _ _ _ _ _ _ _ c.has_edge.ensures.goes_on c.find_root.ensures.goes_on) c.find_rising.ensures.goes_on
+returns-in_err-rise-clause-goes_on g c = GoesOn-trans _ _ _ (GoesOn-trans _ _ _ c.has_edge.ensures.goes_on c.find_root.ensures.goes_on) c.find_rising.ensures.goes_on
 
 pub returns-then-is_empty-2-clause-goes_on : goal.returns-then-is_empty-2-clause-goes_on
-returns-then-is_empty-2-clause-goes_on g c = GoesOn-trans _ _ _ _ _ _ _ _ _ (GoesOn-trans _ _ _ _ _ _ _ _ _ c.has_edge.ensures.goes_on c.find_root.ensures.goes_on) c.find_rising.ensures.goes_on
+returns-then-is_empty-2-clause-goes_on g c = GoesOn-trans _ _ _ (GoesOn-trans _ _ _ c.has_edge.ensures.goes_on c.find_root.ensures.goes_on) c.find_rising.ensures.goes_on
 
 pub returns-then-is_empty-2-clause-asked : goal.returns-then-is_empty-2-clause-asked
 returns-then-is_empty-2-clause-asked g c = λ s h a.
@@ -42,7 +35,7 @@ returns-then-is_empty-2-clause-asked g c = λ s h a.
     let root = c.in_ok-root.root in
     let l : c.args.update.v < s.graph.size = (core-true (g.V.View.shown c.find_root.new.view).kept s c.args.update.v second c.in_ok-root.ensures.placed.1).0 in
     let new : adjacent s.graph c.args.update.u c.args.update.v ≡ false = tells-edge (g.V.View.shown c.has_edge.new.view).kept s c.args.update.u c.args.update.v c.in_ok-has_edge.field-0 first e.read l e.told ∙ c.if-branch.false in
-    let wide : Widened (search_of c.args.update root.level s) root.vertex = widened c.args.update s root.level root.vertex h l new (c.in_ok-root.ensures.level s second) (c.in_ok-root.ensures.root s second) in
+    let wide : Widened (search_with c.args.update root.level s) root.vertex = widened c.args.update s root.level root.vertex h l new (c.in_ok-root.ensures.level s second) (c.in_ok-root.ensures.root s second) in
     asked-forward c.args.update (g.V.View.shown c.find_rising.new.view) s root.level root.vertex c.in_ok-rising.rising c.requires.adds (c.in_ok-root.ensures.root s second) wide c.in_ok-rising.ensures.tidy (c.in_ok-rising.ensures.turns s l a wide)
 
 pub returns-then-is_empty-2-clause-sure : goal.returns-then-is_empty-2-clause-sure
@@ -54,13 +47,13 @@ returns-then-is_empty-2-clause-sure g c = λ s used h l a.
     let rise = c.in_ok-rise.rise in
     let shifts = c.in_ok-rising.rising.shifts in
     let new : adjacent s.graph c.args.update.u c.args.update.v ≡ false = tells-edge (g.V.View.shown c.has_edge.new.view).kept s c.args.update.u c.args.update.v c.in_ok-has_edge.field-0 first e.read l e.told ∙ c.if-branch.false in
-    let wide : Widened (search_of c.args.update root.level s) root.vertex = widened c.args.update s root.level root.vertex h l new (c.in_ok-root.ensures.level s second) (c.in_ok-root.ensures.root s second) in
+    let wide : Widened (search_with c.args.update root.level s) root.vertex = widened c.args.update s root.level root.vertex h l new (c.in_ok-root.ensures.level s second) (c.in_ok-root.ensures.root s second) in
     let none : cands c.in_ok-rising.rising ≡ [] = sym c.in_ok-rise.ensures ∙ no_items rise.items rise.len c.is_empty.result (sym rise.ok.0) c.is_empty.ensures c.if-is_empty.true in
     let still : shifts.items ≡ [] = no_items shifts.items shifts.len c.is_empty-then-is_empty.result (sym shifts.ok.0) c.is_empty-then-is_empty.ensures c.if-is_empty-2.true in
     nobody-sure c.args.update used s root.level root.vertex c.in_ok-rising.rising c.requires.adds h l new (c.in_ok-root.ensures.level s second) (c.in_ok-root.ensures.root s second) c.in_ok-rising.ensures.ended (c.in_ok-rising.ensures.turns s l a wide) none still
 
 pub returns-clause-goes_on : goal.returns-clause-goes_on
-returns-clause-goes_on g c = GoesOn-trans _ _ _ _ _ _ _ _ _ (GoesOn-trans _ _ _ _ _ _ _ _ _ c.has_edge.ensures.goes_on c.find_root.ensures.goes_on) c.find_rising.ensures.goes_on
+returns-clause-goes_on g c = GoesOn-trans _ _ _ (GoesOn-trans _ _ _ c.has_edge.ensures.goes_on c.find_root.ensures.goes_on) c.find_rising.ensures.goes_on
 
 pub returns-clause-asked : goal.returns-clause-asked
 returns-clause-asked g c = λ s h a.
@@ -70,7 +63,7 @@ returns-clause-asked g c = λ s h a.
     let root = c.in_ok-root.root in
     let l : c.args.update.v < s.graph.size = (core-true (g.V.View.shown c.find_root.new.view).kept s c.args.update.v second c.in_ok-root.ensures.placed.1).0 in
     let new : adjacent s.graph c.args.update.u c.args.update.v ≡ false = tells-edge (g.V.View.shown c.has_edge.new.view).kept s c.args.update.u c.args.update.v c.in_ok-has_edge.field-0 first e.read l e.told ∙ c.if-branch.false in
-    let wide : Widened (search_of c.args.update root.level s) root.vertex = widened c.args.update s root.level root.vertex h l new (c.in_ok-root.ensures.level s second) (c.in_ok-root.ensures.root s second) in
+    let wide : Widened (search_with c.args.update root.level s) root.vertex = widened c.args.update s root.level root.vertex h l new (c.in_ok-root.ensures.level s second) (c.in_ok-root.ensures.root s second) in
     asked-forward c.args.update (g.V.View.shown c.find_rising.new.view) s root.level root.vertex c.in_ok-rising.rising c.requires.adds (c.in_ok-root.ensures.root s second) wide c.in_ok-rising.ensures.tidy (c.in_ok-rising.ensures.turns s l a wide)
 
 pub returns-clause-named : goal.returns-clause-named
@@ -85,6 +78,6 @@ returns-clause-sure g c = λ s used h l a.
     let first = agreed _ _ s c.find_root.ensures.goes_on.further second in
     let root = c.in_ok-root.root in
     let new : adjacent s.graph c.args.update.u c.args.update.v ≡ false = tells-edge (g.V.View.shown c.has_edge.new.view).kept s c.args.update.u c.args.update.v c.in_ok-has_edge.field-0 first e.read l e.told ∙ c.if-branch.false in
-    let wide : Widened (search_of c.args.update root.level s) root.vertex = widened c.args.update s root.level root.vertex h l new (c.in_ok-root.ensures.level s second) (c.in_ok-root.ensures.root s second) in
+    let wide : Widened (search_with c.args.update root.level s) root.vertex = widened c.args.update s root.level root.vertex h l new (c.in_ok-root.ensures.level s second) (c.in_ok-root.ensures.root s second) in
     some-sure c.args.update used s root.level root.vertex c.in_ok-rising.rising c.in_ok-rise.rise c.requires.adds h l new (c.in_ok-root.ensures.level s second) (c.in_ok-root.ensures.root s second)
     c.in_ok-rising.ensures.tidy.orderly c.in_ok-rising.ensures.ended (c.in_ok-rising.ensures.turns s l a wide) c.in_ok-rise.ensures

@@ -1,5 +1,7 @@
+-- What the search asked is what the plan hands out.
 use Rattle.std.proofs.Common.{sym, subst}
-use Rattle.kc_view.specs.Answers.{Answers, Agrees}
+use Rattle.kc_view.specs.Answers.{Answers, Agrees, answers_in}
+use Rattle.kc_view.proofs.Handing.{handed-lists}
 use Rattle.kc_insert.specs.Sure.{AskForward}
 use Rattle.kc_insert.proofs.insertion.plan.Goals as goal
 
@@ -9,3 +11,8 @@ returns-clause-sure g c = λ s h l a.
 
 pub returns-clause-asked : goal.returns-clause-asked
 returns-clause-asked g c = subst (AskForward c.args.update) (sym c.used-used.ensures.all) c.in_ok-moves.ensures.asked
+
+pub returns-clause-lists : goal.returns-clause-lists
+returns-clause-lists g c =
+    handed-lists (g.V.View.shown c.args.view.now) (g.V.View.shown c.moves_of.new.view) (g.V.View.shown c.used-used.new.self) (answers_in c.used-used.result)
+    c.requires.fresh c.moves_of.ensures.goes_on c.used-used.ensures.hands_out c.used-used.ensures.all

@@ -35,7 +35,7 @@ loop-x-preserved g c =
     let late : member x (take n next) ≡ false = take-not_here n next l c.requires.once in
     let t = i.tidy c.requires.tidy.0 c.requires.tidy.1 in
     record {
-      goes_on = GoesOn-trans _ _ _ _ _ _ _ _ _ i.goes_on e;
+      goes_on = GoesOn-trans _ _ _ i.goes_on e;
       tidy = λ update k. o.tidy update (i.tidy update k);
       passed = subst (λ (xs : List ℕ). PassedOn xs c.args.rising.now c.pass.new.rising) (sym (take_more next n 0 l)) (passed-more x (take n next) c.args.rising.now c.loop-x.rising c.pass.new.rising t.orderly i.passed o.passes late);
       ascends = λ s a stand up.

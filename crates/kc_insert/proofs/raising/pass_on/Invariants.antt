@@ -5,7 +5,7 @@ use Rattle.kc_graph.specs.declared.update.Update.{Update}
 use Rattle.kc_cert.specs.Ranks.{rank_in, AscendsBy}
 use Rattle.kc_view.specs.Answers.{Agrees}
 use Rattle.kc_view.specs.Views.{GoesOn}
-use Rattle.kc_insert.specs.Rising.{IsTidy}
+use Rattle.kc_insert.specs.Rising.{IsTidyRising}
 use Rattle.kc_insert.specs.Turns.{PassedOn, StandsBehindLeft}
 use Rattle.kc_insert.proofs.raising.pass_on.Given as goal
 
@@ -13,8 +13,8 @@ abbrev pub invariant-loop-x : goal.invariant-loop-x
 invariant-loop-x g l =
     let v = g.V.View in
     record {
-      goes_on : GoesOn (v.shown l.fn.view) (v.shown l.view) (v.is_missed l.fn.view) (v.is_missed l.view) (v.is_given l.fn.view) (v.is_given l.view);
-      tidy : (update : Update) → IsTidy update (v.shown l.fn.view) l.fn.rising → IsTidy update (v.shown l.view) l.rising;
+      goes_on : GoesOn (v.shown l.fn.view) (v.shown l.view);
+      tidy : (update : Update) → IsTidyRising update (v.shown l.fn.view) l.fn.rising → IsTidyRising update (v.shown l.view) l.rising;
       passed : PassedOn (take l.x-index l.next) l.fn.rising l.rising;
       ascends : (s : Ranked) → Agrees (v.shown l.view).kept s → ((y : ℕ) → member y l.next ≡ true → StandsBehindLeft (rank_in s.order) l.fn.rising l.next y) → AscendsBy (rank_in s.order) l.fn.rising.queue.items → AscendsBy (rank_in s.order) l.rising.queue.items;
     }

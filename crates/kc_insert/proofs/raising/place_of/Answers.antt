@@ -14,7 +14,7 @@ loop-low-init g c =
     let o = c.requires.tidy.1.orderly in
     let all : c.len-high.result ≡ length r.queue.items = omega (arith, c.len-high.ensures, r.queue.ok.0) in
     record {
-      goes_on = GoesOn-refl _ _ _;
+      goes_on = GoesOn-refl _;
       tidy = λ update t. t;
       from = omega arith;
       up = omega (arith, all, o.turn_in);
@@ -41,7 +41,7 @@ loop-low-preserved-then-branch g c =
     let l : c.loop-low.low + (c.loop-low.high - c.loop-low.low) / 2 < length r.queue.items = omega (arith, c.loop-low-test.true, i.within) in
     let at : c.index.result.now ≡ get_or r.queue.items (c.loop-low.low + (c.loop-low.high - c.loop-low.low) / 2) 0 = get_or_read r.queue.items _ _ l c.index.ensures 0 in
     record {
-      goes_on = GoesOn-trans _ _ _ _ _ _ _ _ _ i.goes_on e;
+      goes_on = GoesOn-trans _ _ _ i.goes_on e;
       tidy = λ update t. let k = i.tidy update t in tidy-view update _ _ r k e.lasts.same_size e.further (asks-order update _ _ r.queue.items _ k.asks c.in_ok-stands_before.ensures.told);
       from = omega (arith, i.from);
       up = omega (arith, c.loop-low-test.true);
@@ -59,7 +59,7 @@ loop-low-preserved g c =
     let l : c.loop-low.low + (c.loop-low.high - c.loop-low.low) / 2 < length r.queue.items = omega (arith, c.loop-low-test.true, i.within) in
     let at : c.index.result.now ≡ get_or r.queue.items (c.loop-low.low + (c.loop-low.high - c.loop-low.low) / 2) 0 = get_or_read r.queue.items _ _ l c.index.ensures 0 in
     record {
-      goes_on = GoesOn-trans _ _ _ _ _ _ _ _ _ i.goes_on e;
+      goes_on = GoesOn-trans _ _ _ i.goes_on e;
       tidy = λ update t. let k = i.tidy update t in tidy-view update _ _ r k e.lasts.same_size e.further (asks-order update _ _ r.queue.items _ k.asks c.in_ok-stands_before.ensures.told);
       from = i.from;
       up = omega (arith, c.loop-low-test.true);

@@ -5,7 +5,7 @@ use Rattle.kc_graph.specs.declared.update.Update.{Update}
 use Rattle.kc_cert.specs.Ranks.{rank_in, AscendsBy}
 use Rattle.kc_view.specs.Answers.{Agrees}
 use Rattle.kc_view.specs.Views.{GoesOn}
-use Rattle.kc_insert.specs.Rising.{left, IsTidy}
+use Rattle.kc_insert.specs.Rising.{left, IsTidyRising}
 use Rattle.kc_insert.specs.Turns.{IsPlaceWithin}
 use Rattle.kc_insert.proofs.raising.place_of.Given as goal
 
@@ -13,8 +13,8 @@ abbrev pub invariant-loop-low : goal.invariant-loop-low
 invariant-loop-low g l =
     let v = g.V.View in
     record {
-      goes_on : GoesOn (v.shown l.fn.view) (v.shown l.view) (v.is_missed l.fn.view) (v.is_missed l.view) (v.is_given l.fn.view) (v.is_given l.view);
-      tidy : (update : Update) → IsTidy update (v.shown l.fn.view) l.rising → IsTidy update (v.shown l.view) l.rising;
+      goes_on : GoesOn (v.shown l.fn.view) (v.shown l.view);
+      tidy : (update : Update) → IsTidyRising update (v.shown l.fn.view) l.rising → IsTidyRising update (v.shown l.view) l.rising;
       from : l.rising.turn ≤ l.low;
       up : l.low ≤ l.high;
       within : l.high ≤ length l.rising.queue.items;

@@ -1,7 +1,8 @@
-use Rattle.std.proofs.Common.{◌≡◌, ◌<◌, ◌||◌, ℕ, Bool, true, List, length, get_or, eqb, sym, ◌∙◌, ap, subst, arith, eqb-true}
+use Rattle.std.proofs.Common.{◌≡◌, ◌<◌, ℕ, List, length, get_or, eqb, sym, ◌∙◌, ap, subst, eqb-true}
 use Rattle.std.specs.List.Sorted.{IsStrictlyIncreasing}
 use Rattle.kc_distinct.specs.Lists.{member}
 use Rattle.kc_distinct.proofs.Counting.{member-get_or}
+use Rattle.kc_distinct.proofs.Shared.{or-absorbs}
 use Rattle.kc_graph.specs.Rows.{IsPlace}
 use Rattle.kc_graph.proofs.Inserting.{inserted_found}
 use Rattle.kc_insert.proofs.row.put_in.Goals as goal
@@ -18,13 +19,10 @@ returns-in_ok-insert-clause-has c = λ y.
     let found = subst (λ (t : List ℕ). IsPlace t c.args.other c.place_in.result) c.deref.ensures.value c.place_in.ensures in
     ap (member y) c.in_ok-insert.ensures.items ∙ (inserted_found row c.args.other c.in-Err.place c.place_in.result c.in-Err.is c.requires found).gained y
 
-there : (m e : Bool) → (e ≡ true → m ≡ true) → m ≡ (m || e)
-there m e h = grind arith
-
 pub returns-in_default-clause-has : goal.returns-in_default-clause-has
 returns-in_default-clause-has c = λ y.
     let row : List ℕ = c.args.row.now.items in
     let p = c.in_default.ensures in
     let l : c.in_default.field-0 < length row = subst (λ (t : List ℕ). c.in_default.field-0 < length t) c.deref.ensures.value p.0 in
     let at : get_or row c.in_default.field-0 0 ≡ c.args.other = ap (λ t. get_or t c.in_default.field-0 0) (sym c.deref.ensures.value) ∙ p.1 in
-    there (member y row) (eqb y c.args.other) (λ e. ap (λ k. member k row) (eqb-true y c.args.other e ∙ sym at) ∙ member-get_or row c.in_default.field-0 0 l)
+    or-absorbs (member y row) (eqb y c.args.other) (λ e. ap (λ k. member k row) (eqb-true y c.args.other e ∙ sym at) ∙ member-get_or row c.in_default.field-0 0 l)

@@ -17,7 +17,7 @@ loop-alloc-preserved g c =
     let i = c.loop-alloc.invariant in
     let o = c.in_ok-anchor.ensures in
     record {
-      goes_on = GoesOn-trans _ _ _ _ _ _ _ _ _ i.goes_on o.goes_on;
+      goes_on = GoesOn-trans _ _ _ i.goes_on o.goes_on;
       tidy = o.tidy;
       anchor = o.evicted;
       turn = o.turn ∙ i.turn;

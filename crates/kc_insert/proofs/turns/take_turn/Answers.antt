@@ -11,8 +11,8 @@ use Rattle.kc_view.specs.Answers.{Answers, Agrees, has_list, list_of}
 use Rattle.kc_view.specs.Lists.{IsListOf}
 use Rattle.kc_view.specs.Views.{Shown, Further}
 use Rattle.kc_view.proofs.Keeping.{GoesOn-trans, agreed, still_has_list, same_list}
-use Rattle.kc_insert.specs.Added.{search_of, is_added}
-use Rattle.kc_insert.specs.Rising.{Asks, IsTidy}
+use Rattle.kc_insert.specs.Added.{search_with, is_added}
+use Rattle.kc_insert.specs.Rising.{AsksQueued, IsTidyRising}
 use Rattle.kc_insert.specs.Turns.{Leaves, side_in, is_ahead, is_next, IsAheadOf}
 use Rattle.kc_insert.specs.declared.ahead.Ahead.{Ahead}
 use Rattle.kc_insert.specs.declared.rising.Mark.{Mark}
@@ -23,16 +23,16 @@ use Rattle.kc_insert.proofs.Tidy.{tidy-view, leave-tidy}
 use Rattle.kc_insert.proofs.turns.take_turn.Goals as goal
 
 -- the row was read, and all on it were looked at
-looked-tidy : (update : Update) (a b c : Shown) (r : Rising) (w : ℕ) → IsTidy update a r → member w r.queue.items ≡ true → b.size ≡ a.size → c.size ≡ b.size → Further a.kept b.kept → Further b.kept c.kept
-    → ((queue : List ℕ) → Asks update a.kept queue → (w ≡ update.u) ⊎ (member w queue ≡ true) → Asks update b.kept queue) → ((queue : List ℕ) → Asks update b.kept queue → Asks update c.kept queue) → IsTidy update c r
+looked-tidy : (update : Update) (a b c : Shown) (r : Rising) (w : ℕ) → IsTidyRising update a r → member w r.queue.items ≡ true → b.size ≡ a.size → c.size ≡ b.size → Further a.kept b.kept → Further b.kept c.kept
+    → ((queue : List ℕ) → AsksQueued update a.kept queue → (w ≡ update.u) ⊎ (member w queue ≡ true) → AsksQueued update b.kept queue) → ((queue : List ℕ) → AsksQueued update b.kept queue → AsksQueued update c.kept queue) → IsTidyRising update c r
 looked-tidy update a b c r w t m same same' further further' first second =
     let queue : List ℕ = r.queue.items in
-    let asks : Asks update b.kept queue = first queue t.asks (inr m) in
+    let asks : AsksQueued update b.kept queue = first queue t.asks (inr m) in
     tidy-view update b c r (tidy-view update a b r t same further asks) same' further' (second queue asks)
 
 looked-ahead : (a b : Answers) (s : Ranked) (update : Update) (level size w : ℕ) (row items : List ℕ) (ahead : Ahead) → Further a b → Agrees b s → update.v < s.graph.size → has_list a w ≡ true → IsListOf size w items → row ≡ items
-    → ((y : ℕ) → member y items ≡ (member y (list_of a w) || is_added update w y)) → ahead.count ≡ count_by (λ y. is_ahead (side_in (search_of update level s) w y)) row
-    → ((y : ℕ) → member y ahead.next.items ≡ (member y row && is_next (side_in (search_of update level s) w y))) → IsAheadOf (search_of update level s) w ahead
+    → ((y : ℕ) → member y items ≡ (member y (list_of a w) || is_added update w y)) → ahead.count ≡ count_by (λ y. is_ahead (side_in (search_with update level s) w y)) row
+    → ((y : ℕ) → member y ahead.next.items ≡ (member y row && is_next (side_in (search_with update level s) w y))) → IsAheadOf (search_with update level s) w ahead
 looked-ahead a b s update level size w row items ahead further g l h list same has counted next =
     ahead-of a s update level size w row ahead (agreed a b s further g) l h (subst (IsListOf size w) (sym same) list) (λ y. ap (member y) same ∙ has y) counted next
 
@@ -69,7 +69,7 @@ raise-requires-clause-tidy g c =
     )
 
 pub returns-then-saturating_add-level-clause-goes_on : goal.returns-then-saturating_add-level-clause-goes_on
-returns-then-saturating_add-level-clause-goes_on g c = GoesOn-trans _ _ _ _ _ _ _ _ _ (GoesOn-trans _ _ _ _ _ _ _ _ _ c.row_of.ensures.goes_on c.look_ahead.ensures.goes_on) c.raise.ensures.goes_on
+returns-then-saturating_add-level-clause-goes_on g c = GoesOn-trans _ _ _ (GoesOn-trans _ _ _ c.row_of.ensures.goes_on c.look_ahead.ensures.goes_on) c.raise.ensures.goes_on
 
 pub returns-then-saturating_add-level-clause-tidy : goal.returns-then-saturating_add-level-clause-tidy
 returns-then-saturating_add-level-clause-tidy g c =
@@ -109,7 +109,7 @@ settle-requires-clause-tidy g c =
     one.lasts.same_size two.lasts.same_size one.further two.further c.in_ok-row.ensures.asks c.in_ok-ahead.ensures.asks
 
 pub returns-then-earlier-gt0-clause-goes_on : goal.returns-then-earlier-gt0-clause-goes_on
-returns-then-earlier-gt0-clause-goes_on g c = GoesOn-trans _ _ _ _ _ _ _ _ _ (GoesOn-trans _ _ _ _ _ _ _ _ _ c.row_of.ensures.goes_on c.look_ahead.ensures.goes_on) c.settle.ensures.goes_on
+returns-then-earlier-gt0-clause-goes_on g c = GoesOn-trans _ _ _ (GoesOn-trans _ _ _ c.row_of.ensures.goes_on c.look_ahead.ensures.goes_on) c.settle.ensures.goes_on
 
 pub returns-then-earlier-gt0-clause-turns : goal.returns-then-earlier-gt0-clause-turns
 returns-then-earlier-gt0-clause-turns g c = on_ok_weaker c.settle.result (λ settled. λ s root lv a wd b.
@@ -140,5 +140,5 @@ returns-clause-turns g c = λ s root lv a wd b.
     let ahead-is = looked-ahead (g.V.View.shown c.row_of.new.view).kept (g.V.View.shown c.look_ahead.new.view).kept s c.args.update c.args.level (g.V.View.shown c.row_of.new.view).size w c.deref.result.now c.in_ok-row.row.items c.in_ok-ahead.ahead
     c.look_ahead.ensures.goes_on.further a lv c.in_ok-row.ensures.told.told c.in_ok-row.ensures.row c.deref.ensures.value c.in_ok-row.ensures.has (c.in_ok-ahead.ensures.count s a) (c.in_ok-ahead.ensures.next s a) in
     let few = within-level c.earlier_of-earlier.result c.in_ok-ahead.ahead.count c.args.level c.saturating_add.result c.saturating_add.ensures c.if-saturating_add-level.false c.ranges.level.fits in
-    pass-between (search_of c.args.update c.args.level s) root w r c.leave.new.self wd c.requires.tidy.orderly c.requires.turn (sym first)
+    pass-between (search_with c.args.update c.args.level s) root w r c.leave.new.self wd c.requires.tidy.orderly c.requires.turn (sym first)
     (subst (λ (m : Mark). Leaves w m r c.leave.new.self) c.past.ensures c.in_ok-leave.ensures) (omega (arith, few, ahead-is.count)) (omega (arith, c.if-earlier-gt0.false, c.earlier_of-earlier.ensures)) b

@@ -16,7 +16,7 @@ loop-rising-preserved g c =
     let o = c.in_ok-take_turn.ensures in
     let e = c.take_turn.ensures.goes_on in
     record {
-      goes_on = GoesOn-trans _ _ _ _ _ _ _ _ _ i.goes_on e;
+      goes_on = GoesOn-trans _ _ _ i.goes_on e;
       tidy = o.tidy;
       turns = λ s root lv a w b. o.turns s root lv a w (i.turns s root lv (agreed _ _ s e.further a) w b);
     }

@@ -1,17 +1,9 @@
-use Rattle.std.proofs.Common.{◌≡◌, ◌<◌, ℕ, Bool, true, List, [], ◌∷◌, length, eqb, refl, sym, ◌∙◌, ap, subst, arith, eqb-true}
-use Rattle.kc_distinct.specs.Lists.{member}
+use Rattle.std.proofs.Common.{◌≡◌, ◌<◌, ℕ, Bool, true, List, [], ◌∷◌, length, eqb, refl, sym, ◌∙◌, subst, arith, eqb-true}
 use Rattle.kc_graph.specs.SimpleGraph.{adjacent}
-use Rattle.kc_graph.specs.Lawful.{Ranked}
-use Rattle.kc_graph.proofs.NeighbourLists.{neighbours_has}
-use Rattle.kc_view.specs.Answers.{Answers, Agrees, has_list, list_of}
-use Rattle.kc_view.proofs.Keeping.{agreed, list-true}
-use Rattle.kc_remove.specs.Falling.{Asks}
+use Rattle.kc_view.proofs.Keeping.{agreed, tells-edge}
+use Rattle.kc_remove.specs.Falling.{AsksNear}
 use Rattle.kc_remove.proofs.Sureness.{kept-sure, plain-sure, fall-sure, some-level}
 use Rattle.kc_remove.proofs.removal.moves_of.Goals as goal
-
--- the first list tells whether the edge is there
-tells-edge : (a : Answers) (s : Ranked) (u v : ℕ) (b : Bool) → Agrees a s → has_list a u ≡ true → v < s.graph.size → b ≡ member v (list_of a u) → adjacent s.graph u v ≡ b
-tells-edge a s u v b agrees read l is = sym (is ∙ (ap (member v) (list-true a s u agrees read).1 ∙ neighbours_has s.graph u v l))
 
 no_items : (xs : List ℕ) (n : ℕ) (b : Bool) → length xs ≡ n → b ≡ eqb n 0 → b ≡ true → xs ≡ []
 no_items [] n b l e t = refl
@@ -34,7 +26,7 @@ pub returns-then-is_empty-clause-asks : goal.returns-then-is_empty-clause-asks
 returns-then-is_empty-clause-asks g c =
     let list = c.in_ok-list.field-0.list in
     let none : list.items ≡ [] = no_items list.items list.len c.is_empty.result (sym list.ok.0) c.is_empty.ensures c.if-is_empty.true in
-    subst (Asks c.args.update (g.V.View.shown c.find_fallen.new.view).kept) none c.in_ok-list.ensures.tidy.asks
+    subst (AsksNear c.args.update (g.V.View.shown c.find_fallen.new.view).kept) none c.in_ok-list.ensures.tidy.asks
 
 pub returns-then-is_empty-clause-sure : goal.returns-then-is_empty-clause-sure
 returns-then-is_empty-clause-sure g c = λ s used h l a.

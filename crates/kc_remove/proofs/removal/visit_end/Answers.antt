@@ -18,7 +18,7 @@ visit-requires-clause-tidy g c =
     (nearby c.args.update (g.V.View.shown c.args.view.now).kept c.args.end c.requires.is_end)
 
 pub returns-in_ok-visit-clause-goes_on : goal.returns-in_ok-visit-clause-goes_on
-returns-in_ok-visit-clause-goes_on g c = GoesOn-trans _ _ _ _ _ _ _ _ _ c.core_of.ensures.goes_on c.visit.ensures.goes_on
+returns-in_ok-visit-clause-goes_on g c = GoesOn-trans _ _ _ c.core_of.ensures.goes_on c.visit.ensures.goes_on
 
 pub returns-in_ok-visit-clause-falls : goal.returns-in_ok-visit-clause-falls
 returns-in_ok-visit-clause-falls g c = λ s a falls.

@@ -4,9 +4,9 @@ use Rattle.std.proofs.Math.Seq.{take-length}
 use Rattle.std.proofs.lemmas.List.Sums.{count_by_more_yes, count_by_more_no}
 use Rattle.kc_graph.specs.Neighbours.{neighbours_of}
 use Rattle.kc_view.specs.Answers.{list_of}
-use Rattle.kc_view.proofs.Keeping.{GoesOn-trans, still_has_list, same_list, agreed, list-true}
+use Rattle.kc_view.proofs.Keeping.{GoesOn-trans, kept-list, still_has_list, same_list, agreed, list-true}
 use Rattle.kc_remove.specs.Cascade.{support}
-use Rattle.kc_remove.specs.Removed.{search_of, is_counted}
+use Rattle.kc_remove.specs.Removed.{search_without, is_counted}
 use Rattle.kc_remove.proofs.Listed.{counted-all, row-vertex}
 use Rattle.kc_remove.proofs.support.count_support.Goals as goal
 use Rattle.kc_remove.proofs.support.count_support.Goals.{then-branch, else-branch}
@@ -24,7 +24,7 @@ counts-requires-clause-vertex g c =
     let i = c.loop-i.invariant in
     let old = g.V.View.shown c.args.view.now in
     let row = list_of old.kept c.args.x in
-    row-vertex old.size _ c.args.x c.loop-i.i c.neighbour-y.result row c.requires.list (omega (arith, c.requires.degree, c.loop-i-test.true)) (c.neighbour-y.ensures ∙ ap (λ xs. get_or xs c.loop-i.i 0) i.row) i.goes_on.lasts.same_size
+    row-vertex old.size _ c.args.x c.loop-i.i c.neighbour-y.result row (kept-list (g.V.View.shown c.args.view.now).size c.args.x (g.V.View.shown c.args.view.now).kept c.requires.lists c.requires.read) (omega (arith, c.requires.degree, c.loop-i-test.true)) (c.neighbour-y.ensures ∙ ap (λ xs. get_or xs c.loop-i.i 0) i.row) i.goes_on.lasts.same_size
 
 pub loop-i-preserved : goal.loop-i-preserved
 loop-i-preserved g c =
@@ -32,7 +32,7 @@ loop-i-preserved g c =
     let e = c.counts.ensures.goes_on in
     let row = list_of (g.V.View.shown c.args.view.now).kept c.args.x in
     record {
-      goes_on = GoesOn-trans _ _ _ _ _ _ _ _ _ i.goes_on e;
+      goes_on = GoesOn-trans _ _ _ i.goes_on e;
       read = still_has_list _ _ c.args.x e.further i.read;
       row = same_list _ _ c.args.x e.further i.read ∙ i.row;
       tidy = c.in_ok-counts.ensures.tidy;
@@ -57,6 +57,6 @@ returns-clause-told g c = λ s a.
     let all : take c.loop-i.i row ≡ row = ap (λ n. take n row) (omega (arith, c.loop-i-test.false, c.loop-i.auto.i-end, c.requires.degree)) ∙ take-length row in
     let same : row ≡ neighbours_of s.graph c.args.x = sym i.row ∙ (list-true _ s c.args.x a i.read).1 in
     let whole : count_by p (take c.loop-i.i row) ≡ count_by p row = ap (count_by p) all in
-    let counted : count_by p row ≡ support (search_of c.args.update c.args.level s) c.args.falling.now.list.items c.args.x =
-    counted-all c.args.update c.args.level s c.args.falling.now.list.items (g.V.View.shown c.args.view.now).size c.args.x row c.requires.list same in
+    let counted : count_by p row ≡ support (search_without c.args.update c.args.level s) c.args.falling.now.list.items c.args.x =
+    counted-all c.args.update c.args.level s c.args.falling.now.list.items (g.V.View.shown c.args.view.now).size c.args.x row (kept-list (g.V.View.shown c.args.view.now).size c.args.x (g.V.View.shown c.args.view.now).kept c.requires.lists c.requires.read) same in
     omega (arith, i.told s a, whole, counted)

@@ -13,10 +13,10 @@ count_support-requires-clause-tidy g c =
     tidy-list c.args.update (g.V.View.shown c.args.view.now) (g.V.View.shown c.degree_of.new.view) c.args.falling.now c.args.y r.tidy e.lasts.same_size e.further c.in_ok-degree.ensures.told r.near
 
 pub returns-in_err-settle-clause-goes_on : goal.returns-in_err-settle-clause-goes_on
-returns-in_err-settle-clause-goes_on g c = GoesOn-trans _ _ _ _ _ _ _ _ _ c.degree_of.ensures.goes_on c.count_support.ensures.goes_on
+returns-in_err-settle-clause-goes_on g c = GoesOn-trans _ _ _ c.degree_of.ensures.goes_on c.count_support.ensures.goes_on
 
 pub returns-clause-goes_on : goal.returns-clause-goes_on
-returns-clause-goes_on g c = GoesOn-trans _ _ _ _ _ _ _ _ _ c.degree_of.ensures.goes_on c.count_support.ensures.goes_on
+returns-clause-goes_on g c = GoesOn-trans _ _ _ c.degree_of.ensures.goes_on c.count_support.ensures.goes_on
 
 pub returns-clause-tidy : goal.returns-clause-tidy
 returns-clause-tidy g c =

@@ -36,7 +36,7 @@ visit-requires-clause-tidy g c =
     tidy-neighbour c.args.update (g.V.View.shown c.args.view.now) (g.V.View.shown c.core_of.new.view) c.args.falling.now c.args.x c.args.y c.requires.tidy (e.lasts.same_size, e.further) c.in_ok-core.ensures.told c.requires.read c.requires.neighbour
 
 pub returns-in_default-clause-goes_on : goal.returns-in_default-clause-goes_on
-returns-in_default-clause-goes_on g c = GoesOn-trans _ _ _ _ _ _ _ _ _ c.core_of.ensures.goes_on c.visit.ensures.goes_on
+returns-in_default-clause-goes_on g c = GoesOn-trans _ _ _ c.core_of.ensures.goes_on c.visit.ensures.goes_on
 
 pub returns-in_default-clause-falls : goal.returns-in_default-clause-falls
 returns-in_default-clause-falls g c = λ s row a new' falls.

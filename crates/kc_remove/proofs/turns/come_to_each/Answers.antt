@@ -5,7 +5,7 @@ use Rattle.kc_distinct.proofs.Counting.{take-not_here}
 use Rattle.kc_graph.proofs.RowsLemmas.{Distinct-from_increasing}
 use Rattle.kc_graph.specs.Neighbours.{neighbours_of}
 use Rattle.kc_view.specs.Answers.{list_of}
-use Rattle.kc_view.proofs.Keeping.{GoesOn-trans, still_has_list, same_list, agreed, list-true}
+use Rattle.kc_view.proofs.Keeping.{GoesOn-trans, kept-list, still_has_list, same_list, agreed, list-true}
 use Rattle.kc_remove.specs.Removed.{has_come}
 use Rattle.kc_remove.specs.Falling.{FallsIn}
 use Rattle.kc_remove.proofs.Falls.{take-more}
@@ -17,7 +17,7 @@ pub come_to-requires-clause-vertex : goal.come_to-requires-clause-vertex
 come_to-requires-clause-vertex g c =
     let i = c.loop-i.invariant in
     let old = g.V.View.shown c.args.view.now in
-    row-vertex old.size _ c.args.x c.loop-i.i c.neighbour-y.result (list_of old.kept c.args.x) c.requires.list (omega (arith, c.requires.degree, c.loop-i-test.true)) (c.neighbour-y.ensures ∙ ap (λ xs. get_or xs c.loop-i.i 0) i.row) i.goes_on.lasts.same_size
+    row-vertex old.size _ c.args.x c.loop-i.i c.neighbour-y.result (list_of old.kept c.args.x) (kept-list (g.V.View.shown c.args.view.now).size c.args.x (g.V.View.shown c.args.view.now).kept c.requires.lists c.requires.read) (omega (arith, c.requires.degree, c.loop-i-test.true)) (c.neighbour-y.ensures ∙ ap (λ xs. get_or xs c.loop-i.i 0) i.row) i.goes_on.lasts.same_size
 
 pub loop-i-preserved : goal.loop-i-preserved
 loop-i-preserved g c =
@@ -28,9 +28,9 @@ loop-i-preserved g c =
     let l : c.loop-i.i < length row = omega (arith, c.requires.degree, c.loop-i-test.true) in
     let at : c.neighbour-y.result ≡ get_or row c.loop-i.i 0 = c.neighbour-y.ensures ∙ ap (λ xs. get_or xs c.loop-i.i 0) i.row in
     let seam : take (c.loop-i.i + 1) row ≡ take c.loop-i.i row ++ c.neighbour-y.result ∷ [] = take-more c.loop-i.i row l ∙ ap (λ n. take c.loop-i.i row ++ n ∷ []) (sym at) in
-    let not_yet : member c.neighbour-y.result (take c.loop-i.i row) ≡ false = ap (λ n. member n (take c.loop-i.i row)) at ∙ take-not_here c.loop-i.i row l (Distinct-from_increasing row c.requires.list.ascends) in
+    let not_yet : member c.neighbour-y.result (take c.loop-i.i row) ≡ false = ap (λ n. member n (take c.loop-i.i row)) at ∙ take-not_here c.loop-i.i row l (Distinct-from_increasing row (kept-list (g.V.View.shown c.args.view.now).size c.args.x (g.V.View.shown c.args.view.now).kept c.requires.lists c.requires.read).ascends) in
     record {
-      goes_on = GoesOn-trans _ _ _ _ _ _ _ _ _ i.goes_on e;
+      goes_on = GoesOn-trans _ _ _ i.goes_on e;
       read = still_has_list _ _ c.args.x e.further i.read;
       row = same_list _ _ c.args.x e.further i.read ∙ i.row;
       tidy = o.tidy;

@@ -4,17 +4,17 @@ use Rattle.kc_view.specs.Answers.{Agrees, has_list, list_of}
 use Rattle.kc_view.specs.Views.{GoesOn}
 use Rattle.kc_remove.specs.Cascade.{nobody}
 use Rattle.kc_remove.specs.Removed.{has_come}
-use Rattle.kc_remove.specs.Falling.{is_visited, IsTidy, FallsIn}
+use Rattle.kc_remove.specs.Falling.{is_visited, IsTidyFalling, FallsIn}
 use Rattle.kc_remove.proofs.turns.come_to_each.Given as goal
 
 abbrev pub invariant-loop-i : goal.invariant-loop-i
 invariant-loop-i g l =
     let v = g.V.View in
     record {
-      goes_on : GoesOn (v.shown l.fn.view) (v.shown l.view) (v.is_missed l.fn.view) (v.is_missed l.view) (v.is_given l.fn.view) (v.is_given l.view);
+      goes_on : GoesOn (v.shown l.fn.view) (v.shown l.view);
       read : has_list (v.shown l.view).kept l.x ≡ true;
       row : list_of (v.shown l.view).kept l.x ≡ list_of (v.shown l.fn.view).kept l.x;
-      tidy : IsTidy l.update (v.shown l.view) l.falling;
+      tidy : IsTidyFalling l.update (v.shown l.view) l.falling;
       still : (z : ℕ) → is_visited l.fn.falling z ≡ true → is_visited l.falling z ≡ true;
       longer : l.turn < length l.falling.list.items;
       at : get_or l.falling.list.items l.turn 0 ≡ l.x;

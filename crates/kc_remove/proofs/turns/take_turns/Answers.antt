@@ -18,7 +18,7 @@ loop-turn-preserved g c =
     let o = c.in_ok-take_turn.ensures in
     let e = c.take_turn.ensures.goes_on in
     record {
-      goes_on = GoesOn-trans _ _ _ _ _ _ _ _ _ i.goes_on e;
+      goes_on = GoesOn-trans _ _ _ i.goes_on e;
       tidy = o.tidy;
       still = λ z v. o.still z (i.still z v);
       turn_in = omega (arith, o.longer);

@@ -3,15 +3,15 @@ use Rattle.kc_graph.specs.Lawful.{Ranked}
 use Rattle.kc_view.specs.Answers.{Agrees}
 use Rattle.kc_view.specs.Views.{GoesOn}
 use Rattle.kc_remove.specs.Cascade.{nobody}
-use Rattle.kc_remove.specs.Falling.{is_visited, IsTidy, FallsIn}
+use Rattle.kc_remove.specs.Falling.{is_visited, IsTidyFalling, FallsIn}
 use Rattle.kc_remove.proofs.turns.take_turns.Given as goal
 
 abbrev pub invariant-loop-turn : goal.invariant-loop-turn
 invariant-loop-turn g l =
     let v = g.V.View in
     record {
-      goes_on : GoesOn (v.shown l.fn.view) (v.shown l.view) (v.is_missed l.fn.view) (v.is_missed l.view) (v.is_given l.fn.view) (v.is_given l.view);
-      tidy : IsTidy l.update (v.shown l.view) l.falling;
+      goes_on : GoesOn (v.shown l.fn.view) (v.shown l.view);
+      tidy : IsTidyFalling l.update (v.shown l.view) l.falling;
       still : (z : ℕ) → is_visited l.fn.falling z ≡ true → is_visited l.falling z ≡ true;
       turn_in : l.turn ≤ length l.falling.list.items;
       falls : (s : Ranked) → Agrees (v.shown l.view).kept s → FallsIn l.update l.level s l.fn.falling 0 nobody → FallsIn l.update l.level s l.falling l.turn nobody;

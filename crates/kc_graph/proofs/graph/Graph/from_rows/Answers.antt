@@ -11,7 +11,8 @@ pub invariant_of-result : goal.invariant_of-result
 invariant_of-result c =
     let rows : List (List ℕ) = lists c.args.rows.items in
     let twice : sum_by length rows ≡ fin.len (graph_of rows).edges + fin.len (graph_of rows).edges = handshake rows c.requires.adjacency in
-    let sum : c.entries_in-edges.result ≡ sum_by length rows = c.entries_in-edges.ensures ∙ ap (λ (t : List (Vec ℕ Global)). sum_by length (lists t)) c.deref.ensures.value in
+    let sum : c.entries_in-edges.result ≡ sum_by length rows = c.entries_in-edges.ensures ∙ ap (λ (t : List (Vec ℕ Global)). sum_by length (lists t)) c.deref.ensures.value
+    in
     let half : c.entries_in-edges.result / 2 ≡ fin.len (graph_of rows).edges = omega (arith, twice, sum) in
     record {
       adjacency = c.requires.adjacency;

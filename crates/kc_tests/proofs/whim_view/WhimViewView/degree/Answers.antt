@@ -1,0 +1,67 @@
+-- A list is drawn at the first call for a vertex, and found at a later one.
+use Rattle.std.proofs.Common.{◌≡◌, ℕ, false, List, [], length, sym, ◌∙◌, ap, subst, arith}
+use Rattle.std.specs.Prelude.{Some, is_some}
+use Rattle.std.specs.Option.{unwrap_or}
+use Rattle.std.proofs.lemmas.List.Elements.{All-push}
+use Rattle.kc_graph.specs.declared.used.UsedEdges.{UsedEdges}
+use Rattle.kc_view.specs.Answers.{Answers, has_list, list_in, with_list}
+use Rattle.kc_view.specs.Lists.{IsListOf}
+use Rattle.kc_view.specs.Views.{TellsList, GoesOn}
+use Rattle.kc_tests.specs.Whim.{Whims, shown_by_whim}
+use Rattle.kc_view.proofs.Marking.{tells_list, list_of-now}
+use Rattle.kc_view.proofs.Handing.{lists-push}
+use Rattle.kc_view.proofs.Keeping.{GoesOn-trans}
+use Rattle.kc_tests.proofs.Looking.{short_list, found-list}
+use Rattle.kc_tests.proofs.whim_view.WhimViewView.degree.Goals as goal
+use Rattle.kc_tests.proofs.Drawn.{goes-on-list}
+
+pub overflow_cast-result : goal.overflow_cast-result
+overflow_cast-result c =
+    let here : list_in c.args.w c.self.inside.edges.items ≡ Some c.in-Some.list.now = ap (list_in c.args.w) (sym c.deref.ensures.value) ∙ c.in-Some.ensures in
+    omega (arith, short_list c.self.inside.size c.args.w c.in-Some.list.now (found-list c.self.inside.size c.args.w c.self.inside.edges.items c.in-Some.list.now c.self.invariant.lists here))
+
+pub overflow_cast-degree : goal.overflow_cast-degree
+overflow_cast-degree c = omega (arith, short_list c.self.inside.size c.args.w c.in_ok-list.list.items c.in_ok-list.ensures)
+
+pub invariant_of-self-2 : goal.invariant_of-self-2
+invariant_of-self-2 c =
+    let e : UsedEdges = record { vertex = c.args.w; at = 0; neighbours = c.in_ok-list.list.items } in
+    rw (c.in_ok-keep_list.ensures.ok, c.deref-2.ensures.value) (record {
+      lists = lists-push c.self.inside.size c.self.inside.edges.items e c.self.invariant.lists c.in_ok-list.ensures;
+      differ = c.self.invariant.differ;
+    })
+
+pub returns-clause-told : goal.returns-clause-told
+returns-clause-told c =
+    let a : Answers = record { edges = c.self.inside.edges.items; places = c.self.inside.places.items; orders = c.self.inside.orders.items } in
+    let e : UsedEdges = record { vertex = c.args.w; at = 0; neighbours = c.deref-2.result.now } in
+    let same : a ≡ c.args.self.now.kept = ap (λ (w : Whims). w.kept) c.self.view_is ∙ c.go_on.ensures.kept in
+    let not_yet : has_list a c.args.w ≡ false = ap (λ (xs : List UsedEdges). is_some (list_in c.args.w xs)) (sym c.deref.ensures.value) ∙ ap is_some c.in_default.ensures in
+    rw c.in_ok-keep_list.ensures.ok (subst (λ (x : Answers). TellsList x (with_list a e) c.args.w) same (tells_list a e not_yet))
+
+pub returns-clause-length : goal.returns-clause-length
+returns-clause-length c =
+    let a : Answers = record { edges = c.self.inside.edges.items; places = c.self.inside.places.items; orders = c.self.inside.orders.items } in
+    let e : UsedEdges = record { vertex = c.args.w; at = 0; neighbours = c.deref-2.result.now } in
+    let not_yet : has_list a c.args.w ≡ false = ap (λ (xs : List UsedEdges). is_some (list_in c.args.w xs)) (sym c.deref.ensures.value) ∙ ap is_some c.in_default.ensures in
+    rw c.in_ok-keep_list.ensures.ok (c.len-degree.ensures ∙ (sym c.deref-2.ensures.len ∙ ap (length {A = ℕ}) (sym (list_of-now a e not_yet))))
+
+pub returns-clause-lists : goal.returns-clause-lists
+returns-clause-lists c =
+    let e : UsedEdges = record { vertex = c.args.w; at = 0; neighbours = c.deref-2.result.now } in
+    let here : IsListOf c.self.inside.size c.args.w c.deref-2.result.now = subst (IsListOf c.self.inside.size c.args.w) (sym c.deref-2.ensures.value) c.in_ok-list.ensures in
+    rw c.in_ok-keep_list.ensures.ok (lists-push c.self.inside.size c.self.inside.edges.items e c.self.invariant.lists here)
+
+pub returns-clause-goes_on : goal.returns-clause-goes_on
+returns-clause-goes_on c =
+    let e : UsedEdges = record { vertex = c.args.w; at = 0; neighbours = c.deref-2.result.now } in
+    let here : IsListOf c.self.inside.size c.args.w c.deref-2.result.now = subst (IsListOf c.self.inside.size c.args.w) (sym c.deref-2.ensures.value) c.in_ok-list.ensures in
+    let w : Whims = record {
+      size = c.self.inside.size;
+      kept = record { edges = c.self.inside.edges.items; places = c.self.inside.places.items; orders = c.self.inside.orders.items };
+      handed = c.self.inside.handed;
+      misses = c.self.inside.misses;
+      again = c.self.inside.again;
+    } in
+    let step : GoesOn (shown_by_whim w) (shown_by_whim (record w { kept = with_list w.kept e })) = goes-on-list w e here in
+    GoesOn-trans _ _ _ c.go_on.ensures.goes_on (rw (c.in_ok-keep_list.ensures.ok, ← c.self.view_is) step)

@@ -1,0 +1,2 @@
+pub mod Whim
+pub mod WhimCode

@@ -1,0 +1,98 @@
+//! A view that answers what it likes, each call with its answer.
+ghost use Rattle.std.specs.Prelude.{◌<◌, ◌≢◌};
+
+use crate::whim_view::{WhimView, again};
+use kc_graph::Used;
+use kc_view::{View, ViewFault};
+use std::alloc::Global;
+use std::process::Abort;
+use std::test::Fail;
+
+/// The list of a vertex, asked entry by entry.
+fn list_of(alloc: Global, view: &mut WhimView, w: u32) -> Result<Vec<u32>, Fail>
+    requires { w < view.old.size }
+{
+    let degree = view.degree(w)?;
+    let mut list = Vec::new(alloc);
+    for i in 0..degree {
+        list.push(view.neighbour(w, i))?;
+    }
+    Ok(list)
+}
+
+/// How two vertices stand, once their core numbers were asked.
+fn order_of<V: View>(view: &mut V, x: u32, y: u32) -> Result<bool, ViewFault>
+    requires differ { x ≢ y }
+    requires first { x < (V.shown view.old).size }
+    requires second { y < (V.shown view.old).size }
+{
+    let _first = view.core(x)?;
+    let _second = view.core(y)?;
+    view.precedes(x, y)
+}
+
+/// The lists of these vertices were asked, and nothing else.
+fn assert_lists<R: Abort>(rt: &R, used: &Used, vertices: &[u32]) {
+    assert!(rt;
+        used.edges
+            .iter()
+            .map(|e| e.vertex)
+            .eq(vertices.iter().copied())
+    );
+    assert!(rt; used.places.is_empty() && used.orders.is_empty());
+}
+
+#[test]
+fn lists_of_a_whim_fit_no_graph(rt: HostRuntime) -> Result<(), Fail> {
+    let mut view = WhimView::new(rt.alloc(), 9, 7, None, again());
+    let mut one_way = false;
+    for x in 1..9 {
+        assert!(rt; x < view.vertices());
+        let there = list_of(rt.alloc(), &mut view, x)?;
+        assert!(rt; 0 < view.vertices());
+        let back = list_of(rt.alloc(), &mut view, 0)?;
+        assert!(rt; !there.contains(&x) && !back.contains(&0));
+        one_way = one_way || there.contains(&0) != back.contains(&x);
+    }
+    assert!(rt; one_way);
+    assert_lists(&rt, &view.used(), &[1, 0, 2, 3, 4, 5, 6, 7, 8]);
+    assert_lists(&rt, &view.used(), &[]);
+    Ok(())
+}
+
+#[test]
+fn orders_of_a_whim_change(rt: HostRuntime) -> Result<(), Fail> {
+    let mut view = WhimView::new(rt.alloc(), 2, 3, None, again());
+    let mut answers = [false, false];
+    for _ in 0..20 {
+        assert!(rt; 1 < view.vertices());
+        let before = order_of(&mut view, 0, 1)?;
+        answers[before as usize] = true;
+    }
+    assert_eq!(rt; answers, [true, true]);
+    let used = view.used();
+    assert_eq!(rt; (used.places.len(), used.orders.len()), (2, 20));
+    assert_lists(&rt, &view.used(), &[]);
+    Ok(())
+}
+
+/// The first of six calls that misses.
+fn first_miss<R: Abort + AllocGlobal>(rt: &R, patience: Option<u64>) -> Option<u64> {
+    let mut view = WhimView::new(rt.alloc(), 3, 1, patience, again());
+    for call in 0..6u64 {
+        assert!(rt; 2 < view.vertices());
+        if let Err(fault) = view.core(2) {
+            assert_eq!(rt; fault, ViewFault::Miss(again()));
+            return Some(call);
+        }
+    }
+    None
+}
+
+#[test]
+fn the_call_that_is_to_miss_misses(rt: HostRuntime) {
+    for patience in 0..4u64 {
+        assert_eq!(rt; first_miss(&rt, Some(patience)), Some(patience));
+    }
+    assert_eq!(rt; first_miss(&rt, None), None);
+}
