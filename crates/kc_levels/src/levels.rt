@@ -297,7 +297,7 @@ fn list_with_heads(
     requires low { (v : ℕ) → v < size → slice_index core.now v < size }
     ensures { IfOk result (λ list. list.items ≡ with_heads size order.now core.now) }
 {
-    let mut list = Vec::new(alloc);
+    let mut list = Vec::with_capacity(alloc, 2 * size as usize + 1)?;
     let mut next = 0;
     for v in order {
         let level = core[*v as usize];
@@ -333,7 +333,7 @@ fn vertex_words(
     ensures each { IfOk result (λ words. (v : ℕ) → v < size
         → slice_index words.items v ≡ vertex_word (record { stamp = slice_index stamps.now v; core = slice_index core.now v })) }
 {
-    let mut words = Vec::new(alloc);
+    let mut words = Vec::with_capacity(alloc, size as usize)?;
     for v in 0..size as usize {
         let word = VertexWord {
             stamp: stamps[v],

@@ -6,7 +6,7 @@ use Rattle.kc_levels.proofs.Opening.{Listing, listing-none, listing-next, listin
 use Rattle.kc_levels.proofs.levels.list_with_heads.Goals as goal
 
 pub loop-v-init : goal.loop-v-init
-loop-v-init c = subst (λ (z : List ℕ). Listing c.args.size c.args.core.now c.args.order.now z 0 0) (sym c.new-list.ensures.items)
+loop-v-init c = subst (λ (z : List ℕ). Listing c.args.size c.args.core.now c.args.order.now z 0 0) (sym c.in_ok-list.ensures.items)
     (listing-none c.args.size c.args.core.now c.args.order.now)
 
 pub bounds-core-v : goal.bounds-core-v
