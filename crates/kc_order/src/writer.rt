@@ -66,7 +66,7 @@ impl Writer {
     {
         let plain = PlainOrder::open(alloc, shape, order)?;
         let words = opening_words(alloc, shape, &plain, vertex)?;
-        let (words, seat, pass) = open(alloc, shape, &words)?;
+        let (words, seat, pass) = open(alloc, shape, words)?;
         Ok((words, Writer { seat, plain }, pass))
     }
 

@@ -1,4 +1,4 @@
-// An update that was entered.
+//! An update that was entered.
 
 /// An update that was entered: an edge was to be added or removed.
 ///

@@ -1,4 +1,4 @@
-// What a type parameter stands for: one table of one run.
+//! What a type parameter stands for: one table of one run.
 use std::marker::Brand;
 
 /// Names one table, and what is known of its run where a value that is shared by threads is made.

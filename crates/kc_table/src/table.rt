@@ -17,22 +17,20 @@ use kc_words::Shape;
 use std::alloc::{AllocError as NoMemory, Global};
 use std::mem;
 
-/// A new table with these opening words and an empty log, its writer's seat, and a first pass.
+/// A new table with these opening words and an empty log, its writer's seat, and a first pass. The words are taken over, and dropped once
+/// the table has them.
 pub fn open(
     alloc: Global,
     shape: Shape,
-    words: &[u64],
+    words: Vec<u64>,
 ) -> Result<(Words, WriterSeat, Pass), NoMemory>
-    requires { Opens shape words.now }
-    ensures words { IfOk result (λ r. (r.0.shape ≡ shape) × (r.0.opening ≡ words.now)) }
+    requires { Opens shape words.items }
+    ensures words { IfOk result (λ r. (r.0.shape ≡ shape) × (r.0.opening ≡ words.items)) }
     ensures writer { IfOk result (λ r. r.1 ≡ record { table = r.0; log = [] }) }
     ensures pass { IfOk result (λ r. r.2 ≡ record { table = r.0; log = []; loads = 0; splits = 0 }) }
 {
-    let opening = Opening {
-        shape,
-        words: words.to_vec(alloc)?,
-    };
-    let (table, mut seat) = Table::of_words(alloc, words, &opening)?;
+    let opening = Opening { shape, words };
+    let (table, mut seat) = Table::of_words(alloc, &opening.words, &opening)?;
     let pass = Pass {
         seat: table.shared.split_seat::<Fork>(&mut seat),
     };

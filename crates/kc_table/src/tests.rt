@@ -23,7 +23,7 @@ fn a_told_pass_and_one_split_from_it_load_what_was_stored(rt: HostRuntime) -> Re
         version: 0,
     };
     let opening = [0, 786_432, 0, 549_755_813_888, 0, 0];
-    let (words, mut seat, mut pass) = open(rt.alloc(), pair, &opening)?;
+    let (words, mut seat, mut pass) = open(rt.alloc(), pair, opening.to_vec(rt.alloc())?)?;
     store(&words, &mut seat, 0, PUT_NOTE);
     store(&words, &mut seat, 2, PUT_ITEM);
     tell(&words, &mut seat, &mut pass);
@@ -96,7 +96,7 @@ fn loads_of_one_thread_never_go_back_under_stores_of_another(rt: HostRuntime) ->
         version: 0,
     };
     let opening = [0, 786_432, 549_755_813_888, 0];
-    let (words, seat, pass) = open(rt.alloc(), lone, &opening)?;
+    let (words, seat, pass) = open(rt.alloc(), lone, opening.to_vec(rt.alloc())?)?;
     let (never_fell, last) = one_stores_and_one_loads(&rt, &words, seat, pass);
     assert!(rt; never_fell);
     assert!(rt; last >= 549_755_813_888);

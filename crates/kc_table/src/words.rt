@@ -1,4 +1,4 @@
-// The words of a table.
+//! The words of a table.
 use crate::rule::OneWriter;
 use crate::view::{Opening, View};
 use atomic_table::Table;

@@ -1,4 +1,4 @@
-// The writer's right to store.
+//! The writer's right to store.
 use crate::view::View;
 use atomic_table::Seat;
 use std::marker::Model;

@@ -1,4 +1,4 @@
-// A put whose stores are made one by one, with a comparison between any two of them.
+//! A put whose stores are made one by one, with a comparison between any two of them.
 ghost use Rattle.std.specs.Prelude.{◌≡◌, ◌≢◌, ◌<◌, ◌≤◌, ◌+◌, ◌++◌, ◌∷◌, [], true, length, IfErr, IfOk};
 ghost use mathlib.Core.List.{IsPrefix};
 ghost use Rattle.kc_distinct.specs.Lists.{member};

@@ -1,7 +1,7 @@
-use Rattle.std.proofs.Common.{◌≡◌, List, [], ℕ, ap, sym, subst, rules}
+-- With an empty log the rule holds of the opening words, which are the table's own.
+use Rattle.std.proofs.Common.{List, [], ℕ, ap, sym, subst, rules}
 use Rattle.atomic_table.specs.Table.{opening}
 use Rattle.kc_table.specs.declared.view.Opening.{Opening}
-use Rattle.kc_table.specs.Legal.{Legal}
 use Rattle.kc_table.specs.Rule.{Keeps, first_view}
 use Rattle.kc_table.proofs.LegalLogs.{legal-nil}
 use Rattle.kc_table.proofs.Steps.{begins, splits}
@@ -9,9 +9,9 @@ use Rattle.kc_table.proofs.table.open.Goals as goal
 
 pub of_words-requires : goal.of_words-requires
 of_words-requires c =
-    let k : Opening = record { shape = c.args.shape; words = c.in_ok-to_vec.field-0 } in
-    let same : c.in_ok-to_vec.field-0.items ≡ c.args.words.now = search rules in
-    subst (λ (ws : List ℕ). Keeps {S = ℕ} k (opening ws [] (first_view k))) same (begins k [] (subst (λ (ws : List ℕ). Legal c.args.shape ws []) (sym same) (legal-nil c.args.shape c.args.words.now c.requires)))
+    let k : Opening = record { shape = c.args.shape; words = c.args.words } in
+    subst (λ (ws : List ℕ). Keeps {S = ℕ} k (opening ws [] (first_view k))) (sym c.deref.ensures.value)
+    (begins k [] (legal-nil c.args.shape c.args.words.items c.requires))
 
 pub split_seat-requires : goal.split_seat-requires
 split_seat-requires c = (search rules, search rules, splits _ _ _ (ap (λ m. m.0.spent) c.in_ok-table.ensures.4))
