@@ -1,5 +1,5 @@
 -- What was read of a table, at different moments: each list, core number and order was so after some prefix of the log.
-use Rattle.std.specs.Prelude.{◌≡◌, ◌≢◌, ◌≤◌, ◌<◌, ◌⊎◌, ⊤, ℕ, Bool, List, All, true, false}
+use Rattle.std.specs.Prelude.{◌≡◌, ◌≢◌, ◌≤◌, ◌<◌, ◌⊎◌, ℕ, Bool, List, All, true, false}
 use mathlib.Core.List.{IsPrefix}
 use Rattle.kc_graph.specs.SimpleGraph.{SimpleGraph}
 use Rattle.kc_graph.specs.Neighbours.{AreNeighbours}
@@ -72,7 +72,8 @@ abbrev pub order_answer : Bool → Answer
 order_answer true = answer.Before
 order_answer false = answer.After
 
--- Why the order of two vertices was not read: a word differed between its two loads, or there was no memory.
+-- Why the order of two vertices was not read: a word differed between its two loads, or the comparison was sure and there was no
+-- memory to keep its answer.
 abbrev pub HasOrderCause : PassSeen → PassSeen → ℕ → ℕ → ViewFault → Type 0
 HasOrderCause old new x y (Miss again) = Compares old new x y (answer.Again again)
-HasOrderCause old new x y NoMemory = ⊤
+HasOrderCause old new x y NoMemory = (before : Bool) × Compares old new x y (order_answer before)

@@ -21,6 +21,9 @@ returns-in-Err-push-clause-read c = λ opened h.
     same_read before.table after.table opened before.log after.log (answers_in used) _
     c.compare.ensures.table c.compare.ensures.longer (ap of c.in-Err-push.ensures.items) h
 
+pub returns-in-Err-push-clause-cause : goal.returns-in-Err-push-clause-cause
+returns-in-Err-push-clause-cause c = (c.in-Ok.before, c.in-Ok.ensures.compared)
+
 pub returns-in-Ok-push-clause-read : goal.returns-in-Ok-push-clause-read
 returns-in-Ok-push-clause-read c = λ opened h.
     let used = c.args.used.now in
