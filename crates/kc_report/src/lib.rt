@@ -1,5 +1,5 @@
-//! The lines that a run writes: one line about the graph and one about each batch, and a line for each vertex with
-//! its core number.
+//! The lines that a run writes: one line about the graph and one about each batch, a line for each vertex with its
+//! core number, and the members of a level's core.
 //!
 //! Each call appends to a text that grows, takes no memory but that text's, and leaves it as it was where there is
 //! none. The bytes are pinned by the definitions of `specs/Lines.antt`. The crate stands on std and on `itoa`, which
@@ -9,10 +9,10 @@
 mod pieces;
 
 ghost use Rattle.std.specs.Prelude.{◌≡◌, ◌++◌, length, OnErr, OnOk};
-ghost use Rattle.kc_report.specs.Lines.{core_lines, line_text};
+ghost use Rattle.kc_report.specs.Lines.{core_lines, level_lines, line_text};
 
-use crate::pieces::{put_core_lines, put_line};
-use std::alloc::AllocError as NoMemory;
+use crate::pieces::{put_core_lines, put_level_lines, put_line};
+pub use std::alloc::AllocError as NoMemory;
 
 /// A line about the graph or about a batch of updates.
 #[derive(Clone, Copy, Debug, PartialEq, Eq)]
@@ -23,13 +23,15 @@ pub enum Line {
         edges: u64,
         top: u32,
     },
-    /// A batch: its number from 1, how many of its updates added an edge, removed one or changed nothing, and then
+    /// A batch: its number from 1, how many of its updates added an edge, removed one or changed nothing, how many of
+    /// its changes were overruled by a later one of the same edge (the line says so only where some were), and then
     /// the edges and the greatest core number after it.
     Batch {
         number: u32,
         added: u32,
         removed: u32,
         kept: u32,
+        overruled: u32,
         edges: u64,
         top: u32,
     },
@@ -57,6 +59,27 @@ pub fn core_lines(out: &mut Vec<u8>, ids: &[u32], core: &[u32]) -> Result<(), No
 {
     let before = out.len();
     let written = put_core_lines(out, ids, core);
+    if written.is_err() {
+        out.truncate(before);
+    }
+    written
+}
+
+/// Appends how many vertices the core of a level has, and a line for each of them: its id. The core of a level (Seidman
+/// 1983) has the vertices whose core number is at least the level. Both lists go by the dense numbers of the vertices.
+/// Where there is no memory for all lines, `out` stays as it was.
+pub fn member_lines(
+    out: &mut Vec<u8>,
+    ids: &[u32],
+    core: &[u32],
+    level: u32,
+) -> Result<(), NoMemory>
+    requires { length ids.now ≡ length core.now }
+    ensures ok { OnOk result (out.new.items ≡ out.old.items ++ level_lines ids.now core.now level) }
+    ensures err { OnErr result (out.new.items ≡ out.old.items) }
+{
+    let before = out.len();
+    let written = put_level_lines(out, ids, core, level);
     if written.is_err() {
         out.truncate(before);
     }

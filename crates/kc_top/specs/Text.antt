@@ -15,7 +15,7 @@ first_line g core = graph_line g.size (set.len g.edges) (greatest core)
 -- the line about one batch of updates of `g`: what they do, and then the edges and the greatest core number of the graph after them
 abbrev pub line_about : ℕ → SimpleGraph → List (Bool × ℕ × ℕ) → List ℕ → List ℕ
 line_about number g batch core =
-    batch_line number (added g.edges batch) (removed g.edges batch) (kept g.edges batch)
+    batch_line number (added g.edges batch) (removed g.edges batch) (kept g.edges batch) 0
     (set.len (graph_after_batch g batch).edges) (greatest core)
 
 -- the core numbers after each of the batches, which change `g` in turn

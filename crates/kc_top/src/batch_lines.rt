@@ -33,6 +33,7 @@ fn put_batch(
         added: counts.added,
         removed: counts.removed,
         kept: counts.kept,
+        overruled: 0,
         edges: graph.edges(),
         top: greatest(&core),
     };
