@@ -2,10 +2,10 @@
 ghost use Rattle.std.specs.Prelude.{◌≡◌, ◌<◌};
 
 use crate::draws::Draws;
-use kc_order::{Answer, SharedOrder, Writer, precedes};
+use kc_order::{Answer, NoMemory, SharedOrder, Writer, precedes};
 use kc_table::{Name, Pass, Words};
 use kc_words::LAST_VERSION;
-use std::alloc::{AllocError, Global};
+use std::alloc::Global;
 use std::sync::Wait;
 
 /// Puts 1, 2 and so on, each right after 0, through the table's writer, and counts them.
@@ -48,11 +48,7 @@ pub(crate) fn put_under_lock<K: Name, R: Wait>(
 }
 
 /// Random pairs of numbers below a bound.
-pub(crate) fn draw_pairs(
-    alloc: Global,
-    bound: u32,
-    count: u32,
-) -> Result<Vec<(u32, u32)>, AllocError>
+pub(crate) fn draw_pairs(alloc: Global, bound: u32, count: u32) -> Result<Vec<(u32, u32)>, NoMemory>
     requires { 0 < bound }
 {
     let mut draws = Draws::new(2);

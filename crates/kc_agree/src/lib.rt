@@ -18,3 +18,4 @@ mod tests;
 
 pub use reading::{read_core, read_order};
 pub use stale::{Stale, first_stale};
+pub use std::alloc::AllocError as NoMemory;

@@ -9,12 +9,12 @@ ghost use Rattle.kc_order.specs.declared.answer.Answer.TheVariants as answer;
 ghost use Rattle.kc_agree.specs.Reads.{HasOrderCause, WereRead, order_answer, place_after};
 ghost use Rattle.kc_agree.specs.Stamps.{core_after};
 
+use crate::NoMemory;
 use kc_graph::{Used, UsedOrder, UsedPlace};
 use kc_order::{Answer, precedes};
 use kc_table::{Pass, Words, load, shape};
 use kc_view::ViewFault;
 use kc_words::{Again, VertexWord};
-use std::alloc::AllocError as NoMemory;
 
 /// Reads the core number of a vertex that was not read yet: one load of its word, which has the place stamp too.
 pub fn read_core(words: &Words, pass: &mut Pass, used: &mut Used, v: u32) -> Result<u32, NoMemory>

@@ -18,11 +18,12 @@ ghost use Rattle.kc_levels.specs.Heads.{behind, no_part, parts_from, put, under,
 ghost use Rattle.kc_levels.specs.Levels.{AreLevels, IsHeaded, IsTop, MayMove, MovesTo, OpensLevels, OpensSection, SealsOne, number_of, seen};
 ghost use Rattle.kc_levels.specs.Levels.{size_of, stamp_at, unsealed_in};
 
+use crate::NoMemory;
 use kc_graph::Update;
 use kc_order::Writer;
 use kc_table::{Pass, Words};
 use kc_words::{INDICES, LAST_VERSION, Shape, VERTICES, VertexWord};
-use std::alloc::{AllocError as NoMemory, Global};
+use std::alloc::Global;
 use std::marker::Model;
 
 /// The last number that a section may have.

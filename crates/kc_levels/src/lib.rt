@@ -26,6 +26,7 @@ ghost use Rattle.kc_levels.specs.Levels.{Levelled};
 
 pub use levels::{LAST_NUMBER, Levels};
 pub use making::{make_moves, moved_count};
+pub use std::alloc::AllocError as NoMemory;
 
 /// The puts of moves that fit, one at a time in the list with heads, give the list with heads of the state after the moves.
 pub fn moves_keep_the_heads()

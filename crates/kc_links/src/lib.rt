@@ -5,7 +5,8 @@ ghost use Rattle.std.specs.Prelude.{◌≡◌, ◌≢◌, ◌<◌, ◌+◌, ◌^
 ghost use Rattle.kc_distinct.specs.Lists.{member, without, right_after, head_or, next_of, prev_of};
 ghost use Rattle.kc_links.specs.Ring.{Chain};
 
-use std::alloc::{AllocError, Global};
+pub use std::alloc::AllocError as NoMemory;
+use std::alloc::Global;
 use std::marker::Model;
 
 /// Which number stands before and after each number that is in the list; `size` stands for both ends.
@@ -32,7 +33,7 @@ impl Model for Links {
 
 impl Links {
     /// The empty list of numbers below `size`. It takes all the memory that the list will need.
-    pub fn new(alloc: Global, size: u32) -> Result<Self, AllocError>
+    pub fn new(alloc: Global, size: u32) -> Result<Self, NoMemory>
         requires { size < 2 ^ 31 }
         ensures { IfOk result (λ a. a ≡ record { size = size; list = [] }) }
     {

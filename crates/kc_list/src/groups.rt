@@ -2,9 +2,10 @@
 ghost use Rattle.std.specs.Prelude.{◌≡◌, ◌<◌, ◌≤◌, ◌+◌, ◌-◌, ◌^◌, ℕ, length, slice_index, slice_set, IfOk};
 ghost use Rattle.kc_list.specs.Tally.{opening_count};
 
+use crate::NoMemory;
 use crate::limits::{GROUP_ITEMS, HALF_ITEMS, OPENING_ITEMS};
 use kc_words::ITEMS;
-use std::alloc::{AllocError, Global};
+use std::alloc::Global;
 use std::marker::Model;
 
 /// The sizes of the groups, by group number; those that are 0 are also kept as a stack of free
@@ -33,7 +34,7 @@ impl Model for Groups {
 impl Groups {
     /// The groups of a list of `len` items of which `OPENING_ITEMS` at a time are put
     /// into groups, from group 1 on.
-    pub fn open(alloc: Global, items: u32, len: u32) -> Result<Self, AllocError>
+    pub fn open(alloc: Global, items: u32, len: u32) -> Result<Self, NoMemory>
         requires few { items ≤ ITEMS }
         requires within { len ≤ items }
         ensures length { IfOk result (λ a. length a ≡ items + 2) }

@@ -6,14 +6,15 @@ ghost use Rattle.kc_distinct.specs.Lists.{member, Distinct};
 ghost use Rattle.kc_list.specs.Sheets.{ChangesOnly};
 ghost use Rattle.kc_list.specs.Opening.{IsOpening, opening_item, opening_group, opening_groups};
 
+use crate::NoMemory;
 use crate::limits::OPENING_ITEMS;
 use kc_links::Links;
 use kc_relabel::spread;
 use kc_words::{BOTTOM_ROOM, GroupWord, ITEMS, ItemWord, LAST_VERSION, TOP_ROOM};
-use std::alloc::{AllocError, Global};
+use std::alloc::Global;
 
 /// The items in their order, as linked places.
-pub fn link(alloc: Global, size: u32, order: &[u32]) -> Result<Links, AllocError>
+pub fn link(alloc: Global, size: u32, order: &[u32]) -> Result<Links, NoMemory>
     requires small { size ≤ ITEMS }
     requires distinct { Distinct order.now }
     requires within { (x : ℕ) → member x order.now ≡ true → x < size }
@@ -32,7 +33,7 @@ pub fn opening_words(
     items: u32,
     version: u32,
     order: &[u32],
-) -> Result<Vec<u64>, AllocError>
+) -> Result<Vec<u64>, NoMemory>
     requires small { items ≤ ITEMS }
     requires version { version ≤ LAST_VERSION }
     requires distinct { Distinct order.now }

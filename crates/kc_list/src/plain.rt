@@ -6,6 +6,7 @@ ghost use Rattle.kc_words.specs.Order.{labels, Ordered, PairBelow};
 ghost use Rattle.kc_list.specs.Sheets.{version, highest_of};
 ghost use Rattle.kc_list.specs.Plain.{Plain, Written};
 
+use crate::NoMemory;
 use crate::groups::Groups;
 use crate::halve::make_group_room;
 use crate::limits::ITEM_WRITES;
@@ -16,7 +17,7 @@ use crate::scratch::Scratch;
 use crate::sheet::{Sheet, Write};
 use kc_links::Links;
 use kc_words::{ItemWord, LAST_VERSION, Shape};
-use std::alloc::{AllocError as NoMemory, Global};
+use std::alloc::Global;
 use std::marker::Model;
 
 /// A list of items, any two of which are compared by their labels with constant work (Dietz and

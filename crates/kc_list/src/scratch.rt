@@ -5,11 +5,12 @@ ghost use Rattle.kc_words.specs.Order.{labels};
 ghost use Rattle.kc_list.specs.Sheets.{version, ChangesOnly};
 ghost use Rattle.kc_list.specs.Views.{IsSound, top_at, KeepsOrder, groups_in_use, version_at, RisesByOne, evenly, TopsAreApart};
 
+use crate::NoMemory;
 use crate::sheet::Sheet;
 use crate::tops::spread_tops_in;
 use kc_links::Links;
 use kc_words::{ITEMS, LAST_VERSION, TOP_ROOM};
-use std::alloc::{AllocError, Global};
+use std::alloc::Global;
 use std::marker::Model;
 
 /// The memory in which all groups are given new labels. It is taken once, so that a put takes none.
@@ -35,7 +36,7 @@ impl Model for Scratch {
 }
 
 impl Scratch {
-    pub fn new(alloc: Global, count: usize) -> Result<Self, AllocError>
+    pub fn new(alloc: Global, count: usize) -> Result<Self, NoMemory>
         ensures { IfOk result (λ a. a ≡ count) }
     {
         let groups = vec![in alloc; 0u32; count]?;

@@ -3,8 +3,9 @@ ghost use Rattle.std.specs.Prelude.{◌≡◌, ◌<◌, ◌+◌, ◌++◌, ◌�
 ghost use Rattle.kc_words.specs.ItemWord.{item_of};
 ghost use Rattle.kc_list.specs.Sheets.{Paper, version, highest_of};
 
+use crate::NoMemory;
 use kc_words::ItemWord;
-use std::alloc::{AllocError, Global};
+use std::alloc::Global;
 use std::marker::Model;
 
 /// What is to be stored to a word of the table.
@@ -37,12 +38,7 @@ impl Model for Sheet {
 
 impl Sheet {
     /// Words that open with a known greatest version, with room for the writes of one call.
-    pub fn open(
-        alloc: Global,
-        words: Vec<u64>,
-        highest: u32,
-        room: usize,
-    ) -> Result<Self, AllocError>
+    pub fn open(alloc: Global, words: Vec<u64>, highest: u32, room: usize) -> Result<Self, NoMemory>
         requires { highest ≡ highest_of words.items }
         ensures { IfOk result (λ a. a ≡ record { words = words.items; writes = []; room = room }) }
     {

@@ -1,14 +1,14 @@
 //! The list over long runs, beside a plain list, and its labels in a few small ones.
 ghost use Rattle.std.specs.Prelude.{◌≡◌, ◌<◌, ◌≤◌, ℕ, length, slice_index, IfOk};
 
-use crate::{GROUP_ITEMS, PlainOrder, Write};
+use crate::{GROUP_ITEMS, NoMemory, PlainOrder, Write};
 use kc_words::{GroupWord, ITEMS, ItemWord, LAST_VERSION, Shape};
-use std::alloc::{AllocError, Global};
+use std::alloc::Global;
 use std::process::Abort;
 use std::test::Fail;
 
 /// The numbers below `len`, in ascending order.
-fn numbers(alloc: Global, len: u32) -> Result<Vec<u32>, AllocError>
+fn numbers(alloc: Global, len: u32) -> Result<Vec<u32>, NoMemory>
     ensures length { IfOk result (λ a. length a.items ≡ len) }
     ensures each { IfOk result (λ a. (k : ℕ) → k < len → slice_index a.items k ≡ k) }
 {
@@ -20,7 +20,7 @@ fn numbers(alloc: Global, len: u32) -> Result<Vec<u32>, AllocError>
 }
 
 /// A list of `items` items, of which those below `len` are in it, in ascending order.
-fn ascending(alloc: Global, items: u32, len: u32) -> Result<PlainOrder, AllocError>
+fn ascending(alloc: Global, items: u32, len: u32) -> Result<PlainOrder, NoMemory>
     requires some { 1 ≤ items }
     requires few { items ≤ ITEMS }
     requires within { len ≤ items }

@@ -24,4 +24,5 @@ pub use answer::Answer;
 pub use collect::{Collect, first_collect, precedes, second_collect};
 pub use fault::OrderFault;
 pub use shared::SharedOrder;
+pub use std::alloc::AllocError as NoMemory;
 pub use writer::Writer;

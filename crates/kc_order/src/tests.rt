@@ -6,10 +6,9 @@ mod cutting;
 mod handing;
 mod racing;
 
-use crate::{Answer, OrderFault, SharedOrder, Writer, first_collect, second_collect};
+use crate::{Answer, NoMemory, OrderFault, SharedOrder, Writer, first_collect, second_collect};
 use kc_table::{Name, Pass, Words};
 use kc_words::{Again, LAST_VERSION, Shape};
-use std::alloc::AllocError;
 use std::marker::Brand;
 use std::process::Abort;
 use std::sync::Wait;
@@ -48,7 +47,7 @@ const HALF: [u32; 32] = [
 ];
 
 /// A list of 100 items, of which 0 to 63 are in it, in ascending order and in one group.
-fn one_full_group<R: Abort + AllocGlobal>(rt: &R) -> Result<(Words, Writer, Pass), AllocError>
+fn one_full_group<R: Abort + AllocGlobal>(rt: &R) -> Result<(Words, Writer, Pass), NoMemory>
     ensures shape { IfOk result (λ r. (r.0.shape.items ≡ 100) × (r.0.shape.fixed ≡ 0)) }
     ensures tables { IfOk result (λ r. (r.1.table ≡ r.0) × (r.2.table ≡ r.0)) }
 {
@@ -82,7 +81,7 @@ fn changed_beneath<R: Abort>(
 }
 
 /// The same, in a table of its own.
-fn changed_word<R: Abort + AllocGlobal>(rt: &R) -> Result<Option<Again>, AllocError> {
+fn changed_word<R: Abort + AllocGlobal>(rt: &R) -> Result<Option<Again>, NoMemory> {
     let (words, mut writer, mut pass) = one_full_group(rt)?;
     Ok(changed_beneath(rt, &words, &mut writer, &mut pass))
 }

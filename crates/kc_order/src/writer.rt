@@ -14,12 +14,13 @@ ghost use Rattle.kc_order.specs.Standing.{StandsBefore, list_after};
 ghost use Rattle.kc_order.specs.Writers.{AreOpeningWords, HasVersionsLeft, IsHighest, Leaves, Puts, Stores, Takes};
 ghost use Rattle.kc_order.specs.Writers.{entries_after, unsealed_after, vertex_word_after};
 
+use crate::NoMemory;
 use crate::storing::store_writes;
 use kc_graph::Update;
 use kc_list::PlainOrder;
 use kc_table::{Pass, Words, WriterSeat, open, shape, store, tell};
 use kc_words::{INDICES, NoteWord, Shape, VERTICES, VertexWord};
-use std::alloc::{AllocError as NoMemory, Global};
+use std::alloc::Global;
 use std::marker::Model;
 
 #[cfg(test)]

@@ -24,6 +24,7 @@ pub mod writer_seat;
 pub use entry::Entry;
 pub use name::Name;
 pub use pass::Pass;
+pub use std::alloc::AllocError as NoMemory;
 pub use table::{load, meet, open, shape, split, store, tell};
 pub use words::Words;
 pub use writer_seat::WriterSeat;

@@ -7,6 +7,7 @@ ghost use Rattle.kc_table.specs.Log.{value_at, event};
 ghost use Rattle.kc_table.specs.State.{word_count};
 ghost use Rattle.kc_table.specs.Legal.{Legal, Opens};
 
+use crate::NoMemory;
 use crate::pass::Pass;
 use crate::rule::{Fork, Look, Put, Told};
 use crate::view::Opening;
@@ -14,7 +15,7 @@ use crate::words::Words;
 use crate::writer_seat::WriterSeat;
 use atomic_table::Table;
 use kc_words::Shape;
-use std::alloc::{AllocError as NoMemory, Global};
+use std::alloc::Global;
 use std::mem;
 
 /// A new table with these opening words and an empty log, its writer's seat, and a first pass. The words are taken over, and dropped once

@@ -4,8 +4,8 @@ ghost use Rattle.kc_view.specs.declared.fault.ViewFault.TheVariants as view;
 ghost use Rattle.kc_view.specs.declared.fault.PlanFault.TheVariants as plan;
 ghost use Rattle.kc_view.specs.Faults.{plan_fault};
 
+use kc_graph::NoMemory;
 use kc_words::Again;
-use std::alloc::AllocError as OutOfMemory;
 
 /// Why a view gives no answer.
 #[derive(Clone, Copy, Debug, Drop, Eq, PartialEq)]
@@ -25,18 +25,18 @@ pub enum PlanFault {
     NoMemory,
 }
 
-impl From<OutOfMemory> for ViewFault {
+impl From<NoMemory> for ViewFault {
     ghost from_gives = { λ _ fault. fault ≡ view.NoMemory };
 
-    fn from(_: OutOfMemory) -> ViewFault {
+    fn from(_: NoMemory) -> ViewFault {
         ViewFault::NoMemory
     }
 }
 
-impl From<OutOfMemory> for PlanFault {
+impl From<NoMemory> for PlanFault {
     ghost from_gives = { λ _ fault. fault ≡ plan.NoMemory };
 
-    fn from(_: OutOfMemory) -> PlanFault {
+    fn from(_: NoMemory) -> PlanFault {
         PlanFault::NoMemory
     }
 }

@@ -5,12 +5,12 @@ ghost use Rattle.kc_order.specs.Writers.{unsealed_after};
 ghost use Rattle.kc_view.specs.Answers.{answers_in, nothing_answered};
 
 use super::{stale_list, stale_place};
-use crate::{Stale, first_stale, read_core, read_order};
+use crate::{NoMemory, Stale, first_stale, read_core, read_order};
 use kc_graph::{Neighbours, Update, Used, UsedEdges};
 use kc_order::Writer;
 use kc_table::{Pass, Words, load, shape};
 use kc_words::{LAST_VERSION, Shape, VertexWord};
-use std::alloc::{AllocError, Global};
+use std::alloc::Global;
 use std::process::Abort;
 use std::test::Fail;
 
@@ -18,7 +18,7 @@ use std::test::Fail;
 const HEAD: u32 = 3;
 
 /// Three vertices behind a head, in the order of their numbers. Their core numbers and stamps are 0, and no entry was made.
-fn open(alloc: Global) -> Result<(Words, Writer, Pass), AllocError>
+fn open(alloc: Global) -> Result<(Words, Writer, Pass), NoMemory>
     ensures shape { IfOk result (λ r. (r.0.shape.items ≡ 4) × (r.0.shape.fixed ≡ 3) × (r.0.shape.base ≡ 0)) }
     ensures tables { IfOk result (λ r. (r.1.table ≡ r.0) × (r.2.table ≡ r.0)) }
     ensures number { IfOk result (λ r. number_of r.1.table r.1.log ≡ 0) }
@@ -79,7 +79,7 @@ fn read_two<R: Abort + AllocGlobal>(rt: &R, words: &Words, pass: &mut Pass) -> (
 }
 
 /// A list of no neighbours that a vertex had after so many entries.
-fn read_list(alloc: Global, vertex: u32, at: u32) -> Result<Used, AllocError>
+fn read_list(alloc: Global, vertex: u32, at: u32) -> Result<Used, NoMemory>
     requires { vertex < 3 }
     ensures edges { IfOk result (λ used. All (λ e. e.vertex < 3) used.edges.items) }
     ensures places { IfOk result (λ used. All (λ p. p.vertex < 3) used.places.items) }

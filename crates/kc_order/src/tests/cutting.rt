@@ -3,10 +3,9 @@ ghost use Rattle.std.specs.Prelude.{◌≡◌, ◌≤◌};
 
 use super::one_full_group;
 use crate::writer::beneath::{Cut, put_around};
-use crate::{Answer, Writer};
+use crate::{Answer, NoMemory, Writer};
 use kc_table::{Pass, Words};
 use kc_words::LAST_VERSION;
-use std::alloc::AllocError;
 use std::process::Abort;
 use std::test::Fail;
 
@@ -30,7 +29,7 @@ fn split_around<R: Abort + AllocGlobal>(
 }
 
 /// What a comparison of 63 with 0 answers that is cut by these stores.
-fn answer_of<R: Abort + AllocGlobal>(rt: &R, cut: Cut) -> Result<Answer, AllocError>
+fn answer_of<R: Abort + AllocGlobal>(rt: &R, cut: Cut) -> Result<Answer, NoMemory>
     requires { (cut.first ≤ cut.second) × (cut.second ≤ STORES) }
 {
     let (words, mut writer, mut pass) = one_full_group(rt)?;
@@ -54,7 +53,7 @@ fn is_sure<R: Abort>(rt: &R, cut: Cut, answer: Answer) -> bool {
 }
 
 /// How many comparisons that begin after so many stores have a sure answer while the put stands between its first and its last store.
-fn count_sure<R: Abort + AllocGlobal>(rt: &R, first: usize) -> Result<u64, AllocError>
+fn count_sure<R: Abort + AllocGlobal>(rt: &R, first: usize) -> Result<u64, NoMemory>
     requires { first ≤ STORES }
 {
     let mut count = 0u64;

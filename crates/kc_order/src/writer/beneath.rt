@@ -8,13 +8,14 @@ ghost use Rattle.kc_order.specs.Standing.{list_after};
 ghost use Rattle.kc_order.specs.Writers.{HasVersionsLeft, end_of, front_of, stores_of};
 
 use super::Writer;
+use crate::NoMemory;
 use crate::answer::Answer;
 use crate::collect::{Collect, first_collect, second_collect};
 use crate::storing::store_each;
 use kc_list::Write;
 use kc_table::{Pass, Words, WriterSeat};
 use kc_words::NoteWord;
-use std::alloc::{AllocError, Global};
+use std::alloc::Global;
 use std::process::Abort;
 
 /// After how many stores of a put a comparison makes its first collect, and after how many its second.
@@ -25,7 +26,7 @@ pub(crate) struct Cut {
 }
 
 /// What a put stores, in order: all writes but the last, the note, and the last write.
-fn with_note(alloc: Global, writes: &[Write], note: NoteWord) -> Result<Vec<Write>, AllocError>
+fn with_note(alloc: Global, writes: &[Write], note: NoteWord) -> Result<Vec<Write>, NoMemory>
     requires some { 0 < length writes.now }
     requires fitting { IsFitting note }
     ensures { IfOk result (λ v. v.items ≡ (front_of writes.now ++ record { word = 0; value = note_word note } ∷ []) ++ end_of writes.now) }
