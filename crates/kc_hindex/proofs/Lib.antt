@@ -1,0 +1,6 @@
+pub mod Cores
+pub mod HIndex
+pub mod Releasing
+pub mod Rows
+pub mod Settling
+pub mod Taking

@@ -1,0 +1,6 @@
+use Rattle.std.proofs.Common.{arith}
+use Rattle.kc_graph.proofs.Buckets.{pushed}
+use Rattle.kc_hindex.proofs.ordering.push_into.Goals as goal
+
+pub returns : goal.returns
+returns c = pushed c.args.rows.now c.args.b c.args.w c.index-rows-b.result c.push.new.self (omega arith) c.in_ok-push.ensures.items

@@ -1,0 +1,5 @@
+use Rattle.kc_hindex.proofs.Settling.{never_rises}
+use Rattle.kc_hindex.proofs.rounds_never_rise.Goals as goal
+
+pub returns : goal.returns
+returns c = never_rises

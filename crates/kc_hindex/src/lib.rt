@@ -1,0 +1,38 @@
+//! Core numbers by rounds of h-indices.
+#![tactic(auto)]
+
+mod degrees;
+mod ordering;
+mod peeling;
+mod rounds;
+
+ghost use Rattle.std.specs.Prelude.{◌≡◌, ◌≤◌, ◌<◌, ◌+◌, ℕ, suc, List};
+ghost use Rattle.kc_graph.specs.SimpleGraph.{SimpleGraph};
+ghost use Rattle.kc_graph.specs.Core.{IsCoreNumber, AreCoreNumbers};
+ghost use Rattle.kc_hindex.specs.Rounds.{IsHIndex, h_index, after_rounds, IsSettled, AreRounds, HasRound, total};
+
+pub use ordering::lawful;
+pub use peeling::{Peeled, peel};
+pub use rounds::round;
+
+/// A list has one h-index.
+pub fn lists_have_one_h_index()
+    ensures is { (xs : List ℕ) → IsHIndex xs (h_index xs) }
+    ensures only { (xs : List ℕ) (h : ℕ) → IsHIndex xs h → h ≡ h_index xs }
+{}
+
+/// Numbers that a round leaves as they are, reached from the degrees, are the core numbers.
+pub fn settled_numbers_are_core_numbers()
+    ensures { (g : SimpleGraph) (r : ℕ) (numbers : List ℕ) → IsSettled g r → HasRound g r numbers → AreCoreNumbers g numbers }
+{}
+
+/// No round raises a number.
+pub fn rounds_never_rise()
+    ensures { (g : SimpleGraph) (r v : ℕ) → after_rounds g (suc r) v ≤ after_rounds g r v }
+{}
+
+/// There is a first round that changes nothing, within one more than the sum of the degrees, and no other.
+pub fn rounds_end()
+    ensures exist { (g : SimpleGraph) → (n : ℕ) × AreRounds g n × (n ≤ total (after_rounds g 0) g.size + 1) }
+    ensures only { (g : SimpleGraph) (m n : ℕ) → AreRounds g m → AreRounds g n → m ≡ n }
+{}
