@@ -13,7 +13,8 @@ use Rattle.kc_hindex.specs.Rounds.{h_index, h_round, after_rounds, IsSettled, Ar
 use Rattle.kc_hindex.proofs.HIndex.{h_index-length, h_index-mono, length-map}
 use Rattle.kc_hindex.proofs.Cores.{neighbours_distinct}
 
-map-agree : (c d : ℕ → ℕ) (ws : List ℕ) → ((w : ℕ) → member w ws ≡ true → c w ≡ d w) → map c ws ≡ map d ws
+-- two ways to number that agree on a list
+pub map-agree : (c d : ℕ → ℕ) (ws : List ℕ) → ((w : ℕ) → member w ws ≡ true → c w ≡ d w) → map c ws ≡ map d ws
 map-agree c d [] h = refl
 map-agree c d (w ∷ ws) h = ap₂ (λ (x : ℕ) (xs : List ℕ). x ∷ xs) (h w (member-head w ws)) (map-agree c d ws (λ u m. h u (member-tail u w ws m)))
 

@@ -71,7 +71,7 @@ pub popped_next : (g : SimpleGraph) (core : List ℕ) (level v : ℕ) (left take
 popped_next g core level v left taken old rows h p =
     let in' : member v (row old level) ≡ true = ap (member v) p.here ∙ (member-push v v (row rows level) ∙ or_right (member v (row rows level)) (eqb v v) (eq-eqb v v refl)) in
     let k = h.rest.fits level v in' in
-    record { peeled = h.peeled; vertex = k.0; here = k.1; few = k.2; untaken = k.3; before = old; rest = h.rest; popped = p.here; others = p.others; }
+    record { peeled = h.peeled; vertex = k.0; here = k.1; few = k.2; untaken = k.3; before = old; rest = h.rest; popped = p.here; others = p.others }
 
 module _ (g : SimpleGraph) (core : List ℕ) (level v : ℕ) (left taken : List ℕ) (rows : List (List ℕ)) (t : IsNext g core level v left taken rows) where
   -- `v` has left its row
@@ -112,7 +112,7 @@ module _ (g : SimpleGraph) (core : List ℕ) (level v : ℕ) (left taken : List 
       omega (arith, h.lowered u, ap one_if z) in
       record {
         peeled = take_one g level v core taken core t.peeled t.vertex t.untaken (omega (arith, t.rest.counted v t.vertex, t.few, t.here))
-            (record { one_each = refl; taken_same = λ w _. refl; here = t.here; left = λ w lw out ne. t.peeled.open_ w lw out; });
+            (record { one_each = refl; taken_same = λ w _. refl; here = t.here; left = λ w lw out ne. t.peeled.open_ w lw out });
         rest = record {
           one_each = h.one_each ∙ t.rest.one_each;
           counted = λ u lu.
@@ -222,7 +222,7 @@ next_level g core level left taken rows numbers h none =
     let in' : member v members ≡ true = filter-member untaken v (below g.size) (member-below v g.size l) (not_from_false (member v taken) out) in
     let up : level + 1 ≤ at core v = (numbers.each v l).greatest (level + 1) (members, dense, Contains-from_member members v in') in
     omega (arith, up) in
-    record { peeled = raise g level core taken h.peeled (λ v l out. (above v l out, many v l out)); rest = h.rest; }
+    record { peeled = raise g level core taken h.peeled (λ v l out. (above v l out, many v l out)); rest = h.rest }
 
 -- all levels are done
 pub all_taken : (g : SimpleGraph) (core : List ℕ) (levels : ℕ) (left taken : List ℕ) (rows : List (List ℕ)) → Orders g core levels left taken rows → ((v : ℕ) → v < g.size → at core v < levels)

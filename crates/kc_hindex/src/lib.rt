@@ -1,9 +1,11 @@
 //! Core numbers by rounds of h-indices.
 #![tactic(auto)]
 
+mod counting;
 mod degrees;
 mod ordering;
 mod peeling;
+mod place;
 mod rounds;
 
 ghost use Rattle.std.specs.Prelude.{◌≡◌, ◌≤◌, ◌<◌, ◌+◌, ℕ, suc, List};
@@ -13,7 +15,6 @@ ghost use Rattle.kc_hindex.specs.Rounds.{IsHIndex, h_index, after_rounds, IsSett
 
 pub use ordering::lawful;
 pub use peeling::{Peeled, peel};
-pub use rounds::round;
 
 /// A list has one h-index.
 pub fn lists_have_one_h_index()

@@ -38,12 +38,7 @@ fn pop_from(rows: &mut [Vec<u32>], b: u32) -> Option<u32>
 }
 
 /// One neighbour less is left to `w`, which waits if it has no more than its core number now.
-fn release(
-    w: u32,
-    core: &[u32],
-    left: &mut [u32],
-    waiting: &mut [Vec<u32>],
-) -> Result<(), NoMemory>
+fn release(w: u32, core: &[u32], left: &mut [u32], waiting: &mut [Vec<u32>]) -> Result<(), NoMemory>
     requires w_in { w < length left.old }
     requires one_each { length left.old ≡ length core.now }
     requires more { at core.now w < at left.old w }

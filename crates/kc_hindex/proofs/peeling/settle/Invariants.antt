@@ -1,9 +1,14 @@
 use Rattle.std.proofs.Common.{◌≤◌, ◌+◌, ℕ, suc}
+use Rattle.kc_hindex.specs.Places.{HaveRoom, numbers_of}
 use Rattle.kc_hindex.specs.Rounds.{after_rounds, HasRound, IsSettled, total}
 use Rattle.kc_hindex.proofs.peeling.settle.Given as goal
 
-abbrev pub invariant-loop-old : goal.invariant-loop-old
-invariant-loop-old g l = HasRound l.graph l.passed l.old × HasRound l.graph (suc l.passed) l.new × ((s : ℕ) → IsSettled l.graph s → l.passed ≤ s) × (l.passed + total (after_rounds l.graph l.passed) l.graph.size ≤ total (after_rounds l.graph 0) l.graph.size)
+-- The numbers are those after `passed` rounds, and the places have those of the next. None of the rounds before settled, and the sum of the
+-- numbers has fallen by one at least in each.
+abbrev pub invariant-loop-numbers : goal.invariant-loop-numbers
+invariant-loop-numbers g l = HasRound l.graph l.passed l.numbers × HasRound l.graph (suc l.passed) (numbers_of l.places)
+    × ((s : ℕ) → IsSettled l.graph s → l.passed ≤ s) × (l.passed + total (after_rounds l.graph l.passed) l.graph.size ≤ total (after_rounds l.graph 0) l.graph.size)
+    × HaveRoom l.numbers l.places
 
-abbrev pub decreases-loop-old : goal.decreases-loop-old
-decreases-loop-old g l = total (after_rounds l.graph l.passed) l.graph.size
+abbrev pub decreases-loop-numbers : goal.decreases-loop-numbers
+decreases-loop-numbers g l = total (after_rounds l.graph l.passed) l.graph.size

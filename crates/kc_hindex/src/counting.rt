@@ -1,0 +1,62 @@
+//! The h-index of numbers, by counting them.
+//!
+//! Where a bound of the h-index is known, each number above it is counted as the bound, so the counts need a place for each number up to
+//! the bound alone. From the bound down the counts are added up until as many numbers are reached as the number where the search stands.
+ghost use Rattle.std.specs.Prelude.{◌≡◌, ◌≤◌, ◌<◌, ◌^◌, ℕ, All, length, map, min, count_by, nat_eq, slice_index};
+ghost use Rattle.kc_hindex.specs.Rounds.{h_index};
+
+/// Sets the counts of the numbers up to `limit` to none.
+fn clear(counts: &mut [u32], limit: u32)
+    requires { limit < length counts.old }
+    ensures { (k : ℕ) → k ≤ limit → slice_index counts.new k ≡ 0 }
+{
+    for k in 0..limit as usize + 1 {
+        counts[k] = 0;
+    }
+}
+
+/// Counts the numbers of the vertices, each above `limit` as `limit`.
+fn tally(counts: &mut [u32], limit: u32, vertices: &[u32], numbers: &[u32])
+    requires room { limit < length counts.old }
+    requires clear { (k : ℕ) → k ≤ limit → slice_index counts.old k ≡ 0 }
+    requires within { All (λ w. w < length numbers.now) vertices.now }
+    requires few { length vertices.now < 2 ^ 32 }
+    ensures { (k : ℕ) → k ≤ limit → slice_index counts.new k ≡ count_by (λ w. nat_eq (min (slice_index numbers.now w) limit) k) vertices.now }
+{
+    for w in vertices {
+        let number = numbers[*w as usize].min(limit);
+        counts[number as usize] += 1;
+    }
+}
+
+/// The greatest number up to `limit` that as many numbers reach.
+fn greatest_reached(counts: &[u32], limit: u32, vertices: &[u32], numbers: &[u32]) -> u32
+    requires room { limit < length counts.now }
+    requires counts { (k : ℕ) → k ≤ limit → slice_index counts.now k ≡ count_by (λ w. nat_eq (min (slice_index numbers.now w) limit) k) vertices.now }
+    requires few { length vertices.now < 2 ^ 32 }
+    requires most { h_index (map (slice_index numbers.now) vertices.now) ≤ limit }
+    ensures { result ≡ h_index (map (slice_index numbers.now) vertices.now) }
+{
+    let _vertices = vertices.len();
+    let mut number = limit;
+    let mut reached = counts[limit as usize];
+    while reached < number {
+        number -= 1;
+        reached += counts[number as usize];
+    }
+    number
+}
+
+/// The h-index of the numbers of the vertices, where it is at most `limit`. `counts` has a place for each number up to `limit`, and what
+/// it holds before and after does not matter.
+pub(crate) fn h_index_of(limit: u32, vertices: &[u32], numbers: &[u32], counts: &mut [u32]) -> u32
+    requires room { limit < length counts.old }
+    requires within { All (λ w. w < length numbers.now) vertices.now }
+    requires few { length vertices.now < 2 ^ 32 }
+    requires most { h_index (map (slice_index numbers.now) vertices.now) ≤ limit }
+    ensures { result ≡ h_index (map (slice_index numbers.now) vertices.now) }
+{
+    clear(counts, limit);
+    tally(counts, limit, vertices, numbers);
+    greatest_reached(counts, limit, vertices, numbers)
+}
