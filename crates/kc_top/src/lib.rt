@@ -17,14 +17,20 @@ mod ending;
 mod graph;
 pub mod memory;
 pub mod run;
+mod setting;
+mod show;
 #[cfg(test)]
 mod tests;
 mod text;
+pub mod words;
 
 ghost use Rattle.std.specs.Prelude.{◌≡◌, ℕ, List};
 ghost use Rattle.kc_text.specs.Meaning.{Told};
 ghost use Rattle.kc_top.specs.Statuses.{exit_of};
 ghost use Rattle.kc_top.specs.Text.{IsText};
+
+pub use setting::Setting;
+pub use show::Show;
 
 /// How a run ended.
 #[derive(Clone, Copy, Debug, PartialEq, Eq)]
