@@ -6,6 +6,7 @@ pub mod Keeping
 pub mod Keyed
 pub mod WithinLimits
 pub mod LineCuts
+pub mod Marks
 pub mod Members
 pub mod NamedPairs
 pub mod Pairs

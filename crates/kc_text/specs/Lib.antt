@@ -1,5 +1,6 @@
 pub mod Batches
 pub mod Buckets
+pub mod Finding
 pub mod Forms
 pub mod Inputs
 pub mod Kinds

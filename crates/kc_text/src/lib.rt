@@ -16,6 +16,7 @@ mod bytes;
 mod change;
 mod fault;
 mod fields;
+mod finder;
 mod ids;
 mod input;
 mod kind;
@@ -38,8 +39,8 @@ ghost use Rattle.kc_text.specs.Meaning.{Means, Refuses, Told, ends, ends_of, mea
 ghost use Rattle.kc_text.specs.declared.refusal.Refusal.{Refusal};
 ghost use Rattle.kc_text.specs.declared.limits.TheConstants.{MOST_IDS, MOST_BYTES};
 
-use crate::buckets::Buckets;
 use crate::change::Change;
+use crate::finder::Finder;
 use crate::numbering::{batches_of, start_of};
 use crate::reading::{Reading, read_text};
 pub use fault::ParseFault;
@@ -67,9 +68,9 @@ fn input_of(
     ensures batches { IfOk result (λ input. map (λ batch. map parts_of batch.items) input.batches.items
         ≡ map (λ batch. map (numbered_change ids.items) batch.items) batches.now) }
 {
-    let buckets = Buckets::new(alloc, &ids)?;
-    let start = start_of(alloc, &ids, &buckets, edges)?;
-    let batches = batches_of(alloc, &ids, &buckets, batches)?;
+    let finder = Finder::new(alloc, &ids)?;
+    let start = start_of(alloc, &ids, &finder, edges)?;
+    let batches = batches_of(alloc, &ids, &finder, batches)?;
     Ok(Input {
         ids,
         start,
