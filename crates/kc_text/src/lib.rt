@@ -39,10 +39,10 @@ ghost use Rattle.kc_text.specs.Meaning.{Means, Refuses, Told, ends, ends_of, mea
 ghost use Rattle.kc_text.specs.declared.refusal.Refusal.{Refusal};
 ghost use Rattle.kc_text.specs.declared.limits.TheConstants.{MOST_IDS, MOST_BYTES};
 
-use crate::change::Change;
 use crate::finder::Finder;
 use crate::numbering::{batches_of, start_of};
 use crate::reading::{Reading, read_text};
+pub use change::Change;
 pub use fault::ParseFault;
 pub use input::Input;
 pub use kind::Kind;
