@@ -11,6 +11,7 @@ pub mod Members
 pub mod NamedPairs
 pub mod Pairs
 pub mod Places
+pub mod PlainLines
 pub mod Ranges
 pub mod Sure
 pub mod Telling

@@ -26,6 +26,7 @@ mod look;
 mod number;
 mod numbering;
 mod once;
+mod plain;
 mod reader;
 mod reading;
 mod refusal;

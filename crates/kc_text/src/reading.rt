@@ -8,11 +8,10 @@ ghost use Rattle.kc_text.specs.Readings.{IsEnd, IsReading};
 ghost use Rattle.kc_text.specs.declared.limits.TheConstants.{MOST_IDS, MOST_BYTES};
 
 use crate::NoMemory;
-use crate::bytes::cut_line;
 use crate::change::Change;
 use crate::ids::ids_of;
 use crate::limits::MOST_IDS;
-use crate::line::read_line;
+use crate::line::next_line;
 use crate::look::Look;
 use crate::once::all_name_once;
 use crate::reader::Reader;
@@ -42,9 +41,9 @@ fn read_lines(alloc: Global, reader: &mut Reader, bytes: &[u8]) -> Result<Option
 {
     let mut rest = bytes;
     let mut line = 0u32;
-    while let Some((text, more)) = cut_line(rest) {
+    while let Some((said, more)) = next_line(rest) {
         line += 1;
-        if let Some(kind) = reader.take(alloc, read_line(text))? {
+        if let Some(kind) = reader.take(alloc, said)? {
             return Ok(Some(Refusal { line, kind }));
         }
         rest = more;
