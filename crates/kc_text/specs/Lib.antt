@@ -7,5 +7,6 @@ pub mod Kinds
 pub mod Lines
 pub mod Looks
 pub mod Meaning
+pub mod Overruling
 pub mod Readers
 pub mod Readings

@@ -5,12 +5,13 @@
 //! means is defined in `specs/`: `Lines` cuts it into lines and fields, `Forms` says what one line says, `Meaning` judges each line
 //! after what the lines before it have told, and `Inputs` numbers the ids. The other files there serve the crate's own proofs.
 //!
-//! Reading is linear but for sorts. The different ids are counted at the end, where they are sorted anyway, and each batch's pairs are
-//! sorted there too. Only where there are too many ids, or a batch names a pair twice, is the text read again, to find the line. The
-//! crate stands on `kc_graph`, for a graph's edges as a set of pairs and for its updates.
+//! A batch may name a pair again. Then the last line that names it decides, as `specs/Overruling` says, and the others are counted.
+//!
+//! Reading is linear but for sorts. The different ids are counted at the end, where they are sorted anyway. Only where there are too
+//! many is the text read again, to find the line. The crate stands on `kc_graph`, for a graph's edges as a set of pairs and for its
+//! updates.
 #![tactic(auto)]
 
-mod batch;
 mod buckets;
 mod bytes;
 mod change;
@@ -25,7 +26,7 @@ mod line;
 mod look;
 mod number;
 mod numbering;
-mod once;
+mod overruling;
 mod plain;
 mod reader;
 mod reading;
@@ -37,11 +38,13 @@ ghost use Rattle.std.specs.Prelude.{◌≡◌, ◌≢◌, ◌≤◌, ◌<◌, �
 ghost use Rattle.std.specs.List.Sorted.{IsStrictlyIncreasing};
 ghost use Rattle.kc_text.specs.Inputs.{AreAmong, AreEdges, IsBatch, IsInput, numbered_change, parts_of, start_graph};
 ghost use Rattle.kc_text.specs.Meaning.{Means, Refuses, Told, ends, ends_of, meaning};
+ghost use Rattle.kc_text.specs.Overruling.{deciding, overruled};
 ghost use Rattle.kc_text.specs.declared.refusal.Refusal.{Refusal};
-ghost use Rattle.kc_text.specs.declared.limits.TheConstants.{MOST_IDS, MOST_BYTES};
+ghost use Rattle.kc_text.specs.declared.limits.TheConstants.{MOST_BATCHES, MOST_BYTES, MOST_IDS, MOST_UPDATES};
 
 use crate::finder::Finder;
 use crate::numbering::{batches_of, start_of};
+use crate::overruling::decide;
 use crate::reading::{Reading, read_text};
 pub use change::Change;
 pub use fault::ParseFault;
@@ -64,18 +67,22 @@ fn input_of(
     requires edges { AreAmong ids.items (ends edges.now) }
     requires batches { All (λ batch. AreAmong ids.items (ends (map ends_of batch.items))) batches.now }
     requires apart { All (λ batch. All (λ c. c.a ≢ c.b) batch.items) batches.now }
+    requires short { All (λ batch. length batch.items ≤ MOST_UPDATES) batches.now }
     ensures ids { IfOk result (λ input. input.ids.items ≡ ids.items) }
     ensures start { IfOk result (λ input. AreEdges (start_graph ids.items edges.now) input.start.items) }
     ensures batches { IfOk result (λ input. map (λ batch. map parts_of batch.items) input.batches.items
-        ≡ map (λ batch. map (numbered_change ids.items) batch.items) batches.now) }
+        ≡ map (λ batch. map (numbered_change ids.items) (deciding batch.items)) batches.now) }
+    ensures overruled { IfOk result (λ input. input.overruled.items ≡ map (λ batch. overruled batch.items) batches.now) }
 {
     let finder = Finder::new(alloc, &ids)?;
     let start = start_of(alloc, &ids, &finder, edges)?;
-    let batches = batches_of(alloc, &ids, &finder, batches)?;
+    let (deciding, overruled) = decide(alloc, batches)?;
+    let batches = batches_of(alloc, &ids, &finder, &deciding)?;
     Ok(Input {
         ids,
         start,
         batches,
+        overruled,
     })
 }
 
@@ -87,6 +94,9 @@ pub fn parse(alloc: Global, bytes: &[u8]) -> Result<Input, ParseFault>
     requires { length bytes.now ≤ MOST_BYTES }
     ensures input { IfOk result (λ input. (told : Told) × (meaning bytes.now ≡ Means told) × IsInput told input) }
     ensures few { IfOk result (λ input. length input.ids.items ≤ MOST_IDS) }
+    ensures few_batches { IfOk result (λ input. length input.batches.items ≤ MOST_BATCHES) }
+    ensures short { IfOk result (λ input. All (λ batch. length batch.items ≤ MOST_UPDATES) input.batches.items) }
+    ensures counts { IfOk result (λ input. All (λ count. count ≤ MOST_UPDATES) input.overruled.items) }
     ensures batches { IfOk result (λ input. All (λ batch. IsBatch (length input.ids.items) batch.items) input.batches.items) }
     ensures refused { (r : Refusal) → IsErrOf result (ParseFault.Refused r) → meaning bytes.now ≡ Refuses r.line r.kind }
 {
