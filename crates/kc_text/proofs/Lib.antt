@@ -9,6 +9,7 @@ pub mod Marks
 pub mod Members
 pub mod NamedPairs
 pub mod Overruled
+pub mod Strict
 pub mod Pairs
 pub mod Places
 pub mod PlainLines

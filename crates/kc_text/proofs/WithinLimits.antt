@@ -48,7 +48,7 @@ not_over told h =
     }
 
 -- both checks of two found nothing
-both_none : (a b : Option Kind) → or_else a b ≡ None → (a ≡ None) × (b ≡ None)
+pub both_none : (a b : Option Kind) → or_else a b ≡ None → (a ≡ None) × (b ≡ None)
 both_none (Some kind) b h = absurd (cc)
 both_none None b h = (refl, h)
 

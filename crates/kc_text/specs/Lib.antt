@@ -7,6 +7,7 @@ pub mod Kinds
 pub mod Lines
 pub mod Looks
 pub mod Meaning
+pub mod NamedOnce
 pub mod Overruling
 pub mod Readers
 pub mod Readings

@@ -34,11 +34,16 @@ mod refusal;
 #[cfg(test)]
 mod tests;
 
-ghost use Rattle.std.specs.Prelude.{◌≡◌, ◌≢◌, ◌≤◌, ◌<◌, ◌^◌, All, IfOk, IsErrOf, length, map};
+ghost use Rattle.std.specs.Prelude.{◌≡◌, ◌≢◌, ◌≤◌, ◌<◌, ◌+◌, ◌^◌, ◌↔◌, ℕ, List, All, IfOk, IsErrOf, length, map};
+ghost use Rattle.std.specs.List.{list_any};
 ghost use Rattle.std.specs.List.Sorted.{IsStrictlyIncreasing};
+ghost use Rattle.kc_text.specs.Batches.{NamesOnce};
 ghost use Rattle.kc_text.specs.Inputs.{AreAmong, AreEdges, IsBatch, IsInput, numbered_change, parts_of, start_graph};
-ghost use Rattle.kc_text.specs.Meaning.{Means, Refuses, Told, ends, ends_of, meaning};
+ghost use Rattle.kc_text.specs.Meaning.{Means, Refuses, Told, batches, ends, ends_of, meaning, name_same};
+ghost use Rattle.kc_text.specs.NamedOnce.{Ends, IsRefused, Tells, strict_meaning};
 ghost use Rattle.kc_text.specs.Overruling.{deciding, overruled};
+ghost use Rattle.kc_text.specs.declared.change.Change as change;
+ghost use Rattle.kc_text.specs.declared.kind.Kind.{Kind};
 ghost use Rattle.kc_text.specs.declared.refusal.Refusal.{Refusal};
 ghost use Rattle.kc_text.specs.declared.limits.TheConstants.{MOST_BATCHES, MOST_BYTES, MOST_IDS, MOST_UPDATES};
 
@@ -106,3 +111,19 @@ pub fn parse(alloc: Global, bytes: &[u8]) -> Result<Input, ParseFault>
     }
     Ok(input_of(alloc, reading.ids, &reading.edges, &reading.batches)?)
 }
+
+/// The changes of a batch that decide name each pair that the batch names, and none twice, and all its other changes are overruled.
+pub fn a_batch_decides_each_pair_once()
+    ensures once { (batch : List change.Change) → NamesOnce (deciding batch) }
+    ensures each { (c : change.Change) (batch : List change.Change) → list_any (name_same c) (deciding batch) ≡ list_any (name_same c) batch }
+    ensures others { (batch : List change.Change) → length (deciding batch) + overruled batch ≡ length batch }
+{}
+
+/// A text means what it means by a stricter rule, by which a line that names a pair of its batch again ends the reading: just where no
+/// batch names a pair twice does that rule come to the end, and then each change decides. What is refused by that rule is refused.
+pub fn what_names_each_edge_once_means_the_same()
+    ensures same { (bytes : List ℕ) (told : Told) → (strict_meaning bytes ≡ Tells told) ↔ ((meaning bytes ≡ Means told) × All NamesOnce (batches told)) }
+    ensures all_decide { (bytes : List ℕ) (told : Told) → strict_meaning bytes ≡ Tells told
+        → All (λ batch. (deciding batch ≡ batch) × (overruled batch ≡ 0)) (batches told) }
+    ensures refused { (bytes : List ℕ) (line : ℕ) (kind : Kind) → strict_meaning bytes ≡ Ends line (IsRefused kind) → meaning bytes ≡ Refuses line kind }
+{}
