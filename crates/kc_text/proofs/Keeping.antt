@@ -1,6 +1,6 @@
 -- What a reader keeps, one line after another.
 use Rattle.std.proofs.Common.{◌≡◌, ◌+◌, ℕ, Bool, List, [], ◌∷◌, ◌++◌, length, sym, ap, ap₂, subst, ◌∙◌, nat_eq, nat_lt, arith, length-append, inl, inr, Option}
-use Rattle.std.specs.Prelude.{IfSome, is_some}
+use Rattle.std.specs.Prelude.{IfSome}
 use Rattle.std.specs.HashSet.{IsUnique}
 use Rattle.std.specs.Set.{distinct_count}
 use Rattle.kc_text.specs.declared.change.Change.{Change}

@@ -1,10 +1,9 @@
 -- The changes of a batch that decide: they name each of its pairs, and none twice.
-use Rattle.std.proofs.Common.{◌≡◌, ◌≢◌, ◌≤◌, ◌+◌, ℕ, suc, zero, Bool, true, false, cond, ◌||◌, List, [], ◌∷◌, length, map, get_or, refl, sym, ap, subst, ◌∙◌, arith, nat_eq, inl, inr}
-use Rattle.std.specs.Prelude.{All, AllPairs}
+use Rattle.std.proofs.Common.{◌≡◌, ◌+◌, ℕ, suc, Bool, true, false, cond, ◌||◌, List, [], ◌∷◌, length, map, get_or, refl, sym, ap, ◌∙◌, arith, nat_eq, inl, inr}
+use Rattle.std.specs.Prelude.{All}
 use Rattle.std.specs.List.{list_any}
 use Rattle.std.specs.Set.{is_member}
-use Rattle.std.specs.Cmp.{both_ways}
-use Rattle.std.proofs.lemmas.Bool.{cases_Bool, or_cases, or_left, or_parts, or_right, false≢true}
+use Rattle.std.proofs.lemmas.Bool.{cases_Bool, or_cases, or_left, or_right, false≢true}
 use Rattle.std.proofs.lemmas.List.Elements.{All-cons, All-nil}
 use Rattle.std.proofs.lemmas.List.Folds.{list_any_at, list_any_none}
 use Rattle.std.proofs.lemmas.List.Kept.{AllPairs-cons}
@@ -13,7 +12,7 @@ use Rattle.kc_text.specs.Batches.{NamesOnce}
 use Rattle.kc_text.specs.Inputs.{AreAmong}
 use Rattle.kc_text.specs.Meaning.{ends, ends_of, name_same}
 use Rattle.kc_text.specs.Overruling.{deciding, overruled}
-use Rattle.kc_text.proofs.NamedPairs.{name_same-congr, name_same-flip, no_change}
+use Rattle.kc_text.proofs.NamedPairs.{name_same-congr, name_same-flip}
 
 -- a test that finds no change fails at each
 pub none-at : (p : Change → Bool) (batch : List Change) → list_any p batch ≡ false → All (λ d. p d ≡ false) batch

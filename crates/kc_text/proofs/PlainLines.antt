@@ -1,4 +1,4 @@
--- A line of two numbers with one blank between them says an edge.
+-- What a plain line says: two numbers with one blank between them, alone or after a sign and a blank.
 use Rattle.std.proofs.Common.{◌≡◌, ◌≤◌, ◌<◌, ◌-◌, ◌==◌, ◌&&◌, ◌||◌, ℕ, Bool, true, false, cond, List, [], ◌∷◌, ◌++◌, length, get_or, take, drop, map, refl, sym, ap, ◌∙◌, arith, inl, inr, eqb-true, le-leb, lt-ltb, ltb-true, leb-true, length-append, append_assoc, Result, Ok, Err, nat_le}
 use Rattle.std.specs.Prelude.{All, codes}
 use Rattle.std.specs.List.{list_all, position_or_len}
@@ -11,9 +11,10 @@ use Rattle.std.proofs.lemmas.List.Sums.{position_or_len_is}
 use Rattle.kc_text.specs.declared.kind.Kind.{Kind}
 use Rattle.kc_text.specs.declared.kind.Kind.TheVariants.{NotANumber, NumberTooLarge}
 use Rattle.kc_text.specs.declared.line.Line.{Line}
-use Rattle.kc_text.specs.declared.line.Line.TheVariants.{Nothing, Edge}
+use Rattle.kc_text.specs.declared.line.Line.TheVariants.{Nothing, Edge, Change}
 use Rattle.kc_text.specs.Forms.{all_said, batch_form, change_form, edge_form, first_number, is_comment, is_digit, last_number, line_of, number, said_by, two_numbers, value}
 use Rattle.kc_text.specs.Lines.{fields, is_blank, is_newline, is_not_empty, lines}
+use Rattle.kc_text.specs.Plain.{BeginsWithPair, sign_of}
 use Rattle.kc_text.proofs.FieldCuts.{fields-blank, fields-first}
 use Rattle.kc_text.proofs.LineCuts.{lines-cut}
 
@@ -53,7 +54,8 @@ digits-of ds v e = elim (cases_Bool (list_all is_digit ds && is_not_empty ds)) [
 
 pub number-is : (ds : List ℕ) (v : ℕ) → list_all is_digit ds ≡ true → 0 < length ds → v ≡ value ds → v ≤ 4294967295 → number ds ≡ Ok v
 number-is ds v digits some e l =
-    ap (λ b. cond b (cond (nat_le (value ds) 4294967295) (Ok (value ds)) (Err NumberTooLarge)) (Err NotANumber)) (and_from (list_all is_digit ds) (is_not_empty ds) digits (lt-ltb 0 (length ds) some))
+    ap (λ b. cond b (cond (nat_le (value ds) 4294967295) (Ok (value ds)) (Err NumberTooLarge)) (Err NotANumber))
+    (and_from (list_all is_digit ds) (is_not_empty ds) digits (lt-ltb 0 (length ds) some))
     ∙ ap (λ b. cond b (Ok (value ds)) (Err NumberTooLarge)) (le-leb (value ds) 4294967295 (omega arith)) ∙ ap (λ n. Ok n) (sym e)
 
 -- the first place that passes stands behind those that don't
@@ -80,16 +82,22 @@ fields-alone (e ∷ es) h =
     ∙ ap (λ (t : List ℕ). t ∷ fields (drop (length (e ∷ es)) (e ∷ es))) (take_all (length (e ∷ es)) (e ∷ es) (omega arith))
     ∙ ap (λ (t : List ℕ). (e ∷ es) ∷ fields t) (drop_all (length (e ∷ es)) (e ∷ es) (omega arith))
 
-fields-plain : (ds : List ℕ) (blank : ℕ) (es : List ℕ) → AreDigits ds → is_blank blank ≡ true → AreDigits es → fields (ds ++ blank ∷ es) ≡ ds ∷ es ∷ []
-fields-plain [] blank es d h e = absurd (omega (arith, d.some))
-fields-plain (x ∷ ds) blank es d h e =
-    let whole : List ℕ = x ∷ (ds ++ blank ∷ es) in
-    let n : position_or_len is_blank whole ≡ length (x ∷ ds) = first_stop is_blank (x ∷ ds) blank es (λ k y l. digit-no_blank (get_or (x ∷ ds) k y) (d.each k y l)) h in
-    fields-first x (ds ++ blank ∷ es) (digit-no_blank x (d.each 0 0 (omega arith)))
+-- a first field, and those behind the blank that ends it
+fields-parted : (xs : List ℕ) (blank : ℕ) (ys : List ℕ) → 0 < length xs → All (λ b. is_blank b ≡ false) xs → is_blank blank ≡ true
+    → fields (xs ++ blank ∷ ys) ≡ xs ∷ fields ys
+fields-parted [] blank ys some none h = absurd (omega arith)
+fields-parted (x ∷ xs) blank ys some none h =
+    let whole : List ℕ = x ∷ (xs ++ blank ∷ ys) in
+    let n : position_or_len is_blank whole ≡ length (x ∷ xs) = first_stop is_blank (x ∷ xs) blank ys none h in
+    fields-first x (xs ++ blank ∷ ys) (none 0 0 (omega arith))
     ∙ ap (λ (k : ℕ). take k whole ∷ fields (drop k whole)) n
-    ∙ ap (λ (t : List ℕ). t ∷ fields (drop (length (x ∷ ds)) whole)) (take_at (x ∷ ds) (blank ∷ es) (length (x ∷ ds)) refl)
-    ∙ ap (λ (t : List ℕ). (x ∷ ds) ∷ fields t) (drop_at (x ∷ ds) (blank ∷ es) (length (x ∷ ds)) refl)
-    ∙ ap (λ (t : List (List ℕ)). (x ∷ ds) ∷ t) (fields-blank blank es h ∙ fields-alone es e)
+    ∙ ap (λ (t : List ℕ). t ∷ fields (drop (length (x ∷ xs)) whole)) (take_at (x ∷ xs) (blank ∷ ys) (length (x ∷ xs)) refl)
+    ∙ ap (λ (t : List ℕ). (x ∷ xs) ∷ fields t) (drop_at (x ∷ xs) (blank ∷ ys) (length (x ∷ xs)) refl)
+    ∙ ap (λ (t : List (List ℕ)). (x ∷ xs) ∷ t) (fields-blank blank ys h)
+
+fields-plain : (ds : List ℕ) (blank : ℕ) (es : List ℕ) → AreDigits ds → is_blank blank ≡ true → AreDigits es → fields (ds ++ blank ∷ es) ≡ ds ∷ es ∷ []
+fields-plain ds blank es d h e = fields-parted ds blank es d.some (λ k x l. digit-no_blank (get_or ds k x) (d.each k x l)) h
+    ∙ ap (λ (t : List (List ℕ)). ds ∷ t) (fields-alone es e)
 
 -- a first field that begins with a digit is that of an edge line
 digit-edge : (d : ℕ) (ds : List ℕ) (rest : List (List ℕ)) → is_digit d ≡ true → line_of ((d ∷ ds) ∷ rest) ≡ edge_form (two_numbers ((d ∷ ds) ∷ rest))
@@ -102,33 +110,90 @@ digit-edge d ds rest h =
     let minus : Line = cond (bytes_eq (d ∷ ds) (codes "-")) (change_form false (two_numbers rest)) edge in
     let plus : Line = cond (bytes_eq (d ∷ ds) (codes "+")) (change_form true (two_numbers rest)) minus in
     let batch : Line = cond (bytes_eq (d ∷ ds) (codes "batch")) (batch_form rest) plus in
-    ap (λ t. cond t Nothing batch) no_hash ∙ ap (λ t. cond t (batch_form rest) plus) no_batch ∙ ap (λ t. cond t (change_form true (two_numbers rest)) minus) no_plus
+    ap (λ t. cond t Nothing batch) no_hash ∙ ap (λ t. cond t (batch_form rest) plus) no_batch
+    ∙ ap (λ t. cond t (change_form true (two_numbers rest)) minus) no_plus
     ∙ ap (λ t. cond t (change_form false (two_numbers rest)) edge) no_minus
+
+two-said : (ds es : List ℕ) (a b : ℕ) → number ds ≡ Ok a → number es ≡ Ok b → two_numbers (ds ∷ es ∷ []) ≡ Ok (a, b)
+two-said ds es a b p q = ap (λ (r : Result ℕ Kind). first_number r (es ∷ [])) p ∙ ap (λ (r : Result ℕ Kind). last_number a r []) q
 
 two-edge : (ds es : List ℕ) (a b : ℕ) → AreDigits ds → number ds ≡ Ok a → number es ≡ Ok b → line_of (ds ∷ es ∷ []) ≡ Edge a b
 two-edge [] es a b d p q = absurd (omega (arith, d.some))
-two-edge (x ∷ ds) es a b d p q =
-    digit-edge x ds (es ∷ []) (d.each 0 0 (omega arith))
-    ∙ ap (λ (r : Result ℕ Kind). edge_form (first_number r (es ∷ []))) p ∙ ap (λ (r : Result ℕ Kind). edge_form (last_number a r [])) q
+two-edge (x ∷ ds) es a b d p q = digit-edge x ds (es ∷ []) (d.each 0 0 (omega arith)) ∙ ap edge_form (two-said (x ∷ ds) es a b p q)
+
+-- a first field that is a sign is that of a change
+sign-change : (add : Bool) (rest : List (List ℕ)) → line_of ((sign_of add ∷ []) ∷ rest) ≡ change_form add (two_numbers rest)
+sign-change true rest = refl
+sign-change false rest = refl
+
+-- a sign is neither a blank nor part of a line's end
+sign-other : (add : Bool) → (is_blank (sign_of add) ≡ false) × (is_newline (sign_of add) ≡ false) × ((sign_of add == 13) ≡ false)
+sign-other true = (refl, refl, refl)
+sign-other false = (refl, refl, refl)
 
 -- a line without a carriage return at its end keeps all of it
 kept : (line : List ℕ) → 0 < length line → All (λ b. (b == 13) ≡ false) line → strip_carriage_return line ≡ line
 kept line some none = ap (λ b. cond b (take (length line - 1) line) line) (none (length line - 1) 0 (omega arith))
 
-pub said-plain : (bytes ds : List ℕ) (blank : ℕ) (es rest : List ℕ) (a b : ℕ) → bytes ≡ ds ++ (blank ∷ (es ++ (10 ∷ rest))) → is_blank blank ≡ true → number ds ≡ Ok a → number es ≡ Ok b
-    → all_said bytes ≡ Edge a b ∷ all_said rest
-said-plain bytes ds blank es rest a b whole h p q =
-    let d = digits-of ds a p in
-    let e = digits-of es b q in
-    let line : List ℕ = ds ++ blank ∷ es in
-    let cut : bytes ≡ line ++ (10 ∷ rest) = whole ∙ sym (append_assoc ds (blank ∷ es) (10 ∷ rest)) in
-    let n : position_or_len is_newline (line ++ (10 ∷ rest)) ≡ length line =
-    first_stop is_newline line 10 rest (of_line is_newline (λ x. low x 10 (omega arith)) (λ x. blank-other x 10 (omega arith) (omega arith)) ds blank es d h e) refl in
-    let len = length-append ds (blank ∷ es) in
-    let first : lines (line ++ (10 ∷ rest)) ≡ line ∷ lines rest =
-    lines-cut (line ++ (10 ∷ rest)) (omega (arith, length-append line (10 ∷ rest)))
+-- what is said before and after the first newline
+said-first : (line rest : List ℕ) → 0 < length line → All (λ b. is_newline b ≡ false) line → All (λ b. (b == 13) ≡ false) line
+    → all_said (line ++ (10 ∷ rest)) ≡ said_by line ∷ all_said rest
+said-first line rest some none keeps =
+    let n : position_or_len is_newline (line ++ (10 ∷ rest)) ≡ length line = first_stop is_newline line 10 rest none refl in
+    ap (map said_by)
+    (lines-cut (line ++ (10 ∷ rest)) (omega (arith, length-append line (10 ∷ rest)))
     ∙ ap (λ (k : ℕ). strip_carriage_return (take k (line ++ (10 ∷ rest))) ∷ lines (drop 1 (drop k (line ++ (10 ∷ rest))))) n
     ∙ ap (λ (t : List ℕ). strip_carriage_return t ∷ lines (drop 1 (drop (length line) (line ++ (10 ∷ rest))))) (take_at line (10 ∷ rest) (length line) refl)
     ∙ ap (λ (t : List ℕ). strip_carriage_return line ∷ lines (drop 1 t)) (drop_at line (10 ∷ rest) (length line) refl)
-    ∙ ap (λ (t : List ℕ). t ∷ lines rest) (kept line (omega arith) (of_line (λ x. x == 13) (λ x. low x 13 (omega arith)) (λ x. blank-other x 13 (omega arith) (omega arith)) ds blank es d h e)) in
-    ap all_said cut ∙ ap (map said_by) first ∙ ap (λ (l : Line). l ∷ all_said rest) (ap line_of (fields-plain ds blank es d h e) ∙ two-edge ds es a b d p q)
+    ∙ ap (λ (t : List ℕ). t ∷ lines rest) (kept line some keeps))
+
+-- the bytes of a plain pair's line, none of which ends it
+pub record IsPairLine (bytes : List ℕ) (a b : ℕ) (rest line : List ℕ) : Type 0 where
+  pub cut : bytes ≡ line ++ (10 ∷ rest)
+  pub some : 0 < length line
+  pub none : All (λ b. is_newline b ≡ false) line
+  pub keeps : All (λ b. (b == 13) ≡ false) line
+  pub edge : said_by line ≡ Edge a b
+  pub two : two_numbers (fields line) ≡ Ok (a, b)
+
+pair-line : (bytes : List ℕ) (a b : ℕ) (rest : List ℕ) → BeginsWithPair bytes a b rest → (line : List ℕ) × IsPairLine bytes a b rest line
+pair-line bytes a b rest h =
+    let d = digits-of h.first a h.spells_a in
+    let e = digits-of h.second b h.spells_b in
+    let line : List ℕ = h.first ++ h.blank ∷ h.second in
+    let parts : fields line ≡ h.first ∷ h.second ∷ [] = fields-plain h.first h.blank h.second d h.parted e in (
+      line,
+      record {
+        cut = h.whole ∙ sym (append_assoc h.first (h.blank ∷ h.second) (10 ∷ rest));
+        some = omega (arith, length-append h.first (h.blank ∷ h.second));
+        none = of_line is_newline (λ x. low x 10 (omega arith)) (λ x. blank-other x 10 (omega arith) (omega arith)) h.first h.blank h.second d h.parted e;
+        keeps = of_line (λ x. x == 13) (λ x. low x 13 (omega arith)) (λ x. blank-other x 13 (omega arith) (omega arith)) h.first h.blank h.second d h.parted e;
+        edge = ap line_of parts ∙ two-edge h.first h.second a b d h.spells_a h.spells_b;
+        two = ap two_numbers parts ∙ two-said h.first h.second a b h.spells_a h.spells_b;
+      },
+    )
+
+pub said-edge : (bytes : List ℕ) (a b : ℕ) (rest : List ℕ) → BeginsWithPair bytes a b rest → all_said bytes ≡ Edge a b ∷ all_said rest
+said-edge bytes a b rest h =
+    let (line, is) = pair-line bytes a b rest h in
+    ap all_said is.cut ∙ said-first line rest is.some is.none is.keeps ∙ ap (λ (l : Line). l ∷ all_said rest) is.edge
+
+pub said-change : (bytes : List ℕ) (add : Bool) (blank : ℕ) (after : List ℕ) (a b : ℕ) (rest : List ℕ) → bytes ≡ sign_of add ∷ blank ∷ after
+    → is_blank blank ≡ true → BeginsWithPair after a b rest
+    → all_said bytes ≡ Change (record { add = add; a = a; b = b }) ∷ all_said rest
+said-change bytes add blank after a b rest whole space h =
+    let (line, pair) = pair-line after a b rest h in
+    let (no_blank, no_newline, no_return) = sign-other add in
+    let sign : ℕ = sign_of add in
+    let signed : (p : ℕ → Bool) → p sign ≡ false → p blank ≡ false → All (λ b. p b ≡ false) line → All (λ b. p b ≡ false) (sign ∷ blank ∷ line) =
+    λ p s t more. All-cons (λ b. p b ≡ false) sign (blank ∷ line) s (All-cons (λ b. p b ≡ false) blank line t more) in
+    let parts : fields (sign ∷ blank ∷ line) ≡ (sign ∷ []) ∷ fields line =
+    fields-parted (sign ∷ []) blank line (omega arith) (All-cons (λ b. is_blank b ≡ false) sign [] no_blank (All-nil (λ b. is_blank b ≡ false))) space in
+    ap all_said (whole ∙ ap (λ (t : List ℕ). sign ∷ blank ∷ t) pair.cut)
+    ∙ said-first (sign ∷ blank ∷ line) rest (omega arith)
+    (signed is_newline no_newline (blank-other blank 10 (omega arith) (omega arith) space) pair.none)
+    (signed (λ x. x == 13) no_return (blank-other blank 13 (omega arith) (omega arith) space) pair.keeps)
+    ∙ ap (λ (l : Line). l ∷ all_said rest) (ap line_of parts ∙ sign-change add (fields line) ∙ ap (change_form add) pair.two)
+
+pub shorter-pair : (bytes : List ℕ) (a b : ℕ) (rest : List ℕ) → BeginsWithPair bytes a b rest → length rest < length bytes
+shorter-pair bytes a b rest h = let (line, is) = pair-line bytes a b rest h in omega (arith, ap (length) is.cut, length-append line (10 ∷ rest))

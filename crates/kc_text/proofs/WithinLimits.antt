@@ -1,19 +1,17 @@
 -- What is read fits: it is within the limits, and no change is a loop.
-use Rattle.std.proofs.Common.{◌≡◌, ◌≢◌, ◌≤◌, ◌<◌, ◌+◌, ℕ, suc, zero, Bool, true, false, cond, List, [], ◌∷◌, ◌++◌, length, get_or, ap, sym, subst, ◌∙◌, arith, nat_eq, nat_lt, ltb-false, inl, inr, Option, Some, None, refl}
-use Rattle.std.specs.Prelude.{All, AllPairs, IfSome, is_some, unwrap_or}
-use Rattle.std.specs.List.{list_any}
+use Rattle.std.proofs.Common.{◌≡◌, ◌≢◌, ◌≤◌, ◌+◌, ℕ, Bool, true, false, cond, List, [], ◌∷◌, ◌++◌, length, ap, sym, subst, ◌∙◌, arith, nat_eq, nat_lt, ltb-false, inl, inr, Option, Some, None, refl}
+use Rattle.std.specs.Prelude.{All, IfSome, is_some, unwrap_or}
 use Rattle.std.specs.Option.{option_to_list}
 use Rattle.std.specs.Set.{distinct_count}
-use Rattle.std.proofs.lemmas.Bool.{cases_Bool, eqb-false, or_parts}
+use Rattle.std.proofs.lemmas.Bool.{cases_Bool, eqb-false}
 use Rattle.std.proofs.lemmas.List.Elements.{All-nil, All-cons, All-append, All-push}
-use Rattle.std.proofs.lemmas.List.Quantifiers.{all_pairs_push}
 use Rattle.kc_text.specs.declared.change.Change.{Change}
 use Rattle.kc_text.specs.declared.kind.Kind.{Kind}
 use Rattle.kc_text.specs.declared.kind.Kind.TheVariants.{LoopInBatch, EdgeLineInBatch, UpdateOutsideBatch, TooLong}
 use Rattle.kc_text.specs.declared.line.Line.{Line}
 use Rattle.kc_text.specs.declared.line.Line.TheVariants as said
 use Rattle.kc_text.specs.Forms.{all_said}
-use Rattle.kc_text.specs.Meaning.{Told, Means, Refuses, batches, changes, ends_or, first_limit, meaning, name_same, names, nothing_told, or_else, passed_limit, reading, refusal, unfit, with_line}
+use Rattle.kc_text.specs.Meaning.{Told, Means, Refuses, batches, changes, ends_or, first_limit, meaning, names, nothing_told, or_else, passed_limit, reading, refusal, unfit, with_line}
 use Rattle.kc_text.specs.declared.limits.TheConstants.{MOST_IDS, MOST_EDGE_LINES, MOST_UPDATES, MOST_BATCHES, MOST_BYTES}
 
 -- no change is a loop

@@ -9,5 +9,6 @@ pub mod Looks
 pub mod Meaning
 pub mod NamedOnce
 pub mod Overruling
+pub mod Plain
 pub mod Readers
 pub mod Readings

@@ -7,7 +7,8 @@
 //!
 //! A batch may name a pair again. Then the last line that names it decides, as `specs/Overruling` says, and the others are counted.
 //!
-//! Reading is linear but for sorts. The different ids are counted at the end, where they are sorted anyway. Only where there are too
+//! Reading is linear but for sorts. A plain line is read in one scan (`plain`), any other is cut off and into fields. Ids that are not
+//! far apart are marked and listed, and far ones sorted (`ids`). The different ids are counted at the end, and only where there are too
 //! many is the text read again, to find the line. The crate stands on `kc_graph`, for a graph's edges as a set of pairs and for its
 //! updates.
 #![tactic(auto)]

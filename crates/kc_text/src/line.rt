@@ -8,7 +8,7 @@ use crate::change::Change;
 use crate::fields::cut_field;
 use crate::kind::Kind;
 use crate::number::number;
-use crate::plain::plain_edge;
+use crate::plain::plain_line;
 
 /// What one line says.
 #[derive(Clone, Copy)]
@@ -104,8 +104,8 @@ pub(crate) fn next_line(bytes: &[u8]) -> Option<(Line, &[u8])>
     ensures lines { MatchOption result (all_said bytes.now ≡ []) (λ r. all_said bytes.now ≡ r.0 ∷ all_said r.1.now) }
     ensures shorter { IfSome result (λ r. length r.1.now < length bytes.now) }
 {
-    if let Some((a, b, rest)) = plain_edge(bytes) {
-        return Some((Line::Edge(a, b), rest));
+    if let Some(plain) = plain_line(bytes) {
+        return Some(plain);
     }
     let (line, rest) = cut_line(bytes)?;
     Some((read_line(line), rest))

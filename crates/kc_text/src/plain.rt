@@ -1,16 +1,19 @@
-//! Reads at once the line that most of a text is: two short numbers with one blank between them, and a newline.
-ghost use Rattle.std.specs.Prelude.{◌≡◌, ◌∷◌, ◌++◌, ◌<◌, ℕ, List, Ok, IfSome, length};
-ghost use Rattle.kc_text.specs.Forms.{all_said, number};
-ghost use Rattle.kc_text.specs.declared.line.Line.TheVariants as said;
+//! Reads at once the lines that most of a text is: two short numbers with one blank between them and a newline behind them, alone or
+//! after a sign and a blank.
+ghost use Rattle.std.specs.Prelude.{◌≡◌, ◌∷◌, ◌<◌, IfSome, length};
+ghost use Rattle.kc_text.specs.Forms.{all_said};
+ghost use Rattle.kc_text.specs.Plain.{BeginsWithNumber, BeginsWithPair, sign_of};
 
+use crate::change::Change;
 use crate::fields::is_blank;
+use crate::line::Line;
 
 /// A value that is not above it has room for one digit more.
 const LARGE: u32 = 400_000_000;
 
 /// The number at the front, and what follows it. There is none where its value is large, or where nothing follows.
 fn front_number(bytes: &[u8]) -> Option<(u32, &[u8])>
-    ensures { IfSome result (λ r. (digits : List ℕ) × (bytes.now ≡ digits ++ r.1.now) × (number digits ≡ Ok r.0)) }
+    ensures { IfSome result (λ r. BeginsWithNumber bytes.now r.0 r.1.now) }
 {
     let mut value = 0u32;
     for (i, b) in bytes.iter().enumerate() {
@@ -29,10 +32,9 @@ fn front_number(bytes: &[u8]) -> Option<(u32, &[u8])>
     None
 }
 
-/// The edge of a plain first line, and what follows the line.
-pub(crate) fn plain_edge(bytes: &[u8]) -> Option<(u32, u32, &[u8])>
-    ensures edge { IfSome result (λ r. all_said bytes.now ≡ said.Edge r.0 r.1 ∷ all_said r.2.now) }
-    ensures shorter { IfSome result (λ r. length r.2.now < length bytes.now) }
+/// The two numbers of the first line, and what follows the line.
+fn front_pair(bytes: &[u8]) -> Option<(u32, u32, &[u8])>
+    ensures { IfSome result (λ r. BeginsWithPair bytes.now r.0 r.1 r.2.now) }
 {
     let (a, rest) = front_number(bytes)?;
     let (blank, rest) = rest.split_first()?;
@@ -45,4 +47,41 @@ pub(crate) fn plain_edge(bytes: &[u8]) -> Option<(u32, u32, &[u8])>
         return None;
     }
     Some((a, b, rest))
+}
+
+/// Whether a sign is that of an addition, or of a removal.
+fn adds(sign: u8) -> Option<bool>
+    ensures { IfSome result (λ add. sign ≡ sign_of add) }
+{
+    match sign {
+        b'+' => Some(true),
+        b'-' => Some(false),
+        _ => None,
+    }
+}
+
+/// What a plain first line says that begins with a sign, and what follows the line.
+fn plain_change(bytes: &[u8]) -> Option<(Line, &[u8])>
+    ensures said { IfSome result (λ r. all_said bytes.now ≡ r.0 ∷ all_said r.1.now) }
+    ensures shorter { IfSome result (λ r. length r.1.now < length bytes.now) }
+{
+    let (sign, rest) = bytes.split_first()?;
+    let add = adds(*sign)?;
+    let (blank, rest) = rest.split_first()?;
+    if !is_blank(*blank) {
+        return None;
+    }
+    let (a, b, rest) = front_pair(rest)?;
+    Some((Line::Change(Change { add, a, b }), rest))
+}
+
+/// What a plain first line says, and what follows the line. There is none where the line has another form, or may have.
+pub(crate) fn plain_line(bytes: &[u8]) -> Option<(Line, &[u8])>
+    ensures said { IfSome result (λ r. all_said bytes.now ≡ r.0 ∷ all_said r.1.now) }
+    ensures shorter { IfSome result (λ r. length r.1.now < length bytes.now) }
+{
+    match front_pair(bytes) {
+        Some((a, b, rest)) => Some((Line::Edge(a, b), rest)),
+        None => plain_change(bytes),
+    }
 }

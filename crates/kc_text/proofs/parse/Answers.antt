@@ -7,7 +7,7 @@ use Rattle.kc_text.specs.Meaning.{ends, ends_of}
 use Rattle.kc_text.specs.Inputs.{AreAmong, AreEdges, parts_of, start_graph}
 use Rattle.kc_text.specs.Overruling.{overruled}
 use Rattle.std.specs.Prelude.{All}
-use Rattle.kc_text.proofs.Batched.{Accepted, IsMadeOf, accepted, accepted-apart, accepted-batches, accepted-edges, accepted-short, made, made-batches, made-counts, made-few_batches, made-short, numbered_deciding}
+use Rattle.kc_text.proofs.Batched.{IsMadeOf, accepted, accepted-apart, accepted-batches, accepted-edges, accepted-short, made, made-batches, made-counts, made-few_batches, made-short, numbered_deciding}
 use Rattle.kc_text.specs.declared.limits.TheConstants.{MOST_UPDATES}
 use Rattle.kc_text.proofs.parse.Goals as goal
 

@@ -11,7 +11,8 @@ use Rattle.kc_text.proofs.Places.{found}
 use Rattle.kc_text.proofs.finder.table.Goals as goal
 
 -- one place more
-place-more : (ids table : List ℕ) (i : ℕ) → IsStrictlyIncreasing ids → i < length ids → get_or ids i 0 < length table → ((k : ℕ) → k < i → get_or table (get_or ids k 0) 0 ≡ k)
+place-more : (ids table : List ℕ) (i : ℕ) → IsStrictlyIncreasing ids → i < length ids → get_or ids i 0 < length table
+    → ((k : ℕ) → k < i → get_or table (get_or ids k 0) 0 ≡ k)
     → (k : ℕ) → k < i + 1 → get_or (set table (get_or ids i 0) i) (get_or ids k 0) 0 ≡ k
 place-more ids table i up l within before k lk = elim (cases_eq k i) [
   | inl same ↦ ap (λ (j : ℕ). get_or (set table (get_or ids i 0) i) (get_or ids j 0) 0) same ∙ get_or-set_same table (get_or ids i 0) i 0 within ∙ sym same
@@ -21,7 +22,8 @@ place-more ids table i up l within before k lk = elim (cases_eq k i) [
 ]
 
 -- the table of all places
-whole : (ids table : List ℕ) (len : ℕ) → IsStrictlyIncreasing ids → All (λ id. id < len) ids → length table ≡ len → ((k : ℕ) → k < length ids → get_or table (get_or ids k 0) 0 ≡ k) → IsTable ids table
+whole : (ids table : List ℕ) (len : ℕ) → IsStrictlyIncreasing ids → All (λ id. id < len) ids → length table ≡ len
+    → ((k : ℕ) → k < length ids → get_or table (get_or ids k 0) 0 ≡ k) → IsTable ids table
 whole ids table len up below as_many each = record {
   within = λ id h.
       let (k, l, e) = Contains-from_member ids id h in
@@ -36,8 +38,10 @@ whole ids table len up below as_many each = record {
 pub loop-i-preserved : goal.loop-i-preserved
 loop-i-preserved c = record {
   as_many = length-set c.loop-i.table.items (get_or c.args.ids.now c.loop-i.i 0) c.loop-i.i ∙ c.loop-i.invariant.as_many;
-  each = place-more c.args.ids.now c.loop-i.table.items c.loop-i.i c.requires.ascending c.loop-i-test.true (let b = c.requires.long c.loop-i.i 0 c.loop-i-test.true in omega (arith, c.loop-i.invariant.as_many)) c.loop-i.invariant.each;
+  each = place-more c.args.ids.now c.loop-i.table.items c.loop-i.i c.requires.ascending c.loop-i-test.true
+      (let b = c.requires.long c.loop-i.i 0 c.loop-i-test.true in omega (arith, c.loop-i.invariant.as_many)) c.loop-i.invariant.each;
 }
 
 pub returns : goal.returns
-returns c = whole c.args.ids.now c.loop-i.table.items c.args.len c.requires.ascending c.requires.long c.loop-i.invariant.as_many (λ k l. c.loop-i.invariant.each k (omega arith))
+returns c = whole c.args.ids.now c.loop-i.table.items c.args.len c.requires.ascending c.requires.long c.loop-i.invariant.as_many
+    (λ k l. c.loop-i.invariant.each k (omega arith))

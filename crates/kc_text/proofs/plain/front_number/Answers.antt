@@ -5,8 +5,10 @@ use Rattle.kc_text.proofs.plain.front_number.Goals as goal
 
 pub returns-else-i-eq0 : goal.returns-else-i-eq0
 returns-else-i-eq0 c =
-    let bytes : List ℕ = c.args.bytes.now in (
-      take c.loop-i.i bytes,
-      sym (take-append-drop c.loop-i.i bytes) ∙ ap (λ (t : List ℕ). take c.loop-i.i bytes ++ t) (sym c.split_at.ensures.back),
-      number-is (take c.loop-i.i bytes) c.loop-i.value c.loop-i.invariant.digits (omega (arith, length-take c.loop-i.i bytes)) c.loop-i.invariant.so_far (omega arith),
-    )
+    let bytes : List ℕ = c.args.bytes.now in
+    record {
+      digits = take c.loop-i.i bytes;
+      whole = sym (take-append-drop c.loop-i.i bytes) ∙ ap (λ (t : List ℕ). take c.loop-i.i bytes ++ t) (sym c.split_at.ensures.back);
+      spells = number-is (take c.loop-i.i bytes) c.loop-i.value c.loop-i.invariant.digits
+          (omega (arith, length-take c.loop-i.i bytes)) c.loop-i.invariant.so_far (omega arith);
+    }
