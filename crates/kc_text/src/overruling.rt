@@ -28,7 +28,7 @@ fn is_new(named: &mut HashSet<(u32, u32)>, change: Change) -> Result<bool, NoMem
 fn last_first(alloc: Global, batch: &[Change]) -> Result<Vec<Change>, NoMemory>
     ensures { IfOk result (λ changes. changes.items ≡ reverse (deciding batch.now)) }
 {
-    let mut named = HashSet::new(alloc);
+    let mut named = HashSet::with_capacity(alloc, batch.len())?;
     let mut changes = Vec::new(alloc);
     let mut rest = batch;
     while let Some((change, front)) = rest.split_last() {
