@@ -32,7 +32,8 @@ edges-turn n i state after edges more all edge l drawn next pushed whole =
     ap (λ (t : List (ℕ × ℕ)). t ++ drawn_edges (n - (i + 1)) after) pushed ∙ append_assoc edges (edge ∷ []) (drawn_edges (n - (i + 1)) after)
     ∙ ap (λ t. edges ++ t) (sym step) ∙ whole
 
-pub edges_state-turn : (n i state after all : ℕ) → i < n → after ≡ next_state (next_state state) → state_after_edges (n - i) state ≡ all → state_after_edges (n - (i + 1)) after ≡ all
+pub edges_state-turn : (n i state after all : ℕ) → i < n → after ≡ next_state (next_state state) → state_after_edges (n - i) state ≡ all
+    → state_after_edges (n - (i + 1)) after ≡ all
 edges_state-turn n i state after all l next whole =
     ap (λ s. state_after_edges (n - (i + 1)) s) next ∙ sym (after_first_edge (n - i) (n - (i + 1)) state (left n i l)) ∙ whole
 
@@ -63,7 +64,8 @@ changes-turn edges n i state after written more all change l drawn next with' wh
     ∙ ap (λ c. after_turns edges (n - (i + 1)) (state_after_turn state) (with_turn written c)) drawn
     ∙ sym (first_turn edges (n - i) (n - (i + 1)) state written (left n i l)) ∙ whole
 
-pub turns_state-turn : (n i state after all : ℕ) → i < n → after ≡ state_after_turn state → state_after_turns (n - i) state ≡ all → state_after_turns (n - (i + 1)) after ≡ all
+pub turns_state-turn : (n i state after all : ℕ) → i < n → after ≡ state_after_turn state → state_after_turns (n - i) state ≡ all
+    → state_after_turns (n - (i + 1)) after ≡ all
 turns_state-turn n i state after all l next whole =
     ap (λ s. state_after_turns (n - (i + 1)) s) next ∙ sym (after_first_turn (n - i) (n - (i + 1)) state (left n i l)) ∙ whole
 
@@ -76,7 +78,8 @@ pub turns_state-end : (n i state all : ℕ) → n ≡ i → state_after_turns (n
 unfolding state_after_turns
 turns_state-end n i state all e whole = ap (λ k. state_after_turns k state) (none_left n i e) ∙ whole
 
-first_batch : (edges : List (ℕ × ℕ)) (k m state : ℕ) → k ≡ suc m → drawn_batches edges k state ≡ drawn_batch edges state ∷ drawn_batches edges m (state_after_turns TURNS state)
+first_batch : (edges : List (ℕ × ℕ)) (k m state : ℕ) → k ≡ suc m → drawn_batches edges k state
+    ≡ drawn_batch edges state ∷ drawn_batches edges m (state_after_turns TURNS state)
 unfolding drawn_batches
 first_batch edges k m state e = ap (λ k. drawn_batches edges k state) e
 
@@ -92,7 +95,8 @@ batches-turn edges n i state after text more all l next put whole =
     ap (λ (t : List ℕ). t ++ rest) put ∙ append_assoc text (batch_lines (drawn_batch edges state)) rest ∙ ap (λ t. text ++ t) (sym step) ∙ whole
 
 -- no batch is left
-pub batches-end : (edges : List (ℕ × ℕ)) (n i state : ℕ) (text all : List ℕ) → n ≡ i → text ++ flat_map batch_lines (drawn_batches edges (n - i) state) ≡ all → text ≡ all
+pub batches-end : (edges : List (ℕ × ℕ)) (n i state : ℕ) (text all : List ℕ) → n ≡ i → text ++ flat_map batch_lines (drawn_batches edges (n - i) state)
+    ≡ all → text ≡ all
 unfolding drawn_batches
 batches-end edges n i state text all e whole =
     sym (append-nil text) ∙ ap (λ k. text ++ flat_map batch_lines (drawn_batches edges k state)) (none_left n i e) ∙ whole

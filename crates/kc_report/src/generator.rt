@@ -1,9 +1,12 @@
 //! A text that is generated for a number: edge lines and batches of changes, which look random and are the same in each run.
-ghost use Rattle.std.specs.Prelude.{◌≡◌, ◌++◌, length, IfOk, OnOk};
+ghost use Rattle.std.specs.Prelude.{◌≡◌, ◌≤◌, ◌++◌, ℕ, length, All, IfOk, OnOk};
 ghost use Rattle.std.specs.Io.{StartsWith};
 ghost use Rattle.std.specs.List.{flat_map};
-ghost use Rattle.kc_report.specs.declared.sizes.TheConstants.{EDGE_LINES, TURNS};
-ghost use Rattle.kc_report.specs.Generator.{batch_lines, change_line, drawn_batch, generated, state_after_turns};
+ghost use Rattle.kc_text.specs.Batches.{NamesOnce};
+ghost use Rattle.kc_text.specs.Meaning.{Means, Told, batches, meaning};
+ghost use Rattle.kc_text.specs.declared.limits.TheConstants.{MOST_BYTES};
+ghost use Rattle.kc_report.specs.declared.sizes.TheConstants.{BATCHES, EDGE_LINES, TURNS};
+ghost use Rattle.kc_report.specs.Generator.{batch_lines, change_line, drawn_batch, generated, generated_batches, generated_edges, state_after_turns};
 ghost use Rattle.kc_report.specs.Lines.{pair_line};
 
 use crate::NoMemory;
@@ -74,3 +77,18 @@ pub fn generate(alloc: Global, number: u32) -> Result<Vec<u8>, NoMemory>
     }
     Ok(text)
 }
+
+/// Every generated text is an input: no line of it is refused. It tells the edges and the batches that were drawn.
+pub fn a_generated_text_is_an_input()
+    ensures input { (number : ℕ) → (told : Told) × (meaning (generated number) ≡ Means told)
+        × (told.edges ≡ generated_edges number) × (batches told ≡ generated_batches number) }
+    ensures short { (number : ℕ) → length (generated number) ≤ MOST_BYTES }
+{}
+
+/// A generated text has all its edge lines and batches, and no batch names a pair of ids twice.
+pub fn a_generated_batch_names_each_pair_once()
+    ensures edges { (number : ℕ) → length (generated_edges number) ≡ EDGE_LINES }
+    ensures batches { (number : ℕ) → length (generated_batches number) ≡ BATCHES }
+    ensures turns { (number : ℕ) → All (λ batch. length batch ≤ TURNS) (generated_batches number) }
+    ensures once { (number : ℕ) → All NamesOnce (generated_batches number) }
+{}

@@ -16,7 +16,9 @@ ghost use Rattle.std.specs.Prelude.{◌≡◌, ◌++◌, length, OnErr, OnOk};
 ghost use Rattle.kc_report.specs.Lines.{core_lines, level_lines, line_text};
 
 use crate::pieces::{put_core_lines, put_level_lines, put_line};
-pub use generator::generate;
+pub use generator::{
+    a_generated_batch_names_each_pair_once, a_generated_text_is_an_input, generate,
+};
 pub use std::alloc::AllocError as NoMemory;
 
 /// A line about the graph or about a batch of updates.

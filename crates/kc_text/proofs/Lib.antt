@@ -13,6 +13,7 @@ pub mod Strict
 pub mod Pairs
 pub mod Places
 pub mod PlainLines
+pub mod Printed
 pub mod Ranges
 pub mod Refused
 pub mod Telling

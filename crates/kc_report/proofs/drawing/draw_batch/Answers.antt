@@ -17,9 +17,11 @@ loop-preserved c = record {
       ]) c.loop.invariant.changes;
   state = turns_state-turn TURNS c.loop.counter _ _ _ (omega arith) c.draw_change-change.ensures.state c.loop.invariant.state;
   pairs = elim c.if-branch.branch [
-    | then-branch+in_ok-push w ↦ has-new c.loop.pairs c.is_new.new.pairs c.loop.changes.items _ _ _ c.loop.invariant.pairs c.in_ok-is_new.ensures.pairs w.if-branch.true
+    | then-branch+in_ok-push w ↦ has-new c.loop.pairs c.is_new.new.pairs c.loop.changes.items _ _ _ c.loop.invariant.pairs c.in_ok-is_new.ensures.pairs
+        w.if-branch.true
         (ap (λ v. v.items) w.changes-is ∙ w.in_ok-push.ensures.items)
-    | else-branch w ↦ has-old c.loop.pairs c.is_new.new.pairs c.loop.changes.items _ c.draw_change-change.result _ c.loop.invariant.pairs c.in_ok-is_new.ensures.pairs w.if-branch.false
+    | else-branch w ↦ has-old c.loop.pairs c.is_new.new.pairs c.loop.changes.items _ c.draw_change-change.result _ c.loop.invariant.pairs
+        c.in_ok-is_new.ensures.pairs w.if-branch.false
         (ap (λ v. v.items) w.changes-is)
   ];
 }

@@ -6,7 +6,8 @@ use Rattle.kc_report.proofs.drawing.draw_edges.Goals as goal
 
 pub loop-preserved : goal.loop-preserved
 loop-preserved c = record {
-  edges = edges-turn EDGE_LINES c.loop.counter _ _ _ _ _ _ (omega arith) c.draw_pair.ensures.pair c.draw_pair.ensures.state c.in_ok-push.ensures.items c.loop.invariant.edges;
+  edges = edges-turn EDGE_LINES c.loop.counter _ _ _ _ _ _ (omega arith) c.draw_pair.ensures.pair c.draw_pair.ensures.state c.in_ok-push.ensures.items
+      c.loop.invariant.edges;
   state = edges_state-turn EDGE_LINES c.loop.counter _ _ _ (omega arith) c.draw_pair.ensures.state c.loop.invariant.state;
 }
 
