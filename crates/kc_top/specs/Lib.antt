@@ -1,5 +1,7 @@
 pub mod Batches
 pub mod ErrLines
+pub mod Given
+pub mod Inputs
 pub mod Limits
 pub mod Outcome
 pub mod Settings
