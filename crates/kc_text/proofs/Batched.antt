@@ -5,7 +5,6 @@ use Rattle.std.specs.List.{flat_map}
 use Rattle.std.specs.Set.{is_member}
 use Rattle.std.proofs.lemmas.Bool.{or_cases, and_parts, and_from, or_left, or_right, false≢true}
 use Rattle.std.proofs.lemmas.List.{get_or-map, length-map}
-use Rattle.std.proofs.lemmas.List.Elements.{All-map}
 use Rattle.std.proofs.lemmas.List.Folds.{list_any-append}
 use Rattle.kc_graph.specs.declared.update.Update.{Update}
 use Rattle.kc_text.specs.declared.change.Change.{Change}
@@ -25,13 +24,13 @@ use Rattle.kc_text.proofs.Telling.{change_ends, ends-told, ends-batches}
 use Rattle.kc_text.specs.declared.limits.TheConstants.{MOST_BATCHES, MOST_IDS, MOST_UPDATES}
 
 -- an update of the batch, and the change that it is
-record IsUpdate (ids : List ℕ) (u : Update) (c : Change) : Type 0 where
-  a-in : is_member nat_eq ids c.a ≡ true
-  b-in : is_member nat_eq ids c.b ≡ true
-  least : u.u ≡ min (place ids c.a) (place ids c.b)
-  most : u.v ≡ max (place ids c.a) (place ids c.b)
+pub record IsUpdate (ids : List ℕ) (u : Update) (c : Change) : Type 0 where
+  pub a-in : is_member nat_eq ids c.a ≡ true
+  pub b-in : is_member nat_eq ids c.b ≡ true
+  pub least : u.u ≡ min (place ids c.a) (place ids c.b)
+  pub most : u.v ≡ max (place ids c.a) (place ids c.b)
 
-update-at : (ids : List ℕ) (batch : List Change) (updates : List Update) → AreUpdates ids batch updates → AreAmong ids (ends (map ends_of batch)) → (i : ℕ) (d : Update) → i < length updates
+pub update-at : (ids : List ℕ) (batch : List Change) (updates : List Update) → AreUpdates ids batch updates → AreAmong ids (ends (map ends_of batch)) → (i : ℕ) (d : Update) → i < length updates
     → (i < length batch) × IsUpdate ids (get_or updates i d) (get_or batch i no_change)
 update-at ids batch updates same among i d l =
     let count : length updates ≡ length batch = sym (length-map updates parts_of) ∙ (ap (length) same ∙ length-map batch (numbered_change ids)) in
@@ -49,7 +48,7 @@ update-at ids batch updates same among i d l =
       },
     )
 
-named-again : (ids : List ℕ) (u v : Update) (c d : Change) → IsUpdate ids u c → IsUpdate ids v d → edge_of u ≡ edge_of v → name_same d c ≡ true
+pub named-again : (ids : List ℕ) (u v : Update) (c d : Change) → IsUpdate ids u c → IsUpdate ids v d → edge_of u ≡ edge_of v → name_same d c ≡ true
 named-again ids u v c d p q e =
     let least : u.u ≡ v.u = ap (λ (x : ℕ × ℕ). x.0) e in
     let most : u.v ≡ v.v = ap (λ (x : ℕ × ℕ). x.1) e in
@@ -145,12 +144,6 @@ short-input ids most updates lists same short = λ i d l.
     let batch : List Change = get_or lists i [] in
     let count : length (get_or updates i d).items ≡ length (deciding batch) = sym (length-map (get_or updates i d).items parts_of) ∙ (ap (length) parts ∙ length-map (deciding batch) (numbered_change ids)) in
     omega (arith, deciding-count batch, short i [] l')
-
--- what the changes that decide keep of each batch holds of them
-pub deciding-items : (P : List Change → Type 0) → ((batch : List Change) → P batch → P (deciding batch)) → (found batches : List (Vec Change Global))
-    → map (λ batch. batch.items) found ≡ map (λ batch. deciding batch.items) batches → All (λ batch. P batch.items) batches → All (λ batch. P batch.items) found
-deciding-items P keeps found batches e h = All-items P found (map (λ (batch : Vec Change Global). deciding batch.items) batches) e
-    (All-map P (λ (batch : Vec Change Global). deciding batch.items) batches (λ i d l. keeps (get_or batches i d).items (h i d l)))
 
 -- what a reading has that ended with no refusal
 pub record Accepted (bytes : List ℕ) (reading : Reading) : Type 0 where

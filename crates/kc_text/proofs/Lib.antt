@@ -1,7 +1,7 @@
-pub mod Backwards
 pub mod Batched
 pub mod Counts
 pub mod Few
+pub mod Decided
 pub mod FieldCuts
 pub mod Keeping
 pub mod LineCuts
@@ -15,6 +15,7 @@ pub mod Places
 pub mod PlainLines
 pub mod Printed
 pub mod Ranges
+pub mod Ranked
 pub mod Refused
 pub mod Telling
 pub mod WithinLimits

@@ -1,7 +1,6 @@
 -- Pairs that are named in either direction.
 use Rattle.std.proofs.Common.{◌≡◌, ℕ, Bool, true, false, ◌&&◌, ◌||◌, List, [], ◌∷◌, refl, sym, ◌∙◌, arith, nat_eq, eqb-true, eq-eqb, inl, inr, ap₂, min, max}
 use Rattle.std.specs.Cmp.{both_ways}
-use Rattle.std.specs.List.{list_any}
 use Rattle.std.proofs.lemmas.Bool.{cases_eq, or_cases, or_left, or_right, and_parts, and_from}
 use Rattle.kc_text.specs.declared.change.Change.{Change}
 use Rattle.kc_text.specs.Batches.{is_pair, pair_of}
@@ -47,8 +46,3 @@ pub name_same-flip : (c d : Change) → name_same c d ≡ name_same d c
 name_same-flip c d = both_ways _ _
     (λ h. sym (name_same-congr c d c h) ∙ name_same-refl c)
     (λ h. sym (name_same-congr d c d h) ∙ name_same-refl d)
-
--- a pair is named where it is among the pairs
-pub named-pairs : (c : Change) (batch : List Change) → list_any (name_same c) batch ≡ list_any (λ d. is_pair (pair_of c) (pair_of d)) batch
-named-pairs c [] = refl
-named-pairs c (d ∷ batch) = ap₂ (λ (x y : Bool). x || y) (name_same-is c d) (named-pairs c batch)

@@ -60,15 +60,6 @@ deciding-count (c ∷ rest) =
       | false ↦ omega (arith, deciding-count rest)
     ]
 
--- what holds of each change holds of those that decide
-pub deciding-all : (P : Change → Type 0) (batch : List Change) → All P batch → All P (deciding batch)
-deciding-all P [] h = All-nil P
-deciding-all P (c ∷ rest) h =
-    elim (list_any (name_same c) rest) as (λ b. All P (cond b (deciding rest) (c ∷ deciding rest))) [
-      | true ↦ deciding-all P rest (λ i d l. h (suc i) d (omega arith))
-      | false ↦ All-cons P c (deciding rest) (h 0 c (omega arith)) (deciding-all P rest (λ i d l. h (suc i) d (omega arith)))
-    ]
-
 deciding-ends : (batch : List Change) (id : ℕ) → is_member nat_eq (ends (map ends_of (deciding batch))) id ≡ true → is_member nat_eq (ends (map ends_of batch)) id ≡ true
 deciding-ends [] id = λ h. h
 deciding-ends (c ∷ rest) id =

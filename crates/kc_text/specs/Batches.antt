@@ -1,6 +1,5 @@
 -- The pairs that the changes of a batch name.
-use Rattle.std.specs.Prelude.{◌≡◌, ◌&&◌, ◌||◌, ℕ, Bool, false, List, AllPairs, min, max, nat_eq}
-use Rattle.std.specs.HashSet.{HashSet, contains}
+use Rattle.std.specs.Prelude.{◌≡◌, ◌&&◌, ℕ, Bool, false, List, AllPairs, min, max, nat_eq}
 use Rattle.kc_text.specs.declared.change.Change.{Change}
 use Rattle.kc_text.specs.Meaning.{name_same}
 
@@ -10,10 +9,6 @@ pair_of c = (min c.a c.b, max c.a c.b)
 
 abbrev pub is_pair : ℕ × ℕ → ℕ × ℕ → Bool
 is_pair p q = nat_eq p.0 q.0 && nat_eq p.1 q.1
-
--- the set has one more pair, that of the change
-abbrev pub GainsPair : {S : Type 0} → HashSet (ℕ × ℕ) S → HashSet (ℕ × ℕ) S → Change → Type 0
-GainsPair old new c = (p : ℕ × ℕ) → contains is_pair new p ≡ (is_pair p (pair_of c) || contains is_pair old p)
 
 -- no two changes name the same pair
 abbrev pub NamesOnce : List Change → Type 0

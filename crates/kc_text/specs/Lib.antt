@@ -1,5 +1,6 @@
 pub mod Batches
 pub mod Buckets
+pub mod Deciding
 pub mod Finding
 pub mod Forms
 pub mod Inputs

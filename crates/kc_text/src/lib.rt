@@ -69,7 +69,7 @@ fn input_of(
     batches: &[Vec<Change>],
 ) -> Result<Input, NoMemory>
     requires ascending { IsStrictlyIncreasing ids.items }
-    requires few { length ids.items < 2 ^ 32 }
+    requires few { length ids.items ≤ MOST_IDS }
     requires edges { AreAmong ids.items (ends edges.now) }
     requires batches { All (λ batch. AreAmong ids.items (ends (map ends_of batch.items))) batches.now }
     requires apart { All (λ batch. All (λ c. c.a ≢ c.b) batch.items) batches.now }
@@ -82,8 +82,8 @@ fn input_of(
 {
     let finder = Finder::new(alloc, &ids)?;
     let start = start_of(alloc, &ids, &finder, edges)?;
-    let (deciding, overruled) = decide(alloc, batches)?;
-    let batches = batches_of(alloc, &ids, &finder, &deciding)?;
+    let updates = batches_of(alloc, &ids, &finder, batches)?;
+    let (batches, overruled) = decide(alloc, &updates)?;
     Ok(Input {
         ids,
         start,

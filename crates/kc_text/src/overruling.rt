@@ -1,69 +1,95 @@
-//! Finds the changes of a batch that decide: a batch may name a pair again, and then the last change that names it decides.
-ghost use Rattle.std.specs.Prelude.{◌≡◌, ◌≤◌, All, IfOk, OnOk, length, map, not, reverse};
-ghost use Rattle.std.specs.HashSet.{contains};
-ghost use Rattle.kc_text.specs.Batches.{GainsPair, is_pair, pair_of};
-ghost use Rattle.kc_text.specs.Overruling.{deciding, overruled};
-ghost use Rattle.kc_text.specs.declared.limits.TheConstants.{MOST_UPDATES};
+//! Finds the updates of a batch that decide: a batch may name an edge again, and then the last update of it decides. They are found by
+//! a sort of numbers, which costs less than a set of the edges would.
+ghost use Rattle.std.specs.Prelude.{◌≡◌, ◌≤◌, ◌<◌, ◌-◌, ◌%◌, All, IfOk, length, map};
+ghost use Rattle.kc_text.specs.Deciding.{AreOverruled, AreRanks, MarksFollowed, last_of_edges, rank};
+ghost use Rattle.kc_text.specs.declared.limits.TheConstants.{MOST_IDS, MOST_UPDATES};
 
 use crate::NoMemory;
-use crate::change::Change;
+use crate::limits::{MOST_IDS, MOST_UPDATES};
+use kc_graph::Update;
 use std::alloc::Global;
-use std::collections::HashSet;
 
-fn pair_of(change: Change) -> (u32, u32)
-    ensures { result ≡ pair_of change }
+/// The edge of an update and its place in the batch, as one number.
+fn rank(update: Update, place: usize) -> u64
+    requires ends { update.v < MOST_IDS }
+    requires place { place < MOST_UPDATES }
+    ensures { result ≡ rank update place }
 {
-    (change.a.min(change.b), change.a.max(change.b))
+    let edge = u64::from(update.u) * MOST_IDS as u64 + u64::from(update.v);
+    edge * MOST_UPDATES as u64 + place as u64
 }
 
-/// Puts in the pair of a change, and says whether it is a new one.
-fn is_new(named: &mut HashSet<(u32, u32)>, change: Change) -> Result<bool, NoMemory>
-    ensures gains { OnOk result (GainsPair named.old named.new change) }
-    ensures fresh { IfOk result (λ fresh. fresh ≡ not (contains is_pair named.old (pair_of change))) }
+/// The ranks of the updates, in their order.
+fn ranks_of(alloc: Global, updates: &[Update]) -> Result<Vec<u64>, NoMemory>
+    requires ends { All (λ update. update.v < MOST_IDS) updates.now }
+    requires short { length updates.now ≤ MOST_UPDATES }
+    ensures { IfOk result (λ ranks. AreRanks updates.now ranks.items) }
 {
-    Ok(named.insert(pair_of(change))?)
-}
-
-/// The changes whose pair no later one names, from the last to the first.
-fn last_first(alloc: Global, batch: &[Change]) -> Result<Vec<Change>, NoMemory>
-    ensures { IfOk result (λ changes. changes.items ≡ reverse (deciding batch.now)) }
-{
-    let mut named = HashSet::with_capacity(alloc, batch.len())?;
-    let mut changes = Vec::new(alloc);
-    let mut rest = batch;
-    while let Some((change, front)) = rest.split_last() {
-        if is_new(&mut named, *change)? {
-            changes.push(*change)?;
-        }
-        rest = front;
+    let mut ranks = Vec::with_capacity(alloc, updates.len())?;
+    for (place, update) in updates.iter().enumerate() {
+        ranks.push(rank(*update, place))?;
     }
-    Ok(changes)
+    Ok(ranks)
 }
 
-/// The changes that decide, in their order.
-fn deciding_of(alloc: Global, batch: &[Change]) -> Result<Vec<Change>, NoMemory>
-    ensures { IfOk result (λ changes. changes.items ≡ deciding batch.now) }
+/// Marks the places of the ranks that one of the same edge follows.
+fn mark_followed(alloc: Global, ranks: &[u64]) -> Result<Vec<bool>, NoMemory>
+    requires { All (λ rank. rank % MOST_UPDATES < length ranks.now) ranks.now }
+    ensures count { IfOk result (λ marks. length marks.items ≡ length ranks.now) }
+    ensures marks { IfOk result (λ marks. MarksFollowed ranks.now marks.items) }
 {
-    let mut changes = last_first(alloc, batch)?;
-    changes.reverse();
-    Ok(changes)
+    let mut marks = vec![in alloc; false; ranks.len()]?;
+    for k in 1..ranks.len() {
+        let (rank, next) = (ranks[k - 1], ranks[k]);
+        if rank < next && rank / MOST_UPDATES as u64 == next / MOST_UPDATES as u64 {
+            marks[(rank % MOST_UPDATES as u64) as usize] = true;
+        }
+    }
+    Ok(marks)
 }
 
-/// The changes that decide, of each batch, and how many are overruled.
+/// For each update, whether a later one of the same edge overrules it.
+fn overruled(alloc: Global, updates: &[Update]) -> Result<Vec<bool>, NoMemory>
+    requires ends { All (λ update. update.v < MOST_IDS) updates.now }
+    requires short { length updates.now ≤ MOST_UPDATES }
+    ensures { IfOk result (λ marks. AreOverruled updates.now marks.items) }
+{
+    let mut ranks = ranks_of(alloc, updates)?;
+    ranks.sort_unstable();
+    mark_followed(alloc, &ranks)
+}
+
+/// The updates that are not marked.
+fn unmarked(alloc: Global, updates: &[Update], marks: &[bool]) -> Result<Vec<Update>, NoMemory>
+    requires { AreOverruled updates.now marks.now }
+    ensures { IfOk result (λ left. left.items ≡ last_of_edges updates.now) }
+{
+    let mut left = Vec::with_capacity(alloc, updates.len())?;
+    for (i, update) in updates.iter().enumerate() {
+        if !marks[i] {
+            left.push(*update)?;
+        }
+    }
+    Ok(left)
+}
+
+/// The updates of each batch that decide, and how many are overruled.
 pub(crate) fn decide(
     alloc: Global,
-    batches: &[Vec<Change>],
-) -> Result<(Vec<Vec<Change>>, Vec<u32>), NoMemory>
-    requires { All (λ batch. length batch.items ≤ MOST_UPDATES) batches.now }
-    ensures deciding { IfOk result (λ r. map (λ batch. batch.items) r.0.items ≡ map (λ batch. deciding batch.items) batches.now) }
-    ensures overruled { IfOk result (λ r. r.1.items ≡ map (λ batch. overruled batch.items) batches.now) }
+    batches: &[Vec<Update>],
+) -> Result<(Vec<Vec<Update>>, Vec<u32>), NoMemory>
+    requires ends { All (λ batch. All (λ update. update.v < MOST_IDS) batch.items) batches.now }
+    requires short { All (λ batch. length batch.items ≤ MOST_UPDATES) batches.now }
+    ensures deciding { IfOk result (λ r. map (λ batch. batch.items) r.0.items ≡ map (λ batch. last_of_edges batch.items) batches.now) }
+    ensures overruled { IfOk result (λ r. r.1.items ≡ map (λ batch. length batch.items - length (last_of_edges batch.items)) batches.now) }
 {
-    let mut changes = Vec::with_capacity(alloc, batches.len())?;
-    let mut overruled = Vec::with_capacity(alloc, batches.len())?;
+    let mut deciding = Vec::with_capacity(alloc, batches.len())?;
+    let mut counts = Vec::with_capacity(alloc, batches.len())?;
     for batch in batches {
-        let deciding = deciding_of(alloc, batch)?;
-        overruled.push((batch.len() - deciding.len()) as u32)?;
-        changes.push(deciding)?;
+        let marks = overruled(alloc, batch)?;
+        let left = unmarked(alloc, batch, &marks)?;
+        counts.push((batch.len() - left.len()) as u32)?;
+        deciding.push(left)?;
     }
-    Ok((changes, overruled))
+    Ok((deciding, counts))
 }

@@ -1,29 +1,39 @@
--- The changes that decide are among those of the batch.
-use Rattle.std.proofs.Common.{◌≡◌, ◌≢◌, ℕ, List, map, sym, ap, subst, ◌∙◌, Vec, Global}
+-- The updates that decide are the changes that decide, and the others are overruled.
+use Rattle.std.proofs.Common.{◌≡◌, ◌≤◌, ◌<◌, ◌-◌, ℕ, List, length, map, sym, ap, subst, ◌∙◌, Vec, Global}
 use Rattle.std.specs.Prelude.{All}
-use Rattle.std.proofs.lemmas.Simd.{map-map}
+use Rattle.kc_graph.specs.declared.update.Update.{Update}
 use Rattle.kc_text.specs.declared.change.Change.{Change}
-use Rattle.kc_text.specs.Inputs.{AreAmong, numbered_change}
-use Rattle.kc_text.specs.Meaning.{ends, ends_of}
-use Rattle.kc_text.specs.Overruling.{deciding}
-use Rattle.kc_text.proofs.Batched.{deciding-items, made-of}
-use Rattle.kc_text.proofs.Overruled.{deciding-all, deciding-among}
-use Rattle.kc_text.proofs.WithinLimits.{HasNoLoops}
+use Rattle.kc_text.specs.Deciding.{last_of_edges}
+use Rattle.kc_text.specs.Inputs.{numbered_change}
+use Rattle.kc_text.specs.declared.limits.TheConstants.{MOST_IDS, MOST_UPDATES}
+use Rattle.kc_text.proofs.Decided.{AreAllUpdates, all-deciding, all-overruled, all-short, all-within}
 use Rattle.kc_text.proofs.input_of.Goals as goal
 
-pub batches_of-requires-clause-among : goal.batches_of-requires-clause-among
-batches_of-requires-clause-among c =
-    let found : map (λ batch. batch.items) c.deref-4.result.now ≡ map (λ batch. deciding batch.items) c.args.batches.now = ap (map (λ (batch : Vec Change Global). batch.items)) c.deref-4.ensures.value ∙ c.in_ok-deciding.ensures.deciding in
-    deciding-items (λ batch. AreAmong c.deref-3.result.now (ends (map ends_of batch))) (deciding-among c.deref-3.result.now) c.deref-4.result.now c.args.batches.now found
-    (subst (λ (ids : List ℕ). All (λ batch. AreAmong ids (ends (map ends_of batch.items))) c.args.batches.now) (sym c.deref-3.ensures.value) c.requires.batches)
+pub decide-requires-clause-ends : goal.decide-requires-clause-ends
+decide-requires-clause-ends c =
+    let same : AreAllUpdates c.args.ids.items c.args.batches.now c.in_ok-updates.updates.items =
+    c.in_ok-updates.ensures ∙ ap (λ (ids : List ℕ). map (λ (batch : Vec Change Global). map (numbered_change ids) batch.items) c.args.batches.now) c.deref-3.ensures.value in
+    subst (All (λ (batch : Vec Update Global). All (λ update. update.v < MOST_IDS) batch.items)) (sym c.deref-4.ensures.value)
+    (all-within c.args.ids.items MOST_IDS c.args.batches.now c.in_ok-updates.updates.items c.requires.few same c.requires.batches)
 
-pub batches_of-requires-clause-apart : goal.batches_of-requires-clause-apart
-batches_of-requires-clause-apart c =
-    let found : map (λ batch. batch.items) c.deref-4.result.now ≡ map (λ batch. deciding batch.items) c.args.batches.now = ap (map (λ (batch : Vec Change Global). batch.items)) c.deref-4.ensures.value ∙ c.in_ok-deciding.ensures.deciding in
-    deciding-items HasNoLoops (deciding-all (λ c. c.a ≢ c.b)) c.deref-4.result.now c.args.batches.now found c.requires.apart
+pub decide-requires-clause-short : goal.decide-requires-clause-short
+decide-requires-clause-short c =
+    let same : AreAllUpdates c.args.ids.items c.args.batches.now c.in_ok-updates.updates.items =
+    c.in_ok-updates.ensures ∙ ap (λ (ids : List ℕ). map (λ (batch : Vec Change Global). map (numbered_change ids) batch.items) c.args.batches.now) c.deref-3.ensures.value in
+    subst (All (λ (batch : Vec Update Global). length batch.items ≤ MOST_UPDATES)) (sym c.deref-4.ensures.value)
+    (all-short c.args.ids.items MOST_UPDATES c.args.batches.now c.in_ok-updates.updates.items same c.requires.short)
 
 pub returns-clause-batches : goal.returns-clause-batches
 returns-clause-batches c =
-    let found : map (λ batch. batch.items) c.deref-4.result.now ≡ map (λ batch. deciding batch.items) c.args.batches.now = ap (map (λ (batch : Vec Change Global). batch.items)) c.deref-4.ensures.value ∙ c.in_ok-deciding.ensures.deciding in
-    c.in_ok-batches.ensures ∙ ap (λ (ids : List ℕ). map (λ (batch : Vec Change Global). map (numbered_change ids) batch.items) c.deref-4.result.now) c.deref-3.ensures.value
-    ∙ made-of (map (numbered_change c.args.ids.items)) c.deref-4.result.now (map (λ batch. deciding batch.items) c.args.batches.now) found ∙ map-map (map (numbered_change c.args.ids.items)) (λ (batch : Vec Change Global). deciding batch.items) c.args.batches.now
+    let same : AreAllUpdates c.args.ids.items c.args.batches.now c.in_ok-updates.updates.items =
+    c.in_ok-updates.ensures ∙ ap (λ (ids : List ℕ). map (λ (batch : Vec Change Global). map (numbered_change ids) batch.items) c.args.batches.now) c.deref-3.ensures.value in
+    let found : map (λ batch. batch.items) c.in_ok-batches.batches.items ≡ map (λ batch. last_of_edges batch.items) c.in_ok-updates.updates.items =
+    c.in_ok-batches.ensures.deciding ∙ ap (map (λ (batch : Vec Update Global). last_of_edges batch.items)) c.deref-4.ensures.value in
+    all-deciding c.args.ids.items c.args.batches.now c.in_ok-updates.updates.items c.in_ok-batches.batches.items same c.requires.batches found
+
+pub returns-clause-overruled : goal.returns-clause-overruled
+returns-clause-overruled c =
+    let same : AreAllUpdates c.args.ids.items c.args.batches.now c.in_ok-updates.updates.items =
+    c.in_ok-updates.ensures ∙ ap (λ (ids : List ℕ). map (λ (batch : Vec Change Global). map (numbered_change ids) batch.items) c.args.batches.now) c.deref-3.ensures.value in
+    c.in_ok-batches.ensures.overruled ∙ (ap (map (λ (batch : Vec Update Global). length batch.items - length (last_of_edges batch.items))) c.deref-4.ensures.value
+    ∙ all-overruled c.args.ids.items c.args.batches.now c.in_ok-updates.updates.items same c.requires.batches)
