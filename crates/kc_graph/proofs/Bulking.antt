@@ -1,32 +1,28 @@
 -- The graph of rows that have just the listed edges.
-use Rattle.std.proofs.Common.{◌≡◌, ◌≢◌, ◌≤◌, ◌<◌, ℕ, Bool, true, false, cond, not, ◌&&◌, ◌||◌, List, [], ◌∷◌, length, map, eqb, ltb, refl, sym, ◌∙◌}
-use Rattle.std.proofs.Common.{ap, ap₂, inl, inr, arith, ltb-true, lt-ltb, le-ltb, eq-eqb, set, Vec, Global}
+use Rattle.std.proofs.Common.{◌≡◌, ◌≤◌, ◌<◌, ℕ, suc, zero, Bool, true, false, cond, not, ◌&&◌, ◌||◌, List, [], ◌∷◌, length, get_or, map, ltb, refl, sym, ◌∙◌}
+use Rattle.std.proofs.Common.{ap, ap₂, inl, inr, arith, ltb-true, lt-ltb, le-ltb, eq-eqb, ne_eqb}
 use Rattle.std.specs.Prelude.{All}
-use Rattle.std.specs.List.{filter, list_any, dedup}
+use Rattle.std.specs.List.{filter, list_any}
 use Rattle.std.specs.List.Sorted.{IsStrictlyIncreasing}
 use Rattle.std.specs.Cmp.{both_ways}
 use Rattle.std.specs.Ordering.{eq_by_cmp}
-use Rattle.std.specs.FinSet.{FinSet, contains, contains-from_list, same_set}
+use Rattle.std.specs.FinSet.{FinSet, from_list, contains, contains-from_list, same_set}
 use Rattle.std.proofs.lemmas.Bool.{cases_lt, cases_order, or_cases, or_from, and_parts, and_from, false≢true, true≢false, false_from_ne_true}
-use Rattle.std.proofs.lemmas.List.Elements.{All-tail}
-use Rattle.std.proofs.lemmas.List.Kept.{Contains-dedup_nat, Contains-from_dedup}
+use Rattle.std.proofs.lemmas.List.Elements.{All-tail, All-map, All-weaker}
+use Rattle.std.specs.List.{between}
 use Rattle.kc_distinct.specs.Lists.{member}
-use Rattle.kc_distinct.proofs.Counting.{member-from_Contains, Contains-from_member}
 use Rattle.kc_graph.specs.SimpleGraph.{SimpleGraph, adjacent, pair_cmp}
 use Rattle.kc_graph.specs.Edges.{edge}
-use Rattle.kc_graph.specs.Rows.{lists, row, graph_of, IsAdjacency}
+use Rattle.kc_graph.specs.Rows.{row, graph_of, IsAdjacency}
 use Rattle.kc_graph.specs.Bulk.{graph_with, is_no_loop, is_within, is_between, are_joined}
 use Rattle.kc_graph.specs.declared.bulk.Edge.{Edge}
-use Rattle.kc_graph.proofs.Buckets.{lists-set, length-lists, row-set_same, row-set_other}
+use Rattle.kc_graph.proofs.Buckets.{row_past}
+use Rattle.kc_graph.proofs.Scattering.{member-ends, places-rise}
+use Rattle.kc_graph.specs.Blocks.{first_of}
+use Rattle.kc_graph.specs.Gathering.{edge_of, ends_at, first_place, Filled}
 use Rattle.kc_graph.proofs.Law.{adjacent-self}
 use Rattle.kc_graph.proofs.Ends.{joins, joins-true, joins-edge, edge-joins, joins-sym}
 use Rattle.kc_graph.proofs.RowsLemmas.{pair_total, pair_exact, same_pair, tied_pair, contains-edges, size-graph_of}
-
--- a list without its repeats has the same members
-pub member-dedup : (w : ℕ) (xs : List ℕ) → member w (dedup eqb xs) ≡ member w xs
-member-dedup w xs = both_ways _ _
-    (λ h. member-from_Contains xs w (Contains-from_dedup eqb xs w (Contains-from_member (dedup eqb xs) w h)))
-    (λ h. member-from_Contains (dedup eqb xs) w (Contains-dedup_nat xs w (Contains-from_member xs w h)))
 
 -- an edge that is no loop is the pair of two ends just where it is between them
 edge-is : (e : Edge) (a b : ℕ) → is_no_loop e ≡ true → eq_by_cmp pair_cmp (a, b) (edge e.u e.v) ≡ (ltb a b && joins e.u e.v a b)
@@ -114,23 +110,54 @@ module _ (rows : List (List ℕ)) (edges : List Edge) (each : (v w : ℕ) → me
       let size : (graph_of rows).size ≡ (graph_with (length rows) edges).size = size-graph_of rows ∙ sym (size-with (length rows) edges) in
       ap₂ (λ (n : ℕ) (e : FinSet pair_cmp). let g : SimpleGraph = record { size = n; edges = e } in g) size same
 
--- one of several rows is replaced
-module _ (rows : List (Vec ℕ Global)) (i : ℕ) (s : Vec ℕ Global) where
-  pub row-replaced : i < length rows → row (lists (set rows i s)) i ≡ s.items
-  row-replaced l = ap (λ (t : List (List ℕ)). row t i) (lists-set rows i s) ∙ row-set_same (lists rows) i s.items (omega (arith, length-lists rows))
+-- Pairs with the lesser end first are the edges of their graph as they are.
+pub pairs-edges : (vertices : ℕ) (pairs : List (ℕ × ℕ)) → All (λ p. (p.0 < p.1) × (p.1 < vertices)) pairs
+    → map (λ e. edge e.u e.v) (filter is_no_loop (map edge_of pairs)) ≡ pairs
+pairs-edges vertices [] all = refl
+pairs-edges vertices (p ∷ pairs) all =
+    let first = all 0 p (omega arith) in
+    let two : is_no_loop (edge_of p) ≡ true = ap not (ne_eqb p.0 p.1 (λ same. absurd (omega (arith, first.0, same)))) in
+    let rest = pairs-edges vertices pairs (All-tail (λ p. (p.0 < p.1) × (p.1 < vertices)) p pairs all) in
+    ap (λ (b : Bool). map (λ e. edge e.u e.v) (cond b (edge_of p ∷ filter is_no_loop (map edge_of pairs)) (filter is_no_loop (map edge_of pairs)))) two
+    ∙ ap₂ (λ (q : ℕ × ℕ) (t : List (ℕ × ℕ)). q ∷ t) (ap (λ (b : Bool). cond b (p.0, p.1) (p.1, p.0)) (lt-ltb p.0 p.1 first.0)) rest
 
-  pub row-other : (x : ℕ) → x ≢ i → row (lists (set rows i s)) x ≡ row (lists rows) x
-  row-other x ne = ap (λ (t : List (List ℕ)). row t x) (lists-set rows i s) ∙ row-set_other (lists rows) i x s.items ne
+pub pairs-graph : (vertices : ℕ) (pairs : List (ℕ × ℕ)) → All (λ p. (p.0 < p.1) × (p.1 < vertices)) pairs
+    → graph_with vertices (map edge_of pairs) ≡ record { size = vertices; edges = from_list pairs }
+unfolding graph_with
+pairs-graph vertices pairs all =
+    ap (λ (t : List (ℕ × ℕ)). let g : SimpleGraph = record { size = vertices; edges = from_list t } in g) (pairs-edges vertices pairs all)
 
--- one edge more for the rows of a range
-pub joined-more : (m f t b : Bool) → ((m || (f && t)) || (f && b)) ≡ (m || (f && (t || b)))
-joined-more m f t b = grind arith
+pub pairs-within : (vertices : ℕ) (pairs : List (ℕ × ℕ)) → All (λ p. (p.0 < p.1) × (p.1 < vertices)) pairs
+    → All (λ e. is_within vertices e ≡ true) (map edge_of pairs)
+pairs-within vertices pairs all =
+    All-map (λ e. is_within vertices e ≡ true) edge_of pairs (All-weaker (λ p. (p.0 < p.1) × (p.1 < vertices)) (λ p. is_within vertices (edge_of p) ≡ true)
+    (λ p h. and_from _ _ (lt-ltb p.0 vertices (omega (arith, h.0, h.1))) (lt-ltb p.1 vertices h.1)) pairs all)
 
--- no vertex from `from` on is joined, where all ends are below
-pub joined-below : (vertices from : ℕ) (edges : List Edge) (v w : ℕ) → All (λ e. is_within vertices e ≡ true) edges → vertices ≤ from
-    → (ltb v from && are_joined edges v w) ≡ are_joined edges v w
-joined-below vertices from edges v w all le = elim (cases_lt v from) [
-  | inl l ↦ rw (lt-ltb v from l) refl
-  | inr ge ↦ rw (le-ltb v from ge) (sym (false_from_ne_true (are_joined edges v w) (λ h.
-      absurd (omega (arith, joined-within vertices edges w v all (joined-turned edges w v ∙ h))))))
-]
+-- Rows with the numbers of the gathered ends are those of the graph with the edges.
+module _ (rows : List (List ℕ)) (edges : List Edge) (ends block : List ℕ) (count : length rows ≡ length ends)
+    (within : All (λ e. is_within (length ends) e ≡ true) edges)
+    (filled : Filled (first_place edges) (ends_at edges) ends block)
+    (same : (v w : ℕ) → v < length ends → member w (row rows v) ≡ member w (between (first_of ends v) (get_or ends v 0) block)) where
+  begins : (v : ℕ) → v < length ends → first_of ends v ≡ first_place edges v
+  begins zero l = refl
+  begins (suc v) l = filled.next_place v (omega arith)
+
+  pub gathered-each : (v w : ℕ) → member w (row rows v) ≡ are_joined edges v w
+  gathered-each v w = elim (cases_lt v (length ends)) [
+    | inl l ↦
+        same v w l ∙ ap₂ (λ (a b : ℕ). member w (between a b block)) (begins v l) (filled.next_place v l) ∙ ap (member w) (filled.in_place v l)
+        ∙ member-ends edges v w
+    | inr ge ↦
+        ap (member w) (row_past rows v (omega (arith, count)))
+        ∙ sym (false_from_ne_true (are_joined edges v w) (λ h.
+        absurd (omega (arith, joined-within (length ends) edges w v within (joined-turned edges w v ∙ h)))))
+  ]
+
+-- Where the parts of a block begin and end.
+pub ends-ordered : (edges : List Edge) (ends block : List ℕ) → Filled (first_place edges) (ends_at edges) ends block → (v : ℕ) → v < length ends
+    → (first_of ends v ≤ get_or ends v 0) × (get_or ends v 0 ≡ first_place edges (suc v))
+ends-ordered edges ends block f zero l = (omega (arith, f.next_place zero l), f.next_place zero l)
+ends-ordered edges ends block f (suc v) l = (omega (arith, f.next_place (suc v) l, f.next_place v (omega arith)), f.next_place (suc v) l)
+
+pub place-within_all : (edges : List Edge) (n v : ℕ) → v < n → first_place edges (suc v) ≤ first_place edges n
+place-within_all edges n v l = places-rise edges v n l

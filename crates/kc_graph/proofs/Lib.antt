@@ -10,8 +10,11 @@ pub mod Handshake
 pub mod Inserting
 pub mod Law
 pub mod Lowering
+pub mod Lying
 pub mod NeighbourLists
 pub mod PeelingLemmas
 pub mod Places
 pub mod Removing
+pub mod Repeats
 pub mod RowsLemmas
+pub mod Scattering

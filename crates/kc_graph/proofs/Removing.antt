@@ -17,7 +17,7 @@ use Rattle.kc_graph.proofs.Ends.{joins, joins-sym, joins-edge, edge-joins, conta
 use Rattle.kc_graph.proofs.RowsLemmas.{contains-edges, size-graph_of, adjacent-graph_of, pair_total, pair_exact, same_pair, tied_pair}
 
 module _ (old new : List (List ℕ)) (u v : ℕ) (differ : u ≡ v → ⊥) (lu : u < length old) (lv : v < length old) (both : BothDeleted old new u v) where
-  new-length : length new ≡ length old
+  pub new-length : length new ≡ length old
   new-length = ap length both.rows ∙ length-set (set old u both.first) v both.second ∙ length-set old u both.first
 
   at-v : row new v ≡ both.second

@@ -11,16 +11,14 @@ use Rattle.std.proofs.lemmas.List.Folds.{list_any-append}
 use Rattle.kc_distinct.specs.Lists.{member, Distinct}
 use Rattle.kc_distinct.proofs.Members.{member-cases, member-tail}
 use Rattle.kc_graph.specs.SimpleGraph.{SimpleGraph, adjacent, pair_cmp}
-use Rattle.std.specs.declared.vec.Vec.{Vec}
-use Rattle.std.specs.declared.alloc.Global.{Global}
 use Rattle.std.specs.List.Sorted.{IsStrictlyIncreasing}
 use Rattle.std.specs.Result.{is_ok}
 use Rattle.std.specs.Prelude.{Result, Ok, Err, Some, slice_get}
-use Rattle.std.proofs.lemmas.List.{length-map, get_or-map, length-replicate}
+use Rattle.std.proofs.lemmas.List.{length-replicate}
 use Rattle.std.proofs.lemmas.Option.{get_or_from_slice_get}
 use Rattle.std.proofs.lemmas.List.Kept.{AllPairs-from_increasing}
 use Rattle.kc_graph.specs.Neighbours.{AreNeighbours}
-use Rattle.kc_graph.specs.Rows.{lists, row, pairs_from, graph_of, IsAdjacency, IsPlace}
+use Rattle.kc_graph.specs.Rows.{row, pairs_from, graph_of, IsAdjacency, IsPlace}
 use Rattle.kc_graph.proofs.Law.{adjacent-self}
 use Rattle.kc_distinct.proofs.Counting.{member-get_or, Contains-from_member, Distinct-from_pairs}
 use Rattle.kc_distinct.proofs.Shared.{get_or-any, never_falls}
@@ -120,20 +118,18 @@ adjacent-graph_of rows h v w = elim (cases_order v w) [
 ]
 
 -- What a graph's own view says.
-pub size-view : (rows : List (Vec ℕ Global)) (g : SimpleGraph) → graph_of (lists rows) ≡ g → length rows ≡ g.size
-size-view rows g e = sym (length-map rows (λ (r : Vec ℕ Global). r.items)) ∙ sym (size-graph_of (lists rows)) ∙ ap (λ (x : SimpleGraph). x.size) e
+pub size-view : (rows : List (List ℕ)) (g : SimpleGraph) → graph_of rows ≡ g → length rows ≡ g.size
+size-view rows g e = sym (size-graph_of rows) ∙ ap (λ (x : SimpleGraph). x.size) e
 
-pub row-lists : (rows : List (Vec ℕ Global)) (v : ℕ) (r : Vec ℕ Global) → v < length rows → r ≡ get_or rows v r → row (lists rows) v ≡ r.items
-row-lists rows v r l e = get_or-map (λ (x : Vec ℕ Global). x.items) rows v r [] l ∙ ap (λ (x : Vec ℕ Global). x.items) (sym e)
+pub adjacent-view : (rows : List (List ℕ)) (g : SimpleGraph) → graph_of rows ≡ g → IsAdjacency rows → (v w : ℕ) → member w (row rows v) ≡ adjacent g v w
+adjacent-view rows g e h v w = sym (adjacent-graph_of rows h v w) ∙ ap (λ (x : SimpleGraph). adjacent x v w) e
 
-pub neighbours-view : (rows : List (Vec ℕ Global)) (g : SimpleGraph) → graph_of (lists rows) ≡ g → IsAdjacency (lists rows) → (v : ℕ) (r : Vec ℕ Global) → v < length rows → r ≡ get_or rows v r → AreNeighbours g v r.items
-neighbours-view rows g e h v r l is =
-    let here : row (lists rows) v ≡ r.items = row-lists rows v r l is in
-    record {
-      ascending = subst IsStrictlyIncreasing here (h.ascends v);
-      within = λ w m. let k : w < length (lists rows) = h.within v w (ap (member w) here ∙ m) in omega (arith, size-view rows g e, length-map rows (λ (x : Vec ℕ Global). x.items));
-      exact = λ w. ap (member w) (sym here) ∙ sym (adjacent-graph_of (lists rows) h v w) ∙ ap (λ x. adjacent x v w) e;
-    }
+pub neighbours-view : (rows : List (List ℕ)) (g : SimpleGraph) → graph_of rows ≡ g → IsAdjacency rows → (v : ℕ) → AreNeighbours g v (row rows v)
+neighbours-view rows g e h v = record {
+  ascending = h.ascends v;
+  within = λ w m. omega (arith, h.within v w m, size-view rows g e);
+  exact = adjacent-view rows g e h v;
+}
 
 -- no vertex has a neighbour
 pub row-replicate : (n v : ℕ) → row (replicate n []) v ≡ []

@@ -4,10 +4,11 @@ ghost use Rattle.std.specs.FinSet as set;
 ghost use Rattle.kc_graph.specs.SimpleGraph.{SimpleGraph, adjacent};
 ghost use Rattle.kc_graph.specs.Edges.{with_edge, without_edge};
 ghost use Rattle.kc_graph.specs.Neighbours.{AreNeighbours};
-ghost use Rattle.kc_graph.specs.Rows.{IsAdjacency, graph_of, lists};
+ghost use Rattle.kc_graph.specs.Rows.{IsAdjacency, graph_of};
 
 use crate::NoMemory;
-use crate::rows::{copy_of, delete_both, entries_in, insert_both, place_in};
+use crate::ascending::place_in;
+use crate::rows::Rows;
 use std::alloc::Global;
 use std::marker::Model;
 
@@ -15,21 +16,21 @@ use std::marker::Model;
 /// different ones.
 #[derive(Debug, Drop)]
 pub struct Graph {
-    rows: Vec<Vec<u32>>,
+    rows: Rows,
     edges: u64,
 }
 
 impl Model for Graph {
     ghost use Rattle.kc_graph.specs.SimpleGraph.{SimpleGraph};
-    ghost use Rattle.kc_graph.specs.Rows.{graph_of, lists, code_of_graph, HoldsEdges};
+    ghost use Rattle.kc_graph.specs.Rows.{graph_of, code_of_graph, HoldsEdges};
 
     ghost Value = { SimpleGraph };
 
     ghost coded = { code_of_graph };
 
-    ghost view = { λ a. graph_of (lists a.rows.items) };
+    ghost view = { λ a. graph_of a.rows };
 
-    ghost invariant = { λ a. HoldsEdges (lists a.rows.items) a.edges };
+    ghost invariant = { λ a. HoldsEdges a.rows a.edges };
 }
 
 impl Graph {
@@ -37,20 +38,17 @@ impl Graph {
     pub fn new(alloc: Global, vertices: u32) -> Result<Graph, NoMemory>
         ensures { IfOk result (λ g. g ≡ record { size = vertices; edges = set.empty }) }
     {
-        let mut rows = Vec::with_capacity(alloc, vertices as usize)?;
-        for _ in 0..vertices {
-            rows.push(Vec::new(alloc))?;
-        }
+        let rows = Rows::empty(alloc, vertices)?;
         Ok(Graph { rows, edges: 0 })
     }
 
     /// The graph of rows that say which vertices are neighbours.
-    pub(crate) fn from_rows(rows: Vec<Vec<u32>>) -> Graph
-        requires adjacency { IsAdjacency (lists rows.items) }
-        requires few { length rows.items < 2 ^ 32 }
-        ensures { result ≡ graph_of (lists rows.items) }
+    pub(crate) fn from_rows(rows: Rows) -> Graph
+        requires adjacency { IsAdjacency rows }
+        requires few { length rows < 2 ^ 32 }
+        ensures { result ≡ graph_of rows }
     {
-        let edges = entries_in(&rows) / 2;
+        let edges = rows.entries() / 2;
         Graph { rows, edges }
     }
 
@@ -58,7 +56,7 @@ impl Graph {
     pub fn vertices(&self) -> u32
         ensures { result ≡ self.now.size }
     {
-        self.rows.len() as u32
+        self.rows.count() as u32
     }
 
     /// How many edges there are, each counted once.
@@ -73,7 +71,7 @@ impl Graph {
         requires { v < self.now.size }
         ensures { AreNeighbours self.now v result.now }
     {
-        &self.rows[v as usize]
+        self.rows.get(v)
     }
 
     /// Whether an edge joins the two vertices, in either order. No vertex is its own neighbour.
@@ -81,7 +79,7 @@ impl Graph {
         requires { u < self.now.size }
         ensures { result ≡ adjacent self.now u v }
     {
-        place_in(&self.rows[u as usize], v).is_ok()
+        place_in(self.rows.get(u), v).is_ok()
     }
 
     /// Adds the edge between two vertices, and tells whether it was not there before. The vertices stay the same. Where there is no
@@ -99,7 +97,7 @@ impl Graph {
         if self.has(u, v) {
             return Ok(false);
         }
-        insert_both(&mut self.rows, u, v)?;
+        self.rows.insert_both(u, v)?;
         self.edges += 1;
         Ok(true)
     }
@@ -115,7 +113,7 @@ impl Graph {
         if !self.has(u, v) {
             return false;
         }
-        delete_both(&mut self.rows, u, v);
+        self.rows.delete_both(u, v);
         self.edges -= 1;
         true
     }
@@ -124,7 +122,7 @@ impl Graph {
     pub(crate) fn copy(&self, alloc: Global) -> Result<Graph, NoMemory>
         ensures { IfOk result (λ g. g ≡ self.now) }
     {
-        let rows = copy_of(alloc, &self.rows)?;
+        let rows = self.rows.copy(alloc)?;
         let edges = self.edges;
         Ok(Graph { rows, edges })
     }

@@ -10,15 +10,19 @@
 //! numbers and no more, and it has one. The crate stands on `kc_distinct` and the standard library.
 #![tactic(auto)]
 
+mod ascending;
 mod bulk;
+mod gathering;
 mod graph;
 mod lawful;
 mod neighbours;
 mod peeling;
 mod plan;
+mod row;
 mod rows;
 #[cfg(test)]
 mod tests;
+mod tidying;
 mod update;
 mod used;
 

@@ -1,134 +1,182 @@
-//! Ascending rows of numbers: what a graph keeps for each vertex.
-ghost use Rattle.std.specs.Prelude.{◌≡◌, ◌≢◌, ◌<◌, ◌^◌, ℕ, List, true, false, length, vec_len, vec_capacity, slice_index_or, slice_set, IfOk, OnOk, OnErr, IsOk};
+//! The rows of a graph: for each vertex an ascending list of numbers.
+//!
+//! The rows of a graph that is made in one go lie in one block, one after the other, so that a row costs no memory of its own. A row
+//! that grows moves out of the block into a list of its own, where there is room for more. One that gets shorter stays where it is.
+ghost use Rattle.std.specs.Prelude.{◌≡◌, ◌≢◌, ◌<◌, ◌≤◌, ◌-◌, ◌+◌, ◌^◌, ◌++◌, ◌∷◌, ℕ, List, [], true, false, length, replicate, vec_len, vec_capacity, slice_set, IfOk, OnOk, OnErr};
 ghost use Rattle.std.specs.List.{sum_by};
 ghost use Rattle.std.specs.List.Sorted.{IsStrictlyIncreasing};
-ghost use Rattle.std.specs.declared.vec.Vec.{Vec};
-ghost use Rattle.std.specs.declared.alloc.Global.{Global};
 ghost use Rattle.kc_distinct.specs.Lists.{member};
-ghost use Rattle.kc_graph.specs.Rows.{lists, row, IsPlace, Inserted, Deleted, IsAdjacency, BothInserted, BothDeleted};
+ghost use Rattle.kc_graph.specs.Rows.{row, Deleted, IsAdjacency, BothInserted, BothDeleted};
+ghost use Rattle.kc_graph.specs.Blocks.{entries_of_each, LieFrom};
 
 use crate::NoMemory;
+use crate::ascending::insert_into;
+use crate::row::Row;
 use std::alloc::Global;
+use std::marker::Model;
 
-/// Where a number stands in an ascending row, or else where it has to go. One that is greater than the last costs one comparison.
-pub(crate) fn place_in(row: &[u32], w: u32) -> Result<usize, usize>
-    requires { IsStrictlyIncreasing row.now }
-    ensures { IsPlace row.now w result }
-{
-    match row.last() {
-        Some(last) if *last < w => Err(row.len()),
-        _ => row.binary_search(&w),
+/// Rows of numbers.
+#[derive(Debug, Drop)]
+pub(crate) struct Rows {
+    block: Vec<u32>,
+    rows: Vec<Row>,
+}
+
+impl Model for Rows {
+    ghost use Rattle.std.specs.Prelude.{ℕ, List};
+    ghost use Rattle.std.specs.Coded.{coded_list, coded_ℕ};
+    ghost use Rattle.kc_graph.specs.Blocks.{entries_of_each, LieFrom};
+
+    ghost Value = { List (List ℕ) };
+
+    ghost coded = { coded_list (coded_list coded_ℕ) };
+
+    ghost view = { λ a. entries_of_each a.block.items a.rows.items };
+
+    ghost invariant = { λ a. LieFrom 0 a.block.items a.rows.items };
+}
+
+impl Rows {
+    /// So many rows without a number.
+    pub(crate) fn empty(alloc: Global, count: u32) -> Result<Rows, NoMemory>
+        ensures { IfOk result (λ rows. rows ≡ replicate count []) }
+    {
+        let mut rows = Vec::with_capacity(alloc, count as usize)?;
+        for _ in 0..count {
+            rows.push(Row::Part { from: 0, to: 0 })?;
+        }
+        let block = Vec::new(alloc);
+        Ok(Rows { block, rows })
     }
-}
 
-/// Puts a number into an ascending row that lacks it.
-fn insert_into(row: &mut Vec<u32>, w: u32) -> Result<(), NoMemory>
-    requires ascends { IsStrictlyIncreasing row.old.items }
-    requires lacks { member w row.old.items ≡ false }
-    ensures ok { OnOk result (Inserted row.old.items row.new.items w) }
-    ensures err { OnErr result (row.new.items ≡ row.old.items) }
-    ensures room { vec_len row.old < vec_capacity row.old → IsOk result }
-{
-    if let Err(place) = place_in(row, w) {
-        row.insert(place, w)?;
+    /// Rows that lie in a block.
+    pub(crate) fn new(block: Vec<u32>, rows: Vec<Row>) -> Rows
+        requires { LieFrom 0 block.items rows.items }
+        ensures { result ≡ entries_of_each block.items rows.items }
+    {
+        Rows { block, rows }
     }
-    Ok(())
-}
 
-/// Takes a number out of an ascending row that has it.
-fn delete_from(row: &mut Vec<u32>, w: u32)
-    requires ascends { IsStrictlyIncreasing row.old.items }
-    requires here { member w row.old.items ≡ true }
-    ensures { Deleted row.old.items row.new.items w }
-{
-    if let Ok(place) = place_in(row, w) {
-        row.remove(place);
+    /// How many rows there are.
+    pub(crate) fn count(&self) -> usize
+        ensures { result ≡ length self.now }
+    {
+        self.rows.len()
     }
-}
 
-/// Puts a number into one of several rows.
-fn insert_at(rows: &mut [Vec<u32>], u: u32, w: u32) -> Result<(), NoMemory>
-    requires u_in { u < length rows.old }
-    requires ascends { IsStrictlyIncreasing (row (lists rows.old) u) }
-    requires lacks { member w (row (lists rows.old) u) ≡ false }
-    ensures ok { OnOk result ((r : List ℕ) × (lists rows.new ≡ slice_set (lists rows.old) u r) × Inserted (row (lists rows.old) u) r w) }
-    ensures err { OnErr result (lists rows.new ≡ lists rows.old) }
-    ensures others { (x : ℕ) (d : Vec ℕ Global) → x ≢ u → slice_index_or rows.new x d ≡ slice_index_or rows.old x d }
-    ensures room { (d : Vec ℕ Global) → vec_len (slice_index_or rows.old u d) < vec_capacity (slice_index_or rows.old u d) → IsOk result }
-{
-    let row = &mut rows[u as usize];
-    insert_into(row, w)
-}
-
-/// Takes a number out of one of several rows.
-fn delete_at(rows: &mut [Vec<u32>], u: u32, w: u32)
-    requires u_in { u < length rows.old }
-    requires ascends { IsStrictlyIncreasing (row (lists rows.old) u) }
-    requires here { member w (row (lists rows.old) u) ≡ true }
-    ensures { (r : List ℕ) × (lists rows.new ≡ slice_set (lists rows.old) u r) × Deleted (row (lists rows.old) u) r w }
-{
-    let row = &mut rows[u as usize];
-    delete_from(row, w);
-}
-
-/// Makes room for one more in a row.
-fn reserve_one(rows: &mut [Vec<u32>], u: u32) -> Result<(), NoMemory>
-    requires u_in { u < length rows.old }
-    ensures same { lists rows.new ≡ lists rows.old }
-    ensures ok { OnOk result ((d : Vec ℕ Global) → vec_len (slice_index_or rows.new u d) < vec_capacity (slice_index_or rows.new u d)) }
-{
-    let row = &mut rows[u as usize];
-    row.reserve(1)
-}
-
-/// Puts each of two numbers into the row of the other. Where there is no memory both rows stay as they were.
-pub(crate) fn insert_both(rows: &mut [Vec<u32>], u: u32, v: u32) -> Result<(), NoMemory>
-    requires differ { u ≢ v }
-    requires u_in { u < length rows.old }
-    requires v_in { v < length rows.old }
-    requires adjacency { IsAdjacency (lists rows.old) }
-    requires lacks { member v (row (lists rows.old) u) ≡ false }
-    ensures ok { OnOk result (BothInserted (lists rows.old) (lists rows.new) u v) }
-    ensures err { OnErr result (lists rows.new ≡ lists rows.old) }
-{
-    reserve_one(rows, v)?;
-    insert_at(rows, u, v)?;
-    insert_at(rows, v, u)
-}
-
-/// Takes each of two numbers out of the row of the other.
-pub(crate) fn delete_both(rows: &mut [Vec<u32>], u: u32, v: u32)
-    requires differ { u ≢ v }
-    requires u_in { u < length rows.old }
-    requires v_in { v < length rows.old }
-    requires adjacency { IsAdjacency (lists rows.old) }
-    requires here { member v (row (lists rows.old) u) ≡ true }
-    ensures { BothDeleted (lists rows.old) (lists rows.new) u v }
-{
-    delete_at(rows, u, v);
-    delete_at(rows, v, u);
-}
-
-/// The same rows once more.
-pub(crate) fn copy_of(alloc: Global, rows: &[Vec<u32>]) -> Result<Vec<Vec<u32>>, NoMemory>
-    ensures { IfOk result (λ copies. lists copies.items ≡ lists rows.now) }
-{
-    let mut copies = Vec::with_capacity(alloc, rows.len())?;
-    for row in rows {
-        copies.push(Vec::from_slice(alloc, row)?)?;
+    /// The numbers of a row.
+    pub(crate) fn get(&self, v: u32) -> &[u32]
+        requires { v < length self.now }
+        ensures { result.now ≡ row self.now v }
+    {
+        self.rows[v as usize].numbers(&self.block)
     }
-    Ok(copies)
-}
 
-/// How many entries the rows have together.
-pub(crate) fn entries_in(rows: &[Vec<u32>]) -> u64
-    requires adjacency { IsAdjacency (lists rows.now) }
-    requires few { length rows.now < 2 ^ 32 }
-    ensures { result ≡ sum_by length (lists rows.now) }
-{
-    let mut entries = 0;
-    for row in rows {
-        entries += row.len() as u64;
+    /// Puts a list in place of a row.
+    fn put(&mut self, v: u32, list: Vec<u32>)
+        requires { v < length self.old }
+        ensures { self.new ≡ slice_set self.old v list.items }
+    {
+        self.rows[v as usize] = Row::Own(list);
     }
-    entries
+
+    /// Takes out the numbers of a row, as a list with room for one more, and leaves the row empty. Where there is no memory for that, all
+    /// rows stay as they were.
+    fn take_with_room(&mut self, v: u32) -> Result<Vec<u32>, NoMemory>
+        requires { v < length self.old }
+        ensures list { IfOk result (λ list. list.items ≡ row self.old v) }
+        ensures room { IfOk result (λ list. vec_len list < vec_capacity list) }
+        ensures left { OnOk result (self.new ≡ slice_set self.old v []) }
+        ensures err { OnErr result (self.new ≡ self.old) }
+    {
+        let alloc = *self.block.allocator();
+        self.rows[v as usize].take_with_room(alloc, &self.block)
+    }
+
+    /// Takes a number out of a row that ascends and has it.
+    fn delete(&mut self, v: u32, w: u32)
+        requires v_in { v < length self.old }
+        requires ascends { IsStrictlyIncreasing (row self.old v) }
+        requires here { member w (row self.old v) ≡ true }
+        ensures { (r : List ℕ) × (self.new ≡ slice_set self.old v r) × Deleted (row self.old v) r w }
+    {
+        self.rows[v as usize].delete(&mut self.block, w);
+    }
+
+    /// Puts each of two numbers into the row of the other. Where there is no memory both rows stay as they were.
+    pub(crate) fn insert_both(&mut self, u: u32, v: u32) -> Result<(), NoMemory>
+        requires differ { u ≢ v }
+        requires u_in { u < length self.old }
+        requires v_in { v < length self.old }
+        requires adjacency { IsAdjacency self.old }
+        requires lacks { member v (row self.old u) ≡ false }
+        ensures ok { OnOk result (BothInserted self.old self.new u v) }
+        ensures err { OnErr result (self.new ≡ self.old) }
+    {
+        let mut first = self.take_with_room(u)?;
+        match self.take_with_room(v) {
+            Ok(mut second) => {
+                insert_into(&mut first, v);
+                insert_into(&mut second, u);
+                self.put(u, first);
+                self.put(v, second);
+                Ok(())
+            }
+            Err(none) => {
+                self.put(u, first);
+                Err(none)
+            }
+        }
+    }
+
+    /// Takes each of two numbers out of the row of the other.
+    pub(crate) fn delete_both(&mut self, u: u32, v: u32)
+        requires differ { u ≢ v }
+        requires u_in { u < length self.old }
+        requires v_in { v < length self.old }
+        requires adjacency { IsAdjacency self.old }
+        requires here { member v (row self.old u) ≡ true }
+        ensures { BothDeleted self.old self.new u v }
+    {
+        self.delete(u, v);
+        self.delete(v, u);
+    }
+
+    /// Puts one row more behind the others, at the end of the block.
+    fn push(&mut self, list: &[u32]) -> Result<(), NoMemory>
+        ensures { OnOk result (self.new ≡ self.old ++ list.now ∷ []) }
+    {
+        let from = self.block.len();
+        self.block.extend_from_slice(list)?;
+        let to = self.block.len();
+        self.rows.push(Row::Part { from, to })?;
+        Ok(())
+    }
+
+    /// The same rows once more, all in one block.
+    pub(crate) fn copy(&self, alloc: Global) -> Result<Rows, NoMemory>
+        requires { length self.now < 2 ^ 32 }
+        ensures { IfOk result (λ rows. rows ≡ self.now) }
+    {
+        let block = Vec::with_capacity(alloc, self.block.len())?;
+        let rows = Vec::with_capacity(alloc, self.count())?;
+        let mut copies = Rows::new(block, rows);
+        for v in 0..self.count() as u32 {
+            copies.push(self.get(v))?;
+        }
+        Ok(copies)
+    }
+
+    /// How many numbers the rows have together.
+    pub(crate) fn entries(&self) -> u64
+        requires adjacency { IsAdjacency self.now }
+        requires few { length self.now < 2 ^ 32 }
+        ensures { result ≡ sum_by length self.now }
+    {
+        let mut entries = 0;
+        for v in 0..self.count() as u32 {
+            entries += self.get(v).len() as u64;
+        }
+        entries
+    }
 }

@@ -1,2 +1,2 @@
 pub mod Failing
-pub mod Pieces
+pub mod Texts

@@ -1,5 +1,5 @@
--- When a call may answer that the outside failed.
-use Rattle.std.specs.Prelude.{◌≤◌, ◌+◌, ◌-◌, ◌^◌, ℕ, min, OnErr, Result}
+-- When a call may answer that the outside failed, and how faults are counted.
+use Rattle.std.specs.Prelude.{◌≤◌, ◌+◌, ◌-◌, ◌^◌, ℕ, min, OnErr, Result, is_err, if◌then◌else◌}
 
 -- one more, up to the last value of a `u64`
 abbrev pub one_more : ℕ → ℕ
@@ -13,3 +13,7 @@ Rose before after = one_more before ≤ after
 pub record HasCause {T E : Type 0} (before after : ℕ) (result : Result T E) : Type 0 where
   pub later : before ≤ after
   pub failed : OnErr result (Rose before after)
+
+-- the count after a call with this result: an error adds one, and nothing else changes it
+abbrev pub faults_after : {T E : Type 0} → ℕ → Result T E → ℕ
+faults_after before result = if is_err result then one_more before else before

@@ -2,3 +2,5 @@ pub mod Calls
 pub mod Causes
 pub mod FirstPiece
 pub mod Memory
+pub mod Offers
+pub mod Wrapped

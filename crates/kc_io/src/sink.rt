@@ -3,6 +3,7 @@ ghost use Rattle.std.specs.Prelude.{◌≡◌, ◌<◌, ◌≤◌, ℕ, List, Op
 ghost use Rattle.std.specs.Io.KnownBytes.{WriteAppends, Appends};
 ghost use Rattle.kc_io.specs.Causes.{HasCause};
 ghost use Rattle.kc_io.specs.FirstPiece.{KeepsFirst};
+ghost use Rattle.kc_io.specs.Offers.{Offers, IsOffered, amount};
 
 use crate::Failed;
 
@@ -14,6 +15,10 @@ pub trait Sink {
     /// How long the first piece was that was offered, or 0 before any, where the sink tells it.
     ghost first: { Self → Option ℕ };
 
+    /// The pieces that were offered, where the sink tells it: how many texts were begun, and what is left of the last piece.
+    /// A piece that is as long as what was left of the one before goes on with its text, and any other begins one.
+    ghost offers: { Self → Option Offers };
+
     /// How many calls have failed, up to the last value of a `u64`.
     ghost faults: { Self → ℕ };
 
@@ -24,10 +29,12 @@ pub trait Sink {
         ensures bound { IfOk result (λ n. (0 < n) × (n ≤ length piece.now)) }
         ensures bytes { WriteAppends (taken self.old) (taken self.new) result piece.now }
         ensures first { KeepsFirst (first self.old) (first self.new) piece.now }
+        ensures offers { IsOffered (offers self.old) (offers self.new) (length piece.now) (amount result) }
         ensures cause { HasCause (faults self.old) (faults self.new) result };
 }
 
-/// Puts out a whole text. At each turn all that is left of it is offered, so the first piece is the whole text.
+/// Puts out a whole text. At each turn all that is left of it is offered: for a sink that tells its pieces the call
+/// is as one write of the whole text, which begins one text and leaves of it what was not taken, nothing at `Ok`.
 ///
 /// `Failed` comes only where the sink's count of faults rose in this call; then a prefix of the text was taken.
 /// Of an empty text nothing is offered.
@@ -35,6 +42,8 @@ pub fn write_all<O: Sink>(sink: &mut O, text: &[u8]) -> Result<(), Failed>
     ensures whole { OnOk result (Appends (O.taken sink.old) (O.taken sink.new) text.now) }
     ensures prefix { OnErr result ((n : ℕ) × (n ≤ length text.now) × Appends (O.taken sink.old) (O.taken sink.new) (take n text.now)) }
     ensures first { 0 < length text.now → KeepsFirst (O.first sink.old) (O.first sink.new) text.now }
+    ensures offered { 0 < length text.now → (n : ℕ) × (n ≤ length text.now) × Appends (O.taken sink.old) (O.taken sink.new) (take n text.now)
+        × IsOffered (O.offers sink.old) (O.offers sink.new) (length text.now) n × OnOk result (n ≡ length text.now) }
     ensures empty { length text.now ≡ 0 → sink.new ≡ sink.old }
     ensures cause { HasCause (O.faults sink.old) (O.faults sink.new) result }
 {

@@ -1,12 +1,12 @@
 //! Where bytes come from.
-ghost use Rattle.std.specs.Prelude.{◌≡◌, ◌<◌, ◌≤◌, ℕ, List, Option, Result, IfSome, IfOk, OnOk, IsErrOf, length};
+ghost use Rattle.std.specs.Prelude.{◌≡◌, ◌<◌, ◌≤◌, ◌+◌, ℕ, List, Option, Result, IfSome, IfOk, OnOk, IsErrOf, length, take, drop};
 ghost use Rattle.std.specs.Io.{ReadsAtMost};
 ghost use Rattle.std.specs.Io.KnownBytes.{ReadConsumes, Consumes, IsAtEnd};
 ghost use Rattle.kc_io.specs.Causes.{HasCause, Rose};
 ghost use Rattle.kc_io.specs.declared.source.ReadAllFault.TheVariants as fault;
 
-use crate::Failed;
-use std::alloc::{AllocError as NoMemory, Global};
+use crate::{Failed, NoMemory};
+use std::alloc::Global;
 use thiserror::Error;
 
 /// Where bytes come from, in order, until there are none left.
@@ -59,32 +59,64 @@ impl From<NoMemory> for ReadAllFault {
 /// The most bytes that [`read_all`] gives.
 pub const READ_LIMIT: usize = 67_108_864;
 
-/// How many bytes are asked for at once.
+/// How many bytes of room are made at once.
 const PIECE_BYTES: usize = 65_536;
 
-/// All bytes of the source, up to its end.
+/// Makes room behind the first `done` bytes where there is none: for a piece, or for as much of it as keeps the
+/// whole at one byte above [`READ_LIMIT`]. Each byte of room is cleared once.
+fn make_room(bytes: &mut Vec<u8>, done: usize) -> Result<(), NoMemory>
+    requires { (done ≤ READ_LIMIT) × (done ≤ length bytes.old.items) × (length bytes.old.items ≤ READ_LIMIT + 1) }
+    ensures kept { take done bytes.new.items ≡ take done bytes.old.items }
+    ensures within { done ≤ length bytes.new.items }
+    ensures room { OnOk result (done < length bytes.new.items) }
+    ensures fits { length bytes.new.items ≤ READ_LIMIT + 1 }
+{
+    if done < bytes.len() {
+        return Ok(());
+    }
+    let room = PIECE_BYTES.min(READ_LIMIT + 1 - done);
+    bytes.resize(done + room, 0)
+}
+
+/// Reads once into the room behind the first `done` bytes.
+fn read_behind<S: Source>(source: &mut S, bytes: &mut Vec<u8>, done: usize) -> Result<usize, Failed>
+    requires { done < length bytes.old.items }
+    ensures bound { IfOk result (λ n. done + n ≤ length bytes.new.items) }
+    ensures bytes { ReadConsumes (S.left source.old) (S.left source.new) result (drop done bytes.new.items) }
+    ensures cause { HasCause (S.faults source.old) (S.faults source.new) result }
+    ensures kept { take done bytes.new.items ≡ take done bytes.old.items }
+    ensures room { length bytes.new.items ≡ length bytes.old.items }
+{
+    source.read(&mut bytes[done..])
+}
+
+/// All bytes of the source, up to its end. They are read straight into the vector that is given back.
 ///
 /// `ReadFault` comes only where the source's count of faults rose in this call, `TooLong` only where the source
-/// gave more bytes than [`READ_LIMIT`]. After each answer the source has lost just the bytes that it gave.
+/// gave more bytes than [`READ_LIMIT`]. After each answer the source has lost just the bytes that it gave in this
+/// call, and they are at most one more than [`READ_LIMIT`].
 pub fn read_all<S: Source>(alloc: Global, source: &mut S) -> Result<Vec<u8>, ReadAllFault>
     ensures whole { IfOk result (λ bytes. IfSome (S.left source.old) (λ told. bytes.items ≡ told)) }
     ensures ended { OnOk result (IsAtEnd (S.left source.new)) }
     ensures fits { IfOk result (λ bytes. length bytes.items ≤ READ_LIMIT) }
     ensures given { (given : List ℕ) × Consumes (S.left source.old) (S.left source.new) given
         × IfOk result (λ bytes. bytes.items ≡ given)
-        × (IsErrOf result ReadAllFault.TooLong → READ_LIMIT < length given) }
+        × (IsErrOf result ReadAllFault.TooLong → READ_LIMIT < length given)
+        × (length given ≤ READ_LIMIT + 1) }
     ensures later { S.faults source.old ≤ S.faults source.new }
     ensures read_fault { IsErrOf result ReadAllFault.ReadFault → Rose (S.faults source.old) (S.faults source.new) }
     ensures too_long { IsErrOf result ReadAllFault.TooLong → IfSome (S.left source.old) (λ told. READ_LIMIT < length told) }
 {
     let mut bytes = Vec::new(alloc);
-    let mut piece = [0u8; PIECE_BYTES];
-    while bytes.len() <= READ_LIMIT {
-        let n = source.read(&mut piece)?;
+    let mut done = 0;
+    while done <= READ_LIMIT {
+        make_room(&mut bytes, done)?;
+        let n = read_behind(source, &mut bytes, done)?;
         if n == 0 {
+            bytes.truncate(done);
             return Ok(bytes);
         }
-        bytes.extend_from_slice(&piece[..n])?;
+        done += n;
     }
     Err(ReadAllFault::TooLong)
 }

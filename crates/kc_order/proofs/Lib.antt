@@ -4,8 +4,10 @@ pub mod Cutting
 pub mod Ending
 pub mod Leaving
 pub mod Opened
+pub mod Orders
 pub mod Reading
 pub mod Relabelling
+pub mod RunMoves
 pub mod Running
 pub mod Sections
 pub mod Stood

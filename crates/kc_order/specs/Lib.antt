@@ -1,4 +1,5 @@
 pub mod Collected
+pub mod Runs
 pub mod Shared
 pub mod Standing
 pub mod Writers

@@ -2,7 +2,8 @@
 //!
 //! Each call keeps the log legal at each single store, and says what became of the list, of the versions, of the entries, of the vertices
 //! that are put and not sealed, and of the vertices' words.
-ghost use Rattle.std.specs.Prelude.{◌≡◌, ◌≢◌, ◌<◌, ◌≤◌, ◌+◌, ◌++◌, ◌∷◌, ◌↔◌, ◌==◌, if◌then◌else◌, ℕ, [], true, length, slice_index, IfOk, IsTrue, MatchOption};
+ghost use Rattle.std.specs.Prelude.{◌≡◌, ◌≢◌, ◌<◌, ◌≤◌, ◌+◌, ◌*◌, ◌++◌, ◌∷◌, ◌↔◌, ◌==◌, if◌then◌else◌, ℕ, [], true, length, slice_index};
+ghost use Rattle.std.specs.Prelude.{IfOk, IsTrue, MatchOption};
 ghost use mathlib.Core.List.{IsPrefix};
 ghost use Rattle.kc_distinct.specs.Lists.{Distinct, member, next_of, prev_of, without};
 ghost use Rattle.kc_words.specs.NoteWord.{note_word};
@@ -11,7 +12,8 @@ ghost use Rattle.kc_words.specs.declared.note.NoteWord.TheVariants.{Enter};
 ghost use Rattle.kc_table.specs.Legal.{Legal, MayPut, Seals};
 ghost use Rattle.kc_table.specs.State.{first_vertex, state_of};
 ghost use Rattle.kc_order.specs.Standing.{StandsBefore, list_after};
-ghost use Rattle.kc_order.specs.Writers.{AreOpeningWords, HasVersionsLeft, IsHighest, Leaves, Puts, Stores, Takes};
+ghost use Rattle.kc_order.specs.Runs.{IsRunBefore, MovesRun};
+ghost use Rattle.kc_order.specs.Writers.{AreOpeningWords, HasRoom, HasVersionsLeft, IsHighest, Leaves, Puts, Stores, Takes};
 ghost use Rattle.kc_order.specs.Writers.{entries_after, unsealed_after, vertex_word_after};
 
 use crate::NoMemory;
@@ -85,6 +87,24 @@ impl Writer {
         let Writer { seat, plain } = self;
         plain.put_after(x, p);
         store_writes(words, seat, plain.writes(), NoteWord::Put { x, p });
+    }
+
+    /// Moves the items of a run right after `p`, in their order, by one put each: the last one first. So at each moment any two items stand
+    /// as they did before or as they do at the end.
+    pub fn move_after(&mut self, words: &Words, run: &[u32], p: u32)
+        requires table { self.old.table ≡ words.now }
+        requires run { IsRunBefore words.now.shape.fixed run.now p (list_after self.old.table self.old.log) }
+        requires p_in { member p (list_after self.old.table self.old.log) ≡ true }
+        requires versions { HasRoom self.old.table self.old.log (3 * length run.now) }
+        ensures { MovesRun self.old self.new run.now p }
+    {
+        // also where the run has no member the log is legal
+        let _seat = &self.seat;
+        let mut i = run.len();
+        while i > 0 {
+            i -= 1;
+            self.put_after(words, run[i], p);
+        }
     }
 
     /// Takes `x` out: the note, and then the store at which the list changes.

@@ -27,13 +27,13 @@ abbrev pub line_text : Line → List ℕ
 line_text (Graph vertices edges top) = graph_line vertices edges top
 line_text (Batch number added removed kept overruled edges top) = batch_line number added removed kept overruled edges top
 
--- an id and its core number
-abbrev pub core_line : ℕ × ℕ → List ℕ
-core_line vertex = decimal vertex.0 ++ 32 ∷ decimal vertex.1 ++ 10 ∷ []
+-- two numbers, with a space between them
+abbrev pub pair_line : ℕ × ℕ → List ℕ
+pair_line pair = decimal pair.0 ++ 32 ∷ decimal pair.1 ++ 10 ∷ []
 
--- a line for each vertex
+-- a line for each vertex: its id and its core number
 abbrev pub core_lines : List ℕ → List ℕ → List ℕ
-core_lines ids core = flat_map core_line (zip ids core)
+core_lines ids core = flat_map pair_line (zip ids core)
 
 -- the ids of the vertices whose core number is at least the level: those of the level's core
 abbrev pub members : List ℕ → List ℕ → ℕ → List ℕ

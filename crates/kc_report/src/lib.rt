@@ -1,17 +1,24 @@
 //! The lines that a run writes: one line about the graph and one about each batch, a line for each vertex with its
-//! core number, and the members of a level's core.
+//! core number, and the members of a level's core. And a text that is generated for a number, to be read as an input.
 //!
-//! Each call appends to a text that grows, takes no memory but that text's, and leaves it as it was where there is
-//! none. The bytes are pinned by the definitions of `specs/Lines.antt`. The crate stands on std and on `itoa`, which
-//! prints a number into a buffer on the stack.
+//! The calls for lines append to a text that grows, take no memory but that text's, and leave it as it was where there
+//! is none. The bytes are pinned by the definitions of `specs/Lines.antt` and `specs/Generator.antt`. The crate stands
+//! on `itoa`, which prints a number into a buffer on the stack, and on `kc_text` for what a line of an input says.
 #![tactic(auto)]
 
+mod drawing;
+mod draws;
+mod generator;
 mod pieces;
+mod sizes;
 
 ghost use Rattle.std.specs.Prelude.{◌≡◌, ◌++◌, length, OnErr, OnOk};
 ghost use Rattle.kc_report.specs.Lines.{core_lines, level_lines, line_text};
 
 use crate::pieces::{put_core_lines, put_level_lines, put_line};
+pub use generator::{
+    a_generated_batch_names_each_pair_once, a_generated_text_is_an_input, generate,
+};
 pub use std::alloc::AllocError as NoMemory;
 
 /// A line about the graph or about a batch of updates.

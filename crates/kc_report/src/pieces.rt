@@ -2,7 +2,7 @@
 ghost use Rattle.std.specs.Prelude.{◌≡◌, [], ◌∷◌, ◌++◌, codes, length, OnOk};
 ghost use Rattle.std.specs.Io.{StartsWith};
 ghost use Rattle.std.specs.List.{flat_map};
-ghost use Rattle.kc_report.specs.Lines.{core_line, core_lines, field, level_lines, line_text, member_line, members, overruled_field};
+ghost use Rattle.kc_report.specs.Lines.{core_lines, field, level_lines, line_text, member_line, members, overruled_field, pair_line};
 
 use crate::{Line, NoMemory};
 use itoa::{Buffer, Integer};
@@ -80,13 +80,13 @@ fn end_line(out: &mut Vec<u8>) -> Result<(), NoMemory>
     Ok(())
 }
 
-/// Puts a vertex's line.
-fn put_core_line(out: &mut Vec<u8>, id: u32, core: u32) -> Result<(), NoMemory>
-    ensures ok { OnOk result (out.new.items ≡ out.old.items ++ core_line (id, core)) }
+/// Puts a line with two numbers.
+pub(crate) fn put_pair(out: &mut Vec<u8>, first: u32, second: u32) -> Result<(), NoMemory>
+    ensures ok { OnOk result (out.new.items ≡ out.old.items ++ pair_line (first, second)) }
     ensures kept { StartsWith out.new.items out.old.items }
 {
-    put_field(out, "", id)?;
-    put_field(out, " ", core)?;
+    put_field(out, "", first)?;
+    put_field(out, " ", second)?;
     end_line(out)
 }
 
@@ -97,7 +97,7 @@ pub(crate) fn put_core_lines(out: &mut Vec<u8>, ids: &[u32], core: &[u32]) -> Re
     ensures kept { StartsWith out.new.items out.old.items }
 {
     for (id, core) in ids.iter().zip(core) {
-        put_core_line(out, *id, *core)?;
+        put_pair(out, *id, *core)?;
     }
     Ok(())
 }

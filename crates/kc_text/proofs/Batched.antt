@@ -1,5 +1,5 @@
 -- Batches between the numbers that stand for ids.
-use Rattle.std.proofs.Common.{◌≡◌, ◌≢◌, ◌≤◌, ◌<◌, ℕ, suc, zero, Bool, true, List, [], ◌∷◌, length, map, get_or, refl, sym, ap, subst, ◌∙◌, arith, nat_eq, eqb-true, eq-eqb, min, max, inl, inr, Vec, Global, None}
+use Rattle.std.proofs.Common.{◌≡◌, ◌≢◌, ◌≤◌, ◌<◌, ℕ, suc, zero, Bool, true, List, [], ◌∷◌, length, length-append, map, get_or, refl, sym, ap, subst, ◌∙◌, arith, nat_eq, eqb-true, eq-eqb, min, max, inl, inr, Vec, Global, None}
 use Rattle.std.specs.Prelude.{All}
 use Rattle.std.specs.List.{flat_map}
 use Rattle.std.specs.Set.{is_member}
@@ -13,21 +13,24 @@ use Rattle.kc_text.specs.declared.reading.Reading.{Reading}
 use Rattle.kc_text.specs.Inputs.{AreAmong, AreEdges, AreIds, AreUpdates, IsBatch, IsInput, edge_of, numbered_change, parts_of, place, start_graph}
 use Rattle.kc_text.specs.Meaning.{Means, Told, batches, changes, ends, ends_of, meaning, name_same, names}
 use Rattle.kc_text.specs.Readers.{outcome}
+use Rattle.kc_text.specs.Batches.{NamesOnce}
+use Rattle.kc_text.specs.Overruling.{deciding, overruled}
 use Rattle.kc_text.specs.Readings.{IsReading}
-use Rattle.kc_text.proofs.WithinLimits.{AreFit, IsFit, fit-batches, meaning-fit}
+use Rattle.kc_text.proofs.Overruled.{deciding-among, deciding-count, deciding-once}
+use Rattle.kc_text.proofs.WithinLimits.{AreFit, HasNoLoops, fit-batches, meaning-fit}
 use Rattle.kc_text.proofs.NamedPairs.{Same, no_change, parts-same}
 use Rattle.kc_text.proofs.Places.{length-AreIds, place-below, place-injective}
 use Rattle.kc_text.proofs.Telling.{change_ends, ends-told, ends-batches}
-use Rattle.kc_text.specs.declared.limits.TheConstants.{MOST_IDS}
+use Rattle.kc_text.specs.declared.limits.TheConstants.{MOST_BATCHES, MOST_IDS, MOST_UPDATES}
 
 -- an update of the batch, and the change that it is
-record IsUpdate (ids : List ℕ) (u : Update) (c : Change) : Type 0 where
-  a-in : is_member nat_eq ids c.a ≡ true
-  b-in : is_member nat_eq ids c.b ≡ true
-  least : u.u ≡ min (place ids c.a) (place ids c.b)
-  most : u.v ≡ max (place ids c.a) (place ids c.b)
+pub record IsUpdate (ids : List ℕ) (u : Update) (c : Change) : Type 0 where
+  pub a-in : is_member nat_eq ids c.a ≡ true
+  pub b-in : is_member nat_eq ids c.b ≡ true
+  pub least : u.u ≡ min (place ids c.a) (place ids c.b)
+  pub most : u.v ≡ max (place ids c.a) (place ids c.b)
 
-update-at : (ids : List ℕ) (batch : List Change) (updates : List Update) → AreUpdates ids batch updates → AreAmong ids (ends (map ends_of batch)) → (i : ℕ) (d : Update) → i < length updates
+pub update-at : (ids : List ℕ) (batch : List Change) (updates : List Update) → AreUpdates ids batch updates → AreAmong ids (ends (map ends_of batch)) → (i : ℕ) (d : Update) → i < length updates
     → (i < length batch) × IsUpdate ids (get_or updates i d) (get_or batch i no_change)
 update-at ids batch updates same among i d l =
     let count : length updates ≡ length batch = sym (length-map updates parts_of) ∙ (ap (length) same ∙ length-map batch (numbered_change ids)) in
@@ -45,7 +48,7 @@ update-at ids batch updates same among i d l =
       },
     )
 
-named-again : (ids : List ℕ) (u v : Update) (c d : Change) → IsUpdate ids u c → IsUpdate ids v d → edge_of u ≡ edge_of v → name_same d c ≡ true
+pub named-again : (ids : List ℕ) (u v : Update) (c d : Change) → IsUpdate ids u c → IsUpdate ids v d → edge_of u ≡ edge_of v → name_same d c ≡ true
 named-again ids u v c d p q e =
     let least : u.u ≡ v.u = ap (λ (x : ℕ × ℕ). x.0) e in
     let most : u.v ≡ v.v = ap (λ (x : ℕ × ℕ). x.1) e in
@@ -59,15 +62,15 @@ named-again ids u v c d p q e =
           or_right _ _ (and_from _ _ (eq-eqb d.a c.b (place-injective ids d.a c.b q.a-in (eqb-true _ _ x))) (eq-eqb d.b c.a (place-injective ids d.b c.a q.b-in (eqb-true _ _ y))))
     ]
 
-pub fit-updates : (ids : List ℕ) (batch : List Change) (updates : List Update) → AreUpdates ids batch updates → AreAmong ids (ends (map ends_of batch)) → IsFit batch → IsBatch (length ids) updates
-fit-updates ids batch updates same among fit = record {
+pub fit-updates : (ids : List ℕ) (batch : List Change) (updates : List Update) → AreUpdates ids batch updates → AreAmong ids (ends (map ends_of batch)) → NamesOnce batch → IsBatch (length ids) updates
+fit-updates ids batch updates same among once = record {
   within = λ i d l.
       let (l', is) = update-at ids batch updates same among i d l in
       omega (arith, is.most, place-below ids (get_or batch i no_change).a is.a-in, place-below ids (get_or batch i no_change).b is.b-in);
   apart = λ i j d l m. λ e.
       let (li, is) = update-at ids batch updates same among i d (omega arith) in
       let (lj, js) = update-at ids batch updates same among j d m in
-      absurd (false≢true (sym (fit.once i j no_change l lj) ∙ named-again ids _ _ _ _ is js e));
+      absurd (false≢true (sym (once i j no_change l lj) ∙ named-again ids _ _ _ _ is js e));
 }
 
 -- what holds of the lists holds of the vectors that keep them
@@ -93,25 +96,54 @@ pub among-batches : (told : Told) (ids : List ℕ) → AreIds (names told) ids �
 among-batches told ids h = λ i d l id m. h.exact id ∙ (ap (λ (t : List ℕ). is_member nat_eq t id) (ends-told told.edges (changes told))
     ∙ list_any-append (nat_eq id) (ends told.edges) (ends (map ends_of (changes told))) ∙ or_right _ _ (ids-of_batch (batches told) i d id l m))
 
--- the batches of updates are those of changes
-pub numbered-batches : (ids : List ℕ) (updates : List (Vec Update Global)) (vectors : List (Vec Change Global)) (lists : List (List Change)) → map (λ batch. batch.items) vectors ≡ lists
-    → map (λ batch. map parts_of batch.items) updates ≡ map (λ batch. map (numbered_change ids) batch.items) vectors → map (λ batch. map parts_of batch.items) updates ≡ map (map (numbered_change ids)) lists
-numbered-batches ids updates vectors lists e same = same ∙ (through vectors ∙ ap (map (map (numbered_change ids))) e)
+-- a batch is no longer than all batches together
+batch-length : (lists : List (List Change)) (i : ℕ) (d : List Change) → i < length lists → length (get_or lists i d) ≤ length (flat_map (λ batch. batch) lists)
+batch-length [] i d l = absurd (omega arith)
+batch-length (list ∷ lists) zero d l = omega (arith, length-append list (flat_map (λ batch. batch) lists))
+batch-length (list ∷ lists) (suc i) d l = omega (arith, length-append list (flat_map (λ batch. batch) lists), batch-length lists i d (omega arith))
+
+-- what is made of each vector is made of each list
+pub made-of : {X : Type 0} (f : List Change → X) (vectors : List (Vec Change Global)) (lists : List (List Change)) → map (λ batch. batch.items) vectors ≡ lists → map (λ batch. f batch.items) vectors ≡ map f lists
+made-of f vectors lists e = through vectors ∙ ap (map f) e
   where
-    through : (vectors : List (Vec Change Global)) → map (λ batch. map (numbered_change ids) batch.items) vectors ≡ map (map (numbered_change ids)) (map (λ batch. batch.items) vectors)
+    through : (vectors : List (Vec Change Global)) → map (λ batch. f batch.items) vectors ≡ map f (map (λ batch. batch.items) vectors)
     through [] = refl
-    through (batch ∷ vectors) = ap (λ t. map (numbered_change ids) batch.items ∷ t) (through vectors)
+    through (batch ∷ vectors) = ap (λ t. f batch.items ∷ t) (through vectors)
+
+abbrev pub parts_of_all : List (Vec Update Global) → List (List (Bool × ℕ × ℕ))
+parts_of_all updates = map (λ batch. map parts_of batch.items) updates
+
+-- the changes of a batch that decide, between the numbers that stand for their ids
+abbrev pub numbered_deciding : List ℕ → List Change → List (Bool × ℕ × ℕ)
+numbered_deciding ids batch = map (numbered_change ids) (deciding batch)
+
+-- one batch of updates is the changes of one batch that decide
+updates-at : (ids : List ℕ) (updates : List (Vec Update Global)) (lists : List (List Change)) → parts_of_all updates ≡ map (numbered_deciding ids) lists
+    → (i : ℕ) (d : Vec Update Global) → i < length updates → (i < length lists) × AreUpdates ids (deciding (get_or lists i [])) (get_or updates i d).items
+updates-at ids updates lists same i d l =
+    let count : length updates ≡ length lists = sym (length-map updates (λ (batch : Vec Update Global). map parts_of batch.items)) ∙ (ap (length) same ∙ length-map lists (numbered_deciding ids)) in
+    let l' : i < length lists = omega arith in (
+      l',
+      sym (get_or-map (λ (batch : Vec Update Global). map parts_of batch.items) updates i d (map parts_of d.items) l) ∙ ap (λ (t : List (List (Bool × ℕ × ℕ))). get_or t i (map parts_of d.items)) same
+          ∙ get_or-map (numbered_deciding ids) lists i [] (map parts_of d.items) l',
+    )
 
 -- each batch of updates is fit
-pub fit-input : (ids : List ℕ) (updates : List (Vec Update Global)) (lists : List (List Change)) → map (λ batch. map parts_of batch.items) updates ≡ map (map (numbered_change ids)) lists
-    → All IsFit lists → All (λ batch. AreAmong ids (ends (map ends_of batch))) lists → All (λ batch. IsBatch (length ids) batch.items) updates
-fit-input ids updates lists same fit among = λ i d l.
-    let count : length updates ≡ length lists = sym (length-map updates (λ (batch : Vec Update Global). map parts_of batch.items)) ∙ (ap (length) same ∙ length-map lists (map (numbered_change ids))) in
-    let l' : i < length lists = omega arith in
-    let parts : AreUpdates ids (get_or lists i []) (get_or updates i d).items =
-    sym (get_or-map (λ (batch : Vec Update Global). map parts_of batch.items) updates i d (map parts_of d.items) l) ∙ ap (λ (t : List (List (Bool × ℕ × ℕ))). get_or t i (map parts_of d.items)) same
-    ∙ get_or-map (map (numbered_change ids)) lists i [] (map parts_of d.items) l' in
-    fit-updates ids (get_or lists i []) (get_or updates i d).items parts (among i [] l') (fit i [] l')
+fit-input : (ids : List ℕ) (updates : List (Vec Update Global)) (lists : List (List Change)) → parts_of_all updates ≡ map (numbered_deciding ids) lists
+    → All (λ batch. AreAmong ids (ends (map ends_of batch))) lists → All (λ batch. IsBatch (length ids) batch.items) updates
+fit-input ids updates lists same among = λ i d l.
+    let (l', parts) = updates-at ids updates lists same i d l in
+    let batch : List Change = get_or lists i [] in
+    fit-updates ids (deciding batch) (get_or updates i d).items parts (deciding-among ids batch (among i [] l')) (deciding-once batch)
+
+-- each batch of updates is as short as the batch of changes
+short-input : (ids : List ℕ) (most : ℕ) (updates : List (Vec Update Global)) (lists : List (List Change)) → parts_of_all updates ≡ map (numbered_deciding ids) lists
+    → All (λ batch. length batch ≤ most) lists → All (λ batch. length batch.items ≤ most) updates
+short-input ids most updates lists same short = λ i d l.
+    let (l', parts) = updates-at ids updates lists same i d l in
+    let batch : List Change = get_or lists i [] in
+    let count : length (get_or updates i d).items ≡ length (deciding batch) = sym (length-map (get_or updates i d).items parts_of) ∙ (ap (length) parts ∙ length-map (deciding batch) (numbered_change ids)) in
+    omega (arith, deciding-count batch, short i [] l')
 
 -- what a reading has that ended with no refusal
 pub record Accepted (bytes : List ℕ) (reading : Reading) : Type 0 where
@@ -119,7 +151,9 @@ pub record Accepted (bytes : List ℕ) (reading : Reading) : Type 0 where
   pub means : meaning bytes ≡ Means told
   pub read : IsReading told reading
   pub few : length reading.ids.items ≤ MOST_IDS
-  pub fit : All IsFit (batches told)
+  pub few_batches : length (batches told) ≤ MOST_BATCHES
+  pub short : All (λ batch. length batch ≤ MOST_UPDATES) (batches told)
+  pub apart : All HasNoLoops (batches told)
 
 pub accepted : (bytes : List ℕ) (reading : Reading) → (told : Told) × IsReading told reading × (meaning bytes ≡ outcome told reading.refusal) → reading.refusal ≡ None → Accepted bytes reading
 accepted bytes reading (told, read, ended) none =
@@ -129,8 +163,10 @@ accepted bytes reading (told, read, ended) none =
       told = told;
       means = means;
       read = read;
-      few = omega (arith, length-AreIds (names told) reading.ids.items read.ids, fit.few);
-      fit = fit-batches told.earlier told.last fit.earlier fit.last;
+      few = omega (arith, length-AreIds (names told) reading.ids.items read.ids, fit.within.ids);
+      few_batches = fit.within.batch_lines;
+      short = λ i d l. omega (arith, fit.within.changes, batch-length (batches told) i d l);
+      apart = fit-batches told.earlier told.last fit.earlier fit.last;
     }
 
 pub accepted-edges : (bytes : List ℕ) (reading : Reading) → Accepted bytes reading → AreAmong reading.ids.items (ends reading.edges.items)
@@ -140,27 +176,59 @@ pub accepted-batches : (bytes : List ℕ) (reading : Reading) → Accepted bytes
 accepted-batches bytes reading a = All-items (λ batch. AreAmong reading.ids.items (ends (map ends_of batch))) reading.batches.items (batches a.told) a.read.batches (among-batches a.told reading.ids.items a.read.ids)
 
 pub accepted-apart : (bytes : List ℕ) (reading : Reading) → Accepted bytes reading → All (λ batch. All (λ c. c.a ≢ c.b) batch.items) reading.batches.items
-accepted-apart bytes reading a = All-items (λ (batch : List Change). All (λ c. c.a ≢ c.b) batch) reading.batches.items (batches a.told) a.read.batches (λ i d l. (a.fit i d l).apart)
+accepted-apart bytes reading a = All-items HasNoLoops reading.batches.items (batches a.told) a.read.batches a.apart
 
--- the input that is made of it
-pub made : (bytes : List ℕ) (reading : Reading) (input : Input) → Accepted bytes reading → input.ids.items ≡ reading.ids.items → AreEdges (start_graph reading.ids.items reading.edges.items) input.start.items
-    → map (λ batch. map parts_of batch.items) input.batches.items ≡ map (λ batch. map (numbered_change reading.ids.items) batch.items) reading.batches.items
-    → (told : Told) × (meaning bytes ≡ Means told) × IsInput told input
-made bytes reading input a ids start parts = (
+pub accepted-short : (bytes : List ℕ) (reading : Reading) → Accepted bytes reading → All (λ batch. length batch.items ≤ MOST_UPDATES) reading.batches.items
+accepted-short bytes reading a = All-items (λ batch. length batch ≤ MOST_UPDATES) reading.batches.items (batches a.told) a.read.batches a.short
+
+-- the input is made of the reading
+pub record IsMadeOf (reading : Reading) (input : Input) : Type 0 where
+  pub ids : input.ids.items ≡ reading.ids.items
+  pub start : AreEdges (start_graph reading.ids.items reading.edges.items) input.start.items
+  pub batches : parts_of_all input.batches.items ≡ map (λ batch. numbered_deciding reading.ids.items batch.items) reading.batches.items
+  pub overruled : input.overruled.items ≡ map (λ batch. overruled batch.items) reading.batches.items
+
+-- its batches are those that were told
+made-parts : (bytes : List ℕ) (reading : Reading) (input : Input) → (a : Accepted bytes reading) → IsMadeOf reading input → parts_of_all input.batches.items ≡ map (numbered_deciding input.ids.items) (batches a.told)
+made-parts bytes reading input a is =
+    is.batches ∙ (made-of (numbered_deciding reading.ids.items) reading.batches.items (batches a.told) a.read.batches
+    ∙ ap (λ (ids : List ℕ). map (numbered_deciding ids) (batches a.told)) (sym is.ids))
+
+-- it is an input of what was told
+pub made : (bytes : List ℕ) (reading : Reading) (input : Input) → Accepted bytes reading → IsMadeOf reading input → (told : Told) × (meaning bytes ≡ Means told) × IsInput told input
+made bytes reading input a is = (
   a.told,
   a.means,
   record {
-    named = subst (AreIds (names a.told)) (sym ids) a.read.ids;
-    start = subst (λ (xs : List ℕ). AreEdges (start_graph xs a.told.edges) input.start.items) (sym ids) (subst (λ (es : List (ℕ × ℕ)). AreEdges (start_graph reading.ids.items es) input.start.items) a.read.edges start);
-    batches = subst (λ (xs : List ℕ). map (λ batch. map parts_of batch.items) input.batches.items ≡ map (map (numbered_change xs)) (batches a.told)) (sym ids)
-        (numbered-batches reading.ids.items input.batches.items reading.batches.items (batches a.told) a.read.batches parts);
+    named = subst (AreIds (names a.told)) (sym is.ids) a.read.ids;
+    start = subst (λ (ids : List ℕ). AreEdges (start_graph ids a.told.edges) input.start.items) (sym is.ids)
+        (subst (λ (edges : List (ℕ × ℕ)). AreEdges (start_graph reading.ids.items edges) input.start.items) a.read.edges is.start);
+    overruled = is.overruled ∙ made-of overruled reading.batches.items (batches a.told) a.read.batches;
+    batches = made-parts bytes reading input a is;
   },
 )
 
-pub made-batches : (bytes : List ℕ) (reading : Reading) (input : Input) → Accepted bytes reading → input.ids.items ≡ reading.ids.items
-    → map (λ batch. map parts_of batch.items) input.batches.items ≡ map (λ batch. map (numbered_change reading.ids.items) batch.items) reading.batches.items
-    → All (λ batch. IsBatch (length input.ids.items) batch.items) input.batches.items
-made-batches bytes reading input a ids parts =
-    subst (λ (xs : List ℕ). All (λ batch. IsBatch (length xs) batch.items) input.batches.items) (sym ids)
-    (fit-input reading.ids.items input.batches.items (batches a.told) (numbered-batches reading.ids.items input.batches.items reading.batches.items (batches a.told) a.read.batches parts) a.fit
-    (among-batches a.told reading.ids.items a.read.ids))
+among-input : (bytes : List ℕ) (reading : Reading) (input : Input) → (a : Accepted bytes reading) → IsMadeOf reading input → All (λ batch. AreAmong input.ids.items (ends (map ends_of batch))) (batches a.told)
+among-input bytes reading input a is =
+    subst (λ (ids : List ℕ). All (λ batch. AreAmong ids (ends (map ends_of batch))) (batches a.told)) (sym is.ids) (among-batches a.told reading.ids.items a.read.ids)
+
+pub made-batches : (bytes : List ℕ) (reading : Reading) (input : Input) → Accepted bytes reading → IsMadeOf reading input → All (λ batch. IsBatch (length input.ids.items) batch.items) input.batches.items
+made-batches bytes reading input a is = fit-input input.ids.items input.batches.items (batches a.told) (made-parts bytes reading input a is) (among-input bytes reading input a is)
+
+pub made-few_batches : (bytes : List ℕ) (reading : Reading) (input : Input) → Accepted bytes reading → IsMadeOf reading input → length input.batches.items ≤ MOST_BATCHES
+made-few_batches bytes reading input a is =
+    let count : length input.batches.items ≡ length (batches a.told) = sym (length-map input.batches.items (λ (batch : Vec Update Global). map parts_of batch.items))
+    ∙ (ap (length) (made-parts bytes reading input a is) ∙ length-map (batches a.told) (numbered_deciding input.ids.items)) in
+    omega (arith, a.few_batches)
+
+pub made-short : (bytes : List ℕ) (reading : Reading) (input : Input) → Accepted bytes reading → IsMadeOf reading input → All (λ batch. length batch.items ≤ MOST_UPDATES) input.batches.items
+made-short bytes reading input a is = short-input input.ids.items MOST_UPDATES input.batches.items (batches a.told) (made-parts bytes reading input a is) a.short
+
+-- no more changes are overruled than a batch has
+pub made-counts : (bytes : List ℕ) (reading : Reading) (input : Input) → Accepted bytes reading → IsMadeOf reading input → All (λ count. count ≤ MOST_UPDATES) input.overruled.items
+made-counts bytes reading input a is =
+    let same : input.overruled.items ≡ map overruled (batches a.told) = is.overruled ∙ made-of overruled reading.batches.items (batches a.told) a.read.batches in
+    λ i d l.
+    let count : length input.overruled.items ≡ length (batches a.told) = ap (length) same ∙ length-map (batches a.told) overruled in
+    let is : get_or input.overruled.items i d ≡ overruled (get_or (batches a.told) i []) = ap (λ (t : List ℕ). get_or t i d) same ∙ get_or-map overruled (batches a.told) i [] d (omega arith) in
+    omega (arith, deciding-count (get_or (batches a.told) i []), a.short i [] (omega arith))

@@ -1,17 +1,14 @@
 -- What a reader keeps, one line after another.
 use Rattle.std.proofs.Common.{◌≡◌, ◌+◌, ℕ, Bool, List, [], ◌∷◌, ◌++◌, length, sym, ap, ap₂, subst, ◌∙◌, nat_eq, nat_lt, arith, length-append, inl, inr, Option}
-use Rattle.std.specs.Prelude.{IfSome, is_some}
+use Rattle.std.specs.Prelude.{IfSome}
 use Rattle.std.specs.HashSet.{IsUnique}
-use Rattle.std.specs.Option.{option_map}
 use Rattle.std.specs.Set.{distinct_count}
 use Rattle.kc_text.specs.declared.change.Change.{Change}
 use Rattle.kc_text.specs.declared.reader.Reader.{Reader}
 use Rattle.kc_text.specs.declared.line.Line.TheVariants as said
-use Rattle.kc_text.specs.Batches.{KeepsPairs}
 use Rattle.kc_text.specs.Meaning.{Told, batches, changes, first_limit, names, passed_limit, with_line}
 use Rattle.kc_text.specs.Readers.{Gains, IsExact, IsKept, is_over, told_by}
 use Rattle.kc_text.proofs.Counts.{NamesMore, has_more, over_is}
-use Rattle.kc_text.proofs.Sure.{looks-after}
 use Rattle.kc_text.proofs.Telling.{changes-more, names-change, names-edge}
 use Rattle.kc_text.specs.declared.limits.TheConstants.{MOST_IDS, MOST_EDGE_LINES, MOST_UPDATES, MOST_BATCHES}
 
@@ -28,22 +25,15 @@ with_edges reader edges = record { edges = edges; earlier = (told_by reader).ear
 abbrev pub with_last : Reader → Option (List Change) → Told
 with_last reader last = record { edges = (told_by reader).edges; earlier = (told_by reader).earlier; last = last }
 
-pub keeps-edge : (old new : Reader) (a b : ℕ) → told_by new ≡ with_line (told_by old) (said.Edge a b) → new.last ≡ old.last → new.changes ≡ old.changes → Gains old.ids new.ids a b
-    → is_some new.ids ≡ is_some old.ids → IsKept old → IsKept new
-keeps-edge old new a b told last same gains looks kept = record {
+pub keeps-edge : (old new : Reader) (a b : ℕ) → told_by new ≡ with_line (told_by old) (said.Edge a b) → new.changes ≡ old.changes → Gains old.ids new.ids a b → IsKept old → IsKept new
+keeps-edge old new a b told same gains kept = record {
   ids = has_more old.ids new.ids (names (told_by old)) (names (told_by new)) a b (names-after_edge old new a b told) gains kept.ids;
-  pairs = subst (λ l. IfSome l (λ batch. KeepsPairs batch.pairs batch.changes.items)) (sym last) kept.pairs;
-  looks = subst (λ l. IfSome l (λ batch. is_some batch.pairs ≡ is_some new.ids)) (sym last) (subst (λ exact. IfSome old.last (λ batch. is_some batch.pairs ≡ exact)) (sym looks) kept.looks);
   changes = same ∙ kept.changes ∙ sym (ap (λ (t : Told). length (changes t)) told);
 }
 
-pub keeps-change : (old new : Reader) (c : Change) → told_by new ≡ with_line (told_by old) (said.Change c) → IfSome new.last (λ batch. KeepsPairs batch.pairs batch.changes.items)
-    → option_map (λ batch. is_some batch.pairs) new.last ≡ option_map (λ batch. is_some batch.pairs) old.last → new.changes ≡ old.changes + 1 → Gains old.ids new.ids c.a c.b
-    → is_some new.ids ≡ is_some old.ids → IsKept old → IsKept new
-keeps-change old new c told pairs same more gains looks kept = record {
+pub keeps-change : (old new : Reader) (c : Change) → told_by new ≡ with_line (told_by old) (said.Change c) → new.changes ≡ old.changes + 1 → Gains old.ids new.ids c.a c.b → IsKept old → IsKept new
+keeps-change old new c told more gains kept = record {
   ids = has_more old.ids new.ids (names (told_by old)) (names (told_by new)) c.a c.b (names-after_change old new c told) gains kept.ids;
-  pairs = pairs;
-  looks = subst (λ exact. IfSome new.last (λ batch. is_some batch.pairs ≡ exact)) (sym looks) (looks-after (is_some old.ids) old.last new.last same kept.looks);
   changes =
       let grown : length (changes (told_by new)) ≡ length (changes (told_by old) ++ c ∷ []) = ap (λ (t : Told). length (changes t)) told ∙ ap (length) (changes-more (told_by old) c) in
       omega (arith, kept.changes, length-append (changes (told_by old)) (c ∷ []));
@@ -54,6 +44,6 @@ pub limit-found : (reader : Reader) (many edge_lines updates batch_lines : Bool)
     → updates ≡ nat_lt MOST_UPDATES reader.changes → batch_lines ≡ nat_lt MOST_BATCHES (length (batches (told_by reader)))
     → first_limit many edge_lines updates batch_lines ≡ passed_limit (told_by reader)
 limit-found reader many edge_lines updates batch_lines kept unique exact m e u b =
-    ap₂ (λ (x y : Bool). first_limit x y updates batch_lines) (m ∙ over_is reader.ids (names (told_by reader)) kept.ids unique (elim exact [ inl is ↦ inl is | inr clear ↦ inr clear.few ])) e
+    ap₂ (λ (x y : Bool). first_limit x y updates batch_lines) (m ∙ over_is reader.ids (names (told_by reader)) kept.ids unique (elim exact [ inl is ↦ inl is | inr few ↦ inr few ])) e
     ∙ ap₂ (λ (x y : Bool). first_limit (nat_lt MOST_IDS (distinct_count nat_eq (names (told_by reader))))
     (nat_lt MOST_EDGE_LINES (length (told_by reader).edges)) x y) (u ∙ ap (nat_lt MOST_UPDATES) kept.changes) b

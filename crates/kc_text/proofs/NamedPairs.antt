@@ -1,13 +1,10 @@
 -- Pairs that are named in either direction.
-use Rattle.std.proofs.Common.{◌≡◌, ℕ, Bool, true, false, cond, ◌&&◌, ◌||◌, List, [], ◌∷◌, refl, ap, ◌∙◌, arith, nat_eq, eqb-true, eq-eqb, inl, inr, ap₂, min, max}
-use Rattle.std.specs.List.{list_any}
+use Rattle.std.proofs.Common.{◌≡◌, ℕ, Bool, true, false, ◌&&◌, ◌||◌, List, [], ◌∷◌, refl, sym, ◌∙◌, arith, nat_eq, eqb-true, eq-eqb, inl, inr, ap₂, min, max}
 use Rattle.std.specs.Cmp.{both_ways}
 use Rattle.std.proofs.lemmas.Bool.{cases_eq, or_cases, or_left, or_right, and_parts, and_from}
 use Rattle.kc_text.specs.declared.change.Change.{Change}
 use Rattle.kc_text.specs.Batches.{is_pair, pair_of}
-use Rattle.std.specs.Prelude.{Some, None}
-use Rattle.kc_text.specs.declared.kind.Kind.TheVariants.{LoopInBatch, EdgeTwiceInBatch}
-use Rattle.kc_text.specs.Meaning.{name_same, unfit}
+use Rattle.kc_text.specs.Meaning.{name_same}
 
 -- a change in place of one that is missing
 pub no_change : Change
@@ -33,11 +30,19 @@ name_same-is c d = both_ways _ _
     (λ h. let p = same-parts c.a c.b d.a d.b h in and_from _ _ (eq-eqb (min c.a c.b) (min d.a d.b) p.0) (eq-eqb (max c.a c.b) (max d.a d.b) p.1))
     (λ h. let p = and_parts _ _ h in parts-same c.a c.b d.a d.b (eqb-true (min c.a c.b) (min d.a d.b) p.0) (eqb-true (max c.a c.b) (max d.a d.b) p.1))
 
-pub named_before : (c : Change) (batch : List Change) → list_any (name_same c) batch ≡ list_any (λ d. is_pair (pair_of c) (pair_of d)) batch
-named_before c [] = refl
-named_before c (d ∷ batch) = ap₂ (λ (x y : Bool). x || y) (name_same-is c d) (named_before c batch)
+-- equal pairs are told by what they are equal to
+is_pair-congr : (p q r : ℕ × ℕ) → is_pair p q ≡ true → is_pair p r ≡ is_pair q r
+is_pair-congr p q r same =
+    let (least, most) = and_parts _ _ same in
+    ap₂ (λ (x y : ℕ). nat_eq x r.0 && nat_eq y r.1) (eqb-true p.0 q.0 least) (eqb-true p.1 q.1 most)
 
-pub unfit-fresh : (c : Change) (batch : List Change) → nat_eq c.a c.b ≡ false → list_any (λ d. is_pair (pair_of c) (pair_of d)) batch ≡ false → unfit (Some batch) c ≡ None
-unfit-fresh c batch apart fresh =
-    ap (λ b. cond b (Some LoopInBatch) (cond (list_any (name_same c) batch) (Some EdgeTwiceInBatch) None)) apart
-    ∙ ap (λ b. cond b (Some EdgeTwiceInBatch) None) (named_before c batch ∙ fresh)
+pub name_same-congr : (c d e : Change) → name_same c d ≡ true → name_same c e ≡ name_same d e
+name_same-congr c d e same = name_same-is c e ∙ (is_pair-congr (pair_of c) (pair_of d) (pair_of e) (sym (name_same-is c d) ∙ same) ∙ sym (name_same-is d e))
+
+pub name_same-refl : (c : Change) → name_same c c ≡ true
+name_same-refl c = or_left _ _ (and_from _ _ (eq-eqb c.a c.a refl) (eq-eqb c.b c.b refl))
+
+pub name_same-flip : (c d : Change) → name_same c d ≡ name_same d c
+name_same-flip c d = both_ways _ _
+    (λ h. sym (name_same-congr c d c h) ∙ name_same-refl c)
+    (λ h. sym (name_same-congr d c d h) ∙ name_same-refl d)

@@ -93,3 +93,9 @@ pub change_ends : (cs : List Change) (i : ℕ) (d : Change) → i < length cs �
 change_ends [] i d l = absurd (omega arith)
 change_ends (c ∷ cs) zero d l = (or_left (nat_eq c.a c.a) _ (eq-eqb c.a c.a refl), or_right (nat_eq c.b c.a) _ (or_left (nat_eq c.b c.b) _ (eq-eqb c.b c.b refl)))
 change_ends (c ∷ cs) (suc i) d l = let (a, b) = change_ends cs i d (omega arith) in (or_right (nat_eq (get_or cs i d).a c.a) _ (or_right (nat_eq (get_or cs i d).a c.b) _ a), or_right (nat_eq (get_or cs i d).b c.a) _ (or_right (nat_eq (get_or cs i d).b c.b) _ b))
+
+-- what is made of one batch more
+pub map-more : {X : Type 0} (f : Vec Change Global → X) (batches : List (Vec Change Global)) (i : ℕ) (batch : Vec Change Global) → i < length batches → batch ≡ get_or batches i batch
+    → map f (take (i + 1) batches) ≡ map f (take i batches) ++ f batch ∷ []
+map-more f batches i batch l e =
+    ap (map f) (take_more batches i batch l) ∙ (map-append f (take i batches) (get_or batches i batch ∷ []) ∙ ap (λ (b : Vec Change Global). map f (take i batches) ++ f b ∷ []) (sym e))

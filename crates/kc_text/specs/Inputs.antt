@@ -9,6 +9,7 @@ use Rattle.kc_text.specs.declared.input.Input.{Input}
 use Rattle.kc_graph.specs.declared.update.Update.{Update}
 use Rattle.kc_text.specs.declared.change.Change as change
 use Rattle.kc_text.specs.Meaning.{Told, batches, names}
+use Rattle.kc_text.specs.Overruling.{deciding, overruled}
 
 -- the names in ascending order, each once
 pub record AreIds (named : List ℕ) (ids : List ℕ) : Type 0 where
@@ -53,11 +54,13 @@ numbered_change ids c = (c.add, min (place ids c.a) (place ids c.b), max (place 
 abbrev pub AreUpdates : List ℕ → List change.Change → List Update → Type 0
 AreUpdates ids changes updates = map parts_of updates ≡ map (numbered_change ids) changes
 
--- the input is what was told
+-- the input is what was told: the updates of a batch are the changes that decide, in their order
 pub record IsInput (told : Told) (input : Input) : Type 0 where
   pub named : AreIds (names told) input.ids.items
   pub start : AreEdges (start_graph input.ids.items told.edges) input.start.items
-  pub batches : map (λ batch. map parts_of batch.items) input.batches.items ≡ map (map (numbered_change input.ids.items)) (batches told)
+  pub overruled : input.overruled.items ≡ map overruled (batches told)
+  pub batches : map (λ batch. map parts_of batch.items) input.batches.items
+      ≡ map (λ batch. map (numbered_change input.ids.items) (deciding batch)) (batches told)
 
 abbrev pub edge_of : Update → ℕ × ℕ
 edge_of update = (update.u, update.v)

@@ -2,7 +2,7 @@
 use Rattle.std.specs.Prelude.{ℕ, List, ◌++◌, codes}
 use Rattle.std.specs.Fmt.{decimal}
 use Rattle.kc_text.specs.declared.kind.Kind.{Kind}
-use Rattle.kc_text.specs.declared.kind.Kind.TheVariants.{NotANumber, MissingField, ExtraField, NumberTooLarge, LoopInBatch, EdgeTwiceInBatch, UpdateOutsideBatch, EdgeLineInBatch, TooManyVertices, TooManyEdgeLines, TooManyUpdates, TooManyBatches, TooLong}
+use Rattle.kc_text.specs.declared.kind.Kind.TheVariants.{NotANumber, MissingField, ExtraField, NumberTooLarge, LoopInBatch, UpdateOutsideBatch, EdgeLineInBatch, TooManyVertices, TooManyEdgeLines, TooManyUpdates, TooManyBatches, TooLong}
 
 abbrev pub number_of : Kind → ℕ
 number_of NotANumber = 1
@@ -10,7 +10,6 @@ number_of MissingField = 2
 number_of ExtraField = 3
 number_of NumberTooLarge = 4
 number_of LoopInBatch = 5
-number_of EdgeTwiceInBatch = 6
 number_of UpdateOutsideBatch = 7
 number_of EdgeLineInBatch = 8
 number_of TooManyVertices = 9
@@ -25,7 +24,6 @@ name_of MissingField = codes "MissingField"
 name_of ExtraField = codes "ExtraField"
 name_of NumberTooLarge = codes "NumberTooLarge"
 name_of LoopInBatch = codes "LoopInBatch"
-name_of EdgeTwiceInBatch = codes "EdgeTwiceInBatch"
 name_of UpdateOutsideBatch = codes "UpdateOutsideBatch"
 name_of EdgeLineInBatch = codes "EdgeLineInBatch"
 name_of TooManyVertices = codes "TooManyVertices"

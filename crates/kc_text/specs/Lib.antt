@@ -1,10 +1,15 @@
 pub mod Batches
 pub mod Buckets
+pub mod Deciding
+pub mod Finding
 pub mod Forms
 pub mod Inputs
 pub mod Kinds
 pub mod Lines
 pub mod Looks
 pub mod Meaning
+pub mod NamedOnce
+pub mod Overruling
+pub mod Plain
 pub mod Readers
 pub mod Readings

@@ -1,11 +1,11 @@
 -- What a text means: all that its lines tell, or the first line that is refused.
 use Rattle.std.specs.Prelude.{ℕ, ◌+◌, ◌&&◌, ◌||◌, Bool, List, [], ◌∷◌, ◌++◌, length, map, nat_lt, nat_eq, if◌then◌else◌, Option, Some, None, is_some}
-use Rattle.std.specs.List.{flat_map, list_any}
+use Rattle.std.specs.List.{flat_map}
 use Rattle.std.specs.Option.{option_to_list, unwrap_or}
 use Rattle.std.specs.Set.{distinct_count}
 use Rattle.kc_text.specs.declared.change.Change as change
 use Rattle.kc_text.specs.declared.kind.Kind.{Kind}
-use Rattle.kc_text.specs.declared.kind.Kind.TheVariants.{LoopInBatch, EdgeTwiceInBatch, UpdateOutsideBatch, EdgeLineInBatch, TooManyVertices, TooManyEdgeLines, TooManyUpdates, TooManyBatches, TooLong}
+use Rattle.kc_text.specs.declared.kind.Kind.TheVariants.{LoopInBatch, UpdateOutsideBatch, EdgeLineInBatch, TooManyVertices, TooManyEdgeLines, TooManyUpdates, TooManyBatches, TooLong}
 use Rattle.kc_text.specs.declared.line.Line.{Line}
 use Rattle.kc_text.specs.declared.line.Line.TheVariants.{Nothing, Edge, Batch, Change, Wrong}
 use Rattle.kc_text.specs.Forms.{all_said}
@@ -52,10 +52,10 @@ with_line told (Wrong kind) = told
 abbrev pub name_same : change.Change → change.Change → Bool
 name_same c d = (nat_eq c.a d.a && nat_eq c.b d.b) || (nat_eq c.a d.b && nat_eq c.b d.a)
 
--- why the last batch, if there is one, can't have one more change: it belongs in a batch, joins two ids, and no pair is named twice
+-- why the last batch, if there is one, can't have one more change: it belongs in a batch and joins two ids
 abbrev pub unfit : Option (List change.Change) → change.Change → Option Kind
 unfit None c = Some UpdateOutsideBatch
-unfit (Some batch) c = if nat_eq c.a c.b then Some LoopInBatch else if list_any (name_same c) batch then Some EdgeTwiceInBatch else None
+unfit (Some batch) c = if nat_eq c.a c.b then Some LoopInBatch else None
 
 -- the first of the limits that is passed, if one is
 abbrev pub first_limit : Bool → Bool → Bool → Bool → Option Kind

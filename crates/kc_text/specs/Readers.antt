@@ -1,19 +1,18 @@
 -- What a reader has been told so far.
-use Rattle.std.specs.Prelude.{◌≡◌, ◌≤◌, ◌⊎◌, ◌||◌, ℕ, Bool, true, false, List, map, length, Option, Some, None, is_some, nat_lt, All, IfSome, nat_eq}
+use Rattle.std.specs.Prelude.{◌≡◌, ◌≤◌, ◌⊎◌, ◌||◌, ℕ, Bool, true, false, List, map, length, Option, Some, None, is_some, nat_lt, IfSome, nat_eq}
 use Rattle.std.specs.Option.{option_map}
 use Rattle.std.specs.Set.{distinct_count, is_member}
 use Rattle.std.specs.HashSet.{HashSet, contains, hash_set_len}
 use Rattle.kc_text.specs.declared.reader.Reader.{Reader}
 use Rattle.kc_text.specs.declared.refusal.Refusal.{Refusal}
-use Rattle.kc_text.specs.Batches.{KeepsPairs, NamesOnce}
-use Rattle.kc_text.specs.Meaning.{Meaning, Means, Refuses, Told, batches, changes, names}
+use Rattle.kc_text.specs.Meaning.{Meaning, Means, Refuses, Told, changes, names}
 use Rattle.kc_text.specs.declared.limits.TheConstants.{MOST_IDS}
 
 abbrev pub told_by : Reader → Told
 told_by reader = record {
   edges = reader.edges.items;
   earlier = map (λ batch. batch.items) reader.earlier.items;
-  last = option_map (λ batch. batch.changes.items) reader.last;
+  last = option_map (λ batch. batch.items) reader.last;
 }
 
 -- the set, if there is one, has just these ids
@@ -23,18 +22,15 @@ HasIds ids named = IfSome ids (λ ids. (id : ℕ) → contains nat_eq ids id ≡
 -- what a reader keeps beside what it was told
 pub record IsKept (reader : Reader) : Type 0 where
   pub ids : HasIds reader.ids (names (told_by reader))
-  pub pairs : IfSome reader.last (λ batch. KeepsPairs batch.pairs batch.changes.items)
-  pub looks : IfSome reader.last (λ batch. is_some batch.pairs ≡ is_some reader.ids)
   pub changes : reader.changes ≡ length (changes (told_by reader))
 
--- the ids are within the limit, and no batch names a pair twice
-pub record IsClear (told : Told) : Type 0 where
-  pub few : distinct_count nat_eq (names told) ≤ MOST_IDS
-  pub once : All NamesOnce (batches told)
+-- the different ids are within the limit
+abbrev pub NamesFew : Told → Type 0
+NamesFew told = distinct_count nat_eq (names told) ≤ MOST_IDS
 
--- it looks at the ids and the pairs line by line, or there is nothing to find
+-- it counts the ids line by line, or there are not too many
 abbrev pub IsExact : Reader → Type 0
-IsExact reader = (is_some reader.ids ≡ true) ⊎ IsClear (told_by reader)
+IsExact reader = (is_some reader.ids ≡ true) ⊎ NamesFew (told_by reader)
 
 -- the set, if there is one, has two more ids
 abbrev pub Gains : {S : Type 0} → Option (HashSet ℕ S) → Option (HashSet ℕ S) → ℕ → ℕ → Type 0

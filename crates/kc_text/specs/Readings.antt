@@ -5,7 +5,7 @@ use Rattle.kc_text.specs.declared.look.Look.{Look}
 use Rattle.kc_text.specs.Inputs.{AreIds}
 use Rattle.kc_text.specs.Looks.{is_exact}
 use Rattle.kc_text.specs.Meaning.{Told, batches, meaning, names}
-use Rattle.kc_text.specs.Readers.{IsClear, outcome}
+use Rattle.kc_text.specs.Readers.{NamesFew, outcome}
 
 -- a reading has what was told, and its ids
 pub record IsReading (told : Told) (reading : Reading) : Type 0 where
@@ -13,6 +13,6 @@ pub record IsReading (told : Told) (reading : Reading) : Type 0 where
   pub batches : map (λ batch. batch.items) reading.batches.items ≡ batches told
   pub ids : AreIds (names told) reading.ids.items
 
--- it ended as the meaning says, if it looked at each line, or if there was nothing to find
+-- it ended as the meaning says, if it counted the ids at each line, or if there are not too many
 abbrev pub IsEnd : Look → List ℕ → Told → Reading → Type 0
-IsEnd look bytes told reading = ((is_exact look ≡ true) ⊎ IsClear told) → meaning bytes ≡ outcome told reading.refusal
+IsEnd look bytes told reading = ((is_exact look ≡ true) ⊎ NamesFew told) → meaning bytes ≡ outcome told reading.refusal

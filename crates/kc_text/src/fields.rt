@@ -3,7 +3,7 @@ ghost use Rattle.std.specs.Prelude.{◌≡◌, ◌∷◌, [], MatchOption};
 ghost use Rattle.std.specs.List.{prefix_len, position_or_len};
 ghost use Rattle.kc_text.specs.Lines.{fields, is_blank};
 
-fn is_blank(b: u8) -> bool
+pub(crate) fn is_blank(b: u8) -> bool
     ensures { result ≡ is_blank b }
 {
     b == b' ' || b == b'\t'

@@ -8,7 +8,10 @@ pub struct Input {
     pub ids: Vec<u32>,
     /// The edges before the first batch, ascending, each once and with its lesser end first.
     pub start: Vec<(u32, u32)>,
-    /// The batches in the order of the text, each with its updates in the order of their lines. An update that changes nothing, since
-    /// its edge is there already or isn't there, stands among them.
+    /// The batches in the order of the text. A batch has one update for each pair that its lines name, that of the last line which
+    /// names the pair, in the order of these lines. An update that changes nothing, since its edge is there already or isn't there,
+    /// stands among them.
     pub batches: Vec<Vec<Update>>,
+    /// For each batch, how many of its lines are overruled by a later line that names the same pair.
+    pub overruled: Vec<u32>,
 }

@@ -1,4 +1,4 @@
-//! The kinds of refusals, each with its number and its name in messages.
+//! The kinds of refusals, each with its number and its name in messages. No kind has the number 6.
 ghost use Rattle.std.specs.Prelude.{◌≡◌, Some};
 ghost use Rattle.kc_text.specs.Kinds.{number_of, name_of, text_of};
 
@@ -17,9 +17,6 @@ pub enum Kind {
     NumberTooLarge = 4,
     /// An add or remove line names one id twice.
     LoopInBatch = 5,
-    /// An add or remove line names a pair that was named in the same batch before, in either
-    /// direction and by either sign.
-    EdgeTwiceInBatch = 6,
     /// An add or remove line stands before any batch line.
     UpdateOutsideBatch = 7,
     /// An edge line stands after a batch line.
@@ -54,7 +51,6 @@ impl Kind {
             Kind::ExtraField => "ExtraField",
             Kind::NumberTooLarge => "NumberTooLarge",
             Kind::LoopInBatch => "LoopInBatch",
-            Kind::EdgeTwiceInBatch => "EdgeTwiceInBatch",
             Kind::UpdateOutsideBatch => "UpdateOutsideBatch",
             Kind::EdgeLineInBatch => "EdgeLineInBatch",
             Kind::TooManyVertices => "TooManyVertices",

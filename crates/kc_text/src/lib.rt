@@ -5,17 +5,20 @@
 //! means is defined in `specs/`: `Lines` cuts it into lines and fields, `Forms` says what one line says, `Meaning` judges each line
 //! after what the lines before it have told, and `Inputs` numbers the ids. The other files there serve the crate's own proofs.
 //!
-//! Reading is linear but for sorts. The different ids are counted at the end, where they are sorted anyway, and each batch's pairs are
-//! sorted there too. Only where there are too many ids, or a batch names a pair twice, is the text read again, to find the line. The
-//! crate stands on `kc_graph`, for a graph's edges as a set of pairs and for its updates.
+//! A batch may name a pair again. Then the last line that names it decides, as `specs/Overruling` says, and the others are counted.
+//!
+//! Reading is linear but for sorts. A plain line is read in one scan (`plain`), any other is cut off and into fields. Ids that are not
+//! far apart are marked and listed, and far ones sorted (`ids`). The different ids are counted at the end, and only where there are too
+//! many is the text read again, to find the line. The crate stands on `kc_graph`, for a graph's edges as a set of pairs and for its
+//! updates.
 #![tactic(auto)]
 
-mod batch;
 mod buckets;
 mod bytes;
 mod change;
 mod fault;
 mod fields;
+mod finder;
 mod ids;
 mod input;
 mod kind;
@@ -24,24 +27,32 @@ mod line;
 mod look;
 mod number;
 mod numbering;
-mod once;
+mod overruling;
+mod plain;
 mod reader;
 mod reading;
 mod refusal;
 #[cfg(test)]
 mod tests;
 
-ghost use Rattle.std.specs.Prelude.{◌≡◌, ◌≢◌, ◌≤◌, ◌<◌, ◌^◌, All, IfOk, IsErrOf, length, map};
+ghost use Rattle.std.specs.Prelude.{◌≡◌, ◌≢◌, ◌≤◌, ◌<◌, ◌+◌, ◌^◌, ◌↔◌, ℕ, List, All, IfOk, IsErrOf, length, map};
+ghost use Rattle.std.specs.List.{list_any};
 ghost use Rattle.std.specs.List.Sorted.{IsStrictlyIncreasing};
+ghost use Rattle.kc_text.specs.Batches.{NamesOnce};
 ghost use Rattle.kc_text.specs.Inputs.{AreAmong, AreEdges, IsBatch, IsInput, numbered_change, parts_of, start_graph};
-ghost use Rattle.kc_text.specs.Meaning.{Means, Refuses, Told, ends, ends_of, meaning};
+ghost use Rattle.kc_text.specs.Meaning.{Means, Refuses, Told, batches, ends, ends_of, meaning, name_same};
+ghost use Rattle.kc_text.specs.NamedOnce.{Ends, IsRefused, Tells, strict_meaning};
+ghost use Rattle.kc_text.specs.Overruling.{deciding, overruled};
+ghost use Rattle.kc_text.specs.declared.change.Change as change;
+ghost use Rattle.kc_text.specs.declared.kind.Kind.{Kind};
 ghost use Rattle.kc_text.specs.declared.refusal.Refusal.{Refusal};
-ghost use Rattle.kc_text.specs.declared.limits.TheConstants.{MOST_IDS, MOST_BYTES};
+ghost use Rattle.kc_text.specs.declared.limits.TheConstants.{MOST_BATCHES, MOST_BYTES, MOST_IDS, MOST_UPDATES};
 
-use crate::buckets::Buckets;
-use crate::change::Change;
+use crate::finder::Finder;
 use crate::numbering::{batches_of, start_of};
+use crate::overruling::decide;
 use crate::reading::{Reading, read_text};
+pub use change::Change;
 pub use fault::ParseFault;
 pub use input::Input;
 pub use kind::Kind;
@@ -58,22 +69,26 @@ fn input_of(
     batches: &[Vec<Change>],
 ) -> Result<Input, NoMemory>
     requires ascending { IsStrictlyIncreasing ids.items }
-    requires few { length ids.items < 2 ^ 32 }
+    requires few { length ids.items ≤ MOST_IDS }
     requires edges { AreAmong ids.items (ends edges.now) }
     requires batches { All (λ batch. AreAmong ids.items (ends (map ends_of batch.items))) batches.now }
     requires apart { All (λ batch. All (λ c. c.a ≢ c.b) batch.items) batches.now }
+    requires short { All (λ batch. length batch.items ≤ MOST_UPDATES) batches.now }
     ensures ids { IfOk result (λ input. input.ids.items ≡ ids.items) }
     ensures start { IfOk result (λ input. AreEdges (start_graph ids.items edges.now) input.start.items) }
     ensures batches { IfOk result (λ input. map (λ batch. map parts_of batch.items) input.batches.items
-        ≡ map (λ batch. map (numbered_change ids.items) batch.items) batches.now) }
+        ≡ map (λ batch. map (numbered_change ids.items) (deciding batch.items)) batches.now) }
+    ensures overruled { IfOk result (λ input. input.overruled.items ≡ map (λ batch. overruled batch.items) batches.now) }
 {
-    let buckets = Buckets::new(alloc, &ids)?;
-    let start = start_of(alloc, &ids, &buckets, edges)?;
-    let batches = batches_of(alloc, &ids, &buckets, batches)?;
+    let finder = Finder::new(alloc, &ids)?;
+    let start = start_of(alloc, &ids, &finder, edges)?;
+    let updates = batches_of(alloc, &ids, &finder, batches)?;
+    let (batches, overruled) = decide(alloc, &updates)?;
     Ok(Input {
         ids,
         start,
         batches,
+        overruled,
     })
 }
 
@@ -85,6 +100,9 @@ pub fn parse(alloc: Global, bytes: &[u8]) -> Result<Input, ParseFault>
     requires { length bytes.now ≤ MOST_BYTES }
     ensures input { IfOk result (λ input. (told : Told) × (meaning bytes.now ≡ Means told) × IsInput told input) }
     ensures few { IfOk result (λ input. length input.ids.items ≤ MOST_IDS) }
+    ensures few_batches { IfOk result (λ input. length input.batches.items ≤ MOST_BATCHES) }
+    ensures short { IfOk result (λ input. All (λ batch. length batch.items ≤ MOST_UPDATES) input.batches.items) }
+    ensures counts { IfOk result (λ input. All (λ count. count ≤ MOST_UPDATES) input.overruled.items) }
     ensures batches { IfOk result (λ input. All (λ batch. IsBatch (length input.ids.items) batch.items) input.batches.items) }
     ensures refused { (r : Refusal) → IsErrOf result (ParseFault.Refused r) → meaning bytes.now ≡ Refuses r.line r.kind }
 {
@@ -94,3 +112,19 @@ pub fn parse(alloc: Global, bytes: &[u8]) -> Result<Input, ParseFault>
     }
     Ok(input_of(alloc, reading.ids, &reading.edges, &reading.batches)?)
 }
+
+/// The changes of a batch that decide name each pair that the batch names, and none twice, and all its other changes are overruled.
+pub fn a_batch_decides_each_pair_once()
+    ensures once { (batch : List change.Change) → NamesOnce (deciding batch) }
+    ensures each { (c : change.Change) (batch : List change.Change) → list_any (name_same c) (deciding batch) ≡ list_any (name_same c) batch }
+    ensures others { (batch : List change.Change) → length (deciding batch) + overruled batch ≡ length batch }
+{}
+
+/// A text means what it means by a stricter rule, by which a line that names a pair of its batch again ends the reading: just where no
+/// batch names a pair twice does that rule come to the end, and then each change decides. What is refused by that rule is refused.
+pub fn what_names_each_edge_once_means_the_same()
+    ensures same { (bytes : List ℕ) (told : Told) → (strict_meaning bytes ≡ Tells told) ↔ ((meaning bytes ≡ Means told) × All NamesOnce (batches told)) }
+    ensures all_decide { (bytes : List ℕ) (told : Told) → strict_meaning bytes ≡ Tells told
+        → All (λ batch. (deciding batch ≡ batch) × (overruled batch ≡ 0)) (batches told) }
+    ensures refused { (bytes : List ℕ) (line : ℕ) (kind : Kind) → strict_meaning bytes ≡ Ends line (IsRefused kind) → meaning bytes ≡ Refuses line kind }
+{}

@@ -1,12 +1,14 @@
-//! What one line of a text says, by the form that its first field tells.
-ghost use Rattle.std.specs.Prelude.{◌≡◌};
+//! What one line of a text says, by the form that its first field tells, and what the first line of a text says.
+ghost use Rattle.std.specs.Prelude.{◌≡◌, ◌∷◌, ◌<◌, [], length, MatchOption, IfSome};
 ghost use Rattle.kc_text.specs.Lines.{fields};
-ghost use Rattle.kc_text.specs.Forms.{batch_form, change_form, edge_form, is_comment, said_by, two_numbers};
+ghost use Rattle.kc_text.specs.Forms.{all_said, batch_form, change_form, edge_form, is_comment, said_by, two_numbers};
 
+use crate::bytes::cut_line;
 use crate::change::Change;
 use crate::fields::cut_field;
 use crate::kind::Kind;
 use crate::number::number;
+use crate::plain::plain_line;
 
 /// What one line says.
 #[derive(Clone, Copy)]
@@ -78,7 +80,7 @@ fn change_form(add: bool, rest: &[u8]) -> Line
 }
 
 /// What a line says. Its first field tells which form it has.
-pub(crate) fn read_line(line: &[u8]) -> Line
+fn read_line(line: &[u8]) -> Line
     ensures { result ≡ said_by line.now }
 {
     let Some((first, rest)) = cut_field(line) else {
@@ -95,4 +97,16 @@ pub(crate) fn read_line(line: &[u8]) -> Line
     } else {
         edge_form(line)
     }
+}
+
+/// What the first line of a text says, and what follows it.
+pub(crate) fn next_line(bytes: &[u8]) -> Option<(Line, &[u8])>
+    ensures lines { MatchOption result (all_said bytes.now ≡ []) (λ r. all_said bytes.now ≡ r.0 ∷ all_said r.1.now) }
+    ensures shorter { IfSome result (λ r. length r.1.now < length bytes.now) }
+{
+    if let Some(plain) = plain_line(bytes) {
+        return Some(plain);
+    }
+    let (line, rest) = cut_line(bytes)?;
+    Some((read_line(line), rest))
 }

@@ -1,10 +1,10 @@
-//! The two ways to read a text: quickly, or with a look at each line.
+//! The two ways to read a text: quickly, or with a count of the ids at each line.
 
-/// How a reader looks for too many ids and for pairs that a batch names twice.
+/// How a reader finds that there are too many ids.
 #[derive(Clone, Copy)]
 pub(crate) enum Look {
-    /// It doesn't, which leaves both to the end.
+    /// It leaves that to the end.
     Quick,
-    /// At each line.
+    /// It counts them at each line.
     Exact,
 }

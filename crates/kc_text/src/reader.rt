@@ -3,13 +3,11 @@ ghost use Rattle.std.specs.Prelude.{◌≡◌, ◌≤◌, ◌<◌, ◌+◌, ◌^
 ghost use Rattle.std.specs.HashSet.{IsUnique};
 ghost use Rattle.std.specs.Option.{option_map, option_to_list};
 ghost use Rattle.kc_text.specs.declared.line.Line.TheVariants as said;
-ghost use Rattle.kc_text.specs.Batches.{FindsRepeats, KeepsPairs};
 ghost use Rattle.kc_text.specs.Looks.{is_exact};
 ghost use Rattle.kc_text.specs.Meaning.{batches, first_limit, nothing_told, passed_limit, refusal, unfit, with_line};
 ghost use Rattle.kc_text.specs.Readers.{told_by, Gains, HasIds, IsExact, IsKept, is_over};
 
 use crate::NoMemory;
-use crate::batch::Batch;
 use crate::change::Change;
 use crate::kind::Kind;
 use crate::limits::{MOST_BATCHES, MOST_EDGE_LINES, MOST_IDS, MOST_UPDATES};
@@ -24,14 +22,14 @@ pub(crate) struct Reader {
     edges: Vec<(u32, u32)>,
     /// The batches before the last.
     earlier: Vec<Vec<Change>>,
-    last: Option<Batch>,
+    last: Option<Vec<Change>>,
     /// How many changes there are in all batches.
     changes: usize,
-    /// The different ids, where they are looked at line by line.
+    /// The different ids, where they are counted line by line.
     ids: Option<HashSet<u32>>,
 }
 
-/// The set of no ids, where they are looked at.
+/// The set of no ids, where they are counted line by line.
 fn no_ids(alloc: Global, look: Look) -> Option<HashSet<u32>>
     ensures looks { is_some result ≡ is_exact look }
     ensures ids { HasIds result [] }
@@ -42,7 +40,7 @@ fn no_ids(alloc: Global, look: Look) -> Option<HashSet<u32>>
     }
 }
 
-/// Counts two ids, where they are looked at.
+/// Counts two ids, where they are counted line by line.
 fn count_ids(ids: &mut Option<HashSet<u32>>, a: u32, b: u32) -> Result<(), NoMemory>
     ensures looks { OnOk result (is_some ids.new ≡ is_some ids.old) }
     ensures gains { OnOk result (Gains ids.old ids.new a b) }
@@ -54,7 +52,7 @@ fn count_ids(ids: &mut Option<HashSet<u32>>, a: u32, b: u32) -> Result<(), NoMem
     Ok(())
 }
 
-/// Whether ids are looked at and there are too many.
+/// Whether ids are counted line by line and there are too many.
 fn are_over(ids: &Option<HashSet<u32>>) -> bool
     ensures over { result ≡ is_over ids.now }
     ensures unique { IfSome ids.now (IsUnique nat_eq) }
@@ -83,29 +81,28 @@ fn first_limit(ids: bool, edge_lines: bool, updates: bool, batches: bool) -> Opt
 }
 
 /// Takes a change into the last batch, or gives the cause if it doesn't fit.
-fn take_into(last: &mut Option<Batch>, change: Change) -> Result<Option<Kind>, NoMemory>
-    requires { IfSome last.old (λ batch. KeepsPairs batch.pairs batch.changes.items) }
-    ensures pairs { IfOk result (λ cause. cause ≡ None → IfSome last.new (λ batch. KeepsPairs batch.pairs batch.changes.items)) }
-    ensures looks { OnOk result (option_map (λ batch. is_some batch.pairs) last.new ≡ option_map (λ batch. is_some batch.pairs) last.old) }
-    ensures changes { IfOk result (λ cause. cause ≡ None → option_map (λ batch. batch.changes.items) last.new
-        ≡ Some (unwrap_or (option_map (λ batch. batch.changes.items) last.old) [] ++ change ∷ [])) }
-    ensures same { IfOk result (λ cause. IsSome cause
-        → option_map (λ batch. batch.changes.items) last.new ≡ option_map (λ batch. batch.changes.items) last.old) }
-    ensures refused { IfOk result (λ cause. IfSome last.new (λ batch. FindsRepeats batch.pairs batch.changes.items)
-        → cause ≡ unfit (option_map (λ batch. batch.changes.items) last.old) change) }
+fn take_into(last: &mut Option<Vec<Change>>, change: Change) -> Result<Option<Kind>, NoMemory>
+    ensures refused { IfOk result (λ cause. cause ≡ unfit (option_map (λ batch. batch.items) last.old) change) }
+    ensures changes { IfOk result (λ cause. cause ≡ None → option_map (λ batch. batch.items) last.new
+        ≡ Some (unwrap_or (option_map (λ batch. batch.items) last.old) [] ++ change ∷ [])) }
+    ensures same { IfOk result (λ cause. IsSome cause → last.new ≡ last.old) }
 {
-    match last {
-        None => Ok(Some(Kind::UpdateOutsideBatch)),
-        Some(batch) => batch.take(change),
+    let Some(batch) = last else {
+        return Ok(Some(Kind::UpdateOutsideBatch));
+    };
+    if change.a == change.b {
+        return Ok(Some(Kind::LoopInBatch));
     }
+    batch.push(change)?;
+    Ok(None)
 }
 
 /// Puts a batch that is read behind the earlier ones.
-fn close(earlier: &mut Vec<Vec<Change>>, last: Option<Batch>) -> Result<(), NoMemory>
-    ensures { OnOk result (map (λ batch. batch.items) earlier.new.items ≡ map (λ batch. batch.items) earlier.old.items ++ option_to_list (option_map (λ batch. batch.changes.items) last)) }
+fn close(earlier: &mut Vec<Vec<Change>>, last: Option<Vec<Change>>) -> Result<(), NoMemory>
+    ensures { OnOk result (map (λ batch. batch.items) earlier.new.items ≡ map (λ batch. batch.items) earlier.old.items ++ option_to_list (option_map (λ batch. batch.items) last)) }
 {
     if let Some(batch) = last {
-        earlier.push(batch.into_changes())?;
+        earlier.push(batch)?;
     }
     Ok(())
 }
@@ -122,16 +119,6 @@ impl Reader {
             last: None,
             changes: 0,
             ids: no_ids(alloc, look),
-        }
-    }
-
-    /// How it looks.
-    fn look(&self) -> Look
-        ensures { is_exact result ≡ is_some self.now.ids }
-    {
-        match &self.ids {
-            None => Look::Quick,
-            Some(_) => Look::Exact,
         }
     }
 
@@ -181,8 +168,7 @@ impl Reader {
         ensures looks { OnOk result (is_some self.new.ids ≡ is_some self.old.ids) }
         ensures same { OnOk result (self.new.changes ≡ self.old.changes) }
     {
-        let batch = Batch::new(alloc, self.look());
-        let before = self.last.replace(batch);
+        let before = self.last.replace(Vec::new(alloc));
         close(&mut self.earlier, before)?;
         Ok(self.passed_limit())
     }

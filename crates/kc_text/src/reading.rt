@@ -1,6 +1,5 @@
 //! Reads a text up to its end or to the first line that is refused, which it names by number and kind.
 ghost use Rattle.std.specs.Prelude.{◌≡◌, ◌≤◌, ◌↔◌, All, IfOk, IsTrue, OnOk, is_some, length};
-ghost use Rattle.kc_text.specs.Batches.{NamesOnce};
 ghost use Rattle.kc_text.specs.Forms.{all_said};
 ghost use Rattle.kc_text.specs.Meaning.{Told, meaning, nothing_told, reading};
 ghost use Rattle.kc_text.specs.Readers.{told_by, IsExact, IsKept, outcome};
@@ -8,13 +7,11 @@ ghost use Rattle.kc_text.specs.Readings.{IsEnd, IsReading};
 ghost use Rattle.kc_text.specs.declared.limits.TheConstants.{MOST_IDS, MOST_BYTES};
 
 use crate::NoMemory;
-use crate::bytes::cut_line;
 use crate::change::Change;
 use crate::ids::ids_of;
 use crate::limits::MOST_IDS;
-use crate::line::read_line;
+use crate::line::next_line;
 use crate::look::Look;
-use crate::once::all_name_once;
 use crate::reader::Reader;
 use crate::refusal::Refusal;
 use std::alloc::Global;
@@ -42,9 +39,9 @@ fn read_lines(alloc: Global, reader: &mut Reader, bytes: &[u8]) -> Result<Option
 {
     let mut rest = bytes;
     let mut line = 0u32;
-    while let Some((text, more)) = cut_line(rest) {
+    while let Some((said, more)) = next_line(rest) {
         line += 1;
-        if let Some(kind) = reader.take(alloc, read_line(text))? {
+        if let Some(kind) = reader.take(alloc, said)? {
             return Ok(Some(Refusal { line, kind }));
         }
         rest = more;
@@ -68,25 +65,14 @@ fn read(alloc: Global, look: Look, bytes: &[u8]) -> Result<Reading, NoMemory>
     })
 }
 
-/// Whether there are not too many ids, and no batch names a pair twice.
-fn is_clear(alloc: Global, reading: &Reading) -> Result<bool, NoMemory>
-    ensures { IfOk result (λ clear. IsTrue clear
-        ↔ (length reading.now.ids.items ≤ MOST_IDS) × All (λ batch. NamesOnce batch.items) reading.now.batches.items) }
-{
-    if reading.ids.len() > MOST_IDS {
-        return Ok(false);
-    }
-    all_name_once(alloc, &reading.batches)
-}
-
-/// Reads the text. The ids are counted and the pairs compared when all is read. Only where there are too many ids, or a batch names a
-/// pair twice, a second reading looks at each line, to find the first that is refused.
+/// Reads the text. The different ids are counted when all is read. Only where there are too many, a second reading counts them at each
+/// line, to find the first line that is refused.
 pub(crate) fn read_text(alloc: Global, bytes: &[u8]) -> Result<Reading, NoMemory>
     requires { length bytes.now ≤ MOST_BYTES }
     ensures { IfOk result (λ reading. (told : Told) × IsReading told reading × (meaning bytes.now ≡ outcome told reading.refusal)) }
 {
     let reading = read(alloc, Look::Quick, bytes)?;
-    if is_clear(alloc, &reading)? {
+    if reading.ids.len() <= MOST_IDS {
         return Ok(reading);
     }
     drop(reading);

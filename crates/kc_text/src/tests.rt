@@ -1,5 +1,5 @@
 //! What texts give: ids and edges, or the refused line.
-ghost use Rattle.std.specs.Prelude.{◌≤◌, length};
+ghost use Rattle.std.specs.Prelude.{◌<◌, ◌≤◌, length};
 
 use crate::{Kind, ParseFault, Refusal, parse};
 use kc_graph::Update;
@@ -72,6 +72,12 @@ fn wrong_forms(rt: HostRuntime) -> Result<(), Fail> {
     check_refusal(&rt, b"1 2\r\r\n", 1, Kind::NotANumber)
 }
 
+fn update(add: bool, u: u32, v: u32) -> Update
+    requires { u < v }
+{
+    Update { add, u, v }
+}
+
 #[test]
 fn batches(rt: HostRuntime) -> Result<(), Fail> {
     let text = b"5 9\nbatch\n+ 7 5\n- 9 5\n\nbatch\nbatch\n+ 5 9\n";
@@ -79,30 +85,19 @@ fn batches(rt: HostRuntime) -> Result<(), Fail> {
     assert_eq!(rt; input.ids.as_slice(), [5, 7, 9].as_slice());
     assert_eq!(rt; input.start.as_slice(), [(0, 2)].as_slice());
     assert_eq!(rt; input.batches.len(), 3);
-    let add = Update {
-        add: true,
-        u: 0,
-        v: 1,
-    };
-    let remove = Update {
-        add: false,
-        u: 0,
-        v: 2,
-    };
-    let again = Update {
-        add: true,
-        u: 0,
-        v: 2,
-    };
-    assert_eq!(rt; input.batches[0].as_slice(), [add, remove].as_slice());
+    let first = [update(true, 0, 1), update(false, 0, 2)];
+    assert_eq!(rt; input.batches[0].as_slice(), first.as_slice());
     assert_eq!(rt; input.batches[1].as_slice(), [].as_slice());
-    assert_eq!(rt; input.batches[2].as_slice(), [again].as_slice());
+    assert_eq!(rt;
+        input.batches[2].as_slice(),
+        [update(true, 0, 2)].as_slice()
+    );
+    assert_eq!(rt; input.overruled.as_slice(), [0, 0, 0].as_slice());
     Ok(())
 }
 
 #[test]
 fn wrong_batches(rt: HostRuntime) -> Result<(), Fail> {
-    check_refusal(&rt, b"batch\n+ 1 2\n+ 2 1\n", 3, Kind::EdgeTwiceInBatch)?;
     check_refusal(&rt, b"+ 1 2\n", 1, Kind::UpdateOutsideBatch)?;
     check_refusal(&rt, b"batch\n1 2\n", 2, Kind::EdgeLineInBatch)?;
     check_refusal(&rt, b"batch\n+ 5 5\n", 2, Kind::LoopInBatch)?;
@@ -115,18 +110,20 @@ fn wrong_batches(rt: HostRuntime) -> Result<(), Fail> {
 }
 
 #[test]
-fn pairs_named_twice(rt: HostRuntime) -> Result<(), Fail> {
-    let twice = Kind::EdgeTwiceInBatch;
-    check_refusal(&rt, b"batch\n+ 1 2\n- 2 1\nx\n", 3, twice)?;
-    check_refusal(&rt, b"batch\n+ 1 2\nx\n- 2 1\n", 3, Kind::NotANumber)?;
-    check_refusal(&rt, b"batch\n+ 1 2\n+ 3 3\n+ 1 2\n", 3, Kind::LoopInBatch)?;
-    check_refusal(&rt, b"batch\n+ 1 2\n+ 1 2\nbatch\n+ 1 2\n", 3, twice)?;
-    check_refusal(&rt, b"batch\n+ 1 2\nbatch\n+ 2 1\n+ 3 1\n+ 1 2\n", 6, twice)?;
-    check_refusal(&rt, b"batch\n+ 0 4294967295\n+ 4294967295 0\n", 3, twice)?;
-    let apart = b"batch\n+ 0 4294967295\n+ 1 0\n+ 4294967295 1\nbatch\n- 0 1\n";
-    let input = parse(rt.alloc(), apart).map_err(|_| "refused")?;
+fn the_last_line_of_a_pair_decides(rt: HostRuntime) -> Result<(), Fail> {
+    let text =
+        b"1 2\n2 3\nbatch\n+ 1 3\n+ 0 4294967295\n- 3 1\n- 1 2\n+ 4294967295 0\n+ 3 1\nbatch\n- 3 1\n";
+    let input = parse(rt.alloc(), text).map_err(|_| "refused")?;
+    assert_eq!(rt; input.ids.as_slice(), [0, 1, 2, 3, 4294967295].as_slice());
+    assert_eq!(rt; input.overruled.as_slice(), [3, 0].as_slice());
     assert_eq!(rt; input.batches.len(), 2);
-    Ok(())
+    let updates = [update(false, 1, 2), update(true, 0, 4), update(true, 1, 3)];
+    assert_eq!(rt; input.batches[0].as_slice(), updates.as_slice());
+    assert_eq!(rt;
+        input.batches[1].as_slice(),
+        [update(false, 1, 3)].as_slice()
+    );
+    check_refusal(&rt, b"batch\n+ 1 2\n- 2 1\n+ 3 3\n", 4, Kind::LoopInBatch)
 }
 
 #[test]

@@ -1,5 +1,5 @@
 -- Every input has a text.
-use Rattle.std.proofs.Common.{◌≡◌, ◌≤◌, ◌<◌, ◌+◌, ℕ, suc, zero, Bool, true, List, [], ◌∷◌, ◌++◌, length, get_or, max, refl, ap, ◌∙◌, arith, inl, inr}
+use Rattle.std.proofs.Common.{◌≡◌, ◌≤◌, ◌<◌, ◌+◌, ℕ, suc, zero, true, List, [], ◌∷◌, length, get_or, max, refl, ap, ◌∙◌, arith, inl, inr}
 use Rattle.std.specs.Prelude.{filter}
 use Rattle.std.specs.Cmp.{both_ways}
 use Rattle.std.specs.List.Sorted.{IsStrictlyIncreasing}
@@ -12,11 +12,10 @@ use Rattle.kc_graph.proofs.Law.{certified}
 use Rattle.kc_distinct.specs.Lists.{member}
 use Rattle.kc_distinct.proofs.Members.{member-cases, member-head, member-tail}
 use Rattle.kc_distinct.proofs.Counting.{filter-member, member-filter}
-use Rattle.kc_report.specs.Lines.{core_lines}
 use Rattle.kc_text.specs.Inputs.{AreIds, start_graph}
 use Rattle.kc_text.specs.Meaning.{Meaning, Means, Refuses, Told, names}
-use Rattle.kc_top.specs.Batches.{graph_after_batch}
-use Rattle.kc_top.specs.Text.{AreCoresAfter, IsOutput, IsText, first_line, last_of, lines_about, numbered_batches}
+use Rattle.kc_top.specs.Text.{AreCoresAfter, Batch, IsOutput, IsText, graph_after, lines_for, numbered_batches}
+use Rattle.kc_top.specs.declared.setting.Setting.{Setting}
 
 -- the n numbers from a on
 abbrev numbers_from : ℕ → ℕ → List ℕ
@@ -67,23 +66,23 @@ ids_exist named =
 cores_exist : (g : SimpleGraph) → (core : List ℕ) × AreCoreNumbers g core
 cores_exist g = let (core, order, shown) = certificate_exists g in (core, certified g core order shown)
 
-later_exist : (g : SimpleGraph) (batches : List (List (Bool × ℕ × ℕ))) → (later : List (List ℕ)) × AreCoresAfter g batches later
+later_exist : (g : SimpleGraph) (batches : List Batch) → (later : List (List ℕ)) × AreCoresAfter g batches later
 later_exist g [] = ([], tt)
 later_exist g (batch ∷ batches) =
-    let (core, numbers) = cores_exist (graph_after_batch g batch) in
-    let (later, more) = later_exist (graph_after_batch g batch) batches in
+    let (core, numbers) = cores_exist (graph_after g batch) in
+    let (later, more) = later_exist (graph_after g batch) batches in
     (core ∷ later, (numbers, more))
 
-pub text_exists : (told : Told) → (text : List ℕ) × IsText told text
-text_exists told =
+pub text_exists : (setting : Setting) (told : Told) → (text : List ℕ) × IsText setting told text
+text_exists setting told =
     let (ids, named) = ids_exist (names told) in
     let start : SimpleGraph = start_graph ids told.edges in
     let (core, numbers) = cores_exist start in
     let (later, numbers_later) = later_exist start (numbered_batches ids told) in (
-      first_line start core ++ (lines_about 1 start (numbered_batches ids told) later ++ core_lines ids (last_of core later)),
+      lines_for setting ids start core (numbered_batches ids told) later,
       record { ids = ids; core = core; later = later; named = named; numbers = numbers; numbers_later = numbers_later; is = refl },
     )
 
-pub output_exists : (m : Meaning) → (text : List ℕ) × IsOutput m text
-output_exists (Refuses line kind) = ([], refl)
-output_exists (Means told) = text_exists told
+pub output_exists : (setting : Setting) (m : Meaning) → (text : List ℕ) × IsOutput setting m text
+output_exists setting (Refuses line kind) = ([], refl)
+output_exists setting (Means told) = text_exists setting told

@@ -1,6 +1,6 @@
 pub mod Applying
 pub mod Existence
-pub mod Limits
 pub mod OneText
+pub mod Sound
 pub mod Stopping
 pub mod Telling

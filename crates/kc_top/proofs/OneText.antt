@@ -1,5 +1,5 @@
 -- No input has two texts.
-use Rattle.std.proofs.Common.{◌≡◌, ◌<◌, ℕ, suc, Bool, true, false, ◌||◌, List, [], ◌∷◌, ◌++◌, length, get_or, nat_eq, refl, sym, ap, ap₂, subst, ◌∙◌, arith, inl, inr, eq-eqb, eqb-true}
+use Rattle.std.proofs.Common.{◌≡◌, ◌<◌, ℕ, suc, true, false, ◌||◌, List, [], ◌∷◌, length, get_or, nat_eq, refl, sym, ap, ap₂, subst, ◌∙◌, arith, inl, inr, eq-eqb, eqb-true}
 use Rattle.std.specs.Set.{is_member}
 use Rattle.std.proofs.lemmas.Bool.{cases_Bool, or_left, false≢true, false_from_ne_true}
 use Rattle.std.proofs.lemmas.List.Kept.{AllPairs-from_increasing}
@@ -8,11 +8,10 @@ use Rattle.kc_graph.specs.Core.{AreCoreNumbers}
 use Rattle.kc_graph.proofs.Law.{core-unique}
 use Rattle.kc_distinct.proofs.Counting.{Contains-from_member}
 use Rattle.kc_distinct.proofs.Members.{member-cases}
-use Rattle.kc_report.specs.Lines.{core_lines}
 use Rattle.kc_text.specs.Inputs.{AreIds, start_graph}
 use Rattle.kc_text.specs.Meaning.{Told, names}
-use Rattle.kc_top.specs.Batches.{graph_after_batch}
-use Rattle.kc_top.specs.Text.{AreCoresAfter, IsText, first_line, last_of, lines_about, numbered_batches}
+use Rattle.kc_top.specs.Text.{AreCoresAfter, Batch, IsText, graph_after, lines_for, numbered_batches}
+use Rattle.kc_top.specs.declared.setting.Setting.{Setting}
 use Rattle.kc_distinct.proofs.Shared.{get_or-any}
 
 -- each number is below those after it
@@ -64,24 +63,24 @@ ids-unique : (named first second : List ℕ) → AreIds named first → AreIds n
 ids-unique named first second a b =
     same_numbers first second (rises_from first (λ i j. AllPairs-from_increasing first a.ascending i j 0)) (rises_from second (λ i j. AllPairs-from_increasing second b.ascending i j 0)) (λ q. a.exact q ∙ sym (b.exact q))
 
-later-unique : (g : SimpleGraph) (batches : List (List (Bool × ℕ × ℕ))) (first second : List (List ℕ)) → AreCoresAfter g batches first → AreCoresAfter g batches second → first ≡ second
+later-unique : (g : SimpleGraph) (batches : List Batch) (first second : List (List ℕ)) → AreCoresAfter g batches first → AreCoresAfter g batches second → first ≡ second
 later-unique g [] [] [] a b = refl
 later-unique g [] [] (core ∷ cores) a b = absurd b
 later-unique g [] (core ∷ cores) second a b = absurd a
 later-unique g (batch ∷ batches) [] second a b = absurd a
 later-unique g (batch ∷ batches) (x ∷ xs) [] a b = absurd b
 later-unique g (batch ∷ batches) (x ∷ xs) (y ∷ ys) a b =
-    ap₂ (λ (core : List ℕ) (cores : List (List ℕ)). core ∷ cores) (core-unique (graph_after_batch g batch) x y a.0 b.0)
-    (later-unique (graph_after_batch g batch) batches xs ys a.1 b.1)
+    ap₂ (λ (core : List ℕ) (cores : List (List ℕ)). core ∷ cores) (core-unique (graph_after g batch) x y a.0 b.0)
+    (later-unique (graph_after g batch) batches xs ys a.1 b.1)
 
-pub text-unique : (told : Told) (first second : List ℕ) → IsText told first → IsText told second → first ≡ second
-text-unique told first second a b =
+pub text-unique : (setting : Setting) (told : Told) (first second : List ℕ) → IsText setting told first → IsText setting told second → first ≡ second
+text-unique setting told first second a b =
     let start : List ℕ → SimpleGraph = λ ids. start_graph ids told.edges in
-    let numbered : List ℕ → List (List (Bool × ℕ × ℕ)) = λ ids. numbered_batches ids told in
+    let numbered : List ℕ → List Batch = λ ids. numbered_batches ids told in
     let ids : a.ids ≡ b.ids = ids-unique (names told) a.ids b.ids a.named b.named in
     let numbers : AreCoreNumbers (start b.ids) a.core = subst (λ (ids : List ℕ). AreCoreNumbers (start ids) a.core) ids a.numbers in
     let core : a.core ≡ b.core = core-unique (start b.ids) a.core b.core numbers b.numbers in
     let numbers_later : AreCoresAfter (start b.ids) (numbered b.ids) a.later = subst (λ (ids : List ℕ). AreCoresAfter (start ids) (numbered ids) a.later) ids a.numbers_later in
     let later : a.later ≡ b.later = later-unique (start b.ids) (numbered b.ids) a.later b.later numbers_later b.numbers_later in
-    let text : List ℕ → List ℕ → List (List ℕ) → List ℕ = λ ids core later. first_line (start ids) core ++ (lines_about 1 (start ids) (numbered ids) later ++ core_lines ids (last_of core later)) in
+    let text : List ℕ → List ℕ → List (List ℕ) → List ℕ = λ ids core later. lines_for setting ids (start ids) core (numbered ids) later in
     a.is ∙ ap₂ (λ (ids core : List ℕ). text ids core a.later) ids core ∙ ap (text b.ids b.core) later ∙ sym b.is

@@ -5,9 +5,10 @@ use Rattle.kc_text.specs.declared.kind.Kind.{Kind}
 use Rattle.kc_text.specs.declared.kind.Kind.TheVariants.{TooLong}
 use Rattle.kc_text.specs.Forms.{all_said}
 use Rattle.kc_text.specs.Meaning.{Refuses, meaning, nothing_told, reading}
-use Rattle.kc_top.specs.Outcome.{Took, TookSome}
-use Rattle.kc_top.specs.Stops.{TellsRefusal, HasNoText, ended, status_of}
+use Rattle.kc_top.specs.Outcome.{IsOutputOf, Took, TookSome}
+use Rattle.kc_top.specs.Stops.{HasNoText, IsRefusalOf, TellsRefusal, ended, status_of}
 use Rattle.kc_top.specs.Text.{IsTextOf}
+use Rattle.kc_top.specs.declared.setting.Setting.{Setting}
 use Rattle.kc_top.specs.declared.ending.Stop.{Stop}
 use Rattle.kc_top.specs.declared.ending.Stop.TheVariants as stop
 use Rattle.kc_top.proofs.Existence.{output_exists}
@@ -21,30 +22,51 @@ HasNoText-refused stop.Usage n kind input f f' h m = absurd h
 HasNoText-refused stop.ReadFault n kind input f f' h m = absurd h
 HasNoText-refused stop.WriteFault n kind input f f' h m = absurd h
 
-pub too_long_refuses : (input : Option (List ℕ)) → IfSome input (λ all. MOST_BYTES < length all) → IfSome input (λ bytes. meaning bytes ≡ Refuses 0 TooLong)
-too_long_refuses None h = tt
-too_long_refuses (Some all) h = ap (λ b. cond b (Refuses 0 TooLong) (reading 0 nothing_told (all_said all))) (lt-ltb MOST_BYTES (length all) h)
-
 pub told_is : (P : List ℕ → Type 0) (input : Option (List ℕ)) (bytes : List ℕ) → IfSome input (λ all. bytes ≡ all) → P bytes → IfSome input P
 told_is P None bytes h p = tt
 told_is P (Some all) bytes h p = subst P h p
 
-pub some_text : (bytes text : List ℕ) → IsTextOf bytes text → 0 < length text
-some_text bytes text h = omega (arith, ap length h.written.is)
+pub IsRefusalOf-refused : (s : Stop) (n : ℕ) (kind : Kind) (bytes : List ℕ) → TellsRefusal s n kind → meaning bytes ≡ Refuses n kind → IsRefusalOf s bytes
+IsRefusalOf-refused (stop.Refused line) n kind bytes h m = (n, kind, h, m)
+IsRefusalOf-refused stop.NoMemory n kind bytes h m = tt
+IsRefusalOf-refused stop.Usage n kind bytes h m = absurd h
+IsRefusalOf-refused stop.ReadFault n kind bytes h m = absurd h
+IsRefusalOf-refused stop.WriteFault n kind bytes h m = absurd h
+
+-- why these bytes give no input is why there is no text, where what is known of the input are these bytes
+pub HasNoText-bytes : (s : Stop) (bytes : List ℕ) (input : Option (List ℕ)) (f f' : ℕ) → IsRefusalOf s bytes → IfSome input (λ all. bytes ≡ all) → HasNoText s input f f'
+HasNoText-bytes (stop.Refused line) bytes input f f' (n, kind, told, means) known = (n, kind, told, told_is (λ b. meaning b ≡ Refuses n kind) input bytes known means)
+HasNoText-bytes stop.NoMemory bytes input f f' h known = tt
+HasNoText-bytes stop.Usage bytes input f f' h known = absurd h
+HasNoText-bytes stop.ReadFault bytes input f f' h known = absurd h
+HasNoText-bytes stop.WriteFault bytes input f f' h known = absurd h
+
+pub too_long_refuses : (input : Option (List ℕ)) → IfSome input (λ all. MOST_BYTES < length all) → IfSome input (λ bytes. meaning bytes ≡ Refuses 0 TooLong)
+too_long_refuses None h = tt
+too_long_refuses (Some all) h = ap (λ b. cond b (Refuses 0 TooLong) (reading 0 nothing_told (all_said all))) (lt-ltb MOST_BYTES (length all) h)
+
+pub some_text : (setting : Setting) (bytes text : List ℕ) → IsTextOf setting bytes text → 0 < length text
+some_text setting bytes text h = omega (arith, ap length h.written.is)
+
+output_of : (asked : Option Setting) (bytes : List ℕ) → (text : List ℕ) × IsOutputOf asked bytes text
+output_of None bytes = ([], refl)
+output_of (Some setting) bytes = output_exists setting (meaning bytes)
 
 -- nothing is a prefix of every output
-pub TookSome-nothing : (input before after : Option (List ℕ)) → Appends before after [] → TookSome input before after
-TookSome-nothing None before after took = let (text, is) = output_exists (meaning []) in record { bytes = []; read = tt; text = text; is = is; amount = 0; within = omega arith; took = took }
-TookSome-nothing (Some all) before after took = let (text, is) = output_exists (meaning all) in record { bytes = all; read = refl; text = text; is = is; amount = 0; within = omega arith; took = took }
+pub TookSome-nothing : (asked : Option Setting) (input before after : Option (List ℕ)) → Appends before after [] → TookSome asked input before after
+TookSome-nothing asked None before after took =
+    let (text, is) = output_of asked [] in record { bytes = []; read = tt; text = text; is = is; amount = 0; within = omega arith; took = took }
+TookSome-nothing asked (Some all) before after took =
+    let (text, is) = output_of asked all in record { bytes = all; read = refl; text = text; is = is; amount = 0; within = omega arith; took = took }
 
--- where no text came of the source, nothing was taken
-pub Took-nothing : (s : Stop) (input before after : Option (List ℕ)) (f f' : ℕ) → HasNoText s input f f' → Appends before after [] → Took (status_of s) input before after
-Took-nothing (stop.Refused line) input before after f f' h took = took
-Took-nothing stop.ReadFault input before after f f' h took = took
-Took-nothing stop.NoMemory input before after f f' h took = TookSome-nothing input before after took
-Took-nothing stop.Usage input before after f f' h took = absurd h
-Took-nothing stop.WriteFault input before after f f' h took = absurd h
+-- where there is no text, nothing was taken
+pub Took-nothing : (s : Stop) (asked : Option Setting) (input before after : Option (List ℕ)) (f f' : ℕ) → HasNoText s input f f' → Appends before after [] → Took (status_of s) asked input before after
+Took-nothing (stop.Refused line) asked input before after f f' h took = took
+Took-nothing stop.ReadFault asked input before after f f' h took = took
+Took-nothing stop.NoMemory asked input before after f f' h took = TookSome-nothing asked input before after took
+Took-nothing stop.Usage asked input before after f f' h took = absurd h
+Took-nothing stop.WriteFault asked input before after f f' h took = absurd h
 
-pub Took-ended : (r : Result (Unit {0}) Stop) (s : Stop) (input before after : Option (List ℕ)) → IsErrAnd r (λ e. e ≡ s) → Took (status_of s) input before after → Took (ended r) input before after
-Took-ended (Ok u) s input before after h took = absurd h
-Took-ended (Err e) s input before after h took = subst (λ (x : Stop). Took (status_of x) input before after) (sym h) took
+pub Took-ended : (r : Result (Unit {0}) Stop) (s : Stop) (asked : Option Setting) (input before after : Option (List ℕ)) → IsErrAnd r (λ e. e ≡ s) → Took (status_of s) asked input before after → Took (ended r) asked input before after
+Took-ended (Ok u) s asked input before after h took = absurd h
+Took-ended (Err e) s asked input before after h took = subst (λ (x : Stop). Took (status_of x) asked input before after) (sym h) took

@@ -3,6 +3,7 @@ use Rattle.std.specs.Prelude.{◌≡◌, ◌≤◌, ℕ, List, [], ◌∷◌, �
 use Rattle.std.specs.Fmt.{decimal}
 use Rattle.std.specs.Io.KnownBytes.{Appends}
 use Rattle.kc_io.specs.Causes.{Rose}
+use Rattle.kc_io.specs.FirstPiece.{KeepsFirst}
 use Rattle.kc_text.specs.declared.kind.Kind.{Kind}
 use Rattle.kc_text.specs.Kinds.{text_of}
 use Rattle.kc_text.specs.Meaning.{Refuses, meaning}
@@ -15,7 +16,7 @@ refused_line line kind = codes "refused line " ++ (decimal line ++ (codes " kind
 abbrev pub usage_line : List ℕ
 usage_line = codes "usage: kcore [--workers W] [--show cores|summary|each] [--level K] [--gen NUMBER]\n"
 
--- The line of each status. `input` are the bytes of the input, where the source tells them.
+-- The line of each status. `input` are the bytes of the input, where they are known.
 abbrev pub IsErrLine : Status → Option (List ℕ) → List ℕ → Type 0
 IsErrLine Done input line = line ≡ []
 IsErrLine Usage input line = line ≡ usage_line
@@ -30,3 +31,12 @@ pub record TookLine (before after : Option (List ℕ)) (faults faults' : ℕ) (l
   pub within : amount ≤ length line
   pub took : Appends before after (take amount line)
   pub whole : (Rose faults faults' → ⊥) → amount ≡ length line
+
+-- what the sink of the line was offered: the whole line first, which is fixed before any of it is taken, and nothing where the run is done
+abbrev pub OfferedLine : Status → Option ℕ → Option ℕ → List ℕ → Type 0
+OfferedLine Done before after line = after ≡ before
+OfferedLine Usage before after line = KeepsFirst before after line
+OfferedLine Refused before after line = KeepsFirst before after line
+OfferedLine ReadFault before after line = KeepsFirst before after line
+OfferedLine WriteFault before after line = KeepsFirst before after line
+OfferedLine NoMemory before after line = KeepsFirst before after line

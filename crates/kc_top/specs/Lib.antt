@@ -1,7 +1,10 @@
 pub mod Batches
 pub mod ErrLines
+pub mod Given
+pub mod Inputs
 pub mod Limits
 pub mod Outcome
+pub mod Settings
 pub mod Statuses
 pub mod Stops
 pub mod Text

@@ -31,7 +31,15 @@ TellsRefusal stop.Usage n kind = ⊥
 TellsRefusal stop.ReadFault n kind = ⊥
 TellsRefusal stop.WriteFault n kind = ⊥
 
--- why no text came of a source
+-- why bytes give no input: they are refused with this line, or there was no memory
+abbrev pub IsRefusalOf : Stop → List ℕ → Type 0
+IsRefusalOf (stop.Refused line) bytes = (n : ℕ) × (kind : Kind) × (string_bytes line ≡ refused_line n kind) × (meaning bytes ≡ Refuses n kind)
+IsRefusalOf stop.NoMemory bytes = ⊤
+IsRefusalOf stop.Usage bytes = ⊥
+IsRefusalOf stop.ReadFault bytes = ⊥
+IsRefusalOf stop.WriteFault bytes = ⊥
+
+-- why there is no text, where `input` are the bytes of the input if they are known
 abbrev pub HasNoText : Stop → Option (List ℕ) → ℕ → ℕ → Type 0
 HasNoText (stop.Refused line) input faults faults' = (n : ℕ) × (kind : Kind) × (string_bytes line ≡ refused_line n kind) × IfSome input (λ bytes. meaning bytes ≡ Refuses n kind)
 HasNoText stop.ReadFault input faults faults' = Rose faults faults'

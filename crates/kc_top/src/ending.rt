@@ -1,6 +1,7 @@
 //! Where a run stops: its status, and the line about it.
-ghost use Rattle.std.specs.Prelude.{◌≡◌, IfOk, string_bytes};
-ghost use Rattle.kc_top.specs.ErrLines.{refused_line, TookLine};
+ghost use Rattle.std.specs.Prelude.{◌≡◌, ◌<◌, IfOk, length, string_bytes};
+ghost use Rattle.kc_io.specs.FirstPiece.{KeepsFirst};
+ghost use Rattle.kc_top.specs.ErrLines.{OfferedLine, TookLine, refused_line};
 ghost use Rattle.kc_top.specs.Stops.{TellsRefusal, status_of, stop_line};
 
 use crate::Status;
@@ -23,6 +24,16 @@ pub(crate) enum Stop {
     NoMemory,
 }
 
+impl From<NoMemory> for Stop {
+    ghost use Rattle.kc_top.specs.declared.ending.Stop.TheVariants as stop;
+
+    ghost from_gives = { λ _ s. s ≡ stop.NoMemory };
+
+    fn from(_: NoMemory) -> Stop {
+        Stop::NoMemory
+    }
+}
+
 fn refused_line(alloc: Global, refusal: Refusal) -> Result<String, NoMemory>
     ensures { IfOk result (λ line. string_bytes line ≡ refused_line refusal.line refusal.kind) }
 {
@@ -42,15 +53,19 @@ pub(crate) fn refused(alloc: Global, refusal: Refusal) -> Stop
 
 /// Writes a line. A fault of the sink changes nothing.
 fn put_line<E: Sink>(err: &mut E, line: &[u8])
-    ensures { TookLine (E.taken err.old) (E.taken err.new) (E.faults err.old) (E.faults err.new) line.now }
+    requires { 0 < length line.now }
+    ensures offered { KeepsFirst (E.first err.old) (E.first err.new) line.now }
+    ensures took { TookLine (E.taken err.old) (E.taken err.new) (E.faults err.old) (E.faults err.new) line.now }
 {
     let _ = write_all(err, line);
 }
 
 /// Writes the line about the stop, and gives the status, which is settled before.
 pub(crate) fn finish<E: Sink>(err: &mut E, stop: Stop) -> Status
+    requires { 0 < length (stop_line stop) }
     ensures status { result ≡ status_of stop }
-    ensures line { TookLine (E.taken err.old) (E.taken err.new) (E.faults err.old) (E.faults err.new) (stop_line stop) }
+    ensures offered { OfferedLine (status_of stop) (E.first err.old) (E.first err.new) (stop_line stop) }
+    ensures took { TookLine (E.taken err.old) (E.taken err.new) (E.faults err.old) (E.faults err.new) (stop_line stop) }
 {
     match stop {
         Stop::Usage => {

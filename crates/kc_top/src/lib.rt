@@ -13,18 +13,28 @@
 
 mod batch;
 mod batch_lines;
+mod batches;
 mod ending;
-mod graph;
+mod greatest;
 pub mod memory;
+mod numbers;
+mod reading;
 pub mod run;
+mod setting;
+mod show;
 #[cfg(test)]
 mod tests;
 mod text;
+pub mod words;
 
 ghost use Rattle.std.specs.Prelude.{◌≡◌, ℕ, List};
 ghost use Rattle.kc_text.specs.Meaning.{Told};
 ghost use Rattle.kc_top.specs.Statuses.{exit_of};
 ghost use Rattle.kc_top.specs.Text.{IsText};
+ghost use Rattle.kc_top.specs.declared.setting.Setting.{Setting};
+
+pub use setting::Setting;
+pub use show::Show;
 
 /// How a run ended.
 #[derive(Clone, Copy, Debug, PartialEq, Eq)]
@@ -57,12 +67,12 @@ pub fn exit_number(status: Status) -> u8
     }
 }
 
-/// Every input has an output.
+/// Every input has an output, whatever is asked for.
 pub fn every_input_has_a_text()
-    ensures { (told : Told) → (text : List ℕ) × IsText told text }
+    ensures { (setting : Setting) (told : Told) → (text : List ℕ) × IsText setting told text }
 {}
 
-/// No input has two outputs.
+/// No input has two outputs, whatever is asked for.
 pub fn no_input_has_two_texts()
-    ensures { (told : Told) (first second : List ℕ) → IsText told first → IsText told second → first ≡ second }
+    ensures { (setting : Setting) (told : Told) (first second : List ℕ) → IsText setting told first → IsText setting told second → first ≡ second }
 {}

@@ -39,7 +39,7 @@ fn check<R: Abort + AllocGlobal>(
     let alloc = rt.alloc();
     let per_read = if input.len() < 100 { 4 } else { 65_536 };
     let mut source = MemSource::new(input, per_read, Vec::from_slice(alloc, fails.source)?);
-    let mut out = MemSink::new(alloc, 200, 10, Vec::from_slice(alloc, fails.out)?)?;
+    let mut out = MemSink::new(alloc, 400, 10, Vec::from_slice(alloc, fails.out)?)?;
     let mut err = MemSink::new(alloc, 200, 10, Vec::from_slice(alloc, fails.err)?)?;
     let status = run_in_memory(alloc, words, &mut source, &mut out, &mut err);
     assert_eq!(rt; status, wanted.status);
@@ -48,18 +48,18 @@ fn check<R: Abort + AllocGlobal>(
     Ok(())
 }
 
-/// Runs on each input, which is done, and compares the output.
+/// Runs with each list of words on its input, which is done, and compares the output.
 fn check_done<R: Abort + AllocGlobal>(
     rt: &R,
-    cases: &[(&[u8], &'static [u8])],
+    cases: &[(&[&str], &[u8], &'static [u8])],
 ) -> Result<(), Fail> {
-    for (input, out) in cases {
+    for (words, input, out) in cases {
         let wanted = Wanted {
             status: Status::Done,
             out,
             err: b"",
         };
-        check(rt, &[], Vec::from_slice(rt.alloc(), input)?, NONE, wanted)?;
+        check(rt, words, Vec::from_slice(rt.alloc(), input)?, NONE, wanted)?;
     }
     Ok(())
 }
@@ -80,48 +80,233 @@ fn check_refused<R: Abort + AllocGlobal>(
     Ok(())
 }
 
+/// Runs with each list of words, which are wrong, over a source and a sink whose first call fails.
+fn check_wrong<R: Abort + AllocGlobal>(rt: &R, cases: &[&[&str]]) -> Result<(), Fail> {
+    let fails = Fails {
+        source: &[1],
+        out: &[1],
+        err: &[],
+    };
+    let wanted = Wanted {
+        status: Status::Usage,
+        out: b"",
+        err: b"usage: kcore [--workers W] [--show cores|summary|each] [--level K] [--gen NUMBER]\n",
+    };
+    for words in cases {
+        check(
+            rt,
+            words,
+            Vec::from_slice(rt.alloc(), TRIANGLE)?,
+            fails,
+            wanted,
+        )?;
+    }
+    Ok(())
+}
+
 const TRIANGLE: &[u8] = b"1 2\n2 3\n3 1\n";
+
+/// A path of three edges, and a batch that closes it.
+const CLOSED: &[u8] = b"1 2\n2 3\n3 4\nbatch\n+ 4 1\n";
+
+const CLOSED_TEXT: &[u8] =
+    b"graph vertices 4 edges 3 top 1\nbatch 1 added 1 removed 0 kept 0 edges 4 top 2\n1 2\n2 2\n3 2\n4 2\n";
+
+/// A triangle with a tail, in many forms of lines.
+const TAIL: &[u8] = b"# c\r\n# c\r\n# c\r\n# c\r\n1\t2\r\n2\t1\r\n2\t3\r\n1\t3\r\n3\t4\r\n4\t4\r\n";
 
 #[test]
 fn core_numbers_are_written(rt: HostRuntime) -> Result<(), Fail> {
-    let comments = b"# c\r\n# c\r\n# c\r\n# c\r\n1\t2\r\n2\t1\r\n2\t3\r\n1\t3\r\n3\t4\r\n4\t4\r\n";
-    let cases: [(&[u8], &'static [u8]); 5] = [
-        (b"", b"graph vertices 0 edges 0 top 0\n"),
+    let cases: [(&[&str], &[u8], &'static [u8]); 5] = [
+        (&[], b"", b"graph vertices 0 edges 0 top 0\n"),
         (
-            comments,
+            &[],
+            TAIL,
             b"graph vertices 4 edges 4 top 2\n1 2\n2 2\n3 2\n4 1\n",
         ),
-        (b"7 7", b"graph vertices 1 edges 0 top 0\n7 0\n"),
+        (&[], b"7 7", b"graph vertices 1 edges 0 top 0\n7 0\n"),
         (
+            &[],
             b"4294967295 1\n",
             b"graph vertices 2 edges 1 top 1\n1 1\n4294967295 1\n",
         ),
-        (b"1 2\n# x\n", b"graph vertices 2 edges 1 top 1\n1 1\n2 1\n"),
+        (
+            &[],
+            b"1 2\n# x\n",
+            b"graph vertices 2 edges 1 top 1\n1 1\n2 1\n",
+        ),
     ];
     check_done(&rt, &cases)
 }
 
 #[test]
 fn each_batch_has_its_line(rt: HostRuntime) -> Result<(), Fail> {
-    let cases: [(&[u8], &'static [u8]); 4] = [
+    let cases: [(&[&str], &[u8], &'static [u8]); 4] = [
+        (&[], CLOSED, CLOSED_TEXT),
         (
-            b"1 2\n2 3\n3 4\nbatch\n+ 4 1\n",
-            b"graph vertices 4 edges 3 top 1\nbatch 1 added 1 removed 0 kept 0 edges 4 top 2\n1 2\n2 2\n3 2\n4 2\n",
-        ),
-        (
+            &[],
             b"1 2\n1 3\n1 4\n2 3\n2 4\n3 4\nbatch\n- 1 2\n",
             b"graph vertices 4 edges 6 top 3\nbatch 1 added 0 removed 1 kept 0 edges 5 top 2\n1 2\n2 2\n3 2\n4 2\n",
         ),
         (
+            &[],
             b"1 2\nbatch\n+ 1 2\n- 1 3\n",
             b"graph vertices 3 edges 1 top 1\nbatch 1 added 0 removed 0 kept 2 edges 1 top 1\n1 1\n2 1\n3 0\n",
         ),
         (
+            &[],
             b"batch\n+ 1 2\nbatch\n- 2 1\n",
             b"graph vertices 2 edges 0 top 0\nbatch 1 added 1 removed 0 kept 0 edges 1 top 1\nbatch 2 added 0 removed 1 kept 0 edges 0 top 0\n1 0\n2 0\n",
         ),
     ];
     check_done(&rt, &cases)
+}
+
+#[test]
+fn the_last_change_of_an_edge_decides(rt: HostRuntime) -> Result<(), Fail> {
+    let cases: [(&[&str], &[u8], &'static [u8]); 3] = [
+        (
+            &[],
+            b"batch\n+ 1 2\n+ 2 1\n",
+            b"graph vertices 2 edges 0 top 0\nbatch 1 added 1 removed 0 kept 0 overruled 1 edges 1 top 1\n1 1\n2 1\n",
+        ),
+        (
+            &[],
+            b"1 2\nbatch\n+ 1 2\n+ 2 1\n",
+            b"graph vertices 2 edges 1 top 1\nbatch 1 added 0 removed 0 kept 1 overruled 1 edges 1 top 1\n1 1\n2 1\n",
+        ),
+        (
+            &[],
+            b"1 2\n2 3\nbatch\n+ 1 3\n- 3 1\n- 1 2\n",
+            b"graph vertices 3 edges 2 top 1\nbatch 1 added 0 removed 1 kept 1 overruled 1 edges 1 top 1\n1 0\n2 1\n3 1\n",
+        ),
+    ];
+    check_done(&rt, &cases)
+}
+
+#[test]
+fn the_words_say_what_is_written(rt: HostRuntime) -> Result<(), Fail> {
+    let cases: [(&[&str], &[u8], &'static [u8]); 5] = [
+        (
+            &["--show", "summary", "--level", "2"],
+            TAIL,
+            b"graph vertices 4 edges 4 top 2\nlevel 2 members 3\n1\n2\n3\n",
+        ),
+        (
+            &["--level=0002", "--show=summary"],
+            TAIL,
+            b"graph vertices 4 edges 4 top 2\nlevel 2 members 3\n1\n2\n3\n",
+        ),
+        (
+            &["--level", "3", "--show", "cores"],
+            TRIANGLE,
+            b"graph vertices 3 edges 3 top 2\n1 2\n2 2\n3 2\nlevel 3 members 0\n",
+        ),
+        (
+            &["--show", "each"],
+            CLOSED,
+            b"graph vertices 4 edges 3 top 1\n1 1\n2 1\n3 1\n4 1\nbatch 1 added 1 removed 0 kept 0 edges 4 top 2\n1 2\n2 2\n3 2\n4 2\n",
+        ),
+        (
+            &["--show", "each", "--level", "1"],
+            b"1 2\n3 3\n",
+            b"graph vertices 3 edges 1 top 1\n1 1\n2 1\n3 0\nlevel 1 members 2\n1\n2\n",
+        ),
+    ];
+    check_done(&rt, &cases)
+}
+
+#[test]
+fn right_words_are_taken(rt: HostRuntime) -> Result<(), Fail> {
+    let cases: [(&[&str], &[u8], &'static [u8]); 6] = [
+        (&["--workers", "64"], CLOSED, CLOSED_TEXT),
+        (&["--workers=2"], CLOSED, CLOSED_TEXT),
+        (&["--workers", "0000000001", "--"], CLOSED, CLOSED_TEXT),
+        (&["--"], CLOSED, CLOSED_TEXT),
+        (&["--show", "cores", "--workers", "8"], CLOSED, CLOSED_TEXT),
+        (
+            &["--level", "4294967295", "--show=summary"],
+            b"",
+            b"graph vertices 0 edges 0 top 0\nlevel 4294967295 members 0\n",
+        ),
+    ];
+    check_done(&rt, &cases)
+}
+
+#[test]
+fn wrong_words_give_the_usage_line(rt: HostRuntime) -> Result<(), Fail> {
+    let cases: [&[&str]; 20] = [
+        &["--help"],
+        &["-h"],
+        &["--version"],
+        &["--workers", "0"],
+        &["--workers", "65"],
+        &["--workers", "2", "--workers", "2"],
+        &["--workers", ""],
+        &["--workers="],
+        &["--workers"],
+        &["--workers", "+2"],
+        &["--show", "x"],
+        &["--show", "Cores"],
+        &["--level"],
+        &["--level", "4294967296"],
+        &["--level", "00000000002"],
+        &["--level", "-1"],
+        &["--gen", "x"],
+        &["--", "--workers"],
+        &[""],
+        &["2"],
+    ];
+    check_wrong(&rt, &cases)
+}
+
+#[test]
+fn a_generated_input_is_read_in_place_of_the_source(rt: HostRuntime) -> Result<(), Fail> {
+    let wanted = Wanted {
+        status: Status::Done,
+        out: GENERATED,
+        err: b"",
+    };
+    let fails = Fails {
+        source: &[1],
+        ..NONE
+    };
+    let cases: [&[&str]; 3] = [
+        &["--gen", "7"],
+        &["--gen", "7", "--workers", "2"],
+        &["--workers", "8", "--gen", "7"],
+    ];
+    for words in cases {
+        check(&rt, words, Vec::new(rt.alloc()), fails, wanted)?;
+    }
+    Ok(())
+}
+
+/// The summary of the input that is generated for 7.
+const GENERATED: &[u8] =
+    b"graph vertices 10000 edges 49966 top 7\nbatch 1 added 492 removed 507 kept 0 edges 49951 top 7\nbatch 2 added 483 removed 511 kept 3 edges 49923 top 7\nbatch 3 added 492 removed 496 kept 6 edges 49919 top 7\nbatch 4 added 513 removed 467 kept 16 edges 49965 top 7\n";
+
+#[test]
+fn one_edge_less_lowers_a_complete_graph(rt: HostRuntime) -> Result<(), Fail> {
+    let wanted = Wanted {
+        status: Status::Done,
+        out: b"graph vertices 512 edges 130816 top 511\nbatch 1 added 0 removed 1 kept 0 edges 130815 top 510\n",
+        err: b"",
+    };
+    let mut input = String::new(rt.alloc());
+    for v in 2u32..513 {
+        for u in 1..v {
+            writeln!(input, "{u} {v}")?;
+        }
+    }
+    input.push_str("batch\n- 1 2\n")?;
+    check(
+        &rt,
+        &["--show", "summary"],
+        input.into_bytes(),
+        NONE,
+        wanted,
+    )
 }
 
 #[test]
@@ -151,15 +336,7 @@ fn a_line_of_a_wrong_form_is_refused(rt: HostRuntime) -> Result<(), Fail> {
 
 #[test]
 fn a_line_in_a_wrong_place_is_refused(rt: HostRuntime) -> Result<(), Fail> {
-    let cases: [(&[u8], &'static [u8]); 6] = [
-        (
-            b"batch\n+ 1 2\n+ 2 1\n",
-            b"refused line 3 kind 6 EdgeTwiceInBatch\n",
-        ),
-        (
-            b"1 2\nbatch\n+ 1 2\n+ 2 1\n",
-            b"refused line 4 kind 6 EdgeTwiceInBatch\n",
-        ),
+    let cases: [(&[u8], &'static [u8]); 4] = [
         (b"+ 1 2\n", b"refused line 1 kind 7 UpdateOutsideBatch\n"),
         (b"batch\n1 2\n", b"refused line 2 kind 8 EdgeLineInBatch\n"),
         (b"batch\n+ 5 5\n", b"refused line 2 kind 5 LoopInBatch\n"),
@@ -233,39 +410,18 @@ fn a_fault_of_the_error_stream_changes_no_status(rt: HostRuntime) -> Result<(), 
 }
 
 #[test]
-fn a_word_gives_the_usage_line(rt: HostRuntime) -> Result<(), Fail> {
-    let fails = Fails {
-        source: &[1],
-        out: &[1],
-        err: &[],
-    };
-    let wanted = Wanted {
-        status: Status::Usage,
-        out: b"",
-        err: b"usage: kcore [--workers W] [--show cores|summary|each] [--level K] [--gen NUMBER]\n",
-    };
-    check(
-        &rt,
-        &["--help"],
-        Vec::from_slice(rt.alloc(), TRIANGLE)?,
-        fails,
-        wanted,
-    )
-}
-
-#[test]
 fn too_many_vertices_are_refused(rt: HostRuntime) -> Result<(), Fail> {
     let wanted = Wanted {
         status: Status::Refused,
         out: b"",
-        err: b"refused line 131073 kind 9 TooManyVertices\n",
+        err: b"refused line 262145 kind 9 TooManyVertices\n",
     };
     let mut input = String::new(rt.alloc());
-    for i in 0u32..131_072 {
+    for i in 0u32..262_144 {
         let (u, v) = (i.wrapping_mul(2), i.wrapping_mul(2).wrapping_add(1));
         writeln!(input, "{u} {v}")?;
     }
-    input.push_str("262144 0\n")?;
+    input.push_str("524288 0\n")?;
     check(&rt, &[], input.into_bytes(), NONE, wanted)
 }
 
@@ -274,10 +430,10 @@ fn too_many_edge_lines_are_refused(rt: HostRuntime) -> Result<(), Fail> {
     let wanted = Wanted {
         status: Status::Refused,
         out: b"",
-        err: b"refused line 2097153 kind 10 TooManyEdgeLines\n",
+        err: b"refused line 4194305 kind 10 TooManyEdgeLines\n",
     };
     let mut input = Vec::new(rt.alloc());
-    for _ in 0..2_097_153 {
+    for _ in 0..4_194_305 {
         input.extend_from_slice(b"1 2\n")?;
     }
     check(&rt, &[], input, NONE, wanted)

@@ -1,44 +1,53 @@
 //! The output of a run, as a text.
-ghost use Rattle.std.specs.Prelude.{◌≡◌, ◌≤◌, IfOk, IsErrOf, length};
+ghost use Rattle.std.specs.Prelude.{◌≡◌, ◌++◌, IfOk, length};
 ghost use Rattle.kc_text.specs.Inputs.{IsInput};
-ghost use Rattle.kc_text.specs.Meaning.{Refuses, Told, meaning};
-ghost use Rattle.kc_text.specs.declared.refusal.Refusal.{Refusal};
-ghost use Rattle.kc_top.specs.Limits.{IsWithinLimits};
-ghost use Rattle.kc_top.specs.Text.{IsText, IsTextOf};
-ghost use Rattle.kc_text.specs.declared.limits.TheConstants.{MOST_BYTES};
+ghost use Rattle.kc_text.specs.Meaning.{Told};
+ghost use Rattle.kc_top.specs.Inputs.{IsSound};
+ghost use Rattle.kc_top.specs.Text.{IsText, first_line, shown_each};
 
 use crate::batch_lines::put_batches;
-use crate::graph::{graph_of, greatest};
-use kc_graph::{NoMemory, core_numbers};
-use kc_report::{Line, core_lines, summary};
-use kc_text::{Input, ParseFault, parse};
+use crate::batches::start_of;
+use crate::greatest::greatest;
+use crate::numbers::{put_each, put_end};
+use crate::setting::Setting;
+use crate::show::Show;
+use kc_graph::{Graph, NoMemory, core_numbers};
+use kc_report::{Line, summary};
+use kc_text::Input;
 use std::alloc::Global;
 
-/// The text of the input: the line about the graph at the start, the line about each batch, and the core numbers after the last.
-fn lines_of(alloc: Global, input: &Input) -> Result<Vec<u8>, NoMemory>
-    requires { IsWithinLimits input.now }
-    ensures { IfOk result (λ text. (told : Told) → IsInput told input.now → IsText told text.items) }
+/// The text up to the first batch: the line about the graph, and its core numbers where each state is shown.
+fn start_text(
+    alloc: Global,
+    show: Show,
+    graph: &Graph,
+    ids: &[u32],
+    core: &[u32],
+) -> Result<Vec<u8>, NoMemory>
+    requires { length ids.now ≡ length core.now }
+    ensures { IfOk result (λ text. text.items ≡ first_line graph.now core.now ++ shown_each show ids.now core.now) }
 {
-    let mut graph = graph_of(alloc, input.ids.len() as u32, &input.start)?;
-    let core = core_numbers(alloc, &graph)?;
     let line = Line::Graph {
         vertices: graph.vertices(),
         edges: graph.edges(),
-        top: greatest(&core),
+        top: greatest(core),
     };
     let mut text = Vec::new(alloc);
     summary(&mut text, &line)?;
-    let last = put_batches(alloc, &mut text, &mut graph, core, &input.batches)?;
-    core_lines(&mut text, &input.ids, &last)?;
+    put_each(&mut text, show, ids, core)?;
     Ok(text)
 }
 
-/// The output for the bytes of an input.
-pub(crate) fn text_of(alloc: Global, bytes: &[u8]) -> Result<Vec<u8>, ParseFault>
-    requires { length bytes.now ≤ MOST_BYTES }
-    ensures text { IfOk result (λ text. IsTextOf bytes.now text.items) }
-    ensures refused { (r : Refusal) → IsErrOf result (ParseFault.Refused r) → meaning bytes.now ≡ Refuses r.line r.kind }
+/// The text of the input: the line about the graph at the start, the line about each batch, and what the setting shows of the core
+/// numbers between them and at the end.
+pub(crate) fn text_of(alloc: Global, setting: Setting, input: Input) -> Result<Vec<u8>, NoMemory>
+    requires { IsSound input }
+    ensures { IfOk result (λ text. (told : Told) → IsInput told input → IsText setting told text.items) }
 {
-    let input = parse(alloc, bytes)?;
-    Ok(lines_of(alloc, &input)?)
+    let (mut graph, batches) = start_of(alloc, input)?;
+    let core = core_numbers(alloc, &graph)?;
+    let mut text = start_text(alloc, setting.show, &graph, &batches.ids, &core)?;
+    let last = put_batches(alloc, &mut text, setting.show, &mut graph, core, &batches)?;
+    put_end(&mut text, setting, &batches.ids, &last)?;
+    Ok(text)
 }

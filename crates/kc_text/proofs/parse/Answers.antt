@@ -1,10 +1,27 @@
-use Rattle.std.proofs.Common.{◌≢◌, ℕ, List, length, ap, sym, subst, ◌∙◌, arith, Vec, Global, map}
+-- The reading is accepted, and the input is made of it.
+use Rattle.std.proofs.Common.{◌≡◌, ◌≢◌, ◌≤◌, ℕ, List, length, ap, sym, subst, ◌∙◌, arith, Vec, Global, map}
 use Rattle.kc_text.specs.declared.change.Change.{Change}
+use Rattle.kc_text.specs.declared.input.Input.{Input}
+use Rattle.kc_text.specs.declared.reading.Reading.{Reading}
 use Rattle.kc_text.specs.Meaning.{ends, ends_of}
-use Rattle.kc_text.specs.Inputs.{AreAmong, AreEdges, numbered_change, start_graph}
+use Rattle.kc_text.specs.Inputs.{AreAmong, AreEdges, parts_of, start_graph}
+use Rattle.kc_text.specs.Overruling.{overruled}
 use Rattle.std.specs.Prelude.{All}
-use Rattle.kc_text.proofs.Batched.{accepted, accepted-apart, accepted-batches, accepted-edges, made, made-batches}
+use Rattle.kc_text.proofs.Batched.{IsMadeOf, accepted, accepted-apart, accepted-batches, accepted-edges, accepted-short, made, made-batches, made-counts, made-few_batches, made-short, numbered_deciding}
+use Rattle.kc_text.specs.declared.limits.TheConstants.{MOST_UPDATES}
 use Rattle.kc_text.proofs.parse.Goals as goal
+
+-- the lists that `input_of` had are those of the reading
+made_of : (reading : Reading) (input : Input) (edges : List (ℕ × ℕ)) (batches : List (Vec Change Global)) → edges ≡ reading.edges.items → batches ≡ reading.batches.items
+    → input.ids.items ≡ reading.ids.items → AreEdges (start_graph reading.ids.items edges) input.start.items
+    → map (λ batch. map parts_of batch.items) input.batches.items ≡ map (λ batch. numbered_deciding reading.ids.items batch.items) batches
+    → input.overruled.items ≡ map (λ batch. overruled batch.items) batches → IsMadeOf reading input
+made_of reading input edges batches e b ids start parts counts = record {
+  ids = ids;
+  start = subst (λ (es : List (ℕ × ℕ)). AreEdges (start_graph reading.ids.items es) input.start.items) e start;
+  batches = parts ∙ ap (map (λ (batch : Vec Change Global). numbered_deciding reading.ids.items batch.items)) b;
+  overruled = counts ∙ ap (map (λ (batch : Vec Change Global). overruled batch.items)) b;
+}
 
 pub input_of-requires-clause-few : goal.input_of-requires-clause-few
 input_of-requires-clause-few c =
@@ -26,20 +43,42 @@ input_of-requires-clause-apart c =
     let a = accepted c.args.bytes.now c.in_ok-reading.reading c.in_ok-reading.ensures c.in_default.is in
     subst (λ (bs : List (Vec Change Global)). All (λ batch. All (λ c. c.a ≢ c.b) batch.items) bs) (sym c.deref-2.ensures.value) (accepted-apart c.args.bytes.now c.in_ok-reading.reading a)
 
+pub input_of-requires-clause-short : goal.input_of-requires-clause-short
+input_of-requires-clause-short c =
+    let a = accepted c.args.bytes.now c.in_ok-reading.reading c.in_ok-reading.ensures c.in_default.is in
+    subst (λ (bs : List (Vec Change Global)). All (λ batch. length batch.items ≤ MOST_UPDATES) bs) (sym c.deref-2.ensures.value) (accepted-short c.args.bytes.now c.in_ok-reading.reading a)
+
 pub returns-clause-input : goal.returns-clause-input
 returns-clause-input c =
     let a = accepted c.args.bytes.now c.in_ok-reading.reading c.in_ok-reading.ensures c.in_default.is in
-    made c.args.bytes.now c.in_ok-reading.reading c.in_ok-input_of.field-0 a c.in_ok-input_of.ensures.ids
-    (subst (λ (es : List (ℕ × ℕ)). AreEdges (start_graph c.in_ok-reading.reading.ids.items es) c.in_ok-input_of.field-0.start.items) c.deref.ensures.value c.in_ok-input_of.ensures.start)
-    (c.in_ok-input_of.ensures.batches ∙ ap (map (λ (batch : Vec Change Global). map (numbered_change c.in_ok-reading.reading.ids.items) batch.items)) c.deref-2.ensures.value)
+    made c.args.bytes.now c.in_ok-reading.reading c.in_ok-input_of.field-0 a
+    (made_of c.in_ok-reading.reading c.in_ok-input_of.field-0 _ _ c.deref.ensures.value c.deref-2.ensures.value c.in_ok-input_of.ensures.ids c.in_ok-input_of.ensures.start c.in_ok-input_of.ensures.batches c.in_ok-input_of.ensures.overruled)
 
 pub returns-clause-few : goal.returns-clause-few
 returns-clause-few c =
     let a = accepted c.args.bytes.now c.in_ok-reading.reading c.in_ok-reading.ensures c.in_default.is in
     omega (arith, a.few, ap (length) c.in_ok-input_of.ensures.ids)
 
+pub returns-clause-few_batches : goal.returns-clause-few_batches
+returns-clause-few_batches c =
+    let a = accepted c.args.bytes.now c.in_ok-reading.reading c.in_ok-reading.ensures c.in_default.is in
+    made-few_batches c.args.bytes.now c.in_ok-reading.reading c.in_ok-input_of.field-0 a
+    (made_of c.in_ok-reading.reading c.in_ok-input_of.field-0 _ _ c.deref.ensures.value c.deref-2.ensures.value c.in_ok-input_of.ensures.ids c.in_ok-input_of.ensures.start c.in_ok-input_of.ensures.batches c.in_ok-input_of.ensures.overruled)
+
+pub returns-clause-short : goal.returns-clause-short
+returns-clause-short c =
+    let a = accepted c.args.bytes.now c.in_ok-reading.reading c.in_ok-reading.ensures c.in_default.is in
+    made-short c.args.bytes.now c.in_ok-reading.reading c.in_ok-input_of.field-0 a
+    (made_of c.in_ok-reading.reading c.in_ok-input_of.field-0 _ _ c.deref.ensures.value c.deref-2.ensures.value c.in_ok-input_of.ensures.ids c.in_ok-input_of.ensures.start c.in_ok-input_of.ensures.batches c.in_ok-input_of.ensures.overruled)
+
+pub returns-clause-counts : goal.returns-clause-counts
+returns-clause-counts c =
+    let a = accepted c.args.bytes.now c.in_ok-reading.reading c.in_ok-reading.ensures c.in_default.is in
+    made-counts c.args.bytes.now c.in_ok-reading.reading c.in_ok-input_of.field-0 a
+    (made_of c.in_ok-reading.reading c.in_ok-input_of.field-0 _ _ c.deref.ensures.value c.deref-2.ensures.value c.in_ok-input_of.ensures.ids c.in_ok-input_of.ensures.start c.in_ok-input_of.ensures.batches c.in_ok-input_of.ensures.overruled)
+
 pub returns-clause-batches : goal.returns-clause-batches
 returns-clause-batches c =
     let a = accepted c.args.bytes.now c.in_ok-reading.reading c.in_ok-reading.ensures c.in_default.is in
-    made-batches c.args.bytes.now c.in_ok-reading.reading c.in_ok-input_of.field-0 a c.in_ok-input_of.ensures.ids
-    (c.in_ok-input_of.ensures.batches ∙ ap (map (λ (batch : Vec Change Global). map (numbered_change c.in_ok-reading.reading.ids.items) batch.items)) c.deref-2.ensures.value)
+    made-batches c.args.bytes.now c.in_ok-reading.reading c.in_ok-input_of.field-0 a
+    (made_of c.in_ok-reading.reading c.in_ok-input_of.field-0 _ _ c.deref.ensures.value c.deref-2.ensures.value c.in_ok-input_of.ensures.ids c.in_ok-input_of.ensures.start c.in_ok-input_of.ensures.batches c.in_ok-input_of.ensures.overruled)

@@ -1,19 +1,22 @@
-use Rattle.std.proofs.Common.{◌≡◌, ℕ, List, ◌++◌, take, Result, Ok, Err, IfOk, IsErrAnd, IsErrOf}
+-- A turn adds the bytes that it read behind those that were done.
+use Rattle.std.proofs.Common.{◌≡◌, ◌+◌, ◌++◌, ℕ, List, take, drop, sym, ap, subst, ◌∙◌, arith, take-add}
+use Rattle.std.specs.Io.KnownBytes.{Consumes}
 use Rattle.std.proofs.KnownBytes.{Consumes-trans}
-use Rattle.kc_io.specs.declared.source.ReadAllFault.{ReadAllFault}
-use Rattle.kc_io.specs.declared.source.ReadAllFault.TheVariants.{TooLong, NoMemory}
 use Rattle.kc_io.proofs.source.read_all.Goals as goal
 
-no_memory : {A : Type 0} (r : Result A ReadAllFault) (P : A → Type 0) (Q : Type 0) → IsErrAnd r (λ e. e ≡ NoMemory) → IfOk r P × (IsErrOf r TooLong → Q)
-no_memory (Ok x) P Q h = absurd h
-no_memory (Err e) P Q h = (tt, λ k. absurd (cc))
-
-pub returns-in_err-extend_from_slice-clause-given : goal.returns-in_err-extend_from_slice-clause-given
-returns-in_err-extend_from_slice-clause-given g c =
-    let given : List ℕ = c.loop-piece.bytes.items ++ take c.in_ok-n.n c.read.new.into in
-    let fault = no_memory c.from_residual-in_err-extend_from_slice.result (λ bytes. bytes.items ≡ given) _ c.from_residual-in_err-extend_from_slice.ensures.1 in (
-      given,
-      Consumes-trans (g.S.Source.left c.args.source.now) (g.S.Source.left c.loop-piece.source) (g.S.Source.left c.read.new.self) c.loop-piece.bytes.items (take c.in_ok-n.n c.read.new.into) c.loop-piece.invariant.consumed c.in_ok-n.ensures.bytes.0,
-      fault.0,
-      fault.1,
-    )
+pub loop-done-preserved : goal.loop-done-preserved
+loop-done-preserved g c =
+    let done : ℕ = c.loop-done.done in
+    let n : ℕ = c.in_ok-n.n in
+    let now : List ℕ = c.read_behind.new.bytes.items in
+    let kept : take done now ≡ take done c.loop-done.bytes.items = c.in_ok-n.ensures.kept ∙ c.make_room.ensures.kept in
+    let joined : take done c.loop-done.bytes.items ++ take n (drop done now) ≡ take (done + n) now =
+    ap (λ (t : List ℕ). t ++ take n (drop done now)) (sym kept) ∙ sym (take-add done n now) in
+    record {
+      within = c.in_ok-n.ensures.bound;
+      fits = omega (arith, c.in_ok-n.ensures.room, c.make_room.ensures.fits);
+      consumed = subst (Consumes (g.S.Source.left c.args.source.now) (g.S.Source.left c.read_behind.new.source)) joined
+          (Consumes-trans (g.S.Source.left c.args.source.now) (g.S.Source.left c.loop-done.source) (g.S.Source.left c.read_behind.new.source)
+          (take done c.loop-done.bytes.items) (take n (drop done now)) c.loop-done.invariant.consumed c.in_ok-n.ensures.bytes.0);
+      later = omega (arith, c.loop-done.invariant.later, c.in_ok-n.ensures.cause.later);
+    }

@@ -5,8 +5,8 @@ use Rattle.kc_text.specs.Meaning.{nothing_told, reading}
 use Rattle.kc_text.specs.Readers.{IsExact, IsKept, told_by}
 use Rattle.kc_text.proofs.reading.read_lines.Given as goal
 
-abbrev pub invariant-loop-text : goal.invariant-loop-text
-invariant-loop-text l = record {
+abbrev pub invariant-loop-said : goal.invariant-loop-said
+invariant-loop-said l = record {
   same : IsExact l.reader → reading 0 nothing_told (all_said l.fn.bytes) ≡ reading l.line (told_by l.reader) (all_said l.rest);
   kept : IsKept l.reader;
   looks : is_some l.reader.ids ≡ is_some l.fn.reader.ids;
@@ -14,5 +14,5 @@ invariant-loop-text l = record {
   shorter : l.line + length l.rest ≤ length l.fn.bytes;
 }
 
-abbrev pub decreases-loop-text : goal.decreases-loop-text
-decreases-loop-text l = length l.rest
+abbrev pub decreases-loop-said : goal.decreases-loop-said
+decreases-loop-said l = length l.rest

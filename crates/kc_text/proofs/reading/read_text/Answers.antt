@@ -1,9 +1,9 @@
-use Rattle.std.proofs.Common.{inr}
-use Rattle.kc_text.proofs.Clear.{clear-reading}
+-- With few ids a quick reading ends as the meaning says.
+use Rattle.std.proofs.Common.{arith, inr}
+use Rattle.kc_text.proofs.Few.{few-reading}
 use Rattle.kc_text.proofs.reading.read_text.Goals as goal
 
-pub returns-then-branch : goal.returns-then-branch
-returns-then-branch c =
+pub returns-then-len-le-MOST_IDS : goal.returns-then-len-le-MOST_IDS
+returns-then-len-le-MOST_IDS c =
     let (told, read, end) = c.in_ok-reading.ensures in
-    let (few, once) = c.in_ok-is_clear.ensures.0 c.if-branch.true in
-    (told, read, end (inr (clear-reading told c.in_ok-reading.reading read few once)))
+    (told, read, end (inr (few-reading told c.in_ok-reading.reading read (omega arith))))

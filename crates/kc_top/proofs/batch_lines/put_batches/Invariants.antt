@@ -1,13 +1,14 @@
-use Rattle.std.proofs.Common.{◌≡◌, ◌+◌, ℕ, List, drop, map}
-use Rattle.kc_text.specs.Inputs.{parts_of}
-use Rattle.kc_top.specs.Text.{TellsBatches}
+-- The batches are numbered. Whatever the rest of them comes to, all of them come to it.
+use Rattle.std.proofs.Common.{◌≡◌, ◌+◌, ℕ, List, drop}
+use Rattle.kc_top.specs.Limits.{counted_batches}
+use Rattle.kc_top.specs.Text.{TellsBatches, shown_each}
 use Rattle.kc_top.proofs.batch_lines.put_batches.Given as goal
 
--- The batches are numbered. Whatever the rest of them comes to, all of them come to it.
-abbrev pub invariant-loop-batch : goal.invariant-loop-batch
-invariant-loop-batch l = record {
-  counted : l.number ≡ l.batch-index;
+abbrev pub invariant-loop-updates : goal.invariant-loop-updates
+invariant-loop-updates l = record {
+  counted : l.number ≡ l.updates-index;
   size : l.graph.size ≡ l.fn.graph.size;
-  rest : (after last : List ℕ) → TellsBatches (l.number + 1) l.graph l.core.items (drop l.batch-index (map (λ batch. map parts_of batch.items) l.batches)) l.text.items after last
-      → TellsBatches 1 l.fn.graph l.fn.core.items (map (λ batch. map parts_of batch.items) l.batches) l.fn.text.items after last;
+  rest : (after last : List ℕ) → TellsBatches (shown_each l.show l.batches.ids.items) (l.number + 1) l.graph l.core.items
+      (counted_batches (drop l.updates-index l.batches.updates.items) (drop l.updates-index l.batches.overruled.items)) l.text.items after last
+      → TellsBatches (shown_each l.show l.batches.ids.items) 1 l.fn.graph l.fn.core.items (counted_batches l.batches.updates.items l.batches.overruled.items) l.fn.text.items after last;
 }

@@ -1,8 +1,13 @@
+-- Where there is no memory to read the words, nothing was taken.
 use Rattle.std.proofs.KnownBytes.{Appends-nil}
-use Rattle.kc_top.proofs.Stopping.{Took-nothing, Took-ended}
+use Rattle.clap.specs.Walk.{texts}
+use Rattle.kc_top.specs.Given.{given}
+use Rattle.kc_top.specs.Settings.{setting}
+use Rattle.kc_top.specs.declared.ending.Stop.TheVariants as stop
+use Rattle.kc_top.proofs.Stopping.{TookSome-nothing, Took-ended}
 use Rattle.kc_top.proofs.run.work.Goals as goal
 
-pub returns-in_err-text-clause-took : goal.returns-in_err-text-clause-took
-returns-in_err-text-clause-took g c =
-    Took-ended c.from_residual.result c.in_err-text.field-0.0 (g.S.Source.left c.args.source.now) (g.O.Sink.taken c.args.out.now) (g.O.Sink.taken c.args.out.now) c.from_residual.ensures.1
-    (Took-nothing c.in_err-text.field-0.0 (g.S.Source.left c.args.source.now) (g.O.Sink.taken c.args.out.now) (g.O.Sink.taken c.args.out.now) _ _ c.in_err-text.ensures.stopped (Appends-nil (g.O.Sink.taken c.args.out.now)))
+pub returns-in_err-setting_of-clause-took : goal.returns-in_err-setting_of-clause-took
+returns-in_err-setting_of-clause-took g c =
+    Took-ended c.from_residual.result stop.NoMemory (setting (texts c.args.words.now)) (given (setting (texts c.args.words.now)) (g.S.Source.left c.args.source.now)) (g.O.Sink.taken c.args.out.now) (g.O.Sink.taken c.args.out.now) c.from_residual.ensures.1
+    (TookSome-nothing (setting (texts c.args.words.now)) (given (setting (texts c.args.words.now)) (g.S.Source.left c.args.source.now)) (g.O.Sink.taken c.args.out.now) (g.O.Sink.taken c.args.out.now) (Appends-nil (g.O.Sink.taken c.args.out.now)))

@@ -1,9 +1,10 @@
+-- The bytes that are left are those behind the ones that were copied out, and a fault of a call that was counted is counted once.
 use Rattle.std.proofs.Common.{◌≡◌, ◌-◌, ℕ, List, length, take, drop, sym, ap, ◌∙◌, arith, length-drop, take_all, drop_of_length-le}
 use Rattle.std.proofs.lemmas.List.{length-take}
 use Rattle.kc_io.specs.Calls.{one_called}
 use Rattle.kc_io.specs.Memory.{SourceState}
 use Rattle.kc_io.proofs.Failing.{HasCause-failed}
-use Rattle.kc_io.proofs.Pieces.{left-taken}
+use Rattle.kc_io.proofs.Texts.{left-taken}
 use Rattle.kc_io.proofs.mem_source.MemSourceSource.read.Goals as goal
 
 pub returns-then-begin-clause-cause : goal.returns-then-begin-clause-cause

@@ -1,0 +1,34 @@
+-- Where there are few ids, there were few a line before.
+use Rattle.std.proofs.Common.{◌≡◌, ◌≤◌, ℕ, List, length, subst, sym, ◌∙◌, arith, nat_eq, inl, inr}
+use Rattle.std.specs.Prelude.{is_some}
+use Rattle.std.specs.Set.{distinct_count}
+use Rattle.kc_text.specs.declared.change.Change.{Change}
+use Rattle.kc_text.specs.declared.line.Line.{Line}
+use Rattle.kc_text.specs.declared.line.Line.TheVariants as said
+use Rattle.kc_text.specs.declared.reader.Reader.{Reader}
+use Rattle.kc_text.specs.declared.reading.Reading.{Reading}
+use Rattle.kc_text.specs.Meaning.{Told, names, with_line}
+use Rattle.kc_text.specs.Readers.{IsExact, NamesFew, told_by}
+use Rattle.kc_text.specs.Readings.{IsReading}
+use Rattle.kc_text.proofs.Counts.{fewer_names}
+use Rattle.kc_text.proofs.Places.{length-AreIds}
+use Rattle.kc_text.proofs.Telling.{names-batch, names-change, names-edge}
+use Rattle.kc_text.specs.declared.limits.TheConstants.{MOST_IDS}
+
+pub few-edge : (told : Told) (a b : ℕ) → NamesFew (with_line told (said.Edge a b)) → NamesFew told
+few-edge told a b few = omega (arith, few, fewer_names (names told) (names (with_line told (said.Edge a b))) a b (names-edge told a b))
+
+pub few-change : (told : Told) (c : Change) → NamesFew (with_line told (said.Change c)) → NamesFew told
+few-change told c few = omega (arith, few, fewer_names (names told) (names (with_line told (said.Change c))) c.a c.b (names-change told c))
+
+pub few-batch : (told : Told) → NamesFew (with_line told said.Batch) → NamesFew told
+few-batch told few = subst (λ (t : List ℕ). distinct_count nat_eq t ≤ MOST_IDS) (names-batch told) few
+
+-- a reader that is exact was exact a line before
+pub exact-before : (old new : Reader) (line : Line) → told_by new ≡ with_line (told_by old) line → is_some new.ids ≡ is_some old.ids → (NamesFew (with_line (told_by old) line) → NamesFew (told_by old)) → IsExact new → IsExact old
+exact-before old new line told same few (inl exact) = inl (sym same ∙ exact)
+exact-before old new line told same few (inr is) = inr (few (subst NamesFew told is))
+
+-- a reading with few ids was told of few
+pub few-reading : (told : Told) (reading : Reading) → IsReading told reading → length reading.ids.items ≤ MOST_IDS → NamesFew told
+few-reading told reading read few = omega (arith, few, length-AreIds (names told) reading.ids.items read.ids)

@@ -1,0 +1,199 @@
+-- Where no batch names a pair twice, the stricter rule gives the same meaning.
+use Rattle.std.proofs.Common.{◌≡◌, ℕ, ◌+◌, suc, Bool, true, false, cond, List, [], ◌∷◌, ◌++◌, length, length-append, get_or, refl, sym, ap, subst, ◌∙◌, arith, nat_lt, Option, Some, None}
+use Rattle.std.specs.Prelude.{All, ◌↔◌, unwrap_or}
+use Rattle.std.specs.List.{list_any}
+use Rattle.std.specs.Option.{option_map, option_to_list}
+use Rattle.std.proofs.Math.Seq.{get_or-append_seam}
+use Rattle.std.proofs.lemmas.List.{get_or_append_left}
+use Rattle.std.proofs.lemmas.List.Elements.{All-nil, All-cons, All-append}
+use Rattle.std.proofs.lemmas.List.Folds.{list_any_none}
+use Rattle.std.proofs.lemmas.List.Quantifiers.{all_pairs_push}
+use Rattle.kc_distinct.proofs.Shared.{All-front, All-end}
+use Rattle.kc_text.specs.declared.change.Change.{Change}
+use Rattle.kc_text.specs.declared.kind.Kind.{Kind}
+use Rattle.kc_text.specs.declared.kind.Kind.TheVariants.{TooLong, UpdateOutsideBatch}
+use Rattle.kc_text.specs.declared.line.Line.{Line}
+use Rattle.kc_text.specs.declared.line.Line.TheVariants as said
+use Rattle.kc_text.specs.Batches.{NamesOnce}
+use Rattle.kc_text.specs.Forms.{all_said}
+use Rattle.kc_text.specs.Meaning.{Told, Means, Refuses, batches, ends_or, meaning, name_same, nothing_told, or_else, passed_limit, reading, refusal, unfit, with_line}
+use Rattle.kc_text.specs.NamedOnce.{Cause, Ends, IsRefused, NamesAgain, StrictMeaning, Tells, cause_of, cause_or, ends_at, strict_meaning, strict_reading, was_named}
+use Rattle.kc_text.specs.Overruling.{deciding, overruled}
+use Rattle.kc_text.specs.declared.limits.TheConstants.{MOST_BYTES}
+use Rattle.kc_text.proofs.Overruled.{none-at, once-deciding, once-overruled}
+use Rattle.kc_text.proofs.WithinLimits.{both_none}
+
+once-nil : NamesOnce []
+once-nil = λ i j d l m. absurd (omega arith)
+
+-- one change more, whose pair was not named, and one less
+once-push : (batch : List Change) (c : Change) → NamesOnce batch → list_any (name_same c) batch ≡ false → NamesOnce (batch ++ c ∷ [])
+once-push batch c once none = all_pairs_push (λ c d. name_same d c ≡ false) batch c once (λ k d l. none-at (name_same c) batch none k d l)
+
+once-front : (batch : List Change) (c : Change) → NamesOnce (batch ++ c ∷ []) → NamesOnce batch
+once-front batch c h = λ i j d l m.
+    let more = length-append batch (c ∷ []) in
+    let at_i = get_or_append_left batch (c ∷ []) d i (omega arith) in
+    let at_j = get_or_append_left batch (c ∷ []) d j m in
+    subst (λ e. name_same (get_or batch j d) e ≡ false) at_i (subst (λ e. name_same e (get_or (batch ++ c ∷ []) i d) ≡ false) at_j (h i j d l (omega arith)))
+
+once-end : (batch : List Change) (c : Change) → NamesOnce (batch ++ c ∷ []) → list_any (name_same c) batch ≡ false
+once-end batch c h = list_any_none (name_same c) batch (λ i d l.
+    let more = length-append batch (c ∷ []) in
+    let at_i = get_or_append_left batch (c ∷ []) d i l in
+    let at_end = get_or-append_seam batch c [] d in
+    subst (λ e. name_same c e ≡ false) at_i (subst (λ e. name_same e (get_or (batch ++ c ∷ []) i d) ≡ false) at_end (h i (length batch) d l (omega arith))))
+
+-- no batch names a pair twice
+abbrev Once : Told → Type 0
+Once told = All NamesOnce (batches told)
+
+once-after_change : (earlier : List (List Change)) (last : Option (List Change)) (c : Change) → unfit last c ≡ None → was_named last c ≡ false
+    → All NamesOnce (earlier ++ option_to_list last) → All NamesOnce (earlier ++ (unwrap_or last [] ++ c ∷ []) ∷ [])
+once-after_change earlier None c fit new once = absurd (let e : Some UpdateOutsideBatch ≡ None = fit in cc)
+once-after_change earlier (Some batch) c fit new once =
+    All-append NamesOnce earlier ((batch ++ c ∷ []) ∷ []) (All-front NamesOnce earlier (batch ∷ []) once)
+    (All-cons NamesOnce (batch ++ c ∷ []) [] (once-push batch c (All-end NamesOnce earlier batch once) new) (All-nil NamesOnce))
+
+once-before_change : (earlier : List (List Change)) (last : Option (List Change)) (c : Change) → All NamesOnce (earlier ++ (unwrap_or last [] ++ c ∷ []) ∷ []) → All NamesOnce (earlier ++ option_to_list last)
+once-before_change earlier None c h = All-append NamesOnce earlier [] (All-front NamesOnce earlier ((c ∷ []) ∷ []) h) (All-nil NamesOnce)
+once-before_change earlier (Some batch) c h =
+    All-append NamesOnce earlier (batch ∷ []) (All-front NamesOnce earlier ((batch ++ c ∷ []) ∷ []) h)
+    (All-cons NamesOnce batch [] (once-front batch c (All-end NamesOnce earlier (batch ++ c ∷ []) h)) (All-nil NamesOnce))
+
+new-before_change : (earlier : List (List Change)) (last : Option (List Change)) (c : Change) → All NamesOnce (earlier ++ (unwrap_or last [] ++ c ∷ []) ∷ []) → was_named last c ≡ false
+new-before_change earlier None c h = refl
+new-before_change earlier (Some batch) c h = once-end batch c (All-end NamesOnce earlier (batch ++ c ∷ []) h)
+
+-- no batch names a pair twice before a line if none does after it
+once-before : (told : Told) (line : Line) → Once (with_line told line) → Once told
+once-before told said.Nothing h = h
+once-before told (said.Edge a b) h = h
+once-before told said.Batch h = All-front NamesOnce (batches told) ([] ∷ []) h
+once-before told (said.Change c) h = once-before_change told.earlier told.last c h
+once-before told (said.Wrong kind) h = h
+
+none-of : (kind : Option Kind) → option_map IsRefused kind ≡ None → kind ≡ None
+none-of (Some kind) h = absurd (cc)
+none-of None h = refl
+
+-- a change that doesn't end the reading fits, names a new pair and passes no limit
+record Goes (told : Told) (c : Change) : Type 0 where
+  fit : unfit told.last c ≡ None
+  new : was_named told.last c ≡ false
+  within : passed_limit (with_line told (said.Change c)) ≡ None
+
+goes-parts : (fit : Option Kind) (again : Bool) (limit : Option Kind) → cause_or (option_map IsRefused fit) (cond again (Some NamesAgain) (option_map IsRefused limit)) ≡ None → (fit ≡ None) × (again ≡ false) × (limit ≡ None)
+goes-parts (Some kind) again limit h = absurd (cc)
+goes-parts None true limit h = absurd (cc)
+goes-parts None false limit h = (refl, refl, none-of limit h)
+
+goes : (told : Told) (c : Change) → cause_of told (said.Change c) ≡ None → Goes told c
+goes told c h =
+    let (fit, new, within) = goes-parts (unfit told.last c) (was_named told.last c) (passed_limit (with_line told (said.Change c))) h in
+    record { fit = fit; new = new; within = within }
+
+-- a line that doesn't end the reading is not refused, and names no pair again
+not-refused : (told : Told) (line : Line) → cause_of told line ≡ None → refusal told line ≡ None
+not-refused told said.Nothing h = refl
+not-refused told (said.Edge a b) h = none-of (refusal told (said.Edge a b)) h
+not-refused told said.Batch h = none-of (refusal told said.Batch) h
+not-refused told (said.Change c) h = let g = goes told c h in ap (λ r. or_else r (passed_limit (with_line told (said.Change c)))) g.fit ∙ g.within
+not-refused told (said.Wrong kind) h = absurd (cc)
+
+once-after : (told : Told) (line : Line) → cause_of told line ≡ None → Once told → Once (with_line told line)
+once-after told said.Nothing h once = once
+once-after told (said.Edge a b) h once = once
+once-after told said.Batch h once = All-append NamesOnce (batches told) ([] ∷ []) once (All-cons NamesOnce [] [] once-nil (All-nil NamesOnce))
+once-after told (said.Change c) h once = let g = goes told c h in once-after_change told.earlier told.last c g.fit g.new once
+once-after told (said.Wrong kind) h once = once
+
+-- a line that is not refused goes on if no batch names a pair twice with it
+goes-on : (told : Told) (line : Line) → refusal told line ≡ None → Once (with_line told line) → cause_of told line ≡ None
+goes-on told said.Nothing h once = refl
+goes-on told (said.Edge a b) h once = ap (option_map IsRefused) h
+goes-on told said.Batch h once = ap (option_map IsRefused) h
+goes-on told (said.Change c) h once =
+    let (fit, within) = both_none (unfit told.last c) (passed_limit (with_line told (said.Change c))) h in
+    ap (λ r. cause_or (option_map IsRefused r) (cond (was_named told.last c) (Some NamesAgain) (option_map IsRefused (passed_limit (with_line told (said.Change c)))))) fit
+    ∙ (ap (λ b. cond b (Some NamesAgain) (option_map IsRefused (passed_limit (with_line told (said.Change c))))) (new-before_change told.earlier told.last c once) ∙ ap (option_map IsRefused) within)
+goes-on told (said.Wrong kind) h once = absurd (cc)
+
+-- what the lines tell by the stricter rule they mean, and no batch names a pair twice
+from-strict : (done : ℕ) (told : Told) (lines : List Line) (all : Told) → Once told → strict_reading done told lines ≡ Tells all → (reading done told lines ≡ Means all) × Once all
+from-strict done told [] all once h = let same : told ≡ all = cc in (ap Means same, subst Once same once)
+from-strict done told (line ∷ rest) all once h =
+    elim (cause_of told line) as (λ r. cause_of told line ≡ r → ends_at r (done + 1) (strict_reading (done + 1) (with_line told line) rest) ≡ Tells all
+    → (ends_or (refusal told line) (done + 1) (reading (done + 1) (with_line told line) rest) ≡ Means all) × Once all) [
+      | Some cause ↦ λ _ e. absurd (cc)
+      | None ↦ λ none e.
+          let (means, once') = from-strict (done + 1) (with_line told line) rest all (once-after told line none once) e in
+          (ap (λ r. ends_or r (done + 1) (reading (done + 1) (with_line told line) rest)) (not-refused told line none) ∙ means, once')
+    ] refl h
+
+-- the other way round: what they mean they tell by the stricter rule, if no batch names a pair twice
+to-strict : (done : ℕ) (told : Told) (lines : List Line) (all : Told) → reading done told lines ≡ Means all → Once all → (strict_reading done told lines ≡ Tells all) × Once told
+to-strict done told [] all h once = let same : told ≡ all = cc in (ap Tells same, subst Once (sym same) once)
+to-strict done told (line ∷ rest) all h once =
+    elim (refusal told line) as (λ r. refusal told line ≡ r → ends_or r (done + 1) (reading (done + 1) (with_line told line) rest) ≡ Means all
+    → (ends_at (cause_of told line) (done + 1) (strict_reading (done + 1) (with_line told line) rest) ≡ Tells all) × Once told) [
+      | Some kind ↦ λ _ e. absurd (cc)
+      | None ↦ λ none e.
+          let (tells, once') = to-strict (done + 1) (with_line told line) rest all e once in
+          (ap (λ r. ends_at r (done + 1) (strict_reading (done + 1) (with_line told line) rest)) (goes-on told line none once') ∙ tells, once-before told line once')
+    ] refl h
+
+refused-parts : (fit : Option Kind) (again : Bool) (limit : Option Kind) (kind : Kind) → cause_or (option_map IsRefused fit) (cond again (Some NamesAgain) (option_map IsRefused limit)) ≡ Some (IsRefused kind)
+    → or_else fit limit ≡ Some kind
+refused-parts (Some k) again limit kind h = cc
+refused-parts None true limit kind h = absurd (cc)
+refused-parts None false (Some k) kind h = cc
+refused-parts None false None kind h = absurd (cc)
+
+refused-of : (found : Option Kind) (kind : Kind) → option_map IsRefused found ≡ Some (IsRefused kind) → found ≡ Some kind
+refused-of (Some k) kind h = cc
+refused-of None kind h = absurd (cc)
+
+-- a line that is refused by the stricter rule is refused for the same
+same-refusal : (told : Told) (line : Line) (kind : Kind) → cause_of told line ≡ Some (IsRefused kind) → refusal told line ≡ Some kind
+same-refusal told said.Nothing kind h = absurd (cc)
+same-refusal told (said.Edge a b) kind h = refused-of (refusal told (said.Edge a b)) kind h
+same-refusal told said.Batch kind h = refused-of (refusal told said.Batch) kind h
+same-refusal told (said.Change c) kind h = refused-parts (unfit told.last c) (was_named told.last c) (passed_limit (with_line told (said.Change c))) kind h
+same-refusal told (said.Wrong k) kind h = cc
+
+refused-strict : (done : ℕ) (told : Told) (lines : List Line) (at : ℕ) (kind : Kind) → strict_reading done told lines ≡ Ends at (IsRefused kind) → reading done told lines ≡ Refuses at kind
+refused-strict done told [] at kind h = absurd (cc)
+refused-strict done told (line ∷ rest) at kind h =
+    elim (cause_of told line) as (λ r. cause_of told line ≡ r → ends_at r (done + 1) (strict_reading (done + 1) (with_line told line) rest) ≡ Ends at (IsRefused kind)
+    → ends_or (refusal told line) (done + 1) (reading (done + 1) (with_line told line) rest) ≡ Refuses at kind) [
+      | Some cause ↦ λ some e.
+          let here : done + 1 ≡ at = cc in
+          let why : cause ≡ IsRefused kind = cc in
+          ap (λ r. ends_or r (done + 1) (reading (done + 1) (with_line told line) rest)) (same-refusal told line kind (some ∙ ap (λ (cause : Cause). Some cause) why)) ∙ ap (λ n. Refuses n kind) here
+      | None ↦ λ none e.
+          ap (λ r. ends_or r (done + 1) (reading (done + 1) (with_line told line) rest)) (not-refused told line none)
+          ∙ refused-strict (done + 1) (with_line told line) rest at kind e
+    ] refl h
+
+pub same-strict : (bytes : List ℕ) (told : Told) → (strict_meaning bytes ≡ Tells told) ↔ ((meaning bytes ≡ Means told) × All NamesOnce (batches told))
+same-strict bytes told = elim (nat_lt MOST_BYTES (length bytes)) as
+    (λ b. (cond b (Ends 0 (IsRefused TooLong)) (strict_reading 0 nothing_told (all_said bytes)) ≡ Tells told)
+    ↔ ((cond b (Refuses 0 TooLong) (reading 0 nothing_told (all_said bytes)) ≡ Means told) × All NamesOnce (batches told))) [
+      | true ↦ (λ e. absurd (cc), λ both. let e = both.0 in absurd (cc))
+      | false ↦ (λ e. from-strict 0 nothing_told (all_said bytes) told (All-nil NamesOnce) e, λ both. (to-strict 0 nothing_told (all_said bytes) told both.0 both.1).0)
+    ]
+
+pub same-refused : (bytes : List ℕ) (line : ℕ) (kind : Kind) → strict_meaning bytes ≡ Ends line (IsRefused kind) → meaning bytes ≡ Refuses line kind
+same-refused bytes line kind = elim (nat_lt MOST_BYTES (length bytes)) as
+    (λ b. cond b (Ends 0 (IsRefused TooLong)) (strict_reading 0 nothing_told (all_said bytes)) ≡ Ends line (IsRefused kind)
+    → cond b (Refuses 0 TooLong) (reading 0 nothing_told (all_said bytes)) ≡ Refuses line kind) [
+      | true ↦ λ e. let here : 0 ≡ line = cc in let why : TooLong ≡ kind = cc in cc
+      | false ↦ λ e. refused-strict 0 nothing_told (all_said bytes) line kind e
+    ]
+
+-- then all changes decide, and none is overruled
+pub all-decide : (bytes : List ℕ) (told : Told) → strict_meaning bytes ≡ Tells told → All (λ batch. (deciding batch ≡ batch) × (overruled batch ≡ 0)) (batches told)
+all-decide bytes told h = λ i d l.
+    let once = ((same-strict bytes told).0 h).1 i d l in
+    (once-deciding (get_or (batches told) i d) once, once-overruled (get_or (batches told) i d) once)

@@ -1,0 +1,10 @@
+use Rattle.std.proofs.Common.{◌≡◌, ◌<◌, ℕ, length, get_or}
+use Rattle.kc_graph.specs.declared.update.Update.{Update}
+use Rattle.kc_text.specs.Deciding.{rank}
+use Rattle.kc_text.proofs.overruling.ranks_of.Given as goal
+
+abbrev pub invariant-loop-place : goal.invariant-loop-place
+invariant-loop-place l = record {
+  count : length l.ranks.items ≡ l.place;
+  each : (i : ℕ) (x : Update) → i < l.place → get_or l.ranks.items i 0 ≡ rank (get_or l.updates i x) i;
+}

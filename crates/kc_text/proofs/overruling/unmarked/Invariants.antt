@@ -1,0 +1,6 @@
+use Rattle.std.proofs.Common.{◌≡◌, ◌++◌, drop}
+use Rattle.kc_text.specs.Deciding.{last_of_edges}
+use Rattle.kc_text.proofs.overruling.unmarked.Given as goal
+
+abbrev pub invariant-loop-i : goal.invariant-loop-i
+invariant-loop-i l = l.left.items ++ last_of_edges (drop l.i l.updates) ≡ last_of_edges l.updates

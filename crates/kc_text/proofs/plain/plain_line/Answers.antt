@@ -1,0 +1,5 @@
+use Rattle.kc_text.proofs.PlainLines.{said-edge}
+use Rattle.kc_text.proofs.plain.plain_line.Goals as goal
+
+pub returns-in-Some-clause-said : goal.returns-in-Some-clause-said
+returns-in-Some-clause-said c = said-edge c.args.bytes.now c.in-Some.a c.in-Some.b c.in-Some.rest.now c.in-Some.ensures

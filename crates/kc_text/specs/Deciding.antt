@@ -1,0 +1,38 @@
+-- The updates of a batch that decide, and how they are found by a sort.
+use Rattle.std.specs.Prelude.{◌≡◌, ◌<◌, ◌*◌, ◌+◌, ◌&&◌, ◌/◌, ◌%◌, ℕ, Bool, true, false, List, [], ◌∷◌, length, drop, nat_eq, slice_index, slice_index_or, if◌then◌else◌}
+use Rattle.std.specs.List.{list_any}
+use Rattle.kc_graph.specs.declared.update.Update.{Update}
+use Rattle.kc_text.specs.declared.limits.TheConstants.{MOST_IDS, MOST_UPDATES}
+
+abbrev pub same_edge : Update → Update → Bool
+same_edge x y = nat_eq x.u y.u && nat_eq x.v y.v
+
+-- the last update of each edge
+abbrev pub last_of_edges : List Update → List Update
+last_of_edges [] = []
+last_of_edges (x ∷ rest) = if list_any (same_edge x) rest then last_of_edges rest else x ∷ last_of_edges rest
+
+-- The edge of an update and its place in the batch, as one number. Such numbers stand by their edges, and those of one edge by their places.
+abbrev pub rank : Update → ℕ → ℕ
+rank x place = (x.u * MOST_IDS + x.v) * MOST_UPDATES + place
+
+-- the ranks of the updates of a batch
+pub record AreRanks (updates : List Update) (ranks : List ℕ) : Type 0 where
+  pub count : length ranks ≡ length updates
+  pub each : (i : ℕ) (x : Update) → i < length updates → slice_index ranks i ≡ rank (slice_index_or updates i x) i
+
+-- a rank, and a greater one of the same edge
+abbrev pub AreOfOneEdge : ℕ → ℕ → Type 0
+AreOfOneEdge a b = (a < b) × (a / MOST_UPDATES ≡ b / MOST_UPDATES)
+
+-- the places are marked of the ranks that one of the same edge follows
+pub record MarksFollowed (ranks : List ℕ) (marks : List Bool) : Type 0 where
+  pub sound : (place : ℕ) → slice_index_or marks place false ≡ true
+      → (k : ℕ) × (k + 1 < length ranks) × AreOfOneEdge (slice_index ranks k) (slice_index ranks (k + 1)) × (slice_index ranks k % MOST_UPDATES ≡ place)
+  pub complete : (k : ℕ) → k + 1 < length ranks → AreOfOneEdge (slice_index ranks k) (slice_index ranks (k + 1))
+      → slice_index_or marks (slice_index ranks k % MOST_UPDATES) false ≡ true
+
+-- each update is marked of whose edge there is a later one
+pub record AreOverruled (updates : List Update) (marks : List Bool) : Type 0 where
+  pub count : length marks ≡ length updates
+  pub each : (i : ℕ) (x : Update) → i < length updates → slice_index_or marks i false ≡ list_any (same_edge (slice_index_or updates i x)) (drop (i + 1) updates)

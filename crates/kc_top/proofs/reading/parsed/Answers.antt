@@ -1,0 +1,31 @@
+-- The bytes are what was parsed.
+use Rattle.std.proofs.Common.{refl, sym, ap, ◌∙◌}
+use Rattle.kc_text.specs.Meaning.{meaning}
+use Rattle.kc_top.proofs.Sound.{counted, edges_within}
+use Rattle.kc_top.proofs.Stopping.{IsRefusalOf-refused}
+use Rattle.kc_top.proofs.reading.parsed.Goals as goal
+
+pub returns-in-Ok-clause-input : goal.returns-in-Ok-clause-input
+returns-in-Ok-clause-input c =
+    let (told, means, is) = c.in-Ok.ensures.input in
+    record {
+      bytes = c.args.bytes.items;
+      read = refl;
+      told = told;
+      means = ap meaning (sym c.deref.ensures.value) ∙ means;
+      is = is;
+      sound = record {
+        few_ids = c.in-Ok.ensures.few;
+        edges = edges_within told c.in-Ok.input is;
+        few_batches = c.in-Ok.ensures.few_batches;
+        counted = counted told c.in-Ok.input is;
+        short_batches = c.in-Ok.ensures.short;
+        batches = c.in-Ok.ensures.batches;
+      };
+    }
+
+pub returns-in-Err-Refused-clause-stopped : goal.returns-in-Err-Refused-clause-stopped
+returns-in-Err-Refused-clause-stopped c =
+    let refused = rw c.in-Err-Refused.field-0-is at c.in-Err-Refused.ensures.refused in
+    IsRefusalOf-refused c.refused.result c.in-Err-Refused.refusal.line c.in-Err-Refused.refusal.kind c.args.bytes.items c.refused.ensures
+    (ap meaning (sym c.deref.ensures.value) ∙ refused c.in-Err-Refused.refusal refl)

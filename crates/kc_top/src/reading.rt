@@ -1,0 +1,94 @@
+//! The input of a run.
+ghost use Rattle.std.specs.Prelude.{◌≡◌, ◌≤◌, IfErr, IfOk, IfSome, None, OnOk, Some, is_some, length, true};
+ghost use Rattle.std.specs.Io.KnownBytes.{IsAtEnd};
+ghost use Rattle.kc_report.specs.Generator.{generated};
+ghost use Rattle.kc_text.specs.declared.limits.TheConstants.{MOST_BYTES};
+ghost use Rattle.kc_top.specs.Given.{generated_or};
+ghost use Rattle.kc_top.specs.Inputs.{IsReadFrom};
+ghost use Rattle.kc_top.specs.Stops.{HasNoText, IsRefusalOf};
+
+use crate::ending::{Stop, refused};
+use kc_io::source::{ReadAllFault, Source, read_all};
+use kc_report::generate;
+use kc_text::{Input, Kind, MOST_BYTES, ParseFault, Refusal, parse};
+use std::alloc::Global;
+
+/// The input as a whole has too many bytes.
+const TOO_LONG: Refusal = Refusal {
+    line: 0,
+    kind: Kind::TooLong,
+};
+
+/// All bytes of the source.
+fn bytes_from<S: Source>(alloc: Global, source: &mut S) -> Result<Vec<u8>, Stop>
+    ensures bytes { IfOk result (λ bytes. IfSome (S.left source.old) (λ known. bytes.items ≡ known)) }
+    ensures few { IfOk result (λ bytes. length bytes.items ≤ MOST_BYTES) }
+    ensures read { OnOk result (IsAtEnd (S.left source.new)) }
+    ensures stopped { IfErr result (λ stop. HasNoText stop (S.left source.old) (S.faults source.old) (S.faults source.new)) }
+{
+    match read_all(alloc, source) {
+        Ok(bytes) => Ok(bytes),
+        Err(ReadAllFault::ReadFault) => Err(Stop::ReadFault),
+        Err(ReadAllFault::TooLong) => Err(refused(alloc, TOO_LONG)),
+        Err(ReadAllFault::NoMemory) => Err(Stop::NoMemory),
+    }
+}
+
+/// The bytes that are generated for the number.
+fn generated_bytes(alloc: Global, number: u32) -> Result<Vec<u8>, Stop>
+    ensures bytes { IfOk result (λ bytes. bytes.items ≡ generated number) }
+    ensures few { IfOk result (λ bytes. length bytes.items ≤ MOST_BYTES) }
+    ensures stopped { IfErr result (λ stop. IsRefusalOf stop (generated number)) }
+{
+    let bytes = generate(alloc, number)?;
+    if bytes.len() > MOST_BYTES {
+        return Err(refused(alloc, TOO_LONG));
+    }
+    Ok(bytes)
+}
+
+/// The bytes of the input: those that are generated for the number, where there is one, or else all of the source.
+fn bytes_of<S: Source>(
+    alloc: Global,
+    generator: Option<u32>,
+    source: &mut S,
+) -> Result<Vec<u8>, Stop>
+    ensures bytes { IfOk result (λ bytes. IfSome (generated_or generator (S.left source.old)) (λ known. bytes.items ≡ known)) }
+    ensures few { IfOk result (λ bytes. length bytes.items ≤ MOST_BYTES) }
+    ensures read { OnOk result (generator ≡ None → IsAtEnd (S.left source.new)) }
+    ensures unread { is_some generator ≡ true → source.new ≡ source.old }
+    ensures stopped { IfErr result (λ stop. HasNoText stop (generated_or generator (S.left source.old)) (S.faults source.old) (S.faults source.new)) }
+{
+    match generator {
+        Some(number) => generated_bytes(alloc, number),
+        None => bytes_from(alloc, source),
+    }
+}
+
+/// The input that the bytes give, which are dropped.
+fn parsed(alloc: Global, bytes: Vec<u8>) -> Result<Input, Stop>
+    requires { length bytes.items ≤ MOST_BYTES }
+    ensures input { IfOk result (IsReadFrom (Some bytes.items)) }
+    ensures stopped { IfErr result (λ stop. IsRefusalOf stop bytes.items) }
+{
+    match parse(alloc, &bytes) {
+        Ok(input) => Ok(input),
+        Err(ParseFault::Refused(refusal)) => Err(refused(alloc, refusal)),
+        Err(ParseFault::NoMemory) => Err(Stop::NoMemory),
+    }
+}
+
+/// The input of the run, from the generator's number or the source.
+pub(crate) fn input_of<S: Source>(
+    alloc: Global,
+    generator: Option<u32>,
+    source: &mut S,
+) -> Result<Input, Stop>
+    ensures input { IfOk result (IsReadFrom (generated_or generator (S.left source.old))) }
+    ensures read { OnOk result (generator ≡ None → IsAtEnd (S.left source.new)) }
+    ensures unread { is_some generator ≡ true → source.new ≡ source.old }
+    ensures stopped { IfErr result (λ stop. HasNoText stop (generated_or generator (S.left source.old)) (S.faults source.old) (S.faults source.new)) }
+{
+    let bytes = bytes_of(alloc, generator, source)?;
+    parsed(alloc, bytes)
+}
