@@ -1,4 +1,13 @@
-//! Core numbers by rounds of h-indices.
+//! Core numbers by rounds, in as many threads as there are processors.
+//!
+//! Each vertex begins with its degree. In a round each takes the h-index of its neighbours' numbers, all at once: the greatest k for which
+//! at least k of them are at least k. Numbers never rise, and once a round changes none they are the core numbers (Lü, Zhou, Zhang and
+//! Stanley 2016). [`peel`] makes the rounds and says how many there were; [`lawful`] finds an order that certifies core numbers which are
+//! known, by one thread.
+//!
+//! `specs/Rounds.antt` says what an h-index is, what a round makes of numbers, and which round is the last; the other files there serve
+//! the crate's own proofs. The laws below have no code. That several threads ran is said by no clause; that the numbers and the count of
+//! rounds do not depend on it is. The crate stands on `kc_graph`, `kc_distinct` and `rayon`.
 #![tactic(auto)]
 
 mod counting;
@@ -7,6 +16,8 @@ mod ordering;
 mod peeling;
 mod place;
 mod rounds;
+#[cfg(test)]
+mod tests;
 
 ghost use Rattle.std.specs.Prelude.{◌≡◌, ◌≤◌, ◌<◌, ◌+◌, ℕ, suc, List};
 ghost use Rattle.kc_graph.specs.SimpleGraph.{SimpleGraph};
