@@ -1,5 +1,6 @@
 -- Batches between the numbers that stand for ids.
-use Rattle.std.proofs.Common.{◌≡◌, ◌≢◌, ◌≤◌, ◌<◌, ℕ, suc, zero, Bool, true, List, [], ◌∷◌, length, length-append, map, get_or, refl, sym, ap, subst, ◌∙◌, arith, nat_eq, eqb-true, eq-eqb, min, max, inl, inr, Vec, Global, None}
+use Rattle.std.proofs.Common.{◌≡◌, ◌≢◌, ◌≤◌, ◌<◌, ℕ, suc, zero, Bool, true, List, [], ◌∷◌, length, length-append, map, get_or, refl, sym, ap, subst, ◌∙◌}
+use Rattle.std.proofs.Common.{arith, nat_eq, eqb-true, eq-eqb, min, max, inl, inr, Vec, Global, None}
 use Rattle.std.specs.Prelude.{All}
 use Rattle.std.specs.List.{flat_map}
 use Rattle.std.specs.Set.{is_member}
@@ -30,7 +31,8 @@ pub record IsUpdate (ids : List ℕ) (u : Update) (c : Change) : Type 0 where
   pub least : u.u ≡ min (place ids c.a) (place ids c.b)
   pub most : u.v ≡ max (place ids c.a) (place ids c.b)
 
-pub update-at : (ids : List ℕ) (batch : List Change) (updates : List Update) → AreUpdates ids batch updates → AreAmong ids (ends (map ends_of batch)) → (i : ℕ) (d : Update) → i < length updates
+pub update-at : (ids : List ℕ) (batch : List Change) (updates : List Update) → AreUpdates ids batch updates → AreAmong ids (ends (map ends_of batch))
+    → (i : ℕ) (d : Update) → i < length updates
     → (i < length batch) × IsUpdate ids (get_or updates i d) (get_or batch i no_change)
 update-at ids batch updates same among i d l =
     let count : length updates ≡ length batch = sym (length-map updates parts_of) ∙ (ap (length) same ∙ length-map batch (numbered_change ids)) in
@@ -52,17 +54,21 @@ pub named-again : (ids : List ℕ) (u v : Update) (c d : Change) → IsUpdate id
 named-again ids u v c d p q e =
     let least : u.u ≡ v.u = ap (λ (x : ℕ × ℕ). x.0) e in
     let most : u.v ≡ v.v = ap (λ (x : ℕ × ℕ). x.1) e in
-    let same : Same (place ids d.a) (place ids d.b) (place ids c.a) (place ids c.b) ≡ true = parts-same (place ids d.a) (place ids d.b) (place ids c.a) (place ids c.b) (sym q.least ∙ (sym least ∙ p.least)) (sym q.most ∙ (sym most ∙ p.most)) in
+    let same : Same (place ids d.a) (place ids d.b) (place ids c.a) (place ids c.b) ≡ true =
+    parts-same (place ids d.a) (place ids d.b) (place ids c.a) (place ids c.b) (sym q.least ∙ (sym least ∙ p.least)) (sym q.most ∙ (sym most ∙ p.most)) in
     elim (or_cases _ _ same) [
       | inl k ↦
           let (x, y) = and_parts _ _ k in
-          or_left _ _ (and_from _ _ (eq-eqb d.a c.a (place-injective ids d.a c.a q.a-in (eqb-true _ _ x))) (eq-eqb d.b c.b (place-injective ids d.b c.b q.b-in (eqb-true _ _ y))))
+          or_left _ _ (and_from _ _ (eq-eqb d.a c.a (place-injective ids d.a c.a q.a-in (eqb-true _ _ x)))
+          (eq-eqb d.b c.b (place-injective ids d.b c.b q.b-in (eqb-true _ _ y))))
       | inr k ↦
           let (x, y) = and_parts _ _ k in
-          or_right _ _ (and_from _ _ (eq-eqb d.a c.b (place-injective ids d.a c.b q.a-in (eqb-true _ _ x))) (eq-eqb d.b c.a (place-injective ids d.b c.a q.b-in (eqb-true _ _ y))))
+          or_right _ _ (and_from _ _ (eq-eqb d.a c.b (place-injective ids d.a c.b q.a-in (eqb-true _ _ x)))
+          (eq-eqb d.b c.a (place-injective ids d.b c.a q.b-in (eqb-true _ _ y))))
     ]
 
-pub fit-updates : (ids : List ℕ) (batch : List Change) (updates : List Update) → AreUpdates ids batch updates → AreAmong ids (ends (map ends_of batch)) → NamesOnce batch → IsBatch (length ids) updates
+pub fit-updates : (ids : List ℕ) (batch : List Change) (updates : List Update) → AreUpdates ids batch updates → AreAmong ids (ends (map ends_of batch))
+    → NamesOnce batch → IsBatch (length ids) updates
 fit-updates ids batch updates same among once = record {
   within = λ i d l.
       let (l', is) = update-at ids batch updates same among i d l in
@@ -74,11 +80,15 @@ fit-updates ids batch updates same among once = record {
 }
 
 -- what holds of the lists holds of the vectors that keep them
-pub All-items : (P : List Change → Type 0) (vectors : List (Vec Change Global)) (lists : List (List Change)) → map (λ batch. batch.items) vectors ≡ lists → All P lists → All (λ batch. P batch.items) vectors
-All-items P vectors lists e h = λ i d l. subst P (ap (λ (t : List (List Change)). get_or t i d.items) (sym e) ∙ get_or-map (λ (batch : Vec Change Global). batch.items) vectors i d d.items l) (h i d.items (omega (arith, ap (length) e, length-map vectors (λ (batch : Vec Change Global). batch.items))))
+pub All-items : (P : List Change → Type 0) (vectors : List (Vec Change Global)) (lists : List (List Change)) → map (λ batch. batch.items) vectors ≡ lists
+    → All P lists → All (λ batch. P batch.items) vectors
+All-items P vectors lists e h = λ i d l. subst P (ap (λ (t : List (List Change)). get_or t i d.items) (sym e)
+    ∙ get_or-map (λ (batch : Vec Change Global). batch.items) vectors i d d.items l)
+    (h i d.items (omega (arith, ap (length) e, length-map vectors (λ (batch : Vec Change Global). batch.items))))
 
 -- the ids of a batch are among those of all
-ids-of_batch : (lists : List (List Change)) (i : ℕ) (d : List Change) (id : ℕ) → i < length lists → is_member nat_eq (ends (map ends_of (get_or lists i d))) id ≡ true
+ids-of_batch : (lists : List (List Change)) (i : ℕ) (d : List Change) (id : ℕ) → i < length lists
+    → is_member nat_eq (ends (map ends_of (get_or lists i d))) id ≡ true
     → is_member nat_eq (ends (map ends_of (flat_map (λ batch. batch) lists))) id ≡ true
 ids-of_batch [] i d id l h = absurd (omega arith)
 ids-of_batch (list ∷ lists) zero d id l h =
@@ -86,7 +96,8 @@ ids-of_batch (list ∷ lists) zero d id l h =
     ∙ list_any-append (nat_eq id) (ends (map ends_of list)) (ends (map ends_of (flat_map (λ batch. batch) lists))) ∙ or_left _ _ h
 ids-of_batch (list ∷ lists) (suc i) d id l h =
     ap (λ (t : List ℕ). is_member nat_eq t id) (ends-batches list (flat_map (λ batch. batch) lists))
-    ∙ list_any-append (nat_eq id) (ends (map ends_of list)) (ends (map ends_of (flat_map (λ batch. batch) lists))) ∙ or_right _ _ (ids-of_batch lists i d id (omega arith) h)
+    ∙ list_any-append (nat_eq id) (ends (map ends_of list)) (ends (map ends_of (flat_map (λ batch. batch) lists)))
+    ∙ or_right _ _ (ids-of_batch lists i d id (omega arith) h)
 
 pub among-edges : (told : Told) (ids : List ℕ) → AreIds (names told) ids → AreAmong ids (ends told.edges)
 among-edges told ids h = λ id m. h.exact id ∙ (ap (λ (t : List ℕ). is_member nat_eq t id) (ends-told told.edges (changes told))
@@ -103,7 +114,8 @@ batch-length (list ∷ lists) zero d l = omega (arith, length-append list (flat_
 batch-length (list ∷ lists) (suc i) d l = omega (arith, length-append list (flat_map (λ batch. batch) lists), batch-length lists i d (omega arith))
 
 -- what is made of each vector is made of each list
-pub made-of : {X : Type 0} (f : List Change → X) (vectors : List (Vec Change Global)) (lists : List (List Change)) → map (λ batch. batch.items) vectors ≡ lists → map (λ batch. f batch.items) vectors ≡ map f lists
+pub made-of : {X : Type 0} (f : List Change → X) (vectors : List (Vec Change Global)) (lists : List (List Change))
+    → map (λ batch. batch.items) vectors ≡ lists → map (λ batch. f batch.items) vectors ≡ map f lists
 made-of f vectors lists e = through vectors ∙ ap (map f) e
   where
     through : (vectors : List (Vec Change Global)) → map (λ batch. f batch.items) vectors ≡ map f (map (λ batch. batch.items) vectors)
@@ -121,10 +133,12 @@ numbered_deciding ids batch = map (numbered_change ids) (deciding batch)
 updates-at : (ids : List ℕ) (updates : List (Vec Update Global)) (lists : List (List Change)) → parts_of_all updates ≡ map (numbered_deciding ids) lists
     → (i : ℕ) (d : Vec Update Global) → i < length updates → (i < length lists) × AreUpdates ids (deciding (get_or lists i [])) (get_or updates i d).items
 updates-at ids updates lists same i d l =
-    let count : length updates ≡ length lists = sym (length-map updates (λ (batch : Vec Update Global). map parts_of batch.items)) ∙ (ap (length) same ∙ length-map lists (numbered_deciding ids)) in
+    let count : length updates ≡ length lists = sym (length-map updates (λ (batch : Vec Update Global). map parts_of batch.items))
+    ∙ (ap (length) same ∙ length-map lists (numbered_deciding ids)) in
     let l' : i < length lists = omega arith in (
       l',
-      sym (get_or-map (λ (batch : Vec Update Global). map parts_of batch.items) updates i d (map parts_of d.items) l) ∙ ap (λ (t : List (List (Bool × ℕ × ℕ))). get_or t i (map parts_of d.items)) same
+      sym (get_or-map (λ (batch : Vec Update Global). map parts_of batch.items) updates i d (map parts_of d.items) l)
+          ∙ ap (λ (t : List (List (Bool × ℕ × ℕ))). get_or t i (map parts_of d.items)) same
           ∙ get_or-map (numbered_deciding ids) lists i [] (map parts_of d.items) l',
     )
 
@@ -137,12 +151,14 @@ fit-input ids updates lists same among = λ i d l.
     fit-updates ids (deciding batch) (get_or updates i d).items parts (deciding-among ids batch (among i [] l')) (deciding-once batch)
 
 -- each batch of updates is as short as the batch of changes
-short-input : (ids : List ℕ) (most : ℕ) (updates : List (Vec Update Global)) (lists : List (List Change)) → parts_of_all updates ≡ map (numbered_deciding ids) lists
+short-input : (ids : List ℕ) (most : ℕ) (updates : List (Vec Update Global)) (lists : List (List Change))
+    → parts_of_all updates ≡ map (numbered_deciding ids) lists
     → All (λ batch. length batch ≤ most) lists → All (λ batch. length batch.items ≤ most) updates
 short-input ids most updates lists same short = λ i d l.
     let (l', parts) = updates-at ids updates lists same i d l in
     let batch : List Change = get_or lists i [] in
-    let count : length (get_or updates i d).items ≡ length (deciding batch) = sym (length-map (get_or updates i d).items parts_of) ∙ (ap (length) parts ∙ length-map (deciding batch) (numbered_change ids)) in
+    let count : length (get_or updates i d).items ≡ length (deciding batch) = sym (length-map (get_or updates i d).items parts_of)
+    ∙ (ap (length) parts ∙ length-map (deciding batch) (numbered_change ids)) in
     omega (arith, deciding-count batch, short i [] l')
 
 -- what a reading has that ended with no refusal
@@ -155,7 +171,8 @@ pub record Accepted (bytes : List ℕ) (reading : Reading) : Type 0 where
   pub short : All (λ batch. length batch ≤ MOST_UPDATES) (batches told)
   pub apart : All HasNoLoops (batches told)
 
-pub accepted : (bytes : List ℕ) (reading : Reading) → (told : Told) × IsReading told reading × (meaning bytes ≡ outcome told reading.refusal) → reading.refusal ≡ None → Accepted bytes reading
+pub accepted : (bytes : List ℕ) (reading : Reading) → (told : Told) × IsReading told reading × (meaning bytes ≡ outcome told reading.refusal)
+    → reading.refusal ≡ None → Accepted bytes reading
 accepted bytes reading (told, read, ended) none =
     let means : meaning bytes ≡ Means told = ended ∙ ap (outcome told) none in
     let fit : AreFit told = meaning-fit bytes told means in
@@ -170,10 +187,13 @@ accepted bytes reading (told, read, ended) none =
     }
 
 pub accepted-edges : (bytes : List ℕ) (reading : Reading) → Accepted bytes reading → AreAmong reading.ids.items (ends reading.edges.items)
-accepted-edges bytes reading a = subst (λ (es : List (ℕ × ℕ)). AreAmong reading.ids.items (ends es)) (sym a.read.edges) (among-edges a.told reading.ids.items a.read.ids)
+accepted-edges bytes reading a = subst (λ (es : List (ℕ × ℕ)). AreAmong reading.ids.items (ends es)) (sym a.read.edges)
+    (among-edges a.told reading.ids.items a.read.ids)
 
-pub accepted-batches : (bytes : List ℕ) (reading : Reading) → Accepted bytes reading → All (λ batch. AreAmong reading.ids.items (ends (map ends_of batch.items))) reading.batches.items
-accepted-batches bytes reading a = All-items (λ batch. AreAmong reading.ids.items (ends (map ends_of batch))) reading.batches.items (batches a.told) a.read.batches (among-batches a.told reading.ids.items a.read.ids)
+pub accepted-batches : (bytes : List ℕ) (reading : Reading) → Accepted bytes reading
+    → All (λ batch. AreAmong reading.ids.items (ends (map ends_of batch.items))) reading.batches.items
+accepted-batches bytes reading a = All-items (λ batch. AreAmong reading.ids.items (ends (map ends_of batch))) reading.batches.items
+    (batches a.told) a.read.batches (among-batches a.told reading.ids.items a.read.ids)
 
 pub accepted-apart : (bytes : List ℕ) (reading : Reading) → Accepted bytes reading → All (λ batch. All (λ c. c.a ≢ c.b) batch.items) reading.batches.items
 accepted-apart bytes reading a = All-items HasNoLoops reading.batches.items (batches a.told) a.read.batches a.apart
@@ -189,13 +209,15 @@ pub record IsMadeOf (reading : Reading) (input : Input) : Type 0 where
   pub overruled : input.overruled.items ≡ map (λ batch. overruled batch.items) reading.batches.items
 
 -- its batches are those that were told
-made-parts : (bytes : List ℕ) (reading : Reading) (input : Input) → (a : Accepted bytes reading) → IsMadeOf reading input → parts_of_all input.batches.items ≡ map (numbered_deciding input.ids.items) (batches a.told)
+made-parts : (bytes : List ℕ) (reading : Reading) (input : Input) → (a : Accepted bytes reading) → IsMadeOf reading input
+    → parts_of_all input.batches.items ≡ map (numbered_deciding input.ids.items) (batches a.told)
 made-parts bytes reading input a is =
     is.batches ∙ (made-of (numbered_deciding reading.ids.items) reading.batches.items (batches a.told) a.read.batches
     ∙ ap (λ (ids : List ℕ). map (numbered_deciding ids) (batches a.told)) (sym is.ids))
 
 -- it is an input of what was told
-pub made : (bytes : List ℕ) (reading : Reading) (input : Input) → Accepted bytes reading → IsMadeOf reading input → (told : Told) × (meaning bytes ≡ Means told) × IsInput told input
+pub made : (bytes : List ℕ) (reading : Reading) (input : Input) → Accepted bytes reading → IsMadeOf reading input
+    → (told : Told) × (meaning bytes ≡ Means told) × IsInput told input
 made bytes reading input a is = (
   a.told,
   a.means,
@@ -208,27 +230,38 @@ made bytes reading input a is = (
   },
 )
 
-among-input : (bytes : List ℕ) (reading : Reading) (input : Input) → (a : Accepted bytes reading) → IsMadeOf reading input → All (λ batch. AreAmong input.ids.items (ends (map ends_of batch))) (batches a.told)
+among-input : (bytes : List ℕ) (reading : Reading) (input : Input) → (a : Accepted bytes reading) → IsMadeOf reading input
+    → All (λ batch. AreAmong input.ids.items (ends (map ends_of batch))) (batches a.told)
 among-input bytes reading input a is =
-    subst (λ (ids : List ℕ). All (λ batch. AreAmong ids (ends (map ends_of batch))) (batches a.told)) (sym is.ids) (among-batches a.told reading.ids.items a.read.ids)
+    subst (λ (ids : List ℕ). All (λ batch. AreAmong ids (ends (map ends_of batch))) (batches a.told)) (sym is.ids)
+    (among-batches a.told reading.ids.items a.read.ids)
 
-pub made-batches : (bytes : List ℕ) (reading : Reading) (input : Input) → Accepted bytes reading → IsMadeOf reading input → All (λ batch. IsBatch (length input.ids.items) batch.items) input.batches.items
-made-batches bytes reading input a is = fit-input input.ids.items input.batches.items (batches a.told) (made-parts bytes reading input a is) (among-input bytes reading input a is)
+pub made-batches : (bytes : List ℕ) (reading : Reading) (input : Input) → Accepted bytes reading → IsMadeOf reading input
+    → All (λ batch. IsBatch (length input.ids.items) batch.items) input.batches.items
+made-batches bytes reading input a is = fit-input input.ids.items input.batches.items (batches a.told) (made-parts bytes reading input a is)
+    (among-input bytes reading input a is)
 
-pub made-few_batches : (bytes : List ℕ) (reading : Reading) (input : Input) → Accepted bytes reading → IsMadeOf reading input → length input.batches.items ≤ MOST_BATCHES
+pub made-few_batches : (bytes : List ℕ) (reading : Reading) (input : Input) → Accepted bytes reading → IsMadeOf reading input
+    → length input.batches.items ≤ MOST_BATCHES
 made-few_batches bytes reading input a is =
-    let count : length input.batches.items ≡ length (batches a.told) = sym (length-map input.batches.items (λ (batch : Vec Update Global). map parts_of batch.items))
+    let count : length input.batches.items ≡ length (batches a.told) = sym
+    (length-map input.batches.items (λ (batch : Vec Update Global). map parts_of batch.items))
     ∙ (ap (length) (made-parts bytes reading input a is) ∙ length-map (batches a.told) (numbered_deciding input.ids.items)) in
     omega (arith, a.few_batches)
 
-pub made-short : (bytes : List ℕ) (reading : Reading) (input : Input) → Accepted bytes reading → IsMadeOf reading input → All (λ batch. length batch.items ≤ MOST_UPDATES) input.batches.items
-made-short bytes reading input a is = short-input input.ids.items MOST_UPDATES input.batches.items (batches a.told) (made-parts bytes reading input a is) a.short
+pub made-short : (bytes : List ℕ) (reading : Reading) (input : Input) → Accepted bytes reading → IsMadeOf reading input
+    → All (λ batch. length batch.items ≤ MOST_UPDATES) input.batches.items
+made-short bytes reading input a is = short-input input.ids.items MOST_UPDATES input.batches.items (batches a.told)
+    (made-parts bytes reading input a is) a.short
 
 -- no more changes are overruled than a batch has
-pub made-counts : (bytes : List ℕ) (reading : Reading) (input : Input) → Accepted bytes reading → IsMadeOf reading input → All (λ count. count ≤ MOST_UPDATES) input.overruled.items
+pub made-counts : (bytes : List ℕ) (reading : Reading) (input : Input) → Accepted bytes reading → IsMadeOf reading input
+    → All (λ count. count ≤ MOST_UPDATES) input.overruled.items
 made-counts bytes reading input a is =
-    let same : input.overruled.items ≡ map overruled (batches a.told) = is.overruled ∙ made-of overruled reading.batches.items (batches a.told) a.read.batches in
+    let same : input.overruled.items ≡ map overruled (batches a.told) = is.overruled
+    ∙ made-of overruled reading.batches.items (batches a.told) a.read.batches in
     λ i d l.
     let count : length input.overruled.items ≡ length (batches a.told) = ap (length) same ∙ length-map (batches a.told) overruled in
-    let is : get_or input.overruled.items i d ≡ overruled (get_or (batches a.told) i []) = ap (λ (t : List ℕ). get_or t i d) same ∙ get_or-map overruled (batches a.told) i [] d (omega arith) in
+    let is : get_or input.overruled.items i d ≡ overruled (get_or (batches a.told) i []) = ap (λ (t : List ℕ). get_or t i d) same
+    ∙ get_or-map overruled (batches a.told) i [] d (omega arith) in
     omega (arith, deciding-count (get_or (batches a.told) i []), a.short i [] (omega arith))

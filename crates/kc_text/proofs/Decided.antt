@@ -1,5 +1,6 @@
 -- The updates that decide are the changes that decide.
-use Rattle.std.proofs.Common.{◌≡◌, ◌≤◌, ◌<◌, ◌+◌, ◌-◌, ◌&&◌, ◌||◌, ℕ, suc, zero, Bool, true, false, cond, List, [], ◌∷◌, length, drop, map, get_or, refl, sym, ap, ap₂, subst, ◌∙◌, arith, nat_eq, eqb-true, eq-eqb, inl, inr, min, max, Vec, Global}
+use Rattle.std.proofs.Common.{◌≡◌, ◌≤◌, ◌<◌, ◌+◌, ◌-◌, ◌&&◌, ◌||◌, ℕ, suc, zero, Bool, true, false, cond, List, [], ◌∷◌, length, drop, map, get_or, refl, sym}
+use Rattle.std.proofs.Common.{ap, ap₂, subst, ◌∙◌, arith, nat_eq, eqb-true, eq-eqb, inl, inr, min, max, Vec, Global}
 use Rattle.std.specs.Prelude.{All}
 use Rattle.std.specs.Cmp.{both_ways}
 use Rattle.std.specs.List.{list_any}
@@ -42,7 +43,8 @@ same-named ids u v c d p q = both_ways _ _
     crossed a b = and_from _ _ (eq-eqb u.u v.u (omega (arith, p.least, q.least))) (eq-eqb u.v v.v (omega (arith, p.most, q.most)))
 
 -- the first update and the others
-head-update : (ids : List ℕ) (c : Change) (cs : List Change) (u : Update) (us : List Update) → AreUpdates ids (c ∷ cs) (u ∷ us) → AreAmong ids (ends (map ends_of (c ∷ cs))) → IsUpdate ids u c
+head-update : (ids : List ℕ) (c : Change) (cs : List Change) (u : Update) (us : List Update) → AreUpdates ids (c ∷ cs) (u ∷ us)
+    → AreAmong ids (ends (map ends_of (c ∷ cs))) → IsUpdate ids u c
 head-update ids c cs u us are among = (update-at ids (c ∷ cs) (u ∷ us) are among 0 u (omega arith)).1
 
 tail-updates : (ids : List ℕ) (c : Change) (cs : List Change) (u : Update) (us : List Update) → AreUpdates ids (c ∷ cs) (u ∷ us) → AreUpdates ids cs us
@@ -51,24 +53,29 @@ tail-updates ids c cs u us are = ap (drop 1) are
 tail-among : (ids : List ℕ) (c : Change) (cs : List Change) → AreAmong ids (ends (map ends_of (c ∷ cs))) → AreAmong ids (ends (map ends_of cs))
 tail-among ids c cs among = λ id h. among id (or_right (nat_eq id c.a) _ (or_right (nat_eq id c.b) _ h))
 
-any-same : (ids : List ℕ) (u : Update) (c : Change) (cs : List Change) (us : List Update) → IsUpdate ids u c → AreUpdates ids cs us → AreAmong ids (ends (map ends_of cs))
+any-same : (ids : List ℕ) (u : Update) (c : Change) (cs : List Change) (us : List Update) → IsUpdate ids u c → AreUpdates ids cs us
+    → AreAmong ids (ends (map ends_of cs))
     → list_any (same_edge u) us ≡ list_any (name_same c) cs
 any-same ids u c [] [] is are among = refl
 any-same ids u c [] (v ∷ us) is are among = absurd (omega (arith, ap (length) are))
 any-same ids u c (d ∷ cs) [] is are among = absurd (omega (arith, ap (length) are))
 any-same ids u c (d ∷ cs) (v ∷ us) is are among =
-    ap₂ (λ (x y : Bool). x || y) (same-named ids u v c d is (head-update ids d cs v us are among)) (any-same ids u c cs us is (tail-updates ids d cs v us are) (tail-among ids d cs among))
+    ap₂ (λ (x y : Bool). x || y) (same-named ids u v c d is (head-update ids d cs v us are among))
+    (any-same ids u c cs us is (tail-updates ids d cs v us are) (tail-among ids d cs among))
 
 -- the last updates of the edges are the changes that decide
-last-deciding : (ids : List ℕ) (cs : List Change) (us : List Update) → AreUpdates ids cs us → AreAmong ids (ends (map ends_of cs)) → AreUpdates ids (deciding cs) (last_of_edges us)
+last-deciding : (ids : List ℕ) (cs : List Change) (us : List Update) → AreUpdates ids cs us → AreAmong ids (ends (map ends_of cs))
+    → AreUpdates ids (deciding cs) (last_of_edges us)
 last-deciding ids [] [] are among = refl
 last-deciding ids [] (u ∷ us) are among = absurd (omega (arith, ap (length) are))
 last-deciding ids (c ∷ cs) [] are among = absurd (omega (arith, ap (length) are))
 last-deciding ids (c ∷ cs) (u ∷ us) are among =
     let rest : AreUpdates ids (deciding cs) (last_of_edges us) = last-deciding ids cs us (tail-updates ids c cs u us are) (tail-among ids c cs among) in
     let first : parts_of u ≡ numbered_change ids c = ap (λ (t : List (Bool × ℕ × ℕ)). get_or t 0 (parts_of u)) are in
-    ap (λ b. map parts_of (cond b (last_of_edges us) (u ∷ last_of_edges us))) (any-same ids u c cs us (head-update ids c cs u us are among) (tail-updates ids c cs u us are) (tail-among ids c cs among))
-    ∙ elim (list_any (name_same c) cs) as (λ b. map parts_of (cond b (last_of_edges us) (u ∷ last_of_edges us)) ≡ map (numbered_change ids) (cond b (deciding cs) (c ∷ deciding cs))) [
+    ap (λ b. map parts_of (cond b (last_of_edges us) (u ∷ last_of_edges us)))
+    (any-same ids u c cs us (head-update ids c cs u us are among) (tail-updates ids c cs u us are) (tail-among ids c cs among))
+    ∙ elim (list_any (name_same c) cs) as (λ b. map parts_of (cond b (last_of_edges us) (u ∷ last_of_edges us)) ≡ map (numbered_change ids)
+    (cond b (deciding cs) (c ∷ deciding cs))) [
       | true ↦ rest
       | false ↦ ap₂ (λ (x : Bool × ℕ × ℕ) (t : List (Bool × ℕ × ℕ)). x ∷ t) first rest
     ]
@@ -77,7 +84,8 @@ length-updates : (ids : List ℕ) (cs : List Change) (us : List Update) → AreU
 length-updates ids cs us are = sym (length-map us parts_of) ∙ (ap (length) are ∙ length-map cs (numbered_change ids))
 
 -- the other updates are those that are overruled
-count-overruled : (ids : List ℕ) (cs : List Change) (us : List Update) → AreUpdates ids cs us → AreAmong ids (ends (map ends_of cs)) → length us - length (last_of_edges us) ≡ overruled cs
+count-overruled : (ids : List ℕ) (cs : List Change) (us : List Update) → AreUpdates ids cs us → AreAmong ids (ends (map ends_of cs))
+    → length us - length (last_of_edges us) ≡ overruled cs
 count-overruled ids cs us are among =
     omega (arith, length-updates ids cs us are, length-updates ids (deciding cs) (last_of_edges us) (last-deciding ids cs us are among), deciding-count cs)
 
@@ -87,7 +95,8 @@ AreAllUpdates ids batches updates = parts_of_all updates ≡ map (λ batch. map 
 
 -- what follows for each batch of updates from its changes holds of all, and what is made of them is the same
 each-batch : (ids : List ℕ) (P : List Change → Type 0) (Q : List Update → Type 0) → ((cs : List Change) (us : List Update) → AreUpdates ids cs us → P cs → Q us)
-    → (batches : List (Vec Change Global)) (updates : List (Vec Update Global)) → AreAllUpdates ids batches updates → All (λ batch. P batch.items) batches → All (λ batch. Q batch.items) updates
+    → (batches : List (Vec Change Global)) (updates : List (Vec Update Global)) → AreAllUpdates ids batches updates → All (λ batch. P batch.items) batches
+    → All (λ batch. Q batch.items) updates
 each-batch ids P Q f [] [] are h = All-nil (λ batch. Q batch.items)
 each-batch ids P Q f [] (u ∷ us) are h = absurd (omega (arith, ap (length) are))
 each-batch ids P Q f (c ∷ cs) [] are h = absurd (omega (arith, ap (length) are))
@@ -95,7 +104,8 @@ each-batch ids P Q f (c ∷ cs) (u ∷ us) are h =
     All-cons (λ batch. Q batch.items) u us (f c.items u.items (ap (λ (t : List (List (Bool × ℕ × ℕ))). get_or t 0 []) are) (h 0 c (omega arith)))
     (each-batch ids P Q f cs us (ap (drop 1) are) (λ i d l. h (suc i) d (omega arith)))
 
-made-alike : {X : Type 0} (ids : List ℕ) (P : List Change → Type 0) (f : List Update → X) (g : List Change → X) → ((cs : List Change) (us : List Update) → AreUpdates ids cs us → P cs → f us ≡ g cs)
+made-alike : {X : Type 0} (ids : List ℕ) (P : List Change → Type 0) (f : List Update → X) (g : List Change → X)
+    → ((cs : List Change) (us : List Update) → AreUpdates ids cs us → P cs → f us ≡ g cs)
     → (batches : List (Vec Change Global)) (updates : List (Vec Update Global)) → AreAllUpdates ids batches updates → All (λ batch. P batch.items) batches
     → map (λ batch. f batch.items) updates ≡ map (λ batch. g batch.items) batches
 made-alike ids P f g same [] [] are h = refl
@@ -109,7 +119,8 @@ abbrev Among : List ℕ → List Change → Type 0
 Among ids batch = AreAmong ids (ends (map ends_of batch))
 
 -- the ends of all updates are below the number of ids
-pub all-within : (ids : List ℕ) (most : ℕ) (batches : List (Vec Change Global)) (updates : List (Vec Update Global)) → length ids ≤ most → AreAllUpdates ids batches updates
+pub all-within : (ids : List ℕ) (most : ℕ) (batches : List (Vec Change Global)) (updates : List (Vec Update Global)) → length ids ≤ most
+    → AreAllUpdates ids batches updates
     → All (λ batch. AreAmong ids (ends (map ends_of batch.items))) batches → All (λ batch. All (λ update. update.v < most) batch.items) updates
 all-within ids most batches updates few are among = each-batch ids (Among ids) (All (λ update. update.v < most)) (λ cs us same h i d l.
     let (l', is) = update-at ids cs us same h i d l in
@@ -118,17 +129,23 @@ all-within ids most batches updates few are among = each-batch ids (Among ids) (
 -- the batches of updates are as short as those of changes
 pub all-short : (ids : List ℕ) (most : ℕ) (batches : List (Vec Change Global)) (updates : List (Vec Update Global)) → AreAllUpdates ids batches updates
     → All (λ batch. length batch.items ≤ most) batches → All (λ batch. length batch.items ≤ most) updates
-all-short ids most batches updates are short = each-batch ids (λ batch. length batch ≤ most) (λ batch. length batch ≤ most) (λ cs us same h. omega (arith, length-updates ids cs us same)) batches updates are short
+all-short ids most batches updates are short = each-batch ids (λ batch. length batch ≤ most) (λ batch. length batch ≤ most)
+    (λ cs us same h. omega (arith, length-updates ids cs us same)) batches updates are short
 
 -- the updates that decide are the changes that decide
-pub all-deciding : (ids : List ℕ) (batches : List (Vec Change Global)) (updates decided : List (Vec Update Global)) → AreAllUpdates ids batches updates → All (λ batch. AreAmong ids (ends (map ends_of batch.items))) batches
-    → map (λ batch. batch.items) decided ≡ map (λ batch. last_of_edges batch.items) updates → parts_of_all decided ≡ map (λ batch. map (numbered_change ids) (deciding batch.items)) batches
+pub all-deciding : (ids : List ℕ) (batches : List (Vec Change Global)) (updates decided : List (Vec Update Global)) → AreAllUpdates ids batches updates
+    → All (λ batch. AreAmong ids (ends (map ends_of batch.items))) batches
+    → map (λ batch. batch.items) decided ≡ map (λ batch. last_of_edges batch.items) updates
+    → parts_of_all decided ≡ map (λ batch. map (numbered_change ids) (deciding batch.items)) batches
 all-deciding ids batches updates decided are among found =
     sym (map-map (map parts_of) (λ (batch : Vec Update Global). batch.items) decided)
     ∙ (ap (map (map parts_of)) found ∙ (map-map (map parts_of) (λ (batch : Vec Update Global). last_of_edges batch.items) updates
-    ∙ made-alike ids (Among ids) (λ us. map parts_of (last_of_edges us)) (λ cs. map (numbered_change ids) (deciding cs)) (last-deciding ids) batches updates are among))
+    ∙ made-alike ids (Among ids) (λ us. map parts_of (last_of_edges us)) (λ cs. map (numbered_change ids) (deciding cs))
+    (last-deciding ids) batches updates are among))
 
 -- and the others are overruled
-pub all-overruled : (ids : List ℕ) (batches : List (Vec Change Global)) (updates : List (Vec Update Global)) → AreAllUpdates ids batches updates → All (λ batch. AreAmong ids (ends (map ends_of batch.items))) batches
+pub all-overruled : (ids : List ℕ) (batches : List (Vec Change Global)) (updates : List (Vec Update Global)) → AreAllUpdates ids batches updates
+    → All (λ batch. AreAmong ids (ends (map ends_of batch.items))) batches
     → map (λ batch. length batch.items - length (last_of_edges batch.items)) updates ≡ map (λ batch. overruled batch.items) batches
-all-overruled ids batches updates are among = made-alike ids (Among ids) (λ us. length us - length (last_of_edges us)) overruled (count-overruled ids) batches updates are among
+all-overruled ids batches updates are among = made-alike ids (Among ids) (λ us. length us - length (last_of_edges us)) overruled
+    (count-overruled ids) batches updates are among

@@ -25,7 +25,8 @@ pub few-batch : (told : Told) → NamesFew (with_line told said.Batch) → Names
 few-batch told few = subst (λ (t : List ℕ). distinct_count nat_eq t ≤ MOST_IDS) (names-batch told) few
 
 -- a reader that is exact was exact a line before
-pub exact-before : (old new : Reader) (line : Line) → told_by new ≡ with_line (told_by old) line → is_some new.ids ≡ is_some old.ids → (NamesFew (with_line (told_by old) line) → NamesFew (told_by old)) → IsExact new → IsExact old
+pub exact-before : (old new : Reader) (line : Line) → told_by new ≡ with_line (told_by old) line → is_some new.ids ≡ is_some old.ids
+    → (NamesFew (with_line (told_by old) line) → NamesFew (told_by old)) → IsExact new → IsExact old
 exact-before old new line told same few (inl exact) = inl (sym same ∙ exact)
 exact-before old new line told same few (inr is) = inr (few (subst NamesFew told is))
 

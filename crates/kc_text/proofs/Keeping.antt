@@ -12,10 +12,12 @@ use Rattle.kc_text.proofs.Counts.{NamesMore, has_more, over_is}
 use Rattle.kc_text.proofs.Telling.{changes-more, names-change, names-edge}
 use Rattle.kc_text.specs.declared.limits.TheConstants.{MOST_IDS, MOST_EDGE_LINES, MOST_UPDATES, MOST_BATCHES}
 
-names-after_edge : (old new : Reader) (a b : ℕ) → told_by new ≡ with_line (told_by old) (said.Edge a b) → NamesMore (names (told_by old)) (names (told_by new)) a b
+names-after_edge : (old new : Reader) (a b : ℕ) → told_by new ≡ with_line (told_by old) (said.Edge a b)
+    → NamesMore (names (told_by old)) (names (told_by new)) a b
 names-after_edge old new a b told = subst (λ (t : Told). NamesMore (names (told_by old)) (names t) a b) (sym told) (names-edge (told_by old) a b)
 
-names-after_change : (old new : Reader) (c : Change) → told_by new ≡ with_line (told_by old) (said.Change c) → NamesMore (names (told_by old)) (names (told_by new)) c.a c.b
+names-after_change : (old new : Reader) (c : Change) → told_by new ≡ with_line (told_by old) (said.Change c)
+    → NamesMore (names (told_by old)) (names (told_by new)) c.a c.b
 names-after_change old new c told = subst (λ (t : Told). NamesMore (names (told_by old)) (names t) c.a c.b) (sym told) (names-change (told_by old) c)
 
 -- what a reader was told, with other edges, or with another last batch
@@ -25,17 +27,20 @@ with_edges reader edges = record { edges = edges; earlier = (told_by reader).ear
 abbrev pub with_last : Reader → Option (List Change) → Told
 with_last reader last = record { edges = (told_by reader).edges; earlier = (told_by reader).earlier; last = last }
 
-pub keeps-edge : (old new : Reader) (a b : ℕ) → told_by new ≡ with_line (told_by old) (said.Edge a b) → new.changes ≡ old.changes → Gains old.ids new.ids a b → IsKept old → IsKept new
+pub keeps-edge : (old new : Reader) (a b : ℕ) → told_by new ≡ with_line (told_by old) (said.Edge a b) → new.changes ≡ old.changes → Gains old.ids new.ids a b
+    → IsKept old → IsKept new
 keeps-edge old new a b told same gains kept = record {
   ids = has_more old.ids new.ids (names (told_by old)) (names (told_by new)) a b (names-after_edge old new a b told) gains kept.ids;
   changes = same ∙ kept.changes ∙ sym (ap (λ (t : Told). length (changes t)) told);
 }
 
-pub keeps-change : (old new : Reader) (c : Change) → told_by new ≡ with_line (told_by old) (said.Change c) → new.changes ≡ old.changes + 1 → Gains old.ids new.ids c.a c.b → IsKept old → IsKept new
+pub keeps-change : (old new : Reader) (c : Change) → told_by new ≡ with_line (told_by old) (said.Change c) → new.changes ≡ old.changes + 1
+    → Gains old.ids new.ids c.a c.b → IsKept old → IsKept new
 keeps-change old new c told more gains kept = record {
   ids = has_more old.ids new.ids (names (told_by old)) (names (told_by new)) c.a c.b (names-after_change old new c told) gains kept.ids;
   changes =
-      let grown : length (changes (told_by new)) ≡ length (changes (told_by old) ++ c ∷ []) = ap (λ (t : Told). length (changes t)) told ∙ ap (length) (changes-more (told_by old) c) in
+      let grown : length (changes (told_by new)) ≡ length (changes (told_by old) ++ c ∷ []) = ap (λ (t : Told). length (changes t)) told
+      ∙ ap (length) (changes-more (told_by old) c) in
       omega (arith, kept.changes, length-append (changes (told_by old)) (c ∷ []));
 }
 
@@ -44,6 +49,7 @@ pub limit-found : (reader : Reader) (many edge_lines updates batch_lines : Bool)
     → updates ≡ nat_lt MOST_UPDATES reader.changes → batch_lines ≡ nat_lt MOST_BATCHES (length (batches (told_by reader)))
     → first_limit many edge_lines updates batch_lines ≡ passed_limit (told_by reader)
 limit-found reader many edge_lines updates batch_lines kept unique exact m e u b =
-    ap₂ (λ (x y : Bool). first_limit x y updates batch_lines) (m ∙ over_is reader.ids (names (told_by reader)) kept.ids unique (elim exact [ inl is ↦ inl is | inr few ↦ inr few ])) e
+    ap₂ (λ (x y : Bool). first_limit x y updates batch_lines) (m ∙ over_is reader.ids (names (told_by reader)) kept.ids unique
+    (elim exact [ inl is ↦ inl is | inr few ↦ inr few ])) e
     ∙ ap₂ (λ (x y : Bool). first_limit (nat_lt MOST_IDS (distinct_count nat_eq (names (told_by reader))))
     (nat_lt MOST_EDGE_LINES (length (told_by reader).edges)) x y) (u ∙ ap (nat_lt MOST_UPDATES) kept.changes) b

@@ -24,13 +24,15 @@ none-at p batch none = λ i d l. elim (cases_Bool (p (get_or batch i d))) [
 -- changes that name one pair name the same changes
 named-alike : (c d : Change) (batch : List Change) → name_same c d ≡ true → list_any (name_same c) batch ≡ list_any (name_same d) batch
 named-alike c d [] same = refl
-named-alike c d (e ∷ batch) same = ap (λ t. t || list_any (name_same c) batch) (name_same-congr c d e same) ∙ ap (λ t. name_same d e || t) (named-alike c d batch same)
+named-alike c d (e ∷ batch) same = ap (λ t. t || list_any (name_same c) batch) (name_same-congr c d e same)
+    ∙ ap (λ t. name_same d e || t) (named-alike c d batch same)
 
 -- what is named by a batch is named by the changes that decide, and the other way round
 pub deciding-names : (q : Change) (batch : List Change) → list_any (name_same q) (deciding batch) ≡ list_any (name_same q) batch
 deciding-names q [] = refl
 deciding-names q (c ∷ rest) =
-    elim (list_any (name_same c) rest) as (λ b. list_any (name_same c) rest ≡ b → list_any (name_same q) (cond b (deciding rest) (c ∷ deciding rest)) ≡ (name_same q c || list_any (name_same q) rest)) [
+    elim (list_any (name_same c) rest) as (λ b. list_any (name_same c) rest ≡ b
+    → list_any (name_same q) (cond b (deciding rest) (c ∷ deciding rest)) ≡ (name_same q c || list_any (name_same q) rest)) [
       | true ↦ λ again. deciding-names q rest ∙ sym (absorbed again)
       | false ↦ λ _. ap (λ t. name_same q c || t) (deciding-names q rest)
     ] refl
@@ -48,22 +50,26 @@ deciding-once (c ∷ rest) =
     elim (list_any (name_same c) rest) as (λ b. list_any (name_same c) rest ≡ b → NamesOnce (cond b (deciding rest) (c ∷ deciding rest))) [
       | true ↦ λ _. deciding-once rest
       | false ↦ λ none. AllPairs-cons (λ c d. name_same d c ≡ false) c (deciding rest)
-          (λ i d l. name_same-flip (get_or (deciding rest) i d) c ∙ none-at (name_same c) (deciding rest) (deciding-names c rest ∙ none) i d l) (deciding-once rest)
+          (λ i d l. name_same-flip (get_or (deciding rest) i d) c ∙ none-at (name_same c) (deciding rest) (deciding-names c rest ∙ none) i d l)
+          (deciding-once rest)
     ] refl
 
 -- each change decides or is overruled
 pub deciding-count : (batch : List Change) → length (deciding batch) + overruled batch ≡ length batch
 deciding-count [] = refl
 deciding-count (c ∷ rest) =
-    elim (list_any (name_same c) rest) as (λ b. length (cond b (deciding rest) (c ∷ deciding rest)) + cond b (overruled rest + 1) (overruled rest) ≡ suc (length rest)) [
+    elim (list_any (name_same c) rest) as (λ b. length (cond b (deciding rest) (c ∷ deciding rest)) + cond b (overruled rest + 1) (overruled rest) ≡ suc
+    (length rest)) [
       | true ↦ omega (arith, deciding-count rest)
       | false ↦ omega (arith, deciding-count rest)
     ]
 
-deciding-ends : (batch : List Change) (id : ℕ) → is_member nat_eq (ends (map ends_of (deciding batch))) id ≡ true → is_member nat_eq (ends (map ends_of batch)) id ≡ true
+deciding-ends : (batch : List Change) (id : ℕ) → is_member nat_eq (ends (map ends_of (deciding batch))) id ≡ true
+    → is_member nat_eq (ends (map ends_of batch)) id ≡ true
 deciding-ends [] id = λ h. h
 deciding-ends (c ∷ rest) id =
-    elim (list_any (name_same c) rest) as (λ b. is_member nat_eq (ends (map ends_of (cond b (deciding rest) (c ∷ deciding rest)))) id ≡ true → is_member nat_eq (ends (map ends_of (c ∷ rest))) id ≡ true) [
+    elim (list_any (name_same c) rest) as (λ b. is_member nat_eq (ends (map ends_of (cond b (deciding rest) (c ∷ deciding rest)))) id ≡ true
+    → is_member nat_eq (ends (map ends_of (c ∷ rest))) id ≡ true) [
       | true ↦ λ h. further (deciding-ends rest id h)
       | false ↦ λ h. elim (or_cases _ _ h) [
         | inl first ↦ or_left (nat_eq id c.a) _ first

@@ -1,5 +1,6 @@
 -- Updates that are overruled are found beside one another among the sorted ranks.
-use Rattle.std.proofs.Common.{◌≡◌, ◌≤◌, ◌<◌, ◌+◌, ◌*◌, ◌-◌, ◌/◌, ◌%◌, ℕ, suc, zero, Bool, true, false, List, length, drop, get_or, refl, sym, ap, ap₂, subst, ◌∙◌, arith, nat_eq, eqb-true, eq-eqb, inl, inr, length-drop, Result, Ok, Err}
+use Rattle.std.proofs.Common.{◌≡◌, ◌≤◌, ◌<◌, ◌+◌, ◌*◌, ◌-◌, ◌/◌, ◌%◌, ℕ, suc, zero, Bool, true, false, List, length, drop, get_or, refl, sym, ap, ap₂, subst}
+use Rattle.std.proofs.Common.{◌∙◌, arith, nat_eq, eqb-true, eq-eqb, inl, inr, length-drop, Result, Ok, Err}
 use Rattle.std.specs.Prelude.{All, Contains, IfOk}
 use Rattle.std.specs.Cmp.{both_ways}
 use Rattle.std.specs.List.{list_any}
@@ -28,7 +29,8 @@ rank-edge : (x : Update) (i : ℕ) → i < MOST_UPDATES → rank x i / MOST_UPDA
 rank-edge x i l = omega arith
 
 -- ranks of one edge are of updates of one edge
-edge-same : (x y : Update) (i j : ℕ) → x.v < MOST_IDS → y.v < MOST_IDS → i < MOST_UPDATES → j < MOST_UPDATES → rank x i / MOST_UPDATES ≡ rank y j / MOST_UPDATES → same_edge x y ≡ true
+edge-same : (x y : Update) (i j : ℕ) → x.v < MOST_IDS → y.v < MOST_IDS → i < MOST_UPDATES → j < MOST_UPDATES
+    → rank x i / MOST_UPDATES ≡ rank y j / MOST_UPDATES → same_edge x y ≡ true
 edge-same x y i j lx ly li lj e =
     let same : x.u * MOST_IDS + x.v ≡ y.u * MOST_IDS + y.v = sym (rank-edge x i li) ∙ (e ∙ rank-edge y j lj) in
     and_from _ _ (eq-eqb x.u y.u (omega arith)) (eq-eqb x.v y.v (omega arith))
@@ -47,7 +49,8 @@ record LastOf (xs : List ℕ) (a b : ℕ) : Type 0 where
   above : a < get_or xs (at + 1) 0
   reach : get_or xs (at + 1) 0 ≤ b
 
-last-of : (xs : List ℕ) (a b n t : ℕ) → IsNonDecreasingBy (λ (x : ℕ). x) xs → t + n < length xs → get_or xs t 0 ≡ a → get_or xs (t + n) 0 ≡ b → a < b → LastOf xs a b
+last-of : (xs : List ℕ) (a b n t : ℕ) → IsNonDecreasingBy (λ (x : ℕ). x) xs → t + n < length xs → get_or xs t 0 ≡ a → get_or xs (t + n) 0 ≡ b → a < b
+    → LastOf xs a b
 last-of xs a b zero t up l first last less = absurd (omega (arith, ap (λ k. get_or xs k 0) (let e : t + 0 ≡ t = omega arith in e)))
 last-of xs a b (suc n) t up l first last less = elim (cases_lt a (get_or xs (t + 1) 0)) [
   | inl above ↦ record {
@@ -104,22 +107,30 @@ rank-of updates ranks sorted are k l =
     record { place = i; within = l'; is = sym e ∙ (get_or_default ranks i (get_or sorted k 0) 0 li ∙ are.ranked.each i no_update l') }
 
 -- the rank of an update is among the sorted ones
-sorted-has : (updates : List Update) (ranks sorted : List ℕ) → AreSorted updates ranks sorted → (i : ℕ) (x : Update) → i < length updates → Contains sorted (rank (get_or updates i x) i)
+sorted-has : (updates : List Update) (ranks sorted : List ℕ) → AreSorted updates ranks sorted → (i : ℕ) (x : Update) → i < length updates
+    → Contains sorted (rank (get_or updates i x) i)
 sorted-has updates ranks sorted are i x l =
     Contains-permutation ranks sorted _ are.moved (subst (Contains ranks) (are.ranked.each i x l) (Contains-get_or ranks i 0 (omega (arith, are.ranked.count))))
 
 -- a mark tells of a later update of the same edge
-marked-again : (updates : List Update) (ranks sorted : List ℕ) → AreSorted updates ranks sorted → (k i : ℕ) (x : Update) → i < length updates → k + 1 < length sorted
-    → AreOfOneEdge (get_or sorted k 0) (get_or sorted (k + 1) 0) → get_or sorted k 0 % MOST_UPDATES ≡ i → list_any (same_edge (get_or updates i x)) (drop (i + 1) updates) ≡ true
+marked-again : (updates : List Update) (ranks sorted : List ℕ) → AreSorted updates ranks sorted → (k i : ℕ) (x : Update) → i < length updates
+    → k + 1 < length sorted
+    → AreOfOneEdge (get_or sorted k 0) (get_or sorted (k + 1) 0) → get_or sorted k 0 % MOST_UPDATES ≡ i
+    → list_any (same_edge (get_or updates i x)) (drop (i + 1) updates) ≡ true
 marked-again updates ranks sorted are k i x l lk (less, edge) at =
     let first = rank-of updates ranks sorted are k (omega arith) in
     let next = rank-of updates ranks sorted are (k + 1) lk in
-    let here : first.place ≡ i = sym (rank-place (get_or updates first.place no_update) first.place (omega (arith, first.within, are.short))) ∙ (ap (λ r. r % MOST_UPDATES) (sym first.is) ∙ at) in
-    let ranks-of_one : rank (get_or updates first.place no_update) first.place / MOST_UPDATES ≡ rank (get_or updates next.place no_update) next.place / MOST_UPDATES =
+    let here : first.place ≡ i = sym (rank-place (get_or updates first.place no_update) first.place (omega (arith, first.within, are.short)))
+    ∙ (ap (λ r. r % MOST_UPDATES) (sym first.is) ∙ at) in
+    let ranks-of_one : rank (get_or updates first.place no_update) first.place / MOST_UPDATES ≡ rank
+    (get_or updates next.place no_update) next.place / MOST_UPDATES =
     ap (λ r. r / MOST_UPDATES) (sym first.is) ∙ (edge ∙ ap (λ r. r / MOST_UPDATES) next.is) in
-    let same : same_edge (get_or updates first.place no_update) (get_or updates next.place no_update) ≡ true = edge-same (get_or updates first.place no_update) (get_or updates next.place no_update) first.place next.place
-    (are.ends first.place no_update first.within) (are.ends next.place no_update next.within) (omega (arith, first.within, are.short)) (omega (arith, next.within, are.short)) ranks-of_one in
-    let a : rank (get_or updates first.place no_update) first.place < rank (get_or updates next.place no_update) next.place = omega (arith, first.is, next.is) in
+    let same : same_edge (get_or updates first.place no_update) (get_or updates next.place no_update) ≡ true =
+    edge-same (get_or updates first.place no_update) (get_or updates next.place no_update) first.place next.place
+    (are.ends first.place no_update first.within) (are.ends next.place no_update next.within) (omega (arith, first.within, are.short))
+    (omega (arith, next.within, are.short)) ranks-of_one in
+    let a : rank (get_or updates first.place no_update) first.place < rank (get_or updates next.place no_update) next.place =
+    omega (arith, first.is, next.is) in
     let below : first.place < next.place = omega (
       arith,
       a,
@@ -128,20 +139,24 @@ marked-again updates ranks sorted are k i x l lk (less, edge) at =
       ranks-of_one,
     ) in
     let j : ℕ = next.place - (i + 1) in
-    let there : get_or (drop (i + 1) updates) j no_update ≡ get_or updates next.place no_update = get_or-drop (i + 1) updates j no_update ∙ ap (λ n. get_or updates n no_update) (let e : i + 1 + j ≡ next.place = omega arith in e) in
-    let mine : get_or updates i x ≡ get_or updates first.place no_update = get_or_default updates i x no_update l ∙ ap (λ n. get_or updates n no_update) (sym here) in
+    let there : get_or (drop (i + 1) updates) j no_update ≡ get_or updates next.place no_update = get_or-drop (i + 1) updates j no_update
+    ∙ ap (λ n. get_or updates n no_update) (let e : i + 1 + j ≡ next.place = omega arith in e) in
+    let mine : get_or updates i x ≡ get_or updates first.place no_update = get_or_default updates i x no_update l
+    ∙ ap (λ n. get_or updates n no_update) (sym here) in
     list_any_at (same_edge (get_or updates i x)) (drop (i + 1) updates) j no_update (omega (arith, length-drop (i + 1) updates, next.within))
     (ap₂ same_edge mine there ∙ same)
 
 -- a rank before a greater one of the same edge is marked
-mark-found : (sorted : List ℕ) (marks : List Bool) (x : Update) (i b : ℕ) → MarksFollowed sorted marks → i < MOST_UPDATES → rank x i / MOST_UPDATES ≡ b / MOST_UPDATES → LastOf sorted (rank x i) b
+mark-found : (sorted : List ℕ) (marks : List Bool) (x : Update) (i b : ℕ) → MarksFollowed sorted marks → i < MOST_UPDATES
+    → rank x i / MOST_UPDATES ≡ b / MOST_UPDATES → LastOf sorted (rank x i) b
     → get_or marks i false ≡ true
 mark-found sorted marks x i b followed l edge t =
     let next : get_or sorted t.at 0 / MOST_UPDATES ≡ get_or sorted (t.at + 1) 0 / MOST_UPDATES = omega (arith, edge, t.is, t.above, t.reach) in
     subst (λ n. get_or marks n false ≡ true) (place-at (get_or sorted t.at 0) x i l t.is) (followed.complete t.at t.within (omega (arith, t.is, t.above), next))
 
 -- an update with a later one of the same edge is marked
-again-marked : (updates : List Update) (ranks sorted : List ℕ) (marks : List Bool) → AreSorted updates ranks sorted → MarksFollowed sorted marks → (i : ℕ) (x : Update) → i < length updates
+again-marked : (updates : List Update) (ranks sorted : List ℕ) (marks : List Bool) → AreSorted updates ranks sorted → MarksFollowed sorted marks
+    → (i : ℕ) (x : Update) → i < length updates
     → list_any (same_edge (get_or updates i x)) (drop (i + 1) updates) ≡ true → get_or marks i false ≡ true
 again-marked updates ranks sorted marks are followed i x l again =
     let (k, y, lk, ey, same) = Any-from_list_any (same_edge (get_or updates i x)) (drop (i + 1) updates) again in
@@ -152,19 +167,22 @@ again-marked updates ranks sorted marks are followed i x l again =
     let b : ℕ = rank (get_or updates j y) j in
     let li : i < MOST_UPDATES = omega (arith, are.short) in
     let lj' : j < MOST_UPDATES = omega (arith, are.short, lj) in
-    let edge : a / MOST_UPDATES ≡ b / MOST_UPDATES = same-edge (get_or updates i x) (get_or updates j y) i j li lj' (ap (same_edge (get_or updates i x)) there ∙ same) in
+    let edge : a / MOST_UPDATES ≡ b / MOST_UPDATES = same-edge (get_or updates i x) (get_or updates j y) i j li lj'
+    (ap (same_edge (get_or updates i x)) there ∙ same) in
     let less : a < b = omega (arith, edge, rank-place (get_or updates i x) i li, rank-place (get_or updates j y) j lj') in
     let s = stand sorted a b are.up (sorted-has updates ranks sorted are i x l) (sorted-has updates ranks sorted are j y lj) less in
     mark-found sorted marks (get_or updates i x) i b followed li edge (last-of sorted a b s.gap s.first are.up s.within s.is s.there less)
 
 -- the places of the ranks are those of updates
-pub places-within : (updates : List Update) (ranks sorted : List ℕ) → length updates ≤ MOST_UPDATES → AreRanks updates ranks → IsPermutation ranks sorted → All (λ r. r % MOST_UPDATES < length updates) sorted
+pub places-within : (updates : List Update) (ranks sorted : List ℕ) → length updates ≤ MOST_UPDATES → AreRanks updates ranks → IsPermutation ranks sorted
+    → All (λ r. r % MOST_UPDATES < length updates) sorted
 places-within updates ranks sorted short ranked moved = All-permutation (λ r. r % MOST_UPDATES < length updates) ranks sorted moved (λ i d l.
     let l' : i < length updates = omega (arith, ranked.count) in
     omega (arith, get_or_default ranks i d 0 l, ranked.each i no_update l', rank-place (get_or updates i no_update) i (omega arith)))
 
 -- what is marked among the sorted ranks is overruled
-pub overruled-are : (updates : List Update) (ranks sorted : List ℕ) (marks : List Bool) → All (λ update. update.v < MOST_IDS) updates → length updates ≤ MOST_UPDATES → AreRanks updates ranks → IsPermutation ranks sorted
+pub overruled-are : (updates : List Update) (ranks sorted : List ℕ) (marks : List Bool) → All (λ update. update.v < MOST_IDS) updates
+    → length updates ≤ MOST_UPDATES → AreRanks updates ranks → IsPermutation ranks sorted
     → IsNonDecreasingBy (λ (x : ℕ). x) sorted → length marks ≡ length updates → MarksFollowed sorted marks → AreOverruled updates marks
 overruled-are updates ranks sorted marks ends short ranked moved up count followed =
     let are : AreSorted updates ranks sorted = record { ends = ends; short = short; ranked = ranked; moved = moved; up = up } in

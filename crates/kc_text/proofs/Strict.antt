@@ -1,5 +1,6 @@
 -- Where no batch names a pair twice, the stricter rule gives the same meaning.
-use Rattle.std.proofs.Common.{◌≡◌, ℕ, ◌+◌, suc, Bool, true, false, cond, List, [], ◌∷◌, ◌++◌, length, length-append, get_or, refl, sym, ap, subst, ◌∙◌, arith, nat_lt, Option, Some, None}
+use Rattle.std.proofs.Common.{◌≡◌, ℕ, ◌+◌, suc, Bool, true, false, cond, List, [], ◌∷◌, ◌++◌, length, length-append, get_or, refl, sym, ap, subst, ◌∙◌, arith}
+use Rattle.std.proofs.Common.{nat_lt, Option, Some, None}
 use Rattle.std.specs.Prelude.{All, ◌↔◌, unwrap_or}
 use Rattle.std.specs.List.{list_any}
 use Rattle.std.specs.Option.{option_map, option_to_list}
@@ -16,8 +17,10 @@ use Rattle.kc_text.specs.declared.line.Line.{Line}
 use Rattle.kc_text.specs.declared.line.Line.TheVariants as said
 use Rattle.kc_text.specs.Batches.{NamesOnce}
 use Rattle.kc_text.specs.Forms.{all_said}
-use Rattle.kc_text.specs.Meaning.{Told, Means, Refuses, batches, ends_or, meaning, name_same, nothing_told, or_else, passed_limit, reading, refusal, unfit, with_line}
-use Rattle.kc_text.specs.NamedOnce.{Cause, Ends, IsRefused, NamesAgain, StrictMeaning, Tells, cause_of, cause_or, ends_at, strict_meaning, strict_reading, was_named}
+use Rattle.kc_text.specs.Meaning.{Told, Means, Refuses, batches, ends_or, meaning, name_same, nothing_told, or_else, passed_limit, reading, refusal, unfit}
+use Rattle.kc_text.specs.Meaning.{with_line}
+use Rattle.kc_text.specs.NamedOnce.{Cause, Ends, IsRefused, NamesAgain, StrictMeaning, Tells, cause_of, cause_or, ends_at, strict_meaning, strict_reading}
+use Rattle.kc_text.specs.NamedOnce.{was_named}
 use Rattle.kc_text.specs.Overruling.{deciding, overruled}
 use Rattle.kc_text.specs.declared.limits.TheConstants.{MOST_BYTES}
 use Rattle.kc_text.proofs.Overruled.{none-at, once-deciding, once-overruled}
@@ -55,13 +58,15 @@ once-after_change earlier (Some batch) c fit new once =
     All-append NamesOnce earlier ((batch ++ c ∷ []) ∷ []) (All-front NamesOnce earlier (batch ∷ []) once)
     (All-cons NamesOnce (batch ++ c ∷ []) [] (once-push batch c (All-end NamesOnce earlier batch once) new) (All-nil NamesOnce))
 
-once-before_change : (earlier : List (List Change)) (last : Option (List Change)) (c : Change) → All NamesOnce (earlier ++ (unwrap_or last [] ++ c ∷ []) ∷ []) → All NamesOnce (earlier ++ option_to_list last)
+once-before_change : (earlier : List (List Change)) (last : Option (List Change)) (c : Change) → All NamesOnce (earlier ++ (unwrap_or last [] ++ c ∷ []) ∷ [])
+    → All NamesOnce (earlier ++ option_to_list last)
 once-before_change earlier None c h = All-append NamesOnce earlier [] (All-front NamesOnce earlier ((c ∷ []) ∷ []) h) (All-nil NamesOnce)
 once-before_change earlier (Some batch) c h =
     All-append NamesOnce earlier (batch ∷ []) (All-front NamesOnce earlier ((batch ++ c ∷ []) ∷ []) h)
     (All-cons NamesOnce batch [] (once-front batch c (All-end NamesOnce earlier (batch ++ c ∷ []) h)) (All-nil NamesOnce))
 
-new-before_change : (earlier : List (List Change)) (last : Option (List Change)) (c : Change) → All NamesOnce (earlier ++ (unwrap_or last [] ++ c ∷ []) ∷ []) → was_named last c ≡ false
+new-before_change : (earlier : List (List Change)) (last : Option (List Change)) (c : Change) → All NamesOnce (earlier ++ (unwrap_or last [] ++ c ∷ []) ∷ [])
+    → was_named last c ≡ false
 new-before_change earlier None c h = refl
 new-before_change earlier (Some batch) c h = once-end batch c (All-end NamesOnce earlier (batch ++ c ∷ []) h)
 
@@ -83,7 +88,8 @@ record Goes (told : Told) (c : Change) : Type 0 where
   new : was_named told.last c ≡ false
   within : passed_limit (with_line told (said.Change c)) ≡ None
 
-goes-parts : (fit : Option Kind) (again : Bool) (limit : Option Kind) → cause_or (option_map IsRefused fit) (cond again (Some NamesAgain) (option_map IsRefused limit)) ≡ None → (fit ≡ None) × (again ≡ false) × (limit ≡ None)
+goes-parts : (fit : Option Kind) (again : Bool) (limit : Option Kind) → cause_or (option_map IsRefused fit)
+    (cond again (Some NamesAgain) (option_map IsRefused limit)) ≡ None → (fit ≡ None) × (again ≡ false) × (limit ≡ None)
 goes-parts (Some kind) again limit h = absurd (cc)
 goes-parts None true limit h = absurd (cc)
 goes-parts None false limit h = (refl, refl, none-of limit h)
@@ -115,12 +121,15 @@ goes-on told (said.Edge a b) h once = ap (option_map IsRefused) h
 goes-on told said.Batch h once = ap (option_map IsRefused) h
 goes-on told (said.Change c) h once =
     let (fit, within) = both_none (unfit told.last c) (passed_limit (with_line told (said.Change c))) h in
-    ap (λ r. cause_or (option_map IsRefused r) (cond (was_named told.last c) (Some NamesAgain) (option_map IsRefused (passed_limit (with_line told (said.Change c)))))) fit
-    ∙ (ap (λ b. cond b (Some NamesAgain) (option_map IsRefused (passed_limit (with_line told (said.Change c))))) (new-before_change told.earlier told.last c once) ∙ ap (option_map IsRefused) within)
+    ap (λ r. cause_or (option_map IsRefused r) (cond (was_named told.last c) (Some NamesAgain)
+    (option_map IsRefused (passed_limit (with_line told (said.Change c)))))) fit
+    ∙ (ap (λ b. cond b (Some NamesAgain) (option_map IsRefused (passed_limit (with_line told (said.Change c)))))
+    (new-before_change told.earlier told.last c once) ∙ ap (option_map IsRefused) within)
 goes-on told (said.Wrong kind) h once = absurd (cc)
 
 -- what the lines tell by the stricter rule they mean, and no batch names a pair twice
-from-strict : (done : ℕ) (told : Told) (lines : List Line) (all : Told) → Once told → strict_reading done told lines ≡ Tells all → (reading done told lines ≡ Means all) × Once all
+from-strict : (done : ℕ) (told : Told) (lines : List Line) (all : Told) → Once told → strict_reading done told lines ≡ Tells all
+    → (reading done told lines ≡ Means all) × Once all
 from-strict done told [] all once h = let same : told ≡ all = cc in (ap Means same, subst Once same once)
 from-strict done told (line ∷ rest) all once h =
     elim (cause_of told line) as (λ r. cause_of told line ≡ r → ends_at r (done + 1) (strict_reading (done + 1) (with_line told line) rest) ≡ Tells all
@@ -132,18 +141,23 @@ from-strict done told (line ∷ rest) all once h =
     ] refl h
 
 -- the other way round: what they mean they tell by the stricter rule, if no batch names a pair twice
-to-strict : (done : ℕ) (told : Told) (lines : List Line) (all : Told) → reading done told lines ≡ Means all → Once all → (strict_reading done told lines ≡ Tells all) × Once told
+to-strict : (done : ℕ) (told : Told) (lines : List Line) (all : Told) → reading done told lines ≡ Means all → Once all
+    → (strict_reading done told lines ≡ Tells all) × Once told
 to-strict done told [] all h once = let same : told ≡ all = cc in (ap Tells same, subst Once (sym same) once)
 to-strict done told (line ∷ rest) all h once =
     elim (refusal told line) as (λ r. refusal told line ≡ r → ends_or r (done + 1) (reading (done + 1) (with_line told line) rest) ≡ Means all
     → (ends_at (cause_of told line) (done + 1) (strict_reading (done + 1) (with_line told line) rest) ≡ Tells all) × Once told) [
       | Some kind ↦ λ _ e. absurd (cc)
       | None ↦ λ none e.
-          let (tells, once') = to-strict (done + 1) (with_line told line) rest all e once in
-          (ap (λ r. ends_at r (done + 1) (strict_reading (done + 1) (with_line told line) rest)) (goes-on told line none once') ∙ tells, once-before told line once')
+          let (tells, once') = to-strict (done + 1) (with_line told line) rest all e once in (
+            ap (λ r. ends_at r (done + 1) (strict_reading (done + 1) (with_line told line) rest)) (goes-on told line none once')
+                ∙ tells,
+            once-before told line once',
+          )
     ] refl h
 
-refused-parts : (fit : Option Kind) (again : Bool) (limit : Option Kind) (kind : Kind) → cause_or (option_map IsRefused fit) (cond again (Some NamesAgain) (option_map IsRefused limit)) ≡ Some (IsRefused kind)
+refused-parts : (fit : Option Kind) (again : Bool) (limit : Option Kind) (kind : Kind)
+    → cause_or (option_map IsRefused fit) (cond again (Some NamesAgain) (option_map IsRefused limit)) ≡ Some (IsRefused kind)
     → or_else fit limit ≡ Some kind
 refused-parts (Some k) again limit kind h = cc
 refused-parts None true limit kind h = absurd (cc)
@@ -162,15 +176,18 @@ same-refusal told said.Batch kind h = refused-of (refusal told said.Batch) kind 
 same-refusal told (said.Change c) kind h = refused-parts (unfit told.last c) (was_named told.last c) (passed_limit (with_line told (said.Change c))) kind h
 same-refusal told (said.Wrong k) kind h = cc
 
-refused-strict : (done : ℕ) (told : Told) (lines : List Line) (at : ℕ) (kind : Kind) → strict_reading done told lines ≡ Ends at (IsRefused kind) → reading done told lines ≡ Refuses at kind
+refused-strict : (done : ℕ) (told : Told) (lines : List Line) (at : ℕ) (kind : Kind) → strict_reading done told lines ≡ Ends at (IsRefused kind)
+    → reading done told lines ≡ Refuses at kind
 refused-strict done told [] at kind h = absurd (cc)
 refused-strict done told (line ∷ rest) at kind h =
-    elim (cause_of told line) as (λ r. cause_of told line ≡ r → ends_at r (done + 1) (strict_reading (done + 1) (with_line told line) rest) ≡ Ends at (IsRefused kind)
+    elim (cause_of told line) as (λ r. cause_of told line ≡ r → ends_at r (done + 1) (strict_reading (done + 1) (with_line told line) rest) ≡ Ends at
+    (IsRefused kind)
     → ends_or (refusal told line) (done + 1) (reading (done + 1) (with_line told line) rest) ≡ Refuses at kind) [
       | Some cause ↦ λ some e.
           let here : done + 1 ≡ at = cc in
           let why : cause ≡ IsRefused kind = cc in
-          ap (λ r. ends_or r (done + 1) (reading (done + 1) (with_line told line) rest)) (same-refusal told line kind (some ∙ ap (λ (cause : Cause). Some cause) why)) ∙ ap (λ n. Refuses n kind) here
+          ap (λ r. ends_or r (done + 1) (reading (done + 1) (with_line told line) rest))
+          (same-refusal told line kind (some ∙ ap (λ (cause : Cause). Some cause) why)) ∙ ap (λ n. Refuses n kind) here
       | None ↦ λ none e.
           ap (λ r. ends_or r (done + 1) (reading (done + 1) (with_line told line) rest)) (not-refused told line none)
           ∙ refused-strict (done + 1) (with_line told line) rest at kind e
@@ -181,7 +198,11 @@ same-strict bytes told = elim (nat_lt MOST_BYTES (length bytes)) as
     (λ b. (cond b (Ends 0 (IsRefused TooLong)) (strict_reading 0 nothing_told (all_said bytes)) ≡ Tells told)
     ↔ ((cond b (Refuses 0 TooLong) (reading 0 nothing_told (all_said bytes)) ≡ Means told) × All NamesOnce (batches told))) [
       | true ↦ (λ e. absurd (cc), λ both. let e = both.0 in absurd (cc))
-      | false ↦ (λ e. from-strict 0 nothing_told (all_said bytes) told (All-nil NamesOnce) e, λ both. (to-strict 0 nothing_told (all_said bytes) told both.0 both.1).0)
+      | false ↦ (
+        λ e. from-strict 0 nothing_told (all_said bytes) told (All-nil NamesOnce) e,
+        λ both.
+            (to-strict 0 nothing_told (all_said bytes) told both.0 both.1).0,
+      )
     ]
 
 pub same-refused : (bytes : List ℕ) (line : ℕ) (kind : Kind) → strict_meaning bytes ≡ Ends line (IsRefused kind) → meaning bytes ≡ Refuses line kind
@@ -193,7 +214,8 @@ same-refused bytes line kind = elim (nat_lt MOST_BYTES (length bytes)) as
     ]
 
 -- then all changes decide, and none is overruled
-pub all-decide : (bytes : List ℕ) (told : Told) → strict_meaning bytes ≡ Tells told → All (λ batch. (deciding batch ≡ batch) × (overruled batch ≡ 0)) (batches told)
+pub all-decide : (bytes : List ℕ) (told : Told) → strict_meaning bytes ≡ Tells told
+    → All (λ batch. (deciding batch ≡ batch) × (overruled batch ≡ 0)) (batches told)
 all-decide bytes told h = λ i d l.
     let once = ((same-strict bytes told).0 h).1 i d l in
     (once-deciding (get_or (batches told) i d) once, once-overruled (get_or (batches told) i d) once)

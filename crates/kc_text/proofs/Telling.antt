@@ -1,5 +1,6 @@
 -- What is told, one line after another.
-use Rattle.std.proofs.Common.{◌≡◌, ◌<◌, ◌+◌, ℕ, suc, zero, eq-eqb, Bool, ◌||◌, List, [], ◌∷◌, ◌++◌, length, map, take, get_or, Vec, Global, refl, sym, ap, subst, ◌∙◌, nat_eq, arith, append_assoc, append-nil, Option, Some, None, true, false}
+use Rattle.std.proofs.Common.{◌≡◌, ◌<◌, ◌+◌, ℕ, suc, zero, eq-eqb, Bool, ◌||◌, List, [], ◌∷◌, ◌++◌, length, map, take, get_or, Vec, Global, refl, sym, ap}
+use Rattle.std.proofs.Common.{subst, ◌∙◌, nat_eq, arith, append_assoc, append-nil, Option, Some, None, true, false}
 use Rattle.std.specs.Prelude.{unwrap_or}
 use Rattle.std.specs.Option.{option_to_list}
 use Rattle.std.specs.List.{flat_map}
@@ -20,7 +21,8 @@ all-append : (xs ys : List (List Change)) → all (xs ++ ys) ≡ all xs ++ all y
 all-append [] ys = refl
 all-append (x ∷ xs) ys = ap (λ t. x ++ t) (all-append xs ys) ∙ sym (append_assoc x (all xs) (all ys))
 
-all-last : (earlier : List (List Change)) (last : Option (List Change)) (c : Change) → all (earlier ++ (unwrap_or last [] ++ c ∷ []) ∷ []) ≡ all (earlier ++ option_to_list last) ++ c ∷ []
+all-last : (earlier : List (List Change)) (last : Option (List Change)) (c : Change)
+    → all (earlier ++ (unwrap_or last [] ++ c ∷ []) ∷ []) ≡ all (earlier ++ option_to_list last) ++ c ∷ []
 all-last earlier None c = all-append earlier ((c ∷ []) ∷ []) ∙ ap (λ t. t ++ c ∷ []) (sym (ap all (append-nil earlier)))
 all-last earlier (Some batch) c =
     all-append earlier ((batch ++ c ∷ []) ∷ []) ∙ ap (λ t. all earlier ++ t) (append-nil (batch ++ c ∷ []) ∙ ap (λ t. t ++ c ∷ []) (sym (append-nil batch)))
@@ -36,7 +38,8 @@ ends-append : (xs ys : List (ℕ × ℕ)) → ends (xs ++ ys) ≡ ends xs ++ end
 ends-append [] ys = refl
 ends-append (x ∷ xs) ys = ap (λ t. x.0 ∷ x.1 ∷ t) (ends-append xs ys)
 
-names-of : (edges pairs : List (ℕ × ℕ)) (q : ℕ) → is_member nat_eq (ends (edges ++ pairs)) q ≡ (is_member nat_eq (ends edges) q || is_member nat_eq (ends pairs) q)
+names-of : (edges pairs : List (ℕ × ℕ)) (q : ℕ) → is_member nat_eq (ends (edges ++ pairs)) q ≡
+    (is_member nat_eq (ends edges) q || is_member nat_eq (ends pairs) q)
 names-of edges pairs q = ap (λ t. is_member nat_eq t q) (ends-append edges pairs) ∙ list_any-append (nat_eq q) (ends edges) (ends pairs)
 
 or-assoc : (a b c d : Bool) → ((a || (b || c)) || d) ≡ (a || (b || (c || d)))
@@ -66,8 +69,10 @@ names-change told c =
 pub names-batch : (told : Told) → names (with_line told said.Batch) ≡ names told
 names-batch told = ap (λ (t : List Change). ends (told.edges ++ map ends_of t)) (changes-batch told)
 
-pub ends-changes : (cs : List Change) (i : ℕ) (d : Change) → i < length cs → ends (map ends_of (take (i + 1) cs)) ≡ (ends (map ends_of (take i cs)) ++ (get_or cs i d).a ∷ []) ++ (get_or cs i d).b ∷ []
-ends-changes cs i d l = ap (λ (t : List Change). ends (map ends_of t)) (take_more cs i d l) ∙ ap ends (map-last (take i cs) (get_or cs i d)) ∙ ends-push (map ends_of (take i cs)) (ends_of (get_or cs i d))
+pub ends-changes : (cs : List Change) (i : ℕ) (d : Change) → i < length cs
+    → ends (map ends_of (take (i + 1) cs)) ≡ (ends (map ends_of (take i cs)) ++ (get_or cs i d).a ∷ []) ++ (get_or cs i d).b ∷ []
+ends-changes cs i d l = ap (λ (t : List Change). ends (map ends_of t)) (take_more cs i d l) ∙ ap ends (map-last (take i cs) (get_or cs i d))
+    ∙ ends-push (map ends_of (take i cs)) (ends_of (get_or cs i d))
 
 pub ends-batches : (cs : List Change) (ds : List Change) → ends (map ends_of (cs ++ ds)) ≡ ends (map ends_of cs) ++ ends (map ends_of ds)
 ends-batches cs ds = ap ends (map-append ends_of cs ds) ∙ ends-append (map ends_of cs) (map ends_of ds)
@@ -76,7 +81,8 @@ pub ends-told : (edges : List (ℕ × ℕ)) (cs : List Change) → ends (edges +
 ends-told edges cs = ends-append edges (map ends_of cs)
 
 -- the changes of batches that are kept as vectors
-pub all-items : (batches : List (Vec Change Global)) → flat_map (λ batch. batch.items) batches ≡ flat_map (λ (batch : List Change). batch) (map (λ batch. batch.items) batches)
+pub all-items : (batches : List (Vec Change Global)) → flat_map (λ batch. batch.items) batches ≡ flat_map (λ (batch : List Change). batch)
+    (map (λ batch. batch.items) batches)
 all-items [] = refl
 all-items (batch ∷ batches) = ap (λ t. batch.items ++ t) (all-items batches)
 
@@ -89,13 +95,24 @@ all-more batches i batch l e =
     ∙ ap (λ t. flat_map (λ (b : Vec Change Global). b.items) (take i batches) ++ t) (append-nil batch.items)
 
 -- the ends of a change are among the ends of all
-pub change_ends : (cs : List Change) (i : ℕ) (d : Change) → i < length cs → (is_member nat_eq (ends (map ends_of cs)) (get_or cs i d).a ≡ true) × (is_member nat_eq (ends (map ends_of cs)) (get_or cs i d).b ≡ true)
+pub change_ends : (cs : List Change) (i : ℕ) (d : Change) → i < length cs
+    → (is_member nat_eq (ends (map ends_of cs)) (get_or cs i d).a ≡ true) × (is_member nat_eq (ends (map ends_of cs)) (get_or cs i d).b ≡ true)
 change_ends [] i d l = absurd (omega arith)
-change_ends (c ∷ cs) zero d l = (or_left (nat_eq c.a c.a) _ (eq-eqb c.a c.a refl), or_right (nat_eq c.b c.a) _ (or_left (nat_eq c.b c.b) _ (eq-eqb c.b c.b refl)))
-change_ends (c ∷ cs) (suc i) d l = let (a, b) = change_ends cs i d (omega arith) in (or_right (nat_eq (get_or cs i d).a c.a) _ (or_right (nat_eq (get_or cs i d).a c.b) _ a), or_right (nat_eq (get_or cs i d).b c.a) _ (or_right (nat_eq (get_or cs i d).b c.b) _ b))
+change_ends (c ∷ cs) zero d l = (
+  or_left (nat_eq c.a c.a) _ (eq-eqb c.a c.a refl),
+  or_right (nat_eq c.b c.a) _
+      (or_left (nat_eq c.b c.b) _ (eq-eqb c.b c.b refl)),
+)
+change_ends (c ∷ cs) (suc i) d l = let (a, b) = change_ends cs i d (omega arith) in (
+  or_right (nat_eq (get_or cs i d).a c.a) _ (or_right (nat_eq (get_or cs i d).a c.b) _ a),
+  or_right (nat_eq (get_or cs i d).b c.a) _
+      (or_right (nat_eq (get_or cs i d).b c.b) _ b),
+)
 
 -- what is made of one batch more
-pub map-more : {X : Type 0} (f : Vec Change Global → X) (batches : List (Vec Change Global)) (i : ℕ) (batch : Vec Change Global) → i < length batches → batch ≡ get_or batches i batch
+pub map-more : {X : Type 0} (f : Vec Change Global → X) (batches : List (Vec Change Global)) (i : ℕ) (batch : Vec Change Global) → i < length batches
+    → batch ≡ get_or batches i batch
     → map f (take (i + 1) batches) ≡ map f (take i batches) ++ f batch ∷ []
 map-more f batches i batch l e =
-    ap (map f) (take_more batches i batch l) ∙ (map-append f (take i batches) (get_or batches i batch ∷ []) ∙ ap (λ (b : Vec Change Global). map f (take i batches) ++ f b ∷ []) (sym e))
+    ap (map f) (take_more batches i batch l) ∙ (map-append f (take i batches) (get_or batches i batch ∷ [])
+    ∙ ap (λ (b : Vec Change Global). map f (take i batches) ++ f b ∷ []) (sym e))

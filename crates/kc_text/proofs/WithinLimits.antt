@@ -1,5 +1,6 @@
 -- What is read fits: it is within the limits, and no change is a loop.
-use Rattle.std.proofs.Common.{◌≡◌, ◌≢◌, ◌≤◌, ◌+◌, ℕ, Bool, true, false, cond, List, [], ◌∷◌, ◌++◌, length, ap, sym, subst, ◌∙◌, arith, nat_eq, nat_lt, ltb-false, inl, inr, Option, Some, None, refl}
+use Rattle.std.proofs.Common.{◌≡◌, ◌≢◌, ◌≤◌, ◌+◌, ℕ, Bool, true, false, cond, List, [], ◌∷◌, ◌++◌, length, ap, sym, subst, ◌∙◌, arith, nat_eq, nat_lt}
+use Rattle.std.proofs.Common.{ltb-false, inl, inr, Option, Some, None, refl}
 use Rattle.std.specs.Prelude.{All, IfSome, is_some, unwrap_or}
 use Rattle.std.specs.Option.{option_to_list}
 use Rattle.std.specs.Set.{distinct_count}
@@ -11,7 +12,8 @@ use Rattle.kc_text.specs.declared.kind.Kind.TheVariants.{LoopInBatch, EdgeLineIn
 use Rattle.kc_text.specs.declared.line.Line.{Line}
 use Rattle.kc_text.specs.declared.line.Line.TheVariants as said
 use Rattle.kc_text.specs.Forms.{all_said}
-use Rattle.kc_text.specs.Meaning.{Told, Means, Refuses, batches, changes, ends_or, first_limit, meaning, names, nothing_told, or_else, passed_limit, reading, refusal, unfit, with_line}
+use Rattle.kc_text.specs.Meaning.{Told, Means, Refuses, batches, changes, ends_or, first_limit, meaning, names, nothing_told, or_else, passed_limit, reading}
+use Rattle.kc_text.specs.Meaning.{refusal, unfit, with_line}
 use Rattle.kc_text.specs.declared.limits.TheConstants.{MOST_IDS, MOST_EDGE_LINES, MOST_UPDATES, MOST_BATCHES, MOST_BYTES}
 
 -- no change is a loop
@@ -29,7 +31,8 @@ pub record AreFit (told : Told) : Type 0 where
   pub earlier : All HasNoLoops told.earlier
   pub last : IfSome told.last HasNoLoops
 
-not-first_limit : (ids edge_lines updates batch_lines : Bool) → first_limit ids edge_lines updates batch_lines ≡ None → (ids ≡ false) × (updates ≡ false) × (batch_lines ≡ false)
+not-first_limit : (ids edge_lines updates batch_lines : Bool) → first_limit ids edge_lines updates batch_lines ≡ None
+    → (ids ≡ false) × (updates ≡ false) × (batch_lines ≡ false)
 not-first_limit true edge_lines updates batch_lines h = absurd (cc)
 not-first_limit false true updates batch_lines h = absurd (cc)
 not-first_limit false false true batch_lines h = absurd (cc)
@@ -61,21 +64,33 @@ fit-change : (last : Option (List Change)) (c : Change) → IfSome last HasNoLoo
 fit-change None c h fit = absurd (let e : Some UpdateOutsideBatch ≡ None = fit in cc)
 fit-change (Some batch) c h fit = All-push (λ c. c.a ≢ c.b) batch c h (fits batch c fit)
 
-pub fit-batches : (earlier : List (List Change)) (last : Option (List Change)) → All HasNoLoops earlier → IfSome last HasNoLoops → All HasNoLoops (earlier ++ option_to_list last)
+pub fit-batches : (earlier : List (List Change)) (last : Option (List Change)) → All HasNoLoops earlier → IfSome last HasNoLoops
+    → All HasNoLoops (earlier ++ option_to_list last)
 fit-batches earlier None h l = All-append HasNoLoops earlier [] h (All-nil HasNoLoops)
 fit-batches earlier (Some batch) h l = All-append HasNoLoops earlier (batch ∷ []) h (All-cons HasNoLoops batch [] l (All-nil HasNoLoops))
 
 -- an edge line that is taken passes no limit
 pub edge_taken : (told : Told) (a b : ℕ) → refusal told (said.Edge a b) ≡ None → passed_limit (with_line told (said.Edge a b)) ≡ None
-edge_taken told a b h = elim (is_some told.last) as (λ t. cond t (Some EdgeLineInBatch) (passed_limit (with_line told (said.Edge a b))) ≡ None → passed_limit (with_line told (said.Edge a b)) ≡ None) [
-  | true ↦ λ e. absurd (cc)
-  | false ↦ λ e. e
-] h
+edge_taken told a b h = elim (is_some told.last) as (λ t. cond t (Some EdgeLineInBatch) (passed_limit (with_line told (said.Edge a b))) ≡ None
+    → passed_limit (with_line told (said.Edge a b)) ≡ None) [
+      | true ↦ λ e. absurd (cc)
+      | false ↦ λ e. e
+    ] h
 
 after_line : (told : Told) (line : Line) → AreFit told → refusal told line ≡ None → AreFit (with_line told line)
 after_line told said.Nothing fit h = fit
-after_line told (said.Edge a b) fit h = record { within = not_over (with_line told (said.Edge a b)) (edge_taken told a b h); earlier = fit.earlier; last = fit.last }
-after_line told said.Batch fit h = record { within = not_over (with_line told said.Batch) h; earlier = fit-batches told.earlier told.last fit.earlier fit.last; last = All-nil (λ (c : Change). c.a ≢ c.b) }
+after_line told (said.Edge a b) fit h = record {
+  within = not_over (with_line told (said.Edge a b)) (edge_taken told a b h);
+  earlier = fit.earlier;
+  last =
+      fit.last;
+}
+after_line told said.Batch fit h = record {
+  within = not_over (with_line told said.Batch) h;
+  earlier =
+      fit-batches told.earlier told.last fit.earlier fit.last;
+  last = All-nil (λ (c : Change). c.a ≢ c.b);
+}
 after_line told (said.Change c) fit h =
     let (unfit', limit) = both_none (unfit told.last c) (passed_limit (with_line told (said.Change c))) h in
     record { within = not_over (with_line told (said.Change c)) limit; earlier = fit.earlier; last = fit-change told.last c fit.last unfit' }
@@ -93,5 +108,6 @@ pub meaning-fit : (bytes : List ℕ) (all : Told) → meaning bytes ≡ Means al
 meaning-fit bytes all h = elim (nat_lt MOST_BYTES (length bytes)) as
     (λ b. cond b (Refuses 0 TooLong) (reading 0 nothing_told (all_said bytes)) ≡ Means all → AreFit all) [
       | true ↦ λ e. absurd (cc)
-      | false ↦ λ e. reading-fit 0 nothing_told (all_said bytes) all (record { within = record { ids = omega arith; changes = omega arith; batch_lines = omega arith }; earlier = All-nil HasNoLoops; last = tt }) e
+      | false ↦ λ e. reading-fit 0 nothing_told (all_said bytes) all (record
+          { within = record { ids = omega arith; changes = omega arith; batch_lines = omega arith }; earlier = All-nil HasNoLoops; last = tt }) e
     ] h

@@ -17,7 +17,8 @@ value digits = fold (λ n b. 10 * n + (b - 48)) 0 digits
 
 -- the number that a field spells, or what is wrong with it
 abbrev pub number : List ℕ → Result ℕ Kind
-number field = if list_all is_digit field && is_not_empty field then (if nat_le (value field) 4294967295 then Ok (value field) else Err NumberTooLarge) else Err NotANumber
+number field = if list_all is_digit field && is_not_empty field then (if nat_le (value field) 4294967295 then Ok (value field) else Err NumberTooLarge) else
+    Err NotANumber
 
 -- the number is the last of its line
 abbrev pub last_number : ℕ → Result ℕ Kind → List (List ℕ) → Result (ℕ × ℕ) Kind

@@ -5,7 +5,8 @@ use Rattle.std.specs.Option.{option_to_list, unwrap_or}
 use Rattle.std.specs.Set.{distinct_count}
 use Rattle.kc_text.specs.declared.change.Change as change
 use Rattle.kc_text.specs.declared.kind.Kind.{Kind}
-use Rattle.kc_text.specs.declared.kind.Kind.TheVariants.{LoopInBatch, UpdateOutsideBatch, EdgeLineInBatch, TooManyVertices, TooManyEdgeLines, TooManyUpdates, TooManyBatches, TooLong}
+use Rattle.kc_text.specs.declared.kind.Kind.TheVariants.{LoopInBatch, UpdateOutsideBatch, EdgeLineInBatch, TooManyVertices, TooManyEdgeLines, TooManyUpdates}
+use Rattle.kc_text.specs.declared.kind.Kind.TheVariants.{TooManyBatches, TooLong}
 use Rattle.kc_text.specs.declared.line.Line.{Line}
 use Rattle.kc_text.specs.declared.line.Line.TheVariants.{Nothing, Edge, Batch, Change, Wrong}
 use Rattle.kc_text.specs.Forms.{all_said}

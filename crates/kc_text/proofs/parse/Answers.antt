@@ -7,12 +7,14 @@ use Rattle.kc_text.specs.Meaning.{ends, ends_of}
 use Rattle.kc_text.specs.Inputs.{AreAmong, AreEdges, parts_of, start_graph}
 use Rattle.kc_text.specs.Overruling.{overruled}
 use Rattle.std.specs.Prelude.{All}
-use Rattle.kc_text.proofs.Batched.{IsMadeOf, accepted, accepted-apart, accepted-batches, accepted-edges, accepted-short, made, made-batches, made-counts, made-few_batches, made-short, numbered_deciding}
+use Rattle.kc_text.proofs.Batched.{IsMadeOf, accepted, accepted-apart, accepted-batches, accepted-edges, accepted-short, made, made-batches, made-counts}
+use Rattle.kc_text.proofs.Batched.{made-few_batches, made-short, numbered_deciding}
 use Rattle.kc_text.specs.declared.limits.TheConstants.{MOST_UPDATES}
 use Rattle.kc_text.proofs.parse.Goals as goal
 
 -- the lists that `input_of` had are those of the reading
-made_of : (reading : Reading) (input : Input) (edges : List (ℕ × ℕ)) (batches : List (Vec Change Global)) → edges ≡ reading.edges.items → batches ≡ reading.batches.items
+made_of : (reading : Reading) (input : Input) (edges : List (ℕ × ℕ)) (batches : List (Vec Change Global)) → edges ≡ reading.edges.items
+    → batches ≡ reading.batches.items
     → input.ids.items ≡ reading.ids.items → AreEdges (start_graph reading.ids.items edges) input.start.items
     → map (λ batch. map parts_of batch.items) input.batches.items ≡ map (λ batch. numbered_deciding reading.ids.items batch.items) batches
     → input.overruled.items ≡ map (λ batch. overruled batch.items) batches → IsMadeOf reading input
@@ -31,28 +33,33 @@ input_of-requires-clause-few c =
 pub input_of-requires-clause-edges : goal.input_of-requires-clause-edges
 input_of-requires-clause-edges c =
     let a = accepted c.args.bytes.now c.in_ok-reading.reading c.in_ok-reading.ensures c.in_default.is in
-    subst (λ (es : List (ℕ × ℕ)). AreAmong c.in_ok-reading.reading.ids.items (ends es)) (sym c.deref.ensures.value) (accepted-edges c.args.bytes.now c.in_ok-reading.reading a)
+    subst (λ (es : List (ℕ × ℕ)). AreAmong c.in_ok-reading.reading.ids.items (ends es)) (sym c.deref.ensures.value)
+    (accepted-edges c.args.bytes.now c.in_ok-reading.reading a)
 
 pub input_of-requires-clause-batches : goal.input_of-requires-clause-batches
 input_of-requires-clause-batches c =
     let a = accepted c.args.bytes.now c.in_ok-reading.reading c.in_ok-reading.ensures c.in_default.is in
-    subst (λ (bs : List (Vec Change Global)). All (λ batch. AreAmong c.in_ok-reading.reading.ids.items (ends (map ends_of batch.items))) bs) (sym c.deref-2.ensures.value) (accepted-batches c.args.bytes.now c.in_ok-reading.reading a)
+    subst (λ (bs : List (Vec Change Global)). All (λ batch. AreAmong c.in_ok-reading.reading.ids.items (ends (map ends_of batch.items))) bs)
+    (sym c.deref-2.ensures.value) (accepted-batches c.args.bytes.now c.in_ok-reading.reading a)
 
 pub input_of-requires-clause-apart : goal.input_of-requires-clause-apart
 input_of-requires-clause-apart c =
     let a = accepted c.args.bytes.now c.in_ok-reading.reading c.in_ok-reading.ensures c.in_default.is in
-    subst (λ (bs : List (Vec Change Global)). All (λ batch. All (λ c. c.a ≢ c.b) batch.items) bs) (sym c.deref-2.ensures.value) (accepted-apart c.args.bytes.now c.in_ok-reading.reading a)
+    subst (λ (bs : List (Vec Change Global)). All (λ batch. All (λ c. c.a ≢ c.b) batch.items) bs) (sym c.deref-2.ensures.value)
+    (accepted-apart c.args.bytes.now c.in_ok-reading.reading a)
 
 pub input_of-requires-clause-short : goal.input_of-requires-clause-short
 input_of-requires-clause-short c =
     let a = accepted c.args.bytes.now c.in_ok-reading.reading c.in_ok-reading.ensures c.in_default.is in
-    subst (λ (bs : List (Vec Change Global)). All (λ batch. length batch.items ≤ MOST_UPDATES) bs) (sym c.deref-2.ensures.value) (accepted-short c.args.bytes.now c.in_ok-reading.reading a)
+    subst (λ (bs : List (Vec Change Global)). All (λ batch. length batch.items ≤ MOST_UPDATES) bs) (sym c.deref-2.ensures.value)
+    (accepted-short c.args.bytes.now c.in_ok-reading.reading a)
 
 pub returns-clause-input : goal.returns-clause-input
 returns-clause-input c =
     let a = accepted c.args.bytes.now c.in_ok-reading.reading c.in_ok-reading.ensures c.in_default.is in
     made c.args.bytes.now c.in_ok-reading.reading c.in_ok-input_of.field-0 a
-    (made_of c.in_ok-reading.reading c.in_ok-input_of.field-0 _ _ c.deref.ensures.value c.deref-2.ensures.value c.in_ok-input_of.ensures.ids c.in_ok-input_of.ensures.start c.in_ok-input_of.ensures.batches c.in_ok-input_of.ensures.overruled)
+    (made_of c.in_ok-reading.reading c.in_ok-input_of.field-0 _ _ c.deref.ensures.value c.deref-2.ensures.value c.in_ok-input_of.ensures.ids
+    c.in_ok-input_of.ensures.start c.in_ok-input_of.ensures.batches c.in_ok-input_of.ensures.overruled)
 
 pub returns-clause-few : goal.returns-clause-few
 returns-clause-few c =
@@ -63,22 +70,26 @@ pub returns-clause-few_batches : goal.returns-clause-few_batches
 returns-clause-few_batches c =
     let a = accepted c.args.bytes.now c.in_ok-reading.reading c.in_ok-reading.ensures c.in_default.is in
     made-few_batches c.args.bytes.now c.in_ok-reading.reading c.in_ok-input_of.field-0 a
-    (made_of c.in_ok-reading.reading c.in_ok-input_of.field-0 _ _ c.deref.ensures.value c.deref-2.ensures.value c.in_ok-input_of.ensures.ids c.in_ok-input_of.ensures.start c.in_ok-input_of.ensures.batches c.in_ok-input_of.ensures.overruled)
+    (made_of c.in_ok-reading.reading c.in_ok-input_of.field-0 _ _ c.deref.ensures.value c.deref-2.ensures.value c.in_ok-input_of.ensures.ids
+    c.in_ok-input_of.ensures.start c.in_ok-input_of.ensures.batches c.in_ok-input_of.ensures.overruled)
 
 pub returns-clause-short : goal.returns-clause-short
 returns-clause-short c =
     let a = accepted c.args.bytes.now c.in_ok-reading.reading c.in_ok-reading.ensures c.in_default.is in
     made-short c.args.bytes.now c.in_ok-reading.reading c.in_ok-input_of.field-0 a
-    (made_of c.in_ok-reading.reading c.in_ok-input_of.field-0 _ _ c.deref.ensures.value c.deref-2.ensures.value c.in_ok-input_of.ensures.ids c.in_ok-input_of.ensures.start c.in_ok-input_of.ensures.batches c.in_ok-input_of.ensures.overruled)
+    (made_of c.in_ok-reading.reading c.in_ok-input_of.field-0 _ _ c.deref.ensures.value c.deref-2.ensures.value c.in_ok-input_of.ensures.ids
+    c.in_ok-input_of.ensures.start c.in_ok-input_of.ensures.batches c.in_ok-input_of.ensures.overruled)
 
 pub returns-clause-counts : goal.returns-clause-counts
 returns-clause-counts c =
     let a = accepted c.args.bytes.now c.in_ok-reading.reading c.in_ok-reading.ensures c.in_default.is in
     made-counts c.args.bytes.now c.in_ok-reading.reading c.in_ok-input_of.field-0 a
-    (made_of c.in_ok-reading.reading c.in_ok-input_of.field-0 _ _ c.deref.ensures.value c.deref-2.ensures.value c.in_ok-input_of.ensures.ids c.in_ok-input_of.ensures.start c.in_ok-input_of.ensures.batches c.in_ok-input_of.ensures.overruled)
+    (made_of c.in_ok-reading.reading c.in_ok-input_of.field-0 _ _ c.deref.ensures.value c.deref-2.ensures.value c.in_ok-input_of.ensures.ids
+    c.in_ok-input_of.ensures.start c.in_ok-input_of.ensures.batches c.in_ok-input_of.ensures.overruled)
 
 pub returns-clause-batches : goal.returns-clause-batches
 returns-clause-batches c =
     let a = accepted c.args.bytes.now c.in_ok-reading.reading c.in_ok-reading.ensures c.in_default.is in
     made-batches c.args.bytes.now c.in_ok-reading.reading c.in_ok-input_of.field-0 a
-    (made_of c.in_ok-reading.reading c.in_ok-input_of.field-0 _ _ c.deref.ensures.value c.deref-2.ensures.value c.in_ok-input_of.ensures.ids c.in_ok-input_of.ensures.start c.in_ok-input_of.ensures.batches c.in_ok-input_of.ensures.overruled)
+    (made_of c.in_ok-reading.reading c.in_ok-input_of.field-0 _ _ c.deref.ensures.value c.deref-2.ensures.value c.in_ok-input_of.ensures.ids
+    c.in_ok-input_of.ensures.start c.in_ok-input_of.ensures.batches c.in_ok-input_of.ensures.overruled)

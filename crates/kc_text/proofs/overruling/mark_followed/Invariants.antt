@@ -8,5 +8,6 @@ invariant-loop-k l = record {
   count : length l.marks.items ≡ length l.ranks;
   sound : (place : ℕ) → get_or l.marks.items place false ≡ true
       → (k : ℕ) × (k + 1 < length l.ranks) × AreOfOneEdge (get_or l.ranks k 0) (get_or l.ranks (k + 1) 0) × (get_or l.ranks k 0 % MOST_UPDATES ≡ place);
-  complete : (k : ℕ) → k + 1 < l.k → AreOfOneEdge (get_or l.ranks k 0) (get_or l.ranks (k + 1) 0) → get_or l.marks.items (get_or l.ranks k 0 % MOST_UPDATES) false ≡ true;
+  complete : (k : ℕ) → k + 1 < l.k → AreOfOneEdge (get_or l.ranks k 0) (get_or l.ranks (k + 1) 0)
+      → get_or l.marks.items (get_or l.ranks k 0 % MOST_UPDATES) false ≡ true;
 }

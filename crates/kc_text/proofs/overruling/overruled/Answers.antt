@@ -14,7 +14,8 @@ mark_followed-requires c =
     let sorted : List ℕ = c.sort_unstable.new.self.items in
     let count : length sorted ≡ length c.args.updates.now = length_permutation ranks sorted c.sort_unstable.ensures.permutation ∙ c.in_ok-ranks.ensures.count in
     subst (λ (t : List ℕ). All (λ r. r % MOST_UPDATES < length t) t) (sym c.deref.ensures.value)
-    (subst (λ n. All (λ r. r % MOST_UPDATES < n) sorted) (sym count) (places-within c.args.updates.now ranks sorted c.requires.short c.in_ok-ranks.ensures c.sort_unstable.ensures.permutation))
+    (subst (λ n. All (λ r. r % MOST_UPDATES < n) sorted) (sym count) (places-within c.args.updates.now ranks sorted c.requires.short c.in_ok-ranks.ensures
+    c.sort_unstable.ensures.permutation))
 
 pub returns : goal.returns
 returns c =

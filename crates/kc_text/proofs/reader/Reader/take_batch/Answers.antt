@@ -13,7 +13,10 @@ pub returns-clause-exact : goal.returns-clause-exact
 returns-clause-exact c =
     let old : Reader = c.args.self.now in
     let new : Reader = record { edges = old.edges; earlier = c.close.new.earlier; last = c.replace-before.new.self; changes = old.changes; ids = old.ids } in
-    let told : told_by new ≡ with_line (told_by old) said.Batch = ap₂ (λ (earlier : List (List Change)) (last : Option (List Change)). let t : Told = record { edges = old.edges.items; earlier = earlier; last = last } in t)
-    (c.in_ok-close.ensures ∙ ap (λ (last : Option (Vec Change Global)). map (λ batch. batch.items) old.earlier.items ++ option_to_list (option_map (λ batch. batch.items) last)) c.replace-before.ensures.value)
-    (ap (option_map (λ (batch : Vec Change Global). batch.items)) c.replace-before.ensures.after ∙ ap (λ (batch : List Change). Some batch) c.new.ensures.items) in
+    let told : told_by new ≡ with_line (told_by old) said.Batch = ap₂ (λ (earlier : List (List Change)) (last : Option (List Change)). let t : Told =
+    record { edges = old.edges.items; earlier = earlier; last = last } in t)
+    (c.in_ok-close.ensures ∙ ap (λ (last : Option (Vec Change Global)). map (λ batch. batch.items) old.earlier.items ++ option_to_list
+    (option_map (λ batch. batch.items) last)) c.replace-before.ensures.value)
+    (ap (option_map (λ (batch : Vec Change Global). batch.items)) c.replace-before.ensures.after
+    ∙ ap (λ (batch : List Change). Some batch) c.new.ensures.items) in
     exact-before old new said.Batch told refl (few-batch (told_by old))

@@ -10,22 +10,34 @@ use Rattle.kc_text.proofs.Refused.{refused-limit, refused-unfit}
 use Rattle.kc_text.proofs.reader.Reader.take_change.Goals as goal
 
 pub passed_limit-requires : goal.passed_limit-requires
-passed_limit-requires c = keeps-change c.args.self.now _ c.args.change (ap (with_last c.args.self.now) (c.in_ok-kind.ensures.changes c.in_default.is)) refl c.in_ok-count_ids.ensures.gains c.requires.kept
+passed_limit-requires c = keeps-change c.args.self.now _ c.args.change (ap (with_last c.args.self.now) (c.in_ok-kind.ensures.changes c.in_default.is)) refl
+    c.in_ok-count_ids.ensures.gains c.requires.kept
 
 pub returns-clause-kept : goal.returns-clause-kept
-returns-clause-kept c = λ _. keeps-change c.args.self.now _ c.args.change (ap (with_last c.args.self.now) (c.in_ok-kind.ensures.changes c.in_default.is)) refl c.in_ok-count_ids.ensures.gains c.requires.kept
+returns-clause-kept c = λ _. keeps-change c.args.self.now _ c.args.change
+    (ap (with_last c.args.self.now) (c.in_ok-kind.ensures.changes c.in_default.is)) refl c.in_ok-count_ids.ensures.gains c.requires.kept
 
 pub returns-clause-exact : goal.returns-clause-exact
 returns-clause-exact c =
-    let new : Reader = record { edges = c.args.self.now.edges; earlier = c.args.self.now.earlier; last = c.take_into.new.last; changes = c.args.self.now.changes + 1; ids = c.count_ids.new.ids } in
-    exact-before c.args.self.now new (said.Change c.args.change) (ap (with_last c.args.self.now) (c.in_ok-kind.ensures.changes c.in_default.is)) c.in_ok-count_ids.ensures.looks (few-change (told_by c.args.self.now) c.args.change)
+    let new : Reader = record {
+      edges = c.args.self.now.edges;
+      earlier = c.args.self.now.earlier;
+      last = c.take_into.new.last;
+      changes =
+          c.args.self.now.changes + 1;
+      ids = c.count_ids.new.ids;
+    } in
+    exact-before c.args.self.now new (said.Change c.args.change) (ap (with_last c.args.self.now) (c.in_ok-kind.ensures.changes c.in_default.is))
+    c.in_ok-count_ids.ensures.looks (few-change (told_by c.args.self.now) c.args.change)
 
 pub returns-in-Some-clause-refused : goal.returns-in-Some-clause-refused
-returns-in-Some-clause-refused c = λ _. refused-unfit (told_by c.args.self.now) c.args.change c.in_ok-kind.field-0 c.in-Some.kind c.in_ok-kind.ensures.refused c.in-Some.is
+returns-in-Some-clause-refused c = λ _. refused-unfit (told_by c.args.self.now) c.args.change c.in_ok-kind.field-0 c.in-Some.kind c.in_ok-kind.ensures.refused
+    c.in-Some.is
 
 pub returns-clause-refused : goal.returns-clause-refused
 returns-clause-refused c = λ exact.
     let old : Reader = c.args.self.now in
     let new : Reader = record { edges = old.edges; earlier = old.earlier; last = c.take_into.new.last; changes = old.changes + 1; ids = c.count_ids.new.ids } in
     let told : told_by new ≡ with_line (told_by old) (said.Change c.args.change) = ap (with_last old) (c.in_ok-kind.ensures.changes c.in_default.is) in
-    refused-limit (told_by old) c.args.change c.in_ok-kind.field-0 c.passed_limit.result c.in_ok-kind.ensures.refused c.in_default.is (c.passed_limit.ensures exact ∙ ap passed_limit told)
+    refused-limit (told_by old) c.args.change c.in_ok-kind.field-0 c.passed_limit.result c.in_ok-kind.ensures.refused c.in_default.is
+    (c.passed_limit.ensures exact ∙ ap passed_limit told)

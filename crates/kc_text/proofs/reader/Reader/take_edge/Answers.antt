@@ -8,12 +8,22 @@ use Rattle.kc_text.proofs.Keeping.{keeps-edge, with_edges}
 use Rattle.kc_text.proofs.reader.Reader.take_edge.Goals as goal
 
 pub passed_limit-requires : goal.passed_limit-requires
-passed_limit-requires c = keeps-edge c.args.self.now _ c.args.a c.args.b (ap (with_edges c.args.self.now) c.in_ok-push.ensures.items) refl c.in_ok-count_ids.ensures.gains c.requires
+passed_limit-requires c = keeps-edge c.args.self.now _ c.args.a c.args.b
+    (ap (with_edges c.args.self.now) c.in_ok-push.ensures.items) refl c.in_ok-count_ids.ensures.gains c.requires
 
 pub returns-clause-kept : goal.returns-clause-kept
-returns-clause-kept c = λ _. keeps-edge c.args.self.now _ c.args.a c.args.b (ap (with_edges c.args.self.now) c.in_ok-push.ensures.items) refl c.in_ok-count_ids.ensures.gains c.requires
+returns-clause-kept c = λ _. keeps-edge c.args.self.now _ c.args.a c.args.b
+    (ap (with_edges c.args.self.now) c.in_ok-push.ensures.items) refl c.in_ok-count_ids.ensures.gains c.requires
 
 pub returns-clause-exact : goal.returns-clause-exact
 returns-clause-exact c =
-    let new : Reader = record { edges = c.push.new.self; earlier = c.args.self.now.earlier; last = c.args.self.now.last; changes = c.args.self.now.changes; ids = c.count_ids.new.ids } in
-    exact-before c.args.self.now new (said.Edge c.args.a c.args.b) (ap (with_edges c.args.self.now) c.in_ok-push.ensures.items) c.in_ok-count_ids.ensures.looks (few-edge (told_by c.args.self.now) c.args.a c.args.b)
+    let new : Reader = record {
+      edges = c.push.new.self;
+      earlier = c.args.self.now.earlier;
+      last = c.args.self.now.last;
+      changes =
+          c.args.self.now.changes;
+      ids = c.count_ids.new.ids;
+    } in
+    exact-before c.args.self.now new (said.Edge c.args.a c.args.b) (ap (with_edges c.args.self.now) c.in_ok-push.ensures.items)
+    c.in_ok-count_ids.ensures.looks (few-edge (told_by c.args.self.now) c.args.a c.args.b)
