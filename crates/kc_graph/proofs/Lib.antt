@@ -7,6 +7,7 @@ pub mod Ends
 pub mod Existence
 pub mod Filing
 pub mod Handshake
+pub mod Held
 pub mod Inserting
 pub mod Law
 pub mod Lowering
@@ -18,3 +19,4 @@ pub mod Removing
 pub mod Repeats
 pub mod RowsLemmas
 pub mod Scattering
+pub mod SharedLists

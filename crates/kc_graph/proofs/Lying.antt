@@ -2,7 +2,9 @@
 use Rattle.std.proofs.Common.{◌≡◌, ◌≤◌, ◌<◌, ◌+◌, ◌-◌, ℕ, suc, zero, List, [], ◌∷◌, ◌++◌, length, get_or, set, take, drop, refl, sym, ◌∙◌, ap, ap₂, subst, inl, inr, arith, replicate, take-append-drop, drop-drop, length-append, Vec, Global}
 use Rattle.std.specs.List.{between}
 use borrow.Rule.Slice.PartMut.{put_mid}
-use Rattle.std.proofs.lemmas.List.{take-append-le, drop-append-le, length-drop, length-take-le, take-take}
+use Rattle.std.specs.Prelude.{All}
+use Rattle.std.proofs.lemmas.List.Elements.{All-nil, All-cons}
+use Rattle.std.proofs.lemmas.List.{map-append, take-append-le, drop-append-le, length-drop, length-take-le, take-take}
 use Rattle.std.proofs.Math.Seq.{drop-append_seam}
 use Rattle.std.proofs.lemmas.Slice.{take-put_mid}
 use Rattle.kc_graph.specs.declared.row.Row.{Row}
@@ -161,7 +163,8 @@ lies-in xs rows i r h l is = within xs r (subst (LiesWithin 0 xs) (sym is) (lies
 pub count-view : (xs : List ℕ) (rows : List Row) (lists : List (List ℕ)) → entries_of_each xs rows ≡ lists → length rows ≡ length lists
 count-view xs rows lists e = sym (length-entries xs rows) ∙ ap length e
 
-pub row-view : (xs : List ℕ) (rows : List Row) (lists : List (List ℕ)) (i : ℕ) (r : Row) → entries_of_each xs rows ≡ lists → i < length rows → r ≡ get_or rows i r
+pub row-view : (xs : List ℕ) (rows : List Row) (lists : List (List ℕ)) (i : ℕ) (r : Row) → entries_of_each xs rows ≡ lists → i < length rows
+    → r ≡ get_or rows i r
     → row lists i ≡ entries_of xs r
 row-view xs rows lists i r e l is = ap (λ (t : List (List ℕ)). row t i) (sym e) ∙ entries-at xs rows i r l ∙ ap (entries_of xs) (sym is)
 
@@ -181,7 +184,8 @@ lie-shortened xs ys rows i (Own list) new h l is s =
     subst (λ (t : List ℕ). LieFrom 0 t (set rows i new)) (sym s.1)
     (subst (λ (t : Row). LieFrom 0 xs (set rows i t)) (sym s.0.1) (lie-own 0 xs rows i s.0.0 h))
 
-pub entries-shortened : (xs ys : List ℕ) (rows : List Row) (i : ℕ) (r new : Row) → LieFrom 0 xs rows → i < length rows → r ≡ get_or rows i r → IsShorter xs ys r new
+pub entries-shortened : (xs ys : List ℕ) (rows : List Row) (i : ℕ) (r new : Row) → LieFrom 0 xs rows → i < length rows → r ≡ get_or rows i r
+    → IsShorter xs ys r new
     → entries_of_each ys (set rows i new) ≡ set (entries_of_each xs rows) i (entries_of ys new)
 entries-shortened xs ys rows i (Part from to) new h l is s =
     ap (λ (t : Row). entries_of_each ys (set rows i t)) s.0
@@ -234,7 +238,8 @@ module _ (block part : List ℕ) (rows : List Row) (from to kept : ℕ) (o : fro
   tidied-entries = ap₂ entries_of_each front last ∙ entries-push 0 (take from block) part rows kept h
 
 -- Rows that lie in the front of a block have the same numbers in the whole.
-pub entries-front : (n : ℕ) (block : List ℕ) (rows : List Row) → LieFrom 0 (take n block) rows → entries_of_each block rows ≡ entries_of_each (take n block) rows
+pub entries-front : (n : ℕ) (block : List ℕ) (rows : List Row) → LieFrom 0 (take n block) rows
+    → entries_of_each block rows ≡ entries_of_each (take n block) rows
 entries-front n block rows h =
     ap (λ (t : List ℕ). entries_of_each t rows) (sym (take-append-drop n block)) ∙ entries-longer 0 (take n block) (drop n block) rows h
 
@@ -250,3 +255,12 @@ drop-later xs ys a b l e =
 -- Each part begins where the one before it ends.
 pub first_is : (ends : List ℕ) (i : ℕ) → get_or ends i 0 ≡ first_of ends (i + 1)
 first_is ends i = let next : suc i ≡ i + 1 = omega arith in ap (first_of ends) next
+
+-- Each of the rows lies in the block.
+pub all-lie : (first : ℕ) (xs : List ℕ) (rows : List Row) → LieFrom first xs rows → All (LiesIn xs) rows
+all-lie first xs [] h = All-nil (LiesIn xs)
+all-lie first xs (Part from to ∷ rows) h = All-cons (LiesIn xs) (Part from to) rows (h.1, h.2) (all-lie to xs rows h.3)
+all-lie first xs (Own list ∷ rows) h = All-cons (LiesIn xs) (Own list) rows tt (all-lie first xs rows h)
+
+pub entries-more : (xs : List ℕ) (rows : List Row) (r : Row) → entries_of_each xs (rows ++ r ∷ []) ≡ entries_of_each xs rows ++ entries_of xs r ∷ []
+entries-more xs rows r = map-append (entries_of xs) rows (r ∷ [])

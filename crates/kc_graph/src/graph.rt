@@ -4,10 +4,11 @@ ghost use Rattle.std.specs.FinSet as set;
 ghost use Rattle.kc_graph.specs.SimpleGraph.{SimpleGraph, adjacent};
 ghost use Rattle.kc_graph.specs.Edges.{with_edge, without_edge};
 ghost use Rattle.kc_graph.specs.Neighbours.{AreNeighbours};
-ghost use Rattle.kc_graph.specs.Rows.{IsAdjacency, graph_of};
+ghost use Rattle.kc_graph.specs.Rows.{IsAdjacency, HoldsEdges, graph_of};
 
 use crate::NoMemory;
 use crate::ascending::place_in;
+use crate::neighbours::Neighbours;
 use crate::rows::Rows;
 use std::alloc::Global;
 use std::marker::Model;
@@ -116,6 +117,14 @@ impl Graph {
         self.rows.delete_both(u, v);
         self.edges -= 1;
         true
+    }
+
+    /// The neighbours of each vertex as counted lists.
+    pub(crate) fn into_lists(self) -> Result<Vec<Neighbours>, NoMemory>
+        ensures lists { IfOk result (λ lists. graph_of lists.items ≡ self) }
+        ensures held { IfOk result (λ lists. HoldsEdges lists.items (set.len self.edges)) }
+    {
+        self.rows.into_lists()
     }
 
     /// The same graph once more.

@@ -20,6 +20,7 @@ mod peeling;
 mod plan;
 mod row;
 mod rows;
+mod shared;
 #[cfg(test)]
 mod tests;
 mod tidying;
@@ -37,6 +38,7 @@ pub use lawful::Lawful;
 pub use neighbours::Neighbours;
 pub use peeling::{core_numbers, decompose};
 pub use plan::{Moves, Plan};
+pub use shared::{ListsAfter, SharedGraph};
 pub use std::alloc::AllocError as NoMemory;
 pub use update::Update;
 pub use used::{Used, UsedEdges, UsedOrder, UsedPlace};

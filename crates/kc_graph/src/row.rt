@@ -2,6 +2,7 @@
 ghost use Rattle.std.specs.Prelude.{◌≡◌, ◌<◌, ◌≤◌, ◌-◌, ◌⊎◌, ℕ, [], true, length, vec_len, vec_capacity, IfOk, OnOk, OnErr};
 ghost use Rattle.std.specs.List.{between};
 ghost use Rattle.std.specs.List.Sorted.{IsStrictlyIncreasing};
+ghost use Rattle.std.specs.Arc.{arc_slice_items};
 ghost use Rattle.std.specs.declared.vec.Vec.{Vec};
 ghost use Rattle.std.specs.declared.alloc.Global.{Global};
 ghost use Rattle.kc_distinct.specs.Lists.{member};
@@ -10,8 +11,10 @@ ghost use Rattle.kc_graph.specs.Blocks.{entries_of, LiesIn, DiffersWithin, IsOwn
 
 use crate::NoMemory;
 use crate::ascending::{delete_from, delete_within};
+use crate::neighbours::Neighbours;
 use std::alloc::Global;
 use std::mem::replace;
+use std::sync::ArcSlice;
 
 /// The numbers of a row: a part of a block, from the place `from` to below `to`, or a list of its own, which a row gets when it grows.
 #[derive(Debug, Drop)]
@@ -62,6 +65,18 @@ impl Row {
         match self {
             Row::Part { from, to } => part_of(block, *from, *to),
             Row::Own(list) => list,
+        }
+    }
+
+    /// The numbers as a counted list: a part of the block, or the list where it lies. `NoMemory` comes where there is none for a count, or
+    /// where no more holders of the block can be counted.
+    pub(crate) fn into_list(self, block: &ArcSlice<u32>) -> Result<Neighbours, NoMemory>
+        requires { LiesIn (arc_slice_items block.now) self }
+        ensures { IfOk result (λ list. list ≡ entries_of (arc_slice_items block.now) self) }
+    {
+        match self {
+            Row::Part { from, to } => Neighbours::part_of(block, from, to),
+            Row::Own(list) => Neighbours::from_vec(list),
         }
     }
 

@@ -11,9 +11,11 @@ ghost use Rattle.kc_graph.specs.Blocks.{entries_of_each, LieFrom};
 
 use crate::NoMemory;
 use crate::ascending::insert_into;
+use crate::neighbours::Neighbours;
 use crate::row::Row;
 use std::alloc::Global;
 use std::marker::Model;
+use std::sync::ArcSlice;
 
 /// Rows of numbers.
 #[derive(Debug, Drop)]
@@ -165,6 +167,19 @@ impl Rows {
             copies.push(self.get(v))?;
         }
         Ok(copies)
+    }
+
+    /// The rows as counted lists. Those that lie in the block share it, and are not copied. Where there is no memory, the rows are dropped.
+    pub(crate) fn into_lists(self) -> Result<Vec<Neighbours>, NoMemory>
+        ensures { IfOk result (λ lists. lists.items ≡ self) }
+    {
+        let Rows { block, rows } = self;
+        let mut lists = Vec::with_capacity(*block.allocator(), rows.len())?;
+        let block = ArcSlice::from_vec(block)?;
+        for row in rows {
+            lists.push(row.into_list(&block)?)?;
+        }
+        Ok(lists)
     }
 
     /// How many numbers the rows have together.

@@ -1,5 +1,5 @@
 //! Small graphs, with answers worked out by hand.
-use crate::{Graph, Neighbours, NoMemory, core_numbers, decompose};
+use crate::{Graph, Neighbours, NoMemory, SharedGraph, Update, core_numbers, decompose};
 use std::process::Abort;
 use std::test::Fail;
 
@@ -101,5 +101,35 @@ fn a_list_of_neighbours_is_shared_and_stays(rt: HostRuntime) -> Result<(), Fail>
     items.push(5u32)?;
     let list = Neighbours::from_vec(items)?;
     assert_eq!(rt; list.as_slice(), [5].as_slice());
+    Ok(())
+}
+
+/// A value that other threads may see and get.
+fn goes_between_threads<T: Send + Sync>(_value: &T) {}
+
+#[test]
+fn a_shared_list_stays_while_its_graph_changes(rt: HostRuntime) -> Result<(), Fail> {
+    let graph = Graph::from_pairs(rt.alloc(), 4, &[(0, 1), (0, 2), (2, 3)])?;
+    goes_between_threads(&graph);
+    let mut graph = SharedGraph::from_graph(graph)?;
+    assert!(rt; graph.vertices() == 4);
+    let before = graph.share_neighbours(0)?;
+    goes_between_threads(&graph);
+    goes_between_threads(&before);
+    // An update, and the neighbours of vertex 0 and the number of edges after it.
+    let steps: [(bool, u32, u32, &[u32], u64); 3] = [
+        (true, 0, 3, &[1, 2, 3], 4),
+        (false, 0, 1, &[2, 3], 3),
+        (false, 2, 3, &[2, 3], 2),
+    ];
+    for (add, u, v, neighbours, edges) in steps {
+        assert!(rt; u < v && v < graph.vertices() && graph.has(u, v) != add);
+        let update = Update { add, u, v };
+        let lists = graph.lists_after(update)?;
+        graph.put_lists(update, lists);
+        assert_eq!(rt; graph.neighbours(0), neighbours);
+        assert_eq!(rt; graph.edges(), edges);
+    }
+    assert_eq!(rt; before.as_slice(), [1, 2].as_slice());
     Ok(())
 }

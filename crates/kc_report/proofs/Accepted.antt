@@ -65,6 +65,14 @@ no_limit told lines updates most small few =
     (le-ltb MOST_UPDATES (length (changes told)) (omega (arith, small.changes, few.changes)))
     ∙ ap (λ b. first_limit false false false b) (le-ltb MOST_BATCHES (length (batches told)) (omega (arith, small.batches, few.batches)))
 
+-- one thing more, and the others behind it
+one_more : {X : Type 0} (all so_far before rest : List X) (x : X) → all ≡ so_far ++ rest → so_far ≡ before ++ x ∷ [] → all ≡ before ++ x ∷ rest
+one_more all so_far before rest x whole front = whole ∙ ap (λ t. t ++ rest) front ∙ append_assoc before (x ∷ []) rest
+
+-- edges that stay the same in two steps
+stay : (last between first : List (ℕ × ℕ)) → last ≡ between → between ≡ first → last ≡ first
+stay last between first second one = second ∙ one
+
 -- Lines are read, whatever lines come behind them, and take what is told on.
 abbrev Reads : Told → List Line → Told → Type 0
 Reads from lines to = (done : ℕ) (rest : List Line) → (after : ℕ) × (reading done from (lines ++ rest) ≡ reading after to rest)
@@ -119,7 +127,7 @@ read-edges told (edge ∷ edges) lines updates most none ids small few =
       to = after.to;
       reads = reads-line told after.to (edge_said edge) (map edge_said edges) taken after.reads;
       small = record { ids = after.small.ids; edges = omega (arith, after.small.edges); changes = after.small.changes; batches = after.small.batches };
-      edges' = after.edges' ∙ append_assoc told.edges (edge ∷ []) edges;
+      edges' = one_more after.to.edges next.edges told.edges edges edge after.edges' refl;
       batches' = after.batches';
       last = after.last;
     }
@@ -178,7 +186,7 @@ read-changes told batch (c ∷ cs) lines updates most last fit small few =
       small = record { ids = after.small.ids; edges = after.small.edges; changes = omega (arith, after.small.changes); batches = after.small.batches };
       edges' = after.edges';
       earlier = after.earlier;
-      last = after.last ∙ ap (λ t. Some t) (append_assoc batch (c ∷ []) cs);
+      last = after.last ∙ ap (λ t. Some t) (one_more _ (batch ++ c ∷ []) batch cs c refl refl);
     }
 
 -- what is told after batches
@@ -214,8 +222,8 @@ read-batches told (b ∷ bs) lines updates most are small few =
       to = rest.to;
       reads = reads-line told rest.to said.Batch (map change_said b ++ flat_map batch_said bs) none
           (reads-append begun one.to rest.to (map change_said b) (flat_map batch_said bs) one.reads rest.reads);
-      edges' = rest.edges' ∙ one.edges';
-      all = rest.all ∙ ap (λ t. t ++ bs) so_far ∙ append_assoc (batches told) (b ∷ []) bs;
+      edges' = stay rest.to.edges one.to.edges told.edges rest.edges' one.edges';
+      all = one_more (batches rest.to) (batches one.to) (batches told) bs b rest.all so_far;
     }
 
 -- what a generated text tells
@@ -240,7 +248,7 @@ told-generated number =
         means = ap (λ b. cond b (Refuses 0 TooLong) (reading 0 nothing_told (all_said (generated number))))
             (le-ltb MOST_BYTES (length (generated number)) (length-generated number))
             ∙ ap (reading 0 nothing_told) (said-generated number ∙ sym (append-nil (map edge_said es ++ flat_map batch_said bs))) ∙ reads;
-        edges = all.edges' ∙ first.edges';
+        edges = stay all.to.edges first.to.edges es all.edges' first.edges';
         batches = all.all ∙ ap (λ t. t ++ bs) first.batches';
       },
     )

@@ -1,19 +1,24 @@
 -- What a batch writes of a turn, by the set of the pairs that it has written.
-use Rattle.std.proofs.Common.{◌≡◌, ℕ, Bool, true, false, cond, not, ◌||◌, List, [], ◌∷◌, ◌++◌, refl, sym, ap, ◌∙◌, nat_eq}
+use Rattle.std.proofs.Common.{◌≡◌, ℕ, Bool, true, false, cond, not, ◌||◌, List, [], ◌∷◌, ◌++◌, refl, sym, ap, ap₂, ◌∙◌, nat_eq}
 use Rattle.std.specs.List.{list_any}
 use Rattle.std.specs.HashSet.{HashSet, contains}
 use Rattle.std.proofs.lemmas.List.Folds.{list_any-append}
 use Rattle.kc_text.specs.declared.change.Change.{Change}
 use Rattle.kc_text.specs.Batches.{is_pair, pair_of}
 use Rattle.kc_text.specs.Meaning.{name_same}
-use Rattle.kc_text.proofs.NamedPairs.{named-pairs}
+use Rattle.kc_text.proofs.NamedPairs.{name_same-is}
 use Rattle.kc_report.specs.Generator.{with_turn}
 use Rattle.kc_report.specs.Pairs.{GainsPair, HasPairs}
+
+-- a pair is named where it is among the pairs
+named : (c : Change) (written : List Change) → list_any (name_same c) written ≡ list_any (λ d. is_pair (pair_of c) (pair_of d)) written
+named c [] = refl
+named c (d ∷ written) = ap₂ (λ (x y : Bool). x || y) (name_same-is c d) (named c written)
 
 -- a change is no new one where the batch has no place for it
 passed_over : {S : Type 0} (pairs : HashSet (ℕ × ℕ) S) (written : List Change) (c : Change) (new : Bool) → HasPairs pairs written
     → not new ≡ (nat_eq c.a c.b || contains is_pair pairs (pair_of c)) → (nat_eq c.a c.b || list_any (name_same c) written) ≡ not new
-passed_over pairs written c new has is = ap (λ b. nat_eq c.a c.b || b) (named-pairs c written ∙ sym (has (pair_of c))) ∙ sym is
+passed_over pairs written c new has is = ap (λ b. nat_eq c.a c.b || b) (named c written ∙ sym (has (pair_of c))) ∙ sym is
 
 pub with_turn-new : {S : Type 0} (pairs : HashSet (ℕ × ℕ) S) (written more : List Change) (c : Change) (new : Bool) → HasPairs pairs written
     → not new ≡ (nat_eq c.a c.b || contains is_pair pairs (pair_of c)) → new ≡ true → more ≡ written ++ c ∷ [] → more ≡ with_turn written c

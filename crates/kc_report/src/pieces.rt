@@ -108,8 +108,8 @@ fn count_members(ids: &[u32], core: &[u32], level: u32) -> usize
     ensures { result ≡ length (members ids.now core.now level) }
 {
     let mut count = 0;
-    for (_, core) in ids.iter().zip(core) {
-        if level <= *core {
+    for (_, number) in ids.iter().zip(core) {
+        if level <= *number {
             count += 1;
         }
     }

@@ -8,3 +8,4 @@ pub mod Settings
 pub mod Statuses
 pub mod Stops
 pub mod Text
+pub mod Unrepeated

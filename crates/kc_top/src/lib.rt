@@ -27,10 +27,12 @@ mod tests;
 mod text;
 pub mod words;
 
-ghost use Rattle.std.specs.Prelude.{◌≡◌, ℕ, List};
-ghost use Rattle.kc_text.specs.Meaning.{Told};
+ghost use Rattle.std.specs.Prelude.{◌≡◌, ◌↔◌, ℕ, All, List};
+ghost use Rattle.kc_text.specs.Batches.{NamesOnce};
+ghost use Rattle.kc_text.specs.Meaning.{Told, batches};
 ghost use Rattle.kc_top.specs.Statuses.{exit_of};
 ghost use Rattle.kc_top.specs.Text.{IsText};
+ghost use Rattle.kc_top.specs.Unrepeated.{IsUnrepeatedText, usual_setting};
 ghost use Rattle.kc_top.specs.declared.setting.Setting.{Setting};
 
 pub use setting::Setting;
@@ -75,4 +77,10 @@ pub fn every_input_has_a_text()
 /// No input has two outputs, whatever is asked for.
 pub fn no_input_has_two_texts()
     ensures { (setting : Setting) (told : Told) (first second : List ℕ) → IsText setting told first → IsText setting told second → first ≡ second }
+{}
+
+/// Where no batch names an edge twice and the words ask for nothing, the output is the text in which each change is an update and
+/// the line about a batch counts no others.
+pub fn unrepeated_batches_are_written_without_counts()
+    ensures { (told : Told) (text : List ℕ) → All NamesOnce (batches told) → IsText usual_setting told text ↔ IsUnrepeatedText told text }
 {}

@@ -1,5 +1,5 @@
 //! The run over a source and sinks in memory.
-ghost use Rattle.std.specs.Prelude.{◌≡◌, ◌⊎◌, [], ℕ, List, None, Some, false, true};
+ghost use Rattle.std.specs.Prelude.{◌≡◌, ◌⊎◌, [], ℕ, List, None, Some, false, is_some, true};
 ghost use Rattle.clap.specs.Walk.{texts};
 ghost use Rattle.kc_io.specs.Causes.{Rose};
 ghost use Rattle.kc_text.specs.declared.kind.Kind.{Kind};
@@ -44,6 +44,8 @@ pub fn run_in_memory(
         → (result ≡ Status.Refused) ⊎ (result ≡ Status.ReadFault) ⊎ (result ≡ Status.NoMemory) }
     ensures complete { (s : Setting) (told : Told) → setting (texts words.now) ≡ Some s → meaning (input_bytes (Some s) source.old.left) ≡ Means told
         → (result ≡ Status.Done) ⊎ (result ≡ Status.ReadFault) ⊎ (result ≡ Status.WriteFault) ⊎ (result ≡ Status.NoMemory) }
+    ensures accepted { (s : Setting) → setting (texts words.now) ≡ Some s → is_some s.generator ≡ true
+        → (result ≡ Status.Done) ⊎ (result ≡ Status.WriteFault) ⊎ (result ≡ Status.NoMemory) }
 {
     run(alloc, words, source, out, err)
 }

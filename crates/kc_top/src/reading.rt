@@ -9,8 +9,8 @@ ghost use Rattle.kc_top.specs.Stops.{HasNoText, IsRefusalOf};
 
 use crate::ending::{Stop, refused};
 use kc_io::source::{ReadAllFault, Source, read_all};
-use kc_report::generate;
-use kc_text::{Input, Kind, MOST_BYTES, ParseFault, Refusal, parse};
+use kc_report::{NoMemory, generate};
+use kc_text::{Input, Kind, ParseFault, Refusal, parse};
 use std::alloc::Global;
 
 /// The input as a whole has too many bytes.
@@ -35,16 +35,11 @@ fn bytes_from<S: Source>(alloc: Global, source: &mut S) -> Result<Vec<u8>, Stop>
 }
 
 /// The bytes that are generated for the number.
-fn generated_bytes(alloc: Global, number: u32) -> Result<Vec<u8>, Stop>
+fn generated_bytes(alloc: Global, number: u32) -> Result<Vec<u8>, NoMemory>
     ensures bytes { IfOk result (λ bytes. bytes.items ≡ generated number) }
     ensures few { IfOk result (λ bytes. length bytes.items ≤ MOST_BYTES) }
-    ensures stopped { IfErr result (λ stop. IsRefusalOf stop (generated number)) }
 {
-    let bytes = generate(alloc, number)?;
-    if bytes.len() > MOST_BYTES {
-        return Err(refused(alloc, TOO_LONG));
-    }
-    Ok(bytes)
+    generate(alloc, number)
 }
 
 /// The bytes of the input: those that are generated for the number, where there is one, or else all of the source.
@@ -57,10 +52,11 @@ fn bytes_of<S: Source>(
     ensures few { IfOk result (λ bytes. length bytes.items ≤ MOST_BYTES) }
     ensures read { OnOk result (generator ≡ None → IsAtEnd (S.left source.new)) }
     ensures unread { is_some generator ≡ true → source.new ≡ source.old }
+    ensures accepted { is_some generator ≡ true → IfErr result (λ stop. stop ≡ Stop.NoMemory) }
     ensures stopped { IfErr result (λ stop. HasNoText stop (generated_or generator (S.left source.old)) (S.faults source.old) (S.faults source.new)) }
 {
     match generator {
-        Some(number) => generated_bytes(alloc, number),
+        Some(number) => Ok(generated_bytes(alloc, number)?),
         None => bytes_from(alloc, source),
     }
 }
@@ -87,6 +83,7 @@ pub(crate) fn input_of<S: Source>(
     ensures input { IfOk result (IsReadFrom (generated_or generator (S.left source.old))) }
     ensures read { OnOk result (generator ≡ None → IsAtEnd (S.left source.new)) }
     ensures unread { is_some generator ≡ true → source.new ≡ source.old }
+    ensures accepted { is_some generator ≡ true → IfErr result (λ stop. stop ≡ Stop.NoMemory) }
     ensures stopped { IfErr result (λ stop. HasNoText stop (generated_or generator (S.left source.old)) (S.faults source.old) (S.faults source.new)) }
 {
     let bytes = bytes_of(alloc, generator, source)?;

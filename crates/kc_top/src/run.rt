@@ -1,5 +1,5 @@
 //! The run.
-ghost use Rattle.std.specs.Prelude.{◌≡◌, ◌⊎◌, ℕ, List, None, Some, IfErr, IfOk, IfSome, OnOk, false, true};
+ghost use Rattle.std.specs.Prelude.{◌≡◌, ◌⊎◌, ℕ, List, None, Some, IfErr, IfOk, IfSome, OnOk, false, is_some, true};
 ghost use Rattle.std.specs.Io.KnownBytes.{IsAtEnd};
 ghost use Rattle.clap.specs.Walk.{texts};
 ghost use Rattle.kc_io.specs.Causes.{Rose};
@@ -28,6 +28,7 @@ fn text_for<S: Source>(alloc: Global, setting: Setting, source: &mut S) -> Resul
     ensures text { IfOk result (λ text. IsAnswer (Some setting) (given (Some setting) (S.left source.old)) text.items) }
     ensures read { OnOk result (reads (Some setting) ≡ true → IsAtEnd (S.left source.new)) }
     ensures unread { reads (Some setting) ≡ false → source.new ≡ source.old }
+    ensures accepted { is_some setting.generator ≡ true → IfErr result (λ stop. stop ≡ Stop.NoMemory) }
     ensures stopped { IfErr result (λ stop. HasNoText stop (given (Some setting) (S.left source.old)) (S.faults source.old) (S.faults source.new)) }
 {
     let input = input_of(alloc, setting.generator, source)?;
@@ -46,6 +47,7 @@ fn follow<S: Source, O: Sink>(
     ensures took { Took (ended result) (Some setting) (given (Some setting) (S.left source.old)) (O.taken out.old) (O.taken out.new) }
     ensures offered { Offered (ended result) (Some setting) (given (Some setting) (S.left source.old)) (O.first out.old) (O.first out.new) }
     ensures line { IsErrLine (ended result) (given (Some setting) (S.left source.old)) (last_line result) }
+    ensures accepted { is_some setting.generator ≡ true → (ended result ≡ Status.Done) ⊎ (ended result ≡ Status.WriteFault) ⊎ (ended result ≡ Status.NoMemory) }
     ensures not_usage { ended result ≡ Status.Usage → ⊥ }
     ensures read_fault { ended result ≡ Status.ReadFault → Rose (S.faults source.old) (S.faults source.new) }
     ensures write_fault { ended result ≡ Status.WriteFault → Rose (O.faults out.old) (O.faults out.new) }
@@ -71,6 +73,8 @@ fn work<S: Source, O: Sink>(
     ensures took { Took (ended result) (setting (texts words.now)) (given (setting (texts words.now)) (S.left source.old)) (O.taken out.old) (O.taken out.new) }
     ensures offered { Offered (ended result) (setting (texts words.now)) (given (setting (texts words.now)) (S.left source.old)) (O.first out.old) (O.first out.new) }
     ensures line { IsErrLine (ended result) (given (setting (texts words.now)) (S.left source.old)) (last_line result) }
+    ensures accepted { (s : Setting) → setting (texts words.now) ≡ Some s → is_some s.generator ≡ true
+        → (ended result ≡ Status.Done) ⊎ (ended result ≡ Status.WriteFault) ⊎ (ended result ≡ Status.NoMemory) }
     ensures read_fault { ended result ≡ Status.ReadFault → Rose (S.faults source.old) (S.faults source.new) }
     ensures write_fault { ended result ≡ Status.WriteFault → Rose (O.faults out.old) (O.faults out.new) }
 {
@@ -116,6 +120,8 @@ pub fn run<S: Source, O: Sink, E: Sink>(
         → (result ≡ Status.Refused) ⊎ (result ≡ Status.ReadFault) ⊎ (result ≡ Status.NoMemory) }
     ensures complete { (s : Setting) (bytes : List ℕ) (told : Told) → setting (texts words.now) ≡ Some s → given (Some s) (S.left source.old) ≡ Some bytes → meaning bytes ≡ Means told
         → (result ≡ Status.Done) ⊎ (result ≡ Status.ReadFault) ⊎ (result ≡ Status.WriteFault) ⊎ (result ≡ Status.NoMemory) }
+    ensures accepted { (s : Setting) → setting (texts words.now) ≡ Some s → is_some s.generator ≡ true
+        → (result ≡ Status.Done) ⊎ (result ≡ Status.WriteFault) ⊎ (result ≡ Status.NoMemory) }
 {
     match work(alloc, words, source, out) {
         Ok(()) => Status::Done,

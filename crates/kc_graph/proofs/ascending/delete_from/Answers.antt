@@ -13,5 +13,6 @@ returns-in-Ok c =
 
 pub returns-in_default : goal.returns-in_default
 returns-in_default c =
-    let found = place-found c.args.row.now.items c.args.w c.place_in.result (subst (λ (t : List ℕ). IsPlace t c.args.w c.place_in.result) c.deref.ensures.value c.place_in.ensures) in
+    let found = place-found c.args.row.now.items c.args.w c.place_in.result
+    (subst (λ (t : List ℕ). IsPlace t c.args.w c.place_in.result) c.deref.ensures.value c.place_in.ensures) in
     absurd (true≢false (sym c.requires.here ∙ sym found ∙ ap is_ok c.in_default.is))

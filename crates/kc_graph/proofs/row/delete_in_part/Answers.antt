@@ -37,5 +37,6 @@ returns-clause-deleted c =
     let n : length part ≡ k = omega (arith, c.delete_within.ensures.len, was) in
     let less : to - 1 - from ≡ length (between from to old) - 1 = omega (arith, was) in
     let here : between from (to - 1) new ≡ take (length (between from to old) - 1) part =
-    between-shorter new from (to - 1) to (omega arith) ∙ ap (take (to - 1 - from)) (between-put_mid from k old part to l n) ∙ ap (λ (m : ℕ). take m part) less in
+    between-shorter new from (to - 1) to (omega arith) ∙ ap (take (to - 1 - from)) (between-put_mid from k old part to l n) ∙ ap
+    (λ (m : ℕ). take m part) less in
     subst (λ (t : List ℕ). Deleted (between from to old) t c.args.w) (sym here) c.delete_within.ensures.others

@@ -24,6 +24,7 @@ loop-i-preserved c =
         | else-kept-eq0+else-part-kept w ↦
             subst (λ (t : List ℕ). Dropped old t (i + 1) c.if-kept-eq0.kept) (sym w.part-is)
             (subst (Dropped old new (i + 1)) (sym w.kept-is)
-            (pass_one old new i kept n l c.loop-i.invariant.1 c.requires (λ e. absurd (omega (arith, w.if-kept-eq0.false))) (λ lt. absurd (omega (arith, w.if-part-kept.false)))))
+            (pass_one old new i kept n l c.loop-i.invariant.1 c.requires (λ e. absurd (omega (arith, w.if-kept-eq0.false)))
+            (λ lt. absurd (omega (arith, w.if-part-kept.false)))))
       ],
     )

@@ -69,7 +69,8 @@ returns-clause-lie c = lie-front c.loop-end.from c.loop-end.block c.loop-end.row
 
 pub returns-clause-ascend : goal.returns-clause-ascend
 returns-clause-ascend c v =
-    subst (λ (t : List (List ℕ)). IsStrictlyIncreasing (row t v)) (sym (entries-front c.loop-end.from c.loop-end.block c.loop-end.rows.items c.loop-end.invariant.5))
+    subst (λ (t : List (List ℕ)). IsStrictlyIncreasing (row t v))
+    (sym (entries-front c.loop-end.from c.loop-end.block c.loop-end.rows.items c.loop-end.invariant.5))
     (c.loop-end.invariant.6 v)
 
 pub returns-clause-same : goal.returns-clause-same

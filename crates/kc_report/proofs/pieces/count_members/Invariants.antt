@@ -5,10 +5,10 @@ use Rattle.std.specs.Slice.Iter.{iter_rest}
 use Rattle.kc_report.specs.Lines.{members}
 use Rattle.kc_report.proofs.pieces.count_members.Given as goal
 
-abbrev pub invariant-loop-core : goal.invariant-loop-core
-invariant-loop-core l = record {
-  left : l.count + length (members (iter_rest (zip_first l.core-iterator)) (iter_rest (zip_second l.core-iterator)) l.level)
+abbrev pub invariant-loop-number : goal.invariant-loop-number
+invariant-loop-number l = record {
+  left : l.count + length (members (iter_rest (zip_first l.number-iterator)) (iter_rest (zip_second l.number-iterator)) l.level)
       ≡ length (members l.ids l.core l.level);
-  few : l.count + length (iter_rest (zip_first l.core-iterator)) ≤ length l.ids;
-  even : length (iter_rest (zip_first l.core-iterator)) ≡ length (iter_rest (zip_second l.core-iterator));
+  few : l.count + length (iter_rest (zip_first l.number-iterator)) ≤ length l.ids;
+  even : length (iter_rest (zip_first l.number-iterator)) ≡ length (iter_rest (zip_second l.number-iterator));
 }

@@ -1,13 +1,12 @@
 -- The rows with one number more each are those of the graph with the edge.
-use Rattle.std.proofs.Common.{◌≡◌, ◌<◌, ◌+◌, ℕ, List, length, false, arith, sym, ap, ◌∙◌}
-use Rattle.std.specs.FinSet as fin
-use Rattle.std.specs.List.{sum_by}
+use Rattle.std.proofs.Common.{◌≡◌, ◌<◌, ℕ, List, length, false, arith, sym, ap, ◌∙◌}
 use Rattle.kc_distinct.specs.Lists.{member}
 use Rattle.kc_graph.specs.SimpleGraph.{SimpleGraph}
 use Rattle.kc_graph.specs.Edges.{with_edge}
-use Rattle.kc_graph.specs.Rows.{row, graph_of, BothInserted}
+use Rattle.kc_graph.specs.Rows.{row, BothInserted}
 use Rattle.kc_graph.proofs.RowsLemmas.{size-view, adjacent-view}
-use Rattle.kc_graph.proofs.Adding.{new-length, adjacency, graph_of-added, sum-added, len-added, few_edges, present}
+use Rattle.kc_graph.proofs.Adding.{graph_of-added, few_edges, present}
+use Rattle.kc_graph.proofs.Held.{held-added}
 use Rattle.kc_graph.proofs.graph.Graph.add.Goals as goal
 
 pub returns-then-has-clause-ok : goal.returns-then-has-clause-ok
@@ -36,15 +35,7 @@ invariant_of-self-2 c =
     let both : BothInserted old now c.args.u c.args.v = c.in_ok-insert_both.ensures.ok in
     let lacks : member c.args.v (row old c.args.u) ≡ false =
     adjacent-view old c.args.self.now c.self.view_is c.self.invariant.adjacency c.args.u c.args.v ∙ sym c.has.ensures ∙ c.if-has.false in
-    let one : fin.len (graph_of now).edges ≡ fin.len (graph_of old).edges + 1 =
-    len-added old now c.args.u c.args.v c.requires.differ u-in v-in both c.self.invariant.adjacency lacks in
-    let two : sum_by (length {A = ℕ}) now ≡ sum_by (length {A = ℕ}) old + 2 = sum-added old now c.args.u c.args.v c.requires.differ u-in v-in both in
-    record {
-      adjacency = adjacency old now c.args.u c.args.v c.requires.differ u-in v-in both c.self.invariant.adjacency;
-      few = omega (arith, new-length old now c.args.u c.args.v c.requires.differ u-in v-in both, c.self.invariant.few);
-      counted = omega (arith, one, c.self.invariant.counted);
-      twice = omega (arith, two, c.self.invariant.twice);
-    }
+    held-added old now c.args.u c.args.v c.self.inside.edges c.requires.differ u-in v-in c.self.invariant both lacks
 
 pub returns-clause-ok : goal.returns-clause-ok
 returns-clause-ok c =

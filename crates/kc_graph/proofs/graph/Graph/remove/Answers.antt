@@ -1,13 +1,12 @@
 -- The rows with one number less each are those of the graph without the edge.
-use Rattle.std.proofs.Common.{◌≡◌, ◌<◌, ◌+◌, ◌-◌, ℕ, List, length, true, arith, sym, ap, ◌∙◌}
-use Rattle.std.specs.FinSet as set
-use Rattle.std.specs.List.{sum_by}
+use Rattle.std.proofs.Common.{◌≡◌, ◌<◌, ℕ, List, length, true, arith, sym, ap, ◌∙◌}
 use Rattle.kc_distinct.specs.Lists.{member}
 use Rattle.kc_graph.specs.SimpleGraph.{SimpleGraph}
 use Rattle.kc_graph.specs.Edges.{without_edge}
-use Rattle.kc_graph.specs.Rows.{row, graph_of, BothDeleted}
+use Rattle.kc_graph.specs.Rows.{row, BothDeleted}
 use Rattle.kc_graph.proofs.RowsLemmas.{size-view, adjacent-view}
-use Rattle.kc_graph.proofs.Removing.{new-length, adjacency, graph_of-removed, sum-removed, len-removed, missing}
+use Rattle.kc_graph.proofs.Removing.{graph_of-removed, missing}
+use Rattle.kc_graph.proofs.Held.{held-removed}
 use Rattle.kc_graph.proofs.graph.Graph.remove.Goals as goal
 
 pub returns-then-not-has-clause-removed : goal.returns-then-not-has-clause-removed
@@ -33,15 +32,7 @@ invariant_of-self c =
     let both : BothDeleted old now c.args.u c.args.v = c.delete_both.ensures in
     let here : member c.args.v (row old c.args.u) ≡ true =
     adjacent-view old c.args.self.now c.self.view_is c.self.invariant.adjacency c.args.u c.args.v ∙ sym c.has.ensures ∙ c.if-not-has.false in
-    let one : set.len (graph_of now).edges ≡ set.len (graph_of old).edges - 1 =
-    len-removed old now c.args.u c.args.v c.requires.differ u-in v-in both c.self.invariant.adjacency here in
-    let two : sum_by (length {A = ℕ}) now + 2 ≡ sum_by (length {A = ℕ}) old = sum-removed old now c.args.u c.args.v c.requires.differ u-in v-in both in
-    record {
-      adjacency = adjacency old now c.args.u c.args.v c.requires.differ u-in v-in both c.self.invariant.adjacency;
-      few = omega (arith, new-length old now c.args.u c.args.v c.requires.differ u-in v-in both, c.self.invariant.few);
-      counted = omega (arith, one, c.self.invariant.counted);
-      twice = omega (arith, two, c.self.invariant.twice);
-    }
+    held-removed old now c.args.u c.args.v c.self.inside.edges c.requires.differ u-in v-in c.self.invariant both here
 
 pub returns-clause-removed : goal.returns-clause-removed
 returns-clause-removed c =

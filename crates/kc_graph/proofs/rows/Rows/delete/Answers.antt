@@ -44,7 +44,8 @@ returns c =
     let e : take c.self.inside.block.len (now ++ drop (length now) block) ≡ now =
     ap (λ k. take k (now ++ drop (length now) block)) n ∙ take-append_seam now (drop (length now) block) in
     let was : row lists c.args.v ≡ entries_of c.deref_mut.result.now old =
-    row-view block rows lists c.args.v old c.self.view_is l c.index_mut.ensures.value ∙ ap (λ (t : List ℕ). entries_of t old) (sym c.deref_mut.ensures.value) in (
+    row-view block rows lists c.args.v old c.self.view_is l c.index_mut.ensures.value ∙ ap (λ (t : List ℕ). entries_of t old)
+    (sym c.deref_mut.ensures.value) in (
       entries_of now new,
       ap (λ (t : List ℕ). entries_of_each t (set rows c.args.v new)) e
           ∙ entries-shortened block now rows c.args.v old new c.self.invariant l c.index_mut.ensures.value place

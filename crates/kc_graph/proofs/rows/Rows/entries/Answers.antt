@@ -8,4 +8,10 @@ pub overflow_add-entries : goal.overflow_add-entries
 overflow_add-entries c =
     let rows : List (List ℕ) = c.args.self.now in
     let v : ℕ = c.loop-v.v in
-    omega (arith, ap length c.get.ensures, c.loop-v.invariant, sum_by_more_le length rows v [] (omega arith), few_edges rows c.requires.adjacency c.requires.few)
+    omega (
+      arith,
+      ap length c.get.ensures,
+      c.loop-v.invariant,
+      sum_by_more_le length rows v [] (omega arith),
+      few_edges rows c.requires.adjacency c.requires.few,
+    )

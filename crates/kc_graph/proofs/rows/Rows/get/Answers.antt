@@ -10,4 +10,5 @@ numbers-requires c =
     let block : List ℕ = c.self.inside.block.items in
     let rows : List Row = c.self.inside.rows.items in
     let l : c.args.v < length rows = omega (arith, count-view block rows c.args.self.now c.self.view_is) in
-    subst (λ (t : List ℕ). LiesIn t c.index.result.now) (sym c.deref.ensures.value) (lies-in block rows c.args.v c.index.result.now c.self.invariant l c.index.ensures)
+    subst (λ (t : List ℕ). LiesIn t c.index.result.now) (sym c.deref.ensures.value)
+    (lies-in block rows c.args.v c.index.result.now c.self.invariant l c.index.ensures)

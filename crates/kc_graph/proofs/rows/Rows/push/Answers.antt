@@ -13,7 +13,8 @@ invariant_of-self-in_err-push c =
     let rows : List Row = c.self.inside.rows.items in
     let longer : length xs ≤ length c.extend_from_slice.new.self.items =
     omega (arith, ap length c.in_ok-extend_from_slice.ensures.items, length-append xs c.args.list.now) in
-    subst (LieFrom 0 c.extend_from_slice.new.self.items) (sym c.in_err-push.ensures.items) (lie-resized 0 xs c.extend_from_slice.new.self.items rows longer c.self.invariant)
+    subst (LieFrom 0 c.extend_from_slice.new.self.items) (sym c.in_err-push.ensures.items)
+    (lie-resized 0 xs c.extend_from_slice.new.self.items rows longer c.self.invariant)
 
 pub invariant_of-self-2 : goal.invariant_of-self-2
 invariant_of-self-2 c =

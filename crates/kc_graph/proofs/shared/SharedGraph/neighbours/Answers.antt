@@ -1,0 +1,16 @@
+-- The row of a vertex has its neighbours.
+use Rattle.std.proofs.Common.{◌<◌, ◌∙◌, ℕ, List, length, arith, sym, subst}
+use Rattle.kc_graph.specs.Neighbours.{AreNeighbours}
+use Rattle.kc_graph.proofs.RowsLemmas.{size-view, neighbours-view}
+use Rattle.kc_graph.proofs.SharedLists.{row-here}
+use Rattle.kc_graph.proofs.shared.SharedGraph.neighbours.Goals as goal
+
+pub index-requires : goal.index-requires
+index-requires c = omega (arith, size-view c.self.inside.rows.items c.args.self.now c.self.view_is)
+
+pub returns : goal.returns
+returns c =
+    let rows : List (List ℕ) = c.self.inside.rows.items in
+    let l : c.args.v < length rows = omega (arith, size-view rows c.args.self.now c.self.view_is) in
+    subst (AreNeighbours c.args.self.now c.args.v) (row-here rows c.args.v c.index.result.now l c.index.ensures ∙ sym c.as_slice.ensures)
+    (neighbours-view rows c.args.self.now c.self.view_is c.self.invariant.adjacency c.args.v)
