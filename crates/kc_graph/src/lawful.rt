@@ -55,6 +55,16 @@ impl Lawful {
         })
     }
 
+    /// The graph, its core numbers and the order that certifies them, each as it was given. It takes no memory.
+    pub fn into_parts(self) -> (Graph, Vec<u32>, Vec<u32>)
+        ensures graph { result.0 ≡ self.graph }
+        ensures core { result.1.items ≡ self.core }
+        ensures order { result.2.items ≡ self.order }
+        ensures certified { IsCertified self }
+    {
+        (self.graph, self.core, self.order)
+    }
+
     /// The graph.
     pub fn graph(&self) -> &Graph
         ensures graph { result.now ≡ self.now.graph }

@@ -1,9 +1,10 @@
 //! Simple undirected graphs, their core numbers, and the order that certifies them.
 //!
 //! The core number of a vertex is the greatest k for which some set of vertices has it, and gives each member at least k neighbours
-//! inside (Seidman 1983). `Graph` is a set of edges that come and go. `decompose` gives the core numbers of a graph with an order of
-//! its vertices that certifies them (Zhang, Yu, Zhang and Qin 2017), and `core_numbers` gives them alone. `Lawful` holds a graph with
-//! certified numbers, so that whoever is handed one needs no proof of its own.
+//! inside (Seidman 1983). `Graph` is a set of edges that come and go, made edge by edge or in one go. Its lists of neighbours change where
+//! they lie. A `SharedGraph` has counted lists, which others hold while it changes. `decompose` gives the core numbers of a graph with
+//! an order of its vertices that certifies them (Zhang, Yu, Zhang and Qin 2017), and `core_numbers` gives them alone. `Lawful` holds a
+//! graph with certified numbers, so that whoever is handed one needs no proof of its own.
 //!
 //! `specs/SimpleGraph.antt`, `Core.antt`, `Certificate.antt` and `Edges.antt` say what these words mean; the other files there serve
 //! the crate's own proofs. The three laws below have no code: certified numbers are the core numbers, a graph has one list of core
@@ -36,7 +37,7 @@ pub use bulk::{Edge, listed_edges_are_the_edges};
 pub use graph::Graph;
 pub use lawful::Lawful;
 pub use neighbours::Neighbours;
-pub use peeling::{core_numbers, decompose};
+pub use peeling::{core_numbers, decompose, decompose_owned};
 pub use plan::{Moves, Plan};
 pub use shared::{ListsAfter, SharedGraph};
 pub use std::alloc::AllocError as NoMemory;

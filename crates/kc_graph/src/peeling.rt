@@ -180,6 +180,16 @@ pub fn decompose(alloc: Global, graph: &Graph) -> Result<Lawful, NoMemory>
     Lawful::new(alloc, graph.copy(alloc)?, core, order)
 }
 
+/// The graph with its core numbers and an order that certifies them, as `decompose` finds them but with no copy of the graph. Where there
+/// is no memory for the work, the graph is dropped and the answer is `NoMemory`.
+pub fn decompose_owned(alloc: Global, graph: Graph) -> Result<Lawful, NoMemory>
+    ensures same { IfOk result (λ lawful. lawful.graph ≡ graph) }
+    ensures certified { IfOk result (λ lawful. IsCertified lawful) }
+{
+    let Removal { core, order } = peel(alloc, &graph)?;
+    Lawful::new(alloc, graph, core, order)
+}
+
 /// The core number of each vertex, indexed by the vertex, as `decompose` finds them but with no copy of the graph. `NoMemory` comes
 /// where there is none for the work.
 pub fn core_numbers(alloc: Global, graph: &Graph) -> Result<Vec<u32>, NoMemory>
