@@ -53,9 +53,10 @@ fn rounds_end_with_the_first_that_changes_nothing(rt: HostRuntime) -> Result<(),
 }
 
 /// A path of so many vertices: its ends pull the middle down by one vertex a round.
-fn path<R: AllocGlobal>(rt: &R, vertices: u32) -> Result<Graph, NoMemory> {
+fn path<R: Abort + AllocGlobal>(rt: &R, vertices: u32) -> Result<Graph, NoMemory> {
     let mut graph = Graph::new(rt.alloc(), vertices)?;
-    for v in 1..graph.vertices() {
+    for v in 1..vertices {
+        assert!(rt; v < graph.vertices());
         graph.add(v - 1, v)?;
     }
     Ok(graph)
