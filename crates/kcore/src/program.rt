@@ -1,13 +1,13 @@
 //! A run on the program's arguments, over any source and sinks.
-ghost use Rattle.std.specs.Prelude.{◌≡◌, ◌≢◌, ◌⊎◌, ℕ, List, None, IfErr};
+ghost use Rattle.std.specs.Prelude.{◌≡◌, ◌≢◌, ◌⊎◌, ℕ, List, IfErr};
 ghost use Rattle.std.specs.IoError.{error_kind};
 ghost use Rattle.kc_io.specs.Causes.{Rose};
-ghost use Rattle.kc_top.specs.ErrLines.{IsErrLine, OfferedLine, TookLine};
+ghost use Rattle.kc_top.specs.ErrLines.{OfferedLine, TookLine};
 ghost use Rattle.kcore.specs.Ending.{Ran};
 ghost use Rattle.kcore.specs.Words.{AreWords};
 
 use crate::words::{borrowed, words_of};
-use kc_io::sink::{Sink, write_all};
+use kc_io::sink::Sink;
 use kc_io::source::Source;
 use kc_top::Status;
 use kc_top::run::run;
@@ -16,22 +16,10 @@ use std::env::Args;
 use std::io;
 use std::io::ErrorKind;
 
-/// Says that there was no memory for the words, which takes none.
-fn without_words<E: Sink>(err: &mut E) -> Status
-    ensures status { result ≡ Status.NoMemory }
-    ensures line { (line : List ℕ) × IsErrLine result None line
-        × TookLine (E.taken err.old) (E.taken err.new) (E.faults err.old) (E.faults err.new) line
-        × OfferedLine result (E.first err.old) (E.first err.new) line }
-{
-    // A fault here changes nothing: there is no other place to tell it.
-    let _ = write_all(err, b"no memory\n");
-    Status::NoMemory
-}
-
 /// Runs on the words of `args`: the arguments after the program's name, in their order, and an empty word in place of all
 /// where one is not UTF-8.
 ///
-/// Where there is no memory for the words, the status is `NoMemory`, and nothing was read from `source` or offered to `out`.
+/// Where there is no memory for the words, the status is `NoMemory`, and nothing was read or written.
 pub(crate) fn run_on<S: Source, O: Sink, E: Sink>(
     alloc: Global,
     args: io::Result<Args>,
@@ -39,22 +27,21 @@ pub(crate) fn run_on<S: Source, O: Sink, E: Sink>(
     out: &mut O,
     err: &mut E,
 ) -> Status
-    ensures ran { (line : List ℕ)
+    ensures ran { ((words : List (List ℕ)) × (line : List ℕ) × AreWords args words
+        × Ran words result (S.left source.old) (S.left source.new) (O.taken out.old) (O.taken out.new) line
         × TookLine (E.taken err.old) (E.taken err.new) (E.faults err.old) (E.faults err.new) line
-        × OfferedLine result (E.first err.old) (E.first err.new) line
-        × (((words : List (List ℕ)) × AreWords args words
-        × Ran words result (S.left source.old) (S.left source.new) (O.taken out.old) (O.taken out.new) line)
-        ⊎ ((result ≡ Status.NoMemory) × (source.new ≡ source.old) × (out.new ≡ out.old) × IsErrLine result None line)) }
+        × OfferedLine result (E.first err.old) (E.first err.new) line)
+        ⊎ ((result ≡ Status.NoMemory) × (source.new ≡ source.old) × (out.new ≡ out.old) × (err.new ≡ err.old)) }
     ensures no_memory { IfErr args (λ error. error_kind error ≢ ErrorKind.InvalidData → result ≡ Status.NoMemory) }
     ensures quiet { result ≡ Status.Done → err.new ≡ err.old }
     ensures read_fault { result ≡ Status.ReadFault → Rose (S.faults source.old) (S.faults source.new) }
     ensures write_fault { result ≡ Status.WriteFault → Rose (O.faults out.old) (O.faults out.new) }
 {
     let Ok(words) = words_of(alloc, args) else {
-        return without_words(err);
+        return Status::NoMemory;
     };
     let Ok(texts) = borrowed(alloc, &words) else {
-        return without_words(err);
+        return Status::NoMemory;
     };
     run(alloc, &texts, source, out, err)
 }
