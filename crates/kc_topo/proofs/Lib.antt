@@ -1,0 +1,10 @@
+pub mod Adding
+pub mod ArcLists
+pub mod Entering
+pub mod Looking
+pub mod Marks
+pub mod Opening
+pub mod Since
+pub mod Sorting
+pub mod Trails
+pub mod Walks
