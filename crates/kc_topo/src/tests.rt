@@ -1,6 +1,8 @@
 //! Arcs on one thread and beside comparisons on another, and random arcs against a table of what reaches what.
 ghost use Rattle.std.specs.Prelude.{◌≡◌, ◌<◌, ◌≤◌, ◌+◌, ◌*◌};
 
+mod racing;
+
 use crate::{Added, Arcs, Dag, DagFault};
 use kc_order::Answer;
 use kc_table::{Name, Pass, Words};
