@@ -1,5 +1,6 @@
 -- The updates of a batch, applied one after the other.
-use Rattle.std.proofs.Common.{◌≡◌, ◌≢◌, ◌<◌, ◌+◌, ℕ, Bool, true, false, cond, not, ◌&&◌, ◌||◌, List, [], ◌∷◌, ◌++◌, length, get_or, take, map, refl, sym, ap, ap₂, ◌∙◌, arith, true≢false, lt-ltb, ltb}
+use Rattle.std.proofs.Common.{◌≡◌, ◌≢◌, ◌<◌, ◌+◌, ℕ, Bool, true, false, cond, not, ◌&&◌, ◌||◌, List, []}
+use Rattle.std.proofs.Common.{◌∷◌, ◌++◌, length, get_or, take, map, refl, sym, ap, ap₂, ◌∙◌, arith, true≢false, lt-ltb, ltb}
 use Rattle.std.specs.Prelude.{All, AllPairs, count_by}
 use Rattle.std.specs.List.{filter, list_any, sum_by}
 use Rattle.std.specs.Ordering.{eq_by_cmp}
@@ -75,7 +76,8 @@ none-names keep q batch spares = list_any_none (λ update. keep update && eq_by_
 contains-spared : (edges : set.FinSet pair_cmp) (batch : List Part) (q : ℕ × ℕ) → Spares q batch → set.contains (edges_after_batch edges batch) q
     ≡ set.contains edges q
 contains-spared edges batch q spares =
-    contains-after edges batch q ∙ ap₂ (λ (a r : Bool). (set.contains edges q || a) && not r) (none-names is_add q batch spares) (none-names (λ update. not (is_add update)) q batch spares) ∙ or-none (set.contains edges q)
+    contains-after edges batch q ∙ ap₂ (λ (a r : Bool). (set.contains edges q || a) && not r) (none-names is_add q batch spares)
+    (none-names (λ update. not (is_add update)) q batch spares) ∙ or-none (set.contains edges q)
 
 pub is_effective-later : (edges : set.FinSet pair_cmp) (batch : List Part) (x : Part) → Spares (changed_edge x) batch
     → is_effective (edges_after_batch edges batch) x ≡ is_effective edges x
@@ -119,7 +121,8 @@ module _ (edges : set.FinSet pair_cmp) (batch : List Part) (x : Part) (spares : 
       let e : Bool = eq_by_cmp pair_cmp q (changed_edge x) in
       let before : set.contains (edges_after_batch edges batch) q ≡ ((c || a) && not r) = contains-after edges batch q in
       let after : set.contains (edges_after_batch edges (batch ++ x ∷ [])) q ≡ ((c || (a || (adds_it q x || false))) && not (r || (removes_it q x || false))) =
-      contains-after edges (batch ++ x ∷ []) q ∙ ap₂ (λ (s t : Bool). (c || s) && not t) (list_any-append (adds_it q) batch (x ∷ [])) (list_any-append (removes_it q) batch (x ∷ [])) in
+      contains-after edges (batch ++ x ∷ []) q ∙ ap₂ (λ (s t : Bool). (c || s) && not t) (list_any-append (adds_it q) batch (x ∷ []))
+      (list_any-append (removes_it q) batch (x ∷ [])) in
       let spared : e ≡ true → r ≡ false = λ t. ap (λ (p : ℕ × ℕ). list_any (removes_it p) batch) (same_pair q (changed_edge x) t)
       ∙ none-names (λ update. not (is_add update)) (changed_edge x) batch spares in
       elim (is_add x) as (λ b. set.contains (cond b (set.insert (edges_after_batch edges batch) (changed_edge x))
@@ -153,7 +156,8 @@ graph_with-remove g u v l = ap (λ (p : ℕ × ℕ). let x : SimpleGraph = recor
 count_by-push : (p : Part → Bool) (batch : List Part) (x : Part) → count_by p (batch ++ x ∷ []) ≡ cond (p x) (count_by p batch + 1) (count_by p batch)
 count_by-push p batch x =
     let both : count_by p (batch ++ x ∷ []) ≡ count_by p batch + count_by p (x ∷ []) = sum_by-append (λ y. cond (p y) 1 0) batch (x ∷ []) in
-    both ∙ elim (p x) as (λ b. count_by p batch + sum_by (λ (c : Bool). cond c 1 0) (b ∷ []) ≡ cond b (count_by p batch + 1) (count_by p batch)) [ true ↦ refl | false ↦ omega arith ]
+    both ∙ elim (p x) as (λ b. count_by p batch + sum_by (λ (c : Bool). cond c 1 0) (b ∷ []) ≡ cond b (count_by p batch + 1)
+    (count_by p batch)) [ true ↦ refl | false ↦ omega arith ]
 
 -- the update `x` at the place `i` of a batch of updates of different edges
 module _ (batch : List Update) (i : ℕ) (x : Update) (l : i < length batch) (here : x ≡ get_or batch i x) where
@@ -176,6 +180,7 @@ module _ (batch : List Update) (i : ℕ) (x : Update) (l : i < length batch) (he
   is_effective-here edges apart = is_effective-later edges (map parts_of (take i batch)) (parts_of x) (spares apart)
 
   -- a count goes on where the update passes
-  pub count_by-more : (p : Part → Bool) (passes : Bool) (n n' : ℕ) → passes ≡ p (parts_of x) → n ≡ count_by p (map parts_of (take i batch)) → n' ≡ cond passes (n + 1) n → n' ≡ count_by p (map parts_of (take (i + 1) batch))
+  pub count_by-more : (p : Part → Bool) (passes : Bool) (n n' : ℕ) → passes ≡ p (parts_of x) → n ≡ count_by p (map parts_of (take i batch))
+      → n' ≡ cond passes (n + 1) n → n' ≡ count_by p (map parts_of (take (i + 1) batch))
   count_by-more p passes n n' e before after =
       after ∙ ap₂ (λ (b : Bool) (k : ℕ). cond b (k + 1) k) e before ∙ sym (ap (count_by p) more ∙ count_by-push p (map parts_of (take i batch)) (parts_of x))

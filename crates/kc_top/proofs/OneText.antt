@@ -1,5 +1,6 @@
 -- No input has two texts.
-use Rattle.std.proofs.Common.{◌≡◌, ◌<◌, ℕ, suc, true, false, ◌||◌, List, [], ◌∷◌, length, get_or, nat_eq, refl, sym, ap, ap₂, subst, ◌∙◌, arith, inl, inr, eq-eqb, eqb-true}
+use Rattle.std.proofs.Common.{◌≡◌, ◌<◌, ℕ, suc, true, false, ◌||◌, List, [], ◌∷◌, length, get_or}
+use Rattle.std.proofs.Common.{nat_eq, refl, sym, ap, ap₂, subst, ◌∙◌, arith, inl, inr, eq-eqb, eqb-true}
 use Rattle.std.specs.Set.{is_member}
 use Rattle.std.proofs.lemmas.Bool.{cases_Bool, or_left, false≢true, false_from_ne_true}
 use Rattle.std.proofs.lemmas.List.Kept.{AllPairs-from_increasing}
@@ -61,9 +62,11 @@ same_numbers (x ∷ xs) (y ∷ ys) a b h =
 
 ids-unique : (named first second : List ℕ) → AreIds named first → AreIds named second → first ≡ second
 ids-unique named first second a b =
-    same_numbers first second (rises_from first (λ i j. AllPairs-from_increasing first a.ascending i j 0)) (rises_from second (λ i j. AllPairs-from_increasing second b.ascending i j 0)) (λ q. a.exact q ∙ sym (b.exact q))
+    same_numbers first second (rises_from first (λ i j. AllPairs-from_increasing first a.ascending i j 0))
+    (rises_from second (λ i j. AllPairs-from_increasing second b.ascending i j 0)) (λ q. a.exact q ∙ sym (b.exact q))
 
-later-unique : (g : SimpleGraph) (batches : List Batch) (first second : List (List ℕ)) → AreCoresAfter g batches first → AreCoresAfter g batches second → first ≡ second
+later-unique : (g : SimpleGraph) (batches : List Batch) (first second : List (List ℕ)) → AreCoresAfter g batches first
+    → AreCoresAfter g batches second → first ≡ second
 later-unique g [] [] [] a b = refl
 later-unique g [] [] (core ∷ cores) a b = absurd b
 later-unique g [] (core ∷ cores) second a b = absurd a
@@ -80,7 +83,8 @@ text-unique setting told first second a b =
     let ids : a.ids ≡ b.ids = ids-unique (names told) a.ids b.ids a.named b.named in
     let numbers : AreCoreNumbers (start b.ids) a.core = subst (λ (ids : List ℕ). AreCoreNumbers (start ids) a.core) ids a.numbers in
     let core : a.core ≡ b.core = core-unique (start b.ids) a.core b.core numbers b.numbers in
-    let numbers_later : AreCoresAfter (start b.ids) (numbered b.ids) a.later = subst (λ (ids : List ℕ). AreCoresAfter (start ids) (numbered ids) a.later) ids a.numbers_later in
+    let numbers_later : AreCoresAfter (start b.ids) (numbered b.ids) a.later =
+    subst (λ (ids : List ℕ). AreCoresAfter (start ids) (numbered ids) a.later) ids a.numbers_later in
     let later : a.later ≡ b.later = later-unique (start b.ids) (numbered b.ids) a.later b.later numbers_later b.numbers_later in
     let text : List ℕ → List ℕ → List (List ℕ) → List ℕ = λ ids core later. lines_for setting ids (start ids) core (numbered ids) later in
     a.is ∙ ap₂ (λ (ids core : List ℕ). text ids core a.later) ids core ∙ ap (text b.ids b.core) later ∙ sym b.is

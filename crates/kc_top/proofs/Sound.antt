@@ -13,9 +13,11 @@ unfolding start_graph
 size-start_graph ids edges = refl
 
 pub edges_within : (told : Told) (input : Input) → IsInput told input → All (λ p. (p.0 < p.1) × (p.1 < length input.ids.items)) input.start.items
-edges_within told input is = subst (λ (n : ℕ). All (λ p. (p.0 < p.1) × (p.1 < n)) input.start.items) (size-start_graph input.ids.items told.edges) is.start.within
+edges_within told input is = subst (λ (n : ℕ). All (λ p. (p.0 < p.1) × (p.1 < n)) input.start.items)
+    (size-start_graph input.ids.items told.edges) is.start.within
 
 pub counted : (told : Told) (input : Input) → IsInput told input → length input.overruled.items ≡ length input.batches.items
 counted told input is =
-    ap length is.overruled ∙ length-map (batches told) overruled ∙ sym (sym (length-map input.batches.items (λ batch. map parts_of batch.items)) ∙ ap length is.batches
+    ap length is.overruled ∙ length-map (batches told) overruled
+    ∙ sym (sym (length-map input.batches.items (λ batch. map parts_of batch.items)) ∙ ap length is.batches
     ∙ length-map (batches told) (λ (batch : List Change). map (numbered_change input.ids.items) (deciding batch)))

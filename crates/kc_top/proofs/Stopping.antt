@@ -34,8 +34,10 @@ IsRefusalOf-refused stop.ReadFault n kind bytes h m = absurd h
 IsRefusalOf-refused stop.WriteFault n kind bytes h m = absurd h
 
 -- why these bytes give no input is why there is no text, where what is known of the input are these bytes
-pub HasNoText-bytes : (s : Stop) (bytes : List ℕ) (input : Option (List ℕ)) (f f' : ℕ) → IsRefusalOf s bytes → IfSome input (λ all. bytes ≡ all) → HasNoText s input f f'
-HasNoText-bytes (stop.Refused line) bytes input f f' (n, kind, told, means) known = (n, kind, told, told_is (λ b. meaning b ≡ Refuses n kind) input bytes known means)
+pub HasNoText-bytes : (s : Stop) (bytes : List ℕ) (input : Option (List ℕ)) (f f' : ℕ) → IsRefusalOf s bytes → IfSome input (λ all. bytes ≡ all)
+    → HasNoText s input f f'
+HasNoText-bytes (stop.Refused line) bytes input f f' (n, kind, told, means) known =
+    (n, kind, told, told_is (λ b. meaning b ≡ Refuses n kind) input bytes known means)
 HasNoText-bytes stop.NoMemory bytes input f f' h known = tt
 HasNoText-bytes stop.Usage bytes input f f' h known = absurd h
 HasNoText-bytes stop.ReadFault bytes input f f' h known = absurd h
@@ -60,13 +62,15 @@ TookSome-nothing asked (Some all) before after took =
     let (text, is) = output_of asked all in record { bytes = all; read = refl; text = text; is = is; amount = 0; within = omega arith; took = took }
 
 -- where there is no text, nothing was taken
-pub Took-nothing : (s : Stop) (asked : Option Setting) (input before after : Option (List ℕ)) (f f' : ℕ) → HasNoText s input f f' → Appends before after [] → Took (status_of s) asked input before after
+pub Took-nothing : (s : Stop) (asked : Option Setting) (input before after : Option (List ℕ)) (f f' : ℕ) → HasNoText s input f f'
+    → Appends before after [] → Took (status_of s) asked input before after
 Took-nothing (stop.Refused line) asked input before after f f' h took = took
 Took-nothing stop.ReadFault asked input before after f f' h took = took
 Took-nothing stop.NoMemory asked input before after f f' h took = TookSome-nothing asked input before after took
 Took-nothing stop.Usage asked input before after f f' h took = absurd h
 Took-nothing stop.WriteFault asked input before after f f' h took = absurd h
 
-pub Took-ended : (r : Result (Unit {0}) Stop) (s : Stop) (asked : Option Setting) (input before after : Option (List ℕ)) → IsErrAnd r (λ e. e ≡ s) → Took (status_of s) asked input before after → Took (ended r) asked input before after
+pub Took-ended : (r : Result (Unit {0}) Stop) (s : Stop) (asked : Option Setting) (input before after : Option (List ℕ)) → IsErrAnd r (λ e. e ≡ s)
+    → Took (status_of s) asked input before after → Took (ended r) asked input before after
 Took-ended (Ok u) s asked input before after h took = absurd h
 Took-ended (Err e) s asked input before after h took = subst (λ (x : Stop). Took (status_of x) asked input before after) (sym h) took

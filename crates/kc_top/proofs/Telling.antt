@@ -1,5 +1,6 @@
 -- The text of an input with batches.
-use Rattle.std.proofs.Common.{◌≡◌, ◌<◌, ◌+◌, ℕ, suc, List, [], ◌∷◌, ◌++◌, length, refl, sym, ap, ap₂, subst, ◌∙◌, arith, append_assoc, append-nil, get_or, drop, map, Vec, Global, drop-cons}
+use Rattle.std.proofs.Common.{◌≡◌, ◌<◌, ◌+◌, ℕ, suc, List, [], ◌∷◌, ◌++◌, length, refl, sym}
+use Rattle.std.proofs.Common.{ap, ap₂, subst, ◌∙◌, arith, append_assoc, append-nil, get_or, drop, map, Vec, Global, drop-cons}
 use Rattle.std.specs.FinSet as set
 use Rattle.kc_graph.specs.SimpleGraph.{SimpleGraph, pair_cmp}
 use Rattle.kc_graph.specs.Core.{AreCoreNumbers}
@@ -11,11 +12,13 @@ use Rattle.kc_text.specs.declared.change.Change.{Change}
 use Rattle.kc_top.proofs.Applying.{Part}
 use Rattle.kc_text.specs.declared.input.Input.{Input}
 use Rattle.kc_top.specs.Limits.{counted_batch, counted_batches}
-use Rattle.kc_top.specs.Text.{AreCoresAfter, Batch, IsText, TellsBatches, first_line, graph_after, last_of, line_about, lines_about, numbered_batch, numbered_batches, shown_each, shown_last, shown_level}
+use Rattle.kc_top.specs.Text.{AreCoresAfter, Batch, IsText, TellsBatches, first_line, graph_after, last_of}
+use Rattle.kc_top.specs.Text.{line_about, lines_about, numbered_batch, numbered_batches, shown_each, shown_last, shown_level}
 use Rattle.kc_top.specs.declared.setting.Setting.{Setting}
 
 -- one number for each vertex, also after the batches
-pub length-last_of : (g : SimpleGraph) (batches : List Batch) (core : List ℕ) (later : List (List ℕ)) → length core ≡ g.size → AreCoresAfter g batches later → length (last_of core later) ≡ g.size
+pub length-last_of : (g : SimpleGraph) (batches : List Batch) (core : List ℕ) (later : List (List ℕ)) → length core ≡ g.size
+    → AreCoresAfter g batches later → length (last_of core later) ≡ g.size
 length-last_of g [] core [] e h = e
 length-last_of g [] core (next ∷ later) e h = absurd h
 length-last_of g (batch ∷ batches) core [] e h = absurd h
@@ -24,7 +27,8 @@ length-last_of g (batch ∷ batches) core (next ∷ later) e h = length-last_of 
 pub tells-none : (shown : List ℕ → List ℕ) (number : ℕ) (g : SimpleGraph) (core text : List ℕ) → TellsBatches shown number g core [] text text core
 tells-none shown number g core text = record { later = []; numbers = tt; is_last = refl; text = sym (append-nil text) }
 
-pub tells-more : (shown : List ℕ → List ℕ) (number : ℕ) (g : SimpleGraph) (core : List ℕ) (batch : Batch) (batches : List Batch) (next before middle after last : List ℕ)
+pub tells-more : (shown : List ℕ → List ℕ) (number : ℕ) (g : SimpleGraph) (core : List ℕ) (batch : Batch) (batches : List Batch)
+    (next before middle after last : List ℕ)
     → AreCoreNumbers (graph_after g batch) next
     → middle ≡ before ++ (line_about number g batch next ++ shown next) → TellsBatches shown (number + 1) (graph_after g batch) next batches middle after last
     → TellsBatches shown number g core (batch ∷ batches) before after last
@@ -39,7 +43,8 @@ tells-more shown number g core batch batches next before middle after last numbe
     }
 
 -- the next of several batches
-pub tells-next : (batches : List (Vec Update Global)) (counts : List ℕ) (i : ℕ) (x : Vec Update Global) (updates : List Update) (n : ℕ) → i < length batches → length counts ≡ length batches
+pub tells-next : (batches : List (Vec Update Global)) (counts : List ℕ) (i : ℕ) (x : Vec Update Global) (updates : List Update) (n : ℕ)
+    → i < length batches → length counts ≡ length batches
     → x ≡ get_or batches i x → updates ≡ x.items → n ≡ get_or counts i 0
     → (shown : List ℕ → List ℕ) (number : ℕ) (g g' : SimpleGraph) (core next before middle after last : List ℕ) → g' ≡ graph_after g (counted_batch updates n)
     → AreCoreNumbers g' next → middle ≡ before ++ (line_about number g (counted_batch updates n) next ++ shown next)
@@ -49,8 +54,10 @@ tells-next batches counts i x updates n l long here same count shown number g g'
     let batch : Batch = counted_batch updates n in
     let more : List Batch = counted_batches (drop (i + 1) batches) (drop (i + 1) counts) in
     let next_place : suc i ≡ i + 1 = omega arith in
-    let b : drop i batches ≡ x ∷ drop (i + 1) batches = drop-cons batches i x l ∙ ap₂ (λ (y : Vec Update Global) (k : ℕ). y ∷ drop k batches) (sym here) next_place in
-    let c : drop i counts ≡ n ∷ drop (i + 1) counts = drop-cons counts i 0 (omega (arith, long)) ∙ ap₂ (λ (y k : ℕ). y ∷ drop k counts) (sym count) next_place in
+    let b : drop i batches ≡ x ∷ drop (i + 1) batches = drop-cons batches i x l ∙ ap₂ (λ (y : Vec Update Global) (k : ℕ). y ∷ drop k batches)
+    (sym here) next_place in
+    let c : drop i counts ≡ n ∷ drop (i + 1) counts = drop-cons counts i 0 (omega (arith, long))
+    ∙ ap₂ (λ (y k : ℕ). y ∷ drop k counts) (sym count) next_place in
     let parts : counted_batches (drop i batches) (drop i counts) ≡ batch ∷ more =
     ap₂ (λ (bs : List (Vec Update Global)) (ns : List ℕ). counted_batches bs ns) b c ∙ ap (λ (us : List Update). counted_batch us n ∷ more) (sym same) in
     subst (λ (bs : List Batch). TellsBatches shown number g core bs before after last) (sym parts)
@@ -60,9 +67,11 @@ tells-next batches counts i x updates n l long here same count shown number g g'
 abbrev pub graph_with_edges : ℕ → List (ℕ × ℕ) → SimpleGraph
 graph_with_edges size pairs = record { size = size; edges = set.from_list {R = pair_cmp} pairs }
 
-is_start_graph : (told : Told) (input : Input) → IsInput told input → graph_with_edges (length input.ids.items) input.start.items ≡ start_graph input.ids.items told.edges
+is_start_graph : (told : Told) (input : Input) → IsInput told input
+    → graph_with_edges (length input.ids.items) input.start.items ≡ start_graph input.ids.items told.edges
 unfolding start_graph
-is_start_graph told input h = ap (λ (edges : set.FinSet pair_cmp). let g : SimpleGraph = record { size = length input.ids.items; edges = edges } in g) h.start.exact
+is_start_graph told input h = ap (λ (edges : set.FinSet pair_cmp). let g : SimpleGraph =
+    record { size = length input.ids.items; edges = edges } in g) h.start.exact
 
 -- updates and counts that are those of told batches make them up
 numbered_is : (ids : List ℕ) (updates : List (Vec Update Global)) (counts : List ℕ) (told : List (List Change))
@@ -74,10 +83,12 @@ numbered_is ids (b ∷ bs) counts [] u c = absurd (cc)
 numbered_is ids (b ∷ bs) [] (t ∷ ts) u c = absurd (cc)
 numbered_is ids (b ∷ bs) (n ∷ ns) (t ∷ ts) u c =
     let first : map parts_of b.items ≡ map (numbered_change ids) (deciding t) = cc in
-    let rest : map (λ (batch : Vec Update Global). map parts_of batch.items) bs ≡ map (λ (batch : List Change). map (numbered_change ids) (deciding batch)) ts = cc in
+    let rest : map (λ (batch : Vec Update Global). map parts_of batch.items) bs ≡ map
+    (λ (batch : List Change). map (numbered_change ids) (deciding batch)) ts = cc in
     let count : n ≡ overruled t = cc in
     let counts : ns ≡ map overruled ts = cc in
-    ap₂ (λ (x : Batch) (xs : List Batch). x ∷ xs) (ap₂ (λ (us : List Part) (k : ℕ). let x : Batch = record { updates = us; overruled = k } in x) first count) (numbered_is ids bs ns ts rest counts)
+    ap₂ (λ (x : Batch) (xs : List Batch). x ∷ xs)
+    (ap₂ (λ (us : List Part) (k : ℕ). let x : Batch = record { updates = us; overruled = k } in x) first count) (numbered_is ids bs ns ts rest counts)
 
 -- the four parts of a text, one after another
 parts_of_text : (first each lines ends : List ℕ) → ((first ++ each) ++ lines) ++ ends ≡ first ++ (each ++ (lines ++ ends))
@@ -97,13 +108,15 @@ module _ (setting : Setting) (told : Told) (input : Input) (h : IsInput told inp
   ends core = shown_last setting.show ids core ++ shown_level setting.level ids core
 
   pub IsText-from : (g : SimpleGraph) (batches : List Batch) (core before after last text : List ℕ) → g ≡ graph_with_edges (length ids) input.start.items
-      → batches ≡ counted_batches input.batches.items input.overruled.items → AreCoreNumbers g core → before ≡ first_line g core ++ shown core → TellsBatches shown 1 g core batches before after last
+      → batches ≡ counted_batches input.batches.items input.overruled.items → AreCoreNumbers g core → before ≡ first_line g core ++ shown core
+      → TellsBatches shown 1 g core batches before after last
       → text ≡ after ++ ends last → IsText setting told text
   IsText-from g batches core before after last text made same numbers first tells is =
       let numbered : List Batch = numbered_batches ids told in
       let graphs : g ≡ start = made ∙ is_start_graph told input h in
       let told_later : TellsBatches shown 1 start core numbered before after last =
-      subst (λ (bs : List Batch). TellsBatches shown 1 start core bs before after last) (same ∙ numbered_is ids input.batches.items input.overruled.items (batches_told told) h.batches h.overruled)
+      subst (λ (bs : List Batch). TellsBatches shown 1 start core bs before after last)
+      (same ∙ numbered_is ids input.batches.items input.overruled.items (batches_told told) h.batches h.overruled)
       (subst (λ (x : SimpleGraph). TellsBatches shown 1 x core batches before after last) graphs tells) in
       let lines : List ℕ = lines_about shown 1 start numbered told_later.later in
       record {
@@ -113,6 +126,7 @@ module _ (setting : Setting) (told : Told) (input : Input) (h : IsInput told inp
         named = h.named;
         numbers = subst (λ (x : SimpleGraph). AreCoreNumbers x core) graphs numbers;
         numbers_later = told_later.numbers;
-        is = is ∙ ap₂ (λ (t c : List ℕ). t ++ ends c) (told_later.text ∙ ap (λ (t : List ℕ). t ++ lines) (first ∙ ap (λ (x : SimpleGraph). first_line x core ++ shown core) graphs)) told_later.is_last
+        is = is ∙ ap₂ (λ (t c : List ℕ). t ++ ends c)
+            (told_later.text ∙ ap (λ (t : List ℕ). t ++ lines) (first ∙ ap (λ (x : SimpleGraph). first_line x core ++ shown core) graphs)) told_later.is_last
             ∙ parts_of_text (first_line start core) (shown core) lines (ends (last_of core told_later.later));
       }

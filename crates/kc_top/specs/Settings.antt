@@ -1,12 +1,14 @@
 -- What the words of a run ask for.
-use Rattle.std.specs.Prelude.{◌&&◌, ◌^◌, ℕ, Bool, true, List, Option, Some, None, codes, length, nat_le, nat_lt, option_map, option_and_then, unwrap_or, if◌then◌else◌}
+use Rattle.std.specs.Prelude.{◌&&◌, ◌^◌, ℕ, Bool, true, List, Option, Some, None, codes, length, nat_le, nat_lt}
+use Rattle.std.specs.Prelude.{option_map, option_and_then, unwrap_or, if◌then◌else◌}
 use Rattle.std.specs.Str.{bytes_eq}
+use Rattle.std.specs.Borrow.{Bor}
 use Rattle.std.specs.Char.{is_ascii_digit}
 use Rattle.std.specs.List.{list_all}
 use Rattle.std.specs.Str.Parse.{digits_value}
 use Rattle.clap.specs.Faults.{fault_of}
 use Rattle.clap.specs.Simple.{App, matches_of, new_app, new_rule, on_top, with_rule}
-use Rattle.clap.specs.Walk.{Row, Rule, first_of, is_empty}
+use Rattle.clap.specs.Walk.{Row, Rule, first_of, is_empty, texts}
 use Rattle.clap.specs.declared.builder.action.ArgAction.TheVariants.{Set}
 use Rattle.kc_top.specs.declared.setting.Setting.{Setting}
 use Rattle.kc_top.specs.declared.show.Show.{Show}
@@ -72,3 +74,7 @@ setting_in rows = together (read workers (first_of (codes "workers") rows)) (rea
 -- What the words ask for, where the command takes them and each value is right. The words are not right where there is none.
 unfoldable pub setting : List (List ℕ) → Option Setting
 setting words = if is_empty (fault_of command words) then setting_in (matches_of command words) else None
+
+-- the same, of words behind references
+abbrev pub asked : List (Bor (List ℕ)) → Option Setting
+asked words = setting (texts words)

@@ -41,7 +41,8 @@ IsRefusalOf stop.WriteFault bytes = ⊥
 
 -- why there is no text, where `input` are the bytes of the input if they are known
 abbrev pub HasNoText : Stop → Option (List ℕ) → ℕ → ℕ → Type 0
-HasNoText (stop.Refused line) input faults faults' = (n : ℕ) × (kind : Kind) × (string_bytes line ≡ refused_line n kind) × IfSome input (λ bytes. meaning bytes ≡ Refuses n kind)
+HasNoText (stop.Refused line) input faults faults' =
+    (n : ℕ) × (kind : Kind) × (string_bytes line ≡ refused_line n kind) × IfSome input (λ bytes. meaning bytes ≡ Refuses n kind)
 HasNoText stop.ReadFault input faults faults' = Rose faults faults'
 HasNoText stop.NoMemory input faults faults' = ⊤
 HasNoText stop.Usage input faults faults' = ⊥

@@ -104,7 +104,8 @@ IsOutput setting (Refuses line kind) text = text ≡ []
 IsOutput setting (Means told) text = IsText setting told text
 
 -- how a text grows by the lines about batches that change `g`, whose core numbers are `core`, and the core numbers after the last one
-pub record TellsBatches (shown : List ℕ → List ℕ) (number : ℕ) (g : SimpleGraph) (core : List ℕ) (batches : List Batch) (before after last : List ℕ) : Type 0 where
+pub record TellsBatches (shown : List ℕ → List ℕ) (number : ℕ) (g : SimpleGraph) (core : List ℕ) (batches : List Batch)
+    (before after last : List ℕ) : Type 0 where
   pub later : List (List ℕ)
   pub numbers : AreCoresAfter g batches later
   pub is_last : last ≡ last_of core later

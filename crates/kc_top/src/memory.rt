@@ -1,13 +1,12 @@
 //! The run over a source and sinks in memory.
 ghost use Rattle.std.specs.Prelude.{◌≡◌, ◌⊎◌, [], ℕ, List, None, Some, false, is_some, true};
-ghost use Rattle.clap.specs.Walk.{texts};
 ghost use Rattle.kc_io.specs.Causes.{Rose};
 ghost use Rattle.kc_text.specs.declared.kind.Kind.{Kind};
 ghost use Rattle.kc_text.specs.Meaning.{Means, Refuses, Told, meaning};
 ghost use Rattle.kc_top.specs.ErrLines.{IsErrLine, OfferedLine, TookLine};
 ghost use Rattle.kc_top.specs.Given.{given, input_bytes, reads};
 ghost use Rattle.kc_top.specs.Outcome.{Offered, Took};
-ghost use Rattle.kc_top.specs.Settings.{setting};
+ghost use Rattle.kc_top.specs.Settings.{asked};
 ghost use Rattle.kc_top.specs.declared.setting.Setting.{Setting};
 
 use crate::Status;
@@ -24,27 +23,27 @@ pub fn run_in_memory(
     out: &mut MemSink,
     err: &mut MemSink,
 ) -> Status
-    ensures usage { result ≡ Status.Usage → setting (texts words.now) ≡ None }
-    ensures wrong_words { setting (texts words.now) ≡ None → (result ≡ Status.Usage) ⊎ (result ≡ Status.NoMemory) }
-    ensures unread { reads (setting (texts words.now)) ≡ false → source.new ≡ source.old }
+    ensures usage { result ≡ Status.Usage → asked words.now ≡ None }
+    ensures wrong_words { asked words.now ≡ None → (result ≡ Status.Usage) ⊎ (result ≡ Status.NoMemory) }
+    ensures unread { reads (asked words.now) ≡ false → source.new ≡ source.old }
 
-    ensures read { result ≡ Status.Done → reads (setting (texts words.now)) ≡ true → source.new.left ≡ [] }
-    ensures took { Took result (setting (texts words.now)) (given (setting (texts words.now)) (Some source.old.left)) (Some out.old.taken) (Some out.new.taken) }
-    ensures offered { Offered result (setting (texts words.now)) (given (setting (texts words.now)) (Some source.old.left)) (Some out.old.first) (Some out.new.first) }
+    ensures read { result ≡ Status.Done → reads (asked words.now) ≡ true → source.new.left ≡ [] }
+    ensures took { Took result (asked words.now) (given (asked words.now) (Some source.old.left)) (Some out.old.taken) (Some out.new.taken) }
+    ensures offered { Offered result (asked words.now) (given (asked words.now) (Some source.old.left)) (Some out.old.first) (Some out.new.first) }
 
     ensures quiet { result ≡ Status.Done → err.new ≡ err.old }
-    ensures line { (line : List ℕ) × IsErrLine result (given (setting (texts words.now)) (Some source.old.left)) line
+    ensures line { (line : List ℕ) × IsErrLine result (given (asked words.now) (Some source.old.left)) line
         × TookLine (Some err.old.taken) (Some err.new.taken) err.old.calls.failed err.new.calls.failed line
         × OfferedLine result (Some err.old.first) (Some err.new.first) line }
 
     ensures read_fault { result ≡ Status.ReadFault → Rose source.old.calls.failed source.new.calls.failed }
     ensures write_fault { result ≡ Status.WriteFault → Rose out.old.calls.failed out.new.calls.failed }
-    ensures refused { result ≡ Status.Refused → (n : ℕ) × (kind : Kind) × (meaning (input_bytes (setting (texts words.now)) source.old.left) ≡ Refuses n kind) }
-    ensures refuses { (s : Setting) (n : ℕ) (kind : Kind) → setting (texts words.now) ≡ Some s → meaning (input_bytes (Some s) source.old.left) ≡ Refuses n kind
+    ensures refused { result ≡ Status.Refused → (n : ℕ) × (kind : Kind) × (meaning (input_bytes (asked words.now) source.old.left) ≡ Refuses n kind) }
+    ensures refuses { (s : Setting) (n : ℕ) (kind : Kind) → asked words.now ≡ Some s → meaning (input_bytes (Some s) source.old.left) ≡ Refuses n kind
         → (result ≡ Status.Refused) ⊎ (result ≡ Status.ReadFault) ⊎ (result ≡ Status.NoMemory) }
-    ensures complete { (s : Setting) (told : Told) → setting (texts words.now) ≡ Some s → meaning (input_bytes (Some s) source.old.left) ≡ Means told
+    ensures complete { (s : Setting) (told : Told) → asked words.now ≡ Some s → meaning (input_bytes (Some s) source.old.left) ≡ Means told
         → (result ≡ Status.Done) ⊎ (result ≡ Status.ReadFault) ⊎ (result ≡ Status.WriteFault) ⊎ (result ≡ Status.NoMemory) }
-    ensures accepted { (s : Setting) → setting (texts words.now) ≡ Some s → is_some s.generator ≡ true
+    ensures accepted { (s : Setting) → asked words.now ≡ Some s → is_some s.generator ≡ true
         → (result ≡ Status.Done) ⊎ (result ≡ Status.WriteFault) ⊎ (result ≡ Status.NoMemory) }
 {
     run(alloc, words, source, out, err)

@@ -1,14 +1,13 @@
 //! The run.
 ghost use Rattle.std.specs.Prelude.{◌≡◌, ◌⊎◌, ℕ, List, None, Some, IfErr, IfOk, IfSome, OnOk, false, is_some, true};
 ghost use Rattle.std.specs.Io.KnownBytes.{IsAtEnd};
-ghost use Rattle.clap.specs.Walk.{texts};
 ghost use Rattle.kc_io.specs.Causes.{Rose};
 ghost use Rattle.kc_text.specs.declared.kind.Kind.{Kind};
 ghost use Rattle.kc_text.specs.Meaning.{Means, Refuses, Told, meaning};
 ghost use Rattle.kc_top.specs.ErrLines.{IsErrLine, OfferedLine, TookLine};
 ghost use Rattle.kc_top.specs.Given.{given, reads};
 ghost use Rattle.kc_top.specs.Outcome.{IsAnswer, Offered, Took};
-ghost use Rattle.kc_top.specs.Settings.{setting};
+ghost use Rattle.kc_top.specs.Settings.{asked};
 ghost use Rattle.kc_top.specs.Stops.{HasNoText, ended, last_line};
 ghost use Rattle.kc_top.specs.declared.Status.{Status};
 ghost use Rattle.kc_top.specs.declared.setting.Setting.{Setting};
@@ -66,14 +65,14 @@ fn work<S: Source, O: Sink>(
     source: &mut S,
     out: &mut O,
 ) -> Result<(), Stop>
-    ensures usage { ended result ≡ Status.Usage → setting (texts words.now) ≡ None }
-    ensures wrong_words { setting (texts words.now) ≡ None → (ended result ≡ Status.Usage) ⊎ (ended result ≡ Status.NoMemory) }
-    ensures read { OnOk result (reads (setting (texts words.now)) ≡ true → IsAtEnd (S.left source.new)) }
-    ensures unread { reads (setting (texts words.now)) ≡ false → source.new ≡ source.old }
-    ensures took { Took (ended result) (setting (texts words.now)) (given (setting (texts words.now)) (S.left source.old)) (O.taken out.old) (O.taken out.new) }
-    ensures offered { Offered (ended result) (setting (texts words.now)) (given (setting (texts words.now)) (S.left source.old)) (O.first out.old) (O.first out.new) }
-    ensures line { IsErrLine (ended result) (given (setting (texts words.now)) (S.left source.old)) (last_line result) }
-    ensures accepted { (s : Setting) → setting (texts words.now) ≡ Some s → is_some s.generator ≡ true
+    ensures usage { ended result ≡ Status.Usage → asked words.now ≡ None }
+    ensures wrong_words { asked words.now ≡ None → (ended result ≡ Status.Usage) ⊎ (ended result ≡ Status.NoMemory) }
+    ensures read { OnOk result (reads (asked words.now) ≡ true → IsAtEnd (S.left source.new)) }
+    ensures unread { reads (asked words.now) ≡ false → source.new ≡ source.old }
+    ensures took { Took (ended result) (asked words.now) (given (asked words.now) (S.left source.old)) (O.taken out.old) (O.taken out.new) }
+    ensures offered { Offered (ended result) (asked words.now) (given (asked words.now) (S.left source.old)) (O.first out.old) (O.first out.new) }
+    ensures line { IsErrLine (ended result) (given (asked words.now) (S.left source.old)) (last_line result) }
+    ensures accepted { (s : Setting) → asked words.now ≡ Some s → is_some s.generator ≡ true
         → (ended result ≡ Status.Done) ⊎ (ended result ≡ Status.WriteFault) ⊎ (ended result ≡ Status.NoMemory) }
     ensures read_fault { ended result ≡ Status.ReadFault → Rose (S.faults source.old) (S.faults source.new) }
     ensures write_fault { ended result ≡ Status.WriteFault → Rose (O.faults out.old) (O.faults out.new) }
@@ -97,30 +96,33 @@ pub fn run<S: Source, O: Sink, E: Sink>(
     err: &mut E,
 ) -> Status
     // The words are not right, and then nothing is read and nothing is written but the line.
-    ensures usage { result ≡ Status.Usage → setting (texts words.now) ≡ None }
-    ensures wrong_words { setting (texts words.now) ≡ None → (result ≡ Status.Usage) ⊎ (result ≡ Status.NoMemory) }
-    ensures unread { reads (setting (texts words.now)) ≡ false → source.new ≡ source.old }
+    ensures usage { result ≡ Status.Usage → asked words.now ≡ None }
+    ensures wrong_words { asked words.now ≡ None → (result ≡ Status.Usage) ⊎ (result ≡ Status.NoMemory) }
+    ensures unread { reads (asked words.now) ≡ false → source.new ≡ source.old }
 
     // The input is read to its end, and what is written is the text of what it tells.
-    ensures read { result ≡ Status.Done → reads (setting (texts words.now)) ≡ true → IsAtEnd (S.left source.new) }
-    ensures took { Took result (setting (texts words.now)) (given (setting (texts words.now)) (S.left source.old)) (O.taken out.old) (O.taken out.new) }
-    ensures offered { Offered result (setting (texts words.now)) (given (setting (texts words.now)) (S.left source.old)) (O.first out.old) (O.first out.new) }
+    ensures read { result ≡ Status.Done → reads (asked words.now) ≡ true → IsAtEnd (S.left source.new) }
+    ensures took { Took result (asked words.now) (given (asked words.now) (S.left source.old)) (O.taken out.old) (O.taken out.new) }
+    ensures offered { Offered result (asked words.now) (given (asked words.now) (S.left source.old)) (O.first out.old) (O.first out.new) }
 
     // The line about a run that stopped. It is offered whole, so the status is fixed before the sink answers.
     ensures quiet { result ≡ Status.Done → err.new ≡ err.old }
-    ensures line { (line : List ℕ) × IsErrLine result (given (setting (texts words.now)) (S.left source.old)) line
+    ensures line { (line : List ℕ) × IsErrLine result (given (asked words.now) (S.left source.old)) line
         × TookLine (E.taken err.old) (E.taken err.new) (E.faults err.old) (E.faults err.new) line
         × OfferedLine result (E.first err.old) (E.first err.new) line }
 
     // When each status comes.
     ensures read_fault { result ≡ Status.ReadFault → Rose (S.faults source.old) (S.faults source.new) }
     ensures write_fault { result ≡ Status.WriteFault → Rose (O.faults out.old) (O.faults out.new) }
-    ensures refused { result ≡ Status.Refused → IfSome (given (setting (texts words.now)) (S.left source.old)) (λ bytes. (n : ℕ) × (kind : Kind) × (meaning bytes ≡ Refuses n kind)) }
-    ensures refuses { (s : Setting) (bytes : List ℕ) (n : ℕ) (kind : Kind) → setting (texts words.now) ≡ Some s → given (Some s) (S.left source.old) ≡ Some bytes → meaning bytes ≡ Refuses n kind
+    ensures refused { result ≡ Status.Refused
+        → IfSome (given (asked words.now) (S.left source.old)) (λ bytes. (n : ℕ) × (kind : Kind) × (meaning bytes ≡ Refuses n kind)) }
+    ensures refuses { (s : Setting) (bytes : List ℕ) (n : ℕ) (kind : Kind) → asked words.now ≡ Some s
+        → given (Some s) (S.left source.old) ≡ Some bytes → meaning bytes ≡ Refuses n kind
         → (result ≡ Status.Refused) ⊎ (result ≡ Status.ReadFault) ⊎ (result ≡ Status.NoMemory) }
-    ensures complete { (s : Setting) (bytes : List ℕ) (told : Told) → setting (texts words.now) ≡ Some s → given (Some s) (S.left source.old) ≡ Some bytes → meaning bytes ≡ Means told
+    ensures complete { (s : Setting) (bytes : List ℕ) (told : Told) → asked words.now ≡ Some s
+        → given (Some s) (S.left source.old) ≡ Some bytes → meaning bytes ≡ Means told
         → (result ≡ Status.Done) ⊎ (result ≡ Status.ReadFault) ⊎ (result ≡ Status.WriteFault) ⊎ (result ≡ Status.NoMemory) }
-    ensures accepted { (s : Setting) → setting (texts words.now) ≡ Some s → is_some s.generator ≡ true
+    ensures accepted { (s : Setting) → asked words.now ≡ Some s → is_some s.generator ≡ true
         → (result ≡ Status.Done) ⊎ (result ≡ Status.WriteFault) ⊎ (result ≡ Status.NoMemory) }
 {
     match work(alloc, words, source, out) {

@@ -7,8 +7,8 @@ ghost use Rattle.std.specs.Char.{is_ascii_digit};
 ghost use Rattle.std.specs.List.{list_all};
 ghost use Rattle.clap.specs.Matches.{found_of};
 ghost use Rattle.clap.specs.Simple.{app_of};
-ghost use Rattle.clap.specs.Walk.{rows_of, rule_of, texts};
-ghost use Rattle.kc_top.specs.Settings.{command, is_short_numeral, number, option_named, read, setting, setting_in, show, usual_show, workers};
+ghost use Rattle.clap.specs.Walk.{rows_of, rule_of};
+ghost use Rattle.kc_top.specs.Settings.{asked, command, is_short_numeral, number, option_named, read, setting_in, show, usual_show, workers};
 
 use crate::setting::Setting;
 use crate::show::Show;
@@ -152,7 +152,7 @@ fn setting_in(matches: &ArgMatches) -> Option<Setting>
 /// said, there is one worker, no level, no generator, and the core numbers at the end are shown, or with a generator none.
 /// It gives none where the words are not right.
 pub fn setting_of<'a>(alloc: Global, words: &'a [&'a str]) -> Result<Option<Setting>, NoMemory>
-    ensures { IfOk result (λ answer. answer ≡ setting (texts words.now)) }
+    ensures { IfOk result (λ answer. answer ≡ asked words.now) }
 {
     let command = command(alloc)?;
     match command.try_get_matches_from(words) {

@@ -9,7 +9,8 @@ use Rattle.kc_top.proofs.batch.apply_one.Goals as goal
 pub returns-then-update-clause-graph : goal.returns-then-update-clause-graph
 returns-then-update-clause-graph c =
     let g : SimpleGraph = c.args.graph.now in let u : ℕ = c.args.update.u in let v : ℕ = c.args.update.v in
-    let same : with_edge g u v ≡ graph_with g (c.args.update.add, u, v) = graph_with-add g u v c.args.update.ordered ∙ ap (λ (b : Bool). graph_with g (b, u, v)) (sym c.if-update.true) in
+    let same : with_edge g u v ≡ graph_with g (c.args.update.add, u, v) = graph_with-add g u v c.args.update.ordered
+    ∙ ap (λ (b : Bool). graph_with g (b, u, v)) (sym c.if-update.true) in
     subst (λ (x : SimpleGraph). OnOk c.add.result (c.add.new.self ≡ x)) same c.add.ensures.ok
 
 pub returns-then-update-clause-applied : goal.returns-then-update-clause-applied

@@ -10,5 +10,6 @@ invariant-loop-updates l = record {
   size : l.graph.size ≡ l.fn.graph.size;
   rest : (after last : List ℕ) → TellsBatches (shown_each l.show l.batches.ids.items) (l.number + 1) l.graph l.core.items
       (counted_batches (drop l.updates-index l.batches.updates.items) (drop l.updates-index l.batches.overruled.items)) l.text.items after last
-      → TellsBatches (shown_each l.show l.batches.ids.items) 1 l.fn.graph l.fn.core.items (counted_batches l.batches.updates.items l.batches.overruled.items) l.fn.text.items after last;
+      → TellsBatches (shown_each l.show l.batches.ids.items) 1 l.fn.graph l.fn.core.items
+      (counted_batches l.batches.updates.items l.batches.overruled.items) l.fn.text.items after last;
 }

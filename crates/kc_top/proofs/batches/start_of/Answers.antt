@@ -7,7 +7,8 @@ use Rattle.kc_top.proofs.batches.start_of.Goals as goal
 
 pub returns-clause-within : goal.returns-clause-within
 returns-clause-within c =
-    let size : length c.args.input.ids.items ≡ c.in_ok-graph.graph.size = sym (ap (λ (g : SimpleGraph). g.size) c.in_ok-graph.ensures ∙ omega (arith, c.len.ensures)) in
+    let size : length c.args.input.ids.items ≡ c.in_ok-graph.graph.size = sym (ap (λ (g : SimpleGraph). g.size) c.in_ok-graph.ensures
+    ∙ omega (arith, c.len.ensures)) in
     record {
       ids = size;
       few = c.requires.few_batches;

@@ -6,4 +6,5 @@ use Rattle.kc_text.specs.declared.limits.TheConstants.{MOST_BYTES}
 use Rattle.kc_top.proofs.reading.generated_bytes.Goals as goal
 
 pub returns-clause-few : goal.returns-clause-few
-returns-clause-few c = IfOk-weaker c.generate.result _ _ (λ bytes is. subst (λ (t : List ℕ). length t ≤ MOST_BYTES) (sym is) (length-generated c.args.number)) c.generate.ensures
+returns-clause-few c = IfOk-weaker c.generate.result _ _
+    (λ bytes is. subst (λ (t : List ℕ). length t ≤ MOST_BYTES) (sym is) (length-generated c.args.number)) c.generate.ensures

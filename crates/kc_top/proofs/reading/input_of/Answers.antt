@@ -8,9 +8,11 @@ use Rattle.kc_top.proofs.reading.input_of.Goals as goal
 pub returns-clause-stopped : goal.returns-clause-stopped
 returns-clause-stopped g c =
     IfErr-weaker c.parsed.result _ _
-    (λ s h. HasNoText-bytes s c.in_ok-bytes.bytes.items (generated_or c.args.generator (g.S.Source.left c.args.source.now)) _ _ h c.in_ok-bytes.ensures.bytes) c.parsed.ensures.stopped
+    (λ s h. HasNoText-bytes s c.in_ok-bytes.bytes.items
+    (generated_or c.args.generator (g.S.Source.left c.args.source.now)) _ _ h c.in_ok-bytes.ensures.bytes) c.parsed.ensures.stopped
 
 pub returns-clause-accepted : goal.returns-clause-accepted
 returns-clause-accepted g c = λ some.
     IfErr-weaker c.parsed.result _ _
-    (λ s h. generated_only_memory c.args.generator (g.S.Source.left c.args.source.now) c.in_ok-bytes.bytes.items s some c.in_ok-bytes.ensures.bytes h) c.parsed.ensures.stopped
+    (λ s h. generated_only_memory c.args.generator
+    (g.S.Source.left c.args.source.now) c.in_ok-bytes.bytes.items s some c.in_ok-bytes.ensures.bytes h) c.parsed.ensures.stopped

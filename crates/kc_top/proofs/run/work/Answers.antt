@@ -9,5 +9,8 @@ use Rattle.kc_top.proofs.run.work.Goals as goal
 
 pub returns-in_err-setting_of-clause-took : goal.returns-in_err-setting_of-clause-took
 returns-in_err-setting_of-clause-took g c =
-    Took-ended c.from_residual.result stop.NoMemory (setting (texts c.args.words.now)) (given (setting (texts c.args.words.now)) (g.S.Source.left c.args.source.now)) (g.O.Sink.taken c.args.out.now) (g.O.Sink.taken c.args.out.now) c.from_residual.ensures.1
-    (TookSome-nothing (setting (texts c.args.words.now)) (given (setting (texts c.args.words.now)) (g.S.Source.left c.args.source.now)) (g.O.Sink.taken c.args.out.now) (g.O.Sink.taken c.args.out.now) (Appends-nil (g.O.Sink.taken c.args.out.now)))
+    Took-ended c.from_residual.result stop.NoMemory (setting (texts c.args.words.now))
+    (given (setting (texts c.args.words.now)) (g.S.Source.left c.args.source.now)) (g.O.Sink.taken c.args.out.now)
+    (g.O.Sink.taken c.args.out.now) c.from_residual.ensures.1
+    (TookSome-nothing (setting (texts c.args.words.now)) (given (setting (texts c.args.words.now)) (g.S.Source.left c.args.source.now))
+    (g.O.Sink.taken c.args.out.now) (g.O.Sink.taken c.args.out.now) (Appends-nil (g.O.Sink.taken c.args.out.now)))

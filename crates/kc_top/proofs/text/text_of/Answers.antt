@@ -12,7 +12,8 @@ put_end-requires c =
     let g : SimpleGraph = c.in_ok-graph.graph in
     let tells = c.in_ok-last.ensures in
     let last : length c.in_ok-last.last.items ≡ g.size =
-    ap length tells.is_last ∙ length-last_of g (batches_of c.in_ok-graph.batches) c.in_ok-core.core.items tells.later c.in_ok-core.ensures.one_each tells.numbers in
+    ap length tells.is_last ∙ length-last_of g
+    (batches_of c.in_ok-graph.batches) c.in_ok-core.core.items tells.later c.in_ok-core.ensures.one_each tells.numbers in
     ap length c.deref-3.ensures.value ∙ c.in_ok-graph.ensures.within.ids ∙ sym last ∙ sym (ap length c.deref-4.ensures.value)
 
 pub returns : goal.returns
@@ -22,12 +23,18 @@ returns c = λ told h.
     let given : List ℕ = c.args.input.ids.items in
     let ids : c.in_ok-graph.batches.ids.items ≡ given = ap (λ (v : Vec ℕ Global). v.items) c.in_ok-graph.ensures.ids in
     let batches : batches_of c.in_ok-graph.batches ≡ counted_batches c.args.input.batches.items c.args.input.overruled.items =
-    ap₂ (λ (us : Vec (Vec Update Global) Global) (ns : Vec ℕ Global). counted_batches us.items ns.items) c.in_ok-graph.ensures.updates c.in_ok-graph.ensures.overruled in
+    ap₂ (λ (us : Vec (Vec Update Global) Global) (ns : Vec ℕ Global). counted_batches us.items ns.items) c.in_ok-graph.ensures.updates
+    c.in_ok-graph.ensures.overruled in
     let before : c.in_ok-text.text.items ≡ first_line g core ++ shown_each c.args.setting.show given core =
-    c.in_ok-text.ensures ∙ ap₂ (λ (is cs : List ℕ). first_line g cs ++ shown_each c.args.setting.show is cs) (c.deref.ensures.value ∙ ids) c.deref-2.ensures.value in
-    let tells : TellsBatches (shown_each c.args.setting.show given) 1 g core (batches_of c.in_ok-graph.batches) c.in_ok-text.text.items c.put_batches.new.text.items c.in_ok-last.last.items =
-    subst (λ (is : List ℕ). TellsBatches (shown_each c.args.setting.show is) 1 g core (batches_of c.in_ok-graph.batches) c.in_ok-text.text.items c.put_batches.new.text.items c.in_ok-last.last.items) ids c.in_ok-last.ensures in
-    IsText-from c.args.setting told c.args.input h g (batches_of c.in_ok-graph.batches) core c.in_ok-text.text.items c.put_batches.new.text.items c.in_ok-last.last.items c.put_end.new.text.items
+    c.in_ok-text.ensures ∙ ap₂ (λ (is cs : List ℕ). first_line g cs ++ shown_each c.args.setting.show is cs)
+    (c.deref.ensures.value ∙ ids) c.deref-2.ensures.value in
+    let tells : TellsBatches (shown_each c.args.setting.show given) 1 g core
+    (batches_of c.in_ok-graph.batches) c.in_ok-text.text.items c.put_batches.new.text.items c.in_ok-last.last.items =
+    subst (λ (is : List ℕ). TellsBatches (shown_each c.args.setting.show is) 1 g core
+    (batches_of c.in_ok-graph.batches) c.in_ok-text.text.items c.put_batches.new.text.items c.in_ok-last.last.items) ids c.in_ok-last.ensures in
+    IsText-from c.args.setting told c.args.input h g
+    (batches_of c.in_ok-graph.batches) core c.in_ok-text.text.items c.put_batches.new.text.items c.in_ok-last.last.items c.put_end.new.text.items
     c.in_ok-graph.ensures.graph batches c.in_ok-core.ensures before tells
-    (c.in_ok-put_end.ensures ∙ ap₂ (λ (is cs : List ℕ). c.put_batches.new.text.items ++ (shown_last c.args.setting.show is cs ++ shown_level c.args.setting.level is cs))
+    (c.in_ok-put_end.ensures ∙ ap₂
+    (λ (is cs : List ℕ). c.put_batches.new.text.items ++ (shown_last c.args.setting.show is cs ++ shown_level c.args.setting.level is cs))
     (c.deref-3.ensures.value ∙ ids) c.deref-4.ensures.value)

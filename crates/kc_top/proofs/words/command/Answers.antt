@@ -6,8 +6,10 @@ use Rattle.kc_top.proofs.words.command.Goals as goal
 
 pub returns : goal.returns
 returns c =
-    let plain : app_of c.disable_version_flag.result ≡ on_top (λ top. record top { no_binary_name = true; disable_help_flag = true; disable_version_flag = true }) (new_app (codes "kcore")) =
-    ap app_of_fields c.disable_version_flag.ensures ∙ ap (λ (a : App). on_top (λ top. record top { disable_version_flag = true }) a) (ap app_of_fields c.disable_help_flag.ensures)
+    let plain : app_of c.disable_version_flag.result ≡ on_top
+    (λ top. record top { no_binary_name = true; disable_help_flag = true; disable_version_flag = true }) (new_app (codes "kcore")) =
+    ap app_of_fields c.disable_version_flag.ensures ∙ ap (λ (a : App). on_top (λ top. record top { disable_version_flag = true }) a)
+    (ap app_of_fields c.disable_help_flag.ensures)
     ∙ ap (λ (a : App). on_top (λ top. record top { disable_help_flag = true; disable_version_flag = true }) a) (ap app_of_fields c.no_binary_name.ensures)
     ∙ ap (λ (a : App). on_top (λ top. record top { no_binary_name = true; disable_help_flag = true; disable_version_flag = true }) a) c.new.ensures.app in
     IfOk-weaker c.arg-4.result _ _ (λ made h. h.shape c.option_named-4.ensures.local

@@ -1,5 +1,6 @@
 -- What std reads of a text of digits alone is the value of its digits.
-use Rattle.std.proofs.Common.{rules, ◌≡◌, ◌<◌, ◌^◌, List, ℕ, Bool, true, Some, None, Result, Ok, Err, length, nat_lt, nat_le, ◌&&◌, sym, ◌∙◌, ap, lt-ltb, ltb-true, cond}
+use Rattle.std.proofs.Common.{rules, ◌≡◌, ◌<◌, ◌^◌, List, ℕ, Bool, true, Some, None, Result}
+use Rattle.std.proofs.Common.{Ok, Err, length, nat_lt, nat_le, ◌&&◌, sym, ◌∙◌, ap, lt-ltb, ltb-true, cond}
 use Rattle.std.proofs.lemmas.Bool.{and_from, and_parts, and_right, false_from_ne_true}
 use Rattle.std.proofs.lemmas.Str.Parse.{IsNumeralModel, numerals_by_value, parse_digits}
 use Rattle.std.specs.Char.{is_ascii_digit}
@@ -20,14 +21,19 @@ has_digits text short =
     (ltb-true 0 (length text) (and_parts (nat_lt 0 (length text)) (nat_le (length text) MOST_DIGITS) size).0, digits)
 
 -- a numeral is read where its value fits
-reads : {E : Type 0} → (text : List ℕ) (r : Result ℕ E) → is_short_numeral text ≡ true → OkIff r ((0 < length text) × (digits_value 10 text < 2 ^ 32)) (digits_value 10 text) → result_ok r ≡ number text
-reads text (Ok n) short h = ap (λ (x : ℕ). Some x) h.1 ∙ sym (ap (λ (b : Bool). cond b (Some (digits_value 10 text)) None) (and_from (is_short_numeral text) (nat_lt (digits_value 10 text) (2 ^ 32)) short (lt-ltb (digits_value 10 text) (2 ^ 32) h.0.1)))
+reads : {E : Type 0} → (text : List ℕ) (r : Result ℕ E) → is_short_numeral text ≡ true
+    → OkIff r ((0 < length text) × (digits_value 10 text < 2 ^ 32)) (digits_value 10 text) → result_ok r ≡ number text
+reads text (Ok n) short h = ap (λ (x : ℕ). Some x) h.1
+    ∙ sym (ap (λ (b : Bool). cond b (Some (digits_value 10 text)) None)
+    (and_from (is_short_numeral text) (nat_lt (digits_value 10 text) (2 ^ 32)) short (lt-ltb (digits_value 10 text) (2 ^ 32) h.0.1)))
 reads text (Err e) short h =
     sym (ap (λ (b : Bool). cond b (Some (digits_value 10 text)) None)
-    (and_right (is_short_numeral text) (nat_lt (digits_value 10 text) (2 ^ 32)) (false_from_ne_true (nat_lt (digits_value 10 text) (2 ^ 32)) (λ t. h ((has_digits text short).0, ltb-true (digits_value 10 text) (2 ^ 32) t)))))
+    (and_right (is_short_numeral text) (nat_lt (digits_value 10 text) (2 ^ 32))
+    (false_from_ne_true (nat_lt (digits_value 10 text) (2 ^ 32)) (λ t. h ((has_digits text short).0, ltb-true (digits_value 10 text) (2 ^ 32) t)))))
 
 pub returns-then-is_short_numeral : goal.returns-then-is_short_numeral
 returns-then-is_short_numeral c =
     let text : List ℕ = c.args.text.now in
-    let short : is_short_numeral text ≡ true = ap is_short_numeral (sym c.as_bytes.ensures.value) ∙ sym c.is_short_numeral.ensures ∙ c.if-is_short_numeral.true in
+    let short : is_short_numeral text ≡ true = ap is_short_numeral (sym c.as_bytes.ensures.value) ∙ sym c.is_short_numeral.ensures
+    ∙ c.if-is_short_numeral.true in
     c.ok.ensures.value ∙ reads text c.parse.result short (parse_digits own 32 text c.parse.result c.parse.ensures.value.0 (has_digits text short).1)

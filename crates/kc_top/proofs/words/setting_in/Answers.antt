@@ -21,18 +21,23 @@ Given = Option (Option ℕ)
 second_wrong : (w : Given) (workers : Option ℕ) (s : Option (Option Show)) (l g : Given) → w ≡ Some workers → s ≡ None → together w s l g ≡ None
 second_wrong w workers s l g a b = ap₂ (λ (x : Given) (y : Option (Option Show)). together x y l g) a b
 
-third_wrong : (w : Given) (workers : Option ℕ) (s : Option (Option Show)) (show : Option Show) (l g : Given) → w ≡ Some workers → s ≡ Some show → l ≡ None → together w s l g ≡ None
-third_wrong w workers s show l g a b d = ap₂ (λ (x : Given) (y : Option (Option Show)). together x y l g) a b ∙ ap (λ (z : Given). together (Some workers) (Some show) z g) d
+third_wrong : (w : Given) (workers : Option ℕ) (s : Option (Option Show)) (show : Option Show) (l g : Given) → w ≡ Some workers → s ≡ Some show
+    → l ≡ None → together w s l g ≡ None
+third_wrong w workers s show l g a b d = ap₂ (λ (x : Given) (y : Option (Option Show)). together x y l g) a b
+    ∙ ap (λ (z : Given). together (Some workers) (Some show) z g) d
 
-fourth : (w : Given) (workers : Option ℕ) (s : Option (Option Show)) (show : Option Show) (l : Given) (level : Option ℕ) (g g' : Given) → w ≡ Some workers → s ≡ Some show → l ≡ Some level → g ≡ g'
+fourth : (w : Given) (workers : Option ℕ) (s : Option (Option Show)) (show : Option Show) (l : Given) (level : Option ℕ) (g g' : Given)
+    → w ≡ Some workers → s ≡ Some show → l ≡ Some level → g ≡ g'
     → together w s l g ≡ together (Some workers) (Some show) (Some level) g'
-fourth w workers s show l level g g' a b d e = ap₂ (λ (x : Given) (y : Option (Option Show)). together x y l g) a b ∙ ap₂ (λ (y z : Given). together (Some workers) (Some show) y z) d e
+fourth w workers s show l level g g' a b d e = ap₂ (λ (x : Given) (y : Option (Option Show)). together x y l g) a b
+    ∙ ap₂ (λ (y z : Given). together (Some workers) (Some show) y z) d e
 
 pub returns-in_err-workers : goal.returns-in_err-workers
 returns-in_err-workers c =
     let found : Found = found_of c.args.matches.now in
     let w = from_row workers found (codes "workers") c.get_str.result c.read_workers.result c.read_workers.ensures c.get_str.ensures in
-    c.from_residual.ensures ∙ sym (ap (λ (x : Given). together x (read show (first_of (codes "show") (rows_of found))) (read number (first_of (codes "level") (rows_of found)))
+    c.from_residual.ensures ∙ sym (ap
+    (λ (x : Given). together x (read show (first_of (codes "show") (rows_of found))) (read number (first_of (codes "level") (rows_of found)))
     (read number (first_of (codes "gen") (rows_of found)))) (sym w ∙ c.in_err-workers.was))
 
 pub returns-in_err-show : goal.returns-in_err-show
@@ -49,7 +54,8 @@ returns-in_err-level c =
     let w = from_row workers found (codes "workers") c.get_str.result c.read_workers.result c.read_workers.ensures c.get_str.ensures in
     let s = from_row show found (codes "show") c.get_str-2.result c.read_show.result c.read_show.ensures c.get_str-2.ensures in
     let l = from_row number found (codes "level") c.get_str-3.result c.read_number.result c.read_number.ensures c.get_str-3.ensures in
-    c.from_residual-in_err-level.ensures ∙ sym (third_wrong _ c.in_ok-workers.workers _ c.in_ok-show.show _ (read number (first_of (codes "gen") (rows_of found)))
+    c.from_residual-in_err-level.ensures
+    ∙ sym (third_wrong _ c.in_ok-workers.workers _ c.in_ok-show.show _ (read number (first_of (codes "gen") (rows_of found)))
     (sym w ∙ c.in_ok-workers.was) (sym s ∙ c.in_ok-show.was) (sym l ∙ c.in_err-level.was))
 
 pub returns-in_err-generator : goal.returns-in_err-generator
@@ -69,7 +75,9 @@ returns c =
     let s = from_row show found (codes "show") c.get_str-2.result c.read_show.result c.read_show.ensures c.get_str-2.ensures in
     let l = from_row number found (codes "level") c.get_str-3.result c.read_number.result c.read_number.ensures c.get_str-3.ensures in
     let g = from_row number found (codes "gen") c.get_str-4.result c.read_number-2.result c.read_number-2.ensures c.get_str-4.ensures in
-    let shown : c.unwrap_or-2.result ≡ unwrap_or c.in_ok-show.show (usual_show c.in_ok-generator.generator) = c.unwrap_or-2.ensures ∙ ap (unwrap_or c.in_ok-show.show) c.usual_show.ensures in
-    ap₂ (λ (n : ℕ) (shown : Show). let made : Setting = record { workers = n; show = shown; level = c.in_ok-level.level; generator = c.in_ok-generator.generator } in Some made) c.unwrap_or.ensures shown
+    let shown : c.unwrap_or-2.result ≡ unwrap_or c.in_ok-show.show (usual_show c.in_ok-generator.generator) = c.unwrap_or-2.ensures
+    ∙ ap (unwrap_or c.in_ok-show.show) c.usual_show.ensures in
+    ap₂ (λ (n : ℕ) (shown : Show). let made : Setting =
+    record { workers = n; show = shown; level = c.in_ok-level.level; generator = c.in_ok-generator.generator } in Some made) c.unwrap_or.ensures shown
     ∙ sym (fourth _ c.in_ok-workers.workers _ c.in_ok-show.show _ c.in_ok-level.level _ (Some c.in_ok-generator.generator)
     (sym w ∙ c.in_ok-workers.was) (sym s ∙ c.in_ok-show.was) (sym l ∙ c.in_ok-level.was) (sym g ∙ c.in_ok-generator.was))
