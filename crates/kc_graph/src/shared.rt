@@ -99,7 +99,8 @@ impl SharedGraph {
     /// more holders can be counted.
     pub fn share_neighbours(&self, v: u32) -> Result<Neighbours, NoMemory>
         requires { v < self.now.size }
-        ensures { IfOk result (λ list. list ≡ neighbours_of self.now v) }
+        ensures list { IfOk result (λ list. list ≡ neighbours_of self.now v) }
+        ensures near { IfOk result (λ list. AreNeighbours self.now v list) }
     {
         self.rows[v as usize].share()
     }
