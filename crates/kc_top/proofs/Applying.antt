@@ -26,9 +26,11 @@ Part = Bool × ℕ × ℕ
 abbrev adds_it : ℕ × ℕ → Part → Bool
 adds_it q update = is_add update && eq_by_cmp pair_cmp q (changed_edge update)
 
+-- an update that removes the edge q
 abbrev removes_it : ℕ × ℕ → Part → Bool
 removes_it q update = not (is_add update) && eq_by_cmp pair_cmp q (changed_edge update)
 
+-- an edge is one of those that are kept where an update that is kept has it
 any-kept : (keep : Part → Bool) (q : ℕ × ℕ) (batch : List Part)
     → list_any (eq_by_cmp pair_cmp q) (map changed_edge (filter keep batch))
     ≡ list_any (λ update. keep update && eq_by_cmp pair_cmp q (changed_edge update)) batch
@@ -53,10 +55,12 @@ contains-after edges batch q =
     (set.contains-from_list pair_total (edges_added batch) q ∙ any-kept is_add q batch))
     (set.contains-from_list pair_total (edges_removed batch) q ∙ any-kept (λ update. not (is_add update)) q batch)
 
+-- nothing added and nothing taken away
 or-none : (a : Bool) → ((a || false) && not false) ≡ a
 or-none true = refl
 or-none false = refl
 
+-- an empty batch changes nothing
 pub graph_after_batch-nil : (g : SimpleGraph) → graph_after_batch g [] ≡ g
 graph_after_batch-nil g =
     let same : edges_after_batch g.edges [] ≡ g.edges = set.same_set pair_total pair_exact _ _ (λ q. contains-after g.edges [] q
@@ -67,6 +71,7 @@ graph_after_batch-nil g =
 abbrev Spares : ℕ × ℕ → List Part → Type 0
 Spares q batch = All (λ update. changed_edge update ≢ q) batch
 
+-- no update of a batch that spares an edge has it
 none-names : (keep : Part → Bool) (q : ℕ × ℕ) (batch : List Part) → Spares q batch
     → list_any (λ update. keep update && eq_by_cmp pair_cmp q (changed_edge update)) batch ≡ false
 none-names keep q batch spares = list_any_none (λ update. keep update && eq_by_cmp pair_cmp q (changed_edge update)) batch
@@ -79,6 +84,7 @@ contains-spared edges batch q spares =
     contains-after edges batch q ∙ ap₂ (λ (a r : Bool). (set.contains edges q || a) && not r) (none-names is_add q batch spares)
     (none-names (λ update. not (is_add update)) q batch spares) ∙ or-none (set.contains edges q)
 
+-- an update of an edge that the batch before it spares is effective after it where it is before it
 pub is_effective-later : (edges : set.FinSet pair_cmp) (batch : List Part) (x : Part) → Spares (changed_edge x) batch
     → is_effective (edges_after_batch edges batch) x ≡ is_effective edges x
 is_effective-later edges batch x spares = ap (λ t. cond (is_add x) (not t) t) (contains-spared edges batch (changed_edge x) spares)
@@ -96,6 +102,7 @@ add-more false true false false h = refl
 add-more false false true false h = refl
 add-more false false false false h = refl
 
+-- and one that removes
 remove-more : (c a r e : Bool) → (not e && ((c || a) && not r)) ≡ ((c || (a || false)) && not (r || (e || false)))
 remove-more true a true true = refl
 remove-more true a true false = refl
@@ -111,6 +118,7 @@ remove-more false false false true = refl
 remove-more false false false false = refl
 
 module _ (edges : set.FinSet pair_cmp) (batch : List Part) (x : Part) (spares : Spares (changed_edge x) batch) where
+  -- an edge is there after one update more where it is after the batch with that update
   contains-push : (q : ℕ × ℕ)
       → set.contains (cond (is_add x) (set.insert (edges_after_batch edges batch) (changed_edge x))
       (set.remove (edges_after_batch edges batch) (changed_edge x))) q ≡ set.contains (edges_after_batch edges (batch ++ x ∷ [])) q
@@ -131,6 +139,7 @@ module _ (edges : set.FinSet pair_cmp) (batch : List Part) (x : Part) (spares : 
         | false ↦ set.contains-remove pair_total (edges_after_batch edges batch) (changed_edge x) q ∙ ap (λ t. not e && t) before ∙ remove-more c a r e
       ] ∙ sym after
 
+  -- so the edges are the same
   edges_after_batch-push : cond (is_add x) (set.insert (edges_after_batch edges batch) (changed_edge x))
       (set.remove (edges_after_batch edges batch) (changed_edge x)) ≡ edges_after_batch edges (batch ++ x ∷ [])
   edges_after_batch-push = set.same_set pair_total pair_exact _ _ contains-push
@@ -141,18 +150,23 @@ pub graph_after_batch-push : (g : SimpleGraph) (batch : List Part) (x : Part) �
 graph_after_batch-push g batch x spares = ap (λ (e : set.FinSet pair_cmp). let y : SimpleGraph = record { size = g.size; edges = e } in y)
     (edges_after_batch-push g.edges batch x spares)
 
+-- a pair in order is an edge as it stands
 edge-ordered : (u v : ℕ) → u < v → edge u v ≡ (u, v)
 edge-ordered u v l = ap (λ t. cond t (u, v) (v, u)) (lt-ltb u v l)
 
+-- so ends in order are neighbours where their pair is an edge
 pub contains-ordered : (g : SimpleGraph) (u v : ℕ) → u < v → adjacent g u v ≡ set.contains g.edges (u, v)
 contains-ordered g u v l = ap (λ t. cond t (set.contains g.edges (u, v)) (ltb v u && set.contains g.edges (v, u))) (lt-ltb u v l)
 
+-- adding an edge is one update
 pub graph_with-add : (g : SimpleGraph) (u v : ℕ) → u < v → with_edge g u v ≡ graph_with g (true, u, v)
 graph_with-add g u v l = ap (λ (p : ℕ × ℕ). let x : SimpleGraph = record { size = g.size; edges = set.insert g.edges p } in x) (edge-ordered u v l)
 
+-- and so is removing one
 pub graph_with-remove : (g : SimpleGraph) (u v : ℕ) → u < v → without_edge g u v ≡ graph_with g (false, u, v)
 graph_with-remove g u v l = ap (λ (p : ℕ × ℕ). let x : SimpleGraph = record { size = g.size; edges = set.remove g.edges p } in x) (edge-ordered u v l)
 
+-- a count goes on by one where the new element passes
 count_by-push : (p : Part → Bool) (batch : List Part) (x : Part) → count_by p (batch ++ x ∷ []) ≡ cond (p x) (count_by p batch + 1) (count_by p batch)
 count_by-push p batch x =
     let both : count_by p (batch ++ x ∷ []) ≡ count_by p batch + count_by p (x ∷ []) = sum_by-append (λ y. cond (p y) 1 0) batch (x ∷ []) in
@@ -161,6 +175,7 @@ count_by-push p batch x =
 
 -- the update `x` at the place `i` of a batch of updates of different edges
 module _ (batch : List Update) (i : ℕ) (x : Update) (l : i < length batch) (here : x ≡ get_or batch i x) where
+  -- the updates up to `x` are those before it, and then `x`
   more : map parts_of (take (i + 1) batch) ≡ map parts_of (take i batch) ++ parts_of x ∷ []
   more = map_more parts_of batch i x l ∙ ap (λ (u : Update). map parts_of (take i batch) ++ parts_of u ∷ []) (sym here)
 
@@ -171,10 +186,12 @@ module _ (batch : List Update) (i : ℕ) (x : Update) (l : i < length batch) (he
       apart j i d (omega (arith, short)) l
       (ap inputs.edge_of (sym (get_or-take i batch j d (omega (arith, short)))) ∙ e ∙ ap inputs.edge_of (here ∙ get_or_default batch i x d l)))
 
+  -- the graph after those before it and then `x` is that after all up to `x`
   pub graph_after_batch-more : (g : SimpleGraph) → AllPairs (λ u w. inputs.edge_of u ≢ inputs.edge_of w) batch
       → graph_with (graph_after_batch g (map parts_of (take i batch))) (parts_of x) ≡ graph_after_batch g (map parts_of (take (i + 1) batch))
   graph_after_batch-more g apart = graph_after_batch-push g (map parts_of (take i batch)) (parts_of x) (spares apart) ∙ ap (graph_after_batch g) (sym more)
 
+  -- `x` is effective there where it is before the batch
   pub is_effective-here : (edges : set.FinSet pair_cmp) → AllPairs (λ u w. inputs.edge_of u ≢ inputs.edge_of w) batch
       → is_effective (edges_after_batch edges (map parts_of (take i batch))) (parts_of x) ≡ is_effective edges (parts_of x)
   is_effective-here edges apart = is_effective-later edges (map parts_of (take i batch)) (parts_of x) (spares apart)

@@ -22,20 +22,24 @@ abbrev numbers_from : ℕ → ℕ → List ℕ
 numbers_from a zero = []
 numbers_from a (suc n) = a ∷ numbers_from (suc a) n
 
+-- there are n of them
 length-numbers_from : (a n : ℕ) → length (numbers_from a n) ≡ n
 length-numbers_from a zero = refl
 length-numbers_from a (suc n) = omega (arith, length-numbers_from (suc a) n)
 
+-- the k-th is a + k
 get_or-numbers_from : (a n k : ℕ) → k < n → get_or (numbers_from a n) k 0 ≡ a + k
 get_or-numbers_from a zero k l = absurd (omega arith)
 get_or-numbers_from a (suc n) zero l = omega arith
 get_or-numbers_from a (suc n) (suc k) l = omega (arith, get_or-numbers_from (suc a) n k (omega arith))
 
+-- they rise
 increasing : (a n : ℕ) → IsStrictlyIncreasing (numbers_from a n)
 increasing a n = λ k l.
     let long : length (numbers_from a n) ≡ n = length-numbers_from a n in
     omega (arith, get_or-numbers_from a n k (omega arith), get_or-numbers_from a n (k + 1) (omega arith))
 
+-- each number from a to below a + n is among them
 member-numbers_from : (a n x : ℕ) → a ≤ x → x < a + n → member x (numbers_from a n) ≡ true
 member-numbers_from a zero x low high = absurd (omega arith)
 member-numbers_from a (suc n) x low high = elim (cases_eq x a) [
@@ -48,10 +52,12 @@ abbrev above : List ℕ → ℕ
 above [] = 0
 above (x ∷ xs) = max (x + 1) (above xs)
 
+-- a member is below the number above all
 member-above : (x : ℕ) (xs : List ℕ) → member x xs ≡ true → x < above xs
 member-above x [] m = absurd (cc)
 member-above x (y ∷ xs) m = elim (member-cases x y xs m) [ inl e ↦ omega arith | inr m' ↦ omega (arith, member-above x xs m') ]
 
+-- names have ids: those of all numbers up to the greatest name that are names
 ids_exist : (named : List ℕ) → (ids : List ℕ) × AreIds named ids
 ids_exist named =
     let all : List ℕ = numbers_from 0 (above named) in (
@@ -63,9 +69,11 @@ ids_exist named =
       },
     )
 
+-- a graph has core numbers
 cores_exist : (g : SimpleGraph) → (core : List ℕ) × AreCoreNumbers g core
 cores_exist g = let (core, order, shown) = certificate_exists g in (core, certified g core order shown)
 
+-- so has the graph after each batch
 later_exist : (g : SimpleGraph) (batches : List Batch) → (later : List (List ℕ)) × AreCoresAfter g batches later
 later_exist g [] = ([], tt)
 later_exist g (batch ∷ batches) =
@@ -73,6 +81,7 @@ later_exist g (batch ∷ batches) =
     let (later, more) = later_exist (graph_after g batch) batches in
     (core ∷ later, (numbers, more))
 
+-- so every input has a text
 pub text_exists : (setting : Setting) (told : Told) → (text : List ℕ) × IsText setting told text
 text_exists setting told =
     let (ids, named) = ids_exist (names told) in
@@ -83,6 +92,7 @@ text_exists setting told =
       record { ids = ids; core = core; later = later; named = named; numbers = numbers; numbers_later = numbers_later; is = refl },
     )
 
+-- and every meaning has an output
 pub output_exists : (setting : Setting) (m : Meaning) → (text : List ℕ) × IsOutput setting m text
 output_exists setting (Refuses line kind) = ([], refl)
 output_exists setting (Means told) = text_exists setting told

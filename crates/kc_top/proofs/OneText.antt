@@ -20,6 +20,7 @@ abbrev Rises : List ℕ → Type 0
 Rises [] = Unit {0}
 Rises (x ∷ xs) = ((y : ℕ) → is_member nat_eq xs y ≡ true → x < y) × Rises xs
 
+-- a list whose places rise has each number below those after it
 rises_from : (xs : List ℕ) → ((i j : ℕ) → i < j → j < length xs → get_or xs i 0 < get_or xs j 0) → Rises xs
 rises_from [] up = tt
 rises_from (x ∷ xs) up = (
@@ -31,6 +32,7 @@ rises_from (x ∷ xs) up = (
   rises_from xs (λ i j a b. up (suc i) (suc j) (omega arith) (omega arith)),
 )
 
+-- the head of a list is in it
 head_is_member : (x : ℕ) (xs : List ℕ) → is_member nat_eq (x ∷ xs) x ≡ true
 head_is_member x xs = or_left (nat_eq x x) _ (eq-eqb x x refl)
 
@@ -38,6 +40,7 @@ head_is_member x xs = or_left (nat_eq x x) _ (eq-eqb x x refl)
 not_behind : (x : ℕ) (xs : List ℕ) → ((y : ℕ) → is_member nat_eq xs y ≡ true → x < y) → is_member nat_eq xs x ≡ false
 not_behind x xs above = false_from_ne_true (is_member nat_eq xs x) (λ m. let l : x < x = above x m in absurd (omega arith))
 
+-- lists that rise and have the same members are the same
 same_numbers : (xs ys : List ℕ) → Rises xs → Rises ys → ((q : ℕ) → is_member nat_eq xs q ≡ is_member nat_eq ys q) → xs ≡ ys
 same_numbers [] [] a b h = refl
 same_numbers [] (y ∷ ys) a b h = absurd (false≢true (h y ∙ head_is_member y ys))
@@ -60,11 +63,13 @@ same_numbers (x ∷ xs) (y ∷ ys) a b h =
           sym (ap (λ t. t || is_member nat_eq xs q) f) ∙ h q ∙ ap (λ t. t || is_member nat_eq ys q) f'
     ]))
 
+-- names have one list of ids
 ids-unique : (named first second : List ℕ) → AreIds named first → AreIds named second → first ≡ second
 ids-unique named first second a b =
     same_numbers first second (rises_from first (λ i j. AllPairs-from_increasing first a.ascending i j 0))
     (rises_from second (λ i j. AllPairs-from_increasing second b.ascending i j 0)) (λ q. a.exact q ∙ sym (b.exact q))
 
+-- batches have one list of core numbers after each
 later-unique : (g : SimpleGraph) (batches : List Batch) (first second : List (List ℕ)) → AreCoresAfter g batches first
     → AreCoresAfter g batches second → first ≡ second
 later-unique g [] [] [] a b = refl
@@ -76,6 +81,7 @@ later-unique g (batch ∷ batches) (x ∷ xs) (y ∷ ys) a b =
     ap₂ (λ (core : List ℕ) (cores : List (List ℕ)). core ∷ cores) (core-unique (graph_after g batch) x y a.0 b.0)
     (later-unique (graph_after g batch) batches xs ys a.1 b.1)
 
+-- so an input has one text
 pub text-unique : (setting : Setting) (told : Told) (first second : List ℕ) → IsText setting told first → IsText setting told second → first ≡ second
 text-unique setting told first second a b =
     let start : List ℕ → SimpleGraph = λ ids. start_graph ids told.edges in

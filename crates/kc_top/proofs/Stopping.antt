@@ -14,6 +14,7 @@ use Rattle.kc_top.specs.declared.ending.Stop.TheVariants as stop
 use Rattle.kc_top.proofs.Existence.{output_exists}
 use Rattle.kc_text.specs.declared.limits.TheConstants.{MOST_BYTES}
 
+-- a stop at a refusal says why there is no text
 pub HasNoText-refused : (s : Stop) (n : ℕ) (kind : Kind) (input : Option (List ℕ)) (f f' : ℕ) → TellsRefusal s n kind
     → IfSome input (λ bytes. meaning bytes ≡ Refuses n kind) → HasNoText s input f f'
 HasNoText-refused (stop.Refused line) n kind input f f' h m = (n, kind, h, m)
@@ -22,10 +23,12 @@ HasNoText-refused stop.Usage n kind input f f' h m = absurd h
 HasNoText-refused stop.ReadFault n kind input f f' h m = absurd h
 HasNoText-refused stop.WriteFault n kind input f f' h m = absurd h
 
+-- what holds of the bytes that were read holds of all bytes, where they are told
 pub told_is : (P : List ℕ → Type 0) (input : Option (List ℕ)) (bytes : List ℕ) → IfSome input (λ all. bytes ≡ all) → P bytes → IfSome input P
 told_is P None bytes h p = tt
 told_is P (Some all) bytes h p = subst P h p
 
+-- a stop at a refusal of these bytes says why they give no input
 pub IsRefusalOf-refused : (s : Stop) (n : ℕ) (kind : Kind) (bytes : List ℕ) → TellsRefusal s n kind → meaning bytes ≡ Refuses n kind → IsRefusalOf s bytes
 IsRefusalOf-refused (stop.Refused line) n kind bytes h m = (n, kind, h, m)
 IsRefusalOf-refused stop.NoMemory n kind bytes h m = tt
@@ -43,13 +46,16 @@ HasNoText-bytes stop.Usage bytes input f f' h known = absurd h
 HasNoText-bytes stop.ReadFault bytes input f f' h known = absurd h
 HasNoText-bytes stop.WriteFault bytes input f f' h known = absurd h
 
+-- too many bytes are refused as a whole
 pub too_long_refuses : (input : Option (List ℕ)) → IfSome input (λ all. MOST_BYTES < length all) → IfSome input (λ bytes. meaning bytes ≡ Refuses 0 TooLong)
 too_long_refuses None h = tt
 too_long_refuses (Some all) h = ap (λ b. cond b (Refuses 0 TooLong) (reading 0 nothing_told (all_said all))) (lt-ltb MOST_BYTES (length all) h)
 
+-- a text is not empty
 pub some_text : (setting : Setting) (bytes text : List ℕ) → IsTextOf setting bytes text → 0 < length text
 some_text setting bytes text h = omega (arith, ap length h.written.is)
 
+-- whatever the words ask for, there is an output
 output_of : (asked : Option Setting) (bytes : List ℕ) → (text : List ℕ) × IsOutputOf asked bytes text
 output_of None bytes = ([], refl)
 output_of (Some setting) bytes = output_exists setting (meaning bytes)
@@ -70,6 +76,7 @@ Took-nothing stop.NoMemory asked input before after f f' h took = TookSome-nothi
 Took-nothing stop.Usage asked input before after f f' h took = absurd h
 Took-nothing stop.WriteFault asked input before after f f' h took = absurd h
 
+-- what was taken at a stop was taken where the run ended by it
 pub Took-ended : (r : Result (Unit {0}) Stop) (s : Stop) (asked : Option Setting) (input before after : Option (List ℕ)) → IsErrAnd r (λ e. e ≡ s)
     → Took (status_of s) asked input before after → Took (ended r) asked input before after
 Took-ended (Ok u) s asked input before after h took = absurd h

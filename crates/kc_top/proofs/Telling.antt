@@ -24,9 +24,11 @@ length-last_of g [] core (next ∷ later) e h = absurd h
 length-last_of g (batch ∷ batches) core [] e h = absurd h
 length-last_of g (batch ∷ batches) core (next ∷ later) e h = length-last_of (graph_after g batch) batches next later h.0.one_each h.1
 
+-- no batches add nothing
 pub tells-none : (shown : List ℕ → List ℕ) (number : ℕ) (g : SimpleGraph) (core text : List ℕ) → TellsBatches shown number g core [] text text core
 tells-none shown number g core text = record { later = []; numbers = tt; is_last = refl; text = sym (append-nil text) }
 
+-- one batch first, and then the rest
 pub tells-more : (shown : List ℕ → List ℕ) (number : ℕ) (g : SimpleGraph) (core : List ℕ) (batch : Batch) (batches : List Batch)
     (next before middle after last : List ℕ)
     → AreCoreNumbers (graph_after g batch) next
@@ -64,9 +66,11 @@ tells-next batches counts i x updates n l long here same count shown number g g'
     (tells-more shown number g core batch more next before middle after last (subst (λ (y : SimpleGraph). AreCoreNumbers y next) changed numbers) line
     (subst (λ (y : SimpleGraph). TellsBatches shown (number + 1) y next more middle after last) changed rest))
 
+-- the graph of listed pairs
 abbrev pub graph_with_edges : ℕ → List (ℕ × ℕ) → SimpleGraph
 graph_with_edges size pairs = record { size = size; edges = set.from_list {R = pair_cmp} pairs }
 
+-- the pairs of the input make up the graph that is told
 is_start_graph : (told : Told) (input : Input) → IsInput told input
     → graph_with_edges (length input.ids.items) input.start.items ≡ start_graph input.ids.items told.edges
 unfolding start_graph
@@ -95,18 +99,23 @@ parts_of_text : (first each lines ends : List ℕ) → ((first ++ each) ++ lines
 parts_of_text first each lines ends = simp append_assoc
 
 module _ (setting : Setting) (told : Told) (input : Input) (h : IsInput told input) where
+  -- the ids of the input
   abbrev ids : List ℕ
   ids = input.ids.items
 
+  -- the graph at the start
   abbrev start : SimpleGraph
   start = start_graph ids told.edges
 
+  -- what is shown of each state
   abbrev shown : List ℕ → List ℕ
   shown = shown_each setting.show ids
 
+  -- what is shown at the end
   abbrev ends : List ℕ → List ℕ
   ends core = shown_last setting.show ids core ++ shown_level setting.level ids core
 
+  -- the parts that were written, one after another, are the text of the input
   pub IsText-from : (g : SimpleGraph) (batches : List Batch) (core before after last text : List ℕ) → g ≡ graph_with_edges (length ids) input.start.items
       → batches ≡ counted_batches input.batches.items input.overruled.items → AreCoreNumbers g core → before ≡ first_line g core ++ shown core
       → TellsBatches shown 1 g core batches before after last

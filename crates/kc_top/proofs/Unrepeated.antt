@@ -19,11 +19,13 @@ use Rattle.kc_top.proofs.Applying.{Part}
 abbrev alone : List Part → Batch
 alone updates = record { updates = updates; overruled = 0 }
 
+-- a batch that names each edge once is its changes, and overrules none
 alone-batch : (ids : List ℕ) (batch : List Change) → NamesOnce batch → numbered_batch ids batch ≡ alone (map (numbered_change ids) batch)
 alone-batch ids batch once =
     ap₂ (λ (changes : List Change) (n : ℕ). let x : Batch = record { updates = map (numbered_change ids) changes; overruled = n } in x)
     (once-deciding batch once) (once-overruled batch once)
 
+-- so are all of the batches
 alone-batches : (ids : List ℕ) (told : List (List Change)) → All NamesOnce told
     → map (numbered_batch ids) told ≡ map alone (map (map (numbered_change ids)) told)
 alone-batches ids [] once = refl
@@ -31,15 +33,18 @@ alone-batches ids (batch ∷ rest) once =
     ap₂ (λ (x : Batch) (xs : List Batch). x ∷ xs) (alone-batch ids batch (once 0 [] (omega arith)))
     (alone-batches ids rest (λ k d l. once (suc k) d (omega arith)))
 
+-- nothing is shown between the batches
 abbrev silent : List ℕ → List ℕ
 silent core = []
 
+-- the count of none is not written
 same-line : (number : ℕ) (g : SimpleGraph) (batch : List Part) (core : List ℕ) → line_about number g (alone batch) core ≡ unrepeated_line number g batch core
 same-line number g batch core =
     ap (λ (t : List ℕ). t ++ field (codes " edges ") (set.len (graph_after_batch g batch).edges) ++ field (codes " top ") (greatest core) ++ 10 ∷ [])
     (append-nil (field (codes "batch ") number ++ field (codes " added ") (added g.edges batch) ++ field (codes " removed ") (removed g.edges batch)
     ++ field (codes " kept ") (kept g.edges batch)))
 
+-- so the lines about the batches are the same
 same-lines : (number : ℕ) (g : SimpleGraph) (batches : List (List Part)) (cores : List (List ℕ))
     → lines_about silent number g (map alone batches) cores ≡ unrepeated_lines number g batches cores
 same-lines number g [] cores = refl
@@ -47,6 +52,7 @@ same-lines number g (batch ∷ batches) [] = refl
 same-lines number g (batch ∷ batches) (core ∷ cores) =
     ap₂ (λ (a b : List ℕ). a ++ b) (same-line number g batch core) (same-lines (number + 1) (graph_after_batch g batch) batches cores)
 
+-- core numbers after batches of which nothing is overruled are those after their updates
 to-unrepeated : (g : SimpleGraph) (batches : List (List Part)) (later : List (List ℕ)) → AreCoresAfter g (map alone batches) later
     → AreUnrepeatedCores g batches later
 to-unrepeated g [] [] h = tt
@@ -54,6 +60,7 @@ to-unrepeated g [] (core ∷ cores) h = absurd h
 to-unrepeated g (batch ∷ batches) [] h = absurd h
 to-unrepeated g (batch ∷ batches) (core ∷ cores) h = (h.0, to-unrepeated (graph_after_batch g batch) batches cores h.1)
 
+-- and the other way round
 from-unrepeated : (g : SimpleGraph) (batches : List (List Part)) (later : List (List ℕ)) → AreUnrepeatedCores g batches later
     → AreCoresAfter g (map alone batches) later
 from-unrepeated g [] [] h = tt
@@ -61,6 +68,7 @@ from-unrepeated g [] (core ∷ cores) h = absurd h
 from-unrepeated g (batch ∷ batches) [] h = absurd h
 from-unrepeated g (batch ∷ batches) (core ∷ cores) h = (h.0, from-unrepeated (graph_after_batch g batch) batches cores h.1)
 
+-- the whole texts are the same
 same-text : (ids : List ℕ) (told : Told) (core : List ℕ) (later : List (List ℕ)) → All NamesOnce (batches told)
     → lines_for usual_setting ids (start_graph ids told.edges) core (numbered_batches ids told) later
     ≡ first_line (start_graph ids told.edges) core ++ (unrepeated_lines 1 (start_graph ids told.edges) (all_changes ids told) later ++ core_lines ids
@@ -71,6 +79,7 @@ same-text ids told core later once =
     (ap (λ (bs : List Batch). lines_about silent 1 g bs later) (alone-batches ids (batches told) once) ∙ same-lines 1 g (all_changes ids told) later)
     (append-nil (core_lines ids (last_of core later)))
 
+-- a text of the one form is a text of the other
 pub unrepeated-text : (told : Told) (text : List ℕ) → All NamesOnce (batches told) → IsText usual_setting told text ↔ IsUnrepeatedText told text
 unrepeated-text told text once = (
   λ h. record {

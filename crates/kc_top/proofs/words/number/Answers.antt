@@ -11,6 +11,7 @@ use Rattle.kc_top.specs.Settings.{is_short_numeral, number}
 use Rattle.kc_top.specs.declared.words.TheConstants.{MOST_DIGITS}
 use Rattle.kc_top.proofs.words.number.Goals as goal
 
+-- a text of digits alone is a numeral, and its value is that of its digits
 own : IsNumeralModel (λ ds. list_all is_ascii_digit ds ≡ true) (digits_value 10)
 own = numerals_by_value _ (search rules)
 

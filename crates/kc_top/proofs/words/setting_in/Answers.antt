@@ -18,14 +18,17 @@ from_row says found id given r e g = e ∙ ap (read says) (g ∙ first_value-row
 abbrev Given : Type 0
 Given = Option (Option ℕ)
 
+-- a wrong value for `--show` leaves nothing, whatever the later ones are
 second_wrong : (w : Given) (workers : Option ℕ) (s : Option (Option Show)) (l g : Given) → w ≡ Some workers → s ≡ None → together w s l g ≡ None
 second_wrong w workers s l g a b = ap₂ (λ (x : Given) (y : Option (Option Show)). together x y l g) a b
 
+-- so does one for `--level`
 third_wrong : (w : Given) (workers : Option ℕ) (s : Option (Option Show)) (show : Option Show) (l g : Given) → w ≡ Some workers → s ≡ Some show
     → l ≡ None → together w s l g ≡ None
 third_wrong w workers s show l g a b d = ap₂ (λ (x : Given) (y : Option (Option Show)). together x y l g) a b
     ∙ ap (λ (z : Given). together (Some workers) (Some show) z g) d
 
+-- the fourth value decides where the first three are right
 fourth : (w : Given) (workers : Option ℕ) (s : Option (Option Show)) (show : Option Show) (l : Given) (level : Option ℕ) (g g' : Given)
     → w ≡ Some workers → s ≡ Some show → l ≡ Some level → g ≡ g'
     → together w s l g ≡ together (Some workers) (Some show) (Some level) g'

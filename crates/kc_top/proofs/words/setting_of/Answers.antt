@@ -12,14 +12,17 @@ use Rattle.kc_top.specs.Settings.{command, setting, setting_in}
 use Rattle.kc_top.specs.declared.setting.Setting.{Setting}
 use Rattle.kc_top.proofs.words.setting_of.Goals as goal
 
+-- the command is one whose matches are a function of the words
 simple : is_simple command ≡ true
 unfolding clap_on_literals
 simple = refl
 
+-- and none of its options has a rule on another
 free : is_simple_and_free command ≡ true
 unfolding clap_on_literals
 free = refl
 
+-- where no fault is promised, the setting is that of the matches
 right : (words : List Text) (rows : List Row) → fault_of command words ≡ [] → rows ≡ matches_of command words → setting_in rows ≡ setting words
 unfolding setting
 right words rows none same = rw none (ap setting_in same)
