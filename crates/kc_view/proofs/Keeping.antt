@@ -17,7 +17,8 @@ use Rattle.kc_view.specs.Answers.{Answers, Agrees, list_in, core_in, has_list, h
 use Rattle.kc_view.specs.Lists.{IsListOf, AreLists}
 use Rattle.kc_view.specs.Views.{Further, Shown, Lasts, GoesOn}
 
-list_in-front : (w : ℕ) (xs ys : List UsedEdges) → is_some (list_in w xs) ≡ true → list_in w (xs ++ ys) ≡ list_in w xs
+-- a list that was found stays the one that is found, and so does a core number
+pub list_in-front : (w : ℕ) (xs ys : List UsedEdges) → is_some (list_in w xs) ≡ true → list_in w (xs ++ ys) ≡ list_in w xs
 list_in-front w [] ys h = absurd (false≢true h)
 list_in-front w (x ∷ xs) ys h =
     elim (eqb w x.vertex) as (λ b. is_some (cond b (Some x.neighbours) (list_in w xs)) ≡ true → cond b (Some x.neighbours) (list_in w (xs ++ ys)) ≡ cond b (Some x.neighbours) (list_in w xs)) [
@@ -25,7 +26,7 @@ list_in-front w (x ∷ xs) ys h =
       | false ↦ λ k. list_in-front w xs ys k
     ] h
 
-core_in-front : (w : ℕ) (xs ys : List UsedPlace) → is_some (core_in w xs) ≡ true → core_in w (xs ++ ys) ≡ core_in w xs
+pub core_in-front : (w : ℕ) (xs ys : List UsedPlace) → is_some (core_in w xs) ≡ true → core_in w (xs ++ ys) ≡ core_in w xs
 core_in-front w [] ys h = absurd (false≢true h)
 core_in-front w (x ∷ xs) ys h =
     elim (eqb w x.vertex) as (λ b. is_some (cond b (Some x.core) (core_in w xs)) ≡ true → cond b (Some x.core) (core_in w (xs ++ ys)) ≡ cond b (Some x.core) (core_in w xs)) [

@@ -4,6 +4,7 @@ pub mod AtRest
 pub mod Fronts
 pub mod Halving
 pub mod Handing
+pub mod Marked
 pub mod Keeping
 pub mod Marking
 pub mod Still

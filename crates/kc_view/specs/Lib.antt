@@ -1,6 +1,8 @@
 pub mod Answers
 pub mod Faults
 pub mod Lists
+pub mod Marks
+pub mod Memory
 pub mod Plain
 pub mod PlainCode
 pub mod Search

@@ -4,6 +4,8 @@
 //! vertices stands first. It keeps each answer, so that a plan can be handed on with all that it rests on. The answers need not be
 //! those of one state, and a call may miss.
 //!
+//! `Memo` is how a view keeps what it was answered: with the marks of a `Scratch`, which a worker makes once and lends to each of its views.
+//!
 //! `specs/Answers.antt` says what was asked and answered, and when a state agrees with it; `Views.antt` says what each call leaves;
 //! `Sure.antt` says when a plan is right wherever its answers are. `PlainView` is a view of a graph at rest: it never misses, and all
 //! its answers are true of that graph. The crate stands on `kc_graph`, and its definitions on `kc_distinct`, `kc_words` and `kc_cert`.
@@ -12,7 +14,9 @@
 mod asking;
 mod fault;
 mod keep;
+mod memo;
 mod plain;
+mod scratch;
 #[cfg(test)]
 mod tests;
 mod view;
@@ -20,5 +24,7 @@ mod view;
 pub use asking::{core_of, degree_of, is_neighbour, stands_before};
 pub use fault::{PlanFault, ViewFault};
 pub use keep::{keep_list, keep_order, keep_place};
+pub use memo::Memo;
 pub use plain::PlainView;
+pub use scratch::Scratch;
 pub use view::View;
