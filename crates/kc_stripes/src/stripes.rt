@@ -1,0 +1,198 @@
+//! All stripes of a table, each under a lock.
+ghost use Rattle.std.specs.Prelude.{◌≡◌, ◌≤◌, ◌<◌, ◌+◌, ℕ, true, false, slice_index, vec_len, All, IfOk, OnOk, IfErr, OnErr};
+ghost use mathlib.Core.List.{IsPrefix};
+ghost use Rattle.kc_view.specs.Lists.{IsListOf};
+ghost use Rattle.kc_agree.specs.Reads.{WasList};
+ghost use Rattle.kc_stripes.specs.Records.{belongs, opened_with, with_newer};
+ghost use Rattle.kc_stripes.specs.declared.stripe.TheConstants.{STRIPES};
+
+use crate::stripe::{STRIPES, Stripe};
+use kc_graph::{Neighbours, NoMemory};
+use kc_table::{Name, Pass, Words};
+use std::alloc::Global;
+use std::marker::{Model, PhantomData};
+use std::sync::{Mutex, Wait};
+
+/// The value behind one lock: a stripe of K's table, with K's opening edges and edge stamps.
+#[derive(Drop)]
+struct Kept<K: Name> {
+    stripe: Stripe,
+    of: PhantomData<K>,
+}
+
+impl<K: Name> Model for Kept<K> {
+    ghost use Rattle.std.specs.Prelude.{◌≡◌};
+    ghost use Rattle.std.specs.Coded.{codes};
+    ghost use Rattle.kc_graph.specs.Rows.{code_of_graph};
+    ghost use Rattle.kc_stripes.specs.Records.{Striped, opened_with};
+
+    ghost Value = { Striped };
+
+    ghost coded = { Prim.hlevel (codes, code_of_graph) };
+
+    ghost view = { λ k. k.stripe };
+
+    ghost invariant = { λ k. k.stripe.opened ≡ opened_with K.table K.opening_edges K.opening_stamps };
+}
+
+impl<K: Name> Kept<K> {
+    /// The stripe, as one of K's.
+    fn new(stripe: Stripe) -> Kept<K>
+        requires { stripe.opened ≡ opened_with K.table K.opening_edges K.opening_stamps }
+    {
+        Kept {
+            stripe,
+            of: PhantomData,
+        }
+    }
+
+    /// The stripe again.
+    fn into_stripe(self) -> Stripe
+        ensures { result.opened ≡ opened_with K.table K.opening_edges K.opening_stamps }
+    {
+        let Kept { stripe, .. } = self;
+        stripe
+    }
+
+    /// The list of a vertex, where it belongs to this stripe.
+    fn read(
+        &mut self,
+        words: &Words,
+        pass: &mut Pass,
+        w: u32,
+    ) -> Result<(Neighbours, u32), NoMemory>
+        requires table { (words.now ≡ K.table) × (pass.old.table ≡ K.table) }
+        ensures table { pass.new.table ≡ K.table }
+        ensures longer { IsPrefix pass.old.log pass.new.log }
+        ensures was { IfOk result (λ r. WasList K.table K.opening_edges pass.new.log (record { vertex = w; at = r.1; neighbours = r.0 })) }
+        ensures newer { IfOk result (λ r. slice_index K.opening_stamps w ≤ r.1) }
+        ensures others { IfOk result (λ r. IsListOf K.table.shape.fixed w r.0) }
+    {
+        if !self.stripe.has(w) {
+            return Err(NoMemory);
+        }
+        self.stripe.hand_out(words, pass, w)
+    }
+
+    /// Puts a list of a vertex. `NoMemory` where it doesn't belong to this stripe, which then stays as it is.
+    fn publish(
+        &mut self,
+        words: &Words,
+        pass: &mut Pass,
+        w: u32,
+        neighbours: Neighbours,
+        at: u32,
+    ) -> Result<(), NoMemory>
+        requires table { (words.now ≡ K.table) × (pass.old.table ≡ K.table) }
+        requires was { WasList K.table K.opening_edges pass.old.log (record { vertex = w; at = at; neighbours = neighbours }) }
+        ensures table { pass.new.table ≡ pass.old.table }
+        ensures log { pass.new.log ≡ pass.old.log }
+        ensures ok { OnOk result (belongs self.old w ≡ true) }
+        ensures put { OnOk result (self.new.records ≡ with_newer self.old.records (record { vertex = w; at = at; neighbours = neighbours })) }
+        ensures lacks { OnErr result (belongs self.old w ≡ false) }
+        ensures same { OnErr result (self.new ≡ self.old) }
+    {
+        if !self.stripe.has(w) {
+            return Err(NoMemory);
+        }
+        self.stripe.put(words, pass, w, neighbours, at);
+        Ok(())
+    }
+}
+
+/// The stripes of K's table, each under a lock.
+///
+/// A vertex's stripe is found by its number. What stands behind a lock is known by its type alone, so each call asks the stripe whether
+/// the vertex belongs to it.
+#[derive(Drop)]
+pub struct Stripes<K: Name> {
+    locks: Vec<Mutex<Kept<K>>>,
+    room: Vec<Stripe>,
+    ghost all: { vec_len locks ≡ STRIPES },
+    ghost none: { vec_len room ≡ 0 },
+    ghost enough: { STRIPES ≤ room.cap },
+}
+
+impl<K: Name> Stripes<K> {
+    /// A lock round each stripe. The error is want of memory, and gives the stripes back.
+    pub fn new(alloc: Global, stripes: Vec<Stripe>) -> Result<Stripes<K>, Vec<Stripe>>
+        requires count { vec_len stripes ≡ STRIPES }
+        requires opened { All (λ s. s.opened ≡ opened_with K.table K.opening_edges K.opening_stamps) stripes.items }
+        ensures { IfErr result (λ back. back ≡ stripes) }
+    {
+        let Ok(mut locks) = Vec::with_capacity(alloc, STRIPES as usize) else {
+            return Err(stripes);
+        };
+        let mut stripes = stripes;
+        while let Some(stripe) = stripes.pop() {
+            locks.push_reserved(Mutex::new(Kept::new(stripe)));
+        }
+        Ok(Stripes {
+            locks,
+            room: stripes,
+        })
+    }
+
+    /// The stripes again, in their order. It takes no lock and no memory.
+    pub fn into_stripes(self) -> Vec<Stripe>
+        ensures count { vec_len result ≡ STRIPES }
+        ensures opened { All (λ s. s.opened ≡ opened_with K.table K.opening_edges K.opening_stamps) result.items }
+    {
+        let Stripes {
+            mut locks,
+            mut room,
+        } = self;
+        while let Some(lock) = locks.pop() {
+            room.push_reserved(lock.into_inner().into_stripe());
+        }
+        room
+    }
+
+    /// The list of a vertex, ascending and without it, and after how many entries it was so: the pass has then seen these. It is not older
+    /// than the opening. It takes the lock of the vertex's stripe, and shares the list. `NoMemory` comes where no more holders can be
+    /// counted; where that stripe lacks the vertex it would come too, but no row of `open_stripes` is such.
+    pub fn read<R: Wait>(
+        &self,
+        rt: &R,
+        words: &Words,
+        pass: &mut Pass,
+        w: u32,
+    ) -> Result<(Neighbours, u32), NoMemory>
+        requires table { (words.now ≡ K.table) × (pass.old.table ≡ K.table) }
+        ensures table { pass.new.table ≡ K.table }
+        ensures longer { IsPrefix pass.old.log pass.new.log }
+        ensures was { IfOk result (λ r. WasList K.table K.opening_edges pass.new.log (record { vertex = w; at = r.1; neighbours = r.0 })) }
+        ensures newer { IfOk result (λ r. slice_index K.opening_stamps w ≤ r.1) }
+        ensures others { IfOk result (λ r. IsListOf K.table.shape.fixed w r.0) }
+    {
+        self.locks[place_of(w)].lock(rt).read(words, pass, w)
+    }
+
+    /// Puts a list in its vertex's place, where it is of a later entry. It takes the lock of the vertex's stripe, and no memory. `NoMemory`
+    /// comes exactly where the stripe under that lock lacks the vertex, and nothing is put then: no row of `open_stripes` is such.
+    pub fn publish<R: Wait>(
+        &self,
+        rt: &R,
+        words: &Words,
+        pass: &mut Pass,
+        w: u32,
+        neighbours: Neighbours,
+        at: u32,
+    ) -> Result<(), NoMemory>
+        requires table { (words.now ≡ K.table) × (pass.old.table ≡ K.table) }
+        requires was { WasList K.table K.opening_edges pass.old.log (record { vertex = w; at = at; neighbours = neighbours }) }
+        ensures table { pass.new.table ≡ pass.old.table }
+        ensures log { pass.new.log ≡ pass.old.log }
+    {
+        self.locks[place_of(w)]
+            .lock(rt)
+            .publish(words, pass, w, neighbours, at)
+    }
+}
+
+/// Where the lock of a vertex's stripe stands: the locks were made from the last stripe to the first.
+fn place_of(w: u32) -> usize
+    ensures { result < STRIPES }
+{
+    (STRIPES - 1 - w % STRIPES) as usize
+}
