@@ -3,36 +3,38 @@
 ghost use Rattle.std.specs.Prelude.{◌≡◌, ◌≢◌, ◌<◌, true, false, IfErr, IfOk, OnErr};
 ghost use mathlib.Core.List.{IsPrefix};
 ghost use Rattle.kc_graph.specs.SimpleGraph.{SimpleGraph};
-ghost use Rattle.kc_view.specs.Answers.{answers_in, has_core, with_order, with_place};
+ghost use Rattle.kc_view.specs.Answers.{has_core, with_order, with_place};
+ghost use Rattle.kc_view.specs.Memory.{keeping};
 ghost use Rattle.kc_order.specs.Standing.{Compares, Steps};
 ghost use Rattle.kc_order.specs.declared.answer.Answer.TheVariants as answer;
 ghost use Rattle.kc_agree.specs.Reads.{HasOrderCause, WereRead, order_answer, place_after};
 ghost use Rattle.kc_agree.specs.Stamps.{core_after};
 
 use crate::NoMemory;
-use kc_graph::{Used, UsedOrder, UsedPlace};
+use kc_graph::{UsedOrder, UsedPlace};
 use kc_order::{Answer, precedes};
 use kc_table::{Pass, Words, load, shape};
-use kc_view::ViewFault;
+use kc_view::{Memo, ViewFault};
 use kc_words::{Again, VertexWord};
 
 /// Reads the core number of a vertex that was not read yet: one load of its word, which has the place stamp too.
-pub fn read_core(words: &Words, pass: &mut Pass, used: &mut Used, v: u32) -> Result<u32, NoMemory>
+pub fn read_core(words: &Words, pass: &mut Pass, memo: &mut Memo, v: u32) -> Result<u32, NoMemory>
     requires table { pass.old.table ≡ words.now }
+    requires size { memo.old.size ≡ words.now.shape.fixed }
     requires vertex { v < words.now.shape.fixed }
-    requires once { has_core (answers_in used.old) v ≡ false }
+    requires once { has_core memo.old.kept v ≡ false }
     ensures table { pass.new.table ≡ pass.old.table }
     ensures longer { IsPrefix pass.old.log pass.new.log }
     ensures steps { Steps pass.old pass.new 1 0 }
     ensures core { IfOk result (λ core. core ≡ core_after pass.new.table pass.new.log v) }
-    ensures told { IfOk result (λ _. answers_in used.new ≡ with_place (answers_in used.old) (place_after pass.new.table pass.new.log v)) }
-    ensures same { OnErr result (answers_in used.new ≡ answers_in used.old) }
-    ensures read { (opened : SimpleGraph) → WereRead pass.old.table opened pass.old.log (answers_in used.old)
-        → WereRead pass.new.table opened pass.new.log (answers_in used.new) }
+    ensures told { IfOk result (λ _. memo.new ≡ keeping memo.old.size (with_place memo.old.kept (place_after pass.new.table pass.new.log v))) }
+    ensures same { OnErr result (memo.new ≡ memo.old) }
+    ensures read { (opened : SimpleGraph) → WereRead pass.old.table opened pass.old.log memo.old.kept
+        → WereRead pass.new.table opened pass.new.log memo.new.kept }
 {
     let word = shape(words).vertex(v);
     let VertexWord { stamp, core } = VertexWord::of(load(words, pass, word));
-    used.places.push(UsedPlace {
+    memo.keep_place(UsedPlace {
         vertex: v,
         stamp,
         core,
@@ -45,7 +47,7 @@ pub fn read_core(words: &Words, pass: &mut Pass, used: &mut Used, v: u32) -> Res
 pub fn read_order(
     words: &Words,
     pass: &mut Pass,
-    used: &mut Used,
+    memo: &mut Memo,
     x: u32,
     y: u32,
 ) -> Result<bool, ViewFault>
@@ -53,22 +55,22 @@ pub fn read_order(
     requires first { x < words.now.shape.fixed }
     requires second { y < words.now.shape.fixed }
     requires differ { x ≢ y }
-    requires first_read { has_core (answers_in used.old) x ≡ true }
-    requires second_read { has_core (answers_in used.old) y ≡ true }
+    requires first_read { has_core memo.old.kept x ≡ true }
+    requires second_read { has_core memo.old.kept y ≡ true }
     ensures table { pass.new.table ≡ pass.old.table }
     ensures longer { IsPrefix pass.old.log pass.new.log }
     ensures compared { IfOk result (λ before. Compares pass.old pass.new x y (order_answer before)) }
-    ensures told { IfOk result (λ before. answers_in used.new ≡ with_order (answers_in used.old) (record { x = x; y = y; before = before })) }
-    ensures same { OnErr result (answers_in used.new ≡ answers_in used.old) }
+    ensures told { IfOk result (λ before. memo.new ≡ keeping memo.old.size (with_order memo.old.kept (record { x = x; y = y; before = before }))) }
+    ensures same { OnErr result (memo.new ≡ memo.old) }
     ensures cause { IfErr result (λ fault. HasOrderCause pass.old pass.new x y fault) }
-    ensures read { (opened : SimpleGraph) → WereRead pass.old.table opened pass.old.log (answers_in used.old)
-        → WereRead pass.new.table opened pass.new.log (answers_in used.new) }
+    ensures read { (opened : SimpleGraph) → WereRead pass.old.table opened pass.old.log memo.old.kept
+        → WereRead pass.new.table opened pass.new.log memo.new.kept }
 {
     let before = match compare(words, pass, x, y) {
         Ok(before) => before,
         Err(again) => return Err(ViewFault::Miss(again)),
     };
-    match used.orders.push(UsedOrder { x, y, before }) {
+    match memo.keep_order(UsedOrder { x, y, before }) {
         Ok(()) => Ok(before),
         Err(_) => Err(ViewFault::NoMemory),
     }

@@ -2,13 +2,14 @@
 ghost use Rattle.std.specs.Prelude.{◌≡◌, ◌≢◌, ◌+◌, ◌<◌, [], ◌∷◌, All, IfOk};
 ghost use Rattle.kc_agree.specs.Stamps.{number_of, place_stamp};
 ghost use Rattle.kc_order.specs.Writers.{unsealed_after};
-ghost use Rattle.kc_view.specs.Answers.{answers_in, nothing_answered};
+ghost use Rattle.kc_view.specs.Answers.{answers_in, core_in};
 
 use super::{stale_list, stale_place};
 use crate::{NoMemory, Stale, first_stale, read_core, read_order};
 use kc_graph::{Neighbours, Update, Used, UsedEdges};
 use kc_order::Writer;
 use kc_table::{Pass, Words, load, shape};
+use kc_view::{Memo, Scratch};
 use kc_words::{LAST_VERSION, Shape, VertexWord};
 use std::alloc::Global;
 use std::process::Abort;
@@ -34,17 +35,6 @@ fn open(alloc: Global) -> Result<(Words, Writer, Pass), NoMemory>
     Ok((words, writer, pass))
 }
 
-/// Nothing was read.
-fn nothing(alloc: Global) -> Used
-    ensures { answers_in result ≡ nothing_answered }
-{
-    Used {
-        edges: Vec::new(alloc),
-        places: Vec::new(alloc),
-        orders: Vec::new(alloc),
-    }
-}
-
 /// The place stamps of the three, each by a load.
 fn place_stamps(words: &Words, pass: &mut Pass) -> [u32; 3]
     requires table { pass.old.table ≡ words.now }
@@ -65,17 +55,20 @@ fn read_two<R: Abort + AllocGlobal>(rt: &R, words: &Words, pass: &mut Pass) -> (
     ensures edges { All (λ e. e.vertex < 3) result.0.edges.items }
     ensures places { All (λ p. p.vertex < 3) result.0.places.items }
 {
-    let mut used = nothing(rt.alloc());
-    let Ok(_) = read_core(words, pass, &mut used, 0) else {
+    let Ok(scratch) = Scratch::new(rt.alloc(), 3) else {
         panic!(rt; "no memory");
     };
-    let Ok(_) = read_core(words, pass, &mut used, 1) else {
+    let mut memo = Memo::new(rt.alloc(), scratch);
+    let Ok(_) = read_core(words, pass, &mut memo, 0) else {
         panic!(rt; "no memory");
     };
-    let Ok(before) = read_order(words, pass, &mut used, 0, 1) else {
+    let Ok(_) = read_core(words, pass, &mut memo, 1) else {
+        panic!(rt; "no memory");
+    };
+    let Ok(before) = read_order(words, pass, &mut memo, 0, 1) else {
         panic!(rt; "nothing was stored between");
     };
-    (used, before)
+    (memo.hand_out(), before)
 }
 
 /// A list of no neighbours that a vertex had after so many entries.
@@ -84,13 +77,16 @@ fn read_list(alloc: Global, vertex: u32, at: u32) -> Result<Used, NoMemory>
     ensures edges { IfOk result (λ used. All (λ e. e.vertex < 3) used.edges.items) }
     ensures places { IfOk result (λ used. All (λ p. p.vertex < 3) used.places.items) }
 {
-    let mut used = nothing(alloc);
-    used.edges.push(UsedEdges {
+    let list = UsedEdges {
         vertex,
         at,
         neighbours: Neighbours::copy_of(alloc, &[])?,
-    })?;
-    Ok(used)
+    };
+    Ok(Used {
+        edges: vec![in alloc; list]?,
+        places: Vec::new(alloc),
+        orders: Vec::new(alloc),
+    })
 }
 
 /// The entry with this number, of an edge between 0 and 1, and a put of `v` right after `p` in its section.
