@@ -3,7 +3,7 @@ use Rattle.std.specs.Prelude.{ℕ, List, [], ◌∷◌, ◌++◌, codes, filter,
 use Rattle.std.specs.List.{flat_map, zip}
 use Rattle.std.specs.Fmt.{decimal}
 use Rattle.kc_report.specs.declared.Line.{Line}
-use Rattle.kc_report.specs.declared.Line.TheVariants.{Graph, Batch}
+use Rattle.kc_report.specs.declared.Line.TheVariants.{Graph, Rounds, Batch}
 
 -- a number with the words before it
 abbrev pub field : List ℕ → ℕ → List ℕ
@@ -12,6 +12,10 @@ field label number = label ++ decimal number
 -- `graph vertices N edges M top T`
 abbrev pub graph_line : ℕ → ℕ → ℕ → List ℕ
 graph_line vertices edges top = field (codes "graph vertices ") vertices ++ field (codes " edges ") edges ++ field (codes " top ") top ++ 10 ∷ []
+
+-- `hindex rounds R`
+abbrev pub rounds_line : ℕ → List ℕ
+rounds_line rounds = field (codes "hindex rounds ") rounds ++ 10 ∷ []
 
 -- how many changes of a batch were overruled, where some were
 abbrev pub overruled_field : ℕ → List ℕ
@@ -25,6 +29,7 @@ batch_line number added removed kept overruled edges top =
 
 abbrev pub line_text : Line → List ℕ
 line_text (Graph vertices edges top) = graph_line vertices edges top
+line_text (Rounds rounds) = rounds_line rounds
 line_text (Batch number added removed kept overruled edges top) = batch_line number added removed kept overruled edges top
 
 -- two numbers, with a space between them

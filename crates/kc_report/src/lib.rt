@@ -1,5 +1,6 @@
-//! The lines that a run writes: one line about the graph and one about each batch, a line for each vertex with its
-//! core number, and the members of a level's core. And a text that is generated for a number, to be read as an input.
+//! The lines that a run writes: one line about the graph, one about the rounds of h-indices and one about each batch, a
+//! line for each vertex with its core number, and the members of a level's core. And a text that is generated for a
+//! number, to be read as an input.
 //!
 //! The calls for lines append to a text that grows, take no memory but that text's, and leave it as it was where there
 //! is none. The bytes are pinned by the definitions of `specs/Lines.antt` and `specs/Generator.antt`. The crate stands
@@ -21,7 +22,7 @@ pub use generator::{
 };
 pub use std::alloc::AllocError as NoMemory;
 
-/// A line about the graph or about a batch of updates.
+/// A line about the graph, about rounds of h-indices, or about a batch of updates.
 #[derive(Clone, Copy, Debug, PartialEq, Eq)]
 pub enum Line {
     /// The graph at the start: how many vertices and edges it has, and its greatest core number (0 for no vertices).
@@ -30,6 +31,8 @@ pub enum Line {
         edges: u64,
         top: u32,
     },
+    /// The first round of h-indices that changes no number: its number, from 1.
+    Rounds { rounds: u64 },
     /// A batch: its number from 1, how many of its updates added an edge, removed one or changed nothing, how many of
     /// its changes were overruled by a later one of the same edge (the line says so only where some were), and then
     /// the edges and the greatest core number after it.

@@ -16,7 +16,7 @@ fn put_field<N: Integer>(out: &mut Vec<u8>, label: &str, number: N) -> Result<()
     out.extend_from_slice(Buffer::new().format(number).as_bytes())
 }
 
-/// Puts the line about the graph, or about a batch.
+/// Puts a line.
 pub(crate) fn put_line(out: &mut Vec<u8>, line: &Line) -> Result<(), NoMemory>
     ensures ok { OnOk result (out.new.items ≡ out.old.items ++ line_text line.now) }
     ensures kept { StartsWith out.new.items out.old.items }
@@ -29,6 +29,10 @@ pub(crate) fn put_line(out: &mut Vec<u8>, line: &Line) -> Result<(), NoMemory>
         } => {
             put_field(out, "graph vertices ", vertices)?;
             put_rest(out, edges, top)
+        }
+        Line::Rounds { rounds } => {
+            put_field(out, "hindex rounds ", rounds)?;
+            end_line(out)
         }
         Line::Batch {
             number,

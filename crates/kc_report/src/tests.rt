@@ -20,11 +20,12 @@ fn lines_follow_one_another(rt: HostRuntime) -> Result<(), Fail> {
     };
     let mut out = Vec::new(rt.alloc());
     summary(&mut out, &graph)?;
+    summary(&mut out, &Line::Rounds { rounds: 12 })?;
     summary(&mut out, &batch)?;
     core_lines(&mut out, &[1, 20, 4_294_967_295], &[2, 2, 0])?;
     member_lines(&mut out, &[1, 20, 4_294_967_295], &[2, 3, 0], 2)?;
     let wanted =
-        b"graph vertices 4 edges 3 top 1\nbatch 1 added 1 removed 0 kept 0 overruled 3 edges 4 top 2\n\
+        b"graph vertices 4 edges 3 top 1\nhindex rounds 12\nbatch 1 added 1 removed 0 kept 0 overruled 3 edges 4 top 2\n\
         1 2\n20 2\n4294967295 0\nlevel 2 members 2\n1\n20\n";
     assert_eq!(rt; out.as_slice(), wanted.as_slice());
     Ok(())

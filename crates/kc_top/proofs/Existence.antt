@@ -1,5 +1,5 @@
 -- Every input has a text.
-use Rattle.std.proofs.Common.{◌≡◌, ◌≤◌, ◌<◌, ◌+◌, ℕ, suc, zero, true, List, [], ◌∷◌, length, get_or, max, refl, ap, ◌∙◌, arith, inl, inr}
+use Rattle.std.proofs.Common.{◌≡◌, ◌≤◌, ◌<◌, ◌+◌, ℕ, suc, zero, true, List, [], ◌∷◌, length, get_or, max, Option, None, Some, refl, ap, ◌∙◌, arith, inl, inr}
 use Rattle.std.specs.Prelude.{filter}
 use Rattle.std.specs.Cmp.{both_ways}
 use Rattle.std.specs.List.Sorted.{IsStrictlyIncreasing}
@@ -14,8 +14,11 @@ use Rattle.kc_distinct.proofs.Members.{member-cases, member-head, member-tail}
 use Rattle.kc_distinct.proofs.Counting.{filter-member, member-filter}
 use Rattle.kc_text.specs.Inputs.{AreIds, start_graph}
 use Rattle.kc_text.specs.Meaning.{Meaning, Means, Refuses, Told, names}
-use Rattle.kc_top.specs.Text.{AreCoresAfter, Batch, IsOutput, IsText, graph_after, lines_for, numbered_batches}
+use Rattle.kc_hindex.proofs.Settling.{rounds_exist}
+use Rattle.kc_top.specs.Text.{AreCoresAfter, AreStartRounds, Batch, IsOutput, IsText, graph_after, lines_for, numbered_batches}
 use Rattle.kc_top.specs.declared.setting.Setting.{Setting}
+use Rattle.kc_top.specs.declared.start.Start.{Start}
+use Rattle.kc_top.specs.declared.start.Start.TheVariants.{Buckets, Hindex}
 
 -- the n numbers from a on
 abbrev numbers_from : ℕ → ℕ → List ℕ
@@ -81,15 +84,31 @@ later_exist g (batch ∷ batches) =
     let (later, more) = later_exist (graph_after g batch) batches in
     (core ∷ later, (numbers, more))
 
+-- a start has a number of rounds, where it is found by rounds
+rounds_of_start : (start : Start) (g : SimpleGraph) → (rounds : Option ℕ) × AreStartRounds start g rounds
+rounds_of_start Buckets g = (None, tt)
+rounds_of_start Hindex g = let (rounds, counted, few) = rounds_exist g in (Some rounds, counted)
+
 -- so every input has a text
 pub text_exists : (setting : Setting) (told : Told) → (text : List ℕ) × IsText setting told text
 text_exists setting told =
     let (ids, named) = ids_exist (names told) in
     let start : SimpleGraph = start_graph ids told.edges in
     let (core, numbers) = cores_exist start in
+    let (rounds, counted) = rounds_of_start setting.start start in
     let (later, numbers_later) = later_exist start (numbered_batches ids told) in (
-      lines_for setting ids start core (numbered_batches ids told) later,
-      record { ids = ids; core = core; later = later; named = named; numbers = numbers; numbers_later = numbers_later; is = refl },
+      lines_for setting ids start core rounds (numbered_batches ids told) later,
+      record {
+        ids = ids;
+        core = core;
+        rounds = rounds;
+        later = later;
+        named = named;
+        numbers = numbers;
+        counted = counted;
+        numbers_later = numbers_later;
+        is = refl;
+      },
     )
 
 -- and every meaning has an output

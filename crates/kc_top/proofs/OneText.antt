@@ -1,6 +1,6 @@
 -- No input has two texts.
 use Rattle.std.proofs.Common.{◌≡◌, ◌<◌, ℕ, suc, true, false, ◌||◌, List, [], ◌∷◌, length, get_or}
-use Rattle.std.proofs.Common.{nat_eq, refl, sym, ap, ap₂, subst, ◌∙◌, arith, inl, inr, eq-eqb, eqb-true}
+use Rattle.std.proofs.Common.{nat_eq, Option, None, Some, refl, sym, ap, ap₂, subst, ◌∙◌, arith, inl, inr, eq-eqb, eqb-true}
 use Rattle.std.specs.Set.{is_member}
 use Rattle.std.proofs.lemmas.Bool.{cases_Bool, or_left, false≢true, false_from_ne_true}
 use Rattle.std.proofs.lemmas.List.Kept.{AllPairs-from_increasing}
@@ -11,8 +11,11 @@ use Rattle.kc_distinct.proofs.Counting.{Contains-from_member}
 use Rattle.kc_distinct.proofs.Members.{member-cases}
 use Rattle.kc_text.specs.Inputs.{AreIds, start_graph}
 use Rattle.kc_text.specs.Meaning.{Told, names}
-use Rattle.kc_top.specs.Text.{AreCoresAfter, Batch, IsText, graph_after, lines_for, numbered_batches}
+use Rattle.kc_hindex.proofs.Settling.{rounds_only}
+use Rattle.kc_top.specs.Text.{AreCoresAfter, AreStartRounds, Batch, IsText, graph_after, lines_for, numbered_batches}
 use Rattle.kc_top.specs.declared.setting.Setting.{Setting}
+use Rattle.kc_top.specs.declared.start.Start.{Start}
+use Rattle.kc_top.specs.declared.start.Start.TheVariants.{Buckets, Hindex}
 use Rattle.kc_distinct.proofs.Shared.{get_or-any}
 
 -- each number is below those after it
@@ -81,6 +84,15 @@ later-unique g (batch ∷ batches) (x ∷ xs) (y ∷ ys) a b =
     ap₂ (λ (core : List ℕ) (cores : List (List ℕ)). core ∷ cores) (core-unique (graph_after g batch) x y a.0 b.0)
     (later-unique (graph_after g batch) batches xs ys a.1 b.1)
 
+-- a start has one number of rounds
+rounds-unique : (start : Start) (g : SimpleGraph) (first second : Option ℕ) → AreStartRounds start g first → AreStartRounds start g second → first ≡ second
+rounds-unique Buckets g None None a b = refl
+rounds-unique Buckets g (Some m) second a b = absurd a
+rounds-unique Buckets g None (Some n) a b = absurd b
+rounds-unique Hindex g None second a b = absurd a
+rounds-unique Hindex g (Some m) None a b = absurd b
+rounds-unique Hindex g (Some m) (Some n) a b = ap (λ (r : ℕ). Some r) (rounds_only g m n a b)
+
 -- so an input has one text
 pub text-unique : (setting : Setting) (told : Told) (first second : List ℕ) → IsText setting told first → IsText setting told second → first ≡ second
 text-unique setting told first second a b =
@@ -92,5 +104,7 @@ text-unique setting told first second a b =
     let numbers_later : AreCoresAfter (start b.ids) (numbered b.ids) a.later =
     subst (λ (ids : List ℕ). AreCoresAfter (start ids) (numbered ids) a.later) ids a.numbers_later in
     let later : a.later ≡ b.later = later-unique (start b.ids) (numbered b.ids) a.later b.later numbers_later b.numbers_later in
-    let text : List ℕ → List ℕ → List (List ℕ) → List ℕ = λ ids core later. lines_for setting ids (start ids) core (numbered ids) later in
-    a.is ∙ ap₂ (λ (ids core : List ℕ). text ids core a.later) ids core ∙ ap (text b.ids b.core) later ∙ sym b.is
+    let counted : AreStartRounds setting.start (start b.ids) a.rounds = subst (λ (ids : List ℕ). AreStartRounds setting.start (start ids) a.rounds) ids a.counted in
+    let rounds : a.rounds ≡ b.rounds = rounds-unique setting.start (start b.ids) a.rounds b.rounds counted b.counted in
+    let text : List ℕ → List ℕ → Option ℕ → List (List ℕ) → List ℕ = λ ids core rounds later. lines_for setting ids (start ids) core rounds (numbered ids) later in
+    a.is ∙ ap₂ (λ (ids core : List ℕ). text ids core a.rounds a.later) ids core ∙ ap₂ (text b.ids b.core) rounds later ∙ sym b.is

@@ -1,6 +1,6 @@
 -- The text of an input with batches.
 use Rattle.std.proofs.Common.{◌≡◌, ◌<◌, ◌+◌, ℕ, suc, List, [], ◌∷◌, ◌++◌, length, refl, sym}
-use Rattle.std.proofs.Common.{ap, ap₂, subst, ◌∙◌, arith, append_assoc, append-nil, get_or, drop, map, Vec, Global, drop-cons}
+use Rattle.std.proofs.Common.{ap, ap₂, subst, ◌∙◌, arith, append_assoc, append-nil, get_or, drop, map, Option, Vec, Global, drop-cons}
 use Rattle.std.specs.FinSet as set
 use Rattle.kc_graph.specs.SimpleGraph.{SimpleGraph, pair_cmp}
 use Rattle.kc_graph.specs.Core.{AreCoreNumbers}
@@ -12,8 +12,8 @@ use Rattle.kc_text.specs.declared.change.Change.{Change}
 use Rattle.kc_top.proofs.Applying.{Part}
 use Rattle.kc_text.specs.declared.input.Input.{Input}
 use Rattle.kc_top.specs.Limits.{counted_batch, counted_batches}
-use Rattle.kc_top.specs.Text.{AreCoresAfter, Batch, IsText, TellsBatches, first_line, graph_after, last_of}
-use Rattle.kc_top.specs.Text.{line_about, lines_about, numbered_batch, numbered_batches, shown_each, shown_last, shown_level}
+use Rattle.kc_top.specs.Text.{AreCoresAfter, AreStartRounds, Batch, IsText, TellsBatches, first_line, graph_after, last_of}
+use Rattle.kc_top.specs.Text.{line_about, lines_about, numbered_batch, numbered_batches, shown_each, shown_last, shown_level, shown_rounds}
 use Rattle.kc_top.specs.declared.setting.Setting.{Setting}
 
 -- one number for each vertex, also after the batches
@@ -94,9 +94,9 @@ numbered_is ids (b ∷ bs) (n ∷ ns) (t ∷ ts) u c =
     ap₂ (λ (x : Batch) (xs : List Batch). x ∷ xs)
     (ap₂ (λ (us : List Part) (k : ℕ). let x : Batch = record { updates = us; overruled = k } in x) first count) (numbered_is ids bs ns ts rest counts)
 
--- the four parts of a text, one after another
-parts_of_text : (first each lines ends : List ℕ) → ((first ++ each) ++ lines) ++ ends ≡ first ++ (each ++ (lines ++ ends))
-parts_of_text first each lines ends = simp append_assoc
+-- the five parts of a text, one after another
+parts_of_text : (first rounds each lines ends : List ℕ) → ((first ++ (rounds ++ each)) ++ lines) ++ ends ≡ first ++ (rounds ++ (each ++ (lines ++ ends)))
+parts_of_text first rounds each lines ends = simp append_assoc
 
 module _ (setting : Setting) (told : Told) (input : Input) (h : IsInput told input) where
   -- the ids of the input
@@ -116,11 +116,12 @@ module _ (setting : Setting) (told : Told) (input : Input) (h : IsInput told inp
   ends core = shown_last setting.show ids core ++ shown_level setting.level ids core
 
   -- the parts that were written, one after another, are the text of the input
-  pub IsText-from : (g : SimpleGraph) (batches : List Batch) (core before after last text : List ℕ) → g ≡ graph_with_edges (length ids) input.start.items
-      → batches ≡ counted_batches input.batches.items input.overruled.items → AreCoreNumbers g core → before ≡ first_line g core ++ shown core
+  pub IsText-from : (g : SimpleGraph) (batches : List Batch) (core : List ℕ) (rounds : Option ℕ) (before after last text : List ℕ) → g ≡ graph_with_edges (length ids) input.start.items
+      → batches ≡ counted_batches input.batches.items input.overruled.items → AreCoreNumbers g core → AreStartRounds setting.start g rounds
+      → before ≡ first_line g core ++ (shown_rounds rounds ++ shown core)
       → TellsBatches shown 1 g core batches before after last
       → text ≡ after ++ ends last → IsText setting told text
-  IsText-from g batches core before after last text made same numbers first tells is =
+  IsText-from g batches core rounds before after last text made same numbers counted first tells is =
       let numbered : List Batch = numbered_batches ids told in
       let graphs : g ≡ start = made ∙ is_start_graph told input h in
       let told_later : TellsBatches shown 1 start core numbered before after last =
@@ -131,11 +132,13 @@ module _ (setting : Setting) (told : Told) (input : Input) (h : IsInput told inp
       record {
         ids = ids;
         core = core;
+        rounds = rounds;
         later = told_later.later;
         named = h.named;
         numbers = subst (λ (x : SimpleGraph). AreCoreNumbers x core) graphs numbers;
+        counted = subst (λ (x : SimpleGraph). AreStartRounds setting.start x rounds) graphs counted;
         numbers_later = told_later.numbers;
         is = is ∙ ap₂ (λ (t c : List ℕ). t ++ ends c)
-            (told_later.text ∙ ap (λ (t : List ℕ). t ++ lines) (first ∙ ap (λ (x : SimpleGraph). first_line x core ++ shown core) graphs)) told_later.is_last
-            ∙ parts_of_text (first_line start core) (shown core) lines (ends (last_of core told_later.later));
+            (told_later.text ∙ ap (λ (t : List ℕ). t ++ lines) (first ∙ ap (λ (x : SimpleGraph). first_line x core ++ (shown_rounds rounds ++ shown core)) graphs)) told_later.is_last
+            ∙ parts_of_text (first_line start core) (shown_rounds rounds) (shown core) lines (ends (last_of core told_later.later));
       }

@@ -1,5 +1,5 @@
 -- Where no batch names an edge twice, each change decides and none is overruled, so the two texts are one.
-use Rattle.std.proofs.Common.{◌≡◌, ◌+◌, ℕ, suc, List, [], ◌∷◌, ◌++◌, map, refl, sym, ap, ap₂, subst, ◌∙◌, arith, append-nil, codes}
+use Rattle.std.proofs.Common.{◌≡◌, ◌+◌, ℕ, suc, List, [], ◌∷◌, ◌++◌, map, Option, None, Some, refl, sym, ap, ap₂, subst, ◌∙◌, arith, append-nil, codes}
 use Rattle.std.specs.Prelude.{All, ◌↔◌}
 use Rattle.std.specs.FinSet as set
 use Rattle.kc_graph.specs.SimpleGraph.{SimpleGraph}
@@ -11,7 +11,7 @@ use Rattle.kc_text.specs.Meaning.{Told, batches}
 use Rattle.kc_text.specs.declared.change.Change.{Change}
 use Rattle.kc_text.proofs.Overruled.{once-deciding, once-overruled}
 use Rattle.kc_top.specs.Batches.{added, graph_after_batch, kept, removed}
-use Rattle.kc_top.specs.Text.{AreCoresAfter, Batch, IsText, first_line, last_of, line_about, lines_about, lines_for, numbered_batch, numbered_batches}
+use Rattle.kc_top.specs.Text.{AreCoresAfter, AreStartRounds, Batch, IsText, first_line, last_of, line_about, lines_about, lines_for, numbered_batch, numbered_batches}
 use Rattle.kc_top.specs.Unrepeated.{AreUnrepeatedCores, IsUnrepeatedText, all_changes, unrepeated_line, unrepeated_lines, usual_setting}
 use Rattle.kc_top.proofs.Applying.{Part}
 
@@ -70,7 +70,7 @@ from-unrepeated g (batch ∷ batches) (core ∷ cores) h = (h.0, from-unrepeated
 
 -- the whole texts are the same
 same-text : (ids : List ℕ) (told : Told) (core : List ℕ) (later : List (List ℕ)) → All NamesOnce (batches told)
-    → lines_for usual_setting ids (start_graph ids told.edges) core (numbered_batches ids told) later
+    → lines_for usual_setting ids (start_graph ids told.edges) core None (numbered_batches ids told) later
     ≡ first_line (start_graph ids told.edges) core ++ (unrepeated_lines 1 (start_graph ids told.edges) (all_changes ids told) later ++ core_lines ids
     (last_of core later))
 same-text ids told core later once =
@@ -78,6 +78,11 @@ same-text ids told core later once =
     ap₂ (λ (lines ends : List ℕ). first_line g core ++ (lines ++ ends))
     (ap (λ (bs : List Batch). lines_about silent 1 g bs later) (alone-batches ids (batches told) once) ∙ same-lines 1 g (all_changes ids told) later)
     (append-nil (core_lines ids (last_of core later)))
+
+-- where the words ask for nothing no rounds are counted
+no-rounds : (g : SimpleGraph) (rounds : Option ℕ) → AreStartRounds usual_setting.start g rounds → rounds ≡ None
+no-rounds g None h = refl
+no-rounds g (Some n) h = absurd h
 
 -- a text of the one form is a text of the other
 pub unrepeated-text : (told : Told) (text : List ℕ) → All NamesOnce (batches told) → IsText usual_setting told text ↔ IsUnrepeatedText told text
@@ -90,14 +95,17 @@ unrepeated-text told text once = (
     numbers = h.numbers;
     numbers_later = to-unrepeated (start_graph h.ids told.edges) (all_changes h.ids told) h.later
         (subst (λ (bs : List Batch). AreCoresAfter (start_graph h.ids told.edges) bs h.later) (alone-batches h.ids (batches told) once) h.numbers_later);
-    is = h.is ∙ same-text h.ids told h.core h.later once;
+    is = h.is ∙ ap (λ (rounds : Option ℕ). lines_for usual_setting h.ids (start_graph h.ids told.edges) h.core rounds (numbered_batches h.ids told) h.later)
+        (no-rounds (start_graph h.ids told.edges) h.rounds h.counted) ∙ same-text h.ids told h.core h.later once;
   },
   λ h. record {
     ids = h.ids;
     core = h.core;
+    rounds = None;
     later = h.later;
     named = h.named;
     numbers = h.numbers;
+    counted = tt;
     numbers_later = subst (λ (bs : List Batch). AreCoresAfter (start_graph h.ids told.edges) bs h.later) (sym (alone-batches h.ids (batches told) once))
         (from-unrepeated (start_graph h.ids told.edges) (all_changes h.ids told) h.later h.numbers_later);
     is = h.is ∙ sym (same-text h.ids told h.core h.later once);

@@ -14,7 +14,7 @@ abbrev pub refused_line : ℕ → Kind → List ℕ
 refused_line line kind = codes "refused line " ++ (decimal line ++ (codes " kind " ++ (text_of kind ++ 10 ∷ [])))
 
 abbrev pub usage_line : List ℕ
-usage_line = codes "usage: kcore [--workers W] [--show cores|summary|each] [--level K] [--gen NUMBER]\n"
+usage_line = codes "usage: kcore [--workers W] [--show cores|summary|each] [--level K] [--gen NUMBER] [--start buckets|hindex]\n"
 
 -- The line of each status. `input` are the bytes of the input, where they are known.
 abbrev pub IsErrLine : Status → Option (List ℕ) → List ℕ → Type 0

@@ -13,18 +13,20 @@ use Rattle.clap.specs.declared.builder.action.ArgAction.TheVariants.{Set}
 use Rattle.kc_top.specs.declared.setting.Setting.{Setting}
 use Rattle.kc_top.specs.declared.show.Show.{Show}
 use Rattle.kc_top.specs.declared.show.Show.TheVariants.{Cores, Summary, Each}
+use Rattle.kc_top.specs.declared.start.Start.{Start}
+use Rattle.kc_top.specs.declared.start.Start.TheVariants.{Buckets, Hindex}
 use Rattle.kc_top.specs.declared.words.TheConstants.{MOST_DIGITS, MOST_WORKERS}
 
 -- an option with one value
 abbrev pub option_named : List ℕ → Rule
 option_named name = record (new_rule name) { long = Some name; action = Some Set }
 
--- The command that reads the words: four options, and no flag for help or the version. The words are those after the program's name.
+-- The command that reads the words: five options, and no flag for help or the version. The words are those after the program's name.
 abbrev pub command : App
 command =
-    with_rule (with_rule (with_rule (with_rule
+    with_rule (with_rule (with_rule (with_rule (with_rule
     (on_top (λ top. record top { no_binary_name = true; disable_help_flag = true; disable_version_flag = true }) (new_app (codes "kcore")))
-    (option_named (codes "workers"))) (option_named (codes "show"))) (option_named (codes "level"))) (option_named (codes "gen"))
+    (option_named (codes "workers"))) (option_named (codes "show"))) (option_named (codes "level"))) (option_named (codes "gen"))) (option_named (codes "start"))
 
 -- one to ten decimal digits
 abbrev pub is_short_numeral : List ℕ → Bool
@@ -46,6 +48,13 @@ show text =
     else if bytes_eq text (codes "each") then Some Each
     else None
 
+-- how the core numbers of the start are to be found
+abbrev pub start : List ℕ → Option Start
+start text =
+    if bytes_eq text (codes "buckets") then Some Buckets
+    else if bytes_eq text (codes "hindex") then Some Hindex
+    else None
+
 -- what the value of an option says, which need not be given; none where the value is wrong
 abbrev pub read : {X : Type 0} → (List ℕ → Option X) → Option (List ℕ) → Option (Option X)
 read says None = Some None
@@ -56,20 +65,21 @@ abbrev pub usual_show : Option ℕ → Show
 usual_show None = Cores
 usual_show (Some n) = Summary
 
--- the setting, where each of the four is right: one worker and no level where nothing is said of them
-abbrev pub together : Option (Option ℕ) → Option (Option Show) → Option (Option ℕ) → Option (Option ℕ) → Option Setting
-together (Some workers) (Some show) (Some level) (Some generator) = Some (record {
+-- the setting, where each of the five is right: one worker, no level and buckets where nothing is said of them
+abbrev pub together : Option (Option ℕ) → Option (Option Show) → Option (Option ℕ) → Option (Option ℕ) → Option (Option Start) → Option Setting
+together (Some workers) (Some show) (Some level) (Some generator) (Some start) = Some (record {
   workers = unwrap_or workers 1;
   show = unwrap_or show (usual_show generator);
   level = level;
   generator = generator;
+  start = unwrap_or start Buckets;
 })
-together _ _ _ _ = None
+together _ _ _ _ _ = None
 
 -- what the values of the options ask for
 abbrev pub setting_in : List Row → Option Setting
 setting_in rows = together (read workers (first_of (codes "workers") rows)) (read show (first_of (codes "show") rows))
-    (read number (first_of (codes "level") rows)) (read number (first_of (codes "gen") rows))
+    (read number (first_of (codes "level") rows)) (read number (first_of (codes "gen") rows)) (read start (first_of (codes "start") rows))
 
 -- What the words ask for, where the command takes them and each value is right. The words are not right where there is none.
 unfoldable pub setting : List (List ℕ) → Option Setting

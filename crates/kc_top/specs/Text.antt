@@ -7,11 +7,14 @@ use Rattle.kc_text.specs.declared.change.Change.{Change}
 use Rattle.kc_text.specs.Meaning.{Means, Meaning, Refuses, Told, batches, meaning, names}
 use Rattle.kc_text.specs.Inputs.{AreIds, numbered_change, start_graph}
 use Rattle.kc_text.specs.Overruling.{deciding, overruled}
-use Rattle.kc_report.specs.Lines.{batch_line, core_lines, graph_line, level_lines}
+use Rattle.kc_hindex.specs.Rounds.{AreRounds}
+use Rattle.kc_report.specs.Lines.{batch_line, core_lines, graph_line, level_lines, rounds_line}
 use Rattle.kc_top.specs.Batches.{added, graph_after_batch, kept, removed}
 use Rattle.kc_top.specs.declared.setting.Setting.{Setting}
 use Rattle.kc_top.specs.declared.show.Show.{Show}
 use Rattle.kc_top.specs.declared.show.Show.TheVariants.{Cores, Summary, Each}
+use Rattle.kc_top.specs.declared.start.Start.{Start}
+use Rattle.kc_top.specs.declared.start.Start.TheVariants.{Buckets, Hindex}
 
 -- a batch between the numbers that stand for the ids: the updates that decide, and how many others they overrule
 pub record Batch : Type 0 where
@@ -38,6 +41,18 @@ AreCoresAfter g [] [] = ⊤
 AreCoresAfter g [] (core ∷ cores) = ⊥
 AreCoresAfter g (batch ∷ batches) [] = ⊥
 AreCoresAfter g (batch ∷ batches) (core ∷ cores) = AreCoreNumbers (graph_after g batch) core × AreCoresAfter (graph_after g batch) batches cores
+
+-- the number of the first round of h-indices that changes nothing, where the start is found by rounds, and else none
+abbrev pub AreStartRounds : Start → SimpleGraph → Option ℕ → Type 0
+AreStartRounds Buckets g None = ⊤
+AreStartRounds Buckets g (Some rounds) = ⊥
+AreStartRounds Hindex g None = ⊥
+AreStartRounds Hindex g (Some rounds) = AreRounds g rounds
+
+-- the line about the rounds, where there were any
+abbrev pub shown_rounds : Option ℕ → List ℕ
+shown_rounds None = []
+shown_rounds (Some rounds) = rounds_line rounds
 
 -- what is written of the core numbers of the start, and of those after each batch
 abbrev pub shown_each : Show → List ℕ → List ℕ → List ℕ
@@ -75,22 +90,24 @@ numbered_batch ids changes = record { updates = map (numbered_change ids) (decid
 abbrev pub numbered_batches : List ℕ → Told → List Batch
 numbered_batches ids told = map (numbered_batch ids) (batches told)
 
--- The lines of a run: the line about the graph, a line for each batch, and what the setting shows of the core numbers of the start,
--- of those after each batch, and of those at the end.
-abbrev pub lines_for : Setting → List ℕ → SimpleGraph → List ℕ → List Batch → List (List ℕ) → List ℕ
-lines_for setting ids g core batches later =
-    first_line g core ++ (shown_each setting.show ids core ++ (lines_about (shown_each setting.show ids) 1 g batches later
-    ++ (shown_last setting.show ids (last_of core later) ++ shown_level setting.level ids (last_of core later))))
+-- The lines of a run: the line about the graph and the one about the rounds of its start, a line for each batch, and what the setting
+-- shows of the core numbers of the start, of those after each batch, and of those at the end.
+abbrev pub lines_for : Setting → List ℕ → SimpleGraph → List ℕ → Option ℕ → List Batch → List (List ℕ) → List ℕ
+lines_for setting ids g core rounds batches later =
+    first_line g core ++ (shown_rounds rounds ++ (shown_each setting.show ids core ++ (lines_about (shown_each setting.show ids) 1 g batches later
+    ++ (shown_last setting.show ids (last_of core later) ++ shown_level setting.level ids (last_of core later)))))
 
 -- the text for what an input tells, of the core numbers of the start and after each batch
 pub record IsText (setting : Setting) (told : Told) (text : List ℕ) : Type 0 where
   pub ids : List ℕ
   pub core : List ℕ
+  pub rounds : Option ℕ
   pub later : List (List ℕ)
   pub named : AreIds (names told) ids
   pub numbers : AreCoreNumbers (start_graph ids told.edges) core
+  pub counted : AreStartRounds setting.start (start_graph ids told.edges) rounds
   pub numbers_later : AreCoresAfter (start_graph ids told.edges) (numbered_batches ids told) later
-  pub is : text ≡ lines_for setting ids (start_graph ids told.edges) core (numbered_batches ids told) later
+  pub is : text ≡ lines_for setting ids (start_graph ids told.edges) core rounds (numbered_batches ids told) later
 
 -- the bytes mean an input, and this is its text
 pub record IsTextOf (setting : Setting) (bytes text : List ℕ) : Type 0 where

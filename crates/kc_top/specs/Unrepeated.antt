@@ -11,10 +11,11 @@ use Rattle.kc_top.specs.Batches.{added, graph_after_batch, kept, removed}
 use Rattle.kc_top.specs.Text.{first_line, last_of}
 use Rattle.kc_top.specs.declared.setting.Setting.{Setting}
 use Rattle.kc_top.specs.declared.show.Show.TheVariants.{Cores}
+use Rattle.kc_top.specs.declared.start.Start.TheVariants.{Buckets}
 
 -- what no words ask for
 abbrev pub usual_setting : Setting
-usual_setting = record { workers = 1; show = Cores; level = None; generator = None }
+usual_setting = record { workers = 1; show = Cores; level = None; generator = None; start = Buckets }
 
 -- `batch B added A removed R kept K edges M top T`
 abbrev pub unrepeated_line : ℕ → SimpleGraph → List (Bool × ℕ × ℕ) → List ℕ → List ℕ

@@ -11,7 +11,7 @@ use kc_text::Refusal;
 use std::alloc::Global;
 
 const USAGE: &str =
-    "usage: kcore [--workers W] [--show cores|summary|each] [--level K] [--gen NUMBER]\n";
+    "usage: kcore [--workers W] [--show cores|summary|each] [--level K] [--gen NUMBER] [--start buckets|hindex]\n";
 
 /// Why a run stops before its end.
 #[derive(Drop)]

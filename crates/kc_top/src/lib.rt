@@ -8,7 +8,9 @@
 //! comes, and what was written then (`specs/Outcome.antt`, `specs/ErrLines.antt`).
 //!
 //! [`run_in_memory`](memory::run_in_memory) is the same run over the source and the sinks in memory, where every
-//! clause speaks of bytes that are known. The crate stands on `kc_io`, `kc_text`, `kc_graph` and `kc_report`.
+//! clause speaks of bytes that are known. Where the words ask for rounds of h-indices, these find the core numbers of the
+//! start in threads, and a line says how many rounds there were. The crate stands on `kc_io`, `kc_text`, `kc_graph`,
+//! `kc_hindex` and `kc_report`.
 #![tactic(auto)]
 
 mod batch;
@@ -22,6 +24,8 @@ mod reading;
 pub mod run;
 mod setting;
 mod show;
+mod start;
+mod start_numbers;
 #[cfg(test)]
 mod tests;
 mod text;
@@ -37,6 +41,7 @@ ghost use Rattle.kc_top.specs.declared.setting.Setting.{Setting};
 
 pub use setting::Setting;
 pub use show::Show;
+pub use start::Start;
 
 /// How a run ended.
 #[derive(Clone, Copy, Debug, PartialEq, Eq)]

@@ -14,9 +14,11 @@ use crate::run::run;
 use kc_io::mem_sink::MemSink;
 use kc_io::mem_source::MemSource;
 use std::alloc::Global;
+use std::thread::Threads;
 
 /// A run from memory to memory. It is [`run`], and each clause speaks of bytes that are known.
 pub fn run_in_memory(
+    rt: &(impl Threads + Sync),
     alloc: Global,
     words: &[&str],
     source: &mut MemSource,
@@ -46,5 +48,5 @@ pub fn run_in_memory(
     ensures accepted { (s : Setting) → asked words.now ≡ Some s → is_some s.generator ≡ true
         → (result ≡ Status.Done) ⊎ (result ≡ Status.WriteFault) ⊎ (result ≡ Status.NoMemory) }
 {
-    run(alloc, words, source, out, err)
+    run(rt, alloc, words, source, out, err)
 }

@@ -1,11 +1,21 @@
 //! What a run writes of core numbers, as its setting asks for them.
 ghost use Rattle.std.specs.Prelude.{◌≡◌, ◌++◌, OnOk, length};
-ghost use Rattle.kc_top.specs.Text.{shown_each, shown_last, shown_level};
+ghost use Rattle.kc_top.specs.Text.{shown_each, shown_last, shown_level, shown_rounds};
 
 use crate::setting::Setting;
 use crate::show::Show;
 use kc_graph::NoMemory;
-use kc_report::{core_lines, member_lines};
+use kc_report::{Line, core_lines, member_lines, summary};
+
+/// Appends the line about the rounds of the start, where there were any.
+pub(crate) fn put_rounds(text: &mut Vec<u8>, rounds: Option<u64>) -> Result<(), NoMemory>
+    ensures { OnOk result (text.new.items ≡ text.old.items ++ shown_rounds rounds) }
+{
+    match rounds {
+        None => Ok(()),
+        Some(rounds) => summary(text, &Line::Rounds { rounds }),
+    }
+}
 
 /// Appends what is shown of the core numbers of one state.
 pub(crate) fn put_each(

@@ -21,9 +21,15 @@ use crate::words::setting_of;
 use kc_io::sink::{Sink, write_all};
 use kc_io::source::Source;
 use std::alloc::Global;
+use std::thread::Threads;
 
 /// The output that the setting asks for.
-fn text_for<S: Source>(alloc: Global, setting: Setting, source: &mut S) -> Result<Vec<u8>, Stop>
+fn text_for<S: Source>(
+    rt: &(impl Threads + Sync),
+    alloc: Global,
+    setting: Setting,
+    source: &mut S,
+) -> Result<Vec<u8>, Stop>
     ensures text { IfOk result (λ text. IsAnswer (Some setting) (given (Some setting) (S.left source.old)) text.items) }
     ensures read { OnOk result (reads (Some setting) ≡ true → IsAtEnd (S.left source.new)) }
     ensures unread { reads (Some setting) ≡ false → source.new ≡ source.old }
@@ -31,11 +37,12 @@ fn text_for<S: Source>(alloc: Global, setting: Setting, source: &mut S) -> Resul
     ensures stopped { IfErr result (λ stop. HasNoText stop (given (Some setting) (S.left source.old)) (S.faults source.old) (S.faults source.new)) }
 {
     let input = input_of(alloc, setting.generator, source)?;
-    Ok(text_of(alloc, setting, input)?)
+    Ok(text_of(rt, alloc, setting, input)?)
 }
 
 /// All of a run but its words and its last line.
 fn follow<S: Source, O: Sink>(
+    rt: &(impl Threads + Sync),
     alloc: Global,
     setting: Setting,
     source: &mut S,
@@ -51,7 +58,7 @@ fn follow<S: Source, O: Sink>(
     ensures read_fault { ended result ≡ Status.ReadFault → Rose (S.faults source.old) (S.faults source.new) }
     ensures write_fault { ended result ≡ Status.WriteFault → Rose (O.faults out.old) (O.faults out.new) }
 {
-    let text = text_for(alloc, setting, source)?;
+    let text = text_for(rt, alloc, setting, source)?;
     if write_all(out, &text).is_err() {
         return Err(Stop::WriteFault);
     }
@@ -60,6 +67,7 @@ fn follow<S: Source, O: Sink>(
 
 /// All of a run but its last line.
 fn work<S: Source, O: Sink>(
+    rt: &(impl Threads + Sync),
     alloc: Global,
     words: &[&str],
     source: &mut S,
@@ -79,7 +87,7 @@ fn work<S: Source, O: Sink>(
 {
     match setting_of(alloc, words)? {
         None => Err(Stop::Usage),
-        Some(setting) => follow(alloc, setting, source, out),
+        Some(setting) => follow(rt, alloc, setting, source, out),
     }
 }
 
@@ -87,8 +95,10 @@ fn work<S: Source, O: Sink>(
 /// other than `Done` it writes one line to `err`.
 ///
 /// `words` are those after the program's name, and [`setting_of`](crate::words::setting_of) says what they ask for. Where they name a
-/// generator, its text is the input and `source` is not read. A fault of `err` changes no status.
+/// generator, its text is the input and `source` is not read. Where they ask for rounds of h-indices, `rt` runs these in threads. A fault
+/// of `err` changes no status.
 pub fn run<S: Source, O: Sink, E: Sink>(
+    rt: &(impl Threads + Sync),
     alloc: Global,
     words: &[&str],
     source: &mut S,
@@ -125,7 +135,7 @@ pub fn run<S: Source, O: Sink, E: Sink>(
     ensures accepted { (s : Setting) → asked words.now ≡ Some s → is_some s.generator ≡ true
         → (result ≡ Status.Done) ⊎ (result ≡ Status.WriteFault) ⊎ (result ≡ Status.NoMemory) }
 {
-    match work(alloc, words, source, out) {
+    match work(rt, alloc, words, source, out) {
         Ok(()) => Status::Done,
         Err(stop) => finish(err, stop),
     }

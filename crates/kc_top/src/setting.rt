@@ -1,5 +1,6 @@
 //! What a run is asked for.
 use crate::show::Show;
+use crate::start::Start;
 
 /// What a run is asked for.
 #[derive(Clone, Copy, Debug, PartialEq, Eq)]
@@ -12,4 +13,6 @@ pub struct Setting {
     pub level: Option<u32>,
     /// The number whose generated input stands in place of the source, if one does.
     pub generator: Option<u32>,
+    /// How the core numbers of the start are found.
+    pub start: Start,
 }

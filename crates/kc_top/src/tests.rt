@@ -5,6 +5,7 @@ use kc_io::mem_sink::MemSink;
 use kc_io::mem_source::MemSource;
 use std::process::Abort;
 use std::test::Fail;
+use std::thread::Threads;
 
 /// What a run leaves: its status, and the bytes of both sinks.
 #[derive(Clone, Copy)]
@@ -29,7 +30,7 @@ const NONE: Fails = Fails {
 };
 
 /// Runs on the input, and compares what the run leaves.
-fn check<R: Abort + AllocGlobal>(
+fn check<R: Abort + AllocGlobal + Threads + Sync>(
     rt: &R,
     words: &[&str],
     input: Vec<u8>,
@@ -41,7 +42,7 @@ fn check<R: Abort + AllocGlobal>(
     let mut source = MemSource::new(input, per_read, Vec::from_slice(alloc, fails.source)?);
     let mut out = MemSink::new(alloc, 400, 10, Vec::from_slice(alloc, fails.out)?)?;
     let mut err = MemSink::new(alloc, 200, 10, Vec::from_slice(alloc, fails.err)?)?;
-    let status = run_in_memory(alloc, words, &mut source, &mut out, &mut err);
+    let status = run_in_memory(rt, alloc, words, &mut source, &mut out, &mut err);
     assert_eq!(rt; status, wanted.status);
     assert_eq!(rt; out.taken(), wanted.out);
     assert_eq!(rt; err.taken(), wanted.err);
@@ -49,7 +50,7 @@ fn check<R: Abort + AllocGlobal>(
 }
 
 /// Runs with each list of words on its input, which is done, and compares the output.
-fn check_done<R: Abort + AllocGlobal>(
+fn check_done<R: Abort + AllocGlobal + Threads + Sync>(
     rt: &R,
     cases: &[(&[&str], &[u8], &'static [u8])],
 ) -> Result<(), Fail> {
@@ -65,7 +66,7 @@ fn check_done<R: Abort + AllocGlobal>(
 }
 
 /// Runs on each input, which is refused, and compares the line about it.
-fn check_refused<R: Abort + AllocGlobal>(
+fn check_refused<R: Abort + AllocGlobal + Threads + Sync>(
     rt: &R,
     cases: &[(&[u8], &'static [u8])],
 ) -> Result<(), Fail> {
@@ -81,7 +82,10 @@ fn check_refused<R: Abort + AllocGlobal>(
 }
 
 /// Runs with each list of words, which are wrong, over a source and a sink whose first call fails.
-fn check_wrong<R: Abort + AllocGlobal>(rt: &R, cases: &[&[&str]]) -> Result<(), Fail> {
+fn check_wrong<R: Abort + AllocGlobal + Threads + Sync>(
+    rt: &R,
+    cases: &[&[&str]],
+) -> Result<(), Fail> {
     let fails = Fails {
         source: &[1],
         out: &[1],
@@ -90,7 +94,7 @@ fn check_wrong<R: Abort + AllocGlobal>(rt: &R, cases: &[&[&str]]) -> Result<(), 
     let wanted = Wanted {
         status: Status::Usage,
         out: b"",
-        err: b"usage: kcore [--workers W] [--show cores|summary|each] [--level K] [--gen NUMBER]\n",
+        err: b"usage: kcore [--workers W] [--show cores|summary|each] [--level K] [--gen NUMBER] [--start buckets|hindex]\n",
     };
     for words in cases {
         check(
@@ -218,7 +222,8 @@ fn the_words_say_what_is_written(rt: HostRuntime) -> Result<(), Fail> {
 
 #[test]
 fn right_words_are_taken(rt: HostRuntime) -> Result<(), Fail> {
-    let cases: [(&[&str], &[u8], &'static [u8]); 6] = [
+    let cases: [(&[&str], &[u8], &'static [u8]); 7] = [
+        (&["--start", "buckets"], CLOSED, CLOSED_TEXT),
         (&["--workers", "64"], CLOSED, CLOSED_TEXT),
         (&["--workers=2"], CLOSED, CLOSED_TEXT),
         (&["--workers", "0000000001", "--"], CLOSED, CLOSED_TEXT),
@@ -235,7 +240,7 @@ fn right_words_are_taken(rt: HostRuntime) -> Result<(), Fail> {
 
 #[test]
 fn wrong_words_give_the_usage_line(rt: HostRuntime) -> Result<(), Fail> {
-    let cases: [&[&str]; 20] = [
+    let cases: [&[&str]; 24] = [
         &["--help"],
         &["-h"],
         &["--version"],
@@ -253,6 +258,10 @@ fn wrong_words_give_the_usage_line(rt: HostRuntime) -> Result<(), Fail> {
         &["--level", "00000000002"],
         &["--level", "-1"],
         &["--gen", "x"],
+        &["--start"],
+        &["--start", "h-index"],
+        &["--start", "Buckets"],
+        &["--start", "hindex", "--start", "hindex"],
         &["--", "--workers"],
         &[""],
         &["2"],
@@ -285,6 +294,57 @@ fn a_generated_input_is_read_in_place_of_the_source(rt: HostRuntime) -> Result<(
 /// The summary of the input that is generated for 7.
 const GENERATED: &[u8] =
     b"graph vertices 10000 edges 49966 top 7\nbatch 1 added 492 removed 507 kept 0 edges 49951 top 7\nbatch 2 added 483 removed 511 kept 3 edges 49923 top 7\nbatch 3 added 492 removed 496 kept 6 edges 49919 top 7\nbatch 4 added 513 removed 467 kept 16 edges 49965 top 7\n";
+
+#[test]
+fn the_rounds_of_the_start_have_their_line(rt: HostRuntime) -> Result<(), Fail> {
+    let cases: [(&[&str], &[u8], &'static [u8]); 3] = [
+        (
+            &["--start", "hindex"],
+            CLOSED,
+            b"graph vertices 4 edges 3 top 1\nhindex rounds 2\nbatch 1 added 1 removed 0 kept 0 edges 4 top 2\n1 2\n2 2\n3 2\n4 2\n",
+        ),
+        (
+            &["--start=hindex", "--show", "each"],
+            TRIANGLE,
+            b"graph vertices 3 edges 3 top 2\nhindex rounds 1\n1 2\n2 2\n3 2\n",
+        ),
+        (
+            &["--show", "summary", "--start", "hindex", "--workers", "2"],
+            b"",
+            b"graph vertices 0 edges 0 top 0\nhindex rounds 1\n",
+        ),
+    ];
+    check_done(&rt, &cases)
+}
+
+/// What a run on these words writes, which reads no source.
+fn output_of<R: Abort + AllocGlobal + Threads + Sync>(
+    rt: &R,
+    words: &[&str],
+) -> Result<Vec<u8>, Fail> {
+    let alloc = rt.alloc();
+    let mut source = MemSource::new(Vec::new(alloc), 1, Vec::new(alloc));
+    let mut out = MemSink::new(alloc, 1_000_000, 1_000_000, Vec::new(alloc))?;
+    let mut err = MemSink::new(alloc, 200, 10, Vec::new(alloc))?;
+    let status = run_in_memory(rt, alloc, words, &mut source, &mut out, &mut err);
+    assert_eq!(rt; status, Status::Done);
+    Ok(Vec::from_slice(alloc, out.taken())?)
+}
+
+#[test]
+fn rounds_give_the_numbers_that_buckets_give(rt: HostRuntime) -> Result<(), Fail> {
+    let buckets = output_of(&rt, &["--gen", "7", "--show", "each"])?;
+    let rounds = output_of(&rt, &["--gen", "7", "--show", "each", "--start", "hindex"])?;
+    let numbers = buckets
+        .as_slice()
+        .strip_prefix(b"graph vertices 10000 edges 49966 top 7\n");
+    assert!(rt; numbers.is_some());
+    let beside = rounds.as_slice().strip_prefix(
+        b"graph vertices 10000 edges 49966 top 7\nhindex rounds 17\n",
+    );
+    assert_eq!(rt; beside, numbers);
+    Ok(())
+}
 
 #[test]
 fn one_edge_less_lowers_a_complete_graph(rt: HostRuntime) -> Result<(), Fail> {
@@ -479,7 +539,7 @@ fn want_of_memory_is_a_status(rt: HostRuntime) -> Result<(), Fail> {
     let mut source = MemSource::new(input, 4, Vec::new(alloc));
     let mut out = MemSink::new(alloc, 100, 10, Vec::new(alloc))?;
     let mut err = MemSink::new(alloc, 100, 10, Vec::new(alloc))?;
-    let status = run_in_memory(alloc, &[], &mut source, &mut out, &mut err);
+    let status = run_in_memory(&rt, alloc, &[], &mut source, &mut out, &mut err);
     let (text, line): (&[u8], &[u8]) = match status {
         Status::Done => (
             b"graph vertices 4 edges 3 top 1\nbatch 1 added 1 removed 0 kept 0 edges 4 top 2\n1 2\n2 2\n3 2\n4 2\n",

@@ -1,6 +1,6 @@
 //! The words of a run, and what they ask for.
 //!
-//! They are read by `clap`, as a command of four options with one value each and no flag for help or the version. What `clap` makes of
+//! They are read by `clap`, as a command of five options with one value each and no flag for help or the version. What `clap` makes of
 //! the words of such a command is a function of them, on which `specs/Settings.antt` stands.
 ghost use Rattle.std.specs.Prelude.{◌≡◌, IfOk, false, option_map};
 ghost use Rattle.std.specs.Char.{is_ascii_digit};
@@ -8,10 +8,11 @@ ghost use Rattle.std.specs.List.{list_all};
 ghost use Rattle.clap.specs.Matches.{found_of};
 ghost use Rattle.clap.specs.Simple.{app_of};
 ghost use Rattle.clap.specs.Walk.{rows_of, rule_of};
-ghost use Rattle.kc_top.specs.Settings.{asked, command, is_short_numeral, number, option_named, read, setting_in, show, usual_show, workers};
+ghost use Rattle.kc_top.specs.Settings.{asked, command, is_short_numeral, number, option_named, read, setting_in, show, start, together, usual_show, workers};
 
 use crate::setting::Setting;
 use crate::show::Show;
+use crate::start::Start;
 use clap::error::ErrorKind;
 use clap::{Arg, ArgAction, ArgMatches, Command};
 use kc_graph::NoMemory;
@@ -42,7 +43,8 @@ fn command<'a>(alloc: Global) -> Result<Command<'a>, NoMemory>
         .arg(option_named(alloc, "workers"))?
         .arg(option_named(alloc, "show"))?
         .arg(option_named(alloc, "level"))?
-        .arg(option_named(alloc, "gen"))
+        .arg(option_named(alloc, "gen"))?
+        .arg(option_named(alloc, "start"))
 }
 
 /// Whether each byte is a decimal digit.
@@ -89,6 +91,17 @@ fn show(text: &str) -> Option<Show>
     }
 }
 
+/// How a text says that the core numbers of the start are to be found.
+fn start(text: &str) -> Option<Start>
+    ensures { result ≡ start text.now }
+{
+    match text {
+        "buckets" => Some(Start::Buckets),
+        "hindex" => Some(Start::Hindex),
+        _ => None,
+    }
+}
+
 /// The number of workers, where it is given.
 fn read_workers(text: Option<&str>) -> Option<Option<u32>>
     ensures { result ≡ read workers (option_map (λ t. t.now) text.entry) }
@@ -106,6 +119,16 @@ fn read_show(text: Option<&str>) -> Option<Option<Show>>
     match text {
         None => Some(None),
         Some(text) => Some(Some(show(text)?)),
+    }
+}
+
+/// How the core numbers of the start are to be found, where it is given.
+fn read_start(text: Option<&str>) -> Option<Option<Start>>
+    ensures { result ≡ read start (option_map (λ t. t.now) text.entry) }
+{
+    match text {
+        None => Some(None),
+        Some(text) => Some(Some(start(text)?)),
     }
 }
 
@@ -129,27 +152,48 @@ fn usual_show(generator: Option<u32>) -> Show
     }
 }
 
-/// What the values of the options ask for, if each is right.
-fn setting_in(matches: &ArgMatches) -> Option<Setting>
-    ensures { result ≡ setting_in (rows_of (found_of matches.now)) }
+/// The setting, where each of the five is right: one worker, no level and buckets where nothing is said of them.
+fn together(
+    workers: Option<Option<u32>>,
+    show: Option<Option<Show>>,
+    level: Option<Option<u32>>,
+    generator: Option<Option<u32>>,
+    start: Option<Option<Start>>,
+) -> Option<Setting>
+    ensures { result ≡ together workers show level generator start }
 {
-    let workers = read_workers(matches.get_str("workers"))?;
-    let show = read_show(matches.get_str("show"))?;
-    let level = read_number(matches.get_str("level"))?;
-    let generator = read_number(matches.get_str("gen"))?;
+    let workers = workers?;
+    let show = show?;
+    let level = level?;
+    let generator = generator?;
+    let start = start?;
     Some(Setting {
         workers: workers.unwrap_or(1),
         show: show.unwrap_or(usual_show(generator)),
         level,
         generator,
+        start: start.unwrap_or(Start::Buckets),
     })
+}
+
+/// What the values of the options ask for, if each is right.
+fn setting_in(matches: &ArgMatches) -> Option<Setting>
+    ensures { result ≡ setting_in (rows_of (found_of matches.now)) }
+{
+    let workers = read_workers(matches.get_str("workers"));
+    let show = read_show(matches.get_str("show"));
+    let level = read_number(matches.get_str("level"));
+    let generator = read_number(matches.get_str("gen"));
+    let start = read_start(matches.get_str("start"));
+    together(workers, show, level, generator, start)
 }
 
 /// What the words of a run ask for. The words are those after the program's name.
 ///
-/// The options are `--workers W`, `--show cores|summary|each`, `--level K` and `--gen NUMBER`, each at most once. W, K and
-/// NUMBER are one to [`MOST_DIGITS`] decimal digits; W is 1 to [`MOST_WORKERS`], K and NUMBER are numbers of 32 bits. Where nothing is
-/// said, there is one worker, no level, no generator, and the core numbers at the end are shown, or with a generator none.
+/// The options are `--workers W`, `--show cores|summary|each`, `--level K`, `--gen NUMBER` and `--start buckets|hindex`, each at most
+/// once. W, K and NUMBER are one to [`MOST_DIGITS`] decimal digits; W is 1 to [`MOST_WORKERS`], K and NUMBER are numbers of 32 bits.
+/// Where nothing is said, there is one worker, no level, no generator, the core numbers at the end are shown, or with a generator none,
+/// and those of the start are found by buckets.
 /// It gives none where the words are not right.
 pub fn setting_of<'a>(alloc: Global, words: &'a [&'a str]) -> Result<Option<Setting>, NoMemory>
     ensures { IfOk result (λ answer. answer ≡ asked words.now) }

@@ -20,6 +20,13 @@ fn main(rt: HostRuntime) -> ExitCode {
     let mut source = StdSource::new(rt.stdin());
     let mut out = StdSink::new(rt.stdout());
     let mut err = StdSink::new(rt.stderr());
-    let status = run_on(rt.alloc(), env::args(&rt), &mut source, &mut out, &mut err);
+    let status = run_on(
+        &rt,
+        rt.alloc(),
+        env::args(&rt),
+        &mut source,
+        &mut out,
+        &mut err,
+    );
     ExitCode::from(exit_number(status))
 }

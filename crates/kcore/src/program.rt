@@ -15,12 +15,14 @@ use std::alloc::Global;
 use std::env::Args;
 use std::io;
 use std::io::ErrorKind;
+use std::thread::Threads;
 
 /// Runs on the words of `args`: the arguments after the program's name, in their order, and an empty word in place of all
 /// where one is not UTF-8.
 ///
 /// Where there is no memory for the words, the status is `NoMemory`, and nothing was read or written.
 pub(crate) fn run_on<S: Source, O: Sink, E: Sink>(
+    rt: &(impl Threads + Sync),
     alloc: Global,
     args: io::Result<Args>,
     source: &mut S,
@@ -43,5 +45,5 @@ pub(crate) fn run_on<S: Source, O: Sink, E: Sink>(
     let Ok(texts) = borrowed(alloc, &words) else {
         return Status::NoMemory;
     };
-    run(alloc, &texts, source, out, err)
+    run(rt, alloc, &texts, source, out, err)
 }
