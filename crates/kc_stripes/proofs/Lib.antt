@@ -1,2 +1,4 @@
 pub mod Growing
 pub mod Keeping
+pub mod Giving
+pub mod Loosening

@@ -1,1 +1,4 @@
 pub mod Records
+pub mod Reads
+pub mod ReadsCode
+pub mod Loose

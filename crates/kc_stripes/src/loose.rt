@@ -1,0 +1,141 @@
+//! A view over stripes and words, while others change them.
+ghost use Rattle.std.specs.Prelude.{◌≡◌};
+ghost use mathlib.Core.List.{IsPrefix};
+ghost use Rattle.kc_view.specs.Answers.{nothing_answered};
+
+use crate::start::Start;
+use crate::stripes::Stripes;
+use kc_agree::{read_core, read_order};
+use kc_graph::{Used, UsedEdges};
+use kc_table::{Name, Pass, Words};
+use kc_view::{Memo, Scratch, View, ViewFault};
+use std::alloc::Global;
+use std::marker::{Model, PhantomData};
+use std::sync::Wait;
+
+/// A view of K's table that reads while others change it. It owns its pass, which a caller split from its own, and hands it back.
+///
+/// All that it has answered was read of what its pass has seen: each list is not older than the opening, and each stamp and core number
+/// was so at some moment not before `S`. The answers need not be those of one state. A miss is true from `S` to what the pass has seen,
+/// and none but an order misses.
+///
+/// What was kept is found by the marks of a `Scratch`, which a worker lends it. So making it, and ending it, costs nothing of the size of
+/// the graph.
+#[derive(Drop)]
+pub struct Loose<'a, K: Name, S: Start, R: Wait> {
+    rt: &'a R,
+    words: &'a Words,
+    stripes: &'a Stripes<K>,
+    pass: Pass,
+    memo: Memo,
+    handed: u64,
+    misses: u64,
+    of: PhantomData<S>,
+}
+
+impl<'a, K: Name, S: Start, R: Wait> Model for Loose<'a, K, S, R> {
+    ghost use Rattle.std.specs.Prelude.{◌≡◌};
+    ghost use Rattle.kc_stripes.specs.Records.{opened_with};
+    ghost use Rattle.kc_stripes.specs.Reads.{Loosely, loosely};
+    ghost use Rattle.kc_stripes.specs.ReadsCode.{code_of_loosely};
+    ghost use Rattle.kc_stripes.specs.Loose.{IsLoose};
+
+    ghost Value = { Loosely };
+
+    ghost coded = { code_of_loosely };
+
+    ghost view = { λ l. loosely l.memo l.handed l.misses l.pass.log };
+
+    ghost invariant = { λ l. (l.words.now ≡ K.table) × (l.pass.table ≡ K.table)
+        × IsLoose (opened_with K.table K.opening_edges K.opening_stamps) S.log (loosely l.memo l.handed l.misses l.pass.log) };
+}
+
+impl<'a, K: Name, S: Start, R: Wait> Loose<'a, K, S, R> {
+    /// A view with nothing kept. The pass is one that a caller split from its own, and has seen `S`.
+    pub fn new(
+        rt: &'a R,
+        alloc: Global,
+        words: &'a Words,
+        stripes: &'a Stripes<K>,
+        pass: Pass,
+        scratch: Scratch,
+    ) -> Loose<'a, K, S, R>
+        requires table { (words.now ≡ K.table) × (pass.table ≡ K.table) }
+        requires start { IsPrefix S.log pass.log }
+        requires scratch { scratch ≡ K.table.shape.fixed }
+        ensures { result ≡ record { size = K.table.shape.fixed; kept = nothing_answered; handed = 0; misses = 0; seen = pass.log } }
+    {
+        Loose {
+            rt,
+            words,
+            stripes,
+            pass,
+            memo: Memo::new(alloc, scratch),
+            handed: 0,
+            misses: 0,
+            of: PhantomData,
+        }
+    }
+
+    /// The pass, and the scratch as it was lent.
+    pub fn end(self) -> (Pass, Scratch)
+        ensures table { result.0.table ≡ K.table }
+        ensures log { result.0.log ≡ self.entry.seen }
+        ensures scratch { result.1 ≡ K.table.shape.fixed }
+        ensures start { IsPrefix S.log self.entry.seen }
+    {
+        let Loose { pass, memo, .. } = self;
+        (pass, memo.into_scratch())
+    }
+}
+
+impl<K: Name, S: Start, R: Wait> View for Loose<'_, K, S, R> {
+    ghost use Rattle.kc_stripes.specs.Records.{opened_with};
+    ghost use Rattle.kc_stripes.specs.Reads.{shown_loosely};
+
+    ghost shown = { λ l. shown_loosely (opened_with K.table K.opening_edges K.opening_stamps) S.log l };
+
+    fn degree(&mut self, w: u32) -> Result<u32, ViewFault> {
+        if let Some(list) = self.memo.list(w) {
+            return Ok(list.as_slice().len() as u32);
+        }
+        let (neighbours, at) = self.stripes.read(self.rt, self.words, &mut self.pass, w)?;
+        let degree = neighbours.as_slice().len() as u32;
+        self.memo.keep_list(UsedEdges {
+            vertex: w,
+            at,
+            neighbours,
+        })?;
+        Ok(degree)
+    }
+
+    fn neighbour(&self, w: u32, i: u32) -> u32 {
+        match self.memo.list(w) {
+            Some(list) => list.as_slice()[i as usize],
+            None => unreachable!(),
+        }
+    }
+
+    fn core(&mut self, w: u32) -> Result<u32, ViewFault> {
+        if let Some(core) = self.memo.core(w) {
+            return Ok(core);
+        }
+        Ok(read_core(self.words, &mut self.pass, &mut self.memo, w)?)
+    }
+
+    fn precedes(&mut self, x: u32, y: u32) -> Result<bool, ViewFault> {
+        match read_order(self.words, &mut self.pass, &mut self.memo, x, y) {
+            Ok(before) => Ok(before),
+            Err(ViewFault::Miss(again)) => {
+                self.misses = self.misses.saturating_add(1);
+                Err(ViewFault::Miss(again))
+            }
+            Err(ViewFault::NoMemory) => Err(ViewFault::NoMemory),
+        }
+    }
+
+    fn used(&mut self) -> Used {
+        self.handed = self.handed.wrapping_add(1);
+        self.memo.hand_out()
+    }
+}
