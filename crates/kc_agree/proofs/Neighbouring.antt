@@ -211,8 +211,8 @@ pub after_entries-push : (g : SimpleGraph) (es : List Entry) (x : Entry) → aft
 after_entries-push g [] x = refl
 after_entries-push g (e ∷ es) x = after_entries-push (after_entry g e) es x
 
--- and the last change with it
-last_change-push : (g : SimpleGraph) (es : List Entry) (x : Entry) (number v stamp : ℕ)
+-- one entry more changes the last change of the vertices that it names
+pub last_change-push : (g : SimpleGraph) (es : List Entry) (x : Entry) (number v stamp : ℕ)
     → last_change g (es ++ x ∷ []) number v stamp
     ≡ cond (changes_graph x (after_entries g es) && names x v) (number + length es + 1) (last_change g es number v stamp)
 last_change-push g [] x number v stamp = ap (λ n. cond (changes_graph x g && names x v) n stamp) (omega arith)

@@ -193,6 +193,21 @@ impl Levels {
         self.stamps[v as usize]
     }
 
+    /// The level where each vertex stands, indexed by the vertex.
+    pub fn core(&self) -> &[u32]
+        ensures { result.now ≡ self.now.core }
+    {
+        &self.core
+    }
+
+    /// The stamp of each vertex, indexed by the vertex.
+    pub fn stamps(&self) -> &[u32]
+        ensures one_each { length result.now ≡ size_of self.now }
+        ensures each { (v : ℕ) → v < size_of self.now → slice_index result.now v ≡ stamp_at self.now v }
+    {
+        &self.stamps
+    }
+
     /// Whether `x` stands before `y`.
     pub fn precedes(&self, x: u32, y: u32) -> bool
         requires vertices { (x < size_of self.now) × (y < size_of self.now) }

@@ -1,0 +1,28 @@
+-- Which of two vertices stands first.
+use Rattle.std.proofs.Common.{◌≡◌, ◌<◌, ◌↔◌, ℕ, Bool, ltb, sym, ◌∙◌, ap, subst, inl, inr, ltb-true, lt-ltb}
+use Rattle.std.specs.Prelude.{IsTrue}
+use Rattle.std.proofs.lemmas.Bool.{cases_Bool, false_from_ne_true, false≢true}
+use Rattle.kc_distinct.specs.Lists.{place_of}
+use Rattle.kc_distinct.proofs.Counting.{member-from_Contains}
+use Rattle.kc_order.specs.Standing.{StandsBefore}
+use Rattle.kc_levels.specs.Levels.{AreLevels, Levelled, size_of}
+use Rattle.kc_journal.specs.Journals.{Journalled}
+
+-- an answer on two vertices tells whether the first one's place is the lesser
+pub precedes-is : (l : Levelled) (x y : ℕ) (b : Bool) → AreLevels l → x < size_of l → y < size_of l → IsTrue b ↔ StandsBefore x y l.order
+    → b ≡ ltb (place_of x l.order) (place_of y l.order)
+precedes-is l x y b are low-x low-y is =
+    let here = member-from_Contains l.order x (are.enumerates.complete x low-x) in
+    let there = member-from_Contains l.order y (are.enumerates.complete y low-y) in
+    elim (cases_Bool (ltb (place_of x l.order) (place_of y l.order))) [
+      | inl t ↦ is.1 record { first = here; second = there; before = ltb-true _ _ t } ∙ sym t
+      | inr f ↦ false_from_ne_true b (λ t. (let lt = (is.0 t).before in false≢true (sym f ∙ lt-ltb _ _ lt))) ∙ sym f
+    ]
+
+-- so it is for the levels of a journal
+pub compared : {self now : Journalled} (x y : ℕ) (b : Bool) → self ≡ now → AreLevels self.levels
+    → (x < size_of now.levels) × (y < size_of now.levels) → IsTrue b ↔ StandsBefore x y self.levels.order
+    → b ≡ ltb (place_of x now.levels.order) (place_of y now.levels.order)
+compared {self} {now} x y b is are both told =
+    let low = subst (λ (j : Journalled). (x < size_of j.levels) × (y < size_of j.levels)) (sym is) both in
+    precedes-is self.levels x y b are low.0 low.1 told ∙ ap (λ (j : Journalled). ltb (place_of x j.levels.order) (place_of y j.levels.order)) is

@@ -1,0 +1,246 @@
+//! The state with its log, and how an update is entered.
+ghost use Rattle.std.specs.Prelude.{◌≡◌, ◌≢◌, ◌<◌, ◌≤◌, nat_lt, ℕ, IfErr, IfOk, MatchOption, OnErr, slice_index};
+ghost use mathlib.Core.List.{IsPrefix};
+ghost use Rattle.kc_distinct.specs.Lists.{place_of};
+ghost use Rattle.kc_graph.specs.Core.{AreCoreNumbers};
+ghost use Rattle.kc_view.specs.Sure.{IsSure};
+ghost use Rattle.kc_agree.specs.Stamps.{edge_stamp, place_stamp};
+ghost use Rattle.kc_levels.specs.Levels.{IsTop, size_of};
+
+use crate::answer::{EnterFault, Entered, Receipt};
+use crate::change::{add_entry, make_section, make_update, versions_needed};
+use kc_agree::first_stale;
+use kc_graph::{Lawful, NoMemory, Plan, SharedGraph};
+use kc_levels::{LAST_NUMBER, Levels};
+use kc_table::{Entry, Pass, Words};
+use kc_words::{INDICES, LAST_VERSION, VERTICES};
+use std::alloc::Global;
+use std::marker::Model;
+use std::snapshot::Snapshot;
+
+/// A graph with its core numbers, their order, and the log of all entries: the state that a lock guards.
+///
+/// By its type the order certifies the core numbers, no section is open, and the edges are those of the run's start after all entries;
+/// what is so of each value is `Stands` in `specs/Journals.antt`. What the run and its table began with costs no bytes.
+#[derive(Drop)]
+pub struct Journal {
+    graph: SharedGraph,
+    levels: Levels,
+    edge_stamps: Vec<u32>,
+    entries: Vec<Entry>,
+    started: Snapshot<SharedGraph>,
+    opened: Snapshot<SharedGraph>,
+    opening_stamps: Snapshot<Vec<u32>>,
+}
+
+impl Model for Journal {
+    ghost use Rattle.std.specs.Coded.{codes};
+    ghost use Rattle.kc_graph.specs.Rows.{code_of_graph};
+    ghost use Rattle.kc_journal.specs.Journals.{Journalled, Stands};
+
+    ghost Value = { Journalled };
+
+    ghost coded = { Prim.hlevel (codes, code_of_graph) };
+
+    ghost view = { λ s. record {
+      graph = s.graph;
+      levels = s.levels;
+      edge_stamps = s.edge_stamps.items;
+      entries = s.entries.items;
+      started = s.started.value;
+      opened = s.opened.value;
+      opening_stamps = s.opening_stamps.value.items;
+    } };
+
+    ghost invariant = { λ s. Stands (record {
+      graph = s.graph;
+      levels = s.levels;
+      edge_stamps = s.edge_stamps.items;
+      entries = s.entries.items;
+      started = s.started.value;
+      opened = s.opened.value;
+      opening_stamps = s.opening_stamps.value.items;
+    }) };
+}
+
+impl Journal {
+    ghost use Rattle.kc_journal.specs.Answers.{IsAdmitted, IsCause, IsEntered};
+    ghost use Rattle.kc_journal.specs.Entering.{MayEnter, WasReadOf};
+    ghost use Rattle.kc_journal.specs.Journals.{OpensRun, Stands, all_seen};
+
+    /// The journal of a new run, on a fresh table with this version. It has no entries, and all stamps are 0. `NoMemory` comes where there
+    /// is none for the table and the stamps; `lawful` is then dropped. The graph is not copied.
+    pub fn open(
+        alloc: Global,
+        lawful: Lawful,
+        version: u32,
+    ) -> Result<(Words, Journal, Pass), NoMemory>
+        requires few { lawful.graph.size ≤ VERTICES }
+        requires version { version ≤ LAST_VERSION }
+        ensures { IfOk result (λ r. OpensRun lawful version r.0 r.1 r.2) }
+    {
+        let (graph, core, order) = lawful.into_parts();
+        let graph = SharedGraph::from_graph(graph)?;
+        let edge_stamps = vec![in alloc; 0u32; core.len()]?;
+        let (words, levels, pass) = Levels::open(alloc, &order, &core, &edge_stamps, 0, version)?;
+        let journal = Journal {
+            started: Snapshot::of(&graph),
+            opened: Snapshot::of(&graph),
+            opening_stamps: Snapshot::of(&edge_stamps),
+            graph,
+            levels,
+            edge_stamps,
+            entries: Vec::new(alloc),
+        };
+        Ok((words, journal, pass))
+    }
+
+    /// What holds of each journal.
+    pub fn look(&self)
+        ensures { Stands self.now }
+    {
+        let _entries = self.entries.len();
+    }
+
+    /// The graph.
+    pub fn graph(&self) -> &SharedGraph
+        ensures { result.now ≡ self.now.graph }
+    {
+        &self.graph
+    }
+
+    /// The core number of a vertex.
+    pub fn core(&self, v: u32) -> u32
+        requires { v < size_of self.now.levels }
+        ensures core { result ≡ slice_index self.now.levels.core v }
+        ensures seidman { AreCoreNumbers self.now.graph self.now.levels.core }
+    {
+        self.levels.level_of(v)
+    }
+
+    /// The number of the last entry that changed the edges of a vertex, or 0.
+    pub fn edge_stamp(&self, v: u32) -> u32
+        requires { v < size_of self.now.levels }
+        ensures is { result ≡ slice_index self.now.edge_stamps v }
+        ensures here { result ≡ edge_stamp self.now.levels.table self.now.opened self.now.opening_stamps self.now.levels.log v }
+    {
+        self.edge_stamps[v as usize]
+    }
+
+    /// The edge stamp of each vertex, indexed by the vertex.
+    pub fn edge_stamps(&self) -> &Vec<u32>
+        ensures { result.now.items ≡ self.now.edge_stamps }
+    {
+        &self.edge_stamps
+    }
+
+    /// The number of the last section of the table that put a vertex, or its opening stamp.
+    pub fn place_stamp(&self, v: u32) -> u32
+        requires { v < size_of self.now.levels }
+        ensures { result ≡ place_stamp self.now.levels.table self.now.levels.log v }
+    {
+        self.levels.stamp(v)
+    }
+
+    /// Whether `x` stands before `y`.
+    pub fn precedes(&self, x: u32, y: u32) -> bool
+        requires vertices { (x < size_of self.now.levels) × (y < size_of self.now.levels) }
+        requires differ { x ≢ y }
+        ensures { result ≡ nat_lt (place_of x self.now.levels.order) (place_of y self.now.levels.order) }
+    {
+        self.levels.precedes(x, y)
+    }
+
+    /// The greatest core number, 0 where there is no vertex.
+    pub fn top(&self) -> u32
+        ensures { IsTop self.now.levels.core result }
+    {
+        self.levels.top()
+    }
+
+    /// All entries of the run, oldest first.
+    pub fn entries(&self) -> &[Entry]
+        ensures { result.now ≡ self.now.entries }
+    {
+        &self.entries
+    }
+
+    /// Tells a pass the whole log, of which it had seen a prefix.
+    pub fn tell(&mut self, words: &Words, pass: &mut Pass)
+        requires table { (pass.old.table ≡ words.now) × (self.old.levels.table ≡ words.now) }
+        ensures same { self.new ≡ self.old }
+        ensures told { pass.new ≡ all_seen self.old }
+        ensures longer { IsPrefix pass.old.log self.old.levels.log }
+    {
+        self.levels.tell(words, pass);
+    }
+
+    /// Enters an update with the moves of its plan, where no stamp that the plan has used is less than the present one. First it tells
+    /// the pass the whole log. All memory is taken before the first store, and none that the size of the graph counts for.
+    ///
+    /// The journal is as it was after each fault. Of two causes that stand together the one that `EnterFault` names first comes.
+    pub fn enter(
+        &mut self,
+        words: &Words,
+        pass: &mut Pass,
+        index: u32,
+        plan: &Plan,
+    ) -> Result<Entered, EnterFault>
+        requires table { (pass.old.table ≡ words.now) × (self.old.levels.table ≡ words.now) }
+        requires index { index < INDICES }
+        requires within { plan.now.update.v < size_of self.old.levels }
+        requires read { WasReadOf self.old pass.old.log plan.now }
+        requires sure { IsSure plan.now }
+        ensures entered { IfOk result (λ entered. IsEntered self.old self.new index plan.now entered) }
+        ensures cause { IfErr result (λ fault. IsCause self.old plan.now fault) }
+        ensures same { OnErr result (self.new ≡ self.old) }
+        ensures told { pass.new ≡ all_seen self.old }
+    {
+        self.levels.tell(words, pass);
+        if let Some(fault) = self.refusal(plan) {
+            return Err(fault);
+        }
+        let lists = add_entry(&self.graph, &mut self.entries, index, plan.update)?;
+        let place = self.entries.len() as u32;
+        let lists = make_update(
+            &mut self.graph,
+            &mut self.edge_stamps,
+            plan.update,
+            lists,
+            place,
+        );
+        make_section(&mut self.levels, words, index, plan);
+        let receipt = Receipt {
+            index,
+            place,
+            applied: lists.is_some(),
+        };
+        Ok(Entered { receipt, lists })
+    }
+
+    /// What stands against a plan, if anything does.
+    fn refusal(&self, plan: &Plan) -> Option<EnterFault>
+        requires { MayEnter self.now plan.now }
+        ensures { MatchOption result (IsAdmitted self.now plan.now) (λ fault. IsCause self.now plan.now fault) }
+    {
+        if self.entries.len() >= LAST_NUMBER as usize {
+            return Some(EnterFault::Full {
+                entries: self.entries.len() as u32,
+            });
+        }
+        if let Some(stale) = first_stale(&plan.used, &self.edge_stamps, self.levels.stamps()) {
+            return Some(EnterFault::Stale {
+                vertex: stale.vertex,
+                edges: stale.edges,
+                used: stale.used,
+                now: stale.now,
+            });
+        }
+        let highest = self.levels.highest();
+        let needed = versions_needed(&plan.moves);
+        if highest > LAST_VERSION - needed {
+            return Some(EnterFault::Spent { highest, needed });
+        }
+        None
+    }
+}
