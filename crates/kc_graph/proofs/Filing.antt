@@ -1,10 +1,10 @@
 -- Buckets of vertices: who stands where while vertices are taken.
-use Rattle.std.proofs.Common.{◌≡◌, ◌≢◌, ◌≤◌, ◌<◌, ◌+◌, ℕ, max, Bool, true, false, cond, ◌&&◌, List, [], ◌∷◌, ◌++◌, length, set, replicate, eqb, ltb, refl, sym, ◌∙◌, ap, subst, ◌⊎◌, inl, inr, arith, length-set, length-append, append-nil, eq-eqb, eqb-true, ltb-true, lt-ltb, le-ltb, true≢false}
+use Rattle.std.proofs.Common.{◌≡◌, ◌≢◌, ◌≤◌, ◌<◌, ◌+◌, ℕ, max, Bool, true, false, cond, ◌&&◌, List, [], ◌∷◌, ◌++◌, length, set, replicate, eqb, ltb, refl, sym, ◌∙◌, ap, subst, ◌⊎◌, inl, inr, arith, eq-eqb, eqb-true, ltb-true, lt-ltb, le-ltb, true≢false}
 use Rattle.std.specs.List.{filter}
-use Rattle.std.proofs.lemmas.Bool.{cases_Bool, cases_eq, cases_lt, false≢true, or_right, and_parts, and_from, and_right, eqb-false, false_from_ne_true, true_from_ne_false}
+use Rattle.std.proofs.lemmas.Bool.{cases_Bool, cases_eq, cases_lt, false≢true, or_right, and_parts, and_from, and_right, eqb-false, or_cases, or_left, false_from_ne_true, true_from_ne_false}
 use Rattle.std.proofs.Math.Bool.{and-true}
 use Rattle.kc_distinct.specs.Lists.{member, Distinct}
-use Rattle.kc_distinct.proofs.Members.{member-append, member-append_left, member-append_right, append-not_member, Distinct-cut}
+use Rattle.kc_distinct.proofs.Members.{member-append, member-append_left, member-append_right, append-not_member}
 use Rattle.kc_distinct.proofs.Counting.{member-push, member-push_left, member-push_cases, member-push_none, member-filter, filter-member, Distinct-filter, Distinct-push}
 use Rattle.kc_graph.specs.SimpleGraph.{SimpleGraph, adjacent}
 use Rattle.kc_graph.specs.Certificate.{Certifies}
@@ -17,25 +17,17 @@ use Rattle.kc_graph.proofs.PeelingLemmas.{start, raise, take_one, finish, one_if
 use Rattle.kc_distinct.proofs.Shared.{Distinct-append}
 use Rattle.kc_graph.proofs.Law.{adjacent-sym}
 
--- what a pop does to the buckets
+-- the first vertex of a bucket leaves it
 pub record Popped (level v : ℕ) (old rows : List (List ℕ)) : Type 0 where
-  pub here : row old level ≡ row rows level ++ v ∷ []
+  pub here : row old level ≡ v ∷ row rows level
   pub others : (b : ℕ) → b ≢ level → row old b ≡ row rows b
-
-pub popped_is : (level v : ℕ) (old rows : List (List ℕ)) → old ≡ set rows level (row rows level ++ v ∷ []) → level < length old → Popped level v old rows
-popped_is level v old rows e l =
-    let n : length old ≡ length rows = ap length e ∙ length-set rows level (row rows level ++ v ∷ []) in
-    record {
-      here = ap (λ t. row t level) e ∙ row-set_same rows level (row rows level ++ v ∷ []) (omega arith);
-      others = λ b ne. ap (λ t. row t b) e ∙ row-set_other rows level b (row rows level ++ v ∷ []) ne;
-    }
 
 -- one turn less
 pub popped_work : (level v : ℕ) (core : List ℕ) (old rows : List (List ℕ)) → Popped level v old rows → work level core rows + 1 ≡ work level core old
-popped_work level v core old rows p = omega (arith, ap length p.here, length-append (row rows level) (v ∷ []))
+popped_work level v core old rows p = omega (arith, ap length p.here)
 
 popped_member : (level v : ℕ) (old rows : List (List ℕ)) → Popped level v old rows → member v (row old level) ≡ true
-popped_member level v old rows p = ap (member v) p.here ∙ (member-push v v (row rows level) ∙ or_right (member v (row rows level)) (eqb v v) (eq-eqb v v refl))
+popped_member level v old rows p = ap (member v) p.here ∙ or_left (eqb v v) (member v (row rows level)) (eq-eqb v v refl)
 
 -- who comes out of a bucket has no greater number
 pub popped_fits : (level v : ℕ) (core taken : List ℕ) (old rows : List (List ℕ)) → Filed core taken old → Popped level v old rows → (v < length core) × (at core v ≤ level)
@@ -57,30 +49,36 @@ filed_popped level v core taken taken' old rows f p out in' = record {
       elim (cases_eq (at core u) level) [
         | inl e ↦
             ap (λ b. member u (row rows b)) e
-            ∙ elim (member-push_cases u v (row rows level) (sym (ap (member u) p.here) ∙ (ap (λ b. member u (row old b)) (sym e) ∙ was))) [ inl m ↦ m | inr d ↦ absurd (k.1 d e) ]
+            ∙ elim (or_cases (eqb u v) (member u (row rows level)) (sym (ap (member u) p.here) ∙ (ap (λ b. member u (row old b)) (sym e) ∙ was))) [
+              | inl d ↦ absurd (k.1 (eqb-true u v d) e)
+              | inr m ↦ m
+            ]
         | inr ne ↦ sym (ap (member u) (p.others (at core u) ne)) ∙ was
       ];
   gone = λ u now. elim (in' u now) [
     | inl m ↦
         let was : member u (row old (at core u)) ≡ false = f.gone u m in
         elim (cases_eq (at core u) level) [
-          | inl e ↦ ap (λ b. member u (row rows b)) e ∙ (member-push_none u v (row rows level) (sym (ap (member u) p.here) ∙ (ap (λ b. member u (row old b)) (sym e) ∙ was))).0
+          | inl e ↦
+              ap (λ b. member u (row rows b)) e
+              ∙ false_from_ne_true (member u (row rows level)) (λ m. true≢false (sym (or_right (eqb u v) (member u (row rows level)) m)
+              ∙ (sym (ap (member u) p.here) ∙ (ap (λ b. member u (row old b)) (sym e) ∙ was))))
           | inr ne ↦ sym (ap (member u) (p.others (at core u) ne)) ∙ was
         ]
     | inr k ↦
-        let alone : member v (row rows level) ≡ false = (Distinct-cut v (row rows level) [] (subst Distinct p.here (f.once level))).0 in
+        let alone : member v (row rows level) ≡ false = (subst Distinct p.here (f.once level)).0 in
         ap (λ b. member u (row rows b)) k.1 ∙ (ap (λ x. member x (row rows level)) k.0 ∙ alone)
   ];
   fits = λ b u m.
       let was : member u (row old b) ≡ true = elim (cases_eq b level) [
-        | inl e ↦ ap (λ j. member u (row old j)) e ∙ (ap (member u) p.here ∙ member-push_left u v (row rows level) (ap (λ j. member u (row rows j)) (sym e) ∙ m))
+        | inl e ↦
+            ap (λ j. member u (row old j)) e
+            ∙ (ap (member u) p.here ∙ or_right (eqb u v) (member u (row rows level)) (ap (λ j. member u (row rows j)) (sym e) ∙ m))
         | inr ne ↦ ap (member u) (p.others b ne) ∙ m
       ] in
       f.fits b u was;
   once = λ b. elim (cases_eq b level) [
-    | inl e ↦
-        let all : Distinct (row rows level ++ []) = (Distinct-cut v (row rows level) [] (subst Distinct p.here (f.once level))).2 in
-        subst (λ (j : ℕ). Distinct (row rows j)) (sym e) (subst Distinct (append-nil (row rows level)) all)
+    | inl e ↦ subst (λ (j : ℕ). Distinct (row rows j)) (sym e) (subst Distinct p.here (f.once level)).1
     | inr ne ↦ subst Distinct (p.others b ne) (f.once b)
   ];
 }

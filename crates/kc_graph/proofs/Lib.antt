@@ -20,3 +20,4 @@ pub mod Repeats
 pub mod RowsLemmas
 pub mod Scattering
 pub mod SharedLists
+pub mod Turning

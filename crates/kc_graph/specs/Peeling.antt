@@ -1,5 +1,5 @@
 -- What the decomposition keeps true while it takes one vertex after another.
-use Rattle.std.specs.Prelude.{◌≡◌, ◌≤◌, ◌<◌, ◌+◌, ℕ, min, max, true, false, not, ◌&&◌, List, [], ◌∷◌, ◌++◌, length, slice_index, take, filter, AllPairs, count_by, nat_le, nat_lt, nat_eq, sum, if◌then◌else◌}
+use Rattle.std.specs.Prelude.{◌≡◌, ◌≤◌, ◌<◌, ◌+◌, ℕ, min, max, true, false, not, ◌&&◌, List, [], ◌∷◌, ◌++◌, length, slice_index, slice_set, drop, take, filter, AllPairs, count_by, nat_le, nat_lt, nat_eq, sum, if◌then◌else◌}
 use Rattle.kc_distinct.specs.Lists.{member, Distinct, below}
 use Rattle.kc_graph.specs.SimpleGraph.{SimpleGraph, adjacent}
 use Rattle.kc_graph.specs.Rows.{row}
@@ -45,6 +45,10 @@ pub record Peels (g : SimpleGraph) (level : ℕ) (core taken : List ℕ) (bucket
   pub peeled : Peeled g level core taken
   pub exact : LeftAreCounted g level core taken
   pub filed : Filed core taken buckets
+
+-- the buckets, without the first `turn` vertices of one of them
+abbrev pub from_turn : ℕ → ℕ → List (List ℕ) → List (List ℕ)
+from_turn level turn rows = slice_set rows level (drop turn (row rows level))
 
 -- `v`, whose number is `level`, has come out of its bucket, and is about to be taken.
 pub record IsAboutToTake (g : SimpleGraph) (level v : ℕ) (core taken : List ℕ) (buckets : List (List ℕ)) : Type 0 where

@@ -1,15 +1,15 @@
 //! Core numbers by taking a vertex of least remaining degree again and again (Batagelj and Zaversnik 2003).
 //!
 //! One list has a number for each vertex: of one that is taken, its core number; of one that is left, how many neighbours it has left,
-//! or the level where that is more. A vertex that is left stands in the bucket of its number. When a neighbour is taken it is put into
-//! the next lower bucket too, and stays in the old one: an entry whose vertex has a lesser number by now is passed over.
-ghost use Rattle.std.specs.Prelude.{◌≡◌, ◌<◌, ◌≤◌, ◌+◌, ◌-◌, ◌^◌, ℕ, true, [], ◌∷◌, ◌++◌, IfOk, OnOk, IfSome, IfNone, length, slice_index, slice_set};
+//! or the level where that is more. A vertex that is left stands in the bucket of its number. When a neighbour is taken it is put at
+//! the end of the next lower bucket too, and stays in the old one: an entry whose vertex has a lesser number by now is passed over.
+ghost use Rattle.std.specs.Prelude.{◌≡◌, ◌<◌, ◌≤◌, ◌+◌, ◌-◌, ◌^◌, ℕ, true, [], ◌∷◌, ◌++◌, IfOk, IfSome, MatchOption, OnOk, length, slice_index, slice_set};
 ghost use Rattle.kc_distinct.specs.Lists.{Distinct, member};
 ghost use Rattle.kc_graph.specs.Core.{AreCoreNumbers};
 ghost use Rattle.kc_graph.specs.Certificate.{Certifies};
 ghost use Rattle.kc_graph.specs.Lawful.{IsCertified};
 ghost use Rattle.kc_graph.specs.Rows.{lists, row};
-ghost use Rattle.kc_graph.specs.Peeling.{at, remaining, work, Peels, IsAboutToTake, Lowered, Files};
+ghost use Rattle.kc_graph.specs.Peeling.{at, remaining, Peels, Lowered, Files};
 
 use crate::NoMemory;
 use crate::graph::Graph;
@@ -33,14 +33,24 @@ pub(crate) fn push_into(buckets: &mut [Vec<u32>], b: u32, w: u32) -> Result<(), 
     Ok(())
 }
 
-/// Takes the last vertex out of a bucket.
-fn pop_from(buckets: &mut [Vec<u32>], b: u32) -> Option<u32>
+/// The vertex at this place of a bucket, if it has so many.
+fn waiting(buckets: &[Vec<u32>], b: u32, turn: usize) -> Option<u32>
+    requires { b < length buckets.now }
+    ensures here { MatchOption result (length (row (lists buckets.now) b) ≤ turn)
+        (λ v. (turn < length (row (lists buckets.now) b)) × (v ≡ slice_index (row (lists buckets.now) b) turn)) }
+    ensures few { IfSome result (λ _. turn < 2 ^ 64 - 1) }
+{
+    buckets[b as usize].get(turn).copied()
+}
+
+/// Empties a bucket, and gives its memory back.
+fn empty(buckets: &mut [Vec<u32>], b: u32)
     requires { b < length buckets.old }
-    ensures some { IfSome result (λ v. lists buckets.old ≡ slice_set (lists buckets.new) b (row (lists buckets.new) b ++ v ∷ [])) }
-    ensures none { IfNone result ((lists buckets.new ≡ lists buckets.old) × (row (lists buckets.new) b ≡ [])) }
+    ensures { lists buckets.new ≡ slice_set (lists buckets.old) b [] }
 {
     let bucket = &mut buckets[b as usize];
-    bucket.pop()
+    let alloc = *bucket.allocator();
+    *bucket = Vec::new(alloc);
 }
 
 /// One neighbour less is left to `w`.
@@ -77,24 +87,9 @@ fn lower_each(
     Ok(())
 }
 
-/// Takes a vertex that has at most `level` neighbours left.
-fn take_vertex(
-    graph: &Graph,
-    v: u32,
-    level: u32,
-    core: &mut [u32],
-    order: &mut Vec<u32>,
-    buckets: &mut [Vec<u32>],
-) -> Result<(), NoMemory>
-    requires { IsAboutToTake graph.now level v core.old order.old.items (lists buckets.old) }
-    ensures peels { OnOk result (Peels graph.now level core.new order.new.items (lists buckets.new)) }
-    ensures work { OnOk result (work level core.new (lists buckets.new) ≤ work level core.old (lists buckets.old)) }
-{
-    order.push(v)?;
-    lower_each(graph.neighbours(v), level, core, buckets)
-}
-
-/// Takes vertices until each that is left has more than `level` neighbours left.
+/// Takes vertices until each that is left has more than `level` neighbours left. Who comes into the bucket of the level first is taken
+/// first: so the later ones have lost more neighbours when their turn comes, and fewer stand behind them in the order, which makes
+/// searches from them short (Zhang, Yu, Zhang and Qin 2017).
 fn drain(
     graph: &Graph,
     level: u32,
@@ -106,11 +101,15 @@ fn drain(
     requires peels { Peels graph.now level core.old order.old.items (lists buckets.old) }
     ensures { OnOk result (Peels graph.now (level + 1) core.new order.new.items (lists buckets.new)) }
 {
-    while let Some(v) = pop_from(buckets, level) {
+    let mut turn = 0;
+    while let Some(v) = waiting(buckets, level, turn) {
+        turn += 1;
         if core[v as usize] == level {
-            take_vertex(graph, v, level, core, order, buckets)?;
+            order.push(v)?;
+            lower_each(graph.neighbours(v), level, core, buckets)?;
         }
     }
+    empty(buckets, level);
     Ok(())
 }
 

@@ -1,9 +1,10 @@
-use Rattle.kc_graph.specs.Rows.{lists}
-use Rattle.kc_graph.specs.Peeling.{Peels, work}
+use Rattle.std.proofs.Common.{◌≤◌, length}
+use Rattle.kc_graph.specs.Rows.{lists, row}
+use Rattle.kc_graph.specs.Peeling.{Peels, from_turn, work}
 use Rattle.kc_graph.proofs.peeling.drain.Given as goal
 
 abbrev pub invariant-loop-v : goal.invariant-loop-v
-invariant-loop-v l = Peels l.graph l.level l.core l.order.items (lists l.buckets)
+invariant-loop-v l = (l.turn ≤ length (row (lists l.buckets) l.level)) × Peels l.graph l.level l.core l.order.items (from_turn l.level l.turn (lists l.buckets))
 
 abbrev pub decreases-loop-v : goal.decreases-loop-v
-decreases-loop-v l = work l.level l.core (lists l.buckets)
+decreases-loop-v l = work l.level l.core (from_turn l.level l.turn (lists l.buckets))
