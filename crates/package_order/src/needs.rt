@@ -4,10 +4,13 @@ use kc_words::VERTICES;
 use std::alloc::Global;
 use std::collections::HashMap;
 
-/// The byte with which a comment begins.
+/// What a comment begins with.
 const COMMENT: &str = "#";
 
-/// The names of packages, numbered in the order in which they were met, and each need: a package and one that it needs.
+/// The names of packages, and each need: the numbers of a package and of one that it needs.
+///
+/// The name that was met last has number 0. A list mostly names a package before what it needs, so the order that the packages have at first
+/// is right for most needs already, and few have to move.
 #[derive(Drop)]
 pub(crate) struct Needs<'a> {
     pub(crate) names: Vec<&'a str>,
@@ -20,6 +23,16 @@ impl<'a> Needs<'a> {
         match self.names.get(package as usize) {
             Some(name) => *name,
             None => "?",
+        }
+    }
+
+    /// Numbers the packages the other way round.
+    fn turn(&mut self) {
+        self.names.reverse();
+        let last = self.names.len().saturating_sub(1).min(VERTICES as usize) as u32;
+        for (package, needed) in self.pairs.iter_mut() {
+            *package = last.saturating_sub(*package);
+            *needed = last.saturating_sub(*needed);
         }
     }
 }
@@ -64,5 +77,7 @@ pub(crate) fn needs_in(alloc: Global, text: &str) -> Result<Needs<'_>, NoMemory>
             pairs.push((package, needed))?;
         }
     }
-    Ok(Needs { names, pairs })
+    let mut needs = Needs { names, pairs };
+    needs.turn();
+    Ok(needs)
 }
