@@ -2,7 +2,11 @@ pub mod Along
 pub mod Beginning
 pub mod Comparing
 pub mod Entering
+pub mod Holding
 pub mod Making
 pub mod Opening
 pub mod Putting
+pub mod Renewing
 pub mod Standing
+pub mod Telling
+pub mod Walking

@@ -1,5 +1,6 @@
 pub mod Answers
 pub mod Changes
 pub mod Entering
+pub mod Holding
 pub mod Journals
 pub mod Sections

@@ -9,7 +9,9 @@ ghost use Rattle.kc_levels.specs.Levels.{IsTop, size_of};
 
 use crate::answer::{EnterFault, Entered, Receipt};
 use crate::change::{add_entry, make_section, make_update, versions_needed};
+use crate::renewal::order_of;
 use kc_agree::first_stale;
+use kc_cert::State;
 use kc_graph::{Lawful, NoMemory, Plan, SharedGraph};
 use kc_levels::{LAST_NUMBER, Levels};
 use kc_table::{Entry, Pass, Words};
@@ -66,7 +68,7 @@ impl Model for Journal {
 impl Journal {
     ghost use Rattle.kc_journal.specs.Answers.{IsAdmitted, IsCause, IsEntered};
     ghost use Rattle.kc_journal.specs.Entering.{MayEnter, WasReadOf};
-    ghost use Rattle.kc_journal.specs.Journals.{OpensRun, Stands, all_seen};
+    ghost use Rattle.kc_journal.specs.Journals.{OpensRun, Renews, Stands, all_seen};
 
     /// The journal of a new run, on a fresh table with this version. It has no entries, and all stamps are 0. `NoMemory` comes where there
     /// is none for the table and the stamps; `lawful` is then dropped. The graph is not copied.
@@ -218,6 +220,30 @@ impl Journal {
         Ok(Entered { receipt, lists })
     }
 
+    /// Goes on in a fresh table with this version: the same graph, core numbers, order, stamps and entries, of which the new table is told
+    /// nothing but their number. It takes all memory before it changes anything; where there is none, the journal stays as it was. What
+    /// the old table's log holds can be told to a pass before.
+    pub fn renew(&mut self, alloc: Global, version: u32) -> Result<(Words, Pass), NoMemory>
+        requires { version ≤ LAST_VERSION }
+        ensures renewed { IfOk result (λ r. Renews self.old self.new version r.0 r.1) }
+        ensures same { OnErr result (self.new ≡ self.old) }
+    {
+        let order = order_of(alloc, &self.levels)?;
+        let base = self.entries.len() as u32;
+        let (words, levels, pass) = Levels::open(
+            alloc,
+            &order,
+            self.levels.core(),
+            self.levels.stamps(),
+            base,
+            version,
+        )?;
+        self.levels = levels;
+        self.opened = Snapshot::of(&self.graph);
+        self.opening_stamps = Snapshot::of(&self.edge_stamps);
+        Ok((words, pass))
+    }
+
     /// What stands against a plan, if anything does.
     fn refusal(&self, plan: &Plan) -> Option<EnterFault>
         requires { MayEnter self.now plan.now }
@@ -242,5 +268,33 @@ impl Journal {
             return Some(EnterFault::Spent { highest, needed });
         }
         None
+    }
+}
+
+impl State for Journal {
+    ghost use Rattle.kc_journal.specs.Journals.{ranked};
+
+    ghost state = { ranked };
+
+    fn vertices(&self) -> u32 {
+        self.graph.vertices()
+    }
+
+    fn degree(&self, v: u32) -> u32 {
+        // There are fewer neighbours than vertices, whose number fits.
+        let _vertices = self.graph.vertices();
+        self.graph.neighbours(v).len() as u32
+    }
+
+    fn neighbour(&self, v: u32, i: u32) -> u32 {
+        self.graph.neighbours(v)[i as usize]
+    }
+
+    fn core(&self, v: u32) -> u32 {
+        self.levels.level_of(v)
+    }
+
+    fn precedes(&self, x: u32, y: u32) -> bool {
+        self.levels.precedes(x, y)
     }
 }

@@ -11,8 +11,11 @@
 
 mod answer;
 mod change;
+mod held;
 mod journal;
 pub mod laws;
+mod renewal;
 
 pub use answer::{EnterFault, Entered, Receipt};
+pub use held::{Held, held_view};
 pub use journal::Journal;

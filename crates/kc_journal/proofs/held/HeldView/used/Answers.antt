@@ -1,0 +1,10 @@
+-- The view keeps nothing then.
+use Rattle.std.proofs.Common.{◌∙◌}
+use Rattle.kc_journal.proofs.Holding.{holds-none}
+use Rattle.kc_journal.proofs.Standing.{size-is}
+use Rattle.kc_journal.proofs.held.HeldView.used.Goals as goal
+
+pub invariant_of-self : goal.invariant_of-self
+invariant_of-self c =
+    let h = c.self.invariant in
+    rw c.hand_out.ensures.emptied (holds-none h.stands (h.size ∙ size-is c.self.inside.journal.now h.stands))
