@@ -1,8 +1,9 @@
 -- Counts of numbers, each above a bound counted as the bound.
-use Rattle.std.proofs.Common.{◌≡◌, ◌<◌, ◌+◌, ℕ, min, Bool, false, cond, List, [], ◌∷◌, eqb, leb, refl, sym, ◌∙◌, ap, subst, arith, inl, inr, le-leb, leb-true, eq-eqb, ne_eqb}
+use Rattle.std.proofs.Common.{◌≡◌, ◌<◌, ◌+◌, ℕ, suc, zero, drop, map, take, min, Bool, false, cond, List, [], ◌∷◌, eqb, leb, refl, sym, ◌∙◌, ap, subst, arith, inl, inr, le-leb, leb-true, eq-eqb, ne_eqb}
 use Rattle.std.specs.Prelude.{count_by}
 use Rattle.std.proofs.lemmas.Bool.{cases_eq, cases_lt, false_from_ne_true}
 use Rattle.kc_distinct.proofs.Counting.{count-agree, count-cons}
+use Rattle.kc_hindex.specs.Rounds.{how_many_reach}
 
 abbrev one_if : Bool → ℕ
 one_if b = cond b 1 0
@@ -53,3 +54,11 @@ bounded-at c limit ws = count-agree (λ w. eqb (min (c w) limit) limit) (λ w. l
   | inl low ↦ ne_eqb (min (c w) limit) limit (λ e. absurd (omega (arith, e, low))) ∙ sym (false_from_ne_true _ (λ t. absurd (omega (arith, leb-true limit (c w) t, low))))
   | inr up ↦ eq-eqb (min (c w) limit) limit (omega (arith, up)) ∙ sym (le-leb limit (c w) (omega (arith, up)))
 ])
+
+-- of a list's numbers those reach `k` that do so in its front or in its rest
+pub reach-parts : (c : ℕ → ℕ) (k n : ℕ) (ws : List ℕ)
+    → how_many_reach k (map c (take n ws)) + how_many_reach k (map c (drop n ws)) ≡ how_many_reach k (map c ws)
+reach-parts c k zero ws = omega arith
+reach-parts c k (suc n) [] = refl
+reach-parts c k (suc n) (w ∷ ws) =
+    omega (arith, reach-parts c k n ws, count-cons (leb k) (c w) (map c (take n ws)), count-cons (leb k) (c w) (map c ws))

@@ -2,8 +2,44 @@
 //!
 //! Where a bound of the h-index is known, each number above it is counted as the bound, so the counts need a place for each number up to
 //! the bound alone. From the bound down the counts are added up until as many numbers are reached as the number where the search stands.
-ghost use Rattle.std.specs.Prelude.{◌≡◌, ◌≤◌, ◌<◌, ◌^◌, ℕ, All, length, map, min, count_by, nat_eq, slice_index};
-ghost use Rattle.kc_hindex.specs.Rounds.{h_index};
+//! Most often the bound itself is the h-index: that is seen first, from as many numbers as reach it, and without counts.
+ghost use Rattle.std.specs.Prelude.{◌≡◌, ◌↔◌, ◌≤◌, ◌<◌, ◌^◌, ℕ, All, IsTrue, length, map, min, count_by, nat_eq, slice_index};
+ghost use Rattle.kc_hindex.specs.Rounds.{h_index, how_many_reach};
+
+/// How many vertices are looked at before it is asked whether they are enough.
+const BLOCK: usize = 32;
+
+/// How many of the vertices have a number of at least `limit`.
+fn how_many(limit: u32, vertices: &[u32], numbers: &[u32]) -> u32
+    requires within { All (λ w. w < length numbers.now) vertices.now }
+    requires few { length vertices.now < 2 ^ 32 }
+    ensures { result ≡ how_many_reach limit (map (slice_index numbers.now) vertices.now) }
+{
+    let mut reached = 0;
+    for w in vertices {
+        if numbers[*w as usize] >= limit {
+            reached += 1;
+        }
+    }
+    reached
+}
+
+/// Whether `limit` of the vertices have a number of at least `limit`. It looks at no more of them than it takes to see that, but for the
+/// rest of a block.
+fn is_reached(limit: u32, vertices: &[u32], numbers: &[u32]) -> bool
+    requires within { All (λ w. w < length numbers.now) vertices.now }
+    requires few { length vertices.now < 2 ^ 32 }
+    ensures { IsTrue result ↔ (limit ≤ how_many_reach limit (map (slice_index numbers.now) vertices.now)) }
+{
+    let mut rest = vertices;
+    let mut reached = 0;
+    while reached < limit && !rest.is_empty() {
+        let (block, others) = rest.split_at(rest.len().min(BLOCK));
+        reached += how_many(limit, block, numbers);
+        rest = others;
+    }
+    limit <= reached
+}
 
 /// Sets the counts of the numbers up to `limit` to none.
 fn clear(counts: &mut [u32], limit: u32)
@@ -56,6 +92,9 @@ pub(crate) fn h_index_of(limit: u32, vertices: &[u32], numbers: &[u32], counts: 
     requires most { h_index (map (slice_index numbers.now) vertices.now) ≤ limit }
     ensures { result ≡ h_index (map (slice_index numbers.now) vertices.now) }
 {
+    if is_reached(limit, vertices, numbers) {
+        return limit;
+    }
     clear(counts, limit);
     tally(counts, limit, vertices, numbers);
     greatest_reached(counts, limit, vertices, numbers)
