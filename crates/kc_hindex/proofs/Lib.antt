@@ -6,3 +6,4 @@ pub mod Rows
 pub mod Settling
 pub mod Taking
 pub mod Tallying
+pub mod Uncrossed

@@ -122,3 +122,27 @@ round-next g r old new a b = record {
   one_each = b.one_each;
   each = λ v l. b.each v l ∙ ap (λ (xs : List ℕ). h_index xs) (map-agree (λ w. get_or old w 0) (after_rounds g r) (neighbours_of g v) (λ w m. a.each w (neighbours_within g v w m).0));
 }
+
+-- numbers that were taken over from those of the next round are those of that round
+pub taken-next : (g : SimpleGraph) (r : ℕ) (new taken : List ℕ) → HasRound g (suc r) new → taken ≡ new → HasRound g (suc r) taken
+taken-next g r new taken h e = subst (λ (xs : List ℕ). HasRound g (suc r) xs) (sym e) h
+
+-- the same, with the number of that round as the loop counts it
+pub taken-over : (g : SimpleGraph) (r : ℕ) (new taken : List ℕ) → HasRound g (suc r) new → taken ≡ new → HasRound g (r + 1) taken
+taken-over g r new taken h e =
+    let next : suc r ≡ r + 1 = omega arith in
+    subst (λ (n : ℕ). HasRound g n taken) next (taken-next g r new taken h e)
+
+-- the sum after a round that changed something
+pub falls-by-one : (g : SimpleGraph) (r : ℕ) (old new : List ℕ) → HasRound g r old → HasRound g (suc r) new → (old ≡ new → ⊥)
+    → total (after_rounds g (r + 1)) g.size < total (after_rounds g r) g.size
+falls-by-one g r old new a b differ =
+    let next : suc r ≡ r + 1 = omega arith in
+    subst (λ (n : ℕ). total (after_rounds g n) g.size < total (after_rounds g r) g.size) next (changed g r old new a b differ)
+
+-- so none of the rounds up to it has settled
+pub later-settled : (g : SimpleGraph) (r : ℕ) → ((s : ℕ) → IsSettled g s → r ≤ s)
+    → total (after_rounds g (r + 1)) g.size < total (after_rounds g r) g.size → (s : ℕ) → IsSettled g s → r + 1 ≤ s
+later-settled g r none less s h =
+    let next : r + 1 ≡ suc r = omega arith in
+    omega (arith, later g r none (subst (λ (n : ℕ). total (after_rounds g n) g.size < total (after_rounds g r) g.size) next less) s h)

@@ -11,6 +11,7 @@
 #![tactic(auto)]
 
 mod counting;
+mod crossing;
 mod degrees;
 mod ordering;
 mod peeling;

@@ -1,9 +1,10 @@
 //! Core numbers by rounds until nothing changes.
-ghost use Rattle.std.specs.Prelude.{◌≡◌, ◌↔◌, ◌<◌, ℕ, IsTrue, IfOk, length, slice_index};
+ghost use Rattle.std.specs.Prelude.{◌≡◌, ◌↔◌, ◌<◌, ℕ, IsTrue, IfOk, true, false, length, slice_index, slice_index_or};
 ghost use Rattle.kc_graph.specs.Core.{AreCoreNumbers};
 ghost use Rattle.kc_hindex.specs.Places.{HaveRoom, numbers_of};
 ghost use Rattle.kc_hindex.specs.Rounds.{AreRounds, HasRound};
 
+use crate::crossing::take_over;
 use crate::degrees::degrees_of;
 use crate::place::Place;
 use crate::rounds::round;
@@ -46,50 +47,47 @@ fn are_same(numbers: &[u32], places: &[Place]) -> bool
     true
 }
 
-/// Takes over the numbers of the places.
-fn take_over(numbers: &mut [u32], places: &[Place])
-    requires { length numbers.old ≡ length places.now }
-    ensures { numbers.new ≡ numbers_of places.now }
-{
-    for v in 0..places.len() {
-        numbers[v] = places[v].number;
-    }
-}
-
-/// Rounds from the degrees until one changes nothing, and how many these are.
+/// Rounds from the degrees until one changes nothing, and how many these are. In the first of them each vertex may change.
 fn settle(
     rt: &(impl Threads + Sync),
     graph: &Graph,
     numbers: &mut [u32],
+    crossed: &mut [bool],
     places: &mut [Place],
 ) -> u64
     requires degrees { HasRound graph.now 0 numbers.old }
     requires places { length places.old ≡ graph.now.size }
     requires room { HaveRoom numbers.old places.old }
+    requires marked { (v : ℕ) → v < length numbers.old → slice_index numbers.old v < length crossed.old }
+    requires all { (k : ℕ) → k < length crossed.old → slice_index_or crossed.old k false ≡ true }
     ensures core { AreCoreNumbers graph.now numbers.new }
     ensures rounds { AreRounds graph.now result }
 {
     let _vertices = graph.vertices();
     let mut passed = 0u64;
-    round(rt, graph, numbers, places);
+    round(rt, graph, numbers, crossed, places);
     while !are_same(numbers, places) {
-        take_over(numbers, places);
+        crossed.fill(false);
+        take_over(numbers, places, crossed);
         passed += 1;
-        round(rt, graph, numbers, places);
+        round(rt, graph, numbers, crossed, places);
     }
     passed + 1
 }
 
 /// The core numbers of a graph, by rounds in as many threads as there are processors (Lü, Zhou, Zhang and Stanley 2016): each vertex
 /// begins with its degree, and in a round takes the h-index of its neighbours' numbers, all vertices at once, until a round changes no
-/// number. A round takes time linear in the edges and no memory. Numbers and count of rounds are the same however the work is cut among
-/// threads. `NoMemory` comes where there is none for the numbers and the counts, which are as many as twice the edges and the vertices.
+/// number. A round looks only at the vertices whose number another one has crossed in the round before, as [`crossing`](crate::crossing)
+/// says, and takes time linear in the edges and no memory. Numbers and count of rounds are the same however the work is cut among
+/// threads. `NoMemory` comes where there is none for the numbers and the counts, which are as many as twice the edges and the vertices,
+/// and for a mark for each number.
 pub fn peel(rt: &(impl Threads + Sync), alloc: Global, graph: &Graph) -> Result<Peeled, NoMemory>
     ensures core { IfOk result (λ peeled. AreCoreNumbers graph.now peeled.core.items) }
     ensures rounds { IfOk result (λ peeled. AreRounds graph.now peeled.rounds) }
 {
     let mut core = degrees_of(alloc, graph)?;
     let mut places = places_for(alloc, &core)?;
-    let rounds = settle(rt, graph, &mut core, &mut places);
+    let mut crossed = vec![in alloc; true; graph.vertices() as usize + 1]?;
+    let rounds = settle(rt, graph, &mut core, &mut crossed, &mut places);
     Ok(Peeled { core, rounds })
 }
