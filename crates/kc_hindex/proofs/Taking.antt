@@ -1,5 +1,5 @@
 -- Levels of vertices, taken one after the other, with core numbers that are known.
-use Rattle.std.proofs.Common.{◌≡◌, ◌≤◌, ◌<◌, ◌+◌, ℕ, max, Bool, true, false, cond, not, ◌&&◌, List, [], ◌∷◌, ◌++◌, length, get_or, set, eqb, leb, ltb, refl, sym, ◌∙◌, ap, subst, inl, inr, arith, le_trans, leb-true, le-leb, lt-ltb, le-ltb, eq-eqb, eqb-true, append-nil, true≢false}
+use Rattle.std.proofs.Common.{◌≡◌, ◌≤◌, ◌<◌, ◌+◌, ℕ, max, Bool, true, false, cond, not, ◌&&◌, List, [], ◌∷◌, ◌++◌, length, get_or, set, eqb, leb, ltb, refl, sym, ◌∙◌, ap, subst, inl, inr, arith, le_trans, leb-true, le-leb, lt-ltb, le-ltb, eq-eqb, eqb-true, append-nil, length-set, true≢false}
 use Rattle.std.specs.Prelude.{count_by}
 use Rattle.std.specs.List.{filter}
 use Rattle.std.proofs.lemmas.Bool.{cases_Bool, cases_eq, cases_lt, and_from, and_left, and_parts, and_right, eqb-false, false≢true, false_from_ne_true, true_from_ne_false, not_from_false, not-true, or_right}
@@ -17,7 +17,6 @@ use Rattle.kc_graph.specs.Rows.{row}
 use Rattle.kc_graph.specs.Peeling.{at, as_high, remaining}
 use Rattle.kc_graph.proofs.Law.{adjacent-sym}
 use Rattle.kc_graph.proofs.PeelingLemmas.{start, raise, take_one, finish, one_if, remaining-taken, neighbours-distinct}
-use Rattle.kc_graph.proofs.Filing.{Popped}
 use Rattle.kc_graph.proofs.Buckets.{row-set_same, row-set_other}
 use Rattle.kc_hindex.specs.Rounds.{HasRound}
 use Rattle.kc_hindex.specs.Ordering.{IsNext, Orders, Released, Sorted}
@@ -65,13 +64,27 @@ begin g core left waiting numbers degrees s = record {
   };
 }
 
--- who comes out of the row of a level is the next
-pub popped_next : (g : SimpleGraph) (core : List ℕ) (level v : ℕ) (left taken : List ℕ) (old rows : List (List ℕ)) → Orders g core level left taken old → Popped level v old rows
-    → IsNext g core level v left taken rows
-popped_next g core level v left taken old rows h p =
-    let in' : member v (row old level) ≡ true = ap (member v) p.here ∙ (member-push v v (row rows level) ∙ or_right (member v (row rows level)) (eqb v v) (eq-eqb v v refl)) in
+-- who comes last out of the row of a level is the next
+pub popped_next : (g : SimpleGraph) (core : List ℕ) (level v : ℕ) (left taken : List ℕ) (old rows : List (List ℕ)) → Orders g core level left taken old
+    → old ≡ set rows level (row rows level ++ v ∷ []) → level < length old → IsNext g core level v left taken rows
+popped_next g core level v left taken old rows h e l =
+    let longer : List ℕ = row rows level ++ v ∷ [] in
+    let one_each : length old ≡ length rows = ap length e ∙ length-set rows level longer in
+    let here : row old level ≡ longer = ap (λ t. row t level) e ∙ row-set_same rows level longer (omega (arith, one_each, l)) in
+    let in' : member v (row old level) ≡ true =
+    ap (member v) here ∙ (member-push v v (row rows level) ∙ or_right (member v (row rows level)) (eqb v v) (eq-eqb v v refl)) in
     let k = h.rest.fits level v in' in
-    record { peeled = h.peeled; vertex = k.0; here = k.1; few = k.2; untaken = k.3; before = old; rest = h.rest; popped = p.here; others = p.others }
+    record {
+      peeled = h.peeled;
+      vertex = k.0;
+      here = k.1;
+      few = k.2;
+      untaken = k.3;
+      before = old;
+      rest = h.rest;
+      popped = here;
+      others = λ b ne. ap (λ t. row t b) e ∙ row-set_other rows level b longer ne;
+    }
 
 module _ (g : SimpleGraph) (core : List ℕ) (level v : ℕ) (left taken : List ℕ) (rows : List (List ℕ)) (t : IsNext g core level v left taken rows) where
   -- `v` has left its row

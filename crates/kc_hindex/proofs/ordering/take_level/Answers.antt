@@ -3,7 +3,6 @@ use Rattle.std.proofs.Common.{arith, sym, subst, ◌≤◌, ℕ, List, length}
 use Rattle.kc_distinct.proofs.Members.{below_bound}
 use Rattle.kc_graph.specs.Rows.{lists}
 use Rattle.kc_graph.proofs.Buckets.{length-lists}
-use Rattle.kc_graph.proofs.Filing.{popped_is}
 use Rattle.kc_hindex.specs.Ordering.{IsNext, Orders}
 use Rattle.kc_hindex.proofs.Taking.{next_level, popped_next}
 use Rattle.kc_hindex.proofs.ordering.take_level.Goals as goal
@@ -11,8 +10,8 @@ use Rattle.kc_hindex.proofs.ordering.take_level.Goals as goal
 pub take_vertex-requires-clause-next : goal.take_vertex-requires-clause-next
 take_vertex-requires-clause-next c =
     let rows : List (List ℕ) = lists c.pop_from.new.rows in
-    let p = popped_is c.args.level c.in-Some.v (lists c.loop-v.waiting) rows c.in-Some.ensures.some (omega (arith, c.requires.level_in, length-lists c.loop-v.waiting, c.loop-v.invariant.1)) in
-    let n = popped_next c.args.graph.now c.args.core.now c.args.level c.in-Some.v c.loop-v.left c.loop-v.order.items (lists c.loop-v.waiting) rows c.loop-v.invariant.0 p in
+    let n = popped_next c.args.graph.now c.args.core.now c.args.level c.in-Some.v c.loop-v.left c.loop-v.order.items (lists c.loop-v.waiting) rows
+    c.loop-v.invariant.0 c.in-Some.ensures.some (omega (arith, c.requires.level_in, length-lists c.loop-v.waiting, c.loop-v.invariant.1)) in
     subst (λ (l : ℕ). IsNext c.args.graph.now c.args.core.now l c.in-Some.v c.loop-v.left c.loop-v.order.items rows) (sym n.here) n
 
 pub loop-v-smaller : goal.loop-v-smaller
@@ -25,8 +24,8 @@ loop-v-smaller c =
 pub loop-v-preserved : goal.loop-v-preserved
 loop-v-preserved c =
     let rows : List (List ℕ) = lists c.pop_from.new.rows in
-    let p = popped_is c.args.level c.in-Some.v (lists c.loop-v.waiting) rows c.in-Some.ensures.some (omega (arith, c.requires.level_in, length-lists c.loop-v.waiting, c.loop-v.invariant.1)) in
-    let n = popped_next c.args.graph.now c.args.core.now c.args.level c.in-Some.v c.loop-v.left c.loop-v.order.items (lists c.loop-v.waiting) rows c.loop-v.invariant.0 p in (
+    let n = popped_next c.args.graph.now c.args.core.now c.args.level c.in-Some.v c.loop-v.left c.loop-v.order.items (lists c.loop-v.waiting) rows
+    c.loop-v.invariant.0 c.in-Some.ensures.some (omega (arith, c.requires.level_in, length-lists c.loop-v.waiting, c.loop-v.invariant.1)) in (
       subst (λ (l : ℕ). Orders c.args.graph.now c.args.core.now l c.take_vertex.new.left c.take_vertex.new.order.items (lists c.take_vertex.new.waiting)) n.here c.in_ok-take_vertex.ensures.orders,
       omega (arith, c.in_ok-take_vertex.ensures.one_row, c.loop-v.invariant.1),
     )
