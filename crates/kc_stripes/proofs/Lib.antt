@@ -2,3 +2,4 @@ pub mod Growing
 pub mod Keeping
 pub mod Giving
 pub mod Loosening
+pub mod Crossing

@@ -100,6 +100,15 @@ impl<K: Name> Kept<K> {
     }
 }
 
+/// Memory for as many stripes as there are, so that they can be given back without asking for any. Its lock is never taken: a stripe has a
+/// pass, so that two threads may hold a list of stripes only behind a lock.
+#[derive(Drop)]
+struct Room {
+    stripes: Vec<Stripe>,
+    ghost none: { vec_len stripes ≡ 0 },
+    ghost enough: { STRIPES ≤ stripes.cap },
+}
+
 /// The stripes of K's table, each under a lock.
 ///
 /// A vertex's stripe is found by its number. What stands behind a lock is known by its type alone, so each call asks the stripe whether
@@ -107,10 +116,8 @@ impl<K: Name> Kept<K> {
 #[derive(Drop)]
 pub struct Stripes<K: Name> {
     locks: Vec<Mutex<Kept<K>>>,
-    room: Vec<Stripe>,
+    room: Mutex<Room>,
     ghost all: { vec_len locks ≡ STRIPES },
-    ghost none: { vec_len room ≡ 0 },
-    ghost enough: { STRIPES ≤ room.cap },
 }
 
 impl<K: Name> Stripes<K> {
@@ -129,7 +136,7 @@ impl<K: Name> Stripes<K> {
         }
         Ok(Stripes {
             locks,
-            room: stripes,
+            room: Mutex::new(Room { stripes }),
         })
     }
 
@@ -138,14 +145,12 @@ impl<K: Name> Stripes<K> {
         ensures count { vec_len result ≡ STRIPES }
         ensures opened { All (λ s. s.opened ≡ opened_with K.table K.opening_edges K.opening_stamps) result.items }
     {
-        let Stripes {
-            mut locks,
-            mut room,
-        } = self;
+        let Stripes { mut locks, room } = self;
+        let Room { mut stripes } = room.into_inner();
         while let Some(lock) = locks.pop() {
-            room.push_reserved(lock.into_inner().into_stripe());
+            stripes.push_reserved(lock.into_inner().into_stripe());
         }
-        room
+        stripes
     }
 
     /// The list of a vertex, ascending and without it, and after how many entries it was so: the pass has then seen these. It is not older

@@ -9,7 +9,7 @@ loop-lock-preserved g c =
     let inv = c.loop-lock.invariant in (
       rw c.push_reserved.ensures.items (
           All-push (λ (s : Striped). s.opened ≡ opened_with g.K.Name.table g.K.Name.opening_edges g.K.Name.opening_stamps)
-          c.loop-lock.room.items c.into_stripe.result inv.0 c.into_stripe.ensures
+          c.loop-lock.stripes.items c.into_stripe.result inv.0 c.into_stripe.ensures
           ),
       omega (arith, inv.1, c.push_reserved.ensures.len, c.in-Some.ensures.len),
       omega (arith, inv.2, c.push_reserved.ensures.capacity),
