@@ -1,5 +1,5 @@
 -- What the steps of a held view keep true.
-use Rattle.std.proofs.Common.{◌≡◌, ◌≢◌, ◌<◌, ◌^◌, ℕ, suc, true, false, cond, List, [], ◌∷◌, length, get_or, ltb, eqb, eqb-true, refl, sym, ◌∙◌, ap, subst, arith}
+use Rattle.std.proofs.Common.{◌≡◌, ◌≢◌, ◌<◌, ◌^◌, ℕ, suc, Bool, true, false, cond, List, [], ◌∷◌, length, get_or, ltb, eqb, eqb-true, refl, sym, ◌∙◌, ap, subst, arith}
 use Rattle.std.specs.Prelude.{All, Some, is_some}
 use Rattle.std.specs.Option.{unwrap_or}
 use Rattle.std.proofs.lemmas.Bool.{false≢true}
@@ -43,7 +43,7 @@ holds-none {j} {size} h is = record {
 -- A view after a call: what it keeps is the journal's still, what was kept is kept, and each list is one of its vertex.
 pub record Goes (j : Journalled) (old new : Memory) (handed : ℕ) : Type 0 where
   pub is : Holds j new
-  pub goes_on : GoesOn (shown_held (holding j old.kept handed)) (shown_held (holding j new.kept handed))
+  pub goes_on : GoesOn (shown_held j (holding old.kept handed)) (shown_held j (holding new.kept handed))
   pub lists : AreLists j.graph.size new.kept.edges
 
 module _ {j : Journalled} {m : Memory} {handed : ℕ} where
@@ -133,10 +133,10 @@ listed-below {j} {m} w h told =
     let found = found-list (OwnList j.levels.table j.opened j.opening_stamps j.levels.log (ranked j)) w m.kept.edges h.own.edges told in
     omega (arith, found.2.vertex, found.1, h.size)
 
-pub placed-below : {j : Journalled} {m : Memory} (w : ℕ) → Holds j m → has_core m.kept w ≡ true → w < size_of j.levels
-placed-below {j} {m} w h told =
+pub told-below : {j : Journalled} {m : Memory} (w : ℕ) → Holds j m → has_core m.kept w ≡ true → w < j.graph.size
+told-below {j} {m} w h told =
     let found = found_place (OwnPlace j.levels.table j.levels.log (ranked j)) w m.kept.places h.own.places told in
-    omega (arith, found.2.vertex, found.1, size-is j h.stands)
+    omega (arith, found.2.vertex, found.1)
 
 -- No list is longer than there are vertices.
 short-list : (size w : ℕ) (ws : List ℕ) → size < 2 ^ 32 → IsListOf size w ws → length ws < 2 ^ 32
@@ -152,6 +152,30 @@ pub short-near : {j : Journalled} (w : ℕ) (ws : List ℕ) → Stands j → Are
 short-near {j} w ws h near =
     short-list j.graph.size w ws (omega (arith, size-is j h, h.levels.few)) (IsListOf-neighbours (ranked j) w ws near)
 
--- a row of the graph that a journal lends
-pub row-near : {lent graph : SimpleGraph} (w : ℕ) (ws : List ℕ) → lent ≡ graph → AreNeighbours lent w ws → AreNeighbours graph w ws
-row-near w ws is near = subst (λ (g : SimpleGraph). AreNeighbours g w ws) is near
+-- what a journal of this name tells of a vertex: its row, its edge stamp, its place stamp and its core number
+pub row-near : {lent : SimpleGraph} {self now : Journalled} (w : ℕ) (ws : List ℕ) → self ≡ now → lent ≡ self.graph → AreNeighbours lent w ws
+    → AreNeighbours now.graph w ws
+row-near w ws is lent near = subst (λ (g : SimpleGraph). AreNeighbours g w ws) (lent ∙ ap (λ (j : Journalled). j.graph) is) near
+
+pub edge-stamp : {self now : Journalled} {at : ℕ} (w : ℕ) → self ≡ now
+    → at ≡ edge_stamp self.levels.table self.opened self.opening_stamps self.levels.log w
+    → at ≡ edge_stamp now.levels.table now.opened now.opening_stamps now.levels.log w
+edge-stamp w is at = at ∙ ap (λ (j : Journalled). edge_stamp j.levels.table j.opened j.opening_stamps j.levels.log w) is
+
+pub place-stamp : {self now : Journalled} {stamp : ℕ} (w : ℕ) → self ≡ now → stamp ≡ place_stamp self.levels.table self.levels.log w
+    → stamp ≡ place_stamp now.levels.table now.levels.log w
+place-stamp w is stamp = stamp ∙ ap (λ (j : Journalled). place_stamp j.levels.table j.levels.log w) is
+
+pub core-number : {self now : Journalled} {core : ℕ} (w : ℕ) → self ≡ now → core ≡ get_or self.levels.core w 0 → core ≡ get_or now.levels.core w 0
+core-number w is core = core ∙ ap (λ (j : Journalled). get_or j.levels.core w 0) is
+
+pub order-told : {self now : Journalled} {before : Bool} (x y : ℕ) → self ≡ now
+    → before ≡ ltb (place_of x self.levels.order) (place_of y self.levels.order) → before ≡ ltb (place_of x now.levels.order) (place_of y now.levels.order)
+order-told x y is before = before ∙ ap (λ (j : Journalled). ltb (place_of x j.levels.order) (place_of y j.levels.order)) is
+
+-- a vertex of the journal is one of a journal of this name
+pub named-below : {self now : Journalled} {w : ℕ} → self ≡ now → Stands now → w < now.graph.size → w < size_of self.levels
+named-below {self} {now} is h low = omega (arith, low, size-is now h, ap (λ (j : Journalled). size_of j.levels) is)
+
+pub named-inside : {lent : SimpleGraph} {self now : Journalled} {w : ℕ} → self ≡ now → lent ≡ self.graph → w < now.graph.size → w < lent.size
+named-inside is lent low = omega (arith, low, ap (λ (g : SimpleGraph). g.size) (lent ∙ ap (λ (j : Journalled). j.graph) is))

@@ -3,6 +3,7 @@ use Rattle.std.proofs.Common.{◌≡◌, ℕ, ◌<◌, List, [], ◌∷◌, ◌+
 use mathlib.Core.List.{IsPrefix}
 use Rattle.kc_distinct.specs.Lists.{member}
 use Rattle.kc_graph.specs.declared.plan.Plan.{Plan}
+use Rattle.kc_graph.specs.declared.update.Update.{Update}
 use Rattle.kc_table.specs.declared.entry.Entry.{Entry}
 use Rattle.kc_table.specs.declared.view.Event.{Event}
 use Rattle.kc_table.specs.Edges.{after_entries}
@@ -19,6 +20,7 @@ use Rattle.kc_agree.proofs.Neighbouring.{no_later}
 use Rattle.kc_agree.proofs.Owning.{own_read}
 use Rattle.kc_levels.specs.Levels.{size_of}
 use Rattle.kc_journal.specs.Entering.{IsCurrent, MayEnter}
+use Rattle.kc_journal.specs.Holding.{AreOf}
 use Rattle.kc_journal.specs.Journals.{Journalled, Opens, Stands, ranked}
 use Rattle.kc_journal.specs.Sections.{section_puts}
 use Rattle.kc_journal.proofs.Standing.{at-rest, state-is, state-of}
@@ -81,3 +83,9 @@ own-may j plan h within own sure =
       record { within = within; log = j.levels.log; begins = prefix_self j.levels.log; from_log = read.0; sure = sure },
       read.1,
     )
+
+-- a sure plan over a view of a journal may be entered in it, and is current there
+pub planned : {self now : Journalled} {plan : Plan} {update : Update} → self ≡ now → Stands self → plan.update ≡ update
+    → update.v < size_of now.levels → AreOf now (answers_in plan.used) → IsSure plan → MayEnter now plan × IsCurrent now plan
+planned {self} {now} {plan} {update} is h update-is within own sure =
+    own-may now plan (subst Stands is h) (omega (arith, within, ap (λ (u : Update). u.v) update-is)) own sure

@@ -8,61 +8,79 @@ use crate::journal::Journal;
 use kc_graph::{Used, UsedEdges, UsedOrder, UsedPlace};
 use kc_view::{Memo, Scratch, View, ViewFault};
 use std::alloc::Global;
-use std::marker::Model;
+use std::marker::{Brand, Model, PhantomData};
 
-/// A view of a journal, which stays as it is while it is looked at: it never misses, and its answers are the journal's with its present
-/// stamps. So a plan over it can be entered in the same hold, and no stamp of it is stale: `laws::plans_of_own_answers_may_be_entered`.
+/// Names the journal that a view is of.
+///
+/// A planner is handed a view as `&mut V`, and the clauses of `View` don't say that it leaves the view's own journal as it was. So the
+/// journal is a member of the view's type. A call with `Brand` picks it from the journal that it is handed.
+pub trait Of {
+    ghost use Rattle.kc_journal.specs.Journals.{Journalled};
+
+    /// The journal.
+    ghost journal: { Journalled };
+}
+
+impl Of for Brand {
+    ghost use Rattle.kc_journal.specs.Holding.{no_journal};
+
+    ghost journal = { no_journal };
+}
+
+/// A view of the journal that J names, which stays as it is while it is looked at: it never misses, and its answers are the journal's with
+/// its present stamps. So a plan over it can be entered in the same hold, and no stamp of it is stale (`plan_held`).
 ///
 /// A list of neighbours is the graph's own, of which the view is one holder more; nothing is copied.
 #[derive(Drop)]
-pub struct Held<'a> {
+pub struct Held<'a, J: Of> {
     journal: &'a Journal,
     memo: Memo,
     handed: u64,
+    of: PhantomData<J>,
 }
 
-impl<'a> Model for Held<'a> {
-    ghost use Rattle.std.specs.Coded.{codes};
-    ghost use Rattle.kc_graph.specs.Rows.{code_of_graph};
-    ghost use Rattle.kc_view.specs.PlainCode.{code_of_answers};
-    ghost use Rattle.kc_journal.specs.Holding.{Holding, Holds, holding};
+impl<'a, J: Of> Model for Held<'a, J> {
+    ghost use Rattle.std.specs.Prelude.{◌≡◌};
+    ghost use Rattle.kc_journal.specs.Holding.{Holding, Holds, code_of_holding, holding};
 
     ghost Value = { Holding };
 
-    ghost coded = { Prim.hlevel (codes, code_of_graph, code_of_answers) };
+    ghost coded = { code_of_holding };
 
-    ghost view = { λ h. holding h.journal.now h.memo.kept h.handed };
+    ghost view = { λ h. holding h.memo.kept h.handed };
 
-    ghost invariant = { λ h. Holds h.journal.now h.memo };
+    ghost invariant = { λ h. (h.journal.now ≡ J.journal) × Holds J.journal h.memo };
 }
 
-/// A view of the journal with nothing kept, which finds its answers by the marks of the scratch. It takes no memory.
-pub fn held_view(alloc: Global, journal: &Journal, scratch: Scratch) -> Held<'_>
-    requires { scratch ≡ size_of journal.now.levels }
-    ensures { result ≡ holding journal.now nothing_answered 0 }
-{
-    journal.look();
-    Held {
-        journal,
-        memo: Memo::new(alloc, scratch),
-        handed: 0,
+impl<'a, J: Of> Held<'a, J> {
+    /// A view of the journal with nothing kept, which finds its answers by the marks of the scratch. It takes no memory.
+    pub fn new(alloc: Global, journal: &'a Journal, scratch: Scratch) -> Held<'a, J>
+        requires journal { journal.now ≡ J.journal }
+        requires scratch { scratch ≡ size_of J.journal.levels }
+        ensures { result ≡ holding nothing_answered 0 }
+    {
+        journal.look();
+        Held {
+            journal,
+            memo: Memo::new(alloc, scratch),
+            handed: 0,
+            of: PhantomData,
+        }
     }
-}
 
-impl Held<'_> {
     /// The scratch as it was lent. It takes no memory.
     pub fn end(self) -> Scratch
-        ensures { result ≡ size_of self.entry.journal.levels }
+        ensures { result ≡ size_of J.journal.levels }
     {
         let Held { memo, .. } = self;
         memo.into_scratch()
     }
 }
 
-impl View for Held<'_> {
+impl<J: Of> View for Held<'_, J> {
     ghost use Rattle.kc_journal.specs.Holding.{shown_held};
 
-    ghost shown = { shown_held };
+    ghost shown = { shown_held J.journal };
 
     fn degree(&mut self, w: u32) -> Result<u32, ViewFault> {
         if let Some(list) = self.memo.list(w) {

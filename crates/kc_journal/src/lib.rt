@@ -14,8 +14,10 @@ mod change;
 mod held;
 mod journal;
 pub mod laws;
+mod planning;
 mod renewal;
 
 pub use answer::{EnterFault, Entered, Receipt};
-pub use held::{Held, held_view};
+pub use held::{Held, Of};
 pub use journal::Journal;
+pub use planning::plan_held;

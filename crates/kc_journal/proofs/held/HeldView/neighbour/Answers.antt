@@ -6,4 +6,4 @@ use Rattle.kc_journal.proofs.Holding.{listed-below}
 use Rattle.kc_journal.proofs.held.HeldView.neighbour.Goals as goal
 
 pub list-requires : goal.list-requires
-list-requires c = listed-below c.args.w c.self.invariant (ap (λ (h : Holding). has_list h.kept c.args.w) c.self.view_is ∙ c.requires.read)
+list-requires g c = listed-below c.args.w c.self.invariant.1 (ap (λ (h : Holding). has_list h.kept c.args.w) c.self.view_is ∙ c.requires.read)
