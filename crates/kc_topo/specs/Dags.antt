@@ -52,14 +52,14 @@ IsAdded old new a b added.There = (has_arc (arcs_after old.table old.log) a b �
 IsAdded old new a b added.New = AddsArc old new a b
 
 -- Why an arc that does not stand yet is not added: a walk leads back, which is named; or there is none, and the versions of the words do not
--- leave three for each vertex that would move.
+-- leave three for each vertex that would move; or there was no memory. That an arc stands is answered without memory.
 abbrev pub IsRefused : Seen → ℕ → ℕ → DagFault → Type 0
 IsRefused seen a b (fault.Cycle walk) =
     (has_arc (arcs_after seen.table seen.log) a b ≡ false) × IsWalk (arcs_after seen.table seen.log) b a walk.items × (a ≡ b → walk.items ≡ a ∷ [])
 IsRefused seen a b (fault.Spent highest needed) =
     (has_arc (arcs_after seen.table seen.log) a b ≡ false) × (Reaches (arcs_after seen.table seen.log) b a → ⊥)
     × IsHighest seen.table seen.log highest × ((run : List ℕ) × IsRunFor seen a b run × (needed ≡ 3 * length run)) × (LAST_VERSION < highest + needed)
-IsRefused seen a b fault.NoMemory = Unit {0}
+IsRefused seen a b fault.NoMemory = has_arc (arcs_after seen.table seen.log) a b ≡ false
 
 -- the log goes on from what had been seen, and then the arc was added, which had not been seen
 pub record AddsArcSince (table : TableName) (old new : List Event) (a b : ℕ) : Type 0 where

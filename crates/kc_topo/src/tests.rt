@@ -1,7 +1,8 @@
-//! Arcs on one thread and beside comparisons on another, and random arcs against a table of what reaches what.
+//! Arcs on one thread, beside comparisons on another, and beside three that were told of arcs.
 ghost use Rattle.std.specs.Prelude.{◌≡◌, ◌<◌, ◌≤◌, ◌+◌, ◌*◌};
 
 mod racing;
+mod telling;
 
 use crate::{Added, Arcs, Dag, DagFault};
 use kc_order::Answer;
