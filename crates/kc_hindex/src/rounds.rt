@@ -14,7 +14,8 @@ fn round_at(graph: &Graph, v: u32, numbers: &[u32], crossed: &[bool], place: &mu
     requires within { v < graph.now.size }
     requires numbers { length numbers.now ≡ graph.now.size }
     requires marked { slice_index numbers.now v < length crossed.now }
-    requires keeps { slice_index_or crossed.now (slice_index numbers.now v) false ≡ false → h_round graph.now (slice_index numbers.now) v ≡ slice_index numbers.now v }
+    requires keeps { slice_index_or crossed.now (slice_index numbers.now v) false ≡ false
+        → h_round graph.now (slice_index numbers.now) v ≡ slice_index numbers.now v }
     requires room { slice_index numbers.now v < vec_len place.old.counts }
     requires falls { h_round graph.now (slice_index numbers.now) v ≤ slice_index numbers.now v }
     ensures number { place.new.number ≡ h_round graph.now (slice_index numbers.now) v }
@@ -55,7 +56,8 @@ pub(crate) fn round(
             requires { (v < graph.now.size) × (length numbers.now ≡ graph.now.size) × (graph.now.size < 2 ^ 32)
                 × (slice_index numbers.now v < vec_len place.old.counts) × (h_round graph.now (slice_index numbers.now) v ≤ slice_index numbers.now v)
                 × (slice_index numbers.now v < length crossed.now)
-                × (slice_index_or crossed.now (slice_index numbers.now v) false ≡ false → h_round graph.now (slice_index numbers.now) v ≡ slice_index numbers.now v) }
+                × (slice_index_or crossed.now (slice_index numbers.now v) false ≡ false
+                → h_round graph.now (slice_index numbers.now) v ≡ slice_index numbers.now v) }
             ensures { (place.new.number ≡ h_round graph.entry.now (slice_index numbers.entry.now) v) × (vec_len place.new.counts ≡ vec_len place.old.counts) }
         {
             round_at(graph, v as u32, numbers, crossed, place);

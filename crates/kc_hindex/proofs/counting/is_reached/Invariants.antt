@@ -5,7 +5,8 @@ use Rattle.kc_hindex.proofs.counting.is_reached.Given as goal
 
 -- those that were seen to reach the limit and those that do so of the rest are all that do
 abbrev pub invariant-loop-reached : goal.invariant-loop-reached
-invariant-loop-reached l = (l.reached + how_many_reach l.limit (map (λ w. get_or l.numbers w 0) l.rest) ≡ how_many_reach l.limit (map (λ w. get_or l.numbers w 0) l.vertices))
+invariant-loop-reached l = (l.reached + how_many_reach l.limit (map (λ w. get_or l.numbers w 0) l.rest)
+    ≡ how_many_reach l.limit (map (λ w. get_or l.numbers w 0) l.vertices))
     × (length l.rest < 2 ^ 32) × All (λ w. w < length l.numbers) l.rest
 
 abbrev pub decreases-loop-reached : goal.decreases-loop-reached

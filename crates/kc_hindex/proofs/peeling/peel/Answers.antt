@@ -8,7 +8,8 @@ pub settle-rounds-requires-clause-marked : goal.settle-rounds-requires-clause-ma
 settle-rounds-requires-clause-marked g c κs within = λ v l.
     omega (
       arith,
-      degrees-bounded c.args.graph.now c.deref_mut.result.now (subst (λ (xs : List ℕ). HasRound c.args.graph.now 0 xs) (sym c.deref_mut.ensures.value) c.in_ok-core.ensures) v l,
+      degrees-bounded c.args.graph.now c.deref_mut.result.now
+          (subst (λ (xs : List ℕ). HasRound c.args.graph.now 0 xs) (sym c.deref_mut.ensures.value) c.in_ok-core.ensures) v l,
       ap length c.deref_mut-2.ensures.value,
       c.in_ok-crossed.ensures.len,
       c.vertices.ensures,
