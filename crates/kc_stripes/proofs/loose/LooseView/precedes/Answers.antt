@@ -1,5 +1,6 @@
 -- An order is what the comparison found. One that found a word changed has missed.
 use Rattle.std.proofs.Common.{◌≤◌, ◌∙◌, ap, arith, rules}
+use Rattle.kc_graph.specs.declared.used.UsedOrder.{UsedOrder}
 use Rattle.kc_view.specs.Answers.{has_core}
 use Rattle.kc_stripes.specs.Reads.{IsMissed, Loosely}
 use Rattle.kc_stripes.proofs.Giving.{missed_of}
@@ -18,13 +19,15 @@ pub invariant_of-self : goal.invariant_of-self
 invariant_of-self g c =
     let inv = c.self.invariant in
     let read = c.read_order.ensures in
-    (inv.0, read.table ∙ inv.1, (keeps_order (record { x = c.args.x; y = c.args.y; before = c.in-Ok.before }) inv.1 read.table inv.2 read.longer c.in-Ok.ensures.told read.read).is)
+    let r : UsedOrder = record { x = c.args.x; y = c.args.y; before = c.in-Ok.before } in
+    (inv.0, read.table ∙ inv.1, (keeps_order r inv.1 read.table inv.2 read.longer c.in-Ok.ensures.told read.read).is)
 
 pub returns-in-Ok-clause-goes_on : goal.returns-in-Ok-clause-goes_on
 returns-in-Ok-clause-goes_on g c =
     let inv = c.self.invariant in
     let read = c.read_order.ensures in
-    rw (← c.self.view_is) (keeps_order (record { x = c.args.x; y = c.args.y; before = c.in-Ok.before }) inv.1 read.table inv.2 read.longer c.in-Ok.ensures.told read.read).goes_on
+    let r : UsedOrder = record { x = c.args.x; y = c.args.y; before = c.in-Ok.before } in
+    rw (← c.self.view_is) (keeps_order r inv.1 read.table inv.2 read.longer c.in-Ok.ensures.told read.read).goes_on
 
 pub invariant_of-self-in-Err-Miss : goal.invariant_of-self-in-Err-Miss
 invariant_of-self-in-Err-Miss g c =
