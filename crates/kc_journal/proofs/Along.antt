@@ -1,5 +1,6 @@
 -- One section more: what holds of each section of a log holds of each of the longer one.
-use Rattle.std.proofs.Common.{◌≡◌, ℕ, ◌+◌, ◌⊎◌, cond, List, [], ◌∷◌, ◌++◌, length, get_or, eqb, refl, sym, ap, ap₂, ◌∙◌, subst, inl, inr, arith, append_assoc, append-nil, length-append}
+use Rattle.std.proofs.Common.{◌≡◌, ℕ, ◌+◌, ◌⊎◌, cond, List, [], ◌∷◌, ◌++◌, length, get_or, eqb}
+use Rattle.std.proofs.Common.{refl, sym, ap, ap₂, ◌∙◌, subst, inl, inr, arith, append_assoc, append-nil, length-append}
 use Rattle.std.specs.Prelude.{drop}
 use Rattle.std.proofs.lemmas.Bool.{ne_eqb, eq-eqb}
 use Rattle.std.proofs.lemmas.List.{append_cancel_left}
@@ -38,11 +39,13 @@ pub record NewSection (table : TableName) (old new : List Event) (entry : Entry)
   pub begins : IsPrefix (old ++ note ∷ []) new
   pub number : number_of table new ≡ number_of table (old ++ note ∷ [])
 
-pub number-next : (table : TableName) (log : List Event) (note : Event) (entry : Entry) → IsNoteOf table log note entry → number_of table (log ++ note ∷ []) ≡ number_of table log + 1
+pub number-next : (table : TableName) (log : List Event) (note : Event) (entry : Entry) → IsNoteOf table log note entry
+    → number_of table (log ++ note ∷ []) ≡ number_of table log + 1
 number-next table log note entry is = omega (arith, ap length is, length-append (made_by table log).entries (entry ∷ []))
 
 -- a note of an entry in the longer log is one of the shorter log, or it is that of the new section
-split : (table : TableName) (old new prefix : List Event) (note : Event) (entry e : Entry) → NewSection table old new e → IsPrefix (prefix ++ note ∷ []) new → IsNoteOf table prefix note entry
+split : (table : TableName) (old new prefix : List Event) (note : Event) (entry e : Entry) → NewSection table old new e
+    → IsPrefix (prefix ++ note ∷ []) new → IsNoteOf table prefix note entry
     → IsPrefix (prefix ++ note ∷ []) old ⊎ ((prefix ≡ old) × (entry ≡ e))
 split table old new prefix note entry e s pre is =
     let next : List Event = old ++ s.note ∷ [] in
@@ -56,12 +59,15 @@ split table old new prefix note entry e s pre is =
             | inl within ↦ inl within
             | inr behind ↦
                 let r : List Event = behind.0 in
-                let none : r ≡ [] = no_more r (omega (arith, ap length at, ap length behind.1, length-append prefix (note ∷ m), length-append old (s.note ∷ []), length-append old r)) in
-                let last : m ≡ [] = no_more m (omega (arith, ap length at, ap length behind.1, length-append prefix (note ∷ m), length-append old (s.note ∷ []), length-append old r)) in
+                let sizes : length prefix + length (note ∷ m) ≡ length old + 1 =
+                omega (arith, ap length at, length-append prefix (note ∷ m), length-append old (s.note ∷ [])) in
+                let none : r ≡ [] = no_more r (omega (arith, sizes, ap length behind.1, length-append old r)) in
+                let last : m ≡ [] = no_more m (omega (arith, sizes, ap length behind.1, length-append old r)) in
                 let same : prefix ≡ old = sym behind.1 ∙ (ap (λ (l : List Event). old ++ l) none ∙ append-nil old) in
                 let both : prefix ++ note ∷ [] ≡ next = ap (λ (l : List Event). prefix ++ note ∷ l) (sym last) ∙ at in
                 let entries : (made_by table old).entries ++ entry ∷ [] ≡ (made_by table old).entries ++ e ∷ [] =
-                ap (λ (l : List Event). (made_by table l).entries ++ entry ∷ []) (sym same) ∙ (sym is ∙ (ap (λ (l : List Event). (made_by table l).entries) both ∙ s.is_note)) in
+                ap (λ (l : List Event). (made_by table l).entries ++ entry ∷ []) (sym same)
+                ∙ (sym is ∙ (ap (λ (l : List Event). (made_by table l).entries) both ∙ s.is_note)) in
                 let one : entry ∷ [] ≡ e ∷ [] = append_cancel_left (made_by table old).entries (entry ∷ []) (e ∷ []) entries in
                 inr (same, ap (λ (l : List Entry). get_or l 0 entry) one)
           ]
@@ -71,7 +77,8 @@ split table old new prefix note entry e s pre is =
           absurd (omega (arith, a, b, s.number, number-next table prefix note entry is))
     ]
 
-module _ (table : TableName) (opened : SimpleGraph) (old new : List Event) (e : Entry) (s : NewSection table old new e) (closed : IsClosed (made_by table old)) where
+module _ (table : TableName) (opened : SimpleGraph) (old new : List Event) (e : Entry)
+    (s : NewSection table old new e) (closed : IsClosed (made_by table old)) where
   pub sound-next : Sound table opened old → IsCertifiedAfter table opened new → Sound table opened new
   sound-next h now = record {
     before = λ prefix note entry pre is. elim (split table old new prefix note entry e s pre is) [
@@ -89,12 +96,15 @@ module _ (table : TableName) (opened : SimpleGraph) (old new : List Event) (e : 
         let k : ℕ = number_of table prefix + 1 in
         let low = number-grows table.shape table.opening (prefix ++ note ∷ []) old within in
         let same : section_puts table new k ≡ section_puts table old k =
-        puts k ∙ (ap (λ b. section_puts table old k ++ cond b vs []) (ne_eqb (number_of table old + 1) k (λ q. omega (arith, q, low, number-next table prefix note entry is))) ∙ append-nil (section_puts table old k)) in
+        puts k ∙ (ap (λ b. section_puts table old k ++ cond b vs [])
+        (ne_eqb (number_of table old + 1) k (λ q. omega (arith, q, low, number-next table prefix note entry is))) ∙ append-nil (section_puts table old k)) in
         subst (PutsSparingly r entry) (sym same) (h prefix note entry r within is (inr closed) state certified)
     | inr (at, named) ↦
         let k : ℕ = number_of table prefix + 1 in
         let last : number_of table old + 1 ≡ k = ap (λ (l : List Event). number_of table l + 1) (sym at) in
         let same : section_puts table new k ≡ vs =
-        puts k ∙ ap₂ (λ b (z : List ℕ). z ++ cond b vs []) (eq-eqb (number_of table old + 1) k last) (puts_in-late table.shape table.opening old k (omega (arith, last))) in
-        subst (PutsSparingly r entry) (sym same) (subst (λ (z : Entry). PutsSparingly r z vs) (sym named) (here r (subst (λ (l : List Event). IsStateOf table opened l r) at state) certified))
+        puts k ∙ ap₂ (λ b (z : List ℕ). z ++ cond b vs []) (eq-eqb (number_of table old + 1) k last)
+        (puts_in-late table.shape table.opening old k (omega (arith, last))) in
+        subst (PutsSparingly r entry) (sym same) (subst (λ (z : Entry). PutsSparingly r z vs) (sym named)
+        (here r (subst (λ (l : List Event). IsStateOf table opened l r) at state) certified))
   ]

@@ -41,24 +41,25 @@ pub began : {s : Ranked} {version : ℕ} {words : TableName} {j : Journalled} {p
     → j.edge_stamps ≡ replicate count 0
     → OpensLevels order core stamps 0 version words j.levels pass → j.entries ≡ [] → j.started ≡ j.graph → j.opened ≡ j.graph
     → j.opening_stamps ≡ j.edge_stamps → Began s version words j pass
-began {s} {version} {words} {j} {pass} {core} {order} {stamps} certified graph core-is order-is stamps-are count count-is zero opens entries started opened opening = record {
-  certified = certified;
-  graph = graph;
-  core = core;
-  core_is = core-is;
-  order = order;
-  order_is = order-is;
-  stamps = stamps;
-  stamps_are = stamps-are;
-  count = count;
-  count_is = count-is;
-  zero = zero;
-  opens = opens;
-  entries = entries;
-  started = started;
-  opened = opened;
-  opening_stamps = opening;
-}
+began {s} {version} {words} {j} {pass} {core} {order} {stamps} certified graph core-is order-is stamps-are
+    count count-is zero opens entries started opened opening = record {
+      certified = certified;
+      graph = graph;
+      core = core;
+      core_is = core-is;
+      order = order;
+      order_is = order-is;
+      stamps = stamps;
+      stamps_are = stamps-are;
+      count = count;
+      count_is = count-is;
+      zero = zero;
+      opens = opens;
+      entries = entries;
+      started = started;
+      opened = opened;
+      opening_stamps = opening;
+    }
 
 pub begins : {s : Ranked} {version : ℕ} {words : TableName} {j : Journalled} {pass : PassSeen} → Began s version words j pass → OpensRun s version words j pass
 begins {s} {version} {words} {j} {pass} b =

@@ -160,7 +160,8 @@ enters : {now self new : Journalled} {told : Levelled} {index : ℕ} {plan : Pla
     → Makes self new told index plan lists → Enters now new index plan.update plan.moves
 enters {now} {self} {new} {told} {index} {plan} {lists} b m =
     let here : Enters self new index plan.update plan.moves = record {
-      section = subst (λ (l : Levelled). HasSection l new.levels index plan.update plan.moves) (b.same ∙ sym (ap (λ (j : Journalled). j.levels) b.is)) m.section;
+      section = subst (λ (l : Levelled). HasSection l new.levels index plan.update plan.moves)
+          (b.same ∙ sym (ap (λ (j : Journalled). j.levels) b.is)) m.section;
       graph = m.graph;
       entries = m.entries;
       long = m.long;

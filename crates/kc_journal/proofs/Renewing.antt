@@ -47,26 +47,28 @@ pub fresh : {self new : Journalled} {version : ℕ} {words : TableName} {pass : 
     → base ≡ length self.entries → OpensLevels order core stamps base version words new.levels pass
     → new.graph ≡ self.graph → new.edge_stamps ≡ self.edge_stamps → new.entries ≡ self.entries → new.started ≡ self.started
     → new.opened ≡ self.graph → new.opening_stamps ≡ self.edge_stamps → Renewed self new version words pass
-fresh {self} {new} {version} {words} {pass} {order} {core} {stamps} {base} order-is core-is stamps-are base-is opens graph edges entries started opened opening = record {
-  order = order;
-  core = core;
-  stamps = stamps;
-  base = base;
-  order_is = order-is;
-  core_is = core-is;
-  stamps_are = stamps-are;
-  base_is = base-is;
-  opens = opens;
-  graph = graph;
-  edge_stamps = edges;
-  entries = entries;
-  started = started;
-  opened = opened;
-  opening_stamps = opening;
-}
+fresh {self} {new} {version} {words} {pass} {order} {core} {stamps} {base} order-is core-is stamps-are base-is opens
+    graph edges entries started opened opening = record {
+      order = order;
+      core = core;
+      stamps = stamps;
+      base = base;
+      order_is = order-is;
+      core_is = core-is;
+      stamps_are = stamps-are;
+      base_is = base-is;
+      opens = opens;
+      graph = graph;
+      edge_stamps = edges;
+      entries = entries;
+      started = started;
+      opened = opened;
+      opening_stamps = opening;
+    }
 
 -- so it stands
-pub stands-renewed : {self new : Journalled} {version : ℕ} {words : TableName} {pass : PassSeen} → Stands self → Renewed self new version words pass → Stands new
+pub stands-renewed : {self new : Journalled} {version : ℕ} {words : TableName} {pass : PassSeen} → Stands self
+    → Renewed self new version words pass → Stands new
 stands-renewed {self} {new} h r =
     let o = r.opens in
     let core-is : new.levels.core ≡ self.levels.core = ap (λ (l : Levelled). l.core) o.is ∙ r.core_is in

@@ -253,7 +253,8 @@ module _ (o b m : Levelled) (index : ℕ) (update : Update) (moves : Moves) (ope
         let stamp : stamp_at o v ≡ stamp_now v = ap (λ (z : ℕ). (vertex_of z).stamp) (sym (makes.others v other ∙ opens.words v)) ∙ now-at v in
         let still : (k : ℕ) → member v (section_puts o.table o.log k) ≡ false → member v (section_puts o.table m.log k) ≡ false =
         λ k none. ap (member v) (g.puts_are k)
-        ∙ append-not_member v (section_puts o.table o.log k) (cond (eqb (n + 1) k) (puts_of moves) []) none (not-in-cond (eqb (n + 1) k) v (puts_of moves) out) in
+        ∙ append-not_member v (section_puts o.table o.log k) (cond (eqb (n + 1) k) (puts_of moves) []) none
+        (not-in-cond (eqb (n + 1) k) v (puts_of moves) out) in
         subst (IsPlaceStamp m.log v) stamp (elim was [
           | inl w ↦ inl record {
             put = ap (member v) (g.puts_are (stamp_at o v))

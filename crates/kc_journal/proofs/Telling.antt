@@ -29,7 +29,8 @@ use Rattle.kc_journal.proofs.Standing.{number-is}
 pub not-stale : (j : Journalled) (plan : Plan) (stale : Stale) → MayEnter j plan → IsCurrent j plan → IsStale j plan stale → ⊥
 not-stale j plan stale may current is =
     let read = reads_stay j.levels.table j.opened may.log j.levels.log (answers_in plan.used) may.begins may.from_log in
-    not_current j.levels.table j.opened j.opening_stamps j.levels.log j.edge_stamps is.place_stamps (answers_in plan.used) stale is.present read is.first current
+    not_current j.levels.table j.opened j.opening_stamps j.levels.log j.edge_stamps is.place_stamps (answers_in plan.used) stale
+    is.present read is.first current
 
 -- the entries of the table are those behind the entries before it
 here-is : (j : Journalled) → Stands j → entries_here j ≡ drop j.levels.table.shape.base j.entries
@@ -42,7 +43,8 @@ here-next old new index plan entered h e =
     let x : Entry = entry_of index plan.update in
     here-is new e.stands
     ∙ (ap (λ (t : TableName). drop t.shape.base new.entries) e.table
-    ∙ (ap (drop old.levels.table.shape.base) (e.entries ∙ (ap (λ (es : List Entry). es ++ x ∷ []) h.entries ∙ append_assoc h.before (entries_here old) (x ∷ [])))
+    ∙ (ap (drop old.levels.table.shape.base) (e.entries
+    ∙ (ap (λ (es : List Entry). es ++ x ∷ []) h.entries ∙ append_assoc h.before (entries_here old) (x ∷ [])))
     ∙ (ap (λ (n : ℕ). drop n (h.before ++ (entries_here old ++ x ∷ []))) (sym h.base) ∙ drop-append_seam h.before (entries_here old ++ x ∷ []))))
 
 place-is : (old new : Journalled) (index : ℕ) (plan : Plan) (entered : Entered) → IsEntered old new index plan entered

@@ -24,21 +24,26 @@ overflow_cast-degree g c =
 pub invariant_of-self-2 : goal.invariant_of-self-2
 invariant_of-self-2 g c =
     let near = row-near c.args.w c.in_ok-neighbours.neighbours c.self.invariant.0 c.graph.ensures c.in_ok-neighbours.ensures.near in
-    let low : c.args.w < c.self.inside.memo.size = search rules in
-    (c.self.invariant.0, (keeps-list {handed = 0} c.self.invariant.1 c.in_ok-keep_list.ensures.ok low (edge-stamp c.args.w c.self.invariant.0 c.edge_stamp.ensures.here) near).is)
+    let low : c.args.w < c.self.inside.memo.size = search rules in (
+      c.self.invariant.0,
+      (keeps-list {handed = 0} c.self.invariant.1 c.in_ok-keep_list.ensures.ok low
+          (edge-stamp c.args.w c.self.invariant.0 c.edge_stamp.ensures.here) near).is,
+    )
 
 pub returns-clause-goes_on : goal.returns-clause-goes_on
 returns-clause-goes_on g c =
     let near = row-near c.args.w c.in_ok-neighbours.neighbours c.self.invariant.0 c.graph.ensures c.in_ok-neighbours.ensures.near in
     let low : c.args.w < c.self.inside.memo.size = search rules in
     rw (← c.self.view_is)
-    (keeps-list {handed = c.self.inside.handed} c.self.invariant.1 c.in_ok-keep_list.ensures.ok low (edge-stamp c.args.w c.self.invariant.0 c.edge_stamp.ensures.here) near).goes_on
+    (keeps-list {handed = c.self.inside.handed} c.self.invariant.1 c.in_ok-keep_list.ensures.ok low
+    (edge-stamp c.args.w c.self.invariant.0 c.edge_stamp.ensures.here) near).goes_on
 
 pub returns-clause-lists : goal.returns-clause-lists
 returns-clause-lists g c =
     let near = row-near c.args.w c.in_ok-neighbours.neighbours c.self.invariant.0 c.graph.ensures c.in_ok-neighbours.ensures.near in
     let low : c.args.w < c.self.inside.memo.size = search rules in
-    (keeps-list {handed = 0} c.self.invariant.1 c.in_ok-keep_list.ensures.ok low (edge-stamp c.args.w c.self.invariant.0 c.edge_stamp.ensures.here) near).lists
+    (keeps-list {handed = 0} c.self.invariant.1 c.in_ok-keep_list.ensures.ok low
+    (edge-stamp c.args.w c.self.invariant.0 c.edge_stamp.ensures.here) near).lists
 
 pub returns-clause-told : goal.returns-clause-told
 returns-clause-told g c =

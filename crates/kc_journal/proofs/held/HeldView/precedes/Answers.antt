@@ -7,8 +7,10 @@ use Rattle.kc_journal.proofs.held.HeldView.precedes.Goals as goal
 
 pub precedes-before-requires-clause-vertices : goal.precedes-before-requires-clause-vertices
 precedes-before-requires-clause-vertices g c = (
-  named-below c.self.invariant.0 c.self.invariant.1.stands (told-below c.args.x c.self.invariant.1 (ap (λ (h : Holding). has_core h.kept c.args.x) c.self.view_is ∙ c.requires.first)),
-  named-below c.self.invariant.0 c.self.invariant.1.stands (told-below c.args.y c.self.invariant.1 (ap (λ (h : Holding). has_core h.kept c.args.y) c.self.view_is ∙ c.requires.second)),
+  named-below c.self.invariant.0 c.self.invariant.1.stands (told-below c.args.x c.self.invariant.1
+      (ap (λ (h : Holding). has_core h.kept c.args.x) c.self.view_is ∙ c.requires.first)),
+  named-below c.self.invariant.0 c.self.invariant.1.stands (told-below c.args.y c.self.invariant.1
+      (ap (λ (h : Holding). has_core h.kept c.args.y) c.self.view_is ∙ c.requires.second)),
 )
 
 pub invariant_of-self-2 : goal.invariant_of-self-2
