@@ -9,5 +9,7 @@
 #![tactic(auto)]
 
 mod planning;
+#[cfg(test)]
+mod tests;
 
 pub use planning::plan;
