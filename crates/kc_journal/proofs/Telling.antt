@@ -37,7 +37,7 @@ here-is : (j : Journalled) → Stands j → entries_here j ≡ drop j.levels.tab
 here-is j h = sym (ap (λ (n : ℕ). drop n j.entries) (sym h.base) ∙ (ap (drop (length h.before)) h.entries ∙ drop-append_seam h.before (entries_here j)))
 
 -- the table's entries have one more
-here-next : (old new : Journalled) (index : ℕ) (plan : Plan) (entered : Entered) → Stands old → IsEntered old new index plan entered
+pub here-next : (old new : Journalled) (index : ℕ) (plan : Plan) (entered : Entered) → Stands old → IsEntered old new index plan entered
     → entries_here new ≡ entries_here old ++ entry_of index plan.update ∷ []
 here-next old new index plan entered h e =
     let x : Entry = entry_of index plan.update in
@@ -79,7 +79,7 @@ may-tell j e h low at near =
     (subst (λ (g : SimpleGraph). AreNeighbours g e.vertex e.neighbours) h.from_opening near)
 
 -- what holds of all holds of one in the middle
-middle : {A : Type 0} (P : A → Type 0) (front back : List A) (x : A) (xs : List A) → xs ≡ front ++ x ∷ back → All P xs → P x
+pub middle : {A : Type 0} (P : A → Type 0) (front back : List A) (x : A) (xs : List A) → xs ≡ front ++ x ∷ back → All P xs → P x
 middle P front back x xs is all =
     subst P (get_or-append_seam front x back x) (subst (All P) is all (length front) x (omega (arith, length-append front (x ∷ back))))
 

@@ -1,0 +1,2 @@
+pub mod Outdating
+pub mod Telling
