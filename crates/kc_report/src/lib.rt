@@ -32,7 +32,9 @@ pub enum Line {
         top: u32,
     },
     /// The first round of h-indices that changes no number: its number, from 1.
-    Rounds { rounds: u64 },
+    Rounds {
+        rounds: u64,
+    },
     /// A batch: its number from 1, how many of its updates added an edge, removed one or changed nothing, how many of
     /// its changes were overruled by a later one of the same edge (the line says so only where some were), and then
     /// the edges and the greatest core number after it.
