@@ -18,6 +18,8 @@ mod loose;
 mod start;
 mod stripe;
 mod stripes;
+#[cfg(test)]
+mod tests;
 
 pub use loose::Loose;
 pub use start::Start;

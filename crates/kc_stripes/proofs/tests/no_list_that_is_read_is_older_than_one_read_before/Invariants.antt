@@ -1,0 +1,13 @@
+use Rattle.std.specs.Prelude.{[]}
+use Rattle.kc_table.specs.Log.{no_graph}
+use Rattle.kc_stripes.proofs.tests.no_list_that_is_read_is_older_than_one_read_before.Given as goal
+
+abbrev pub ghosts-publish_and_read : goal.ghosts-publish_and_read
+ghosts-publish_and_read g a = record {
+  table = a.words.now;
+  opening_edges = a.graph.now;
+  opening_stamps = a.at.now.items;
+  start_edges = no_graph;
+  log = [];
+  entries = [];
+}
