@@ -1,13 +1,14 @@
 -- A journal goes on in a fresh table.
-use Rattle.std.proofs.Common.{◌≡◌, ℕ, ◌<◌, ◌≤◌, List, length, get_or, sym, ap, ◌∙◌, subst, arith}
+use Rattle.std.proofs.Common.{◌≡◌, ℕ, ◌<◌, ◌≤◌, List, length, get_or, refl, sym, ap, ◌∙◌, subst, arith}
 use Rattle.std.specs.Prelude.{All}
 use Rattle.kc_graph.specs.Lawful.{IsCertified}
 use Rattle.kc_table.specs.Edges.{after_entries}
 use Rattle.kc_table.specs.Log.{PassSeen, TableName}
 use Rattle.kc_table.proofs.LegalLogs.{legal-holds}
 use Rattle.kc_agree.specs.Stamps.{last_change}
-use Rattle.kc_levels.specs.Levels.{Levelled, OpensLevels, size_of, stamp_at}
-use Rattle.kc_journal.specs.Journals.{IsEntry, Journalled, Opens, Renews, Stands, ranked}
+use Rattle.kc_agree.proofs.Neighbouring.{no_later}
+use Rattle.kc_levels.specs.Levels.{Levelled, size_of, stamp_at}
+use Rattle.kc_journal.specs.Journals.{IsEntry, IsFreshTable, Journalled, MayGoOn, Opens, Renews, Stands, fresh_pass, ranked}
 use Rattle.kc_journal.proofs.Opening.{stands-at-opening}
 use Rattle.kc_journal.proofs.Standing.{number-is}
 
@@ -17,6 +18,10 @@ stamp-low j h v low =
     let holds = legal-holds j.levels.table.shape j.levels.table.opening j.levels.log h.levels.legal in
     omega (arith, holds.stamps v low, number-is j h)
 
+-- and no edge stamp
+pub edge-stamp-low : (j : Journalled) → Stands j → (v : ℕ) → v < size_of j.levels → get_or j.edge_stamps v 0 ≤ length j.entries
+edge-stamp-low j h v low = omega (arith, h.edge_stamps v low, no_later j.started j.entries 0 v 0 (omega arith))
+
 -- so it is of the lists that a fresh table is opened with
 pub stamps-low : {j : Journalled} {core : List ℕ} {base : ℕ} (stamps : List ℕ) → Stands j → core ≡ j.levels.core → base ≡ length j.entries
     → ((v : ℕ) → v < size_of j.levels → get_or stamps v 0 ≡ stamp_at j.levels v) → (v : ℕ) → v < length core → get_or stamps v 0 ≤ base
@@ -24,17 +29,9 @@ stamps-low {j} {core} {base} stamps h core-is base-is each v l =
     let low : v < size_of j.levels = omega (arith, l, ap length core-is, h.levels.long) in
     omega (arith, stamp-low j h v low, each v low, base-is)
 
--- What `renew` has got: a fresh table with the order, the levels and the stamps of before. Nothing else differs, but for what it opened with.
-pub record Renewed (self new : Journalled) (version : ℕ) (words : TableName) (pass : PassSeen) : Type 0 where
-  pub order : List ℕ
-  pub core : List ℕ
-  pub stamps : List ℕ
-  pub base : ℕ
-  pub order_is : order ≡ self.levels.order
-  pub core_is : core ≡ self.levels.core
-  pub stamps_are : (v : ℕ) → v < size_of self.levels → get_or stamps v 0 ≡ stamp_at self.levels v
-  pub base_is : base ≡ length self.entries
-  pub opens : OpensLevels order core stamps base version words new.levels pass
+-- The journal in such levels. Nothing else differs, but for what the table opened with.
+pub record Renewed (self new : Journalled) : Type 0 where
+  pub may : MayGoOn self new.levels
   pub graph : new.graph ≡ self.graph
   pub edge_stamps : new.edge_stamps ≡ self.edge_stamps
   pub entries : new.entries ≡ self.entries
@@ -42,48 +39,36 @@ pub record Renewed (self new : Journalled) (version : ℕ) (words : TableName) (
   pub opened : new.opened ≡ self.graph
   pub opening_stamps : new.opening_stamps ≡ self.edge_stamps
 
-pub fresh : {self new : Journalled} {version : ℕ} {words : TableName} {pass : PassSeen} {order core stamps : List ℕ} {base : ℕ}
-    → order ≡ self.levels.order → core ≡ self.levels.core → ((v : ℕ) → v < size_of self.levels → get_or stamps v 0 ≡ stamp_at self.levels v)
-    → base ≡ length self.entries → OpensLevels order core stamps base version words new.levels pass
-    → new.graph ≡ self.graph → new.edge_stamps ≡ self.edge_stamps → new.entries ≡ self.entries → new.started ≡ self.started
-    → new.opened ≡ self.graph → new.opening_stamps ≡ self.edge_stamps → Renewed self new version words pass
-fresh {self} {new} {version} {words} {pass} {order} {core} {stamps} {base} order-is core-is stamps-are base-is opens
-    graph edges entries started opened opening = record {
-      order = order;
-      core = core;
-      stamps = stamps;
-      base = base;
-      order_is = order-is;
-      core_is = core-is;
-      stamps_are = stamps-are;
-      base_is = base-is;
-      opens = opens;
-      graph = graph;
-      edge_stamps = edges;
-      entries = entries;
-      started = started;
-      opened = opened;
-      opening_stamps = opening;
-    }
+pub moved : {self now new : Journalled} → self ≡ now → MayGoOn now new.levels → new.graph ≡ self.graph → new.edge_stamps ≡ self.edge_stamps
+    → new.entries ≡ self.entries → new.started ≡ self.started → new.opened ≡ self.graph → new.opening_stamps ≡ self.edge_stamps → Renewed self new
+moved {self} {now} {new} is may graph edges entries started opened opening = record {
+  may = subst (λ (j : Journalled). MayGoOn j new.levels) (sym is) may;
+  graph = graph;
+  edge_stamps = edges;
+  entries = entries;
+  started = started;
+  opened = opened;
+  opening_stamps = opening;
+}
+
+-- the state is that of before
+same-state : {self new : Journalled} → Renewed self new → ranked new ≡ ranked self
+same-state r = λ i. record { graph = r.graph i; core = r.may.core i; order = r.may.order i }
 
 -- so it stands
-pub stands-renewed : {self new : Journalled} {version : ℕ} {words : TableName} {pass : PassSeen} → Stands self
-    → Renewed self new version words pass → Stands new
+pub stands-renewed : {self new : Journalled} → Stands self → Renewed self new → Stands new
 stands-renewed {self} {new} h r =
-    let o = r.opens in
-    let core-is : new.levels.core ≡ self.levels.core = ap (λ (l : Levelled). l.core) o.is ∙ r.core_is in
-    let order-is : new.levels.order ≡ self.levels.order = ap (λ (l : Levelled). l.order) o.is ∙ r.order_is in
-    let state : ranked new ≡ ranked self = λ i. record { graph = r.graph i; core = core-is i; order = order-is i } in
-    let size : size_of new.levels ≡ size_of self.levels = o.size ∙ (ap length r.core_is ∙ h.levels.long) in
+    let m = r.may in
+    let size : size_of new.levels ≡ size_of self.levels = sym m.are.long ∙ (ap length m.core ∙ h.levels.long) in
     let opens : Opens new = record {
-      levels = o.are;
-      closed = ap (λ (l : Levelled). l.open_) o.is;
-      log = ap (λ (l : Levelled). l.log) o.is;
-      certified = subst IsCertified (sym state) h.certified;
+      levels = m.are;
+      closed = m.closed;
+      log = m.log;
+      certified = subst IsCertified (sym (same-state r)) h.certified;
       from_start = r.graph ∙ (h.from_start ∙ λ i. after_entries (sym r.started i) (sym r.entries i));
       opened = r.opened ∙ sym r.graph;
       opening_stamps = r.opening_stamps ∙ sym r.edge_stamps;
-      base = ap length r.entries ∙ (sym r.base_is ∙ sym o.base_is);
+      base = ap length r.entries ∙ sym m.base;
       few = omega (arith, ap length r.entries, h.few);
       ordered = subst (λ (n : ℕ). All (IsEntry n) new.entries) (sym size) (subst (All (IsEntry (size_of self.levels))) (sym r.entries) h.ordered);
       long = ap length r.edge_stamps ∙ (h.long ∙ sym size);
@@ -93,26 +78,32 @@ stands-renewed {self} {new} h r =
     stands-at-opening new opens
 
 -- and this is what is told of it
-pub renews : {self now new : Journalled} {version : ℕ} {words : TableName} {pass : PassSeen} → self ≡ now → Stands self
-    → Renewed self new version words pass → Renews now new version words pass
-renews {self} {now} {new} {version} {words} {pass} is h r =
-    let o = r.opens in
-    let core-is : new.levels.core ≡ self.levels.core = ap (λ (l : Levelled). l.core) o.is ∙ r.core_is in
-    let order-is : new.levels.order ≡ self.levels.order = ap (λ (l : Levelled). l.order) o.is ∙ r.order_is in
-    let table-is : new.levels.table ≡ words = ap (λ (l : Levelled). l.table) o.is in
-    let here : Renews self new version words pass = record {
+pub renews : {self now new : Journalled} → self ≡ now → Stands self → Renewed self new
+    → Renews now new new.levels.table.shape.version new.levels.table (fresh_pass new.levels.table)
+renews {self} {now} {new} is h r =
+    let t : TableName = new.levels.table in
+    let here : Renews self new t.shape.version t (fresh_pass t) = record {
       stands = stands-renewed h r;
-      state = λ i. record { graph = r.graph i; core = core-is i; order = order-is i };
+      state = same-state r;
       entries = r.entries;
       started = r.started;
       edge_stamps = r.edge_stamps;
-      place_stamps = λ v low. o.stamps_are v (omega (arith, low, ap length r.core_is, h.levels.long)) ∙ r.stamps_are v low;
+      place_stamps = r.may.place_stamps;
       opened = r.opened;
       opening_stamps = r.opening_stamps;
-      table = table-is;
-      log = ap (λ (l : Levelled). l.log) o.is;
-      pass_is = o.pass_is;
-      base = ap (λ (t : TableName). t.shape.base) (sym table-is) ∙ (o.base_is ∙ r.base_is);
-      version_is = ap (λ (t : TableName). t.shape.version) (sym table-is) ∙ o.version_is;
+      table = refl;
+      log = r.may.log;
+      pass_is = refl;
+      base = r.may.base;
+      version_is = refl;
     } in
-    subst (λ (j : Journalled). Renews j new version words pass) is here
+    subst (λ (j : Journalled). Renews j new t.shape.version t (fresh_pass t)) is here
+
+-- The same, told of the table and the pass that were made beside the levels.
+pub renews-with : {old new : Journalled} {version : ℕ} {words : TableName} {levels : Levelled} {pass : PassSeen}
+    → IsFreshTable old version words levels pass → Renews old new levels.table.shape.version levels.table (fresh_pass levels.table)
+    → Renews old new version words pass
+renews-with {old} {new} {version} {words} {levels} {pass} f r =
+    subst (λ (n : ℕ). Renews old new n words pass) f.version_is
+    (subst (λ (p : PassSeen). Renews old new words.shape.version words p) (sym f.pass_is)
+    (subst (λ (t : TableName). Renews old new t.shape.version t (fresh_pass t)) f.table r))

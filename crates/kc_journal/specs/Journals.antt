@@ -135,3 +135,20 @@ pub record Renews (old new : Journalled) (version : ℕ) (words : TableName) (pa
   pub pass_is : pass ≡ fresh_pass words
   pub base : words.shape.base ≡ length old.entries
   pub version_is : words.shape.version ≡ version
+
+-- Levels in a fresh table where a journal can go on: nothing was stored, and order, core numbers and place stamps are those of the journal.
+pub record MayGoOn (j : Journalled) (levels : Levelled) : Type 0 where
+  pub are : AreLevels levels
+  pub closed : levels.open_ ≡ false
+  pub log : levels.log ≡ []
+  pub order : levels.order ≡ j.levels.order
+  pub core : levels.core ≡ j.levels.core
+  pub base : levels.table.shape.base ≡ length j.entries
+  pub place_stamps : (v : ℕ) → v < size_of j.levels → stamp_at levels v ≡ stamp_at j.levels v
+
+-- A fresh table with this version, such levels in it, and a pass that has seen nothing of it.
+pub record IsFreshTable (j : Journalled) (version : ℕ) (words : TableName) (levels : Levelled) (pass : PassSeen) : Type 0 where
+  pub may : MayGoOn j levels
+  pub table : levels.table ≡ words
+  pub version_is : words.shape.version ≡ version
+  pub pass_is : pass ≡ fresh_pass words

@@ -68,7 +68,7 @@ impl Model for Journal {
 impl Journal {
     ghost use Rattle.kc_journal.specs.Answers.{IsAdmitted, IsCause, IsEntered};
     ghost use Rattle.kc_journal.specs.Entering.{MayEnter, WasReadOf};
-    ghost use Rattle.kc_journal.specs.Journals.{OpensRun, Renews, Stands, all_seen};
+    ghost use Rattle.kc_journal.specs.Journals.{IsFreshTable, MayGoOn, OpensRun, Renews, Stands, all_seen, fresh_pass};
 
     /// The journal of a new run, on a fresh table with this version. It has no entries, and all stamps are 0. `NoMemory` comes where there
     /// is none for the table and the stamps; `lawful` is then dropped. The graph is not copied.
@@ -228,20 +228,42 @@ impl Journal {
         ensures renewed { IfOk result (λ r. Renews self.old self.new version r.0 r.1) }
         ensures same { OnErr result (self.new ≡ self.old) }
     {
+        let (words, levels, pass) = self.fresh_table(alloc, version)?;
+        self.go_on_in(levels);
+        Ok((words, pass))
+    }
+
+    /// A fresh table with this version in which the journal can go on: its levels have the order, core numbers and place stamps of now. It
+    /// takes all memory that a renewal needs; who needs more may take it before the journal goes on there.
+    pub fn fresh_table(
+        &self,
+        alloc: Global,
+        version: u32,
+    ) -> Result<(Words, Levels, Pass), NoMemory>
+        requires { version ≤ LAST_VERSION }
+        ensures { IfOk result (λ r. IsFreshTable self.now version r.0 r.1 r.2) }
+    {
         let order = order_of(alloc, &self.levels)?;
         let base = self.entries.len() as u32;
-        let (words, levels, pass) = Levels::open(
+        Levels::open(
             alloc,
             &order,
             self.levels.core(),
             self.levels.stamps(),
             base,
             version,
-        )?;
+        )
+    }
+
+    /// Goes on in a fresh table, by levels that were made for the journal as it is. What the table opened with is what the journal has now.
+    /// It takes no memory.
+    pub fn go_on_in(&mut self, levels: Levels)
+        requires { MayGoOn self.old levels }
+        ensures { Renews self.old self.new levels.table.shape.version levels.table (fresh_pass levels.table) }
+    {
         self.levels = levels;
         self.opened = Snapshot::of(&self.graph);
         self.opening_stamps = Snapshot::of(&self.edge_stamps);
-        Ok((words, pass))
     }
 
     /// What stands against a plan, if anything does.
