@@ -1,8 +1,8 @@
 //! Measures core numbers by rounds of h-indices beside those by buckets, on a graph that it reads from standard input as a SNAP edge list.
 //!
 //! Without a word it writes what was counted, which never varies for one graph. With the word `time` it makes five rounds of measuring and
-//! writes beside each count how long it took. The rounds of h-indices run in as many threads as there are processors: `taskset` chooses
-//! how many that are.
+//! writes beside each count how long it took. The rounds of h-indices run in several threads for each processor: `taskset` chooses
+//! how many processors there are.
 #![tactic(auto)]
 
 use kc_graph::{Graph, NoMemory, core_numbers};

@@ -75,7 +75,7 @@ fn settle(
     passed + 1
 }
 
-/// The core numbers of a graph, by rounds in as many threads as there are processors (Lü, Zhou, Zhang and Stanley 2016): each vertex
+/// The core numbers of a graph, by rounds in several threads for each processor (Lü, Zhou, Zhang and Stanley 2016): each vertex
 /// begins with its degree, and in a round takes the h-index of its neighbours' numbers, all vertices at once, until a round changes no
 /// number. A round looks only at the vertices whose number another one has crossed in the round before, as [`crossing`](crate::crossing)
 /// says, and takes time linear in the edges and no memory. Numbers and count of rounds are the same however the work is cut among

@@ -1,4 +1,4 @@
-//! One round, by as many threads as there are processors.
+//! One round, by several threads for each processor.
 ghost use Rattle.std.specs.Prelude.{◌≡◌, ◌≤◌, ◌<◌, ◌^◌, ℕ, false, length, slice_index, slice_index_or, vec_len};
 ghost use Rattle.kc_hindex.specs.Rounds.{h_round};
 ghost use Rattle.kc_hindex.specs.Places.{AreRoundOf, HaveRoom, KeepsUncrossed};
@@ -6,8 +6,27 @@ ghost use Rattle.kc_hindex.specs.Places.{AreRoundOf, HaveRoom, KeepsUncrossed};
 use crate::counting::h_index_of;
 use crate::place::Place;
 use kc_graph::Graph;
-use rayon::prelude::*;
+use rayon::current_num_threads;
+use std::thread;
 use std::thread::Threads;
+
+/// How many processors a round makes use of.
+const MOST_PROCESSORS: usize = 32;
+
+/// Into how many pieces the places are cut for each processor, where there are several. Degrees are skewed: on many graphs the vertices in
+/// front have most edges, and with one piece each, most processors would wait for the first.
+const PIECES_EACH: usize = 8;
+
+/// Into how many pieces the places are cut: one where there is one processor.
+fn pieces(rt: &impl Threads) -> usize
+    ensures { 0 < result }
+{
+    let processors = current_num_threads(rt).min(MOST_PROCESSORS);
+    if processors == 1 {
+        return 1;
+    }
+    processors * PIECES_EACH
+}
 
 /// Gives the place of a vertex what a round makes of its number, which it keeps where that was not crossed.
 fn round_at(graph: &Graph, v: u32, numbers: &[u32], crossed: &[bool], place: &mut Place)
@@ -49,10 +68,11 @@ pub(crate) fn round(
     ensures room { HaveRoom numbers.now places.new }
 {
     let _vertices = graph.vertices();
-    par_for_each_mut(
+    thread::for_each_mut(
         rt,
         places,
-        |v: usize, place: &mut Place|
+        pieces(rt),
+        &|v: usize, place: &mut Place|
             requires { (v < graph.now.size) × (length numbers.now ≡ graph.now.size) × (graph.now.size < 2 ^ 32)
                 × (slice_index numbers.now v < vec_len place.old.counts) × (h_round graph.now (slice_index numbers.now) v ≤ slice_index numbers.now v)
                 × (slice_index numbers.now v < length crossed.now)
