@@ -1,2 +1,4 @@
 pub mod Outdating
+pub mod Reading
+pub mod Staying
 pub mod Telling

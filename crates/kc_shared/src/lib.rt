@@ -15,6 +15,7 @@ mod kept;
 pub mod laws;
 mod missed;
 mod parts;
+mod renewal;
 mod shared;
 
 pub use fault::SharedFault;

@@ -1,8 +1,10 @@
 //! The state of a run while no worker runs.
-ghost use Rattle.std.specs.Prelude.{◌≡◌, ◌≤◌, IfOk};
-ghost use Rattle.kc_journal.specs.Journals.{OpensRun};
+ghost use Rattle.std.specs.Prelude.{◌≡◌, ◌<◌, ◌≤◌, All, IfOk, OnErr, vec_len};
+ghost use mathlib.Core.List.{IsPrefix};
+ghost use Rattle.kc_journal.specs.Journals.{OpensRun, Renews, all_seen, fresh_pass};
 ghost use Rattle.kc_shared.specs.States.{AreParts};
 
+use crate::renewal::{fresh_passes, tell_all};
 use kc_graph::{Lawful, NoMemory};
 use kc_journal::Journal;
 use kc_stripes::{Stripe, open_stripes};
@@ -10,6 +12,7 @@ use kc_table::{Pass, Words};
 use kc_words::{LAST_VERSION, VERTICES};
 use std::alloc::Global;
 use std::marker::Model;
+use std::mem;
 
 /// The words of a table, its stripes and its journal.
 ///
@@ -61,5 +64,38 @@ impl Parts {
             },
             pass,
         ))
+    }
+
+    /// Goes on in a fresh table whose version is 0 and whose base is the number of entries: the same graph, core numbers, order, stamps and
+    /// entries stand there, and what the table opened with is what they are now. Each pass is replaced by one of the new table. The answer
+    /// is a pass of the old table that has seen its whole log, and so all that a replaced one had.
+    ///
+    /// All memory is taken before anything changes: at `NoMemory` the parts and the passes are as they were.
+    pub fn renew(&mut self, alloc: Global, passes: &mut Vec<Pass>) -> Result<Pass, NoMemory>
+        requires some { 0 < vec_len passes.old }
+        requires table { All (λ p. p.table ≡ self.old.words) passes.old.items }
+        ensures renewed { IfOk result (λ _. Renews self.old.journal self.new.journal 0 self.new.words (fresh_pass self.new.words)) }
+        ensures as_many { IfOk result (λ _. vec_len passes.new ≡ vec_len passes.old) }
+        ensures fresh { IfOk result (λ _. All (λ p. p ≡ fresh_pass self.new.words) passes.new.items) }
+        ensures last { IfOk result (λ last. last ≡ all_seen self.old.journal) }
+        ensures longer { IfOk result (λ last. All (λ p. IsPrefix p.log last.log) passes.old.items) }
+        ensures same { OnErr result ((self.new ≡ self.old) × (passes.new ≡ passes.old)) }
+    {
+        self.journal.look();
+        let (words, levels, mut fresh) = self.journal.fresh_table(alloc, 0)?;
+        let stripes = open_stripes(
+            alloc,
+            &words,
+            &mut fresh,
+            self.journal.graph(),
+            self.journal.edge_stamps(),
+        )?;
+        let renewed = fresh_passes(alloc, &words, &mut fresh, passes.len())?;
+        let ended = mem::replace(passes, renewed);
+        let last = tell_all(&mut self.journal, &self.words, ended);
+        self.journal.go_on_in(levels);
+        self.words = words;
+        self.stripes = stripes;
+        Ok(last)
     }
 }
