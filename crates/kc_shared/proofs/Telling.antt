@@ -29,9 +29,9 @@ use Rattle.kc_journal.specs.declared.answer.EnterFault.TheVariants as enter
 use Rattle.kc_journal.specs.declared.answer.Entered.{Entered}
 use Rattle.kc_journal.specs.declared.answer.Receipt.{Receipt}
 use Rattle.kc_journal.proofs.Standing.{moved-within, number-is, right-here, size-is}
-use Rattle.kc_journal.proofs.Telling.{here-next, may-tell}
+use Rattle.kc_journal.proofs.Telling.{here-next, may-tell, not-stale}
 use Rattle.kc_stripes.specs.Records.{Opened}
-use Rattle.kc_shared.specs.Answers.{HasCause, IsReceipt, IsToldEntry, MayBeToldIf, WasReadBehind, told_fault}
+use Rattle.kc_shared.specs.Answers.{HasCause, IsNotStale, IsReceipt, IsToldEntry, MayBeToldIf, WasReadBehind, told_fault}
 use Rattle.kc_shared.specs.declared.fault.SharedFault.{SharedFault}
 use Rattle.kc_shared.specs.States.{AreParts, Booked, GoesOn, Parted, opened_by}
 use Rattle.kc_shared.proofs.Outdating.{outdated}
@@ -179,3 +179,19 @@ cause {o} {j} {seen} {pass} {plan} index fault answer k low pre read sure all an
     (cause-here seen j index plan fault k.stands (may-enter j seen plan within pre read sure) is) in
     subst (λ (f : SharedFault). HasCause o seen pass.log index plan f) (sym answer-is)
     (subst (λ (p : PassSeen). HasCause o seen p.log index plan (told_fault fault)) (sym all) here)
+
+-- A plan with present stamps alone is refused for another reason than a stale one.
+other-cause : (j : Journalled) (plan : Plan) (fault : EnterFault) → MayEnter j plan → IsCurrent j plan → IsCause j plan fault
+    → IsNotStale (told_fault fault)
+other-cause j plan (enter.Full entries) may current is = tt
+other-cause j plan (enter.Stale vertex edges used now) may current is =
+    not-stale j plan (record { vertex = vertex; edges = edges; used = used; now = now }) may current is.1
+other-cause j plan (enter.Spent highest needed) may current is = tt
+other-cause j plan enter.NoMemory may current is = tt
+
+pub never-stale : {o : Opened} {j : Journalled} {seen : List Event} {plan : Plan} (fault : EnterFault) (answer : SharedFault) → Known o j
+    → plan.update.v < o.table.shape.fixed → IsPrefix seen j.levels.log → WasReadOf j seen plan → IsSure plan → answer ≡ told_fault fault
+    → IsCause j plan fault → IsCurrent j plan → IsNotStale answer
+never-stale {o} {j} {seen} {plan} fault answer k low pre read sure answer-is is current =
+    let within : plan.update.v < size_of j.levels = omega (arith, low, ap (λ (z : Opened). z.table.shape.fixed) k.is) in
+    subst IsNotStale (sym answer-is) (other-cause j plan fault (may-enter j seen plan within pre read sure) current is)

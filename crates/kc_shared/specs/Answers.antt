@@ -101,6 +101,13 @@ HasCause o old new index plan (shared.Spent highest needed) = MightNotLast o.tab
 HasCause o old new index plan (shared.NoMemory None) = ⊤
 HasCause o old new index plan (shared.NoMemory (Some receipt)) = IsReceipt o old new index plan.update receipt
 
+-- a refusal for another reason than a stale stamp
+abbrev pub IsNotStale : SharedFault → Type 0
+IsNotStale (shared.Full entries) = ⊤
+IsNotStale (shared.Stale vertex edges used now) = ⊥
+IsNotStale (shared.Spent highest needed) = ⊤
+IsNotStale (shared.NoMemory entered) = ⊤
+
 -- how many entries a refusal has made
 abbrev pub entered_at : SharedFault → ℕ
 entered_at (shared.Full entries) = 0

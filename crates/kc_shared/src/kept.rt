@@ -4,10 +4,10 @@ ghost use mathlib.Core.List.{IsPrefix};
 ghost use Rattle.kc_view.specs.Sure.{IsSure};
 ghost use Rattle.kc_table.specs.Legal.{Legal};
 ghost use Rattle.kc_journal.specs.Answers.{IsCause, IsEntered};
-ghost use Rattle.kc_journal.specs.Entering.{WasReadOf};
+ghost use Rattle.kc_journal.specs.Entering.{IsCurrent, WasReadOf};
 ghost use Rattle.kc_journal.specs.Journals.{Stands, all_seen};
 ghost use Rattle.kc_stripes.specs.Records.{opened_with};
-ghost use Rattle.kc_shared.specs.Answers.{HasCause, IsToldEntry, WasReadBehind, entered_at};
+ghost use Rattle.kc_shared.specs.Answers.{HasCause, IsNotStale, IsToldEntry, WasReadBehind, entered_at};
 ghost use Rattle.kc_shared.specs.States.{GoesOn};
 
 use crate::fault::SharedFault;
@@ -110,7 +110,7 @@ impl<K: Name + Ledger> Kept<K> {
     }
 
     /// Enters an update and tells the pass, so that all is said of what the pass has seen then. Both lists of what was entered may be
-    /// published.
+    /// published. No plan is `Stale` whose stamps are the journal's present ones.
     pub fn enter_and_tell(
         &mut self,
         words: &Words,
@@ -133,6 +133,7 @@ impl<K: Name + Ledger> Kept<K> {
             pass.old.log pass.new.log index plan.now.update entered) }
         ensures cause { IfErr result (λ fault. HasCause (opened_with K.table K.opening_edges K.opening_stamps)
             pass.old.log pass.new.log index plan.now fault) }
+        ensures current { IfErr result (λ fault. IsCurrent self.old.journal plan.now → IsNotStale fault) }
         ensures same { OnErr result (self.new ≡ self.old) }
         ensures amount { MatchResult result (λ _. part.new.amount ≡ part.old.amount + 1) (λ _. part.new.amount ≡ part.old.amount) }
         ensures none { IfErr result (λ fault. entered_at fault ≡ 0) }

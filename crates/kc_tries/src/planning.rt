@@ -4,6 +4,7 @@ ghost use mathlib.Core.List.{IsPrefix};
 ghost use Rattle.kc_view.specs.Answers.{answers_in, nothing_answered};
 ghost use Rattle.kc_view.specs.Sure.{AsksCoresNearby, IsSure, NamesOnlyRead};
 ghost use Rattle.kc_view.specs.Views.{HasPlanCause};
+ghost use Rattle.kc_table.specs.Legal.{Legal};
 ghost use Rattle.kc_agree.specs.Reads.{From};
 ghost use Rattle.kc_stripes.specs.Records.{opened_with};
 ghost use Rattle.kc_stripes.specs.Reads.{HasLooseCause, WereReadSince};
@@ -51,6 +52,7 @@ fn plan_since<K: Name, S: Start, R: Wait>(
     requires vertex { update.v < K.table.shape.fixed }
     ensures table { pass.new.table ≡ K.table }
     ensures longer { IsPrefix S.log pass.new.log }
+    ensures legal { Legal K.table.shape K.table.opening pass.new.log }
     ensures scratch { scratch.new ≡ K.table.shape.fixed }
     ensures update { IfOk result (λ plan. plan.update ≡ update) }
     ensures sure { IfOk result IsSure }
@@ -74,7 +76,7 @@ fn plan_since<K: Name, S: Start, R: Wait>(
 ///
 /// The plan is sure, and what it rests on was so of the log that the pass has seen then, each place since the call began. `Miss` comes only
 /// where two loads of a word since then differed, and `NoMemory` where there is none, for the view or for the planner. Whatever it
-/// answers, the pass has seen what it had seen.
+/// answers, the pass has seen what it had seen, and all that it has seen is legal.
 pub fn plan<K: Name, R: Wait>(
     rt: &R,
     alloc: Global,
@@ -89,6 +91,7 @@ pub fn plan<K: Name, R: Wait>(
     requires vertex { update.v < K.table.shape.fixed }
     ensures table { pass.new.table ≡ K.table }
     ensures longer { IsPrefix pass.old.log pass.new.log }
+    ensures legal { Legal K.table.shape K.table.opening pass.new.log }
     ensures scratch { scratch.new ≡ K.table.shape.fixed }
     ensures update { IfOk result (λ plan. plan.update ≡ update) }
     ensures sure { IfOk result IsSure }
