@@ -1,0 +1,3 @@
+pub mod Batches
+pub mod Entered
+pub mod Outcomes
