@@ -1,0 +1,157 @@
+-- What an attempt and a fault tell, said of what was seen before them; and misses that stay true.
+use Rattle.std.proofs.Common.{◌≡◌, ℕ, ◌≤◌, List, [], ◌∷◌, ◌++◌, length, refl, sym, ap, ◌∙◌, subst, arith}
+use Rattle.std.specs.Prelude.{All, Some, None, Result, IfErr, IfOk}
+use Rattle.std.proofs.lemmas.List.Elements.{All-push, All-weaker}
+use Rattle.std.specs.Result.{IsErrAnd}
+use Rattle.std.proofs.lemmas.Result.{IfErr-weaker, err_from_is_err_and}
+use mathlib.Core.List.{IsPrefix}
+use Rattle.kc_graph.specs.declared.plan.Plan.{Plan}
+use Rattle.kc_graph.specs.declared.update.Update.{Update}
+use Rattle.kc_view.specs.Answers.{answers_in}
+use Rattle.kc_table.specs.declared.view.Event.{Event}
+use Rattle.kc_table.specs.Legal.{Legal}
+use Rattle.kc_table.specs.Log.{PassSeen, Seen, TableName}
+use Rattle.kc_table.proofs.Prefixes.{prefix_self}
+use Rattle.kc_table.proofs.Stamps.{number-grows}
+use Rattle.kc_journal.specs.declared.answer.Receipt.{Receipt}
+use Rattle.kc_stripes.specs.Reads.{WereReadSince}
+use Rattle.kc_stripes.specs.Records.{Opened}
+use Rattle.kc_shared.specs.Answers.{HasCause, IsReceipt}
+use Rattle.kc_shared.specs.Misses.{IsTrueMiss}
+use Rattle.kc_shared.specs.declared.fault.SharedFault.{SharedFault}
+use Rattle.kc_shared.specs.declared.fault.SharedFault.TheVariants as shared
+use Rattle.kc_shared.specs.declared.missed.Missed.{Missed}
+use Rattle.kc_shared.specs.declared.shared.TheConstants.{MISSES}
+use Rattle.kc_shared.proofs.Outdating.{true-miss}
+use Rattle.kc_shared.proofs.Staying.{stays-true}
+use Rattle.kc_workers.specs.Updates.{HasUpdateCause, IsAttempt, IsDone, told_attempt}
+use Rattle.kc_workers.specs.declared.attempt.Attempt.{Attempt}
+use Rattle.kc_workers.specs.declared.done.Done.{Done}
+use Rattle.kc_workers.specs.declared.fault.UpdateFault.{UpdateFault}
+use Rattle.kc_workers.specs.declared.fault.UpdateFault.TheVariants as fault
+
+-- Since an earlier moment. -------------------------------------------------------------------------------
+
+pub receipt-since : (o : Opened) (earlier old new : List Event) (index : ℕ) (planned update : Update) (receipt : Receipt) → planned ≡ update
+    → IsPrefix earlier old → IsReceipt o old new index planned receipt → IsReceipt o earlier new index update receipt
+receipt-since o earlier old new index planned update receipt same pre r =
+    let here : IsReceipt o old new index update receipt = subst (λ (u : Update). IsReceipt o old new index u receipt) same r in record {
+      front = here.front;
+      back = here.back;
+      entries = here.entries;
+      place = here.place;
+      index_is = here.index_is;
+      applied = here.applied;
+      later = omega (arith, here.later, number-grows o.table.shape o.table.opening earlier old pre);
+    }
+
+pub cause-since : (o : Opened) (earlier old new : List Event) (index : ℕ) (update : Update) (f : UpdateFault) → IsPrefix earlier old
+    → HasUpdateCause o old new index update f → HasUpdateCause o earlier new index update f
+cause-since o earlier old new index update (fault.Full entries) pre is = is
+cause-since o earlier old new index update (fault.Spent highest needed) pre is = is
+cause-since o earlier old new index update (fault.NoMemory None) pre is = tt
+cause-since o earlier old new index update (fault.NoMemory (Some receipt)) pre is = receipt-since o earlier old new index update update receipt refl pre is
+
+-- misses stay true where more was seen
+pub misses-stay : (o : Opened) (start log more : List Event) (misses : List Missed) → Legal o.table.shape o.table.opening more
+    → IsPrefix start log → IsPrefix log more → All (IsTrueMiss o start log) misses → All (IsTrueMiss o start more) misses
+misses-stay o start log more misses legal within after all =
+    All-weaker (IsTrueMiss o start log) (IsTrueMiss o start more)
+    (λ miss true-so. stays-true o start start log more miss legal (prefix_self start) within after true-so) misses all
+
+-- and one more joins them
+pub one-more : (o : Opened) (start log more : List Event) (misses : List Missed) (miss : Missed) → Legal o.table.shape o.table.opening more
+    → IsPrefix start log → IsPrefix log more → All (IsTrueMiss o start log) misses → IsTrueMiss o log more miss
+    → All (IsTrueMiss o start more) (misses ++ miss ∷ [])
+one-more o start log more misses miss legal within after all last =
+    All-push (IsTrueMiss o start more) misses miss (misses-stay o start log more misses legal within after all)
+    (stays-true o start log more more miss legal within after (prefix_self more) last)
+
+-- A refusal of the shared state. -------------------------------------------------------------------------
+
+-- it is the update's own, with its cause, but where a stamp was stale
+pub faults : (o : Opened) (old new : List Event) (index : ℕ) (plan : Plan) (update : Update) (f : SharedFault) → plan.update ≡ update
+    → HasCause o old new index plan f → IfErr (told_attempt f) (HasUpdateCause o old new index update)
+faults o old new index plan update (shared.Full entries) same is = is
+faults o old new index plan update (shared.Stale vertex edges used now) same is = tt
+faults o old new index plan update (shared.Spent highest needed) same is =
+    record { is_highest = is.is_highest; few = is.few; exceeds = is.exceeds }
+faults o old new index plan update (shared.NoMemory None) same is = tt
+faults o old new index plan update (shared.NoMemory (Some receipt)) same is =
+    receipt-since o old old new index plan.update update receipt same (prefix_self old) is
+
+-- and there it is a true miss since the plan was begun
+misses : (o : Opened) (old before new : List Event) (index : ℕ) (plan : Plan) (update : Update) (f : SharedFault) → IsPrefix before new
+    → Legal o.table.shape o.table.opening new → WereReadSince o old before (answers_in plan.used) → HasCause o before new index plan f
+    → IfOk (told_attempt f) (IsAttempt o old new index update)
+misses o old before new index plan update (shared.Full entries) goes-on legal read is = tt
+misses o old before new index plan update (shared.Stale vertex edges used now) goes-on legal read is =
+    true-miss o old before new (answers_in plan.used) vertex edges used now legal goes-on read is
+misses o old before new index plan update (shared.Spent highest needed) goes-on legal read is = tt
+misses o old before new index plan update (shared.NoMemory entered) goes-on legal read is = tt
+
+-- A plan that a worker has made, what it had seen before, and what it has seen since.
+pub record IsPlanned (o : Opened) (old now : List Event) (update : Update) (plan : Plan) : Type 0 where
+  pub begins : IsPrefix old now
+  pub read : WereReadSince o old now (answers_in plan.used)
+  pub update_is : plan.update ≡ update
+
+pub planned : {o : Opened} {inside worker : Seen} {now : List Event} {update : Update} (plan : Plan) → inside ≡ worker → IsPrefix inside.log now
+    → WereReadSince o inside.log now (answers_in plan.used) → plan.update ≡ update → IsPlanned o worker.log now update plan
+planned {o} {inside} {worker} {now} {update} plan is begins read same = record {
+  begins = subst (λ (w : Seen). IsPrefix w.log now) is begins;
+  read = subst (λ (w : Seen). WereReadSince o w.log now (answers_in plan.used)) is read;
+  update_is = same;
+}
+
+pub entered-so : {o : Opened} {old now new : List Event} {index : ℕ} {update : Update} {plan : Plan} {receipt : Receipt}
+    → IsPlanned o old now update plan → IsReceipt o now new index plan.update receipt → IsReceipt o old new index update receipt
+entered-so {o} {old} {now} {new} {index} {update} {plan} {receipt} p r =
+    receipt-since o old now new index plan.update update receipt p.update_is p.begins r
+
+pub missed-so : {o : Opened} {old now : List Event} {update : Update} {plan : Plan} (new : List Event) (index : ℕ) (f : SharedFault)
+    (told : Result Attempt UpdateFault) → told ≡ told_attempt f → IsPlanned o old now update plan → IsPrefix now new
+    → Legal o.table.shape o.table.opening new → HasCause o now new index plan f → IfOk told (IsAttempt o old new index update)
+missed-so {o} {old} {now} {update} {plan} new index f told told-is p later legal is =
+    subst (λ (r : Result Attempt UpdateFault). IfOk r (IsAttempt o old new index update)) (sym told-is)
+    (misses o old now new index plan update f later legal p.read is)
+
+pub refused-so : {o : Opened} {old now : List Event} {update : Update} {plan : Plan} (new : List Event) (index : ℕ) (f : SharedFault)
+    (told : Result Attempt UpdateFault) → told ≡ told_attempt f → IsPlanned o old now update plan → HasCause o now new index plan f
+    → IfErr told (HasUpdateCause o old new index update)
+refused-so {o} {old} {now} {update} {plan} new index f told told-is p is =
+    IfErr-weaker told (HasUpdateCause o now new index update) (HasUpdateCause o old new index update)
+    (λ g h. cause-since o old now new index update g p.begins h)
+    (subst (λ (r : Result Attempt UpdateFault). IfErr r (HasUpdateCause o now new index update)) (sym told-is)
+    (faults o now new index plan update f p.update_is is))
+
+-- a fault that is handed on
+pub handed-on : {T : Type 0} (o : Opened) (old now new : List Event) (index : ℕ) (update : Update) (f : UpdateFault) (r : Result T UpdateFault)
+    → IsErrAnd r (λ g. g ≡ f) → IsPrefix old now → HasUpdateCause o now new index update f → IfErr r (HasUpdateCause o old new index update)
+handed-on {T} o old now new index update f r is pre h =
+    let p = err_from_is_err_and r is in
+    subst (λ (z : Result T UpdateFault). IfErr z (HasUpdateCause o old new index update)) (sym p.1)
+    (subst (HasUpdateCause o old new index update) (sym p.2) (cause-since o old now new index update f pre h))
+
+-- A whole update. ----------------------------------------------------------------------------------------
+
+-- a worker whose pass was split has seen what it had seen
+pub begun-log : {inside worker : Seen} {pass : PassSeen} {table : TableName} {loads splits : ℕ} → inside ≡ worker
+    → pass ≡ record { table = table; log = inside.log; loads = loads; splits = splits } → pass.log ≡ worker.log
+begun-log {inside} {worker} {pass} {table} {loads} {splits} is split = ap (λ (p : PassSeen). p.log) split ∙ ap (λ (w : Seen). w.log) is
+
+pub begun : {inside worker : Seen} {pass : PassSeen} {table : TableName} {loads splits : ℕ} {now : List Event} → inside ≡ worker
+    → pass ≡ record { table = table; log = inside.log; loads = loads; splits = splits } → IsPrefix pass.log now → IsPrefix worker.log now
+begun {inside} {worker} {pass} {table} {loads} {splits} {now} is split pre =
+    subst (λ (l : List Event). IsPrefix l now) (begun-log is split) pre
+
+-- an update that was entered under the lock, after misses without it
+pub done-held : (o : Opened) (start old now new : List Event) (index : ℕ) (update : Update) (done : Done) → start ≡ old
+    → Legal o.table.shape o.table.opening new → IsPrefix start now → IsPrefix now new → length done.misses.items ≤ MISSES
+    → All (IsTrueMiss o start now) done.misses.items → IsReceipt o now new index update done.receipt → IsDone o old new index update done
+done-held o start old now new index update done is legal before under few all receipt =
+    subst (λ (l : List Event). IsDone o l new index update done) is (record {
+      receipt = receipt-since o start now new index update update done.receipt refl before receipt;
+      few = few;
+      misses = misses-stay o start now new done.misses.items legal before under all;
+    })
