@@ -204,6 +204,7 @@ is-entered {now} {self} {new} {told} {index} {plan} {lists} {place} {applied} b 
       opened = into.opened;
       opening_stamps = into.opening_stamps;
       longer = on.longer;
+      puts = on.puts;
       receipt = λ i. record { index = index; place = many i; applied = changed i };
       lists = told;
     }

@@ -277,14 +277,24 @@ run-stamp : (g : SimpleGraph) (es : List Entry) (x : Entry) (v : ℕ)
 run-stamp g es x v =
     last_change-push g es x 0 v 0 ∙ ap (λ n. cond (changes_graph x (after_entries g es) && names x v) n (last_change g es 0 v 0)) (omega arith)
 
+-- the section that a log has grown by has put these
+puts-last : (table : TableName) (log new : List Event) (e : Entry) (puts : List ℕ) → Grown table log new e puts
+    → section_puts table new (number_of table log + 1) ≡ puts
+puts-last table log new e puts g =
+    let n : ℕ = number_of table log in
+    g.puts_are (n + 1) ∙ ap₂ (λ (before here : List ℕ). before ++ here) (puts_in-late table.shape table.opening log (n + 1) (omega arith))
+    (ap (λ c. cond c puts []) (eq-eqb (n + 1) (n + 1) refl))
+
 -- The whole. -------------------------------------------------------------------------------------------------------
 
--- What is known of a journal after an entry: it stands, its state is the one after the plan, and its log has gone on in the same table.
+-- What is known of a journal after an entry: it stands, its state is the one after the plan, its log has gone on in the same table, and the
+-- section has put what the plan moves.
 pub record Next (old new : Journalled) (plan : Plan) : Type 0 where
   pub stands : Stands new
   pub state : ranked new ≡ state_after plan (ranked old)
   pub table : new.levels.table ≡ old.levels.table
   pub longer : IsPrefix old.levels.log new.levels.log
+  pub puts : section_puts new.levels.table new.levels.log (length old.entries + 1) ≡ puts_of plan.moves
 
 pub stands-next : (old new : Journalled) (index : ℕ) (plan : Plan) → Stands old → index < INDICES → MayEnter old plan → IsCurrent old plan
     → length old.entries < LAST_NUMBER → Enters old new index plan.update plan.moves → Next old new plan
@@ -380,4 +390,5 @@ stands-next old new index plan h fits may current room enters =
       table = ap (λ (z : Levelled). z.table) ended;
       longer = subst (λ (z : List Event). IsPrefix o.log z) (sym (ap (λ (z : Levelled). z.log) ended))
           (prefix_trans o.log (o.log ++ g.section.note ∷ []) m.log (g.section.note ∷ [], refl) g.section.begins);
+      puts = ap₂ (λ (z : Levelled) (k : ℕ). section_puts z.table z.log (k + 1)) ended (sym number) ∙ puts-last t o.log m.log x (puts_of moves) g;
     }

@@ -104,6 +104,14 @@ impl Journal {
         let _entries = self.entries.len();
     }
 
+    /// How many vertices there are: they are the numbers below this.
+    pub fn vertices(&self) -> u32
+        ensures graph { result ≡ self.now.graph.size }
+        ensures levels { result ≡ size_of self.now.levels }
+    {
+        self.graph.vertices()
+    }
+
     /// The graph.
     pub fn graph(&self) -> &SharedGraph
         ensures { result.now ≡ self.now.graph }
@@ -151,6 +159,13 @@ impl Journal {
         ensures { result ≡ nat_lt (place_of x self.now.levels.order) (place_of y self.now.levels.order) }
     {
         self.levels.precedes(x, y)
+    }
+
+    /// The vertices in order, in a list of its own. It takes memory, and one walk.
+    pub fn order(&self, alloc: Global) -> Result<Vec<u32>, NoMemory>
+        ensures { IfOk result (λ order. order.items ≡ self.now.levels.order) }
+    {
+        order_of(alloc, &self.levels)
     }
 
     /// The greatest core number, 0 where there is no vertex.
