@@ -14,6 +14,8 @@ mod entering;
 mod fault;
 mod gate;
 mod share;
+#[cfg(test)]
+mod tests;
 mod updating;
 mod worker;
 

@@ -1,0 +1,15 @@
+-- The names are those of the parts that are shared.
+use Rattle.kc_workers.proofs.tests.one_worker_enters_each_update_at_its_first_try.Given as goal
+
+abbrev pub ghosts-enter_alone-K-Name : goal.ghosts-enter_alone-K-Name
+ghosts-enter_alone-K-Name g a = record {
+  table = a.parts.words;
+  opening_edges = a.parts.journal.opened;
+  opening_stamps = a.parts.journal.opening_stamps;
+  start_edges = a.parts.journal.started;
+  log = a.parts.journal.levels.log;
+  entries = a.parts.journal.entries;
+}
+
+abbrev pub ghosts-enter_alone-K-Ledger : goal.ghosts-enter_alone-K-Ledger
+ghosts-enter_alone-K-Ledger g a = record { name = a.blank.name; parts = a.blank.parts }
