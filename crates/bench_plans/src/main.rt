@@ -2,17 +2,28 @@
 //!
 //! Without a word it makes a small run and writes what was counted, which never varies for one graph. With the word `time` it makes a
 //! large run and writes beside each count how long it took. It runs on one thread.
+//!
+//! The updates are planned over a plain view, and over loose views of a table that opened with the graph and stays at rest. There each
+//! plan must be the one over the plain view, list for list; so must it be for each update of each graph of four or five vertices. Where one
+//! is not, the program says so and fails.
 #![tactic(auto)]
 
 mod draws;
 mod graphs;
+mod loose;
 mod plans;
+mod same;
+mod small;
 
-use crate::graphs::{Edges, graph_of, insertions, read_edges, removals};
+use crate::graphs::{graph_of, insertions, read_edges, removals};
+use crate::loose::compare;
 use crate::plans::{Asked, plan_insertions, plan_removals};
+use crate::small::compare_small;
 use kc_cert::check;
-use kc_graph::{Graph, Lawful, decompose};
+use kc_graph::{Graph, Lawful, Update, decompose};
 use kc_view::{PlainView, PlanFault};
+use std::rt::Clock;
+use std::sync::Wait;
 use std::time::{Duration, Instant};
 use std::{env, io};
 
@@ -37,8 +48,8 @@ const LARGE: Size = Size {
 };
 
 /// Writes what was counted, and where times are wanted how long it took.
-fn report(
-    rt: &HostRuntime,
+fn report<R: Print>(
+    rt: &R,
     size: &Size,
     what: &str,
     counted: u64,
@@ -76,17 +87,14 @@ fn measure_check(rt: &HostRuntime, size: &Size, graph: &Graph) -> io::Result<()>
     )
 }
 
-/// Writes what was asked by plans, or why they stopped.
-fn report_plans(
-    rt: &HostRuntime,
+/// Writes what was asked by plans.
+fn report_asked<R: Print>(
+    rt: &R,
     size: &Size,
     what: &str,
-    asked: &Result<Asked, PlanFault>,
+    asked: &Asked,
     took: Duration,
 ) -> io::Result<()> {
-    let Ok(asked) = asked else {
-        return println!(rt; "{what}: no memory");
-    };
     report(rt, size, what, asked.plans, took)?;
     println!(rt;
         "  lists asked: {}, the most of one plan: {}",
@@ -98,18 +106,86 @@ fn report_plans(
     )
 }
 
-/// Plans insertions and removals, each in the state of the graph. The updates are drawn before.
-fn measure_plans(rt: &HostRuntime, size: &Size, edges: &Edges, state: &Lawful) -> io::Result<()> {
-    let added = insertions(rt.alloc(), state.graph(), size.plans)?;
-    let removed = removals(rt.alloc(), edges, size.plans)?;
+/// Writes what was asked by plans, or why they stopped.
+fn report_plans<R: Print>(
+    rt: &R,
+    size: &Size,
+    what: &str,
+    asked: &Result<Asked, PlanFault>,
+    took: Duration,
+) -> io::Result<()> {
+    let Ok(asked) = asked else {
+        return println!(rt; "{what}: no memory");
+    };
+    report_asked(rt, size, what, asked, took)
+}
+
+/// The updates that are planned, drawn beforehand.
+#[derive(Drop)]
+struct Updates {
+    added: Vec<Update>,
+    removed: Vec<Update>,
+}
+
+/// Plans insertions and removals, each in the state of the graph.
+fn measure_plans(
+    rt: &HostRuntime,
+    size: &Size,
+    updates: &Updates,
+    state: &Lawful,
+) -> io::Result<()> {
     let mut view = PlainView::new(rt.alloc(), state)?;
     let start = Instant::now(rt)?;
-    let asked = plan_insertions(rt.alloc(), &mut view, &added);
+    let asked = plan_insertions(rt.alloc(), &mut view, &updates.added);
     report_plans(rt, size, "insertions planned", &asked, start.elapsed(rt)?)?;
     let mut view = PlainView::new(rt.alloc(), state)?;
     let start = Instant::now(rt)?;
-    let asked = plan_removals(rt.alloc(), &mut view, &removed);
+    let asked = plan_removals(rt.alloc(), &mut view, &updates.removed);
     report_plans(rt, size, "removals planned", &asked, start.elapsed(rt)?)
+}
+
+/// Plans updates over loose views of a table that opened with the graph. Gives how many of the plans are not those over a plain view.
+fn measure_loosely<R: Wait + AllocGlobal + Clock + Print>(
+    rt: &R,
+    size: &Size,
+    what: &str,
+    graph: &Graph,
+    updates: &[Update],
+) -> io::Result<u64> {
+    let compared = compare(rt, graph, updates)?;
+    report(
+        rt,
+        size,
+        "stripes opened",
+        compared.stripes,
+        compared.opening,
+    )?;
+    report_asked(rt, size, what, &compared.asked, compared.planning)?;
+    Ok(compared.differing)
+}
+
+/// The same for insertions and removals.
+fn measure_at_rest<R: Wait + AllocGlobal + Clock + Print>(
+    rt: &R,
+    size: &Size,
+    graph: &Graph,
+    updates: &Updates,
+) -> io::Result<u64> {
+    let added = measure_loosely(
+        rt,
+        size,
+        "insertions planned loosely",
+        graph,
+        &updates.added,
+    )?;
+    let removed = measure_loosely(
+        rt,
+        size,
+        "removals planned loosely",
+        graph,
+        &updates.removed,
+    )?;
+    Ok(added.saturating_add(removed))
 }
 
 /// Whether the first word is `time`.
@@ -136,8 +212,25 @@ fn main(rt: HostRuntime) -> io::Result<()> {
         measure_check(&rt, &size, &graph)?;
     }
     let state = decompose(rt.alloc(), &graph)?;
+    let updates = Updates {
+        added: insertions(rt.alloc(), state.graph(), size.plans)?,
+        removed: removals(rt.alloc(), &edges, size.plans)?,
+    };
+    let mut differing = 0u64;
     for _ in 0..size.rounds {
-        measure_plans(&rt, &size, &edges, &state)?;
+        measure_plans(&rt, &size, &updates, &state)?;
+        let found = measure_at_rest(&rt, &size, &graph, &updates)?;
+        differing = differing.saturating_add(found);
+    }
+    let small = compare_small(&rt)?;
+    println!(rt;
+        "small graphs: {}, updates planned loosely: {}",
+        small.graphs, small.plans
+    )?;
+    differing = differing.saturating_add(small.differing);
+    println!(rt; "loose plans that are no plain ones: {differing}")?;
+    if differing > 0 {
+        return Err(io::ErrorKind::Other.into());
     }
     Ok(())
 }

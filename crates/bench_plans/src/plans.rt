@@ -18,7 +18,7 @@ pub(crate) struct Asked {
 
 impl Asked {
     /// Counts one plan.
-    fn count(&mut self, plan: &Plan) {
+    pub(crate) fn count(&mut self, plan: &Plan) {
         let lists = plan.used.edges.len() as u64;
         self.plans = self.plans.wrapping_add(1);
         self.lists = self.lists.wrapping_add(lists);

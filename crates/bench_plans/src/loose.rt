@@ -1,0 +1,222 @@
+//! Plans over loose views of a table at rest, beside those over a plain view of the state that the table opened with.
+ghost use Rattle.std.specs.Prelude.{◌≡◌, ◌≤◌, ◌<◌, ℕ, OnOk, IfOk, slice_index};
+ghost use Rattle.kc_view.specs.Answers.{nothing_answered};
+
+use crate::plans::Asked;
+use crate::same::is_same;
+use kc_graph::{Graph, Lawful, NoMemory, Plan, Update, decompose};
+use kc_journal::Journal;
+use kc_stripes::{Stripes, open_stripes};
+use kc_table::{Name, Pass, Words, shape};
+use kc_view::{PlainView, PlanFault, Scratch};
+use kc_words::VERTICES;
+use std::alloc::Global;
+use std::io;
+use std::marker::Brand;
+use std::rt::Clock;
+use std::sync::Wait;
+use std::time::{Duration, Instant};
+
+/// What plans over loose views came to.
+#[derive(Clone, Copy, Drop)]
+pub(crate) struct Compared {
+    /// What they asked.
+    pub asked: Asked,
+    /// How many are not those over a plain view.
+    pub differing: u64,
+    /// How many stripes the table has.
+    pub stripes: u64,
+    /// How long the stripes took to open.
+    pub opening: Duration,
+    /// How long the plans took.
+    pub planning: Duration,
+}
+
+/// What a worker plans with: the shared words and stripes of a table, its own pass, and the marks that it lends.
+#[derive(Drop)]
+struct Worker<'a, K: Name> {
+    words: &'a Words,
+    stripes: &'a Stripes<K>,
+    pass: Pass,
+    scratch: Scratch,
+    ghost table: { (words.now ≡ K.table) × (pass.table ≡ K.table) },
+    ghost marks: { scratch ≡ K.table.shape.fixed },
+}
+
+impl<'a, K: Name> Worker<'a, K> {
+    /// A worker on a table, with marks for its vertices.
+    fn new(
+        alloc: Global,
+        words: &'a Words,
+        stripes: &'a Stripes<K>,
+        pass: Pass,
+    ) -> Result<Worker<'a, K>, NoMemory>
+        requires { (words.now ≡ K.table) × (pass.table ≡ K.table) }
+    {
+        let scratch = Scratch::new(alloc, shape(words).fixed)?;
+        Ok(Worker {
+            words,
+            stripes,
+            pass,
+            scratch,
+        })
+    }
+
+    /// The number of vertices.
+    fn vertices(&self) -> u32
+        ensures { result ≡ K.table.shape.fixed }
+    {
+        shape(self.words).fixed
+    }
+
+    /// A plan of an update over a loose view.
+    fn plan<R: Wait>(&mut self, rt: &R, alloc: Global, update: Update) -> Result<Plan, PlanFault>
+        requires { update.v < K.table.shape.fixed }
+    {
+        kc_tries::plan(
+            rt,
+            alloc,
+            self.words,
+            self.stripes,
+            &mut self.pass,
+            &mut self.scratch,
+            update,
+        )
+    }
+
+    /// Plans updates, one after another, and counts what they ask.
+    fn plan_updates<R: Wait>(
+        &mut self,
+        rt: &R,
+        alloc: Global,
+        updates: &[Update],
+    ) -> Result<Asked, PlanFault> {
+        let mut asked = Asked::default();
+        for update in updates {
+            if update.v < self.vertices() {
+                asked.count(&self.plan(rt, alloc, *update)?);
+            }
+        }
+        Ok(asked)
+    }
+
+    /// Whether an update has another plan over a loose view than over a plain one.
+    fn plans_differ<R: Wait>(
+        &mut self,
+        rt: &R,
+        alloc: Global,
+        view: &mut PlainView,
+        update: Update,
+    ) -> Result<bool, PlanFault>
+        requires here { update.v < K.table.shape.fixed }
+        requires vertex { update.v < view.old.state.graph.size }
+        requires fresh { view.old.kept ≡ nothing_answered }
+        ensures { OnOk result (view.new.kept ≡ nothing_answered) }
+    {
+        let plain = plan_plainly(alloc, view, update)?;
+        let loose = self.plan(rt, alloc, update)?;
+        Ok(!is_same(&plain, &loose))
+    }
+
+    /// How many of the updates have another plan over a loose view than over a plain view of the state.
+    fn count_differing<R: Wait>(
+        &mut self,
+        rt: &R,
+        alloc: Global,
+        state: &Lawful,
+        updates: &[Update],
+    ) -> Result<u64, PlanFault> {
+        let mut view = PlainView::new(alloc, state)?;
+        let mut differing = 0u64;
+        for update in updates {
+            if update.v >= self.vertices() || update.v >= view.state().graph().vertices() {
+                continue;
+            }
+            if self.plans_differ(rt, alloc, &mut view, *update)? {
+                differing = differing.wrapping_add(1);
+            }
+        }
+        Ok(differing)
+    }
+}
+
+/// A plan of an update over a plain view, by the planner that it is for.
+fn plan_plainly(alloc: Global, view: &mut PlainView, update: Update) -> Result<Plan, PlanFault>
+    requires vertex { update.v < view.old.state.graph.size }
+    requires fresh { view.old.kept ≡ nothing_answered }
+    ensures { OnOk result (view.new.kept ≡ nothing_answered) }
+{
+    if update.add {
+        kc_insert::plan(alloc, view, update)
+    } else {
+        kc_remove::plan(alloc, view, update)
+    }
+}
+
+/// The error that a fault of a plan is. Nothing changes a table at rest, so a miss is one too.
+fn error_of(fault: PlanFault) -> io::Error {
+    match fault {
+        PlanFault::Miss(_) => io::ErrorKind::Other.into(),
+        PlanFault::NoMemory => NoMemory.into(),
+    }
+}
+
+/// Opens the stripes of a table at rest, and plans the updates over loose views of them and over a plain view of the state.
+fn compare_at_rest<K: Name, R: Wait + AllocGlobal + Clock>(
+    rt: &R,
+    words: &Words,
+    mut pass: Pass,
+    journal: &Journal,
+    state: &Lawful,
+    updates: &[Update],
+) -> io::Result<Compared>
+    requires table { (words.now ≡ K.table) × (pass.table ≡ K.table) × (journal.now.levels.table ≡ K.table) }
+    requires opened { (journal.now.graph ≡ K.opening_edges) × (journal.now.edge_stamps ≡ K.opening_stamps) }
+    requires early { (v : ℕ) → v < journal.now.graph.size → slice_index journal.now.edge_stamps v ≤ K.table.shape.base }
+{
+    let alloc = rt.alloc();
+    journal.look();
+    let start = Instant::now(rt)?;
+    let stripes = open_stripes(
+        alloc,
+        words,
+        &mut pass,
+        journal.graph(),
+        journal.edge_stamps(),
+    )?;
+    let opening = start.elapsed(rt)?;
+    let count = stripes.len() as u64;
+    let Ok(stripes) = Stripes::<K>::new(alloc, stripes) else {
+        return Err(NoMemory.into());
+    };
+    let mut worker = Worker::new(alloc, words, &stripes, pass)?;
+    let start = Instant::now(rt)?;
+    let asked = worker.plan_updates(rt, alloc, updates).map_err(error_of)?;
+    let planning = start.elapsed(rt)?;
+    let differing = worker
+        .count_differing(rt, alloc, state, updates)
+        .map_err(error_of)?;
+    Ok(Compared {
+        asked,
+        differing,
+        stripes: count,
+        opening,
+        planning,
+    })
+}
+
+/// Opens a table in the state of a graph, and plans the updates over loose views of it and over a plain view of the state, each in that
+/// state. A graph of more vertices than a table has is an error.
+pub(crate) fn compare<R: Wait + AllocGlobal + Clock>(
+    rt: &R,
+    graph: &Graph,
+    updates: &[Update],
+) -> io::Result<Compared> {
+    if graph.vertices() > VERTICES {
+        return Err(io::ErrorKind::InvalidInput.into());
+    }
+    let alloc = rt.alloc();
+    let state = decompose(alloc, graph)?;
+    let (words, journal, pass) = Journal::open(alloc, decompose(alloc, graph)?, 0)?;
+    compare_at_rest::<Brand, R>(rt, &words, pass, &journal, &state, updates)
+}
