@@ -51,7 +51,17 @@ times_more y a b le =
 
 -- at a queue that is open and empty, its first consumer has all parts
 pub begins : Dealt [] (hand PARTS 0 [] ∷ [])
-begins = (0, 0, record { parts = omega arith; held = refl; taken = λ x. refl; agree = λ port v e some. known port v e; idle = λ port v e none. nothing port v e })
+begins = (
+  0,
+  0,
+  record {
+    parts = omega arith;
+    held = refl;
+    taken = λ x. refl;
+    agree = λ port v e some. known port v e;
+    idle = λ port v e none. nothing port v e;
+  },
+)
   where
     known : (port : ℕ) (v : Hand) → get_elem? (hand PARTS 0 [] ∷ []) port ≡ some v → v.filled ≡ 0 + 0
     known zero v e = sym (ap (λ (u : Hand). u.filled) (some-injective _ _ e))

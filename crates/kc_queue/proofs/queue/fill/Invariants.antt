@@ -1,3 +1,4 @@
+-- As many numbers are put as there were turns, and nothing is taken.
 use Rattle.std.proofs.Common.{◌≡◌, []}
 use Rattle.crossbeam_queue.specs.Passes.{view, IsPassOf}
 use Rattle.kc_queue.specs.declared.consumer.TheConstants.{PARTS}

@@ -1,3 +1,4 @@
+-- The parts of all are kept, and what was told is what was taken, in the same order.
 use Rattle.std.proofs.Common.{◌≡◌, ◌+◌, vec_len}
 use Rattle.kc_queue.proofs.tests.gather.Given as goal
 

@@ -1,3 +1,4 @@
+-- Each turn hires one worker, for one of the parts.
 use Rattle.std.proofs.Common.{◌≡◌, ◌+◌, ◌≤◌, vec_len}
 use Rattle.kc_queue.proofs.tests.hire.Given as goal
 

@@ -1,3 +1,4 @@
+-- The consumer keeps all parts, and has taken what was told.
 use Rattle.std.proofs.Common.{◌≡◌}
 use Rattle.kc_queue.specs.declared.consumer.TheConstants.{PARTS}
 use Rattle.kc_queue.proofs.tests.take_rest.Given as goal

@@ -1,3 +1,4 @@
+-- The queue that the workers name is the one that is handed in.
 use Rattle.kc_queue.proofs.tests.workers_take_each_number_once.Given as goal
 
 abbrev pub ghosts-share_out : goal.ghosts-share_out
