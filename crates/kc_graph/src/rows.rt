@@ -169,6 +169,18 @@ impl Rows {
         Ok(copies)
     }
 
+    /// Rows with the numbers of these lists, all in one block.
+    pub(crate) fn of_lists(alloc: Global, lists: &[Neighbours]) -> Result<Rows, NoMemory>
+        ensures { IfOk result (λ rows. rows ≡ lists.now) }
+    {
+        let rows = Vec::with_capacity(alloc, lists.len())?;
+        let mut copies = Rows::new(Vec::new(alloc), rows);
+        for list in lists {
+            copies.push(list.as_slice())?;
+        }
+        Ok(copies)
+    }
+
     /// The rows as counted lists. Those that lie in the block share it, and are not copied. Where there is no memory, the rows are dropped.
     pub(crate) fn into_lists(self) -> Result<Vec<Neighbours>, NoMemory>
         ensures { IfOk result (λ lists. lists.items ≡ self) }

@@ -15,6 +15,7 @@ use crate::NoMemory;
 use crate::ascending::{delete_from, insert_into, place_in};
 use crate::graph::Graph;
 use crate::neighbours::Neighbours;
+use crate::rows::Rows;
 use crate::update::Update;
 use std::alloc::Global;
 use std::marker::Model;
@@ -71,6 +72,15 @@ impl SharedGraph {
         let edges = graph.edges();
         let rows = graph.into_lists()?;
         Ok(SharedGraph { rows, edges })
+    }
+
+    /// The same graph, with all its lists copied into one block, so that it shares none with this one. `NoMemory` comes where there is none
+    /// for the copy.
+    pub fn to_graph(&self, alloc: Global) -> Result<Graph, NoMemory>
+        ensures { IfOk result (λ graph. graph ≡ self.now) }
+    {
+        let rows = Rows::of_lists(alloc, &self.rows)?;
+        Ok(Graph::from_rows(rows))
     }
 
     /// How many vertices there are: they are the numbers below this.
