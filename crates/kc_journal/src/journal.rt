@@ -68,7 +68,7 @@ impl Model for Journal {
 impl Journal {
     ghost use Rattle.kc_journal.specs.Answers.{IsAdmitted, IsCause, IsEntered};
     ghost use Rattle.kc_journal.specs.Entering.{MayEnter, WasReadOf};
-    ghost use Rattle.kc_journal.specs.Journals.{IsFreshTable, MayGoOn, OpensRun, Renews, Stands, all_seen, fresh_pass};
+    ghost use Rattle.kc_journal.specs.Journals.{IsFreshTable, MayGoOn, OpensRun, Renews, Stands, all_seen, fresh_pass, ranked};
 
     /// The journal of a new run, on a fresh table with this version. It has no entries, and all stamps are 0. `NoMemory` comes where there
     /// is none for the table and the stamps; `lawful` is then dropped. The graph is not copied.
@@ -128,6 +128,14 @@ impl Journal {
         self.levels.level_of(v)
     }
 
+    /// The core number of each vertex, indexed by the vertex.
+    pub fn core_numbers(&self) -> &[u32]
+        ensures core { result.now ≡ self.now.levels.core }
+        ensures seidman { AreCoreNumbers self.now.graph self.now.levels.core }
+    {
+        self.levels.core()
+    }
+
     /// The number of the last entry that changed the edges of a vertex, or 0.
     pub fn edge_stamp(&self, v: u32) -> u32
         requires { v < size_of self.now.levels }
@@ -166,6 +174,17 @@ impl Journal {
         ensures { IfOk result (λ order. order.items ≡ self.now.levels.order) }
     {
         order_of(alloc, &self.levels)
+    }
+
+    /// Graph, core numbers and order as a `Lawful` of its own, which shares no list with the journal. `NoMemory` comes where there is none
+    /// for the copies.
+    pub fn to_lawful(&self, alloc: Global) -> Result<Lawful, NoMemory>
+        ensures { IfOk result (λ lawful. lawful ≡ ranked self.now) }
+    {
+        let graph = self.graph.to_graph(alloc)?;
+        let core = Vec::from_slice(alloc, self.levels.core())?;
+        let order = order_of(alloc, &self.levels)?;
+        Lawful::new(alloc, graph, core, order)
     }
 
     /// The greatest core number, 0 where there is no vertex.
