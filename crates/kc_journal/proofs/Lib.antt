@@ -3,6 +3,7 @@ pub mod Beginning
 pub mod Comparing
 pub mod Entering
 pub mod Holding
+pub mod Later
 pub mod Making
 pub mod Opening
 pub mod Putting

@@ -16,6 +16,8 @@ mod journal;
 pub mod laws;
 mod planning;
 mod renewal;
+#[cfg(test)]
+mod tests;
 
 pub use answer::{EnterFault, Entered, Receipt};
 pub use held::{Held, Of};

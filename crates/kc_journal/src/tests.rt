@@ -1,0 +1,375 @@
+//! Updates of small graphs, worked out by hand: each is planned over a journal that is held, and entered in it.
+ghost use Rattle.std.specs.Prelude.{◌≡◌, ◌<◌, ◌≤◌, IfOk};
+ghost use Rattle.kc_levels.specs.Levels.{size_of};
+ghost use Rattle.kc_journal.specs.Entering.{MayEnter};
+
+use crate::{EnterFault, Entered, Journal, Receipt, plan_held};
+use kc_cert::{check, local_check};
+use kc_graph::{Graph, Lawful, Moves, NoMemory, Plan, Update};
+use kc_table::{Entry, Pass, Words};
+use kc_view::Scratch;
+use kc_words::{INDICES, LAST_VERSION, VERTICES};
+use std::alloc::Global;
+use std::process::Abort;
+use std::test::Fail;
+
+/// A graph to begin with, by its edges, and its core numbers and order.
+#[derive(Clone, Copy)]
+struct Start<'a> {
+    edges: &'a [(u32, u32)],
+    core: &'a [u32],
+    order: &'a [u32],
+}
+
+/// The moves that a plan is to have.
+#[derive(Clone, Copy)]
+enum Wanted<'a> {
+    Plain,
+    Rise {
+        level: u32,
+        rise: &'a [u32],
+        shifts: &'a [(u32, u32)],
+    },
+    Fall {
+        level: u32,
+        fall: &'a [u32],
+    },
+}
+
+/// An update of a graph, the moves of its plan, and the core numbers and the order after it.
+#[derive(Clone, Copy)]
+struct Row<'a> {
+    start: Start<'a>,
+    add: bool,
+    ends: (u32, u32),
+    moves: Wanted<'a>,
+    core: &'a [u32],
+    order: &'a [u32],
+}
+
+/// Two edges.
+const EDGES: Start = Start {
+    edges: &[(0, 1), (2, 3)],
+    core: &[1, 1, 1, 1],
+    order: &[0, 1, 2, 3],
+};
+
+/// A path of four vertices.
+const PATH: Start = Start {
+    edges: &[(0, 1), (1, 2), (2, 3)],
+    core: &[1, 1, 1, 1],
+    order: &[0, 1, 2, 3],
+};
+
+/// All edges among four vertices.
+const CLIQUE: Start = Start {
+    edges: &[(0, 1), (0, 2), (0, 3), (1, 2), (1, 3), (2, 3)],
+    core: &[3, 3, 3, 3],
+    order: &[0, 1, 2, 3],
+};
+
+/// A triangle, and a vertex alone.
+const TRIANGLE: Start = Start {
+    edges: &[(0, 1), (1, 2), (0, 2)],
+    core: &[2, 2, 2, 0],
+    order: &[3, 0, 1, 2],
+};
+
+const ROWS: [Row; 6] = [
+    Row {
+        start: EDGES,
+        add: true,
+        ends: (0, 2),
+        moves: Wanted::Rise {
+            level: 1,
+            rise: &[],
+            shifts: &[(0, 1)],
+        },
+        core: &[1, 1, 1, 1],
+        order: &[1, 0, 2, 3],
+    },
+    Row {
+        start: PATH,
+        add: true,
+        ends: (0, 3),
+        moves: Wanted::Rise {
+            level: 1,
+            rise: &[0, 1, 2, 3],
+            shifts: &[],
+        },
+        core: &[2, 2, 2, 2],
+        order: &[0, 1, 2, 3],
+    },
+    Row {
+        start: CLIQUE,
+        add: false,
+        ends: (0, 1),
+        moves: Wanted::Fall {
+            level: 3,
+            fall: &[0, 1, 2, 3],
+        },
+        core: &[2, 2, 2, 2],
+        order: &[0, 1, 2, 3],
+    },
+    Row {
+        start: PATH,
+        add: false,
+        ends: (1, 2),
+        moves: Wanted::Plain,
+        core: &[1, 1, 1, 1],
+        order: &[0, 1, 2, 3],
+    },
+    Row {
+        start: PATH,
+        add: false,
+        ends: (0, 1),
+        moves: Wanted::Fall {
+            level: 1,
+            fall: &[0],
+        },
+        core: &[0, 1, 1, 1],
+        order: &[0, 1, 2, 3],
+    },
+    Row {
+        start: TRIANGLE,
+        add: true,
+        ends: (0, 3),
+        moves: Wanted::Rise {
+            level: 0,
+            rise: &[3],
+            shifts: &[],
+        },
+        core: &[2, 2, 2, 1],
+        order: &[3, 0, 1, 2],
+    },
+];
+
+/// The graph of a start, with its core numbers and its order.
+fn state_of<R: Abort + AllocGlobal>(rt: &R, start: Start) -> Result<Lawful, Fail>
+    ensures { IfOk result (λ lawful. lawful.graph.size ≤ VERTICES) }
+{
+    assert!(rt; start.core.len() <= VERTICES as usize);
+    let mut graph = Graph::new(rt.alloc(), start.core.len() as u32)?;
+    for (u, v) in start.edges {
+        assert!(rt; *u != *v && *u < graph.vertices() && *v < graph.vertices());
+        graph.add(*u, *v)?;
+    }
+    let core = Vec::from_slice(rt.alloc(), start.core)?;
+    let order = Vec::from_slice(rt.alloc(), start.order)?;
+    assert!(rt; check(rt.alloc(), &graph, &core, &order)?);
+    assert!(rt; graph.vertices() <= VERTICES);
+    Ok(Lawful::new(rt.alloc(), graph, core, order)?)
+}
+
+/// A journal with the words and a pass of its table.
+#[derive(Drop)]
+struct Run {
+    words: Words,
+    journal: Journal,
+    pass: Pass,
+    ghost told: { pass.table ≡ words },
+    ghost table: { journal.levels.table ≡ words },
+}
+
+impl Run {
+    /// A run that begins so, in a table with this version.
+    fn open<R: Abort + AllocGlobal>(rt: &R, start: Start, version: u32) -> Result<Run, Fail>
+        requires { version ≤ LAST_VERSION }
+    {
+        let state = state_of(rt, start)?;
+        let (words, journal, pass) = Journal::open(rt.alloc(), state, version)?;
+        Ok(Run {
+            words,
+            journal,
+            pass,
+        })
+    }
+
+    /// The plan of an update.
+    fn plan<R: Abort + AllocGlobal>(&self, rt: &R, update: Update) -> Result<Plan, Fail>
+        ensures { IfOk result (MayEnter self.now.journal) }
+    {
+        let vertices = self.journal.vertices();
+        assert!(rt; update.v < vertices);
+        let scratch = Scratch::new(rt.alloc(), vertices)?;
+        let (planned, _) = plan_held(rt.alloc(), &self.journal, scratch, update);
+        Ok(planned?)
+    }
+
+    /// Enters the update of a plan. Whatever comes of it, a plan that might be entered may still be.
+    fn enter(&mut self, index: u32, plan: &Plan) -> Result<Entered, EnterFault>
+        requires index { index < INDICES }
+        requires may { MayEnter self.old.journal plan.now }
+        ensures { (other : Plan) → MayEnter self.old.journal other → MayEnter self.new.journal other }
+    {
+        self.journal.enter(&self.words, &mut self.pass, index, plan)
+    }
+
+    /// Goes on in a fresh table.
+    fn renew<R: AllocGlobal>(&mut self, rt: &R) -> Result<(), Fail> {
+        let (words, pass) = self.journal.renew(rt.alloc(), 0)?;
+        self.words = words;
+        self.pass = pass;
+        Ok(())
+    }
+}
+
+/// Whether the moves put vertices behind others and let vertices of this level rise.
+fn is_rise(moves: &Moves, of: u32, risen: &[u32], shifted: &[(u32, u32)]) -> bool {
+    match moves {
+        Moves::Rise {
+            level,
+            rise,
+            shifts,
+        } => *level == of && rise.as_slice() == risen && shifts.as_slice() == shifted,
+        _ => false,
+    }
+}
+
+/// Whether the moves let vertices of this level fall.
+fn is_fall(moves: &Moves, of: u32, fallen: &[u32]) -> bool {
+    match moves {
+        Moves::Fall { level, fall } => *level == of && fall.as_slice() == fallen,
+        _ => false,
+    }
+}
+
+/// Whether the moves are these.
+fn are_moves(moves: &Moves, wanted: Wanted) -> bool {
+    match wanted {
+        Wanted::Plain => matches!(moves, Moves::Plain),
+        Wanted::Rise {
+            level,
+            rise,
+            shifts,
+        } => is_rise(moves, level, rise, shifts),
+        Wanted::Fall { level, fall } => is_fall(moves, level, fall),
+    }
+}
+
+/// Whether the vertices have these core numbers, of which `top` is the greatest.
+fn have_numbers(journal: &Journal, core: &[u32]) -> bool {
+    let mut same = core.len() == journal.vertices() as usize;
+    for v in 0..journal.vertices() {
+        same = same && core.get(v as usize) == Some(&journal.core(v));
+    }
+    same && core.iter().copied().max() == Some(journal.top())
+}
+
+/// Whether the vertices have these core numbers and stand in this order.
+fn stand(alloc: Global, journal: &Journal, core: &[u32], order: &[u32]) -> Result<bool, NoMemory> {
+    let stands = journal.order(alloc)?;
+    Ok(have_numbers(journal, core) && stands.as_slice() == order)
+}
+
+/// An update of two vertices.
+fn update_of(add: bool, ends: (u32, u32)) -> Update
+    requires { ends.0 < ends.1 }
+{
+    Update {
+        add,
+        u: ends.0,
+        v: ends.1,
+    }
+}
+
+/// The update of a row is planned and entered.
+fn enter_row<R: Abort + AllocGlobal>(rt: &R, row: &Row) -> Result<(), Fail> {
+    assert!(rt; row.ends.0 < row.ends.1);
+    let mut run = Run::open(rt, row.start, 0)?;
+    let plan = run.plan(rt, update_of(row.add, row.ends))?;
+    assert!(rt; are_moves(&plan.moves, row.moves));
+    assert!(rt; local_check(rt.alloc(), &run.journal, &plan)?);
+    let entered = run.enter(7, &plan)?;
+    assert!(rt; is_first(&entered));
+    assert!(rt; stand(rt.alloc(), &run.journal, row.core, row.order)?);
+    Ok(())
+}
+
+/// Whether the entry of the update with index 7 is the first, and changed the graph.
+fn is_first(entered: &Entered) -> bool {
+    let receipt = Receipt {
+        index: 7,
+        place: 1,
+        applied: true,
+    };
+    entered.receipt == receipt && entered.lists.is_some()
+}
+
+#[test]
+fn updates_are_planned_and_entered(rt: HostRuntime) -> Result<(), Fail> {
+    for row in &ROWS {
+        enter_row(&rt, row)?;
+    }
+    Ok(())
+}
+
+/// The journal is that of two edges of which the first is gone.
+fn assert_parted<R: Abort + AllocGlobal>(rt: &R, journal: &Journal) -> Result<(), Fail> {
+    let entry = Entry {
+        index: 0,
+        add: false,
+        u: 0,
+        v: 1,
+    };
+    assert!(rt; stand(rt.alloc(), journal, &[0, 0, 1, 1], &[0, 1, 2, 3])?);
+    assert!(rt; journal.edge_stamps().as_slice() == [1, 1, 0, 0].as_slice());
+    assert!(rt; journal.entries() == [entry].as_slice());
+    Ok(())
+}
+
+/// A plan has read an edge that is gone when it is entered.
+#[test]
+fn a_plan_is_stale(rt: HostRuntime) -> Result<(), Fail> {
+    let mut run = Run::open(&rt, EDGES, 0)?;
+    let late = run.plan(&rt, update_of(true, (0, 2)))?;
+    let early = run.plan(&rt, update_of(false, (0, 1)))?;
+    assert!(rt; run.enter(0, &early)?.receipt.applied);
+    let stale = EnterFault::Stale {
+        vertex: 0,
+        edges: true,
+        used: 0,
+        now: 1,
+    };
+    assert_eq!(rt; run.enter(1, &late).err(), Some(stale));
+    assert_parted(&rt, &run.journal)
+}
+
+/// A run of the path with as few versions as can be, where the edge in the middle is gone.
+fn nearly_spent<R: Abort + AllocGlobal>(rt: &R) -> Result<Run, Fail> {
+    let mut run = Run::open(rt, PATH, LAST_VERSION - 1)?;
+    let plan = run.plan(rt, update_of(false, (1, 2)))?;
+    assert!(rt; run.enter(4, &plan)?.receipt.place == 1);
+    Ok(run)
+}
+
+/// The versions do not last for a move.
+fn assert_spent<R: Abort + AllocGlobal>(rt: &R, run: &mut Run) -> Result<(), Fail> {
+    let plan = run.plan(rt, update_of(true, (0, 2)))?;
+    let spent = EnterFault::Spent {
+        highest: LAST_VERSION - 1,
+        needed: 3,
+    };
+    assert_eq!(rt; run.enter(5, &plan).err(), Some(spent));
+    Ok(())
+}
+
+/// The move is made.
+fn assert_moved<R: Abort + AllocGlobal>(rt: &R, run: &mut Run) -> Result<(), Fail> {
+    let plan = run.plan(rt, update_of(true, (0, 2)))?;
+    assert!(rt; run.enter(5, &plan)?.receipt.place == 2);
+    assert!(rt; run.journal.edge_stamps().as_slice() == [2, 1, 2, 0].as_slice());
+    assert!(rt; stand(rt.alloc(), &run.journal, &[1, 1, 1, 1], &[1, 0, 2, 3])?);
+    Ok(())
+}
+
+/// The versions of a table are spent after an entry. The journal goes on as it was in a fresh table, which has versions again.
+#[test]
+fn a_fresh_table_has_versions_again(rt: HostRuntime) -> Result<(), Fail> {
+    let mut run = nearly_spent(&rt)?;
+    assert_spent(&rt, &mut run)?;
+    run.renew(&rt)?;
+    assert!(rt; run.journal.edge_stamps().as_slice() == [0, 1, 1, 0].as_slice());
+    assert!(rt; stand(rt.alloc(), &run.journal, &[1, 1, 1, 1], &[0, 1, 2, 3])?);
+    assert_moved(&rt, &mut run)
+}
