@@ -1,11 +1,10 @@
 -- A stale stamp: where it stands in the plan, and what has made it so.
-use Rattle.std.proofs.Common.{◌≡◌, ℕ, ◌+◌, ◌<◌, ◌≤◌, ◌⊎◌, Bool, true, false, List, [], ◌∷◌, ◌++◌, length, get_or, refl, sym, ap, ◌∙◌, subst, inl, inr, arith}
+use Rattle.std.proofs.Common.{◌≡◌, ℕ, ◌<◌, ◌≤◌, ◌⊎◌, Bool, true, false, List, [], ◌∷◌, ◌++◌, get_or, refl, sym, ap, ◌∙◌, subst, inl, inr, arith}
 use Rattle.std.proofs.lemmas.Bool.{true≢false, false≢true, cases_lt}
 use mathlib.Core.List.{IsPrefix}
 use Rattle.kc_distinct.specs.Lists.{member}
 use Rattle.kc_graph.specs.declared.plan.Plan.{Plan}
 use Rattle.kc_graph.specs.declared.used.UsedEdges.{UsedEdges}
-use Rattle.kc_graph.specs.declared.used.UsedPlace.{UsedPlace}
 use Rattle.kc_view.specs.Answers.{Answers, answers_in}
 use Rattle.kc_table.specs.declared.view.Event.{Event}
 use Rattle.kc_table.specs.Legal.{Legal}
@@ -16,20 +15,20 @@ use Rattle.kc_table.proofs.Putting.{puts_in-late}
 use Rattle.kc_table.proofs.Stamps.{stamps-rise}
 use Rattle.kc_agree.specs.Reads.{WasList, WasPlace}
 use Rattle.kc_agree.specs.Stale.{IsFirstStale}
-use Rattle.kc_agree.specs.Stamps.{IsLastChange, made_by, number_of, place_stamp}
+use Rattle.kc_agree.specs.Stamps.{number_of, place_stamp}
 use Rattle.kc_agree.specs.declared.stale.Stale.{Stale}
 use Rattle.kc_agree.proofs.Sectioning.{sealed_since}
 use Rattle.kc_levels.specs.Levels.{size_of}
 use Rattle.kc_journal.specs.Answers.{IsStale}
 use Rattle.kc_journal.specs.Entering.{MayEnter}
-use Rattle.kc_journal.specs.Journals.{Journalled, Stands, WasLastPut, WasNotPut}
+use Rattle.kc_journal.specs.Journals.{Journalled, Stands}
 use Rattle.kc_journal.specs.Sections.{section_puts}
 use Rattle.kc_journal.proofs.Standing.{at-rest}
 use Rattle.kc_journal.proofs.Telling.{middle, stale-list, stale-place}
 use Rattle.kc_stripes.specs.Reads.{HadPlace, WereReadSince}
 use Rattle.kc_stripes.specs.Records.{Opened}
 use Rattle.kc_shared.specs.Answers.{HasMade, IsOutdated, WasUsed, opening_stamp}
-use Rattle.kc_shared.specs.Misses.{IsTrueMiss, WasChanged, WasPut}
+use Rattle.kc_shared.specs.Misses.{IsTrueMiss}
 use Rattle.kc_shared.specs.States.{opened_by}
 use Rattle.kc_shared.specs.declared.missed.Missed.TheVariants as missed
 

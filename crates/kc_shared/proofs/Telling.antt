@@ -1,5 +1,5 @@
 -- What the journal behind the lock answers, said of what a pass has seen.
-use Rattle.std.proofs.Common.{◌≡◌, ℕ, ◌+◌, ◌<◌, ◌≤◌, ◌⊎◌, Bool, true, false, List, [], ◌∷◌, ◌++◌, length, refl, sym, ap, ◌∙◌, subst, inl, inr, arith, append-nil, length-append}
+use Rattle.std.proofs.Common.{◌≡◌, ℕ, ◌+◌, ◌<◌, ◌≤◌, Bool, List, [], ◌∷◌, length, sym, ap, ◌∙◌, subst, inl, inr, arith, append-nil, length-append}
 use Rattle.std.specs.Prelude.{Option, Some, None}
 use mathlib.Core.List.{IsPrefix}
 use Rattle.kc_distinct.proofs.Members.{below_bound}
@@ -19,7 +19,6 @@ use Rattle.kc_table.proofs.Prefixes.{prefix_trans}
 use Rattle.kc_table.proofs.Stamps.{number-grows}
 use Rattle.kc_agree.specs.Reads.{From, WasList}
 use Rattle.kc_agree.specs.Stamps.{changes_graph, made_by, number_of}
-use Rattle.kc_agree.specs.declared.stale.Stale.{Stale}
 use Rattle.kc_levels.specs.Levels.{size_of}
 use Rattle.kc_journal.specs.Answers.{AreToPublish, IsCause, IsEntered}
 use Rattle.kc_journal.specs.Entering.{IsCurrent, MayEnter, WasReadOf, entry_of}
@@ -31,7 +30,7 @@ use Rattle.kc_journal.specs.declared.answer.Receipt.{Receipt}
 use Rattle.kc_journal.proofs.Standing.{moved-within, number-is, right-here, size-is}
 use Rattle.kc_journal.proofs.Telling.{here-next, may-tell, not-stale}
 use Rattle.kc_stripes.specs.Records.{Opened}
-use Rattle.kc_shared.specs.Answers.{HasCause, IsNotStale, IsReceipt, IsToldEntry, MayBeToldIf, WasReadBehind, told_fault}
+use Rattle.kc_shared.specs.Answers.{HasCause, IsNotStale, IsToldEntry, MayBeToldIf, WasReadBehind, told_fault}
 use Rattle.kc_shared.specs.declared.fault.SharedFault.{SharedFault}
 use Rattle.kc_shared.specs.States.{AreParts, Booked, GoesOn, Parted, opened_by}
 use Rattle.kc_shared.proofs.Outdating.{outdated}
@@ -66,14 +65,34 @@ pub begins : {o : Opened} {started : SimpleGraph} {log : List Event} {entries : 
     → GoesOn o started log entries (record { journal = self.journal; total = total })
 begins {o} {started} {log} {entries} {self} {now} {total} is are words opened stamps start log-is entries-are none =
     let all : self.journal.entries ≡ entries = ap (λ (p : Parted). p.journal.entries) is ∙ entries-are in
+    let stored : self.journal.levels.log ≡ log = ap (λ (p : Parted). p.journal.levels.log) is ∙ log-is in
     record {
       table = are.table ∙ (ap (λ (p : Parted). p.words) is ∙ words);
       opened = ap (λ (p : Parted). p.journal.opened) is ∙ opened;
       opening_stamps = ap (λ (p : Parted). p.journal.opening_stamps) is ∙ stamps;
       started_so = ap (λ (p : Parted). p.journal.started) is ∙ start;
-      log_goes_on = ([], append-nil log ∙ sym (ap (λ (p : Parted). p.journal.levels.log) is ∙ log-is));
+      log_goes_on = ([], append-nil log ∙ sym stored);
       entries_go_on = ([], append-nil entries ∙ sym all);
       counted = omega (arith, none, ap (λ (es : List Entry). length es) all);
+      quiet = λ still. stored;
+    }
+
+-- the journal after an entry, which the book has counted
+pub goes-on : {o : Opened} {started : SimpleGraph} {log : List Event} {entries : List Entry} {self : Booked} {told new : Journalled} {total : ℕ}
+    {index : ℕ} {plan : Plan} {entered : Entered} → GoesOn o started log entries self → told ≡ self.journal
+    → IsEntered told new index plan entered → total ≡ self.total + 1 → GoesOn o started log entries (record { journal = new; total = total })
+goes-on {o} {started} {log} {entries} {self} {told} {new} {total} {index} {plan} {entered} on same is-entered one-more =
+    let e : IsEntered self.journal new index plan entered = subst (λ (j : Journalled). IsEntered j new index plan entered) same is-entered in
+    let x : Entry = entry_of index plan.update in
+    record {
+      table = e.table ∙ on.table;
+      opened = e.opened ∙ on.opened;
+      opening_stamps = e.opening_stamps ∙ on.opening_stamps;
+      started_so = e.started ∙ on.started_so;
+      log_goes_on = prefix_trans log self.journal.levels.log new.levels.log on.log_goes_on e.longer;
+      entries_go_on = prefix_trans entries self.journal.entries new.entries on.entries_go_on (x ∷ [], sym e.entries);
+      counted = omega (arith, on.counted, one-more, ap (λ (es : List Entry). length es) e.entries, length-append self.journal.entries (x ∷ []));
+      quiet = λ none. absurd (omega (arith, none, one-more));
     }
 
 -- An entry. ----------------------------------------------------------------------------------------------

@@ -11,8 +11,7 @@ use Rattle.kc_words.specs.declared.layout.TheConstants.{LAST_VERSION}
 use Rattle.kc_table.specs.declared.entry.Entry.{Entry}
 use Rattle.kc_table.specs.declared.view.Event.{Event}
 use Rattle.kc_table.specs.Edges.{after_entries}
-use Rattle.kc_table.specs.Legal.{Legal}
-use Rattle.kc_table.specs.Log.{PassSeen, TableName}
+use Rattle.kc_table.specs.Log.{TableName}
 use Rattle.kc_order.specs.Writers.{IsHighest}
 use Rattle.kc_agree.specs.Reads.{From, WasList}
 use Rattle.kc_agree.specs.Stamps.{IsLastChange, changes_graph, made_by, number_of, place_stamp}

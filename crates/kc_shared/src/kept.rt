@@ -21,7 +21,7 @@ use std::sync::ledger::{Book, Ledger, Share};
 /// The journal of K's table, with a book that counts its entries since K.
 ///
 /// By its type the journal is of K's table, with K's opening edges, opening edge stamps and start edges; its log and its entries extend
-/// K's; and the book's total is the number of the entries made since.
+/// K's; and the book's total is the number of the entries made since. Where there were none, nothing was stored.
 #[derive(Drop)]
 pub struct Kept<K: Name + Ledger> {
     journal: Journal,

@@ -1,9 +1,10 @@
 //! The state of a run while no worker runs.
-ghost use Rattle.std.specs.Prelude.{◌≡◌, ◌<◌, ◌≤◌, All, IfOk, OnErr, vec_len};
+ghost use Rattle.std.specs.Prelude.{◌≡◌, ◌<◌, ◌≤◌, All, IfErr, IfOk, OnErr, vec_len};
 ghost use mathlib.Core.List.{IsPrefix};
-ghost use Rattle.kc_journal.specs.Journals.{OpensRun, Renews, all_seen, fresh_pass};
+ghost use Rattle.kc_journal.specs.Journals.{OpensRun, Renews, all_seen, fresh_pass, ranked};
 ghost use Rattle.kc_shared.specs.States.{AreParts};
 
+use crate::close_fault::CloseFault;
 use crate::renewal::{fresh_passes, tell_all};
 use kc_graph::{Lawful, NoMemory};
 use kc_journal::Journal;
@@ -97,5 +98,20 @@ impl Parts {
         self.words = words;
         self.stripes = stripes;
         Ok(last)
+    }
+
+    /// Ends the run. The answer has the graph, the core numbers and the order of the journal; words, stripes and passes are let go. The
+    /// error is want of memory, and gives all back untouched.
+    pub fn close(self, alloc: Global, passes: Vec<Pass>) -> Result<Lawful, CloseFault>
+        ensures state { IfOk result (λ lawful. lawful ≡ ranked self.journal) }
+        ensures same { IfErr result (λ fault. (fault.parts ≡ self) × (fault.passes ≡ passes)) }
+    {
+        match self.journal.to_lawful(alloc) {
+            Ok(lawful) => Ok(lawful),
+            Err(NoMemory) => Err(CloseFault {
+                parts: self,
+                passes,
+            }),
+        }
     }
 }
