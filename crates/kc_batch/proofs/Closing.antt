@@ -1,0 +1,525 @@
+-- How a batch begins, what is given out between two rounds, and what it has come to at its end.
+use Rattle.std.proofs.Common.{◌≡◌, inl, inr, ℕ, ◌+◌, ◌<◌, ◌≤◌, List, [], ◌∷◌, ◌++◌, All, Contains, get_or, length, map, take, sum_by, refl, sym, ap}
+use Rattle.std.proofs.Common.{◌∙◌, subst, arith, append_assoc, append-nil, length-append}
+use Rattle.std.specs.List.{flat_map}
+use Rattle.std.proofs.lemmas.Bool.{cases_lt, true≢false}
+use Rattle.std.proofs.Math.Seq.{drop-append_seam}
+use Rattle.std.proofs.lemmas.List.{flat_map_more, get_or_append_left, get_or_default, get_or_push, length-map, map-append, take_all, take_more}
+use Rattle.std.proofs.lemmas.List.Elements.{All-append, All-cons, All-contains, All-contains_itself, All-drop, All-head, All-map, All-nil, All-push}
+use Rattle.std.proofs.lemmas.List.Elements.{All-tail, All-weaker, Contains-append_left, Contains-append_right}
+use Rattle.std.proofs.lemmas.List.Folds.{flat_map-map}
+use Rattle.std.proofs.lemmas.List.Sums.{get_or-le-sum_by, sum_by-append, sum_by-cons}
+use Rattle.kc_distinct.proofs.Members.{member-head}
+use Rattle.kc_distinct.proofs.Shared.{All-front}
+use Rattle.kc_graph.specs.declared.update.Update.{Update}
+use Rattle.kc_table.specs.declared.view.Event.{Event}
+use Rattle.kc_table.specs.Log.{PassSeen, Seen, TableName}
+use Rattle.kc_journal.specs.Journals.{Journalled, Renews, Stands, all_seen, fresh_pass}
+use Rattle.kc_journal.proofs.Standing.{size-is}
+use Rattle.kc_journal.specs.declared.answer.Receipt.{Receipt}
+use Rattle.kc_queue.specs.Shares.{Consuming, Filled, IsShare, IsWhole}
+use Rattle.kc_queue.specs.declared.consumer.TheConstants.{PARTS}
+use Rattle.kc_queue.proofs.Counts.{member_times, times_member}
+use Rattle.kc_stripes.specs.Records.{Opened, opened_with}
+use Rattle.kc_shared.specs.States.{Parted, opened_by}
+use Rattle.kc_shared.specs.declared.shared.TheConstants.{MISSES}
+use Rattle.kc_workers.specs.declared.done.Done.{Done}
+use Rattle.kc_workers.specs.declared.share.Share.{Share}
+use Rattle.kc_batch.specs.Batches.{Account, Gives, IsCrew, IsCutShort, IsDone, IsStanding, MayGoOn, SomeKeeps, done_in, receipts_in}
+use Rattle.kc_batch.specs.Desks.{Desked, KeepsOneOf, Work, all_done, all_receipts, at_places, in_hand, receipts_of, times, times_had, untold}
+use Rattle.kc_batch.specs.Receipts.{AreAllOf, IsReceiptOf, told_indices}
+use Rattle.kc_batch.specs.Runs.{IsNearlySpent, IsRenewal, StaysIn}
+use Rattle.kc_batch.specs.Seats.{HasTrueMisses, KeepsIfSpent, Rounds, backward}
+use Rattle.kc_batch.specs.declared.done.BatchDone.{BatchDone}
+use Rattle.kc_batch.specs.declared.left.Left.{Left}
+use Rattle.kc_batch.specs.declared.left.Left.TheVariants.{Nothing, Kept, Dropped, Untold}
+use Rattle.kc_batch.specs.declared.standing.Standing.{Standing}
+use Rattle.kc_batch.specs.declared.standing.Standing.TheVariants.{Free, Keeping, Short}
+use Rattle.kc_batch.proofs.Accounting.{account-renewed, account-round, made_all, made_so, member-placed}
+use Rattle.kc_batch.proofs.Going.{stays-self}
+use Rattle.kc_batch.proofs.Rounding.{all-backward, all-unmapped, backward-push, length-backward}
+use Rattle.kc_batch.proofs.Working.{keeps-nothing, times-append}
+
+itself-last : {A : Type 0} (xs : List A) (x : A) → Contains (xs ++ x ∷ []) x
+itself-last xs x = Contains-append_right xs (x ∷ []) x (All-head (Contains (x ∷ [])) x [] (All-contains_itself (x ∷ [])))
+
+-- How all work stands with one desk more, which has nothing left,
+pub stands-nothing : (works : List Work) (w : Work) (s : Standing) → w.left ≡ Nothing → IsStanding works s → IsStanding (works ++ w ∷ []) s
+stands-nothing works w Free none h = All-push (λ (u : Work). u.left ≡ Nothing) works w h none
+stands-nothing works w Keeping none h = (
+  All-push (λ (u : Work). MayGoOn u.left) works w h.0 (subst MayGoOn (sym none) tt),
+  (h.1.0, h.1.1, Contains-append_left works (w ∷ []) h.1.0 h.1.2, h.1.3),
+)
+stands-nothing works w Short none h = tt
+
+may-go-on : (left : Left) → left ≡ Nothing → MayGoOn left
+may-go-on left none = subst MayGoOn (sym none) tt
+
+-- and with one that keeps an update.
+pub stands-kept : (works : List Work) (w : Work) (s : Standing) (place : ℕ) → w.left ≡ Kept place → (s ≡ Short → ⊥) → IsStanding works s
+    → IsStanding (works ++ w ∷ []) Keeping
+stands-kept works w s place kept some h = (
+  All-push (λ (u : Work). MayGoOn u.left) works w (others s some h) (subst MayGoOn (sym kept) tt),
+  (w, place, itself-last works w, kept),
+)
+  where
+    others : (s : Standing) → (s ≡ Short → ⊥) → IsStanding works s → All (λ (u : Work). MayGoOn u.left) works
+    others Free some h = All-weaker (λ (u : Work). u.left ≡ Nothing) (λ (u : Work). MayGoOn u.left) (λ u none. may-go-on u.left none) works h
+    others Keeping some h = h.0
+    others Short some h = absurd (some refl)
+
+-- The desks before this one stand so, and nobody has dropped an update.
+abbrev pub Stood : List Desked → ℕ → Standing → Type 0
+Stood desks i s = IsStanding (map (λ d. d.work) (take i desks)) s × (s ≡ Short → ⊥)
+
+works-more : (desks : List Desked) (i : ℕ) (d : Desked) → i < length desks → d ≡ get_or desks i d
+    → map (λ (d : Desked). d.work) (take (i + 1) desks) ≡ map (λ (d : Desked). d.work) (take i desks) ++ d.work ∷ []
+works-more desks i d here is =
+    ap (map (λ (e : Desked). e.work)) (take_more desks i d here)
+    ∙ (map-append (λ (e : Desked). e.work) (take i desks) (get_or desks i d ∷ [])
+    ∙ ap (λ (e : Desked). map (λ (f : Desked). f.work) (take i desks) ++ e.work ∷ []) (sym is))
+
+pub stood-nothing : (desks : List Desked) (i : ℕ) (d : Desked) (s new : Standing) → i < length desks → d ≡ get_or desks i d
+    → d.work.left ≡ Nothing → new ≡ s → Stood desks i s → Stood desks (i + 1) new
+stood-nothing desks i d s new here is none same h =
+    let before = map (λ (e : Desked). e.work) (take i desks) in (
+      subst (IsStanding (map (λ (e : Desked). e.work) (take (i + 1) desks))) (sym same)
+          (subst (λ (ws : List Work). IsStanding ws s) (sym (works-more desks i d here is)) (stands-nothing before d.work s none h.0)),
+      λ short. h.1 (sym same ∙ short),
+    )
+
+pub stood-kept : (desks : List Desked) (i : ℕ) (d : Desked) (s new : Standing) (place : ℕ) → i < length desks → d ≡ get_or desks i d
+    → d.work.left ≡ Kept place → new ≡ Keeping → Stood desks i s → Stood desks (i + 1) new
+stood-kept desks i d s new place here is kept now h =
+    let before = map (λ (e : Desked). e.work) (take i desks) in (
+      subst (IsStanding (map (λ (e : Desked). e.work) (take (i + 1) desks))) (sym now)
+          (subst (λ (ws : List Work). IsStanding ws Keeping) (sym (works-more desks i d here is)) (stands-kept before d.work s place kept h.1 h.0)),
+      λ short. apart (sym now ∙ short),
+    )
+  where
+    apart : Keeping ≡ Short → ⊥
+    apart e = cc
+
+-- all of them have been looked at
+pub stood-all : (desks : List Desked) (i : ℕ) (s : Standing) → length desks ≤ i → Stood desks i s → IsStanding (map (λ d. d.work) desks) s
+stood-all desks i s all h = subst (λ (ds : List Desked). IsStanding (map (λ (e : Desked). e.work) ds) s) (take_all i desks all) h.0
+
+-- The run is renewed where the journal stands.
+pub renewal-so : (old new : Journalled) (last : PassSeen) (words : TableName) → Stands old → last ≡ all_seen old
+    → IsNearlySpent old.levels.table old.levels.log → Renews old new 0 words (fresh_pass words) → IsRenewal old last old new
+renewal-so old new last words stands told spent renews = record {
+  stays = stays-self old;
+  stands = stands;
+  told = told;
+  spent = spent;
+  renews = subst (λ (t : TableName). Renews old new 0 t (fresh_pass t)) (sym renews.table) renews;
+}
+
+-- a fresh table has as many vertices
+pub renewed-size : (old new : Journalled) (words fresh : TableName) → Stands old → old.levels.table ≡ words → Renews old new 0 fresh (fresh_pass fresh)
+    → fresh.shape.fixed ≡ words.shape.fixed
+renewed-size old new words fresh stands table renews = omega (
+  arith,
+  size-is old stands,
+  size-is new renews.stands,
+  ap (λ s. s.graph.size) renews.state,
+  ap (λ (t : TableName). t.shape.fixed) renews.table,
+  ap (λ (t : TableName). t.shape.fixed) table,
+)
+
+-- where some keep an update, and who keeps one has met spent versions, they are spent
+pub keeping-spent : (o : Opened) (log : List Event) (desks : List Desked) → All (λ d. KeepsIfSpent o log d.work.left) desks
+    → SomeKeeps (map (λ d. d.work) desks) → IsNearlySpent o.table log
+keeping-spent o log desks spent some =
+    let all = All-map (λ (w : Work). KeepsIfSpent o log w.left) (λ (d : Desked). d.work) desks spent in
+    subst (KeepsIfSpent o log) some.3 (All-contains (λ (w : Work). KeepsIfSpent o log w.left) (map (λ (d : Desked). d.work) desks) some.0 all some.2)
+
+-- what is in hand was taken, and so is one of the updates
+module _ (old now : Journalled) (first : ℕ) (batch : List Update) (ended : List PassSeen) where
+  kept-low : (works : List Work) (taken : List ℕ) (count k : ℕ) (w : Work) (place : ℕ) → Account old now first batch ended works taken
+      → IsShare count taken → k < length works → get_or works k w ≡ w → w.left ≡ Kept place → place < count
+  kept-low works taken count k w place a share here is kept =
+      let y = first + place in
+      let had : times_had first y (get_or works k w) ≡ times_had first y w = ap (times_had first y) is in
+      let one : times y (in_hand first w.left) ≡ times y (y ∷ []) = ap (λ (l : Left). times y (in_hand first l)) kept in
+      let some : 0 < times y (at_places first taken) =
+      omega (arith, a.balance y, get_or-le-sum_by (times_had first y) works k w here, had, one, times_member y (y ∷ []) (member-head y [])) in
+      share.below place (member-placed first place taken (member_times y (at_places first taken) some))
+
+  keeps-low : (count : ℕ) (left : Left) → MayGoOn left → ((place : ℕ) → left ≡ Kept place → place < count) → KeepsOneOf count left
+  keeps-low count Nothing may low = tt
+  keeps-low count (Kept place) may low = low place refl
+  keeps-low count (Dropped place) may low = absurd may
+  keeps-low count (Untold receipt) may low = absurd may
+
+  pub all-keep : (works : List Work) (taken : List ℕ) (count : ℕ) → Account old now first batch ended works taken → IsShare count taken
+      → All (λ w. MayGoOn w.left) works → All (λ w. KeepsOneOf count w.left) works
+  all-keep works taken count a share may = λ k d l.
+      let w = get_or works k d in
+      keeps-low count w.left (may k d l) (λ place kept.
+      kept-low works taken count k w place a share l (get_or_default works k w d l) kept)
+
+  -- The first that has nothing left is given the update at a place that was taken last.
+  pub account-given : (w : Work) (ws : List Work) (taken : List ℕ) (place : ℕ) → w.left ≡ Nothing → Account old now first batch ended (w ∷ ws) taken
+      → Account old now first batch ended (record { done = w.done; left = Kept place } ∷ ws) (taken ++ place ∷ [])
+  account-given w ws taken place none a =
+      let new : Work = record { done = w.done; left = Kept place } in
+      let same : receipts_of new ≡ receipts_of w = ap (λ (l : Left). map (λ (d : Done). d.receipt) w.done ++ untold l) (sym none) in
+      let P : Receipt → Type 0 = IsReceiptOf now.started now.entries first batch (length old.entries) in
+      let all : all_receipts (new ∷ ws) ≡ all_receipts (w ∷ ws) = ap (λ (rs : List Receipt). rs ++ all_receipts ws) same in
+      let places : (y : ℕ) → times y (at_places first (taken ++ place ∷ [])) ≡ times y (at_places first taken) + times y ((first + place) ∷ []) = λ y.
+      ap (times y) (map-append (λ (p : ℕ). first + p) taken (place ∷ [])) ∙ times-append y (at_places first taken) ((first + place) ∷ []) in
+      record {
+        went = a.went;
+        receipts = subst (All P) (sym all) a.receipts;
+        count = omega (arith, a.count, ap (λ (rs : List Receipt). length rs) all);
+        balance = λ y. omega (
+          arith,
+          a.balance y,
+          places y,
+          sum_by-cons (times_had first y) w ws,
+          sum_by-cons (times_had first y) new ws,
+          ap (λ (rs : List Receipt). times y (told_indices rs)) same,
+          ap (λ (l : Left). times y (in_hand first l)) none,
+        );
+        few = a.few;
+        misses = a.misses;
+      }
+
+-- Of a crew between two rounds.
+module _ (old : Journalled) (first : ℕ) (batch : List Update) (ended : List PassSeen) (queue : Filled) where
+  -- it may be cut short at any time
+  pub crew-cut : (words : TableName) (now : Journalled) (desks : List Desked) (consumer : Consuming)
+      → IsCrew old first batch ended queue words now desks consumer
+      → IsCutShort old now first batch × All (λ d. d.seen.table ≡ words) desks
+  crew-cut words now desks consumer h =
+      let made = made_so old now first batch ended (map (λ (d : Desked). d.work) desks) consumer.taken h.account h.share.once in (
+        record { ended = ended; made = made.made; went = made.went },
+        All-weaker (λ (d : Desked). d.seen ≡ record { table = words; log = now.levels.log }) (λ (d : Desked). d.seen.table ≡ words)
+            (λ d e. ap (λ (s : Seen). s.table) e) desks h.told,
+      )
+
+  pub crew-keeps : (words : TableName) (now : Journalled) (desks : List Desked) (consumer : Consuming) (works : List Work)
+      → IsCrew old first batch ended queue words now desks consumer → works ≡ map (λ d. d.work) desks → All (λ w. MayGoOn w.left) works
+      → All (λ d. KeepsOneOf queue.count d.work.left) desks
+  crew-keeps words now desks consumer works h is may =
+      let ws = map (λ (d : Desked). d.work) desks in
+      all-unmapped (λ (w : Work). KeepsOneOf queue.count w.left) (λ (d : Desked). d.work) desks
+      (all-keep old now first batch ended ws consumer.taken queue.count h.account h.share (subst (All (λ (w : Work). MayGoOn w.left)) is may))
+
+  pub crew-renewed : (words fresh : TableName) (now next : Journalled) (last : PassSeen) (more : List PassSeen)
+      (desks others : List Desked) (consumer : Consuming)
+      → IsCrew old first batch ended queue words now desks consumer → IsRenewal now last now next → more ≡ ended ++ last ∷ []
+      → next.levels.table ≡ fresh → All (λ d. d.seen ≡ record { table = fresh; log = [] }) others
+      → map (λ d. d.work) others ≡ map (λ d. d.work) desks → IsCrew old first batch more queue fresh next others consumer
+  crew-renewed words fresh now next last more desks others consumer h renewal is table seen works =
+      let ws = map (λ (d : Desked). d.work) desks in
+      record {
+        account =
+            subst (λ (z : List Work). Account old next first batch more z consumer.taken) (sym works)
+            (subst (λ (z : List PassSeen). Account old next first batch z ws consumer.taken) (sym is)
+            (account-renewed old now next first batch ended last ws consumer.taken h.account renewal));
+        table = table;
+        told = subst (λ (log : List Event). All (λ (d : Desked). d.seen ≡ record { table = fresh; log = log }) others) (sym renewal.renews.log) seen;
+        of_queue = h.of_queue;
+        parts = h.parts;
+        share = h.share;
+      }
+
+  pub crew-given : (parts : Parted) (desks others : List Desked) (consumer next : Consuming) (place : ℕ)
+      → IsCrew old first batch ended queue parts.words parts.journal desks consumer → All (λ d. d.work.left ≡ Nothing) desks → Gives place desks others
+      → next ≡ record consumer { taken = consumer.taken ++ place ∷ [] } → IsShare queue.count next.taken
+      → IsCrew old first batch ended queue parts.words parts.journal others next
+  crew-given parts [] others consumer next place h none gives took share = absurd gives
+  crew-given parts (d ∷ ds) others consumer next place h none gives took share =
+      let now = parts.journal in
+      let Told : Desked → Type 0 = λ d. d.seen ≡ record { table = parts.words; log = now.levels.log } in
+      let given : Desked = record d { work = record { done = d.work.done; left = Kept place } } in
+      let ws = map (λ (d : Desked). d.work) ds in
+      let taken = ap (λ (c : Consuming). c.taken) took in
+      record {
+        account =
+            subst (λ (z : List Desked). Account old now first batch ended (map (λ (d : Desked). d.work) z) next.taken) (sym gives)
+            (subst (λ (z : List ℕ). Account old now first batch ended (given.work ∷ ws) z) (sym taken)
+            (account-given old now first batch ended d.work ws consumer.taken place (All-head (λ (d : Desked). d.work.left ≡ Nothing) d ds none) h.account));
+        table = h.table;
+        told = subst (All Told) (sym gives) (All-cons Told given ds (All-head Told d ds h.told) (All-tail Told d ds h.told));
+        of_queue = ap (λ (c : Consuming). c.queue) took ∙ h.of_queue;
+        parts = ap (λ (c : Consuming). c.parts) took ∙ h.parts;
+        share = share;
+      }
+
+-- who was given an update of the batch keeps one of it
+pub given-keeps : (count place : ℕ) (desks others : List Desked) → place < count → All (λ d. d.work.left ≡ Nothing) desks → Gives place desks others
+    → All (λ d. KeepsOneOf count d.work.left) others
+given-keeps count place [] others low none gives = absurd gives
+given-keeps count place (d ∷ ds) others low none gives =
+    let Keeps : Desked → Type 0 = λ d. KeepsOneOf count d.work.left in
+    let None : Desked → Type 0 = λ d. d.work.left ≡ Nothing in
+    subst (All Keeps) (sym gives)
+    (All-cons Keeps (record d { work = record { done = d.work.done; left = Kept place } }) ds low
+    (All-weaker None Keeps (λ e free. keeps-nothing count e.work.left free) ds (All-tail None d ds none)))
+
+-- Who stands up was at the last of the desks, which come from their end on.
+pub back-images : {A B : Type 0} (f : A → B) (done new : List B) (old rest : List A) (x : A) (b : B) → old ≡ rest ++ x ∷ [] → b ≡ f x → new ≡ done ++ b ∷ []
+    → new ++ map f (backward rest) ≡ done ++ map f (backward old)
+back-images {A} {B} f done new old rest x b is image more =
+    ap (λ (z : List B). z ++ map f (backward rest)) more
+    ∙ (append_assoc done (b ∷ []) (map f (backward rest))
+    ∙ (ap (λ (z : B). done ++ z ∷ map f (backward rest)) image ∙ ap (λ (z : List A). done ++ map f z) (sym (ap backward is ∙ backward-push rest x))))
+
+-- each share has the number of its place
+pub numbered-more : (shares new : List Share) (s : Share) → new ≡ shares ++ s ∷ [] → s.worker ≡ length shares
+    → ((i : ℕ) (d : Share) → i < length shares → (get_or shares i d).worker ≡ i) → (i : ℕ) (d : Share) → i < length new → (get_or new i d).worker ≡ i
+numbered-more shares new s is number before i d low = elim (cases_lt i (length shares)) [
+  | inl l ↦ ap (λ (z : List Share). (get_or z i d).worker) is ∙ (ap (λ (z : Share). z.worker) (get_or_append_left shares (s ∷ []) d i l) ∙ before i d l)
+  | inr past ↦
+      let at : length shares ≡ i = omega (arith, past, ap (λ (z : List Share). length z) is, length-append shares (s ∷ [])) in
+      ap (λ (z : List Share). (get_or z i d).worker) is ∙ (ap (λ (z : Share). z.worker) (get_or_push shares s d i at) ∙ (number ∙ at))
+]
+
+-- what a round's table opened with
+opened-at : (words : TableName) (now next : Journalled) → now.levels.table ≡ words → StaysIn now next
+    → opened_with words now.opened now.opening_stamps ≡ opened_by next
+opened-at words now next table stays =
+    λ i. record { table = sym (stays.table ∙ table) i; edges = sym stays.opened i; stamps = sym stays.opening_stamps i }
+
+-- a round more of a crew
+pub crew-round : (old : Journalled) (first : ℕ) (batch : List Update) (ended : List PassSeen) (queue : Filled) (words : TableName) (now next : Journalled)
+    (desks others : List Desked) (consumer after : Consuming) (made : ℕ)
+    → IsCrew old first batch ended queue words now desks consumer → Stands now → Stands next → StaysIn now next
+    → length next.entries ≡ length now.entries + made
+    → Rounds (opened_with words now.opened now.opening_stamps) now.levels.log next.levels.log first batch (map (λ d. d.work) desks) (map (λ d. d.work) others)
+    consumer.taken after.taken made
+    → All (λ d. d.seen ≡ record { table = words; log = next.levels.log }) others
+    → (after.queue ≡ queue) × (after.parts ≡ PARTS) × IsShare queue.count after.taken
+    → IsCrew old first batch ended queue words next others after
+crew-round old first batch ended queue words now next desks others consumer after made h before then stays total rounds told owns =
+    let W = map (λ (d : Desked). d.work) in
+    let o = opened_with words now.opened now.opening_stamps in
+    record {
+      account = account-round old now next first batch ended (W desks) (W others) consumer.taken after.taken made o h.account before then stays
+          (opened-at words now next h.table stays) total rounds;
+      table = stays.table ∙ h.table;
+      told = told;
+      of_queue = owns.0;
+      parts = owns.1;
+      share = owns.2;
+    }
+
+-- who has worked in a round has met spent versions where it keeps an update
+pub round-spent : (words : TableName) (now next : Journalled) (first : ℕ) (batch : List Update) (works : List Work) (others : List Desked)
+    (taken after : List ℕ)
+    (made : ℕ) → now.levels.table ≡ words → StaysIn now next
+    → Rounds (opened_with words now.opened now.opening_stamps) now.levels.log next.levels.log first batch works (map (λ d. d.work) others) taken after made
+    → All (λ d. KeepsIfSpent (opened_by next) next.levels.log d.work.left) others
+round-spent words now next first batch works others taken after made table stays rounds =
+    let o = opened_with words now.opened now.opening_stamps in
+    subst (λ (z : Opened). All (λ (d : Desked). KeepsIfSpent z next.levels.log d.work.left) others) (opened-at words now next table stays)
+    (all-unmapped (λ (w : Work). KeepsIfSpent o next.levels.log w.left) (λ (d : Desked). d.work) others rounds.spent)
+
+-- as many desks after a round as before
+pub round-many : (o : Opened) (start log : List Event) (first : ℕ) (batch : List Update) (desks others : List Desked) (taken after : List ℕ) (made : ℕ)
+    → Rounds o start log first batch (map (λ d. d.work) desks) (map (λ d. d.work) others) taken after made → length others ≡ length desks
+round-many o start log first batch desks others taken after made rounds =
+    omega (arith, rounds.as_many, length-map others (λ (d : Desked). d.work), length-map desks (λ (d : Desked). d.work))
+
+-- Before the first round nobody has entered anything.
+abbrev pub idle : Work
+idle = record { done = []; left = Nothing }
+
+no-receipts : (works : List Work) → All (λ w. w ≡ idle) works → all_receipts works ≡ []
+no-receipts [] none = refl
+no-receipts (w ∷ ws) none =
+    ap (λ (u : Work). receipts_of u ++ all_receipts ws) (All-head (λ (u : Work). u ≡ idle) w ws none)
+    ∙ no-receipts ws (All-tail (λ (u : Work). u ≡ idle) w ws none)
+
+nothing-done : (works : List Work) → All (λ w. w ≡ idle) works → all_done works ≡ []
+nothing-done [] none = refl
+nothing-done (w ∷ ws) none =
+    ap (λ (u : Work). u.done ++ all_done ws) (All-head (λ (u : Work). u ≡ idle) w ws none)
+    ∙ nothing-done ws (All-tail (λ (u : Work). u ≡ idle) w ws none)
+
+none-had : (first y : ℕ) (works : List Work) → All (λ w. w ≡ idle) works → sum_by (times_had first y) works ≡ 0
+none-had first y [] none = refl
+none-had first y (w ∷ ws) none = omega (
+  arith,
+  sum_by-cons (times_had first y) w ws,
+  ap (times_had first y) (All-head (λ (u : Work). u ≡ idle) w ws none),
+  none-had first y ws (All-tail (λ (u : Work). u ≡ idle) w ws none),
+)
+
+pub account-start : (j : Journalled) (first : ℕ) (batch : List Update) (works : List Work) → All (λ w. w ≡ idle) works → Account j j first batch [] works []
+account-start j first batch works none =
+    let Told : Receipt → Type 0 = IsReceiptOf j.started j.entries first batch (length j.entries) in
+    let Few : Done → Type 0 = λ d. length d.misses.items ≤ MISSES in
+    let True : Done → Type 0 = HasTrueMisses (opened_by j) j.levels.log j.levels.log in
+    record {
+      went = stays-self j;
+      receipts = subst (All Told) (sym (no-receipts works none)) (All-nil Told);
+      count = omega (arith, ap (λ (rs : List Receipt). length rs) (no-receipts works none));
+      balance = λ y. none-had first y works none;
+      few = subst (All Few) (sym (nothing-done works none)) (All-nil Few);
+      misses = λ here. subst (All True) (sym (nothing-done works none)) (All-nil True);
+    }
+
+-- a batch that was not begun
+pub cut-at_start : (j : Journalled) (first : ℕ) (batch : List Update) → IsCutShort j j first batch
+cut-at_start j first batch =
+    let made = made_so j j first batch [] [] [] (account-start j first batch [] (All-nil (λ (w : Work). w ≡ idle))) tt in
+    record { ended = []; made = made.made; went = made.went }
+
+-- Work from its end on.
+pub images-backward : {A B : Type 0} (f : A → B) (xs : List A) → map f (backward xs) ≡ backward (map f xs)
+images-backward f [] = refl
+images-backward {A} {B} f (x ∷ xs) = map-append f (backward xs) (x ∷ []) ∙ ap (λ (z : List B). z ++ f x ∷ []) (images-backward f xs)
+
+flat-back : {A B : Type 0} (f : A → List B) (x : A) (xs : List A) → flat_map f (backward (x ∷ xs)) ≡ flat_map f (backward xs) ++ f x
+flat-back f x xs = sym (flat_map_more f [] (backward xs) x)
+
+all-end : {A : Type 0} (P : A → Type 0) (xs ys : List A) → All P (xs ++ ys) → All P ys
+all-end {A} P xs ys h = subst (All P) (drop-append_seam xs ys) (All-drop P (length xs) (xs ++ ys) h)
+
+all-flat-back : {A B : Type 0} (P : B → Type 0) (f : A → List B) (xs : List A) → All P (flat_map f xs) → All P (flat_map f (backward xs))
+all-flat-back P f [] h = h
+all-flat-back P f (x ∷ xs) h =
+    subst (All P) (sym (flat-back f x xs))
+    (All-append P (flat_map f (backward xs)) (f x) (all-flat-back P f xs (all-end P (f x) (flat_map f xs) h)) (All-front P (f x) (flat_map f xs) h))
+
+length-flat-back : {A B : Type 0} (f : A → List B) (xs : List A) → length (flat_map f (backward xs)) ≡ length (flat_map f xs)
+length-flat-back f [] = refl
+length-flat-back {A} {B} f (x ∷ xs) = omega (
+  arith,
+  ap (λ (z : List B). length z) (flat-back f x xs),
+  length-append (flat_map f (backward xs)) (f x),
+  length-append (f x) (flat_map f xs),
+  length-flat-back f xs,
+)
+
+sum-back : {A : Type 0} (f : A → ℕ) (xs : List A) → sum_by f (backward xs) ≡ sum_by f xs
+sum-back f [] = refl
+sum-back f (x ∷ xs) =
+    omega (arith, sum_by-append f (backward xs) (x ∷ []), sum_by-cons f x [], sum_by-cons f x xs, sum-back f xs)
+
+pub account-backward : (old now : Journalled) (first : ℕ) (batch : List Update) (ended : List PassSeen) (works : List Work) (taken : List ℕ)
+    → Account old now first batch ended works taken → Account old now first batch ended (backward works) taken
+account-backward old now first batch ended works taken a = record {
+  went = a.went;
+  receipts = all-flat-back (IsReceiptOf now.started now.entries first batch (length old.entries)) receipts_of works a.receipts;
+  count = omega (arith, a.count, length-flat-back receipts_of works);
+  balance = λ y. sum-back (times_had first y) works ∙ a.balance y;
+  few = all-flat-back (λ d. length d.misses.items ≤ MISSES) (λ w. w.done) works a.few;
+  misses = λ none. all-flat-back (HasTrueMisses (opened_by now) old.levels.log now.levels.log) (λ w. w.done) works (a.misses none);
+}
+
+-- Where nothing is left what was entered is what is told.
+told-done : (works : List Work) → All (λ w. w.left ≡ Nothing) works → all_receipts works ≡ map (λ d. d.receipt) (all_done works)
+told-done [] none = refl
+told-done (w ∷ ws) none =
+    let f = λ (d : Done). d.receipt in
+    ap (λ (l : Left). (map f w.done ++ untold l) ++ all_receipts ws) (All-head (λ (u : Work). u.left ≡ Nothing) w ws none)
+    ∙ (ap (λ (z : List Receipt). z ++ all_receipts ws) (append-nil (map f w.done))
+    ∙ (ap (λ (z : List Receipt). map f w.done ++ z) (told-done ws (All-tail (λ (u : Work). u.left ≡ Nothing) w ws none))
+    ∙ sym (map-append f w.done (all_done ws))))
+
+shared-done : (shares : List Share) (works : List Work) → map (λ s. s.done.items) shares ≡ map (λ w. w.done) works → done_in shares ≡ all_done works
+shared-done shares works is =
+    let id = λ (ds : List Done). ds in
+    sym (flat_map-map id (λ (s : Share). s.done.items) shares)
+    ∙ (ap (λ (z : List (List Done)). flat_map id z) is ∙ flat_map-map id (λ (w : Work). w.done) works)
+
+done-back : (desks : List Desked) → map (λ d. d.work.done) (backward desks) ≡ map (λ w. w.done) (backward (map (λ d. d.work) desks))
+done-back desks =
+    images-backward (λ (d : Desked). d.work.done) desks
+    ∙ (ap backward (of-works desks) ∙ sym (images-backward (λ (w : Work). w.done) (map (λ (d : Desked). d.work) desks)))
+  where
+    of-works : (ds : List Desked) → map (λ (d : Desked). d.work.done) ds ≡ map (λ (w : Work). w.done) (map (λ (d : Desked). d.work) ds)
+    of-works [] = refl
+    of-works (d ∷ ds) = ap (λ (z : List (List Done)). d.work.done ∷ z) (of-works ds)
+
+-- What a batch has come to, where all was taken and nothing is left.
+pub done-so : (old now : Journalled) (first : ℕ) (batch : List Update) (desks : List Desked) (taken : List ℕ) (workers : ℕ) (done : BatchDone)
+    → Account old now first batch done.ended.items (map (λ d. d.work) desks) taken → IsWhole (length batch) taken → All (λ d. d.work.left ≡ Nothing) desks
+    → map (λ s. s.done.items) done.shares.items ≡ map (λ d. d.work.done) (backward desks) → length done.shares.items ≡ workers
+    → ((i : ℕ) (d : Share) → i < length done.shares.items → (get_or done.shares.items i d).worker ≡ i)
+    → IsDone old now first batch workers done
+done-so old now first batch desks taken workers done a whole none is many numbered =
+    let works = map (λ (d : Desked). d.work) desks in
+    let back = backward works in
+    let ended = done.ended.items in
+    let b = account-backward old now first batch ended works taken a in
+    let left = all-backward (λ (w : Work). w.left ≡ Nothing) works (All-map (λ (w : Work). w.left ≡ Nothing) (λ (d : Desked). d.work) desks none) in
+    let made = made_so old now first batch ended back taken b whole.share.once in
+    let all = made_all old now first batch ended back taken b whole left in
+    let same : done_in done.shares.items ≡ all_done back = shared-done done.shares.items back (is ∙ done-back desks) in
+    let told : all_receipts back ≡ receipts_in done.shares.items =
+    told-done back left ∙ ap (λ (z : List Done). map (λ (d : Done). d.receipt) z) (sym same) in
+    record {
+      made = made.made;
+      went = made.went;
+      as_many = made.as_many ∙ all.as_many;
+      receipts = subst (AreAllOf now.started now.entries first batch (length old.entries)) told all.receipts;
+      one_each = many;
+      numbered = numbered;
+      few = subst (All (λ (d : Done). length d.misses.items ≤ MISSES)) (sym same) b.few;
+      misses = λ none. subst (All (HasTrueMisses (opened_by now) old.levels.log now.levels.log)) (sym same) (b.misses none);
+    }
+
+-- a batch without updates is taken whole
+pub whole-none : (count : ℕ) → count ≡ 0 → IsWhole count []
+whole-none count none = record {
+  share = record { once = tt; below = λ x m. absurd (true≢false (sym m)) };
+  all = λ x low. absurd (omega arith);
+}
+
+-- who has nothing left may begin
+pub idle-left : (desks : List Desked) → All (λ w. w ≡ idle) (map (λ d. d.work) desks) → All (λ d. d.work.left ≡ Nothing) desks
+idle-left desks none =
+    All-weaker (λ (d : Desked). d.work ≡ idle) (λ (d : Desked). d.work.left ≡ Nothing) (λ d e. ap (λ (w : Work). w.left) e) desks
+    (all-unmapped (λ (w : Work). w ≡ idle) (λ (d : Desked). d.work) desks none)
+
+pub idle-keeps : (count : ℕ) (desks : List Desked) → All (λ w. w ≡ idle) (map (λ d. d.work) desks) → All (λ d. KeepsOneOf count d.work.left) desks
+idle-keeps count desks none =
+    All-weaker (λ (d : Desked). d.work.left ≡ Nothing) (λ (d : Desked). KeepsOneOf count d.work.left) (λ d e. keeps-nothing count d.work.left e) desks
+    (idle-left desks none)
+
+-- a crew before its first round
+pub crew-start : (parts : Parted) (first : ℕ) (batch : List Update) (queue : Filled) (desks : List Desked) (consumer : Consuming)
+    → parts.journal.levels.table ≡ parts.words → All (λ d. d.seen ≡ record { table = parts.words; log = parts.journal.levels.log }) desks
+    → All (λ w. w ≡ idle) (map (λ d. d.work) desks) → consumer ≡ record { queue = queue; parts = PARTS; taken = [] }
+    → IsCrew parts.journal first batch [] queue parts.words parts.journal desks consumer
+crew-start parts first batch queue desks consumer table told none is =
+    let j = parts.journal in
+    let works = map (λ (d : Desked). d.work) desks in
+    let taken : consumer.taken ≡ [] = ap (λ (c : Consuming). c.taken) is in
+    record {
+      account = subst (λ (ps : List ℕ). Account j j first batch [] works ps) (sym taken) (account-start j first batch works none);
+      table = table;
+      told = told;
+      of_queue = ap (λ (c : Consuming). c.queue) is;
+      parts = ap (λ (c : Consuming). c.parts) is;
+      share = subst (IsShare queue.count) (sym taken) (record { once = tt; below = λ x m. absurd (true≢false (sym m)) });
+    }
+
+-- as many desks where their work is the same, and as many who have stood up
+pub same-many : (desks others : List Desked) → map (λ d. d.work) others ≡ map (λ d. d.work) desks → length others ≡ length desks
+same-many desks others same = omega (
+  arith,
+  ap (λ (z : List Work). length z) same,
+  length-map others (λ (d : Desked). d.work),
+  length-map desks (λ (d : Desked). d.work),
+)
+
+pub stood-many : (workers : List Seen) (desks : List Desked) → workers ≡ map (λ d. d.seen) (backward desks) → length workers ≡ length desks
+stood-many workers desks is = omega (
+  arith,
+  ap (λ (z : List Seen). length z) is,
+  length-map (backward desks) (λ (d : Desked). d.seen),
+  length-backward desks,
+)
+
+-- what holds of all that the desks have seen holds of those who have stood up
+pub stood-all-so : (P : Seen → Type 0) (workers : List Seen) (desks : List Desked) → workers ≡ map (λ d. d.seen) (backward desks) → All (λ d. P d.seen) desks
+    → All P workers
+stood-all-so P workers desks is h =
+    subst (All P) (sym is) (All-map P (λ (d : Desked). d.seen) (backward desks) (all-backward (λ (d : Desked). P d.seen) desks h))

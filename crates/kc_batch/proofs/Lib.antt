@@ -1,0 +1,9 @@
+pub mod Accounting
+pub mod Closing
+pub mod Counting
+pub mod Crossing
+pub mod Going
+pub mod Lists
+pub mod Rounding
+pub mod Telling
+pub mod Working

@@ -1,0 +1,315 @@
+-- What the workers of a round have made together.
+use Rattle.std.proofs.Common.{◌≡◌, ◌⊎◌, inl, inr, ⊎_elim, ℕ, zero, suc, ◌+◌, ◌<◌, List, [], ◌∷◌, ◌++◌, All, Contains, length, get_or, set, take, drop}
+use Rattle.std.proofs.Common.{map, refl, sym, ap, ◌∙◌, subst, arith, append_assoc, append-nil, length-append}
+use Rattle.std.specs.List.{AllZip}
+use mathlib.Core.List.{IsPrefix}
+use Rattle.std.proofs.lemmas.List.{drop_all, get_or-drop, length-map, map-append, take_all}
+use Rattle.std.proofs.lemmas.List.Elements.{All-append, All-cons, All-contains_itself, All-head, All-nil, All-push, All-tail, All-weaker, AllZip-push}
+use Rattle.std.proofs.lemmas.List.Elements.{Contains-append_left, Contains-append_right}
+use Rattle.std.proofs.lemmas.List.Sums.{sum_by-cons}
+use Rattle.kc_graph.specs.declared.update.Update.{Update}
+use Rattle.kc_table.specs.declared.view.Event.{Event}
+use Rattle.kc_table.specs.Legal.{Legal}
+use Rattle.kc_table.specs.Log.{Seen, TableName}
+use Rattle.kc_table.proofs.Prefixes.{prefix_self, prefix_trans}
+use Rattle.kc_distinct.proofs.Shared.{All-end, All-front}
+use Rattle.kc_queue.specs.Shares.{Consuming, Filled}
+use Rattle.kc_journal.specs.Journals.{Journalled, Stands}
+use Rattle.kc_journal.specs.declared.answer.Receipt.{Receipt}
+use Rattle.kc_stripes.specs.Records.{Opened}
+use Rattle.kc_workers.specs.declared.done.Done.{Done}
+use Rattle.kc_batch.specs.Desks.{Desked, KeepsOneOf, Work, all_done, all_receipts, at_places, receipts_of, times, times_had}
+use Rattle.kc_batch.specs.Seats.{HasTrueMisses, IsHired, IsReady, IsReceiptIn, KeepsIfSpent, Rounds, Seated, Works, all_taken, amounts, backward, desk_of}
+use Rattle.kc_batch.specs.declared.left.Left.{Left}
+use Rattle.kc_batch.specs.declared.left.Left.TheVariants.{Nothing, Kept, Dropped, Untold}
+use Rattle.kc_batch.proofs.Going.{spent-stays}
+use Rattle.kc_batch.proofs.Telling.{receipt_in-grows}
+use Rattle.kc_batch.proofs.Working.{misses-stay, times-append}
+
+-- what is added at the end of a list comes first from the end on
+pub backward-push : {A : Type 0} (xs : List A) (x : A) → backward (xs ++ x ∷ []) ≡ x ∷ backward xs
+backward-push [] x = refl
+backward-push {A} (y ∷ ys) x = ap (λ (z : List A). z ++ y ∷ []) (backward-push ys x)
+
+-- what holds place by place holds so from the end on
+pub zip-backward : {A : Type 0} (R : A → A → Type 0) (xs ys : List A) → AllZip R xs ys → AllZip R (backward xs) (backward ys)
+zip-backward R [] [] h = tt
+zip-backward R [] (y ∷ ys) h = absurd h
+zip-backward R (x ∷ xs) [] h = absurd h
+zip-backward R (x ∷ xs) (y ∷ ys) h = AllZip-push R (backward xs) (backward ys) x y (zip-backward R xs ys h.1) h.0
+
+back-is : (old rest : List Seated) (x : Seated) → old ≡ rest ++ x ∷ [] → backward old ≡ x ∷ backward rest
+back-is old rest x is = ap backward is ∙ backward-push rest x
+
+-- The last of the seats is taken back: its desk, its amount, and what it has taken.
+pub back-desks : (ds new : List Desked) (old rest : List Seated) (x : Seated) (d : Desked) → old ≡ rest ++ x ∷ [] → d ≡ desk_of x → new ≡ ds ++ d ∷ []
+    → new ++ map desk_of (backward rest) ≡ ds ++ map desk_of (backward old)
+back-desks ds new old rest x d is desk more =
+    ap (λ (z : List Desked). z ++ map desk_of (backward rest)) more
+    ∙ (append_assoc ds (d ∷ []) (map desk_of (backward rest))
+    ∙ (ap (λ (z : Desked). ds ++ z ∷ map desk_of (backward rest)) desk ∙ ap (λ (z : List Seated). ds ++ map desk_of z) (sym (back-is old rest x is))))
+
+pub back-amount : (old rest : List Seated) (x : Seated) → old ≡ rest ++ x ∷ [] → amounts (backward old) ≡ x.amount + amounts (backward rest)
+back-amount old rest x is = ap amounts (back-is old rest x is) ∙ sum_by-cons (λ (s : Seated). s.amount) x (backward rest)
+
+pub back-taken : (taken new : List ℕ) (old rest : List Seated) (x : Seated) → old ≡ rest ++ x ∷ [] → new ≡ taken ++ x.consumer.taken
+    → new ++ all_taken (backward rest) ≡ taken ++ all_taken (backward old)
+back-taken taken new old rest x is more =
+    ap (λ (z : List ℕ). z ++ all_taken (backward rest)) more
+    ∙ (append_assoc taken x.consumer.taken (all_taken (backward rest)) ∙ ap (λ (z : List Seated). taken ++ all_taken z) (sym (back-is old rest x is)))
+
+-- The last of the desks is seated.
+pub seat-desks : (old rest : List Desked) (d : Desked) (seats new : List Seated) (s : Seated) → old ≡ rest ++ d ∷ [] → desk_of s ≡ d → new ≡ seats ++ s ∷ []
+    → rest ++ map desk_of (backward new) ≡ old ++ map desk_of (backward seats)
+seat-desks old rest d seats new s is desk more =
+    ap (λ (z : List Seated). rest ++ map desk_of z) (back-is new seats s more)
+    ∙ (ap (λ (z : Desked). rest ++ z ∷ map desk_of (backward seats)) desk
+    ∙ (sym (append_assoc rest (d ∷ []) (map desk_of (backward seats))) ∙ ap (λ (z : List Desked). z ++ map desk_of (backward seats)) (sym is)))
+
+-- what holds at each place holds place by place
+pub zip-of : {A : Type 0} (R : A → A → Type 0) (xs ys : List A) → length xs ≡ length ys
+    → ((i : ℕ) (d : A) → i < length xs → R (get_or xs i d) (get_or ys i d)) → AllZip R xs ys
+zip-of R [] [] long h = tt
+zip-of R [] (y ∷ ys) long h = absurd (omega arith)
+zip-of R (x ∷ xs) [] long h = absurd (omega arith)
+zip-of R (x ∷ xs) (y ∷ ys) long h = (h 0 x (omega arith), zip-of R xs ys (omega arith) (λ i d l. h (suc i) d (omega arith)))
+
+-- in a list of two parts, what is of the first or new is of the whole or new
+left-or : {A : Type 0} (New : A → Type 0) (xs more ys rest : List A) → ys ≡ xs ++ more → All New more → All (λ x. Contains (xs ++ rest) x ⊎ New x) ys
+left-or {A} New xs more ys rest is news =
+    let Q : A → Type 0 = λ x. Contains (xs ++ rest) x ⊎ New x in
+    subst (All Q) (sym is)
+    (All-append Q xs more (All-weaker (Contains xs) Q (λ x c. inl (Contains-append_left xs rest x c)) xs (All-contains_itself xs))
+    (All-weaker New Q (λ x n. inr n) more news))
+
+right-or : {A : Type 0} (New : A → Type 0) (front rest ys : List A) → All (λ x. Contains rest x ⊎ New x) ys → All (λ x. Contains (front ++ rest) x ⊎ New x) ys
+right-or {A} New front rest ys h =
+    All-weaker (λ x. Contains rest x ⊎ New x) (λ x. Contains (front ++ rest) x ⊎ New x)
+    (λ x c. ⊎_elim (λ (t : Contains rest x). inl (Contains-append_right front rest x t)) (λ (n : New x). inr n) c) ys h
+
+spent-later : (o : Opened) (p log : List Event) (left : Left) → IsPrefix p log → Legal o.table.shape o.table.opening log
+    → KeepsIfSpent o p left → KeepsIfSpent o log left
+spent-later o p log Nothing pre legal h = h
+spent-later o p log (Kept place) pre legal h = spent-stays o.table p log pre legal h
+spent-later o p log (Dropped place) pre legal h = h
+spent-later o p log (Untold receipt) pre legal h = h
+
+-- A worker has worked from an empty account, and nothing that it has seen is beyond this log.
+pub record HasWorked (o : Opened) (start log : List Event) (first : ℕ) (batch : List Update) (old new : Seated) : Type 0 where
+  pub works : Works o start first batch old new
+  pub told : IsPrefix start new.seen.log
+  pub within : IsPrefix new.seen.log log
+  pub spent : KeepsIfSpent o new.seen.log new.work.left
+  pub nothing_counted : old.amount ≡ 0
+  pub nothing_taken : old.consumer.taken ≡ []
+
+abbrev works_at : List Seated → List Work
+works_at seats = map (λ s. s.work) seats
+
+module _ (o : Opened) (start log : List Event) (first : ℕ) (batch : List Update) (legal : Legal o.table.shape o.table.opening log) where
+  done-later : (new : Seated) → IsPrefix start new.seen.log → IsPrefix new.seen.log log → (ds : List Done) → All (HasTrueMisses o start new.seen.log) ds
+      → All (HasTrueMisses o start log) ds
+  done-later new told within ds h =
+      All-weaker (HasTrueMisses o start new.seen.log) (HasTrueMisses o start log)
+      (λ d m. misses-stay o start start new.seen.log log d legal (prefix_self start) told within m) ds h
+
+  receipts-later : (new : Seated) → IsPrefix new.seen.log log → (rs : List Receipt) → All (IsReceiptIn o start new.seen.log first batch) rs
+      → All (IsReceiptIn o start log first batch) rs
+  receipts-later new within rs h =
+      All-weaker (IsReceiptIn o start new.seen.log first batch) (IsReceiptIn o start log first batch)
+      (λ r t. receipt_in-grows o start new.seen.log log first batch r within t) rs h
+
+  pub rounds-of : (before : List ℕ) (olds news : List Seated) → AllZip (HasWorked o start log first batch) olds news
+      → Rounds o start log first batch (works_at olds) (works_at news) before (before ++ all_taken news) (amounts news)
+  rounds-of before [] [] h = record {
+    as_many = refl;
+    done = All-nil _;
+    receipts = All-nil _;
+    count = refl;
+    balance = λ y. ap (λ (z : List ℕ). 0 + times y (at_places first z)) (sym (append-nil before));
+    spent = All-nil _;
+  }
+  rounds-of before [] (b ∷ bs) h = absurd h
+  rounds-of before (a ∷ as') [] h = absurd h
+  rounds-of before (a ∷ as') (b ∷ bs) h =
+      let k : HasWorked o start log first batch a b = h.0 in
+      let w = k.works in
+      let rest = rounds-of before as' bs h.1 in
+      let shift = λ (ps : List ℕ). map (λ p. first + p) ps in
+      record {
+        as_many = ap suc rest.as_many;
+        done =
+            All-append (λ d. Contains (all_done (works_at (a ∷ as'))) d ⊎ HasTrueMisses o start log d) b.work.done (all_done (works_at bs))
+            (left-or (HasTrueMisses o start log) a.work.done w.more b.work.done (all_done (works_at as')) w.done (done-later b k.told k.within w.more w.misses))
+            (right-or (HasTrueMisses o start log) a.work.done (all_done (works_at as')) (all_done (works_at bs)) rest.done);
+        receipts =
+            All-append (λ r. Contains (all_receipts (works_at (a ∷ as'))) r ⊎ IsReceiptIn o start log first batch r)
+            (receipts_of b.work) (all_receipts (works_at bs))
+            (left-or (IsReceiptIn o start log first batch) (receipts_of a.work) w.added (receipts_of b.work) (all_receipts (works_at as')) w.receipts
+            (receipts-later b k.within w.added w.told))
+            (right-or (IsReceiptIn o start log first batch) (receipts_of a.work) (all_receipts (works_at as')) (all_receipts (works_at bs)) rest.receipts);
+        count = omega (
+          arith,
+          rest.count,
+          length-append (receipts_of b.work) (all_receipts (works_at bs)),
+          length-append (receipts_of a.work) (all_receipts (works_at as')),
+          ap (λ (z : List Receipt). length z) w.receipts,
+          length-append (receipts_of a.work) w.added,
+          w.amount,
+          k.nothing_counted,
+          sum_by-cons (λ (s : Seated). s.amount) b bs,
+        );
+        balance = λ y. omega (
+          arith,
+          rest.balance y,
+          w.balance y,
+          ap (λ (z : List ℕ). times y (at_places first z)) k.nothing_taken,
+          sum_by-cons (times_had first y) b.work (works_at bs),
+          sum_by-cons (times_had first y) a.work (works_at as'),
+          split y before (all_taken bs),
+          split y before (b.consumer.taken ++ all_taken bs),
+          split y b.consumer.taken (all_taken bs),
+        );
+        spent = All-cons (λ u. KeepsIfSpent o log u.left) b.work (works_at bs) (spent-later o b.seen.log log b.work.left k.within legal k.spent) rest.spent;
+      }
+    where
+      split : (y : ℕ) (ps qs : List ℕ) → times y (at_places first (ps ++ qs)) ≡ times y (at_places first ps) + times y (at_places first qs)
+      split y ps qs = ap (times y) (map-append (λ (p : ℕ). first + p) ps qs) ∙ times-append y (at_places first ps) (at_places first qs)
+
+-- Lists from their end on.
+pub length-backward : {A : Type 0} (xs : List A) → length (backward xs) ≡ length xs
+length-backward [] = refl
+length-backward (x ∷ xs) = omega (arith, length-append (backward xs) (x ∷ []), length-backward xs)
+
+pub all-backward : {A : Type 0} (P : A → Type 0) (xs : List A) → All P xs → All P (backward xs)
+all-backward P [] h = All-nil P
+all-backward P (x ∷ xs) h = All-push P (backward xs) x (all-backward P xs (All-tail P x xs h)) (All-head P x xs h)
+
+pub all-forward : {A : Type 0} (P : A → Type 0) (xs : List A) → All P (backward xs) → All P xs
+all-forward P [] h = All-nil P
+all-forward P (x ∷ xs) h = All-cons P x xs (All-end P (backward xs) x h) (all-forward P xs (All-front P (backward xs) (x ∷ []) h))
+
+pub all-unmapped : {A B : Type 0} (P : B → Type 0) (f : A → B) (xs : List A) → All P (map f xs) → All (λ x. P (f x)) xs
+all-unmapped P f [] h = All-nil _
+all-unmapped P f (x ∷ xs) h = All-cons (λ y. P (f y)) x xs (All-head P (f x) (map f xs) h) (all-unmapped P f xs (All-tail P (f x) (map f xs) h))
+
+pub works-of : (seats : List Seated) → map (λ (d : Desked). d.work) (map desk_of seats) ≡ works_at seats
+works-of [] = refl
+works-of (s ∷ ss) = ap (λ (z : List Work). s.work ∷ z) (works-of ss)
+
+pub seats-many : (seats : List Seated) (desks : List Desked) → map desk_of (backward seats) ≡ desks → length seats ≡ length desks
+seats-many seats desks is = omega (arith, ap (λ (z : List Desked). length z) is, length-map (backward seats) desk_of, length-backward seats)
+
+-- a slice that is as long as its list is written back whole
+pub written-whole : {A : Type 0} (new old : List A) (n : ℕ) → length new ≡ length old → n ≡ length old → take n (new ++ drop (length new) old) ≡ new
+written-whole {A} new old n long is =
+    ap (λ (z : List A). take n (new ++ z)) (drop_all (length new) old (omega arith))
+    ∙ (ap (λ (z : List A). take n z) (append-nil new) ∙ take_all n new (omega arith))
+
+pub zip-length : {A : Type 0} (R : A → A → Type 0) (xs ys : List A) → AllZip R xs ys → length xs ≡ length ys
+zip-length R [] [] h = refl
+zip-length R [] (y ∷ ys) h = absurd h
+zip-length R (x ∷ xs) [] h = absurd h
+zip-length R (x ∷ xs) (y ∷ ys) h = ap suc (zip-length R xs ys h.1)
+
+-- the log of a journal that stands is legal in its table
+pub legal_in : (t : TableName) (log : List Event) (j : Journalled) → Stands j → j.levels.table ≡ t → j.levels.log ≡ log → Legal t.shape t.opening log
+legal_in t log j stands table is =
+    subst (λ (u : TableName). Legal u.shape u.opening log) table
+    (subst (λ (z : List Event). Legal j.levels.table.shape j.levels.table.opening z) is stands.levels.legal)
+
+-- who is seated at a desk that may go on may go on
+pub ready-seats : (o : Opened) (start : List Event) (count : ℕ) (t : TableName) (seats : List Seated) (desks : List Desked)
+    → map desk_of (backward seats) ≡ desks → All (λ d. d.seen ≡ record { table = t; log = start }) desks
+    → All (λ d. KeepsOneOf count d.work.left) desks → Legal o.table.shape o.table.opening start → All (IsReady o start count) seats
+ready-seats o start count t seats desks is told keeps legal = λ k d l.
+    let Told : Desked → Type 0 = λ d. d.seen ≡ record { table = t; log = start } in
+    let Keeps : Desked → Type 0 = λ d. KeepsOneOf count d.work.left in
+    let seen = all-unmapped Told desk_of (backward seats) (subst (All Told) (sym is) told) in
+    let kept = all-unmapped Keeps desk_of (backward seats) (subst (All Keeps) (sym is) keeps) in
+    let seen' = all-forward (λ (s : Seated). Told (desk_of s)) seats seen k d l in
+    let log : (get_or seats k d).seen.log ≡ start = ap (λ (z : Seen). z.log) seen' in
+    record {
+      told = subst (IsPrefix start) (sym log) (prefix_self start);
+      legal = subst (λ (z : List Event). Legal o.table.shape o.table.opening z) (sym log) legal;
+      keeps = all-forward (λ (s : Seated). Keeps (desk_of s)) seats kept k d l;
+    }
+
+-- what becomes of a seat in a round
+abbrev pub Steps : Opened → List Event → ℕ → List Update → Seated → Seated → Type 0
+Steps o start first batch a b = Works o start first batch a b × KeepsIfSpent o b.seen.log b.work.left
+
+module _ (o : Opened) (start log : List Event) (first : ℕ) (batch : List Update) (count : ℕ) (queue : Filled) where
+  abbrev Mine : Seated → Seated → Type 0
+  Mine = Steps o start first batch
+
+  pub hired-consumers : (olds news : List Seated) → AllZip Mine olds news → All (IsHired queue) olds
+      → All (λ s. (s.consumer.queue ≡ queue) × (s.consumer.parts ≡ 1)) news
+  hired-consumers [] [] h hired = All-nil _
+  hired-consumers [] (b ∷ bs) h hired = absurd h
+  hired-consumers (a ∷ as') [] h hired = absurd h
+  hired-consumers (a ∷ as') (b ∷ bs) h hired =
+      let w : Works o start first batch a b = h.0.0 in
+      let mine = (All-head (IsHired queue) a as' hired).consumer in
+      All-cons (λ s. (s.consumer.queue ≡ queue) × (s.consumer.parts ≡ 1)) b bs
+      (w.queue ∙ ap (λ (k : Consuming). k.queue) mine, w.parts ∙ ap (λ (k : Consuming). k.parts) mine)
+      (hired-consumers as' bs h.1 (All-tail (IsHired queue) a as' hired))
+
+  pub have-worked : (olds news : List Seated) → AllZip Mine olds news → All (IsHired queue) olds → All (IsReady o start count) olds
+      → All (λ (s : Seated). IsPrefix s.seen.log log) news → AllZip (HasWorked o start log first batch) olds news
+  have-worked [] [] h hired ready within = tt
+  have-worked [] (b ∷ bs) h hired ready within = absurd h
+  have-worked (a ∷ as') [] h hired ready within = absurd h
+  have-worked (a ∷ as') (b ∷ bs) h hired ready within =
+      let w : Works o start first batch a b = h.0.0 in
+      let mine = All-head (IsHired queue) a as' hired in
+      let r = All-head (IsReady o start count) a as' ready in (
+        record {
+          works = w;
+          told = prefix_trans start a.seen.log b.seen.log r.told w.longer;
+          within = All-head (λ (s : Seated). IsPrefix s.seen.log log) b bs within;
+          spent = h.0.1;
+          nothing_counted = mine.amount;
+          nothing_taken = ap (λ (k : Consuming). k.taken) mine.consumer;
+        },
+        have-worked as' bs h.1 (All-tail (IsHired queue) a as' hired) (All-tail (IsReady o start count) a as' ready)
+            (All-tail (λ (s : Seated). IsPrefix s.seen.log log) b bs within),
+      )
+
+  -- What a round has made, by the desks before it and after it.
+  pub round-made : (seats news : List Seated) (olds : List Desked) (told : List Desked) (before after : List ℕ) (made : ℕ)
+      → Legal o.table.shape o.table.opening log → map desk_of (backward seats) ≡ olds → AllZip Mine seats news → All (IsHired queue) seats
+      → All (IsReady o start count) seats → All (λ d. IsPrefix d.seen.log log) (map desk_of (backward news))
+      → map (λ d. d.work) told ≡ map (λ d. d.work) (map desk_of (backward news)) → after ≡ before ++ all_taken (backward news)
+      → made ≡ amounts (backward news)
+      → Rounds o start log first batch (map (λ d. d.work) olds) (map (λ d. d.work) told) before after made
+  round-made seats news olds told before after made legal is steps hired ready within works taken total =
+      let W : List Desked → List Work = λ ds. map (λ (d : Desked). d.work) ds in
+      let zip = have-worked (backward seats) (backward news) (zip-backward Mine seats news steps) (all-backward (IsHired queue) seats hired)
+      (all-backward (IsReady o start count) seats ready)
+      (all-unmapped (λ (d : Desked). IsPrefix d.seen.log log) desk_of (backward news) within) in
+      let r = rounds-of o start log first batch legal before (backward seats) (backward news) zip in
+      let here : works_at (backward seats) ≡ W olds = sym (works-of (backward seats)) ∙ ap W is in
+      let there : works_at (backward news) ≡ W told = sym (works-of (backward news)) ∙ sym works in
+      subst (λ (z : List Work). Rounds o start log first batch z (W told) before after made) here
+      (subst (λ (z : List Work). Rounds o start log first batch (works_at (backward seats)) z before after made) there
+      (subst (λ (z : List ℕ). Rounds o start log first batch (works_at (backward seats)) (works_at (backward news)) before z made) (sym taken)
+      (subst (λ (z : ℕ). Rounds o start log first batch (works_at (backward seats)) (works_at (backward news)) before (before ++ all_taken (backward news)) z)
+      (sym total) r)))
+
+-- what is in its place still is as it was
+pub still : {A : Type 0} (i : ℕ) (xs ys : List A) (d : A) → drop i xs ≡ drop i ys → get_or xs i d ≡ get_or ys i d
+still {A} i xs ys d is =
+    let at : i + 0 ≡ i = omega arith in
+    ap (λ (k : ℕ). get_or xs k d) (sym at)
+    ∙ (sym (get_or-drop i xs 0 d) ∙ (ap (λ (z : List A). get_or z 0 d) is ∙ (get_or-drop i ys 0 d ∙ ap (λ (k : ℕ). get_or ys k d) at)))
+
+-- a list whose place was written, and which has the same images
+pub same-images : {A B : Type 0} (f : A → B) (xs ys : List A) (i : ℕ) (new d : A) → i < length xs → f new ≡ f (get_or xs i d) → map f xs ≡ map f ys
+    → map f (set xs i new) ≡ map f ys
+same-images {A} {B} f xs ys i new d l same rest = images xs i l same ∙ rest
+  where
+    images : (zs : List A) (k : ℕ) → k < length zs → f new ≡ f (get_or zs k d) → map f (set zs k new) ≡ map f zs
+    images [] k l e = refl
+    images (z ∷ zs) zero l e = ap (λ (b : B). b ∷ map f zs) e
+    images (z ∷ zs) (suc k) l e = ap (λ (bs : List B). f z ∷ bs) (images zs k (omega arith) e)

@@ -1,0 +1,156 @@
+-- What the desks have come to is what the shares tell.
+use Rattle.std.proofs.Common.{◌≡◌, ℕ, All, Global, List, Vec, subst, sym, arith, length, map, vec_len}
+use Rattle.kc_table.specs.declared.pass.Pass.{Pass}
+use Rattle.std.proofs.lemmas.List.Elements.{All-map}
+use Rattle.std.proofs.lemmas.Result.{IfOk-at_ok}
+use Rattle.kc_table.specs.Log.{Seen}
+use Rattle.kc_queue.specs.Shares.{IsWhole}
+use Rattle.kc_shared.specs.States.{Parted}
+use Rattle.kc_batch.specs.Batches.{Account, IsDone}
+use Rattle.kc_batch.specs.Desks.{Desked, Work}
+use Rattle.kc_batch.specs.declared.done.BatchDone.{BatchDone}
+use Rattle.kc_batch.specs.declared.left.Left.TheVariants.{Nothing}
+use Rattle.kc_batch.proofs.Closing.{cut-at_start, done-so, idle, same-many, stood-all-so, stood-many}
+use Rattle.kc_batch.proofs.batch.run_batch.Goals as goal
+
+pub returns-in_default-clause-cut_short : goal.returns-in_default-clause-cut_short
+returns-in_default-clause-cut_short g c = cut-at_start c.args.parts.journal c.args.first c.args.batch.now
+
+pub tell_all-requires : goal.tell_all-requires
+tell_all-requires g c = record { table = c.sit_down-desks.ensures.table c.args.parts.words c.requires.table }
+
+pub run_desks-parts-requires-clause-nothing : goal.run_desks-parts-requires-clause-nothing
+run_desks-parts-requires-clause-nothing g c κs within =
+    subst (All (λ (w : Work). w ≡ idle)) (sym c.tell_all.ensures.works)
+    (All-map (λ (w : Work). w ≡ idle) (λ (d : Desked). d.work) c.sit_down-desks.result.items c.sit_down-desks.ensures.nothing)
+
+pub run_desks-parts-requires-clause-some : goal.run_desks-parts-requires-clause-some
+run_desks-parts-requires-clause-some g c κs within =
+    let many = same-many c.sit_down-desks.result.items c.tell_all.new.desks.items c.tell_all.ensures.works in
+    let same : vec_len c.tell_all.new.desks ≡ vec_len c.args.workers.now =
+    omega (arith, many, c.tell_all.new.desks.ok.0, c.sit_down-desks.result.ok.0, c.sit_down-desks.ensures.as_many) in
+    (omega (arith, same, c.requires.workers.0), omega (arith, same, c.requires.workers.1))
+
+pub stand_up-shares-requires-clause-workers : goal.stand_up-shares-requires-clause-workers
+stand_up-shares-requires-clause-workers g c =
+    let many = same-many c.sit_down-desks.result.items c.tell_all.new.desks.items c.tell_all.ensures.works in (
+      c.sit_down-desks.ensures.workers.0,
+      omega (
+        arith,
+        many,
+        c.tell_all.new.desks.ok.0,
+        c.sit_down-desks.result.ok.0,
+        c.sit_down-desks.ensures.as_many,
+        c.run_desks-parts.ensures.as_many,
+        c.sit_down-desks.ensures.workers.1,
+      ),
+    )
+
+pub stand_up-shares-requires-clause-shares : goal.stand_up-shares-requires-clause-shares
+stand_up-shares-requires-clause-shares g c =
+    let many = same-many c.sit_down-desks.result.items c.tell_all.new.desks.items c.tell_all.ensures.works in
+    let made = c.in-Ok-Ok.ensures' in (
+      made.items,
+      omega (
+        arith,
+        many,
+        c.tell_all.new.desks.ok.0,
+        c.sit_down-desks.result.ok.0,
+        c.sit_down-desks.ensures.as_many,
+        c.run_desks-parts.ensures.as_many,
+        made.capacity,
+        c.len-count.ensures,
+      ),
+    )
+
+pub stand_up-shares-requires-clause-few : goal.stand_up-shares-requires-clause-few
+stand_up-shares-requires-clause-few g c =
+    let many = same-many c.sit_down-desks.result.items c.tell_all.new.desks.items c.tell_all.ensures.works in
+    omega (
+      arith,
+      many,
+      c.tell_all.new.desks.ok.0,
+      c.sit_down-desks.result.ok.0,
+      c.sit_down-desks.ensures.as_many,
+      c.run_desks-parts.ensures.as_many,
+      c.requires.workers.1,
+    )
+
+pub returns-in-Ok-clause-done : goal.returns-in-Ok-clause-done
+returns-in-Ok-clause-done g c =
+    let parts = c.run_desks-parts.result.0 in
+    let desks = c.run_desks-parts.result.1.items in
+    let ended = c.in-Ok.ended in
+    let before : Parted = c.tell_all.new.parts in
+    let old = before.journal in
+    let batch = c.args.batch.now in
+    let done : BatchDone = record { shares = c.stand_up-shares.result; ended = ended } in
+    let Worked : Vec Pass Global → Type 0 = λ ps. (taken : List ℕ) × IsWhole (length batch) taken
+    × Account old parts.journal c.args.first batch ps.items (map (λ (d : Desked). d.work) desks) taken in
+    let Free : Type 0 = All (λ (d : Desked). d.work.left ≡ Nothing) desks in
+    let worked = IfOk-at_ok Worked c.in-Ok.is c.run_desks-parts.ensures.worked in
+    let free = IfOk-at_ok (λ (ps : Vec Pass Global). Free) c.in-Ok.is c.run_desks-parts.ensures.nothing in
+    let many = same-many c.sit_down-desks.result.items c.tell_all.new.desks.items c.tell_all.ensures.works in
+    subst (λ (p : Parted). IsDone p.journal parts.journal c.args.first batch (vec_len c.args.workers.now) done) c.tell_all.ensures.same
+    (done-so old parts.journal c.args.first batch desks worked.0 (vec_len c.args.workers.now) done worked.2 worked.1 free c.stand_up-shares.ensures.done
+    (omega (
+      arith,
+      many,
+      c.tell_all.new.desks.ok.0,
+      c.sit_down-desks.result.ok.0,
+      c.sit_down-desks.ensures.as_many,
+      c.run_desks-parts.ensures.as_many,
+      c.stand_up-shares.ensures.one_each,
+      c.stand_up-shares.result.ok.0,
+    ))
+    c.stand_up-shares.ensures.numbered)
+
+pub returns-in-Ok-clause-as_many : goal.returns-in-Ok-clause-as_many
+returns-in-Ok-clause-as_many g c =
+    let many = same-many c.sit_down-desks.result.items c.tell_all.new.desks.items c.tell_all.ensures.works in
+    let up = stood-many c.stand_up-shares.new.workers.items c.run_desks-parts.result.1.items c.stand_up-shares.ensures.workers in
+    omega (
+      arith,
+      many,
+      up,
+      c.tell_all.new.desks.ok.0,
+      c.sit_down-desks.result.ok.0,
+      c.sit_down-desks.ensures.as_many,
+      c.run_desks-parts.ensures.as_many,
+      c.run_desks-parts.result.1.ok.0,
+      c.stand_up-shares.new.workers.ok.0,
+    )
+
+pub returns-in-Ok-clause-table : goal.returns-in-Ok-clause-table
+returns-in-Ok-clause-table g c =
+    stood-all-so (λ (s : Seen). s.table ≡ c.run_desks-parts.result.0.words) c.stand_up-shares.new.workers.items c.run_desks-parts.result.1.items
+    c.stand_up-shares.ensures.workers c.run_desks-parts.ensures.table
+
+pub returns-in-Ok-clause-told : goal.returns-in-Ok-clause-told
+returns-in-Ok-clause-told g c =
+    let parts = c.run_desks-parts.result.0 in
+    let desks = c.run_desks-parts.result.1.items in
+    let Told : Seen → Type 0 = λ s. s ≡ record { table = parts.words; log = parts.journal.levels.log } in
+    stood-all-so Told c.stand_up-shares.new.workers.items desks c.stand_up-shares.ensures.workers
+    (IfOk-at_ok (λ (ps : Vec Pass Global). All (λ (d : Desked). Told d.seen) desks) c.in-Ok.is c.run_desks-parts.ensures.told)
+
+pub returns-in-Err-clause-as_many : goal.returns-in-Err-clause-as_many
+returns-in-Err-clause-as_many g c =
+    let many = same-many c.sit_down-desks.result.items c.tell_all.new.desks.items c.tell_all.ensures.works in
+    let up = stood-many c.stand_up-shares.new.workers.items c.run_desks-parts.result.1.items c.stand_up-shares.ensures.workers in
+    omega (
+      arith,
+      many,
+      up,
+      c.tell_all.new.desks.ok.0,
+      c.sit_down-desks.result.ok.0,
+      c.sit_down-desks.ensures.as_many,
+      c.run_desks-parts.ensures.as_many,
+      c.run_desks-parts.result.1.ok.0,
+      c.stand_up-shares.new.workers.ok.0,
+    )
+
+pub returns-in-Err-clause-table : goal.returns-in-Err-clause-table
+returns-in-Err-clause-table g c =
+    stood-all-so (λ (s : Seen). s.table ≡ c.run_desks-parts.result.0.words) c.stand_up-shares.new.workers.items c.run_desks-parts.result.1.items
+    c.stand_up-shares.ensures.workers c.run_desks-parts.ensures.table

@@ -1,0 +1,107 @@
+-- What a batch leaves behind.
+use Rattle.std.specs.Prelude.{◌≡◌, ◌<◌, ◌≤◌, ◌+◌, ⊤, ℕ, List, [], ◌∷◌, ◌++◌, All, Contains, length, map, slice_index_or, sum_by}
+use Rattle.std.specs.List.{flat_map}
+use Rattle.kc_graph.specs.declared.update.Update.{Update}
+use Rattle.kc_table.specs.declared.entry.Entry.{Entry}
+use Rattle.kc_table.specs.Log.{PassSeen, TableName}
+use Rattle.kc_journal.specs.Journals.{Journalled}
+use Rattle.kc_journal.specs.declared.answer.Receipt.{Receipt}
+use Rattle.kc_queue.specs.Shares.{Consuming, Filled, IsShare}
+use Rattle.kc_queue.specs.declared.consumer.TheConstants.{PARTS}
+use Rattle.kc_shared.specs.States.{opened_by}
+use Rattle.kc_shared.specs.declared.shared.TheConstants.{MISSES}
+use Rattle.kc_workers.specs.declared.done.Done.{Done}
+use Rattle.kc_workers.specs.declared.share.Share.{Share}
+use Rattle.kc_batch.specs.Desks.{Desked, Work, all_done, all_receipts, at_places, times, times_had}
+use Rattle.kc_batch.specs.Receipts.{AreAllOf, AreSomeOf, IsReceiptOf}
+use Rattle.kc_batch.specs.Runs.{WentOn}
+use Rattle.kc_batch.specs.Seats.{HasTrueMisses}
+use Rattle.kc_batch.specs.declared.done.BatchDone.{BatchDone}
+use Rattle.kc_batch.specs.declared.left.Left.{Left}
+use Rattle.kc_batch.specs.declared.left.Left.TheVariants as left
+use Rattle.kc_batch.specs.declared.standing.Standing.{Standing}
+use Rattle.kc_batch.specs.declared.standing.Standing.TheVariants as standing
+
+-- all that the workers have entered, and its receipts
+abbrev pub done_in : List Share → List Done
+done_in shares = flat_map (λ s. s.done.items) shares
+
+abbrev pub receipts_in : List Share → List Receipt
+receipts_in shares = map (λ d. d.receipt) (done_in shares)
+
+-- The run went on so over these tables, and made some entries of the batch's updates, each at most once.
+pub record WentOnBy (old new : Journalled) (first : ℕ) (batch : List Update) (ended : List PassSeen) (made : List Entry) : Type 0 where
+  pub went : WentOn old ended new
+  pub entries : new.entries ≡ old.entries ++ made
+  pub some : AreSomeOf first batch made
+
+-- where no table was ended, each miss is true from the start of the call to its end
+abbrev pub AreTrueMisses : Journalled → Journalled → List PassSeen → List Done → Type 0
+AreTrueMisses old new ended done = ended ≡ [] → All (HasTrueMisses (opened_by new) old.levels.log new.levels.log) done
+
+-- Each update of the batch was entered once, and stands in one share once. There is one share for each worker, in turn.
+pub record IsDone (old new : Journalled) (first : ℕ) (batch : List Update) (workers : ℕ) (done : BatchDone) : Type 0 where
+  pub made : List Entry
+  pub went : WentOnBy old new first batch done.ended.items made
+  pub as_many : length made ≡ length batch
+  pub receipts : AreAllOf new.started new.entries first batch (length old.entries) (receipts_in done.shares.items)
+  pub one_each : length done.shares.items ≡ workers
+  pub numbered : (i : ℕ) (d : Share) → i < length done.shares.items → (slice_index_or done.shares.items i d).worker ≡ i
+  pub few : All (λ d. length d.misses.items ≤ MISSES) (done_in done.shares.items)
+  pub misses : AreTrueMisses old new done.ended.items (done_in done.shares.items)
+
+-- Nothing but some of the batch's updates was entered, each at most once.
+pub record IsCutShort (old new : Journalled) (first : ℕ) (batch : List Update) : Type 0 where
+  pub ended : List PassSeen
+  pub made : List Entry
+  pub went : WentOnBy old new first batch ended made
+
+-- What holds of the work between two rounds: the run went on, what was entered is told by receipts, and what was taken of the queue is what
+-- the workers have entered and have in hand.
+pub record Account (old now : Journalled) (first : ℕ) (batch : List Update) (ended : List PassSeen) (works : List Work) (taken : List ℕ)
+    : Type 0 where
+  pub went : WentOn old ended now
+  pub receipts : All (IsReceiptOf now.started now.entries first batch (length old.entries)) (all_receipts works)
+  pub count : length now.entries ≡ length old.entries + length (all_receipts works)
+  pub balance : (y : ℕ) → sum_by (times_had first y) works ≡ times y (at_places first taken)
+  pub few : All (λ d. length d.misses.items ≤ MISSES) (all_done works)
+  pub misses : AreTrueMisses old now ended (all_done works)
+
+-- What holds of a crew between two rounds: its account; each worker has been told the whole log; and the consumer has all parts of the
+-- queue.
+pub record IsCrew (old : Journalled) (first : ℕ) (batch : List Update) (ended : List PassSeen) (queue : Filled) (words : TableName)
+    (now : Journalled) (desks : List Desked) (consumer : Consuming) : Type 0 where
+  pub account : Account old now first batch ended (map (λ d. d.work) desks) consumer.taken
+  pub table : now.levels.table ≡ words
+  pub told : All (λ d. d.seen ≡ record { table = words; log = now.levels.log }) desks
+  pub of_queue : consumer.queue ≡ queue
+  pub parts : consumer.parts ≡ PARTS
+  pub share : IsShare queue.count consumer.taken
+
+-- a call: where it began, and the batch with the index of its first update
+pub record BatchOf : Type 0 where
+  pub old : Journalled
+  pub first : ℕ
+  pub batch : List Update
+
+-- The first desk keeps the update at this place, and nothing else has changed.
+abbrev pub Gives : ℕ → List Desked → List Desked → Type 0
+Gives place [] new = ⊥
+Gives place (d ∷ ds) new = new ≡ record d { work = record { done = d.work.done; left = left.Kept place } } ∷ ds
+
+-- what a worker may have left where it can go on
+abbrev pub MayGoOn : Left → Type 0
+MayGoOn left.Nothing = ⊤
+MayGoOn (left.Kept place) = ⊤
+MayGoOn (left.Dropped place) = ⊥
+MayGoOn (left.Untold receipt) = ⊥
+
+-- a worker keeps an update
+abbrev pub SomeKeeps : List Work → Type 0
+SomeKeeps works = (w : Work) × (place : ℕ) × Contains works w × (w.left ≡ left.Kept place)
+
+-- How all work stands: nothing is left; something is kept and none was dropped; or memory ran out.
+abbrev pub IsStanding : List Work → Standing → Type 0
+IsStanding works standing.Free = All (λ w. w.left ≡ left.Nothing) works
+IsStanding works standing.Keeping = All (λ w. MayGoOn w.left) works × SomeKeeps works
+IsStanding works standing.Short = ⊤

@@ -1,0 +1,5 @@
+pub mod Batches
+pub mod Desks
+pub mod Receipts
+pub mod Runs
+pub mod Seats

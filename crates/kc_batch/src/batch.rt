@@ -1,0 +1,200 @@
+//! A batch of updates, entered by several workers.
+ghost use Rattle.std.specs.Prelude.{◌≡◌, ◌<◌, ◌≤◌, ◌+◌, ℕ, List, [], All, IfOk, OnErr, OnOk, length, map, slice_index_or, vec_len, vec_capacity};
+ghost use Rattle.kc_table.specs.Log.{TableName};
+ghost use Rattle.kc_queue.specs.declared.consumer.TheConstants.{WORKERS};
+ghost use Rattle.kc_queue.specs.Shares.{IsWhole};
+ghost use Rattle.kc_levels.specs.declared.levels.TheConstants.{LAST_NUMBER};
+ghost use Rattle.kc_journal.specs.Journals.{Stands};
+ghost use Rattle.kc_workers.specs.declared.share.Share.{Share as ShareOf};
+ghost use Rattle.kc_batch.specs.Batches.{Account, BatchOf, IsCrew, IsCutShort, IsDone};
+ghost use Rattle.kc_batch.specs.Desks.{KeepsOneOf};
+ghost use Rattle.kc_batch.specs.Seats.{backward};
+
+use crate::crew::Crew;
+use crate::desk::Desk;
+use crate::done::BatchDone;
+use crate::left::Left;
+use crate::round::{round, tell_all};
+use kc_graph::{NoMemory, Update};
+use kc_queue::WorkQueue;
+use kc_shared::Parts;
+use kc_table::Pass;
+use kc_words::INDICES;
+use kc_workers::{Gate, Share, Worker};
+use std::alloc::{AllocError, Global};
+use std::marker::Brand;
+use std::sync::Wait;
+use std::sync::ledger::Blank;
+use std::thread::Threads;
+
+/// Gives each worker a desk, the last one first. The list of workers keeps its room.
+fn sit_down(alloc: Global, workers: &mut Vec<Worker>, mut desks: Vec<Desk>) -> Vec<Desk>
+    requires room { (desks.items ≡ []) × (vec_len workers.old ≤ vec_capacity desks) }
+    ensures workers { (workers.new.items ≡ []) × (vec_len workers.old ≤ vec_capacity workers.new) }
+    ensures as_many { vec_len result ≡ vec_len workers.old }
+    ensures table { (t : TableName) → All (λ w. w.table ≡ t) workers.old.items → All (λ d. d.seen.table ≡ t) result.items }
+    ensures nothing { All (λ d. d.work ≡ record { done = []; left = Left.Nothing }) result.items }
+{
+    while let Some(worker) = workers.pop() {
+        desks.push_reserved(Desk {
+            worker,
+            done: Vec::new(alloc),
+            left: Left::Nothing,
+        });
+    }
+    desks
+}
+
+/// Gives each worker back, the last one first, and what it has entered as its share.
+fn stand_up(mut desks: Vec<Desk>, workers: &mut Vec<Worker>, mut shares: Vec<Share>) -> Vec<Share>
+    requires workers { (workers.old.items ≡ []) × (vec_len desks ≤ vec_capacity workers.old) }
+    requires shares { (shares.items ≡ []) × (vec_len desks ≤ vec_capacity shares) }
+    requires few { vec_len desks ≤ WORKERS }
+    ensures workers { workers.new.items ≡ map (λ d. d.seen) (backward desks.items) }
+    ensures done { map (λ s. s.done.items) result.items ≡ map (λ d. d.work.done) (backward desks.items) }
+    ensures one_each { vec_len result ≡ vec_len desks }
+    ensures numbered { (i : ℕ) (d : ShareOf) → i < length result.items → (slice_index_or result.items i d).worker ≡ i }
+{
+    while let Some(desk) = desks.pop() {
+        let Desk { worker, done, .. } = desk;
+        workers.push_reserved(worker);
+        let number = shares.len() as u32;
+        shares.push_reserved(Share {
+            worker: number,
+            done,
+        });
+    }
+    shares
+}
+
+/// Rounds of workers, with a renewal of the table between two of them where its versions are nearly spent, until all updates of the batch
+/// are entered or memory runs out.
+fn work_off<G: Gate + Sync, R: Threads + Wait + Sync>(
+    rt: &R,
+    alloc: Global,
+    mut crew: Crew,
+    queue: &WorkQueue,
+    first: u32,
+    batch: &[Update],
+    gate: &G,
+) -> (Crew, Result<Vec<Pass>, NoMemory>)
+    ghost of: { BatchOf }
+    requires of { (of.first ≡ first) × (of.batch ≡ batch.now) }
+    requires crew { IsCrew of.old of.first of.batch [] queue.now crew.parts.words crew.parts.journal crew.desks.items crew.consumer }
+    requires keeps { All (λ d. KeepsOneOf (length batch.now) d.work.left) crew.desks.items }
+    requires some { (0 < vec_len crew.desks) × (vec_len crew.desks ≤ WORKERS) }
+    requires count { queue.now.count ≡ length batch.now }
+    requires indices { first + length batch.now ≤ INDICES }
+    requires within { All (λ u. u.v < crew.parts.words.shape.fixed) batch.now }
+    ensures as_many { vec_len result.0.desks ≡ vec_len crew.desks }
+    ensures crew { IfOk result.1 (λ ended. IsCrew of.old of.first of.batch ended.items queue.now result.0.parts.words result.0.parts.journal
+        result.0.desks.items result.0.consumer) }
+    ensures whole { OnOk result.1 (IsWhole queue.now.count result.0.consumer.taken × All (λ d. d.work.left ≡ Left.Nothing) result.0.desks.items) }
+    ensures cut_short { OnErr result.1 (IsCutShort of.old result.0.parts.journal of.first of.batch
+        × All (λ d. d.seen.table ≡ result.0.parts.words) result.0.desks.items) }
+{
+    let mut ended = Vec::new(alloc);
+    for _ in rt.forever() {
+        crew.parts.journal.look();
+        let blank = Blank::new(crew.desks.len() as u64);
+        crew = match round::<Brand, G, R>(rt, alloc, blank, crew, queue, first, batch, gate) {
+            Ok(after) => after,
+            Err(before) => return (before, Err(AllocError)),
+        };
+        crew.parts.journal.look();
+        match crew.go_on(rt, alloc, queue, &mut ended) {
+            Ok(true) => {}
+            Ok(false) => return (crew, Ok(ended)),
+            Err(fault) => return (crew, Err(fault)),
+        }
+    }
+    unreachable!()
+}
+
+/// Works off a batch from desks that have been told all and have nothing left. Gives them back with the parts and what `work_off` gives.
+fn run_desks<G: Gate + Sync, R: Threads + Wait + Sync>(
+    rt: &R,
+    alloc: Global,
+    parts: Parts,
+    desks: Vec<Desk>,
+    first: u32,
+    batch: &[Update],
+    gate: &G,
+) -> (Parts, Vec<Desk>, Result<Vec<Pass>, NoMemory>)
+    requires told { All (λ d. d.seen ≡ record { table = parts.words; log = parts.journal.levels.log }) desks.items }
+    requires nothing { All (λ w. w ≡ record { done = []; left = Left.Nothing }) (map (λ d. d.work) desks.items) }
+    requires some { (0 < vec_len desks) × (vec_len desks ≤ WORKERS) }
+    requires indices { first + length batch.now ≤ INDICES }
+    requires within { All (λ u. u.v < parts.words.shape.fixed) batch.now }
+    ensures as_many { vec_len result.1 ≡ vec_len desks }
+    ensures worked { IfOk result.2 (λ ended. (taken : List ℕ) × IsWhole (length batch.now) taken
+        × Account parts.journal result.0.journal first batch.now ended.items (map (λ d. d.work) result.1.items) taken) }
+    ensures nothing { OnOk result.2 (All (λ d. d.work.left ≡ Left.Nothing) result.1.items) }
+    ensures told { OnOk result.2 (All (λ d. d.seen ≡ record { table = result.0.words; log = result.0.journal.levels.log }) result.1.items) }
+    ensures cut_short { OnErr result.2 (IsCutShort parts.journal result.0.journal first batch.now) }
+    ensures table { All (λ d. d.seen.table ≡ result.0.words) result.1.items }
+{
+    parts.journal.look();
+    if batch.is_empty() {
+        return (parts, desks, Ok(Vec::new(alloc)));
+    }
+    let Ok((queue, consumer)) = WorkQueue::filled(rt, alloc, batch.len() as u32) else {
+        return (parts, desks, Err(AllocError));
+    };
+    let crew = Crew {
+        parts,
+        desks,
+        consumer,
+    };
+    let (crew, worked) = work_off(rt, alloc, crew, &queue, first, batch, gate);
+    let Crew { parts, desks, .. } = crew;
+    (parts, desks, worked)
+}
+
+/// Enters all updates of a batch. The update at place `i` of the batch, from 0, has the index `first + i`.
+///
+/// There is one worker for each of `workers`, in a thread of its own where one can be made; a single worker runs on the caller's. They take
+/// the updates from one queue. Where the versions of the table are nearly spent the run goes on in a fresh one, as often as it is needed,
+/// and an update that could not be entered for that is entered there.
+///
+/// At Ok each update of the batch is an entry, once, and stands in one share, once, and no other entry was made. `NoMemory` comes where
+/// there is none: then some of the updates were entered, each at most once. Whatever is answered, the journal stands, its entries go on
+/// from the old ones, and there are as many workers as before, all of the table of the answered parts.
+pub fn run_batch<G: Gate + Sync, R: Threads + Wait + Sync>(
+    rt: &R,
+    alloc: Global,
+    mut parts: Parts,
+    workers: &mut Vec<Worker>,
+    first: u32,
+    batch: &[Update],
+    gate: &G,
+) -> (Parts, Result<BatchDone, NoMemory>)
+    requires workers { (0 < vec_len workers.old) × (vec_len workers.old ≤ WORKERS) }
+    requires table { All (λ w. w.table ≡ parts.words) workers.old.items }
+    requires indices { first + length batch.now ≤ INDICES }
+    requires within { All (λ u. u.v < parts.words.shape.fixed) batch.now }
+    requires numbers { length parts.journal.entries + length batch.now ≤ LAST_NUMBER }
+    ensures stands { Stands result.0.journal }
+    ensures words { result.0.journal.levels.table ≡ result.0.words }
+    ensures done { IfOk result.1 (λ done. IsDone parts.journal result.0.journal first batch.now (vec_len workers.old) done) }
+    ensures cut_short { OnErr result.1 (IsCutShort parts.journal result.0.journal first batch.now) }
+    ensures as_many { vec_len workers.new ≡ vec_len workers.old }
+    ensures table { All (λ w. w.table ≡ result.0.words) workers.new.items }
+    ensures told { OnOk result.1 (All (λ w. w ≡ record { table = result.0.words; log = result.0.journal.levels.log }) workers.new.items) }
+{
+    let count = workers.len();
+    let (Ok(desks), Ok(shares)) = (
+        Vec::with_capacity(alloc, count),
+        Vec::with_capacity(alloc, count),
+    ) else {
+        return (parts, Err(AllocError));
+    };
+    let mut desks = sit_down(alloc, workers, desks);
+    tell_all(&mut parts, &mut desks);
+    let (parts, desks, worked) = run_desks(rt, alloc, parts, desks, first, batch, gate);
+    let shares = stand_up(desks, workers, shares);
+    match worked {
+        Ok(ended) => (parts, Ok(BatchDone { shares, ended })),
+        Err(fault) => (parts, Err(fault)),
+    }
+}

@@ -1,0 +1,12 @@
+//! What a batch has come to.
+use kc_table::Pass;
+use kc_workers::Share;
+
+/// All updates of a batch were entered.
+#[derive(Drop)]
+pub struct BatchDone {
+    /// What each worker has entered, in the order of the workers.
+    pub shares: Vec<Share>,
+    /// For each table that was ended because its versions were nearly spent, oldest first, a pass that has seen its whole log.
+    pub ended: Vec<Pass>,
+}
