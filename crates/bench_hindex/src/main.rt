@@ -1,7 +1,7 @@
 //! Measures core numbers by rounds of h-indices beside those by buckets, on a graph that it reads from standard input as a SNAP edge list.
 //!
 //! Without a word it writes what was counted, which never varies for one graph. With the word `time` it makes five rounds of measuring and
-//! writes beside each count how long it took. The rounds of h-indices run in several threads for each processor: `taskset` chooses
+//! writes beside each count how long it took. The rounds of h-indices run in a thread for each processor: `taskset` chooses
 //! how many processors there are.
 #![tactic(auto)]
 

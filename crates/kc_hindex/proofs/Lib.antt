@@ -1,9 +1,10 @@
 pub mod Cores
+pub mod Dealing
 pub mod HIndex
-pub mod Placing
 pub mod Releasing
 pub mod Rows
 pub mod Settling
 pub mod Taking
+pub mod TakingOver
 pub mod Tallying
 pub mod Uncrossed

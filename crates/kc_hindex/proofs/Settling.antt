@@ -123,15 +123,11 @@ round-next g r old new a b = record {
   each = λ v l. b.each v l ∙ ap (λ (xs : List ℕ). h_index xs) (map-agree (λ w. get_or old w 0) (after_rounds g r) (neighbours_of g v) (λ w m. a.each w (neighbours_within g v w m).0));
 }
 
--- numbers that were taken over from those of the next round are those of that round
-pub taken-next : (g : SimpleGraph) (r : ℕ) (new taken : List ℕ) → HasRound g (suc r) new → taken ≡ new → HasRound g (suc r) taken
-taken-next g r new taken h e = subst (λ (xs : List ℕ). HasRound g (suc r) xs) (sym e) h
-
--- the same, with the number of that round as the loop counts it
-pub taken-over : (g : SimpleGraph) (r : ℕ) (new taken : List ℕ) → HasRound g (suc r) new → taken ≡ new → HasRound g (r + 1) taken
-taken-over g r new taken h e =
+-- the numbers of the next round, as the loop counts it
+pub round-over : (g : SimpleGraph) (r : ℕ) (new : List ℕ) → HasRound g (suc r) new → HasRound g (r + 1) new
+round-over g r new h =
     let next : suc r ≡ r + 1 = omega arith in
-    subst (λ (n : ℕ). HasRound g n taken) next (taken-next g r new taken h e)
+    subst (λ (n : ℕ). HasRound g n new) next h
 
 -- the sum after a round that changed something
 pub falls-by-one : (g : SimpleGraph) (r : ℕ) (old new : List ℕ) → HasRound g r old → HasRound g (suc r) new → (old ≡ new → ⊥)
@@ -146,3 +142,10 @@ pub later-settled : (g : SimpleGraph) (r : ℕ) → ((s : ℕ) → IsSettled g s
 later-settled g r none less s h =
     let next : r + 1 ≡ suc r = omega arith in
     omega (arith, later g r none (subst (λ (n : ℕ). total (after_rounds g n) g.size < total (after_rounds g r) g.size) next less) s h)
+
+-- a round raises no number that rounds have led to
+pub falls : (g : SimpleGraph) (r : ℕ) (numbers : List ℕ) → HasRound g r numbers → (v : ℕ) → v < g.size → h_round g (λ w. get_or numbers w 0) v ≤ get_or numbers v 0
+falls g r numbers h v l =
+    let same : h_round g (λ w. get_or numbers w 0) v ≡ after_rounds g (suc r) v =
+    ap (λ (xs : List ℕ). h_index xs) (map-agree (λ w. get_or numbers w 0) (after_rounds g r) (neighbours_of g v) (λ w m. h.each w (neighbours_within g v w m).0)) in
+    omega (arith, same, never_rises g r v, h.each v l)

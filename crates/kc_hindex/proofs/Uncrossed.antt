@@ -1,5 +1,5 @@
 -- A vertex whose number no vertex has crossed keeps it.
-use Rattle.std.proofs.Common.{◌≡◌, ◌≤◌, ◌<◌, ◌∙◌, ℕ, suc, Bool, List, length, map, get_or, leb, sym, ap, subst, arith, inl, inr, true≢false, leb-true, le-leb}
+use Rattle.std.proofs.Common.{◌≡◌, ◌≤◌, ◌<◌, ◌∙◌, ℕ, suc, Bool, List, length, map, get_or, leb, sym, ap, subst, arith, inl, inr, true, false, true≢false, leb-true, le-leb}
 use Rattle.std.specs.Prelude.{count_by}
 use Rattle.std.proofs.lemmas.Bool.{cases_lt}
 use Rattle.kc_distinct.specs.Lists.{below}
@@ -7,11 +7,11 @@ use Rattle.kc_distinct.proofs.Counting.{count-le-length, count-mono, length-belo
 use Rattle.kc_graph.specs.SimpleGraph.{SimpleGraph, adjacent}
 use Rattle.kc_graph.specs.Neighbours.{neighbours_of}
 use Rattle.kc_graph.proofs.NeighbourLists.{neighbours_within}
-use Rattle.kc_hindex.specs.Places.{Crosses, KeepsUncrossed}
+use Rattle.kc_hindex.specs.Crossing.{Crosses}
+use Rattle.kc_hindex.specs.Pieces.{AreReady, KeepsUncrossed}
 use Rattle.kc_hindex.specs.Rounds.{HasRound, after_rounds, h_index}
 use Rattle.kc_hindex.proofs.HIndex.{count-map, h_index-reached, in_reach}
-use Rattle.kc_hindex.proofs.Placing.{falls}
-use Rattle.kc_hindex.proofs.Settling.{map-agree, never_rises}
+use Rattle.kc_hindex.proofs.Settling.{falls, map-agree, never_rises}
 
 -- the neighbours that reached the number of a vertex still do, where no vertex has crossed it
 pub keeps : (g : SimpleGraph) (r : ℕ) (old new : List ℕ) (crossed : List Bool) → HasRound g r old → HasRound g (suc r) new
@@ -33,12 +33,26 @@ keeps g r old new crossed a b marks v l none =
     ]) in
     omega (arith, falls g (suc r) new b v l, in_reach f' near k (omega (arith, before, count-map (leb k) f near, more)))
 
--- as many marks as there were for numbers are enough for those after one more round
-pub marked-next : (g : SimpleGraph) (r marks marks' : ℕ) (old new : List ℕ) → HasRound g r old → HasRound g (suc r) new
-    → ((v : ℕ) → v < length old → get_or old v 0 < marks) → marks' ≡ marks → (v : ℕ) → v < length new → get_or new v 0 < marks'
-marked-next g r marks marks' old new a b within same v l =
-    let in' : v < g.size = omega (arith, l, b.one_each) in
-    omega (arith, within v (omega (arith, in', a.one_each)), a.each v in', b.each v in', never_rises g r v, same)
+-- a round may be made of the degrees, where all numbers are marked
+pub first-ready : (g : SimpleGraph) (numbers : List ℕ) (crossed : List Bool) → HasRound g 0 numbers
+    → ((v : ℕ) → v < length numbers → get_or numbers v 0 < length crossed) → ((k : ℕ) → k < length crossed → get_or crossed k false ≡ true)
+    → AreReady g numbers crossed
+first-ready g numbers crossed has within all = record {
+  one_each = has.one_each;
+  marked = λ v l. within v (omega (arith, l, has.one_each));
+  keeps = λ v l none. absurd (true≢false (sym (all (get_or numbers v 0) (within v (omega (arith, l, has.one_each)))) ∙ none));
+  falls = falls g 0 numbers has;
+}
+
+-- and one of the numbers that a round has made, where those that it crossed are marked
+pub next-ready : (g : SimpleGraph) (r : ℕ) (old new : List ℕ) (crossed crossed' : List Bool) → HasRound g r old → HasRound g (suc r) new
+    → AreReady g old crossed → Crosses old new crossed' → length crossed' ≡ length crossed → AreReady g new crossed'
+next-ready g r old new crossed crossed' a b ready marks same = record {
+  one_each = b.one_each;
+  marked = λ v l. omega (arith, ready.marked v l, a.each v l, b.each v l, never_rises g r v, same);
+  keeps = keeps g r old new crossed' a b marks;
+  falls = falls g (suc r) new b;
+}
 
 -- degrees are at most the number of vertices
 pub degrees-bounded : (g : SimpleGraph) (degrees : List ℕ) → HasRound g 0 degrees → (v : ℕ) → v < length degrees → get_or degrees v 0 ≤ g.size

@@ -1,3 +1,4 @@
+pub mod Crossing
 pub mod Ordering
-pub mod Places
+pub mod Pieces
 pub mod Rounds

@@ -1,4 +1,4 @@
-//! Core numbers by rounds, in several threads for each processor.
+//! Core numbers by rounds, in a thread for each processor.
 //!
 //! Each vertex begins with its degree. In a round each takes the h-index of its neighbours' numbers, all at once: the greatest k for which
 //! at least k of them are at least k. Numbers never rise, and once a round changes none they are the core numbers (Lü, Zhou, Zhang and
@@ -15,7 +15,7 @@ mod crossing;
 mod degrees;
 mod ordering;
 mod peeling;
-mod place;
+mod piece;
 mod rounds;
 #[cfg(test)]
 mod tests;

@@ -1,86 +1,118 @@
-//! One round, by several threads for each processor.
-ghost use Rattle.std.specs.Prelude.{◌≡◌, ◌≤◌, ◌<◌, ◌^◌, ℕ, false, length, slice_index, slice_index_or, vec_len};
-ghost use Rattle.kc_hindex.specs.Rounds.{h_round};
-ghost use Rattle.kc_hindex.specs.Places.{AreRoundOf, HaveRoom, KeepsUncrossed};
+//! One round, by a thread for each processor.
+ghost use Rattle.std.specs.Prelude.{◌≡◌, ◌↔◌, ◌≤◌, ◌<◌, ◌+◌, ◌*◌, ◌^◌, ℕ, false, length, slice_index, vec_len};
+ghost use Rattle.kc_hindex.specs.Rounds.{IsRoundOf, h_round};
+ghost use Rattle.kc_hindex.specs.Crossing.{Crosses};
+ghost use Rattle.kc_hindex.specs.Pieces.{AreDealt, AreMade, AreReady, MadeFrom};
 
 use crate::counting::h_index_of;
-use crate::place::Place;
+use crate::crossing::take_over;
+use crate::piece::Piece;
 use kc_graph::Graph;
 use rayon::current_num_threads;
 use std::thread;
 use std::thread::Threads;
 
-/// How many processors a round makes use of.
+/// How many processors rounds make use of.
 const MOST_PROCESSORS: usize = 32;
 
-/// Into how many pieces the places are cut for each processor, where there are several. Degrees are skewed: on many graphs the vertices in
-/// front have most edges, and with one piece each, most processors would wait for the first.
-const PIECES_EACH: usize = 8;
-
-/// Into how many pieces the places are cut: one where there is one processor.
-fn pieces(rt: &impl Threads) -> usize
+/// How many processors there are to make use of.
+pub(crate) fn processors(rt: &impl Threads) -> usize
     ensures { 0 < result }
 {
-    let processors = current_num_threads(rt).min(MOST_PROCESSORS);
-    if processors == 1 {
-        return 1;
-    }
-    processors * PIECES_EACH
+    current_num_threads(rt).min(MOST_PROCESSORS)
 }
 
-/// Gives the place of a vertex what a round makes of its number, which it keeps where that was not crossed.
-fn round_at(graph: &Graph, v: u32, numbers: &[u32], crossed: &[bool], place: &mut Place)
+/// What a round makes of the number of a vertex, which keeps it where it was not crossed.
+fn number_after(
+    graph: &Graph,
+    v: usize,
+    numbers: &[u32],
+    crossed: &[bool],
+    counts: &mut [u32],
+) -> u32
     requires within { v < graph.now.size }
-    requires numbers { length numbers.now ≡ graph.now.size }
-    requires marked { slice_index numbers.now v < length crossed.now }
-    requires keeps { slice_index_or crossed.now (slice_index numbers.now v) false ≡ false
-        → h_round graph.now (slice_index numbers.now) v ≡ slice_index numbers.now v }
-    requires room { slice_index numbers.now v < vec_len place.old.counts }
-    requires falls { h_round graph.now (slice_index numbers.now) v ≤ slice_index numbers.now v }
-    ensures number { place.new.number ≡ h_round graph.now (slice_index numbers.now) v }
-    ensures room { vec_len place.new.counts ≡ vec_len place.old.counts }
+    requires ready { AreReady graph.now numbers.now crossed.now }
+    requires room { length counts.old ≡ length crossed.now }
+    ensures number { result ≡ h_round graph.now (slice_index numbers.now) v }
+    ensures room { length counts.new ≡ length counts.old }
 {
     let _vertices = graph.vertices();
-    let limit = numbers[v as usize];
+    let limit = numbers[v];
     if !crossed[limit as usize] {
-        place.number = limit;
-        return;
+        return limit;
     }
-    place.number = h_index_of(limit, graph.neighbours(v), numbers, &mut place.counts);
+    h_index_of(limit, graph.neighbours(v as u32), numbers, counts)
 }
 
-/// One round: each place gets what the round makes of its vertex's number, however the places are cut among threads. No round is made
-/// that would raise a number, or change one that is not marked as crossed.
-pub(crate) fn round(
+/// Gives a piece what the round makes of the numbers of its vertices, which stand a step apart from the first on.
+fn fill_piece(
+    graph: &Graph,
+    numbers: &[u32],
+    crossed: &[bool],
+    first: usize,
+    step: usize,
+    piece: &mut Piece,
+)
+    requires within { (i : ℕ) → i < length piece.old.numbers.items → first + i * step < graph.now.size }
+    requires ready { AreReady graph.now numbers.now crossed.now }
+    requires room { vec_len piece.old.counts ≡ length crossed.now }
+    ensures made { MadeFrom graph.now numbers.now first step piece.new.numbers.items }
+    ensures len { length piece.new.numbers.items ≡ length piece.old.numbers.items }
+    ensures room { vec_len piece.new.counts ≡ vec_len piece.old.counts }
+{
+    let _vertices = graph.vertices();
+    for i in 0..piece.numbers.len() {
+        let v = first + i * step;
+        piece.numbers[i] = number_after(graph, v, numbers, crossed, &mut piece.counts);
+    }
+}
+
+/// Gives each piece what the round makes of the numbers of its vertices, in a thread of its own.
+fn fill_pieces(
     rt: &(impl Threads + Sync),
     graph: &Graph,
     numbers: &[u32],
     crossed: &[bool],
-    places: &mut [Place],
+    pieces: &mut [Piece],
 )
-    requires numbers { length numbers.now ≡ graph.now.size }
-    requires places { length places.old ≡ graph.now.size }
-    requires marked { (v : ℕ) → v < length numbers.now → slice_index numbers.now v < length crossed.now }
-    requires keeps { KeepsUncrossed graph.now numbers.now crossed.now }
-    requires room { HaveRoom numbers.now places.old }
-    requires falls { (v : ℕ) → v < graph.now.size → h_round graph.now (slice_index numbers.now) v ≤ slice_index numbers.now v }
-    ensures round { AreRoundOf graph.now numbers.now places.new }
-    ensures room { HaveRoom numbers.now places.new }
+    requires ready { AreReady graph.now numbers.now crossed.now }
+    requires dealt { AreDealt graph.now.size (length crossed.now) pieces.old }
+    ensures made { AreMade graph.now numbers.now pieces.new }
+    ensures dealt { AreDealt graph.now.size (length crossed.now) pieces.new }
 {
-    let _vertices = graph.vertices();
+    let step = pieces.len();
     thread::for_each_mut(
         rt,
-        places,
-        pieces(rt),
-        &|v: usize, place: &mut Place|
-            requires { (v < graph.now.size) × (length numbers.now ≡ graph.now.size) × (graph.now.size < 2 ^ 32)
-                × (slice_index numbers.now v < vec_len place.old.counts) × (h_round graph.now (slice_index numbers.now) v ≤ slice_index numbers.now v)
-                × (slice_index numbers.now v < length crossed.now)
-                × (slice_index_or crossed.now (slice_index numbers.now v) false ≡ false
-                → h_round graph.now (slice_index numbers.now) v ≡ slice_index numbers.now v) }
-            ensures { (place.new.number ≡ h_round graph.entry.now (slice_index numbers.entry.now) v) × (vec_len place.new.counts ≡ vec_len place.old.counts) }
+        pieces,
+        step,
+        &|first: usize, piece: &mut Piece|
+            requires { AreReady graph.now numbers.now crossed.now × (vec_len piece.old.counts ≡ length crossed.now)
+                × ((i : ℕ) → i < length piece.old.numbers.items → first + i * step < graph.now.size) }
+            ensures { MadeFrom graph.entry.now numbers.entry.now first step piece.new.numbers.items
+                × (length piece.new.numbers.items ≡ length piece.old.numbers.items) × (vec_len piece.new.counts ≡ vec_len piece.old.counts) }
         {
-            round_at(graph, v as u32, numbers, crossed, place);
+            fill_piece(graph, numbers, crossed, first, step, piece);
         },
     );
+}
+
+/// One round: each vertex gets what the round makes of its number, all at once, however the vertices are dealt out among threads. The
+/// numbers that are crossed are marked. It says whether some number changed.
+pub(crate) fn round(
+    rt: &(impl Threads + Sync),
+    graph: &Graph,
+    numbers: &mut [u32],
+    crossed: &mut [bool],
+    pieces: &mut [Piece],
+) -> bool
+    requires ready { AreReady graph.now numbers.old crossed.old }
+    requires dealt { AreDealt graph.now.size (length crossed.old) pieces.old }
+    ensures round { IsRoundOf graph.now numbers.old numbers.new }
+    ensures crossed { Crosses numbers.old numbers.new crossed.new }
+    ensures marks { length crossed.new ≡ length crossed.old }
+    ensures dealt { AreDealt graph.now.size (length crossed.new) pieces.new }
+    ensures changed { result ≡ false ↔ (numbers.new ≡ numbers.old) }
+{
+    fill_pieces(rt, graph, numbers, crossed, pieces);
+    take_over(numbers, crossed, pieces)
 }

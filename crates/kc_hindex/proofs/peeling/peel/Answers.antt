@@ -12,5 +12,5 @@ settle-rounds-requires-clause-marked g c κs within = λ v l.
           (subst (λ (xs : List ℕ). HasRound c.args.graph.now 0 xs) (sym c.deref_mut.ensures.value) c.in_ok-core.ensures) v l,
       ap length c.deref_mut-2.ensures.value,
       c.in_ok-crossed.ensures.len,
-      c.vertices.ensures,
+      c.vertices-vertices.ensures,
     )

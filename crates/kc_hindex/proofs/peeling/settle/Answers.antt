@@ -1,91 +1,69 @@
 -- While a round changes a number the sum of the numbers falls; once one changes none, the numbers have settled.
-use Rattle.std.proofs.Common.{◌<◌, ◌+◌, ◌∙◌, ℕ, List, length, sym, subst, arith}
+use Rattle.std.proofs.Common.{◌≡◌, ◌<◌, ◌+◌, ◌∙◌, ℕ, suc, List, length, sym, subst, arith}
 use Rattle.std.proofs.lemmas.Bool.{true≢false}
 use Rattle.kc_graph.specs.SimpleGraph.{SimpleGraph}
-use Rattle.kc_hindex.specs.Places.{HaveRoom, numbers_of}
-use Rattle.kc_hindex.specs.Rounds.{HasRound, after_rounds, total}
-use Rattle.kc_hindex.proofs.Settling.{falls-by-one, later-settled, round-next, taken-next, taken-over, total-fits, unchanged}
+use Rattle.kc_hindex.specs.Rounds.{AreRounds, HasRound, after_rounds, total}
+use Rattle.kc_hindex.proofs.Settling.{falls-by-one, here, later-settled, round-next, round-over, total-fits, unchanged}
 use Rattle.kc_hindex.proofs.Cores.{settled-are_core}
-use Rattle.kc_hindex.proofs.Placing.{falls, room-next}
-use Rattle.kc_hindex.proofs.Uncrossed.{keeps, marked-next}
+use Rattle.kc_hindex.proofs.Uncrossed.{first-ready, next-ready}
 use Rattle.kc_hindex.proofs.peeling.settle.Goals as goal
 
-pub round-requires-clause-falls : goal.round-requires-clause-falls
-round-requires-clause-falls g c = λ _ _. falls c.args.graph.now 0 c.args.numbers.now c.requires.degrees
-
-pub loop-crossed-init : goal.loop-crossed-init
-loop-crossed-init g c = (
+pub loop-changing-init : goal.loop-changing-init
+loop-changing-init g c = (
   c.requires.degrees,
-  round-next c.args.graph.now 0 c.args.numbers.now (numbers_of c.round.new.places) c.requires.degrees c.round.ensures.round,
   (λ s _. omega arith),
   omega arith,
-  c.round.ensures.room,
-  c.requires.marked,
+  first-ready c.args.graph.now c.args.numbers.now c.args.crossed.now c.requires.degrees c.requires.marked c.requires.all,
+  c.requires.dealt,
 )
 
-pub overflow_add-passed : goal.overflow_add-passed
-overflow_add-passed g c =
-    omega (arith, c.loop-crossed.invariant.3, total-fits c.args.graph.now (omega (arith, c.vertices-vertices.ensures)))
+pub overflow_add-changing : goal.overflow_add-changing
+overflow_add-changing g c =
+    omega (arith, c.loop-changing.invariant.2, total-fits c.args.graph.now (omega (arith, c.vertices-vertices.ensures)))
 
-pub loop-crossed-smaller : goal.loop-crossed-smaller
-loop-crossed-smaller g c =
-    falls-by-one c.args.graph.now c.loop-crossed.passed c.loop-crossed.numbers (numbers_of c.loop-crossed.places)
-    c.loop-crossed.invariant.0 c.loop-crossed.invariant.1
-    (λ same. true≢false (sym (c.are_same.ensures.1 same) ∙ c.loop-crossed-test.true))
+pub loop-changing-smaller : goal.loop-changing-smaller
+loop-changing-smaller g c =
+    falls-by-one c.args.graph.now c.loop-changing.changing c.loop-changing.numbers c.round.new.numbers c.loop-changing.invariant.0
+    (round-next c.args.graph.now c.loop-changing.changing c.loop-changing.numbers c.round.new.numbers c.loop-changing.invariant.0 c.round.ensures.round)
+    (λ same. true≢false (sym c.loop-changing-test.true ∙ c.round.ensures.changed.1 (sym same)))
 
-pub round-requires-in-loop-crossed-clause-marked : goal.round-requires-in-loop-crossed-clause-marked
-round-requires-in-loop-crossed-clause-marked g c = λ _ _.
-    marked-next c.args.graph.now c.loop-crossed.passed (length c.loop-crossed.crossed) (length c.take_over.new.crossed)
-    c.loop-crossed.numbers c.take_over.new.numbers c.loop-crossed.invariant.0
-    (taken-next c.args.graph.now c.loop-crossed.passed (numbers_of c.loop-crossed.places) c.take_over.new.numbers
-    c.loop-crossed.invariant.1 c.take_over.ensures.numbers)
-    c.loop-crossed.invariant.5 (omega (arith, c.take_over.ensures.len, c.fill.ensures.len))
-
-pub round-requires-in-loop-crossed-clause-keeps : goal.round-requires-in-loop-crossed-clause-keeps
-round-requires-in-loop-crossed-clause-keeps g c = λ _ _.
-    keeps c.args.graph.now c.loop-crossed.passed c.loop-crossed.numbers c.take_over.new.numbers c.take_over.new.crossed c.loop-crossed.invariant.0
-    (taken-next c.args.graph.now c.loop-crossed.passed (numbers_of c.loop-crossed.places) c.take_over.new.numbers
-    c.loop-crossed.invariant.1 c.take_over.ensures.numbers)
-    c.take_over.ensures.crossed
-
-pub round-requires-in-loop-crossed-clause-room : goal.round-requires-in-loop-crossed-clause-room
-round-requires-in-loop-crossed-clause-room g c = λ _ _.
-    subst (λ (xs : List ℕ). HaveRoom xs c.loop-crossed.places) (sym c.take_over.ensures.numbers)
-    (room-next c.args.graph.now c.loop-crossed.passed c.loop-crossed.numbers (numbers_of c.loop-crossed.places) c.loop-crossed.places
-    c.loop-crossed.invariant.0 c.loop-crossed.invariant.1 c.loop-crossed.invariant.4)
-
-pub round-requires-in-loop-crossed-clause-falls : goal.round-requires-in-loop-crossed-clause-falls
-round-requires-in-loop-crossed-clause-falls g c = λ _ _.
-    falls c.args.graph.now (c.loop-crossed.passed + 1) c.take_over.new.numbers
-    (taken-over c.args.graph.now c.loop-crossed.passed (numbers_of c.loop-crossed.places) c.take_over.new.numbers c.loop-crossed.invariant.1
-    c.take_over.ensures.numbers)
-
-pub loop-crossed-preserved : goal.loop-crossed-preserved
-loop-crossed-preserved g c =
+pub loop-changing-preserved : goal.loop-changing-preserved
+loop-changing-preserved g c =
     let graph : SimpleGraph = c.args.graph.now in
-    let passed : ℕ = c.loop-crossed.passed in
-    let less : total (after_rounds graph (passed + 1)) graph.size < total (after_rounds graph passed) graph.size =
-    falls-by-one graph passed c.loop-crossed.numbers (numbers_of c.loop-crossed.places) c.loop-crossed.invariant.0 c.loop-crossed.invariant.1
-    (λ same. true≢false (sym (c.are_same.ensures.1 same) ∙ c.loop-crossed-test.true)) in
-    let taken : HasRound graph (passed + 1) c.take_over.new.numbers =
-    taken-over graph passed (numbers_of c.loop-crossed.places) c.take_over.new.numbers c.loop-crossed.invariant.1 c.take_over.ensures.numbers in (
-      taken,
-      round-next graph (passed + 1) c.take_over.new.numbers (numbers_of c.round-in-loop-crossed.new.places) taken c.round-in-loop-crossed.ensures.round,
-      (λ s h. later-settled graph passed c.loop-crossed.invariant.2 less s h),
-      omega (arith, c.loop-crossed.invariant.3, less),
-      c.round-in-loop-crossed.ensures.room,
-      marked-next graph passed (length c.loop-crossed.crossed) (length c.take_over.new.crossed) c.loop-crossed.numbers c.take_over.new.numbers
-          c.loop-crossed.invariant.0
-          (taken-next graph passed (numbers_of c.loop-crossed.places) c.take_over.new.numbers c.loop-crossed.invariant.1 c.take_over.ensures.numbers)
-          c.loop-crossed.invariant.5 (omega (arith, c.take_over.ensures.len, c.fill.ensures.len)),
+    let changing : ℕ = c.loop-changing.changing in
+    let next : HasRound graph (suc changing) c.round.new.numbers =
+    round-next graph changing c.loop-changing.numbers c.round.new.numbers c.loop-changing.invariant.0 c.round.ensures.round in
+    let less : total (after_rounds graph (changing + 1)) graph.size < total (after_rounds graph changing) graph.size =
+    falls-by-one graph changing c.loop-changing.numbers c.round.new.numbers c.loop-changing.invariant.0 next
+    (λ same. true≢false (sym c.loop-changing-test.true ∙ c.round.ensures.changed.1 (sym same))) in (
+      round-over graph changing c.round.new.numbers next,
+      (λ s h. later-settled graph changing c.loop-changing.invariant.1 less s h),
+      omega (arith, c.loop-changing.invariant.2, less),
+      next-ready graph changing c.loop-changing.numbers c.round.new.numbers c.loop-changing.crossed c.round.new.crossed c.loop-changing.invariant.0 next
+          c.loop-changing.invariant.3 c.round.ensures.crossed c.round.ensures.marks,
+      c.round.ensures.dealt,
     )
 
 pub overflow_add-result : goal.overflow_add-result
 overflow_add-result g c =
-    omega (arith, c.loop-crossed.invariant.3, total-fits c.args.graph.now (omega (arith, c.vertices-vertices.ensures)))
+    omega (arith, c.loop-changing.invariant.2, total-fits c.args.graph.now (omega (arith, c.vertices-vertices.ensures)))
 
 pub returns-clause-core : goal.returns-clause-core
 returns-clause-core g c =
-    settled-are_core c.args.graph.now c.loop-crossed.passed c.loop-crossed.numbers
-    (unchanged c.args.graph.now c.loop-crossed.passed c.loop-crossed.numbers (numbers_of c.loop-crossed.places) c.loop-crossed.invariant.0
-    c.loop-crossed.invariant.1 (c.are_same.ensures.0 c.loop-crossed-test.false)) c.loop-crossed.invariant.0
+    let graph : SimpleGraph = c.args.graph.now in
+    let changing : ℕ = c.loop-changing.changing in
+    let same : c.round.new.numbers ≡ c.loop-changing.numbers = c.round.ensures.changed.0 c.loop-changing-test.false in
+    settled-are_core graph changing c.round.new.numbers
+    (unchanged graph changing c.loop-changing.numbers c.round.new.numbers c.loop-changing.invariant.0
+    (round-next graph changing c.loop-changing.numbers c.round.new.numbers c.loop-changing.invariant.0 c.round.ensures.round) (sym same))
+    (subst (λ (xs : List ℕ). HasRound graph changing xs) (sym same) c.loop-changing.invariant.0)
+
+pub returns-clause-rounds : goal.returns-clause-rounds
+returns-clause-rounds g c =
+    let graph : SimpleGraph = c.args.graph.now in
+    let changing : ℕ = c.loop-changing.changing in
+    let next : suc changing ≡ changing + 1 = omega arith in
+    subst (λ (n : ℕ). AreRounds graph n) next (here graph changing c.loop-changing.invariant.1
+    (unchanged graph changing c.loop-changing.numbers c.round.new.numbers c.loop-changing.invariant.0
+    (round-next graph changing c.loop-changing.numbers c.round.new.numbers c.loop-changing.invariant.0 c.round.ensures.round)
+    (sym (c.round.ensures.changed.0 c.loop-changing-test.false))))

@@ -1,14 +1,13 @@
-use Rattle.std.proofs.Common.{◌≤◌, ◌<◌, ◌+◌, ℕ, suc, get_or, length}
-use Rattle.kc_hindex.specs.Places.{HaveRoom, numbers_of}
+use Rattle.std.proofs.Common.{◌≤◌, ◌+◌, ℕ, length}
+use Rattle.kc_hindex.specs.Pieces.{AreDealt, AreReady}
 use Rattle.kc_hindex.specs.Rounds.{after_rounds, HasRound, IsSettled, total}
 use Rattle.kc_hindex.proofs.peeling.settle.Given as goal
 
--- The numbers are those after `passed` rounds, and the places have those of the next. None of the rounds before settled, and the sum of the
--- numbers has fallen by one at least in each.
-abbrev pub invariant-loop-crossed : goal.invariant-loop-crossed
-invariant-loop-crossed g l = HasRound l.graph l.passed l.numbers × HasRound l.graph (suc l.passed) (numbers_of l.places)
-    × ((s : ℕ) → IsSettled l.graph s → l.passed ≤ s) × (l.passed + total (after_rounds l.graph l.passed) l.graph.size ≤ total (after_rounds l.graph 0) l.graph.size)
-    × HaveRoom l.numbers l.places × ((v : ℕ) → v < length l.numbers → get_or l.numbers v 0 < length l.crossed)
+-- The numbers are those after `changing` rounds. None of these settled, and the sum of the numbers has fallen by one at least in each.
+abbrev pub invariant-loop-changing : goal.invariant-loop-changing
+invariant-loop-changing g l = HasRound l.graph l.changing l.numbers × ((s : ℕ) → IsSettled l.graph s → l.changing ≤ s)
+    × (l.changing + total (after_rounds l.graph l.changing) l.graph.size ≤ total (after_rounds l.graph 0) l.graph.size)
+    × AreReady l.graph l.numbers l.crossed × AreDealt l.graph.size (length l.crossed) l.pieces
 
-abbrev pub decreases-loop-crossed : goal.decreases-loop-crossed
-decreases-loop-crossed g l = total (after_rounds l.graph l.passed) l.graph.size
+abbrev pub decreases-loop-changing : goal.decreases-loop-changing
+decreases-loop-changing g l = total (after_rounds l.graph l.changing) l.graph.size
