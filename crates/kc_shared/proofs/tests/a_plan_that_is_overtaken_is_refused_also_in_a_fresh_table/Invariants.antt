@@ -1,0 +1,15 @@
+-- K names the table of the parts, and all that is so of their journal now.
+use Rattle.kc_shared.proofs.tests.a_plan_that_is_overtaken_is_refused_also_in_a_fresh_table.Given as goal
+
+abbrev pub ghosts-overtake_alone-K-Name : goal.ghosts-overtake_alone-K-Name
+ghosts-overtake_alone-K-Name g a = record {
+  table = a.parts.words;
+  opening_edges = a.parts.journal.opened;
+  opening_stamps = a.parts.journal.opening_stamps;
+  start_edges = a.parts.journal.started;
+  log = a.parts.journal.levels.log;
+  entries = a.parts.journal.entries;
+}
+
+abbrev pub ghosts-overtake_alone-K-Ledger : goal.ghosts-overtake_alone-K-Ledger
+ghosts-overtake_alone-K-Ledger g a = record { name = a.blank.name; parts = a.blank.parts }
