@@ -22,6 +22,8 @@ mod left;
 mod round;
 mod seat;
 mod standing;
+#[cfg(test)]
+mod tests;
 
 pub use batch::run_batch;
 pub use done::BatchDone;

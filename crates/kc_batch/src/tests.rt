@@ -1,0 +1,154 @@
+//! Batches of random updates, by one worker and by many, also where versions run out in the middle.
+ghost use Rattle.std.specs.Prelude.{◌≡◌, ◌<◌, ◌≤◌, All, IfOk, length};
+
+use crate::run_batch;
+use kc_graph::{Graph, Update, decompose_owned};
+use kc_shared::Parts;
+use kc_table::{Entry, Pass, Words, shape, split};
+use kc_words::LAST_VERSION;
+use kc_workers::{NoGate, Share, Worker};
+use std::alloc::Global;
+use std::process::Abort;
+use std::sync::Wait;
+use std::test::Fail;
+use std::thread::Threads;
+
+/// How many vertices the graphs have.
+const VERTICES: u32 = 12;
+
+/// How many updates a batch has.
+const UPDATES: u32 = 40;
+
+/// The number after this one: a linear congruential generator.
+fn next(state: u64) -> u64 {
+    state
+        .wrapping_mul(6_364_136_223_846_793_005)
+        .wrapping_add(1_442_695_040_888_963_407)
+}
+
+/// A number below the bound, by the upper half of the state.
+fn below(state: u64, bound: u32) -> u32
+    requires { 0 < bound }
+    ensures { result < bound }
+{
+    ((state >> 33) % u64::from(bound)) as u32
+}
+
+/// The update that three numbers give: two of three add their edge.
+fn drawn(first: u64, second: u64, third: u64) -> Update
+    ensures { result.v < VERTICES }
+{
+    let u = below(first, VERTICES - 1);
+    let v = u + 1 + below(second, VERTICES - 1 - u);
+    Update {
+        add: below(third, 3) > 0,
+        u,
+        v,
+    }
+}
+
+/// So many random updates.
+fn drawn_batch(alloc: Global, seed: u64) -> Result<Vec<Update>, Fail>
+    ensures { IfOk result (λ batch. All (λ u. u.v < VERTICES) batch.items) }
+{
+    let mut state = seed;
+    let mut batch = Vec::new(alloc);
+    for _ in 0..UPDATES {
+        let first = next(state);
+        let second = next(first);
+        state = next(second);
+        batch.push(drawn(first, second, state))?;
+    }
+    Ok(batch)
+}
+
+/// So many workers that have seen what the pass has.
+fn hired(alloc: Global, words: &Words, pass: &mut Pass, count: u32) -> Result<Vec<Worker>, Fail>
+    requires { pass.old.table ≡ words.now }
+    ensures { IfOk result (λ workers. All (λ w. w.table ≡ words.now) workers.items) }
+{
+    let mut workers = Vec::new(alloc);
+    for _ in 0..count {
+        let own = split(words, pass);
+        let Ok(worker) = Worker::new(alloc, words, own) else {
+            return Err("no memory".into());
+        };
+        workers.push(worker)?;
+    }
+    Ok(workers)
+}
+
+/// A run on an empty graph whose table opens with this version, and so many workers.
+fn open(alloc: Global, count: u32, version: u32) -> Result<(Parts, Vec<Worker>), Fail>
+    requires { version ≤ LAST_VERSION }
+    ensures workers { IfOk result (λ r. All (λ w. w.table ≡ r.0.words) r.1.items) }
+    ensures entries { IfOk result (λ r. length r.0.journal.entries ≡ 0) }
+{
+    let lawful = decompose_owned(alloc, Graph::new(alloc, VERTICES)?)?;
+    let (parts, mut pass) = Parts::open(alloc, lawful, version)?;
+    let workers = hired(alloc, &parts.words, &mut pass, count)?;
+    Ok((parts, workers))
+}
+
+/// The graph that the entries make of an empty one.
+fn replayed<R: Abort>(rt: &R, alloc: Global, entries: &[Entry]) -> Result<Graph, Fail> {
+    let mut graph = Graph::new(alloc, VERTICES)?;
+    for entry in entries {
+        assert!(rt; entry.u < entry.v && entry.v < graph.vertices());
+        if entry.add {
+            graph.add(entry.u, entry.v)?;
+        } else {
+            graph.remove(entry.u, entry.v);
+        }
+    }
+    Ok(graph)
+}
+
+/// How many updates stand in the shares.
+fn told(shares: &[Share]) -> usize {
+    let mut told = 0usize;
+    for share in shares {
+        told = told.wrapping_add(share.done.len());
+    }
+    told
+}
+
+/// A batch on an empty graph whose table opens with this version, by so many workers. Gives how many tables were ended.
+fn work<R: Threads + Wait + Sync + Abort + AllocGlobal>(
+    rt: &R,
+    count: u32,
+    version: u32,
+) -> Result<usize, Fail>
+    requires count { (0 < count) × (count ≤ 64) }
+    requires version { version ≤ LAST_VERSION }
+{
+    let alloc = rt.alloc();
+    let (parts, mut workers) = open(alloc, count, version)?;
+    let batch = drawn_batch(alloc, u64::from(count))?;
+    assert_eq!(rt; shape(&parts.words).fixed, VERTICES);
+    assert_eq!(rt; workers.len(), count as usize);
+    assert_eq!(rt; batch.len(), UPDATES as usize);
+    let (parts, done) = run_batch(rt, alloc, parts, &mut workers, 7, batch.as_slice(), &NoGate);
+    let done = done?;
+    assert_eq!(rt; parts.journal.entries().len(), UPDATES as usize);
+    assert_eq!(rt; done.shares.len(), count as usize);
+    assert_eq!(rt; told(done.shares.as_slice()), UPDATES as usize);
+    let lawful = decompose_owned(alloc, replayed(rt, alloc, parts.journal.entries())?)?;
+    assert_eq!(rt; parts.journal.core_numbers(), lawful.core());
+    Ok(done.ended.len())
+}
+
+#[test]
+fn each_update_is_entered_once(rt: HostRuntime) -> Result<(), Fail> {
+    assert_eq!(rt; work(&rt, 1, 0)?, 0);
+    assert_eq!(rt; work(&rt, 8, 0)?, 0);
+    assert_eq!(rt; work(&rt, 64, 0)?, 0);
+    Ok(())
+}
+
+#[test]
+fn tables_are_renewed_where_their_versions_are_spent(rt: HostRuntime) -> Result<(), Fail> {
+    assert!(rt; work(&rt, 1, LAST_VERSION - 1)? > 0);
+    assert!(rt; work(&rt, 8, LAST_VERSION - 1)? > 0);
+    Ok(())
+}
