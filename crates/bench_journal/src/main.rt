@@ -1,0 +1,136 @@
+//! Measures updates of a journal, each planned over the journal that is held and entered, on a graph that it reads from standard input as
+//! a SNAP edge list. Half way the journal goes on in a fresh table, and has to answer all as before.
+//!
+//! The journal is compared with a plain graph that is changed beside it: the same neighbours, the core numbers that are found anew, and
+//! an order that certifies them. Without a word that is done after each update, for small graphs without edges too, and what was counted
+//! is written, which never varies for one graph. With the word `time` it is done after every hundredth, and how long an update took is
+//! written, without what is compared. With the word `open` the journal is opened beside the stripes of its table, and nothing else is
+//! done, so that the memory of both can be measured. The program ends with status 1 where anything differs. It runs on one thread.
+#![tactic(auto)]
+
+mod both;
+mod comparing;
+mod draws;
+mod graphs;
+mod opening;
+mod run;
+
+use crate::both::{Both, Step};
+use crate::graphs::read_graph;
+use crate::opening::open_alone;
+use anyhow::{Result, bail};
+use kc_graph::Graph;
+use std::env;
+use std::time::Duration;
+
+/// The seed of the updates.
+const SEED: u64 = 1;
+
+/// How many updates of a graph there are.
+const UPDATES: u32 = 10_000;
+
+/// How many updates there are from one comparison to the next in a run that is timed.
+const BETWEEN: u32 = 100;
+
+/// The numbers of vertices of the graphs that begin without edges.
+const BARE: [u32; 3] = [2, 6, 16];
+
+/// What is to be done, by the first word.
+#[derive(Clone, Copy, Drop, Eq, PartialEq)]
+enum Mode {
+    Compare,
+    Time,
+    Open,
+}
+
+/// What was counted.
+#[derive(Clone, Copy, Default, Drop)]
+struct Counted {
+    applied: u32,
+    compared: u32,
+    took: Duration,
+}
+
+impl Counted {
+    /// Counts an update.
+    fn count(&mut self, step: Step) {
+        self.applied = self.applied.saturating_add(u32::from(step.applied));
+        self.took = self.took.saturating_add(step.took);
+    }
+
+    /// How long an update took on average.
+    fn microseconds(self) -> f64 {
+        self.took.as_secs_f64() * 1e6 / f64::from(UPDATES)
+    }
+}
+
+/// Makes the updates one after another, and compares after every so many of them.
+fn make_updates(rt: &HostRuntime, both: &mut Both, between: u32) -> Result<Counted> {
+    let mut counted = Counted::default();
+    for index in 0..UPDATES {
+        counted.count(both.step(rt, index)?);
+        if index == UPDATES / 2 {
+            both.renew(rt)?;
+        }
+        if (index + 1).is_multiple_of(between) {
+            both.compare(rt)?;
+            counted.compared = counted.compared.saturating_add(1);
+        }
+    }
+    Ok(counted)
+}
+
+/// Measures updates of a graph, and writes what was counted.
+fn measure(rt: &HostRuntime, graph: Graph, between: u32) -> Result<Counted> {
+    println!(rt;
+        "graph vertices {} edges {}",
+        graph.vertices(),
+        graph.edges()
+    )?;
+    let mut both = Both::open(rt, graph, SEED)?;
+    let counted = make_updates(rt, &mut both, between)?;
+    println!(rt;
+        "updates {UPDATES}, applied {}, compared {}, edges {}, top {}",
+        counted.applied,
+        counted.compared,
+        both.graph().edges(),
+        both.top()
+    )?;
+    Ok(counted)
+}
+
+/// Compares after each update of a graph, and of small ones that begin without edges.
+fn compare_all(rt: &HostRuntime, graph: Graph) -> Result<()> {
+    measure(rt, graph, 1)?;
+    for vertices in BARE {
+        measure(rt, Graph::new(rt.alloc(), vertices)?, 1)?;
+    }
+    Ok(())
+}
+
+/// What the first word asks for; an error where it is another word.
+fn mode_of(rt: &HostRuntime) -> Result<Mode> {
+    let word = env::args(rt)?.nth(1);
+    match word.as_ref().map(|word| word.as_str()) {
+        None => Ok(Mode::Compare),
+        Some("time") => Ok(Mode::Time),
+        Some("open") => Ok(Mode::Open),
+        Some(_) => bail!("the words are time and open"),
+    }
+}
+
+fn main(rt: HostRuntime) -> Result<()> {
+    let mode = mode_of(&rt)?;
+    let Some(graph) = read_graph(rt.alloc(), &mut rt.stdin())? else {
+        bail!("not the text of a graph");
+    };
+    match mode {
+        Mode::Compare => compare_all(&rt, graph)?,
+        Mode::Time => {
+            let counted = measure(&rt, graph, BETWEEN)?;
+            println!(rt; "{:.2} microseconds an update", counted.microseconds())?;
+        }
+        Mode::Open => open_alone(&rt, graph)?,
+    }
+    Ok(())
+}
