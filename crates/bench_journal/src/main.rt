@@ -3,8 +3,9 @@
 //!
 //! The journal is compared with a plain graph that is changed beside it: the same neighbours, the core numbers that are found anew, and
 //! an order that certifies them. Without a word that is done after each update, for small graphs without edges too, and what was counted
-//! is written, which never varies for one graph. With the word `time` it is done after every hundredth, and how long an update took is
-//! written, without what is compared. With the word `open` the journal is opened beside the stripes of its table, and nothing else is
+//! is written, which never varies for one graph. With the word `check` it is done after every hundredth, for large graphs. With the word
+//! `time` it is done after the last one alone, so that the updates find the caches as others left them and not as a comparison did, and
+//! how long an update took is written. With the word `open` the journal is opened beside the stripes of its table, and nothing else is
 //! done, so that the memory of both can be measured. The program ends with status 1 where anything differs. It runs on one thread.
 #![tactic(auto)]
 
@@ -29,7 +30,7 @@ const SEED: u64 = 1;
 /// How many updates of a graph there are.
 const UPDATES: u32 = 10_000;
 
-/// How many updates there are from one comparison to the next in a run that is timed.
+/// How many updates there are from one comparison to the next on a large graph.
 const BETWEEN: u32 = 100;
 
 /// The numbers of vertices of the graphs that begin without edges.
@@ -39,6 +40,7 @@ const BARE: [u32; 3] = [2, 6, 16];
 #[derive(Clone, Copy, Drop, Eq, PartialEq)]
 enum Mode {
     Compare,
+    Check,
     Time,
     Open,
 }
@@ -113,9 +115,10 @@ fn mode_of(rt: &HostRuntime) -> Result<Mode> {
     let word = env::args(rt)?.nth(1);
     match word.as_ref().map(|word| word.as_str()) {
         None => Ok(Mode::Compare),
+        Some("check") => Ok(Mode::Check),
         Some("time") => Ok(Mode::Time),
         Some("open") => Ok(Mode::Open),
-        Some(_) => bail!("the words are time and open"),
+        Some(_) => bail!("the words are check, time and open"),
     }
 }
 
@@ -126,8 +129,11 @@ fn main(rt: HostRuntime) -> Result<()> {
     };
     match mode {
         Mode::Compare => compare_all(&rt, graph)?,
+        Mode::Check => {
+            measure(&rt, graph, BETWEEN)?;
+        }
         Mode::Time => {
-            let counted = measure(&rt, graph, BETWEEN)?;
+            let counted = measure(&rt, graph, UPDATES)?;
             println!(rt; "{:.2} microseconds an update", counted.microseconds())?;
         }
         Mode::Open => open_alone(&rt, graph)?,
