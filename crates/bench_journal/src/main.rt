@@ -6,22 +6,33 @@
 //! is written, which never varies for one graph. With the word `check` it is done after every hundredth, for large graphs. With the word
 //! `time` it is done after the last one alone, so that the updates find the caches as others left them and not as a comparison did, and
 //! how long an update took is written. With the word `open` the journal is opened beside the stripes of its table, and nothing else is
-//! done, so that the memory of both can be measured. The program ends with status 1 where anything differs. It runs on one thread.
+//! done, so that the memory of both can be measured.
+//!
+//! With the word `batches` and three numbers W, B and U it has W workers enter B batches of U random updates, each by one call of
+//! `run_batch`, compares the journal after the last batch, and writes how long the calls took. Without a word small batches are entered by
+//! 1, 2, 3, 8 and 64 workers, with a comparison after each.
+//!
+//! The program ends with status 1 where anything differs. But for batches of more than one worker it runs on one thread.
 #![tactic(auto)]
 
 mod both;
 mod comparing;
+mod crewed;
 mod draws;
 mod graphs;
 mod opening;
 mod run;
 
 use crate::both::{Both, Step};
+use crate::crewed::Crewed;
 use crate::graphs::read_graph;
 use crate::opening::open_alone;
 use anyhow::{Result, bail};
 use kc_graph::Graph;
 use std::env;
+use std::rt::Clock;
+use std::sync::Wait;
+use std::thread::Threads;
 use std::time::Duration;
 
 /// The seed of the updates.
@@ -36,13 +47,34 @@ const BETWEEN: u32 = 100;
 /// The numbers of vertices of the graphs that begin without edges.
 const BARE: [u32; 3] = [2, 6, 16];
 
-/// What is to be done, by the first word.
+/// How many workers enter small batches.
+const CREWS: [u32; 5] = [1, 2, 3, 8, 64];
+
+/// How many vertices the graph of small batches has.
+const CREW_VERTICES: u32 = 16;
+
+/// How many small batches there are.
+const SMALL_BATCHES: u32 = 25;
+
+/// How many updates a small batch has.
+const SMALL_BATCH: u32 = 40;
+
+/// Batches of random updates that several workers enter.
+#[derive(Clone, Copy, Drop, Eq, PartialEq)]
+struct Load {
+    workers: u32,
+    batches: u32,
+    updates: u32,
+}
+
+/// What is to be done, by the words.
 #[derive(Clone, Copy, Drop, Eq, PartialEq)]
 enum Mode {
     Compare,
     Check,
     Time,
     Open,
+    Batches(Load),
 }
 
 /// What was counted.
@@ -101,6 +133,42 @@ fn measure(rt: &HostRuntime, graph: Graph, between: u32) -> Result<Counted> {
     Ok(counted)
 }
 
+/// Has the workers enter the batches one after another, with a comparison after each so many of them. Answers how many updates were entered,
+/// and how long the calls took.
+fn enter_batches<R: Threads + Wait + Sync + AllocGlobal + Clock>(
+    rt: &R,
+    graph: Graph,
+    load: Load,
+    between: u32,
+) -> Result<(usize, Duration)> {
+    let mut crewed = Crewed::open(rt.alloc(), graph, load.workers, SEED)?;
+    let mut took = Duration::ZERO;
+    for batch in 0..load.batches {
+        let (worked, time) = crewed.work(rt, load.updates)?;
+        crewed = worked;
+        took = took.saturating_add(time);
+        if (batch + 1).is_multiple_of(between) {
+            crewed.compare(rt.alloc())?;
+        }
+    }
+    Ok((crewed.entered(), took))
+}
+
+/// Has crews of each size enter small batches on a small graph that begins without edges.
+fn compare_crews<R: Threads + Wait + Sync + AllocGlobal + Clock + Print>(rt: &R) -> Result<()> {
+    for workers in CREWS {
+        let load = Load {
+            workers,
+            batches: SMALL_BATCHES,
+            updates: SMALL_BATCH,
+        };
+        let graph = Graph::new(rt.alloc(), CREW_VERTICES)?;
+        let (entered, _) = enter_batches(rt, graph, load, 1)?;
+        println!(rt; "workers {workers}: entered {entered}")?;
+    }
+    Ok(())
+}
+
 /// Compares after each update of a graph, and of small ones that begin without edges.
 fn compare_all(rt: &HostRuntime, graph: Graph) -> Result<()> {
     measure(rt, graph, 1)?;
@@ -110,15 +178,29 @@ fn compare_all(rt: &HostRuntime, graph: Graph) -> Result<()> {
     Ok(())
 }
 
-/// What the first word asks for; an error where it is another word.
+/// The number that a word says; an error where there is no such word.
+fn number(word: Option<String>) -> Result<u32> {
+    match word.and_then(|word| word.as_str().parse::<u32>().ok()) {
+        Some(number) => Ok(number),
+        None => bail!("the word batches wants three numbers after it"),
+    }
+}
+
+/// What the words ask for; an error where they are others.
 fn mode_of(rt: &HostRuntime) -> Result<Mode> {
-    let word = env::args(rt)?.nth(1);
+    let mut words = env::args(rt)?;
+    let word = words.nth(1);
     match word.as_ref().map(|word| word.as_str()) {
         None => Ok(Mode::Compare),
         Some("check") => Ok(Mode::Check),
         Some("time") => Ok(Mode::Time),
         Some("open") => Ok(Mode::Open),
-        Some(_) => bail!("the words are check, time and open"),
+        Some("batches") => Ok(Mode::Batches(Load {
+            workers: number(words.next())?,
+            batches: number(words.next())?,
+            updates: number(words.next())?,
+        })),
+        Some(_) => bail!("the words are check, time, open and batches"),
     }
 }
 
@@ -128,7 +210,10 @@ fn main(rt: HostRuntime) -> Result<()> {
         bail!("not the text of a graph");
     };
     match mode {
-        Mode::Compare => compare_all(&rt, graph)?,
+        Mode::Compare => {
+            compare_all(&rt, graph)?;
+            compare_crews(&rt)?;
+        }
         Mode::Check => {
             measure(&rt, graph, BETWEEN)?;
         }
@@ -137,6 +222,11 @@ fn main(rt: HostRuntime) -> Result<()> {
             println!(rt; "{:.2} microseconds an update", counted.microseconds())?;
         }
         Mode::Open => open_alone(&rt, graph)?,
+        Mode::Batches(load) => {
+            let (entered, took) = enter_batches(&rt, graph, load, load.batches)?;
+            let microseconds = took.as_secs_f64() * 1e6;
+            println!(rt; "entered {entered} in {microseconds:.0} microseconds")?;
+        }
     }
     Ok(())
 }

@@ -18,11 +18,18 @@ use kc_stripes::Stripes;
 use kc_table::{Name, Pass, Words};
 use kc_words::INDICES;
 use std::alloc::Global;
+use std::hint::spin_loop;
 use std::sync::ledger::{Blank, Ledger, Share};
 use std::sync::{Mutex, MutexGuard, Wait};
 
 /// How many true misses a caller must show before it may plan under the lock.
 pub const MISSES: usize = 4;
+
+/// How often a thread looks for a free lock before it sleeps. To be woken takes as long as some ten entries.
+const LOOKS: u32 = 200;
+
+/// How long a thread rests between two looks, so that the holder is not hindered.
+const RESTS: u32 = 12;
 
 /// The state of K's table. Words and stripes are read without the journal's lock, which only `enter` and `hold` take.
 #[derive(Drop)]
@@ -133,7 +140,7 @@ impl<K: Name + Ledger> Shared<K> {
             (λ _. part.new.amount ≡ part.old.amount + 1) (λ fault. part.new.amount ≡ part.old.amount + entered_at fault) }
         ensures parts { part.new.parts ≡ part.old.parts }
     {
-        let mut kept = self.kept.lock(rt);
+        let mut kept = self.lock(rt);
         let entered = kept.enter_and_tell(&self.words, pass, part, index, plan)?;
         let receipt = entered.receipt;
         if let Some(lists) = entered.lists {
@@ -182,6 +189,24 @@ impl<K: Name + Ledger> Shared<K> {
         requires count { length misses.now ≡ MISSES }
         requires misses { All (IsTrueMiss (opened_with K.table K.opening_edges K.opening_stamps) since.now.log pass.now.log) misses.now }
     {
+        self.lock(rt)
+    }
+
+    /// What the lock guards, once it is free. Looks for a while before it sleeps.
+    fn lock<R: Wait>(&self, rt: &R) -> MutexGuard<'_, Kept<K>> {
+        for _ in 0..LOOKS {
+            if let Some(guard) = self.kept.try_lock() {
+                return guard;
+            }
+            rest();
+        }
         self.kept.lock(rt)
+    }
+}
+
+/// Does nothing for a moment.
+fn rest() {
+    for _ in 0..RESTS {
+        spin_loop();
     }
 }

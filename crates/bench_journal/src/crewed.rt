@@ -1,0 +1,175 @@
+//! A run whose batches several workers enter, and a plain graph beside it.
+ghost use Rattle.std.specs.Prelude.{◌≡◌, ◌<◌, ◌≤◌, ◌+◌, All, IfOk, true, length, vec_len};
+ghost use Rattle.kc_queue.specs.declared.consumer.TheConstants.{WORKERS as MOST_WORKERS};
+ghost use Rattle.kc_levels.specs.declared.levels.TheConstants.{LAST_NUMBER as MOST_ENTRIES};
+ghost use Rattle.kc_words.specs.declared.layout.TheConstants.{INDICES as MOST_INDICES};
+
+use crate::comparing::{Numbers, has_edges_of};
+use crate::draws::Draws;
+use crate::graphs::{change, draw};
+use anyhow::{Result, bail};
+use kc_batch::run_batch;
+use kc_graph::{Graph, NoMemory, Update, decompose};
+use kc_levels::LAST_NUMBER;
+use kc_queue::WORKERS;
+use kc_shared::Parts;
+use kc_table::{Entry, Pass, shape, split};
+use kc_words::{INDICES, VERTICES};
+use kc_workers::{NoGate, Worker};
+use std::alloc::Global;
+use std::rt::Clock;
+use std::sync::Wait;
+use std::thread::Threads;
+use std::time::{Duration, Instant};
+
+/// A run with its workers, a graph that is to have its edges, and the draws that updates come from.
+#[derive(Drop)]
+pub(crate) struct Crewed {
+    parts: Parts,
+    workers: Vec<Worker>,
+    graph: Graph,
+    draws: Draws,
+    /// The index of the next update.
+    next: u32,
+    ghost some: { (0 < vec_len workers) × (vec_len workers ≤ MOST_WORKERS) },
+    ghost table: { All (λ w. w.table ≡ parts.words) workers.items },
+}
+
+/// So many workers, who have seen what the pass has; an error where there is no memory for one.
+fn hire(alloc: Global, parts: &Parts, pass: &mut Pass, count: u32) -> Result<Vec<Worker>, NoMemory>
+    requires table { pass.old.table ≡ parts.now.words }
+    ensures { IfOk result (λ workers. All (λ w. w.table ≡ parts.now.words) workers.items) }
+{
+    let mut workers = Vec::new(alloc);
+    for _ in 0..count {
+        let own = split(&parts.words, pass);
+        let Ok(worker) = Worker::new(alloc, &parts.words, own) else {
+            return Err(NoMemory);
+        };
+        workers.push(worker)?;
+    }
+    Ok(workers)
+}
+
+/// So many updates of a graph; fewer where it has less than two vertices.
+fn draw_batch(
+    alloc: Global,
+    draws: &mut Draws,
+    graph: &Graph,
+    updates: u32,
+) -> Result<Vec<Update>, NoMemory> {
+    let mut batch = Vec::new(alloc);
+    for _ in 0..updates {
+        if let Some(update) = draw(draws, graph) {
+            batch.push(update)?;
+        }
+    }
+    Ok(batch)
+}
+
+/// Whether these updates, the first of which has this index, can be a batch of the run.
+fn may_follow(parts: &Parts, first: u32, batch: &[Update]) -> bool
+    ensures indices { result ≡ true → (first + length batch.now ≤ MOST_INDICES) }
+    ensures within { result ≡ true → (All (λ u. u.v < parts.now.words.shape.fixed) batch.now) }
+    ensures numbers { result ≡ true → (length parts.now.journal.entries + length batch.now ≤ MOST_ENTRIES) }
+{
+    let vertices = shape(&parts.words).fixed;
+    let entries = parts.journal.entries().len() as u64;
+    let count = batch.len() as u64;
+    let few = count <= u64::from(INDICES) && entries <= u64::from(LAST_NUMBER);
+    few && u64::from(first) + count <= u64::from(INDICES)
+        && entries + count <= u64::from(LAST_NUMBER)
+        && batch.iter().all(|update| update.v < vertices)
+}
+
+/// Makes what was entered in the plain graph, in the order of the entries.
+fn follow(graph: &mut Graph, entries: &[Entry]) -> Result<(), NoMemory> {
+    for entry in entries {
+        if entry.u < entry.v {
+            change(
+                graph,
+                Update {
+                    add: entry.add,
+                    u: entry.u,
+                    v: entry.v,
+                },
+            )?;
+        }
+    }
+    Ok(())
+}
+
+impl Crewed {
+    /// A run of this graph with so many workers.
+    pub(crate) fn open(alloc: Global, graph: Graph, count: u32, seed: u64) -> Result<Crewed> {
+        if graph.vertices() > VERTICES {
+            bail!("too many vertices");
+        }
+        let (parts, mut pass) = Parts::open(alloc, decompose(alloc, &graph)?, 0)?;
+        let workers = hire(alloc, &parts, &mut pass, count)?;
+        if workers.is_empty() || workers.len() as u64 > WORKERS {
+            bail!("no such number of workers");
+        }
+        Ok(Crewed {
+            parts,
+            workers,
+            graph,
+            draws: Draws::new(seed),
+            next: 0,
+        })
+    }
+
+    /// Draws a batch, and has it entered. Answers how long `run_batch` took. It is an error where it is not entered.
+    pub(crate) fn work<R: Threads + Wait + Sync + AllocGlobal + Clock>(
+        self,
+        rt: &R,
+        updates: u32,
+    ) -> Result<(Crewed, Duration)> {
+        let Crewed {
+            parts,
+            mut workers,
+            mut graph,
+            mut draws,
+            next,
+        } = self;
+        let batch = draw_batch(rt.alloc(), &mut draws, &graph, updates)?;
+        if !may_follow(&parts, next, &batch) {
+            bail!("too many updates");
+        }
+        let before = parts.journal.entries().len();
+        let start = Instant::now(rt)?;
+        let (parts, done) = run_batch(rt, rt.alloc(), parts, &mut workers, next, &batch, &NoGate);
+        let took = start.elapsed(rt)?;
+        done?;
+        let Some(made) = parts.journal.entries().get(before..) else {
+            bail!("entries are lost");
+        };
+        follow(&mut graph, made)?;
+        let next = next + batch.len() as u32;
+        let crewed = Crewed {
+            parts,
+            workers,
+            graph,
+            draws,
+            next,
+        };
+        Ok((crewed, took))
+    }
+
+    /// It is an error where the journal has other neighbours, core numbers or totals than the graph, or an order that does not certify them.
+    pub(crate) fn compare(&self, alloc: Global) -> Result<()> {
+        let numbers = Numbers::of(alloc, &self.parts.journal)?;
+        if !has_edges_of(&self.parts.journal, &self.graph) {
+            bail!("the journal has other edges");
+        }
+        if !numbers.fit(alloc, &self.graph)? {
+            bail!("the journal has other core numbers, or an order that does not certify them");
+        }
+        Ok(())
+    }
+
+    /// How many updates were entered.
+    pub(crate) fn entered(&self) -> usize {
+        self.parts.journal.entries().len()
+    }
+}
