@@ -1,0 +1,4 @@
+pub mod Prefixes
+pub mod Lists
+pub mod Cells
+pub mod Moves

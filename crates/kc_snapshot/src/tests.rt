@@ -1,0 +1,187 @@
+//! A board from its opening to its end, in one thread and in many.
+ghost use Rattle.std.specs.Prelude.{◌≡◌, ◌<◌, ◌+◌, ◌≤◌, ◌∷◌, [], All, IfOk, length};
+ghost use Rattle.kc_snapshot.specs.Histories.{member, width};
+
+use crate::{Blank, BoardName, Place, Publisher, Read, Reader, open};
+use std::alloc::Global;
+use std::marker::Brand;
+use std::process::Abort;
+use std::sync::Wait;
+use std::test::Fail;
+use std::thread;
+use std::thread::Threads;
+
+// The core numbers of a path of four vertices, and of the path with both its chords.
+const PATH: [u32; 4] = [1, 1, 1, 1];
+
+const CHORDS: [u32; 4] = [2, 2, 2, 2];
+
+// How many lists are published while eight readers read, and how often each reads.
+const LISTS: u32 = 1_000;
+
+const READS: u32 = 10_000;
+
+// One of these readers, which have seen a first list.
+fn one_of<J: BoardName>(readers: &mut Vec<Reader<J>>, first: &[u32]) -> Result<Reader<J>, Fail>
+    requires { All (λ reader. reader ≡ member first.now ∷ []) readers.old.items }
+    ensures one { IfOk result (λ reader. reader ≡ member first.now ∷ []) }
+    ensures rest { All (λ reader. reader ≡ member first.now ∷ []) readers.new.items }
+{
+    Ok(readers.pop().ok_or("there is no reader left")?)
+}
+
+// What a board shows to one reader that is told, and to one that is not.
+fn read_by_two<J: BoardName, R: Wait + Abort>(
+    rt: &R,
+    alloc: Global,
+    blank: Blank,
+) -> Result<(), Fail>
+    requires { blank ≡ J.book }
+{
+    let (mut publisher, mut readers) = open::<J, &R>(rt, alloc, blank, &PATH, 2)?;
+    let mut told = one_of(&mut readers, &PATH)?;
+    let mut other = one_of(&mut readers, &PATH)?;
+    assert_eq!(rt; told.read(rt, 0), Read { number: 0, core: 1 });
+    assert_eq!(rt; publisher.publish(rt, &CHORDS)?, 1);
+    told.learn(rt, publisher.tell());
+    assert_eq!(rt; told.read(rt, 0), Read { number: 1, core: 2 });
+    let mut all = [0; 4];
+    assert_eq!(rt; other.cores(rt, &mut all), 1);
+    assert_eq!(rt; all, CHORDS);
+    publisher.covers(&told);
+    publisher.end();
+    Ok(())
+}
+
+// Places that change, and a list that changes nothing.
+fn read_changes<J: BoardName, R: Wait + Abort>(
+    rt: &R,
+    alloc: Global,
+    blank: Blank,
+) -> Result<(), Fail>
+    requires { blank ≡ J.book }
+{
+    let (mut publisher, mut readers) = open::<J, &R>(rt, alloc, blank, &CHORDS, 1)?;
+    let mut reader = one_of(&mut readers, &CHORDS)?;
+    let mut places = Vec::new(alloc);
+    places.push(Place { at: 2, core: 1 })?;
+    places.push(Place { at: 2, core: 0 })?;
+    places.push(Place { at: 0, core: 1 })?;
+    assert_eq!(rt; publisher.publish_changes(rt, places)?, 1);
+    assert_eq!(rt; publisher.publish(rt, &[1, 2, 0, 2])?, 2);
+    reader.learn(rt, publisher.tell());
+    let mut all = [0; 4];
+    assert_eq!(rt; reader.cores(rt, &mut all), 2);
+    assert_eq!(rt; all, [1, 2, 0, 2]);
+    publisher.end();
+    Ok(())
+}
+
+// The list that is published under a number.
+fn list_of(number: u32) -> [u32; 4] {
+    [number % 2, number % 3, number % 5, number % 7]
+}
+
+// A reader in a thread of its own, and whether all that it read was what was published.
+#[derive(Drop)]
+struct Watcher<J: BoardName> {
+    reader: Reader<J>,
+    right: bool,
+    ghost wide: { width reader ≡ 4 },
+}
+
+impl<J: BoardName> Watcher<J> {
+    // Reads, and compares each answer with the list of its number. The numbers never fall.
+    fn watch<R: Wait>(&mut self, rt: &R) {
+        let mut least = 0;
+        let mut right = true;
+        for turn in 0..READS {
+            let v = turn % 4;
+            let Read { number, core } = self.reader.read(rt, v);
+            right = right
+                && core == list_of(number)[v as usize]
+                && least <= number
+                && number <= LISTS;
+            least = number;
+        }
+        self.right = right;
+    }
+}
+
+// Publishes the lists in order.
+fn publish_all<J: BoardName, R: Wait + Drop, W: Wait>(
+    rt: &W,
+    mut publisher: Publisher<J, R>,
+) -> Result<Publisher<J, R>, Fail>
+    requires { (length publisher ≡ 1) × (width publisher ≡ 4) }
+{
+    for number in 1..LISTS + 1 {
+        publisher.publish(rt, &list_of(number))?;
+    }
+    Ok(publisher)
+}
+
+// Puts each of the readers, which have seen a first list, into a watcher.
+fn watchers<J: BoardName>(
+    alloc: Global,
+    mut readers: Vec<Reader<J>>,
+    first: &[u32],
+) -> Result<Vec<Watcher<J>>, Fail>
+    requires readers { All (λ reader. reader ≡ member first.now ∷ []) readers.items }
+    requires wide { length first.now ≡ 4 }
+{
+    let mut watchers = Vec::new(alloc);
+    for _ in 0..readers.len() {
+        watchers.push(Watcher {
+            reader: one_of(&mut readers, first)?,
+            right: false,
+        })?;
+    }
+    Ok(watchers)
+}
+
+// Eight readers read while one publisher publishes.
+fn read_by_eight<J: BoardName + Send + Sync, R: Threads + Wait + Abort + Sync>(
+    rt: &R,
+    alloc: Global,
+    blank: Blank,
+) -> Result<(), Fail>
+    requires { blank ≡ J.book }
+{
+    let first = list_of(0);
+    let (publisher, readers) = open::<J, &R>(rt, alloc, blank, &first, 8)?;
+    let mut watchers = watchers(alloc, readers, &first)?;
+    let (published, ()) = thread::join(
+        rt,
+        || publish_all(rt, publisher),
+        || thread::for_each_mut(
+            rt,
+            watchers.as_mut_slice(),
+            8,
+            &|_, watcher| watcher.watch(rt),
+        ),
+    );
+    let publisher = published?;
+    assert!(rt; watchers.iter().all(|watcher| watcher.right));
+    for watcher in watchers.iter_mut() {
+        watcher.reader.learn(rt, publisher.tell());
+        assert_eq!(rt; watcher.reader.read(rt, 1).number, LISTS);
+    }
+    publisher.end();
+    Ok(())
+}
+
+#[test]
+fn two_readers_read(rt: HostRuntime) -> Result<(), Fail> {
+    read_by_two::<Brand, _>(&rt, rt.alloc(), Blank::new())
+}
+
+#[test]
+fn changes_are_read(rt: HostRuntime) -> Result<(), Fail> {
+    read_changes::<Brand, _>(&rt, rt.alloc(), Blank::new())
+}
+
+#[test]
+fn eight_readers_read_what_was_published(rt: HostRuntime) -> Result<(), Fail> {
+    read_by_eight::<Brand, _>(&rt, rt.alloc(), Blank::new())
+}
