@@ -1,0 +1,30 @@
+-- The top of core numbers is the greatest of them.
+use Rattle.std.proofs.Common.{◌≡◌, ℕ, zero, suc, ◌<◌, ◌≤◌, max, List, [], ◌∷◌, length, get_or, fold, inl, inr, arith}
+use Rattle.kc_graph.specs.Core.{greatest}
+use Rattle.kc_levels.specs.Levels.{IsTop}
+
+-- the greatest of a number and those of a list
+abbrev over : ℕ → List ℕ → ℕ
+over d xs = fold (λ n c. max n c) d xs
+
+holds : (xs : List ℕ) (d : ℕ) → d ≤ over d xs
+holds [] d = omega arith
+holds (x ∷ xs) d = let h : max d x ≤ over d (x ∷ xs) = holds xs (max d x) in omega (arith, h)
+
+bounds : (xs : List ℕ) (d i : ℕ) → i < length xs → get_or xs i 0 ≤ over d xs
+bounds [] d i l = absurd (omega (arith, l))
+bounds (x ∷ xs) d zero l = let h : max d x ≤ over d (x ∷ xs) = holds xs (max d x) in omega (arith, h)
+bounds (x ∷ xs) d (suc i) l = bounds xs (max d x) i (omega (arith, l))
+
+least : (xs : List ℕ) (d m : ℕ) → d ≤ m → ((i : ℕ) → i < length xs → get_or xs i 0 ≤ m) → over d xs ≤ m
+least [] d m low h = low
+least (x ∷ xs) d m low h = least xs (max d x) m (omega (arith, low, h 0 (omega arith))) (λ i l. h (suc i) (omega (arith, l)))
+
+pub top-is : (core : List ℕ) (top : ℕ) → IsTop core top → top ≡ greatest core
+top-is core top h =
+    let low : greatest core ≤ top = least core 0 top (omega arith) h.most in
+    let high : top ≤ greatest core = elim h.reached [
+      | inl none ↦ omega (arith, none)
+      | inr some ↦ omega (arith, some.2, bounds core 0 some.0 some.1)
+    ] in
+    omega (arith, low, high)
