@@ -1,5 +1,5 @@
 -- What holds of the work between two rounds, and what it comes to at the end.
-use Rattle.std.proofs.Common.{◌≡◌, ◌⊎◌, inl, inr, ⊎_elim, ℕ, ◌+◌, ◌≤◌, Bool, true, List, [], ◌∷◌, ◌++◌, All, Contains, length, sum_by, refl, sym, ap}
+use Rattle.std.proofs.Common.{◌≡◌, ◌⊎◌, inl, inr, ⊎_elim, ℕ, ◌+◌, ◌<◌, ◌≤◌, Bool, true, List, [], ◌∷◌, ◌++◌, All, Contains, length, sum_by, refl, sym, ap}
 use Rattle.std.proofs.Common.{◌∙◌, subst, arith, length-append}
 use Rattle.std.proofs.lemmas.Bool.{false_from_ne_true, false≢true}
 use Rattle.std.proofs.lemmas.List.{length-map}
@@ -16,6 +16,7 @@ use Rattle.kc_table.specs.Log.{PassSeen}
 use Rattle.kc_table.proofs.Prefixes.{prefix_self}
 use Rattle.kc_journal.specs.Journals.{Journalled, Stands}
 use Rattle.kc_journal.specs.declared.answer.Receipt.{Receipt}
+use Rattle.kc_queue.specs.Dealt.{times}
 use Rattle.kc_queue.specs.Shares.{IsWhole}
 use Rattle.kc_queue.proofs.Counts.{distinct_times, member_times, times_distinct, times_member}
 use Rattle.kc_stripes.specs.Records.{Opened}
@@ -23,7 +24,7 @@ use Rattle.kc_shared.specs.States.{opened_by}
 use Rattle.kc_shared.specs.declared.shared.TheConstants.{MISSES}
 use Rattle.kc_workers.specs.declared.done.Done.{Done}
 use Rattle.kc_batch.specs.Batches.{Account, WentOnBy}
-use Rattle.kc_batch.specs.Desks.{Work, all_done, all_receipts, at_places, in_hand, receipts_of, times, times_had}
+use Rattle.kc_batch.specs.Desks.{Work, all_done, all_receipts, at_places, in_hand, receipts_of, times_had}
 use Rattle.kc_batch.specs.Receipts.{AreAllOf, IsReceiptOf, told_indices}
 use Rattle.kc_batch.specs.Runs.{IsRenewal, StaysIn, WentOn}
 use Rattle.kc_batch.specs.Seats.{HasTrueMisses, IsReceiptIn, Rounds}
@@ -31,6 +32,7 @@ use Rattle.kc_batch.specs.declared.left.Left.{Left}
 use Rattle.kc_batch.specs.declared.left.Left.TheVariants.{Nothing}
 use Rattle.kc_batch.proofs.Counting.{some_of}
 use Rattle.kc_batch.proofs.Going.{went-entries, went-renewed, went-stays}
+use Rattle.kc_batch.proofs.Pacing.{pace-few, pace-renewed, pace-round}
 use Rattle.kc_batch.proofs.Telling.{receipt_of, receipt_of-earlier, receipt_of-grows}
 use Rattle.kc_batch.proofs.Working.{misses-stay, told-append}
 
@@ -42,9 +44,9 @@ opened-same a b h = λ i. record { table = h.table i; edges = h.opened i; stamps
 pub account-round : (old now next : Journalled) (first : ℕ) (batch : List Update) (ended : List PassSeen) (works after : List Work)
     (taken more : List ℕ) (made : ℕ) (o : Opened)
     → Account old now first batch ended works taken → Stands now → Stands next → StaysIn now next → o ≡ opened_by next
-    → length next.entries ≡ length now.entries + made → Rounds o now.levels.log next.levels.log first batch works after taken more made
-    → Account old next first batch ended after more
-account-round old now next first batch ended works after taken more made o a sn st on is total r =
+    → length next.entries ≡ length now.entries + made → (length next.entries ≡ length now.entries → next.levels.log ≡ now.levels.log)
+    → Rounds o now.levels.log next.levels.log first batch works after taken more made → Account old next first batch ended after more
+account-round old now next first batch ended works after taken more made o a sn st on is total quiet r =
     let P : Receipt → Type 0 = IsReceiptOf next.started next.entries first batch (length old.entries) in
     let before = went-entries ended old now a.went in
     let early : length old.entries ≤ length now.entries = omega (arith, ap (λ (z : List Entry). length z) before.1.1, length-append old.entries before.1.0) in
@@ -79,13 +81,15 @@ account-round old now next first batch ended works after taken more made o a sn 
           misses-stay (opened_by next) old.levels.log now.levels.log next.levels.log next.levels.log d legal stays.log on.log (prefix_self next.levels.log)
           (subst (λ (z : Opened). HasTrueMisses z now.levels.log next.levels.log d) is n)) c)
           (all_done after) r.done;
+      pace = pace-round old now next batch ended made sn on total quiet a.pace;
     }
 
--- One table more.
+-- One table more, while an update of the batch is left.
 pub account-renewed : (old now next : Journalled) (first : ℕ) (batch : List Update) (ended : List PassSeen) (last : PassSeen)
     (works : List Work) (taken : List ℕ)
-    → Account old now first batch ended works taken → IsRenewal now last now next → Account old next first batch (ended ++ last ∷ []) works taken
-account-renewed old now next first batch ended last works taken a r =
+    → Account old now first batch ended works taken → IsRenewal now last now next → length now.entries < length old.entries + length batch
+    → Account old next first batch (ended ++ last ∷ []) works taken
+account-renewed old now next first batch ended last works taken a r left =
     let same = r.renews.entries in
     record {
       went = went-renewed ended last old now next a.went r;
@@ -96,10 +100,11 @@ account-renewed old now next first batch ended last works taken a r =
       balance = a.balance;
       few = a.few;
       misses = λ none. absurd (omega (arith, ap (λ (z : List PassSeen). length z) none, length-append ended (last ∷ [])));
+      pace = inr (pace-renewed old now next batch ended last r (omega (arith, a.count)) left a.pace);
     }
 
 -- Counts over all work.
-told-le : (first y : ℕ) (works : List Work) → times y (told_indices (all_receipts works)) ≤ sum_by (times_had first y) works
+pub told-le : (first y : ℕ) (works : List Work) → times y (told_indices (all_receipts works)) ≤ sum_by (times_had first y) works
 told-le first y [] = omega arith
 told-le first y (w ∷ ws) = omega (arith, told-le first y ws, told-append y (receipts_of w) (all_receipts ws), sum_by-cons (times_had first y) w ws)
 
@@ -133,19 +138,19 @@ member-placed first x (y ∷ ys) m = elim (member-cases (first + x) (first + y) 
     alike : first + x ≡ first + y → x ≡ y
     alike e = omega arith
 
-distinct-placed : (first : ℕ) (xs : List ℕ) → Distinct xs → Distinct (at_places first xs)
+pub distinct-placed : (first : ℕ) (xs : List ℕ) → Distinct xs → Distinct (at_places first xs)
 distinct-placed first [] d = tt
 distinct-placed first (x ∷ xs) d =
     (false_from_ne_true (member (first + x) (at_places first xs)) (λ m. false≢true (sym d.0 ∙ member-placed first x xs m)), distinct-placed first xs d.1)
 
-told-once : (old now : Journalled) (first : ℕ) (batch : List Update) (ended : List PassSeen) (works : List Work) (taken : List ℕ)
+pub told-once : (old now : Journalled) (first : ℕ) (batch : List Update) (ended : List PassSeen) (works : List Work) (taken : List ℕ)
     → Account old now first batch ended works taken → Distinct taken → Distinct (told_indices (all_receipts works))
 told-once old now first batch ended works taken a d =
     distinct_times (told_indices (all_receipts works))
     (λ y. omega (arith, told-le first y works, a.balance y, times_distinct y (at_places first taken) (distinct-placed first taken d)))
 
 -- of distinct numbers that stand all in another list there are no more than there
-fewer : (xs ys : List ℕ) → Distinct xs → ((x : ℕ) → member x xs ≡ true → member x ys ≡ true) → length xs ≤ length ys
+pub fewer : (xs ys : List ℕ) → Distinct xs → ((x : ℕ) → member x xs ≡ true → member x ys ≡ true) → length xs ≤ length ys
 fewer xs ys d h =
     let any : ℕ → Bool = λ x. true in
     omega (arith, count-le any xs ys d (λ x m t. h x m), count-all any xs (λ x m. refl), count-all any ys (λ x m. refl))
@@ -179,6 +184,7 @@ made_so old now first batch ended works taken a d =
         some = some_of now.started old.entries pre.0 first batch rs
             (subst (λ (z : List Entry). All (IsReceiptOf now.started z first batch (length old.entries)) rs) (sym pre.1) a.receipts)
             (told-once old now first batch ended works taken a d) as_many;
+        few_tables = pace-few old now batch ended a.pace;
       };
       as_many = sym as_many;
     }

@@ -1,32 +1,35 @@
 -- How a batch begins, what is given out between two rounds, and what it has come to at its end.
 use Rattle.std.proofs.Common.{◌≡◌, inl, inr, ℕ, ◌+◌, ◌<◌, ◌≤◌, List, [], ◌∷◌, ◌++◌, All, Contains, get_or, length, map, take, sum_by, refl, sym, ap}
-use Rattle.std.proofs.Common.{◌∙◌, subst, arith, append_assoc, append-nil, length-append}
+use Rattle.std.proofs.Common.{zero, suc, true, false, ◌∙◌, subst, arith, append-nil, length-append}
 use Rattle.std.specs.List.{flat_map}
-use Rattle.std.proofs.lemmas.Bool.{cases_lt, true≢false}
+use Rattle.std.proofs.lemmas.Bool.{cases_lt, false_from_ne_true, true≢false}
 use Rattle.std.proofs.Math.Seq.{drop-append_seam}
 use Rattle.std.proofs.lemmas.List.{flat_map_more, get_or_append_left, get_or_default, get_or_push, length-map, map-append, take_all, take_more}
 use Rattle.std.proofs.lemmas.List.Elements.{All-append, All-cons, All-contains, All-contains_itself, All-drop, All-head, All-map, All-nil, All-push}
 use Rattle.std.proofs.lemmas.List.Elements.{All-tail, All-weaker, Contains-append_left, Contains-append_right}
 use Rattle.std.proofs.lemmas.List.Folds.{flat_map-map}
 use Rattle.std.proofs.lemmas.List.Sums.{get_or-le-sum_by, sum_by-append, sum_by-cons}
-use Rattle.kc_distinct.proofs.Members.{member-head}
+use Rattle.kc_distinct.specs.Lists.{Distinct, member}
+use Rattle.kc_distinct.proofs.Members.{below_bound, member-cases, member-head}
 use Rattle.kc_distinct.proofs.Shared.{All-front}
 use Rattle.kc_graph.specs.declared.update.Update.{Update}
 use Rattle.kc_table.specs.declared.view.Event.{Event}
 use Rattle.kc_table.specs.Log.{PassSeen, Seen, TableName}
 use Rattle.kc_journal.specs.Journals.{Journalled, Renews, Stands, all_seen, fresh_pass}
-use Rattle.kc_journal.proofs.Standing.{size-is}
+use Rattle.kc_journal.proofs.Standing.{number-is, size-is}
+use Rattle.kc_levels.specs.declared.levels.TheConstants.{LAST_NUMBER}
 use Rattle.kc_journal.specs.declared.answer.Receipt.{Receipt}
+use Rattle.kc_queue.specs.Dealt.{times}
 use Rattle.kc_queue.specs.Shares.{Consuming, Filled, IsShare, IsWhole}
 use Rattle.kc_queue.specs.declared.consumer.TheConstants.{PARTS}
-use Rattle.kc_queue.proofs.Counts.{member_times, times_member}
+use Rattle.kc_queue.proofs.Counts.{member_times, times-append, times_distinct, times_member}
 use Rattle.kc_stripes.specs.Records.{Opened, opened_with}
 use Rattle.kc_shared.specs.States.{Parted, opened_by}
 use Rattle.kc_shared.specs.declared.shared.TheConstants.{MISSES}
 use Rattle.kc_workers.specs.declared.done.Done.{Done}
 use Rattle.kc_workers.specs.declared.share.Share.{Share}
 use Rattle.kc_batch.specs.Batches.{Account, Gives, IsCrew, IsCutShort, IsDone, IsStanding, MayGoOn, SomeKeeps, done_in, receipts_in}
-use Rattle.kc_batch.specs.Desks.{Desked, KeepsOneOf, Work, all_done, all_receipts, at_places, in_hand, receipts_of, times, times_had, untold}
+use Rattle.kc_batch.specs.Desks.{Desked, KeepsOneOf, Work, all_done, all_receipts, at_places, in_hand, receipts_of, times_had, untold}
 use Rattle.kc_batch.specs.Receipts.{AreAllOf, IsReceiptOf, told_indices}
 use Rattle.kc_batch.specs.Runs.{IsNearlySpent, IsRenewal, StaysIn}
 use Rattle.kc_batch.specs.Seats.{HasTrueMisses, KeepsIfSpent, Rounds, backward}
@@ -35,10 +38,10 @@ use Rattle.kc_batch.specs.declared.left.Left.{Left}
 use Rattle.kc_batch.specs.declared.left.Left.TheVariants.{Nothing, Kept, Dropped, Untold}
 use Rattle.kc_batch.specs.declared.standing.Standing.{Standing}
 use Rattle.kc_batch.specs.declared.standing.Standing.TheVariants.{Free, Keeping, Short}
-use Rattle.kc_batch.proofs.Accounting.{account-renewed, account-round, made_all, made_so, member-placed}
+use Rattle.kc_batch.proofs.Accounting.{account-renewed, account-round, distinct-placed, fewer, made_all, made_so, member-placed, told-le, told-once}
 use Rattle.kc_batch.proofs.Going.{stays-self}
-use Rattle.kc_batch.proofs.Rounding.{all-backward, all-unmapped, backward-push, length-backward}
-use Rattle.kc_batch.proofs.Working.{keeps-nothing, times-append}
+use Rattle.kc_batch.proofs.Rounding.{all-backward, all-unmapped, length-backward}
+use Rattle.kc_batch.proofs.Working.{keeps-nothing, told-append}
 
 itself-last : {A : Type 0} (xs : List A) (x : A) → Contains (xs ++ x ∷ []) x
 itself-last xs x = Contains-append_right xs (x ∷ []) x (All-head (Contains (x ∷ [])) x [] (All-contains_itself (x ∷ [])))
@@ -127,13 +130,6 @@ renewed-size old new words fresh stands table renews = omega (
   ap (λ (t : TableName). t.shape.fixed) table,
 )
 
--- where some keep an update, and who keeps one has met spent versions, they are spent
-pub keeping-spent : (o : Opened) (log : List Event) (desks : List Desked) → All (λ d. KeepsIfSpent o log d.work.left) desks
-    → SomeKeeps (map (λ d. d.work) desks) → IsNearlySpent o.table log
-keeping-spent o log desks spent some =
-    let all = All-map (λ (w : Work). KeepsIfSpent o log w.left) (λ (d : Desked). d.work) desks spent in
-    subst (KeepsIfSpent o log) some.3 (All-contains (λ (w : Work). KeepsIfSpent o log w.left) (map (λ (d : Desked). d.work) desks) some.0 all some.2)
-
 -- what is in hand was taken, and so is one of the updates
 module _ (old now : Journalled) (first : ℕ) (batch : List Update) (ended : List PassSeen) where
   kept-low : (works : List Work) (taken : List ℕ) (count k : ℕ) (w : Work) (place : ℕ) → Account old now first batch ended works taken
@@ -145,6 +141,53 @@ module _ (old now : Journalled) (first : ℕ) (batch : List Update) (ended : Lis
       let some : 0 < times y (at_places first taken) =
       omega (arith, a.balance y, get_or-le-sum_by (times_had first y) works k w here, had, one, times_member y (y ∷ []) (member-head y [])) in
       share.below place (member-placed first place taken (member_times y (at_places first taken) some))
+
+  -- what is in hand stands beside what was told
+  hand-too : (y : ℕ) (works : List Work) (k : ℕ) (w : Work) → k < length works → get_or works k w ≡ w
+      → times y (told_indices (all_receipts works)) + times y (in_hand first w.left) ≤ sum_by (times_had first y) works
+  hand-too y [] k w here is = absurd (omega arith)
+  hand-too y (u ∷ us) zero w here is = omega (
+    arith,
+    told-le first y us,
+    told-append y (receipts_of u) (all_receipts us),
+    sum_by-cons (times_had first y) u us,
+    ap (λ (v : Work). times y (in_hand first v.left)) is,
+  )
+  hand-too y (u ∷ us) (suc k) w here is = omega (
+    arith,
+    hand-too y us k w (omega arith) is,
+    told-append y (receipts_of u) (all_receipts us),
+    sum_by-cons (times_had first y) u us,
+  )
+
+  -- Where an update is in hand, fewer were entered than there are.
+  not-all : (works : List Work) (taken : List ℕ) (k : ℕ) (w : Work) (place : ℕ) → Account old now first batch ended works taken
+      → IsShare (length batch) taken → k < length works → get_or works k w ≡ w → w.left ≡ Kept place
+      → length now.entries < length old.entries + length batch
+  not-all works taken k w place a share here is kept =
+      let y = first + place in
+      let told = told_indices (all_receipts works) in
+      let places = at_places first taken in
+      let one : times y (in_hand first w.left) ≡ times y (y ∷ []) = ap (λ (l : Left). times y (in_hand first l)) kept in
+      let mine : 0 < times y (y ∷ []) = times_member y (y ∷ []) (member-head y []) in
+      let both = hand-too y works k w here is in
+      let single : times y places ≤ 1 = times_distinct y places (distinct-placed first taken share.once) in
+      let none : times y told ≡ 0 = omega (arith, both, one, mine, single, a.balance y) in
+      let in_places : member y places ≡ true = member_times y places (omega (arith, both, one, mine, a.balance y)) in
+      let away : member y told ≡ false = false_from_ne_true (member y told) (λ m. absurd (omega (arith, none, times_member y told m))) in
+      let once : Distinct (y ∷ told) = (away, told-once old now first batch ended works taken a share.once) in
+      let into : (z : ℕ) → member z (y ∷ told) ≡ true → member z places ≡ true = λ z m. elim (member-cases z y told m) [
+        | inl e ↦ subst (λ (x : ℕ). member x places ≡ true) (sym e) in_places
+        | inr t ↦ member_times z places (omega (arith, times_member z told t, told-le first z works, a.balance z))
+      ] in
+      omega (
+        arith,
+        a.count,
+        fewer (y ∷ told) places once into,
+        length-map (all_receipts works) (λ (r : Receipt). r.index),
+        length-map taken (λ (p : ℕ). first + p),
+        below_bound (length batch) taken share.once share.below,
+      )
 
   keeps-low : (count : ℕ) (left : Left) → MayGoOn left → ((place : ℕ) → left ≡ Kept place → place < count) → KeepsOneOf count left
   keeps-low count Nothing may low = tt
@@ -158,6 +201,15 @@ module _ (old now : Journalled) (first : ℕ) (batch : List Update) (ended : Lis
       let w = get_or works k d in
       keeps-low count w.left (may k d l) (λ place kept.
       kept-low works taken count k w place a share l (get_or_default works k w d l) kept)
+
+  -- So it is where some keep one.
+  keeping-left : (works : List Work) (taken : List ℕ) → Account old now first batch ended works taken → IsShare (length batch) taken → SomeKeeps works
+      → length now.entries < length old.entries + length batch
+  keeping-left works taken a share some =
+      let Low : Work → Type 0 = λ w. (place : ℕ) → w.left ≡ Kept place → length now.entries < length old.entries + length batch in
+      let all : All Low works = λ k d l place kept.
+      not-all works taken k (get_or works k d) place a share l (get_or_default works k (get_or works k d) d l) kept in
+      All-contains Low works some.0 all some.2 some.1 some.3
 
   -- The first that has nothing left is given the update at a place that was taken last.
   pub account-given : (w : Work) (ws : List Work) (taken : List ℕ) (place : ℕ) → w.left ≡ Nothing → Account old now first batch ended (w ∷ ws) taken
@@ -184,6 +236,7 @@ module _ (old now : Journalled) (first : ℕ) (batch : List Update) (ended : Lis
         );
         few = a.few;
         misses = a.misses;
+        pace = a.pace;
       }
 
 -- Of a crew between two rounds.
@@ -207,18 +260,41 @@ module _ (old : Journalled) (first : ℕ) (batch : List Update) (ended : List Pa
       all-unmapped (λ (w : Work). KeepsOneOf queue.count w.left) (λ (d : Desked). d.work) desks
       (all-keep old now first batch ended ws consumer.taken queue.count h.account h.share (subst (All (λ (w : Work). MayGoOn w.left)) is may))
 
+  -- where some keep an update, fewer were entered than there are,
+  pub crew-left : (words : TableName) (now : Journalled) (desks : List Desked) (consumer : Consuming)
+      → IsCrew old first batch ended queue words now desks consumer → queue.count ≡ length batch → SomeKeeps (map (λ d. d.work) desks)
+      → length now.entries < length old.entries + length batch
+  crew-left words now desks consumer h count some =
+      keeping-left old now first batch ended (map (λ (d : Desked). d.work) desks) consumer.taken h.account
+      (subst (λ (n : ℕ). IsShare n consumer.taken) count h.share) some
+
+  -- so that, as all entries can be numbered, versions are nearly spent
+  pub crew-spent : (words : TableName) (now : Journalled) (desks : List Desked) (consumer : Consuming)
+      → IsCrew old first batch ended queue words now desks consumer → queue.count ≡ length batch → Stands now
+      → length old.entries + length batch ≤ LAST_NUMBER → All (λ d. KeepsIfSpent (opened_by now) now.levels.log d.work.left) desks
+      → SomeKeeps (map (λ d. d.work) desks) → IsNearlySpent now.levels.table now.levels.log
+  crew-spent words now desks consumer h count stands numbers spent some =
+      let Spent : Work → Type 0 = λ w. KeepsIfSpent (opened_by now) now.levels.log w.left in
+      let works = map (λ (d : Desked). d.work) desks in
+      let all = All-map Spent (λ (d : Desked). d.work) desks spent in
+      elim (subst (KeepsIfSpent (opened_by now) now.levels.log) some.3 (All-contains Spent works some.0 all some.2)) [
+        | inl nearly ↦ nearly
+        | inr full ↦ absurd (omega (arith, full, crew-left words now desks consumer h count some, numbers, number-is now stands))
+      ]
+
   pub crew-renewed : (words fresh : TableName) (now next : Journalled) (last : PassSeen) (more : List PassSeen)
       (desks others : List Desked) (consumer : Consuming)
       → IsCrew old first batch ended queue words now desks consumer → IsRenewal now last now next → more ≡ ended ++ last ∷ []
-      → next.levels.table ≡ fresh → All (λ d. d.seen ≡ record { table = fresh; log = [] }) others
-      → map (λ d. d.work) others ≡ map (λ d. d.work) desks → IsCrew old first batch more queue fresh next others consumer
-  crew-renewed words fresh now next last more desks others consumer h renewal is table seen works =
+      → length now.entries < length old.entries + length batch → next.levels.table ≡ fresh
+      → All (λ d. d.seen ≡ record { table = fresh; log = [] }) others → map (λ d. d.work) others ≡ map (λ d. d.work) desks
+      → IsCrew old first batch more queue fresh next others consumer
+  crew-renewed words fresh now next last more desks others consumer h renewal is left table seen works =
       let ws = map (λ (d : Desked). d.work) desks in
       record {
         account =
             subst (λ (z : List Work). Account old next first batch more z consumer.taken) (sym works)
             (subst (λ (z : List PassSeen). Account old next first batch z ws consumer.taken) (sym is)
-            (account-renewed old now next first batch ended last ws consumer.taken h.account renewal));
+            (account-renewed old now next first batch ended last ws consumer.taken h.account renewal left));
         table = table;
         told = subst (λ (log : List Event). All (λ (d : Desked). d.seen ≡ record { table = fresh; log = log }) others) (sym renewal.renews.log) seen;
         of_queue = h.of_queue;
@@ -260,14 +336,6 @@ given-keeps count place (d ∷ ds) others low none gives =
     (All-cons Keeps (record d { work = record { done = d.work.done; left = Kept place } }) ds low
     (All-weaker None Keeps (λ e free. keeps-nothing count e.work.left free) ds (All-tail None d ds none)))
 
--- Who stands up was at the last of the desks, which come from their end on.
-pub back-images : {A B : Type 0} (f : A → B) (done new : List B) (old rest : List A) (x : A) (b : B) → old ≡ rest ++ x ∷ [] → b ≡ f x → new ≡ done ++ b ∷ []
-    → new ++ map f (backward rest) ≡ done ++ map f (backward old)
-back-images {A} {B} f done new old rest x b is image more =
-    ap (λ (z : List B). z ++ map f (backward rest)) more
-    ∙ (append_assoc done (b ∷ []) (map f (backward rest))
-    ∙ (ap (λ (z : B). done ++ z ∷ map f (backward rest)) image ∙ ap (λ (z : List A). done ++ map f z) (sym (ap backward is ∙ backward-push rest x))))
-
 -- each share has the number of its place
 pub numbered-more : (shares new : List Share) (s : Share) → new ≡ shares ++ s ∷ [] → s.worker ≡ length shares
     → ((i : ℕ) (d : Share) → i < length shares → (get_or shares i d).worker ≡ i) → (i : ℕ) (d : Share) → i < length new → (get_or new i d).worker ≡ i
@@ -288,18 +356,18 @@ opened-at words now next table stays =
 pub crew-round : (old : Journalled) (first : ℕ) (batch : List Update) (ended : List PassSeen) (queue : Filled) (words : TableName) (now next : Journalled)
     (desks others : List Desked) (consumer after : Consuming) (made : ℕ)
     → IsCrew old first batch ended queue words now desks consumer → Stands now → Stands next → StaysIn now next
-    → length next.entries ≡ length now.entries + made
+    → length next.entries ≡ length now.entries + made → (length next.entries ≡ length now.entries → next.levels.log ≡ now.levels.log)
     → Rounds (opened_with words now.opened now.opening_stamps) now.levels.log next.levels.log first batch (map (λ d. d.work) desks) (map (λ d. d.work) others)
     consumer.taken after.taken made
     → All (λ d. d.seen ≡ record { table = words; log = next.levels.log }) others
     → (after.queue ≡ queue) × (after.parts ≡ PARTS) × IsShare queue.count after.taken
     → IsCrew old first batch ended queue words next others after
-crew-round old first batch ended queue words now next desks others consumer after made h before then stays total rounds told owns =
+crew-round old first batch ended queue words now next desks others consumer after made h before then stays total quiet rounds told owns =
     let W = map (λ (d : Desked). d.work) in
     let o = opened_with words now.opened now.opening_stamps in
     record {
       account = account-round old now next first batch ended (W desks) (W others) consumer.taken after.taken made o h.account before then stays
-          (opened-at words now next h.table stays) total rounds;
+          (opened-at words now next h.table stays) total quiet rounds;
       table = stays.table ∙ h.table;
       told = told;
       of_queue = owns.0;
@@ -361,6 +429,7 @@ account-start j first batch works none =
       balance = λ y. none-had first y works none;
       few = subst (All Few) (sym (nothing-done works none)) (All-nil Few);
       misses = λ here. subst (All True) (sym (nothing-done works none)) (All-nil True);
+      pace = inl refl;
     }
 
 -- a batch that was not begun
@@ -410,6 +479,7 @@ account-backward old now first batch ended works taken a = record {
   balance = λ y. sum-back (times_had first y) works ∙ a.balance y;
   few = all-flat-back (λ d. length d.misses.items ≤ MISSES) (λ w. w.done) works a.few;
   misses = λ none. all-flat-back (HasTrueMisses (opened_by now) old.levels.log now.levels.log) (λ w. w.done) works (a.misses none);
+  pace = a.pace;
 }
 
 -- Where nothing is left what was entered is what is told.

@@ -4,6 +4,7 @@ pub mod Counting
 pub mod Crossing
 pub mod Going
 pub mod Lists
+pub mod Pacing
 pub mod Rounding
 pub mod Telling
 pub mod Working

@@ -11,20 +11,23 @@ use Rattle.kc_graph.specs.declared.update.Update.{Update}
 use Rattle.kc_table.specs.declared.view.Event.{Event}
 use Rattle.kc_table.specs.Legal.{Legal}
 use Rattle.kc_table.specs.Log.{Seen, TableName}
+use Rattle.kc_table.proofs.Stamps.{number-grows}
 use Rattle.kc_table.proofs.Prefixes.{prefix_self, prefix_trans}
 use Rattle.kc_distinct.proofs.Shared.{All-end, All-front}
+use Rattle.kc_queue.specs.Dealt.{times}
 use Rattle.kc_queue.specs.Shares.{Consuming, Filled}
+use Rattle.kc_queue.proofs.Counts.{times-append}
 use Rattle.kc_journal.specs.Journals.{Journalled, Stands}
 use Rattle.kc_journal.specs.declared.answer.Receipt.{Receipt}
 use Rattle.kc_stripes.specs.Records.{Opened}
 use Rattle.kc_workers.specs.declared.done.Done.{Done}
-use Rattle.kc_batch.specs.Desks.{Desked, KeepsOneOf, Work, all_done, all_receipts, at_places, receipts_of, times, times_had}
+use Rattle.kc_batch.specs.Desks.{Desked, KeepsOneOf, Work, all_done, all_receipts, at_places, receipts_of, times_had}
 use Rattle.kc_batch.specs.Seats.{HasTrueMisses, IsHired, IsReady, IsReceiptIn, KeepsIfSpent, Rounds, Seated, Works, all_taken, amounts, backward, desk_of}
 use Rattle.kc_batch.specs.declared.left.Left.{Left}
 use Rattle.kc_batch.specs.declared.left.Left.TheVariants.{Nothing, Kept, Dropped, Untold}
 use Rattle.kc_batch.proofs.Going.{spent-stays}
 use Rattle.kc_batch.proofs.Telling.{receipt_in-grows}
-use Rattle.kc_batch.proofs.Working.{misses-stay, times-append}
+use Rattle.kc_batch.proofs.Working.{misses-stay}
 
 -- what is added at the end of a list comes first from the end on
 pub backward-push : {A : Type 0} (xs : List A) (x : A) → backward (xs ++ x ∷ []) ≡ x ∷ backward xs
@@ -38,17 +41,18 @@ zip-backward R [] (y ∷ ys) h = absurd h
 zip-backward R (x ∷ xs) [] h = absurd h
 zip-backward R (x ∷ xs) (y ∷ ys) h = AllZip-push R (backward xs) (backward ys) x y (zip-backward R xs ys h.1) h.0
 
-back-is : (old rest : List Seated) (x : Seated) → old ≡ rest ++ x ∷ [] → backward old ≡ x ∷ backward rest
+back-is : {A : Type 0} (old rest : List A) (x : A) → old ≡ rest ++ x ∷ [] → backward old ≡ x ∷ backward rest
 back-is old rest x is = ap backward is ∙ backward-push rest x
 
--- The last of the seats is taken back: its desk, its amount, and what it has taken.
-pub back-desks : (ds new : List Desked) (old rest : List Seated) (x : Seated) (d : Desked) → old ≡ rest ++ x ∷ [] → d ≡ desk_of x → new ≡ ds ++ d ∷ []
-    → new ++ map desk_of (backward rest) ≡ ds ++ map desk_of (backward old)
-back-desks ds new old rest x d is desk more =
-    ap (λ (z : List Desked). z ++ map desk_of (backward rest)) more
-    ∙ (append_assoc ds (d ∷ []) (map desk_of (backward rest))
-    ∙ (ap (λ (z : Desked). ds ++ z ∷ map desk_of (backward rest)) desk ∙ ap (λ (z : List Seated). ds ++ map desk_of z) (sym (back-is old rest x is))))
+-- The last one is taken from a list, and what it gives comes next,
+pub back-images : {A B : Type 0} (f : A → B) (done new : List B) (old rest : List A) (x : A) (b : B) → old ≡ rest ++ x ∷ [] → b ≡ f x
+    → new ≡ done ++ b ∷ [] → new ++ map f (backward rest) ≡ done ++ map f (backward old)
+back-images {A} {B} f done new old rest x b is image more =
+    ap (λ (z : List B). z ++ map f (backward rest)) more
+    ∙ (append_assoc done (b ∷ []) (map f (backward rest))
+    ∙ (ap (λ (z : B). done ++ z ∷ map f (backward rest)) image ∙ ap (λ (z : List A). done ++ map f z) (sym (back-is old rest x is))))
 
+-- and so for a seat's amount, and for what it has taken
 pub back-amount : (old rest : List Seated) (x : Seated) → old ≡ rest ++ x ∷ [] → amounts (backward old) ≡ x.amount + amounts (backward rest)
 back-amount old rest x is = ap amounts (back-is old rest x is) ∙ sum_by-cons (λ (s : Seated). s.amount) x (backward rest)
 
@@ -90,7 +94,10 @@ right-or {A} New front rest ys h =
 spent-later : (o : Opened) (p log : List Event) (left : Left) → IsPrefix p log → Legal o.table.shape o.table.opening log
     → KeepsIfSpent o p left → KeepsIfSpent o log left
 spent-later o p log Nothing pre legal h = h
-spent-later o p log (Kept place) pre legal h = spent-stays o.table p log pre legal h
+spent-later o p log (Kept place) pre legal h = elim h [
+  | inl spent ↦ inl (spent-stays o.table p log pre legal spent)
+  | inr full ↦ inr (omega (arith, full, number-grows o.table.shape o.table.opening p log pre))
+]
 spent-later o p log (Dropped place) pre legal h = h
 spent-later o p log (Untold receipt) pre legal h = h
 

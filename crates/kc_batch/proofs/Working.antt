@@ -1,17 +1,18 @@
 -- What one step of a worker makes of its work, and what the steps of a round make together.
 use Rattle.std.proofs.Common.{◌≡◌, ℕ, ◌+◌, ◌<◌, List, [], ◌∷◌, ◌++◌, All, None, Some, Result, Ok, Err, IfErr, IfOk, MatchResult, get_or, length, map}
-use Rattle.std.proofs.Common.{refl, sym, ap, ◌∙◌, subst, arith, append_assoc, append-nil, length-append, eqb, cond}
+use Rattle.std.proofs.Common.{inl, inr, refl, sym, ap, ◌∙◌, subst, arith, append_assoc, append-nil, length-append}
 use mathlib.Core.List.{IsPrefix}
 use Rattle.std.proofs.lemmas.List.{map-append}
 use Rattle.std.proofs.lemmas.List.Elements.{All-append, All-cons, All-nil, All-weaker}
-use Rattle.std.proofs.lemmas.List.Sums.{sum_by-append}
 use Rattle.kc_graph.specs.declared.update.Update.{Update}
 use Rattle.kc_table.specs.declared.view.Event.{Event}
 use Rattle.kc_table.specs.Legal.{Legal}
 use Rattle.kc_table.specs.Log.{Seen}
 use Rattle.kc_table.proofs.Prefixes.{prefix_self, prefix_trans}
 use Rattle.kc_journal.specs.declared.answer.Receipt.{Receipt}
+use Rattle.kc_queue.specs.Dealt.{times}
 use Rattle.kc_queue.specs.Shares.{Consuming}
+use Rattle.kc_queue.proofs.Counts.{times-append}
 use Rattle.kc_stripes.specs.Records.{Opened}
 use Rattle.kc_shared.specs.Answers.{IsReceipt}
 use Rattle.kc_shared.specs.Misses.{IsTrueMiss}
@@ -20,16 +21,13 @@ use Rattle.kc_workers.specs.Updates.{HasUpdateCause, IsDone, entered_by}
 use Rattle.kc_workers.specs.declared.done.Done.{Done}
 use Rattle.kc_workers.specs.declared.fault.UpdateFault.{UpdateFault}
 use Rattle.kc_workers.specs.declared.fault.UpdateFault.TheVariants as fault
-use Rattle.kc_batch.specs.Desks.{KeepsOneOf, Work, at_places, in_hand, receipts_of, times, untold}
+use Rattle.kc_batch.specs.Desks.{KeepsOneOf, Work, at_places, in_hand, receipts_of, untold}
 use Rattle.kc_batch.specs.Receipts.{IsUpdateAt, told_indices}
 use Rattle.kc_batch.specs.Seats.{HasTrueMisses, IsReady, IsReceiptIn, KeepsIfSpent, Seated, Works, noted}
 use Rattle.kc_batch.specs.declared.left.Left.{Left}
 use Rattle.kc_batch.specs.declared.left.Left.TheVariants.{Nothing, Kept, Dropped, Untold}
 use Rattle.kc_batch.proofs.Going.{nearly_spent}
 use Rattle.kc_batch.proofs.Telling.{receipt_in, receipt_in-grows, update_at}
-
-pub times-append : (y : ℕ) (xs ys : List ℕ) → times y (xs ++ ys) ≡ times y xs + times y ys
-times-append y xs ys = sum_by-append (λ x. cond (eqb y x) 1 0) xs ys
 
 pub told-append : (y : ℕ) (rs more : List Receipt) → times y (told_indices (rs ++ more)) ≡ times y (told_indices rs) + times y (told_indices more)
 told-append y rs more =
@@ -232,7 +230,7 @@ module _ (o : Opened) (start : List Event) (first : ℕ) (batch : List Update) w
   tries s place amount seen update (Err (fault.Spent highest needed)) kept told pre legal at done cause more =
       keeps s place amount seen (omega arith) pre legal
   tries s place amount seen update (Err (fault.Full entries)) kept told pre legal at done cause more =
-      drops s place amount seen kept (omega arith) pre legal
+      keeps s place amount seen (omega arith) pre legal
   tries s place amount seen update (Err (fault.NoMemory None)) kept told pre legal at done cause more =
       drops s place amount seen kept (omega arith) pre legal
   tries s place amount seen update (Err (fault.NoMemory (Some receipt))) kept told pre legal at done cause more =
@@ -243,8 +241,8 @@ module _ (o : Opened) (start : List Event) (first : ℕ) (batch : List Update) w
       → w.left ≡ Kept place → KeepsIfSpent o new (noted place outcome w).left
   spent-so w place old new update (Ok done) cause kept = tt
   spent-so w place old new update (Err (fault.Spent highest needed)) cause kept =
-      subst (KeepsIfSpent o new) (sym kept) (nearly_spent o.table new highest needed cause)
-  spent-so w place old new update (Err (fault.Full entries)) cause kept = tt
+      subst (KeepsIfSpent o new) (sym kept) (inl (nearly_spent o.table new highest needed cause))
+  spent-so w place old new update (Err (fault.Full entries)) cause kept = subst (KeepsIfSpent o new) (sym kept) (inr (omega (arith, cause.0, cause.1)))
   spent-so w place old new update (Err (fault.NoMemory None)) cause kept = tt
   spent-so w place old new update (Err (fault.NoMemory (Some receipt))) cause kept = tt
 

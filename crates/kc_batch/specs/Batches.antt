@@ -1,18 +1,19 @@
 -- What a batch leaves behind.
-use Rattle.std.specs.Prelude.{◌≡◌, ◌<◌, ◌≤◌, ◌+◌, ⊤, ℕ, List, [], ◌∷◌, ◌++◌, All, Contains, length, map, slice_index_or, sum_by}
+use Rattle.std.specs.Prelude.{◌≡◌, ◌<◌, ◌≤◌, ◌+◌, ◌⊎◌, ⊤, ℕ, List, [], ◌∷◌, ◌++◌, All, Contains, length, map, slice_index_or, sum_by}
 use Rattle.std.specs.List.{flat_map}
 use Rattle.kc_graph.specs.declared.update.Update.{Update}
 use Rattle.kc_table.specs.declared.entry.Entry.{Entry}
 use Rattle.kc_table.specs.Log.{PassSeen, TableName}
 use Rattle.kc_journal.specs.Journals.{Journalled}
 use Rattle.kc_journal.specs.declared.answer.Receipt.{Receipt}
+use Rattle.kc_queue.specs.Dealt.{times}
 use Rattle.kc_queue.specs.Shares.{Consuming, Filled, IsShare}
 use Rattle.kc_queue.specs.declared.consumer.TheConstants.{PARTS}
 use Rattle.kc_shared.specs.States.{opened_by}
 use Rattle.kc_shared.specs.declared.shared.TheConstants.{MISSES}
 use Rattle.kc_workers.specs.declared.done.Done.{Done}
 use Rattle.kc_workers.specs.declared.share.Share.{Share}
-use Rattle.kc_batch.specs.Desks.{Desked, Work, all_done, all_receipts, at_places, times, times_had}
+use Rattle.kc_batch.specs.Desks.{Desked, Work, all_done, all_receipts, at_places, times_had}
 use Rattle.kc_batch.specs.Receipts.{AreAllOf, AreSomeOf, IsReceiptOf}
 use Rattle.kc_batch.specs.Runs.{WentOn}
 use Rattle.kc_batch.specs.Seats.{HasTrueMisses}
@@ -29,11 +30,13 @@ done_in shares = flat_map (λ s. s.done.items) shares
 abbrev pub receipts_in : List Share → List Receipt
 receipts_in shares = map (λ d. d.receipt) (done_in shares)
 
--- The run went on so over these tables, and made some entries of the batch's updates, each at most once.
+-- The run went on so over these tables, of which no more were ended than the batch has updates, and made some entries of the batch's updates,
+-- each at most once.
 pub record WentOnBy (old new : Journalled) (first : ℕ) (batch : List Update) (ended : List PassSeen) (made : List Entry) : Type 0 where
   pub went : WentOn old ended new
   pub entries : new.entries ≡ old.entries ++ made
   pub some : AreSomeOf first batch made
+  pub few_tables : length ended ≤ length batch
 
 -- where no table was ended, each miss is true from the start of the call to its end
 abbrev pub AreTrueMisses : Journalled → Journalled → List PassSeen → List Done → Type 0
@@ -56,6 +59,15 @@ pub record IsCutShort (old new : Journalled) (first : ℕ) (batch : List Update)
   pub made : List Entry
   pub went : WentOnBy old new first batch ended made
 
+-- How it stands with tables where one was ended in the call. The present one opened at version 0, when as many entries were made in the call
+-- as tables were ended before it, all but one, and not yet as many as the batch has updates. Where no entry was made in it, nothing was
+-- stored in it.
+pub record KeepsPace (old now : Journalled) (batch : List Update) (ended : List PassSeen) : Type 0 where
+  pub version : now.levels.table.shape.version ≡ 0
+  pub slow : length old.entries + length ended ≤ now.levels.table.shape.base + 1
+  pub some_left : now.levels.table.shape.base < length old.entries + length batch
+  pub quiet : length now.entries ≡ now.levels.table.shape.base → now.levels.log ≡ []
+
 -- What holds of the work between two rounds: the run went on, what was entered is told by receipts, and what was taken of the queue is what
 -- the workers have entered and have in hand.
 pub record Account (old now : Journalled) (first : ℕ) (batch : List Update) (ended : List PassSeen) (works : List Work) (taken : List ℕ)
@@ -66,6 +78,7 @@ pub record Account (old now : Journalled) (first : ℕ) (batch : List Update) (e
   pub balance : (y : ℕ) → sum_by (times_had first y) works ≡ times y (at_places first taken)
   pub few : All (λ d. length d.misses.items ≤ MISSES) (all_done works)
   pub misses : AreTrueMisses old now ended (all_done works)
+  pub pace : (ended ≡ []) ⊎ KeepsPace old now batch ended
 
 -- What holds of a crew between two rounds: its account; each worker has been told the whole log; and the consumer has all parts of the
 -- queue.

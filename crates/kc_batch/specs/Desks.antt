@@ -1,8 +1,9 @@
 -- What contracts see of a worker's desk, and how what was taken is counted.
-use Rattle.std.specs.Prelude.{◌<◌, ◌+◌, ⊤, ℕ, List, [], ◌∷◌, ◌++◌, map, count_by, nat_eq}
+use Rattle.std.specs.Prelude.{◌<◌, ◌+◌, ⊤, ℕ, List, [], ◌∷◌, ◌++◌, map}
 use Rattle.std.specs.List.{flat_map}
 use Rattle.kc_table.specs.Log.{Seen}
 use Rattle.kc_journal.specs.declared.answer.Receipt.{Receipt}
+use Rattle.kc_queue.specs.Dealt.{times}
 use Rattle.kc_workers.specs.declared.done.Done.{Done}
 use Rattle.kc_batch.specs.Receipts.{told_indices}
 use Rattle.kc_batch.specs.declared.left.Left.{Left}
@@ -34,10 +35,6 @@ in_hand first (Untold receipt) = []
 -- the receipts of all that the worker has entered
 abbrev pub receipts_of : Work → List Receipt
 receipts_of w = map (λ done. done.receipt) w.done ++ untold w.left
-
--- how often `x` stands in the list
-abbrev pub times : ℕ → List ℕ → ℕ
-times x xs = count_by (nat_eq x) xs
 
 -- the indices of updates at these places of the batch
 abbrev pub at_places : ℕ → List ℕ → List ℕ

@@ -9,8 +9,10 @@ use Rattle.kc_table.specs.Edges.{after_entries}
 use Rattle.kc_table.specs.Legal.{Legal}
 use Rattle.kc_table.specs.Log.{Seen}
 use Rattle.kc_agree.specs.Stamps.{changes_graph, made_by, number_of}
+use Rattle.kc_levels.specs.declared.levels.TheConstants.{LAST_NUMBER}
 use Rattle.kc_journal.specs.Entering.{entry_of}
 use Rattle.kc_journal.specs.declared.answer.Receipt.{Receipt}
+use Rattle.kc_queue.specs.Dealt.{times}
 use Rattle.kc_queue.specs.Shares.{Consuming, Filled}
 use Rattle.kc_stripes.specs.Records.{Opened}
 use Rattle.kc_shared.specs.Misses.{IsTrueMiss}
@@ -18,7 +20,7 @@ use Rattle.kc_shared.specs.declared.shared.TheConstants.{MISSES}
 use Rattle.kc_workers.specs.declared.done.Done.{Done}
 use Rattle.kc_workers.specs.declared.fault.UpdateFault.{UpdateFault}
 use Rattle.kc_workers.specs.declared.fault.UpdateFault.TheVariants as fault
-use Rattle.kc_batch.specs.Desks.{Desked, KeepsOneOf, Work, all_done, all_receipts, at_places, receipts_of, times, times_had}
+use Rattle.kc_batch.specs.Desks.{Desked, KeepsOneOf, Work, all_done, all_receipts, at_places, receipts_of, times_had}
 use Rattle.kc_batch.specs.Receipts.{IsUpdateAt}
 use Rattle.kc_batch.specs.Runs.{IsNearlySpent}
 use Rattle.kc_batch.specs.declared.left.Left.{Left}
@@ -57,10 +59,10 @@ pub record IsReceiptIn (o : Opened) (start log : List Event) (first : ℕ) (batc
 abbrev pub HasTrueMisses : Opened → List Event → List Event → Done → Type 0
 HasTrueMisses o start log done = (length done.misses.items ≤ MISSES) × All (IsTrueMiss o start log) done.misses.items
 
--- where an update is kept, the versions of the table are nearly spent
+-- where an update is kept, the versions of the table are nearly spent, or its entries can't be numbered further
 abbrev pub KeepsIfSpent : Opened → List Event → Left → Type 0
 KeepsIfSpent o log left.Nothing = ⊤
-KeepsIfSpent o log (left.Kept place) = IsNearlySpent o.table log
+KeepsIfSpent o log (left.Kept place) = IsNearlySpent o.table log ⊎ (LAST_NUMBER ≤ number_of o.table log)
 KeepsIfSpent o log (left.Dropped place) = ⊤
 KeepsIfSpent o log (left.Untold receipt) = ⊤
 
@@ -68,7 +70,7 @@ KeepsIfSpent o log (left.Untold receipt) = ⊤
 abbrev pub noted : ℕ → Result Done UpdateFault → Work → Work
 noted place (Ok done) w = record { done = w.done ++ done ∷ []; left = left.Nothing }
 noted place (Err (fault.Spent highest needed)) w = w
-noted place (Err (fault.Full entries)) w = record { done = w.done; left = left.Dropped place }
+noted place (Err (fault.Full entries)) w = w
 noted place (Err (fault.NoMemory None)) w = record { done = w.done; left = left.Dropped place }
 noted place (Err (fault.NoMemory (Some receipt))) w = record { done = w.done; left = left.Untold receipt }
 

@@ -1,5 +1,6 @@
 //! A batch of updates, entered by several workers.
-ghost use Rattle.std.specs.Prelude.{◌≡◌, ◌<◌, ◌≤◌, ◌+◌, ℕ, List, [], All, IfOk, OnErr, OnOk, length, map, slice_index_or, vec_len, vec_capacity};
+ghost use Rattle.std.specs.Prelude.{◌≡◌, ◌<◌, ◌≤◌, ◌+◌, ℕ, List, [], All, IfOk, OnErr, OnOk, length, map, slice_index_or};
+ghost use Rattle.std.specs.Prelude.{vec_len, vec_capacity};
 ghost use Rattle.kc_table.specs.Log.{TableName};
 ghost use Rattle.kc_queue.specs.declared.consumer.TheConstants.{WORKERS};
 ghost use Rattle.kc_queue.specs.Shares.{IsWhole};
@@ -84,6 +85,7 @@ fn work_off<G: Gate + Sync, R: Threads + Wait + Sync>(
     requires keeps { All (λ d. KeepsOneOf (length batch.now) d.work.left) crew.desks.items }
     requires some { (0 < vec_len crew.desks) × (vec_len crew.desks ≤ WORKERS) }
     requires count { queue.now.count ≡ length batch.now }
+    requires numbers { length of.old.entries + length of.batch ≤ LAST_NUMBER }
     requires indices { first + length batch.now ≤ INDICES }
     requires within { All (λ u. u.v < crew.parts.words.shape.fixed) batch.now }
     ensures as_many { vec_len result.0.desks ≡ vec_len crew.desks }
@@ -124,6 +126,7 @@ fn run_desks<G: Gate + Sync, R: Threads + Wait + Sync>(
     requires told { All (λ d. d.seen ≡ record { table = parts.words; log = parts.journal.levels.log }) desks.items }
     requires nothing { All (λ w. w ≡ record { done = []; left = Left.Nothing }) (map (λ d. d.work) desks.items) }
     requires some { (0 < vec_len desks) × (vec_len desks ≤ WORKERS) }
+    requires numbers { length parts.journal.entries + length batch.now ≤ LAST_NUMBER }
     requires indices { first + length batch.now ≤ INDICES }
     requires within { All (λ u. u.v < parts.words.shape.fixed) batch.now }
     ensures as_many { vec_len result.1 ≡ vec_len desks }
@@ -159,7 +162,8 @@ fn run_desks<G: Gate + Sync, R: Threads + Wait + Sync>(
 ///
 /// At Ok each update of the batch is an entry, once, and stands in one share, once, and no other entry was made. `NoMemory` comes where
 /// there is none: then some of the updates were entered, each at most once. Whatever is answered, the journal stands, its entries go on
-/// from the old ones, and there are as many workers as before, all of the table of the answered parts.
+/// from the old ones, no more tables were ended than the batch has updates, and there are as many workers as before, all of the table of
+/// the answered parts.
 pub fn run_batch<G: Gate + Sync, R: Threads + Wait + Sync>(
     rt: &R,
     alloc: Global,

@@ -1,7 +1,8 @@
 //! What comes after a round.
-ghost use Rattle.std.specs.Prelude.{◌≡◌, ◌<◌, ◌≤◌, ◌++◌, ◌∷◌, [], All, IfOk, OnErr, OnOk, length, map, true, false, vec_len};
+ghost use Rattle.std.specs.Prelude.{◌≡◌, ◌<◌, ◌≤◌, ◌+◌, ◌++◌, ◌∷◌, [], All, IfOk, OnErr, OnOk, length, map, true, false, vec_len};
 ghost use Rattle.kc_table.specs.Log.{PassSeen};
 ghost use Rattle.kc_journal.specs.Journals.{Journalled, Stands};
+ghost use Rattle.kc_levels.specs.declared.levels.TheConstants.{LAST_NUMBER};
 ghost use Rattle.kc_queue.specs.Shares.{IsWhole};
 ghost use Rattle.kc_shared.specs.States.{opened_by};
 ghost use Rattle.kc_batch.specs.Batches.{BatchOf, Gives, IsCrew, IsCutShort};
@@ -35,6 +36,9 @@ impl Crew {
             self.old.desks.items self.old.consumer }
         requires spent { All (λ d. KeepsIfSpent (opened_by self.old.parts.journal) self.old.parts.journal.levels.log d.work.left)
             self.old.desks.items }
+        requires stands { Stands self.old.parts.journal }
+        requires numbers { length of.old.entries + length of.batch ≤ LAST_NUMBER }
+        requires count { queue.now.count ≡ length of.batch }
         requires some { 0 < vec_len self.old.desks }
         ensures as_many { vec_len self.new.desks ≡ vec_len self.old.desks }
         ensures size { self.new.parts.words.shape.fixed ≡ self.old.parts.words.shape.fixed }

@@ -168,6 +168,8 @@ pub(crate) fn round<K: Name + Ledger + Send + Sync, G: Gate + Sync, R: Threads +
     ensures same { IfErr result (λ back. back ≡ crew) }
     ensures words { IfOk result (λ c. c.parts.words ≡ K.table) }
     ensures stays { IfOk result (λ c. StaysIn crew.parts.journal c.parts.journal) }
+    ensures quiet { IfOk result (λ c. length c.parts.journal.entries ≡ length crew.parts.journal.entries
+        → c.parts.journal.levels.log ≡ crew.parts.journal.levels.log) }
     ensures told { IfOk result (λ c. All (λ d. d.seen ≡ record { table = K.table; log = c.parts.journal.levels.log }) c.desks.items) }
     ensures rounds { IfOk result (λ c. (made : ℕ) × (length c.parts.journal.entries ≡ length crew.parts.journal.entries + made)
         × Rounds (opened_with K.table K.opening_edges K.opening_stamps) K.log c.parts.journal.levels.log first batch.now

@@ -43,7 +43,7 @@ impl<K: Name + Ledger> Model for Seat<K> {
 
 impl<K: Name + Ledger> Seat<K> {
     /// Enters updates until none is left, or until it can't go on: what it has kept first, then what it takes of the queue. Where the
-    /// versions of the table are spent it keeps the update that it could not enter.
+    /// versions of the table are spent, or the entries can't be numbered further, it keeps the update that it could not enter.
     pub(crate) fn work<G: Gate, R: Wait>(&mut self, rt: &R, errand: &Errand<'_, K, G>)
         requires queue { (self.old.consumer.queue ≡ errand.now.queue.now) × (errand.now.queue.now.count ≡ length errand.now.batch.now) }
         requires ready { IsReady (opened_with K.table K.opening_edges K.opening_stamps) K.log (length errand.now.batch.now) self.old }
@@ -139,7 +139,7 @@ fn note(
             *left = Left::Nothing;
             true
         }
-        Err(UpdateFault::Spent { .. }) => false,
+        Err(UpdateFault::Spent { .. } | UpdateFault::Full { .. }) => false,
         Err(
             UpdateFault::NoMemory {
                 entered: Some(receipt),
@@ -148,7 +148,7 @@ fn note(
             *left = Left::Untold { receipt };
             false
         }
-        Err(UpdateFault::Full { .. } | UpdateFault::NoMemory { entered: None }) => {
+        Err(UpdateFault::NoMemory { entered: None }) => {
             *left = Left::Dropped { place };
             false
         }

@@ -1,10 +1,11 @@
 -- What the desks have come to is what the shares tell.
-use Rattle.std.proofs.Common.{◌≡◌, ℕ, All, Global, List, Vec, subst, sym, arith, length, map, vec_len}
+use Rattle.std.proofs.Common.{◌≡◌, ◌+◌, ◌≤◌, ℕ, All, Global, List, Vec, subst, sym, arith, length, map, vec_len}
 use Rattle.kc_table.specs.declared.pass.Pass.{Pass}
 use Rattle.std.proofs.lemmas.List.Elements.{All-map}
 use Rattle.std.proofs.lemmas.Result.{IfOk-at_ok}
 use Rattle.kc_table.specs.Log.{Seen}
 use Rattle.kc_queue.specs.Shares.{IsWhole}
+use Rattle.kc_levels.specs.declared.levels.TheConstants.{LAST_NUMBER}
 use Rattle.kc_shared.specs.States.{Parted}
 use Rattle.kc_batch.specs.Batches.{Account, IsDone}
 use Rattle.kc_batch.specs.Desks.{Desked, Work}
@@ -23,6 +24,10 @@ pub run_desks-parts-requires-clause-nothing : goal.run_desks-parts-requires-clau
 run_desks-parts-requires-clause-nothing g c κs within =
     subst (All (λ (w : Work). w ≡ idle)) (sym c.tell_all.ensures.works)
     (All-map (λ (w : Work). w ≡ idle) (λ (d : Desked). d.work) c.sit_down-desks.result.items c.sit_down-desks.ensures.nothing)
+
+pub run_desks-parts-requires-clause-numbers : goal.run_desks-parts-requires-clause-numbers
+run_desks-parts-requires-clause-numbers g c κs within =
+    subst (λ (p : Parted). length p.journal.entries + length c.args.batch.now ≤ LAST_NUMBER) (sym c.tell_all.ensures.same) c.requires.numbers
 
 pub run_desks-parts-requires-clause-some : goal.run_desks-parts-requires-clause-some
 run_desks-parts-requires-clause-some g c κs within =

@@ -49,7 +49,7 @@ work_off-crew-requires g c κs within =
                     c.requires.some,
                     (
                       omega (arith, c.in-Ok.ensures.count),
-                      (c.requires.indices, c.requires.within),
+                      (c.requires.numbers, (c.requires.indices, c.requires.within)),
                     ),
                   ),
                 ),

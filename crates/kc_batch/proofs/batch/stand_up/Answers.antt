@@ -3,7 +3,8 @@ use Rattle.std.proofs.Common.{◌∙◌, ◌∷◌, [], ap, arith, map}
 use Rattle.std.proofs.lemmas.List.{map-append}
 use Rattle.kc_workers.specs.declared.share.Share.{Share}
 use Rattle.kc_batch.specs.Desks.{Desked}
-use Rattle.kc_batch.proofs.Closing.{back-images, numbered-more}
+use Rattle.kc_batch.proofs.Closing.{numbered-more}
+use Rattle.kc_batch.proofs.Rounding.{back-images}
 use Rattle.kc_batch.proofs.batch.stand_up.Goals as goal
 
 pub loop-desk-preserved : goal.loop-desk-preserved

@@ -41,7 +41,7 @@ go_on-requires g c κs within =
     let stands : Stands next.parts.journal = subst Stands (ap (λ (k : Crew). k.parts.journal) c.crew-in-loop.view_is) c.look-in-loop.ensures in
     let on : IsCrew b.old b.first b.batch c.loop.ended.items c.args.queue.now now.parts.words next.parts.journal next.desks.items next.consumer =
     crew-round b.old b.first b.batch c.loop.ended.items c.args.queue.now now.parts.words now.parts.journal next.parts.journal now.desks.items next.desks.items
-    now.consumer next.consumer made at.crew stood stands r.stays r.rounds.1 rounds r.told r.consumer in (
+    now.consumer next.consumer made at.crew stood stands r.stays r.rounds.1 r.quiet rounds r.told r.consumer in (
       within,
       (
         subst (λ (t : TableName). IsCrew b.old b.first b.batch c.loop.ended.items c.args.queue.now t next.parts.journal next.desks.items next.consumer)
@@ -49,12 +49,21 @@ go_on-requires g c κs within =
         (
           round-spent now.parts.words now.parts.journal next.parts.journal b.first b.batch before next.desks.items now.consumer.taken next.consumer.taken made
               at.crew.table r.stays rounds,
-          omega (
-            arith,
-            round-many o start log b.first b.batch now.desks.items next.desks.items now.consumer.taken next.consumer.taken made rounds,
-            next.desks.ok.0,
-            now.desks.ok.0,
-            at.some,
+          (
+            stands,
+            (
+              at.numbers,
+              (
+                at.count ∙ ap (λ (us : List Update). length us) (sym at.of_batch),
+                omega (
+                  arith,
+                  round-many o start log b.first b.batch now.desks.items next.desks.items now.consumer.taken next.consumer.taken made rounds,
+                  next.desks.ok.0,
+                  now.desks.ok.0,
+                  at.some,
+                ),
+              ),
+            ),
           ),
         ),
       ),
@@ -82,4 +91,5 @@ loop-preserved g c =
       of_first = at.of_first;
       of_batch = at.of_batch;
       count = at.count;
+      numbers = at.numbers;
     }

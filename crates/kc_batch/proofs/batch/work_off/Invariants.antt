@@ -1,6 +1,7 @@
 -- Between two rounds the crew's account stands, and nobody has dropped an update.
-use Rattle.std.proofs.Common.{◌≡◌, ◌<◌, length, vec_len}
+use Rattle.std.proofs.Common.{◌≡◌, ◌+◌, ◌<◌, ◌≤◌, length, vec_len}
 use Rattle.std.specs.Prelude.{All}
+use Rattle.kc_levels.specs.declared.levels.TheConstants.{LAST_NUMBER}
 use Rattle.kc_batch.specs.Batches.{IsCrew}
 use Rattle.kc_batch.specs.Desks.{KeepsOneOf}
 use Rattle.kc_batch.proofs.batch.work_off.Given as goal
@@ -15,6 +16,7 @@ invariant-loop g l = record {
   of_first : g.of.first ≡ l.first;
   of_batch : g.of.batch ≡ l.batch;
   count : l.queue.count ≡ length l.batch;
+  numbers : length g.of.old.entries + length g.of.batch ≤ LAST_NUMBER;
 }
 
 abbrev pub ghosts-round-K-Name : goal.ghosts-round-K-Name

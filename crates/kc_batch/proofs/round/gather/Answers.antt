@@ -5,7 +5,7 @@ use Rattle.kc_batch.specs.Desks.{Desked}
 use Rattle.kc_distinct.proofs.Shared.{All-end, All-front}
 use Rattle.kc_queue.specs.Shares.{Consuming}
 use Rattle.kc_batch.specs.Seats.{Seated, desk_of}
-use Rattle.kc_batch.proofs.Rounding.{back-amount, back-desks, back-taken}
+use Rattle.kc_batch.proofs.Rounding.{back-amount, back-images, back-taken}
 use Rattle.kc_batch.proofs.round.gather.Goals as goal
 
 pub loop-seat-preserved : goal.loop-seat-preserved
@@ -20,7 +20,7 @@ loop-seat-preserved g c =
     let part : c.seat.inside.consumer.parts ≡ 1 = ap (λ (s : Seated). s.consumer.parts) c.seat.view_is ∙ mine.1 in
     record {
       seats = All-front Mine c.pop.new.self.items (x ∷ []) all;
-      desks = back-desks c.loop-seat.desks.items c.push_reserved.new.self.items c.loop-seat.seats.items c.pop.new.self.items x _ is
+      desks = back-images desk_of c.loop-seat.desks.items c.push_reserved.new.self.items c.loop-seat.seats.items c.pop.new.self.items x _ is
           (ap desk_of c.seat.view_is) c.push_reserved.ensures.items ∙ at.desks;
       table = subst (All Table) (sym c.push_reserved.ensures.items) (All-push Table c.loop-seat.desks.items _ at.table c.seat.invariant.0);
       room = omega (arith, c.in-Some.ensures.len);

@@ -53,6 +53,14 @@ into_parts-parts-requires g c =
       seats-many c.hire-seats.result.items c.args.crew.desks.items c.hire-seats.ensures.seated,
     )
 
+pub returns-clause-quiet : goal.returns-clause-quiet
+returns-clause-quiet g c =
+    let before = c.args.crew.parts.journal in
+    let goes = c.into_parts-parts.ensures.goes_on in
+    let Quiet : Parted → Type 0 = λ p. length p.journal.entries ≡ length before.entries → p.journal.levels.log ≡ before.levels.log in
+    subst Quiet (sym c.tell_all.ensures.same)
+    (λ same. goes.quiet (omega (arith, same, goes.counted, ap (λ (z : List Entry). length z) c.requires.now.1)) ∙ sym c.requires.now.0)
+
 pub returns-clause-told : goal.returns-clause-told
 returns-clause-told g c =
     let log : c.into_parts-parts.result.journal.levels.log ≡ c.tell_all.new.parts.journal.levels.log =

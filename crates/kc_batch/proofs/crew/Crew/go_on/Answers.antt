@@ -1,12 +1,12 @@
 -- What is kept is entered in a fresh table, and what is left of the queue is given to the first.
 use Rattle.std.proofs.Common.{◌≡◌, ◌∙◌, subst, sym, map}
 use Rattle.std.proofs.lemmas.Result.{err_from_is_err_and}
-use Rattle.kc_shared.specs.States.{Parted, opened_by}
+use Rattle.kc_shared.specs.States.{Parted}
 use Rattle.kc_queue.specs.Shares.{Consuming, IsShare, IsWhole}
 use Rattle.kc_batch.specs.Batches.{IsCrew, IsCutShort}
 use Rattle.kc_batch.specs.Desks.{Desked, Work}
 use Rattle.kc_batch.specs.declared.left.Left.TheVariants.{Nothing}
-use Rattle.kc_batch.proofs.Closing.{crew-cut, crew-given, crew-keeps, crew-renewed, given-keeps, keeping-spent}
+use Rattle.kc_batch.proofs.Closing.{crew-cut, crew-given, crew-keeps, crew-left, crew-renewed, crew-spent, given-keeps}
 use Rattle.kc_batch.proofs.Rounding.{all-unmapped}
 use Rattle.kc_batch.proofs.crew.Crew.go_on.Goals as goal
 
@@ -18,8 +18,11 @@ returns-in-Short-clause-cut_short g c =
 
 pub renew-requires-clause-spent : goal.renew-requires-clause-spent
 renew-requires-clause-spent g c =
+    let o = g.of in
     let self = c.args.self.now in
-    keeping-spent (opened_by self.parts.journal) self.parts.journal.levels.log self.desks.items c.requires.1.1.0 c.in-Keeping.ensures.1
+    let r = c.requires.1 in
+    crew-spent o.old o.first o.batch c.args.ended.now.items c.args.queue.now self.parts.words self.parts.journal self.desks.items self.consumer
+    r.0 r.1.1.1.1.0 r.1.1.0 r.1.1.1.0 r.1.0 c.in-Keeping.ensures.1
 
 pub returns-in_err-renew-in-Keeping-clause-cut_short : goal.returns-in_err-renew-in-Keeping-clause-cut_short
 returns-in_err-renew-in-Keeping-clause-cut_short g c =
@@ -51,7 +54,9 @@ returns-in_ok-renew-in-Keeping-clause-crew g c =
     subst (λ (z : Consuming). IsCrew o.old o.first o.batch c.renew.new.ended.items c.args.queue.now new.parts.words new.parts.journal new.desks.items z)
     (sym r.consumer)
     (crew-renewed o.old o.first o.batch c.args.ended.now.items c.args.queue.now self.parts.words new.parts.words self.parts.journal new.parts.journal
-    r.renewed.0 c.renew.new.ended.items self.desks.items new.desks.items self.consumer c.requires.1.0 r.renewed.2 r.renewed.1 r.of_words r.told r.works)
+    r.renewed.0 c.renew.new.ended.items self.desks.items new.desks.items self.consumer c.requires.1.0 r.renewed.2 r.renewed.1
+    (crew-left o.old o.first o.batch c.args.ended.now.items c.args.queue.now self.parts.words self.parts.journal self.desks.items self.consumer c.requires.1.0
+    c.requires.1.1.1.1.1.0 c.in-Keeping.ensures.1) r.of_words r.told r.works)
 
 pub returns-in_ok-renew-in-Keeping-clause-keeps : goal.returns-in_ok-renew-in-Keeping-clause-keeps
 returns-in_ok-renew-in-Keeping-clause-keeps g c = λ again.
