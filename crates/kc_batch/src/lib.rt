@@ -18,6 +18,8 @@ mod crew;
 mod desk;
 mod done;
 mod errand;
+#[cfg(test)]
+mod examples;
 mod left;
 mod round;
 mod seat;

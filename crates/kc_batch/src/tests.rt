@@ -63,7 +63,12 @@ fn drawn_batch(alloc: Global, seed: u64) -> Result<Vec<Update>, Fail>
 }
 
 /// So many workers that have seen what the pass has.
-fn hired(alloc: Global, words: &Words, pass: &mut Pass, count: u32) -> Result<Vec<Worker>, Fail>
+pub(crate) fn hired(
+    alloc: Global,
+    words: &Words,
+    pass: &mut Pass,
+    count: u32,
+) -> Result<Vec<Worker>, Fail>
     requires { pass.old.table ≡ words.now }
     ensures { IfOk result (λ workers. All (λ w. w.table ≡ words.now) workers.items) }
 {
@@ -105,7 +110,7 @@ fn replayed<R: Abort>(rt: &R, alloc: Global, entries: &[Entry]) -> Result<Graph,
 }
 
 /// How many updates stand in the shares.
-fn told(shares: &[Share]) -> usize {
+pub(crate) fn told(shares: &[Share]) -> usize {
     let mut told = 0usize;
     for share in shares {
         told = told.wrapping_add(share.done.len());

@@ -1,0 +1,127 @@
+//! Batches worked out by hand, on the run that begins with the edges 0 1 and 2 3: all core numbers are 1, and the order is 0, 1, 2, 3.
+ghost use Rattle.std.specs.Prelude.{◌≡◌, ◌<◌, ◌≤◌, All, IfOk, length};
+
+use crate::tests::{hired, told};
+use crate::{BatchDone, run_batch};
+use kc_graph::{Graph, Update, decompose_owned};
+use kc_shared::Parts;
+use kc_table::shape;
+use kc_words::LAST_VERSION;
+use kc_workers::{Gate, NoGate};
+use std::alloc::Global;
+use std::process::Abort;
+use std::sync::Wait;
+use std::sync::atomic::{AtomicU64, Ordering};
+use std::test::Fail;
+use std::thread;
+use std::thread::Threads;
+
+/// The index of the first update of a batch.
+const FIRST: u32 = 7;
+
+/// How often a worker looks whether the other one has come.
+const TURNS: u32 = 100_000_000;
+
+/// A batch on the two edges, whose table opens with this version, by so many workers.
+fn work<G: Gate + Sync, R: Threads + Wait + Sync + Abort + AllocGlobal>(
+    rt: &R,
+    count: u32,
+    version: u32,
+    batch: &[Update],
+    gate: &G,
+) -> Result<(Parts, BatchDone), Fail>
+    requires count { (0 < count) × (count ≤ 64) }
+    requires version { version ≤ LAST_VERSION }
+    requires few { length batch.now ≤ 2 }
+    requires within { All (λ u. u.v < 4) batch.now }
+{
+    let alloc = rt.alloc();
+    let mut graph = Graph::new(alloc, 4)?;
+    graph.add(0, 1)?;
+    graph.add(2, 3)?;
+    let (parts, mut pass) = Parts::open(alloc, decompose_owned(alloc, graph)?, version)?;
+    let mut workers = hired(alloc, &parts.words, &mut pass, count)?;
+    assert_eq!(rt; shape(&parts.words).fixed, 4);
+    assert_eq!(rt; workers.len(), count as usize);
+    let (parts, done) = run_batch(rt, alloc, parts, &mut workers, FIRST, batch, gate);
+    let done = done?;
+    assert_eq!(rt; parts.journal.entries().len(), batch.len());
+    assert_eq!(rt; told(done.shares.as_slice()), batch.len());
+    Ok((parts, done))
+}
+
+/// The updates that make a circle of the two edges.
+fn circle() -> [Update; 2]
+    ensures { All (λ u. u.v < 4) result }
+{
+    [
+        Update {
+            add: true,
+            u: 0,
+            v: 2,
+        },
+        Update {
+            add: true,
+            u: 1,
+            v: 3,
+        },
+    ]
+}
+
+#[test]
+fn one_worker_goes_on_in_a_fresh_table(rt: HostRuntime) -> Result<(), Fail> {
+    let alloc = rt.alloc();
+    let batch = [Update {
+        add: true,
+        u: 0,
+        v: 2,
+    }];
+    let (parts, done) = work(&rt, 1, LAST_VERSION - 1, &batch, &NoGate)?;
+    assert_eq!(rt; done.ended.len(), 1);
+    let order = parts.journal.order(alloc)?;
+    assert_eq!(rt; order.as_slice(), [1, 0, 2, 3].as_slice());
+    Ok(())
+}
+
+#[test]
+fn two_workers_go_on_in_one_fresh_table(rt: HostRuntime) -> Result<(), Fail> {
+    let (parts, done) = work(&rt, 2, LAST_VERSION - 1, &circle(), &NoGate)?;
+    assert_eq!(rt; done.ended.len(), 1);
+    assert_eq!(rt; parts.journal.core_numbers(), [2, 2, 2, 2].as_slice());
+    Ok(())
+}
+
+/// Holds each of two updates, at its first call, until the other one's was called too.
+#[derive(Drop)]
+struct Meeting {
+    calls: [AtomicU64; 2],
+    met: AtomicU64,
+}
+
+impl Gate for Meeting {
+    fn before_enter(&self, _worker: u32, index: u32) {
+        let mine = usize::from(index != FIRST);
+        if self.calls[mine].swap(1, Ordering::SeqCst) > 0 {
+            return;
+        }
+        for _ in 0..TURNS {
+            if self.calls[1 - mine].load(Ordering::SeqCst) > 0 {
+                self.met.fetch_add(1, Ordering::SeqCst);
+                return;
+            }
+            thread::yield_now();
+        }
+    }
+}
+
+#[test]
+fn two_workers_meet_before_they_enter(rt: HostRuntime) -> Result<(), Fail> {
+    let meeting = Meeting {
+        calls: [AtomicU64::new(0), AtomicU64::new(0)],
+        met: AtomicU64::new(0),
+    };
+    let (parts, _done) = work(&rt, 2, 0, &circle(), &meeting)?;
+    assert_eq!(rt; meeting.met.load(Ordering::SeqCst), 2);
+    assert_eq!(rt; parts.journal.core_numbers(), [2, 2, 2, 2].as_slice());
+    Ok(())
+}
