@@ -1,10 +1,10 @@
 #!/usr/bin/env python3
 """Compares the built program with peer_plain and with a model on small random inputs.
 
-usage: differ.py --kcore PROGRAM --plain PEER_PLAIN [--seed N] [--cases N] [--only cores,summary,each,level]
+usage: differ.py --kcore PROGRAM --plain PEER_PLAIN [--seed N] [--cases N] [--only cores,summary,each,level] [--workers 1,2,3,8,64]
 
 Each input has edge lines with loops, repeats and both directions, comments, blank lines, CRLF and blanks of both kinds, and
-batches that name pairs again. It is run in one mode, in turn:
+batches that name pairs again. It is run in one mode, in turn, and in each with every number of workers, in turn:
 
   cores     no word             beside peer_plain and the model
   summary   --show summary      beside peer_plain and the model
@@ -20,6 +20,7 @@ import subprocess
 import sys
 
 MODES = ("cores", "summary", "each", "level")
+WORKERS = (1, 2, 3, 8, 64)
 IDS = (0, 1, 2, 3, 4, 5, 6, 7, 8, 9, 17, 4294967295)
 
 
@@ -144,8 +145,9 @@ def model(data, mode, level):
     return "".join(line + "\n" for line in lines).encode()
 
 
-def words_of(mode, level):
-    return {"cores": [], "summary": ["--show", "summary"], "each": ["--show", "each"], "level": ["--level", str(level)]}[mode]
+def words_of(mode, level, workers):
+    shown = {"cores": [], "summary": ["--show", "summary"], "each": ["--show", "each"], "level": ["--level", str(level)]}[mode]
+    return ["--workers", str(workers)] + shown
 
 
 def output(command, data):
@@ -156,22 +158,22 @@ def output(command, data):
     return done.stdout
 
 
-def difference(chosen, data, mode, level):
+def difference(chosen, data, mode, level, workers):
     """The names and the outputs that differ, if any do."""
-    ours = output([chosen.kcore] + words_of(mode, level), data)
+    ours = output([chosen.kcore] + words_of(mode, level, workers), data)
     others = [("the model", model(data, mode, level))]
     if mode in ("cores", "summary"):
         others.append(("peer_plain", output([chosen.plain] + ([mode] if mode == "summary" else []), data)))
     return next(((ours, name, theirs) for name, theirs in others if ours != theirs), None)
 
 
-def shrunk(chosen, lines, ended, mode, level):
+def shrunk(chosen, lines, ended, mode, level, workers):
     """Lines whose outputs still differ, of which none can be left out."""
     at = 0
     while at < len(lines):
         fewer = lines[:at] + lines[at + 1:]
         try:
-            if difference(chosen, as_bytes(fewer, ended), mode, level):
+            if difference(chosen, as_bytes(fewer, ended), mode, level, workers):
                 lines, at = fewer, 0
                 continue
         except Refused:
@@ -187,21 +189,24 @@ def main():
     words.add_argument("--seed", type=int, default=1)
     words.add_argument("--cases", type=int, default=4000)
     words.add_argument("--only", default=",".join(MODES), help="the modes, parted by commas")
+    words.add_argument("--workers", default=",".join(map(str, WORKERS)), help="the numbers of workers, parted by commas")
     chosen = words.parse_args()
     modes = chosen.only.split(",")
     if not set(modes) <= set(MODES):
         words.error("the modes are " + ", ".join(MODES))
+    counts = [int(count) for count in chosen.workers.split(",")]
     rng = random.Random(chosen.seed)
     for case in range(chosen.cases):
         mode, level = modes[case % len(modes)], rng.randrange(6)
+        workers = counts[case // len(modes) % len(counts)]
         lines, ended = random_lines(rng), rng.random() < 0.8
-        if difference(chosen, as_bytes(lines, ended), mode, level):
-            data = as_bytes(shrunk(chosen, lines, ended, mode, level), ended)
-            ours, name, theirs = difference(chosen, data, mode, level)
-            print(f"case {case} of seed {chosen.seed}, words {words_of(mode, level)}: the outputs differ on {data!r}")
+        if difference(chosen, as_bytes(lines, ended), mode, level, workers):
+            data = as_bytes(shrunk(chosen, lines, ended, mode, level, workers), ended)
+            ours, name, theirs = difference(chosen, data, mode, level, workers)
+            print(f"case {case} of seed {chosen.seed}, words {words_of(mode, level, workers)}: the outputs differ on {data!r}")
             print(f"kcore:\n{ours.decode()}{name}:\n{theirs.decode()}")
             sys.exit(1)
-    print(f"{chosen.cases} inputs of seed {chosen.seed}, modes {', '.join(modes)}: no output differs")
+    print(f"{chosen.cases} inputs of seed {chosen.seed}, modes {', '.join(modes)}, workers {chosen.workers}: no output differs")
 
 
 if __name__ == "__main__":

@@ -1,8 +1,4 @@
-pub mod Applying
-pub mod Existence
+pub mod Asking
 pub mod Generating
-pub mod OneText
 pub mod Sound
 pub mod Stopping
-pub mod Telling
-pub mod Unrepeated

@@ -7,11 +7,11 @@ use Rattle.kc_text.specs.Forms.{all_said}
 use Rattle.kc_text.specs.Meaning.{Refuses, meaning, nothing_told, reading}
 use Rattle.kc_top.specs.Outcome.{IsOutputOf, Took, TookSome}
 use Rattle.kc_top.specs.Stops.{HasNoText, IsRefusalOf, TellsRefusal, ended, status_of}
-use Rattle.kc_top.specs.Text.{IsTextOf}
-use Rattle.kc_top.specs.declared.setting.Setting.{Setting}
+use Rattle.kc_output.specs.Text.{IsTextOf}
+use Rattle.kc_output.specs.declared.setting.Setting.{Setting}
 use Rattle.kc_top.specs.declared.ending.Stop.{Stop}
 use Rattle.kc_top.specs.declared.ending.Stop.TheVariants as stop
-use Rattle.kc_top.proofs.Existence.{output_exists}
+use Rattle.kc_output.proofs.Existence.{output_exists}
 use Rattle.kc_text.specs.declared.limits.TheConstants.{MOST_BYTES}
 
 -- a stop at a refusal says why there is no text

@@ -1,7 +1,7 @@
 -- Where the bytes of a run's input come from.
 use Rattle.std.specs.Prelude.{not, ℕ, Bool, false, List, Option, None, Some, is_some}
 use Rattle.kc_report.specs.Generator.{generated}
-use Rattle.kc_top.specs.declared.setting.Setting.{Setting}
+use Rattle.kc_output.specs.declared.setting.Setting.{Setting}
 
 -- the bytes of the input, where they are known: the text that is generated for the number, and without one what the source tells
 abbrev pub generated_or : Option ℕ → Option (List ℕ) → Option (List ℕ)

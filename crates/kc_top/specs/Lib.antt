@@ -1,11 +1,8 @@
-pub mod Batches
 pub mod ErrLines
 pub mod Given
 pub mod Inputs
-pub mod Limits
+pub mod Leaving
 pub mod Outcome
 pub mod Settings
 pub mod Statuses
 pub mod Stops
-pub mod Text
-pub mod Unrepeated

@@ -4,8 +4,8 @@ use Rattle.std.specs.Prelude.{◌≡◌, ◌≤◌, ℕ, List, [], length, take,
 use Rattle.std.specs.Io.KnownBytes.{Appends}
 use Rattle.kc_io.specs.FirstPiece.{KeepsFirst}
 use Rattle.kc_text.specs.Meaning.{meaning}
-use Rattle.kc_top.specs.Text.{IsOutput, IsTextOf}
-use Rattle.kc_top.specs.declared.setting.Setting.{Setting}
+use Rattle.kc_output.specs.Text.{IsOutput, IsTextOf}
+use Rattle.kc_output.specs.declared.setting.Setting.{Setting}
 use Rattle.kc_top.specs.declared.Status.{Status}
 use Rattle.kc_top.specs.declared.Status.TheVariants.{Done, Usage, Refused, ReadFault, WriteFault, NoMemory}
 

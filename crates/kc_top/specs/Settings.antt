@@ -10,12 +10,13 @@ use Rattle.clap.specs.Faults.{fault_of}
 use Rattle.clap.specs.Simple.{App, matches_of, new_app, new_rule, on_top, with_rule}
 use Rattle.clap.specs.Walk.{Row, Rule, first_of, is_empty, texts}
 use Rattle.clap.specs.declared.builder.action.ArgAction.TheVariants.{Set}
-use Rattle.kc_top.specs.declared.setting.Setting.{Setting}
-use Rattle.kc_top.specs.declared.show.Show.{Show}
-use Rattle.kc_top.specs.declared.show.Show.TheVariants.{Cores, Summary, Each}
-use Rattle.kc_top.specs.declared.start.Start.{Start}
-use Rattle.kc_top.specs.declared.start.Start.TheVariants.{Buckets, Hindex}
-use Rattle.kc_top.specs.declared.words.TheConstants.{MOST_DIGITS, MOST_WORKERS}
+use Rattle.kc_output.specs.declared.setting.Setting.{Setting}
+use Rattle.kc_output.specs.declared.show.Show.{Show}
+use Rattle.kc_output.specs.declared.show.Show.TheVariants.{Cores, Summary, Each}
+use Rattle.kc_output.specs.declared.start.Start.{Start}
+use Rattle.kc_output.specs.declared.start.Start.TheVariants.{Buckets, Hindex}
+use Rattle.kc_output.specs.declared.setting.TheConstants.{MOST_WORKERS}
+use Rattle.kc_top.specs.declared.words.TheConstants.{MOST_DIGITS}
 
 -- an option with one value
 abbrev pub option_named : List ℕ → Rule

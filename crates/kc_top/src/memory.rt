@@ -3,28 +3,36 @@ ghost use Rattle.std.specs.Prelude.{◌≡◌, ◌⊎◌, [], ℕ, List, None, S
 ghost use Rattle.kc_io.specs.Causes.{Rose};
 ghost use Rattle.kc_text.specs.declared.kind.Kind.{Kind};
 ghost use Rattle.kc_text.specs.Meaning.{Means, Refuses, Told, meaning};
+ghost use Rattle.kc_course.specs.Runs.{IsEmpty};
 ghost use Rattle.kc_top.specs.ErrLines.{IsErrLine, OfferedLine, TookLine};
 ghost use Rattle.kc_top.specs.Given.{given, input_bytes, reads};
+ghost use Rattle.kc_top.specs.Leaving.{Leaves};
 ghost use Rattle.kc_top.specs.Outcome.{Offered, Took};
 ghost use Rattle.kc_top.specs.Settings.{asked};
-ghost use Rattle.kc_top.specs.declared.setting.Setting.{Setting};
+ghost use Rattle.kc_output.specs.declared.setting.Setting.{Setting};
 
 use crate::Status;
 use crate::run::run;
+use kc_course::Ran;
 use kc_io::mem_sink::MemSink;
 use kc_io::mem_source::MemSource;
+use kc_workers::NoGate;
 use std::alloc::Global;
+use std::sync::Wait;
 use std::thread::Threads;
 
 /// A run from memory to memory. It is [`run`], and each clause speaks of bytes that are known.
-pub fn run_in_memory(
-    rt: &(impl Threads + Sync),
+pub fn run_in_memory<R: Threads + Wait + Sync>(
+    rt: &R,
     alloc: Global,
     words: &[&str],
     source: &mut MemSource,
     out: &mut MemSink,
     err: &mut MemSink,
+    ran: &mut Ran,
 ) -> Status
+    requires empty { IsEmpty ran.old }
+
     ensures usage { result ≡ Status.Usage → asked words.now ≡ None }
     ensures wrong_words { asked words.now ≡ None → (result ≡ Status.Usage) ⊎ (result ≡ Status.NoMemory) }
     ensures unread { reads (asked words.now) ≡ false → source.new ≡ source.old }
@@ -32,6 +40,8 @@ pub fn run_in_memory(
     ensures read { result ≡ Status.Done → reads (asked words.now) ≡ true → source.new.left ≡ [] }
     ensures took { Took result (asked words.now) (given (asked words.now) (Some source.old.left)) (Some out.old.taken) (Some out.new.taken) }
     ensures offered { Offered result (asked words.now) (given (asked words.now) (Some source.old.left)) (Some out.old.first) (Some out.new.first) }
+
+    ensures ran { result ≡ Status.Done → Leaves (asked words.now) (given (asked words.now) (Some source.old.left)) ran.new }
 
     ensures quiet { result ≡ Status.Done → err.new ≡ err.old }
     ensures line { (line : List ℕ) × IsErrLine result (given (asked words.now) (Some source.old.left)) line
@@ -48,5 +58,5 @@ pub fn run_in_memory(
     ensures accepted { (s : Setting) → asked words.now ≡ Some s → is_some s.generator ≡ true
         → (result ≡ Status.Done) ⊎ (result ≡ Status.WriteFault) ⊎ (result ≡ Status.NoMemory) }
 {
-    run(rt, alloc, words, source, out, err)
+    run(rt, alloc, words, source, out, err, &NoGate, ran)
 }

@@ -6,30 +6,40 @@ ghost use Rattle.kc_text.specs.declared.kind.Kind.{Kind};
 ghost use Rattle.kc_text.specs.Meaning.{Means, Refuses, Told, meaning};
 ghost use Rattle.kc_top.specs.ErrLines.{IsErrLine, OfferedLine, TookLine};
 ghost use Rattle.kc_top.specs.Given.{given, reads};
+ghost use Rattle.kc_course.specs.Runs.{IsEmpty};
+ghost use Rattle.kc_output.specs.Inputs.{HasWorkers};
+ghost use Rattle.kc_top.specs.Leaving.{Leaves};
 ghost use Rattle.kc_top.specs.Outcome.{IsAnswer, Offered, Took};
 ghost use Rattle.kc_top.specs.Settings.{asked};
 ghost use Rattle.kc_top.specs.Stops.{HasNoText, ended, last_line};
 ghost use Rattle.kc_top.specs.declared.Status.{Status};
-ghost use Rattle.kc_top.specs.declared.setting.Setting.{Setting};
+ghost use Rattle.kc_output.specs.declared.setting.Setting.{Setting};
 
 use crate::Status;
 use crate::ending::{Stop, finish};
 use crate::reading::input_of;
-use crate::setting::Setting;
-use crate::text::text_of;
 use crate::words::setting_of;
+use kc_course::Ran;
 use kc_io::sink::{Sink, write_all};
 use kc_io::source::Source;
+use kc_output::{Setting, text_of};
+use kc_workers::Gate;
 use std::alloc::Global;
+use std::sync::Wait;
 use std::thread::Threads;
 
 /// The output that the setting asks for.
-fn text_for<S: Source>(
-    rt: &(impl Threads + Sync),
+fn text_for<S: Source, G: Gate + Sync, R: Threads + Wait + Sync>(
+    rt: &R,
     alloc: Global,
     setting: Setting,
     source: &mut S,
+    gate: &G,
+    ran: &mut Ran,
 ) -> Result<Vec<u8>, Stop>
+    requires workers { HasWorkers setting }
+    requires empty { IsEmpty ran.old }
+    ensures ran { OnOk result (Leaves (Some setting) (given (Some setting) (S.left source.old)) ran.new) }
     ensures text { IfOk result (λ text. IsAnswer (Some setting) (given (Some setting) (S.left source.old)) text.items) }
     ensures read { OnOk result (reads (Some setting) ≡ true → IsAtEnd (S.left source.new)) }
     ensures unread { reads (Some setting) ≡ false → source.new ≡ source.old }
@@ -37,28 +47,34 @@ fn text_for<S: Source>(
     ensures stopped { IfErr result (λ stop. HasNoText stop (given (Some setting) (S.left source.old)) (S.faults source.old) (S.faults source.new)) }
 {
     let input = input_of(alloc, setting.generator, source)?;
-    Ok(text_of(rt, alloc, setting, input)?)
+    Ok(text_of(rt, alloc, setting, input, gate, ran)?)
 }
 
 /// All of a run but its words and its last line.
-fn follow<S: Source, O: Sink>(
-    rt: &(impl Threads + Sync),
+fn follow<S: Source, O: Sink, G: Gate + Sync, R: Threads + Wait + Sync>(
+    rt: &R,
     alloc: Global,
     setting: Setting,
     source: &mut S,
     out: &mut O,
+    gate: &G,
+    ran: &mut Ran,
 ) -> Result<(), Stop>
+    requires workers { HasWorkers setting }
+    requires empty { IsEmpty ran.old }
+    ensures ran { OnOk result (Leaves (Some setting) (given (Some setting) (S.left source.old)) ran.new) }
     ensures read { OnOk result (reads (Some setting) ≡ true → IsAtEnd (S.left source.new)) }
     ensures unread { reads (Some setting) ≡ false → source.new ≡ source.old }
     ensures took { Took (ended result) (Some setting) (given (Some setting) (S.left source.old)) (O.taken out.old) (O.taken out.new) }
     ensures offered { Offered (ended result) (Some setting) (given (Some setting) (S.left source.old)) (O.first out.old) (O.first out.new) }
     ensures line { IsErrLine (ended result) (given (Some setting) (S.left source.old)) (last_line result) }
-    ensures accepted { is_some setting.generator ≡ true → (ended result ≡ Status.Done) ⊎ (ended result ≡ Status.WriteFault) ⊎ (ended result ≡ Status.NoMemory) }
+    ensures accepted { is_some setting.generator ≡ true
+        → (ended result ≡ Status.Done) ⊎ (ended result ≡ Status.WriteFault) ⊎ (ended result ≡ Status.NoMemory) }
     ensures not_usage { ended result ≡ Status.Usage → ⊥ }
     ensures read_fault { ended result ≡ Status.ReadFault → Rose (S.faults source.old) (S.faults source.new) }
     ensures write_fault { ended result ≡ Status.WriteFault → Rose (O.faults out.old) (O.faults out.new) }
 {
-    let text = text_for(rt, alloc, setting, source)?;
+    let text = text_for(rt, alloc, setting, source, gate, ran)?;
     if write_all(out, &text).is_err() {
         return Err(Stop::WriteFault);
     }
@@ -66,13 +82,17 @@ fn follow<S: Source, O: Sink>(
 }
 
 /// All of a run but its last line.
-fn work<S: Source, O: Sink>(
-    rt: &(impl Threads + Sync),
+fn work<S: Source, O: Sink, G: Gate + Sync, R: Threads + Wait + Sync>(
+    rt: &R,
     alloc: Global,
     words: &[&str],
     source: &mut S,
     out: &mut O,
+    gate: &G,
+    ran: &mut Ran,
 ) -> Result<(), Stop>
+    requires empty { IsEmpty ran.old }
+    ensures ran { OnOk result (Leaves (asked words.now) (given (asked words.now) (S.left source.old)) ran.new) }
     ensures usage { ended result ≡ Status.Usage → asked words.now ≡ None }
     ensures wrong_words { asked words.now ≡ None → (ended result ≡ Status.Usage) ⊎ (ended result ≡ Status.NoMemory) }
     ensures read { OnOk result (reads (asked words.now) ≡ true → IsAtEnd (S.left source.new)) }
@@ -87,7 +107,7 @@ fn work<S: Source, O: Sink>(
 {
     match setting_of(alloc, words)? {
         None => Err(Stop::Usage),
-        Some(setting) => follow(rt, alloc, setting, source, out),
+        Some(setting) => follow(rt, alloc, setting, source, out, gate, ran),
     }
 }
 
@@ -95,16 +115,21 @@ fn work<S: Source, O: Sink>(
 /// other than `Done` it writes one line to `err`.
 ///
 /// `words` are those after the program's name, and [`setting_of`](crate::words::setting_of) says what they ask for. Where they name a
-/// generator, its text is the input and `source` is not read. Where they ask for rounds of h-indices, `rt` runs these in threads. A fault
-/// of `err` changes no status.
-pub fn run<S: Source, O: Sink, E: Sink>(
-    rt: &(impl Threads + Sync),
+/// generator, its text is the input and `source` is not read. Where they ask for rounds of h-indices, `rt` runs these in threads, and as
+/// many workers as they ask for enter the updates of each batch; `gate` is called before each try. `ran` takes what the run leaves for
+/// whoever looks at it. A fault of `err` changes no status.
+pub fn run<S: Source, O: Sink, E: Sink, G: Gate + Sync, R: Threads + Wait + Sync>(
+    rt: &R,
     alloc: Global,
     words: &[&str],
     source: &mut S,
     out: &mut O,
     err: &mut E,
+    gate: &G,
+    ran: &mut Ran,
 ) -> Status
+    requires empty { IsEmpty ran.old }
+
     // The words are not right, and then nothing is read and nothing is written but the line.
     ensures usage { result ≡ Status.Usage → asked words.now ≡ None }
     ensures wrong_words { asked words.now ≡ None → (result ≡ Status.Usage) ⊎ (result ≡ Status.NoMemory) }
@@ -114,6 +139,10 @@ pub fn run<S: Source, O: Sink, E: Sink>(
     ensures read { result ≡ Status.Done → reads (asked words.now) ≡ true → IsAtEnd (S.left source.new) }
     ensures took { Took result (asked words.now) (given (asked words.now) (S.left source.old)) (O.taken out.old) (O.taken out.new) }
     ensures offered { Offered result (asked words.now) (given (asked words.now) (S.left source.old)) (O.first out.old) (O.first out.new) }
+
+    // What the run leaves: the tables of its journal, one after the other, whose entries are the updates of the input; each was certified
+    // before each entry and at its end; and one receipt for each update. Where the input has no batch there is no table.
+    ensures ran { result ≡ Status.Done → Leaves (asked words.now) (given (asked words.now) (S.left source.old)) ran.new }
 
     // The line about a run that stopped. It is offered whole, so the status is fixed before the sink answers.
     ensures quiet { result ≡ Status.Done → err.new ≡ err.old }
@@ -135,7 +164,7 @@ pub fn run<S: Source, O: Sink, E: Sink>(
     ensures accepted { (s : Setting) → asked words.now ≡ Some s → is_some s.generator ≡ true
         → (result ≡ Status.Done) ⊎ (result ≡ Status.WriteFault) ⊎ (result ≡ Status.NoMemory) }
 {
-    match work(rt, alloc, words, source, out) {
+    match work(rt, alloc, words, source, out, gate, ran) {
         Ok(()) => Status::Done,
         Err(stop) => finish(err, stop),
     }

@@ -1,9 +1,13 @@
 //! Whole runs, as bytes of both sinks.
 use crate::Status;
 use crate::memory::run_in_memory;
+use kc_course::Ran;
 use kc_io::mem_sink::MemSink;
 use kc_io::mem_source::MemSource;
+use kc_journal::Receipt;
+use std::alloc::Global;
 use std::process::Abort;
+use std::sync::Wait;
 use std::test::Fail;
 use std::thread::Threads;
 
@@ -30,7 +34,7 @@ const NONE: Fails = Fails {
 };
 
 /// Runs on the input, and compares what the run leaves.
-fn check<R: Abort + AllocGlobal + Threads + Sync>(
+fn check<R: Abort + AllocGlobal + Threads + Wait + Sync>(
     rt: &R,
     words: &[&str],
     input: Vec<u8>,
@@ -42,15 +46,50 @@ fn check<R: Abort + AllocGlobal + Threads + Sync>(
     let mut source = MemSource::new(input, per_read, Vec::from_slice(alloc, fails.source)?);
     let mut out = MemSink::new(alloc, 400, 10, Vec::from_slice(alloc, fails.out)?)?;
     let mut err = MemSink::new(alloc, 200, 10, Vec::from_slice(alloc, fails.err)?)?;
-    let status = run_in_memory(rt, alloc, words, &mut source, &mut out, &mut err);
+    let mut ran = Ran::new(alloc);
+    let status = run_in_memory(rt, alloc, words, &mut source, &mut out, &mut err, &mut ran);
     assert_eq!(rt; status, wanted.status);
     assert_eq!(rt; out.taken(), wanted.out);
     assert_eq!(rt; err.taken(), wanted.err);
     Ok(())
 }
 
-/// Runs with each list of words on its input, which is done, and compares the output.
-fn check_done<R: Abort + AllocGlobal + Threads + Sync>(
+/// The numbers of workers that a row is run with.
+const WORKERS: [&str; 3] = ["1", "2", "8"];
+
+/// The words that ask for so many workers, and then these.
+fn words_with<'a>(
+    alloc: Global,
+    workers: &'a str,
+    words: &[&'a str],
+) -> Result<Vec<&'a str>, Fail> {
+    let mut all = Vec::new(alloc);
+    all.push("--workers")?;
+    all.push(workers)?;
+    for word in words {
+        all.push(*word)?;
+    }
+    Ok(all)
+}
+
+/// Runs on the input with each number of workers, and compares what the run leaves.
+fn check_each<R: Abort + AllocGlobal + Threads + Wait + Sync>(
+    rt: &R,
+    words: &[&str],
+    input: &[u8],
+    fails: Fails,
+    wanted: Wanted,
+) -> Result<(), Fail> {
+    for workers in WORKERS {
+        let words = words_with(rt.alloc(), workers, words)?;
+        let input = Vec::from_slice(rt.alloc(), input)?;
+        check(rt, &words, input, fails, wanted)?;
+    }
+    Ok(())
+}
+
+/// Runs with each list of words on its input, which is done, with each number of workers, and compares the output.
+fn check_done<R: Abort + AllocGlobal + Threads + Wait + Sync>(
     rt: &R,
     cases: &[(&[&str], &[u8], &'static [u8])],
 ) -> Result<(), Fail> {
@@ -60,13 +99,13 @@ fn check_done<R: Abort + AllocGlobal + Threads + Sync>(
             out,
             err: b"",
         };
-        check(rt, words, Vec::from_slice(rt.alloc(), input)?, NONE, wanted)?;
+        check_each(rt, words, input, NONE, wanted)?;
     }
     Ok(())
 }
 
-/// Runs on each input, which is refused, and compares the line about it.
-fn check_refused<R: Abort + AllocGlobal + Threads + Sync>(
+/// Runs on each input, which is refused, with each number of workers, and compares the line about it.
+fn check_refused<R: Abort + AllocGlobal + Threads + Wait + Sync>(
     rt: &R,
     cases: &[(&[u8], &'static [u8])],
 ) -> Result<(), Fail> {
@@ -76,13 +115,13 @@ fn check_refused<R: Abort + AllocGlobal + Threads + Sync>(
             out: b"",
             err,
         };
-        check(rt, &[], Vec::from_slice(rt.alloc(), input)?, NONE, wanted)?;
+        check_each(rt, &[], input, NONE, wanted)?;
     }
     Ok(())
 }
 
 /// Runs with each list of words, which are wrong, over a source and a sink whose first call fails.
-fn check_wrong<R: Abort + AllocGlobal + Threads + Sync>(
+fn check_wrong<R: Abort + AllocGlobal + Threads + Wait + Sync>(
     rt: &R,
     cases: &[&[&str]],
 ) -> Result<(), Fail> {
@@ -235,7 +274,21 @@ fn right_words_are_taken(rt: HostRuntime) -> Result<(), Fail> {
             b"graph vertices 0 edges 0 top 0\nlevel 4294967295 members 0\n",
         ),
     ];
-    check_done(&rt, &cases)
+    for (words, input, out) in cases {
+        let wanted = Wanted {
+            status: Status::Done,
+            out,
+            err: b"",
+        };
+        check(
+            &rt,
+            words,
+            Vec::from_slice(rt.alloc(), input)?,
+            NONE,
+            wanted,
+        )?;
+    }
+    Ok(())
 }
 
 #[test]
@@ -318,7 +371,7 @@ fn the_rounds_of_the_start_have_their_line(rt: HostRuntime) -> Result<(), Fail> 
 }
 
 /// What a run on these words writes, which reads no source.
-fn output_of<R: Abort + AllocGlobal + Threads + Sync>(
+fn output_of<R: Abort + AllocGlobal + Threads + Wait + Sync>(
     rt: &R,
     words: &[&str],
 ) -> Result<Vec<u8>, Fail> {
@@ -326,7 +379,8 @@ fn output_of<R: Abort + AllocGlobal + Threads + Sync>(
     let mut source = MemSource::new(Vec::new(alloc), 1, Vec::new(alloc));
     let mut out = MemSink::new(alloc, 1_000_000, 1_000_000, Vec::new(alloc))?;
     let mut err = MemSink::new(alloc, 200, 10, Vec::new(alloc))?;
-    let status = run_in_memory(rt, alloc, words, &mut source, &mut out, &mut err);
+    let mut ran = Ran::new(alloc);
+    let status = run_in_memory(rt, alloc, words, &mut source, &mut out, &mut err, &mut ran);
     assert_eq!(rt; status, Status::Done);
     Ok(Vec::from_slice(alloc, out.taken())?)
 }
@@ -360,13 +414,7 @@ fn one_edge_less_lowers_a_complete_graph(rt: HostRuntime) -> Result<(), Fail> {
         }
     }
     input.push_str("batch\n- 1 2\n")?;
-    check(
-        &rt,
-        &["--show", "summary"],
-        input.into_bytes(),
-        NONE,
-        wanted,
-    )
+    check_each(&rt, &["--show", "summary"], input.as_bytes(), NONE, wanted)
 }
 
 #[test]
@@ -415,13 +463,7 @@ fn a_fault_of_the_source_ends_the_run(rt: HostRuntime) -> Result<(), Fail> {
             out: b"",
             err: b"read fault\n",
         };
-        check(
-            &rt,
-            &[],
-            Vec::from_slice(rt.alloc(), TRIANGLE)?,
-            fails,
-            wanted,
-        )?;
+        check_each(&rt, &[], TRIANGLE, fails, wanted)?;
     }
     Ok(())
 }
@@ -441,13 +483,7 @@ fn a_fault_of_the_output_ends_the_run(rt: HostRuntime) -> Result<(), Fail> {
             out,
             err: b"write fault\n",
         };
-        check(
-            &rt,
-            &[],
-            Vec::from_slice(rt.alloc(), TRIANGLE)?,
-            fails,
-            wanted,
-        )?;
+        check_each(&rt, &[], TRIANGLE, fails, wanted)?;
     }
     Ok(())
 }
@@ -539,7 +575,8 @@ fn want_of_memory_is_a_status(rt: HostRuntime) -> Result<(), Fail> {
     let mut source = MemSource::new(input, 4, Vec::new(alloc));
     let mut out = MemSink::new(alloc, 100, 10, Vec::new(alloc))?;
     let mut err = MemSink::new(alloc, 100, 10, Vec::new(alloc))?;
-    let status = run_in_memory(&rt, alloc, &[], &mut source, &mut out, &mut err);
+    let mut ran = Ran::new(alloc);
+    let status = run_in_memory(&rt, alloc, &[], &mut source, &mut out, &mut err, &mut ran);
     let (text, line): (&[u8], &[u8]) = match status {
         Status::Done => (
             b"graph vertices 4 edges 3 top 1\nbatch 1 added 1 removed 0 kept 0 edges 4 top 2\n1 2\n2 2\n3 2\n4 2\n",
@@ -549,5 +586,65 @@ fn want_of_memory_is_a_status(rt: HostRuntime) -> Result<(), Fail> {
     };
     assert_eq!(rt; out.taken(), text);
     assert_eq!(rt; err.taken(), line);
+    Ok(())
+}
+
+/// What the runs on an input leave with so many workers, which are done: the receipts of all updates, share by share.
+fn receipts_left<R: Abort + AllocGlobal + Threads + Wait + Sync>(
+    rt: &R,
+    workers: &str,
+    input: &[u8],
+    shares: usize,
+    tables: usize,
+) -> Result<Vec<Receipt>, Fail> {
+    let alloc = rt.alloc();
+    let words = words_with(alloc, workers, &[])?;
+    let mut source = MemSource::new(Vec::from_slice(alloc, input)?, 65_536, Vec::new(alloc));
+    let mut out = MemSink::new(alloc, 400, 400, Vec::new(alloc))?;
+    let mut err = MemSink::new(alloc, 200, 200, Vec::new(alloc))?;
+    let mut ran = Ran::new(alloc);
+    let status = run_in_memory(rt, alloc, &words, &mut source, &mut out, &mut err, &mut ran);
+    assert_eq!(rt; status, Status::Done);
+    assert_eq!(rt; ran.shares.len(), shares);
+    assert_eq!(rt; ran.tables.len(), tables);
+    let mut receipts = Vec::new(alloc);
+    for share in &ran.shares {
+        for done in &share.done {
+            receipts.push(done.receipt)?;
+        }
+    }
+    Ok(receipts)
+}
+
+#[test]
+fn a_run_without_a_batch_leaves_nothing(rt: HostRuntime) -> Result<(), Fail> {
+    for workers in WORKERS {
+        let receipts = receipts_left(&rt, workers, TRIANGLE, 0, 0)?;
+        assert!(rt; receipts.is_empty());
+    }
+    Ok(())
+}
+
+/// An edge that comes, and goes again in the next batch.
+const THERE_AND_BACK: &[u8] = b"batch\n+ 1 2\nbatch\n- 2 1\n";
+
+#[test]
+fn a_run_leaves_a_table_and_a_receipt_for_each_update(rt: HostRuntime) -> Result<(), Fail> {
+    let wanted = [
+        Receipt {
+            index: 0,
+            place: 1,
+            applied: true,
+        },
+        Receipt {
+            index: 1,
+            place: 2,
+            applied: true,
+        },
+    ];
+    for (workers, shares) in [("1", 2), ("2", 4), ("8", 16)] {
+        let receipts = receipts_left(&rt, workers, THERE_AND_BACK, shares, 1)?;
+        assert_eq!(rt; receipts.as_slice(), wanted.as_slice());
+    }
     Ok(())
 }

@@ -10,16 +10,11 @@ ghost use Rattle.clap.specs.Simple.{app_of};
 ghost use Rattle.clap.specs.Walk.{rows_of, rule_of};
 ghost use Rattle.kc_top.specs.Settings.{asked, command, is_short_numeral, number, option_named, read, setting_in, show, start, together, usual_show, workers};
 
-use crate::setting::Setting;
-use crate::show::Show;
-use crate::start::Start;
 use clap::error::ErrorKind;
 use clap::{Arg, ArgAction, ArgMatches, Command};
 use kc_graph::NoMemory;
+use kc_output::{MOST_WORKERS, Setting, Show, Start};
 use std::alloc::Global;
-
-/// The most workers that a run may be asked to have.
-pub const MOST_WORKERS: u32 = 64;
 
 /// The most digits of a number in a word.
 pub const MOST_DIGITS: usize = 10;

@@ -3,13 +3,15 @@
 //! It only ties [`run`](kc_top::run::run) to the program's arguments and to the standard streams, and ends with the
 //! status's number. [`run_on`](program::run_on) says it over any source and sinks. Of the arguments and of the streams of
 //! the operating system no contract can say more than that: the streams tell no bytes, so what was given on standard
-//! input, and that what was taken reached its reader, is trusted. It stands on `kc_top` and `kc_io`.
+//! input, and that what was taken reached its reader, is trusted. It stands on `kc_top`, `kc_course` and
+//! `kc_io`.
 #![tactic(auto)]
 
 mod program;
 mod words;
 
 use crate::program::run_on;
+use kc_course::Ran;
 use kc_io::std_sink::StdSink;
 use kc_io::std_source::StdSource;
 use kc_top::exit_number;
@@ -20,6 +22,7 @@ fn main(rt: HostRuntime) -> ExitCode {
     let mut source = StdSource::new(rt.stdin());
     let mut out = StdSink::new(rt.stdout());
     let mut err = StdSink::new(rt.stderr());
+    let mut ran = Ran::new(rt.alloc());
     let status = run_on(
         &rt,
         rt.alloc(),
@@ -27,6 +30,7 @@ fn main(rt: HostRuntime) -> ExitCode {
         &mut source,
         &mut out,
         &mut err,
+        &mut ran,
     );
     ExitCode::from(exit_number(status))
 }

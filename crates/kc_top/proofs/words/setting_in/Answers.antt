@@ -5,8 +5,8 @@ use Rattle.clap.specs.Walk.{first_of, rows_of}
 use Rattle.clap.specs.declared.parser.matches.Found.{Found}
 use Rattle.clap.proofs.WalkLemmas.{first_value-rows}
 use Rattle.kc_top.specs.Settings.{number, read, show, start, together, workers}
-use Rattle.kc_top.specs.declared.show.Show.{Show}
-use Rattle.kc_top.specs.declared.start.Start.{Start}
+use Rattle.kc_output.specs.declared.show.Show.{Show}
+use Rattle.kc_output.specs.declared.start.Start.{Start}
 use Rattle.kc_top.proofs.words.setting_in.Goals as goal
 
 -- what is read of the matches is read of their rows

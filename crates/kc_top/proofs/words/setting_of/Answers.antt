@@ -9,7 +9,7 @@ use Rattle.clap.specs.Matches.{found_of}
 use Rattle.clap.specs.Values.{kind_of}
 use Rattle.clap.proofs.OnLiterals.{clap_on_literals}
 use Rattle.kc_top.specs.Settings.{command, setting, setting_in}
-use Rattle.kc_top.specs.declared.setting.Setting.{Setting}
+use Rattle.kc_output.specs.declared.setting.Setting.{Setting}
 use Rattle.kc_top.proofs.words.setting_of.Goals as goal
 
 -- the command is one whose matches are a function of the words

@@ -1,0 +1,5 @@
+pub mod Inputs
+pub mod Leaving
+pub mod Limits
+pub mod Text
+pub mod Unrepeated

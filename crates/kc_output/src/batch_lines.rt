@@ -1,0 +1,96 @@
+//! The lines about batches.
+ghost use Rattle.std.specs.Prelude.{◌≡◌, ◌≤◌, ◌+◌, ◌++◌, ◌∷◌, [], List, IfOk, length, map};
+ghost use Rattle.kc_graph.specs.declared.update.Update.{Update};
+ghost use Rattle.kc_effects.specs.Batches.{graph_after_batch};
+ghost use Rattle.kc_text.specs.Inputs.{IsBatch, parts_of};
+ghost use Rattle.kc_text.specs.declared.limits.TheConstants.{MOST_UPDATES};
+ghost use Rattle.kc_words.specs.declared.layout.TheConstants.{INDICES};
+ghost use Rattle.kc_batch.specs.Batches.{receipts_in};
+ghost use Rattle.kc_course.specs.Courses.{HasWorked};
+ghost use Rattle.kc_output.specs.Limits.{AreWithinLimits, batches_of, counted_batch, lists_of};
+ghost use Rattle.kc_output.specs.Text.{TellsBatches, line_about, shown_each};
+
+use crate::batches::Batches;
+use crate::numbers::put_each;
+use crate::show::Show;
+use kc_course::{Course, Ran};
+use kc_graph::{NoMemory, Update};
+use kc_report::{Line, summary};
+use kc_workers::Gate;
+use std::alloc::Global;
+use std::sync::Wait;
+use std::thread::Threads;
+
+/// What all batches of a run are worked with, and what is shown of the core numbers after each.
+#[derive(Drop)]
+pub(crate) struct Work<'a, G, R> {
+    pub(crate) rt: &'a R,
+    pub(crate) alloc: Global,
+    pub(crate) gate: &'a G,
+    pub(crate) show: Show,
+}
+
+impl<G: Gate + Sync, R: Threads + Wait + Sync> Work<'_, G, R> {
+    /// Lets the workers enter a batch, and appends its line.
+    fn put_batch(
+        &self,
+        number: u32,
+        course: Course,
+        updates: &[Update],
+        overruled: u32,
+        text: &mut Vec<u8>,
+        ran: &mut Ran,
+    ) -> Result<Course, NoMemory>
+        requires batch { IsBatch course.journal.graph.size updates.now }
+        requires few { length updates.now ≤ MOST_UPDATES }
+        requires indices { length course.journal.entries + length updates.now ≤ INDICES }
+        ensures graph { IfOk result (λ new. new.journal.graph ≡ graph_after_batch course.journal.graph (map parts_of updates.now)) }
+        ensures started { IfOk result (λ new. new.journal.started ≡ course.journal.started) }
+        ensures entries { IfOk result (λ new. length new.journal.entries ≡ length course.journal.entries + length updates.now) }
+        ensures text { IfOk result (λ new. text.new.items ≡ text.old.items
+            ++ line_about number course.journal.graph (counted_batch updates.now overruled) new.journal.levels.core) }
+        ensures worked { IfOk result (λ new. (batches : List (List Update))
+            → HasWorked batches ran.old.tables.items (receipts_in ran.old.shares.items) course.journal
+            → HasWorked (batches ++ updates.now ∷ []) ran.new.tables.items (receipts_in ran.new.shares.items) new.journal) }
+    {
+        let (course, counts) = course.work(self.rt, self.alloc, updates, self.gate, ran)?;
+        let line = Line::Batch {
+            number,
+            added: counts.added,
+            removed: counts.removed,
+            kept: counts.kept,
+            overruled,
+            edges: course.edges(),
+            top: course.top(),
+        };
+        summary(text, &line)?;
+        Ok(course)
+    }
+
+    /// Lets the workers enter the batches in turn, and appends a line for each, with the core numbers after it where each state is shown.
+    pub(crate) fn put_batches(
+        &self,
+        mut course: Course,
+        batches: &Batches,
+        text: &mut Vec<u8>,
+        ran: &mut Ran,
+    ) -> Result<Course, NoMemory>
+        requires within { AreWithinLimits course.journal.graph.size batches.now }
+        requires begun { course.journal.entries ≡ [] }
+        ensures text { IfOk result (λ new. TellsBatches (shown_each self.now.show batches.now.ids.items) 1 course.journal.graph
+            course.journal.levels.core (batches_of batches.now) text.old.items text.new.items new.journal.levels.core) }
+        ensures started { IfOk result (λ new. new.journal.started ≡ course.journal.started) }
+        ensures size { IfOk result (λ new. new.journal.graph.size ≡ course.journal.graph.size) }
+        ensures worked { IfOk result (λ new. HasWorked [] ran.old.tables.items (receipts_in ran.old.shares.items) course.journal
+            → HasWorked (lists_of batches.now) ran.new.tables.items (receipts_in ran.new.shares.items) new.journal) }
+    {
+        let mut number = 0;
+        for updates in &batches.updates {
+            let overruled = batches.overruled[number as usize];
+            number += 1;
+            course = self.put_batch(number, course, updates, overruled, text, ran)?;
+            put_each(text, self.show, &batches.ids, course.core_numbers())?;
+        }
+        Ok(course)
+    }
+}

@@ -1,0 +1,140 @@
+//! The output of a run, as a text.
+ghost use Rattle.std.specs.Prelude.{◌≡◌, ◌++◌, [], IfOk, OnOk, length};
+ghost use Rattle.kc_text.specs.Inputs.{IsInput};
+ghost use Rattle.kc_text.specs.Meaning.{Told};
+ghost use Rattle.kc_course.specs.Runs.{HasRun, IsEmpty};
+ghost use Rattle.kc_output.specs.Inputs.{HasWorkers, IsSound};
+ghost use Rattle.kc_output.specs.Leaving.{IsLeftFor};
+ghost use Rattle.kc_output.specs.Limits.{AreWithinLimits, batches_of, lists_of};
+ghost use Rattle.kc_output.specs.Text.{IsText, IsTextFrom, first_line, shown_each, shown_rounds};
+
+use crate::batch_lines::Work;
+use crate::batches::{Batches, start_of};
+use crate::begun::begun_from;
+use crate::greatest::greatest;
+use crate::numbers::{put_each, put_end, put_rounds};
+use crate::setting::Setting;
+use crate::show::Show;
+use crate::start_numbers::numbers_of;
+use kc_course::{Course, Ran};
+use kc_graph::{Graph, NoMemory};
+use kc_report::{Line, summary};
+use kc_text::Input;
+use kc_workers::Gate;
+use std::alloc::Global;
+use std::sync::Wait;
+use std::thread::Threads;
+
+/// The text up to the first batch: the line about the graph, the one about rounds where there were any, and the core numbers where each
+/// state is shown.
+fn start_text(
+    alloc: Global,
+    show: Show,
+    graph: &Graph,
+    ids: &[u32],
+    core: &[u32],
+    rounds: Option<u64>,
+) -> Result<Vec<u8>, NoMemory>
+    requires { length ids.now ≡ length core.now }
+    ensures { IfOk result (λ text. text.items ≡ first_line graph.now core.now ++ (shown_rounds rounds ++ shown_each show ids.now core.now)) }
+{
+    let line = Line::Graph {
+        vertices: graph.vertices(),
+        edges: graph.edges(),
+        top: greatest(core),
+    };
+    let mut text = Vec::new(alloc);
+    summary(&mut text, &line)?;
+    put_rounds(&mut text, rounds)?;
+    put_each(&mut text, show, ids, core)?;
+    Ok(text)
+}
+
+/// The text of an input without batches. No journal is opened.
+fn static_text(
+    rt: &(impl Threads + Sync),
+    alloc: Global,
+    setting: Setting,
+    graph: Graph,
+    ids: &[u32],
+) -> Result<Vec<u8>, NoMemory>
+    requires { length ids.now ≡ graph.size }
+    ensures { IfOk result (λ text. IsTextFrom setting ids.now graph [] text.items) }
+{
+    let numbers = numbers_of(rt, alloc, setting.start, &graph)?;
+    let mut text = start_text(
+        alloc,
+        setting.show,
+        &graph,
+        ids,
+        &numbers.core,
+        numbers.rounds,
+    )?;
+    put_end(&mut text, setting, ids, &numbers.core)?;
+    Ok(text)
+}
+
+/// The text of an input with batches, which are worked in turn from the state of the graph on. What the run leaves goes to `ran`.
+fn worked_text<G: Gate + Sync, R: Threads + Wait + Sync>(
+    rt: &R,
+    alloc: Global,
+    setting: Setting,
+    graph: Graph,
+    batches: &Batches,
+    gate: &G,
+    ran: &mut Ran,
+) -> Result<Vec<u8>, NoMemory>
+    requires within { AreWithinLimits graph.size batches.now }
+    requires workers { HasWorkers setting }
+    requires empty { IsEmpty ran.old }
+    ensures text { IfOk result (λ text. IsTextFrom setting batches.now.ids.items graph (batches_of batches.now) text.items) }
+    ensures ran { OnOk result (HasRun graph (lists_of batches.now) ran.new) }
+{
+    let begun = begun_from(rt, alloc, setting.start, graph)?;
+    let ids = &batches.ids;
+    let mut text = start_text(
+        alloc,
+        setting.show,
+        begun.lawful.graph(),
+        ids,
+        begun.lawful.core(),
+        begun.rounds,
+    )?;
+    let work = Work {
+        rt,
+        alloc,
+        gate,
+        show: setting.show,
+    };
+    let course = Course::open(alloc, begun.lawful, setting.workers)?;
+    let course = work.put_batches(course, batches, &mut text, ran)?;
+    put_end(&mut text, setting, ids, course.core_numbers())?;
+    course.end(ran)?;
+    Ok(text)
+}
+
+/// The text of the input: the line about the graph at the start, the line about each batch, and what the setting shows of the core
+/// numbers between them and at the end.
+///
+/// As many workers as the setting says enter the updates of each batch, and `gate` is called before each try. Where there is a batch, the
+/// tables of the run and the receipts of its updates go to `ran`; `NoMemory` may have put some of them there.
+pub fn text_of<G: Gate + Sync, R: Threads + Wait + Sync>(
+    rt: &R,
+    alloc: Global,
+    setting: Setting,
+    input: Input,
+    gate: &G,
+    ran: &mut Ran,
+) -> Result<Vec<u8>, NoMemory>
+    requires sound { IsSound input }
+    requires workers { HasWorkers setting }
+    requires empty { IsEmpty ran.old }
+    ensures text { IfOk result (λ text. (told : Told) → IsInput told input → IsText setting told text.items) }
+    ensures ran { OnOk result ((told : Told) → IsInput told input → IsLeftFor told ran.new) }
+{
+    let (graph, batches) = start_of(alloc, input)?;
+    if batches.updates.is_empty() {
+        return static_text(rt, alloc, setting, graph, &batches.ids);
+    }
+    worked_text(rt, alloc, setting, graph, &batches, gate, ran)
+}
