@@ -1,5 +1,5 @@
 //! The lines about batches.
-ghost use Rattle.std.specs.Prelude.{◌≡◌, ◌≤◌, ◌+◌, ◌++◌, ◌∷◌, [], List, IfOk, length, map};
+ghost use Rattle.std.specs.Prelude.{◌≡◌, ◌≤◌, ◌<◌, ◌+◌, ◌++◌, ◌∷◌, [], List, IfOk, OnOk, length, map};
 ghost use Rattle.kc_graph.specs.declared.update.Update.{Update};
 ghost use Rattle.kc_effects.specs.Batches.{graph_after_batch};
 ghost use Rattle.kc_text.specs.Inputs.{IsBatch, parts_of};
@@ -7,27 +7,31 @@ ghost use Rattle.kc_text.specs.declared.limits.TheConstants.{MOST_UPDATES};
 ghost use Rattle.kc_words.specs.declared.layout.TheConstants.{INDICES};
 ghost use Rattle.kc_batch.specs.Batches.{receipts_in};
 ghost use Rattle.kc_course.specs.Courses.{HasWorked};
+ghost use Rattle.kc_snapshot.specs.declared.publisher.TheConstants.{MOST_LISTS};
 ghost use Rattle.kc_output.specs.Limits.{AreWithinLimits, batches_of, counted_batch, lists_of};
+ghost use Rattle.kc_output.specs.Screens.{HasShown};
 ghost use Rattle.kc_output.specs.Text.{TellsBatches, line_about, shown_each};
 
 use crate::batches::Batches;
 use crate::numbers::put_each;
-use crate::show::Show;
+use crate::screen::Screen;
+use crate::setting::Setting;
 use kc_course::{Course, Ran};
 use kc_graph::{NoMemory, Update};
 use kc_report::{Line, summary};
+use kc_snapshot::BoardName;
 use kc_workers::Gate;
 use std::alloc::Global;
 use std::sync::Wait;
 use std::thread::Threads;
 
-/// What all batches of a run are worked with, and what is shown of the core numbers after each.
+/// What all batches of a run are worked with, and what the run is asked for.
 #[derive(Drop)]
 pub(crate) struct Work<'a, G, R> {
     pub(crate) rt: &'a R,
     pub(crate) alloc: Global,
     pub(crate) gate: &'a G,
-    pub(crate) show: Show,
+    pub(crate) setting: Setting,
 }
 
 impl<G: Gate + Sync, R: Threads + Wait + Sync> Work<'_, G, R> {
@@ -67,17 +71,44 @@ impl<G: Gate + Sync, R: Threads + Wait + Sync> Work<'_, G, R> {
         Ok(course)
     }
 
+    /// Appends what is shown of the core numbers after the batch with this number. Where there is a screen they are published there, and
+    /// they are what its reader reads.
+    fn put_shown<'s, J: BoardName>(
+        &self,
+        number: u32,
+        screen: Option<Screen<'s, J, R>>,
+        ids: &[u32],
+        core: &[u32],
+        text: &mut Vec<u8>,
+    ) -> Result<Option<Screen<'s, J, R>>, NoMemory>
+        requires one_each { length ids.now ≡ length core.now }
+        requires shown { HasShown (length core.now) number screen }
+        requires room { number < MOST_LISTS }
+        ensures text { OnOk result (text.new.items ≡ text.old.items ++ shown_each self.now.setting.show ids.now core.now) }
+        ensures shown { IfOk result (λ after. HasShown (length core.now) (number + 1) after) }
+    {
+        let Some(mut screen) = screen else {
+            put_each(text, self.setting.show, ids, core)?;
+            return Ok(None);
+        };
+        screen.show(core)?;
+        put_each(text, self.setting.show, ids, screen.core())?;
+        Ok(Some(screen))
+    }
+
     /// Lets the workers enter the batches in turn, and appends a line for each, with the core numbers after it where each state is shown.
-    pub(crate) fn put_batches(
+    pub(crate) fn put_batches<J: BoardName>(
         &self,
         mut course: Course,
         batches: &Batches,
+        mut screen: Option<Screen<'_, J, R>>,
         text: &mut Vec<u8>,
         ran: &mut Ran,
     ) -> Result<Course, NoMemory>
         requires within { AreWithinLimits course.journal.graph.size batches.now }
         requires begun { course.journal.entries ≡ [] }
-        ensures text { IfOk result (λ new. TellsBatches (shown_each self.now.show batches.now.ids.items) 1 course.journal.graph
+        requires shown { HasShown course.journal.graph.size 1 screen }
+        ensures text { IfOk result (λ new. TellsBatches (shown_each self.now.setting.show batches.now.ids.items) 1 course.journal.graph
             course.journal.levels.core (batches_of batches.now) text.old.items text.new.items new.journal.levels.core) }
         ensures started { IfOk result (λ new. new.journal.started ≡ course.journal.started) }
         ensures size { IfOk result (λ new. new.journal.graph.size ≡ course.journal.graph.size) }
@@ -89,7 +120,7 @@ impl<G: Gate + Sync, R: Threads + Wait + Sync> Work<'_, G, R> {
             let overruled = batches.overruled[number as usize];
             number += 1;
             course = self.put_batch(number, course, updates, overruled, text, ran)?;
-            put_each(text, self.show, &batches.ids, course.core_numbers())?;
+            screen = self.put_shown(number, screen, &batches.ids, course.core_numbers(), text)?;
         }
         Ok(course)
     }

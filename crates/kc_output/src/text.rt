@@ -6,6 +6,7 @@ ghost use Rattle.kc_course.specs.Runs.{HasRun, IsEmpty};
 ghost use Rattle.kc_output.specs.Inputs.{HasWorkers, IsSound};
 ghost use Rattle.kc_output.specs.Leaving.{IsLeftFor};
 ghost use Rattle.kc_output.specs.Limits.{AreWithinLimits, batches_of, lists_of};
+ghost use Rattle.kc_output.specs.Screens.{HasShown};
 ghost use Rattle.kc_output.specs.Text.{IsText, IsTextFrom, first_line, shown_each, shown_rounds};
 
 use crate::batch_lines::Work;
@@ -13,15 +14,18 @@ use crate::batches::{Batches, start_of};
 use crate::begun::begun_from;
 use crate::greatest::greatest;
 use crate::numbers::{put_each, put_end, put_rounds};
+use crate::screen::Screen;
 use crate::setting::Setting;
 use crate::show::Show;
 use crate::start_numbers::numbers_of;
 use kc_course::{Course, Ran};
 use kc_graph::{Graph, NoMemory};
 use kc_report::{Line, summary};
+use kc_snapshot::{Blank, BoardName};
 use kc_text::Input;
 use kc_workers::Gate;
 use std::alloc::Global;
+use std::marker::Brand;
 use std::sync::Wait;
 use std::thread::Threads;
 
@@ -74,40 +78,53 @@ fn static_text(
     Ok(text)
 }
 
-/// The text of an input with batches, which are worked in turn from the state of the graph on. What the run leaves goes to `ran`.
-fn worked_text<G: Gate + Sync, R: Threads + Wait + Sync>(
-    rt: &R,
+/// The screen of a run, where it shows the core numbers after each batch.
+fn screen_of<'a, J: BoardName, R: Wait>(
+    rt: &'a R,
     alloc: Global,
-    setting: Setting,
+    blank: Blank,
+    show: Show,
+    core: &[u32],
+) -> Result<Option<Screen<'a, J, R>>, NoMemory>
+    requires blank { blank ≡ J.book }
+    ensures { IfOk result (λ screen. HasShown (length core.now) 1 screen) }
+{
+    match show {
+        Show::Cores | Show::Summary => Ok(None),
+        Show::Each => Ok(Some(Screen::open(rt, alloc, blank, core)?)),
+    }
+}
+
+/// The text of an input with batches, which are worked in turn from the state of the graph on. What the run leaves goes to `ran`.
+fn worked_text<J: BoardName, G: Gate + Sync, R: Threads + Wait + Sync>(
+    work: &Work<'_, G, R>,
+    blank: Blank,
     graph: Graph,
     batches: &Batches,
-    gate: &G,
     ran: &mut Ran,
 ) -> Result<Vec<u8>, NoMemory>
+    requires blank { blank ≡ J.book }
     requires within { AreWithinLimits graph.size batches.now }
-    requires workers { HasWorkers setting }
+    requires workers { HasWorkers work.now.setting }
     requires empty { IsEmpty ran.old }
-    ensures text { IfOk result (λ text. IsTextFrom setting batches.now.ids.items graph (batches_of batches.now) text.items) }
+    ensures text { IfOk result (λ text. IsTextFrom work.now.setting batches.now.ids.items graph (batches_of batches.now) text.items) }
     ensures ran { OnOk result (HasRun graph (lists_of batches.now) ran.new) }
 {
-    let begun = begun_from(rt, alloc, setting.start, graph)?;
+    let setting = work.setting;
+    let begun = begun_from(work.rt, work.alloc, setting.start, graph)?;
     let ids = &batches.ids;
+    let core = begun.lawful.core();
     let mut text = start_text(
-        alloc,
+        work.alloc,
         setting.show,
         begun.lawful.graph(),
         ids,
-        begun.lawful.core(),
+        core,
         begun.rounds,
     )?;
-    let work = Work {
-        rt,
-        alloc,
-        gate,
-        show: setting.show,
-    };
-    let course = Course::open(alloc, begun.lawful, setting.workers)?;
-    let course = work.put_batches(course, batches, &mut text, ran)?;
+    let screen = screen_of::<J, R>(work.rt, work.alloc, blank, setting.show, core)?;
+    let course = Course::open(work.alloc, begun.lawful, setting.workers)?;
+    let course = work.put_batches(course, batches, screen, &mut text, ran)?;
     put_end(&mut text, setting, ids, course.core_numbers())?;
     course.end(ran)?;
     Ok(text)
@@ -136,5 +153,11 @@ pub fn text_of<G: Gate + Sync, R: Threads + Wait + Sync>(
     if batches.updates.is_empty() {
         return static_text(rt, alloc, setting, graph, &batches.ids);
     }
-    worked_text(rt, alloc, setting, graph, &batches, gate, ran)
+    let work = Work {
+        rt,
+        alloc,
+        gate,
+        setting,
+    };
+    worked_text::<Brand, G, R>(&work, Blank::new(), graph, &batches, ran)
 }

@@ -26,21 +26,21 @@ returns-clause-text g c =
     let same : course.journal.graph ≡ graph = ap (λ (s : Ranked). s.graph) c.in_ok-course.ensures.state ∙ c.in_ok-begun.ensures.graph in
     let numbers : AreCoreNumbers graph start.core =
     subst (λ (x : SimpleGraph). AreCoreNumbers x start.core) c.in_ok-begun.ensures.graph
-    (subst (λ (cs : List ℕ). AreCoreNumbers start.graph cs) c.core.ensures.core c.core.ensures.seidman) in
-    let tells : TellsBatches (shown_each c.args.setting.show ids) 1 graph start.core (batches_of c.args.batches.now) before written
+    (subst (λ (cs : List ℕ). AreCoreNumbers start.graph cs) c.core-core.ensures.core c.core-core.ensures.seidman) in
+    let tells : TellsBatches (shown_each c.args.work.now.setting.show ids) 1 graph start.core (batches_of c.args.batches.now) before written
     after.journal.levels.core =
-    subst (λ (cs : List ℕ). TellsBatches (shown_each c.args.setting.show ids) 1 graph cs (batches_of c.args.batches.now) before written
+    subst (λ (cs : List ℕ). TellsBatches (shown_each c.args.work.now.setting.show ids) 1 graph cs (batches_of c.args.batches.now) before written
     after.journal.levels.core) core
-    (subst (λ (x : SimpleGraph). TellsBatches (shown_each c.args.setting.show ids) 1 x course.journal.levels.core (batches_of c.args.batches.now) before
+    (subst (λ (x : SimpleGraph). TellsBatches (shown_each c.args.work.now.setting.show ids) 1 x course.journal.levels.core (batches_of c.args.batches.now) before
     written after.journal.levels.core) same c.in_ok-course-2.ensures.text) in
-    let first : before ≡ first_line graph start.core ++ (shown_rounds c.in_ok-begun.begun.rounds ++ shown_each c.args.setting.show ids start.core) =
-    c.in_ok-text.ensures ∙ (ap (λ (x : SimpleGraph). first_line x c.core.result.now ++ (shown_rounds c.in_ok-begun.begun.rounds
-    ++ shown_each c.args.setting.show c.deref.result.now c.core.result.now)) (c.graph.ensures.graph ∙ c.in_ok-begun.ensures.graph)
-    ∙ ap₂ (λ (cs is : List ℕ). first_line graph cs ++ (shown_rounds c.in_ok-begun.begun.rounds ++ shown_each c.args.setting.show is cs))
-    c.core.ensures.core c.deref.ensures.value) in
-    IsTextFrom-parts c.args.setting ids graph (batches_of c.args.batches.now) start.core c.in_ok-begun.begun.rounds before written
+    let first : before ≡ first_line graph start.core ++ (shown_rounds c.in_ok-begun.begun.rounds ++ shown_each c.args.work.now.setting.show ids start.core) =
+    c.in_ok-text.ensures ∙ (ap (λ (x : SimpleGraph). first_line x c.core-core.result.now ++ (shown_rounds c.in_ok-begun.begun.rounds
+    ++ shown_each c.args.work.now.setting.show c.deref.result.now c.core-core.result.now)) (c.graph.ensures.graph ∙ c.in_ok-begun.ensures.graph)
+    ∙ ap₂ (λ (cs is : List ℕ). first_line graph cs ++ (shown_rounds c.in_ok-begun.begun.rounds ++ shown_each c.args.work.now.setting.show is cs))
+    c.core-core.ensures.core c.deref.ensures.value) in
+    IsTextFrom-parts c.args.work.now.setting ids graph (batches_of c.args.batches.now) start.core c.in_ok-begun.begun.rounds before written
     after.journal.levels.core c.put_end.new.text.items numbers c.in_ok-begun.ensures.rounds first tells
-    (c.in_ok-put_end.ensures ∙ ap₂ (λ (is cs : List ℕ). written ++ (shown_last c.args.setting.show is cs ++ shown_level c.args.setting.level is cs))
+    (c.in_ok-put_end.ensures ∙ ap₂ (λ (is cs : List ℕ). written ++ (shown_last c.args.work.now.setting.show is cs ++ shown_level c.args.work.now.setting.level is cs))
     c.deref-2.ensures.value c.core_numbers.ensures.core)
 
 pub returns-clause-ran : goal.returns-clause-ran

@@ -8,6 +8,7 @@ use Rattle.kc_batch.specs.Batches.{receipts_in}
 use Rattle.kc_course.specs.Courses.{HasWorked}
 use Rattle.kc_course.specs.Entered.{update_count}
 use Rattle.kc_output.specs.Limits.{counted_batch, counted_batches, lists_of}
+use Rattle.kc_output.specs.Screens.{HasShown}
 use Rattle.kc_output.specs.Text.{Batch, TellsBatches, line_about, shown_each}
 use Rattle.kc_output.proofs.InTurn.{IsNext, count-more, count-within, one-more}
 use Rattle.kc_output.proofs.Telling.{tells-next, tells-none}
@@ -54,20 +55,24 @@ loop-updates-preserved g c =
     let ids : List ℕ = c.args.batches.now.ids.items in
     let core : List ℕ = c.in_ok-course.course.journal.levels.core in
     let line : List ℕ = line_about (c.loop-updates.number + 1) c.loop-updates.course.journal.graph (counted_batch us n) core in
-    let shown : List ℕ → List ℕ = shown_each c.args.self.now.show ids in
-    let text : c.put_each.new.text.items ≡ c.loop-updates.text.items ++ (line ++ shown core) =
-    c.in_ok-put_each.ensures ∙ ap₂ (λ (t s : List ℕ). t ++ s) c.in_ok-course.ensures.text
-    (ap₂ (λ (is cs : List ℕ). shown_each c.args.self.now.show is cs) c.deref-in-loop-updates.ensures.value c.core_numbers.ensures.core)
+    let shown : List ℕ → List ℕ = shown_each c.args.self.now.setting.show ids in
+    let text : c.put_shown.new.text.items ≡ c.loop-updates.text.items ++ (line ++ shown core) =
+    c.in_ok-screen.ensures.text ∙ ap₂ (λ (t s : List ℕ). t ++ s) c.in_ok-course.ensures.text
+    (ap₂ (λ (is cs : List ℕ). shown_each c.args.self.now.setting.show is cs) c.deref-in-loop-updates.ensures.value c.core_numbers.ensures.core)
     ∙ append_assoc c.loop-updates.text.items line (shown core) in
+    let wide : length c.core_numbers.result.now ≡ c.args.course.journal.graph.size =
+    ap length c.core_numbers.ensures.core ∙ (c.core_numbers.ensures.seidman.one_each
+    ∙ (ap (λ (x : SimpleGraph). x.size) c.in_ok-course.ensures.graph ∙ c.loop-updates.invariant.size)) in
     record {
       counted = omega (arith, c.loop-updates.invariant.counted);
       size = ap (λ (x : SimpleGraph). x.size) c.in_ok-course.ensures.graph ∙ c.loop-updates.invariant.size;
+      shown = subst (λ (n : ℕ). HasShown n (c.loop-updates.number + 1 + 1) c.in_ok-screen.screen) wide c.in_ok-screen.ensures.shown;
       started = c.in_ok-course.ensures.started ∙ c.loop-updates.invariant.started;
       entries = c.in_ok-course.ensures.entries ∙ (ap (λ (k : ℕ). k + length us) c.loop-updates.invariant.entries ∙ sym (count-more xs i us next));
       rest = λ after last tells. c.loop-updates.invariant.rest after last
           (tells-next xs counts i c.updates-item.result us n l c.requires.within.counted here c.deref.ensures.value count shown
           (c.loop-updates.number + 1) c.loop-updates.course.journal.graph c.in_ok-course.course.journal.graph
-          c.loop-updates.course.journal.levels.core core c.loop-updates.text.items c.put_each.new.text.items after last c.in_ok-course.ensures.graph
+          c.loop-updates.course.journal.levels.core core c.loop-updates.text.items c.put_shown.new.text.items after last c.in_ok-course.ensures.graph
           c.core_numbers.ensures.seidman text tells);
       worked = λ h. subst (λ (bs : List (List Update)). HasWorked bs c.put_batch.new.ran.tables.items (receipts_in c.put_batch.new.ran.shares.items)
           c.in_ok-course.course.journal) (sym (one-more xs i us next))
@@ -83,7 +88,7 @@ returns-clause-text g c =
     let none : counted_batches (drop i xs) (drop i counts) ≡ [] =
     ap₂ (λ (us : List (Vec Update Global)) (ns : List ℕ). counted_batches us ns) (drop_all i xs past)
     (drop_all i counts (omega (arith, past, c.requires.within.counted))) in
-    let shown : List ℕ → List ℕ = shown_each c.args.self.now.show c.args.batches.now.ids.items in
+    let shown : List ℕ → List ℕ = shown_each c.args.self.now.setting.show c.args.batches.now.ids.items in
     let core : List ℕ = c.loop-updates.course.journal.levels.core in
     c.loop-updates.invariant.rest c.loop-updates.text.items core
     (subst (λ (bs : List Batch). TellsBatches shown (c.loop-updates.number + 1) c.loop-updates.course.journal.graph core bs c.loop-updates.text.items
