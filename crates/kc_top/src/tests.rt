@@ -362,7 +362,7 @@ fn the_rounds_of_the_start_have_their_line(rt: HostRuntime) -> Result<(), Fail> 
             b"graph vertices 3 edges 3 top 2\nhindex rounds 1\n1 2\n2 2\n3 2\n",
         ),
         (
-            &["--show", "summary", "--start", "hindex", "--workers", "2"],
+            &["--show", "summary", "--start", "hindex"],
             b"",
             b"graph vertices 0 edges 0 top 0\nhindex rounds 1\n",
         ),
