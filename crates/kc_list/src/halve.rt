@@ -8,13 +8,32 @@ ghost use Rattle.kc_list.specs.Views.{IsSound, group_at, bottom_at, top_at, grou
 
 use crate::gather::gather;
 use crate::groups::Groups;
-use crate::limits::{GROUP_ITEMS, HALF_ITEMS, HALF_STEP};
+use crate::limits::{GROUP_ITEMS, HALF_ITEMS, HALF_STEP, SPLIT_SHARE};
 use crate::place::gap;
 use crate::scratch::Scratch;
 use crate::sheet::Sheet;
 use crate::split::split;
 use kc_links::Links;
 use kc_words::{GroupWord, ITEMS, ItemWord, LAST_VERSION, TOP_ROOM};
+
+/// The half of a full group in which an item is put next.
+#[derive(Clone, Copy, Drop)]
+enum Half {
+    Lower,
+    Upper,
+}
+
+/// The half of the members of a full group in which `p` stands. It matters for speed alone.
+fn half_of(p: u32, members: &[u32]) -> Half
+    requires { length members.now ≡ GROUP_ITEMS }
+{
+    let lower = &members[..HALF_ITEMS as usize];
+    if lower.contains(&p) {
+        Half::Lower
+    } else {
+        Half::Upper
+    }
+}
 
 /// The label of a group whose last member is `last`, and where the gap above it ends.
 fn top_gap(links: &Links, sheet: &Sheet, group: u32, last: u32) -> (u64, u64)
@@ -35,8 +54,10 @@ fn top_gap(links: &Links, sheet: &Sheet, group: u32, last: u32) -> (u64, u64)
     (low, GroupWord::of(sheet.word(n + after)).top)
 }
 
-/// The middle of the gap above a group.
-fn top_between(links: &Links, sheet: &Sheet, group: u32, last: u32) -> u64
+/// A label of the gap above a group. Puts in a row, the most frequent kind, go on at the place of the
+/// put that splits the group: the label stands near the lower end where the new group grows, and near
+/// the upper end where the old one does.
+fn top_between(links: &Links, sheet: &Sheet, group: u32, last: u32, grows: Half) -> u64
     requires sound { IsSound links.now sheet.now }
     requires small { links.now.size ≤ ITEMS }
     requires last_in { member last links.now.list ≡ true }
@@ -46,11 +67,22 @@ fn top_between(links: &Links, sheet: &Sheet, group: u32, last: u32) -> u64
     ensures high { result < end_above links.now sheet.now last }
 {
     let (low, high) = top_gap(links, sheet, group, last);
-    low + (high - low) / 2
+    let share = ((high - low) / SPLIT_SHARE).max(1);
+    match grows {
+        Half::Lower => high - share,
+        Half::Upper => low + share,
+    }
 }
 
-/// Splits a full group.
-fn split_full(links: &Links, sheet: &mut Sheet, group: u32, fresh: u32, members: &[u32])
+/// Splits a full group, one half of which grows.
+fn split_full(
+    links: &Links,
+    sheet: &mut Sheet,
+    group: u32,
+    fresh: u32,
+    members: &[u32],
+    grows: Half,
+)
     requires sound { IsSound links.now sheet.old }
     requires small { links.now.size ≤ ITEMS }
     requires length { length members.now ≡ GROUP_ITEMS }
@@ -74,7 +106,7 @@ fn split_full(links: &Links, sheet: &mut Sheet, group: u32, fresh: u32, members:
     ensures length { length sheet.new.writes ≡ length sheet.old.writes + HALF_ITEMS + 1 }
     ensures room { sheet.new.room ≡ sheet.old.room }
 {
-    let top = top_between(links, sheet, group, members[GROUP_ITEMS - 1]);
+    let top = top_between(links, sheet, group, members[GROUP_ITEMS - 1], grows);
     let low = &members[..HALF_ITEMS as usize];
     let ups = &members[HALF_ITEMS as usize..];
     split(links, sheet, group, fresh, top, low, ups);
@@ -111,7 +143,8 @@ fn split_at(links: &Links, sheet: &mut Sheet, p: u32, fresh: u32, members: &mut 
 {
     let group = ItemWord::of(sheet.word(1 + p)).group;
     gather(links, sheet, p, members);
-    split_full(links, sheet, group, fresh, members);
+    let grows = half_of(p, members);
+    split_full(links, sheet, group, fresh, members, grows);
 }
 
 /// Sees to it that there is a top label between the full group of `p` and what follows it.

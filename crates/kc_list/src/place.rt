@@ -7,6 +7,7 @@ ghost use Rattle.kc_list.specs.Sheets.{version};
 ghost use Rattle.kc_list.specs.Views.{IsSound, group_at, bottom_at, HasLabelAfter, AreSizes, TakesItem, end_after, IsPairBelow, version_at, SetsWord, AddsWrite};
 
 use crate::groups::Groups;
+use crate::limits::PUT_SHARE;
 use crate::sheet::Sheet;
 use kc_links::Links;
 use kc_words::{BOTTOM_ROOM, GroupWord, ITEMS, ItemWord, LAST_VERSION};
@@ -105,8 +106,45 @@ pub fn take(links: &mut Links, sheet: &mut Sheet, x: u32)
     sheet.store(1 + x, new.pack());
 }
 
-/// Moves `x` right after `p`, where the group of `p` can take it and has a label for it.
-pub fn move_item(links: &mut Links, sheet: &mut Sheet, groups: &mut Groups, x: u32, p: u32)
+/// How the puts at one place follow one another, for the choice of a label. It matters for speed alone.
+#[derive(Clone, Copy, Drop)]
+pub enum Growth {
+    /// Each item is put right after the one that was put before it.
+    Onwards,
+    /// Each item is put right after one and the same.
+    Backwards,
+    /// Neither.
+    Anywhere,
+}
+
+/// A label between that of `p` and that of what follows it: near one end where the puts are in a row,
+/// so that the next ones have room, and else the middle.
+pub fn label_after(links: &Links, sheet: &Sheet, p: u32, growth: Growth) -> u32
+    requires sound { IsSound links.now sheet.now }
+    requires small { links.now.size ≤ ITEMS }
+    requires p_in { member p links.now.list ≡ true }
+    requires gap { HasLabelAfter links.now sheet.now p }
+    ensures low { bottom_at links.now sheet.now p < result }
+    ensures high { result < end_after links.now sheet.now p }
+{
+    let (low, high) = gap(links, sheet, p);
+    let share = ((high - low) / PUT_SHARE).max(1);
+    match growth {
+        Growth::Onwards => low + share,
+        Growth::Backwards => high - share,
+        Growth::Anywhere => low + (high - low) / 2,
+    }
+}
+
+/// Moves `x` right after `p`, where the group of `p` can take it, with a label of the gap.
+pub fn move_item(
+    links: &mut Links,
+    sheet: &mut Sheet,
+    groups: &mut Groups,
+    x: u32,
+    p: u32,
+    label: u32,
+)
     requires sound { IsSound links.old sheet.old }
     requires small { links.old.size ≤ ITEMS }
     requires p_in { member p links.old.list ≡ true }
@@ -114,7 +152,8 @@ pub fn move_item(links: &mut Links, sheet: &mut Sheet, groups: &mut Groups, x: u
     requires differ { x ≢ p }
     requires tallied { AreSizes links.old sheet.old groups.old }
     requires takes { TakesItem links.old sheet.old x p }
-    requires gap { HasLabelAfter links.old sheet.old p }
+    requires low { bottom_at links.old sheet.old p < label }
+    requires high { label < end_after links.old sheet.old p }
     requires version { version_at sheet.old (1 + x) < LAST_VERSION }
     requires room { length sheet.old.writes < sheet.old.room }
     ensures size { links.new.size ≡ links.old.size }
@@ -128,8 +167,7 @@ pub fn move_item(links: &mut Links, sheet: &mut Sheet, groups: &mut Groups, x: u
 {
     let from = ItemWord::of(sheet.word(1 + x)).group;
     let to = ItemWord::of(sheet.word(1 + p)).group;
-    let (low, high) = gap(links, sheet, p);
-    put(links, sheet, x, p, low + (high - low) / 2);
+    put(links, sheet, x, p, label);
     groups.enter(to);
     if from != 0 {
         groups.leave(from);

@@ -11,7 +11,7 @@ use crate::groups::Groups;
 use crate::halve::make_group_room;
 use crate::limits::ITEM_WRITES;
 use crate::opening::{link, opening_words};
-use crate::place::{move_item, pair_below, take_item};
+use crate::place::{Growth, label_after, move_item, pair_below, take_item};
 use crate::room::make_room;
 use crate::scratch::Scratch;
 use crate::sheet::{Sheet, Write};
@@ -35,6 +35,28 @@ pub struct PlainOrder {
     scratch: Scratch,
     opening: Vec<u64>,
     fixed: u32,
+    last: LastPut,
+}
+
+/// The put before this one, by which puts in a row are known: which item it put, and after which.
+/// Nothing but the choice of a label depends on it.
+#[derive(Clone, Copy, Drop)]
+struct LastPut {
+    item: u32,
+    after: u32,
+}
+
+impl LastPut {
+    /// How a put right after `p` follows this one.
+    fn growth(self, p: u32) -> Growth {
+        if p == self.item {
+            Growth::Onwards
+        } else if p == self.after {
+            Growth::Backwards
+        } else {
+            Growth::Anywhere
+        }
+    }
 }
 
 impl Model for PlainOrder {
@@ -92,6 +114,10 @@ impl PlainOrder {
             scratch,
             opening,
             fixed: shape.fixed,
+            last: LastPut {
+                item: shape.items,
+                after: shape.items,
+            },
         })
     }
 
@@ -135,12 +161,15 @@ impl PlainOrder {
             sheet,
             groups,
             scratch,
+            last,
             ..
         } = self;
         sheet.clear();
         make_group_room(links, sheet, groups, scratch, x, p);
         make_room(links, sheet, p);
-        move_item(links, sheet, groups, x, p);
+        let label = label_after(links, sheet, p, last.growth(p));
+        move_item(links, sheet, groups, x, p, label);
+        *last = LastPut { item: x, after: p };
     }
 
     /// Takes `x` out, by one write.

@@ -65,7 +65,7 @@ fn check_middle(rt: &impl Abort, order: &mut PlainOrder)
 }
 
 #[test]
-fn a_put_takes_the_middle_of_the_gap(rt: HostRuntime) -> Result<(), Fail> {
+fn a_first_put_takes_the_middle_of_the_gap(rt: HostRuntime) -> Result<(), Fail> {
     let mut order = ascending(rt.alloc(), 2, 1)?;
     check_middle(&rt, &mut order);
     Ok(())
