@@ -1,0 +1,120 @@
+//! Reads a graph and batches of updates from standard input, and makes one batch after another, while four watchers in threads of their own
+//! read core numbers, without a lock and without waiting for a batch. At the end it writes the core numbers before the first batch and
+//! after each, and whether all that the watchers read was right.
+//!
+//! It shows how `kc_snapshot` is used: who works publishes after each batch, a reader that is told of a publish sees it, and a reader that is
+//! told nothing sees whole lists all the same, none after a later one. Which lists a watcher comes to see depends on the schedule; what the
+//! program writes does not.
+#![tactic(auto)]
+
+ghost use Rattle.std.specs.Prelude.{◌≡◌, ◌≤◌, IfOk, length};
+ghost use Rattle.kc_text.specs.declared.limits.TheConstants.{MOST_BATCHES, MOST_IDS};
+
+mod watching;
+mod working;
+
+use crate::watching::{one_of, watchers_of};
+use crate::working::work;
+use anyhow::{Result, bail};
+use kc_graph::{Graph, Update, core_numbers};
+use kc_snapshot::{Blank, BoardName, open};
+use kc_text::{Input, MOST_BYTES, parse};
+use std::alloc::Global;
+use std::io::Read as _;
+use std::marker::Brand;
+use std::sync::Wait;
+use std::thread;
+use std::thread::Threads;
+
+/// How many watchers there are.
+const WATCHERS: u32 = 4;
+
+/// What was seen of a run.
+#[derive(Drop)]
+struct Seen {
+    /// The core numbers before the first batch, and after each.
+    lists: Vec<Vec<u32>>,
+    /// Whether all that the watchers read was right.
+    right: bool,
+}
+
+/// The graph and the batches of a text.
+fn read_input(rt: &HostRuntime) -> Result<Input>
+    ensures few { IfOk result (λ input. length input.ids.items ≤ MOST_IDS) }
+    ensures few_batches { IfOk result (λ input. length input.batches.items ≤ MOST_BATCHES) }
+{
+    let mut bytes = Vec::new(rt.alloc());
+    rt.stdin().read_to_end(&mut bytes)?;
+    if bytes.len() > MOST_BYTES {
+        bail!("the text is too long");
+    }
+    match parse(rt.alloc(), &bytes) {
+        Ok(input) => Ok(input),
+        Err(_) => bail!("not the text of a graph, or no memory"),
+    }
+}
+
+/// The graph with so many vertices and these edges.
+fn graph_of(alloc: Global, vertices: u32, pairs: &[(u32, u32)]) -> Result<Graph> {
+    if !pairs.iter().all(|(u, v)| u < v && *v < vertices) {
+        bail!("an edge has no two vertices");
+    }
+    Ok(Graph::from_pairs(alloc, vertices, pairs)?)
+}
+
+/// Makes the batches in a graph, while watchers read its core numbers.
+fn watch_batches<J: BoardName + Send + Sync, R: Threads + Wait + Sync>(
+    rt: &R,
+    alloc: Global,
+    blank: Blank,
+    graph: Graph,
+    batches: &[Vec<Update>],
+) -> Result<Seen>
+    requires blank { blank ≡ J.book }
+    requires few { length batches.now ≤ MOST_BATCHES }
+{
+    let first = core_numbers(alloc, &graph)?;
+    let (publisher, mut readers) = open::<J, &R>(rt, alloc, blank, &first, WATCHERS + 1)?;
+    let Some(told) = one_of(&mut readers, &first) else {
+        bail!("there is no reader");
+    };
+    let mut watchers = watchers_of(alloc, readers, &first, graph.vertices())?;
+    let (worked, ()) = thread::join(
+        rt,
+        || work(rt, alloc, graph, publisher, told, batches),
+        || thread::for_each_mut(
+            rt,
+            watchers.as_mut_slice(),
+            WATCHERS as usize,
+            &|_, watcher| watcher.watch(rt),
+        ),
+    );
+    let (publisher, lists) = worked?;
+    publisher.end();
+    let right = watchers.iter().all(|watcher| watcher.is_right(&lists));
+    Ok(Seen { lists, right })
+}
+
+/// Writes each list of core numbers.
+fn write_lists(rt: &HostRuntime, lists: &[Vec<u32>]) -> Result<()> {
+    for (number, list) in lists.iter().enumerate() {
+        print!(rt; "list {number}:")?;
+        for core in list {
+            print!(rt; " {core}")?;
+        }
+        println!(rt; "")?;
+    }
+    Ok(())
+}
+
+fn main(rt: HostRuntime) -> Result<()> {
+    let input = read_input(&rt)?;
+    let graph = graph_of(rt.alloc(), input.ids.len() as u32, &input.start)?;
+    let seen = watch_batches::<Brand, _>(&rt, rt.alloc(), Blank::new(), graph, &input.batches)?;
+    write_lists(&rt, &seen.lists)?;
+    if !seen.right {
+        bail!("a watcher read what was not published");
+    }
+    println!(rt; "what the watchers read was right")?;
+    Ok(())
+}
