@@ -4,7 +4,7 @@
     python3 bench/check_map.py
 
 A row has a promise and five cells of names in backticks, parted by commas: functions, definitions, lemmas, edits and tests.
-A name that is not found is printed with its line, and the status is 1 then.
+A name that is not found is printed with its line, and the status is 1 then. Edits that stand in no row are named too.
 """
 import pathlib
 import re
@@ -79,9 +79,14 @@ def faults_of_row(crate, cells):
         yield from (f"no {kind} {name} in {crate}" for name in names if not is_there(crate, name))
 
 
+def edits_without_a_row(text):
+    return [f"in no row: {path.relative_to(TOP)}" for path in sorted(CRATES.glob("*/must-fail/*.edit")) if f"`{path.stem}`" not in text]
+
+
 def main():
     crate, rows, faults = "", 0, []
-    for place, line in enumerate(text_of(TOP / "docs" / "MAP.md").splitlines(), 1):
+    text = text_of(TOP / "docs" / "MAP.md")
+    for place, line in enumerate(text.splitlines(), 1):
         if line.startswith("## "):
             crate = line[3:].strip()
         cells = line.split("|")[2:-1]
@@ -90,7 +95,7 @@ def main():
         rows += 1
         wrong = list(faults_of_row(crate, cells)) if len(cells) == len(KINDS) else [f"{len(cells)} cells of names"]
         faults += [f"docs/MAP.md:{place}: {fault}" for fault in wrong]
-    print("\n".join(faults + [f"{rows} rows, {len(faults)} names that are not found"]))
+    print("\n".join(faults + edits_without_a_row(text) + [f"{rows} rows, {len(faults)} names that are not found"]))
     return 1 if faults or not rows else 0
 
 
