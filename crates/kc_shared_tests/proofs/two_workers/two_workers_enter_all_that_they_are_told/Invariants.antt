@@ -1,5 +1,5 @@
 -- K names the table of the parts, and all that is so of their journal now.
-use Rattle.kc_shared.proofs.tests.two_workers_enter_all_that_they_are_told.Given as goal
+use Rattle.kc_shared_tests.proofs.two_workers.two_workers_enter_all_that_they_are_told.Given as goal
 
 abbrev pub ghosts-go_over_by_two-K-Name : goal.ghosts-go_over_by_two-K-Name
 ghosts-go_over_by_two-K-Name g a = record {

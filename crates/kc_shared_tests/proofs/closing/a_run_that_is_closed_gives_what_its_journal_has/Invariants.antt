@@ -1,5 +1,5 @@
 -- K names the table of the parts, and all that is so of their journal now.
-use Rattle.kc_shared.proofs.tests.a_run_that_is_closed_gives_what_its_journal_has.Given as goal
+use Rattle.kc_shared_tests.proofs.closing.a_run_that_is_closed_gives_what_its_journal_has.Given as goal
 
 abbrev pub ghosts-enter_alone-K-Name : goal.ghosts-enter_alone-K-Name
 ghosts-enter_alone-K-Name g a = record {

@@ -1,7 +1,7 @@
 -- The plan was made of what the pass has seen then.
 use Rattle.kc_stripes.specs.Records.{opened_with}
 use Rattle.kc_shared.proofs.Reading.{read-now}
-use Rattle.kc_shared.proofs.tests.Worker.plan.Goals as goal
+use Rattle.kc_shared_tests.proofs.worker.Worker.plan.Goals as goal
 
 pub returns-in-Ok-clause-read : goal.returns-in-Ok-clause-read
 returns-in-Ok-clause-read g c =

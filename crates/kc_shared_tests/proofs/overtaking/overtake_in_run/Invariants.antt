@@ -1,5 +1,5 @@
 -- K names the table of the parts, and all that is so of their journal now.
-use Rattle.kc_shared.proofs.tests.a_plan_that_is_overtaken_is_refused_also_in_a_fresh_table.Given as goal
+use Rattle.kc_shared_tests.proofs.overtaking.overtake_in_run.Given as goal
 
 abbrev pub ghosts-overtake_alone-K-Name : goal.ghosts-overtake_alone-K-Name
 ghosts-overtake_alone-K-Name g a = record {

@@ -14,9 +14,9 @@ use Rattle.std.proofs.sync.ledger.Share.TheSendSync as share
 use Rattle.kc_table.specs.declared.name.Name as name
 use Rattle.kc_view.specs.contracts.scratch.Scratch as scratch
 use Rattle.kc_stripes.proofs.Crossing.{captures_send, pass_send}
-use Rattle.kc_shared.specs.contracts.tests.Worker as worker
+use Rattle.kc_shared_tests.specs.contracts.worker.Worker as worker
 use Rattle.kc_shared.proofs.Crossing.{shared_sync}
-use Rattle.kc_shared.proofs.tests.go_over_by_two.Goals as goal
+use Rattle.kc_shared_tests.proofs.two_workers.go_over_by_two.Goals as goal
 
 scratch_send : IsSend scratch.the_row
 scratch_send = search (sendable, crosses) depth 20

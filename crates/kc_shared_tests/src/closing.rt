@@ -1,0 +1,55 @@
+//! A run that is closed after one worker has entered an update.
+ghost use Rattle.std.specs.Prelude.{◌≡◌};
+
+use crate::runs::run_of;
+use crate::worker::Worker;
+use kc_graph::Update;
+use kc_shared::{Parts, Shared};
+use kc_table::{Name, Pass, shape};
+use std::marker::Brand;
+use std::process::Abort;
+use std::sync::Wait;
+use std::sync::ledger::{Blank, Ledger};
+use std::test::Fail;
+
+/// One worker enters an update, and gives the parts again with its pass.
+fn enter_alone<K: Name + Ledger, R: Wait + Abort + AllocGlobal>(
+    rt: &R,
+    parts: Parts,
+    pass: Pass,
+    blank: Blank,
+    update: Update,
+) -> Result<(Parts, Pass), Fail>
+    requires table { (parts.words ≡ K.table) × (pass.table ≡ K.table) }
+    requires opened { (parts.journal.opened ≡ K.opening_edges) × (parts.journal.opening_stamps ≡ K.opening_stamps) }
+    requires started { parts.journal.started ≡ K.start_edges }
+    requires now { (parts.journal.levels.log ≡ K.log) × (parts.journal.entries ≡ K.entries) }
+    requires ledger { (blank.name ≡ K.name) × (blank.parts ≡ K.parts) × (K.parts ≡ 1) }
+{
+    assert!(rt; update.v < shape(&parts.words).fixed);
+    let Ok((shared, part)) = Shared::<K>::new(rt.alloc(), parts, blank) else {
+        return Err("no memory".into());
+    };
+    let mut worker = Worker::hire(rt, &shared.words, pass, part)?;
+    worker.enter_at_last(rt, &shared, 0, update);
+    let Worker { pass, part, .. } = worker;
+    Ok((shared.into_parts(part), pass))
+}
+
+#[test]
+fn a_run_that_is_closed_gives_what_its_journal_has(rt: HostRuntime) -> Result<(), Fail> {
+    let clique = [(0, 1), (0, 2), (0, 3), (1, 2), (1, 3), (2, 3)];
+    let (parts, pass) = run_of(&rt, 4, &clique)?;
+    let removal = Update {
+        add: false,
+        u: 0,
+        v: 1,
+    };
+    let (parts, pass) = enter_alone::<Brand, _>(&rt, parts, pass, Blank::new(1), removal)?;
+    let passes = vec![in rt.alloc(); pass]?;
+    let lawful = parts.close(rt.alloc(), passes)?;
+    assert_eq!(rt; lawful.graph().edges(), 5);
+    assert_eq!(rt; lawful.core(), [2, 2, 2, 2].as_slice());
+    assert_eq!(rt; lawful.order(), [0, 1, 2, 3].as_slice());
+    Ok(())
+}

@@ -1,0 +1,172 @@
+//! Plans that are overtaken, also over a table that the run has gone on in.
+ghost use Rattle.std.specs.Prelude.{◌≡◌, ◌<◌, IfOk};
+
+use crate::runs::{assert_decomposed, run_of};
+use crate::worker::Worker;
+use kc_graph::Update;
+use kc_journal::Receipt;
+use kc_shared::{Parts, Shared, SharedFault};
+use kc_table::{Name, Pass, shape};
+use kc_words::INDICES;
+use std::marker::Brand;
+use std::process::Abort;
+use std::sync::Wait;
+use std::sync::ledger::{Blank, Ledger};
+use std::test::Fail;
+
+/// A plan that is overtaken: `late` is planned, and then `early` is entered, with this number. The plan is refused so.
+#[derive(Clone, Copy)]
+struct Overtaken {
+    late: Update,
+    early: Update,
+    place: u32,
+    refused: SharedFault,
+}
+
+/// The receipt of an update that has changed the graph.
+fn applied(index: u32, place: u32) -> Result<Receipt, SharedFault> {
+    Ok(Receipt {
+        index,
+        place,
+        applied: true,
+    })
+}
+
+/// A plan that is overtaken is refused, and one that is made anew is entered.
+fn overtake<K: Name + Ledger, R: Wait + Abort + AllocGlobal>(
+    rt: &R,
+    shared: &Shared<K>,
+    worker: &mut Worker<K>,
+    overtaken: Overtaken,
+)
+    requires late { overtaken.late.v < K.table.shape.fixed }
+    requires early { overtaken.early.v < K.table.shape.fixed }
+    requires place { overtaken.place < INDICES }
+{
+    let Overtaken {
+        late,
+        early,
+        place,
+        refused,
+    } = overtaken;
+    let before = worker.plan_alone(rt, shared, late);
+    let first = worker.plan_alone(rt, shared, early);
+    assert_eq!(rt; worker.enter(rt, shared, 0, &first), applied(0, place));
+    assert_eq!(rt; worker.enter(rt, shared, 1, &before), Err(refused));
+    let anew = worker.plan_alone(rt, shared, late);
+    assert_eq!(rt; worker.enter(rt, shared, 1, &anew), applied(1, place + 1));
+}
+
+/// One worker does so, and gives the parts again with its pass.
+fn overtake_alone<K: Name + Ledger, R: Wait + Abort + AllocGlobal>(
+    rt: &R,
+    parts: Parts,
+    pass: Pass,
+    blank: Blank,
+    overtaken: Overtaken,
+) -> Result<(Parts, Pass), Fail>
+    requires table { (parts.words ≡ K.table) × (pass.table ≡ K.table) }
+    requires opened { (parts.journal.opened ≡ K.opening_edges) × (parts.journal.opening_stamps ≡ K.opening_stamps) }
+    requires started { parts.journal.started ≡ K.start_edges }
+    requires now { (parts.journal.levels.log ≡ K.log) × (parts.journal.entries ≡ K.entries) }
+    requires ledger { (blank.name ≡ K.name) × (blank.parts ≡ K.parts) × (K.parts ≡ 1) }
+    ensures { IfOk result (λ r. r.1.table ≡ r.0.words) }
+{
+    let vertices = shape(&parts.words).fixed;
+    assert!(rt;
+        overtaken.late.v < vertices && overtaken.early.v < vertices && overtaken.place < INDICES
+    );
+    let Ok((shared, part)) = Shared::<K>::new(rt.alloc(), parts, blank) else {
+        return Err("no memory".into());
+    };
+    let mut worker = Worker::hire(rt, &shared.words, pass, part)?;
+    overtake(rt, &shared, &mut worker, overtaken);
+    let Worker { pass, part, .. } = worker;
+    Ok((shared.into_parts(part), pass))
+}
+
+/// One worker does so in a run that nobody else has a part of.
+fn overtake_in_run<R: Wait + Abort + AllocGlobal>(
+    rt: &R,
+    parts: Parts,
+    pass: Pass,
+    overtaken: Overtaken,
+) -> Result<(Parts, Pass), Fail>
+    requires { pass.table ≡ parts.words }
+    ensures { IfOk result (λ r. r.1.table ≡ r.0.words) }
+{
+    overtake_alone::<Brand, R>(rt, parts, pass, Blank::new(1), overtaken)
+}
+
+/// The run goes on in a fresh table, whose base is the number of its entries.
+fn renew<R: Abort + AllocGlobal>(
+    rt: &R,
+    mut parts: Parts,
+    pass: Pass,
+    base: u32,
+) -> Result<(Parts, Pass), Fail>
+    requires { pass.table ≡ parts.words }
+    ensures { IfOk result (λ r. r.1.table ≡ r.0.words) }
+{
+    let mut passes = vec![in rt.alloc(); pass]?;
+    parts.renew(rt.alloc(), &mut passes)?;
+    assert_eq!(rt; shape(&parts.words).base, base);
+    match passes.pop() {
+        Some(pass) => Ok((parts, pass)),
+        None => Err("there was one pass".into()),
+    }
+}
+
+/// The run has these edges among four vertices, with the core numbers that belong to them, these edge stamps, and so many entries.
+fn assert_run<R: Abort + AllocGlobal>(
+    rt: &R,
+    parts: &Parts,
+    edges: &[(u32, u32)],
+    stamps: &[u32],
+    entries: usize,
+) -> Result<(), Fail> {
+    assert_decomposed(rt, &parts.journal, 4, edges)?;
+    assert_eq!(rt; parts.journal.edge_stamps().as_slice(), stamps);
+    assert_eq!(rt; parts.journal.entries().len(), entries);
+    Ok(())
+}
+
+/// The update that is planned first is to add an edge of vertex 0; before it the other one removes one. The plan has read the list of
+/// vertex 0 with the stamp `used`, and the other one is the entry after it.
+fn of_vertex_0(late: u32, early: u32, used: u32) -> Overtaken
+    requires { (0 < late) × (0 < early) × (used < 4) }
+{
+    let now = used + 1;
+    Overtaken {
+        late: Update {
+            add: true,
+            u: 0,
+            v: late,
+        },
+        early: Update {
+            add: false,
+            u: 0,
+            v: early,
+        },
+        place: now,
+        refused: SharedFault::Stale {
+            vertex: 0,
+            edges: true,
+            used,
+            now,
+        },
+    }
+}
+
+#[test]
+fn a_plan_that_is_overtaken_is_refused_also_in_a_fresh_table(rt: HostRuntime) -> Result<(), Fail> {
+    let (parts, pass) = run_of(&rt, 4, &[(0, 1), (2, 3)])?;
+    let (parts, pass) = overtake_in_run(&rt, parts, pass, of_vertex_0(2, 1, 0))?;
+    assert_run(&rt, &parts, &[(0, 2), (2, 3)], &[2, 1, 2, 0], 2)?;
+
+    let (parts, pass) = renew(&rt, parts, pass, 2)?;
+    assert_run(&rt, &parts, &[(0, 2), (2, 3)], &[2, 1, 2, 0], 2)?;
+
+    let (parts, _) = overtake_in_run(&rt, parts, pass, of_vertex_0(3, 2, 2))?;
+    assert_run(&rt, &parts, &[(0, 3), (2, 3)], &[4, 1, 3, 4], 4)
+}

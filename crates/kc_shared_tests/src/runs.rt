@@ -1,0 +1,63 @@
+//! Runs on small graphs, and what their journals have.
+ghost use Rattle.std.specs.Prelude.{◌≡◌, ◌≤◌, IfOk};
+
+use kc_graph::{Graph, Lawful, decompose_owned};
+use kc_journal::Journal;
+use kc_shared::Parts;
+use kc_table::Pass;
+use kc_words::VERTICES;
+use std::process::Abort;
+use std::test::Fail;
+
+/// The graph with these edges, each with its lesser end first.
+fn graph_of<R: Abort + AllocGlobal>(
+    rt: &R,
+    vertices: u32,
+    edges: &[(u32, u32)],
+) -> Result<Graph, Fail>
+    ensures { IfOk result (λ graph. graph.size ≡ vertices) }
+{
+    let mut graph = Graph::new(rt.alloc(), vertices)?;
+    for (u, v) in edges {
+        assert!(rt; *u < *v && *v < vertices);
+        graph.add(*u, *v)?;
+    }
+    Ok(graph)
+}
+
+/// A run that begins with these edges.
+pub(crate) fn run_of<R: Abort + AllocGlobal>(
+    rt: &R,
+    vertices: u32,
+    edges: &[(u32, u32)],
+) -> Result<(Parts, Pass), Fail>
+    requires { vertices ≤ VERTICES }
+    ensures { IfOk result (λ r. r.1.table ≡ r.0.words) }
+{
+    let graph = graph_of(rt, vertices, edges)?;
+    Ok(Parts::open(rt.alloc(), decompose_owned(rt.alloc(), graph)?, 0)?)
+}
+
+/// The journal has these edges, and the core numbers that `decompose` finds for them.
+pub(crate) fn assert_decomposed<R: Abort + AllocGlobal>(
+    rt: &R,
+    journal: &Journal,
+    vertices: u32,
+    edges: &[(u32, u32)],
+) -> Result<(), Fail> {
+    let lawful = decompose_owned(rt.alloc(), graph_of(rt, vertices, edges)?)?;
+    assert_eq!(rt; journal.graph().vertices(), vertices);
+    assert_same(rt, journal, &lawful);
+    Ok(())
+}
+
+/// Graph and core numbers are those.
+fn assert_same<R: Abort>(rt: &R, journal: &Journal, lawful: &Lawful) {
+    journal.look();
+    let vertices = journal.graph().vertices();
+    assert_eq!(rt; lawful.graph().vertices(), vertices);
+    for v in 0..vertices {
+        assert_eq!(rt; journal.graph().neighbours(v), lawful.graph().neighbours(v));
+        assert_eq!(rt; journal.core(v), lawful.core()[v as usize]);
+    }
+}

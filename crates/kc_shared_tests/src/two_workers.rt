@@ -1,0 +1,74 @@
+//! Two workers that enter updates at once.
+ghost use Rattle.std.specs.Prelude.{◌≡◌};
+
+use crate::runs::{assert_decomposed, run_of};
+use crate::worker::Worker;
+use kc_shared::{Parts, Shared};
+use kc_table::{Name, Pass, split};
+use std::marker::Brand;
+use std::process::Abort;
+use std::sync::Wait;
+use std::sync::ledger::{Blank, Ledger};
+use std::test::Fail;
+use std::thread;
+use std::thread::Threads;
+
+/// The edges that two workers begin with.
+const START: [(u32, u32); 2] = [(0, 3), (1, 4)];
+
+/// The edges that one of them adds and removes in turn.
+const FIRST: [(u32, u32); 3] = [(0, 1), (0, 2), (1, 2)];
+
+/// Those of the other: both have vertex 2.
+const SECOND: [(u32, u32); 3] = [(2, 3), (2, 4), (3, 4)];
+
+/// All of them.
+const AT_LAST: [(u32, u32); 8] = [
+    (0, 1),
+    (0, 2),
+    (0, 3),
+    (1, 2),
+    (1, 4),
+    (2, 3),
+    (2, 4),
+    (3, 4),
+];
+
+/// Two workers enter updates at once, until all are entered.
+fn go_over_by_two<K: Name + Ledger + Send + Sync, R: Threads + Wait + Abort + AllocGlobal + Sync>(
+    rt: &R,
+    parts: Parts,
+    mut pass: Pass,
+    blank: Blank,
+) -> Result<Parts, Fail>
+    requires table { (parts.words ≡ K.table) × (pass.table ≡ K.table) }
+    requires opened { (parts.journal.opened ≡ K.opening_edges) × (parts.journal.opening_stamps ≡ K.opening_stamps) }
+    requires started { parts.journal.started ≡ K.start_edges }
+    requires now { (parts.journal.levels.log ≡ K.log) × (parts.journal.entries ≡ K.entries) }
+    requires ledger { (blank.name ≡ K.name) × (blank.parts ≡ K.parts) × (K.parts ≡ 2) }
+{
+    let Ok((shared, mut part)) = Shared::<K>::new(rt.alloc(), parts, blank) else {
+        return Err("no memory".into());
+    };
+    let lent = &shared;
+    let other = split(&shared.words, &mut pass);
+    let second = Worker::hire(rt, &shared.words, other, part.split_off(1, 0))?;
+    let first = Worker::hire(rt, &shared.words, pass, part)?;
+    let (first, second) = thread::join(
+        rt,
+        move || first.go_over(rt, lent, &FIRST),
+        move || second.go_over(rt, lent, &SECOND),
+    );
+    let Worker { mut part, .. } = first;
+    part.merge(second.part);
+    Ok(shared.into_parts(part))
+}
+
+#[test]
+fn two_workers_enter_all_that_they_are_told(rt: HostRuntime) -> Result<(), Fail> {
+    let (parts, pass) = run_of(&rt, 5, &START)?;
+    let parts = go_over_by_two::<Brand, _>(&rt, parts, pass, Blank::new(2))?;
+    assert_decomposed(&rt, &parts.journal, 5, &AT_LAST)?;
+    assert_eq!(rt; parts.journal.entries().len(), 606);
+    Ok(())
+}
