@@ -14,8 +14,6 @@ mod entering;
 mod fault;
 mod gate;
 mod share;
-#[cfg(test)]
-mod tests;
 mod updating;
 mod worker;
 

@@ -1,5 +1,5 @@
 -- The names are those of the parts that are shared.
-use Rattle.kc_workers.proofs.tests.one_worker_enters_each_update_at_its_first_try.Given as goal
+use Rattle.kc_workers_tests.proofs.alone.one_worker_enters_each_update_at_its_first_try.Given as goal
 
 abbrev pub ghosts-enter_alone-K-Name : goal.ghosts-enter_alone-K-Name
 ghosts-enter_alone-K-Name g a = record {

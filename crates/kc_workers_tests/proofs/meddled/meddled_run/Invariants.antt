@@ -1,5 +1,5 @@
 -- The names are those of the parts that are shared.
-use Rattle.kc_workers.proofs.tests.an_update_is_entered_under_the_lock_after_four_misses.Given as goal
+use Rattle.kc_workers_tests.proofs.meddled.meddled_run.Given as goal
 
 abbrev pub ghosts-enter_meddled-K-Name : goal.ghosts-enter_meddled-K-Name
 ghosts-enter_meddled-K-Name g a = record {

@@ -1,0 +1,94 @@
+//! Updates of one worker, which nobody overtakes.
+ghost use Rattle.std.specs.Prelude.{◌≡◌, ◌<◌};
+
+use crate::runs::{assert_entered, change, enter, hired, two_edges};
+use kc_graph::Update;
+use kc_shared::{Parts, Shared};
+use kc_table::{Name, Pass};
+use kc_workers::{NoGate, Worker};
+use std::marker::Brand;
+use std::process::Abort;
+use std::sync::Wait;
+use std::sync::ledger::{Blank, Ledger, Share};
+use std::test::Fail;
+
+/// An update is entered at its first try, as the entry after those of the updates before it.
+fn enter_at_once<K: Name + Ledger, R: Wait + Abort + AllocGlobal>(
+    rt: &R,
+    shared: &Shared<K>,
+    worker: &mut Worker,
+    part: &mut Share<K>,
+    index: u32,
+    change: Update,
+    applied: bool,
+) -> Result<(), Fail>
+    requires table { worker.old.table ≡ K.table }
+    requires part { 0 < part.old.parts }
+    requires index { index < 4 }
+    ensures table { worker.new.table ≡ K.table }
+    ensures parts { part.new.parts ≡ part.old.parts }
+{
+    let done = enter(rt, shared, worker, part, index, change, &NoGate)?;
+    assert_entered(rt, &done, index, index + 1, applied);
+    assert!(rt; done.misses.is_empty());
+    Ok(())
+}
+
+/// One worker adds two edges, so that all four stand in a circle, and then one that is there.
+fn enter_alone<K: Name + Ledger, R: Wait + Abort + AllocGlobal>(
+    rt: &R,
+    parts: Parts,
+    blank: Blank,
+    pass: Pass,
+) -> Result<Parts, Fail>
+    requires words { (parts.words ≡ K.table) × (pass.table ≡ K.table) }
+    requires opened { (parts.journal.opened ≡ K.opening_edges) × (parts.journal.opening_stamps ≡ K.opening_stamps) }
+    requires started { parts.journal.started ≡ K.start_edges }
+    requires now { (parts.journal.levels.log ≡ K.log) × (parts.journal.entries ≡ K.entries) }
+    requires ledger { (blank.name ≡ K.name) × (blank.parts ≡ K.parts) }
+    requires some { 0 < K.parts }
+{
+    let Ok((shared, mut part)) = Shared::<K>::new(rt.alloc(), parts, blank) else {
+        return Err("no memory".into());
+    };
+    let shared_ = &shared;
+    let mut worker = hired(rt.alloc(), &shared.words, pass)?;
+    enter_at_once(
+        rt,
+        shared_,
+        &mut worker,
+        &mut part,
+        0,
+        change(true, 0, 2),
+        true,
+    )?;
+    enter_at_once(
+        rt,
+        shared_,
+        &mut worker,
+        &mut part,
+        1,
+        change(true, 1, 3),
+        true,
+    )?;
+    enter_at_once(
+        rt,
+        shared_,
+        &mut worker,
+        &mut part,
+        2,
+        change(true, 0, 1),
+        false,
+    )?;
+    Ok(shared.into_parts(part))
+}
+
+#[test]
+fn one_worker_enters_each_update_at_its_first_try(rt: HostRuntime) -> Result<(), Fail> {
+    let (parts, pass) = two_edges(rt.alloc())?;
+    let parts = enter_alone::<Brand, _>(&rt, parts, Blank::new(1), pass)?;
+    assert_eq!(rt; parts.journal.entries().len(), 3);
+    assert_eq!(rt; parts.journal.graph().edges(), 4);
+    assert_eq!(rt; parts.journal.top(), 2);
+    Ok(())
+}

@@ -1,0 +1,160 @@
+//! An update that another worker overtakes before each of its first tries.
+ghost use Rattle.std.specs.Prelude.{◌≡◌, ◌<◌, OnOk};
+
+use crate::runs::{assert_entered, change, enter, hired, two_edges};
+use kc_shared::{Missed, Parts, Shared};
+use kc_table::{Name, Pass, shape, split};
+use kc_workers::{Done, Gate, NoGate, Worker, update};
+use std::alloc::Global;
+use std::marker::Brand;
+use std::process::Abort;
+use std::sync::ledger::{Blank, Ledger, Share};
+use std::sync::{Mutex, Wait};
+use std::test::Fail;
+
+/// What the other worker keeps from one call of the gate to the next.
+#[derive(Drop)]
+struct Other<K: Name + Ledger> {
+    worker: Worker,
+    part: Share<K>,
+    calls: u32,
+    ghost table: { worker.table ≡ K.table },
+    ghost parts: { part.parts ≡ 1 },
+}
+
+/// A gate that removes and adds the edge between 0 and 1 in turn, at its first so many calls.
+#[derive(Drop)]
+struct Meddling<'a, K: Name + Ledger, R: Wait> {
+    rt: &'a R,
+    alloc: Global,
+    shared: &'a Shared<K>,
+    most: u32,
+    other: Mutex<Other<K>>,
+}
+
+impl<K: Name + Ledger, R: Wait> Gate for Meddling<'_, K, R> {
+    fn before_enter(&self, _worker: u32, _index: u32) {
+        let mut other = self.other.lock(self.rt);
+        let Other {
+            worker,
+            part,
+            calls,
+        } = &mut *other;
+        if *calls < self.most && shape(&self.shared.words).fixed > 1 {
+            let turn = change(*calls % 2 == 1, 0, 1);
+            *calls += 1;
+            let _ = update(
+                self.rt,
+                self.alloc,
+                self.shared,
+                worker,
+                part,
+                1,
+                3,
+                turn,
+                &NoGate,
+            );
+        }
+    }
+}
+
+/// Adds the edge between 0 and 2 while another worker, which takes one of the two parts, enters an update before each of the first so many
+/// tries.
+fn enter_beside<K: Name + Ledger, R: Wait + Abort + AllocGlobal>(
+    rt: &R,
+    shared: &Shared<K>,
+    part: &mut Share<K>,
+    mut pass: Pass,
+    most: u32,
+) -> Result<Done, Fail>
+    requires table { pass.table ≡ K.table }
+    requires two { part.old.parts ≡ 2 }
+    ensures { OnOk result (part.new.parts ≡ 2) }
+{
+    let alloc = rt.alloc();
+    let theirs = split(&shared.words, &mut pass);
+    let mut worker = hired(alloc, &shared.words, pass)?;
+    let gate = Meddling {
+        rt,
+        alloc,
+        shared,
+        most,
+        other: Mutex::new(Other {
+            worker: hired(alloc, &shared.words, theirs)?,
+            part: part.split_off(1, 0),
+            calls: 0,
+        }),
+    };
+    let done = enter(rt, shared, &mut worker, part, 0, change(true, 0, 2), &gate)?;
+    let other = gate.other.into_inner();
+    assert_eq!(rt; other.calls, most);
+    part.merge(other.part);
+    Ok(done)
+}
+
+/// The same in a run that nobody else has a part of.
+fn enter_meddled<K: Name + Ledger, R: Wait + Abort + AllocGlobal>(
+    rt: &R,
+    parts: Parts,
+    blank: Blank,
+    pass: Pass,
+    most: u32,
+) -> Result<(Done, Parts), Fail>
+    requires words { (parts.words ≡ K.table) × (pass.table ≡ K.table) }
+    requires opened { (parts.journal.opened ≡ K.opening_edges) × (parts.journal.opening_stamps ≡ K.opening_stamps) }
+    requires started { parts.journal.started ≡ K.start_edges }
+    requires now { (parts.journal.levels.log ≡ K.log) × (parts.journal.entries ≡ K.entries) }
+    requires ledger { (blank.name ≡ K.name) × (blank.parts ≡ K.parts) }
+    requires two { K.parts ≡ 2 }
+{
+    let Ok((shared, mut part)) = Shared::<K>::new(rt.alloc(), parts, blank) else {
+        return Err("no memory".into());
+    };
+    let done = enter_beside(rt, &shared, &mut part, pass, most)?;
+    Ok((done, shared.into_parts(part)))
+}
+
+/// The same in a run on two edges.
+fn meddled_run<R: Wait + Abort + AllocGlobal>(rt: &R, most: u32) -> Result<(Done, Parts), Fail> {
+    let (parts, pass) = two_edges(rt.alloc())?;
+    enter_meddled::<Brand, R>(rt, parts, Blank::new(2), pass, most)
+}
+
+/// The run has so many entries, and these edge stamps.
+fn assert_run<R: Abort>(rt: &R, parts: &Parts, entries: usize, stamps: &[u32]) {
+    assert_eq!(rt; parts.journal.entries().len(), entries);
+    assert_eq!(rt; parts.journal.edge_stamps().as_slice(), stamps);
+}
+
+/// The miss of a plan that has read the list of vertex 0 under this number.
+fn overtaken(used: u32) -> Missed
+    requires { used < 4 }
+{
+    Missed::Stale {
+        vertex: 0,
+        edges: true,
+        used,
+        now: used + 1,
+    }
+}
+
+#[test]
+fn an_update_is_entered_under_the_lock_after_four_misses(rt: HostRuntime) -> Result<(), Fail> {
+    let (done, parts) = meddled_run(&rt, 5)?;
+    assert_entered(&rt, &done, 0, 6, true);
+    let expected = [overtaken(0), overtaken(1), overtaken(2), overtaken(3)];
+    assert_eq!(rt; done.misses.as_slice(), expected.as_slice());
+    assert_run(&rt, &parts, 6, &[6, 5, 6, 0]);
+    Ok(())
+}
+
+#[test]
+fn an_update_that_was_overtaken_once_is_entered_at_its_second_try(
+    rt: HostRuntime,
+) -> Result<(), Fail> {
+    let (done, parts) = meddled_run(&rt, 1)?;
+    assert_entered(&rt, &done, 0, 2, true);
+    assert_eq!(rt; done.misses.as_slice(), [overtaken(0)].as_slice());
+    assert_run(&rt, &parts, 2, &[2, 1, 2, 0]);
+    Ok(())
+}

@@ -1,0 +1,74 @@
+//! A run on two edges, and an update of one of its workers.
+ghost use Rattle.std.specs.Prelude.{◌≡◌, ◌<◌, IfOk};
+
+use kc_graph::{Graph, Update, decompose_owned};
+use kc_journal::Receipt;
+use kc_shared::{Parts, Shared};
+use kc_table::{Name, Pass, Words, shape};
+use kc_workers::{Done, Gate, Worker, update};
+use std::alloc::Global;
+use std::process::Abort;
+use std::sync::Wait;
+use std::sync::ledger::{Ledger, Share};
+use std::test::Fail;
+
+/// A run that begins with the edges 0 1 and 2 3: all core numbers are 1, and the order is 0, 1, 2, 3.
+pub(crate) fn two_edges(alloc: Global) -> Result<(Parts, Pass), Fail>
+    ensures { IfOk result (λ r. r.1.table ≡ r.0.words) }
+{
+    let mut graph = Graph::new(alloc, 4)?;
+    graph.add(0, 1)?;
+    graph.add(2, 3)?;
+    Ok(Parts::open(alloc, decompose_owned(alloc, graph)?, 0)?)
+}
+
+/// A worker that has seen what the pass has.
+pub(crate) fn hired(alloc: Global, words: &Words, pass: Pass) -> Result<Worker, Fail>
+    requires { pass.table ≡ words.now }
+    ensures { IfOk result (λ worker. worker.table ≡ words.now) }
+{
+    match Worker::new(alloc, words, pass) {
+        Ok(worker) => Ok(worker),
+        Err(_) => Err("no memory".into()),
+    }
+}
+
+/// The update that adds or removes the edge between two vertices.
+pub(crate) fn change(add: bool, u: u32, v: u32) -> Update
+    requires { u < v }
+    ensures { result.v ≡ v }
+{
+    Update { add, u, v }
+}
+
+/// An update of worker 0.
+pub(crate) fn enter<K: Name + Ledger, G: Gate, R: Wait + Abort + AllocGlobal>(
+    rt: &R,
+    shared: &Shared<K>,
+    worker: &mut Worker,
+    part: &mut Share<K>,
+    index: u32,
+    change: Update,
+    gate: &G,
+) -> Result<Done, Fail>
+    requires table { worker.old.table ≡ K.table }
+    requires part { 0 < part.old.parts }
+    requires index { index < 4 }
+    ensures table { worker.new.table ≡ K.table }
+    ensures parts { part.new.parts ≡ part.old.parts }
+{
+    assert!(rt; change.v < shape(&shared.words).fixed);
+    Ok(update(rt, rt.alloc(), shared, worker, part, 0, index, change, gate)?)
+}
+
+/// The update with this index has that entry.
+pub(crate) fn assert_entered<R: Abort>(rt: &R, done: &Done, index: u32, place: u32, applied: bool) {
+    assert_eq!(rt;
+        done.receipt,
+        Receipt {
+            index,
+            place,
+            applied
+        }
+    );
+}
