@@ -18,14 +18,10 @@ mod crew;
 mod desk;
 mod done;
 mod errand;
-#[cfg(test)]
-mod examples;
 mod left;
 mod round;
 mod seat;
 mod standing;
-#[cfg(test)]
-mod tests;
 
 pub use batch::run_batch;
 pub use done::BatchDone;

@@ -1,12 +1,12 @@
 //! Batches of random updates, by one worker and by many, also where versions run out in the middle.
-ghost use Rattle.std.specs.Prelude.{◌≡◌, ◌<◌, ◌≤◌, All, IfOk, length};
+ghost use Rattle.std.specs.Prelude.{◌<◌, ◌≤◌, All, IfOk};
 
-use crate::run_batch;
+use crate::runs::{enter_all, open};
 use kc_graph::{Graph, Update, decompose_owned};
 use kc_shared::Parts;
-use kc_table::{Entry, Pass, Words, shape, split};
+use kc_table::Entry;
 use kc_words::LAST_VERSION;
-use kc_workers::{NoGate, Share, Worker};
+use kc_workers::NoGate;
 use std::alloc::Global;
 use std::process::Abort;
 use std::sync::Wait;
@@ -62,39 +62,6 @@ fn drawn_batch(alloc: Global, seed: u64) -> Result<Vec<Update>, Fail>
     Ok(batch)
 }
 
-/// So many workers that have seen what the pass has.
-pub(crate) fn hired(
-    alloc: Global,
-    words: &Words,
-    pass: &mut Pass,
-    count: u32,
-) -> Result<Vec<Worker>, Fail>
-    requires { pass.old.table ≡ words.now }
-    ensures { IfOk result (λ workers. All (λ w. w.table ≡ words.now) workers.items) }
-{
-    let mut workers = Vec::new(alloc);
-    for _ in 0..count {
-        let own = split(words, pass);
-        let Ok(worker) = Worker::new(alloc, words, own) else {
-            return Err("no memory".into());
-        };
-        workers.push(worker)?;
-    }
-    Ok(workers)
-}
-
-/// A run on an empty graph whose table opens with this version, and so many workers.
-fn open(alloc: Global, count: u32, version: u32) -> Result<(Parts, Vec<Worker>), Fail>
-    requires { version ≤ LAST_VERSION }
-    ensures workers { IfOk result (λ r. All (λ w. w.table ≡ r.0.words) r.1.items) }
-    ensures entries { IfOk result (λ r. length r.0.journal.entries ≡ 0) }
-{
-    let lawful = decompose_owned(alloc, Graph::new(alloc, VERTICES)?)?;
-    let (parts, mut pass) = Parts::open(alloc, lawful, version)?;
-    let workers = hired(alloc, &parts.words, &mut pass, count)?;
-    Ok((parts, workers))
-}
-
 /// The graph that the entries make of an empty one.
 fn replayed<R: Abort>(rt: &R, alloc: Global, entries: &[Entry]) -> Result<Graph, Fail> {
     let mut graph = Graph::new(alloc, VERTICES)?;
@@ -109,13 +76,12 @@ fn replayed<R: Abort>(rt: &R, alloc: Global, entries: &[Entry]) -> Result<Graph,
     Ok(graph)
 }
 
-/// How many updates stand in the shares.
-pub(crate) fn told(shares: &[Share]) -> usize {
-    let mut told = 0usize;
-    for share in shares {
-        told = told.wrapping_add(share.done.len());
-    }
-    told
+/// The core numbers are those of the graph that the entries make of an empty one.
+fn assert_replayed<R: Abort + AllocGlobal>(rt: &R, parts: &Parts) -> Result<(), Fail> {
+    let alloc = rt.alloc();
+    let lawful = decompose_owned(alloc, replayed(rt, alloc, parts.journal.entries())?)?;
+    assert_eq!(rt; parts.journal.core_numbers(), lawful.core());
+    Ok(())
 }
 
 /// A batch on an empty graph whose table opens with this version, by so many workers. Gives how many tables were ended.
@@ -124,22 +90,15 @@ fn work<R: Threads + Wait + Sync + Abort + AllocGlobal>(
     count: u32,
     version: u32,
 ) -> Result<usize, Fail>
-    requires count { (0 < count) × (count ≤ 64) }
-    requires version { version ≤ LAST_VERSION }
+    requires { version ≤ LAST_VERSION }
 {
     let alloc = rt.alloc();
-    let (parts, mut workers) = open(alloc, count, version)?;
+    let (parts, workers) = open(rt, Graph::new(alloc, VERTICES)?, count, version)?;
     let batch = drawn_batch(alloc, u64::from(count))?;
-    assert_eq!(rt; shape(&parts.words).fixed, VERTICES);
-    assert_eq!(rt; workers.len(), count as usize);
-    assert_eq!(rt; batch.len(), UPDATES as usize);
-    let (parts, done) = run_batch(rt, alloc, parts, &mut workers, 7, batch.as_slice(), &NoGate);
-    let done = done?;
+    let (parts, done) = enter_all(rt, parts, workers, VERTICES, &batch, &NoGate)?;
     assert_eq!(rt; parts.journal.entries().len(), UPDATES as usize);
     assert_eq!(rt; done.shares.len(), count as usize);
-    assert_eq!(rt; told(done.shares.as_slice()), UPDATES as usize);
-    let lawful = decompose_owned(alloc, replayed(rt, alloc, parts.journal.entries())?)?;
-    assert_eq!(rt; parts.journal.core_numbers(), lawful.core());
+    assert_replayed(rt, &parts)?;
     Ok(done.ended.len())
 }
 

@@ -1,6 +1,6 @@
 -- All workers are of the one table.
 use Rattle.std.proofs.Common.{◌≡◌, All}
-use Rattle.kc_batch.proofs.tests.hired.Given as goal
+use Rattle.kc_batch_tests.proofs.runs.hired.Given as goal
 
 abbrev pub invariant-loop : goal.invariant-loop
 invariant-loop l = record {

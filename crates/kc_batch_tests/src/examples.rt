@@ -1,23 +1,18 @@
 //! Batches worked out by hand, on the run that begins with the edges 0 1 and 2 3: all core numbers are 1, and the order is 0, 1, 2, 3.
-ghost use Rattle.std.specs.Prelude.{◌≡◌, ◌<◌, ◌≤◌, All, IfOk, length};
+ghost use Rattle.std.specs.Prelude.{◌<◌, ◌≤◌, All};
 
-use crate::tests::{hired, told};
-use crate::{BatchDone, run_batch};
-use kc_graph::{Graph, Update, decompose_owned};
+use crate::runs::{FIRST, enter_all, open};
+use kc_batch::BatchDone;
+use kc_graph::{Graph, Update};
 use kc_shared::Parts;
-use kc_table::shape;
 use kc_words::LAST_VERSION;
 use kc_workers::{Gate, NoGate};
-use std::alloc::Global;
 use std::process::Abort;
 use std::sync::Wait;
 use std::sync::atomic::{AtomicU64, Ordering};
 use std::test::Fail;
 use std::thread;
 use std::thread::Threads;
-
-/// The index of the first update of a batch.
-const FIRST: u32 = 7;
 
 /// How often a worker looks whether the other one has come.
 const TURNS: u32 = 100_000_000;
@@ -30,24 +25,14 @@ fn work<G: Gate + Sync, R: Threads + Wait + Sync + Abort + AllocGlobal>(
     batch: &[Update],
     gate: &G,
 ) -> Result<(Parts, BatchDone), Fail>
-    requires count { (0 < count) × (count ≤ 64) }
     requires version { version ≤ LAST_VERSION }
-    requires few { length batch.now ≤ 2 }
     requires within { All (λ u. u.v < 4) batch.now }
 {
-    let alloc = rt.alloc();
-    let mut graph = Graph::new(alloc, 4)?;
+    let mut graph = Graph::new(rt.alloc(), 4)?;
     graph.add(0, 1)?;
     graph.add(2, 3)?;
-    let (parts, mut pass) = Parts::open(alloc, decompose_owned(alloc, graph)?, version)?;
-    let mut workers = hired(alloc, &parts.words, &mut pass, count)?;
-    assert_eq!(rt; shape(&parts.words).fixed, 4);
-    assert_eq!(rt; workers.len(), count as usize);
-    let (parts, done) = run_batch(rt, alloc, parts, &mut workers, FIRST, batch, gate);
-    let done = done?;
-    assert_eq!(rt; parts.journal.entries().len(), batch.len());
-    assert_eq!(rt; told(done.shares.as_slice()), batch.len());
-    Ok((parts, done))
+    let (parts, workers) = open(rt, graph, count, version)?;
+    enter_all(rt, parts, workers, 4, batch, gate)
 }
 
 /// The updates that make a circle of the two edges.
