@@ -53,7 +53,7 @@ stands-nothing works w Keeping none h = (
   All-push (λ (u : Work). MayGoOn u.left) works w h.0 (subst MayGoOn (sym none) tt),
   (h.1.0, h.1.1, Contains-append_left works (w ∷ []) h.1.0 h.1.2, h.1.3),
 )
-stands-nothing works w Short none h = tt
+stands-nothing works w Short none h = (h.0, Contains-append_left works (w ∷ []) h.0 h.1, h.2)
 
 may-go-on : (left : Left) → left ≡ Nothing → MayGoOn left
 may-go-on left none = subst MayGoOn (sym none) tt
@@ -102,6 +102,14 @@ stood-kept desks i d s new place here is kept now h =
   where
     apart : Keeping ≡ Short → ⊥
     apart e = cc
+
+-- one of them can't go on
+pub stands-short : (desks : List Desked) (i : ℕ) (d : Desked) → i < length desks → d ≡ get_or desks i d → (MayGoOn d.work.left → ⊥)
+    → IsStanding (map (λ d. d.work) desks) Short
+stands-short desks i d here is cannot =
+    let works = map (λ (e : Desked). e.work) desks in
+    let all = all-unmapped (Contains works) (λ (e : Desked). e.work) desks (All-contains_itself works) in
+    (d.work, subst (λ (e : Desked). Contains works e.work) (sym is) (all i d here), cannot)
 
 -- all of them have been looked at
 pub stood-all : (desks : List Desked) (i : ℕ) (s : Standing) → length desks ≤ i → Stood desks i s → IsStanding (map (λ d. d.work) desks) s
@@ -335,16 +343,6 @@ given-keeps count place (d ∷ ds) others low none gives =
     subst (All Keeps) (sym gives)
     (All-cons Keeps (record d { work = record { done = d.work.done; left = Kept place } }) ds low
     (All-weaker None Keeps (λ e free. keeps-nothing count e.work.left free) ds (All-tail None d ds none)))
-
--- each share has the number of its place
-pub numbered-more : (shares new : List Share) (s : Share) → new ≡ shares ++ s ∷ [] → s.worker ≡ length shares
-    → ((i : ℕ) (d : Share) → i < length shares → (get_or shares i d).worker ≡ i) → (i : ℕ) (d : Share) → i < length new → (get_or new i d).worker ≡ i
-numbered-more shares new s is number before i d low = elim (cases_lt i (length shares)) [
-  | inl l ↦ ap (λ (z : List Share). (get_or z i d).worker) is ∙ (ap (λ (z : Share). z.worker) (get_or_append_left shares (s ∷ []) d i l) ∙ before i d l)
-  | inr past ↦
-      let at : length shares ≡ i = omega (arith, past, ap (λ (z : List Share). length z) is, length-append shares (s ∷ [])) in
-      ap (λ (z : List Share). (get_or z i d).worker) is ∙ (ap (λ (z : Share). z.worker) (get_or_push shares s d i at) ∙ (number ∙ at))
-]
 
 -- what a round's table opened with
 opened-at : (words : TableName) (now next : Journalled) → now.levels.table ≡ words → StaysIn now next

@@ -1,8 +1,8 @@
 -- Beginnings of one list, images of lists of distinct numbers, and counts over lists of lists.
-use Rattle.std.proofs.Common.{◌≡◌, inl, inr, ℕ, ◌<◌, ◌≤◌, true, false, List, [], ◌∷◌, ◌++◌, length, map, sym, ap, ◌∙◌, subst, arith, append-nil, length-append}
+use Rattle.std.proofs.Common.{◌≡◌, inl, inr, ℕ, ◌<◌, ◌≤◌, true, false, List, [], ◌∷◌, ◌++◌, get_or, length, map, sym, ap, ◌∙◌, subst, arith, append-nil, length-append}
 use mathlib.Core.List.{IsPrefix}
-use Rattle.std.proofs.lemmas.Bool.{cases_Bool, true≢false, false_from_ne_true}
-use Rattle.std.proofs.lemmas.List.{nil_from_length}
+use Rattle.std.proofs.lemmas.Bool.{cases_Bool, cases_lt, true≢false, false_from_ne_true}
+use Rattle.std.proofs.lemmas.List.{get_or_append_left, get_or_push, nil_from_length}
 use Rattle.kc_distinct.specs.Lists.{Distinct, member}
 use Rattle.kc_distinct.proofs.Members.{below_bound, member-cases, member-head, member-tail}
 use Rattle.kc_table.proofs.Prefixes.{prefix_either}
@@ -64,3 +64,13 @@ all-below n xs d low long x here = elim (cases_Bool (member x xs)) [
   where
     too_many : length (x ∷ xs) ≤ n → ⊥
     too_many le = omega arith
+
+-- Each has the number of its place, also one that is put at the end under the number of those before it.
+pub numbered-more : {A : Type 0} (number : A → ℕ) (xs new : List A) (x : A) → new ≡ xs ++ x ∷ [] → number x ≡ length xs
+    → ((i : ℕ) (d : A) → i < length xs → number (get_or xs i d) ≡ i) → (i : ℕ) (d : A) → i < length new → number (get_or new i d) ≡ i
+numbered-more {A} number xs new x is here before i d low = elim (cases_lt i (length xs)) [
+  | inl l ↦ ap (λ (z : List A). number (get_or z i d)) is ∙ (ap number (get_or_append_left xs (x ∷ []) d i l) ∙ before i d l)
+  | inr past ↦
+      let at : length xs ≡ i = omega (arith, past, ap (λ (z : List A). length z) is, length-append xs (x ∷ [])) in
+      ap (λ (z : List A). number (get_or z i d)) is ∙ (ap number (get_or_push xs x d i at) ∙ (here ∙ at))
+]

@@ -113,8 +113,12 @@ MayGoOn (left.Untold receipt) = ⊥
 abbrev pub SomeKeeps : List Work → Type 0
 SomeKeeps works = (w : Work) × (place : ℕ) × Contains works w × (w.left ≡ left.Kept place)
 
+-- for a worker's update there was no memory, to enter it or to tell of it
+abbrev pub SomeCannot : List Work → Type 0
+SomeCannot works = (w : Work) × Contains works w × (MayGoOn w.left → ⊥)
+
 -- How all work stands: nothing is left; something is kept and none was dropped; or memory ran out.
 abbrev pub IsStanding : List Work → Standing → Type 0
 IsStanding works standing.Free = All (λ w. w.left ≡ left.Nothing) works
 IsStanding works standing.Keeping = All (λ w. MayGoOn w.left) works × SomeKeeps works
-IsStanding works standing.Short = ⊤
+IsStanding works standing.Short = SomeCannot works

@@ -1,5 +1,5 @@
 //! One round of workers, each in a thread of its own.
-ghost use Rattle.std.specs.Prelude.{◌≡◌, ◌<◌, ◌≤◌, ◌+◌, ◌++◌, ℕ, [], All, IfErr, IfOk, length, map, vec_len, vec_capacity};
+ghost use Rattle.std.specs.Prelude.{◌≡◌, ◌<◌, ◌≤◌, ◌+◌, ◌++◌, ℕ, [], All, IfErr, IfOk, length, map, slice_index_or, vec_len, vec_capacity};
 ghost use Rattle.std.specs.List.{AllZip};
 ghost use mathlib.Core.List.{IsPrefix};
 ghost use Rattle.kc_queue.specs.declared.consumer.TheConstants.{PARTS, WORKERS};
@@ -7,7 +7,7 @@ ghost use Rattle.kc_queue.specs.Shares.{IsShare};
 ghost use Rattle.kc_stripes.specs.Records.{opened_with};
 ghost use Rattle.kc_batch.specs.Desks.{KeepsOneOf};
 ghost use Rattle.kc_batch.specs.Runs.{StaysIn};
-ghost use Rattle.kc_batch.specs.Seats.{IsHired, IsReady, KeepsIfSpent, Rounds, Works, all_taken, amounts, backward, desk_of};
+ghost use Rattle.kc_batch.specs.Seats.{IsHired, IsReady, KeepsIfSpent, Rounds, Seated, Works, all_taken, amounts, backward, desk_of};
 
 use crate::crew::Crew;
 use crate::desk::Desk;
@@ -25,7 +25,8 @@ use std::sync::ledger::{Blank, Ledger, Share};
 use std::thread;
 use std::thread::Threads;
 
-/// Gives each desk one part of the ledger and one of the queue. The last desk is seated first, and the list of desks keeps its room.
+/// Gives each desk one part of the ledger and one of the queue, and the number of its seat's place. The last desk is seated first, and the
+/// list of desks keeps its room.
 fn hire<K: Name + Ledger>(
     queue: &WorkQueue,
     consumer: &mut Consumer,
@@ -40,6 +41,7 @@ fn hire<K: Name + Ledger>(
     requires few { vec_len desks.old ≤ WORKERS }
     ensures seated { map desk_of (backward result.items) ≡ desks.old.items }
     ensures hired { All (IsHired queue.now) result.items }
+    ensures numbered { (i : ℕ) (d : Seated) → i < length result.items → (slice_index_or result.items i d).number ≡ i }
     ensures part { (part.new.parts ≡ 0) × (part.new.amount ≡ 0) }
     ensures left { (consumer.new.queue ≡ queue.now) × (consumer.new.parts + vec_len desks.old ≡ consumer.old.parts)
         × (consumer.new.taken ≡ consumer.old.taken) }

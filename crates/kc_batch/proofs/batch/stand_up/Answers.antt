@@ -3,7 +3,7 @@ use Rattle.std.proofs.Common.{◌∙◌, ◌∷◌, [], ap, arith, map}
 use Rattle.std.proofs.lemmas.List.{map-append}
 use Rattle.kc_workers.specs.declared.share.Share.{Share}
 use Rattle.kc_batch.specs.Desks.{Desked}
-use Rattle.kc_batch.proofs.Closing.{numbered-more}
+use Rattle.kc_batch.proofs.Lists.{numbered-more}
 use Rattle.kc_batch.proofs.Rounding.{back-images}
 use Rattle.kc_batch.proofs.batch.stand_up.Goals as goal
 
@@ -25,5 +25,5 @@ loop-desk-preserved c =
       count = omega (arith, c.in-Some.ensures.len);
       room = omega (arith, c.in-Some.ensures.len);
       room_for_shares = omega (arith, c.in-Some.ensures.len);
-      numbered = numbered-more shares c.push_reserved-in-Some.new.self.items _ pushed (omega arith) at.numbered;
+      numbered = numbered-more (λ (s : Share). s.worker) shares c.push_reserved-in-Some.new.self.items _ pushed (omega arith) at.numbered;
     }

@@ -4,7 +4,8 @@ use Rattle.std.proofs.lemmas.List.Elements.{All-push}
 use Rattle.kc_distinct.proofs.Shared.{All-front}
 use Rattle.kc_queue.specs.Shares.{Consuming}
 use Rattle.kc_batch.specs.Desks.{Desked}
-use Rattle.kc_batch.specs.Seats.{IsHired}
+use Rattle.kc_batch.specs.Seats.{IsHired, Seated}
+use Rattle.kc_batch.proofs.Lists.{numbered-more}
 use Rattle.kc_batch.proofs.Rounding.{seat-desks}
 use Rattle.kc_batch.proofs.round.hire.Goals as goal
 
@@ -21,6 +22,8 @@ loop-desk-preserved g c =
       seated = seat-desks c.loop-desk.desks.items c.pop.new.self.items d c.loop-desk.seats.items c.push_reserved.new.self.items _ is
           c.desk.view_is c.push_reserved.ensures.items ∙ at.seated;
       hired = subst (All (IsHired c.args.queue.now)) (sym c.push_reserved.ensures.items) hired;
+      numbered = numbered-more (λ (s : Seated). s.number) c.loop-desk.seats.items c.push_reserved.new.self.items _ c.push_reserved.ensures.items (omega arith)
+          at.numbered;
       count = omega (arith, c.in-Some.ensures.len);
       room = omega (arith, c.in-Some.ensures.len);
       kept = omega (arith, c.in-Some.ensures.len);
