@@ -6,7 +6,7 @@ use kc_batch::BatchDone;
 use kc_graph::{Graph, Update};
 use kc_shared::Parts;
 use kc_words::LAST_VERSION;
-use kc_workers::{Gate, NoGate};
+use kc_workers::{Gate, NoGate, Share};
 use std::process::Abort;
 use std::sync::Wait;
 use std::sync::atomic::{AtomicU64, Ordering};
@@ -76,16 +76,18 @@ fn two_workers_go_on_in_one_fresh_table(rt: HostRuntime) -> Result<(), Fail> {
     Ok(())
 }
 
-/// Holds each of two updates, at its first call, until the other one's was called too.
+/// Holds each of two updates, at its first call, until the other one's was called too, and notes who was called for it last.
 #[derive(Drop)]
 struct Meeting {
     calls: [AtomicU64; 2],
+    workers: [AtomicU64; 2],
     met: AtomicU64,
 }
 
 impl Gate for Meeting {
-    fn before_enter(&self, _worker: u32, index: u32) {
+    fn before_enter(&self, worker: u32, index: u32) {
         let mine = usize::from(index != FIRST);
+        self.workers[mine].store(u64::from(worker), Ordering::SeqCst);
         if self.calls[mine].swap(1, Ordering::SeqCst) > 0 {
             return;
         }
@@ -99,14 +101,29 @@ impl Gate for Meeting {
     }
 }
 
+/// The share is of the worker that was called for what stands in it.
+fn assert_called<R: Abort>(rt: &R, meeting: &Meeting, share: &Share) {
+    for one in &share.done {
+        let mine = usize::from(one.receipt.index != FIRST);
+        assert_eq!(rt;
+            meeting.workers[mine].load(Ordering::SeqCst),
+            u64::from(share.worker)
+        );
+    }
+}
+
 #[test]
 fn two_workers_meet_before_they_enter(rt: HostRuntime) -> Result<(), Fail> {
     let meeting = Meeting {
         calls: [AtomicU64::new(0), AtomicU64::new(0)],
+        workers: [AtomicU64::new(0), AtomicU64::new(0)],
         met: AtomicU64::new(0),
     };
-    let (parts, _done) = work(&rt, 2, 0, &circle(), &meeting)?;
+    let (parts, done) = work(&rt, 2, 0, &circle(), &meeting)?;
     assert_eq!(rt; meeting.met.load(Ordering::SeqCst), 2);
+    for share in &done.shares {
+        assert_called(&rt, &meeting, share);
+    }
     assert_eq!(rt; parts.journal.core_numbers(), [2, 2, 2, 2].as_slice());
     Ok(())
 }
