@@ -19,8 +19,10 @@ const STRIDE: u32 = 7_919;
 /// How a list is published.
 #[derive(Clone, Copy, Drop, Eq, PartialEq)]
 pub(crate) enum How {
-    /// By the vertices that change.
+    /// By the vertices that change, with their new numbers.
     Places,
+    /// As a list that is looked at where it changes.
+    Among,
     /// As a whole.
     Whole,
 }
@@ -97,6 +99,17 @@ fn change(alloc: Global, list: &mut [u32], number: u32) -> Result<Vec<Place>, No
     Ok(places)
 }
 
+/// The vertices of places.
+fn vertices_of(alloc: Global, places: &[Place]) -> Result<Vec<u32>, NoMemory> {
+    let mut vertices = Vec::new(alloc);
+    for place in places {
+        if let Ok(vertex) = u32::try_from(place.at) {
+            vertices.push(vertex)?;
+        }
+    }
+    Ok(vertices)
+}
+
 /// Publishes so many lists, each with a few numbers that changed, and answers how long the calls took.
 fn publish_all<J: BoardName, R: Wait + Clock>(
     rt: &R,
@@ -114,9 +127,11 @@ fn publish_all<J: BoardName, R: Wait + Clock>(
     let mut took = Duration::ZERO;
     for number in 1..publishes + 1 {
         let places = change(alloc, list, number)?;
+        let vertices = vertices_of(alloc, &places)?;
         let start = Instant::now(rt)?;
         match how {
             How::Places => publisher.publish_changes(rt, places)?,
+            How::Among => publisher.publish_among(rt, list, &vertices)?,
             How::Whole => publisher.publish(rt, list)?,
         };
         took = took.saturating_add(start.elapsed(rt)?);

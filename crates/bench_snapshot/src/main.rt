@@ -1,4 +1,5 @@
-//! Measures a board of core numbers: reads of single numbers, and publishes where ten numbers change, by these places and by whole lists.
+//! Measures a board of core numbers: reads of single numbers, and publishes where ten numbers change, by these places, by lists that are
+//! looked at there, and by whole lists.
 //!
 //! Without a word it makes a small run and writes what was counted, which never varies. With the word `time` it makes a large one, on few
 //! vertices and on many, and writes beside each count how long a call took. It runs on one thread.
@@ -78,6 +79,20 @@ fn measure<R: Wait + AllocGlobal + Clock>(rt: &HostRuntime, handle: &R, size: &S
         size.changes,
     )?;
     report(rt, size, "publishes of ten places", size.changes, took)?;
+    let took = measure_publishes::<Brand, _>(
+        handle,
+        Blank::new(),
+        size.vertices,
+        How::Among,
+        size.changes,
+    )?;
+    report(
+        rt,
+        size,
+        "publishes of lists at ten vertices",
+        size.changes,
+        took,
+    )?;
     let took = measure_publishes::<Brand, _>(
         handle,
         Blank::new(),

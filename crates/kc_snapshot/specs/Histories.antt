@@ -1,5 +1,6 @@
 -- The history of a board: lists of core numbers, oldest first.
-use Rattle.std.specs.Prelude.{◌==◌, ◌&&◌, ◌-◌, ℕ, Bool, true, false, List, [], ◌∷◌, length, slice_index, slice_index_or, slice_set}
+use Rattle.std.specs.Prelude.{◌≡◌, ◌<◌, ◌==◌, ◌&&◌, ◌-◌, ℕ, Bool, true, false, List, [], ◌∷◌, length, nat_eq, nat_lt, slice_index, slice_index_or, slice_set, if◌then◌else◌}
+use Rattle.std.specs.List.{list_any}
 use Rattle.kc_snapshot.specs.declared.member.Member.{Member}
 use Rattle.kc_snapshot.specs.declared.listing.Place.{Place}
 
@@ -36,3 +37,12 @@ is_history (m ∷ ms) = all_wide (length m.core) ms
 abbrev pub changed : List ℕ → List Place → List ℕ
 changed core [] = core
 changed core (p ∷ ps) = changed (slice_set core p.at p.core) ps
+
+-- the vertices of these that a list has, with its numbers
+abbrev pub numbers_at : List ℕ → List ℕ → List Place
+numbers_at core [] = []
+numbers_at core (v ∷ vs) = if nat_lt v (length core) then record { at = v; core = slice_index core v } ∷ numbers_at core vs else numbers_at core vs
+
+-- no vertex but these has another number in the one list than in the other
+abbrev pub DifferAmong : List ℕ → List ℕ → List ℕ → Type 0
+DifferAmong vertices old new = (v : ℕ) → v < length new → list_any (nat_eq v) vertices ≡ false → slice_index old v ≡ slice_index new v

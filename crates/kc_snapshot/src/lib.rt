@@ -10,6 +10,8 @@
 //!
 //! A publish changes two copies of the list, one after the other, at the vertices whose numbers differ. Readers and publisher may wait:
 //! the publisher for readers that are in the copy from before, a reader where it looks before what it was told of is shown.
+//!
+//! The program `watch_cores` shows how threads watch core numbers while batches are worked off.
 #![tactic(auto)]
 
 mod author;
@@ -29,7 +31,7 @@ pub use front::Note;
 pub use listing::Place;
 pub use member::Member;
 pub use name::BoardName;
-pub use publisher::{MOST_READERS, Publisher, open};
+pub use publisher::{MOST_LISTS, MOST_READERS, Publisher, open};
 pub use reader::{Read, Reader};
 pub use std::alloc::AllocError as NoMemory;
 pub use steps::Blank;

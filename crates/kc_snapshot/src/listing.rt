@@ -1,6 +1,6 @@
 //! Lists of core numbers, and what differs from one to the next.
 ghost use Rattle.std.specs.Prelude.{◌≡◌, IfOk, length};
-ghost use Rattle.kc_snapshot.specs.Histories.{changed};
+ghost use Rattle.kc_snapshot.specs.Histories.{changed, numbers_at as numbers_there};
 
 use crate::NoMemory;
 use std::alloc::Global;
@@ -24,6 +24,24 @@ pub(crate) fn differences(alloc: Global, old: &[u32], new: &[u32]) -> Result<Vec
         let core = new[at];
         if old[at] != core {
             places.push(Place { at, core })?;
+        }
+    }
+    Ok(places)
+}
+
+/// The vertices of these that a list has, with its numbers. `NoMemory`: there was no memory for them.
+pub(crate) fn numbers_at(
+    alloc: Global,
+    core: &[u32],
+    vertices: &[u32],
+) -> Result<Vec<Place>, NoMemory>
+    ensures { IfOk result (λ places. places.items ≡ numbers_there core.now vertices.now) }
+{
+    let mut places = Vec::new(alloc);
+    for v in vertices {
+        let at = *v as usize;
+        if at < core.len() {
+            places.push(Place { at, core: core[at] })?;
         }
     }
     Ok(places)

@@ -1,15 +1,15 @@
 //! What opens a board and publishes lists.
-ghost use Rattle.std.specs.Prelude.{◌≡◌, ◌+◌, ◌≤◌, ◌<◌, ◌++◌, ◌∷◌, [], length, All, IfOk, MatchResult, vec_len};
+ghost use Rattle.std.specs.Prelude.{◌≡◌, ◌+◌, ◌≤◌, ◌<◌, ◌++◌, ◌∷◌, [], length, All, IfOk, MatchResult, OnOk, vec_len};
 ghost use mathlib.Core.List.{IsPrefix};
 ghost use Rattle.left_right.specs.Handles.{pending, published};
 ghost use Rattle.kc_snapshot.specs.Changes.{gone_on};
-ghost use Rattle.kc_snapshot.specs.Histories.{changed, last_list, member, width};
+ghost use Rattle.kc_snapshot.specs.Histories.{DifferAmong, changed, last_list, member, numbers_at as numbers_there, width};
 
 use crate::NoMemory;
 use crate::author::Author;
 use crate::board::{Board, Change};
 use crate::front::{Front, Note};
-use crate::listing::{Place, differences};
+use crate::listing::{Place, differences, numbers_at};
 use crate::member::Member;
 use crate::name::BoardName;
 use crate::reader::Reader;
@@ -165,6 +165,29 @@ impl<J: BoardName, R: Wait + Drop> Publisher<J, R> {
         ensures width { width self.new ≡ width self.old }
     {
         let places = differences(self.alloc, self.shown.published().core().as_slice(), core)?;
+        self.publish_changes(rt, places)
+    }
+
+    /// Publishes the last list with the numbers that `core` has at these vertices, and answers the new one's number. So where no other
+    /// vertex has a new number, `core` is published. It waits as `publish` does, and costs these vertices alone. `NoMemory`: the history is
+    /// as it was.
+    pub fn publish_among<W: Wait>(
+        &mut self,
+        rt: &W,
+        core: &[u32],
+        vertices: &[u32],
+    ) -> Result<u32, NoMemory>
+        requires vertices { length core.now ≡ width self.old }
+        requires room { length self.old < MOST_LISTS }
+        ensures added { MatchResult result
+            (λ number. (number ≡ length self.old)
+            × (self.new ≡ self.old ++ member (changed (last_list self.old) (numbers_there core.now vertices.now)) ∷ []))
+            (λ _. self.new ≡ self.old) }
+        ensures whole { OnOk result (DifferAmong vertices.now (last_list self.old) core.now → self.new ≡ self.old ++ member core.now ∷ []) }
+        ensures width { width self.new ≡ width self.old }
+    {
+        self.author.front().measure();
+        let places = numbers_at(self.alloc, core, vertices)?;
         self.publish_changes(rt, places)
     }
 

@@ -77,6 +77,25 @@ fn read_changes<J: BoardName, R: Wait + Abort>(
     Ok(())
 }
 
+// Two vertices of a list where all numbers are new, and one that the board has not.
+fn read_among<J: BoardName, R: Wait + Abort>(
+    rt: &R,
+    alloc: Global,
+    blank: Blank,
+) -> Result<(), Fail>
+    requires { blank ≡ J.book }
+{
+    let (mut publisher, mut readers) = open::<J, &R>(rt, alloc, blank, &PATH, 1)?;
+    let mut reader = one_of(&mut readers, &PATH)?;
+    assert_eq!(rt; publisher.publish_among(rt, &CHORDS, &[3, 1, 4, 3])?, 1);
+    reader.learn(rt, publisher.tell());
+    let mut all = [0; 4];
+    assert_eq!(rt; reader.cores(rt, &mut all), 1);
+    assert_eq!(rt; all, [1, 2, 1, 2]);
+    publisher.end();
+    Ok(())
+}
+
 // The list that is published under a number.
 fn list_of(number: u32) -> [u32; 4] {
     [number % 2, number % 3, number % 5, number % 7]
@@ -179,6 +198,11 @@ fn two_readers_read(rt: HostRuntime) -> Result<(), Fail> {
 #[test]
 fn changes_are_read(rt: HostRuntime) -> Result<(), Fail> {
     read_changes::<Brand, _>(&rt, rt.alloc(), Blank::new())
+}
+
+#[test]
+fn of_a_list_the_vertices_that_are_named_are_published(rt: HostRuntime) -> Result<(), Fail> {
+    read_among::<Brand, _>(&rt, rt.alloc(), Blank::new())
 }
 
 #[test]
