@@ -63,7 +63,7 @@ impl Run {
         };
         let entered = self
             .journal
-            .enter(&self.words, &mut self.pass, index, &plan)
+            .enter(&self.words, &mut self.pass, index, &plan, None)
             .ok()?;
         Some(entered.receipt)
     }

@@ -6,6 +6,7 @@ pub mod Holding
 pub mod Later
 pub mod Making
 pub mod Opening
+pub mod Preparing
 pub mod Putting
 pub mod Renewing
 pub mod Standing

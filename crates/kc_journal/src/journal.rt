@@ -1,5 +1,5 @@
 //! The state with its log, and how an update is entered.
-ghost use Rattle.std.specs.Prelude.{◌≡◌, ◌≢◌, ◌<◌, ◌≤◌, nat_lt, ℕ, IfErr, IfOk, MatchOption, OnErr, slice_index};
+ghost use Rattle.std.specs.Prelude.{◌≡◌, ◌≢◌, ◌<◌, ◌≤◌, nat_lt, ℕ, IfErr, IfOk, IfSome, MatchOption, OnErr, slice_index};
 ghost use mathlib.Core.List.{IsPrefix};
 ghost use Rattle.kc_distinct.specs.Lists.{place_of};
 ghost use Rattle.kc_graph.specs.Core.{AreCoreNumbers};
@@ -7,6 +7,7 @@ ghost use Rattle.kc_view.specs.Sure.{IsSure};
 ghost use Rattle.kc_agree.specs.Stamps.{edge_stamp, place_stamp};
 ghost use Rattle.kc_levels.specs.Levels.{IsTop, size_of};
 
+use crate::ahead::Ahead;
 use crate::answer::{EnterFault, Entered, Receipt};
 use crate::change::{add_entry, make_section, make_update, versions_needed};
 use crate::renewal::order_of;
@@ -66,6 +67,7 @@ impl Model for Journal {
 }
 
 impl Journal {
+    ghost use Rattle.kc_journal.specs.Ahead.{AreAhead};
     ghost use Rattle.kc_journal.specs.Answers.{IsAdmitted, IsCause, IsEntered};
     ghost use Rattle.kc_journal.specs.Entering.{MayEnter, WasReadOf};
     ghost use Rattle.kc_journal.specs.Journals.{IsFreshTable, MayGoOn, OpensRun, Renews, Stands, all_seen, fresh_pass, ranked};
@@ -212,7 +214,8 @@ impl Journal {
     }
 
     /// Enters an update with the moves of its plan, where no stamp that the plan has used is less than the present one. First it tells
-    /// the pass the whole log. All memory is taken before the first store, and none that the size of the graph counts for.
+    /// the pass the whole log. All memory is taken before the first store, and none that the size of the graph counts for. Where the lists
+    /// of both ends were made ahead, of lists that are the present ones, it copies none.
     ///
     /// The journal is as it was after each fault. Of two causes that stand together the one that `EnterFault` names first comes.
     pub fn enter(
@@ -221,12 +224,14 @@ impl Journal {
         pass: &mut Pass,
         index: u32,
         plan: &Plan,
+        ahead: Option<&Ahead>,
     ) -> Result<Entered, EnterFault>
         requires table { (pass.old.table ≡ words.now) × (self.old.levels.table ≡ words.now) }
         requires index { index < INDICES }
         requires within { plan.now.update.v < size_of self.old.levels }
         requires read { WasReadOf self.old pass.old.log plan.now }
         requires sure { IsSure plan.now }
+        requires ahead { IfSome ahead (λ a. AreAhead self.old.levels.table self.old.opened pass.old.log plan.now.update a.now) }
         ensures entered { IfOk result (λ entered. IsEntered self.old self.new index plan.now entered) }
         ensures cause { IfErr result (λ fault. IsCause self.old plan.now fault) }
         ensures same { OnErr result (self.new ≡ self.old) }
@@ -236,7 +241,14 @@ impl Journal {
         if let Some(fault) = self.refusal(plan) {
             return Err(fault);
         }
-        let lists = add_entry(&self.graph, &mut self.entries, index, plan.update)?;
+        let lists = add_entry(
+            &self.graph,
+            &self.edge_stamps,
+            &mut self.entries,
+            index,
+            plan.update,
+            ahead,
+        )?;
         let place = self.entries.len() as u32;
         let lists = make_update(
             &mut self.graph,

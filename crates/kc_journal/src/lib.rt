@@ -9,6 +9,7 @@
 //! says that a journal stands after an entry.
 #![tactic(auto)]
 
+mod ahead;
 mod answer;
 mod change;
 mod held;
@@ -19,6 +20,7 @@ mod renewal;
 #[cfg(test)]
 mod tests;
 
+pub use ahead::Ahead;
 pub use answer::{EnterFault, Entered, Receipt};
 pub use held::{Held, Of};
 pub use journal::Journal;

@@ -202,7 +202,8 @@ impl Run {
         requires may { MayEnter self.old.journal plan.now }
         ensures { (other : Plan) → MayEnter self.old.journal other → MayEnter self.new.journal other }
     {
-        self.journal.enter(&self.words, &mut self.pass, index, plan)
+        self.journal
+            .enter(&self.words, &mut self.pass, index, plan, None)
     }
 
     /// Goes on in a fresh table.

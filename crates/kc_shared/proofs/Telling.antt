@@ -1,5 +1,5 @@
 -- What the journal behind the lock answers, said of what a pass has seen.
-use Rattle.std.proofs.Common.{◌≡◌, ℕ, ◌+◌, ◌<◌, ◌≤◌, Bool, List, [], ◌∷◌, length, sym, ap, ◌∙◌, subst, inl, inr, arith, append-nil, length-append}
+use Rattle.std.proofs.Common.{◌≡◌, ℕ, ◌+◌, ◌<◌, ◌≤◌, Bool, List, [], ◌∷◌, length, refl, sym, ap, ◌∙◌, subst, inl, inr, arith, append-nil, length-append}
 use Rattle.std.specs.Prelude.{Option, Some, None}
 use mathlib.Core.List.{IsPrefix}
 use Rattle.kc_distinct.proofs.Members.{below_bound}
@@ -19,7 +19,10 @@ use Rattle.kc_table.proofs.Prefixes.{prefix_trans}
 use Rattle.kc_table.proofs.Stamps.{number-grows}
 use Rattle.kc_agree.specs.Reads.{From, WasList}
 use Rattle.kc_agree.specs.Stamps.{changes_graph, made_by, number_of}
+use Rattle.kc_agree.proofs.Growing.{list_stays}
 use Rattle.kc_levels.specs.Levels.{size_of}
+use Rattle.kc_journal.specs.Ahead.{AreAhead, IsChangedList, IsMade}
+use Rattle.kc_journal.specs.declared.ahead.Ahead.{Ahead}
 use Rattle.kc_journal.specs.Answers.{AreToPublish, IsCause, IsEntered}
 use Rattle.kc_journal.specs.Entering.{IsCurrent, MayEnter, WasReadOf, entry_of}
 use Rattle.kc_journal.specs.Journals.{Journalled, Stands, all_seen, entries_here, ranked}
@@ -27,11 +30,13 @@ use Rattle.kc_journal.specs.declared.answer.EnterFault.{EnterFault}
 use Rattle.kc_journal.specs.declared.answer.EnterFault.TheVariants as enter
 use Rattle.kc_journal.specs.declared.answer.Entered.{Entered}
 use Rattle.kc_journal.specs.declared.answer.Receipt.{Receipt}
+use Rattle.kc_journal.proofs.Preparing.{ahead-stays}
 use Rattle.kc_journal.proofs.Standing.{moved-within, number-is, right-here, size-is}
 use Rattle.kc_journal.proofs.Telling.{here-next, may-tell, not-stale}
 use Rattle.kc_stripes.specs.Records.{Opened}
-use Rattle.kc_shared.specs.Answers.{HasCause, IsNotStale, IsToldEntry, MayBeToldIf, WasReadBehind, told_fault}
+use Rattle.kc_shared.specs.Answers.{HasCause, IsNotStale, IsReceipt, IsToldEntry, MayBeToldIf, WasReadBehind, told_fault}
 use Rattle.kc_shared.specs.declared.fault.SharedFault.{SharedFault}
+use Rattle.kc_shared.specs.declared.fault.SharedFault.TheVariants as shared
 use Rattle.kc_shared.specs.States.{AreParts, Booked, GoesOn, Parted, opened_by}
 use Rattle.kc_shared.proofs.Outdating.{outdated}
 
@@ -95,6 +100,36 @@ goes-on {o} {started} {log} {entries} {self} {told} {new} {total} {index} {plan}
       quiet = λ none. absurd (omega (arith, none, one-more));
     }
 
+-- Lists that are made ahead of an entry, of lists that were read one after the other.
+pub are-ahead : (table : TableName) (opened : SimpleGraph) (p q : List Event) (update : Update) (first second : UsedEdges) (a : Ahead)
+    → first.vertex ≡ update.u → second.vertex ≡ update.v → WasList table opened p first → WasList table opened q second → IsPrefix p q
+    → IsMade update first second a → AreAhead table opened q update a
+are-ahead table opened p q update first second a first-of second-of first-was second-was pre made = record {
+  first_of = ap (λ (e : UsedEdges). e.vertex) made.first_is ∙ first-of;
+  second_of = ap (λ (e : UsedEdges). e.vertex) made.second_is ∙ second-of;
+  first_was = subst (WasList table opened q) (sym made.first_is) (list_stays table opened p q first pre first-was);
+  second_was = subst (WasList table opened q) (sym made.second_is) second-was;
+  made = record {
+    first_is = refl;
+    second_is = refl;
+    first_after = subst (λ (e : UsedEdges). IsChangedList update.add e.neighbours a.lists.first update.v) (sym made.first_is) made.first_after;
+    second_after = subst (λ (e : UsedEdges). IsChangedList update.add e.neighbours a.lists.second update.u) (sym made.second_is) made.second_after;
+  };
+}
+
+-- they are so of a journal that a pass was told
+pub ahead-told : {o : Opened} {started : SimpleGraph} {log : List Event} {entries : List Entry} {self : Booked} {told : Journalled} {pass : PassSeen}
+    (seen : List Event) (update : Update) (a : Ahead) → GoesOn o started log entries self → told ≡ self.journal → pass ≡ all_seen self.journal
+    → IsPrefix seen self.journal.levels.log → AreAhead o.table o.edges seen update a → AreAhead told.levels.table told.opened pass.log update a
+ahead-told {o} {started} {log} {entries} {self} {told} {pass} seen update a on same all pre ahead =
+    let j : Journalled = self.journal in
+    let grown : AreAhead o.table o.edges j.levels.log update a = ahead-stays o.table o.edges seen j.levels.log update a pre ahead in
+    let here : AreAhead j.levels.table j.opened j.levels.log update a =
+    subst (λ (t : TableName). AreAhead t j.opened j.levels.log update a) (sym on.table)
+    (subst (λ (g : SimpleGraph). AreAhead o.table g j.levels.log update a) (sym on.opened) grown) in
+    subst (λ (i : Journalled). AreAhead i.levels.table i.opened pass.log update a) (sym same)
+    (subst (λ (p : PassSeen). AreAhead j.levels.table j.opened p.log update a) (sym all) here)
+
 -- An entry. ----------------------------------------------------------------------------------------------
 
 -- lists that are true of their vertices may be told
@@ -155,6 +190,29 @@ pub longer : (seen : List Event) {old new : Journalled} {pass : PassSeen} {index
     → IsPrefix seen old.levels.log → pass ≡ all_seen new → IsEntered old new index plan entered → IsPrefix seen pass.log
 longer seen {old} {new} {pass} {index} {plan} {entered} pre all e =
     subst (λ (p : PassSeen). IsPrefix seen p.log) (sym all) (prefix_trans seen old.levels.log new.levels.log pre e.longer)
+
+-- what is told of a receipt since a later moment holds since an earlier one
+pub receipt-earlier : (o : Opened) (earlier old new : List Event) (index : ℕ) (update : Update) (receipt : Receipt) → IsPrefix earlier old
+    → IsReceipt o old new index update receipt → IsReceipt o earlier new index update receipt
+receipt-earlier o earlier old new index update receipt pre r = record {
+  front = r.front;
+  back = r.back;
+  entries = r.entries;
+  place = r.place;
+  index_is = r.index_is;
+  applied = r.applied;
+  later = omega (arith, r.later, number-grows o.table.shape o.table.opening earlier old pre);
+}
+
+-- and so do the causes of a refusal
+pub cause-earlier : (o : Opened) (earlier old new : List Event) (index : ℕ) (plan : Plan) (fault : SharedFault) → IsPrefix earlier old
+    → HasCause o old new index plan fault → HasCause o earlier new index plan fault
+cause-earlier o earlier old new index plan (shared.Full entries) pre is = is
+cause-earlier o earlier old new index plan (shared.Stale vertex edges used now) pre is = is
+cause-earlier o earlier old new index plan (shared.Spent highest needed) pre is = is
+cause-earlier o earlier old new index plan (shared.NoMemory None) pre is = tt
+cause-earlier o earlier old new index plan (shared.NoMemory (Some receipt)) pre is =
+    receipt-earlier o earlier old new index plan.update receipt pre is
 
 -- A refusal. ---------------------------------------------------------------------------------------------
 

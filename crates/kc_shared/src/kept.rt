@@ -1,8 +1,9 @@
 //! The value behind the lock.
-ghost use Rattle.std.specs.Prelude.{◌≡◌, ◌<◌, ◌+◌, IfErr, IfOk, MatchResult, OnErr, OnOk};
+ghost use Rattle.std.specs.Prelude.{◌≡◌, ◌<◌, ◌+◌, IfErr, IfOk, IfSome, MatchResult, OnErr, OnOk};
 ghost use mathlib.Core.List.{IsPrefix};
 ghost use Rattle.kc_view.specs.Sure.{IsSure};
 ghost use Rattle.kc_table.specs.Legal.{Legal};
+ghost use Rattle.kc_journal.specs.Ahead.{AreAhead};
 ghost use Rattle.kc_journal.specs.Answers.{IsCause, IsEntered};
 ghost use Rattle.kc_journal.specs.Entering.{IsCurrent, WasReadOf};
 ghost use Rattle.kc_journal.specs.Journals.{Stands, all_seen};
@@ -12,7 +13,7 @@ ghost use Rattle.kc_shared.specs.States.{GoesOn};
 
 use crate::fault::SharedFault;
 use kc_graph::Plan;
-use kc_journal::{EnterFault, Entered, Journal};
+use kc_journal::{Ahead, EnterFault, Entered, Journal};
 use kc_table::{Name, Pass, Words};
 use kc_words::INDICES;
 use std::marker::{Model, PhantomData};
@@ -86,6 +87,7 @@ impl<K: Name + Ledger> Kept<K> {
         part: &mut Share<K>,
         index: u32,
         plan: &Plan,
+        ahead: Option<&Ahead>,
     ) -> Result<Entered, EnterFault>
         requires table { (pass.old.table ≡ K.table) × (words.now ≡ K.table) }
         requires part { 0 < part.old.parts }
@@ -93,6 +95,7 @@ impl<K: Name + Ledger> Kept<K> {
         requires within { plan.now.update.v < K.table.shape.fixed }
         requires read { WasReadOf self.old.journal pass.old.log plan.now }
         requires sure { IsSure plan.now }
+        requires ahead { IfSome ahead (λ a. AreAhead K.table K.opening_edges pass.old.log plan.now.update a.now) }
         ensures entered { IfOk result (λ entered. IsEntered self.old.journal self.new.journal index plan.now entered) }
         ensures cause { IfErr result (λ fault. IsCause self.old.journal plan.now fault) }
         ensures same { OnErr result (self.new ≡ self.old) }
@@ -104,7 +107,7 @@ impl<K: Name + Ledger> Kept<K> {
     {
         let Kept { journal, book, .. } = self;
         journal.tell(words, pass);
-        let entered = journal.enter(words, pass, index, plan)?;
+        let entered = journal.enter(words, pass, index, plan, ahead)?;
         book.add(part, 1);
         Ok(entered)
     }
@@ -118,6 +121,7 @@ impl<K: Name + Ledger> Kept<K> {
         part: &mut Share<K>,
         index: u32,
         plan: &Plan,
+        ahead: Option<&Ahead>,
     ) -> Result<Entered, SharedFault>
         requires table { (pass.old.table ≡ K.table) × (words.now ≡ K.table) }
         requires part { 0 < part.old.parts }
@@ -125,6 +129,7 @@ impl<K: Name + Ledger> Kept<K> {
         requires within { plan.now.update.v < K.table.shape.fixed }
         requires read { WasReadBehind (opened_with K.table K.opening_edges K.opening_stamps) self.old.journal pass.old.log plan.now }
         requires sure { IsSure plan.now }
+        requires ahead { IfSome ahead (λ a. AreAhead K.table K.opening_edges pass.old.log plan.now.update a.now) }
         ensures told { pass.new ≡ all_seen self.new.journal }
         ensures table { pass.new.table ≡ K.table }
         ensures longer { IsPrefix pass.old.log pass.new.log }
@@ -140,7 +145,7 @@ impl<K: Name + Ledger> Kept<K> {
         ensures parts { part.new.parts ≡ part.old.parts }
     {
         self.journal.look();
-        match self.enter(words, pass, part, index, plan) {
+        match self.enter(words, pass, part, index, plan, ahead) {
             Ok(entered) => {
                 self.tell(words, pass);
                 Ok(entered)

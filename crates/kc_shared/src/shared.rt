@@ -1,8 +1,10 @@
 //! The state that workers share: words, stripes, and the journal behind its lock.
-ghost use Rattle.std.specs.Prelude.{◌≡◌, ◌<◌, ◌+◌, All, IfErr, IfOk, MatchResult, length};
+ghost use Rattle.std.specs.Prelude.{◌≡◌, ◌<◌, ◌+◌, All, IfErr, IfOk, IfSome, MatchResult, length};
 ghost use mathlib.Core.List.{IsPrefix};
 ghost use Rattle.kc_view.specs.Sure.{IsSure};
 ghost use Rattle.kc_table.specs.Legal.{Legal};
+ghost use Rattle.kc_agree.specs.Reads.{WasList};
+ghost use Rattle.kc_journal.specs.Ahead.{AreAhead};
 ghost use Rattle.kc_stripes.specs.Records.{opened_with};
 ghost use Rattle.kc_shared.specs.Answers.{HasCause, IsReceipt, MayBeTold, WasReadBy, entered_at};
 ghost use Rattle.kc_shared.specs.Misses.{IsTrueMiss};
@@ -12,8 +14,8 @@ use crate::fault::SharedFault;
 use crate::kept::Kept;
 use crate::missed::Missed;
 use crate::parts::Parts;
-use kc_graph::{ListsAfter, NoMemory, Plan, Update};
-use kc_journal::Receipt;
+use kc_graph::{ListsAfter, NoMemory, Plan, Update, UsedEdges};
+use kc_journal::{Ahead, Receipt};
 use kc_stripes::Stripes;
 use kc_table::{Name, Pass, Words};
 use kc_words::INDICES;
@@ -109,7 +111,9 @@ impl<K: Name + Ledger> Shared<K> {
     }
 
     /// Enters an update whose plan was made of what the pass has seen, and publishes the lists of both ends where the edge changed. It
-    /// takes the journal's lock, and under it those of two stripes.
+    /// takes the journal's lock, and under it those of two stripes. Before it takes the journal's lock it makes the lists after the update
+    /// of those that the stripes have, and when it has given it back it lets these go: while others wait nothing is copied or freed, but
+    /// where others have changed one of these lists meanwhile.
     ///
     /// Where it is entered, the new `seen`, but not the old one, has the entry that the receipt names. `NoMemory` with a receipt has
     /// entered it too, and has published one list or none. After each other fault nothing is entered. `Full`: the entries after the new
@@ -140,8 +144,10 @@ impl<K: Name + Ledger> Shared<K> {
             (λ _. part.new.amount ≡ part.old.amount + 1) (λ fault. part.new.amount ≡ part.old.amount + entered_at fault) }
         ensures parts { part.new.parts ≡ part.old.parts }
     {
+        let alloc = *plan.used.edges.allocator();
+        let ahead = self.read_ahead(rt, alloc, pass, plan.update);
         let mut kept = self.lock(rt);
-        let entered = kept.enter_and_tell(&self.words, pass, part, index, plan)?;
+        let entered = kept.enter_and_tell(&self.words, pass, part, index, plan, ahead.as_ref())?;
         let receipt = entered.receipt;
         if let Some(lists) = entered.lists {
             let published = self.publish(rt, pass, plan.update, receipt.place, lists);
@@ -152,6 +158,44 @@ impl<K: Name + Ledger> Shared<K> {
             }
         }
         Ok(receipt)
+    }
+
+    /// What an update makes of the lists that the stripes have of its ends, where it changes both and there is memory. It takes the locks
+    /// of two stripes, one after the other.
+    fn read_ahead<R: Wait>(
+        &self,
+        rt: &R,
+        alloc: Global,
+        pass: &mut Pass,
+        update: Update,
+    ) -> Option<Ahead>
+        requires table { pass.old.table ≡ K.table }
+        requires within { update.v < K.table.shape.fixed }
+        ensures table { pass.new.table ≡ K.table }
+        ensures longer { IsPrefix pass.old.log pass.new.log }
+        ensures ahead { IfSome result (AreAhead K.table K.opening_edges pass.new.log update) }
+    {
+        let first = self.read(rt, pass, update.u)?;
+        let second = self.read(rt, pass, update.v)?;
+        Ahead::new(alloc, update, first, second)
+    }
+
+    /// The list of a vertex as its stripe has it. None where no more holders can be counted.
+    fn read<R: Wait>(&self, rt: &R, pass: &mut Pass, vertex: u32) -> Option<UsedEdges>
+        requires table { pass.old.table ≡ K.table }
+        ensures table { pass.new.table ≡ K.table }
+        ensures longer { IsPrefix pass.old.log pass.new.log }
+        ensures was { IfSome result (WasList K.table K.opening_edges pass.new.log) }
+        ensures of { IfSome result (λ e. e.vertex ≡ vertex) }
+    {
+        match self.stripes.read(rt, &self.words, pass, vertex) {
+            Ok((neighbours, at)) => Some(UsedEdges {
+                vertex,
+                at,
+                neighbours,
+            }),
+            Err(_) => None,
+        }
     }
 
     /// Publishes the lists of both ends of an update under the number of its entry. It takes the locks of two stripes, one after the other.

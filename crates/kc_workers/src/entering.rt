@@ -172,7 +172,7 @@ impl<K: Name + Ledger, G: Gate, R: Wait> Entering<'_, K, G, R> {
             kept.tell(words, pass);
             return Err(UpdateFault::NoMemory { entered: None });
         };
-        match kept.enter_and_tell(words, pass, part, self.index, &plan) {
+        match kept.enter_and_tell(words, pass, part, self.index, &plan, None) {
             Ok(entered) => Ok(entered),
             Err(fault) => match attempt_of(fault) {
                 Ok(_) => unreachable!(),

@@ -1,7 +1,15 @@
 -- What is known before the first store, and what the calls have made.
 use Rattle.std.proofs.Common.{refl, arith}
+use Rattle.std.proofs.lemmas.Option.{IfSome_then}
 use Rattle.kc_journal.proofs.Entering.{before, fits-section, is-entered, makes, stands-entered}
+use Rattle.kc_journal.proofs.Preparing.{fit-as-told}
 use Rattle.kc_journal.proofs.journal.Journal.enter.Goals as goal
+
+pub add_entry-requires-clause-ahead : goal.add_entry-requires-clause-ahead
+add_entry-requires-clause-ahead c =
+    IfSome_then c.args.ahead c.requires.ahead
+    (λ a h. fit-as-told c.args.pass.now.log c.deref.result.now c.args.plan.now.update a.now c.self.view_is c.self.invariant c.tell.ensures.longer
+    c.requires.within c.deref.ensures.value h)
 
 pub make_section-requires-clause-fits : goal.make_section-requires-clause-fits
 make_section-requires-clause-fits c =
