@@ -121,7 +121,7 @@ impl<J: BoardName, R: Wait + Drop> Shown<J, R> {
         ensures told { pass.new ≡ all_seen self.old.journal }
         ensures history { self.new.history ≡ self.old.history }
     {
-        let entered = self.journal.enter(words, pass, index, plan)?;
+        let entered = self.journal.enter(words, pass, index, plan, None)?;
         self.moved.note(&plan.moves);
         Ok(entered)
     }

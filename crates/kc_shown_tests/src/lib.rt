@@ -1,0 +1,7 @@
+//! Tests of `kc_shown`: what a reader sees of a journal that is shown, when it is told, and while another thread enters and publishes.
+//!
+//! The crate has no code but its tests. They stand apart from `kc_shown`, whose own functions would be proved once more beside them.
+#![tactic(auto)]
+
+#[cfg(test)]
+mod shown;
