@@ -3,9 +3,9 @@ ghost use Rattle.std.specs.Prelude.{◌≡◌, ◌≢◌, ◌<◌, ◌≤◌};
 ghost use Rattle.stress_order.specs.declared.rounds.TheConstants.{ITEMS as ALL_ITEMS};
 
 use crate::board::{Board, end, tell};
-use kc_draws::Draws;
 use crate::rounds::{ITEMS, ROUNDS};
 use crate::wrong::Wrong;
+use kc_draws::Draws;
 use kc_list::PlainOrder;
 use kc_order::SharedOrder;
 use kc_table::{Name, Pass};
