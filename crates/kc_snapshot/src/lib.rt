@@ -24,8 +24,6 @@ mod publisher;
 mod reader;
 mod rule;
 mod steps;
-#[cfg(test)]
-mod tests;
 
 pub use front::Note;
 pub use listing::Place;

@@ -2,7 +2,7 @@
 ghost use Rattle.std.specs.Prelude.{◌≡◌, ◌<◌, ◌+◌, ◌≤◌, ◌∷◌, [], All, IfOk, length};
 ghost use Rattle.kc_snapshot.specs.Histories.{member, width};
 
-use crate::{Blank, BoardName, Place, Publisher, Read, Reader, open};
+use kc_snapshot::{Blank, BoardName, Place, Publisher, Read, Reader, open};
 use std::alloc::Global;
 use std::marker::Brand;
 use std::process::Abort;
