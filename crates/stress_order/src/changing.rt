@@ -3,7 +3,7 @@ ghost use Rattle.std.specs.Prelude.{◌≡◌, ◌≢◌, ◌<◌, ◌≤◌};
 ghost use Rattle.stress_order.specs.declared.rounds.TheConstants.{ITEMS as ALL_ITEMS};
 
 use crate::board::{Board, end, tell};
-use crate::rounds::{ITEMS, ROUNDS};
+use crate::rounds::{ITEMS, NEAR, ROUNDS};
 use crate::wrong::Wrong;
 use kc_draws::Draws;
 use kc_list::PlainOrder;
@@ -111,8 +111,9 @@ impl<K: Name> Changer<K> {
         requires { (0 < round) × (round ≤ ROUNDS) }
     {
         let (odd, even) = (2 * round - 1, 2 * round);
+        let near = 2 * (round - 1 - self.draws.below(round.min(NEAR)));
         let behind = 2 * (1 + self.draws.below(round));
-        self.put(rt, shared, round, odd, 0)?;
+        self.put(rt, shared, round, odd, near)?;
         self.put(rt, shared, round, even, 0)?;
         self.put(rt, shared, round, odd, behind)?;
         self.take(rt, shared, round, odd)?;
