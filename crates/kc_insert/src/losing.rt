@@ -1,8 +1,10 @@
 //! What the neighbours of a vertex lose that will not rise.
-ghost use Rattle.std.specs.Prelude.{◌≡◌, OnOk};
+ghost use Rattle.std.specs.Prelude.{◌≡◌, ◌&&◌, not, false, Some, None, OnOk};
 ghost use Rattle.kc_distinct.specs.Lists.{Distinct};
+ghost use Rattle.kc_insert.specs.Marks.{mark_of};
 ghost use Rattle.kc_insert.specs.Rising.{IsOrderly};
-ghost use Rattle.kc_insert.specs.Turns.{taken_from, LosesOne, Loses};
+ghost use Rattle.kc_insert.specs.Turns.{taken_from, recounted, MarksOne, LosesOne, Loses};
+ghost use Rattle.kc_insert.specs.declared.rising.Mark.{Mark};
 
 use crate::rising::{Mark, Rising};
 use kc_graph::NoMemory;
@@ -39,14 +41,34 @@ impl Loss {
     }
 }
 
-/// What the neighbour `y` loses, if it was ever queued.
+/// The mark of the neighbour `y`, if it was ever queued, loses what it loses. Whether `y` is too weak by that comes back.
+fn weaken(y: u32, loss: Loss, level: u32, rising: &mut Rising) -> bool
+    ensures marked { (mark : Mark) → mark_of rising.old.marks y ≡ Some mark → MarksOne y (recounted level (taken_from loss mark)) rising.old rising.new
+        × (result ≡ (not (taken_from loss mark).is_weak && (recounted level (taken_from loss mark)).is_weak)) }
+    ensures unmarked { mark_of rising.old.marks y ≡ None → (rising.new ≡ rising.old) × (result ≡ false) }
+    ensures rest { (rising.new.queue.items ≡ rising.old.queue.items) × (rising.new.turn ≡ rising.old.turn)
+        × (rising.new.weak.items ≡ rising.old.weak.items) × (rising.new.shifts.items ≡ rising.old.shifts.items) }
+{
+    let Some(mark) = rising.marks.get_mut(&y) else {
+        return false;
+    };
+    let taken = loss.taken_from(*mark);
+    let is_found = !taken.is_weak && taken.is_too_weak(level);
+    *mark = Mark {
+        is_weak: taken.is_weak || is_found,
+        ..taken
+    };
+    is_found
+}
+
+/// What the neighbour `y` loses, if it was ever queued: where that makes a candidate too weak, it is put on the list of the weak.
 fn lose(y: u32, loss: Loss, level: u32, rising: &mut Rising) -> Result<(), NoMemory>
     ensures { OnOk result (LosesOne level loss y rising.old rising.new) }
 {
-    let Some(mark) = rising.find(y) else {
-        return Ok(());
-    };
-    rising.recount(y, loss.taken_from(mark), level)
+    if weaken(y, loss, level, rising) {
+        rising.weak.push(y)?;
+    }
+    Ok(())
 }
 
 /// What each of the neighbours `row` loses.

@@ -3,11 +3,13 @@ ghost use Rattle.std.specs.Prelude.{◌≡◌, ◌<◌, ◌≤◌, ◌+◌, ◌-
 ghost use Rattle.std.specs.List.{insert};
 ghost use Rattle.kc_insert.specs.Marks.{mark_of};
 ghost use Rattle.kc_insert.specs.Rising.{is_candidate, cands, earlier_at, turn_at};
-ghost use Rattle.kc_insert.specs.Turns.{Begins, MarksOne, Leaves, Recounts, Evicts};
+ghost use Rattle.kc_insert.specs.Turns.{Begins, MarksOne, Leaves, Evicts};
 
 use kc_graph::NoMemory;
+use kc_hash::VertexHasher;
 use std::alloc::Global;
 use std::collections::HashMap;
+use std::hash::BuildHasherDefault;
 
 /// What is known of a vertex that was queued.
 #[derive(Clone, Copy, Debug, Drop)]
@@ -27,7 +29,7 @@ pub(crate) struct Mark {
 /// How far a search for the vertices that rise has come.
 #[derive(Drop)]
 pub(crate) struct Rising {
-    pub marks: HashMap<u32, Mark>,
+    pub marks: HashMap<u32, Mark, BuildHasherDefault<VertexHasher>>,
     /// All that were ever queued, in the order of the view.
     pub queue: Vec<u32>,
     /// How many of them have left.
@@ -66,7 +68,7 @@ impl Mark {
     }
 
     /// Whether it is of a candidate with no more neighbours than the level asks.
-    fn is_too_weak(&self, level: u32) -> bool
+    pub fn is_too_weak(&self, level: u32) -> bool
         ensures { result ≡ (self.now.is_candidate && nat_le (self.now.earlier + self.now.later) level) }
     {
         self.is_candidate && self.earlier.saturating_add(self.later) <= level as usize
@@ -78,7 +80,7 @@ impl Rising {
     pub fn start(alloc: Global, root: u32) -> Result<Rising, NoMemory>
         ensures { IfOk result (λ rising. Begins root rising) }
     {
-        let mut marks = HashMap::new(alloc);
+        let mut marks = HashMap::with_hasher(alloc, BuildHasherDefault::new());
         marks.insert(root, Mark::past())?;
         let queue = vec![in alloc; root]?;
         Ok(Rising {
@@ -145,43 +147,31 @@ impl Rising {
         Ok(())
     }
 
-    /// Keeps the counts of a vertex, and puts it on the list of the weak if it is a candidate that they make too weak.
-    pub fn recount(&mut self, y: u32, mark: Mark, level: u32) -> Result<(), NoMemory>
-        ensures { OnOk result (Recounts level y mark self.old self.new) }
-    {
-        let is_found = !mark.is_weak && mark.is_too_weak(level);
-        let is_weak = mark.is_weak || is_found;
-        self.marks.insert(y, Mark { is_weak, ..mark })?;
-        if is_found {
-            self.weak.push(y)?;
-        }
-        Ok(())
-    }
-
     /// A candidate that was found too weak will not rise, and is put behind another. What comes back is its turn.
     pub fn evict(&mut self, x: u32, anchor: u32) -> Result<usize, NoMemory>
         ensures turn { IfOk result (λ turn. turn ≡ turn_at self.old x) }
         ensures evicts { OnOk result (Evicts x anchor self.old self.new) }
     {
-        let turn = self.turn_of(x);
-        let mark = Mark {
-            turn,
-            is_weak: true,
-            ..Mark::past()
-        };
-        self.marks.insert(x, mark)?;
+        let turn = self.dismiss(x)?;
         self.shifts.push((x, anchor))?;
         Ok(turn)
     }
 
-    /// The turn of a candidate.
-    fn turn_of(&self, y: u32) -> usize
-        ensures { result ≡ turn_at self.now y }
+    /// The mark of a vertex says from now on that it was too weak. What comes back is its turn.
+    fn dismiss(&mut self, x: u32) -> Result<usize, NoMemory>
+        ensures turn { IfOk result (λ turn. turn ≡ turn_at self.old x) }
+        ensures marks { OnOk result (MarksOne x (record { earlier = 0; later = 0; turn = turn_at self.old x; is_candidate = false; is_weak = true }) self.old self.new) }
+        ensures rest { OnOk result ((self.new.queue.items ≡ self.old.queue.items) × (self.new.turn ≡ self.old.turn)
+            × (self.new.weak.items ≡ self.old.weak.items) × (self.new.shifts.items ≡ self.old.shifts.items)) }
     {
-        match self.find(y) {
-            Some(mark) => mark.turn,
-            None => 0,
-        }
+        let mark = self.marks.entry(x)?.or_insert(Mark::past());
+        let turn = mark.turn;
+        *mark = Mark {
+            turn,
+            is_weak: true,
+            ..Mark::past()
+        };
+        Ok(turn)
     }
 
     /// Those that may still rise, in the order of the queue.

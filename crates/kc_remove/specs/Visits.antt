@@ -1,13 +1,13 @@
 -- What is kept of the vertices that were visited.
 use Rattle.std.specs.Prelude.{ℕ, Bool, false, Option, Some, None, nat_eq}
-use Rattle.std.specs.declared.hash.FoldHasher.{FoldHasher}
 use Rattle.std.specs.declared.hash.BuildHasherDefault.{BuildHasherDefault}
 use Rattle.std.specs.HashMap.{get, HashMap}
+use Rattle.kc_hash.specs.declared.VertexHasher.{VertexHasher}
 use Rattle.kc_remove.specs.declared.falling.Visit.{Visit}
 
 -- a visit for each vertex that has one
 abbrev pub Visits : Type 0
-Visits = HashMap ℕ Visit (BuildHasherDefault FoldHasher)
+Visits = HashMap ℕ Visit (BuildHasherDefault VertexHasher)
 
 abbrev pub visit_of : Visits → ℕ → Option Visit
 visit_of visits y = get nat_eq visits y

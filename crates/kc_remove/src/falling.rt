@@ -4,8 +4,10 @@ ghost use Rattle.kc_remove.specs.Visits.{visit_of};
 ghost use Rattle.kc_remove.specs.Falling.{has_fallen, Settles};
 
 use kc_graph::NoMemory;
+use kc_hash::VertexHasher;
 use std::alloc::Global;
 use std::collections::HashMap;
+use std::hash::BuildHasherDefault;
 
 /// What is known of a visited vertex.
 #[derive(Clone, Copy, Debug, Drop)]
@@ -21,7 +23,7 @@ pub(crate) struct Visit {
 /// The visited vertices, and those that fall in the order in which they were found too weak.
 #[derive(Drop)]
 pub(crate) struct Falling {
-    pub visits: HashMap<u32, Visit>,
+    pub visits: HashMap<u32, Visit, BuildHasherDefault<VertexHasher>>,
     pub list: Vec<u32>,
 }
 
@@ -32,7 +34,7 @@ impl Falling {
         ensures list { result.list.items ≡ [] }
     {
         Falling {
-            visits: HashMap::new(alloc),
+            visits: HashMap::with_hasher(alloc, BuildHasherDefault::new()),
             list: Vec::new(alloc),
         }
     }
