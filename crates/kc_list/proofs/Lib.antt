@@ -16,3 +16,4 @@ pub mod Arranging
 pub mod Taking
 pub mod Whole
 pub mod Openings
+pub mod Rewritings

@@ -4,3 +4,5 @@ pub mod Tally
 pub mod Views
 pub mod Opening
 pub mod Plain
+pub mod Soundness
+pub mod Rewriting

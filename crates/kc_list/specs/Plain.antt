@@ -3,10 +3,8 @@ use Rattle.std.specs.Prelude.{◌≡◌, ℕ, ◌+◌, ◌<◌, ◌≤◌, List,
 use Rattle.kc_distinct.specs.Lists.{member}
 use Rattle.kc_list.specs.declared.sheet.Write.{Write}
 use Rattle.kc_words.specs.Order.{Ordered}
-use Rattle.kc_list.specs.Places.{Sound}
 use Rattle.kc_list.specs.Sheets.{Paper, stored, OrderedAlong, RaisedAlong}
 use Rattle.kc_list.specs.Tally.{Tallied}
-use Rattle.kc_words.specs.declared.layout.TheConstants.{ITEMS}
 use Rattle.kc_list.specs.declared.limits.TheConstants.{ITEM_WRITES}
 
 -- the items are the numbers below `items`, those below `fixed` stay in the list; `opening` and `words` are by word number
@@ -30,10 +28,8 @@ pub record Written (n : ℕ) (before after : List ℕ) (x : ℕ) (old new : List
   pub raised : RaisedAlong old writes
   pub last_is : last.word ≡ 1 + x
 
--- what is kept between two calls: the labels, the sizes of the groups, and memory enough for a call
+-- what is kept between two calls beside the labels: the sizes of the groups, and memory enough for a call
 pub record IsWhole (n fixed : ℕ) (list : List ℕ) (sheet : Paper) (sizes : List ℕ) (scratch : ℕ) (opening : List ℕ) : Type 0 where
-  pub sound : Sound n sheet.words list
-  pub small : n ≤ ITEMS
   pub fixed_in : (x : ℕ) → x < fixed → member x list ≡ true
   pub tallied : Tallied n sheet.words list sizes
   pub scratch_room : n ≤ scratch

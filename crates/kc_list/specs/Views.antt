@@ -1,5 +1,5 @@
 -- The words of the contracts, over a list and the sheet that has its words.
-use Rattle.std.specs.Prelude.{◌≡◌, ℕ, ◌+◌, ◌/◌, ◌<◌, ◌≤◌, List, [], ◌∷◌, ◌++◌, slice_index, slice_set, true}
+use Rattle.std.specs.Prelude.{◌≡◌, ℕ, ◌+◌, ◌/◌, ◌<◌, ◌≤◌, List, [], ◌∷◌, ◌++◌, length, slice_index, slice_set, true}
 use Rattle.kc_links.specs.Ring.{Chain}
 use Rattle.kc_distinct.specs.Lists.{member, next_of}
 use Rattle.kc_words.specs.Order.{PairBelow, labels}
@@ -77,6 +77,12 @@ end_after c s p = gap_end c.size s.words c.list p
 abbrev pub HasLabelAfter : Chain → Paper → ℕ → Type 0
 HasLabelAfter c s p = HasGap c.size s.words c.list p
 
+-- a label of the gap right after p, which is in the list
+pub record FitsAfter (c : Chain) (s : Paper) (p label : ℕ) : Type 0 where
+  pub p_in : member p c.list ≡ true
+  pub low : bottom_at c s p < label
+  pub high : label < end_after c s p
+
 -- where the labels end that a group may have right after the group whose last item is x
 abbrev pub end_above : Chain → Paper → ℕ → ℕ
 end_above c p x = top_end c.size (labels c.size p.words) (next_of c.size x c.list)
@@ -116,3 +122,8 @@ SetsWord w p q = q.words ≡ slice_set p.words w (slice_index q.words w)
 -- one write is added, of the new value of word w
 abbrev pub AddsWrite : ℕ → Paper → Paper → Type 0
 AddsWrite w p q = q.writes ≡ p.writes ++ record { word = w; value = slice_index q.words w } ∷ []
+
+-- there is memory for so many more writes, and each word can be written two more times
+pub record HasSpare (most : ℕ) (p : Paper) : Type 0 where
+  pub versions : (w : ℕ) → version p.words w + 1 < LAST_VERSION
+  pub room : length p.writes + most ≤ p.room

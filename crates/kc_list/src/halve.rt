@@ -3,13 +3,14 @@ ghost use Rattle.std.specs.Prelude.{◌≡◌, ◌≢◌, ◌<◌, ◌≤◌, �
 ghost use Rattle.kc_distinct.specs.Lists.{member};
 ghost use Rattle.kc_words.specs.Order.{labels};
 ghost use Rattle.kc_list.specs.Places.{evens};
+ghost use Rattle.kc_list.specs.Rewriting.{Rewrites, MakesRoom};
 ghost use Rattle.kc_list.specs.Sheets.{version, ChangesOnly};
 ghost use Rattle.kc_list.specs.Views.{IsSound, group_at, bottom_at, top_at, group_size, HasLabelAfter, HasLabelsAbove, AreMembers, KeepsOrder, IsFree, AreSizes, TakesItem, KeepsGroup, IsNoWordOf, end_above, version_at, RisesByOne, ItemsMayRise};
 
 use crate::gather::gather;
 use crate::groups::Groups;
+use crate::labelled::LabelledList;
 use crate::limits::{GROUP_ITEMS, HALF_ITEMS, HALF_STEP, SPLIT_SHARE};
-use crate::place::gap;
 use crate::scratch::Scratch;
 use crate::sheet::Sheet;
 use crate::split::split;
@@ -206,40 +207,27 @@ fn split_group(links: &Links, sheet: &mut Sheet, groups: &mut Groups, scratch: &
     split_at(links, sheet, p, fresh, &mut members);
 }
 
-/// Sees to it that the group of `p` can take `x`. An `x` of that group leaves it as large as it is.
-pub fn make_group_room(
-    links: &Links,
-    sheet: &mut Sheet,
-    groups: &mut Groups,
-    scratch: &mut Scratch,
-    x: u32,
-    p: u32,
-)
-    requires sound { IsSound links.now sheet.old }
-    requires small { links.now.size ≤ ITEMS }
-    requires p_in { member p links.now.list ≡ true }
-    requires x_within { x < links.now.size }
-    requires tallied { AreSizes links.now sheet.old groups.old }
-    requires scratch { links.now.size ≤ scratch.old }
-    requires version { (w : ℕ) → version_at sheet.old w + 1 < LAST_VERSION }
-    requires room { length sheet.old.writes + links.now.size + GROUP_ITEMS ≤ sheet.old.room }
-    ensures scratch { scratch.new ≡ scratch.old }
-    ensures sound { IsSound links.now sheet.new }
-    ensures tallied { AreSizes links.now sheet.new groups.new }
-    ensures size { TakesItem links.now sheet.new x p }
-    ensures steps { KeepsOrder links.now sheet.old sheet.new }
-    ensures kept { KeepsGroup links.now sheet.old sheet.new p }
-    ensures versions { RisesByOne sheet.old sheet.new }
-    ensures length { length sheet.new.writes ≤ length sheet.old.writes + links.now.size + HALF_ITEMS + 1 }
-    ensures room { sheet.new.room ≡ sheet.old.room }
-{
-    let here = ItemWord::of(sheet.word(1 + p)).group;
-    if (groups.size(here) as usize) < GROUP_ITEMS {
-        return;
+impl LabelledList {
+    /// Sees to it that the group of `p` can take `x`. An `x` of that group leaves it as large as it is.
+    pub fn make_group_room(&mut self, scratch: &mut Scratch, x: u32, p: u32)
+        requires p_in { member p self.old.links.list ≡ true }
+        requires x_within { x < self.old.links.size }
+        requires tallied { AreSizes self.old.links self.old.sheet self.old.groups }
+        requires scratch { self.old.links.size ≤ scratch.old }
+        requires version { (w : ℕ) → version_at self.old.sheet w + 1 < LAST_VERSION }
+        requires room { length self.old.sheet.writes + self.old.links.size + GROUP_ITEMS ≤ self.old.sheet.room }
+        ensures scratch { scratch.new ≡ scratch.old }
+        ensures room { MakesRoom x p self.old self.new }
+        ensures rewrites { Rewrites (self.old.links.size + HALF_ITEMS + 1) self.old self.new }
+    {
+        let here = self.item(p).group;
+        if (self.groups.size(here) as usize) < GROUP_ITEMS {
+            return;
+        }
+        let (low, high) = self.gap(p);
+        if self.item(x).group == here && low + 2 <= high {
+            return;
+        }
+        split_group(&self.links, &mut self.sheet, &mut self.groups, scratch, p);
     }
-    let (low, high) = gap(links, sheet, p);
-    if ItemWord::of(sheet.word(1 + x)).group == here && low + 2 <= high {
-        return;
-    }
-    split_group(links, sheet, groups, scratch, p);
 }

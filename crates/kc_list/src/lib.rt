@@ -18,6 +18,7 @@
 mod gather;
 mod groups;
 mod halve;
+mod labelled;
 pub mod limits;
 mod opening;
 mod place;

@@ -8,15 +8,13 @@ ghost use Rattle.kc_list.specs.Plain.{Plain, Written};
 
 use crate::NoMemory;
 use crate::groups::Groups;
-use crate::halve::make_group_room;
+use crate::labelled::LabelledList;
 use crate::limits::ITEM_WRITES;
 use crate::opening::{link, opening_words};
-use crate::place::{Growth, label_after, move_item, pair_below, take_item};
-use crate::room::make_room;
+use crate::place::Growth;
 use crate::scratch::Scratch;
 use crate::sheet::{Sheet, Write};
-use kc_links::Links;
-use kc_words::{ItemWord, LAST_VERSION, Shape};
+use kc_words::{LAST_VERSION, Shape};
 use std::alloc::Global;
 use std::marker::Model;
 
@@ -29,9 +27,7 @@ use std::marker::Model;
 /// `items + g`. The words have versions of 24 bits, which count the writes to them.
 #[derive(Drop)]
 pub struct PlainOrder {
-    links: Links,
-    sheet: Sheet,
-    groups: Groups,
+    list: LabelledList,
     scratch: Scratch,
     opening: Vec<u64>,
     fixed: u32,
@@ -67,15 +63,15 @@ impl Model for PlainOrder {
     ghost use Rattle.kc_list.specs.Plain.{IsWhole};
 
     ghost view = { λ a. record {
-      items = a.links.size;
+      items = a.list.links.size;
       fixed = a.fixed;
       opening = a.opening.items;
-      words = a.sheet.words;
-      list = a.links.list;
-      writes = a.sheet.writes;
+      words = a.list.sheet.words;
+      list = a.list.links.list;
+      writes = a.list.sheet.writes;
     } };
 
-    ghost invariant = { λ a. IsWhole a.links.size a.fixed a.links.list a.sheet a.groups a.scratch a.opening.items };
+    ghost invariant = { λ a. IsWhole a.list.links.size a.fixed a.list.links.list a.list.sheet a.list.groups a.scratch a.opening.items };
 }
 
 impl PlainOrder {
@@ -108,9 +104,11 @@ impl PlainOrder {
         let groups = Groups::open(alloc, shape.items, order.len() as u32)?;
         let scratch = Scratch::new(alloc, shape.items as usize)?;
         Ok(PlainOrder {
-            links,
-            sheet,
-            groups,
+            list: LabelledList {
+                links,
+                sheet,
+                groups,
+            },
             scratch,
             opening,
             fixed: shape.fixed,
@@ -134,7 +132,7 @@ impl PlainOrder {
     pub fn writes(&self) -> &[Write]
         ensures { result.now ≡ self.now.writes }
     {
-        self.sheet.writes()
+        self.list.sheet.writes()
     }
 
     /// Moves or adds `x` right after `p`.
@@ -156,20 +154,11 @@ impl PlainOrder {
         ensures twice { version self.new.words (1 + x) ≤ version self.old.words (1 + x) + 2 }
         ensures highest { highest_of self.new.words ≤ highest_of self.old.words + 2 }
     {
-        let PlainOrder {
-            links,
-            sheet,
-            groups,
-            scratch,
-            last,
-            ..
-        } = self;
-        sheet.clear();
-        make_group_room(links, sheet, groups, scratch, x, p);
-        make_room(links, sheet, p);
-        let label = label_after(links, sheet, p, last.growth(p));
-        move_item(links, sheet, groups, x, p, label);
-        *last = LastPut { item: x, after: p };
+        self.list.sheet.clear();
+        self.list.make_way(&mut self.scratch, x, p);
+        let label = self.list.label_after(p, self.last.growth(p));
+        self.list.move_item(x, p, label);
+        self.last = LastPut { item: x, after: p };
     }
 
     /// Takes `x` out, by one write.
@@ -188,14 +177,8 @@ impl PlainOrder {
         ensures out { item_of (slice_index self.new.words (1 + x))
             ≡ record { version = version self.old.words (1 + x) + 1; group = 0; bottom = 0 } }
     {
-        let PlainOrder {
-            links,
-            sheet,
-            groups,
-            ..
-        } = self;
-        sheet.clear();
-        take_item(links, sheet, groups, x);
+        self.list.sheet.clear();
+        self.list.take_item(x);
     }
 
     /// Whether `x` stands before `y`.
@@ -206,7 +189,7 @@ impl PlainOrder {
         ensures by_list { IsTrue result ↔ (place_of x self.now.list < place_of y self.now.list) }
         ensures by_labels { IsTrue result ↔ PairBelow (labels self.now.items self.now.words) x y }
     {
-        pair_below(&self.links, &self.sheet, x, y)
+        self.list.pair_below(x, y)
     }
 
     /// Whether `x` is in the list.
@@ -214,7 +197,7 @@ impl PlainOrder {
         requires { x < self.now.items }
         ensures { IsTrue result ↔ (member x self.now.list ≡ true) }
     {
-        ItemWord::of(self.sheet.word(1 + x)).group != 0
+        self.list.item(x).group != 0
     }
 
     /// What stands right before `x`; `None` where `x` is the first.
@@ -223,8 +206,8 @@ impl PlainOrder {
         ensures { MatchOption result (prev_of self.now.items x self.now.list ≡ self.now.items)
             (λ y. (y ≡ prev_of self.now.items x self.now.list) × (member y self.now.list ≡ true)) }
     {
-        let before = self.links.prev(x);
-        if before == self.links.size() {
+        let before = self.list.links.prev(x);
+        if before == self.list.links.size() {
             None
         } else {
             Some(before)
@@ -237,8 +220,8 @@ impl PlainOrder {
         ensures { MatchOption result (next_of self.now.items x self.now.list ≡ self.now.items)
             (λ y. (y ≡ next_of self.now.items x self.now.list) × (member y self.now.list ≡ true)) }
     {
-        let next = self.links.next(x);
-        if next == self.links.size() {
+        let next = self.list.links.next(x);
+        if next == self.list.links.size() {
             None
         } else {
             Some(next)
@@ -252,6 +235,6 @@ impl PlainOrder {
         ensures reached { (w : ℕ) × (1 ≤ w) × (w ≤ 2 * self.now.items + 1)
             × (version self.now.words w ≡ result) }
     {
-        self.sheet.highest()
+        self.list.sheet.highest()
     }
 }

@@ -5,8 +5,8 @@ use Rattle.kc_list.proofs.Whole.{reached}
 use Rattle.kc_list.proofs.plain.PlainOrder.highest.Goals as goal
 
 pub returns-clause-greatest : goal.returns-clause-greatest
-returns-clause-greatest c w = rw (← c.self.view_is) (omega (arith, version-highest c.self.inside.sheet.words w, c.highest.ensures))
+returns-clause-greatest c w = rw (← c.self.view_is) (omega (arith, version-highest c.self.inside.list.sheet.words w, c.highest.ensures))
 
 pub returns-clause-reached : goal.returns-clause-reached
 returns-clause-reached c = rw (← c.self.view_is)
-    (reached c.self.inside.links.size c.highest.result c.self.inside.sheet.words c.self.invariant.sound.size c.self.invariant.note c.highest.ensures)
+    (reached c.self.inside.list.links.size c.highest.result c.self.inside.list.sheet.words c.self.inside.list.sound.size c.self.invariant.note c.highest.ensures)

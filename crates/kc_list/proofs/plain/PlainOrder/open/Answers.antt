@@ -17,15 +17,17 @@ overflow_cast-order c = omega (arith, below_bound c.args.shape.items c.args.orde
 pub open-requires-2-clause-within : goal.open-requires-2-clause-within
 open-requires-2-clause-within c = below_bound c.args.shape.items c.args.order.now c.requires.distinct c.requires.within
 
-pub invariant_of-result : goal.invariant_of-result
-invariant_of-result c =
+pub invariant_of-result-clause-sound : goal.invariant_of-result-clause-sound
+invariant_of-result-clause-sound c = rw (c.in_ok-links.ensures, c.in_ok-sheet.ensures)
+    (opened_sound c.args.shape.items c.args.shape.version c.args.order.now c.in_ok-words.words.items c.args.shape.few_items c.requires.distinct
+    c.requires.within c.in_ok-words.ensures)
+
+pub invariant_of-result-2 : goal.invariant_of-result-2
+invariant_of-result-2 c =
     let sheet : Paper = record { words = c.in_ok-words.words.items; writes = []; room = c.args.shape.items + ITEM_WRITES } in
     let copied = c.in_ok-opening.ensures.items_if_clones_equal (λ x y h. h) ∙ c.as_slice.ensures.value in
     let whole : IsWhole c.args.shape.items c.args.shape.fixed c.args.order.now sheet c.in_ok-groups.groups c.in_ok-scratch.scratch
     c.in_ok-opening.opening.items = record {
-      sound = opened_sound c.args.shape.items c.args.shape.version c.args.order.now c.in_ok-words.words.items c.args.shape.few_items c.requires.distinct
-          c.requires.within c.in_ok-words.ensures;
-      small = c.args.shape.few_items;
       fixed_in = c.requires.fixed_in;
       tallied = opened_tallied c.args.shape.items c.args.shape.version c.args.order.now c.in_ok-words.words.items c.in_ok-groups.groups c.requires.distinct
           c.requires.within c.in_ok-words.ensures c.in_ok-groups.ensures.length c.in_ok-groups.ensures.none c.in_ok-groups.ensures.sizes;

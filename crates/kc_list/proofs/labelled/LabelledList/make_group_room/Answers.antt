@@ -1,0 +1,9 @@
+-- Where nothing is written the list is in order at the one moment that there is.
+use Rattle.kc_list.proofs.Rewritings.{unwritten}
+use Rattle.kc_list.proofs.labelled.LabelledList.make_group_room.Goals as goal
+
+pub returns-then-size-lt-GROUP_ITEMS-clause-rewrites : goal.returns-then-size-lt-GROUP_ITEMS-clause-rewrites
+returns-then-size-lt-GROUP_ITEMS-clause-rewrites c = unwritten c.args.self.now _
+
+pub returns-then-low-high-clause-rewrites : goal.returns-then-low-high-clause-rewrites
+returns-then-low-high-clause-rewrites c = unwritten c.args.self.now _

@@ -1,0 +1,6 @@
+-- Where nothing is written the list is in order at the one moment that there is.
+use Rattle.kc_list.proofs.Rewritings.{unwritten}
+use Rattle.kc_list.proofs.labelled.LabelledList.make_room.Goals as goal
+
+pub returns-then-low-high-clause-rewrites : goal.returns-then-low-high-clause-rewrites
+returns-then-low-high-clause-rewrites c = unwritten c.args.self.now _

@@ -1,0 +1,27 @@
+-- Room for a group number, then room for a label: no word is written twice.
+use Rattle.std.proofs.Common.{arith, ◌+◌}
+use Rattle.kc_list.proofs.Rewritings.{most_items, way_made, way_rewrites}
+use Rattle.kc_list.specs.declared.limits.TheConstants.{GROUP_ITEMS}
+use Rattle.kc_list.proofs.labelled.LabelledList.make_way.Goals as goal
+
+pub make_room-requires-clause-p_in : goal.make_room-requires-clause-p_in
+make_room-requires-clause-p_in c = rw c.make_group_room.ensures.rewrites.links c.requires.p_in
+
+pub make_room-requires-clause-size : goal.make_room-requires-clause-size
+make_room-requires-clause-size c = most_items c.make_group_room.new.self c.args.p c.make_group_room.ensures.room.tallied
+    (rw c.make_group_room.ensures.rewrites.links c.requires.p_in)
+
+pub make_room-requires-clause-version : goal.make_room-requires-clause-version
+make_room-requires-clause-version c y m = omega (arith, c.make_group_room.ensures.rewrites.versions (1 + y), c.requires.spare.versions (1 + y))
+
+pub make_room-requires-clause-room : goal.make_room-requires-clause-room
+make_room-requires-clause-room c = omega (arith, c.make_group_room.ensures.rewrites.count, c.make_group_room.ensures.rewrites.room, c.requires.spare.room)
+
+pub returns-clause-way : goal.returns-clause-way
+returns-clause-way c = way_made c.args.self.now c.make_group_room.new.self c.make_room.new.self c.args.x c.args.p _ c.make_group_room.ensures.room
+    c.make_room.ensures.change c.make_room.ensures.rewrites c.make_room.ensures.groups c.make_room.ensures.gap
+    (rw c.make_group_room.ensures.rewrites.links c.requires.x_within) (rw c.make_group_room.ensures.rewrites.links c.requires.p_in)
+
+pub returns-clause-rewrites : goal.returns-clause-rewrites
+returns-clause-rewrites c = way_rewrites c.args.self.now c.make_group_room.new.self c.make_room.new.self c.args.x c.args.p _ GROUP_ITEMS
+    c.make_group_room.ensures.room c.make_group_room.ensures.rewrites c.make_room.ensures.change c.make_room.ensures.kept c.make_room.ensures.rewrites
