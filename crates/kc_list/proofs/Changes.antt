@@ -1,12 +1,12 @@
 -- What stays as the words of one group change.
-use Rattle.std.proofs.Common.{◌≡◌, ◌≢◌, ℕ, ◌+◌, ◌<◌, true, false, cond, List, [], ◌∷◌, length, get_or, take, drop, map, ◌/◌, eqb, refl, sym, ◌∙◌, ap, subst, ◌⊎◌, inl, inr, arith}
+use Rattle.std.proofs.Common.{◌≡◌, ◌≢◌, ℕ, ◌+◌, ◌<◌, true, false, cond, List, [], ◌∷◌, length, take, drop, map, ◌/◌, eqb, refl, sym, ◌∙◌, ap, subst, ◌⊎◌, inl, inr, arith}
 use Rattle.std.proofs.lemmas.Bool.{cases_Bool, ne_eqb, false≢true, true≢false, false_from_ne_true}
 use Rattle.std.proofs.lemmas.List.{length-take-le, length-drop}
 use Rattle.kc_words.specs.ItemWord.{item_of}
 use Rattle.kc_distinct.specs.Lists.{member}
 use Rattle.kc_distinct.proofs.Members.{member-head, member-tail, member-cases, not_member-cons}
 use Rattle.kc_words.specs.Order.{Labels, labels}
-use Rattle.kc_list.specs.Places.{Sound, Segment, Free, HasGap, NotOf, size_of, evens}
+use Rattle.kc_list.specs.Places.{Sound, Segment, Free, NotOf, Halved, size_of, evens}
 use Rattle.kc_list.specs.Sheets.{ChangesOnly}
 use Rattle.kc_list.proofs.Spreading.{segment_in}
 use Rattle.kc_list.proofs.Rooms.{room_after_spread}
@@ -45,15 +45,7 @@ size-agree_at f h g [] e = refl
 size-agree_at f h g (x ∷ xs) e =
     omega (arith, ap {B = ℕ} (λ b. cond b 1 0) (e x (member-head x xs)), size-agree_at f h g xs (λ y k. e y (member-tail y x xs k)))
 
--- a full group is cut in two: what the two have, and what others keep
-pub record Halved (n : ℕ) (ws vs list : List ℕ) (g h p : ℕ) : Type 0 where
-  pub left : size_of (labels n vs).group g list ≡ HALF_ITEMS
-  pub fresh : size_of (labels n vs).group h list ≡ HALF_ITEMS
-  pub others : (k : ℕ) → k ≢ g → k ≢ h → size_of (labels n vs).group k list ≡ size_of (labels n ws).group k list
-  pub gap : (labels n vs).group p ≡ h → HasGap n vs list p
-  pub only : (w : ℕ) → w ≢ n + h → NotOf (labels n vs) list h w → get_or vs w 0 ≡ get_or ws w 0
-  pub group : ((labels n vs).group p ≡ g) ⊎ ((labels n vs).group p ≡ h)
-
+-- a full group is cut in two
 pub halved : (n : ℕ) (ws vs list : List ℕ) (g h p : ℕ) (m : List ℕ) → Sound n ws list → Sound n vs list → Segment (labels n ws) list g m
     → length m ≡ GROUP_ITEMS → Free n (labels n ws) list h → Segment (labels n vs) list g (take HALF_ITEMS m)
     → Segment (labels n vs) list h (drop HALF_ITEMS m) → map (labels n vs).bottom (drop HALF_ITEMS m) ≡ evens HALF_ITEMS HALF_STEP 0

@@ -17,3 +17,4 @@ pub mod Taking
 pub mod Whole
 pub mod Openings
 pub mod Rewritings
+pub mod Dividing

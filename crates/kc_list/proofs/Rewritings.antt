@@ -8,7 +8,7 @@ use Rattle.kc_words.specs.Order.{Ordered}
 use Rattle.kc_list.specs.Plain.{Written}
 use Rattle.kc_list.specs.Places.{Sound}
 use Rattle.kc_list.specs.Views.{AreSizes, TakesItem, KeepsOrder, HasLabelAfter, group_at, group_size}
-use Rattle.kc_list.specs.Rewriting.{Stores, Rewrites, ChangesGroup, MakesRoom, HasWay, PutsItem, TakesOut}
+use Rattle.kc_list.specs.Rewriting.{Stores, Rewrites, Relabels, ChangesGroup, MakesRoom, HasWay, PutsItem, TakesOut}
 use Rattle.kc_list.specs.declared.labelled.LabelledList.{LabelledList}
 use Rattle.kc_list.proofs.Putting.{ordered_from}
 use Rattle.kc_list.proofs.Spreading.{Steps-none, raises_from}
@@ -73,15 +73,15 @@ most_items b p t m =
     omega (arith, t.counts (group_at b.links b.sheet p) placed.group_low placed.group_high, t.most (group_at b.links b.sheet p))
 
 -- where the group of p can take x, and is then spread, x can be put right after p
-pub way_made : (a b d : LabelledList) (x p most : ℕ) → MakesRoom x p a b → ChangesGroup (group_at b.links b.sheet p) b d → Rewrites most b d
-    → d.groups ≡ b.groups → HasLabelAfter b.links d.sheet p → x < b.links.size → member p b.links.list ≡ true → HasWay x p d
-way_made a b d x p most room change then same gap below p-in = record {
-  tallied = rw (then.links, same)
+pub way_made : (a b d : LabelledList) (x p most : ℕ) → MakesRoom x p a b → ChangesGroup (group_at b.links b.sheet p) b d → Relabels most b d
+    → HasLabelAfter b.links d.sheet p → x < b.links.size → member p b.links.list ≡ true → HasWay x p d
+way_made a b d x p most room change then gap below p-in = record {
+  tallied = rw (then.rewrites.links, then.groups)
       (tally_agree b.links.size b.sheet.words d.sheet.words b.links.list b.groups change.groups room.tallied);
-  takes = rw then.links
+  takes = rw then.rewrites.links
       (takes_kept b.links.size b.sheet.words d.sheet.words b.links.list x p b.sound
-      (subst (λ (l : Chain). Sound l.size d.sheet.words l.list) then.links d.sound) below p-in change.groups room.takes);
-  gap = rw then.links gap;
+      (subst (λ (l : Chain). Sound l.size d.sheet.words l.list) then.rewrites.links d.sound) below p-in change.groups room.takes);
+  gap = rw then.rewrites.links gap;
 }
 
 -- a spread after that writes no word again

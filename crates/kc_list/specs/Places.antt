@@ -1,8 +1,9 @@
 -- The place of an item: the label of its group, and its own label in the group.
-use Rattle.std.specs.Prelude.{if◌then◌else◌, ◌≡◌, ◌≢◌, ℕ, zero, suc, ◌+◌, ◌*◌, ◌<◌, ◌≤◌, ◌⊎◌, List, [], ◌∷◌, ◌++◌, length, take, drop, map, true, false, ◌==◌}
+use Rattle.std.specs.Prelude.{if◌then◌else◌, ◌≡◌, ◌≢◌, ℕ, zero, suc, ◌+◌, ◌*◌, ◌<◌, ◌≤◌, ◌⊎◌, List, [], ◌∷◌, ◌++◌, length, take, drop, map, slice_index, true, false, ◌==◌}
 use Rattle.kc_distinct.specs.Lists.{member, Distinct, next_of}
 use Rattle.kc_words.specs.Order.{InOrder, Labels, labels}
 use Rattle.kc_words.specs.declared.layout.TheConstants.{BOTTOM_ROOM, TOP_ROOM}
+use Rattle.kc_list.specs.declared.limits.TheConstants.{HALF_ITEMS}
 
 abbrev pub IfFirst : (ℕ → Type 0) → List ℕ → Type 0
 IfFirst P [] = Unit {0}
@@ -116,3 +117,12 @@ pub record First (a : Labels) (list : List ℕ) (g x : ℕ) : Type 0 where
 -- where the gap above a group ends, whose last member is followed by q
 abbrev pub top_end : ℕ → Labels → ℕ → ℕ
 top_end n a q = if q == n then TOP_ROOM else a.top (a.group q)
+
+-- a full group is cut in two: what the two have, and what others keep
+pub record Halved (n : ℕ) (ws vs list : List ℕ) (g h p : ℕ) : Type 0 where
+  pub left : size_of (labels n vs).group g list ≡ HALF_ITEMS
+  pub fresh : size_of (labels n vs).group h list ≡ HALF_ITEMS
+  pub others : (k : ℕ) → k ≢ g → k ≢ h → size_of (labels n vs).group k list ≡ size_of (labels n ws).group k list
+  pub gap : (labels n vs).group p ≡ h → HasGap n vs list p
+  pub only : (w : ℕ) → w ≢ n + h → NotOf (labels n vs) list h w → slice_index vs w ≡ slice_index ws w
+  pub group : ((labels n vs).group p ≡ g) ⊎ ((labels n vs).group p ≡ h)

@@ -1,9 +1,12 @@
 -- From one state of the labelled list to a later one.
-use Rattle.std.specs.Prelude.{◌≡◌, ℕ, ◌+◌, ◌≤◌, length, slice_index, true}
+use Rattle.std.specs.Prelude.{◌≡◌, ℕ, ◌+◌, ◌<◌, ◌≤◌, List, ◌∷◌, length, take, drop, map, slice_index, true}
 use Rattle.kc_distinct.specs.Lists.{member, without, right_after}
 use Rattle.kc_words.specs.ItemWord.{item_of}
-use Rattle.kc_list.specs.Sheets.{Paper}
-use Rattle.kc_list.specs.Views.{KeepsOrder, RisesByOne, SetsWord, AddsWrite, IsNoWordOf, HasLabelAfter, AreSizes, TakesItem, KeepsGroup, group_at, version_at}
+use Rattle.kc_list.specs.Places.{evens}
+use Rattle.kc_list.specs.Sheets.{Paper, ChangesOnly}
+use Rattle.kc_list.specs.Views.{KeepsOrder, RisesByOne, SetsWord, AddsWrite, IsNoWordOf, HasLabelAfter, AreSizes, AreMembers, TakesItem, KeepsGroup, IsFree, TopsAreApart, group_at, group_size, groups_in_use, bottom_at, top_at, version_at}
+use Rattle.kc_words.specs.declared.layout.TheConstants.{TOP_ROOM}
+use Rattle.kc_list.specs.declared.limits.TheConstants.{GROUP_ITEMS, HALF_ITEMS, HALF_STEP}
 use Rattle.kc_list.specs.declared.labelled.LabelledList.{LabelledList}
 
 -- word w is written, once
@@ -20,6 +23,36 @@ pub record Rewrites (most : ℕ) (old new : LabelledList) : Type 0 where
   pub versions : RisesByOne old.sheet new.sheet
   pub count : length new.sheet.writes ≤ length old.sheet.writes + most
   pub room : new.sheet.room ≡ old.sheet.room
+
+-- the same, and no group gets or loses an item
+pub record Relabels (most : ℕ) (old new : LabelledList) : Type 0 where
+  pub groups : new.groups ≡ old.groups
+  pub rewrites : Rewrites most old new
+
+-- all groups have labels with room between them and at the end, and no other words change
+pub record SpreadsTops (old new : LabelledList) : Type 0 where
+  pub gaps : TopsAreApart old.links new.sheet
+  pub high : (g : ℕ) → member g (groups_in_use old.links new.sheet) ≡ true → top_at old.links new.sheet g + 2 ≤ TOP_ROOM
+  pub only : ChangesOnly (map (λ g. old.links.size + g) (groups_in_use old.links old.sheet)) old.sheet.words new.sheet.words
+
+-- no words change but those of groups that are in use
+pub record KeepsItems (old new : LabelledList) : Type 0 where
+  pub items : (w : ℕ) → w ≤ old.links.size → slice_index new.sheet.words w ≡ slice_index old.sheet.words w
+  pub unused : (h : ℕ) → IsFree old.links old.sheet h
+      → slice_index new.sheet.words (old.links.size + h) ≡ slice_index old.sheet.words (old.links.size + h)
+
+-- the upper half of group g, which is full and has these members, is now group h
+pub record Halves (g h : ℕ) (members : List ℕ) (old new : LabelledList) : Type 0 where
+  pub lower : AreMembers old.links new.sheet g (take HALF_ITEMS members)
+  pub upper : AreMembers old.links new.sheet h (drop HALF_ITEMS members)
+  pub bottoms : map (bottom_at old.links new.sheet) (drop HALF_ITEMS members) ≡ evens HALF_ITEMS HALF_STEP 0
+  pub only : ChangesOnly ((old.links.size + h) ∷ map (λ y. 1 + y) (drop HALF_ITEMS members)) old.sheet.words new.sheet.words
+
+-- the group of p has less items than it may have, and p has a label after it or its group's words are as they were
+pub record Divides (p : ℕ) (old new : LabelledList) : Type 0 where
+  pub tallied : AreSizes new.links new.sheet new.groups
+  pub size : group_size new.links new.sheet (group_at new.links new.sheet p) < GROUP_ITEMS
+  pub kept : KeepsGroup new.links old.sheet new.sheet p
 
 -- each item stays in its group, and no words change but those of the items of group g
 pub record ChangesGroup (g : ℕ) (old new : LabelledList) : Type 0 where

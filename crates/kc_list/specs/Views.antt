@@ -7,7 +7,8 @@ use Rattle.kc_list.specs.Places.{Sound, Segment, First, Free, Splitting, NotOf, 
 use Rattle.kc_list.specs.Sheets.{Paper, Steps, version}
 use Rattle.kc_list.specs.Tally.{Tallied}
 use Rattle.kc_list.specs.Tally as tally
-use Rattle.kc_words.specs.declared.layout.TheConstants.{LAST_VERSION}
+use Rattle.kc_words.specs.declared.layout.TheConstants.{LAST_VERSION, TOP_ROOM}
+use Rattle.kc_list.specs.declared.limits.TheConstants.{GROUP_ITEMS}
 
 -- labels
 
@@ -46,6 +47,16 @@ groups_in_use c p = runs (labels c.size p.words).group c.list
 
 abbrev pub IsFree : Chain → Paper → ℕ → Type 0
 IsFree c p h = Free c.size (labels c.size p.words) c.list h
+
+-- no item has group h, and its word can be written
+pub record IsSpare (c : Chain) (p : Paper) (h : ℕ) : Type 0 where
+  pub free : IsFree c p h
+  pub version : version_at p (c.size + h) < LAST_VERSION
+
+-- the group of p, which is in the list, has as many items as it may have
+pub record IsFull (c : Chain) (s : Paper) (p : ℕ) : Type 0 where
+  pub p_in : member p c.list ≡ true
+  pub size : group_size c s (group_at c s p) ≡ GROUP_ITEMS
 
 -- the items of group g, in order
 abbrev pub AreMembers : Chain → Paper → ℕ → List ℕ → Type 0
@@ -94,6 +105,11 @@ FitsAbove c p g t = (z : ℕ) → member z c.list ≡ true → top_at c p g < to
 -- a label fits between that of group g and each greater one
 abbrev pub HasLabelsAbove : Chain → Paper → ℕ → Type 0
 HasLabelsAbove c p g = (z : ℕ) → member z c.list ≡ true → top_at c p g < top_at c p (group_at c p z) → top_at c p g + 2 ≤ top_at c p (group_at c p z)
+
+-- the same, and one below the end of all labels
+pub record HasRoomAbove (c : Chain) (p : Paper) (g : ℕ) : Type 0 where
+  pub gap : HasLabelsAbove c p g
+  pub high : top_at c p g + 2 ≤ TOP_ROOM
 
 abbrev pub TopsAreApart : Chain → Paper → Type 0
 TopsAreApart c p = (g : ℕ) → member g (groups_in_use c p) ≡ true → (h : ℕ) → member h (groups_in_use c p) ≡ true → top_at c p g < top_at c p h

@@ -1,15 +1,12 @@
 //! Room for new labels of all groups.
-ghost use Rattle.std.specs.Prelude.{◌≡◌, ◌<◌, ◌≤◌, ◌+◌, ℕ, length, map, true, IfOk};
-ghost use Rattle.kc_distinct.specs.Lists.{member};
-ghost use Rattle.kc_words.specs.Order.{labels};
-ghost use Rattle.kc_list.specs.Sheets.{version, ChangesOnly};
-ghost use Rattle.kc_list.specs.Views.{IsSound, top_at, KeepsOrder, groups_in_use, version_at, RisesByOne, evenly, TopsAreApart};
+ghost use Rattle.std.specs.Prelude.{◌≡◌, ◌<◌, ◌≤◌, ◌+◌, ℕ, length, IfOk};
+ghost use Rattle.kc_list.specs.Views.{version_at};
+ghost use Rattle.kc_list.specs.Rewriting.{Relabels, SpreadsTops};
 
 use crate::NoMemory;
-use crate::sheet::Sheet;
+use crate::labelled::LabelledList;
 use crate::tops::spread_tops_in;
-use kc_links::Links;
-use kc_words::{ITEMS, LAST_VERSION, TOP_ROOM};
+use kc_words::LAST_VERSION;
 use std::alloc::Global;
 use std::marker::Model;
 
@@ -52,24 +49,14 @@ impl Scratch {
     }
 
     /// Spreads the labels of all groups evenly, store by store.
-    pub fn spread_tops(&mut self, links: &Links, sheet: &mut Sheet)
-        requires room_here { links.now.size ≤ self.old }
-        requires sound { IsSound links.now sheet.old }
-        requires small { links.now.size ≤ ITEMS }
-        requires version { (g : ℕ) → 0 < g → g ≤ links.now.size + 1
-            → version_at sheet.old (links.now.size + g) < LAST_VERSION }
-        requires room { length sheet.old.writes + links.now.size ≤ sheet.old.room }
+    pub fn spread_tops(&mut self, list: &mut LabelledList)
+        requires room_here { list.old.links.size ≤ self.old }
+        requires version { (g : ℕ) → 0 < g → g ≤ list.old.links.size + 1
+            → version_at list.old.sheet (list.old.links.size + g) < LAST_VERSION }
+        requires room { length list.old.sheet.writes + list.old.links.size ≤ list.old.sheet.room }
         ensures same_room { self.new ≡ self.old }
-        ensures sound { IsSound links.now sheet.new }
-        ensures gaps { TopsAreApart links.now sheet.new }
-        ensures gaps_high { (g : ℕ) → member g (groups_in_use links.now sheet.new) ≡ true
-            → top_at links.now sheet.new g + 2 ≤ TOP_ROOM }
-        ensures steps { KeepsOrder links.now sheet.old sheet.new }
-        ensures only { ChangesOnly (map (λ g. links.now.size + g) (groups_in_use links.now sheet.old))
-            sheet.old.words sheet.new.words }
-        ensures versions { RisesByOne sheet.old sheet.new }
-        ensures length { length sheet.new.writes ≤ length sheet.old.writes + links.now.size }
-        ensures room { sheet.new.room ≡ sheet.old.room }
+        ensures spread { SpreadsTops list.old list.new }
+        ensures relabels { Relabels list.old.links.size list.old list.new }
     {
         let Scratch {
             groups,
@@ -77,6 +64,6 @@ impl Scratch {
             after,
             steps,
         } = self;
-        spread_tops_in(links, sheet, groups, before, after, steps);
+        spread_tops_in(&list.links, &mut list.sheet, groups, before, after, steps);
     }
 }

@@ -1,6 +1,7 @@
 -- Where nothing is written the list is in order at the one moment that there is.
+use Rattle.std.proofs.Common.{refl}
 use Rattle.kc_list.proofs.Rewritings.{unwritten}
 use Rattle.kc_list.proofs.labelled.LabelledList.make_room.Goals as goal
 
-pub returns-then-low-high-clause-rewrites : goal.returns-then-low-high-clause-rewrites
-returns-then-low-high-clause-rewrites c = unwritten c.args.self.now _
+pub returns-then-low-high-clause-relabels : goal.returns-then-low-high-clause-relabels
+returns-then-low-high-clause-relabels c = record { groups = refl; rewrites = unwritten c.args.self.now _ }

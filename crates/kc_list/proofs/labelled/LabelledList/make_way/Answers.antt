@@ -19,9 +19,9 @@ make_room-requires-clause-room c = omega (arith, c.make_group_room.ensures.rewri
 
 pub returns-clause-way : goal.returns-clause-way
 returns-clause-way c = way_made c.args.self.now c.make_group_room.new.self c.make_room.new.self c.args.x c.args.p _ c.make_group_room.ensures.room
-    c.make_room.ensures.change c.make_room.ensures.rewrites c.make_room.ensures.groups c.make_room.ensures.gap
+    c.make_room.ensures.change c.make_room.ensures.relabels c.make_room.ensures.gap
     (rw c.make_group_room.ensures.rewrites.links c.requires.x_within) (rw c.make_group_room.ensures.rewrites.links c.requires.p_in)
 
 pub returns-clause-rewrites : goal.returns-clause-rewrites
 returns-clause-rewrites c = way_rewrites c.args.self.now c.make_group_room.new.self c.make_room.new.self c.args.x c.args.p _ GROUP_ITEMS
-    c.make_group_room.ensures.room c.make_group_room.ensures.rewrites c.make_room.ensures.change c.make_room.ensures.kept c.make_room.ensures.rewrites
+    c.make_group_room.ensures.room c.make_group_room.ensures.rewrites c.make_room.ensures.change c.make_room.ensures.kept c.make_room.ensures.relabels.rewrites

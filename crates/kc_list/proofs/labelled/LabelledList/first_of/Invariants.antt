@@ -2,11 +2,11 @@
 use Rattle.std.proofs.Common.{◌≡◌, true}
 use Rattle.kc_distinct.specs.Lists.{member, place_of, prev_of}
 use Rattle.kc_words.specs.Order.{labels}
-use Rattle.kc_list.proofs.gather.first_of.Given as goal
+use Rattle.kc_list.proofs.labelled.LabelledList.first_of.Given as goal
 
 abbrev pub invariant-loop-before : goal.invariant-loop-before
-invariant-loop-before l = (member l.first l.links.list ≡ true) × ((labels l.links.size l.sheet.words).group l.first ≡ l.group) ×
-    (l.before ≡ prev_of l.links.size l.first l.links.list)
+invariant-loop-before l = (member l.first l.self.links.list ≡ true) × ((labels l.self.links.size l.self.sheet.words).group l.first ≡ l.group) ×
+    (l.before ≡ prev_of l.self.links.size l.first l.self.links.list)
 
 abbrev pub decreases-loop-before : goal.decreases-loop-before
-decreases-loop-before l = place_of l.first l.links.list
+decreases-loop-before l = place_of l.first l.self.links.list
