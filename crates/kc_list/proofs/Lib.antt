@@ -18,3 +18,4 @@ pub mod Whole
 pub mod Openings
 pub mod Rewritings
 pub mod Dividing
+pub mod Relabelling

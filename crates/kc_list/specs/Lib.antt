@@ -6,3 +6,4 @@ pub mod Opening
 pub mod Plain
 pub mod Soundness
 pub mod Rewriting
+pub mod Scheduling

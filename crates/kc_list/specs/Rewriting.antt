@@ -4,8 +4,8 @@ use Rattle.kc_distinct.specs.Lists.{member, without, right_after}
 use Rattle.kc_words.specs.ItemWord.{item_of}
 use Rattle.kc_list.specs.Places.{evens}
 use Rattle.kc_list.specs.Sheets.{Paper, ChangesOnly}
-use Rattle.kc_list.specs.Views.{KeepsOrder, RisesByOne, SetsWord, AddsWrite, IsNoWordOf, HasLabelAfter, AreSizes, AreMembers, TakesItem, KeepsGroup, IsFree, TopsAreApart, group_at, group_size, groups_in_use, bottom_at, top_at, version_at}
-use Rattle.kc_words.specs.declared.layout.TheConstants.{TOP_ROOM}
+use Rattle.kc_list.specs.Views.{KeepsOrder, RisesByOne, SetsWord, AddsWrite, IsNoWordOf, HasLabelAfter, AreSizes, AreMembers, TakesItem, KeepsGroup, IsFree, TopsAreApart, group_at, group_size, groups_in_use, bottom_at, top_at, version_at, evenly}
+use Rattle.kc_words.specs.declared.layout.TheConstants.{BOTTOM_ROOM, TOP_ROOM}
 use Rattle.kc_list.specs.declared.limits.TheConstants.{GROUP_ITEMS, HALF_ITEMS, HALF_STEP}
 use Rattle.kc_list.specs.declared.labelled.LabelledList.{LabelledList}
 
@@ -28,6 +28,18 @@ pub record Rewrites (most : ℕ) (old new : LabelledList) : Type 0 where
 pub record Relabels (most : ℕ) (old new : LabelledList) : Type 0 where
   pub groups : new.groups ≡ old.groups
   pub rewrites : Rewrites most old new
+
+-- word w is written, once, and the list and the sizes stay
+pub record StoresWord (w : ℕ) (old new : LabelledList) : Type 0 where
+  pub links : new.links ≡ old.links
+  pub groups : new.groups ≡ old.groups
+  pub stores : Stores w old.sheet new.sheet
+
+-- the members of group g share its room evenly, and no other words change
+pub record Spreads (g : ℕ) (members : List ℕ) (old new : LabelledList) : Type 0 where
+  pub segment : AreMembers old.links new.sheet g members
+  pub bottoms : map (bottom_at old.links new.sheet) members ≡ evenly (length members) BOTTOM_ROOM
+  pub only : ChangesOnly (map (λ y. 1 + y) members) old.sheet.words new.sheet.words
 
 -- all groups have labels with room between them and at the end, and no other words change
 pub record SpreadsTops (old new : LabelledList) : Type 0 where

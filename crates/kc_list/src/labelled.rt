@@ -1,8 +1,9 @@
 //! The list with its labels: the neighbours of each item, the words that have the labels, and the sizes of the groups.
-ghost use Rattle.std.specs.Prelude.{◌≡◌, ◌<◌, ◌≤◌, ◌+◌, slice_index};
-ghost use Rattle.kc_words.specs.ItemWord.{item_of};
+ghost use Rattle.std.specs.Prelude.{◌≡◌, ◌<◌, ◌≤◌, ◌+◌, length, slice_index, slice_set};
+ghost use Rattle.kc_words.specs.ItemWord.{item_of, item_word, IsFitting};
 ghost use Rattle.kc_words.specs.GroupWord.{group_of};
 ghost use Rattle.kc_list.specs.Places.{Sound};
+ghost use Rattle.kc_list.specs.Sheets.{version};
 ghost use Rattle.kc_list.specs.Soundness.{Sound-prop};
 ghost use Rattle.kc_words.specs.declared.layout.TheConstants.{ITEMS};
 
@@ -22,6 +23,8 @@ pub struct LabelledList {
 }
 
 impl LabelledList {
+    ghost use Rattle.kc_list.specs.Rewriting.{StoresWord};
+
     /// What the word of an item says.
     pub fn item(&self, x: u32) -> ItemWord
         requires { x < self.now.links.size }
@@ -36,5 +39,18 @@ impl LabelledList {
         ensures { result ≡ group_of (slice_index self.now.sheet.words (self.now.links.size + g)) }
     {
         GroupWord::of(self.sheet.word(self.links.size() + g))
+    }
+
+    /// Stores the word of an item, by which the labels still order the list.
+    pub fn store_item(&mut self, x: u32, word: ItemWord)
+        requires x_in { x < self.old.links.size }
+        requires fits { IsFitting word }
+        requires rises { word.version ≡ version self.old.sheet.words (1 + x) + 1 }
+        requires sound { Sound self.old.links.size (slice_set self.old.sheet.words (1 + x) (item_word word)) self.old.links.list }
+        requires room { length self.old.sheet.writes < self.old.sheet.room }
+        ensures words { self.new.sheet.words ≡ slice_set self.old.sheet.words (1 + x) (item_word word) }
+        ensures stores { StoresWord (1 + x) self.old self.new }
+    {
+        self.sheet.store(1 + x, word.pack());
     }
 }

@@ -7,7 +7,6 @@ ghost use Rattle.kc_list.specs.Rewriting.{Rewrites, Relabels, ChangesGroup, HasW
 use crate::labelled::LabelledList;
 use crate::limits::{GROUP_ITEMS, HALF_ITEMS, ITEM_WRITES};
 use crate::scratch::Scratch;
-use crate::spread::spread_group;
 
 impl LabelledList {
     /// Spreads the group of `p`.
@@ -23,7 +22,7 @@ impl LabelledList {
     {
         let group = self.item(p).group;
         let count = self.gather(p, members);
-        spread_group(&self.links, &mut self.sheet, &members[..count], group);
+        self.spread_group(&members[..count], group);
     }
 
     /// Sees to it that there is a label between `p` and what follows it.
