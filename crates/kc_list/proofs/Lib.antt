@@ -19,3 +19,4 @@ pub mod Openings
 pub mod Rewritings
 pub mod Dividing
 pub mod Relabelling
+pub mod Cutting

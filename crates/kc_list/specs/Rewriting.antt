@@ -53,6 +53,13 @@ pub record KeepsItems (old new : LabelledList) : Type 0 where
   pub unused : (h : ℕ) → IsFree old.links old.sheet h
       → slice_index new.sheet.words (old.links.size + h) ≡ slice_index old.sheet.words (old.links.size + h)
 
+-- the upper members of group g are now group h, whose room their labels share evenly
+pub record Splits (g h : ℕ) (low ups : List ℕ) (old new : LabelledList) : Type 0 where
+  pub lower : AreMembers old.links new.sheet g low
+  pub upper : AreMembers old.links new.sheet h ups
+  pub bottoms : map (bottom_at old.links new.sheet) ups ≡ evenly (length ups) BOTTOM_ROOM
+  pub only : ChangesOnly ((old.links.size + h) ∷ map (λ y. 1 + y) ups) old.sheet.words new.sheet.words
+
 -- the upper half of group g, which is full and has these members, is now group h
 pub record Halves (g h : ℕ) (members : List ℕ) (old new : LabelledList) : Type 0 where
   pub lower : AreMembers old.links new.sheet g (take HALF_ITEMS members)

@@ -7,7 +7,7 @@ use Rattle.kc_list.specs.Places.{Sound, Segment, First, Free, Splitting, NotOf, 
 use Rattle.kc_list.specs.Sheets.{Paper, Steps, version}
 use Rattle.kc_list.specs.Tally.{Tallied}
 use Rattle.kc_list.specs.Tally as tally
-use Rattle.kc_words.specs.declared.layout.TheConstants.{LAST_VERSION, TOP_ROOM}
+use Rattle.kc_words.specs.declared.layout.TheConstants.{LAST_VERSION, BOTTOM_ROOM, TOP_ROOM}
 use Rattle.kc_list.specs.declared.limits.TheConstants.{GROUP_ITEMS}
 
 -- labels
@@ -68,6 +68,10 @@ IsFirst c p g x = First (labels c.size p.words) c.list g x
 abbrev pub IsSplitting : Chain → Paper → ℕ → ℕ → List ℕ → List ℕ → List ℕ → ℕ → Type 0
 IsSplitting c p g h low ups ls i = Splitting c.size (labels c.size p.words) c.list g h low ups ls i
 
+-- the members of group g are `low` and `ups`, of which those from the i-th on have moved to group h and share its room evenly
+abbrev pub HaveMoved : Chain → Paper → ℕ → ℕ → List ℕ → List ℕ → ℕ → Type 0
+HaveMoved c p g h low ups i = IsSplitting c p g h low ups (evenly (length ups) BOTTOM_ROOM) i
+
 -- word w is that of no item of group g
 abbrev pub IsNoWordOf : Chain → Paper → ℕ → ℕ → Type 0
 IsNoWordOf c p g w = NotOf (labels c.size p.words) c.list g w
@@ -101,6 +105,12 @@ end_above c p x = top_end c.size (labels c.size p.words) (next_of c.size x c.lis
 -- label t is below those of the groups after g
 abbrev pub FitsAbove : Chain → Paper → ℕ → ℕ → Type 0
 FitsAbove c p g t = (z : ℕ) → member z c.list ≡ true → top_at c p g < top_at c p (group_at c p z) → t < top_at c p (group_at c p z)
+
+-- label t is above that of group g, and below those of the groups after it
+pub record IsTopAbove (c : Chain) (p : Paper) (g t : ℕ) : Type 0 where
+  pub above : top_at c p g < t
+  pub high : t < TOP_ROOM
+  pub gap : FitsAbove c p g t
 
 -- a label fits between that of group g and each greater one
 abbrev pub HasLabelsAbove : Chain → Paper → ℕ → Type 0

@@ -5,10 +5,10 @@ ghost use Rattle.kc_list.specs.Places.{Halved};
 ghost use Rattle.kc_list.specs.Views.{group_at, top_at, HasRoomAbove, AreMembers, IsSpare, IsFull, AreSizes, HasSpare, end_above, version_at, ItemsMayRise};
 ghost use Rattle.kc_list.specs.Rewriting.{Rewrites, Relabels, Halves, KeepsItems, Divides, MakesRoom};
 
+use crate::cut::Cut;
 use crate::labelled::LabelledList;
 use crate::limits::{GROUP_ITEMS, HALF_ITEMS, SPLIT_SHARE};
 use crate::scratch::Scratch;
-use crate::split::split;
 use kc_words::{LAST_VERSION, TOP_ROOM};
 
 /// The half of a full group in which an item is put next.
@@ -79,7 +79,13 @@ impl LabelledList {
         let top = self.top_between(group, members[GROUP_ITEMS - 1], grows);
         let low = &members[..HALF_ITEMS as usize];
         let ups = &members[HALF_ITEMS as usize..];
-        split(&self.links, &mut self.sheet, group, fresh, top, low, ups);
+        let cut = Cut {
+            group,
+            fresh,
+            low,
+            ups,
+        };
+        self.split(cut, top);
     }
 
     /// Splits the full group of `p`.

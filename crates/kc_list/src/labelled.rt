@@ -1,7 +1,7 @@
 //! The list with its labels: the neighbours of each item, the words that have the labels, and the sizes of the groups.
 ghost use Rattle.std.specs.Prelude.{◌≡◌, ◌<◌, ◌≤◌, ◌+◌, length, slice_index, slice_set};
 ghost use Rattle.kc_words.specs.ItemWord.{item_of, item_word, IsFitting};
-ghost use Rattle.kc_words.specs.GroupWord.{group_of};
+ghost use Rattle.kc_words.specs.GroupWord.{group_of, group_word, IsFitting as IsFittingGroup};
 ghost use Rattle.kc_list.specs.Places.{Sound};
 ghost use Rattle.kc_list.specs.Sheets.{version};
 ghost use Rattle.kc_list.specs.Soundness.{Sound-prop};
@@ -52,5 +52,21 @@ impl LabelledList {
         ensures stores { StoresWord (1 + x) self.old self.new }
     {
         self.sheet.store(1 + x, word.pack());
+    }
+
+    /// Stores the word of a group, by which the labels still order the list.
+    pub fn store_group(&mut self, g: u32, word: GroupWord)
+        requires low { 0 < g }
+        requires within { g ≤ self.old.links.size + 1 }
+        requires fits { IsFittingGroup word }
+        requires rises { word.version ≡ version self.old.sheet.words (self.old.links.size + g) + 1 }
+        requires sound { Sound self.old.links.size
+            (slice_set self.old.sheet.words (self.old.links.size + g) (group_word word)) self.old.links.list }
+        requires room { length self.old.sheet.writes < self.old.sheet.room }
+        ensures words { self.new.sheet.words ≡ slice_set self.old.sheet.words (self.old.links.size + g) (group_word word) }
+        ensures stores { StoresWord (self.old.links.size + g) self.old self.new }
+    {
+        let number = self.links.size() + g;
+        self.sheet.store(number, word.pack());
     }
 }

@@ -15,6 +15,7 @@
 //! put needs, `place` makes the last write, and `plain` puts it together.
 #![tactic(auto)]
 
+mod cut;
 mod gather;
 mod groups;
 mod halve;
