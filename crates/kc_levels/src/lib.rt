@@ -8,8 +8,6 @@
 
 mod levels;
 mod making;
-#[cfg(test)]
-mod tests;
 
 ghost use Rattle.std.specs.Prelude.{◌≡◌, ◌<◌, ◌*◌, ℕ, length, slice_index};
 ghost use Rattle.kc_distinct.specs.Lists.{member, Distinct};

@@ -1,6 +1,6 @@
 -- The plan passed the local test in the state whose levels these are, and the versions leave room.
 use Rattle.kc_levels.proofs.Laws.{may-make-opened}
-use Rattle.kc_levels.proofs.tests.make_plan.Goals as goal
+use Rattle.kc_levels_tests.proofs.sections.make_plan.Goals as goal
 
 pub make_moves-requires-clause-may : goal.make_moves-requires-clause-may
 make_moves-requires-clause-may g c =

@@ -4,9 +4,9 @@ ghost use Rattle.kc_graph.specs.Plans.{state_after};
 ghost use Rattle.kc_levels.specs.Levels.{AreLevels, size_of};
 ghost use Rattle.kc_levels.specs.Makes.{AreLevelsOf};
 
-use crate::{LAST_NUMBER, Levels, make_moves, moved_count};
 use kc_cert::{check, local_check};
 use kc_graph::{Graph, Lawful, Moves, Plan, Update, Used};
+use kc_levels::{LAST_NUMBER, Levels, make_moves, moved_count};
 use kc_table::Words;
 use kc_words::{LAST_VERSION, VERTICES};
 use std::process::Abort;

@@ -1,7 +1,7 @@
 -- The numbers of a certified state are below the number of its vertices.
 use Rattle.std.proofs.Common.{◌<◌, ℕ, List, length, get_or, sym, ap, subst, arith}
 use Rattle.kc_levels.proofs.Laws.{certified-low}
-use Rattle.kc_levels.proofs.tests.levels_of.Goals as goal
+use Rattle.kc_levels_tests.proofs.sections.levels_of.Goals as goal
 
 pub open-requires-clause-low : goal.open-requires-clause-low
 open-requires-clause-low g c =
