@@ -1,9 +1,11 @@
 -- How many items a group has, that a group number is free, and the gap above a group.
-use Rattle.std.proofs.Common.{◌≡◌, ℕ, suc, zero, ◌+◌, ◌-◌, ◌<◌, ◌≤◌, true, cond, List, [], ◌∷◌, ◌++◌, length, get_or, take, drop, eqb, refl, sym, ◌∙◌, ap, subst, ◌⊎◌, inl, inr, arith}
+use Rattle.std.proofs.Common.{◌≡◌, ℕ, suc, zero, ◌+◌, ◌-◌, ◌<◌, ◌≤◌, true, cond, List, [], ◌∷◌, ◌++◌, length, get_or, take, drop, eqb, refl, sym, ◌∙◌}
+use Rattle.std.proofs.Common.{ap, subst, ◌⊎◌, inl, inr, arith}
 use Rattle.std.proofs.lemmas.Bool.{ne_eqb, eqb-true, eqb-false, eq-eqb, cases_eq, cases_Bool, false≢true}
 use Rattle.std.proofs.lemmas.List.{append_assoc, take_all, take_more, take-append-drop, length-take-le, take_rest, length-drop}
 use Rattle.kc_distinct.specs.Lists.{member, Distinct, without, right_after, next_of, head_or}
-use Rattle.kc_distinct.proofs.Members.{member-head, member-tail, member-cases, member-append, member-append_right, without-member, without-none, Distinct-cut, next_of-cut, next_of-in}
+use Rattle.kc_distinct.proofs.Members.{member-head, member-tail, member-cases, member-append, member-append_right, without-member, without-none}
+use Rattle.kc_distinct.proofs.Members.{Distinct-cut, next_of-cut, next_of-in}
 use Rattle.kc_words.specs.Order.{Labels, labels, InOrder}
 use Rattle.kc_list.specs.Places.{Before, Placed, Sound, Segment, runs, size_of, top_end}
 use Rattle.kc_list.proofs.Order.{parts, Before-then}

@@ -17,7 +17,8 @@ use Rattle.kc_list.specs.Rewriting.{Stores, StoresWord, Relabels, Splits}
 use Rattle.kc_list.specs.declared.labelled.LabelledList.{LabelledList}
 use Rattle.kc_list.proofs.Putting.{ordered_from}
 use Rattle.kc_list.proofs.Spreading.{get_or-evens, Steps-none, Steps-push, raises_from, only-after}
-use Rattle.kc_list.proofs.Splits.{MoveFacts, move_facts, Halfway, halfway-none, halfway-more, TopFacts, top_facts, same_version, lower_segment, upper_segment, Steps-then, versions-then}
+use Rattle.kc_list.proofs.Splits.{MoveFacts, move_facts, Halfway, halfway-none, halfway-more, TopFacts, top_facts, same_version, lower_segment}
+use Rattle.kc_list.proofs.Splits.{upper_segment, Steps-then, versions-then}
 
 -- the word of an upper member with its new group and label
 pub moved_by : (a : LabelledList) (g h i label : ℕ) (low ups : List ℕ) (old : ItemWord) → old ≡ item_of (get_or a.sheet.words (1 + get_or ups i 0) 0)

@@ -3,7 +3,8 @@ use Rattle.std.proofs.Common.{◌≡◌, ℕ, suc, ◌+◌, ◌<◌, ◌≤◌, 
 use Rattle.std.proofs.lemmas.Bool.{eq-eqb, cases_eq, false≢true}
 use Rattle.std.proofs.lemmas.List.{append_assoc, length-append, take_more_set}
 use Rattle.kc_distinct.specs.Lists.{member, Distinct, last_or, prev_of, head_or, next_of, place_of}
-use Rattle.kc_distinct.proofs.Members.{member-head, member-tail, member-cases, member-append, member-append_left, member-append_right, cut, Distinct-cut, prev_of-cut, next_of-cut, prev-place, some_or_none, last_or-push}
+use Rattle.kc_distinct.proofs.Members.{member-head, member-tail, member-cases, member-append, member-append_left, member-append_right, cut}
+use Rattle.kc_distinct.proofs.Members.{Distinct-cut, prev_of-cut, next_of-cut, prev-place, some_or_none, last_or-push}
 use Rattle.kc_words.specs.Order.{Labels, labels, InOrder}
 use Rattle.kc_list.specs.Places.{Before, Sound, Segment, First, size_of}
 use Rattle.kc_list.proofs.Order.{parts, Before-then}

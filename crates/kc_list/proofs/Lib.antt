@@ -20,3 +20,4 @@ pub mod Rewritings
 pub mod Dividing
 pub mod Relabelling
 pub mod Cutting
+pub mod Retopping

@@ -1,12 +1,15 @@
 -- The store that moves an item.
-use Rattle.std.proofs.Common.{◌≡◌, ℕ, ◌+◌, ◌^◌, ◌<◌, ◌≤◌, true, false, cond, not, List, [], ◌∷◌, ◌++◌, get_or, set, eqb, refl, sym, ◌∙◌, ap, subst, inl, inr, arith}
+use Rattle.std.proofs.Common.{◌≡◌, ℕ, ◌+◌, ◌^◌, ◌<◌, ◌≤◌, true, false, cond, not, List, [], ◌∷◌, ◌++◌, get_or, set, eqb, refl, sym, ◌∙◌, ap, subst}
+use Rattle.std.proofs.Common.{inl, inr, arith}
 use Rattle.std.proofs.lemmas.Bool.{ne_eqb, eqb-true, eqb-false, eq-eqb, cases_Bool, true≢false, false_from_ne_true}
 use Rattle.std.proofs.lemmas.List.{length-set, get_or-set_same}
 use Rattle.kc_words.specs.ItemWord.{item_of, item_word, IsFitting as FitsItem}
 use Rattle.kc_words.proofs.Packing.{item_of-item_word}
 use Rattle.kc_words.specs.declared.item.ItemWord.{ItemWord}
 use Rattle.kc_distinct.specs.Lists.{member, Distinct, without, right_after, next_of, head_or}
-use Rattle.kc_distinct.proofs.Members.{member-head, member-tail, member-append_right, cut, Distinct-cut, right_after-cut, next_of-cut, next_of-in, member-without, without-member, not_member-without, Distinct-without, member-right_after, right_after-member, Distinct-right_after}
+use Rattle.kc_distinct.proofs.Members.{member-head, member-tail, member-append_right, cut, Distinct-cut, right_after-cut, next_of-cut, next_of-in}
+use Rattle.kc_distinct.proofs.Members.{member-without, without-member, not_member-without, Distinct-without, member-right_after, right_after-member}
+use Rattle.kc_distinct.proofs.Members.{Distinct-right_after}
 use Rattle.kc_words.specs.Order.{Labels, labels, InOrder, Ordered, PairBelow}
 use Rattle.kc_list.specs.Places.{Before, Placed, Sound, ItemStored, end_at, gap_end}
 use Rattle.kc_list.proofs.Order.{AtFirst, Beyond, Agrees, Before-pairs, parts, put_right_after, without-around}

@@ -1,7 +1,9 @@
 -- A split: the new group's label, and the moves of the upper members.
-use Rattle.std.proofs.Common.{◌≡◌, ◌≢◌, ℕ, ◌+◌, ◌/◌, ◌^◌, ◌<◌, ◌≤◌, true, List, [], ◌∷◌, ◌++◌, length, get_or, set, take, drop, map, refl, sym, ◌∙◌, ap, subst, ◌⊎◌, inl, inr, arith}
+use Rattle.std.proofs.Common.{◌≡◌, ◌≢◌, ℕ, ◌+◌, ◌/◌, ◌^◌, ◌<◌, ◌≤◌, true, List, [], ◌∷◌, ◌++◌, length, get_or, set, take, drop, map, refl, sym, ◌∙◌}
+use Rattle.std.proofs.Common.{ap, subst, ◌⊎◌, inl, inr, arith}
 use Rattle.std.proofs.lemmas.Bool.{cases_eq, cases_lt, true≢false, false≢true}
-use Rattle.std.proofs.lemmas.List.{length-set, append_assoc, take_more, drop_more, take-append-drop, take_all, drop_all, get_or-set_same, get_or-set_other, length_push}
+use Rattle.std.proofs.lemmas.List.{length-set, append_assoc, take_more, drop_more, take-append-drop, take_all, drop_all, get_or-set_same}
+use Rattle.std.proofs.lemmas.List.{get_or-set_other, length_push}
 use Rattle.kc_words.specs.ItemWord.{item_of, item_word, IsFitting as FitsItem}
 use Rattle.kc_words.specs.GroupWord.{group_of, group_word, IsFitting as FitsGroup}
 use Rattle.kc_words.proofs.Packing.{item_of-item_word, group_of-group_word}
@@ -16,7 +18,8 @@ use Rattle.kc_list.specs.Places.{Before, Placed, Sound, Segment, Free, Splitting
 use Rattle.kc_list.proofs.Order.{AtFirst, AtLast, AtFirst-mono, Agrees, agreed, replaced, parts}
 use Rattle.kc_list.proofs.Stores.{item_stored, group_stored}
 use Rattle.kc_list.proofs.Putting.{item_agrees, Placed-agrees, ordered_from}
-use Rattle.kc_list.proofs.Spreading.{Ascends-at, length-evens, evens-ascend, Distinct-parts, Steps-none, Steps-push, stored-append, raises_from, only-none, only-more, member-map}
+use Rattle.kc_list.proofs.Spreading.{Ascends-at, length-evens, evens-ascend, Distinct-parts, Steps-none, Steps-push, stored-append, raises_from}
+use Rattle.kc_list.proofs.Spreading.{only-none, only-more, member-map}
 use Rattle.kc_list.specs.Sheets.{ChangesOnly, Paper, Steps, version, stored, OrderedAlong, RaisedAlong}
 use Rattle.kc_list.specs.declared.sheet.Write.{Write}
 use Rattle.kc_relabel.proofs.Once.{Distinct-at}

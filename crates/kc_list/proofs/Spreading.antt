@@ -1,7 +1,9 @@
 -- New bottom labels of a group, store by store.
-use Rattle.std.proofs.Common.{◌≡◌, ◌≢◌, ℕ, suc, zero, ◌+◌, ◌*◌, ◌/◌, ◌^◌, ◌<◌, ◌≤◌, true, List, [], ◌∷◌, ◌++◌, length, get_or, set, take, map, refl, sym, ◌∙◌, ap, subst, inl, inr, arith}
+use Rattle.std.proofs.Common.{◌≡◌, ◌≢◌, ℕ, suc, zero, ◌+◌, ◌*◌, ◌/◌, ◌^◌, ◌<◌, ◌≤◌, true, List, [], ◌∷◌, ◌++◌, length, get_or, set, take, map, refl}
+use Rattle.std.proofs.Common.{sym, ◌∙◌, ap, subst, inl, inr, arith}
 use Rattle.std.proofs.lemmas.Bool.{cases_eq, cases_lt, true≢false, false≢true}
-use Rattle.std.proofs.lemmas.List.{length-set, get_or-set_same, get_or-set_other, append_assoc, append-nil, length-map, take_more, length_push, take_more_set, take_all, get_or-map}
+use Rattle.std.proofs.lemmas.List.{length-set, get_or-set_same, get_or-set_other, append_assoc, append-nil, length-map, take_more, length_push}
+use Rattle.std.proofs.lemmas.List.{take_more_set, take_all, get_or-map}
 use Rattle.kc_words.specs.ItemWord.{item_of, item_word, IsFitting as FitsItem}
 use Rattle.kc_words.proofs.Packing.{item_of-item_word}
 use Rattle.kc_words.specs.declared.item.ItemWord.{ItemWord}

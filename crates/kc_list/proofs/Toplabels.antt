@@ -1,5 +1,6 @@
 -- New top labels for all groups, store by store.
-use Rattle.std.proofs.Common.{◌≡◌, ◌≢◌, ℕ, suc, ◌+◌, ◌^◌, ◌<◌, ◌≤◌, true, false, cond, List, [], ◌∷◌, ◌++◌, length, get_or, set, take, map, eqb, refl, sym, ◌∙◌, ap, subst, inl, inr, arith}
+use Rattle.std.proofs.Common.{◌≡◌, ◌≢◌, ℕ, suc, ◌+◌, ◌^◌, ◌<◌, ◌≤◌, true, false, cond, List, [], ◌∷◌, ◌++◌, length, get_or, set, take, map, eqb, refl}
+use Rattle.std.proofs.Common.{sym, ◌∙◌, ap, subst, inl, inr, arith}
 use Rattle.std.proofs.lemmas.Bool.{eqb-true, eqb-false, cases_eq, cases_Bool, false≢true, false_from_ne_true}
 use Rattle.std.proofs.lemmas.List.{length-set, length-map, get_or-set_same, get_or-set_other, length_push}
 use Rattle.kc_words.specs.ItemWord.{item_of}
@@ -18,7 +19,8 @@ use Rattle.kc_distinct.proofs.Members.{member-head, member-tail, member-cases}
 use Rattle.kc_words.specs.Order.{Labels, labels, InOrder}
 use Rattle.kc_list.specs.Places.{Before, Sound, GroupStored, runs}
 use Rattle.kc_list.proofs.Stores.{group_stored}
-use Rattle.kc_list.proofs.Spreading.{map_stored, Ascends-at, written-more, place-in, two-apart, Steps-none, Steps-push, raises_from, only-none, only-more, member-map}
+use Rattle.kc_list.proofs.Spreading.{map_stored, Ascends-at, written-more, place-in, two-apart, Steps-none, Steps-push, raises_from, only-none}
+use Rattle.kc_list.proofs.Spreading.{only-more, member-map}
 use Rattle.kc_words.specs.declared.layout.TheConstants.{LAST_VERSION, TOP_ROOM}
 use Rattle.kc_distinct.proofs.Counting.{member-get_or}
 

@@ -1,10 +1,12 @@
 -- A whole call, and what the list answers.
-use Rattle.std.proofs.Common.{◌≡◌, ◌≢◌, ℕ, suc, zero, ◌+◌, ◌*◌, ◌<◌, ◌≤◌, true, false, cond, eqb, List, [], ◌∷◌, ◌++◌, length, get_or, set, refl, sym, ◌∙◌, ap, subst, ◌⊎◌, inl, inr, arith}
+use Rattle.std.proofs.Common.{◌≡◌, ◌≢◌, ℕ, suc, zero, ◌+◌, ◌*◌, ◌<◌, ◌≤◌, true, false, cond, eqb, List, [], ◌∷◌, ◌++◌, length, get_or, set, refl, sym}
+use Rattle.std.proofs.Common.{◌∙◌, ap, subst, ◌⊎◌, inl, inr, arith}
 use Rattle.std.proofs.lemmas.Bool.{cases_eq, cases_lt, cases_Bool, ne_eqb, eq-eqb, true≢false, false≢true}
 use Rattle.std.proofs.lemmas.List.{get_or-set_other, append_assoc, length-append}
 use Rattle.kc_words.specs.ItemWord.{item_of}
 use Rattle.kc_distinct.specs.Lists.{member, Distinct, without, right_after, next_of, prev_of, place_of}
-use Rattle.kc_distinct.proofs.Members.{member-head, member-tail, member-cases, member-append, cut, Distinct-cut, without-member, right_after-member, next_of-in, place_of-cut}
+use Rattle.kc_distinct.proofs.Members.{member-head, member-tail, member-cases, member-append, cut, Distinct-cut, without-member, right_after-member}
+use Rattle.kc_distinct.proofs.Members.{next_of-in, place_of-cut}
 use Rattle.kc_words.specs.Order.{labels, PairBelow, InOrder, Ordered}
 use Rattle.kc_list.specs.Places.{Before, Sound, size_of}
 use Rattle.kc_list.specs.Sheets.{Paper, Steps, Raises, RaisedAlong, stored, version, highest_of}

@@ -1,5 +1,6 @@
 -- The place of an item: the label of its group, and its own label in the group.
-use Rattle.std.specs.Prelude.{if◌then◌else◌, ◌≡◌, ◌≢◌, ℕ, zero, suc, ◌+◌, ◌*◌, ◌<◌, ◌≤◌, ◌⊎◌, List, [], ◌∷◌, ◌++◌, length, take, drop, map, slice_index, true, false, ◌==◌}
+use Rattle.std.specs.Prelude.{if◌then◌else◌, ◌≡◌, ◌≢◌, ℕ, zero, suc, ◌+◌, ◌*◌, ◌<◌, ◌≤◌, ◌⊎◌, List, [], ◌∷◌, ◌++◌, length, take, drop, map}
+use Rattle.std.specs.Prelude.{slice_index, true, false, ◌==◌}
 use Rattle.kc_distinct.specs.Lists.{member, Distinct, next_of}
 use Rattle.kc_words.specs.Order.{InOrder, Labels, labels}
 use Rattle.kc_words.specs.declared.layout.TheConstants.{BOTTOM_ROOM, TOP_ROOM}

@@ -4,7 +4,8 @@ use Rattle.kc_distinct.specs.Lists.{member, without, right_after}
 use Rattle.kc_words.specs.ItemWord.{item_of}
 use Rattle.kc_list.specs.Places.{evens}
 use Rattle.kc_list.specs.Sheets.{Paper, ChangesOnly}
-use Rattle.kc_list.specs.Views.{KeepsOrder, RisesByOne, SetsWord, AddsWrite, IsNoWordOf, HasLabelAfter, AreSizes, AreMembers, TakesItem, KeepsGroup, IsFree, TopsAreApart, group_at, group_size, groups_in_use, bottom_at, top_at, version_at, evenly}
+use Rattle.kc_list.specs.Views.{KeepsOrder, RisesByOne, SetsWord, AddsWrite, IsNoWordOf, HasLabelAfter, AreSizes, AreMembers, TakesItem, KeepsGroup}
+use Rattle.kc_list.specs.Views.{IsFree, TopsAreApart, group_at, group_size, groups_in_use, bottom_at, top_at, version_at, evenly}
 use Rattle.kc_words.specs.declared.layout.TheConstants.{BOTTOM_ROOM, TOP_ROOM}
 use Rattle.kc_list.specs.declared.limits.TheConstants.{GROUP_ITEMS, HALF_ITEMS, HALF_STEP}
 use Rattle.kc_list.specs.declared.labelled.LabelledList.{LabelledList}

@@ -10,9 +10,10 @@
 //! the moved item's, which is written at most twice; no call after `open` takes memory.
 //!
 //! How it is kept, from the bottom up: `sheet` has the words and the writes, `groups` the sizes of the
-//! groups, `kc_links` the neighbours of each item. `gather` lists a group, `spread` and `tops` give it
-//! or all groups new labels, `split` moves its upper half. `room` and `halve` decide which of these a
-//! put needs, `place` makes the last write, and `plain` puts it together.
+//! groups, `kc_links` the neighbours of each item. `labelled` has the three in one list, which its labels
+//! order also between two writes; the modules after it are its methods. `gather` lists a group, `spread`
+//! and `tops` give it or all groups new labels, `split` moves its upper half. `room` and `halve` decide
+//! which of these a put needs, `place` makes the last write, and `plain` puts it together.
 #![tactic(auto)]
 
 mod cut;

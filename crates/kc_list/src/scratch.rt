@@ -5,7 +5,6 @@ ghost use Rattle.kc_list.specs.Rewriting.{Relabels, SpreadsTops};
 
 use crate::NoMemory;
 use crate::labelled::LabelledList;
-use crate::tops::spread_tops_in;
 use kc_words::LAST_VERSION;
 use std::alloc::Global;
 use std::marker::Model;
@@ -64,6 +63,6 @@ impl Scratch {
             after,
             steps,
         } = self;
-        spread_tops_in(&list.links, &mut list.sheet, groups, before, after, steps);
+        list.spread_tops_in(groups, before, after, steps);
     }
 }

@@ -23,7 +23,8 @@ item-requires c = omega (
 
 pub bounds-into-count : goal.bounds-into-count
 bounds-into-count c =
-    let s = collect_step c.args.self.now.links.size c.args.self.now.sheet.words c.args.self.now.links.list c.args.group c.loop-x.x (take c.loop-x.count c.loop-x.into)
+    let s = collect_step c.args.self.now.links.size c.args.self.now.sheet.words c.args.self.now.links.list c.args.group c.loop-x.x
+    (take c.loop-x.count c.loop-x.into)
     c.args.self.now.sound c.loop-x.invariant.0 (λ e. c.loop-x-test.true (e ∙ sym c.size.ensures))
     (sym (ap (λ w. w.group) c.item.ensures) ∙ c.if-item-group.true) in
     omega (arith, s.size, length-take-le c.loop-x.count c.loop-x.into c.loop-x.invariant.1, c.requires.room)
@@ -34,12 +35,14 @@ next-x-requires c = (collect_in c.args.self.now.links.size c.args.self.now.sheet
 
 pub loop-x-preserved : goal.loop-x-preserved
 loop-x-preserved c =
-    let s = collect_step c.args.self.now.links.size c.args.self.now.sheet.words c.args.self.now.links.list c.args.group c.loop-x.x (take c.loop-x.count c.loop-x.into)
+    let s = collect_step c.args.self.now.links.size c.args.self.now.sheet.words c.args.self.now.links.list c.args.group c.loop-x.x
+    (take c.loop-x.count c.loop-x.into)
     c.args.self.now.sound c.loop-x.invariant.0 (λ e. c.loop-x-test.true (e ∙ sym c.size.ensures))
     (sym (ap (λ w. w.group) c.item.ensures) ∙ c.if-item-group.true) in
     let room : c.loop-x.count < length c.loop-x.into =
     omega (arith, s.size, length-take-le c.loop-x.count c.loop-x.into c.loop-x.invariant.1, c.requires.room) in
-    let P : List ℕ → Type 0 = λ m. Collected c.args.self.now.links.size (labels c.args.self.now.links.size c.args.self.now.sheet.words) c.args.self.now.links.list c.args.group
+    let P : List ℕ → Type 0 = λ m. Collected c.args.self.now.links.size (labels c.args.self.now.links.size c.args.self.now.sheet.words)
+    c.args.self.now.links.list c.args.group
     c.next-x.result m in (
       subst P (sym (take_more_set c.loop-x.into c.loop-x.count c.loop-x.x room)) (rw c.next-x.ensures s.more),
       omega (arith, length-set c.loop-x.into c.loop-x.count c.loop-x.x),
@@ -60,7 +63,8 @@ returns-after-loop-x-clause-segment c =
 
 pub loop-x-smaller : goal.loop-x-smaller
 loop-x-smaller c =
-    let s = collect_step c.args.self.now.links.size c.args.self.now.sheet.words c.args.self.now.links.list c.args.group c.loop-x.x (take c.loop-x.count c.loop-x.into)
+    let s = collect_step c.args.self.now.links.size c.args.self.now.sheet.words c.args.self.now.links.list c.args.group c.loop-x.x
+    (take c.loop-x.count c.loop-x.into)
     c.args.self.now.sound c.loop-x.invariant.0 (λ e. c.loop-x-test.true (e ∙ sym c.size.ensures))
     (sym (ap (λ w. w.group) c.item.ensures) ∙ c.if-item-group.true) in
     omega (arith, s.length_less, length-take-le c.loop-x.count c.loop-x.into c.loop-x.invariant.1)

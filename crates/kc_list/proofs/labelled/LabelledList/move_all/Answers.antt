@@ -14,7 +14,8 @@ move_up-requires-clause-place_in c = omega (arith, c.loop-left.invariant.halfway
 
 pub move_up-requires-clause-waits : goal.move_up-requires-clause-waits
 move_up-requires-clause-waits c =
-    let there = subst (λ (l : Chain). HaveMoved l c.loop-left.self.sheet c.args.cut.group c.args.cut.fresh c.args.cut.low.now c.args.cut.ups.now c.loop-left.left)
+    let there = subst (λ (l : Chain). HaveMoved l c.loop-left.self.sheet c.args.cut.group c.args.cut.fresh c.args.cut.low.now c.args.cut.ups.now
+    c.loop-left.left)
     (sym c.loop-left.invariant.links) c.loop-left.invariant.halfway.splitting in
     let e : c.loop-left.left ≡ c.loop-left.left - 1 + 1 = omega arith in
     subst (λ (k : ℕ). HaveMoved c.loop-left.self.links c.loop-left.self.sheet c.args.cut.group c.args.cut.fresh c.args.cut.low.now c.args.cut.ups.now k) e there
@@ -34,5 +35,6 @@ move_up-requires-clause-room c =
 
 pub loop-left-preserved : goal.loop-left-preserved
 loop-left-preserved c =
-    upway-more c.args.self.now c.loop-left.self c.move_up.new.self c.args.cut.group c.args.cut.fresh c.args.cut.low.now c.args.cut.ups.now (c.loop-left.left - 1)
+    upway-more c.args.self.now c.loop-left.self c.move_up.new.self c.args.cut.group c.args.cut.fresh c.args.cut.low.now c.args.cut.ups.now
+    (c.loop-left.left - 1)
     c.loop-left.left c.loop-left.invariant (omega arith) c.move_up.ensures.moved c.move_up.ensures.stores

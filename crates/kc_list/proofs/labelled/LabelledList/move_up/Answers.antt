@@ -12,21 +12,27 @@ pub overflow_cast-new : goal.overflow_cast-new
 overflow_cast-new c = omega (
   arith,
   (moved_by c.args.self.now c.args.cut.group c.args.cut.fresh c.args.place c.spread-label.result c.args.cut.low.now c.args.cut.ups.now
-      c.item-old.result c.item-old.ensures c.args.cut.some_low c.args.cut.few c.requires.waits c.requires.place_in c.requires.version c.spread-label.ensures).all.fits.2,
+      c.item-old.result c.item-old.ensures c.args.cut.some_low c.args.cut.few c.requires.waits c.requires.place_in c.requires.version
+      c.spread-label.ensures).all.fits.2,
 )
 
 pub store_item-requires-clause-fits : goal.store_item-requires-clause-fits
-store_item-requires-clause-fits c = (moved_by c.args.self.now c.args.cut.group c.args.cut.fresh c.args.place c.spread-label.result c.args.cut.low.now c.args.cut.ups.now
-    c.item-old.result c.item-old.ensures c.args.cut.some_low c.args.cut.few c.requires.waits c.requires.place_in c.requires.version c.spread-label.ensures).all.fits
+store_item-requires-clause-fits c = (moved_by c.args.self.now c.args.cut.group c.args.cut.fresh c.args.place c.spread-label.result c.args.cut.low.now
+    c.args.cut.ups.now
+    c.item-old.result c.item-old.ensures c.args.cut.some_low c.args.cut.few c.requires.waits c.requires.place_in c.requires.version
+    c.spread-label.ensures).all.fits
 
 pub store_item-requires-clause-rises : goal.store_item-requires-clause-rises
 store_item-requires-clause-rises c = ap (λ w. w.version + 1) c.item-old.ensures
 
 pub store_item-requires-clause-sound : goal.store_item-requires-clause-sound
-store_item-requires-clause-sound c = (moved_by c.args.self.now c.args.cut.group c.args.cut.fresh c.args.place c.spread-label.result c.args.cut.low.now c.args.cut.ups.now
-    c.item-old.result c.item-old.ensures c.args.cut.some_low c.args.cut.few c.requires.waits c.requires.place_in c.requires.version c.spread-label.ensures).all.sound
+store_item-requires-clause-sound c = (moved_by c.args.self.now c.args.cut.group c.args.cut.fresh c.args.place c.spread-label.result c.args.cut.low.now
+    c.args.cut.ups.now
+    c.item-old.result c.item-old.ensures c.args.cut.some_low c.args.cut.few c.requires.waits c.requires.place_in c.requires.version
+    c.spread-label.ensures).all.sound
 
 pub returns-clause-moved : goal.returns-clause-moved
 returns-clause-moved c = rw c.store_item.ensures.words
     (moved_by c.args.self.now c.args.cut.group c.args.cut.fresh c.args.place c.spread-label.result c.args.cut.low.now c.args.cut.ups.now
-    c.item-old.result c.item-old.ensures c.args.cut.some_low c.args.cut.few c.requires.waits c.requires.place_in c.requires.version c.spread-label.ensures).all.splitting
+    c.item-old.result c.item-old.ensures c.args.cut.some_low c.args.cut.few c.requires.waits c.requires.place_in c.requires.version
+    c.spread-label.ensures).all.splitting

@@ -17,14 +17,16 @@ overflow_cast-new c = omega (
 )
 
 pub store_item-requires-clause-fits : goal.store_item-requires-clause-fits
-store_item-requires-clause-fits c = (relabelled_by c.args.self.now c.args.group c.args.members.now c.args.place c.args.label c.item-old.result c.item-old.ensures c.requires.segment
+store_item-requires-clause-fits c = (relabelled_by c.args.self.now c.args.group c.args.members.now c.args.place c.args.label c.item-old.result
+    c.item-old.ensures c.requires.segment
     c.requires.place_in c.requires.ascends c.requires.version).all.fits
 
 pub store_item-requires-clause-rises : goal.store_item-requires-clause-rises
 store_item-requires-clause-rises c = ap (λ w. w.version + 1) c.item-old.ensures
 
 pub store_item-requires-clause-sound : goal.store_item-requires-clause-sound
-store_item-requires-clause-sound c = (relabelled_by c.args.self.now c.args.group c.args.members.now c.args.place c.args.label c.item-old.result c.item-old.ensures c.requires.segment
+store_item-requires-clause-sound c = (relabelled_by c.args.self.now c.args.group c.args.members.now c.args.place c.args.label c.item-old.result
+    c.item-old.ensures c.requires.segment
     c.requires.place_in c.requires.ascends c.requires.version).all.sound
 
 pub returns-clause-segment : goal.returns-clause-segment

@@ -11,7 +11,8 @@ use Rattle.kc_list.proofs.labelled.LabelledList.split.Goals as goal
 
 pub move_all-requires-clause-wait : goal.move_all-requires-clause-wait
 move_all-requires-clause-wait c =
-    subst (λ (l : Chain). HaveMoved l c.store_top.new.self.sheet c.args.cut.group c.args.cut.fresh c.args.cut.low.now c.args.cut.ups.now (length c.args.cut.ups.now))
+    subst (λ (l : Chain). HaveMoved l c.store_top.new.self.sheet c.args.cut.group c.args.cut.fresh c.args.cut.low.now c.args.cut.ups.now
+    (length c.args.cut.ups.now))
     (sym c.store_top.ensures.stores.links) c.store_top.ensures.wait
 
 pub move_all-requires-clause-version : goal.move_all-requires-clause-version

@@ -51,7 +51,8 @@ returns-clause-halves c =
     c.split.new.self.sheet.words in
     record {
       lower = c.split.ensures.splits.lower;
-      upper = subst (Segment (labels c.args.self.now.links.size c.split.new.self.sheet.words) c.args.self.now.links.list c.args.fresh) up c.split.ensures.splits.upper;
+      upper = subst (Segment (labels c.args.self.now.links.size c.split.new.self.sheet.words) c.args.self.now.links.list c.args.fresh) up
+          c.split.ensures.splits.upper;
       bottoms = ap (map (labels c.args.self.now.links.size c.split.new.self.sheet.words).bottom) (sym up)
           ∙ (c.split.ensures.splits.bottoms ∙ ap (λ z. evens z (BOTTOM_ROOM / (z + 1)) 0)
           (halves_of c.args.self.now c.args.group c.args.members.now c.requires.segment c.requires.length).up_length);
@@ -84,4 +85,5 @@ split-requires-clause-top c =
     }
 
 pub returns-clause-relabels : goal.returns-clause-relabels
-returns-clause-relabels c = fewer c.args.self.now c.split.new.self _ (HALF_ITEMS + 1) c.split.ensures.relabels (omega (arith, (halves_of c.args.self.now c.args.group c.args.members.now c.requires.segment c.requires.length).up_length))
+returns-clause-relabels c = fewer c.args.self.now c.split.new.self _ (HALF_ITEMS + 1) c.split.ensures.relabels
+    (omega (arith, (halves_of c.args.self.now c.args.group c.args.members.now c.requires.segment c.requires.length).up_length))

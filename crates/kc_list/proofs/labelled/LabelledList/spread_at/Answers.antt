@@ -19,14 +19,16 @@ spread_group-requires-clause-version c y m =
 pub returns-clause-gap : goal.returns-clause-gap
 returns-clause-gap c =
     let m = take c.gather-count.result c.gather-count.new.into in
-    let p-m = in_segment (labels c.args.self.now.links.size c.args.self.now.sheet.words) c.args.self.now.links.list _ (take c.gather-count.result c.gather-count.new.into)
+    let p-m = in_segment (labels c.args.self.now.links.size c.args.self.now.sheet.words) c.args.self.now.links.list _
+    (take c.gather-count.result c.gather-count.new.into)
     c.args.p c.gather-count.ensures.segment c.requires.p_in refl in
     let g-new = c.spread_group.ensures.spreads.segment.members c.args.p p-m in
     let there = subst (λ (l : Chain). Sound l.size c.spread_group.new.self.sheet.words l.list) c.spread_group.ensures.relabels.rewrites.links
     c.spread_group.new.self.sound in
     let few : length (take c.gather-count.result c.gather-count.new.into) ≤ GROUP_ITEMS =
     omega (arith, length-take-le c.gather-count.result c.gather-count.new.into (omega arith)) in
-    room_after_spread c.args.self.now.links.size c.spread_group.new.self.sheet.words c.args.self.now.links.list (take c.gather-count.result c.gather-count.new.into)
+    room_after_spread c.args.self.now.links.size c.spread_group.new.self.sheet.words c.args.self.now.links.list
+    (take c.gather-count.result c.gather-count.new.into)
     c.args.p there
     (subst (λ z. Segment (labels c.args.self.now.links.size c.spread_group.new.self.sheet.words) c.args.self.now.links.list z
     (take c.gather-count.result c.gather-count.new.into)) (sym g-new) c.spread_group.ensures.spreads.segment)

@@ -14,7 +14,8 @@ overflow_add-new c =
     )
 
 pub store_group-requires-clause-fits : goal.store_group-requires-clause-fits
-store_group-requires-clause-fits c = (topped_by c.args.self.now c.args.cut.group c.args.cut.fresh c.args.top c.args.cut.low.now c.args.cut.ups.now c.group-old.result c.group-old.ensures
+store_group-requires-clause-fits c = (topped_by c.args.self.now c.args.cut.group c.args.cut.fresh c.args.top c.args.cut.low.now c.args.cut.ups.now
+    c.group-old.result c.group-old.ensures
     c.args.cut.some_low c.requires.segment c.requires.fresh c.requires.top).fits
 
 pub store_group-requires-clause-rises : goal.store_group-requires-clause-rises
@@ -22,7 +23,8 @@ store_group-requires-clause-rises c = ap (λ w. w.version + 1) c.group-old.ensur
     ∙ ap (λ k. k + 1) (sym (same_version (get_or c.args.self.now.sheet.words (c.args.self.now.links.size + c.args.cut.fresh) 0)))
 
 pub store_group-requires-clause-sound : goal.store_group-requires-clause-sound
-store_group-requires-clause-sound c = (topped_by c.args.self.now c.args.cut.group c.args.cut.fresh c.args.top c.args.cut.low.now c.args.cut.ups.now c.group-old.result c.group-old.ensures
+store_group-requires-clause-sound c = (topped_by c.args.self.now c.args.cut.group c.args.cut.fresh c.args.top c.args.cut.low.now c.args.cut.ups.now
+    c.group-old.result c.group-old.ensures
     c.args.cut.some_low c.requires.segment c.requires.fresh c.requires.top).sound
 
 pub returns-clause-wait : goal.returns-clause-wait

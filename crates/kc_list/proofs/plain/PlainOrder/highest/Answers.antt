@@ -9,4 +9,5 @@ returns-clause-greatest c w = rw (← c.self.view_is) (omega (arith, version-hig
 
 pub returns-clause-reached : goal.returns-clause-reached
 returns-clause-reached c = rw (← c.self.view_is)
-    (reached c.self.inside.list.links.size c.highest.result c.self.inside.list.sheet.words c.self.inside.list.sound.size c.self.invariant.note c.highest.ensures)
+    (reached c.self.inside.list.links.size c.highest.result c.self.inside.list.sheet.words c.self.inside.list.sound.size c.self.invariant.note
+    c.highest.ensures)

@@ -3,10 +3,11 @@ use Rattle.std.proofs.Common.{◌≤◌, ◌-◌, length, take}
 use Rattle.kc_distinct.specs.Lists.{place_of}
 use Rattle.kc_words.specs.Order.{labels}
 use Rattle.kc_list.proofs.Groupings.{Grouped}
-use Rattle.kc_list.proofs.tops.collect_groups.Given as goal
+use Rattle.kc_list.proofs.labelled.LabelledList.collect_groups.Given as goal
 
 abbrev pub invariant-loop-x : goal.invariant-loop-x
-invariant-loop-x l = Grouped l.links.size (labels l.links.size l.sheet.words) l.links.list l.x l.last (take l.count l.into) × (l.count ≤ length l.into)
+invariant-loop-x l = Grouped l.self.links.size (labels l.self.links.size l.self.sheet.words) l.self.links.list l.x l.last (take l.count l.into) ×
+    (l.count ≤ length l.into)
 
 abbrev pub decreases-loop-x : goal.decreases-loop-x
-decreases-loop-x l = length l.links.list - place_of l.x l.links.list
+decreases-loop-x l = length l.self.links.list - place_of l.x l.self.links.list

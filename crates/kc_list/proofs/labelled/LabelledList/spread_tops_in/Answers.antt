@@ -1,0 +1,60 @@
+-- The groups in use are no more than the items, so that the room suffices.
+use Rattle.std.proofs.Common.{◌≤◌, ◌+◌, length, subst, take, map, arith, List, ℕ}
+use Rattle.kc_distinct.proofs.Members.{below_bound}
+use Rattle.kc_words.specs.Order.{labels}
+use Rattle.kc_list.specs.Places.{runs}
+use Rattle.kc_list.specs.Sheets.{ChangesOnly}
+use Rattle.kc_words.specs.declared.layout.TheConstants.{ITEMS}
+use Rattle.kc_list.proofs.Relabelling.{fewer}
+use Rattle.kc_list.proofs.Groupings.{groups_few, group_in, tops_gaps}
+use Rattle.kc_list.proofs.labelled.LabelledList.spread_tops_in.Goals as goal
+
+pub collect_groups-count-requires : goal.collect_groups-count-requires
+collect_groups-count-requires c =
+    omega (
+      arith,
+      below_bound c.args.self.now.links.size c.args.self.now.links.list c.args.self.now.sound.distinct (λ x m. (c.args.self.now.sound.inside x m).below),
+      c.requires.groups_room,
+    )
+
+pub spread_tops_with-requires-clause-version : goal.spread_tops_with-requires-clause-version
+spread_tops_with-requires-clause-version c g m = let r =
+    group_in c.args.self.now.links.size c.args.self.now.sheet.words c.args.self.now.links.list
+    (take c.collect_groups-count.result c.collect_groups-count.new.into) g
+    c.args.self.now.sound c.collect_groups-count.ensures.groups m in c.requires.version g r.0 r.1
+
+pub spread_tops_with-requires-clause-room : goal.spread_tops_with-requires-clause-room
+spread_tops_with-requires-clause-room c =
+    omega (
+      arith,
+      groups_few c.args.self.now.links.size c.args.self.now.sheet.words c.args.self.now.links.list
+          (take c.collect_groups-count.result c.collect_groups-count.new.into) c.args.self.now.sound c.collect_groups-count.ensures.groups,
+      c.requires.room,
+    )
+
+pub returns-clause-spread : goal.returns-clause-spread
+returns-clause-spread c =
+    let few : length (take c.collect_groups-count.result c.collect_groups-count.new.into) ≤ ITEMS = omega (
+      arith,
+      groups_few c.args.self.now.links.size c.args.self.now.sheet.words c.args.self.now.links.list
+          (take c.collect_groups-count.result c.collect_groups-count.new.into) c.args.self.now.sound c.collect_groups-count.ensures.groups,
+      c.args.self.now.small,
+    ) in
+    let P : List ℕ → Type 0 = λ gs. ChangesOnly (map (λ g. c.args.self.now.links.size + g) gs) c.args.self.now.sheet.words
+    c.spread_tops_with.new.self.sheet.words in
+    record {
+      gaps = λ g m h m' lt. (tops_gaps (labels c.args.self.now.links.size c.spread_tops_with.new.self.sheet.words).top
+          (take c.collect_groups-count.result c.collect_groups-count.new.into)
+          (runs (labels c.args.self.now.links.size c.spread_tops_with.new.self.sheet.words).group c.args.self.now.links.list) g h
+          c.spread_tops_with.ensures.groups few c.spread_tops_with.ensures.tops m).1 m' lt;
+      high = λ g m. (tops_gaps (labels c.args.self.now.links.size c.spread_tops_with.new.self.sheet.words).top
+          (take c.collect_groups-count.result c.collect_groups-count.new.into)
+          (runs (labels c.args.self.now.links.size c.spread_tops_with.new.self.sheet.words).group c.args.self.now.links.list) g g
+          c.spread_tops_with.ensures.groups few c.spread_tops_with.ensures.tops m).0;
+      only = subst P c.collect_groups-count.ensures.groups c.spread_tops_with.ensures.only;
+    }
+
+pub returns-clause-relabels : goal.returns-clause-relabels
+returns-clause-relabels c = fewer c.args.self.now c.spread_tops_with.new.self _ c.args.self.now.links.size c.spread_tops_with.ensures.relabels
+    (groups_few c.args.self.now.links.size c.args.self.now.sheet.words c.args.self.now.links.list
+    (take c.collect_groups-count.result c.collect_groups-count.new.into) c.args.self.now.sound c.collect_groups-count.ensures.groups)
