@@ -207,10 +207,3 @@ top_end_high n ws list x s = elim (cases_eq (next_of n x list) n) [
   | inl e ↦ rw (eq-eqb (next_of n x list) n e) (omega arith)
   | inr ne ↦ rw (ne_eqb (next_of n x list) n ne) (let p = (next_in n ws list x (next_of n x list) s refl ne).1 in omega (arith, p.top_high))
 ]
-
-pub half_size : (a : Labels) (list : List ℕ) (g h p : ℕ) (low ups : List ℕ) → Segment a list g low → Segment a list h ups → length low ≡ HALF_ITEMS
-    → length ups ≡ HALF_ITEMS → (member p low ≡ true) ⊎ (member p ups ≡ true) → size_of a.group (a.group p) list ≡ HALF_ITEMS
-half_size a list g h p low ups s t l u k = elim k [
-  | inl m ↦ ap (λ z. size_of a.group z list) (s.members p m) ∙ (segment_size a list g low s ∙ l)
-  | inr m ↦ ap (λ z. size_of a.group z list) (t.members p m) ∙ (segment_size a list h ups t ∙ u)
-]

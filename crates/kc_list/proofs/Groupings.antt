@@ -1,19 +1,19 @@
 -- The groups in use, one after another.
-use Rattle.std.proofs.Common.{◌≡◌, ◌≢◌, ℕ, suc, zero, ◌+◌, ◌*◌, ◌/◌, ◌<◌, ◌≤◌, true, false, cond, List, [], ◌∷◌, ◌++◌, length, get_or, take, map, eqb}
+use Rattle.std.proofs.Common.{◌≡◌, ◌≢◌, ℕ, suc, zero, ◌+◌, ◌*◌, ◌/◌, ◌<◌, ◌≤◌, true, false, cond, List, [], ◌∷◌, ◌++◌, length, get_or, map, eqb}
 use Rattle.std.proofs.Common.{refl, sym, ◌∙◌, ap, subst, inl, inr, arith, mul-le-mul_right}
 use Rattle.std.proofs.lemmas.Bool.{eqb-true, eqb-false, ne_eqb, eq-eqb, cases_lt, cases_Bool, false≢true}
-use Rattle.std.proofs.lemmas.List.{append_assoc, append-nil, length-append, length-map, get_or-map}
+use Rattle.std.proofs.lemmas.List.{append_assoc, append-nil, length-append, get_or-map}
 use Rattle.std.proofs.lemmas.Nat.{le-div, div-add-mod'}
-use Rattle.kc_relabel.specs.Labels.{Ascends, written, schedule_of}
-use Rattle.kc_relabel.proofs.Rising.{Writes, schedule-along, Along-take, Ascends-low}
+use Rattle.kc_relabel.specs.Labels.{Ascends}
+use Rattle.kc_relabel.proofs.Rising.{Ascends-low}
 use Rattle.kc_distinct.specs.Lists.{member, Distinct, head_or, next_of, place_of}
 use Rattle.kc_distinct.proofs.Members.{member-head, member-cases, member-append_right, Distinct-cut, next_of-cut, place_of-cut, not_member-parts, below_bound}
 use Rattle.kc_words.specs.Order.{Labels, labels}
 use Rattle.kc_list.specs.Places.{Sound, runs, evens}
-use Rattle.kc_list.proofs.Spreading.{Ascends-evens, length-evens, get_or-evens}
+use Rattle.kc_list.proofs.Spreading.{Ascends-evens, get_or-evens}
 use Rattle.kc_list.proofs.Gathering.{cons_rest}
 use Rattle.kc_list.proofs.Counts.{runs_short}
-use Rattle.kc_list.proofs.Toplabels.{runs_distinct, runs_item}
+use Rattle.kc_list.proofs.Toplabels.{runs_item}
 use Rattle.kc_words.specs.declared.layout.TheConstants.{ITEMS, TOP_ROOM}
 
 -- the groups that follow group `g`
@@ -147,18 +147,6 @@ evens-rise n room l =
     let some : 1 ≤ room / (n + 1) = le-div 1 room (n + 1) (omega arith) (omega arith) in
     let all : (0 + n + 1) * (room / (n + 1)) ≤ room = let e = div-add-mod' room (n + 1) in omega (arith, e) in
     Ascends-low 1 (0 * (room / (n + 1)) + 1) room (evens n (room / (n + 1)) 0) (omega arith) (Ascends-evens n (room / (n + 1)) 0 room some all)
-
-pub tops-ascend : (n : ℕ) (ws list gs : List ℕ) (out : Writes) (k : ℕ) → Sound n ws list → gs ≡ runs (labels n ws).group list → length gs + 1 ≤ TOP_ROOM
-    → out ≡ schedule_of (map (labels n ws).top gs) (evens (length gs) (TOP_ROOM / (length gs + 1)) 0)
-    → Ascends 1 TOP_ROOM (written (map (labels n ws).top gs) (take k out))
-tops-ascend n ws list gs out k s g l e =
-    let t = (labels n ws).top in
-    let old : Ascends 1 TOP_ROOM (map (labels n ws).top gs) =
-    subst (λ hs. Ascends 1 TOP_ROOM (map (labels n ws).top hs)) (sym g) (runs_distinct n ws list s).1 in
-    let along = (schedule-along 1 TOP_ROOM (map (labels n ws).top gs) (evens (length gs) (TOP_ROOM / (length gs + 1)) 0)
-    (omega (arith, length-map gs (labels n ws).top, length-evens (length gs) (TOP_ROOM / (length gs + 1)) 0)) old (evens-rise (length gs) TOP_ROOM l)).0 in
-    rw e (Along-take (Ascends 1 TOP_ROOM) (map (labels n ws).top gs)
-    (schedule_of (map (labels n ws).top gs) (evens (length gs) (TOP_ROOM / (length gs + 1)) 0)) k along)
 
 -- by index
 pub index_of : (x : ℕ) (xs : List ℕ) → member x xs ≡ true → (i : ℕ) × (i < length xs) × (get_or xs i 0 ≡ x)

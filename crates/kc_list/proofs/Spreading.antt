@@ -7,8 +7,8 @@ use Rattle.std.proofs.lemmas.List.{take_more_set, take_all, get_or-map}
 use Rattle.kc_words.specs.ItemWord.{item_of, item_word, IsFitting as FitsItem}
 use Rattle.kc_words.proofs.Packing.{item_of-item_word}
 use Rattle.kc_words.specs.declared.item.ItemWord.{ItemWord}
-use Rattle.kc_relabel.specs.Labels.{Ascends, written, places, schedule_of}
-use Rattle.kc_relabel.proofs.Rising.{Writes, written-append, schedule-along, Along-take, Ascends-end, Ascends-low}
+use Rattle.kc_relabel.specs.Labels.{Ascends, written, places}
+use Rattle.kc_relabel.proofs.Rising.{Writes, written-append, Ascends-end, Ascends-low}
 use Rattle.std.proofs.lemmas.Nat.{le-div, div-add-mod'}
 use Rattle.kc_relabel.proofs.Once.{Distinct-at, place_at, length-places}
 use Rattle.kc_distinct.specs.Lists.{member, Distinct}
@@ -418,15 +418,3 @@ evens-ascend n l =
     let all : (0 + n + 1) * (BOTTOM_ROOM / (n + 1)) ≤ BOTTOM_ROOM = let e = div-add-mod' BOTTOM_ROOM (n + 1) in omega (arith, e) in
     Ascends-low 1 (0 * (BOTTOM_ROOM / (n + 1)) + 1) BOTTOM_ROOM (evens n (BOTTOM_ROOM / (n + 1)) 0) (omega arith)
     (Ascends-evens n (BOTTOM_ROOM / (n + 1)) 0 BOTTOM_ROOM some all)
-
-pub spread-ascends : (n : ℕ) (ws list : List ℕ) (g : ℕ) (m : List ℕ) (out : Writes) (k : ℕ) → Sound n ws list → Segment (labels n ws) list g m
-    → length m ≤ GROUP_ITEMS → out ≡ schedule_of (map (labels n ws).bottom m) (evens (length m) (BOTTOM_ROOM / (length m + 1)) 0)
-    → Ascends 1 BOTTOM_ROOM (written (map (labels n ws).bottom m) (take k out))
-spread-ascends n ws list g m out k s seg l e =
-    let os = map (labels n ws).bottom m in
-    let ns = evens (length m) (BOTTOM_ROOM / (length m + 1)) 0 in
-    let along = (schedule-along 1 BOTTOM_ROOM (map (labels n ws).bottom m) (evens (length m) (BOTTOM_ROOM / (length m + 1)) 0)
-    (omega (arith, length-map m (labels n ws).bottom, length-evens (length m) (BOTTOM_ROOM / (length m + 1)) 0)) (ascends_from_order n ws list g m s seg)
-    (evens-ascend (length m) l)).0 in
-    rw e (Along-take (Ascends 1 BOTTOM_ROOM) (map (labels n ws).bottom m)
-    (schedule_of (map (labels n ws).bottom m) (evens (length m) (BOTTOM_ROOM / (length m + 1)) 0)) k along)

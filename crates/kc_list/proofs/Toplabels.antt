@@ -212,11 +212,6 @@ group_range n ws list gs i s e l =
     let from = runs_item (labels n ws).group (get_or gs i 0) list (ap (member (get_or gs i 0)) (sym e) ∙ member-get_or gs i 0 l) in
     (omega (arith, from.2, (s.inside from.0 from.1).group_low), omega (arith, from.2, (s.inside from.0 from.1).group_high))
 
-pub group_below : (n : ℕ) (ws list gs : List ℕ) (i : ℕ) → Sound n ws list → gs ≡ runs (labels n ws).group list → i < length gs → get_or gs i 0 ≤ n + 1
-group_below n ws list gs i s e l =
-    let from = runs_item (labels n ws).group (get_or gs i 0) list (ap (member (get_or gs i 0)) (sym e) ∙ member-get_or gs i 0 l) in
-    omega (arith, from.2, (s.inside from.0 from.1).group_high)
-
 -- after j steps of a schedule
 pub record Topway (n : ℕ) (list : List ℕ) (p q : Paper) (gs : List ℕ) (ss : Writes) (j : ℕ) : Type 0 where
   pub sound : Sound n q.words list

@@ -3,7 +3,7 @@ use Rattle.std.specs.Prelude.{◌≡◌, ℕ, ◌+◌, ◌/◌, ◌<◌, ◌≤�
 use Rattle.kc_links.specs.Ring.{Chain}
 use Rattle.kc_distinct.specs.Lists.{member, next_of}
 use Rattle.kc_words.specs.Order.{PairBelow, labels}
-use Rattle.kc_list.specs.Places.{Sound, Segment, First, Free, Splitting, NotOf, HasGap, size_of, runs, gap_end, top_end, evens}
+use Rattle.kc_list.specs.Places.{Segment, First, Free, Splitting, NotOf, HasGap, size_of, runs, gap_end, top_end, evens}
 use Rattle.kc_list.specs.Sheets.{Paper, Steps, version}
 use Rattle.kc_list.specs.Tally.{Tallied}
 use Rattle.kc_list.specs.Tally as tally
@@ -29,10 +29,6 @@ version_at p w = version p.words w
 -- `count` labels that share a room evenly
 abbrev pub evenly : ℕ → ℕ → List ℕ
 evenly count room = evens count (room / (count + 1)) 0
-
--- the labels order the list
-abbrev pub IsSound : Chain → Paper → Type 0
-IsSound c p = Sound c.size p.words c.list
 
 abbrev pub IsPairBelow : Chain → Paper → ℕ → ℕ → Type 0
 IsPairBelow c p x y = PairBelow (labels c.size p.words) x y

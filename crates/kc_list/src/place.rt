@@ -1,8 +1,8 @@
 //! Where an item stands, and how it comes to stand elsewhere.
 ghost use Rattle.std.specs.Prelude.{◌≡◌, ◌≢◌, ◌<◌, ◌+◌, ◌-◌, ◌/◌, length, slice_index, true, IsTrue, ◌↔◌};
 ghost use Rattle.kc_distinct.specs.Lists.{member, without, right_after};
-ghost use Rattle.kc_list.specs.Views.{group_at, bottom_at, HasLabelAfter, FitsAfter, AreSizes, TakesItem, end_after, IsPairBelow, version_at};
-ghost use Rattle.kc_list.specs.Rewriting.{PutsItem, TakesOut};
+ghost use Rattle.kc_list.specs.Views.{group_at, bottom_at, HasLabelAfter, FitsAfter, AreSizes, end_after, IsPairBelow, version_at};
+ghost use Rattle.kc_list.specs.Rewriting.{HasWay, PutsItem, TakesOut};
 
 use crate::labelled::LabelledList;
 use crate::limits::PUT_SHARE;
@@ -116,8 +116,7 @@ impl LabelledList {
     pub fn move_item(&mut self, x: u32, p: u32, label: u32)
         requires x_within { x < self.old.links.size }
         requires differ { x ≢ p }
-        requires tallied { AreSizes self.old.links self.old.sheet self.old.groups }
-        requires takes { TakesItem self.old.links self.old.sheet x p }
+        requires way { HasWay x p self.old }
         requires fits { FitsAfter self.old.links self.old.sheet p label }
         requires version { version_at self.old.sheet (1 + x) < LAST_VERSION }
         requires room { length self.old.sheet.writes < self.old.sheet.room }
