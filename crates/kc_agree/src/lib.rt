@@ -13,8 +13,6 @@
 pub mod laws;
 mod reading;
 mod stale;
-#[cfg(test)]
-mod tests;
 
 pub use reading::{read_core, read_order};
 pub use stale::{Stale, first_stale};

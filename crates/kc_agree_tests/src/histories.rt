@@ -4,8 +4,8 @@ ghost use Rattle.kc_agree.specs.Stamps.{number_of, place_stamp};
 ghost use Rattle.kc_order.specs.Writers.{unsealed_after};
 ghost use Rattle.kc_view.specs.Answers.{answers_in, core_in};
 
-use super::{stale_list, stale_place};
-use crate::{NoMemory, Stale, first_stale, read_core, read_order};
+use crate::stamps::{stale_list, stale_place};
+use kc_agree::{NoMemory, Stale, first_stale, read_core, read_order};
 use kc_graph::{Neighbours, Update, Used, UsedEdges};
 use kc_order::Writer;
 use kc_table::{Pass, Words, load, shape};
