@@ -1,3 +1,4 @@
+pub mod Crossing
 pub mod Order
 pub mod Stores
 pub mod Putting

@@ -10,13 +10,9 @@ use Rattle.std.proofs.Crossing.{crosses}
 use Rattle.std.proofs.sync.ledger.Book.TheSendSync as book
 use Rattle.atomic_table.proofs.shared.Seat.TheSendSync as seat
 use Rattle.kc_graph.specs.contracts.shared.SharedGraph as graph
-use Rattle.kc_links.specs.contracts.Links as links
 use Rattle.kc_table.specs.contracts.writer_seat.WriterSeat as writer_seat
 use Rattle.kc_table.specs.declared.name.Name as name
-use Rattle.kc_list.specs.contracts.groups.Groups as groups
-use Rattle.kc_list.specs.contracts.plain.PlainOrder as plain
-use Rattle.kc_list.specs.contracts.scratch.Scratch as room
-use Rattle.kc_list.specs.contracts.sheet.Sheet as sheet
+use Rattle.kc_list.proofs.Crossing.{plain_send}
 use Rattle.kc_order.specs.contracts.writer.Writer as writer
 use Rattle.kc_levels.specs.contracts.levels.Levels as levels
 use Rattle.kc_journal.specs.contracts.journal.Journal as journal
@@ -28,21 +24,6 @@ use Rattle.kc_shared.specs.contracts.shared.Shared as shared
 
 graph_send : IsSend graph.the_row
 graph_send = search (sendable, crosses) depth 20
-
-links_send : IsSend links.the_row
-links_send = search (sendable, crosses) depth 20
-
-groups_send : IsSend groups.the_row
-groups_send = search (sendable, crosses) depth 20
-
-sheet_send : IsSend sheet.the_row
-sheet_send = search (sendable, crosses) depth 20
-
-room_send : IsSend room.the_row
-room_send = search (sendable, crosses) depth 20
-
-plain_send : IsSend plain.the_row
-plain_send = search (sendable, crosses, links_send, groups_send, sheet_send, room_send) depth 20
 
 writer_seat_send : IsSend writer_seat.the_row
 writer_seat_send = search (sendable, crosses, seat.the_send) depth 20
