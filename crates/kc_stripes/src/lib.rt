@@ -18,8 +18,6 @@ mod loose;
 mod start;
 mod stripe;
 mod stripes;
-#[cfg(test)]
-mod tests;
 
 pub use loose::Loose;
 pub use start::Start;

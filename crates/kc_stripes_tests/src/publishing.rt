@@ -2,9 +2,9 @@
 ghost use Rattle.std.specs.Prelude.{◌≡◌, ◌<◌, ◌≤◌, vec_len, All};
 ghost use Rattle.kc_stripes.specs.Records.{opened_with};
 
-use crate::{STRIPES, Stripe, Stripes, open_stripes};
 use kc_graph::{Graph, Neighbours, SharedGraph};
 use kc_order::Writer;
+use kc_stripes::{STRIPES, Stripe, Stripes, open_stripes};
 use kc_table::{Name, Pass, Words, split};
 use kc_words::{Shape, VertexWord};
 use std::alloc::Global;

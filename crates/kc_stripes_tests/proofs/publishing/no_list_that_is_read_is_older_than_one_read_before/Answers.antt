@@ -2,7 +2,7 @@
 use Rattle.std.proofs.Common.{◌≡◌, ◌≤◌, ◌<◌, ℕ, zero, suc, [], ◌∷◌, get_or, refl, sym, ap, subst, arith}
 use Rattle.kc_words.specs.VertexWord.{vertex_of}
 use Rattle.kc_words.specs.declared.vertex.VertexWord.{VertexWord}
-use Rattle.kc_stripes.proofs.tests.no_list_that_is_read_is_older_than_one_read_before.Goals as goal
+use Rattle.kc_stripes_tests.proofs.publishing.no_list_that_is_read_is_older_than_one_read_before.Goals as goal
 
 each_word : (w v : ℕ) → v < 4 → get_or (w ∷ w ∷ w ∷ w ∷ []) v 0 ≡ w
 each_word w zero l = refl

@@ -6,7 +6,7 @@ use denote.Struct.Tuple.{TupleAt}
 use denote.Param.Send.{IsSend, arg_send, param_send, shr_send}
 use Rattle.std.specs.Prelude.{[], ◌∷◌}
 use Rattle.kc_stripes.proofs.Crossing.{captures_send, graph_sync, pass_send, stripes_sync, words_sync}
-use Rattle.kc_stripes.proofs.tests.publish_and_read.Goals as goal
+use Rattle.kc_stripes_tests.proofs.publishing.publish_and_read.Goals as goal
 
 five_send : (ν : Sym) (A B C D E : RattleType) → IsSend A → IsSend B → IsSend C → IsSend D → IsSend E → IsSend (TupleAt ν (A ∷ B ∷ C ∷ D ∷ E ∷ []))
 five_send ν A B C D E a b c d e = captures_send ν (A ∷ B ∷ C ∷ D ∷ E ∷ []) (a, (b, (c, (d, (e, tt)))))
