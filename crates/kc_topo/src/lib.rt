@@ -17,8 +17,6 @@ pub mod fault;
 mod reached;
 mod searching;
 mod successors;
-#[cfg(test)]
-mod tests;
 
 pub use added::Added;
 pub use arcs::Arcs;

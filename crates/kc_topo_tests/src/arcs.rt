@@ -1,19 +1,16 @@
-//! Arcs on one thread, beside comparisons on another, and beside three that were told of arcs.
+//! Arcs on one thread: what they move, an arc that stands, and a cycle that is named.
 ghost use Rattle.std.specs.Prelude.{◌≡◌, ◌<◌, ◌≤◌, ◌+◌, ◌*◌};
 
-mod racing;
-mod telling;
-
-use crate::{Added, Arcs, Dag, DagFault};
 use kc_order::Answer;
 use kc_table::{Name, Pass, Words};
+use kc_topo::{Added, Arcs, Dag, DagFault};
 use std::marker::Brand;
 use std::process::Abort;
 use std::sync::Wait;
 use std::test::Fail;
 
 /// An arc that is added, or stood already.
-fn add<K: Name, R: Wait + Abort + AllocGlobal>(
+pub(crate) fn add<K: Name, R: Wait + Abort + AllocGlobal>(
     rt: &R,
     dag: &Dag<K>,
     pass: &mut Pass,

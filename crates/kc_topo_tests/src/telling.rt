@@ -1,10 +1,10 @@
 //! One thread adds arcs and tells what it has seen, and three compare the ends of arcs that they were told of.
 ghost use Rattle.std.specs.Prelude.{◌≡◌, ◌<◌};
 
-use super::add;
-use crate::{Added, Arcs, Dag};
+use crate::arcs::add;
 use kc_order::Answer;
 use kc_table::{Name, Pass, Words, meet, split};
+use kc_topo::{Added, Arcs, Dag};
 use std::marker::{Brand, PhantomData};
 use std::process::Abort;
 use std::sync::{Mutex, Wait};
