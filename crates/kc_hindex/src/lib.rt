@@ -17,8 +17,6 @@ mod ordering;
 mod peeling;
 mod piece;
 mod rounds;
-#[cfg(test)]
-mod tests;
 
 ghost use Rattle.std.specs.Prelude.{◌≡◌, ◌≤◌, ◌<◌, ◌+◌, ℕ, suc, List};
 ghost use Rattle.kc_graph.specs.SimpleGraph.{SimpleGraph};

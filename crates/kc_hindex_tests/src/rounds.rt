@@ -1,6 +1,6 @@
 //! Small graphs with answers worked out by hand, a path with many rounds, and random graphs beside the decomposition by buckets.
-use crate::{Peeled, lawful, peel};
 use kc_graph::{Graph, NoMemory, core_numbers};
+use kc_hindex::{Peeled, lawful, peel};
 use std::process::Abort;
 use std::test::Fail;
 use std::thread::Threads;
