@@ -32,8 +32,6 @@ mod plain;
 mod reader;
 mod reading;
 mod refusal;
-#[cfg(test)]
-mod tests;
 
 ghost use Rattle.std.specs.Prelude.{◌≡◌, ◌≢◌, ◌≤◌, ◌<◌, ◌+◌, ◌^◌, ◌↔◌, ℕ, List, All, IfOk, IsErrOf, length, map};
 ghost use Rattle.std.specs.List.{list_any};

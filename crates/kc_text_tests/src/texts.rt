@@ -1,8 +1,8 @@
 //! What texts give: ids and edges, or the refused line.
 ghost use Rattle.std.specs.Prelude.{◌<◌, ◌≤◌, length};
 
-use crate::{Kind, ParseFault, Refusal, parse};
 use kc_graph::Update;
+use kc_text::{Kind, ParseFault, Refusal, parse};
 use std::process::Abort;
 use std::test::Fail;
 
