@@ -17,8 +17,6 @@ mod journal;
 pub mod laws;
 mod planning;
 mod renewal;
-#[cfg(test)]
-mod tests;
 
 pub use ahead::Ahead;
 pub use answer::{EnterFault, Entered, Receipt};

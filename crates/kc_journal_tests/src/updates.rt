@@ -3,9 +3,9 @@ ghost use Rattle.std.specs.Prelude.{◌≡◌, ◌<◌, ◌≤◌, IfOk};
 ghost use Rattle.kc_levels.specs.Levels.{size_of};
 ghost use Rattle.kc_journal.specs.Entering.{MayEnter};
 
-use crate::{EnterFault, Entered, Journal, Receipt, plan_held};
 use kc_cert::{check, local_check};
 use kc_graph::{Graph, Lawful, Moves, NoMemory, Plan, Update};
+use kc_journal::{EnterFault, Entered, Journal, Receipt, plan_held};
 use kc_table::{Entry, Pass, Words};
 use kc_view::Scratch;
 use kc_words::{INDICES, LAST_VERSION, VERTICES};
