@@ -12,8 +12,6 @@
 mod counting;
 mod course;
 mod ran;
-#[cfg(test)]
-mod tests;
 
 pub use course::Course;
 pub use ran::Ran;

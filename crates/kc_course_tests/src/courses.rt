@@ -4,7 +4,7 @@ ghost use Rattle.kc_text.specs.Inputs.{IsBatch};
 ghost use Rattle.kc_text.specs.declared.limits.TheConstants.{MOST_UPDATES};
 ghost use Rattle.kc_queue.specs.declared.consumer.TheConstants.{WORKERS};
 
-use crate::{Course, Ran};
+use kc_course::{Course, Ran};
 use kc_effects::Counts;
 use kc_graph::{Graph, Update, decompose_owned};
 use kc_text::parse;
