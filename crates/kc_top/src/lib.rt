@@ -14,8 +14,6 @@ mod ending;
 pub mod memory;
 mod reading;
 pub mod run;
-#[cfg(test)]
-mod tests;
 pub mod words;
 
 ghost use Rattle.std.specs.Prelude.{◌≡◌};

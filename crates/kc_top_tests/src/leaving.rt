@@ -1,0 +1,66 @@
+//! What a run leaves of its shares and tables.
+use crate::checks::{NONE, TRIANGLE, WORKERS, run_on, words_with};
+use kc_journal::Receipt;
+use kc_top::Status;
+use std::process::Abort;
+use std::sync::Wait;
+use std::test::Fail;
+use std::thread::Threads;
+
+/// What the runs on an input leave with so many workers, which are done: the receipts of all updates, share by share.
+fn receipts_left<R: Abort + AllocGlobal + Threads + Wait + Sync>(
+    rt: &R,
+    workers: &str,
+    input: &[u8],
+    shares: usize,
+    tables: usize,
+) -> Result<Vec<Receipt>, Fail> {
+    let alloc = rt.alloc();
+    let words = words_with(alloc, workers, &[])?;
+    let left = run_on(rt, &words, Vec::from_slice(alloc, input)?, NONE, 399)?;
+    assert_eq!(rt; left.status, Status::Done);
+    assert_eq!(rt;
+        (left.ran.shares.len(), left.ran.tables.len()),
+        (shares, tables)
+    );
+    let mut receipts = Vec::new(alloc);
+    for share in &left.ran.shares {
+        for done in &share.done {
+            receipts.push(done.receipt)?;
+        }
+    }
+    Ok(receipts)
+}
+
+#[test]
+fn a_run_without_a_batch_leaves_nothing(rt: HostRuntime) -> Result<(), Fail> {
+    for workers in WORKERS {
+        let receipts = receipts_left(&rt, workers, TRIANGLE, 0, 0)?;
+        assert!(rt; receipts.is_empty());
+    }
+    Ok(())
+}
+
+/// An edge that comes, and goes again in the next batch.
+const THERE_AND_BACK: &[u8] = b"batch\n+ 1 2\nbatch\n- 2 1\n";
+
+#[test]
+fn a_run_leaves_a_table_and_a_receipt_for_each_update(rt: HostRuntime) -> Result<(), Fail> {
+    let wanted = [
+        Receipt {
+            index: 0,
+            place: 1,
+            applied: true,
+        },
+        Receipt {
+            index: 1,
+            place: 2,
+            applied: true,
+        },
+    ];
+    for (workers, shares) in [("1", 2), ("2", 4), ("8", 16)] {
+        let receipts = receipts_left(&rt, workers, THERE_AND_BACK, shares, 1)?;
+        assert_eq!(rt; receipts.as_slice(), wanted.as_slice());
+    }
+    Ok(())
+}
