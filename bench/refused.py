@@ -1,7 +1,9 @@
 #!/usr/bin/env python3
 """Refuses each request for memory of the built program in turn, and looks how its runs end.
 
-usage: refused.py [--kcore PROGRAM] [--only WORD] [--quick]   (default: crates/kcore/out/kcore beside this folder; ./kcore builds it)
+usage: refused.py [--kcore PROGRAM] [--stress PROGRAM] [--only WORD] [--quick]
+(default: crates/kcore/out/kcore and crates/stress_journal/out/stress_journal beside this folder; ./kcore builds the one, and `rt run` in
+its folder the other, which is left out where it is not there)
 
 The program runs under an allocator that is preloaded (refuse.c, which is built here by $CC or cc): in one run after another the first request is
 refused, the second, and so on, until a run needs no more; and then the same where each request after the refused one is refused too (--quick leaves
@@ -9,6 +11,10 @@ that out). Only requests that the program itself makes are counted. Each run has
 
   as the run of which nothing is refused, with its status, its whole text and its line on standard error, or
   with status 6, a prefix of that text, and `no memory` on standard error (nothing there where there is no memory for the words).
+
+The last case is a program of its own over the journal: where a request is refused, it looks whether the journal is as it was before the
+update, or has just those of a batch that were entered, and says so where it is not. It has no status of its own for want of memory: it
+has to end with status 1 and a line that says so.
 
 A line a case says how many requests were refused and how the runs ended. The status is 1 where a run ends otherwise, is killed or does
 not end; the smallest such case is then printed. With several workers the numbers of the requests hang on the schedule, so the last
@@ -52,6 +58,8 @@ CASES = (
     ("a refused line", [], b"1 2\nbatch\n+ 1 3\n+ 1\n"),
     ("a word that is wrong", ["--workers", "65"], TRIANGLE),
 )
+JOURNAL_CASE = ("a journal in one thread, and by two workers", ["few"], b"")
+JOURNAL_LINES = (b"Error: out of memory\n", b"Error: memory allocation failed\n")  # where it has no memory
 
 
 def built(place):
@@ -63,10 +71,11 @@ def built(place):
 
 
 class Runner:
-    """Runs the program on one case."""
+    """Runs a program on one case."""
 
-    def __init__(self, program, library, place, words, data):
+    def __init__(self, program, without, library, place, words, data):
         self.command = [program] + words
+        self.without = without
         self.library = library
         self.report = os.path.join(place, "report")
         self.data = data
@@ -91,9 +100,15 @@ def has_no_memory(ended):
     return status == NO_MEMORY and (err == b"no memory\n" or (err == b"" and out == b""))
 
 
-def is_lost(ended, whole):
-    """Whether a run ends neither as the unrefused one nor as one that has no memory."""
-    return ended != whole and not (has_no_memory(ended) and whole[1].startswith(ended[1]))
+def has_no_memory_for_journal(ended):
+    """The same of the program over the journal."""
+    status, _, err = ended
+    return status == 1 and err in JOURNAL_LINES
+
+
+def is_lost(ended, whole, without=has_no_memory):
+    """Whether a run ends neither as the unrefused one nor as one that has no memory, as `without` tells."""
+    return ended != whole and not (without(ended) and whole[1].startswith(ended[1]))
 
 
 def refuse_each(runner, whole, later):
@@ -104,7 +119,7 @@ def refuse_each(runner, whole, later):
     while unreached < UNREACHED:
         which = f"{number}{'+' if later else ''}"
         ended, (_, refused) = runner.run(which)
-        if is_lost(ended, whole):
+        if is_lost(ended, whole, runner.without):
             return counts, (which, ended)
         if refused:
             unreached = 0
@@ -146,15 +161,21 @@ def try_case(runner, name, quick):
 def main():
     words = argparse.ArgumentParser(description=__doc__, formatter_class=argparse.RawDescriptionHelpFormatter)
     words.add_argument("--kcore", default=str(HERE.parent / "crates/kcore/out/kcore"))
+    words.add_argument("--stress", default=str(HERE.parent / "crates/stress_journal/out/stress_journal"))
     words.add_argument("--only", default="", help="the cases whose name has this word")
     words.add_argument("--quick", action="store_true", help="refuse single requests alone")
     chosen = words.parse_args()
+    cases = [(chosen.kcore, has_no_memory, case) for case in CASES]
+    if os.path.exists(chosen.stress):
+        cases.append((chosen.stress, has_no_memory_for_journal, JOURNAL_CASE))
+    else:
+        print("left out, not built:", chosen.stress, file=sys.stderr)
     total, kept = 0, True
     with tempfile.TemporaryDirectory() as place:
         library = built(place)
-        for name, arguments, data in CASES:
+        for program, without, (name, arguments, data) in cases:
             if chosen.only in name:
-                refused, all_kept = try_case(Runner(chosen.kcore, library, place, arguments, data), name, chosen.quick)
+                refused, all_kept = try_case(Runner(program, without, library, place, arguments, data), name, chosen.quick)
                 total, kept = total + refused, kept and all_kept
     print(f"{total} requests refused: {'nothing was lost' if kept else 'SOMETHING WAS LOST'}")
     sys.exit(0 if kept else 1)

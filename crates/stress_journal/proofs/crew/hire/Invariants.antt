@@ -1,0 +1,9 @@
+-- All workers are of the one table.
+use Rattle.std.proofs.Common.{◌≡◌, All}
+use Rattle.stress_journal.proofs.crew.hire.Given as goal
+
+abbrev pub invariant-loop : goal.invariant-loop
+invariant-loop l = record {
+  pass : l.pass.table ≡ l.parts.words;
+  workers : All (λ w. w.table ≡ l.parts.words) l.workers.items;
+}
