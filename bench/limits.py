@@ -51,7 +51,7 @@ def with_edge_lines(file, count):
 
 def with_updates(file, count):
     """One batch on a random graph: random additions, and between them removals of edges that the graph begins with."""
-    ids, edges = 262_144, 524_288
+    ids, edges = 16_384, 524_288
     start = list(random_pairs(2, edges, ids))
     file.write("".join(f"{u} {v}\n" for u, v in start))
     file.write("batch\n")
