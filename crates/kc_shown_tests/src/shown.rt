@@ -1,4 +1,4 @@
-//! A journal that is shown to a reader that is told.
+//! A journal that is shown to a reader that is told, and to one in another thread.
 ghost use Rattle.std.specs.Prelude.{◌≡◌, ◌<◌, ◌∷◌, [], All, IfOk, length};
 ghost use Rattle.kc_snapshot.specs.Histories.{member, width};
 
@@ -13,9 +13,16 @@ use std::marker::Brand;
 use std::process::Abort;
 use std::sync::Wait;
 use std::test::Fail;
+use std::thread;
+use std::thread::Threads;
 
 /// Two edges among four vertices, whose core numbers are 1.
 const START: [(u32, u32); 2] = [(0, 1), (2, 3)];
+
+/// How many lists are published while another thread reads, and how often it reads.
+const PUBLISHES: u32 = 1_000;
+
+const READS: u32 = 10_000;
 
 /// The edge that makes a path of the two edges.
 const PATH: (u32, u32) = (0, 2);
@@ -35,10 +42,11 @@ struct Run<J: BoardName, R: Wait + Drop> {
     ghost count: { length shown.history ≡ lists },
 }
 
-/// A reader of four core numbers.
+/// A reader of four core numbers, and whether all that it watched was right.
 #[derive(Drop)]
 struct Watcher<J: BoardName> {
     reader: Reader<J>,
+    right: bool,
     ghost wide: { width reader ≡ 4 },
 }
 
@@ -64,7 +72,10 @@ fn open_run<'a, J: BoardName, R: Wait + Abort + AllocGlobal>(
     let first = shown.journal().core_numbers();
     assert!(rt; first.len() == 4);
     let reader = only_reader(readers, first)?;
-    let watcher = Watcher { reader };
+    let watcher = Watcher {
+        reader,
+        right: false,
+    };
     let run = Run {
         words,
         pass,
@@ -108,6 +119,15 @@ impl<J: BoardName, R: Wait + Drop> Run<J, R> {
         Ok(number)
     }
 
+    /// Publishes again and again, and enters an update before each.
+    fn publish_all<A: Wait + Abort + AllocGlobal>(&mut self, rt: &A) -> Result<(), Fail> {
+        for index in 0..PUBLISHES {
+            self.enter(rt, index, index % 2 == 0, PATH)?;
+            self.publish(rt)?;
+        }
+        Ok(())
+    }
+
     /// The circle comes and goes more often than there are vertices, and stays; then it is published, and an edge of it goes.
     fn enter_many<A: Wait + Abort + AllocGlobal>(&mut self, rt: &A) -> Result<(), Fail> {
         self.enter(rt, 0, true, PATH)?;
@@ -120,6 +140,18 @@ impl<J: BoardName, R: Wait + Drop> Run<J, R> {
 }
 
 impl<J: BoardName> Watcher<J> {
+    /// Reads again and again: whether the numbers never fall, are of lists that are published, and each core number is 1.
+    fn watch<A: Wait>(&mut self, rt: &A) {
+        let mut least = 0;
+        let mut right = true;
+        for turn in 0..READS {
+            let Read { number, core } = self.reader.read(rt, turn % 4);
+            right = right && core == 1 && least <= number && number <= PUBLISHES;
+            least = number;
+        }
+        self.right = right;
+    }
+
     /// What is read while updates are entered and not published: the numbers from before.
     fn see_none_entered<R: Wait + Drop, A: Wait + Abort + AllocGlobal>(
         &mut self,
@@ -177,6 +209,21 @@ fn read_after_many<J: BoardName, R: Wait + Abort + AllocGlobal>(
     Ok(())
 }
 
+/// One thread enters and publishes, and another reads.
+fn read_beside_publishes<
+    J: BoardName + Send + Sync,
+    R: Threads + Wait + Abort + Sync + AllocGlobal,
+>(rt: &R, blank: Blank) -> Result<(), Fail>
+    requires { blank ≡ J.book }
+{
+    let (mut run, mut watcher) = open_run::<J, R>(rt, blank)?;
+    let (published, ()) = thread::join(rt, || run.publish_all(rt), || watcher.watch(rt));
+    published?;
+    assert!(rt; watcher.right);
+    watcher.see(rt, &run, PUBLISHES, 1);
+    Ok(())
+}
+
 #[test]
 fn a_reader_that_is_told_sees_what_was_entered(rt: HostRuntime) -> Result<(), Fail> {
     read_when_told::<Brand, _>(&rt, Blank::new())
@@ -185,4 +232,9 @@ fn a_reader_that_is_told_sees_what_was_entered(rt: HostRuntime) -> Result<(), Fa
 #[test]
 fn more_moves_than_vertices_are_published(rt: HostRuntime) -> Result<(), Fail> {
     read_after_many::<Brand, _>(&rt, Blank::new())
+}
+
+#[test]
+fn numbers_never_fall_while_another_thread_publishes(rt: HostRuntime) -> Result<(), Fail> {
+    read_beside_publishes::<Brand, _>(&rt, Blank::new())
 }
