@@ -1,3 +1,4 @@
+-- The four conditions make the certificate, for high neighbours are as many in the order as below `n`; and it gives core numbers.
 use Rattle.std.proofs.Common.{ℕ, ◌∙◌, subst}
 use Rattle.kc_graph.specs.Certificate.{Enumerates}
 use Rattle.kc_graph.proofs.Law.{certified}

@@ -1,3 +1,4 @@
+-- A turn makes the first of the shifts that were left, so what all of them come to is the same.
 use Rattle.std.proofs.Common.{◌∙◌, nat_eq}
 use Rattle.std.specs.HashMap.{get}
 use Rattle.kc_cert.proofs.Chaining.{linked_next}

@@ -1,3 +1,4 @@
+-- The shifts that are left make of the line and anchors so far what all shifts make of none, and may be made on them.
 use Rattle.std.proofs.Common.{◌≡◌, [], drop, nat_eq}
 use Rattle.std.specs.HashMap.{get}
 use Rattle.kc_cert.specs.Shifting.{line_after, home_after, no_home}

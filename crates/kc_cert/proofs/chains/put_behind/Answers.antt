@@ -1,3 +1,4 @@
+-- In a distinct line `w` has one place, so an insert at the next place puts `x` right behind it.
 use Rattle.std.proofs.Common.{ℕ, List, length, get_or, sym, ◌∙◌, ap, arith}
 use Rattle.kc_cert.proofs.Chaining.{inserted-behind}
 use Rattle.kc_cert.proofs.chains.put_behind.Goals as goal

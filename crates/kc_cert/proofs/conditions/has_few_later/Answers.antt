@@ -1,3 +1,4 @@
+-- With the vertex itself marked, its neighbours without a mark are those that stand later in the order.
 use Rattle.std.proofs.Common.{◌≡◌, ◌≤◌, ◌+◌, ℕ, List, Bool, true, length, get_or, set, drop, sym, ap, arith, subst, inl, inr, length-set}
 use Rattle.std.proofs.lemmas.Bool.{false≢true, cases_eq}
 use Rattle.kc_graph.specs.SimpleGraph.{SimpleGraph, degree_among}

@@ -1,3 +1,4 @@
+-- Just the vertices so far are marked, and each has at most as many later neighbours as its core number.
 use Rattle.std.proofs.Common.{◌≤◌, ◌<◌, ◌+◌, ℕ, get_or, drop}
 use Rattle.kc_graph.specs.SimpleGraph.{degree_among}
 use Rattle.kc_cert.proofs.Enumerating.{MarkedTo}

@@ -1,3 +1,4 @@
+-- A marked number comes twice, and one from `n` on is no vertex; `n` distinct numbers below `n` are all of them.
 use Rattle.std.proofs.Common.{◌≡◌, ◌<◌, ℕ, true, false, get_or, refl, sym, ◌∙◌, arith, subst}
 use Rattle.std.proofs.lemmas.Bool.{false≢true}
 use Rattle.kc_graph.proofs.Places.{length-enumerates}

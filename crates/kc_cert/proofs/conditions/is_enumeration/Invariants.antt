@@ -1,3 +1,4 @@
+-- The numbers so far are distinct and below `n`, and just they are marked as seen.
 use Rattle.kc_cert.proofs.Enumerating.{SeenTo}
 use Rattle.kc_cert.proofs.conditions.is_enumeration.Given as goal
 

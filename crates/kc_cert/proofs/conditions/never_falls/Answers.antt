@@ -1,3 +1,4 @@
+-- A number no less than the last goes on rising; a lesser one is less than that of the vertex right before it in the order.
 use Rattle.std.proofs.Common.{ℕ, refl, subst, arith}
 use Rattle.std.proofs.lemmas.Bool.{false≢true}
 use Rattle.kc_cert.proofs.Falling.{RisenTo, risen_more, risen_all, falls}

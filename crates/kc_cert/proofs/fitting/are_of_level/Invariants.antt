@@ -1,3 +1,4 @@
+-- Each of the numbers so far is a vertex that has the level as its core number.
 use Rattle.std.proofs.Common.{ℕ, ◌<◌, get_or}
 use Rattle.kc_cert.specs.Local.{IsOfLevel}
 use Rattle.kc_cert.proofs.fitting.are_of_level.Given as goal

@@ -1,3 +1,4 @@
+-- The place of `w` is behind those that rise and before this turn's just where `w` doesn't rise and no shift from here on moves it.
 use Rattle.std.proofs.Common.{ℕ, List, get_or, length, refl, sym, ◌∙◌, subst, inl, inr, arith, true≢false}
 use Rattle.std.proofs.lemmas.Bool.{cases_eq, false≢true}
 use Rattle.kc_graph.specs.Lawful.{Ranked}

@@ -1,3 +1,4 @@
+-- At level 0 no vertex has a level below, so all can fall just where there are none.
 use Rattle.std.proofs.Common.{length, sym, ◌∙◌, arith, eqb-true, eq-eqb}
 use Rattle.kc_cert.proofs.Asking.{no_member, empty_from}
 use Rattle.kc_cert.proofs.fitting.can_fall.Goals as goal

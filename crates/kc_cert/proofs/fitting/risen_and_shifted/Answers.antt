@@ -1,3 +1,4 @@
+-- The vertex that the next shift moves is pushed behind those of the shifts before.
 use Rattle.std.proofs.Common.{ℕ, List, [], ◌∷◌, ◌++◌, get_or, take, sym, ◌∙◌, ap, append_assoc}
 use Rattle.kc_cert.specs.Local.{firsts}
 use Rattle.kc_cert.proofs.Turns.{firsts-more}

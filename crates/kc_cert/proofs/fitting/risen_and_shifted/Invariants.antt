@@ -1,3 +1,4 @@
+-- The list has the vertices that rise, and behind them those that the shifts so far move.
 use Rattle.std.proofs.Common.{◌≡◌, ◌++◌, take}
 use Rattle.kc_cert.specs.Local.{firsts}
 use Rattle.kc_cert.proofs.fitting.risen_and_shifted.Given as goal

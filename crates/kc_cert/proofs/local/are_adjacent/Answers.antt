@@ -1,3 +1,4 @@
+-- The list of `u` has just its neighbours: `v` is one where it was found, and is none where no place has it.
 use Rattle.std.proofs.Common.{◌≡◌, ◌≤◌, ℕ, List, true, length, sym, ◌∙◌, ap, arith}
 use Rattle.std.proofs.lemmas.Bool.{false_from_ne_true}
 use Rattle.kc_distinct.specs.Lists.{member}

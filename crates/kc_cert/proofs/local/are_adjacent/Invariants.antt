@@ -1,3 +1,4 @@
+-- None of the first `i` neighbours of `u` is `v`.
 use Rattle.std.proofs.Common.{◌≢◌, ◌<◌, ℕ, get_or}
 use Rattle.kc_graph.specs.Neighbours.{neighbours_of}
 use Rattle.kc_cert.proofs.local.are_adjacent.Given as goal

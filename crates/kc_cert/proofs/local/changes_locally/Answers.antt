@@ -1,3 +1,4 @@
+-- Moves that fit shift no vertex twice, so they have an arrangement.
 use Rattle.kc_cert.proofs.Asking.{shifts_fit}
 use Rattle.kc_cert.proofs.local.changes_locally.Goals as goal
 

@@ -1,3 +1,4 @@
+-- Each turn looks around the next moved vertex; a failed look refutes that vertex, and in the end every moved one had its turn.
 use Rattle.std.proofs.Common.{◌≤◌, ℕ, length, get_or, refl, sym, ◌∙◌, ap, subst, inl, inr, arith, true≢false}
 use Rattle.std.proofs.lemmas.Bool.{cases_eq, false≢true}
 use Rattle.kc_distinct.proofs.Counting.{member-get_or}

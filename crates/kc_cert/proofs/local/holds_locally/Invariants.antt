@@ -1,3 +1,4 @@
+-- The certificate holds at each vertex that was seen, and at and around each of the moved vertices so far.
 use Rattle.std.proofs.Common.{◌<◌, ℕ, get_or, nat_eq}
 use Rattle.std.specs.HashSet.{contains}
 use Rattle.kc_cert.specs.Looks.{HoldWhereSeen, HoldsAround}

@@ -1,3 +1,4 @@
+-- A plan that rightly keeps all passes in a certified state; another passes where its moves fit and the certificate holds around them.
 use Rattle.std.proofs.Common.{◌≡◌, ◌<◌, true, false, refl, sym, ◌∙◌, arith}
 use Rattle.kc_graph.specs.Lawful.{Ranked}
 use Rattle.kc_graph.specs.Plans.{is_applied}

@@ -1,3 +1,4 @@
+-- Each turn looks at the next neighbour, which is a vertex; in the end every neighbour of `x` has stood at some turn's place.
 use Rattle.std.proofs.Common.{◌≤◌, ℕ, List, length, get_or, refl, sym, ◌∙◌, ap, subst, inl, inr, arith}
 use Rattle.std.proofs.lemmas.Bool.{cases_eq}
 use Rattle.kc_graph.specs.Neighbours.{neighbours_of}

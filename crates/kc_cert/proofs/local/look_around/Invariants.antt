@@ -1,3 +1,4 @@
+-- The certificate holds at each vertex that was seen, and at each of the first `i` neighbours of `x`.
 use Rattle.std.proofs.Common.{◌<◌, ℕ, get_or, nat_eq}
 use Rattle.std.specs.HashSet.{contains}
 use Rattle.kc_graph.specs.Neighbours.{neighbours_of}

@@ -1,3 +1,4 @@
+-- The later and the high ones that were tallied are those that the certificate counts, so the two comparisons are its conditions.
 use Rattle.std.proofs.Common.{arith}
 use Rattle.std.proofs.lemmas.Bool.{leb-true, le-leb}
 use Rattle.kc_graph.specs.Lawful.{Ranked}

@@ -1,3 +1,4 @@
+-- What stands in the list of the neighbours of a vertex is another vertex of the graph, so it may be counted.
 use Rattle.std.proofs.Common.{arith}
 use Rattle.kc_graph.specs.Lawful.{Ranked}
 use Rattle.kc_cert.proofs.Tallying.{neighbour-at}

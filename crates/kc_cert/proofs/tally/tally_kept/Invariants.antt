@@ -1,3 +1,4 @@
+-- The tally counts, of the first `i` neighbours, those that are kept and stand later, and those that are kept and are as high.
 use Rattle.std.proofs.Common.{◌≡◌, ◌&&◌, take, nat_le, get_or}
 use Rattle.std.specs.Prelude.{count_by}
 use Rattle.kc_graph.specs.Neighbours.{neighbours_of}

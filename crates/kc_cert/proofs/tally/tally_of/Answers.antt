@@ -1,3 +1,4 @@
+-- After the update a count over neighbours is that over the kept ones, and one more for the other end of an edge that comes.
 use Rattle.std.proofs.Common.{◌≡◌, ℕ, Bool, get_or, leb, sym, ◌∙◌, arith}
 use Rattle.kc_graph.specs.Lawful.{Ranked}
 use Rattle.kc_graph.specs.Plans.{moved_by}

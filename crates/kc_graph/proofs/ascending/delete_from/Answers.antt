@@ -1,3 +1,4 @@
+-- The search finds the number, which the list has, and to remove it at its place leaves all others; the other case can't be.
 use Rattle.std.proofs.Common.{ℕ, List, ap, sym, ◌∙◌, subst, true≢false, Ok}
 use Rattle.std.specs.Result.{is_ok}
 use Rattle.kc_graph.specs.Rows.{Deleted, IsPlace}

@@ -1,3 +1,4 @@
+-- The vertex at the next place gets that place; the order has no vertex twice, so those before keep theirs.
 use Rattle.std.proofs.Common.{ℕ, arith, subst}
 use Rattle.kc_graph.proofs.Places.{PlacedTo, length-enumerates, placed_none, placed_more, placed_all}
 use Rattle.kc_graph.proofs.lawful.places_in.Goals as goal

@@ -1,3 +1,4 @@
+-- Each of the first `place` vertices of the order has its place.
 use Rattle.kc_graph.proofs.Places.{PlacedTo}
 use Rattle.kc_graph.proofs.lawful.places_in.Given as goal
 

@@ -1,3 +1,4 @@
+-- Empty buckets file no vertex, and a turn puts the next vertex into the bucket of its degree, which is below `levels`.
 use Rattle.std.proofs.Common.{arith, ap, sym, subst, ◌∙◌, ◌≡◌, ◌<◌, ℕ, ◌+◌, length, ◌++◌, take, drop, List, Vec, Global, []}
 use Rattle.std.proofs.Math.Seq.{take-append_seam}
 use Rattle.std.proofs.lemmas.List.{length-replicate}

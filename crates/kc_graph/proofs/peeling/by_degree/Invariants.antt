@@ -1,3 +1,4 @@
+-- At first all buckets so far are empty; then each of the first `v` vertices stands once in the bucket of its degree, and no other.
 use Rattle.std.proofs.Common.{◌≡◌, [], length, replicate}
 use Rattle.kc_graph.specs.Rows.{lists}
 use Rattle.kc_graph.specs.Peeling.{Files}

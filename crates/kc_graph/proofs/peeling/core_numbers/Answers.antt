@@ -1,3 +1,4 @@
+-- The order in which the vertices were taken certifies their numbers, so they are the core numbers.
 use Rattle.kc_graph.proofs.Law.{certified}
 use Rattle.kc_graph.proofs.peeling.core_numbers.Goals as goal
 

@@ -1,3 +1,4 @@
+-- The row of the next vertex is as long as it has neighbours, which are fewer than the vertices, and its length is pushed.
 use Rattle.std.proofs.Common.{arith, ap, sym, ◌∙◌, ◌≡◌, ℕ, length, [], ◌++◌, ◌∷◌, List, inl, inr}
 use Rattle.std.proofs.lemmas.Bool.{cases_eq}
 use Rattle.std.proofs.lemmas.List.{get_or_append_left}

@@ -1,3 +1,4 @@
+-- Each of the vertices so far has its degree, which counts its neighbours while none is taken.
 use Rattle.std.proofs.Common.{◌≡◌, ◌<◌, ℕ, length, []}
 use Rattle.kc_graph.specs.Peeling.{at, remaining}
 use Rattle.kc_graph.proofs.peeling.degrees_of.Given as goal

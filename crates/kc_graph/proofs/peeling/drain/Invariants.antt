@@ -1,3 +1,4 @@
+-- All is peeled with the bucket's first `turn` vertices left out; a turn lessens the sum of the core numbers and of those that wait.
 use Rattle.std.proofs.Common.{◌≤◌, length}
 use Rattle.kc_graph.specs.Rows.{lists, row}
 use Rattle.kc_graph.specs.Peeling.{Peels, from_turn, work}

@@ -1,3 +1,4 @@
+-- Each of the degrees so far is below `levels`.
 use Rattle.std.proofs.Common.{ℕ, ◌<◌}
 use Rattle.kc_graph.specs.Peeling.{at}
 use Rattle.kc_graph.proofs.peeling.levels_of.Given as goal

@@ -1,3 +1,4 @@
+-- The neighbours so far whose numbers were above the level have one less, and stand in the buckets of their new numbers too.
 use Rattle.std.proofs.Common.{take}
 use Rattle.kc_graph.specs.Rows.{lists}
 use Rattle.kc_graph.specs.Peeling.{Lowered}

@@ -1,3 +1,4 @@
+-- A vertex that is left would wait in a bucket of its number, but none is that high: so all are taken, which makes the certificate.
 use Rattle.std.proofs.Common.{arith, ◌<◌, []}
 use Rattle.kc_graph.specs.Rows.{lists}
 use Rattle.kc_graph.proofs.Buckets.{length-lists}

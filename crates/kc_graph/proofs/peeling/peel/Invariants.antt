@@ -1,3 +1,4 @@
+-- Vertices have been taken up to the level, and there are still as many buckets as levels.
 use Rattle.std.proofs.Common.{◌≡◌, length}
 use Rattle.kc_graph.specs.Rows.{lists}
 use Rattle.kc_graph.specs.Peeling.{Peels}

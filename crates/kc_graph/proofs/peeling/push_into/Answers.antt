@@ -1,3 +1,4 @@
+-- Only the bucket `b` changes, which gets longer by `w`.
 use Rattle.std.proofs.Common.{arith}
 use Rattle.kc_graph.proofs.Buckets.{pushed}
 use Rattle.kc_graph.proofs.peeling.push_into.Goals as goal

@@ -1,3 +1,4 @@
+-- What was put, with the lines of the vertices that are left, are all lines; as many core numbers are left as vertices.
 use Rattle.std.proofs.Common.{◌≡◌, ◌++◌, length}
 use Rattle.std.specs.Io.{StartsWith}
 use Rattle.std.specs.Iterator.Adapters.{zip_first, zip_second}

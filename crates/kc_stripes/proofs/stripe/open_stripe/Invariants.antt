@@ -1,3 +1,4 @@
+-- The records so far are those of the stripe's first vertices, each true and as old as its opening stamp, and `vertex` comes next.
 use Rattle.std.proofs.Common.{◌-◌, ◌≡◌}
 use Rattle.kc_stripes.specs.Records.{opened_with}
 use Rattle.kc_stripes.proofs.Keeping.{Filling}

@@ -1,3 +1,4 @@
+-- A legal log is an opening and then stores that each might follow, so it can be made longer at its end and cut at any place.
 use Rattle.std.proofs.Common.{subst}
 use Rattle.kc_table.specs.Legal.{Holds}
 use Rattle.kc_table.proofs.LegalLogs.{legal-nil, legal-push, legal-prefix, legal-opens, legal-last, legal-holds, state_of-push}

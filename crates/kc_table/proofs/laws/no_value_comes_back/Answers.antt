@@ -1,3 +1,4 @@
+-- Each store to such a word raises its version or its stamp, so where the value is the same in the end, there was none between.
 use Rattle.kc_table.proofs.LegalLogs.{legal-prefix}
 use Rattle.kc_table.proofs.Fresh.{fresh, fresh_vertex}
 use Rattle.kc_table.proofs.laws.no_value_comes_back.Goals as goal

@@ -1,3 +1,4 @@
+-- The edges after each entry compute, and an edge that was added and removed again leaves none.
 use Rattle.kc_table.proofs.Samples as sample
 use Rattle.kc_table.proofs.laws.the_edges_of_a_written_out_log.Goals as goal
 

@@ -1,3 +1,4 @@
+-- The opening's list is so, and a store to an item puts it after or takes it as a note that might follow has announced.
 use Rattle.kc_table.proofs.Listed.{stands}
 use Rattle.kc_table.proofs.laws.the_list_has_distinct_items_and_each_vertex.Goals as goal
 

@@ -1,3 +1,4 @@
+-- A load changes no word, and lets its pass have seen the whole log, which what it had seen begins.
 use Rattle.std.proofs.Common.{rules}
 use Rattle.kc_table.proofs.Steps.{loads}
 use Rattle.kc_table.proofs.table.load.Goals as goal

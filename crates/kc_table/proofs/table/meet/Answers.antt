@@ -1,3 +1,4 @@
+-- The pass is told what the other has seen, and its load then finds a log that both begin.
 use Rattle.std.proofs.Common.{ap, ◌∙◌, rules}
 use Rattle.kc_table.proofs.Steps.{joins, loads}
 use Rattle.kc_table.proofs.table.meet.Goals as goal

@@ -1,3 +1,4 @@
+-- The rule is kept with one seat more, which has seen what the pass has and writes nothing.
 use Rattle.std.proofs.Common.{rules}
 use Rattle.kc_table.proofs.Steps.{splits}
 use Rattle.kc_table.proofs.table.split.Goals as goal

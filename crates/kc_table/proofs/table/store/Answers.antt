@@ -1,3 +1,4 @@
+-- The one writer has seen the whole log, so a store that is legal behind what it has seen is legal in the table.
 use Rattle.std.proofs.Common.{[], ◌∷◌, ◌++◌, sym, subst, rules}
 use Rattle.kc_table.specs.Log.{Seen, event}
 use Rattle.kc_table.specs.Legal.{Legal}

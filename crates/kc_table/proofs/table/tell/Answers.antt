@@ -1,3 +1,4 @@
+-- A new pass is split from the writer, which has seen all; the old one joins the writer, whose load finds that it begins the log.
 use Rattle.std.proofs.Common.{ap, ◌∙◌, rules}
 use Rattle.kc_table.proofs.Steps.{joins, loads, splits}
 use Rattle.kc_table.proofs.table.tell.Goals as goal

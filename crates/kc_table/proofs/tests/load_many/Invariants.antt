@@ -1,3 +1,4 @@
+-- The pass stays one of the table that it began with.
 use Rattle.std.proofs.Common.{◌≡◌}
 use Rattle.kc_table.proofs.tests.load_many.Given as goal
 

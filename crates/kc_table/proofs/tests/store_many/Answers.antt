@@ -1,3 +1,4 @@
+-- The next store has the next version, which is not past the last one, so the log stays legal with it.
 use Rattle.std.proofs.Common.{◌≡◌, ℕ, ◌+◌, ◌*◌, [], ◌∷◌, ◌++◌, refl, sym, ap, ◌∙◌, subst, arith}
 use Rattle.kc_table.specs.Log.{Seen, event}
 use Rattle.kc_table.specs.Legal.{Legal}

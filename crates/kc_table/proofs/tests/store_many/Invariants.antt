@@ -1,3 +1,4 @@
+-- The log has so many stores to the group's word, each with a version more, and nothing else; the table is the same.
 use Rattle.std.proofs.Common.{◌≡◌}
 use Rattle.kc_table.proofs.TestTables.{Stored}
 use Rattle.kc_table.proofs.tests.store_many.Given as goal

@@ -1,3 +1,4 @@
+-- The start is named by the log that the pass has seen when the plan begins.
 use Rattle.kc_tries.proofs.planning.plan.Given as goal
 
 abbrev pub ghosts-plan_since : goal.ghosts-plan_since

@@ -1,3 +1,4 @@
+-- K names the table of the words, with the graph and the stamps that it opened with, and no entry yet.
 use Rattle.std.specs.Prelude.{[]}
 use Rattle.kc_table.specs.Log.{no_graph}
 use Rattle.kc_tries.proofs.tests.a_plan_between_two_edges_reads_what_opened.Given as goal

@@ -1,3 +1,4 @@
+-- The list ascends, so a lesser middle has only lesser ones before it and a greater one only greater behind; then no place is left.
 use Rattle.std.proofs.Common.{sym, arith}
 use Rattle.kc_view.specs.Answers.{list_of}
 use Rattle.kc_view.proofs.Halving.{stands-later, stands-earlier, stands-nowhere}

@@ -1,3 +1,4 @@
+-- Neighbours before `low` are less than `y`, those from `high` on are greater, and a turn brings the two closer.
 use Rattle.std.proofs.Common.{◌≤◌, ◌-◌}
 use Rattle.kc_view.specs.Answers.{list_of}
 use Rattle.kc_view.proofs.Halving.{StandsBetween}

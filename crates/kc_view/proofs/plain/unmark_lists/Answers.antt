@@ -1,3 +1,4 @@
+-- The next list is of a vertex that has a mark, and to clear it changes the mark of that vertex alone.
 use Rattle.std.proofs.Common.{◌<◌, ℕ, false, length, get_or, sym, subst, arith}
 use Rattle.kc_graph.specs.declared.used.UsedEdges.{UsedEdges}
 use Rattle.kc_view.proofs.Marking.{unmark_list}

@@ -1,3 +1,4 @@
+-- The next place is of a vertex that has a mark, and to clear it changes the mark of that vertex alone.
 use Rattle.std.proofs.Common.{◌<◌, ℕ, false, length, get_or, arith}
 use Rattle.std.proofs.lemmas.List.{get_or_default}
 use Rattle.kc_graph.specs.declared.used.UsedPlace.{UsedPlace}

@@ -1,3 +1,4 @@
+-- A vertex is marked where it was marked before and none of the places so far is its own.
 use Rattle.std.proofs.Common.{◌≡◌, ◌&&◌, ℕ, not, is_some, false, slice_index_or, take}
 use Rattle.kc_view.specs.Answers.{core_in}
 use Rattle.kc_view.proofs.plain.unmark_places.Given as goal

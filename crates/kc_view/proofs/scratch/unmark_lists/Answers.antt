@@ -1,3 +1,4 @@
+-- The vertex of the next list has a mark, which is set to 0, and every other mark stays.
 use Rattle.std.proofs.Common.{◌<◌, length, sym, subst, arith}
 use Rattle.kc_graph.specs.declared.used.UsedEdges.{UsedEdges}
 use Rattle.kc_view.proofs.Marked.{unmark-list}

@@ -1,3 +1,4 @@
+-- The vertex of the next place has a mark, which is set to 0, and every other mark stays.
 use Rattle.std.proofs.Common.{◌<◌, length, get_or, arith}
 use Rattle.std.proofs.lemmas.List.{get_or_default}
 use Rattle.kc_graph.specs.declared.used.UsedPlace.{UsedPlace}

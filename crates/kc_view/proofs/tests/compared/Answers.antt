@@ -1,3 +1,4 @@
+-- The first core number is still kept after the second was asked.
 use Rattle.kc_view.proofs.Keeping.{still_has_core}
 use Rattle.kc_view.proofs.tests.compared.Goals as goal
 

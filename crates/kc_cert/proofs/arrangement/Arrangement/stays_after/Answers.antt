@@ -1,3 +1,4 @@
+-- Anchors are vertices, and where both stay on one side of those that leave, only the chains of the shifts order them.
 use Rattle.std.proofs.Common.{◌≡◌, nat_eq, sym, ◌∙◌}
 use Rattle.std.specs.HashMap.{get}
 use Rattle.kc_graph.specs.Lawful.{Ranked}

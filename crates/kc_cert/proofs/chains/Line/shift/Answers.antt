@@ -1,3 +1,4 @@
+-- The line stays distinct where the anchor is put at its end, since it is put there only if the line lacks it.
 use Rattle.std.proofs.Common.{sym, subst}
 use Rattle.kc_distinct.specs.Lists.{Distinct}
 use Rattle.kc_cert.proofs.Chaining.{Distinct-with_anchor}

@@ -1,3 +1,4 @@
+-- A number that the map has keeps its first place and comes twice; a new one is mapped to its own place and keeps the list distinct.
 use Rattle.std.proofs.Common.{◌≡◌, ◌+◌, ℕ, true, false, cond, List, [], ◌∷◌, ◌++◌, Some, length, get_or, take, nat_eq, eqb, sym, ◌∙◌, ap, subst, arith}
 use Rattle.std.specs.Prelude.{is_some}
 use Rattle.std.specs.HashMap.{get}

@@ -1,3 +1,4 @@
+-- The map has where each of the numbers so far stands first, and `once` tells whether these are distinct.
 use Rattle.std.proofs.Common.{◌≡◌, ◌↔◌, ℕ, IsTrue, nat_eq, take}
 use Rattle.std.specs.HashMap.{get}
 use Rattle.kc_distinct.specs.Lists.{Distinct}

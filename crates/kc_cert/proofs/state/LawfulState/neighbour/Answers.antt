@@ -1,3 +1,4 @@
+-- The graph's row of the vertex is the list of its neighbours, so place `i` is in it and has the same vertex.
 use Rattle.std.proofs.Common.{◌≡◌, ℕ, List, length, get_or, ◌∙◌, ap, arith}
 use Rattle.kc_graph.specs.SimpleGraph.{SimpleGraph}
 use Rattle.kc_graph.specs.Neighbours.{neighbours_of}

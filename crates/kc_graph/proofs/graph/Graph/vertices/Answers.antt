@@ -1,3 +1,4 @@
+-- The graph has a vertex for each of its rows.
 use Rattle.std.proofs.Common.{arith}
 use Rattle.kc_graph.proofs.RowsLemmas.{size-view}
 use Rattle.kc_graph.proofs.graph.Graph.vertices.Goals as goal

@@ -1,3 +1,4 @@
+-- Each value of the type has a certificate, and certified numbers are the core numbers.
 use Rattle.std.proofs.Common.{ap, subst, sym, ◌≡◌}
 use Rattle.kc_graph.specs.SimpleGraph.{SimpleGraph}
 use Rattle.kc_graph.specs.Core.{AreCoreNumbers}

@@ -1,3 +1,4 @@
+-- Each row is a part from 0 to 0, which lies in an empty block and has no number.
 use Rattle.std.proofs.Common.{◌≡◌, ℕ, [], List, ap₂, sym, subst, replicate, arith, ap, ◌∙◌}
 use Rattle.kc_graph.specs.Blocks.{LieFrom, entries_of_each}
 use Rattle.kc_graph.proofs.Lying.{lie-none, entries-none}

@@ -1,3 +1,4 @@
+-- The stripes so far, which are K's, and the locks that are left are all together, and there is room for each stripe.
 use Rattle.std.proofs.Common.{◌≡◌, ◌≤◌, ◌+◌, vec_len}
 use Rattle.std.specs.Prelude.{All}
 use Rattle.kc_stripes.specs.declared.stripe.TheConstants.{STRIPES}

@@ -1,3 +1,4 @@
+-- The locks so far and the stripes that are left, which are K's, are all together, and there is room for a lock round each.
 use Rattle.std.proofs.Common.{◌≡◌, ◌≤◌, ◌+◌, vec_len}
 use Rattle.std.specs.Prelude.{All}
 use Rattle.kc_stripes.specs.declared.stripe.TheConstants.{STRIPES}

@@ -1,3 +1,4 @@
+-- What is kept agrees with the state, so the list that was told is the row of the vertex in the graph.
 use Rattle.std.proofs.Common.{◌≡◌, ℕ, true, List, length, get_or, ◌∙◌, ap, subst, arith}
 use Rattle.kc_graph.specs.SimpleGraph.{SimpleGraph}
 use Rattle.kc_graph.specs.Neighbours.{AreNeighbours}

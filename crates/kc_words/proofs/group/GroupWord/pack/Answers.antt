@@ -1,3 +1,4 @@
+-- A top label that fits lies below the shifted version, so their or is their sum, which is read back by quotient and rest.
 use Rattle.std.proofs.Common.{◌∙◌, ap, refl}
 use Rattle.kc_words.specs.GroupWord.{group_word, group_of}
 use Rattle.kc_words.proofs.Packing.{shifted_pair, group_of-group_word}

@@ -1,3 +1,4 @@
+-- Version, group and bottom label that fit don't overlap, so their or is their sum, which is read back field by field.
 use Rattle.std.proofs.Common.{◌∙◌, ap}
 use Rattle.kc_words.specs.ItemWord.{item_word, item_of}
 use Rattle.kc_words.proofs.Packing.{shifted_three, item_of-item_word}

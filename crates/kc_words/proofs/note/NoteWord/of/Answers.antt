@@ -1,3 +1,4 @@
+-- By the two highest bits: the masks give the fields of that kind, which make up the word just where its spare bits are 0.
 use Rattle.std.proofs.Common.{◌≡◌, sym, arith, ◌/◌, ◌^◌}
 use Rattle.kc_words.proofs.Notes.{note_of-nothing, enter_masked, put_masked, take_masked, nothing_back, enter_back, put_back, take_back}
 use Rattle.kc_words.proofs.note.NoteWord.of.Goals as goal

@@ -1,3 +1,4 @@
+-- By the kind of note: fields that fit don't overlap, so their or is their sum; 3 or 2 is the kind of an entry with its bit for adding.
 use Rattle.std.proofs.Common.{◌≡◌, ◌∙◌, ap, sym, cond}
 use Rattle.kc_words.proofs.Notes.{nothing_packed, enter_packed, put_packed, take_packed}
 use Rattle.kc_words.proofs.note.NoteWord.pack.Goals as goal

@@ -1,3 +1,4 @@
+-- `low` is not behind `high`, which is a place in the order or its end, and a turn brings the two closer.
 use Rattle.std.proofs.Common.{◌≤◌, ◌-◌, length}
 use Rattle.package_order.proofs.ordering.PackageOrder.place_of.Given as goal
 
