@@ -1,3 +1,4 @@
+-- The counts of all numbers before `k` are 0, as each turn clears one more, and there are as many counts as before.
 use Rattle.std.proofs.Common.{◌≡◌, ◌<◌, ℕ, length, get_or}
 use Rattle.kc_hindex.proofs.counting.clear.Given as goal
 

@@ -1,3 +1,4 @@
+-- `reached` vertices have at least `number`, and the h-index is no greater; while they are too few, the next lesser number is tried.
 use Rattle.std.proofs.Common.{◌≡◌, ◌≤◌, map, get_or, leb}
 use Rattle.std.specs.Prelude.{count_by}
 use Rattle.kc_hindex.specs.Rounds.{h_index}

@@ -1,3 +1,4 @@
+-- Just `reached` of the vertices passed so far have a number of at least `limit`.
 use Rattle.std.proofs.Common.{◌≡◌, get_or, map, take}
 use Rattle.kc_hindex.specs.Rounds.{how_many_reach}
 use Rattle.kc_hindex.proofs.counting.how_many.Given as goal

@@ -1,3 +1,4 @@
+-- Those seen to reach the limit and those of the rest that do are all that do; each turn moves a block from the rest to the seen.
 use Rattle.std.proofs.Common.{◌≡◌, ◌<◌, ◌^◌, ◌+◌, get_or, length, map}
 use Rattle.std.specs.Prelude.{All}
 use Rattle.kc_hindex.specs.Rounds.{how_many_reach}

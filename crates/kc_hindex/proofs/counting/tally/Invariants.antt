@@ -1,3 +1,4 @@
+-- Each count up to `limit` is how many of the vertices so far have that number, where a greater one counts as `limit`.
 use Rattle.std.proofs.Common.{◌≡◌, ◌≤◌, ℕ, length, get_or, min, eqb, take}
 use Rattle.std.specs.Prelude.{count_by}
 use Rattle.kc_hindex.proofs.counting.tally.Given as goal

@@ -1,3 +1,4 @@
+-- The numbers above `new` and below `k` are marked, one more each turn, and what was marked is marked still.
 use Rattle.std.proofs.Common.{◌≡◌, ◌<◌, ℕ, false, true, length, get_or}
 use Rattle.kc_hindex.proofs.crossing.cross.Given as goal
 

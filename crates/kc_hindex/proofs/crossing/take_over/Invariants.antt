@@ -1,3 +1,4 @@
+-- The numbers of the first `p` pieces stand at their vertices, all others are as before, and what was crossed is marked.
 use Rattle.kc_hindex.specs.Crossing.{AllTaken}
 use Rattle.kc_hindex.proofs.crossing.take_over.Given as goal
 

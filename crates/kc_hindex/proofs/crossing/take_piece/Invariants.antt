@@ -1,3 +1,4 @@
+-- The first `i` numbers of the piece stand at their vertices, a step apart; what they crossed is marked, and a change is noted.
 use Rattle.kc_hindex.specs.Crossing.{Taken}
 use Rattle.kc_hindex.proofs.crossing.take_piece.Given as goal
 

@@ -1,3 +1,4 @@
+-- The length of a vertex's row is its degree, and fits, since the row is shorter than the list of all vertices.
 use Rattle.std.proofs.Common.{arith, ap, sym, ◌∙◌, ◌≡◌, ℕ, length, [], ◌++◌, ◌∷◌, List, inl, inr, get_or}
 use Rattle.std.proofs.lemmas.Bool.{cases_eq}
 use Rattle.std.proofs.lemmas.List.{get_or_append_left}

@@ -1,3 +1,4 @@
+-- The vertices before `v` have their degrees in the list, which are their numbers before any round.
 use Rattle.std.proofs.Common.{◌≡◌, ◌<◌, ℕ, length, get_or}
 use Rattle.kc_hindex.specs.Rounds.{after_rounds}
 use Rattle.kc_hindex.proofs.degrees.degrees_of.Given as goal

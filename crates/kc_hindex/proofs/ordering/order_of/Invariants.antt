@@ -1,3 +1,4 @@
+-- The vertices of the levels below `level` are taken, each with few neighbours left; the others are counted, with a row for each level.
 use Rattle.std.proofs.Common.{◌≡◌, length}
 use Rattle.kc_graph.specs.Rows.{lists}
 use Rattle.kc_hindex.specs.Ordering.{Orders}

@@ -1,3 +1,4 @@
+-- Row `b` was what is left of it with the popped vertex at its end, or it was empty; no other row changes.
 use Rattle.std.proofs.Common.{arith}
 use Rattle.kc_graph.proofs.Buckets.{some_popped, none_popped}
 use Rattle.kc_hindex.proofs.ordering.pop_from.Goals as goal

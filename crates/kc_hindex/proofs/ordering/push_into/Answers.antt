@@ -1,3 +1,4 @@
+-- Row `b` has the vertex at its end now, and no other row changes.
 use Rattle.std.proofs.Common.{arith}
 use Rattle.kc_graph.proofs.Buckets.{pushed}
 use Rattle.kc_hindex.proofs.ordering.push_into.Goals as goal

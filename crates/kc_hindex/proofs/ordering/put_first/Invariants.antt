@@ -1,3 +1,4 @@
+-- Of the first `v` vertices just those with no more neighbours than their core number stand, once, in the row of that number.
 use Rattle.std.proofs.Common.{◌≡◌, length}
 use Rattle.kc_graph.specs.Rows.{lists}
 use Rattle.kc_hindex.specs.Ordering.{Sorted}

@@ -1,3 +1,4 @@
+-- Each neighbour so far with more left than its core number has lost one, and waits in the row of that number if no more is left.
 use Rattle.std.proofs.Common.{take}
 use Rattle.kc_graph.specs.Rows.{lists}
 use Rattle.kc_hindex.specs.Ordering.{Released}

@@ -1,3 +1,4 @@
+-- All lesser levels and some vertices of this one are taken; each turn takes one more, and no more can be taken than there are.
 use Rattle.std.proofs.Common.{◌≡◌, ◌-◌, length}
 use Rattle.kc_graph.specs.Rows.{lists}
 use Rattle.kc_hindex.specs.Ordering.{Orders}

@@ -1,3 +1,4 @@
+-- The numbers are those after `changing` rounds, none of which settled, so that the sum of the numbers fell by at least one in each.
 use Rattle.std.proofs.Common.{◌≤◌, ◌+◌, ℕ, length}
 use Rattle.kc_hindex.specs.Pieces.{AreDealt, AreReady}
 use Rattle.kc_hindex.specs.Rounds.{after_rounds, HasRound, IsSettled, total}

@@ -1,3 +1,4 @@
+-- The pieces before `p` are made: each has a number for every vertex that is dealt out to it, and room for as many counts as asked.
 use Rattle.std.proofs.Common.{◌≡◌, ◌↔◌, ◌<◌, ◌+◌, ◌*◌, ℕ, length, get_or}
 use Rattle.kc_graph.specs.Rows.{row}
 use Rattle.kc_hindex.specs.Pieces.{numbers_of, rooms_of}

@@ -1,3 +1,4 @@
+-- The first `i` numbers of the piece are what the round makes of their vertices, and its room for counts stays.
 use Rattle.std.proofs.Common.{◌≡◌, ◌<◌, ◌+◌, ◌*◌, ℕ, length, get_or}
 use Rattle.kc_hindex.specs.Rounds.{h_round}
 use Rattle.kc_hindex.proofs.rounds.fill_piece.Given as goal

@@ -1,3 +1,4 @@
+-- Of the neighbours so far just `count` are higher than `w` or behind it on the level, and those behind it are listed, each once.
 use Rattle.std.proofs.Common.{◌≡◌, ◌≤◌, ◌&&◌, ℕ, List, true, take}
 use Rattle.std.specs.Prelude.{count_by}
 use Rattle.kc_distinct.specs.Lists.{member, Distinct}

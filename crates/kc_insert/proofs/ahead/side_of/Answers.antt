@@ -1,3 +1,4 @@
+-- The core number that was told puts `x` above, below or on the level; on the level the order that was told says if it is behind `w`.
 use Rattle.std.proofs.Common.{◌≡◌, ◌<◌, ◌⊎◌, ◌&&◌, ◌||◌, ℕ, Bool, true, cond, get_or, eqb, ltb, sym, ◌∙◌, ap, subst, inl, inr, arith, eqb-true}
 use Rattle.std.proofs.lemmas.Bool.{or_cases, and_parts}
 use Rattle.kc_distinct.specs.Lists.{member}

@@ -1,3 +1,4 @@
+-- The root alone in the queue is a beginning that fits every view, and the turns keep what holds between two of them.
 use Rattle.std.proofs.Common.{◌≡◌, ◌<◌, ◌⊎◌, ℕ, inl, inr, arith}
 use Rattle.kc_graph.specs.declared.update.Update.{Update}
 use Rattle.kc_view.specs.Views.{Shown}

@@ -1,3 +1,4 @@
+-- A core number that was told stays told, so both ends have theirs at the end, and the level is the lesser one in every true state.
 use Rattle.std.proofs.Common.{◌≡◌, ℕ, true, [], get_or, refl, sym, ◌∙◌, inl, inr, arith}
 use Rattle.kc_view.specs.Answers.{Answers, has_core}
 use Rattle.kc_view.proofs.Keeping.{GoesOn-trans, agreed, core-true, still_has_core, same_core}

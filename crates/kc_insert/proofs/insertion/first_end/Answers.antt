@@ -1,3 +1,4 @@
+-- By cases: the end of the lesser core number is the root, and where both are equal the order that was told picks the first.
 use Rattle.std.proofs.Common.{◌≡◌, ◌<◌, ℕ, Bool, true, false, cond, get_or, ltb, ◌∙◌, subst, arith}
 use Rattle.kc_distinct.specs.Lists.{place_of}
 use Rattle.kc_graph.specs.declared.used.UsedOrder.{UsedOrder}

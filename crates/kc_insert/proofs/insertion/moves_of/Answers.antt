@@ -1,3 +1,4 @@
+-- By cases: the edge was there, nobody rises or is shifted, or some do; for each a lemma says that the moves are sure.
 use Rattle.std.proofs.Common.{◌≡◌, ◌<◌, ℕ, Bool, true, false, List, [], ◌∷◌, ◌++◌, length, eqb, refl, sym, ◌∙◌, subst, arith, eqb-true}
 use Rattle.kc_distinct.specs.Lists.{member}
 use Rattle.kc_graph.specs.SimpleGraph.{adjacent}

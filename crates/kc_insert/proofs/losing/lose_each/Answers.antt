@@ -1,3 +1,4 @@
+-- The row has the next neighbour once, so it loses for the first time, on top of what those before it lost.
 use Rattle.std.proofs.Common.{◌≡◌, ◌+◌, ℕ, false, List, [], ◌∷◌, ◌++◌, get_or, take, sym, subst}
 use Rattle.std.proofs.lemmas.List.{take_more, take_all}
 use Rattle.kc_distinct.specs.Lists.{member}

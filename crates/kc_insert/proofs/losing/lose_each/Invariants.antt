@@ -1,3 +1,4 @@
+-- Just the neighbours so far have lost what they lose, and marks, queue and the list of the weak fit each other still.
 use Rattle.std.proofs.Common.{take}
 use Rattle.kc_insert.specs.Rising.{IsOrderly}
 use Rattle.kc_insert.specs.Turns.{Loses}

@@ -1,3 +1,4 @@
+-- A vertex that was never queued goes to its place behind those that have left, where the queue stays in order.
 use Rattle.std.proofs.Common.{◌≡◌, false, None, sym, ◌∙◌, ap, inl, arith}
 use Rattle.std.specs.Prelude.{is_some}
 use Rattle.kc_distinct.specs.Lists.{member}

@@ -1,3 +1,4 @@
+-- The next vertex is none of those passed before, so it gets one candidate more, and stands apart from all that are queued by now.
 use Rattle.std.proofs.Common.{◌≡◌, ◌<◌, ℕ, false, List, take, get_or, sym, ◌∙◌, ap, subst, inl, inr, arith}
 use Rattle.std.proofs.lemmas.Bool.{or_cases, false≢true}
 use Rattle.std.proofs.lemmas.List.{take_more}

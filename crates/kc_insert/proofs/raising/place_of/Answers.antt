@@ -1,3 +1,4 @@
+-- In an ascending queue, if the middle one stands before `x` all in front of it do, and if it does not none behind it does.
 use Rattle.std.proofs.Common.{◌≡◌, ◌<◌, ◌+◌, ◌-◌, ◌/◌, length, get_or, sym, ◌∙◌, ap, subst, arith}
 use Rattle.std.proofs.lemmas.List.{get_or_read}
 use Rattle.kc_distinct.specs.Lists.{member}

@@ -1,3 +1,4 @@
+-- The row has the first `i` neighbours on the list of `w`, in their order.
 use Rattle.std.proofs.Common.{◌≡◌, take}
 use Rattle.kc_view.specs.Answers.{list_of}
 use Rattle.kc_insert.proofs.row.copy_of.Given as goal

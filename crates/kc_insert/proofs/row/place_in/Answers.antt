@@ -1,3 +1,4 @@
+-- A strictly ascending row never falls, so halving finds where the vertex stands or has to go.
 use Rattle.std.proofs.lemmas.List.Sorted.{searched}
 use Rattle.kc_insert.proofs.row.place_in.Goals as goal
 use Rattle.kc_distinct.proofs.Shared.{never_falls}

@@ -1,3 +1,4 @@
+-- A vertex that the row lacks goes to its place, where the row ascends still; one that it has is no neighbour more.
 use Rattle.std.proofs.Common.{◌≡◌, ◌<◌, ℕ, List, length, get_or, eqb, sym, ◌∙◌, ap, subst, eqb-true}
 use Rattle.std.specs.List.Sorted.{IsStrictlyIncreasing}
 use Rattle.kc_distinct.specs.Lists.{member}

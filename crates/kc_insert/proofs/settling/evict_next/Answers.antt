@@ -1,3 +1,4 @@
+-- The first weak candidate not evicted yet has left the queue; put behind `anchor`, with its neighbours' losses, it is one eviction.
 use Rattle.std.proofs.Common.{◌≡◌, ℕ, List, sym, ◌∙◌, subst, inr}
 use Rattle.kc_distinct.specs.Lists.{Distinct}
 use Rattle.kc_graph.proofs.RowsLemmas.{Distinct-from_increasing}

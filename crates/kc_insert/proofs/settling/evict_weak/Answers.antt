@@ -1,3 +1,4 @@
+-- One more is evicted each turn, and no more are weak than there are vertices; once all weak are evicted the settling is over.
 use Rattle.std.proofs.Common.{◌≤◌, ◌<◌, ◌∙◌, length, arith}
 use Rattle.kc_view.proofs.Keeping.{GoesOn-trans, agreed}
 use Rattle.kc_insert.proofs.Evicting.{settled-between}

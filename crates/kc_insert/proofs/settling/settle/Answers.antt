@@ -1,3 +1,4 @@
+-- `w` leaves the queue as no candidate and its neighbours lose by it, which begins a settling; the evictions bring it to its end.
 use Rattle.std.proofs.Common.{◌≡◌, ◌∙◌, false, sym, ap, true≢false}
 use Rattle.std.proofs.lemmas.Result.{on_ok_weaker}
 use Rattle.kc_graph.proofs.RowsLemmas.{Distinct-from_increasing}

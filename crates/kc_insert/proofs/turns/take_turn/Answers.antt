@@ -1,3 +1,4 @@
+-- More neighbours than the level raise `w`; else it is settled, or where no candidate stands before it just leaves the queue.
 use Rattle.std.proofs.Common.{◌≡◌, ◌≤◌, ◌<◌, ◌+◌, ◌⊎◌, ℕ, min, true, false, ◌&&◌, ◌||◌, List, length, get_or, refl, sym, ◌∙◌, ap, subst, inr, arith}
 use Rattle.std.specs.Prelude.{count_by}
 use Rattle.std.proofs.lemmas.Bool.{false≢true}

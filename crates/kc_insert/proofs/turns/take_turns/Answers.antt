@@ -1,3 +1,4 @@
+-- Each turn lets one leave the queue, which never has more than all vertices, and keeps what holds between two turns.
 use Rattle.std.proofs.Common.{◌≤◌, ◌<◌, length, arith}
 use Rattle.kc_view.proofs.Keeping.{GoesOn-trans, agreed}
 use Rattle.kc_insert.proofs.Tidy.{queue-fits}

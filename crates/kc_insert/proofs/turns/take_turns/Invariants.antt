@@ -1,3 +1,4 @@
+-- The search stands between two turns if it did at first, and is tidy for every view; turns are no more than vertices.
 use Rattle.std.proofs.Common.{◌<◌, ◌-◌, ℕ}
 use Rattle.kc_graph.specs.Lawful.{Ranked}
 use Rattle.kc_view.specs.Answers.{Agrees}

@@ -1,3 +1,4 @@
+-- The log with the next store is a front of the whole log, which is legal, so it is legal too and its word is in the table.
 use Rattle.std.proofs.Common.{ap, ◌∙◌}
 use Rattle.kc_list.specs.declared.sheet.Write.{Write}
 use Rattle.kc_table.specs.Log.{Seen}

@@ -1,3 +1,4 @@
+-- The log has grown by the stores of the writes so far, in their order, and the table is the same.
 use Rattle.std.proofs.Common.{◌≡◌, ◌++◌, take}
 use Rattle.kc_order.specs.Writers.{stores_of}
 use Rattle.kc_order.proofs.storing.store_each.Given as goal

@@ -1,3 +1,4 @@
+-- `K` names the table that was just opened with six items for the short list; of a graph or a run nothing is known.
 use Rattle.std.specs.Prelude.{[]}
 use Rattle.kc_table.specs.Log.{no_graph}
 use Rattle.kc_order.proofs.tests.a_taken_item_is_absent_and_the_others_stand_as_they_did.Given as goal

@@ -1,3 +1,4 @@
+-- A put right after item 0 leaves the pass one of the table.
 use Rattle.std.proofs.Common.{◌≡◌}
 use Rattle.kc_order.proofs.tests.put_each_after_0.Given as goal
 

@@ -1,3 +1,4 @@
+-- The words before `word` are there: the first is 0, as no note is, and each of the others is the plain list's.
 use Rattle.std.proofs.Common.{◌≡◌, ◌≤◌, ◌<◌, ℕ, length}
 use Rattle.std.specs.Prelude.{slice_index}
 use Rattle.kc_order.proofs.writer.opening_words.Given as goal

@@ -1,3 +1,4 @@
+-- The search begins calm with nobody visited; each end of the level is visited and stays so until all turns of the fallen are done.
 use Rattle.std.proofs.Common.{◌≡◌, ◌≢◌, ℕ, true, false, List, get_or, eqb, inl, inr, sym, ◌∙◌, ap, subst, arith, eqb-true}
 use Rattle.std.specs.Prelude.{is_some}
 use Rattle.std.proofs.lemmas.Bool.{or_cases}

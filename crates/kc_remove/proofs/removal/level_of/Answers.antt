@@ -1,3 +1,4 @@
+-- In a state of which the answers are true both numbers that were told are the ends' core numbers, and the level is the lesser.
 use Rattle.std.proofs.Common.{◌≡◌, get_or, ◌∙◌, arith}
 use Rattle.kc_view.proofs.Keeping.{agreed, core-true}
 use Rattle.kc_remove.proofs.removal.level_of.Goals as goal

@@ -1,3 +1,4 @@
+-- By cases: the edge is not there; level 0, which no end of an edge has; nobody falls; or just those on the list lose one.
 use Rattle.std.proofs.Common.{◌≡◌, ◌<◌, ℕ, Bool, true, List, [], ◌∷◌, length, eqb, refl, sym, ◌∙◌, subst, arith, eqb-true}
 use Rattle.kc_graph.specs.SimpleGraph.{adjacent}
 use Rattle.kc_view.proofs.Keeping.{agreed, tells-edge}

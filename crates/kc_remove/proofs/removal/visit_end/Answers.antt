@@ -1,3 +1,4 @@
+-- An end whose core number is the level is visited before any turn has come to it; an end of another number is not of the level.
 use Rattle.std.proofs.Common.{◌≡◌, ◌⊎◌, ℕ, true, get_or, inl, inr, refl, sym, ◌∙◌}
 use Rattle.std.proofs.lemmas.Bool.{false≢true}
 use Rattle.kc_view.proofs.Keeping.{GoesOn-trans, agreed, core-true}

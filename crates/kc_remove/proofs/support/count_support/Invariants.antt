@@ -1,3 +1,4 @@
+-- `support` is how many of the first `i` neighbours of `x` count, and the list of `x` is still the one that was told.
 use Rattle.std.proofs.Common.{◌≡◌, ◌≤◌, true, take}
 use Rattle.std.specs.Prelude.{count_by}
 use Rattle.kc_graph.specs.Lawful.{Ranked}

@@ -1,3 +1,4 @@
+-- Behind both early ends the edge to `y` stays and `y` has not fallen, so that its core number, as told, decides.
 use Rattle.std.proofs.Common.{◌≡◌, ℕ, Bool, false, not, ◌&&◌, leb, get_or, sym, ◌∙◌, arith}
 use Rattle.kc_distinct.specs.Lists.{member}
 use Rattle.kc_view.proofs.Keeping.{core-true}

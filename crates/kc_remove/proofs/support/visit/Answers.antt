@@ -1,3 +1,4 @@
+-- A vertex that was never visited is not among the fallen; its support is counted without these, and it is settled by that.
 use Rattle.std.proofs.Common.{◌≡◌, ◌<◌, true, false, length, arith}
 use Rattle.kc_distinct.specs.Lists.{member}
 use Rattle.kc_view.specs.Answers.{has_list}

@@ -1,3 +1,4 @@
+-- Over the edge that goes, of another level or fallen, `y` is passed by; else it is visited now, or loses one if it had counted `x`.
 use Rattle.std.proofs.Common.{◌≡◌, ◌-◌, true, false, Option, Some, [], ◌∷◌, ◌++◌, get_or, leb, sym, ◌∙◌, ap, arith, true≢false}
 use Rattle.std.specs.Prelude.{is_some}
 use Rattle.std.proofs.lemmas.Bool.{and_parts}

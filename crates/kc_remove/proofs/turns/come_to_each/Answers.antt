@@ -1,3 +1,4 @@
+-- The list has each neighbour once, so the turn comes to the next for the first time, and is over once it has come to all.
 use Rattle.std.proofs.Common.{◌≡◌, ◌<◌, ◌+◌, ℕ, false, List, [], ◌∷◌, ◌++◌, length, get_or, take, sym, ◌∙◌, ap, subst, arith}
 use Rattle.std.proofs.Math.Seq.{take-length}
 use Rattle.kc_distinct.specs.Lists.{member}

@@ -1,3 +1,4 @@
+-- The turn has come to the first `i` neighbours of `x`, which keeps its place among the fallen while the list grows behind it.
 use Rattle.std.proofs.Common.{◌≡◌, ◌<◌, ℕ, true, take, length, get_or}
 use Rattle.kc_graph.specs.Lawful.{Ranked}
 use Rattle.kc_view.specs.Answers.{Agrees, has_list, list_of}

@@ -1,3 +1,4 @@
+-- Who has fallen was visited, and who was visited is a vertex of the view, so its list may be asked.
 use Rattle.std.proofs.Common.{◌≡◌, ◌<◌, ℕ, true, get_or, arith}
 use Rattle.std.proofs.lemmas.List.{get_or_read}
 use Rattle.kc_distinct.specs.Lists.{member}

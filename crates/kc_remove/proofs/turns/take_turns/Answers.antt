@@ -1,3 +1,4 @@
+-- No more fall than there are vertices, so the turns come to an end, and then as many are done as the list has.
 use Rattle.std.proofs.Common.{◌≡◌, ◌≤◌, ◌<◌, ℕ, length, subst, arith}
 use Rattle.kc_view.proofs.Keeping.{GoesOn-trans, agreed}
 use Rattle.kc_remove.specs.Cascade.{nobody}

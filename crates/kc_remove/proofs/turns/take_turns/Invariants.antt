@@ -1,3 +1,4 @@
+-- The first `turn` of the fallen have had their turns, the list is at least as long, and who was visited stays so.
 use Rattle.std.proofs.Common.{◌≡◌, ◌≤◌, ◌-◌, ℕ, true, length}
 use Rattle.kc_graph.specs.Lawful.{Ranked}
 use Rattle.kc_view.specs.Answers.{Agrees}

@@ -1,3 +1,4 @@
+-- The first kept core number that is one of `w` is its answer, and one of another vertex is passed.
 use Rattle.std.proofs.Common.{get_or, sym}
 use Rattle.std.proofs.lemmas.List.{get_or_default}
 use Rattle.kc_graph.specs.declared.used.UsedPlace.{UsedPlace}

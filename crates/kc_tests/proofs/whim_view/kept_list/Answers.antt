@@ -1,3 +1,4 @@
+-- The first kept list that is one of `w` is its answer, and one of another vertex is passed.
 use Rattle.std.proofs.Common.{sym, ◌∙◌, ap}
 use Rattle.std.specs.Prelude.{Some}
 use Rattle.kc_tests.proofs.Looking.{list_in-at, list_in-not_yet}

@@ -1,3 +1,4 @@
+-- None of the lists passed so far is one of `w`.
 use Rattle.std.proofs.Common.{◌≡◌, take}
 use Rattle.std.specs.Prelude.{None}
 use Rattle.kc_view.specs.Answers.{list_in}

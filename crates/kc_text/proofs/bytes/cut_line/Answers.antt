@@ -1,3 +1,4 @@
+-- The first line goes up to the first newline or the end, and the other lines are those of what follows the newline.
 use Rattle.std.proofs.Common.{arith, sym, ap, ◌∙◌, ◌≡◌, ℕ, List, length, drop, take, not}
 use Rattle.std.proofs.lemmas.Bool.{eqb-false}
 use Rattle.std.specs.List.{position_or_len}

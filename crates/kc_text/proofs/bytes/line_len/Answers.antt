@@ -1,3 +1,4 @@
+-- No byte before the newline that is found is one, so it is the first; where none is found the line goes to the end.
 use Rattle.std.proofs.Common.{eq-eqb, arith, sym, length}
 use Rattle.std.proofs.lemmas.List.Sums.{position_or_len_is}
 use Rattle.kc_text.specs.Lines.{is_newline}

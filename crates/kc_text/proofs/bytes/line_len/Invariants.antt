@@ -1,3 +1,4 @@
+-- None of the bytes before `i` is a newline.
 use Rattle.std.proofs.Common.{◌≡◌, ◌<◌, ℕ, get_or, false}
 use Rattle.kc_text.specs.Lines.{is_newline}
 use Rattle.kc_text.proofs.bytes.line_len.Given as goal

@@ -1,3 +1,4 @@
+-- All bytes before the one that is no blank are blanks, so they are all that stand at the front; else the whole line is blank.
 use Rattle.std.proofs.Common.{arith, sym, length}
 use Rattle.std.proofs.lemmas.List.Sums.{prefix_len_is}
 use Rattle.kc_text.specs.Lines.{is_blank}

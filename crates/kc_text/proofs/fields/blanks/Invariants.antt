@@ -1,3 +1,4 @@
+-- Each of the bytes before `i` is a blank.
 use Rattle.std.proofs.Common.{◌≡◌, ◌<◌, ℕ, get_or, true}
 use Rattle.kc_text.specs.Lines.{is_blank}
 use Rattle.kc_text.proofs.fields.blanks.Given as goal

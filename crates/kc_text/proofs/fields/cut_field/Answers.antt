@@ -1,3 +1,4 @@
+-- Without the blanks at its front a line is empty and has no field, or begins with its first field, which ends at the next blank.
 use Rattle.std.proofs.Common.{arith, sym, ap, ◌∙◌, ◌≡◌, length, not}
 use Rattle.std.proofs.lemmas.List.Sums.{prefix_len-le-length}
 use Rattle.kc_text.specs.Lines.{is_blank}

@@ -1,3 +1,4 @@
+-- No byte before the blank that is found is one, so the field ends there; where none is found it goes to the end.
 use Rattle.std.proofs.Common.{arith, sym, length}
 use Rattle.std.proofs.lemmas.List.Sums.{position_or_len_is}
 use Rattle.kc_text.specs.Lines.{is_blank}

@@ -1,3 +1,4 @@
+-- None of the bytes before `i` is a blank.
 use Rattle.std.proofs.Common.{◌≡◌, ◌<◌, ℕ, get_or, false}
 use Rattle.kc_text.specs.Lines.{is_blank}
 use Rattle.kc_text.proofs.fields.field_len.Given as goal

@@ -1,3 +1,4 @@
+-- At each of the first `i` ids the table has its place, and it is as long as it was made.
 use Rattle.std.proofs.Common.{◌≡◌, ◌<◌, ℕ, length, get_or}
 use Rattle.kc_text.proofs.finder.table.Given as goal
 

@@ -1,3 +1,4 @@
+-- All bytes so far are digits, and `value` is what they spell, or 2 ^ 32 where that is no less.
 use Rattle.std.proofs.Common.{◌≡◌, take, true, min}
 use Rattle.std.specs.List.{list_all}
 use Rattle.kc_text.specs.Forms.{value, is_digit}

@@ -1,3 +1,4 @@
+-- The batches so far have their changes between the numbers that stand for their ids.
 use Rattle.std.proofs.Common.{◌≡◌, take, map}
 use Rattle.kc_text.specs.Inputs.{numbered_change, parts_of}
 use Rattle.kc_text.proofs.numbering.batches_of.Given as goal

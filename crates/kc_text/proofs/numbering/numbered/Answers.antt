@@ -1,3 +1,4 @@
+-- Both ends of the next edge are among the ids, and it gives one pair more, or none where both stand for one number.
 use Rattle.std.proofs.Common.{◌≡◌, ◌+◌, ℕ, List, Option, [], ◌∷◌, ◌++◌, get_or, take, sym, ap, ap₂, ◌∙◌, append-nil, Vec, Global}
 use Rattle.std.specs.List.{filter_map, cons_option}
 use Rattle.kc_text.specs.Inputs.{between, numbered}

@@ -1,3 +1,4 @@
+-- The pairs are those of the edges so far between the numbers that stand for their ends, without loops.
 use Rattle.std.proofs.Common.{◌≡◌, take}
 use Rattle.std.specs.List.{filter_map}
 use Rattle.kc_text.specs.Inputs.{numbered}

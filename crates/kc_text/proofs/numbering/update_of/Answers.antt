@@ -1,3 +1,4 @@
+-- Different ids stand at different places, so the lesser of the two numbers is strictly less.
 use Rattle.std.proofs.Common.{arith}
 use Rattle.kc_text.proofs.Places.{places-differ}
 use Rattle.kc_text.proofs.numbering.update_of.Goals as goal

@@ -1,3 +1,4 @@
+-- Both ends of the next change are among the ends of the batch, all of which are ids.
 use Rattle.std.proofs.Common.{false}
 use Rattle.kc_text.proofs.Telling.{change_ends}
 use Rattle.kc_text.proofs.numbering.updates_of.Goals as goal

@@ -1,3 +1,4 @@
+-- Only places of ranks that one of the same edge follows are marked, and all of these whose follower stands before `k`.
 use Rattle.std.proofs.Common.{◌≡◌, ◌<◌, ◌+◌, ◌%◌, ℕ, true, false, length, get_or}
 use Rattle.kc_text.specs.Deciding.{AreOfOneEdge}
 use Rattle.kc_text.specs.declared.limits.TheConstants.{MOST_UPDATES}

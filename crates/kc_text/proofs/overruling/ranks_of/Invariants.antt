@@ -1,3 +1,4 @@
+-- Each update before `place` has its rank, made of its edge and its own place, at that place.
 use Rattle.std.proofs.Common.{◌≡◌, ◌<◌, ℕ, length, get_or}
 use Rattle.kc_graph.specs.declared.update.Update.{Update}
 use Rattle.kc_text.specs.Deciding.{rank}

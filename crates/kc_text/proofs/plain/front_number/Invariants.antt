@@ -1,3 +1,4 @@
+-- All bytes before `i` are digits, and `value` is exactly what they spell.
 use Rattle.std.proofs.Common.{◌≡◌, take, true}
 use Rattle.std.specs.List.{list_all}
 use Rattle.kc_text.specs.Forms.{value, is_digit}

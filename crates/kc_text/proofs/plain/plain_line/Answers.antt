@@ -1,3 +1,4 @@
+-- Two numbers with a blank between them and a newline behind them are a whole first line, and it says an edge.
 use Rattle.kc_text.proofs.PlainLines.{said-edge}
 use Rattle.kc_text.proofs.plain.plain_line.Goals as goal
 

@@ -1,3 +1,4 @@
+-- To read the rest on top of what was told is to read the whole text, and as each line takes a byte the line number fits.
 use Rattle.std.proofs.Common.{◌≡◌, ◌≤◌, ◌+◌, length}
 use Rattle.std.specs.Prelude.{is_some}
 use Rattle.kc_text.specs.Forms.{all_said}

@@ -1,3 +1,4 @@
+-- The list has the candidates among the queued vertices so far, in the order of the queue.
 use Rattle.std.proofs.Common.{◌≡◌, take}
 use Rattle.std.specs.List.{filter}
 use Rattle.kc_insert.specs.Rising.{is_candidate}

@@ -1,3 +1,4 @@
+-- A round of two puts and a take, and the split that hands it over, leave the pass one of the table.
 use Rattle.std.proofs.Common.{◌≡◌}
 use Rattle.kc_order.proofs.tests.racing.put_and_take_all.Given as goal
 

@@ -1,3 +1,4 @@
+-- The opening words order the items as the plain list does, so the table opens with that list, and the empty log is legal and tied to it.
 use Rattle.std.proofs.Common.{ℕ, List, [], sym, ap, ◌∙◌, subst}
 use Rattle.kc_words.specs.declared.shape.Shape.{Shape}
 use Rattle.kc_table.specs.Legal as legal

@@ -1,3 +1,4 @@
+-- The plain list's writes, with the note before the last, are a put's stores, so they may be made one by one and end as the put.
 use Rattle.std.proofs.Common.{◌∙◌, sym, ap, subst, arith}
 use Rattle.kc_words.specs.NoteWord.{note_word}
 use Rattle.kc_words.specs.declared.note.NoteWord.TheVariants.{Put}

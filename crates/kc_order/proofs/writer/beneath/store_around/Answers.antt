@@ -1,3 +1,4 @@
+-- A front of stores that are legal together is legal, and the rest is legal after it: so for each of the three parts.
 use Rattle.kc_order.proofs.Cutting.{front-legal, back-legal}
 use Rattle.kc_order.proofs.writer.beneath.store_around.Goals as goal
 

@@ -1,3 +1,4 @@
+-- A vertex that is drawn is above all on the list and is not `w`; one that is left out only raises the bound.
 use Rattle.std.proofs.Common.{ℕ, ◌+◌, sym, subst}
 use Rattle.std.specs.declared.vec.Vec.{Vec}
 use Rattle.std.specs.declared.alloc.Global.{Global}

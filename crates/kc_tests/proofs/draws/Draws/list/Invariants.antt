@@ -1,3 +1,4 @@
+-- The list ascends, its vertices are below `y`, and `w` is not on it.
 use Rattle.kc_view.specs.Lists.{IsListOf}
 use Rattle.kc_tests.proofs.draws.Draws.list.Given as goal
 

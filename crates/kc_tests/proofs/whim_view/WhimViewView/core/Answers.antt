@@ -1,3 +1,4 @@
+-- Where no core number of `w` was kept, the one that is drawn is kept, and is the one that is told from now on.
 use Rattle.std.proofs.Common.{◌≡◌, false, List, sym, ◌∙◌, ap, subst}
 use Rattle.std.specs.Prelude.{is_some}
 use Rattle.kc_graph.specs.declared.used.UsedPlace.{UsedPlace}

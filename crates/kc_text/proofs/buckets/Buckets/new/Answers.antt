@@ -1,3 +1,4 @@
+-- The count that is pushed is where range `k` begins, and after the last turn there is one begin more than ids.
 use Rattle.std.proofs.Common.{◌*◌, ℕ, length, length-append, arith, ap, subst, sym, List, get_or}
 use Rattle.kc_text.specs.Buckets.{IsBegin}
 use Rattle.kc_text.proofs.Ranges.{begins-push}

@@ -1,3 +1,4 @@
+-- For each range before `k` there is its begin: how many ids are below that multiple of the width.
 use Rattle.std.proofs.Common.{◌≡◌, ◌<◌, ◌*◌, ℕ, length}
 use Rattle.std.specs.Prelude.{slice_index}
 use Rattle.kc_text.specs.Buckets.{IsBegin}

@@ -1,3 +1,4 @@
+-- An id that is there stands in its range, so it is found, at its place in the range behind all ids before that.
 use Rattle.kc_text.proofs.Ranges.{found_in_range, not_lost_in_range}
 use Rattle.kc_text.proofs.buckets.Buckets.place.Goals as goal
 

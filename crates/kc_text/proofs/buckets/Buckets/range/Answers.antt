@@ -1,3 +1,4 @@
+-- The id divided by the width is the number of its range, and the id stands between that range's begin and the next one's.
 use Rattle.std.proofs.Common.{arith}
 use Rattle.kc_text.proofs.Ranges.{bounds_of, part_between}
 use Rattle.kc_text.proofs.buckets.Buckets.range.Goals as goal
