@@ -1,5 +1,6 @@
 -- What was read at different moments is true of now, where no stamp is less than that of now.
-use Rattle.std.proofs.Common.{◌≡◌, ℕ, suc, ◌<◌, ◌≤◌, true, false, cond, List, [], ◌∷◌, get_or, eqb, ltb, refl, sym, ap, ◌∙◌, subst, inl, inr, arith, lt-ltb, le-ltb, eqb-true}
+use Rattle.std.proofs.Common.{◌≡◌, ℕ, suc, ◌<◌, ◌≤◌, true, false, cond, List, [], ◌∷◌, get_or, eqb, ltb, refl, sym, ap, ◌∙◌, subst, inl, inr, arith}
+use Rattle.std.proofs.Common.{lt-ltb, le-ltb, eqb-true}
 use Rattle.std.specs.Prelude.{All, Some, is_some}
 use Rattle.std.proofs.lemmas.Bool.{cases_Bool, false≢true}
 use mathlib.Core.List.{IsPrefix}

@@ -1,5 +1,6 @@
 -- The answers of one who holds the state were read of its log.
-use Rattle.std.proofs.Common.{◌≡◌, ◌≢◌, ℕ, suc, ◌<◌, ◌≤◌, true, cond, List, [], ◌∷◌, get_or, ltb, sym, ap, ◌∙◌, subst, inl, inr, arith, lt-ltb, ltb-true, ltb-false, eq-eqb}
+use Rattle.std.proofs.Common.{◌≡◌, ◌≢◌, ℕ, suc, ◌<◌, ◌≤◌, true, cond, List, [], ◌∷◌, get_or, ltb, sym, ap, ◌∙◌, subst, inl, inr, arith, lt-ltb}
+use Rattle.std.proofs.Common.{ltb-true, ltb-false, eq-eqb}
 use Rattle.std.specs.Prelude.{All, is_some}
 use Rattle.std.proofs.lemmas.Bool.{cases_eq, false≢true, ne_eqb}
 use Rattle.kc_distinct.specs.Lists.{member, place_of}

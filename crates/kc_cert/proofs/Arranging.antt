@@ -1,5 +1,6 @@
 -- The order and the core numbers after moves.
-use Rattle.std.proofs.Common.{◌≡◌, ◌≢◌, ◌≤◌, ◌<◌, ◌+◌, ◌-◌, ℕ, suc, zero, Bool, true, false, cond, ◌&&◌, ◌||◌, List, [], ◌∷◌, ◌++◌, length, get_or, eqb, ltb, leb, refl, sym, ◌∙◌, ap, ap₂, inl, inr, arith, true≢false, eq-eqb, lt-ltb}
+use Rattle.std.proofs.Common.{◌≡◌, ◌≢◌, ◌≤◌, ◌<◌, ◌+◌, ◌-◌, ℕ, suc, zero, Bool, true, false, cond, ◌&&◌, ◌||◌, List, [], ◌∷◌, ◌++◌, length, get_or}
+use Rattle.std.proofs.Common.{eqb, ltb, leb, refl, sym, ◌∙◌, ap, ap₂, inl, inr, arith, true≢false, eq-eqb, lt-ltb}
 use Rattle.std.specs.Prelude.{AllPairs}
 use Rattle.std.proofs.lemmas.Bool.{cases_Bool, cases_eq, cases_lt, or_parts, false≢true, ltb-true, ltb-false, leb-true, leb-false, le-ltb}
 use Rattle.kc_distinct.specs.Lists.{member, Distinct, below}
@@ -37,7 +38,8 @@ GoByNumber core n place = (a b : ℕ) → a < n → b < n → get_or core a 0 < 
 abbrev pub HaveNumber : List ℕ → ℕ → ℕ → List ℕ → Type 0
 HaveNumber core n k xs = (x : ℕ) → member x xs ≡ true → (x < n) × (get_or core x 0 ≡ k)
 
-moved-by_number : (core : List ℕ) (n k : ℕ) (place : ℕ → ℕ) (x w : ℕ) → (x < n) × (get_or core x 0 ≡ k) → (w < n) × (get_or core w 0 ≡ k) → GoByNumber core n place → GoByNumber core n (moved place x w)
+moved-by_number : (core : List ℕ) (n k : ℕ) (place : ℕ → ℕ) (x w : ℕ) → (x < n) × (get_or core x 0 ≡ k) → (w < n) × (get_or core w 0 ≡ k)
+    → GoByNumber core n place → GoByNumber core n (moved place x w)
 moved-by_number core n k place x w hx hw up a b la lb lt = elim (cases_eq a x) [
   | inl e ↦
       let nb : b ≢ x = λ e'. omega (arith, ap (λ j. get_or core j 0) (e ∙ sym e')) in
@@ -49,11 +51,13 @@ moved-by_number core n k place x w hx hw up a b la lb lt = elim (cases_eq a x) [
 ]
 
 -- shifts between vertices of one number keep that
-pub place_after-by_number : (core : List ℕ) (n k : ℕ) (place : ℕ → ℕ) (shifts : List (ℕ × ℕ)) → HaveNumber core n k (firsts shifts) → HaveNumber core n k (seconds shifts) → GoByNumber core n place
+pub place_after-by_number : (core : List ℕ) (n k : ℕ) (place : ℕ → ℕ) (shifts : List (ℕ × ℕ)) → HaveNumber core n k (firsts shifts)
+    → HaveNumber core n k (seconds shifts) → GoByNumber core n place
     → GoByNumber core n (place_after place shifts)
 place_after-by_number core n k place [] f s up = up
 place_after-by_number core n k place (p ∷ shifts) f s up =
-    place_after-by_number core n k (moved place p.0 p.1) shifts (λ x m. f x (member-tail x p.0 (firsts shifts) m)) (λ x m. s x (member-tail x p.1 (seconds shifts) m))
+    place_after-by_number core n k (moved place p.0 p.1) shifts (λ x m. f x (member-tail x p.0 (firsts shifts) m))
+    (λ x m. s x (member-tail x p.1 (seconds shifts) m))
     (moved-by_number core n k place p.0 p.1 (f p.0 (member-head p.0 (firsts shifts))) (s p.1 (member-head p.1 (seconds shifts))) up)
 
 -- each stands before each later one
@@ -72,24 +76,31 @@ pub record Arranged (s : Ranked) (core order moved : List ℕ) (lt : ℕ → ℕ
   pub all : (y : ℕ) → member y order ≡ member y (below s.graph.size)
   pub rising : (y z : ℕ) → y < s.graph.size → z < s.graph.size → lt y z ≡ true → get_or core y 0 ≤ get_or core z 0
   pub numbers_stay : (y : ℕ) → member y moved ≡ false → get_or core y 0 ≡ get_or s.core y 0
-  pub order_stays : (y z : ℕ) → y < s.graph.size → z < s.graph.size → member y moved ≡ false → member z moved ≡ false → lt y z ≡ ltb (rank_in s.order y) (rank_in s.order z)
+  pub order_stays : (y z : ℕ) → y < s.graph.size → z < s.graph.size → member y moved ≡ false → member z moved ≡ false
+      → lt y z ≡ ltb (rank_in s.order y) (rank_in s.order z)
 
 -- how `then_after` compares, of what it asks
 abbrev pub after_by : Bool → Bool → Bool → Bool → ℕ → ℕ → ℕ → ℕ → Bool
-after_by mz lz my ly iz iy pz py = ltb (cond mz 1 (cond lz 0 2)) (cond my 1 (cond ly 0 2)) || (eqb (cond mz 1 (cond lz 0 2)) (cond my 1 (cond ly 0 2)) && cond mz (ltb iz iy) (ltb pz py))
+after_by mz lz my ly iz iy pz py =
+    ltb (cond mz 1 (cond lz 0 2)) (cond my 1 (cond ly 0 2))
+    || (eqb (cond mz 1 (cond lz 0 2)) (cond my 1 (cond ly 0 2)) && cond mz (ltb iz iy) (ltb pz py))
 
-rising_at : (mz lz my ly : Bool) (iz iy pz py cz cy next : ℕ) → (lz ≡ true → cz ≤ next) → (ly ≡ false → next ≤ cy) → (cy < cz → py < pz) → after_by mz lz my ly iz iy pz py ≡ true → cond mz next cz ≤ cond my next cy
+rising_at : (mz lz my ly : Bool) (iz iy pz py cz cy next : ℕ) → (lz ≡ true → cz ≤ next) → (ly ≡ false → next ≤ cy) → (cy < cz → py < pz)
+    → after_by mz lz my ly iz iy pz py ≡ true → cond mz next cz ≤ cond my next cy
 rising_at true lz true ly iz iy pz py cz cy next low high up a = omega arith
 rising_at true lz false true iz iy pz py cz cy next low high up a = absurd (false≢true a)
 rising_at true lz false false iz iy pz py cz cy next low high up a = high refl
 rising_at false true true ly iz iy pz py cz cy next low high up a = low refl
 rising_at false false true ly iz iy pz py cz cy next low high up a = absurd (false≢true a)
-rising_at false true false true iz iy pz py cz cy next low high up a = let l : pz < py = ltb-true pz py a in elim (cases_lt cy cz) [ inl k ↦ absurd (omega (arith, up k)) | inr k ↦ k ]
+rising_at false true false true iz iy pz py cz cy next low high up a =
+    let l : pz < py = ltb-true pz py a in elim (cases_lt cy cz) [ inl k ↦ absurd (omega (arith, up k)) | inr k ↦ k ]
 rising_at false true false false iz iy pz py cz cy next low high up a = omega (arith, low refl, high refl)
 rising_at false false false true iz iy pz py cz cy next low high up a = absurd (false≢true a)
-rising_at false false false false iz iy pz py cz cy next low high up a = let l : pz < py = ltb-true pz py a in elim (cases_lt cy cz) [ inl k ↦ absurd (omega (arith, up k)) | inr k ↦ k ]
+rising_at false false false false iz iy pz py cz cy next low high up a =
+    let l : pz < py = ltb-true pz py a in elim (cases_lt cy cz) [ inl k ↦ absurd (omega (arith, up k)) | inr k ↦ k ]
 
-still_at : (lz ly : Bool) (iz iy pz py rz ry : ℕ) → ltb pz py ≡ ltb rz ry → (lz ≡ true → ly ≡ false → rz < ry) → (lz ≡ false → ly ≡ true → ry < rz) → after_by false lz false ly iz iy pz py ≡ ltb rz ry
+still_at : (lz ly : Bool) (iz iy pz py rz ry : ℕ) → ltb pz py ≡ ltb rz ry → (lz ≡ true → ly ≡ false → rz < ry)
+    → (lz ≡ false → ly ≡ true → ry < rz) → after_by false lz false ly iz iy pz py ≡ ltb rz ry
 still_at true true iz iy pz py rz ry same up down = same
 still_at true false iz iy pz py rz ry same up down = sym (lt-ltb rz ry (up refl refl))
 still_at false true iz iy pz py rz ry same up down = sym (le-ltb rz ry (omega (arith, down refl refl)))
@@ -111,15 +122,18 @@ ranks_by_number s h a b la lb lt =
     let all : (y : ℕ) → member y s.order ≡ member y (below s.graph.size) = order-has s.graph.size s.order h.enumerates in
     ranks-rise s.core s.order h.rising a b (all a ∙ member-below a s.graph.size la) (all b ∙ member-below b s.graph.size lb) lt
 
-pub renumbered-at : (front : List ℕ) (next : ℕ) (core : List ℕ) (y : ℕ) → y < length core → get_or (renumbered front next core) y 0 ≡ cond (member y front) next (get_or core y 0)
+pub renumbered-at : (front : List ℕ) (next : ℕ) (core : List ℕ) (y : ℕ) → y < length core
+    → get_or (renumbered front next core) y 0 ≡ cond (member y front) next (get_or core y 0)
 renumbered-at front next core y l = elim (cases_Bool (member y front)) [
   | inl m ↦ renumbered-moved front next core y l m ∙ sym (ap (λ b. cond b next (get_or core y 0)) m)
   | inr n ↦ renumbered-other front next core y n ∙ sym (ap (λ b. cond b next (get_or core y 0)) n)
 ]
 
-pub arranged_by : (s : Ranked) (low : ℕ → Bool) (front : List ℕ) (shifts : List (ℕ × ℕ)) (level next : ℕ) (moved : List ℕ) → IsCertified s → Leaving s low front shifts level next
+pub arranged_by : (s : Ranked) (low : ℕ → Bool) (front : List ℕ) (shifts : List (ℕ × ℕ)) (level next : ℕ) (moved : List ℕ) → IsCertified s
+    → Leaving s low front shifts level next
     → ((y : ℕ) → member y moved ≡ false → (member y front ≡ false) × (member y (firsts shifts) ≡ false))
-    → Arranged s (renumbered front next s.core) (put_between low front (shifted shifts s.order)) moved (then_after low front (rank_in front) (place_after (rank_in s.order) shifts))
+    → Arranged s (renumbered front next s.core) (put_between low front (shifted shifts s.order)) moved
+    (then_after low front (rank_in front) (place_after (rank_in s.order) shifts))
 arranged_by s low front shifts level next moved h leaving others =
     let n : ℕ = s.graph.size in
     let place : ℕ → ℕ = place_after (rank_in s.order) shifts in
@@ -130,14 +144,17 @@ arranged_by s low front shifts level next moved h leaving others =
     let up : AscendsBy place (shifted shifts s.order) = shifted-ascends (rank_in s.order) shifts s.order
     (rank-ascends s.order (order-distinct n s.order h.enumerates)) leaving.in_turn f w in
     let same : (y : ℕ) → member y (shifted shifts s.order) ≡ member y s.order = shifted-has shifts s.order leaving.in_turn f w in
-    let by_number : GoByNumber s.core n place = place_after-by_number s.core n level (rank_in s.order) shifts leaving.firsts_level leaving.seconds_level (ranks_by_number s h) in
+    let by_number : GoByNumber s.core n place =
+    place_after-by_number s.core n level (rank_in s.order) shifts leaving.firsts_level leaving.seconds_level (ranks_by_number s h) in
     record {
       one_each = length-renumbered front next s.core ∙ h.one_each;
       itself = after-itself low front (rank_in front) place;
       orders = final-orders low front (rank_in front) place (shifted shifts s.order) (rank-ascends front leaving.once) up;
       all = λ y. final-has low front (shifted shifts s.order) (λ x m. same x ∙ in_order x (leaving.front_level x m).0) y ∙ (same y ∙ all y);
       rising = λ y z ly lz t.
-          let r = rising_at (member y front) (low y) (member z front) (low z) (rank_in front y) (rank_in front z) (place y) (place z) (get_or s.core y 0) (get_or s.core z 0) next
+          let r =
+          rising_at (member y front) (low y) (member z front) (low z) (rank_in front y) (rank_in front z) (place y) (place z)
+          (get_or s.core y 0) (get_or s.core z 0) next
           (leaving.low_below y) (leaving.high_above z) (by_number z y lz ly) t in
           omega (arith, r, renumbered-at front next s.core y (omega (arith, h.one_each)), renumbered-at front next s.core z (omega (arith, h.one_each)));
       numbers_stay = λ y m. renumbered-other front next s.core y (others y m).0;
@@ -145,7 +162,8 @@ arranged_by s low front shifts level next moved h leaving others =
           let oy = others y my in
           let oz = others z mz in
           ap₂ (λ (a b : Bool). after_by a (low y) b (low z) (rank_in front y) (rank_in front z) (place y) (place z)) oy.0 oz.0
-          ∙ still_at (low y) (low z) (rank_in front y) (rank_in front z) (place y) (place z) (rank_in s.order y) (rank_in s.order z) (place_after-still (rank_in s.order) shifts y z oy.1 oz.1)
+          ∙ still_at (low y) (low z) (rank_in front y) (rank_in front z) (place y) (place z) (rank_in s.order y) (rank_in s.order z)
+          (place_after-still (rank_in s.order) shifts y z oy.1 oz.1)
           (λ a b. ranks_by_number s h y z ly lz (leaving.low_first y z a b)) (λ a b. ranks_by_number s h z y lz ly (leaving.low_first z y b a));
     }
 
@@ -157,15 +175,23 @@ arranged-still s h =
     record {
       one_each = h.one_each;
       itself = λ y. le-ltb (rank_in s.order y) (rank_in s.order y) (omega arith);
-      orders = Orders-from_Ascends lt (rank_in s.order) s.order (λ y z my mz l. (lt-ltb _ _ l, le-ltb (rank_in s.order z) (rank_in s.order y) (omega arith))) (rank-ascends s.order (order-distinct s.graph.size s.order h.enumerates));
+      orders =
+          Orders-from_Ascends lt (rank_in s.order) s.order
+          (λ y z my mz l. (lt-ltb _ _ l, le-ltb (rank_in s.order z) (rank_in s.order y) (omega arith)))
+          (rank-ascends s.order (order-distinct s.graph.size s.order h.enumerates));
       all = all;
-      rising = λ y z ly lz t. let l = ltb-true (rank_in s.order y) (rank_in s.order z) t in elim (cases_lt (get_or s.core z 0) (get_or s.core y 0)) [ inl k ↦ absurd (omega (arith, ranks_by_number s h z y lz ly k)) | inr k ↦ k ];
+      rising =
+          λ y z ly lz t.
+          let l = ltb-true (rank_in s.order y) (rank_in s.order z) t in
+          elim (cases_lt (get_or s.core z 0) (get_or s.core y 0))
+          [ inl k ↦ absurd (omega (arith, ranks_by_number s h z y lz ly k)) | inr k ↦ k ];
       numbers_stay = λ y m. refl;
       order_stays = λ y z ly lz my mz. refl;
     }
 
 -- what moves that fit make of the order and the numbers
-pub arranged : (s : Ranked) (moves : Moves) → IsCertified s → MovesFit s moves → Arranged s (moved_by moves s).core (moved_by moves s).order (moved_vertices moves) (stands_after moves s)
+pub arranged : (s : Ranked) (moves : Moves) → IsCertified s → MovesFit s moves
+    → Arranged s (moved_by moves s).core (moved_by moves s).order (moved_vertices moves) (stands_after moves s)
 arranged s Kept h fit = arranged-still s h
 arranged s Plain h fit = arranged-still s h
 arranged s (Rise level rise shifts) h fit =

@@ -1,5 +1,6 @@
 -- What the maps of an arrangement tell.
-use Rattle.std.proofs.Common.{◌≡◌, ◌≢◌, ◌≤◌, ◌<◌, ◌+◌, ◌-◌, ℕ, Bool, true, false, cond, not, ◌&&◌, drop, leb, List, [], ◌∷◌, Option, length, get_or, ltb, refl, ◌∙◌, ap, ap₂, arith, true≢false}
+use Rattle.std.proofs.Common.{◌≡◌, ◌≢◌, ◌≤◌, ◌<◌, ◌+◌, ◌-◌, ℕ, Bool, true, false, cond, not, ◌&&◌, drop, leb, List, [], ◌∷◌, Option, length, get_or}
+use Rattle.std.proofs.Common.{ltb, refl, ◌∙◌, ap, ap₂, arith, true≢false}
 use Rattle.std.specs.Prelude.{unwrap_or, count_by}
 use Rattle.std.specs.Bool.{beq}
 use Rattle.std.proofs.lemmas.Bool.{false≢true}
@@ -26,7 +27,8 @@ use Rattle.kc_cert.proofs.Chaining.{Linked, Chained, linked_none, chained_none, 
 use Rattle.kc_distinct.proofs.Shared.{Distinct-back}
 
 -- the core number of a vertex after moves
-pub core-moved : (s : Ranked) (moves : Moves) (y : ℕ) → y < length s.core → get_or (moved_by moves s).core y 0 ≡ cond (member y (leaving moves)) (next_level moves) (get_or s.core y 0)
+pub core-moved : (s : Ranked) (moves : Moves) (y : ℕ) → y < length s.core
+    → get_or (moved_by moves s).core y 0 ≡ cond (member y (leaving moves)) (next_level moves) (get_or s.core y 0)
 core-moved s Kept y l = refl
 core-moved s Plain y l = refl
 core-moved s (Rise level rise shifts) y l = renumbered-at rise.items (level + 1) s.core y l
@@ -54,7 +56,8 @@ shifts_fit s (Fall level fall) fit = no_shifts s
 -- the chains of moves that fit
 pub record ChainsTell (s : Ranked) (moves : Moves) : Type 0 where
   pub linked : Linked (line_after [] (shifts_of moves)) (home_after no_home (shifts_of moves)) []
-  pub chained : Chained (rank_in s.order) (place_after (rank_in s.order) (shifts_of moves)) s.graph.size (line_after [] (shifts_of moves)) (home_after no_home (shifts_of moves))
+  pub chained : Chained (rank_in s.order) (place_after (rank_in s.order) (shifts_of moves)) s.graph.size (line_after [] (shifts_of moves))
+      (home_after no_home (shifts_of moves))
 
 pub chains_tell : (s : Ranked) (moves : Moves) → IsCertified s → MovesFit s moves → ChainsTell s moves
 chains_tell s moves h fit =
@@ -64,23 +67,29 @@ chains_tell s moves h fit =
     let in_order : (x : ℕ) → x < n → member x s.order ≡ true = λ x l. order-has n s.order h.enumerates x ∙ member-below x n l in
     record {
       linked = linked_all (shifts_of moves) [] no_home start;
-      chained = chained_all (shifts_of moves) (rank_in s.order) (rank_in s.order) n [] no_home f.within start (chained_none (rank_in s.order) n (λ y z ly lz e. rank-apart s.order y z (in_order y ly) (in_order z lz) e));
+      chained =
+          chained_all (shifts_of moves) (rank_in s.order) (rank_in s.order) n [] no_home f.within start
+          (chained_none (rank_in s.order) n (λ y z ly lz e. rank-apart s.order y z (in_order y ly) (in_order z lz) e));
     }
 
 -- an anchor is a vertex
-pub anchor_vertex : (s : Ranked) (moves : Moves) (home : ℕ → Option ℕ) (y : ℕ) → IsCertified s → MovesFit s moves → ((y : ℕ) → home y ≡ home_after no_home (shifts_of moves) y) → y < s.graph.size → anchor_of home y < s.graph.size
+pub anchor_vertex : (s : Ranked) (moves : Moves) (home : ℕ → Option ℕ) (y : ℕ) → IsCertified s → MovesFit s moves
+    → ((y : ℕ) → home y ≡ home_after no_home (shifts_of moves) y) → y < s.graph.size → anchor_of home y < s.graph.size
 anchor_vertex s moves home y h fit is l = omega (arith, (chains_tell s moves h fit).chained.vertices y l, ap (λ o. unwrap_or o y) (is y))
 
 -- the comparison by chains
-pub chains_compare : (s : Ranked) (moves : Moves) (home places : ℕ → Option ℕ) (z y : ℕ) → IsCertified s → MovesFit s moves → ((y : ℕ) → home y ≡ home_after no_home (shifts_of moves) y)
+pub chains_compare : (s : Ranked) (moves : Moves) (home places : ℕ → Option ℕ) (z y : ℕ) → IsCertified s → MovesFit s moves
+    → ((y : ℕ) → home y ≡ home_after no_home (shifts_of moves) y)
     → ((x : ℕ) → places x ≡ place_in (line_after [] (shifts_of moves)) x) → z ≢ y → z < s.graph.size → y < s.graph.size
-    → chain_after (rank_in s.order) home places z y ≡ ltb (place_after (rank_in s.order) (shifts_of moves) z) (place_after (rank_in s.order) (shifts_of moves) y)
+    → chain_after (rank_in s.order) home places z y
+    ≡ ltb (place_after (rank_in s.order) (shifts_of moves) z) (place_after (rank_in s.order) (shifts_of moves) y)
 chains_compare s moves home places z y h fit is at ne lz ly =
     let t = chains_tell s moves h fit in
     let e : home ≡ home_after no_home (shifts_of moves) = fun_ext is in
     let f : places ≡ place_in (line_after [] (shifts_of moves)) = fun_ext at in
     ap₂ (λ (a b : ℕ → Option ℕ). chain_after (rank_in s.order) a b z y) e f
-    ∙ chain_after-is (rank_in s.order) (place_after (rank_in s.order) (shifts_of moves)) s.graph.size (line_after [] (shifts_of moves)) (home_after no_home (shifts_of moves)) t.linked.held t.chained z y lz ly ne
+    ∙ chain_after-is (rank_in s.order) (place_after (rank_in s.order) (shifts_of moves)) s.graph.size (line_after [] (shifts_of moves))
+    (home_after no_home (shifts_of moves)) t.linked.held t.chained z y lz ly ne
 
 pub same_bools : (a b : Bool) → not (beq a b) ≡ false → a ≡ b
 same_bools true true e = refl
@@ -97,9 +106,12 @@ same_side true lz my ly iz iy pz py a b e = absurd (true≢false a)
 same_side false lz true ly iz iy pz py a b e = absurd (true≢false b)
 
 -- two of one side that do not leave their level
-pub stays_by_place : (s : Ranked) (moves : Moves) (z y : ℕ) → member z (leaving moves) ≡ false → member y (leaving moves) ≡ false → is_low moves s.core z ≡ is_low moves s.core y
+pub stays_by_place : (s : Ranked) (moves : Moves) (z y : ℕ) → member z (leaving moves) ≡ false → member y (leaving moves) ≡ false
+    → is_low moves s.core z ≡ is_low moves s.core y
     → ltb (place_after (rank_in s.order) (shifts_of moves) z) (place_after (rank_in s.order) (shifts_of moves) y) ≡ stands_after moves s z y
-stays_by_place s moves z y mz my e = same_side (member z (leaving moves)) (is_low moves s.core z) (member y (leaving moves)) (is_low moves s.core y) (rank_in (leaving moves) z) (rank_in (leaving moves) y)
+stays_by_place s moves z y mz my e =
+    same_side (member z (leaving moves)) (is_low moves s.core z) (member y (leaving moves)) (is_low moves s.core y)
+    (rank_in (leaving moves) z) (rank_in (leaving moves) y)
     (place_after (rank_in s.order) (shifts_of moves) z) (place_after (rank_in s.order) (shifts_of moves) y) mz my e
 
 pub no_member : (xs : List ℕ) (x : ℕ) → length xs ≡ 0 → member x xs ≡ true → ⊥
@@ -112,9 +124,12 @@ empty_from (x ∷ xs) h = absurd (h x (member-head x xs))
 
 -- what the certificate asks at a vertex after an update and moves, as counts over all vertices
 pub record Counted (s : Ranked) (update : Update) (moves : Moves) (z : ℕ) : Type 0 where
-  pub later : degree_among (updated update s.graph) (drop (place_of z (moved_by moves s).order + 1) (moved_by moves s).order) z ≡ count_by (λ y. adjacent (updated update s.graph) z y && stands_after moves s z y) (below s.graph.size)
+  pub later : degree_among (updated update s.graph) (drop (place_of z (moved_by moves s).order + 1) (moved_by moves s).order) z ≡ count_by
+      (λ y. adjacent (updated update s.graph) z y && stands_after moves s z y) (below s.graph.size)
   pub high : degree_as_high (updated update s.graph) (moved_by moves s).core (moved_by moves s).order z
-      ≡ count_by (λ y. adjacent (updated update s.graph) z y && leb (get_or (moved_by moves s).core z 0) (get_or (moved_by moves s).core y 0)) (below s.graph.size)
+      ≡ count_by
+      (λ y. adjacent (updated update s.graph) z y && leb (get_or (moved_by moves s).core z 0) (get_or (moved_by moves s).core y 0))
+      (below s.graph.size)
 
 pub counted : (s : Ranked) (update : Update) (moves : Moves) (z : ℕ) → IsCertified s → MovesFit s moves → z < s.graph.size → Counted s update moves z
 counted s update moves z h fit l =
@@ -128,7 +143,9 @@ counted s update moves z h fit l =
     let late : ℕ → Bool = λ y. adjacent g z y && lt z y in
     let high : ℕ → Bool = λ y. adjacent g z y && leb (get_or core z 0) (get_or core y 0) in
     record {
-      later = later-count lt (adjacent g z) z order a.itself a.orders (a.all z ∙ member-below z n l) ∙ count-same late order (below n) once (Distinct-below n) a.all;
+      later =
+          later-count lt (adjacent g z) z order a.itself a.orders (a.all z ∙ member-below z n l)
+          ∙ count-same late order (below n) once (Distinct-below n) a.all;
       high = count-same high order (below n) once (Distinct-below n) a.all;
     }
 
@@ -137,26 +154,48 @@ abbrev pub IsLater : Ranked → Update → Moves → ℕ → ℕ → Type 0
 IsLater s update moves z later = later ≡ count_by (λ y. adjacent (updated update s.graph) z y && stands_after moves s z y) (below s.graph.size)
 
 abbrev pub IsHigh : Ranked → Update → Moves → ℕ → ℕ → ℕ → Type 0
-IsHigh s update moves z number high = high ≡ count_by (λ y. adjacent (updated update s.graph) z y && leb number (get_or (moved_by moves s).core y 0)) (below s.graph.size)
+IsHigh s update moves z number high =
+    high ≡ count_by (λ y. adjacent (updated update s.graph) z y && leb number (get_or (moved_by moves s).core y 0)) (below s.graph.size)
 
-high_same : (s : Ranked) (update : Update) (moves : Moves) (z number high : ℕ) → number ≡ get_or (moved_by moves s).core z 0 → IsHigh s update moves z number high → IsHigh s update moves z (get_or (moved_by moves s).core z 0) high
-high_same s update moves z number high e h = h ∙ ap (λ (k : ℕ). count_by (λ y. adjacent (updated update s.graph) z y && leb k (get_or (moved_by moves s).core y 0)) (below s.graph.size)) e
+high_same : (s : Ranked) (update : Update) (moves : Moves) (z number high : ℕ) → number ≡ get_or (moved_by moves s).core z 0
+    → IsHigh s update moves z number high → IsHigh s update moves z (get_or (moved_by moves s).core z 0) high
+high_same s update moves z number high e h =
+    h
+    ∙ ap
+    (λ (k : ℕ). count_by (λ y. adjacent (updated update s.graph) z y && leb k (get_or (moved_by moves s).core y 0)) (below s.graph.size))
+    e
 
-pub few_later_counted : (s : Ranked) (update : Update) (moves : Moves) (z number later : ℕ) → Counted s update moves z → number ≡ get_or (moved_by moves s).core z 0 → IsLater s update moves z later → HoldsAt (changed_by update moves s) z → later ≤ number
+pub few_later_counted : (s : Ranked) (update : Update) (moves : Moves) (z number later : ℕ) → Counted s update moves z
+    → number ≡ get_or (moved_by moves s).core z 0 → IsLater s update moves z later → HoldsAt (changed_by update moves s) z → later ≤ number
 few_later_counted s update moves z number later k e l h =
-    let few : degree_among (updated update s.graph) (drop (place_of z (moved_by moves s).order + 1) (moved_by moves s).order) z ≤ get_or (moved_by moves s).core z 0 = h.few_later in
+    let few : degree_among (updated update s.graph) (drop (place_of z (moved_by moves s).order + 1) (moved_by moves s).order) z ≤ get_or
+    (moved_by moves s).core z 0 =
+    h.few_later in
     omega (arith, k.later, e, l, few)
 
-pub high_counted : (s : Ranked) (update : Update) (moves : Moves) (z number high : ℕ) → Counted s update moves z → number ≡ get_or (moved_by moves s).core z 0 → IsHigh s update moves z number high → HoldsAt (changed_by update moves s) z → number ≤ high
+pub high_counted : (s : Ranked) (update : Update) (moves : Moves) (z number high : ℕ) → Counted s update moves z
+    → number ≡ get_or (moved_by moves s).core z 0 → IsHigh s update moves z number high → HoldsAt (changed_by update moves s) z
+    → number ≤ high
 high_counted s update moves z number high k e l h =
-    let enough : get_or (moved_by moves s).core z 0 ≤ degree_as_high (updated update s.graph) (moved_by moves s).core (moved_by moves s).order z = h.enough_as_high in
+    let enough : get_or (moved_by moves s).core z 0 ≤ degree_as_high (updated update s.graph) (moved_by moves s).core
+    (moved_by moves s).order z =
+    h.enough_as_high in
     omega (arith, k.high, e, high_same s update moves z number high e l, enough)
 
-pub holds_from_counts : (s : Ranked) (update : Update) (moves : Moves) (z number later high : ℕ) → Counted s update moves z → number ≡ get_or (moved_by moves s).core z 0 → IsLater s update moves z later → IsHigh s update moves z number high
+pub holds_from_counts : (s : Ranked) (update : Update) (moves : Moves) (z number later high : ℕ) → Counted s update moves z
+    → number ≡ get_or (moved_by moves s).core z 0 → IsLater s update moves z later → IsHigh s update moves z number high
     → later ≤ number → number ≤ high → HoldsAt (changed_by update moves s) z
 holds_from_counts s update moves z number later high k e l m few enough = record {
-  few_later = let f : degree_among (updated update s.graph) (drop (place_of z (moved_by moves s).order + 1) (moved_by moves s).order) z ≤ get_or (moved_by moves s).core z 0 = omega (arith, k.later, e, l) in f;
-  enough_as_high = let f : get_or (moved_by moves s).core z 0 ≤ degree_as_high (updated update s.graph) (moved_by moves s).core (moved_by moves s).order z = omega (arith, k.high, e, high_same s update moves z number high e m) in f;
+  few_later =
+      let f : degree_among (updated update s.graph) (drop (place_of z (moved_by moves s).order + 1) (moved_by moves s).order) z ≤ get_or
+      (moved_by moves s).core z 0 =
+      omega (arith, k.later, e, l) in
+      f;
+  enough_as_high =
+      let f : get_or (moved_by moves s).core z 0 ≤ degree_as_high (updated update s.graph) (moved_by moves s).core (moved_by moves s).order
+      z =
+      omega (arith, k.high, e, high_same s update moves z number high e m) in
+      f;
 }
 
 pub other_bool_true : (a b : Bool) → beq a b ≡ false → b ≡ false → a ≡ true

@@ -1,5 +1,6 @@
 -- The comparison by chains is that of the ranks after the shifts.
-use Rattle.std.proofs.Common.{◌≡◌, ◌≢◌, ◌<◌, ◌+◌, ℕ, suc, zero, Bool, true, false, cond, not, ◌||◌, List, [], ◌∷◌, ◌++◌, Option, Some, None, length, get_or, drop, subst, eqb, ltb, refl, sym, ◌∙◌, ap, ap₂, inl, inr, arith, true≢false, eq-eqb, ne_eqb, eqb-true, lt-ltb}
+use Rattle.std.proofs.Common.{◌≡◌, ◌≢◌, ◌<◌, ◌+◌, ℕ, suc, zero, Bool, true, false, cond, not, ◌||◌, List, [], ◌∷◌, ◌++◌, Option, Some, None, length}
+use Rattle.std.proofs.Common.{get_or, drop, subst, eqb, ltb, refl, sym, ◌∙◌, ap, ap₂, inl, inr, arith, true≢false, eq-eqb, ne_eqb, eqb-true, lt-ltb}
 use Rattle.std.specs.Prelude.{is_some, unwrap_or}
 use Rattle.std.specs.List.{insert}
 use Rattle.std.proofs.lemmas.List.{drop_more}
@@ -29,7 +30,8 @@ pub record Chained (place now : ℕ → ℕ) (n : ℕ) (line : List ℕ) (home :
   pub anchor_held : (y : ℕ) → member y line ≡ true → member (anchor_of home y) line ≡ true
   pub apart : (y z : ℕ) → y < n → z < n → now y ≡ now z → y ≡ z
   pub far : (y z : ℕ) → y < n → z < n → anchor_of home y ≢ anchor_of home z → ltb (now y) (now z) ≡ ltb (place (anchor_of home y)) (place (anchor_of home z))
-  pub near : (y z : ℕ) → y < n → z < n → member y line ≡ true → member z line ≡ true → anchor_of home y ≡ anchor_of home z → ltb (now y) (now z) ≡ ltb (place_of y line) (place_of z line)
+  pub near : (y z : ℕ) → y < n → z < n → member y line ≡ true → member z line ≡ true → anchor_of home y ≡ anchor_of home z
+      → ltb (now y) (now z) ≡ ltb (place_of y line) (place_of z line)
 
 pub linked_none : (shifts : List (ℕ × ℕ)) → AreInTurn shifts → Distinct (firsts shifts) → Linked [] no_home shifts
 linked_none shifts t d = record { once = tt; held = λ y. refl; free = λ y m. refl; in_turn = t; apart = d }
@@ -79,14 +81,16 @@ both_next a b = elim (cases_lt a b) [
 ]
 
 -- places after one is put right behind another
-pub place_of-put : (x w y : ℕ) (line : List ℕ) → member x line ≡ false → member w line ≡ true → y ≢ x → place_of y (right_after x w line) ≡ place_of y line + one_if (ltb (place_of w line) (place_of y line))
+pub place_of-put : (x w y : ℕ) (line : List ℕ) → member x line ≡ false → member w line ≡ true → y ≢ x
+    → place_of y (right_after x w line) ≡ place_of y line + one_if (ltb (place_of w line) (place_of y line))
 place_of-put x w y [] mx mw ne = absurd (false≢true mw)
 place_of-put x w y (v ∷ vs) mx mw ne =
     let out = not_member-parts x v vs mx in
     elim (cases_eq y v) [
       | inl e ↦
           let z : place_of y (v ∷ vs) ≡ 0 = place_of-first y v vs e in
-          let none : one_if (ltb (place_of w (v ∷ vs)) (place_of y (v ∷ vs))) ≡ 0 = ap one_if (le-ltb (place_of w (v ∷ vs)) (place_of y (v ∷ vs)) (omega (arith, z))) in
+          let none : one_if (ltb (place_of w (v ∷ vs)) (place_of y (v ∷ vs))) ≡ 0 =
+          ap one_if (le-ltb (place_of w (v ∷ vs)) (place_of y (v ∷ vs)) (omega (arith, z))) in
           elim (cases_eq w v) [
             | inl here ↦ omega (arith, z, none, ap (place_of y) (right_after-here x w v vs here), place_of-first y v (x ∷ vs) e)
             | inr on ↦ omega (arith, z, none, ap (place_of y) (right_after-next x w v vs on), place_of-first y v (right_after x w vs) e)
@@ -96,13 +100,22 @@ place_of-put x w y (v ∷ vs) mx mw ne =
           elim (cases_eq w v) [
             | inl here ↦
                 let zw : place_of w (v ∷ vs) ≡ 0 = place_of-first w v vs here in
-                let one : one_if (ltb (place_of w (v ∷ vs)) (place_of y (v ∷ vs))) ≡ 1 = ap one_if (lt-ltb (place_of w (v ∷ vs)) (place_of y (v ∷ vs)) (omega (arith, z, zw))) in
+                let one : one_if (ltb (place_of w (v ∷ vs)) (place_of y (v ∷ vs))) ≡ 1 =
+                ap one_if (lt-ltb (place_of w (v ∷ vs)) (place_of y (v ∷ vs)) (omega (arith, z, zw))) in
                 omega (arith, z, one, ap (place_of y) (right_after-here x w v vs here), place_of-next y v (x ∷ vs) other, place_of-next y x vs ne)
             | inr on ↦
                 let zw : place_of w (v ∷ vs) ≡ suc (place_of w vs) = place_of-next w v vs on in
-                let same : ltb (place_of w (v ∷ vs)) (place_of y (v ∷ vs)) ≡ ltb (place_of w vs) (place_of y vs) = ap₂ ltb zw z ∙ both_next (place_of w vs) (place_of y vs) in
+                let same : ltb (place_of w (v ∷ vs)) (place_of y (v ∷ vs)) ≡ ltb (place_of w vs) (place_of y vs) =
+                ap₂ ltb zw z ∙ both_next (place_of w vs) (place_of y vs) in
                 let step : one_if (ltb (place_of w (v ∷ vs)) (place_of y (v ∷ vs))) ≡ one_if (ltb (place_of w vs) (place_of y vs)) = ap one_if same in
-                omega (arith, z, step, ap (place_of y) (right_after-next x w v vs on), place_of-next y v (right_after x w vs) other, place_of-put x w y vs out.1 (member-other w v vs on mw) ne)
+                omega (
+                  arith,
+                  z,
+                  step,
+                  ap (place_of y) (right_after-next x w v vs on),
+                  place_of-next y v (right_after x w vs) other,
+                  place_of-put x w y vs out.1 (member-other w v vs on mw) ne,
+                )
           ]
     ]
 
@@ -111,8 +124,22 @@ place_of-itself x w [] mx mw = absurd (false≢true mw)
 place_of-itself x w (v ∷ vs) mx mw =
     let out = not_member-parts x v vs mx in
     elim (cases_eq w v) [
-      | inl here ↦ omega (arith, ap (place_of x) (right_after-here x w v vs here), place_of-next x v (x ∷ vs) out.0, place_of-first x x vs refl, place_of-first w v vs here)
-      | inr on ↦ omega (arith, ap (place_of x) (right_after-next x w v vs on), place_of-next x v (right_after x w vs) out.0, place_of-next w v vs on, place_of-itself x w vs out.1 (member-other w v vs on mw))
+      | inl here ↦
+          omega (
+            arith,
+            ap (place_of x) (right_after-here x w v vs here),
+            place_of-next x v (x ∷ vs) out.0,
+            place_of-first x x vs refl,
+            place_of-first w v vs here,
+          )
+      | inr on ↦
+          omega (
+            arith,
+            ap (place_of x) (right_after-next x w v vs on),
+            place_of-next x v (right_after x w vs) out.0,
+            place_of-next w v vs on,
+            place_of-itself x w vs out.1 (member-other w v vs on mw),
+          )
     ]
 
 -- the order of two others stays
@@ -154,14 +181,16 @@ some_if false true k (Some i) = refl
 some_if false false k None = refl
 some_if false false k (Some i) = refl
 
-apart-shift : (line : List ℕ) (home : ℕ → Option ℕ) (shift : ℕ × ℕ) (shifts : List (ℕ × ℕ)) → Linked line home (shift ∷ shifts) → (shift.1 ≢ shift.0) × (member shift.0 line ≡ false) × (member shift.0 (with_anchor shift.1 line) ≡ false)
+apart-shift : (line : List ℕ) (home : ℕ → Option ℕ) (shift : ℕ × ℕ) (shifts : List (ℕ × ℕ)) → Linked line home (shift ∷ shifts)
+    → (shift.1 ≢ shift.0) × (member shift.0 line ≡ false) × (member shift.0 (with_anchor shift.1 line) ≡ false)
 apart-shift line home shift shifts h =
     let p = not_member-parts shift.1 shift.0 (firsts shifts) h.in_turn.0 in
     let out : member shift.0 line ≡ false = h.free shift.0 (member-head shift.0 (firsts shifts)) in
     (p.0, out, with_anchor-has shift.1 line shift.0 ∙ or_from (member shift.0 line) (eqb shift.0 shift.1) out (ne_eqb shift.0 shift.1 (λ e. p.0 (sym e))))
 
 -- one shift more
-pub linked_more : (line : List ℕ) (home : ℕ → Option ℕ) (shift : ℕ × ℕ) (shifts : List (ℕ × ℕ)) → Linked line home (shift ∷ shifts) → Linked (line_with shift.0 shift.1 line) (home_with shift.0 shift.1 home) shifts
+pub linked_more : (line : List ℕ) (home : ℕ → Option ℕ) (shift : ℕ × ℕ) (shifts : List (ℕ × ℕ)) → Linked line home (shift ∷ shifts)
+    → Linked (line_with shift.0 shift.1 line) (home_with shift.0 shift.1 home) shifts
 linked_more line home shift shifts h =
     let x : ℕ = shift.0 in
     let w : ℕ = shift.1 in
@@ -173,7 +202,9 @@ linked_more line home shift shifts h =
       free = λ y m.
           let y-w : y ≢ w = λ e. true≢false (sym m ∙ (ap (λ k. member k (firsts shifts)) e ∙ p.1)) in
           let y-x : y ≢ x = λ e. true≢false (sym m ∙ (ap (λ k. member k (firsts shifts)) e ∙ h.apart.0)) in
-          line_with-has x w line y ∙ or_from (member y line || eqb y w) (eqb y x) (or_from (member y line) (eqb y w) (h.free y (member-tail y x (firsts shifts) m)) (ne_eqb y w y-w)) (ne_eqb y x y-x);
+          line_with-has x w line y
+          ∙ or_from (member y line || eqb y w) (eqb y x)
+          (or_from (member y line) (eqb y w) (h.free y (member-tail y x (firsts shifts) m)) (ne_eqb y w y-w)) (ne_eqb y x y-x);
       in_turn = h.in_turn.1;
       apart = h.apart.1;
     }
@@ -182,10 +213,11 @@ anchor_with-itself : (x w y : ℕ) (home : ℕ → Option ℕ) → y ≡ x → a
 anchor_with-itself x w y home e = ap (λ b. unwrap_or (cond b (Some (anchor_of home w)) (cond (eqb y w) (Some (anchor_of home w)) (home y))) y) (eq-eqb y x e)
 
 anchor_with-other : (x w y : ℕ) (home : ℕ → Option ℕ) → y ≢ x → anchor_of (home_with x w home) y ≡ anchor_of home y
-anchor_with-other x w y home ne = ap (λ b. unwrap_or (cond b (Some (anchor_of home w)) (cond (eqb y w) (Some (anchor_of home w)) (home y))) y) (ne_eqb y x ne) ∙ elim (cases_eq y w) [
-  | inl e ↦ ap (λ b. unwrap_or (cond b (Some (anchor_of home w)) (home y)) y) (eq-eqb y w e) ∙ ap (anchor_of home) (sym e)
-  | inr other ↦ ap (λ b. unwrap_or (cond b (Some (anchor_of home w)) (home y)) y) (ne_eqb y w other)
-]
+anchor_with-other x w y home ne = ap (λ b. unwrap_or (cond b (Some (anchor_of home w)) (cond (eqb y w) (Some (anchor_of home w)) (home y)))
+    y) (ne_eqb y x ne) ∙ elim (cases_eq y w) [
+      | inl e ↦ ap (λ b. unwrap_or (cond b (Some (anchor_of home w)) (home y)) y) (eq-eqb y w e) ∙ ap (anchor_of home) (sym e)
+      | inr other ↦ ap (λ b. unwrap_or (cond b (Some (anchor_of home w)) (home y)) y) (ne_eqb y w other)
+    ]
 
 -- a vertex in no chain is its own anchor
 unwrap-none : (o : Option ℕ) (y : ℕ) → is_some o ≡ false → unwrap_or o y ≡ y
@@ -209,7 +241,8 @@ place_of-push y w (v ∷ vs) m = elim (cases_eq y v) [
 ]
 
 -- with an anchor more in the line
-near-open : (place now : ℕ → ℕ) (n : ℕ) (line : List ℕ) (home : ℕ → Option ℕ) (w : ℕ) → ((y : ℕ) → is_some (home y) ≡ member y line) → Chained place now n line home
+near-open : (place now : ℕ → ℕ) (n : ℕ) (line : List ℕ) (home : ℕ → Option ℕ) (w : ℕ) → ((y : ℕ) → is_some (home y) ≡ member y line)
+    → Chained place now n line home
     → (y z : ℕ) → y < n → z < n → member y (with_anchor w line) ≡ true → member z (with_anchor w line) ≡ true → anchor_of home y ≡ anchor_of home z
     → ltb (now y) (now z) ≡ ltb (place_of y (with_anchor w line)) (place_of z (with_anchor w line))
 near-open place now n line home w held h y z ly lz my mz e =
@@ -227,17 +260,22 @@ near-open place now n line home w held h y z ly lz my mz e =
               | inl kz ↦ absurd (true≢false (sym (h.anchor_held z kz) ∙ (ap (λ k. member k line) (sym e ∙ (ap (anchor_of home) y-w ∙ alone)) ∙ out)))
               | inr z-w ↦
                   let same : z ≡ y = z-w ∙ sym y-w in
-                  le-ltb (now y) (now z) (omega (arith, ap now same)) ∙ sym (le-ltb (place_of y (line ++ w ∷ [])) (place_of z (line ++ w ∷ [])) (omega (arith, ap (λ k. place_of k (line ++ w ∷ [])) same)))
+                  le-ltb (now y) (now z) (omega (arith, ap now same))
+                  ∙ sym
+                  (le-ltb (place_of y (line ++ w ∷ [])) (place_of z (line ++ w ∷ []))
+                  (omega (arith, ap (λ k. place_of k (line ++ w ∷ [])) same)))
             ]
           ]
     ] refl my mz
 
 -- the anchor of the one behind which `x` comes stands in the line
-anchor-in : (place now : ℕ → ℕ) (n : ℕ) (line : List ℕ) (home : ℕ → Option ℕ) (x w : ℕ) → ((y : ℕ) → is_some (home y) ≡ member y line) → Chained place now n line home → member (anchor_of home w) (line_with x w line) ≡ true
-anchor-in place now n line home x w held h = line_with-has x w line (anchor_of home w) ∙ or_left (member (anchor_of home w) line || eqb (anchor_of home w) w) _ (elim (cases_Bool (member w line)) [
-  | inl m ↦ or_left (member (anchor_of home w) line) _ (h.anchor_held w m)
-  | inr out ↦ or_right (member (anchor_of home w) line) _ (eq-eqb (anchor_of home w) w (anchor-alone line home w held out))
-])
+anchor-in : (place now : ℕ → ℕ) (n : ℕ) (line : List ℕ) (home : ℕ → Option ℕ) (x w : ℕ) → ((y : ℕ) → is_some (home y) ≡ member y line)
+    → Chained place now n line home → member (anchor_of home w) (line_with x w line) ≡ true
+anchor-in place now n line home x w held h = line_with-has x w line (anchor_of home w)
+    ∙ or_left (member (anchor_of home w) line || eqb (anchor_of home w) w) _ (elim (cases_Bool (member w line)) [
+      | inl m ↦ or_left (member (anchor_of home w) line) _ (h.anchor_held w m)
+      | inr out ↦ or_right (member (anchor_of home w) line) _ (eq-eqb (anchor_of home w) w (anchor-alone line home w held out))
+    ])
 
 itself_last : (p : ℕ) → ltb p p ≡ false
 itself_last p = le-ltb p p (omega arith)
@@ -262,7 +300,11 @@ far-more place now n line home x w lw h y z ly lz ne = elim (cases_eq y x) [
             let az = anchor_with-itself x w z home z-x in
             let apart : now w ≢ now y = λ e. ne (ay ∙ (ap (anchor_of home) (sym (h.apart w y lw ly e)) ∙ sym az)) in
             ap₂ ltb (moved-other now x w y ny) (moved-itself now x w z z-x)
-            ∙ (doubled_behind (now w) (now y) ∙ (opposite (now w) (now y) apart ∙ (h.far y w ly lw (λ e. ne (ay ∙ (e ∙ sym az))) ∙ ap₂ ltb (ap place (sym ay)) (ap place (sym az)))))
+            ∙
+            (doubled_behind (now w) (now y)
+            ∙
+            (opposite (now w) (now y) apart
+            ∙ (h.far y w ly lw (λ e. ne (ay ∙ (e ∙ sym az))) ∙ ap₂ ltb (ap place (sym ay)) (ap place (sym az)))))
         | inr nz ↦
             let az = anchor_with-other x w z home nz in
             ap₂ ltb (moved-other now x w y ny) (moved-other now x w z nz)
@@ -276,20 +318,25 @@ still-in x w line y ne m = elim (or_cases (member y (with_anchor w line)) (eqb y
   | inr e ↦ absurd (ne (eqb-true y x e))
 ]
 
-near-more : (place now : ℕ → ℕ) (n : ℕ) (line : List ℕ) (home : ℕ → Option ℕ) (x w : ℕ) → w < n → ((y : ℕ) → is_some (home y) ≡ member y line) → member x (with_anchor w line) ≡ false → Chained place now n line home
-    → (y z : ℕ) → y < n → z < n → member y (line_with x w line) ≡ true → member z (line_with x w line) ≡ true → anchor_of (home_with x w home) y ≡ anchor_of (home_with x w home) z
+near-more : (place now : ℕ → ℕ) (n : ℕ) (line : List ℕ) (home : ℕ → Option ℕ) (x w : ℕ) → w < n
+    → ((y : ℕ) → is_some (home y) ≡ member y line) → member x (with_anchor w line) ≡ false → Chained place now n line home
+    → (y z : ℕ) → y < n → z < n → member y (line_with x w line) ≡ true → member z (line_with x w line) ≡ true
+    → anchor_of (home_with x w home) y ≡ anchor_of (home_with x w home) z
     → ltb (moved now x w y) (moved now x w z) ≡ ltb (place_of y (line_with x w line)) (place_of z (line_with x w line))
 near-more place now n line home x w lw held out h y z ly lz my mz e =
     let opened : List ℕ = with_anchor w line in
     let there : member w opened ≡ true = anchor_itself w line in
-    let put : (v : ℕ) → v ≢ x → place_of v (line_with x w line) ≡ place_of v opened + one_if (ltb (place_of w opened) (place_of v opened)) = λ v ne. place_of-put x w v opened out there ne in
-    let itself : (v : ℕ) → v ≡ x → place_of v (line_with x w line) ≡ place_of w opened + 1 = λ v v-x. ap (λ k. place_of k (line_with x w line)) v-x ∙ place_of-itself x w opened out there in
+    let put : (v : ℕ) → v ≢ x → place_of v (line_with x w line) ≡ place_of v opened + one_if (ltb (place_of w opened) (place_of v opened)) =
+    λ v ne. place_of-put x w v opened out there ne in
+    let itself : (v : ℕ) → v ≡ x → place_of v (line_with x w line) ≡ place_of w opened + 1 =
+    λ v v-x. ap (λ k. place_of k (line_with x w line)) v-x ∙ place_of-itself x w opened out there in
     elim (cases_eq y x) [
       | inl y-x ↦
           let ay = anchor_with-itself x w y home y-x in
           elim (cases_eq z x) [
             | inl z-x ↦
-                ap₂ ltb (moved-itself now x w y y-x) (moved-itself now x w z z-x) ∙ (itself_last (now w + now w + 1) ∙ sym (ap₂ ltb (itself y y-x) (itself z z-x) ∙ itself_last (place_of w opened + 1)))
+                ap₂ ltb (moved-itself now x w y y-x) (moved-itself now x w z z-x)
+                ∙ (itself_last (now w + now w + 1) ∙ sym (ap₂ ltb (itself y y-x) (itself z z-x) ∙ itself_last (place_of w opened + 1)))
             | inr nz ↦
                 let az = anchor_with-other x w z home nz in
                 ap₂ ltb (moved-itself now x w y y-x) (moved-other now x w z nz)
@@ -302,7 +349,8 @@ near-more place now n line home x w lw held out h y z ly lz my mz e =
             | inl z-x ↦
                 let az = anchor_with-itself x w z home z-x in
                 ap₂ ltb (moved-other now x w y ny) (moved-itself now x w z z-x)
-                ∙ (doubled_behind (now w) (now y) ∙ (ap not (near-open place now n line home w held h w y lw ly there (still-in x w line y ny my) (sym az ∙ (sym e ∙ ay)))
+                ∙ (doubled_behind (now w) (now y)
+                ∙ (ap not (near-open place now n line home w held h w y lw ly there (still-in x w line y ny my) (sym az ∙ (sym e ∙ ay)))
                 ∙ sym (ap₂ ltb (put y ny) (itself z z-x) ∙ put_behind (place_of w opened) (place_of y opened))))
             | inr nz ↦
                 let az = anchor_with-other x w z home nz in
@@ -314,7 +362,8 @@ near-more place now n line home x w lw held out h y z ly lz my mz e =
     ]
 
 -- one shift more
-pub chained_more : (place now : ℕ → ℕ) (n : ℕ) (line : List ℕ) (home : ℕ → Option ℕ) (shift : ℕ × ℕ) (shifts : List (ℕ × ℕ)) → shift.1 < n → Linked line home (shift ∷ shifts) → Chained place now n line home
+pub chained_more : (place now : ℕ → ℕ) (n : ℕ) (line : List ℕ) (home : ℕ → Option ℕ) (shift : ℕ × ℕ) (shifts : List (ℕ × ℕ)) → shift.1 < n
+    → Linked line home (shift ∷ shifts) → Chained place now n line home
     → Chained place (moved now shift.0 shift.1) n (line_with shift.0 shift.1 line) (home_with shift.0 shift.1 home)
 chained_more place now n line home shift shifts lw linked h =
     let x : ℕ = shift.0 in
@@ -327,10 +376,11 @@ chained_more place now n line home shift shifts lw linked h =
       ];
       anchor_held = λ y m. elim (cases_eq y x) [
         | inl e ↦ ap (λ k. member k (line_with x w line)) (anchor_with-itself x w y home e) ∙ anchor-in place now n line home x w linked.held h
-        | inr ne ↦ ap (λ k. member k (line_with x w line)) (anchor_with-other x w y home ne) ∙ elim (or_cases (member y line) (eqb y w) (sym (with_anchor-has w line y) ∙ still-in x w line y ne m)) [
-          | inl k ↦ line_with-has x w line (anchor_of home y) ∙ or_left _ _ (or_left _ _ (h.anchor_held y k))
-          | inr e ↦ ap (λ k. member (anchor_of home k) (line_with x w line)) (eqb-true y w e) ∙ anchor-in place now n line home x w linked.held h
-        ]
+        | inr ne ↦ ap (λ k. member k (line_with x w line)) (anchor_with-other x w y home ne)
+            ∙ elim (or_cases (member y line) (eqb y w) (sym (with_anchor-has w line y) ∙ still-in x w line y ne m)) [
+              | inl k ↦ line_with-has x w line (anchor_of home y) ∙ or_left _ _ (or_left _ _ (h.anchor_held y k))
+              | inr e ↦ ap (λ k. member (anchor_of home k) (line_with x w line)) (eqb-true y w e) ∙ anchor-in place now n line home x w linked.held h
+            ]
       ];
       apart = λ y z ly lz e. elim (cases_eq y x) [
         | inl y-x ↦ elim (cases_eq z x) [
@@ -346,18 +396,24 @@ chained_more place now n line home shift shifts lw linked h =
       near = near-more place now n line home x w lw linked.held a.2 h;
     }
 
-pub linked_all : (shifts : List (ℕ × ℕ)) (line : List ℕ) (home : ℕ → Option ℕ) → Linked line home shifts → Linked (line_after line shifts) (home_after home shifts) []
+pub linked_all : (shifts : List (ℕ × ℕ)) (line : List ℕ) (home : ℕ → Option ℕ) → Linked line home shifts
+    → Linked (line_after line shifts) (home_after home shifts) []
 linked_all [] line home h = h
-linked_all (shift ∷ shifts) line home h = linked_all shifts (line_with shift.0 shift.1 line) (home_with shift.0 shift.1 home) (linked_more line home shift shifts h)
+linked_all (shift ∷ shifts) line home h =
+    linked_all shifts (line_with shift.0 shift.1 line) (home_with shift.0 shift.1 home) (linked_more line home shift shifts h)
 
-pub chained_all : (shifts : List (ℕ × ℕ)) (place now : ℕ → ℕ) (n : ℕ) (line : List ℕ) (home : ℕ → Option ℕ) → ((w : ℕ) → member w (seconds shifts) ≡ true → w < n) → Linked line home shifts → Chained place now n line home
+pub chained_all : (shifts : List (ℕ × ℕ)) (place now : ℕ → ℕ) (n : ℕ) (line : List ℕ) (home : ℕ → Option ℕ)
+    → ((w : ℕ) → member w (seconds shifts) ≡ true → w < n) → Linked line home shifts → Chained place now n line home
     → Chained place (place_after now shifts) n (line_after line shifts) (home_after home shifts)
 chained_all [] place now n line home within linked h = h
 chained_all (shift ∷ shifts) place now n line home within linked h =
-    chained_all shifts place (moved now shift.0 shift.1) n (line_with shift.0 shift.1 line) (home_with shift.0 shift.1 home) (λ w m. within w (member-tail w shift.1 (seconds shifts) m))
-    (linked_more line home shift shifts linked) (chained_more place now n line home shift shifts (within shift.1 (member-head shift.1 (seconds shifts))) linked h)
+    chained_all shifts place (moved now shift.0 shift.1) n (line_with shift.0 shift.1 line) (home_with shift.0 shift.1 home)
+    (λ w m. within w (member-tail w shift.1 (seconds shifts) m))
+    (linked_more line home shift shifts linked)
+    (chained_more place now n line home shift shifts (within shift.1 (member-head shift.1 (seconds shifts))) linked h)
 
-both_in : (place now : ℕ → ℕ) (n : ℕ) (line : List ℕ) (home : ℕ → Option ℕ) → ((y : ℕ) → is_some (home y) ≡ member y line) → Chained place now n line home → (y z : ℕ) → y ≢ z → anchor_of home y ≡ anchor_of home z → member y line ≡ true
+both_in : (place now : ℕ → ℕ) (n : ℕ) (line : List ℕ) (home : ℕ → Option ℕ) → ((y : ℕ) → is_some (home y) ≡ member y line)
+    → Chained place now n line home → (y z : ℕ) → y ≢ z → anchor_of home y ≡ anchor_of home z → member y line ≡ true
 both_in place now n line home held h y z ne e = true_from_ne_false (member y line) (λ out.
     let alone : anchor_of home y ≡ y = anchor-alone line home y held out in
     elim (cases_Bool (member z line)) [
@@ -369,16 +425,25 @@ place_in-is : (xs : List ℕ) (x : ℕ) → member x xs ≡ true → unwrap_or (
 place_in-is xs x m = ap (λ b. unwrap_or (cond b (Some (place_of x xs)) None) 0) m
 
 -- the comparison by chains
-pub chain_after-is : (place now : ℕ → ℕ) (n : ℕ) (line : List ℕ) (home : ℕ → Option ℕ) → ((y : ℕ) → is_some (home y) ≡ member y line) → Chained place now n line home → (y z : ℕ) → y < n → z < n → y ≢ z
+pub chain_after-is : (place now : ℕ → ℕ) (n : ℕ) (line : List ℕ) (home : ℕ → Option ℕ) → ((y : ℕ) → is_some (home y) ≡ member y line)
+    → Chained place now n line home → (y z : ℕ) → y < n → z < n → y ≢ z
     → chain_after place home (place_in line) y z ≡ ltb (now y) (now z)
 chain_after-is place now n line home held h y z ly lz ne = elim (cases_eq (anchor_of home y) (anchor_of home z)) [
   | inl e ↦
       let my : member y line ≡ true = both_in place now n line home held h y z ne e in
       let mz : member z line ≡ true = both_in place now n line home held h z y (λ k. ne (sym k)) (sym e) in
-      ap (λ b. cond b (ltb (unwrap_or (place_in line y) 0) (unwrap_or (place_in line z) 0)) (ltb (place (anchor_of home y)) (place (anchor_of home z)))) (eq-eqb (anchor_of home y) (anchor_of home z) e)
+      ap
+      (λ b.
+      cond b (ltb (unwrap_or (place_in line y) 0) (unwrap_or (place_in line z) 0))
+      (ltb (place (anchor_of home y)) (place (anchor_of home z))))
+      (eq-eqb (anchor_of home y) (anchor_of home z) e)
       ∙ (ap₂ ltb (place_in-is line y my) (place_in-is line z mz) ∙ sym (h.near y z ly lz my mz e))
   | inr other ↦
-      ap (λ b. cond b (ltb (unwrap_or (place_in line y) 0) (unwrap_or (place_in line z) 0)) (ltb (place (anchor_of home y)) (place (anchor_of home z)))) (ne_eqb (anchor_of home y) (anchor_of home z) other)
+      ap
+      (λ b.
+      cond b (ltb (unwrap_or (place_in line y) 0) (unwrap_or (place_in line z) 0))
+      (ltb (place (anchor_of home y)) (place (anchor_of home z))))
+      (ne_eqb (anchor_of home y) (anchor_of home z) other)
       ∙ sym (h.far y z ly lz other)
 ]
 
@@ -392,15 +457,18 @@ inserted-behind x w (suc k) (v ∷ vs) d l e =
     ap (λ j. insert (v ∷ vs) j x) next ∙ (ap (λ rest. v ∷ rest) (inserted-behind x w k vs d.1 (omega arith) e) ∙ sym (right_after-next x w v vs ne))
 
 -- the line and the anchors after the first shifts, and one more
-pub linked_next : (shifts : List (ℕ × ℕ)) (i : ℕ) (line line' : List ℕ) (home home' : ℕ → Option ℕ) → i < length shifts → let p : ℕ × ℕ = get_or shifts i (0, 0) in
+pub linked_next : (shifts : List (ℕ × ℕ)) (i : ℕ) (line line' : List ℕ) (home home' : ℕ → Option ℕ) → i < length shifts → let p : ℕ × ℕ =
+    get_or shifts i (0, 0) in
     Linked line home (drop i shifts) → line' ≡ line_with p.0 p.1 line → ((y : ℕ) → home' y ≡ home_with p.0 p.1 home y)
-    → Linked line' home' (drop (i + 1) shifts) × (line_after line' (drop (i + 1) shifts) ≡ line_after line (drop i shifts)) × (home_after home' (drop (i + 1) shifts) ≡ home_after home (drop i shifts))
+    → Linked line' home' (drop (i + 1) shifts) × (line_after line' (drop (i + 1) shifts) ≡ line_after line (drop i shifts))
+    × (home_after home' (drop (i + 1) shifts) ≡ home_after home (drop i shifts))
 linked_next shifts i line line' home home' l h e f =
     let p : ℕ × ℕ = get_or shifts i (0, 0) in
     let rest : List (ℕ × ℕ) = drop (i + 1) shifts in
     let next : drop i shifts ≡ p ∷ rest = drop_more shifts i (0, 0) l in
     let g : home' ≡ home_with p.0 p.1 home = fun_ext f in
-    let more : Linked (line_with p.0 p.1 line) (home_with p.0 p.1 home) rest = linked_more line home p rest (subst (λ (t : List (ℕ × ℕ)). Linked line home t) next h) in
+    let more : Linked (line_with p.0 p.1 line) (home_with p.0 p.1 home) rest =
+    linked_more line home p rest (subst (λ (t : List (ℕ × ℕ)). Linked line home t) next h) in
     let at : Linked line' (home_with p.0 p.1 home) rest = subst (λ (t : List ℕ). Linked t (home_with p.0 p.1 home) rest) (sym e) more in (
       subst (λ (t : ℕ → Option ℕ). Linked line' t rest) (sym g) at,
       ap (λ (t : List ℕ). line_after t rest) e ∙ ap (line_after line) (sym next),

@@ -1,12 +1,14 @@
 -- Marks for the numbers that were seen.
-use Rattle.std.proofs.Common.{◌≡◌, ◌≤◌, ◌<◌, ◌+◌, ℕ, suc, zero, Bool, true, false, ◌||◌, List, [], ◌∷◌, ◌++◌, length, get_or, set, take, replicate, eqb, refl, sym, ◌∙◌, ap, subst, inl, inr, arith, length-set, true≢false, eq-eqb, ne_eqb}
+use Rattle.std.proofs.Common.{◌≡◌, ◌≤◌, ◌<◌, ◌+◌, ℕ, suc, zero, Bool, true, false, ◌||◌, List, [], ◌∷◌, ◌++◌, length, get_or, set, take, replicate}
+use Rattle.std.proofs.Common.{eqb, refl, sym, ◌∙◌, ap, subst, inl, inr, arith, length-set, true≢false, eq-eqb, ne_eqb}
 use Rattle.std.proofs.lemmas.Bool.{cases_eq, false≢true, or_right, true_from_ne_false}
 use Rattle.std.proofs.lemmas.List.{take_more, get_or-set_same, get_or-set_other, get_or-replicate, length-replicate}
 use Rattle.std.proofs.Math.Bool.{or-false}
 use Rattle.std.proofs.Math.Seq.{take-length}
 use Rattle.kc_distinct.specs.Lists.{member, Distinct}
 use Rattle.kc_distinct.proofs.Members.{member-cases, below_bound}
-use Rattle.kc_distinct.proofs.Counting.{member-get_or, member-push, member-push_cases, Distinct-push, Contains-from_member, Distinct-from_pairs, pairs_from_Distinct, take-not_here}
+use Rattle.kc_distinct.proofs.Counting.{member-get_or, member-push, member-push_cases, Distinct-push, Contains-from_member, Distinct-from_pairs}
+use Rattle.kc_distinct.proofs.Counting.{pairs_from_Distinct, take-not_here}
 use Rattle.kc_graph.specs.Certificate.{Enumerates}
 
 -- a number below `n` is marked just where it is one of the first `i` of the order
@@ -17,15 +19,21 @@ pub record MarkedTo (n i : ℕ) (order : List ℕ) (marks : List Bool) : Type 0 
 pub marked_none : (n : ℕ) (order : List ℕ) → MarkedTo n 0 order (replicate n false)
 marked_none n order = record { one_each = length-replicate n false; exact = λ v l. get_or-replicate n v false false l }
 
-pub marked_more : (n i : ℕ) (order : List ℕ) (marks : List Bool) → MarkedTo n i order marks → i < length order → get_or order i 0 < n → MarkedTo n (i + 1) order (set marks (get_or order i 0) true)
+pub marked_more : (n i : ℕ) (order : List ℕ) (marks : List Bool) → MarkedTo n i order marks → i < length order → get_or order i 0 < n
+    → MarkedTo n (i + 1) order (set marks (get_or order i 0) true)
 marked_more n i order marks h l lv =
     let w : ℕ = get_or order i 0 in
-    let next : (v : ℕ) → member v (take (i + 1) order) ≡ (member v (take i order) || eqb v w) = λ v. ap (member v) (take_more order i 0 l) ∙ member-push v w (take i order) in
+    let next : (v : ℕ) → member v (take (i + 1) order) ≡ (member v (take i order) || eqb v w) =
+    λ v. ap (member v) (take_more order i 0 l) ∙ member-push v w (take i order) in
     record {
       one_each = length-set marks w true ∙ h.one_each;
       exact = λ v lv'. elim (cases_eq v w) [
-        | inl e ↦ ap (λ k. get_or (set marks w true) k false) e ∙ get_or-set_same marks w true false (omega (arith, h.one_each)) ∙ sym (next v ∙ or_right (member v (take i order)) (eqb v w) (eq-eqb v w e))
-        | inr ne ↦ get_or-set_other marks w v true false ne ∙ h.exact v lv' ∙ sym (next v ∙ ap (λ b. member v (take i order) || b) (ne_eqb v w ne) ∙ or-false (member v (take i order)))
+        | inl e ↦
+            ap (λ k. get_or (set marks w true) k false) e ∙ get_or-set_same marks w true false (omega (arith, h.one_each))
+            ∙ sym (next v ∙ or_right (member v (take i order)) (eqb v w) (eq-eqb v w e))
+        | inr ne ↦
+            get_or-set_other marks w v true false ne ∙ h.exact v lv'
+            ∙ sym (next v ∙ ap (λ b. member v (take i order) || b) (ne_eqb v w ne) ∙ or-false (member v (take i order)))
       ];
     }
 
@@ -38,7 +46,8 @@ pub record SeenTo (n i : ℕ) (order : List ℕ) (seen : List Bool) : Type 0 whe
 pub seen_none : (n : ℕ) (order : List ℕ) → SeenTo n 0 order (replicate n false)
 seen_none n order = record { marked = marked_none n order; distinct = tt; within = λ v m. absurd (false≢true m) }
 
-pub seen_more : (n i : ℕ) (order : List ℕ) (seen : List Bool) → SeenTo n i order seen → i < length order → get_or order i 0 < n → get_or seen (get_or order i 0) false ≡ false
+pub seen_more : (n i : ℕ) (order : List ℕ) (seen : List Bool) → SeenTo n i order seen → i < length order → get_or order i 0 < n
+    → get_or seen (get_or order i 0) false ≡ false
     → SeenTo n (i + 1) order (set seen (get_or order i 0) true)
 seen_more n i order seen h l lw new' =
     let w : ℕ = get_or order i 0 in
@@ -59,12 +68,14 @@ seen_all n order seen h full =
       below = λ k d' l. within (get_or order k d') (member-get_or order k d' l);
       distinct = pairs_from_Distinct order d;
       complete = λ v l. Contains-from_member order v (true_from_ne_false (member v order) (λ out.
-          let more : length (v ∷ order) ≤ n = below_bound n (v ∷ order) (out, d) (λ u m. elim (member-cases u v order m) [ inl e ↦ omega arith | inr k ↦ within u k ]) in
+          let more : length (v ∷ order) ≤ n =
+          below_bound n (v ∷ order) (out, d) (λ u m. elim (member-cases u v order m) [ inl e ↦ omega arith | inr k ↦ within u k ]) in
           absurd (omega arith)));
     }
 
 -- a number that was seen before
-pub seen_twice : (n i : ℕ) (order : List ℕ) (seen : List Bool) → SeenTo n i order seen → i < length order → get_or order i 0 < n → get_or seen (get_or order i 0) false ≡ true → Enumerates n order → ⊥
+pub seen_twice : (n i : ℕ) (order : List ℕ) (seen : List Bool) → SeenTo n i order seen → i < length order → get_or order i 0 < n
+    → get_or seen (get_or order i 0) false ≡ true → Enumerates n order → ⊥
 seen_twice n i order seen h l lw again e =
     true≢false (sym (sym (h.marked.exact (get_or order i 0) lw) ∙ again) ∙ take-not_here i order l (Distinct-from_pairs order e.distinct))
 

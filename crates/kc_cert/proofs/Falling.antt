@@ -22,7 +22,8 @@ risen_none core order = record {
   first = λ _. omega arith;
 }
 
-pub risen_more : (core order : List ℕ) (i last : ℕ) → RisenTo core order i last → last ≤ number_at core order i → RisenTo core order (i + 1) (number_at core order i)
+pub risen_more : (core order : List ℕ) (i last : ℕ) → RisenTo core order i last → last ≤ number_at core order i
+    → RisenTo core order (i + 1) (number_at core order i)
 risen_more core order i last h up = record {
   pairs = λ j k lt l. elim (cases_eq k i) [
     | inl e ↦ omega (arith, h.bounded j (omega arith), ap (number_at core order) e)

@@ -1,5 +1,6 @@
 -- The order after moves: the low vertices, those that moved, the others.
-use Rattle.std.proofs.Common.{◌≡◌, ◌<◌, ℕ, Bool, true, false, cond, not, ◌&&◌, ◌||◌, List, [], ◌∷◌, ◌++◌, eqb, ltb, sym, ◌∙◌, ap, inl, inr, arith, true≢false, lt_irrefl}
+use Rattle.std.proofs.Common.{◌≡◌, ◌<◌, ℕ, Bool, true, false, cond, not, ◌&&◌, ◌||◌, List, [], ◌∷◌, ◌++◌, eqb, ltb, sym, ◌∙◌, ap, inl, inr, arith}
+use Rattle.std.proofs.Common.{true≢false, lt_irrefl}
 use Rattle.std.specs.List.{filter}
 use Rattle.std.proofs.lemmas.Bool.{cases_Bool, and_parts, and_from, or_cases, false_from_ne_true, not-true}
 use Rattle.std.proofs.lemmas.List.Folds.{list_any-append}
@@ -62,13 +63,17 @@ final-orders is_low cands inside place order up a =
     let in_high : (y : ℕ) → member y (filter high order) ≡ true → at y ≡ 2 = λ y m.
     let k = and_parts (not (is_low y)) (not (member y cands)) (member-filter high y order m).1 in part-high (member y cands) (is_low y) k.0 k.1 in
     let in_rise : (y : ℕ) → member y cands ≡ true → at y ≡ 1 = λ y m. ap (λ b. cond b 1 (cond (is_low y) 0 2)) m in
-    let no_low : (y : ℕ) → member y (filter low order) ≡ true → member y cands ≡ false = λ y m. not-true _ (and_parts (is_low y) (not (member y cands)) (member-filter low y order m).1).1 in
-    let no_high : (y : ℕ) → member y (filter high order) ≡ true → member y cands ≡ false = λ y m. not-true _ (and_parts (not (is_low y)) (not (member y cands)) (member-filter high y order m).1).1 in
-    let by_place : (y z : ℕ) → at y ≡ at z → member y cands ≡ false → member z cands ≡ false → place y < place z → (lt y z ≡ true) × (lt z y ≡ false) = λ y z e ny nz l. (
+    let no_low : (y : ℕ) → member y (filter low order) ≡ true → member y cands ≡ false =
+    λ y m. not-true _ (and_parts (is_low y) (not (member y cands)) (member-filter low y order m).1).1 in
+    let no_high : (y : ℕ) → member y (filter high order) ≡ true → member y cands ≡ false =
+    λ y m. not-true _ (and_parts (not (is_low y)) (not (member y cands)) (member-filter high y order m).1).1 in
+    let by_place : (y z : ℕ) → at y ≡ at z → member y cands ≡ false → member z cands ≡ false → place y < place z
+    → (lt y z ≡ true) × (lt z y ≡ false) = λ y z e ny nz l. (
       same_part (at y) (at z) (member y cands) (ltb (inside y) (inside z)) (place y) (place z) e ny l,
       same_part_back (at y) (at z) (member z cands) (ltb (inside z) (inside y)) (place y) (place z) e nz l,
     ) in
-    let by_rank : (y z : ℕ) → at y ≡ at z → member y cands ≡ true → member z cands ≡ true → inside y < inside z → (lt y z ≡ true) × (lt z y ≡ false) = λ y z e ny nz l. (
+    let by_rank : (y z : ℕ) → at y ≡ at z → member y cands ≡ true → member z cands ≡ true → inside y < inside z
+    → (lt y z ≡ true) × (lt z y ≡ false) = λ y z e ny nz l. (
       rise_part (at y) (at z) (member y cands) (ltb (place y) (place z)) (inside y) (inside z) e ny l,
       rise_part_back (at y) (at z) (member z cands) (ltb (place z) (place y)) (inside y) (inside z) e nz l,
     ) in
@@ -77,8 +82,11 @@ final-orders is_low cands inside place order up a =
       other_part_back (at y) (at z) (cond (member z cands) (ltb (inside z) (inside y)) (ltb (place z) (place y))) l,
     ) in
     Orders-append lt (filter low order) (cands ++ filter high order)
-    (Orders-from_Ascends lt place (filter low order) (λ y z my mz l. by_place y z (in_low y my ∙ sym (in_low z mz)) (no_low y my) (no_low z mz) l) (Ascends-filter place low order a))
-    (Orders-append lt cands (filter high order) (Orders-from_Ascends lt inside cands (λ y z my mz l. by_rank y z (in_rise y my ∙ sym (in_rise z mz)) my mz l) up) (Orders-from_Ascends lt place (filter high order) (λ y z my mz l. by_place y z (in_high y my ∙ sym (in_high z mz)) (no_high y my) (no_high z mz) l) (Ascends-filter place high order a))
+    (Orders-from_Ascends lt place (filter low order)
+    (λ y z my mz l. by_place y z (in_low y my ∙ sym (in_low z mz)) (no_low y my) (no_low z mz) l) (Ascends-filter place low order a))
+    (Orders-append lt cands (filter high order) (Orders-from_Ascends lt inside cands (λ y z my mz l. by_rank y z (in_rise y my
+    ∙ sym (in_rise z mz)) my mz l) up) (Orders-from_Ascends lt place (filter high order) (λ y z my mz l. by_place y z (in_high y my
+    ∙ sym (in_high z mz)) (no_high y my) (no_high z mz) l) (Ascends-filter place high order a))
     (λ y z my mz. by_part y z (omega (arith, in_rise y my, in_high z mz))))
     (λ y z my mz. by_part y z (elim (or_cases (member z cands) (member z (filter high order)) (sym (list_any-append (eqb z) cands (filter high order)) ∙ mz)) [
       | inl k ↦ omega (arith, in_low y my, in_rise z k)
@@ -86,12 +94,15 @@ final-orders is_low cands inside place order up a =
     ]))
 
 -- the same vertices
-pub final-has : (is_low : ℕ → Bool) (cands : List ℕ) (order : List ℕ) → ((x : ℕ) → member x cands ≡ true → member x order ≡ true) → (z : ℕ) → member z (put_between is_low cands order) ≡ member z order
+pub final-has : (is_low : ℕ → Bool) (cands : List ℕ) (order : List ℕ) → ((x : ℕ) → member x cands ≡ true → member x order ≡ true) → (z : ℕ)
+    → member z (put_between is_low cands order) ≡ member z order
 final-has is_low cands order sub z =
     let low : ℕ → Bool = λ y. is_low y && not (member y cands) in
     let high : ℕ → Bool = λ y. not (is_low y) && not (member y cands) in
-    list_any-append (eqb z) (filter low order) (cands ++ filter high order) ∙ (ap (λ b. member z (filter low order) || b) (list_any-append (eqb z) cands (filter high order)) ∙
-    three (member z order) (member z cands) (is_low z) (member z (filter low order)) (member z (filter high order)) (sub z) (filter-has low z order) (filter-has high z order))
+    list_any-append (eqb z) (filter low order) (cands ++ filter high order)
+    ∙ (ap (λ b. member z (filter low order) || b) (list_any-append (eqb z) cands (filter high order)) ∙
+    three (member z order) (member z cands) (is_low z) (member z (filter low order)) (member z (filter high order)) (sub z)
+    (filter-has low z order) (filter-has high z order))
 
 -- no vertex stands after itself
 pub after-itself : (is_low : ℕ → Bool) (cands : List ℕ) (inside place : ℕ → ℕ) (z : ℕ) → then_after is_low cands inside place z z ≡ false

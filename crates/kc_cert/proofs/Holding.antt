@@ -1,5 +1,6 @@
 -- What the certificate asks at a vertex of the state after a plan, by counts over all vertices.
-use Rattle.std.proofs.Common.{◌≡◌, ◌≤◌, ◌<◌, ◌+◌, ℕ, Bool, true, false, ◌&&◌, ◌||◌, List, [], ◌∷◌, drop, length, get_or, set, eqb, leb, refl, sym, ◌∙◌, ap, inl, inr, arith, true≢false, eq-eqb, ne_eqb, length-set}
+use Rattle.std.proofs.Common.{◌≡◌, ◌≤◌, ◌<◌, ◌+◌, ℕ, Bool, true, false, ◌&&◌, ◌||◌, List, [], ◌∷◌, drop, length, get_or, set, eqb, leb, refl, sym}
+use Rattle.std.proofs.Common.{◌∙◌, ap, inl, inr, arith, true≢false, eq-eqb, ne_eqb, length-set}
 use Rattle.std.specs.Prelude.{count_by}
 use Rattle.std.proofs.lemmas.Bool.{cases_Bool, cases_eq, or_parts}
 use Rattle.std.proofs.lemmas.List.{get_or-set_same, get_or-set_other}
@@ -35,7 +36,8 @@ renumbered-moved (v ∷ moved) k core y l m = elim (cases_Bool (member y moved))
 ]
 
 -- an order by a test, and counts over all vertices
-pub holds-from : (g : SimpleGraph) (core order : List ℕ) (lt : ℕ → ℕ → Bool) → ((y : ℕ) → lt y y ≡ false) → Orders lt order → ((y : ℕ) → member y order ≡ member y (below g.size)) → (z : ℕ) → z < g.size
+pub holds-from : (g : SimpleGraph) (core order : List ℕ) (lt : ℕ → ℕ → Bool) → ((y : ℕ) → lt y y ≡ false) → Orders lt order
+    → ((y : ℕ) → member y order ≡ member y (below g.size)) → (z : ℕ) → z < g.size
     → count_by (λ y. adjacent g z y && lt z y) (below g.size) ≤ get_or core z 0
     → get_or core z 0 ≤ count_by (λ y. adjacent g z y && leb (get_or core z 0) (get_or core y 0)) (below g.size)
     → HoldsAt (record { graph = g; core = core; order = order }) z

@@ -1,5 +1,6 @@
 -- A state stays certified after a plan that passes the local test.
-use Rattle.std.proofs.Common.{◌≡◌, ◌≤◌, ◌<◌, ◌+◌, ℕ, Bool, true, false, cond, not, ◌&&◌, ◌||◌, List, [], ◌∷◌, drop, length, get_or, eqb, ltb, leb, refl, sym, ◌∙◌, ap, ap₂, subst, inl, inr, arith, true≢false, ne_eqb}
+use Rattle.std.proofs.Common.{◌≡◌, ◌≤◌, ◌<◌, ◌+◌, ℕ, Bool, true, false, cond, not, ◌&&◌, ◌||◌, List, [], ◌∷◌, drop, length, get_or, eqb, ltb, leb}
+use Rattle.std.proofs.Common.{refl, sym, ◌∙◌, ap, ap₂, subst, inl, inr, arith, true≢false, ne_eqb}
 use Rattle.std.specs.Prelude.{count_by}
 use Rattle.std.specs.List.{list_any}
 use Rattle.std.proofs.lemmas.Bool.{cases_Bool, or_parts, or_from}
@@ -31,20 +32,25 @@ ends_differ update e = let l : update.u < update.v = update.ordered in omega ari
 pub adjacent-updated : (update : Update) (g : SimpleGraph) (z y : ℕ)
     → adjacent (updated update g) z y ≡ cond update.add (adjacent g z y || joins update.u update.v z y) (adjacent g z y && not (joins update.u update.v z y))
 adjacent-updated update g z y =
-    elim update.add as (λ b. adjacent (cond b (with_edge g update.u update.v) (without_edge g update.u update.v)) z y ≡ cond b (adjacent g z y || joins update.u update.v z y) (adjacent g z y && not (joins update.u update.v z y))) [
+    elim update.add as (λ b. adjacent (cond b (with_edge g update.u update.v) (without_edge g update.u update.v)) z y ≡ cond b
+    (adjacent g z y || joins update.u update.v z y) (adjacent g z y && not (joins update.u update.v z y))) [
       | true ↦ adjacent-with g update.u update.v z y (ends_differ update)
       | false ↦ adjacent-without g update.u update.v z y (ends_differ update)
     ]
 
-same_either_way : (add a e u v : Bool) (j k : Bool) → u ≡ false → v ≡ false → e ≡ cond add (a || ((u && j) || (v && k))) (a && not ((u && j) || (v && k))) → e ≡ a
+same_either_way : (add a e u v : Bool) (j k : Bool) → u ≡ false → v ≡ false
+    → e ≡ cond add (a || ((u && j) || (v && k))) (a && not ((u && j) || (v && k))) → e ≡ a
 same_either_way add a e u v j k hu hv h = grind arith
 
 -- the neighbours of a vertex that is no end stay
-pub adjacent-elsewhere : (update : Update) (g : SimpleGraph) (z y : ℕ) → eqb z update.u ≡ false → eqb z update.v ≡ false → adjacent (updated update g) z y ≡ adjacent g z y
+pub adjacent-elsewhere : (update : Update) (g : SimpleGraph) (z y : ℕ) → eqb z update.u ≡ false → eqb z update.v ≡ false
+    → adjacent (updated update g) z y ≡ adjacent g z y
 adjacent-elsewhere update g z y a b =
-    same_either_way update.add (adjacent g z y) (adjacent (updated update g) z y) (eqb z update.u) (eqb z update.v) (eqb y update.v) (eqb y update.u) a b (adjacent-updated update g z y)
+    same_either_way update.add (adjacent g z y) (adjacent (updated update g) z y) (eqb z update.u) (eqb z update.v) (eqb y update.v)
+    (eqb y update.u) a b (adjacent-updated update g z y)
 
-pub adjacent-after : (update : Update) (moves : Moves) (g : SimpleGraph) (z y : ℕ) → eqb z update.u ≡ false → eqb z update.v ≡ false → adjacent (graph_after update moves g) z y ≡ adjacent g z y
+pub adjacent-after : (update : Update) (moves : Moves) (g : SimpleGraph) (z y : ℕ) → eqb z update.u ≡ false → eqb z update.v ≡ false
+    → adjacent (graph_after update moves g) z y ≡ adjacent g z y
 adjacent-after update Kept g z y a b = refl
 adjacent-after update Plain g z y a b = adjacent-elsewhere update g z y a b
 adjacent-after update (Rise level rise shifts) g z y a b = adjacent-elsewhere update g z y a b
@@ -52,7 +58,9 @@ adjacent-after update (Fall level fall) g z y a b = adjacent-elsewhere update g 
 
 pub size-updated : (update : Update) (g : SimpleGraph) → (updated update g).size ≡ g.size
 size-updated update g =
-    elim update.add as (λ b. (let h : SimpleGraph = cond b (with_edge g update.u update.v) (without_edge g update.u update.v) in h.size) ≡ g.size) [ true ↦ refl | false ↦ refl ]
+    elim update.add as
+    (λ b. (let h : SimpleGraph = cond b (with_edge g update.u update.v) (without_edge g update.u update.v) in h.size) ≡ g.size)
+    [ true ↦ refl | false ↦ refl ]
 
 pub size-after : (update : Update) (moves : Moves) (g : SimpleGraph) → (graph_after update moves g).size ≡ g.size
 size-after update Kept g = refl
@@ -78,7 +86,8 @@ both_same : (a a' x x' : Bool) → a' ≡ a → (a ≡ true → x' ≡ x) → (a
 both_same a a' x x' e same = grind arith
 
 -- what the certificate asks holds on at a vertex that the test does not look at
-holds_on : (s : Ranked) (plan : Plan) → IsCertified s → Arranged s (state_after plan s).core (state_after plan s).order (moved_vertices plan.moves) (stands_after plan.moves s)
+holds_on : (s : Ranked) (plan : Plan) → IsCertified s
+    → Arranged s (state_after plan s).core (state_after plan s).order (moved_vertices plan.moves) (stands_after plan.moves s)
     → (z : ℕ) → z < s.graph.size → is_looked_at plan (state_after plan s).graph z ≡ false → HoldsAt (state_after plan s) z
 holds_on s plan h a z l out =
     let n : ℕ = s.graph.size in
@@ -86,35 +95,57 @@ holds_on s plan h a z l out =
     let core : List ℕ = (state_after plan s).core in
     let lt : ℕ → ℕ → Bool = stands_after plan.moves s in
     let size : g.size ≡ n = size-after plan.update plan.moves s.graph in
-    let p = looked-parts (eqb z plan.update.u) (eqb z plan.update.v) (member z (moved_vertices plan.moves)) (list_any (adjacent g z) (moved_vertices plan.moves)) out in
+    let p =
+    looked-parts (eqb z plan.update.u) (eqb z plan.update.v) (member z (moved_vertices plan.moves))
+    (list_any (adjacent g z) (moved_vertices plan.moves)) out in
     let near : (y : ℕ) → adjacent g z y ≡ adjacent s.graph z y = λ y. adjacent-after plan.update plan.moves s.graph z y p.0 p.1 in
-    let still : (y : ℕ) → adjacent s.graph z y ≡ true → member y (moved_vertices plan.moves) ≡ false = λ y t. not_beside g z y (moved_vertices plan.moves) p.3 (near y ∙ t) in
+    let still : (y : ℕ) → adjacent s.graph z y ≡ true → member y (moved_vertices plan.moves) ≡ false =
+    λ y t. not_beside g z y (moved_vertices plan.moves) p.3 (near y ∙ t) in
     let number : get_or core z 0 ≡ get_or s.core z 0 = a.numbers_stay z p.2 in
-    let later : count_by (λ y. adjacent g z y && lt z y) (below n) ≡ count_by (λ y. adjacent s.graph z y && ltb (rank_in s.order z) (rank_in s.order y)) (below n) =
+    let later : count_by (λ y. adjacent g z y && lt z y) (below n)
+    ≡ count_by (λ y. adjacent s.graph z y && ltb (rank_in s.order z) (rank_in s.order y)) (below n) =
     count-agree (λ y. adjacent g z y && lt z y) (λ y. adjacent s.graph z y && ltb (rank_in s.order z) (rank_in s.order y)) (below n)
-    (λ y m. both_same (adjacent s.graph z y) (adjacent g z y) (ltb (rank_in s.order z) (rank_in s.order y)) (lt z y) (near y) (λ t. a.order_stays z y l (below-member y n m) p.2 (still y t))) in
-    let high : count_by (λ y. adjacent g z y && leb (get_or core z 0) (get_or core y 0)) (below n) ≡ count_by (λ y. adjacent s.graph z y && leb (get_or s.core z 0) (get_or s.core y 0)) (below n) =
-    count-agree (λ y. adjacent g z y && leb (get_or core z 0) (get_or core y 0)) (λ y. adjacent s.graph z y && leb (get_or s.core z 0) (get_or s.core y 0)) (below n)
-    (λ y m. both_same (adjacent s.graph z y) (adjacent g z y) (leb (get_or s.core z 0) (get_or s.core y 0)) (leb (get_or core z 0) (get_or core y 0)) (near y) (λ t. ap₂ leb number (a.numbers_stay y (still y t)))) in
+    (λ y m.
+    both_same (adjacent s.graph z y) (adjacent g z y) (ltb (rank_in s.order z) (rank_in s.order y)) (lt z y) (near y)
+    (λ t. a.order_stays z y l (below-member y n m) p.2 (still y t))) in
+    let high : count_by (λ y. adjacent g z y && leb (get_or core z 0) (get_or core y 0)) (below n)
+    ≡ count_by (λ y. adjacent s.graph z y && leb (get_or s.core z 0) (get_or s.core y 0)) (below n) =
+    count-agree (λ y. adjacent g z y && leb (get_or core z 0) (get_or core y 0))
+    (λ y. adjacent s.graph z y && leb (get_or s.core z 0) (get_or s.core y 0)) (below n)
+    (λ y m.
+    both_same (adjacent s.graph z y) (adjacent g z y) (leb (get_or s.core z 0) (get_or s.core y 0))
+    (leb (get_or core z 0) (get_or core y 0)) (near y) (λ t. ap₂ leb number (a.numbers_stay y (still y t)))) in
     let sized : below g.size ≡ below n = ap below size in
     holds-from g core (state_after plan s).order lt a.itself a.orders (λ y. a.all y ∙ ap (λ k. member y (below k)) (sym size)) z (omega arith)
     (omega (arith, later, few-ranked s.graph s.core s.order h z l, number, ap (count_by (λ y. adjacent g z y && lt z y)) sized))
-    (omega (arith, high, enough-below s.graph s.core s.order h z l, number, ap (count_by (λ y. adjacent g z y && leb (get_or core z 0) (get_or core y 0))) sized))
+    (omega (
+      arith,
+      high,
+      enough-below s.graph s.core s.order h z l,
+      number,
+      ap (count_by (λ y. adjacent g z y && leb (get_or core z 0) (get_or core y 0))) sized,
+    ))
 
 -- what holds at each vertex of an order makes a certificate
-pub certified_from : (s t : Ranked) (moved : List ℕ) (lt : ℕ → ℕ → Bool) → t.graph.size ≡ s.graph.size → Arranged s t.core t.order moved lt → ((z : ℕ) → z < s.graph.size → HoldsAt t z) → IsCertified t
+pub certified_from : (s t : Ranked) (moved : List ℕ) (lt : ℕ → ℕ → Bool) → t.graph.size ≡ s.graph.size → Arranged s t.core t.order moved lt
+    → ((z : ℕ) → z < s.graph.size → HoldsAt t z) → IsCertified t
 certified_from s t moved lt size a holds =
     let n : ℕ = t.graph.size in
     let all : (y : ℕ) → member y t.order ≡ member y (below n) = λ y. a.all y ∙ ap (λ k. member y (below k)) (sym size) in
     let once : Distinct t.order = Orders-distinct lt t.order a.itself a.orders in
-    let vertex : (i d : ℕ) → i < length t.order → get_or t.order i d < s.graph.size = λ i d l. omega (arith, below-member (get_or t.order i d) n (sym (all (get_or t.order i d)) ∙ member-get_or t.order i d l)) in
+    let vertex : (i d : ℕ) → i < length t.order → get_or t.order i d < s.graph.size =
+    λ i d l. omega (arith, below-member (get_or t.order i d) n (sym (all (get_or t.order i d)) ∙ member-get_or t.order i d l)) in
     record {
       one_each = a.one_each ∙ sym size;
       enumerates = enumerates n t.order once all;
-      rising = λ i j d l lj. a.rising (get_or t.order i d) (get_or t.order j d) (vertex i d (omega arith)) (vertex j d lj) (Orders-pairs lt t.order a.orders i j d l lj);
+      rising =
+          λ i j d l lj.
+          a.rising (get_or t.order i d) (get_or t.order j d) (vertex i d (omega arith)) (vertex j d lj)
+          (Orders-pairs lt t.order a.orders i j d l lj);
       few_later = λ i l.
           let at : place_of (get_or t.order i 0) t.order ≡ i = place_of-at t.order i once l in
-          subst (λ (k : ℕ). degree_among t.graph (drop (k + 1) t.order) (get_or t.order i 0) ≤ get_or t.core (get_or t.order i 0) 0) at (holds (get_or t.order i 0) (vertex i 0 l)).few_later;
+          subst (λ (k : ℕ). degree_among t.graph (drop (k + 1) t.order) (get_or t.order i 0) ≤ get_or t.core (get_or t.order i 0) 0) at
+          (holds (get_or t.order i 0) (vertex i 0 l)).few_later;
       enough_as_high = λ v l. (holds v (omega arith)).enough_as_high;
     }
 

@@ -1,5 +1,6 @@
 -- Places in a list, one number after the other.
-use Rattle.std.proofs.Common.{◌≡◌, ◌≢◌, ℕ, suc, Bool, true, false, cond, ◌||◌, List, [], ◌∷◌, ◌++◌, Some, None, length, eqb, refl, sym, ◌∙◌, ap, ap₂, inl, inr, arith, true≢false, eq-eqb, ne_eqb}
+use Rattle.std.proofs.Common.{◌≡◌, ◌≢◌, ℕ, suc, Bool, true, false, cond, ◌||◌, List, [], ◌∷◌, ◌++◌, Some, None, length, eqb, refl, sym, ◌∙◌, ap, ap₂}
+use Rattle.std.proofs.Common.{inl, inr, arith, true≢false, eq-eqb, ne_eqb}
 use Rattle.std.specs.Prelude.{is_some}
 use Rattle.std.proofs.lemmas.Bool.{cases_eq, false≢true, false_from_ne_true, or_right}
 use Rattle.kc_distinct.specs.Lists.{member, Distinct, place_of}
@@ -18,8 +19,10 @@ place_of-end x (y ∷ ys) n = let p = not_member-parts x y ys n in place_of-next
 or-no : (a : Bool) → (a || false) ≡ a
 or-no a = grind arith
 
-place_in-by : (xs ys : List ℕ) (x y : ℕ) (b c : Bool) → member x xs ≡ b → member y ys ≡ c → b ≡ c → (c ≡ true → place_of x xs ≡ place_of y ys) → place_in xs x ≡ place_in ys y
-place_in-by xs ys x y true true mb mc e same = ap₂ (λ (t : Bool) (k : ℕ). cond t (Some k) None) mb (same refl) ∙ sym (ap (λ t. cond t (Some (place_of y ys)) None) mc)
+place_in-by : (xs ys : List ℕ) (x y : ℕ) (b c : Bool) → member x xs ≡ b → member y ys ≡ c → b ≡ c
+    → (c ≡ true → place_of x xs ≡ place_of y ys) → place_in xs x ≡ place_in ys y
+place_in-by xs ys x y true true mb mc e same =
+    ap₂ (λ (t : Bool) (k : ℕ). cond t (Some k) None) mb (same refl) ∙ sym (ap (λ t. cond t (Some (place_of y ys)) None) mc)
 place_in-by xs ys x y false false mb mc e same = ap (λ t. cond t (Some (place_of x xs)) None) mb ∙ sym (ap (λ t. cond t (Some (place_of y ys)) None) mc)
 place_in-by xs ys x y true false mb mc e same = absurd (true≢false e)
 place_in-by xs ys x y false true mb mc e same = absurd (false≢true e)

@@ -1,5 +1,6 @@
 -- Orders by ranks, and what a shift makes of them.
-use Rattle.std.proofs.Common.{◌≡◌, ◌≢◌, ◌<◌, ◌+◌, ℕ, suc, Bool, true, false, cond, ◌&&◌, ◌||◌, List, [], ◌∷◌, ◌++◌, drop, eqb, refl, sym, ◌∙◌, ap, inl, inr, arith, true≢false, eqb-true, eq-eqb, ne_eqb}
+use Rattle.std.proofs.Common.{◌≡◌, ◌≢◌, ◌<◌, ◌+◌, ℕ, suc, Bool, true, false, cond, ◌&&◌, ◌||◌, List, [], ◌∷◌, ◌++◌, drop, eqb, refl, sym, ◌∙◌, ap}
+use Rattle.std.proofs.Common.{inl, inr, arith, true≢false, eqb-true, eq-eqb, ne_eqb}
 use Rattle.std.specs.Prelude.{count_by}
 use Rattle.std.specs.List.{filter}
 use Rattle.std.proofs.lemmas.Bool.{cases_Bool, cases_eq, eqb-false, false≢true, or_cases, or_right, or_parts, false_from_ne_true}
@@ -102,7 +103,8 @@ left x z xs ne = elim (cases_Bool (member z xs)) [
 ]
 
 -- after one shift
-pub put_after-has : (x w : ℕ) (order : List ℕ) → member x order ≡ true → member w order ≡ true → w ≢ x → (z : ℕ) → member z (right_after x w (without x order)) ≡ member z order
+pub put_after-has : (x w : ℕ) (order : List ℕ) → member x order ≡ true → member w order ≡ true → w ≢ x → (z : ℕ)
+    → member z (right_after x w (without x order)) ≡ member z order
 put_after-has x w order mx mw ne z =
     placed_has x w (without x order) (left x w order ne ∙ mw) z
     ∙ elim (cases_eq z x) [
@@ -119,13 +121,17 @@ not_itself : (w x : ℕ) (xs : List ℕ) → member w (x ∷ xs) ≡ false → w
 not_itself w x xs n e = true≢false (sym (ap (λ k. member k (x ∷ xs)) e ∙ member-head x xs) ∙ n)
 
 -- after all shifts
-pub shifted-has : (shifts : List (ℕ × ℕ)) (order : List ℕ) → AreInTurn shifts → ((x : ℕ) → member x (firsts shifts) ≡ true → member x order ≡ true) → ((x : ℕ) → member x (seconds shifts) ≡ true → member x order ≡ true)
+pub shifted-has : (shifts : List (ℕ × ℕ)) (order : List ℕ) → AreInTurn shifts
+    → ((x : ℕ) → member x (firsts shifts) ≡ true → member x order ≡ true)
+    → ((x : ℕ) → member x (seconds shifts) ≡ true → member x order ≡ true)
     → (z : ℕ) → member z (shifted shifts order) ≡ member z order
 shifted-has [] order t f s z = refl
 shifted-has (p ∷ shifts) order t f s z =
     let same : (y : ℕ) → member y (right_after p.0 p.1 (without p.0 order)) ≡ member y order =
     put_after-has p.0 p.1 order (f p.0 (member-head p.0 (firsts shifts))) (s p.1 (member-head p.1 (seconds shifts))) (not_itself p.1 p.0 (firsts shifts) t.0) in
-    shifted-has shifts (right_after p.0 p.1 (without p.0 order)) t.1 (λ x m. same x ∙ f x (member-tail x p.0 (firsts shifts) m)) (λ x m. same x ∙ s x (member-tail x p.1 (seconds shifts) m)) z ∙ same z
+    shifted-has shifts (right_after p.0 p.1 (without p.0 order)) t.1 (λ x m. same x ∙ f x (member-tail x p.0 (firsts shifts) m))
+    (λ x m. same x ∙ s x (member-tail x p.1 (seconds shifts) m)) z
+    ∙ same z
 
 pub shifted-ascends : (r : ℕ → ℕ) (shifts : List (ℕ × ℕ)) (order : List ℕ) → AscendsBy r order → AreInTurn shifts
     → ((x : ℕ) → member x (firsts shifts) ≡ true → member x order ≡ true) → ((x : ℕ) → member x (seconds shifts) ≡ true → member x order ≡ true)
@@ -133,8 +139,10 @@ pub shifted-ascends : (r : ℕ → ℕ) (shifts : List (ℕ × ℕ)) (order : Li
 shifted-ascends r [] order a t f s = a
 shifted-ascends r (p ∷ shifts) order a t f s =
     let ne : p.1 ≢ p.0 = not_itself p.1 p.0 (firsts shifts) t.0 in
-    let same : (y : ℕ) → member y (right_after p.0 p.1 (without p.0 order)) ≡ member y order = put_after-has p.0 p.1 order (f p.0 (member-head p.0 (firsts shifts))) (s p.1 (member-head p.1 (seconds shifts))) ne in
-    shifted-ascends (moved r p.0 p.1) shifts (right_after p.0 p.1 (without p.0 order)) (put_after-ascends r p.0 p.1 order a (s p.1 (member-head p.1 (seconds shifts))) ne) t.1
+    let same : (y : ℕ) → member y (right_after p.0 p.1 (without p.0 order)) ≡ member y order =
+    put_after-has p.0 p.1 order (f p.0 (member-head p.0 (firsts shifts))) (s p.1 (member-head p.1 (seconds shifts))) ne in
+    shifted-ascends (moved r p.0 p.1) shifts (right_after p.0 p.1 (without p.0 order))
+    (put_after-ascends r p.0 p.1 order a (s p.1 (member-head p.1 (seconds shifts))) ne) t.1
     (λ x m. same x ∙ f x (member-tail x p.0 (firsts shifts) m)) (λ x m. same x ∙ s x (member-tail x p.1 (seconds shifts) m))
 
 -- a list in the order of a test
@@ -146,7 +154,8 @@ Orders-from_Ascends lt r (x ∷ xs) h a = (
   Orders-from_Ascends lt r xs (λ y z my mz. h y z (member-tail y x xs my) (member-tail z x xs mz)) a.1,
 )
 
-pub Orders-append : (lt : ℕ → ℕ → Bool) (xs ys : List ℕ) → Orders lt xs → Orders lt ys → ((y z : ℕ) → member y xs ≡ true → member z ys ≡ true → (lt y z ≡ true) × (lt z y ≡ false)) → Orders lt (xs ++ ys)
+pub Orders-append : (lt : ℕ → ℕ → Bool) (xs ys : List ℕ) → Orders lt xs → Orders lt ys
+    → ((y z : ℕ) → member y xs ≡ true → member z ys ≡ true → (lt y z ≡ true) × (lt z y ≡ false)) → Orders lt (xs ++ ys)
 Orders-append lt [] ys ox oy cross = oy
 Orders-append lt (x ∷ xs) ys ox oy cross = (
   λ z m. elim (or_cases (member z xs) (member z ys) (sym (list_any-append (eqb z) xs ys) ∙ m)) [ inl k ↦ ox.0 z k | inr k ↦ cross x z (member-head x xs) k ],
@@ -164,7 +173,8 @@ place-here : (z y : ℕ) (ys : List ℕ) → z ≡ y → place_of z (y ∷ ys) +
 place-here z y ys e = let k : place_of z (y ∷ ys) ≡ 0 = ap (λ b. cond b 0 (suc (place_of z ys))) (eq-eqb z y e) in omega (arith, k)
 
 -- how many pass after `z`
-pub later-count : (lt : ℕ → ℕ → Bool) (q : ℕ → Bool) (z : ℕ) (xs : List ℕ) → ((z : ℕ) → lt z z ≡ false) → Orders lt xs → member z xs ≡ true → count_by q (drop (place_of z xs + 1) xs) ≡ count_by (λ y. q y && lt z y) xs
+pub later-count : (lt : ℕ → ℕ → Bool) (q : ℕ → Bool) (z : ℕ) (xs : List ℕ) → ((z : ℕ) → lt z z ≡ false) → Orders lt xs → member z xs ≡ true
+    → count_by q (drop (place_of z xs + 1) xs) ≡ count_by (λ y. q y && lt z y) xs
 later-count lt q z [] i o m = absurd (false≢true m)
 later-count lt q z (y ∷ ys) i o m =
     let both : ℕ → Bool = λ n. q n && lt z n in

@@ -10,16 +10,20 @@ abbrev pub one_if : Bool → ℕ
 one_if b = cond b 1 0
 
 -- counts that differ at one number at most
-pub count-one-in : (p q : ℕ → Bool) (v : ℕ) (xs : List ℕ) → Distinct xs → member v xs ≡ true → q v ≡ false → ((y : ℕ) → member y xs ≡ true → y ≢ v → p y ≡ q y) → count_by p xs ≡ count_by q xs + one_if (p v)
+pub count-one-in : (p q : ℕ → Bool) (v : ℕ) (xs : List ℕ) → Distinct xs → member v xs ≡ true → q v ≡ false
+    → ((y : ℕ) → member y xs ≡ true → y ≢ v → p y ≡ q y) → count_by p xs ≡ count_by q xs + one_if (p v)
 count-one-in p q v [] d m qv same = absurd (false≢true m)
 count-one-in p q v (x ∷ xs) d m qv same =
     elim (cases_eq x v) [
       | inl e ↦
-          let rest : count_by p xs ≡ count_by q xs = count-agree p q xs (λ y in'. same y (member-tail y x xs in') (λ y-v. true≢false (sym in' ∙ (ap (λ n. member n xs) (y-v ∙ sym e) ∙ d.0)))) in
+          let rest : count_by p xs ≡ count_by q xs =
+          count-agree p q xs
+          (λ y in'. same y (member-tail y x xs in') (λ y-v. true≢false (sym in' ∙ (ap (λ n. member n xs) (y-v ∙ sym e) ∙ d.0)))) in
           let here : one_if (p x) ≡ one_if (p v) = ap (λ n. one_if (p n)) e in
           omega (arith, rest, here, count-cons p x xs, count-no q x xs (ap q e ∙ qv))
       | inr ne ↦
-          let rest : count_by p xs ≡ count_by q xs + one_if (p v) = count-one-in p q v xs d.1 (member-other v x xs (λ e. ne (sym e)) m) qv (λ y in' y-v. same y (member-tail y x xs in') y-v) in
+          let rest : count_by p xs ≡ count_by q xs + one_if (p v) =
+          count-one-in p q v xs d.1 (member-other v x xs (λ e. ne (sym e)) m) qv (λ y in' y-v. same y (member-tail y x xs in') y-v) in
           let here : one_if (p x) ≡ one_if (q x) = ap one_if (same x (member-head x xs) ne) in
           omega (arith, rest, here, count-cons p x xs, count-cons q x xs)
     ]
@@ -36,7 +40,8 @@ count-none p [] h = refl
 count-none p (x ∷ xs) h = omega (arith, count-no p x xs (h x (member-head x xs)), count-none p xs (λ y m. h y (member-tail y x xs m)))
 
 -- a count of one of two tests is the sum of their counts where they never both pass
-pub count-sum : (p q r : ℕ → Bool) (xs : List ℕ) → ((x : ℕ) → member x xs ≡ true → one_if (r x) ≡ one_if (p x) + one_if (q x)) → count_by r xs ≡ count_by p xs + count_by q xs
+pub count-sum : (p q r : ℕ → Bool) (xs : List ℕ) → ((x : ℕ) → member x xs ≡ true → one_if (r x) ≡ one_if (p x) + one_if (q x))
+    → count_by r xs ≡ count_by p xs + count_by q xs
 count-sum p q r [] h = refl
 count-sum p q r (x ∷ xs) h =
     let rest : count_by r xs ≡ count_by p xs + count_by q xs = count-sum p q r xs (λ y m. h y (member-tail y x xs m)) in

@@ -1,5 +1,6 @@
 -- Counts over the neighbours after an update, from those before it.
-use Rattle.std.proofs.Common.{◌≡◌, ◌≢◌, ◌≤◌, ◌<◌, ◌+◌, ℕ, Bool, true, false, cond, not, ◌&&◌, ◌||◌, List, [], ◌∷◌, Option, Some, None, length, get_or, take, eqb, refl, sym, ◌∙◌, ap, ap₂, inl, inr, arith, true≢false, eq-eqb, ne_eqb, lt_irrefl}
+use Rattle.std.proofs.Common.{◌≡◌, ◌≢◌, ◌≤◌, ◌<◌, ◌+◌, ℕ, Bool, true, false, cond, not, ◌&&◌, ◌||◌, List, [], ◌∷◌, Option, Some, None, length, get_or}
+use Rattle.std.proofs.Common.{take, eqb, refl, sym, ◌∙◌, ap, ap₂, inl, inr, arith, true≢false, eq-eqb, ne_eqb, lt_irrefl}
 use Rattle.std.specs.Prelude.{count_by}
 use Rattle.std.specs.Option.{option_eq}
 use Rattle.std.proofs.lemmas.Bool.{cases_Bool, cases_eq, and_parts, false_from_ne_true, not-true}
@@ -32,8 +33,11 @@ count-neighbours g z r =
     let both : ℕ → Bool = λ y. adjacent g z y && r y in
     let ws : List ℕ = neighbours_of g z in
     let here : count_by r ws ≡ count_by both ws = count-agree r both ws (λ y m. sym (ap (λ b. b && r y) (neighbours_within g z y m).1)) in
-    let up : count_by both (below g.size) ≤ count_by both ws = count-le both (below g.size) ws (Distinct-below g.size) (λ y m t. neighbours_has g z y (below-member y g.size m) ∙ (and_parts (adjacent g z y) (r y) t).0) in
-    let down : count_by both ws ≤ count_by both (below g.size) = count-le both ws (below g.size) (neighbours-once g z) (λ y m _. member-below y g.size (neighbours_within g z y m).0) in
+    let up : count_by both (below g.size) ≤ count_by both ws =
+    count-le both (below g.size) ws (Distinct-below g.size)
+    (λ y m t. neighbours_has g z y (below-member y g.size m) ∙ (and_parts (adjacent g z y) (r y) t).0) in
+    let down : count_by both ws ≤ count_by both (below g.size) =
+    count-le both ws (below g.size) (neighbours-once g z) (λ y m _. member-below y g.size (neighbours_within g z y m).0) in
     omega (arith, here, up, down)
 
 eqb-either : (a b : ℕ) → eqb a b ≡ eqb b a
@@ -55,22 +59,32 @@ other-first : (update : Update) (z : ℕ) → z ≡ update.u → other_end updat
 other-first update z e = ap (λ b. cond b (Some update.v) (cond (eqb z update.v) (Some update.u) None)) (eq-eqb z update.u e)
 
 other-second : (update : Update) (z : ℕ) → z ≢ update.u → z ≡ update.v → other_end update z ≡ Some update.u
-other-second update z ne e = ap (λ b. cond b (Some update.v) (cond (eqb z update.v) (Some update.u) None)) (ne_eqb z update.u ne) ∙ ap (λ b. cond b (Some update.u) None) (eq-eqb z update.v e)
+other-second update z ne e =
+    ap (λ b. cond b (Some update.v) (cond (eqb z update.v) (Some update.u) None)) (ne_eqb z update.u ne)
+    ∙ ap (λ b. cond b (Some update.u) None) (eq-eqb z update.v e)
 
 other-none : (update : Update) (z : ℕ) → z ≢ update.u → z ≢ update.v → other_end update z ≡ None
-other-none update z nu nv = ap (λ b. cond b (Some update.v) (cond (eqb z update.v) (Some update.u) None)) (ne_eqb z update.u nu) ∙ ap (λ b. cond b (Some update.u) None) (ne_eqb z update.v nv)
+other-none update z nu nv =
+    ap (λ b. cond b (Some update.v) (cond (eqb z update.v) (Some update.u) None)) (ne_eqb z update.u nu)
+    ∙ ap (λ b. cond b (Some update.u) None) (ne_eqb z update.v nv)
 
 -- an update's edge joins a vertex that is an end to the other
 joins-other : (update : Update) (z y : ℕ) → joins update.u update.v z y ≡ option_eq eqb (other_end update z) (Some y)
 joins-other update z y =
-    let at : (o : Option ℕ) → other_end update z ≡ o → option_eq eqb (other_end update z) (Some y) ≡ option_eq eqb o (Some y) = λ o e. ap (λ p. option_eq eqb p (Some y)) e in
+    let at : (o : Option ℕ) → other_end update z ≡ o → option_eq eqb (other_end update z) (Some y) ≡ option_eq eqb o (Some y) =
+    λ o e. ap (λ p. option_eq eqb p (Some y)) e in
     elim (cases_eq z update.u) [
       | inl e ↦
           let nv : z ≢ update.v = λ f. ends_differ update (sym e ∙ f) in
-          first_of_two (eqb z update.u) (eqb y update.v) (eqb z update.v) (eqb y update.u) (eq-eqb z update.u e) (ne_eqb z update.v nv) ∙ (eqb-either y update.v ∙ sym (at (Some update.v) (other-first update z e)))
+          first_of_two (eqb z update.u) (eqb y update.v) (eqb z update.v) (eqb y update.u) (eq-eqb z update.u e) (ne_eqb z update.v nv)
+          ∙ (eqb-either y update.v ∙ sym (at (Some update.v) (other-first update z e)))
       | inr nu ↦ elim (cases_eq z update.v) [
-        | inl e ↦ second_of_two (eqb z update.u) (eqb y update.v) (eqb z update.v) (eqb y update.u) (ne_eqb z update.u nu) (eq-eqb z update.v e) ∙ (eqb-either y update.u ∙ sym (at (Some update.u) (other-second update z nu e)))
-        | inr nv ↦ none_of_two (eqb z update.u) (eqb y update.v) (eqb z update.v) (eqb y update.u) (ne_eqb z update.u nu) (ne_eqb z update.v nv) ∙ sym (at None (other-none update z nu nv))
+        | inl e ↦
+            second_of_two (eqb z update.u) (eqb y update.v) (eqb z update.v) (eqb y update.u) (ne_eqb z update.u nu) (eq-eqb z update.v e)
+            ∙ (eqb-either y update.u ∙ sym (at (Some update.u) (other-second update z nu e)))
+        | inr nv ↦
+            none_of_two (eqb z update.u) (eqb y update.v) (eqb z update.v) (eqb y update.u) (ne_eqb z update.u nu) (ne_eqb z update.v nv)
+            ∙ sym (at None (other-none update z nu nv))
       ]
     ]
 
@@ -93,15 +107,19 @@ other-vertex update n z y l e =
       ]
     ]
 
-count-other : (update : Update) (n z : ℕ) (q : ℕ → Bool) → update.v < n → count_by (λ y. joins update.u update.v z y && q y) (below n) ≡ one_of (other_end update z) q
+count-other : (update : Update) (n z : ℕ) (q : ℕ → Bool) → update.v < n
+    → count_by (λ y. joins update.u update.v z y && q y) (below n) ≡ one_of (other_end update z) q
 count-other update n z q l =
     let test : ℕ → Bool = λ y. joins update.u update.v z y && q y in
-    let at : (o : Option ℕ) → other_end update z ≡ o → (y : ℕ) → test y ≡ (option_eq eqb o (Some y) && q y) = λ o e y. ap (λ b. b && q y) (joins-other update z y ∙ ap (λ p. option_eq eqb p (Some y)) e) in
+    let at : (o : Option ℕ) → other_end update z ≡ o → (y : ℕ) → test y ≡ (option_eq eqb o (Some y) && q y) =
+    λ o e y. ap (λ b. b && q y) (joins-other update z y ∙ ap (λ p. option_eq eqb p (Some y)) e) in
     elim (other_end update z) as (λ o. other_end update z ≡ o → count_by test (below n) ≡ one_of o q) [
       | None ↦ λ e. count-none test (below n) (λ y m. at None e y)
       | Some v ↦ λ e.
           let p = other-vertex update n z v l e in
-          let one = count-one-in test (λ _. false) v (below n) (Distinct-below n) (member-below v n p.0) refl (λ y m ne. at (Some v) e y ∙ ap (λ b. b && q y) (ne_eqb v y (λ f. ne (sym f)))) in
+          let one =
+          count-one-in test (λ _. false) v (below n) (Distinct-below n) (member-below v n p.0) refl
+          (λ y m ne. at (Some v) e y ∙ ap (λ b. b && q y) (ne_eqb v y (λ f. ne (sym f)))) in
           let none : count_by (λ _. false) (below n) ≡ 0 = count-none (λ _. false) (below n) (λ y m. refl) in
           let here : one_if (test v) ≡ one_if (q v) = ap one_if (at (Some v) e v ∙ ap (λ b. b && q v) (eq-eqb v v refl)) in
           omega (arith, one, none, here)
@@ -125,19 +143,27 @@ count-updated update g z q l applied =
     let kept : ℕ → Bool = λ y. keeps update z y && q y in
     elim (cases_Bool update.add) [
       | inl add ↦
-          let new' : adjacent g update.u update.v ≡ false = not-true (adjacent g update.u update.v) (ap (λ b. cond b (not (adjacent g update.u update.v)) (adjacent g update.u update.v)) (sym add) ∙ applied) in
+          let new' : adjacent g update.u update.v ≡ false =
+          not-true (adjacent g update.u update.v)
+          (ap (λ b. cond b (not (adjacent g update.u update.v)) (adjacent g update.u update.v)) (sym add) ∙ applied) in
           let not_both : (y : ℕ) → join y ≡ true → adjacent g z y ≡ false = λ y t. elim (joins-true update.u update.v z y t) [
             | inl p ↦ ap₂ (adjacent g) p.0 p.1 ∙ new'
             | inr p ↦ ap₂ (adjacent g) p.0 p.1 ∙ (adjacent-sym g update.v update.u ∙ new')
           ] in
           let sum = count-sum (λ y. adjacent g z y && q y) (λ y. join y && q y) after (below g.size)
-          (λ y m. apart (adjacent (updated update g) z y) (adjacent g z y) (join y) (q y) (adjacent-updated update g z y ∙ ap (λ b. cond b (adjacent g z y || join y) (adjacent g z y && not (join y))) add) (not_both y)) in
-          let here : count_by q (neighbours_of g z) ≡ count_by kept (neighbours_of g z) = count-agree q kept (neighbours_of g z) (λ y m. sym (and-true (keeps update z y) (q y) (ap (λ b. b || not (option_eq eqb (other_end update z) (Some y))) add))) in
+          (λ y m.
+          apart (adjacent (updated update g) z y) (adjacent g z y) (join y) (q y)
+          (adjacent-updated update g z y ∙ ap (λ b. cond b (adjacent g z y || join y) (adjacent g z y && not (join y))) add)
+          (not_both y)) in
+          let here : count_by q (neighbours_of g z) ≡ count_by kept (neighbours_of g z) =
+          count-agree q kept (neighbours_of g z)
+          (λ y m. sym (and-true (keeps update z y) (q y) (ap (λ b. b || not (option_eq eqb (other_end update z) (Some y))) add))) in
           let more : gained update z q ≡ one_of (other_end update z) q = ap (λ b. cond b (one_of (other_end update z) q) 0) add in
           omega (arith, sum, count-neighbours g z q, here, count-other update g.size z q l, more)
       | inr removes ↦
           let none : gained update z q ≡ 0 = ap (λ b. cond b (one_of (other_end update z) q) 0) removes in
-          let same : count_by after (below g.size) ≡ count_by (λ y. adjacent g z y && kept y) (below g.size) = count-agree after (λ y. adjacent g z y && kept y) (below g.size)
+          let same : count_by after (below g.size) ≡ count_by (λ y. adjacent g z y && kept y) (below g.size) =
+          count-agree after (λ y. adjacent g z y && kept y) (below g.size)
           (λ y m. regroup (adjacent (updated update g) z y) (adjacent g z y) (join y) (keeps update z y) (q y)
           (adjacent-updated update g z y ∙ ap (λ b. cond b (adjacent g z y || join y) (adjacent g z y && not (join y))) removes)
           (ap (λ b. b || not (option_eq eqb (other_end update z) (Some y))) removes ∙ ap not (sym (joins-other update z y)))) in

@@ -1,5 +1,6 @@
 -- Shifts in turn, one after the other.
-use Rattle.std.proofs.Common.{◌≡◌, ◌≤◌, ◌<◌, ◌+◌, ℕ, suc, zero, true, false, cond, List, [], ◌∷◌, ◌++◌, Option, Some, None, length, get_or, take, drop, refl, sym, ◌∙◌, ap, subst, inl, inr, arith, true≢false}
+use Rattle.std.proofs.Common.{◌≡◌, ◌≤◌, ◌<◌, ◌+◌, ℕ, suc, zero, true, false, cond, List, [], ◌∷◌, ◌++◌, Option, Some, None, length, get_or, take}
+use Rattle.std.proofs.Common.{drop, refl, sym, ◌∙◌, ap, subst, inl, inr, arith, true≢false}
 use Rattle.std.specs.Prelude.{⊤, MatchOption}
 use Rattle.std.proofs.lemmas.Bool.{cases_Bool, cases_eq, cases_lt, false≢true, false_from_ne_true}
 use Rattle.std.proofs.lemmas.List.{take_more}
@@ -65,18 +66,21 @@ place_in-there xs w m = ap (λ b. cond b (Some (place_of w xs)) None) m
 abbrev pub StaysFrom : ℕ → ℕ → Option ℕ → Type 0
 StaysFrom n k place = MatchOption place ⊤ (λ p. (n ≤ p) × (p < n + k))
 
-pub stays-to : (front back : List ℕ) (w k : ℕ) → Distinct (front ++ back) → StaysFrom (length front) k (place_in (front ++ back) w) → (member w front ≡ false) × (member w (drop k back) ≡ false)
+pub stays-to : (front back : List ℕ) (w k : ℕ) → Distinct (front ++ back) → StaysFrom (length front) k (place_in (front ++ back) w)
+    → (member w front ≡ false) × (member w (drop k back) ≡ false)
 stays-to front back w k d h = elim (cases_Bool (member w (front ++ back))) [
   | inl m ↦
       let at = subst (StaysFrom (length front) k) (place_in-there (front ++ back) w m) h in
-      let out : member w front ≡ false = false_from_ne_true (member w front) (λ f. absurd (omega (arith, at.0, place_of-left w front back f, (rank-here w front f).0))) in
+      let out : member w front ≡ false =
+      false_from_ne_true (member w front) (λ f. absurd (omega (arith, at.0, place_of-left w front back f, (rank-here w front f).0))) in
       (out, dropped k w back (Distinct-back front back d) (omega (arith, at.1, place_of-right w front back out)))
   | inr n ↦
       let p = not_member-append w front back n in
       (p.0, false_from_ne_true _ (λ m. true≢false (sym (drop-member k w back m) ∙ p.1)))
 ]
 
-pub stays-from : (front back : List ℕ) (w k : ℕ) → member w front ≡ false → member w (drop k back) ≡ false → StaysFrom (length front) k (place_in (front ++ back) w)
+pub stays-from : (front back : List ℕ) (w k : ℕ) → member w front ≡ false → member w (drop k back) ≡ false
+    → StaysFrom (length front) k (place_in (front ++ back) w)
 stays-from front back w k out gone = elim (cases_Bool (member w (front ++ back))) [
   | inl m ↦
       let there : member w back ≡ true = elim (member-append w front back m) [ inl f ↦ absurd (true≢false (sym f ∙ out)) | inr b ↦ b ] in
@@ -108,16 +112,19 @@ turn-at [] k l t = absurd (omega arith)
 turn-at (shift ∷ shifts) zero l t = t.0
 turn-at (shift ∷ shifts) (suc k) l t = turn-at shifts k (omega arith) t.1
 
-pub put_right-at : (s : Ranked) (level : ℕ) (rise : List ℕ) (shifts : List (ℕ × ℕ)) (k : ℕ) → k < length shifts → ArePutRight s level rise shifts → IsPutRight s level rise shifts k
+pub put_right-at : (s : Ranked) (level : ℕ) (rise : List ℕ) (shifts : List (ℕ × ℕ)) (k : ℕ) → k < length shifts
+    → ArePutRight s level rise shifts → IsPutRight s level rise shifts k
 put_right-at s level rise shifts k l h =
     let w = h.0 (get_or shifts k (0, 0)).1 (seconds-at shifts k l) in
     record { of_level = w.0; stays = w.1; in_turn = turn-at shifts k l h.1 }
 
-pub put_right-all : (s : Ranked) (level : ℕ) (rise : List ℕ) (shifts : List (ℕ × ℕ)) → ((k : ℕ) → k < length shifts → IsPutRight s level rise shifts k) → ArePutRight s level rise shifts
+pub put_right-all : (s : Ranked) (level : ℕ) (rise : List ℕ) (shifts : List (ℕ × ℕ))
+    → ((k : ℕ) → k < length shifts → IsPutRight s level rise shifts k) → ArePutRight s level rise shifts
 put_right-all s level rise [] h = (λ w m. absurd (false≢true m), tt)
 put_right-all s level rise (shift ∷ shifts) h =
     let first = h 0 (omega arith) in
-    let rest = put_right-all s level rise shifts (λ k l. let r = h (suc k) (omega arith) in record { of_level = r.of_level; stays = r.stays; in_turn = r.in_turn }) in (
+    let rest = put_right-all s level rise shifts (λ k l. let r =
+    h (suc k) (omega arith) in record { of_level = r.of_level; stays = r.stays; in_turn = r.in_turn }) in (
       λ w m. elim (member-cases w shift.1 (seconds shifts) m) [
         | inl e ↦ (subst (IsOfLevel s level) (sym e) first.of_level, ap (λ n. member n rise) e ∙ first.stays)
         | inr k ↦ rest.0 w k
@@ -126,14 +133,16 @@ put_right-all s level rise (shift ∷ shifts) h =
     )
 
 -- what the places say of one shift
-pub put_right-to : (s : Ranked) (level : ℕ) (rise : List ℕ) (shifts : List (ℕ × ℕ)) (k : ℕ) → Distinct (rise ++ firsts shifts) → IsOfLevel s level (get_or shifts k (0, 0)).1
+pub put_right-to : (s : Ranked) (level : ℕ) (rise : List ℕ) (shifts : List (ℕ × ℕ)) (k : ℕ) → Distinct (rise ++ firsts shifts)
+    → IsOfLevel s level (get_or shifts k (0, 0)).1
     → StaysFrom (length rise) k (place_in (rise ++ firsts shifts) (get_or shifts k (0, 0)).1) → IsPutRight s level rise shifts k
 put_right-to s level rise shifts k d here stays =
     let w : ℕ = (get_or shifts k (0, 0)).1 in
     let p = stays-to rise (firsts shifts) w k d stays in
     record { of_level = here; stays = p.0; in_turn = ap (member w) (firsts-drop k shifts) ∙ p.1 }
 
-pub put_right-from : (s : Ranked) (level : ℕ) (rise : List ℕ) (shifts : List (ℕ × ℕ)) (k : ℕ) → IsPutRight s level rise shifts k → StaysFrom (length rise) k (place_in (rise ++ firsts shifts) (get_or shifts k (0, 0)).1)
+pub put_right-from : (s : Ranked) (level : ℕ) (rise : List ℕ) (shifts : List (ℕ × ℕ)) (k : ℕ) → IsPutRight s level rise shifts k
+    → StaysFrom (length rise) k (place_in (rise ++ firsts shifts) (get_or shifts k (0, 0)).1)
 put_right-from s level rise shifts k h =
     let w : ℕ = (get_or shifts k (0, 0)).1 in
     stays-from rise (firsts shifts) w k h.stays (sym (ap (member w) (firsts-drop k shifts)) ∙ h.in_turn)

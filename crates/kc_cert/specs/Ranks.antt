@@ -31,4 +31,8 @@ part is_low moved y = if member y moved then 1 else if is_low y then 0 else 2
 
 -- whether `y` stands after `z` then: `inside` ranks those that moved, and `place` the others
 abbrev pub then_after : (ℕ → Bool) → List ℕ → (ℕ → ℕ) → (ℕ → ℕ) → ℕ → ℕ → Bool
-then_after is_low moved inside place z y = nat_lt (part is_low moved z) (part is_low moved y) || (nat_eq (part is_low moved z) (part is_low moved y) && (if member z moved then nat_lt (inside z) (inside y) else nat_lt (place z) (place y)))
+then_after is_low moved inside place z y =
+    nat_lt (part is_low moved z) (part is_low moved y)
+    ||
+    (nat_eq (part is_low moved z) (part is_low moved y)
+    && (if member z moved then nat_lt (inside z) (inside y) else nat_lt (place z) (place y)))

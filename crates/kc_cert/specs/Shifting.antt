@@ -39,4 +39,6 @@ no_home y = None
 
 -- whether `z` stands after `y`, by anchors and by places in the line
 abbrev pub chain_after : (ℕ → ℕ) → (ℕ → Option ℕ) → (ℕ → Option ℕ) → ℕ → ℕ → Bool
-chain_after place home places y z = if nat_eq (anchor_of home y) (anchor_of home z) then nat_lt (unwrap_or (places y) 0) (unwrap_or (places z) 0) else nat_lt (place (anchor_of home y)) (place (anchor_of home z))
+chain_after place home places y z =
+    if nat_eq (anchor_of home y) (anchor_of home z) then nat_lt (unwrap_or (places y) 0) (unwrap_or (places z) 0) else nat_lt
+    (place (anchor_of home y)) (place (anchor_of home z))

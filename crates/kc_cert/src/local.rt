@@ -89,7 +89,8 @@ fn look_around<S: State>(
     requires applied { is_applied update (S.state state.now).graph ≡ true }
     requires vertex { x < (S.state state.now).graph.size }
     requires seen { HoldWhereSeen (contains nat_eq seen.old) (changed_by update arrangement.now.moves.now (S.state state.now)) }
-    ensures holds { IfOk result (λ yes. IsTrue yes ↔ HoldsAround (S.state state.now).graph (changed_by update arrangement.now.moves.now (S.state state.now)) x) }
+    ensures holds { IfOk result (λ yes. IsTrue yes
+        ↔ HoldsAround (S.state state.now).graph (changed_by update arrangement.now.moves.now (S.state state.now)) x) }
     ensures seen { OnOk result (HoldWhereSeen (contains nat_eq seen.new) (changed_by update arrangement.now.moves.now (S.state state.now))) }
 {
     if !look(seen, state, update, arrangement, x)? {
@@ -117,7 +118,8 @@ fn holds_locally<S: State>(
     requires ends { update.v < (S.state state.now).graph.size }
     requires applied { is_applied update (S.state state.now).graph ≡ true }
     requires vertices { (x : ℕ) → member x moved.now ≡ true → x < (S.state state.now).graph.size }
-    ensures { IfOk result (λ yes. IsTrue yes ↔ HoldsLocally (S.state state.now).graph (changed_by update arrangement.now.moves.now (S.state state.now)) update moved.now) }
+    ensures { IfOk result (λ yes. IsTrue yes
+        ↔ HoldsLocally (S.state state.now).graph (changed_by update arrangement.now.moves.now (S.state state.now)) update moved.now) }
 {
     let mut seen = HashSet::new(alloc);
     if !look(&mut seen, state, update, arrangement, update.u)? {
@@ -145,7 +147,8 @@ fn changes_locally<S: State>(
     requires ends { update.v < (S.state state.now).graph.size }
     requires applied { is_applied update (S.state state.now).graph ≡ true }
     ensures { IfOk result (λ yes. IsTrue yes
-        ↔ MovesFit (S.state state.now) moves.now × HoldsLocally (S.state state.now).graph (changed_by update moves.now (S.state state.now)) update (moved_vertices moves.now)) }
+        ↔ MovesFit (S.state state.now) moves.now
+        × HoldsLocally (S.state state.now).graph (changed_by update moves.now (S.state state.now)) update (moved_vertices moves.now)) }
 {
     let moved = moved_vertices(alloc, moves)?;
     if !moves_fit(alloc, state, moves, &moved)? {

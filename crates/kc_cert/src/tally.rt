@@ -90,8 +90,10 @@ fn with_kept<S: State>(
     requires second { y < (S.state state.now).graph.size }
     requires later_fits { tally.later + 1 < 2 ^ 64 }
     requires high_fits { tally.high + 1 < 2 ^ 64 }
-    ensures later { result.later ≡ tally.later + (if keeps update z.vertex y && stands_after arrangement.now.moves.now (S.state state.now) z.vertex y then 1 else 0) }
-    ensures high { result.high ≡ tally.high + (if keeps update z.vertex y && nat_le z.number (slice_index (moved_by arrangement.now.moves.now (S.state state.now)).core y) then 1 else 0) }
+    ensures later { result.later ≡ tally.later
+        + (if keeps update z.vertex y && stands_after arrangement.now.moves.now (S.state state.now) z.vertex y then 1 else 0) }
+    ensures high { result.high ≡ tally.high
+        + (if keeps update z.vertex y && nat_le z.number (slice_index (moved_by arrangement.now.moves.now (S.state state.now)).core y) then 1 else 0) }
 {
     if keeps(update, z.vertex, y) {
         with_neighbour(state, arrangement, z, y, tally)
@@ -107,7 +109,8 @@ fn tally_kept<S: State>(state: &S, update: Update, arrangement: &Arrangement, z:
     requires vertex { z.vertex < (S.state state.now).graph.size }
     ensures later { result.later ≡ count_by (λ y. keeps update z.vertex y && stands_after arrangement.now.moves.now (S.state state.now) z.vertex y)
         (neighbours_of (S.state state.now).graph z.vertex) }
-    ensures high { result.high ≡ count_by (λ y. keeps update z.vertex y && nat_le z.number (slice_index (moved_by arrangement.now.moves.now (S.state state.now)).core y))
+    ensures high { result.high ≡ count_by (λ y. keeps update z.vertex y
+        && nat_le z.number (slice_index (moved_by arrangement.now.moves.now (S.state state.now)).core y))
         (neighbours_of (S.state state.now).graph z.vertex) }
     ensures few { (result.later < 2 ^ 32) × (result.high < 2 ^ 32) }
 {
@@ -126,9 +129,11 @@ fn tally_of<S: State>(state: &S, update: Update, arrangement: &Arrangement, z: N
     requires ends { update.v < (S.state state.now).graph.size }
     requires applied { is_applied update (S.state state.now).graph ≡ true }
     requires vertex { z.vertex < (S.state state.now).graph.size }
-    ensures later { result.later ≡ count_by (λ y. adjacent (updated update (S.state state.now).graph) z.vertex y && stands_after arrangement.now.moves.now (S.state state.now) z.vertex y)
+    ensures later { result.later ≡ count_by (λ y. adjacent (updated update (S.state state.now).graph) z.vertex y
+        && stands_after arrangement.now.moves.now (S.state state.now) z.vertex y)
         (below (S.state state.now).graph.size) }
-    ensures high { result.high ≡ count_by (λ y. adjacent (updated update (S.state state.now).graph) z.vertex y && nat_le z.number (slice_index (moved_by arrangement.now.moves.now (S.state state.now)).core y))
+    ensures high { result.high ≡ count_by (λ y. adjacent (updated update (S.state state.now).graph) z.vertex y
+        && nat_le z.number (slice_index (moved_by arrangement.now.moves.now (S.state state.now)).core y))
         (below (S.state state.now).graph.size) }
 {
     let tally = tally_kept(state, update, arrangement, z);

@@ -1,5 +1,6 @@
 -- Membership and counts in lists of numbers, by recursion on the list.
-use Rattle.std.proofs.Common.{◌≡◌, ◌≢◌, ◌≤◌, ◌<◌, ◌+◌, ℕ, suc, zero, Bool, true, false, cond, ◌||◌, List, [], ◌∷◌, length, get_or, eqb, refl, sym, ◌∙◌, ap, ◌⊎◌, inl, inr, arith, true≢false, eqb-true, eq-eqb, ne_eqb, lt_irrefl, ◌++◌, drop, take}
+use Rattle.std.proofs.Common.{◌≡◌, ◌≢◌, ◌≤◌, ◌<◌, ◌+◌, ℕ, suc, zero, Bool, true, false, cond, ◌||◌, List, [], ◌∷◌, length, get_or, eqb, refl, sym}
+use Rattle.std.proofs.Common.{◌∙◌, ap, ◌⊎◌, inl, inr, arith, true≢false, eqb-true, eq-eqb, ne_eqb, lt_irrefl, ◌++◌, drop, take}
 use Rattle.std.specs.Prelude.{AllPairs, Contains, count_by}
 use Rattle.std.specs.List.{filter}
 use Rattle.kc_distinct.specs.Lists.{member, Distinct, below}
@@ -32,7 +33,12 @@ count-erase p x [] px h = absurd (false≢true h)
 count-erase p x (y ∷ ys) px h =
     elim (eqb x y) as (λ b. eqb x y ≡ b → (b || member x ys) ≡ true → count_by p (y ∷ ys) ≡ 1 + count_by p (cond b ys (y ∷ erase x ys))) [
       | true ↦ λ e _. count-yes p y ys (ap p (sym (eqb-true x y e)) ∙ px)
-      | false ↦ λ e m. count-cons p y ys ∙ (ap (λ n. cond (p y) 1 0 + n) (count-erase p x ys px m) ∙ (omega arith ∙ ap (λ n. 1 + n) (sym (count-cons p y (erase x ys)))))
+      | false ↦
+          λ e m.
+          count-cons p y ys
+          ∙
+          (ap (λ n. cond (p y) 1 0 + n) (count-erase p x ys px m)
+          ∙ (omega arith ∙ ap (λ n. 1 + n) (sym (count-cons p y (erase x ys)))))
     ] refl h
 
 member-erase : (x z : ℕ) (ys : List ℕ) → (z ≡ x → ⊥) → member z ys ≡ true → member z (erase x ys) ≡ true
@@ -129,7 +135,8 @@ count-filter p q r both (x ∷ xs) =
           omega (arith, rest, count-yes r x xs rx, ap (count_by q) e, count-yes q x (filter p xs) (both x rx).1)
       | inr rx ↦
           let least : count_by q (filter p xs) ≤ count_by q (filter p (x ∷ xs)) =
-          elim (p x) as (λ b. count_by q (filter p xs) ≤ count_by q (cond b (x ∷ filter p xs) (filter p xs))) [ true ↦ omega (arith, count-cons q x (filter p xs)) | false ↦ omega arith ] in
+          elim (p x) as (λ b. count_by q (filter p xs) ≤ count_by q (cond b (x ∷ filter p xs) (filter p xs)))
+          [ true ↦ omega (arith, count-cons q x (filter p xs)) | false ↦ omega arith ] in
           omega (arith, rest, least, count-no r x xs rx)
     ]
 
@@ -209,7 +216,8 @@ pub drop-not_take : (n x : ℕ) (xs : List ℕ) → Distinct xs → member x (dr
 drop-not_take zero x xs d m = refl
 drop-not_take (suc n) x [] d m = refl
 drop-not_take (suc n) x (y ∷ ys) d m =
-    or_from (eqb x y) (member x (take n ys)) (ne_eqb x y (λ e. true≢false (sym (drop-member n x ys m) ∙ (ap (λ k. member k ys) e ∙ d.0)))) (drop-not_take n x ys d.1 m)
+    or_from (eqb x y) (member x (take n ys)) (ne_eqb x y (λ e. true≢false (sym (drop-member n x ys m) ∙ (ap (λ k. member k ys) e ∙ d.0))))
+    (drop-not_take n x ys d.1 m)
 
 pub take-not_here : (i : ℕ) (xs : List ℕ) → i < length xs → Distinct xs → member (get_or xs i 0) (take i xs) ≡ false
 take-not_here zero xs l d = refl
@@ -223,15 +231,18 @@ take-not_here (suc i) (x ∷ xs) l d =
 pub count-agree : (p q : ℕ → Bool) (xs : List ℕ) → ((x : ℕ) → member x xs ≡ true → p x ≡ q x) → count_by p xs ≡ count_by q xs
 count-agree p q [] h = refl
 count-agree p q (x ∷ xs) h =
-    count-cons p x xs ∙ ap (λ b. cond b 1 0 + count_by p xs) (h x (member-head x xs)) ∙ ap (λ n. cond (q x) 1 0 + n) (count-agree p q xs (λ y m. h y (member-tail y x xs m))) ∙ sym (count-cons q x xs)
+    count-cons p x xs ∙ ap (λ b. cond b 1 0 + count_by p xs) (h x (member-head x xs))
+    ∙ ap (λ n. cond (q x) 1 0 + n) (count-agree p q xs (λ y m. h y (member-tail y x xs m))) ∙ sym (count-cons q x xs)
 
 -- one that passes no longer
-pub count-without : (p q : ℕ → Bool) (v : ℕ) (xs : List ℕ) → Distinct xs → member v xs ≡ true → p v ≡ true → q v ≡ false → ((x : ℕ) → (x ≡ v → ⊥) → p x ≡ q x) → count_by p xs ≡ count_by q xs + 1
+pub count-without : (p q : ℕ → Bool) (v : ℕ) (xs : List ℕ) → Distinct xs → member v xs ≡ true → p v ≡ true → q v ≡ false
+    → ((x : ℕ) → (x ≡ v → ⊥) → p x ≡ q x) → count_by p xs ≡ count_by q xs + 1
 count-without p q v [] d m pv qv h = absurd (false≢true m)
 count-without p q v (x ∷ xs) d m pv qv h =
     elim (cases_eq x v) [
       | inl e ↦
-          let rest : count_by p xs ≡ count_by q xs = count-agree p q xs (λ y in'. h y (λ y-v. true≢false (sym in' ∙ (ap (λ n. member n xs) (y-v ∙ sym e) ∙ d.0)))) in
+          let rest : count_by p xs ≡ count_by q xs =
+          count-agree p q xs (λ y in'. h y (λ y-v. true≢false (sym in' ∙ (ap (λ n. member n xs) (y-v ∙ sym e) ∙ d.0)))) in
           omega (arith, rest, count-yes p x xs (ap p e ∙ pv), count-no q x xs (ap q e ∙ qv))
       | inr ne ↦
           let rest : count_by p xs ≡ count_by q xs + 1 = count-without p q v xs d.1 (member-other v x xs (λ e. ne (sym e)) m) pv qv h in

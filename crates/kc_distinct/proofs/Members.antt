@@ -1,6 +1,7 @@
 -- Membership, and lists cut at a member.
 use Rattle.std.proofs.Common.{◌≡◌, ℕ, suc, zero, ◌<◌, ◌≤◌, true, false, cond, List, [], ◌∷◌, ◌++◌, length, eqb, refl, sym, ◌∙◌, ap, subst, ◌⊎◌, inl, inr, arith}
-use Rattle.std.proofs.lemmas.Bool.{eqb-true, eqb-false, eq-eqb, ne_eqb, cases_Bool, or_cases, or_left, or_right, or_parts, or_from, false≢true, true≢false, false_from_ne_true}
+use Rattle.std.proofs.lemmas.Bool.{eqb-true, eqb-false, eq-eqb, ne_eqb, cases_Bool, or_cases, or_left, or_right, or_parts, or_from, false≢true}
+use Rattle.std.proofs.lemmas.Bool.{true≢false, false_from_ne_true}
 use Rattle.std.proofs.lemmas.List.{append_assoc, length-append}
 use Rattle.kc_distinct.specs.Lists.{member, Distinct, without, right_after, head_or, last_or, next_of, prev_of, place_of}
 
@@ -29,7 +30,9 @@ member-append x (z ∷ xs) ys h =
 
 pub member-append_left : (x : ℕ) (xs ys : List ℕ) → member x xs ≡ true → member x (xs ++ ys) ≡ true
 member-append_left x [] ys h = absurd (false≢true h)
-member-append_left x (z ∷ xs) ys h = elim (member-cases x z xs h) [ inl e ↦ or_left (eqb x z) (member x (xs ++ ys)) (eq-eqb x z e) | inr m ↦ member-tail x z (xs ++ ys) (member-append_left x xs ys m) ]
+member-append_left x (z ∷ xs) ys h =
+    elim (member-cases x z xs h)
+    [ inl e ↦ or_left (eqb x z) (member x (xs ++ ys)) (eq-eqb x z e) | inr m ↦ member-tail x z (xs ++ ys) (member-append_left x xs ys m) ]
 
 pub member-append_right : (x : ℕ) (xs ys : List ℕ) → member x ys ≡ true → member x (xs ++ ys) ≡ true
 member-append_right x [] ys h = h
@@ -42,7 +45,9 @@ not_member-append x xs ys h = (
 )
 
 pub append-not_member : (x : ℕ) (xs ys : List ℕ) → member x xs ≡ false → member x ys ≡ false → member x (xs ++ ys) ≡ false
-append-not_member x xs ys a b = false_from_ne_true (member x (xs ++ ys)) (λ m. elim (member-append x xs ys m) [ inl p ↦ true≢false (sym p ∙ a) | inr p ↦ true≢false (sym p ∙ b) ])
+append-not_member x xs ys a b =
+    false_from_ne_true (member x (xs ++ ys))
+    (λ m. elim (member-append x xs ys m) [ inl p ↦ true≢false (sym p ∙ a) | inr p ↦ true≢false (sym p ∙ b) ])
 
 -- a list is cut at its member
 pub record Cut (x : ℕ) (xs : List ℕ) : Type 0 where
@@ -186,7 +191,11 @@ right_after-member y x p (z ∷ zs) m h =
           let m' : member p zs ≡ true = elim (member-cases p z zs m) [ inl e ↦ absurd (eqb-false p z f e) | inr k ↦ k ] in
           elim h [
             | inl e ↦ member-tail y z (right_after x p zs) (right_after-member y x p zs m' (inl e))
-            | inr k ↦ elim (member-cases y z zs k) [ inl e ↦ or_left (eqb y z) _ (eq-eqb y z e) | inr k' ↦ member-tail y z (right_after x p zs) (right_after-member y x p zs m' (inr k')) ]
+            | inr k ↦
+                elim (member-cases y z zs k) [
+                  | inl e ↦ or_left (eqb y z) _ (eq-eqb y z e)
+                  | inr k' ↦ member-tail y z (right_after x p zs) (right_after-member y x p zs m' (inr k'))
+                ]
           ]
     ] refl
 
@@ -196,7 +205,11 @@ Distinct-right_after x p (z ∷ zs) d h =
     let q = not_member-parts x z zs h in
     elim (eqb p z) as (λ b. Distinct (cond b (z ∷ x ∷ zs) (z ∷ right_after x p zs))) [
       | true ↦ (not_member-cons z x zs (λ e. q.0 (sym e)) d.0, (q.1, d.1))
-      | false ↦ (false_from_ne_true (member z (right_after x p zs)) (λ m. elim (member-right_after z x p zs m) [ inl e ↦ q.0 (sym e) | inr k ↦ true≢false (sym k ∙ d.0) ]), Distinct-right_after x p zs d.1 q.1)
+      | false ↦ (
+        false_from_ne_true (member z (right_after x p zs))
+            (λ m. elim (member-right_after z x p zs m) [ inl e ↦ q.0 (sym e) | inr k ↦ true≢false (sym k ∙ d.0) ]),
+        Distinct-right_after x p zs d.1 q.1,
+      )
     ]
 
 head_in : (e z : ℕ) (zs : List ℕ) → (head_or e zs ≡ e) ⊎ (member (head_or e zs) (z ∷ zs) ≡ true)
@@ -220,7 +233,8 @@ some_or_none [] = inl refl
 some_or_none (x ∷ xs) = inr (ended x xs)
 
 -- what stands before x stands at a lesser place
-pub prev-place : (e x : ℕ) (xs : List ℕ) → Distinct xs → member x xs ≡ true → ((y : ℕ) → member y xs ≡ true → (y ≡ e → ⊥)) → (prev_of e x xs ≡ e → ⊥) → (member (prev_of e x xs) xs ≡ true) × (suc (place_of (prev_of e x xs) xs) ≡ place_of x xs)
+pub prev-place : (e x : ℕ) (xs : List ℕ) → Distinct xs → member x xs ≡ true → ((y : ℕ) → member y xs ≡ true → (y ≡ e → ⊥))
+    → (prev_of e x xs ≡ e → ⊥) → (member (prev_of e x xs) xs ≡ true) × (suc (place_of (prev_of e x xs) xs) ≡ place_of x xs)
 prev-place e x xs d m f ne =
     let c = cut x xs m in
     let apart = Distinct-cut x c.front c.back (subst Distinct c.is d) in
@@ -232,9 +246,11 @@ prev-place e x xs d m f ne =
           let last : prev_of e x xs ≡ w.last = is ∙ (ap (last_or e) w.is ∙ last_or-push e w.front w.last) in
           let split : xs ≡ w.front ++ w.last ∷ (x ∷ c.back) = c.is ∙ (ap (λ zs. zs ++ x ∷ c.back) w.is ∙ append_assoc w.front (w.last ∷ []) (x ∷ c.back)) in
           let apart' = Distinct-cut w.last w.front (x ∷ c.back) (subst Distinct split d) in
-          let place : place_of (prev_of e x xs) xs ≡ length w.front = ap (λ z. place_of z xs) last ∙ (ap (place_of w.last) split ∙ place_of-cut w.last w.front (x ∷ c.back) apart'.0) in
+          let place : place_of (prev_of e x xs) xs ≡ length w.front =
+          ap (λ z. place_of z xs) last ∙ (ap (place_of w.last) split ∙ place_of-cut w.last w.front (x ∷ c.back) apart'.0) in
           let place-x : place_of x xs ≡ length c.front = ap (place_of x) c.is ∙ place_of-cut x c.front c.back apart.0 in (
-            ap (λ z. member z xs) last ∙ (ap (member w.last) split ∙ member-append_right w.last w.front (w.last ∷ x ∷ c.back) (member-head w.last (x ∷ c.back))),
+            ap (λ z. member z xs) last
+                ∙ (ap (member w.last) split ∙ member-append_right w.last w.front (w.last ∷ x ∷ c.back) (member-head w.last (x ∷ c.back))),
             omega (arith, place, place-x, ap length w.is, length-append w.front (w.last ∷ [])),
           )
     ]

@@ -1,5 +1,6 @@
 -- The entries of a batch one after the other: no two are of one edge, so none changes what another one meets.
-use Rattle.std.proofs.Common.{◌≡◌, ◌≢◌, ◌<◌, ◌-◌, ℕ, Bool, true, false, cond, not, List, [], ◌∷◌, ◌++◌, length, get_or, map, eqb, refl, sym, ◌∙◌, ap, ap₂, inl, inr, arith, true≢false, eq-eqb}
+use Rattle.std.proofs.Common.{◌≡◌, ◌≢◌, ◌<◌, ◌-◌, ℕ, Bool, true, false, cond, not, List, [], ◌∷◌, ◌++◌, length, get_or, map, eqb, refl, sym, ◌∙◌, ap}
+use Rattle.std.proofs.Common.{ap₂, inl, inr, arith, true≢false, eq-eqb}
 use Rattle.std.specs.List.{AllByRecursion}
 use Rattle.std.proofs.Math.Seq.{get_or-append_seam}
 use Rattle.std.proofs.lemmas.Bool.{cases_order, eqb-false, or_left, or_parts, or_right}
@@ -14,7 +15,8 @@ use Rattle.kc_text.specs.Inputs.{IsBatch, edge_of, parts_of}
 use Rattle.kc_agree.specs.Stamps.{changes_graph}
 use Rattle.kc_effects.specs.Batches.{changed_edge, graph_after_batch, graph_with, is_effective}
 use Rattle.kc_effects.specs.Entered.{IsIndexOf, IsOneOf, IsUpdateAt, change_of, indices}
-use Rattle.kc_effects.proofs.Applying.{Part, Spares, contains-ordered, contains-other, graph_after_batch-first, graph_after_batch-nil, graph_with-add, graph_with-remove}
+use Rattle.kc_effects.proofs.Applying.{Part, Spares, contains-ordered, contains-other, graph_after_batch-first, graph_after_batch-nil, graph_with-add}
+use Rattle.kc_effects.proofs.Applying.{graph_with-remove}
 
 -- the entries of two lists one after the other
 pub after_entries-append : (g : SimpleGraph) (xs ys : List Entry) → after_entries g (xs ++ ys) ≡ after_entries (after_entries g xs) ys

@@ -1,5 +1,6 @@
 -- Numbers in a row: distinct numbers of it that are as many as it has are all of it, and pass a test as often.
-use Rattle.std.proofs.Common.{◌≡◌, ◌≤◌, ◌<◌, ◌+◌, ◌-◌, ℕ, suc, zero, Bool, true, false, cond, List, [], ◌∷◌, length, get_or, map, eqb, refl, sym, ◌∙◌, ap, ap₂, inl, inr, arith, eq-eqb, lt_irrefl}
+use Rattle.std.proofs.Common.{◌≡◌, ◌≤◌, ◌<◌, ◌+◌, ◌-◌, ℕ, suc, zero, Bool, true, false, cond, List, [], ◌∷◌, length, get_or, map, eqb, refl, sym, ◌∙◌}
+use Rattle.std.proofs.Common.{ap, ap₂, inl, inr, arith, eq-eqb, lt_irrefl}
 use Rattle.std.specs.Prelude.{count_by}
 use Rattle.std.specs.List.{AllByRecursion}
 use Rattle.std.proofs.lemmas.Bool.{cases_eq, or_left, or_right, false≢true, false_from_ne_true, true_from_ne_false}

@@ -1,5 +1,6 @@
 -- An edge more in the rows is an edge more in the graph.
-use Rattle.std.proofs.Common.{◌≡◌, ◌≤◌, ◌<◌, ◌+◌, ◌*◌, ℕ, Bool, true, false, cond, ◌&&◌, ◌||◌, List, [], length, get_or, set, eqb, ltb, refl, sym, ◌∙◌, ap, subst, inl, inr, arith, length-set, eq-eqb, ne_eqb, lt-ltb, ltb-true, ap₂, replicate}
+use Rattle.std.proofs.Common.{◌≡◌, ◌≤◌, ◌<◌, ◌+◌, ◌*◌, ℕ, Bool, true, false, cond, ◌&&◌, ◌||◌, List, [], length, get_or, set, eqb, ltb, refl, sym}
+use Rattle.std.proofs.Common.{◌∙◌, ap, subst, inl, inr, arith, length-set, eq-eqb, ne_eqb, lt-ltb, ltb-true, ap₂, replicate}
 use Rattle.std.specs.List.Sorted.{IsStrictlyIncreasing}
 use Rattle.std.specs.List.{sum_by, All}
 use Rattle.std.specs.Ordering.{eq_by_cmp}
@@ -37,7 +38,8 @@ module _ (old new : List (List ℕ)) (u v : ℕ) (differ : u ≡ v → ⊥) (lu 
   gained : (a b : ℕ) → member b (row new a) ≡ (member b (row old a) || joins u v a b)
   gained a b = elim (cases_eq a u) [
     | inl e ↦
-        let j : joins u v a b ≡ eqb b v = ap₂ (λ s t. (s && eqb b v) || (t && eqb b u)) (eq-eqb a u e) (ne_eqb a v (λ f. differ (sym e ∙ f))) ∙ or-false (eqb b v) in
+        let j : joins u v a b ≡ eqb b v =
+        ap₂ (λ s t. (s && eqb b v) || (t && eqb b u)) (eq-eqb a u e) (ne_eqb a v (λ f. differ (sym e ∙ f))) ∙ or-false (eqb b v) in
         ap (λ k. member b (row new k)) e ∙ ap (member b) at-u ∙ both.at_first.gained b ∙ ap₂ (λ s t. s || t) (ap (λ k. member b (row old k)) (sym e)) (sym j)
     | inr nu ↦ elim (cases_eq a v) [
       | inl e ↦
@@ -79,7 +81,9 @@ module _ (old new : List (List ℕ)) (u v : ℕ) (differ : u ≡ v → ⊥) (lu 
         | inr k ↦ or_left _ _ (tied_pair (a, b) (edge u v) (joins-edge u v a b differ (ltb-true a b p.0) k))
       ])
       (λ h. elim (or_cases _ _ (sym (contains-insert pair_total (graph_of old).edges (edge u v) (a, b)) ∙ h)) [
-        | inl k ↦ let p = edge-joins u v a b differ (same_pair (a, b) (edge u v) k) in and_from _ _ (lt-ltb a b p.0) (gained a b ∙ or_right (member b (row old a)) _ p.1)
+        | inl k ↦
+            let p = edge-joins u v a b differ (same_pair (a, b) (edge u v) k) in
+            and_from _ _ (lt-ltb a b p.0) (gained a b ∙ or_right (member b (row old a)) _ p.1)
         | inr k ↦ let p = and_parts (ltb a b) (member b (row old a)) (sym (contains-edges old a b) ∙ k) in and_from _ _ p.0 (gained a b ∙ or_left _ _ p.1)
       ])) in
       let size : (graph_of new).size ≡ (graph_of old).size = size-graph_of new ∙ new-length ∙ sym (size-graph_of old) in
@@ -89,14 +93,16 @@ module _ (old new : List (List ℕ)) (u v : ℕ) (differ : u ≡ v → ⊥) (lu 
   sum-added =
       let mid : List (List ℕ) = set old u both.first in
       let a : sum_by length mid + length (row old u) ≡ sum_by length old + length both.first = sum_by-set length old u both.first [] lu in
-      let b : sum_by length (set mid v both.second) + length (row mid v) ≡ sum_by length mid + length both.second = sum_by-set length mid v both.second [] (omega (arith, length-set old u both.first)) in
+      let b : sum_by length (set mid v both.second) + length (row mid v) ≡ sum_by length mid + length both.second =
+      sum_by-set length mid v both.second [] (omega (arith, length-set old u both.first)) in
       let c : length (row mid v) ≡ length (row old v) = ap length (row-set_other old u v both.first (λ e. differ (sym e))) in
       omega (arith, a, b, c, both.at_first.longer, both.at_second.longer, ap (sum_by length) both.rows)
 
   pub len-added : IsAdjacency old → member v (row old u) ≡ false → len (graph_of new).edges ≡ len (graph_of old).edges + 1
   len-added h lacks =
       let absent : contains (graph_of old).edges (edge u v) ≡ false = contains-edge (graph_of old) u v differ ∙ adjacent-graph_of old h u v ∙ lacks in
-      ap (λ (g : SimpleGraph). len g.edges) graph_of-added ∙ len-insert pair_total (graph_of old).edges (edge u v) ∙ ap (λ t. cond t (len (graph_of old).edges) (len (graph_of old).edges + 1)) absent
+      ap (λ (g : SimpleGraph). len g.edges) graph_of-added ∙ len-insert pair_total (graph_of old).edges (edge u v)
+      ∙ ap (λ t. cond t (len (graph_of old).edges) (len (graph_of old).edges + 1)) absent
 
 pub sum-none : (n : ℕ) → sum_by (length {A = ℕ}) (replicate n []) ≡ 0
 sum-none n = sum_by-replicate (length {A = ℕ}) n [] ∙ omega arith
@@ -112,7 +118,11 @@ few_edges rows h small =
       count-all yes (row rows i) (λ x _. refl),
       count-all yes (below n) (λ x _. refl),
       length-below n,
-      count-le yes (row rows i) (below n) (Distinct-from_pairs (row rows i) (λ a b d lt lb e. let k : get_or (row rows i) a d < get_or (row rows i) b d = AllPairs-from_increasing (row rows i) (h.ascends i) a b d lt lb in absurd (omega arith)))
+      count-le yes (row rows i) (below n)
+          (Distinct-from_pairs (row rows i)
+          (λ a b d lt lb e.
+          let k : get_or (row rows i) a d < get_or (row rows i) b d = AllPairs-from_increasing (row rows i) (h.ascends i) a b d lt lb in
+          absurd (omega arith)))
           (λ x m _. member-below x n (h.within i x m)),
     )) in
     let most : sum_by (length {A = ℕ}) rows ≤ n * n = sum_by-le (length {A = ℕ}) n rows each in

@@ -1,5 +1,6 @@
 -- Rows as lists: one of them written, pushed to or popped from.
-use Rattle.std.proofs.Common.{◌≡◌, ◌≢◌, ◌≤◌, ◌<◌, ◌+◌, ℕ, suc, zero, List, [], ◌∷◌, ◌++◌, length, get_or, set, refl, sym, ◌∙◌, ap, arith, set-set, Vec, Global, Option, Some, None, append-nil, vec_len}
+use Rattle.std.proofs.Common.{◌≡◌, ◌≢◌, ◌≤◌, ◌<◌, ◌+◌, ℕ, suc, zero, List, [], ◌∷◌, ◌++◌, length, get_or, set, refl, sym, ◌∙◌, ap, arith, set-set}
+use Rattle.std.proofs.Common.{Vec, Global, Option, Some, None, append-nil, vec_len}
 use Rattle.std.specs.Option.{option_to_list, MatchOption, IfSome, IfNone}
 use Rattle.std.proofs.lemmas.List.{length-map, get_or-map, get_or-set_same, get_or-set_other}
 use Rattle.kc_graph.specs.Rows.{lists, row}
@@ -46,12 +47,14 @@ popped rows i w d s l e =
     ∙ ap (set (lists rows) i) (sym e ∙ sym (row-at rows i d l))
     ∙ set-row (lists rows) i)
 
-pub some_popped : (rows : List (Vec ℕ Global)) (i : ℕ) (d s : Vec ℕ Global) (o : Option ℕ) → i < length rows → (get_or rows i d).items ≡ s.items ++ option_to_list o
+pub some_popped : (rows : List (Vec ℕ Global)) (i : ℕ) (d s : Vec ℕ Global) (o : Option ℕ) → i < length rows
+    → (get_or rows i d).items ≡ s.items ++ option_to_list o
     → IfSome o (λ w. lists rows ≡ set (lists (set rows i s)) i (row (lists (set rows i s)) i ++ w ∷ []))
 some_popped rows i d s None l e = tt
 some_popped rows i d s (Some w) l e = popped rows i w d s l e
 
-pub none_popped : (rows : List (Vec ℕ Global)) (i : ℕ) (d s : Vec ℕ Global) (o : Option ℕ) → i < length rows → (get_or rows i d).items ≡ s.items ++ option_to_list o
+pub none_popped : (rows : List (Vec ℕ Global)) (i : ℕ) (d s : Vec ℕ Global) (o : Option ℕ) → i < length rows
+    → (get_or rows i d).items ≡ s.items ++ option_to_list o
     → MatchOption o ((vec_len (get_or rows i d) ≡ 0) × (vec_len s ≡ 0)) (λ _. vec_len s + 1 ≡ vec_len (get_or rows i d))
     → IfNone o ((lists (set rows i s) ≡ lists rows) × (row (lists (set rows i s)) i ≡ []))
 none_popped rows i d s (Some w) l e z = tt

@@ -16,7 +16,9 @@ same_edge u v a b differ l = both_ways _ _
     (λ j. tied_pair (a, b) (edge u v) (joins-edge u v a b differ l j))
 
 joins-itself : (u v a : ℕ) → (u ≡ v → ⊥) → joins u v a a ≡ false
-joins-itself u v a differ = false_from_ne_true (joins u v a a) (λ k. elim (joins-true u v a a k) [ inl p ↦ differ (sym p.0 ∙ p.1) | inr p ↦ differ (sym p.1 ∙ p.0) ])
+joins-itself u v a differ =
+    false_from_ne_true (joins u v a a)
+    (λ k. elim (joins-true u v a a k) [ inl p ↦ differ (sym p.0 ∙ p.1) | inr p ↦ differ (sym p.1 ∙ p.0) ])
 
 adjacent-below : (g : SimpleGraph) (a b : ℕ) → a < b → adjacent g a b ≡ contains g.edges (a, b)
 adjacent-below g a b l = rw (lt-ltb a b l) refl
@@ -32,11 +34,16 @@ and_swap a b = grind arith
 
 with_below : (g : SimpleGraph) (u v a b : ℕ) → (u ≡ v → ⊥) → a < b → contains (insert g.edges (edge u v)) (a, b) ≡ (adjacent g a b || joins u v a b)
 with_below g u v a b differ l =
-    contains-insert pair_total g.edges (edge u v) (a, b) ∙ (ap₂ (λ (s t : Bool). s || t) (same_edge u v a b differ l) (sym (adjacent-below g a b l)) ∙ or_swap (joins u v a b) (adjacent g a b))
+    contains-insert pair_total g.edges (edge u v) (a, b)
+    ∙
+    (ap₂ (λ (s t : Bool). s || t) (same_edge u v a b differ l) (sym (adjacent-below g a b l)) ∙ or_swap (joins u v a b) (adjacent g a b))
 
 without_below : (g : SimpleGraph) (u v a b : ℕ) → (u ≡ v → ⊥) → a < b → contains (remove g.edges (edge u v)) (a, b) ≡ (adjacent g a b && not (joins u v a b))
 without_below g u v a b differ l =
-    contains-remove pair_total g.edges (edge u v) (a, b) ∙ (ap₂ (λ (s t : Bool). not s && t) (same_edge u v a b differ l) (sym (adjacent-below g a b l)) ∙ and_swap (joins u v a b) (adjacent g a b))
+    contains-remove pair_total g.edges (edge u v) (a, b)
+    ∙
+    (ap₂ (λ (s t : Bool). not s && t) (same_edge u v a b differ l) (sym (adjacent-below g a b l))
+    ∙ and_swap (joins u v a b) (adjacent g a b))
 
 -- after an edge came
 pub adjacent-with : (g : SimpleGraph) (u v a b : ℕ) → (u ≡ v → ⊥) → adjacent (with_edge g u v) a b ≡ (adjacent g a b || joins u v a b)

@@ -1,5 +1,6 @@
 -- Each graph has core numbers: vertices are taken one by one, with no code.
-use Rattle.std.proofs.Common.{◌≡◌, ◌≢◌, ◌≤◌, ◌<◌, ◌+◌, ◌-◌, ℕ, suc, zero, Bool, true, false, not, ◌&&◌, ◌++◌, ◌⊎◌, List, [], ◌∷◌, length, set, replicate, sym, ap, ◌∙◌, inl, inr, arith, nat_le, leb-true, le-leb, length-append, length-set, true≢false}
+use Rattle.std.proofs.Common.{◌≡◌, ◌≢◌, ◌≤◌, ◌<◌, ◌+◌, ◌-◌, ℕ, suc, zero, Bool, true, false, not, ◌&&◌, ◌++◌, ◌⊎◌, List, [], ◌∷◌, length, set}
+use Rattle.std.proofs.Common.{replicate, sym, ap, ◌∙◌, inl, inr, arith, nat_le, leb-true, le-leb, length-append, length-set, true≢false}
 use Rattle.std.proofs.lemmas.Bool.{cases_Bool, cases_eq, cases_lt, and_parts, and_from, false≢true, not-true, true_from_ne_false, eqb-false}
 use Rattle.std.proofs.lemmas.List.{get_or-set_same, get_or-set_other, get_or-replicate, length-replicate}
 use Rattle.kc_distinct.specs.Lists.{member}
@@ -31,7 +32,8 @@ IsUntouched g core taken = (v : ℕ) → v < g.size → member v taken ≡ false
 abbrev is_next : SimpleGraph → ℕ → List ℕ → ℕ → Bool
 is_next g level taken v = not (member v taken) && nat_le (remaining g taken v) level
 
-take_next : (g : SimpleGraph) (level v : ℕ) (core taken : List ℕ) → Peeled g level core taken → IsUntouched g core taken → level ≤ g.size → v < g.size → member v taken ≡ false → remaining g taken v ≤ level
+take_next : (g : SimpleGraph) (level v : ℕ) (core taken : List ℕ) → Peeled g level core taken → IsUntouched g core taken → level ≤ g.size
+    → v < g.size → member v taken ≡ false → remaining g taken v ≤ level
     → Peeled g level (set core v level) (taken ++ v ∷ []) × IsUntouched g (set core v level) (taken ++ v ∷ [])
 take_next g level v core taken p high fits l left few =
     let same : (w : ℕ) → w ≢ v → at (set core v level) w ≡ at core w = λ w ne. get_or-set_other core v w level 0 ne in (
@@ -45,7 +47,8 @@ take_next g level v core taken p high fits l left few =
       λ w lw out. let k = member-push_none w v taken out in same w (eqb-false w v k.1) ∙ high w lw k.0,
     )
 
-peel : (fuel : ℕ) (g : SimpleGraph) (level : ℕ) (core taken : List ℕ) → Peeled g level core taken → IsUntouched g core taken → level ≤ g.size → (g.size - level) + (g.size - length taken) < fuel
+peel : (fuel : ℕ) (g : SimpleGraph) (level : ℕ) (core taken : List ℕ) → Peeled g level core taken → IsUntouched g core taken
+    → level ≤ g.size → (g.size - level) + (g.size - length taken) < fuel
     → (core' : List ℕ) × (order : List ℕ) × Certifies g core' order
 peel zero g level core taken p high fits h = absurd (omega arith)
 peel (suc fuel) g level core taken p high fits h = elim (first_of_them (is_next g level taken) g.size) [
@@ -58,15 +61,32 @@ peel (suc fuel) g level core taken p high fits h = elim (first_of_them (is_next 
   | inr none ↦
       let many : (v : ℕ) → v < g.size → member v taken ≡ false → level < remaining g taken v = λ v l left. elim (cases_lt level (remaining g taken v)) [
         | inl lt ↦ lt
-        | inr le ↦ absurd (false≢true (sym (none v l) ∙ and_from (not (member v taken)) (nat_le (remaining g taken v) level) (ap not left) (le-leb (remaining g taken v) level le)))
+        | inr le ↦
+            absurd
+            (false≢true
+            (sym (none v l)
+            ∙ and_from (not (member v taken)) (nat_le (remaining g taken v) level) (ap not left)
+            (le-leb (remaining g taken v) level le)))
       ] in
       elim (cases_lt level g.size) [
-        | inl lt ↦ peel fuel g (level + 1) core taken (raise g level core taken p (λ v l left. (omega (arith, high v l left), many v l left))) high (omega arith) (omega arith)
-        | inr ge ↦ (core, taken, finish g level core taken p (λ v l. true_from_ne_false (member v taken) (λ left. let a : level < remaining g taken v = many v l left in let b : remaining g taken v < g.size = remaining-lt g taken v l in absurd (omega arith))))
+        | inl lt ↦
+            peel fuel g (level + 1) core taken (raise g level core taken p (λ v l left. (omega (arith, high v l left), many v l left))) high
+            (omega arith) (omega arith)
+        | inr ge ↦ (
+          core,
+          taken,
+          finish g level core taken p
+              (λ v l.
+              true_from_ne_false (member v taken)
+              (λ left.
+              let a : level < remaining g taken v = many v l left in
+              let b : remaining g taken v < g.size = remaining-lt g taken v l in absurd (omega arith))),
+        )
       ]
 ]
 
 pub certificate_exists : (g : SimpleGraph) → (core : List ℕ) × (order : List ℕ) × Certifies g core order
 certificate_exists g =
     let full : List ℕ = replicate g.size g.size in
-    peel (g.size + g.size + 1) g 0 full [] (start g full (length-replicate g.size g.size)) (λ v l _. get_or-replicate g.size v g.size 0 l) (omega arith) (omega arith)
+    peel (g.size + g.size + 1) g 0 full [] (start g full (length-replicate g.size g.size)) (λ v l _. get_or-replicate g.size v g.size 0 l)
+    (omega arith) (omega arith)

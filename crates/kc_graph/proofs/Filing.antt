@@ -1,11 +1,14 @@
 -- Buckets of vertices: who stands where while vertices are taken.
-use Rattle.std.proofs.Common.{◌≡◌, ◌≢◌, ◌≤◌, ◌<◌, ◌+◌, ℕ, max, Bool, true, false, cond, ◌&&◌, List, [], ◌∷◌, ◌++◌, length, set, replicate, eqb, ltb, refl, sym, ◌∙◌, ap, subst, ◌⊎◌, inl, inr, arith, eq-eqb, eqb-true, ltb-true, lt-ltb, le-ltb, true≢false}
+use Rattle.std.proofs.Common.{◌≡◌, ◌≢◌, ◌≤◌, ◌<◌, ◌+◌, ℕ, max, Bool, true, false, cond, ◌&&◌, List, [], ◌∷◌, ◌++◌, length, set, replicate, eqb, ltb}
+use Rattle.std.proofs.Common.{refl, sym, ◌∙◌, ap, subst, ◌⊎◌, inl, inr, arith, eq-eqb, eqb-true, ltb-true, lt-ltb, le-ltb, true≢false}
 use Rattle.std.specs.List.{filter}
-use Rattle.std.proofs.lemmas.Bool.{cases_Bool, cases_eq, cases_lt, false≢true, or_right, and_parts, and_from, and_right, eqb-false, or_cases, or_left, false_from_ne_true, true_from_ne_false}
+use Rattle.std.proofs.lemmas.Bool.{cases_Bool, cases_eq, cases_lt, false≢true, or_right, and_parts, and_from, and_right, eqb-false, or_cases, or_left}
+use Rattle.std.proofs.lemmas.Bool.{false_from_ne_true, true_from_ne_false}
 use Rattle.std.proofs.Math.Bool.{and-true}
 use Rattle.kc_distinct.specs.Lists.{member, Distinct}
 use Rattle.kc_distinct.proofs.Members.{member-append, member-append_left, member-append_right, append-not_member}
-use Rattle.kc_distinct.proofs.Counting.{member-push, member-push_left, member-push_cases, member-push_none, member-filter, filter-member, Distinct-filter, Distinct-push}
+use Rattle.kc_distinct.proofs.Counting.{member-push, member-push_left, member-push_cases, member-push_none, member-filter, filter-member}
+use Rattle.kc_distinct.proofs.Counting.{Distinct-filter, Distinct-push}
 use Rattle.kc_graph.specs.SimpleGraph.{SimpleGraph, adjacent}
 use Rattle.kc_graph.specs.Certificate.{Certifies}
 use Rattle.kc_graph.specs.Neighbours.{AreNeighbours}
@@ -30,11 +33,13 @@ popped_member : (level v : ℕ) (old rows : List (List ℕ)) → Popped level v 
 popped_member level v old rows p = ap (member v) p.here ∙ or_left (eqb v v) (member v (row rows level)) (eq-eqb v v refl)
 
 -- who comes out of a bucket has no greater number
-pub popped_fits : (level v : ℕ) (core taken : List ℕ) (old rows : List (List ℕ)) → Filed core taken old → Popped level v old rows → (v < length core) × (at core v ≤ level)
+pub popped_fits : (level v : ℕ) (core taken : List ℕ) (old rows : List (List ℕ)) → Filed core taken old → Popped level v old rows
+    → (v < length core) × (at core v ≤ level)
 popped_fits level v core taken old rows f p = f.fits level v (popped_member level v old rows p)
 
 -- who comes out of the bucket of its number is not taken yet
-popped_left : (level v : ℕ) (core taken : List ℕ) (old rows : List (List ℕ)) → Filed core taken old → Popped level v old rows → at core v ≡ level → member v taken ≡ false
+popped_left : (level v : ℕ) (core taken : List ℕ) (old rows : List (List ℕ)) → Filed core taken old → Popped level v old rows
+    → at core v ≡ level → member v taken ≡ false
 popped_left level v core taken old rows f p here =
     false_from_ne_true (member v taken) (λ m. true≢false (sym (ap (λ b. member v (row old b)) here ∙ popped_member level v old rows p) ∙ f.gone v m))
 
@@ -98,7 +103,8 @@ popped_takes g level v core taken old rows h p here = record {
 }
 
 -- a vertex that was taken before comes out of a bucket
-pub popped_past : (g : SimpleGraph) (level v : ℕ) (core taken : List ℕ) (old rows : List (List ℕ)) → Peels g level core taken old → Popped level v old rows → (at core v ≡ level → ⊥) → Peels g level core taken rows
+pub popped_past : (g : SimpleGraph) (level v : ℕ) (core taken : List ℕ) (old rows : List (List ℕ)) → Peels g level core taken old
+    → Popped level v old rows → (at core v ≡ level → ⊥) → Peels g level core taken rows
 popped_past g level v core taken old rows h p past = record {
   peeled = h.peeled;
   exact = h.exact;
@@ -106,7 +112,8 @@ popped_past g level v core taken old rows h p past = record {
 }
 
 -- who has more than `level` neighbours left stands in a bucket that is there
-pub has_room : (level w : ℕ) (core taken : List ℕ) (rows : List (List ℕ)) → Filed core taken rows → ((u : ℕ) → member u taken ≡ true → at core u ≤ level) → w < length core → level < at core w → at core w < length rows
+pub has_room : (level w : ℕ) (core taken : List ℕ) (rows : List (List ℕ)) → Filed core taken rows
+    → ((u : ℕ) → member u taken ≡ true → at core u ≤ level) → w < length core → level < at core w → at core w < length rows
 has_room level w core taken rows f done l up =
     let left : member w taken ≡ false = false_from_ne_true (member w taken) (λ m. let k : at core w ≤ level = done w m in absurd (omega arith)) in
     elim (cases_lt (at core w) (length rows)) [
@@ -115,12 +122,14 @@ has_room level w core taken rows f done l up =
     ]
 
 -- a number that is no higher than the level stays
-pub lowered_low : (level u : ℕ) (ws core : List ℕ) (rows : List (List ℕ)) (core' : List ℕ) (rows' : List (List ℕ)) → Lowered level ws core rows core' rows' → at core u ≤ level → at core u ≡ at core' u
+pub lowered_low : (level u : ℕ) (ws core : List ℕ) (rows : List (List ℕ)) (core' : List ℕ) (rows' : List (List ℕ))
+    → Lowered level ws core rows core' rows' → at core u ≤ level → at core u ≡ at core' u
 lowered_low level u ws core rows core' rows' h low =
     let z : member u ws && ltb level (at core u) ≡ false = and_right (member u ws) _ (le-ltb level (at core u) low) in
     omega (arith, h.lowered u, ap one_if z)
 
-filed_lowered : (level : ℕ) (ws core taken : List ℕ) (rows : List (List ℕ)) (core' : List ℕ) (rows' : List (List ℕ)) → Lowered level ws core rows core' rows' → Filed core taken rows
+filed_lowered : (level : ℕ) (ws core taken : List ℕ) (rows : List (List ℕ)) (core' : List ℕ) (rows' : List (List ℕ))
+    → Lowered level ws core rows core' rows' → Filed core taken rows
     → ((u : ℕ) → member u taken ≡ true → at core u ≤ level) → Distinct ws → ((w : ℕ) → member w ws ≡ true → w < length core) → Filed core' taken rows'
 filed_lowered level ws core taken rows core' rows' h f done d within =
     let moved : ℕ → ℕ → Bool = λ b w. ltb level (at core w) && eqb (at core w) (b + 1) in
@@ -130,7 +139,9 @@ filed_lowered level ws core taken rows core' rows' h f done d within =
             let k = and_parts (member u ws) (ltb level (at core u)) t in
             let b : ℕ = at core' u in
             let e : at core u ≡ b + 1 = omega (arith, h.lowered u, ap one_if t) in
-            ap (member u) (h.filed b) ∙ member-append_right u (row rows b) (filter (moved b) ws) (filter-member (moved b) u ws k.0 (and_from _ _ k.1 (eq-eqb (at core u) (b + 1) e)))
+            ap (member u) (h.filed b)
+            ∙ member-append_right u (row rows b) (filter (moved b) ws)
+            (filter-member (moved b) u ws k.0 (and_from _ _ k.1 (eq-eqb (at core u) (b + 1) e)))
         | inr z ↦
             let e : at core u ≡ at core' u = omega (arith, h.lowered u, ap one_if z) in
             let was : member u (row rows (at core' u)) ≡ true = ap (λ b. member u (row rows b)) (sym e) ∙ f.waits u (omega (arith, l, h.one_each)) out in
@@ -140,7 +151,9 @@ filed_lowered level ws core taken rows core' rows' h f done d within =
           let low : at core u ≤ level = done u m in
           let e : at core u ≡ at core' u = lowered_low level u ws core rows core' rows' h low in
           let none : member u (filter (moved (at core' u)) ws) ≡ false = false_from_ne_true _
-          (λ k. let p = and_parts (ltb level (at core u)) _ (member-filter (moved (at core' u)) u ws k).1 in let up : level < at core u = ltb-true level (at core u) p.0 in absurd (omega arith)) in
+          (λ k.
+          let p = and_parts (ltb level (at core u)) _ (member-filter (moved (at core' u)) u ws k).1 in
+          let up : level < at core u = ltb-true level (at core u) p.0 in absurd (omega arith)) in
           ap (member u) (h.filed (at core' u))
           ∙ append-not_member u (row rows (at core' u)) (filter (moved (at core' u)) ws) (ap (λ b. member u (row rows b)) (sym e) ∙ f.gone u m) none;
       fits = λ b u m. elim (member-append u (row rows b) (filter (moved b) ws) (sym (ap (member u) (h.filed b)) ∙ m)) [
@@ -196,14 +209,21 @@ took g level v core taken ws rows core' rows' t near h =
                 elim (cases_Bool (adjacent g u v)) [ inl a ↦ omega (arith, ap one_if a) | inr a ↦ omega (arith, ap one_if a) ]
             | inr le ↦ omega (arith, low u le)
           ];
-      filed = filed_lowered level ws core (taken ++ v ∷ []) rows core' rows' h t.filed (taken_low g level v core taken rows t) (neighbours-distinct g v ws near) (λ w m. omega (arith, near.within w m, t.peeled.one_each));
+      filed =
+          filed_lowered level ws core (taken ++ v ∷ []) rows core' rows' h t.filed (taken_low g level v core taken rows t)
+          (neighbours-distinct g v ws near) (λ w m. omega (arith, near.within w m, t.peeled.one_each));
     }
 
 -- a bucket is empty, and the next level begins
-pub next_level : (g : SimpleGraph) (level : ℕ) (core taken : List ℕ) (rows : List (List ℕ)) → Peels g level core taken rows → row rows level ≡ [] → Peels g (level + 1) core taken rows
+pub next_level : (g : SimpleGraph) (level : ℕ) (core taken : List ℕ) (rows : List (List ℕ)) → Peels g level core taken rows
+    → row rows level ≡ [] → Peels g (level + 1) core taken rows
 next_level g level core taken rows h none =
     let up : (v : ℕ) → v < g.size → member v taken ≡ false → level < at core v = λ v l out. elim (cases_eq (at core v) level) [
-      | inl e ↦ absurd (false≢true (ap (member v) (sym none) ∙ (ap (λ b. member v (row rows b)) (sym e) ∙ h.filed.waits v (omega (arith, h.peeled.one_each)) out)))
+      | inl e ↦
+          absurd
+          (false≢true
+          (ap (member v) (sym none)
+          ∙ (ap (λ b. member v (row rows b)) (sym e) ∙ h.filed.waits v (omega (arith, h.peeled.one_each)) out)))
       | inr ne ↦ omega (arith, h.peeled.open_ v l out)
     ] in
     record {
@@ -213,7 +233,8 @@ next_level g level core taken rows h none =
     }
 
 -- all levels are done
-pub all_taken : (g : SimpleGraph) (level : ℕ) (core taken : List ℕ) (rows : List (List ℕ)) → Peels g level core taken rows → length rows ≤ level → Certifies g core taken
+pub all_taken : (g : SimpleGraph) (level : ℕ) (core taken : List ℕ) (rows : List (List ℕ)) → Peels g level core taken rows
+    → length rows ≤ level → Certifies g core taken
 all_taken g level core taken rows h past =
     finish g level core taken h.peeled (λ v l. true_from_ne_false (member v taken) (λ out.
     let high : level ≤ at core v = h.peeled.open_ v l out in
@@ -235,11 +256,15 @@ files_more degrees v rows f fits =
     let there : (j : ℕ) → j ≢ b → row more j ≡ row rows j = λ j ne. row-set_other rows b j (row rows b ++ v ∷ []) ne in
     record {
       waits = λ u lu. elim (cases_eq u v) [
-        | inl e ↦ ap (λ k. member u (row more k)) (ap (at degrees) e) ∙ (ap (member u) here ∙ (member-push u v (row rows b) ∙ or_right (member u (row rows b)) (eqb u v) (eq-eqb u v e)))
+        | inl e ↦
+            ap (λ k. member u (row more k)) (ap (at degrees) e)
+            ∙ (ap (member u) here ∙ (member-push u v (row rows b) ∙ or_right (member u (row rows b)) (eqb u v) (eq-eqb u v e)))
         | inr ne ↦
             let old : member u (row rows (at degrees u)) ≡ true = f.waits u (omega arith) in
             elim (cases_eq (at degrees u) b) [
-              | inl d ↦ ap (λ k. member u (row more k)) d ∙ (ap (member u) here ∙ member-push_left u v (row rows b) (ap (λ k. member u (row rows k)) (sym d) ∙ old))
+              | inl d ↦
+                  ap (λ k. member u (row more k)) d
+                  ∙ (ap (member u) here ∙ member-push_left u v (row rows b) (ap (λ k. member u (row rows k)) (sym d) ∙ old))
               | inr nd ↦ ap (member u) (there (at degrees u) nd) ∙ old
             ]
       ];
@@ -257,7 +282,8 @@ files_more degrees v rows f fits =
       ];
     }
 
-pub begin : (g : SimpleGraph) (core : List ℕ) (rows : List (List ℕ)) → length core ≡ g.size → ((v : ℕ) → v < g.size → at core v ≡ remaining g [] v) → Files core (length core) rows → Peels g 0 core [] rows
+pub begin : (g : SimpleGraph) (core : List ℕ) (rows : List (List ℕ)) → length core ≡ g.size
+    → ((v : ℕ) → v < g.size → at core v ≡ remaining g [] v) → Files core (length core) rows → Peels g 0 core [] rows
 begin g core rows n each f = record {
   peeled = start g core n;
   exact = λ v l _. omega (arith, each v l);

@@ -1,5 +1,6 @@
 -- A number goes into an ascending row.
-use Rattle.std.proofs.Common.{◌≡◌, ◌≤◌, ◌<◌, ◌+◌, ◌-◌, ℕ, false, ◌||◌, List, [], ◌∷◌, length, get_or, take, drop, eqb, sym, ◌∙◌, ap, subst, inl, inr, arith, true≢false, take-append-drop, Result, Ok, Err}
+use Rattle.std.proofs.Common.{◌≡◌, ◌≤◌, ◌<◌, ◌+◌, ◌-◌, ℕ, false, ◌||◌, List, [], ◌∷◌, length, get_or, take, drop, eqb, sym, ◌∙◌, ap, subst, inl, inr}
+use Rattle.std.proofs.Common.{arith, true≢false, take-append-drop, Result, Ok, Err}
 use Rattle.std.specs.List.{insert}
 use Rattle.std.specs.Result.{OnErr, IsOk, is_ok}
 use Rattle.std.specs.List.Sorted.{IsStrictlyIncreasing}
@@ -11,7 +12,8 @@ use Rattle.kc_graph.specs.Rows.{Inserted, IsPlace}
 use Rattle.kc_graph.proofs.RowsLemmas.{place-found}
 use Rattle.kc_distinct.proofs.Shared.{or-swap}
 
-inserted_at : (xs : List ℕ) (w i : ℕ) → IsStrictlyIncreasing xs → i ≤ length xs → ((k : ℕ) → k < i → get_or xs k 0 < w) → ((k : ℕ) → i ≤ k → k < length xs → w < get_or xs k 0) → Inserted xs (insert xs i w) w
+inserted_at : (xs : List ℕ) (w i : ℕ) → IsStrictlyIncreasing xs → i ≤ length xs → ((k : ℕ) → k < i → get_or xs k 0 < w)
+    → ((k : ℕ) → i ≤ k → k < length xs → w < get_or xs k 0) → Inserted xs (insert xs i w) w
 inserted_at xs w i up le low high = record {
   longer = length-insert xs i w le;
   gained = λ b.
@@ -22,13 +24,34 @@ inserted_at xs w i up le low high = record {
       elim (cases_lt (k + 1) i) [
         | inl lt ↦ omega (arith, get_or-insert_below xs i w 0 k (omega arith) le, get_or-insert_below xs i w 0 (k + 1) lt le, up k (omega arith))
         | inr ge ↦ elim (cases_eq (k + 1) i) [
-          | inl e ↦ omega (arith, get_or-insert_below xs i w 0 k (omega arith) le, ap (λ j. get_or (insert xs i w) j 0) e, get_or-insert_at xs i w 0 le, low k (omega arith))
+          | inl e ↦
+              omega (
+                arith,
+                get_or-insert_below xs i w 0 k (omega arith) le,
+                ap (λ j. get_or (insert xs i w) j 0) e,
+                get_or-insert_at xs i w 0 le,
+                low k (omega arith),
+              )
           | inr ne ↦ elim (cases_eq k i) [
-            | inl e ↦ omega (arith, ap (λ j. get_or (insert xs i w) j 0) e, get_or-insert_at xs i w 0 le, get_or-insert_above xs i w 0 k (omega arith) le, high k (omega arith) (omega arith))
+            | inl e ↦
+                omega (
+                  arith,
+                  ap (λ j. get_or (insert xs i w) j 0) e,
+                  get_or-insert_at xs i w 0 le,
+                  get_or-insert_above xs i w 0 k (omega arith) le,
+                  high k (omega arith) (omega arith),
+                )
             | inr ne' ↦
                 let j : ℕ = k - 1 in
                 let k-is : k ≡ j + 1 = omega arith in
-                omega (arith, ap (λ m. get_or (insert xs i w) m 0) k-is, get_or-insert_above xs i w 0 j (omega arith) le, get_or-insert_above xs i w 0 k (omega arith) le, ap (λ m. get_or xs m 0) k-is, up j (omega arith))
+                omega (
+                  arith,
+                  ap (λ m. get_or (insert xs i w) m 0) k-is,
+                  get_or-insert_above xs i w 0 j (omega arith) le,
+                  get_or-insert_above xs i w 0 k (omega arith) le,
+                  ap (λ m. get_or xs m 0) k-is,
+                  up j (omega arith),
+                )
           ]
         ]
       ];

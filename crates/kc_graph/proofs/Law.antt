@@ -1,5 +1,6 @@
 -- Certified numbers are the core numbers.
-use Rattle.std.proofs.Common.{◌≡◌, ◌≤◌, ◌<◌, ◌+◌, ℕ, suc, Bool, true, false, ◌&&◌, List, [], ◌∷◌, length, get_or, drop, leb, refl, sym, ◌∙◌, ap, subst, inl, inr, arith, true≢false, le_refl, le_trans, leb-true, le-leb, le-ltb, ap₂, lt-ltb, le_of_lt}
+use Rattle.std.proofs.Common.{◌≡◌, ◌≤◌, ◌<◌, ◌+◌, ℕ, suc, Bool, true, false, ◌&&◌, List, [], ◌∷◌, length, get_or, drop, leb, refl, sym, ◌∙◌, ap}
+use Rattle.std.proofs.Common.{subst, inl, inr, arith, true≢false, le_refl, le_trans, leb-true, le-leb, le-ltb, ap₂, lt-ltb, le_of_lt}
 use Rattle.std.specs.Prelude.{⊤, AllPairs}
 use Rattle.std.specs.List.{filter}
 use Rattle.std.proofs.lemmas.Bool.{cases_Bool, and_parts, false≢true, cases_order}
@@ -10,7 +11,8 @@ use Rattle.kc_distinct.proofs.Members.{member-cases}
 use Rattle.kc_graph.specs.SimpleGraph.{SimpleGraph, adjacent, degree_among}
 use Rattle.kc_graph.specs.Core.{IsInCore, AreCoreNumbers}
 use Rattle.kc_graph.specs.Certificate.{Certifies, degree_as_high}
-use Rattle.kc_distinct.proofs.Counting.{member-other, member-get_or, member-from_Contains, Contains-from_member, Distinct-from_pairs, pairs_from_Distinct, member-filter, filter-member, Distinct-filter, count-le, count-filter}
+use Rattle.kc_distinct.proofs.Counting.{member-other, member-get_or, member-from_Contains, Contains-from_member, Distinct-from_pairs}
+use Rattle.kc_distinct.proofs.Counting.{pairs_from_Distinct, member-filter, filter-member, Distinct-filter, count-le, count-filter}
 
 -- no vertex is its own neighbour
 pub adjacent-self : (g : SimpleGraph) (v : ℕ) → adjacent g v v ≡ false
@@ -35,7 +37,8 @@ FewLater g c [] = ⊤
 FewLater g c (v ∷ later) = (degree_among g later v ≤ c v) × FewLater g c later
 
 -- The first of the members in the order has all its neighbours among them later.
-upper : (g : SimpleGraph) (c : ℕ → ℕ) (k v : ℕ) (members : List ℕ) → Distinct members → ((u : ℕ) → member u members ≡ true → k ≤ degree_among g members u) → member v members ≡ true
+upper : (g : SimpleGraph) (c : ℕ → ℕ) (k v : ℕ) (members : List ℕ) → Distinct members
+    → ((u : ℕ) → member u members ≡ true → k ≤ degree_among g members u) → member v members ≡ true
     → (order : List ℕ) → Rising c order → FewLater g c order → ((x : ℕ) → member x members ≡ true → member x order ≡ true) → k ≤ c v
 upper g c k v members distinct dense in' [] rising few each = absurd (false≢true (each v in'))
 upper g c k v members distinct dense in' (u ∷ later) rising few each =
@@ -52,17 +55,25 @@ upper g c k v members distinct dense in' (u ∷ later) rising few each =
 Rising-from_pairs : (c : ℕ → ℕ) (order : List ℕ) → AllPairs (λ v w. c v ≤ c w) order → Rising c order
 Rising-from_pairs c [] h = tt
 Rising-from_pairs c (v ∷ later) h = (
-  λ w m. let k = Contains-from_member later w m in let step : c v ≤ c (get_or later k.0 w) = h 0 (suc k.0) w (omega arith) (omega (arith, k.1)) in subst (λ (x : ℕ). c v ≤ c x) k.2 step,
+  λ w m.
+      let k = Contains-from_member later w m in
+      let step : c v ≤ c (get_or later k.0 w) = h 0 (suc k.0) w (omega arith) (omega (arith, k.1)) in subst (λ (x : ℕ). c v ≤ c x) k.2 step,
   Rising-from_pairs c later (λ i j d lt l. h (suc i) (suc j) d (omega arith) (omega arith)),
 )
 
 one_more : (i : ℕ) → suc i + 1 ≡ suc (i + 1)
 one_more i = omega arith
 
-FewLater-from_places : (g : SimpleGraph) (c : ℕ → ℕ) (order : List ℕ) → ((i : ℕ) → i < length order → degree_among g (drop (i + 1) order) (get_or order i 0) ≤ c (get_or order i 0)) → FewLater g c order
+FewLater-from_places : (g : SimpleGraph) (c : ℕ → ℕ) (order : List ℕ)
+    → ((i : ℕ) → i < length order → degree_among g (drop (i + 1) order) (get_or order i 0) ≤ c (get_or order i 0)) → FewLater g c order
 FewLater-from_places g c [] h = tt
-FewLater-from_places g c (v ∷ later) h =
-    (h 0 (omega arith), FewLater-from_places g c later (λ i l. subst (λ (n : ℕ). degree_among g (drop n (v ∷ later)) (get_or later i 0) ≤ c (get_or later i 0)) (one_more i) (h (suc i) (omega arith))))
+FewLater-from_places g c (v ∷ later) h = (
+  h 0 (omega arith),
+  FewLater-from_places g c later
+      (λ i l.
+      subst (λ (n : ℕ). degree_among g (drop n (v ∷ later)) (get_or later i 0) ≤ c (get_or later i 0)) (one_more i)
+      (h (suc i) (omega arith))),
+)
 
 greatest : (g : SimpleGraph) (core order : List ℕ) → Certifies g core order → (v k : ℕ) → IsInCore g k v → k ≤ get_or core v 0
 greatest g core order h v k (members, dense, in') =
@@ -94,7 +105,8 @@ reached g core order h v l =
             (le-leb (get_or core v 0) (get_or core x 0) (le_trans up (leb-true _ _ a.1)), a.0)) order in
             le_trans up (le_trans enough among);
       },
-      Contains-from_member members v (filter-member high v order (member-from_Contains order v (h.enumerates.complete v l)) (le-leb _ _ (le_refl (get_or core v 0)))),
+      Contains-from_member members v
+          (filter-member high v order (member-from_Contains order v (h.enumerates.complete v l)) (le-leb _ _ (le_refl (get_or core v 0)))),
     )
 
 pub certified : (g : SimpleGraph) (core order : List ℕ) → Certifies g core order → AreCoreNumbers g core

@@ -1,5 +1,7 @@
 -- One neighbour less for each of a list.
-use Rattle.std.proofs.Common.{◌≡◌, ◌≤◌, ◌<◌, ◌+◌, ◌-◌, ℕ, Bool, true, false, cond, ◌&&◌, ◌||◌, List, [], ◌∷◌, ◌++◌, length, get_or, set, take, eqb, ltb, refl, sym, ◌∙◌, ap, subst, inl, inr, arith, length-set, length-append, append-nil, append_assoc, eq-eqb, ne_eqb, lt-ltb, le-ltb, le_refl, sum}
+use Rattle.std.proofs.Common.{◌≡◌, ◌≤◌, ◌<◌, ◌+◌, ◌-◌, ℕ, Bool, true, false, cond, ◌&&◌, ◌||◌, List, [], ◌∷◌, ◌++◌, length, get_or, set, take, eqb}
+use Rattle.std.proofs.Common.{ltb, refl, sym, ◌∙◌, ap, subst, inl, inr, arith, length-set, length-append, append-nil, append_assoc, eq-eqb, ne_eqb}
+use Rattle.std.proofs.Common.{lt-ltb, le-ltb, le_refl, sum}
 use Rattle.std.specs.List.{filter}
 use Rattle.std.proofs.lemmas.List.{take_more, get_or-set_same, get_or-set_other}
 use Rattle.std.proofs.lemmas.List.Elements.{filter-append}
@@ -31,7 +33,8 @@ lowered_none level core rows = record {
   less_work = le_refl (work level core rows);
 }
 
-module _ (level w : ℕ) (ws core : List ℕ) (rows : List (List ℕ)) (core' : List ℕ) (rows' : List (List ℕ)) (h : Lowered level ws core rows core' rows') (same : at core w ≡ at core' w) where
+module _ (level w : ℕ) (ws core : List ℕ) (rows : List (List ℕ)) (core' : List ℕ) (rows' : List (List ℕ))
+    (h : Lowered level ws core rows core' rows') (same : at core w ≡ at core' w) where
   -- `w` has no more than the level
   pub lowered_skip : at core' w ≤ level → Lowered level (ws ++ w ∷ []) core rows core' rows'
   lowered_skip low =
@@ -45,7 +48,11 @@ module _ (level w : ℕ) (ws core : List ℕ) (rows : List (List ℕ)) (core' : 
               omega (arith, ap one_if z, ap (at core) e, ap (at core') e)
           | inr ne ↦ h.lowered u ∙ ap (λ b. at core' u + cond (b && ltb level (at core u)) 1 0) (sym (push_other u w ws ne))
         ];
-        filed = λ b. h.filed b ∙ ap (λ (t : List ℕ). row rows b ++ t) (sym (filter-push_no (λ x. ltb level (at core x) && eqb (at core x) (b + 1)) w ws (and_left _ _ not_above)));
+        filed =
+            λ b.
+            h.filed b
+            ∙ ap (λ (t : List ℕ). row rows b ++ t)
+            (sym (filter-push_no (λ x. ltb level (at core x) && eqb (at core x) (b + 1)) w ws (and_left _ _ not_above)));
         less_work = h.less_work;
       }
 
@@ -86,7 +93,8 @@ module _ (level w : ℕ) (ws core : List ℕ) (rows : List (List ℕ)) (core' : 
             let s : sum less + at core' w ≡ sum core' + c = sum_by-set (λ x. x) core' w c 0 lw in
             let l : length (row more level) ≤ length (row rows' level) + 1 = elim (cases_eq level c) [
               | inl e ↦
-                  let r : row more level ≡ row rows' level ++ w ∷ [] = ap (row more) e ∙ row-set_same rows' c (row rows' c ++ w ∷ []) in' ∙ ap (λ j. row rows' j ++ w ∷ []) (sym e) in
+                  let r : row more level ≡ row rows' level ++ w ∷ [] =
+                  ap (row more) e ∙ row-set_same rows' c (row rows' c ++ w ∷ []) in' ∙ ap (λ j. row rows' j ++ w ∷ []) (sym e) in
                   omega (arith, ap length r, length-append (row rows' level) (w ∷ []))
               | inr ne ↦ omega (arith, ap length (row-set_other rows' c level (row rows' c ++ w ∷ []) ne))
             ] in
@@ -99,7 +107,8 @@ pub lowered_next : (level : ℕ) (core : List ℕ) (rows : List (List ℕ)) (cor
 lowered_next level core rows core' rows' ws i l h = subst (λ (t : List ℕ). Lowered level t core rows core' rows') (sym (take_more ws i 0 l)) h
 
 -- a vertex whose turn has not come has what it had
-pub lowered_here : (level : ℕ) (core : List ℕ) (rows : List (List ℕ)) (core' : List ℕ) (rows' : List (List ℕ)) (ws : List ℕ) (i : ℕ) → i < length ws → Distinct ws
+pub lowered_here : (level : ℕ) (core : List ℕ) (rows : List (List ℕ)) (core' : List ℕ) (rows' : List (List ℕ)) (ws : List ℕ) (i : ℕ)
+    → i < length ws → Distinct ws
     → Lowered level (take i ws) core rows core' rows' → at core (get_or ws i 0) ≡ at core' (get_or ws i 0)
 lowered_here level core rows core' rows' ws i l d h =
     let w : ℕ = get_or ws i 0 in

@@ -1,5 +1,6 @@
 -- The list of the neighbours of a vertex: there is one, and no other.
-use Rattle.std.proofs.Common.{◌≡◌, ◌≢◌, ◌<◌, ℕ, suc, zero, Bool, true, false, cond, ◌||◌, eqb, List, [], ◌∷◌, ◌++◌, refl, sym, ◌∙◌, ap, ap₂, subst, inl, inr, arith, reverse}
+use Rattle.std.proofs.Common.{◌≡◌, ◌≢◌, ◌<◌, ℕ, suc, zero, Bool, true, false, cond, ◌||◌, eqb, List, [], ◌∷◌, ◌++◌, refl, sym, ◌∙◌, ap, ap₂, subst}
+use Rattle.std.proofs.Common.{inl, inr, arith, reverse}
 use Rattle.std.specs.Prelude.{⊤, AllPairs}
 use Rattle.std.specs.List.{filter}
 use Rattle.std.specs.List.Sorted.{IsStrictlyIncreasing}
@@ -8,7 +9,8 @@ use Rattle.std.proofs.lemmas.List.{reverse-append}
 use Rattle.std.proofs.lemmas.List.Kept.{AllPairs-from_increasing}
 use Rattle.kc_distinct.specs.Lists.{member, below}
 use Rattle.kc_distinct.proofs.Members.{member-head, member-tail, member-cases}
-use Rattle.kc_distinct.proofs.Counting.{member-other, member-push_cases, member-push, member-filter, filter-member, member-below, below-member, Contains-from_member}
+use Rattle.kc_distinct.proofs.Counting.{member-other, member-push_cases, member-push, member-filter, filter-member, member-below, below-member}
+use Rattle.kc_distinct.proofs.Counting.{Contains-from_member}
 use Rattle.kc_graph.specs.SimpleGraph.{SimpleGraph, adjacent}
 use Rattle.kc_graph.specs.Neighbours.{AreNeighbours, neighbours_of}
 
@@ -67,7 +69,9 @@ swap a b = grind arith
 
 member-reverse : (z : ℕ) (xs : List ℕ) → member z (reverse xs) ≡ member z xs
 member-reverse z [] = refl
-member-reverse z (x ∷ xs) = ap (member z) (reverse-cons x xs) ∙ (member-push z x (reverse xs) ∙ (ap (λ b. b || eqb z x) (member-reverse z xs) ∙ swap (member z xs) (eqb z x)))
+member-reverse z (x ∷ xs) =
+    ap (member z) (reverse-cons x xs)
+    ∙ (member-push z x (reverse xs) ∙ (ap (λ b. b || eqb z x) (member-reverse z xs) ∙ swap (member z xs) (eqb z x)))
 
 Rises-push : (xs : List ℕ) (x : ℕ) → Rises xs → ((y : ℕ) → member y xs ≡ true → y < x) → Rises (xs ++ x ∷ [])
 Rises-push [] x h last = (λ y m. absurd (false≢true m), tt)
@@ -78,7 +82,8 @@ Rises-push (y ∷ ys) x h last = (
 
 Rises-reverse : (xs : List ℕ) → Falls xs → Rises (reverse xs)
 Rises-reverse [] h = tt
-Rises-reverse (x ∷ xs) h = subst Rises (sym (reverse-cons x xs)) (Rises-push (reverse xs) x (Rises-reverse xs h.1) (λ y m. h.0 y (sym (member-reverse y xs) ∙ m)))
+Rises-reverse (x ∷ xs) h =
+    subst Rises (sym (reverse-cons x xs)) (Rises-push (reverse xs) x (Rises-reverse xs h.1) (λ y m. h.0 y (sym (member-reverse y xs) ∙ m)))
 
 Falls-filter : (p : ℕ → Bool) (xs : List ℕ) → Falls xs → Falls (filter p xs)
 Falls-filter p [] h = tt

@@ -1,13 +1,18 @@
 -- Taking vertices one by one: what stays true while each vertex that is taken has few neighbours left.
-use Rattle.std.proofs.Common.{◌≡◌, ◌≢◌, ◌≤◌, ◌<◌, ◌+◌, ℕ, min, Bool, true, false, cond, not, ◌&&◌, ◌||◌, List, [], ◌∷◌, ◌++◌, length, get_or, take, drop, eqb, leb, refl, sym, ◌∙◌, ap, subst, ◌⊎◌, inl, inr, arith, le_trans, leb-true, le-leb, eq-eqb, ne_eqb, length-append}
+use Rattle.std.proofs.Common.{◌≡◌, ◌≢◌, ◌≤◌, ◌<◌, ◌+◌, ℕ, min, Bool, true, false, cond, not, ◌&&◌, ◌||◌, List, [], ◌∷◌, ◌++◌, length, get_or, take}
+use Rattle.std.proofs.Common.{drop, eqb, leb, refl, sym, ◌∙◌, ap, subst, ◌⊎◌, inl, inr, arith, le_trans, leb-true, le-leb, eq-eqb, ne_eqb}
+use Rattle.std.proofs.Common.{length-append}
 use Rattle.std.specs.Prelude.{count_by}
-use Rattle.std.proofs.lemmas.Bool.{cases_Bool, cases_eq, cases_lt, and_parts, and_from, and_left, and_right, or_right, false≢true, not-true, not_from_true, not_from_false, eqb-false}
+use Rattle.std.proofs.lemmas.Bool.{cases_Bool, cases_eq, cases_lt, and_parts, and_from, and_left, and_right, or_right, false≢true, not-true}
+use Rattle.std.proofs.lemmas.Bool.{not_from_true, not_from_false, eqb-false}
 use Rattle.std.proofs.lemmas.List.{take-append-le, get_or_append_left}
 use Rattle.std.proofs.lemmas.List.Quantifiers.{all_pairs_push}
 use Rattle.std.proofs.Math.Bool.{or-false, and-true}
 use Rattle.std.proofs.Math.Seq.{get_or-append_seam, take-length}
 use Rattle.kc_distinct.specs.Lists.{Distinct, below, member}
-use Rattle.kc_distinct.proofs.Counting.{member-get_or, Contains-from_member, pairs_from_Distinct, count-le, count-mono, count-miss, member-push, member-push_cases, member-push_none, Distinct-push, member-below, below-member, Distinct-below, length-below, drop-member, Distinct-drop, drop-not_take, count-agree, count-without, count-all}
+use Rattle.kc_distinct.proofs.Counting.{member-get_or, Contains-from_member, pairs_from_Distinct, count-le, count-mono, count-miss, member-push}
+use Rattle.kc_distinct.proofs.Counting.{member-push_cases, member-push_none, Distinct-push, member-below, below-member, Distinct-below, length-below}
+use Rattle.kc_distinct.proofs.Counting.{drop-member, Distinct-drop, drop-not_take, count-agree, count-without, count-all}
 use Rattle.kc_graph.specs.SimpleGraph.{SimpleGraph, adjacent, degree_among}
 use Rattle.kc_graph.specs.Certificate.{Certifies, degree_as_high}
 use Rattle.kc_graph.specs.Neighbours.{AreNeighbours}
@@ -124,7 +129,8 @@ take_one g level v core taken core' p l new' few k =
     }
 
 -- once all are taken
-pub finish : (g : SimpleGraph) (level : ℕ) (core taken : List ℕ) → Peeled g level core taken → ((v : ℕ) → v < g.size → member v taken ≡ true) → Certifies g core taken
+pub finish : (g : SimpleGraph) (level : ℕ) (core taken : List ℕ) → Peeled g level core taken
+    → ((v : ℕ) → v < g.size → member v taken ≡ true) → Certifies g core taken
 finish g level core taken p all = record {
   one_each = p.one_each;
   enumerates = record {
@@ -153,24 +159,39 @@ finish g level core taken p all = record {
 
 -- no vertex has all of them for neighbours
 pub remaining-lt : (g : SimpleGraph) (taken : List ℕ) (v : ℕ) → v < g.size → remaining g taken v < g.size
-remaining-lt g taken v l = omega (arith, count-miss (λ w. adjacent g v w && not (member w taken)) v (below g.size) (member-below v g.size l) (ap (λ b. b && not (member v taken)) (adjacent-self g v)), length-below g.size)
+remaining-lt g taken v l =
+    omega (
+      arith,
+      count-miss (λ w. adjacent g v w && not (member w taken)) v (below g.size) (member-below v g.size l)
+          (ap (λ b. b && not (member v taken)) (adjacent-self g v)),
+      length-below g.size,
+    )
 
 abbrev pub one_if : Bool → ℕ
 one_if b = cond b 1 0
 
 -- a vertex that is taken is left to none of its neighbours
-pub remaining-taken : (g : SimpleGraph) (taken : List ℕ) (u v : ℕ) → v < g.size → member v taken ≡ false → remaining g taken u ≡ remaining g (taken ++ v ∷ []) u + cond (adjacent g u v) 1 0
+pub remaining-taken : (g : SimpleGraph) (taken : List ℕ) (u v : ℕ) → v < g.size → member v taken ≡ false
+    → remaining g taken u ≡ remaining g (taken ++ v ∷ []) u + cond (adjacent g u v) 1 0
 remaining-taken g taken u v l new' =
     let p : ℕ → Bool = λ w. adjacent g u w && not (member w taken) in
     let q : ℕ → Bool = λ w. adjacent g u w && not (member w (taken ++ v ∷ [])) in
     let here : member v (taken ++ v ∷ []) ≡ true = member-push v v taken ∙ or_right (member v taken) (eqb v v) (eq-eqb v v refl) in
     let qv : q v ≡ false = and_right (adjacent g u v) _ (not_from_true _ here) in
-    let other : (x : ℕ) → (x ≡ v → ⊥) → p x ≡ q x = λ x ne. ap (λ b. adjacent g u x && not b) (sym (member-push x v taken ∙ ap (λ b. member x taken || b) (ne_eqb x v ne) ∙ or-false (member x taken))) in
+    let other : (x : ℕ) → (x ≡ v → ⊥) → p x ≡ q x =
+    λ x ne.
+    ap (λ b. adjacent g u x && not b)
+    (sym (member-push x v taken ∙ ap (λ b. member x taken || b) (ne_eqb x v ne) ∙ or-false (member x taken))) in
     elim (cases_Bool (adjacent g u v)) [
-      | inl a ↦ count-without p q v (below g.size) (Distinct-below g.size) (member-below v g.size l) (and_from _ _ a (not_from_false _ new')) qv other ∙ ap (λ b. remaining g (taken ++ v ∷ []) u + cond b 1 0) (sym a)
+      | inl a ↦
+          count-without p q v (below g.size) (Distinct-below g.size) (member-below v g.size l) (and_from _ _ a (not_from_false _ new')) qv
+          other
+          ∙ ap (λ b. remaining g (taken ++ v ∷ []) u + cond b 1 0) (sym a)
       | inr a ↦
           let same : remaining g taken u ≡ remaining g (taken ++ v ∷ []) u = count-agree p q (below g.size)
-          (λ x _. elim (cases_eq x v) [ inl e ↦ ap p e ∙ and_left (adjacent g u v) _ a ∙ sym (ap q e ∙ and_left (adjacent g u v) _ a) | inr ne ↦ other x ne ]) in
+          (λ x _.
+          elim (cases_eq x v)
+          [ inl e ↦ ap p e ∙ and_left (adjacent g u v) _ a ∙ sym (ap q e ∙ and_left (adjacent g u v) _ a) | inr ne ↦ other x ne ]) in
           omega (arith, same, ap one_if a)
     ]
 

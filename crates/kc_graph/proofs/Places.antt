@@ -1,11 +1,13 @@
 -- The place of each number of a list.
-use Rattle.std.proofs.Common.{◌≡◌, ◌<◌, ◌+◌, ℕ, suc, zero, Bool, true, false, cond, List, [], ◌∷◌, length, get_or, set, eqb, refl, sym, ◌∙◌, ap, inl, inr, arith, true≢false, length-set, eq-eqb, ne_eqb}
+use Rattle.std.proofs.Common.{◌≡◌, ◌<◌, ◌+◌, ℕ, suc, zero, Bool, true, false, cond, List, [], ◌∷◌, length, get_or, set, eqb, refl, sym, ◌∙◌, ap, inl}
+use Rattle.std.proofs.Common.{inr, arith, true≢false, length-set, eq-eqb, ne_eqb}
 use Rattle.std.proofs.lemmas.Bool.{cases_eq}
 use Rattle.std.proofs.lemmas.List.{get_or-set_same, get_or-set_other}
 use Rattle.std.proofs.lemmas.List.Elements.{All-contains}
 use Rattle.kc_distinct.specs.Lists.{member, Distinct, below, place_of}
 use Rattle.kc_distinct.proofs.Members.{below_bound}
-use Rattle.kc_distinct.proofs.Counting.{member-get_or, Contains-from_member, member-from_Contains, Distinct-from_pairs, count-all, count-le, Distinct-below, below-member, length-below}
+use Rattle.kc_distinct.proofs.Counting.{member-get_or, Contains-from_member, member-from_Contains, Distinct-from_pairs, count-all, count-le}
+use Rattle.kc_distinct.proofs.Counting.{Distinct-below, below-member, length-below}
 use Rattle.kc_graph.specs.Certificate.{Enumerates}
 use Rattle.kc_graph.specs.Lawful.{ArePlaces}
 use Rattle.kc_distinct.proofs.Shared.{get_or-any}
@@ -35,7 +37,8 @@ in_order n order i e l = e.below i 0 l
 pub placed_none : (n : ℕ) (order places : List ℕ) → length places ≡ n → PlacedTo n 0 order places
 placed_none n order places h = record { one_each = h; right = λ k l. absurd (omega arith) }
 
-pub placed_more : (n i : ℕ) (order places : List ℕ) → Enumerates n order → i < length order → PlacedTo n i order places → PlacedTo n (i + 1) order (set places (get_or order i 0) i)
+pub placed_more : (n i : ℕ) (order places : List ℕ) → Enumerates n order → i < length order → PlacedTo n i order places
+    → PlacedTo n (i + 1) order (set places (get_or order i 0) i)
 placed_more n i order places e l h =
     let v : ℕ = get_or order i 0 in
     let in' : v < length places = omega (arith, in_order n order i e l, h.one_each) in

@@ -1,5 +1,6 @@
 -- An edge less in the rows is an edge less in the graph.
-use Rattle.std.proofs.Common.{◌≡◌, ◌<◌, ◌+◌, ◌-◌, ℕ, true, false, cond, not, ◌&&◌, ◌||◌, List, [], length, set, eqb, ltb, sym, ◌∙◌, ap, ap₂, subst, inl, inr, arith, true≢false, length-set, eq-eqb, ne_eqb, ltb-true}
+use Rattle.std.proofs.Common.{◌≡◌, ◌<◌, ◌+◌, ◌-◌, ℕ, true, false, cond, not, ◌&&◌, ◌||◌, List, [], length, set, eqb, ltb, sym, ◌∙◌, ap, ap₂, subst}
+use Rattle.std.proofs.Common.{inl, inr, arith, true≢false, length-set, eq-eqb, ne_eqb, ltb-true}
 use Rattle.std.specs.List.Sorted.{IsStrictlyIncreasing}
 use Rattle.std.specs.List.{sum_by}
 use Rattle.std.specs.Ordering.{eq_by_cmp}
@@ -32,12 +33,14 @@ module _ (old new : List (List ℕ)) (u v : ℕ) (differ : u ≡ v → ⊥) (lu 
   kept : (a b : ℕ) → member b (row new a) ≡ (member b (row old a) && not (joins u v a b))
   kept a b = elim (cases_eq a u) [
     | inl e ↦
-        let j : joins u v a b ≡ eqb b v = ap₂ (λ s t. (s && eqb b v) || (t && eqb b u)) (eq-eqb a u e) (ne_eqb a v (λ f. differ (sym e ∙ f))) ∙ or-false (eqb b v) in
+        let j : joins u v a b ≡ eqb b v =
+        ap₂ (λ s t. (s && eqb b v) || (t && eqb b u)) (eq-eqb a u e) (ne_eqb a v (λ f. differ (sym e ∙ f))) ∙ or-false (eqb b v) in
         ap (λ k. member b (row new k)) e ∙ ap (member b) at-u ∙ both.at_first.kept b ∙ ap₂ (λ s t. s && not t) (ap (λ k. member b (row old k)) (sym e)) (sym j)
     | inr nu ↦ elim (cases_eq a v) [
       | inl e ↦
           let j : joins u v a b ≡ eqb b u = ap₂ (λ s t. (s && eqb b v) || (t && eqb b u)) (ne_eqb a u nu) (eq-eqb a v e) in
-          ap (λ k. member b (row new k)) e ∙ ap (member b) at-v ∙ both.at_second.kept b ∙ ap₂ (λ s t. s && not t) (ap (λ k. member b (row old k)) (sym e)) (sym j)
+          ap (λ k. member b (row new k)) e ∙ ap (member b) at-v ∙ both.at_second.kept b
+          ∙ ap₂ (λ s t. s && not t) (ap (λ k. member b (row old k)) (sym e)) (sym j)
       | inr nv ↦
           let j : joins u v a b ≡ false = ap₂ (λ s t. (s && eqb b v) || (t && eqb b u)) (ne_eqb a u nu) (ne_eqb a v nv) in
           ap (member b) (at-other a nu nv) ∙ sym (ap (λ t. member b (row old a) && not t) j ∙ and-true (member b (row old a)))
@@ -70,10 +73,15 @@ module _ (old new : List (List ℕ)) (u v : ℕ) (differ : u ≡ v → ⊥) (lu 
       (λ t. true≢false (sym (edge-joins u v a b differ (same_pair (a, b) (edge u v) t)).1 ∙ not-true (joins u v a b) k.1)) in
       contains-remove pair_total (graph_of old).edges (edge u v) (a, b) ∙ and_from _ _ (not_from_false _ other) (contains-edges old a b ∙ and_from _ _ p.0 k.0))
       (λ h.
-      let p = and_parts (not (eq_by_cmp pair_cmp (a, b) (edge u v))) (contains (graph_of old).edges (a, b)) (sym (contains-remove pair_total (graph_of old).edges (edge u v) (a, b)) ∙ h) in
+      let p =
+      and_parts (not (eq_by_cmp pair_cmp (a, b) (edge u v))) (contains (graph_of old).edges (a, b))
+      (sym (contains-remove pair_total (graph_of old).edges (edge u v) (a, b)) ∙ h) in
       let k = and_parts (ltb a b) (member b (row old a)) (sym (contains-edges old a b) ∙ p.1) in
       let apart : joins u v a b ≡ false = false_from_ne_true _
-      (λ j. true≢false (sym (tied_pair (a, b) (edge u v) (joins-edge u v a b differ (ltb-true a b k.0) j)) ∙ not-true (eq_by_cmp pair_cmp (a, b) (edge u v)) p.0)) in
+      (λ j.
+      true≢false
+      (sym (tied_pair (a, b) (edge u v) (joins-edge u v a b differ (ltb-true a b k.0) j))
+      ∙ not-true (eq_by_cmp pair_cmp (a, b) (edge u v)) p.0)) in
       and_from _ _ k.0 (kept a b ∙ and_from _ _ k.1 (not_from_false _ apart)))) in
       let size : (graph_of new).size ≡ (graph_of old).size = size-graph_of new ∙ new-length ∙ sym (size-graph_of old) in
       ap₂ (λ (n : ℕ) (e : FinSet pair_cmp). let g : SimpleGraph = record { size = n; edges = e } in g) size edges
@@ -82,14 +90,16 @@ module _ (old new : List (List ℕ)) (u v : ℕ) (differ : u ≡ v → ⊥) (lu 
   sum-removed =
       let mid : List (List ℕ) = set old u both.first in
       let a : sum_by length mid + length (row old u) ≡ sum_by length old + length both.first = sum_by-set length old u both.first [] lu in
-      let b : sum_by length (set mid v both.second) + length (row mid v) ≡ sum_by length mid + length both.second = sum_by-set length mid v both.second [] (omega (arith, length-set old u both.first)) in
+      let b : sum_by length (set mid v both.second) + length (row mid v) ≡ sum_by length mid + length both.second =
+      sum_by-set length mid v both.second [] (omega (arith, length-set old u both.first)) in
       let c : length (row mid v) ≡ length (row old v) = ap length (row-set_other old u v both.first (λ e. differ (sym e))) in
       omega (arith, a, b, c, both.at_first.shorter, both.at_second.shorter, ap (sum_by length) both.rows)
 
   pub len-removed : IsAdjacency old → member v (row old u) ≡ true → len (graph_of new).edges ≡ len (graph_of old).edges - 1
   len-removed h here =
       let there : contains (graph_of old).edges (edge u v) ≡ true = contains-edge (graph_of old) u v differ ∙ adjacent-graph_of old h u v ∙ here in
-      ap (λ (g : SimpleGraph). len g.edges) graph_of-removed ∙ len-remove pair_total (graph_of old).edges (edge u v) ∙ ap (λ t. cond t (len (graph_of old).edges - 1) (len (graph_of old).edges)) there
+      ap (λ (g : SimpleGraph). len g.edges) graph_of-removed ∙ len-remove pair_total (graph_of old).edges (edge u v)
+      ∙ ap (λ t. cond t (len (graph_of old).edges - 1) (len (graph_of old).edges)) there
 
 -- an edge that is not there
 pub missing : (g : SimpleGraph) (u v : ℕ) → (u ≡ v → ⊥) → adjacent g u v ≡ false → g ≡ without_edge g u v

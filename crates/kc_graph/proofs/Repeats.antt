@@ -1,5 +1,6 @@
 -- Sorted numbers lose their repeats.
-use Rattle.std.proofs.Common.{◌≡◌, ◌≤◌, ◌<◌, ◌+◌, ◌-◌, ℕ, Bool, true, ◌||◌, List, length, get_or, set, take, eqb, sym, ◌∙◌, ap, ap₂, inl, inr, arith, length-set, eqb-true, get_or-set_other, get_or-set_same}
+use Rattle.std.proofs.Common.{◌≡◌, ◌≤◌, ◌<◌, ◌+◌, ◌-◌, ℕ, Bool, true, ◌||◌, List, length, get_or, set, take, eqb, sym, ◌∙◌, ap, ap₂, inl, inr, arith}
+use Rattle.std.proofs.Common.{length-set, eqb-true, get_or-set_other, get_or-set_same}
 use Rattle.std.specs.List.Sorted.{IsStrictlyIncreasing, IsNonDecreasing}
 use Rattle.std.specs.Cmp.{both_ways}
 use Rattle.std.proofs.lemmas.Bool.{cases_eq, or_cases, or_left}

@@ -1,5 +1,6 @@
 -- The graph of the rows: its edges are what the rows say.
-use Rattle.std.proofs.Common.{◌≡◌, ◌≤◌, ◌<◌, ◌+◌, ◌-◌, ℕ, suc, zero, Bool, true, false, cond, ◌&&◌, List, [], ◌∷◌, length, get_or, map, eqb, ltb, refl, sym, ◌∙◌, ap, subst, inl, inr, arith, eq-eqb, ltb-true, lt-ltb, le-ltb, ltb-false, le_of_lt, replicate, ap₂}
+use Rattle.std.proofs.Common.{◌≡◌, ◌≤◌, ◌<◌, ◌+◌, ◌-◌, ℕ, suc, zero, Bool, true, false, cond, ◌&&◌, List, [], ◌∷◌, length, get_or, map, eqb, ltb}
+use Rattle.std.proofs.Common.{refl, sym, ◌∙◌, ap, subst, inl, inr, arith, eq-eqb, ltb-true, lt-ltb, le-ltb, ltb-false, le_of_lt, replicate, ap₂}
 use Rattle.std.specs.List.{filter, list_any}
 use Rattle.std.specs.Ordering.{nat_cmp, eq_by_cmp, is_eq}
 use Rattle.std.specs.Cmp.{IsTotalOrder, Equal-is, tied_itself, both_ways, nat_cmp_total}
@@ -41,7 +42,8 @@ tied_pair p q e = ap (λ (x : ℕ × ℕ). eq_by_cmp pair_cmp p x) (sym e) ∙ a
 higher-to : (u a b : ℕ) (r : List ℕ) → one_of (a, b) (map (λ w. (u, w)) (filter (ltb u) r)) ≡ true → (a ≡ u) × (u < b) × (member b r ≡ true)
 higher-to u a b [] h = absurd (false≢true h)
 higher-to u a b (w ∷ ws) h =
-    elim (ltb u w) as (λ t. ltb u w ≡ t → one_of (a, b) (map (λ x. (u, x)) (cond t (w ∷ filter (ltb u) ws) (filter (ltb u) ws))) ≡ true → (a ≡ u) × (u < b) × (member b (w ∷ ws) ≡ true)) [
+    elim (ltb u w) as (λ t. ltb u w ≡ t → one_of (a, b) (map (λ x. (u, x)) (cond t (w ∷ filter (ltb u) ws) (filter (ltb u) ws))) ≡ true
+    → (a ≡ u) × (u < b) × (member b (w ∷ ws) ≡ true)) [
       | true ↦ λ e k. elim (or_cases (eq_by_cmp pair_cmp (a, b) (u, w)) (one_of (a, b) (map (λ x. (u, x)) (filter (ltb u) ws))) k) [
         | inl s ↦
             let p : (a, b) ≡ (u, w) = same_pair (a, b) (u, w) s in
@@ -152,11 +154,14 @@ pairs_from-none u (suc n) = pairs_from-none (u + 1) n
 pub graph_of-none : (n : ℕ) → graph_of (replicate n []) ≡ record { size = n; edges = empty }
 unfolding graph_of
 graph_of-none n =
-    ap₂ (λ (m : ℕ) (e : FinSet pair_cmp). let g : SimpleGraph = record { size = m; edges = e } in g) (length-replicate n []) (ap from_list (pairs_from-none 0 n))
+    ap₂ (λ (m : ℕ) (e : FinSet pair_cmp). let g : SimpleGraph = record { size = m; edges = e } in g) (length-replicate n [])
+    (ap from_list (pairs_from-none 0 n))
 
 -- an ascending row has no number twice
 pub Distinct-from_increasing : (xs : List ℕ) → IsStrictlyIncreasing xs → Distinct xs
-Distinct-from_increasing xs up = Distinct-from_pairs xs (λ i j d lt l e. let k : get_or xs i d < get_or xs j d = AllPairs-from_increasing xs up i j d lt l in absurd (omega arith))
+Distinct-from_increasing xs up =
+    Distinct-from_pairs xs
+    (λ i j d lt l e. let k : get_or xs i d < get_or xs j d = AllPairs-from_increasing xs up i j d lt l in absurd (omega arith))
 
 pub place_at_end : (xs : List ℕ) (w last : ℕ) → IsStrictlyIncreasing xs → Some last ≡ slice_get xs (length xs - 1) → last < w → IsPlace xs w (Err (length xs))
 place_at_end xs w last up is lt = (

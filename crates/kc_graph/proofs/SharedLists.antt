@@ -1,5 +1,6 @@
 -- Lists of neighbours after an update, and the rows that they are put into.
-use Rattle.std.proofs.Common.{◌≡◌, ◌<◌, ℕ, suc, zero, Bool, true, false, cond, not, ◌&&◌, ◌||◌, List, [], ◌∷◌, length, get_or, set, eqb, refl, sym, ◌∙◌, ap, ap₂, subst, inl, inr, arith, eq-eqb, eqb-true, ne_eqb}
+use Rattle.std.proofs.Common.{◌≡◌, ◌<◌, ℕ, suc, zero, Bool, true, false, cond, not, ◌&&◌, ◌||◌, List, [], ◌∷◌, length, get_or, set, eqb, refl, sym}
+use Rattle.std.proofs.Common.{◌∙◌, ap, ap₂, subst, inl, inr, arith, eq-eqb, eqb-true, ne_eqb}
 use Rattle.std.specs.List.{remove}
 use Rattle.std.specs.List.Sorted.{IsStrictlyIncreasing}
 use Rattle.std.proofs.lemmas.Bool.{or_cases, or_right, and_parts, true≢false}

@@ -1,5 +1,6 @@
 -- What the decomposition keeps true while it takes one vertex after another.
-use Rattle.std.specs.Prelude.{◌≡◌, ◌≤◌, ◌<◌, ◌+◌, ℕ, min, max, true, false, not, ◌&&◌, List, [], ◌∷◌, ◌++◌, length, slice_index, slice_set, drop, take, filter, AllPairs, count_by, nat_le, nat_lt, nat_eq, sum, if◌then◌else◌}
+use Rattle.std.specs.Prelude.{◌≡◌, ◌≤◌, ◌<◌, ◌+◌, ℕ, min, max, true, false, not, ◌&&◌, List, [], ◌∷◌, ◌++◌, length, slice_index, slice_set, drop}
+use Rattle.std.specs.Prelude.{take, filter, AllPairs, count_by, nat_le, nat_lt, nat_eq, sum, if◌then◌else◌}
 use Rattle.kc_distinct.specs.Lists.{member, Distinct, below}
 use Rattle.kc_graph.specs.SimpleGraph.{SimpleGraph, adjacent}
 use Rattle.kc_graph.specs.Rows.{row}

@@ -35,8 +35,14 @@ renumbered (v ∷ moved) k core = renumbered moved k (slice_set core v k)
 abbrev pub moved_by : Moves → Ranked → Ranked
 moved_by Kept s = s
 moved_by Plain s = s
-moved_by (Rise level rise shifts) s = record s { core = renumbered rise.items (level + 1) s.core; order = put_between (λ y. nat_le (slice_index s.core y) level) rise.items (shifted shifts.items s.order) }
-moved_by (Fall level fall) s = record s { core = renumbered fall.items (level - 1) s.core; order = put_between (λ y. nat_lt (slice_index s.core y) level) fall.items s.order }
+moved_by (Rise level rise shifts) s =
+    record s {
+      core = renumbered rise.items (level + 1) s.core;
+      order = put_between (λ y. nat_le (slice_index s.core y) level) rise.items (shifted shifts.items s.order);
+    }
+moved_by (Fall level fall) s =
+    record s
+    { core = renumbered fall.items (level - 1) s.core; order = put_between (λ y. nat_lt (slice_index s.core y) level) fall.items s.order }
 
 -- the graph after an update with these moves
 abbrev pub graph_after : Update → Moves → SimpleGraph → SimpleGraph

@@ -1,5 +1,6 @@
 -- A graph by the neighbours of each vertex, as the code keeps it.
-use Rattle.std.specs.Prelude.{refl, ◌≡◌, ◌<◌, ◌+◌, ◌^◌, sum_by, ℕ, true, false, List, [], ◌∷◌, ◌++◌, length, map, nat_lt, slice_index, slice_index_or, slice_set, ◌≤◌, Result, MatchResult, ◌||◌, ◌&&◌, not, ◌==◌}
+use Rattle.std.specs.Prelude.{refl, ◌≡◌, ◌<◌, ◌+◌, ◌^◌, sum_by, ℕ, true, false, List, [], ◌∷◌, ◌++◌, length, map, nat_lt, slice_index, slice_index_or}
+use Rattle.std.specs.Prelude.{slice_set, ◌≤◌, Result, MatchResult, ◌||◌, ◌&&◌, not, ◌==◌}
 use Rattle.std.specs.List.{filter}
 use Rattle.std.specs.List.Sorted.{IsStrictlyIncreasing}
 use Rattle.std.specs.FinSet.{FinSet, from_list}
@@ -41,7 +42,9 @@ pub record HoldsEdges (rows : List (List ℕ)) (edges : ℕ) : Type 0 where
   pub twice : edges + edges ≡ sum_by length rows
 
 abbrev pub code_of_graph : Coded SimpleGraph
-code_of_graph = code_by (ℕ × FinSet pair_cmp) (coded× coded_ℕ (set.code (coded× coded_ℕ coded_ℕ))) (λ g. (g.size, g.edges)) (λ p. record { size = p.0; edges = p.1 }) (λ _. refl)
+code_of_graph =
+    code_by (ℕ × FinSet pair_cmp) (coded× coded_ℕ (set.code (coded× coded_ℕ coded_ℕ))) (λ g. (g.size, g.edges))
+    (λ p. record { size = p.0; edges = p.1 }) (λ _. refl)
 
 -- where the number stands in an ascending row, or the place between the lesser and the greater ones
 abbrev pub IsPlace : List ℕ → ℕ → Result ℕ ℕ → Type 0

@@ -2,7 +2,8 @@
 //!
 //! The rows of a graph that is made in one go lie in one block, one after the other, so that a row costs no memory of its own. A row
 //! that grows moves out of the block into a list of its own, where there is room for more. One that gets shorter stays where it is.
-ghost use Rattle.std.specs.Prelude.{◌≡◌, ◌≢◌, ◌<◌, ◌≤◌, ◌-◌, ◌+◌, ◌^◌, ◌++◌, ◌∷◌, ℕ, List, [], true, false, length, replicate, vec_len, vec_capacity, slice_set, IfOk, OnOk, OnErr};
+ghost use Rattle.std.specs.Prelude.{◌≡◌, ◌≢◌, ◌<◌, ◌≤◌, ◌-◌, ◌+◌, ◌^◌, ◌++◌, ◌∷◌, ℕ, List, [], true, false, length, replicate, vec_len, vec_capacity};
+ghost use Rattle.std.specs.Prelude.{slice_set, IfOk, OnOk, OnErr};
 ghost use Rattle.std.specs.List.{sum_by};
 ghost use Rattle.std.specs.List.Sorted.{IsStrictlyIncreasing};
 ghost use Rattle.kc_distinct.specs.Lists.{member};

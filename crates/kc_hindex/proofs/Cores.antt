@@ -1,11 +1,14 @@
 -- Numbers that a round leaves unchanged, reached from the degrees, are the core numbers.
-use Rattle.std.proofs.Common.{◌≡◌, ◌≤◌, ◌<◌, ℕ, suc, zero, Bool, true, ◌&&◌, List, [], ◌∷◌, map, get_or, leb, sym, ◌∙◌, subst, arith, le_refl, le_trans, leb-true, le-leb, lt_irrefl}
+use Rattle.std.proofs.Common.{◌≡◌, ◌≤◌, ◌<◌, ℕ, suc, zero, Bool, true, ◌&&◌, List, [], ◌∷◌, map, get_or, leb, sym, ◌∙◌, subst, arith, le_refl}
+use Rattle.std.proofs.Common.{le_trans, leb-true, le-leb, lt_irrefl}
 use Rattle.std.specs.Prelude.{count_by}
 use Rattle.std.specs.List.{filter}
 use Rattle.std.proofs.lemmas.Bool.{and_parts, false_from_ne_true}
 use Rattle.std.proofs.lemmas.List.Elements.{All-contains}
 use Rattle.kc_distinct.specs.Lists.{member, below, Distinct}
-use Rattle.kc_distinct.proofs.Counting.{count-mono, count-le, count-filter, member-get_or, member-from_Contains, Contains-from_member, Distinct-from_pairs, pairs_from_Distinct, member-filter, filter-member, Distinct-filter, Distinct-below, member-below, below-member}
+use Rattle.kc_distinct.proofs.Counting.{count-mono, count-le, count-filter, member-get_or, member-from_Contains, Contains-from_member}
+use Rattle.kc_distinct.proofs.Counting.{Distinct-from_pairs, pairs_from_Distinct, member-filter, filter-member, Distinct-filter, Distinct-below}
+use Rattle.kc_distinct.proofs.Counting.{member-below, below-member}
 use Rattle.kc_graph.specs.SimpleGraph.{SimpleGraph, adjacent, degree_among}
 use Rattle.kc_graph.specs.Core.{IsInCore, IsCoreNumber, AreCoreNumbers, HasMinDegree}
 use Rattle.kc_graph.specs.Neighbours.{neighbours_of}
@@ -24,11 +27,13 @@ both_true : (a b : Bool) → a ≡ true → b ≡ true → (a && b) ≡ true
 both_true a b p q = rw p q
 
 -- enough neighbours with numbers of at least `k` keep the number at least `k`
-pub round-keeps : (g : SimpleGraph) (c : ℕ → ℕ) (k v : ℕ) (members : List ℕ) → Distinct members → ((w : ℕ) → member w members ≡ true → w < g.size) → ((w : ℕ) → member w members ≡ true → k ≤ c w)
+pub round-keeps : (g : SimpleGraph) (c : ℕ → ℕ) (k v : ℕ) (members : List ℕ) → Distinct members
+    → ((w : ℕ) → member w members ≡ true → w < g.size) → ((w : ℕ) → member w members ≡ true → k ≤ c w)
     → k ≤ degree_among g members v → k ≤ h_round g c v
 round-keeps g c k v members distinct vertices high dense =
     let pass : ℕ → Bool = λ w. adjacent g v w && leb k (c w) in
-    let one : degree_among g members v ≤ count_by pass members = count-mono (adjacent g v) pass members (λ w m a. both_true (adjacent g v w) (leb k (c w)) a (le-leb k (c w) (high w m))) in
+    let one : degree_among g members v ≤ count_by pass members =
+    count-mono (adjacent g v) pass members (λ w m a. both_true (adjacent g v w) (leb k (c w)) a (le-leb k (c w) (high w m))) in
     let two : count_by pass members ≤ count_by pass (neighbours_of g v) = count-le pass members (neighbours_of g v) distinct
     (λ w m t. neighbours_has g v w (vertices w m) ∙ (and_parts (adjacent g v w) (leb k (c w)) t).0) in
     let three : count_by pass (neighbours_of g v) ≤ count_by (λ w. leb k (c w)) (neighbours_of g v) = count-mono pass (λ w. leb k (c w)) (neighbours_of g v)
@@ -38,11 +43,13 @@ round-keeps g c k v members distinct vertices high dense =
 -- in no round does a vertex fall below the members of a dense set that has it
 pub core-below : (g : SimpleGraph) (k : ℕ) (members : List ℕ) → HasMinDegree g k members → (r v : ℕ) → member v members ≡ true → k ≤ after_rounds g r v
 core-below g k members dense zero v m =
-    let vertices : (w : ℕ) → member w members ≡ true → w < g.size = λ w m. All-contains (λ x. x < g.size) members w dense.vertices (Contains-from_member members w m) in
+    let vertices : (w : ℕ) → member w members ≡ true → w < g.size =
+    λ w m. All-contains (λ x. x < g.size) members w dense.vertices (Contains-from_member members w m) in
     let some : k ≤ degree_among g members v = All-contains (λ w. k ≤ degree_among g members w) members v dense.degrees (Contains-from_member members v m) in
     le_trans some (count-le (adjacent g v) members (below g.size) (Distinct-from_pairs members dense.distinct) (λ w m _. member-below w g.size (vertices w m)))
 core-below g k members dense (suc r) v m =
-    let vertices : (w : ℕ) → member w members ≡ true → w < g.size = λ w m. All-contains (λ x. x < g.size) members w dense.vertices (Contains-from_member members w m) in
+    let vertices : (w : ℕ) → member w members ≡ true → w < g.size =
+    λ w m. All-contains (λ x. x < g.size) members w dense.vertices (Contains-from_member members w m) in
     let some : k ≤ degree_among g members v = All-contains (λ w. k ≤ degree_among g members w) members v dense.degrees (Contains-from_member members v m) in
     round-keeps g (after_rounds g r) k v members (Distinct-from_pairs members dense.distinct) vertices (core-below g k members dense r) some
 
@@ -54,8 +61,10 @@ round-supported g c k v l =
     let both : ℕ → Bool = λ w. adjacent g v w && leb h (c w) in
     let near : List ℕ = neighbours_of g v in
     let some : h ≤ count_by (leb h) (map c near) = h_index-reached (map c near) in
-    let one : count_by (λ w. leb h (c w)) near ≤ count_by both near = count-mono (λ w. leb h (c w)) both near (λ w m t. both_true (adjacent g v w) (leb h (c w)) (neighbours_within g v w m).1 t) in
-    let two : count_by both near ≤ count_by both (below g.size) = count-le both near (below g.size) (neighbours_distinct g v) (λ w m _. member-below w g.size (neighbours_within g v w m).0) in
+    let one : count_by (λ w. leb h (c w)) near ≤ count_by both near =
+    count-mono (λ w. leb h (c w)) both near (λ w m t. both_true (adjacent g v w) (leb h (c w)) (neighbours_within g v w m).1 t) in
+    let two : count_by both near ≤ count_by both (below g.size) =
+    count-le both near (below g.size) (neighbours_distinct g v) (λ w m _. member-below w g.size (neighbours_within g v w m).0) in
     let three : count_by both (below g.size) ≤ count_by (adjacent g v) (filter high (below g.size)) = count-filter high (adjacent g v) both
     (λ w t. let a = and_parts (adjacent g v w) (leb h (c w)) t in (le-leb k (c w) (le_trans l (leb-true h (c w) a.1)), a.0)) (below g.size) in
     omega (arith, some, one, two, three, count-map (leb h) c near)
@@ -67,7 +76,10 @@ settled-reached g c same v l =
     let members : List ℕ = filter high (below g.size) in (
       members,
       record {
-        vertices = λ i d in'. below-member (get_or members i d) g.size (member-filter high (get_or members i d) (below g.size) (member-get_or members i d in')).0;
+        vertices =
+            λ i d in'.
+            below-member (get_or members i d) g.size
+            (member-filter high (get_or members i d) (below g.size) (member-get_or members i d in')).0;
         distinct = pairs_from_Distinct members (Distinct-filter high (below g.size) (Distinct-below g.size));
         degrees = λ i d in'.
             let w : ℕ = get_or members i d in

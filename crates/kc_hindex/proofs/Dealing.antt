@@ -45,7 +45,8 @@ round-dealt g old new counts pieces same dealt made stands = record {
 }
 
 -- no piece has a number that is greater than that of its vertex
-pub none-rises : (g : SimpleGraph) (old : List ℕ) (crossed : List Bool) (counts : ℕ) (pieces : List Piece) → AreReady g old crossed → AreDealt g.size counts pieces
+pub none-rises : (g : SimpleGraph) (old : List ℕ) (crossed : List Bool) (counts : ℕ) (pieces : List Piece) → AreReady g old crossed
+    → AreDealt g.size counts pieces
     → AreMade g old pieces → (p i : ℕ) → p < length pieces → i < length (row (numbers_of pieces) p)
     → get_or (row (numbers_of pieces) p) i 0 ≤ get_or old (p + i * length pieces) 0
 none-rises g old crossed counts pieces ready dealt made p i in' here =

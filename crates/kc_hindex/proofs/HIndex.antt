@@ -1,5 +1,6 @@
 -- The h-index of a list, and what a round makes of a vertex.
-use Rattle.std.proofs.Common.{◌≡◌, ◌≤◌, ◌<◌, ◌+◌, ℕ, suc, zero, Bool, true, false, cond, List, [], ◌∷◌, length, map, leb, refl, sym, ◌∙◌, ap, subst, ◌⊎◌, inl, inr, arith, true≢false, le_trans, leb-true, le-leb}
+use Rattle.std.proofs.Common.{◌≡◌, ◌≤◌, ◌<◌, ◌+◌, ℕ, suc, zero, Bool, true, false, cond, List, [], ◌∷◌, length, map, leb, refl, sym, ◌∙◌, ap, subst}
+use Rattle.std.proofs.Common.{◌⊎◌, inl, inr, arith, true≢false, le_trans, leb-true, le-leb}
 use Rattle.std.specs.Prelude.{count_by}
 use Rattle.std.proofs.lemmas.Bool.{cases_Bool, cases_eq}
 use Rattle.kc_distinct.specs.Lists.{member}
@@ -9,7 +10,8 @@ use Rattle.kc_hindex.specs.Rounds.{how_many_reach, h_index_up_to, h_index, IsHIn
 pub up_to-reached : (xs : List ℕ) (n : ℕ) → h_index_up_to xs n ≤ how_many_reach (h_index_up_to xs n) xs
 up_to-reached xs zero = omega arith
 up_to-reached xs (suc n) =
-    elim (leb (suc n) (how_many_reach (suc n) xs)) as (λ b. leb (suc n) (how_many_reach (suc n) xs) ≡ b → cond b (suc n) (h_index_up_to xs n) ≤ how_many_reach (cond b (suc n) (h_index_up_to xs n)) xs) [
+    elim (leb (suc n) (how_many_reach (suc n) xs)) as (λ b. leb (suc n) (how_many_reach (suc n) xs) ≡ b
+    → cond b (suc n) (h_index_up_to xs n) ≤ how_many_reach (cond b (suc n) (h_index_up_to xs n)) xs) [
       | true ↦ λ e. leb-true _ _ e
       | false ↦ λ _. up_to-reached xs n
     ] refl
@@ -33,7 +35,8 @@ up_to-greatest xs (suc n) k l h =
     elim (leb (suc n) (how_many_reach (suc n) xs)) as (λ b. leb (suc n) (how_many_reach (suc n) xs) ≡ b → k ≤ cond b (suc n) (h_index_up_to xs n)) [
       | true ↦ λ _. l
       | false ↦ λ e.
-          let ne : k ≡ suc n → ⊥ = λ k-n. true≢false (sym (le-leb (suc n) (how_many_reach (suc n) xs) (subst (λ (m : ℕ). m ≤ how_many_reach m xs) k-n h)) ∙ e) in
+          let ne : k ≡ suc n → ⊥ =
+          λ k-n. true≢false (sym (le-leb (suc n) (how_many_reach (suc n) xs) (subst (λ (m : ℕ). m ≤ how_many_reach m xs) k-n h)) ∙ e) in
           up_to-greatest xs n k (above k n l ne) h
     ] refl
 
@@ -68,7 +71,8 @@ pub h_index-mono : (c d : ℕ → ℕ) (ws : List ℕ) → ((w : ℕ) → member
 h_index-mono c d ws h =
     let k : ℕ = h_index (map c ws) in
     let some : k ≤ count_by (leb k) (map c ws) = h_index-reached (map c ws) in
-    let more : count_by (λ w. leb k (c w)) ws ≤ count_by (λ w. leb k (d w)) ws = count-mono (λ w. leb k (c w)) (λ w. leb k (d w)) ws (λ w m t. le-leb k (d w) (le_trans (leb-true k (c w) t) (h w m))) in
+    let more : count_by (λ w. leb k (c w)) ws ≤ count_by (λ w. leb k (d w)) ws =
+    count-mono (λ w. leb k (c w)) (λ w. leb k (d w)) ws (λ w m t. le-leb k (d w) (le_trans (leb-true k (c w) t) (h w m))) in
     let enough : k ≤ count_by (leb k) (map d ws) = omega (arith, some, more, count-map (leb k) c ws, count-map (leb k) d ws) in
     h_index-greatest (map d ws) k enough
 
@@ -83,7 +87,8 @@ out_of_reach c ws k less =
       | inl t ↦
           let l : k ≤ h = leb-true k h t in
           let some : h ≤ count_by (leb h) (map c ws) = h_index-reached (map c ws) in
-          let more : count_by (λ w. leb h (c w)) ws ≤ count_by (λ w. leb k (c w)) ws = count-mono (λ w. leb h (c w)) (λ w. leb k (c w)) ws (λ w _ t. le-leb k (c w) (le_trans l (leb-true h (c w) t))) in
+          let more : count_by (λ w. leb h (c w)) ws ≤ count_by (λ w. leb k (c w)) ws =
+          count-mono (λ w. leb h (c w)) (λ w. leb k (c w)) ws (λ w _ t. le-leb k (c w) (le_trans l (leb-true h (c w) t))) in
           absurd (omega (arith, less, l, some, more, count-map (leb h) c ws))
       | inr f ↦ not_leb k h f
     ]

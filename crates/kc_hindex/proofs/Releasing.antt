@@ -1,5 +1,7 @@
 -- One neighbour less for each of a list, and who waits from then on.
-use Rattle.std.proofs.Common.{◌≡◌, ◌≤◌, ◌<◌, ◌+◌, ◌-◌, ℕ, Bool, true, false, cond, ◌&&◌, ◌||◌, List, [], ◌∷◌, ◌++◌, length, get_or, set, take, eqb, ltb, refl, sym, ◌∙◌, ap, subst, inl, inr, arith, length-set, append-nil, append_assoc, eq-eqb, eqb-true, lt-ltb, le-ltb, ne_eqb}
+use Rattle.std.proofs.Common.{◌≡◌, ◌≤◌, ◌<◌, ◌+◌, ◌-◌, ℕ, Bool, true, false, cond, ◌&&◌, ◌||◌, List, [], ◌∷◌, ◌++◌, length, get_or, set, take, eqb}
+use Rattle.std.proofs.Common.{ltb, refl, sym, ◌∙◌, ap, subst, inl, inr, arith, length-set, append-nil, append_assoc, eq-eqb, eqb-true, lt-ltb, le-ltb}
+use Rattle.std.proofs.Common.{ne_eqb}
 use Rattle.std.specs.List.{filter}
 use Rattle.std.proofs.lemmas.List.{take_more, get_or-set_same, get_or-set_other}
 use Rattle.std.proofs.lemmas.List.Elements.{filter-append}
@@ -37,7 +39,8 @@ released_none core left rows = record {
   filed = λ b. sym (append-nil (row rows b));
 }
 
-module _ (core ws : List ℕ) (w : ℕ) (left : List ℕ) (rows : List (List ℕ)) (left' : List ℕ) (rows' : List (List ℕ)) (h : Released core ws left rows left' rows') (same : at left w ≡ at left' w) where
+module _ (core ws : List ℕ) (w : ℕ) (left : List ℕ) (rows : List (List ℕ)) (left' : List ℕ) (rows' : List (List ℕ))
+    (h : Released core ws left rows left' rows') (same : at left w ≡ at left' w) where
   -- `w` has no more left than its core number
   pub released_skip : at left' w ≤ at core w → Released core (ws ++ w ∷ []) left rows left' rows'
   released_skip low =
@@ -90,15 +93,18 @@ module _ (core ws : List ℕ) (w : ℕ) (left : List ℕ) (rows : List (List ℕ
               let yes : joins core left b w ≡ true = and_from _ _ (eq-eqb (at core w) b (sym e)) (eq-eqb (at left w) (b + 1) (omega (arith, same, ready, e))) in
               ap (row more) e ∙ row-set_same rows' c (row rows' c ++ w ∷ []) room
               ∙ ap (λ j. row rows' j ++ w ∷ []) (sym e) ∙ ap (λ (t : List ℕ). t ++ w ∷ []) (h.filed b)
-              ∙ append_assoc (row rows b) (filter (joins core left b) ws) (w ∷ []) ∙ ap (λ (t : List ℕ). row rows b ++ t) (sym (filter-push_yes (joins core left b) w ws yes))
+              ∙ append_assoc (row rows b) (filter (joins core left b) ws) (w ∷ [])
+              ∙ ap (λ (t : List ℕ). row rows b ++ t) (sym (filter-push_yes (joins core left b) w ws yes))
           | inr ne ↦
               let no : joins core left b w ≡ false = and_left _ _ (ne_eqb (at core w) b (λ k. ne (sym k))) in
-              row-set_other rows' c b (row rows' c ++ w ∷ []) ne ∙ h.filed b ∙ ap (λ (t : List ℕ). row rows b ++ t) (sym (filter-push_no (joins core left b) w ws no))
+              row-set_other rows' c b (row rows' c ++ w ∷ []) ne ∙ h.filed b
+              ∙ ap (λ (t : List ℕ). row rows b ++ t) (sym (filter-push_no (joins core left b) w ws no))
         ];
       }
 
   -- `w` loses one, and has still too many
-  pub released_later : at core w + 1 < at left' w → member w ws ≡ false → w < length left' → Released core (ws ++ w ∷ []) left rows (set left' w (at left' w - 1)) rows'
+  pub released_later : at core w + 1 < at left' w → member w ws ≡ false → w < length left'
+      → Released core (ws ++ w ∷ []) left rows (set left' w (at left' w - 1)) rows'
   released_later up new' lw = record {
     one_each = length-set left' w (at left' w - 1) ∙ h.one_each;
     one_row = h.one_row;

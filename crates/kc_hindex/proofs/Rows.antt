@@ -21,6 +21,8 @@ row_round g c v ws near = ap (λ (xs : List ℕ). h_index (map c xs)) (neighbour
 pub row_degree : (g : SimpleGraph) (v : ℕ) (ws : List ℕ) → AreNeighbours g v ws → length ws ≡ degree_among g (below g.size) v
 row_degree g v ws near =
     let all : count_by (adjacent g v) ws ≡ length ws = count-all (adjacent g v) ws (λ w m. sym (near.exact w) ∙ m) in
-    let up : count_by (adjacent g v) ws ≤ count_by (adjacent g v) (below g.size) = count-le (adjacent g v) ws (below g.size) (neighbours-distinct g v ws near) (λ w m _. member-below w g.size (near.within w m)) in
-    let down : count_by (adjacent g v) (below g.size) ≤ count_by (adjacent g v) ws = count-le (adjacent g v) (below g.size) ws (Distinct-below g.size) (λ w _ a. near.exact w ∙ a) in
+    let up : count_by (adjacent g v) ws ≤ count_by (adjacent g v) (below g.size) =
+    count-le (adjacent g v) ws (below g.size) (neighbours-distinct g v ws near) (λ w m _. member-below w g.size (near.within w m)) in
+    let down : count_by (adjacent g v) (below g.size) ≤ count_by (adjacent g v) ws =
+    count-le (adjacent g v) (below g.size) ws (Distinct-below g.size) (λ w _ a. near.exact w ∙ a) in
     omega (arith, all, up, down)

@@ -1,5 +1,6 @@
 -- Rounds never rise, and one of the first, as many as the sum of degrees and one, changes nothing.
-use Rattle.std.proofs.Common.{◌≡◌, ◌≤◌, ◌<◌, ◌+◌, ◌*◌, ◌^◌, ◌-◌, get_or, ap₂, ℕ, suc, zero, true, List, [], ◌∷◌, length, map, refl, sym, ◌∙◌, ap, subst, ◌⊎◌, inl, inr, arith, le_refl}
+use Rattle.std.proofs.Common.{◌≡◌, ◌≤◌, ◌<◌, ◌+◌, ◌*◌, ◌^◌, ◌-◌, get_or, ap₂, ℕ, suc, zero, true, List, [], ◌∷◌, length, map, refl, sym, ◌∙◌, ap}
+use Rattle.std.proofs.Common.{subst, ◌⊎◌, inl, inr, arith, le_refl}
 use Rattle.std.specs.Prelude.{count_by}
 use Rattle.std.proofs.lemmas.Bool.{cases_eq}
 use Rattle.std.proofs.lemmas.List.{ext_get_or}
@@ -23,7 +24,8 @@ pub round-degree : (g : SimpleGraph) (c : ℕ → ℕ) (v : ℕ) → h_round g c
 round-degree g c v =
     let near : List ℕ = neighbours_of g v in
     let all : count_by (adjacent g v) near ≡ length near = count-all (adjacent g v) near (λ w m. (neighbours_within g v w m).1) in
-    let some : count_by (adjacent g v) near ≤ count_by (adjacent g v) (below g.size) = count-le (adjacent g v) near (below g.size) (neighbours_distinct g v) (λ w m _. member-below w g.size (neighbours_within g v w m).0) in
+    let some : count_by (adjacent g v) near ≤ count_by (adjacent g v) (below g.size) =
+    count-le (adjacent g v) near (below g.size) (neighbours_distinct g v) (λ w m _. member-below w g.size (neighbours_within g v w m).0) in
     omega (arith, h_index-length (map c near), length-map c near, all, some)
 
 pub never_rises : (g : SimpleGraph) (r v : ℕ) → after_rounds g (suc r) v ≤ after_rounds g r v
@@ -50,26 +52,30 @@ total-same : (c d : ℕ → ℕ) (n : ℕ) → ((v : ℕ) → v < n → c v ≡ 
 total-same c d zero h = refl
 total-same c d (suc n) h = let rest : total c n ≡ total d n = total-same c d n (λ v l. h v (omega arith)) in omega (arith, rest, h n (omega arith))
 
-pub here : (g : SimpleGraph) (r : ℕ) → ((s : ℕ) → IsSettled g s → r ≤ s) → ((v : ℕ) → v < g.size → after_rounds g (suc r) v ≡ after_rounds g r v) → AreRounds g (suc r)
+pub here : (g : SimpleGraph) (r : ℕ) → ((s : ℕ) → IsSettled g s → r ≤ s)
+    → ((v : ℕ) → v < g.size → after_rounds g (suc r) v ≡ after_rounds g r v) → AreRounds g (suc r)
 here g r none same = record {
   positive = omega arith;
   settled = λ s e. subst (λ (x : ℕ). IsSettled g x) (omega arith) same;
   first = λ s h. let l : r ≤ s = none s h in omega arith;
 }
 
-pub later : (g : SimpleGraph) (r : ℕ) → ((s : ℕ) → IsSettled g s → r ≤ s) → total (after_rounds g (suc r)) g.size < total (after_rounds g r) g.size → (s : ℕ) → IsSettled g s → suc r ≤ s
+pub later : (g : SimpleGraph) (r : ℕ) → ((s : ℕ) → IsSettled g s → r ≤ s)
+    → total (after_rounds g (suc r)) g.size < total (after_rounds g r) g.size → (s : ℕ) → IsSettled g s → suc r ≤ s
 later g r none less s h =
     let l : r ≤ s = none s h in
     elim (cases_eq r s) [
       | inl e ↦
           let h' : IsSettled g r = subst (λ (x : ℕ). IsSettled g x) (sym e) h in
-          let still : total (after_rounds g (suc r)) g.size ≡ total (after_rounds g r) g.size = total-same (after_rounds g (suc r)) (after_rounds g r) g.size h' in
+          let still : total (after_rounds g (suc r)) g.size ≡ total (after_rounds g r) g.size =
+          total-same (after_rounds g (suc r)) (after_rounds g r) g.size h' in
           absurd (omega arith)
       | inr ne ↦ omega arith
     ]
 
 -- the first round that changes nothing, where none of the first `r` was it
-search_from : (g : SimpleGraph) (fuel r : ℕ) → total (after_rounds g r) g.size ≤ fuel → ((s : ℕ) → IsSettled g s → r ≤ s) → (n : ℕ) × AreRounds g n × (n ≤ r + fuel + 1)
+search_from : (g : SimpleGraph) (fuel r : ℕ) → total (after_rounds g r) g.size ≤ fuel → ((s : ℕ) → IsSettled g s → r ≤ s)
+    → (n : ℕ) × AreRounds g n × (n ≤ r + fuel + 1)
 search_from g zero r enough none =
     elim (same_or_less (after_rounds g (suc r)) (after_rounds g r) g.size (never_rises g r)) [
       | inl same ↦ (suc r, here g r none same, omega arith)
@@ -85,7 +91,8 @@ search_from g (suc fuel) r enough none =
 
 pub rounds_exist : (g : SimpleGraph) → (n : ℕ) × AreRounds g n × (n ≤ total (after_rounds g 0) g.size + 1)
 rounds_exist g =
-    let found : (n : ℕ) × AreRounds g n × (n ≤ 0 + total (after_rounds g 0) g.size + 1) = search_from g (total (after_rounds g 0) g.size) 0 (le_refl (total (after_rounds g 0) g.size)) (λ s _. omega arith) in
+    let found : (n : ℕ) × AreRounds g n × (n ≤ 0 + total (after_rounds g 0) g.size + 1) =
+    search_from g (total (after_rounds g 0) g.size) 0 (le_refl (total (after_rounds g 0) g.size)) (λ s _. omega arith) in
     (found.0, found.1, omega (arith, found.2))
 
 -- the numbers of a graph settle at one round
@@ -101,11 +108,13 @@ total-few c (suc n) h = let rest : total c n ≤ n * 2 ^ 32 = total-few c n (λ 
 -- what the counter of rounds may reach
 pub total-fits : (g : SimpleGraph) → g.size < 2 ^ 32 → total (after_rounds g 0) g.size < 2 ^ 64 - 1
 total-fits g small =
-    let each : (v : ℕ) → v < g.size → after_rounds g 0 v < 2 ^ 32 = λ v l. omega (arith, small, count-le-length (adjacent g v) (below g.size), length-below g.size) in
+    let each : (v : ℕ) → v < g.size → after_rounds g 0 v < 2 ^ 32 =
+    λ v l. omega (arith, small, count-le-length (adjacent g v) (below g.size), length-below g.size) in
     omega (arith, small, total-few (after_rounds g 0) g.size each)
 
 -- a round that changed something
-pub changed : (g : SimpleGraph) (r : ℕ) (old new : List ℕ) → HasRound g r old → HasRound g (suc r) new → (old ≡ new → ⊥) → total (after_rounds g (suc r)) g.size < total (after_rounds g r) g.size
+pub changed : (g : SimpleGraph) (r : ℕ) (old new : List ℕ) → HasRound g r old → HasRound g (suc r) new → (old ≡ new → ⊥)
+    → total (after_rounds g (suc r)) g.size < total (after_rounds g r) g.size
 changed g r old new a b differ =
     elim (same_or_less (after_rounds g (suc r)) (after_rounds g r) g.size (never_rises g r)) [
       | inl same ↦ absurd (differ (ext_get_or 0 old new (a.one_each ∙ sym b.one_each) (λ v l.
@@ -120,7 +129,11 @@ unchanged g r old new a b same v l = sym (b.each v l) ∙ ap (λ (xs : List ℕ)
 pub round-next : (g : SimpleGraph) (r : ℕ) (old new : List ℕ) → HasRound g r old → IsRoundOf g old new → HasRound g (suc r) new
 round-next g r old new a b = record {
   one_each = b.one_each;
-  each = λ v l. b.each v l ∙ ap (λ (xs : List ℕ). h_index xs) (map-agree (λ w. get_or old w 0) (after_rounds g r) (neighbours_of g v) (λ w m. a.each w (neighbours_within g v w m).0));
+  each =
+      λ v l.
+      b.each v l
+      ∙ ap (λ (xs : List ℕ). h_index xs)
+      (map-agree (λ w. get_or old w 0) (after_rounds g r) (neighbours_of g v) (λ w m. a.each w (neighbours_within g v w m).0));
 }
 
 -- the numbers of the next round, as the loop counts it
@@ -144,8 +157,10 @@ later-settled g r none less s h =
     omega (arith, later g r none (subst (λ (n : ℕ). total (after_rounds g n) g.size < total (after_rounds g r) g.size) next less) s h)
 
 -- a round raises no number that rounds have led to
-pub falls : (g : SimpleGraph) (r : ℕ) (numbers : List ℕ) → HasRound g r numbers → (v : ℕ) → v < g.size → h_round g (λ w. get_or numbers w 0) v ≤ get_or numbers v 0
+pub falls : (g : SimpleGraph) (r : ℕ) (numbers : List ℕ) → HasRound g r numbers → (v : ℕ) → v < g.size
+    → h_round g (λ w. get_or numbers w 0) v ≤ get_or numbers v 0
 falls g r numbers h v l =
     let same : h_round g (λ w. get_or numbers w 0) v ≡ after_rounds g (suc r) v =
-    ap (λ (xs : List ℕ). h_index xs) (map-agree (λ w. get_or numbers w 0) (after_rounds g r) (neighbours_of g v) (λ w m. h.each w (neighbours_within g v w m).0)) in
+    ap (λ (xs : List ℕ). h_index xs)
+    (map-agree (λ w. get_or numbers w 0) (after_rounds g r) (neighbours_of g v) (λ w m. h.each w (neighbours_within g v w m).0)) in
     omega (arith, same, never_rises g r v, h.each v l)

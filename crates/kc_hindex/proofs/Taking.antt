@@ -1,13 +1,18 @@
 -- Levels of vertices, taken one after the other, with core numbers that are known.
-use Rattle.std.proofs.Common.{◌≡◌, ◌≤◌, ◌<◌, ◌+◌, ℕ, max, Bool, true, false, cond, not, ◌&&◌, List, [], ◌∷◌, ◌++◌, length, get_or, set, eqb, leb, ltb, refl, sym, ◌∙◌, ap, subst, inl, inr, arith, le_trans, leb-true, le-leb, lt-ltb, le-ltb, eq-eqb, eqb-true, append-nil, length-set, true≢false}
+use Rattle.std.proofs.Common.{◌≡◌, ◌≤◌, ◌<◌, ◌+◌, ℕ, max, Bool, true, false, cond, not, ◌&&◌, List, [], ◌∷◌, ◌++◌, length, get_or, set, eqb, leb, ltb}
+use Rattle.std.proofs.Common.{refl, sym, ◌∙◌, ap, subst, inl, inr, arith, le_trans, leb-true, le-leb, lt-ltb, le-ltb, eq-eqb, eqb-true, append-nil}
+use Rattle.std.proofs.Common.{length-set, true≢false}
 use Rattle.std.specs.Prelude.{count_by}
 use Rattle.std.specs.List.{filter}
-use Rattle.std.proofs.lemmas.Bool.{cases_Bool, cases_eq, cases_lt, and_from, and_left, and_parts, and_right, eqb-false, false≢true, false_from_ne_true, true_from_ne_false, not_from_false, not-true, or_right}
+use Rattle.std.proofs.lemmas.Bool.{cases_Bool, cases_eq, cases_lt, and_from, and_left, and_parts, and_right, eqb-false, false≢true}
+use Rattle.std.proofs.lemmas.Bool.{false_from_ne_true, true_from_ne_false, not_from_false, not-true, or_right}
 use Rattle.std.proofs.lemmas.List.Elements.{All-contains}
 use Rattle.std.proofs.Math.Bool.{and-true}
 use Rattle.kc_distinct.specs.Lists.{Distinct, below, member}
 use Rattle.kc_distinct.proofs.Members.{member-append, member-append_left, member-append_right, Distinct-cut}
-use Rattle.kc_distinct.proofs.Counting.{Contains-from_member, count-agree, count-filter, count-le, count-mono, Distinct-below, Distinct-filter, Distinct-from_pairs, Distinct-push, filter-member, below-member, member-below, member-filter, member-get_or, member-push, member-push_cases, member-push_left, member-push_none, pairs_from_Distinct}
+use Rattle.kc_distinct.proofs.Counting.{Contains-from_member, count-agree, count-filter, count-le, count-mono, Distinct-below, Distinct-filter}
+use Rattle.kc_distinct.proofs.Counting.{Distinct-from_pairs, Distinct-push, filter-member, below-member, member-below, member-filter, member-get_or}
+use Rattle.kc_distinct.proofs.Counting.{member-push, member-push_cases, member-push_left, member-push_none, pairs_from_Distinct}
 use Rattle.kc_distinct.proofs.Shared.{Distinct-append}
 use Rattle.kc_graph.specs.SimpleGraph.{SimpleGraph, adjacent, degree_among}
 use Rattle.kc_graph.specs.Core.{AreCoreNumbers, HasMinDegree, IsInCore}
@@ -29,12 +34,16 @@ supported g core numbers v l =
     let in' : IsInCore g k v = (numbers.each v l).reached in
     let members : List ℕ = in'.0 in
     let dense : HasMinDegree g k members = in'.1 in
-    let vertex : (w : ℕ) → member w members ≡ true → w < g.size = λ w m. All-contains (λ x. x < g.size) members w dense.vertices (Contains-from_member members w m) in
-    let up : (w : ℕ) → member w members ≡ true → k ≤ at core w = λ w m. (numbers.each w (vertex w m)).greatest k (members, dense, Contains-from_member members w m) in
+    let vertex : (w : ℕ) → member w members ≡ true → w < g.size =
+    λ w m. All-contains (λ x. x < g.size) members w dense.vertices (Contains-from_member members w m) in
+    let up : (w : ℕ) → member w members ≡ true → k ≤ at core w =
+    λ w m. (numbers.each w (vertex w m)).greatest k (members, dense, Contains-from_member members w m) in
     let some : k ≤ degree_among g members v = All-contains (λ w. k ≤ degree_among g members w) members v dense.degrees in'.2 in
     let high : ℕ → Bool = λ w. adjacent g v w && leb k (at core w) in
-    let among : degree_among g members v ≤ count_by high members = count-mono (adjacent g v) high members (λ w m a. and_from _ _ a (le-leb k (at core w) (up w m))) in
-    let all : count_by high members ≤ count_by high (below g.size) = count-le high members (below g.size) (Distinct-from_pairs members dense.distinct) (λ w m _. member-below w g.size (vertex w m)) in
+    let among : degree_among g members v ≤ count_by high members =
+    count-mono (adjacent g v) high members (λ w m a. and_from _ _ a (le-leb k (at core w) (up w m))) in
+    let all : count_by high members ≤ count_by high (below g.size) =
+    count-le high members (below g.size) (Distinct-from_pairs members dense.distinct) (λ w m _. member-below w g.size (vertex w m)) in
     le_trans some (le_trans among all)
 
 -- a vertex has at least as many neighbours as its core number
@@ -47,7 +56,8 @@ few_enough g core numbers v l =
     le_trans high all
 
 -- no vertex is taken yet, and those wait that have no more neighbours than their core number
-pub begin : (g : SimpleGraph) (core left : List ℕ) (waiting : List (List ℕ)) → AreCoreNumbers g core → HasRound g 0 left → Sorted core left g.size waiting → Orders g core 0 left [] waiting
+pub begin : (g : SimpleGraph) (core left : List ℕ) (waiting : List (List ℕ)) → AreCoreNumbers g core → HasRound g 0 left
+    → Sorted core left g.size waiting → Orders g core 0 left [] waiting
 begin g core left waiting numbers degrees s = record {
   peeled = start g core numbers.one_each;
   rest = record {
@@ -97,7 +107,9 @@ module _ (g : SimpleGraph) (core : List ℕ) (level v : ℕ) (left taken : List 
   -- who waits now waited before
   was-in_row : (b u : ℕ) → member u (row rows b) ≡ true → member u (row t.before b) ≡ true
   was-in_row b u m = elim (cases_eq b level) [
-    | inl e ↦ ap (λ j. member u (row t.before j)) e ∙ (ap (member u) t.popped ∙ member-push_left u v (row rows level) (ap (λ j. member u (row rows j)) (sym e) ∙ m))
+    | inl e ↦
+        ap (λ j. member u (row t.before j)) e
+        ∙ (ap (member u) t.popped ∙ member-push_left u v (row rows level) (ap (λ j. member u (row rows j)) (sym e) ∙ m))
     | inr ne ↦ ap (member u) (t.others b ne) ∙ m
   ]
 
@@ -106,7 +118,8 @@ module _ (g : SimpleGraph) (core : List ℕ) (level v : ℕ) (left taken : List 
   still-in_row b u ne m = elim (cases_eq b level) [
     | inl e ↦
         ap (λ j. member u (row rows j)) e
-        ∙ elim (member-push_cases u v (row rows level) (sym (ap (member u) t.popped) ∙ (ap (λ j. member u (row t.before j)) (sym e) ∙ m))) [ inl k ↦ k | inr d ↦ absurd (ne d) ]
+        ∙ elim (member-push_cases u v (row rows level) (sym (ap (member u) t.popped) ∙ (ap (λ j. member u (row t.before j)) (sym e) ∙ m)))
+        [ inl k ↦ k | inr d ↦ absurd (ne d) ]
     | inr other ↦ sym (ap (member u) (t.others b other)) ∙ m
   ]
 
@@ -118,7 +131,8 @@ module _ (g : SimpleGraph) (core : List ℕ) (level v : ℕ) (left taken : List 
   ]
 
   -- `v` is taken, and its neighbours lose one
-  pub took : (ws left' : List ℕ) (rows' : List (List ℕ)) → AreNeighbours g v ws → Released core ws left rows left' rows' → Orders g core level left' (taken ++ v ∷ []) rows'
+  pub took : (ws left' : List ℕ) (rows' : List (List ℕ)) → AreNeighbours g v ws → Released core ws left rows left' rows'
+      → Orders g core level left' (taken ++ v ∷ []) rows'
   took ws left' rows' near h =
       let kept : (u : ℕ) → at left u ≤ at core u → at left' u ≡ at left u = λ u low.
       let z : member u ws && ltb (at core u) (at left u) ≡ false = and_right (member u ws) _ (le-ltb (at core u) (at left u) low) in
@@ -132,10 +146,19 @@ module _ (g : SimpleGraph) (core : List ℕ) (level v : ℕ) (left taken : List 
               let was : at left u ≡ max (remaining g taken u) (at core u) = t.rest.counted u lu in
               let fewer : remaining g taken u ≡ remaining g (taken ++ v ∷ []) u + cond (adjacent g u v) 1 0 = remaining-taken g taken u v t.vertex t.untaken in
               let same : member u ws ≡ adjacent g u v = near.exact u ∙ adjacent-sym g v u in
-              let lost : at left u ≡ at left' u + cond (adjacent g u v && ltb (at core u) (at left u)) 1 0 = h.lowered u ∙ ap (λ b. at left' u + cond (b && ltb (at core u) (at left u)) 1 0) same in
+              let lost : at left u ≡ at left' u + cond (adjacent g u v && ltb (at core u) (at left u)) 1 0 =
+              h.lowered u ∙ ap (λ b. at left' u + cond (b && ltb (at core u) (at left u)) 1 0) same in
               elim (cases_Bool (adjacent g u v)) [
                 | inl a ↦ elim (cases_lt (at core u) (at left u)) [
-                  | inl up ↦ omega (arith, was, fewer, lost, ap one_if a, ap one_if (and_from (adjacent g u v) (ltb (at core u) (at left u)) a (lt-ltb (at core u) (at left u) up)))
+                  | inl up ↦
+                      omega (
+                        arith,
+                        was,
+                        fewer,
+                        lost,
+                        ap one_if a,
+                        ap one_if (and_from (adjacent g u v) (ltb (at core u) (at left u)) a (lt-ltb (at core u) (at left u) up)),
+                      )
                   | inr low ↦ omega (arith, was, fewer, ap one_if a, kept u low)
                 ]
                 | inr a ↦ omega (arith, was, fewer, lost, ap one_if a, ap one_if (and_left (adjacent g u v) (ltb (at core u) (at left u)) a))
@@ -155,14 +178,17 @@ module _ (g : SimpleGraph) (core : List ℕ) (level v : ℕ) (left taken : List 
                       | inl b ↦
                           let one : at left u ≡ at core u + 1 = omega (arith, d, ap one_if b, e) in
                           let joined : member u (filter (joins core left (at core u)) ws) ≡ true =
-                          filter-member (joins core left (at core u)) u ws (and_parts (member u ws) _ b).0 (and_from _ _ (eq-eqb (at core u) (at core u) refl) (eq-eqb (at left u) (at core u + 1) one)) in
+                          filter-member (joins core left (at core u)) u ws (and_parts (member u ws) _ b).0
+                          (and_from _ _ (eq-eqb (at core u) (at core u) refl) (eq-eqb (at left u) (at core u + 1) one)) in
                           ap (member u) (h.filed (at core u)) ∙ member-append_right u (row rows (at core u)) (filter (joins core left (at core u)) ws) joined
                       | inr b ↦ absurd (omega (arith, d, ap one_if b, e, up))
                     ]
                 | inr low ↦
                     let same : at left u ≡ at core u = omega (arith, kept u low, e) in
                     let in' : member u (row t.before (at core u)) ≡ true = t.rest.waits u lu k.0 same in
-                    ap (member u) (h.filed (at core u)) ∙ member-append_left u (row rows (at core u)) (filter (joins core left (at core u)) ws) (still-in_row (at core u) u (eqb-false u v k.1) in')
+                    ap (member u) (h.filed (at core u))
+                    ∙ member-append_left u (row rows (at core u)) (filter (joins core left (at core u)) ws)
+                    (still-in_row (at core u) u (eqb-false u v k.1) in')
               ];
           fits = λ b u m. elim (member-append u (row rows b) (filter (joins core left b) ws) (sym (ap (member u) (h.filed b)) ∙ m)) [
             | inl k ↦
@@ -171,7 +197,9 @@ module _ (g : SimpleGraph) (core : List ℕ) (level v : ℕ) (left taken : List 
                   old.0,
                   old.1,
                   omega (arith, old.2, kept u (omega (arith, old.2))),
-                  false_from_ne_true _ (λ in'. elim (member-push_cases u v taken in') [ inl w ↦ absurd (true≢false (sym w ∙ old.3)) | inr e ↦ absurd (other e) ]),
+                  false_from_ne_true _
+                      (λ in'.
+                      elim (member-push_cases u v taken in') [ inl w ↦ absurd (true≢false (sym w ∙ old.3)) | inr e ↦ absurd (other e) ]),
                 )
             | inr k ↦
                 let p = member-filter (joins core left b) u ws k in
@@ -189,7 +217,8 @@ module _ (g : SimpleGraph) (core : List ℕ) (level v : ℕ) (left taken : List 
                 )
           ];
           once = λ b. subst Distinct (sym (h.filed b))
-              (Distinct-append (row rows b) (filter (joins core left b) ws) (row-once b) (Distinct-filter (joins core left b) ws (neighbours-distinct g v ws near))
+              (Distinct-append (row rows b) (filter (joins core left b) ws) (row-once b)
+              (Distinct-filter (joins core left b) ws (neighbours-distinct g v ws near))
               (λ x m. false_from_ne_true _ (λ k.
               let q = and_parts (eqb (at core x) b) (eqb (at left x) (b + 1)) (member-filter (joins core left b) x ws k).1 in
               let old = t.rest.fits b x (was-in_row b x m) in
@@ -198,7 +227,8 @@ module _ (g : SimpleGraph) (core : List ℕ) (level v : ℕ) (left taken : List 
       }
 
 -- Where none of a level waits, none of it is left: those that are left would each have more neighbours among them than the level.
-pub next_level : (g : SimpleGraph) (core : List ℕ) (level : ℕ) (left taken : List ℕ) (rows : List (List ℕ)) → AreCoreNumbers g core → Orders g core level left taken rows → row rows level ≡ []
+pub next_level : (g : SimpleGraph) (core : List ℕ) (level : ℕ) (left taken : List ℕ) (rows : List (List ℕ)) → AreCoreNumbers g core
+    → Orders g core level left taken rows → row rows level ≡ []
     → Orders g core (level + 1) left taken rows
 next_level g core level left taken rows numbers h none =
     let untaken : ℕ → Bool = λ w. not (member w taken) in
@@ -211,7 +241,9 @@ next_level g core level left taken rows numbers h none =
           let left' : as_high g core (at core u) u ≤ remaining g taken u =
           count-mono (λ w. adjacent g u w && leb (at core u) (at core w)) (λ w. adjacent g u w && not (member w taken)) (below g.size)
           (λ w _ a. let p = and_parts (adjacent g u w) (leb (at core u) (at core w)) a in
-          and_from _ _ p.0 (not_from_false _ (false_from_ne_true (member w taken) (λ m. absurd (omega (arith, h.peeled.done w m, leb-true (at core u) (at core w) p.1, up)))))) in
+          and_from _ _ p.0 (not_from_false _
+          (false_from_ne_true (member w taken)
+          (λ m. absurd (omega (arith, h.peeled.done w m, leb-true (at core u) (at core w) p.1, up)))))) in
           omega (arith, high, left', up)
       | inr low ↦
           let e : at core u ≡ level = omega (arith, open', low) in
@@ -238,7 +270,8 @@ next_level g core level left taken rows numbers h none =
     record { peeled = raise g level core taken h.peeled (λ v l out. (above v l out, many v l out)); rest = h.rest }
 
 -- all levels are done
-pub all_taken : (g : SimpleGraph) (core : List ℕ) (levels : ℕ) (left taken : List ℕ) (rows : List (List ℕ)) → Orders g core levels left taken rows → ((v : ℕ) → v < g.size → at core v < levels)
+pub all_taken : (g : SimpleGraph) (core : List ℕ) (levels : ℕ) (left taken : List ℕ) (rows : List (List ℕ))
+    → Orders g core levels left taken rows → ((v : ℕ) → v < g.size → at core v < levels)
     → Certifies g core taken
 all_taken g core levels left taken rows h within =
     finish g levels core taken h.peeled (λ v l. true_from_ne_false (member v taken) (λ out. absurd (omega (arith, h.peeled.open_ v l out, within v l))))
@@ -269,11 +302,15 @@ sorted_more core left v rows s few room =
     let there : (j : ℕ) → (j ≡ b → ⊥) → row more j ≡ row rows j = λ j ne. row-set_other rows b j (row rows b ++ v ∷ []) ne in
     record {
       waits = λ u lu e. elim (cases_eq u v) [
-        | inl d ↦ ap (λ k. member u (row more k)) (ap (at core) d) ∙ (ap (member u) here ∙ (member-push u v (row rows b) ∙ or_right (member u (row rows b)) (eqb u v) (eq-eqb u v d)))
+        | inl d ↦
+            ap (λ k. member u (row more k)) (ap (at core) d)
+            ∙ (ap (member u) here ∙ (member-push u v (row rows b) ∙ or_right (member u (row rows b)) (eqb u v) (eq-eqb u v d)))
         | inr ne ↦
             let old : member u (row rows (at core u)) ≡ true = s.waits u (omega arith) e in
             elim (cases_eq (at core u) b) [
-              | inl d ↦ ap (λ k. member u (row more k)) d ∙ (ap (member u) here ∙ member-push_left u v (row rows b) (ap (λ k. member u (row rows k)) (sym d) ∙ old))
+              | inl d ↦
+                  ap (λ k. member u (row more k)) d
+                  ∙ (ap (member u) here ∙ member-push_left u v (row rows b) (ap (λ k. member u (row rows k)) (sym d) ∙ old))
               | inr nd ↦ ap (member u) (there (at core u) nd) ∙ old
             ]
       ];

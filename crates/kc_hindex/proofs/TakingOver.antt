@@ -1,5 +1,6 @@
 -- The numbers that pieces keep are taken over one by one.
-use Rattle.std.proofs.Common.{◌≡◌, ◌↔◌, ◌≤◌, ◌<◌, ◌+◌, ◌*◌, ◌/◌, ◌%◌, ◌∙◌, ◌⊎◌, ℕ, Bool, true, false, List, length, get_or, set, sym, ap, subst, arith, le_refl, inl, inr, true≢false}
+use Rattle.std.proofs.Common.{◌≡◌, ◌↔◌, ◌≤◌, ◌<◌, ◌+◌, ◌*◌, ◌/◌, ◌%◌, ◌∙◌, ◌⊎◌, ℕ, Bool, true, false, List, length, get_or, set, sym, ap, subst}
+use Rattle.std.proofs.Common.{arith, le_refl, inl, inr, true≢false}
 use Rattle.std.proofs.lemmas.Bool.{cases_eq, cases_lt}
 use Rattle.std.proofs.lemmas.List.{ext_get_or, get_or-set_other, get_or-set_same, length-set}
 use Rattle.kc_graph.specs.Rows.{row}
@@ -23,7 +24,9 @@ pub crosses-one : (numbers : List ℕ) (v new : ℕ) (crossed : List Bool) → v
     → ((k : ℕ) → new < k → k ≤ get_or numbers v 0 → get_or crossed k false ≡ true) → Crosses numbers (set numbers v new) crossed
 crosses-one numbers v new crossed within marks u k l up down =
     elim (cases_eq u v) [
-      | inl e ↦ marks k (omega (arith, up, ap (λ (x : ℕ). get_or (set numbers v new) x 0) e, get_or-set_same numbers v new 0 within)) (omega (arith, down, ap (λ (x : ℕ). get_or numbers x 0) e))
+      | inl e ↦
+          marks k (omega (arith, up, ap (λ (x : ℕ). get_or (set numbers v new) x 0) e, get_or-set_same numbers v new 0 within))
+          (omega (arith, down, ap (λ (x : ℕ). get_or numbers x 0) e))
       | inr ne ↦ absurd (omega (arith, up, down, get_or-set_other numbers v u new 0 ne))
     ]
 
@@ -111,7 +114,9 @@ all-taken-more pieces p old marks numbers crossed changed numbers' crossed' here
     }
 
 -- after the last piece the numbers are as before just where none of them changed
-pub all-same : (pieces : List Piece) (n counts : ℕ) (old : List ℕ) (marks : List Bool) (numbers : List ℕ) (crossed : List Bool) (changed : Bool) → n ≡ length pieces
+pub all-same : (pieces : List Piece) (n counts : ℕ) (old : List ℕ) (marks : List Bool) (numbers : List ℕ) (crossed : List Bool)
+    (changed : Bool)
+    → n ≡ length pieces
     → AreDealt (length old) counts pieces → AllTaken pieces n old marks numbers crossed changed → changed ≡ false ↔ (numbers ≡ old)
 all-same pieces n counts old marks numbers crossed changed end dealt after =
     let k : ℕ = length pieces in (

@@ -1,5 +1,6 @@
 -- Counts of numbers, each above a bound counted as the bound.
-use Rattle.std.proofs.Common.{◌≡◌, ◌<◌, ◌+◌, ℕ, suc, zero, drop, map, take, min, Bool, false, cond, List, [], ◌∷◌, eqb, leb, refl, sym, ◌∙◌, ap, subst, arith, inl, inr, le-leb, leb-true, eq-eqb, ne_eqb}
+use Rattle.std.proofs.Common.{◌≡◌, ◌<◌, ◌+◌, ℕ, suc, zero, drop, map, take, min, Bool, false, cond, List, [], ◌∷◌, eqb, leb, refl, sym, ◌∙◌, ap}
+use Rattle.std.proofs.Common.{subst, arith, inl, inr, le-leb, leb-true, eq-eqb, ne_eqb}
 use Rattle.std.specs.Prelude.{count_by}
 use Rattle.std.proofs.lemmas.Bool.{cases_eq, cases_lt, false_from_ne_true}
 use Rattle.kc_distinct.proofs.Counting.{count-agree, count-cons}
@@ -38,8 +39,11 @@ reach-step c k (w ∷ ws) =
     )
 
 -- those that reach a number, where `n` is the next one
-pub reach-from : (c : ℕ → ℕ) (k n : ℕ) (ws : List ℕ) → n ≡ k + 1 → count_by (λ w. leb n (c w)) ws + count_by (λ w. eqb (c w) k) ws ≡ count_by (λ w. leb k (c w)) ws
-reach-from c k n ws e = subst (λ (m : ℕ). count_by (λ w. leb m (c w)) ws + count_by (λ w. eqb (c w) k) ws ≡ count_by (λ w. leb k (c w)) ws) (sym e) (reach-step c k ws)
+pub reach-from : (c : ℕ → ℕ) (k n : ℕ) (ws : List ℕ) → n ≡ k + 1
+    → count_by (λ w. leb n (c w)) ws + count_by (λ w. eqb (c w) k) ws ≡ count_by (λ w. leb k (c w)) ws
+reach-from c k n ws e =
+    subst (λ (m : ℕ). count_by (λ w. leb m (c w)) ws + count_by (λ w. eqb (c w) k) ws ≡ count_by (λ w. leb k (c w)) ws) (sym e)
+    (reach-step c k ws)
 
 -- below the bound a number is counted as itself
 pub bounded-below : (c : ℕ → ℕ) (limit k : ℕ) (ws : List ℕ) → k < limit → count_by (λ w. eqb (min (c w) limit) k) ws ≡ count_by (λ w. eqb (c w) k) ws
@@ -51,7 +55,9 @@ bounded-below c limit k ws l = count-agree (λ w. eqb (min (c w) limit) k) (λ w
 -- as the bound each number is counted that reaches it
 pub bounded-at : (c : ℕ → ℕ) (limit : ℕ) (ws : List ℕ) → count_by (λ w. eqb (min (c w) limit) limit) ws ≡ count_by (λ w. leb limit (c w)) ws
 bounded-at c limit ws = count-agree (λ w. eqb (min (c w) limit) limit) (λ w. leb limit (c w)) ws (λ w _. elim (cases_lt (c w) limit) [
-  | inl low ↦ ne_eqb (min (c w) limit) limit (λ e. absurd (omega (arith, e, low))) ∙ sym (false_from_ne_true _ (λ t. absurd (omega (arith, leb-true limit (c w) t, low))))
+  | inl low ↦
+      ne_eqb (min (c w) limit) limit (λ e. absurd (omega (arith, e, low)))
+      ∙ sym (false_from_ne_true _ (λ t. absurd (omega (arith, leb-true limit (c w) t, low))))
   | inr up ↦ eq-eqb (min (c w) limit) limit (omega (arith, up)) ∙ sym (le-leb limit (c w) (omega (arith, up)))
 ])
 

@@ -1,5 +1,6 @@
 -- A vertex whose number no vertex has crossed keeps it.
-use Rattle.std.proofs.Common.{◌≡◌, ◌≤◌, ◌<◌, ◌∙◌, ℕ, suc, Bool, List, length, map, get_or, leb, sym, ap, subst, arith, inl, inr, true, false, true≢false, leb-true, le-leb}
+use Rattle.std.proofs.Common.{◌≡◌, ◌≤◌, ◌<◌, ◌∙◌, ℕ, suc, Bool, List, length, map, get_or, leb, sym, ap, subst, arith, inl, inr, true, false}
+use Rattle.std.proofs.Common.{true≢false, leb-true, le-leb}
 use Rattle.std.specs.Prelude.{count_by}
 use Rattle.std.proofs.lemmas.Bool.{cases_lt}
 use Rattle.kc_distinct.specs.Lists.{below}

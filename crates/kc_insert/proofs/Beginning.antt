@@ -51,7 +51,8 @@ begin-orderly root r b = record {
 only-root : (root : ℕ) (r : Rising) → Begins root r → (z : ℕ) → member z r.queue.items ≡ true → z ≡ root
 only-root root r b z m = elim (member-cases z root [] (sym (ap (member z) b.queue) ∙ m)) [ inl e ↦ e | inr k ↦ absurd (false≢true k) ]
 
-pub begin-tidy : (update : Update) (shown : Shown) (root : ℕ) (r : Rising) → Begins root r → root < shown.size → has_core shown.kept root ≡ true → AsksQueued update shown.kept [] → IsTidyRising update shown r
+pub begin-tidy : (update : Update) (shown : Shown) (root : ℕ) (r : Rising) → Begins root r → root < shown.size
+    → has_core shown.kept root ≡ true → AsksQueued update shown.kept [] → IsTidyRising update shown r
 begin-tidy update shown root r b l placed asks = record {
   orderly = begin-orderly root r b;
   within = λ z m. let e : z ≡ root = only-root root r b z m in omega (arith, e, l);
@@ -65,7 +66,8 @@ pub begin-between : (s : Search) (root : ℕ) (r : Rising) → Begins root r →
 begin-between s root r b w =
     let none : cands r ≡ [] = ap (filter (is_candidate r)) b.queue ∙ ap (λ k. cond k (root ∷ []) []) (no-candidate root r b root) in
     let waits : waiting r ≡ root ∷ [] = ap (λ n. drop n r.queue.items) b.turn ∙ b.queue in
-    let turns : BetweenTurns s root [] (root ∷ []) (s.rank root) (earlier_at r) (later_at r) [] = begin s root w (earlier_at r) (later_at r) (no-earlier root r b) in (
+    let turns : BetweenTurns s root [] (root ∷ []) (s.rank root) (earlier_at r) (later_at r) [] =
+    begin s root w (earlier_at r) (later_at r) (no-earlier root r b) in (
       s.rank root,
       record {
         lined = record {

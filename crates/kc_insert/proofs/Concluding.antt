@@ -45,25 +45,32 @@ none-waits : (r : Rising) → r.turn ≡ length r.queue.items → waiting r ≡ 
 none-waits r ended = drop_all r.turn r.queue.items (omega (arith, ended))
 
 -- so that the lists of all that the moves name were read
-pub named-read : (update : Update) (shown : Shown) (r : Rising) (x : ℕ) → IsTidyRising update shown r → r.turn ≡ length r.queue.items → member x ((cands r ++ firsts r.shifts.items) ++ seconds r.shifts.items) ≡ true → has_list shown.kept x ≡ true
+pub named-read : (update : Update) (shown : Shown) (r : Rising) (x : ℕ) → IsTidyRising update shown r → r.turn ≡ length r.queue.items
+    → member x ((cands r ++ firsts r.shifts.items) ++ seconds r.shifts.items) ≡ true → has_list shown.kept x ≡ true
 named-read update shown r x t ended m = t.read x (elim (member-append x (cands r ++ firsts r.shifts.items) (seconds r.shifts.items) m) [
   | inl k ↦ ap (member x) (all-left r ended) ∙ moved-queued r x t.orderly k
   | inr k ↦ t.orderly.anchored x k
 ])
 
 -- lists were asked only of the lesser end and of vertices that the new edge concerns
-pub asked-forward : (update : Update) (shown : Shown) (s : Ranked) (level root : ℕ) (r : Rising) → update.add ≡ true → root ≡ root_of s update → Widened (search_with update level s) root → IsTidyRising update shown r
+pub asked-forward : (update : Update) (shown : Shown) (s : Ranked) (level root : ℕ) (r : Rising) → update.add ≡ true
+    → root ≡ root_of s update → Widened (search_with update level s) root → IsTidyRising update shown r
     → IsBetweenTurns (search_with update level s) root r → All (λ e. (e.vertex ≡ update.u) ⊎ InForward s update e.vertex) shown.kept.edges
 asked-forward update shown s level root r adds is w t b =
     let reached = b.1.lined.reached in
     All-weaker (λ e. (e.vertex ≡ update.u) ⊎ (member e.vertex r.queue.items ≡ true)) (λ e. (e.vertex ≡ update.u) ⊎ InForward s update e.vertex)
-    (λ e k. elim k [ inl h ↦ inl h | inr h ↦ inr (reached-forward update s level root e.vertex adds (sym w.root_level) is (reached e.vertex h)) ]) shown.kept.edges t.asks.lists
+    (λ e k.
+    elim k [ inl h ↦ inl h | inr h ↦ inr (reached-forward update s level root e.vertex adds (sym w.root_level) is (reached e.vertex h)) ])
+    shown.kept.edges t.asks.lists
 
-ended-turns : (s : Search) (root : ℕ) (r : Rising) → r.turn ≡ length r.queue.items → (b : IsBetweenTurns s root r) → BetweenTurns s root (cands r) [] b.0 (earlier_at r) (later_at r) r.shifts.items
-ended-turns s root r ended b = subst (λ (xs : List ℕ). BetweenTurns s root (cands r) xs b.0 (earlier_at r) (later_at r) r.shifts.items) (none-waits r ended) b.1.turns
+ended-turns : (s : Search) (root : ℕ) (r : Rising) → r.turn ≡ length r.queue.items → (b : IsBetweenTurns s root r)
+    → BetweenTurns s root (cands r) [] b.0 (earlier_at r) (later_at r) r.shifts.items
+ended-turns s root r ended b =
+    subst (λ (xs : List ℕ). BetweenTurns s root (cands r) xs b.0 (earlier_at r) (later_at r) r.shifts.items) (none-waits r ended) b.1.turns
 
 -- where nobody rises or is shifted
-pub nobody-sure : (update : Update) (used : Used) (s : Ranked) (level root : ℕ) (r : Rising) → update.add ≡ true → IsCertified s → update.v < s.graph.size → adjacent s.graph update.u update.v ≡ false
+pub nobody-sure : (update : Update) (used : Used) (s : Ranked) (level root : ℕ) (r : Rising) → update.add ≡ true → IsCertified s
+    → update.v < s.graph.size → adjacent s.graph update.u update.v ≡ false
     → level ≡ min (get_or s.core update.u 0) (get_or s.core update.v 0) → root ≡ root_of s update
     → r.turn ≡ length r.queue.items → IsBetweenTurns (search_with update level s) root r → cands r ≡ [] → r.shifts.items ≡ []
     → IsLocal s (record { update = update; used = used; moves = Plain }) × IsSparing s (record { update = update; used = used; moves = Plain })
@@ -74,10 +81,12 @@ nobody-sure update used s level root r adds h l new least is ended b none still 
     (subst (λ (xs : List (ℕ × ℕ)). BetweenTurns (search_with update level s) root (cands r) [] b.0 (earlier_at r) (later_at r) xs) still k))
 
 -- where some do
-pub some-sure : (update : Update) (used : Used) (s : Ranked) (level root : ℕ) (r : Rising) (rise : Vec ℕ Global) → update.add ≡ true → IsCertified s → update.v < s.graph.size → adjacent s.graph update.u update.v ≡ false
+pub some-sure : (update : Update) (used : Used) (s : Ranked) (level root : ℕ) (r : Rising) (rise : Vec ℕ Global) → update.add ≡ true
+    → IsCertified s → update.v < s.graph.size → adjacent s.graph update.u update.v ≡ false
     → level ≡ min (get_or s.core update.u 0) (get_or s.core update.v 0) → root ≡ root_of s update
     → IsOrderly r → r.turn ≡ length r.queue.items → IsBetweenTurns (search_with update level s) root r → rise.items ≡ cands r
-    → IsLocal s (record { update = update; used = used; moves = Rise level rise r.shifts }) × IsSparing s (record { update = update; used = used; moves = Rise level rise r.shifts })
+    → IsLocal s (record { update = update; used = used; moves = Rise level rise r.shifts })
+    × IsSparing s (record { update = update; used = used; moves = Rise level rise r.shifts })
 some-sure update used s level root r rise adds h l new least is o ended b all =
     let q : Search = search_with update level s in
     let k = ended-turns q root r ended b in

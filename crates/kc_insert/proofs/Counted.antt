@@ -25,9 +25,12 @@ added-within update w y n l t =
       | inr k ↦ let e : y ≡ update.u = eqb-true y update.u (and_parts (eqb w update.v) (eqb y update.u) k).1 in omega (arith, e, up, l)
     ]
 
-pub ahead-of : (a : Answers) (s : Ranked) (update : Update) (level size w : ℕ) (row : List ℕ) (ahead : Ahead) → Agrees a s → update.v < s.graph.size → has_list a w ≡ true → IsListOf size w row
-    → ((y : ℕ) → member y row ≡ (member y (list_of a w) || is_added update w y)) → ahead.count ≡ count_by (λ y. is_ahead (side_in (search_with update level s) w y)) row
-    → ((y : ℕ) → member y ahead.next.items ≡ (member y row && is_next (side_in (search_with update level s) w y))) → IsAheadOf (search_with update level s) w ahead
+pub ahead-of : (a : Answers) (s : Ranked) (update : Update) (level size w : ℕ) (row : List ℕ) (ahead : Ahead) → Agrees a s
+    → update.v < s.graph.size → has_list a w ≡ true → IsListOf size w row
+    → ((y : ℕ) → member y row ≡ (member y (list_of a w) || is_added update w y))
+    → ahead.count ≡ count_by (λ y. is_ahead (side_in (search_with update level s) w y)) row
+    → ((y : ℕ) → member y ahead.next.items ≡ (member y row && is_next (side_in (search_with update level s) w y)))
+    → IsAheadOf (search_with update level s) w ahead
 ahead-of a s update level size w row ahead g l h list has counted next =
     let within : (y : ℕ) → member y row ≡ true → y < s.graph.size = λ y m. elim (or_cases (member y (list_of a w)) (is_added update w y) (sym (has y) ∙ m)) [
       | inl k ↦ (neighbours_within s.graph w y (sym (ap (member y) (list-true a s w g h).1) ∙ k)).0

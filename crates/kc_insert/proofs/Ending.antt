@@ -1,5 +1,6 @@
 -- What the search leaves once the queue is empty, with all candidates raised: both counts of the certificate, at each vertex.
-use Rattle.std.proofs.Common.{◌≡◌, ◌≢◌, ◌≤◌, ◌<◌, ◌+◌, ℕ, Bool, true, false, cond, ◌&&◌, ◌||◌, List, [], ltb, leb, sym, ◌∙◌, ap, subst, inl, inr, arith, true≢false, eq-eqb, le_trans}
+use Rattle.std.proofs.Common.{◌≡◌, ◌≢◌, ◌≤◌, ◌<◌, ◌+◌, ℕ, Bool, true, false, cond, ◌&&◌, ◌||◌, List, [], ltb, leb, sym, ◌∙◌, ap, subst, inl, inr}
+use Rattle.std.proofs.Common.{arith, true≢false, eq-eqb, le_trans}
 use Rattle.std.proofs.lemmas.Bool.{cases_Bool, cases_eq, cases_lt, cases_order, false≢true}
 use Rattle.kc_distinct.specs.Lists.{member}
 use Rattle.kc_cert.specs.Ranks.{then_after}
@@ -19,10 +20,12 @@ is_low s y = leb (s.core y) s.level
 
 no_open : (s : Search) (root : ℕ) (cands : List ℕ) (frontier : ℕ) (earlier later place : ℕ → ℕ) → Searching s root cands [] frontier earlier later place
     → (x y : ℕ) → member x cands ≡ true → OnLevel s y → s.adj x y ≡ true → s.rank y < frontier
-no_open s root cands frontier earlier later place h x y m oy a = elim (cases_lt (s.rank y) frontier) [ inl lt ↦ lt | inr ge ↦ absurd (false≢true (h.queued x y m oy a ge)) ]
+no_open s root cands frontier earlier later place h x y m oy a =
+    elim (cases_lt (s.rank y) frontier) [ inl lt ↦ lt | inr ge ↦ absurd (false≢true (h.queued x y m oy a ge)) ]
 
 -- a vertex of the level that does not rise has few neighbours behind it
-pub few_behind : (s : Search) (root : ℕ) (cands : List ℕ) (frontier : ℕ) (earlier later place : ℕ → ℕ) → Widened s root → Searching s root cands [] frontier earlier later place
+pub few_behind : (s : Search) (root : ℕ) (cands : List ℕ) (frontier : ℕ) (earlier later place : ℕ → ℕ) → Widened s root
+    → Searching s root cands [] frontier earlier later place
     → (z : ℕ) → OnLevel s z → member z cands ≡ false → behind s cands place z ≤ s.level
 few_behind s root cands frontier earlier later place c h z oz none =
     elim (cases_lt (s.rank z) frontier) [
@@ -37,7 +40,8 @@ few_behind s root cands frontier earlier later place c h z oz none =
                   | inl m ↦ absurd (omega (arith, no_open s root cands frontier earlier later place h y z m oz (c.symmetric y z ∙ a)))
                   | inr n ↦ n
                 ] in
-                let same : ltb (place z) (place y) ≡ ltb (s.rank z) (s.rank y) = skipped_at s root cands [] frontier earlier later place c h z y oz oy open' gone in
+                let same : ltb (place z) (place y) ≡ ltb (s.rank z) (s.rank y) =
+                skipped_at s root cands [] frontier earlier later place c h z y oz oy open' gone in
                 grind (arith, gone, same)
             | inr ne ↦ grind (arith, ne)
           ]) in
@@ -46,15 +50,19 @@ few_behind s root cands frontier earlier later place c h z oz none =
 
 ahead-few : (s : Search) (root : ℕ) → Widened s root → (z : ℕ) → OnLevel s z → ahead s z ≤ s.level + 1
 ahead-few s root c z oz = elim (cases_eq z root) [
-  | inl e ↦ let k : among s z (after s z) ≡ among s root (after s root) = ap (λ n. among s n (after s n)) e in omega (arith, k, ahead-later s root c z oz, c.few_root)
+  | inl e ↦
+      let k : among s z (after s z) ≡ among s root (after s root) = ap (λ n. among s n (after s n)) e in
+      omega (arith, k, ahead-later s root c z oz, c.few_root)
   | inr ne ↦ omega (arith, ahead-later s root c z oz, c.few z oz.here ne, oz.level)
 ]
 
-support_cand : (u l m : Bool) (rz ry f : ℕ) → u ≡ false → l ≡ true → m ≡ true → ry ≢ rz → one_if (u || m) ≡ one_if (m && ltb ry rz) + one_if (u || (l && (ltb rz ry && (m || leb f ry))))
+support_cand : (u l m : Bool) (rz ry f : ℕ) → u ≡ false → l ≡ true → m ≡ true → ry ≢ rz
+    → one_if (u || m) ≡ one_if (m && ltb ry rz) + one_if (u || (l && (ltb rz ry && (m || leb f ry))))
 support_cand u l m rz ry f hu hl hm ne = grind arith
 
 -- places of vertices of other levels are as they were
-kept_at : (s : Search) (root : ℕ) (cands queue : List ℕ) (frontier : ℕ) (earlier later place : ℕ → ℕ) → Widened s root → Searching s root cands queue frontier earlier later place
+kept_at : (s : Search) (root : ℕ) (cands queue : List ℕ) (frontier : ℕ) (earlier later place : ℕ → ℕ) → Widened s root
+    → Searching s root cands queue frontier earlier later place
     → (z y : ℕ) → z < s.size → y < s.size → s.core z ≢ s.level → s.core y ≢ s.level → ltb (place z) (place y) ≡ ltb (s.rank z) (s.rank y)
 kept_at s root cands queue frontier earlier later place c h z y lz ly nz ny = elim (cases_order (s.rank z) (s.rank y)) [
   | inl same ↦ let e : z ≡ y = c.apart z y lz ly same in let e' : place z ≡ place y = ap place e in grind (arith, e')
@@ -75,13 +83,15 @@ level_at s root cands frontier earlier later place h z oz none y l =
       ]
     ]
 
-low_at : (s : Search) (root : ℕ) (cands : List ℕ) (frontier : ℕ) (earlier later place : ℕ → ℕ) → Widened s root → Searching s root cands [] frontier earlier later place
+low_at : (s : Search) (root : ℕ) (cands : List ℕ) (frontier : ℕ) (earlier later place : ℕ → ℕ) → Widened s root
+    → Searching s root cands [] frontier earlier later place
     → (z : ℕ) → z < s.size → s.core z < s.level → member z cands ≡ false → (y : ℕ) → y < s.size → then_after (is_low s) cands s.rank place z y ≡ after s z y
 low_at s root cands frontier earlier later place c h z lz lt none y l =
     elim (cases_lt (s.core y) s.level) [
       | inl low ↦
           let n : member y cands ≡ false = elim (cases_Bool (member y cands)) [ inl m ↦ absurd (omega (arith, (h.cand_level y m).level)) | inr n ↦ n ] in
-          let k : ltb (place z) (place y) ≡ ltb (s.rank z) (s.rank y) = kept_at s root cands [] frontier earlier later place c h z y lz l (omega arith) (omega arith) in
+          let k : ltb (place z) (place y) ≡ ltb (s.rank z) (s.rank y) =
+          kept_at s root cands [] frontier earlier later place c h z y lz l (omega arith) (omega arith) in
           grind (arith, none, n, low, lt, k)
       | inr ge ↦
           let up : s.rank z < s.rank y = c.rising z y lz l (omega arith) in
@@ -94,21 +104,25 @@ low_at s root cands frontier earlier later place c h z lz lt none y l =
           ]
     ]
 
-high_at : (s : Search) (root : ℕ) (cands : List ℕ) (frontier : ℕ) (earlier later place : ℕ → ℕ) → Widened s root → Searching s root cands [] frontier earlier later place
+high_at : (s : Search) (root : ℕ) (cands : List ℕ) (frontier : ℕ) (earlier later place : ℕ → ℕ) → Widened s root
+    → Searching s root cands [] frontier earlier later place
     → (z : ℕ) → z < s.size → s.level < s.core z → member z cands ≡ false → (y : ℕ) → y < s.size → then_after (is_low s) cands s.rank place z y ≡ after s z y
 high_at s root cands frontier earlier later place c h z lz lt none y l =
     elim (cases_lt s.level (s.core y)) [
       | inl high ↦
           let n : member y cands ≡ false = elim (cases_Bool (member y cands)) [ inl m ↦ absurd (omega (arith, (h.cand_level y m).level)) | inr n ↦ n ] in
-          let k : ltb (place z) (place y) ≡ ltb (s.rank z) (s.rank y) = kept_at s root cands [] frontier earlier later place c h z y lz l (omega arith) (omega arith) in
+          let k : ltb (place z) (place y) ≡ ltb (s.rank z) (s.rank y) =
+          kept_at s root cands [] frontier earlier later place c h z y lz l (omega arith) (omega arith) in
           grind (arith, none, n, high, lt, k)
       | inr le ↦
           let down : s.rank y < s.rank z = c.rising y z l lz (omega arith) in
           elim (cases_Bool (member y cands)) [ inl m ↦ grind (arith, none, m, lt, down) | inr n ↦ grind (arith, none, n, lt, le, down) ]
     ]
 
-support_at : (s : Search) (root : ℕ) (cands : List ℕ) (frontier : ℕ) (earlier later place : ℕ → ℕ) → Widened s root → Searching s root cands [] frontier earlier later place
-    → (z : ℕ) → member z cands ≡ true → (y : ℕ) → y < s.size → s.adj z y ≡ true → one_if (above s y || member y cands) ≡ one_if (coming_at s cands z y) + one_if (holding_at s cands frontier z y)
+support_at : (s : Search) (root : ℕ) (cands : List ℕ) (frontier : ℕ) (earlier later place : ℕ → ℕ) → Widened s root
+    → Searching s root cands [] frontier earlier later place
+    → (z : ℕ) → member z cands ≡ true → (y : ℕ) → y < s.size → s.adj z y ≡ true
+    → one_if (above s y || member y cands) ≡ one_if (coming_at s cands z y) + one_if (holding_at s cands frontier z y)
 support_at s root cands frontier earlier later place c h z m y l a =
     let oz : OnLevel s z = h.cand_level z m in
     elim (cases_Bool (member y cands)) [
@@ -117,20 +131,24 @@ support_at s root cands frontier earlier later place c h z m y l a =
           let ne : s.rank y ≢ s.rank z = λ e. let y-z : y ≡ z = c.apart y z l oz.here e in true≢false (sym a ∙ (ap (s.adj z) y-z ∙ c.no_loop z)) in
           support_cand (above s y) (on_level s y) (member y cands) (s.rank z) (s.rank y) frontier (grind (arith, lvl)) (eq-eqb (s.core y) s.level lvl) my ne
       | inr n ↦ elim (cases_eq (s.core y) s.level) [
-        | inl lvl ↦ let lt : s.rank y < frontier = no_open s root cands frontier earlier later place h z y m (record { here = l; level = lvl }) a in grind (arith, n, lvl, lt)
+        | inl lvl ↦
+            let lt : s.rank y < frontier = no_open s root cands frontier earlier later place h z y m (record { here = l; level = lvl }) a in
+            grind (arith, n, lvl, lt)
         | inr ne ↦ grind (arith, n, ne)
       ]
     ]
 
 -- few later neighbours
-pub few_after : (s : Search) (root : ℕ) (cands : List ℕ) (frontier : ℕ) (earlier later place : ℕ → ℕ) → Widened s root → Searching s root cands [] frontier earlier later place
+pub few_after : (s : Search) (root : ℕ) (cands : List ℕ) (frontier : ℕ) (earlier later place : ℕ → ℕ) → Widened s root
+    → Searching s root cands [] frontier earlier later place
     → (z : ℕ) → z < s.size → among s z (then_after (is_low s) cands s.rank place z) ≤ raised s.core s.level cands z
 few_after s root cands frontier earlier later place c h z lz =
     elim (cases_Bool (member z cands)) [
       | inl m ↦
           let oz : OnLevel s z = h.cand_level z m in
           let up : raised s.core s.level cands z ≡ s.level + 1 = ap (λ b. cond b (s.level + 1) (s.core z)) m in
-          let fewer : among s z (then_after (is_low s) cands s.rank place z) ≤ ahead s z = among-mono s z (then_after (is_low s) cands s.rank place z) (λ y. above s y || (on_level s y && after s z y)) (λ y l a t.
+          let fewer : among s z (then_after (is_low s) cands s.rank place z) ≤ ahead s z =
+          among-mono s z (then_after (is_low s) cands s.rank place z) (λ y. above s y || (on_level s y && after s z y)) (λ y l a t.
           elim (cases_Bool (member y cands)) [
             | inl my ↦ let lvl : s.core y ≡ s.level = (h.cand_level y my).level in grind (arith, m, my, lvl, t)
             | inr ny ↦ grind (arith, m, ny, t)
@@ -141,21 +159,28 @@ few_after s root cands frontier earlier later place c h z lz =
           elim (cases_order (s.core z) s.level) [
             | inl lvl ↦
                 let oz : OnLevel s z = record { here = lz; level = lvl } in
-                let same : among s z (then_after (is_low s) cands s.rank place z) ≡ behind s cands place z = among-agree s z (then_after (is_low s) cands s.rank place z) (behind_at s cands place z) (λ y l a. level_at s root cands frontier earlier later place h z oz none y l) in
+                let same : among s z (then_after (is_low s) cands s.rank place z) ≡ behind s cands place z =
+                among-agree s z (then_after (is_low s) cands s.rank place z) (behind_at s cands place z)
+                (λ y l a. level_at s root cands frontier earlier later place h z oz none y l) in
                 omega (arith, up, same, few_behind s root cands frontier earlier later place c h z oz none, lvl)
             | inr (inl lt) ↦
                 let ne : z ≢ root = λ e. let k : s.core z ≡ s.level = ap s.core e ∙ c.root_level in absurd (omega arith) in
-                let same : among s z (then_after (is_low s) cands s.rank place z) ≡ among s z (after s z) = among-agree s z (then_after (is_low s) cands s.rank place z) (after s z) (λ y l a. low_at s root cands frontier earlier later place c h z lz lt none y l) in
+                let same : among s z (then_after (is_low s) cands s.rank place z) ≡ among s z (after s z) =
+                among-agree s z (then_after (is_low s) cands s.rank place z) (after s z)
+                (λ y l a. low_at s root cands frontier earlier later place c h z lz lt none y l) in
                 omega (arith, up, same, c.few z lz ne)
             | inr (inr lt) ↦
                 let ne : z ≢ root = λ e. let k : s.core z ≡ s.level = ap s.core e ∙ c.root_level in absurd (omega arith) in
-                let same : among s z (then_after (is_low s) cands s.rank place z) ≡ among s z (after s z) = among-agree s z (then_after (is_low s) cands s.rank place z) (after s z) (λ y l a. high_at s root cands frontier earlier later place c h z lz lt none y l) in
+                let same : among s z (then_after (is_low s) cands s.rank place z) ≡ among s z (after s z) =
+                among-agree s z (then_after (is_low s) cands s.rank place z) (after s z)
+                (λ y l a. high_at s root cands frontier earlier later place c h z lz lt none y l) in
                 omega (arith, up, same, c.few z lz ne)
           ]
     ]
 
 -- and enough that are as high
-pub enough_after : (s : Search) (root : ℕ) (cands : List ℕ) (frontier : ℕ) (earlier later place : ℕ → ℕ) → Widened s root → Searching s root cands [] frontier earlier later place → AllStrong s cands earlier later
+pub enough_after : (s : Search) (root : ℕ) (cands : List ℕ) (frontier : ℕ) (earlier later place : ℕ → ℕ) → Widened s root
+    → Searching s root cands [] frontier earlier later place → AllStrong s cands earlier later
     → (z : ℕ) → z < s.size → raised s.core s.level cands z ≤ among s z (λ y. leb (raised s.core s.level cands z) (raised s.core s.level cands y))
 enough_after s root cands frontier earlier later place c h strong z lz =
     elim (cases_Bool (member z cands)) [
@@ -163,10 +188,13 @@ enough_after s root cands frontier earlier later place c h strong z lz =
           let oz : OnLevel s z = h.cand_level z m in
           let up : raised s.core s.level cands z ≡ s.level + 1 = ap (λ b. cond b (s.level + 1) (s.core z)) m in
           let all : among s z (λ y. above s y || member y cands) ≡ coming s cands z + holding s cands frontier z =
-          among-sum s z (coming_at s cands z) (holding_at s cands frontier z) (λ y. above s y || member y cands) (λ y l a. support_at s root cands frontier earlier later place c h z m y l a) in
+          among-sum s z (coming_at s cands z) (holding_at s cands frontier z) (λ y. above s y || member y cands)
+          (λ y l a. support_at s root cands frontier earlier later place c h z m y l a) in
           let high : among s z (λ y. above s y || member y cands) ≤ among s z (λ y. leb (s.level + 1) (raised s.core s.level cands y)) =
-          among-mono s z (λ y. above s y || member y cands) (λ y. leb (s.level + 1) (raised s.core s.level cands y)) (λ y l a t. elim (cases_Bool (member y cands)) [ inl k ↦ grind (arith, k) | inr k ↦ grind (arith, k, t) ]) in
-          subst (λ (k : ℕ). k ≤ among s z (λ y. leb k (raised s.core s.level cands y))) (sym up) (omega (arith, all, high, strong.strong z m, h.earlier_of_cand z m, h.later_of_cand z m))
+          among-mono s z (λ y. above s y || member y cands) (λ y. leb (s.level + 1) (raised s.core s.level cands y))
+          (λ y l a t. elim (cases_Bool (member y cands)) [ inl k ↦ grind (arith, k) | inr k ↦ grind (arith, k, t) ]) in
+          subst (λ (k : ℕ). k ≤ among s z (λ y. leb k (raised s.core s.level cands y))) (sym up)
+          (omega (arith, all, high, strong.strong z m, h.earlier_of_cand z m, h.later_of_cand z m))
       | inr none ↦
           let up : raised s.core s.level cands z ≡ s.core z = ap (λ b. cond b (s.level + 1) (s.core z)) none in
           let more : among s z (λ y. leb (s.core z) (s.core y)) ≤ among s z (λ y. leb (s.core z) (raised s.core s.level cands y)) =

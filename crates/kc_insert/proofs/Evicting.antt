@@ -1,5 +1,6 @@
 -- An eviction, and a settling, are steps of the search.
-use Rattle.std.proofs.Common.{◌≡◌, ◌≢◌, ◌≤◌, ◌<◌, ◌+◌, ◌-◌, ◌⊎◌, ℕ, suc, zero, Bool, true, false, cond, not, ◌&&◌, ◌||◌, List, [], ◌∷◌, ◌++◌, length, take, drop, get_or, ltb, leb, refl, sym, ◌∙◌, ap, subst, inl, inr, arith, true≢false, leb-true}
+use Rattle.std.proofs.Common.{◌≡◌, ◌≢◌, ◌≤◌, ◌<◌, ◌+◌, ◌-◌, ◌⊎◌, ℕ, suc, zero, Bool, true, false, cond, not, ◌&&◌, ◌||◌, List, [], ◌∷◌, ◌++◌, length}
+use Rattle.std.proofs.Common.{take, drop, get_or, ltb, leb, refl, sym, ◌∙◌, ap, subst, inl, inr, arith, true≢false, leb-true}
 use Rattle.std.specs.Prelude.{is_some}
 use Rattle.std.specs.Vec.{vec_len}
 use Rattle.std.proofs.lemmas.Bool.{cases_Bool, cases_eq, cases_order, false≢true, false_from_ne_true}
@@ -45,7 +46,8 @@ same-waiting : (old new : Rising) → new.queue.items ≡ old.queue.items → ne
 same-waiting old new queue turn = ap (λ n. drop n new.queue.items) turn ∙ ap (drop old.turn) queue
 
 -- the turns of two candidates come in the order of their ranks
-pub turn-order : (rank : ℕ → ℕ) (r : Rising) → IsOrderly r → AscendsBy rank r.queue.items → (y x : ℕ) → is_candidate r y ≡ true → is_candidate r x ≡ true → ltb (turn_at r y) (turn_at r x) ≡ ltb (rank y) (rank x)
+pub turn-order : (rank : ℕ → ℕ) (r : Rising) → IsOrderly r → AscendsBy rank r.queue.items → (y x : ℕ) → is_candidate r y ≡ true
+    → is_candidate r x ≡ true → ltb (turn_at r y) (turn_at r x) ≡ ltb (rank y) (rank x)
 turn-order rank r o up y x cy cx =
     let ky = o.turned y cy in
     let kx = o.turned x cx in
@@ -56,13 +58,15 @@ turn-order rank r o up y x cy cx =
           let e' : rank y ≡ rank x = ap rank same in
           grind (arith, e, e')
       | inr (inl lt) ↦
-          let k : rank (get_or r.queue.items (turn_at r y) 0) < rank (get_or r.queue.items (turn_at r x) 0) = Ascends-at rank r.queue.items (turn_at r y) (turn_at r x) up lt (omega (arith, kx.0, fits)) in
+          let k : rank (get_or r.queue.items (turn_at r y) 0) < rank (get_or r.queue.items (turn_at r x) 0) =
+          Ascends-at rank r.queue.items (turn_at r y) (turn_at r x) up lt (omega (arith, kx.0, fits)) in
           let ey : rank (get_or r.queue.items (turn_at r y) 0) ≡ rank y = ap rank ky.1 in
           let ex : rank (get_or r.queue.items (turn_at r x) 0) ≡ rank x = ap rank kx.1 in
           let k' : rank y < rank x = omega (arith, k, ey, ex) in
           grind (arith, lt, k')
       | inr (inr lt) ↦
-          let k : rank (get_or r.queue.items (turn_at r x) 0) < rank (get_or r.queue.items (turn_at r y) 0) = Ascends-at rank r.queue.items (turn_at r x) (turn_at r y) up lt (omega (arith, ky.0, fits)) in
+          let k : rank (get_or r.queue.items (turn_at r x) 0) < rank (get_or r.queue.items (turn_at r y) 0) =
+          Ascends-at rank r.queue.items (turn_at r x) (turn_at r y) up lt (omega (arith, ky.0, fits)) in
           let ey : rank (get_or r.queue.items (turn_at r y) 0) ≡ rank y = ap rank ky.1 in
           let ex : rank (get_or r.queue.items (turn_at r x) 0) ≡ rank x = ap rank kx.1 in
           let k' : rank x < rank y = omega (arith, k, ey, ex) in
@@ -72,22 +76,27 @@ turn-order rank r o up y x cy cx =
 not-before : (a b r q : ℕ) → ltb a b ≡ ltb r q → ltb b a ≡ ltb q r → a ≢ b → not (ltb a b) ≡ ltb q r
 not-before a b r q h k ne = grind arith
 
-turn-behind : (rank : ℕ → ℕ) (r : Rising) → IsOrderly r → AscendsBy rank r.queue.items → (y x : ℕ) → is_candidate r y ≡ true → is_candidate r x ≡ true → y ≢ x → not (ltb (turn_at r y) (turn_at r x)) ≡ ltb (rank x) (rank y)
+turn-behind : (rank : ℕ → ℕ) (r : Rising) → IsOrderly r → AscendsBy rank r.queue.items → (y x : ℕ) → is_candidate r y ≡ true
+    → is_candidate r x ≡ true → y ≢ x → not (ltb (turn_at r y) (turn_at r x)) ≡ ltb (rank x) (rank y)
 turn-behind rank r o up y x cy cx ne =
     not-before (turn_at r y) (turn_at r x) (rank y) (rank x) (turn-order rank r o up y x cy cx) (turn-order rank r o up x y cx cy)
     (λ e. ne (sym (o.turned y cy).1 ∙ (ap (λ n. get_or r.queue.items n 0) e ∙ (o.turned x cx).1)))
 
 -- the weak candidate whose turn it is
-pub next-weak : (r : Rising) (i x : ℕ) → i ≡ vec_len r.shifts → length r.shifts.items < length r.weak.items → x ≡ get_or r.weak.items i x → get_or r.weak.items (length r.shifts.items) 0 ≡ x
+pub next-weak : (r : Rising) (i x : ℕ) → i ≡ vec_len r.shifts → length r.shifts.items < length r.weak.items → x ≡ get_or r.weak.items i x
+    → get_or r.weak.items (length r.shifts.items) 0 ≡ x
 next-weak r i x len lt at =
     let e : i ≡ length r.shifts.items = omega (arith, len, r.shifts.ok.0) in
     ap (λ n. get_or r.weak.items n 0) (sym e) ∙ sym (get_or_read r.weak.items i x (omega (arith, lt, e)) at 0)
 
-pub next-left : (r : Rising) (x : ℕ) → IsOrderly r → length r.shifts.items < length r.weak.items → get_or r.weak.items (length r.shifts.items) 0 ≡ x → member x (left r) ≡ true
+pub next-left : (r : Rising) (x : ℕ) → IsOrderly r → length r.shifts.items < length r.weak.items
+    → get_or r.weak.items (length r.shifts.items) 0 ≡ x → member x (left r) ≡ true
 next-left r x o lt first = o.weak_left x (ap (λ k. member k r.weak.items) (sym first) ∙ member-get_or r.weak.items (length r.shifts.items) 0 lt)
 
 -- it is evicted
-pub evict-orderly : (x anchor : ℕ) (old new : Rising) → IsOrderly old → Evicts x anchor old new → length old.shifts.items < length old.weak.items → get_or old.weak.items (length old.shifts.items) 0 ≡ x → member anchor (left old) ≡ true → IsOrderly new
+pub evict-orderly : (x anchor : ℕ) (old new : Rising) → IsOrderly old → Evicts x anchor old new
+    → length old.shifts.items < length old.weak.items → get_or old.weak.items (length old.shifts.items) 0 ≡ x
+    → member anchor (left old) ≡ true → IsOrderly new
 evict-orderly x anchor old new o e lt first near =
     let n : ℕ = length old.shifts.items in
     let same : left new ≡ left old = same-left old new e.queue e.turn in
@@ -116,18 +125,24 @@ evict-orderly x anchor old new o e lt first near =
         | inr ne ↦ ap weak_in (e.marks.others z ne) ∙ (o.weak_marked z ∙ sym (ap (member z) e.weak))
       ];
       weak_left = λ z m. ap (member z) same ∙ o.weak_left z (sym (ap (member z) e.weak) ∙ m);
-      shifted = ap firsts e.shifts ∙ (firsts-push old.shifts.items x anchor ∙ (ap (λ xs. xs ++ x ∷ []) o.shifted ∙ (ap (λ k. take n old.weak.items ++ k ∷ []) (sym first) ∙ (sym (take_more old.weak.items n 0 lt)
+      shifted = ap firsts e.shifts ∙ (firsts-push old.shifts.items x anchor
+          ∙ (ap (λ xs. xs ++ x ∷ []) o.shifted
+          ∙ (ap (λ k. take n old.weak.items ++ k ∷ []) (sym first) ∙ (sym (take_more old.weak.items n 0 lt)
           ∙ (ap (λ k. take k old.weak.items) (sym count) ∙ ap (take (length new.shifts.items)) (sym e.weak))))));
-      anchored = λ z m. ap (member z) same ∙ elim (member-push_cases z anchor (seconds old.shifts.items) (sym (ap (λ xs. member z (seconds xs)) e.shifts ∙ ap (member z) (seconds-push old.shifts.items x anchor)) ∙ m)) [
-        | inl k ↦ o.anchored z k
-        | inr q ↦ ap (λ k. member k (left old)) q ∙ near
-      ];
+      anchored = λ z m. ap (member z) same
+          ∙ elim (member-push_cases z anchor (seconds old.shifts.items) (sym (ap (λ xs. member z (seconds xs)) e.shifts
+          ∙ ap (member z) (seconds-push old.shifts.items x anchor)) ∙ m)) [
+            | inl k ↦ o.anchored z k
+            | inr q ↦ ap (λ k. member k (left old)) q ∙ near
+          ];
     }
 
 -- queue and turn stay
-pub stays-tidy : (update : Update) (shown : Shown) (old new : Rising) → IsTidyRising update shown old → IsOrderly new → new.queue.items ≡ old.queue.items → new.turn ≡ old.turn → IsTidyRising update shown new
+pub stays-tidy : (update : Update) (shown : Shown) (old new : Rising) → IsTidyRising update shown old → IsOrderly new
+    → new.queue.items ≡ old.queue.items → new.turn ≡ old.turn → IsTidyRising update shown new
 stays-tidy update shown old new t o queue turn =
-    tidy-rising update shown old new t o (λ z m. ap (member z) queue ∙ m) (λ z m. inl (sym (ap (member z) queue) ∙ m)) (λ z m. inl (sym (ap (member z) (same-left old new queue turn)) ∙ m))
+    tidy-rising update shown old new t o (λ z m. ap (member z) queue ∙ m) (λ z m. inl (sym (ap (member z) queue) ∙ m))
+    (λ z m. inl (sym (ap (member z) (same-left old new queue turn)) ∙ m))
 
 less_later : (n'' n' n : ℕ) (h a m t f : Bool) → n'' ≡ n' - cond (h && (m && t)) 1 0 → n' ≡ n → h ≡ a → m ≡ true → t ≡ f → n'' ≡ n - cond (a && f) 1 0
 less_later n'' n' n h a m t f e e' ha hm ht = grind arith
@@ -144,7 +159,8 @@ behind-open c t f hc hf = grind arith
 open-from : (m l : Bool) → (m || l) ≡ true → m ≡ false → l ≡ true
 open-from m l h n = grind arith
 
-lined-same : (q : Search) (root frontier : ℕ) (old new : Rising) → LinedUp q root old frontier → new.queue.items ≡ old.queue.items → new.turn ≡ old.turn → LinedUp q root new frontier
+lined-same : (q : Search) (root frontier : ℕ) (old new : Rising) → LinedUp q root old frontier → new.queue.items ≡ old.queue.items
+    → new.turn ≡ old.turn → LinedUp q root new frontier
 lined-same q root frontier old new l queue turn = record {
   ascends = subst (AscendsBy q.rank) (sym queue) l.ascends;
   reached = λ z m. l.reached z (sym (ap (member z) queue) ∙ m);
@@ -152,21 +168,27 @@ lined-same q root frontier old new l queue turn = record {
 }
 
 -- a candidate is evicted, and its neighbours lose by it
-pub evicted-now : (q : Search) (root x anchor frontier : ℕ) (row : List ℕ) (old mid new : Rising) → Widened q root → IsOrderly old → IsOrderly new → Evicts x anchor old mid → Loses q.level (loss.Evicted (turn_at old x)) row mid new
-    → length old.shifts.items < length old.weak.items → get_or old.weak.items (length old.shifts.items) 0 ≡ x → ((y : ℕ) → y < q.size → member y row ≡ q.adj x y)
+pub evicted-now : (q : Search) (root x anchor frontier : ℕ) (row : List ℕ) (old mid new : Rising) → Widened q root → IsOrderly old
+    → IsOrderly new → Evicts x anchor old mid → Loses q.level (loss.Evicted (turn_at old x)) row mid new
+    → length old.shifts.items < length old.weak.items → get_or old.weak.items (length old.shifts.items) 0 ≡ x
+    → ((y : ℕ) → y < q.size → member y row ≡ q.adj x y)
     → SettlingAt q root old frontier anchor → SettlingAt q root new frontier x
 evicted-now q root x anchor frontier row old mid new w o o' ev l lt first exact st =
     let n : ℕ = length old.shifts.items in
     let rest : List ℕ = drop (n + 1) old.weak.items in
     let head : pending old ≡ x ∷ rest = drop_more old.weak.items n 0 lt ∙ ap (λ k. k ∷ rest) first in
-    let b = subst (λ (xs : List ℕ). InSettling q root (cands old) (waiting old) frontier (earlier_at old) (later_at old) old.shifts.items xs anchor) head st.settling in
+    let b =
+    subst
+    (λ (xs : List ℕ). InSettling q root (cands old) (waiting old) frontier (earlier_at old) (later_at old) old.shifts.items xs anchor)
+    head st.settling in
     let queue : new.queue.items ≡ old.queue.items = l.queue ∙ ev.queue in
     let turn : new.turn ≡ old.turn = l.turn ∙ ev.turn in
     let shifts : new.shifts.items ≡ old.shifts.items ++ (x, anchor) ∷ [] = l.shifts ∙ ev.shifts in
     let count : length new.shifts.items ≡ n + 1 = ap length shifts ∙ length_push old.shifts.items (x, anchor) in
     let more : List ℕ = l.more.0 in
     let weak : new.weak.items ≡ old.weak.items ++ more = l.more.1 ∙ ap (λ xs. xs ++ more) ev.weak in
-    let pend : pending new ≡ rest ++ more = ap (λ k. drop k new.weak.items) count ∙ (ap (drop (n + 1)) weak ∙ drop-append-le (n + 1) old.weak.items more (omega (arith, lt))) in
+    let pend : pending new ≡ rest ++ more =
+    ap (λ k. drop k new.weak.items) count ∙ (ap (drop (n + 1)) weak ∙ drop-append-le (n + 1) old.weak.items more (omega (arith, lt))) in
     let x_cand : is_candidate old x ≡ true = sym (cands-has old o x) ∙ b.settling.listed x (member-head x rest) in
     let gone : is_candidate new x ≡ false = l.candidates x ∙ ap candidate_in ev.marks.here in
     let mid_cand : (y : ℕ) → y ≢ x → is_candidate mid y ≡ is_candidate old y = λ y ne. ap candidate_in (ev.marks.others y ne) in
@@ -179,12 +201,15 @@ evicted-now q root x anchor frontier row old mid new w o o' ev l lt first exact 
     let ne : y ≢ x = λ e. true≢false (sym m ∙ (ap (λ k. member k (cands new)) e ∙ drop'.itself)) in
     (ne, sym (same_cand y ne) ∙ (sym (cands-has new o' y) ∙ m), b.searching.cand_level y (sym (drop'.others y ne) ∙ m)) in
     let up : AscendsBy q.rank old.queue.items = st.lined.ascends in
-    let next = turn_evict q root (cands old) (waiting old) frontier (earlier_at old) (later_at old) old.shifts.items rest x anchor w b (cands new) (pending new) (earlier_at new) (later_at new)
+    let next =
+    turn_evict q root (cands old) (waiting old) frontier (earlier_at old) (later_at old) old.shifts.items rest x anchor w b (cands new)
+    (pending new) (earlier_at new) (later_at new)
     (record {
       dropped = drop';
       fewer_later = λ y m.
           let k = was y m in
-          less_later (later_at new y) (later_at mid y) (later_at old y) (member y row) (q.adj x y) (is_candidate mid y) (ltb (turn_at mid y) (turn_at old x)) (after q y x)
+          less_later (later_at new y) (later_at mid y) (later_at old y) (member y row) (q.adj x y) (is_candidate mid y)
+          (ltb (turn_at mid y) (turn_at old x)) (after q y x)
           (l.later y) (ap later_in (ev.marks.others y k.0)) (exact y k.2.here) (mid_cand y k.0 ∙ k.1)
           (ap (λ i. ltb i (turn_at old x)) (ap turn_in (ev.marks.others y k.0)) ∙ turn-order q.rank old o up y x k.1 x_cand);
       fewer_earlier = λ y oy ne h.
@@ -192,19 +217,23 @@ evicted-now q root x anchor frontier row old mid new w o o' ev l lt first exact 
             | inl c ↦ behind-cand (is_candidate mid y) (ltb (turn_at mid y) (turn_at old x)) (after q x y) (mid_cand y ne ∙ c)
                 (ap (λ i. not (ltb i (turn_at old x))) (ap turn_in (ev.marks.others y ne)) ∙ turn-behind q.rank old o up y x c x_cand ne)
             | inr none ↦
-                let open' : frontier ≤ q.rank y = leb-true frontier (q.rank y) (open-from (member y (cands new)) (leb frontier (q.rank y)) h (cands-has new o' y ∙ (same_cand y ne ∙ none))) in
+                let open' : frontier ≤ q.rank y =
+                leb-true frontier (q.rank y)
+                (open-from (member y (cands new)) (leb frontier (q.rank y)) h (cands-has new o' y ∙ (same_cand y ne ∙ none))) in
                 let passed : q.rank x < frontier = st.lined.passed x (cand-left old o x x_cand) in
                 let lt' : q.rank x < q.rank y = omega (arith, open', passed) in
                 behind-open (is_candidate mid y) (ltb (turn_at mid y) (turn_at old x)) (after q x y) (mid_cand y ne ∙ none) (grind (arith, lt'))
           ] in
-          less_earlier (earlier_at new y) (earlier_at mid y) (earlier_at old y) (member y row) (q.adj x y) (not (is_candidate mid y && ltb (turn_at mid y) (turn_at old x))) (after q x y)
+          less_earlier (earlier_at new y) (earlier_at mid y) (earlier_at old y) (member y row) (q.adj x y)
+          (not (is_candidate mid y && ltb (turn_at mid y) (turn_at old x))) (after q x y)
           (l.earlier y) (ap earlier_in (ev.marks.others y ne)) (exact y oy.here) behind;
     })
     (record {
       distinct = Distinct-drop (length new.shifts.items) new.weak.items o'.weak_once;
       kept = λ y m. ap (member y) pend ∙ member-append_left y rest more m;
       only = λ y m none.
-          let added : member y more ≡ true = elim (member-append y rest more (sym (ap (member y) pend) ∙ m)) [ inl k ↦ absurd (true≢false (sym k ∙ none)) | inr k ↦ k ] in
+          let added : member y more ≡ true =
+          elim (member-append y rest more (sym (ap (member y) pend) ∙ m)) [ inl k ↦ absurd (true≢false (sym k ∙ none)) | inr k ↦ k ] in
           let here : member y new.weak.items ≡ true = ap (member y) l.more.1 ∙ member-append_right y mid.weak.items more added in
           let out : member y mid.weak.items ≡ false = distinct-apart y mid.weak.items more (subst Distinct l.more.1 o'.weak_once) added in
           let k = l.only y here out in
@@ -212,10 +241,11 @@ evicted-now q root x anchor frontier row old mid new w o o' ev l lt first exact 
       all_weak = λ y m a none.
           let k = was y m in
           let out : member y new.weak.items ≡ false = false_from_ne_true _ (λ t. elim (take-or_drop (length new.shifts.items) new.weak.items y t) [
-            | inl h ↦ elim (member-push_cases y x (firsts old.shifts.items) (sym (ap (member y) (sym o'.shifted ∙ (ap firsts shifts ∙ firsts-push old.shifts.items x anchor))) ∙ h)) [
-              | inl f ↦ true≢false (sym (cands-has old o y ∙ k.1) ∙ b.shifts_fit.first_done y f)
-              | inr e ↦ k.0 e
-            ]
+            | inl h ↦ elim (member-push_cases y x (firsts old.shifts.items) (sym (ap (member y) (sym o'.shifted
+                ∙ (ap firsts shifts ∙ firsts-push old.shifts.items x anchor))) ∙ h)) [
+                  | inl f ↦ true≢false (sym (cands-has old o y ∙ k.1) ∙ b.shifts_fit.first_done y f)
+                  | inr e ↦ k.0 e
+                ]
             | inr h ↦ true≢false (sym h ∙ none)
           ]) in
           l.all_weak y (exact y k.2.here ∙ a) (mid_cand y k.0 ∙ k.1) out;
@@ -223,12 +253,17 @@ evicted-now q root x anchor frontier row old mid new w o o' ev l lt first exact 
     record {
       lined = lined-same q root frontier old new st.lined queue turn;
       settling =
-          subst (λ (xs : List ℕ). InSettling q root (cands new) xs frontier (earlier_at new) (later_at new) new.shifts.items (pending new) x) (sym (same-waiting old new queue turn))
-          (subst (λ (ss : List (ℕ × ℕ)). InSettling q root (cands new) (waiting old) frontier (earlier_at new) (later_at new) ss (pending new) x) (sym shifts) next);
+          subst
+          (λ (xs : List ℕ). InSettling q root (cands new) xs frontier (earlier_at new) (later_at new) new.shifts.items (pending new) x)
+          (sym (same-waiting old new queue turn))
+          (subst
+          (λ (ss : List (ℕ × ℕ)). InSettling q root (cands new) (waiting old) frontier (earlier_at new) (later_at new) ss (pending new) x)
+          (sym shifts) next);
     }
 
 -- nobody is too weak any more
-pub settled-between : (q : Search) (root last : ℕ) (r : Rising) → IsOrderly r → length r.weak.items ≤ length r.shifts.items → IsSettling q root r last → IsBetweenTurns q root r
+pub settled-between : (q : Search) (root last : ℕ) (r : Rising) → IsOrderly r → length r.weak.items ≤ length r.shifts.items
+    → IsSettling q root r last → IsBetweenTurns q root r
 settled-between q root last r o le st =
     let frontier : ℕ = st.0 in
     let none : pending r ≡ [] = drop_all (length r.shifts.items) r.weak.items le in (
@@ -248,8 +283,10 @@ none-less : (n'' n' n : ℕ) (h : Bool) → n'' ≡ n' - cond (h && false) 1 0 �
 none-less n'' n' n h e e' = grind arith
 
 -- the first of the queue is settled, and its neighbours lose by it
-pub settled-now : (q : Search) (root w : ℕ) (mark : Mark) (row : List ℕ) (old mid new : Rising) → Widened q root → IsOrderly old → IsOrderly new → Leaves w mark old mid → mark.is_candidate ≡ false → Loses q.level loss.Settled row mid new
-    → old.turn < length old.queue.items → get_or old.queue.items old.turn 0 ≡ w → ((y : ℕ) → y < q.size → member y row ≡ q.adj w y) → earlier_at old w + ahead q w ≤ q.level
+pub settled-now : (q : Search) (root w : ℕ) (mark : Mark) (row : List ℕ) (old mid new : Rising) → Widened q root → IsOrderly old
+    → IsOrderly new → Leaves w mark old mid → mark.is_candidate ≡ false → Loses q.level loss.Settled row mid new
+    → old.turn < length old.queue.items → get_or old.queue.items old.turn 0 ≡ w → ((y : ℕ) → y < q.size → member y row ≡ q.adj w y)
+    → earlier_at old w + ahead q w ≤ q.level
     → IsBetweenTurns q root old → IsSettling q root new w
 settled-now q root w mark row old mid new wide o o' lv plain l lt first exact weak bt =
     let frontier : ℕ = bt.0 in
@@ -265,21 +302,30 @@ settled-now q root w mark row old mid new wide o o' lv plain l lt first exact we
     let turn : new.turn ≡ old.turn + 1 = l.turn ∙ lv.turn in
     let shifts : new.shifts.items ≡ old.shifts.items = l.shifts ∙ lv.shifts in
     let more : List ℕ = l.more.0 in
-    let pend : pending new ≡ more = ap (λ k. drop k new.weak.items) (ap length shifts) ∙ (ap (drop n) (l.more.1 ∙ ap (λ xs. xs ++ more) lv.weak) ∙ drop_at old.weak.items more n (sym at.calm)) in
+    let pend : pending new ≡ more =
+    ap (λ k. drop k new.weak.items) (ap length shifts)
+    ∙ (ap (drop n) (l.more.1 ∙ ap (λ xs. xs ++ more) lv.weak) ∙ drop_at old.weak.items more n (sym at.calm)) in
     let mid_cand : (y : ℕ) → is_candidate mid y ≡ is_candidate old y = λ y. elim (cases_eq y w) [
       | inl e ↦ ap (is_candidate mid) e ∙ (ap candidate_in lv.marks.here ∙ (plain ∙ sym (ap (is_candidate old) e ∙ w_none)))
       | inr ne ↦ ap candidate_in (lv.marks.others y ne)
     ] in
     let was : (y : ℕ) → member y (cands old) ≡ true → (y ≢ w) × (is_candidate old y ≡ true) × OnLevel q y = λ y m.
-    let c : is_candidate old y ≡ true = sym (cands-has old o y) ∙ m in (λ e. true≢false (sym c ∙ (ap (is_candidate old) e ∙ w_none)), c, b.searching.cand_level y m) in
+    let c : is_candidate old y ≡ true = sym (cands-has old o y) ∙ m in
+    (λ e. true≢false (sym c ∙ (ap (is_candidate old) e ∙ w_none)), c, b.searching.cand_level y m) in
     let same : (y : ℕ) → member y (cands new) ≡ member y (cands old) = λ y. cands-has new o' y ∙ (l.candidates y ∙ (mid_cand y ∙ sym (cands-has old o y))) in
-    let next = turn_settle q root (cands old) rest w frontier (earlier_at old) (later_at old) old.shifts.items wide b (earlier_at new) (later_at new) (pending new)
+    let next =
+    turn_settle q root (cands old) rest w frontier (earlier_at old) (later_at old) old.shifts.items wide b (earlier_at new)
+    (later_at new) (pending new)
     (record {
       weak = weak;
       fewer = λ y m.
           let k = was y m in
-          fewer-by (later_at new y) (later_at mid y) (later_at old y) (member y row) (q.adj w y) (is_candidate mid y) (l.later y) (ap later_in (lv.marks.others y k.0)) (exact y k.2.here) (mid_cand y ∙ k.1);
-      earlier_kept = λ y ne. none-less (earlier_at new y) (earlier_at mid y) (earlier_at old y) (member y row) (l.earlier y) (ap earlier_in (lv.marks.others y ne));
+          fewer-by (later_at new y) (later_at mid y) (later_at old y) (member y row) (q.adj w y) (is_candidate mid y) (l.later y)
+          (ap later_in (lv.marks.others y k.0)) (exact y k.2.here) (mid_cand y ∙ k.1);
+      earlier_kept =
+          λ y ne.
+          none-less (earlier_at new y) (earlier_at mid y) (earlier_at old y) (member y row) (l.earlier y)
+          (ap earlier_in (lv.marks.others y ne));
     })
     (record {
       distinct = Distinct-drop (length new.shifts.items) new.weak.items o'.weak_once;
@@ -298,7 +344,9 @@ settled-now q root w mark row old mid new wide o o' lv plain l lt first exact we
           ]) in
           l.all_weak y (exact y k.2.here ∙ a) (mid_cand y ∙ k.1) missed;
     }) in
-    let next' = settling_same q root (cands old) rest (q.rank w + 1) (earlier_at new) (later_at new) old.shifts.items (pending new) w next (cands new) (earlier_at new) (later_at new) same (λ y. refl) (λ y. refl) in
+    let next' =
+    settling_same q root (cands old) rest (q.rank w + 1) (earlier_at new) (later_at new) old.shifts.items (pending new) w next
+    (cands new) (earlier_at new) (later_at new) same (λ y. refl) (λ y. refl) in
     let wait : waiting new ≡ rest = ap (λ k. drop k new.queue.items) turn ∙ ap (drop (old.turn + 1)) queue in
     let gone : left new ≡ left old ++ w ∷ [] = same-left mid new l.queue l.turn ∙ left-more w mark old mid lv lt first in (
       q.rank w + 1,
@@ -313,6 +361,8 @@ settled-now q root w mark row old mid new wide o o' lv plain l lt first exact we
         };
         settling =
             subst (λ (xs : List ℕ). InSettling q root (cands new) xs (q.rank w + 1) (earlier_at new) (later_at new) new.shifts.items (pending new) w) (sym wait)
-            (subst (λ (ss : List (ℕ × ℕ)). InSettling q root (cands new) rest (q.rank w + 1) (earlier_at new) (later_at new) ss (pending new) w) (sym shifts) next');
+            (subst
+            (λ (ss : List (ℕ × ℕ)). InSettling q root (cands new) rest (q.rank w + 1) (earlier_at new) (later_at new) ss (pending new) w)
+            (sym shifts) next');
       },
     )

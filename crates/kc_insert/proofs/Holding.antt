@@ -18,7 +18,8 @@ use Rattle.kc_insert.proofs.Steps.{ahead-later}
 use Rattle.kc_insert.proofs.Ending.{few_behind, few_after, enough_after}
 
 -- where no vertex moves
-pub plain-holds : (s : Ranked) (g : SimpleGraph) (level root frontier : ℕ) (earlier later : ℕ → ℕ) → IsCertified s → g.size ≡ s.graph.size → Widened (search_in g s level) root
+pub plain-holds : (s : Ranked) (g : SimpleGraph) (level root frontier : ℕ) (earlier later : ℕ → ℕ) → IsCertified s → g.size ≡ s.graph.size
+    → Widened (search_in g s level) root
     → BetweenTurns (search_in g s level) root [] [] frontier earlier later []
     → (z : ℕ) → z < s.graph.size → HoldsAt (record { graph = g; core = s.core; order = s.order }) z
 plain-holds s g level root frontier earlier later h size w b z l =
@@ -35,9 +36,18 @@ plain-holds s g level root frontier earlier later h size w b z l =
     still-holds s g h size z l few (w.enough z l)
 
 -- where vertices rise, and others are shifted
-pub rise-holds : (s : Ranked) (g : SimpleGraph) (level root : ℕ) (rise : List ℕ) (frontier : ℕ) (earlier later : ℕ → ℕ) (shifts : List (ℕ × ℕ)) → IsCertified s → g.size ≡ s.graph.size → Widened (search_in g s level) root
+pub rise-holds : (s : Ranked) (g : SimpleGraph) (level root : ℕ) (rise : List ℕ) (frontier : ℕ) (earlier later : ℕ → ℕ)
+    (shifts : List (ℕ × ℕ))
+    → IsCertified s → g.size ≡ s.graph.size → Widened (search_in g s level) root
     → BetweenTurns (search_in g s level) root rise [] frontier earlier later shifts → AscendsBy (rank_in s.order) rise
-    → (z : ℕ) → z < s.graph.size → HoldsAt (record { graph = g; core = renumbered rise (level + 1) s.core; order = put_between (λ y. leb (get_or s.core y 0) level) rise (shifted shifts s.order) }) z
+    → (z : ℕ) → z < s.graph.size
+    → HoldsAt
+    (record {
+      graph = g;
+      core = renumbered rise (level + 1) s.core;
+      order = put_between (λ y. leb (get_or s.core y 0) level) rise (shifted shifts s.order);
+    })
+    z
 rise-holds s g level root rise frontier earlier later shifts h size w b up z l =
     let q : Search = search_in g s level in
     let low : ℕ → Bool = λ y. leb (get_or s.core y 0) level in
@@ -49,7 +59,8 @@ rise-holds s g level root rise frontier earlier later shifts h size w b up z l =
     let first_in : (x : ℕ) → member x (firsts shifts) ≡ true → member x s.order ≡ true = λ x m. there x (b.shifts_fit.first_level x m).here in
     let second_in : (x : ℕ) → member x (seconds shifts) ≡ true → member x s.order ≡ true = λ x m. there x (b.shifts_fit.second_level x m).here in
     let has : (y : ℕ) → member y (shifted shifts s.order) ≡ member y s.order = shifted-has shifts s.order b.shifts_fit.in_turn first_in second_in in
-    let ascends : AscendsBy place (shifted shifts s.order) = shifted-ascends rank shifts s.order (rank-ascends s.order d) b.shifts_fit.in_turn first_in second_in in
+    let ascends : AscendsBy place (shifted shifts s.order) =
+    shifted-ascends rank shifts s.order (rank-ascends s.order d) b.shifts_fit.in_turn first_in second_in in
     let orders : Orders lt (put_between low rise (shifted shifts s.order)) = final-orders low rise rank place (shifted shifts s.order) up ascends in
     moved-holds s g rise (put_between low rise (shifted shifts s.order)) (level + 1) lt h size (after-itself low rise rank place) orders
     (λ y. final-has low rise (shifted shifts s.order) (λ x m. has x ∙ there x (b.searching.cand_level x m).here) y ∙ has y) z l

@@ -1,5 +1,6 @@
 -- The neighbours that are ahead of a vertex, counted one by one and all together.
-use Rattle.std.proofs.Common.{◌≡◌, ◌≤◌, ◌<◌, ◌+◌, ℕ, Bool, true, false, cond, not, ◌&&◌, ◌||◌, List, [], ◌∷◌, ◌++◌, length, take, get_or, eqb, ltb, refl, sym, ◌∙◌, ap, arith, eqb-true}
+use Rattle.std.proofs.Common.{◌≡◌, ◌≤◌, ◌<◌, ◌+◌, ℕ, Bool, true, false, cond, not, ◌&&◌, ◌||◌, List, [], ◌∷◌, ◌++◌, length, take, get_or, eqb, ltb}
+use Rattle.std.proofs.Common.{refl, sym, ◌∙◌, ap, arith, eqb-true}
 use Rattle.std.specs.Prelude.{count_by}
 use Rattle.std.proofs.lemmas.Bool.{and_parts}
 use Rattle.std.proofs.lemmas.List.{take_more}
@@ -28,15 +29,19 @@ next_step : (m' m e b t t' n : Bool) → m' ≡ (m || (e && b)) → m ≡ (t && 
 next_step m' m e b t t' n h k l same = grind arith
 
 -- those behind, after one neighbour more
-pub next-more : (s : Search) (w x y i : ℕ) (row next next' : List ℕ) (side : Side) → i < length row → get_or row i 0 ≡ x → side ≡ side_in s w x → next' ≡ cond (is_next side) (next ++ x ∷ []) next
+pub next-more : (s : Search) (w x y i : ℕ) (row next next' : List ℕ) (side : Side) → i < length row → get_or row i 0 ≡ x
+    → side ≡ side_in s w x → next' ≡ cond (is_next side) (next ++ x ∷ []) next
     → member y next ≡ (member y (take i row) && is_next (side_in s w y)) → member y next' ≡ (member y (take (i + 1) row) && is_next (side_in s w y))
 next-more s w x y i row next next' side l at is more before =
-    let seam : member y (take (i + 1) row) ≡ (member y (take i row) || eqb y x) = ap (member y) (take_more row i 0 l ∙ ap (λ n. take i row ++ n ∷ []) at) ∙ member-push y x (take i row) in
-    next_step (member y next') (member y next) (eqb y x) (is_next side) (member y (take i row)) (member y (take (i + 1) row)) (is_next (side_in s w y)) (member-more (is_next side) x y next next' more) before seam
+    let seam : member y (take (i + 1) row) ≡ (member y (take i row) || eqb y x) =
+    ap (member y) (take_more row i 0 l ∙ ap (λ n. take i row ++ n ∷ []) at) ∙ member-push y x (take i row) in
+    next_step (member y next') (member y next) (eqb y x) (is_next side) (member y (take i row)) (member y (take (i + 1) row))
+    (is_next (side_in s w y)) (member-more (is_next side) x y next next' more) before seam
     (λ e. ap is_next (is ∙ ap (side_in s w) (sym (eqb-true y x e))))
 
 -- the count, after one neighbour more
-pub counted-more : (s : Search) (w x i n n' : ℕ) (row : List ℕ) (side : Side) → i < length row → get_or row i 0 ≡ x → side ≡ side_in s w x → n' ≡ n + cond (is_ahead side) 1 0
+pub counted-more : (s : Search) (w x i n n' : ℕ) (row : List ℕ) (side : Side) → i < length row → get_or row i 0 ≡ x → side ≡ side_in s w x
+    → n' ≡ n + cond (is_ahead side) 1 0
     → n ≡ count_by (λ y. is_ahead (side_in s w y)) (take i row) → n' ≡ count_by (λ y. is_ahead (side_in s w y)) (take (i + 1) row)
 counted-more s w x i n n' row side l at is more before =
     let p : ℕ → Bool = λ y. is_ahead (side_in s w y) in
@@ -63,20 +68,29 @@ swapped : (a b c : Bool) → a ≡ true → b ≡ c → b ≡ (a && c)
 swapped a b c h e = grind arith
 
 -- all neighbours have been looked at
-pub ahead-is : (s : Search) (w : ℕ) (row : List ℕ) (a : Ahead) → Distinct row → ((y : ℕ) → member y row ≡ true → y < s.size) → ((y : ℕ) → y < s.size → member y row ≡ s.adj w y)
+pub ahead-is : (s : Search) (w : ℕ) (row : List ℕ) (a : Ahead) → Distinct row → ((y : ℕ) → member y row ≡ true → y < s.size)
+    → ((y : ℕ) → y < s.size → member y row ≡ s.adj w y)
     → a.count ≡ count_by (λ y. is_ahead (side_in s w y)) row → ((y : ℕ) → member y a.next.items ≡ (member y row && is_next (side_in s w y))) → IsAheadOf s w a
 ahead-is s w row a once within exact counted next =
     let p : ℕ → Bool = λ y. above s y || (on_level s y && after s w y) in
     let q : ℕ → Bool = λ y. s.adj w y && p y in
     let here : count_by (λ y. is_ahead (side_in s w y)) row ≡ count_by q row =
-    count-agree (λ y. is_ahead (side_in s w y)) q row (λ y m. swapped (s.adj w y) (is_ahead (side_in s w y)) (p y) (sym (exact y (within y m)) ∙ m) (side_ahead (above s y) (on_level s y && after s w y))) in
+    count-agree (λ y. is_ahead (side_in s w y)) q row
+    (λ y m.
+    swapped (s.adj w y) (is_ahead (side_in s w y)) (p y) (sym (exact y (within y m)) ∙ m)
+    (side_ahead (above s y) (on_level s y && after s w y))) in
     let up : count_by q row ≤ count_by q (below s.size) = count-le q row (below s.size) once (λ y m _. member-below y s.size (within y m)) in
-    let down : count_by q (below s.size) ≤ count_by q row = count-le q (below s.size) row (Distinct-below s.size) (λ y m t. exact y (below-member y s.size m) ∙ (and_parts (s.adj w y) (p y) t).0) in
+    let down : count_by q (below s.size) ≤ count_by q row =
+    count-le q (below s.size) row (Distinct-below s.size)
+    (λ y m t. exact y (below-member y s.size m) ∙ (and_parts (s.adj w y) (p y) t).0) in
     record {
       count = omega (arith, counted, here, up, down);
-      next = λ y oy. next y ∙ (ap (λ b. b && is_next (side_in s w y)) (exact y oy.here) ∙ ap (λ b. s.adj w y && b) (side_next (above s y) (on_level s y && after s w y)
+      next = λ y oy. next y ∙ (ap (λ b. b && is_next (side_in s w y)) (exact y oy.here)
+          ∙ ap (λ b. s.adj w y && b) (side_next (above s y) (on_level s y && after s w y)
           ∙ level_next (above s y) (on_level s y) (after s w y) (s.core y) s.level refl refl oy.level));
       only = λ y m.
-          let k = next_parts (member y row) (above s y) (on_level s y) (after s w y) (ap (λ b. member y row && b) (sym (side_next (above s y) (on_level s y && after s w y))) ∙ (sym (next y) ∙ m)) in
+          let k =
+          next_parts (member y row) (above s y) (on_level s y) (after s w y)
+          (ap (λ b. member y row && b) (sym (side_next (above s y) (on_level s y && after s w y))) ∙ (sym (next y) ∙ m)) in
           (record { here = within y k.0; level = eqb-true (s.core y) s.level k.1 }, sym (exact y (within y k.0)) ∙ k.0, k.2);
     }

@@ -1,5 +1,7 @@
 -- What the neighbours of a vertex lose that will not rise, one by one.
-use Rattle.std.proofs.Common.{◌≡◌, ◌≢◌, ◌≤◌, ◌<◌, ◌+◌, ◌-◌, ◌⊎◌, ℕ, suc, zero, Bool, true, false, cond, not, ◌&&◌, ◌||◌, Option, Some, None, List, [], ◌∷◌, ◌++◌, length, take, get_or, eqb, ltb, leb, refl, sym, ◌∙◌, ap, subst, inl, inr, arith, true≢false, eqb-true, eq-eqb, ne_eqb}
+use Rattle.std.proofs.Common.{◌≡◌, ◌≢◌, ◌≤◌, ◌<◌, ◌+◌, ◌-◌, ◌⊎◌, ℕ, suc, zero, Bool, true, false, cond, not, ◌&&◌, ◌||◌, Option, Some, None, List, []}
+use Rattle.std.proofs.Common.{◌∷◌, ◌++◌, length, take, get_or, eqb, ltb, leb, refl, sym, ◌∙◌, ap, subst, inl, inr, arith, true≢false, eqb-true}
+use Rattle.std.proofs.Common.{eq-eqb, ne_eqb}
 use Rattle.std.specs.Prelude.{is_some}
 use Rattle.std.proofs.lemmas.Bool.{cases_Bool, cases_eq, false≢true, false_from_ne_true}
 use Rattle.std.proofs.lemmas.List.{append-nil, append_assoc, take-append-le}
@@ -90,25 +92,40 @@ nothing-less n b e = omega (arith, e)
 -- what a mark keeps and loses
 kept-turn : (loss : Loss) (m : Mark) → (taken_from loss m).turn ≡ m.turn
 kept-turn Settled m = refl
-kept-turn (Evicted turn) m = elim (m.is_candidate && ltb m.turn turn) as (λ b. (cond b (record m { later = m.later - 1 }) (record m { earlier = m.earlier - 1 })).turn ≡ m.turn) [ true ↦ refl | false ↦ refl ]
+kept-turn (Evicted turn) m =
+    elim (m.is_candidate && ltb m.turn turn) as
+    (λ b. (cond b (record m { later = m.later - 1 }) (record m { earlier = m.earlier - 1 })).turn ≡ m.turn) [ true ↦ refl | false ↦ refl ]
 
 kept-candidate : (loss : Loss) (m : Mark) → (taken_from loss m).is_candidate ≡ m.is_candidate
 kept-candidate Settled m = refl
-kept-candidate (Evicted turn) m = elim (m.is_candidate && ltb m.turn turn) as (λ b. (cond b (record m { later = m.later - 1 }) (record m { earlier = m.earlier - 1 })).is_candidate ≡ m.is_candidate) [ true ↦ refl | false ↦ refl ]
+kept-candidate (Evicted turn) m =
+    elim (m.is_candidate && ltb m.turn turn) as
+    (λ b. (cond b (record m { later = m.later - 1 }) (record m { earlier = m.earlier - 1 })).is_candidate ≡ m.is_candidate)
+    [ true ↦ refl | false ↦ refl ]
 
 kept-weak : (loss : Loss) (m : Mark) → (taken_from loss m).is_weak ≡ m.is_weak
 kept-weak Settled m = refl
-kept-weak (Evicted turn) m = elim (m.is_candidate && ltb m.turn turn) as (λ b. (cond b (record m { later = m.later - 1 }) (record m { earlier = m.earlier - 1 })).is_weak ≡ m.is_weak) [ true ↦ refl | false ↦ refl ]
+kept-weak (Evicted turn) m =
+    elim (m.is_candidate && ltb m.turn turn) as
+    (λ b. (cond b (record m { later = m.later - 1 }) (record m { earlier = m.earlier - 1 })).is_weak ≡ m.is_weak)
+    [ true ↦ refl | false ↦ refl ]
 
-taken-earlier : (loss : Loss) (r : Rising) (y : ℕ) (m : Mark) → mark_of r.marks y ≡ Some m → (taken_from loss m).earlier ≡ m.earlier - cond (loses_earlier loss r y) 1 0
+taken-earlier : (loss : Loss) (r : Rising) (y : ℕ) (m : Mark) → mark_of r.marks y ≡ Some m
+    → (taken_from loss m).earlier ≡ m.earlier - cond (loses_earlier loss r y) 1 0
 taken-earlier Settled r y m is = omega arith
 taken-earlier (Evicted turn) r y m is =
-    rw is (elim (m.is_candidate && ltb m.turn turn) as (λ b. (cond b (record m { later = m.later - 1 }) (record m { earlier = m.earlier - 1 })).earlier ≡ m.earlier - cond (not b) 1 0) [ true ↦ omega arith | false ↦ refl ])
+    rw is
+    (elim (m.is_candidate && ltb m.turn turn) as
+    (λ b. (cond b (record m { later = m.later - 1 }) (record m { earlier = m.earlier - 1 })).earlier ≡ m.earlier - cond (not b) 1 0)
+    [ true ↦ omega arith | false ↦ refl ])
 
 taken-later : (loss : Loss) (r : Rising) (y : ℕ) (m : Mark) → mark_of r.marks y ≡ Some m → (taken_from loss m).later ≡ m.later - cond (loses_later loss r y) 1 0
 taken-later Settled r y m is = rw is refl
 taken-later (Evicted turn) r y m is =
-    rw is (elim (m.is_candidate && ltb m.turn turn) as (λ b. (cond b (record m { later = m.later - 1 }) (record m { earlier = m.earlier - 1 })).later ≡ m.later - cond b 1 0) [ true ↦ refl | false ↦ omega arith ])
+    rw is
+    (elim (m.is_candidate && ltb m.turn turn) as
+    (λ b. (cond b (record m { later = m.later - 1 }) (record m { earlier = m.earlier - 1 })).later ≡ m.later - cond b 1 0)
+    [ true ↦ refl | false ↦ omega arith ])
 
 grown-found : (w c : Bool) (y : ℕ) (xs : List ℕ) → grown w (w || c) y xs ≡ cond (not w && c) (xs ++ y ∷ []) xs
 grown-found true c y xs = refl
@@ -128,8 +145,18 @@ lost-unmarked level loss y old none = record {
   queued = λ z. refl;
   candidates = λ z. refl;
   turns = λ z. refl;
-  earlier = λ z. elim (cases_eq z y) [ inl e ↦ nothing-less (earlier_at old z) _ (ap (earlier_at old) e ∙ ap earlier_in none) | inr ne ↦ at-other z y _ (earlier_at old z) ne ];
-  later = λ z. elim (cases_eq z y) [ inl e ↦ nothing-less (later_at old z) _ (ap (later_at old) e ∙ ap later_in none) | inr ne ↦ at-other z y _ (later_at old z) ne ];
+  earlier =
+      λ z.
+      elim (cases_eq z y) [
+        | inl e ↦ nothing-less (earlier_at old z) _ (ap (earlier_at old) e ∙ ap earlier_in none)
+        | inr ne ↦ at-other z y _ (earlier_at old z) ne
+      ];
+  later =
+      λ z.
+      elim (cases_eq z y) [
+        | inl e ↦ nothing-less (later_at old z) _ (ap (later_at old) e ∙ ap later_in none)
+        | inr ne ↦ at-other z y _ (later_at old z) ne
+      ];
   weak_others = λ z ne. refl;
   weak_here = let k : is_weak old y ≡ false = ap weak_in none in k ∙ sym (ap (λ b. b || false) k);
   was = λ f. absurd (false≢true f);
@@ -152,24 +179,70 @@ lost-marked level loss y m old new is r =
     let was_cand : is_candidate old y ≡ m.is_candidate = ap candidate_in is in
     let was_weak : is_weak old y ≡ m.is_weak = ap weak_in is in
     record {
-      queued = λ z. elim (cases_eq z y) [ inl e ↦ ap (is_queued new) e ∙ (ap is_some here ∙ sym (ap (is_queued old) e ∙ ap is_some is)) | inr ne ↦ ap is_some (r.marks.others z ne) ];
-      candidates = λ z. elim (cases_eq z y) [ inl e ↦ ap (is_candidate new) e ∙ (ap candidate_in here ∙ (c' ∙ sym (ap (is_candidate old) e ∙ was_cand))) | inr ne ↦ ap candidate_in (r.marks.others z ne) ];
-      turns = λ z. elim (cases_eq z y) [ inl e ↦ ap (turn_at new) e ∙ (ap turn_in here ∙ (kept-turn loss m ∙ sym (ap (turn_at old) e ∙ ap turn_in is))) | inr ne ↦ ap turn_in (r.marks.others z ne) ];
+      queued =
+          λ z.
+          elim (cases_eq z y) [
+            | inl e ↦ ap (is_queued new) e ∙ (ap is_some here ∙ sym (ap (is_queued old) e ∙ ap is_some is))
+            | inr ne ↦ ap is_some (r.marks.others z ne)
+          ];
+      candidates =
+          λ z.
+          elim (cases_eq z y) [
+            | inl e ↦ ap (is_candidate new) e ∙ (ap candidate_in here ∙ (c' ∙ sym (ap (is_candidate old) e ∙ was_cand)))
+            | inr ne ↦ ap candidate_in (r.marks.others z ne)
+          ];
+      turns =
+          λ z.
+          elim (cases_eq z y) [
+            | inl e ↦ ap (turn_at new) e ∙ (ap turn_in here ∙ (kept-turn loss m ∙ sym (ap (turn_at old) e ∙ ap turn_in is)))
+            | inr ne ↦ ap turn_in (r.marks.others z ne)
+          ];
       earlier = λ z. elim (cases_eq z y) [
         | inl e ↦ at-here z y (loses_earlier loss old z) (earlier_at new z) (earlier_at old z) e
-            (ap (earlier_at new) e ∙ (ap earlier_in here ∙ (taken-earlier loss old y m is ∙ sym (ap (λ n. earlier_at old n - cond (loses_earlier loss old n) 1 0) e ∙ ap (λ (o : Option Mark). earlier_in o - cond (loses_earlier loss old y) 1 0) is))))
+            (ap (earlier_at new) e
+            ∙
+            (ap earlier_in here
+            ∙
+            (taken-earlier loss old y m is
+            ∙ sym
+            (ap (λ n. earlier_at old n - cond (loses_earlier loss old n) 1 0) e
+            ∙ ap (λ (o : Option Mark). earlier_in o - cond (loses_earlier loss old y) 1 0) is))))
         | inr ne ↦ ap earlier_in (r.marks.others z ne) ∙ at-other z y (loses_earlier loss old z) (earlier_at old z) ne
       ];
       later = λ z. elim (cases_eq z y) [
         | inl e ↦ at-here z y (loses_later loss old z) (later_at new z) (later_at old z) e
-            (ap (later_at new) e ∙ (ap later_in here ∙ (taken-later loss old y m is ∙ sym (ap (λ n. later_at old n - cond (loses_later loss old n) 1 0) e ∙ ap (λ (o : Option Mark). later_in o - cond (loses_later loss old y) 1 0) is))))
+            (ap (later_at new) e
+            ∙
+            (ap later_in here
+            ∙
+            (taken-later loss old y m is
+            ∙ sym
+            (ap (λ n. later_at old n - cond (loses_later loss old n) 1 0) e
+            ∙ ap (λ (o : Option Mark). later_in o - cond (loses_later loss old y) 1 0) is))))
         | inr ne ↦ ap later_in (r.marks.others z ne) ∙ at-other z y (loses_later loss old z) (later_at old z) ne
       ];
       weak_others = λ z ne. ap weak_in (r.marks.others z ne);
-      weak_here = ap weak_in here ∙ (ap (λ b. b || (m'.is_candidate && low)) w' ∙ (ap (λ b. m.is_weak || (b && low)) c' ∙ (found-weak m.is_weak (m.is_candidate && low) ∙ ap (λ b. b || (not m.is_weak && (m.is_candidate && low))) (sym was_weak))));
+      weak_here =
+          ap weak_in here
+          ∙
+          (ap (λ b. b || (m'.is_candidate && low)) w'
+          ∙
+          (ap (λ b. m.is_weak || (b && low)) c'
+          ∙
+          (found-weak m.is_weak (m.is_candidate && low)
+          ∙ ap (λ b. b || (not m.is_weak && (m.is_candidate && low))) (sym was_weak))));
       was = λ f. let k = found-yes m.is_weak m.is_candidate (m'.earlier + m'.later) level f in (was_cand ∙ k.0, was_weak ∙ k.1, omega (arith, k.2, sum));
-      missed = λ f c w. let k = found-no m.is_weak m.is_candidate (m'.earlier + m'.later) level f (sym was_cand ∙ c) (sym was_weak ∙ w) in omega (arith, k, sum);
-      weak = r.weak ∙ (ap (λ b. grown b (b || (m'.is_candidate && low)) y old.weak.items) w' ∙ (ap (λ b. grown m.is_weak (m.is_weak || (b && low)) y old.weak.items) c' ∙ grown-found m.is_weak (m.is_candidate && low) y old.weak.items));
+      missed =
+          λ f c w.
+          let k = found-no m.is_weak m.is_candidate (m'.earlier + m'.later) level f (sym was_cand ∙ c) (sym was_weak ∙ w) in
+          omega (arith, k, sum);
+      weak =
+          r.weak
+          ∙
+          (ap (λ b. grown b (b || (m'.is_candidate && low)) y old.weak.items) w'
+          ∙
+          (ap (λ b. grown m.is_weak (m.is_weak || (b && low)) y old.weak.items) c'
+          ∙ grown-found m.is_weak (m.is_candidate && low) y old.weak.items));
       queue = r.queue;
       turn = r.turn;
       shifts = r.shifts;
@@ -182,7 +255,8 @@ lost level loss y old new l = elim (cases_mark (mark_of old.marks y)) [
 ]
 
 -- the list of the weak, where one was found or not
-grown-cases : (found : Bool) (y z : ℕ) (xs ys : List ℕ) → ys ≡ cond found (xs ++ y ∷ []) xs → member z ys ≡ true → (member z xs ≡ true) ⊎ ((z ≡ y) × (found ≡ true))
+grown-cases : (found : Bool) (y z : ℕ) (xs ys : List ℕ) → ys ≡ cond found (xs ++ y ∷ []) xs → member z ys ≡ true
+    → (member z xs ≡ true) ⊎ ((z ≡ y) × (found ≡ true))
 grown-cases true y z xs ys e m = elim (member-push_cases z y xs (sym (ap (member z) e) ∙ m)) [ inl k ↦ inl k | inr q ↦ inr (q, refl) ]
 grown-cases false y z xs ys e m = inl (sym (ap (member z) e) ∙ m)
 
@@ -217,7 +291,8 @@ loses-one level loss y old new o l =
       ];
       all_weak = λ z m c none. elim (member-cases z y [] m) [
         | inl e ↦
-            let none' : (member y old.weak.items || found) ≡ false = sym (grown-here found y old.weak.items new.weak.items k.weak) ∙ (ap (λ n. member n new.weak.items) (sym e) ∙ none) in
+            let none' : (member y old.weak.items || found) ≡ false =
+            sym (grown-here found y old.weak.items new.weak.items k.weak) ∙ (ap (λ n. member n new.weak.items) (sym e) ∙ none) in
             let out : member y old.weak.items ≡ false = grind (arith, none') in
             let missed : found ≡ false = grind (arith, none') in
             let h = k.missed missed (ap (is_candidate old) (sym e) ∙ c) (o.weak_marked y ∙ out) in
@@ -244,7 +319,13 @@ lose-orderly level loss y old new o l =
           );
       weak_once = grown-distinct found y old.weak.items new.weak.items k.weak o.weak_once (λ f. sym (o.weak_marked y) ∙ (k.was f).1);
       weak_marked = λ z. elim (cases_eq z y) [
-        | inl e ↦ ap (is_weak new) e ∙ (k.weak_here ∙ (ap (λ b. b || found) (o.weak_marked y) ∙ (sym (grown-here found y old.weak.items new.weak.items k.weak) ∙ ap (λ n. member n new.weak.items) (sym e))))
+        | inl e ↦
+            ap (is_weak new) e
+            ∙
+            (k.weak_here
+            ∙
+            (ap (λ b. b || found) (o.weak_marked y)
+            ∙ (sym (grown-here found y old.weak.items new.weak.items k.weak) ∙ ap (λ n. member n new.weak.items) (sym e))))
         | inr ne ↦ k.weak_others z ne ∙ (o.weak_marked z ∙ sym (member-grown_other found y z old.weak.items new.weak.items k.weak ne))
       ];
       weak_left = λ z m. ap (member z) same_left ∙ elim (grown-cases found y z old.weak.items new.weak.items k.weak m) [
@@ -253,7 +334,12 @@ lose-orderly level loss y old new o l =
       ];
       shifted =
           let (more, e) = grown-more found y old.weak.items new.weak.items k.weak in
-          ap firsts k.shifts ∙ (o.shifted ∙ (sym (take-append-le (length old.shifts.items) old.weak.items more (shifts-fit old o)) ∙ (ap (take (length old.shifts.items)) (sym e) ∙ ap (λ xs. take (length xs) new.weak.items) (sym k.shifts))));
+          ap firsts k.shifts
+          ∙
+          (o.shifted
+          ∙
+          (sym (take-append-le (length old.shifts.items) old.weak.items more (shifts-fit old o))
+          ∙ (ap (take (length old.shifts.items)) (sym e) ∙ ap (λ xs. take (length xs) new.weak.items) (sym k.shifts))));
       anchored = λ z m. ap (member z) same_left ∙ o.anchored z (sym (ap (λ xs. member z (seconds xs)) k.shifts) ∙ m);
     }
 
@@ -272,29 +358,40 @@ loses-none level loss r = record {
   shifts = refl;
 }
 
-same-loses_later : (loss : Loss) (old new : Rising) (z : ℕ) → is_candidate new z ≡ is_candidate old z → turn_at new z ≡ turn_at old z → loses_later loss new z ≡ loses_later loss old z
+same-loses_later : (loss : Loss) (old new : Rising) (z : ℕ) → is_candidate new z ≡ is_candidate old z → turn_at new z ≡ turn_at old z
+    → loses_later loss new z ≡ loses_later loss old z
 same-loses_later Settled old new z c t = c
 same-loses_later (Evicted turn) old new z c t = ap (λ b. b && ltb (turn_at new z) turn) c ∙ ap (λ n. is_candidate old z && ltb n turn) t
 
-same-loses_earlier : (loss : Loss) (old new : Rising) (z : ℕ) → is_candidate new z ≡ is_candidate old z → turn_at new z ≡ turn_at old z → loses_earlier loss new z ≡ loses_earlier loss old z
+same-loses_earlier : (loss : Loss) (old new : Rising) (z : ℕ) → is_candidate new z ≡ is_candidate old z → turn_at new z ≡ turn_at old z
+    → loses_earlier loss new z ≡ loses_earlier loss old z
 same-loses_earlier Settled old new z c t = refl
 same-loses_earlier (Evicted turn) old new z c t = ap not (ap (λ b. b && ltb (turn_at new z) turn) c ∙ ap (λ n. is_candidate old z && ltb n turn) t)
 
-loses_more : (c b a : ℕ) (mx m e n n' : Bool) → b ≡ a - cond (m && n) 1 0 → c ≡ b - cond ((e || false) && n') 1 0 → n' ≡ n → mx ≡ (m || e) → (e ≡ true → m ≡ false) → c ≡ a - cond (mx && n) 1 0
+loses_more : (c b a : ℕ) (mx m e n n' : Bool) → b ≡ a - cond (m && n) 1 0 → c ≡ b - cond ((e || false) && n') 1 0 → n' ≡ n → mx ≡ (m || e)
+    → (e ≡ true → m ≡ false) → c ≡ a - cond (mx && n) 1 0
 loses_more c b a mx m e n n' h k same q apart = grind arith
 
 kept_one : (c b : ℕ) (e n : Bool) → c ≡ b - cond ((e || false) && n) 1 0 → e ≡ false → c ≡ b
 kept_one c b e n h k = grind arith
 
 -- one neighbour more has lost what it loses
-pub loses-more : (level : ℕ) (loss : Loss) (y : ℕ) (ws : List ℕ) (old mid new : Rising) → Loses level loss ws old mid → Loses level loss (y ∷ []) mid new → member y ws ≡ false → Loses level loss (ws ++ y ∷ []) old new
+pub loses-more : (level : ℕ) (loss : Loss) (y : ℕ) (ws : List ℕ) (old mid new : Rising) → Loses level loss ws old mid
+    → Loses level loss (y ∷ []) mid new → member y ws ≡ false → Loses level loss (ws ++ y ∷ []) old new
 loses-more level loss y ws old mid new d e new' =
     let apart : (z : ℕ) → eqb z y ≡ true → member z ws ≡ false = λ z q. ap (λ n. member n ws) (eqb-true z y q) ∙ new' in
-    let grows : (z : ℕ) → member z mid.weak.items ≡ true → member z new.weak.items ≡ true = λ z m. ap (member z) e.more.1 ∙ member-append_left z mid.weak.items e.more.0 m in
+    let grows : (z : ℕ) → member z mid.weak.items ≡ true → member z new.weak.items ≡ true =
+    λ z m. ap (member z) e.more.1 ∙ member-append_left z mid.weak.items e.more.0 m in
     record {
-      earlier = λ z. loses_more (earlier_at new z) (earlier_at mid z) (earlier_at old z) (member z (ws ++ y ∷ [])) (member z ws) (eqb z y) (loses_earlier loss old z) (loses_earlier loss mid z)
+      earlier =
+          λ z.
+          loses_more (earlier_at new z) (earlier_at mid z) (earlier_at old z) (member z (ws ++ y ∷ [])) (member z ws) (eqb z y)
+          (loses_earlier loss old z) (loses_earlier loss mid z)
           (d.earlier z) (e.earlier z) (same-loses_earlier loss old mid z (d.candidates z) (d.turns z)) (member-push z y ws) (apart z);
-      later = λ z. loses_more (later_at new z) (later_at mid z) (later_at old z) (member z (ws ++ y ∷ [])) (member z ws) (eqb z y) (loses_later loss old z) (loses_later loss mid z)
+      later =
+          λ z.
+          loses_more (later_at new z) (later_at mid z) (later_at old z) (member z (ws ++ y ∷ [])) (member z ws) (eqb z y)
+          (loses_later loss old z) (loses_later loss mid z)
           (d.later z) (e.later z) (same-loses_later loss old mid z (d.candidates z) (d.turns z)) (member-push z y ws) (apart z);
       turns = λ z. e.turns z ∙ d.turns z;
       candidates = λ z. e.candidates z ∙ d.candidates z;

@@ -1,5 +1,6 @@
 -- Lists in the order of a rank, and a number put in at its place.
-use Rattle.std.proofs.Common.{◌≡◌, ◌≢◌, ◌≤◌, ◌<◌, ◌&&◌, ◌||◌, ℕ, suc, zero, Bool, true, false, not, List, [], ◌∷◌, length, take, drop, get_or, eqb, refl, sym, ◌∙◌, ap, inl, inr, arith, true≢false, eqb-true, eq-eqb, ne_eqb}
+use Rattle.std.proofs.Common.{◌≡◌, ◌≢◌, ◌≤◌, ◌<◌, ◌&&◌, ◌||◌, ℕ, suc, zero, Bool, true, false, not, List, [], ◌∷◌, length, take, drop, get_or, eqb}
+use Rattle.std.proofs.Common.{refl, sym, ◌∙◌, ap, inl, inr, arith, true≢false, eqb-true, eq-eqb, ne_eqb}
 use Rattle.std.specs.List.{insert}
 use Rattle.std.proofs.lemmas.Bool.{cases_eq, or_cases, false_from_ne_true}
 use Rattle.std.proofs.Math.Bool.{or_assoc}
@@ -47,7 +48,8 @@ inserted-front [] (suc n) i y le l = absurd (omega arith)
 inserted-front (x ∷ xs) (suc n) zero y le l = absurd (omega arith)
 inserted-front (x ∷ xs) (suc n) (suc i) y le l = ap (λ ys. x ∷ ys) (inserted-front xs n i y (omega arith) (omega arith))
 
-pub inserted-ascends : (r : ℕ → ℕ) (xs : List ℕ) (i y : ℕ) → AscendsBy r xs → i ≤ length xs → ((k : ℕ) → k < i → r (get_or xs k 0) < r y) → ((k : ℕ) → i ≤ k → k < length xs → r y ≤ r (get_or xs k 0))
+pub inserted-ascends : (r : ℕ → ℕ) (xs : List ℕ) (i y : ℕ) → AscendsBy r xs → i ≤ length xs → ((k : ℕ) → k < i → r (get_or xs k 0) < r y)
+    → ((k : ℕ) → i ≤ k → k < length xs → r y ≤ r (get_or xs k 0))
     → ((z : ℕ) → member z xs ≡ true → r z ≢ r y) → AscendsBy r (insert xs i y)
 inserted-ascends r xs zero y a l before behind apart = (
   λ z m. let h = rank-here z xs m in
@@ -61,7 +63,8 @@ inserted-ascends r (x ∷ xs) (suc i) y a l before behind apart = (
     | inl k ↦ a.0 z k
     | inr e ↦ let lt : r x < r y = before 0 (omega arith) in omega (arith, lt, ap r (eqb-true z y e))
   ],
-  inserted-ascends r xs i y a.1 (omega arith) (λ k lt. before (suc k) (omega arith)) (λ k le lk. behind (suc k) (omega arith) (omega arith)) (λ z m. apart z (member-tail z x xs m)),
+  inserted-ascends r xs i y a.1 (omega arith) (λ k lt. before (suc k) (omega arith)) (λ k le lk. behind (suc k) (omega arith) (omega arith))
+      (λ z m. apart z (member-tail z x xs m)),
 )
 
 and-yes : (a : Bool) → a ≡ (a && not false)

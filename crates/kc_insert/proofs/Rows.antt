@@ -15,7 +15,11 @@ ends-differ : (update : Update) → update.u ≢ update.v
 ends-differ update e = let l : update.u < update.v = update.ordered in absurd (omega (arith, e))
 
 -- a row has the neighbours of its vertex
-pub row-is : (a : Answers) (s : Ranked) (update : Update) (w : ℕ) (row : List ℕ) → Agrees a s → has_list a w ≡ true → ((y : ℕ) → member y row ≡ (member y (list_of a w) || is_added update w y))
+pub row-is : (a : Answers) (s : Ranked) (update : Update) (w : ℕ) (row : List ℕ) → Agrees a s → has_list a w ≡ true
+    → ((y : ℕ) → member y row ≡ (member y (list_of a w) || is_added update w y))
     → (y : ℕ) → y < s.graph.size → member y row ≡ adjacent (with_edge s.graph update.u update.v) w y
 row-is a s update w row g h is y l =
-    is y ∙ (ap (λ b. b || is_added update w y) (ap (member y) (list-true a s w g h).1 ∙ neighbours_has s.graph w y l) ∙ sym (adjacent-with s.graph update.u update.v w y (ends-differ update)))
+    is y
+    ∙
+    (ap (λ b. b || is_added update w y) (ap (member y) (list-true a s w g h).1 ∙ neighbours_has s.graph w y l)
+    ∙ sym (adjacent-with s.graph update.u update.v w y (ends-differ update)))

@@ -1,5 +1,6 @@
 -- Each step of the search keeps what is known.
-use Rattle.std.proofs.Common.{◌≡◌, ◌≢◌, ◌≤◌, ◌<◌, ◌+◌, ◌-◌, ℕ, Bool, true, false, ◌&&◌, ◌||◌, List, [], ◌∷◌, eqb, ltb, leb, refl, sym, ◌∙◌, ap, subst, inl, inr, arith, true≢false, eq-eqb, ne_eqb, lt_irrefl, lt-ltb, le-leb, le_of_eq, le_of_lt}
+use Rattle.std.proofs.Common.{◌≡◌, ◌≢◌, ◌≤◌, ◌<◌, ◌+◌, ◌-◌, ℕ, Bool, true, false, ◌&&◌, ◌||◌, List, [], ◌∷◌, eqb, ltb, leb, refl, sym, ◌∙◌, ap, subst}
+use Rattle.std.proofs.Common.{inl, inr, arith, true≢false, eq-eqb, ne_eqb, lt_irrefl, lt-ltb, le-leb, le_of_eq, le_of_lt}
 use Rattle.std.proofs.lemmas.Bool.{cases_Bool, cases_eq, cases_lt, cases_order, false≢true, and_parts, and_from, or_cases, or_left, or_right, or_from}
 use Rattle.kc_distinct.specs.Lists.{member, below}
 use Rattle.kc_distinct.proofs.Members.{member-head, member-tail, member-cases}
@@ -10,9 +11,12 @@ use Rattle.kc_cert.proofs.Sums.{one_if, count-none}
 use Rattle.kc_cert.proofs.Placing.{moved-itself, moved-other}
 use Rattle.kc_view.specs.Search.{Search, among, on_level, above, after, OnLevel}
 use Rattle.kc_view.proofs.Among.{among-agree, among-one, among-some, among-sum}
-use Rattle.kc_insert.specs.Searching.{ahead, coming, holding, behind, Widened, Searching, AllStrong, WeakListed, Adds, Drops, Raised, Settled, Evicted, Relisted}
+use Rattle.kc_insert.specs.Searching.{ahead, coming, holding, behind, Widened, Searching, AllStrong, WeakListed, Adds, Drops, Raised, Settled}
+use Rattle.kc_insert.specs.Searching.{Evicted, Relisted}
 
-ahead-later-at : (s : Search) (root : ℕ) → Widened s root → (z : ℕ) → OnLevel s z → (y : ℕ) → y < s.size → (s.core z < s.core y → s.rank z < s.rank y) → (s.core y < s.core z → s.rank y < s.rank z) → (above s y || (on_level s y && after s z y)) ≡ after s z y
+ahead-later-at : (s : Search) (root : ℕ) → Widened s root → (z : ℕ) → OnLevel s z → (y : ℕ) → y < s.size
+    → (s.core z < s.core y → s.rank z < s.rank y) → (s.core y < s.core z → s.rank y < s.rank z)
+    → (above s y || (on_level s y && after s z y)) ≡ after s z y
 ahead-later-at s root c z o y l up down = grind (arith, o.level)
 
 -- a later neighbour or one of a greater core number
@@ -30,7 +34,8 @@ no_candidates : (s : Search) (x : ℕ) → coming s [] x ≡ 0
 no_candidates s x = count-none (λ y. s.adj x y && (member y [] && after s y x)) (below s.size) (λ y _. and-no (s.adj x y))
 
 -- before the first turn
-pub start : (s : Search) (root : ℕ) → Widened s root → (earlier later : ℕ → ℕ) → ((x : ℕ) → earlier x ≡ 0) → Searching s root [] (root ∷ []) (s.rank root) earlier later s.rank
+pub start : (s : Search) (root : ℕ) → Widened s root → (earlier later : ℕ → ℕ) → ((x : ℕ) → earlier x ≡ 0)
+    → Searching s root [] (root ∷ []) (s.rank root) earlier later s.rank
 start s root c earlier later none = record {
   cand_level = λ x m. absurd (false≢true m);
   cand_passed = λ x m. absurd (false≢true m);
@@ -64,33 +69,44 @@ abbrev pub behind_at : Search → List ℕ → (ℕ → ℕ) → ℕ → ℕ →
 behind_at s cands place z y = above s y || (on_level s y && (member y cands || ltb (place z) (place y)))
 
 -- the candidates of two lists, where these differ at most at one vertex that does not count
-coming-same : (s : Search) (cands cands' : List ℕ) (w z : ℕ) → ((y : ℕ) → y ≢ w → member y cands' ≡ member y cands) → s.rank z ≤ s.rank w → coming s cands' z ≡ coming s cands z
+coming-same : (s : Search) (cands cands' : List ℕ) (w z : ℕ) → ((y : ℕ) → y ≢ w → member y cands' ≡ member y cands) → s.rank z ≤ s.rank w
+    → coming s cands' z ≡ coming s cands z
 coming-same s cands cands' w z same le = among-agree s z (coming_at s cands' z) (coming_at s cands z)
-    (λ y l a. elim (cases_eq y w) [ inl e ↦ let up : s.rank z ≤ s.rank y = grind (arith, e) in grind (arith, up) | inr ne ↦ ap (λ b. b && after s y z) (same y ne) ])
+    (λ y l a.
+    elim (cases_eq y w)
+    [ inl e ↦ let up : s.rank z ≤ s.rank y = grind (arith, e) in grind (arith, up) | inr ne ↦ ap (λ b. b && after s y z) (same y ne) ])
 
 -- one candidate more before `z`
-coming-one : (s : Search) (fewer more : List ℕ) (w z : ℕ) → w < s.size → ((y : ℕ) → y ≢ w → member y more ≡ member y fewer) → member w more ≡ true → member w fewer ≡ false → s.rank w < s.rank z
+coming-one : (s : Search) (fewer more : List ℕ) (w z : ℕ) → w < s.size → ((y : ℕ) → y ≢ w → member y more ≡ member y fewer)
+    → member w more ≡ true → member w fewer ≡ false → s.rank w < s.rank z
     → coming s more z ≡ coming s fewer z + one_if (s.adj z w)
-coming-one s fewer more w z lw same there not_there lt = among-one s z w (coming_at s more z) (coming_at s fewer z) lw (grind (arith, not_there)) (grind (arith, there))
+coming-one s fewer more w z lw same there not_there lt =
+    among-one s z w (coming_at s more z) (coming_at s fewer z) lw (grind (arith, not_there)) (grind (arith, there))
     (λ y l a ne. ap (λ b. b && after s y z) (same y ne))
 
 -- The first of the queue is a vertex of the level that has not been passed and is no candidate.
-head_level : (s : Search) (root : ℕ) (cands queue : List ℕ) (w frontier : ℕ) (earlier later place : ℕ → ℕ) → Searching s root cands (w ∷ queue) frontier earlier later place → OnLevel s w
+head_level : (s : Search) (root : ℕ) (cands queue : List ℕ) (w frontier : ℕ) (earlier later place : ℕ → ℕ)
+    → Searching s root cands (w ∷ queue) frontier earlier later place → OnLevel s w
 head_level s root cands queue w frontier earlier later place h = h.queue_level w (member-head w queue)
 
-head_open : (s : Search) (root : ℕ) (cands queue : List ℕ) (w frontier : ℕ) (earlier later place : ℕ → ℕ) → Searching s root cands (w ∷ queue) frontier earlier later place → frontier ≤ s.rank w
+head_open : (s : Search) (root : ℕ) (cands queue : List ℕ) (w frontier : ℕ) (earlier later place : ℕ → ℕ)
+    → Searching s root cands (w ∷ queue) frontier earlier later place → frontier ≤ s.rank w
 head_open s root cands queue w frontier earlier later place h = h.queue_open w (member-head w queue)
 
-head_new : (s : Search) (root : ℕ) (cands queue : List ℕ) (w frontier : ℕ) (earlier later place : ℕ → ℕ) → Searching s root cands (w ∷ queue) frontier earlier later place → member w cands ≡ false
+head_new : (s : Search) (root : ℕ) (cands queue : List ℕ) (w frontier : ℕ) (earlier later place : ℕ → ℕ)
+    → Searching s root cands (w ∷ queue) frontier earlier later place → member w cands ≡ false
 head_new s root cands queue w frontier earlier later place h =
-    elim (cases_Bool (member w cands)) [ inl m ↦ absurd (omega (arith, h.cand_passed w m, head_open s root cands queue w frontier earlier later place h)) | inr n ↦ n ]
+    elim (cases_Bool (member w cands))
+    [ inl m ↦ absurd (omega (arith, h.cand_passed w m, head_open s root cands queue w frontier earlier later place h)) | inr n ↦ n ]
 
 -- A later neighbour of a candidate that has not been passed is not before the first of the queue.
-gap : (s : Search) (root : ℕ) (cands queue : List ℕ) (w frontier : ℕ) (earlier later place : ℕ → ℕ) → Searching s root cands (w ∷ queue) frontier earlier later place
+gap : (s : Search) (root : ℕ) (cands queue : List ℕ) (w frontier : ℕ) (earlier later place : ℕ → ℕ)
+    → Searching s root cands (w ∷ queue) frontier earlier later place
     → (x y : ℕ) → member x cands ≡ true → OnLevel s y → s.adj x y ≡ true → frontier ≤ s.rank y → y ≢ w → s.rank w < s.rank y
 gap s root cands queue w frontier earlier later place h x y m o a open' ne = h.queue_ascends.0 y (member-other y w queue ne (h.queued x y m o a open'))
 
-pub skipped_at : (s : Search) (root : ℕ) (cands queue : List ℕ) (frontier : ℕ) (earlier later place : ℕ → ℕ) → Widened s root → Searching s root cands queue frontier earlier later place
+pub skipped_at : (s : Search) (root : ℕ) (cands queue : List ℕ) (frontier : ℕ) (earlier later place : ℕ → ℕ) → Widened s root
+    → Searching s root cands queue frontier earlier later place
     → (z y : ℕ) → OnLevel s z → OnLevel s y → frontier ≤ s.rank z → member y cands ≡ false → ltb (place z) (place y) ≡ ltb (s.rank z) (s.rank y)
 skipped_at s root cands queue frontier earlier later place c h z y oz oy open' none =
     elim (cases_lt (s.rank y) frontier) [
@@ -103,7 +119,8 @@ skipped_at s root cands queue frontier earlier later place c h z y oz oy open' n
     ]
 
 -- In the order of ranks, a vertex that is left behind without being queued has no candidate for a neighbour.
-skipped : (s : Search) (root : ℕ) (cands queue : List ℕ) (w frontier : ℕ) (earlier later place : ℕ → ℕ) → Widened s root → Searching s root cands (w ∷ queue) frontier earlier later place
+skipped : (s : Search) (root : ℕ) (cands queue : List ℕ) (w frontier : ℕ) (earlier later place : ℕ → ℕ) → Widened s root
+    → Searching s root cands (w ∷ queue) frontier earlier later place
     → (z : ℕ) → OnLevel s z → frontier ≤ s.rank z → s.rank z < s.rank w → behind s cands place z ≡ ahead s z
 skipped s root cands queue w frontier earlier later place c h z o open' lt =
     among-agree s z (behind_at s cands place z) (λ y. above s y || (on_level s y && after s z y)) (λ y l a.
@@ -116,16 +133,19 @@ skipped s root cands queue w frontier earlier later place c h z o open' lt =
                 absurd (omega (arith, gap s root cands queue w frontier earlier later place h y z m o (c.symmetric y z ∙ a) open' ne))
             | inr n ↦ n
           ] in
-          let same : ltb (place z) (place y) ≡ ltb (s.rank z) (s.rank y) = skipped_at s root cands (w ∷ queue) frontier earlier later place c h z y o oy open' none in
+          let same : ltb (place z) (place y) ≡ ltb (s.rank z) (s.rank y) =
+          skipped_at s root cands (w ∷ queue) frontier earlier later place c h z y o oy open' none in
           grind (arith, none, same)
       | inr ne ↦ grind (arith, ne)
     ])
 
-holding-raised_at : (a l lt m' m : Bool) (rw' f ry : ℕ) → m' ≡ m → (f ≤ ry → rw' < ry) → f ≤ rw' → (a || (l && (lt && (m' || leb (rw' + 1) ry)))) ≡ (a || (l && (lt && (m || leb f ry))))
+holding-raised_at : (a l lt m' m : Bool) (rw' f ry : ℕ) → m' ≡ m → (f ≤ ry → rw' < ry) → f ≤ rw'
+    → (a || (l && (lt && (m' || leb (rw' + 1) ry)))) ≡ (a || (l && (lt && (m || leb f ry))))
 holding-raised_at a l lt m' m rw' f ry same up open' = grind arith
 
 -- how the counts of candidates change when the first of the queue becomes one
-holding-raised : (s : Search) (root : ℕ) (cands queue : List ℕ) (w frontier : ℕ) (earlier later place : ℕ → ℕ) → Widened s root → Searching s root cands (w ∷ queue) frontier earlier later place
+holding-raised : (s : Search) (root : ℕ) (cands queue : List ℕ) (w frontier : ℕ) (earlier later place : ℕ → ℕ) → Widened s root
+    → Searching s root cands (w ∷ queue) frontier earlier later place
     → (cands' : List ℕ) → Adds cands w cands' → (x : ℕ) → member x cands ≡ true → holding s cands' (s.rank w + 1) x ≡ holding s cands frontier x
 holding-raised s root cands queue w frontier earlier later place c h cands' add x m =
     among-agree s x (holding_at s cands' (s.rank w + 1) x) (holding_at s cands frontier x) (λ y l a.
@@ -138,7 +158,8 @@ holding-raised s root cands queue w frontier earlier later place c h cands' add 
           let same : member y cands' ≡ member y cands = add.others y ne in
           elim (cases_eq (s.core y) s.level) [
             | inl lvl ↦
-                let up : frontier ≤ s.rank y → s.rank w < s.rank y = λ o. gap s root cands queue w frontier earlier later place h x y m (record { here = l; level = lvl }) a o ne in
+                let up : frontier ≤ s.rank y → s.rank w < s.rank y =
+                λ o. gap s root cands queue w frontier earlier later place h x y m (record { here = l; level = lvl }) a o ne in
                 let open' : frontier ≤ s.rank w = head_open s root cands queue w frontier earlier later place h in
                 holding-raised_at (above s y) (on_level s y) (after s x y) (member y cands') (member y cands) (s.rank w) frontier (s.rank y) same up open'
             | inr off ↦ grind (arith, off)
@@ -146,7 +167,8 @@ holding-raised s root cands queue w frontier earlier later place c h cands' add 
     ])
 
 -- a vertex that is left behind has the same neighbours behind it
-behind-raised : (s : Search) (cands cands' : List ℕ) (w : ℕ) (place : ℕ → ℕ) → OnLevel s w → Adds cands w cands' → (z : ℕ) → place z < place w → behind s cands' place z ≡ behind s cands place z
+behind-raised : (s : Search) (cands cands' : List ℕ) (w : ℕ) (place : ℕ → ℕ) → OnLevel s w → Adds cands w cands' → (z : ℕ)
+    → place z < place w → behind s cands' place z ≡ behind s cands place z
 behind-raised s cands cands' w place ow add z lt =
     among-agree s z (behind_at s cands' place z) (behind_at s cands place z) (λ y l a.
     elim (cases_eq y w) [
@@ -155,7 +177,8 @@ behind-raised s cands cands' w place ow add z lt =
     ])
 
 -- one that is left behind has few neighbours behind it
-skipped_done : (s : Search) (root : ℕ) (cands queue : List ℕ) (w frontier : ℕ) (earlier later place : ℕ → ℕ) → Widened s root → Searching s root cands (w ∷ queue) frontier earlier later place
+skipped_done : (s : Search) (root : ℕ) (cands queue : List ℕ) (w frontier : ℕ) (earlier later place : ℕ → ℕ) → Widened s root
+    → Searching s root cands (w ∷ queue) frontier earlier later place
     → (z : ℕ) → OnLevel s z → z ≢ w → s.rank z < s.rank w + 1 → member z cands ≡ false → behind s cands place z ≤ s.level
 skipped_done s root cands queue w frontier earlier later place c h z o ne le none =
     let ow : OnLevel s w = head_level s root cands queue w frontier earlier later place h in
@@ -164,13 +187,17 @@ skipped_done s root cands queue w frontier earlier later place c h z o ne le non
       | inr open' ↦
           let apart : s.rank z ≢ s.rank w = λ e. ne (c.apart z w o.here ow.here e) in
           let lt : s.rank z < s.rank w = omega (arith, apart, le) in
-          let not_root : z ≢ root = λ e. let q : member z (w ∷ queue) ≡ true = ap (λ k. member k (w ∷ queue)) e ∙ h.root_queued (subst (λ (k : ℕ). frontier ≤ s.rank k) e open') in
+          let not_root : z ≢ root =
+          λ e.
+          let q : member z (w ∷ queue) ≡ true =
+          ap (λ k. member k (w ∷ queue)) e ∙ h.root_queued (subst (λ (k : ℕ). frontier ≤ s.rank k) e open') in
           absurd (omega (arith, lt, h.queue_ascends.0 z (member-other z w queue ne q))) in
           omega (arith, skipped s root cands queue w frontier earlier later place c h z o open' lt, ahead-later s root c z o, c.few z o.here not_root, o.level)
     ]
 
 -- one that is left behind stands before the first of the queue
-skipped_before : (s : Search) (root : ℕ) (cands queue : List ℕ) (w frontier : ℕ) (earlier later place : ℕ → ℕ) → Widened s root → Searching s root cands (w ∷ queue) frontier earlier later place
+skipped_before : (s : Search) (root : ℕ) (cands queue : List ℕ) (w frontier : ℕ) (earlier later place : ℕ → ℕ) → Widened s root
+    → Searching s root cands (w ∷ queue) frontier earlier later place
     → (z : ℕ) → OnLevel s z → z ≢ w → s.rank z < s.rank w + 1 → member z cands ≡ false → place z < place w
 skipped_before s root cands queue w frontier earlier later place c h z o ne le none =
     let ow : OnLevel s w = head_level s root cands queue w frontier earlier later place h in
@@ -183,7 +210,8 @@ skipped_before s root cands queue w frontier earlier later place c h z o ne le n
     ]
 
 -- one that is left behind, or the first of the queue, stands before those after it
-skipped_first : (s : Search) (root : ℕ) (cands queue : List ℕ) (w frontier : ℕ) (earlier later place : ℕ → ℕ) → Searching s root cands (w ∷ queue) frontier earlier later place
+skipped_first : (s : Search) (root : ℕ) (cands queue : List ℕ) (w frontier : ℕ) (earlier later place : ℕ → ℕ)
+    → Searching s root cands (w ∷ queue) frontier earlier later place
     → (y z : ℕ) → OnLevel s y → OnLevel s z → s.rank y < s.rank w + 1 → member y cands ≡ false → s.rank w + 1 ≤ s.rank z → place y < place z
 skipped_first s root cands queue w frontier earlier later place h y z oy oz le none pz =
     let w_open : frontier ≤ s.rank w = head_open s root cands queue w frontier earlier later place h in
@@ -193,7 +221,8 @@ skipped_first s root cands queue w frontier earlier later place h y z oy oz le n
     ]
 
 -- the root is queued until it is passed
-root_still : (s : Search) (root : ℕ) (cands queue : List ℕ) (w frontier : ℕ) (earlier later place : ℕ → ℕ) → Searching s root cands (w ∷ queue) frontier earlier later place
+root_still : (s : Search) (root : ℕ) (cands queue : List ℕ) (w frontier : ℕ) (earlier later place : ℕ → ℕ)
+    → Searching s root cands (w ∷ queue) frontier earlier later place
     → s.rank w + 1 ≤ s.rank root → member root queue ≡ true
 root_still s root cands queue w frontier earlier later place h le =
     let w_open : frontier ≤ s.rank w = head_open s root cands queue w frontier earlier later place h in
@@ -204,7 +233,8 @@ not_after : (a : Bool) (n : ℕ) → one_if (a && ltb n n) ≡ 0
 not_after a n = grind arith
 
 -- the first of the queue becomes a candidate
-pub raise : (s : Search) (root : ℕ) (cands queue : List ℕ) (w frontier : ℕ) (earlier later place : ℕ → ℕ) → Widened s root → Searching s root cands (w ∷ queue) frontier earlier later place → AllStrong s cands earlier later
+pub raise : (s : Search) (root : ℕ) (cands queue : List ℕ) (w frontier : ℕ) (earlier later place : ℕ → ℕ) → Widened s root
+    → Searching s root cands (w ∷ queue) frontier earlier later place → AllStrong s cands earlier later
     → (cands' queue' : List ℕ) (earlier' later' : ℕ → ℕ) → Raised s cands w queue earlier later cands' queue' earlier' later'
     → Searching s root cands' queue' (s.rank w + 1) earlier' later' place × AllStrong s cands' earlier' later'
 raise s root cands queue w frontier earlier later place c h strong cands' queue' earlier' later' r =
@@ -216,9 +246,11 @@ raise s root cands queue w frontier earlier later place c h strong cands' queue'
     elim (cases_eq x w) [
       | inl e ↦
           let le : s.rank x ≤ s.rank w = grind (arith, e) in
-          let more : earlier' x ≡ earlier x + one_if (s.adj w x && after s w x) = r.more x (record { here = grind (arith, e, ow.here); level = ap s.core e ∙ ow.level }) in
+          let more : earlier' x ≡ earlier x + one_if (s.adj w x && after s w x) =
+          r.more x (record { here = grind (arith, e, ow.here); level = ap s.core e ∙ ow.level }) in
           let none : one_if (s.adj w x && after s w x) ≡ 0 = grind (arith, le) in
-          let was : earlier x ≡ coming s cands x = h.earlier_of_open x (record { here = grind (arith, e, ow.here); level = ap s.core e ∙ ow.level }) (grind (arith, e, w_open)) in
+          let was : earlier x ≡ coming s cands x =
+          h.earlier_of_open x (record { here = grind (arith, e, ow.here); level = ap s.core e ∙ ow.level }) (grind (arith, e, w_open)) in
           omega (arith, more, none, was, coming-same s cands cands' w x r.added.others le)
       | inr ne ↦
           let m' : member x cands ≡ true = old x m ne in
@@ -230,7 +262,9 @@ raise s root cands queue w frontier earlier later place c h strong cands' queue'
     let later_of_cand : (x : ℕ) → member x cands' ≡ true → later' x ≡ holding s cands' (s.rank w + 1) x = λ x m.
     elim (cases_eq x w) [
       | inl e ↦
-          let all : holding s cands' (s.rank w + 1) x ≡ ahead s x = among-agree s x (holding_at s cands' (s.rank w + 1) x) (λ y. above s y || (on_level s y && after s x y)) (λ y l a. let k : s.rank x ≡ s.rank w = ap s.rank e in grind (arith, k)) in
+          let all : holding s cands' (s.rank w + 1) x ≡ ahead s x =
+          among-agree s x (holding_at s cands' (s.rank w + 1) x) (λ y. above s y || (on_level s y && after s x y))
+          (λ y l a. let k : s.rank x ≡ s.rank w = ap s.rank e in grind (arith, k)) in
           let n : later' x ≡ ahead s x = ap later' e ∙ (r.counted ∙ ap (ahead s) (sym e)) in
           omega (arith, n, all)
       | inr ne ↦
@@ -238,13 +272,21 @@ raise s root cands queue w frontier earlier later place c h strong cands' queue'
           omega (arith, r.later_kept x m', h.later_of_cand x m', holding-raised s root cands queue w frontier earlier later place c h cands' r.added x m')
     ] in (
       record {
-        cand_level = λ x m. elim (cases_eq x w) [ inl e ↦ record { here = grind (arith, e, ow.here); level = ap s.core e ∙ ow.level } | inr ne ↦ h.cand_level x (old x m ne) ];
+        cand_level =
+            λ x m.
+            elim (cases_eq x w) [
+              | inl e ↦ record { here = grind (arith, e, ow.here); level = ap s.core e ∙ ow.level }
+              | inr ne ↦ h.cand_level x (old x m ne)
+            ];
         cand_passed = λ x m. elim (cases_eq x w) [ inl e ↦ grind (arith, e) | inr ne ↦ omega (arith, h.cand_passed x (old x m ne)) ];
         queue_level = r.queue_level;
         queue_open = λ x m. let k = or_cases (member x queue) (s.adj w x && after s w x) (sym (r.queue_from x (r.queue_level x m)) ∙ m) in
             elim k [ inl q ↦ omega (arith, h.queue_ascends.0 x q) | inr a ↦ let b = and_parts (s.adj w x) (after s w x) a in grind (arith, b.1) ];
         queue_ascends = r.queue_ascends;
-        root_queued = λ le. r.queue_from root (record { here = c.root_here; level = c.root_level }) ∙ or_left (member root queue) _ (root_still s root cands queue w frontier earlier later place h le);
+        root_queued =
+            λ le.
+            r.queue_from root (record { here = c.root_here; level = c.root_level })
+            ∙ or_left (member root queue) _ (root_still s root cands queue w frontier earlier later place h le);
         queued = λ x y m oy a le. r.queue_from y oy ∙ elim (cases_eq x w) [
           | inl e ↦
               let a' : s.adj w y ≡ true = ap (λ k. s.adj k y) (sym e) ∙ a in
@@ -293,7 +335,8 @@ raise s root cands queue w frontier earlier later place c h strong cands' queue'
     )
 
 -- what is behind the first of the queue once it is settled
-behind-settled : (s : Search) (root : ℕ) (cands queue : List ℕ) (w frontier : ℕ) (earlier later place : ℕ → ℕ) → Widened s root → Searching s root cands (w ∷ queue) frontier earlier later place
+behind-settled : (s : Search) (root : ℕ) (cands queue : List ℕ) (w frontier : ℕ) (earlier later place : ℕ → ℕ) → Widened s root
+    → Searching s root cands (w ∷ queue) frontier earlier later place
     → behind s cands place w ≡ coming s cands w + ahead s w
 behind-settled s root cands queue w frontier earlier later place c h =
     let ow : OnLevel s w = head_level s root cands queue w frontier earlier later place h in
@@ -305,7 +348,8 @@ behind-settled s root cands queue w frontier earlier later place c h =
           elim (cases_Bool (member y cands)) [
             | inl m ↦ let lt : s.rank y < s.rank w = omega (arith, h.cand_passed y m) in grind (arith, m, lvl, lt)
             | inr none ↦
-                let same : ltb (place w) (place y) ≡ ltb (s.rank w) (s.rank y) = skipped_at s root cands (w ∷ queue) frontier earlier later place c h w y ow oy w_open none in
+                let same : ltb (place w) (place y) ≡ ltb (s.rank w) (s.rank y) =
+                skipped_at s root cands (w ∷ queue) frontier earlier later place c h w y ow oy w_open none in
                 grind (arith, none, lvl, same)
           ]
       | inr ne ↦
@@ -314,23 +358,30 @@ behind-settled s root cands queue w frontier earlier later place c h =
     ])
 
 -- how the counts of candidates change when the first of the queue is settled
-holding-settled : (s : Search) (root : ℕ) (cands queue : List ℕ) (w frontier : ℕ) (earlier later place : ℕ → ℕ) → Widened s root → Searching s root cands (w ∷ queue) frontier earlier later place
+holding-settled : (s : Search) (root : ℕ) (cands queue : List ℕ) (w frontier : ℕ) (earlier later place : ℕ → ℕ) → Widened s root
+    → Searching s root cands (w ∷ queue) frontier earlier later place
     → (x : ℕ) → member x cands ≡ true → holding s cands frontier x ≡ holding s cands (s.rank w + 1) x + one_if (s.adj x w)
 holding-settled s root cands queue w frontier earlier later place c h x m =
     let ow : OnLevel s w = head_level s root cands queue w frontier earlier later place h in
     let w_open : frontier ≤ s.rank w = head_open s root cands queue w frontier earlier later place h in
     let w_new : member w cands ≡ false = head_new s root cands queue w frontier earlier later place h in
     let lt : s.rank x < s.rank w = omega (arith, h.cand_passed x m) in
-    among-one s x w (holding_at s cands frontier x) (holding_at s cands (s.rank w + 1) x) ow.here (grind (arith, w_new, ow.level)) (grind (arith, w_open, lt, ow.level)) (λ y l a ne.
+    among-one s x w (holding_at s cands frontier x) (holding_at s cands (s.rank w + 1) x) ow.here (grind (
+      arith,
+      w_new,
+      ow.level,
+    )) (grind (arith, w_open, lt, ow.level)) (λ y l a ne.
     elim (cases_eq (s.core y) s.level) [
       | inl lvl ↦
-          let up : frontier ≤ s.rank y → s.rank w < s.rank y = λ o. gap s root cands queue w frontier earlier later place h x y m (record { here = l; level = lvl }) a o ne in
+          let up : frontier ≤ s.rank y → s.rank w < s.rank y =
+          λ o. gap s root cands queue w frontier earlier later place h x y m (record { here = l; level = lvl }) a o ne in
           sym (holding-raised_at (above s y) (on_level s y) (after s x y) (member y cands) (member y cands) (s.rank w) frontier (s.rank y) refl up w_open)
       | inr off ↦ grind (arith, off)
     ])
 
 -- the first of the queue leaves it without becoming a candidate
-leave : (s : Search) (root : ℕ) (cands queue : List ℕ) (w frontier : ℕ) (earlier later place : ℕ → ℕ) → Widened s root → Searching s root cands (w ∷ queue) frontier earlier later place
+leave : (s : Search) (root : ℕ) (cands queue : List ℕ) (w frontier : ℕ) (earlier later place : ℕ → ℕ) → Widened s root
+    → Searching s root cands (w ∷ queue) frontier earlier later place
     → (earlier' later' : ℕ → ℕ) → Settled s cands w earlier later earlier' later' → Searching s root cands queue (s.rank w + 1) earlier' later' place
 leave s root cands queue w frontier earlier later place c h earlier' later' r =
     let ow : OnLevel s w = head_level s root cands queue w frontier earlier later place h in
@@ -369,7 +420,8 @@ leave s root cands queue w frontier earlier later place c h earlier' later' r =
     }
 
 -- the first of the queue is settled
-pub settle : (s : Search) (root : ℕ) (cands queue : List ℕ) (w frontier : ℕ) (earlier later place : ℕ → ℕ) → Widened s root → Searching s root cands (w ∷ queue) frontier earlier later place → AllStrong s cands earlier later
+pub settle : (s : Search) (root : ℕ) (cands queue : List ℕ) (w frontier : ℕ) (earlier later place : ℕ → ℕ) → Widened s root
+    → Searching s root cands (w ∷ queue) frontier earlier later place → AllStrong s cands earlier later
     → (earlier' later' : ℕ → ℕ) (evict : List ℕ) → Settled s cands w earlier later earlier' later' → Relisted s cands [] earlier' later' w evict
     → Searching s root cands queue (s.rank w + 1) earlier' later' place × WeakListed s cands (s.rank w + 1) earlier' later' place evict w
 settle s root cands queue w frontier earlier later place c h strong earlier' later' evict r l =
@@ -395,7 +447,8 @@ settle s root cands queue w frontier earlier later place c h strong earlier' lat
     )
 
 -- the first of the queue leaves it, and no candidate is its neighbour
-pub pass : (s : Search) (root : ℕ) (cands queue : List ℕ) (w frontier : ℕ) (earlier later place : ℕ → ℕ) → Widened s root → Searching s root cands (w ∷ queue) frontier earlier later place
+pub pass : (s : Search) (root : ℕ) (cands queue : List ℕ) (w frontier : ℕ) (earlier later place : ℕ → ℕ) → Widened s root
+    → Searching s root cands (w ∷ queue) frontier earlier later place
     → ahead s w ≤ s.level → earlier w ≡ 0 → Searching s root cands queue (s.rank w + 1) earlier later place
 pass s root cands queue w frontier earlier later place c h few none =
     let ow : OnLevel s w = head_level s root cands queue w frontier earlier later place h in
@@ -406,7 +459,9 @@ pass s root cands queue w frontier earlier later place c h few none =
           let lt : s.rank x < s.rank w = omega (arith, h.cand_passed x m) in
           let no : s.adj w x ≡ false = elim (cases_Bool (s.adj w x)) [
             | inl a ↦
-                let some : 0 < coming s cands w = among-some s w (coming_at s cands w) x (h.cand_level x m).here a (and_from (member x cands) (after s x w) m (lt-ltb (s.rank x) (s.rank w) lt)) in
+                let some : 0 < coming s cands w =
+                among-some s w (coming_at s cands w) x (h.cand_level x m).here a
+                (and_from (member x cands) (after s x w) m (lt-ltb (s.rank x) (s.rank w) lt)) in
                 absurd (omega (arith, some, h.earlier_of_open w ow w_open))
             | inr n ↦ n
           ] in
@@ -416,7 +471,8 @@ pass s root cands queue w frontier earlier later place c h few none =
     })
 
 -- once the eviction list is empty
-pub settled : (s : Search) (cands : List ℕ) (frontier : ℕ) (earlier later place : ℕ → ℕ) (last : ℕ) → WeakListed s cands frontier earlier later place [] last → AllStrong s cands earlier later
+pub settled : (s : Search) (cands : List ℕ) (frontier : ℕ) (earlier later place : ℕ → ℕ) (last : ℕ)
+    → WeakListed s cands frontier earlier later place [] last → AllStrong s cands earlier later
 settled s cands frontier earlier later place last e = record { strong = λ x m. e.strong x m refl }
 
 odd-even : (a b : ℕ) → b ≤ a → ltb (a + a + 1) (b + b) ≡ false
@@ -429,7 +485,8 @@ even-odd : (a b : ℕ) → b ≤ a → ltb (b + b) (a + a + 1) ≡ true
 even-odd a b le = grind arith
 
 -- how the count of later neighbours changes when a candidate is evicted
-holding-evicted : (s : Search) (root : ℕ) (cands cands' : List ℕ) (x frontier z : ℕ) → Widened s root → OnLevel s x → s.rank x < frontier → member x cands ≡ true → Drops cands x cands'
+holding-evicted : (s : Search) (root : ℕ) (cands cands' : List ℕ) (x frontier z : ℕ) → Widened s root → OnLevel s x → s.rank x < frontier
+    → member x cands ≡ true → Drops cands x cands'
     → holding s cands frontier z ≡ holding s cands' frontier z + one_if (s.adj x z && after s z x)
 holding-evicted s root cands cands' x frontier z c ox passed there drop =
     let lvl : s.core x ≡ s.level = ox.level in
@@ -438,7 +495,8 @@ holding-evicted s root cands cands' x frontier z c ox passed there drop =
     elim (cases_lt (s.rank z) (s.rank x)) [
       | inl lt ↦
           let one : holding s cands frontier z ≡ holding s cands' frontier z + one_if (s.adj z x) =
-          among-one s z x (holding_at s cands frontier z) (holding_at s cands' frontier z) ox.here (grind (arith, gone, lvl, passed)) (grind (arith, there, lvl, lt))
+          among-one s z x (holding_at s cands frontier z) (holding_at s cands' frontier z) ox.here (grind (arith, gone, lvl, passed))
+          (grind (arith, there, lvl, lt))
           (λ y l a ne. ap (λ b. above s y || (on_level s y && (after s z y && (b || leb frontier (s.rank y))))) (sym (drop.others y ne))) in
           let k : one_if (s.adj x z && after s z x) ≡ one_if (s.adj z x) = grind (arith, sides, lt) in
           omega (arith, one, k)
@@ -468,12 +526,15 @@ coming-evicted s root cands cands' x z c ox there drop =
           omega (arith, none, k)
     ]
 
-weigh_at : (u l m m' q : Bool) (rx ry f : ℕ) → u ≡ false → l ≡ true → m ≡ true → m' ≡ true → ry ≢ rx → one_if (u || (l && (m' || q))) ≡ one_if (m && ltb ry rx) + one_if (u || (l && (ltb rx ry && (m || leb f ry))))
+weigh_at : (u l m m' q : Bool) (rx ry f : ℕ) → u ≡ false → l ≡ true → m ≡ true → m' ≡ true → ry ≢ rx
+    → one_if (u || (l && (m' || q))) ≡ one_if (m && ltb ry rx) + one_if (u || (l && (ltb rx ry && (m || leb f ry))))
 weigh_at u l m m' q rx ry f hu hl hm hm' ne = grind arith
 
 -- an evicted candidate goes past all that had passed, and before the others
-behind-evicted : (s : Search) (root : ℕ) (cands queue : List ℕ) (frontier : ℕ) (earlier later place : ℕ → ℕ) (evict : List ℕ) (x last : ℕ) → Widened s root → Searching s root cands queue frontier earlier later place
-    → WeakListed s cands frontier earlier later place (x ∷ evict) last → (cands' : List ℕ) → Drops cands x cands' → behind s cands' (moved place x last) x ≡ coming s cands x + holding s cands frontier x
+behind-evicted : (s : Search) (root : ℕ) (cands queue : List ℕ) (frontier : ℕ) (earlier later place : ℕ → ℕ) (evict : List ℕ) (x last : ℕ)
+    → Widened s root → Searching s root cands queue frontier earlier later place
+    → WeakListed s cands frontier earlier later place (x ∷ evict) last → (cands' : List ℕ) → Drops cands x cands'
+    → behind s cands' (moved place x last) x ≡ coming s cands x + holding s cands frontier x
 behind-evicted s root cands queue frontier earlier later place evict x last c h e cands' drop =
     let there : member x cands ≡ true = e.listed x (member-head x evict) in
     let ox : OnLevel s x = h.cand_level x there in
@@ -495,18 +556,22 @@ behind-evicted s root cands queue frontier earlier later place evict x last c h 
                       let apart : s.rank y ≢ s.rank x = λ k. ne (c.apart y x l ox.here k) in
                       let m' : member y cands' ≡ true = same ∙ m in
                       let low : above s y ≡ false = grind (arith, lvl) in
-                      weigh_at (above s y) (on_level s y) (member y cands) (member y cands') (ltb (moved place x last x) (moved place x last y)) (s.rank x) (s.rank y) frontier low (eq-eqb (s.core y) s.level lvl) m m' apart
+                      weigh_at (above s y) (on_level s y) (member y cands) (member y cands')
+                      (ltb (moved place x last x) (moved place x last y)) (s.rank x) (s.rank y) frontier low
+                      (eq-eqb (s.core y) s.level lvl) m m' apart
                   | inr none ↦
                       let none' : member y cands' ≡ false = same ∙ none in
                       let there' : moved place x last y ≡ place y + place y = moved-other place x last y ne in
                       elim (cases_lt (s.rank y) frontier) [
                         | inl py ↦
-                            let le : place y ≤ place last = elim (cases_eq y last) [ inl k ↦ le_of_eq (ap place k) | inr k ↦ le_of_lt (e.last_of_all y oy py none k) ] in
+                            let le : place y ≤ place last =
+                            elim (cases_eq y last) [ inl k ↦ le_of_eq (ap place k) | inr k ↦ le_of_lt (e.last_of_all y oy py none k) ] in
                             let no_more : ltb (moved place x last x) (moved place x last y) ≡ false = rw (here, there') (odd-even (place last) (place y) le) in
                             grind (arith, none, none', lvl, py, no_more)
                         | inr py ↦
                             let lt : place last < place y = h.passed_first last y e.last_level oy e.last_passed e.last_done py in
-                            let more : ltb (moved place x last x) (moved place x last y) ≡ true = rw (here, there') (odd-even_after (place last) (place y) lt) in
+                            let more : ltb (moved place x last x) (moved place x last y) ≡ true =
+                            rw (here, there') (odd-even_after (place last) (place y) lt) in
                             let up : s.rank x < s.rank y = omega arith in
                             grind (arith, none, none', lvl, py, more, up)
                       ]
@@ -514,7 +579,8 @@ behind-evicted s root cands queue frontier earlier later place evict x last c h 
           ]
     ])
 
-behind-kept : (s : Search) (root : ℕ) (cands queue : List ℕ) (frontier : ℕ) (earlier later place : ℕ → ℕ) (evict : List ℕ) (x last : ℕ) → Searching s root cands queue frontier earlier later place
+behind-kept : (s : Search) (root : ℕ) (cands queue : List ℕ) (frontier : ℕ) (earlier later place : ℕ → ℕ) (evict : List ℕ) (x last : ℕ)
+    → Searching s root cands queue frontier earlier later place
     → WeakListed s cands frontier earlier later place (x ∷ evict) last → (cands' : List ℕ) → Drops cands x cands'
     → (z : ℕ) → OnLevel s z → s.rank z < frontier → z ≢ x → member z cands ≡ false → behind s cands' (moved place x last) z ≡ behind s cands place z
 behind-kept s root cands queue frontier earlier later place evict x last h e cands' drop z oz passed ne none =
@@ -536,9 +602,11 @@ behind-kept s root cands queue frontier earlier later place evict x last h e can
     ])
 
 -- a candidate that has become too weak is evicted
-pub evict_one : (s : Search) (root : ℕ) (cands queue : List ℕ) (frontier : ℕ) (earlier later place : ℕ → ℕ) (evict : List ℕ) (x last : ℕ) → Widened s root → Searching s root cands queue frontier earlier later place
+pub evict_one : (s : Search) (root : ℕ) (cands queue : List ℕ) (frontier : ℕ) (earlier later place : ℕ → ℕ) (evict : List ℕ) (x last : ℕ)
+    → Widened s root → Searching s root cands queue frontier earlier later place
     → WeakListed s cands frontier earlier later place (x ∷ evict) last
-    → (cands' evict' : List ℕ) (earlier' later' : ℕ → ℕ) → Evicted s cands frontier x earlier later cands' earlier' later' → Relisted s cands' evict earlier' later' x evict'
+    → (cands' evict' : List ℕ) (earlier' later' : ℕ → ℕ) → Evicted s cands frontier x earlier later cands' earlier' later'
+    → Relisted s cands' evict earlier' later' x evict'
     → Searching s root cands' queue frontier earlier' later' (moved place x last) × WeakListed s cands' frontier earlier' later' (moved place x last) evict' x
 evict_one s root cands queue frontier earlier later place evict x last c h e cands' evict' earlier' later' r l =
     let there : member x cands ≡ true = e.listed x (member-head x evict) in
@@ -546,7 +614,9 @@ evict_one s root cands queue frontier earlier later place evict x last c h e can
     let passed : s.rank x < frontier = h.cand_passed x there in
     let old : (y : ℕ) → member y cands' ≡ true → y ≢ x = λ y m y-x. true≢false (sym m ∙ (ap (λ k. member k cands') y-x ∙ r.dropped.itself)) in
     let was : (y : ℕ) → member y cands' ≡ true → member y cands ≡ true = λ y m. sym (r.dropped.others y (old y m)) ∙ m in
-    let ins : (y : ℕ) → OnLevel s y → y ≢ x → (member y cands' || leb frontier (s.rank y)) ≡ true → earlier y ≡ coming s cands y → earlier' y ≡ coming s cands' y = λ y oy ne watched k.
+    let ins : (y : ℕ) → OnLevel s y → y ≢ x → (member y cands' || leb frontier (s.rank y)) ≡ true → earlier y ≡ coming s cands y
+    → earlier' y ≡ coming s cands' y =
+    λ y oy ne watched k.
     let less : earlier' y ≡ earlier y - one_if (s.adj x y && after s x y) = r.fewer_earlier y oy ne watched in
     omega (arith, less, k, coming-evicted s root cands cands' x y c ox there r.dropped) in
     let not_open : (y : ℕ) → frontier ≤ s.rank y → y ≢ x = λ y le y-x. let k : s.rank y ≡ s.rank x = ap s.rank y-x in absurd (omega arith) in
@@ -570,10 +640,21 @@ evict_one s root cands queue frontier earlier later place evict x last c h e can
         done = λ z oz le none. elim (cases_eq z x) [
           | inl z-x ↦
               let k : behind s cands' (moved place x last) z ≡ behind s cands' (moved place x last) x = ap (behind s cands' (moved place x last)) z-x in
-              omega (arith, k, behind-evicted s root cands queue frontier earlier later place evict x last c h e cands' r.dropped, h.earlier_of_cand x there, h.later_of_cand x there, e.weak x (member-head x evict))
+              omega (
+                arith,
+                k,
+                behind-evicted s root cands queue frontier earlier later place evict x last c h e cands' r.dropped,
+                h.earlier_of_cand x there,
+                h.later_of_cand x there,
+                e.weak x (member-head x evict),
+              )
           | inr ne ↦
               let none' : member z cands ≡ false = sym (r.dropped.others z ne) ∙ none in
-              omega (arith, behind-kept s root cands queue frontier earlier later place evict x last h e cands' r.dropped z oz le ne none', h.done z oz le none')
+              omega (
+                arith,
+                behind-kept s root cands queue frontier earlier later place evict x last h e cands' r.dropped z oz le ne none',
+                h.done z oz le none',
+              )
         ];
         open_kept = λ y z oy oz py pz lt. omega (arith, other y (not_open y py), other z (not_open z pz), h.open_kept y z oy oz py pz lt);
         passed_first = λ y z oy oz py none pz. elim (cases_eq y x) [
@@ -604,7 +685,8 @@ evict_one s root cands queue frontier earlier later place evict x last c h e can
               let m' : member y cands ≡ true = e.listed y (member-tail y x evict k) in
               let now : member y cands' ≡ true = r.dropped.others y ne ∙ m' in
               let less : later' y ≡ later y - one_if (s.adj x y && after s y x) = r.fewer_later y now in
-              let less' : earlier' y ≡ earlier y - one_if (s.adj x y && after s x y) = r.fewer_earlier y (h.cand_level y m') ne (or_left (member y cands') _ now) in
+              let less' : earlier' y ≡ earlier y - one_if (s.adj x y && after s x y) =
+              r.fewer_earlier y (h.cand_level y m') ne (or_left (member y cands') _ now) in
               omega (arith, less, less', e.weak y (member-tail y x evict k))
           | inr n ↦ (l.only y m n).1
         ];
@@ -612,10 +694,13 @@ evict_one s root cands queue frontier earlier later place evict x last c h e can
           | inl a ↦ l.all_weak y m a none
           | inr apart ↦
               let less : later' y ≡ later y - one_if (s.adj x y && after s y x) = r.fewer_later y m in
-              let less' : earlier' y ≡ earlier y - one_if (s.adj x y && after s x y) = r.fewer_earlier y (h.cand_level y (was y m)) (old y m) (or_left (member y cands') _ m) in
+              let less' : earlier' y ≡ earlier y - one_if (s.adj x y && after s x y) =
+              r.fewer_earlier y (h.cand_level y (was y m)) (old y m) (or_left (member y cands') _ m) in
               let none1 : one_if (s.adj x y && after s y x) ≡ 0 = grind (arith, apart) in
               let none2 : one_if (s.adj x y && after s x y) ≡ 0 = grind (arith, apart) in
-              let not_listed : member y (x ∷ evict) ≡ false = or_from (eqb y x) (member y evict) (ne_eqb y x (old y m)) (elim (cases_Bool (member y evict)) [ inl k ↦ absurd (true≢false (sym (l.kept y k) ∙ none)) | inr n ↦ n ]) in
+              let not_listed : member y (x ∷ evict) ≡ false =
+              or_from (eqb y x) (member y evict) (ne_eqb y x (old y m))
+              (elim (cases_Bool (member y evict)) [ inl k ↦ absurd (true≢false (sym (l.kept y k) ∙ none)) | inr n ↦ n ]) in
               omega (arith, less, less', none1, none2, e.strong y (was y m) not_listed)
         ];
         last_level = ox;

@@ -23,19 +23,23 @@ use Rattle.kc_insert.specs.declared.rising.Mark.{Mark}
 use Rattle.kc_insert.specs.declared.rising.Rising.{Rising}
 
 -- a list more
-pub asks-list : (update : Update) (a b : Answers) (queue : List ℕ) (y : ℕ) → AsksQueued update a queue → TellsList a b y → (y ≡ update.u) ⊎ (member y queue ≡ true) → AsksQueued update b queue
+pub asks-list : (update : Update) (a b : Answers) (queue : List ℕ) (y : ℕ) → AsksQueued update a queue → TellsList a b y
+    → (y ≡ update.u) ⊎ (member y queue ≡ true) → AsksQueued update b queue
 asks-list update a b queue y asks tells near = elim (cases_Bool (has_list a y)) [
   | inl h ↦ subst (λ (x : Answers). AsksQueued update x queue) (sym (tells.before h)) asks
   | inr n ↦
       let (e, is, eq) = tells.now n in
       subst (λ (x : Answers). AsksQueued update x queue) (sym eq) (record {
-        lists = All-push (λ q. (q.vertex ≡ update.u) ⊎ (member q.vertex queue ≡ true)) a.edges e asks.lists (subst (λ (z : ℕ). (z ≡ update.u) ⊎ (member z queue ≡ true)) (sym is) near);
+        lists =
+            All-push (λ q. (q.vertex ≡ update.u) ⊎ (member q.vertex queue ≡ true)) a.edges e asks.lists
+            (subst (λ (z : ℕ). (z ≡ update.u) ⊎ (member z queue ≡ true)) (sym is) near);
         cores = subst (λ (x : Answers). AsksCores update x) eq (cores-listed update a b y asks.cores tells);
       })
 ]
 
 -- a core number more
-pub asks-core : (update : Update) (a b : Answers) (queue : List ℕ) (y : ℕ) → AsksQueued update a queue → TellsCore a b y → (y ≡ update.u) ⊎ (y ≡ update.v) ⊎ (is_listed a y ≡ true) → AsksQueued update b queue
+pub asks-core : (update : Update) (a b : Answers) (queue : List ℕ) (y : ℕ) → AsksQueued update a queue → TellsCore a b y
+    → (y ≡ update.u) ⊎ (y ≡ update.v) ⊎ (is_listed a y ≡ true) → AsksQueued update b queue
 asks-core update a b queue y asks tells near = elim (cases_Bool (has_core a y)) [
   | inl h ↦ subst (λ (x : Answers). AsksQueued update x queue) (sym (tells.before h)) asks
   | inr n ↦
@@ -51,14 +55,19 @@ pub asks-order : (update : Update) (a b : Answers) (queue : List ℕ) (o : UsedO
 asks-order update a b queue o asks eq = subst (λ (x : Answers). AsksQueued update x queue) (sym eq) (record { lists = asks.lists; cores = asks.cores })
 
 -- more were queued
-pub asks-queued : (update : Update) (a : Answers) (queue queue' : List ℕ) → AsksQueued update a queue → ((x : ℕ) → member x queue ≡ true → member x queue' ≡ true) → AsksQueued update a queue'
+pub asks-queued : (update : Update) (a : Answers) (queue queue' : List ℕ) → AsksQueued update a queue
+    → ((x : ℕ) → member x queue ≡ true → member x queue' ≡ true) → AsksQueued update a queue'
 asks-queued update a queue queue' asks grows = record {
-  lists = All-weaker (λ q. (q.vertex ≡ update.u) ⊎ (member q.vertex queue ≡ true)) (λ q. (q.vertex ≡ update.u) ⊎ (member q.vertex queue' ≡ true)) (λ q k. elim k [ inl h ↦ inl h | inr h ↦ inr (grows q.vertex h) ]) a.edges asks.lists;
+  lists =
+      All-weaker (λ q. (q.vertex ≡ update.u) ⊎ (member q.vertex queue ≡ true))
+      (λ q. (q.vertex ≡ update.u) ⊎ (member q.vertex queue' ≡ true)) (λ q k. elim k [ inl h ↦ inl h | inr h ↦ inr (grows q.vertex h) ])
+      a.edges asks.lists;
   cores = asks.cores;
 }
 
 -- the view goes on
-pub tidy-view : (update : Update) (old new : Shown) (r : Rising) → IsTidyRising update old r → new.size ≡ old.size → Further old.kept new.kept → AsksQueued update new.kept r.queue.items → IsTidyRising update new r
+pub tidy-view : (update : Update) (old new : Shown) (r : Rising) → IsTidyRising update old r → new.size ≡ old.size
+    → Further old.kept new.kept → AsksQueued update new.kept r.queue.items → IsTidyRising update new r
 tidy-view update old new r t size further asks = record {
   orderly = t.orderly;
   within = λ z m. let l : z < old.size = t.within z m in omega (arith, l, size);
@@ -92,15 +101,18 @@ pub weak-fits : (update : Update) (shown : Shown) (r : Rising) → IsTidyRising 
 weak-fits update shown r t = below_bound shown.size r.weak.items t.orderly.weak_once (λ x m. t.within x (left-queued r x (t.orderly.weak_left x m)))
 
 -- the first of those that wait leaves the queue
-pub left-more : (w : ℕ) (mark : Mark) (old new : Rising) → Leaves w mark old new → old.turn < length old.queue.items → get_or old.queue.items old.turn 0 ≡ w → left new ≡ left old ++ w ∷ []
+pub left-more : (w : ℕ) (mark : Mark) (old new : Rising) → Leaves w mark old new → old.turn < length old.queue.items
+    → get_or old.queue.items old.turn 0 ≡ w → left new ≡ left old ++ w ∷ []
 left-more w mark old new l lt first =
-    ap (λ xs. take new.turn xs) l.queue ∙ (ap (λ n. take n old.queue.items) l.turn ∙ (take_more old.queue.items old.turn 0 lt ∙ ap (λ y. left old ++ y ∷ []) first))
+    ap (λ xs. take new.turn xs) l.queue
+    ∙ (ap (λ n. take n old.queue.items) l.turn ∙ (take_more old.queue.items old.turn 0 lt ∙ ap (λ y. left old ++ y ∷ []) first))
 
 -- and is found in no list
 pub first-not_left : (w : ℕ) (r : Rising) → IsOrderly r → r.turn < length r.queue.items → get_or r.queue.items r.turn 0 ≡ w → member w (left r) ≡ false
 first-not_left w r o lt first = subst (λ (y : ℕ). member y (left r) ≡ false) first (take-not_here r.turn r.queue.items lt o.once)
 
-pub leave-orderly : (w : ℕ) (mark : Mark) (old new : Rising) → IsOrderly old → Leaves w mark old new → old.turn < length old.queue.items → get_or old.queue.items old.turn 0 ≡ w
+pub leave-orderly : (w : ℕ) (mark : Mark) (old new : Rising) → IsOrderly old → Leaves w mark old new → old.turn < length old.queue.items
+    → get_or old.queue.items old.turn 0 ≡ w
     → (mark.is_candidate ≡ true → mark.turn ≡ old.turn) → mark.is_weak ≡ false → IsOrderly new
 leave-orderly w mark old new o l lt first turn none =
     let out : member w (left old) ≡ false = first-not_left w old o lt first in
@@ -136,13 +148,19 @@ leave-orderly w mark old new o l lt first turn none =
         | inr ne ↦ ap weak_in (l.marks.others z ne) ∙ (o.weak_marked z ∙ sym (ap (member z) l.weak))
       ];
       weak_left = λ z m. grows z (o.weak_left z (sym (ap (member z) l.weak) ∙ m));
-      shifted = ap firsts l.shifts ∙ (o.shifted ∙ sym (ap (λ xs. take (length new.shifts.items) xs) l.weak ∙ ap (λ xs. take (length xs) old.weak.items) l.shifts));
+      shifted =
+          ap firsts l.shifts
+          ∙ (o.shifted ∙ sym (ap (λ xs. take (length new.shifts.items) xs) l.weak ∙ ap (λ xs. take (length xs) old.weak.items) l.shifts));
       anchored = λ z m. grows z (o.anchored z (sym (ap (λ xs. member z (seconds xs)) l.shifts) ∙ m));
     }
 
 -- so that it is still tidy
-pub leave-tidy : (update : Update) (shown : Shown) (w : ℕ) (mark : Mark) (old new : Rising) → IsTidyRising update shown old → Leaves w mark old new → old.turn < length old.queue.items → get_or old.queue.items old.turn 0 ≡ w
+pub leave-tidy : (update : Update) (shown : Shown) (w : ℕ) (mark : Mark) (old new : Rising) → IsTidyRising update shown old
+    → Leaves w mark old new → old.turn < length old.queue.items → get_or old.queue.items old.turn 0 ≡ w
     → (mark.is_candidate ≡ true → mark.turn ≡ old.turn) → mark.is_weak ≡ false → has_list shown.kept w ≡ true → IsTidyRising update shown new
 leave-tidy update shown w mark old new t l lt first turn none read =
-    tidy-rising update shown old new t (leave-orderly w mark old new t.orderly l lt first turn none) (λ z m. ap (member z) l.queue ∙ m) (λ z m. inl (sym (ap (member z) l.queue) ∙ m))
-    (λ z m. elim (member-push_cases z w (left old) (sym (ap (member z) (left-more w mark old new l lt first)) ∙ m)) [ inl k ↦ inl k | inr e ↦ inr (ap (has_list shown.kept) e ∙ read) ])
+    tidy-rising update shown old new t (leave-orderly w mark old new t.orderly l lt first turn none) (λ z m. ap (member z) l.queue ∙ m)
+    (λ z m. inl (sym (ap (member z) l.queue) ∙ m))
+    (λ z m.
+    elim (member-push_cases z w (left old) (sym (ap (member z) (left-more w mark old new l lt first)) ∙ m))
+    [ inl k ↦ inl k | inr e ↦ inr (ap (has_list shown.kept) e ∙ read) ])

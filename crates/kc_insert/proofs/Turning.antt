@@ -1,5 +1,6 @@
 -- The whole search, with its shifts: each turn keeps what is known.
-use Rattle.std.proofs.Common.{◌≡◌, ◌≢◌, ◌≤◌, ◌<◌, ◌+◌, ℕ, true, false, ◌&&◌, ◌||◌, List, [], ◌∷◌, ◌++◌, ltb, leb, refl, sym, ◌∙◌, ap, subst, ◌⊎◌, inl, inr, arith, true≢false, le_trans}
+use Rattle.std.proofs.Common.{◌≡◌, ◌≢◌, ◌≤◌, ◌<◌, ◌+◌, ℕ, true, false, ◌&&◌, ◌||◌, List, [], ◌∷◌, ◌++◌, ltb, leb, refl, sym, ◌∙◌, ap, subst, ◌⊎◌, inl}
+use Rattle.std.proofs.Common.{inr, arith, true≢false, le_trans}
 use Rattle.std.proofs.lemmas.Bool.{cases_eq, false≢true, false_from_ne_true}
 use Rattle.kc_distinct.specs.Lists.{member, Distinct}
 use Rattle.kc_distinct.proofs.Members.{member-head, not_member-cons, not_member-parts, append-not_member}
@@ -9,7 +10,8 @@ use Rattle.kc_cert.specs.Ranks.{moved, place_after}
 use Rattle.kc_view.specs.Search.{Search, on_level, above, after, OnLevel}
 use Rattle.kc_view.proofs.Among.{among-agree}
 use Rattle.kc_view.proofs.Fronts.{firsts-push, seconds-push}
-use Rattle.kc_insert.specs.Searching.{ahead, coming, holding, behind, Widened, Searching, WeakListed, Adds, Drops, Raised, Settled, Evicted, Relisted, Shifts, BetweenTurns, InSettling}
+use Rattle.kc_insert.specs.Searching.{ahead, coming, holding, behind, Widened, Searching, WeakListed, Adds, Drops, Raised, Settled, Evicted, Relisted}
+use Rattle.kc_insert.specs.Searching.{Shifts, BetweenTurns, InSettling}
 use Rattle.kc_insert.proofs.Steps.{start, raise, settle, pass, settled, evict_one, coming_at, holding_at, behind_at}
 
 -- one shift more
@@ -27,7 +29,8 @@ AreInTurn-push (p ∷ shifts) x w t ne n =
     (not_member-cons p.1 p.0 (firsts (shifts ++ (x, w) ∷ [])) old.0 new, AreInTurn-push shifts x w t.1 ne k.1)
 
 -- the shifts stay fit where the candidates change at a vertex that none of them names
-Shifts-raise : (s : Search) (cands cands' : List ℕ) (frontier w : ℕ) (shifts : List (ℕ × ℕ)) → frontier ≤ s.rank w → Adds cands w cands' → Shifts s cands frontier shifts → Shifts s cands' (s.rank w + 1) shifts
+Shifts-raise : (s : Search) (cands cands' : List ℕ) (frontier w : ℕ) (shifts : List (ℕ × ℕ)) → frontier ≤ s.rank w → Adds cands w cands'
+    → Shifts s cands frontier shifts → Shifts s cands' (s.rank w + 1) shifts
 Shifts-raise s cands cands' frontier w shifts open' add f = record {
   in_turn = f.in_turn;
   once = f.once;
@@ -39,7 +42,8 @@ Shifts-raise s cands cands' frontier w shifts open' add f = record {
   second_done = λ x m. add.others x (λ e. let k : s.rank x ≡ s.rank w = ap s.rank e in absurd (omega (arith, f.second_passed x m))) ∙ f.second_done x m;
 }
 
-Shifts-leave : (s : Search) (cands : List ℕ) (frontier frontier' : ℕ) (shifts : List (ℕ × ℕ)) → frontier ≤ frontier' → Shifts s cands frontier shifts → Shifts s cands frontier' shifts
+Shifts-leave : (s : Search) (cands : List ℕ) (frontier frontier' : ℕ) (shifts : List (ℕ × ℕ)) → frontier ≤ frontier'
+    → Shifts s cands frontier shifts → Shifts s cands frontier' shifts
 Shifts-leave s cands frontier frontier' shifts le f = record {
   in_turn = f.in_turn;
   once = f.once;
@@ -51,7 +55,8 @@ Shifts-leave s cands frontier frontier' shifts le f = record {
   second_done = f.second_done;
 }
 
-Shifts-evict : (s : Search) (cands cands' : List ℕ) (frontier x last : ℕ) (shifts : List (ℕ × ℕ)) → OnLevel s x → s.rank x < frontier → member x cands ≡ true → Drops cands x cands'
+Shifts-evict : (s : Search) (cands cands' : List ℕ) (frontier x last : ℕ) (shifts : List (ℕ × ℕ)) → OnLevel s x → s.rank x < frontier
+    → member x cands ≡ true → Drops cands x cands'
     → OnLevel s last → s.rank last < frontier → member last cands ≡ false → Shifts s cands frontier shifts → Shifts s cands' frontier (shifts ++ (x, last) ∷ [])
 Shifts-evict s cands cands' frontier x last shifts ox passed there drop ol pl dl f =
     let ne : last ≢ x = λ e. true≢false (sym there ∙ (ap (λ k. member k cands) (sym e) ∙ dl)) in
@@ -61,7 +66,8 @@ Shifts-evict s cands cands' frontier x last shifts ox passed there drop ol pl dl
     member-push_cases y x (firsts shifts) (ap (member y) (sym (firsts-push shifts x last)) ∙ m) in
     let second : (y : ℕ) → member y (seconds (shifts ++ (x, last) ∷ [])) ≡ true → (member y (seconds shifts) ≡ true) ⊎ (y ≡ last) = λ y m.
     member-push_cases y last (seconds shifts) (ap (member y) (sym (seconds-push shifts x last)) ∙ m) in
-    let not_x : (y : ℕ) → member y cands ≡ false → member y cands' ≡ false = λ y none. elim (cases_eq y x) [ inl e ↦ ap (λ k. member k cands') e ∙ drop.itself | inr n ↦ drop.others y n ∙ none ] in
+    let not_x : (y : ℕ) → member y cands ≡ false → member y cands' ≡ false =
+    λ y none. elim (cases_eq y x) [ inl e ↦ ap (λ k. member k cands') e ∙ drop.itself | inr n ↦ drop.others y n ∙ none ] in
     record {
       in_turn = AreInTurn-push shifts x last f.in_turn ne not_second;
       once = subst Distinct (sym (firsts-push shifts x last)) (Distinct-push (firsts shifts) x f.once not_first);
@@ -74,7 +80,8 @@ Shifts-evict s cands cands' frontier x last shifts ox passed there drop ol pl dl
     }
 
 -- before the first turn: the root has too many later neighbours
-pub begin : (s : Search) (root : ℕ) → Widened s root → (earlier later : ℕ → ℕ) → ((x : ℕ) → earlier x ≡ 0) → BetweenTurns s root [] (root ∷ []) (s.rank root) earlier later []
+pub begin : (s : Search) (root : ℕ) → Widened s root → (earlier later : ℕ → ℕ) → ((x : ℕ) → earlier x ≡ 0)
+    → BetweenTurns s root [] (root ∷ []) (s.rank root) earlier later []
 begin s root c earlier later none = record {
   searching = start s root c earlier later none;
   strong = record { strong = λ x m. absurd (false≢true m) };
@@ -91,8 +98,10 @@ begin s root c earlier later none = record {
 }
 
 -- the first of the queue becomes a candidate
-pub turn_raise : (s : Search) (root : ℕ) (cands queue : List ℕ) (w frontier : ℕ) (earlier later : ℕ → ℕ) (shifts : List (ℕ × ℕ)) → Widened s root → BetweenTurns s root cands (w ∷ queue) frontier earlier later shifts
-    → (cands' queue' : List ℕ) (earlier' later' : ℕ → ℕ) → Raised s cands w queue earlier later cands' queue' earlier' later' → BetweenTurns s root cands' queue' (s.rank w + 1) earlier' later' shifts
+pub turn_raise : (s : Search) (root : ℕ) (cands queue : List ℕ) (w frontier : ℕ) (earlier later : ℕ → ℕ) (shifts : List (ℕ × ℕ))
+    → Widened s root → BetweenTurns s root cands (w ∷ queue) frontier earlier later shifts
+    → (cands' queue' : List ℕ) (earlier' later' : ℕ → ℕ) → Raised s cands w queue earlier later cands' queue' earlier' later'
+    → BetweenTurns s root cands' queue' (s.rank w + 1) earlier' later' shifts
 turn_raise s root cands queue w frontier earlier later shifts c b cands' queue' earlier' later' r =
     let next = raise s root cands queue w frontier earlier later (place_after s.rank shifts) c b.searching b.strong cands' queue' earlier' later' r in
     let w_open : frontier ≤ s.rank w = b.searching.queue_open w (member-head w queue) in
@@ -103,7 +112,8 @@ turn_raise s root cands queue w frontier earlier later shifts c b cands' queue' 
     }
 
 -- the first of the queue leaves it, and no candidate is its neighbour
-pub turn_pass : (s : Search) (root : ℕ) (cands queue : List ℕ) (w frontier : ℕ) (earlier later : ℕ → ℕ) (shifts : List (ℕ × ℕ)) → Widened s root → BetweenTurns s root cands (w ∷ queue) frontier earlier later shifts
+pub turn_pass : (s : Search) (root : ℕ) (cands queue : List ℕ) (w frontier : ℕ) (earlier later : ℕ → ℕ) (shifts : List (ℕ × ℕ))
+    → Widened s root → BetweenTurns s root cands (w ∷ queue) frontier earlier later shifts
     → ahead s w ≤ s.level → earlier w ≡ 0 → BetweenTurns s root cands queue (s.rank w + 1) earlier later shifts
 turn_pass s root cands queue w frontier earlier later shifts c b few none =
     let w_open : frontier ≤ s.rank w = b.searching.queue_open w (member-head w queue) in
@@ -114,8 +124,10 @@ turn_pass s root cands queue w frontier earlier later shifts c b few none =
     }
 
 -- the first of the queue is settled
-pub turn_settle : (s : Search) (root : ℕ) (cands queue : List ℕ) (w frontier : ℕ) (earlier later : ℕ → ℕ) (shifts : List (ℕ × ℕ)) → Widened s root → BetweenTurns s root cands (w ∷ queue) frontier earlier later shifts
-    → (earlier' later' : ℕ → ℕ) (evict : List ℕ) → Settled s cands w earlier later earlier' later' → Relisted s cands [] earlier' later' w evict → InSettling s root cands queue (s.rank w + 1) earlier' later' shifts evict w
+pub turn_settle : (s : Search) (root : ℕ) (cands queue : List ℕ) (w frontier : ℕ) (earlier later : ℕ → ℕ) (shifts : List (ℕ × ℕ))
+    → Widened s root → BetweenTurns s root cands (w ∷ queue) frontier earlier later shifts
+    → (earlier' later' : ℕ → ℕ) (evict : List ℕ) → Settled s cands w earlier later earlier' later'
+    → Relisted s cands [] earlier' later' w evict → InSettling s root cands queue (s.rank w + 1) earlier' later' shifts evict w
 turn_settle s root cands queue w frontier earlier later shifts c b earlier' later' evict r l =
     let w_open : frontier ≤ s.rank w = b.searching.queue_open w (member-head w queue) in
     let next = settle s root cands queue w frontier earlier later (place_after s.rank shifts) c b.searching b.strong earlier' later' evict r l in
@@ -126,8 +138,11 @@ turn_settle s root cands queue w frontier earlier later shifts c b earlier' late
     }
 
 -- a candidate is evicted
-pub turn_evict : (s : Search) (root : ℕ) (cands queue : List ℕ) (frontier : ℕ) (earlier later : ℕ → ℕ) (shifts : List (ℕ × ℕ)) (evict : List ℕ) (x last : ℕ) → Widened s root → InSettling s root cands queue frontier earlier later shifts (x ∷ evict) last
-    → (cands' evict' : List ℕ) (earlier' later' : ℕ → ℕ) → Evicted s cands frontier x earlier later cands' earlier' later' → Relisted s cands' evict earlier' later' x evict'
+pub turn_evict : (s : Search) (root : ℕ) (cands queue : List ℕ) (frontier : ℕ) (earlier later : ℕ → ℕ) (shifts : List (ℕ × ℕ))
+    (evict : List ℕ) (x last : ℕ)
+    → Widened s root → InSettling s root cands queue frontier earlier later shifts (x ∷ evict) last
+    → (cands' evict' : List ℕ) (earlier' later' : ℕ → ℕ) → Evicted s cands frontier x earlier later cands' earlier' later'
+    → Relisted s cands' evict earlier' later' x evict'
     → InSettling s root cands' queue frontier earlier' later' (shifts ++ (x, last) ∷ []) evict' x
 turn_evict s root cands queue frontier earlier later shifts evict x last c b cands' evict' earlier' later' r l =
     let e = b.settling in
@@ -138,11 +153,14 @@ turn_evict s root cands queue frontier earlier later shifts evict x last c b can
     record {
       searching = subst (λ (p : ℕ → ℕ). Searching s root cands' queue frontier earlier' later' p) (sym same) next.0;
       settling = subst (λ (p : ℕ → ℕ). WeakListed s cands' frontier earlier' later' p evict' x) (sym same) next.1;
-      shifts_fit = Shifts-evict s cands cands' frontier x last shifts ox (b.searching.cand_passed x there) there r.dropped e.last_level e.last_passed e.last_done b.shifts_fit;
+      shifts_fit =
+          Shifts-evict s cands cands' frontier x last shifts ox (b.searching.cand_passed x there) there r.dropped e.last_level e.last_passed
+          e.last_done b.shifts_fit;
     }
 
 -- all that were too weak are evicted
-pub turn_settled : (s : Search) (root : ℕ) (cands queue : List ℕ) (frontier : ℕ) (earlier later : ℕ → ℕ) (shifts : List (ℕ × ℕ)) (last : ℕ) → InSettling s root cands queue frontier earlier later shifts [] last
+pub turn_settled : (s : Search) (root : ℕ) (cands queue : List ℕ) (frontier : ℕ) (earlier later : ℕ → ℕ) (shifts : List (ℕ × ℕ)) (last : ℕ)
+    → InSettling s root cands queue frontier earlier later shifts [] last
     → BetweenTurns s root cands queue frontier earlier later shifts
 turn_settled s root cands queue frontier earlier later shifts last b = record {
   searching = b.searching;
@@ -154,16 +172,22 @@ turn_settled s root cands queue frontier earlier later shifts last b = record {
 coming-list : (s : Search) (cands cands' : List ℕ) → ((y : ℕ) → member y cands' ≡ member y cands) → (x : ℕ) → coming s cands x ≡ coming s cands' x
 coming-list s cands cands' same x = among-agree s x (coming_at s cands x) (coming_at s cands' x) (λ y l a. ap (λ b. b && after s y x) (sym (same y)))
 
-holding-list : (s : Search) (cands cands' : List ℕ) → ((y : ℕ) → member y cands' ≡ member y cands) → (frontier x : ℕ) → holding s cands frontier x ≡ holding s cands' frontier x
+holding-list : (s : Search) (cands cands' : List ℕ) → ((y : ℕ) → member y cands' ≡ member y cands) → (frontier x : ℕ)
+    → holding s cands frontier x ≡ holding s cands' frontier x
 holding-list s cands cands' same frontier x =
-    among-agree s x (holding_at s cands frontier x) (holding_at s cands' frontier x) (λ y l a. ap (λ b. above s y || (on_level s y && (after s x y && (b || leb frontier (s.rank y))))) (sym (same y)))
+    among-agree s x (holding_at s cands frontier x) (holding_at s cands' frontier x)
+    (λ y l a. ap (λ b. above s y || (on_level s y && (after s x y && (b || leb frontier (s.rank y))))) (sym (same y)))
 
-behind-list : (s : Search) (cands cands' : List ℕ) → ((y : ℕ) → member y cands' ≡ member y cands) → (place : ℕ → ℕ) (z : ℕ) → behind s cands' place z ≡ behind s cands place z
+behind-list : (s : Search) (cands cands' : List ℕ) → ((y : ℕ) → member y cands' ≡ member y cands) → (place : ℕ → ℕ) (z : ℕ)
+    → behind s cands' place z ≡ behind s cands place z
 behind-list s cands cands' same place z =
-    among-agree s z (behind_at s cands' place z) (behind_at s cands place z) (λ y l a. ap (λ b. above s y || (on_level s y && (b || ltb (place z) (place y)))) (same y))
+    among-agree s z (behind_at s cands' place z) (behind_at s cands place z)
+    (λ y l a. ap (λ b. above s y || (on_level s y && (b || ltb (place z) (place y)))) (same y))
 
-Searching-list : (s : Search) (root : ℕ) (cands queue : List ℕ) (frontier : ℕ) (earlier later place : ℕ → ℕ) → Searching s root cands queue frontier earlier later place
-    → (cands' : List ℕ) (earlier' later' : ℕ → ℕ) → ((y : ℕ) → member y cands' ≡ member y cands) → ((y : ℕ) → earlier' y ≡ earlier y) → ((y : ℕ) → later' y ≡ later y)
+Searching-list : (s : Search) (root : ℕ) (cands queue : List ℕ) (frontier : ℕ) (earlier later place : ℕ → ℕ)
+    → Searching s root cands queue frontier earlier later place
+    → (cands' : List ℕ) (earlier' later' : ℕ → ℕ) → ((y : ℕ) → member y cands' ≡ member y cands) → ((y : ℕ) → earlier' y ≡ earlier y)
+    → ((y : ℕ) → later' y ≡ later y)
     → Searching s root cands' queue frontier earlier' later' place
 Searching-list s root cands queue frontier earlier later place h cands' earlier' later' same e l = record {
   cand_level = λ x m. h.cand_level x (sym (same x) ∙ m);
@@ -184,7 +208,8 @@ Searching-list s root cands queue frontier earlier later place h cands' earlier'
   others_kept = h.others_kept;
 }
 
-Shifts-list : (s : Search) (cands cands' : List ℕ) (frontier : ℕ) (shifts : List (ℕ × ℕ)) → ((y : ℕ) → member y cands' ≡ member y cands) → Shifts s cands frontier shifts → Shifts s cands' frontier shifts
+Shifts-list : (s : Search) (cands cands' : List ℕ) (frontier : ℕ) (shifts : List (ℕ × ℕ)) → ((y : ℕ) → member y cands' ≡ member y cands)
+    → Shifts s cands frontier shifts → Shifts s cands' frontier shifts
 Shifts-list s cands cands' frontier shifts same f = record {
   in_turn = f.in_turn;
   once = f.once;
@@ -197,8 +222,10 @@ Shifts-list s cands cands' frontier shifts same f = record {
 }
 
 -- the same counts, and the same candidates in another list, between two turns
-pub turn_same : (s : Search) (root : ℕ) (cands queue : List ℕ) (frontier : ℕ) (earlier later : ℕ → ℕ) (shifts : List (ℕ × ℕ)) → BetweenTurns s root cands queue frontier earlier later shifts
-    → (cands' : List ℕ) (earlier' later' : ℕ → ℕ) → ((y : ℕ) → member y cands' ≡ member y cands) → ((y : ℕ) → earlier' y ≡ earlier y) → ((y : ℕ) → later' y ≡ later y)
+pub turn_same : (s : Search) (root : ℕ) (cands queue : List ℕ) (frontier : ℕ) (earlier later : ℕ → ℕ) (shifts : List (ℕ × ℕ))
+    → BetweenTurns s root cands queue frontier earlier later shifts
+    → (cands' : List ℕ) (earlier' later' : ℕ → ℕ) → ((y : ℕ) → member y cands' ≡ member y cands) → ((y : ℕ) → earlier' y ≡ earlier y)
+    → ((y : ℕ) → later' y ≡ later y)
     → BetweenTurns s root cands' queue frontier earlier' later' shifts
 turn_same s root cands queue frontier earlier later shifts b cands' earlier' later' same e l = record {
   searching = Searching-list s root cands queue frontier earlier later (place_after s.rank shifts) b.searching cands' earlier' later' same e l;
@@ -209,7 +236,8 @@ turn_same s root cands queue frontier earlier later shifts b cands' earlier' lat
 -- and while a vertex is settled
 pub settling_same : (s : Search) (root : ℕ) (cands queue : List ℕ) (frontier : ℕ) (earlier later : ℕ → ℕ) (shifts : List (ℕ × ℕ)) (evict : List ℕ) (last : ℕ)
     → InSettling s root cands queue frontier earlier later shifts evict last
-    → (cands' : List ℕ) (earlier' later' : ℕ → ℕ) → ((y : ℕ) → member y cands' ≡ member y cands) → ((y : ℕ) → earlier' y ≡ earlier y) → ((y : ℕ) → later' y ≡ later y)
+    → (cands' : List ℕ) (earlier' later' : ℕ → ℕ) → ((y : ℕ) → member y cands' ≡ member y cands) → ((y : ℕ) → earlier' y ≡ earlier y)
+    → ((y : ℕ) → later' y ≡ later y)
     → InSettling s root cands' queue frontier earlier' later' shifts evict last
 settling_same s root cands queue frontier earlier later shifts evict last b cands' earlier' later' same e l =
     let t = b.settling in

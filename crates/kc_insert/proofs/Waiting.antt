@@ -23,7 +23,8 @@ pub first-no_candidate : (w : ℕ) (r : Rising) → IsOrderly r → r.turn < len
 first-no_candidate w r o lt first = false_from_ne_true _ (λ c. true≢false (sym (cand-left r o w c) ∙ first-not_left w r o lt first))
 
 -- only the later neighbours of candidates count
-pub later-of_cands : (s : Search) (root : ℕ) (cands queue : List ℕ) (frontier : ℕ) (earlier later : ℕ → ℕ) (shifts : List (ℕ × ℕ)) → BetweenTurns s root cands queue frontier earlier later shifts
+pub later-of_cands : (s : Search) (root : ℕ) (cands queue : List ℕ) (frontier : ℕ) (earlier later : ℕ → ℕ) (shifts : List (ℕ × ℕ))
+    → BetweenTurns s root cands queue frontier earlier later shifts
     → (later' : ℕ → ℕ) → ((x : ℕ) → member x cands ≡ true → later' x ≡ later x) → BetweenTurns s root cands queue frontier earlier later' shifts
 later-of_cands s root cands queue frontier earlier later shifts b later' same =
     let h = b.searching in
@@ -51,8 +52,10 @@ later-of_cands s root cands queue frontier earlier later shifts b later' same =
     }
 
 -- the mark of `w` says nothing
-pub pass-between : (s : Search) (root w : ℕ) (old new : Rising) → Widened s root → IsOrderly old → old.turn < length old.queue.items → get_or old.queue.items old.turn 0 ≡ w
-    → Leaves w (record { earlier = 0; later = 0; turn = 0; is_candidate = false; is_weak = false }) old new → ahead s w ≤ s.level → earlier_at old w ≡ 0 → IsBetweenTurns s root old → IsBetweenTurns s root new
+pub pass-between : (s : Search) (root w : ℕ) (old new : Rising) → Widened s root → IsOrderly old → old.turn < length old.queue.items
+    → get_or old.queue.items old.turn 0 ≡ w
+    → Leaves w (record { earlier = 0; later = 0; turn = 0; is_candidate = false; is_weak = false }) old new → ahead s w ≤ s.level
+    → earlier_at old w ≡ 0 → IsBetweenTurns s root old → IsBetweenTurns s root new
 pass-between s root w old new c o lt first l few none (f, b) =
     let mark : Mark = record { earlier = 0; later = 0; turn = 0; is_candidate = false; is_weak = false } in
     let rest : List ℕ = waiting new in
@@ -67,7 +70,10 @@ pass-between s root w old new c o lt first l few none (f, b) =
       | inr ne ↦ ap candidate_in (l.marks.others y ne)
     ] in
     let same : (y : ℕ) → member y (cands new) ≡ member y (cands old) = λ y.
-    filter-has (is_candidate new) y new.queue.items ∙ (ap (λ xs. member y xs && is_candidate new y) l.queue ∙ (ap (λ k. member y old.queue.items && k) (cand y) ∙ sym (filter-has (is_candidate old) y old.queue.items))) in
+    filter-has (is_candidate new) y new.queue.items
+    ∙
+    (ap (λ xs. member y xs && is_candidate new y) l.queue
+    ∙ (ap (λ k. member y old.queue.items && k) (cand y) ∙ sym (filter-has (is_candidate old) y old.queue.items))) in
     let earlier : (y : ℕ) → earlier_at new y ≡ earlier_at old y = λ y. elim (cases_eq y w) [
       | inl e ↦ ap (earlier_at new) e ∙ (ap earlier_in l.marks.here ∙ sym (ap (earlier_at old) e ∙ none))
       | inr ne ↦ ap earlier_in (l.marks.others y ne)
@@ -77,7 +83,8 @@ pass-between s root w old new c o lt first l few none (f, b) =
       | inr ne ↦ ap later_in (l.marks.others y ne)
     ] in
     let now : BetweenTurns s root (cands new) rest (s.rank w + 1) (earlier_at new) (later_at new) old.shifts.items =
-    turn_same s root (cands old) rest (s.rank w + 1) (earlier_at old) (later_at new) old.shifts.items (later-of_cands s root (cands old) rest (s.rank w + 1) (earlier_at old) (later_at old) old.shifts.items passed (later_at new) later)
+    turn_same s root (cands old) rest (s.rank w + 1) (earlier_at old) (later_at new) old.shifts.items
+    (later-of_cands s root (cands old) rest (s.rank w + 1) (earlier_at old) (later_at old) old.shifts.items passed (later_at new) later)
     (cands new) (earlier_at new) (later_at new) same earlier (λ y. refl) in (
       s.rank w + 1,
       record {

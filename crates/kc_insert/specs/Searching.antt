@@ -79,7 +79,8 @@ pub record Drops (cands : List ℕ) (x : ℕ) (cands' : List ℕ) : Type 0 where
   pub others : (y : ℕ) → y ≢ x → member y cands' ≡ member y cands
 
 -- The first of the queue becomes a candidate: its later neighbours of the level are queued.
-pub record Raised (s : Search) (cands : List ℕ) (w : ℕ) (queue : List ℕ) (earlier later : ℕ → ℕ) (cands' queue' : List ℕ) (earlier' later' : ℕ → ℕ) : Type 0 where
+pub record Raised (s : Search) (cands : List ℕ) (w : ℕ) (queue : List ℕ) (earlier later : ℕ → ℕ) (cands' queue' : List ℕ)
+    (earlier' later' : ℕ → ℕ) : Type 0 where
   pub strong : s.level < earlier w + later' w
   pub counted : later' w ≡ ahead s w
   pub later_kept : (x : ℕ) → member x cands ≡ true → later' x ≡ later x
@@ -99,7 +100,8 @@ pub record Settled (s : Search) (cands : List ℕ) (w : ℕ) (earlier later earl
 pub record Evicted (s : Search) (cands : List ℕ) (frontier x : ℕ) (earlier later : ℕ → ℕ) (cands' : List ℕ) (earlier' later' : ℕ → ℕ) : Type 0 where
   pub dropped : Drops cands x cands'
   pub fewer_later : (y : ℕ) → member y cands' ≡ true → later' y ≡ later y - (if s.adj x y && after s y x then 1 else 0)
-  pub fewer_earlier : (y : ℕ) → OnLevel s y → y ≢ x → (member y cands' || nat_le frontier (s.rank y)) ≡ true → earlier' y ≡ earlier y - (if s.adj x y && after s x y then 1 else 0)
+  pub fewer_earlier : (y : ℕ) → OnLevel s y → y ≢ x → (member y cands' || nat_le frontier (s.rank y)) ≡ true
+      → earlier' y ≡ earlier y - (if s.adj x y && after s x y then 1 else 0)
 
 -- The list of those to be evicted goes on: those of `listed` among its neighbours that are now too weak are added.
 pub record Relisted (s : Search) (cands evict : List ℕ) (earlier later : ℕ → ℕ) (x : ℕ) (evict' : List ℕ) : Type 0 where
@@ -126,7 +128,8 @@ pub record BetweenTurns (s : Search) (root : ℕ) (cands queue : List ℕ) (fron
   pub shifts_fit : Shifts s cands frontier shifts
 
 -- while a vertex is settled
-pub record InSettling (s : Search) (root : ℕ) (cands queue : List ℕ) (frontier : ℕ) (earlier later : ℕ → ℕ) (shifts : List (ℕ × ℕ)) (evict : List ℕ) (last : ℕ) : Type 0 where
+pub record InSettling (s : Search) (root : ℕ) (cands queue : List ℕ) (frontier : ℕ) (earlier later : ℕ → ℕ) (shifts : List (ℕ × ℕ))
+    (evict : List ℕ) (last : ℕ) : Type 0 where
   pub searching : Searching s root cands queue frontier earlier later (place_after s.rank shifts)
   pub settling : WeakListed s cands frontier earlier later (place_after s.rank shifts) evict last
   pub shifts_fit : Shifts s cands frontier shifts

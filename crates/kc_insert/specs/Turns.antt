@@ -1,5 +1,6 @@
 -- What the code's steps make of queue, candidates and evicted, and what holds of these in a state that agrees with the answers.
-use Rattle.std.specs.Prelude.{◌≡◌, ◌≢◌, ◌≤◌, ◌<◌, ◌+◌, ◌-◌, ◌^◌, ◌⊎◌, ◌++◌, ◌&&◌, ◌||◌, ℕ, Bool, true, false, not, min, List, [], ◌∷◌, Some, None, length, slice_index, nat_lt, nat_le, if◌then◌else◌}
+use Rattle.std.specs.Prelude.{◌≡◌, ◌≢◌, ◌≤◌, ◌<◌, ◌+◌, ◌-◌, ◌^◌, ◌⊎◌, ◌++◌, ◌&&◌, ◌||◌, ℕ, Bool, true, false, not, min, List, [], ◌∷◌, Some, None}
+use Rattle.std.specs.Prelude.{length, slice_index, nat_lt, nat_le, if◌then◌else◌}
 use Rattle.std.specs.List.{insert}
 use Rattle.kc_distinct.specs.Lists.{member}
 use Rattle.kc_cert.specs.Ranks.{AscendsBy}
@@ -39,13 +40,21 @@ pub record Leaves (w : ℕ) (mark : Mark) (old new : Rising) : Type 0 where
 
 -- the mark of `x` with one candidate more before it
 abbrev pub passed_mark : Rising → ℕ → Mark
-passed_mark r x = record { earlier = min (earlier_at r x + 1) (2 ^ 64 - 1); later = later_at r x; turn = turn_at r x; is_candidate = is_candidate r x; is_weak = is_weak r x }
+passed_mark r x =
+    record {
+      earlier = min (earlier_at r x + 1) (2 ^ 64 - 1);
+      later = later_at r x;
+      turn = turn_at r x;
+      is_candidate = is_candidate r x;
+      is_weak = is_weak r x;
+    }
 
 -- `x` has one candidate more before it, and is queued if it never was
 pub record Passes (x : ℕ) (old new : Rising) : Type 0 where
   pub marks : MarksOne x (passed_mark old x) old new
   pub kept : is_queued old x ≡ true → new.queue.items ≡ old.queue.items
-  pub queued : is_queued old x ≡ false → (place : ℕ) × (old.turn ≤ place) × (place ≤ length old.queue.items) × (new.queue.items ≡ insert old.queue.items place x)
+  pub queued : is_queued old x ≡ false
+      → (place : ℕ) × (old.turn ≤ place) × (place ≤ length old.queue.items) × (new.queue.items ≡ insert old.queue.items place x)
   pub turn : new.turn ≡ old.turn
   pub weak : new.weak.items ≡ old.weak.items
   pub shifts : new.shifts.items ≡ old.shifts.items
@@ -77,7 +86,9 @@ loses_earlier (Evicted turn) r y = not (is_before r turn y)
 -- what a mark loses so
 abbrev pub taken_from : Loss → Mark → Mark
 taken_from Settled mark = record mark { later = mark.later - (if mark.is_candidate then 1 else 0) }
-taken_from (Evicted turn) mark = if mark.is_candidate && nat_lt mark.turn turn then record mark { later = mark.later - 1 } else record mark { earlier = mark.earlier - 1 }
+taken_from (Evicted turn) mark =
+    if mark.is_candidate
+    && nat_lt mark.turn turn then record mark { later = mark.later - 1 } else record mark { earlier = mark.earlier - 1 }
 
 -- a candidate is too weak where its counts don't exceed the level
 abbrev pub recounted : ℕ → Mark → Mark
@@ -108,7 +119,8 @@ pub record Loses (level : ℕ) (loss : Loss) (ys : List ℕ) (old new : Rising) 
   pub candidates : (z : ℕ) → is_candidate new z ≡ is_candidate old z
   pub more : (more : List ℕ) × (new.weak.items ≡ old.weak.items ++ more)
   -- who is found too weak is so, and whoever is so is found
-  pub only : (z : ℕ) → member z new.weak.items ≡ true → member z old.weak.items ≡ false → (is_candidate old z ≡ true) × (earlier_at new z + later_at new z ≤ level)
+  pub only : (z : ℕ) → member z new.weak.items ≡ true → member z old.weak.items ≡ false
+      → (is_candidate old z ≡ true) × (earlier_at new z + later_at new z ≤ level)
   pub all_weak : (z : ℕ) → member z ys ≡ true → is_candidate old z ≡ true → member z new.weak.items ≡ false → level < earlier_at new z + later_at new z
   pub queue : new.queue.items ≡ old.queue.items
   pub turn : new.turn ≡ old.turn

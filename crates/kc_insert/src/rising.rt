@@ -160,7 +160,8 @@ impl Rising {
     /// The mark of a vertex says from now on that it was too weak. What comes back is its turn.
     fn dismiss(&mut self, x: u32) -> Result<usize, NoMemory>
         ensures turn { IfOk result (λ turn. turn ≡ turn_at self.old x) }
-        ensures marks { OnOk result (MarksOne x (record { earlier = 0; later = 0; turn = turn_at self.old x; is_candidate = false; is_weak = true }) self.old self.new) }
+        ensures marks { OnOk result (MarksOne x
+            (record { earlier = 0; later = 0; turn = turn_at self.old x; is_candidate = false; is_weak = true }) self.old self.new) }
         ensures rest { OnOk result ((self.new.queue.items ≡ self.old.queue.items) × (self.new.turn ≡ self.old.turn)
             × (self.new.weak.items ≡ self.old.weak.items) × (self.new.shifts.items ≡ self.old.shifts.items)) }
     {

@@ -4,7 +4,8 @@ use Rattle.kc_io.specs.Calls.{CallsSoFar, one_called, one_failed}
 use Rattle.kc_io.specs.Causes.{HasCause, one_more}
 
 -- a call was counted, and then a fault
-pub HasCause-failed : {T E : Type 0} (before begun after : CallsSoFar) (e : E) → begun ≡ one_called before → after ≡ one_failed begun → begun.failed ≤ after.failed
+pub HasCause-failed : {T E : Type 0} (before begun after : CallsSoFar) (e : E) → begun ≡ one_called before → after ≡ one_failed begun
+    → begun.failed ≤ after.failed
     → HasCause {T = T} before.failed after.failed (Err e)
 HasCause-failed before begun after e called failed later =
     let same : begun.failed ≡ before.failed = ap (λ (calls : CallsSoFar). calls.failed) called in

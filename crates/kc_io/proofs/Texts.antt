@@ -1,5 +1,6 @@
 -- Parts of a text that are read or offered one after another.
-use Rattle.std.proofs.Common.{◌≡◌, ◌<◌, ◌+◌, ◌-◌, ℕ, zero, suc, List, ◌++◌, length, take, drop, refl, sym, ap, ◌∙◌, arith, Option, None, Some, subst, rules, take_all, take-append-drop}
+use Rattle.std.proofs.Common.{◌≡◌, ◌<◌, ◌+◌, ◌-◌, ℕ, zero, suc, List, ◌++◌, length, take, drop, refl, sym, ap, ◌∙◌, arith, Option, None, Some, subst}
+use Rattle.std.proofs.Common.{rules, take_all, take-append-drop}
 use Rattle.std.proofs.Math.Seq.{take-append_seam}
 use Rattle.std.proofs.lemmas.List.{drop-drop}
 use Rattle.kc_io.specs.FirstPiece.{KeepsFirst}
@@ -25,22 +26,28 @@ KeepsFirst-rest a b c text (suc done) some none first h =
     KeepsFirst-more a b c text (take (length text - suc done) (drop (suc done) text)) some (first (omega arith)) h
 
 -- the bytes that are left after n more of them were copied out
-pub left-taken : (xs front rest : List ℕ) (done n : ℕ) → front ≡ take n (drop done xs) → length front ≡ n → drop done xs ≡ take n (front ++ rest) ++ drop (done + n) xs
+pub left-taken : (xs front rest : List ℕ) (done n : ℕ) → front ≡ take n (drop done xs) → length front ≡ n
+    → drop done xs ≡ take n (front ++ rest) ++ drop (done + n) xs
 left-taken xs front rest done n copied full =
     let seam : take n (front ++ rest) ≡ front = ap (λ (k : ℕ). take k (front ++ rest)) (sym full) ∙ take-append_seam front rest in
-    sym (ap (λ (t : List ℕ). t ++ drop (done + n) xs) (seam ∙ copied) ∙ ap (λ (t : List ℕ). take n (drop done xs) ++ t) (sym (drop-drop n done xs)) ∙ take-append-drop n (drop done xs))
+    sym
+    (ap (λ (t : List ℕ). t ++ drop (done + n) xs) (seam ∙ copied)
+    ∙ ap (λ (t : List ℕ). take n (drop done xs) ++ t) (sym (drop-drop n done xs)) ∙ take-append-drop n (drop done xs))
 
 -- what is offered after some bytes of a text were taken goes on with it
 pub after_offer-more : (offers : Offers) (size done n : ℕ) → after_offer (after_offer offers size done) (size - done) n ≡ after_offer offers size (done + n)
 after_offer-more offers size done n = search (rules)
 
 -- the same, where the sink tells its pieces, and for the first turn
-pub IsOffered-rest : (a b c : Option Offers) (size done n : ℕ) → (done ≡ 0 → b ≡ a) → (0 < done → IsOffered a b size done) → IsOffered b c (size - done) n → IsOffered a c size (done + n)
+pub IsOffered-rest : (a b c : Option Offers) (size done n : ℕ) → (done ≡ 0 → b ≡ a) → (0 < done → IsOffered a b size done)
+    → IsOffered b c (size - done) n → IsOffered a c size (done + n)
 IsOffered-rest None b c size done n none some h = tt
 IsOffered-rest (Some offers) b c size zero n none some h =
     let whole : size - 0 ≡ size = omega arith in
     let begun : n ≡ 0 + n = omega arith in
-    subst (IsOffered (Some offers) c size) begun (subst (λ (t : Option Offers). IsOffered t c size n) (none refl) (subst (λ (k : ℕ). IsOffered b c k n) whole h))
+    subst (IsOffered (Some offers) c size) begun
+    (subst (λ (t : Option Offers). IsOffered t c size n) (none refl) (subst (λ (k : ℕ). IsOffered b c k n) whole h))
 IsOffered-rest (Some offers) b c size (suc done) n none some h =
-    let next : IsOffered (Some (after_offer offers size (suc done))) c (size - suc done) n = subst (λ (t : Option Offers). IsOffered t c (size - suc done) n) (some (omega arith)) h in
+    let next : IsOffered (Some (after_offer offers size (suc done))) c (size - suc done) n =
+    subst (λ (t : Option Offers). IsOffered t c (size - suc done) n) (some (omega arith)) h in
     next ∙ ap Some (after_offer-more offers size (suc done) n)

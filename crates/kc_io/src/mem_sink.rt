@@ -29,7 +29,14 @@ impl Model for MemSink {
 
     ghost Value = { SinkState };
 
-    ghost view = { λ s. record { taken = s.kept.items; first = s.pieces.first; offers = record { begun = s.pieces.begun; rest = s.pieces.rest }; most = s.most; per_write = s.per_write; calls = s.calls } };
+    ghost view = { λ s. record {
+      taken = s.kept.items;
+      first = s.pieces.first;
+      offers = record { begun = s.pieces.begun; rest = s.pieces.rest };
+      most = s.most;
+      per_write = s.per_write;
+      calls = s.calls;
+    } };
 
     ghost invariant = { λ s. (vec_len s.kept ≤ s.most) × (s.most ≤ vec_capacity s.kept) × (0 < s.per_write) };
 }
@@ -45,7 +52,14 @@ impl MemSink {
         fails: Vec<u32>,
     ) -> Result<MemSink, NoMemory>
         requires { 0 < per_write }
-        ensures { IfOk result (λ sink. sink ≡ record { taken = []; first = 0; offers = record { begun = 0; rest = 0 }; most = most; per_write = per_write; calls = record { fails = fails.items; made = 0; failed = 0 } }) }
+        ensures { IfOk result (λ sink. sink ≡ record {
+          taken = [];
+          first = 0;
+          offers = record { begun = 0; rest = 0 };
+          most = most;
+          per_write = per_write;
+          calls = record { fails = fails.items; made = 0; failed = 0 };
+        }) }
     {
         let kept = Vec::with_capacity(alloc, most)?;
         Ok(MemSink {

@@ -1,10 +1,13 @@
 -- A ring after an edit.
-use Rattle.std.proofs.Common.{◌≡◌, ◌≢◌, ℕ, suc, zero, ◌+◌, ◌^◌, ◌<◌, ◌≤◌, ◌-◌, true, false, List, [], ◌∷◌, ◌++◌, length, get_or, set, replicate, refl, sym, ◌∙◌, ap, subst, ◌⊎◌, inl, inr, arith}
+use Rattle.std.proofs.Common.{◌≡◌, ◌≢◌, ℕ, suc, zero, ◌+◌, ◌^◌, ◌<◌, ◌≤◌, ◌-◌, true, false, List, [], ◌∷◌, ◌++◌, length, get_or, set, replicate, refl}
+use Rattle.std.proofs.Common.{sym, ◌∙◌, ap, subst, ◌⊎◌, inl, inr, arith}
 use Rattle.std.proofs.lemmas.Bool.{true≢false, false≢true}
 use Rattle.std.proofs.lemmas.List.{get_or-set_same, get_or-set_other, append_assoc, length-append, length-set, get_or_read, get_or-replicate, length-replicate}
 use Rattle.kc_distinct.specs.Lists.{member, Distinct, without, right_after, head_or, last_or, next_of, prev_of}
 use Rattle.kc_links.specs.Ring.{walk, Link, Path, IsRing}
-use Rattle.kc_distinct.proofs.Members.{member-head, member-tail, member-cases, member-append, member-append_left, member-append_right, not_member-parts, not_member-append, cut, Distinct-cut, Distinct-insert, without-cut, right_after-cut, next_of-cut, prev_of-cut, ended, last_or-push, member-last_or, below_bound}
+use Rattle.kc_distinct.proofs.Members.{member-head, member-tail, member-cases, member-append, member-append_left, member-append_right}
+use Rattle.kc_distinct.proofs.Members.{not_member-parts, not_member-append, cut, Distinct-cut, Distinct-insert, without-cut, right_after-cut}
+use Rattle.kc_distinct.proofs.Members.{next_of-cut, prev_of-cut, ended, last_or-push, member-last_or, below_bound}
 use Rattle.kc_distinct.proofs.Shared.{some_length, Distinct-front}
 
 pub Path-mono : (R S : ℕ → ℕ → Type 0) (x : ℕ) (xs : List ℕ) (e : ℕ)

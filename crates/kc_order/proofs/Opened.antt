@@ -1,5 +1,6 @@
 -- The opening list of words that order a list is that list.
-use Rattle.std.proofs.Common.{◌≡◌, ℕ, zero, suc, ◌+◌, ◌*◌, ◌<◌, ◌≤◌, true, false, cond, List, [], ◌∷◌, length, get_or, eqb, ltb, refl, sym, ap, ◌∙◌, subst, inl, inr, arith}
+use Rattle.std.proofs.Common.{◌≡◌, ℕ, zero, suc, ◌+◌, ◌*◌, ◌<◌, ◌≤◌, true, false, cond, List, [], ◌∷◌, length, get_or, eqb, ltb, refl, sym, ap, ◌∙◌}
+use Rattle.std.proofs.Common.{subst, inl, inr, arith}
 use Rattle.std.proofs.lemmas.Bool.{cases_Bool, cases_eq, eqb-true, eqb-false, ltb-true, ltb-false, false≢true}
 use Rattle.kc_distinct.specs.Lists.{member}
 use Rattle.kc_distinct.proofs.Members.{member-head, member-tail, member-cases}
@@ -65,7 +66,8 @@ same-order R t asym (x ∷ xs) (y ∷ ys) p q f g =
     ap (λ z. z ∷ xs) heads ∙ ap (λ zs. y ∷ zs) (same-order R t asym xs ys (InOrder-tail R x xs p) (InOrder-tail R y ys q) lower upper)
 
 -- a list stays in order where an item is placed by its pair
-follows-placed : (a : Labels) (w x : ℕ) (zs : List ℕ) → PairBelow a w x → Follows (PairBelow a) w zs → InOrder (PairBelow a) zs → ((z : ℕ) → member z zs ≡ true → is_below a x z ≡ false → PairBelow a z x) → Follows (PairBelow a) w (placed a x zs)
+follows-placed : (a : Labels) (w x : ℕ) (zs : List ℕ) → PairBelow a w x → Follows (PairBelow a) w zs → InOrder (PairBelow a) zs
+    → ((z : ℕ) → member z zs ≡ true → is_below a x z ≡ false → PairBelow a z x) → Follows (PairBelow a) w (placed a x zs)
 follows-placed a w x [] h p q f = (h, tt)
 follows-placed a w x (z ∷ zs) h p q f =
     elim (cases_Bool (is_below a x z)) [
@@ -77,7 +79,8 @@ follows-placed a w x (z ∷ zs) h p q f =
       )
     ]
 
-in_order-placed : (a : Labels) (x : ℕ) (zs : List ℕ) → InOrder (PairBelow a) zs → ((z : ℕ) → member z zs ≡ true → is_below a x z ≡ false → PairBelow a z x) → InOrder (PairBelow a) (placed a x zs)
+in_order-placed : (a : Labels) (x : ℕ) (zs : List ℕ) → InOrder (PairBelow a) zs
+    → ((z : ℕ) → member z zs ≡ true → is_below a x z ≡ false → PairBelow a z x) → InOrder (PairBelow a) (placed a x zs)
 in_order-placed a x [] h f = tt
 in_order-placed a x (z ∷ zs) h f =
     elim (cases_Bool (is_below a x z)) [
@@ -125,7 +128,10 @@ module _ (n : ℕ) (ws order : List ℕ) (o : Ordered n ws order) where
         | inl t ↦ rw t (in_order-listed k (omega (arith, l)))
         | inr f ↦ rw f (in_order-placed a k (listed a k) (in_order-listed k (omega (arith, l))) (λ z m isnt.
             let low : z < k = listed-within a k z m in
-            elim (one-less a k z order o.pairs (in-order k (omega (arith, l)) (eqb-false _ _ f)) (listed-in k z (omega (arith, l)) m) (λ e. omega (arith, e, low))) [
+            elim (one-less a k z order o.pairs (in-order k (omega (arith, l)) (eqb-false _ _ f)) (listed-in k z (omega (
+              arith,
+              l,
+            )) m) (λ e. omega (arith, e, low))) [
               | inl less ↦ absurd (below-false a k z isnt less)
               | inr more ↦ more
             ]))
@@ -146,10 +152,13 @@ pub record Opening (shape : Shape) (words : List ℕ) (order : List ℕ) : Type 
 
 pub opening-of : (shape : Shape) (plain : Plain) (words order vertex : List ℕ) → AreOpeningWords words plain.opening vertex shape.items
     → plain.words ≡ plain.opening
-    → ((w : ℕ) → 1 ≤ w → w ≤ 2 * shape.items + 1 → version plain.words w ≡ shape.version) → Ordered shape.items plain.words order → ((x : ℕ) → member x order ≡ true → x < shape.items)
-    → ((v : ℕ) → v < shape.fixed → member v order ≡ true) → length vertex ≡ shape.fixed → ((v : ℕ) → v < shape.fixed → (vertex_of (get_or vertex v 0)).stamp ≤ shape.base) → Opening shape words order
+    → ((w : ℕ) → 1 ≤ w → w ≤ 2 * shape.items + 1 → version plain.words w ≡ shape.version) → Ordered shape.items plain.words order
+    → ((x : ℕ) → member x order ≡ true → x < shape.items)
+    → ((v : ℕ) → v < shape.fixed → member v order ≡ true) → length vertex ≡ shape.fixed
+    → ((v : ℕ) → v < shape.fixed → (vertex_of (get_or vertex v 0)).stamp ≤ shape.base) → Opening shape words order
 opening-of shape plain words order vertex h same versions o within vertices long stamps =
-    let agree : (w : ℕ) → 1 ≤ w → w < 2 * shape.items + 2 → get_or words w 0 ≡ get_or plain.words w 0 = λ w low high. h.plain w low high ∙ ap (λ l. get_or l w 0) (sym same) in
+    let agree : (w : ℕ) → 1 ≤ w → w < 2 * shape.items + 2 → get_or words w 0 ≡ get_or plain.words w 0 =
+    λ w low high. h.plain w low high ∙ ap (λ l. get_or l w 0) (sym same) in
     let ordered : Ordered shape.items words order = ordered-agree shape.items plain.words words order o within agree in
     let list : listed (labels shape.items words) shape.items ≡ order = listed-is shape.items words order ordered within in
     record {
@@ -176,15 +185,25 @@ tied-open shape plain words order vertex table seen opening h same items fixed l
   where
     made : (t : TableName) → t.shape ≡ shape → t.opening ≡ words → Tied (record { table = t; log = [] }) plain
     made t s o =
-        let lawful : legal.Legal t.shape t.opening [] = subst (λ (z : Shape × List ℕ). legal.Legal z.0 z.1 []) (λ i. (sym s i, sym o i)) (legal-nil shape words opening.opens) in
+        let lawful : legal.Legal t.shape t.opening [] =
+        subst (λ (z : Shape × List ℕ). legal.Legal z.0 z.1 []) (λ i. (sym s i, sym o i)) (legal-nil shape words opening.opens) in
         let begun : state_of t.shape t.opening [] ≡ opened t.shape t.opening = state_of-nil t.shape t.opening in
         record {
           legal = lawful;
           items = items ∙ ap (λ (z : Shape). z.items) (sym s);
           fixed = fixed ∙ ap (λ (z : Shape). z.fixed) (sym s);
-          list = list ∙ (sym opening.list ∙ (ap (λ (z : Shape × List ℕ). listed (labels z.0.items z.1) z.0.items) (λ i. (sym s i, sym o i)) ∙ ap (λ z. z.list) (sym begun)));
+          list =
+              list
+              ∙
+              (sym opening.list
+              ∙
+              (ap (λ (z : Shape × List ℕ). listed (labels z.0.items z.1) z.0.items) (λ i. (sym s i, sym o i))
+              ∙ ap (λ z. z.list) (sym begun)));
           long = long ∙ ap (λ (z : Shape). 2 * z.items + 2) (sym s);
-          words = λ w k. ap (λ l. get_or l w 0) same ∙ (sym (h.plain w k.0 (omega (arith, k.1, ap (λ (z : Shape). z.items) s))) ∙ ap (λ l. get_or l w 0) (sym o));
+          words =
+              λ w k.
+              ap (λ l. get_or l w 0) same
+              ∙ (sym (h.plain w k.0 (omega (arith, k.1, ap (λ (z : Shape). z.items) s))) ∙ ap (λ l. get_or l w 0) (sym o));
           note = note;
           quiet = λ w. subst (λ z. legal.FollowsNote z.note w) (sym begun) tt;
         }

@@ -14,11 +14,15 @@ use Rattle.kc_order.specs.declared.answer.Answer.{Answer}
 use Rattle.kc_order.specs.declared.answer.Answer.TheVariants.{Absent}
 
 -- the words order the list after a legal log
-pub ordered_after : (table : TableName) (log : List Event) → Legal table.shape table.opening log → order.Ordered table.shape.items (words_after table.opening log) (list_after table log)
-ordered_after table log legal = subst (λ ws. order.Ordered table.shape.items ws (list_after table log)) (state_of-words table.shape table.opening log) (legal-holds table.shape table.opening log legal).ordered
+pub ordered_after : (table : TableName) (log : List Event) → Legal table.shape table.opening log
+    → order.Ordered table.shape.items (words_after table.opening log) (list_after table log)
+ordered_after table log legal =
+    subst (λ ws. order.Ordered table.shape.items ws (list_after table log)) (state_of-words table.shape table.opening log)
+    (legal-holds table.shape table.opening log legal).ordered
 
 -- an item whose word names a group is in the list
-pub found_in : (table : TableName) (log : List Event) (x value : ℕ) → Legal table.shape table.opening log → x < table.shape.items → value ≡ value_at table.opening log (1 + x) → 0 < (item_of value).group
+pub found_in : (table : TableName) (log : List Event) (x value : ℕ) → Legal table.shape table.opening log → x < table.shape.items
+    → value ≡ value_at table.opening log (1 + x) → 0 < (item_of value).group
     → (member x (list_after table log) ≡ true) × ((item_of value).group ≤ table.shape.items + 1)
 found_in table log x value legal below is some =
     let o = ordered_after table log legal in

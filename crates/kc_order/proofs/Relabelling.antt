@@ -1,5 +1,6 @@
 -- The writes of a plain list, stored one by one, keep a log legal.
-use Rattle.std.proofs.Common.{◌≡◌, ℕ, ◌+◌, ◌*◌, ◌-◌, ◌<◌, ◌≤◌, ◌^◌, true, false, cond, List, [], ◌∷◌, length, set, get_or, eqb, leb, refl, sym, ap, ◌∙◌, subst, inl, inr, arith, get_or-set_same, get_or-set_other, length-set}
+use Rattle.std.proofs.Common.{◌≡◌, ℕ, ◌+◌, ◌*◌, ◌-◌, ◌<◌, ◌≤◌, ◌^◌, true, false, cond, List, [], ◌∷◌, length, set, get_or, eqb, leb, refl, sym, ap}
+use Rattle.std.proofs.Common.{◌∙◌, subst, inl, inr, arith, get_or-set_same, get_or-set_other, length-set}
 use Rattle.std.proofs.lemmas.Bool.{cases_eq, ne_eqb, lt-leb}
 use Rattle.kc_distinct.specs.Lists.{member, without}
 use Rattle.kc_words.specs.ItemWord.{item_of}
@@ -21,14 +22,18 @@ use Rattle.kc_table.proofs.Listed.{Listed}
 use Rattle.kc_order.specs.Writers.{stores_of}
 
 -- two words that agree but for the note and the vertices order a list alike
-pub ordered-agree : (n : ℕ) (ws vs list : List ℕ) → Ordered n ws list → ((x : ℕ) → member x list ≡ true → x < n) → ((w : ℕ) → 1 ≤ w → w < 2 * n + 2 → get_or vs w 0 ≡ get_or ws w 0) → Ordered n vs list
+pub ordered-agree : (n : ℕ) (ws vs list : List ℕ) → Ordered n ws list → ((x : ℕ) → member x list ≡ true → x < n)
+    → ((w : ℕ) → 1 ≤ w → w < 2 * n + 2 → get_or vs w 0 ≡ get_or ws w 0) → Ordered n vs list
 ordered-agree n ws vs list o within same =
     let a = labels n ws in
     let b = labels n vs in
     let item : (x : ℕ) → x < n → get_or vs (1 + x) 0 ≡ get_or ws (1 + x) 0 = λ x l. same (1 + x) (omega arith) (omega arith) in
     let group : (x : ℕ) → x < n → b.group x ≡ a.group x = λ x l. ap (λ v. (item_of v).group) (item x l) in
     let bottom : (x : ℕ) → x < n → b.bottom x ≡ a.bottom x = λ x l. ap (λ v. (item_of v).bottom) (item x l) in
-    let top : (x : ℕ) → member x list ≡ true → b.top (b.group x) ≡ a.top (a.group x) = λ x m. ap b.top (group x (within x m)) ∙ ap (λ v. (group_of v).top) (same (n + a.group x) (omega (arith, (o.inside x m).0)) (omega (arith, (o.inside x m).1))) in
+    let top : (x : ℕ) → member x list ≡ true → b.top (b.group x) ≡ a.top (a.group x) =
+    λ x m.
+    ap b.top (group x (within x m))
+    ∙ ap (λ v. (group_of v).top) (same (n + a.group x) (omega (arith, (o.inside x m).0)) (omega (arith, (o.inside x m).1))) in
     record {
       pairs = InOrder-mono (PairBelow a) (PairBelow b) list (λ y z y-in z-in h. elim h [
         | inl lt ↦ inl (omega (arith, lt, top y y-in, top z z-in))
@@ -78,7 +83,10 @@ after-relabel shape s e low high q =
       list = store-quiet s.note e.word s.list q i;
       note = Nothing;
       entries = s.entries;
-      unsealed = (put_in-quiet shape s.note e.word (sealed shape e.word s.unsealed) q ∙ ap (λ b. cond b (without (e.word - first_vertex shape) s.unsealed) s.unsealed) no_vertex) i;
+      unsealed =
+          (put_in-quiet shape s.note e.word (sealed shape e.word s.unsealed) q
+          ∙ ap (λ b. cond b (without (e.word - first_vertex shape) s.unsealed) s.unsealed) no_vertex)
+          i;
     })
 
 -- one write of a plain list, stored where nothing is announced
@@ -94,7 +102,11 @@ value-fits value h = omega (arith, h)
 pub set-agree : (xs ys : List ℕ) (k v w : ℕ) → k < length xs → k < length ys → get_or xs w 0 ≡ get_or ys w 0 → get_or (set xs k v) w 0 ≡ get_or (set ys k v) w 0
 set-agree xs ys k v w x-in y-in same =
     elim (cases_eq k w) [
-      | inl e ↦ ap (λ z. get_or (set xs z v) w 0) e ∙ (get_or-set_same xs w v 0 (omega (arith, x-in, e)) ∙ (sym (get_or-set_same ys w v 0 (omega (arith, y-in, e))) ∙ ap (λ z. get_or (set ys z v) w 0) (sym e)))
+      | inl e ↦
+          ap (λ z. get_or (set xs z v) w 0) e
+          ∙
+          (get_or-set_same xs w v 0 (omega (arith, x-in, e))
+          ∙ (sym (get_or-set_same ys w v 0 (omega (arith, y-in, e))) ∙ ap (λ z. get_or (set ys z v) w 0) (sym e)))
       | inr ne ↦ get_or-set_other xs k w v 0 (λ e. ne (sym e)) ∙ (same ∙ sym (get_or-set_other ys k w v 0 (λ e. ne (sym e))))
     ]
 
@@ -103,9 +115,13 @@ pub relabel : (shape : Shape) (s : State) (ws : List ℕ) (w : Write) → Goes s
 relabel shape s ws w g r few o =
     let high : w.word < first_vertex shape = omega (arith, r.high, g.plain_long) in
     let in-words : w.word < length s.words = omega (arith, high, g.long) in
-    let same : (k : ℕ) → 1 ≤ k → k < first_vertex shape → get_or (set s.words w.word w.value) k 0 ≡ get_or (set ws w.word w.value) k 0 = λ k low up. set-agree s.words ws w.word w.value k in-words r.high (g.words k low up) in
-    let stamp : (v : ℕ) → legal.stamp_in shape (relabelled s (event w.word w.value)) v ≡ legal.stamp_in shape s v = λ v. ap (λ z. (vertex_of z).stamp) (get_or-set_other s.words w.word (first_vertex shape + v) w.value 0 (λ e. omega (arith, e, high))) in
-    let stamps : (v : ℕ) → v < shape.fixed → legal.stamp_in shape (relabelled s (event w.word w.value)) v ≤ legal.last_entry shape s = λ v l. omega (arith, stamp v, g.stamps v l) in
+    let same : (k : ℕ) → 1 ≤ k → k < first_vertex shape → get_or (set s.words w.word w.value) k 0 ≡ get_or (set ws w.word w.value) k 0 =
+    λ k low up. set-agree s.words ws w.word w.value k in-words r.high (g.words k low up) in
+    let stamp : (v : ℕ) → legal.stamp_in shape (relabelled s (event w.word w.value)) v ≡ legal.stamp_in shape s v =
+    λ v.
+    ap (λ z. (vertex_of z).stamp) (get_or-set_other s.words w.word (first_vertex shape + v) w.value 0 (λ e. omega (arith, e, high))) in
+    let stamps : (v : ℕ) → v < shape.fixed → legal.stamp_in shape (relabelled s (event w.word w.value)) v ≤ legal.last_entry shape s =
+    λ v l. omega (arith, stamp v, g.stamps v l) in
     record {
       may = record {
         there = omega (arith, high);
@@ -144,7 +160,9 @@ raised-bound ws (s ∷ ss) w h =
     let rest = raised-bound (set ws s.word s.value) ss w h.1 in
     elim (cases_eq s.word w) [
       | inl e ↦
-          let here : sheet.version (set ws s.word s.value) w ≡ (item_of s.value).version = ap (λ z. (item_of (get_or (set ws z s.value) w 0)).version) e ∙ ap (λ z. (item_of z).version) (get_or-set_same ws w s.value 0 (omega (arith, h.0.high, e))) in
+          let here : sheet.version (set ws s.word s.value) w ≡ (item_of s.value).version =
+          ap (λ z. (item_of (get_or (set ws z s.value) w 0)).version) e
+          ∙ ap (λ z. (item_of z).version) (get_or-set_same ws w s.value 0 (omega (arith, h.0.high, e))) in
           omega (arith, rest, here, h.0.version_is, ap (sheet.version ws) e)
       | inr ne ↦ omega (arith, rest, ap (λ z. (item_of z).version) (get_or-set_other ws s.word w s.value 0 (λ e. ne (sym e))))
     ]
@@ -169,5 +187,8 @@ relabel-all shape s ws (w ∷ writes) g r o few =
       goes = subst (λ t. Goes shape (after_stores shape t (stores_of writes)) (sheet.stored vs writes)) (sym is) rest.goes;
       list = ap (λ t. (after_stores shape t (stores_of writes)).list) is ∙ rest.list;
       entries = ap (λ t. (after_stores shape t (stores_of writes)).entries) is ∙ rest.entries;
-      words = λ v. ap (λ t. get_or (after_stores shape t (stores_of writes)).words (first_vertex shape + v) 0) is ∙ (rest.words v ∙ get_or-set_other s.words w.word (first_vertex shape + v) w.value 0 (λ k. omega (arith, k, high)));
+      words =
+          λ v.
+          ap (λ t. get_or (after_stores shape t (stores_of writes)).words (first_vertex shape + v) 0) is
+          ∙ (rest.words v ∙ get_or-set_other s.words w.word (first_vertex shape + v) w.value 0 (λ k. omega (arith, k, high)));
     }

@@ -26,21 +26,29 @@ use Rattle.kc_order.proofs.Relabelling.{ordered-agree, put_in-quiet, store-quiet
 use Rattle.kc_order.proofs.Writing.{goes}
 
 -- a store of a word that is no item's and no group's, after which the list and its words are as they were
-pub stored-aside : (seen : Seen) (plain : Plain) (e : Event) → Tied seen plain → legal.MayStore seen.table.shape (state_of seen.table.shape seen.table.opening seen.log) e
+pub stored-aside : (seen : Seen) (plain : Plain) (e : Event) → Tied seen plain
+    → legal.MayStore seen.table.shape (state_of seen.table.shape seen.table.opening seen.log) e
     → ((w : ℕ) → 1 ≤ w → w < first_vertex seen.table.shape → e.word ≢ w)
     → (t : State) → after_store seen.table.shape (state_of seen.table.shape seen.table.opening seen.log) e ≡ t
-    → t.list ≡ (state_of seen.table.shape seen.table.opening seen.log).list → t.words ≡ set (state_of seen.table.shape seen.table.opening seen.log).words e.word e.value
+    → t.list ≡ (state_of seen.table.shape seen.table.opening seen.log).list
+    → t.words ≡ set (state_of seen.table.shape seen.table.opening seen.log).words e.word e.value
     → ((v : ℕ) → v < seen.table.shape.fixed → legal.stamp_in seen.table.shape t v ≤ legal.last_entry seen.table.shape t)
     → ((w : ℕ) → legal.FollowsNote t.note w)
-    → legal.Legal seen.table.shape seen.table.opening (seen.log ++ e ∷ []) × ((now : Seen) → now ≡ record { table = seen.table; log = seen.log ++ e ∷ [] } → Tied now plain)
+    → legal.Legal seen.table.shape seen.table.opening (seen.log ++ e ∷ [])
+    × ((now : Seen) → now ≡ record { table = seen.table; log = seen.log ++ e ∷ [] } → Tied now plain)
 stored-aside seen plain e tied may aside t is t-list t-words stamps quiet =
     let shape = seen.table.shape in
     let opening = seen.table.opening in
     let s = state_of shape opening seen.log in
     let holds = legal-holds shape opening seen.log tied.legal in
-    let same : (w : ℕ) → 1 ≤ w → w < 2 * shape.items + 2 → get_or t.words w 0 ≡ get_or s.words w 0 = λ w low high. ap (λ l. get_or l w 0) t-words ∙ get_or-set_other s.words e.word w e.value 0 (λ k. aside w low high (sym k)) in
-    let ordered : Ordered shape.items t.words t.list = subst (Ordered shape.items t.words) (sym t-list) (ordered-agree shape.items s.words t.words s.list holds.ordered (stands shape opening seen.log tied.legal).listed.within same) in
-    let lawful : legal.Legal shape opening (seen.log ++ e ∷ []) = legal-push shape opening seen.log e tied.legal may (subst (legal.Holds shape) (sym is) record { ordered = ordered; stamps = stamps }) in
+    let same : (w : ℕ) → 1 ≤ w → w < 2 * shape.items + 2 → get_or t.words w 0 ≡ get_or s.words w 0 =
+    λ w low high. ap (λ l. get_or l w 0) t-words ∙ get_or-set_other s.words e.word w e.value 0 (λ k. aside w low high (sym k)) in
+    let ordered : Ordered shape.items t.words t.list =
+    subst (Ordered shape.items t.words) (sym t-list)
+    (ordered-agree shape.items s.words t.words s.list holds.ordered (stands shape opening seen.log tied.legal).listed.within same) in
+    let lawful : legal.Legal shape opening (seen.log ++ e ∷ []) =
+    legal-push shape opening seen.log e tied.legal may
+    (subst (legal.Holds shape) (sym is) record { ordered = ordered; stamps = stamps }) in
     let at : state_of shape opening (seen.log ++ e ∷ []) ≡ t = state_of-push shape opening seen.log e ∙ is in (
       lawful,
       λ now now-is. subst (λ z. Tied z plain) (sym now-is) record {
@@ -49,7 +57,16 @@ stored-aside seen plain e tied may aside t is t-list t-words stamps quiet =
         fixed = tied.fixed;
         list = tied.list ∙ sym (ap (λ z. z.list) at ∙ t-list);
         long = tied.long;
-        words = λ w h. tied.words w h ∙ (ap (λ l. get_or l w 0) (sym (state_of-words shape opening seen.log)) ∙ (sym (same w h.0 h.1) ∙ (ap (λ z. get_or z.words w 0) (sym at) ∙ ap (λ l. get_or l w 0) (state_of-words shape opening (seen.log ++ e ∷ [])))));
+        words =
+            λ w h.
+            tied.words w h
+            ∙
+            (ap (λ l. get_or l w 0) (sym (state_of-words shape opening seen.log))
+            ∙
+            (sym (same w h.0 h.1)
+            ∙
+            (ap (λ z. get_or z.words w 0) (sym at)
+            ∙ ap (λ l. get_or l w 0) (state_of-words shape opening (seen.log ++ e ∷ [])))));
         note = tied.note;
         quiet = λ w. subst (λ z. legal.FollowsNote z.note w) (sym at) (quiet w);
       },
@@ -61,16 +78,25 @@ enter-fits true index u v h = omega (arith, h.0, h.1, h.2)
 enter-fits false index u v h = omega (arith, h.0, h.1, h.2)
 
 -- an Enter note
-pub entered_at : (seen : Seen) (plain : Plain) (add : Bool) (index u v : ℕ) → Tied seen plain → IsFitting (Enter add index u v) → (state_of seen.table.shape seen.table.opening seen.log).unsealed ≡ []
+pub entered_at : (seen : Seen) (plain : Plain) (add : Bool) (index u v : ℕ) → Tied seen plain → IsFitting (Enter add index u v)
+    → (state_of seen.table.shape seen.table.opening seen.log).unsealed ≡ []
     → let e = event 0 (note_word (Enter add index u v)) in
-    legal.Legal seen.table.shape seen.table.opening (seen.log ++ e ∷ []) × ((now : Seen) → now ≡ record { table = seen.table; log = seen.log ++ e ∷ [] } → Tied now plain)
+    legal.Legal seen.table.shape seen.table.opening (seen.log ++ e ∷ [])
+    × ((now : Seen) → now ≡ record { table = seen.table; log = seen.log ++ e ∷ [] } → Tied now plain)
 entered_at seen plain add index u v tied fitting closed =
     let shape = seen.table.shape in
     let n = Enter add index u v in
     let value = note_word n in
     let s = state_of shape seen.table.opening seen.log in
     let is : note_of value ≡ n = note_of-note_word n fitting in
-    let t : State = record { words = set s.words 0 value; list = s.list; note = n; entries = s.entries ++ record { index = index; add = add; u = u; v = v } ∷ []; unsealed = [] } in
+    let t : State =
+    record {
+      words = set s.words 0 value;
+      list = s.list;
+      note = n;
+      entries = s.entries ++ record { index = index; add = add; u = u; v = v } ∷ [];
+      unsealed = [];
+    } in
     let may : legal.MayStore shape s (event 0 value) = record {
       there = omega arith;
       fits = enter-fits add index u v fitting;
@@ -79,15 +105,30 @@ entered_at seen plain add index u v tied fitting closed =
       fresh = λ k. absurd (omega (arith, k.0));
       seals = λ k e. absurd (omega (arith, e));
     } in
-    let stamp : (k : ℕ) → legal.stamp_in shape t k ≡ legal.stamp_in shape s k = λ k. ap (λ z. (vertex_of z).stamp) (get_or-set_other s.words 0 (first_vertex shape + k) value 0 (λ e. omega (arith, e))) in
-    stored-aside seen plain (event 0 value) tied may (λ w low high e. omega (arith, e, low)) t (ap (λ z. record { words = set s.words 0 value; list = s.list; note = z; entries = entered z s.entries; unsealed = unsealed_from z s.unsealed }) is) refl refl
-    (λ k l. omega (arith, stamp k, (legal-holds shape seen.table.opening seen.log tied.legal).stamps k l, length-append s.entries (record { index = index; add = add; u = u; v = v } ∷ [])))
+    let stamp : (k : ℕ) → legal.stamp_in shape t k ≡ legal.stamp_in shape s k =
+    λ k. ap (λ z. (vertex_of z).stamp) (get_or-set_other s.words 0 (first_vertex shape + k) value 0 (λ e. omega (arith, e))) in
+    stored-aside seen plain (event 0 value) tied may (λ w low high e. omega (arith, e, low)) t
+    (ap
+    (λ z.
+    record
+    { words = set s.words 0 value; list = s.list; note = z; entries = entered z s.entries; unsealed = unsealed_from z s.unsealed })
+    is)
+    refl refl
+    (λ k l.
+    omega (
+      arith,
+      stamp k,
+      (legal-holds shape seen.table.opening seen.log tied.legal).stamps k l,
+      length-append s.entries (record { index = index; add = add; u = u; v = v } ∷ []),
+    ))
     (λ w. tt)
 
 -- a vertex word
-pub sealed_at : (seen : Seen) (plain : Plain) (v value : ℕ) → Tied seen plain → v < seen.table.shape.fixed → value < 2 ^ 64 → legal.Seals seen.table.shape (state_of seen.table.shape seen.table.opening seen.log) v value
+pub sealed_at : (seen : Seen) (plain : Plain) (v value : ℕ) → Tied seen plain → v < seen.table.shape.fixed → value < 2 ^ 64
+    → legal.Seals seen.table.shape (state_of seen.table.shape seen.table.opening seen.log) v value
     → let e = event (first_vertex seen.table.shape + v) value in
-    legal.Legal seen.table.shape seen.table.opening (seen.log ++ e ∷ []) × ((now : Seen) → now ≡ record { table = seen.table; log = seen.log ++ e ∷ [] } → Tied now plain)
+    legal.Legal seen.table.shape seen.table.opening (seen.log ++ e ∷ [])
+    × ((now : Seen) → now ≡ record { table = seen.table; log = seen.log ++ e ∷ [] } → Tied now plain)
 sealed_at seen plain v value tied below fits seals =
     let shape = seen.table.shape in
     let opening = seen.table.opening in
@@ -106,10 +147,22 @@ sealed_at seen plain v value tied below fits seals =
     } in
     let t = ended shape s e in
     let stamps : (k : ℕ) → k < shape.fixed → legal.stamp_in shape t k ≤ legal.last_entry shape t = λ k l. elim (cases_eq w (first_vertex shape + k)) [
-      | inl h ↦ omega (arith, seals.stamp, ap (λ z. (vertex_of (get_or (set s.words z value) (first_vertex shape + k) 0)).stamp) h, ap (λ z. (vertex_of z).stamp) (get_or-set_same s.words (first_vertex shape + k) value 0 (omega (arith, long, l))))
-      | inr ne ↦ omega (arith, (legal-holds shape opening seen.log tied.legal).stamps k l, ap (λ z. (vertex_of z).stamp) (get_or-set_other s.words w (first_vertex shape + k) value 0 (λ h. ne (sym h))))
+      | inl h ↦
+          omega (
+            arith,
+            seals.stamp,
+            ap (λ z. (vertex_of (get_or (set s.words z value) (first_vertex shape + k) 0)).stamp) h,
+            ap (λ z. (vertex_of z).stamp) (get_or-set_same s.words (first_vertex shape + k) value 0 (omega (arith, long, l))),
+          )
+      | inr ne ↦
+          omega (
+            arith,
+            (legal-holds shape opening seen.log tied.legal).stamps k l,
+            ap (λ z. (vertex_of z).stamp) (get_or-set_other s.words w (first_vertex shape + k) value 0 (λ h. ne (sym h))),
+          )
     ] in
-    stored-aside seen plain e tied may (λ k low high h. omega (arith, h, high)) t (after-item shape s e (omega arith)) (store-quiet s.note w s.list tied.quiet) refl stamps (λ k. tt)
+    stored-aside seen plain e tied may (λ k low high h. omega (arith, h, high)) t (after-item shape s e (omega arith))
+    (store-quiet s.note w s.list tied.quiet) refl stamps (λ k. tt)
 
 -- what an Enter note leaves beside the list
 pub enter-leaves : (seen : Seen) (add : Bool) (index u v : ℕ) → IsFitting (Enter add index u v)
@@ -188,7 +241,9 @@ leaves-now seen now new word value entries unsealed words is new-is h =
     subst (λ (z : Seen × Seen). Leaves z.0 (entries z.1) (unsealed z.1) (words z.1)) (λ i. (sym new-is i, is i)) h
 
 -- what one store leaves, in the words of the contracts
-pub stores-now : (seen now new : Seen) (word value : ℕ) → seen ≡ now → legal.Legal seen.table.shape seen.table.opening (seen.log ++ event word value ∷ []) → new ≡ record { table = seen.table; log = seen.log ++ event word value ∷ [] } → Stores now new word value
+pub stores-now : (seen now new : Seen) (word value : ℕ) → seen ≡ now
+    → legal.Legal seen.table.shape seen.table.opening (seen.log ++ event word value ∷ [])
+    → new ≡ record { table = seen.table; log = seen.log ++ event word value ∷ [] } → Stores now new word value
 stores-now seen now new word value is lawful new-is = record {
   is = new-is ∙ ap (λ (z : Seen). record { table = z.table; log = z.log ++ event word value ∷ [] }) is;
   legal = subst (λ (z : Seen). legal.Legal z.table.shape z.table.opening z.log) (sym new-is) lawful;

@@ -37,7 +37,8 @@ pair-trans a x y z h k =
     ]
 
 -- of two items of a list in order, the one with the lesser pair stands first
-pub stands-first : (a : Labels) (x y : ℕ) (list : List ℕ) → InOrder (PairBelow a) list → Distinct list → member x list ≡ true → member y list ≡ true → x ≢ y → PairBelow a x y → place_of x list < place_of y list
+pub stands-first : (a : Labels) (x y : ℕ) (list : List ℕ) → InOrder (PairBelow a) list → Distinct list → member x list ≡ true
+    → member y list ≡ true → x ≢ y → PairBelow a x y → place_of x list < place_of y list
 stands-first a x y list order distinct x-in y-in differ less =
     let c = cut y list y-in in
     let apart = Distinct-cut y c.front c.back (subst Distinct c.is distinct) in
@@ -53,7 +54,8 @@ stands-first a x y list order distinct x-in y-in differ less =
         | inl e ↦ absurd (differ e)
         | inr k ↦
             let d = cut x c.back k in
-            let split : list ≡ (c.front ++ y ∷ d.front) ++ x ∷ d.back = c.is ∙ (ap (λ l. c.front ++ y ∷ l) d.is ∙ sym (append_assoc c.front (y ∷ d.front) (x ∷ d.back))) in
+            let split : list ≡ (c.front ++ y ∷ d.front) ++ x ∷ d.back =
+            c.is ∙ (ap (λ l. c.front ++ y ∷ l) d.is ∙ sym (append_assoc c.front (y ∷ d.front) (x ∷ d.back))) in
             absurd (PairBelow-asym a x y less
             (in_order-before (PairBelow a) (pair-trans a) y x (c.front ++ y ∷ d.front) d.back (subst (InOrder (PairBelow a)) split order)
             (member-append_right y c.front (y ∷ d.front) (member-head y d.front))))
@@ -103,7 +105,8 @@ all_held c old new h begun before found =
     )
 
 -- what the words say at one moment: the pair of x is less
-stood_at : (table : TableName) (m : List Event) (x y : ℕ) (ix iy gx gy : ℕ) → Legal table.shape table.opening m → x ≢ y → x < table.shape.items → y < table.shape.items → 0 < (item_of ix).group → 0 < (item_of iy).group
+stood_at : (table : TableName) (m : List Event) (x y : ℕ) (ix iy gx gy : ℕ) → Legal table.shape table.opening m → x ≢ y
+    → x < table.shape.items → y < table.shape.items → 0 < (item_of ix).group → 0 < (item_of iy).group
     → ix ≡ value_at table.opening m (1 + x) → iy ≡ value_at table.opening m (1 + y)
     → gx ≡ value_at table.opening m (table.shape.items + (item_of ix).group) → gy ≡ value_at table.opening m (table.shape.items + (item_of iy).group)
     → ((group_of gx).top < (group_of gy).top) ⊎ (((group_of gx).top ≡ (group_of gy).top) × ((item_of ix).bottom < (item_of iy).bottom))
@@ -130,7 +133,8 @@ stood_at table m x y ix iy gx gy legal differ x-in y-in x-some y-some ix-is iy-i
     }
 
 -- of two items of a list in order, one has the lesser pair
-pub one-less : (a : Labels) (x y : ℕ) (list : List ℕ) → InOrder (PairBelow a) list → member x list ≡ true → member y list ≡ true → x ≢ y → PairBelow a x y ⊎ PairBelow a y x
+pub one-less : (a : Labels) (x y : ℕ) (list : List ℕ) → InOrder (PairBelow a) list → member x list ≡ true → member y list ≡ true → x ≢ y
+    → PairBelow a x y ⊎ PairBelow a y x
 one-less a x y list order x-in y-in differ =
     let c = cut y list y-in in
     elim (member-append x c.front (y ∷ c.back) (ap (member x) (sym c.is) ∙ x-in)) [
@@ -139,8 +143,11 @@ one-less a x y list order x-in y-in differ =
         | inl e ↦ absurd (differ e)
         | inr k ↦
             let d = cut x c.back k in
-            let split : list ≡ (c.front ++ y ∷ d.front) ++ x ∷ d.back = c.is ∙ (ap (λ l. c.front ++ y ∷ l) d.is ∙ sym (append_assoc c.front (y ∷ d.front) (x ∷ d.back))) in
-            inr (in_order-before (PairBelow a) (pair-trans a) y x (c.front ++ y ∷ d.front) d.back (subst (InOrder (PairBelow a)) split order) (member-append_right y c.front (y ∷ d.front) (member-head y d.front)))
+            let split : list ≡ (c.front ++ y ∷ d.front) ++ x ∷ d.back =
+            c.is ∙ (ap (λ l. c.front ++ y ∷ l) d.is ∙ sym (append_assoc c.front (y ∷ d.front) (x ∷ d.back))) in
+            inr
+            (in_order-before (PairBelow a) (pair-trans a) y x (c.front ++ y ∷ d.front) d.back (subst (InOrder (PairBelow a)) split order)
+            (member-append_right y c.front (y ∷ d.front) (member-head y d.front)))
       ]
     ]
 
@@ -150,7 +157,8 @@ stood_before c h held less =
     let m = c.group_y.prefix in
     let at = λ (l : Loaded) (w : ℕ) (is : l.word ≡ w) (v : l.value ≡ value_at c.table.opening m l.word). v ∙ ap (value_at c.table.opening m) is in
     stood_at c.table m c.x c.y c.item_x.value c.item_y.value c.group_x.value c.group_y.value h.legal h.differ h.x_in h.y_in h.x_listed h.y_listed
-    (at c.item_x (1 + c.x) h.item_x_is held.0) (at c.item_y (1 + c.y) h.item_y_is held.1) (at c.group_x _ h.group_x_is held.2) (at c.group_y _ h.group_y_is held.3) less
+    (at c.item_x (1 + c.x) h.item_x_is held.0) (at c.item_y (1 + c.y) h.item_y_is held.1) (at c.group_x _ h.group_x_is held.2)
+    (at c.group_y _ h.group_y_is held.3) less
 
 -- else y did
 pub stood_after : (c : Collected) → IsCollect c → AllHeld c → (PairLess c → ⊥) → StandsBefore c.y c.x (list_after c.table c.group_y.prefix)
@@ -172,11 +180,19 @@ stood_after c h held not_less =
     let top-x : a.top (a.group c.x) ≡ (group_of c.group_x.value).top = ap a.top group-x ∙ ap (λ v. (group_of v).top) (sym gx) in
     let top-y : a.top (a.group c.y) ≡ (group_of c.group_y.value).top = ap a.top group-y ∙ ap (λ v. (group_of v).top) (sym gy) in
     let less : PairBelow a c.y c.x = elim (one-less a c.x c.y (list_after c.table m) o.pairs x-here.0 y-here.0 h.differ) [
-      | inl below ↦ absurd (not_less (elim below [ inl lt ↦ inl (omega (arith, lt, top-x, top-y)) | inr e ↦ inr (sym top-x ∙ (e.0 ∙ top-y), omega (arith, e.1, bottom-x, bottom-y)) ]))
+      | inl below ↦
+          absurd
+          (not_less
+          (elim below [
+            | inl lt ↦ inl (omega (arith, lt, top-x, top-y))
+            | inr e ↦ inr (sym top-x ∙ (e.0 ∙ top-y), omega (arith, e.1, bottom-x, bottom-y))
+          ]))
       | inr above ↦ above
     ] in
     record {
       first = y-here.0;
       second = x-here.0;
-      before = stands-first a c.y c.x (list_after c.table m) o.pairs (stands c.table.shape c.table.opening m h.legal).listed.distinct y-here.0 x-here.0 (λ e. h.differ (sym e)) less;
+      before =
+          stands-first a c.y c.x (list_after c.table m) o.pairs (stands c.table.shape c.table.opening m h.legal).listed.distinct y-here.0
+          x-here.0 (λ e. h.differ (sym e)) less;
     }

@@ -37,11 +37,13 @@ use Rattle.kc_order.proofs.Leaving.{put-leaves, take-leaves}
 
 front-snoc : (front : List Write) (last : Write) → front_of (front ++ last ∷ []) ≡ front
 front-snoc front last =
-    ap (λ n. take n (front ++ last ∷ [])) (omega (arith, length-append front (last ∷ []))) ∙ (take-append-le (length front) front (last ∷ []) (omega arith) ∙ take_all (length front) front (omega arith))
+    ap (λ n. take n (front ++ last ∷ [])) (omega (arith, length-append front (last ∷ [])))
+    ∙ (take-append-le (length front) front (last ∷ []) (omega arith) ∙ take_all (length front) front (omega arith))
 
 end-snoc : (front : List Write) (last : Write) → end_of (front ++ last ∷ []) ≡ last ∷ []
 end-snoc front last =
-    ap (λ n. drop n (front ++ last ∷ [])) (omega (arith, length-append front (last ∷ []))) ∙ (drop-append-le (length front) front (last ∷ []) (omega arith) ∙ ap (λ l. l ++ last ∷ []) (drop-all front))
+    ap (λ n. drop n (front ++ last ∷ [])) (omega (arith, length-append front (last ∷ [])))
+    ∙ (drop-append-le (length front) front (last ∷ []) (omega arith) ∙ ap (λ l. l ++ last ∷ []) (drop-all front))
   where
     drop-all : (xs : List Write) → drop (length xs) xs ≡ []
     drop-all [] = refl
@@ -51,7 +53,8 @@ stored-snoc : (ws : List ℕ) (front : List Write) (last : Write) → sheet.stor
 stored-snoc ws [] last = refl
 stored-snoc ws (w ∷ front) last = stored-snoc (set ws w.word w.value) front last
 
-raised-front : (ws : List ℕ) (front : List Write) (last : Write) → sheet.RaisedAlong ws (front ++ last ∷ []) → sheet.RaisedAlong ws front × sheet.Raises (sheet.stored ws front) last
+raised-front : (ws : List ℕ) (front : List Write) (last : Write) → sheet.RaisedAlong ws (front ++ last ∷ [])
+    → sheet.RaisedAlong ws front × sheet.Raises (sheet.stored ws front) last
 raised-front ws [] last h = (tt, h.0)
 raised-front ws (w ∷ front) last h = let rest = raised-front (set ws w.word w.value) front last h.1 in ((h.0, rest.0), rest.1)
 
@@ -64,13 +67,16 @@ raised-word_0 ws [] h = refl
 raised-word_0 ws (w ∷ writes) h = raised-word_0 (set ws w.word w.value) writes h.1 ∙ get_or-set_other ws w.word 0 w.value 0 (λ e. omega (arith, e, h.0.low))
 
 -- the words of the stores have versions
-stores-versioned : (shape : Shape) (ws : List ℕ) (writes : List Write) → length ws ≡ first_vertex shape → sheet.RaisedAlong ws writes → (k : ℕ) (d : Event) → k < length (stores_of writes) → legal.IsVersioned shape (get_or (stores_of writes) k d).word
+stores-versioned : (shape : Shape) (ws : List ℕ) (writes : List Write) → length ws ≡ first_vertex shape → sheet.RaisedAlong ws writes
+    → (k : ℕ) (d : Event) → k < length (stores_of writes) → legal.IsVersioned shape (get_or (stores_of writes) k d).word
 stores-versioned shape ws [] long h k d l = absurd (omega (arith, l))
 stores-versioned shape ws (w ∷ writes) long h zero d l = (h.0.low, omega (arith, h.0.high, long))
-stores-versioned shape ws (w ∷ writes) long h (suc k) d l = stores-versioned shape (set ws w.word w.value) writes (length-set ws w.word w.value ∙ long) h.1 k d (omega (arith, l))
+stores-versioned shape ws (w ∷ writes) long h (suc k) d l =
+    stores-versioned shape (set ws w.word w.value) writes (length-set ws w.word w.value ∙ long) h.1 k d (omega (arith, l))
 
 -- the stores of one write more
-stores-take : (writes : List Write) (i : ℕ) (d : Write) → i < length writes → stores_of (take (suc i) writes) ≡ stores_of (take i writes) ++ event (get_or writes i d).word (get_or writes i d).value ∷ []
+stores-take : (writes : List Write) (i : ℕ) (d : Write) → i < length writes
+    → stores_of (take (suc i) writes) ≡ stores_of (take i writes) ++ event (get_or writes i d).word (get_or writes i d).value ∷ []
 stores-take [] i d l = absurd (omega (arith, l))
 stores-take (w ∷ writes) zero d l = refl
 stores-take (w ∷ writes) (suc i) d l = ap (λ z. event w.word w.value ∷ z) (stores-take writes i d (omega (arith, l)))
@@ -80,7 +86,10 @@ pub stores-more : (log now : List Event) (writes : List Write) (i : ℕ) (d : Wr
 stores-more log now writes i d l is =
     let e = event (get_or writes i d).word (get_or writes i d).value in
     let next : i + 1 ≡ suc i = omega arith in
-    ap (λ z. z ++ e ∷ []) is ∙ (append_assoc log (stores_of (take i writes)) (e ∷ []) ∙ ap (λ z. log ++ z) (sym (ap (λ n. stores_of (take n writes)) next ∙ stores-take writes i d l)))
+    ap (λ z. z ++ e ∷ []) is
+    ∙
+    (append_assoc log (stores_of (take i writes)) (e ∷ [])
+    ∙ ap (λ z. log ++ z) (sym (ap (λ n. stores_of (take n writes)) next ∙ stores-take writes i d l)))
 
 stores-split : (writes : List Write) (n : ℕ) → stores_of (take n writes) ++ stores_of (drop n writes) ≡ stores_of writes
 stores-split writes zero = refl
@@ -88,16 +97,24 @@ stores-split [] (suc n) = refl
 stores-split (w ∷ writes) (suc n) = ap (λ z. event w.word w.value ∷ z) (stores-split writes n)
 
 -- the log with the next store is legal
-pub next-legal : (seen now : Seen) (writes : List Write) (i : ℕ) (d : Write) → i < length writes → now.table ≡ seen.table → now.log ≡ seen.log ++ stores_of (take i writes) → legal.Legal seen.table.shape seen.table.opening (seen.log ++ stores_of writes)
+pub next-legal : (seen now : Seen) (writes : List Write) (i : ℕ) (d : Write) → i < length writes → now.table ≡ seen.table
+    → now.log ≡ seen.log ++ stores_of (take i writes) → legal.Legal seen.table.shape seen.table.opening (seen.log ++ stores_of writes)
     → legal.Legal now.table.shape now.table.opening (now.log ++ event (get_or writes i d).word (get_or writes i d).value ∷ [])
 next-legal seen now writes i d l table is h =
     let e = event (get_or writes i d).word (get_or writes i d).value in
-    let all : (seen.log ++ stores_of (take (i + 1) writes)) ++ stores_of (drop (i + 1) writes) ≡ seen.log ++ stores_of writes = append_assoc seen.log (stores_of (take (i + 1) writes)) (stores_of (drop (i + 1) writes)) ∙ ap (λ z. seen.log ++ z) (stores-split writes (i + 1)) in
-    let part : legal.Legal seen.table.shape seen.table.opening (seen.log ++ stores_of (take (i + 1) writes)) = legal-prefix seen.table.shape seen.table.opening (seen.log ++ stores_of (take (i + 1) writes)) (seen.log ++ stores_of writes) (stores_of (drop (i + 1) writes), all) h in
-    subst (λ (z : TableName × List Event). legal.Legal z.0.shape z.0.opening z.1) (λ k. (sym table k, sym (stores-more seen.log now.log writes i d l is) k)) part
+    let all : (seen.log ++ stores_of (take (i + 1) writes)) ++ stores_of (drop (i + 1) writes) ≡ seen.log ++ stores_of writes =
+    append_assoc seen.log (stores_of (take (i + 1) writes)) (stores_of (drop (i + 1) writes))
+    ∙ ap (λ z. seen.log ++ z) (stores-split writes (i + 1)) in
+    let part : legal.Legal seen.table.shape seen.table.opening (seen.log ++ stores_of (take (i + 1) writes)) =
+    legal-prefix seen.table.shape seen.table.opening (seen.log ++ stores_of (take (i + 1) writes)) (seen.log ++ stores_of writes)
+    (stores_of (drop (i + 1) writes), all) h in
+    subst (λ (z : TableName × List Event). legal.Legal z.0.shape z.0.opening z.1)
+    (λ k. (sym table k, sym (stores-more seen.log now.log writes i d l is) k)) part
 
 -- and its word is there
-pub next-there : (seen : Seen) (writes : List Write) (i : ℕ) (d : Write) → i < length writes → legal.Legal seen.table.shape seen.table.opening (seen.log ++ stores_of writes) → (words : TableName) → seen.table ≡ words → (get_or writes i d).word < word_count words.shape
+pub next-there : (seen : Seen) (writes : List Write) (i : ℕ) (d : Write) → i < length writes
+    → legal.Legal seen.table.shape seen.table.opening (seen.log ++ stores_of writes) → (words : TableName) → seen.table ≡ words
+    → (get_or writes i d).word < word_count words.shape
 next-there seen writes i d l h words table =
     let e = event (get_or writes i d).word (get_or writes i d).value in
     let now : Seen = record { table = seen.table; log = seen.log ++ stores_of (take i writes) } in
@@ -111,11 +128,13 @@ module _ (shape : Shape) (opening : List ℕ) where
   unfolding state_of
   state_of-append log es = after_stores-append shape _ log es
 
-  legal-append : (log es : List Event) → legal.Legal shape opening log → legal.LegalFrom shape (state_of shape opening log) es → legal.Legal shape opening (log ++ es)
+  legal-append : (log es : List Event) → legal.Legal shape opening log → legal.LegalFrom shape (state_of shape opening log) es
+      → legal.Legal shape opening (log ++ es)
   legal-append log [] h k = subst (legal.Legal shape opening) (sym (append-nil log)) h
   legal-append log (e ∷ es) h k =
       subst (legal.Legal shape opening) (append_assoc log (e ∷ []) es)
-      (legal-append (log ++ e ∷ []) es (legal-push shape opening log e h k.0 k.1) (subst (λ s. legal.LegalFrom shape s es) (sym (state_of-push shape opening log e)) k.2))
+      (legal-append (log ++ e ∷ []) es (legal-push shape opening log e h k.0 k.1)
+      (subst (λ s. legal.LegalFrom shape s es) (sym (state_of-push shape opening log e)) k.2))
 
   -- what stays between the stores of a call holds where it begins
   pub goes : (log : List Event) (plain : Plain) → legal.Legal shape opening log → length plain.words ≡ first_vertex shape
@@ -142,9 +161,12 @@ pub record Wrote (seen : Seen) (new : Plain) (v x : ℕ) (writes : List Write) :
 
 -- what a note may name before the relabelling stores it may name after them
 abbrev pub MayAfter : Shape → State → NoteWord → Type 0
-MayAfter shape s n = (t : State) → t.list ≡ s.list → t.entries ≡ s.entries → ((k : ℕ) → legal.stamp_in shape t k ≡ legal.stamp_in shape s k) → legal.MayNote shape t n
+MayAfter shape s n =
+    (t : State) → t.list ≡ s.list → t.entries ≡ s.entries → ((k : ℕ) → legal.stamp_in shape t k ≡ legal.stamp_in shape s k)
+    → legal.MayNote shape t n
 
-pub wrote : (seen : Seen) (old new : Plain) (n : NoteWord) (x : ℕ) (writes : List Write) → Tied seen old → IsFitting n → writes ≡ new.writes → new.items ≡ old.items → new.fixed ≡ old.fixed
+pub wrote : (seen : Seen) (old new : Plain) (n : NoteWord) (x : ℕ) (writes : List Write) → Tied seen old → IsFitting n → writes ≡ new.writes
+    → new.items ≡ old.items → new.fixed ≡ old.fixed
     → Written old.items old.list new.list x old.words new.words new.writes → ((w : ℕ) → sheet.version new.words w ≤ LAST_VERSION)
     → x < seen.table.shape.items → ((y : ℕ) → member y new.list ≡ true → y < seen.table.shape.items)
     → MayAfter seen.table.shape (state_of seen.table.shape seen.table.opening seen.log) n → ((entries : List Entry) → entered n entries ≡ entries)
@@ -161,13 +183,22 @@ wrote seen old new n x writes tied fitting same items fixed w few x-in within ma
     let parts = raised-front old.words w.front w.last raised in
     let ws = sheet.stored old.words w.front in
     let new-words : new.words ≡ set ws w.last.word w.last.value = w.words ∙ (ap (sheet.stored old.words) w.are ∙ stored-snoc old.words w.front w.last) in
-    let last-version : sheet.version new.words w.last.word ≡ (item_of w.last.value).version = ap (λ z. sheet.version z w.last.word) new-words ∙ ap (λ z. (item_of z).version) (get_or-set_same ws w.last.word w.last.value 0 parts.1.high) in
+    let last-version : sheet.version new.words w.last.word ≡ (item_of w.last.value).version =
+    ap (λ z. sheet.version z w.last.word) new-words
+    ∙ ap (λ z. (item_of z).version) (get_or-set_same ws w.last.word w.last.value 0 parts.1.high) in
     let front-few : (k : ℕ) → sheet.version ws k ≤ LAST_VERSION = λ k. elim (cases_eq w.last.word k) [
       | inl e ↦ omega (arith, parts.1.version_is, last-version, few w.last.word, ap (sheet.version ws) e)
-      | inr ne ↦ omega (arith, few k, ap (λ z. sheet.version z k) new-words, ap (λ z. (item_of z).version) (get_or-set_other ws w.last.word k w.last.value 0 (λ e. ne (sym e))))
+      | inr ne ↦
+          omega (
+            arith,
+            few k,
+            ap (λ z. sheet.version z k) new-words,
+            ap (λ z. (item_of z).version) (get_or-set_other ws w.last.word k w.last.value 0 (λ e. ne (sym e))),
+          )
     ] in
     let begun = goes shape opening log old tied.legal tied.long tied.words tied.quiet in
-    let along : sheet.OrderedAlong shape.items s.list old.words w.front = subst (λ (z : ℕ × List ℕ). sheet.OrderedAlong z.0 z.1 old.words w.front) (λ i. (tied.items i, tied.list i)) w.along in
+    let along : sheet.OrderedAlong shape.items s.list old.words w.front =
+    subst (λ (z : ℕ × List ℕ). sheet.OrderedAlong z.0 z.1 old.words w.front) (λ i. (tied.items i, tied.list i)) w.along in
     let r : RelabelsAll shape s old.words w.front = relabel-all shape s old.words w.front begun parts.0 along front-few in
     let log1 = log ++ stores_of w.front in
     let t = state_of shape opening log1 in
@@ -175,7 +206,8 @@ wrote seen old new n x writes tied fitting same items fixed w few x-in within ma
     let legal1 : legal.Legal shape opening log1 = legal-append shape opening log (stores_of w.front) tied.legal r.legal_ in
     let t-list : t.list ≡ s.list = ap (λ z. z.list) at ∙ r.list in
     let t-entries : t.entries ≡ s.entries = ap (λ z. z.entries) at ∙ r.entries in
-    let t-stamp : (k : ℕ) → legal.stamp_in shape t k ≡ legal.stamp_in shape s k = λ k. ap (λ z. (vertex_of z).stamp) (ap (λ z. get_or z.words (first_vertex shape + k) 0) at ∙ r.words k) in
+    let t-stamp : (k : ℕ) → legal.stamp_in shape t k ≡ legal.stamp_in shape s k =
+    λ k. ap (λ z. (vertex_of z).stamp) (ap (λ z. get_or z.words (first_vertex shape + k) 0) at ∙ r.words k) in
     let e : Ends shape t ws n v x w.last new.list = record {
       goes = subst (λ z. Goes shape z ws) (sym at) r.goes;
       ordered = subst (Ordered shape.items ws) (sym t-list) (ordered-last shape.items s.list old.words w.front along);
@@ -194,9 +226,13 @@ wrote seen old new n x writes tied fitting same items fixed w few x-in within ma
     let done : Ended shape opening log1 v x w.last ws new.list = ends shape opening log1 ws n v x w.last new.list legal1 e within in
     let fronts : log_of_front log writes ≡ log1 = ap (λ z. log ++ stores_of z) (ap front_of are ∙ front-snoc w.front w.last) in
     let notes : log_of_note log writes v ≡ log1 ++ event 0 v ∷ [] = ap (λ z. z ++ event 0 v ∷ []) fronts in
-    let lasts : stores_of (end_of writes) ≡ event (1 + x) w.last.value ∷ [] = ap stores_of (ap end_of are ∙ end-snoc w.front w.last) ∙ ap (λ k. event k w.last.value ∷ []) w.last_is in
-    let all : log_of_all log writes v ≡ (log1 ++ event 0 v ∷ []) ++ event (1 + x) w.last.value ∷ [] = ap (λ z. z ++ stores_of (end_of writes)) notes ∙ ap (λ z. (log1 ++ event 0 v ∷ []) ++ z) lasts in
-    let plain-note : (item_of (get_or new.words 0 0)).version ≡ 0 = ap (λ z. (item_of (get_or z 0 0)).version) w.words ∙ (ap (λ z. (item_of z).version) (raised-word_0 old.words new.writes w.raised) ∙ tied.note) in
+    let lasts : stores_of (end_of writes) ≡ event (1 + x) w.last.value ∷ [] =
+    ap stores_of (ap end_of are ∙ end-snoc w.front w.last) ∙ ap (λ k. event k w.last.value ∷ []) w.last_is in
+    let all : log_of_all log writes v ≡ (log1 ++ event 0 v ∷ []) ++ event (1 + x) w.last.value ∷ [] =
+    ap (λ z. z ++ stores_of (end_of writes)) notes ∙ ap (λ z. (log1 ++ event 0 v ∷ []) ++ z) lasts in
+    let plain-note : (item_of (get_or new.words 0 0)).version ≡ 0 =
+    ap (λ z. (item_of (get_or z 0 0)).version) w.words
+    ∙ (ap (λ z. (item_of z).version) (raised-word_0 old.words new.writes w.raised) ∙ tied.note) in
     let new-long : length new.words ≡ first_vertex shape = ap length new-words ∙ (length-set ws w.last.word w.last.value ∙ r.goes.plain_long) in
     record {
       some = omega (arith, ap length are, length-append w.front (w.last ∷ []));
@@ -220,7 +256,15 @@ wrote seen old new n x writes tied fitting same items fixed w few x-in within ma
         relabels = stores_of w.front;
         versioned = λ k d l. stores-versioned shape old.words w.front tied.long parts.0 k d l;
         value = w.last.value;
-        log = ap (λ z. z.log) is ∙ (all ∙ (append_assoc log1 (event 0 v ∷ []) (event (1 + x) w.last.value ∷ []) ∙ (append_assoc log (stores_of w.front) (event 0 v ∷ event (1 + x) w.last.value ∷ []) ∙ ap (λ z. log ++ (stores_of w.front ++ event 0 z ∷ event (1 + x) w.last.value ∷ [])) is-v)));
+        log =
+            ap (λ z. z.log) is
+            ∙
+            (all
+            ∙
+            (append_assoc log1 (event 0 v ∷ []) (event (1 + x) w.last.value ∷ [])
+            ∙
+            (append_assoc log (stores_of w.front) (event 0 v ∷ event (1 + x) w.last.value ∷ [])
+            ∙ ap (λ z. log ++ (stores_of w.front ++ event 0 z ∷ event (1 + x) w.last.value ∷ [])) is-v)));
         legal = subst (λ (z : Seen). legal.Legal z.table.shape z.table.opening z.log) (sym is) (subst (legal.Legal shape opening) (sym all) done.legal_);
       };
       list = ap (list_after seen.table) all ∙ done.list;
@@ -255,9 +299,11 @@ plain-highest seen plain tied left =
     omega (arith, h)
 
 -- a put, as the writer makes it
-pub put : (seen : Seen) (old new : Plain) (x p : ℕ) (writes : List Write) → Tied seen old → HasVersionsLeft seen.table seen.log → x < seen.table.shape.items → member p (list_after seen.table seen.log) ≡ true → x ≢ p
+pub put : (seen : Seen) (old new : Plain) (x p : ℕ) (writes : List Write) → Tied seen old → HasVersionsLeft seen.table seen.log
+    → x < seen.table.shape.items → member p (list_after seen.table seen.log) ≡ true → x ≢ p
     → (x < seen.table.shape.fixed → legal.MayPut seen.table.shape (state_of seen.table.shape seen.table.opening seen.log) x)
-    → writes ≡ new.writes → new.items ≡ old.items → new.fixed ≡ old.fixed → new.list ≡ right_after x p (without x old.list) → Written old.items old.list new.list x old.words new.words new.writes
+    → writes ≡ new.writes → new.items ≡ old.items → new.fixed ≡ old.fixed → new.list ≡ right_after x p (without x old.list)
+    → Written old.items old.list new.list x old.words new.words new.writes
     → sheet.highest_of new.words ≤ sheet.highest_of old.words + 2
     → Wrote seen new (note_word (Put x p)) x writes
 unfolding note_word
@@ -267,7 +313,8 @@ put seen old new x p writes tied left x-in p-in differ section same items fixed 
     let listed = (stands shape seen.table.opening seen.log tied.legal).listed in
     let p-below : p < shape.items = listed.within p p-in in
     let few : (k : ℕ) → sheet.version new.words k ≤ LAST_VERSION = λ k. omega (arith, version-highest new.words k, highest, plain-highest seen old tied left) in
-    let within : (y : ℕ) → member y new.list ≡ true → y < shape.items = λ y m. elim (member-right_after y x p (without x old.list) (ap (member y) (sym list) ∙ m)) [
+    let within : (y : ℕ) → member y new.list ≡ true
+    → y < shape.items = λ y m. elim (member-right_after y x p (without x old.list) (ap (member y) (sym list) ∙ m)) [
       | inl e ↦ omega (arith, e, x-in)
       | inr k ↦ listed.within y (ap (member y) (sym tied.list) ∙ (member-without y x old.list k).0)
     ] in
@@ -277,12 +324,16 @@ put seen old new x p writes tied left x-in p-in differ section same items fixed 
       differ,
       λ l. let m = section l in record { inside = omega (arith, m.inside, ap length t-entries); once = omega (arith, m.once, t-stamp x, ap length t-entries) },
     ) in
-    let moves : moved (Put x p) (1 + x) old.list ≡ new.list = ap (λ b. cond b (right_after x p (without x old.list)) old.list) (eq-eqb (1 + x) (1 + x) refl) ∙ sym list in
-    wrote seen old new (Put x p) x writes tied (omega (arith, x-in, shape.few_items), omega (arith, p-below, shape.few_items)) same items fixed w few x-in within may (λ _. refl) refl moves (omega (arith, x-in, p-below, shape.few_items))
+    let moves : moved (Put x p) (1 + x) old.list ≡ new.list =
+    ap (λ b. cond b (right_after x p (without x old.list)) old.list) (eq-eqb (1 + x) (1 + x) refl) ∙ sym list in
+    wrote seen old new (Put x p) x writes tied (omega (arith, x-in, shape.few_items), omega (arith, p-below, shape.few_items)) same items
+    fixed w few x-in within may (λ _. refl) refl moves (omega (arith, x-in, p-below, shape.few_items))
 
 -- a take
-pub taken : (seen : Seen) (old new : Plain) (x : ℕ) (writes : List Write) → Tied seen old → HasVersionsLeft seen.table seen.log → member x (list_after seen.table seen.log) ≡ true → seen.table.shape.fixed ≤ x
-    → writes ≡ new.writes → new.items ≡ old.items → new.fixed ≡ old.fixed → new.list ≡ without x old.list → Written old.items old.list new.list x old.words new.words new.writes → sheet.highest_of new.words ≤ sheet.highest_of old.words + 1
+pub taken : (seen : Seen) (old new : Plain) (x : ℕ) (writes : List Write) → Tied seen old → HasVersionsLeft seen.table seen.log
+    → member x (list_after seen.table seen.log) ≡ true → seen.table.shape.fixed ≤ x
+    → writes ≡ new.writes → new.items ≡ old.items → new.fixed ≡ old.fixed → new.list ≡ without x old.list
+    → Written old.items old.list new.list x old.words new.words new.writes → sheet.highest_of new.words ≤ sheet.highest_of old.words + 1
     → Wrote seen new (note_word (Take x)) x writes
 unfolding note_word
 taken seen old new x writes tied left x-in free same items fixed list w highest =
@@ -291,29 +342,39 @@ taken seen old new x writes tied left x-in free same items fixed list w highest 
     let listed = (stands shape seen.table.opening seen.log tied.legal).listed in
     let x-below : x < shape.items = listed.within x x-in in
     let few : (k : ℕ) → sheet.version new.words k ≤ LAST_VERSION = λ k. omega (arith, version-highest new.words k, highest, plain-highest seen old tied left) in
-    let within : (y : ℕ) → member y new.list ≡ true → y < shape.items = λ y m. listed.within y (ap (member y) (sym tied.list) ∙ (member-without y x old.list (ap (member y) (sym list) ∙ m)).0) in
+    let within : (y : ℕ) → member y new.list ≡ true → y < shape.items =
+    λ y m. listed.within y (ap (member y) (sym tied.list) ∙ (member-without y x old.list (ap (member y) (sym list) ∙ m)).0) in
     let may : MayAfter shape s (Take x) = λ t t-list t-entries t-stamp. (ap (member x) t-list ∙ x-in, free) in
     let moves : moved (Take x) (1 + x) old.list ≡ new.list = ap (λ b. cond b (without x old.list) old.list) (eq-eqb (1 + x) (1 + x) refl) ∙ sym list in
-    wrote seen old new (Take x) x writes tied (omega (arith, x-below, shape.few_items)) same items fixed w few x-below within may (λ _. refl) refl moves (omega (arith, x-below, shape.few_items))
+    wrote seen old new (Take x) x writes tied (omega (arith, x-below, shape.few_items)) same items fixed w few x-below within may
+    (λ _. refl) refl moves (omega (arith, x-below, shape.few_items))
 
 -- the same, where the writer's seat is seen as `now`, of the table `words`
-pub put-at : (seen now : Seen) (words : TableName) (old new : Plain) (x p : ℕ) (writes : List Write) → seen ≡ now → now.table ≡ words → Tied seen old → HasVersionsLeft now.table now.log → x < words.shape.items
-    → member p (list_after now.table now.log) ≡ true → x ≢ p → (x < words.shape.fixed → legal.MayPut words.shape (state_of now.table.shape now.table.opening now.log) x)
-    → writes ≡ new.writes → new.items ≡ old.items → new.fixed ≡ old.fixed → new.list ≡ right_after x p (without x old.list) → Written old.items old.list new.list x old.words new.words new.writes
+pub put-at : (seen now : Seen) (words : TableName) (old new : Plain) (x p : ℕ) (writes : List Write) → seen ≡ now → now.table ≡ words
+    → Tied seen old → HasVersionsLeft now.table now.log → x < words.shape.items
+    → member p (list_after now.table now.log) ≡ true → x ≢ p
+    → (x < words.shape.fixed → legal.MayPut words.shape (state_of now.table.shape now.table.opening now.log) x)
+    → writes ≡ new.writes → new.items ≡ old.items → new.fixed ≡ old.fixed → new.list ≡ right_after x p (without x old.list)
+    → Written old.items old.list new.list x old.words new.words new.writes
     → sheet.highest_of new.words ≤ sheet.highest_of old.words + 2
     → Wrote seen new (note_word (Put x p)) x writes
 put-at seen now words old new x p writes is table tied left x-in p-in differ section =
     let shape : seen.table.shape ≡ words.shape = ap (λ (t : TableName). t.shape) (ap (λ (z : Seen). z.table) is ∙ table) in
-    put seen old new x p writes tied (subst (λ (z : Seen). HasVersionsLeft z.table z.log) (sym is) left) (subst (λ (z : Shape). x < z.items) (sym shape) x-in) (ap (λ (z : Seen). member p (list_after z.table z.log)) is ∙ p-in) differ
-    (subst (λ (z : Shape × Seen). x < z.0.fixed → legal.MayPut z.0 (state_of z.1.table.shape z.1.table.opening z.1.log) x) (λ i. (sym shape i, sym is i)) section)
+    put seen old new x p writes tied (subst (λ (z : Seen). HasVersionsLeft z.table z.log) (sym is) left)
+    (subst (λ (z : Shape). x < z.items) (sym shape) x-in) (ap (λ (z : Seen). member p (list_after z.table z.log)) is ∙ p-in) differ
+    (subst (λ (z : Shape × Seen). x < z.0.fixed → legal.MayPut z.0 (state_of z.1.table.shape z.1.table.opening z.1.log) x)
+    (λ i. (sym shape i, sym is i)) section)
 
-pub taken-at : (seen now : Seen) (words : TableName) (old new : Plain) (x : ℕ) (writes : List Write) → seen ≡ now → now.table ≡ words → Tied seen old → HasVersionsLeft now.table now.log
+pub taken-at : (seen now : Seen) (words : TableName) (old new : Plain) (x : ℕ) (writes : List Write) → seen ≡ now → now.table ≡ words
+    → Tied seen old → HasVersionsLeft now.table now.log
     → member x (list_after now.table now.log) ≡ true → words.shape.fixed ≤ x
-    → writes ≡ new.writes → new.items ≡ old.items → new.fixed ≡ old.fixed → new.list ≡ without x old.list → Written old.items old.list new.list x old.words new.words new.writes → sheet.highest_of new.words ≤ sheet.highest_of old.words + 1
+    → writes ≡ new.writes → new.items ≡ old.items → new.fixed ≡ old.fixed → new.list ≡ without x old.list
+    → Written old.items old.list new.list x old.words new.words new.writes → sheet.highest_of new.words ≤ sheet.highest_of old.words + 1
     → Wrote seen new (note_word (Take x)) x writes
 taken-at seen now words old new x writes is table tied left x-in free =
     let shape : seen.table.shape ≡ words.shape = ap (λ (t : TableName). t.shape) (ap (λ (z : Seen). z.table) is ∙ table) in
-    taken seen old new x writes tied (subst (λ (z : Seen). HasVersionsLeft z.table z.log) (sym is) left) (ap (λ (z : Seen). member x (list_after z.table z.log)) is ∙ x-in) (subst (λ (z : Shape). z.fixed ≤ x) (sym shape) free)
+    taken seen old new x writes tied (subst (λ (z : Seen). HasVersionsLeft z.table z.log) (sym is) left)
+    (ap (λ (z : Seen). member x (list_after z.table z.log)) is ∙ x-in) (subst (λ (z : Shape). z.fixed ≤ x) (sym shape) free)
 
 -- a plain list's greatest version leaves room where the table's words do
 pub highest-at : (seen now : Seen) (plain : Plain) → seen ≡ now → Tied seen plain → HasVersionsLeft now.table now.log
@@ -330,7 +391,8 @@ put-fits now words x p h table x-in p-in =
 
 pub item-fits : (now : Seen) (x : ℕ) → legal.Legal now.table.shape now.table.opening now.log → member x (list_after now.table now.log) ≡ true
     → x < 2 ^ ITEM_BITS
-item-fits now x h x-in = let below = (stands now.table.shape now.table.opening now.log h).listed.within x x-in in omega (arith, below, now.table.shape.few_items)
+item-fits now x h x-in =
+    let below = (stands now.table.shape now.table.opening now.log h).listed.within x x-in in omega (arith, below, now.table.shape.few_items)
 
 -- no word of a plain list has been written more than twice
 abbrev pub AtMostTwice : Plain → Plain → Type 0

@@ -144,7 +144,8 @@ impl Writer {
     pub fn store_vertex(&mut self, words: &Words, v: u32, stamp: u32, core: u32)
         requires table { self.old.table ≡ words.now }
         requires vertex { v < words.now.shape.fixed }
-        requires section { Seals words.now.shape (state_of self.old.table.shape self.old.table.opening self.old.log) v (vertex_word (record { stamp = stamp; core = core })) }
+        requires section { Seals words.now.shape
+            (state_of self.old.table.shape self.old.table.opening self.old.log) v (vertex_word (record { stamp = stamp; core = core })) }
         ensures stored { Stores self.old self.new (first_vertex words.now.shape + v) (vertex_word (record { stamp = stamp; core = core })) }
         ensures leaves { Leaves self.new (entries_after self.old) (without v (unsealed_after self.old))
             (λ w. if w == v then vertex_word (record { stamp = stamp; core = core }) else vertex_word_after self.old w) }
@@ -181,7 +182,8 @@ impl Writer {
         requires { member x (list_after self.now.table self.now.log) ≡ true }
         ensures { MatchOption result
             (prev_of self.now.table.shape.items x (list_after self.now.table self.now.log) ≡ self.now.table.shape.items)
-            (λ y. (y ≡ prev_of self.now.table.shape.items x (list_after self.now.table self.now.log)) × (member y (list_after self.now.table self.now.log) ≡ true)) }
+            (λ y. (y ≡ prev_of self.now.table.shape.items x (list_after self.now.table self.now.log))
+            × (member y (list_after self.now.table self.now.log) ≡ true)) }
     {
         self.plain.before(x)
     }
@@ -191,7 +193,8 @@ impl Writer {
         requires { member x (list_after self.now.table self.now.log) ≡ true }
         ensures { MatchOption result
             (next_of self.now.table.shape.items x (list_after self.now.table self.now.log) ≡ self.now.table.shape.items)
-            (λ y. (y ≡ next_of self.now.table.shape.items x (list_after self.now.table self.now.log)) × (member y (list_after self.now.table self.now.log) ≡ true)) }
+            (λ y. (y ≡ next_of self.now.table.shape.items x (list_after self.now.table self.now.log))
+            × (member y (list_after self.now.table self.now.log) ≡ true)) }
     {
         self.plain.after(x)
     }

@@ -11,7 +11,8 @@ use Rattle.kc_text.specs.Meaning.{Told, batches}
 use Rattle.kc_text.specs.declared.change.Change.{Change}
 use Rattle.kc_text.proofs.Overruled.{once-deciding, once-overruled}
 use Rattle.kc_effects.specs.Batches.{added, graph_after_batch, kept, removed}
-use Rattle.kc_output.specs.Text.{AreCoresAfter, AreStartRounds, Batch, IsText, first_line, last_of, line_about, lines_about, lines_for, numbered_batch, numbered_batches}
+use Rattle.kc_output.specs.Text.{AreCoresAfter, AreStartRounds, Batch, IsText, first_line, last_of, line_about, lines_about, lines_for}
+use Rattle.kc_output.specs.Text.{numbered_batch, numbered_batches}
 use Rattle.kc_output.specs.Unrepeated.{AreUnrepeatedCores, IsUnrepeatedText, all_changes, unrepeated_line, unrepeated_lines, usual_setting}
 use Rattle.kc_effects.proofs.Applying.{Part}
 

@@ -1,5 +1,6 @@
 -- What the vertices that fell leave: both counts of the certificate, at each vertex.
-use Rattle.std.proofs.Common.{◌≡◌, ◌≤◌, ◌<◌, ◌-◌, ℕ, suc, zero, Bool, true, false, cond, not, ◌&&◌, List, [], ◌∷◌, take, length, ltb, leb, sym, ◌∙◌, ap, subst, inl, inr, arith, true≢false, eq-eqb, le_trans, lt-ltb}
+use Rattle.std.proofs.Common.{◌≡◌, ◌≤◌, ◌<◌, ◌-◌, ℕ, suc, zero, Bool, true, false, cond, not, ◌&&◌, List, [], ◌∷◌, take, length, ltb, leb, sym, ◌∙◌}
+use Rattle.std.proofs.Common.{ap, subst, inl, inr, arith, true≢false, eq-eqb, le_trans, lt-ltb}
 use Rattle.std.proofs.lemmas.Bool.{cases_Bool, cases_eq, cases_lt, false≢true, false_from_ne_true}
 use Rattle.kc_distinct.specs.Lists.{member}
 use Rattle.kc_distinct.proofs.Counting.{member-other}
@@ -29,7 +30,8 @@ rank-taken (suc n) y (x ∷ xs) m = elim (cases_eq y x) [
 ]
 
 -- few later neighbours
-pub few_after : (s : Search) (is_end : ℕ → Bool) (fall : List ℕ) (visited : ℕ → Bool) (sup seen : ℕ → ℕ) → Thinned s is_end → Cascade s fall (length fall) nobody visited sup seen nobody
+pub few_after : (s : Search) (is_end : ℕ → Bool) (fall : List ℕ) (visited : ℕ → Bool) (sup seen : ℕ → ℕ) → Thinned s is_end
+    → Cascade s fall (length fall) nobody visited sup seen nobody
     → (z : ℕ) → z < s.size → among s z (then_after (is_low s) fall (rank_in fall) s.rank z) ≤ lowered s.core s.level fall z
 few_after s is_end fall visited sup seen t c z lz = elim (cases_Bool (member z fall)) [
   | inl m ↦
@@ -44,7 +46,8 @@ few_after s is_end fall visited sup seen t c z lz = elim (cases_Bool (member z f
         | inl my ↦
             let lvl : s.core y ≡ s.level = (c.fall_level y my).level in
             let lt : j < rank_in fall y = grind (arith, m, my, h) in
-            let none : member y (take j fall) ≡ false = false_from_ne_true _ (λ k. let q : rank_in fall y < j = rank-taken j y fall k in absurd (omega arith)) in
+            let none : member y (take j fall) ≡ false =
+            false_from_ne_true _ (λ k. let q : rank_in fall y < j = rank-taken j y fall k in absurd (omega arith)) in
             grind (arith, lvl, none)
         | inr ny ↦
             let none : member y (take j fall) ≡ false = false_from_ne_true _ (λ k. true≢false (sym (take-member j fall y k) ∙ ny)) in
@@ -69,7 +72,8 @@ few_after s is_end fall visited sup seen t c z lz = elim (cases_Bool (member z f
 ]
 
 -- and enough that are as high
-pub enough_after : (s : Search) (is_end : ℕ → Bool) (fall : List ℕ) (visited : ℕ → Bool) (sup seen : ℕ → ℕ) → Thinned s is_end → Cascade s fall (length fall) nobody visited sup seen nobody
+pub enough_after : (s : Search) (is_end : ℕ → Bool) (fall : List ℕ) (visited : ℕ → Bool) (sup seen : ℕ → ℕ) → Thinned s is_end
+    → Cascade s fall (length fall) nobody visited sup seen nobody
     → ((z : ℕ) → OnLevel s z → is_end z ≡ true → visited z ≡ true)
     → (z : ℕ) → z < s.size → lowered s.core s.level fall z ≤ among s z (λ y. leb (lowered s.core s.level fall z) (lowered s.core s.level fall y))
 enough_after s is_end fall visited sup seen t c ends z lz =
@@ -79,7 +83,8 @@ enough_after s is_end fall visited sup seen t c ends z lz =
           let oz : OnLevel s z = c.fall_level z m in
           let down : low z ≡ s.level - 1 = ap (λ b. cond b (s.level - 1) (s.core z)) m in
           let more : among s z (λ y. leb s.level (s.core y)) ≤ among s z (λ y. leb (s.level - 1) (low y)) =
-          among-mono s z (λ y. leb s.level (s.core y)) (λ y. leb (s.level - 1) (low y)) (λ y l a h. elim (cases_Bool (member y fall)) [ inl k ↦ grind (arith, k) | inr k ↦ grind (arith, k, h) ]) in
+          among-mono s z (λ y. leb s.level (s.core y)) (λ y. leb (s.level - 1) (low y))
+          (λ y l a h. elim (cases_Bool (member y fall)) [ inl k ↦ grind (arith, k) | inr k ↦ grind (arith, k, h) ]) in
           subst (λ (k : ℕ). k ≤ among s z (λ y. leb k (low y))) (sym down) (omega (arith, more, t.nearly z oz))
       | inr none ↦
           let kept : low z ≡ s.core z = ap (λ b. cond b (s.level - 1) (s.core z)) none in
@@ -87,7 +92,8 @@ enough_after s is_end fall visited sup seen t c ends z lz =
           (elim (cases_eq (s.core z) s.level) [
             | inl lvl ↦
                 let more : support s fall z ≤ among s z (λ y. leb (s.core z) (low y)) =
-                among-mono s z (λ y. leb s.level (s.core y) && not (member y fall)) (λ y. leb (s.core z) (low y)) (λ y l a h. elim (cases_Bool (member y fall)) [ inl k ↦ grind (arith, k, h) | inr k ↦ grind (arith, k, h, lvl) ]) in
+                among-mono s z (λ y. leb s.level (s.core y) && not (member y fall)) (λ y. leb (s.core z) (low y))
+                (λ y l a h. elim (cases_Bool (member y fall)) [ inl k ↦ grind (arith, k, h) | inr k ↦ grind (arith, k, h, lvl) ]) in
                 omega (arith, more, kept_support s is_end fall visited sup seen t c ends z (record { here = lz; level = lvl }) none, lvl)
             | inr ne ↦
                 let more : among s z (λ y. leb (s.core z) (s.core y)) ≤ among s z (λ y. leb (s.core z) (low y)) =

@@ -1,5 +1,6 @@
 -- Each step of the search for the vertices that fall keeps what is known.
-use Rattle.std.proofs.Common.{◌≡◌, ◌≢◌, ◌≤◌, ◌<◌, ◌+◌, ◌-◌, ℕ, suc, zero, max, Bool, true, false, cond, not, ◌&&◌, ◌||◌, List, [], ◌∷◌, ◌++◌, take, length, get_or, eqb, leb, refl, sym, ◌∙◌, ap, subst, inl, inr, arith, true≢false, eq-eqb, ne_eqb, length-append}
+use Rattle.std.proofs.Common.{◌≡◌, ◌≢◌, ◌≤◌, ◌<◌, ◌+◌, ◌-◌, ℕ, suc, zero, max, Bool, true, false, cond, not, ◌&&◌, ◌||◌, List, [], ◌∷◌, ◌++◌, take}
+use Rattle.std.proofs.Common.{length, get_or, eqb, leb, refl, sym, ◌∙◌, ap, subst, inl, inr, arith, true≢false, eq-eqb, ne_eqb, length-append}
 use Rattle.std.proofs.lemmas.Bool.{cases_Bool, cases_eq, cases_lt, eqb-false, false≢true, or_right}
 use Rattle.std.proofs.lemmas.List.{take-append-le, get_or_append_left}
 use Rattle.std.proofs.Math.Seq.{get_or-append_seam, take-length}
@@ -13,7 +14,8 @@ use Rattle.kc_remove.specs.Cascade.{Thinned, support, taken, Cascade, nobody}
 
 -- with more gone the support is no more
 support-fewer : (s : Search) (gone more : List ℕ) (z : ℕ) → ((y : ℕ) → member y gone ≡ true → member y more ≡ true) → support s more z ≤ support s gone z
-support-fewer s gone more z sub = among-mono s z (λ y. leb s.level (s.core y) && not (member y more)) (λ y. leb s.level (s.core y) && not (member y gone)) (λ y l a t.
+support-fewer s gone more z sub = among-mono s z (λ y. leb s.level (s.core y) && not (member y more))
+    (λ y. leb s.level (s.core y) && not (member y gone)) (λ y l a t.
     let k : member y gone ≡ true → member y more ≡ true = sub y in grind (arith, k, t))
 
 pub take-more : (i : ℕ) (xs : List ℕ) → i < length xs → take (i + 1) xs ≡ take i xs ++ get_or xs i 0 ∷ []
@@ -26,7 +28,9 @@ same_test a m m' e h n = grind arith
 
 taken-all : (part : ℕ → Bool) (seen : ℕ → ℕ) (turn z n : ℕ) → seen z ≡ n → (part z ≡ true → turn < n) → turn ≤ n → taken part seen turn z ≡ n
 taken-all part seen turn z n e p l = elim (cases_Bool (part z)) [
-  | inl t ↦ let k : taken part seen turn z ≡ max (turn + 1) (seen z) = ap (λ b. max (cond b (turn + 1) turn) (seen z)) t in let lt : turn < n = p t in omega (arith, k, e)
+  | inl t ↦
+      let k : taken part seen turn z ≡ max (turn + 1) (seen z) = ap (λ b. max (cond b (turn + 1) turn) (seen z)) t in
+      let lt : turn < n = p t in omega (arith, k, e)
   | inr f ↦ let k : taken part seen turn z ≡ max turn (seen z) = ap (λ b. max (cond b (turn + 1) turn) (seen z)) f in omega (arith, k, e)
 ]
 
@@ -40,8 +44,10 @@ support-one s fall turn y l d ox =
     let x : ℕ = get_or fall turn 0 in
     let seam : take (turn + 1) fall ≡ take turn fall ++ x ∷ [] = take-more turn fall l in
     let not_yet : member x (take turn fall) ≡ false = take-not_here turn fall l d in
-    let now : member x (take (turn + 1) fall) ≡ true = ap (member x) seam ∙ (member-push x x (take turn fall) ∙ or_right (member x (take turn fall)) (eqb x x) (eq-eqb x x refl)) in
-    among-one s y x (λ z. leb s.level (s.core z) && not (member z (take turn fall))) (λ z. leb s.level (s.core z) && not (member z (take (turn + 1) fall))) ox.here
+    let now : member x (take (turn + 1) fall) ≡ true =
+    ap (member x) seam ∙ (member-push x x (take turn fall) ∙ or_right (member x (take turn fall)) (eqb x x) (eq-eqb x x refl)) in
+    among-one s y x (λ z. leb s.level (s.core z) && not (member z (take turn fall)))
+    (λ z. leb s.level (s.core z) && not (member z (take (turn + 1) fall))) ox.here
     (let k : member x (take (turn + 1) fall) ≡ true = now in grind (arith, k))
     (let k : member x (take turn fall) ≡ false = not_yet in let k' : s.level ≤ s.core x = omega (arith, ox.level) in grind (arith, k, k'))
     (λ z lz a ne.
@@ -51,7 +57,8 @@ support-one s fall turn y l d ox =
 
 -- a vertex is visited, and the present turn may have come to it
 pub visit : (s : Search) (fall : List ℕ) (turn : ℕ) (part part' visited : ℕ → Bool) (sup seen : ℕ → ℕ) → Cascade s fall turn part visited sup seen nobody
-    → (y : ℕ) → OnLevel s y → visited y ≡ false → (visited' : ℕ → Bool) (sup' seen' : ℕ → ℕ) → visited' y ≡ true → sup' y ≡ support s fall y → seen' y ≡ length fall
+    → (y : ℕ) → OnLevel s y → visited y ≡ false → (visited' : ℕ → Bool) (sup' seen' : ℕ → ℕ) → visited' y ≡ true → sup' y ≡ support s fall y
+    → seen' y ≡ length fall
     → (part' y ≡ true → (turn < length fall) × (s.adj (get_or fall turn 0) y ≡ true))
     → ((z : ℕ) → z ≢ y → (visited' z ≡ visited z) × (sup' z ≡ sup z) × (seen' z ≡ seen z) × (part' z ≡ part z))
     → Cascade s fall turn part' visited' sup' seen' (λ z. eqb z y)
@@ -78,12 +85,19 @@ visit s fall turn part part' visited sup seen c y oy new' visited' sup' seen' v 
         | inr ne ↦
             let o = others z ne in
             let e : sup z ≡ support s (take (taken part seen turn z) fall) z = c.exact z (sym o.0 ∙ m) out in
-            let b : taken part' seen' turn z ≡ taken part seen turn z = ap (λ k. max (cond (part' z) (turn + 1) turn) k) o.2 ∙ ap (λ t. max (cond t (turn + 1) turn) (seen z)) o.3 in
+            let b : taken part' seen' turn z ≡ taken part seen turn z =
+            ap (λ k. max (cond (part' z) (turn + 1) turn) k) o.2 ∙ ap (λ t. max (cond t (turn + 1) turn) (seen z)) o.3 in
             o.1 ∙ (e ∙ ap (λ k. support s (take k fall) z) (sym b))
       ];
-      strong = λ z m out apart. let ne : z ≢ y = eqb-false z y apart in let o = others z ne in let k : s.level ≤ sup z = c.strong z (sym o.0 ∙ m) out refl in omega (arith, k, o.1);
+      strong = λ z m out apart. let ne : z ≢ y = eqb-false z y apart in let o = others z ne in let k : s.level
+          ≤ sup z = c.strong z (sym o.0 ∙ m) out refl in omega (arith, k, o.1);
       visited_level = λ z m. elim (cases_eq z y) [ inl e ↦ subst (λ (k : ℕ). OnLevel s k) (sym e) oy | inr ne ↦ c.visited_level z (sym (others z ne).0 ∙ m) ];
-      seen_in = λ z m. elim (cases_eq z y) [ inl e ↦ let k : seen' z ≡ seen' y = ap seen' e in omega (arith, k, w) | inr ne ↦ let o = others z ne in let k : seen z ≤ length fall = c.seen_in z (sym o.0 ∙ m) in omega (arith, k, o.2) ];
+      seen_in =
+          λ z m.
+          elim (cases_eq z y) [
+            | inl e ↦ let k : seen' z ≡ seen' y = ap seen' e in omega (arith, k, w)
+            | inr ne ↦ let o = others z ne in let k : seen z ≤ length fall = c.seen_in z (sym o.0 ∙ m) in omega (arith, k, o.2)
+          ];
       turn_in = c.turn_in;
       part_in = in_part;
       part_visited = λ z p oz. elim (cases_eq z y) [ inl e ↦ ap visited' e ∙ v | inr ne ↦ grows z (c.part_visited z (sym (others z ne).3 ∙ p) oz) ];
@@ -120,8 +134,10 @@ taken-yes part seen turn z p = ap (λ b. max (cond b (turn + 1) turn) (seen z)) 
 taken-no : (part : ℕ → Bool) (seen : ℕ → ℕ) (turn z : ℕ) → part z ≡ false → taken part seen turn z ≡ max turn (seen z)
 taken-no part seen turn z p = ap (λ b. max (cond b (turn + 1) turn) (seen z)) p
 
-lost : (s : Search) (fall : List ℕ) (turn : ℕ) (part part' visited : ℕ → Bool) (sup sup' seen : ℕ → ℕ) → ((x y : ℕ) → s.adj x y ≡ s.adj y x) → Cascade s fall turn part visited sup seen nobody
-    → turn < length fall → (y : ℕ) → visited y ≡ true → member y fall ≡ false → s.adj (get_or fall turn 0) y ≡ true → part y ≡ false → part' y ≡ true → sup' y ≡ sup y - one_if (leb (seen y) turn)
+lost : (s : Search) (fall : List ℕ) (turn : ℕ) (part part' visited : ℕ → Bool) (sup sup' seen : ℕ → ℕ) → ((x y : ℕ) → s.adj x y ≡ s.adj y x)
+    → Cascade s fall turn part visited sup seen nobody
+    → turn < length fall → (y : ℕ) → visited y ≡ true → member y fall ≡ false → s.adj (get_or fall turn 0) y ≡ true → part y ≡ false
+    → part' y ≡ true → sup' y ≡ sup y - one_if (leb (seen y) turn)
     → sup' y ≡ support s (take (taken part' seen turn y) fall) y
 lost s fall turn part part' visited sup sup' seen sides c l y v out a notyet p n =
     let ox : OnLevel s (get_or fall turn 0) = c.fall_level (get_or fall turn 0) (member-get_or fall turn 0 l) in
@@ -131,21 +147,26 @@ lost s fall turn part part' visited sup sup' seen sides c l y v out a notyet p n
     elim (cases_lt turn (seen y)) [
       | inl late ↦
           let same : taken part seen turn y ≡ taken part' seen turn y = omega (arith, now, before) in
-          let k : support s (take (taken part seen turn y) fall) y ≡ support s (take (taken part' seen turn y) fall) y = ap (λ b. support s (take b fall) y) same in
+          let k : support s (take (taken part seen turn y) fall) y ≡ support s (take (taken part' seen turn y) fall) y =
+          ap (λ b. support s (take b fall) y) same in
           let none : one_if (leb (seen y) turn) ≡ 0 = grind (arith, late) in
           omega (arith, n, was, k, none)
       | inr early ↦
-          let k : support s (take (taken part seen turn y) fall) y ≡ support s (take turn fall) y = ap (λ b. support s (take b fall) y) (before ∙ omega (arith, early)) in
-          let k' : support s (take (taken part' seen turn y) fall) y ≡ support s (take (turn + 1) fall) y = ap (λ b. support s (take b fall) y) (now ∙ omega (arith, early)) in
+          let k : support s (take (taken part seen turn y) fall) y ≡ support s (take turn fall) y =
+          ap (λ b. support s (take b fall) y) (before ∙ omega (arith, early)) in
+          let k' : support s (take (taken part' seen turn y) fall) y ≡ support s (take (turn + 1) fall) y =
+          ap (λ b. support s (take b fall) y) (now ∙ omega (arith, early)) in
           let one : one_if (leb (seen y) turn) ≡ 1 = grind (arith, early) in
           let joined : one_if (s.adj y (get_or fall turn 0)) ≡ 1 = ap one_if (sides y (get_or fall turn 0) ∙ a) in
           omega (arith, n, was, k, k', one, joined, support-one s fall turn y l c.distinct ox)
     ]
 
 -- the present turn comes to a visited neighbour
-pub lose : (s : Search) (fall : List ℕ) (turn : ℕ) (part visited : ℕ → Bool) (sup seen : ℕ → ℕ) → ((x y : ℕ) → s.adj x y ≡ s.adj y x) → Cascade s fall turn part visited sup seen nobody
+pub lose : (s : Search) (fall : List ℕ) (turn : ℕ) (part visited : ℕ → Bool) (sup seen : ℕ → ℕ) → ((x y : ℕ) → s.adj x y ≡ s.adj y x)
+    → Cascade s fall turn part visited sup seen nobody
     → turn < length fall → (y : ℕ) → visited y ≡ true → member y fall ≡ false → s.adj (get_or fall turn 0) y ≡ true → part y ≡ false
-    → (part' : ℕ → Bool) (sup' : ℕ → ℕ) → part' y ≡ true → sup' y ≡ sup y - one_if (leb (seen y) turn) → ((z : ℕ) → z ≢ y → (part' z ≡ part z) × (sup' z ≡ sup z))
+    → (part' : ℕ → Bool) (sup' : ℕ → ℕ) → part' y ≡ true → sup' y ≡ sup y - one_if (leb (seen y) turn)
+    → ((z : ℕ) → z ≢ y → (part' z ≡ part z) × (sup' z ≡ sup z))
     → Cascade s fall turn part' visited sup' seen (λ z. eqb z y)
 lose s fall turn part visited sup seen sides c l y v out a notyet part' sup' p n others = record {
   fall_level = c.fall_level;
@@ -153,13 +174,16 @@ lose s fall turn part visited sup seen sides c l y v out a notyet part' sup' p n
   distinct = c.distinct;
   weak = c.weak;
   exact = λ z m out'. elim (cases_eq z y) [
-    | inl e ↦ subst (λ (k : ℕ). sup' k ≡ support s (take (taken part' seen turn k) fall) k) (sym e) (lost s fall turn part part' visited sup sup' seen sides c l y v out a notyet p n)
+    | inl e ↦
+        subst (λ (k : ℕ). sup' k ≡ support s (take (taken part' seen turn k) fall) k) (sym e)
+        (lost s fall turn part part' visited sup sup' seen sides c l y v out a notyet p n)
     | inr ne ↦
         let o = others z ne in
         let b : taken part' seen turn z ≡ taken part seen turn z = ap (λ k. max (cond k (turn + 1) turn) (seen z)) o.0 in
         o.1 ∙ (c.exact z m out' ∙ ap (λ k. support s (take k fall) z) (sym b))
   ];
-  strong = λ z m out' apart. let ne : z ≢ y = eqb-false z y apart in let o = others z ne in let k : s.level ≤ sup z = c.strong z m out' refl in omega (arith, k, o.1);
+  strong = λ z m out' apart. let ne : z ≢ y = eqb-false z y apart in let o = others z ne in let k : s.level
+      ≤ sup z = c.strong z m out' refl in omega (arith, k, o.1);
   visited_level = c.visited_level;
   seen_in = c.seen_in;
   turn_in = c.turn_in;
@@ -169,7 +193,8 @@ lose s fall turn part visited sup seen sides c l y v out a notyet part' sup' p n
 }
 
 -- it is still strong
-pub stay : (s : Search) (fall : List ℕ) (turn : ℕ) (part visited : ℕ → Bool) (sup seen : ℕ → ℕ) (y : ℕ) → Cascade s fall turn part visited sup seen (λ z. eqb z y) → s.level ≤ sup y
+pub stay : (s : Search) (fall : List ℕ) (turn : ℕ) (part visited : ℕ → Bool) (sup seen : ℕ → ℕ) (y : ℕ)
+    → Cascade s fall turn part visited sup seen (λ z. eqb z y) → s.level ≤ sup y
     → Cascade s fall turn part visited sup seen nobody
 stay s fall turn part visited sup seen y c le = record {
   fall_level = c.fall_level;
@@ -187,7 +212,8 @@ stay s fall turn part visited sup seen y c le = record {
 }
 
 -- it is too weak, and falls
-pub fall_one : (s : Search) (fall : List ℕ) (turn : ℕ) (part visited : ℕ → Bool) (sup seen : ℕ → ℕ) (y : ℕ) → Cascade s fall turn part visited sup seen (λ z. eqb z y) → visited y ≡ true → member y fall ≡ false → sup y < s.level
+pub fall_one : (s : Search) (fall : List ℕ) (turn : ℕ) (part visited : ℕ → Bool) (sup seen : ℕ → ℕ) (y : ℕ)
+    → Cascade s fall turn part visited sup seen (λ z. eqb z y) → visited y ≡ true → member y fall ≡ false → sup y < s.level
     → Cascade s (fall ++ y ∷ []) turn part visited sup seen nobody
 fall_one s fall turn part visited sup seen y c v out lt =
     let next : List ℕ = fall ++ y ∷ [] in
@@ -210,7 +236,8 @@ fall_one s fall turn part visited sup seen y c v out lt =
             let e : j ≡ length fall = omega (arith, long) in
             let u : get_or next j 0 ≡ y = ap (λ k. get_or next k 0) e ∙ get_or-append_seam fall y [] 0 in
             let w : take j next ≡ fall = same j (omega (arith, e)) ∙ (ap (λ k. take k fall) e ∙ take-length fall) in
-            let less : support s fall y ≤ support s (take (taken part seen turn y) fall) y = support-fewer s (take (taken part seen turn y) fall) fall y (λ z m. take-member (taken part seen turn y) fall z m) in
+            let less : support s fall y ≤ support s (take (taken part seen turn y) fall) y =
+            support-fewer s (take (taken part seen turn y) fall) fall y (λ z m. take-member (taken part seen turn y) fall z m) in
             let low : support s fall y < s.level = omega (arith, less, c.exact y v out) in
             rw (u, w) low
       ];
@@ -227,7 +254,8 @@ fall_one s fall turn part visited sup seen y c v out lt =
     }
 
 -- the present turn has come to all
-pub turn_over : (s : Search) (fall : List ℕ) (turn : ℕ) (part visited : ℕ → Bool) (sup seen : ℕ → ℕ) → ((x y : ℕ) → s.adj x y ≡ s.adj y x) → Cascade s fall turn part visited sup seen nobody → turn < length fall
+pub turn_over : (s : Search) (fall : List ℕ) (turn : ℕ) (part visited : ℕ → Bool) (sup seen : ℕ → ℕ) → ((x y : ℕ) → s.adj x y ≡ s.adj y x)
+    → Cascade s fall turn part visited sup seen nobody → turn < length fall
     → ((y : ℕ) → OnLevel s y → s.adj (get_or fall turn 0) y ≡ true → member y fall ≡ false → part y ≡ true)
     → Cascade s fall (turn + 1) nobody visited sup seen nobody
 turn_over s fall turn part visited sup seen sides c l all =
@@ -254,8 +282,10 @@ turn_over s fall turn part visited sup seen sides c l all =
                       let same : taken part seen turn y ≡ max (turn + 1) (seen y) = taken-no part seen turn y p ∙ omega (arith, late) in
                       was ∙ ap (λ b. support s (take b fall) y) same
                   | inr early ↦
-                      let k : support s (take (taken part seen turn y) fall) y ≡ support s (take turn fall) y = ap (λ b. support s (take b fall) y) (taken-no part seen turn y p ∙ omega (arith, early)) in
-                      let k' : support s (take (taken nobody seen (turn + 1) y) fall) y ≡ support s (take (turn + 1) fall) y = ap (λ b. support s (take b fall) y) (omega (arith, early)) in
+                      let k : support s (take (taken part seen turn y) fall) y ≡ support s (take turn fall) y =
+                      ap (λ b. support s (take b fall) y) (taken-no part seen turn y p ∙ omega (arith, early)) in
+                      let k' : support s (take (taken nobody seen (turn + 1) y) fall) y ≡ support s (take (turn + 1) fall) y =
+                      ap (λ b. support s (take b fall) y) (omega (arith, early)) in
                       let none : one_if (s.adj y x) ≡ 0 = ap one_if apart in
                       omega (arith, was, k, k', none, support-one s fall turn y l c.distinct ox)
                 ]
@@ -268,7 +298,9 @@ turn_over s fall turn part visited sup seen sides c l all =
       part_visited = λ y m oy. absurd (false≢true m);
       done = λ z y m oy a. elim (member-push_cases z x (take turn fall) (sym (ap (member z) seam) ∙ m)) [
         | inl k ↦ c.done z y k oy a
-        | inr e ↦ elim (cases_Bool (member y fall)) [ inl gone ↦ c.fall_visited y gone | inr out ↦ c.part_visited y (all y oy (ap (λ n. s.adj n y) (sym e) ∙ a) out) oy ]
+        | inr e ↦
+            elim (cases_Bool (member y fall))
+            [ inl gone ↦ c.fall_visited y gone | inr out ↦ c.part_visited y (all y oy (ap (λ n. s.adj n y) (sym e) ∙ a) out) oy ]
       ];
     }
 
@@ -290,16 +322,19 @@ calm s visited sup seen none = record {
 }
 
 -- At the end: a vertex of the level that has not fallen has enough neighbours left.
-pub kept_support : (s : Search) (is_end : ℕ → Bool) (fall : List ℕ) (visited : ℕ → Bool) (sup seen : ℕ → ℕ) → Thinned s is_end → Cascade s fall (length fall) nobody visited sup seen nobody
+pub kept_support : (s : Search) (is_end : ℕ → Bool) (fall : List ℕ) (visited : ℕ → Bool) (sup seen : ℕ → ℕ) → Thinned s is_end
+    → Cascade s fall (length fall) nobody visited sup seen nobody
     → ((z : ℕ) → OnLevel s z → is_end z ≡ true → visited z ≡ true) → (y : ℕ) → OnLevel s y → member y fall ≡ false → s.level ≤ support s fall y
 kept_support s is_end fall visited sup seen t c ends y oy out = elim (cases_Bool (visited y)) [
   | inl v ↦
-      let all : take (taken nobody seen (length fall) y) fall ≡ fall = ap (λ k. take k fall) (let le : seen y ≤ length fall = c.seen_in y v in max-left (length fall) (seen y) le) ∙ take-length fall in
+      let all : take (taken nobody seen (length fall) y) fall ≡ fall =
+      ap (λ k. take k fall) (let le : seen y ≤ length fall = c.seen_in y v in max-left (length fall) (seen y) le) ∙ take-length fall in
       let k : support s (take (taken nobody seen (length fall) y) fall) y ≡ support s fall y = ap (λ f. support s f y) all in
       omega (arith, k, c.exact y v out, c.strong y v out refl)
   | inr n ↦
       let not_end : is_end y ≡ false = elim (cases_Bool (is_end y)) [ inl e ↦ absurd (true≢false (sym (ends y oy e) ∙ n)) | inr f ↦ f ] in
-      let high : among s y (λ z. leb (s.core y) (s.core z)) ≤ support s fall y = among-mono s y (λ z. leb (s.core y) (s.core z)) (λ z. leb s.level (s.core z) && not (member z fall)) (λ z l a h.
+      let high : among s y (λ z. leb (s.core y) (s.core z)) ≤ support s fall y =
+      among-mono s y (λ z. leb (s.core y) (s.core z)) (λ z. leb s.level (s.core z) && not (member z fall)) (λ z l a h.
       let gone : member z fall ≡ false = elim (cases_Bool (member z fall)) [
         | inl m ↦ absurd (true≢false (sym (c.done z y (ap (member z) (take-length fall) ∙ m) oy (t.symmetric z y ∙ a)) ∙ n))
         | inr f ↦ f

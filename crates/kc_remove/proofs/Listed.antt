@@ -31,11 +31,14 @@ counted-all update level s fall size x row list same =
     let test : ℕ → Bool = λ y. leb level (get_or s.core y 0) && not (member y fall) in
     let apart : update.u ≢ update.v = λ e. let l : update.u < update.v = update.ordered in absurd (omega (arith, e)) in
     let edge : (y : ℕ) → now x y ≡ (adjacent s.graph x y && not (is_removed update x y)) = λ y. adjacent-without s.graph update.u update.v x y apart in
-    let from : (y : ℕ) → member y row ≡ true → (y < s.graph.size) × (adjacent s.graph x y ≡ true) = λ y m. neighbours_within s.graph x y (sym (ap (member y) same) ∙ m) in
+    let from : (y : ℕ) → member y row ≡ true → (y < s.graph.size) × (adjacent s.graph x y ≡ true) =
+    λ y m. neighbours_within s.graph x y (sym (ap (member y) same) ∙ m) in
     let here : count_by (is_counted update level s fall x) row ≡ count_by (λ y. now x y && test y) row =
-    count-agree (is_counted update level s fall x) (λ y. now x y && test y) row (λ y m. same_there (adjacent s.graph x y) (now x y) (is_removed update x y) (test y) (edge y) (from y m).1) in
+    count-agree (is_counted update level s fall x) (λ y. now x y && test y) row
+    (λ y m. same_there (adjacent s.graph x y) (now x y) (is_removed update x y) (test y) (edge y) (from y m).1) in
     let up : count_by (λ y. now x y && test y) row ≤ count_by (λ y. now x y && test y) (below s.graph.size) =
-    count-le (λ y. now x y && test y) row (below s.graph.size) (Distinct-from_increasing row list.ascends) (λ y m t. member-below y s.graph.size (from y m).0) in
+    count-le (λ y. now x y && test y) row (below s.graph.size) (Distinct-from_increasing row list.ascends)
+    (λ y m t. member-below y s.graph.size (from y m).0) in
     let down : count_by (λ y. now x y && test y) (below s.graph.size) ≤ count_by (λ y. now x y && test y) row =
     count-le (λ y. now x y && test y) (below s.graph.size) row (Distinct-below s.graph.size) (λ y m t. ap (member y) same ∙
     (neighbours_has s.graph x y (below-member y s.graph.size m) ∙ was_there (adjacent s.graph x y) (now x y) (is_removed update x y) (test y) (edge y) t)) in
@@ -50,7 +53,8 @@ some-any p x (y ∷ ys) m t = elim (or_cases (eqb x y) (member x ys) m) [
 
 -- what stands on the list of a vertex is another vertex
 pub row-vertex : (size size' x i y : ℕ) (row : List ℕ) → IsListOf size x row → i < length row → y ≡ get_or row i 0 → size' ≡ size → y < size'
-row-vertex size size' x i y row list l at same = let k : get_or row i 0 < size = list.within (get_or row i 0) (member-get_or row i 0 l) in omega (arith, k, at, same)
+row-vertex size size' x i y row list l at same =
+    let k : get_or row i 0 < size = list.within (get_or row i 0) (member-get_or row i 0 l) in omega (arith, k, at, same)
 
 pub row-member : (i y : ℕ) (row : List ℕ) → i < length row → y ≡ get_or row i 0 → member y row ≡ true
 row-member i y row l at = ap (λ k. member k row) at ∙ member-get_or row i 0 l

@@ -1,5 +1,6 @@
 -- The steps of the code are steps of the search for the vertices that fall.
-use Rattle.std.proofs.Common.{◌≡◌, ◌≢◌, ◌≤◌, ◌<◌, ◌+◌, ◌-◌, ℕ, Bool, true, false, cond, not, ◌&&◌, ◌||◌, List, [], ◌∷◌, ◌++◌, length, take, max, get_or, eqb, ltb, leb, refl, sym, ◌∙◌, ap, subst, inl, inr, arith, true≢false, ltb-true, ne_eqb, eq-eqb}
+use Rattle.std.proofs.Common.{◌≡◌, ◌≢◌, ◌≤◌, ◌<◌, ◌+◌, ◌-◌, ℕ, Bool, true, false, cond, not, ◌&&◌, ◌||◌, List, [], ◌∷◌, ◌++◌, length, take, max}
+use Rattle.std.proofs.Common.{get_or, eqb, ltb, leb, refl, sym, ◌∙◌, ap, subst, inl, inr, arith, true≢false, ltb-true, ne_eqb, eq-eqb}
 use Rattle.std.specs.Prelude.{is_some}
 use Rattle.std.proofs.lemmas.Bool.{cases_Bool, cases_eq, and_parts, and_from, or_right, false_from_ne_true}
 use Rattle.std.proofs.Math.Bool.{or-false}
@@ -39,7 +40,8 @@ not_low a b h = grind arith
 
 -- a vertex whose count was made is settled
 settled : (q : Search) (turn : ℕ) (part : ℕ → Bool) (y sup seen : ℕ) (old new : Falling) → Settles q.level y sup seen old new → member y old.list.items ≡ false
-    → Cascade q old.list.items turn part (is_visited new) (support_at new) (seen_at new) (λ z. eqb z y) → Cascade q new.list.items turn part (is_visited new) (support_at new) (seen_at new) nobody
+    → Cascade q old.list.items turn part (is_visited new) (support_at new) (seen_at new) (λ z. eqb z y)
+    → Cascade q new.list.items turn part (is_visited new) (support_at new) (seen_at new) nobody
 settled q turn part y sup seen old new s out c =
     let here : support_at new y ≡ sup = ap support_in s.visit in
     let v : is_visited new y ≡ true = ap is_some s.visit in
@@ -57,7 +59,8 @@ settled q turn part y sup seen old new s out c =
     ]
 
 -- the edge that is left
-pub edge-left : (update : Update) (s : Ranked) (x y : ℕ) → is_removed update x y ≡ false → adjacent s.graph x y ≡ true → adjacent (without_edge s.graph update.u update.v) x y ≡ true
+pub edge-left : (update : Update) (s : Ranked) (x y : ℕ) → is_removed update x y ≡ false → adjacent s.graph x y ≡ true
+    → adjacent (without_edge s.graph update.u update.v) x y ≡ true
 edge-left update s x y n a =
     let k = adjacent-without s.graph update.u update.v x y (ends-differ update) in
     k ∙ left_in (adjacent s.graph x y) (is_removed update x y) a n
@@ -70,30 +73,36 @@ edge-gone update s x y j =
 -- the turn comes to vertices one by one
 pub come-other : (update : Update) (s : Ranked) (x y z : ℕ) (row : List ℕ) → z ≢ y → has_come update s x (row ++ y ∷ []) z ≡ has_come update s x row z
 come-other update s x y z row ne =
-    ap (λ b. b && adjacent (without_edge s.graph update.u update.v) x z) (member-push z y row ∙ (ap (λ b. member z row || b) (ne_eqb z y ne) ∙ or-false (member z row)))
+    ap (λ b. b && adjacent (without_edge s.graph update.u update.v) x z)
+    (member-push z y row ∙ (ap (λ b. member z row || b) (ne_eqb z y ne) ∙ or-false (member z row)))
 
-pub come-now : (update : Update) (s : Ranked) (x y : ℕ) (row : List ℕ) → adjacent (without_edge s.graph update.u update.v) x y ≡ true → has_come update s x (row ++ y ∷ []) y ≡ true
+pub come-now : (update : Update) (s : Ranked) (x y : ℕ) (row : List ℕ) → adjacent (without_edge s.graph update.u update.v) x y ≡ true
+    → has_come update s x (row ++ y ∷ []) y ≡ true
 come-now update s x y row a = and_from _ _ (member-push y y row ∙ or_right (member y row) (eqb y y) (eq-eqb y y refl)) a
 
-pub come-not : (update : Update) (s : Ranked) (x y : ℕ) (row : List ℕ) → adjacent (without_edge s.graph update.u update.v) x y ≡ false → has_come update s x row y ≡ false
+pub come-not : (update : Update) (s : Ranked) (x y : ℕ) (row : List ℕ) → adjacent (without_edge s.graph update.u update.v) x y ≡ false
+    → has_come update s x row y ≡ false
 come-not update s x y row n = and-fails (member y row) (adjacent (without_edge s.graph update.u update.v) x y) n
 
 pub come-late : (update : Update) (s : Ranked) (x y : ℕ) (row : List ℕ) → member y row ≡ false → has_come update s x row y ≡ false
 come-late update s x y row n = ap (λ b. b && adjacent (without_edge s.graph update.u update.v) x y) n
 
 -- the turn comes to a vertex that it does not concern
-pub pass-by : (update : Update) (level : ℕ) (s : Ranked) (turn x y : ℕ) (row : List ℕ) (f : Falling) → turn < length f.list.items → get_or f.list.items turn 0 ≡ x
+pub pass-by : (update : Update) (level : ℕ) (s : Ranked) (turn x y : ℕ) (row : List ℕ) (f : Falling) → turn < length f.list.items
+    → get_or f.list.items turn 0 ≡ x
     → (adjacent (without_edge s.graph update.u update.v) x y ≡ true → OnLevel (search_without update level s) y → member y f.list.items ≡ true)
     → FallsIn update level s f turn (has_come update s x row) → FallsIn update level s f turn (has_come update s x (row ++ y ∷ []))
 pass-by update level s turn x y row f l at only c =
     let now : ℕ → ℕ → Bool = adjacent (without_edge s.graph update.u update.v) in
-    pass (search_without update level s) f.list.items turn (has_come update s x row) (has_come update s x (row ++ y ∷ [])) (is_visited f) (support_at f) (seen_at f) c
+    pass (search_without update level s) f.list.items turn (has_come update s x row) (has_come update s x (row ++ y ∷ [])) (is_visited f)
+    (support_at f) (seen_at f) c
     (λ z v out. elim (cases_eq z y) [
       | inr ne ↦ come-other update s x y z row ne
       | inl e ↦
           let oy : OnLevel (search_without update level s) y = subst (λ (k : ℕ). OnLevel (search_without update level s) k) e (c.visited_level z v) in
           let apart : now x y ≡ false = false_from_ne_true _ (λ a. true≢false (sym (only a oy) ∙ (ap (λ k. member k f.list.items) (sym e) ∙ out))) in
-          ap (has_come update s x (row ++ y ∷ [])) e ∙ (come-not update s x y (row ++ y ∷ []) apart ∙ sym (ap (has_come update s x row) e ∙ come-not update s x y row apart))
+          ap (has_come update s x (row ++ y ∷ [])) e
+          ∙ (come-not update s x y (row ++ y ∷ []) apart ∙ sym (ap (has_come update s x row) e ∙ come-not update s x y row apart))
     ])
     (λ z p. let k = and_parts (member z (row ++ y ∷ [])) (now x z) p in (l, ap (λ n. now n z) at ∙ k.1))
     (λ z p oz. elim (cases_eq z y) [
@@ -104,28 +113,40 @@ pass-by update level s turn x y row f l at only c =
     ])
 
 -- a vertex is visited
-pub visited-falls : (update : Update) (level : ℕ) (s : Ranked) (turn : ℕ) (part later : ℕ → Bool) (y sup seen : ℕ) (old new : Falling) → Settles level y sup seen old new → seen ≡ length old.list.items → member y old.list.items ≡ false
+pub visited-falls : (update : Update) (level : ℕ) (s : Ranked) (turn : ℕ) (part later : ℕ → Bool) (y sup seen : ℕ) (old new : Falling)
+    → Settles level y sup seen old new → seen ≡ length old.list.items → member y old.list.items ≡ false
     → is_visited old y ≡ false → OnLevel (search_without update level s) y → sup ≡ support (search_without update level s) old.list.items y
     → FallsIn update level s old turn part → ((z : ℕ) → z ≢ y → later z ≡ part z)
     → (later y ≡ true → (turn < length old.list.items) × (adjacent (without_edge s.graph update.u update.v) (get_or old.list.items turn 0) y ≡ true))
     → FallsIn update level s new turn later
 visited-falls update level s turn part later y sup seen old new h all out not_yet oy is c same came =
     settled (search_without update level s) turn later y sup seen old new h out
-    (visit (search_without update level s) old.list.items turn part later (is_visited old) (support_at old) (seen_at old) c y oy not_yet (is_visited new) (support_at new) (seen_at new)
+    (visit (search_without update level s) old.list.items turn part later (is_visited old) (support_at old) (seen_at old) c y oy not_yet
+    (is_visited new) (support_at new) (seen_at new)
     (ap is_some h.visit) (ap support_in h.visit ∙ is) (ap seen_in h.visit ∙ all) came
     (λ z ne. (ap is_some (h.others z ne), ap support_in (h.others z ne), ap seen_in (h.others z ne), same z ne)))
 
 -- a neighbour that was visited has one less
-pub weakened-falls : (update : Update) (level : ℕ) (s : Ranked) (turn : ℕ) (part later : ℕ → Bool) (y sup seen' : ℕ) (old new : Falling) → Settles level y sup seen' old new → seen' ≡ seen_at old y → member y old.list.items ≡ false
+pub weakened-falls : (update : Update) (level : ℕ) (s : Ranked) (turn : ℕ) (part later : ℕ → Bool) (y sup seen' : ℕ) (old new : Falling)
+    → Settles level y sup seen' old new → seen' ≡ seen_at old y → member y old.list.items ≡ false
     → is_visited old y ≡ true → sup ≡ support_at old y - one_if (leb (seen_at old y) turn) → turn < length old.list.items
     → adjacent (without_edge s.graph update.u update.v) (get_or old.list.items turn 0) y ≡ true
     → FallsIn update level s old turn part → part y ≡ false → later y ≡ true → ((z : ℕ) → z ≢ y → later z ≡ part z)
     → FallsIn update level s new turn later
 weakened-falls update level s turn part later y sup seen' old new h since out v is l a c before now same =
     let q : Search = search_without update level s in
-    let grown : (z : ℕ) → is_visited new z ≡ is_visited old z = λ z. elim (cases_eq z y) [ inl e ↦ ap (is_visited new) e ∙ (ap is_some h.visit ∙ sym (ap (is_visited old) e ∙ v)) | inr ne ↦ ap is_some (h.others z ne) ] in
-    let seen : (z : ℕ) → seen_at new z ≡ seen_at old z = λ z. elim (cases_eq z y) [ inl e ↦ ap (seen_at new) e ∙ (ap seen_in h.visit ∙ (since ∙ sym (ap (seen_at old) e))) | inr ne ↦ ap seen_in (h.others z ne) ] in
-    let lost = lose q old.list.items turn part (is_visited old) (support_at old) (seen_at old) (adjacent-sym (without_edge s.graph update.u update.v)) c l y v out a before later (support_at new) now (ap support_in h.visit ∙ is)
+    let grown : (z : ℕ) → is_visited new z ≡ is_visited old z =
+    λ z.
+    elim (cases_eq z y)
+    [ inl e ↦ ap (is_visited new) e ∙ (ap is_some h.visit ∙ sym (ap (is_visited old) e ∙ v)) | inr ne ↦ ap is_some (h.others z ne) ] in
+    let seen : (z : ℕ) → seen_at new z ≡ seen_at old z =
+    λ z.
+    elim (cases_eq z y)
+    [ inl e ↦ ap (seen_at new) e ∙ (ap seen_in h.visit ∙ (since ∙ sym (ap (seen_at old) e))) | inr ne ↦ ap seen_in (h.others z ne) ] in
+    let lost =
+    lose q old.list.items turn part (is_visited old) (support_at old) (seen_at old)
+    (adjacent-sym (without_edge s.graph update.u update.v)) c l y v out a before later (support_at new) now
+    (ap support_in h.visit ∙ is)
     (λ z ne. (same z ne, ap support_in (h.others z ne))) in
     settled q turn later y sup seen' old new h out (record {
       fall_level = lost.fall_level;
@@ -143,23 +164,29 @@ weakened-falls update level s turn part later y sup seen' old new h since out v 
     })
 
 -- the weakening of a neighbour to which the turn has not come yet
-pub weakened-come : (update : Update) (level : ℕ) (s : Ranked) (turn x y sup seen : ℕ) (row : List ℕ) (old new : Falling) → Settles level y sup seen old new → seen ≡ seen_at old y → member y old.list.items ≡ false
+pub weakened-come : (update : Update) (level : ℕ) (s : Ranked) (turn x y sup seen : ℕ) (row : List ℕ) (old new : Falling)
+    → Settles level y sup seen old new → seen ≡ seen_at old y → member y old.list.items ≡ false
     → is_visited old y ≡ true → sup ≡ support_at old y - one_if (leb (seen_at old y) turn) → turn < length old.list.items → get_or old.list.items turn 0 ≡ x
     → adjacent (without_edge s.graph update.u update.v) x y ≡ true → member y row ≡ false
     → FallsIn update level s old turn (has_come update s x row) → FallsIn update level s new turn (has_come update s x (row ++ y ∷ []))
 weakened-come update level s turn x y sup seen row old new h since out v is l at a new_row c =
-    weakened-falls update level s turn (has_come update s x row) (has_come update s x (row ++ y ∷ [])) y sup seen old new h since out v is l (ap (λ n. adjacent (without_edge s.graph update.u update.v) n y) at ∙ a) c
+    weakened-falls update level s turn (has_come update s x row) (has_come update s x (row ++ y ∷ [])) y sup seen old new h since out v is l
+    (ap (λ n. adjacent (without_edge s.graph update.u update.v) n y) at ∙ a) c
     (come-late update s x y row new_row) (come-now update s x y row a) (λ z ne. come-other update s x y z row ne)
 
 -- the turn is over
-pub turn-over : (update : Update) (level : ℕ) (s : Ranked) (turn x : ℕ) (row : List ℕ) (f : Falling) → turn < length f.list.items → get_or f.list.items turn 0 ≡ x → row ≡ neighbours_of s.graph x
+pub turn-over : (update : Update) (level : ℕ) (s : Ranked) (turn x : ℕ) (row : List ℕ) (f : Falling) → turn < length f.list.items
+    → get_or f.list.items turn 0 ≡ x → row ≡ neighbours_of s.graph x
     → FallsIn update level s f turn (has_come update s x row) → FallsIn update level s f (turn + 1) nobody
 turn-over update level s turn x row f l at same c =
     let now : ℕ → ℕ → Bool = adjacent (without_edge s.graph update.u update.v) in
-    turn_over (search_without update level s) f.list.items turn (has_come update s x row) (is_visited f) (support_at f) (seen_at f) (adjacent-sym (without_edge s.graph update.u update.v)) c l
+    turn_over (search_without update level s) f.list.items turn (has_come update s x row) (is_visited f) (support_at f) (seen_at f)
+    (adjacent-sym (without_edge s.graph update.u update.v)) c l
     (λ y oy a out.
     let here : now x y ≡ true = ap (λ n. now n y) (sym at) ∙ a in
-    let was : adjacent s.graph x y ≡ true = (and_parts (adjacent s.graph x y) (not (is_removed update x y)) (sym (adjacent-without s.graph update.u update.v x y (ends-differ update)) ∙ here)).0 in
+    let was : adjacent s.graph x y ≡ true =
+    (and_parts (adjacent s.graph x y) (not (is_removed update x y))
+    (sym (adjacent-without s.graph update.u update.v x y (ends-differ update)) ∙ here)).0 in
     and_from _ _ (ap (member y) same ∙ (neighbours_has s.graph x y oy.here ∙ was)) here)
 
 -- a neighbour that was told is one

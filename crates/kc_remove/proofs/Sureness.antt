@@ -1,5 +1,6 @@
 -- The moves of a removal pass the local test, and move just the vertices that lose one.
-use Rattle.std.proofs.Common.{◌≡◌, ◌<◌, ◌-◌, ℕ, min, Bool, true, false, cond, not, List, [], length, get_or, ltb, refl, sym, ◌∙◌, ap, subst, inl, inr, arith, true≢false, lt-ltb}
+use Rattle.std.proofs.Common.{◌≡◌, ◌<◌, ◌-◌, ℕ, min, Bool, true, false, cond, not, List, [], length, get_or, ltb, refl, sym, ◌∙◌, ap, subst, inl, inr}
+use Rattle.std.proofs.Common.{arith, true≢false, lt-ltb}
 use Rattle.std.proofs.lemmas.Bool.{cases_Bool}
 use Rattle.kc_distinct.specs.Lists.{member}
 use Rattle.kc_graph.specs.SimpleGraph.{SimpleGraph, adjacent}
@@ -32,7 +33,8 @@ pub updated-is : (update : Update) (g : SimpleGraph) → update.add ≡ false �
 updated-is update g e = ap (λ (b : Bool). cond b (with_edge g update.u update.v) (without_edge g update.u update.v)) e
 
 -- the edge is not there
-pub kept-sure : (update : Update) (used : Used) (s : Ranked) → update.add ≡ false → IsCertified s → update.v < s.graph.size → adjacent s.graph update.u update.v ≡ false
+pub kept-sure : (update : Update) (used : Used) (s : Ranked) → update.add ≡ false → IsCertified s → update.v < s.graph.size
+    → adjacent s.graph update.u update.v ≡ false
     → IsLocal s (record { update = update; used = used; moves = Kept }) × IsSparing s (record { update = update; used = used; moves = Kept })
 kept-sure update used s removes h l gone = kept-is_sure update used s h l (applied-is update s.graph removes ∙ gone)
 
@@ -43,18 +45,23 @@ less_number : (a b : ℕ) → a < b → true ≡ ltb a b
 less_number a b l = sym (lt-ltb a b l)
 
 -- the core numbers after a plan that passes
-numbers-after : (s : Ranked) (plan : Plan) → IsCertified s → IsLocal s plan → (core : List ℕ) → AreCoreNumbers (state_after plan s).graph core → core ≡ (state_after plan s).core
-numbers-after s plan h local core are = core-unique (state_after plan s).graph core (state_after plan s).core are (certified (state_after plan s).graph (state_after plan s).core (state_after plan s).order (certified_after s plan h local))
+numbers-after : (s : Ranked) (plan : Plan) → IsCertified s → IsLocal s plan → (core : List ℕ)
+    → AreCoreNumbers (state_after plan s).graph core → core ≡ (state_after plan s).core
+numbers-after s plan h local core are =
+    core-unique (state_after plan s).graph core (state_after plan s).core are
+    (certified (state_after plan s).graph (state_after plan s).core (state_after plan s).order (certified_after s plan h local))
 
 -- no vertex falls
-pub plain-sure : (update : Update) (used : Used) (s : Ranked) (level : ℕ) (f : Falling) → update.add ≡ false → IsCertified s → update.v < s.graph.size → adjacent s.graph update.u update.v ≡ true
+pub plain-sure : (update : Update) (used : Used) (s : Ranked) (level : ℕ) (f : Falling) → update.add ≡ false → IsCertified s
+    → update.v < s.graph.size → adjacent s.graph update.u update.v ≡ true
     → level ≡ min (get_or s.core update.u 0) (get_or s.core update.v 0) → HasEnded update level s f → f.list.items ≡ []
     → IsLocal s (record { update = update; used = used; moves = Plain }) × IsSparing s (record { update = update; used = used; moves = Plain })
 plain-sure update used s level f removes h l a least ended empty =
     let there : is_applied update s.graph ≡ true = applied-is update s.graph removes ∙ a in
     let after : updated update s.graph ≡ without_edge s.graph update.u update.v = updated-is update s.graph removes in
     let up : update.u < update.v = update.ordered in
-    let t : Thinned (search_without update level s) (is_end update) = thinned s update.u update.v level h (λ e. absurd (omega (arith, up, e))) (omega (arith, up, l)) l a least in
+    let t : Thinned (search_without update level s) (is_end update) =
+    thinned s update.u update.v level h (λ e. absurd (omega (arith, up, e))) (omega (arith, up, l)) l a least in
     let c : Cascade (search_without update level s) [] 0 nobody (is_visited f) (support_at f) (seen_at f) nobody =
     subst (λ (xs : List ℕ). Cascade (search_without update level s) xs (length xs) nobody (is_visited f) (support_at f) (seen_at f) nobody) empty ended.falls in
     let local : IsLocal s (record { update = update; used = used; moves = Plain }) = record {
@@ -76,23 +83,38 @@ plain-sure update used s level f removes h l a least ended empty =
     )
 
 -- some do
-pub fall-sure : (update : Update) (used : Used) (s : Ranked) (level : ℕ) (f : Falling) → update.add ≡ false → IsCertified s → update.v < s.graph.size → adjacent s.graph update.u update.v ≡ true
+pub fall-sure : (update : Update) (used : Used) (s : Ranked) (level : ℕ) (f : Falling) → update.add ≡ false → IsCertified s
+    → update.v < s.graph.size → adjacent s.graph update.u update.v ≡ true
     → level ≡ min (get_or s.core update.u 0) (get_or s.core update.v 0) → HasEnded update level s f
-    → IsLocal s (record { update = update; used = used; moves = Fall level f.list }) × IsSparing s (record { update = update; used = used; moves = Fall level f.list })
+    → IsLocal s (record { update = update; used = used; moves = Fall level f.list })
+    × IsSparing s (record { update = update; used = used; moves = Fall level f.list })
 fall-sure update used s level f removes h l a least ended =
     let fall : List ℕ = f.list.items in
     let there : is_applied update s.graph ≡ true = applied-is update s.graph removes ∙ a in
     let after : updated update s.graph ≡ without_edge s.graph update.u update.v = updated-is update s.graph removes in
     let up : update.u < update.v = update.ordered in
-    let t : Thinned (search_without update level s) (is_end update) = thinned s update.u update.v level h (λ e. absurd (omega (arith, up, e))) (omega (arith, up, l)) l a least in
+    let t : Thinned (search_without update level s) (is_end update) =
+    thinned s update.u update.v level h (λ e. absurd (omega (arith, up, e))) (omega (arith, up, l)) l a least in
     let c = ended.falls in
     let some : 0 < level = t.some_level in
     let local : IsLocal s (record { update = update; used = used; moves = Fall level f.list }) = record {
       ends = l;
       kept = sym (ap not there);
       moves_fit = fall_fits s level f.list c.distinct (λ x m. let k = c.fall_level x m in (record { vertex = k.here; of_level = k.level }, some));
-      holds = λ z lz _. subst (λ (g : SimpleGraph). HoldsAt (record { graph = g; core = renumbered fall (level - 1) s.core; order = put_between (λ y. ltb (get_or s.core y 0) level) fall s.order }) z) (sym after)
-          (fall-holds s (without_edge s.graph update.u update.v) level fall (is_end update) (is_visited f) (support_at f) (seen_at f) h refl t c ended.ends z lz);
+      holds =
+          λ z lz _.
+          subst
+          (λ (g : SimpleGraph).
+          HoldsAt
+          (record {
+            graph = g;
+            core = renumbered fall (level - 1) s.core;
+            order = put_between (λ y. ltb (get_or s.core y 0) level) fall s.order;
+          })
+          z)
+          (sym after)
+          (fall-holds s (without_edge s.graph update.u update.v) level fall (is_end update) (is_visited f) (support_at f) (seen_at f) h refl
+          t c ended.ends z lz);
     } in (
       local,
       record {
@@ -100,8 +122,10 @@ fall-sure update used s level f removes h l a least ended =
         kept = λ none. absurd (true≢false (sym there ∙ none));
         inserted = λ add. absurd (true≢false (sym add ∙ removes));
         removed = λ _ _ core are x lx.
-            let same : core ≡ renumbered fall (level - 1) s.core = numbers-after s (record { update = update; used = used; moves = Fall level f.list }) h local core are in
-            let number : get_or core x 0 ≡ lowered (λ y. get_or s.core y 0) level fall x = ap (λ (xs : List ℕ). get_or xs x 0) same ∙ number_then-is s fall (level - 1) x h lx in
+            let same : core ≡ renumbered fall (level - 1) s.core =
+            numbers-after s (record { update = update; used = used; moves = Fall level f.list }) h local core are in
+            let number : get_or core x 0 ≡ lowered (λ y. get_or s.core y 0) level fall x =
+            ap (λ (xs : List ℕ). get_or xs x 0) same ∙ number_then-is s fall (level - 1) x h lx in
             elim (cases_Bool (member x fall)) [
               | inl m ↦
                   let down : get_or core x 0 ≡ level - 1 = number ∙ ap (λ b. cond b (level - 1) (get_or s.core x 0)) m in
@@ -115,7 +139,8 @@ fall-sure update used s level f removes h l a least ended =
     )
 
 -- the level is 1 at least
-pub some-level : (update : Update) (s : Ranked) (level : ℕ) → IsCertified s → update.v < s.graph.size → adjacent s.graph update.u update.v ≡ true → level ≡ min (get_or s.core update.u 0) (get_or s.core update.v 0) → 0 < level
+pub some-level : (update : Update) (s : Ranked) (level : ℕ) → IsCertified s → update.v < s.graph.size
+    → adjacent s.graph update.u update.v ≡ true → level ≡ min (get_or s.core update.u 0) (get_or s.core update.v 0) → 0 < level
 some-level update s level h l a least =
     let up : update.u < update.v = update.ordered in
     (thinned s update.u update.v level h (λ e. absurd (omega (arith, up, e))) (omega (arith, up, l)) l a least).some_level

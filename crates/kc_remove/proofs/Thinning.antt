@@ -1,5 +1,6 @@
 -- A certified state from which an edge is removed.
-use Rattle.std.proofs.Common.{◌≡◌, ◌≢◌, ◌≤◌, ◌<◌, ◌+◌, ◌⊎◌, ℕ, min, Bool, true, false, not, ◌&&◌, ◌||◌, List, get_or, eqb, ltb, leb, refl, sym, ◌∙◌, ap, subst, inl, inr, arith, true≢false, eq-eqb, ne_eqb, lt-ltb}
+use Rattle.std.proofs.Common.{◌≡◌, ◌≢◌, ◌≤◌, ◌<◌, ◌+◌, ◌⊎◌, ℕ, min, Bool, true, false, not, ◌&&◌, ◌||◌, List, get_or, eqb, ltb, leb, refl, sym, ◌∙◌}
+use Rattle.std.proofs.Common.{ap, subst, inl, inr, arith, true≢false, eq-eqb, ne_eqb, lt-ltb}
 use Rattle.std.specs.Prelude.{count_by}
 use Rattle.std.proofs.lemmas.Bool.{cases_eq, cases_lt, cases_order, and_from, false_from_ne_true, or_parts, or_from}
 use Rattle.kc_distinct.specs.Lists.{member, below}
@@ -19,11 +20,14 @@ use Rattle.kc_view.proofs.Among.{at_most_one}
 use Rattle.kc_remove.specs.Cascade.{Thinned}
 
 -- in a certified state a vertex with a neighbour has a core number of 1 at least
-pub joined-positive : (g : SimpleGraph) (core order : List ℕ) → Certifies g core order → (u v : ℕ) → u < g.size → v < g.size → adjacent g u v ≡ true → 0 < get_or core u 0
+pub joined-positive : (g : SimpleGraph) (core order : List ℕ) → Certifies g core order → (u v : ℕ) → u < g.size → v < g.size
+    → adjacent g u v ≡ true → 0 < get_or core u 0
 joined-positive g core order h u v lu lv a =
     let there : (y : ℕ) → y < g.size → member y order ≡ true = λ y l. order-has g.size order h.enumerates y ∙ member-below y g.size l in
     let first : (x y : ℕ) → x < g.size → y < g.size → adjacent g x y ≡ true → rank_in order x < rank_in order y → 0 < get_or core x 0 = λ x y lx ly j lt.
-    let some = count-some (λ z. adjacent g x z && ltb (rank_in order x) (rank_in order z)) y (below g.size) (member-below y g.size ly) (and_from _ _ j (lt-ltb _ _ lt)) in
+    let some =
+    count-some (λ z. adjacent g x z && ltb (rank_in order x) (rank_in order z)) y (below g.size) (member-below y g.size ly)
+    (and_from _ _ j (lt-ltb _ _ lt)) in
     omega (arith, some, few-ranked g core order h x lx) in
     elim (cases_order (rank_in order u) (rank_in order v)) [
       | inl e ↦
@@ -33,7 +37,9 @@ joined-positive g core order h u v lu lv a =
       | inr (inr lt) ↦
           let low : 0 < get_or core v 0 = first v u lv lu (adjacent-sym g v u ∙ a) lt in
           elim (cases_lt (get_or core u 0) (get_or core v 0)) [
-            | inl less ↦ let back : rank_in order u < rank_in order v = ranks-rise core order h.rising u v (there u lu) (there v lv) less in absurd (omega (arith, back))
+            | inl less ↦
+                let back : rank_in order u < rank_in order v = ranks-rise core order h.rising u v (there u lu) (there v lv) less in
+                absurd (omega (arith, back))
             | inr ge ↦ omega (arith, low)
           ]
     ]
@@ -66,21 +72,29 @@ one_other u v z w y differ jw ne = false_from_ne_true _ (λ j. elim (joins-true 
   | inr p ↦ elim (joins-true u v z w jw) [ inl q ↦ differ (sym q.0 ∙ p.0) | inr q ↦ ne (p.1 ∙ sym q.1) ]
 ])
 
-module _ (s : Ranked) (u v level : ℕ) (h : IsCertified s) (differ : u ≢ v) (lu : u < s.graph.size) (lv : v < s.graph.size) (a : adjacent s.graph u v ≡ true) (least : level ≡ min (get_or s.core u 0) (get_or s.core v 0)) where
+module _ (s : Ranked) (u v level : ℕ) (h : IsCertified s) (differ : u ≢ v) (lu : u < s.graph.size) (lv : v < s.graph.size)
+    (a : adjacent s.graph u v ≡ true) (least : level ≡ min (get_or s.core u 0) (get_or s.core v 0)) where
   abbrev now : ℕ → ℕ → Bool
   now = adjacent (without_edge s.graph u v)
 
   abbrev number : ℕ → ℕ
   number y = get_or s.core y 0
 
-  high_now : (z : ℕ) → z < s.graph.size → (number z ≢ level) ⊎ (is_end u v z ≡ false) → (y : ℕ) → (adjacent s.graph z y && leb (number z) (number y)) ≡ (now z y && leb (number z) (number y))
+  high_now : (z : ℕ) → z < s.graph.size → (number z ≢ level) ⊎ (is_end u v z ≡ false) → (y : ℕ)
+      → (adjacent s.graph z y && leb (number z) (number y)) ≡ (now z y && leb (number z) (number y))
   high_now z l where' y =
       let e = adjacent-without s.graph u v z y differ in
       rw e (low_end (adjacent s.graph z y) (joins u v z y) (leb (number z) (number y)) (λ j. elim where' [
         | inr n ↦ absurd (true≢false (sym j ∙ no_end u v z y n))
         | inl ne ↦ elim (joins-true u v z y j) [
-          | inl p ↦ let ez : number z ≡ number u = ap number p.0 in let ey : number y ≡ number v = ap number p.1 in let lt : number y < number z = omega (arith, ez, ey, least, ne) in grind (arith, lt)
-          | inr p ↦ let ez : number z ≡ number v = ap number p.0 in let ey : number y ≡ number u = ap number p.1 in let lt : number y < number z = omega (arith, ez, ey, least, ne) in grind (arith, lt)
+          | inl p ↦
+              let ez : number z ≡ number u = ap number p.0 in
+              let ey : number y ≡ number v = ap number p.1 in
+              let lt : number y < number z = omega (arith, ez, ey, least, ne) in grind (arith, lt)
+          | inr p ↦
+              let ez : number z ≡ number v = ap number p.0 in
+              let ey : number y ≡ number u = ap number p.1 in
+              let lt : number y < number z = omega (arith, ez, ey, least, ne) in grind (arith, lt)
         ]
       ]))
 
@@ -88,9 +102,13 @@ module _ (s : Ranked) (u v level : ℕ) (h : IsCertified s) (differ : u ≢ v) (
   lost_one : (z w : ℕ) (test : ℕ → Bool) → w < s.graph.size → joins u v z w ≡ true
       → count_by (λ y. adjacent s.graph z y && test y) (below s.graph.size) ≤ count_by (λ y. now z y && test y) (below s.graph.size) + 1
   lost_one z w test l j =
-      let one = count-one-in (λ y. adjacent s.graph z y && test y) (λ y. now z y && test y) w (below s.graph.size) (Distinct-below s.graph.size) (member-below w s.graph.size l)
+      let one =
+      count-one-in (λ y. adjacent s.graph z y && test y) (λ y. now z y && test y) w (below s.graph.size) (Distinct-below s.graph.size)
+      (member-below w s.graph.size l)
       (rw (adjacent-without s.graph u v z w differ) (gone (adjacent s.graph z w) (joins u v z w) (test w) j))
-      (λ y m ne. rw (adjacent-without s.graph u v z y differ) (sym (unjoined (adjacent s.graph z y) (joins u v z y) (test y) (one_other u v z w y differ j ne)))) in
+      (λ y m ne.
+      rw (adjacent-without s.graph u v z y differ)
+      (sym (unjoined (adjacent s.graph z y) (joins u v z y) (test y) (one_other u v z w y differ j ne)))) in
       let most : one_if (adjacent s.graph z w && test w) ≤ 1 = at_most_one (adjacent s.graph z w && test w) in
       omega (arith, one, most)
 
@@ -105,27 +123,36 @@ module _ (s : Ranked) (u v level : ℕ) (h : IsCertified s) (differ : u ≢ v) (
             let pv : 0 < number v = joined-positive s.graph s.core s.order h v u lv lu (adjacent-sym s.graph v u ∙ a) in
             omega (arith, pu, pv, least);
         few = λ z l.
-            let less : count_by (λ y. now z y && ltb (rank_in s.order z) (rank_in s.order y)) (below s.graph.size) ≤ count_by (λ y. adjacent s.graph z y && ltb (rank_in s.order z) (rank_in s.order y)) (below s.graph.size) =
-            count-mono (λ y. now z y && ltb (rank_in s.order z) (rank_in s.order y)) (λ y. adjacent s.graph z y && ltb (rank_in s.order z) (rank_in s.order y)) (below s.graph.size) (λ y m t.
-            fewer (adjacent s.graph z y) (joins u v z y) (ltb (rank_in s.order z) (rank_in s.order y)) (sym (ap (λ b. b && ltb (rank_in s.order z) (rank_in s.order y)) (adjacent-without s.graph u v z y differ)) ∙ t)) in
+            let less : count_by (λ y. now z y && ltb (rank_in s.order z) (rank_in s.order y)) (below s.graph.size)
+            ≤ count_by (λ y. adjacent s.graph z y && ltb (rank_in s.order z) (rank_in s.order y)) (below s.graph.size) =
+            count-mono (λ y. now z y && ltb (rank_in s.order z) (rank_in s.order y))
+            (λ y. adjacent s.graph z y && ltb (rank_in s.order z) (rank_in s.order y)) (below s.graph.size) (λ y m t.
+            fewer (adjacent s.graph z y) (joins u v z y) (ltb (rank_in s.order z) (rank_in s.order y))
+            (sym (ap (λ b. b && ltb (rank_in s.order z) (rank_in s.order y)) (adjacent-without s.graph u v z y differ)) ∙ t)) in
             omega (arith, less, few-ranked s.graph s.core s.order h z l);
         enough = λ z l where'.
-            let same : count_by (λ y. adjacent s.graph z y && leb (number z) (number y)) (below s.graph.size) ≡ count_by (λ y. now z y && leb (number z) (number y)) (below s.graph.size) =
-            count-agree (λ y. adjacent s.graph z y && leb (number z) (number y)) (λ y. now z y && leb (number z) (number y)) (below s.graph.size) (λ y m. high_now z l where' y) in
+            let same : count_by (λ y. adjacent s.graph z y && leb (number z) (number y)) (below s.graph.size)
+            ≡ count_by (λ y. now z y && leb (number z) (number y)) (below s.graph.size) =
+            count-agree (λ y. adjacent s.graph z y && leb (number z) (number y)) (λ y. now z y && leb (number z) (number y))
+            (below s.graph.size) (λ y m. high_now z l where' y) in
             omega (arith, same, enough-below s.graph s.core s.order h z l);
         nearly = λ z oz.
-            let old : number z ≤ count_by (λ y. adjacent s.graph z y && leb (number z) (number y)) (below s.graph.size) = enough-below s.graph s.core s.order h z oz.here in
+            let old : number z ≤ count_by (λ y. adjacent s.graph z y && leb (number z) (number y)) (below s.graph.size) =
+            enough-below s.graph s.core s.order h z oz.here in
             let lvl : number z ≡ level = oz.level in
-            let old' : level ≤ count_by (λ y. adjacent s.graph z y && leb level (number y)) (below s.graph.size) = subst (λ (k : ℕ). k ≤ count_by (λ y. adjacent s.graph z y && leb k (number y)) (below s.graph.size)) lvl old in
+            let old' : level ≤ count_by (λ y. adjacent s.graph z y && leb level (number y)) (below s.graph.size) =
+            subst (λ (k : ℕ). k ≤ count_by (λ y. adjacent s.graph z y && leb k (number y)) (below s.graph.size)) lvl old in
             elim (cases_eq z u) [
               | inl e ↦ omega (arith, old', lost_one z v (λ y. leb level (number y)) lv (joins-first u v z v e refl))
               | inr nu ↦ elim (cases_eq z v) [
                 | inl e ↦ omega (arith, old', lost_one z u (λ y. leb level (number y)) lu (joins-second u v z u e refl))
                 | inr nv ↦
                     let out : is_end u v z ≡ false = or_from (eqb z u) (eqb z v) (ne_eqb z u nu) (ne_eqb z v nv) in
-                    let same : count_by (λ y. adjacent s.graph z y && leb level (number y)) (below s.graph.size) ≡ count_by (λ y. now z y && leb level (number y)) (below s.graph.size) =
+                    let same : count_by (λ y. adjacent s.graph z y && leb level (number y)) (below s.graph.size)
+                    ≡ count_by (λ y. now z y && leb level (number y)) (below s.graph.size) =
                     count-agree (λ y. adjacent s.graph z y && leb level (number y)) (λ y. now z y && leb level (number y)) (below s.graph.size) (λ y m.
-                    rw (adjacent-without s.graph u v z y differ) (sym (unjoined (adjacent s.graph z y) (joins u v z y) (leb level (number y)) (no_end u v z y out)))) in
+                    rw (adjacent-without s.graph u v z y differ)
+                    (sym (unjoined (adjacent s.graph z y) (joins u v z y) (leb level (number y)) (no_end u v z y out)))) in
                     omega (arith, old', same)
               ]
             ];

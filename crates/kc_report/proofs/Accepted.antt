@@ -1,5 +1,6 @@
 -- No line of a generated text is refused.
-use Rattle.std.proofs.Common.{◌≡◌, ◌≢◌, ◌≤◌, ◌<◌, ◌+◌, ◌*◌, ℕ, true, false, cond, ◌||◌, List, [], ◌∷◌, ◌++◌, length, map, refl, sym, ap, ◌∙◌, arith, nat_eq, nat_lt, eqb-true, inl, inr, length-append, append_assoc, append-nil, Option, Some, None}
+use Rattle.std.proofs.Common.{◌≡◌, ◌≢◌, ◌≤◌, ◌<◌, ◌+◌, ◌*◌, ℕ, true, false, cond, ◌||◌, List, [], ◌∷◌, ◌++◌, length, map, refl, sym, ap, ◌∙◌, arith}
+use Rattle.std.proofs.Common.{nat_eq, nat_lt, eqb-true, inl, inr, length-append, append_assoc, append-nil, Option, Some, None}
 use Rattle.std.specs.Prelude.{All, is_some, unwrap_or}
 use Rattle.std.specs.List.{flat_map}
 use Rattle.std.specs.Option.{option_to_list}
@@ -13,7 +14,8 @@ use Rattle.kc_text.specs.declared.limits.TheConstants.{MOST_BATCHES, MOST_BYTES,
 use Rattle.kc_text.specs.declared.line.Line.{Line}
 use Rattle.kc_text.specs.declared.line.Line.TheVariants as said
 use Rattle.kc_text.specs.Forms.{all_said}
-use Rattle.kc_text.specs.Meaning.{Means, Refuses, Told, batches, changes, ends_or, first_limit, meaning, names, nothing_told, or_else, passed_limit, reading, refusal, unfit, with_line}
+use Rattle.kc_text.specs.Meaning.{Means, Refuses, Told, batches, changes, ends_or, first_limit, meaning, names, nothing_told, or_else, passed_limit}
+use Rattle.kc_text.specs.Meaning.{reading, refusal, unfit, with_line}
 use Rattle.kc_text.proofs.Counts.{IsDistinct-unique, NamesMore, is_member-unique}
 use Rattle.kc_text.proofs.Telling.{changes-batch, changes-more, names-batch, names-change, names-edge}
 use Rattle.kc_report.specs.declared.sizes.TheConstants.{BATCHES, EDGE_LINES, IDS, TURNS}

@@ -1,5 +1,6 @@
 -- What is drawn: ids below the bound, as many edges, turns and batches as there are to be, and no loop in a batch.
-use Rattle.std.proofs.Common.{◌≡◌, ◌≢◌, ◌≤◌, ◌<◌, ◌+◌, ℕ, suc, zero, Bool, true, false, cond, ◌||◌, List, [], ◌∷◌, ◌++◌, length, get_or, refl, sym, ap, subst, arith, nat_eq, inl, inr, length-append}
+use Rattle.std.proofs.Common.{◌≡◌, ◌≢◌, ◌≤◌, ◌<◌, ◌+◌, ℕ, suc, zero, Bool, true, false, cond, ◌||◌, List, [], ◌∷◌, ◌++◌, length, get_or, refl, sym}
+use Rattle.std.proofs.Common.{ap, subst, arith, nat_eq, inl, inr, length-append}
 use Rattle.std.specs.Prelude.{All}
 use Rattle.std.specs.List.{list_any}
 use Rattle.std.proofs.Math.Nat.{mod-lt}
@@ -11,7 +12,8 @@ use Rattle.kc_text.specs.Batches.{NamesOnce}
 use Rattle.kc_text.specs.Meaning.{name_same}
 use Rattle.kc_report.specs.declared.sizes.TheConstants.{BATCHES, EDGE_LINES, IDS, TURNS}
 use Rattle.kc_report.specs.Draws.{drawn, next_state}
-use Rattle.kc_report.specs.Generator.{adds, after_turns, change_of, drawn_batch, drawn_batches, drawn_change, drawn_edges, drawn_pair, generated_batches, generated_edges, state_after_edges, state_after_turn, state_after_turns, with_turn}
+use Rattle.kc_report.specs.Generator.{adds, after_turns, change_of, drawn_batch, drawn_batches, drawn_change, drawn_edges, drawn_pair}
+use Rattle.kc_report.specs.Generator.{generated_batches, generated_edges, state_after_edges, state_after_turn, state_after_turns, with_turn}
 use Rattle.kc_report.proofs.Turns.{length-edges}
 
 drawn-below : (bound state : ℕ) → 0 < bound → drawn bound state < bound

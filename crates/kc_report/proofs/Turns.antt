@@ -5,7 +5,8 @@ use Rattle.kc_text.specs.declared.change.Change.{Change}
 use Rattle.kc_report.specs.declared.sizes.TheConstants.{BATCHES, EDGE_LINES, TURNS}
 use Rattle.kc_report.specs.Draws.{next_state}
 use Rattle.kc_report.specs.Lines.{pair_line}
-use Rattle.kc_report.specs.Generator.{after_turns, batch_lines, drawn_batch, drawn_batches, drawn_change, drawn_edges, drawn_pair, generated, generated_edges, state_after_edges, state_after_turn, state_after_turns, with_turn}
+use Rattle.kc_report.specs.Generator.{after_turns, batch_lines, drawn_batch, drawn_batches, drawn_change, drawn_edges, drawn_pair, generated}
+use Rattle.kc_report.specs.Generator.{generated_edges, state_after_edges, state_after_turn, state_after_turns, with_turn}
 
 -- what is left is one more than what is left then
 left : (n i : ℕ) → i < n → n - i ≡ suc (n - (i + 1))

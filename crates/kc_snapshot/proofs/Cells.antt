@@ -1,5 +1,6 @@
 -- The cells of a book: which are at home, and what they are with a pen more or a list more.
-use Rattle.std.proofs.Common.{◌≡◌, ℕ, ◌+◌, ◌<◌, zero, suc, true, false, List, [], ◌∷◌, ◌++◌, length, refl, ap, sym, ◌∙◌, arith, append_assoc, length-append, set}
+use Rattle.std.proofs.Common.{◌≡◌, ℕ, ◌+◌, ◌<◌, zero, suc, true, false, List, [], ◌∷◌, ◌++◌, length, refl, ap, sym, ◌∙◌, arith, append_assoc}
+use Rattle.std.proofs.Common.{length-append, set}
 use Rattle.std.specs.Prelude.{replicate}
 use Rattle.std.proofs.lemmas.List.{get_or-replicate, get_or_append_left, length-replicate, replicate_more, set_at}
 use Rattle.logbook.specs.Pages.{Cell, cell, nib, may_write, right_number, number_back, numbered, Nib}
@@ -42,7 +43,8 @@ one_home n h =
     let R : List Cell = replicate (n + 1) home in
     let long = length-replicate (n + 1) home in
     set_at ((h, true) ∷ R) away (away ∷ []) home (n + 2) (omega (arith, long))
-    ∙ ap (λ (cs : List Cell). (h, true) ∷ cs) (sym (append_assoc R (home ∷ []) (away ∷ [])) ∙ ap (λ (cs : List Cell). cs ++ away ∷ []) (replicate_more (n + 1) home))
+    ∙ ap (λ (cs : List Cell). (h, true) ∷ cs)
+    (sym (append_assoc R (home ∷ []) (away ∷ [])) ∙ ap (λ (cs : List Cell). cs ++ away ∷ []) (replicate_more (n + 1) home))
 
 -- a right to write is known by its number
 pub nib_is : (n : Nib) (k : ℕ) → right_number n.right ≡ 1 → n.key ≡ k → n.value ≡ 0 → n ≡ nib may_write k 0

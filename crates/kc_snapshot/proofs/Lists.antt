@@ -1,5 +1,6 @@
 -- Histories: all their lists are of the same vertices, and the last one is the one that was added last.
-use Rattle.std.proofs.Common.{◌≡◌, ℕ, ◌+◌, ◌-◌, ◌<◌, zero, suc, true, List, [], ◌∷◌, ◌++◌, length, refl, ap, sym, ◌∙◌, arith, get_or, set, drop, take, append_assoc}
+use Rattle.std.proofs.Common.{◌≡◌, ℕ, ◌+◌, ◌-◌, ◌<◌, zero, suc, true, List, [], ◌∷◌, ◌++◌, length, refl, ap, sym, ◌∙◌, arith, get_or, set, drop, take}
+use Rattle.std.proofs.Common.{append_assoc}
 use Rattle.std.proofs.lemmas.List.{length-set, length-take-le, get_or_push, length_push, drop_more, take_more, set_at}
 use Rattle.std.proofs.lemmas.Bool.Decides.{nat_tests}
 use mathlib.Core.List.{IsPrefix}
@@ -69,14 +70,16 @@ half_way-next old new at l =
     sym (append_assoc (take at new) (get_or new at 0 ∷ []) (drop (at + 1) old)) ∙ ap (λ (xs : List ℕ). xs ++ drop (at + 1) old) (sym (take_more new at 0 l))
 
 -- one vertex more is written
-pub half_way-set : (old new : List ℕ) (at : ℕ) → length old ≡ length new → at < length new → set (half_way old new at) at (get_or new at 0) ≡ half_way old new (at + 1)
+pub half_way-set : (old new : List ℕ) (at : ℕ) → length old ≡ length new → at < length new
+    → set (half_way old new at) at (get_or new at 0) ≡ half_way old new (at + 1)
 half_way-set old new at same l =
     ap (λ (xs : List ℕ). set (take at new ++ xs) at (get_or new at 0)) (drop_more old at 0 (omega arith))
     ∙ set_at (take at new) (get_or old at 0) (drop (at + 1) old) (get_or new at 0) at (length-take-le at new (omega arith))
     ∙ half_way-next old new at l
 
 -- one vertex more has its new number already
-pub half_way-same : (old new : List ℕ) (at : ℕ) → length old ≡ length new → at < length new → get_or old at 0 ≡ get_or new at 0 → half_way old new at ≡ half_way old new (at + 1)
+pub half_way-same : (old new : List ℕ) (at : ℕ) → length old ≡ length new → at < length new → get_or old at 0 ≡ get_or new at 0
+    → half_way old new at ≡ half_way old new (at + 1)
 half_way-same old new at same l eq =
     ap (λ (xs : List ℕ). take at new ++ xs) (drop_more old at 0 (omega arith) ∙ ap (λ (x : ℕ). x ∷ drop (at + 1) old) eq) ∙ half_way-next old new at l
 

@@ -1,5 +1,6 @@
 -- The steps at a book keep its rule, and tell what they are to tell.
-use Rattle.std.proofs.Common.{◌≡◌, ◌==◌, ℕ, ◌+◌, ◌*◌, ◌≤◌, ◌<◌, Bool, true, false, List, [], ◌∷◌, ◌++◌, length, refl, ap, sym, ◌∙◌, subst, arith, inl, inr, None, set}
+use Rattle.std.proofs.Common.{◌≡◌, ◌==◌, ℕ, ◌+◌, ◌*◌, ◌≤◌, ◌<◌, Bool, true, false, List, [], ◌∷◌, ◌++◌, length, refl, ap, sym, ◌∙◌, subst, arith, inl}
+use Rattle.std.proofs.Common.{inr, None, set}
 use Rattle.std.proofs.lemmas.List.{append-nil, length_push}
 use Rattle.std.proofs.lemmas.Bool.{cases_lt}
 use Rattle.std.proofs.lemmas.Bool.Decides.{nat_tests}
@@ -29,14 +30,16 @@ kept_words h pens log is =
 -- the step that makes a pen: where the head is the one expected
 pub pen_goes : (log v : List Member) (e : Member) (m p old : ℕ) → p < 2 → old ≡ 3 * m + p
     → (pens : ℕ) → pens ≤ 2 → (b : Bool) → (3 * length log + pens == old) ≡ b
-    → Goes IsKept shown moved 0 (v, (no_nib, None)) (exchanged old (old + 1)) (TellsPen (step 0 old (old + 1) e) (v, (no_nib, None))) (cells_of (length log) pens) log
+    → Goes IsKept shown moved 0 (v, (no_nib, None)) (exchanged old (old + 1)) (TellsPen (step 0 old (old + 1) e) (v, (no_nib, None)))
+    (cells_of (length log) pens) log
 pen_goes log v e m p old few old_is pens pens_few true is =
     let n : ℕ = length log in
     let here : 3 * n + pens ≡ old = grind (arith, nat_tests) in
     let same : pens ≡ p = omega arith in
     let all : length (log ++ []) ≡ n = ap length (append-nil log) in
     let head : exchanged old (old + 1) (3 * n + pens) ≡ 3 * n + (pens + 1) = rw is (omega arith) in
-    let words = ap (λ (k : ℕ). ((k, true) ∷ behind_head n pens) ++ (0, false) ∷ []) head ∙ one_away n pens (3 * n + (pens + 1)) ∙ ap (λ (k : ℕ). cells_of k (pens + 1)) (sym all) in (
+    let words = ap (λ (k : ℕ). ((k, true) ∷ behind_head n pens) ++ (0, false) ∷ []) head ∙ one_away n pens (3 * n + (pens + 1))
+    ∙ ap (λ (k : ℕ). cells_of k (pens + 1)) (sym all) in (
       adds,
       [],
       None,
@@ -60,7 +63,11 @@ pen_goes log v e m p old few old_is pens pens_few false is =
 pub pen_moves : (v : List Member) (e : Member) (m p old : ℕ) → p < 2 → old ≡ 3 * m + p
     → Moves IsKept shown moved 0 (v, (no_nib, None)) (exchanged old (old + 1)) (TellsPen (step 0 old (old + 1) e) (v, (no_nib, None)))
 pen_moves v e m p old few old_is cs log kept pre away =
-    let P : List Cell → Type 0 = λ c. (0 < length c) × ((cell c 0).1 ≡ true) × Goes IsKept shown moved 0 (v, (no_nib, None)) (exchanged old (old + 1)) (TellsPen (step 0 old (old + 1) e) (v, (no_nib, None))) c log in
+    let P : List Cell → Type 0 =
+    λ c.
+    (0 < length c) × ((cell c 0).1 ≡ true)
+    × Goes IsKept shown moved 0 (v, (no_nib, None)) (exchanged old (old + 1))
+    (TellsPen (step 0 old (old + 1) e) (v, (no_nib, None))) c log in
     subst P (sym kept.words) (omega arith, refl, pen_goes log v e m p old few old_is kept.pens kept.few (3 * length log + kept.pens == old) refl)
 
 -- a cell that is not at home stands behind all lists
@@ -70,7 +77,8 @@ far n pens k is = elim (cases_lt k (n + 2)) [ inl l ↦ absurd (cc (is, home-cel
 -- the step that adds a list: who has the pen has seen the whole history
 pub list_goes : (log v : List Member) (e : Member) (k old : ℕ) → k ≡ length v + 2 → old ≡ 3 * length v + 2 → IsPrefix v log
     → (pens : ℕ) → pens ≤ 2 → (cell (cells_of (length log) pens) k).1 ≡ false → (b : Bool) → (3 * length log + pens == old) ≡ b
-    → Goes IsKept shown moved 0 (v, (nib may_write k 0, None)) (exchanged old (old + 2)) (TellsAdded (step 0 old (old + 2) e) (v, (nib may_write k 0, None))) (cells_of (length log) pens) log
+    → Goes IsKept shown moved 0 (v, (nib may_write k 0, None)) (exchanged old (old + 2))
+    (TellsAdded (step 0 old (old + 2) e) (v, (nib may_write k 0, None))) (cells_of (length log) pens) log
 list_goes log v e k old k_is old_is pre pens few out true is =
     let n : ℕ = length log in
     let here : 3 * n + pens ≡ old = grind (arith, nat_tests) in
@@ -111,8 +119,19 @@ list_goes log v e k old k_is old_is pre pens few out false is =
 pub list_moves : (v : List Member) (e : Member) (k old : ℕ) → k ≡ length v + 2 → old ≡ 3 * length v + 2
     → Moves IsKept shown moved 0 (v, (nib may_write k 0, None)) (exchanged old (old + 2)) (TellsAdded (step 0 old (old + 2) e) (v, (nib may_write k 0, None)))
 list_moves v e k old k_is old_is cs log kept pre away =
-    let P : List Cell → Type 0 = λ c. Away (nib may_write k 0) c → (0 < length c) × ((cell c 0).1 ≡ true) × Goes IsKept shown moved 0 (v, (nib may_write k 0, None)) (exchanged old (old + 2)) (TellsAdded (step 0 old (old + 2) e) (v, (nib may_write k 0, None))) c log in
-    subst P (sym kept.words) (λ out. (omega arith, refl, list_goes log v e k old k_is old_is pre kept.pens kept.few (out refl).1 (3 * length log + kept.pens == old) refl)) away
+    let P : List Cell → Type 0 =
+    λ c.
+    Away (nib may_write k 0) c
+    → (0 < length c) × ((cell c 0).1 ≡ true)
+    × Goes IsKept shown moved 0 (v, (nib may_write k 0, None)) (exchanged old (old + 2))
+    (TellsAdded (step 0 old (old + 2) e) (v, (nib may_write k 0, None))) c log in
+    subst P (sym kept.words)
+    (λ out. (
+      omega arith,
+      refl,
+      list_goes log v e k old k_is old_is pre kept.pens kept.few (out refl).1 (3 * length log + kept.pens == old) refl,
+    ))
+    away
 
 -- 0 for 0 changes no head
 pub same_head : (h : ℕ) (b : Bool) → (h == 0) ≡ b → exchanged 0 0 h ≡ h
@@ -122,7 +141,8 @@ same_head h false is = rw is refl
 -- the step that looks how long the history is, where all that was seen has the pen's own part in it
 pub length_goes : (log v : List Member) (e : Member) (k : ℕ) → k ≤ length v + 2 → IsPrefix v log
     → (pens : ℕ) → pens ≤ 2 → (cell (cells_of (length log) pens) k).1 ≡ false
-    → Goes IsKept shown moved 0 (v, (nib may_write k 0, None)) (exchanged 0 0) (TellsLength (step 0 0 0 e) (v, (nib may_write k 0, None))) (cells_of (length log) pens) log
+    → Goes IsKept shown moved 0 (v, (nib may_write k 0, None)) (exchanged 0 0) (TellsLength (step 0 0 0 e) (v, (nib may_write k 0, None)))
+    (cells_of (length log) pens) log
 length_goes log v e k k_le pre pens few out =
     let le : length log + 2 ≤ k = far (length log) pens k out in
     let short : length v ≤ length log = prefix_length v log pre in
@@ -141,5 +161,10 @@ length_goes log v e k k_le pre pens few out =
 pub length_moves : (v : List Member) (e : Member) (k : ℕ) → k ≤ length v + 2
     → Moves IsKept shown moved 0 (v, (nib may_write k 0, None)) (exchanged 0 0) (TellsLength (step 0 0 0 e) (v, (nib may_write k 0, None)))
 length_moves v e k k_le cs log kept pre away =
-    let P : List Cell → Type 0 = λ c. Away (nib may_write k 0) c → (0 < length c) × ((cell c 0).1 ≡ true) × Goes IsKept shown moved 0 (v, (nib may_write k 0, None)) (exchanged 0 0) (TellsLength (step 0 0 0 e) (v, (nib may_write k 0, None))) c log in
+    let P : List Cell → Type 0 =
+    λ c.
+    Away (nib may_write k 0) c
+    → (0 < length c) × ((cell c 0).1 ≡ true)
+    × Goes IsKept shown moved 0 (v, (nib may_write k 0, None)) (exchanged 0 0)
+    (TellsLength (step 0 0 0 e) (v, (nib may_write k 0, None))) c log in
     subst P (sym kept.words) (λ out. (omega arith, refl, length_goes log v e k k_le pre kept.pens kept.few (out refl).1)) away

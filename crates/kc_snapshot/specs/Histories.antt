@@ -1,5 +1,6 @@
 -- The history of a board: lists of core numbers, oldest first.
-use Rattle.std.specs.Prelude.{◌≡◌, ◌<◌, ◌==◌, ◌&&◌, ◌-◌, ℕ, Bool, true, false, List, [], ◌∷◌, length, nat_eq, nat_lt, slice_index, slice_index_or, slice_set, if◌then◌else◌}
+use Rattle.std.specs.Prelude.{◌≡◌, ◌<◌, ◌==◌, ◌&&◌, ◌-◌, ℕ, Bool, true, false, List, [], ◌∷◌, length, nat_eq, nat_lt, slice_index, slice_index_or}
+use Rattle.std.specs.Prelude.{slice_set, if◌then◌else◌}
 use Rattle.std.specs.List.{list_any}
 use Rattle.kc_snapshot.specs.declared.member.Member.{Member}
 use Rattle.kc_snapshot.specs.declared.listing.Place.{Place}

@@ -33,7 +33,8 @@ IsPen book members of n = (of ≡ book) × (right_number n.right ≡ 1) × (n.ke
 -- a cell was added where the head was the one expected, and the pen may make its word
 abbrev pub TellsPen : Step Member → View Member ℕ → ℕ → View Member ℕ → Type 0
 TellsPen s v found w =
-    MatchBool (found == s.old) ((members : ℕ) × (pens : ℕ) × (pens < 2) × (s.old ≡ 3 * members + pens) × (w.1.0 ≡ nib may_make (members + pens + 2) 0)) (Unit {0})
+    MatchBool (found == s.old)
+    ((members : ℕ) × (pens : ℕ) × (pens < 2) × (s.old ≡ 3 * members + pens) × (w.1.0 ≡ nib may_make (members + pens + 2) 0)) (Unit {0})
 
 -- the list was added to all that had been seen; or nothing changed, and the pen is as it was
 abbrev pub TellsAdded : Step Member → View Member ℕ → ℕ → View Member ℕ → Type 0

@@ -17,7 +17,8 @@ pub after_stores-append : (shape : Shape) (s : State) (es fs : List Event) → a
 after_stores-append shape s [] fs = refl
 after_stores-append shape s (e ∷ es) fs = after_stores-append shape (after_store shape s e) es fs
 
-from-push : (shape : Shape) (s : State) (es : List Event) (e : Event) → LegalFrom shape s es → MayStore shape (after_stores shape s es) e → Holds shape (after_store shape (after_stores shape s es) e) → LegalFrom shape s (es ++ e ∷ [])
+from-push : (shape : Shape) (s : State) (es : List Event) (e : Event) → LegalFrom shape s es → MayStore shape (after_stores shape s es) e
+    → Holds shape (after_store shape (after_stores shape s es) e) → LegalFrom shape s (es ++ e ∷ [])
 from-push shape s [] e h may holds = (may, holds, tt)
 from-push shape s (x ∷ es) e h may holds = (h.0, h.1, from-push shape (after_store shape s x) es e h.2 may holds)
 
@@ -63,7 +64,8 @@ module _ (shape : Shape) (opening : List ℕ) where
   legal-nil h = (h, tt)
 
   -- a store that may follow, after which the rules hold, keeps the log legal
-  pub legal-push : (log : List Event) (e : Event) → Legal shape opening log → MayStore shape (state_of shape opening log) e → Holds shape (after_store shape (state_of shape opening log) e) → Legal shape opening (log ++ e ∷ [])
+  pub legal-push : (log : List Event) (e : Event) → Legal shape opening log → MayStore shape (state_of shape opening log) e
+      → Holds shape (after_store shape (state_of shape opening log) e) → Legal shape opening (log ++ e ∷ [])
   unfolding Legal state_of
   legal-push log e h may holds = (h.0, from-push shape (opened shape opening) log e h.1 may holds)
 
@@ -95,15 +97,21 @@ entered-prefix (Put x p) entries = prefix_self entries
 entered-prefix (Take x) entries = prefix_self entries
 
 after_store-entries : (shape : Shape) (s : State) (e : Event) → IsPrefix s.entries (after_store shape s e).entries
-after_store-entries shape s e = elim (cases_Bool (eqb e.word 0)) [ inl t ↦ rw t (entered-prefix (note_of e.value) s.entries) | inr f ↦ rw f (prefix_self s.entries) ]
+after_store-entries shape s e =
+    elim (cases_Bool (eqb e.word 0)) [ inl t ↦ rw t (entered-prefix (note_of e.value) s.entries) | inr f ↦ rw f (prefix_self s.entries) ]
 
 after_stores-entries : (shape : Shape) (s : State) (es : List Event) → IsPrefix s.entries (after_stores shape s es).entries
 after_stores-entries shape s [] = prefix_self s.entries
-after_stores-entries shape s (e ∷ es) = prefix_trans s.entries (after_store shape s e).entries (after_stores shape (after_store shape s e) es).entries (after_store-entries shape s e) (after_stores-entries shape (after_store shape s e) es)
+after_stores-entries shape s (e ∷ es) =
+    prefix_trans s.entries (after_store shape s e).entries (after_stores shape (after_store shape s e) es).entries
+    (after_store-entries shape s e) (after_stores-entries shape (after_store shape s e) es)
 
 -- a longer log has the entries of a prefix, and some more behind them
-pub entries-prefix : (shape : Shape) (opening : List ℕ) (p log : List Event) → IsPrefix p log → IsPrefix (state_of shape opening p).entries (state_of shape opening log).entries
+pub entries-prefix : (shape : Shape) (opening : List ℕ) (p log : List Event) → IsPrefix p log
+    → IsPrefix (state_of shape opening p).entries (state_of shape opening log).entries
 unfolding state_of
 entries-prefix shape opening p log pre =
     subst (λ l. IsPrefix (after_stores shape (opened shape opening) p).entries (after_stores shape (opened shape opening) l).entries) pre.1
-    (subst (λ s. IsPrefix (after_stores shape (opened shape opening) p).entries s.entries) (sym (after_stores-append shape (opened shape opening) p pre.0)) (after_stores-entries shape (after_stores shape (opened shape opening) p) pre.0))
+    (subst (λ s. IsPrefix (after_stores shape (opened shape opening) p).entries s.entries)
+    (sym (after_stores-append shape (opened shape opening) p pre.0))
+    (after_stores-entries shape (after_stores shape (opened shape opening) p) pre.0))

@@ -2,7 +2,8 @@
 use Rattle.std.proofs.Common.{◌≡◌, ◌≢◌, ◌⊎◌, ℕ, zero, suc, ◌+◌, ◌<◌, ◌≤◌, true, false, cond, List, [], ◌∷◌, eqb, refl, sym, ap, ◌∙◌, subst, inl, inr, arith}
 use Rattle.std.proofs.lemmas.Bool.{cases_Bool, cases_eq, eqb-true, eq-eqb, true≢false, false≢true, false_from_ne_true, or_left}
 use Rattle.kc_distinct.specs.Lists.{member, Distinct, without, right_after}
-use Rattle.kc_distinct.proofs.Members.{member-tail, member-cases, member-without, without-member, not_member-without, not_member-parts, Distinct-without, member-right_after, right_after-member, Distinct-right_after}
+use Rattle.kc_distinct.proofs.Members.{member-tail, member-cases, member-without, without-member, not_member-without, not_member-parts}
+use Rattle.kc_distinct.proofs.Members.{Distinct-without, member-right_after, right_after-member, Distinct-right_after}
 use Rattle.kc_words.specs.Order.{Labels, labels}
 use Rattle.kc_words.specs.NoteWord.{note_of}
 use Rattle.kc_words.specs.declared.note.NoteWord.{NoteWord}
@@ -30,7 +31,11 @@ placed-member a y x (z ∷ zs) h =
       | true ↦ elim h [ inl e ↦ or_left (eqb y x) (member y (z ∷ zs)) (eq-eqb y x e) | inr m ↦ member-tail y x (z ∷ zs) m ]
       | false ↦ elim h [
         | inl e ↦ member-tail y z (placed a x zs) (placed-member a y x zs (inl e))
-        | inr m ↦ elim (member-cases y z zs m) [ inl e ↦ or_left (eqb y z) (member y (placed a x zs)) (eq-eqb y z e) | inr k ↦ member-tail y z (placed a x zs) (placed-member a y x zs (inr k)) ]
+        | inr m ↦
+            elim (member-cases y z zs m) [
+              | inl e ↦ or_left (eqb y z) (member y (placed a x zs)) (eq-eqb y z e)
+              | inr k ↦ member-tail y z (placed a x zs) (placed-member a y x zs (inr k))
+            ]
       ]
     ]
 
@@ -59,7 +64,9 @@ Distinct-listed a zero = tt
 Distinct-listed a (suc x) =
     elim (eqb (a.group x) 0) as (λ b. Distinct (cond b (listed a x) (placed a x (listed a x)))) [
       | true ↦ Distinct-listed a x
-      | false ↦ Distinct-placed a x (listed a x) (Distinct-listed a x) (false_from_ne_true (member x (listed a x)) (λ k. let l : x < x = listed-within a x x k in omega arith))
+      | false ↦
+          Distinct-placed a x (listed a x) (Distinct-listed a x)
+          (false_from_ne_true (member x (listed a x)) (λ k. let l : x < x = listed-within a x x k in omega arith))
     ]
 
 -- what holds of the list
@@ -80,7 +87,8 @@ pub record Stands (shape : Shape) (s : State) : Type 0 where
   pub announced : Announced shape s.list s.note
 
 -- the list after the store that follows a note
-moved-listed : (shape : Shape) (list : List ℕ) (word : ℕ) (note : NoteWord) → Announced shape list note → Listed shape list → Listed shape (moved note word list)
+moved-listed : (shape : Shape) (list : List ℕ) (word : ℕ) (note : NoteWord) → Announced shape list note → Listed shape list
+    → Listed shape (moved note word list)
 moved-listed shape list word Nothing a h = h
 moved-listed shape list word (Enter add index u v) a h = h
 moved-listed shape list word (Put x p) a h =
@@ -90,12 +98,23 @@ moved-listed shape list word (Put x p) a h =
           let p-in : member p (without x list) ≡ true = without-member p x list a.1 (λ k. a.2 (sym k)) in
           record {
             distinct = subst Distinct (sym is) (Distinct-right_after x p (without x list) (Distinct-without x list h.distinct) (not_member-without x list));
-            within = λ y m. elim (member-right_after y x p (without x list) (ap (member y) (sym is) ∙ m)) [ inl k ↦ (let l : x < shape.items = a.0 in omega arith) | inr k ↦ h.within y (member-without y x list k).0 ];
-            vertices = λ v l. ap (member v) is ∙ right_after-member v x p (without x list) p-in (elim (cases_eq v x) [ inl k ↦ inl k | inr k ↦ inr (without-member v x list (h.vertices v l) k) ]);
+            within =
+                λ y m.
+                elim (member-right_after y x p (without x list) (ap (member y) (sym is) ∙ m))
+                [ inl k ↦ (let l : x < shape.items = a.0 in omega arith) | inr k ↦ h.within y (member-without y x list k).0 ];
+            vertices =
+                λ v l.
+                ap (member v) is
+                ∙ right_after-member v x p (without x list) p-in
+                (elim (cases_eq v x) [ inl k ↦ inl k | inr k ↦ inr (without-member v x list (h.vertices v l) k) ]);
           }
       | inr f ↦
           let is : moved (Put x p) word list ≡ list = ap (λ b. cond b (right_after x p (without x list)) list) f in
-          record { distinct = subst Distinct (sym is) h.distinct; within = λ y m. h.within y (ap (member y) (sym is) ∙ m); vertices = λ v l. ap (member v) is ∙ h.vertices v l }
+          record {
+            distinct = subst Distinct (sym is) h.distinct;
+            within = λ y m. h.within y (ap (member y) (sym is) ∙ m);
+            vertices = λ v l. ap (member v) is ∙ h.vertices v l;
+          }
     ]
 moved-listed shape list word (Take x) a h =
     elim (cases_Bool (eqb word (1 + x))) [
@@ -108,7 +127,11 @@ moved-listed shape list word (Take x) a h =
           }
       | inr f ↦
           let is : moved (Take x) word list ≡ list = ap (λ b. cond b (without x list) list) f in
-          record { distinct = subst Distinct (sym is) h.distinct; within = λ y m. h.within y (ap (member y) (sym is) ∙ m); vertices = λ v l. ap (member v) is ∙ h.vertices v l }
+          record {
+            distinct = subst Distinct (sym is) h.distinct;
+            within = λ y m. h.within y (ap (member y) (sym is) ∙ m);
+            vertices = λ v l. ap (member v) is ∙ h.vertices v l;
+          }
     ]
 
 note-announced : (shape : Shape) (s : State) (note : NoteWord) → MayNote shape s note → Announced shape s.list note

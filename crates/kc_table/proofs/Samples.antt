@@ -45,7 +45,8 @@ pub two_entries-list : (state_of shape opening two_entries).list ≡ 1 ∷ 0 ∷
 unfolding state_of item_of item_word group_of group_word note_of note_word
 two_entries-list = refl
 
-pub two_entries-entries : (state_of shape opening two_entries).entries ≡ record { index = 7; add = true; u = 0; v = 1 } ∷ record { index = 8; add = false; u = 0; v = 1 } ∷ []
+pub two_entries-entries : (state_of shape opening two_entries).entries ≡ record { index = 7; add = true; u = 0; v = 1 } ∷ record
+    { index = 8; add = false; u = 0; v = 1 } ∷ []
 unfolding state_of item_of item_word group_of group_word note_of note_word
 two_entries-entries = refl
 
@@ -69,7 +70,10 @@ puts-second = refl
 -- what was put into an empty set and taken out again
 removed_again : (p : ℕ × ℕ) → set.remove (set.insert (set.empty {R = pair_cmp}) p) p ≡ set.empty
 removed_again p = set.same_set pair_total pair_exact _ _ (λ q.
-    set.contains-remove pair_total (set.insert set.empty p) p q ∙ (ap (λ b. not (eq_by_cmp pair_cmp q p) && b) (set.contains-insert pair_total set.empty p q ∙ ap (λ b. eq_by_cmp pair_cmp q p || b) (set.contains-empty pair_cmp q)) ∙ (neither (eq_by_cmp pair_cmp q p) ∙ sym (set.contains-empty pair_cmp q))))
+    set.contains-remove pair_total (set.insert set.empty p) p q
+    ∙ (ap (λ b. not (eq_by_cmp pair_cmp q p) && b) (set.contains-insert pair_total set.empty p q
+    ∙ ap (λ b. eq_by_cmp pair_cmp q p || b) (set.contains-empty pair_cmp q))
+    ∙ (neither (eq_by_cmp pair_cmp q p) ∙ sym (set.contains-empty pair_cmp q))))
   where
     neither : (b : Bool) → (not b && (b || false)) ≡ false
     neither true = refl

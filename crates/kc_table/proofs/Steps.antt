@@ -53,7 +53,8 @@ module _ (k : Opening) where
   F log writer seat v = Fits k.shape k.words.items log writer seat v
 
   -- the views after one is set: that one fits, and so does each other
-  fits_set : (log : List Event) (writer : ℕ) (views : List View) (id : ℕ) (w : View) → F log writer id w → ((j : ℕ) (u : View) → j ≢ id → get_elem? views j ≡ some u → F log writer j u)
+  fits_set : (log : List Event) (writer : ℕ) (views : List View) (id : ℕ) (w : View) → F log writer id w
+      → ((j : ℕ) (u : View) → j ≢ id → get_elem? views j ≡ some u → F log writer j u)
       → (j : ℕ) (u : View) → get_elem? (set views id w) j ≡ some u → F log writer j u
   fits_set log writer views id w mine others j u e = ⊎_elim
       (λ (t : (j ≡ id) × (w ≡ u)). subst (λ (x : ℕ × View). F log writer x.0 x.1) (λ i. (sym t.0 i, t.1 i)) mine)
@@ -81,7 +82,8 @@ module _ {S : Type 0} (k : Opening) where
       one (suc j) v e = absurd (some-ne-none v (sym e))
 
   -- a step that changes no word
-  unmoved : (s : State S View) (h : Rule s) (i id : ℕ) (cs : List (ℕ × S)) (w : View) → F k h.log h.writer id w → Rule (stepped s i (get_or s.words i 0) id cs w keeps)
+  unmoved : (s : State S View) (h : Rule s) (i id : ℕ) (cs : List (ℕ × S)) (w : View) → F k h.log h.writer id w
+      → Rule (stepped s i (get_or s.words i 0) id cs w keeps)
   unmoved s h i id cs w mine = record {
     log = h.log;
     writer = h.writer;
@@ -117,7 +119,8 @@ module _ {S : Type 0} (k : Opening) where
         ),
       )
 
-  pub stores : (slots id word value : ℕ) (me : Me S View) → me.0.spent ≡ false → me.0.writes ≡ true → Legal me.0.shape me.0.opening (me.0.seen ++ event word value ∷ [])
+  pub stores : (slots id word value : ℕ) (me : Me S View) → me.0.spent ≡ false → me.0.writes ≡ true
+      → Legal me.0.shape me.0.opening (me.0.seen ++ event word value ∷ [])
       → Allows Rule slots id me word (λ _. value) (λ _. TellsStore (step slots word value 0 none) me value)
   stores slots id word value me live writes legal s h len at bound =
       let v = me.0 in

@@ -45,7 +45,9 @@ pair_ordered : (note : ℕ) → Ordered 2 (note ∷ 786432 ∷ 0 ∷ 54975581388
 unfolding item_of group_of
 pair_ordered note = record { pairs = tt; inside = inside; outside = outside }
   where
-    inside : (x : ℕ) → member x (0 ∷ []) ≡ true → (0 < (item_of (get_or (note ∷ 786432 ∷ 0 ∷ 549755813888 ∷ 0 ∷ 0 ∷ []) (1 + x) 0)).group) × ((item_of (get_or (note ∷ 786432 ∷ 0 ∷ 549755813888 ∷ 0 ∷ 0 ∷ []) (1 + x) 0)).group ≤ 3)
+    inside : (x : ℕ) → member x (0 ∷ []) ≡ true
+        → (0 < (item_of (get_or (note ∷ 786432 ∷ 0 ∷ 549755813888 ∷ 0 ∷ 0 ∷ []) (1 + x) 0)).group)
+        × ((item_of (get_or (note ∷ 786432 ∷ 0 ∷ 549755813888 ∷ 0 ∷ 0 ∷ []) (1 + x) 0)).group ≤ 3)
     inside zero m = (omega arith, omega arith)
     inside (suc x) m = absurd (others_out x m)
 
@@ -75,7 +77,8 @@ pair_first =
       fresh = λ v. absurd (omega (arith, v.0));
       seals = λ v e. absurd (omega (arith, e));
     } in
-    legal-push pair_shape pair_opening [] (event 0 9223372036856872960) (legal-nil pair_shape pair_opening pair_opens) may record { ordered = pair_ordered 9223372036856872960; stamps = λ v l. absurd (omega (arith, l)) }
+    legal-push pair_shape pair_opening [] (event 0 9223372036856872960) (legal-nil pair_shape pair_opening pair_opens) may record
+    { ordered = pair_ordered 9223372036856872960; stamps = λ v l. absurd (omega (arith, l)) }
 
 abbrev pair_words : List ℕ
 pair_words = 9223372036856872960 ∷ 786432 ∷ 1099512545280 ∷ 549755813888 ∷ 0 ∷ 0 ∷ []
@@ -106,14 +109,16 @@ pair_second =
       fresh = λ v. refl;
       seals = λ v e. absurd (omega (arith, e));
     } in
-    legal-push pair_shape pair_opening (event 0 9223372036856872960 ∷ []) (event 2 1099512545280) pair_first may record { ordered = pair_put-ordered; stamps = λ v l. absurd (omega (arith, l)) }
+    legal-push pair_shape pair_opening (event 0 9223372036856872960 ∷ []) (event 2 1099512545280) pair_first may record
+    { ordered = pair_put-ordered; stamps = λ v l. absurd (omega (arith, l)) }
 
 -- One item whose group's word is stored again and again, with a version more each time.
 lone_ordered : (version : ℕ) → Ordered 1 (lone_words version) (0 ∷ [])
 unfolding item_of group_of
 lone_ordered version = record { pairs = tt; inside = inside; outside = outside }
   where
-    inside : (x : ℕ) → member x (0 ∷ []) ≡ true → (0 < (item_of (get_or (lone_words version) (1 + x) 0)).group) × ((item_of (get_or (lone_words version) (1 + x) 0)).group ≤ 2)
+    inside : (x : ℕ) → member x (0 ∷ []) ≡ true
+        → (0 < (item_of (get_or (lone_words version) (1 + x) 0)).group) × ((item_of (get_or (lone_words version) (1 + x) 0)).group ≤ 2)
     inside zero m = (omega arith, omega arith)
     inside (suc x) m = absurd (others_out x m)
 
@@ -162,22 +167,47 @@ stored-more version log few h =
       fresh = λ v. omega arith;
       seals = λ v k. absurd (omega (arith, k));
     } in
-    let next : state_of lone_shape (lone_words 0) (log ++ e ∷ []) ≡ after_store lone_shape now e = state_of-push lone_shape (lone_words 0) log e ∙ ap (λ s. after_store lone_shape s e) h.state in
+    let next : state_of lone_shape (lone_words 0) (log ++ e ∷ []) ≡ after_store lone_shape now e =
+    state_of-push lone_shape (lone_words 0) log e ∙ ap (λ s. after_store lone_shape s e) h.state in
     record {
       legal = legal-push lone_shape (lone_words 0) log e h.legal (subst (λ s. MayStore lone_shape s e) (sym h.state) may)
-          (subst (λ s. Holds lone_shape (after_store lone_shape s e)) (sym h.state) record { ordered = lone_ordered (version + 1); stamps = λ v l. absurd (omega (arith, l)) });
+          (subst (λ s. Holds lone_shape (after_store lone_shape s e)) (sym h.state) record
+          { ordered = lone_ordered (version + 1); stamps = λ v l. absurd (omega (arith, l)) });
       state = next;
     }
 
 -- Shapes with these numbers are the samples' shapes.
 pub pair_is : (a : 1 ≤ 2) (b : 2 ≤ ITEMS) (c : 0 ≤ 2) (d : 0 ≤ LAST_VERSION)
     → ◌≡◌ {A = Shape} (record { items = 2; fixed = 0; base = 0; version = 0; some_items = a; few_items = b; fixed_in = c; version_in = d }) pair_shape
-pair_is a b c d i = record { items = 2; fixed = 0; base = 0; version = 0; some_items = le_prop a pair_shape.some_items i; few_items = le_prop b pair_shape.few_items i; fixed_in = le_prop c pair_shape.fixed_in i; version_in = le_prop d pair_shape.version_in i }
+pair_is a b c d i =
+    record {
+      items = 2;
+      fixed = 0;
+      base = 0;
+      version = 0;
+      some_items = le_prop a pair_shape.some_items i;
+      few_items = le_prop b pair_shape.few_items i;
+      fixed_in = le_prop c pair_shape.fixed_in i;
+      version_in = le_prop d pair_shape.version_in i;
+    }
 
 pub lone_is : (a : 1 ≤ 1) (b : 1 ≤ ITEMS) (c : 0 ≤ 1) (d : 0 ≤ LAST_VERSION)
     → ◌≡◌ {A = Shape} (record { items = 1; fixed = 0; base = 0; version = 0; some_items = a; few_items = b; fixed_in = c; version_in = d }) lone_shape
-lone_is a b c d i = record { items = 1; fixed = 0; base = 0; version = 0; some_items = le_prop a lone_shape.some_items i; few_items = le_prop b lone_shape.few_items i; fixed_in = le_prop c lone_shape.fixed_in i; version_in = le_prop d lone_shape.version_in i }
+lone_is a b c d i =
+    record {
+      items = 1;
+      fixed = 0;
+      base = 0;
+      version = 0;
+      some_items = le_prop a lone_shape.some_items i;
+      few_items = le_prop b lone_shape.few_items i;
+      fixed_in = le_prop c lone_shape.fixed_in i;
+      version_in = le_prop d lone_shape.version_in i;
+    }
 
 -- a log of a table that is one of the samples
-pub legal_at : (seen : Seen) (e : Event) (shape : Shape) (opening : List ℕ) (log : List Event) → seen.table.shape ≡ shape → seen.table.opening ≡ opening → seen.log ≡ log → Legal shape opening (log ++ e ∷ []) → Legal seen.table.shape seen.table.opening (seen.log ++ e ∷ [])
-legal_at seen e shape opening log s o l h = subst (λ (x : Shape × (List ℕ × List Event)). Legal x.0 x.1.0 (x.1.1 ++ e ∷ [])) (λ i. (sym s i, (sym o i, sym l i))) h
+pub legal_at : (seen : Seen) (e : Event) (shape : Shape) (opening : List ℕ) (log : List Event) → seen.table.shape ≡ shape
+    → seen.table.opening ≡ opening → seen.log ≡ log → Legal shape opening (log ++ e ∷ [])
+    → Legal seen.table.shape seen.table.opening (seen.log ++ e ∷ [])
+legal_at seen e shape opening log s o l h =
+    subst (λ (x : Shape × (List ℕ × List Event)). Legal x.0 x.1.0 (x.1.1 ++ e ∷ [])) (λ i. (sym s i, (sym o i, sym l i))) h

@@ -21,13 +21,15 @@ pub fn a_log_is_legal_store_by_store()
         → MayStore shape (state_of shape opening log) e → Holds shape (state_of shape opening (log ++ e ∷ [])) → Legal shape opening (log ++ e ∷ []) }
     ensures prefix { (shape : Shape) (opening : List ℕ) (before log : List Event) → IsPrefix before log → Legal shape opening log → Legal shape opening before }
     ensures opening { (shape : Shape) (opening : List ℕ) (log : List Event) → Legal shape opening log → Opens shape opening }
-    ensures last { (shape : Shape) (opening : List ℕ) (log : List Event) (e : Event) → Legal shape opening (log ++ e ∷ []) → MayStore shape (state_of shape opening log) e }
+    ensures last { (shape : Shape) (opening : List ℕ) (log : List Event) (e : Event) → Legal shape opening (log ++ e ∷ [])
+        → MayStore shape (state_of shape opening log) e }
     ensures holds { (shape : Shape) (opening : List ℕ) (log : List Event) → Legal shape opening log → Holds shape (state_of shape opening log) }
 {}
 
 /// One more store changes what a log has made by `after_store`.
 pub fn a_store_changes_the_state()
-    ensures { (shape : Shape) (opening : List ℕ) (log : List Event) (e : Event) → state_of shape opening (log ++ e ∷ []) ≡ after_store shape (state_of shape opening log) e }
+    ensures { (shape : Shape) (opening : List ℕ) (log : List Event) (e : Event) → state_of shape opening (log ++ e ∷ [])
+        ≡ after_store shape (state_of shape opening log) e }
 {}
 
 /// Where an item's, a group's or a vertex's word has one value after two prefixes of a legal log, it has it after each between them.
@@ -90,8 +92,10 @@ pub fn a_stamp_tells_whether_its_section_put_the_vertex()
 /// The list of a legal log has distinct items of the table, and each vertex.
 pub fn the_list_has_distinct_items_and_each_vertex()
     ensures distinct { (shape : Shape) (opening : List ℕ) (log : List Event) → Legal shape opening log → Distinct (state_of shape opening log).list }
-    ensures items { (shape : Shape) (opening : List ℕ) (log : List Event) (x : ℕ) → Legal shape opening log → member x (state_of shape opening log).list ≡ true → x < shape.items }
-    ensures vertices { (shape : Shape) (opening : List ℕ) (log : List Event) (v : ℕ) → Legal shape opening log → v < shape.fixed → member v (state_of shape opening log).list ≡ true }
+    ensures items { (shape : Shape) (opening : List ℕ) (log : List Event) (x : ℕ) → Legal shape opening log
+        → member x (state_of shape opening log).list ≡ true → x < shape.items }
+    ensures vertices { (shape : Shape) (opening : List ℕ) (log : List Event) (v : ℕ) → Legal shape opening log
+        → v < shape.fixed → member v (state_of shape opening log).list ≡ true }
 {}
 
 /// The list and the entries that the written-out logs of a small table make.

@@ -22,5 +22,6 @@ impl Model for Words {
 
     ghost view = { λ w. record { id = w.table.shared.table_id; shape = w.table.shared.key.shape; opening = w.table.shared.key.words.items } };
 
-    ghost invariant = { λ w. (w.shape ≡ w.table.shared.key.shape) × (w.table.shared.table_id.words ≡ length w.table.shared.key.words.items) × Opens w.shape w.table.shared.key.words.items };
+    ghost invariant = { λ w. (w.shape ≡ w.table.shared.key.shape) × (w.table.shared.table_id.words ≡ length w.table.shared.key.words.items)
+        × Opens w.shape w.table.shared.key.words.items };
 }

@@ -9,7 +9,8 @@ use Rattle.kc_view.proofs.Marking.{Further-list}
 use Rattle.kc_tests.specs.Whim.{Whims, shown_by_whim}
 
 -- it keeps a list more
-pub goes-on-list : (w : Whims) (e : UsedEdges) → IsListOf w.size e.vertex e.neighbours → GoesOn (shown_by_whim w) (shown_by_whim (record w { kept = with_list w.kept e }))
+pub goes-on-list : (w : Whims) (e : UsedEdges) → IsListOf w.size e.vertex e.neighbours
+    → GoesOn (shown_by_whim w) (shown_by_whim (record w { kept = with_list w.kept e }))
 goes-on-list w e one = record {
   lasts = record { same_size = refl; misses = le_refl w.misses; still_missed = λ x h. h; still_given = λ x h. h };
   handed = refl;

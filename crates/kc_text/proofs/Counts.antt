@@ -1,5 +1,6 @@
 -- Counting different ids.
-use Rattle.std.proofs.Common.{◌≡◌, ◌≤◌, ◌⊎◌, ℕ, Bool, true, false, cond, ◌||◌, List, [], ◌∷◌, ◌++◌, refl, sym, ap, ◌∙◌, inl, inr, nat_eq, nat_lt, le-ltb, eqb-true, Option, Some, None}
+use Rattle.std.proofs.Common.{◌≡◌, ◌≤◌, ◌⊎◌, ℕ, Bool, true, false, cond, ◌||◌, List, [], ◌∷◌, ◌++◌, refl, sym, ap, ◌∙◌, inl, inr, nat_eq, nat_lt}
+use Rattle.std.proofs.Common.{le-ltb, eqb-true, Option, Some, None}
 use Rattle.std.specs.Prelude.{IfSome, is_some}
 use Rattle.std.specs.Set.{is_member, distinct_count, unique_keys}
 use Rattle.std.specs.HashSet.{HashSet, IsUnique, contains}
@@ -15,7 +16,8 @@ use Rattle.kc_text.specs.declared.limits.TheConstants.{MOST_IDS}
 pub is_member-unique : (xs : List ℕ) (q : ℕ) → is_member nat_eq (unique_keys nat_eq xs) q ≡ is_member nat_eq xs q
 is_member-unique [] q = refl
 is_member-unique (x ∷ xs) q =
-    elim (is_member nat_eq xs x) as (λ b. is_member nat_eq xs x ≡ b → is_member nat_eq (cond b (unique_keys nat_eq xs) (x ∷ unique_keys nat_eq xs)) q ≡ (nat_eq q x || is_member nat_eq xs q)) [
+    elim (is_member nat_eq xs x) as (λ b. is_member nat_eq xs x ≡ b
+    → is_member nat_eq (cond b (unique_keys nat_eq xs) (x ∷ unique_keys nat_eq xs)) q ≡ (nat_eq q x || is_member nat_eq xs q)) [
       | true ↦ λ had. is_member-unique xs q ∙ sym (absorbed had)
       | false ↦ λ _. ap (λ b. nat_eq q x || b) (is_member-unique xs q)
     ] refl
@@ -39,7 +41,8 @@ IsDistinct-unique (x ∷ xs) =
       | false ↦ λ h. IsDistinct-cons nat_eq x (unique_keys nat_eq xs) (apart x (unique_keys nat_eq xs) (is_member-unique xs x ∙ h)) (IsDistinct-unique xs)
     ] refl
 
-pub distinct_count-le_from_members : (xs ys : List ℕ) → ((q : ℕ) → is_member nat_eq xs q ≡ true → is_member nat_eq ys q ≡ true) → distinct_count nat_eq xs ≤ distinct_count nat_eq ys
+pub distinct_count-le_from_members : (xs ys : List ℕ) → ((q : ℕ) → is_member nat_eq xs q ≡ true → is_member nat_eq ys q ≡ true)
+    → distinct_count nat_eq xs ≤ distinct_count nat_eq ys
 distinct_count-le_from_members xs ys within =
     length-le_from_is_member nat_eq_equiv (unique_keys nat_eq xs) (unique_keys nat_eq ys) (IsDistinct-unique xs)
     (λ q h. is_member-unique ys q ∙ within q (sym (is_member-unique xs q) ∙ h))
@@ -97,7 +100,8 @@ shuffle false false false false r = refl
 pub ends-more : (es : List (ℕ × ℕ)) (a b : ℕ) → NamesMore (ends es) (ends (es ++ (a, b) ∷ [])) a b
 ends-more [] a b = λ q. flip (nat_eq q a) (nat_eq q b)
 ends-more (e ∷ es) a b = λ q.
-    ap (λ t. nat_eq q e.0 || (nat_eq q e.1 || t)) (ends-more es a b q) ∙ shuffle (nat_eq q e.0) (nat_eq q e.1) (nat_eq q a) (nat_eq q b) (is_member nat_eq (ends es) q)
+    ap (λ t. nat_eq q e.0 || (nat_eq q e.1 || t)) (ends-more es a b q)
+    ∙ shuffle (nat_eq q e.0) (nat_eq q e.1) (nat_eq q a) (nat_eq q b) (is_member nat_eq (ends es) q)
 
 pub ends-push : (es : List (ℕ × ℕ)) (e : ℕ × ℕ) → ends (es ++ e ∷ []) ≡ (ends es ++ e.0 ∷ []) ++ e.1 ∷ []
 ends-push [] e = refl

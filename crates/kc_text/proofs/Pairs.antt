@@ -16,7 +16,8 @@ use Rattle.kc_graph.proofs.RowsLemmas.{pair_total, pair_exact, same_pair, tied_p
 any_from_place : {X : Type 0} (p : X → Bool) (xs : List X) (y : X) → Contains xs y → p y ≡ true → list_any p xs ≡ true
 any_from_place p xs y h t = list_any-from_Any p xs (h.0, y, h.1, h.2, t)
 
-pub any-dedup : {X : Type 0} {E : X → X → Bool} → IsEquivalence E → ((x y : X) → E x y ≡ true → x ≡ y) → (p : X → Bool) (xs : List X) → list_any p (dedup E xs) ≡ list_any p xs
+pub any-dedup : {X : Type 0} {E : X → X → Bool} → IsEquivalence E → ((x y : X) → E x y ≡ true → x ≡ y) → (p : X → Bool) (xs : List X)
+    → list_any p (dedup E xs) ≡ list_any p xs
 any-dedup {E = E} e same p xs = both_ways _ _
     (λ h. let (k, y, l, i, t) = Any-from_list_any p (dedup E xs) h in any_from_place p xs y (Contains-from_dedup E xs y (k, l, i)) t)
     (λ h. let (k, y, l, i, t) = Any-from_list_any p xs h in any_from_place p (dedup E xs) y (Contains-dedup e same xs y (k, l, i)) t)

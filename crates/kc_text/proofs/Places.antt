@@ -1,5 +1,6 @@
 -- Dense numbers.
-use Rattle.std.proofs.Common.{◌≡◌, ◌<◌, ◌+◌, ℕ, suc, zero, Bool, true, false, cond, ◌||◌, List, [], ◌∷◌, ◌++◌, length, get_or, take, nat_eq, nat_lt, refl, sym, ap, subst, ◌∙◌, arith, inl, inr, eq-eqb, lt-ltb, le-ltb, eqb-true, min, max, Option, Some, None, not}
+use Rattle.std.proofs.Common.{◌≡◌, ◌<◌, ◌+◌, ℕ, suc, zero, Bool, true, false, cond, ◌||◌, List, [], ◌∷◌, ◌++◌, length, get_or, take, nat_eq, nat_lt}
+use Rattle.std.proofs.Common.{refl, sym, ap, subst, ◌∙◌, arith, inl, inr, eq-eqb, lt-ltb, le-ltb, eqb-true, min, max, Option, Some, None, not}
 use Rattle.std.specs.Prelude.{All}
 use Rattle.std.specs.List.{filter_map, position_or_len, cons_option}
 use Rattle.std.specs.List.Sorted.{IsStrictlyIncreasing}
@@ -18,7 +19,11 @@ use Rattle.kc_text.specs.Inputs.{AreIds, place, numbered, between}
 pub found : (ids : List ℕ) (x i : ℕ) → IsStrictlyIncreasing ids → i < length ids → get_or ids i 0 ≡ x → place ids x ≡ i
 found ids x i up l e =
     position_or_len_is (nat_eq x) ids i 0 (omega arith)
-    (λ k h. ne_eqb x (get_or ids k 0) (λ s. let lt : get_or ids k 0 < get_or ids i 0 = below_from_sorted ids k i 0 (sorted_from_strictly_increasing ids up) h l in absurd (omega arith)))
+    (λ k h.
+    ne_eqb x (get_or ids k 0)
+    (λ s.
+    let lt : get_or ids k 0 < get_or ids i 0 = below_from_sorted ids k i 0 (sorted_from_strictly_increasing ids up) h l in
+    absurd (omega arith)))
     (λ _. eq-eqb x (get_or ids i 0) (sym e))
 
 pub place-below : (ids : List ℕ) (x : ℕ) → is_member nat_eq ids x ≡ true → place ids x < length ids
@@ -47,28 +52,41 @@ Within n p = (p.0 < p.1) × (p.1 < n)
 
 between-within : (u v n : ℕ) (rest : List (ℕ × ℕ)) → u < n → v < n → All (Within n) rest → All (Within n) (cons_option (between u v) rest)
 between-within u v n rest lu lv h = elim (cases_lt u v) [
-  | inl l ↦ subst (λ (b : Bool). All (Within n) (cons_option (cond b (Some (u, v)) (cond (nat_lt v u) (Some (v, u)) None)) rest)) (sym (lt-ltb u v l)) (All-cons (Within n) (u, v) rest (l, lv) h)
+  | inl l ↦
+      subst (λ (b : Bool). All (Within n) (cons_option (cond b (Some (u, v)) (cond (nat_lt v u) (Some (v, u)) None)) rest))
+      (sym (lt-ltb u v l)) (All-cons (Within n) (u, v) rest (l, lv) h)
   | inr g ↦ subst (λ (b : Bool). All (Within n) (cons_option (cond b (Some (u, v)) (cond (nat_lt v u) (Some (v, u)) None)) rest)) (sym (le-ltb u v g))
       (elim (cases_lt v u) [
-        | inl l ↦ subst (λ (b : Bool). All (Within n) (cons_option (cond b (Some (v, u)) None) rest)) (sym (lt-ltb v u l)) (All-cons (Within n) (v, u) rest (l, lu) h)
+        | inl l ↦
+            subst (λ (b : Bool). All (Within n) (cons_option (cond b (Some (v, u)) None) rest)) (sym (lt-ltb v u l))
+            (All-cons (Within n) (v, u) rest (l, lu) h)
         | inr g' ↦ subst (λ (b : Bool). All (Within n) (cons_option (cond b (Some (v, u)) None) rest)) (sym (le-ltb v u g')) h
       ])
 ]
 
-pub numbered-within : (ids : List ℕ) (es : List (ℕ × ℕ)) → ((x : ℕ) → is_member nat_eq (ends es) x ≡ true → is_member nat_eq ids x ≡ true) → All (Within (length ids)) (filter_map (numbered ids) es)
+pub numbered-within : (ids : List ℕ) (es : List (ℕ × ℕ)) → ((x : ℕ) → is_member nat_eq (ends es) x ≡ true → is_member nat_eq ids x ≡ true)
+    → All (Within (length ids)) (filter_map (numbered ids) es)
 numbered-within ids [] h = All-nil (Within (length ids))
 numbered-within ids (e ∷ es) h =
     between-within (place ids e.0) (place ids e.1) (length ids) (filter_map (numbered ids) es)
     (place-below ids e.0 (h e.0 (first_end (e ∷ es) 0 (omega arith)))) (place-below ids e.1 (h e.1 (second_end (e ∷ es) 0 (omega arith))))
     (numbered-within ids es (λ x m. h x (or_right (nat_eq x e.0) _ (or_right (nat_eq x e.1) _ m))))
 
-pub filter_map_more : (h : ℕ × ℕ → Option (ℕ × ℕ)) (es : List (ℕ × ℕ)) (i : ℕ) → i < length es → filter_map h (take (i + 1) es) ≡ filter_map h (take i es) ++ cons_option (h (get_or es i (0, 0))) []
+pub filter_map_more : (h : ℕ × ℕ → Option (ℕ × ℕ)) (es : List (ℕ × ℕ)) (i : ℕ) → i < length es
+    → filter_map h (take (i + 1) es) ≡ filter_map h (take i es) ++ cons_option (h (get_or es i (0, 0))) []
 filter_map_more h es i l = ap (filter_map h) (take_more es i (0, 0) l) ∙ filter_map-append h (take i es) (get_or es i (0, 0) ∷ [])
 
 -- the ids are as many as there are different names
 pub length-AreIds : (named ids : List ℕ) → AreIds named ids → length ids ≡ distinct_count nat_eq named
 length-AreIds named ids h =
-    let distinct : IsDistinct nat_eq ids = IsDistinct-from_apart nat_eq ids (λ i j d l lj. ne_eqb _ _ (λ s. let lt : get_or ids i d < get_or ids j d = below_from_sorted ids i j d (sorted_from_strictly_increasing ids h.ascending) l lj in absurd (omega arith))) in
+    let distinct : IsDistinct nat_eq ids =
+    IsDistinct-from_apart nat_eq ids
+    (λ i j d l lj.
+    ne_eqb _ _
+    (λ s.
+    let lt : get_or ids i d < get_or ids j d =
+    below_from_sorted ids i j d (sorted_from_strictly_increasing ids h.ascending) l lj in
+    absurd (omega arith))) in
     length-from_keys nat_eq_equiv ids named distinct h.exact
 
 place-here : (y : ℕ) (ys : List ℕ) (x : ℕ) → nat_eq x y ≡ true → place (y ∷ ys) x ≡ 0
@@ -87,7 +105,9 @@ place-injective (z ∷ zs) x y h e = elim (cases_Bool (nat_eq x z)) [
   ]
   | inr xn ↦ elim (cases_Bool (nat_eq y z)) [
     | inl yz ↦ absurd (omega (arith, place-further z zs x xn, place-here z zs y yz))
-    | inr yn ↦ place-injective zs x y (sym (ap (λ (b : Bool). b || is_member nat_eq zs x) xn) ∙ h) (omega (arith, place-further z zs x xn, place-further z zs y yn))
+    | inr yn ↦
+        place-injective zs x y (sym (ap (λ (b : Bool). b || is_member nat_eq zs x) xn) ∙ h)
+        (omega (arith, place-further z zs x xn, place-further z zs y yn))
   ]
 ]
 

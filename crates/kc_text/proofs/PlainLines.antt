@@ -1,5 +1,7 @@
 -- What a plain line says: two numbers with one blank between them, alone or after a sign and a blank.
-use Rattle.std.proofs.Common.{◌≡◌, ◌≤◌, ◌<◌, ◌-◌, ◌==◌, ◌&&◌, ◌||◌, ℕ, Bool, true, false, cond, List, [], ◌∷◌, ◌++◌, length, get_or, take, drop, map, refl, sym, ap, ◌∙◌, arith, inl, inr, eqb-true, le-leb, lt-ltb, ltb-true, leb-true, length-append, append_assoc, Result, Ok, Err, nat_le}
+use Rattle.std.proofs.Common.{◌≡◌, ◌≤◌, ◌<◌, ◌-◌, ◌==◌, ◌&&◌, ◌||◌, ℕ, Bool, true, false, cond, List, [], ◌∷◌, ◌++◌, length, get_or, take, drop, map}
+use Rattle.std.proofs.Common.{refl, sym, ap, ◌∙◌, arith, inl, inr, eqb-true, le-leb, lt-ltb, ltb-true, leb-true, length-append, append_assoc, Result}
+use Rattle.std.proofs.Common.{Ok, Err, nat_le}
 use Rattle.std.specs.Prelude.{All, codes}
 use Rattle.std.specs.List.{list_all, position_or_len}
 use Rattle.std.specs.Str.{bytes_eq}
@@ -12,7 +14,8 @@ use Rattle.kc_text.specs.declared.kind.Kind.{Kind}
 use Rattle.kc_text.specs.declared.kind.Kind.TheVariants.{NotANumber, NumberTooLarge}
 use Rattle.kc_text.specs.declared.line.Line.{Line}
 use Rattle.kc_text.specs.declared.line.Line.TheVariants.{Nothing, Edge, Change}
-use Rattle.kc_text.specs.Forms.{all_said, batch_form, change_form, edge_form, first_number, is_comment, is_digit, last_number, line_of, number, said_by, two_numbers, value}
+use Rattle.kc_text.specs.Forms.{all_said, batch_form, change_form, edge_form, first_number, is_comment, is_digit, last_number, line_of, number}
+use Rattle.kc_text.specs.Forms.{said_by, two_numbers, value}
 use Rattle.kc_text.specs.Lines.{fields, is_blank, is_newline, is_not_empty, lines}
 use Rattle.kc_text.specs.Plain.{BeginsWithPair, sign_of}
 use Rattle.kc_text.proofs.FieldCuts.{fields-blank, fields-first}

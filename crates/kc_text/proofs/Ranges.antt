@@ -1,5 +1,6 @@
 -- Looking for an id in the range that has it.
-use Rattle.std.proofs.Common.{◌≡◌, ◌≤◌, ◌<◌, ◌+◌, ◌-◌, ◌*◌, ◌/◌, ℕ, true, List, [], ◌∷◌, ◌++◌, length, get_or, take, drop, nat_eq, refl, sym, ap, subst, ◌∙◌, arith, inl, inr, length-take, length-drop}
+use Rattle.std.proofs.Common.{◌≡◌, ◌≤◌, ◌<◌, ◌+◌, ◌-◌, ◌*◌, ◌/◌, ℕ, true, List, [], ◌∷◌, ◌++◌, length, get_or, take, drop, nat_eq, refl, sym, ap}
+use Rattle.std.proofs.Common.{subst, ◌∙◌, arith, inl, inr, length-take, length-drop}
 use Rattle.std.specs.Prelude.{Result, Ok, Err, MatchResult}
 use Rattle.std.specs.List.Sorted.{IsStrictlyIncreasing, IsBinarySearchResult, IsNonDecreasingBy}
 use Rattle.std.specs.Ordering.{nat_cmp}
@@ -26,14 +27,16 @@ is_non_decreasing xs up = λ i j d le l. elim (cases_eq i j) [
 stands : (ids : List ℕ) (id : ℕ) → is_member nat_eq ids id ≡ true → (i : ℕ) × (i < length ids) × (get_or ids i 0 ≡ id)
 stands ids id h = let (k, l, e) = Contains-from_member ids id h in (k, l, get_or_default ids k 0 id l ∙ e)
 
-pub range-exists : (ids : List ℕ) (width : ℕ) (begins : List ℕ) (id : ℕ) → AreBuckets ids width begins → is_member nat_eq ids id ≡ true → id / width + 1 < length begins
+pub range-exists : (ids : List ℕ) (width : ℕ) (begins : List ℕ) (id : ℕ) → AreBuckets ids width begins → is_member nat_eq ids id ≡ true
+    → id / width + 1 < length begins
 range-exists ids width begins id h there =
     let (i, l, e) = stands ids id there in
     let reach : get_or ids i 0 < length ids * width = h.reach i 0 l in
     let k : id / width < length ids = (div-lt_iff_lt-mul {k = width} {x = id} {y = length ids} h.some).1 (omega arith) in
     omega (arith, h.whole)
 
-pub range-ordered : (ids : List ℕ) (width : ℕ) (begins : List ℕ) (k : ℕ) → AreBuckets ids width begins → k + 1 < length begins → get_or begins k 0 ≤ get_or begins (k + 1) 0
+pub range-ordered : (ids : List ℕ) (width : ℕ) (begins : List ℕ) (k : ℕ) → AreBuckets ids width begins → k + 1 < length begins
+    → get_or begins k 0 ≤ get_or begins (k + 1) 0
 range-ordered ids width begins k h l = elim (cases_lt (get_or begins (k + 1) 0) (get_or begins k 0)) [
   | inl less ↦
       let i : ℕ = get_or begins (k + 1) 0 in
@@ -51,26 +54,34 @@ range-has ids width begins id low high i h exists low-is high-is l e =
     let least : id / width * width ≤ id = div-mul-le_self id width in
     let most : id < id / width * width + width = lt-div-mul-add {a = id} {b = width} h.some in
     let next : (id / width + 1) * width ≡ id / width * width + width = grind arith in (
-      elim (cases_lt i low) [ inl less ↦ absurd (let b = (h.each (id / width) (omega arith)).parted.0 i 0 (omega arith) (omega arith) in omega arith) | inr ok ↦ ok ],
+      elim (cases_lt i low) [
+        | inl less ↦ absurd (let b = (h.each (id / width) (omega arith)).parted.0 i 0 (omega arith) (omega arith) in omega arith)
+        | inr ok ↦ ok
+      ],
       elim (cases_lt i high) [ inl ok ↦ ok | inr more ↦ absurd (let b = (h.each (id / width + 1) exists).parted.1 i 0 (omega arith) l in omega (arith, next)) ],
     )
 
-part-rises : (ids : List ℕ) (id before : ℕ) (range : List ℕ) → IsRangeOf ids id before range → (i : ℕ) → i < length range → get_or range i 0 ≡ get_or ids (before + i) 0
+part-rises : (ids : List ℕ) (id before : ℕ) (range : List ℕ) → IsRangeOf ids id before range → (i : ℕ) → i < length range
+    → get_or range i 0 ≡ get_or ids (before + i) 0
 part-rises ids id before range h i l =
     ap (λ (t : List ℕ). get_or t i 0) h.part ∙ (get_or-take (length range) (drop before ids) i 0 l ∙ get_or-drop before ids i 0)
 
-searched_range : (ids : List ℕ) (id before : ℕ) (range : List ℕ) (r : Result ℕ ℕ) → IsRangeOf ids id before range → IsStrictlyIncreasing ids → IsBinarySearchResult (λ y. nat_cmp y id) range r
-    → MatchResult r (λ i. (i < length range) × (get_or range i 0 ≡ id)) (λ i. (i ≤ length range) × ((k : ℕ) → k < i → get_or range k 0 < id) × ((k : ℕ) → i ≤ k → k < length range → id < get_or range k 0))
+searched_range : (ids : List ℕ) (id before : ℕ) (range : List ℕ) (r : Result ℕ ℕ) → IsRangeOf ids id before range → IsStrictlyIncreasing ids
+    → IsBinarySearchResult (λ y. nat_cmp y id) range r
+    → MatchResult r (λ i. (i < length range) × (get_or range i 0 ≡ id))
+    (λ i. (i ≤ length range) × ((k : ℕ) → k < i → get_or range k 0 < id) × ((k : ℕ) → i ≤ k → k < length range → id < get_or range k 0))
 searched_range ids id before range r h up s = searched range id r s (λ i j le l.
     let u = never_falls ids up (before + i) (before + j) (omega arith) (omega (arith, h.within)) in
     omega (arith, part-rises ids id before range h i (omega arith), part-rises ids id before range h j l))
 
-pub found_in_range : (ids : List ℕ) (id before : ℕ) (range : List ℕ) (i : ℕ) → IsRangeOf ids id before range → IsStrictlyIncreasing ids → IsBinarySearchResult (λ y. nat_cmp y id) range (Ok i) → before + i ≡ place ids id
+pub found_in_range : (ids : List ℕ) (id before : ℕ) (range : List ℕ) (i : ℕ) → IsRangeOf ids id before range → IsStrictlyIncreasing ids
+    → IsBinarySearchResult (λ y. nat_cmp y id) range (Ok i) → before + i ≡ place ids id
 found_in_range ids id before range i h up s =
     let (l, e) = searched_range ids id before range (Ok i) h up s in
     sym (found ids id (before + i) up (omega (arith, h.within)) (sym (part-rises ids id before range h i l) ∙ e))
 
-pub not_lost_in_range : (ids : List ℕ) (id before : ℕ) (range : List ℕ) (i : ℕ) → IsRangeOf ids id before range → IsStrictlyIncreasing ids → is_member nat_eq ids id ≡ true
+pub not_lost_in_range : (ids : List ℕ) (id before : ℕ) (range : List ℕ) (i : ℕ) → IsRangeOf ids id before range → IsStrictlyIncreasing ids
+    → is_member nat_eq ids id ≡ true
     → IsBinarySearchResult (λ y. nat_cmp y id) range (Err i) → ⊥
 not_lost_in_range ids id before range i h up there s =
     let (j, l, e) = stands ids id there in
@@ -78,7 +89,10 @@ not_lost_in_range ids id before range i h up there s =
     let (most, less, greater) = searched_range ids id before range (Err i) h up s in
     let in-place : before + (j - before) ≡ j = omega arith in
     let at : get_or range (j - before) 0 ≡ id = part-rises ids id before range h (j - before) (omega arith) ∙ (ap (λ t. get_or ids t 0) in-place ∙ e) in
-    elim (cases_lt (j - before) i) [ inl b ↦ let x = less (j - before) b in absurd (omega arith) | inr a ↦ let x = greater (j - before) a (omega arith) in absurd (omega arith) ]
+    elim (cases_lt (j - before) i) [
+      | inl b ↦ let x = less (j - before) b in absurd (omega arith)
+      | inr a ↦ let x = greater (j - before) a (omega arith) in absurd (omega arith)
+    ]
 
 -- what the table says of the range k, if it is the one of the id
 pub record Bounds (ids begins : List ℕ) (id k : ℕ) : Type 0 where
@@ -87,7 +101,8 @@ pub record Bounds (ids begins : List ℕ) (id k : ℕ) : Type 0 where
   pub within : get_or begins (k + 1) 0 ≤ length ids
   pub all : (i : ℕ) → i < length ids → get_or ids i 0 ≡ id → (get_or begins k 0 ≤ i) × (i < get_or begins (k + 1) 0)
 
-pub bounds_of : (ids : List ℕ) (width : ℕ) (begins table : List ℕ) (id value : ℕ) → AreBuckets ids width begins → is_member nat_eq ids id ≡ true → table ≡ begins → value ≡ id → Bounds ids table id (value / width)
+pub bounds_of : (ids : List ℕ) (width : ℕ) (begins table : List ℕ) (id value : ℕ) → AreBuckets ids width begins
+    → is_member nat_eq ids id ≡ true → table ≡ begins → value ≡ id → Bounds ids table id (value / width)
 bounds_of ids width begins table id value h there same read =
     let exists : id / width + 1 < length begins = range-exists ids width begins id h there in
     let b : Bounds ids begins id (id / width) = record {
@@ -111,7 +126,8 @@ part_between ids rest range id low high l m from to all =
     }
 
 -- one range more
-pub begins-push : (ids : List ℕ) (width : ℕ) (begins : List ℕ) (k begin : ℕ) → length begins ≡ k → ((j : ℕ) → j < k → IsBegin ids (j * width) (get_or begins j 0)) → IsBegin ids (k * width) begin
+pub begins-push : (ids : List ℕ) (width : ℕ) (begins : List ℕ) (k begin : ℕ) → length begins ≡ k
+    → ((j : ℕ) → j < k → IsBegin ids (j * width) (get_or begins j 0)) → IsBegin ids (k * width) begin
     → (j : ℕ) → j < k + 1 → IsBegin ids (j * width) (get_or (begins ++ begin ∷ []) j 0)
 begins-push ids width begins k begin count each next j l = elim (cases_lt j k) [
   | inl before ↦ subst (IsBegin ids (j * width)) (sym (get_or_append_left begins (begin ∷ []) 0 j (omega arith))) (each j before)

@@ -120,7 +120,8 @@ pub(crate) fn batches_of(
     requires finder { FindsPlaces ids.now finder.now }
     requires among { All (λ batch. AreAmong ids.now (ends (map ends_of batch.items))) batches.now }
     requires apart { All (λ batch. All (λ c. c.a ≢ c.b) batch.items) batches.now }
-    ensures { IfOk result (λ updates. map (λ batch. map parts_of batch.items) updates.items ≡ map (λ batch. map (numbered_change ids.now) batch.items) batches.now) }
+    ensures { IfOk result (λ updates. map (λ batch. map parts_of batch.items) updates.items
+        ≡ map (λ batch. map (numbered_change ids.now) batch.items) batches.now) }
 {
     let mut updates = Vec::with_capacity(alloc, batches.len())?;
     for batch in batches {

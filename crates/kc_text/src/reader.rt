@@ -1,5 +1,6 @@
 //! Takes one line after another and keeps what they tell, or gives the first check that a line fails.
-ghost use Rattle.std.specs.Prelude.{◌≡◌, ◌≤◌, ◌<◌, ◌+◌, ◌^◌, ◌++◌, [], None, Some, length, map, IfOk, OnOk, IfSome, IsSome, is_some, true, nat_eq, unwrap_or, ◌∷◌};
+ghost use Rattle.std.specs.Prelude.{◌≡◌, ◌≤◌, ◌<◌, ◌+◌, ◌^◌, ◌++◌, [], None, Some, length, map, IfOk, OnOk, IfSome, IsSome, is_some, true, nat_eq};
+ghost use Rattle.std.specs.Prelude.{unwrap_or, ◌∷◌};
 ghost use Rattle.std.specs.HashSet.{IsUnique};
 ghost use Rattle.std.specs.Option.{option_map, option_to_list};
 ghost use Rattle.kc_text.specs.declared.line.Line.TheVariants as said;
@@ -99,7 +100,8 @@ fn take_into(last: &mut Option<Vec<Change>>, change: Change) -> Result<Option<Ki
 
 /// Puts a batch that is read behind the earlier ones.
 fn close(earlier: &mut Vec<Vec<Change>>, last: Option<Vec<Change>>) -> Result<(), NoMemory>
-    ensures { OnOk result (map (λ batch. batch.items) earlier.new.items ≡ map (λ batch. batch.items) earlier.old.items ++ option_to_list (option_map (λ batch. batch.items) last)) }
+    ensures { OnOk result (map (λ batch. batch.items) earlier.new.items ≡ map (λ batch. batch.items) earlier.old.items
+        ++ option_to_list (option_map (λ batch. batch.items) last)) }
 {
     if let Some(batch) = last {
         earlier.push(batch)?;

@@ -1,5 +1,6 @@
 -- Whatever words ask for, there are some workers, and not too many.
-use Rattle.std.proofs.Common.{◌≡◌, ◌<◌, ◌≤◌, ℕ, Bool, true, false, cond, ltb, leb, ◌&&◌, List, Option, Some, None, codes, refl, ap, subst, arith, option_and_then, ltb-true, leb-true}
+use Rattle.std.proofs.Common.{◌≡◌, ◌<◌, ◌≤◌, ℕ, Bool, true, false, cond, ltb, leb, ◌&&◌, List, Option, Some, None, codes, refl, ap, subst, arith}
+use Rattle.std.proofs.Common.{option_and_then, ltb-true, leb-true}
 use Rattle.std.specs.Borrow.{Bor}
 use Rattle.std.specs.Prelude.{option_map, unwrap_or}
 use Rattle.std.proofs.lemmas.Bool.{and_parts}

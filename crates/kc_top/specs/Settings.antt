@@ -27,7 +27,8 @@ abbrev pub command : App
 command =
     with_rule (with_rule (with_rule (with_rule (with_rule
     (on_top (λ top. record top { no_binary_name = true; disable_help_flag = true; disable_version_flag = true }) (new_app (codes "kcore")))
-    (option_named (codes "workers"))) (option_named (codes "show"))) (option_named (codes "level"))) (option_named (codes "gen"))) (option_named (codes "start"))
+    (option_named (codes "workers"))) (option_named (codes "show"))) (option_named (codes "level"))) (option_named (codes "gen")))
+    (option_named (codes "start"))
 
 -- one to ten decimal digits
 abbrev pub is_short_numeral : List ℕ → Bool

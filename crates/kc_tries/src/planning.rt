@@ -98,7 +98,8 @@ pub fn plan<K: Name, R: Wait>(
     ensures named { IfOk result NamesOnlyRead }
     ensures cores { IfOk result AsksCoresNearby }
     ensures from { IfOk result (λ plan. From plan K.table K.opening_edges pass.new.log) }
-    ensures since { IfOk result (λ plan. WereReadSince (opened_with K.table K.opening_edges K.opening_stamps) pass.old.log pass.new.log (answers_in plan.used)) }
+    ensures since { IfOk result (λ plan. WereReadSince (opened_with K.table K.opening_edges K.opening_stamps) pass.old.log pass.new.log
+        (answers_in plan.used)) }
     ensures cause { IfErr result (λ fault. HasLooseCause K.table pass.old.log pass.new.log fault) }
 {
     plan_since::<K, Brand, R>(rt, alloc, words, stripes, pass, scratch, update)

@@ -15,9 +15,12 @@ among-agree s z p q same =
     count-agree (λ y. s.adj z y && p y) (λ y. s.adj z y && q y) (below s.size) (λ y m. and-agree (s.adj z y) (p y) (q y) (same y (below-member y s.size m)))
 
 -- tests that differ at one vertex
-pub among-one : (s : Search) (z v : ℕ) (p q : ℕ → Bool) → v < s.size → q v ≡ false → p v ≡ true → ((y : ℕ) → y < s.size → s.adj z y ≡ true → y ≢ v → p y ≡ q y) → among s z p ≡ among s z q + one_if (s.adj z v)
+pub among-one : (s : Search) (z v : ℕ) (p q : ℕ → Bool) → v < s.size → q v ≡ false → p v ≡ true
+    → ((y : ℕ) → y < s.size → s.adj z y ≡ true → y ≢ v → p y ≡ q y) → among s z p ≡ among s z q + one_if (s.adj z v)
 among-one s z v p q l qv pv same =
-    let one = count-one-in (λ y. s.adj z y && p y) (λ y. s.adj z y && q y) v (below s.size) (Distinct-below s.size) (member-below v s.size l) (grind (arith, qv))
+    let one =
+    count-one-in (λ y. s.adj z y && p y) (λ y. s.adj z y && q y) v (below s.size) (Distinct-below s.size) (member-below v s.size l)
+    (grind (arith, qv))
     (λ y m ne. and-agree (s.adj z y) (p y) (q y) (λ a. same y (below-member y s.size m) a ne)) in
     let here : one_if (s.adj z v && p v) ≡ one_if (s.adj z v) = grind (arith, pv) in
     omega (arith, one, here)
@@ -35,8 +38,11 @@ and-sum : (a p q r : Bool) → (a ≡ true → one_if r ≡ one_if p + one_if q)
 and-sum a p q r h = elim (cases_Bool a) [ inl t ↦ let k = h t in grind (arith, t, k) | inr f ↦ grind (arith, f) ]
 
 -- two tests that never both pass
-pub among-sum : (s : Search) (z : ℕ) (p q r : ℕ → Bool) → ((y : ℕ) → y < s.size → s.adj z y ≡ true → one_if (r y) ≡ one_if (p y) + one_if (q y)) → among s z r ≡ among s z p + among s z q
-among-sum s z p q r h = count-sum (λ y. s.adj z y && p y) (λ y. s.adj z y && q y) (λ y. s.adj z y && r y) (below s.size) (λ y m. and-sum (s.adj z y) (p y) (q y) (r y) (h y (below-member y s.size m)))
+pub among-sum : (s : Search) (z : ℕ) (p q r : ℕ → Bool)
+    → ((y : ℕ) → y < s.size → s.adj z y ≡ true → one_if (r y) ≡ one_if (p y) + one_if (q y)) → among s z r ≡ among s z p + among s z q
+among-sum s z p q r h =
+    count-sum (λ y. s.adj z y && p y) (λ y. s.adj z y && q y) (λ y. s.adj z y && r y) (below s.size)
+    (λ y m. and-sum (s.adj z y) (p y) (q y) (r y) (h y (below-member y s.size m)))
 
 pub at_most_one : (b : Bool) → one_if b ≤ 1
 at_most_one b = grind arith

@@ -13,10 +13,13 @@ use Rattle.kc_view.specs.Answers.{Answers, list_in, has_list, list_of, has_core,
 use Rattle.kc_view.specs.Sure.{is_listed, AsksCores}
 use Rattle.kc_view.specs.Views.{TellsList, TellsCore}
 
-listed_in : (x y : ℕ) (es : List UsedEdges) → is_some (list_in x es) ≡ true → member y (unwrap_or (list_in x es) []) ≡ true → list_any (λ e. member y e.neighbours) es ≡ true
+listed_in : (x y : ℕ) (es : List UsedEdges) → is_some (list_in x es) ≡ true → member y (unwrap_or (list_in x es) []) ≡ true
+    → list_any (λ e. member y e.neighbours) es ≡ true
 listed_in x y [] h m = absurd (false≢true h)
 listed_in x y (e ∷ es) h m =
-    elim (eqb x e.vertex) as (λ b. is_some (cond b (Some e.neighbours) (list_in x es)) ≡ true → member y (unwrap_or (cond b (Some e.neighbours) (list_in x es)) []) ≡ true → (member y e.neighbours || list_any (λ e. member y e.neighbours) es) ≡ true) [
+    elim (eqb x e.vertex) as (λ b. is_some (cond b (Some e.neighbours) (list_in x es)) ≡ true
+    → member y (unwrap_or (cond b (Some e.neighbours) (list_in x es)) []) ≡ true
+    → (member y e.neighbours || list_any (λ e. member y e.neighbours) es) ≡ true) [
       | true ↦ λ _ k. or_left (member y e.neighbours) _ k
       | false ↦ λ k n. or_right (member y e.neighbours) _ (listed_in x y es k n)
     ] h m
@@ -26,7 +29,8 @@ pub is_listed-from : (a : Answers) (x y : ℕ) → has_list a x ≡ true → mem
 is_listed-from a x y h m = listed_in x y a.edges h m
 
 -- a core number more
-pub cores-more : (update : Update) (a b : Answers) (y : ℕ) → AsksCores update a → TellsCore a b y → (y ≡ update.u) ⊎ (y ≡ update.v) ⊎ (is_listed a y ≡ true) → AsksCores update b
+pub cores-more : (update : Update) (a b : Answers) (y : ℕ) → AsksCores update a → TellsCore a b y
+    → (y ≡ update.u) ⊎ (y ≡ update.v) ⊎ (is_listed a y ≡ true) → AsksCores update b
 cores-more update a b y asks tells near = elim (cases_Bool (has_core a y)) [
   | inl h ↦ subst (AsksCores update) (sym (tells.before h)) asks
   | inr n ↦
@@ -43,7 +47,8 @@ cores-listed update a b y asks tells = elim (cases_Bool (has_list a y)) [
       let (e, is, eq) = tells.now n in
       let c : Answers = with_list a e in
       subst (AsksCores update) (sym eq)
-      (All-weaker (λ q. (q.vertex ≡ update.u) ⊎ (q.vertex ≡ update.v) ⊎ (is_listed a q.vertex ≡ true)) (λ q. (q.vertex ≡ update.u) ⊎ (q.vertex ≡ update.v) ⊎ (is_listed c q.vertex ≡ true)) (λ q k. elim k [
+      (All-weaker (λ q. (q.vertex ≡ update.u) ⊎ (q.vertex ≡ update.v) ⊎ (is_listed a q.vertex ≡ true))
+      (λ q. (q.vertex ≡ update.u) ⊎ (q.vertex ≡ update.v) ⊎ (is_listed c q.vertex ≡ true)) (λ q k. elim k [
         | inl h ↦ inl h
         | inr (inl h) ↦ inr (inl h)
         | inr (inr h) ↦ inr (inr (list_any-append (λ x. member q.vertex x.neighbours) a.edges (e ∷ []) ∙ or_left (is_listed a q.vertex) _ h))

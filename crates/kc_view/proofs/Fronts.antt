@@ -9,7 +9,9 @@ use Rattle.kc_distinct.proofs.Members.{member-tail, member-cases}
 pub take-member : (n : ℕ) (xs : List ℕ) (y : ℕ) → member y (take n xs) ≡ true → member y xs ≡ true
 take-member zero xs y m = absurd (false≢true m)
 take-member (suc n) [] y m = m
-take-member (suc n) (x ∷ xs) y m = elim (member-cases y x (take n xs) m) [ inl e ↦ or_left (eqb y x) (member y xs) (eq-eqb y x e) | inr k ↦ member-tail y x xs (take-member n xs y k) ]
+take-member (suc n) (x ∷ xs) y m =
+    elim (member-cases y x (take n xs) m)
+    [ inl e ↦ or_left (eqb y x) (member y xs) (eq-eqb y x e) | inr k ↦ member-tail y x xs (take-member n xs y k) ]
 
 -- one shift more names one vertex more that is put behind another
 pub firsts-push : (shifts : List (ℕ × ℕ)) (x w : ℕ) → firsts (shifts ++ (x, w) ∷ []) ≡ firsts shifts ++ x ∷ []

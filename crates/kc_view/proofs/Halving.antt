@@ -15,13 +15,15 @@ pub record StandsBetween (xs : List ℕ) (y low high : ℕ) : Type 0 where
 pub anywhere : (xs : List ℕ) (y high : ℕ) → high ≡ length xs → StandsBetween xs y 0 high
 anywhere xs y high e = record { before = λ k l. absurd (omega arith); behind = λ k le l. absurd (omega arith) }
 
-pub stands-later : (xs : List ℕ) (y low high middle : ℕ) → IsStrictlyIncreasing xs → StandsBetween xs y low high → middle < length xs → get_or xs middle 0 < y → StandsBetween xs y (middle + 1) high
+pub stands-later : (xs : List ℕ) (y low high middle : ℕ) → IsStrictlyIncreasing xs → StandsBetween xs y low high → middle < length xs
+    → get_or xs middle 0 < y → StandsBetween xs y (middle + 1) high
 stands-later xs y low high middle up b l less = record {
   before = λ k lk. let r : get_or xs k 0 ≤ get_or xs middle 0 = never_falls xs up k middle (omega arith) l in omega arith;
   behind = b.behind;
 }
 
-pub stands-earlier : (xs : List ℕ) (y low high middle : ℕ) → IsStrictlyIncreasing xs → StandsBetween xs y low high → y < get_or xs middle 0 → StandsBetween xs y low middle
+pub stands-earlier : (xs : List ℕ) (y low high middle : ℕ) → IsStrictlyIncreasing xs → StandsBetween xs y low high → y < get_or xs middle 0
+    → StandsBetween xs y low middle
 stands-earlier xs y low high middle up b more = record {
   before = b.before;
   behind = λ k le l. let r : get_or xs middle 0 ≤ get_or xs k 0 = never_falls xs up middle k le l in omega arith;

@@ -8,7 +8,8 @@ use Rattle.kc_view.specs.Views.{Shown, GoesOn, HandsOut}
 use Rattle.kc_view.proofs.Keeping.{no-lists}
 
 -- where nothing was kept before, all lists that are handed out are those of their vertices
-pub handed-lists : (old asked new : Shown) (a : Answers) → old.kept ≡ nothing_answered → GoesOn old asked → HandsOut asked new → a ≡ asked.kept → AreLists new.size a.edges
+pub handed-lists : (old asked new : Shown) (a : Answers) → old.kept ≡ nothing_answered → GoesOn old asked → HandsOut asked new
+    → a ≡ asked.kept → AreLists new.size a.edges
 handed-lists old asked new a fresh goes out all =
     let kept : AreLists asked.size asked.kept.edges = goes.lists (subst (λ (x : Answers). AreLists old.size x.edges) (sym fresh) (no-lists old.size)) in
     subst (λ (n : ℕ). AreLists n a.edges) (sym out.lasts.same_size) (subst (λ (x : Answers). AreLists asked.size x.edges) (sym all) kept)

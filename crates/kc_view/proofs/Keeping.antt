@@ -1,5 +1,6 @@
 -- What a view kept, it keeps: lists and core numbers that were told stay, and a state that agrees now agreed before.
-use Rattle.std.proofs.Common.{◌≡◌, ◌<◌, ℕ, suc, true, false, cond, List, [], ◌∷◌, ◌++◌, get_or, eqb, ltb, refl, sym, ◌∙◌, ap, subst, arith, eqb-true, le_refl, le_trans, Bool}
+use Rattle.std.proofs.Common.{◌≡◌, ◌<◌, ℕ, suc, true, false, cond, List, [], ◌∷◌, ◌++◌, get_or, eqb, ltb, refl, sym, ◌∙◌, ap, subst, arith, eqb-true}
+use Rattle.std.proofs.Common.{le_refl, le_trans, Bool}
 use Rattle.std.specs.Prelude.{All, Some, is_some}
 use Rattle.std.specs.Option.{unwrap_or}
 use Rattle.std.proofs.lemmas.Bool.{false≢true}
@@ -21,7 +22,8 @@ use Rattle.kc_view.specs.Views.{Further, Shown, Lasts, GoesOn}
 pub list_in-front : (w : ℕ) (xs ys : List UsedEdges) → is_some (list_in w xs) ≡ true → list_in w (xs ++ ys) ≡ list_in w xs
 list_in-front w [] ys h = absurd (false≢true h)
 list_in-front w (x ∷ xs) ys h =
-    elim (eqb w x.vertex) as (λ b. is_some (cond b (Some x.neighbours) (list_in w xs)) ≡ true → cond b (Some x.neighbours) (list_in w (xs ++ ys)) ≡ cond b (Some x.neighbours) (list_in w xs)) [
+    elim (eqb w x.vertex) as (λ b. is_some (cond b (Some x.neighbours) (list_in w xs)) ≡ true
+    → cond b (Some x.neighbours) (list_in w (xs ++ ys)) ≡ cond b (Some x.neighbours) (list_in w xs)) [
       | true ↦ λ _. refl
       | false ↦ λ k. list_in-front w xs ys k
     ] h
@@ -29,7 +31,8 @@ list_in-front w (x ∷ xs) ys h =
 pub core_in-front : (w : ℕ) (xs ys : List UsedPlace) → is_some (core_in w xs) ≡ true → core_in w (xs ++ ys) ≡ core_in w xs
 core_in-front w [] ys h = absurd (false≢true h)
 core_in-front w (x ∷ xs) ys h =
-    elim (eqb w x.vertex) as (λ b. is_some (cond b (Some x.core) (core_in w xs)) ≡ true → cond b (Some x.core) (core_in w (xs ++ ys)) ≡ cond b (Some x.core) (core_in w xs)) [
+    elim (eqb w x.vertex) as (λ b. is_some (cond b (Some x.core) (core_in w xs)) ≡ true
+    → cond b (Some x.core) (core_in w (xs ++ ys)) ≡ cond b (Some x.core) (core_in w xs)) [
       | true ↦ λ _. refl
       | false ↦ λ k. core_in-front w xs ys k
     ] h
@@ -97,24 +100,34 @@ GoesOn-trans a b c f g = record {
 }
 
 -- what a state that agrees says of a list that was told
-list_in-true : (s : Ranked) (w : ℕ) (xs : List UsedEdges) → All (λ e. (e.vertex < s.graph.size) × (e.neighbours ≡ neighbours_of s.graph e.vertex)) xs → is_some (list_in w xs) ≡ true
+list_in-true : (s : Ranked) (w : ℕ) (xs : List UsedEdges)
+    → All (λ e. (e.vertex < s.graph.size) × (e.neighbours ≡ neighbours_of s.graph e.vertex)) xs → is_some (list_in w xs) ≡ true
     → (w < s.graph.size) × (unwrap_or (list_in w xs) [] ≡ neighbours_of s.graph w)
 list_in-true s w [] a h = absurd (false≢true h)
 list_in-true s w (x ∷ xs) a h =
-    elim (eqb w x.vertex) as (λ b. eqb w x.vertex ≡ b → is_some (cond b (Some x.neighbours) (list_in w xs)) ≡ true → (w < s.graph.size) × (unwrap_or (cond b (Some x.neighbours) (list_in w xs)) [] ≡ neighbours_of s.graph w)) [
-      | true ↦ λ e _. let k = a 0 x (omega arith) in let same : w ≡ x.vertex = eqb-true w x.vertex e in (omega (arith, k.0, same), k.1 ∙ ap (neighbours_of s.graph) (sym same))
+    elim (eqb w x.vertex) as (λ b. eqb w x.vertex ≡ b → is_some (cond b (Some x.neighbours) (list_in w xs)) ≡ true
+    → (w < s.graph.size) × (unwrap_or (cond b (Some x.neighbours) (list_in w xs)) [] ≡ neighbours_of s.graph w)) [
+      | true ↦
+          λ e _.
+          let k = a 0 x (omega arith) in
+          let same : w ≡ x.vertex = eqb-true w x.vertex e in (omega (arith, k.0, same), k.1 ∙ ap (neighbours_of s.graph) (sym same))
       | false ↦ λ e k. list_in-true s w xs (λ i d l. a (suc i) d (omega arith)) k
     ] refl h
 
 pub list-true : (a : Answers) (s : Ranked) (w : ℕ) → Agrees a s → has_list a w ≡ true → (w < s.graph.size) × (list_of a w ≡ neighbours_of s.graph w)
 list-true a s w g h = list_in-true s w a.edges g.edges h
 
-core_in-true : (s : Ranked) (w : ℕ) (xs : List UsedPlace) → All (λ p. (p.vertex < s.graph.size) × (p.core ≡ get_or s.core p.vertex 0)) xs → is_some (core_in w xs) ≡ true
+core_in-true : (s : Ranked) (w : ℕ) (xs : List UsedPlace) → All (λ p. (p.vertex < s.graph.size) × (p.core ≡ get_or s.core p.vertex 0)) xs
+    → is_some (core_in w xs) ≡ true
     → (w < s.graph.size) × (unwrap_or (core_in w xs) 0 ≡ get_or s.core w 0)
 core_in-true s w [] a h = absurd (false≢true h)
 core_in-true s w (x ∷ xs) a h =
-    elim (eqb w x.vertex) as (λ b. eqb w x.vertex ≡ b → is_some (cond b (Some x.core) (core_in w xs)) ≡ true → (w < s.graph.size) × (unwrap_or (cond b (Some x.core) (core_in w xs)) 0 ≡ get_or s.core w 0)) [
-      | true ↦ λ e _. let k = a 0 x (omega arith) in let same : w ≡ x.vertex = eqb-true w x.vertex e in (omega (arith, k.0, same), k.1 ∙ ap (λ v. get_or s.core v 0) (sym same))
+    elim (eqb w x.vertex) as (λ b. eqb w x.vertex ≡ b → is_some (cond b (Some x.core) (core_in w xs)) ≡ true
+    → (w < s.graph.size) × (unwrap_or (cond b (Some x.core) (core_in w xs)) 0 ≡ get_or s.core w 0)) [
+      | true ↦
+          λ e _.
+          let k = a 0 x (omega arith) in
+          let same : w ≡ x.vertex = eqb-true w x.vertex e in (omega (arith, k.0, same), k.1 ∙ ap (λ v. get_or s.core v 0) (sym same))
       | false ↦ λ e k. core_in-true s w xs (λ i d l. a (suc i) d (omega arith)) k
     ] refl h
 
@@ -122,13 +135,18 @@ pub core-true : (a : Answers) (s : Ranked) (w : ℕ) → Agrees a s → has_core
 core-true a s w g h = core_in-true s w a.places g.places h
 
 -- and of an order
-pub order-true : (a : Answers) (s : Ranked) (o : UsedOrder) → Agrees (with_order a o) s → (o.x < s.graph.size) × (o.y < s.graph.size) × (o.before ≡ ltb (place_of o.x s.order) (place_of o.y s.order))
-order-true a s o g = All-end (λ o. (o.x < s.graph.size) × (o.y < s.graph.size) × (o.before ≡ ltb (place_of o.x s.order) (place_of o.y s.order))) a.orders o g.orders
+pub order-true : (a : Answers) (s : Ranked) (o : UsedOrder) → Agrees (with_order a o) s
+    → (o.x < s.graph.size) × (o.y < s.graph.size) × (o.before ≡ ltb (place_of o.x s.order) (place_of o.y s.order))
+order-true a s o g =
+    All-end (λ o. (o.x < s.graph.size) × (o.y < s.graph.size) × (o.before ≡ ltb (place_of o.x s.order) (place_of o.y s.order))) a.orders o
+    g.orders
 
-found_list : (n w : ℕ) (xs : List UsedEdges) → All (λ e. IsListOf n e.vertex e.neighbours) xs → is_some (list_in w xs) ≡ true → IsListOf n w (unwrap_or (list_in w xs) [])
+found_list : (n w : ℕ) (xs : List UsedEdges) → All (λ e. IsListOf n e.vertex e.neighbours) xs → is_some (list_in w xs) ≡ true
+    → IsListOf n w (unwrap_or (list_in w xs) [])
 found_list n w [] a h = absurd (false≢true h)
 found_list n w (x ∷ xs) a h =
-    elim (eqb w x.vertex) as (λ b. eqb w x.vertex ≡ b → is_some (cond b (Some x.neighbours) (list_in w xs)) ≡ true → IsListOf n w (unwrap_or (cond b (Some x.neighbours) (list_in w xs)) [])) [
+    elim (eqb w x.vertex) as (λ b. eqb w x.vertex ≡ b → is_some (cond b (Some x.neighbours) (list_in w xs)) ≡ true
+    → IsListOf n w (unwrap_or (cond b (Some x.neighbours) (list_in w xs)) [])) [
       | true ↦ λ e _. subst (λ (v : ℕ). IsListOf n v x.neighbours) (sym (eqb-true w x.vertex e)) (a 0 x (omega arith))
       | false ↦ λ e k. found_list n w xs (λ i d l. a (suc i) d (omega arith)) k
     ] refl h
@@ -139,7 +157,8 @@ unfolding AreLists
 kept-list size w a all h = found_list size w a.edges all h
 
 -- the list of one end tells whether the edge is there
-pub tells-edge : (a : Answers) (s : Ranked) (u v : ℕ) (b : Bool) → Agrees a s → has_list a u ≡ true → v < s.graph.size → b ≡ member v (list_of a u) → adjacent s.graph u v ≡ b
+pub tells-edge : (a : Answers) (s : Ranked) (u v : ℕ) (b : Bool) → Agrees a s → has_list a u ≡ true → v < s.graph.size
+    → b ≡ member v (list_of a u) → adjacent s.graph u v ≡ b
 tells-edge a s u v b agrees read l is = sym (is ∙ (ap (member v) (list-true a s u agrees read).1 ∙ neighbours_has s.graph u v l))
 
 -- and where nothing was answered they are

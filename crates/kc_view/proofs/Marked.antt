@@ -1,8 +1,10 @@
 -- The marks of a memo: where the answers of a vertex are kept.
-use Rattle.std.proofs.Common.{◌≡◌, ◌≢◌, ◌≤◌, ◌<◌, ◌+◌, ℕ, zero, suc, Bool, true, false, cond, ◌||◌, List, [], ◌∷◌, ◌++◌, length, get_or, map, set, take, drop, refl, sym, ◌∙◌, ap, subst, inl, inr, arith, eqb, eqb-true, eq-eqb, ne_eqb, length-append, length-set}
+use Rattle.std.proofs.Common.{◌≡◌, ◌≢◌, ◌≤◌, ◌<◌, ◌+◌, ℕ, zero, suc, Bool, true, false, cond, ◌||◌, List, [], ◌∷◌, ◌++◌, length, get_or, map, set}
+use Rattle.std.proofs.Common.{take, drop, refl, sym, ◌∙◌, ap, subst, inl, inr, arith, eqb, eqb-true, eq-eqb, ne_eqb, length-append, length-set}
 use Rattle.std.specs.Prelude.{All, Option, Some, None, is_some}
 use Rattle.std.proofs.lemmas.Bool.{cases_Bool, cases_eq, false≢true, or_cases, true≢false}
-use Rattle.std.proofs.lemmas.List.{get_or-set_same, get_or-set_other, get_or_append_left, get_or_push, append-nil, drop_all, length-map, map-append, take_all, take_more}
+use Rattle.std.proofs.lemmas.List.{get_or-set_same, get_or-set_other, get_or_append_left, get_or_push, append-nil, drop_all, length-map, map-append}
+use Rattle.std.proofs.lemmas.List.{take_all, take_more}
 use Rattle.std.proofs.lemmas.List.Elements.{All-push}
 use Rattle.kc_distinct.specs.Lists.{Distinct, member}
 use Rattle.kc_distinct.proofs.Counting.{Distinct-push}
@@ -242,14 +244,20 @@ module _ (m : Memory) (listed placed : List ℕ) (is : Marks m listed placed) wh
 pub marked-list : (m seen : Memory) (listed placed : List ℕ) (e : UsedEdges) (mark : ℕ) (edges : List UsedEdges) → m ≡ seen → Marks m listed placed
     → e.vertex < seen.size → has_list seen.kept e.vertex ≡ false → IsListOf seen.size e.vertex e.neighbours
     → edges ≡ m.kept.edges ++ e ∷ [] → mark ≡ length edges
-    → Marks (keeping (length (set listed e.vertex mark)) (record { edges = edges; places = m.kept.places; orders = m.kept.orders })) (set listed e.vertex mark) placed
+    → Marks (keeping (length (set listed e.vertex mark)) (record { edges = edges; places = m.kept.places; orders = m.kept.orders }))
+    (set listed e.vertex mark) placed
 marked-list m seen listed placed e mark edges same is here none list more size =
     let now : Marks (keeping m.size (with_list m.kept e)) (set listed e.vertex mark) placed =
     mark-list m listed placed is e mark (omega (arith, ap (λ (x : Memory). x.size) same, here)) (ap (λ (x : Memory). has_list x.kept e.vertex) same ∙ none)
     (subst (λ (x : Memory). IsListOf x.size e.vertex e.neighbours) (sym same) list) (size ∙ ap (length {A = UsedEdges}) more) in
     let long : m.size ≡ length (set listed e.vertex mark) = sym (length-set listed e.vertex mark ∙ is.lists_long) in
     subst (λ (n : ℕ). Marks (keeping n (record { edges = edges; places = m.kept.places; orders = m.kept.orders })) (set listed e.vertex mark) placed) long
-    (subst (λ (es : List UsedEdges). Marks (keeping m.size (record { edges = es; places = m.kept.places; orders = m.kept.orders })) (set listed e.vertex mark) placed)
+    (subst (λ (es : List UsedEdges). Marks (keeping m.size (record {
+      edges = es;
+      places = m.kept.places;
+      orders =
+          m.kept.orders;
+    })) (set listed e.vertex mark) placed)
     (sym more) now)
 
 pub marked-place : (m seen : Memory) (listed placed : List ℕ) (p : UsedPlace) (mark : ℕ) (places : List UsedPlace) → m ≡ seen → Marks m listed placed
@@ -259,7 +267,9 @@ marked-place m seen listed placed p mark places same is here none more size =
     let now : Marks (keeping m.size (with_place m.kept p)) listed (set placed p.vertex mark) =
     mark-place m listed placed is p mark (omega (arith, ap (λ (x : Memory). x.size) same, here)) (ap (λ (x : Memory). has_core x.kept p.vertex) same ∙ none)
     (size ∙ ap (length {A = UsedPlace}) more) in
-    subst (λ (ps : List UsedPlace). Marks (keeping m.size (record { edges = m.kept.edges; places = ps; orders = m.kept.orders })) listed (set placed p.vertex mark))
+    subst
+    (λ (ps : List UsedPlace).
+    Marks (keeping m.size (record { edges = m.kept.edges; places = ps; orders = m.kept.orders })) listed (set placed p.vertex mark))
     (sym more) now
 
 -- A list more, or a core number more, can still be counted.

@@ -1,5 +1,6 @@
 -- The marks of a view of a graph at rest: what is asked first is kept and marked, and all marks go when the answers are handed out.
-use Rattle.std.proofs.Common.{◌≡◌, ◌≤◌, ◌<◌, ◌+◌, ℕ, Bool, true, false, not, cond, ◌&&◌, ◌||◌, List, [], ◌∷◌, ◌++◌, length, get_or, set, take, ltb, refl, sym, ◌∙◌, ap, inl, inr, arith, eqb, eq-eqb, ne_eqb, true≢false, length-set}
+use Rattle.std.proofs.Common.{◌≡◌, ◌≤◌, ◌<◌, ◌+◌, ℕ, Bool, true, false, not, cond, ◌&&◌, ◌||◌, List, [], ◌∷◌, ◌++◌, length, get_or, set, take, ltb}
+use Rattle.std.proofs.Common.{refl, sym, ◌∙◌, ap, inl, inr, arith, eqb, eq-eqb, ne_eqb, true≢false, length-set}
 use Rattle.std.specs.Prelude.{Some, None, is_some}
 use Rattle.std.specs.Option.{unwrap_or}
 use Rattle.std.proofs.Math.Bool.{or-false, and-false}
@@ -22,18 +23,22 @@ use Rattle.kc_view.specs.Plain.{KeepsAnswers}
 use Rattle.kc_graph.proofs.NeighbourLists.{neighbours_are}
 use Rattle.kc_view.proofs.Keeping.{still_has_list, still_has_core, list-true}
 
-pub list_in-push : (w : ℕ) (xs : List UsedEdges) (e : UsedEdges) → is_some (list_in w xs) ≡ false → list_in w (xs ++ e ∷ []) ≡ cond (eqb w e.vertex) (Some e.neighbours) None
+pub list_in-push : (w : ℕ) (xs : List UsedEdges) (e : UsedEdges) → is_some (list_in w xs) ≡ false
+    → list_in w (xs ++ e ∷ []) ≡ cond (eqb w e.vertex) (Some e.neighbours) None
 list_in-push w [] e h = refl
 list_in-push w (x ∷ xs) e h =
-    elim (eqb w x.vertex) as (λ b. is_some (cond b (Some x.neighbours) (list_in w xs)) ≡ false → cond b (Some x.neighbours) (list_in w (xs ++ e ∷ [])) ≡ cond (eqb w e.vertex) (Some e.neighbours) None) [
+    elim (eqb w x.vertex) as (λ b. is_some (cond b (Some x.neighbours) (list_in w xs)) ≡ false
+    → cond b (Some x.neighbours) (list_in w (xs ++ e ∷ [])) ≡ cond (eqb w e.vertex) (Some e.neighbours) None) [
       | true ↦ λ k. absurd (true≢false k)
       | false ↦ λ k. list_in-push w xs e k
     ] h
 
-pub core_in-push : (w : ℕ) (xs : List UsedPlace) (p : UsedPlace) → is_some (core_in w xs) ≡ false → core_in w (xs ++ p ∷ []) ≡ cond (eqb w p.vertex) (Some p.core) None
+pub core_in-push : (w : ℕ) (xs : List UsedPlace) (p : UsedPlace) → is_some (core_in w xs) ≡ false
+    → core_in w (xs ++ p ∷ []) ≡ cond (eqb w p.vertex) (Some p.core) None
 core_in-push w [] p h = refl
 core_in-push w (x ∷ xs) p h =
-    elim (eqb w x.vertex) as (λ b. is_some (cond b (Some x.core) (core_in w xs)) ≡ false → cond b (Some x.core) (core_in w (xs ++ p ∷ [])) ≡ cond (eqb w p.vertex) (Some p.core) None) [
+    elim (eqb w x.vertex) as (λ b. is_some (cond b (Some x.core) (core_in w xs)) ≡ false
+    → cond b (Some x.core) (core_in w (xs ++ p ∷ [])) ≡ cond (eqb w p.vertex) (Some p.core) None) [
       | true ↦ λ k. absurd (true≢false k)
       | false ↦ λ k. core_in-push w xs p k
     ] h
@@ -72,18 +77,23 @@ has_core-more a p w = elim (cases_Bool (has_core a w)) [
 ]
 
 -- a mark more, where one answer more was kept
-mark-more : (marks : List Bool) (v : ℕ) (before after : ℕ → Bool) → v < length marks → ((w : ℕ) → get_or marks w false ≡ before w) → ((w : ℕ) → after w ≡ (before w || eqb w v)) → (w : ℕ) → get_or (set marks v true) w false ≡ after w
+mark-more : (marks : List Bool) (v : ℕ) (before after : ℕ → Bool) → v < length marks → ((w : ℕ) → get_or marks w false ≡ before w)
+    → ((w : ℕ) → after w ≡ (before w || eqb w v)) → (w : ℕ) → get_or (set marks v true) w false ≡ after w
 mark-more marks v before after l was is w = elim (cases_eq w v) [
   | inl e ↦ ap (λ n. get_or (set marks v true) n false) e ∙ (get_or-set_same marks v true false l ∙ sym (is w ∙ or_right (before w) (eqb w v) (eq-eqb w v e)))
   | inr ne ↦ get_or-set_other marks v w true false ne ∙ (was w ∙ sym (is w ∙ (ap (λ b. before w || b) (ne_eqb w v ne) ∙ or-false (before w))))
 ]
 
 -- a list more, which is marked
-pub keeps_list : (s : Ranked) (a : Answers) (listed placed : List Bool) (e : UsedEdges) → KeepsAnswers s a listed placed → e.vertex < s.graph.size → AreNeighbours s.graph e.vertex e.neighbours → KeepsAnswers s (with_list a e) (set listed e.vertex true) placed
+pub keeps_list : (s : Ranked) (a : Answers) (listed placed : List Bool) (e : UsedEdges) → KeepsAnswers s a listed placed
+    → e.vertex < s.graph.size → AreNeighbours s.graph e.vertex e.neighbours
+    → KeepsAnswers s (with_list a e) (set listed e.vertex true) placed
 keeps_list s a listed placed e k l near = record {
   few = k.few;
   agrees = record {
-    edges = All-push (λ (x : UsedEdges). (x.vertex < s.graph.size) × (x.neighbours ≡ neighbours_of s.graph x.vertex)) a.edges e k.agrees.edges (l, neighbours_are s.graph e.vertex e.neighbours near);
+    edges =
+        All-push (λ (x : UsedEdges). (x.vertex < s.graph.size) × (x.neighbours ≡ neighbours_of s.graph x.vertex)) a.edges e k.agrees.edges
+        (l, neighbours_are s.graph e.vertex e.neighbours near);
     places = k.agrees.places;
     orders = k.agrees.orders;
   };
@@ -94,7 +104,8 @@ keeps_list s a listed placed e k l near = record {
 }
 
 -- a core number more, which is marked
-pub keeps_place : (s : Ranked) (a : Answers) (listed placed : List Bool) (p : UsedPlace) → KeepsAnswers s a listed placed → p.vertex < s.graph.size → p.core ≡ get_or s.core p.vertex 0 → KeepsAnswers s (with_place a p) listed (set placed p.vertex true)
+pub keeps_place : (s : Ranked) (a : Answers) (listed placed : List Bool) (p : UsedPlace) → KeepsAnswers s a listed placed
+    → p.vertex < s.graph.size → p.core ≡ get_or s.core p.vertex 0 → KeepsAnswers s (with_place a p) listed (set placed p.vertex true)
 keeps_place s a listed placed p k l is = record {
   few = k.few;
   agrees = record {
@@ -109,14 +120,18 @@ keeps_place s a listed placed p k l is = record {
 }
 
 -- an order more, which is that of the state
-pub keeps_order : (s : Ranked) (a : Answers) (listed placed : List Bool) (o : UsedOrder) → KeepsAnswers s a listed placed → o.x < s.graph.size → o.y < s.graph.size
+pub keeps_order : (s : Ranked) (a : Answers) (listed placed : List Bool) (o : UsedOrder) → KeepsAnswers s a listed placed
+    → o.x < s.graph.size → o.y < s.graph.size
     → o.before ≡ ltb (place_of o.x s.order) (place_of o.y s.order) → KeepsAnswers s (with_order a o) listed placed
 keeps_order s a listed placed o k lx ly is = record {
   few = k.few;
   agrees = record {
     edges = k.agrees.edges;
     places = k.agrees.places;
-    orders = All-push (λ (x : UsedOrder). (x.x < s.graph.size) × (x.y < s.graph.size) × (x.before ≡ ltb (place_of x.x s.order) (place_of x.y s.order))) a.orders o k.agrees.orders (lx, ly, is);
+    orders =
+        All-push
+        (λ (x : UsedOrder). (x.x < s.graph.size) × (x.y < s.graph.size) × (x.before ≡ ltb (place_of x.x s.order) (place_of x.y s.order)))
+        a.orders o k.agrees.orders (lx, ly, is);
   };
   one_each = k.one_each;
   one_each_too = k.one_each_too;
@@ -148,10 +163,14 @@ tells_core_again a w t = record { told = t; before = λ _. refl; now = λ f. abs
 
 -- the list that was told now
 pub list_of-now : (a : Answers) (e : UsedEdges) → has_list a e.vertex ≡ false → list_of (with_list a e) e.vertex ≡ e.neighbours
-list_of-now a e f = ap (λ o. unwrap_or o []) (list_in-push e.vertex a.edges e f) ∙ ap (λ b. unwrap_or (cond b (Some e.neighbours) None) []) (eq-eqb e.vertex e.vertex refl)
+list_of-now a e f =
+    ap (λ o. unwrap_or o []) (list_in-push e.vertex a.edges e f)
+    ∙ ap (λ b. unwrap_or (cond b (Some e.neighbours) None) []) (eq-eqb e.vertex e.vertex refl)
 
 pub core_of-now : (a : Answers) (p : UsedPlace) → has_core a p.vertex ≡ false → core_of (with_place a p) p.vertex ≡ p.core
-core_of-now a p f = ap (λ o. unwrap_or o 0) (core_in-push p.vertex a.places p f) ∙ ap (λ b. unwrap_or (cond b (Some p.core) None) 0) (eq-eqb p.vertex p.vertex refl)
+core_of-now a p f =
+    ap (λ o. unwrap_or o 0) (core_in-push p.vertex a.places p f)
+    ∙ ap (λ b. unwrap_or (cond b (Some p.core) None) 0) (eq-eqb p.vertex p.vertex refl)
 
 -- the neighbours of a vertex are a list as a view tells it
 pub IsListOf-neighbours : (s : Ranked) (w : ℕ) (ws : List ℕ) → AreNeighbours s.graph w ws → IsListOf s.graph.size w ws
@@ -161,28 +180,42 @@ pub few_neighbours : (s : Ranked) (w : ℕ) (ws : List ℕ) → AreNeighbours s.
 few_neighbours s w ws near = below_bound s.graph.size ws (neighbours-distinct s.graph w ws near) near.within
 
 -- what the mark says
-pub mark_is_list : (s : Ranked) (a : Answers) (listed placed : List Bool) (w : ℕ) (b : Bool) → KeepsAnswers s a listed placed → w < s.graph.size → b ≡ get_or listed w b → b ≡ has_list a w
+pub mark_is_list : (s : Ranked) (a : Answers) (listed placed : List Bool) (w : ℕ) (b : Bool) → KeepsAnswers s a listed placed
+    → w < s.graph.size → b ≡ get_or listed w b → b ≡ has_list a w
 mark_is_list s a listed placed w b k l is = get_or_read listed w b (omega (arith, k.one_each, l)) is false ∙ k.lists w
 
-pub mark_is_core : (s : Ranked) (a : Answers) (listed placed : List Bool) (w : ℕ) (b : Bool) → KeepsAnswers s a listed placed → w < s.graph.size → b ≡ get_or placed w b → b ≡ has_core a w
+pub mark_is_core : (s : Ranked) (a : Answers) (listed placed : List Bool) (w : ℕ) (b : Bool) → KeepsAnswers s a listed placed
+    → w < s.graph.size → b ≡ get_or placed w b → b ≡ has_core a w
 mark_is_core s a listed placed w b k l is = get_or_read placed w b (omega (arith, k.one_each_too, l)) is false ∙ k.places w
 
 -- a mark less
-unmark-more : (marks : List Bool) (v : ℕ) (old gone gone' : ℕ → Bool) → v < length marks → ((w : ℕ) → get_or marks w false ≡ (old w && not (gone w))) → ((w : ℕ) → gone' w ≡ (gone w || eqb w v)) → (w : ℕ) → get_or (set marks v false) w false ≡ (old w && not (gone' w))
+unmark-more : (marks : List Bool) (v : ℕ) (old gone gone' : ℕ → Bool) → v < length marks
+    → ((w : ℕ) → get_or marks w false ≡ (old w && not (gone w))) → ((w : ℕ) → gone' w ≡ (gone w || eqb w v)) → (w : ℕ)
+    → get_or (set marks v false) w false ≡ (old w && not (gone' w))
 unmark-more marks v old gone gone' l was is w = elim (cases_eq w v) [
-  | inl e ↦ ap (λ n. get_or (set marks v false) n false) e ∙ (get_or-set_same marks v false false l ∙ sym (ap (λ b. old w && not b) (is w ∙ or_right (gone w) (eqb w v) (eq-eqb w v e)) ∙ and-false (old w)))
-  | inr ne ↦ get_or-set_other marks v w false false ne ∙ (was w ∙ sym (ap (λ b. old w && not b) (is w ∙ (ap (λ b. gone w || b) (ne_eqb w v ne) ∙ or-false (gone w)))))
+  | inl e ↦
+      ap (λ n. get_or (set marks v false) n false) e
+      ∙
+      (get_or-set_same marks v false false l
+      ∙ sym (ap (λ b. old w && not b) (is w ∙ or_right (gone w) (eqb w v) (eq-eqb w v e)) ∙ and-false (old w)))
+  | inr ne ↦
+      get_or-set_other marks v w false false ne
+      ∙ (was w ∙ sym (ap (λ b. old w && not b) (is w ∙ (ap (λ b. gone w || b) (ne_eqb w v ne) ∙ or-false (gone w)))))
 ]
 
-pub unmark_list : (marks : List Bool) (old : ℕ → Bool) (xs : List UsedEdges) (i : ℕ) (e : UsedEdges) → i < length xs → e ≡ get_or xs i e → e.vertex < length marks
-    → ((w : ℕ) → get_or marks w false ≡ (old w && not (is_some (list_in w (take i xs))))) → (w : ℕ) → get_or (set marks e.vertex false) w false ≡ (old w && not (is_some (list_in w (take (i + 1) xs))))
+pub unmark_list : (marks : List Bool) (old : ℕ → Bool) (xs : List UsedEdges) (i : ℕ) (e : UsedEdges) → i < length xs → e ≡ get_or xs i e
+    → e.vertex < length marks
+    → ((w : ℕ) → get_or marks w false ≡ (old w && not (is_some (list_in w (take i xs))))) → (w : ℕ)
+    → get_or (set marks e.vertex false) w false ≡ (old w && not (is_some (list_in w (take (i + 1) xs))))
 unmark_list marks old xs i e l is v was =
     let next : take (i + 1) xs ≡ take i xs ++ e ∷ [] = take_more xs i e l ∙ ap (λ (x : UsedEdges). take i xs ++ x ∷ []) (sym is) in
     unmark-more marks e.vertex old (λ w. is_some (list_in w (take i xs))) (λ w. is_some (list_in w (take (i + 1) xs))) v was
     (λ w. ap (λ (ys : List UsedEdges). is_some (list_in w ys)) next ∙ has_list-more (record { edges = take i xs; places = []; orders = [] }) e w)
 
-pub unmark_place : (marks : List Bool) (old : ℕ → Bool) (xs : List UsedPlace) (i : ℕ) (p : UsedPlace) → i < length xs → p ≡ get_or xs i p → p.vertex < length marks
-    → ((w : ℕ) → get_or marks w false ≡ (old w && not (is_some (core_in w (take i xs))))) → (w : ℕ) → get_or (set marks p.vertex false) w false ≡ (old w && not (is_some (core_in w (take (i + 1) xs))))
+pub unmark_place : (marks : List Bool) (old : ℕ → Bool) (xs : List UsedPlace) (i : ℕ) (p : UsedPlace) → i < length xs → p ≡ get_or xs i p
+    → p.vertex < length marks
+    → ((w : ℕ) → get_or marks w false ≡ (old w && not (is_some (core_in w (take i xs))))) → (w : ℕ)
+    → get_or (set marks p.vertex false) w false ≡ (old w && not (is_some (core_in w (take (i + 1) xs))))
 unmark_place marks old xs i p l is v was =
     let next : take (i + 1) xs ≡ take i xs ++ p ∷ [] = take_more xs i p l ∙ ap (λ (x : UsedPlace). take i xs ++ x ∷ []) (sym is) in
     unmark-more marks p.vertex old (λ w. is_some (core_in w (take i xs))) (λ w. is_some (core_in w (take (i + 1) xs))) v was

@@ -1,5 +1,6 @@
 -- Where the answers of a vertex are kept.
-use Rattle.std.specs.Prelude.{◌≡◌, ◌≤◌, ◌<◌, ◌^◌, ℕ, zero, suc, List, [], Option, Some, None, length, map, slice_index, slice_index_or, is_some, All, if◌then◌else◌}
+use Rattle.std.specs.Prelude.{◌≡◌, ◌≤◌, ◌<◌, ◌^◌, ℕ, zero, suc, List, [], Option, Some, None, length, map, slice_index, slice_index_or, is_some, All}
+use Rattle.std.specs.Prelude.{if◌then◌else◌}
 use Rattle.kc_distinct.specs.Lists.{Distinct}
 use Rattle.kc_graph.specs.declared.used.UsedEdges.{UsedEdges}
 use Rattle.kc_graph.specs.declared.used.UsedPlace.{UsedPlace}

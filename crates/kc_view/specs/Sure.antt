@@ -70,9 +70,15 @@ AsksCoresNearby plan = AsksCores plan.update (answers_in plan.used)
 
 -- where the answers are those of one state, lists are asked only of the lesser end and of vertices that the new edge concerns
 abbrev pub AsksForward : Plan → Type 0
-AsksForward plan = (s : Ranked) → IsCertified s → Agrees (answers_in plan.used) s → All (λ e. (e.vertex ≡ plan.update.u) ⊎ InForward s plan.update e.vertex) plan.used.edges.items
+AsksForward plan =
+    (s : Ranked) → IsCertified s → Agrees (answers_in plan.used) s
+    → All (λ e. (e.vertex ≡ plan.update.u) ⊎ InForward s plan.update e.vertex) plan.used.edges.items
 
 -- lists are asked only of the ends and of neighbours of the vertices that fall, and no order is asked
 pub record AsksFallen (plan : Plan) : Type 0 where
-  pub edges : All (λ e. (e.vertex ≡ plan.update.u) ⊎ (e.vertex ≡ plan.update.v) ⊎ (list_any (λ x. member e.vertex (list_of (answers_in plan.used) x)) (moved_vertices plan.moves) ≡ true)) plan.used.edges.items
+  pub edges : All
+      (λ e.
+      (e.vertex ≡ plan.update.u) ⊎ (e.vertex ≡ plan.update.v)
+      ⊎ (list_any (λ x. member e.vertex (list_of (answers_in plan.used) x)) (moved_vertices plan.moves) ≡ true))
+      plan.used.edges.items
   pub orders : plan.used.orders.items ≡ []

@@ -25,7 +25,8 @@ unfolding note_of
 note_of-take n e = rw e
 
 -- as the program reads it
-pub enter_masked : (n : ℕ) → n / 2 ^ 62 ≡ 1 → Enter (eqb (bit_and (n / 2 ^ 61) 1) 1) (bit_and (n / 2 ^ 39) 4194303) (bit_and (n / 2 ^ 19) 524287) (bit_and n 524287) ≡ note_of n
+pub enter_masked : (n : ℕ) → n / 2 ^ 62 ≡ 1
+    → Enter (eqb (bit_and (n / 2 ^ 61) 1) 1) (bit_and (n / 2 ^ 39) 4194303) (bit_and (n / 2 ^ 19) 524287) (bit_and n 524287) ≡ note_of n
 enter_masked n e = rw (and_mask (n / 2 ^ 61) 1, and_mask (n / 2 ^ 39) 22, and_mask (n / 2 ^ 19) 19, and_mask n 19) (sym (note_of-enter n e))
 
 pub put_masked : (n : ℕ) → n / 2 ^ 62 ≡ 2 → Put (bit_and (n / 2 ^ 21) 2097151) (bit_and n 2097151) ≡ note_of n
@@ -60,15 +61,19 @@ unfolding note_of note_word spare_of
 take_back n e = rw e (λ w. omega arith, λ w. omega arith)
 
 -- shifts and `|` are sums of products where the fields fit
-pub shifted_enter : (k i u v : ℕ) → k < 2 ^ 3 → i < 2 ^ 22 → u < 2 ^ 19 → v < 2 ^ 19 → bit_or (bit_or (bit_or (k * 2 ^ 61 % 2 ^ 64) (i * 2 ^ 39 % 2 ^ 64)) (u * 2 ^ 19 % 2 ^ 64)) v ≡ k * 2 ^ 61 + i * 2 ^ 39 + u * 2 ^ 19 + v
+pub shifted_enter : (k i u v : ℕ) → k < 2 ^ 3 → i < 2 ^ 22 → u < 2 ^ 19 → v < 2 ^ 19
+    → bit_or (bit_or (bit_or (k * 2 ^ 61 % 2 ^ 64) (i * 2 ^ 39 % 2 ^ 64)) (u * 2 ^ 19 % 2 ^ 64)) v
+    ≡ k * 2 ^ 61 + i * 2 ^ 39 + u * 2 ^ 19 + v
 shifted_enter k i u v p q r s =
     let i-is : i * 2 ^ 39 % 2 ^ 64 ≡ i * 2 ^ 39 = shl_whole i 22 39 64 q (omega arith) in
     let u-is : u * 2 ^ 19 % 2 ^ 64 ≡ u * 2 ^ 19 = shl_whole u 19 19 64 r (omega arith) in
     let one : bit_or (k * 2 ^ 61 % 2 ^ 64) (i * 2 ^ 39) ≡ k * 2 ^ 61 + i * 2 ^ 39 = shifted_pair k 3 (i * 2 ^ 39) 61 p refl (shl_below i 22 39 q) in
     let one' : k * 2 ^ 61 + i * 2 ^ 39 ≡ (k * 2 ^ 23 + i * 2) * 2 ^ 38 = omega arith in
-    let two : bit_or ((k * 2 ^ 23 + i * 2) * 2 ^ 38) (u * 2 ^ 19) ≡ (k * 2 ^ 23 + i * 2) * 2 ^ 38 + u * 2 ^ 19 = or_shifted (k * 2 ^ 23 + i * 2) 38 (u * 2 ^ 19) (shl_below u 19 19 r) in
+    let two : bit_or ((k * 2 ^ 23 + i * 2) * 2 ^ 38) (u * 2 ^ 19) ≡ (k * 2 ^ 23 + i * 2) * 2 ^ 38 + u * 2 ^ 19 =
+    or_shifted (k * 2 ^ 23 + i * 2) 38 (u * 2 ^ 19) (shl_below u 19 19 r) in
     let two' : (k * 2 ^ 23 + i * 2) * 2 ^ 38 + u * 2 ^ 19 ≡ (k * 2 ^ 42 + i * 2 ^ 20 + u) * 2 ^ 19 = omega arith in
-    let three : bit_or ((k * 2 ^ 42 + i * 2 ^ 20 + u) * 2 ^ 19) v ≡ (k * 2 ^ 42 + i * 2 ^ 20 + u) * 2 ^ 19 + v = or_shifted (k * 2 ^ 42 + i * 2 ^ 20 + u) 19 v s in
+    let three : bit_or ((k * 2 ^ 42 + i * 2 ^ 20 + u) * 2 ^ 19) v ≡ (k * 2 ^ 42 + i * 2 ^ 20 + u) * 2 ^ 19 + v =
+    or_shifted (k * 2 ^ 42 + i * 2 ^ 20 + u) 19 v s in
     rw (i-is, u-is, one, one', two, two', three) (omega arith)
 
 pub shifted_put : (x p : ℕ) → x < 2 ^ 21 → p < 2 ^ 21 → bit_or (bit_or (2 * 2 ^ 62) (x * 2 ^ 21 % 2 ^ 64)) p ≡ 2 * 2 ^ 62 + x * 2 ^ 21 + p
@@ -91,10 +96,14 @@ unfolding note_word
 note_of-note_word Nothing f = note_of-nothing 0 refl
 note_of-note_word (Enter true i u v) f =
     let n = 2 ^ 62 + 2 ^ 61 + i * 2 ^ 39 + u * 2 ^ 19 + v in
-    note_of-enter n (omega arith) ∙ four Enter (eqb (n / 2 ^ 61 % 2) 1) true (n / 2 ^ 39 % 2 ^ 22) i (n / 2 ^ 19 % 2 ^ 19) u (n % 2 ^ 19) v (eq-eqb (n / 2 ^ 61 % 2) 1 (omega arith)) (omega arith) (omega arith) (omega arith)
+    note_of-enter n (omega arith)
+    ∙ four Enter (eqb (n / 2 ^ 61 % 2) 1) true (n / 2 ^ 39 % 2 ^ 22) i (n / 2 ^ 19 % 2 ^ 19) u (n % 2 ^ 19) v
+    (eq-eqb (n / 2 ^ 61 % 2) 1 (omega arith)) (omega arith) (omega arith) (omega arith)
 note_of-note_word (Enter false i u v) f =
     let n = 2 ^ 62 + 0 + i * 2 ^ 39 + u * 2 ^ 19 + v in
-    note_of-enter n (omega arith) ∙ four Enter (eqb (n / 2 ^ 61 % 2) 1) false (n / 2 ^ 39 % 2 ^ 22) i (n / 2 ^ 19 % 2 ^ 19) u (n % 2 ^ 19) v (ne_eqb (n / 2 ^ 61 % 2) 1 (λ e. omega arith)) (omega arith) (omega arith) (omega arith)
+    note_of-enter n (omega arith)
+    ∙ four Enter (eqb (n / 2 ^ 61 % 2) 1) false (n / 2 ^ 39 % 2 ^ 22) i (n / 2 ^ 19 % 2 ^ 19) u (n % 2 ^ 19) v
+    (ne_eqb (n / 2 ^ 61 % 2) 1 (λ e. omega arith)) (omega arith) (omega arith) (omega arith)
 note_of-note_word (Put x p) f =
     let n = 2 * 2 ^ 62 + x * 2 ^ 21 + p in
     let x-is : n / 2 ^ 21 % 2 ^ 21 ≡ x = omega arith in
@@ -121,7 +130,8 @@ kind_small : (k : ℕ) (add : Bool) → k ≡ cond add 3 2 → k < 2 ^ 3
 kind_small k true e = omega arith
 kind_small k false e = omega arith
 
-pub enter_packed : (w : NoteWord) (k : ℕ) (add : Bool) (i u v : ℕ) → IsFitting w → w ≡ Enter add i u v → k ≡ cond add 3 2 → Packed w (bit_or (bit_or (bit_or (k * 2 ^ 61 % 2 ^ 64) (i * 2 ^ 39 % 2 ^ 64)) (u * 2 ^ 19 % 2 ^ 64)) v)
+pub enter_packed : (w : NoteWord) (k : ℕ) (add : Bool) (i u v : ℕ) → IsFitting w → w ≡ Enter add i u v → k ≡ cond add 3 2
+    → Packed w (bit_or (bit_or (bit_or (k * 2 ^ 61 % 2 ^ 64) (i * 2 ^ 39 % 2 ^ 64)) (u * 2 ^ 19 % 2 ^ 64)) v)
 enter_packed w k add i u v f e kind =
     let f' : IsFitting (Enter add i u v) = subst IsFitting e f in
     packed w _ f (shifted_enter k i u v (kind_small k add kind) f'.0 f'.1 f'.2 ∙ (enter_word k add i u v kind ∙ ap note_word (sym e)))

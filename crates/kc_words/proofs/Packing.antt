@@ -13,7 +13,8 @@ use Rattle.kc_words.specs.VertexWord.{vertex_word, vertex_of}
 pub shifted_pair : (a j b k : ℕ) → a < 2 ^ j → j + k ≡ 64 → b < 2 ^ k → bit_or (a * 2 ^ k % 2 ^ 64) b ≡ a * 2 ^ k + b
 shifted_pair a j b k p e q = ap (λ n. bit_or n b) (shl_whole a j k 64 p (omega arith)) ∙ or_shifted a k b q
 
-pub shifted_three : (v g b : ℕ) → v < 2 ^ 24 → g < 2 ^ 21 → b < 2 ^ 19 → bit_or (bit_or (v * 2 ^ 40 % 2 ^ 64) (g * 2 ^ 19 % 2 ^ 64)) b ≡ v * 2 ^ 40 + g * 2 ^ 19 + b
+pub shifted_three : (v g b : ℕ) → v < 2 ^ 24 → g < 2 ^ 21 → b < 2 ^ 19
+    → bit_or (bit_or (v * 2 ^ 40 % 2 ^ 64) (g * 2 ^ 19 % 2 ^ 64)) b ≡ v * 2 ^ 40 + g * 2 ^ 19 + b
 shifted_three v g b p q r =
     let low : g * 2 ^ 19 % 2 ^ 64 ≡ g * 2 ^ 19 = shl_whole g 21 19 64 q (omega arith) in
     let high : bit_or (v * 2 ^ 40 % 2 ^ 64) (g * 2 ^ 19) ≡ v * 2 ^ 40 + g * 2 ^ 19 = shifted_pair v 24 (g * 2 ^ 19) 40 p (omega arith) (shl_below g 21 19 q) in
@@ -26,9 +27,13 @@ unfolding item_of item_word
 item_of-item_word w f =
     let joined : w.version * 2 ^ 40 + w.group * 2 ^ 19 + w.bottom ≡ (w.version * 2 ^ 21 + w.group) * 2 ^ 19 + w.bottom = omega arith in
     let joined' : w.version * 2 ^ 40 + w.group * 2 ^ 19 + w.bottom ≡ w.version * 2 ^ 40 + (w.group * 2 ^ 19 + w.bottom) = omega arith in
-    let v : (w.version * 2 ^ 40 + w.group * 2 ^ 19 + w.bottom) / 2 ^ 40 ≡ w.version = ap (λ n. n / 2 ^ 40) joined' ∙ shr_high w.version 40 (w.group * 2 ^ 19 + w.bottom) (omega (arith, f.1, f.2)) in
-    let g : (w.version * 2 ^ 40 + w.group * 2 ^ 19 + w.bottom) / 2 ^ 19 % 2 ^ 21 ≡ w.group = ap (λ n. n / 2 ^ 19 % 2 ^ 21) joined ∙ (ap (λ n. n % 2 ^ 21) (shr_high (w.version * 2 ^ 21 + w.group) 19 w.bottom f.2) ∙ mod_low w.version 21 w.group f.1) in
-    let b : (w.version * 2 ^ 40 + w.group * 2 ^ 19 + w.bottom) % 2 ^ 19 ≡ w.bottom = ap (λ n. n % 2 ^ 19) joined ∙ mod_low (w.version * 2 ^ 21 + w.group) 19 w.bottom f.2 in
+    let v : (w.version * 2 ^ 40 + w.group * 2 ^ 19 + w.bottom) / 2 ^ 40 ≡ w.version =
+    ap (λ n. n / 2 ^ 40) joined' ∙ shr_high w.version 40 (w.group * 2 ^ 19 + w.bottom) (omega (arith, f.1, f.2)) in
+    let g : (w.version * 2 ^ 40 + w.group * 2 ^ 19 + w.bottom) / 2 ^ 19 % 2 ^ 21 ≡ w.group =
+    ap (λ n. n / 2 ^ 19 % 2 ^ 21) joined
+    ∙ (ap (λ n. n % 2 ^ 21) (shr_high (w.version * 2 ^ 21 + w.group) 19 w.bottom f.2) ∙ mod_low w.version 21 w.group f.1) in
+    let b : (w.version * 2 ^ 40 + w.group * 2 ^ 19 + w.bottom) % 2 ^ 19 ≡ w.bottom =
+    ap (λ n. n % 2 ^ 19) joined ∙ mod_low (w.version * 2 ^ 21 + w.group) 19 w.bottom f.2 in
     simp (v, g, b)
 
 pub item_word-item_of : (n : ℕ) → item_word (item_of n) ≡ n

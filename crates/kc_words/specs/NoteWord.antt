@@ -24,7 +24,8 @@ kind_of n = n / 2 ^ KIND_SHIFT
 unfoldable pub note_of : ℕ → NoteWord
 note_of n =
     if kind_of n == 0 then Nothing
-    else if kind_of n == 1 then Enter (n / 2 ^ ADD_SHIFT % 2 == 1) (n / 2 ^ INDEX_SHIFT % 2 ^ INDEX_BITS) (n / 2 ^ VERTEX_BITS % 2 ^ VERTEX_BITS) (n % 2 ^ VERTEX_BITS)
+    else if kind_of n == 1 then Enter (n / 2 ^ ADD_SHIFT % 2 == 1) (n / 2 ^ INDEX_SHIFT % 2 ^ INDEX_BITS)
+    (n / 2 ^ VERTEX_BITS % 2 ^ VERTEX_BITS) (n % 2 ^ VERTEX_BITS)
     else if kind_of n == 2 then Put (n / 2 ^ ITEM_BITS % 2 ^ ITEM_BITS) (n % 2 ^ ITEM_BITS)
     else Take (n % 2 ^ ITEM_BITS)
 

@@ -7,4 +7,7 @@ pub returns : goal.returns
 returns c =
     let line : List ℕ = c.args.line.now.items in
     let place : ℕ = c.place_from_end-place.result in
-    c.in_ok-insert.ensures.items ∙ inserted-behind c.args.x c.args.w place line c.requires.once (omega (arith, c.place_from_end-place.ensures.within, ap (length {A = ℕ}) c.deref.ensures.value)) (ap (λ (t : List ℕ). get_or t place 0) (sym c.deref.ensures.value) ∙ c.place_from_end-place.ensures.there)
+    c.in_ok-insert.ensures.items
+    ∙ inserted-behind c.args.x c.args.w place line c.requires.once
+    (omega (arith, c.place_from_end-place.ensures.within, ap (length {A = ℕ}) c.deref.ensures.value))
+    (ap (λ (t : List ℕ). get_or t place 0) (sym c.deref.ensures.value) ∙ c.place_from_end-place.ensures.there)

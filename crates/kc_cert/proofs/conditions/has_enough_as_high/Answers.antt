@@ -12,7 +12,13 @@ at_least-requires c = λ k d l. omega (arith, neighbours_within c.args.graph.now
 pub returns-then-at_least-number : goal.returns-then-at_least-number
 returns-then-at_least-number c = (
   λ h. absurd (false≢true h),
-  λ enough. absurd (omega (arith, enough c.loop-v.v (omega arith), high_count c.args.graph.now c.loop-v.v c.args.core.now c.neighbours.result.now c.neighbours.ensures)),
+  λ enough.
+      absurd
+      (omega (
+        arith,
+        enough c.loop-v.v (omega arith),
+        high_count c.args.graph.now c.loop-v.v c.args.core.now c.neighbours.result.now c.neighbours.ensures,
+      )),
 )
 
 pub loop-v-preserved : goal.loop-v-preserved

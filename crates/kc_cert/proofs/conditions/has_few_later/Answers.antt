@@ -25,9 +25,12 @@ returns-then-unmarked-core c = (
       let order : List ℕ = c.args.order.now in
       let i : ℕ = c.loop-v.v-index in
       let v : ℕ = get_or order i 0 in
-      let marked = marked_more g.size i order c.loop-v.passed.items c.loop-v.invariant.0 c.loop-v-test.true (c.requires.enumerates.below i 0 c.loop-v-test.true) in
+      let marked =
+      marked_more g.size i order c.loop-v.passed.items c.loop-v.invariant.0 c.loop-v-test.true
+      (c.requires.enumerates.below i 0 c.loop-v-test.true) in
       let count : c.unmarked.result ≡ degree_among g (drop (i + 1) order) v =
-      counted g v (i + 1) c.unmarked.result order c.neighbours.result.now (set c.loop-v.passed.items v true) c.deref.result.now c.requires.enumerates c.neighbours.ensures marked c.deref.ensures.value c.unmarked.ensures in
+      counted g v (i + 1) c.unmarked.result order c.neighbours.result.now (set c.loop-v.passed.items v true) c.deref.result.now
+      c.requires.enumerates c.neighbours.ensures marked c.deref.ensures.value c.unmarked.ensures in
       absurd (omega (arith, count, few i c.loop-v-test.true)),
 )
 
@@ -38,9 +41,12 @@ loop-v-preserved c =
     let core : List ℕ = c.args.core.now in
     let i : ℕ = c.loop-v.v-index in
     let v : ℕ = get_or order i 0 in
-    let marked = marked_more g.size i order c.loop-v.passed.items c.loop-v.invariant.0 c.loop-v-test.true (c.requires.enumerates.below i 0 c.loop-v-test.true) in
+    let marked =
+    marked_more g.size i order c.loop-v.passed.items c.loop-v.invariant.0 c.loop-v-test.true
+    (c.requires.enumerates.below i 0 c.loop-v-test.true) in
     let count : c.unmarked.result ≡ degree_among g (drop (i + 1) order) v =
-    counted g v (i + 1) c.unmarked.result order c.neighbours.result.now (set c.loop-v.passed.items v true) c.deref.result.now c.requires.enumerates c.neighbours.ensures marked c.deref.ensures.value c.unmarked.ensures in
+    counted g v (i + 1) c.unmarked.result order c.neighbours.result.now (set c.loop-v.passed.items v true) c.deref.result.now
+    c.requires.enumerates c.neighbours.ensures marked c.deref.ensures.value c.unmarked.ensures in
     let here : degree_among g (drop (i + 1) order) v ≤ get_or core v 0 = omega (arith, count) in (
       marked,
       λ k l. elim (cases_eq k i) [

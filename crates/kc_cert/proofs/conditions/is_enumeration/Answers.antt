@@ -17,7 +17,9 @@ returns-then-v-n c = (
     | then-v-n-via-else-v-n+then-index w ↦
         let v : ℕ = get_or c.args.order.now c.loop-v.v-index 0 in
         let lv : v < c.args.n = w.if-v-n.false in
-        let again : get_or c.loop-v.seen.items v false ≡ true = any_mark c.loop-v.seen.items v false w.index.result.now (omega (arith, c.loop-v.invariant.marked.one_each)) ∙ sym w.index.ensures ∙ w.if-index.true in
+        let again : get_or c.loop-v.seen.items v false ≡ true =
+        any_mark c.loop-v.seen.items v false w.index.result.now (omega (arith, c.loop-v.invariant.marked.one_each))
+        ∙ sym w.index.ensures ∙ w.if-index.true in
         absurd (seen_twice c.args.n c.loop-v.v-index c.args.order.now c.loop-v.seen.items c.loop-v.invariant c.loop-v-test.true lv again e)
   ],
 )
@@ -26,8 +28,15 @@ pub loop-v-preserved : goal.loop-v-preserved
 loop-v-preserved c =
     let v : ℕ = get_or c.args.order.now c.loop-v.v-index 0 in
     let lv : v < c.args.n = c.if-v-n.false in
-    let new' : get_or c.loop-v.seen.items v false ≡ false = any_mark c.loop-v.seen.items v false c.index.result.now (omega (arith, c.loop-v.invariant.marked.one_each)) ∙ sym c.index.ensures ∙ c.if-index.false in
+    let new' : get_or c.loop-v.seen.items v false ≡ false =
+    any_mark c.loop-v.seen.items v false c.index.result.now (omega (arith, c.loop-v.invariant.marked.one_each)) ∙ sym c.index.ensures
+    ∙ c.if-index.false in
     seen_more c.args.n c.loop-v.v-index c.args.order.now c.loop-v.seen.items c.loop-v.invariant c.loop-v-test.true lv new'
 
 pub returns : goal.returns
-returns c = (λ _. seen_all c.args.n c.args.order.now c.loop-v.seen.items (subst (λ (i : ℕ). SeenTo c.args.n i c.args.order.now c.loop-v.seen.items) (omega arith) c.loop-v.invariant) c.if-order-n.false, λ _. refl)
+returns c = (
+  λ _.
+      seen_all c.args.n c.args.order.now c.loop-v.seen.items
+      (subst (λ (i : ℕ). SeenTo c.args.n i c.args.order.now c.loop-v.seen.items) (omega arith) c.loop-v.invariant) c.if-order-n.false,
+  λ _. refl,
+)

@@ -14,4 +14,9 @@ pub loop-v-preserved : goal.loop-v-preserved
 loop-v-preserved c = risen_more c.args.core.now c.args.order.now c.loop-v.v-index c.loop-v.last c.loop-v.invariant c.if-number-last.false
 
 pub returns : goal.returns
-returns c = (λ _. risen_all c.args.core.now c.args.order.now c.loop-v.last (subst (λ (i : ℕ). RisenTo c.args.core.now c.args.order.now i c.loop-v.last) (omega arith) c.loop-v.invariant), λ _. refl)
+returns c = (
+  λ _.
+      risen_all c.args.core.now c.args.order.now c.loop-v.last
+      (subst (λ (i : ℕ). RisenTo c.args.core.now c.args.order.now i c.loop-v.last) (omega arith) c.loop-v.invariant),
+  λ _. refl,
+)

@@ -16,7 +16,8 @@ returns-then-not-of_level g c = (
       let turn : ℕ = c.loop-turn.turn in
       let right : IsPutRight s c.args.level rise shifts turn = put_right-at s c.args.level rise shifts turn c.loop-turn-test.true h in
       let at = c.get.ensures ∙ c.requires.places.each (get_or shifts turn (0, 0)).1 in
-      let stays : StaysFrom (length rise) turn c.get.result = subst (StaysFrom (length rise) turn) (sym at) (put_right-from s c.args.level rise shifts turn right) in
+      let stays : StaysFrom (length rise) turn c.get.result =
+      subst (StaysFrom (length rise) turn) (sym at) (put_right-from s c.args.level rise shifts turn right) in
       elim c.then-not-of_level.branch [
         | then-not-of_level-via-then-not-of_level w ↦ absurd (true≢false (sym (c.is_of_level-of_level.ensures.1 right.of_level) ∙ w.if-not-of_level.true))
         | then-not-of_level-via-else-not-of_level+then-not-stays w ↦ absurd (true≢false (sym (c.stays_from-stays.ensures.1 stays) ∙ w.if-not-stays.true))
@@ -32,7 +33,8 @@ loop-turn-preserved g c = λ k l. elim (cases_eq k c.loop-turn.turn) [
       let turn : ℕ = c.loop-turn.turn in
       let at = c.get.ensures ∙ c.requires.places.each (get_or shifts turn (0, 0)).1 in
       subst (IsPutRight s c.args.level rise shifts) (sym e)
-      (put_right-to s c.args.level rise shifts turn c.requires.once (c.is_of_level-of_level.ensures.0 c.if-not-of_level.false) (subst (StaysFrom (length rise) turn) at (c.stays_from-stays.ensures.0 c.if-not-stays.false)))
+      (put_right-to s c.args.level rise shifts turn c.requires.once (c.is_of_level-of_level.ensures.0 c.if-not-of_level.false)
+      (subst (StaysFrom (length rise) turn) at (c.stays_from-stays.ensures.0 c.if-not-stays.false)))
   | inr ne ↦ c.loop-turn.invariant k (omega arith)
 ]
 

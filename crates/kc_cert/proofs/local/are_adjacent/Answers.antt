@@ -14,7 +14,9 @@ pub returns-then-neighbour-v : goal.returns-then-neighbour-v
 returns-then-neighbour-v g c =
     let s : Ranked = g.S.State.state c.args.state.now in
     let ws : List ℕ = neighbours_of s.graph c.args.u in
-    let there : member c.args.v ws ≡ true = ap (λ k. member k ws) (sym c.if-neighbour-v.true ∙ c.neighbour.ensures) ∙ member-get_or ws c.loop-i.i 0 (omega (arith, c.loop-i-test.true, c.degree-i-end.ensures)) in
+    let there : member c.args.v ws ≡ true =
+    ap (λ k. member k ws) (sym c.if-neighbour-v.true ∙ c.neighbour.ensures)
+    ∙ member-get_or ws c.loop-i.i 0 (omega (arith, c.loop-i-test.true, c.degree-i-end.ensures)) in
     sym (neighbours_within s.graph c.args.u c.args.v there).1
 
 pub returns : goal.returns

@@ -9,12 +9,19 @@ use Rattle.kc_cert.proofs.Looking.{each_member}
 use Rattle.kc_cert.proofs.local.holds_locally.Goals as goal
 
 pub look_around-requires-clause-vertex : goal.look_around-requires-clause-vertex
-look_around-requires-clause-vertex g c = c.requires.vertices (get_or c.args.moved.now c.loop-x.x-index 0) (member-get_or c.args.moved.now c.loop-x.x-index 0 c.loop-x-test.true)
+look_around-requires-clause-vertex g c =
+    c.requires.vertices (get_or c.args.moved.now c.loop-x.x-index 0) (member-get_or c.args.moved.now c.loop-x.x-index 0 c.loop-x-test.true)
 
 pub returns-then-not-branch-3 : goal.returns-then-not-branch-3
 returns-then-not-branch-3 g c = (
   λ f. absurd (false≢true f),
-  λ h. absurd (true≢false (sym (c.in_ok-look_around.ensures.holds.1 (h.around (get_or c.args.moved.now c.loop-x.x-index 0) (member-get_or c.args.moved.now c.loop-x.x-index 0 c.loop-x-test.true))) ∙ c.if-not-branch-3.true)),
+  λ h.
+      absurd
+      (true≢false
+      (sym
+      (c.in_ok-look_around.ensures.holds.1
+      (h.around (get_or c.args.moved.now c.loop-x.x-index 0) (member-get_or c.args.moved.now c.loop-x.x-index 0 c.loop-x-test.true)))
+      ∙ c.if-not-branch-3.true)),
 )
 
 pub loop-x-preserved : goal.loop-x-preserved
@@ -24,7 +31,9 @@ loop-x-preserved g c =
     record {
       seen = c.in_ok-look_around.ensures.seen;
       around = λ k l. elim (cases_eq k c.loop-x.x-index) [
-        | inl e ↦ subst (λ (x : ℕ). HoldsAround s.graph t x) (ap (λ j. get_or c.args.moved.now j 0) (sym e)) (c.in_ok-look_around.ensures.holds.0 c.if-not-branch-3.false)
+        | inl e ↦
+            subst (λ (x : ℕ). HoldsAround s.graph t x) (ap (λ j. get_or c.args.moved.now j 0) (sym e))
+            (c.in_ok-look_around.ensures.holds.0 c.if-not-branch-3.false)
         | inr ne ↦ c.loop-x.invariant.around k (omega arith)
       ];
     }

@@ -22,7 +22,9 @@ loop-i-preserved g c =
     record {
       seen = c.in_ok-look-2.ensures.seen;
       beside = λ k l. elim (cases_eq k c.loop-i.i) [
-        | inl e ↦ subst (λ (y : ℕ). HoldsAt t y) (c.neighbour-y.ensures ∙ ap (λ j. get_or ws j 0) (sym e)) (c.in_ok-look-2.ensures.holds.0 c.if-not-branch-2.false)
+        | inl e ↦
+            subst (λ (y : ℕ). HoldsAt t y) (c.neighbour-y.ensures ∙ ap (λ j. get_or ws j 0) (sym e))
+            (c.in_ok-look-2.ensures.holds.0 c.if-not-branch-2.false)
         | inr ne ↦ c.loop-i.invariant.beside k (omega arith)
       ];
     }

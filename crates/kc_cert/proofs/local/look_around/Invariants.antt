@@ -10,5 +10,7 @@ use Rattle.kc_cert.proofs.local.look_around.Given as goal
 abbrev pub invariant-loop-i : goal.invariant-loop-i
 invariant-loop-i g l = record {
   seen : HoldWhereSeen (contains nat_eq l.seen) (changed_by l.update l.arrangement.moves.now (g.S.State.state l.state));
-  beside : (k : ℕ) → k < l.i → HoldsAt (changed_by l.update l.arrangement.moves.now (g.S.State.state l.state)) (get_or (neighbours_of (g.S.State.state l.state).graph l.x) k 0);
+  beside : (k : ℕ) → k < l.i
+      → HoldsAt (changed_by l.update l.arrangement.moves.now (g.S.State.state l.state))
+      (get_or (neighbours_of (g.S.State.state l.state).graph l.x) k 0);
 }

@@ -10,9 +10,14 @@ returns-then-tally-number g c =
     let s : Ranked = g.S.State.state c.args.state.now in
     let moves = c.args.arrangement.now.moves.now in
     let k = counted s c.args.update moves c.args.z c.requires.certified c.requires.fit c.requires.vertex in (
-      λ t. holds_from_counts s c.args.update moves c.args.z c.core-number.result c.tally_of-tally.result.later c.tally_of-tally.result.high k c.core-number.ensures c.tally_of-tally.ensures.later c.tally_of-tally.ensures.high c.if-tally-number.true
+      λ t.
+          holds_from_counts s c.args.update moves c.args.z c.core-number.result c.tally_of-tally.result.later c.tally_of-tally.result.high k
+          c.core-number.ensures c.tally_of-tally.ensures.later c.tally_of-tally.ensures.high c.if-tally-number.true
           (leb-true c.core-number.result c.tally_of-tally.result.high t),
-      λ h. le-leb c.core-number.result c.tally_of-tally.result.high (high_counted s c.args.update moves c.args.z c.core-number.result c.tally_of-tally.result.high k c.core-number.ensures c.tally_of-tally.ensures.high h),
+      λ h.
+          le-leb c.core-number.result c.tally_of-tally.result.high
+          (high_counted s c.args.update moves c.args.z c.core-number.result c.tally_of-tally.result.high k c.core-number.ensures
+          c.tally_of-tally.ensures.high h),
     )
 
 pub returns-else-tally-number : goal.returns-else-tally-number
@@ -21,5 +26,8 @@ returns-else-tally-number g c =
     let moves = c.args.arrangement.now.moves.now in
     let k = counted s c.args.update moves c.args.z c.requires.certified c.requires.fit c.requires.vertex in (
       λ t. absurd (omega (arith, c.if-tally-number.false, leb-true c.tally_of-tally.result.later c.core-number.result t)),
-      λ h. le-leb c.tally_of-tally.result.later c.core-number.result (few_later_counted s c.args.update moves c.args.z c.core-number.result c.tally_of-tally.result.later k c.core-number.ensures c.tally_of-tally.ensures.later h),
+      λ h.
+          le-leb c.tally_of-tally.result.later c.core-number.result
+          (few_later_counted s c.args.update moves c.args.z c.core-number.result c.tally_of-tally.result.later k c.core-number.ensures
+          c.tally_of-tally.ensures.later h),
     )

@@ -8,6 +8,10 @@ use Rattle.kc_cert.proofs.tally.tally_kept.Given as goal
 
 abbrev pub invariant-loop-i : goal.invariant-loop-i
 invariant-loop-i g l = record {
-  later : l.tally.later ≡ count_by (λ y. keeps l.update l.z.vertex y && stands_after l.arrangement.moves.now (g.S.State.state l.state) l.z.vertex y) (take l.i (neighbours_of (g.S.State.state l.state).graph l.z.vertex));
-  high : l.tally.high ≡ count_by (λ y. keeps l.update l.z.vertex y && nat_le l.z.number (get_or (moved_by l.arrangement.moves.now (g.S.State.state l.state)).core y 0)) (take l.i (neighbours_of (g.S.State.state l.state).graph l.z.vertex));
+  later : l.tally.later ≡ count_by
+      (λ y. keeps l.update l.z.vertex y && stands_after l.arrangement.moves.now (g.S.State.state l.state) l.z.vertex y)
+      (take l.i (neighbours_of (g.S.State.state l.state).graph l.z.vertex));
+  high : l.tally.high ≡ count_by
+      (λ y. keeps l.update l.z.vertex y && nat_le l.z.number (get_or (moved_by l.arrangement.moves.now (g.S.State.state l.state)).core y 0))
+      (take l.i (neighbours_of (g.S.State.state l.state).graph l.z.vertex));
 }

@@ -10,7 +10,9 @@ pub overflow_cast-place : goal.overflow_cast-place
 overflow_cast-place c = omega (arith, length-enumerates c.args.n c.args.order.now c.requires)
 
 pub loop-place-preserved : goal.loop-place-preserved
-loop-place-preserved c = placed_more c.args.n c.loop-place.place c.args.order.now c.loop-place.places.items c.requires c.loop-place-test.true c.loop-place.invariant
+loop-place-preserved c =
+    placed_more c.args.n c.loop-place.place c.args.order.now c.loop-place.places.items c.requires c.loop-place-test.true
+    c.loop-place.invariant
 
 pub returns : goal.returns
 returns c = placed_all c.args.n c.args.order.now c.loop-place.places.items c.requires

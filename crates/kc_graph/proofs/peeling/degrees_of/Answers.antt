@@ -8,7 +8,12 @@ use Rattle.kc_graph.proofs.PeelingLemmas.{degree_is, remaining-lt}
 use Rattle.kc_graph.proofs.peeling.degrees_of.Goals as goal
 
 pub overflow_cast-neighbours : goal.overflow_cast-neighbours
-overflow_cast-neighbours c = omega (arith, degree_is c.args.graph.now c.loop-v.v c.neighbours.result.now c.neighbours.ensures, remaining-lt c.args.graph.now [] c.loop-v.v (omega arith))
+overflow_cast-neighbours c =
+    omega (
+      arith,
+      degree_is c.args.graph.now c.loop-v.v c.neighbours.result.now c.neighbours.ensures,
+      remaining-lt c.args.graph.now [] c.loop-v.v (omega arith),
+    )
 
 pub loop-v-preserved : goal.loop-v-preserved
 loop-v-preserved c =
@@ -18,7 +23,11 @@ loop-v-preserved c =
     let d = degree_is c.args.graph.now c.loop-v.v c.neighbours.result.now c.neighbours.ensures in (
       omega (arith, c.in_ok-push.ensures.len, n),
       λ u l. elim (cases_eq u c.loop-v.v) [
-        | inl k ↦ ap (λ (xs : List ℕ). at xs u) e ∙ ap (at (old ++ length c.neighbours.result.now ∷ [])) (k ∙ sym n) ∙ get_or-append_seam old (length c.neighbours.result.now) [] 0 ∙ d ∙ ap (remaining c.args.graph.now []) (sym k)
-        | inr ne ↦ ap (λ (xs : List ℕ). at xs u) e ∙ get_or_append_left old (length c.neighbours.result.now ∷ []) 0 u (omega arith) ∙ c.loop-v.invariant.1 u (omega arith)
+        | inl k ↦
+            ap (λ (xs : List ℕ). at xs u) e ∙ ap (at (old ++ length c.neighbours.result.now ∷ [])) (k ∙ sym n)
+            ∙ get_or-append_seam old (length c.neighbours.result.now) [] 0 ∙ d ∙ ap (remaining c.args.graph.now []) (sym k)
+        | inr ne ↦
+            ap (λ (xs : List ℕ). at xs u) e ∙ get_or_append_left old (length c.neighbours.result.now ∷ []) 0 u (omega arith)
+            ∙ c.loop-v.invariant.1 u (omega arith)
       ],
     )

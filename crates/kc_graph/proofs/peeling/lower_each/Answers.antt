@@ -9,7 +9,12 @@ use Rattle.kc_graph.proofs.peeling.lower_each.Goals as goal
 use Rattle.kc_graph.proofs.peeling.lower_each.Goals.{then-core-w+in_ok-lower, else-core-w}
 
 pub bounds-core-w : goal.bounds-core-w
-bounds-core-w c = omega (arith, c.requires.within (get_or c.args.neighbours.now c.loop-w.w-index 0) (member-get_or c.args.neighbours.now c.loop-w.w-index 0 c.loop-w-test.true))
+bounds-core-w c =
+    omega (
+      arith,
+      c.requires.within (get_or c.args.neighbours.now c.loop-w.w-index 0)
+          (member-get_or c.args.neighbours.now c.loop-w.w-index 0 c.loop-w-test.true),
+    )
 
 pub lower-requires-clause-left_in : goal.lower-requires-clause-left_in
 lower-requires-clause-left_in c =
@@ -30,7 +35,8 @@ loop-w-preserved c =
     (elim c.if-core-w.branch [
       | then-core-w+in_ok-lower k ↦
           rw (k.core-is, k.buckets-is, k.in_ok-lower.ensures.core, k.in_ok-lower.ensures.buckets)
-          (lowered_step _ w _ _ _ _ _ c.loop-w.invariant same k.if-core-w.true (take-not_here c.loop-w.w-index c.args.neighbours.now c.loop-w-test.true c.requires.distinct)
+          (lowered_step _ w _ _ _ _ _ c.loop-w.invariant same k.if-core-w.true
+          (take-not_here c.loop-w.w-index c.args.neighbours.now c.loop-w-test.true c.requires.distinct)
           (omega (arith, c.requires.within w m, c.loop-w.invariant.one_each))
           (omega (arith, same, length-lists c.args.buckets.now, c.loop-w.invariant.one_bucket, c.requires.room w m (omega (arith, same, k.if-core-w.true)))))
       | else-core-w k ↦ rw (k.core-is, k.buckets-is) (lowered_skip _ w _ _ _ _ _ c.loop-w.invariant same k.if-core-w.false)

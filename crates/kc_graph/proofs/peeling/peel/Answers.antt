@@ -12,5 +12,7 @@ levels_of-levels-requires c = rw c.deref.ensures.value (λ v l.
     omega (arith, c.in_ok-core.ensures.each v v-in, remaining-lt c.args.graph.now [] v v-in, c.vertices.ensures))
 
 pub returns : goal.returns
-returns c = all_taken c.args.graph.now c.loop-level.level c.loop-level.core.items c.loop-level.order.items (lists c.loop-level.buckets.items) c.loop-level.invariant.1
+returns c =
+    all_taken c.args.graph.now c.loop-level.level c.loop-level.core.items c.loop-level.order.items (lists c.loop-level.buckets.items)
+    c.loop-level.invariant.1
     (omega (arith, length-lists c.loop-level.buckets.items, c.loop-level.invariant.0))

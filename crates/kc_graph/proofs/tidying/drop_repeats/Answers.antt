@@ -2,7 +2,8 @@
 use Rattle.std.proofs.Common.{◌≡◌, ◌<◌, ◌+◌, ◌-◌, ℕ, List, length, get_or, set, sym, subst, arith}
 use Rattle.kc_graph.proofs.Repeats.{Dropped, keep_one, pass_one}
 use Rattle.kc_graph.proofs.tidying.drop_repeats.Goals as goal
-use Rattle.kc_graph.proofs.tidying.drop_repeats.Goals.{then-kept-eq0, then-kept-eq0-via-then-kept-eq0, then-kept-eq0-via-else-kept-eq0+then-part-kept, else-kept-eq0+else-part-kept}
+use Rattle.kc_graph.proofs.tidying.drop_repeats.Goals.{then-kept-eq0, then-kept-eq0-via-then-kept-eq0, then-kept-eq0-via-else-kept-eq0+then-part-kept}
+use Rattle.kc_graph.proofs.tidying.drop_repeats.Goals.{else-kept-eq0+else-part-kept}
 
 pub loop-i-preserved : goal.loop-i-preserved
 loop-i-preserved c =

@@ -12,7 +12,8 @@ use Rattle.kc_graph.specs.declared.row.Row.TheVariants.{Part}
 use Rattle.kc_graph.specs.Rows.{row}
 use Rattle.kc_graph.specs.Blocks.{LieFrom, entries_of_each, first_of}
 use Rattle.kc_graph.proofs.Buckets.{row_past}
-use Rattle.kc_graph.proofs.Lying.{length-put_mid, length-entries, row-push_at, row-push_below, tidied-lie, tidied-entries, entries-front, lie-front, drop-later, first_is}
+use Rattle.kc_graph.proofs.Lying.{length-put_mid, length-entries, row-push_at, row-push_below, tidied-lie, tidied-entries, entries-front, lie-front}
+use Rattle.kc_graph.proofs.Lying.{drop-later, first_is}
 use Rattle.kc_graph.proofs.tidying.rows_in.Goals as goal
 
 pub loop-end-preserved : goal.loop-end-preserved

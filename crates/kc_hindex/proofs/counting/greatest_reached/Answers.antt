@@ -16,7 +16,8 @@ pub overflow_add-reached : goal.overflow_add-reached
 overflow_add-reached c =
     let f : ℕ → ℕ = λ w. get_or c.args.numbers.now w 0 in
     let k : ℕ = c.loop-reached.number - 1 in
-    let here : get_or c.args.counts.now k 0 ≡ count_by (λ w. eqb (min (f w) c.args.limit) k) c.args.vertices.now = c.requires.counts k (omega (arith, c.loop-reached.invariant.0)) in
+    let here : get_or c.args.counts.now k 0 ≡ count_by (λ w. eqb (min (f w) c.args.limit) k) c.args.vertices.now =
+    c.requires.counts k (omega (arith, c.loop-reached.invariant.0)) in
     omega (
       arith,
       here,
@@ -32,17 +33,25 @@ loop-reached-preserved c =
     let f : ℕ → ℕ = λ w. get_or c.args.numbers.now w 0 in
     let n : ℕ = c.loop-reached.number in
     let k : ℕ = n - 1 in
-    let here : get_or c.args.counts.now k 0 ≡ count_by (λ w. eqb (min (f w) c.args.limit) k) c.args.vertices.now = c.requires.counts k (omega (arith, c.loop-reached.invariant.0)) in
+    let here : get_or c.args.counts.now k 0 ≡ count_by (λ w. eqb (min (f w) c.args.limit) k) c.args.vertices.now =
+    c.requires.counts k (omega (arith, c.loop-reached.invariant.0)) in
     let few : count_by (λ w. leb n (f w)) c.args.vertices.now < n = omega (arith, c.loop-reached.invariant.1, c.loop-reached-test.true) in
     let less : h_index (map f c.args.vertices.now) < n = out_of_reach f c.args.vertices.now n few in
     let step = reach-from f k n c.args.vertices.now (omega (arith, c.loop-reached-test.true)) in (
       omega (arith, c.loop-reached.invariant.0),
-      omega (arith, here, bounded-below f c.args.limit k c.args.vertices.now (omega (arith, c.loop-reached.invariant.0, c.loop-reached-test.true)), step, c.loop-reached.invariant.1),
+      omega (
+        arith,
+        here,
+        bounded-below f c.args.limit k c.args.vertices.now (omega (arith, c.loop-reached.invariant.0, c.loop-reached-test.true)),
+        step,
+        c.loop-reached.invariant.1,
+      ),
       omega (arith, less),
     )
 
 pub returns : goal.returns
 returns c =
     let f : ℕ → ℕ = λ w. get_or c.args.numbers.now w 0 in
-    let up : c.loop-reached.number ≤ h_index (map f c.args.vertices.now) = in_reach f c.args.vertices.now c.loop-reached.number (omega (arith, c.loop-reached.invariant.1, c.loop-reached-test.false)) in
+    let up : c.loop-reached.number ≤ h_index (map f c.args.vertices.now) =
+    in_reach f c.args.vertices.now c.loop-reached.number (omega (arith, c.loop-reached.invariant.1, c.loop-reached-test.false)) in
     omega (arith, up, c.loop-reached.invariant.2)

@@ -18,7 +18,11 @@ loop-v-preserved c =
     let d = row_degree c.args.graph.now c.loop-v.v c.neighbours.result.now c.neighbours.ensures in (
       omega (arith, c.in_ok-push.ensures.len, n),
       λ u l. elim (cases_eq u c.loop-v.v) [
-        | inl k ↦ ap (λ (xs : List ℕ). get_or xs u 0) e ∙ ap (λ (x : ℕ). get_or (old ++ length c.neighbours.result.now ∷ []) x 0) (k ∙ sym n) ∙ get_or-append_seam old (length c.neighbours.result.now) [] 0 ∙ d ∙ ap (after_rounds c.args.graph.now 0) (sym k)
-        | inr ne ↦ ap (λ (xs : List ℕ). get_or xs u 0) e ∙ get_or_append_left old (length c.neighbours.result.now ∷ []) 0 u (omega arith) ∙ c.loop-v.invariant.1 u (omega arith)
+        | inl k ↦
+            ap (λ (xs : List ℕ). get_or xs u 0) e ∙ ap (λ (x : ℕ). get_or (old ++ length c.neighbours.result.now ∷ []) x 0) (k ∙ sym n)
+            ∙ get_or-append_seam old (length c.neighbours.result.now) [] 0 ∙ d ∙ ap (after_rounds c.args.graph.now 0) (sym k)
+        | inr ne ↦
+            ap (λ (xs : List ℕ). get_or xs u 0) e ∙ get_or_append_left old (length c.neighbours.result.now ∷ []) 0 u (omega arith)
+            ∙ c.loop-v.invariant.1 u (omega arith)
       ],
     )

@@ -7,4 +7,6 @@ pub returns-clause-some : goal.returns-clause-some
 returns-clause-some c = some_popped c.args.rows.now c.args.b c.index-rows-b.result c.pop.new.self c.pop.result (omega arith) c.pop.ensures.items
 
 pub returns-clause-none : goal.returns-clause-none
-returns-clause-none c = none_popped c.args.rows.now c.args.b c.index-rows-b.result c.pop.new.self c.pop.result (omega arith) c.pop.ensures.items c.pop.ensures.cases
+returns-clause-none c =
+    none_popped c.args.rows.now c.args.b c.index-rows-b.result c.pop.new.self c.pop.result (omega arith) c.pop.ensures.items
+    c.pop.ensures.cases

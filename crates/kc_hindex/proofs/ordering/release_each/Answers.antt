@@ -30,7 +30,12 @@ loop-w-preserved c =
     let new' = take-not_here c.loop-w.w-index c.args.neighbours.now c.loop-w-test.true c.requires.distinct in
     let within : w < length c.loop-w.left = omega (arith, c.requires.within w m, c.loop-w.invariant.one_each) in
     let room : at c.args.core.now w < length (lists c.loop-w.waiting) =
-    omega (arith, c.requires.levels w (omega (arith, c.requires.within w m, c.requires.one_each)), length-lists c.args.waiting.now, c.loop-w.invariant.one_row) in
+    omega (
+      arith,
+      c.requires.levels w (omega (arith, c.requires.within w m, c.requires.one_each)),
+      length-lists c.args.waiting.now,
+      c.loop-w.invariant.one_row,
+    ) in
     released_next _ _ _ _ _ c.args.neighbours.now c.loop-w.w-index c.loop-w-test.true
     (elim c.if-left-w.branch [
       | then-left-w+in_ok-release k ↦ elim (cases_eq (at c.loop-w.left w) (at c.args.core.now w + 1)) [

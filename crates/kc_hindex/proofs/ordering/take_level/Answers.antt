@@ -26,10 +26,17 @@ loop-v-preserved c =
     let rows : List (List ℕ) = lists c.pop_from.new.rows in
     let n = popped_next c.args.graph.now c.args.core.now c.args.level c.in-Some.v c.loop-v.left c.loop-v.order.items (lists c.loop-v.waiting) rows
     c.loop-v.invariant.0 c.in-Some.ensures.some (omega (arith, c.requires.level_in, length-lists c.loop-v.waiting, c.loop-v.invariant.1)) in (
-      subst (λ (l : ℕ). Orders c.args.graph.now c.args.core.now l c.take_vertex.new.left c.take_vertex.new.order.items (lists c.take_vertex.new.waiting)) n.here c.in_ok-take_vertex.ensures.orders,
+      subst
+          (λ (l : ℕ).
+          Orders c.args.graph.now c.args.core.now l c.take_vertex.new.left c.take_vertex.new.order.items (lists c.take_vertex.new.waiting))
+          n.here c.in_ok-take_vertex.ensures.orders,
       omega (arith, c.in_ok-take_vertex.ensures.one_row, c.loop-v.invariant.1),
     )
 
 pub returns-clause-orders : goal.returns-clause-orders
-returns-clause-orders c = next_level c.args.graph.now c.args.core.now c.args.level c.loop-v.left c.loop-v.order.items (lists c.pop_from.new.rows) c.requires.numbers
-    (subst (Orders c.args.graph.now c.args.core.now c.args.level c.loop-v.left c.loop-v.order.items) (sym c.in_default.ensures.none.0) c.loop-v.invariant.0) c.in_default.ensures.none.1
+returns-clause-orders c =
+    next_level c.args.graph.now c.args.core.now c.args.level c.loop-v.left c.loop-v.order.items (lists c.pop_from.new.rows)
+    c.requires.numbers
+    (subst (Orders c.args.graph.now c.args.core.now c.args.level c.loop-v.left c.loop-v.order.items) (sym c.in_default.ensures.none.0)
+    c.loop-v.invariant.0)
+    c.in_default.ensures.none.1

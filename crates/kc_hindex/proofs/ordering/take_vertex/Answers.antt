@@ -12,5 +12,6 @@ release_each-requires-clause-distinct c = neighbours-distinct c.args.graph.now c
 pub returns-clause-orders : goal.returns-clause-orders
 returns-clause-orders c = on_ok_weaker c.release_each.result
     (λ h. rw c.in_ok-push.ensures.items
-    (took c.args.graph.now c.args.core.now (at c.args.core.now c.args.v) c.args.v c.args.left.now c.args.order.now.items (lists c.args.waiting.now) c.requires.next _ _ _ c.neighbours.ensures h))
+    (took c.args.graph.now c.args.core.now (at c.args.core.now c.args.v) c.args.v c.args.left.now c.args.order.now.items
+    (lists c.args.waiting.now) c.requires.next _ _ _ c.neighbours.ensures h))
     c.release_each.ensures

@@ -4,10 +4,14 @@ use Rattle.kc_hindex.proofs.Rows.{row_within, row_few, row_round}
 use Rattle.kc_hindex.proofs.rounds.number_after.Goals as goal
 
 pub h_index_of-requires-clause-within : goal.h_index_of-requires-clause-within
-h_index_of-requires-clause-within c = λ k d l. omega (arith, row_within c.args.graph.now c.args.v c.neighbours.result.now c.neighbours.ensures k d l, c.requires.ready.one_each)
+h_index_of-requires-clause-within c =
+    λ k d l.
+    omega (arith, row_within c.args.graph.now c.args.v c.neighbours.result.now c.neighbours.ensures k d l, c.requires.ready.one_each)
 
 pub h_index_of-requires-clause-few : goal.h_index_of-requires-clause-few
-h_index_of-requires-clause-few c = omega (arith, row_few c.args.graph.now c.args.v c.neighbours.result.now c.requires.within c.neighbours.ensures, c.vertices-vertices.ensures)
+h_index_of-requires-clause-few c =
+    omega
+    (arith, row_few c.args.graph.now c.args.v c.neighbours.result.now c.requires.within c.neighbours.ensures, c.vertices-vertices.ensures)
 
 pub h_index_of-requires-clause-most : goal.h_index_of-requires-clause-most
 h_index_of-requires-clause-most c =
@@ -18,4 +22,6 @@ h_index_of-requires-clause-most c =
     )
 
 pub returns-clause-number : goal.returns-clause-number
-returns-clause-number c = c.h_index_of.ensures ∙ row_round c.args.graph.now (λ w. get_or c.args.numbers.now w 0) c.args.v c.neighbours.result.now c.neighbours.ensures
+returns-clause-number c =
+    c.h_index_of.ensures
+    ∙ row_round c.args.graph.now (λ w. get_or c.args.numbers.now w 0) c.args.v c.neighbours.result.now c.neighbours.ensures

@@ -1,5 +1,6 @@
 -- The next neighbour counts if it is higher than `w` or behind it on the level, and is listed, for the first time, if it is behind.
-use Rattle.std.proofs.Common.{◌≡◌, ◌≤◌, ◌<◌, ◌+◌, ◌||◌, ◌&&◌, ℕ, Bool, false, cond, List, [], ◌∷◌, ◌++◌, length, take, get_or, eqb, refl, sym, ◌∙◌, ap, inl, inr, arith, true≢false, eqb-true, eq-eqb}
+use Rattle.std.proofs.Common.{◌≡◌, ◌≤◌, ◌<◌, ◌+◌, ◌||◌, ◌&&◌, ℕ, Bool, false, cond, List, [], ◌∷◌, ◌++◌, length, take, get_or, eqb, refl, sym, ◌∙◌}
+use Rattle.std.proofs.Common.{ap, inl, inr, arith, true≢false, eqb-true, eq-eqb}
 use Rattle.std.specs.Prelude.{count_by}
 use Rattle.std.proofs.lemmas.Bool.{or_cases, or_right, and_parts, false_from_ne_true}
 use Rattle.std.proofs.lemmas.List.{take_all, take_more}
@@ -20,7 +21,8 @@ few_more n' n i b le e = grind (arith, le, e)
 pub side_of-requires-clause-vertex : goal.side_of-requires-clause-vertex
 side_of-requires-clause-vertex g c =
     let row : List ℕ = c.args.row.now in
-    let l : get_or row c.loop-x.x-index 0 < (g.V.View.shown c.args.view.now).size = c.requires.row.within (get_or row c.loop-x.x-index 0) (member-get_or row c.loop-x.x-index 0 c.loop-x-test.true) in
+    let l : get_or row c.loop-x.x-index 0 < (g.V.View.shown c.args.view.now).size =
+    c.requires.row.within (get_or row c.loop-x.x-index 0) (member-get_or row c.loop-x.x-index 0 c.loop-x-test.true) in
     omega (arith, l, c.loop-x.invariant.goes_on.lasts.same_size)
 
 pub side_of-requires-clause-placed : goal.side_of-requires-clause-placed
@@ -33,7 +35,8 @@ pub side_of-requires-clause-neighbour : goal.side_of-requires-clause-neighbour
 side_of-requires-clause-neighbour g c =
     let row : List ℕ = c.args.row.now in
     let x : ℕ = get_or row c.loop-x.x-index 0 in
-    ap (λ xs. member x xs || is_added c.args.update c.args.w x) (same_list _ _ c.args.w c.loop-x.invariant.goes_on.further c.requires.read) ∙ (sym (c.requires.has x) ∙ member-get_or row c.loop-x.x-index 0 c.loop-x-test.true)
+    ap (λ xs. member x xs || is_added c.args.update c.args.w x) (same_list _ _ c.args.w c.loop-x.invariant.goes_on.further c.requires.read)
+    ∙ (sym (c.requires.has x) ∙ member-get_or row c.loop-x.x-index 0 c.loop-x-test.true)
 
 pub loop-x-preserved : goal.loop-x-preserved
 loop-x-preserved g c =
@@ -56,13 +59,16 @@ loop-x-preserved g c =
       from = λ y m. elim (or_cases (member y next) (eqb y x && is_next side) (sym (member-more (is_next side) x y next _ more) ∙ m)) [
         | inl k ↦ let f = i.from y k in (ap (member y) seam ∙ member-push_left y x (take n row) f.0, still_has_core _ _ y e.further f.1)
         | inr k ↦
-            let at : y ≡ x = eqb-true y x (and_parts (eqb y x) (is_next side) k).0 in
-            (ap (member y) seam ∙ (member-push y x (take n row) ∙ or_right (member y (take n row)) (eqb y x) (eq-eqb y x at)), ap (has_core (g.V.View.shown c.side_of.new.view).kept) at ∙ c.in_ok-side.ensures.placed)
+            let at : y ≡ x = eqb-true y x (and_parts (eqb y x) (is_next side) k).0 in (
+              ap (member y) seam ∙ (member-push y x (take n row) ∙ or_right (member y (take n row)) (eqb y x) (eq-eqb y x at)),
+              ap (has_core (g.V.View.shown c.side_of.new.view).kept) at ∙ c.in_ok-side.ensures.placed,
+            )
       ];
       once = Distinct-grown (is_next side) x next _ more i.once out;
       count = λ s a.
           let told = c.in_ok-side.ensures.told s a in
-          counted-more (search_with c.args.update c.args.level s) c.args.w x n c.loop-x.ahead.count c.add.new.self.count row side l refl told c.in_ok-add.ensures.count (i.count s (agreed _ _ s e.further a));
+          counted-more (search_with c.args.update c.args.level s) c.args.w x n c.loop-x.ahead.count c.add.new.self.count row side l refl
+          told c.in_ok-add.ensures.count (i.count s (agreed _ _ s e.further a));
       next = λ s a y.
           let told = c.in_ok-side.ensures.told s a in
           next-more (search_with c.args.update c.args.level s) c.args.w x y n row next _ side l refl told more (i.next s (agreed _ _ s e.further a) y);

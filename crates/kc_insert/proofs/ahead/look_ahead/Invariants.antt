@@ -19,6 +19,8 @@ invariant-loop-x g l =
       asks : (queue : List ℕ) → AsksQueued l.update (v.shown l.fn.view).kept queue → AsksQueued l.update (v.shown l.view).kept queue;
       from : (y : ℕ) → member y l.ahead.next.items ≡ true → (member y (take l.x-index l.row) ≡ true) × (has_core (v.shown l.view).kept y ≡ true);
       once : Distinct l.ahead.next.items;
-      count : (s : Ranked) → Agrees (v.shown l.view).kept s → l.ahead.count ≡ count_by (λ y. is_ahead (side_in (search_with l.update l.level s) l.w y)) (take l.x-index l.row);
-      next : (s : Ranked) → Agrees (v.shown l.view).kept s → (y : ℕ) → member y l.ahead.next.items ≡ (member y (take l.x-index l.row) && is_next (side_in (search_with l.update l.level s) l.w y));
+      count : (s : Ranked) → Agrees (v.shown l.view).kept s
+          → l.ahead.count ≡ count_by (λ y. is_ahead (side_in (search_with l.update l.level s) l.w y)) (take l.x-index l.row);
+      next : (s : Ranked) → Agrees (v.shown l.view).kept s → (y : ℕ)
+          → member y l.ahead.next.items ≡ (member y (take l.x-index l.row) && is_next (side_in (search_with l.update l.level s) l.w y));
     }

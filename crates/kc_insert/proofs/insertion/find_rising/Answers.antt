@@ -13,7 +13,8 @@ pub take_turns-requires-clause-tidy : goal.take_turns-requires-clause-tidy
 take_turns-requires-clause-tidy g c =
     let shown : Shown = g.V.View.shown c.args.view.now in
     let root : ℕ = c.args.root.vertex in
-    begin-tidy c.args.update shown root c.in_ok-rising.rising c.in_ok-rising.ensures (end-fits c.args.update root shown.size c.requires.end c.requires.ends) c.requires.placed c.requires.asks
+    begin-tidy c.args.update shown root c.in_ok-rising.rising c.in_ok-rising.ensures
+    (end-fits c.args.update root shown.size c.requires.end c.requires.ends) c.requires.placed c.requires.asks
 
 pub returns-clause-turns : goal.returns-clause-turns
 returns-clause-turns g c = λ s lv a w.

@@ -20,7 +20,8 @@ first_end-requires-clause-asks g c =
     let one : Answers = (g.V.View.shown c.core_of.new.view).kept in
     let two : Answers = (g.V.View.shown c.core_of-2.new.view).kept in
     let update = c.args.update in
-    asks-core update one two [] update.v (asks-core update old one [] update.u c.requires.asks c.in_ok-first.ensures.told (inl refl)) c.in_ok-second.ensures.told (inr (inl refl))
+    asks-core update one two [] update.v (asks-core update old one [] update.u c.requires.asks c.in_ok-first.ensures.told (inl refl))
+    c.in_ok-second.ensures.told (inr (inl refl))
 
 pub returns-clause-goes_on : goal.returns-clause-goes_on
 returns-clause-goes_on g c = GoesOn-trans _ _ _ (GoesOn-trans _ _ _ c.core_of.ensures.goes_on c.core_of-2.ensures.goes_on) c.first_end.ensures.goes_on

@@ -47,7 +47,8 @@ returns-then-branch-clause-root g c = λ s a.
     let second : c.args.second ≡ get_or s.core v 0 = c.requires.second.1 ∙ (core-true kept s v before c.requires.second.0).1 in
     let o : UsedOrder = record { x = u; y = v; before = c.in_ok-stands_before.field-0 } in
     let told = order-true kept s o (subst (λ (x : Answers). Agrees x s) c.in_ok-stands_before.ensures.told a) in
-    is-first (get_or s.core u 0) (get_or s.core v 0) (place_of u s.order) (place_of v s.order) u v c.in_ok-stands_before.field-0 (omega (arith, first, second, c.if-first-second.false, c.if-second-first.false)) told.2 c.if-branch.true
+    is-first (get_or s.core u 0) (get_or s.core v 0) (place_of u s.order) (place_of v s.order) u v c.in_ok-stands_before.field-0
+    (omega (arith, first, second, c.if-first-second.false, c.if-second-first.false)) told.2 c.if-branch.true
 
 pub returns-else-branch-clause-root : goal.returns-else-branch-clause-root
 returns-else-branch-clause-root g c = λ s a.
@@ -59,4 +60,5 @@ returns-else-branch-clause-root g c = λ s a.
     let second : c.args.second ≡ get_or s.core v 0 = c.requires.second.1 ∙ (core-true kept s v before c.requires.second.0).1 in
     let o : UsedOrder = record { x = u; y = v; before = c.in_ok-stands_before.field-0 } in
     let told = order-true kept s o (subst (λ (x : Answers). Agrees x s) c.in_ok-stands_before.ensures.told a) in
-    is-second (get_or s.core u 0) (get_or s.core v 0) (place_of u s.order) (place_of v s.order) u v c.in_ok-stands_before.field-0 (omega (arith, first, second, c.if-first-second.false, c.if-second-first.false)) told.2 c.if-branch.false
+    is-second (get_or s.core u 0) (get_or s.core v 0) (place_of u s.order) (place_of v s.order) u v c.in_ok-stands_before.field-0
+    (omega (arith, first, second, c.if-first-second.false, c.if-second-first.false)) told.2 c.if-branch.false

@@ -20,13 +20,17 @@ no_items (x ∷ xs) n b l e t = let k : n ≡ 0 = eqb-true n 0 (sym e ∙ t) in 
 pub returns-then-branch-clause-sure : goal.returns-then-branch-clause-sure
 returns-then-branch-clause-sure g c = λ s used h l a.
     let e = c.in_ok-has_edge.ensures in
-    kept-sure c.args.update used s c.requires.adds h l (tells-edge (g.V.View.shown c.has_edge.new.view).kept s c.args.update.u c.args.update.v c.in_ok-has_edge.field-0 a e.read l e.told ∙ c.if-branch.true)
+    kept-sure c.args.update used s c.requires.adds h l
+    (tells-edge (g.V.View.shown c.has_edge.new.view).kept s c.args.update.u c.args.update.v c.in_ok-has_edge.field-0 a e.read l e.told
+    ∙ c.if-branch.true)
 
 pub returns-in_err-rise-clause-goes_on : goal.returns-in_err-rise-clause-goes_on
-returns-in_err-rise-clause-goes_on g c = GoesOn-trans _ _ _ (GoesOn-trans _ _ _ c.has_edge.ensures.goes_on c.find_root.ensures.goes_on) c.find_rising.ensures.goes_on
+returns-in_err-rise-clause-goes_on g c =
+    GoesOn-trans _ _ _ (GoesOn-trans _ _ _ c.has_edge.ensures.goes_on c.find_root.ensures.goes_on) c.find_rising.ensures.goes_on
 
 pub returns-then-is_empty-2-clause-goes_on : goal.returns-then-is_empty-2-clause-goes_on
-returns-then-is_empty-2-clause-goes_on g c = GoesOn-trans _ _ _ (GoesOn-trans _ _ _ c.has_edge.ensures.goes_on c.find_root.ensures.goes_on) c.find_rising.ensures.goes_on
+returns-then-is_empty-2-clause-goes_on g c =
+    GoesOn-trans _ _ _ (GoesOn-trans _ _ _ c.has_edge.ensures.goes_on c.find_root.ensures.goes_on) c.find_rising.ensures.goes_on
 
 pub returns-then-is_empty-2-clause-asked : goal.returns-then-is_empty-2-clause-asked
 returns-then-is_empty-2-clause-asked g c = λ s h a.
@@ -35,9 +39,14 @@ returns-then-is_empty-2-clause-asked g c = λ s h a.
     let first = agreed _ _ s c.find_root.ensures.goes_on.further second in
     let root = c.in_ok-root.root in
     let l : c.args.update.v < s.graph.size = (core-true (g.V.View.shown c.find_root.new.view).kept s c.args.update.v second c.in_ok-root.ensures.placed.1).0 in
-    let new : adjacent s.graph c.args.update.u c.args.update.v ≡ false = tells-edge (g.V.View.shown c.has_edge.new.view).kept s c.args.update.u c.args.update.v c.in_ok-has_edge.field-0 first e.read l e.told ∙ c.if-branch.false in
-    let wide : Widened (search_with c.args.update root.level s) root.vertex = widened c.args.update s root.level root.vertex h l new (c.in_ok-root.ensures.level s second) (c.in_ok-root.ensures.root s second) in
-    asked-forward c.args.update (g.V.View.shown c.find_rising.new.view) s root.level root.vertex c.in_ok-rising.rising c.requires.adds (c.in_ok-root.ensures.root s second) wide c.in_ok-rising.ensures.tidy (c.in_ok-rising.ensures.turns s l a wide)
+    let new : adjacent s.graph c.args.update.u c.args.update.v ≡ false =
+    tells-edge (g.V.View.shown c.has_edge.new.view).kept s c.args.update.u c.args.update.v c.in_ok-has_edge.field-0 first e.read l
+    e.told
+    ∙ c.if-branch.false in
+    let wide : Widened (search_with c.args.update root.level s) root.vertex =
+    widened c.args.update s root.level root.vertex h l new (c.in_ok-root.ensures.level s second) (c.in_ok-root.ensures.root s second) in
+    asked-forward c.args.update (g.V.View.shown c.find_rising.new.view) s root.level root.vertex c.in_ok-rising.rising c.requires.adds
+    (c.in_ok-root.ensures.root s second) wide c.in_ok-rising.ensures.tidy (c.in_ok-rising.ensures.turns s l a wide)
 
 pub returns-then-is_empty-2-clause-sure : goal.returns-then-is_empty-2-clause-sure
 returns-then-is_empty-2-clause-sure g c = λ s used h l a.
@@ -47,11 +56,20 @@ returns-then-is_empty-2-clause-sure g c = λ s used h l a.
     let root = c.in_ok-root.root in
     let rise = c.in_ok-rise.rise in
     let shifts = c.in_ok-rising.rising.shifts in
-    let new : adjacent s.graph c.args.update.u c.args.update.v ≡ false = tells-edge (g.V.View.shown c.has_edge.new.view).kept s c.args.update.u c.args.update.v c.in_ok-has_edge.field-0 first e.read l e.told ∙ c.if-branch.false in
-    let wide : Widened (search_with c.args.update root.level s) root.vertex = widened c.args.update s root.level root.vertex h l new (c.in_ok-root.ensures.level s second) (c.in_ok-root.ensures.root s second) in
-    let none : cands c.in_ok-rising.rising ≡ [] = sym c.in_ok-rise.ensures ∙ no_items rise.items rise.len c.is_empty.result (sym rise.ok.0) c.is_empty.ensures c.if-is_empty.true in
-    let still : shifts.items ≡ [] = no_items shifts.items shifts.len c.is_empty-then-is_empty.result (sym shifts.ok.0) c.is_empty-then-is_empty.ensures c.if-is_empty-2.true in
-    nobody-sure c.args.update used s root.level root.vertex c.in_ok-rising.rising c.requires.adds h l new (c.in_ok-root.ensures.level s second) (c.in_ok-root.ensures.root s second) c.in_ok-rising.ensures.ended (c.in_ok-rising.ensures.turns s l a wide) none still
+    let new : adjacent s.graph c.args.update.u c.args.update.v ≡ false =
+    tells-edge (g.V.View.shown c.has_edge.new.view).kept s c.args.update.u c.args.update.v c.in_ok-has_edge.field-0 first e.read l
+    e.told
+    ∙ c.if-branch.false in
+    let wide : Widened (search_with c.args.update root.level s) root.vertex =
+    widened c.args.update s root.level root.vertex h l new (c.in_ok-root.ensures.level s second) (c.in_ok-root.ensures.root s second) in
+    let none : cands c.in_ok-rising.rising ≡ [] =
+    sym c.in_ok-rise.ensures ∙ no_items rise.items rise.len c.is_empty.result (sym rise.ok.0) c.is_empty.ensures c.if-is_empty.true in
+    let still : shifts.items ≡ [] =
+    no_items shifts.items shifts.len c.is_empty-then-is_empty.result (sym shifts.ok.0) c.is_empty-then-is_empty.ensures
+    c.if-is_empty-2.true in
+    nobody-sure c.args.update used s root.level root.vertex c.in_ok-rising.rising c.requires.adds h l new
+    (c.in_ok-root.ensures.level s second) (c.in_ok-root.ensures.root s second) c.in_ok-rising.ensures.ended
+    (c.in_ok-rising.ensures.turns s l a wide) none still
 
 pub returns-clause-goes_on : goal.returns-clause-goes_on
 returns-clause-goes_on g c = GoesOn-trans _ _ _ (GoesOn-trans _ _ _ c.has_edge.ensures.goes_on c.find_root.ensures.goes_on) c.find_rising.ensures.goes_on
@@ -63,14 +81,20 @@ returns-clause-asked g c = λ s h a.
     let first = agreed _ _ s c.find_root.ensures.goes_on.further second in
     let root = c.in_ok-root.root in
     let l : c.args.update.v < s.graph.size = (core-true (g.V.View.shown c.find_root.new.view).kept s c.args.update.v second c.in_ok-root.ensures.placed.1).0 in
-    let new : adjacent s.graph c.args.update.u c.args.update.v ≡ false = tells-edge (g.V.View.shown c.has_edge.new.view).kept s c.args.update.u c.args.update.v c.in_ok-has_edge.field-0 first e.read l e.told ∙ c.if-branch.false in
-    let wide : Widened (search_with c.args.update root.level s) root.vertex = widened c.args.update s root.level root.vertex h l new (c.in_ok-root.ensures.level s second) (c.in_ok-root.ensures.root s second) in
-    asked-forward c.args.update (g.V.View.shown c.find_rising.new.view) s root.level root.vertex c.in_ok-rising.rising c.requires.adds (c.in_ok-root.ensures.root s second) wide c.in_ok-rising.ensures.tidy (c.in_ok-rising.ensures.turns s l a wide)
+    let new : adjacent s.graph c.args.update.u c.args.update.v ≡ false =
+    tells-edge (g.V.View.shown c.has_edge.new.view).kept s c.args.update.u c.args.update.v c.in_ok-has_edge.field-0 first e.read l
+    e.told
+    ∙ c.if-branch.false in
+    let wide : Widened (search_with c.args.update root.level s) root.vertex =
+    widened c.args.update s root.level root.vertex h l new (c.in_ok-root.ensures.level s second) (c.in_ok-root.ensures.root s second) in
+    asked-forward c.args.update (g.V.View.shown c.find_rising.new.view) s root.level root.vertex c.in_ok-rising.rising c.requires.adds
+    (c.in_ok-root.ensures.root s second) wide c.in_ok-rising.ensures.tidy (c.in_ok-rising.ensures.turns s l a wide)
 
 pub returns-clause-named : goal.returns-clause-named
 returns-clause-named g c = λ x m.
     let r : Rising = c.in_ok-rising.rising in
-    named-read c.args.update (g.V.View.shown c.find_rising.new.view) r x c.in_ok-rising.ensures.tidy c.in_ok-rising.ensures.ended (subst (λ (xs : List ℕ). member x ((xs ++ firsts r.shifts.items) ++ seconds r.shifts.items) ≡ true) c.in_ok-rise.ensures m)
+    named-read c.args.update (g.V.View.shown c.find_rising.new.view) r x c.in_ok-rising.ensures.tidy c.in_ok-rising.ensures.ended
+    (subst (λ (xs : List ℕ). member x ((xs ++ firsts r.shifts.items) ++ seconds r.shifts.items) ≡ true) c.in_ok-rise.ensures m)
 
 pub returns-clause-sure : goal.returns-clause-sure
 returns-clause-sure g c = λ s used h l a.
@@ -78,7 +102,12 @@ returns-clause-sure g c = λ s used h l a.
     let second = agreed _ _ s c.find_rising.ensures.goes_on.further a in
     let first = agreed _ _ s c.find_root.ensures.goes_on.further second in
     let root = c.in_ok-root.root in
-    let new : adjacent s.graph c.args.update.u c.args.update.v ≡ false = tells-edge (g.V.View.shown c.has_edge.new.view).kept s c.args.update.u c.args.update.v c.in_ok-has_edge.field-0 first e.read l e.told ∙ c.if-branch.false in
-    let wide : Widened (search_with c.args.update root.level s) root.vertex = widened c.args.update s root.level root.vertex h l new (c.in_ok-root.ensures.level s second) (c.in_ok-root.ensures.root s second) in
-    some-sure c.args.update used s root.level root.vertex c.in_ok-rising.rising c.in_ok-rise.rise c.requires.adds h l new (c.in_ok-root.ensures.level s second) (c.in_ok-root.ensures.root s second)
+    let new : adjacent s.graph c.args.update.u c.args.update.v ≡ false =
+    tells-edge (g.V.View.shown c.has_edge.new.view).kept s c.args.update.u c.args.update.v c.in_ok-has_edge.field-0 first e.read l
+    e.told
+    ∙ c.if-branch.false in
+    let wide : Widened (search_with c.args.update root.level s) root.vertex =
+    widened c.args.update s root.level root.vertex h l new (c.in_ok-root.ensures.level s second) (c.in_ok-root.ensures.root s second) in
+    some-sure c.args.update used s root.level root.vertex c.in_ok-rising.rising c.in_ok-rise.rise c.requires.adds h l new
+    (c.in_ok-root.ensures.level s second) (c.in_ok-root.ensures.root s second)
     c.in_ok-rising.ensures.tidy.orderly c.in_ok-rising.ensures.ended (c.in_ok-rising.ensures.turns s l a wide) c.in_ok-rise.ensures

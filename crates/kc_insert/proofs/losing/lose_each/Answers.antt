@@ -22,11 +22,14 @@ loop-y-preserved c =
     record {
       orderly = lose-orderly c.args.level c.args.loss y c.loop-y.rising c.lose.new.rising i.orderly e;
       loses = subst (λ (xs : List ℕ). Loses c.args.level c.args.loss xs c.args.rising.now c.lose.new.rising) (sym seam)
-          (loses-more c.args.level c.args.loss y p c.args.rising.now c.loop-y.rising c.lose.new.rising i.loses (loses-one c.args.level c.args.loss y c.loop-y.rising c.lose.new.rising i.orderly e) new');
+          (loses-more c.args.level c.args.loss y p c.args.rising.now c.loop-y.rising c.lose.new.rising i.loses
+          (loses-one c.args.level c.args.loss y c.loop-y.rising c.lose.new.rising i.orderly e) new');
     }
 
 pub returns-clause-orderly : goal.returns-clause-orderly
 returns-clause-orderly c = c.loop-y.invariant.orderly
 
 pub returns-clause-loses : goal.returns-clause-loses
-returns-clause-loses c = subst (λ (xs : List ℕ). Loses c.args.level c.args.loss xs c.args.rising.now c.loop-y.rising) (take_all c.loop-y.y-index c.args.row.now c.loop-y-test.false) c.loop-y.invariant.loses
+returns-clause-loses c =
+    subst (λ (xs : List ℕ). Loses c.args.level c.args.loss xs c.args.rising.now c.loop-y.rising)
+    (take_all c.loop-y.y-index c.args.row.now c.loop-y-test.false) c.loop-y.invariant.loses

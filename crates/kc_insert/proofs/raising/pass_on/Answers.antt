@@ -13,13 +13,15 @@ use Rattle.kc_insert.proofs.raising.pass_on.Goals as goal
 pub pass-requires-clause-vertex : goal.pass-requires-clause-vertex
 pass-requires-clause-vertex g c =
     let next : List ℕ = c.args.next.now in
-    let l : get_or next c.loop-x.x-index 0 < (g.V.View.shown c.args.view.now).size = c.requires.vertices (get_or next c.loop-x.x-index 0) (member-get_or next c.loop-x.x-index 0 c.loop-x-test.true) in
+    let l : get_or next c.loop-x.x-index 0 < (g.V.View.shown c.args.view.now).size =
+    c.requires.vertices (get_or next c.loop-x.x-index 0) (member-get_or next c.loop-x.x-index 0 c.loop-x-test.true) in
     omega (arith, l, c.loop-x.invariant.goes_on.lasts.same_size)
 
 pub pass-requires-clause-placed : goal.pass-requires-clause-placed
 pass-requires-clause-placed g c =
     let next : List ℕ = c.args.next.now in
-    still_has_core _ _ (get_or next c.loop-x.x-index 0) c.loop-x.invariant.goes_on.further (c.requires.placed (get_or next c.loop-x.x-index 0) (member-get_or next c.loop-x.x-index 0 c.loop-x-test.true))
+    still_has_core _ _ (get_or next c.loop-x.x-index 0) c.loop-x.invariant.goes_on.further
+    (c.requires.placed (get_or next c.loop-x.x-index 0) (member-get_or next c.loop-x.x-index 0 c.loop-x-test.true))
 
 pub pass-requires-clause-tidy : goal.pass-requires-clause-tidy
 pass-requires-clause-tidy g c = (c.requires.tidy.0, c.loop-x.invariant.tidy c.requires.tidy.0 c.requires.tidy.1)
@@ -38,14 +40,20 @@ loop-x-preserved g c =
     record {
       goes_on = GoesOn-trans _ _ _ i.goes_on e;
       tidy = λ update k. o.tidy update (i.tidy update k);
-      passed = subst (λ (xs : List ℕ). PassedOn xs c.args.rising.now c.pass.new.rising) (sym (take_more next n 0 l)) (passed-more x (take n next) c.args.rising.now c.loop-x.rising c.pass.new.rising t.orderly i.passed o.passes late);
+      passed =
+          subst (λ (xs : List ℕ). PassedOn xs c.args.rising.now c.pass.new.rising) (sym (take_more next n 0 l))
+          (passed-more x (take n next) c.args.rising.now c.loop-x.rising c.pass.new.rising t.orderly i.passed o.passes late);
       ascends = λ s a stand up.
           let first = stand x (member-get_or next n 0 l) in
           o.ascends s a (record {
             behind = λ z m. first.behind z (sym (ap (member z) i.passed.same_left) ∙ m);
             apart = λ z in' k. elim in' [
               | inr none ↦ absurd (false≢true none)
-              | inl m ↦ first.apart z (elim (or_cases (member z c.args.rising.now.queue.items) (member z (take n next)) (sym (i.passed.queue z) ∙ m)) [ inl q ↦ inl q | inr q ↦ inr (take-member n next z q) ]) k
+              | inl m ↦
+                  first.apart z
+                  (elim (or_cases (member z c.args.rising.now.queue.items) (member z (take n next)) (sym (i.passed.queue z) ∙ m))
+                  [ inl q ↦ inl q | inr q ↦ inr (take-member n next z q) ])
+                  k
             ];
           }) (i.ascends s (agreed _ _ s e.further a) stand up);
     }

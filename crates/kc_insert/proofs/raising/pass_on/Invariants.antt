@@ -17,5 +17,7 @@ invariant-loop-x g l =
       goes_on : GoesOn (v.shown l.fn.view) (v.shown l.view);
       tidy : (update : Update) → IsTidyRising update (v.shown l.fn.view) l.fn.rising → IsTidyRising update (v.shown l.view) l.rising;
       passed : PassedOn (take l.x-index l.next) l.fn.rising l.rising;
-      ascends : (s : Ranked) → Agrees (v.shown l.view).kept s → ((y : ℕ) → member y l.next ≡ true → StandsBehindLeft (rank_in s.order) l.fn.rising l.next y) → AscendsBy (rank_in s.order) l.fn.rising.queue.items → AscendsBy (rank_in s.order) l.rising.queue.items;
+      ascends : (s : Ranked) → Agrees (v.shown l.view).kept s
+          → ((y : ℕ) → member y l.next ≡ true → StandsBehindLeft (rank_in s.order) l.fn.rising l.next y)
+          → AscendsBy (rank_in s.order) l.fn.rising.queue.items → AscendsBy (rank_in s.order) l.rising.queue.items;
     }

@@ -28,7 +28,8 @@ stands_before-requires-clause-first g c =
     let r = c.args.rising.now in
     let i = c.loop-low.invariant in
     let l : c.loop-low.low + (c.loop-low.high - c.loop-low.low) / 2 < length r.queue.items = omega (arith, c.loop-low-test.true, i.within) in
-    let at : c.index.result.now ≡ get_or r.queue.items (c.loop-low.low + (c.loop-low.high - c.loop-low.low) / 2) 0 = get_or_read r.queue.items _ _ l c.index.ensures 0 in
+    let at : c.index.result.now ≡ get_or r.queue.items (c.loop-low.low + (c.loop-low.high - c.loop-low.low) / 2) 0 =
+    get_or_read r.queue.items _ _ l c.index.ensures 0 in
     (i.tidy c.requires.tidy.0 c.requires.tidy.1).placed c.index.result.now (ap (λ n. member n r.queue.items) at ∙ member-get_or r.queue.items _ 0 l)
 
 pub stands_before-requires-clause-second : goal.stands_before-requires-clause-second
@@ -40,16 +41,22 @@ loop-low-preserved-then-branch g c =
     let i = c.loop-low.invariant in
     let e = c.stands_before.ensures.goes_on in
     let l : c.loop-low.low + (c.loop-low.high - c.loop-low.low) / 2 < length r.queue.items = omega (arith, c.loop-low-test.true, i.within) in
-    let at : c.index.result.now ≡ get_or r.queue.items (c.loop-low.low + (c.loop-low.high - c.loop-low.low) / 2) 0 = get_or_read r.queue.items _ _ l c.index.ensures 0 in
+    let at : c.index.result.now ≡ get_or r.queue.items (c.loop-low.low + (c.loop-low.high - c.loop-low.low) / 2) 0 =
+    get_or_read r.queue.items _ _ l c.index.ensures 0 in
     record {
       goes_on = GoesOn-trans _ _ _ i.goes_on e;
-      tidy = λ update t. let k = i.tidy update t in tidy-view update _ _ r k e.lasts.same_size e.further (asks-order update _ _ r.queue.items _ k.asks c.in_ok-stands_before.ensures.told);
+      tidy =
+          λ update t.
+          let k = i.tidy update t in
+          tidy-view update _ _ r k e.lasts.same_size e.further
+          (asks-order update _ _ r.queue.items _ k.asks c.in_ok-stands_before.ensures.told);
       from = omega (arith, i.from);
       up = omega (arith, c.loop-low-test.true);
       within = i.within;
       place = λ s a up first.
           let o = order-true _ s _ (subst (λ (b : Answers). Agrees b s) c.in_ok-stands_before.ensures.told a) in
-          place-up _ r.queue.items c.args.x c.loop-low.low c.loop-low.high _ c.index.result.now up (i.place s (agreed _ _ s e.further a) up first) l at (sym c.if-branch.true ∙ o.2);
+          place-up _ r.queue.items c.args.x c.loop-low.low c.loop-low.high _ c.index.result.now up
+          (i.place s (agreed _ _ s e.further a) up first) l at (sym c.if-branch.true ∙ o.2);
     }
 
 pub loop-low-preserved : goal.loop-low-preserved
@@ -58,16 +65,22 @@ loop-low-preserved g c =
     let i = c.loop-low.invariant in
     let e = c.stands_before.ensures.goes_on in
     let l : c.loop-low.low + (c.loop-low.high - c.loop-low.low) / 2 < length r.queue.items = omega (arith, c.loop-low-test.true, i.within) in
-    let at : c.index.result.now ≡ get_or r.queue.items (c.loop-low.low + (c.loop-low.high - c.loop-low.low) / 2) 0 = get_or_read r.queue.items _ _ l c.index.ensures 0 in
+    let at : c.index.result.now ≡ get_or r.queue.items (c.loop-low.low + (c.loop-low.high - c.loop-low.low) / 2) 0 =
+    get_or_read r.queue.items _ _ l c.index.ensures 0 in
     record {
       goes_on = GoesOn-trans _ _ _ i.goes_on e;
-      tidy = λ update t. let k = i.tidy update t in tidy-view update _ _ r k e.lasts.same_size e.further (asks-order update _ _ r.queue.items _ k.asks c.in_ok-stands_before.ensures.told);
+      tidy =
+          λ update t.
+          let k = i.tidy update t in
+          tidy-view update _ _ r k e.lasts.same_size e.further
+          (asks-order update _ _ r.queue.items _ k.asks c.in_ok-stands_before.ensures.told);
       from = i.from;
       up = omega (arith, c.loop-low-test.true);
       within = omega (arith, c.loop-low-test.true, i.within);
       place = λ s a up first.
           let o = order-true _ s _ (subst (λ (b : Answers). Agrees b s) c.in_ok-stands_before.ensures.told a) in
-          place-down _ r.queue.items c.args.x c.loop-low.low c.loop-low.high _ c.index.result.now up (i.place s (agreed _ _ s e.further a) up first) l at (sym c.if-branch.false ∙ o.2);
+          place-down _ r.queue.items c.args.x c.loop-low.low c.loop-low.high _ c.index.result.now up
+          (i.place s (agreed _ _ s e.further a) up first) l at (sym c.if-branch.false ∙ o.2);
     }
 
 pub returns-clause-place : goal.returns-clause-place

@@ -19,7 +19,8 @@ invariant-loop-low g l =
       from : l.rising.turn ≤ l.low;
       up : l.low ≤ l.high;
       within : l.high ≤ length l.rising.queue.items;
-      place : (s : Ranked) → Agrees (v.shown l.view).kept s → AscendsBy (rank_in s.order) l.rising.queue.items → ((z : ℕ) → member z (left l.rising) ≡ true → rank_in s.order z < rank_in s.order l.x)
+      place : (s : Ranked) → Agrees (v.shown l.view).kept s → AscendsBy (rank_in s.order) l.rising.queue.items
+          → ((z : ℕ) → member z (left l.rising) ≡ true → rank_in s.order z < rank_in s.order l.x)
           → IsPlaceWithin (rank_in s.order) l.rising.queue.items l.x l.low l.high;
     }
 

@@ -10,7 +10,10 @@ pub loop-i-preserved : goal.loop-i-preserved
 loop-i-preserved g c =
     let list = list_of (g.V.View.shown c.args.view.now).kept c.args.w in
     let l : c.loop-i.i < length list = omega (arith, c.requires.degree, c.loop-i-test.true) in
-    c.in_ok-push.ensures.items ∙ (ap (λ xs. xs ++ c.neighbour.result ∷ []) c.loop-i.invariant ∙ (ap (λ y. take c.loop-i.i list ++ y ∷ []) c.neighbour.ensures ∙ sym (take_more list c.loop-i.i 0 l)))
+    c.in_ok-push.ensures.items
+    ∙
+    (ap (λ xs. xs ++ c.neighbour.result ∷ []) c.loop-i.invariant
+    ∙ (ap (λ y. take c.loop-i.i list ++ y ∷ []) c.neighbour.ensures ∙ sym (take_more list c.loop-i.i 0 l)))
 
 pub returns-clause-same : goal.returns-clause-same
 returns-clause-same g c =

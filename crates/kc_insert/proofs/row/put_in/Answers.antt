@@ -12,7 +12,8 @@ pub returns-in_ok-insert-clause-ascends : goal.returns-in_ok-insert-clause-ascen
 returns-in_ok-insert-clause-ascends c =
     let row : List ℕ = c.args.row.now.items in
     let found = subst (λ (t : List ℕ). IsPlace t c.args.other c.place_in.result) c.deref.ensures.value c.place_in.ensures in
-    subst IsStrictlyIncreasing (sym c.in_ok-insert.ensures.items) (inserted_found row c.args.other c.in-Err.place c.place_in.result c.in-Err.is c.requires found).ascends
+    subst IsStrictlyIncreasing (sym c.in_ok-insert.ensures.items)
+    (inserted_found row c.args.other c.in-Err.place c.place_in.result c.in-Err.is c.requires found).ascends
 
 pub returns-in_ok-insert-clause-has : goal.returns-in_ok-insert-clause-has
 returns-in_ok-insert-clause-has c = λ y.
@@ -26,4 +27,5 @@ returns-in_default-clause-has c = λ y.
     let p = c.in_default.ensures in
     let l : c.in_default.field-0 < length row = subst (λ (t : List ℕ). c.in_default.field-0 < length t) c.deref.ensures.value p.0 in
     let at : get_or row c.in_default.field-0 0 ≡ c.args.other = ap (λ t. get_or t c.in_default.field-0 0) (sym c.deref.ensures.value) ∙ p.1 in
-    or-absorbs (member y row) (eqb y c.args.other) (λ e. ap (λ k. member k row) (eqb-true y c.args.other e ∙ sym at) ∙ member-get_or row c.in_default.field-0 0 l)
+    or-absorbs (member y row) (eqb y c.args.other)
+    (λ e. ap (λ k. member k row) (eqb-true y c.args.other e ∙ sym at) ∙ member-get_or row c.in_default.field-0 0 l)

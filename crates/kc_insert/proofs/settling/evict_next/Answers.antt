@@ -24,7 +24,8 @@ pub lose_each-requires-clause-orderly : goal.lose_each-requires-clause-orderly
 lose_each-requires-clause-orderly g c =
     let old = c.args.rising.now in
     let x = c.index-x.result.now in
-    evict-orderly x c.args.anchor old c.evict.new.self c.requires.tidy.orderly c.in_ok-turn.ensures.evicts c.requires.some (next-weak old c.len.result x c.len.ensures c.requires.some c.index-x.ensures) c.requires.anchor
+    evict-orderly x c.args.anchor old c.evict.new.self c.requires.tidy.orderly c.in_ok-turn.ensures.evicts c.requires.some
+    (next-weak old c.len.result x c.len.ensures c.requires.some c.index-x.ensures) c.requires.anchor
 
 pub returns-clause-tidy : goal.returns-clause-tidy
 returns-clause-tidy g c =
@@ -36,8 +37,14 @@ returns-clause-tidy g c =
     let e = c.in_ok-row.ensures in
     let ev = c.in_ok-turn.ensures.evicts in
     let l = c.in_ok-lose_each.ensures in
-    let asks = e.asks old.queue.items t.asks (inr (left-queued old x (next-left old x t.orderly c.requires.some (next-weak old c.len.result x c.len.ensures c.requires.some c.index-x.ensures)))) in
-    stays-tidy c.args.update now old c.lose_each.new.rising (tidy-view c.args.update before now old t e.goes_on.lasts.same_size e.goes_on.further asks) l.orderly (l.loses.queue ∙ ev.queue) (l.loses.turn ∙ ev.turn)
+    let asks =
+    e.asks old.queue.items t.asks
+    (inr
+    (left-queued old x
+    (next-left old x t.orderly c.requires.some (next-weak old c.len.result x c.len.ensures c.requires.some c.index-x.ensures)))) in
+    stays-tidy c.args.update now old c.lose_each.new.rising
+    (tidy-view c.args.update before now old t e.goes_on.lasts.same_size e.goes_on.further asks) l.orderly (l.loses.queue ∙ ev.queue)
+    (l.loses.turn ∙ ev.turn)
 
 pub returns-clause-settling : goal.returns-clause-settling
 returns-clause-settling g c = λ s root a w st.
@@ -50,7 +57,8 @@ returns-clause-settling g c = λ s root a w st.
     let l = c.in_ok-lose_each.ensures in
     let turn : c.in_ok-turn.turn ≡ turn_at old x = c.in_ok-turn.ensures.turn in
     let loses : Loses c.args.level (loss.Evicted (turn_at old x)) row mid new =
-    subst (λ (n : ℕ). Loses c.args.level (loss.Evicted n) row mid new) turn (subst (λ (xs : List ℕ). Loses c.args.level (loss.Evicted c.in_ok-turn.turn) xs mid new) c.deref.ensures.value l.loses) in (
+    subst (λ (n : ℕ). Loses c.args.level (loss.Evicted n) row mid new) turn
+    (subst (λ (xs : List ℕ). Loses c.args.level (loss.Evicted c.in_ok-turn.turn) xs mid new) c.deref.ensures.value l.loses) in (
       st.0,
       evicted-now _ root x c.args.anchor st.0 row old mid new w c.requires.tidy.orderly l.orderly c.in_ok-turn.ensures.evicts loses c.requires.some
           (next-weak old c.len.result x c.len.ensures c.requires.some c.index-x.ensures) (row-is _ s c.args.update x row a e.told.told e.has) st.1,

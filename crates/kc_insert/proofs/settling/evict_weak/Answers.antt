@@ -10,7 +10,8 @@ loop-alloc-smaller g c =
     let i = c.loop-alloc.invariant in
     let r = c.loop-alloc.rising in
     let fits : length r.weak.items ≤ (g.V.View.shown c.loop-alloc.view).size = weak-fits c.args.update (g.V.View.shown c.loop-alloc.view) r i.tidy in
-    let l : length r.shifts.items < length r.weak.items = omega (arith, c.len.ensures, c.len-in-loop-alloc.ensures, c.loop-alloc-test.true, r.shifts.ok.0, r.weak.ok.0) in
+    let l : length r.shifts.items < length r.weak.items =
+    omega (arith, c.len.ensures, c.len-in-loop-alloc.ensures, c.loop-alloc-test.true, r.shifts.ok.0, r.weak.ok.0) in
     omega (arith, fits, l, i.goes_on.lasts.same_size, c.in_ok-anchor.ensures.one)
 
 pub loop-alloc-preserved : goal.loop-alloc-preserved
@@ -29,5 +30,6 @@ pub returns-clause-settled : goal.returns-clause-settled
 returns-clause-settled g c = λ s root a w st.
     let i = c.loop-alloc.invariant in
     let r = c.loop-alloc.rising in
-    let le : length r.weak.items ≤ length r.shifts.items = omega (arith, c.len.ensures, c.len-in-loop-alloc.ensures, c.loop-alloc-test.false, r.shifts.ok.0, r.weak.ok.0) in
+    let le : length r.weak.items ≤ length r.shifts.items =
+    omega (arith, c.len.ensures, c.len-in-loop-alloc.ensures, c.loop-alloc-test.false, r.shifts.ok.0, r.weak.ok.0) in
     settled-between _ root c.loop-alloc.anchor r i.tidy.orderly le (i.settling s root a w st)

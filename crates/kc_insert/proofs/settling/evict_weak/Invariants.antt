@@ -18,7 +18,9 @@ invariant-loop-alloc g l =
       tidy : IsTidyRising l.update (v.shown l.view) l.rising;
       anchor : member l.anchor (left l.rising) ≡ true;
       turn : l.rising.turn ≡ l.fn.rising.turn;
-      settling : (s : Ranked) (root : ℕ) → Agrees (v.shown l.view).kept s → Widened (search_with l.update l.level s) root → IsSettling (search_with l.update l.level s) root l.fn.rising l.w → IsSettling (search_with l.update l.level s) root l.rising l.anchor;
+      settling : (s : Ranked) (root : ℕ) → Agrees (v.shown l.view).kept s → Widened (search_with l.update l.level s) root
+          → IsSettling (search_with l.update l.level s) root l.fn.rising l.w
+          → IsSettling (search_with l.update l.level s) root l.rising l.anchor;
     }
 
 abbrev pub decreases-loop-alloc : goal.decreases-loop-alloc

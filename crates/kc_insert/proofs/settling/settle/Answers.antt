@@ -16,14 +16,17 @@ pub lose_each-requires-clause-orderly : goal.lose_each-requires-clause-orderly
 lose_each-requires-clause-orderly g c =
     let r = c.requires in
     let plain : c.past.result.is_candidate ≡ false = ap (λ (m : Mark). m.is_candidate) c.past.ensures in
-    leave-orderly c.args.w c.past.result c.args.rising.now c.leave.new.self r.tidy.orderly c.in_ok-leave.ensures r.turn r.first (λ k. absurd (true≢false (sym k ∙ plain))) (ap (λ (m : Mark). m.is_weak) c.past.ensures)
+    leave-orderly c.args.w c.past.result c.args.rising.now c.leave.new.self r.tidy.orderly c.in_ok-leave.ensures r.turn r.first
+    (λ k. absurd (true≢false (sym k ∙ plain))) (ap (λ (m : Mark). m.is_weak) c.past.ensures)
 
 pub evict_weak-requires-clause-tidy : goal.evict_weak-requires-clause-tidy
 evict_weak-requires-clause-tidy g c =
     let r = c.requires in
     let l = c.in_ok-lose_each.ensures in
     let plain : c.past.result.is_candidate ≡ false = ap (λ (m : Mark). m.is_candidate) c.past.ensures in
-    let t = leave-tidy c.args.update (g.V.View.shown c.args.view.now) c.args.w c.past.result c.args.rising.now c.leave.new.self r.tidy c.in_ok-leave.ensures r.turn r.first
+    let t =
+    leave-tidy c.args.update (g.V.View.shown c.args.view.now) c.args.w c.past.result c.args.rising.now c.leave.new.self r.tidy
+    c.in_ok-leave.ensures r.turn r.first
     (λ k. absurd (true≢false (sym k ∙ plain))) (ap (λ (m : Mark). m.is_weak) c.past.ensures) r.read in
     stays-tidy c.args.update (g.V.View.shown c.args.view.now) c.leave.new.self c.lose_each.new.rising t l.orderly l.loses.queue l.loses.turn
 
@@ -35,5 +38,6 @@ returns-clause-settled g c =
     on_ok_weaker c.evict_weak.result (λ settled s root a w few between.
     let first = agreed _ _ s c.evict_weak.ensures.goes_on.further a in
     settled s root a w
-    (settled-now _ root c.args.w c.past.result c.args.row.now c.args.rising.now c.leave.new.self c.lose_each.new.rising w r.tidy.orderly l.orderly c.in_ok-leave.ensures plain l.loses r.turn r.first
+    (settled-now _ root c.args.w c.past.result c.args.row.now c.args.rising.now c.leave.new.self c.lose_each.new.rising w r.tidy.orderly
+    l.orderly c.in_ok-leave.ensures plain l.loses r.turn r.first
     (row-is _ s c.args.update c.args.w c.args.row.now first r.read r.has) few between)) c.evict_weak.ensures.settled

@@ -24,18 +24,24 @@ use Rattle.kc_insert.proofs.Tidy.{tidy-view, leave-tidy}
 use Rattle.kc_insert.proofs.turns.take_turn.Goals as goal
 
 -- the row was read, and all on it were looked at
-looked-tidy : (update : Update) (a b c : Shown) (r : Rising) (w : ℕ) → IsTidyRising update a r → member w r.queue.items ≡ true → b.size ≡ a.size → c.size ≡ b.size → Further a.kept b.kept → Further b.kept c.kept
-    → ((queue : List ℕ) → AsksQueued update a.kept queue → (w ≡ update.u) ⊎ (member w queue ≡ true) → AsksQueued update b.kept queue) → ((queue : List ℕ) → AsksQueued update b.kept queue → AsksQueued update c.kept queue) → IsTidyRising update c r
+looked-tidy : (update : Update) (a b c : Shown) (r : Rising) (w : ℕ) → IsTidyRising update a r → member w r.queue.items ≡ true
+    → b.size ≡ a.size → c.size ≡ b.size → Further a.kept b.kept → Further b.kept c.kept
+    → ((queue : List ℕ) → AsksQueued update a.kept queue → (w ≡ update.u) ⊎ (member w queue ≡ true) → AsksQueued update b.kept queue)
+    → ((queue : List ℕ) → AsksQueued update b.kept queue → AsksQueued update c.kept queue) → IsTidyRising update c r
 looked-tidy update a b c r w t m same same' further further' first second =
     let queue : List ℕ = r.queue.items in
     let asks : AsksQueued update b.kept queue = first queue t.asks (inr m) in
     tidy-view update b c r (tidy-view update a b r t same further asks) same' further' (second queue asks)
 
-looked-ahead : (a b : Answers) (s : Ranked) (update : Update) (level size w : ℕ) (row items : List ℕ) (ahead : Ahead) → Further a b → Agrees b s → update.v < s.graph.size → has_list a w ≡ true → IsListOf size w items → row ≡ items
-    → ((y : ℕ) → member y items ≡ (member y (list_of a w) || is_added update w y)) → ahead.count ≡ count_by (λ y. is_ahead (side_in (search_with update level s) w y)) row
-    → ((y : ℕ) → member y ahead.next.items ≡ (member y row && is_next (side_in (search_with update level s) w y))) → IsAheadOf (search_with update level s) w ahead
+looked-ahead : (a b : Answers) (s : Ranked) (update : Update) (level size w : ℕ) (row items : List ℕ) (ahead : Ahead) → Further a b
+    → Agrees b s → update.v < s.graph.size → has_list a w ≡ true → IsListOf size w items → row ≡ items
+    → ((y : ℕ) → member y items ≡ (member y (list_of a w) || is_added update w y))
+    → ahead.count ≡ count_by (λ y. is_ahead (side_in (search_with update level s) w y)) row
+    → ((y : ℕ) → member y ahead.next.items ≡ (member y row && is_next (side_in (search_with update level s) w y)))
+    → IsAheadOf (search_with update level s) w ahead
 looked-ahead a b s update level size w row items ahead further g l h list same has counted next =
-    ahead-of a s update level size w row ahead (agreed a b s further g) l h (subst (IsListOf size w) (sym same) list) (λ y. ap (member y) same ∙ has y) counted next
+    ahead-of a s update level size w row ahead (agreed a b s further g) l h (subst (IsListOf size w) (sym same) list)
+    (λ y. ap (member y) same ∙ has y) counted next
 
 -- a sum that stops at the greatest number
 more-than-level : (e n l m : ℕ) → m ≡ min (e + n) 18446744073709551615 → l < m → l < e + n
@@ -55,7 +61,9 @@ row_of-requires-clause-vertex g c =
     c.requires.tidy.within c.index-w.result.now (first-there c.index-w.result.now r c.requires.turn (sym first))
 
 pub raise-requires-clause-read : goal.raise-requires-clause-read
-raise-requires-clause-read g c = still_has_list (g.V.View.shown c.row_of.new.view).kept (g.V.View.shown c.look_ahead.new.view).kept c.index-w.result.now c.look_ahead.ensures.goes_on.further c.in_ok-row.ensures.told.told
+raise-requires-clause-read g c =
+    still_has_list (g.V.View.shown c.row_of.new.view).kept (g.V.View.shown c.look_ahead.new.view).kept c.index-w.result.now
+    c.look_ahead.ensures.goes_on.further c.in_ok-row.ensures.told.told
 
 pub raise-requires-clause-tidy : goal.raise-requires-clause-tidy
 raise-requires-clause-tidy g c =
@@ -65,12 +73,14 @@ raise-requires-clause-tidy g c =
     let one = c.row_of.ensures.goes_on in
     let two = c.look_ahead.ensures.goes_on in (
       c.args.update,
-      looked-tidy c.args.update (g.V.View.shown c.args.view.now) (g.V.View.shown c.row_of.new.view) (g.V.View.shown c.look_ahead.new.view) r w c.requires.tidy (first-there w r c.requires.turn (sym first))
+      looked-tidy c.args.update (g.V.View.shown c.args.view.now) (g.V.View.shown c.row_of.new.view) (g.V.View.shown c.look_ahead.new.view) r
+          w c.requires.tidy (first-there w r c.requires.turn (sym first))
           one.lasts.same_size two.lasts.same_size one.further two.further c.in_ok-row.ensures.asks c.in_ok-ahead.ensures.asks,
     )
 
 pub returns-then-saturating_add-level-clause-goes_on : goal.returns-then-saturating_add-level-clause-goes_on
-returns-then-saturating_add-level-clause-goes_on g c = GoesOn-trans _ _ _ (GoesOn-trans _ _ _ c.row_of.ensures.goes_on c.look_ahead.ensures.goes_on) c.raise.ensures.goes_on
+returns-then-saturating_add-level-clause-goes_on g c =
+    GoesOn-trans _ _ _ (GoesOn-trans _ _ _ c.row_of.ensures.goes_on c.look_ahead.ensures.goes_on) c.raise.ensures.goes_on
 
 pub returns-then-saturating_add-level-clause-tidy : goal.returns-then-saturating_add-level-clause-tidy
 returns-then-saturating_add-level-clause-tidy g c =
@@ -79,24 +89,35 @@ returns-then-saturating_add-level-clause-tidy g c =
     let first : w ≡ get_or r.queue.items r.turn 0 = get_or_read r.queue.items _ _ c.requires.turn c.index-w.ensures 0 in
     let one = c.row_of.ensures.goes_on in
     let two = c.look_ahead.ensures.goes_on in
-    let tidy = looked-tidy c.args.update (g.V.View.shown c.args.view.now) (g.V.View.shown c.row_of.new.view) (g.V.View.shown c.look_ahead.new.view) r w c.requires.tidy (first-there w r c.requires.turn (sym first))
+    let tidy =
+    looked-tidy c.args.update (g.V.View.shown c.args.view.now) (g.V.View.shown c.row_of.new.view) (g.V.View.shown c.look_ahead.new.view)
+    r w c.requires.tidy (first-there w r c.requires.turn (sym first))
     one.lasts.same_size two.lasts.same_size one.further two.further c.in_ok-row.ensures.asks c.in_ok-ahead.ensures.asks in
     on_ok_weaker c.raise.result (λ still. still c.args.update tidy) c.raise.ensures.tidy
 
 pub returns-then-saturating_add-level-clause-turns : goal.returns-then-saturating_add-level-clause-turns
 returns-then-saturating_add-level-clause-turns g c = on_ok_weaker c.raise.result (λ raised. λ s root lv a wd b.
     let two = agreed _ _ s c.raise.ensures.goes_on.further a in
-    let ahead-is = looked-ahead (g.V.View.shown c.row_of.new.view).kept (g.V.View.shown c.look_ahead.new.view).kept s c.args.update c.args.level (g.V.View.shown c.row_of.new.view).size c.index-w.result.now c.deref.result.now c.in_ok-row.row.items c.in_ok-ahead.ahead
-    c.look_ahead.ensures.goes_on.further two lv c.in_ok-row.ensures.told.told c.in_ok-row.ensures.row c.deref.ensures.value c.in_ok-row.ensures.has (c.in_ok-ahead.ensures.count s two) (c.in_ok-ahead.ensures.next s two) in
-    raised c.args.update c.args.level s root a wd (more-than-level c.earlier_of-earlier.result c.in_ok-ahead.ahead.count c.args.level c.saturating_add.result c.saturating_add.ensures c.if-saturating_add-level.true) ahead-is b) c.raise.ensures.raised
+    let ahead-is =
+    looked-ahead (g.V.View.shown c.row_of.new.view).kept (g.V.View.shown c.look_ahead.new.view).kept s c.args.update c.args.level
+    (g.V.View.shown c.row_of.new.view).size c.index-w.result.now c.deref.result.now c.in_ok-row.row.items c.in_ok-ahead.ahead
+    c.look_ahead.ensures.goes_on.further two lv c.in_ok-row.ensures.told.told c.in_ok-row.ensures.row c.deref.ensures.value
+    c.in_ok-row.ensures.has (c.in_ok-ahead.ensures.count s two) (c.in_ok-ahead.ensures.next s two) in
+    raised c.args.update c.args.level s root a wd
+    (more-than-level c.earlier_of-earlier.result c.in_ok-ahead.ahead.count c.args.level c.saturating_add.result c.saturating_add.ensures
+    c.if-saturating_add-level.true) ahead-is b) c.raise.ensures.raised
 
 pub settle-requires-clause-read : goal.settle-requires-clause-read
-settle-requires-clause-read g c = still_has_list (g.V.View.shown c.row_of.new.view).kept (g.V.View.shown c.look_ahead.new.view).kept c.index-w.result.now c.look_ahead.ensures.goes_on.further c.in_ok-row.ensures.told.told
+settle-requires-clause-read g c =
+    still_has_list (g.V.View.shown c.row_of.new.view).kept (g.V.View.shown c.look_ahead.new.view).kept c.index-w.result.now
+    c.look_ahead.ensures.goes_on.further c.in_ok-row.ensures.told.told
 
 pub settle-requires-clause-has : goal.settle-requires-clause-has
 settle-requires-clause-has g c = λ y.
     let w : ℕ = c.index-w.result.now in
-    let same = same_list (g.V.View.shown c.row_of.new.view).kept (g.V.View.shown c.look_ahead.new.view).kept w c.look_ahead.ensures.goes_on.further c.in_ok-row.ensures.told.told in
+    let same =
+    same_list (g.V.View.shown c.row_of.new.view).kept (g.V.View.shown c.look_ahead.new.view).kept w c.look_ahead.ensures.goes_on.further
+    c.in_ok-row.ensures.told.told in
     ap (member y) c.deref-then-earlier-gt0.ensures.value ∙ (c.in_ok-row.ensures.has y ∙ ap (λ xs. member y xs || is_added c.args.update w y) (sym same))
 
 pub settle-requires-clause-tidy : goal.settle-requires-clause-tidy
@@ -106,18 +127,25 @@ settle-requires-clause-tidy g c =
     let first : w ≡ get_or r.queue.items r.turn 0 = get_or_read r.queue.items _ _ c.requires.turn c.index-w.ensures 0 in
     let one = c.row_of.ensures.goes_on in
     let two = c.look_ahead.ensures.goes_on in
-    looked-tidy c.args.update (g.V.View.shown c.args.view.now) (g.V.View.shown c.row_of.new.view) (g.V.View.shown c.look_ahead.new.view) r w c.requires.tidy (first-there w r c.requires.turn (sym first))
+    looked-tidy c.args.update (g.V.View.shown c.args.view.now) (g.V.View.shown c.row_of.new.view) (g.V.View.shown c.look_ahead.new.view) r w
+    c.requires.tidy (first-there w r c.requires.turn (sym first))
     one.lasts.same_size two.lasts.same_size one.further two.further c.in_ok-row.ensures.asks c.in_ok-ahead.ensures.asks
 
 pub returns-then-earlier-gt0-clause-goes_on : goal.returns-then-earlier-gt0-clause-goes_on
-returns-then-earlier-gt0-clause-goes_on g c = GoesOn-trans _ _ _ (GoesOn-trans _ _ _ c.row_of.ensures.goes_on c.look_ahead.ensures.goes_on) c.settle.ensures.goes_on
+returns-then-earlier-gt0-clause-goes_on g c =
+    GoesOn-trans _ _ _ (GoesOn-trans _ _ _ c.row_of.ensures.goes_on c.look_ahead.ensures.goes_on) c.settle.ensures.goes_on
 
 pub returns-then-earlier-gt0-clause-turns : goal.returns-then-earlier-gt0-clause-turns
 returns-then-earlier-gt0-clause-turns g c = on_ok_weaker c.settle.result (λ settled. λ s root lv a wd b.
     let two = agreed _ _ s c.settle.ensures.goes_on.further a in
-    let ahead-is = looked-ahead (g.V.View.shown c.row_of.new.view).kept (g.V.View.shown c.look_ahead.new.view).kept s c.args.update c.args.level (g.V.View.shown c.row_of.new.view).size c.index-w.result.now c.deref.result.now c.in_ok-row.row.items c.in_ok-ahead.ahead
-    c.look_ahead.ensures.goes_on.further two lv c.in_ok-row.ensures.told.told c.in_ok-row.ensures.row c.deref.ensures.value c.in_ok-row.ensures.has (c.in_ok-ahead.ensures.count s two) (c.in_ok-ahead.ensures.next s two) in
-    let few = within-level c.earlier_of-earlier.result c.in_ok-ahead.ahead.count c.args.level c.saturating_add.result c.saturating_add.ensures c.if-saturating_add-level.false c.ranges.level.fits in
+    let ahead-is =
+    looked-ahead (g.V.View.shown c.row_of.new.view).kept (g.V.View.shown c.look_ahead.new.view).kept s c.args.update c.args.level
+    (g.V.View.shown c.row_of.new.view).size c.index-w.result.now c.deref.result.now c.in_ok-row.row.items c.in_ok-ahead.ahead
+    c.look_ahead.ensures.goes_on.further two lv c.in_ok-row.ensures.told.told c.in_ok-row.ensures.row c.deref.ensures.value
+    c.in_ok-row.ensures.has (c.in_ok-ahead.ensures.count s two) (c.in_ok-ahead.ensures.next s two) in
+    let few =
+    within-level c.earlier_of-earlier.result c.in_ok-ahead.ahead.count c.args.level c.saturating_add.result c.saturating_add.ensures
+    c.if-saturating_add-level.false c.ranges.level.fits in
     settled s root a wd (omega (arith, few, ahead-is.count, c.earlier_of-earlier.ensures)) b) c.settle.ensures.settled
 
 pub returns-clause-tidy : goal.returns-clause-tidy
@@ -127,9 +155,12 @@ returns-clause-tidy g c =
     let first : w ≡ get_or r.queue.items r.turn 0 = get_or_read r.queue.items _ _ c.requires.turn c.index-w.ensures 0 in
     let one = c.row_of.ensures.goes_on in
     let two = c.look_ahead.ensures.goes_on in
-    let tidy = looked-tidy c.args.update (g.V.View.shown c.args.view.now) (g.V.View.shown c.row_of.new.view) (g.V.View.shown c.look_ahead.new.view) r w c.requires.tidy (first-there w r c.requires.turn (sym first))
+    let tidy =
+    looked-tidy c.args.update (g.V.View.shown c.args.view.now) (g.V.View.shown c.row_of.new.view) (g.V.View.shown c.look_ahead.new.view)
+    r w c.requires.tidy (first-there w r c.requires.turn (sym first))
     one.lasts.same_size two.lasts.same_size one.further two.further c.in_ok-row.ensures.asks c.in_ok-ahead.ensures.asks in
-    leave-tidy c.args.update (g.V.View.shown c.look_ahead.new.view) w (record { earlier = 0; later = 0; turn = 0; is_candidate = false; is_weak = false }) r c.leave.new.self tidy
+    leave-tidy c.args.update (g.V.View.shown c.look_ahead.new.view) w
+    (record { earlier = 0; later = 0; turn = 0; is_candidate = false; is_weak = false }) r c.leave.new.self tidy
     (subst (λ (m : Mark). Leaves w m r c.leave.new.self) c.past.ensures c.in_ok-leave.ensures) c.requires.turn (sym first) (λ e. absurd (false≢true e)) refl
     (still_has_list (g.V.View.shown c.row_of.new.view).kept (g.V.View.shown c.look_ahead.new.view).kept w two.further c.in_ok-row.ensures.told.told)
 
@@ -138,8 +169,14 @@ returns-clause-turns g c = λ s root lv a wd b.
     let r : Rising = c.args.rising.now in
     let w : ℕ = c.index-w.result.now in
     let first : w ≡ get_or r.queue.items r.turn 0 = get_or_read r.queue.items _ _ c.requires.turn c.index-w.ensures 0 in
-    let ahead-is = looked-ahead (g.V.View.shown c.row_of.new.view).kept (g.V.View.shown c.look_ahead.new.view).kept s c.args.update c.args.level (g.V.View.shown c.row_of.new.view).size w c.deref.result.now c.in_ok-row.row.items c.in_ok-ahead.ahead
-    c.look_ahead.ensures.goes_on.further a lv c.in_ok-row.ensures.told.told c.in_ok-row.ensures.row c.deref.ensures.value c.in_ok-row.ensures.has (c.in_ok-ahead.ensures.count s a) (c.in_ok-ahead.ensures.next s a) in
-    let few = within-level c.earlier_of-earlier.result c.in_ok-ahead.ahead.count c.args.level c.saturating_add.result c.saturating_add.ensures c.if-saturating_add-level.false c.ranges.level.fits in
+    let ahead-is =
+    looked-ahead (g.V.View.shown c.row_of.new.view).kept (g.V.View.shown c.look_ahead.new.view).kept s c.args.update c.args.level
+    (g.V.View.shown c.row_of.new.view).size w c.deref.result.now c.in_ok-row.row.items c.in_ok-ahead.ahead
+    c.look_ahead.ensures.goes_on.further a lv c.in_ok-row.ensures.told.told c.in_ok-row.ensures.row c.deref.ensures.value
+    c.in_ok-row.ensures.has (c.in_ok-ahead.ensures.count s a) (c.in_ok-ahead.ensures.next s a) in
+    let few =
+    within-level c.earlier_of-earlier.result c.in_ok-ahead.ahead.count c.args.level c.saturating_add.result c.saturating_add.ensures
+    c.if-saturating_add-level.false c.ranges.level.fits in
     pass-between (search_with c.args.update c.args.level s) root w r c.leave.new.self wd c.requires.tidy.orderly c.requires.turn (sym first)
-    (subst (λ (m : Mark). Leaves w m r c.leave.new.self) c.past.ensures c.in_ok-leave.ensures) (omega (arith, few, ahead-is.count)) (omega (arith, c.if-earlier-gt0.false, c.earlier_of-earlier.ensures)) b
+    (subst (λ (m : Mark). Leaves w m r c.leave.new.self) c.past.ensures c.in_ok-leave.ensures) (omega (arith, few, ahead-is.count))
+    (omega (arith, c.if-earlier-gt0.false, c.earlier_of-earlier.ensures)) b

@@ -7,8 +7,10 @@ use Rattle.kc_insert.proofs.turns.take_turns.Goals as goal
 pub loop-rising-smaller : goal.loop-rising-smaller
 loop-rising-smaller g c =
     let i = c.loop-rising.invariant in
-    let fits : length c.loop-rising.rising.queue.items ≤ (g.V.View.shown c.loop-rising.view).size = queue-fits c.args.update (g.V.View.shown c.loop-rising.view) c.loop-rising.rising i.tidy in
-    let l : c.loop-rising.rising.turn < length c.loop-rising.rising.queue.items = omega (arith, c.len.ensures, c.loop-rising-test.true, c.loop-rising.rising.queue.ok.0) in
+    let fits : length c.loop-rising.rising.queue.items ≤ (g.V.View.shown c.loop-rising.view).size =
+    queue-fits c.args.update (g.V.View.shown c.loop-rising.view) c.loop-rising.rising i.tidy in
+    let l : c.loop-rising.rising.turn < length c.loop-rising.rising.queue.items =
+    omega (arith, c.len.ensures, c.loop-rising-test.true, c.loop-rising.rising.queue.ok.0) in
     omega (arith, fits, l, i.goes_on.lasts.same_size, c.in_ok-take_turn.ensures.turn)
 
 pub loop-rising-preserved : goal.loop-rising-preserved

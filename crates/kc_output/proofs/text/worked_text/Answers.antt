@@ -31,7 +31,8 @@ returns-clause-text g c =
     after.journal.levels.core =
     subst (λ (cs : List ℕ). TellsBatches (shown_each c.args.work.now.setting.show ids) 1 graph cs (batches_of c.args.batches.now) before written
     after.journal.levels.core) core
-    (subst (λ (x : SimpleGraph). TellsBatches (shown_each c.args.work.now.setting.show ids) 1 x course.journal.levels.core (batches_of c.args.batches.now) before
+    (subst (λ (x : SimpleGraph). TellsBatches (shown_each c.args.work.now.setting.show ids) 1 x course.journal.levels.core
+    (batches_of c.args.batches.now) before
     written after.journal.levels.core) same c.in_ok-course-2.ensures.text) in
     let first : before ≡ first_line graph start.core ++ (shown_rounds c.in_ok-begun.begun.rounds ++ shown_each c.args.work.now.setting.show ids start.core) =
     c.in_ok-text.ensures ∙ (ap (λ (x : SimpleGraph). first_line x c.core-core.result.now ++ (shown_rounds c.in_ok-begun.begun.rounds
@@ -40,7 +41,8 @@ returns-clause-text g c =
     c.core-core.ensures.core c.deref.ensures.value) in
     IsTextFrom-parts c.args.work.now.setting ids graph (batches_of c.args.batches.now) start.core c.in_ok-begun.begun.rounds before written
     after.journal.levels.core c.put_end.new.text.items numbers c.in_ok-begun.ensures.rounds first tells
-    (c.in_ok-put_end.ensures ∙ ap₂ (λ (is cs : List ℕ). written ++ (shown_last c.args.work.now.setting.show is cs ++ shown_level c.args.work.now.setting.level is cs))
+    (c.in_ok-put_end.ensures ∙ ap₂ (λ (is cs : List ℕ). written ++
+    (shown_last c.args.work.now.setting.show is cs ++ shown_level c.args.work.now.setting.level is cs))
     c.deref-2.ensures.value c.core_numbers.ensures.core)
 
 pub returns-clause-ran : goal.returns-clause-ran

@@ -20,7 +20,9 @@ returns-clause-ended g c = λ s a.
     let v = c.args.update.v in
     let none : (y : ℕ) → is_visited f y ≡ false = λ y. ap is_some (c.new-falling.ensures.visits y) in
     let start : FallsIn c.args.update c.args.level s f 0 nobody =
-    subst (λ (xs : List ℕ). Cascade (search_without c.args.update c.args.level s) xs 0 nobody (is_visited f) (support_at f) (seen_at f) nobody) (sym c.new-falling.ensures.list) (calm (search_without c.args.update c.args.level s) (is_visited f) (support_at f) (seen_at f) none) in
+    subst
+    (λ (xs : List ℕ). Cascade (search_without c.args.update c.args.level s) xs 0 nobody (is_visited f) (support_at f) (seen_at f) nobody)
+    (sym c.new-falling.ensures.list) (calm (search_without c.args.update c.args.level s) (is_visited f) (support_at f) (seen_at f) none) in
     let falls = c.in_ok-take_turns.ensures.falls s a (c.in_ok-visit_end-2.ensures.falls s second (c.in_ok-visit_end.ensures.falls s first start)) in
     let differ : u ≢ v = λ e. absurd (omega (arith, e, c.args.update.ordered)) in
     record {

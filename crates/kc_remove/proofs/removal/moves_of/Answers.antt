@@ -13,13 +13,18 @@ no_items (x ∷ xs) n b l e t = let k : n ≡ 0 = eqb-true n 0 (sym e ∙ t) in 
 pub returns-then-not-branch-clause-sure : goal.returns-then-not-branch-clause-sure
 returns-then-not-branch-clause-sure g c = λ s used h l a.
     let e = c.in_ok-has_edge.ensures in
-    kept-sure c.args.update used s c.requires.removes h l (tells-edge (g.V.View.shown c.has_edge.new.view).kept s c.args.update.u c.args.update.v c.in_ok-has_edge.field-0 a e.read l e.told ∙ c.if-not-branch.true)
+    kept-sure c.args.update used s c.requires.removes h l
+    (tells-edge (g.V.View.shown c.has_edge.new.view).kept s c.args.update.u c.args.update.v c.in_ok-has_edge.field-0 a e.read l e.told
+    ∙ c.if-not-branch.true)
 
 pub returns-then-level-eq0-clause-sure : goal.returns-then-level-eq0-clause-sure
 returns-then-level-eq0-clause-sure g c = λ s used h l a.
     let e = c.in_ok-has_edge.ensures in
     let first = agreed _ _ s c.level_of.ensures.goes_on.further a in
-    let there : adjacent s.graph c.args.update.u c.args.update.v ≡ true = tells-edge (g.V.View.shown c.has_edge.new.view).kept s c.args.update.u c.args.update.v c.in_ok-has_edge.field-0 first e.read l e.told ∙ c.if-not-branch.false in
+    let there : adjacent s.graph c.args.update.u c.args.update.v ≡ true =
+    tells-edge (g.V.View.shown c.has_edge.new.view).kept s c.args.update.u c.args.update.v c.in_ok-has_edge.field-0 first e.read l
+    e.told
+    ∙ c.if-not-branch.false in
     let some : 0 < c.in_ok-level.level = some-level c.args.update s c.in_ok-level.level h l there (c.in_ok-level.ensures.told s a) in
     absurd (omega (arith, some, c.if-level-eq0.true))
 
@@ -34,15 +39,23 @@ returns-then-is_empty-clause-sure g c = λ s used h l a.
     let e = c.in_ok-has_edge.ensures in
     let second = agreed _ _ s c.find_fallen.ensures.goes_on.further a in
     let first = agreed _ _ s c.level_of.ensures.goes_on.further second in
-    let there : adjacent s.graph c.args.update.u c.args.update.v ≡ true = tells-edge (g.V.View.shown c.has_edge.new.view).kept s c.args.update.u c.args.update.v c.in_ok-has_edge.field-0 first e.read l e.told ∙ c.if-not-branch.false in
+    let there : adjacent s.graph c.args.update.u c.args.update.v ≡ true =
+    tells-edge (g.V.View.shown c.has_edge.new.view).kept s c.args.update.u c.args.update.v c.in_ok-has_edge.field-0 first e.read l
+    e.told
+    ∙ c.if-not-branch.false in
     let list = c.in_ok-list.field-0.list in
     let none : list.items ≡ [] = no_items list.items list.len c.is_empty.result (sym list.ok.0) c.is_empty.ensures c.if-is_empty.true in
-    plain-sure c.args.update used s c.in_ok-level.level c.in_ok-list.field-0 c.requires.removes h l there (c.in_ok-level.ensures.told s second) (c.in_ok-list.ensures.ended s a) none
+    plain-sure c.args.update used s c.in_ok-level.level c.in_ok-list.field-0 c.requires.removes h l there
+    (c.in_ok-level.ensures.told s second) (c.in_ok-list.ensures.ended s a) none
 
 pub returns-clause-sure : goal.returns-clause-sure
 returns-clause-sure g c = λ s used h l a.
     let e = c.in_ok-has_edge.ensures in
     let second = agreed _ _ s c.find_fallen.ensures.goes_on.further a in
     let first = agreed _ _ s c.level_of.ensures.goes_on.further second in
-    let there : adjacent s.graph c.args.update.u c.args.update.v ≡ true = tells-edge (g.V.View.shown c.has_edge.new.view).kept s c.args.update.u c.args.update.v c.in_ok-has_edge.field-0 first e.read l e.told ∙ c.if-not-branch.false in
-    fall-sure c.args.update used s c.in_ok-level.level c.in_ok-list.field-0 c.requires.removes h l there (c.in_ok-level.ensures.told s second) (c.in_ok-list.ensures.ended s a)
+    let there : adjacent s.graph c.args.update.u c.args.update.v ≡ true =
+    tells-edge (g.V.View.shown c.has_edge.new.view).kept s c.args.update.u c.args.update.v c.in_ok-has_edge.field-0 first e.read l
+    e.told
+    ∙ c.if-not-branch.false in
+    fall-sure c.args.update used s c.in_ok-level.level c.in_ok-list.field-0 c.requires.removes h l there
+    (c.in_ok-level.ensures.told s second) (c.in_ok-list.ensures.ended s a)

@@ -15,7 +15,8 @@ nearby update a y near = elim near [ inl e ↦ inl e | inr e ↦ inr (inl e) ]
 pub visit-requires-clause-tidy : goal.visit-requires-clause-tidy
 visit-requires-clause-tidy g c =
     let e = c.core_of.ensures.goes_on in
-    tidy-core c.args.update (g.V.View.shown c.args.view.now) (g.V.View.shown c.core_of.new.view) c.args.falling.now c.args.end c.requires.tidy e.lasts.same_size e.further c.in_ok-core.ensures.told
+    tidy-core c.args.update (g.V.View.shown c.args.view.now) (g.V.View.shown c.core_of.new.view) c.args.falling.now c.args.end
+    c.requires.tidy e.lasts.same_size e.further c.in_ok-core.ensures.told
     (nearby c.args.update (g.V.View.shown c.args.view.now).kept c.args.end c.requires.is_end)
 
 pub returns-in_ok-visit-clause-goes_on : goal.returns-in_ok-visit-clause-goes_on
@@ -31,7 +32,8 @@ returns-in_ok-visit-clause-falls g c = λ s a falls.
 pub returns-else-core-level-clause-tidy : goal.returns-else-core-level-clause-tidy
 returns-else-core-level-clause-tidy g c =
     let e = c.core_of.ensures.goes_on in
-    tidy-core c.args.update (g.V.View.shown c.args.view.now) (g.V.View.shown c.core_of.new.view) c.args.falling.now c.args.end c.requires.tidy e.lasts.same_size e.further c.in_ok-core.ensures.told
+    tidy-core c.args.update (g.V.View.shown c.args.view.now) (g.V.View.shown c.core_of.new.view) c.args.falling.now c.args.end
+    c.requires.tidy e.lasts.same_size e.further c.in_ok-core.ensures.told
     (nearby c.args.update (g.V.View.shown c.args.view.now).kept c.args.end c.requires.is_end)
 
 pub returns-else-core-level-clause-visited : goal.returns-else-core-level-clause-visited

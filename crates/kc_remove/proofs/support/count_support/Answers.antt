@@ -12,11 +12,13 @@ use Rattle.kc_remove.proofs.Listed.{counted-all, row-vertex}
 use Rattle.kc_remove.proofs.support.count_support.Goals as goal
 use Rattle.kc_remove.proofs.support.count_support.Goals.{then-branch, else-branch}
 
-more_yes : (p : ℕ → Bool) (xs : List ℕ) (i n n' y : ℕ) (b : Bool) → i < length xs → y ≡ get_or xs i 0 → b ≡ p y → b ≡ true → n ≡ count_by p (take i xs) → n' ≡ n + 1 → n' ≡ count_by p (take (i + 1) xs)
+more_yes : (p : ℕ → Bool) (xs : List ℕ) (i n n' y : ℕ) (b : Bool) → i < length xs → y ≡ get_or xs i 0 → b ≡ p y → b ≡ true
+    → n ≡ count_by p (take i xs) → n' ≡ n + 1 → n' ≡ count_by p (take (i + 1) xs)
 more_yes p xs i n n' y b l at is t before more =
     omega (arith, before, more, count_by_more_yes p xs i 0 l (ap p (sym at) ∙ (sym is ∙ t)))
 
-more_no : (p : ℕ → Bool) (xs : List ℕ) (i n n' y : ℕ) (b : Bool) → i < length xs → y ≡ get_or xs i 0 → b ≡ p y → b ≡ false → n ≡ count_by p (take i xs) → n' ≡ n → n' ≡ count_by p (take (i + 1) xs)
+more_no : (p : ℕ → Bool) (xs : List ℕ) (i n n' y : ℕ) (b : Bool) → i < length xs → y ≡ get_or xs i 0 → b ≡ p y → b ≡ false
+    → n ≡ count_by p (take i xs) → n' ≡ n → n' ≡ count_by p (take (i + 1) xs)
 more_no p xs i n n' y b l at is t before more =
     omega (arith, before, more, count_by_more_no p xs i 0 l (ap p (sym at) ∙ (sym is ∙ t)))
 
@@ -25,7 +27,10 @@ counts-requires-clause-vertex g c =
     let i = c.loop-i.invariant in
     let old = g.V.View.shown c.args.view.now in
     let row = list_of old.kept c.args.x in
-    row-vertex old.size _ c.args.x c.loop-i.i c.neighbour-y.result row (kept-list (g.V.View.shown c.args.view.now).size c.args.x (g.V.View.shown c.args.view.now).kept c.requires.lists c.requires.read) (omega (arith, c.requires.degree, c.loop-i-test.true)) (c.neighbour-y.ensures ∙ ap (λ xs. get_or xs c.loop-i.i 0) i.row) i.goes_on.lasts.same_size
+    row-vertex old.size _ c.args.x c.loop-i.i c.neighbour-y.result row
+    (kept-list (g.V.View.shown c.args.view.now).size c.args.x (g.V.View.shown c.args.view.now).kept c.requires.lists c.requires.read)
+    (omega (arith, c.requires.degree, c.loop-i-test.true)) (c.neighbour-y.ensures ∙ ap (λ xs. get_or xs c.loop-i.i 0) i.row)
+    i.goes_on.lasts.same_size
 
 pub loop-i-preserved : goal.loop-i-preserved
 loop-i-preserved g c =
@@ -45,8 +50,12 @@ loop-i-preserved g c =
           let at : c.neighbour-y.result ≡ get_or row c.loop-i.i 0 = c.neighbour-y.ensures ∙ ap (λ xs. get_or xs c.loop-i.i 0) i.row in
           let p = is_counted c.args.update c.args.level s c.args.falling.now.list.items c.args.x in
           elim c.if-branch.branch [
-            | then-branch w ↦ more_yes p row c.loop-i.i c.loop-i.support c.if-branch.support c.neighbour-y.result c.in_ok-counts.field-0 l at here w.if-branch.true before w.support-is
-            | else-branch w ↦ more_no p row c.loop-i.i c.loop-i.support c.if-branch.support c.neighbour-y.result c.in_ok-counts.field-0 l at here w.if-branch.false before w.support-is
+            | then-branch w ↦
+                more_yes p row c.loop-i.i c.loop-i.support c.if-branch.support c.neighbour-y.result c.in_ok-counts.field-0 l at here
+                w.if-branch.true before w.support-is
+            | else-branch w ↦
+                more_no p row c.loop-i.i c.loop-i.support c.if-branch.support c.neighbour-y.result c.in_ok-counts.field-0 l at here
+                w.if-branch.false before w.support-is
           ];
     }
 
@@ -59,5 +68,6 @@ returns-clause-told g c = λ s a.
     let same : row ≡ neighbours_of s.graph c.args.x = sym i.row ∙ (list-true _ s c.args.x a i.read).1 in
     let whole : count_by p (take c.loop-i.i row) ≡ count_by p row = ap (count_by p) all in
     let counted : count_by p row ≡ support (search_without c.args.update c.args.level s) c.args.falling.now.list.items c.args.x =
-    counted-all c.args.update c.args.level s c.args.falling.now.list.items (g.V.View.shown c.args.view.now).size c.args.x row (kept-list (g.V.View.shown c.args.view.now).size c.args.x (g.V.View.shown c.args.view.now).kept c.requires.lists c.requires.read) same in
+    counted-all c.args.update c.args.level s c.args.falling.now.list.items (g.V.View.shown c.args.view.now).size c.args.x row
+    (kept-list (g.V.View.shown c.args.view.now).size c.args.x (g.V.View.shown c.args.view.now).kept c.requires.lists c.requires.read) same in
     omega (arith, i.told s a, whole, counted)

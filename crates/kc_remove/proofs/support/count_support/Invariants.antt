@@ -17,5 +17,6 @@ invariant-loop-i g l =
       row : list_of (v.shown l.view).kept l.x ≡ list_of (v.shown l.fn.view).kept l.x;
       tidy : IsTidyFalling l.update (v.shown l.view) l.falling;
       few : l.support ≤ l.i;
-      told : (s : Ranked) → Agrees (v.shown l.view).kept s → l.support ≡ count_by (is_counted l.update l.level s l.falling.list.items l.x) (take l.i (list_of (v.shown l.fn.view).kept l.x));
+      told : (s : Ranked) → Agrees (v.shown l.view).kept s
+          → l.support ≡ count_by (is_counted l.update l.level s l.falling.list.items l.x) (take l.i (list_of (v.shown l.fn.view).kept l.x));
     }

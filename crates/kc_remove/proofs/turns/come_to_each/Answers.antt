@@ -18,7 +18,10 @@ pub come_to-requires-clause-vertex : goal.come_to-requires-clause-vertex
 come_to-requires-clause-vertex g c =
     let i = c.loop-i.invariant in
     let old = g.V.View.shown c.args.view.now in
-    row-vertex old.size _ c.args.x c.loop-i.i c.neighbour-y.result (list_of old.kept c.args.x) (kept-list (g.V.View.shown c.args.view.now).size c.args.x (g.V.View.shown c.args.view.now).kept c.requires.lists c.requires.read) (omega (arith, c.requires.degree, c.loop-i-test.true)) (c.neighbour-y.ensures ∙ ap (λ xs. get_or xs c.loop-i.i 0) i.row) i.goes_on.lasts.same_size
+    row-vertex old.size _ c.args.x c.loop-i.i c.neighbour-y.result (list_of old.kept c.args.x)
+    (kept-list (g.V.View.shown c.args.view.now).size c.args.x (g.V.View.shown c.args.view.now).kept c.requires.lists c.requires.read)
+    (omega (arith, c.requires.degree, c.loop-i-test.true)) (c.neighbour-y.ensures ∙ ap (λ xs. get_or xs c.loop-i.i 0) i.row)
+    i.goes_on.lasts.same_size
 
 pub loop-i-preserved : goal.loop-i-preserved
 loop-i-preserved g c =
@@ -28,8 +31,14 @@ loop-i-preserved g c =
     let o = c.in_ok-come_to.ensures in
     let l : c.loop-i.i < length row = omega (arith, c.requires.degree, c.loop-i-test.true) in
     let at : c.neighbour-y.result ≡ get_or row c.loop-i.i 0 = c.neighbour-y.ensures ∙ ap (λ xs. get_or xs c.loop-i.i 0) i.row in
-    let seam : take (c.loop-i.i + 1) row ≡ take c.loop-i.i row ++ c.neighbour-y.result ∷ [] = take-more c.loop-i.i row l ∙ ap (λ n. take c.loop-i.i row ++ n ∷ []) (sym at) in
-    let not_yet : member c.neighbour-y.result (take c.loop-i.i row) ≡ false = ap (λ n. member n (take c.loop-i.i row)) at ∙ take-not_here c.loop-i.i row l (Distinct-from_increasing row (kept-list (g.V.View.shown c.args.view.now).size c.args.x (g.V.View.shown c.args.view.now).kept c.requires.lists c.requires.read).ascends) in
+    let seam : take (c.loop-i.i + 1) row ≡ take c.loop-i.i row ++ c.neighbour-y.result ∷ [] =
+    take-more c.loop-i.i row l ∙ ap (λ n. take c.loop-i.i row ++ n ∷ []) (sym at) in
+    let not_yet : member c.neighbour-y.result (take c.loop-i.i row) ≡ false =
+    ap (λ n. member n (take c.loop-i.i row)) at
+    ∙ take-not_here c.loop-i.i row l
+    (Distinct-from_increasing row
+    (kept-list (g.V.View.shown c.args.view.now).size c.args.x (g.V.View.shown c.args.view.now).kept c.requires.lists
+    c.requires.read).ascends) in
     record {
       goes_on = GoesOn-trans _ _ _ i.goes_on e;
       read = still_has_list _ _ c.args.x e.further i.read;
@@ -50,5 +59,7 @@ returns-clause-falls g c = λ s a f.
     let row = list_of (g.V.View.shown c.args.view.now).kept c.args.x in
     let all : take c.loop-i.i row ≡ row = ap (λ n. take n row) (omega (arith, c.loop-i-test.false, c.loop-i.auto.i-end, c.requires.degree)) ∙ take-length row in
     let same : row ≡ neighbours_of s.graph c.args.x = sym i.row ∙ (list-true _ s c.args.x a i.read).1 in
-    let falls = subst (λ (xs : List ℕ). FallsIn c.args.update c.args.level s c.loop-i.falling c.args.turn (has_come c.args.update s c.args.x xs)) all (i.falls s a f) in
+    let falls =
+    subst (λ (xs : List ℕ). FallsIn c.args.update c.args.level s c.loop-i.falling c.args.turn (has_come c.args.update s c.args.x xs))
+    all (i.falls s a f) in
     turn-over c.args.update c.args.level s c.args.turn c.args.x row c.loop-i.falling i.longer i.at same falls

@@ -9,7 +9,8 @@ use Rattle.kc_remove.proofs.turns.take_turns.Goals as goal
 pub loop-turn-smaller : goal.loop-turn-smaller
 loop-turn-smaller g c =
     let i = c.loop-turn.invariant in
-    let fits : length c.loop-turn.falling.list.items ≤ (g.V.View.shown c.loop-turn.view).size = list-fits c.args.update (g.V.View.shown c.loop-turn.view) c.loop-turn.falling i.tidy in
+    let fits : length c.loop-turn.falling.list.items ≤ (g.V.View.shown c.loop-turn.view).size =
+    list-fits c.args.update (g.V.View.shown c.loop-turn.view) c.loop-turn.falling i.tidy in
     let l : c.loop-turn.turn < length c.loop-turn.falling.list.items = omega (arith, c.len.ensures, c.loop-turn-test.true, c.loop-turn.falling.list.ok.0) in
     omega (arith, fits, l, i.goes_on.lasts.same_size)
 
@@ -29,5 +30,6 @@ loop-turn-preserved g c =
 pub returns-clause-falls : goal.returns-clause-falls
 returns-clause-falls g c = λ s a f.
     let i = c.loop-turn.invariant in
-    let e : c.loop-turn.turn ≡ length c.loop-turn.falling.list.items = omega (arith, i.turn_in, c.len.ensures, c.loop-turn-test.false, c.loop-turn.falling.list.ok.0) in
+    let e : c.loop-turn.turn ≡ length c.loop-turn.falling.list.items =
+    omega (arith, i.turn_in, c.len.ensures, c.loop-turn-test.false, c.loop-turn.falling.list.ok.0) in
     subst (λ (n : ℕ). FallsIn c.args.update c.args.level s c.loop-turn.falling n nobody) e (i.falls s a f)

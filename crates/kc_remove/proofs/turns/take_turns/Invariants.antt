@@ -15,7 +15,8 @@ invariant-loop-turn g l =
       tidy : IsTidyFalling l.update (v.shown l.view) l.falling;
       still : (z : ℕ) → is_visited l.fn.falling z ≡ true → is_visited l.falling z ≡ true;
       turn_in : l.turn ≤ length l.falling.list.items;
-      falls : (s : Ranked) → Agrees (v.shown l.view).kept s → FallsIn l.update l.level s l.fn.falling 0 nobody → FallsIn l.update l.level s l.falling l.turn nobody;
+      falls : (s : Ranked) → Agrees (v.shown l.view).kept s → FallsIn l.update l.level s l.fn.falling 0 nobody
+          → FallsIn l.update l.level s l.falling l.turn nobody;
     }
 
 abbrev pub decreases-loop-turn : goal.decreases-loop-turn

@@ -8,7 +8,8 @@ pub returns-clause-empty : goal.returns-clause-empty
 returns-clause-empty c = legal-nil
 
 pub returns-clause-longer : goal.returns-clause-longer
-returns-clause-longer c = λ shape opening log e h may holds. legal-push shape opening log e h may (subst (Holds shape) (state_of-push shape opening log e) holds)
+returns-clause-longer c =
+    λ shape opening log e h may holds. legal-push shape opening log e h may (subst (Holds shape) (state_of-push shape opening log e) holds)
 
 pub returns-clause-prefix : goal.returns-clause-prefix
 returns-clause-prefix c = legal-prefix

@@ -1,5 +1,6 @@
 -- Each sample breaks one: a word too many, a note, a version ahead, a vertex out, two items of one pair, or a stamp yet to come.
-use Rattle.kc_table.proofs.Samples.{longer_opening-refused, noted_opening-refused, ahead_opening-refused, missing_opening-refused, tied_opening-refused, stamped_opening-refused}
+use Rattle.kc_table.proofs.Samples.{longer_opening-refused, noted_opening-refused, ahead_opening-refused, missing_opening-refused}
+use Rattle.kc_table.proofs.Samples.{tied_opening-refused, stamped_opening-refused}
 use Rattle.kc_table.proofs.laws.each_condition_of_opening_words_counts.Goals as goal
 
 pub returns-clause-one_each : goal.returns-clause-one_each

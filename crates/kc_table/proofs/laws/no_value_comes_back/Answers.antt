@@ -4,7 +4,11 @@ use Rattle.kc_table.proofs.Fresh.{fresh, fresh_vertex}
 use Rattle.kc_table.proofs.laws.no_value_comes_back.Goals as goal
 
 pub returns-clause-versioned : goal.returns-clause-versioned
-returns-clause-versioned c = λ shape opening word first between last v a b legal. fresh shape opening word first between last v a b (legal-prefix shape opening between last b legal) legal
+returns-clause-versioned c =
+    λ shape opening word first between last v a b legal.
+    fresh shape opening word first between last v a b (legal-prefix shape opening between last b legal) legal
 
 pub returns-clause-vertex : goal.returns-clause-vertex
-returns-clause-vertex c = λ shape opening v first between last a b legal. fresh_vertex shape opening v first between last a b (legal-prefix shape opening between last b legal) legal
+returns-clause-vertex c =
+    λ shape opening v first between last a b legal.
+    fresh_vertex shape opening v first between last a b (legal-prefix shape opening between last b legal) legal

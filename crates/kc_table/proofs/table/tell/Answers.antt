@@ -12,9 +12,13 @@ join_seat-requires c = (
   search rules,
   search rules,
   search rules,
-  joins _ _ _ _ _ (ap (λ m. m.0.spent) c.split_seat-new.ensures.2 ∙ c.writer.invariant.1) (ap (λ s. s.me.0.spent) c.replace-old.ensures.value ∙ c.pass.invariant.1),
+  joins _ _ _ _ _ (ap (λ m. m.0.spent) c.split_seat-new.ensures.2 ∙ c.writer.invariant.1)
+      (ap (λ s. s.me.0.spent) c.replace-old.ensures.value ∙ c.pass.invariant.1),
 )
 
 pub load-requires : goal.load-requires
-load-requires c =
-    (search rules, search rules, loads _ _ _ _ _ (ap (λ m. m.0.spent) c.join_seat.ensures.2 ∙ (ap (λ m. m.0.spent) c.split_seat-new.ensures.2 ∙ c.writer.invariant.1)))
+load-requires c = (
+  search rules,
+  search rules,
+  loads _ _ _ _ _ (ap (λ m. m.0.spent) c.join_seat.ensures.2 ∙ (ap (λ m. m.0.spent) c.split_seat-new.ensures.2 ∙ c.writer.invariant.1)),
+)

@@ -16,7 +16,9 @@ pub store-requires-clause-legal : goal.store-requires-clause-legal
 store-requires-clause-legal g c =
     let of = c.in_ok-words.ensures in
     let same : c.in_ok-to_vec.field-0.items ≡ pair_opening = search rules in
-    legal_at c.in_ok-words.seat (event 0 9223372036856872960) pair_shape pair_opening [] (ap (λ (s : Seen). s.table.shape) of.writer ∙ (of.words.0 ∙ pair_is _ _ _ _)) (ap (λ (s : Seen). s.table.opening) of.writer ∙ (of.words.1 ∙ same)) (ap (λ (s : Seen). s.log) of.writer) pair_first
+    legal_at c.in_ok-words.seat (event 0 9223372036856872960) pair_shape pair_opening []
+    (ap (λ (s : Seen). s.table.shape) of.writer ∙ (of.words.0 ∙ pair_is _ _ _ _))
+    (ap (λ (s : Seen). s.table.opening) of.writer ∙ (of.words.1 ∙ same)) (ap (λ (s : Seen). s.log) of.writer) pair_first
 
 pub store-requires-2-clause-legal : goal.store-requires-2-clause-legal
 store-requires-2-clause-legal g c =

@@ -15,12 +15,16 @@ store-requires-clause-legal c =
     let more = stored-more l.stored l.seat.log (omega (arith, c.loop-stored-test.true)) l.invariant.1 in
     let now : l.seat.table ≡ c.args.words.now = l.invariant.0 ∙ c.requires.table in
     subst (λ (n : ℕ). Legal l.seat.table.shape l.seat.table.opening (l.seat.log ++ event 2 ((n + 1) * 1099511627776 + 549755813888) ∷ [])) (sym c.from.ensures)
-    (legal_at l.seat (event 2 ((l.stored + 1) * 1099511627776 + 549755813888)) lone_shape (lone_words 0) l.seat.log (ap (λ t. t.shape) now ∙ c.requires.lone.0) (ap (λ t. t.opening) now ∙ c.requires.lone.1) refl more.legal)
+    (legal_at l.seat (event 2 ((l.stored + 1) * 1099511627776 + 549755813888)) lone_shape (lone_words 0) l.seat.log
+    (ap (λ t. t.shape) now ∙ c.requires.lone.0) (ap (λ t. t.opening) now ∙ c.requires.lone.1) refl more.legal)
 
 pub loop-stored-preserved : goal.loop-stored-preserved
 loop-stored-preserved c =
     let l = c.loop-stored in
     let more = stored-more l.stored l.seat.log (omega (arith, c.loop-stored-test.true)) l.invariant.1 in (
       ap (λ (s : Seen). s.table) c.store.ensures ∙ l.invariant.0,
-      subst (Stored (l.stored + 1)) (ap (λ (n : ℕ). l.seat.log ++ event 2 ((n + 1) * 1099511627776 + 549755813888) ∷ []) (sym c.from.ensures) ∙ sym (ap (λ (s : Seen). s.log) c.store.ensures)) more,
+      subst (Stored (l.stored + 1))
+          (ap (λ (n : ℕ). l.seat.log ++ event 2 ((n + 1) * 1099511627776 + 549755813888) ∷ []) (sym c.from.ensures)
+          ∙ sym (ap (λ (s : Seen). s.log) c.store.ensures))
+          more,
     )

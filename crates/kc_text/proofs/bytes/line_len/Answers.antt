@@ -8,4 +8,7 @@ pub returns-then-b-eq10 : goal.returns-then-b-eq10
 returns-then-b-eq10 c = sym (position_or_len_is is_newline c.args.bytes.now c.loop-i.i 0 (omega arith) c.loop-i.invariant (λ _. eq-eqb _ _ c.if-b-eq10.true))
 
 pub returns : goal.returns
-returns c = sym (position_or_len_is is_newline c.args.bytes.now (length c.args.bytes.now) 0 (omega arith) (λ k l. c.loop-i.invariant k (omega arith)) (λ l. absurd (omega arith)))
+returns c =
+    sym
+    (position_or_len_is is_newline c.args.bytes.now (length c.args.bytes.now) 0 (omega arith) (λ k l. c.loop-i.invariant k (omega arith))
+    (λ l. absurd (omega arith)))

@@ -8,4 +8,7 @@ pub returns-then-not-is_blank : goal.returns-then-not-is_blank
 returns-then-not-is_blank c = sym (prefix_len_is is_blank c.args.line.now c.loop-i.i 0 (omega arith) c.loop-i.invariant (λ _. sym c.if-not-is_blank.ensures))
 
 pub returns : goal.returns
-returns c = sym (prefix_len_is is_blank c.args.line.now (length c.args.line.now) 0 (omega arith) (λ k l. c.loop-i.invariant k (omega arith)) (λ l. absurd (omega arith)))
+returns c =
+    sym
+    (prefix_len_is is_blank c.args.line.now (length c.args.line.now) 0 (omega arith) (λ k l. c.loop-i.invariant k (omega arith))
+    (λ l. absurd (omega arith)))

@@ -8,4 +8,7 @@ pub returns-then-is_blank : goal.returns-then-is_blank
 returns-then-is_blank c = sym (position_or_len_is is_blank c.args.line.now c.loop-i.i 0 (omega arith) c.loop-i.invariant (λ _. sym c.if-is_blank.ensures))
 
 pub returns : goal.returns
-returns c = sym (position_or_len_is is_blank c.args.line.now (length c.args.line.now) 0 (omega arith) (λ k l. c.loop-i.invariant k (omega arith)) (λ l. absurd (omega arith)))
+returns c =
+    sym
+    (position_or_len_is is_blank c.args.line.now (length c.args.line.now) 0 (omega arith) (λ k l. c.loop-i.invariant k (omega arith))
+    (λ l. absurd (omega arith)))

@@ -21,7 +21,9 @@ loop-a-preserved c =
     let more : filter_map h (take (i + 1) es) ≡ filter_map h (take i es) ++ cons_option c.between.result [] =
     filter_map_more h es i c.loop-a-test.true ∙ ap (λ (o : Option (ℕ × ℕ)). filter_map h (take i es) ++ cons_option o []) (sym is) in
     elim c.match-between.branch [
-      | in-Some+in_ok-push w ↦ ap (λ (v : Vec (ℕ × ℕ) Global). v.items) w.pairs-is ∙ w.in_ok-push.ensures.items ∙ ap (λ (t : List (ℕ × ℕ)). t ++ w.in-Some.pair ∷ []) c.loop-a.invariant
+      | in-Some+in_ok-push w ↦
+          ap (λ (v : Vec (ℕ × ℕ) Global). v.items) w.pairs-is ∙ w.in_ok-push.ensures.items
+          ∙ ap (λ (t : List (ℕ × ℕ)). t ++ w.in-Some.pair ∷ []) c.loop-a.invariant
           ∙ sym (more ∙ ap (λ (o : Option (ℕ × ℕ)). filter_map h (take i es) ++ cons_option o []) w.in-Some.is)
       | in_default w ↦ ap (λ (v : Vec (ℕ × ℕ) Global). v.items) w.pairs-is ∙ c.loop-a.invariant
           ∙ sym (more ∙ ap (λ (o : Option (ℕ × ℕ)). filter_map h (take i es) ++ cons_option o []) w.in_default.is ∙ append-nil (filter_map h (take i es)))

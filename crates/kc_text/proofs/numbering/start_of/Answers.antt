@@ -24,6 +24,9 @@ returns c =
     let within : All (Within (length c.args.ids.now)) plain = numbered-within c.args.ids.now c.args.edges.now c.requires.among in
     record {
       ascending = subst (IsStrictlySortedBy pair_cmp) (sym e) (IsStrictlySortedBy-dedup pair_total pair_ties sorted c.sort_unstable.ensures.sorted);
-      within = subst (All (Within (length c.args.ids.now))) (sym e) (All-dedup pair_eq (Within (length c.args.ids.now)) sorted (All-permutation (Within (length c.args.ids.now)) plain sorted moved within));
+      within =
+          subst (All (Within (length c.args.ids.now))) (sym e)
+          (All-dedup pair_eq (Within (length c.args.ids.now)) sorted
+          (All-permutation (Within (length c.args.ids.now)) plain sorted moved within));
       exact = ap (λ (t : List (ℕ × ℕ)). set.from_list {R = pair_cmp} t) e ∙ same_edges pair_equiv equal_pair plain sorted moved;
     }

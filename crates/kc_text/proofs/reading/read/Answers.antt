@@ -31,5 +31,8 @@ returns c = (
         (collected (told_by c.read_lines.new.reader) c.deref.result.now c.deref-2.result.now (c.deref.ensures.value ∙ c.in_ok-edges.ensures.edges)
         (ap (λ (t : List (Vec Change Global)). map (λ batch. batch.items) t) c.deref-2.ensures.value ∙ c.in_ok-edges.ensures.batches)) c.in_ok-ids.ensures;
   },
-  λ how. meaning-is c.args.bytes.now c.requires ∙ c.in_ok-refusal.ensures.exact (elim how [ inl exact ↦ inl (c.in_ok-refusal.ensures.looks ∙ (c.new-reader.ensures.looks ∙ exact)) | inr clear ↦ inr clear ]),
+  λ how.
+      meaning-is c.args.bytes.now c.requires
+      ∙ c.in_ok-refusal.ensures.exact
+      (elim how [ inl exact ↦ inl (c.in_ok-refusal.ensures.looks ∙ (c.new-reader.ensures.looks ∙ exact)) | inr clear ↦ inr clear ]),
 )

@@ -14,7 +14,9 @@ loop-low-preserved-then-other-y-2 g c =
     let less = c.if-other-y-2.true in
     record {
       within = i.within;
-      between = stands-later list c.args.y c.loop-low.low c.loop-low.high _ ascends i.between (omega (arith, c.loop-low-test.true, i.within, c.requires.degree)) (omega (arith, at, less));
+      between =
+          stands-later list c.args.y c.loop-low.low c.loop-low.high _ ascends i.between
+          (omega (arith, c.loop-low-test.true, i.within, c.requires.degree)) (omega (arith, at, less));
     }
 
 pub loop-low-preserved : goal.loop-low-preserved
@@ -33,4 +35,6 @@ loop-low-preserved g c =
 pub returns : goal.returns
 returns g c =
     let i = c.loop-low.invariant in
-    sym (stands-nowhere (list_of (g.V.View.shown c.args.view.now).kept c.args.x) c.args.y c.loop-low.low c.loop-low.high i.between (omega (arith, c.loop-low-test.false)))
+    sym
+    (stands-nowhere (list_of (g.V.View.shown c.args.view.now).kept c.args.x) c.args.y c.loop-low.low c.loop-low.high i.between
+    (omega (arith, c.loop-low-test.false)))

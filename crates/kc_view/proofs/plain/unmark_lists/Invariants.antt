@@ -4,4 +4,7 @@ use Rattle.kc_view.specs.Answers.{list_in}
 use Rattle.kc_view.proofs.plain.unmark_lists.Given as goal
 
 abbrev pub invariant-loop-list : goal.invariant-loop-list
-invariant-loop-list l = (w : ℕ) → slice_index_or l.is_listed w false ≡ (slice_index_or l.fn.is_listed w false && not (is_some (list_in w (take l.list-index l.edges))))
+invariant-loop-list l =
+    (w : ℕ)
+    → slice_index_or l.is_listed w false
+    ≡ (slice_index_or l.fn.is_listed w false && not (is_some (list_in w (take l.list-index l.edges))))

@@ -10,4 +10,6 @@ loop-place-preserved c =
     let none : UsedPlace = record { vertex = 0; stamp = 0; core = 0 } in
     let p : UsedPlace = get_or c.args.places.now c.loop-place.place-index none in
     let within : p.vertex < length c.args.is_placed.now = c.requires c.loop-place.place-index none c.loop-place-test.true in
-    unmark_place c.loop-place.is_placed (λ (w : ℕ). get_or c.args.is_placed.now w false) c.args.places.now c.loop-place.place-index p c.loop-place-test.true (get_or_default c.args.places.now c.loop-place.place-index none p c.loop-place-test.true) (omega arith) c.loop-place.invariant
+    unmark_place c.loop-place.is_placed (λ (w : ℕ). get_or c.args.is_placed.now w false) c.args.places.now c.loop-place.place-index p
+    c.loop-place-test.true (get_or_default c.args.places.now c.loop-place.place-index none p c.loop-place-test.true) (omega arith)
+    c.loop-place.invariant

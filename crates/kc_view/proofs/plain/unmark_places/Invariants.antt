@@ -4,4 +4,7 @@ use Rattle.kc_view.specs.Answers.{core_in}
 use Rattle.kc_view.proofs.plain.unmark_places.Given as goal
 
 abbrev pub invariant-loop-place : goal.invariant-loop-place
-invariant-loop-place l = (w : ℕ) → slice_index_or l.is_placed w false ≡ (slice_index_or l.fn.is_placed w false && not (is_some (core_in w (take l.place-index l.places))))
+invariant-loop-place l =
+    (w : ℕ)
+    → slice_index_or l.is_placed w false
+    ≡ (slice_index_or l.fn.is_placed w false && not (is_some (core_in w (take l.place-index l.places))))

@@ -7,5 +7,8 @@ use Rattle.kc_view.proofs.scratch.unmark_lists.Goals as goal
 pub loop-list-preserved : goal.loop-list-preserved
 loop-list-preserved c =
     let e : UsedEdges = c.list-item.result in
-    let within : e.vertex < length c.args.marks.now = subst (λ (x : UsedEdges). x.vertex < length c.args.marks.now) (sym c.list-item.is) (c.requires c.loop-list.list-index e c.loop-list-test.true) in
-    unmark-list c.loop-list.marks c.args.marks.now c.args.edges.now c.loop-list.list-index e c.loop-list-test.true c.list-item.is (omega arith) c.loop-list.invariant
+    let within : e.vertex < length c.args.marks.now =
+    subst (λ (x : UsedEdges). x.vertex < length c.args.marks.now) (sym c.list-item.is)
+    (c.requires c.loop-list.list-index e c.loop-list-test.true) in
+    unmark-list c.loop-list.marks c.args.marks.now c.args.edges.now c.loop-list.list-index e c.loop-list-test.true c.list-item.is
+    (omega arith) c.loop-list.invariant

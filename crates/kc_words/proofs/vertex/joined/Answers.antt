@@ -3,4 +3,6 @@ use Rattle.kc_words.proofs.Packing.{joined_facts}
 use Rattle.kc_words.proofs.vertex.joined.Goals as goal
 
 pub returns : goal.returns
-returns c = let f = joined_facts c.args.high c.args.low c.ranges.high.fits c.ranges.low.fits in rw (c.from.ensures, c.from-2.ensures) record { sum = f.sum; high_again = f.high; low_again = f.low }
+returns c =
+    let f = joined_facts c.args.high c.args.low c.ranges.high.fits c.ranges.low.fits in
+    rw (c.from.ensures, c.from-2.ensures) record { sum = f.sum; high_again = f.high; low_again = f.low }

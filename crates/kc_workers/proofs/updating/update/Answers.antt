@@ -26,4 +26,5 @@ returns-clause-done g c =
     done-held (opened_with g.K.Name.table g.K.Name.opening_edges g.K.Name.opening_stamps) c.split-since.new.pass.log c.args.worker.now.log
     c.without_lock.new.worker.log c.under_lock.new.worker.log c.args.index c.args.update
     (record { receipt = c.in_ok-receipt-2.receipt; misses = c.without_lock.new.misses }) (begun-log c.worker.view_is c.split-since.ensures.old)
-    c.under_lock.ensures.legal c.without_lock.ensures.longer c.under_lock.ensures.longer c.in_ok-receipt.ensures.few c.in_ok-receipt.ensures.misses c.in_ok-receipt-2.ensures.entered
+    c.under_lock.ensures.legal c.without_lock.ensures.longer c.under_lock.ensures.longer c.in_ok-receipt.ensures.few
+    c.in_ok-receipt.ensures.misses c.in_ok-receipt-2.ensures.entered

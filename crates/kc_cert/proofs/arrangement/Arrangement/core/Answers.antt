@@ -12,12 +12,22 @@ pub returns-then-is_some : goal.returns-then-is_some
 returns-then-is_some g c =
     let s : Ranked = g.S.State.state c.args.state.now in
     let moves = c.args.self.now.moves.now in
-    let leaves : member c.args.y (leaving moves) ≡ true = sym (place_in-some (leaving moves) c.args.y) ∙ (ap is_some (sym (c.get.ensures ∙ c.args.self.now.shown.leaving c.args.y)) ∙ (sym c.is_some.ensures ∙ c.if-is_some.true)) in
-    c.next_level.ensures ∙ sym (core-moved s moves c.args.y (omega (arith, c.requires.vertex, c.requires.certified.one_each)) ∙ ap (λ b. cond b (next_level moves) (get_or s.core c.args.y 0)) leaves)
+    let leaves : member c.args.y (leaving moves) ≡ true =
+    sym (place_in-some (leaving moves) c.args.y)
+    ∙ (ap is_some (sym (c.get.ensures ∙ c.args.self.now.shown.leaving c.args.y)) ∙ (sym c.is_some.ensures ∙ c.if-is_some.true)) in
+    c.next_level.ensures
+    ∙ sym
+    (core-moved s moves c.args.y (omega (arith, c.requires.vertex, c.requires.certified.one_each))
+    ∙ ap (λ b. cond b (next_level moves) (get_or s.core c.args.y 0)) leaves)
 
 pub returns-else-is_some : goal.returns-else-is_some
 returns-else-is_some g c =
     let s : Ranked = g.S.State.state c.args.state.now in
     let moves = c.args.self.now.moves.now in
-    let stays : member c.args.y (leaving moves) ≡ false = sym (place_in-some (leaving moves) c.args.y) ∙ (ap is_some (sym (c.get.ensures ∙ c.args.self.now.shown.leaving c.args.y)) ∙ (sym c.is_some.ensures ∙ c.if-is_some.false)) in
-    (c.from.ensures ∙ c.core.ensures) ∙ sym (core-moved s moves c.args.y (omega (arith, c.requires.vertex, c.requires.certified.one_each)) ∙ ap (λ b. cond b (next_level moves) (get_or s.core c.args.y 0)) stays)
+    let stays : member c.args.y (leaving moves) ≡ false =
+    sym (place_in-some (leaving moves) c.args.y)
+    ∙ (ap is_some (sym (c.get.ensures ∙ c.args.self.now.shown.leaving c.args.y)) ∙ (sym c.is_some.ensures ∙ c.if-is_some.false)) in
+    (c.from.ensures ∙ c.core.ensures)
+    ∙ sym
+    (core-moved s moves c.args.y (omega (arith, c.requires.vertex, c.requires.certified.one_each))
+    ∙ ap (λ b. cond b (next_level moves) (get_or s.core c.args.y 0)) stays)

@@ -33,7 +33,8 @@ loop-place-preserved c =
           let n : member x xs ≡ false = sym has ∙ (sym c.contains_key.ensures ∙ w.if-contains_key.false) in
           let long : length xs ≡ i = length-take-le i list (omega (arith, c.loop-place-test.true)) in
           record {
-            each = λ q. ap (λ t. get nat_eq t q) w.of-is ∙ (w.in_ok-insert.ensures.updates.0 q ∙ (ap (λ o. cond (eqb x q) (Some i) o) (c.loop-place.invariant.each q)
+            each = λ q. ap (λ t. get nat_eq t q) w.of-is
+                ∙ (w.in_ok-insert.ensures.updates.0 q ∙ (ap (λ o. cond (eqb x q) (Some i) o) (c.loop-place.invariant.each q)
                 ∙ sym (ap (λ t. place_in t q) next ∙ (place_in-push x q xs n ∙ ap (λ k. cond (eqb x q) (Some k) (place_in xs q)) long))));
             once = (
               λ t. subst Distinct (sym next) (Distinct-push xs x (c.loop-place.invariant.once.0 (sym w.once-is ∙ t)) n),

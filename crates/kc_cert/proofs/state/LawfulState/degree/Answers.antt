@@ -9,10 +9,13 @@ use Rattle.kc_cert.proofs.state.LawfulState.degree.Goals as goal
 
 pub overflow_cast-result : goal.overflow_cast-result
 overflow_cast-result c =
-    let few = below_bound c.graph-graph.result.now.size c.neighbours.result.now (neighbours-distinct c.graph-graph.result.now c.args.v c.neighbours.result.now c.neighbours.ensures) c.neighbours.ensures.within in
+    let few =
+    below_bound c.graph-graph.result.now.size c.neighbours.result.now
+    (neighbours-distinct c.graph-graph.result.now c.args.v c.neighbours.result.now c.neighbours.ensures) c.neighbours.ensures.within in
     omega arith
 
 pub returns : goal.returns
 returns c =
-    let e : c.neighbours.result.now ≡ neighbours_of c.graph-graph.result.now c.args.v = neighbours_are c.graph-graph.result.now c.args.v c.neighbours.result.now c.neighbours.ensures in
+    let e : c.neighbours.result.now ≡ neighbours_of c.graph-graph.result.now c.args.v =
+    neighbours_are c.graph-graph.result.now c.args.v c.neighbours.result.now c.neighbours.ensures in
     ap (length {A = ℕ}) (e ∙ ap (λ (g : SimpleGraph). neighbours_of g c.args.v) c.graph-graph.ensures.graph)

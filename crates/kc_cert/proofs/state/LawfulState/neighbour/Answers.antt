@@ -7,10 +7,12 @@ use Rattle.kc_cert.proofs.state.LawfulState.neighbour.Goals as goal
 
 pub bounds-neighbours-i : goal.bounds-neighbours-i
 bounds-neighbours-i c =
-    let e : c.neighbours.result.now ≡ neighbours_of c.graph.result.now c.args.v = neighbours_are c.graph.result.now c.args.v c.neighbours.result.now c.neighbours.ensures in
+    let e : c.neighbours.result.now ≡ neighbours_of c.graph.result.now c.args.v =
+    neighbours_are c.graph.result.now c.args.v c.neighbours.result.now c.neighbours.ensures in
     omega (arith, ap (length {A = ℕ}) e, ap (λ (g : SimpleGraph). length (neighbours_of g c.args.v)) c.graph.ensures.graph)
 
 pub returns : goal.returns
 returns c =
-    let e : c.neighbours.result.now ≡ neighbours_of c.graph.result.now c.args.v = neighbours_are c.graph.result.now c.args.v c.neighbours.result.now c.neighbours.ensures in
+    let e : c.neighbours.result.now ≡ neighbours_of c.graph.result.now c.args.v =
+    neighbours_are c.graph.result.now c.args.v c.neighbours.result.now c.neighbours.ensures in
     ap (λ (ws : List ℕ). get_or ws c.args.i 0) (e ∙ ap (λ (g : SimpleGraph). neighbours_of g c.args.v) c.graph.ensures.graph)

@@ -12,30 +12,44 @@ put_after-requires-clause-versions c = highest-at c.self.inside.seat c.args.self
 
 pub store_writes-requires-clause-fitting : goal.store_writes-requires-clause-fitting
 store_writes-requires-clause-fitting c =
-    put-fits c.args.self.now c.args.words.now c.args.x c.args.p (subst (λ (s : Seen). Legal s.table.shape s.table.opening s.log) c.self.view_is c.self.invariant.legal) c.requires.table c.requires.x_in c.requires.p_in
+    put-fits c.args.self.now c.args.words.now c.args.x c.args.p
+    (subst (λ (s : Seen). Legal s.table.shape s.table.opening s.log) c.self.view_is c.self.invariant.legal) c.requires.table
+    c.requires.x_in c.requires.p_in
 
 pub store_writes-requires-clause-some : goal.store_writes-requires-clause-some
 store_writes-requires-clause-some c =
     let e = c.put_after.ensures in
-    let w : Wrote c.self.inside.seat c.put_after.new.self (note_word (Put c.args.x c.args.p)) c.args.x c.writes.result.now = put-at c.self.inside.seat c.args.self.now c.args.words.now c.self.inside.plain c.put_after.new.self c.args.x c.args.p c.writes.result.now c.self.view_is c.requires.table c.self.invariant c.requires.versions c.requires.x_in c.requires.p_in c.requires.differ c.requires.section c.writes.ensures e.items e.fixed e.list e.written e.highest in
+    let w : Wrote c.self.inside.seat c.put_after.new.self (note_word (Put c.args.x c.args.p)) c.args.x c.writes.result.now =
+    put-at c.self.inside.seat c.args.self.now c.args.words.now c.self.inside.plain c.put_after.new.self c.args.x c.args.p
+    c.writes.result.now c.self.view_is c.requires.table c.self.invariant c.requires.versions c.requires.x_in c.requires.p_in
+    c.requires.differ c.requires.section c.writes.ensures e.items e.fixed e.list e.written e.highest in
     w.some
 
 pub store_writes-requires-clause-legal : goal.store_writes-requires-clause-legal
 store_writes-requires-clause-legal c =
     let e = c.put_after.ensures in
-    let w : Wrote c.self.inside.seat c.put_after.new.self (note_word (Put c.args.x c.args.p)) c.args.x c.writes.result.now = put-at c.self.inside.seat c.args.self.now c.args.words.now c.self.inside.plain c.put_after.new.self c.args.x c.args.p c.writes.result.now c.self.view_is c.requires.table c.self.invariant c.requires.versions c.requires.x_in c.requires.p_in c.requires.differ c.requires.section c.writes.ensures e.items e.fixed e.list e.written e.highest in
+    let w : Wrote c.self.inside.seat c.put_after.new.self (note_word (Put c.args.x c.args.p)) c.args.x c.writes.result.now =
+    put-at c.self.inside.seat c.args.self.now c.args.words.now c.self.inside.plain c.put_after.new.self c.args.x c.args.p
+    c.writes.result.now c.self.view_is c.requires.table c.self.invariant c.requires.versions c.requires.x_in c.requires.p_in
+    c.requires.differ c.requires.section c.writes.ensures e.items e.fixed e.list e.written e.highest in
     w.legal_
 
 pub invariant_of-self : goal.invariant_of-self
 invariant_of-self c =
     let e = c.put_after.ensures in
-    let w : Wrote c.self.inside.seat c.put_after.new.self (note_word (Put c.args.x c.args.p)) c.args.x c.writes.result.now = put-at c.self.inside.seat c.args.self.now c.args.words.now c.self.inside.plain c.put_after.new.self c.args.x c.args.p c.writes.result.now c.self.view_is c.requires.table c.self.invariant c.requires.versions c.requires.x_in c.requires.p_in c.requires.differ c.requires.section c.writes.ensures e.items e.fixed e.list e.written e.highest in
+    let w : Wrote c.self.inside.seat c.put_after.new.self (note_word (Put c.args.x c.args.p)) c.args.x c.writes.result.now =
+    put-at c.self.inside.seat c.args.self.now c.args.words.now c.self.inside.plain c.put_after.new.self c.args.x c.args.p
+    c.writes.result.now c.self.view_is c.requires.table c.self.invariant c.requires.versions c.requires.x_in c.requires.p_in
+    c.requires.differ c.requires.section c.writes.ensures e.items e.fixed e.list e.written e.highest in
     w.tied c.store_writes.new.seat c.store_writes.ensures
 
 pub returns : goal.returns
 returns c =
     let e = c.put_after.ensures in
-    let w : Wrote c.self.inside.seat c.put_after.new.self (note_word (Put c.args.x c.args.p)) c.args.x c.writes.result.now = put-at c.self.inside.seat c.args.self.now c.args.words.now c.self.inside.plain c.put_after.new.self c.args.x c.args.p c.writes.result.now c.self.view_is c.requires.table c.self.invariant c.requires.versions c.requires.x_in c.requires.p_in c.requires.differ c.requires.section c.writes.ensures e.items e.fixed e.list e.written e.highest in
+    let w : Wrote c.self.inside.seat c.put_after.new.self (note_word (Put c.args.x c.args.p)) c.args.x c.writes.result.now =
+    put-at c.self.inside.seat c.args.self.now c.args.words.now c.self.inside.plain c.put_after.new.self c.args.x c.args.p
+    c.writes.result.now c.self.view_is c.requires.table c.self.invariant c.requires.versions c.requires.x_in c.requires.p_in
+    c.requires.differ c.requires.section c.writes.ensures e.items e.fixed e.list e.written e.highest in
     put-now c.self.inside.seat c.args.self.now c.store_writes.new.seat c.args.words.now c.self.inside.plain c.put_after.new.self c.args.x c.args.p
     c.writes.result.now
     c.self.view_is c.requires.table c.self.invariant w c.requires.x_in c.requires.p_in e.list c.store_writes.ensures

@@ -12,22 +12,87 @@ use Rattle.kc_order.proofs.writer.Writer.store_vertex.Goals as goal
 
 pub store-requires-clause-legal : goal.store-requires-clause-legal
 store-requires-clause-legal c =
-    let done = sealed_at c.self.inside.seat c.self.inside.plain c.args.v (vertex_word record { stamp = c.args.stamp; core = c.args.core }) c.self.invariant (subst (λ (s : Shape). c.args.v < s.fixed) (sym (ap (λ (t : TableName). t.shape) (ap (λ (z : Seen). z.table) c.self.view_is ∙ c.requires.table))) c.requires.vertex) (fits-vertex c.args.stamp c.args.core c.ranges.stamp.fits c.ranges.core.fits) (subst (λ (s : Shape × Seen). legal.Seals s.0 (state_of s.1.table.shape s.1.table.opening s.1.log) c.args.v (vertex_word record { stamp = c.args.stamp; core = c.args.core })) (λ i. (sym (ap (λ (t : TableName). t.shape) (ap (λ (z : Seen). z.table) c.self.view_is ∙ c.requires.table)) i, sym c.self.view_is i)) c.requires.section) in
-    let word : c.vertex-word.result ≡ first_vertex c.self.inside.seat.table.shape + c.args.v = c.vertex-word.ensures ∙ ap (λ (s : Shape). first_vertex s + c.args.v) (c.shape.ensures ∙ sym (ap (λ (t : TableName). t.shape) (ap (λ (z : Seen). z.table) c.self.view_is ∙ c.requires.table))) in
-    subst (λ (e : ℕ × ℕ). legal.Legal c.self.inside.seat.table.shape c.self.inside.seat.table.opening (c.self.inside.seat.log ++ event e.0 e.1 ∷ [])) (λ i. (sym word i, sym c.pack.ensures.word i)) done.0
+    let done =
+    sealed_at c.self.inside.seat c.self.inside.plain c.args.v (vertex_word record { stamp = c.args.stamp; core = c.args.core })
+    c.self.invariant
+    (subst (λ (s : Shape). c.args.v < s.fixed)
+    (sym (ap (λ (t : TableName). t.shape) (ap (λ (z : Seen). z.table) c.self.view_is ∙ c.requires.table))) c.requires.vertex)
+    (fits-vertex c.args.stamp c.args.core c.ranges.stamp.fits c.ranges.core.fits)
+    (subst
+    (λ (s : Shape × Seen).
+    legal.Seals s.0 (state_of s.1.table.shape s.1.table.opening s.1.log) c.args.v
+    (vertex_word record { stamp = c.args.stamp; core = c.args.core }))
+    (λ i. (
+      sym (ap (λ (t : TableName). t.shape) (ap (λ (z : Seen). z.table) c.self.view_is ∙ c.requires.table)) i,
+      sym c.self.view_is i,
+    ))
+    c.requires.section) in
+    let word : c.vertex-word.result ≡ first_vertex c.self.inside.seat.table.shape + c.args.v =
+    c.vertex-word.ensures
+    ∙ ap (λ (s : Shape). first_vertex s + c.args.v)
+    (c.shape.ensures ∙ sym (ap (λ (t : TableName). t.shape) (ap (λ (z : Seen). z.table) c.self.view_is ∙ c.requires.table))) in
+    subst
+    (λ (e : ℕ × ℕ).
+    legal.Legal c.self.inside.seat.table.shape c.self.inside.seat.table.opening (c.self.inside.seat.log ++ event e.0 e.1 ∷ []))
+    (λ i. (sym word i, sym c.pack.ensures.word i)) done.0
 
 pub invariant_of-self : goal.invariant_of-self
 invariant_of-self c =
-    let done = sealed_at c.self.inside.seat c.self.inside.plain c.args.v (vertex_word record { stamp = c.args.stamp; core = c.args.core }) c.self.invariant (subst (λ (s : Shape). c.args.v < s.fixed) (sym (ap (λ (t : TableName). t.shape) (ap (λ (z : Seen). z.table) c.self.view_is ∙ c.requires.table))) c.requires.vertex) (fits-vertex c.args.stamp c.args.core c.ranges.stamp.fits c.ranges.core.fits) (subst (λ (s : Shape × Seen). legal.Seals s.0 (state_of s.1.table.shape s.1.table.opening s.1.log) c.args.v (vertex_word record { stamp = c.args.stamp; core = c.args.core })) (λ i. (sym (ap (λ (t : TableName). t.shape) (ap (λ (z : Seen). z.table) c.self.view_is ∙ c.requires.table)) i, sym c.self.view_is i)) c.requires.section) in
-    let word : c.vertex-word.result ≡ first_vertex c.self.inside.seat.table.shape + c.args.v = c.vertex-word.ensures ∙ ap (λ (s : Shape). first_vertex s + c.args.v) (c.shape.ensures ∙ sym (ap (λ (t : TableName). t.shape) (ap (λ (z : Seen). z.table) c.self.view_is ∙ c.requires.table))) in
-    done.1 c.store.new.writer (c.store.ensures ∙ ap (λ (e : ℕ × ℕ). record { table = c.self.inside.seat.table; log = c.self.inside.seat.log ++ event e.0 e.1 ∷ [] }) (λ i. (word i, c.pack.ensures.word i)))
+    let done =
+    sealed_at c.self.inside.seat c.self.inside.plain c.args.v (vertex_word record { stamp = c.args.stamp; core = c.args.core })
+    c.self.invariant
+    (subst (λ (s : Shape). c.args.v < s.fixed)
+    (sym (ap (λ (t : TableName). t.shape) (ap (λ (z : Seen). z.table) c.self.view_is ∙ c.requires.table))) c.requires.vertex)
+    (fits-vertex c.args.stamp c.args.core c.ranges.stamp.fits c.ranges.core.fits)
+    (subst
+    (λ (s : Shape × Seen).
+    legal.Seals s.0 (state_of s.1.table.shape s.1.table.opening s.1.log) c.args.v
+    (vertex_word record { stamp = c.args.stamp; core = c.args.core }))
+    (λ i. (
+      sym (ap (λ (t : TableName). t.shape) (ap (λ (z : Seen). z.table) c.self.view_is ∙ c.requires.table)) i,
+      sym c.self.view_is i,
+    ))
+    c.requires.section) in
+    let word : c.vertex-word.result ≡ first_vertex c.self.inside.seat.table.shape + c.args.v =
+    c.vertex-word.ensures
+    ∙ ap (λ (s : Shape). first_vertex s + c.args.v)
+    (c.shape.ensures ∙ sym (ap (λ (t : TableName). t.shape) (ap (λ (z : Seen). z.table) c.self.view_is ∙ c.requires.table))) in
+    done.1 c.store.new.writer
+    (c.store.ensures
+    ∙ ap (λ (e : ℕ × ℕ). record { table = c.self.inside.seat.table; log = c.self.inside.seat.log ++ event e.0 e.1 ∷ [] })
+    (λ i. (word i, c.pack.ensures.word i)))
 
 pub returns-clause-stored : goal.returns-clause-stored
 returns-clause-stored c =
-    let done = sealed_at c.self.inside.seat c.self.inside.plain c.args.v (vertex_word record { stamp = c.args.stamp; core = c.args.core }) c.self.invariant (subst (λ (s : Shape). c.args.v < s.fixed) (sym (ap (λ (t : TableName). t.shape) (ap (λ (z : Seen). z.table) c.self.view_is ∙ c.requires.table))) c.requires.vertex) (fits-vertex c.args.stamp c.args.core c.ranges.stamp.fits c.ranges.core.fits) (subst (λ (s : Shape × Seen). legal.Seals s.0 (state_of s.1.table.shape s.1.table.opening s.1.log) c.args.v (vertex_word record { stamp = c.args.stamp; core = c.args.core })) (λ i. (sym (ap (λ (t : TableName). t.shape) (ap (λ (z : Seen). z.table) c.self.view_is ∙ c.requires.table)) i, sym c.self.view_is i)) c.requires.section) in
-    let word : c.vertex-word.result ≡ first_vertex c.self.inside.seat.table.shape + c.args.v = c.vertex-word.ensures ∙ ap (λ (s : Shape). first_vertex s + c.args.v) (c.shape.ensures ∙ sym (ap (λ (t : TableName). t.shape) (ap (λ (z : Seen). z.table) c.self.view_is ∙ c.requires.table))) in
-    subst (λ (s : Shape). Stores c.args.self.now c.store.new.writer (first_vertex s + c.args.v) (vertex_word record { stamp = c.args.stamp; core = c.args.core })) (ap (λ (t : TableName). t.shape) (ap (λ (z : Seen). z.table) c.self.view_is ∙ c.requires.table))
-    (stores-now c.self.inside.seat c.args.self.now c.store.new.writer (first_vertex c.self.inside.seat.table.shape + c.args.v) (vertex_word record { stamp = c.args.stamp; core = c.args.core }) c.self.view_is done.0 (c.store.ensures ∙ ap (λ (e : ℕ × ℕ). record { table = c.self.inside.seat.table; log = c.self.inside.seat.log ++ event e.0 e.1 ∷ [] }) (λ i. (word i, c.pack.ensures.word i))))
+    let done =
+    sealed_at c.self.inside.seat c.self.inside.plain c.args.v (vertex_word record { stamp = c.args.stamp; core = c.args.core })
+    c.self.invariant
+    (subst (λ (s : Shape). c.args.v < s.fixed)
+    (sym (ap (λ (t : TableName). t.shape) (ap (λ (z : Seen). z.table) c.self.view_is ∙ c.requires.table))) c.requires.vertex)
+    (fits-vertex c.args.stamp c.args.core c.ranges.stamp.fits c.ranges.core.fits)
+    (subst
+    (λ (s : Shape × Seen).
+    legal.Seals s.0 (state_of s.1.table.shape s.1.table.opening s.1.log) c.args.v
+    (vertex_word record { stamp = c.args.stamp; core = c.args.core }))
+    (λ i. (
+      sym (ap (λ (t : TableName). t.shape) (ap (λ (z : Seen). z.table) c.self.view_is ∙ c.requires.table)) i,
+      sym c.self.view_is i,
+    ))
+    c.requires.section) in
+    let word : c.vertex-word.result ≡ first_vertex c.self.inside.seat.table.shape + c.args.v =
+    c.vertex-word.ensures
+    ∙ ap (λ (s : Shape). first_vertex s + c.args.v)
+    (c.shape.ensures ∙ sym (ap (λ (t : TableName). t.shape) (ap (λ (z : Seen). z.table) c.self.view_is ∙ c.requires.table))) in
+    subst
+    (λ (s : Shape).
+    Stores c.args.self.now c.store.new.writer (first_vertex s + c.args.v)
+    (vertex_word record { stamp = c.args.stamp; core = c.args.core }))
+    (ap (λ (t : TableName). t.shape) (ap (λ (z : Seen). z.table) c.self.view_is ∙ c.requires.table))
+    (stores-now c.self.inside.seat c.args.self.now c.store.new.writer (first_vertex c.self.inside.seat.table.shape + c.args.v)
+    (vertex_word record { stamp = c.args.stamp; core = c.args.core }) c.self.view_is done.0
+    (c.store.ensures
+    ∙ ap (λ (e : ℕ × ℕ). record { table = c.self.inside.seat.table; log = c.self.inside.seat.log ++ event e.0 e.1 ∷ [] })
+    (λ i. (word i, c.pack.ensures.word i))))
 
 pub returns-clause-leaves : goal.returns-clause-leaves
 returns-clause-leaves c =

@@ -11,23 +11,34 @@ pub take-requires-clause-versions : goal.take-requires-clause-versions
 take-requires-clause-versions c = highest-at c.self.inside.seat c.args.self.now c.self.inside.plain c.self.view_is c.self.invariant c.requires.versions
 
 pub store_writes-requires-clause-fitting : goal.store_writes-requires-clause-fitting
-store_writes-requires-clause-fitting c = item-fits c.args.self.now c.args.x (subst (λ (s : Seen). Legal s.table.shape s.table.opening s.log) c.self.view_is c.self.invariant.legal) c.requires.x_in
+store_writes-requires-clause-fitting c =
+    item-fits c.args.self.now c.args.x
+    (subst (λ (s : Seen). Legal s.table.shape s.table.opening s.log) c.self.view_is c.self.invariant.legal) c.requires.x_in
 
 pub store_writes-requires-clause-legal : goal.store_writes-requires-clause-legal
 store_writes-requires-clause-legal c =
     let e = c.take.ensures in
-    let w : Wrote c.self.inside.seat c.take.new.self (note_word (Take c.args.x)) c.args.x c.writes.result.now = taken-at c.self.inside.seat c.args.self.now c.args.words.now c.self.inside.plain c.take.new.self c.args.x c.writes.result.now c.self.view_is c.requires.table c.self.invariant c.requires.versions c.requires.x_in c.requires.free c.writes.ensures e.items e.fixed e.list e.written e.highest in
+    let w : Wrote c.self.inside.seat c.take.new.self (note_word (Take c.args.x)) c.args.x c.writes.result.now =
+    taken-at c.self.inside.seat c.args.self.now c.args.words.now c.self.inside.plain c.take.new.self c.args.x c.writes.result.now
+    c.self.view_is c.requires.table c.self.invariant c.requires.versions c.requires.x_in c.requires.free c.writes.ensures e.items
+    e.fixed e.list e.written e.highest in
     w.legal_
 
 pub invariant_of-self : goal.invariant_of-self
 invariant_of-self c =
     let e = c.take.ensures in
-    let w : Wrote c.self.inside.seat c.take.new.self (note_word (Take c.args.x)) c.args.x c.writes.result.now = taken-at c.self.inside.seat c.args.self.now c.args.words.now c.self.inside.plain c.take.new.self c.args.x c.writes.result.now c.self.view_is c.requires.table c.self.invariant c.requires.versions c.requires.x_in c.requires.free c.writes.ensures e.items e.fixed e.list e.written e.highest in
+    let w : Wrote c.self.inside.seat c.take.new.self (note_word (Take c.args.x)) c.args.x c.writes.result.now =
+    taken-at c.self.inside.seat c.args.self.now c.args.words.now c.self.inside.plain c.take.new.self c.args.x c.writes.result.now
+    c.self.view_is c.requires.table c.self.invariant c.requires.versions c.requires.x_in c.requires.free c.writes.ensures e.items
+    e.fixed e.list e.written e.highest in
     w.tied c.store_writes.new.seat c.store_writes.ensures
 
 pub returns : goal.returns
 returns c =
     let e = c.take.ensures in
-    let w : Wrote c.self.inside.seat c.take.new.self (note_word (Take c.args.x)) c.args.x c.writes.result.now = taken-at c.self.inside.seat c.args.self.now c.args.words.now c.self.inside.plain c.take.new.self c.args.x c.writes.result.now c.self.view_is c.requires.table c.self.invariant c.requires.versions c.requires.x_in c.requires.free c.writes.ensures e.items e.fixed e.list e.written e.highest in
+    let w : Wrote c.self.inside.seat c.take.new.self (note_word (Take c.args.x)) c.args.x c.writes.result.now =
+    taken-at c.self.inside.seat c.args.self.now c.args.words.now c.self.inside.plain c.take.new.self c.args.x c.writes.result.now
+    c.self.view_is c.requires.table c.self.invariant c.requires.versions c.requires.x_in c.requires.free c.writes.ensures e.items
+    e.fixed e.list e.written e.highest in
     taken-now c.self.inside.seat c.args.self.now c.store_writes.new.seat c.self.inside.plain c.take.new.self c.args.x c.writes.result.now
     c.self.view_is c.self.invariant w c.requires.x_in e.list c.store_writes.ensures (twice-take c.self.inside.plain c.take.new.self c.args.x e.written e.single)

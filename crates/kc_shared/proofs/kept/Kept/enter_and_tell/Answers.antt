@@ -15,7 +15,8 @@ returns-in-Ok-clause-entered g c =
 pub returns-in-Err-clause-cause : goal.returns-in-Err-clause-cause
 returns-in-Err-clause-cause g c =
     cause c.args.index c.in-Err.fault c.from.result (known c.self.view_is c.look.ensures c.self.invariant) c.requires.within c.enter.ensures.longer
-    (read-of c.args.pass.now.log c.args.plan.now c.self.view_is c.self.invariant c.requires.read) c.requires.sure c.enter.ensures.told c.from.ensures c.in-Err.ensures.cause
+    (read-of c.args.pass.now.log c.args.plan.now c.self.view_is c.self.invariant c.requires.read) c.requires.sure c.enter.ensures.told
+    c.from.ensures c.in-Err.ensures.cause
 
 pub returns-in-Err-clause-current : goal.returns-in-Err-clause-current
 returns-in-Err-clause-current g c =

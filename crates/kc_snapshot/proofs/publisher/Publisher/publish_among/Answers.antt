@@ -10,6 +10,7 @@ returns-clause-whole g c =
     let new = c.args.core.now in
     let here : old ≡ c.front.result.now = cc (c.self.view_is, c.front.ensures) in
     let same : length (last_list old) ≡ length new = ap (λ h. length (last_list h)) here ∙ c.measure.ensures ∙ ap width (sym here) ∙ sym c.requires.vertices in
-    let list : changed (last_list old) c.in_ok-places.places.items ≡ changed (last_list old) (numbers_at new c.args.vertices.now) = ap (changed (last_list old)) c.in_ok-places.ensures in
+    let list : changed (last_list old) c.in_ok-places.places.items ≡ changed (last_list old) (numbers_at new c.args.vertices.now) =
+    ap (changed (last_list old)) c.in_ok-places.ensures in
     on_ok _ _ c.publish_changes.result c.publish_changes.ensures.added (λ number is differ.
     is.1 ∙ ap (λ l. old ++ member l ∷ []) (list ∙ changed-among c.args.vertices.now (last_list old) new same differ))

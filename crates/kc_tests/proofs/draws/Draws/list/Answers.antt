@@ -10,7 +10,10 @@ use Rattle.kc_tests.proofs.draws.Draws.list.Goals.{then-y-w+then-side+in_ok-push
 pub loop-y-preserved : goal.loop-y-preserved
 loop-y-preserved c = elim c.if-y-w.branch [
   | then-y-w+then-side+in_ok-push w ↦
-      let grown : IsListOf (c.loop-y.y + 1) c.args.w w.push.new.self.items = rw w.in_ok-push.ensures.items (IsListOf-push c.loop-y.y c.args.w c.loop-y.list.items c.loop-y.invariant w.if-y-w.true) in
+      let grown : IsListOf (c.loop-y.y + 1) c.args.w w.push.new.self.items =
+      rw w.in_ok-push.ensures.items (IsListOf-push c.loop-y.y c.args.w c.loop-y.list.items c.loop-y.invariant w.if-y-w.true) in
       subst (λ (v : Vec ℕ Global). IsListOf (c.loop-y.y + 1) c.args.w v.items) (sym w.list-is) grown
-  | else-y-w w ↦ subst (λ (v : Vec ℕ Global). IsListOf (c.loop-y.y + 1) c.args.w v.items) (sym w.list-is) (IsListOf-wider c.loop-y.y c.args.w c.loop-y.list.items c.loop-y.invariant)
+  | else-y-w w ↦
+      subst (λ (v : Vec ℕ Global). IsListOf (c.loop-y.y + 1) c.args.w v.items) (sym w.list-is)
+      (IsListOf-wider c.loop-y.y c.args.w c.loop-y.list.items c.loop-y.invariant)
 ]

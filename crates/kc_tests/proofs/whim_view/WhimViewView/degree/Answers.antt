@@ -16,7 +16,11 @@ use Rattle.kc_tests.proofs.Drawn.{goes-on-list}
 pub overflow_cast-result : goal.overflow_cast-result
 overflow_cast-result c =
     let here : list_in c.args.w c.self.inside.edges.items ≡ Some c.in-Some.list.now = ap (list_in c.args.w) (sym c.deref.ensures.value) ∙ c.in-Some.ensures in
-    omega (arith, short_list c.self.inside.size c.args.w c.in-Some.list.now (found-list c.self.inside.size c.args.w c.self.inside.edges.items c.in-Some.list.now c.self.invariant.lists here))
+    omega (
+      arith,
+      short_list c.self.inside.size c.args.w c.in-Some.list.now
+          (found-list c.self.inside.size c.args.w c.self.inside.edges.items c.in-Some.list.now c.self.invariant.lists here),
+    )
 
 pub overflow_cast-degree : goal.overflow_cast-degree
 overflow_cast-degree c = omega (arith, short_list c.self.inside.size c.args.w c.in_ok-list.list.items c.in_ok-list.ensures)
@@ -34,26 +38,30 @@ returns-clause-told c =
     let a : Answers = record { edges = c.self.inside.edges.items; places = c.self.inside.places.items; orders = c.self.inside.orders.items } in
     let e : UsedEdges = record { vertex = c.args.w; at = 0; neighbours = c.deref-2.result.now } in
     let same : a ≡ c.args.self.now.kept = ap (λ (w : Whims). w.kept) c.self.view_is ∙ c.go_on.ensures.kept in
-    let not_yet : has_list a c.args.w ≡ false = ap (λ (xs : List UsedEdges). is_some (list_in c.args.w xs)) (sym c.deref.ensures.value) ∙ ap is_some c.in_default.ensures in
+    let not_yet : has_list a c.args.w ≡ false =
+    ap (λ (xs : List UsedEdges). is_some (list_in c.args.w xs)) (sym c.deref.ensures.value) ∙ ap is_some c.in_default.ensures in
     rw c.in_ok-keep_list.ensures.ok (subst (λ (x : Answers). TellsList x (with_list a e) c.args.w) same (tells_list a e not_yet))
 
 pub returns-clause-length : goal.returns-clause-length
 returns-clause-length c =
     let a : Answers = record { edges = c.self.inside.edges.items; places = c.self.inside.places.items; orders = c.self.inside.orders.items } in
     let e : UsedEdges = record { vertex = c.args.w; at = 0; neighbours = c.deref-2.result.now } in
-    let not_yet : has_list a c.args.w ≡ false = ap (λ (xs : List UsedEdges). is_some (list_in c.args.w xs)) (sym c.deref.ensures.value) ∙ ap is_some c.in_default.ensures in
+    let not_yet : has_list a c.args.w ≡ false =
+    ap (λ (xs : List UsedEdges). is_some (list_in c.args.w xs)) (sym c.deref.ensures.value) ∙ ap is_some c.in_default.ensures in
     rw c.in_ok-keep_list.ensures.ok (c.len-degree.ensures ∙ (sym c.deref-2.ensures.len ∙ ap (length {A = ℕ}) (sym (list_of-now a e not_yet))))
 
 pub returns-clause-lists : goal.returns-clause-lists
 returns-clause-lists c =
     let e : UsedEdges = record { vertex = c.args.w; at = 0; neighbours = c.deref-2.result.now } in
-    let here : IsListOf c.self.inside.size c.args.w c.deref-2.result.now = subst (IsListOf c.self.inside.size c.args.w) (sym c.deref-2.ensures.value) c.in_ok-list.ensures in
+    let here : IsListOf c.self.inside.size c.args.w c.deref-2.result.now =
+    subst (IsListOf c.self.inside.size c.args.w) (sym c.deref-2.ensures.value) c.in_ok-list.ensures in
     rw c.in_ok-keep_list.ensures.ok (lists-push c.self.inside.size c.self.inside.edges.items e c.self.invariant.lists here)
 
 pub returns-clause-goes_on : goal.returns-clause-goes_on
 returns-clause-goes_on c =
     let e : UsedEdges = record { vertex = c.args.w; at = 0; neighbours = c.deref-2.result.now } in
-    let here : IsListOf c.self.inside.size c.args.w c.deref-2.result.now = subst (IsListOf c.self.inside.size c.args.w) (sym c.deref-2.ensures.value) c.in_ok-list.ensures in
+    let here : IsListOf c.self.inside.size c.args.w c.deref-2.result.now =
+    subst (IsListOf c.self.inside.size c.args.w) (sym c.deref-2.ensures.value) c.in_ok-list.ensures in
     let w : Whims = record {
       size = c.self.inside.size;
       kept = record { edges = c.self.inside.edges.items; places = c.self.inside.places.items; orders = c.self.inside.orders.items };

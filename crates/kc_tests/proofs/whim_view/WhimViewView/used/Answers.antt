@@ -7,6 +7,8 @@ use Rattle.kc_tests.proofs.whim_view.WhimViewView.used.Goals as goal
 
 pub invariant_of-self : goal.invariant_of-self
 invariant_of-self c = record {
-  lists = subst (AreLists c.self.inside.size) (sym (ap (λ (v : Vec UsedEdges Global). v.items) c.replace.ensures.after ∙ c.new.ensures.items)) (no-lists c.self.inside.size);
+  lists =
+      subst (AreLists c.self.inside.size) (sym (ap (λ (v : Vec UsedEdges Global). v.items) c.replace.ensures.after ∙ c.new.ensures.items))
+      (no-lists c.self.inside.size);
   differ = c.self.invariant.differ;
 }

@@ -8,7 +8,8 @@ pub loop-k-preserved : goal.loop-k-preserved
 loop-k-preserved c = record {
   whole = omega (arith, ap (length) c.in_ok-push.ensures.items, length-append {A = ℕ});
   each = λ j l. subst (λ (t : List ℕ). IsBegin c.args.ids.now (j * c.range_width-width.result) (get_or t j 0)) (sym c.in_ok-push.ensures.items)
-      (begins-push c.args.ids.now c.range_width-width.result c.loop-k.begins.items c.loop-k.k c.count_below.result c.loop-k.invariant.whole c.loop-k.invariant.each c.count_below.ensures j l);
+      (begins-push c.args.ids.now c.range_width-width.result c.loop-k.begins.items c.loop-k.k c.count_below.result c.loop-k.invariant.whole
+      c.loop-k.invariant.each c.count_below.ensures j l);
 }
 
 pub returns : goal.returns

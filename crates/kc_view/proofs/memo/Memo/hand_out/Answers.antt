@@ -25,4 +25,5 @@ invariant_of-self c =
     let all-placed = overwritten c.self.inside.placed.len placed c.unmark_places.new.marks (omega (arith, c.self.inside.placed.ok.0)) places-long in
     subst (λ (xs : List ℕ). Marks (keeping (length xs) (answers_in c.replace.new.dest)) xs
     (take c.self.inside.placed.len (c.unmark_places.new.marks ++ drop (length c.unmark_places.new.marks) placed))) (sym all-listed)
-    (subst (λ (xs : List ℕ). Marks (keeping (length c.unmark_lists.new.marks) (answers_in c.replace.new.dest)) c.unmark_lists.new.marks xs) (sym all-placed) now)
+    (subst (λ (xs : List ℕ). Marks (keeping (length c.unmark_lists.new.marks) (answers_in c.replace.new.dest)) c.unmark_lists.new.marks xs)
+    (sym all-placed) now)

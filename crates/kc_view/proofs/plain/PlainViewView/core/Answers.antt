@@ -16,7 +16,9 @@ invariant_of-self-then-not-index c =
     let p : UsedPlace = record { vertex = c.args.w; stamp = 0; core = k } in
     let here : c.args.w < s.graph.size = omega (arith, ap (λ (r : Resting). r.state.graph.size) c.self.view_is, c.requires) in
     let a : Answers = record { edges = c.self.inside.edges.items; places = c.self.inside.places.items; orders = c.self.inside.orders.items } in
-    rw c.in_ok-keep_place.ensures.ok (keeps_place s a c.self.inside.is_listed.items c.self.inside.is_placed.items p c.self.invariant here (ap (λ (xs : List ℕ). get_or xs c.args.w 0) c.core.ensures.core))
+    rw c.in_ok-keep_place.ensures.ok
+    (keeps_place s a c.self.inside.is_listed.items c.self.inside.is_placed.items p c.self.invariant here
+    (ap (λ (xs : List ℕ). get_or xs c.args.w 0) c.core.ensures.core))
 
 pub returns-in_ok-keep_place-clause-told : goal.returns-in_ok-keep_place-clause-told
 returns-in_ok-keep_place-clause-told c =
@@ -24,7 +26,11 @@ returns-in_ok-keep_place-clause-told c =
     let p : UsedPlace = record { vertex = c.args.w; stamp = 0; core = get_or c.core.result.now c.args.w 0 } in
     let here : c.args.w < s.graph.size = omega (arith, ap (λ (r : Resting). r.state.graph.size) c.self.view_is, c.requires) in
     let a : Answers = record { edges = c.self.inside.edges.items; places = c.self.inside.places.items; orders = c.self.inside.orders.items } in
-    let not_yet : has_core a c.args.w ≡ false = sym (mark_is_core s a c.self.inside.is_listed.items c.self.inside.is_placed.items c.args.w c.index.result.now c.self.invariant here c.index.ensures) ∙ c.if-not-index.true in
+    let not_yet : has_core a c.args.w ≡ false =
+    sym
+    (mark_is_core s a c.self.inside.is_listed.items c.self.inside.is_placed.items c.args.w c.index.result.now c.self.invariant here
+    c.index.ensures)
+    ∙ c.if-not-index.true in
     rw (c.in_ok-keep_place.ensures.ok, ← c.self.view_is) (tells_core a p not_yet)
 
 pub returns-in_ok-keep_place-clause-core : goal.returns-in_ok-keep_place-clause-core
@@ -33,7 +39,11 @@ returns-in_ok-keep_place-clause-core c =
     let p : UsedPlace = record { vertex = c.args.w; stamp = 0; core = get_or c.core.result.now c.args.w 0 } in
     let here : c.args.w < s.graph.size = omega (arith, ap (λ (r : Resting). r.state.graph.size) c.self.view_is, c.requires) in
     let a : Answers = record { edges = c.self.inside.edges.items; places = c.self.inside.places.items; orders = c.self.inside.orders.items } in
-    let not_yet : has_core a c.args.w ≡ false = sym (mark_is_core s a c.self.inside.is_listed.items c.self.inside.is_placed.items c.args.w c.index.result.now c.self.invariant here c.index.ensures) ∙ c.if-not-index.true in
+    let not_yet : has_core a c.args.w ≡ false =
+    sym
+    (mark_is_core s a c.self.inside.is_listed.items c.self.inside.is_placed.items c.args.w c.index.result.now c.self.invariant here
+    c.index.ensures)
+    ∙ c.if-not-index.true in
     rw c.in_ok-keep_place.ensures.ok (sym (core_of-now a p not_yet))
 
 pub returns-else-not-index-clause-core : goal.returns-else-not-index-clause-core
@@ -41,17 +51,28 @@ returns-else-not-index-clause-core c =
     let s : Ranked = c.self.inside.state.now in
     let here : c.args.w < s.graph.size = omega (arith, ap (λ (r : Resting). r.state.graph.size) c.self.view_is, c.requires) in
     let a : Answers = record { edges = c.self.inside.edges.items; places = c.self.inside.places.items; orders = c.self.inside.orders.items } in
-    let told : has_core a c.args.w ≡ true = sym (mark_is_core s a c.self.inside.is_listed.items c.self.inside.is_placed.items c.args.w c.index.result.now c.self.invariant here c.index.ensures) ∙ c.if-not-index.false in
+    let told : has_core a c.args.w ≡ true =
+    sym
+    (mark_is_core s a c.self.inside.is_listed.items c.self.inside.is_placed.items c.args.w c.index.result.now c.self.invariant here
+    c.index.ensures)
+    ∙ c.if-not-index.false in
     rw (← c.self.view_is) (ap (λ (xs : List ℕ). get_or xs c.args.w 0) c.core.ensures.core ∙ sym (core-true a s c.args.w c.self.invariant.agrees told).1)
 
 pub returns-in_err-keep_place-clause-lists : goal.returns-in_err-keep_place-clause-lists
-returns-in_err-keep_place-clause-lists c = lists-true (record { edges = c.self.inside.edges.items; places = c.self.inside.places.items; orders = c.self.inside.orders.items }) c.self.inside.state.now c.self.invariant.agrees
+returns-in_err-keep_place-clause-lists c =
+    lists-true (record { edges = c.self.inside.edges.items; places = c.self.inside.places.items; orders = c.self.inside.orders.items })
+    c.self.inside.state.now c.self.invariant.agrees
 
 pub returns-in_ok-keep_place-clause-lists : goal.returns-in_ok-keep_place-clause-lists
-returns-in_ok-keep_place-clause-lists c = lists-true (record { edges = c.self.inside.edges.items; places = c.self.inside.places.items; orders = c.self.inside.orders.items }) c.self.inside.state.now c.self.invariant.agrees
+returns-in_ok-keep_place-clause-lists c =
+    lists-true (record { edges = c.self.inside.edges.items; places = c.self.inside.places.items; orders = c.self.inside.orders.items })
+    c.self.inside.state.now c.self.invariant.agrees
 
 pub returns-else-not-index-clause-lists : goal.returns-else-not-index-clause-lists
-returns-else-not-index-clause-lists c = rw (← c.self.view_is) (lists-true (record { edges = c.self.inside.edges.items; places = c.self.inside.places.items; orders = c.self.inside.orders.items }) c.self.inside.state.now c.self.invariant.agrees)
+returns-else-not-index-clause-lists c =
+    rw (← c.self.view_is)
+    (lists-true (record { edges = c.self.inside.edges.items; places = c.self.inside.places.items; orders = c.self.inside.orders.items })
+    c.self.inside.state.now c.self.invariant.agrees)
 
 pub returns-in_ok-keep_place-clause-goes_on : goal.returns-in_ok-keep_place-clause-goes_on
 returns-in_ok-keep_place-clause-goes_on c =
@@ -60,5 +81,7 @@ returns-in_ok-keep_place-clause-goes_on c =
     let p : UsedPlace = record { vertex = c.args.w; stamp = 0; core = k } in
     let here : c.args.w < s.graph.size = omega (arith, ap (λ (r : Resting). r.state.graph.size) c.self.view_is, c.requires) in
     let a : Answers = record { edges = c.self.inside.edges.items; places = c.self.inside.places.items; orders = c.self.inside.orders.items } in
-    let keeps = keeps_place s a c.self.inside.is_listed.items c.self.inside.is_placed.items p c.self.invariant here (ap (λ (xs : List ℕ). get_or xs c.args.w 0) c.core.ensures.core) in
+    let keeps =
+    keeps_place s a c.self.inside.is_listed.items c.self.inside.is_placed.items p c.self.invariant here
+    (ap (λ (xs : List ℕ). get_or xs c.args.w 0) c.core.ensures.core) in
     rw (c.in_ok-keep_place.ensures.ok, ← c.self.view_is) (rests-on s a (with_place a p) c.self.inside.handed (Further-place a p) keeps.agrees)

@@ -10,18 +10,24 @@ use Rattle.kc_view.proofs.plain.PlainViewView.neighbour.Goals as goal
 pub bounds-neighbours-i : goal.bounds-neighbours-i
 bounds-neighbours-i c =
     let ws : List ℕ = c.neighbours.result.now in
-    let near : AreNeighbours c.self.inside.state.now.graph c.args.w ws = subst (λ (g : SimpleGraph). AreNeighbours g c.args.w ws) c.graph.ensures.graph c.neighbours.ensures in
+    let near : AreNeighbours c.self.inside.state.now.graph c.args.w ws =
+    subst (λ (g : SimpleGraph). AreNeighbours g c.args.w ws) c.graph.ensures.graph c.neighbours.ensures in
     let a : Answers = record { edges = c.self.inside.edges.items; places = c.self.inside.places.items; orders = c.self.inside.orders.items } in
     let kept : a ≡ c.args.self.now.kept = ap (λ (r : Resting). r.kept) c.self.view_is in
     let told : has_list a c.args.w ≡ true = ap (λ (x : Answers). has_list x c.args.w) kept ∙ c.requires.read in
-    let same : ws ≡ list_of c.args.self.now.kept c.args.w = same_neighbours c.self.inside.state.now a c.args.w ws c.self.invariant.agrees near told ∙ ap (λ (x : Answers). list_of x c.args.w) kept in
+    let same : ws ≡ list_of c.args.self.now.kept c.args.w =
+    same_neighbours c.self.inside.state.now a c.args.w ws c.self.invariant.agrees near told
+    ∙ ap (λ (x : Answers). list_of x c.args.w) kept in
     omega (arith, ap (length {A = ℕ}) same, c.requires.place)
 
 pub returns : goal.returns
 returns c =
     let ws : List ℕ = c.neighbours.result.now in
-    let near : AreNeighbours c.self.inside.state.now.graph c.args.w ws = subst (λ (g : SimpleGraph). AreNeighbours g c.args.w ws) c.graph.ensures.graph c.neighbours.ensures in
+    let near : AreNeighbours c.self.inside.state.now.graph c.args.w ws =
+    subst (λ (g : SimpleGraph). AreNeighbours g c.args.w ws) c.graph.ensures.graph c.neighbours.ensures in
     let a : Answers = record { edges = c.self.inside.edges.items; places = c.self.inside.places.items; orders = c.self.inside.orders.items } in
     let kept : a ≡ c.args.self.now.kept = ap (λ (r : Resting). r.kept) c.self.view_is in
     let told : has_list a c.args.w ≡ true = ap (λ (x : Answers). has_list x c.args.w) kept ∙ c.requires.read in
-    ap (λ (xs : List ℕ). get_or xs c.args.i 0) (same_neighbours c.self.inside.state.now a c.args.w ws c.self.invariant.agrees near told ∙ ap (λ (x : Answers). list_of x c.args.w) kept)
+    ap (λ (xs : List ℕ). get_or xs c.args.i 0)
+    (same_neighbours c.self.inside.state.now a c.args.w ws c.self.invariant.agrees near told
+    ∙ ap (λ (x : Answers). list_of x c.args.w) kept)

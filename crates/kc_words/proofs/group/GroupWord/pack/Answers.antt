@@ -10,4 +10,7 @@ returns-clause-word c = rw c.from.ensures (shifted_pair _ 24 _ 40 c.requires.0 r
 
 pub returns-clause-read_back : goal.returns-clause-read_back
 unfolding group_word
-returns-clause-read_back c = rw c.from.ensures (ap group_of (shifted_pair c.args.self.version 24 c.args.self.top 40 c.requires.0 refl c.requires.1) ∙ group_of-group_word c.args.self c.requires)
+returns-clause-read_back c =
+    rw c.from.ensures
+    (ap group_of (shifted_pair c.args.self.version 24 c.args.self.top 40 c.requires.0 refl c.requires.1)
+    ∙ group_of-group_word c.args.self c.requires)

@@ -10,4 +10,7 @@ returns-clause-word c = rw (c.from.ensures, c.from-2.ensures, c.from-3.ensures) 
 
 pub returns-clause-read_back : goal.returns-clause-read_back
 unfolding item_word
-returns-clause-read_back c = rw (c.from.ensures, c.from-2.ensures, c.from-3.ensures) (ap item_of (shifted_three c.args.self.version c.args.self.group c.args.self.bottom c.requires.0 c.requires.1 c.requires.2) ∙ item_of-item_word c.args.self c.requires)
+returns-clause-read_back c =
+    rw (c.from.ensures, c.from-2.ensures, c.from-3.ensures)
+    (ap item_of (shifted_three c.args.self.version c.args.self.group c.args.self.bottom c.requires.0 c.requires.1 c.requires.2)
+    ∙ item_of-item_word c.args.self c.requires)

@@ -11,16 +11,31 @@ pub returns-in-Nothing-clause-read_back : goal.returns-in-Nothing-clause-read_ba
 returns-in-Nothing-clause-read_back c = (nothing_packed c.args.self c.requires c.in-Nothing.is).back
 
 pub returns-after-add-clause-word : goal.returns-after-add-clause-word
-returns-after-add-clause-word c = let kind : c.if-add.kind ≡ cond c.in-Enter.add 3 2 = elim c.if-add.branch [ then-add w ↦ w.kind-is ∙ sym (ap (λ b. cond b 3 2) w.if-add.true) | else-add w ↦ w.kind-is ∙ sym (ap (λ b. cond b 3 2) w.if-add.false) ] in rw (c.from.ensures, c.from-in-Enter.ensures, c.from-in-Enter-2.ensures) (enter_packed c.args.self c.if-add.kind c.in-Enter.add c.in-Enter.index c.in-Enter.u c.in-Enter.v c.requires c.in-Enter.is kind).word
+returns-after-add-clause-word c =
+    let kind : c.if-add.kind ≡ cond c.in-Enter.add 3 2 =
+    elim c.if-add.branch [
+      | then-add w ↦ w.kind-is ∙ sym (ap (λ b. cond b 3 2) w.if-add.true)
+      | else-add w ↦ w.kind-is ∙ sym (ap (λ b. cond b 3 2) w.if-add.false)
+    ] in
+    rw (c.from.ensures, c.from-in-Enter.ensures, c.from-in-Enter-2.ensures)
+    (enter_packed c.args.self c.if-add.kind c.in-Enter.add c.in-Enter.index c.in-Enter.u c.in-Enter.v c.requires c.in-Enter.is kind).word
 
 pub returns-after-add-clause-read_back : goal.returns-after-add-clause-read_back
-returns-after-add-clause-read_back c = let kind : c.if-add.kind ≡ cond c.in-Enter.add 3 2 = elim c.if-add.branch [ then-add w ↦ w.kind-is ∙ sym (ap (λ b. cond b 3 2) w.if-add.true) | else-add w ↦ w.kind-is ∙ sym (ap (λ b. cond b 3 2) w.if-add.false) ] in rw (c.from.ensures, c.from-in-Enter.ensures, c.from-in-Enter-2.ensures) (enter_packed c.args.self c.if-add.kind c.in-Enter.add c.in-Enter.index c.in-Enter.u c.in-Enter.v c.requires c.in-Enter.is kind).back
+returns-after-add-clause-read_back c =
+    let kind : c.if-add.kind ≡ cond c.in-Enter.add 3 2 =
+    elim c.if-add.branch [
+      | then-add w ↦ w.kind-is ∙ sym (ap (λ b. cond b 3 2) w.if-add.true)
+      | else-add w ↦ w.kind-is ∙ sym (ap (λ b. cond b 3 2) w.if-add.false)
+    ] in
+    rw (c.from.ensures, c.from-in-Enter.ensures, c.from-in-Enter-2.ensures)
+    (enter_packed c.args.self c.if-add.kind c.in-Enter.add c.in-Enter.index c.in-Enter.u c.in-Enter.v c.requires c.in-Enter.is kind).back
 
 pub returns-in-Put-clause-word : goal.returns-in-Put-clause-word
 returns-in-Put-clause-word c = rw (c.from-in-Put.ensures, c.from-in-Put-2.ensures) (put_packed c.args.self c.in-Put.x c.in-Put.p c.requires c.in-Put.is).word
 
 pub returns-in-Put-clause-read_back : goal.returns-in-Put-clause-read_back
-returns-in-Put-clause-read_back c = rw (c.from-in-Put.ensures, c.from-in-Put-2.ensures) (put_packed c.args.self c.in-Put.x c.in-Put.p c.requires c.in-Put.is).back
+returns-in-Put-clause-read_back c =
+    rw (c.from-in-Put.ensures, c.from-in-Put-2.ensures) (put_packed c.args.self c.in-Put.x c.in-Put.p c.requires c.in-Put.is).back
 
 pub returns-in-Take-clause-word : goal.returns-in-Take-clause-word
 returns-in-Take-clause-word c = rw c.from-in-Take.ensures (take_packed c.args.self c.in-Take.x c.requires c.in-Take.is).word
