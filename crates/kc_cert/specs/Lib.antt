@@ -1,7 +1,9 @@
-pub mod Arrangements
+-- What public contracts speak of.
 pub mod Conditions
 pub mod Local
-pub mod Looks
 pub mod Ranks
-pub mod Shifting
 pub mod Stands
+-- What the crate's own functions and invariants speak of.
+pub mod Arrangements
+pub mod Looks
+pub mod Shifting

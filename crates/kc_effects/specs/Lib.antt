@@ -1,3 +1,4 @@
+-- What public contracts speak of.
 pub mod Batches
 pub mod Entered
 pub mod Outcomes

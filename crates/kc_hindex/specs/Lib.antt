@@ -1,4 +1,6 @@
+-- What public contracts speak of.
+pub mod Rounds
+-- What the crate's own functions and invariants speak of.
 pub mod Crossing
 pub mod Ordering
 pub mod Pieces
-pub mod Rounds

@@ -1,3 +1,4 @@
+-- What the crate's own functions and invariants speak of.
 pub mod Added
 pub mod Marks
 pub mod Rising

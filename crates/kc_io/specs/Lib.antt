@@ -1,3 +1,4 @@
+-- What public contracts speak of.
 pub mod Calls
 pub mod Causes
 pub mod FirstPiece

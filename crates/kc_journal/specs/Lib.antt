@@ -1,7 +1,9 @@
+-- What public contracts speak of.
 pub mod Ahead
 pub mod Answers
-pub mod Changes
 pub mod Entering
 pub mod Holding
 pub mod Journals
 pub mod Sections
+-- What the crate's own functions and invariants speak of.
+pub mod Changes

@@ -1,9 +1,11 @@
+-- What public contracts speak of.
 pub mod Places
 pub mod Sheets
 pub mod Tally
+pub mod Plain
+-- What the crate's own functions and invariants speak of.
 pub mod Views
 pub mod Opening
-pub mod Plain
 pub mod Soundness
 pub mod Rewriting
 pub mod Scheduling

@@ -1,3 +1,4 @@
+-- What public contracts speak of.
 pub mod Collected
 pub mod Runs
 pub mod Shared

@@ -1,4 +1,6 @@
+-- What public contracts speak of.
 pub mod Records
 pub mod Reads
 pub mod ReadsCode
+-- What the crate's own functions and invariants speak of.
 pub mod Loose

@@ -1,7 +1,9 @@
+-- What public contracts speak of.
 pub mod Edges
 pub mod Legal
 pub mod Log
 pub mod Rule
-pub mod Samples
 pub mod Sections
 pub mod State
+-- What the crate's own functions and invariants speak of.
+pub mod Samples

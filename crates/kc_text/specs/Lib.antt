@@ -1,15 +1,17 @@
+-- What public contracts speak of.
 pub mod Batches
-pub mod Buckets
-pub mod Deciding
-pub mod Finding
 pub mod Forms
 pub mod Inputs
 pub mod Kinds
 pub mod Lines
-pub mod Looks
 pub mod Meaning
 pub mod NamedOnce
 pub mod Overruling
+-- What the crate's own functions and invariants speak of.
+pub mod Buckets
+pub mod Deciding
+pub mod Finding
+pub mod Looks
 pub mod Plain
 pub mod Readers
 pub mod Readings

@@ -1,8 +1,10 @@
+-- What public contracts speak of.
 pub mod ErrLines
 pub mod Given
-pub mod Inputs
 pub mod Leaving
 pub mod Outcome
 pub mod Settings
 pub mod Statuses
+-- What the crate's own functions and invariants speak of.
+pub mod Inputs
 pub mod Stops

@@ -1,3 +1,4 @@
+-- What public contracts speak of.
 pub mod Answers
 pub mod Faults
 pub mod Lists

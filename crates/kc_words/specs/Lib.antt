@@ -1,3 +1,4 @@
+-- What public contracts speak of.
 pub mod ItemWord
 pub mod GroupWord
 pub mod VertexWord

@@ -1,2 +1,3 @@
+-- What public contracts speak of.
 pub mod Ending
 pub mod Words
