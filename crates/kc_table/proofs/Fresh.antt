@@ -80,6 +80,7 @@ module _ (shape : Shape) (w : ℕ) (key : ℕ → ℕ)
         (λ (is : value_at opening m w ≡ value_at opening q w). is ∙ sym same) (rises m q b legal_q))
         (λ (is : value_at opening p w ≡ value_at opening m w). sym is) (rises p m a legal_m)
 
+-- a store that may be made to an item's or a group's word raises its version
 version_raises : (shape : Shape) (w : ℕ) → IsVersioned shape w → (s : State) (e : Event) → MayStore shape s e → e.word ≡ w
     → version_of (get_or s.words w 0) < version_of e.value
 version_raises shape w versioned s e may is =
@@ -87,6 +88,7 @@ version_raises shape w versioned s e may is =
     let old : version_of (get_or s.words e.word 0) ≡ version_of (get_or s.words w 0) = ap (λ k. version_of (get_or s.words k 0)) is in
     omega (arith, newer, old)
 
+-- a store that may be made to a vertex's word raises its stamp
 stamp_raises : (shape : Shape) (v : ℕ) (s : State) (e : Event) → MayStore shape s e → e.word ≡ first_vertex shape + v
     → (vertex_of (get_or s.words (first_vertex shape + v) 0)).stamp < (vertex_of e.value).stamp
 stamp_raises shape v s e may is = (may.seals v is).later

@@ -13,6 +13,7 @@ use Rattle.kc_table.specs.declared.view.Event.{Event}
 use Rattle.kc_table.specs.State.{State, opened, after_store, after_stores, state_of, placed, listed, is_below, moved}
 use Rattle.kc_table.specs.Legal.{MayStore, MayNote, Legal, LegalFrom}
 
+-- what is in the list after an item was placed by its pair is that item, or was there before
 pub member-placed : (a : Labels) (y x : ℕ) (zs : List ℕ) → member y (placed a x zs) ≡ true → (y ≡ x) ⊎ (member y zs ≡ true)
 member-placed a y x [] m = elim (member-cases y x [] m) [ inl e ↦ inl e | inr k ↦ absurd (false≢true k) ]
 member-placed a y x (z ∷ zs) m =
@@ -24,6 +25,7 @@ member-placed a y x (z ∷ zs) m =
       ]
     ] m
 
+-- an item that was placed by its pair is in the list, and so is each that was there before
 pub placed-member : (a : Labels) (y x : ℕ) (zs : List ℕ) → (y ≡ x) ⊎ (member y zs ≡ true) → member y (placed a x zs) ≡ true
 placed-member a y x [] h = elim h [ inl e ↦ or_left (eqb y x) false (eq-eqb y x e) | inr m ↦ absurd (false≢true m) ]
 placed-member a y x (z ∷ zs) h =
@@ -39,6 +41,7 @@ placed-member a y x (z ∷ zs) h =
       ]
     ]
 
+-- a list with distinct items still has such where another is placed by its pair
 Distinct-placed : (a : Labels) (x : ℕ) (zs : List ℕ) → Distinct zs → member x zs ≡ false → Distinct (placed a x zs)
 Distinct-placed a x [] d m = (refl, tt)
 Distinct-placed a x (z ∷ zs) d m =
@@ -51,6 +54,7 @@ Distinct-placed a x (z ∷ zs) d m =
       )
     ]
 
+-- what the words of the items below a number list is below that number
 pub listed-within : (a : Labels) (n y : ℕ) → member y (listed a n) ≡ true → y < n
 listed-within a zero y m = absurd (false≢true m)
 listed-within a (suc x) y m =
@@ -59,6 +63,7 @@ listed-within a (suc x) y m =
       | false ↦ λ k. elim (member-placed a y x (listed a x) k) [ inl e ↦ omega arith | inr t ↦ let l : y < x = listed-within a x y t in omega arith ]
     ] m
 
+-- what the words of the items list has no item twice
 Distinct-listed : (a : Labels) (n : ℕ) → Distinct (listed a n)
 Distinct-listed a zero = tt
 Distinct-listed a (suc x) =
@@ -82,6 +87,7 @@ Announced shape list (Enter add index u v) = Unit {0}
 Announced shape list (Put x p) = (x < shape.items) × (member p list ≡ true) × (x ≢ p)
 Announced shape list (Take x) = shape.fixed ≤ x
 
+-- the list of a state is as it should be, and so is what the last note announced
 pub record Stands (shape : Shape) (s : State) : Type 0 where
   pub listed : Listed shape s.list
   pub announced : Announced shape s.list s.note
@@ -134,6 +140,7 @@ moved-listed shape list word (Take x) a h =
           }
     ]
 
+-- a note that may be stored announces what an announced item owes
 note-announced : (shape : Shape) (s : State) (note : NoteWord) → MayNote shape s note → Announced shape s.list note
 note-announced shape s Nothing h = tt
 note-announced shape s (Enter add index u v) h = tt
@@ -154,10 +161,12 @@ stands-step shape s e may h =
       }
     ]
 
+-- stores that are legal from a state keep its list and what is announced as they should be
 stands-from : (shape : Shape) (s : State) (es : List Event) → LegalFrom shape s es → Stands shape s → Stands shape (after_stores shape s es)
 stands-from shape s [] h k = k
 stands-from shape s (e ∷ es) h k = stands-from shape (after_store shape s e) es h.2 (stands-step shape s e h.0 k)
 
+-- after a legal log the list and what is announced are as they should be
 pub stands : (shape : Shape) (opening : List ℕ) (log : List Event) → Legal shape opening log → Stands shape (state_of shape opening log)
 unfolding Legal state_of
 stands shape opening log h = stands-from shape (opened shape opening) log h.1 record {

@@ -21,6 +21,7 @@ use Rattle.kc_table.proofs.Stamps.{number-grows, puts-none, put_in-is, sealed-op
 
 -- What one store more puts. ---------------------------------------------------------------------------
 
+-- what two logs put in a section, one behind the other, is what the first puts and then what the second puts
 puts_from-append : (shape : Shape) (s : State) (es fs : List Event) (k : ℕ)
     → puts_from shape s (es ++ fs) k ≡ puts_from shape s es k ++ puts_from shape (after_stores shape s es) fs k
 puts_from-append shape s [] fs k = refl

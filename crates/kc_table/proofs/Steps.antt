@@ -17,9 +17,11 @@ use Rattle.kc_table.specs.Rule.{EachBegins, Fits, Keeps, first_view, pass_of, pa
 use Rattle.kc_table.proofs.LegalLogs.{legal-last, legal-opens}
 use Rattle.kc_table.proofs.Prefixes.{prefix_self, prefix_push}
 
+-- where false is true, anything follows
 off : {X : Type 0} → false ≡ true → X
 off e = absurd (true≢false (sym e))
 
+-- the words after one store more are those before it with that one changed
 pub words_after-push : (ws : List ℕ) (es : List Event) (e : Event) → words_after ws (es ++ e ∷ []) ≡ set (words_after ws es) e.word e.value
 words_after-push ws [] e = refl
 words_after-push ws (x ∷ es) e = words_after-push (set ws x.word x.value) es e
@@ -44,6 +46,7 @@ value_at-stored shape opening log e h =
     ap (λ ws. get_or ws e.word 0) (words_after-push opening log e)
     ∙ get_or-set_same (words_after opening log) e.word e.value 0 (omega (arith, there, long, length-words_after opening log))
 
+-- beginnings of a log begin it after one store more too
 each_longer : (ps : List (List Event)) (log : List Event) (e : Event) → EachBegins ps log → EachBegins ps (log ++ e ∷ [])
 each_longer [] log e h = tt
 each_longer (p ∷ ps) log e h = (prefix_push p log e h.0, each_longer ps log e h.1)

@@ -19,7 +19,7 @@ use Rattle.kc_table.specs.Legal.{Legal, Opens, Holds, MayStore, IsVersioned, ver
 use Rattle.kc_table.specs.Samples.{pair_shape, pair_opening, lone_shape, lone_words}
 use Rattle.kc_table.proofs.LegalLogs.{legal-nil, legal-push, state_of-nil, state_of-push}
 
--- two items
+-- each word of the table of two items opens with version 0
 pair_versions : (word : ℕ) → IsVersioned pair_shape word → version_of (get_or pair_opening word 0) ≡ 0
 unfolding item_of
 pair_versions zero h = absurd (omega (arith, h.0))
@@ -30,17 +30,18 @@ pair_versions (suc (suc (suc (suc zero)))) h = refl
 pair_versions (suc (suc (suc (suc (suc zero))))) h = refl
 pair_versions (suc (suc (suc (suc (suc (suc w)))))) h = absurd (omega (arith, h.1))
 
--- a list of one item or two has no others
+-- an item from 1 on is not in the list 0
 others_out : (x : ℕ) → member (suc x) (0 ∷ []) ≡ true → ⊥
 others_out x m = elim (member-cases (suc x) 0 [] m) [ inl e ↦ omega (arith, e) | inr k ↦ false≢true k ]
 
+-- an item from 2 on is not in the list 0, 1
 thirds_out : (x : ℕ) → member (suc (suc x)) (0 ∷ 1 ∷ []) ≡ true → ⊥
 thirds_out x m = elim (member-cases (suc (suc x)) 0 (1 ∷ []) m) [
   | inl e ↦ omega (arith, e)
   | inr k ↦ elim (member-cases (suc (suc x)) 1 [] k) [ inl e ↦ omega (arith, e) | inr n ↦ false≢true n ]
 ]
 
--- whatever the note is
+-- the table of two items opens with its list in order, whatever the note is
 pair_ordered : (note : ℕ) → Ordered 2 (note ∷ 786432 ∷ 0 ∷ 549755813888 ∷ 0 ∷ 0 ∷ []) (0 ∷ [])
 unfolding item_of group_of
 pair_ordered note = record { pairs = tt; inside = inside; outside = outside }
@@ -56,6 +57,7 @@ pair_ordered note = record { pairs = tt; inside = inside; outside = outside }
     outside (suc zero) l m = refl
     outside (suc (suc x)) l m = absurd (omega (arith, l))
 
+-- the table of two items opens rightly
 pub pair_opens : Opens pair_shape pair_opening
 unfolding item_of
 pair_opens = record {
@@ -66,6 +68,7 @@ pair_opens = record {
   holds = record { ordered = pair_ordered 0; stamps = λ v l. absurd (omega (arith, l)) };
 }
 
+-- the note that puts item 1 after item 0 may be its first store
 pub pair_first : Legal pair_shape pair_opening (event 0 9223372036856872960 ∷ [])
 unfolding state_of item_of note_of group_of vertex_of
 pair_first =
@@ -80,10 +83,11 @@ pair_first =
     legal-push pair_shape pair_opening [] (event 0 9223372036856872960) (legal-nil pair_shape pair_opening pair_opens) may record
     { ordered = pair_ordered 9223372036856872960; stamps = λ v l. absurd (omega (arith, l)) }
 
+-- the words of the table of two items after both stores
 abbrev pair_words : List ℕ
 pair_words = 9223372036856872960 ∷ 786432 ∷ 1099512545280 ∷ 549755813888 ∷ 0 ∷ 0 ∷ []
 
--- the list 0, 1
+-- with both stores made the list 0, 1 is in order
 pair_put-ordered : Ordered 2 pair_words (0 ∷ 1 ∷ [])
 unfolding item_of group_of
 pair_put-ordered = record { pairs = (inr (refl, omega arith), tt); inside = inside; outside = outside }
@@ -98,6 +102,7 @@ pair_put-ordered = record { pairs = (inr (refl, omega arith), tt); inside = insi
     outside (suc zero) l m = absurd (true≢false m)
     outside (suc (suc x)) l m = absurd (omega (arith, l))
 
+-- item 1's word may be stored after the note that puts it
 pub pair_second : Legal pair_shape pair_opening (event 0 9223372036856872960 ∷ event 2 1099512545280 ∷ [])
 unfolding state_of item_of note_of group_of vertex_of
 pair_second =
@@ -112,7 +117,7 @@ pair_second =
     legal-push pair_shape pair_opening (event 0 9223372036856872960 ∷ []) (event 2 1099512545280) pair_first may record
     { ordered = pair_put-ordered; stamps = λ v l. absurd (omega (arith, l)) }
 
--- One item whose group's word is stored again and again, with a version more each time.
+-- the table of one item has its list in order, whatever version the group's word has
 lone_ordered : (version : ℕ) → Ordered 1 (lone_words version) (0 ∷ [])
 unfolding item_of group_of
 lone_ordered version = record { pairs = tt; inside = inside; outside = outside }
@@ -126,6 +131,7 @@ lone_ordered version = record { pairs = tt; inside = inside; outside = outside }
     outside zero l m = absurd (true≢false m)
     outside (suc x) l m = absurd (omega (arith, l))
 
+-- each word of the table of one item opens with version 0
 lone_versions : (word : ℕ) → IsVersioned lone_shape word → version_of (get_or (lone_words 0) word 0) ≡ 0
 unfolding item_of
 lone_versions zero h = absurd (omega (arith, h.0))
@@ -134,6 +140,7 @@ lone_versions (suc (suc zero)) h = refl
 lone_versions (suc (suc (suc zero))) h = refl
 lone_versions (suc (suc (suc (suc w)))) h = absurd (omega (arith, h.1))
 
+-- the table of one item opens rightly
 pub lone_opens : Opens lone_shape (lone_words 0)
 unfolding item_of
 lone_opens = record {
@@ -149,10 +156,12 @@ pub record Stored (version : ℕ) (log : List Event) : Type 0 where
   pub legal : Legal lone_shape (lone_words 0) log
   pub state : state_of lone_shape (lone_words 0) log ≡ record { words = lone_words version; list = 0 ∷ []; note = Nothing; entries = []; unsealed = [] }
 
+-- the empty log has stored the group's word no times
 pub stored-none : Stored 0 []
 unfolding item_of group_of
 stored-none = record { legal = legal-nil lone_shape (lone_words 0) lone_opens; state = state_of-nil lone_shape (lone_words 0) }
 
+-- below the last version the group's word may be stored once more
 pub stored-more : (version : ℕ) (log : List Event) → version < LAST_VERSION → Stored version log
     → Stored (version + 1) (log ++ event 2 ((version + 1) * 1099511627776 + 549755813888) ∷ [])
 unfolding item_of
@@ -176,7 +185,7 @@ stored-more version log few h =
       state = next;
     }
 
--- Shapes with these numbers are the samples' shapes.
+-- a shape with the numbers of the table of two items is its shape
 pub pair_is : (a : 1 ≤ 2) (b : 2 ≤ ITEMS) (c : 0 ≤ 2) (d : 0 ≤ LAST_VERSION)
     → ◌≡◌ {A = Shape} (record { items = 2; fixed = 0; base = 0; version = 0; some_items = a; few_items = b; fixed_in = c; version_in = d }) pair_shape
 pair_is a b c d i =
@@ -191,6 +200,7 @@ pair_is a b c d i =
       version_in = le_prop d pair_shape.version_in i;
     }
 
+-- a shape with the numbers of the table of one item is its shape
 pub lone_is : (a : 1 ≤ 1) (b : 1 ≤ ITEMS) (c : 0 ≤ 1) (d : 0 ≤ LAST_VERSION)
     → ◌≡◌ {A = Shape} (record { items = 1; fixed = 0; base = 0; version = 0; some_items = a; few_items = b; fixed_in = c; version_in = d }) lone_shape
 lone_is a b c d i =
