@@ -16,18 +16,23 @@ abbrev erase : ℕ → List ℕ → List ℕ
 erase x [] = []
 erase x (y ∷ ys) = cond (eqb x y) ys (y ∷ erase x ys)
 
+-- a list with one more in front counts as the rest, and 1 more where the first passes
 pub count-cons : (p : ℕ → Bool) (x : ℕ) (xs : List ℕ) → count_by p (x ∷ xs) ≡ cond (p x) 1 0 + count_by p xs
 count-cons p x xs = sum_by-cons (λ y. cond (p y) 1 0) x xs
 
+-- where the first of a list passes, the list counts 1 more than the rest
 pub count-yes : (p : ℕ → Bool) (x : ℕ) (xs : List ℕ) → p x ≡ true → count_by p (x ∷ xs) ≡ 1 + count_by p xs
 count-yes p x xs h = count-cons p x xs ∙ ap (λ b. cond b 1 0 + count_by p xs) h
 
+-- where the first of a list fails, the list counts as the rest
 pub count-no : (p : ℕ → Bool) (x : ℕ) (xs : List ℕ) → p x ≡ false → count_by p (x ∷ xs) ≡ count_by p xs
 count-no p x xs h = count-cons p x xs ∙ (ap (λ b. cond b 1 0 + count_by p xs) h ∙ omega arith)
 
+-- a member that is not the first is in the rest
 pub member-other : (x y : ℕ) (ys : List ℕ) → (x ≡ y → ⊥) → member x (y ∷ ys) ≡ true → member x ys ≡ true
 member-other x y ys ne h = elim (member-cases x y ys h) [ inl e ↦ absurd (ne e) | inr m ↦ m ]
 
+-- a list counts 1 more than what is left after a member that passes is erased once
 count-erase : (p : ℕ → Bool) (x : ℕ) (ys : List ℕ) → p x ≡ true → member x ys ≡ true → count_by p ys ≡ 1 + count_by p (erase x ys)
 count-erase p x [] px h = absurd (false≢true h)
 count-erase p x (y ∷ ys) px h =
@@ -41,6 +46,7 @@ count-erase p x (y ∷ ys) px h =
           ∙ (omega arith ∙ ap (λ n. 1 + n) (sym (count-cons p y (erase x ys)))))
     ] refl h
 
+-- what is not the erased number stays a member
 member-erase : (x z : ℕ) (ys : List ℕ) → (z ≡ x → ⊥) → member z ys ≡ true → member z (erase x ys) ≡ true
 member-erase x z [] ne h = h
 member-erase x z (y ∷ ys) ne h =
@@ -63,15 +69,17 @@ count-le p (x ∷ xs) ys d h =
           omega (arith, rest, count-no p x xs px)
     ]
 
--- Between what clauses say and the same by recursion.
+-- a number that is read at a place within the length is a member
 member-from_at : (xs : List ℕ) (x k : ℕ) → k < length xs → get_or xs k x ≡ x → member x xs ≡ true
 member-from_at [] x k l h = absurd (omega arith)
 member-from_at (y ∷ ys) x zero l h = or_left (eqb x y) (member x ys) (eq-eqb x y (sym h))
 member-from_at (y ∷ ys) x (suc k) l h = or_right (eqb x y) (member x ys) (member-from_at ys x k (omega arith) h)
 
+-- what a list contains, as clauses say it, is a member
 pub member-from_Contains : (xs : List ℕ) (x : ℕ) → Contains xs x → member x xs ≡ true
 member-from_Contains xs x (k, l, e) = member-from_at xs x k l e
 
+-- a list contains each of its members, as clauses say it
 pub Contains-from_member : (xs : List ℕ) (x : ℕ) → member x xs ≡ true → Contains xs x
 Contains-from_member [] x h = absurd (false≢true h)
 Contains-from_member (y ∷ ys) x h =
@@ -80,9 +88,11 @@ Contains-from_member (y ∷ ys) x h =
       | inr m ↦ let (k, l, e) = Contains-from_member ys x m in (suc k, omega arith, e)
     ]
 
+-- what stands at a place within the length is a member
 pub member-get_or : (xs : List ℕ) (k d : ℕ) → k < length xs → member (get_or xs k d) xs ≡ true
 member-get_or xs k d l = member-from_Contains xs (get_or xs k d) (Contains-get_or xs k d l)
 
+-- where no two places have the same number, the list is distinct
 pub Distinct-from_pairs : (xs : List ℕ) → AllPairs (λ v w. v ≢ w) xs → Distinct xs
 Distinct-from_pairs [] h = tt
 Distinct-from_pairs (x ∷ xs) h = (
@@ -90,6 +100,7 @@ Distinct-from_pairs (x ∷ xs) h = (
   Distinct-from_pairs xs (λ i j d lt l. h (suc i) (suc j) d (omega arith) (omega arith)),
 )
 
+-- a distinct list has no two places with the same number
 pub pairs_from_Distinct : (xs : List ℕ) → Distinct xs → AllPairs (λ v w. v ≢ w) xs
 pairs_from_Distinct [] h i j d lt l = absurd (omega arith)
 pairs_from_Distinct (x ∷ xs) h zero zero d lt l = absurd (omega arith)
@@ -97,6 +108,7 @@ pairs_from_Distinct (x ∷ xs) h (suc i) zero d lt l = absurd (omega arith)
 pairs_from_Distinct (x ∷ xs) h zero (suc j) d lt l = λ e. true≢false (sym (member-get_or xs j d (omega arith)) ∙ (ap (λ n. member n xs) (sym e) ∙ h.0))
 pairs_from_Distinct (x ∷ xs) h (suc i) (suc j) d lt l = pairs_from_Distinct xs h.1 i j d (omega arith) (omega arith)
 
+-- what is left by a filter was in the list, and passes
 pub member-filter : (p : ℕ → Bool) (x : ℕ) (xs : List ℕ) → member x (filter p xs) ≡ true → (member x xs ≡ true) × (p x ≡ true)
 member-filter p x [] h = absurd (false≢true h)
 member-filter p x (y ∷ ys) h =
@@ -108,6 +120,7 @@ member-filter p x (y ∷ ys) h =
       | false ↦ λ _ m. let k = member-filter p x ys m in (member-tail x y ys k.0, k.1)
     ] refl h
 
+-- a member that passes is left by the filter
 pub filter-member : (p : ℕ → Bool) (x : ℕ) (xs : List ℕ) → member x xs ≡ true → p x ≡ true → member x (filter p xs) ≡ true
 filter-member p x [] h px = h
 filter-member p x (y ∷ ys) h px =
@@ -116,6 +129,7 @@ filter-member p x (y ∷ ys) h px =
       | false ↦ λ py. filter-member p x ys (member-other x y ys (λ e. true≢false (sym px ∙ (ap p e ∙ py))) h) px
     ] refl
 
+-- a distinct list stays distinct under a filter
 pub Distinct-filter : (p : ℕ → Bool) (xs : List ℕ) → Distinct xs → Distinct (filter p xs)
 Distinct-filter p [] d = tt
 Distinct-filter p (x ∷ xs) d =
@@ -150,6 +164,7 @@ count-mono p q (x ∷ xs) h =
       | inr px ↦ omega (arith, rest, count-no p x xs px, count-cons q x xs)
     ]
 
+-- no more pass than the list has
 pub count-le-length : (p : ℕ → Bool) (xs : List ℕ) → count_by p xs ≤ length xs
 count-le-length p [] = omega arith
 count-le-length p (x ∷ xs) =
@@ -167,45 +182,56 @@ count-miss p v (x ∷ xs) m pv =
           elim (cases_Bool (p x)) [ inl px ↦ omega (arith, rest, count-yes p x xs px) | inr px ↦ omega (arith, rest, count-no p x xs px) ]
     ]
 
+-- the members after a push at the end are those before, and what was pushed
 pub member-push : (x y : ℕ) (xs : List ℕ) → member x (xs ++ y ∷ []) ≡ (member x xs || eqb x y)
 member-push x y xs = list_any-append (eqb x) xs (y ∷ []) ∙ ap (λ b. member x xs || b) (or-false (eqb x y))
 
+-- a member stays one when a number is pushed at the end
 pub member-push_left : (x y : ℕ) (xs : List ℕ) → member x xs ≡ true → member x (xs ++ y ∷ []) ≡ true
 member-push_left x y xs m = member-push x y xs ∙ or_left (member x xs) (eqb x y) m
 
+-- a member after a push was one before, or is what was pushed
 pub member-push_cases : (x y : ℕ) (xs : List ℕ) → member x (xs ++ y ∷ []) ≡ true → (member x xs ≡ true) ⊎ (x ≡ y)
 member-push_cases x y xs m = elim (or_cases (member x xs) (eqb x y) (sym (member-push x y xs) ∙ m)) [ inl k ↦ inl k | inr e ↦ inr (eqb-true x y e) ]
 
+-- what is no member after a push was none before, and is not what was pushed
 pub member-push_none : (x y : ℕ) (xs : List ℕ) → member x (xs ++ y ∷ []) ≡ false → (member x xs ≡ false) × (eqb x y ≡ false)
 member-push_none x y xs m = or_parts (member x xs) (eqb x y) (sym (member-push x y xs) ∙ m)
 
+-- a distinct list stays distinct when a number that it has not is pushed
 pub Distinct-push : (xs : List ℕ) (y : ℕ) → Distinct xs → member y xs ≡ false → Distinct (xs ++ y ∷ [])
 Distinct-push [] y d m = (refl, tt)
 Distinct-push (x ∷ xs) y d m =
     let k = or_parts (eqb y x) (member y xs) m in
     (member-push x y xs ∙ or_from (member x xs) (eqb x y) d.0 (ne_eqb x y (λ e. eqb-false y x k.0 (sym e))), Distinct-push xs y d.1 k.1)
 
+-- a number less than `n` is among the numbers below `n`
 pub member-below : (v n : ℕ) → v < n → member v (below n) ≡ true
 member-below v zero l = absurd (omega arith)
 member-below v (suc n) l = elim (cases_eq v n) [ inl e ↦ or_left (eqb v n) _ (eq-eqb v n e) | inr ne ↦ or_right (eqb v n) _ (member-below v n (omega arith)) ]
 
+-- what is among the numbers below `n` is less than `n`
 pub below-member : (v n : ℕ) → member v (below n) ≡ true → v < n
 below-member v zero m = absurd (false≢true m)
 below-member v (suc n) m = elim (member-cases v n (below n) m) [ inl e ↦ omega arith | inr k ↦ let l : v < n = below-member v n k in omega arith ]
 
+-- the numbers below `n` are distinct
 pub Distinct-below : (n : ℕ) → Distinct (below n)
 Distinct-below zero = tt
 Distinct-below (suc n) = (false_from_ne_true (member n (below n)) (λ m. lt_irrefl n (below-member n n m)), Distinct-below n)
 
+-- there are `n` numbers below `n`
 pub length-below : (n : ℕ) → length (below n) ≡ n
 length-below zero = refl
 length-below (suc n) = ap suc (length-below n)
 
+-- what is left when a front is dropped was in the list
 pub drop-member : (n x : ℕ) (xs : List ℕ) → member x (drop n xs) ≡ true → member x xs ≡ true
 drop-member zero x xs m = m
 drop-member (suc n) x [] m = m
 drop-member (suc n) x (y ∷ ys) m = member-tail x y ys (drop-member n x ys m)
 
+-- a distinct list stays distinct when a front is dropped
 pub Distinct-drop : (n : ℕ) (xs : List ℕ) → Distinct xs → Distinct (drop n xs)
 Distinct-drop zero xs d = d
 Distinct-drop (suc n) [] d = d
@@ -219,6 +245,7 @@ drop-not_take (suc n) x (y ∷ ys) d m =
     or_from (eqb x y) (member x (take n ys)) (ne_eqb x y (λ e. true≢false (sym (drop-member n x ys m) ∙ (ap (λ k. member k ys) e ∙ d.0))))
     (drop-not_take n x ys d.1 m)
 
+-- in a distinct list, what stands at a place stands nowhere before it
 pub take-not_here : (i : ℕ) (xs : List ℕ) → i < length xs → Distinct xs → member (get_or xs i 0) (take i xs) ≡ false
 take-not_here zero xs l d = refl
 take-not_here (suc i) [] l d = refl
@@ -234,7 +261,7 @@ count-agree p q (x ∷ xs) h =
     count-cons p x xs ∙ ap (λ b. cond b 1 0 + count_by p xs) (h x (member-head x xs))
     ∙ ap (λ n. cond (q x) 1 0 + n) (count-agree p q xs (λ y m. h y (member-tail y x xs m))) ∙ sym (count-cons q x xs)
 
--- one that passes no longer
+-- where one member passes no longer and nothing else changes, the count is 1 less
 pub count-without : (p q : ℕ → Bool) (v : ℕ) (xs : List ℕ) → Distinct xs → member v xs ≡ true → p v ≡ true → q v ≡ false
     → ((x : ℕ) → (x ≡ v → ⊥) → p x ≡ q x) → count_by p xs ≡ count_by q xs + 1
 count-without p q v [] d m pv qv h = absurd (false≢true m)
@@ -250,6 +277,7 @@ count-without p q v (x ∷ xs) d m pv qv h =
           omega (arith, rest, same, count-cons p x xs, count-cons q x xs)
     ]
 
+-- where each member passes, the count is the length
 pub count-all : (p : ℕ → Bool) (xs : List ℕ) → ((x : ℕ) → member x xs ≡ true → p x ≡ true) → count_by p xs ≡ length xs
 count-all p [] h = refl
 count-all p (x ∷ xs) h =

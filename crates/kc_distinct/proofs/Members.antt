@@ -5,21 +5,27 @@ use Rattle.std.proofs.lemmas.Bool.{true≢false, false_from_ne_true}
 use Rattle.std.proofs.lemmas.List.{append_assoc, length-append}
 use Rattle.kc_distinct.specs.Lists.{member, Distinct, without, right_after, head_or, last_or, next_of, prev_of, place_of}
 
+-- the first of a list is a member
 pub member-head : (x : ℕ) (xs : List ℕ) → member x (x ∷ xs) ≡ true
 member-head x xs = or_left (eqb x x) (member x xs) (eq-eqb x x refl)
 
+-- a member of the rest is a member
 pub member-tail : (x y : ℕ) (ys : List ℕ) → member x ys ≡ true → member x (y ∷ ys) ≡ true
 member-tail x y ys h = or_right (eqb x y) (member x ys) h
 
+-- a member is the first, or in the rest
 pub member-cases : (x y : ℕ) (ys : List ℕ) → member x (y ∷ ys) ≡ true → (x ≡ y) ⊎ (member x ys ≡ true)
 member-cases x y ys h = elim (or_cases (eqb x y) (member x ys) h) [ inl e ↦ inl (eqb-true x y e) | inr m ↦ inr m ]
 
+-- what is neither the first nor in the rest is no member
 pub not_member-cons : (x y : ℕ) (ys : List ℕ) → (x ≡ y → ⊥) → member x ys ≡ false → member x (y ∷ ys) ≡ false
 not_member-cons x y ys ne h = or_from (eqb x y) (member x ys) (ne_eqb x y ne) h
 
+-- what is no member is neither the first nor in the rest
 pub not_member-parts : (x y : ℕ) (ys : List ℕ) → member x (y ∷ ys) ≡ false → (x ≡ y → ⊥) × (member x ys ≡ false)
 not_member-parts x y ys h = let p = or_parts (eqb x y) (member x ys) h in (eqb-false x y p.0, p.1)
 
+-- a member of two lists joined is in one of them
 pub member-append : (x : ℕ) (xs ys : List ℕ) → member x (xs ++ ys) ≡ true → (member x xs ≡ true) ⊎ (member x ys ≡ true)
 member-append x [] ys h = inr h
 member-append x (z ∷ xs) ys h =
@@ -28,33 +34,38 @@ member-append x (z ∷ xs) ys h =
       | inr m ↦ elim (member-append x xs ys m) [ inl a ↦ inl (member-tail x z xs a) | inr b ↦ inr b ]
     ]
 
+-- a member of the first list is in both joined
 pub member-append_left : (x : ℕ) (xs ys : List ℕ) → member x xs ≡ true → member x (xs ++ ys) ≡ true
 member-append_left x [] ys h = absurd (false≢true h)
 member-append_left x (z ∷ xs) ys h =
     elim (member-cases x z xs h)
     [ inl e ↦ or_left (eqb x z) (member x (xs ++ ys)) (eq-eqb x z e) | inr m ↦ member-tail x z (xs ++ ys) (member-append_left x xs ys m) ]
 
+-- a member of the second list is in both joined
 pub member-append_right : (x : ℕ) (xs ys : List ℕ) → member x ys ≡ true → member x (xs ++ ys) ≡ true
 member-append_right x [] ys h = h
 member-append_right x (z ∷ xs) ys h = member-tail x z (xs ++ ys) (member-append_right x xs ys h)
 
+-- what is not in two lists joined is in neither
 pub not_member-append : (x : ℕ) (xs ys : List ℕ) → member x (xs ++ ys) ≡ false → (member x xs ≡ false) × (member x ys ≡ false)
 not_member-append x xs ys h = (
   false_from_ne_true (member x xs) (λ m. true≢false (sym (member-append_left x xs ys m) ∙ h)),
   false_from_ne_true (member x ys) (λ m. true≢false (sym (member-append_right x xs ys m) ∙ h)),
 )
 
+-- what is in neither of two lists is not in both joined
 pub append-not_member : (x : ℕ) (xs ys : List ℕ) → member x xs ≡ false → member x ys ≡ false → member x (xs ++ ys) ≡ false
 append-not_member x xs ys a b =
     false_from_ne_true (member x (xs ++ ys))
     (λ m. elim (member-append x xs ys m) [ inl p ↦ true≢false (sym p ∙ a) | inr p ↦ true≢false (sym p ∙ b) ])
 
--- a list is cut at its member
+-- a list cut at a member: what stands before it, and what behind
 pub record Cut (x : ℕ) (xs : List ℕ) : Type 0 where
   pub front : List ℕ
   pub back : List ℕ
   pub is : xs ≡ front ++ x ∷ back
 
+-- a list can be cut at each of its members
 pub cut : (x : ℕ) (xs : List ℕ) → member x xs ≡ true → Cut x xs
 cut x [] h = absurd (false≢true h)
 cut x (y ∷ ys) h = elim (member-cases x y ys h) [
@@ -62,7 +73,7 @@ cut x (y ∷ ys) h = elim (member-cases x y ys h) [
   | inr m ↦ let c = cut x ys m in record { front = y ∷ c.front; back = c.back; is = ap (λ zs. y ∷ zs) c.is }
 ]
 
--- where a list without repetition is cut
+-- where a distinct list is cut at x, x is on neither side, and both sides joined are distinct
 pub Distinct-cut : (x : ℕ) (l r : List ℕ) → Distinct (l ++ x ∷ r) → (member x l ≡ false) × (member x r ≡ false) × Distinct (l ++ r)
 Distinct-cut x [] r d = (refl, d.0, d.1)
 Distinct-cut x (y ∷ l) r d =
@@ -71,6 +82,7 @@ Distinct-cut x (y ∷ l) r d =
     let yx = not_member-parts y x r ym.1 in
     (not_member-cons x y l (λ e. yx.0 (sym e)) rest.0, rest.1, (append-not_member y l r ym.0 yx.1, rest.2))
 
+-- a distinct list stays distinct when a number that it has not is put anywhere in it
 pub Distinct-insert : (x : ℕ) (l r : List ℕ) → Distinct (l ++ r) → member x (l ++ r) ≡ false → Distinct (l ++ x ∷ r)
 Distinct-insert x [] r d h = (h, d)
 Distinct-insert x (y ∷ l) r d h =
@@ -78,44 +90,53 @@ Distinct-insert x (y ∷ l) r d h =
     let ym = not_member-append y l r d.0 in
     (append-not_member y l (x ∷ r) ym.0 (not_member-cons y x r (λ e. p.0 (sym e)) ym.1), Distinct-insert x l r d.1 p.1)
 
+-- a list without what it has not is the list itself
 pub without-none : (x : ℕ) (xs : List ℕ) → member x xs ≡ false → without x xs ≡ xs
 without-none x [] h = refl
 without-none x (y ∷ ys) h = let p = not_member-parts x y ys h in rw (ne_eqb x y p.0) (ap (λ zs. y ∷ zs) (without-none x ys p.1))
 
+-- a list that has x at one place is, without x, what stands before and behind joined
 pub without-cut : (x : ℕ) (l r : List ℕ) → member x l ≡ false → member x r ≡ false → without x (l ++ x ∷ r) ≡ l ++ r
 without-cut x [] r a b = rw (eq-eqb x x refl) (without-none x r b)
 without-cut x (y ∷ l) r a b = let p = not_member-parts x y l a in rw (ne_eqb x y p.0) (ap (λ zs. y ∷ zs) (without-cut x l r p.1 b))
 
+-- what is put right after p stands right behind the place where p is first
 pub right_after-cut : (x p : ℕ) (l r : List ℕ) → member p l ≡ false → right_after x p (l ++ p ∷ r) ≡ l ++ p ∷ x ∷ r
 right_after-cut x p [] r a = rw (eq-eqb p p refl) refl
 right_after-cut x p (y ∷ l) r a = let q = not_member-parts p y l a in rw (ne_eqb p y q.0) (ap (λ zs. y ∷ zs) (right_after-cut x p l r q.1))
 
+-- what stands right after x is the first of what is behind it, or the end
 pub next_of-cut : (e x : ℕ) (l r : List ℕ) → member x l ≡ false → next_of e x (l ++ x ∷ r) ≡ head_or e r
 next_of-cut e x [] r a = rw (eq-eqb x x refl) refl
 next_of-cut e x (y ∷ l) r a = let q = not_member-parts x y l a in rw (ne_eqb x y q.0) (next_of-cut e x l r q.1)
 
+-- what stands right before x is the last of what is before it, or the start
 pub prev_of-cut : (e x : ℕ) (l r : List ℕ) → member x l ≡ false → prev_of e x (l ++ x ∷ r) ≡ last_or e l
 prev_of-cut e x [] r a = rw (eq-eqb x x refl) refl
 prev_of-cut e x (y ∷ l) r a = let q = not_member-parts x y l a in rw (ne_eqb x y q.0) (prev_of-cut y x l r q.1)
 
+-- the last of a list, or what stands for none, is one of the two
 pub member-last_or : (e : ℕ) (l : List ℕ) → member (last_or e l) (e ∷ l) ≡ true
 member-last_or e [] = member-head e []
 member-last_or e (y ∷ l) = member-tail (last_or y l) e (y ∷ l) (member-last_or y l)
 
--- a list that is not empty ends with its last
+-- a list cut before its last
 pub record Ended (xs : List ℕ) : Type 0 where
   pub front : List ℕ
   pub last : ℕ
   pub is : xs ≡ front ++ last ∷ []
 
+-- a list that is not empty has a last
 pub ended : (x : ℕ) (xs : List ℕ) → Ended (x ∷ xs)
 ended x [] = record { front = []; last = x; is = refl }
 ended x (y ∷ ys) = let e = ended y ys in record { front = x ∷ e.front; last = e.last; is = ap (λ zs. x ∷ zs) e.is }
 
+-- the last after a push is what was pushed
 pub last_or-push : (e : ℕ) (l : List ℕ) (x : ℕ) → last_or e (l ++ x ∷ []) ≡ x
 last_or-push e [] x = refl
 last_or-push e (y ∷ l) x = last_or-push y l x
 
+-- what is in a list without x was in the list, and is not x
 pub member-without : (y x : ℕ) (zs : List ℕ) → member y (without x zs) ≡ true → (member y zs ≡ true) × (y ≡ x → ⊥)
 member-without y x [] h = absurd (false≢true h)
 member-without y x (z ∷ zs) h =
@@ -129,6 +150,7 @@ member-without y x (z ∷ zs) h =
           ]
     ]
 
+-- a member that is not x is in the list without x
 pub without-member : (y x : ℕ) (zs : List ℕ) → member y zs ≡ true → (y ≡ x → ⊥) → member y (without x zs) ≡ true
 without-member y x [] h ne = h
 without-member y x (z ∷ zs) h ne =
@@ -137,9 +159,11 @@ without-member y x (z ∷ zs) h ne =
       | false ↦ λ _. elim (member-cases y z zs h) [ inl e ↦ or_left (eqb y z) _ (eq-eqb y z e) | inr m ↦ member-tail y z _ (without-member y x zs m ne) ]
     ] refl
 
+-- x is not in the list without x
 pub not_member-without : (x : ℕ) (zs : List ℕ) → member x (without x zs) ≡ false
 not_member-without x zs = false_from_ne_true (member x (without x zs)) (λ m. (member-without x x zs m).1 refl)
 
+-- a distinct list without x is distinct
 pub Distinct-without : (x : ℕ) (zs : List ℕ) → Distinct zs → Distinct (without x zs)
 Distinct-without x [] d = tt
 Distinct-without x (z ∷ zs) d =
@@ -148,6 +172,7 @@ Distinct-without x (z ∷ zs) d =
       | false ↦ (false_from_ne_true (member z (without x zs)) (λ m. true≢false (sym (member-without z x zs m).0 ∙ d.0)), Distinct-without x zs d.1)
     ]
 
+-- a distinct list without x has at most one less
 pub length-without : (x : ℕ) (zs : List ℕ) → Distinct zs → length zs ≤ suc (length (without x zs))
 length-without x [] d = omega arith
 length-without x (z ∷ zs) d =
@@ -165,6 +190,7 @@ below_bound (suc s) (x ∷ xs) d f =
     (λ y m. let k = member-without y s (x ∷ xs) m in let low : y < suc s = f y k.0 in let ne : y ≡ s → ⊥ = k.1 in omega arith) in
     omega (arith, less, length-without s (x ∷ xs) d)
 
+-- when x is put right after p, a member is x or was one before
 pub member-right_after : (y x p : ℕ) (zs : List ℕ) → member y (right_after x p zs) ≡ true → (y ≡ x) ⊎ (member y zs ≡ true)
 member-right_after y x p [] h = inr h
 member-right_after y x p (z ∷ zs) h =
@@ -179,6 +205,7 @@ member-right_after y x p (z ∷ zs) h =
       ]
     ] h
 
+-- where p is a member, x and all members are members when x is put right after p
 pub right_after-member : (y x p : ℕ) (zs : List ℕ) → member p zs ≡ true → (y ≡ x) ⊎ (member y zs ≡ true) → member y (right_after x p zs) ≡ true
 right_after-member y x p [] m h = absurd (false≢true m)
 right_after-member y x p (z ∷ zs) m h =
@@ -199,6 +226,7 @@ right_after-member y x p (z ∷ zs) m h =
           ]
     ] refl
 
+-- a distinct list stays distinct when a number that it has not is put right after p
 pub Distinct-right_after : (x p : ℕ) (zs : List ℕ) → Distinct zs → member x zs ≡ false → Distinct (right_after x p zs)
 Distinct-right_after x p [] d h = tt
 Distinct-right_after x p (z ∷ zs) d h =
@@ -212,10 +240,12 @@ Distinct-right_after x p (z ∷ zs) d h =
       )
     ]
 
+-- the first of a rest, or what stands for none, is that or a member
 head_in : (e z : ℕ) (zs : List ℕ) → (head_or e zs ≡ e) ⊎ (member (head_or e zs) (z ∷ zs) ≡ true)
 head_in e z [] = inl refl
 head_in e z (y ∷ ys) = inr (member-tail y z (y ∷ ys) (member-head y ys))
 
+-- what stands right after x is the end, or a member
 pub next_of-in : (e x : ℕ) (zs : List ℕ) → (next_of e x zs ≡ e) ⊎ (member (next_of e x zs) zs ≡ true)
 next_of-in e x [] = inl refl
 next_of-in e x (z ∷ zs) =
@@ -224,10 +254,12 @@ next_of-in e x (z ∷ zs) =
       | false ↦ elim (next_of-in e x zs) [ inl q ↦ inl q | inr m ↦ inr (member-tail (next_of e x zs) z zs m) ]
     ]
 
+-- the place of x is the length of what stands before it
 pub place_of-cut : (x : ℕ) (l r : List ℕ) → member x l ≡ false → place_of x (l ++ x ∷ r) ≡ length l
 place_of-cut x [] r a = rw (eq-eqb x x refl) refl
 place_of-cut x (y ∷ l) r a = let q = not_member-parts x y l a in rw (ne_eqb x y q.0) (ap suc (place_of-cut x l r q.1))
 
+-- a list is empty, or has a last
 pub some_or_none : (xs : List ℕ) → (xs ≡ []) ⊎ Ended xs
 some_or_none [] = inl refl
 some_or_none (x ∷ xs) = inr (ended x xs)

@@ -26,6 +26,7 @@ ltb-double a b = elim (cases_lt a b) [
 pub or-swap : (a b c : Bool) → (a || (b || c)) ≡ ((a || c) || b)
 or-swap a b c = grind arith
 
+-- where the second of two tests fails, both together fail
 pub and-fails : (a b : Bool) → b ≡ false → (a && b) ≡ false
 and-fails a b h = grind arith
 
@@ -35,15 +36,17 @@ or-absorbs m e h = grind arith
 
 -- Distinct numbers. --------------------------------------------------------------------------------
 
+-- a front of a distinct list is distinct
 pub Distinct-front : (xs ys : List ℕ) → Distinct (xs ++ ys) → Distinct xs
 Distinct-front [] ys d = tt
 Distinct-front (x ∷ xs) ys d = ((not_member-append x xs ys d.0).0, Distinct-front xs ys d.1)
 
+-- what stands behind a front of a distinct list is distinct
 pub Distinct-back : (xs ys : List ℕ) → Distinct (xs ++ ys) → Distinct ys
 Distinct-back [] ys d = d
 Distinct-back (x ∷ xs) ys d = Distinct-back xs ys d.1
 
--- two lists without a common member
+-- two distinct lists without a common member are distinct when joined
 pub Distinct-append : (xs ys : List ℕ) → Distinct xs → Distinct ys → ((x : ℕ) → member x xs ≡ true → member x ys ≡ false) → Distinct (xs ++ ys)
 Distinct-append [] ys a b apart = b
 Distinct-append (x ∷ xs) ys a b apart =
@@ -60,7 +63,7 @@ map-agree f g [] h = refl
 map-agree f g (x ∷ xs) h =
     ap (λ z. z ∷ map g xs) (h x (member-head x xs)) ∙ ap (λ zs. f x ∷ zs) (map-agree f g xs (λ y k. h y (member-tail y x xs k)))
 
--- what makes a test pass somewhere in a list
+-- where a test passes somewhere in a list, a member makes it pass
 pub list_any-some : (p : ℕ → Bool) (xs : List ℕ) → list_any p xs ≡ true → (x : ℕ) × (member x xs ≡ true) × (p x ≡ true)
 list_any-some p [] h = absurd (false≢true h)
 list_any-some p (x ∷ xs) h = elim (or_cases (p x) (list_any p xs) h) [
@@ -70,15 +73,18 @@ list_any-some p (x ∷ xs) h = elim (or_cases (p x) (list_any p xs) h) [
 
 -- A list that gets a number at its end where a test passes. ------------------------------------------
 
+-- a member stays one when a number comes to the end or not
 pub member-grown_left : (found : Bool) (y z : ℕ) (xs ys : List ℕ) → ys ≡ cond found (xs ++ y ∷ []) xs → member z xs ≡ true → member z ys ≡ true
 member-grown_left true y z xs ys e m = ap (member z) e ∙ member-push_left z y xs m
 member-grown_left false y z xs ys e m = ap (member z) e ∙ m
 
+-- when a number comes to the end or not, each other number is a member as it was
 pub member-grown_other : (found : Bool) (y z : ℕ) (xs ys : List ℕ) → ys ≡ cond found (xs ++ y ∷ []) xs → z ≢ y → member z ys ≡ member z xs
 member-grown_other true y z xs ys e ne =
     ap (member z) e ∙ (member-push z y xs ∙ (ap (λ b. member z xs || b) (ne_eqb z y ne) ∙ or-false (member z xs)))
 member-grown_other false y z xs ys e ne = ap (member z) e
 
+-- a distinct list stays distinct when a number that it has not comes to the end or not
 pub Distinct-grown : (found : Bool) (y : ℕ) (xs ys : List ℕ) → ys ≡ cond found (xs ++ y ∷ []) xs → Distinct xs → member y xs ≡ false → Distinct ys
 Distinct-grown true y xs ys e d out = subst Distinct (sym e) (Distinct-push xs y d out)
 Distinct-grown false y xs ys e d out = subst Distinct (sym e) d
@@ -98,9 +104,10 @@ never_falls xs up i j le l = elim (cases_eq i j) [
   | inr ne ↦ omega (arith, AllPairs-from_increasing xs up i j 0 (omega arith) l)
 ]
 
--- what holds of each of a list holds of each of its front, and of its last
+-- what holds of each of a list holds of each of its front
 pub All-front : {A : Type 0} (P : A → Type 0) (xs ys : List A) → All P (xs ++ ys) → All P xs
 All-front {A} P xs ys h k d l = subst P (get_or_append_left xs ys d k l) (h k d (omega (arith, l, length-append xs ys)))
 
+-- what holds of each of a list holds of its last
 pub All-end : {A : Type 0} (P : A → Type 0) (xs : List A) (y : A) → All P (xs ++ y ∷ []) → P y
 All-end P xs y h = subst P (get_or-append_seam xs y [] y) (h (length xs) y (omega (arith, length-append xs (y ∷ []))))
