@@ -31,6 +31,7 @@ pub record IsUpdate (ids : List ℕ) (u : Update) (c : Change) : Type 0 where
   pub least : u.u ≡ min (place ids c.a) (place ids c.b)
   pub most : u.v ≡ max (place ids c.a) (place ids c.b)
 
+-- an update of a batch is of the change at the same place
 pub update-at : (ids : List ℕ) (batch : List Change) (updates : List Update) → AreUpdates ids batch updates → AreAmong ids (ends (map ends_of batch))
     → (i : ℕ) (d : Update) → i < length updates
     → (i < length batch) × IsUpdate ids (get_or updates i d) (get_or batch i no_change)
@@ -50,6 +51,7 @@ update-at ids batch updates same among i d l =
       },
     )
 
+-- the changes of two updates of one edge name the same pair
 pub named-again : (ids : List ℕ) (u v : Update) (c d : Change) → IsUpdate ids u c → IsUpdate ids v d → edge_of u ≡ edge_of v → name_same d c ≡ true
 named-again ids u v c d p q e =
     let least : u.u ≡ v.u = ap (λ (x : ℕ × ℕ). x.0) e in
@@ -67,6 +69,7 @@ named-again ids u v c d p q e =
           (eq-eqb d.b c.a (place-injective ids d.b c.a q.b-in (eqb-true _ _ y))))
     ]
 
+-- updates are fit, each within the vertices and no two of one edge, where the changes name no pair twice
 pub fit-updates : (ids : List ℕ) (batch : List Change) (updates : List Update) → AreUpdates ids batch updates → AreAmong ids (ends (map ends_of batch))
     → NamesOnce batch → IsBatch (length ids) updates
 fit-updates ids batch updates same among once = record {
@@ -99,10 +102,12 @@ ids-of_batch (list ∷ lists) (suc i) d id l h =
     ∙ list_any-append (nat_eq id) (ends (map ends_of list)) (ends (map ends_of (flat_map (λ batch. batch) lists)))
     ∙ or_right _ _ (ids-of_batch lists i d id (omega arith) h)
 
+-- the ends of the edge lines are among the ids of all names
 pub among-edges : (told : Told) (ids : List ℕ) → AreIds (names told) ids → AreAmong ids (ends told.edges)
 among-edges told ids h = λ id m. h.exact id ∙ (ap (λ (t : List ℕ). is_member nat_eq t id) (ends-told told.edges (changes told))
     ∙ list_any-append (nat_eq id) (ends told.edges) (ends (map ends_of (changes told))) ∙ or_left _ _ m)
 
+-- the ends of each batch's changes are among the ids of all names
 pub among-batches : (told : Told) (ids : List ℕ) → AreIds (names told) ids → All (λ batch. AreAmong ids (ends (map ends_of batch))) (batches told)
 among-batches told ids h = λ i d l id m. h.exact id ∙ (ap (λ (t : List ℕ). is_member nat_eq t id) (ends-told told.edges (changes told))
     ∙ list_any-append (nat_eq id) (ends told.edges) (ends (map ends_of (changes told))) ∙ or_right _ _ (ids-of_batch (batches told) i d id l m))
@@ -122,6 +127,7 @@ made-of f vectors lists e = through vectors ∙ ap (map f) e
     through [] = refl
     through (batch ∷ vectors) = ap (λ t. f batch.items ∷ t) (through vectors)
 
+-- the sign and the ends of each update, batch by batch
 abbrev pub parts_of_all : List (Vec Update Global) → List (List (Bool × ℕ × ℕ))
 parts_of_all updates = map (λ batch. map parts_of batch.items) updates
 
@@ -171,6 +177,7 @@ pub record Accepted (bytes : List ℕ) (reading : Reading) : Type 0 where
   pub short : All (λ batch. length batch ≤ MOST_UPDATES) (batches told)
   pub apart : All HasNoLoops (batches told)
 
+-- a reading that ended with no refusal has what the text means, within the limits
 pub accepted : (bytes : List ℕ) (reading : Reading) → (told : Told) × IsReading told reading × (meaning bytes ≡ outcome told reading.refusal)
     → reading.refusal ≡ None → Accepted bytes reading
 accepted bytes reading (told, read, ended) none =
@@ -186,18 +193,22 @@ accepted bytes reading (told, read, ended) none =
       apart = fit-batches told.earlier told.last fit.earlier fit.last;
     }
 
+-- of a reading with no refusal, the ends of the edges are among the ids
 pub accepted-edges : (bytes : List ℕ) (reading : Reading) → Accepted bytes reading → AreAmong reading.ids.items (ends reading.edges.items)
 accepted-edges bytes reading a = subst (λ (es : List (ℕ × ℕ)). AreAmong reading.ids.items (ends es)) (sym a.read.edges)
     (among-edges a.told reading.ids.items a.read.ids)
 
+-- of a reading with no refusal, the ends of each batch's changes are among the ids
 pub accepted-batches : (bytes : List ℕ) (reading : Reading) → Accepted bytes reading
     → All (λ batch. AreAmong reading.ids.items (ends (map ends_of batch.items))) reading.batches.items
 accepted-batches bytes reading a = All-items (λ batch. AreAmong reading.ids.items (ends (map ends_of batch))) reading.batches.items
     (batches a.told) a.read.batches (among-batches a.told reading.ids.items a.read.ids)
 
+-- of a reading with no refusal, no change of a batch is a loop
 pub accepted-apart : (bytes : List ℕ) (reading : Reading) → Accepted bytes reading → All (λ batch. All (λ c. c.a ≢ c.b) batch.items) reading.batches.items
 accepted-apart bytes reading a = All-items HasNoLoops reading.batches.items (batches a.told) a.read.batches a.apart
 
+-- of a reading with no refusal, each batch has at most as many changes as all may have together
 pub accepted-short : (bytes : List ℕ) (reading : Reading) → Accepted bytes reading → All (λ batch. length batch.items ≤ MOST_UPDATES) reading.batches.items
 accepted-short bytes reading a = All-items (λ batch. length batch ≤ MOST_UPDATES) reading.batches.items (batches a.told) a.read.batches a.short
 
@@ -230,17 +241,20 @@ made bytes reading input a is = (
   },
 )
 
+-- the ends of the changes that were told are among the ids of the input
 among-input : (bytes : List ℕ) (reading : Reading) (input : Input) → (a : Accepted bytes reading) → IsMadeOf reading input
     → All (λ batch. AreAmong input.ids.items (ends (map ends_of batch))) (batches a.told)
 among-input bytes reading input a is =
     subst (λ (ids : List ℕ). All (λ batch. AreAmong ids (ends (map ends_of batch))) (batches a.told)) (sym is.ids)
     (among-batches a.told reading.ids.items a.read.ids)
 
+-- each batch of the input is fit for a graph of as many vertices as there are ids
 pub made-batches : (bytes : List ℕ) (reading : Reading) (input : Input) → Accepted bytes reading → IsMadeOf reading input
     → All (λ batch. IsBatch (length input.ids.items) batch.items) input.batches.items
 made-batches bytes reading input a is = fit-input input.ids.items input.batches.items (batches a.told) (made-parts bytes reading input a is)
     (among-input bytes reading input a is)
 
+-- the input has no more batches than the limit
 pub made-few_batches : (bytes : List ℕ) (reading : Reading) (input : Input) → Accepted bytes reading → IsMadeOf reading input
     → length input.batches.items ≤ MOST_BATCHES
 made-few_batches bytes reading input a is =
@@ -249,6 +263,7 @@ made-few_batches bytes reading input a is =
     ∙ (ap (length) (made-parts bytes reading input a is) ∙ length-map (batches a.told) (numbered_deciding input.ids.items)) in
     omega (arith, a.few_batches)
 
+-- each batch of the input has at most as many updates as the limit of changes
 pub made-short : (bytes : List ℕ) (reading : Reading) (input : Input) → Accepted bytes reading → IsMadeOf reading input
     → All (λ batch. length batch.items ≤ MOST_UPDATES) input.batches.items
 made-short bytes reading input a is = short-input input.ids.items MOST_UPDATES input.batches.items (batches a.told)

@@ -19,6 +19,7 @@ use Rattle.kc_text.proofs.NamedPairs.{no_change}
 use Rattle.kc_text.proofs.Overruled.{deciding-count}
 use Rattle.kc_text.proofs.Places.{place-below}
 
+-- the last updates of the edges are no more than all updates
 pub length-last : (updates : List Update) → length (last_of_edges updates) ≤ length updates
 length-last [] = omega arith
 length-last (x ∷ rest) = elim (list_any (same_edge x) rest) as (λ b. length (cond b (last_of_edges rest) (x ∷ last_of_edges rest)) ≤ suc (length rest)) [
@@ -47,12 +48,15 @@ head-update : (ids : List ℕ) (c : Change) (cs : List Change) (u : Update) (us 
     → AreAmong ids (ends (map ends_of (c ∷ cs))) → IsUpdate ids u c
 head-update ids c cs u us are among = (update-at ids (c ∷ cs) (u ∷ us) are among 0 u (omega arith)).1
 
+-- the updates behind the first are those of the changes behind the first
 tail-updates : (ids : List ℕ) (c : Change) (cs : List Change) (u : Update) (us : List Update) → AreUpdates ids (c ∷ cs) (u ∷ us) → AreUpdates ids cs us
 tail-updates ids c cs u us are = ap (drop 1) are
 
+-- the ends of the changes behind the first are among the ids where all are
 tail-among : (ids : List ℕ) (c : Change) (cs : List Change) → AreAmong ids (ends (map ends_of (c ∷ cs))) → AreAmong ids (ends (map ends_of cs))
 tail-among ids c cs among = λ id h. among id (or_right (nat_eq id c.a) _ (or_right (nat_eq id c.b) _ h))
 
+-- there is an update of the same edge just where a change names the same pair
 any-same : (ids : List ℕ) (u : Update) (c : Change) (cs : List Change) (us : List Update) → IsUpdate ids u c → AreUpdates ids cs us
     → AreAmong ids (ends (map ends_of cs))
     → list_any (same_edge u) us ≡ list_any (name_same c) cs
@@ -80,6 +84,7 @@ last-deciding ids (c ∷ cs) (u ∷ us) are among =
       | false ↦ ap₂ (λ (x : Bool × ℕ × ℕ) (t : List (Bool × ℕ × ℕ)). x ∷ t) first rest
     ]
 
+-- there are as many updates as changes
 length-updates : (ids : List ℕ) (cs : List Change) (us : List Update) → AreUpdates ids cs us → length us ≡ length cs
 length-updates ids cs us are = sym (length-map us parts_of) ∙ (ap (length) are ∙ length-map cs (numbered_change ids))
 
@@ -104,6 +109,7 @@ each-batch ids P Q f (c ∷ cs) (u ∷ us) are h =
     All-cons (λ batch. Q batch.items) u us (f c.items u.items (ap (λ (t : List (List (Bool × ℕ × ℕ))). get_or t 0 []) are) (h 0 c (omega arith)))
     (each-batch ids P Q f cs us (ap (drop 1) are) (λ i d l. h (suc i) d (omega arith)))
 
+-- what is made of each batch of updates is what is made of its changes, if it is so for one batch
 made-alike : {X : Type 0} (ids : List ℕ) (P : List Change → Type 0) (f : List Update → X) (g : List Change → X)
     → ((cs : List Change) (us : List Update) → AreUpdates ids cs us → P cs → f us ≡ g cs)
     → (batches : List (Vec Change Global)) (updates : List (Vec Update Global)) → AreAllUpdates ids batches updates → All (λ batch. P batch.items) batches
@@ -115,6 +121,7 @@ made-alike {X = X} ids P f g same (c ∷ cs) (u ∷ us) are h =
     ap₂ (λ (x : X) (t : List X). x ∷ t) (same c.items u.items (ap (λ (t : List (List (Bool × ℕ × ℕ))). get_or t 0 []) are) (h 0 c (omega arith)))
     (made-alike ids P f g same cs us (ap (drop 1) are) (λ i d l. h (suc i) d (omega arith)))
 
+-- the ends of a batch's changes are among the ids
 abbrev Among : List ℕ → List Change → Type 0
 Among ids batch = AreAmong ids (ends (map ends_of batch))
 

@@ -15,12 +15,15 @@ use Rattle.kc_text.proofs.Places.{length-AreIds}
 use Rattle.kc_text.proofs.Telling.{names-batch, names-change, names-edge}
 use Rattle.kc_text.specs.declared.limits.TheConstants.{MOST_IDS}
 
+-- few ids after an edge line were few before it
 pub few-edge : (told : Told) (a b : ℕ) → NamesFew (with_line told (said.Edge a b)) → NamesFew told
 few-edge told a b few = omega (arith, few, fewer_names (names told) (names (with_line told (said.Edge a b))) a b (names-edge told a b))
 
+-- few ids after a change were few before it
 pub few-change : (told : Told) (c : Change) → NamesFew (with_line told (said.Change c)) → NamesFew told
 few-change told c few = omega (arith, few, fewer_names (names told) (names (with_line told (said.Change c))) c.a c.b (names-change told c))
 
+-- few ids after a batch line were few before it
 pub few-batch : (told : Told) → NamesFew (with_line told said.Batch) → NamesFew told
 few-batch told few = subst (λ (t : List ℕ). distinct_count nat_eq t ≤ MOST_IDS) (names-batch told) few
 

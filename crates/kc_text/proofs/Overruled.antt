@@ -64,6 +64,7 @@ deciding-count (c ∷ rest) =
       | false ↦ omega (arith, deciding-count rest)
     ]
 
+-- an id of a change that decides is an id of the batch
 deciding-ends : (batch : List Change) (id : ℕ) → is_member nat_eq (ends (map ends_of (deciding batch))) id ≡ true
     → is_member nat_eq (ends (map ends_of batch)) id ≡ true
 deciding-ends [] id = λ h. h
@@ -87,6 +88,7 @@ deciding-ends (c ∷ rest) id =
 pub deciding-among : (ids : List ℕ) (batch : List Change) → AreAmong ids (ends (map ends_of batch)) → AreAmong ids (ends (map ends_of (deciding batch)))
 deciding-among ids batch among = λ id h. among id (deciding-ends batch id h)
 
+-- a batch that names no pair twice names none twice behind its first change
 once-rest : (c : Change) (rest : List Change) → NamesOnce (c ∷ rest) → NamesOnce rest
 once-rest c rest once = λ i j d l m. once (suc i) (suc j) d (omega arith) (omega arith)
 
@@ -94,11 +96,12 @@ once-rest c rest once = λ i j d l m. once (suc i) (suc j) d (omega arith) (omeg
 once-first : (c : Change) (rest : List Change) → NamesOnce (c ∷ rest) → list_any (name_same c) rest ≡ false
 once-first c rest once = list_any_none (name_same c) rest (λ i d l. name_same-flip c (get_or rest i d) ∙ once 0 (suc i) d (omega arith) (omega arith))
 
--- where no pair is named twice, all changes decide, and none is overruled
+-- where no pair is named twice, all changes decide
 pub once-deciding : (batch : List Change) → NamesOnce batch → deciding batch ≡ batch
 once-deciding [] once = refl
 once-deciding (c ∷ rest) once =
     ap (λ b. cond b (deciding rest) (c ∷ deciding rest)) (once-first c rest once) ∙ ap (λ (t : List Change). c ∷ t) (once-deciding rest (once-rest c rest once))
 
+-- where no pair is named twice, no change is overruled
 pub once-overruled : (batch : List Change) → NamesOnce batch → overruled batch ≡ 0
 once-overruled batch once = omega (arith, deciding-count batch, ap (length) (once-deciding batch once))

@@ -16,6 +16,7 @@ use Rattle.std.proofs.lemmas.Map.Keys.{IsDistinct-from_apart, sorted_from_strict
 use Rattle.kc_text.specs.Meaning.{ends}
 use Rattle.kc_text.specs.Inputs.{AreIds, place, numbered, between}
 
+-- in ascending ids, the place of an id is where it stands
 pub found : (ids : List ℕ) (x i : ℕ) → IsStrictlyIncreasing ids → i < length ids → get_or ids i 0 ≡ x → place ids x ≡ i
 found ids x i up l e =
     position_or_len_is (nat_eq x) ids i 0 (omega arith)
@@ -26,6 +27,7 @@ found ids x i up l e =
     absurd (omega arith)))
     (λ _. eq-eqb x (get_or ids i 0) (sym e))
 
+-- the place of an id that is there is below the number of ids
 pub place-below : (ids : List ℕ) (x : ℕ) → is_member nat_eq ids x ≡ true → place ids x < length ids
 place-below [] x h = absurd (false≢true h)
 place-below (y ∷ ys) x h = elim (cases_Bool (nat_eq x y)) [
@@ -36,20 +38,23 @@ place-below (y ∷ ys) x h = elim (cases_Bool (nat_eq x y)) [
       omega arith
 ]
 
+-- the first end of an edge is among the ends of all
 pub first_end : (es : List (ℕ × ℕ)) (i : ℕ) → i < length es → is_member nat_eq (ends es) (get_or es i (0, 0)).0 ≡ true
 first_end [] i l = absurd (omega arith)
 first_end (e ∷ es) zero l = or_left (nat_eq e.0 e.0) _ (eq-eqb e.0 e.0 refl)
 first_end (e ∷ es) (suc i) l = or_right (nat_eq (get_or es i (0, 0)).0 e.0) _ (or_right (nat_eq (get_or es i (0, 0)).0 e.1) _ (first_end es i (omega arith)))
 
+-- the second end of an edge is among the ends of all
 pub second_end : (es : List (ℕ × ℕ)) (i : ℕ) → i < length es → is_member nat_eq (ends es) (get_or es i (0, 0)).1 ≡ true
 second_end [] i l = absurd (omega arith)
 second_end (e ∷ es) zero l = or_right (nat_eq e.1 e.0) _ (or_left (nat_eq e.1 e.1) _ (eq-eqb e.1 e.1 refl))
 second_end (e ∷ es) (suc i) l = or_right (nat_eq (get_or es i (0, 0)).1 e.0) _ (or_right (nat_eq (get_or es i (0, 0)).1 e.1) _ (second_end es i (omega arith)))
 
--- what one edge gives
+-- a pair of two numbers below a bound, the lesser one first
 abbrev pub Within : ℕ → ℕ × ℕ → Type 0
 Within n p = (p.0 < p.1) × (p.1 < n)
 
+-- the pair between two numbers below a bound, put in front of such pairs, is such a pair
 between-within : (u v n : ℕ) (rest : List (ℕ × ℕ)) → u < n → v < n → All (Within n) rest → All (Within n) (cons_option (between u v) rest)
 between-within u v n rest lu lv h = elim (cases_lt u v) [
   | inl l ↦
@@ -64,6 +69,7 @@ between-within u v n rest lu lv h = elim (cases_lt u v) [
       ])
 ]
 
+-- the edges between places of ids are pairs below the number of ids, the lesser place first
 pub numbered-within : (ids : List ℕ) (es : List (ℕ × ℕ)) → ((x : ℕ) → is_member nat_eq (ends es) x ≡ true → is_member nat_eq ids x ≡ true)
     → All (Within (length ids)) (filter_map (numbered ids) es)
 numbered-within ids [] h = All-nil (Within (length ids))
@@ -72,6 +78,7 @@ numbered-within ids (e ∷ es) h =
     (place-below ids e.0 (h e.0 (first_end (e ∷ es) 0 (omega arith)))) (place-below ids e.1 (h e.1 (second_end (e ∷ es) 0 (omega arith))))
     (numbered-within ids es (λ x m. h x (or_right (nat_eq x e.0) _ (or_right (nat_eq x e.1) _ m))))
 
+-- what edges give, with one edge more taken
 pub filter_map_more : (h : ℕ × ℕ → Option (ℕ × ℕ)) (es : List (ℕ × ℕ)) (i : ℕ) → i < length es
     → filter_map h (take (i + 1) es) ≡ filter_map h (take i es) ++ cons_option (h (get_or es i (0, 0))) []
 filter_map_more h es i l = ap (filter_map h) (take_more es i (0, 0) l) ∙ filter_map-append h (take i es) (get_or es i (0, 0) ∷ [])
@@ -89,9 +96,11 @@ length-AreIds named ids h =
     absurd (omega arith))) in
     length-from_keys nat_eq_equiv ids named distinct h.exact
 
+-- an id that is the first has the place 0
 place-here : (y : ℕ) (ys : List ℕ) (x : ℕ) → nat_eq x y ≡ true → place (y ∷ ys) x ≡ 0
 place-here y ys x h = ap (λ (b : Bool). cond (not b) (1 + position_or_len (nat_eq x) ys) 0) h
 
+-- an id that is not the first stands one further than among the others
 place-further : (y : ℕ) (ys : List ℕ) (x : ℕ) → nat_eq x y ≡ false → place (y ∷ ys) x ≡ 1 + place ys x
 place-further y ys x h = ap (λ (b : Bool). cond (not b) (1 + position_or_len (nat_eq x) ys) 0) h
 
@@ -111,5 +120,6 @@ place-injective (z ∷ zs) x y h e = elim (cases_Bool (nat_eq x z)) [
   ]
 ]
 
+-- two different ids have different places, so one of these is lesser
 pub places-differ : (ids : List ℕ) (x y : ℕ) → is_member nat_eq ids x ≡ true → (x ≡ y → ⊥) → min (place ids x) (place ids y) < max (place ids x) (place ids y)
 places-differ ids x y h ne = elim (cases_eq (place ids x) (place ids y)) [ inl e ↦ absurd (ne (place-injective ids x y h e)) | inr differ ↦ omega arith ]

@@ -21,17 +21,19 @@ use Rattle.kc_text.specs.Plain.{BeginsWithPair, sign_of}
 use Rattle.kc_text.proofs.FieldCuts.{fields-blank, fields-first}
 use Rattle.kc_text.proofs.LineCuts.{lines-cut}
 
--- a digit is none of the bytes below the digits, nor one above them
+-- a digit is none of the bytes below the digits
 low : (b other : ℕ) → other < 48 → is_digit b ≡ true → (b == other) ≡ false
 low b other l h = let parts = and_parts (nat_le 48 b) (nat_le b 57) h in ne_eqb b other (λ e. let from = leb-true 48 b parts.0 in absurd (omega arith))
 
+-- a digit is none of the bytes above the digits
 high : (b other : ℕ) → 57 < other → is_digit b ≡ true → (b == other) ≡ false
 high b other l h = let parts = and_parts (nat_le 48 b) (nat_le b 57) h in ne_eqb b other (λ e. let to = leb-true b 57 parts.1 in absurd (omega arith))
 
+-- a digit is no blank
 digit-no_blank : (b : ℕ) → is_digit b ≡ true → is_blank b ≡ false
 digit-no_blank b h = ap (λ t. t || (b == 9)) (low b 32 (omega arith) h) ∙ low b 9 (omega arith) h
 
--- a blank is no end of a line
+-- a blank is no other byte than a space or a tab
 blank-other : (b other : ℕ) → (32 ≡ other → ⊥) → (9 ≡ other → ⊥) → is_blank b ≡ true → (b == other) ≡ false
 blank-other b other n m h = elim (or_cases (b == 32) (b == 9) h) [
   | inl e ↦ ne_eqb b other (λ same. n (sym (eqb-true b 32 e) ∙ same))
@@ -43,10 +45,12 @@ pub record AreDigits (ds : List ℕ) : Type 0 where
   pub some : 0 < length ds
   pub each : All (λ b. is_digit b ≡ true) ds
 
+-- where all bytes pass the test for digits, each is a digit
 each_digit : (ds : List ℕ) → list_all is_digit ds ≡ true → All (λ b. is_digit b ≡ true) ds
 each_digit [] h = All-nil (λ b. is_digit b ≡ true)
 each_digit (d ∷ ds) h = let parts = and_parts (is_digit d) (list_all is_digit ds) h in All-cons (λ b. is_digit b ≡ true) d ds parts.0 (each_digit ds parts.1)
 
+-- what spells a number is digits, one at least
 pub digits-of : (ds : List ℕ) (v : ℕ) → number ds ≡ Ok v → AreDigits ds
 digits-of ds v e = elim (cases_Bool (list_all is_digit ds && is_not_empty ds)) [
   | inl h ↦ let parts = and_parts (list_all is_digit ds) (is_not_empty ds) h in record { some = ltb-true 0 (length ds) parts.1; each = each_digit ds parts.0 }
@@ -55,6 +59,7 @@ digits-of ds v e = elim (cases_Bool (list_all is_digit ds && is_not_empty ds)) [
       absurd (cc)
 ]
 
+-- digits, one at least, whose value is within the limit spell it
 pub number-is : (ds : List ℕ) (v : ℕ) → list_all is_digit ds ≡ true → 0 < length ds → v ≡ value ds → v ≤ 4294967295 → number ds ≡ Ok v
 number-is ds v digits some e l =
     ap (λ b. cond b (cond (nat_le (value ds) 4294967295) (Ok (value ds)) (Err NumberTooLarge)) (Err NotANumber))
@@ -66,6 +71,7 @@ first_stop : (p : ℕ → Bool) (xs : List ℕ) (y : ℕ) (ys : List ℕ) → Al
 first_stop p xs y ys none stop = position_or_len_is p (xs ++ y ∷ ys) (length xs) 0 (omega (arith, length-append xs (y ∷ ys)))
     (λ k l. ap p (get_or_append_left xs (y ∷ ys) 0 k l) ∙ none k 0 l) (λ _. ap p (get_or_at xs y ys 0 (length xs) refl) ∙ stop)
 
+-- a search for a byte that no place has ends behind the last
 no_stop : (p : ℕ → Bool) (xs : List ℕ) → All (λ b. p b ≡ false) xs → position_or_len p xs ≡ length xs
 no_stop p xs none = position_or_len_is p xs (length xs) 0 (omega arith) (λ k l. none k 0 l) (λ l. absurd (omega arith))
 
@@ -76,6 +82,7 @@ of_line p digit space ds blank es d h e =
     All-append (λ b. p b ≡ false) ds (blank ∷ es) (λ k x l. digit (get_or ds k x) (d.each k x l))
     (All-cons (λ b. p b ≡ false) blank es (space blank h) (λ k x l. digit (get_or es k x) (e.each k x l)))
 
+-- digits alone are the only field
 fields-alone : (es : List ℕ) → AreDigits es → fields es ≡ es ∷ []
 fields-alone [] h = absurd (omega (arith, h.some))
 fields-alone (e ∷ es) h =
@@ -98,6 +105,7 @@ fields-parted (x ∷ xs) blank ys some none h =
     ∙ ap (λ (t : List ℕ). (x ∷ xs) ∷ fields t) (drop_at (x ∷ xs) (blank ∷ ys) (length (x ∷ xs)) refl)
     ∙ ap (λ (t : List (List ℕ)). (x ∷ xs) ∷ t) (fields-blank blank ys h)
 
+-- digits, a blank and digits are two fields
 fields-plain : (ds : List ℕ) (blank : ℕ) (es : List ℕ) → AreDigits ds → is_blank blank ≡ true → AreDigits es → fields (ds ++ blank ∷ es) ≡ ds ∷ es ∷ []
 fields-plain ds blank es d h e = fields-parted ds blank es d.some (λ k x l. digit-no_blank (get_or ds k x) (d.each k x l)) h
     ∙ ap (λ (t : List (List ℕ)). ds ∷ t) (fields-alone es e)
@@ -117,9 +125,11 @@ digit-edge d ds rest h =
     ∙ ap (λ t. cond t (change_form true (two_numbers rest)) minus) no_plus
     ∙ ap (λ t. cond t (change_form false (two_numbers rest)) edge) no_minus
 
+-- two fields that spell numbers are read as these two
 two-said : (ds es : List ℕ) (a b : ℕ) → number ds ≡ Ok a → number es ≡ Ok b → two_numbers (ds ∷ es ∷ []) ≡ Ok (a, b)
 two-said ds es a b p q = ap (λ (r : Result ℕ Kind). first_number r (es ∷ [])) p ∙ ap (λ (r : Result ℕ Kind). last_number a r []) q
 
+-- two fields of digits are an edge line
 two-edge : (ds es : List ℕ) (a b : ℕ) → AreDigits ds → number ds ≡ Ok a → number es ≡ Ok b → line_of (ds ∷ es ∷ []) ≡ Edge a b
 two-edge [] es a b d p q = absurd (omega (arith, d.some))
 two-edge (x ∷ ds) es a b d p q = digit-edge x ds (es ∷ []) (d.each 0 0 (omega arith)) ∙ ap edge_form (two-said (x ∷ ds) es a b p q)
@@ -159,6 +169,7 @@ pub record IsPairLine (bytes : List ℕ) (a b : ℕ) (rest line : List ℕ) : Ty
   pub edge : said_by line ≡ Edge a b
   pub two : two_numbers (fields line) ≡ Ok (a, b)
 
+-- bytes that begin with a pair begin with a line of it, and the rest follows
 pair-line : (bytes : List ℕ) (a b : ℕ) (rest : List ℕ) → BeginsWithPair bytes a b rest → (line : List ℕ) × IsPairLine bytes a b rest line
 pair-line bytes a b rest h =
     let d = digits-of h.first a h.spells_a in
@@ -176,11 +187,13 @@ pair-line bytes a b rest h =
       },
     )
 
+-- bytes that begin with a plain pair say its edge line first
 pub said-edge : (bytes : List ℕ) (a b : ℕ) (rest : List ℕ) → BeginsWithPair bytes a b rest → all_said bytes ≡ Edge a b ∷ all_said rest
 said-edge bytes a b rest h =
     let (line, is) = pair-line bytes a b rest h in
     ap all_said is.cut ∙ said-first line rest is.some is.none is.keeps ∙ ap (λ (l : Line). l ∷ all_said rest) is.edge
 
+-- bytes that begin with a sign, a blank and a plain pair say the change first
 pub said-change : (bytes : List ℕ) (add : Bool) (blank : ℕ) (after : List ℕ) (a b : ℕ) (rest : List ℕ) → bytes ≡ sign_of add ∷ blank ∷ after
     → is_blank blank ≡ true → BeginsWithPair after a b rest
     → all_said bytes ≡ Change (record { add = add; a = a; b = b }) ∷ all_said rest
@@ -198,5 +211,6 @@ said-change bytes add blank after a b rest whole space h =
     (signed (λ x. x == 13) no_return (blank-other blank 13 (omega arith) (omega arith) space) pair.keeps)
     ∙ ap (λ (l : Line). l ∷ all_said rest) (ap line_of parts ∙ sign-change add (fields line) ∙ ap (change_form add) pair.two)
 
+-- behind a plain pair fewer bytes are left
 pub shorter-pair : (bytes : List ℕ) (a b : ℕ) (rest : List ℕ) → BeginsWithPair bytes a b rest → length rest < length bytes
 shorter-pair bytes a b rest h = let (line, is) = pair-line bytes a b rest h in omega (arith, ap (length) is.cut, length-append line (10 ∷ rest))

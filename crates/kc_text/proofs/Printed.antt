@@ -19,12 +19,14 @@ record ReadAs (n : ℕ) (digits : List ℕ) : Type 0 where
   some : 0 < length digits
   reads : value digits ≡ n
 
+-- the digit of a number below ten is read as it
 one_digit : (n : ℕ) → n < 10 → ReadAs n ((48 + n) ∷ [])
 one_digit n l = record { all = digit (48 + n) (omega arith) (omega arith); some = omega arith; reads = omega arith }
   where
     digit : (b : ℕ) → 48 ≤ b → b ≤ 57 → list_all is_digit (b ∷ []) ≡ true
     digit b low high = and_from _ _ (and_from _ _ (le-leb 48 b low) (le-leb b 57 high)) refl
 
+-- the digits of a tenth, with the last digit behind them, are read as the number
 more_digits : (n : ℕ) (digits : List ℕ) → 10 ≤ n → ReadAs (n / 10) digits → ReadAs n (digits ++ (48 + n % 10) ∷ [])
 more_digits n digits l front = record {
   all = list_all-append is_digit digits ((48 + n % 10) ∷ []) ∙ and_from _ _ front.all (one_digit (n % 10) (omega arith)).all;
@@ -42,6 +44,7 @@ number-decimal n l =
 abbrev pub pair : ℕ → ℕ → List ℕ
 pair a b = decimal a ++ 32 ∷ decimal b
 
+-- a printed pair with a newline behind it is a plain pair
 begins : (a b : ℕ) (rest : List ℕ) → a < 2 ^ 32 → b < 2 ^ 32 → BeginsWithPair (pair a b ++ 10 ∷ rest) a b rest
 begins a b rest la lb = record {
   first = decimal a;

@@ -27,6 +27,7 @@ is_non_decreasing xs up = λ i j d le l. elim (cases_eq i j) [
 stands : (ids : List ℕ) (id : ℕ) → is_member nat_eq ids id ≡ true → (i : ℕ) × (i < length ids) × (get_or ids i 0 ≡ id)
 stands ids id h = let (k, l, e) = Contains-from_member ids id h in (k, l, get_or_default ids k 0 id l ∙ e)
 
+-- the range of an id that is there is in the table, and the next one too
 pub range-exists : (ids : List ℕ) (width : ℕ) (begins : List ℕ) (id : ℕ) → AreBuckets ids width begins → is_member nat_eq ids id ≡ true
     → id / width + 1 < length begins
 range-exists ids width begins id h there =
@@ -35,6 +36,7 @@ range-exists ids width begins id h there =
     let k : id / width < length ids = (div-lt_iff_lt-mul {k = width} {x = id} {y = length ids} h.some).1 (omega arith) in
     omega (arith, h.whole)
 
+-- a range begins no later than the next one
 pub range-ordered : (ids : List ℕ) (width : ℕ) (begins : List ℕ) (k : ℕ) → AreBuckets ids width begins → k + 1 < length begins
     → get_or begins k 0 ≤ get_or begins (k + 1) 0
 range-ordered ids width begins k h l = elim (cases_lt (get_or begins (k + 1) 0) (get_or begins k 0)) [
@@ -48,6 +50,7 @@ range-ordered ids width begins k h l = elim (cases_lt (get_or begins (k + 1) 0) 
   | inr ok ↦ ok
 ]
 
+-- an id stands between where its range begins and where the next one does
 pub range-has : (ids : List ℕ) (width : ℕ) (begins : List ℕ) (id low high i : ℕ) → AreBuckets ids width begins → id / width + 1 < length begins
     → low ≡ get_or begins (id / width) 0 → high ≡ get_or begins (id / width + 1) 0 → i < length ids → get_or ids i 0 ≡ id → (low ≤ i) × (i < high)
 range-has ids width begins id low high i h exists low-is high-is l e =
@@ -61,11 +64,13 @@ range-has ids width begins id low high i h exists low-is high-is l e =
       elim (cases_lt i high) [ inl ok ↦ ok | inr more ↦ absurd (let b = (h.each (id / width + 1) exists).parted.1 i 0 (omega arith) l in omega (arith, next)) ],
     )
 
+-- an id of a range is the one that stands as far behind its begin among all ids
 part-rises : (ids : List ℕ) (id before : ℕ) (range : List ℕ) → IsRangeOf ids id before range → (i : ℕ) → i < length range
     → get_or range i 0 ≡ get_or ids (before + i) 0
 part-rises ids id before range h i l =
     ap (λ (t : List ℕ). get_or t i 0) h.part ∙ (get_or-take (length range) (drop before ids) i 0 l ∙ get_or-drop before ids i 0)
 
+-- what a binary search of a range says: where the id stands, or which ids are less and which greater
 searched_range : (ids : List ℕ) (id before : ℕ) (range : List ℕ) (r : Result ℕ ℕ) → IsRangeOf ids id before range → IsStrictlyIncreasing ids
     → IsBinarySearchResult (λ y. nat_cmp y id) range r
     → MatchResult r (λ i. (i < length range) × (get_or range i 0 ≡ id))
@@ -74,12 +79,14 @@ searched_range ids id before range r h up s = searched range id r s (λ i j le l
     let u = never_falls ids up (before + i) (before + j) (omega arith) (omega (arith, h.within)) in
     omega (arith, part-rises ids id before range h i (omega arith), part-rises ids id before range h j l))
 
+-- an id that is found in its range has its place there, after those before the range
 pub found_in_range : (ids : List ℕ) (id before : ℕ) (range : List ℕ) (i : ℕ) → IsRangeOf ids id before range → IsStrictlyIncreasing ids
     → IsBinarySearchResult (λ y. nat_cmp y id) range (Ok i) → before + i ≡ place ids id
 found_in_range ids id before range i h up s =
     let (l, e) = searched_range ids id before range (Ok i) h up s in
     sym (found ids id (before + i) up (omega (arith, h.within)) (sym (part-rises ids id before range h i l) ∙ e))
 
+-- an id that is there is found in its range
 pub not_lost_in_range : (ids : List ℕ) (id before : ℕ) (range : List ℕ) (i : ℕ) → IsRangeOf ids id before range → IsStrictlyIncreasing ids
     → is_member nat_eq ids id ≡ true
     → IsBinarySearchResult (λ y. nat_cmp y id) range (Err i) → ⊥
@@ -101,6 +108,7 @@ pub record Bounds (ids begins : List ℕ) (id k : ℕ) : Type 0 where
   pub within : get_or begins (k + 1) 0 ≤ length ids
   pub all : (i : ℕ) → i < length ids → get_or ids i 0 ≡ id → (get_or begins k 0 ≤ i) × (i < get_or begins (k + 1) 0)
 
+-- the range of an id's number divided by the width is the one that has it
 pub bounds_of : (ids : List ℕ) (width : ℕ) (begins table : List ℕ) (id value : ℕ) → AreBuckets ids width begins
     → is_member nat_eq ids id ≡ true → table ≡ begins → value ≡ id → Bounds ids table id (value / width)
 bounds_of ids width begins table id value h there same read =

@@ -19,12 +19,15 @@ pub both-ok : {X E : Type 0} {P Q R : X → Type 0} (r : Result X E) → IfOk r 
 both-ok (Ok x) p q f = f x p q
 both-ok (Err e) p q f = tt
 
+-- a rank's rest by the most updates is its place
 rank-place : (x : Update) (i : ℕ) → i < MOST_UPDATES → rank x i % MOST_UPDATES ≡ i
 rank-place x i l = omega arith
 
+-- the same for a number that is known to be a rank
 place-at : (r : ℕ) (x : Update) (i : ℕ) → i < MOST_UPDATES → r ≡ rank x i → r % MOST_UPDATES ≡ i
 place-at r x i l e = ap (λ n. n % MOST_UPDATES) e ∙ rank-place x i l
 
+-- a rank divided by the most updates is the number of its edge
 rank-edge : (x : Update) (i : ℕ) → i < MOST_UPDATES → rank x i / MOST_UPDATES ≡ x.u * MOST_IDS + x.v
 rank-edge x i l = omega arith
 
@@ -35,7 +38,7 @@ edge-same x y i j lx ly li lj e =
     let same : x.u * MOST_IDS + x.v ≡ y.u * MOST_IDS + y.v = sym (rank-edge x i li) ∙ (e ∙ rank-edge y j lj) in
     and_from _ _ (eq-eqb x.u y.u (omega arith)) (eq-eqb x.v y.v (omega arith))
 
--- and the other way round
+-- the other way round: updates of one edge have ranks of one edge
 same-edge : (x y : Update) (i j : ℕ) → i < MOST_UPDATES → j < MOST_UPDATES → same_edge x y ≡ true → rank x i / MOST_UPDATES ≡ rank y j / MOST_UPDATES
 same-edge x y i j li lj h =
     let (u, v) = and_parts _ _ h in
@@ -49,6 +52,7 @@ record LastOf (xs : List ℕ) (a b : ℕ) : Type 0 where
   above : a < get_or xs (at + 1) 0
   reach : get_or xs (at + 1) 0 ≤ b
 
+-- an element with a greater one behind it has a last place, where the next is greater and not above that one
 last-of : (xs : List ℕ) (a b n t : ℕ) → IsNonDecreasingBy (λ (x : ℕ). x) xs → t + n < length xs → get_or xs t 0 ≡ a → get_or xs (t + n) 0 ≡ b → a < b
     → LastOf xs a b
 last-of xs a b zero t up l first last less = absurd (omega (arith, ap (λ k. get_or xs k 0) (let e : t + 0 ≡ t = omega arith in e)))
@@ -72,6 +76,7 @@ record Stand (xs : List ℕ) (a b : ℕ) : Type 0 where
   is : get_or xs first 0 ≡ a
   there : get_or xs (first + gap) 0 ≡ b
 
+-- of two elements of an ascending list, the greater one stands behind the other
 stand : (xs : List ℕ) (a b : ℕ) → IsNonDecreasingBy (λ (x : ℕ). x) xs → Contains xs a → Contains xs b → a < b → Stand xs a b
 stand xs a b up (i, li, ei) (j, lj, ej) less =
     let at_i : get_or xs i 0 ≡ a = get_or_default xs i 0 a li ∙ ei in
@@ -83,6 +88,7 @@ stand xs a b up (i, li, ei) (j, lj, ej) less =
       | inr not ↦ absurd (let fall = up j i 0 not li in omega arith)
     ]
 
+-- an update in place of one that is missing
 no_update : Update
 no_update = record { add = false; u = 0; v = 1; ordered = omega arith }
 
@@ -100,6 +106,7 @@ record IsRankOf (updates : List Update) (r : ℕ) : Type 0 where
   within : place < length updates
   is : r ≡ rank (get_or updates place no_update) place
 
+-- each sorted rank is the rank of an update
 rank-of : (updates : List Update) (ranks sorted : List ℕ) → AreSorted updates ranks sorted → (k : ℕ) → k < length sorted → IsRankOf updates (get_or sorted k 0)
 rank-of updates ranks sorted are k l =
     let (i, li, e) = Contains-permutation sorted ranks (get_or sorted k 0) (IsPermutation-sym ranks sorted are.moved) (Contains-get_or sorted k 0 l) in

@@ -26,13 +26,15 @@ use Rattle.kc_text.specs.declared.limits.TheConstants.{MOST_BYTES}
 use Rattle.kc_text.proofs.Overruled.{none-at, once-deciding, once-overruled}
 use Rattle.kc_text.proofs.WithinLimits.{both_none}
 
+-- an empty batch names no pair twice
 once-nil : NamesOnce []
 once-nil = λ i j d l m. absurd (omega arith)
 
--- one change more, whose pair was not named, and one less
+-- a batch that names no pair twice names none twice with one change more whose pair was not named
 once-push : (batch : List Change) (c : Change) → NamesOnce batch → list_any (name_same c) batch ≡ false → NamesOnce (batch ++ c ∷ [])
 once-push batch c once none = all_pairs_push (λ c d. name_same d c ≡ false) batch c once (λ k d l. none-at (name_same c) batch none k d l)
 
+-- a batch that names no pair twice names none twice without its last change
 once-front : (batch : List Change) (c : Change) → NamesOnce (batch ++ c ∷ []) → NamesOnce batch
 once-front batch c h = λ i j d l m.
     let more = length-append batch (c ∷ []) in
@@ -40,6 +42,7 @@ once-front batch c h = λ i j d l m.
     let at_j = get_or_append_left batch (c ∷ []) d j m in
     subst (λ e. name_same (get_or batch j d) e ≡ false) at_i (subst (λ e. name_same e (get_or (batch ++ c ∷ []) i d) ≡ false) at_j (h i j d l (omega arith)))
 
+-- in a batch that names no pair twice, the pair of the last change was not named before
 once-end : (batch : List Change) (c : Change) → NamesOnce (batch ++ c ∷ []) → list_any (name_same c) batch ≡ false
 once-end batch c h = list_any_none (name_same c) batch (λ i d l.
     let more = length-append batch (c ∷ []) in
@@ -51,6 +54,7 @@ once-end batch c h = list_any_none (name_same c) batch (λ i d l.
 abbrev Once : Told → Type 0
 Once told = All NamesOnce (batches told)
 
+-- no batch names a pair twice after a change that fits and whose pair the last batch had not named
 once-after_change : (earlier : List (List Change)) (last : Option (List Change)) (c : Change) → unfit last c ≡ None → was_named last c ≡ false
     → All NamesOnce (earlier ++ option_to_list last) → All NamesOnce (earlier ++ (unwrap_or last [] ++ c ∷ []) ∷ [])
 once-after_change earlier None c fit new once = absurd (let e : Some UpdateOutsideBatch ≡ None = fit in cc)
@@ -58,6 +62,7 @@ once-after_change earlier (Some batch) c fit new once =
     All-append NamesOnce earlier ((batch ++ c ∷ []) ∷ []) (All-front NamesOnce earlier (batch ∷ []) once)
     (All-cons NamesOnce (batch ++ c ∷ []) [] (once-push batch c (All-end NamesOnce earlier batch once) new) (All-nil NamesOnce))
 
+-- where no batch names a pair twice after a change, none did before it
 once-before_change : (earlier : List (List Change)) (last : Option (List Change)) (c : Change) → All NamesOnce (earlier ++ (unwrap_or last [] ++ c ∷ []) ∷ [])
     → All NamesOnce (earlier ++ option_to_list last)
 once-before_change earlier None c h = All-append NamesOnce earlier [] (All-front NamesOnce earlier ((c ∷ []) ∷ []) h) (All-nil NamesOnce)
@@ -65,6 +70,7 @@ once-before_change earlier (Some batch) c h =
     All-append NamesOnce earlier (batch ∷ []) (All-front NamesOnce earlier ((batch ++ c ∷ []) ∷ []) h)
     (All-cons NamesOnce batch [] (once-front batch c (All-end NamesOnce earlier (batch ++ c ∷ []) h)) (All-nil NamesOnce))
 
+-- where no batch names a pair twice after a change, the last batch had not named its pair
 new-before_change : (earlier : List (List Change)) (last : Option (List Change)) (c : Change) → All NamesOnce (earlier ++ (unwrap_or last [] ++ c ∷ []) ∷ [])
     → was_named last c ≡ false
 new-before_change earlier None c h = refl
@@ -78,6 +84,7 @@ once-before told said.Batch h = All-front NamesOnce (batches told) ([] ∷ []) h
 once-before told (said.Change c) h = once-before_change told.earlier told.last c h
 once-before told (said.Wrong kind) h = h
 
+-- there is no refusal where it gives no cause to end
 none-of : (kind : Option Kind) → option_map IsRefused kind ≡ None → kind ≡ None
 none-of (Some kind) h = absurd (cc)
 none-of None h = refl
@@ -88,12 +95,14 @@ record Goes (told : Told) (c : Change) : Type 0 where
   new : was_named told.last c ≡ false
   within : passed_limit (with_line told (said.Change c)) ≡ None
 
+-- where no check gives a cause, the change fits, its pair is new and no limit is passed
 goes-parts : (fit : Option Kind) (again : Bool) (limit : Option Kind) → cause_or (option_map IsRefused fit)
     (cond again (Some NamesAgain) (option_map IsRefused limit)) ≡ None → (fit ≡ None) × (again ≡ false) × (limit ≡ None)
 goes-parts (Some kind) again limit h = absurd (cc)
 goes-parts None true limit h = absurd (cc)
 goes-parts None false limit h = (refl, refl, none-of limit h)
 
+-- a change that gives no cause to end the reading goes on
 goes : (told : Told) (c : Change) → cause_of told (said.Change c) ≡ None → Goes told c
 goes told c h =
     let (fit, new, within) = goes-parts (unfit told.last c) (was_named told.last c) (passed_limit (with_line told (said.Change c))) h in
@@ -107,6 +116,7 @@ not-refused told said.Batch h = none-of (refusal told said.Batch) h
 not-refused told (said.Change c) h = let g = goes told c h in ap (λ r. or_else r (passed_limit (with_line told (said.Change c)))) g.fit ∙ g.within
 not-refused told (said.Wrong kind) h = absurd (cc)
 
+-- after a line that doesn't end the reading, no batch names a pair twice if none did before
 once-after : (told : Told) (line : Line) → cause_of told line ≡ None → Once told → Once (with_line told line)
 once-after told said.Nothing h once = once
 once-after told (said.Edge a b) h once = once
@@ -156,6 +166,7 @@ to-strict done told (line ∷ rest) all h once =
           )
     ] refl h
 
+-- a refusal among the causes by the stricter rule is the first refusal by the other rule
 refused-parts : (fit : Option Kind) (again : Bool) (limit : Option Kind) (kind : Kind)
     → cause_or (option_map IsRefused fit) (cond again (Some NamesAgain) (option_map IsRefused limit)) ≡ Some (IsRefused kind)
     → or_else fit limit ≡ Some kind
@@ -164,6 +175,7 @@ refused-parts None true limit kind h = absurd (cc)
 refused-parts None false (Some k) kind h = cc
 refused-parts None false None kind h = absurd (cc)
 
+-- a refusal that is the cause is the refusal that was found
 refused-of : (found : Option Kind) (kind : Kind) → option_map IsRefused found ≡ Some (IsRefused kind) → found ≡ Some kind
 refused-of (Some k) kind h = cc
 refused-of None kind h = absurd (cc)
@@ -176,6 +188,7 @@ same-refusal told said.Batch kind h = refused-of (refusal told said.Batch) kind 
 same-refusal told (said.Change c) kind h = refused-parts (unfit told.last c) (was_named told.last c) (passed_limit (with_line told (said.Change c))) kind h
 same-refusal told (said.Wrong k) kind h = cc
 
+-- lines whose reading a refusal ends by the stricter rule are refused there for the same
 refused-strict : (done : ℕ) (told : Told) (lines : List Line) (at : ℕ) (kind : Kind) → strict_reading done told lines ≡ Ends at (IsRefused kind)
     → reading done told lines ≡ Refuses at kind
 refused-strict done told [] at kind h = absurd (cc)
@@ -193,6 +206,7 @@ refused-strict done told (line ∷ rest) at kind h =
           ∙ refused-strict (done + 1) (with_line told line) rest at kind e
     ] refl h
 
+-- a text tells by the stricter rule just what it means, where no batch names a pair twice
 pub same-strict : (bytes : List ℕ) (told : Told) → (strict_meaning bytes ≡ Tells told) ↔ ((meaning bytes ≡ Means told) × All NamesOnce (batches told))
 same-strict bytes told = elim (nat_lt MOST_BYTES (length bytes)) as
     (λ b. (cond b (Ends 0 (IsRefused TooLong)) (strict_reading 0 nothing_told (all_said bytes)) ≡ Tells told)
@@ -205,6 +219,7 @@ same-strict bytes told = elim (nat_lt MOST_BYTES (length bytes)) as
       )
     ]
 
+-- a text that is refused by the stricter rule is refused at the same line for the same
 pub same-refused : (bytes : List ℕ) (line : ℕ) (kind : Kind) → strict_meaning bytes ≡ Ends line (IsRefused kind) → meaning bytes ≡ Refuses line kind
 same-refused bytes line kind = elim (nat_lt MOST_BYTES (length bytes)) as
     (λ b. cond b (Ends 0 (IsRefused TooLong)) (strict_reading 0 nothing_told (all_said bytes)) ≡ Ends line (IsRefused kind)

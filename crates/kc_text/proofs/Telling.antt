@@ -14,13 +14,16 @@ use Rattle.kc_text.specs.declared.line.Line.TheVariants as said
 use Rattle.kc_text.specs.Meaning.{Told, batches, changes, ends, ends_of, names, with_line}
 use Rattle.kc_text.proofs.Counts.{NamesMore, ends-more, ends-push}
 
+-- the changes of all batches, in order
 abbrev all : List (List Change) → List Change
 all batches = flat_map (λ batch. batch) batches
 
+-- the changes of batches and of more batches behind them
 all-append : (xs ys : List (List Change)) → all (xs ++ ys) ≡ all xs ++ all ys
 all-append [] ys = refl
 all-append (x ∷ xs) ys = ap (λ t. x ++ t) (all-append xs ys) ∙ sym (append_assoc x (all xs) (all ys))
 
+-- one change more in the last batch, or the first of one, is one more behind all
 all-last : (earlier : List (List Change)) (last : Option (List Change)) (c : Change)
     → all (earlier ++ (unwrap_or last [] ++ c ∷ []) ∷ []) ≡ all (earlier ++ option_to_list last) ++ c ∷ []
 all-last earlier None c = all-append earlier ((c ∷ []) ∷ []) ∙ ap (λ t. t ++ c ∷ []) (sym (ap all (append-nil earlier)))
@@ -28,25 +31,31 @@ all-last earlier (Some batch) c =
     all-append earlier ((batch ++ c ∷ []) ∷ []) ∙ ap (λ t. all earlier ++ t) (append-nil (batch ++ c ∷ []) ∙ ap (λ t. t ++ c ∷ []) (sym (append-nil batch)))
     ∙ sym (append_assoc (all earlier) (batch ++ []) (c ∷ [])) ∙ ap (λ t. t ++ c ∷ []) (sym (all-append earlier (batch ∷ [])))
 
+-- a change is told behind all changes that were told
 pub changes-more : (told : Told) (c : Change) → changes (with_line told (said.Change c)) ≡ changes told ++ c ∷ []
 changes-more told c = all-last told.earlier told.last c
 
+-- a batch line tells no change
 pub changes-batch : (told : Told) → changes (with_line told said.Batch) ≡ changes told
 changes-batch told = all-append (batches told) ([] ∷ []) ∙ append-nil (changes told)
 
+-- the ends of edges and of more edges behind them
 ends-append : (xs ys : List (ℕ × ℕ)) → ends (xs ++ ys) ≡ ends xs ++ ends ys
 ends-append [] ys = refl
 ends-append (x ∷ xs) ys = ap (λ t. x.0 ∷ x.1 ∷ t) (ends-append xs ys)
 
+-- an end of edges or of pairs behind them is an end of the ones or of the others
 names-of : (edges pairs : List (ℕ × ℕ)) (q : ℕ) → is_member nat_eq (ends (edges ++ pairs)) q ≡
     (is_member nat_eq (ends edges) q || is_member nat_eq (ends pairs) q)
 names-of edges pairs q = ap (λ t. is_member nat_eq t q) (ends-append edges pairs) ∙ list_any-append (nat_eq q) (ends edges) (ends pairs)
 
+-- four tests joined by or, with the brackets moved to the right
 or-assoc : (a b c d : Bool) → ((a || (b || c)) || d) ≡ (a || (b || (c || d)))
 or-assoc true b c d = refl
 or-assoc false true c d = refl
 or-assoc false false c d = refl
 
+-- an edge line gives its two ends as names
 pub names-edge : (told : Told) (a b : ℕ) → NamesMore (names told) (names (with_line told (said.Edge a b))) a b
 names-edge told a b = λ q.
     let pairs : List (ℕ × ℕ) = map ends_of (changes told) in
@@ -54,10 +63,12 @@ names-edge told a b = λ q.
     ∙ or-assoc (nat_eq q b) (nat_eq q a) (is_member nat_eq (ends told.edges) q) (is_member nat_eq (ends pairs) q)
     ∙ ap (λ t. nat_eq q b || (nat_eq q a || t)) (sym (names-of told.edges pairs q))
 
+-- the ends of changes with one more at the end
 map-last : (cs : List Change) (c : Change) → map ends_of (cs ++ c ∷ []) ≡ map ends_of cs ++ (c.a, c.b) ∷ []
 map-last [] c = refl
 map-last (d ∷ cs) c = ap (λ t. (d.a, d.b) ∷ t) (map-last cs c)
 
+-- a change gives its two ids as names
 pub names-change : (told : Told) (c : Change) → NamesMore (names told) (names (with_line told (said.Change c))) c.a c.b
 names-change told c =
     let pairs : List (ℕ × ℕ) = map ends_of (changes told) in
@@ -66,17 +77,21 @@ names-change told c =
     ∙ ap (λ (t : List (ℕ × ℕ)). ends (told.edges ++ t)) (map-last (changes told) c) ∙ ap ends (sym (append_assoc told.edges pairs ((c.a, c.b) ∷ []))) in
     subst (λ (t : List ℕ). NamesMore (names told) t c.a c.b) (sym more) (ends-more (told.edges ++ pairs) c.a c.b)
 
+-- a batch line gives no names
 pub names-batch : (told : Told) → names (with_line told said.Batch) ≡ names told
 names-batch told = ap (λ (t : List Change). ends (told.edges ++ map ends_of t)) (changes-batch told)
 
+-- the ends of the first changes of a batch, with one change more taken
 pub ends-changes : (cs : List Change) (i : ℕ) (d : Change) → i < length cs
     → ends (map ends_of (take (i + 1) cs)) ≡ (ends (map ends_of (take i cs)) ++ (get_or cs i d).a ∷ []) ++ (get_or cs i d).b ∷ []
 ends-changes cs i d l = ap (λ (t : List Change). ends (map ends_of t)) (take_more cs i d l) ∙ ap ends (map-last (take i cs) (get_or cs i d))
     ∙ ends-push (map ends_of (take i cs)) (ends_of (get_or cs i d))
 
+-- the ends of changes and of more changes behind them
 pub ends-batches : (cs : List Change) (ds : List Change) → ends (map ends_of (cs ++ ds)) ≡ ends (map ends_of cs) ++ ends (map ends_of ds)
 ends-batches cs ds = ap ends (map-append ends_of cs ds) ∙ ends-append (map ends_of cs) (map ends_of ds)
 
+-- the ends of edges and of changes behind them
 pub ends-told : (edges : List (ℕ × ℕ)) (cs : List Change) → ends (edges ++ map ends_of cs) ≡ ends edges ++ ends (map ends_of cs)
 ends-told edges cs = ends-append edges (map ends_of cs)
 
@@ -86,6 +101,7 @@ pub all-items : (batches : List (Vec Change Global)) → flat_map (λ batch. bat
 all-items [] = refl
 all-items (batch ∷ batches) = ap (λ t. batch.items ++ t) (all-items batches)
 
+-- the changes of the first batches, with one batch more taken
 pub all-more : (batches : List (Vec Change Global)) (i : ℕ) (batch : Vec Change Global) → i < length batches → batch ≡ get_or batches i batch
     → flat_map (λ (b : Vec Change Global). b.items) (take (i + 1) batches) ≡ flat_map (λ (b : Vec Change Global). b.items) (take i batches) ++ batch.items
 all-more batches i batch l e =

@@ -26,11 +26,13 @@ pub record IsWithin (told : Told) : Type 0 where
   pub changes : length (changes told) ≤ MOST_UPDATES
   pub batch_lines : length (batches told) ≤ MOST_BATCHES
 
+-- what was told is within the limits, and no change of its batches is a loop
 pub record AreFit (told : Told) : Type 0 where
   pub within : IsWithin told
   pub earlier : All HasNoLoops told.earlier
   pub last : IfSome told.last HasNoLoops
 
+-- where no first limit is found, the ids, updates and batches are not over theirs
 not-first_limit : (ids edge_lines updates batch_lines : Bool) → first_limit ids edge_lines updates batch_lines ≡ None
     → (ids ≡ false) × (updates ≡ false) × (batch_lines ≡ false)
 not-first_limit true edge_lines updates batch_lines h = absurd (cc)
@@ -39,6 +41,7 @@ not-first_limit false false true batch_lines h = absurd (cc)
 not-first_limit false false false true h = absurd (cc)
 not-first_limit false false false false h = (refl, refl, refl)
 
+-- where no limit is passed, what was told is within the limits
 not_over : (told : Told) → passed_limit told ≡ None → IsWithin told
 not_over told h =
     let (ids, updates, batch_lines) = not-first_limit (nat_lt MOST_IDS (distinct_count nat_eq (names told))) (nat_lt MOST_EDGE_LINES (length told.edges))
@@ -60,10 +63,12 @@ fits batch c h = elim (cases_Bool (nat_eq c.a c.b)) [
   | inr differ ↦ eqb-false c.a c.b differ
 ]
 
+-- the last batch with a change that fits has no loop
 fit-change : (last : Option (List Change)) (c : Change) → IfSome last HasNoLoops → unfit last c ≡ None → HasNoLoops (unwrap_or last [] ++ c ∷ [])
 fit-change None c h fit = absurd (let e : Some UpdateOutsideBatch ≡ None = fit in cc)
 fit-change (Some batch) c h fit = All-push (λ c. c.a ≢ c.b) batch c h (fits batch c fit)
 
+-- no batch has a loop where neither an earlier one nor the last one has
 pub fit-batches : (earlier : List (List Change)) (last : Option (List Change)) → All HasNoLoops earlier → IfSome last HasNoLoops
     → All HasNoLoops (earlier ++ option_to_list last)
 fit-batches earlier None h l = All-append HasNoLoops earlier [] h (All-nil HasNoLoops)
@@ -77,6 +82,7 @@ edge_taken told a b h = elim (is_some told.last) as (λ t. cond t (Some EdgeLine
       | false ↦ λ e. e
     ] h
 
+-- what was told stays fit with a line that is not refused
 after_line : (told : Told) (line : Line) → AreFit told → refusal told line ≡ None → AreFit (with_line told line)
 after_line told said.Nothing fit h = fit
 after_line told (said.Edge a b) fit h = record {
@@ -96,6 +102,7 @@ after_line told (said.Change c) fit h =
     record { within = not_over (with_line told (said.Change c)) limit; earlier = fit.earlier; last = fit-change told.last c fit.last unfit' }
 after_line told (said.Wrong kind) fit h = fit
 
+-- what lines tell with no refusal, after what is fit, is fit
 reading-fit : (done : ℕ) (told : Told) (lines : List Line) (all : Told) → AreFit told → reading done told lines ≡ Means all → AreFit all
 reading-fit done told [] all fit h = let same : told ≡ all = cc in subst AreFit same fit
 reading-fit done told (line ∷ rest) all fit h =
@@ -104,6 +111,7 @@ reading-fit done told (line ∷ rest) all fit h =
       | None ↦ λ none e. reading-fit (done + 1) (with_line told line) rest all (after_line told line fit none) e
     ] refl h
 
+-- what a text means is fit
 pub meaning-fit : (bytes : List ℕ) (all : Told) → meaning bytes ≡ Means all → AreFit all
 meaning-fit bytes all h = elim (nat_lt MOST_BYTES (length bytes)) as
     (λ b. cond b (Refuses 0 TooLong) (reading 0 nothing_told (all_said bytes)) ≡ Means all → AreFit all) [
