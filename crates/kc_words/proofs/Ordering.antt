@@ -15,7 +15,7 @@ pub InOrder-tail : (R : ℕ → ℕ → Type 0) (x : ℕ) (xs : List ℕ) → In
 InOrder-tail R x [] h = tt
 InOrder-tail R x (y ∷ xs) h = h.1
 
--- a weaker relation on the members of the list orders it too
+-- what follows a number by a relation follows it by one that is weaker on the members
 pub Follows-mono : (R S : ℕ → ℕ → Type 0) (x : ℕ) (xs : List ℕ)
     → ((y z : ℕ) → member y (x ∷ xs) ≡ true → member z (x ∷ xs) ≡ true → R y z → S y z) → Follows R x xs → Follows S x xs
 Follows-mono R S x [] f h = tt
@@ -24,6 +24,7 @@ Follows-mono R S x (y ∷ ys) f h = (
   Follows-mono R S y ys (λ u v p q r. f u v (member-tail u x (y ∷ ys) p) (member-tail v x (y ∷ ys) q) r) h.1,
 )
 
+-- a list in order for a relation is in order for one that is weaker on its members
 pub InOrder-mono : (R S : ℕ → ℕ → Type 0) (xs : List ℕ)
     → ((y z : ℕ) → member y xs ≡ true → member z xs ≡ true → R y z → S y z) → InOrder R xs → InOrder S xs
 InOrder-mono R S [] f h = tt

@@ -9,10 +9,11 @@ use Rattle.kc_words.specs.GroupWord as group
 use Rattle.kc_words.specs.GroupWord.{group_word, group_of}
 use Rattle.kc_words.specs.VertexWord.{vertex_word, vertex_of}
 
--- shifts and `|` are sums of products where the fields fit
+-- a shift and `|` of two fields are a sum of products where the fields fit
 pub shifted_pair : (a j b k : ℕ) → a < 2 ^ j → j + k ≡ 64 → b < 2 ^ k → bit_or (a * 2 ^ k % 2 ^ 64) b ≡ a * 2 ^ k + b
 shifted_pair a j b k p e q = ap (λ n. bit_or n b) (shl_whole a j k 64 p (omega arith)) ∙ or_shifted a k b q
 
+-- shifts and `|` of the three fields of an item's word are a sum of products where they fit
 pub shifted_three : (v g b : ℕ) → v < 2 ^ 24 → g < 2 ^ 21 → b < 2 ^ 19
     → bit_or (bit_or (v * 2 ^ 40 % 2 ^ 64) (g * 2 ^ 19 % 2 ^ 64)) b ≡ v * 2 ^ 40 + g * 2 ^ 19 + b
 shifted_three v g b p q r =
@@ -21,7 +22,7 @@ shifted_three v g b p q r =
     let joined : v * 2 ^ 40 + g * 2 ^ 19 ≡ (v * 2 ^ 21 + g) * 2 ^ 19 = omega arith in
     ap (λ n. bit_or (bit_or (v * 2 ^ 40 % 2 ^ 64) n) b) low ∙ (ap (λ n. bit_or n b) (high ∙ joined) ∙ (or_shifted (v * 2 ^ 21 + g) 19 b r ∙ omega arith))
 
--- an item's word
+-- the fields of an item that fit are read again from its word
 pub item_of-item_word : (w : ItemWord) → item.IsFitting w → item_of (item_word w) ≡ w
 unfolding item_of item_word
 item_of-item_word w f =
@@ -36,41 +37,47 @@ item_of-item_word w f =
     ap (λ n. n % 2 ^ 19) joined ∙ mod_low (w.version * 2 ^ 21 + w.group) 19 w.bottom f.2 in
     simp (v, g, b)
 
+-- what is read from an item's word packs to the same word
 pub item_word-item_of : (n : ℕ) → item_word (item_of n) ≡ n
 unfolding item_of item_word
 item_word-item_of n = omega arith
 
+-- what is read from an item's word of 64 bits fits
 pub item_of-fits : (n : ℕ) → n < 2 ^ 64 → item.IsFitting (item_of n)
 unfolding item_of
 item_of-fits n h = (omega arith, omega arith, omega arith)
 
--- as the program reads it
+-- the program's masks read an item's word as `item_of` does
 pub item_masked : (n : ℕ) → record { version = n / 2 ^ 40; group = bit_and (n / 2 ^ 19) 2097151; bottom = bit_and n 524287 } ≡ item_of n
 unfolding item_of
 item_masked n = rw (and_mask (n / 2 ^ 19) 21, and_mask n 19)
 
--- a group's word
+-- the fields of a group that fit are read again from its word
 pub group_of-group_word : (w : GroupWord) → group.IsFitting w → group_of (group_word w) ≡ w
 unfolding group_of group_word
 group_of-group_word w f = simp (shr_high w.version 40 w.top f.1, mod_low w.version 40 w.top f.1)
 
+-- what is read from a group's word packs to the same word
 pub group_word-group_of : (n : ℕ) → group_word (group_of n) ≡ n
 unfolding group_of group_word
 group_word-group_of n = shr_split n 40
 
+-- what is read from a group's word of 64 bits fits
 pub group_of-fits : (n : ℕ) → n < 2 ^ 64 → group.IsFitting (group_of n)
 unfolding group_of
 group_of-fits n h = (omega arith, omega arith)
 
+-- the program's mask reads a group's word as `group_of` does
 pub group_masked : (n : ℕ) → record { version = n / 2 ^ 40; top = bit_and n 1099511627775 } ≡ group_of n
 unfolding group_of
 group_masked n = rw (and_mask n 40)
 
--- a vertex's word
+-- what is read from a vertex's word packs to the same word
 pub vertex_word-vertex_of : (n : ℕ) → vertex_word (vertex_of n) ≡ n
 unfolding vertex_of vertex_word
 vertex_word-vertex_of n = shr_split n 32
 
+-- the program's mask reads a vertex's word as `vertex_of` does
 pub vertex_masked : (n : ℕ) → record { stamp = n / 2 ^ 32; core = bit_and n 4294967295 } ≡ vertex_of n
 unfolding vertex_of
 vertex_masked n = rw (and_mask n 32)
@@ -81,6 +88,7 @@ pub record Joined (h l n : ℕ) : Type 0 where
   pub high : n / 2 ^ 32 ≡ h
   pub low : n % 2 ^ 32 ≡ l
 
+-- what the program joins of two numbers of 32 bits is both side by side
 pub joined_facts : (h l : ℕ) → h < 2 ^ 32 → l < 2 ^ 32 → Joined h l (bit_or (h * 2 ^ 32 % 2 ^ 64) l)
 joined_facts h l p q =
     let sum : bit_or (h * 2 ^ 32 % 2 ^ 64) l ≡ h * 2 ^ 32 + l = shifted_pair h 32 l 32 p refl q in
