@@ -10,6 +10,7 @@ use Rattle.kc_distinct.proofs.Members.{not_member-parts, not_member-append, cut,
 use Rattle.kc_distinct.proofs.Members.{next_of-cut, prev_of-cut, ended, last_or-push, member-last_or, below_bound}
 use Rattle.kc_distinct.proofs.Shared.{some_length, Distinct-front}
 
+-- a path by a relation is one by another that is weaker on the numbers of the path
 pub Path-mono : (R S : ℕ → ℕ → Type 0) (x : ℕ) (xs : List ℕ) (e : ℕ)
     → ((y z : ℕ) → member y (x ∷ xs) ≡ true → member z (xs ++ e ∷ []) ≡ true → R y z → S y z) → Path R x (xs ++ e ∷ []) → Path S x (xs ++ e ∷ [])
 Path-mono R S x [] e f h = (f x e (member-head x []) (member-head e []) h.0, tt)
@@ -18,29 +19,33 @@ Path-mono R S x (y ∷ ys) e f h = (
   Path-mono R S y ys e (λ u v p q r. f u v (member-tail u x (y ∷ ys) p) (member-tail v y (ys ++ e ∷ []) q) r) h.1,
 )
 
--- a path in two parts
+-- of a path through p, the part up to p is a path
 pub Path-left : (R : ℕ → ℕ → Type 0) (x : ℕ) (l : List ℕ) (p : ℕ) (r : List ℕ) → Path R x (l ++ p ∷ r) → Path R x (l ++ p ∷ [])
 Path-left R x [] p r h = (h.0, tt)
 Path-left R x (y ∷ l) p r h = (h.0, Path-left R y l p r h.1)
 
+-- of a path through p, the part from p on is a path
 pub Path-right : (R : ℕ → ℕ → Type 0) (x : ℕ) (l : List ℕ) (p : ℕ) (r : List ℕ) → Path R x (l ++ p ∷ r) → Path R p r
 Path-right R x [] p r h = h.1
 Path-right R x (y ∷ l) p r h = Path-right R y l p r h.1
 
+-- a path up to p and a path from p on are one path
 pub Path-join : (R : ℕ → ℕ → Type 0) (x : ℕ) (l : List ℕ) (p : ℕ) (r : List ℕ) → Path R x (l ++ p ∷ []) → Path R p r → Path R x (l ++ p ∷ r)
 Path-join R x [] p r h k = (h.0, k)
 Path-join R x (y ∷ l) p r h k = (h.0, Path-join R y l p r h.1 k)
 
+-- a walk along the links of a path gives the numbers on it
 pub walk-path : (next prev : List ℕ) (a : ℕ) (xs : List ℕ) (s : ℕ) → Path (Link next prev) a (xs ++ s ∷ []) → walk (length xs) (get_or next a 0) next ≡ xs
 walk-path next prev a [] s h = refl
 walk-path next prev a (x ∷ xs) s h =
     ap (λ z. z ∷ walk (length xs) (get_or next z 0) next) h.0.0 ∙ ap (λ zs. x ∷ zs) (walk-path next prev x xs s h.1)
 
+-- a walk of n steps gives n numbers
 pub length-walk : (n at : ℕ) (next : List ℕ) → length (walk n at next) ≡ n
 length-walk zero at next = refl
 length-walk (suc n) at next = ap suc (length-walk n (get_or next at 0) next)
 
--- what follows p in the ring is never p, nor before it
+-- a member and what is no member differ
 apart : (x y : ℕ) (xs : List ℕ) → member x xs ≡ true → member y xs ≡ false → x ≢ y
 apart x y xs m n e = true≢false (sym m ∙ (ap (λ z. member z xs) e ∙ n))
 
@@ -48,6 +53,7 @@ apart x y xs m n e = true≢false (sym m ∙ (ap (λ z. member z xs) e ∙ n))
 pub Link-kept : (next prev : List ℕ) (a v b w y z : ℕ) → y ≢ a → z ≢ b → Link next prev y z → Link (set next a v) (set prev b w) y z
 Link-kept next prev a v b w y z n m h = (get_or-set_other next a y v 0 n ∙ h.0, get_or-set_other prev b z w 0 m ∙ h.1)
 
+-- the two writes of an insert leave the links between others
 Link-twice : (next prev : List ℕ) (p x q y z : ℕ) → y ≢ p → y ≢ x → z ≢ x → z ≢ q → Link next prev y z
     → Link (set (set next p x) x q) (set (set prev x p) q x) y z
 Link-twice next prev p x q y z n m m' n' h = (
@@ -56,20 +62,24 @@ Link-twice next prev p x q y z n m m' n' h = (
       ∙ (get_or-set_other prev x z p 0 m' ∙ h.1),
 )
 
+-- the ring cut at p: a path from the start up to p, and one from p back to the start
 pub path_at : (next prev : List ℕ) (s : ℕ) (l : List ℕ) (p : ℕ) (r : List ℕ) → Path (Link next prev) s ((l ++ p ∷ r) ++ s ∷ [])
     → Path (Link next prev) s (l ++ p ∷ []) × Path (Link next prev) p (r ++ s ∷ [])
 path_at next prev s l p r h =
     let h' : Path (Link next prev) s (l ++ p ∷ (r ++ s ∷ [])) = subst (Path (Link next prev) s) (append_assoc l (p ∷ r) (s ∷ [])) h in
     (Path-left (Link next prev) s l p (r ++ s ∷ []) h', Path-right (Link next prev) s l p (r ++ s ∷ []) h')
 
+-- a path from the start up to p and one from p back to the start are the ring
 pub path_from : (next prev : List ℕ) (s : ℕ) (l : List ℕ) (p : ℕ) (r : List ℕ) → Path (Link next prev) s (l ++ p ∷ [])
     → Path (Link next prev) p (r ++ s ∷ []) → Path (Link next prev) s ((l ++ p ∷ r) ++ s ∷ [])
 path_from next prev s l p r h k = subst (Path (Link next prev) s) (sym (append_assoc l (p ∷ r) (s ∷ []))) (Path-join (Link next prev) s l p (r ++ s ∷ []) h k)
 
+-- what stands behind a number in a distinct list is distinct
 Distinct-right : (l : List ℕ) (p : ℕ) (r : List ℕ) → Distinct (l ++ p ∷ r) → Distinct r
 Distinct-right [] p r d = d.1
 Distinct-right (y ∷ l) p r d = Distinct-right l p r d.1
 
+-- what stands before p and what stands behind it differ in a distinct list
 apart_parts : (l : List ℕ) (p : ℕ) (r : List ℕ) → Distinct (l ++ p ∷ r) → (z q : ℕ) → member z l ≡ true → member q r ≡ true → z ≢ q
 apart_parts [] p r d z q m n = absurd (false≢true m)
 apart_parts (y ∷ l) p r d z q m n =
@@ -83,14 +93,17 @@ after_in : (next prev : List ℕ) (s p : ℕ) (r : List ℕ) → Path (Link next
 after_in next prev s p [] h = inl h.0.0
 after_in next prev s p (y ∷ r) h = inr (ap (λ z. member z (y ∷ r)) h.0.0 ∙ member-head y r)
 
+-- what follows p is the first of the rest, or the end
 pub after_is : (next prev : List ℕ) (s p : ℕ) (r : List ℕ) → Path (Link next prev) p (r ++ s ∷ []) → get_or next p 0 ≡ head_or s r
 after_is next prev s p [] h = h.0.0
 after_is next prev s p (y ∷ r) h = h.0.0
 
+-- what stands before p is the last of what leads up to it, or the start
 pub before_is : (next prev : List ℕ) (a : ℕ) (l : List ℕ) (p : ℕ) → Path (Link next prev) a (l ++ p ∷ []) → get_or prev p 0 ≡ last_or a l
 before_is next prev a [] p h = h.0.1
 before_is next prev a (y ∷ l) p h = before_is next prev y l p h.1
 
+-- after an insert, the ring goes from x on through what stood behind p
 new_tail : (next prev : List ℕ) (s x p q : ℕ) (r : List ℕ) → Path (Link next prev) p (r ++ s ∷ []) → q ≡ get_or next p 0 → s ≢ x → Distinct r
     → ((y : ℕ) → member y r ≡ true → (y ≢ p) × (y ≢ x) × (y < s)) → Link (set (set next p x) x q) (set (set prev x p) q x) x q
     → Path (Link (set (set next p x) x q) (set (set prev x p) q x)) x (r ++ s ∷ [])
@@ -177,6 +190,7 @@ ring_insert next prev s x p q l r h e below out =
           (to-x q-x, new_tail next prev s x p q r right e (omega arith) (Distinct-right l p r h.distinct) right-facts (from-x q-s));
     }
 
+-- after a removal of x, the ring goes from p on through what stood behind x
 joined_tail : (next prev : List ℕ) (s x p q : ℕ) (r : List ℕ) → Path (Link next prev) x (r ++ s ∷ []) → q ≡ get_or next x 0 → Distinct r
     → ((y : ℕ) → member y r ≡ true → (y ≢ p) × (y < s)) → Link (set next p q) (set prev q p) p q → Path (Link (set next p q) (set prev q p)) p (r ++ s ∷ [])
 joined_tail next prev s x p q [] h e d f k = (subst (λ z. Link (set next p q) (set prev q p) p z) (e ∙ h.0.0) k, tt)
@@ -197,6 +211,7 @@ joined_tail next prev s x p q (y ∷ r) h e d f k =
           h.1,
     )
 
+-- after a removal of x, the way up to p and the way from p on are one ring
 ring_path : (next prev : List ℕ) (s x p q : ℕ) (l r : List ℕ) → p ≡ last_or s l → ((z : ℕ) → member z l ≡ true → (z < s) × (z ≢ q)) → Distinct l
     → Path (Link next prev) s (l ++ x ∷ []) → Path (Link (set next p q) (set prev q p)) p (r ++ s ∷ [])
     → Path (Link (set next p q) (set prev q p)) s ((l ++ r) ++ s ∷ [])
@@ -254,14 +269,16 @@ ring_remove next prev s x p q l r h p-is q-is =
       q-s,
     )
 
--- what the ring says of the steps of the program
+-- a walk of as many steps as the list is long gives the list of the ring
 pub walked : (next prev : List ℕ) (s n : ℕ) (xs : List ℕ) → IsRing next prev s xs → n ≡ length xs → walk n (get_or next s 0) next ≡ xs
 walked next prev s n xs h e = ap (λ k. walk k (get_or next s 0) next) e ∙ walk-path next prev s xs s h.path
 
+-- what next holds at the size is the first of the list, or the size where there is none
 pub first_read : (next prev : List ℕ) (s : ℕ) (xs : List ℕ) → IsRing next prev s xs → get_or next s 0 ≡ head_or s xs
 first_read next prev s [] h = h.path.0.0
 first_read next prev s (x ∷ xs) h = h.path.0.0
 
+-- what next holds at a member is what stands right after it
 pub next_read : (next prev : List ℕ) (s x : ℕ) (xs : List ℕ) → IsRing next prev s xs → member x xs ≡ true → get_or next x 0 ≡ next_of s x xs
 next_read next prev s x xs h m =
     let c = cut x xs m in
@@ -269,6 +286,7 @@ next_read next prev s x xs h m =
     after_is next prev s x c.back (path_at next prev s c.front x c.back h'.path).1
     ∙ (sym (next_of-cut s x c.front c.back (Distinct-cut x c.front c.back h'.distinct).0) ∙ ap (next_of s x) (sym c.is))
 
+-- what prev holds at a member is what stands right before it
 pub prev_read : (next prev : List ℕ) (s x : ℕ) (xs : List ℕ) → IsRing next prev s xs → member x xs ≡ true → get_or prev x 0 ≡ prev_of s x xs
 prev_read next prev s x xs h m =
     let c = cut x xs m in
@@ -276,12 +294,14 @@ prev_read next prev s x xs h m =
     before_is next prev s c.front x (path_at next prev s c.front x c.back h'.path).0
     ∙ (sym (prev_of-cut s x c.front c.back (Distinct-cut x c.front c.back h'.distinct).0) ∙ ap (prev_of s x) (sym c.is))
 
+-- after the writes of a removal: a ring, whose list is the one before without x
 pub record Removed (next prev : List ℕ) (s x p q n : ℕ) (xs : List ℕ) : Type 0 where
   pub ring : IsRing (set next p q) (set prev q p) s (walk (n - 1) (get_or (set next p q) s 0) (set next p q))
   pub list : walk (n - 1) (get_or (set next p q) s 0) (set next p q) ≡ without x xs
   pub p_fits : p ≤ s
   pub q_fits : q ≤ s
 
+-- the writes of a removal make a ring of the list without x
 pub removed : (next prev : List ℕ) (s x p q n : ℕ) (xs : List ℕ) → IsRing next prev s xs → n ≡ length xs → member x xs ≡ true → p ≡ get_or prev x 0
     → q ≡ get_or next x 0 → Removed next prev s x p q n xs
 removed next prev s x p q n xs h e m p-is q-is =
@@ -298,11 +318,13 @@ removed next prev s x p q n xs h e m p-is q-is =
       q_fits = new.2;
     }
 
+-- after the writes of an insert: a ring, whose list has x right after p
 pub record Inserted (next prev : List ℕ) (s x p q n : ℕ) (xs : List ℕ) : Type 0 where
   pub ring : IsRing (set (set next p x) x q) (set (set prev x p) q x) s (walk (n + 1) (get_or (set (set next p x) x q) s 0) (set (set next p x) x q))
   pub list : walk (n + 1) (get_or (set (set next p x) x q) s 0) (set (set next p x) x q) ≡ right_after x p xs
   pub q_fits : q ≤ s
 
+-- the writes of an insert make a ring of the list with x right after p
 pub inserted : (next prev : List ℕ) (s x p q n : ℕ) (xs : List ℕ) → IsRing next prev s xs → n ≡ length xs → member p xs ≡ true → member x xs ≡ false → x < s
     → q ≡ get_or next p 0 → Inserted next prev s x p q n xs
 inserted next prev s x p q n xs h e m out below q-is =
@@ -329,7 +351,7 @@ inserted next prev s x p q n xs h e m out below q-is =
       ];
     }
 
--- as the program reads it
+-- what an insert leaves, from the ring as the program walks it; the list is short
 pub insert_facts : (next prev : List ℕ) (s x p q n : ℕ) (xs : List ℕ) → IsRing next prev s (walk n (get_or next s 0) next)
     → walk n (get_or next s 0) next ≡ xs → member p xs ≡ true → member x xs ≡ false → x < s → q ≡ get_or next p q
     → Inserted next prev s x p q n xs × (n < 2 ^ 31)
@@ -339,6 +361,7 @@ insert_facts next prev s x p q n xs h e m out below q-is =
     let p-in : p < length next = omega (arith, h'.within p m, h'.next_length) in
     (inserted next prev s x p q n xs h' size m out below (get_or_read next p q p-in q-is 0), omega (arith, below_bound s xs h'.distinct h'.within, h'.small))
 
+-- what a removal leaves, from the ring as the program walks it; the list was not empty
 pub remove_facts : (next prev : List ℕ) (s x p q n : ℕ) (xs : List ℕ) → IsRing next prev s (walk n (get_or next s 0) next)
     → walk n (get_or next s 0) next ≡ xs → member x xs ≡ true → p ≡ get_or prev x p → q ≡ get_or next x q → Removed next prev s x p q n xs × (0 < n)
 remove_facts next prev s x p q n xs h e m p-is q-is =
@@ -350,7 +373,7 @@ remove_facts next prev s x p q n xs h e m p-is q-is =
       omega (arith, size, some_length x xs m),
     )
 
--- the ring with x at its end
+-- the writes of a push make a ring with x at its end
 ring_push : (next prev : List ℕ) (s x p : ℕ) (xs : List ℕ) → IsRing next prev s xs → p ≡ get_or prev s 0 → x < s → member x xs ≡ false
     → IsRing (set (set next p x) x s) (set (set prev x p) s x) s (xs ++ x ∷ []) × (p ≤ s)
 ring_push next prev s x p [] h e below out =
@@ -394,12 +417,14 @@ ring_push next prev s x p (y ∷ ys) h e below out =
       omega arith,
     )
 
+-- after the writes of a push: a ring, whose list has x at its end
 pub record Pushed (next prev : List ℕ) (s x p n : ℕ) (xs : List ℕ) : Type 0 where
   pub ring : IsRing (set (set next p x) x s) (set (set prev x p) s x) s (walk (n + 1) (get_or (set (set next p x) x s) s 0) (set (set next p x) x s))
   pub list : walk (n + 1) (get_or (set (set next p x) x s) s 0) (set (set next p x) x s) ≡ xs ++ x ∷ []
   pub p_fits : p ≤ s
   pub short : n < 2 ^ 31
 
+-- what a push leaves, from the ring as the program walks it
 pub push_facts : (next prev : List ℕ) (s x p n : ℕ) (xs : List ℕ) → IsRing next prev s (walk n (get_or next s 0) next) → walk n (get_or next s 0) next ≡ xs
     → member x xs ≡ false → x < s → p ≡ get_or prev s p → Pushed next prev s x p n xs
 push_facts next prev s x p n xs h e out below p-is =
@@ -415,7 +440,7 @@ push_facts next prev s x p n xs h e out below p-is =
       short = omega (arith, below_bound s xs h'.distinct h'.within, h'.small);
     }
 
--- the ring of no number
+-- where each place holds the size, the ring has no number
 pub ring_empty : (next prev : List ℕ) (s n : ℕ) → n ≡ s + 1 → s < 2 ^ 31 → next ≡ replicate n s → prev ≡ replicate n s → IsRing next prev s []
 ring_empty next prev s n e small a b =
     let at : get_or (replicate n s) s 0 ≡ s = get_or-replicate n s s 0 (omega arith) in
