@@ -7,14 +7,16 @@ use Rattle.kc_distinct.proofs.Members.{member-head, member-cases, member-append,
 use Rattle.kc_relabel.specs.Labels.{ups, downs, schedule_of, places}
 use Rattle.kc_relabel.proofs.Once.{places-append}
 
--- the place of one write, which stands there if the test is passed
+-- where a write stands there if a test passes, a place named is its own, and the test passes
 one_place : (i b p : ℕ) (t : Bool) → member p (places (cond t ((i, b) ∷ []) [])) ≡ true → (t ≡ true) × (p ≡ i)
 one_place i b p true m = elim (member-cases p i [] m) [ inl e ↦ (refl, e) | inr k ↦ absurd (false≢true k) ]
 one_place i b p false m = absurd (false≢true m)
 
+-- where a write stands there if a test passes, its place is named when the test passes
 here : (i b p : ℕ) (t : Bool) → t ≡ true → p ≡ i → member p (places (cond t ((i, b) ∷ []) [])) ≡ true
 here i b p t e is = ap (λ u. member p (places (cond u ((i, b) ∷ []) []))) e ∙ (ap (λ q. member q (i ∷ [])) is ∙ member-head i [])
 
+-- a place that the first loop names has a label that grows
 grows : (i : ℕ) (os ns : List ℕ) (p : ℕ) → member p (places (ups i os ns)) ≡ true → (q : ℕ) × (p ≡ i + q) × (get_or os q 0 < get_or ns q 0)
 grows i [] ns p m = absurd (false≢true m)
 grows i (a ∷ os) [] p m = absurd (false≢true m)
@@ -25,6 +27,7 @@ grows i (a ∷ os) (b ∷ ns) p m =
       | inr k ↦ let r = one_place i b p (ltb a b) k in (zero, omega (arith, r.1), ltb-true a b r.0)
     ]
 
+-- a place that the second loop names has a label that shrinks
 shrinks : (i : ℕ) (os ns : List ℕ) (p : ℕ) → member p (places (downs i os ns)) ≡ true → (q : ℕ) × (p ≡ i + q) × (get_or ns q 0 < get_or os q 0)
 shrinks i [] ns p m = absurd (false≢true m)
 shrinks i (a ∷ os) [] p m = absurd (false≢true m)
@@ -35,6 +38,7 @@ shrinks i (a ∷ os) (b ∷ ns) p m =
       | inr k ↦ let r = shrinks (suc i) os ns p k in let e : p ≡ suc i + r.0 = r.1 in (suc r.0, omega arith, r.2)
     ]
 
+-- the first loop names each place whose label grows
 grown : (i : ℕ) (os ns : List ℕ) (p q : ℕ) → p ≡ i + q → q < length os → q < length ns → get_or os q 0 < get_or ns q 0 → member p (places (ups i os ns)) ≡ true
 grown i [] ns p q is l k lt = absurd (omega arith)
 grown i (a ∷ os) [] p q is l k lt = absurd (omega arith)
@@ -46,6 +50,7 @@ grown i (a ∷ os) (b ∷ ns) p (suc q) is l k lt =
     ∙ member-append_left p (places (ups (suc i) os ns)) (places (cond (ltb a b) ((i, b) ∷ []) []))
     (grown (suc i) os ns p q (omega arith) (omega arith) (omega arith) lt)
 
+-- the second loop names each place whose label shrinks
 shrunk : (i : ℕ) (os ns : List ℕ) (p q : ℕ) → p ≡ i + q → q < length os → q < length ns → get_or ns q 0 < get_or os q 0
     → member p (places (downs i os ns)) ≡ true
 shrunk i [] ns p q is l k lt = absurd (omega arith)
@@ -58,6 +63,7 @@ shrunk i (a ∷ os) (b ∷ ns) p (suc q) is l k lt =
     ∙ member-append_right p (places (cond (ltb b a) ((i, b) ∷ []) [])) (places (downs (suc i) os ns))
     (shrunk (suc i) os ns p q (omega arith) (omega arith) (omega arith) lt)
 
+-- at a place that the schedule names, the labels differ
 pub schedule-differs : (os ns : List ℕ) (p : ℕ) → member p (places (schedule_of os ns)) ≡ true → get_or os p 0 ≢ get_or ns p 0
 schedule-differs os ns p m e =
     elim (member-append p (places (ups 0 os ns)) (places (downs 0 os ns)) (ap (member p) (sym (places-append (ups 0 os ns) (downs 0 os ns))) ∙ m)) [
@@ -67,6 +73,7 @@ schedule-differs os ns p m e =
           absurd (let lt : get_or ns p 0 < get_or os p 0 = subst (λ q. get_or ns q 0 < get_or os q 0) (sym is) r.2 in omega arith)
     ]
 
+-- the schedule names each place at which the labels differ
 pub differs-schedule : (os ns : List ℕ) (p : ℕ) → length os ≡ length ns → p < length os → get_or os p 0 ≢ get_or ns p 0
     → member p (places (schedule_of os ns)) ≡ true
 differs-schedule os ns p e l ne =
