@@ -19,18 +19,23 @@ use Rattle.kc_insert.specs.declared.rising.Rising.{Rising}
 use Rattle.kc_insert.proofs.Tidy.{asks-queued}
 use Rattle.kc_insert.proofs.Turning.{begin}
 
+-- where only the root is queued nobody is a candidate
 no-candidate : (root : ℕ) (r : Rising) → Begins root r → (z : ℕ) → is_candidate r z ≡ false
 no-candidate root r b z = elim (cases_eq z root) [ inl e ↦ ap (is_candidate r) e ∙ ap candidate_in b.here | inr ne ↦ ap candidate_in (b.others z ne) ]
 
+-- where only the root is queued nobody is weak
 no-weak : (root : ℕ) (r : Rising) → Begins root r → (z : ℕ) → is_weak r z ≡ false
 no-weak root r b z = elim (cases_eq z root) [ inl e ↦ ap (is_weak r) e ∙ ap weak_in b.here | inr ne ↦ ap weak_in (b.others z ne) ]
 
+-- where only the root is queued nobody has a candidate before it
 no-earlier : (root : ℕ) (r : Rising) → Begins root r → (z : ℕ) → earlier_at r z ≡ 0
 no-earlier root r b z = elim (cases_eq z root) [ inl e ↦ ap (earlier_at r) e ∙ ap earlier_in b.here | inr ne ↦ ap earlier_in (b.others z ne) ]
 
+-- where only the root is queued nobody has left the queue
 none-left : (root : ℕ) (r : Rising) → Begins root r → left r ≡ []
 none-left root r b = ap (λ n. take n r.queue.items) b.turn
 
+-- where only the root is queued, queue and marks are orderly
 begin-orderly : (root : ℕ) (r : Rising) → Begins root r → IsOrderly r
 begin-orderly root r b = record {
   once = subst Distinct (sym b.queue) (refl, tt);
@@ -47,10 +52,11 @@ begin-orderly root r b = record {
   anchored = λ z m. absurd (true≢false (sym m ∙ ap (λ xs. member z (seconds xs)) b.shifts));
 }
 
--- who is queued is the root
+-- where only the root is queued, who is queued is the root
 only-root : (root : ℕ) (r : Rising) → Begins root r → (z : ℕ) → member z r.queue.items ≡ true → z ≡ root
 only-root root r b z m = elim (member-cases z root [] (sym (ap (member z) b.queue) ∙ m)) [ inl e ↦ e | inr k ↦ absurd (false≢true k) ]
 
+-- where only the root is queued, and its core number was asked, the search is tidy
 pub begin-tidy : (update : Update) (shown : Shown) (root : ℕ) (r : Rising) → Begins root r → root < shown.size
     → has_core shown.kept root ≡ true → AsksQueued update shown.kept [] → IsTidyRising update shown r
 begin-tidy update shown root r b l placed asks = record {
@@ -61,7 +67,7 @@ begin-tidy update shown root r b l placed asks = record {
   asks = asks-queued update shown.kept [] r.queue.items asks (λ x m. absurd (false≢true m));
 }
 
--- where the root has too many later neighbours
+-- where the root has too many later neighbours, the search begins between two turns
 pub begin-between : (s : Search) (root : ℕ) (r : Rising) → Begins root r → Widened s root → IsBetweenTurns s root r
 begin-between s root r b w =
     let none : cands r ≡ [] = ap (filter (is_candidate r)) b.queue ∙ ap (λ k. cond k (root ∷ []) []) (no-candidate root r b root) in

@@ -31,16 +31,19 @@ use Rattle.kc_insert.proofs.Tidy.{left-queued}
 cand-queued : (r : Rising) (x : ℕ) → member x (cands r) ≡ true → member x r.queue.items ≡ true
 cand-queued r x m = (member-filter (is_candidate r) x r.queue.items m).0
 
+-- whoever was shifted has left the queue
 shifted-left : (r : Rising) (x : ℕ) → IsOrderly r → member x (firsts r.shifts.items) ≡ true → member x (left r) ≡ true
 shifted-left r x o m = o.weak_left x (take-member (length r.shifts.items) r.weak.items x (sym (ap (member x) o.shifted) ∙ m))
 
+-- candidates and those that were shifted were queued
 pub moved-queued : (r : Rising) (x : ℕ) → IsOrderly r → member x (cands r ++ firsts r.shifts.items) ≡ true → member x r.queue.items ≡ true
 moved-queued r x o m = elim (member-append x (cands r) (firsts r.shifts.items) m) [ inl k ↦ cand-queued r x k | inr k ↦ left-queued r x (shifted-left r x o k) ]
 
--- all have left the queue
+-- once all turns were taken, whoever was queued has left the queue
 all-left : (r : Rising) → r.turn ≡ length r.queue.items → left r ≡ r.queue.items
 all-left r ended = take_all r.turn r.queue.items (omega (arith, ended))
 
+-- once all turns were taken nobody waits
 none-waits : (r : Rising) → r.turn ≡ length r.queue.items → waiting r ≡ []
 none-waits r ended = drop_all r.turn r.queue.items (omega (arith, ended))
 
@@ -63,6 +66,7 @@ asked-forward update shown s level root r adds is w t b =
     elim k [ inl h ↦ inl h | inr h ↦ inr (reached-forward update s level root e.vertex adds (sym w.root_level) is (reached e.vertex h)) ])
     shown.kept.edges t.asks.lists
 
+-- once all turns were taken, what holds between turns holds with nobody in the queue
 ended-turns : (s : Search) (root : ℕ) (r : Rising) → r.turn ≡ length r.queue.items → (b : IsBetweenTurns s root r)
     → BetweenTurns s root (cands r) [] b.0 (earlier_at r) (later_at r) r.shifts.items
 ended-turns s root r ended b =

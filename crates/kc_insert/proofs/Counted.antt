@@ -25,6 +25,7 @@ added-within update w y n l t =
       | inr k ↦ let e : y ≡ update.u = eqb-true y update.u (and_parts (eqb w update.v) (eqb y update.u) k).1 in omega (arith, e, up, l)
     ]
 
+-- a count made from what was told is the count of those ahead in each state that agrees
 pub ahead-of : (a : Answers) (s : Ranked) (update : Update) (level size w : ℕ) (row : List ℕ) (ahead : Ahead) → Agrees a s
     → update.v < s.graph.size → has_list a w ≡ true → IsListOf size w row
     → ((y : ℕ) → member y row ≡ (member y (list_of a w) || is_added update w y))

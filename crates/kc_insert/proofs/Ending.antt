@@ -18,6 +18,7 @@ raised core level rise y = cond (member y rise) (level + 1) (core y)
 abbrev pub is_low : Search → ℕ → Bool
 is_low s y = leb (s.core y) s.level
 
+-- once nobody waits, each neighbour on the level of a candidate was passed
 no_open : (s : Search) (root : ℕ) (cands : List ℕ) (frontier : ℕ) (earlier later place : ℕ → ℕ) → Searching s root cands [] frontier earlier later place
     → (x y : ℕ) → member x cands ≡ true → OnLevel s y → s.adj x y ≡ true → s.rank y < frontier
 no_open s root cands frontier earlier later place h x y m oy a =
@@ -48,6 +49,7 @@ few_behind s root cands frontier earlier later place c h z oz none =
           omega (arith, all, ahead-later s root c z oz, c.few z oz.here not_root, oz.level)
     ]
 
+-- a vertex of the level has at most one neighbour more ahead than the level
 ahead-few : (s : Search) (root : ℕ) → Widened s root → (z : ℕ) → OnLevel s z → ahead s z ≤ s.level + 1
 ahead-few s root c z oz = elim (cases_eq z root) [
   | inl e ↦
@@ -56,6 +58,7 @@ ahead-few s root c z oz = elim (cases_eq z root) [
   | inr ne ↦ omega (arith, ahead-later s root c z oz, c.few z oz.here ne, oz.level)
 ]
 
+-- a neighbour of the level that rises counts for a candidate either before it or behind it
 support_cand : (u l m : Bool) (rz ry f : ℕ) → u ≡ false → l ≡ true → m ≡ true → ry ≢ rz
     → one_if (u || m) ≡ one_if (m && ltb ry rz) + one_if (u || (l && (ltb rz ry && (m || leb f ry))))
 support_cand u l m rz ry f hu hl hm ne = grind arith
@@ -70,6 +73,7 @@ kept_at s root cands queue frontier earlier later place c h z y lz ly nz ny = el
   | inr (inr lt) ↦ let k : place y < place z = h.others_kept y z ly lz ny nz lt in grind (arith, k)
 ]
 
+-- after all turns, who comes after a vertex of the level that does not rise is who is behind it
 level_at : (s : Search) (root : ℕ) (cands : List ℕ) (frontier : ℕ) (earlier later place : ℕ → ℕ) → Searching s root cands [] frontier earlier later place
     → (z : ℕ) → OnLevel s z → member z cands ≡ false → (y : ℕ) → y < s.size → then_after (is_low s) cands s.rank place z y ≡ behind_at s cands place z y
 level_at s root cands frontier earlier later place h z oz none y l =
@@ -83,6 +87,7 @@ level_at s root cands frontier earlier later place h z oz none y l =
       ]
     ]
 
+-- after all turns, who comes after a vertex below the level is who came after it before
 low_at : (s : Search) (root : ℕ) (cands : List ℕ) (frontier : ℕ) (earlier later place : ℕ → ℕ) → Widened s root
     → Searching s root cands [] frontier earlier later place
     → (z : ℕ) → z < s.size → s.core z < s.level → member z cands ≡ false → (y : ℕ) → y < s.size → then_after (is_low s) cands s.rank place z y ≡ after s z y
@@ -104,6 +109,7 @@ low_at s root cands frontier earlier later place c h z lz lt none y l =
           ]
     ]
 
+-- after all turns, who comes after a vertex above the level is who came after it before
 high_at : (s : Search) (root : ℕ) (cands : List ℕ) (frontier : ℕ) (earlier later place : ℕ → ℕ) → Widened s root
     → Searching s root cands [] frontier earlier later place
     → (z : ℕ) → z < s.size → s.level < s.core z → member z cands ≡ false → (y : ℕ) → y < s.size → then_after (is_low s) cands s.rank place z y ≡ after s z y
@@ -119,6 +125,7 @@ high_at s root cands frontier earlier later place c h z lz lt none y l =
           elim (cases_Bool (member y cands)) [ inl m ↦ grind (arith, none, m, lt, down) | inr n ↦ grind (arith, none, n, lt, le, down) ]
     ]
 
+-- after all turns, a neighbour above or rising counts for a candidate before it or behind it, once
 support_at : (s : Search) (root : ℕ) (cands : List ℕ) (frontier : ℕ) (earlier later place : ℕ → ℕ) → Widened s root
     → Searching s root cands [] frontier earlier later place
     → (z : ℕ) → member z cands ≡ true → (y : ℕ) → y < s.size → s.adj z y ≡ true

@@ -26,11 +26,13 @@ use Rattle.kc_insert.proofs.Tidy.{left-queued, left-more, first-not_left, tidy-r
 use Rattle.kc_insert.proofs.Turning.{turn_evict, turn_settle, turn_settled, settling_same}
 use Rattle.kc_insert.proofs.Queues.{Ascends-at}
 
+-- what is in the second part of a list of distinct items is not in the first
 distinct-apart : (y : ℕ) (xs ys : List ℕ) → Distinct (xs ++ ys) → member y ys ≡ true → member y xs ≡ false
 distinct-apart y [] ys d m = refl
 distinct-apart y (x ∷ xs) ys d m =
     not_member-cons y x xs (λ e. true≢false (sym (member-append_right y xs ys m) ∙ (ap (λ k. member k (xs ++ ys)) e ∙ d.0))) (distinct-apart y xs ys d.1 m)
 
+-- what is in a list is among its first `n` or behind these
 take-or_drop : (n : ℕ) (xs : List ℕ) (y : ℕ) → member y xs ≡ true → (member y (take n xs) ≡ true) ⊎ (member y (drop n xs) ≡ true)
 take-or_drop zero xs y m = inr m
 take-or_drop (suc n) [] y m = absurd (false≢true m)
@@ -39,9 +41,11 @@ take-or_drop (suc n) (x ∷ xs) y m = elim (member-cases y x xs m) [
   | inr k ↦ elim (take-or_drop n xs y k) [ inl h ↦ inl (member-tail y x (take n xs) h) | inr h ↦ inr h ]
 ]
 
+-- with the same queue and turn, the same have left
 pub same-left : (old new : Rising) → new.queue.items ≡ old.queue.items → new.turn ≡ old.turn → left new ≡ left old
 same-left old new queue turn = ap (λ n. take n new.queue.items) turn ∙ ap (take old.turn) queue
 
+-- with the same queue and turn, the same wait
 same-waiting : (old new : Rising) → new.queue.items ≡ old.queue.items → new.turn ≡ old.turn → waiting new ≡ waiting old
 same-waiting old new queue turn = ap (λ n. drop n new.queue.items) turn ∙ ap (drop old.turn) queue
 
@@ -73,9 +77,11 @@ turn-order rank r o up y x cy cx =
           grind (arith, lt, k')
     ]
 
+-- of two numbers that differ and lie as two ranks do, one is not the lesser where its rank is the greater
 not-before : (a b r q : ℕ) → ltb a b ≡ ltb r q → ltb b a ≡ ltb q r → a ≢ b → not (ltb a b) ≡ ltb q r
 not-before a b r q h k ne = grind arith
 
+-- of two candidates one did not have its turn first where the other has the lesser rank
 turn-behind : (rank : ℕ → ℕ) (r : Rising) → IsOrderly r → AscendsBy rank r.queue.items → (y x : ℕ) → is_candidate r y ≡ true
     → is_candidate r x ≡ true → y ≢ x → not (ltb (turn_at r y) (turn_at r x)) ≡ ltb (rank x) (rank y)
 turn-behind rank r o up y x cy cx ne =
@@ -89,6 +95,7 @@ next-weak r i x len lt at =
     let e : i ≡ length r.shifts.items = omega (arith, len, r.shifts.ok.0) in
     ap (λ n. get_or r.weak.items n 0) (sym e) ∙ sym (get_or_read r.weak.items i x (omega (arith, lt, e)) at 0)
 
+-- the weak candidate whose turn it is has left the queue
 pub next-left : (r : Rising) (x : ℕ) → IsOrderly r → length r.shifts.items < length r.weak.items
     → get_or r.weak.items (length r.shifts.items) 0 ≡ x → member x (left r) ≡ true
 next-left r x o lt first = o.weak_left x (ap (λ k. member k r.weak.items) (sym first) ∙ member-get_or r.weak.items (length r.shifts.items) 0 lt)
@@ -137,28 +144,34 @@ evict-orderly x anchor old new o e lt first near =
           ];
     }
 
--- queue and turn stay
+-- where queue and turn stay, the search stays tidy
 pub stays-tidy : (update : Update) (shown : Shown) (old new : Rising) → IsTidyRising update shown old → IsOrderly new
     → new.queue.items ≡ old.queue.items → new.turn ≡ old.turn → IsTidyRising update shown new
 stays-tidy update shown old new t o queue turn =
     tidy-rising update shown old new t o (λ z m. ap (member z) queue ∙ m) (λ z m. inl (sym (ap (member z) queue) ∙ m))
     (λ z m. inl (sym (ap (member z) (same-left old new queue turn)) ∙ m))
 
+-- a candidate's later count after an eviction, in words of adjacency and order
 less_later : (n'' n' n : ℕ) (h a m t f : Bool) → n'' ≡ n' - cond (h && (m && t)) 1 0 → n' ≡ n → h ≡ a → m ≡ true → t ≡ f → n'' ≡ n - cond (a && f) 1 0
 less_later n'' n' n h a m t f e e' ha hm ht = grind arith
 
+-- an earlier count after an eviction, in words of adjacency and order
 less_earlier : (n'' n' n : ℕ) (h a p f : Bool) → n'' ≡ n' - cond (h && p) 1 0 → n' ≡ n → h ≡ a → p ≡ f → n'' ≡ n - cond (a && f) 1 0
 less_earlier n'' n' n h a p f e e' ha hp = grind arith
 
+-- a candidate that did not have its turn first loses an earlier one
 behind-cand : (c t f : Bool) → c ≡ true → not t ≡ f → not (c && t) ≡ f
 behind-cand c t f hc ht = grind arith
 
+-- one that is no candidate loses an earlier one
 behind-open : (c t f : Bool) → c ≡ false → f ≡ true → not (c && t) ≡ f
 behind-open c t f hc hf = grind arith
 
+-- whoever is a candidate or open, and no candidate, is open
 open-from : (m l : Bool) → (m || l) ≡ true → m ≡ false → l ≡ true
 open-from m l h n = grind arith
 
+-- with the same queue and turn, the queue is lined up as before
 lined-same : (q : Search) (root frontier : ℕ) (old new : Rising) → LinedUp q root old frontier → new.queue.items ≡ old.queue.items
     → new.turn ≡ old.turn → LinedUp q root new frontier
 lined-same q root frontier old new l queue turn = record {
@@ -276,9 +289,11 @@ settled-between q root last r o le st =
       },
     )
 
+-- the later count of a candidate after a settling, in words of adjacency
 fewer-by : (n'' n' n : ℕ) (h a m : Bool) → n'' ≡ n' - cond (h && m) 1 0 → n' ≡ n → h ≡ a → m ≡ true → n'' ≡ n - cond a 1 0
 fewer-by n'' n' n h a m e e' ha hm = grind arith
 
+-- a count of which nothing is taken stays
 none-less : (n'' n' n : ℕ) (h : Bool) → n'' ≡ n' - cond (h && false) 1 0 → n' ≡ n → n'' ≡ n
 none-less n'' n' n h e e' = grind arith
 

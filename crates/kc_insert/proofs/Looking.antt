@@ -14,9 +14,11 @@ use Rattle.kc_insert.specs.declared.ahead.Ahead.{Ahead}
 use Rattle.kc_insert.specs.declared.ahead.Side.{Side}
 use Rattle.kc_insert.specs.declared.ahead.Side.TheVariants.{Higher, Next, Before}
 
+-- a truth with `true` is that truth
 and-yes : (a : Bool) → (a && true) ≡ a
 and-yes a = grind arith
 
+-- a truth, or something and `false`, is that truth
 or_no : (a b : Bool) → a ≡ (a || (b && false))
 or_no a b = grind arith
 
@@ -25,6 +27,7 @@ pub member-more : (b : Bool) (x y : ℕ) (next next' : List ℕ) → next' ≡ c
 member-more true x y next next' e = ap (member y) e ∙ (member-push y x next ∙ ap (λ k. member y next || k) (sym (and-yes (eqb y x))))
 member-more false x y next next' e = ap (member y) e ∙ or_no (member y next) (eqb y x)
 
+-- who is on the list of those behind, and was looked at, after one neighbour more
 next_step : (m' m e b t t' n : Bool) → m' ≡ (m || (e && b)) → m ≡ (t && n) → t' ≡ (t || e) → (e ≡ true → b ≡ n) → m' ≡ (t' && n)
 next_step m' m e b t t' n h k l same = grind arith
 
@@ -48,22 +51,27 @@ counted-more s w x i n n' row side l at is more before =
     let here : cond (is_ahead side) 1 0 ≡ one_if (p (get_or row i 0)) = ap (λ k. cond (is_ahead k) 1 0) is ∙ ap (λ y. one_if (p y)) (sym at) in
     omega (arith, more, before, here, count-more p row i l)
 
+-- the side says ahead where the neighbour is higher or next
 side_ahead : (a l : Bool) → is_ahead (cond a Higher (cond l Next Before)) ≡ (a || l)
 side_ahead true l = refl
 side_ahead false true = refl
 side_ahead false false = refl
 
+-- the side says next where the neighbour is next and not higher
 side_next : (a l : Bool) → is_next (cond a Higher (cond l Next Before)) ≡ (not a && l)
 side_next true l = refl
 side_next false true = refl
 side_next false false = refl
 
+-- of a vertex of the level the side says next where it comes later
 level_next : (a l f : Bool) (n k : ℕ) → a ≡ ltb k n → l ≡ eqb n k → n ≡ k → (not a && (l && f)) ≡ f
 level_next a l f n k ha hl e = grind arith
 
+-- whoever is on the row and next is on the level and later
 next_parts : (m a l f : Bool) → (m && (not a && (l && f))) ≡ true → (m ≡ true) × (l ≡ true) × (f ≡ true)
 next_parts m a l f h = (grind arith, grind arith, grind arith)
 
+-- a truth that is another is that other, with what is true besides
 swapped : (a b c : Bool) → a ≡ true → b ≡ c → b ≡ (a && c)
 swapped a b c h e = grind arith
 

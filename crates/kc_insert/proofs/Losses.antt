@@ -19,6 +19,7 @@ use Rattle.kc_insert.specs.declared.losing.Loss.TheVariants.{Settled, Evicted}
 use Rattle.kc_insert.specs.declared.rising.Mark.{Mark}
 use Rattle.kc_insert.specs.declared.rising.Rising.{Rising}
 
+-- the item at a place below `n` is among the first `n`
 take-has : (xs : List ℕ) (n i : ℕ) → i < n → n ≤ length xs → member (get_or xs i 0) (take n xs) ≡ true
 take-has xs zero i lt le = absurd (omega arith)
 take-has [] (suc n) i lt le = absurd (omega arith)
@@ -31,13 +32,16 @@ cand-left r o y c =
     let k = o.turned y c in
     subst (λ (n : ℕ). member n (left r) ≡ true) k.1 (take-has r.queue.items r.turn (turn_at r y) k.0 o.turn_in)
 
+-- a mark that says candidate is there
 candidate_in-some : (m : Option Mark) → candidate_in m ≡ true → is_some m ≡ true
 candidate_in-some None c = absurd (false≢true c)
 candidate_in-some (Some m) c = refl
 
+-- a candidate was queued
 pub cand-queued : (r : Rising) → IsOrderly r → (y : ℕ) → is_candidate r y ≡ true → member y r.queue.items ≡ true
 cand-queued r o y c = sym (o.marked y) ∙ candidate_in-some (mark_of r.marks y) c
 
+-- where the second of two truths has the first with it, both are the second
 both : (m p : Bool) → (p ≡ true → m ≡ true) → (m && p) ≡ p
 both m p h = grind arith
 
@@ -45,10 +49,12 @@ both m p h = grind arith
 pub cands-has : (r : Rising) → IsOrderly r → (y : ℕ) → member y (cands r) ≡ is_candidate r y
 cands-has r o y = filter-has (is_candidate r) y r.queue.items ∙ both (member y r.queue.items) (is_candidate r y) (cand-queued r o y)
 
+-- a list of pairs has as many firsts as pairs
 length-firsts : (xs : List (ℕ × ℕ)) → length (firsts xs) ≡ length xs
 length-firsts [] = refl
 length-firsts (x ∷ xs) = let k = length-firsts xs in omega (arith, k)
 
+-- the first `n` of a list are no more than the list has
 length-take : (n : ℕ) (xs : List ℕ) → length (take n xs) ≤ length xs
 length-take zero xs = omega arith
 length-take (suc n) [] = omega arith
@@ -76,26 +82,31 @@ record Lost (level : ℕ) (loss : Loss) (y : ℕ) (found : Bool) (old new : Risi
   turn : new.turn ≡ old.turn
   shifts : new.shifts.items ≡ old.shifts.items
 
+-- a vertex has no mark, or has one
 cases_mark : (o : Option Mark) → (o ≡ None) ⊎ ((m : Mark) × (o ≡ Some m))
 cases_mark None = inl refl
 cases_mark (Some m) = inr (m, refl)
 
+-- a count at another vertex than the one that loses is as it was
 at-other : (z y : ℕ) (p : Bool) (n : ℕ) → z ≢ y → n ≡ n - cond (member z (y ∷ []) && p) 1 0
 at-other z y p n ne = let e : eqb z y ≡ false = ne_eqb z y ne in grind (arith, e)
 
+-- a count at the vertex that loses is less by one where it loses
 at-here : (z y : ℕ) (p : Bool) (n' n : ℕ) → z ≡ y → n' ≡ n - cond p 1 0 → n' ≡ n - cond (member z (y ∷ []) && p) 1 0
 at-here z y p n' n is e = let k : eqb z y ≡ true = eq-eqb z y is in grind (arith, k, e)
 
+-- from a count of zero nothing is lost
 nothing-less : (n : ℕ) (b : Bool) → n ≡ 0 → n ≡ n - cond b 1 0
 nothing-less n b e = omega (arith, e)
 
--- what a mark keeps and loses
+-- a mark that loses keeps its turn
 kept-turn : (loss : Loss) (m : Mark) → (taken_from loss m).turn ≡ m.turn
 kept-turn Settled m = refl
 kept-turn (Evicted turn) m =
     elim (m.is_candidate && ltb m.turn turn) as
     (λ b. (cond b (record m { later = m.later - 1 }) (record m { earlier = m.earlier - 1 })).turn ≡ m.turn) [ true ↦ refl | false ↦ refl ]
 
+-- a mark that loses stays a candidate, or stays none
 kept-candidate : (loss : Loss) (m : Mark) → (taken_from loss m).is_candidate ≡ m.is_candidate
 kept-candidate Settled m = refl
 kept-candidate (Evicted turn) m =
@@ -103,6 +114,7 @@ kept-candidate (Evicted turn) m =
     (λ b. (cond b (record m { later = m.later - 1 }) (record m { earlier = m.earlier - 1 })).is_candidate ≡ m.is_candidate)
     [ true ↦ refl | false ↦ refl ]
 
+-- a mark that loses stays weak, or stays strong, until it is counted again
 kept-weak : (loss : Loss) (m : Mark) → (taken_from loss m).is_weak ≡ m.is_weak
 kept-weak Settled m = refl
 kept-weak (Evicted turn) m =
@@ -110,6 +122,7 @@ kept-weak (Evicted turn) m =
     (λ b. (cond b (record m { later = m.later - 1 }) (record m { earlier = m.earlier - 1 })).is_weak ≡ m.is_weak)
     [ true ↦ refl | false ↦ refl ]
 
+-- the earlier count of a mark that loses is less by one where it loses an earlier one
 taken-earlier : (loss : Loss) (r : Rising) (y : ℕ) (m : Mark) → mark_of r.marks y ≡ Some m
     → (taken_from loss m).earlier ≡ m.earlier - cond (loses_earlier loss r y) 1 0
 taken-earlier Settled r y m is = omega arith
@@ -119,6 +132,7 @@ taken-earlier (Evicted turn) r y m is =
     (λ b. (cond b (record m { later = m.later - 1 }) (record m { earlier = m.earlier - 1 })).earlier ≡ m.earlier - cond (not b) 1 0)
     [ true ↦ omega arith | false ↦ refl ])
 
+-- the later count of a mark that loses is less by one where it loses a later one
 taken-later : (loss : Loss) (r : Rising) (y : ℕ) (m : Mark) → mark_of r.marks y ≡ Some m → (taken_from loss m).later ≡ m.later - cond (loses_later loss r y) 1 0
 taken-later Settled r y m is = rw is refl
 taken-later (Evicted turn) r y m is =
@@ -127,19 +141,24 @@ taken-later (Evicted turn) r y m is =
     (λ b. (cond b (record m { later = m.later - 1 }) (record m { earlier = m.earlier - 1 })).later ≡ m.later - cond b 1 0)
     [ true ↦ refl | false ↦ omega arith ])
 
+-- the list of the weak grows by the vertex that is found weak now and was not before
 grown-found : (w c : Bool) (y : ℕ) (xs : List ℕ) → grown w (w || c) y xs ≡ cond (not w && c) (xs ++ y ∷ []) xs
 grown-found true c y xs = refl
 grown-found false c y xs = refl
 
+-- whoever is weak now was so before or is found so now
 found-weak : (w c : Bool) → (w || c) ≡ (w || (not w && c))
 found-weak w c = grind arith
 
+-- whoever is found weak is a candidate, was not weak, and has counts up to the level
 found-yes : (w c : Bool) (a b : ℕ) → (not w && (c && leb a b)) ≡ true → (c ≡ true) × (w ≡ false) × (a ≤ b)
 found-yes w c a b h = (grind arith, grind arith, grind arith)
 
+-- a candidate that was not weak and is not found so has counts above the level
 found-no : (w c : Bool) (a b : ℕ) → (not w && (c && leb a b)) ≡ false → c ≡ true → w ≡ false → b < a
 found-no w c a b h hc hw = grind arith
 
+-- a vertex without a mark loses nothing
 lost-unmarked : (level : ℕ) (loss : Loss) (y : ℕ) (old : Rising) → mark_of old.marks y ≡ None → Lost level loss y false old old
 lost-unmarked level loss y old none = record {
   queued = λ z. refl;
@@ -167,6 +186,7 @@ lost-unmarked level loss y old none = record {
   shifts = refl;
 }
 
+-- a vertex with a mark loses, and is found weak where its counts are then up to the level
 lost-marked : (level : ℕ) (loss : Loss) (y : ℕ) (m : Mark) (old new : Rising) → mark_of old.marks y ≡ Some m → Recounts level y (taken_from loss m) old new
     → Lost level loss y (not m.is_weak && (m.is_candidate && leb ((taken_from loss m).earlier + (taken_from loss m).later) level)) old new
 lost-marked level loss y m old new is r =
@@ -248,29 +268,34 @@ lost-marked level loss y m old new is r =
       shifts = r.shifts;
     }
 
+-- a vertex loses, and is found weak or not, whether it has a mark or none
 lost : (level : ℕ) (loss : Loss) (y : ℕ) (old new : Rising) → LosesOne level loss y old new → (found : Bool) × Lost level loss y found old new
 lost level loss y old new l = elim (cases_mark (mark_of old.marks y)) [
   | inl none ↦ (false, subst (Lost level loss y false old) (sym (l.unmarked none)) (lost-unmarked level loss y old none))
   | inr some ↦ (_, lost-marked level loss y some.0 old new some.1 (l.marked some.0 some.1))
 ]
 
--- the list of the weak, where one was found or not
+-- whoever is on the list of the weak was there before, or is the one found now
 grown-cases : (found : Bool) (y z : ℕ) (xs ys : List ℕ) → ys ≡ cond found (xs ++ y ∷ []) xs → member z ys ≡ true
     → (member z xs ≡ true) ⊎ ((z ≡ y) × (found ≡ true))
 grown-cases true y z xs ys e m = elim (member-push_cases z y xs (sym (ap (member z) e) ∙ m)) [ inl k ↦ inl k | inr q ↦ inr (q, refl) ]
 grown-cases false y z xs ys e m = inl (sym (ap (member z) e) ∙ m)
 
+-- a truth or `false` is that truth
 no-more : (b : Bool) → (b || false) ≡ b
 no-more b = grind arith
 
+-- the vertex is on the list of the weak where it was before or is found now
 grown-here : (found : Bool) (y : ℕ) (xs ys : List ℕ) → ys ≡ cond found (xs ++ y ∷ []) xs → member y ys ≡ (member y xs || found)
 grown-here true y xs ys e = ap (member y) e ∙ (member-push y y xs ∙ ap (λ b. member y xs || b) (eq-eqb y y refl))
 grown-here false y xs ys e = ap (member y) e ∙ sym (no-more (member y xs))
 
+-- the list of the weak keeps those it had, and has some behind them
 grown-more : (found : Bool) (y : ℕ) (xs ys : List ℕ) → ys ≡ cond found (xs ++ y ∷ []) xs → (more : List ℕ) × (ys ≡ xs ++ more)
 grown-more true y xs ys e = (y ∷ [], e)
 grown-more false y xs ys e = ([], e ∙ sym (append-nil xs))
 
+-- the list of the weak stays distinct where the one that is found was not on it
 grown-distinct : (found : Bool) (y : ℕ) (xs ys : List ℕ) → ys ≡ cond found (xs ++ y ∷ []) xs → Distinct xs → (found ≡ true → member y xs ≡ false) → Distinct ys
 grown-distinct true y xs ys e d out = subst Distinct (sym e) (Distinct-push xs y d (out refl))
 grown-distinct false y xs ys e d out = subst Distinct (sym e) d
@@ -304,6 +329,7 @@ loses-one level loss y old new o l =
       shifts = k.shifts;
     }
 
+-- one neighbour's loss keeps queue and marks orderly
 pub lose-orderly : (level : ℕ) (loss : Loss) (y : ℕ) (old new : Rising) → IsOrderly old → LosesOne level loss y old new → IsOrderly new
 lose-orderly level loss y old new o l =
     let (found, k) = lost level loss y old new l in
@@ -358,20 +384,24 @@ loses-none level loss r = record {
   shifts = refl;
 }
 
+-- whether a vertex loses a later neighbour depends on its turn and its being a candidate alone
 same-loses_later : (loss : Loss) (old new : Rising) (z : ℕ) → is_candidate new z ≡ is_candidate old z → turn_at new z ≡ turn_at old z
     → loses_later loss new z ≡ loses_later loss old z
 same-loses_later Settled old new z c t = c
 same-loses_later (Evicted turn) old new z c t = ap (λ b. b && ltb (turn_at new z) turn) c ∙ ap (λ n. is_candidate old z && ltb n turn) t
 
+-- whether a vertex loses an earlier neighbour depends on its turn and its being a candidate alone
 same-loses_earlier : (loss : Loss) (old new : Rising) (z : ℕ) → is_candidate new z ≡ is_candidate old z → turn_at new z ≡ turn_at old z
     → loses_earlier loss new z ≡ loses_earlier loss old z
 same-loses_earlier Settled old new z c t = refl
 same-loses_earlier (Evicted turn) old new z c t = ap not (ap (λ b. b && ltb (turn_at new z) turn) c ∙ ap (λ n. is_candidate old z && ltb n turn) t)
 
+-- a count after the losses to some neighbours and then to one more
 loses_more : (c b a : ℕ) (mx m e n n' : Bool) → b ≡ a - cond (m && n) 1 0 → c ≡ b - cond ((e || false) && n') 1 0 → n' ≡ n → mx ≡ (m || e)
     → (e ≡ true → m ≡ false) → c ≡ a - cond (mx && n) 1 0
 loses_more c b a mx m e n n' h k same q apart = grind arith
 
+-- the count of a vertex that is not the one that loses stays
 kept_one : (c b : ℕ) (e n : Bool) → c ≡ b - cond ((e || false) && n) 1 0 → e ≡ false → c ≡ b
 kept_one c b e n h k = grind arith
 

@@ -22,10 +22,11 @@ use Rattle.kc_insert.specs.declared.rising.Rising.{Rising}
 use Rattle.kc_insert.proofs.Queues.{Ascends-at, inserted-has, inserted-once, inserted-front, inserted-ascends}
 use Rattle.kc_insert.proofs.Tidy.{tidy-rising}
 
+-- a number that is not less than another is at least that
 not_less : (a b : ℕ) → ltb a b ≡ false → b ≤ a
 not_less a b h = grind arith
 
--- halving
+-- before any halving, the place is behind those that have left the queue
 pub place-first : (rank : ℕ → ℕ) (queue : List ℕ) (x turn high : ℕ) → turn ≤ length queue → high ≡ length queue
     → ((z : ℕ) → member z (take turn queue) ≡ true → rank z < rank x) → IsPlaceWithin rank queue x turn high
 place-first rank queue x turn high le e left_first = record {
@@ -37,6 +38,7 @@ place-first rank queue x turn high le e left_first = record {
   behind = λ k lk l. absurd (omega arith);
 }
 
+-- halving upwards: where the middle has the lesser rank, the place is behind it
 pub place-up : (rank : ℕ → ℕ) (queue : List ℕ) (x low high middle y : ℕ) → AscendsBy rank queue → IsPlaceWithin rank queue x low high
     → middle < length queue → y ≡ get_or queue middle 0 → true ≡ ltb (rank y) (rank x)
     → IsPlaceWithin rank queue x (middle + 1) high
@@ -50,6 +52,7 @@ place-up rank queue x low high middle y a p l at told = record {
   behind = p.behind;
 }
 
+-- halving downwards: where the middle does not have the lesser rank, the place is at most there
 pub place-down : (rank : ℕ → ℕ) (queue : List ℕ) (x low high middle y : ℕ) → AscendsBy rank queue → IsPlaceWithin rank queue x low high
     → middle < length queue → y ≡ get_or queue middle 0 → false ≡ ltb (rank y) (rank x)
     → IsPlaceWithin rank queue x low middle
@@ -73,12 +76,14 @@ passes-queue x old new o p z = elim (cases_Bool (is_queued old x)) [
   | inr n ↦ let q = p.queued n in ap (member z) q.3 ∙ inserted-has old.queue.items q.0 x z
 ]
 
+-- those that have left the queue stay where a vertex gets one candidate more before it
 pub passes-left : (x : ℕ) (old new : Rising) → IsOrderly old → Passes x old new → left new ≡ left old
 passes-left x old new o p = ap (λ n. take n new.queue.items) p.turn ∙ elim (cases_Bool (is_queued old x)) [
   | inl k ↦ ap (take old.turn) (p.kept k)
   | inr n ↦ let q = p.queued n in ap (take old.turn) q.3 ∙ inserted-front old.queue.items old.turn q.0 x q.1 o.turn_in
 ]
 
+-- the queue stays distinct, and does not get shorter, where a vertex gets one candidate more before it
 passes-once : (x : ℕ) (old new : Rising) → IsOrderly old → Passes x old new → Distinct new.queue.items × (length old.queue.items ≤ length new.queue.items)
 passes-once x old new o p = elim (cases_Bool (is_queued old x)) [
   | inl k ↦ (subst Distinct (sym (p.kept k)) o.once, let e : length new.queue.items ≡ length old.queue.items = ap length (p.kept k) in omega (arith, e))
@@ -90,20 +95,23 @@ passes-once x old new o p = elim (cases_Bool (is_queued old x)) [
       )
 ]
 
+-- a truth or what is false is that truth
 none_more : (m e : Bool) → e ≡ false → m ≡ (m || e)
 none_more m e h = grind arith
 
--- what was or-absorbs of `x` and of others stays but for its count
+-- one candidate more before a vertex changes no later count
 pub passes-later : (x : ℕ) (old new : Rising) → Passes x old new → (z : ℕ) → later_at new z ≡ later_at old z
 passes-later x old new p z =
     elim (cases_eq z x)
     [ inl e ↦ ap (later_at new) e ∙ (ap later_in p.marks.here ∙ ap (later_at old) (sym e)) | inr ne ↦ ap later_in (p.marks.others z ne) ]
 
+-- one candidate more before a vertex changes no turn
 pub passes-turns : (x : ℕ) (old new : Rising) → Passes x old new → (z : ℕ) → turn_at new z ≡ turn_at old z
 passes-turns x old new p z =
     elim (cases_eq z x)
     [ inl e ↦ ap (turn_at new) e ∙ (ap turn_in p.marks.here ∙ ap (turn_at old) (sym e)) | inr ne ↦ ap turn_in (p.marks.others z ne) ]
 
+-- one candidate more before a vertex changes no candidate
 pub passes-candidates : (x : ℕ) (old new : Rising) → Passes x old new → (z : ℕ) → is_candidate new z ≡ is_candidate old z
 passes-candidates x old new p z =
     elim (cases_eq z x) [
@@ -111,11 +119,13 @@ passes-candidates x old new p z =
       | inr ne ↦ ap candidate_in (p.marks.others z ne)
     ]
 
+-- one candidate more before a vertex changes no weak one
 pub passes-weak : (x : ℕ) (old new : Rising) → Passes x old new → (z : ℕ) → is_weak new z ≡ is_weak old z
 passes-weak x old new p z =
     elim (cases_eq z x)
     [ inl e ↦ ap (is_weak new) e ∙ (ap weak_in p.marks.here ∙ ap (is_weak old) (sym e)) | inr ne ↦ ap weak_in (p.marks.others z ne) ]
 
+-- one candidate more before a vertex keeps queue and marks orderly
 pub passes-orderly : (x : ℕ) (old new : Rising) → IsOrderly old → Passes x old new → IsOrderly new
 passes-orderly x old new o p =
     let stay : left new ≡ left old = passes-left x old new o p in
@@ -150,6 +160,7 @@ passes-orderly x old new o p =
       anchored = λ z m. ap (member z) stay ∙ o.anchored z (sym (ap (λ xs. member z (seconds xs)) p.shifts) ∙ m);
     }
 
+-- one candidate more before a vertex, whose core number was asked, keeps the search tidy
 pub passes-tidy : (update : Update) (shown : Shown) (x : ℕ) (old new : Rising) → IsTidyRising update shown old → Passes x old new
     → x < shown.size → has_core shown.kept x ≡ true → IsTidyRising update shown new
 passes-tidy update shown x old new t p l placed =
@@ -161,7 +172,7 @@ passes-tidy update shown x old new t p l placed =
     ])
     (λ z m. inl (sym (ap (member z) (passes-left x old new t.orderly p)) ∙ m))
 
--- nobody yet
+-- where nobody got a candidate more before it, nothing has changed
 pub passed-none : (r : Rising) → PassedOn [] r r
 passed-none r = record {
   earlier = λ z _. omega arith;
@@ -174,14 +185,16 @@ passed-none r = record {
   shifts = refl;
 }
 
+-- the earlier count after some got a candidate more before them, and then one more did
 one_more : (c b a : ℕ) (mx m e : Bool) → (m ≡ true → a < 2 ^ 64 - 1) → b ≡ a + cond m 1 0 → c ≡ cond e (min (b + 1) (2 ^ 64 - 1)) b
     → mx ≡ (m || e) → (e ≡ true → m ≡ false) → (mx ≡ true → a < 2 ^ 64 - 1) → c ≡ a + cond mx 1 0
 one_more c b a mx m e few h k q apart small = grind (arith, h, k, q, apart, small)
 
+-- who is queued after some were, and then one more was
 queued_more : (c b a mx m e : Bool) → b ≡ (a || m) → c ≡ (b || e) → mx ≡ (m || e) → c ≡ (a || mx)
 queued_more c b a mx m e h k q = grind arith
 
--- one more
+-- after some got a candidate more before them, one more does
 pub passed-more : (x : ℕ) (xs : List ℕ) (old mid new : Rising) → IsOrderly mid → PassedOn xs old mid → Passes x mid new
     → member x xs ≡ false → PassedOn (xs ++ x ∷ []) old new
 passed-more x xs old mid new o d p late =

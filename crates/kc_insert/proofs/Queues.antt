@@ -17,22 +17,27 @@ Ascends-at r (x ∷ xs) i zero a lt l = absurd (omega arith)
 Ascends-at r (x ∷ xs) zero (suc j) a lt l = a.0 (get_or xs j 0) (member-get_or xs j 0 (omega arith))
 Ascends-at r (x ∷ xs) (suc i) (suc j) a lt l = Ascends-at r xs i j a.1 (omega arith) (omega arith)
 
+-- what stands behind the first `n` of a list in order is in order
 pub Ascends-drop : (r : ℕ → ℕ) (n : ℕ) (xs : List ℕ) → AscendsBy r xs → AscendsBy r (drop n xs)
 Ascends-drop r zero xs a = a
 Ascends-drop r (suc n) [] a = a
 Ascends-drop r (suc n) (x ∷ xs) a = Ascends-drop r n xs a.1
 
+-- of two truths either may be said first
 or_comm : (a b : Bool) → (a || b) ≡ (b || a)
 or_comm a b = grind arith
 
+-- with a number put in, a list has that number and those that it had
 pub inserted-has : (xs : List ℕ) (i y z : ℕ) → member z (insert xs i y) ≡ (member z xs || eqb z y)
 inserted-has xs zero y z = or_comm (eqb z y) (member z xs)
 inserted-has [] (suc i) y z = or_comm (eqb z y) false
 inserted-has (x ∷ xs) (suc i) y z = ap (λ b. eqb z x || b) (inserted-has xs i y z) ∙ sym (or_assoc (eqb z x) (member z xs) (eqb z y))
 
+-- where two truths fail, neither holds
 other : (a e : Bool) → a ≡ false → e ≡ false → (a || e) ≡ false
 other a e h k = grind arith
 
+-- a list with distinct items still has such with a new number put in
 pub inserted-once : (xs : List ℕ) (i y : ℕ) → Distinct xs → member y xs ≡ false → Distinct (insert xs i y)
 inserted-once xs zero y d out = (out, d)
 inserted-once [] (suc i) y d out = (out, d)
@@ -48,6 +53,7 @@ inserted-front [] (suc n) i y le l = absurd (omega arith)
 inserted-front (x ∷ xs) (suc n) zero y le l = absurd (omega arith)
 inserted-front (x ∷ xs) (suc n) (suc i) y le l = ap (λ ys. x ∷ ys) (inserted-front xs n i y (omega arith) (omega arith))
 
+-- a list in order stays so where a number is put in behind the lesser ranks and before the others
 pub inserted-ascends : (r : ℕ → ℕ) (xs : List ℕ) (i y : ℕ) → AscendsBy r xs → i ≤ length xs → ((k : ℕ) → k < i → r (get_or xs k 0) < r y)
     → ((k : ℕ) → i ≤ k → k < length xs → r y ≤ r (get_or xs k 0))
     → ((z : ℕ) → member z xs ≡ true → r z ≢ r y) → AscendsBy r (insert xs i y)
@@ -67,16 +73,19 @@ inserted-ascends r (x ∷ xs) (suc i) y a l before behind apart = (
       (λ z m. apart z (member-tail z x xs m)),
 )
 
+-- a truth and not `false` is that truth
 and-yes : (a : Bool) → a ≡ (a && not false)
 and-yes a = grind arith
 
+-- the first item is not among those behind the first `n` + 1
 gone : (e m t : Bool) → e ≡ true → ((e || m) && not (e || t)) ≡ false
 gone e m t h = grind arith
 
+-- another item is behind the first `n` + 1 where it is behind the first `n` of the rest
 passed : (e m t : Bool) → e ≡ false → ((e || m) && not (e || t)) ≡ (m && not t)
 passed e m t h = grind arith
 
--- what stands behind the first `n`
+-- what stands behind the first `n` of distinct items is what is in the list and not among these
 pub drop-has : (n z : ℕ) (xs : List ℕ) → Distinct xs → member z (drop n xs) ≡ (member z xs && not (member z (take n xs)))
 drop-has zero z xs d = and-yes (member z xs)
 drop-has (suc n) z [] d = refl

@@ -43,6 +43,7 @@ pub waiting-next : (w : ℕ) (mark : Mark) (old new : Rising) → Leaves w mark 
 waiting-next w mark old new l lt first = drop_more old.queue.items old.turn 0 lt ∙ (ap (λ y. y ∷ drop (old.turn + 1) old.queue.items) first
     ∙ ap (λ ys. w ∷ ys) (sym (ap (λ xs. drop new.turn xs) l.queue ∙ ap (λ n. drop n old.queue.items) l.turn)))
 
+-- a vertex that the search reaches from the root is on the level
 reached-level : (q : Search) (root x : ℕ) → Widened q root → Forward q root x → OnLevel q x
 reached-level q root x c at_root = record { here = c.root_here; level = c.root_level }
 reached-level q root x c (further y z r o a l) = o
@@ -67,22 +68,27 @@ stands-behind q root w frontier mark a old mid c o l lt first ahead' b y m =
           c.apart z y oz.here only.0.here k;
     }
 
+-- a count stays where nothing is added
 no_more : (n : ℕ) (t : Bool) → t ≡ false → n + cond t 1 0 ≡ n
 no_more n t e = grind arith
 
+-- a count is greater by one where the neighbour comes later
 some_one : (n m : ℕ) (h a f : Bool) → n ≡ m + cond h 1 0 → h ≡ (a && f) → n ≡ m + cond (a && f) 1 0
 some_one n m h a f e ha = grind arith
 
+-- nothing comes after itself
 not-after : (a : Bool) (k : ℕ) → (a && ltb k k) ≡ false
 not-after a k = grind arith
 
+-- who waits after some are queued: those that waited, and they
 in_rest : (c' c t' t h : Bool) → c' ≡ (c || h) → t' ≡ t → (t ≡ true → h ≡ false) → (c' && not t') ≡ ((c && not t) || h)
 in_rest c' c t' t h e f g = grind arith
 
--- the queue behind those that have left
+-- whoever waits is queued and has not left
 waits : (r : Rising) → IsOrderly r → (z : ℕ) → member z (waiting r) ≡ (member z r.queue.items && not (member z (left r)))
 waits r o z = drop-has r.turn z r.queue.items o.once
 
+-- the first of those that wait becomes a candidate, and the search is between two turns again
 pub raised-now : (q : Search) (root w : ℕ) (mark : Mark) (a : Ahead) (old mid new : Rising) → Widened q root → IsOrderly old → IsOrderly mid
     → IsOrderly new → Leaves w mark old mid → mark.is_candidate ≡ true → mark.earlier ≡ earlier_at old w → mark.later ≡ a.count
     → PassedOn a.next.items mid new → old.turn < length old.queue.items → get_or old.queue.items old.turn 0 ≡ w

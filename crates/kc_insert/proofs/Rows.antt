@@ -11,6 +11,7 @@ use Rattle.kc_view.specs.Answers.{Answers, Agrees, has_list, list_of}
 use Rattle.kc_view.proofs.Keeping.{list-true}
 use Rattle.kc_insert.specs.Added.{is_added}
 
+-- the two ends of an update differ
 ends-differ : (update : Update) → update.u ≢ update.v
 ends-differ update e = let l : update.u < update.v = update.ordered in absurd (omega (arith, e))
 

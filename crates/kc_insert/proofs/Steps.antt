@@ -14,6 +14,7 @@ use Rattle.kc_view.proofs.Among.{among-agree, among-one, among-some, among-sum}
 use Rattle.kc_insert.specs.Searching.{ahead, coming, holding, behind, Widened, Searching, AllStrong, WeakListed, Adds, Drops, Raised, Settled}
 use Rattle.kc_insert.specs.Searching.{Evicted, Relisted}
 
+-- a neighbour is ahead of a vertex of the level exactly where it stands later
 ahead-later-at : (s : Search) (root : ℕ) → Widened s root → (z : ℕ) → OnLevel s z → (y : ℕ) → y < s.size
     → (s.core z < s.core y → s.rank z < s.rank y) → (s.core y < s.core z → s.rank y < s.rank z)
     → (above s y || (on_level s y && after s z y)) ≡ after s z y
@@ -24,12 +25,15 @@ pub ahead-later : (s : Search) (root : ℕ) → Widened s root → (z : ℕ) →
 ahead-later s root c z o = among-agree s z (λ y. above s y || (on_level s y && after s z y)) (after s z)
     (λ y l a. ahead-later-at s root c z o y l (c.rising z y o.here l) (c.rising y z l o.here))
 
+-- what is in a list of one item is that item
 only : (x y : ℕ) → member x (y ∷ []) ≡ true → x ≡ y
 only x y m = elim (member-cases x y [] m) [ inl e ↦ e | inr n ↦ absurd (false≢true n) ]
 
+-- a truth and `false` is false
 and-no : (a : Bool) → (a && false) ≡ false
 and-no a = grind arith
 
+-- with no candidates none comes before a vertex
 no_candidates : (s : Search) (x : ℕ) → coming s [] x ≡ 0
 no_candidates s x = count-none (λ y. s.adj x y && (member y [] && after s y x)) (below s.size) (λ y _. and-no (s.adj x y))
 
@@ -58,13 +62,15 @@ start s root c earlier later none = record {
   others_kept = λ y z ly lz ny nz l. l;
 }
 
--- what the tests at one vertex come to
+-- the test whether `y` is a candidate before `z`
 abbrev pub coming_at : Search → List ℕ → ℕ → ℕ → Bool
 coming_at s cands z y = member y cands && after s y z
 
+-- the test whether `y` is higher than the level, or later and a candidate or not passed
 abbrev pub holding_at : Search → List ℕ → ℕ → ℕ → ℕ → Bool
 holding_at s cands frontier z y = above s y || (on_level s y && (after s z y && (member y cands || leb frontier (s.rank y))))
 
+-- the test whether `y` stands behind `z` if all candidates rise
 abbrev pub behind_at : Search → List ℕ → (ℕ → ℕ) → ℕ → ℕ → Bool
 behind_at s cands place z y = above s y || (on_level s y && (member y cands || ltb (place z) (place y)))
 
@@ -89,10 +95,12 @@ head_level : (s : Search) (root : ℕ) (cands queue : List ℕ) (w frontier : �
     → Searching s root cands (w ∷ queue) frontier earlier later place → OnLevel s w
 head_level s root cands queue w frontier earlier later place h = h.queue_level w (member-head w queue)
 
+-- the first of the queue was not passed
 head_open : (s : Search) (root : ℕ) (cands queue : List ℕ) (w frontier : ℕ) (earlier later place : ℕ → ℕ)
     → Searching s root cands (w ∷ queue) frontier earlier later place → frontier ≤ s.rank w
 head_open s root cands queue w frontier earlier later place h = h.queue_open w (member-head w queue)
 
+-- the first of the queue is no candidate
 head_new : (s : Search) (root : ℕ) (cands queue : List ℕ) (w frontier : ℕ) (earlier later place : ℕ → ℕ)
     → Searching s root cands (w ∷ queue) frontier earlier later place → member w cands ≡ false
 head_new s root cands queue w frontier earlier later place h =
@@ -105,6 +113,7 @@ gap : (s : Search) (root : ℕ) (cands queue : List ℕ) (w frontier : ℕ) (ear
     → (x y : ℕ) → member x cands ≡ true → OnLevel s y → s.adj x y ≡ true → frontier ≤ s.rank y → y ≢ w → s.rank w < s.rank y
 gap s root cands queue w frontier earlier later place h x y m o a open' ne = h.queue_ascends.0 y (member-other y w queue ne (h.queued x y m o a open'))
 
+-- two vertices of the level, one open and one no candidate, keep the order of their ranks
 pub skipped_at : (s : Search) (root : ℕ) (cands queue : List ℕ) (frontier : ℕ) (earlier later place : ℕ → ℕ) → Widened s root
     → Searching s root cands queue frontier earlier later place
     → (z y : ℕ) → OnLevel s z → OnLevel s y → frontier ≤ s.rank z → member y cands ≡ false → ltb (place z) (place y) ≡ ltb (s.rank z) (s.rank y)
@@ -139,6 +148,7 @@ skipped s root cands queue w frontier earlier later place c h z o open' lt =
       | inr ne ↦ grind (arith, ne)
     ])
 
+-- the test of `holding` is the same with the frontier raised past a vertex that is a candidate
 holding-raised_at : (a l lt m' m : Bool) (rw' f ry : ℕ) → m' ≡ m → (f ≤ ry → rw' < ry) → f ≤ rw'
     → (a || (l && (lt && (m' || leb (rw' + 1) ry)))) ≡ (a || (l && (lt && (m || leb f ry))))
 holding-raised_at a l lt m' m rw' f ry same up open' = grind arith
@@ -229,6 +239,7 @@ root_still s root cands queue w frontier earlier later place h le =
     let ne : root ≢ w = λ e. let k : s.rank root ≡ s.rank w = ap s.rank e in absurd (omega arith) in
     member-other root w queue ne (h.root_queued (omega arith))
 
+-- whoever stands at a rank does not count as after it
 not_after : (a : Bool) (n : ℕ) → one_if (a && ltb n n) ≡ 0
 not_after a n = grind arith
 
@@ -475,12 +486,15 @@ pub settled : (s : Search) (cands : List ℕ) (frontier : ℕ) (earlier later pl
     → WeakListed s cands frontier earlier later place [] last → AllStrong s cands earlier later
 settled s cands frontier earlier later place last e = record { strong = λ x m. e.strong x m refl }
 
+-- a moved vertex is not before one that stands at or before its anchor
 odd-even : (a b : ℕ) → b ≤ a → ltb (a + a + 1) (b + b) ≡ false
 odd-even a b le = grind arith
 
+-- a moved vertex is before one that stands after its anchor
 odd-even_after : (a b : ℕ) → a < b → ltb (a + a + 1) (b + b) ≡ true
 odd-even_after a b lt = grind arith
 
+-- one that stands at or before the anchor is before the moved vertex
 even-odd : (a b : ℕ) → b ≤ a → ltb (b + b) (a + a + 1) ≡ true
 even-odd a b le = grind arith
 
@@ -510,6 +524,7 @@ holding-evicted s root cands cands' x frontier z c ox passed there drop =
           omega (arith, none, k)
     ]
 
+-- how the count of candidates before a vertex changes when a candidate is evicted
 coming-evicted : (s : Search) (root : ℕ) (cands cands' : List ℕ) (x z : ℕ) → Widened s root → OnLevel s x → member x cands ≡ true → Drops cands x cands'
     → coming s cands z ≡ coming s cands' z + one_if (s.adj x z && after s x z)
 coming-evicted s root cands cands' x z c ox there drop =
@@ -526,6 +541,7 @@ coming-evicted s root cands cands' x z c ox there drop =
           omega (arith, none, k)
     ]
 
+-- a candidate of the level counts for the evicted one before it or behind it, once
 weigh_at : (u l m m' q : Bool) (rx ry f : ℕ) → u ≡ false → l ≡ true → m ≡ true → m' ≡ true → ry ≢ rx
     → one_if (u || (l && (m' || q))) ≡ one_if (m && ltb ry rx) + one_if (u || (l && (ltb rx ry && (m || leb f ry))))
 weigh_at u l m m' q rx ry f hu hl hm hm' ne = grind arith
@@ -579,6 +595,7 @@ behind-evicted s root cands queue frontier earlier later place evict x last c h 
           ]
     ])
 
+-- when a candidate is evicted, one that was left behind has the same behind it as before
 behind-kept : (s : Search) (root : ℕ) (cands queue : List ℕ) (frontier : ℕ) (earlier later place : ℕ → ℕ) (evict : List ℕ) (x last : ℕ)
     → Searching s root cands queue frontier earlier later place
     → WeakListed s cands frontier earlier later place (x ∷ evict) last → (cands' : List ℕ) → Drops cands x cands'

@@ -24,9 +24,11 @@ use Rattle.kc_insert.proofs.Holding.{plain-holds, rise-holds}
 use Rattle.kc_insert.proofs.Widening.{widened}
 use Rattle.kc_cert.proofs.FittingMoves.{plain_fits, rise_fits}
 
+-- an added edge is applied where it is not there yet
 pub applied-is : (update : Update) (g : SimpleGraph) → update.add ≡ true → is_applied update g ≡ not (adjacent g update.u update.v)
 applied-is update g e = ap (λ b. cond b (not (adjacent g update.u update.v)) (adjacent g update.u update.v)) e
 
+-- an added edge makes the graph with that edge
 pub updated-is : (update : Update) (g : SimpleGraph) → update.add ≡ true → updated update g ≡ with_edge g update.u update.v
 updated-is update g e = ap (λ (b : Bool). cond b (with_edge g update.u update.v) (without_edge g update.u update.v)) e
 
@@ -39,13 +41,13 @@ reached-forward update s level root x adds at is r =
     ∙ ap (λ (g : SimpleGraph). search_in g s (get_or s.core (root_of s update) 0)) (sym (updated-is update s.graph adds)) in
     subst (λ (q : Search). Forward q (root_of s update) x) here (subst (λ (n : ℕ). Forward (search_with update level s) n x) is r)
 
--- the edge is there already
+-- where the edge is there already, the plan that keeps all passes the local test and is sparing
 pub kept-sure : (update : Update) (used : Used) (s : Ranked) → update.add ≡ true → IsCertified s → update.v < s.graph.size
     → adjacent s.graph update.u update.v ≡ true
     → IsLocal s (record { update = update; used = used; moves = Kept }) × IsSparing s (record { update = update; used = used; moves = Kept })
 kept-sure update used s adds h l there = kept-is_sure update used s h l (applied-is update s.graph adds ∙ ap not there)
 
--- no vertex moves
+-- where no vertex moves, the plan that says so passes the local test and is sparing
 pub plain-sure : (update : Update) (used : Used) (s : Ranked) (level root frontier : ℕ) (earlier later : ℕ → ℕ) → update.add ≡ true
     → IsCertified s → update.v < s.graph.size → adjacent s.graph update.u update.v ≡ false
     → level ≡ min (get_or s.core update.u 0) (get_or s.core update.v 0) → root ≡ root_of s update
@@ -69,7 +71,7 @@ plain-sure update used s level root frontier earlier later adds h l new least is
       },
     )
 
--- some rise, or are shifted
+-- where some rise, or are shifted, the plan that says so passes the local test and is sparing
 pub rise-sure : (update : Update) (used : Used) (s : Ranked) (level root frontier : ℕ) (earlier later : ℕ → ℕ) (rise : Vec ℕ Global)
     (shifts : Vec (ℕ × ℕ) Global)
     → update.add ≡ true → IsCertified s → update.v < s.graph.size → adjacent s.graph update.u update.v ≡ false

@@ -22,7 +22,7 @@ use Rattle.kc_insert.specs.Turns.{Leaves}
 use Rattle.kc_insert.specs.declared.rising.Mark.{Mark}
 use Rattle.kc_insert.specs.declared.rising.Rising.{Rising}
 
--- a list more
+-- one list more, of the lesser end or a queued vertex, is one that may be asked
 pub asks-list : (update : Update) (a b : Answers) (queue : List ℕ) (y : ℕ) → AsksQueued update a queue → TellsList a b y
     → (y ≡ update.u) ⊎ (member y queue ≡ true) → AsksQueued update b queue
 asks-list update a b queue y asks tells near = elim (cases_Bool (has_list a y)) [
@@ -37,7 +37,7 @@ asks-list update a b queue y asks tells near = elim (cases_Bool (has_list a y)) 
       })
 ]
 
--- a core number more
+-- one core number more, of an end or a vertex on a list that was told, is one that may be asked
 pub asks-core : (update : Update) (a b : Answers) (queue : List ℕ) (y : ℕ) → AsksQueued update a queue → TellsCore a b y
     → (y ≡ update.u) ⊎ (y ≡ update.v) ⊎ (is_listed a y ≡ true) → AsksQueued update b queue
 asks-core update a b queue y asks tells near = elim (cases_Bool (has_core a y)) [
@@ -50,11 +50,11 @@ asks-core update a b queue y asks tells near = elim (cases_Bool (has_core a y)) 
       })
 ]
 
--- an order more
+-- one order more leaves the lists and core numbers that were asked
 pub asks-order : (update : Update) (a b : Answers) (queue : List ℕ) (o : UsedOrder) → AsksQueued update a queue → b ≡ with_order a o → AsksQueued update b queue
 asks-order update a b queue o asks eq = subst (λ (x : Answers). AsksQueued update x queue) (sym eq) (record { lists = asks.lists; cores = asks.cores })
 
--- more were queued
+-- where more are queued, what was asked is still asked of these
 pub asks-queued : (update : Update) (a : Answers) (queue queue' : List ℕ) → AsksQueued update a queue
     → ((x : ℕ) → member x queue ≡ true → member x queue' ≡ true) → AsksQueued update a queue'
 asks-queued update a queue queue' asks grows = record {
@@ -97,6 +97,7 @@ queue-fits update shown r t = below_bound shown.size r.queue.items t.orderly.onc
 pub left-queued : (r : Rising) (z : ℕ) → member z (left r) ≡ true → member z r.queue.items ≡ true
 left-queued r z m = take-member r.turn r.queue.items z m
 
+-- no more are weak than there are vertices
 pub weak-fits : (update : Update) (shown : Shown) (r : Rising) → IsTidyRising update shown r → length r.weak.items ≤ shown.size
 weak-fits update shown r t = below_bound shown.size r.weak.items t.orderly.weak_once (λ x m. t.within x (left-queued r x (t.orderly.weak_left x m)))
 
@@ -111,6 +112,7 @@ left-more w mark old new l lt first =
 pub first-not_left : (w : ℕ) (r : Rising) → IsOrderly r → r.turn < length r.queue.items → get_or r.queue.items r.turn 0 ≡ w → member w (left r) ≡ false
 first-not_left w r o lt first = subst (λ (y : ℕ). member y (left r) ≡ false) first (take-not_here r.turn r.queue.items lt o.once)
 
+-- where the first of those that wait leaves, queue and marks stay orderly
 pub leave-orderly : (w : ℕ) (mark : Mark) (old new : Rising) → IsOrderly old → Leaves w mark old new → old.turn < length old.queue.items
     → get_or old.queue.items old.turn 0 ≡ w
     → (mark.is_candidate ≡ true → mark.turn ≡ old.turn) → mark.is_weak ≡ false → IsOrderly new
@@ -154,7 +156,7 @@ leave-orderly w mark old new o l lt first turn none =
       anchored = λ z m. grows z (o.anchored z (sym (ap (λ xs. member z (seconds xs)) l.shifts) ∙ m));
     }
 
--- so that it is still tidy
+-- where the first of those that wait leaves and its list was read, the search stays tidy
 pub leave-tidy : (update : Update) (shown : Shown) (w : ℕ) (mark : Mark) (old new : Rising) → IsTidyRising update shown old
     → Leaves w mark old new → old.turn < length old.queue.items → get_or old.queue.items old.turn 0 ≡ w
     → (mark.is_candidate ≡ true → mark.turn ≡ old.turn) → mark.is_weak ≡ false → has_list shown.kept w ≡ true → IsTidyRising update shown new

@@ -14,11 +14,12 @@ use Rattle.kc_insert.specs.Searching.{ahead, coming, holding, behind, Widened, S
 use Rattle.kc_insert.specs.Searching.{Shifts, BetweenTurns, InSettling}
 use Rattle.kc_insert.proofs.Steps.{start, raise, settle, pass, settled, evict_one, coming_at, holding_at, behind_at}
 
--- one shift more
+-- the order after one shift more
 place_after-push : (r : ℕ → ℕ) (shifts : List (ℕ × ℕ)) (x w : ℕ) → place_after r (shifts ++ (x, w) ∷ []) ≡ moved (place_after r shifts) x w
 place_after-push r [] x w = refl
 place_after-push r (p ∷ shifts) x w = place_after-push (moved r p.0 p.1) shifts x w
 
+-- shifts stay in turn with one more behind, whose vertex was no anchor before
 AreInTurn-push : (shifts : List (ℕ × ℕ)) (x w : ℕ) → AreInTurn shifts → w ≢ x → member x (seconds shifts) ≡ false → AreInTurn (shifts ++ (x, w) ∷ [])
 AreInTurn-push [] x w t ne n = (not_member-cons w x [] ne refl, tt)
 AreInTurn-push (p ∷ shifts) x w t ne n =
@@ -42,6 +43,7 @@ Shifts-raise s cands cands' frontier w shifts open' add f = record {
   second_done = λ x m. add.others x (λ e. let k : s.rank x ≡ s.rank w = ap s.rank e in absurd (omega (arith, f.second_passed x m))) ∙ f.second_done x m;
 }
 
+-- the shifts stay fit where the frontier goes on
 Shifts-leave : (s : Search) (cands : List ℕ) (frontier frontier' : ℕ) (shifts : List (ℕ × ℕ)) → frontier ≤ frontier'
     → Shifts s cands frontier shifts → Shifts s cands frontier' shifts
 Shifts-leave s cands frontier frontier' shifts le f = record {
@@ -55,6 +57,7 @@ Shifts-leave s cands frontier frontier' shifts le f = record {
   second_done = f.second_done;
 }
 
+-- the shifts stay fit with that of an evicted candidate behind them
 Shifts-evict : (s : Search) (cands cands' : List ℕ) (frontier x last : ℕ) (shifts : List (ℕ × ℕ)) → OnLevel s x → s.rank x < frontier
     → member x cands ≡ true → Drops cands x cands'
     → OnLevel s last → s.rank last < frontier → member last cands ≡ false → Shifts s cands frontier shifts → Shifts s cands' frontier (shifts ++ (x, last) ∷ [])
@@ -172,18 +175,21 @@ turn_settled s root cands queue frontier earlier later shifts last b = record {
 coming-list : (s : Search) (cands cands' : List ℕ) → ((y : ℕ) → member y cands' ≡ member y cands) → (x : ℕ) → coming s cands x ≡ coming s cands' x
 coming-list s cands cands' same x = among-agree s x (coming_at s cands x) (coming_at s cands' x) (λ y l a. ap (λ b. b && after s y x) (sym (same y)))
 
+-- later neighbours that count are the same for the same candidates in another list
 holding-list : (s : Search) (cands cands' : List ℕ) → ((y : ℕ) → member y cands' ≡ member y cands) → (frontier x : ℕ)
     → holding s cands frontier x ≡ holding s cands' frontier x
 holding-list s cands cands' same frontier x =
     among-agree s x (holding_at s cands frontier x) (holding_at s cands' frontier x)
     (λ y l a. ap (λ b. above s y || (on_level s y && (after s x y && (b || leb frontier (s.rank y))))) (sym (same y)))
 
+-- neighbours behind are the same for the same candidates in another list
 behind-list : (s : Search) (cands cands' : List ℕ) → ((y : ℕ) → member y cands' ≡ member y cands) → (place : ℕ → ℕ) (z : ℕ)
     → behind s cands' place z ≡ behind s cands place z
 behind-list s cands cands' same place z =
     among-agree s z (behind_at s cands' place z) (behind_at s cands place z)
     (λ y l a. ap (λ b. above s y || (on_level s y && (b || ltb (place z) (place y)))) (same y))
 
+-- the search is the same with the same counts, and the same candidates in another list
 Searching-list : (s : Search) (root : ℕ) (cands queue : List ℕ) (frontier : ℕ) (earlier later place : ℕ → ℕ)
     → Searching s root cands queue frontier earlier later place
     → (cands' : List ℕ) (earlier' later' : ℕ → ℕ) → ((y : ℕ) → member y cands' ≡ member y cands) → ((y : ℕ) → earlier' y ≡ earlier y)
@@ -208,6 +214,7 @@ Searching-list s root cands queue frontier earlier later place h cands' earlier'
   others_kept = h.others_kept;
 }
 
+-- the shifts fit the same candidates in another list
 Shifts-list : (s : Search) (cands cands' : List ℕ) (frontier : ℕ) (shifts : List (ℕ × ℕ)) → ((y : ℕ) → member y cands' ≡ member y cands)
     → Shifts s cands frontier shifts → Shifts s cands' frontier shifts
 Shifts-list s cands cands' frontier shifts same f = record {

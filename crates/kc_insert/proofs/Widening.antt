@@ -22,19 +22,24 @@ use Rattle.kc_view.proofs.Among.{at_most_one}
 use Rattle.kc_insert.specs.Added.{search_with}
 use Rattle.kc_insert.specs.Searching.{Widened}
 
+-- the new edge gives no later neighbour to a vertex that is not the root
 later_same : (a' a zr yo zo yr : Bool) (rz ry : ℕ) → a' ≡ (a || ((zr && yo) || (zo && yr))) → zr ≡ false → (zo ≡ true → yr ≡ true → ry < rz)
     → (a' && ltb rz ry) ≡ (a && ltb rz ry)
 later_same a' a zr yo zo yr rz ry e n back = grind arith
 
+-- the new edge gives the root no neighbour but the other end
 root_same : (a' a rr yo ro yr l : Bool) → a' ≡ (a || ((rr && yo) || (ro && yr))) → yo ≡ false → ro ≡ false → (a' && l) ≡ (a && l)
 root_same a' a rr yo ro yr l e n r = grind arith
 
+-- neighbours stay where an edge is added
 still : (a' a x l : Bool) → a' ≡ (a || x) → (a && l) ≡ true → (a' && l) ≡ true
 still a' a x l e t = grind arith
 
+-- the other end was no neighbour before
 new_one : (a l : Bool) → a ≡ false → (a && l) ≡ false
 new_one a l e = grind arith
 
+-- which end is named first makes no difference
 turned : (a b c d : Bool) → ((a && b) || (c && d)) ≡ ((c && d) || (a && b))
 turned a b c d = grind arith
 
@@ -92,19 +97,23 @@ module _ (s : Ranked) (u v root other level : ℕ) (h : IsCertified s) (lr : roo
             omega (arith, more, enough-below s.graph s.core s.order h z l);
       }
 
--- which end the root is
+-- where the first end has the lesser core number it is the root
 root-lesser : (a b p q u v : ℕ) → a < b → cond (ltb a b) u (cond (ltb b a) v (cond (ltb p q) u v)) ≡ u
 root-lesser a b p q u v l = grind arith
 
+-- where the second end has the lesser core number it is the root
 root-greater : (a b p q u v : ℕ) → b < a → cond (ltb a b) u (cond (ltb b a) v (cond (ltb p q) u v)) ≡ v
 root-greater a b p q u v l = grind arith
 
+-- of ends with one core number, the first is the root where it stands first
 root-first : (a b p q u v : ℕ) → a ≡ b → p < q → cond (ltb a b) u (cond (ltb b a) v (cond (ltb p q) u v)) ≡ u
 root-first a b p q u v e l = grind arith
 
+-- of ends with one core number, the second is the root where it stands first
 root-second : (a b p q u v : ℕ) → a ≡ b → q < p → cond (ltb a b) u (cond (ltb b a) v (cond (ltb p q) u v)) ≡ v
 root-second a b p q u v e l = grind arith
 
+-- a certified state, with the edge added, is one in which the search can begin
 pub widened : (update : Update) (s : Ranked) (level root : ℕ) → IsCertified s → update.v < s.graph.size → adjacent s.graph update.u update.v ≡ false
     → level ≡ min (get_or s.core update.u 0) (get_or s.core update.v 0) → root ≡ root_of s update → Widened (search_with update level s) root
 widened update s level root h l new least is =
