@@ -23,18 +23,23 @@ use Rattle.kc_graph.proofs.Ends.{joins, joins-true, joins-sym, joins-edge, edge-
 use Rattle.kc_graph.proofs.RowsLemmas.{contains-edges, size-graph_of, adjacent-graph_of, pair_total, pair_exact, same_pair, tied_pair}
 
 module _ (old new : List (List ℕ)) (u v : ℕ) (differ : u ≡ v → ⊥) (lu : u < length old) (lv : v < length old) (both : BothInserted old new u v) where
+  -- there are as many rows as before
   pub new-length : length new ≡ length old
   new-length = ap length both.rows ∙ length-set (set old u both.first) v both.second ∙ length-set old u both.first
 
+  -- the row of the second end is the one that was put there
   at-v : row new v ≡ both.second
   at-v = ap (λ t. row t v) both.rows ∙ row-set_same (set old u both.first) v both.second (omega (arith, length-set old u both.first))
 
+  -- the row of the first end is the one that was put there
   at-u : row new u ≡ both.first
   at-u = ap (λ t. row t u) both.rows ∙ row-set_other (set old u both.first) v u both.second differ ∙ row-set_same old u both.first lu
 
+  -- the row of a vertex that is no end is as before
   at-other : (a : ℕ) → (a ≡ u → ⊥) → (a ≡ v → ⊥) → row new a ≡ row old a
   at-other a nu nv = ap (λ t. row t a) both.rows ∙ row-set_other (set old u both.first) v a both.second nv ∙ row-set_other old u a both.first nu
 
+  -- a number is in a row where it was, and where the edge joins the two
   gained : (a b : ℕ) → member b (row new a) ≡ (member b (row old a) || joins u v a b)
   gained a b = elim (cases_eq a u) [
     | inl e ↦
@@ -51,6 +56,7 @@ module _ (old new : List (List ℕ)) (u v : ℕ) (differ : u ≡ v → ⊥) (lu 
     ]
   ]
 
+  -- the rows are still those of a graph
   pub adjacency : IsAdjacency old → IsAdjacency new
   adjacency h = record {
     ascends = λ a. elim (cases_eq a u) [
@@ -69,6 +75,7 @@ module _ (old new : List (List ℕ)) (u v : ℕ) (differ : u ≡ v → ⊥) (lu 
     symmetric = λ a b. gained a b ∙ ap₂ (λ s t. s || t) (h.symmetric a b) (joins-sym u v a b) ∙ sym (gained b a);
   }
 
+  -- the graph of the rows has the edge beside the others
   pub graph_of-added : graph_of new ≡ with_edge (graph_of old) u v
   graph_of-added =
       let edges : (graph_of new).edges ≡ insert (graph_of old).edges (edge u v) = same_set pair_total pair_exact _ _ (λ q.
@@ -89,6 +96,7 @@ module _ (old new : List (List ℕ)) (u v : ℕ) (differ : u ≡ v → ⊥) (lu 
       let size : (graph_of new).size ≡ (graph_of old).size = size-graph_of new ∙ new-length ∙ sym (size-graph_of old) in
       ap₂ (λ (n : ℕ) (e : FinSet pair_cmp). let g : SimpleGraph = record { size = n; edges = e } in g) size edges
 
+  -- there are two entries more in all rows
   pub sum-added : sum_by length new ≡ sum_by length old + 2
   sum-added =
       let mid : List (List ℕ) = set old u both.first in
@@ -98,12 +106,14 @@ module _ (old new : List (List ℕ)) (u v : ℕ) (differ : u ≡ v → ⊥) (lu 
       let c : length (row mid v) ≡ length (row old v) = ap length (row-set_other old u v both.first (λ e. differ (sym e))) in
       omega (arith, a, b, c, both.at_first.longer, both.at_second.longer, ap (sum_by length) both.rows)
 
+  -- there is one edge more, where the two were not adjacent
   pub len-added : IsAdjacency old → member v (row old u) ≡ false → len (graph_of new).edges ≡ len (graph_of old).edges + 1
   len-added h lacks =
       let absent : contains (graph_of old).edges (edge u v) ≡ false = contains-edge (graph_of old) u v differ ∙ adjacent-graph_of old h u v ∙ lacks in
       ap (λ (g : SimpleGraph). len g.edges) graph_of-added ∙ len-insert pair_total (graph_of old).edges (edge u v)
       ∙ ap (λ t. cond t (len (graph_of old).edges) (len (graph_of old).edges + 1)) absent
 
+-- rows without a neighbour have no entries
 pub sum-none : (n : ℕ) → sum_by (length {A = ℕ}) (replicate n []) ≡ 0
 sum-none n = sum_by-replicate (length {A = ℕ}) n [] ∙ omega arith
 
@@ -129,7 +139,7 @@ few_edges rows h small =
     let square : n * n ≤ n * 4294967295 = mul-le-mul_left n (omega arith) in
     omega (arith, most, square)
 
--- an edge that is there
+-- a graph that has an edge is the graph with that edge
 pub present : (g : SimpleGraph) (u v : ℕ) → (u ≡ v → ⊥) → adjacent g u v ≡ true → g ≡ with_edge g u v
 present g u v differ a =
     let there : contains g.edges (edge u v) ≡ true = contains-edge g u v differ ∙ a in

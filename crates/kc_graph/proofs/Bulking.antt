@@ -32,9 +32,11 @@ edge-is e a b two =
     (λ h. let k = edge-joins e.u e.v a b differ (same_pair (a, b) (edge e.u e.v) h) in and_from _ _ (lt-ltb a b k.0) k.1)
     (λ h. let k = and_parts (ltb a b) (joins e.u e.v a b) h in tied_pair (a, b) (edge e.u e.v) (joins-edge e.u e.v a b differ (ltb-true a b k.0) k.1))
 
+-- what both of two alternatives ask can be asked once
 and-or : (l a b : Bool) → ((l && a) || (l && b)) ≡ (l && (a || b))
 and-or l a b = grind arith
 
+-- a pair is one of the listed edges just where its lesser end comes first and a listed edge joins its ends
 listed : (edges : List Edge) (a b : ℕ)
     → list_any (eq_by_cmp pair_cmp (a, b)) (map (λ e. edge e.u e.v) (filter is_no_loop edges)) ≡ (ltb a b && are_joined edges a b)
 listed [] a b = both_ways _ _ (λ h. absurd (false≢true h)) (λ h. absurd (false≢true (and_parts (ltb a b) false h).1))
@@ -46,10 +48,12 @@ listed (e ∷ edges) a b =
       | false ↦ λ _. listed edges a b
     ] refl
 
+-- the graph of listed edges has a pair just where its lesser end comes first and a listed edge joins its ends
 pub contains-with : (vertices : ℕ) (edges : List Edge) (a b : ℕ) → contains (graph_with vertices edges).edges (a, b) ≡ (ltb a b && are_joined edges a b)
 unfolding graph_with
 contains-with vertices edges a b = contains-from_list pair_total (map (λ e. edge e.u e.v) (filter is_no_loop edges)) (a, b) ∙ listed edges a b
 
+-- the graph of listed edges has the vertices that it is given
 pub size-with : (vertices : ℕ) (edges : List Edge) → (graph_with vertices edges).size ≡ vertices
 unfolding graph_with
 size-with vertices edges = refl
@@ -58,20 +62,24 @@ size-with vertices edges = refl
 between-turned : (e : Edge) (v w : ℕ) → is_between v w e ≡ is_between w v e
 between-turned e v w = ap (λ t. is_no_loop e && t) (joins-sym e.u e.v v w)
 
+-- listed edges join two vertices in either order
 pub joined-turned : (edges : List Edge) (v w : ℕ) → are_joined edges v w ≡ are_joined edges w v
 joined-turned [] v w = refl
 joined-turned (e ∷ edges) v w = ap₂ (λ s t. s || t) (between-turned e v w) (joined-turned edges v w)
 
+-- no edge is between a vertex and itself
 between-itself : (e : Edge) (v : ℕ) → is_between v v e ≡ false
 between-itself e v = false_from_ne_true (is_between v v e) (λ h.
     let k = and_parts (is_no_loop e) (joins e.u e.v v v) h in
     let same : e.u ≡ e.v = elim (joins-true e.u e.v v v k.1) [ inl p ↦ sym p.0 ∙ p.1 | inr p ↦ sym p.1 ∙ p.0 ] in
     true≢false (sym k.0 ∙ ap not (eq-eqb e.u e.v same)))
 
+-- no listed edge joins a vertex to itself
 pub joined-itself : (edges : List Edge) (v : ℕ) → are_joined edges v v ≡ false
 joined-itself [] v = refl
 joined-itself (e ∷ edges) v = or_from _ _ (between-itself e v) (joined-itself edges v)
 
+-- in the graph of listed edges those are adjacent whom a listed edge joins
 pub adjacent-with_edges : (vertices : ℕ) (edges : List Edge) (v w : ℕ) → adjacent (graph_with vertices edges) v w ≡ are_joined edges v w
 adjacent-with_edges vertices edges v w = elim (cases_order v w) [
   | inl e ↦ ap (adjacent (graph_with vertices edges) v) (sym e)
@@ -95,6 +103,7 @@ joined-within vertices (e ∷ edges) v w all h = elim (or_cases (is_between v w 
 ]
 
 module _ (rows : List (List ℕ)) (edges : List Edge) (each : (v w : ℕ) → member w (row rows v) ≡ are_joined edges v w) where
+  -- ascending rows with those whom a listed edge joins are the rows of a graph
   pub adjacency-with : ((v : ℕ) → IsStrictlyIncreasing (row rows v)) → All (λ e. is_within (length rows) e ≡ true) edges → IsAdjacency rows
   adjacency-with ascends all = record {
     ascends = ascends;
@@ -103,6 +112,7 @@ module _ (rows : List (List ℕ)) (edges : List Edge) (each : (v w : ℕ) → me
     symmetric = λ v w. each v w ∙ (joined-turned edges v w ∙ sym (each w v));
   }
 
+  -- the graph of these rows is that of the listed edges
   pub graph_of-with : graph_of rows ≡ graph_with (length rows) edges
   graph_of-with =
       let same : (graph_of rows).edges ≡ (graph_with (length rows) edges).edges = same_set pair_total pair_exact _ _ (λ q.
@@ -121,12 +131,14 @@ pairs-edges vertices (p ∷ pairs) all =
     ap (λ (b : Bool). map (λ e. edge e.u e.v) (cond b (edge_of p ∷ filter is_no_loop (map edge_of pairs)) (filter is_no_loop (map edge_of pairs)))) two
     ∙ ap₂ (λ (q : ℕ × ℕ) (t : List (ℕ × ℕ)). q ∷ t) (ap (λ (b : Bool). cond b (p.0, p.1) (p.1, p.0)) (lt-ltb p.0 p.1 first.0)) rest
 
+-- the graph of pairs as listed edges has just the pairs as its edges
 pub pairs-graph : (vertices : ℕ) (pairs : List (ℕ × ℕ)) → All (λ p. (p.0 < p.1) × (p.1 < vertices)) pairs
     → graph_with vertices (map edge_of pairs) ≡ record { size = vertices; edges = from_list pairs }
 unfolding graph_with
 pairs-graph vertices pairs all =
     ap (λ (t : List (ℕ × ℕ)). let g : SimpleGraph = record { size = vertices; edges = from_list t } in g) (pairs-edges vertices pairs all)
 
+-- both ends of each pair as an edge are vertices
 pub pairs-within : (vertices : ℕ) (pairs : List (ℕ × ℕ)) → All (λ p. (p.0 < p.1) × (p.1 < vertices)) pairs
     → All (λ e. is_within vertices e ≡ true) (map edge_of pairs)
 pairs-within vertices pairs all =
@@ -138,10 +150,12 @@ module _ (rows : List (List ℕ)) (edges : List Edge) (ends block : List ℕ) (c
     (within : All (λ e. is_within (length ends) e ≡ true) edges)
     (filled : Filled (first_place edges) (ends_at edges) ends block)
     (same : (v w : ℕ) → v < length ends → member w (row rows v) ≡ member w (between (first_of ends v) (get_or ends v 0) block)) where
+  -- the part for a vertex begins where its ends begin
   begins : (v : ℕ) → v < length ends → first_of ends v ≡ first_place edges v
   begins zero l = refl
   begins (suc v) l = filled.next_place v (omega arith)
 
+  -- in the row of a vertex are those whom a listed edge joins to it
   pub gathered-each : (v w : ℕ) → member w (row rows v) ≡ are_joined edges v w
   gathered-each v w = elim (cases_lt v (length ends)) [
     | inl l ↦
@@ -159,5 +173,6 @@ pub ends-ordered : (edges : List Edge) (ends block : List ℕ) → Filled (first
 ends-ordered edges ends block f zero l = (omega (arith, f.next_place zero l), f.next_place zero l)
 ends-ordered edges ends block f (suc v) l = (omega (arith, f.next_place (suc v) l, f.next_place v (omega arith)), f.next_place (suc v) l)
 
+-- the ends at a vertex end no later than those of all vertices
 pub place-within_all : (edges : List Edge) (n v : ℕ) → v < n → first_place edges (suc v) ≤ first_place edges n
 place-within_all edges n v l = places-rise edges v n l

@@ -13,6 +13,7 @@ use Rattle.kc_distinct.proofs.Counting.{member-push, drop-not_take, take-not_her
 use Rattle.kc_graph.specs.Rows.{Deleted}
 use Rattle.kc_graph.proofs.RowsLemmas.{Distinct-from_increasing}
 
+-- to be in front or behind is to be in the whole list but not the number itself, where that stands in neither
 dropped : (a b e : Bool) → (e ≡ true → (a ≡ false) × (b ≡ false)) → (a || b) ≡ ((a || (e || b)) && not e)
 dropped true b true h = absurd (true≢false (h refl).0)
 dropped false true true h = absurd (true≢false (h refl).1)
@@ -22,10 +23,11 @@ dropped true false false h = refl
 dropped false true false h = refl
 dropped false false false h = refl
 
+-- a list is what stands before a place, what stands there, and what stands behind
 parts : (xs : List ℕ) (i : ℕ) → i < length xs → take i xs ++ get_or xs i 0 ∷ drop (suc i) xs ≡ xs
 parts xs i l = ap (λ (t : List ℕ). take i xs ++ t) (sym (drop-cons xs i 0 l)) ∙ take-append-drop i xs
 
--- what stands at a place stands at no other
+-- in a list of distinct numbers, what stands at a place stands neither before it nor behind it
 only_here : (xs : List ℕ) (i : ℕ) → i < length xs → Distinct xs
     → (member (get_or xs i 0) (take i xs) ≡ false) × (member (get_or xs i 0) (drop (suc i) xs) ≡ false)
 only_here xs i l d =
@@ -38,6 +40,7 @@ only_here xs i l d =
           (λ m. true≢false (sym (ap (λ n. member w (take n xs)) (sym next) ∙ early) ∙ drop-not_take (suc i) w xs d m)),
     )
 
+-- an ascending row with the number at a place removed is the row without that number
 pub deleted_at : (xs : List ℕ) (w i : ℕ) → IsStrictlyIncreasing xs → i < length xs → get_or xs i 0 ≡ w → Deleted xs (remove xs i) w
 deleted_at xs w i up l here = record {
   shorter = length-remove xs i l;

@@ -10,34 +10,42 @@ use Rattle.kc_graph.proofs.Ends.{joins, joins-true, joins-sym, joins-edge, edge-
 use Rattle.kc_graph.proofs.Law.{adjacent-self, adjacent-sym}
 use Rattle.kc_graph.proofs.RowsLemmas.{pair_total, same_pair, tied_pair}
 
+-- a pair with its lesser end first is the edge between two vertices just where that joins its ends
 same_edge : (u v a b : ℕ) → (u ≡ v → ⊥) → a < b → eq_by_cmp pair_cmp (a, b) (edge u v) ≡ joins u v a b
 same_edge u v a b differ l = both_ways _ _
     (λ h. (edge-joins u v a b differ (same_pair (a, b) (edge u v) h)).1)
     (λ j. tied_pair (a, b) (edge u v) (joins-edge u v a b differ l j))
 
+-- no edge joins a vertex to itself
 joins-itself : (u v a : ℕ) → (u ≡ v → ⊥) → joins u v a a ≡ false
 joins-itself u v a differ =
     false_from_ne_true (joins u v a a)
     (λ k. elim (joins-true u v a a k) [ inl p ↦ differ (sym p.0 ∙ p.1) | inr p ↦ differ (sym p.1 ∙ p.0) ])
 
+-- a vertex and a greater one are adjacent just where the pair of them is an edge
 adjacent-below : (g : SimpleGraph) (a b : ℕ) → a < b → adjacent g a b ≡ contains g.edges (a, b)
 adjacent-below g a b l = rw (lt-ltb a b l) refl
 
+-- a vertex and a lesser one are adjacent just where the pair of them, turned, is an edge
 adjacent-above : (g : SimpleGraph) (a b : ℕ) → b < a → adjacent g a b ≡ contains g.edges (b, a)
 adjacent-above g a b l = let n : ltb a b ≡ false = le-ltb a b (omega arith) in rw (n, lt-ltb b a l) refl
 
+-- either order of two alternatives is the same
 or_swap : (a b : Bool) → (a || b) ≡ (b || a)
 or_swap a b = grind arith
 
+-- either order of a test and a denied one is the same
 and_swap : (a b : Bool) → (not a && b) ≡ (b && not a)
 and_swap a b = grind arith
 
+-- after an edge came, a pair is an edge where its ends were adjacent or the new edge joins them
 with_below : (g : SimpleGraph) (u v a b : ℕ) → (u ≡ v → ⊥) → a < b → contains (insert g.edges (edge u v)) (a, b) ≡ (adjacent g a b || joins u v a b)
 with_below g u v a b differ l =
     contains-insert pair_total g.edges (edge u v) (a, b)
     ∙
     (ap₂ (λ (s t : Bool). s || t) (same_edge u v a b differ l) (sym (adjacent-below g a b l)) ∙ or_swap (joins u v a b) (adjacent g a b))
 
+-- after an edge went, a pair is an edge where its ends were adjacent and that edge does not join them
 without_below : (g : SimpleGraph) (u v a b : ℕ) → (u ≡ v → ⊥) → a < b → contains (remove g.edges (edge u v)) (a, b) ≡ (adjacent g a b && not (joins u v a b))
 without_below g u v a b differ l =
     contains-remove pair_total g.edges (edge u v) (a, b)
@@ -45,7 +53,7 @@ without_below g u v a b differ l =
     (ap₂ (λ (s t : Bool). not s && t) (same_edge u v a b differ l) (sym (adjacent-below g a b l))
     ∙ and_swap (joins u v a b) (adjacent g a b))
 
--- after an edge came
+-- after an edge came, those are adjacent that were, and its two ends
 pub adjacent-with : (g : SimpleGraph) (u v a b : ℕ) → (u ≡ v → ⊥) → adjacent (with_edge g u v) a b ≡ (adjacent g a b || joins u v a b)
 adjacent-with g u v a b differ = elim (cases_order a b) [
   | inl e ↦
@@ -58,7 +66,7 @@ adjacent-with g u v a b differ = elim (cases_order a b) [
       (joins-sym u v b a))
 ]
 
--- after an edge went
+-- after an edge went, those are adjacent that were, but not its two ends
 pub adjacent-without : (g : SimpleGraph) (u v a b : ℕ) → (u ≡ v → ⊥) → adjacent (without_edge g u v) a b ≡ (adjacent g a b && not (joins u v a b))
 adjacent-without g u v a b differ = elim (cases_order a b) [
   | inl e ↦

@@ -22,6 +22,7 @@ first_of_them p (suc n) = elim (cases_Bool (p n)) [
   ]
 ]
 
+-- no more vertices are taken than there are
 few_taken : (g : SimpleGraph) (level : ℕ) (core taken : List ℕ) → Peeled g level core taken → length taken ≤ g.size
 few_taken g level core taken p = below_bound g.size taken p.distinct p.within
 
@@ -29,9 +30,11 @@ few_taken g level core taken p = below_bound g.size taken p.distinct p.within
 abbrev IsUntouched : SimpleGraph → List ℕ → List ℕ → Type 0
 IsUntouched g core taken = (v : ℕ) → v < g.size → member v taken ≡ false → at core v ≡ g.size
 
+-- whether a vertex is left and has at most this many neighbours left
 abbrev is_next : SimpleGraph → ℕ → List ℕ → ℕ → Bool
 is_next g level taken v = not (member v taken) && nat_le (remaining g taken v) level
 
+-- a vertex that is left with few neighbours may be taken, and those left stay untouched
 take_next : (g : SimpleGraph) (level v : ℕ) (core taken : List ℕ) → Peeled g level core taken → IsUntouched g core taken → level ≤ g.size
     → v < g.size → member v taken ≡ false → remaining g taken v ≤ level
     → Peeled g level (set core v level) (taken ++ v ∷ []) × IsUntouched g (set core v level) (taken ++ v ∷ [])
@@ -47,6 +50,7 @@ take_next g level v core taken p high fits l left few =
       λ w lw out. let k = member-push_none w v taken out in same w (eqb-false w v k.1) ∙ high w lw k.0,
     )
 
+-- where some are taken and the others untouched, the rest can be taken, in an order that certifies the numbers
 peel : (fuel : ℕ) (g : SimpleGraph) (level : ℕ) (core taken : List ℕ) → Peeled g level core taken → IsUntouched g core taken
     → level ≤ g.size → (g.size - level) + (g.size - length taken) < fuel
     → (core' : List ℕ) × (order : List ℕ) × Certifies g core' order
@@ -85,6 +89,7 @@ peel (suc fuel) g level core taken p high fits h = elim (first_of_them (is_next 
       ]
 ]
 
+-- each graph has numbers with an order that certifies them
 pub certificate_exists : (g : SimpleGraph) → (core : List ℕ) × (order : List ℕ) × Certifies g core order
 certificate_exists g =
     let full : List ℕ = replicate g.size g.size in

@@ -29,6 +29,7 @@ pub record Popped (level v : ℕ) (old rows : List (List ℕ)) : Type 0 where
 pub popped_work : (level v : ℕ) (core : List ℕ) (old rows : List (List ℕ)) → Popped level v old rows → work level core rows + 1 ≡ work level core old
 popped_work level v core old rows p = omega (arith, ap length p.here)
 
+-- the vertex that leaves a bucket stood in it
 popped_member : (level v : ℕ) (old rows : List (List ℕ)) → Popped level v old rows → member v (row old level) ≡ true
 popped_member level v old rows p = ap (member v) p.here ∙ or_left (eqb v v) (member v (row rows level)) (eq-eqb v v refl)
 
@@ -43,6 +44,7 @@ popped_left : (level v : ℕ) (core taken : List ℕ) (old rows : List (List ℕ
 popped_left level v core taken old rows f p here =
     false_from_ne_true (member v taken) (λ m. true≢false (sym (ap (λ b. member v (row old b)) here ∙ popped_member level v old rows p) ∙ f.gone v m))
 
+-- those that are left stand in their buckets still, once one left the bucket of its number to be taken, or another one
 filed_popped : (level v : ℕ) (core taken taken' : List ℕ) (old rows : List (List ℕ)) → Filed core taken old → Popped level v old rows
     → ((u : ℕ) → member u taken' ≡ false → (member u taken ≡ false) × (u ≡ v → at core u ≢ level))
     → ((u : ℕ) → member u taken' ≡ true → (member u taken ≡ true) ⊎ ((u ≡ v) × (at core u ≡ level)))
@@ -128,6 +130,7 @@ lowered_low level u ws core rows core' rows' h low =
     let z : member u ws && ltb level (at core u) ≡ false = and_right (member u ws) _ (le-ltb level (at core u) low) in
     omega (arith, h.lowered u, ap one_if z)
 
+-- those that are left stand in their buckets still, once some of them lost a neighbour
 filed_lowered : (level : ℕ) (ws core taken : List ℕ) (rows : List (List ℕ)) (core' : List ℕ) (rows' : List (List ℕ))
     → Lowered level ws core rows core' rows' → Filed core taken rows
     → ((u : ℕ) → member u taken ≡ true → at core u ≤ level) → Distinct ws → ((w : ℕ) → member w ws ≡ true → w < length core) → Filed core' taken rows'
@@ -240,6 +243,7 @@ all_taken g level core taken rows h past =
     let high : level ≤ at core v = h.peeled.open_ v l out in
     absurd (false≢true (sym (ap (member v) (row_past rows (at core v) (omega arith))) ∙ h.filed.waits v (omega (arith, h.peeled.one_each)) out))))
 
+-- empty buckets file none of the vertices
 pub files_none : (degrees : List ℕ) (levels : ℕ) → Files degrees 0 (replicate levels [])
 files_none degrees levels = record {
   waits = λ v l. absurd (omega arith);
@@ -247,6 +251,7 @@ files_none degrees levels = record {
   once = λ b. subst Distinct (sym (row-replicate levels b)) tt;
 }
 
+-- the next vertex, put at the end of the bucket of its degree, is filed too
 pub files_more : (degrees : List ℕ) (v : ℕ) (rows : List (List ℕ)) → Files degrees v rows → at degrees v < length rows
     → Files degrees (v + 1) (set rows (at degrees v) (row rows (at degrees v) ++ v ∷ []))
 files_more degrees v rows f fits =
@@ -282,6 +287,7 @@ files_more degrees v rows f fits =
       ];
     }
 
+-- with the degrees as numbers and each vertex in the bucket of its degree, the taking can begin
 pub begin : (g : SimpleGraph) (core : List ℕ) (rows : List (List ℕ)) → length core ≡ g.size
     → ((v : ℕ) → v < g.size → at core v ≡ remaining g [] v) → Files core (length core) rows → Peels g 0 core [] rows
 begin g core rows n each f = record {

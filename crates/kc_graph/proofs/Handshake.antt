@@ -23,10 +23,12 @@ abbrev total : (ℕ → ℕ) → ℕ → ℕ
 total f zero = 0
 total f (suc n) = f n + total f n
 
+-- functions that agree below a number have the same sum there
 total-agree : (f g : ℕ → ℕ) (n : ℕ) → ((v : ℕ) → v < n → f v ≡ g v) → total f n ≡ total g n
 total-agree f g zero h = refl
 total-agree f g (suc n) h = ap₂ (λ (a b : ℕ). a + b) (h n (omega arith)) (total-agree f g n (λ v l. h v (omega arith)))
 
+-- the sum of two functions added is their sums added
 total-add : (f g : ℕ → ℕ) (n : ℕ) → total (λ v. f v + g v) n ≡ total f n + total g n
 total-add f g zero = refl
 total-add f g (suc n) = omega (arith, total-add f g n)
@@ -36,6 +38,7 @@ total-first : (f : ℕ → ℕ) (n : ℕ) → total f (suc n) ≡ f 0 + total (�
 total-first f zero = refl
 total-first f (suc n) = omega (arith, total-first f n)
 
+-- nothing each time sums up to nothing
 total-nothing : (n : ℕ) → total (λ _. 0) n ≡ 0
 total-nothing zero = refl
 total-nothing (suc n) = omega (arith, total-nothing n)
@@ -133,6 +136,7 @@ len-before u (w ∷ ws) ps once others =
         let k = not_member-parts w x xs h in
         or_from _ _ (false_from_ne_true _ (λ t. k.0 (ap (λ (q : ℕ × ℕ). q.1) (same_pair (u, w) (u, x) t)))) (out xs k.1)
 
+-- there are as many pairs of rows as numbers in them that are greater than the row's vertex
 len-pairs : (u : ℕ) (rows : List (List ℕ)) → ((v : ℕ) → Distinct (row rows v))
     → len (from_list {R = pair_cmp} (pairs_from u rows)) ≡ total (λ v. length (filter (ltb (u + v)) (row rows v))) (length rows)
 len-pairs u [] once = len-empty pair_cmp

@@ -6,6 +6,7 @@ use Rattle.kc_graph.proofs.Adding.{new-length, adjacency, sum-added, len-added}
 use Rattle.kc_graph.proofs.Removing as removing
 
 module _ (old new : List (List ℕ)) (u v edges : ℕ) (differ : u ≡ v → ⊥) (lu : u < length old) (lv : v < length old) (h : HoldsEdges old edges) where
+  -- rows with an edge more hold one edge more
   pub held-added : BothInserted old new u v → member v (row old u) ≡ false → HoldsEdges new (edges + 1)
   held-added both lacks = record {
     adjacency = adjacency old new u v differ lu lv both h.adjacency;
@@ -14,9 +15,11 @@ module _ (old new : List (List ℕ)) (u v edges : ℕ) (differ : u ≡ v → ⊥
     twice = omega (arith, sum-added old new u v differ lu lv both, h.twice);
   }
 
+  -- where an edge can go, there is one
   pub some_edge : BothDeleted old new u v → 1 ≤ edges
   some_edge both = omega (arith, removing.sum-removed old new u v differ lu lv both, h.twice)
 
+  -- rows with an edge less hold one edge less
   pub held-removed : BothDeleted old new u v → member v (row old u) ≡ true → HoldsEdges new (edges - 1)
   held-removed both here = record {
     adjacency = removing.adjacency old new u v differ lu lv both h.adjacency;

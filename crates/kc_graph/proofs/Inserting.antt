@@ -12,6 +12,7 @@ use Rattle.kc_graph.specs.Rows.{Inserted, IsPlace}
 use Rattle.kc_graph.proofs.RowsLemmas.{place-found}
 use Rattle.kc_distinct.proofs.Shared.{or-swap}
 
+-- a number put between the lesser and the greater ones of an ascending row goes into its place
 inserted_at : (xs : List ℕ) (w i : ℕ) → IsStrictlyIncreasing xs → i ≤ length xs → ((k : ℕ) → k < i → get_or xs k 0 < w)
     → ((k : ℕ) → i ≤ k → k < length xs → w < get_or xs k 0) → Inserted xs (insert xs i w) w
 inserted_at xs w i up le low high = record {
@@ -57,16 +58,20 @@ inserted_at xs w i up le low high = record {
       ];
 }
 
+-- a number goes into its place where the search says that it has to go
 pub inserted_found : (xs : List ℕ) (w i : ℕ) (r : Result ℕ ℕ) → r ≡ Err i → IsStrictlyIncreasing xs → IsPlace xs w r → Inserted xs (insert xs i w) w
 inserted_found xs w i r e up h = let m = subst (IsPlace xs w) e h in inserted_at xs w i up m.0 m.1 m.2
 
+-- a number that a row lacks is never found there
 pub never_found : (xs : List ℕ) (w i : ℕ) (r : Result ℕ ℕ) → r ≡ Ok i → member w xs ≡ false → IsPlace xs w r → ⊥
 never_found xs w i r e lacks h = true≢false (ap is_ok (sym e) ∙ place-found xs w r h ∙ lacks)
 
+-- what follows from what holds of an error holds of it too
 pub on_err_weaker : {T E P Q : Type 0} (r : Result T E) → (P → Q) → OnErr r P → OnErr r Q
 on_err_weaker (Ok x) f h = h
 on_err_weaker (Err e) f h = f h
 
+-- where there is no error, anything holds of it
 pub no_err : {T E : Type 0} (P : Type 0) (r : Result T E) → IsOk r → OnErr r P
 no_err P (Ok x) h = tt
 no_err P (Err e) h = absurd (false≢true h)

@@ -52,6 +52,7 @@ upper g c k v members distinct dense in' (u ∷ later) rising few each =
           (λ x m. member-other x u later (λ e. true≢false (sym m ∙ (ap (λ n. member n members) e ∙ none))) (each x m))
     ]
 
+-- where no pair of places falls, the numbers never fall along the list
 Rising-from_pairs : (c : ℕ → ℕ) (order : List ℕ) → AllPairs (λ v w. c v ≤ c w) order → Rising c order
 Rising-from_pairs c [] h = tt
 Rising-from_pairs c (v ∷ later) h = (
@@ -61,9 +62,11 @@ Rising-from_pairs c (v ∷ later) h = (
   Rising-from_pairs c later (λ i j d lt l. h (suc i) (suc j) d (omega arith) (omega arith)),
 )
 
+-- adding one to the next number gives the next of one added
 one_more : (i : ℕ) → suc i + 1 ≡ suc (i + 1)
 one_more i = omega arith
 
+-- where at each place few neighbours come later, each vertex has few later ones
 FewLater-from_places : (g : SimpleGraph) (c : ℕ → ℕ) (order : List ℕ)
     → ((i : ℕ) → i < length order → degree_among g (drop (i + 1) order) (get_or order i 0) ≤ c (get_or order i 0)) → FewLater g c order
 FewLater-from_places g c [] h = tt
@@ -75,6 +78,7 @@ FewLater-from_places g c (v ∷ later) h = (
       (h (suc i) (omega arith))),
 )
 
+-- no core that a vertex is in is for more than its certified number
 greatest : (g : SimpleGraph) (core order : List ℕ) → Certifies g core order → (v k : ℕ) → IsInCore g k v → k ≤ get_or core v 0
 greatest g core order h v k (members, dense, in') =
     upper g (λ w. get_or core w 0) k v members (Distinct-from_pairs members dense.distinct)
@@ -109,6 +113,7 @@ reached g core order h v l =
           (filter-member high v order (member-from_Contains order v (h.enumerates.complete v l)) (le-leb _ _ (le_refl (get_or core v 0)))),
     )
 
+-- certified numbers are the core numbers
 pub certified : (g : SimpleGraph) (core order : List ℕ) → Certifies g core order → AreCoreNumbers g core
 certified g core order h = record {
   one_each = h.one_each;

@@ -15,15 +15,19 @@ use Rattle.kc_graph.specs.Peeling.{at, work, Lowered}
 use Rattle.kc_graph.proofs.Buckets.{row-set_same, row-set_other}
 use Rattle.kc_graph.proofs.PeelingLemmas.{one_if}
 
+-- another number is in a list as before once a number comes at its end
 push_other : (u w : ℕ) (ws : List ℕ) → (u ≡ w → ⊥) → member u (ws ++ w ∷ []) ≡ member u ws
 push_other u w ws ne = member-push u w ws ∙ ap (λ b. member u ws || b) (ne_eqb u w ne) ∙ or-false (member u ws)
 
+-- a number that passes, put at the end, comes at the end of those that pass
 filter-push_yes : (p : ℕ → Bool) (w : ℕ) (ws : List ℕ) → p w ≡ true → filter p (ws ++ w ∷ []) ≡ filter p ws ++ w ∷ []
 filter-push_yes p w ws h = filter-append p ws (w ∷ []) ∙ ap (λ b. filter p ws ++ cond b (w ∷ []) []) h
 
+-- a number that doesn't pass, put at the end, changes nothing of those that pass
 filter-push_no : (p : ℕ → Bool) (w : ℕ) (ws : List ℕ) → p w ≡ false → filter p (ws ++ w ∷ []) ≡ filter p ws
 filter-push_no p w ws h = filter-append p ws (w ∷ []) ∙ ap (λ b. filter p ws ++ cond b (w ∷ []) []) h ∙ append-nil (filter p ws)
 
+-- where no vertex is to lose one, nothing changed
 pub lowered_none : (level : ℕ) (core : List ℕ) (rows : List (List ℕ)) → Lowered level [] core rows core rows
 lowered_none level core rows = record {
   one_each = refl;
@@ -35,7 +39,7 @@ lowered_none level core rows = record {
 
 module _ (level w : ℕ) (ws core : List ℕ) (rows : List (List ℕ)) (core' : List ℕ) (rows' : List (List ℕ))
     (h : Lowered level ws core rows core' rows') (same : at core w ≡ at core' w) where
-  -- `w` has no more than the level
+  -- a vertex that has no more than the level loses none
   pub lowered_skip : at core' w ≤ level → Lowered level (ws ++ w ∷ []) core rows core' rows'
   lowered_skip low =
       let not_above : ltb level (at core w) ≡ false = le-ltb level (at core w) (omega arith) in
@@ -56,6 +60,7 @@ module _ (level w : ℕ) (ws core : List ℕ) (rows : List (List ℕ)) (core' : 
         less_work = h.less_work;
       }
 
+  -- a vertex above the level loses one, and stands in the bucket of its new number too
   pub lowered_step : level < at core' w → member w ws ≡ false → w < length core' → at core' w ≤ length rows'
       → Lowered level (ws ++ w ∷ []) core rows (set core' w (at core' w - 1)) (set rows' (at core' w - 1) (row rows' (at core' w - 1) ++ w ∷ []))
   lowered_step up new' lw room =

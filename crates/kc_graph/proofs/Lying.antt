@@ -44,7 +44,7 @@ entries-longer first xs ys (Part from to ∷ rows) h =
     ap₂ (λ (r : List ℕ) (t : List (List ℕ)). r ∷ t) (between-append xs ys from to h.1 h.2) (entries-longer to xs ys rows h.3)
 entries-longer first xs ys (Own list ∷ rows) h = ap (λ (t : List (List ℕ)). list.items ∷ t) (entries-longer first xs ys rows h)
 
--- One row more lies where the block gets longer, and has the first numbers that come.
+-- One row more lies where the block gets longer.
 pub lie-push : (first : ℕ) (xs ys : List ℕ) (rows : List Row) (k : ℕ) → first ≤ length xs → k ≤ length ys → LieFrom first xs rows
     → LieFrom first (xs ++ ys) (rows ++ Part (length xs) (length xs + k) ∷ [])
 lie-push first xs ys [] k l within h = (l, omega arith, omega (arith, length-append xs ys), tt)
@@ -52,6 +52,7 @@ lie-push first xs ys (Part from to ∷ rows) k l within h =
     (h.0, h.1, omega (arith, h.2, length-append xs ys), lie-push to xs ys rows k h.2 within h.3)
 lie-push first xs ys (Own list ∷ rows) k l within h = lie-push first xs ys rows k l within h
 
+-- a row more where the block gets longer has the first numbers that come
 pub entries-push : (first : ℕ) (xs ys : List ℕ) (rows : List Row) (k : ℕ) → LieFrom first xs rows
     → entries_of_each (xs ++ ys) (rows ++ Part (length xs) (length xs + k) ∷ []) ≡ entries_of_each xs rows ++ take k ys ∷ []
 entries-push first xs ys [] k h = ap (λ (r : List ℕ). r ∷ []) (between-seam xs ys k)
@@ -65,11 +66,13 @@ entries-set xs [] i r = refl
 entries-set xs (x ∷ rows) zero r = refl
 entries-set xs (x ∷ rows) (suc i) r = ap (λ (t : List (List ℕ)). entries_of xs x ∷ t) (entries-set xs rows i r)
 
+-- the numbers at a place are those of the row at that place
 pub entries-at : (xs : List ℕ) (rows : List Row) (i : ℕ) (d : Row) → i < length rows → get_or (entries_of_each xs rows) i [] ≡ entries_of xs (get_or rows i d)
 entries-at xs [] i d l = absurd (omega arith)
 entries-at xs (x ∷ rows) zero d l = refl
 entries-at xs (x ∷ rows) (suc i) d l = entries-at xs rows i d (omega arith)
 
+-- there are as many lists of numbers as rows
 pub length-entries : (xs : List ℕ) (rows : List Row) → length (entries_of_each xs rows) ≡ length rows
 length-entries xs [] = refl
 length-entries xs (x ∷ rows) = ap suc (length-entries xs rows)
@@ -87,10 +90,12 @@ abbrev pub LiesWithin : ℕ → List ℕ → Row → Type 0
 LiesWithin first xs (Part from to) = (first ≤ from) × (from ≤ to) × (to ≤ length xs)
 LiesWithin first xs (Own list) = Unit {0}
 
+-- a row that lies behind a place lies behind each earlier one
 later : (a b : ℕ) (xs : List ℕ) (r : Row) → a ≤ b → LiesWithin b xs r → LiesWithin a xs r
 later a b xs (Part from to) l h = (omega (arith, h.0), h.1, h.2)
 later a b xs (Own list) l h = tt
 
+-- each of the rows that lie behind a place lies in the block behind it, or in no block
 pub lies-at : (first : ℕ) (xs : List ℕ) (rows : List Row) (i : ℕ) (d : Row) → i < length rows → LieFrom first xs rows → LiesWithin first xs (get_or rows i d)
 lies-at first xs [] i d l h = absurd (omega arith)
 lies-at first xs (Part from to ∷ rows) zero d l h = (h.0, h.1, h.2)
@@ -99,7 +104,7 @@ lies-at first xs (Part from to ∷ rows) (suc i) d l h =
 lies-at first xs (Own list ∷ rows) zero d l h = tt
 lies-at first xs (Own list ∷ rows) (suc i) d l h = lies-at first xs rows i d (omega arith) h
 
--- A row gets shorter at its end.
+-- The rows still lie one after the other where one of them gets shorter at its end.
 pub lie-shorter : (first : ℕ) (xs ys : List ℕ) (rows : List Row) (i : ℕ) (d : Row) (from to less : ℕ) → i < length rows → get_or rows i d ≡ Part from to
     → from ≤ less → less ≤ to → length ys ≡ length xs → LieFrom first xs rows → LieFrom first ys (set rows i (Part from less))
 lie-shorter first xs ys [] i d from to less l e o s n h = absurd (omega arith)
@@ -110,6 +115,7 @@ lie-shorter first xs ys (Part from' to' ∷ rows) (suc i) d from to less l e o s
     (h.0, h.1, omega (arith, h.2), lie-shorter to' xs ys rows i d from to less (omega arith) e o s n h.3)
 lie-shorter first xs ys (Own list ∷ rows) (suc i) d from to less l e o s n h = lie-shorter first xs ys rows i d from to less (omega arith) e o s n h
 
+-- rows behind all that differs in a block keep their numbers
 entries-past : (first to : ℕ) (xs ys : List ℕ) (rows : List Row) → to ≤ first → ((a b : ℕ) → to ≤ a → between a b ys ≡ between a b xs) → LieFrom first xs rows
     → entries_of_each ys rows ≡ entries_of_each xs rows
 entries-past first to xs ys [] l same h = refl
@@ -148,10 +154,12 @@ length-put_mid a k xs ys l n =
       length-drop a xs,
     )
 
+-- a row that lies behind the start of a block lies in the block
 within : (xs : List ℕ) (r : Row) → LiesWithin 0 xs r → LiesIn xs r
 within xs (Part from to) h = (h.1, h.2)
 within xs (Own list) h = tt
 
+-- a row written over by itself changes nothing
 set-here : (rows : List Row) (i : ℕ) (d : Row) → i < length rows → set rows i (get_or rows i d) ≡ rows
 set-here [] i d l = absurd (omega arith)
 set-here (x ∷ rows) zero d l = refl
@@ -161,9 +169,11 @@ set-here (x ∷ rows) (suc i) d l = ap (λ (t : List Row). x ∷ t) (set-here ro
 pub lies-in : (xs : List ℕ) (rows : List Row) (i : ℕ) (r : Row) → LieFrom 0 xs rows → i < length rows → r ≡ get_or rows i r → LiesIn xs r
 lies-in xs rows i r h l is = within xs r (subst (LiesWithin 0 xs) (sym is) (lies-at 0 xs rows i r l h))
 
+-- there are as many rows as lists of their numbers
 pub count-view : (xs : List ℕ) (rows : List Row) (lists : List (List ℕ)) → entries_of_each xs rows ≡ lists → length rows ≡ length lists
 count-view xs rows lists e = sym (length-entries xs rows) ∙ ap length e
 
+-- the row at a place has the numbers of the list at that place
 pub row-view : (xs : List ℕ) (rows : List Row) (lists : List (List ℕ)) (i : ℕ) (r : Row) → entries_of_each xs rows ≡ lists → i < length rows
     → r ≡ get_or rows i r
     → row lists i ≡ entries_of xs r
@@ -176,6 +186,7 @@ lie-kept xs rows i r new h l is (inl own) = subst (λ (t : Row). LieFrom 0 xs (s
 lie-kept xs rows i r new h l is (inr same) =
     subst (LieFrom 0 xs) (sym (ap (set rows i) (same ∙ is) ∙ set-here rows i r l)) h
 
+-- rows lie one after the other still, where one has a number less, in the block or in its list
 pub lie-shortened : (xs ys : List ℕ) (rows : List Row) (i : ℕ) (r new : Row) → LieFrom 0 xs rows → i < length rows → r ≡ get_or rows i r → IsShorter xs ys r new
     → LieFrom 0 ys (set rows i new)
 lie-shortened xs ys rows i (Part from to) new h l is s =
@@ -185,6 +196,7 @@ lie-shortened xs ys rows i (Own list) new h l is s =
     subst (λ (t : List ℕ). LieFrom 0 t (set rows i new)) (sym s.1)
     (subst (λ (t : Row). LieFrom 0 xs (set rows i t)) (sym s.0.1) (lie-own 0 xs rows i s.0.0 h))
 
+-- the numbers of the others stay, where one has a number less, in the block or in its list
 pub entries-shortened : (xs ys : List ℕ) (rows : List Row) (i : ℕ) (r new : Row) → LieFrom 0 xs rows → i < length rows → r ≡ get_or rows i r
     → IsShorter xs ys r new
     → entries_of_each ys (set rows i new) ≡ set (entries_of_each xs rows) i (entries_of ys new)
@@ -200,16 +212,18 @@ pub lie-none : (n : ℕ) → LieFrom 0 [] (replicate n (Part 0 0))
 lie-none zero = tt
 lie-none (suc n) = (omega arith, omega arith, omega arith, lie-none n)
 
+-- rows without a number have no numbers
 pub entries-none : (n : ℕ) → entries_of_each [] (replicate n (Part 0 0)) ≡ replicate n []
 entries-none zero = refl
 entries-none (suc n) = ap (λ (t : List (List ℕ)). [] ∷ t) (entries-none n)
 
--- one row more behind others
+-- one row more behind others is the last of them
 pub row-push_at : (rows : List (List ℕ)) (r : List ℕ) (v : ℕ) → v ≡ length rows → row (rows ++ r ∷ []) v ≡ r
 row-push_at [] r v e = ap (row (r ∷ [])) e
 row-push_at (x ∷ rows) r zero e = absurd (omega arith)
 row-push_at (x ∷ rows) r (suc v) e = row-push_at rows r v (omega arith)
 
+-- the rows before it stay
 pub row-push_below : (rows : List (List ℕ)) (r : List ℕ) (v : ℕ) → v < length rows → row (rows ++ r ∷ []) v ≡ row rows v
 row-push_below [] r v l = absurd (omega arith)
 row-push_below (x ∷ rows) r zero l = refl
@@ -218,23 +232,29 @@ row-push_below (x ∷ rows) r (suc v) l = row-push_below rows r v (omega arith)
 -- A part behind the rows so far is put in order, and the first numbers of it are a row.
 module _ (block part : List ℕ) (rows : List Row) (from to kept : ℕ) (o : from ≤ to) (l : to ≤ length block) (n : length part ≡ to - from)
     (few : kept ≤ length part) (h : LieFrom 0 (take from block) rows) where
+  -- the block with the part that was put in order
   abbrev block' : List ℕ
   block' = put_mid from (to - from) block part
 
+  -- the block up to the end of the part is what was before it, and the part
   front : take to block' ≡ take from block ++ part
   front = take-put_mid from (to - from) block part to (omega (arith, n)) (omega arith)
 
+  -- what was before the part is as long as its place says
   start : length (take from block) ≡ from
   start = length-take-le from block (omega arith)
 
+  -- the new row begins where the rows so far end
   last : rows ++ Part from (from + kept) ∷ [] ≡ rows ++ Part (length (take from block)) (length (take from block) + kept) ∷ []
   last = ap (λ (k : ℕ). rows ++ Part k (k + kept) ∷ []) (sym start)
 
+  -- the rows lie one after the other, with the new one last
   pub tidied-lie : LieFrom 0 (take to block') (rows ++ Part from (from + kept) ∷ [])
   tidied-lie =
       subst (λ (t : List ℕ). LieFrom 0 t (rows ++ Part from (from + kept) ∷ [])) (sym front)
       (subst (LieFrom 0 (take from block ++ part)) (sym last) (lie-push 0 (take from block) part rows kept (omega arith) few h))
 
+  -- the new row has the first numbers of the part, and the others have what they had
   pub tidied-entries : entries_of_each (take to block') (rows ++ Part from (from + kept) ∷ []) ≡ entries_of_each (take from block) rows ++ take kept part ∷ []
   tidied-entries = ap₂ entries_of_each front last ∙ entries-push 0 (take from block) part rows kept h
 
@@ -244,6 +264,7 @@ pub entries-front : (n : ℕ) (block : List ℕ) (rows : List Row) → LieFrom 0
 entries-front n block rows h =
     ap (λ (t : List ℕ). entries_of_each t rows) (sym (take-append-drop n block)) ∙ entries-longer 0 (take n block) (drop n block) rows h
 
+-- rows that lie one after the other in the front of a block do so in the whole
 pub lie-front : (n : ℕ) (block : List ℕ) (rows : List Row) → n ≤ length block → LieFrom 0 (take n block) rows → LieFrom 0 block rows
 lie-front n block rows l h = lie-resized 0 (take n block) block rows (omega (arith, length-take-le n block l)) h
 
@@ -263,5 +284,6 @@ all-lie first xs [] h = All-nil (LiesIn xs)
 all-lie first xs (Part from to ∷ rows) h = All-cons (LiesIn xs) (Part from to) rows (h.1, h.2) (all-lie to xs rows h.3)
 all-lie first xs (Own list ∷ rows) h = All-cons (LiesIn xs) (Own list) rows tt (all-lie first xs rows h)
 
+-- the numbers of one row more come behind those of the others
 pub entries-more : (xs : List ℕ) (rows : List Row) (r : Row) → entries_of_each xs (rows ++ r ∷ []) ≡ entries_of_each xs rows ++ entries_of xs r ∷ []
 entries-more xs rows r = map-append (entries_of xs) rows (r ∷ [])

@@ -24,6 +24,7 @@ abbrev Falls : List ℕ → Type 0
 Falls [] = ⊤
 Falls (x ∷ xs) = ((y : ℕ) → member y xs ≡ true → y < x) × Falls xs
 
+-- a list in which each pair of places rises is a rising one
 Rises-from_pairs : (xs : List ℕ) → AllPairs (λ x y. x < y) xs → Rises xs
 Rises-from_pairs [] h = tt
 Rises-from_pairs (x ∷ xs) h = (
@@ -31,9 +32,11 @@ Rises-from_pairs (x ∷ xs) h = (
   Rises-from_pairs xs (λ i j d lt l. h (suc i) (suc j) d (omega arith) (omega arith)),
 )
 
+-- a strictly increasing list rises
 pub Rises-from_increasing : (xs : List ℕ) → IsStrictlyIncreasing xs → Rises xs
 Rises-from_increasing xs h = Rises-from_pairs xs (AllPairs-from_increasing xs h)
 
+-- what stands behind the first number of a rising list is not that number
 not_first : (x : ℕ) (xs : List ℕ) → Rises (x ∷ xs) → (z : ℕ) → member z xs ≡ true → z ≢ x
 not_first x xs h z m e = omega (arith, h.0 z m)
 
@@ -44,6 +47,7 @@ rest x xs ys hx hy same z = elim (cases_Bool (member z xs)) [
   | inr n ↦ n ∙ sym (false_from_ne_true (member z ys) (λ m. true≢false (sym (member-other z x xs (not_first x ys hy z m) (same z ∙ member-tail z x ys m)) ∙ n)))
 ]
 
+-- rising lists of the same numbers begin with the same number
 heads : (x y : ℕ) (xs ys : List ℕ) → Rises (x ∷ xs) → Rises (y ∷ ys) → ((z : ℕ) → member z (x ∷ xs) ≡ member z (y ∷ ys)) → x ≡ y
 heads x y xs ys hx hy same = elim (member-cases x y ys (sym (same x) ∙ member-head x xs)) [
   | inl e ↦ e
@@ -61,18 +65,22 @@ rising_same (x ∷ xs) (y ∷ ys) hx hy same =
     let same' : (z : ℕ) → member z (x ∷ xs) ≡ member z (x ∷ ys) = λ z. same z ∙ ap (λ n. member z (n ∷ ys)) (sym e) in
     ap₂ (λ n ns. n ∷ ns) e (rising_same xs ys hx.1 hy.1 (rest x xs ys hx hy' same'))
 
+-- the first number of a list is the last of the list turned
 reverse-cons : (x : ℕ) (xs : List ℕ) → reverse (x ∷ xs) ≡ reverse xs ++ x ∷ []
 reverse-cons x xs = reverse-append (x ∷ []) xs
 
+-- either order of two alternatives is the same
 swap : (a b : Bool) → (a || b) ≡ (b || a)
 swap a b = grind arith
 
+-- a list turned has the same numbers
 member-reverse : (z : ℕ) (xs : List ℕ) → member z (reverse xs) ≡ member z xs
 member-reverse z [] = refl
 member-reverse z (x ∷ xs) =
     ap (member z) (reverse-cons x xs)
     ∙ (member-push z x (reverse xs) ∙ (ap (λ b. b || eqb z x) (member-reverse z xs) ∙ swap (member z xs) (eqb z x)))
 
+-- a rising list with a greater number at its end rises
 Rises-push : (xs : List ℕ) (x : ℕ) → Rises xs → ((y : ℕ) → member y xs ≡ true → y < x) → Rises (xs ++ x ∷ [])
 Rises-push [] x h last = (λ y m. absurd (false≢true m), tt)
 Rises-push (y ∷ ys) x h last = (
@@ -80,11 +88,13 @@ Rises-push (y ∷ ys) x h last = (
   Rises-push ys x h.1 (λ z m. last z (member-tail z y ys m)),
 )
 
+-- a falling list turned rises
 Rises-reverse : (xs : List ℕ) → Falls xs → Rises (reverse xs)
 Rises-reverse [] h = tt
 Rises-reverse (x ∷ xs) h =
     subst Rises (sym (reverse-cons x xs)) (Rises-push (reverse xs) x (Rises-reverse xs h.1) (λ y m. h.0 y (sym (member-reverse y xs) ∙ m)))
 
+-- what is left of a falling list falls
 Falls-filter : (p : ℕ → Bool) (xs : List ℕ) → Falls xs → Falls (filter p xs)
 Falls-filter p [] h = tt
 Falls-filter p (x ∷ xs) h =
@@ -93,6 +103,7 @@ Falls-filter p (x ∷ xs) h =
       | false ↦ Falls-filter p xs h.1
     ]
 
+-- the numbers below a number, greatest first, fall
 Falls-below : (n : ℕ) → Falls (below n)
 Falls-below zero = tt
 Falls-below (suc n) = (λ y m. below-member y n m, Falls-below n)

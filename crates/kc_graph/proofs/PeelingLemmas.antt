@@ -63,6 +63,7 @@ raise g level core taken p more = record {
   ];
 }
 
+-- with one more vertex taken, none has more neighbours left
 remaining-push : (g : SimpleGraph) (taken : List ℕ) (v : ℕ) → remaining g (taken ++ v ∷ []) v ≤ remaining g taken v
 remaining-push g taken v =
     count-mono (λ w. adjacent g v w && not (member w (taken ++ v ∷ []))) (λ w. adjacent g v w && not (member w taken)) (below g.size)
@@ -167,6 +168,7 @@ remaining-lt g taken v l =
       length-below g.size,
     )
 
+-- 1 where a test passes, and 0 else
 abbrev pub one_if : Bool → ℕ
 one_if b = cond b 1 0
 
@@ -195,6 +197,7 @@ remaining-taken g taken u v l new' =
           omega (arith, same, ap one_if a)
     ]
 
+-- a list of the neighbours of a vertex has each of them once
 pub neighbours-distinct : (g : SimpleGraph) (v : ℕ) (ws : List ℕ) → AreNeighbours g v ws → Distinct ws
 neighbours-distinct g v ws h = Distinct-from_increasing ws h.ascending
 

@@ -17,6 +17,7 @@ pub record PlacedTo (n i : ℕ) (order places : List ℕ) : Type 0 where
   pub one_each : length places ≡ n
   pub right : (k : ℕ) → k < i → get_or places (get_or order k 0) 0 ≡ k
 
+-- an order of the vertices has as many of them as there are
 pub length-enumerates : (n : ℕ) (order : List ℕ) → Enumerates n order → length order ≡ n
 length-enumerates n order e =
     let yes : ℕ → Bool = λ _. true in
@@ -31,12 +32,15 @@ length-enumerates n order e =
       count-le yes (below n) order (Distinct-below n) (λ x m _. member-from_Contains order x (e.complete x (below-member x n m))),
     )
 
+-- what stands in an order of the vertices is a vertex
 pub in_order : (n : ℕ) (order : List ℕ) (i : ℕ) → Enumerates n order → i < length order → get_or order i 0 < n
 in_order n order i e l = e.below i 0 l
 
+-- no place is known at the beginning
 pub placed_none : (n : ℕ) (order places : List ℕ) → length places ≡ n → PlacedTo n 0 order places
 placed_none n order places h = record { one_each = h; right = λ k l. absurd (omega arith) }
 
+-- the place of one more vertex is known once it is written
 pub placed_more : (n i : ℕ) (order places : List ℕ) → Enumerates n order → i < length order → PlacedTo n i order places
     → PlacedTo n (i + 1) order (set places (get_or order i 0) i)
 placed_more n i order places e l h =
@@ -50,6 +54,7 @@ placed_more n i order places e l h =
       ];
     }
 
+-- once all are written, the places are those of the order
 pub placed_all : (n : ℕ) (order places : List ℕ) → Enumerates n order → PlacedTo n (length order) order places → ArePlaces order places
 placed_all n order places e h =
     let m : length order ≡ n = length-enumerates n order e in

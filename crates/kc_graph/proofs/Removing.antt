@@ -18,18 +18,23 @@ use Rattle.kc_graph.proofs.Ends.{joins, joins-sym, joins-edge, edge-joins, conta
 use Rattle.kc_graph.proofs.RowsLemmas.{contains-edges, size-graph_of, adjacent-graph_of, pair_total, pair_exact, same_pair, tied_pair}
 
 module _ (old new : List (List ℕ)) (u v : ℕ) (differ : u ≡ v → ⊥) (lu : u < length old) (lv : v < length old) (both : BothDeleted old new u v) where
+  -- there are as many rows as before
   pub new-length : length new ≡ length old
   new-length = ap length both.rows ∙ length-set (set old u both.first) v both.second ∙ length-set old u both.first
 
+  -- the row of the second end is the one that was put there
   at-v : row new v ≡ both.second
   at-v = ap (λ t. row t v) both.rows ∙ row-set_same (set old u both.first) v both.second (omega (arith, length-set old u both.first))
 
+  -- the row of the first end is the one that was put there
   at-u : row new u ≡ both.first
   at-u = ap (λ t. row t u) both.rows ∙ row-set_other (set old u both.first) v u both.second differ ∙ row-set_same old u both.first lu
 
+  -- the row of a vertex that is no end is as before
   at-other : (a : ℕ) → (a ≡ u → ⊥) → (a ≡ v → ⊥) → row new a ≡ row old a
   at-other a nu nv = ap (λ t. row t a) both.rows ∙ row-set_other (set old u both.first) v a both.second nv ∙ row-set_other old u a both.first nu
 
+  -- a number is in a row where it was, unless the edge joins the two
   kept : (a b : ℕ) → member b (row new a) ≡ (member b (row old a) && not (joins u v a b))
   kept a b = elim (cases_eq a u) [
     | inl e ↦
@@ -47,6 +52,7 @@ module _ (old new : List (List ℕ)) (u v : ℕ) (differ : u ≡ v → ⊥) (lu 
     ]
   ]
 
+  -- the rows are still those of a graph
   pub adjacency : IsAdjacency old → IsAdjacency new
   adjacency h = record {
     ascends = λ a. elim (cases_eq a u) [
@@ -61,6 +67,7 @@ module _ (old new : List (List ℕ)) (u v : ℕ) (differ : u ≡ v → ⊥) (lu 
     symmetric = λ a b. kept a b ∙ ap₂ (λ s t. s && not t) (h.symmetric a b) (joins-sym u v a b) ∙ sym (kept b a);
   }
 
+  -- the graph of the rows has the edges without that one
   pub graph_of-removed : graph_of new ≡ without_edge (graph_of old) u v
   graph_of-removed =
       let edges : (graph_of new).edges ≡ remove (graph_of old).edges (edge u v) = same_set pair_total pair_exact _ _ (λ q.
@@ -86,6 +93,7 @@ module _ (old new : List (List ℕ)) (u v : ℕ) (differ : u ≡ v → ⊥) (lu 
       let size : (graph_of new).size ≡ (graph_of old).size = size-graph_of new ∙ new-length ∙ sym (size-graph_of old) in
       ap₂ (λ (n : ℕ) (e : FinSet pair_cmp). let g : SimpleGraph = record { size = n; edges = e } in g) size edges
 
+  -- there are two entries less in all rows
   pub sum-removed : sum_by length new + 2 ≡ sum_by length old
   sum-removed =
       let mid : List (List ℕ) = set old u both.first in
@@ -95,13 +103,14 @@ module _ (old new : List (List ℕ)) (u v : ℕ) (differ : u ≡ v → ⊥) (lu 
       let c : length (row mid v) ≡ length (row old v) = ap length (row-set_other old u v both.first (λ e. differ (sym e))) in
       omega (arith, a, b, c, both.at_first.shorter, both.at_second.shorter, ap (sum_by length) both.rows)
 
+  -- there is one edge less, where the two were adjacent
   pub len-removed : IsAdjacency old → member v (row old u) ≡ true → len (graph_of new).edges ≡ len (graph_of old).edges - 1
   len-removed h here =
       let there : contains (graph_of old).edges (edge u v) ≡ true = contains-edge (graph_of old) u v differ ∙ adjacent-graph_of old h u v ∙ here in
       ap (λ (g : SimpleGraph). len g.edges) graph_of-removed ∙ len-remove pair_total (graph_of old).edges (edge u v)
       ∙ ap (λ t. cond t (len (graph_of old).edges - 1) (len (graph_of old).edges)) there
 
--- an edge that is not there
+-- a graph that lacks an edge is the graph without that edge
 pub missing : (g : SimpleGraph) (u v : ℕ) → (u ≡ v → ⊥) → adjacent g u v ≡ false → g ≡ without_edge g u v
 missing g u v differ a =
     let absent : contains g.edges (edge u v) ≡ false = contains-edge g u v differ ∙ a in

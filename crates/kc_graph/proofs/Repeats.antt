@@ -18,9 +18,11 @@ pub record Dropped (old new : List ℕ) (i kept : ℕ) : Type 0 where
   pub rest : (k : ℕ) → i ≤ k → get_or new k 0 ≡ get_or old k 0
 
 module _ (old new : List ℕ) (i kept : ℕ) (n : length new ≡ length old) (l : i < length old) (h : Dropped old new i kept) where
+  -- what stands at the place that comes next is as it was
   here : get_or new i 0 ≡ get_or old i 0
   here = h.rest i (omega arith)
 
+  -- the first numbers and one more have what they had and what stands at that place
   more-old : (w : ℕ) → member w (take (i + 1) old) ≡ (member w (take i old) || eqb w (get_or old i 0))
   more-old w = ap (member w) (take_more old i 0 l) ∙ member-push w (get_or old i 0) (take i old)
 

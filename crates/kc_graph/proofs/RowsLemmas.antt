@@ -24,21 +24,27 @@ use Rattle.kc_graph.proofs.Law.{adjacent-self}
 use Rattle.kc_distinct.proofs.Counting.{member-get_or, Contains-from_member, Distinct-from_pairs}
 use Rattle.kc_distinct.proofs.Shared.{get_or-any, never_falls}
 
+-- pairs stand in a total order
 pub pair_total : IsTotalOrder pair_cmp
 pair_total = then_total (on_total (λ (x : ℕ × ℕ). x.0) nat_cmp_total) (on_total (λ (x : ℕ × ℕ). x.1) nat_cmp_total)
 
+-- pairs that compare as equal are equal
 pub pair_exact : IsAntisymmetric pair_cmp
 pair_exact = exact_pairs nat_cmp nat_cmp exact_unsigned exact_unsigned
 
+-- whether a pair is one of the listed pairs
 abbrev one_of : ℕ × ℕ → List (ℕ × ℕ) → Bool
 one_of q ps = list_any (eq_by_cmp pair_cmp q) ps
 
+-- pairs that tie are the same pair
 pub same_pair : (p q : ℕ × ℕ) → eq_by_cmp pair_cmp p q ≡ true → p ≡ q
 same_pair p q h = pair_exact p q ((Equal-is (pair_cmp p q)).0 h)
 
+-- the same pair ties with itself
 pub tied_pair : (p q : ℕ × ℕ) → p ≡ q → eq_by_cmp pair_cmp p q ≡ true
 tied_pair p q e = ap (λ (x : ℕ × ℕ). eq_by_cmp pair_cmp p x) (sym e) ∙ ap is_eq (tied_itself pair_total p)
 
+-- a pair out of one row has its vertex first, and a greater number of the row second
 higher-to : (u a b : ℕ) (r : List ℕ) → one_of (a, b) (map (λ w. (u, w)) (filter (ltb u) r)) ≡ true → (a ≡ u) × (u < b) × (member b r ≡ true)
 higher-to u a b [] h = absurd (false≢true h)
 higher-to u a b (w ∷ ws) h =
@@ -54,6 +60,7 @@ higher-to u a b (w ∷ ws) h =
       | false ↦ λ _ k. let i = higher-to u a b ws k in (i.0, i.1, member-tail b w ws i.2)
     ] refl h
 
+-- a greater number of a row gives a pair with the row's vertex
 higher-from : (u b : ℕ) (r : List ℕ) → u < b → member b r ≡ true → one_of (u, b) (map (λ w. (u, w)) (filter (ltb u) r)) ≡ true
 higher-from u b [] l m = absurd (false≢true m)
 higher-from u b (w ∷ ws) l m =
@@ -68,6 +75,7 @@ higher-from u b (w ∷ ws) l m =
       ]
     ] refl
 
+-- a pair out of the rows has its lesser end first, and the other one stands in the row of that
 pairs-to : (u a b : ℕ) (rows : List (List ℕ)) → one_of (a, b) (pairs_from u rows) ≡ true → (u ≤ a) × (a < b) × (member b (row rows (a - u)) ≡ true)
 pairs-to u a b [] h = absurd (false≢true h)
 pairs-to u a b (r ∷ rows) h =
@@ -84,6 +92,7 @@ pairs-to u a b (r ∷ rows) h =
           (omega arith, i.1, ap (λ n. member b (row (r ∷ rows) n)) s ∙ i.2)
     ]
 
+-- a greater number in one of the rows gives a pair
 pairs-from : (u k b : ℕ) (rows : List (List ℕ)) → u + k < b → member b (row rows k) ≡ true → one_of (u + k, b) (pairs_from u rows) ≡ true
 pairs-from u k b [] l m = absurd (false≢true m)
 pairs-from u zero b (r ∷ rows) l m =
@@ -95,6 +104,7 @@ pairs-from u (suc k) b (r ∷ rows) l m =
     list_any-append (eq_by_cmp pair_cmp (u + suc k, b)) (map (λ w. (u, w)) (filter (ltb u) r)) (pairs_from (u + 1) rows)
     ∙ or_right _ _ (subst (λ (n : ℕ). one_of (n, b) (pairs_from (u + 1) rows) ≡ true) (sym s) (pairs-from (u + 1) k b rows (omega arith) m))
 
+-- the graph of the rows has a pair just where its lesser end comes first and has the other in its row
 pub contains-edges : (rows : List (List ℕ)) (a b : ℕ) → contains (graph_of rows).edges (a, b) ≡ (ltb a b && member b (row rows a))
 unfolding graph_of
 contains-edges rows a b =
@@ -106,10 +116,12 @@ contains-edges rows a b =
     let l : a < b = ltb-true a b p.0 in
     subst (λ (n : ℕ). one_of (n, b) (pairs_from 0 rows) ≡ true) z (pairs-from 0 a b rows (omega arith) p.1))
 
+-- the graph of the rows has a vertex for each row
 pub size-graph_of : (rows : List (List ℕ)) → (graph_of rows).size ≡ length rows
 unfolding graph_of
 size-graph_of rows = refl
 
+-- in the graph of the rows a vertex is adjacent to those in its row
 pub adjacent-graph_of : (rows : List (List ℕ)) → IsAdjacency rows → (v w : ℕ) → adjacent (graph_of rows) v w ≡ member w (row rows v)
 adjacent-graph_of rows h v w = elim (cases_order v w) [
   | inl e ↦ ap (adjacent (graph_of rows) v) (sym e) ∙ adjacent-self (graph_of rows) v ∙ sym (ap (λ n. member n (row rows v)) (sym e) ∙ h.irreflexive v)
@@ -119,13 +131,15 @@ adjacent-graph_of rows h v w = elim (cases_order v w) [
   ]
 ]
 
--- What a graph's own view says.
+-- there are as many rows as vertices in the graph that contracts see
 pub size-view : (rows : List (List ℕ)) (g : SimpleGraph) → graph_of rows ≡ g → length rows ≡ g.size
 size-view rows g e = sym (size-graph_of rows) ∙ ap (λ (x : SimpleGraph). x.size) e
 
+-- in the graph that contracts see a vertex is adjacent to those in its row
 pub adjacent-view : (rows : List (List ℕ)) (g : SimpleGraph) → graph_of rows ≡ g → IsAdjacency rows → (v w : ℕ) → member w (row rows v) ≡ adjacent g v w
 adjacent-view rows g e h v w = sym (adjacent-graph_of rows h v w) ∙ ap (λ (x : SimpleGraph). adjacent x v w) e
 
+-- the row of a vertex has its neighbours in the graph that contracts see
 pub neighbours-view : (rows : List (List ℕ)) (g : SimpleGraph) → graph_of rows ≡ g → IsAdjacency rows → (v : ℕ) → AreNeighbours g v (row rows v)
 neighbours-view rows g e h v = record {
   ascending = h.ascends v;
@@ -133,12 +147,13 @@ neighbours-view rows g e h v = record {
   exact = adjacent-view rows g e h v;
 }
 
--- no vertex has a neighbour
+-- each of the rows without a neighbour is empty
 pub row-replicate : (n v : ℕ) → row (replicate n []) v ≡ []
 row-replicate zero v = refl
 row-replicate (suc n) zero = refl
 row-replicate (suc n) (suc v) = row-replicate n v
 
+-- rows without a neighbour are the rows of a graph
 pub IsAdjacency-none : (n : ℕ) → IsAdjacency (replicate n [])
 IsAdjacency-none n = record {
   ascends = λ v. subst IsStrictlyIncreasing (sym (row-replicate n v)) (λ k l. absurd (omega arith));
@@ -147,10 +162,12 @@ IsAdjacency-none n = record {
   symmetric = λ v w. ap (member w) (row-replicate n v) ∙ sym (ap (member v) (row-replicate n w));
 }
 
+-- rows without a neighbour give no pair
 pairs_from-none : (u n : ℕ) → pairs_from u (replicate n []) ≡ []
 pairs_from-none u zero = refl
 pairs_from-none u (suc n) = pairs_from-none (u + 1) n
 
+-- the graph of rows without a neighbour has no edge
 pub graph_of-none : (n : ℕ) → graph_of (replicate n []) ≡ record { size = n; edges = empty }
 unfolding graph_of
 graph_of-none n =
@@ -163,6 +180,7 @@ Distinct-from_increasing xs up =
     Distinct-from_pairs xs
     (λ i j d lt l e. let k : get_or xs i d < get_or xs j d = AllPairs-from_increasing xs up i j d lt l in absurd (omega arith))
 
+-- a number greater than the last of an ascending row has its place at the end
 pub place_at_end : (xs : List ℕ) (w last : ℕ) → IsStrictlyIncreasing xs → Some last ≡ slice_get xs (length xs - 1) → last < w → IsPlace xs w (Err (length xs))
 place_at_end xs w last up is lt = (
   omega arith,

@@ -29,6 +29,7 @@ row-here [] v r l e = absurd (omega arith)
 row-here (x ∷ rows) zero r l e = sym e
 row-here (x ∷ rows) (suc v) r l e = row-here rows v r (omega arith) e
 
+-- to be in a list or the number, but not the number, is to be in the list, where it lacks the number
 regained : (a e : Bool) → (e ≡ true → a ≡ false) → ((a || e) && not e) ≡ a
 regained true true h = absurd (true≢false (h refl))
 regained false true h = refl
@@ -67,14 +68,15 @@ deleted_from xs ys w ux uy has same =
       ascends = uy;
     }
 
--- the other end of an edge, from each of its ends
+-- who is joined to the first end of an edge is its second
 joins-u : (u v b : ℕ) → (u ≡ v → ⊥) → joins u v u b ≡ eqb b v
 joins-u u v b differ = ap₂ (λ (s t : Bool). (s && eqb b v) || (t && eqb b u)) (eq-eqb u u refl) (ne_eqb u v differ) ∙ or-false (eqb b v)
 
+-- who is joined to the second end of an edge is its first
 joins-v : (u v b : ℕ) → (u ≡ v → ⊥) → joins u v v b ≡ eqb b u
 joins-v u v b differ = ap₂ (λ (s t : Bool). (s && eqb b v) || (t && eqb b u)) (ne_eqb v u (λ e. differ (sym e))) (eq-eqb v v refl)
 
--- A list of the neighbours of one end `a` changes by the other end `w`.
+-- A list of the neighbours of one end `a` that gains the other end `w` has the neighbours once the edge came.
 near-with : (g : SimpleGraph) (u v a w : ℕ) (old new : List ℕ) → (u ≡ v → ⊥) → w < g.size → ((b : ℕ) → joins u v a b ≡ eqb b w) → AreNeighbours g a old
     → Inserted old new w → AreNeighbours (with_edge g u v) a new
 near-with g u v a w old new differ l ends near i = record {
@@ -83,6 +85,7 @@ near-with g u v a w old new differ l ends near i = record {
   exact = λ b. i.gained b ∙ ap₂ (λ (s t : Bool). s || t) (near.exact b) (sym (ends b)) ∙ sym (adjacent-with g u v a b differ);
 }
 
+-- a list of the neighbours of one end that loses the other has the neighbours once the edge went
 near-without : (g : SimpleGraph) (u v a w : ℕ) (old new : List ℕ) → (u ≡ v → ⊥) → ((b : ℕ) → joins u v a b ≡ eqb b w) → AreNeighbours g a old
     → Deleted old new w → AreNeighbours (without_edge g u v) a new
 near-without g u v a w old new differ ends near d = record {
@@ -91,25 +94,29 @@ near-without g u v a w old new differ ends near d = record {
   exact = λ b. d.kept b ∙ ap₂ (λ (s t : Bool). s && not t) (near.exact b) (sym (ends b)) ∙ sym (adjacent-without g u v a b differ);
 }
 
+-- a list of the neighbours of one end that changes by the other has the neighbours after the update
 near-end : (add : Bool) (g : SimpleGraph) (u v a w : ℕ) (old new : List ℕ) → (u ≡ v → ⊥) → w < g.size → ((b : ℕ) → joins u v a b ≡ eqb b w)
     → AreNeighbours g a old → IsChanged add old new w → AreNeighbours (cond add (with_edge g u v) (without_edge g u v)) a new
 near-end true g u v a w old new differ l ends near h = near-with g u v a w old new differ l ends near h
 near-end false g u v a w old new differ l ends near h = near-without g u v a w old new differ ends near h
 
--- A changed list has the neighbours of its end after the update.
+-- A changed list of the first end has the neighbours of it after the update.
 pub near-first : (add : Bool) (g : SimpleGraph) (u v : ℕ) (old new : List ℕ) → (u ≡ v → ⊥) → v < g.size
     → AreNeighbours g u old → IsChanged add old new v → AreNeighbours (cond add (with_edge g u v) (without_edge g u v)) u new
 near-first add g u v old new differ l near h = near-end add g u v u v old new differ l (λ b. joins-u u v b differ) near h
 
+-- and so has one of the second end
 pub near-second : (add : Bool) (g : SimpleGraph) (u v : ℕ) (old new : List ℕ) → (u ≡ v → ⊥) → u < g.size
     → AreNeighbours g v old → IsChanged add old new u → AreNeighbours (cond add (with_edge g u v) (without_edge g u v)) v new
 near-second add g u v old new differ l near h = near-end add g u v v u old new differ l (λ b. joins-v u v b differ) near h
 
 -- The lists after an update are put into the rows.
 module _ (rows : List (List ℕ)) (g : SimpleGraph) (view : graph_of rows ≡ g) (h : IsAdjacency rows) (u v : ℕ) (first second : List ℕ) (differ : u ≡ v → ⊥) where
+  -- two vertices are adjacent where the one is in the row of the other
   was : (a b : ℕ) → adjacent g a b ≡ member b (row rows a)
   was a b = sym (adjacent-view rows g view h a b)
 
+  -- where they were not adjacent, lists of the neighbours after the edge came put one number more in both rows
   pub put-added : adjacent g u v ≡ false → AreNeighbours (with_edge g u v) u first → AreNeighbours (with_edge g u v) v second
       → BothInserted rows (set (set rows u first) v second) u v
   put-added lacks near-u near-v = record {
@@ -122,6 +129,7 @@ module _ (rows : List (List ℕ)) (g : SimpleGraph) (view : graph_of rows ≡ g)
         (λ b. near-v.exact b ∙ adjacent-with g u v v b differ ∙ ap₂ (λ (s t : Bool). s || t) (was v b) (joins-v u v b differ));
   }
 
+  -- where they were adjacent, lists of the neighbours after the edge went put one number less in both rows
   pub put-removed : adjacent g u v ≡ true → AreNeighbours (without_edge g u v) u first → AreNeighbours (without_edge g u v) v second
       → BothDeleted rows (set (set rows u first) v second) u v
   put-removed has near-u near-v = record {
@@ -137,6 +145,7 @@ module _ (rows : List (List ℕ)) (g : SimpleGraph) (view : graph_of rows ≡ g)
 -- The same for the lists that an update asks for.
 module _ (update : Update) (rows : List (List ℕ)) (g : SimpleGraph) (view : graph_of rows ≡ g) (h : IsAdjacency rows) (lists : ListsAfter)
     (applied : is_applied update g ≡ true) (after : AreListsAfter update g lists) where
+  -- the ends of an update differ
   u-v : update.u ≡ update.v → ⊥
   u-v e = absurd (omega (arith, e, update.ordered))
 

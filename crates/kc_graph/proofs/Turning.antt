@@ -28,6 +28,7 @@ pub grows : (level b : ℕ) (ws core : List ℕ) (rows : List (List ℕ)) (core'
 grows level b ws core rows core' rows' h = omega (arith, ap length (h.filed b), length-append (row rows b) (filter (moved level core b) ws))
 
 module _ (level turn : ℕ) (rows : List (List ℕ)) (there : level < length rows) where
+  -- in the bucket are those whose turn has not come
   left : row (from_turn level turn rows) level ≡ drop turn (row rows level)
   left = row-set_same rows level (drop turn (row rows level)) there
 
