@@ -24,9 +24,11 @@ use Rattle.kc_stripes.specs.Reads.{HadPlace, HadValue, HasLooseCause, IsMissed, 
 
 -- Where more was seen. ---------------------------------------------------------------------------------
 
+-- what lies between two prefixes of a log lies so where more was seen
 between_grows : (start before log prefix : List Event) → Between start before prefix → IsPrefix before log → Between start log prefix
 between_grows start before log prefix b pre = record { extends = b.extends; extended = prefix_trans prefix before log b.extended pre }
 
+-- a place that a vertex had since a moment is one that it had where more was seen
 place_grows : (table : TableName) (start before log : List Event) (p : UsedPlace) → HadPlace table start before p → IsPrefix before log
     → HadPlace table start log p
 place_grows table start before log p h pre = record {
@@ -45,6 +47,7 @@ since_grows o start before log a h pre = record {
   places = All-weaker (HadPlace o.table start before) (HadPlace o.table start log) (λ p w. place_grows o.table start before log p w pre) a.places h.places;
 }
 
+-- a value that a word had since a moment is one that it had where more was seen
 value_grows : (table : TableName) (start before log : List Event) (word value : ℕ) → HadValue table start before word value → IsPrefix before log
     → HadValue table start log word value
 value_grows table start before log word value h pre = record {
@@ -53,7 +56,7 @@ value_grows table start before log word value h pre = record {
   held = h.held;
 }
 
--- and so does a miss
+-- a miss stays one where more was seen
 pub missed_grows : (table : TableName) (start before log : List Event) (again : Again) → IsMissed table start before again → IsPrefix before log
     → IsMissed table start log again
 missed_grows table start before log again m pre = record {
@@ -62,6 +65,7 @@ missed_grows table start before log again m pre = record {
   differ = m.differ;
 }
 
+-- a value that a word had since a moment is one that it had since an earlier one
 value_earlier : (table : TableName) (earlier start log : List Event) (word value : ℕ) → HadValue table start log word value → IsPrefix earlier start
     → HadValue table earlier log word value
 value_earlier table earlier start log word value h pre = record {
@@ -88,6 +92,7 @@ fault_grows table start before log old new plan.NoMemory says h pre = tt
 
 -- One answer more. ---------------------------------------------------------------------------------------
 
+-- where nothing was answered, what was read since a moment is so
 pub nothing_since : (o : Opened) (start log : List Event) → WereReadSince o start log nothing_answered
 nothing_since o start log = record {
   read = nothing_read o.table o.edges log;
@@ -118,7 +123,7 @@ place_since o start before log a v h begins pre read =
     } in
     record { read = read; lists = h.lists; places = All-push (HadPlace o.table start log) a.places (place_after o.table log v) old.places new }
 
--- whose lists and core numbers were told are vertices of the table
+-- whose lists were told are vertices of the table
 lists_below : (o : Opened) (log : List Event) (w : ℕ) (xs : List UsedEdges) → All (WasList o.table o.edges log) xs → is_some (list_in w xs) ≡ true
     → w < o.table.shape.fixed
 lists_below o log w [] all told = absurd (false≢true told)
@@ -128,6 +133,7 @@ lists_below o log w (x ∷ xs) all told =
       | false ↦ λ e t. lists_below o log w xs (λ i d l. all (suc i) d (omega (arith, l))) t
     ] refl told
 
+-- whose core numbers were told are vertices of the table
 cores_below : (o : Opened) (log : List Event) (w : ℕ) (xs : List UsedPlace) → All (WasPlace o.table log) xs → is_some (core_in w xs) ≡ true
     → w < o.table.shape.fixed
 cores_below o log w [] all told = absurd (false≢true told)
@@ -137,10 +143,12 @@ cores_below o log w (x ∷ xs) all told =
       | false ↦ λ e t. cores_below o log w xs (λ i d l. all (suc i) d (omega (arith, l))) t
     ] refl told
 
+-- a vertex whose list a view has answered is one of the table
 pub list_below : (o : Opened) (start log : List Event) (a : Answers) (w : ℕ) → WereReadSince o start log a → has_list a w ≡ true
     → w < o.table.shape.fixed
 list_below o start log a w h told = lists_below o log w a.edges h.read.edges told
 
+-- a vertex whose core number a view has answered is one of the table
 pub core_below : (o : Opened) (start log : List Event) (a : Answers) (w : ℕ) → WereReadSince o start log a → has_core a w ≡ true
     → w < o.table.shape.fixed
 core_below o start log a w h told = cores_below o log w a.places h.read.places told
@@ -152,6 +160,7 @@ at_middle : (front back : List Loaded) (l d : Loaded) → get_or (front ++ l ∷
 at_middle [] back l d = refl
 at_middle (x ∷ front) back l d = at_middle front back l d
 
+-- a list is longer than the front before one of its elements
 long_enough : (front back : List Loaded) (l : Loaded) → length front < length (front ++ l ∷ back)
 long_enough [] back l = omega arith
 long_enough (x ∷ front) back l = omega (arith, long_enough front back l)

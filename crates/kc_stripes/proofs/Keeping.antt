@@ -14,6 +14,7 @@ use Rattle.kc_stripes.specs.declared.stripe.TheConstants.{STRIPES}
 use Rattle.kc_stripes.specs.Records.{Opened, IsRecord, Striped, IsStripe, no_record, vertex_at, belongs, record_of}
 use Rattle.kc_stripes.proofs.Growing.{record_stays}
 
+-- where two truths hold together each holds
 both : (a b : Bool) → (a && b) ≡ true → (a ≡ true) × (b ≡ true)
 both true true h = (refl, refl)
 both true false h = absurd (false≢true h)
