@@ -22,33 +22,42 @@ use Rattle.kc_shared.specs.contracts.kept.Kept as kept
 use Rattle.kc_shared.specs.contracts.kept.Kept.TheInside as inside
 use Rattle.kc_shared.specs.contracts.shared.Shared as shared
 
+-- a graph may go to another thread
 graph_send : IsSend graph.the_row
 graph_send = search (sendable, crosses) depth 20
 
+-- a writer's seat may go to another thread
 writer_seat_send : IsSend writer_seat.the_row
 writer_seat_send = search (sendable, crosses, seat.the_send) depth 20
 
+-- a writer may go to another thread
 writer_send : IsSend writer.the_row
 writer_send = search (sendable, crosses, plain_send, writer_seat_send) depth 20
 
+-- levels may go to another thread
 levels_send : IsSend levels.the_row
 levels_send = search (sendable, crosses, writer_send) depth 20
 
+-- a journal may go to another thread
 pub journal_send : IsSend journal.the_row
 journal_send = search (sendable, crosses, graph_send, levels_send) depth 20
 
+-- what is behind the lock, a journal with its book, may go to another thread
 kept_send : (K : RattleType) (n : name.Ghosts K.Denot) (l : ledger.Ghosts K.Denot) → IsSend K → IsSync K → IsSend (kept.the_row K n l)
 kept_send K n l s y =
     let T : Declared = inside.the_type K n l in
     view_send _ _ _ _ _ (recorded_send (Struct (shape T)) T.D T.to T.to_one
     (struct_send (shape T) (journal_send, (book.the_send K l, (search (sendable, crosses) depth 20, tt)))))
 
+-- threads may share the stripes of a run
 stripes_field_sync : (K : RattleType) (n : name.Ghosts K.Denot) → IsSend K → IsSync K → IsSync (stripes.the_field K n).row
 stripes_field_sync K n s y = search (sendable, crosses, stripe_send) depth 20
 
+-- threads may share the lock with what is behind it
 mutex_sync : (K : RattleType) (n : name.Ghosts K.Denot) (l : ledger.Ghosts K.Denot) → IsSend K → IsSync K → IsSync (mutex.the_row (kept.the_row K n l))
 mutex_sync K n l s y = let k = kept_send K n l s y in search (sendable, crosses) depth 20
 
+-- threads may share the whole state of a run
 pub shared_sync : (K : RattleType) (n : name.Ghosts K.Denot) (l : ledger.Ghosts K.Denot) → IsSend K → IsSync K → IsSync (shared.the_row K n l)
 shared_sync K n l s y =
     let T : Declared = shared.the_type K n l in

@@ -39,7 +39,7 @@ was-used es ps a s first = elim first [
   | inr (_, f) ↦ subst (λ (z : Stale). WasUsed a z.vertex z.edges z.used) (sym f.named) (f.front, f.back, f.place, f.is, refl, refl)
 ]
 
--- and is less
+-- and the first stale stamp is less than the present one
 is-less : (es ps : List ℕ) (a : Answers) (s : Stale) → IsFirstStale es ps a s → s.used < s.now
 is-less es ps a s first = elim first [
   | inl f ↦ subst (λ (z : Stale). z.used < z.now) (sym f.named) f.less
@@ -88,11 +88,13 @@ module _ (t : TableName) (log : List Event) (v : ℕ) (legal : Legal t.shape t.o
     | inr ok ↦ ok
   ]
 
+-- the present stamp is that of the opening, or the number of an entry of the table that has made it
 abbrev Because : Journalled → Stale → Bool → Type 0
 Because j s b =
     ((s.now ≤ j.levels.table.shape.base) × (s.now ≡ opening_stamp (opened_by j) s.vertex b))
     ⊎ ((j.levels.table.shape.base < s.now) × HasMade (opened_by j) j.levels.log s.vertex b s.now)
 
+-- the present stamp of one that is stale is so because of the opening or of an entry
 because : (j : Journalled) (plan : Plan) (s : Stale) → Stands j → MayEnter j plan → IsStale j plan s → (b : Bool) → s.edges ≡ b → Because j s b
 because j plan s h may is true edges = elim (stale-list j plan s h may is edges) [
   | inl opening ↦ inl (omega (arith, opening, h.early s.vertex (list-low j plan s may is edges)), opening)
@@ -111,6 +113,7 @@ because j plan s h may is false edges =
       | inr early ↦ inl (early, now ∙ early-is t log s.vertex legal (omega (arith, early, now)))
     ]
 
+-- a stale stamp of a plan that may be entered was used, is less, and has its cause in the log
 pub outdated : (j : Journalled) (plan : Plan) (s : Stale) → Stands j → MayEnter j plan → IsStale j plan s
     → IsOutdated (opened_by j) j.levels.log (answers_in plan.used) s.vertex s.edges s.used s.now
 outdated j plan s h may is = record {

@@ -45,6 +45,7 @@ pub record Known (o : Opened) (j : Journalled) : Type 0 where
   pub stands : Stands j
   pub is : opened_by j ≡ o
 
+-- a booked journal that stands and has gone on is one of the known table
 pub known : {o : Opened} {started : SimpleGraph} {log : List Event} {entries : List Entry} {self now : Booked} → self ≡ now → Stands self.journal
     → GoesOn o started log entries self → Known o now.journal
 known {o} {started} {log} {entries} {self} {now} is h on = record {
@@ -148,6 +149,7 @@ lists-told o log update place applied old new (Some lists) is are low tell =
       },
     )
 
+-- what a journal entered is told as an entry of its own table and log
 told-here : (seen : List Event) (old new : Journalled) (index : ℕ) (plan : Plan) (entered : Entered) → Stands old → plan.update.v < size_of old.levels
     → IsPrefix seen old.levels.log → IsEntered old new index plan entered
     → IsToldEntry (opened_by old) seen new.levels.log index plan.update entered
@@ -177,6 +179,7 @@ told-here seen old new index plan entered h low pre e =
           (may-tell new list e.stands (omega (arith, within, fixed)) last near)));
     }
 
+-- what a journal entered is told of what the pass has seen, as an entry of the known table
 pub told : {o : Opened} {old new : Journalled} {seen : List Event} {pass : PassSeen} {index : ℕ} {plan : Plan} {entered : Entered} → Known o old
     → plan.update.v < o.table.shape.fixed → IsPrefix seen old.levels.log → pass ≡ all_seen new → IsEntered old new index plan entered
     → IsToldEntry o seen pass.log index plan.update entered
@@ -216,6 +219,7 @@ cause-earlier o earlier old new index plan (shared.NoMemory (Some receipt)) pre 
 
 -- A refusal. ---------------------------------------------------------------------------------------------
 
+-- a sure plan that was read of what the pass or the journal has seen may be entered
 may-enter : (j : Journalled) (seen : List Event) (plan : Plan) → plan.update.v < size_of j.levels → IsPrefix seen j.levels.log
     → WasReadOf j seen plan → IsSure plan → MayEnter j plan
 may-enter j seen plan low pre (log, either, read) sure = record {
@@ -233,6 +237,7 @@ few-moves j plan h may current =
     let bound = below_bound j.graph.size (moved_vertices plan.moves) right.1.once (moved-within (ranked j) plan.moves right.0.moves_fit) in
     omega (arith, bound, size-is j h)
 
+-- each refusal of a journal has its cause in the journal's own table and log
 cause-here : (seen : List Event) (j : Journalled) (index : ℕ) (plan : Plan) (fault : EnterFault) → Stands j → MayEnter j plan → IsCause j plan fault
     → HasCause (opened_by j) seen j.levels.log index plan (told_fault fault)
 cause-here seen j index plan (enter.Full entries) h may is = (is.0 ∙ sym (number-is j h), is.1)
@@ -246,6 +251,7 @@ cause-here seen j index plan (enter.Spent highest needed) h may is = record {
 }
 cause-here seen j index plan enter.NoMemory h may is = tt
 
+-- each refusal has its cause in what the pass has seen, of the known table
 pub cause : {o : Opened} {j : Journalled} {seen : List Event} {pass : PassSeen} {plan : Plan} (index : ℕ) (fault : EnterFault) (answer : SharedFault)
     → Known o j → plan.update.v < o.table.shape.fixed → IsPrefix seen j.levels.log → WasReadOf j seen plan → IsSure plan → pass ≡ all_seen j
     → answer ≡ told_fault fault → IsCause j plan fault → HasCause o seen pass.log index plan answer
@@ -266,6 +272,7 @@ other-cause j plan (enter.Stale vertex edges used now) may current is =
 other-cause j plan (enter.Spent highest needed) may current is = tt
 other-cause j plan enter.NoMemory may current is = tt
 
+-- a refusal of a plan with present stamps alone names no stale one
 pub never-stale : {o : Opened} {j : Journalled} {seen : List Event} {plan : Plan} (fault : EnterFault) (answer : SharedFault) → Known o j
     → plan.update.v < o.table.shape.fixed → IsPrefix seen j.levels.log → WasReadOf j seen plan → IsSure plan → answer ≡ told_fault fault
     → IsCause j plan fault → IsCurrent j plan → IsNotStale answer
