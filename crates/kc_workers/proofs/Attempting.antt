@@ -32,6 +32,7 @@ use Rattle.kc_workers.specs.declared.fault.UpdateFault.TheVariants as fault
 
 -- Since an earlier moment. -------------------------------------------------------------------------------
 
+-- a receipt since a moment is one since any earlier moment, and of the same update
 pub receipt-since : (o : Opened) (earlier old new : List Event) (index : ℕ) (planned update : Update) (receipt : Receipt) → planned ≡ update
     → IsPrefix earlier old → IsReceipt o old new index planned receipt → IsReceipt o earlier new index update receipt
 receipt-since o earlier old new index planned update receipt same pre r =
@@ -45,6 +46,7 @@ receipt-since o earlier old new index planned update receipt same pre r =
       later = omega (arith, here.later, number-grows o.table.shape o.table.opening earlier old pre);
     }
 
+-- what has caused a fault since a moment has caused it since any earlier one
 pub cause-since : (o : Opened) (earlier old new : List Event) (index : ℕ) (update : Update) (f : UpdateFault) → IsPrefix earlier old
     → HasUpdateCause o old new index update f → HasUpdateCause o earlier new index update f
 cause-since o earlier old new index update (fault.Full entries) pre is = is
@@ -59,7 +61,7 @@ misses-stay o start log more misses legal within after all =
     All-weaker (IsTrueMiss o start log) (IsTrueMiss o start more)
     (λ miss true-so. stays-true o start start log more miss legal (prefix_self start) within after true-so) misses all
 
--- and one more joins them
+-- where misses are true, and one more is, they are so all together
 pub one-more : (o : Opened) (start log more : List Event) (misses : List Missed) (miss : Missed) → Legal o.table.shape o.table.opening more
     → IsPrefix start log → IsPrefix log more → All (IsTrueMiss o start log) misses → IsTrueMiss o log more miss
     → All (IsTrueMiss o start more) (misses ++ miss ∷ [])
@@ -69,7 +71,7 @@ one-more o start log more misses miss legal within after all last =
 
 -- A refusal of the shared state. -------------------------------------------------------------------------
 
--- it is the update's own, with its cause, but where a stamp was stale
+-- a refusal for another reason than a stale stamp is a fault of the update, with its cause
 pub faults : (o : Opened) (old new : List Event) (index : ℕ) (plan : Plan) (update : Update) (f : SharedFault) → plan.update ≡ update
     → HasCause o old new index plan f → IfErr (told_attempt f) (HasUpdateCause o old new index update)
 faults o old new index plan update (shared.Full entries) same is = is
@@ -80,7 +82,7 @@ faults o old new index plan update (shared.NoMemory None) same is = tt
 faults o old new index plan update (shared.NoMemory (Some receipt)) same is =
     receipt-since o old old new index plan.update update receipt same (prefix_self old) is
 
--- and there it is a true miss since the plan was begun
+-- a refusal for a stale stamp is a true miss since the plan was begun
 misses : (o : Opened) (old before new : List Event) (index : ℕ) (plan : Plan) (update : Update) (f : SharedFault) → IsPrefix before new
     → Legal o.table.shape o.table.opening new → WereReadSince o old before (answers_in plan.used) → HasCause o before new index plan f
     → IfOk (told_attempt f) (IsAttempt o old new index update)
@@ -96,6 +98,7 @@ pub record IsPlanned (o : Opened) (old now : List Event) (update : Update) (plan
   pub read : WereReadSince o old now (answers_in plan.used)
   pub update_is : plan.update ≡ update
 
+-- a plan that was made inside, of what was read since, is one that the worker has planned
 pub planned : {o : Opened} {inside worker : Seen} {now : List Event} {update : Update} (plan : Plan) → inside ≡ worker → IsPrefix inside.log now
     → WereReadSince o inside.log now (answers_in plan.used) → plan.update ≡ update → IsPlanned o worker.log now update plan
 planned {o} {inside} {worker} {now} {update} plan is begins read same = record {
@@ -104,11 +107,13 @@ planned {o} {inside} {worker} {now} {update} plan is begins read same = record {
   update_is = same;
 }
 
+-- the receipt of a planned update is one since its worker began
 pub entered-so : {o : Opened} {old now new : List Event} {index : ℕ} {update : Update} {plan : Plan} {receipt : Receipt}
     → IsPlanned o old now update plan → IsReceipt o now new index plan.update receipt → IsReceipt o old new index update receipt
 entered-so {o} {old} {now} {new} {index} {update} {plan} {receipt} p r =
     receipt-since o old now new index plan.update update receipt p.update_is p.begins r
 
+-- where a planned update was refused, and that is told as a miss, the miss is true
 pub missed-so : {o : Opened} {old now : List Event} {update : Update} {plan : Plan} (new : List Event) (index : ℕ) (f : SharedFault)
     (told : Result Attempt UpdateFault) → told ≡ told_attempt f → IsPlanned o old now update plan → IsPrefix now new
     → Legal o.table.shape o.table.opening new → HasCause o now new index plan f → IfOk told (IsAttempt o old new index update)
@@ -116,6 +121,7 @@ missed-so {o} {old} {now} {update} {plan} new index f told told-is p later legal
     subst (λ (r : Result Attempt UpdateFault). IfOk r (IsAttempt o old new index update)) (sym told-is)
     (misses o old now new index plan update f later legal p.read is)
 
+-- where a planned update was refused, and that is told as a fault, the fault has its cause
 pub refused-so : {o : Opened} {old now : List Event} {update : Update} {plan : Plan} (new : List Event) (index : ℕ) (f : SharedFault)
     (told : Result Attempt UpdateFault) → told ≡ told_attempt f → IsPlanned o old now update plan → HasCause o now new index plan f
     → IfErr told (HasUpdateCause o old new index update)
@@ -125,7 +131,7 @@ refused-so {o} {old} {now} {update} {plan} new index f told told-is p is =
     (subst (λ (r : Result Attempt UpdateFault). IfErr r (HasUpdateCause o now new index update)) (sym told-is)
     (faults o now new index plan update f p.update_is is))
 
--- a fault that is handed on
+-- a fault that is handed on has its cause since any earlier moment
 pub handed-on : {T : Type 0} (o : Opened) (old now new : List Event) (index : ℕ) (update : Update) (f : UpdateFault) (r : Result T UpdateFault)
     → IsErrAnd r (λ g. g ≡ f) → IsPrefix old now → HasUpdateCause o now new index update f → IfErr r (HasUpdateCause o old new index update)
 handed-on {T} o old now new index update f r is pre h =
@@ -140,6 +146,7 @@ pub begun-log : {inside worker : Seen} {pass : PassSeen} {table : TableName} {lo
     → pass ≡ record { table = table; log = inside.log; loads = loads; splits = splits } → pass.log ≡ worker.log
 begun-log {inside} {worker} {pass} {table} {loads} {splits} is split = ap (λ (p : PassSeen). p.log) split ∙ ap (λ (w : Seen). w.log) is
 
+-- a log that goes on from a split pass goes on from what its worker had seen
 pub begun : {inside worker : Seen} {pass : PassSeen} {table : TableName} {loads splits : ℕ} {now : List Event} → inside ≡ worker
     → pass ≡ record { table = table; log = inside.log; loads = loads; splits = splits } → IsPrefix pass.log now → IsPrefix worker.log now
 begun {inside} {worker} {pass} {table} {loads} {splits} {now} is split pre =
