@@ -25,6 +25,7 @@ listed-low table log legal x m = (stands table.shape table.opening log legal).li
 pub settled-grows : (list : List ℕ) (a : ℕ) (t u : Trail) → IsPrefix t.vertices u.vertices → (w : ℕ) → IsSettled list a t w → IsSettled list a u w
 settled-grows list a t u p w h = record { other = h.other; reached = λ s. member-prefix w t.vertices u.vertices p (h.reached s) }
 
+-- where the first vertices of a row are settled, and the next one is, these are so together
 pub settled-next : (list : List ℕ) (a : ℕ) (t u : Trail) (rows : List ℕ) (i : ℕ) → i < length rows → IsPrefix t.vertices u.vertices
     → ((w : ℕ) → member w (take i rows) ≡ true → IsSettled list a t w) → IsSettled list a u (get_or rows i 0)
     → (w : ℕ) → member w (take (i + 1) rows) ≡ true → IsSettled list a u w
@@ -56,6 +57,7 @@ module _ (table : TableName) (log : List Event) (dag : IsDag table log) (legal :
 
 -- All of a row was looked at. -----------------------------------------------------------------------------
 
+-- where all of a row is settled, so is one vertex more of the trail
 pub settled-place : (arcs : List (ℕ × ℕ)) (list : List ℕ) (a : ℕ) (t u : Trail) (rows : List ℕ) (place : ℕ) → place < length t.vertices
     → IsPrefix t.vertices u.vertices → AreSettled arcs list a t place → ((w : ℕ) → member w rows ≡ has_arc arcs (get_or t.vertices place 0) w)
     → ((w : ℕ) → member w rows ≡ true → IsSettled list a u w) → AreSettled arcs list a u (place + 1)

@@ -13,6 +13,7 @@ member-other_end : (w v : ℕ) (vs : List ℕ) → w ≢ v → member w (vs ++ v
 member-other_end w v vs ne = same_test (member w (vs ++ v ∷ [])) (member w vs)
     (λ m. elim (member-push_cases w v vs m) [ inl k ↦ k | inr e ↦ absurd (ne e) ]) (member-push_left w v vs)
 
+-- the vertex behind the last is a member
 member-own_end : (w v : ℕ) (vs : List ℕ) → w ≡ v → member w (vs ++ v ∷ []) ≡ true
 member-own_end w v vs e = subst (λ (z : ℕ). member z (vs ++ v ∷ []) ≡ true) (sym e) (member-append_right v vs (v ∷ []) (member-head v []))
 

@@ -17,7 +17,7 @@ use Rattle.kc_order.specs.Standing.{list_after}
 use Rattle.kc_topo.specs.Arcs.{StandOnce, arc_of, arcs_after, ascending, has_arc}
 use Rattle.kc_topo.specs.Dags.{IsDag, Keeps, OpensDag}
 
--- the ascending numbers are those below n, each once
+-- what is among the ascending numbers below n is below n
 pub ascending-low : (n v : ℕ) → member v (ascending n) ≡ true → v < n
 ascending-low zero v m = absurd (false≢true m)
 ascending-low (suc n) v m = elim (member-push_cases v n (ascending n) m) [
@@ -25,6 +25,7 @@ ascending-low (suc n) v m = elim (member-push_cases v n (ascending n) m) [
   | inr e ↦ omega (arith, e)
 ]
 
+-- each number below n is among the ascending ones
 pub ascending-member : (n v : ℕ) → v < n → member v (ascending n) ≡ true
 ascending-member zero v l = absurd (omega (arith, l))
 ascending-member (suc n) v l = elim (cases_eq v n) [
@@ -32,20 +33,23 @@ ascending-member (suc n) v l = elim (cases_eq v n) [
   | inr ne ↦ member-push_left v n (ascending n) (ascending-member n v (omega (arith, l, ne)))
 ]
 
+-- no number stands twice among the ascending ones
 pub Distinct-ascending : (n : ℕ) → Distinct (ascending n)
 Distinct-ascending zero = tt
 Distinct-ascending (suc n) = Distinct-push (ascending n) n (Distinct-ascending n)
     (false_from_ne_true (member n (ascending n)) (λ m. let l : n < n = ascending-low n n m in omega arith))
 
+-- each row of a graph without arcs is empty
 row-none : (n a : ℕ) → row (replicate n []) a ≡ []
 row-none zero a = refl
 row-none (suc n) zero = refl
 row-none (suc n) (suc a) = row-none n a
 
--- nothing was entered, and nothing is left open
+-- where nothing was stored no arc was entered
 no-arcs : (table : TableName) → arcs_after table [] ≡ []
 no-arcs table = ap (λ (s : State). map arc_of s.entries) (state_of-nil table.shape table.opening)
 
+-- the one prefix of the empty log is empty
 whole-empty : (prefix : List Event) → IsPrefix prefix [] → prefix ≡ []
 whole-empty [] p = refl
 whole-empty (e ∷ es) p = absurd (omega (arith, ap length p.1))

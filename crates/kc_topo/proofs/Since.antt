@@ -15,6 +15,7 @@ use Rattle.kc_topo.specs.declared.added.Added.{Added}
 use Rattle.kc_topo.specs.declared.added.Added.TheVariants as added
 use Rattle.kc_topo.specs.declared.fault.DagFault.{DagFault}
 
+-- an arc that is among the first ones is among all of them
 arc-front : (arcs more : List (ℕ × ℕ)) (a b : ℕ) → has_arc arcs a b ≡ true → has_arc (arcs ++ more) a b ≡ true
 arc-front [] more a b h = absurd (false≢true h)
 arc-front (arc ∷ arcs) more a b h = elim (or_cases (eqb a arc.0 && eqb b arc.1) (has_arc arcs a b) h) [

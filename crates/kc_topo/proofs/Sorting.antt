@@ -20,18 +20,22 @@ use Rattle.kc_topo.proofs.Walks.{at-place, one-first}
 
 -- How often a number comes. ----------------------------------------------------------------------------
 
+-- 1 where two numbers are one, and 0 otherwise
 abbrev is_it : ℕ → ℕ → ℕ
 is_it x y = cond (eqb x y) 1 0
 
+-- how often a number stands in a list
 abbrev times : ℕ → List ℕ → ℕ
 times x zs = sum_by (is_it x) zs
 
+-- a number that is not in a list stands there no times
 times-none : (x : ℕ) (zs : List ℕ) → member x zs ≡ false → times x zs ≡ 0
 times-none x [] h = refl
 times-none x (z ∷ zs) h =
     let p = not_member-parts x z zs h in
     omega (arith, sum_by-cons (is_it x) z zs, ap {B = ℕ} (λ b. cond b 1 0) (ne_eqb x z p.0), times-none x zs p.1)
 
+-- a number that is in a list stands there at least once
 times-some : (x : ℕ) (zs : List ℕ) → member x zs ≡ true → 1 ≤ times x zs
 times-some x [] m = absurd (false≢true m)
 times-some x (z ∷ zs) m = elim (member-cases x z zs m) [
@@ -39,6 +43,7 @@ times-some x (z ∷ zs) m = elim (member-cases x z zs m) [
   | inr k ↦ omega (arith, sum_by-cons (is_it x) z zs, times-some x zs k)
 ]
 
+-- in a list of distinct numbers each stands at most once
 times-once : (x : ℕ) (zs : List ℕ) → Distinct zs → times x zs ≤ 1
 times-once x [] d = omega arith
 times-once x (z ∷ zs) d = elim (cases_eq x z) [
@@ -51,6 +56,7 @@ times-once x (z ∷ zs) d = elim (cases_eq x z) [
   | inr ne ↦ omega (arith, sum_by-cons (is_it x) z zs, ap {B = ℕ} (λ b. cond b 1 0) (ne_eqb x z ne), times-once x zs d.1)
 ]
 
+-- where each number stands at most once the numbers are distinct
 once-distinct : (zs : List ℕ) → ((x : ℕ) → times x zs ≤ 1) → Distinct zs
 once-distinct [] few = tt
 once-distinct (z ∷ zs) few = (
@@ -70,6 +76,7 @@ Distinct-permutation xs ys p d = once-distinct ys (λ x. omega (arith, sum_by-Is
 
 -- Sorted by places. ---------------------------------------------------------------------------------------
 
+-- distinct members of a list, sorted by their places there, are in the list's order
 pub sorted-turn : (list run : List ℕ) → IsNonDecreasingBy (λ x. place_of x list) run → Distinct run
     → ((v : ℕ) → member v run ≡ true → member v list ≡ true) → InListOrder run list
 sorted-turn list [] up d listed = tt
@@ -92,11 +99,12 @@ place-out : (x : ℕ) (zs : List ℕ) → member x zs ≡ false → place_of x z
 place-out x [] h = refl
 place-out x (z ∷ zs) h = let p = not_member-parts x z zs h in place-next x z zs p.0 ∙ ap suc (place-out x zs p.1)
 
--- a vertex has a place within the list, and another number the place behind it
+-- a vertex has a place within the list
 pub place-low : (table : TableName) (log : List Event) → IsDag table log → (x : ℕ) → x < table.shape.items
     → place_of x (list_after table log) < length (list_after table log)
 place-low table log dag x l = (at-place x (list_after table log) (dag.vertices x l)).0
 
+-- a number that is no vertex has the place behind the list
 pub place-high : (table : TableName) (log : List Event) → Legal table.shape table.opening log → (x : ℕ) → table.shape.items ≤ x
     → place_of x (list_after table log) ≡ length (list_after table log)
 place-high table log legal x h = place-out x (list_after table log)

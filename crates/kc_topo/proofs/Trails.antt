@@ -16,11 +16,13 @@ use Rattle.kc_topo.proofs.Walks.{at-place, leads-later, never-itself, none-back,
 
 -- Lists that grow at the end. ------------------------------------------------------------------------
 
+-- what stands in the first of two lists stands there in both together
 get_or-front : (xs ys : List ℕ) (k : ℕ) → k < length xs → get_or (xs ++ ys) k 0 ≡ get_or xs k 0
 get_or-front [] ys k l = absurd (omega (arith, l))
 get_or-front (x ∷ xs) ys zero l = refl
 get_or-front (x ∷ xs) ys (suc k) l = get_or-front xs ys k (omega (arith, l))
 
+-- the last one stands behind all before it
 get_or-end : (xs : List ℕ) (x : ℕ) → get_or (xs ++ x ∷ []) (length xs) 0 ≡ x
 get_or-end [] x = refl
 get_or-end (y ∷ xs) x = get_or-end xs x
@@ -29,6 +31,7 @@ get_or-end (y ∷ xs) x = get_or-end xs x
 pub get_or-prefix : (xs ys : List ℕ) (k : ℕ) → IsPrefix xs ys → k < length xs → get_or ys k 0 ≡ get_or xs k 0
 get_or-prefix xs ys k p l = ap (λ zs. get_or zs k 0) (sym p.1) ∙ get_or-front xs p.0 k l
 
+-- what is in a list's front is in the whole
 pub member-prefix : (x : ℕ) (xs ys : List ℕ) → IsPrefix xs ys → member x xs ≡ true → member x ys ≡ true
 member-prefix x xs ys p m = ap (member x) (sym p.1) ∙ member-append_left x xs p.0 m
 

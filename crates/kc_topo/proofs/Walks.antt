@@ -37,6 +37,7 @@ one-first x y zs m n ne = elim (cases_lt (place_of x zs) (place_of y zs)) [
 pub never-itself : (x : ℕ) (zs : List ℕ) → StandsBefore x x zs → ⊥
 never-itself x zs s = stands-once x x zs s s
 
+-- what stands before one that stands before a third stands before that
 pub stands-on : (x y z : ℕ) (zs : List ℕ) → StandsBefore x y zs → StandsBefore y z zs → StandsBefore x z zs
 stands-on x y z zs s t = record { first = s.first; second = t.second; before = omega (arith, s.before, t.before) }
 
@@ -46,11 +47,12 @@ stands-on x y z zs s t = record { first = s.first; second = t.second; before = o
 pub reaches-self : (arcs : List (ℕ × ℕ)) (b : ℕ) → Reaches arcs b b
 reaches-self arcs b = (b ∷ [], (refl, refl))
 
+-- steps along arcs lead on by one arc more
 leads-push : (arcs : List (ℕ × ℕ)) (v w a : ℕ) (ws : List ℕ) → LeadsTo arcs v w ws → has_arc arcs w a ≡ true → LeadsTo arcs v a (ws ++ a ∷ [])
 leads-push arcs v w a [] h arc = (subst (λ (z : ℕ). has_arc arcs z a ≡ true) (sym h) arc, refl)
 leads-push arcs v w a (x ∷ ws) h arc = (h.0, leads-push arcs x w a ws h.1 arc)
 
--- and what an arc leads to from one that it reaches
+-- what an arc leads to from a vertex that was reached is reached
 pub reaches-on : (arcs : List (ℕ × ℕ)) (b v w : ℕ) → Reaches arcs b v → has_arc arcs v w ≡ true → Reaches arcs b w
 reaches-on arcs b v w ([], h) arc = absurd h
 reaches-on arcs b v w (x ∷ vs, h) arc = (x ∷ (vs ++ w ∷ []), (h.0, leads-push arcs x v w vs h.1 arc))
@@ -71,6 +73,7 @@ leads-later arcs list top v a (w ∷ ws) h =
       | inr s ↦ inr (stands-on v w a list one s)
     ]
 
+-- what a vertex reaches is itself, or stands later in a topological list
 pub reaches-later : (arcs : List (ℕ × ℕ)) (list : List ℕ) → IsTopological arcs list → (b v : ℕ) → Reaches arcs b v → (b ≡ v) ⊎ StandsBefore b v list
 reaches-later arcs list top b v r = let s = steps-of arcs b v r in leads-later arcs list top b v s.0 s.1
 
