@@ -24,11 +24,11 @@ use Rattle.kc_report.proofs.Drawn.{AreIds, IsBatch, IsFit, generated-is}
 use Rattle.kc_report.proofs.Short.{length-generated}
 use Rattle.kc_report.proofs.Spoken.{batch_said, change_said, edge_said, said-generated}
 
--- all names are below a number
+-- all names are below the number of ids of a generated text
 abbrev AreBelow : List ℕ → Type 0
 AreBelow names = (q : ℕ) → is_member nat_eq names q ≡ true → q < IDS
 
--- with two names more
+-- all names stay so with two ids of a generated text more
 below-more : (xs ys : List ℕ) (a b : ℕ) → NamesMore xs ys a b → AreIds (a, b) → AreBelow xs → AreBelow ys
 below-more xs ys a b more ids below q named =
     elim (or_cases (nat_eq q b) (nat_eq q a || is_member nat_eq xs q) (sym (more q) ∙ named)) [
@@ -39,6 +39,7 @@ below-more xs ys a b more ids below q named =
       ]
     ]
 
+-- names of a generated text are no more different ones than it has ids
 few_ids : (names : List ℕ) → AreBelow names → distinct_count nat_eq names ≤ IDS
 few_ids names below = length-le_from_distinct_below (unique_keys nat_eq names) IDS (IsDistinct-unique names)
     (λ q h. below q (sym (is_member-unique names q) ∙ h))
@@ -56,6 +57,7 @@ record AreFew (lines updates most : ℕ) : Type 0 where
   changes : updates ≤ BATCHES * TURNS
   batches : most ≤ BATCHES
 
+-- what is told of so few passes no limit
 no_limit : (told : Told) (lines updates most : ℕ) → IsSmall told lines updates most → AreFew lines updates most → passed_limit told ≡ None
 no_limit told lines updates most small few =
     ap (λ b. first_limit b (nat_lt MOST_EDGE_LINES (length told.edges)) (nat_lt MOST_UPDATES (length (changes told)))
@@ -79,14 +81,17 @@ stay last between first second one = second ∙ one
 abbrev Reads : Told → List Line → Told → Type 0
 Reads from lines to = (done : ℕ) (rest : List Line) → (after : ℕ) × (reading done from (lines ++ rest) ≡ reading after to rest)
 
+-- no lines leave what is told as it is
 reads-none : (told : Told) → Reads told [] told
 reads-none told done rest = (done, refl)
 
+-- a line that is not refused is read, and the lines behind it go on from there
 reads-line : (told to : Told) (line : Line) (lines : List Line) → refusal told line ≡ None → Reads (with_line told line) lines to → Reads told (line ∷ lines) to
 reads-line told to line lines none reads done rest =
     let (after, e) = reads (done + 1) rest in
     (after, ap (λ r. ends_or r (done + 1) (reading (done + 1) (with_line told line) (lines ++ rest))) none ∙ e)
 
+-- lines and more lines behind them take what is told on in two steps
 reads-append : (from between to : Told) (first second : List Line) → Reads from first between → Reads between second to → Reads from (first ++ second) to
 reads-append from between to first second one two done rest =
     let (middle, e) = one done (second ++ rest) in
@@ -102,6 +107,7 @@ record AfterEdges (told : Told) (edges : List (ℕ × ℕ)) (lines updates most 
   batches' : batches to ≡ batches told
   last : to.last ≡ None
 
+-- edge lines before any batch are read: they tell their edges, and what is told stays small
 read-edges : (told : Told) (edges : List (ℕ × ℕ)) (lines updates most : ℕ) → told.last ≡ None → All AreIds edges → IsSmall told lines updates most
     → AreFew (lines + length edges) updates most → AfterEdges told edges lines updates most
 read-edges told [] lines updates most none ids small few = record {
@@ -150,11 +156,13 @@ taken-change told batch c last apart none =
     ap (λ l. or_else (unfit l c) (passed_limit (with_line told (said.Change c)))) last
     ∙ ap (λ b. or_else (cond b (Some LoopInBatch) None) (passed_limit (with_line told (said.Change c)))) (ne_eqb c.a c.b apart) ∙ none
 
+-- another last batch in place of the last one leaves the number of batches
 one_batch : (earlier : List (List Change)) (last : Option (List Change)) (batch more : List Change) → last ≡ Some batch
     → length (earlier ++ option_to_list (Some more)) ≡ length (earlier ++ option_to_list last)
 one_batch earlier last batch more e =
     length-append earlier (more ∷ []) ∙ sym (ap (λ l. length (earlier ++ option_to_list l)) e ∙ length-append earlier (batch ∷ []))
 
+-- changes behind their batch line are read: they go to its batch, and what is told stays small
 read-changes : (told : Told) (batch cs : List Change) (lines updates most : ℕ) → told.last ≡ Some batch → All IsFit cs → IsSmall told lines updates most
     → AreFew lines (updates + length cs) most → AfterChanges told batch cs lines updates most
 read-changes told batch [] lines updates most last fit small few = record {
@@ -198,6 +206,7 @@ record AfterBatches (told : Told) (batches' : List (List Change)) (lines updates
   edges' : to.edges ≡ told.edges
   all : batches to ≡ batches told ++ batches'
 
+-- batches are read one after the other: they are told behind the earlier ones
 read-batches : (told : Told) (bs : List (List Change)) (lines updates most : ℕ) → All IsBatch bs → IsSmall told lines updates most
     → AreFew lines (updates + TURNS * length bs) (most + length bs) → AfterBatches told bs lines updates most
 read-batches told [] lines updates most are small few = record { to = told; reads = reads-none told; edges' = refl; all = sym (append-nil (batches told)) }
@@ -234,6 +243,7 @@ pub record IsTold (number : ℕ) (told : Told) : Type 0 where
   pub edges : told.edges ≡ generated_edges number
   pub batches : batches told ≡ generated_batches number
 
+-- a generated text tells its edges and its batches, and no line is refused
 pub told-generated : (number : ℕ) → (told : Told) × IsTold number told
 told-generated number =
     let drawn = generated-is number in

@@ -16,6 +16,7 @@ use Rattle.kc_report.specs.Generator.{adds, after_turns, change_of, drawn_batch,
 use Rattle.kc_report.specs.Generator.{generated_batches, generated_edges, state_after_edges, state_after_turn, state_after_turns, with_turn}
 use Rattle.kc_report.proofs.Turns.{length-edges}
 
+-- a number that is drawn is below the bound
 drawn-below : (bound state : ℕ) → 0 < bound → drawn bound state < bound
 unfolding drawn
 drawn-below bound state some = mod-lt _ some
@@ -25,9 +26,11 @@ pub record AreIds (edge : ℕ × ℕ) : Type 0 where
   pub first : edge.0 < IDS
   pub second : edge.1 < IDS
 
+-- two ids that are drawn are ids of a generated text
 pair-ids : (state : ℕ) → AreIds (drawn_pair state)
 pair-ids state = record { first = drawn-below IDS state (omega arith); second = drawn-below IDS (next_state state) (omega arith) }
 
+-- both ends of each edge that is drawn are ids
 edges-ids : (n state : ℕ) → All AreIds (drawn_edges n state)
 unfolding drawn_edges
 edges-ids zero state = All-nil AreIds
@@ -39,6 +42,7 @@ pub record IsFit (c : Change) : Type 0 where
   pub ids : AreIds (c.a, c.b)
   pub apart : c.a ≢ c.b
 
+-- both ends of a change that is drawn are ids
 change-ids : (edges : List (ℕ × ℕ)) (state : ℕ) → All AreIds edges → length edges ≡ EDGE_LINES
     → AreIds ((drawn_change edges state).a, (drawn_change edges state).b)
 change-ids edges state ids count =
@@ -65,6 +69,7 @@ pub record IsAfter (turns : ℕ) (written more : List Change) : Type 0 where
   pub once : NamesOnce more
   pub few : length more ≤ turns + length written
 
+-- after one turn more, what is written fits and names no pair twice
 after_turn : (written : List Change) (c : Change) → All IsFit written → NamesOnce written → AreIds (c.a, c.b) → IsAfter 1 written (with_turn written c)
 after_turn written c fit once ids =
     let is : (b : Bool) → (nat_eq c.a c.b || list_any (name_same c) written) ≡ b → IsAfter 1 written (cond b written (written ++ c ∷ []))
@@ -81,6 +86,7 @@ after_turn written c fit once ids =
           })
     ]
 
+-- after all turns of a batch, what is written fits and names no pair twice
 after_all : (edges : List (ℕ × ℕ)) (turns state : ℕ) (written : List Change) → All AreIds edges → length edges ≡ EDGE_LINES → All IsFit written
     → NamesOnce written
     → IsAfter turns written (after_turns edges turns state written)
@@ -97,11 +103,13 @@ pub record IsBatch (changes : List Change) : Type 0 where
   pub once : NamesOnce changes
   pub few : length changes ≤ TURNS
 
+-- the changes that are drawn for a batch fit, name no pair twice and are no more than its turns
 batch-is : (edges : List (ℕ × ℕ)) (state : ℕ) → All AreIds edges → length edges ≡ EDGE_LINES → IsBatch (drawn_batch edges state)
 batch-is edges state ids count =
     let after = after_all edges TURNS state [] ids count (All-nil IsFit) (λ i j d l m. absurd (omega arith)) in
     record { fit = after.fit; once = after.once; few = omega (arith, after.few) }
 
+-- each batch that is drawn is such a batch
 batches-are : (edges : List (ℕ × ℕ)) (n state : ℕ) → All AreIds edges → length edges ≡ EDGE_LINES → All IsBatch (drawn_batches edges n state)
 unfolding drawn_batches
 batches-are edges zero state ids count = All-nil IsBatch
@@ -109,6 +117,7 @@ batches-are edges (suc n) state ids count =
     All-cons IsBatch (drawn_batch edges state) (drawn_batches edges n (state_after_turns TURNS state)) (batch-is edges state ids count)
     (batches-are edges n (state_after_turns TURNS state) ids count)
 
+-- as many batches are drawn as were asked for
 length-batches : (edges : List (ℕ × ℕ)) (n state : ℕ) → length (drawn_batches edges n state) ≡ n
 unfolding drawn_batches
 length-batches edges zero state = refl
@@ -121,6 +130,7 @@ pub record IsDrawn (edges : List (ℕ × ℕ)) (batches : List (List Change)) : 
   pub fit : All IsBatch batches
   pub batch_count : length batches ≡ BATCHES
 
+-- the edges and the batches of a generated text are as many and such as they are to be
 pub generated-is : (number : ℕ) → IsDrawn (generated_edges number) (generated_batches number)
 generated-is number =
     let ids = edges-ids EDGE_LINES number in

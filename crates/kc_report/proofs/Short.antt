@@ -16,6 +16,7 @@ use Rattle.kc_report.proofs.Drawn.{AreIds, IsBatch, IsFit, generated-is}
 length-id : (id : ℕ) → id < IDS → length (decimal id) ≤ 4
 length-id id l = length-decimal-le 4 id (omega arith) (omega arith) (omega arith)
 
+-- a line of two ids has ten bytes at most
 length-pair : (pair : ℕ × ℕ) → AreIds pair → length (pair_line pair) ≤ 10
 length-pair pair ids =
     omega (
@@ -35,14 +36,17 @@ length-all f P most each (x ∷ xs) all =
     let rest = length-all f P most each xs (All-tail P x xs all) in
     omega (arith, length-append (f x) (flat_map f xs), each x (All-head P x xs all))
 
+-- a line of a change has twelve bytes at most
 length-change : (change : Change) → IsFit change → length (change_line change) ≤ 12
 length-change change fit = omega (arith, length-pair (change.a, change.b) fit.ids)
 
+-- the lines of a batch have six bytes and twelve for each turn at most
 length-batch : (changes : List Change) → IsBatch changes → length (batch_lines changes) ≤ 6 + 12 * TURNS
 length-batch changes batch =
     let lines = length-all change_line IsFit 12 length-change changes batch.fit in
     omega (arith, length-append (codes "batch") (10 ∷ flat_map change_line changes), batch.few)
 
+-- a generated text is no longer than a text may be
 pub length-generated : (number : ℕ) → length (generated number) ≤ MOST_BYTES
 length-generated number =
     let drawn = generated-is number in

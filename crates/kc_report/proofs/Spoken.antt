@@ -12,12 +12,15 @@ use Rattle.kc_report.specs.Generator.{batch_lines, change_line, generated, gener
 use Rattle.kc_report.specs.Lines.{pair_line}
 use Rattle.kc_report.proofs.Drawn.{AreIds, IsBatch, IsFit, generated-is}
 
+-- what the line of an edge says
 abbrev pub edge_said : ℕ × ℕ → Line
 edge_said edge = said.Edge edge.0 edge.1
 
+-- what the line of a change says
 abbrev pub change_said : Change → Line
 change_said c = said.Change c
 
+-- what the lines of a batch say
 abbrev pub batch_said : List Change → List Line
 batch_said changes = said.Batch ∷ map change_said changes
 
@@ -25,6 +28,7 @@ batch_said changes = said.Batch ∷ map change_said changes
 behind : (line lines rest : List ℕ) → ((line ++ 10 ∷ []) ++ lines) ++ rest ≡ line ++ 10 ∷ (lines ++ rest)
 behind line lines rest = simp append_assoc
 
+-- the lines of edges say these edges, whatever lines come behind them
 said-edges : (edges : List (ℕ × ℕ)) (rest : List ℕ) → All AreIds edges → all_said (flat_map pair_line edges ++ rest) ≡ map edge_said edges ++ all_said rest
 said-edges [] rest ids = refl
 said-edges (edge ∷ edges) rest ids =
@@ -33,6 +37,7 @@ said-edges (edge ∷ edges) rest ids =
     ∙ said-edge_line edge.0 edge.1 (flat_map pair_line edges ++ rest) (omega (arith, first.first)) (omega (arith, first.second))
     ∙ ap (λ t. edge_said edge ∷ t) (said-edges edges rest (All-tail AreIds edge edges ids))
 
+-- the lines of changes say these changes, whatever lines come behind them
 said-changes : (changes : List Change) (rest : List ℕ) → All IsFit changes → all_said (flat_map change_line changes ++ rest)
     ≡ map change_said changes ++ all_said rest
 said-changes [] rest fit = refl
@@ -42,6 +47,7 @@ said-changes (c ∷ changes) rest fit =
     ∙ said-change_line c.add c.a c.b (flat_map change_line changes ++ rest) (omega (arith, first.first)) (omega (arith, first.second))
     ∙ ap (λ t. change_said c ∷ t) (said-changes changes rest (All-tail IsFit c changes fit))
 
+-- the lines of batches say these batches
 said-batches : (batches : List (List Change)) → All IsBatch batches → all_said (flat_map batch_lines batches) ≡ flat_map batch_said batches
 said-batches [] are = refl
 said-batches (changes ∷ batches) are =
@@ -50,6 +56,7 @@ said-batches (changes ∷ batches) are =
     ∙ ap (λ t. said.Batch ∷ t) (said-changes changes (flat_map batch_lines batches) (All-head IsBatch changes batches are).fit
     ∙ ap (λ t. map change_said changes ++ t) (said-batches batches (All-tail IsBatch changes batches are)))
 
+-- the lines of a generated text say its edges, and then its batches
 pub said-generated : (number : ℕ) → all_said (generated number) ≡ map edge_said (generated_edges number) ++ flat_map batch_said (generated_batches number)
 said-generated number =
     let drawn = generated-is number in

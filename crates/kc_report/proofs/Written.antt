@@ -20,11 +20,13 @@ passed_over : {S : Type 0} (pairs : HashSet (ℕ × ℕ) S) (written : List Chan
     → not new ≡ (nat_eq c.a c.b || contains is_pair pairs (pair_of c)) → (nat_eq c.a c.b || list_any (name_same c) written) ≡ not new
 passed_over pairs written c new has is = ap (λ b. nat_eq c.a c.b || b) (named c written ∙ sym (has (pair_of c))) ∙ sym is
 
+-- a change that is new is what the turn writes behind the others
 pub with_turn-new : {S : Type 0} (pairs : HashSet (ℕ × ℕ) S) (written more : List Change) (c : Change) (new : Bool) → HasPairs pairs written
     → not new ≡ (nat_eq c.a c.b || contains is_pair pairs (pair_of c)) → new ≡ true → more ≡ written ++ c ∷ [] → more ≡ with_turn written c
 with_turn-new pairs written more c new has is first pushed =
     pushed ∙ sym (ap (λ b. cond b written (written ++ c ∷ [])) (passed_over pairs written c new has is ∙ ap not first))
 
+-- of a change that is no new one the turn writes nothing
 pub with_turn-old : {S : Type 0} (pairs : HashSet (ℕ × ℕ) S) (written more : List Change) (c : Change) (new : Bool) → HasPairs pairs written
     → not new ≡ (nat_eq c.a c.b || contains is_pair pairs (pair_of c)) → new ≡ false → more ≡ written → more ≡ with_turn written c
 with_turn-old pairs written more c new has is again same =
