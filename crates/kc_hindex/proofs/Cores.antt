@@ -16,13 +16,16 @@ use Rattle.kc_graph.proofs.NeighbourLists.{Rises, neighbours_rise, neighbours_ha
 use Rattle.kc_hindex.specs.Rounds.{h_round, after_rounds, IsSettled, HasRound}
 use Rattle.kc_hindex.proofs.HIndex.{h_index-reached, h_index-greatest, count-map}
 
+-- numbers that rise are distinct
 Distinct-rises : (xs : List ℕ) → Rises xs → Distinct xs
 Distinct-rises [] r = tt
 Distinct-rises (x ∷ xs) r = (false_from_ne_true (member x xs) (λ m. lt_irrefl x (r.0 x m)), Distinct-rises xs r.1)
 
+-- no neighbour of a vertex stands twice among its neighbours
 pub neighbours_distinct : (g : SimpleGraph) (v : ℕ) → Distinct (neighbours_of g v)
 neighbours_distinct g v = Distinct-rises (neighbours_of g v) (neighbours_rise g v)
 
+-- two tests that hold hold together
 both_true : (a b : Bool) → a ≡ true → b ≡ true → (a && b) ≡ true
 both_true a b p q = rw p q
 
@@ -98,6 +101,7 @@ settled-core g r settled v l = record {
   greatest = λ k h. core-below g k h.0 h.1 r v (member-from_Contains h.0 v h.2);
 }
 
+-- the numbers of a round that changes nothing are the core numbers
 pub settled-are_core : (g : SimpleGraph) (r : ℕ) (numbers : List ℕ) → IsSettled g r → HasRound g r numbers → AreCoreNumbers g numbers
 settled-are_core g r numbers settled has = record {
   one_each = has.one_each;

@@ -7,6 +7,7 @@ use Rattle.kc_distinct.specs.Lists.{member}
 use Rattle.kc_distinct.proofs.Counting.{count-cons, count-mono, count-le-length}
 use Rattle.kc_hindex.specs.Rounds.{how_many_reach, h_index_up_to, h_index, IsHIndex}
 
+-- as many numbers as the h-index up to a limit reach it
 pub up_to-reached : (xs : List ℕ) (n : ℕ) → h_index_up_to xs n ≤ how_many_reach (h_index_up_to xs n) xs
 up_to-reached xs zero = omega arith
 up_to-reached xs (suc n) =
@@ -16,6 +17,7 @@ up_to-reached xs (suc n) =
       | false ↦ λ _. up_to-reached xs n
     ] refl
 
+-- a number is no greater than another, or it is greater
 order : (k h : ℕ) → (k ≤ h) ⊎ (h < k)
 order zero h = inl (omega arith)
 order (suc k) h = elim (order k h) [
@@ -23,12 +25,15 @@ order (suc k) h = elim (order k h) [
   | inr l ↦ inr (omega arith)
 ]
 
+-- what is not the limit plus one is within the limit
 above : (k n : ℕ) → k ≤ suc n → (k ≡ suc n → ⊥) → k ≤ n
 above k n l ne = elim (cases_eq k (suc n)) [ inl e ↦ absurd (ne e) | inr other ↦ omega arith ]
 
+-- a test of two numbers that fails tells which one is greater
 not_leb : (k h : ℕ) → leb k h ≡ false → h < k
 not_leb k h f = elim (order k h) [ inl l ↦ absurd (true≢false (sym (le-leb k h l) ∙ f)) | inr l ↦ l ]
 
+-- a number up to the limit that as many numbers reach is no greater than the h-index up to it
 pub up_to-greatest : (xs : List ℕ) (n k : ℕ) → k ≤ n → k ≤ how_many_reach k xs → k ≤ h_index_up_to xs n
 up_to-greatest xs zero k l h = l
 up_to-greatest xs (suc n) k l h =
@@ -40,29 +45,36 @@ up_to-greatest xs (suc n) k l h =
           up_to-greatest xs n k (above k n l ne) h
     ] refl
 
+-- as many numbers as the h-index reach it
 pub h_index-reached : (xs : List ℕ) → h_index xs ≤ how_many_reach (h_index xs) xs
 h_index-reached xs = up_to-reached xs (length xs)
 
+-- a number that as many numbers reach is no greater than the h-index
 pub h_index-greatest : (xs : List ℕ) (k : ℕ) → k ≤ how_many_reach k xs → k ≤ h_index xs
 h_index-greatest xs k h = up_to-greatest xs (length xs) k (le_trans h (count-le-length (leb k) xs)) h
 
+-- the h-index of a list is what it is to be
 pub h_index-is : (xs : List ℕ) → IsHIndex xs (h_index xs)
 h_index-is xs = record { reached = h_index-reached xs; greatest = h_index-greatest xs }
 
+-- a list has one h-index
 pub h_index-only : (xs : List ℕ) (h : ℕ) → IsHIndex xs h → h ≡ h_index xs
 h_index-only xs h i =
     let one : h ≤ h_index xs = h_index-greatest xs h i.reached in
     let other : h_index xs ≤ h = i.greatest (h_index xs) (h_index-reached xs) in
     omega arith
 
+-- how many images of a list pass a test, counted by the list
 pub count-map : (p : ℕ → Bool) (c : ℕ → ℕ) (ws : List ℕ) → count_by p (map c ws) ≡ count_by (λ w. p (c w)) ws
 count-map p c [] = refl
 count-map p c (w ∷ ws) = count-cons p (c w) (map c ws) ∙ (ap (λ n. cond (p (c w)) 1 0 + n) (count-map p c ws) ∙ sym (count-cons (λ w. p (c w)) w ws))
 
+-- a list has as many images as elements
 pub length-map : (c : ℕ → ℕ) (ws : List ℕ) → length (map c ws) ≡ length ws
 length-map c [] = refl
 length-map c (w ∷ ws) = ap suc (length-map c ws)
 
+-- the h-index is no greater than the length of the list
 pub h_index-length : (xs : List ℕ) → h_index xs ≤ length xs
 h_index-length xs = le_trans (h_index-reached xs) (count-le-length (leb (h_index xs)) xs)
 
@@ -76,10 +88,11 @@ h_index-mono c d ws h =
     let enough : k ≤ count_by (leb k) (map d ws) = omega (arith, some, more, count-map (leb k) c ws, count-map (leb k) d ws) in
     h_index-greatest (map d ws) k enough
 
--- a test of one number tells on which side of it the h-index is
+-- a number that as many neighbours' numbers reach is no greater than the h-index
 pub in_reach : (c : ℕ → ℕ) (ws : List ℕ) (k : ℕ) → k ≤ count_by (λ w. leb k (c w)) ws → k ≤ h_index (map c ws)
 in_reach c ws k h = h_index-greatest (map c ws) k (omega (arith, h, count-map (leb k) c ws))
 
+-- a number that fewer neighbours' numbers reach is greater than the h-index
 pub out_of_reach : (c : ℕ → ℕ) (ws : List ℕ) (k : ℕ) → count_by (λ w. leb k (c w)) ws < k → h_index (map c ws) < k
 out_of_reach c ws k less =
     let h : ℕ = h_index (map c ws) in

@@ -19,10 +19,11 @@ use Rattle.kc_hindex.specs.Ordering.{Released}
 push_other : (u w : ℕ) (ws : List ℕ) → (u ≡ w → ⊥) → member u (ws ++ w ∷ []) ≡ member u ws
 push_other u w ws ne = member-push u w ws ∙ ap (λ b. member u ws || b) (ne_eqb u w ne) ∙ or-false (member u ws)
 
--- what a filter makes of one number more at the end, which passes or does not
+-- a filter of a list with one number more at its end, which passes
 filter-push_yes : (p : ℕ → Bool) (w : ℕ) (ws : List ℕ) → p w ≡ true → filter p (ws ++ w ∷ []) ≡ filter p ws ++ w ∷ []
 filter-push_yes p w ws h = filter-append p ws (w ∷ []) ∙ ap (λ b. filter p ws ++ cond b (w ∷ []) []) h
 
+-- a filter of a list with one number more at its end, which does not pass
 filter-push_no : (p : ℕ → Bool) (w : ℕ) (ws : List ℕ) → p w ≡ false → filter p (ws ++ w ∷ []) ≡ filter p ws
 filter-push_no p w ws h = filter-append p ws (w ∷ []) ∙ ap (λ b. filter p ws ++ cond b (w ∷ []) []) h ∙ append-nil (filter p ws)
 

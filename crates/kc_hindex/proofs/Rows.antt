@@ -9,15 +9,19 @@ use Rattle.kc_graph.proofs.NeighbourLists.{neighbours_are}
 use Rattle.kc_graph.proofs.PeelingLemmas.{degree_is, remaining-lt, neighbours-distinct}
 use Rattle.kc_hindex.specs.Rounds.{h_index, h_round}
 
+-- the neighbours in a row are vertices
 pub row_within : (g : SimpleGraph) (v : ℕ) (ws : List ℕ) → AreNeighbours g v ws → All (λ w. w < g.size) ws
 row_within g v ws near k d l = near.within (get_or ws k d) (member-get_or ws k d l)
 
+-- a vertex has fewer neighbours in its row than there are vertices
 pub row_few : (g : SimpleGraph) (v : ℕ) (ws : List ℕ) → v < g.size → AreNeighbours g v ws → length ws < g.size
 row_few g v ws l near = omega (arith, degree_is g v ws near, remaining-lt g [] v l)
 
+-- the h-index of the numbers of a row's neighbours is what a round makes of the vertex
 pub row_round : (g : SimpleGraph) (c : ℕ → ℕ) (v : ℕ) (ws : List ℕ) → AreNeighbours g v ws → h_index (map c ws) ≡ h_round g c v
 row_round g c v ws near = ap (λ (xs : List ℕ). h_index (map c xs)) (neighbours_are g v ws near)
 
+-- a row has as many neighbours as the degree
 pub row_degree : (g : SimpleGraph) (v : ℕ) (ws : List ℕ) → AreNeighbours g v ws → length ws ≡ degree_among g (below g.size) v
 row_degree g v ws near =
     let all : count_by (adjacent g v) ws ≡ length ws = count-all (adjacent g v) ws (λ w m. sym (near.exact w) ∙ m) in

@@ -28,10 +28,12 @@ round-degree g c v =
     count-le (adjacent g v) near (below g.size) (neighbours_distinct g v) (λ w m _. member-below w g.size (neighbours_within g v w m).0) in
     omega (arith, h_index-length (map c near), length-map c near, all, some)
 
+-- one round more raises no number
 pub never_rises : (g : SimpleGraph) (r v : ℕ) → after_rounds g (suc r) v ≤ after_rounds g r v
 never_rises g zero v = round-degree g (after_rounds g zero) v
 never_rises g (suc r) v = h_index-mono (after_rounds g (suc r)) (after_rounds g r) (neighbours_of g v) (λ w _. never_rises g r w)
 
+-- numbers that are no greater have no greater sum
 total-le : (c d : ℕ → ℕ) (n : ℕ) → ((v : ℕ) → c v ≤ d v) → total c n ≤ total d n
 total-le c d zero h = le_refl 0
 total-le c d (suc n) h = let rest : total c n ≤ total d n = total-le c d n h in omega (arith, rest, h n)
@@ -48,10 +50,12 @@ same_or_less c d (suc n) h =
       | inr ne ↦ let rest : total c n ≤ total d n = total-le c d n h in inr (omega (arith, rest, h n, ne))
     ]
 
+-- numbers that are the same have the same sum
 total-same : (c d : ℕ → ℕ) (n : ℕ) → ((v : ℕ) → v < n → c v ≡ d v) → total c n ≡ total d n
 total-same c d zero h = refl
 total-same c d (suc n) h = let rest : total c n ≡ total d n = total-same c d n (λ v l. h v (omega arith)) in omega (arith, rest, h n (omega arith))
 
+-- a round that changes nothing, with none before it, is the first one
 pub here : (g : SimpleGraph) (r : ℕ) → ((s : ℕ) → IsSettled g s → r ≤ s)
     → ((v : ℕ) → v < g.size → after_rounds g (suc r) v ≡ after_rounds g r v) → AreRounds g (suc r)
 here g r none same = record {
@@ -60,6 +64,7 @@ here g r none same = record {
   first = λ s h. let l : r ≤ s = none s h in omega arith;
 }
 
+-- where the sum falls in a round, the first one that changes nothing comes behind it
 pub later : (g : SimpleGraph) (r : ℕ) → ((s : ℕ) → IsSettled g s → r ≤ s)
     → total (after_rounds g (suc r)) g.size < total (after_rounds g r) g.size → (s : ℕ) → IsSettled g s → suc r ≤ s
 later g r none less s h =
@@ -89,6 +94,7 @@ search_from g (suc fuel) r enough none =
           (found.0, found.1, omega (arith, found.2))
     ]
 
+-- there is a first round that changes nothing, no later than the sum of degrees and one
 pub rounds_exist : (g : SimpleGraph) → (n : ℕ) × AreRounds g n × (n ≤ total (after_rounds g 0) g.size + 1)
 rounds_exist g =
     let found : (n : ℕ) × AreRounds g n × (n ≤ 0 + total (after_rounds g 0) g.size + 1) =
@@ -101,6 +107,7 @@ rounds_only g zero n a b = absurd (omega (arith, a.positive))
 rounds_only g (suc m) zero a b = absurd (omega (arith, b.positive))
 rounds_only g (suc m) (suc n) a b = omega (arith, a.first n (b.settled n refl), b.first m (a.settled m refl))
 
+-- numbers below 2^32 have a sum of at most 2^32 for each of them
 total-few : (c : ℕ → ℕ) (n : ℕ) → ((v : ℕ) → v < n → c v < 2 ^ 32) → total c n ≤ n * 2 ^ 32
 total-few c zero h = omega arith
 total-few c (suc n) h = let rest : total c n ≤ n * 2 ^ 32 = total-few c n (λ v l. h v (omega arith)) in omega (arith, rest, h n (omega arith))
@@ -123,9 +130,11 @@ changed g r old new a b differ =
       | inr less ↦ less
     ]
 
+-- where a round gives the numbers that were there, it has settled
 pub unchanged : (g : SimpleGraph) (r : ℕ) (old new : List ℕ) → HasRound g r old → HasRound g (suc r) new → old ≡ new → IsSettled g r
 unchanged g r old new a b same v l = sym (b.each v l) ∙ ap (λ (xs : List ℕ). get_or xs v 0) (sym same) ∙ a.each v l
 
+-- what a round makes of the numbers after some rounds are those after one more
 pub round-next : (g : SimpleGraph) (r : ℕ) (old new : List ℕ) → HasRound g r old → IsRoundOf g old new → HasRound g (suc r) new
 round-next g r old new a b = record {
   one_each = b.one_each;

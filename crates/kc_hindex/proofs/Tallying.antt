@@ -6,6 +6,7 @@ use Rattle.std.proofs.lemmas.Bool.{cases_eq, cases_lt, false_from_ne_true}
 use Rattle.kc_distinct.proofs.Counting.{count-agree, count-cons}
 use Rattle.kc_hindex.specs.Rounds.{how_many_reach}
 
+-- a test as a number: one where it holds
 abbrev one_if : Bool → ℕ
 one_if b = cond b 1 0
 
