@@ -8,6 +8,7 @@ use Rattle.kc_distinct.proofs.Members.{member-cases, member-tail}
 use Rattle.kc_queue.specs.Dealt.{times}
 use Rattle.kc_queue.specs.Shares.{IsShare, IsWhole}
 
+-- a number stands in two lists as often as in the one and in the other together
 pub times-append : (y : ℕ) (xs ys : List ℕ) → times y (xs ++ ys) ≡ times y xs + times y ys
 times-append y xs ys = sum_by-append (λ x. cond (eqb y x) 1 0) xs ys
 

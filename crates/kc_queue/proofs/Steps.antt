@@ -27,6 +27,7 @@ record IsFirst (next left x : ℕ) (items : List ℕ) : Type 0 where
   first : x ≡ next
   rest : items ≡ numbers_from (suc next) fewer
 
+-- the number at the front of the queue is the first of those that are left
 numbers_first : (next left x : ℕ) (items : List ℕ) → x ∷ items ≡ numbers_from next left → IsFirst next left x items
 numbers_first next zero x items e = absurd (none (ap length e))
   where
@@ -34,6 +35,7 @@ numbers_first next zero x items e = absurd (none (ap length e))
     none l = omega arith
 numbers_first next (suc left) x items e = record { fewer = left; one_less = refl; first = ap (λ ys. get_or ys 0 0) e; rest = ap (drop 1) e }
 
+-- as many numbers in order as were asked for
 length-numbers : (next left : ℕ) → length (numbers_from next left) ≡ left
 length-numbers next zero = refl
 length-numbers next (suc left) = let rest = length-numbers (suc next) left in omega arith
@@ -79,6 +81,7 @@ own_share v next left port items views part d at =
     let filled = d.agree port v at part in
     omega (arith, total_one (times_in y) views port v at, d.taken y, times_more y next v.filled (omega arith)))
 
+-- what a consumer with a part has taken is its share
 pub owns : (port : ℕ) (v : Hand) → 0 < v.parts → Learns Dealt port v (OwnsShare v)
 owns port v part items views d at = own_share v d.0 d.1 port items views part d.2 at
 
@@ -89,6 +92,7 @@ all_taken v next left port items views whole d at y =
     sym (total_alone (times_in y) views port v at (λ j u apart there.
     ap (times y) (d.idle j u there (total_else parts_of views port v at (d.parts ∙ sym whole) j u apart there)))) ∙ d.taken y
 
+-- a consumer with all parts has taken all numbers, where the queue is empty
 pub has_taken_all : (port : ℕ) (v : Hand) → 0 < v.parts → Learns Dealt port v (HasTakenAll v)
 has_taken_all port v part items views d at whole empty =
     let r = d.2 in
@@ -96,6 +100,7 @@ has_taken_all port v part items views d at whole empty =
     let filled : d.0 ≡ v.filled = omega (arith, r.agree port v at part) in
     whole_times v.filled v.taken (λ y. all_taken v d.0 d.1 port items views whole r at y ∙ ap (λ n. times y (below n)) filled)
 
+-- a consumer with all parts that has taken nothing sees all numbers in the queue
 pub holds_all : (port : ℕ) (v : Hand) → 0 < v.parts → Learns Dealt port v (HoldsAll v)
 holds_all port v part items views d at whole nothing =
     let r = d.2 in
@@ -228,6 +233,7 @@ pub record AfterTake (v w : Hand) : Type 0 where
   pub filled : w.filled ≡ v.filled
   pub share : IsShare w.filled w.taken
 
+-- whether a pop gave a number or none, a part is there still and what was taken is a share
 pub after_take : (o : Option ℕ) (v w : Hand) → MatchOption o ((w ≡ v) × Held 0 (HasTakenAll v)) (λ x. TakesNext v x w)
     → 0 < v.parts → IsShare v.filled v.taken → AfterTake v w
 after_take None v w p part share = subst (AfterTake v) (sym p.0) (record { part = part; filled = refl; share = share })

@@ -13,6 +13,7 @@ total_set f [] port v w e = absurd (some-ne-none v (sym e))
 total_set f (x ∷ xs) zero v w e = let same : f x ≡ f v = ap f (some-injective x v e) in omega arith
 total_set f (x ∷ xs) (suc port) v w e = let rest = total_set f xs port v w e in omega arith
 
+-- a sum with one view more at the end
 pub total_snoc : (f : Hand → ℕ) (views : List Hand) (w : Hand) → total f (views ++ w ∷ []) ≡ total f views + f w
 total_snoc f [] w = omega arith
 total_snoc f (x ∷ xs) w = let rest = total_snoc f xs w in omega arith
@@ -57,12 +58,13 @@ total_alone f (x ∷ xs) (suc port) v e none =
     let rest = total_alone f xs port v e (λ j u apart there. none (suc j) u (λ is. apart (omega arith)) there) in
     omega arith
 
--- what is true of each view, after one is set, and after one more
+-- what is true of all other views and of the one that is set is true of each
 pub each_set : (F : Hand → Type 0) (views : List Hand) (port : ℕ) (w : Hand) → F w → ((j : ℕ) (u : Hand) → j ≢ port → get_elem? views j ≡ some u → F u)
     → (j : ℕ) (u : Hand) → get_elem? (set views port w) j ≡ some u → F u
 each_set F views port w mine others j u e =
     ⊎_elim (λ (t : (j ≡ port) × (w ≡ u)). subst F t.1 mine) (λ (t : (j ≢ port) × (get_elem? views j ≡ some u)). others j u t.0 t.1) (at_set views port j w u e)
 
+-- what is true of each view and of one more at the end is true of each
 pub each_snoc : (F : Hand → Type 0) (views : List Hand) (w : Hand) → F w → ((j : ℕ) (u : Hand) → get_elem? views j ≡ some u → F u)
     → (j : ℕ) (u : Hand) → get_elem? (views ++ w ∷ []) j ≡ some u → F u
 each_snoc F views w mine others j u e = ⊎_elim (λ (t : get_elem? views j ≡ some u). others j u t) (λ (t : w ≡ u). subst F t mine) (at_snoc views w u j e)
