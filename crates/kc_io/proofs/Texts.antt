@@ -6,6 +6,7 @@ use Rattle.std.proofs.lemmas.List.{drop-drop}
 use Rattle.kc_io.specs.FirstPiece.{KeepsFirst}
 use Rattle.kc_io.specs.Offers.{Offers, IsOffered, after_offer}
 
+-- the length of the first piece stays, once there was one
 stays : (n : ℕ) (after : Option ℕ) (piece : List ℕ) → 0 < n → KeepsFirst (Some n) after piece → after ≡ Some n
 stays zero after piece some h = absurd (omega arith)
 stays (suc n) after piece some h = h
