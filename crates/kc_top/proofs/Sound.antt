@@ -31,11 +31,12 @@ counted told input is =
     ∙ sym (sym (length-map input.batches.items (λ batch. map parts_of batch.items)) ∙ ap length is.batches
     ∙ length-map (batches told) (λ (batch : List Change). map (numbered_change input.ids.items) (deciding batch)))
 
--- the first of several batches, and the others
+-- the first of several batches, and an empty one where there is none
 abbrev first_of : List (List (Bool × ℕ × ℕ)) → List (Bool × ℕ × ℕ)
 first_of [] = []
 first_of (x ∷ xs) = x
 
+-- all batches but the first
 abbrev rest_of : List (List (Bool × ℕ × ℕ)) → List (List (Bool × ℕ × ℕ))
 rest_of [] = []
 rest_of (x ∷ xs) = xs
