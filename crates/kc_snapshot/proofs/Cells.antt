@@ -6,9 +6,11 @@ use Rattle.std.proofs.lemmas.List.{get_or-replicate, get_or_append_left, length-
 use Rattle.logbook.specs.Pages.{Cell, cell, nib, may_write, right_number, number_back, numbered, Nib}
 use Rattle.kc_snapshot.specs.Rules.{behind_head, cells_of}
 
+-- a cell with the value 0 that is at home
 abbrev pub home : Cell
 home = (0, true)
 
+-- a cell with the value 0 that a pen is to write
 abbrev pub away : Cell
 away = (0, false)
 

@@ -12,9 +12,11 @@ use Rattle.kc_snapshot.specs.Rules.{IsKept, behind_head, cells_of, TellsPen, Tel
 use Rattle.kc_snapshot.proofs.Prefixes.{prefix_whole, prefix_length}
 use Rattle.kc_snapshot.proofs.Cells.{home, home-cell, length-cells, one_away, one_home}
 
+-- what clients see of a book's log: nothing
 abbrev pub shown : List Member → List Member
 shown log = []
 
+-- what an update is to do to what clients see: nothing is asked
 abbrev pub moved : List Member → List Member → ℕ → Type 0
 moved xs ys n = Unit {0}
 
