@@ -52,6 +52,7 @@ ascends-push xs x up top k l = elim (cases_lt (k + 1) (length xs)) [
       omega (arith, last, get_or_append_left xs (x ∷ []) 0 k lt, top (get_or xs k 0) (member-get_or xs k 0 lt))
 ]
 
+-- the list of places whose numbers are no less than `k` ascends
 at_least-ascends : (k : ℕ) (core : List ℕ) (n : ℕ) → IsStrictlyIncreasing (at_least k core n)
 at_least-ascends k core zero = λ i l. absurd (omega arith)
 at_least-ascends k core (suc n) = elim (cases_Bool (nat_le k (slice_index core n))) [
@@ -77,6 +78,7 @@ in_lower g j k v l (members, many, here) = (
 in_graph : (g : SimpleGraph) (k v : ℕ) → IsInCore g k v → v < g.size
 in_graph g k v (members, many, here) = let (i, l, e) = here in subst (λ x. x < g.size) e (many.vertices i v l)
 
+-- the vertices whose core numbers are no less than `k` are the members of the k-core
 core_members : (g : SimpleGraph) (core : List ℕ) (k : ℕ) → AreCoreNumbers g core → AreCoreMembers g k (at_least k core g.size)
 core_members g core k numbers = record {
   ascending = at_least-ascends k core g.size;
