@@ -51,6 +51,7 @@ or-none : (a : Bool) → ((a || false) && not false) ≡ a
 or-none true = refl
 or-none false = refl
 
+-- a graph with other edges between its vertices
 abbrev with_edges : SimpleGraph → set.FinSet pair_cmp → SimpleGraph
 with_edges g edges = record { size = g.size; edges = edges }
 
@@ -67,6 +68,7 @@ pub edges_after_batch-same : (edges : set.FinSet pair_cmp) (xs ys : List Part) �
 edges_after_batch-same edges xs ys same = set.same_set pair_total pair_exact _ _ (λ q. contains-after edges xs q
     ∙ ap₂ (λ (a r : Bool). (set.contains edges q || a) && not r) (same (adds_it q)) (same (removes_it q)) ∙ sym (contains-after edges ys q))
 
+-- batches that have the same updates leave the same graph, whatever their order
 pub graph_after_batch-same : (g : SimpleGraph) (xs ys : List Part) → ((p : Part → Bool) → list_any p xs ≡ list_any p ys)
     → graph_after_batch g xs ≡ graph_after_batch g ys
 graph_after_batch-same g xs ys same = ap (with_edges g) (edges_after_batch-same g.edges xs ys same)

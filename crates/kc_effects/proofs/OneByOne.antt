@@ -98,6 +98,7 @@ pub at-cut : (P : Entry → Type 0) (front : List Entry) (e : Entry) (back : Lis
 at-cut P [] e back all = all.0
 at-cut P (f ∷ front) e back all = at-cut P front e back all.1
 
+-- the index of an entry where a list is cut is among those of the list
 index-in : (front : List Entry) (e : Entry) (back : List Entry) → member e.index (indices (front ++ e ∷ back)) ≡ true
 index-in [] e back = or_left (eqb e.index e.index) (member e.index (indices back)) (eq-eqb e.index e.index refl)
 index-in (f ∷ front) e back = or_right (eqb e.index f.index) (member e.index (indices (front ++ e ∷ back))) (index-in front e back)

@@ -14,6 +14,7 @@ abbrev pub row : ℕ → ℕ → List ℕ
 row first zero = []
 row first (suc n) = first ∷ row (suc first) n
 
+-- a number from the first to before the end of a row is in it
 pub row-member : (first n x : ℕ) → first ≤ x → x < first + n → member x (row first n) ≡ true
 row-member first zero x low high = absurd (omega arith)
 row-member first (suc n) x low high = elim (cases_eq x first) [
@@ -21,6 +22,7 @@ row-member first (suc n) x low high = elim (cases_eq x first) [
   | inr ne ↦ or_right (eqb x first) (member x (row (suc first) n)) (row-member (suc first) n x (omega arith) (omega arith))
 ]
 
+-- a number of a row is no less than its first and before its end
 pub member-row : (first n x : ℕ) → member x (row first n) ≡ true → (first ≤ x) × (x < first + n)
 member-row first zero x m = absurd (false≢true m)
 member-row first (suc n) x m = elim (member-cases x first (row (suc first) n) m) [
@@ -28,6 +30,7 @@ member-row first (suc n) x m = elim (member-cases x first (row (suc first) n) m)
   | inr k ↦ let h = member-row (suc first) n x k in (omega (arith, h.0), omega (arith, h.1))
 ]
 
+-- the numbers of a row are distinct
 pub Distinct-row : (first n : ℕ) → Distinct (row first n)
 Distinct-row first zero = tt
 Distinct-row first (suc n) =
@@ -36,6 +39,7 @@ Distinct-row first (suc n) =
     lt_irrefl first (omega (arith, low))) in
     (behind, Distinct-row (suc first) n)
 
+-- a row has as many numbers as were asked for
 pub length-row : (first n : ℕ) → length (row first n) ≡ n
 length-row first zero = refl
 length-row first (suc n) = ap suc (length-row (suc first) n)
@@ -44,6 +48,7 @@ length-row first (suc n) = ap suc (length-row (suc first) n)
 abbrev pub AreOfRow : ℕ → ℕ → List ℕ → Type 0
 AreOfRow first n xs = (x : ℕ) → member x xs ≡ true → (first ≤ x) × (x < first + n)
 
+-- a test that all numbers pass
 abbrev always : ℕ → Bool
 always x = true
 
