@@ -225,6 +225,7 @@ none-worked j h stays = record {
   };
 }
 
+-- a journal that opens a run has worked nothing yet
 pub opens-worked : (s : Ranked) (words : TableName) (j : Journalled) (pass : PassSeen) → OpensRun s 0 words j pass → HasWorked [] [] [] j
 opens-worked s words j pass h = none-worked j (record {
   entries = h.entries;

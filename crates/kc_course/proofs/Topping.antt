@@ -7,19 +7,23 @@ use Rattle.kc_levels.specs.Levels.{IsTop}
 abbrev over : ℕ → List ℕ → ℕ
 over d xs = fold (λ n c. max n c) d xs
 
+-- a number is no greater than the greatest of it and those of a list
 holds : (xs : List ℕ) (d : ℕ) → d ≤ over d xs
 holds [] d = omega arith
 holds (x ∷ xs) d = let h : max d x ≤ over d (x ∷ xs) = holds xs (max d x) in omega (arith, h)
 
+-- a number of a list is no greater than the greatest of them and another one
 bounds : (xs : List ℕ) (d i : ℕ) → i < length xs → get_or xs i 0 ≤ over d xs
 bounds [] d i l = absurd (omega (arith, l))
 bounds (x ∷ xs) d zero l = let h : max d x ≤ over d (x ∷ xs) = holds xs (max d x) in omega (arith, h)
 bounds (x ∷ xs) d (suc i) l = bounds xs (max d x) i (omega (arith, l))
 
+-- what is no less than a number and those of a list is no less than the greatest of them
 least : (xs : List ℕ) (d m : ℕ) → d ≤ m → ((i : ℕ) → i < length xs → get_or xs i 0 ≤ m) → over d xs ≤ m
 least [] d m low h = low
 least (x ∷ xs) d m low h = least xs (max d x) m (omega (arith, low, h 0 (omega arith))) (λ i l. h (suc i) (omega (arith, l)))
 
+-- the top of core numbers is the greatest of them
 pub top-is : (core : List ℕ) (top : ℕ) → IsTop core top → top ≡ greatest core
 top-is core top h =
     let low : greatest core ≤ top = least core 0 top (omega arith) h.most in
