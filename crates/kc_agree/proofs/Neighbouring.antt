@@ -45,11 +45,12 @@ same-by_pairs g h same a b = elim (cases_order a b) [
   | inr (inr l) ↦ adjacent-sym h a b ∙ (rw (lt-ltb b a l) (same b a l) ∙ adjacent-sym g b a)
 ]
 
--- putting it or taking it changes no edge
+-- to put an edge between a vertex and itself changes no edge
 with-itself : (g : SimpleGraph) (u a b : ℕ) → adjacent (with_edge g u u) a b ≡ adjacent g a b
 with-itself g u = same-by_pairs g (with_edge g u u) (λ a b l.
     contains-insert pair_total g.edges (edge u u) (a, b) ∙ ap (λ t. t || contains g.edges (a, b)) (no_edge u a b l))
 
+-- to take an edge between a vertex and itself changes no edge
 without-itself : (g : SimpleGraph) (u a b : ℕ) → adjacent (without_edge g u u) a b ≡ adjacent g a b
 without-itself g u = same-by_pairs g (without_edge g u u) (λ a b l.
     contains-remove pair_total g.edges (edge u u) (a, b) ∙ ap (λ t. not t && contains g.edges (a, b)) (no_edge u a b l))
@@ -67,26 +68,30 @@ named e v w j = elim (joins-true e.u e.v v w j) [
 joined : (g : SimpleGraph) (u v a b : ℕ) → joins u v a b ≡ true → adjacent g a b ≡ adjacent g u v
 joined g u v a b j = elim (joins-true u v a b j) [ inl p ↦ ap₂ (adjacent g) p.0 p.1 | inr p ↦ ap₂ (adjacent g) p.0 p.1 ∙ adjacent-sym g v u ]
 
--- truth tables
+-- where two tests don't hold together and the second holds, the first fails
 not_both : (p q : Bool) → (p && q) ≡ false → q ≡ true → p ≡ false
 not_both p q h k = grind (arith, h, k)
 
+-- a test stays with another one added to it that holds only where it does
 added : (a j : Bool) → (j ≡ true → a ≡ true) → (a || j) ≡ a
 added a j h = elim (cases_Bool j) [ inl t ↦ let k = h t in grind (arith, t, k) | inr f ↦ grind (arith, f) ]
 
+-- a test stays with another one taken from it that holds only where it fails
 removed : (a j : Bool) → (j ≡ true → a ≡ false) → (a && not j) ≡ a
 removed a j h = elim (cases_Bool j) [ inl t ↦ let k = h t in grind (arith, t, k) | inr f ↦ grind (arith, f) ]
 
+-- a test whose negation fails holds
 not_not : (b : Bool) → not b ≡ false → b ≡ true
 not_not b h = grind (arith, h)
 
--- an edge that is there is put, or one that is not there is taken, or other ends are asked for
+-- a put leaves an edge where it was there already, or other ends are asked for
 with-same : (g : SimpleGraph) (u v a b : ℕ) → (joins u v a b ≡ true → adjacent g u v ≡ true) → adjacent (with_edge g u v) a b ≡ adjacent g a b
 with-same g u v a b h = elim (cases_eq u v) [
   | inl e ↦ ap (λ z. adjacent (with_edge g u z) a b) (sym e) ∙ with-itself g u a b
   | inr differ ↦ adjacent-with g u v a b differ ∙ added (adjacent g a b) (joins u v a b) (λ j. joined g u v a b j ∙ h j)
 ]
 
+-- a removal leaves an edge where it was not there, or other ends are asked for
 without-same : (g : SimpleGraph) (u v a b : ℕ) → (joins u v a b ≡ true → adjacent g u v ≡ false) → adjacent (without_edge g u v) a b ≡ adjacent g a b
 without-same g u v a b h = elim (cases_eq u v) [
   | inl e ↦ ap (λ z. adjacent (without_edge g u z) a b) (sym e) ∙ without-itself g u a b
