@@ -33,6 +33,7 @@ unfolding with_heads
 prev-last n e level order core within high =
     parts-prev n e level (level_part core order) 0 (suc n) (levels-have n core order within) (omega arith) (omega (arith, high))
 
+-- the answer tells whether a vertex has the level as its core number
 abbrev Stand : List ℕ → ℕ → Bool → Type 0
 Stand core level b = MatchBool b ((v : ℕ) × (v < length core) × (get_or core v 0 ≡ level)) ((v : ℕ) → v < length core → get_or core v 0 ≢ level)
 

@@ -127,6 +127,7 @@ behind-first n order core =
     let rest : List ℕ = level_part core order 0 ++ parts_from n (level_part core order) 1 n in
     ap (vertices_of n) (behind-here n (n + 0) rest (omega arith)) ∙ sym (filter-no (λ z. ltb z n) (n + 0) rest (le-ltb (n + 0) n (omega arith)))
 
+-- what a walk found is the first of the vertices that are left, or nothing where none is
 abbrev Found : ℕ → List ℕ → Option ℕ → Type 0
 Found n left o = MatchOption o (left ≡ []) (λ y. (y ≡ head_or n left) × (y < n))
 
