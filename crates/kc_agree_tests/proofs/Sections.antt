@@ -50,12 +50,13 @@ no_stamps (suc zero) = omega arith
 no_stamps (suc (suc zero)) = omega arith
 no_stamps (suc (suc (suc v))) = omega arith
 
--- a table that was opened has no entries of its own, and nothing is open
+-- a table that was opened over no entries has the number 0
 pub new_number : (table : TableName) (seen : Seen) → seen ≡ record { table = table; log = [] } → table.shape.base ≡ 0
     → number_of seen.table seen.log ≡ 0
 new_number table seen is base =
     ap (λ (s : Seen). number_of s.table s.log) is
     ∙ (ap (λ s. last_entry table.shape s) (state_of-nil table.shape table.opening) ∙ omega (arith, base))
 
+-- a table that was opened has nothing open
 pub new_closed : (table : TableName) (seen : Seen) → seen ≡ record { table = table; log = [] } → unsealed_after seen ≡ []
 new_closed table seen is = ap unsealed_after is ∙ ap (λ s. s.unsealed) (state_of-nil table.shape table.opening)
