@@ -28,6 +28,7 @@ either (y ∷ p) (x ∷ q) e more rest is =
       | inr pre ↦ inr (pre.0, ap₂ (λ (z : Event) (l : List Event). z ∷ l) (sym first) pre.1)
     ]
 
+-- a list of no events is empty
 no_more : (xs : List Event) → length xs ≡ 0 → xs ≡ []
 no_more [] h = refl
 no_more (x ∷ xs) h = absurd (omega (arith, h))
@@ -39,6 +40,7 @@ pub record NewSection (table : TableName) (old new : List Event) (entry : Entry)
   pub begins : IsPrefix (old ++ note ∷ []) new
   pub number : number_of table new ≡ number_of table (old ++ note ∷ [])
 
+-- the note of an entry makes one section more
 pub number-next : (table : TableName) (log : List Event) (note : Event) (entry : Entry) → IsNoteOf table log note entry
     → number_of table (log ++ note ∷ []) ≡ number_of table log + 1
 number-next table log note entry is = omega (arith, ap length is, length-append (made_by table log).entries (entry ∷ []))

@@ -36,6 +36,7 @@ pub record Began (s : Ranked) (version : ℕ) (words : TableName) (j : Journalle
   pub opened : j.opened ≡ j.graph
   pub opening_stamps : j.opening_stamps ≡ j.edge_stamps
 
+-- what the calls of `open` have answered, taken together
 pub began : {s : Ranked} {version : ℕ} {words : TableName} {j : Journalled} {pass : PassSeen} {core order stamps : List ℕ}
     → IsCertified s → j.graph ≡ s.graph → core ≡ s.core → order ≡ s.order → stamps ≡ j.edge_stamps → (count : ℕ) → count ≡ length core
     → j.edge_stamps ≡ replicate count 0
@@ -61,6 +62,7 @@ began {s} {version} {words} {j} {pass} {core} {order} {stamps} certified graph c
       opening_stamps = opening;
     }
 
+-- a journal that `open` has got opens a run
 pub begins : {s : Ranked} {version : ℕ} {words : TableName} {j : Journalled} {pass : PassSeen} → Began s version words j pass → OpensRun s version words j pass
 begins {s} {version} {words} {j} {pass} b =
     let o = b.opens in

@@ -29,6 +29,7 @@ pub precedes-here : {self now : Journalled} (x y : ℕ) (b : Bool) → self ≡ 
 precedes-here {self} {now} x y b is are low told =
     precedes-is self.levels x y b are low.0 low.1 told ∙ ap (λ (j : Journalled). ltb (place_of x j.levels.order) (place_of y j.levels.order)) is
 
+-- which of two vertices of a journal stands first, where they are known to be vertices under its present name
 pub compared : {self now : Journalled} (x y : ℕ) (b : Bool) → self ≡ now → AreLevels self.levels
     → (x < size_of now.levels) × (y < size_of now.levels) → IsTrue b ↔ StandsBefore x y self.levels.order
     → b ≡ ltb (place_of x now.levels.order) (place_of y now.levels.order)

@@ -69,6 +69,7 @@ pub record Looked (j : Journalled) (plan : Plan) : Type 0 where
   pub current : IsCurrent j plan
   pub few : length (moved_vertices plan.moves) ≤ VERTICES
 
+-- where no stamp was found to be less, the plan is current and moves few vertices
 pub looked : {self now : Journalled} {plan : Plan} (edges stamps : List ℕ) → self ≡ now → Stands self → MayEnter now plan
     → edges ≡ self.edge_stamps → AreStamps self.levels stamps → AllCurrent edges stamps (answers_in plan.used) → Looked now plan
 looked {self} {now} {plan} edges stamps is h may edges-are each all =
@@ -88,6 +89,7 @@ pub record Before (now self : Journalled) (told : Levelled) (index : ℕ) (plan 
   pub may : MayEnter now plan
   pub admitted : IsAdmitted now plan
 
+-- what was found before the first store, taken together
 pub before : {now self : Journalled} {told : Levelled} {pass : List Event} {index : ℕ} {plan : Plan} → self ≡ now → Stands self
     → told ≡ self.levels → IsPrefix pass self.levels.log → index < INDICES → plan.update.v < size_of now.levels → WasReadOf now pass plan
     → IsSure plan → IsAdmitted (record self { levels = told }) plan → Before now self told index plan
@@ -134,6 +136,7 @@ pub record Makes (self new : Journalled) (told : Levelled) (index : ℕ) (plan :
   pub opened : new.opened ≡ self.opened
   pub opening_stamps : new.opening_stamps ≡ self.opening_stamps
 
+-- what the calls have made, with the number of the entry told as the length of the list
 pub makes : {self new : Journalled} {told : Levelled} {index : ℕ} {plan : Plan} (lists : Option ListsAfter) (place : ℕ)
     → place ≡ length new.entries → HasSection told new.levels index plan.update plan.moves → new.graph ≡ updated plan.update self.graph
     → new.entries ≡ self.entries ++ entry_of index plan.update ∷ [] → length new.edge_stamps ≡ length self.edge_stamps
@@ -172,6 +175,7 @@ enters {now} {self} {new} {told} {index} {plan} {lists} b m =
     } in
     subst (λ (j : Journalled). Enters j new index plan.update plan.moves) b.is here
 
+-- after an entry the journal is the next one, which stands
 next : {now self new : Journalled} {told : Levelled} {index : ℕ} {plan : Plan} {lists : Option ListsAfter} → Before now self told index plan
     → Makes self new told index plan lists → Next now new plan
 next {now} {self} {new} {told} {index} {plan} b m =

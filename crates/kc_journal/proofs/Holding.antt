@@ -128,12 +128,13 @@ found-list P w (x ∷ es) all h =
       | false ↦ λ _ k. found-list P w es (λ i d l. all (suc i) d (omega (arith, l))) k
     ] refl h
 
--- a vertex whose list was told is one of the journal's, and so is one whose core number was
+-- a vertex whose list was told is one of the journal's
 pub listed-below : {j : Journalled} {m : Memory} (w : ℕ) → Holds j m → has_list m.kept w ≡ true → w < m.size
 listed-below {j} {m} w h told =
     let found = found-list (OwnList j.levels.table j.opened j.opening_stamps j.levels.log (ranked j)) w m.kept.edges h.own.edges told in
     omega (arith, found.2.vertex, found.1, h.size)
 
+-- a vertex whose core number was told is one of the journal's
 pub told-below : {j : Journalled} {m : Memory} (w : ℕ) → Holds j m → has_core m.kept w ≡ true → w < j.graph.size
 told-below {j} {m} w h told =
     let found = found_place (OwnPlace j.levels.table j.levels.log (ranked j)) w m.kept.places h.own.places told in
@@ -143,33 +144,39 @@ told-below {j} {m} w h told =
 short-list : (size w : ℕ) (ws : List ℕ) → size < 2 ^ 32 → IsListOf size w ws → length ws < 2 ^ 32
 short-list size w ws few h = omega (arith, below_bound size ws (Distinct-from_increasing ws h.ascends) h.within, few)
 
+-- a list that a view keeps is shorter than 2 ^ 32
 pub short-told : {j : Journalled} {m : Memory} (w : ℕ) (ws : List ℕ) → Holds j m → list_in w m.kept.edges ≡ Some ws → length ws < 2 ^ 32
 short-told {j} {m} w ws h told =
     let list : IsListOf m.size w (list_of m.kept w) = kept-list m.size w m.kept h.lists (ap is_some told) in
     let same : list_of m.kept w ≡ ws = ap (λ o. unwrap_or o []) told in
     short-list m.size w ws (omega (arith, h.size, size-is j h.stands, h.stands.levels.few)) (subst (IsListOf m.size w) same list)
 
+-- a list of neighbours in a journal that stands is shorter than 2 ^ 32
 pub short-near : {j : Journalled} (w : ℕ) (ws : List ℕ) → Stands j → AreNeighbours j.graph w ws → length ws < 2 ^ 32
 short-near {j} w ws h near =
     short-list j.graph.size w ws (omega (arith, size-is j h, h.levels.few)) (IsListOf-neighbours (ranked j) w ws near)
 
--- what a journal of this name tells of a vertex: its row, its edge stamp, its place stamp and its core number
+-- what a journal of this name tells of a vertex: its row
 pub row-near : {lent : SimpleGraph} {self now : Journalled} (w : ℕ) (ws : List ℕ) → self ≡ now → lent ≡ self.graph → AreNeighbours lent w ws
     → AreNeighbours now.graph w ws
 row-near w ws is lent near = subst (λ (g : SimpleGraph). AreNeighbours g w ws) (lent ∙ ap (λ (j : Journalled). j.graph) is) near
 
+-- what a journal of this name tells of a vertex: its edge stamp
 pub edge-stamp : {self now : Journalled} {at : ℕ} (w : ℕ) → self ≡ now
     → at ≡ edge_stamp self.levels.table self.opened self.opening_stamps self.levels.log w
     → at ≡ edge_stamp now.levels.table now.opened now.opening_stamps now.levels.log w
 edge-stamp w is at = at ∙ ap (λ (j : Journalled). edge_stamp j.levels.table j.opened j.opening_stamps j.levels.log w) is
 
+-- what a journal of this name tells of a vertex: its place stamp
 pub place-stamp : {self now : Journalled} {stamp : ℕ} (w : ℕ) → self ≡ now → stamp ≡ place_stamp self.levels.table self.levels.log w
     → stamp ≡ place_stamp now.levels.table now.levels.log w
 place-stamp w is stamp = stamp ∙ ap (λ (j : Journalled). place_stamp j.levels.table j.levels.log w) is
 
+-- what a journal of this name tells of a vertex: its core number
 pub core-number : {self now : Journalled} {core : ℕ} (w : ℕ) → self ≡ now → core ≡ get_or self.levels.core w 0 → core ≡ get_or now.levels.core w 0
 core-number w is core = core ∙ ap (λ (j : Journalled). get_or j.levels.core w 0) is
 
+-- what a journal of this name tells of two vertices: which stands first
 pub order-told : {self now : Journalled} {before : Bool} (x y : ℕ) → self ≡ now
     → before ≡ ltb (place_of x self.levels.order) (place_of y self.levels.order) → before ≡ ltb (place_of x now.levels.order) (place_of y now.levels.order)
 order-told x y is before = before ∙ ap (λ (j : Journalled). ltb (place_of x j.levels.order) (place_of y j.levels.order)) is
@@ -178,5 +185,6 @@ order-told x y is before = before ∙ ap (λ (j : Journalled). ltb (place_of x j
 pub named-below : {self now : Journalled} {w : ℕ} → self ≡ now → Stands now → w < now.graph.size → w < size_of self.levels
 named-below {self} {now} is h low = omega (arith, low, size-is now h, ap (λ (j : Journalled). size_of j.levels) is)
 
+-- a vertex of the journal is one of the graph that was lent under another name
 pub named-inside : {lent : SimpleGraph} {self now : Journalled} {w : ℕ} → self ≡ now → lent ≡ self.graph → w < now.graph.size → w < lent.size
 named-inside is lent low = omega (arith, low, ap (λ (g : SimpleGraph). g.size) (lent ∙ ap (λ (j : Journalled). j.graph) is))

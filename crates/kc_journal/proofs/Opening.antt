@@ -29,6 +29,7 @@ use Rattle.kc_journal.proofs.Standing.{at-rest, state-is, state-of}
 none-before : (prefix : List Event) (note : Event) → IsPrefix (prefix ++ note ∷ []) [] → ⊥
 none-before prefix note (more, is) = omega (arith, ap length is, length-append (prefix ++ note ∷ []) more, length-append prefix (note ∷ []))
 
+-- a journal at the opening of its table stands
 pub stands-at-opening : (j : Journalled) → Opens j → Stands j
 stands-at-opening j o =
     let t : TableName = j.levels.table in

@@ -73,6 +73,7 @@ list-now j e h was le =
     subst (λ (g : SimpleGraph). AreNeighbours g e.vertex e.neighbours) (sym h.from_opening)
     ((current_neighbours j.levels.table j.opened j.opening_stamps j.levels.log e.vertex e.at e.neighbours stamp).0 was.list)
 
+-- an edge that is there as the update needs it is one that the update changes
 either-way : (add there : Bool) → there ≡ not add → cond add (not there) there ≡ true
 either-way true there e = ap not e
 either-way false there e = e

@@ -30,10 +30,12 @@ use Rattle.kc_journal.specs.Sections.{section_puts}
 abbrev pub IsQuiet : TableName → List Event → Type 0
 IsQuiet table log = (word : ℕ) → FollowsNote (made_by table log).note word
 
+-- nothing, put or not, is nothing
 cond-none : (b : Bool) → ◌≡◌ {A = List ℕ} (cond b [] []) []
 cond-none true = refl
 cond-none false = refl
 
+-- what is put in turn under one condition is put together under it
 cond-append : (b : Bool) (vs ws : List ℕ) → cond b vs [] ++ cond b ws [] ≡ cond b (vs ++ ws) []
 cond-append true vs ws = refl
 cond-append false vs ws = refl

@@ -39,6 +39,7 @@ pub record Renewed (self new : Journalled) : Type 0 where
   pub opened : new.opened ≡ self.graph
   pub opening_stamps : new.opening_stamps ≡ self.edge_stamps
 
+-- a journal in such levels, as its parts were told under another name
 pub moved : {self now new : Journalled} → self ≡ now → MayGoOn now new.levels → new.graph ≡ self.graph → new.edge_stamps ≡ self.edge_stamps
     → new.entries ≡ self.entries → new.started ≡ self.started → new.opened ≡ self.graph → new.opening_stamps ≡ self.edge_stamps → Renewed self new
 moved {self} {now} {new} is may graph edges entries started opened opening = record {
@@ -51,11 +52,11 @@ moved {self} {now} {new} is may graph edges entries started opened opening = rec
   opening_stamps = opening;
 }
 
--- the state is that of before
+-- a renewed journal keeps the state of before
 same-state : {self new : Journalled} → Renewed self new → ranked new ≡ ranked self
 same-state r = λ i. record { graph = r.graph i; core = r.may.core i; order = r.may.order i }
 
--- so it stands
+-- a renewed journal stands
 pub stands-renewed : {self new : Journalled} → Stands self → Renewed self new → Stands new
 stands-renewed {self} {new} h r =
     let m = r.may in

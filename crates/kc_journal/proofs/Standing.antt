@@ -73,9 +73,11 @@ state-is g opened l are none size graph = record { size = size; graph = graph; c
 pub at-rest : (l : Levelled) → AreLevels l → l.open_ ≡ false → IsAtRest l.table l.log
 at-rest l are closed = record { legal = are.legal; closed = (are.closed closed, are.quiet) }
 
+-- the graph of a journal that stands has as many vertices as its levels
 pub size-is : (j : Journalled) → Stands j → j.graph.size ≡ size_of j.levels
 size-is j h = sym h.certified.one_each ∙ h.levels.long
 
+-- what a journal keeps is a state of its log
 pub state-of : (j : Journalled) → Stands j → IsStateOf j.levels.table j.opened j.levels.log (ranked j)
 state-of j h = state-is j.graph j.opened j.levels h.levels (h.levels.closed h.closed) (size-is j h) h.from_opening
 
@@ -110,7 +112,7 @@ spares s plan index local sparing =
       removed = λ gone applied core are x low. once.1 x ∙ sparing.removed gone applied core are x low;
     }
 
--- the plan in any state that the log makes
+-- a current plan is local and sparing in any state that the log makes, and leaves a certified one
 pub right-in : (j : Journalled) (plan : Plan) → Stands j → MayEnter j plan → IsCurrent j plan
     → (s : Ranked) → IsStateOf j.levels.table j.opened j.levels.log s → IsCertified s
     → IsLocal s plan × IsSparing s plan × IsCertified (state_after plan s)
@@ -118,7 +120,7 @@ right-in j plan h may current s state certified =
     right_now j.levels.table j.opened j.opening_stamps may.log j.levels.log s plan (at-rest j.levels h.levels h.closed) state certified
     (omega (arith, may.within, state.size)) may.begins may.from_log current may.sure
 
--- and in the journal's own
+-- a current plan is local and sparing in the journal's own state, and leaves a certified one
 pub right-here : (j : Journalled) (plan : Plan) → Stands j → MayEnter j plan → IsCurrent j plan
     → IsLocal (ranked j) plan × IsSparing (ranked j) plan × IsCertified (state_after plan (ranked j))
 right-here j plan h may current = right-in j plan h may current (ranked j) (state-of j h) h.certified
@@ -129,6 +131,7 @@ right-here j plan h may current = right-in j plan h may current (ranked j) (stat
 abbrev next_levels : TableName → Levelled → Levelled
 next_levels table l = record { table = table; log = l.log; order = l.order; core = l.core; open_ = false }
 
+-- levels with nothing open are levels once their section is ended
 ended-levels : (table : TableName) (l : Levelled) → l.table ≡ table → AreLevels l → unsealed_in l ≡ [] → AreLevels (next_levels table l)
 ended-levels table l same are none =
     let closed : AreLevels (record l { open_ = false }) = record {
@@ -296,6 +299,7 @@ pub record Next (old new : Journalled) (plan : Plan) : Type 0 where
   pub longer : IsPrefix old.levels.log new.levels.log
   pub puts : section_puts new.levels.table new.levels.log (length old.entries + 1) ≡ puts_of plan.moves
 
+-- a journal that stands and enters a current plan stands, and is the next one
 pub stands-next : (old new : Journalled) (index : ℕ) (plan : Plan) → Stands old → index < INDICES → MayEnter old plan → IsCurrent old plan
     → length old.entries < LAST_NUMBER → Enters old new index plan.update plan.moves → Next old new plan
 stands-next old new index plan h fits may current room enters =

@@ -47,10 +47,12 @@ here-next old new index plan entered h e =
     ∙ (ap (λ (es : List Entry). es ++ x ∷ []) h.entries ∙ append_assoc h.before (entries_here old) (x ∷ [])))
     ∙ (ap (λ (n : ℕ). drop n (h.before ++ (entries_here old ++ x ∷ []))) (sym h.base) ∙ drop-append_seam h.before (entries_here old ++ x ∷ []))))
 
+-- the place in the receipt is the number of entries before, and one
 place-is : (old new : Journalled) (index : ℕ) (plan : Plan) (entered : Entered) → IsEntered old new index plan entered
     → entered.receipt.place ≡ length old.entries + 1
 place-is old new index plan entered e = ap (λ (r : Receipt). r.place) e.receipt
 
+-- after an entry the log has it under the number in its receipt
 pub has-entry : (old new : Journalled) (index : ℕ) (plan : Plan) (entered : Entered) → Stands old → IsEntered old new index plan entered
     → HasEntry new.levels.table new.levels.log entered.receipt.place (entry_of index plan.update)
 has-entry old new index plan entered h e = record {
@@ -67,6 +69,7 @@ has-entry old new index plan entered h e = record {
   );
 }
 
+-- before an entry the log had none of that number
 pub had-no-entry : (old new : Journalled) (index : ℕ) (plan : Plan) (entered : Entered) → Stands old → IsEntered old new index plan entered
     → number_of old.levels.table old.levels.log < entered.receipt.place
 had-no-entry old new index plan entered h e = omega (arith, place-is old new index plan entered e, number-is old h)

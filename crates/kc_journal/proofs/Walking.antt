@@ -35,6 +35,7 @@ unheaded n (x ∷ xs) e low = absurd (omega (arith, low x (member-head x xs), e)
 abbrev IsFirst : Levelled → Option ℕ → Type 0
 IsFirst l at = MatchOption at (l.order ≡ []) (λ v. (v ≡ head_or (size_of l) l.order) × (v < size_of l))
 
+-- a walk begins before the first vertex, or before nothing, with none passed
 pub walk-first : (l : Levelled) (at : Option ℕ) → IsFirst l at → Walked l [] at
 walk-first l None e = record { rest = l.order; is = refl; stands = e }
 walk-first l (Some v) e = record { rest = l.order; is = refl; stands = headed (size_of l) v l.order e.0 e.1 }
@@ -50,6 +51,7 @@ walk-below l done v are w =
     let here : member v (done ++ v ∷ more) ≡ true = member-append_right v done (v ∷ more) (member-head v more) in
     order-below (size_of l) l.order are.enumerates v (ap (member v) (w.is ∙ ap (λ (xs : List ℕ). done ++ xs) rest) ∙ here)
 
+-- a walk that goes on from a vertex has passed it
 pub walk-next : (l : Levelled) (done : List ℕ) (v : ℕ) (at : Option ℕ) → AreLevels l → Walked l done (Some v) → IsNext l v at
     → Walked l (done ++ v ∷ []) at
 walk-next l done v at are w next =
