@@ -40,7 +40,7 @@ use Rattle.kc_batch.proofs.Working.{misses-stay, told-append}
 opened-same : (a b : Journalled) → StaysIn a b → opened_by b ≡ opened_by a
 opened-same a b h = λ i. record { table = h.table i; edges = h.opened i; stamps = h.opening_stamps i }
 
--- One round more.
+-- a round more keeps the account of a call
 pub account-round : (old now next : Journalled) (first : ℕ) (batch : List Update) (ended : List PassSeen) (works after : List Work)
     (taken more : List ℕ) (made : ℕ) (o : Opened)
     → Account old now first batch ended works taken → Stands now → Stands next → StaysIn now next → o ≡ opened_by next
@@ -84,7 +84,7 @@ account-round old now next first batch ended works after taken more made o a sn 
       pace = pace-round old now next batch ended made sn on total quiet a.pace;
     }
 
--- One table more, while an update of the batch is left.
+-- a table more keeps the account of a call, while an update of the batch is left
 pub account-renewed : (old now next : Journalled) (first : ℕ) (batch : List Update) (ended : List PassSeen) (last : PassSeen)
     (works : List Work) (taken : List ℕ)
     → Account old now first batch ended works taken → IsRenewal now last now next → length now.entries < length old.entries + length batch
@@ -103,11 +103,12 @@ account-renewed old now next first batch ended last works taken a r left =
       pace = inr (pace-renewed old now next batch ended last r (omega (arith, a.count)) left a.pace);
     }
 
--- Counts over all work.
+-- an index stands no more often among receipts than among what was entered and is in hand
 pub told-le : (first y : ℕ) (works : List Work) → times y (told_indices (all_receipts works)) ≤ sum_by (times_had first y) works
 told-le first y [] = omega arith
 told-le first y (w ∷ ws) = omega (arith, told-le first y ws, told-append y (receipts_of w) (all_receipts ws), sum_by-cons (times_had first y) w ws)
 
+-- where nothing is in hand, an index stands as often among receipts as among what was entered and is in hand
 told-all : (first y : ℕ) (works : List Work) → All (λ w. w.left ≡ Nothing) works
     → sum_by (times_had first y) works ≡ times y (told_indices (all_receipts works))
 told-all first y [] none = refl
@@ -120,7 +121,7 @@ told-all first y (w ∷ ws) none =
       ap (λ (l : Left). times y (in_hand first l)) (All-head (λ (u : Work). u.left ≡ Nothing) w ws none),
     )
 
--- the index of a place that was taken is one of the indices, and of no other
+-- the index of a place that was taken is one of the indices
 placed-member : (first x : ℕ) (xs : List ℕ) → member x xs ≡ true → member (first + x) (at_places first xs) ≡ true
 placed-member first x [] m = m
 placed-member first x (y ∷ ys) m = elim (member-cases x y ys m) [
@@ -128,6 +129,7 @@ placed-member first x (y ∷ ys) m = elim (member-cases x y ys m) [
   | inr k ↦ member-tail (first + x) (first + y) (at_places first ys) (placed-member first x ys k)
 ]
 
+-- a place whose index is one of those of taken places was taken
 pub member-placed : (first x : ℕ) (xs : List ℕ) → member (first + x) (at_places first xs) ≡ true → member x xs ≡ true
 member-placed first x [] m = m
 member-placed first x (y ∷ ys) m = elim (member-cases (first + x) (first + y) (at_places first ys) m) [
@@ -138,11 +140,13 @@ member-placed first x (y ∷ ys) m = elim (member-cases (first + x) (first + y) 
     alike : first + x ≡ first + y → x ≡ y
     alike e = omega arith
 
+-- distinct places have distinct indices
 pub distinct-placed : (first : ℕ) (xs : List ℕ) → Distinct xs → Distinct (at_places first xs)
 distinct-placed first [] d = tt
 distinct-placed first (x ∷ xs) d =
     (false_from_ne_true (member (first + x) (at_places first xs)) (λ m. false≢true (sym d.0 ∙ member-placed first x xs m)), distinct-placed first xs d.1)
 
+-- where the places that were taken are distinct, no index has two receipts
 pub told-once : (old now : Journalled) (first : ℕ) (batch : List Update) (ended : List PassSeen) (works : List Work) (taken : List ℕ)
     → Account old now first batch ended works taken → Distinct taken → Distinct (told_indices (all_receipts works))
 told-once old now first batch ended works taken a d =
@@ -155,6 +159,7 @@ fewer xs ys d h =
     let any : ℕ → Bool = λ x. true in
     omega (arith, count-le any xs ys d (λ x m t. h x m), count-all any xs (λ x m. refl), count-all any ys (λ x m. refl))
 
+-- as many places were taken of a whole batch as it has updates
 whole-length : (n : ℕ) (taken : List ℕ) → IsWhole n taken → length taken ≡ n
 whole-length n taken whole =
     omega (
@@ -170,6 +175,7 @@ pub record Made (old now : Journalled) (first : ℕ) (batch : List Update) (ende
   pub went : WentOnBy old now first batch ended made
   pub as_many : length made ≡ length (all_receipts works)
 
+-- an account with distinct places comes to some of the batch, each made at most once
 pub made_so : (old now : Journalled) (first : ℕ) (batch : List Update) (ended : List PassSeen) (works : List Work) (taken : List ℕ)
     → Account old now first batch ended works taken → Distinct taken → Made old now first batch ended works
 made_so old now first batch ended works taken a d =
@@ -194,6 +200,7 @@ pub record MadeAll (old now : Journalled) (first : ℕ) (batch : List Update) (w
   pub receipts : AreAllOf now.started now.entries first batch (length old.entries) (all_receipts works)
   pub as_many : length (all_receipts works) ≡ length batch
 
+-- an account of a batch that was taken whole, with nothing in hand, comes to all of it
 pub made_all : (old now : Journalled) (first : ℕ) (batch : List Update) (ended : List PassSeen) (works : List Work) (taken : List ℕ)
     → Account old now first batch ended works taken → IsWhole (length batch) taken → All (λ w. w.left ≡ Nothing) works → MadeAll old now first batch works
 made_all old now first batch ended works taken a whole none =

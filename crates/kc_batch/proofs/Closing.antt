@@ -43,10 +43,11 @@ use Rattle.kc_batch.proofs.Going.{stays-self}
 use Rattle.kc_batch.proofs.Rounding.{all-backward, all-unmapped, length-backward}
 use Rattle.kc_batch.proofs.Working.{keeps-nothing, told-append}
 
+-- the last of a list is one of it
 itself-last : {A : Type 0} (xs : List A) (x : A) → Contains (xs ++ x ∷ []) x
 itself-last xs x = Contains-append_right xs (x ∷ []) x (All-head (Contains (x ∷ [])) x [] (All-contains_itself (x ∷ [])))
 
--- How all work stands with one desk more, which has nothing left,
+-- how all work stands stays so with one desk more that has nothing left
 pub stands-nothing : (works : List Work) (w : Work) (s : Standing) → w.left ≡ Nothing → IsStanding works s → IsStanding (works ++ w ∷ []) s
 stands-nothing works w Free none h = All-push (λ (u : Work). u.left ≡ Nothing) works w h none
 stands-nothing works w Keeping none h = (
@@ -55,10 +56,11 @@ stands-nothing works w Keeping none h = (
 )
 stands-nothing works w Short none h = (h.0, Contains-append_left works (w ∷ []) h.0 h.1, h.2)
 
+-- a worker that has nothing left may go on
 may-go-on : (left : Left) → left ≡ Nothing → MayGoOn left
 may-go-on left none = subst MayGoOn (sym none) tt
 
--- and with one that keeps an update.
+-- with one desk more that keeps an update something is kept, unless memory has run out
 pub stands-kept : (works : List Work) (w : Work) (s : Standing) (place : ℕ) → w.left ≡ Kept place → (s ≡ Short → ⊥) → IsStanding works s
     → IsStanding (works ++ w ∷ []) Keeping
 stands-kept works w s place kept some h = (
@@ -75,6 +77,7 @@ stands-kept works w s place kept some h = (
 abbrev pub Stood : List Desked → ℕ → Standing → Type 0
 Stood desks i s = IsStanding (map (λ d. d.work) (take i desks)) s × (s ≡ Short → ⊥)
 
+-- the work of one desk more stands behind that of the desks before it
 works-more : (desks : List Desked) (i : ℕ) (d : Desked) → i < length desks → d ≡ get_or desks i d
     → map (λ (d : Desked). d.work) (take (i + 1) desks) ≡ map (λ (d : Desked). d.work) (take i desks) ++ d.work ∷ []
 works-more desks i d here is =
@@ -82,6 +85,7 @@ works-more desks i d here is =
     ∙ (map-append (λ (e : Desked). e.work) (take i desks) (get_or desks i d ∷ [])
     ∙ ap (λ (e : Desked). map (λ (f : Desked). f.work) (take i desks) ++ e.work ∷ []) (sym is))
 
+-- the desks up to one that has nothing left stand as those before it
 pub stood-nothing : (desks : List Desked) (i : ℕ) (d : Desked) (s new : Standing) → i < length desks → d ≡ get_or desks i d
     → d.work.left ≡ Nothing → new ≡ s → Stood desks i s → Stood desks (i + 1) new
 stood-nothing desks i d s new here is none same h =
@@ -91,6 +95,7 @@ stood-nothing desks i d s new here is none same h =
       λ short. h.1 (sym same ∙ short),
     )
 
+-- the desks up to one that keeps an update keep something
 pub stood-kept : (desks : List Desked) (i : ℕ) (d : Desked) (s new : Standing) (place : ℕ) → i < length desks → d ≡ get_or desks i d
     → d.work.left ≡ Kept place → new ≡ Keeping → Stood desks i s → Stood desks (i + 1) new
 stood-kept desks i d s new place here is kept now h =
@@ -103,7 +108,7 @@ stood-kept desks i d s new place here is kept now h =
     apart : Keeping ≡ Short → ⊥
     apart e = cc
 
--- one of them can't go on
+-- where one of the desks can't go on, memory ran out
 pub stands-short : (desks : List Desked) (i : ℕ) (d : Desked) → i < length desks → d ≡ get_or desks i d → (MayGoOn d.work.left → ⊥)
     → IsStanding (map (λ d. d.work) desks) Short
 stands-short desks i d here is cannot =
@@ -111,7 +116,7 @@ stands-short desks i d here is cannot =
     let all = all-unmapped (Contains works) (λ (e : Desked). e.work) desks (All-contains_itself works) in
     (d.work, subst (λ (e : Desked). Contains works e.work) (sym is) (all i d here), cannot)
 
--- all of them have been looked at
+-- how the desks stand that were looked at is how all stand, once all were
 pub stood-all : (desks : List Desked) (i : ℕ) (s : Standing) → length desks ≤ i → Stood desks i s → IsStanding (map (λ d. d.work) desks) s
 stood-all desks i s all h = subst (λ (ds : List Desked). IsStanding (map (λ (e : Desked). e.work) ds) s) (take_all i desks all) h.0
 
@@ -394,18 +399,21 @@ round-many o start log first batch desks others taken after made rounds =
 abbrev pub idle : Work
 idle = record { done = []; left = Nothing }
 
+-- workers that are idle have no receipts
 no-receipts : (works : List Work) → All (λ w. w ≡ idle) works → all_receipts works ≡ []
 no-receipts [] none = refl
 no-receipts (w ∷ ws) none =
     ap (λ (u : Work). receipts_of u ++ all_receipts ws) (All-head (λ (u : Work). u ≡ idle) w ws none)
     ∙ no-receipts ws (All-tail (λ (u : Work). u ≡ idle) w ws none)
 
+-- workers that are idle have entered nothing
 nothing-done : (works : List Work) → All (λ w. w ≡ idle) works → all_done works ≡ []
 nothing-done [] none = refl
 nothing-done (w ∷ ws) none =
     ap (λ (u : Work). u.done ++ all_done ws) (All-head (λ (u : Work). u ≡ idle) w ws none)
     ∙ nothing-done ws (All-tail (λ (u : Work). u ≡ idle) w ws none)
 
+-- workers that are idle have no index of the batch
 none-had : (first y : ℕ) (works : List Work) → All (λ w. w ≡ idle) works → sum_by (times_had first y) works ≡ 0
 none-had first y [] none = refl
 none-had first y (w ∷ ws) none = omega (
@@ -415,6 +423,7 @@ none-had first y (w ∷ ws) none = omega (
   none-had first y ws (All-tail (λ (u : Work). u ≡ idle) w ws none),
 )
 
+-- the account of a call before its first round
 pub account-start : (j : Journalled) (first : ℕ) (batch : List Update) (works : List Work) → All (λ w. w ≡ idle) works → Account j j first batch [] works []
 account-start j first batch works none =
     let Told : Receipt → Type 0 = IsReceiptOf j.started j.entries first batch (length j.entries) in
@@ -430,29 +439,33 @@ account-start j first batch works none =
       pace = inl refl;
     }
 
--- a batch that was not begun
+-- a batch that was not begun is cut short, with nothing made
 pub cut-at_start : (j : Journalled) (first : ℕ) (batch : List Update) → IsCutShort j j first batch
 cut-at_start j first batch =
     let made = made_so j j first batch [] [] [] (account-start j first batch [] (All-nil (λ (w : Work). w ≡ idle))) tt in
     record { ended = []; made = made.made; went = made.went }
 
--- Work from its end on.
+-- images from the end on are those of the list from its end on
 pub images-backward : {A B : Type 0} (f : A → B) (xs : List A) → map f (backward xs) ≡ backward (map f xs)
 images-backward f [] = refl
 images-backward {A} {B} f (x ∷ xs) = map-append f (backward xs) (x ∷ []) ∙ ap (λ (z : List B). z ++ f x ∷ []) (images-backward f xs)
 
+-- the lists of all from the end on end with those of the first
 flat-back : {A B : Type 0} (f : A → List B) (x : A) (xs : List A) → flat_map f (backward (x ∷ xs)) ≡ flat_map f (backward xs) ++ f x
 flat-back f x xs = sym (flat_map_more f [] (backward xs) x)
 
+-- what holds of all of a list holds of all of its second part
 all-end : {A : Type 0} (P : A → Type 0) (xs ys : List A) → All P (xs ++ ys) → All P ys
 all-end {A} P xs ys h = subst (All P) (drop-append_seam xs ys) (All-drop P (length xs) (xs ++ ys) h)
 
+-- what holds of all in the lists of some holds of all in these lists from the end on
 all-flat-back : {A B : Type 0} (P : B → Type 0) (f : A → List B) (xs : List A) → All P (flat_map f xs) → All P (flat_map f (backward xs))
 all-flat-back P f [] h = h
 all-flat-back P f (x ∷ xs) h =
     subst (All P) (sym (flat-back f x xs))
     (All-append P (flat_map f (backward xs)) (f x) (all-flat-back P f xs (all-end P (f x) (flat_map f xs) h)) (All-front P (f x) (flat_map f xs) h))
 
+-- the lists of some have together as many elements from the end on
 length-flat-back : {A B : Type 0} (f : A → List B) (xs : List A) → length (flat_map f (backward xs)) ≡ length (flat_map f xs)
 length-flat-back f [] = refl
 length-flat-back {A} {B} f (x ∷ xs) = omega (
@@ -463,11 +476,13 @@ length-flat-back {A} {B} f (x ∷ xs) = omega (
   length-flat-back f xs,
 )
 
+-- a sum is the same from the end on
 sum-back : {A : Type 0} (f : A → ℕ) (xs : List A) → sum_by f (backward xs) ≡ sum_by f xs
 sum-back f [] = refl
 sum-back f (x ∷ xs) =
     omega (arith, sum_by-append f (backward xs) (x ∷ []), sum_by-cons f x [], sum_by-cons f x xs, sum-back f xs)
 
+-- an account is one of the same work from its end on
 pub account-backward : (old now : Journalled) (first : ℕ) (batch : List Update) (ended : List PassSeen) (works : List Work) (taken : List ℕ)
     → Account old now first batch ended works taken → Account old now first batch ended (backward works) taken
 account-backward old now first batch ended works taken a = record {
@@ -480,7 +495,7 @@ account-backward old now first batch ended works taken a = record {
   pace = a.pace;
 }
 
--- Where nothing is left what was entered is what is told.
+-- where nothing is left the receipts are those of what was entered
 told-done : (works : List Work) → All (λ w. w.left ≡ Nothing) works → all_receipts works ≡ map (λ d. d.receipt) (all_done works)
 told-done [] none = refl
 told-done (w ∷ ws) none =
@@ -490,12 +505,14 @@ told-done (w ∷ ws) none =
     ∙ (ap (λ (z : List Receipt). map f w.done ++ z) (told-done ws (All-tail (λ (u : Work). u.left ≡ Nothing) w ws none))
     ∙ sym (map-append f w.done (all_done ws))))
 
+-- where shares have what the workers have entered, both come to the same together
 shared-done : (shares : List Share) (works : List Work) → map (λ s. s.done.items) shares ≡ map (λ w. w.done) works → done_in shares ≡ all_done works
 shared-done shares works is =
     let id = λ (ds : List Done). ds in
     sym (flat_map-map id (λ (s : Share). s.done.items) shares)
     ∙ (ap (λ (z : List (List Done)). flat_map id z) is ∙ flat_map-map id (λ (w : Work). w.done) works)
 
+-- what was entered at the desks from the end on is what their work has from its end on
 done-back : (desks : List Desked) → map (λ d. d.work.done) (backward desks) ≡ map (λ w. w.done) (backward (map (λ d. d.work) desks))
 done-back desks =
     images-backward (λ (d : Desked). d.work.done) desks
@@ -540,12 +557,13 @@ whole-none count none = record {
   all = λ x low. absurd (omega arith);
 }
 
--- who has nothing left may begin
+-- workers that are idle have nothing left
 pub idle-left : (desks : List Desked) → All (λ w. w ≡ idle) (map (λ d. d.work) desks) → All (λ d. d.work.left ≡ Nothing) desks
 idle-left desks none =
     All-weaker (λ (d : Desked). d.work ≡ idle) (λ (d : Desked). d.work.left ≡ Nothing) (λ d e. ap (λ (w : Work). w.left) e) desks
     (all-unmapped (λ (w : Work). w ≡ idle) (λ (d : Desked). d.work) desks none)
 
+-- what idle workers keep, if anything, is an update of the batch
 pub idle-keeps : (count : ℕ) (desks : List Desked) → All (λ w. w ≡ idle) (map (λ d. d.work) desks) → All (λ d. KeepsOneOf count d.work.left) desks
 idle-keeps count desks none =
     All-weaker (λ (d : Desked). d.work.left ≡ Nothing) (λ (d : Desked). KeepsOneOf count d.work.left) (λ d e. keeps-nothing count d.work.left e) desks
@@ -569,7 +587,7 @@ crew-start parts first batch queue desks consumer table told none is =
       share = subst (IsShare queue.count) (sym taken) (record { once = tt; below = λ x m. absurd (true≢false (sym m)) });
     }
 
--- as many desks where their work is the same, and as many who have stood up
+-- where their work is the same there are as many desks
 pub same-many : (desks others : List Desked) → map (λ d. d.work) others ≡ map (λ d. d.work) desks → length others ≡ length desks
 same-many desks others same = omega (
   arith,
@@ -578,6 +596,7 @@ same-many desks others same = omega (
   length-map desks (λ (d : Desked). d.work),
 )
 
+-- as many workers have stood up as there were desks
 pub stood-many : (workers : List Seen) (desks : List Desked) → workers ≡ map (λ d. d.seen) (backward desks) → length workers ≡ length desks
 stood-many workers desks is = omega (
   arith,

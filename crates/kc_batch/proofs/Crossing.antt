@@ -16,9 +16,11 @@ use Rattle.kc_table.specs.declared.name.Name as name
 use Rattle.std.specs.declared.sync.ledger.Ledger as ledger
 use Rattle.kc_batch.specs.contracts.errand.Errand as errand
 
+-- threads may share an update
 update_sync : IsSync update.the_row
 update_sync = search (sendable, crosses) depth 20
 
+-- threads may share the errand of a round
 pub errand_sync : (κ : NamedLft) (K G : RattleType) (n : name.Ghosts K.Denot) (l : ledger.Ghosts K.Denot) → IsSend K → IsSync K → IsSync G
     → IsSync (errand.the_row κ K G n l)
 errand_sync κ K G n l s y z =
@@ -35,6 +37,7 @@ errand_sync κ K G n l s y z =
       ),
     ))
 
+-- where threads may share each of some types, they may share each of their parts
 each_part : (Ts : List RattleType) → AllSync Ts → AllSync (rows (parts Ts))
 each_part [] s = tt
 each_part (T ∷ Ts) s = (s.0, each_part Ts s.1)

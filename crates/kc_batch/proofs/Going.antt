@@ -17,6 +17,7 @@ use Rattle.kc_journal.specs.Journals.{Journalled}
 use Rattle.kc_workers.specs.Updates.{LeavesNoRoom}
 use Rattle.kc_batch.specs.Runs.{IsNearlySpent, IsRenewal, StaysIn, WentOn}
 
+-- a journal stays in its table where nothing was done
 pub stays-self : (j : Journalled) → StaysIn j j
 stays-self j = record {
   table = refl;
@@ -27,6 +28,7 @@ stays-self j = record {
   entries = prefix_self j.entries;
 }
 
+-- a journal that stays in its table, and then stays on, has stayed all along
 pub stays-on : (a b c : Journalled) → StaysIn a b → StaysIn b c → StaysIn a c
 stays-on a b c h k = record {
   table = k.table ∙ h.table;
@@ -85,6 +87,7 @@ version-push t p e w versioned legal =
     ])
     (λ (other : e.word ≢ w). omega (arith, ap version_of (now ∙ get_or-set_other ws e.word w e.value 0 (λ k. other (sym k)))))
 
+-- the version of a word never falls along a log, some stores further on
 versions-from : (t : TableName) (more p q : List Event) (w : ℕ) → IsVersioned t.shape w → p ++ more ≡ q → Legal t.shape t.opening q
     → version_of (value_at t.opening p w) ≤ version_of (value_at t.opening q w)
 versions-from t [] p q w versioned is legal =

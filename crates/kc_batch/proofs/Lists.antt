@@ -39,6 +39,7 @@ distinct-images f [] d = tt
 distinct-images f (x ∷ xs) d =
     (false_from_ne_true (member x xs) (λ m. true≢false (sym (member-image f x xs m) ∙ d.0)), distinct-images f xs d.1)
 
+-- no number's image is both among the images of a list and not
 clash : (x y : ℕ) (xs : List ℕ) (f : ℕ → ℕ) → y ≡ f x → member y (map f xs) ≡ true → member (f x) (map f xs) ≡ false → ⊥
 clash x y xs f e m away = true≢false (sym (subst (λ (z : ℕ). member z (map f xs) ≡ true) e m) ∙ away)
 

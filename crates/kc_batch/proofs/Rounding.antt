@@ -41,6 +41,7 @@ zip-backward R [] (y ∷ ys) h = absurd h
 zip-backward R (x ∷ xs) [] h = absurd h
 zip-backward R (x ∷ xs) (y ∷ ys) h = AllZip-push R (backward xs) (backward ys) x y (zip-backward R xs ys h.1) h.0
 
+-- a list that ends with an element begins with it from its end on
 back-is : {A : Type 0} (old rest : List A) (x : A) → old ≡ rest ++ x ∷ [] → backward old ≡ x ∷ backward rest
 back-is old rest x is = ap backward is ∙ backward-push rest x
 
@@ -52,10 +53,11 @@ back-images {A} {B} f done new old rest x b is image more =
     ∙ (append_assoc done (b ∷ []) (map f (backward rest))
     ∙ (ap (λ (z : B). done ++ z ∷ map f (backward rest)) image ∙ ap (λ (z : List A). done ++ map f z) (sym (back-is old rest x is))))
 
--- and so for a seat's amount, and for what it has taken
+-- where the last seat is taken from a list, its amount comes first from the end on
 pub back-amount : (old rest : List Seated) (x : Seated) → old ≡ rest ++ x ∷ [] → amounts (backward old) ≡ x.amount + amounts (backward rest)
 back-amount old rest x is = ap amounts (back-is old rest x is) ∙ sum_by-cons (λ (s : Seated). s.amount) x (backward rest)
 
+-- where the last seat is taken from a list, what it has taken comes next
 pub back-taken : (taken new : List ℕ) (old rest : List Seated) (x : Seated) → old ≡ rest ++ x ∷ [] → new ≡ taken ++ x.consumer.taken
     → new ++ all_taken (backward rest) ≡ taken ++ all_taken (backward old)
 back-taken taken new old rest x is more =
@@ -86,11 +88,13 @@ left-or {A} New xs more ys rest is news =
     (All-append Q xs more (All-weaker (Contains xs) Q (λ x c. inl (Contains-append_left xs rest x c)) xs (All-contains_itself xs))
     (All-weaker New Q (λ x n. inr n) more news))
 
+-- in a list of two parts, what is of the second or new is of the whole or new
 right-or : {A : Type 0} (New : A → Type 0) (front rest ys : List A) → All (λ x. Contains rest x ⊎ New x) ys → All (λ x. Contains (front ++ rest) x ⊎ New x) ys
 right-or {A} New front rest ys h =
     All-weaker (λ x. Contains rest x ⊎ New x) (λ x. Contains (front ++ rest) x ⊎ New x)
     (λ x c. ⊎_elim (λ (t : Contains rest x). inl (Contains-append_right front rest x t)) (λ (n : New x). inr n) c) ys h
 
+-- what is kept for spent versions, or a full journal, is kept for them where more was seen
 spent-later : (o : Opened) (p log : List Event) (left : Left) → IsPrefix p log → Legal o.table.shape o.table.opening log
     → KeepsIfSpent o p left → KeepsIfSpent o log left
 spent-later o p log Nothing pre legal h = h
@@ -110,6 +114,7 @@ pub record HasWorked (o : Opened) (start log : List Event) (first : ℕ) (batch 
   pub nothing_counted : old.amount ≡ 0
   pub nothing_taken : old.consumer.taken ≡ []
 
+-- the work at each of these seats
 abbrev works_at : List Seated → List Work
 works_at seats = map (λ s. s.work) seats
 
@@ -183,27 +188,32 @@ module _ (o : Opened) (start log : List Event) (first : ℕ) (batch : List Updat
       split : (y : ℕ) (ps qs : List ℕ) → times y (at_places first (ps ++ qs)) ≡ times y (at_places first ps) + times y (at_places first qs)
       split y ps qs = ap (times y) (map-append (λ (p : ℕ). first + p) ps qs) ∙ times-append y (at_places first ps) (at_places first qs)
 
--- Lists from their end on.
+-- a list has as many elements from its end on
 pub length-backward : {A : Type 0} (xs : List A) → length (backward xs) ≡ length xs
 length-backward [] = refl
 length-backward (x ∷ xs) = omega (arith, length-append (backward xs) (x ∷ []), length-backward xs)
 
+-- what holds of all of a list holds so from its end on
 pub all-backward : {A : Type 0} (P : A → Type 0) (xs : List A) → All P xs → All P (backward xs)
 all-backward P [] h = All-nil P
 all-backward P (x ∷ xs) h = All-push P (backward xs) x (all-backward P xs (All-tail P x xs h)) (All-head P x xs h)
 
+-- what holds of all of a list from its end on holds of all of it
 pub all-forward : {A : Type 0} (P : A → Type 0) (xs : List A) → All P (backward xs) → All P xs
 all-forward P [] h = All-nil P
 all-forward P (x ∷ xs) h = All-cons P x xs (All-end P (backward xs) x h) (all-forward P xs (All-front P (backward xs) (x ∷ []) h))
 
+-- what holds of all images of a list holds of the image of each
 pub all-unmapped : {A B : Type 0} (P : B → Type 0) (f : A → B) (xs : List A) → All P (map f xs) → All (λ x. P (f x)) xs
 all-unmapped P f [] h = All-nil _
 all-unmapped P f (x ∷ xs) h = All-cons (λ y. P (f y)) x xs (All-head P (f x) (map f xs) h) (all-unmapped P f xs (All-tail P (f x) (map f xs) h))
 
+-- the work at the desks of seats is that at the seats
 pub works-of : (seats : List Seated) → map (λ (d : Desked). d.work) (map desk_of seats) ≡ works_at seats
 works-of [] = refl
 works-of (s ∷ ss) = ap (λ (z : List Work). s.work ∷ z) (works-of ss)
 
+-- there are as many seats as desks, where these are the seats' from the end on
 pub seats-many : (seats : List Seated) (desks : List Desked) → map desk_of (backward seats) ≡ desks → length seats ≡ length desks
 seats-many seats desks is = omega (arith, ap (λ (z : List Desked). length z) is, length-map (backward seats) desk_of, length-backward seats)
 
@@ -213,6 +223,7 @@ written-whole {A} new old n long is =
     ap (λ (z : List A). take n (new ++ z)) (drop_all (length new) old (omega arith))
     ∙ (ap (λ (z : List A). take n z) (append-nil new) ∙ take_all n new (omega arith))
 
+-- lists of which something holds place by place have one length
 pub zip-length : {A : Type 0} (R : A → A → Type 0) (xs ys : List A) → AllZip R xs ys → length xs ≡ length ys
 zip-length R [] [] h = refl
 zip-length R [] (y ∷ ys) h = absurd h
@@ -311,7 +322,7 @@ still {A} i xs ys d is =
     ap (λ (k : ℕ). get_or xs k d) (sym at)
     ∙ (sym (get_or-drop i xs 0 d) ∙ (ap (λ (z : List A). get_or z 0 d) is ∙ (get_or-drop i ys 0 d ∙ ap (λ (k : ℕ). get_or ys k d) at)))
 
--- a list whose place was written, and which has the same images
+-- a list keeps its images where a place is written with one of the same image
 pub same-images : {A B : Type 0} (f : A → B) (xs ys : List A) (i : ℕ) (new d : A) → i < length xs → f new ≡ f (get_or xs i d) → map f xs ≡ map f ys
     → map f (set xs i new) ≡ map f ys
 same-images {A} {B} f xs ys i new d l same rest = images xs i l same ∙ rest

@@ -94,6 +94,7 @@ receipt_of-earlier started entries first batch from before receipt le h = record
   applied = h.applied;
 }
 
+-- the graph after two lists of entries is that of the second after that of the first
 pub after_entries-append : (g : SimpleGraph) (es fs : List Entry) → after_entries g (es ++ fs) ≡ after_entries (after_entries g es) fs
 after_entries-append g [] fs = refl
 after_entries-append g (e ∷ es) fs = after_entries-append (after_entry g e) es fs

@@ -29,6 +29,7 @@ use Rattle.kc_batch.specs.declared.left.Left.TheVariants.{Nothing, Kept, Dropped
 use Rattle.kc_batch.proofs.Going.{nearly_spent}
 use Rattle.kc_batch.proofs.Telling.{receipt_in, receipt_in-grows, update_at}
 
+-- an index stands in two lists of receipts as often as in each, together
 pub told-append : (y : ℕ) (rs more : List Receipt) → times y (told_indices (rs ++ more)) ≡ times y (told_indices rs) + times y (told_indices more)
 told-append y rs more =
     ap (times y) (map-append (λ (r : Receipt). r.index) rs more) ∙ times-append y (told_indices rs) (told_indices more)
