@@ -38,6 +38,7 @@ GoByNumber core n place = (a b : ℕ) → a < n → b < n → get_or core a 0 < 
 abbrev pub HaveNumber : List ℕ → ℕ → ℕ → List ℕ → Type 0
 HaveNumber core n k xs = (x : ℕ) → member x xs ≡ true → (x < n) × (get_or core x 0 ≡ k)
 
+-- ranks that go by the numbers still do once a vertex is put right after one of its number
 moved-by_number : (core : List ℕ) (n k : ℕ) (place : ℕ → ℕ) (x w : ℕ) → (x < n) × (get_or core x 0 ≡ k) → (w < n) × (get_or core w 0 ≡ k)
     → GoByNumber core n place → GoByNumber core n (moved place x w)
 moved-by_number core n k place x w hx hw up a b la lb lt = elim (cases_eq a x) [
@@ -85,6 +86,7 @@ after_by mz lz my ly iz iy pz py =
     ltb (cond mz 1 (cond lz 0 2)) (cond my 1 (cond ly 0 2))
     || (eqb (cond mz 1 (cond lz 0 2)) (cond my 1 (cond ly 0 2)) && cond mz (ltb iz iy) (ltb pz py))
 
+-- where one vertex stands after another, its number then is no less, as comparisons of their parts tell
 rising_at : (mz lz my ly : Bool) (iz iy pz py cz cy next : ℕ) → (lz ≡ true → cz ≤ next) → (ly ≡ false → next ≤ cy) → (cy < cz → py < pz)
     → after_by mz lz my ly iz iy pz py ≡ true → cond mz next cz ≤ cond my next cy
 rising_at true lz true ly iz iy pz py cz cy next low high up a = omega arith
@@ -99,6 +101,7 @@ rising_at false false false true iz iy pz py cz cy next low high up a = absurd (
 rising_at false false false false iz iy pz py cz cy next low high up a =
     let l : pz < py = ltb-true pz py a in elim (cases_lt cy cz) [ inl k ↦ absurd (omega (arith, up k)) | inr k ↦ k ]
 
+-- two vertices that don't leave their level compare as they did, as comparisons of their parts tell
 still_at : (lz ly : Bool) (iz iy pz py rz ry : ℕ) → ltb pz py ≡ ltb rz ry → (lz ≡ true → ly ≡ false → rz < ry)
     → (lz ≡ false → ly ≡ true → ry < rz) → after_by false lz false ly iz iy pz py ≡ ltb rz ry
 still_at true true iz iy pz py rz ry same up down = same
@@ -117,11 +120,13 @@ pub record Leaving (s : Ranked) (low : ℕ → Bool) (front : List ℕ) (shifts 
   pub high_above : (y : ℕ) → low y ≡ false → next ≤ get_or s.core y 0
   pub low_first : (y z : ℕ) → low y ≡ true → low z ≡ false → get_or s.core y 0 < get_or s.core z 0
 
+-- in a certified state the ranks go by the core numbers
 ranks_by_number : (s : Ranked) → IsCertified s → GoByNumber s.core s.graph.size (rank_in s.order)
 ranks_by_number s h a b la lb lt =
     let all : (y : ℕ) → member y s.order ≡ member y (below s.graph.size) = order-has s.graph.size s.order h.enumerates in
     ranks-rise s.core s.order h.rising a b (all a ∙ member-below a s.graph.size la) (all b ∙ member-below b s.graph.size lb) lt
 
+-- the number of a vertex after the moves is the new one where it moved, and what it was else
 pub renumbered-at : (front : List ℕ) (next : ℕ) (core : List ℕ) (y : ℕ) → y < length core
     → get_or (renumbered front next core) y 0 ≡ cond (member y front) next (get_or core y 0)
 renumbered-at front next core y l = elim (cases_Bool (member y front)) [
@@ -129,6 +134,7 @@ renumbered-at front next core y l = elim (cases_Bool (member y front)) [
   | inr n ↦ renumbered-other front next core y n ∙ sym (ap (λ b. cond b next (get_or core y 0)) n)
 ]
 
+-- vertices that leave their level and shifts within it give an arrangement, by the order of `then_after`
 pub arranged_by : (s : Ranked) (low : ℕ → Bool) (front : List ℕ) (shifts : List (ℕ × ℕ)) (level next : ℕ) (moved : List ℕ) → IsCertified s
     → Leaving s low front shifts level next
     → ((y : ℕ) → member y moved ≡ false → (member y front ≡ false) × (member y (firsts shifts) ≡ false))

@@ -40,9 +40,11 @@ pub record ShiftsFit (s : Ranked) (shifts : List (ℕ × ℕ)) : Type 0 where
   pub once : Distinct (firsts shifts)
   pub within : (w : ℕ) → member w (seconds shifts) ≡ true → w < s.graph.size
 
+-- where there is no shift, they fit
 no_shifts : (s : Ranked) → ShiftsFit s []
 no_shifts s = record { in_turn = tt; once = tt; within = λ w m. absurd (false≢true m) }
 
+-- the shifts of moves that fit are shifts that fit
 pub shifts_fit : (s : Ranked) (moves : Moves) → MovesFit s moves → ShiftsFit s (shifts_of moves)
 shifts_fit s Kept fit = no_shifts s
 shifts_fit s Plain fit = no_shifts s
@@ -59,6 +61,7 @@ pub record ChainsTell (s : Ranked) (moves : Moves) : Type 0 where
   pub chained : Chained (rank_in s.order) (place_after (rank_in s.order) (shifts_of moves)) s.graph.size (line_after [] (shifts_of moves))
       (home_after no_home (shifts_of moves))
 
+-- in a certified state the chains of moves that fit tell how the vertices stand
 pub chains_tell : (s : Ranked) (moves : Moves) → IsCertified s → MovesFit s moves → ChainsTell s moves
 chains_tell s moves h fit =
     let f = shifts_fit s moves fit in
@@ -91,12 +94,14 @@ chains_compare s moves home places z y h fit is at ne lz ly =
     ∙ chain_after-is (rank_in s.order) (place_after (rank_in s.order) (shifts_of moves)) s.graph.size (line_after [] (shifts_of moves))
     (home_after no_home (shifts_of moves)) t.linked.held t.chained z y lz ly ne
 
+-- tests that are not found to differ are the same
 pub same_bools : (a b : Bool) → not (beq a b) ≡ false → a ≡ b
 same_bools true true e = refl
 same_bools false false e = refl
 same_bools true false e = absurd (true≢false e)
 same_bools false true e = absurd (true≢false e)
 
+-- of two that don't leave their level, and are low or not alike, the ranks tell which stands first
 same_side : (mz lz my ly : Bool) (iz iy pz py : ℕ) → mz ≡ false → my ≡ false → lz ≡ ly → ltb pz py ≡ after_by mz lz my ly iz iy pz py
 same_side false true false true iz iy pz py a b e = refl
 same_side false false false false iz iy pz py a b e = refl
@@ -114,10 +119,12 @@ stays_by_place s moves z y mz my e =
     (rank_in (leaving moves) z) (rank_in (leaving moves) y)
     (place_after (rank_in s.order) (shifts_of moves) z) (place_after (rank_in s.order) (shifts_of moves) y) mz my e
 
+-- a list of length 0 has no member
 pub no_member : (xs : List ℕ) (x : ℕ) → length xs ≡ 0 → member x xs ≡ true → ⊥
 no_member [] x e m = false≢true m
 no_member (y ∷ ys) x e m = omega arith
 
+-- a list without a member has length 0
 pub empty_from : (xs : List ℕ) → ((x : ℕ) → member x xs ≡ true → ⊥) → length xs ≡ 0
 empty_from [] h = refl
 empty_from (x ∷ xs) h = absurd (h x (member-head x xs))
@@ -131,6 +138,7 @@ pub record Counted (s : Ranked) (update : Update) (moves : Moves) (z : ℕ) : Ty
       (λ y. adjacent (updated update s.graph) z y && leb (get_or (moved_by moves s).core z 0) (get_or (moved_by moves s).core y 0))
       (below s.graph.size)
 
+-- in a certified state, with moves that fit, what is asked at each vertex comes to such counts
 pub counted : (s : Ranked) (update : Update) (moves : Moves) (z : ℕ) → IsCertified s → MovesFit s moves → z < s.graph.size → Counted s update moves z
 counted s update moves z h fit l =
     let a = arranged s moves h fit in
@@ -153,10 +161,12 @@ counted s update moves z h fit l =
 abbrev pub IsLater : Ranked → Update → Moves → ℕ → ℕ → Type 0
 IsLater s update moves z later = later ≡ count_by (λ y. adjacent (updated update s.graph) z y && stands_after moves s z y) (below s.graph.size)
 
+-- how many neighbours have a number no less, after an update and moves
 abbrev pub IsHigh : Ranked → Update → Moves → ℕ → ℕ → ℕ → Type 0
 IsHigh s update moves z number high =
     high ≡ count_by (λ y. adjacent (updated update s.graph) z y && leb number (get_or (moved_by moves s).core y 0)) (below s.graph.size)
 
+-- the count is the same with the vertex's own number in place of one that equals it
 high_same : (s : Ranked) (update : Update) (moves : Moves) (z number high : ℕ) → number ≡ get_or (moved_by moves s).core z 0
     → IsHigh s update moves z number high → IsHigh s update moves z (get_or (moved_by moves s).core z 0) high
 high_same s update moves z number high e h =
@@ -165,6 +175,7 @@ high_same s update moves z number high e h =
     (λ (k : ℕ). count_by (λ y. adjacent (updated update s.graph) z y && leb k (get_or (moved_by moves s).core y 0)) (below s.graph.size))
     e
 
+-- where the certificate holds at a vertex, the later neighbours counted are at most its number
 pub few_later_counted : (s : Ranked) (update : Update) (moves : Moves) (z number later : ℕ) → Counted s update moves z
     → number ≡ get_or (moved_by moves s).core z 0 → IsLater s update moves z later → HoldsAt (changed_by update moves s) z → later ≤ number
 few_later_counted s update moves z number later k e l h =
@@ -173,6 +184,7 @@ few_later_counted s update moves z number later k e l h =
     h.few_later in
     omega (arith, k.later, e, l, few)
 
+-- where the certificate holds at a vertex, the neighbours counted as high are at least its number
 pub high_counted : (s : Ranked) (update : Update) (moves : Moves) (z number high : ℕ) → Counted s update moves z
     → number ≡ get_or (moved_by moves s).core z 0 → IsHigh s update moves z number high → HoldsAt (changed_by update moves s) z
     → number ≤ high
@@ -182,6 +194,7 @@ high_counted s update moves z number high k e l h =
     h.enough_as_high in
     omega (arith, k.high, e, high_same s update moves z number high e l, enough)
 
+-- where both counts pass, the certificate holds at the vertex
 pub holds_from_counts : (s : Ranked) (update : Update) (moves : Moves) (z number later high : ℕ) → Counted s update moves z
     → number ≡ get_or (moved_by moves s).core z 0 → IsLater s update moves z later → IsHigh s update moves z number high
     → later ≤ number → number ≤ high → HoldsAt (changed_by update moves s) z
@@ -198,11 +211,13 @@ holds_from_counts s update moves z number later high k e l m few enough = record
       f;
 }
 
+-- of two tests that differ the one passes where the other fails
 pub other_bool_true : (a b : Bool) → beq a b ≡ false → b ≡ false → a ≡ true
 other_bool_true true b e f = refl
 other_bool_true false true e f = absurd (true≢false f)
 other_bool_true false false e f = absurd (true≢false e)
 
+-- of two tests that differ the one fails where the other passes
 pub other_bool_false : (a b : Bool) → beq a b ≡ false → b ≡ true → a ≡ false
 other_bool_false false b e t = refl
 other_bool_false true true e t = absurd (true≢false e)

@@ -33,9 +33,11 @@ pub record Chained (place now : ℕ → ℕ) (n : ℕ) (line : List ℕ) (home :
   pub near : (y z : ℕ) → y < n → z < n → member y line ≡ true → member z line ≡ true → anchor_of home y ≡ anchor_of home z
       → ltb (now y) (now z) ≡ ltb (place_of y line) (place_of z line)
 
+-- the empty line can go on with shifts that come in turn and move each vertex once
 pub linked_none : (shifts : List (ℕ × ℕ)) → AreInTurn shifts → Distinct (firsts shifts) → Linked [] no_home shifts
 linked_none shifts t d = record { once = tt; held = λ y. refl; free = λ y m. refl; in_turn = t; apart = d }
 
+-- before any shift, the empty line tells how the vertices stand
 pub chained_none : (place : ℕ → ℕ) (n : ℕ) → ((y z : ℕ) → y < n → z < n → place y ≡ place z → y ≡ z) → Chained place place n [] no_home
 chained_none place n apart = record {
   vertices = λ y l. l;
@@ -45,6 +47,7 @@ chained_none place n apart = record {
   near = λ y z ly lz my mz e. absurd (false≢true my);
 }
 
+-- a second alternative that fails changes nothing
 or-no : (a : Bool) → a ≡ (a || false)
 or-no a = grind arith
 
@@ -58,22 +61,28 @@ with_anchor-has w line y = elim (cases_Bool (member w line)) [
   | inr n ↦ ap (λ b. member y (cond b line (line ++ w ∷ []))) n ∙ member-push y w line
 ]
 
+-- the line with an anchor in it has each number once
 pub Distinct-with_anchor : (w : ℕ) (line : List ℕ) → Distinct line → Distinct (with_anchor w line)
 Distinct-with_anchor w line d =
     elim (member w line) as (λ b. member w line ≡ b → Distinct (cond b line (line ++ w ∷ []))) [ true ↦ λ _. d | false ↦ λ n. Distinct-push line w d n ] refl
 
+-- the first number of a list stands at place 0
 pub place_of-first : (y v : ℕ) (vs : List ℕ) → y ≡ v → place_of y (v ∷ vs) ≡ 0
 place_of-first y v vs e = ap (λ b. cond b 0 (suc (place_of y vs))) (eq-eqb y v e)
 
+-- another number stands one place later with one in front of the list
 pub place_of-next : (y v : ℕ) (vs : List ℕ) → y ≢ v → place_of y (v ∷ vs) ≡ suc (place_of y vs)
 place_of-next y v vs ne = ap (λ b. cond b 0 (suc (place_of y vs))) (ne_eqb y v ne)
 
+-- what is put right after the first number comes second
 pub right_after-here : (x w v : ℕ) (vs : List ℕ) → w ≡ v → right_after x w (v ∷ vs) ≡ v ∷ x ∷ vs
 right_after-here x w v vs e = ap (λ b. cond b (v ∷ x ∷ vs) (v ∷ right_after x w vs)) (eq-eqb w v e)
 
+-- what is put right after another number leaves the first in front
 pub right_after-next : (x w v : ℕ) (vs : List ℕ) → w ≢ v → right_after x w (v ∷ vs) ≡ v ∷ right_after x w vs
 right_after-next x w v vs ne = ap (λ b. cond b (v ∷ x ∷ vs) (v ∷ right_after x w vs)) (ne_eqb w v ne)
 
+-- next numbers compare as the numbers do
 both_next : (a b : ℕ) → ltb (suc a) (suc b) ≡ ltb a b
 both_next a b = elim (cases_lt a b) [
   | inl l ↦ lt-ltb (suc a) (suc b) (omega arith) ∙ sym (lt-ltb a b l)
@@ -119,6 +128,7 @@ place_of-put x w y (v ∷ vs) mx mw ne =
           ]
     ]
 
+-- what is put right behind another stands one place after it
 place_of-itself : (x w : ℕ) (line : List ℕ) → member x line ≡ false → member w line ≡ true → place_of x (right_after x w line) ≡ place_of w line + 1
 place_of-itself x w [] mx mw = absurd (false≢true mw)
 place_of-itself x w (v ∷ vs) mx mw =
@@ -150,27 +160,33 @@ others_stay pw py pz = grind arith
 put_before : (pw pz : ℕ) → ltb (pw + 1) (pz + one_if (ltb pw pz)) ≡ ltb pw pz
 put_before pw pz = grind arith
 
+-- what stood behind a place stands behind what is put right there, and what stood up to it before
 put_behind : (pw pz : ℕ) → ltb (pz + one_if (ltb pw pz)) (pw + 1) ≡ not (ltb pw pz)
 put_behind pw pz = grind arith
 
+-- the odd number after a doubled one is less than another doubled one just where the first is less
 doubled_before : (w z : ℕ) → ltb (w + w + 1) (z + z) ≡ ltb w z
 doubled_before w z = elim (cases_lt w z) [
   | inl l ↦ lt-ltb (w + w + 1) (z + z) (omega arith) ∙ sym (lt-ltb w z l)
   | inr l ↦ le-ltb (w + w + 1) (z + z) (omega arith) ∙ sym (le-ltb w z l)
 ]
 
+-- a doubled number is less than the odd one after another just where the other is not less
 doubled_behind : (w z : ℕ) → ltb (z + z) (w + w + 1) ≡ not (ltb w z)
 doubled_behind w z = elim (cases_lt w z) [
   | inl l ↦ le-ltb (z + z) (w + w + 1) (omega arith) ∙ ap not (sym (lt-ltb w z l))
   | inr l ↦ lt-ltb (z + z) (w + w + 1) (omega arith) ∙ ap not (sym (le-ltb w z l))
 ]
 
+-- the line with an anchor in it has the anchor
 anchor_itself : (w : ℕ) (line : List ℕ) → member w (with_anchor w line) ≡ true
 anchor_itself w line = with_anchor-has w line w ∙ or_right (member w line) (eqb w w) (eq-eqb w w refl)
 
+-- the line after a shift has what it had, the vertex shifted, and the one that this comes behind
 pub line_with-has : (x w : ℕ) (line : List ℕ) (y : ℕ) → member y (line_with x w line) ≡ ((member y line || eqb y w) || eqb y x)
 line_with-has x w line y = placed_has x w (with_anchor w line) (anchor_itself w line) y ∙ ap (λ b. b || eqb y x) (with_anchor-has w line y)
 
+-- there is an anchor then where one of two tests passes, or where there was one
 some_if : (a b : Bool) (k : ℕ) (o : Option ℕ) → is_some (cond a (Some k) (cond b (Some k) o)) ≡ ((is_some o || b) || a)
 some_if true true k None = refl
 some_if true true k (Some i) = refl
@@ -181,6 +197,7 @@ some_if false true k (Some i) = refl
 some_if false false k None = refl
 some_if false false k (Some i) = refl
 
+-- a vertex that is shifted is not in the line yet, nor the one that it comes behind
 apart-shift : (line : List ℕ) (home : ℕ → Option ℕ) (shift : ℕ × ℕ) (shifts : List (ℕ × ℕ)) → Linked line home (shift ∷ shifts)
     → (shift.1 ≢ shift.0) × (member shift.0 line ≡ false) × (member shift.0 (with_anchor shift.1 line) ≡ false)
 apart-shift line home shift shifts h =
@@ -188,7 +205,7 @@ apart-shift line home shift shifts h =
     let out : member shift.0 line ≡ false = h.free shift.0 (member-head shift.0 (firsts shifts)) in
     (p.0, out, with_anchor-has shift.1 line shift.0 ∙ or_from (member shift.0 line) (eqb shift.0 shift.1) out (ne_eqb shift.0 shift.1 (λ e. p.0 (sym e))))
 
--- one shift more
+-- after one shift more, line and anchors can go on with the shifts to come
 pub linked_more : (line : List ℕ) (home : ℕ → Option ℕ) (shift : ℕ × ℕ) (shifts : List (ℕ × ℕ)) → Linked line home (shift ∷ shifts)
     → Linked (line_with shift.0 shift.1 line) (home_with shift.0 shift.1 home) shifts
 linked_more line home shift shifts h =
@@ -209,9 +226,11 @@ linked_more line home shift shifts h =
       apart = h.apart.1;
     }
 
+-- the anchor of a shifted vertex is that of the one that it comes behind
 anchor_with-itself : (x w y : ℕ) (home : ℕ → Option ℕ) → y ≡ x → anchor_of (home_with x w home) y ≡ anchor_of home w
 anchor_with-itself x w y home e = ap (λ b. unwrap_or (cond b (Some (anchor_of home w)) (cond (eqb y w) (Some (anchor_of home w)) (home y))) y) (eq-eqb y x e)
 
+-- the anchors of the others stay
 anchor_with-other : (x w y : ℕ) (home : ℕ → Option ℕ) → y ≢ x → anchor_of (home_with x w home) y ≡ anchor_of home y
 anchor_with-other x w y home ne = ap (λ b. unwrap_or (cond b (Some (anchor_of home w)) (cond (eqb y w) (Some (anchor_of home w)) (home y)))
     y) (ne_eqb y x ne) ∙ elim (cases_eq y w) [
@@ -224,15 +243,18 @@ unwrap-none : (o : Option ℕ) (y : ℕ) → is_some o ≡ false → unwrap_or o
 unwrap-none None y n = refl
 unwrap-none (Some k) y n = absurd (true≢false n)
 
+-- a vertex that is not in the line is its own anchor
 pub anchor-alone : (line : List ℕ) (home : ℕ → Option ℕ) (y : ℕ) → ((y : ℕ) → is_some (home y) ≡ member y line) → member y line ≡ false → anchor_of home y ≡ y
 anchor-alone line home y held n = unwrap-none (home y) y (held y ∙ n)
 
+-- of two different numbers one is less just where the other is not
 opposite : (p q : ℕ) → p ≢ q → not (ltb p q) ≡ ltb q p
 opposite p q ne = elim (cases_lt p q) [
   | inl l ↦ ap not (lt-ltb p q l) ∙ sym (le-ltb q p (omega arith))
   | inr l ↦ ap not (le-ltb p q l) ∙ sym (lt-ltb q p (omega arith))
 ]
 
+-- one number more at the end leaves the places of the others
 pub place_of-push : (y w : ℕ) (line : List ℕ) → member y line ≡ true → place_of y (line ++ w ∷ []) ≡ place_of y line
 place_of-push y w [] m = absurd (false≢true m)
 place_of-push y w (v ∷ vs) m = elim (cases_eq y v) [
@@ -277,9 +299,11 @@ anchor-in place now n line home x w held h = line_with-has x w line (anchor_of h
       | inr out ↦ or_right (member (anchor_of home w) line) _ (eq-eqb (anchor_of home w) w (anchor-alone line home w held out))
     ])
 
+-- no number is less than itself
 itself_last : (p : ℕ) → ltb p p ≡ false
 itself_last p = le-ltb p p (omega arith)
 
+-- after one shift more, vertices with different anchors stand as their anchors do
 far-more : (place now : ℕ → ℕ) (n : ℕ) (line : List ℕ) (home : ℕ → Option ℕ) (x w : ℕ) → w < n → Chained place now n line home → (y z : ℕ) → y < n → z < n
     → anchor_of (home_with x w home) y ≢ anchor_of (home_with x w home) z
     → ltb (moved now x w y) (moved now x w z) ≡ ltb (place (anchor_of (home_with x w home) y)) (place (anchor_of (home_with x w home) z))
@@ -312,12 +336,14 @@ far-more place now n line home x w lw h y z ly lz ne = elim (cases_eq y x) [
       ]
 ]
 
+-- who is in the line after a shift, and is not the one shifted, was there with the anchor
 still-in : (x w : ℕ) (line : List ℕ) (y : ℕ) → y ≢ x → member y (line_with x w line) ≡ true → member y (with_anchor w line) ≡ true
 still-in x w line y ne m = elim (or_cases (member y (with_anchor w line)) (eqb y x) (sym (placed_has x w (with_anchor w line) (anchor_itself w line) y) ∙ m)) [
   | inl k ↦ k
   | inr e ↦ absurd (ne (eqb-true y x e))
 ]
 
+-- after one shift more, vertices with one anchor stand as they do in the line
 near-more : (place now : ℕ → ℕ) (n : ℕ) (line : List ℕ) (home : ℕ → Option ℕ) (x w : ℕ) → w < n
     → ((y : ℕ) → is_some (home y) ≡ member y line) → member x (with_anchor w line) ≡ false → Chained place now n line home
     → (y z : ℕ) → y < n → z < n → member y (line_with x w line) ≡ true → member z (line_with x w line) ≡ true
@@ -361,7 +387,7 @@ near-more place now n line home x w lw held out h y z ly lz my mz e =
           ]
     ]
 
--- one shift more
+-- after one shift more, line and anchors tell how the vertices stand
 pub chained_more : (place now : ℕ → ℕ) (n : ℕ) (line : List ℕ) (home : ℕ → Option ℕ) (shift : ℕ × ℕ) (shifts : List (ℕ × ℕ)) → shift.1 < n
     → Linked line home (shift ∷ shifts) → Chained place now n line home
     → Chained place (moved now shift.0 shift.1) n (line_with shift.0 shift.1 line) (home_with shift.0 shift.1 home)
@@ -396,12 +422,14 @@ chained_more place now n line home shift shifts lw linked h =
       near = near-more place now n line home x w lw linked.held a.2 h;
     }
 
+-- line and anchors that shifts can go on with are such after all of them too, with none to come
 pub linked_all : (shifts : List (ℕ × ℕ)) (line : List ℕ) (home : ℕ → Option ℕ) → Linked line home shifts
     → Linked (line_after line shifts) (home_after home shifts) []
 linked_all [] line home h = h
 linked_all (shift ∷ shifts) line home h =
     linked_all shifts (line_with shift.0 shift.1 line) (home_with shift.0 shift.1 home) (linked_more line home shift shifts h)
 
+-- after all shifts, line and anchors tell how the vertices stand
 pub chained_all : (shifts : List (ℕ × ℕ)) (place now : ℕ → ℕ) (n : ℕ) (line : List ℕ) (home : ℕ → Option ℕ)
     → ((w : ℕ) → member w (seconds shifts) ≡ true → w < n) → Linked line home shifts → Chained place now n line home
     → Chained place (place_after now shifts) n (line_after line shifts) (home_after home shifts)
@@ -412,6 +440,7 @@ chained_all (shift ∷ shifts) place now n line home within linked h =
     (linked_more line home shift shifts linked)
     (chained_more place now n line home shift shifts (within shift.1 (member-head shift.1 (seconds shifts))) linked h)
 
+-- of two vertices with one anchor each is in the line
 both_in : (place now : ℕ → ℕ) (n : ℕ) (line : List ℕ) (home : ℕ → Option ℕ) → ((y : ℕ) → is_some (home y) ≡ member y line)
     → Chained place now n line home → (y z : ℕ) → y ≢ z → anchor_of home y ≡ anchor_of home z → member y line ≡ true
 both_in place now n line home held h y z ne e = true_from_ne_false (member y line) (λ out.
@@ -421,6 +450,7 @@ both_in place now n line home held h y z ne e = true_from_ne_false (member y lin
       | inr n ↦ ne (sym alone ∙ (e ∙ anchor-alone line home z held n))
     ])
 
+-- the place of a member that is found is its place
 place_in-is : (xs : List ℕ) (x : ℕ) → member x xs ≡ true → unwrap_or (place_in xs x) 0 ≡ place_of x xs
 place_in-is xs x m = ap (λ b. unwrap_or (cond b (Some (place_of x xs)) None) 0) m
 

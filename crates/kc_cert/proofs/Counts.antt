@@ -15,6 +15,7 @@ use Rattle.kc_graph.proofs.PeelingLemmas.{neighbours-distinct}
 use Rattle.kc_cert.specs.Conditions.{NeverFalls, HasFewLater, HasEnoughAsHigh}
 use Rattle.kc_cert.proofs.Enumerating.{MarkedTo}
 
+-- the neighbours of a vertex are vertices
 pub neighbours_within : (g : SimpleGraph) (v : ℕ) (ws : List ℕ) → AreNeighbours g v ws → All (λ w. w < g.size) ws
 neighbours_within g v ws near k d l = near.within (get_or ws k d) (member-get_or ws k d l)
 
@@ -40,7 +41,7 @@ later_count g v j order ws marks e near marked =
     (λ w _ t. near.exact w ∙ (and_parts (adjacent g v w) (not (member w (take j order))) t).0) in
     omega (arith, here, up, among, back, down)
 
--- the neighbours whose number is no less
+-- those whose number is no less are as many in the list of neighbours as over all vertices
 pub high_count : (g : SimpleGraph) (v : ℕ) (core ws : List ℕ) → AreNeighbours g v ws → count_by (λ w. nat_le (get_or core v 0) (get_or core w 0)) ws
     ≡ degree_as_high g core (below g.size) v
 high_count g v core ws near =
@@ -54,7 +55,7 @@ high_count g v core ws near =
     (λ w _ t. near.exact w ∙ (and_parts (adjacent g v w) (nat_le (get_or core v 0) (get_or core w 0)) t).0) in
     omega (arith, here, up, down)
 
--- over all vertices and over the order
+-- the neighbours whose number is no less are as many over all vertices as over the order
 pub degree_as_high-order : (g : SimpleGraph) (core order : List ℕ) (v : ℕ) → Enumerates g.size order → degree_as_high g core (below g.size) v
     ≡ degree_as_high g core order v
 degree_as_high-order g core order v e =
@@ -66,7 +67,7 @@ degree_as_high-order g core order v e =
     (λ w m _. member-below w g.size (All-contains (λ x. x < g.size) order w e.below (Contains-from_member order w m))) in
     omega (arith, up, down)
 
--- what the count of the unmarked says
+-- the unmarked neighbours that were counted are as many as those that stand later
 pub counted : (g : SimpleGraph) (v j n : ℕ) (order ws : List ℕ) (marks now : List Bool) → Enumerates g.size order → AreNeighbours g v ws
     → MarkedTo g.size j order marks → now ≡ marks
     → n ≡ count_by (λ w. not (get_or now w false)) ws → n ≡ degree_among g (drop j order) v
@@ -84,5 +85,6 @@ all_conditions g core order n e rising few high = record {
   enough_as_high = λ v l. omega (arith, high v l, degree_as_high-order g core order v e);
 }
 
+-- in a certified state each vertex has enough neighbours whose number is no less
 pub enough_in : (g : SimpleGraph) (core order : List ℕ) → Certifies g core order → HasEnoughAsHigh g core
 enough_in g core order h v l = omega (arith, h.enough_as_high v l, degree_as_high-order g core order v h.enumerates)

@@ -16,9 +16,11 @@ pub record MarkedTo (n i : ℕ) (order : List ℕ) (marks : List Bool) : Type 0 
   pub one_each : length marks ≡ n
   pub exact : (v : ℕ) → v < n → get_or marks v false ≡ member v (take i order)
 
+-- at the beginning none is marked
 pub marked_none : (n : ℕ) (order : List ℕ) → MarkedTo n 0 order (replicate n false)
 marked_none n order = record { one_each = length-replicate n false; exact = λ v l. get_or-replicate n v false false l }
 
+-- with one more of the order marked, the first and it are
 pub marked_more : (n i : ℕ) (order : List ℕ) (marks : List Bool) → MarkedTo n i order marks → i < length order → get_or order i 0 < n
     → MarkedTo n (i + 1) order (set marks (get_or order i 0) true)
 marked_more n i order marks h l lv =
@@ -43,9 +45,11 @@ pub record SeenTo (n i : ℕ) (order : List ℕ) (seen : List Bool) : Type 0 whe
   pub distinct : Distinct (take i order)
   pub within : (v : ℕ) → member v (take i order) ≡ true → v < n
 
+-- at the beginning none was seen
 pub seen_none : (n : ℕ) (order : List ℕ) → SeenTo n 0 order (replicate n false)
 seen_none n order = record { marked = marked_none n order; distinct = tt; within = λ v m. absurd (false≢true m) }
 
+-- one more of the order that was not seen before is seen
 pub seen_more : (n i : ℕ) (order : List ℕ) (seen : List Bool) → SeenTo n i order seen → i < length order → get_or order i 0 < n
     → get_or seen (get_or order i 0) false ≡ false
     → SeenTo n (i + 1) order (set seen (get_or order i 0) true)
@@ -58,7 +62,7 @@ seen_more n i order seen h l lw new' =
       within = λ v m. elim (member-push_cases v w (take i order) (ap (member v) (sym next) ∙ m)) [ inl k ↦ h.within v k | inr e ↦ omega arith ];
     }
 
--- as many distinct numbers below `n` as there are
+-- where all of an order were seen, and they are as many as there are vertices, it has each once
 pub seen_all : (n : ℕ) (order : List ℕ) (seen : List Bool) → SeenTo n (length order) order seen → length order ≡ n → Enumerates n order
 seen_all n order seen h full =
     let whole : take (length order) order ≡ order = take-length order in
@@ -73,7 +77,7 @@ seen_all n order seen h full =
           absurd (omega arith)));
     }
 
--- a number that was seen before
+-- where one was seen before, the order is not one that has each vertex once
 pub seen_twice : (n i : ℕ) (order : List ℕ) (seen : List Bool) → SeenTo n i order seen → i < length order → get_or order i 0 < n
     → get_or seen (get_or order i 0) false ≡ true → Enumerates n order → ⊥
 seen_twice n i order seen h l lw again e =

@@ -4,6 +4,7 @@ use Rattle.std.proofs.lemmas.Bool.{cases_eq}
 use Rattle.kc_cert.specs.Conditions.{NeverFalls}
 use Rattle.kc_distinct.proofs.Shared.{get_or-any}
 
+-- the number of the vertex at a place of the order
 abbrev number_at : List ℕ → List ℕ → ℕ → ℕ
 number_at core order k = get_or core (get_or order k 0) 0
 
@@ -14,6 +15,7 @@ pub record RisenTo (core order : List ℕ) (i last : ℕ) : Type 0 where
   pub last_is : (k : ℕ) → k + 1 ≡ i → last ≡ number_at core order k
   pub first : i ≡ 0 → last ≡ 0
 
+-- at the beginning nothing falls
 pub risen_none : (core order : List ℕ) → RisenTo core order 0 0
 risen_none core order = record {
   pairs = λ j k lt l. absurd (omega arith);
@@ -22,6 +24,7 @@ risen_none core order = record {
   first = λ _. omega arith;
 }
 
+-- with one more that is no less than the last, nothing falls
 pub risen_more : (core order : List ℕ) (i last : ℕ) → RisenTo core order i last → last ≤ number_at core order i
     → RisenTo core order (i + 1) (number_at core order i)
 risen_more core order i last h up = record {
@@ -34,11 +37,12 @@ risen_more core order i last h up = record {
   first = λ e. absurd (omega arith);
 }
 
+-- where that holds of the whole order, the numbers never fall
 pub risen_all : (core order : List ℕ) (last : ℕ) → RisenTo core order (length order) last → NeverFalls core order
 risen_all core order last h i j d lt l =
     omega (arith, h.pairs i j lt l, ap (λ x. get_or core x 0) (get_or-any order i d 0 (omega arith)), ap (λ x. get_or core x 0) (get_or-any order j d 0 l))
 
--- a number that is less than the one before
+-- where one number is less than the one before, the numbers fall
 pub falls : (core order : List ℕ) (i last : ℕ) → RisenTo core order i last → i < length order → number_at core order i < last → NeverFalls core order → ⊥
 falls core order i last h l down rising = elim (cases_eq i 0) [
   | inl e ↦ omega (arith, h.first e)

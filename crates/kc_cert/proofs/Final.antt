@@ -10,42 +10,54 @@ use Rattle.kc_graph.specs.Plans.{put_between}
 use Rattle.kc_cert.specs.Ranks.{AscendsBy, Orders, part, then_after}
 use Rattle.kc_cert.proofs.Placing.{Ascends-filter, Orders-from_Ascends, Orders-append}
 
+-- a low vertex that did not move is in the first part
 part-low : (r low : Bool) → low ≡ true → not r ≡ true → ◌≡◌ {A = ℕ} (cond r 1 (cond low 0 2)) 0
 part-low r low a b = grind arith
 
+-- a vertex that is not low, and did not move, is in the last part
 part-high : (r low : Bool) → not low ≡ true → not r ≡ true → ◌≡◌ {A = ℕ} (cond r 1 (cond low 0 2)) 2
 part-high r low a b = grind arith
 
+-- within a part of those that did not move, the lesser rank stands first
 same_part : (p q : ℕ) (r x : Bool) (y z : ℕ) → p ≡ q → r ≡ false → y < z → (ltb p q || (eqb p q && cond r x (ltb y z))) ≡ true
 same_part p q r x y z e f l = grind arith
 
+-- and the greater one doesn't
 same_part_back : (p q : ℕ) (r x : Bool) (y z : ℕ) → p ≡ q → r ≡ false → y < z → (ltb q p || (eqb q p && cond r x (ltb z y))) ≡ false
 same_part_back p q r x y z e f l = grind arith
 
+-- within the part of those that moved, the one that is inside first stands first
 rise_part : (p q : ℕ) (r x : Bool) (y z : ℕ) → p ≡ q → r ≡ true → y < z → (ltb p q || (eqb p q && cond r (ltb y z) x)) ≡ true
 rise_part p q r x y z e f l = grind arith
 
+-- and the other doesn't
 rise_part_back : (p q : ℕ) (r x : Bool) (y z : ℕ) → p ≡ q → r ≡ true → y < z → (ltb q p || (eqb q p && cond r (ltb z y) x)) ≡ false
 rise_part_back p q r x y z e f l = grind arith
 
+-- what is in an earlier part stands first
 other_part : (p q : ℕ) (x : Bool) → p < q → (ltb p q || (eqb p q && x)) ≡ true
 other_part p q x l = grind arith
 
+-- and what is in a later one doesn't
 other_part_back : (p q : ℕ) (x : Bool) → p < q → (ltb q p || (eqb q p && x)) ≡ false
 other_part_back p q x l = grind arith
 
+-- what is left by a test are the members that pass
 pub filter-has : (p : ℕ → Bool) (z : ℕ) (xs : List ℕ) → member z (filter p xs) ≡ (member z xs && p z)
 filter-has p z xs = elim (cases_Bool (member z (filter p xs))) [
   | inl m ↦ let k = member-filter p z xs m in m ∙ sym (and_from (member z xs) (p z) k.0 k.1)
   | inr n ↦ n ∙ sym (false_from_ne_true _ (λ t. let k = and_parts (member z xs) (p z) t in true≢false (sym (filter-member p z xs k.0 k.1) ∙ n)))
 ]
 
+-- a member is one of those that moved, of the low others or of the rest
 three : (m a low f g : Bool) → (a ≡ true → m ≡ true) → f ≡ (m && (low && not a)) → g ≡ (m && (not low && not a)) → (f || (a || g)) ≡ m
 three m a low f g sub hf hg = grind arith
 
+-- nothing is less than itself, whichever part and place are compared
 pub not_itself : (p : ℕ) (r : Bool) (n m : ℕ) → (ltb p p || (eqb p p && cond r (ltb n n) (ltb m m))) ≡ false
 not_itself p r n m = grind arith
 
+-- a list that ascends by ranks has each number once
 pub Ascends-distinct : (r : ℕ → ℕ) (xs : List ℕ) → AscendsBy r xs → Distinct xs
 Ascends-distinct r [] a = tt
 Ascends-distinct r (x ∷ xs) a = (false_from_ne_true _ (λ m. lt_irrefl (r x) (a.0 x m)), Ascends-distinct r xs a.1)
@@ -93,7 +105,7 @@ final-orders is_low cands inside place order up a =
       | inr k ↦ omega (arith, in_low y my, in_high z k)
     ]))
 
--- the same vertices
+-- the order after the moves has the same vertices
 pub final-has : (is_low : ℕ → Bool) (cands : List ℕ) (order : List ℕ) → ((x : ℕ) → member x cands ≡ true → member x order ≡ true) → (z : ℕ)
     → member z (put_between is_low cands order) ≡ member z order
 final-has is_low cands order sub z =

@@ -13,6 +13,7 @@ use Rattle.kc_cert.specs.Ranks.{Orders}
 use Rattle.kc_cert.proofs.Placing.{Orders-distinct, later-count}
 use Rattle.kc_cert.proofs.Sums.{count-same}
 
+-- there are as many numbers after some were written
 pub length-renumbered : (moved : List ℕ) (k : ℕ) (core : List ℕ) → length (renumbered moved k core) ≡ length core
 length-renumbered [] k core = refl
 length-renumbered (v ∷ moved) k core = length-renumbered moved k (set core v k) ∙ length-set core v k

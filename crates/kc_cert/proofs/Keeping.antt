@@ -25,6 +25,7 @@ use Rattle.kc_cert.proofs.Ordered.{enumerates, few-ranked, enough-below}
 use Rattle.kc_cert.proofs.Holding.{holds-from}
 use Rattle.kc_cert.proofs.Arranging.{Arranged, arranged, Orders-pairs}
 
+-- the ends of an update differ
 pub ends_differ : (update : Update) → update.u ≡ update.v → ⊥
 ends_differ update e = let l : update.u < update.v = update.ordered in omega arith
 
@@ -38,6 +39,7 @@ adjacent-updated update g z y =
       | false ↦ adjacent-without g update.u update.v z y (ends_differ update)
     ]
 
+-- where neither end is concerned, an edge that comes or goes changes nothing
 same_either_way : (add a e u v : Bool) (j k : Bool) → u ≡ false → v ≡ false
     → e ≡ cond add (a || ((u && j) || (v && k))) (a && not ((u && j) || (v && k))) → e ≡ a
 same_either_way add a e u v j k hu hv h = grind arith
@@ -49,6 +51,7 @@ adjacent-elsewhere update g z y a b =
     same_either_way update.add (adjacent g z y) (adjacent (updated update g) z y) (eqb z update.u) (eqb z update.v) (eqb y update.v)
     (eqb y update.u) a b (adjacent-updated update g z y)
 
+-- a vertex that is no end has the neighbours that it had, whatever the moves
 pub adjacent-after : (update : Update) (moves : Moves) (g : SimpleGraph) (z y : ℕ) → eqb z update.u ≡ false → eqb z update.v ≡ false
     → adjacent (graph_after update moves g) z y ≡ adjacent g z y
 adjacent-after update Kept g z y a b = refl
@@ -56,18 +59,21 @@ adjacent-after update Plain g z y a b = adjacent-elsewhere update g z y a b
 adjacent-after update (Rise level rise shifts) g z y a b = adjacent-elsewhere update g z y a b
 adjacent-after update (Fall level fall) g z y a b = adjacent-elsewhere update g z y a b
 
+-- an update leaves the vertices
 pub size-updated : (update : Update) (g : SimpleGraph) → (updated update g).size ≡ g.size
 size-updated update g =
     elim update.add as
     (λ b. (let h : SimpleGraph = cond b (with_edge g update.u update.v) (without_edge g update.u update.v) in h.size) ≡ g.size)
     [ true ↦ refl | false ↦ refl ]
 
+-- an update with its moves leaves the vertices
 pub size-after : (update : Update) (moves : Moves) (g : SimpleGraph) → (graph_after update moves g).size ≡ g.size
 size-after update Kept g = refl
 size-after update Plain g = size-updated update g
 size-after update (Rise level rise shifts) g = size-updated update g
 size-after update (Fall level fall) g = size-updated update g
 
+-- a vertex that is not looked at is no end, doesn't move, and has no neighbour that does
 looked-parts : (a b c d : Bool) → ((a || b) || (c || d)) ≡ false → (a ≡ false) × (b ≡ false) × (c ≡ false) × (d ≡ false)
 looked-parts a b c d h =
     let p = or_parts (a || b) (c || d) h in
@@ -82,6 +88,7 @@ not_beside g z y (x ∷ xs) none a =
     let p = or_parts (adjacent g z x) (list_any (adjacent g z) xs) none in
     or_from (eqb y x) (member y xs) (ne_eqb y x (λ e. true≢false (sym a ∙ (ap (adjacent g z) e ∙ p.0)))) (not_beside g z y xs p.1 a)
 
+-- where two tests agree wherever there is a neighbour, the neighbours that pass are the same
 both_same : (a a' x x' : Bool) → a' ≡ a → (a ≡ true → x' ≡ x) → (a' && x') ≡ (a && x)
 both_same a a' x x' e same = grind arith
 
@@ -149,6 +156,7 @@ certified_from s t moved lt size a holds =
       enough_as_high = λ v l. (holds v (omega arith)).enough_as_high;
     }
 
+-- a certified state stays so after a plan that passes the local test
 pub certified_after : (s : Ranked) (plan : Plan) → IsCertified s → IsLocal s plan → IsCertified (state_after plan s)
 certified_after s plan h local =
     let a = arranged s plan.moves h local.moves_fit in

@@ -9,16 +9,20 @@ use Rattle.kc_distinct.proofs.Counting.{member-push, member-push_left, member-ot
 use Rattle.kc_cert.specs.Shifting.{place_in}
 use Rattle.kc_cert.proofs.Chaining.{place_of-push, place_of-first, place_of-next}
 
+-- a place is found just for the members
 pub place_in-some : (xs : List ℕ) (x : ℕ) → is_some (place_in xs x) ≡ member x xs
 place_in-some xs x = elim (member x xs) as (λ b. is_some (cond b (Some (place_of x xs)) None) ≡ b) [ true ↦ refl | false ↦ refl ]
 
+-- a new number put at the end stands at the place of the list's length
 place_of-end : (x : ℕ) (xs : List ℕ) → member x xs ≡ false → place_of x (xs ++ x ∷ []) ≡ length xs
 place_of-end x [] n = place_of-first x x [] refl
 place_of-end x (y ∷ ys) n = let p = not_member-parts x y ys n in place_of-next x y (ys ++ x ∷ []) p.0 ∙ ap suc (place_of-end x ys p.1)
 
+-- a second alternative that fails changes nothing
 or-no : (a : Bool) → (a || false) ≡ a
 or-no a = grind arith
 
+-- two places are found alike where both are members, at one place, or neither
 place_in-by : (xs ys : List ℕ) (x y : ℕ) (b c : Bool) → member x xs ≡ b → member y ys ≡ c → b ≡ c
     → (c ≡ true → place_of x xs ≡ place_of y ys) → place_in xs x ≡ place_in ys y
 place_in-by xs ys x y true true mb mc e same =
@@ -27,6 +31,7 @@ place_in-by xs ys x y false false mb mc e same = ap (λ t. cond t (Some (place_o
 place_in-by xs ys x y true false mb mc e same = absurd (true≢false e)
 place_in-by xs ys x y false true mb mc e same = absurd (false≢true e)
 
+-- one number more at the end leaves the place of each other one, and its own where it was there
 other-push : (x q : ℕ) (xs : List ℕ) → (q ≡ x → member q xs ≡ true) → place_in (xs ++ x ∷ []) q ≡ place_in xs q
 other-push x q xs there =
     let same : member q (xs ++ x ∷ []) ≡ member q xs = elim (cases_eq q x) [
@@ -49,6 +54,7 @@ place_in-push x q xs n = elim (cases_eq x q) [
   | inr ne ↦ other-push x q xs (λ e. absurd (ne (sym e))) ∙ sym (ap (λ b. cond b (Some (length xs)) (place_in xs q)) (ne_eqb x q ne))
 ]
 
+-- where a list with one more has each number once, so has the list, and the one is new
 pub Distinct-pushed : (xs : List ℕ) (x : ℕ) → Distinct (xs ++ x ∷ []) → Distinct xs × (member x xs ≡ false)
 Distinct-pushed [] x d = (tt, refl)
 Distinct-pushed (y ∷ ys) x d =

@@ -54,6 +54,7 @@ moved_vertex s Plain x fit m = absurd (false≢true m)
 moved_vertex s (Rise level rise shifts) x fit m = (fit.of_level x m).vertex
 moved_vertex s (Fall level fall) x fit m = (fit.of_level x m).vertex
 
+-- where the moves are not to keep all, the state after is the updated graph with the moves made
 after-changed : (s : Ranked) (update : Update) (moves : Moves) → is_kept moves ≡ false
     → (let t : Ranked = record (moved_by moves s) { graph = graph_after update moves s.graph } in t) ≡ changed_by update moves s
 after-changed s update Kept n = absurd (true≢false n)
@@ -61,6 +62,7 @@ after-changed s update Plain n = refl
 after-changed s update (Rise level rise shifts) n = refl
 after-changed s update (Fall level fall) n = refl
 
+-- where the moves keep all, the state after is the state
 after-kept : (s : Ranked) (update : Update) (moves : Moves) → is_kept moves ≡ true
     → (let t : Ranked = record (moved_by moves s) { graph = graph_after update moves s.graph } in t) ≡ s
 after-kept s update Kept y = refl
@@ -68,6 +70,7 @@ after-kept s update Plain y = absurd (false≢true y)
 after-kept s update (Rise level rise shifts) y = absurd (false≢true y)
 after-kept s update (Fall level fall) y = absurd (false≢true y)
 
+-- moves that keep all fit
 fit-kept : (s : Ranked) (moves : Moves) → is_kept moves ≡ true → MovesFit s moves
 fit-kept s Kept y = kept_fits s
 fit-kept s Plain y = absurd (false≢true y)
@@ -84,6 +87,7 @@ kept_local s plan h l kept applied = record {
   holds = λ z lz _. subst (λ (t : Ranked). HoldsAt t z) (sym (after-kept s plan.update plan.moves kept)) (holds_certified s z h lz);
 }
 
+-- a test that a member passes is passed by one of the list
 them : (p : ℕ → Bool) (xs : List ℕ) (x : ℕ) → member x xs ≡ true → p x ≡ true → list_any p xs ≡ true
 them p [] x m t = absurd (false≢true m)
 them p (y ∷ ys) x m t = elim (member-cases x y ys m) [
@@ -95,6 +99,7 @@ them p (y ∷ ys) x m t = elim (member-cases x y ys m) [
 abbrev LooksGood : Plan → Ranked → ℕ → Type 0
 LooksGood plan t n = (z : ℕ) → z < n → is_looked_at plan t.graph z ≡ true → HoldsAt t z
 
+-- where it holds at the ends and around those that moved, it holds wherever the test looks
 looks_good : (s : Ranked) (plan : Plan) → HoldsLocally s.graph (changed_by plan.update plan.moves s) plan.update (moved_vertices plan.moves)
     → LooksGood plan (changed_by plan.update plan.moves s) s.graph.size
 looks_good s plan h z l looked =
@@ -120,6 +125,7 @@ looks_good s plan h z l looked =
       ]
     ]
 
+-- where it holds wherever the test looks, it holds at the ends and around those that moved
 holds_there : (s : Ranked) (plan : Plan) → plan.update.v < s.graph.size → MovesFit s plan.moves
     → LooksGood plan (changed_by plan.update plan.moves s) s.graph.size
     → HoldsLocally s.graph (changed_by plan.update plan.moves s) plan.update (moved_vertices plan.moves)
@@ -150,7 +156,7 @@ holds_there s plan l fit h =
           };
     }
 
--- a plan that changes something passes just where its moves fit and the certificate holds on around them
+-- a plan that changes something passes where its moves fit and the certificate holds on around them
 pub changed_local : (s : Ranked) (plan : Plan) → plan.update.v < s.graph.size → is_kept plan.moves ≡ false
     → is_applied plan.update s.graph ≡ true → MovesFit s plan.moves
     → HoldsLocally s.graph (changed_by plan.update plan.moves s) plan.update (moved_vertices plan.moves) → IsLocal s plan
@@ -161,6 +167,7 @@ changed_local s plan l kept applied fit h = record {
   holds = subst (λ (t : Ranked). LooksGood plan t s.graph.size) (sym (after-changed s plan.update plan.moves kept)) (looks_good s plan h);
 }
 
+-- a plan that changes something and passes has moves that fit, and the certificate holds on around them
 pub local_changed : (s : Ranked) (plan : Plan) → is_kept plan.moves ≡ false → IsLocal s plan
     → MovesFit s plan.moves × HoldsLocally s.graph (changed_by plan.update plan.moves s) plan.update (moved_vertices plan.moves)
 local_changed s plan kept h = (

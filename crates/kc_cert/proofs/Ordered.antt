@@ -14,12 +14,15 @@ use Rattle.kc_cert.specs.Ranks.{rank_in, AscendsBy, Orders}
 use Rattle.kc_cert.proofs.Placing.{Orders-from_Ascends, later-count}
 use Rattle.kc_cert.proofs.Sums.{count-same}
 
+-- the first of an order has rank 0
 rank-self : (x : ℕ) (ys : List ℕ) → rank_in (x ∷ ys) x ≡ 0
 rank-self x ys = ap (λ b. cond b 0 (suc (rank_in ys x))) (eq-eqb x x refl)
 
+-- another one has a rank one higher than without the first
 pub rank-other : (x y : ℕ) (ys : List ℕ) → x ≢ y → rank_in (y ∷ ys) x ≡ rank_in ys x + 1
 rank-other x y ys ne = let k : rank_in (y ∷ ys) x ≡ suc (rank_in ys x) = ap (λ b. cond b 0 (suc (rank_in ys x))) (ne_eqb x y ne) in omega (arith, k)
 
+-- at the rank of a member stands the member
 pub rank-here : (x : ℕ) (xs : List ℕ) → member x xs ≡ true → (rank_in xs x < length xs) × (get_or xs (rank_in xs x) 0 ≡ x)
 rank-here x [] m = absurd (false≢true m)
 rank-here x (y ∷ ys) m = elim (cases_eq x y) [
@@ -32,6 +35,7 @@ rank-here x (y ∷ ys) m = elim (cases_eq x y) [
       (omega (arith, k.0, z), ap (λ k. get_or (y ∷ ys) k 0) z ∙ k.1)
 ]
 
+-- a list without the first of an order ascends by its ranks as by those of the rest
 Ascends-later : (x : ℕ) (xs ys : List ℕ) → ((y : ℕ) → member y ys ≡ true → y ≢ x) → AscendsBy (rank_in xs) ys → AscendsBy (rank_in (x ∷ xs)) ys
 Ascends-later x xs [] ne a = tt
 Ascends-later x xs (y ∷ ys) ne a = (
@@ -39,6 +43,7 @@ Ascends-later x xs (y ∷ ys) ne a = (
   Ascends-later x xs ys (λ z m. ne z (member-tail z y ys m)) a.1,
 )
 
+-- an order that has each once ascends by its own ranks
 pub rank-ascends : (xs : List ℕ) → Distinct xs → AscendsBy (rank_in xs) xs
 rank-ascends [] d = tt
 rank-ascends (x ∷ xs) d = (
@@ -46,6 +51,7 @@ rank-ascends (x ∷ xs) d = (
   Ascends-later x xs xs (λ y m e. true≢false (sym m ∙ (ap (λ n. member n xs) e ∙ d.0))) (rank-ascends xs d.1),
 )
 
+-- members of one rank are the same
 pub rank-apart : (order : List ℕ) (x y : ℕ) → member x order ≡ true → member y order ≡ true → rank_in order x ≡ rank_in order y → x ≡ y
 rank-apart order x y mx my e = sym (rank-here x order mx).1 ∙ (ap (λ k. get_or order k 0) e ∙ (rank-here y order my).1)
 
@@ -64,6 +70,7 @@ enumerates n order d same = record {
   complete = λ v l. Contains-from_member order v (same v ∙ member-below v n l);
 }
 
+-- an order of the vertices has each once
 pub order-distinct : (n : ℕ) (order : List ℕ) → Enumerates n order → Distinct order
 order-distinct n order h = Distinct-from_pairs order h.distinct
 

@@ -14,18 +14,23 @@ use Rattle.kc_cert.specs.Ranks.{AscendsBy, moved, place_after, Orders}
 use Rattle.kc_distinct.proofs.Shared.{or-swap, and-fails}
 use Rattle.std.proofs.Math.Bool.{or_assoc}
 
+-- the new rank of what was shifted is right behind that of the one before it
 pub moved-itself : (place : ℕ → ℕ) (x last y : ℕ) → y ≡ x → moved place x last y ≡ place last + place last + 1
 moved-itself place x last y e = ap (λ b. cond b (place last + place last + 1) (place y + place y)) (eq-eqb y x e)
 
+-- the new rank of another one is its rank doubled
 pub moved-other : (place : ℕ → ℕ) (x last y : ℕ) → y ≢ x → moved place x last y ≡ place y + place y
 moved-other place x last y ne = ap (λ b. cond b (place last + place last + 1) (place y + place y)) (ne_eqb y x ne)
 
+-- a second alternative that fails changes nothing
 or-no : (a : Bool) → (a || false) ≡ a
 or-no a = grind arith
 
+-- a second condition that holds changes nothing
 and-yes : (a b : Bool) → b ≡ true → a ≡ (a && b)
 and-yes a b h = grind arith
 
+-- what is left of an ascending order ascends
 pub Ascends-filter : (r : ℕ → ℕ) (p : ℕ → Bool) (xs : List ℕ) → AscendsBy r xs → AscendsBy r (filter p xs)
 Ascends-filter r p [] a = tt
 Ascends-filter r p (x ∷ xs) a =
@@ -34,6 +39,7 @@ Ascends-filter r p (x ∷ xs) a =
       | false ↦ Ascends-filter r p xs a.1
     ]
 
+-- an ascending order without one vertex ascends
 Ascends-without : (r : ℕ → ℕ) (x : ℕ) (xs : List ℕ) → AscendsBy r xs → AscendsBy r (without x xs)
 Ascends-without r x [] a = tt
 Ascends-without r x (y ∷ ys) a =
@@ -52,6 +58,7 @@ placed_has x w (y ∷ ys) m z =
           ∙ sym (or_assoc (eqb z y) (member z ys) (eqb z x))
     ] refl
 
+-- an order without the shifted vertex ascends by the new ranks too
 Ascends-moved : (r : ℕ → ℕ) (x w : ℕ) (ys : List ℕ) → AscendsBy r ys → member x ys ≡ false → AscendsBy (moved r x w) ys
 Ascends-moved r x w [] a m = tt
 Ascends-moved r x w (y ∷ ys) a m =
@@ -64,6 +71,7 @@ Ascends-moved r x w (y ∷ ys) a m =
       Ascends-moved r x w ys a.1 k.1,
     )
 
+-- with it put right after the other, the order ascends by the new ranks
 Ascends-placed : (r : ℕ → ℕ) (x w : ℕ) (ys : List ℕ) → AscendsBy r ys → member x ys ≡ false → member w ys ≡ true → AscendsBy (moved r x w) (right_after x w ys)
 Ascends-placed r x w [] a m mw = absurd (false≢true mw)
 Ascends-placed r x w (y ∷ ys) a m mw =
@@ -96,13 +104,14 @@ Ascends-placed r x w (y ∷ ys) a m mw =
           )
     ] refl
 
+-- the others stay in a list without one vertex
 left : (x z : ℕ) (xs : List ℕ) → z ≢ x → member z (without x xs) ≡ member z xs
 left x z xs ne = elim (cases_Bool (member z xs)) [
   | inl m ↦ without-member z x xs m ne ∙ sym m
   | inr n ↦ false_from_ne_true _ (λ m. true≢false (sym (member-without z x xs m).0 ∙ n)) ∙ sym n
 ]
 
--- after one shift
+-- after one shift an order has the same vertices
 pub put_after-has : (x w : ℕ) (order : List ℕ) → member x order ≡ true → member w order ≡ true → w ≢ x → (z : ℕ)
     → member z (right_after x w (without x order)) ≡ member z order
 put_after-has x w order mx mw ne z =
@@ -112,15 +121,17 @@ put_after-has x w order mx mw ne z =
       | inr nz ↦ ap (λ b. b || eqb z x) (left x z order nz) ∙ (ap (λ b. member z order || b) (ne_eqb z x nz) ∙ or-no (member z order))
     ]
 
+-- after one shift an order ascends by the ranks after it
 pub put_after-ascends : (r : ℕ → ℕ) (x w : ℕ) (order : List ℕ) → AscendsBy r order → member w order ≡ true → w ≢ x
     → AscendsBy (moved r x w) (right_after x w (without x order))
 put_after-ascends r x w order a mw ne =
     Ascends-placed r x w (without x order) (Ascends-without r x order a) (not_member-without x order) (left x w order ne ∙ mw)
 
+-- what is not in a list is not its first
 not_itself : (w x : ℕ) (xs : List ℕ) → member w (x ∷ xs) ≡ false → w ≢ x
 not_itself w x xs n e = true≢false (sym (ap (λ k. member k (x ∷ xs)) e ∙ member-head x xs) ∙ n)
 
--- after all shifts
+-- after all shifts an order has the same vertices
 pub shifted-has : (shifts : List (ℕ × ℕ)) (order : List ℕ) → AreInTurn shifts
     → ((x : ℕ) → member x (firsts shifts) ≡ true → member x order ≡ true)
     → ((x : ℕ) → member x (seconds shifts) ≡ true → member x order ≡ true)
@@ -133,6 +144,7 @@ shifted-has (p ∷ shifts) order t f s z =
     (λ x m. same x ∙ s x (member-tail x p.1 (seconds shifts) m)) z
     ∙ same z
 
+-- after all shifts an order ascends by the ranks after them
 pub shifted-ascends : (r : ℕ → ℕ) (shifts : List (ℕ × ℕ)) (order : List ℕ) → AscendsBy r order → AreInTurn shifts
     → ((x : ℕ) → member x (firsts shifts) ≡ true → member x order ≡ true) → ((x : ℕ) → member x (seconds shifts) ≡ true → member x order ≡ true)
     → AscendsBy (place_after r shifts) (shifted shifts order)
@@ -154,6 +166,7 @@ Orders-from_Ascends lt r (x ∷ xs) h a = (
   Orders-from_Ascends lt r xs (λ y z my mz. h y z (member-tail y x xs my) (member-tail z x xs mz)) a.1,
 )
 
+-- an ordered list in front of another whose members all come later is ordered with it
 pub Orders-append : (lt : ℕ → ℕ → Bool) (xs ys : List ℕ) → Orders lt xs → Orders lt ys
     → ((y z : ℕ) → member y xs ≡ true → member z ys ≡ true → (lt y z ≡ true) × (lt z y ≡ false)) → Orders lt (xs ++ ys)
 Orders-append lt [] ys ox oy cross = oy
@@ -162,13 +175,16 @@ Orders-append lt (x ∷ xs) ys ox oy cross = (
   Orders-append lt xs ys ox.1 oy (λ y z my mz. cross y z (member-tail y x xs my) mz),
 )
 
+-- a list ordered by a test that nothing passes with itself has each once
 pub Orders-distinct : (lt : ℕ → ℕ → Bool) (xs : List ℕ) → ((z : ℕ) → lt z z ≡ false) → Orders lt xs → Distinct xs
 Orders-distinct lt [] i o = tt
 Orders-distinct lt (x ∷ xs) i o = (false_from_ne_true _ (λ m. true≢false (sym (o.0 x m).0 ∙ i x)), Orders-distinct lt xs i o.1)
 
+-- the place behind another number is one later with one in front
 place-other : (z y : ℕ) (ys : List ℕ) → z ≢ y → place_of z (y ∷ ys) + 1 ≡ suc (place_of z ys + 1)
 place-other z y ys ne = let k : place_of z (y ∷ ys) ≡ suc (place_of z ys) = ap (λ b. cond b 0 (suc (place_of z ys))) (ne_eqb z y ne) in omega (arith, k)
 
+-- the place behind the first number is 1
 place-here : (z y : ℕ) (ys : List ℕ) → z ≡ y → place_of z (y ∷ ys) + 1 ≡ suc 0
 place-here z y ys e = let k : place_of z (y ∷ ys) ≡ 0 = ap (λ b. cond b 0 (suc (place_of z ys))) (eq-eqb z y e) in omega (arith, k)
 

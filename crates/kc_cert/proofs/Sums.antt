@@ -6,6 +6,7 @@ use Rattle.kc_distinct.specs.Lists.{member, Distinct}
 use Rattle.kc_distinct.proofs.Members.{member-head, member-tail, member-cases}
 use Rattle.kc_distinct.proofs.Counting.{member-other, count-agree, count-le, count-yes, count-no, count-cons}
 
+-- 1 where a test passes, and 0 else
 abbrev pub one_if : Bool → ℕ
 one_if b = cond b 1 0
 
@@ -28,6 +29,7 @@ count-one-in p q v (x ∷ xs) d m qv same =
           omega (arith, rest, here, count-cons p x xs, count-cons q x xs)
     ]
 
+-- where a member passes, the count is above 0
 pub count-some : (p : ℕ → Bool) (v : ℕ) (xs : List ℕ) → member v xs ≡ true → p v ≡ true → 0 < count_by p xs
 count-some p v [] m pv = absurd (false≢true m)
 count-some p v (x ∷ xs) m pv = elim (member-cases v x xs m) [
@@ -35,6 +37,7 @@ count-some p v (x ∷ xs) m pv = elim (member-cases v x xs m) [
   | inr m' ↦ omega (arith, count-some p v xs m' pv, count-cons p x xs)
 ]
 
+-- where no member passes, the count is 0
 pub count-none : (p : ℕ → Bool) (xs : List ℕ) → ((x : ℕ) → member x xs ≡ true → p x ≡ false) → count_by p xs ≡ 0
 count-none p [] h = refl
 count-none p (x ∷ xs) h = omega (arith, count-no p x xs (h x (member-head x xs)), count-none p xs (λ y m. h y (member-tail y x xs m)))
@@ -48,7 +51,7 @@ count-sum p q r (x ∷ xs) h =
     let here : one_if (r x) ≡ one_if (p x) + one_if (q x) = h x (member-head x xs) in
     omega (arith, rest, here, count-cons p x xs, count-cons q x xs, count-cons r x xs)
 
--- the same numbers, each once
+-- lists of the same numbers, each once, have the same counts
 pub count-same : (p : ℕ → Bool) (xs ys : List ℕ) → Distinct xs → Distinct ys → ((z : ℕ) → member z xs ≡ member z ys) → count_by p xs ≡ count_by p ys
 count-same p xs ys dx dy same =
     let up : count_by p xs ≤ count_by p ys = count-le p xs ys dx (λ z m _. sym (same z) ∙ m) in

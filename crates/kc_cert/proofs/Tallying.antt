@@ -20,14 +20,16 @@ use Rattle.kc_cert.specs.Stands.{other_end, keeps}
 use Rattle.kc_cert.proofs.Sums.{one_if, count-one-in, count-none, count-sum}
 use Rattle.kc_cert.proofs.Keeping.{adjacent-updated, ends_differ}
 
+-- a rising list has each number once
 Distinct-rises : (xs : List ℕ) → Rises xs → Distinct xs
 Distinct-rises [] h = tt
 Distinct-rises (x ∷ xs) h = (false_from_ne_true (member x xs) (λ m. lt_irrefl x (h.0 x m)), Distinct-rises xs h.1)
 
+-- the list of the neighbours of a vertex has each once
 neighbours-once : (g : SimpleGraph) (z : ℕ) → Distinct (neighbours_of g z)
 neighbours-once g z = Distinct-rises (neighbours_of g z) (neighbours_rise g z)
 
--- over the neighbours and over all vertices
+-- what passes among the neighbours is counted over them or over all vertices
 pub count-neighbours : (g : SimpleGraph) (z : ℕ) (r : ℕ → Bool) → count_by (λ y. adjacent g z y && r y) (below g.size) ≡ count_by r (neighbours_of g z)
 count-neighbours g z r =
     let both : ℕ → Bool = λ y. adjacent g z y && r y in
@@ -40,29 +42,36 @@ count-neighbours g z r =
     count-le both ws (below g.size) (neighbours-once g z) (λ y m _. member-below y g.size (neighbours_within g z y m).0) in
     omega (arith, here, up, down)
 
+-- either order of an equality is the same
 eqb-either : (a b : ℕ) → eqb a b ≡ eqb b a
 eqb-either a b = elim (cases_eq a b) [
   | inl e ↦ eq-eqb a b e ∙ sym (eq-eqb b a (sym e))
   | inr ne ↦ ne_eqb a b ne ∙ sym (ne_eqb b a (λ e. ne (sym e)))
 ]
 
+-- of two cases the first tells where it is given and the second isn't
 first_of_two : (a b c d : Bool) → a ≡ true → c ≡ false → ((a && b) || (c && d)) ≡ b
 first_of_two a b c d x y = grind arith
 
+-- of two cases the second tells where it is given and the first isn't
 second_of_two : (a b c d : Bool) → a ≡ false → c ≡ true → ((a && b) || (c && d)) ≡ d
 second_of_two a b c d x y = grind arith
 
+-- of two cases neither holds where none is given
 none_of_two : (a b c d : Bool) → a ≡ false → c ≡ false → ((a && b) || (c && d)) ≡ false
 none_of_two a b c d x y = grind arith
 
+-- the other end of an edge from its first end is its second
 other-first : (update : Update) (z : ℕ) → z ≡ update.u → other_end update z ≡ Some update.v
 other-first update z e = ap (λ b. cond b (Some update.v) (cond (eqb z update.v) (Some update.u) None)) (eq-eqb z update.u e)
 
+-- the other end of an edge from its second end is its first
 other-second : (update : Update) (z : ℕ) → z ≢ update.u → z ≡ update.v → other_end update z ≡ Some update.u
 other-second update z ne e =
     ap (λ b. cond b (Some update.v) (cond (eqb z update.v) (Some update.u) None)) (ne_eqb z update.u ne)
     ∙ ap (λ b. cond b (Some update.u) None) (eq-eqb z update.v e)
 
+-- a vertex that is no end has no other end
 other-none : (update : Update) (z : ℕ) → z ≢ update.u → z ≢ update.v → other_end update z ≡ None
 other-none update z nu nv =
     ap (λ b. cond b (Some update.v) (cond (eqb z update.v) (Some update.u) None)) (ne_eqb z update.u nu)
@@ -88,14 +97,16 @@ joins-other update z y =
       ]
     ]
 
--- how many more pass at the other end of an edge that comes
+-- 1 where there is a vertex and it passes, and 0 else
 abbrev pub one_of : Option ℕ → (ℕ → Bool) → ℕ
 one_of None q = 0
 one_of (Some y) q = one_if (q y)
 
+-- how many more pass at the other end of an edge that comes
 abbrev pub gained : Update → ℕ → (ℕ → Bool) → ℕ
 gained update z q = cond update.add (one_of (other_end update z) q) 0
 
+-- the other end is a vertex, and not the vertex itself
 pub other-vertex : (update : Update) (n z y : ℕ) → update.v < n → other_end update z ≡ Some y → (y < n) × (z ≢ y)
 other-vertex update n z y l e =
     let up : update.u < update.v = update.ordered in
@@ -107,6 +118,7 @@ other-vertex update n z y l e =
       ]
     ]
 
+-- those joined by the update's edge that pass are as many as pass at the other end
 count-other : (update : Update) (n z : ℕ) (q : ℕ → Bool) → update.v < n
     → count_by (λ y. joins update.u update.v z y && q y) (below n) ≡ one_of (other_end update z) q
 count-other update n z q l =
@@ -125,12 +137,15 @@ count-other update n z q l =
           omega (arith, one, none, here)
     ] refl
 
+-- where an edge comes, what passes is what passed before, and the new one
 apart : (a' a j q : Bool) → a' ≡ (a || j) → (j ≡ true → a ≡ false) → one_if (a' && q) ≡ one_if (a && q) + one_if (j && q)
 apart a' a j q e n = grind arith
 
+-- where an edge goes, what is left and passes is what was there, is kept and passes
 regroup : (a' a j k q : Bool) → a' ≡ (a && not j) → k ≡ not j → (a' && q) ≡ (a && (k && q))
 regroup a' a j k q e f = grind arith
 
+-- a first condition that holds changes nothing
 and-true : (k q : Bool) → k ≡ true → (k && q) ≡ q
 and-true k q e = grind arith
 
@@ -170,27 +185,31 @@ count-updated update g z q l applied =
           omega (arith, same, count-neighbours g z kept, none)
     ]
 
--- one neighbour more
+-- with one member more, the count is one more where it passes
 pub count-more : (q : ℕ → Bool) (xs : List ℕ) (i : ℕ) → i < length xs → count_by q (take (i + 1) xs) ≡ count_by q (take i xs) + one_if (q (get_or xs i 0))
 count-more q xs i l = elim (cases_Bool (q (get_or xs i 0))) [
   | inl y ↦ omega (arith, count_by_more_yes q xs i 0 l y, ap one_if y)
   | inr n ↦ omega (arith, count_by_more_no q xs i 0 l n, ap one_if n)
 ]
 
+-- of the first members no more pass than they are
 pub count-few : (q : ℕ → Bool) (xs : List ℕ) (i : ℕ) → count_by q (take i xs) ≤ i
 count-few q xs i = omega (arith, count-le-length q (take i xs), length-take i xs)
 
--- the neighbour at a place
+-- the neighbour at a place of the list is a vertex, and not the vertex itself
 pub neighbour-at : (g : SimpleGraph) (z i y : ℕ) → i < length (neighbours_of g z) → y ≡ get_or (neighbours_of g z) i 0 → (y < g.size) × (z ≢ y)
 neighbour-at g z i y l e =
     let near = neighbours_within g z y (ap (λ k. member k (neighbours_of g z)) e ∙ member-get_or (neighbours_of g z) i 0 l) in
     (near.0, λ same. true≢false (sym near.1 ∙ (ap (adjacent g z) (sym same) ∙ adjacent-self g z)))
 
+-- where an edge comes, it is 1 if the other end passes, and 0 else
 pub gained-some : (update : Update) (z y : ℕ) (q : ℕ → Bool) → update.add ≡ true → other_end update z ≡ Some y → gained update z q ≡ one_if (q y)
 gained-some update z y q add e = ap (λ b. cond b (one_of (other_end update z) q) 0) add ∙ ap (λ o. one_of o q) e
 
+-- where an edge goes, it is 0
 pub gained-removed : (update : Update) (z : ℕ) (q : ℕ → Bool) → update.add ≡ false → gained update z q ≡ 0
 gained-removed update z q removes = ap (λ b. cond b (one_of (other_end update z) q) 0) removes
 
+-- at a vertex that is no end it is 0
 pub gained-none : (update : Update) (z : ℕ) (q : ℕ → Bool) → other_end update z ≡ None → gained update z q ≡ 0
 gained-none update z q e = ap (λ o. cond update.add (one_of o q) 0) e ∙ elim update.add as (λ b. ◌≡◌ {A = ℕ} (cond b 0 0) 0) [ true ↦ refl | false ↦ refl ]

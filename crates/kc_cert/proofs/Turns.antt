@@ -19,14 +19,17 @@ pub firsts-append : (xs ys : List (ℕ × ℕ)) → firsts (xs ++ ys) ≡ firsts
 firsts-append [] ys = refl
 firsts-append (x ∷ xs) ys = ap (λ (zs : List ℕ). x.0 ∷ zs) (firsts-append xs ys)
 
+-- one shift more brings its vertex behind those moved before
 pub firsts-more : (shifts : List (ℕ × ℕ)) (i : ℕ) → i < length shifts → firsts (take (i + 1) shifts) ≡ firsts (take i shifts) ++ (get_or shifts i (0, 0)).0 ∷ []
 firsts-more shifts i l = ap firsts (take_more shifts i (0, 0) l) ∙ firsts-append (take i shifts) (get_or shifts i (0, 0) ∷ [])
 
+-- the vertices of later shifts are the later ones of the vertices
 firsts-drop : (k : ℕ) (shifts : List (ℕ × ℕ)) → firsts (drop k shifts) ≡ drop k (firsts shifts)
 firsts-drop zero shifts = refl
 firsts-drop (suc k) [] = refl
 firsts-drop (suc k) (shift ∷ shifts) = firsts-drop k shifts
 
+-- a member of the first of two lists has its place there in both together
 place_of-left : (w : ℕ) (xs ys : List ℕ) → member w xs ≡ true → place_of w (xs ++ ys) ≡ place_of w xs
 place_of-left w [] ys m = absurd (false≢true m)
 place_of-left w (x ∷ xs) ys m = elim (cases_eq w x) [
@@ -34,12 +37,14 @@ place_of-left w (x ∷ xs) ys m = elim (cases_eq w x) [
   | inr ne ↦ place_of-next w x (xs ++ ys) ne ∙ (ap suc (place_of-left w xs ys (member-other w x xs ne m)) ∙ sym (place_of-next w x xs ne))
 ]
 
+-- a number that is not in the first of two lists comes with its place in the second behind that
 place_of-right : (w : ℕ) (xs ys : List ℕ) → member w xs ≡ false → place_of w (xs ++ ys) ≡ length xs + place_of w ys
 place_of-right w [] ys n = omega arith
 place_of-right w (x ∷ xs) ys n =
     let p = not_member-parts w x xs n in
     omega (arith, place_of-next w x (xs ++ ys) p.0, place_of-right w xs ys p.1)
 
+-- a number that stands before a place is not behind it
 dropped : (k w : ℕ) (xs : List ℕ) → Distinct xs → place_of w xs < k → member w (drop k xs) ≡ false
 dropped zero w xs d l = absurd (omega arith)
 dropped (suc k) w [] d l = refl
@@ -48,6 +53,7 @@ dropped (suc k) w (x ∷ xs) d l = elim (cases_eq w x) [
   | inr ne ↦ dropped k w xs d.1 (omega (arith, place_of-next w x xs ne))
 ]
 
+-- a member that doesn't stand before a place is behind it
 not_dropped : (k w : ℕ) (xs : List ℕ) → member w xs ≡ true → k ≤ place_of w xs → member w (drop k xs) ≡ true
 not_dropped zero w xs m l = m
 not_dropped (suc k) w [] m l = absurd (false≢true m)
@@ -56,9 +62,11 @@ not_dropped (suc k) w (x ∷ xs) m l = elim (cases_eq w x) [
   | inr ne ↦ not_dropped k w xs (member-other w x xs ne m) (omega (arith, place_of-next w x xs ne))
 ]
 
+-- no place is found for a number that is not there
 place_in-out : (xs : List ℕ) (w : ℕ) → member w xs ≡ false → place_in xs w ≡ None
 place_in-out xs w n = ap (λ b. cond b (Some (place_of w xs)) None) n
 
+-- the place found for a member is its place
 place_in-there : (xs : List ℕ) (w : ℕ) → member w xs ≡ true → place_in xs w ≡ Some (place_of w xs)
 place_in-there xs w m = ap (λ b. cond b (Some (place_of w xs)) None) m
 
@@ -66,6 +74,7 @@ place_in-there xs w m = ap (λ b. cond b (Some (place_of w xs)) None) m
 abbrev pub StaysFrom : ℕ → ℕ → Option ℕ → Type 0
 StaysFrom n k place = MatchOption place ⊤ (λ p. (n ≤ p) × (p < n + k))
 
+-- a number with such a place, or with none, is neither in `front` nor behind the first `k` of `back`
 pub stays-to : (front back : List ℕ) (w k : ℕ) → Distinct (front ++ back) → StaysFrom (length front) k (place_in (front ++ back) w)
     → (member w front ≡ false) × (member w (drop k back) ≡ false)
 stays-to front back w k d h = elim (cases_Bool (member w (front ++ back))) [
@@ -79,6 +88,7 @@ stays-to front back w k d h = elim (cases_Bool (member w (front ++ back))) [
       (p.0, false_from_ne_true _ (λ m. true≢false (sym (drop-member k w back m) ∙ p.1)))
 ]
 
+-- a number that is neither in `front` nor behind the first `k` of `back` has such a place, or none
 pub stays-from : (front back : List ℕ) (w k : ℕ) → member w front ≡ false → member w (drop k back) ≡ false
     → StaysFrom (length front) k (place_in (front ++ back) w)
 stays-from front back w k out gone = elim (cases_Bool (member w (front ++ back))) [
@@ -98,26 +108,30 @@ pub record IsPutRight (s : Ranked) (level : ℕ) (rise : List ℕ) (shifts : Lis
   pub stays : member (get_or shifts k (0, 0)).1 rise ≡ false
   pub in_turn : member (get_or shifts k (0, 0)).1 (firsts (drop k shifts)) ≡ false
 
--- all shifts are
+-- all shifts are right
 abbrev pub ArePutRight : Ranked → ℕ → List ℕ → List (ℕ × ℕ) → Type 0
 ArePutRight s level rise shifts = ((w : ℕ) → member w (seconds shifts) ≡ true → IsOfLevel s level w × (member w rise ≡ false)) × AreInTurn shifts
 
+-- the vertex after which a shift puts another is one of those of all shifts
 pub seconds-at : (shifts : List (ℕ × ℕ)) (k : ℕ) → k < length shifts → member (get_or shifts k (0, 0)).1 (seconds shifts) ≡ true
 seconds-at [] k l = absurd (omega arith)
 seconds-at (shift ∷ shifts) zero l = member-head shift.1 (seconds shifts)
 seconds-at (shift ∷ shifts) (suc k) l = member-tail (get_or shifts k (0, 0)).1 shift.1 (seconds shifts) (seconds-at shifts k (omega arith))
 
+-- where shifts come in turn, none is put after a vertex that it or a later one moves
 turn-at : (shifts : List (ℕ × ℕ)) (k : ℕ) → k < length shifts → AreInTurn shifts → member (get_or shifts k (0, 0)).1 (firsts (drop k shifts)) ≡ false
 turn-at [] k l t = absurd (omega arith)
 turn-at (shift ∷ shifts) zero l t = t.0
 turn-at (shift ∷ shifts) (suc k) l t = turn-at shifts k (omega arith) t.1
 
+-- where all shifts are right, each is
 pub put_right-at : (s : Ranked) (level : ℕ) (rise : List ℕ) (shifts : List (ℕ × ℕ)) (k : ℕ) → k < length shifts
     → ArePutRight s level rise shifts → IsPutRight s level rise shifts k
 put_right-at s level rise shifts k l h =
     let w = h.0 (get_or shifts k (0, 0)).1 (seconds-at shifts k l) in
     record { of_level = w.0; stays = w.1; in_turn = turn-at shifts k l h.1 }
 
+-- where each shift is right, all are
 pub put_right-all : (s : Ranked) (level : ℕ) (rise : List ℕ) (shifts : List (ℕ × ℕ))
     → ((k : ℕ) → k < length shifts → IsPutRight s level rise shifts k) → ArePutRight s level rise shifts
 put_right-all s level rise [] h = (λ w m. absurd (false≢true m), tt)
@@ -141,6 +155,7 @@ put_right-to s level rise shifts k d here stays =
     let p = stays-to rise (firsts shifts) w k d stays in
     record { of_level = here; stays = p.0; in_turn = ap (member w) (firsts-drop k shifts) ∙ p.1 }
 
+-- where a shift is right, the place of the vertex after which it puts is of an earlier shift, or none
 pub put_right-from : (s : Ranked) (level : ℕ) (rise : List ℕ) (shifts : List (ℕ × ℕ)) (k : ℕ) → IsPutRight s level rise shifts k
     → StaysFrom (length rise) k (place_in (rise ++ firsts shifts) (get_or shifts k (0, 0)).1)
 put_right-from s level rise shifts k h =

@@ -6,6 +6,7 @@ use Rattle.kc_distinct.proofs.Counting.{member-below, below-member, Distinct-bel
 use Rattle.kc_cert.proofs.Sums.{one_if, count-one-in, count-some, count-sum}
 use Rattle.kc_view.specs.Search.{Search, among}
 
+-- where a first condition holds, a second may be replaced by one that agrees with it
 and-agree : (a b b' : Bool) → (a ≡ true → b ≡ b') → (a && b) ≡ (a && b')
 and-agree a b b' h = grind arith
 
@@ -31,9 +32,11 @@ among-mono s z p q more =
     count-mono (λ y. s.adj z y && p y) (λ y. s.adj z y && q y) (below s.size)
     (λ y m t. let k = and_parts (s.adj z y) (p y) t in and_from _ _ k.0 (more y (below-member y s.size m) k.0 k.1))
 
+-- where a neighbour passes, the count is above 0
 pub among-some : (s : Search) (z : ℕ) (p : ℕ → Bool) (v : ℕ) → v < s.size → s.adj z v ≡ true → p v ≡ true → 0 < among s z p
 among-some s z p v l a pv = count-some (λ y. s.adj z y && p y) v (below s.size) (member-below v s.size l) (and_from (s.adj z v) (p v) a pv)
 
+-- what two tests say of a neighbour sums up to what one does, where it does so of any vertex that is one
 and-sum : (a p q r : Bool) → (a ≡ true → one_if r ≡ one_if p + one_if q) → one_if (a && r) ≡ one_if (a && p) + one_if (a && q)
 and-sum a p q r h = elim (cases_Bool a) [ inl t ↦ let k = h t in grind (arith, t, k) | inr f ↦ grind (arith, f) ]
 
@@ -44,5 +47,6 @@ among-sum s z p q r h =
     count-sum (λ y. s.adj z y && p y) (λ y. s.adj z y && q y) (λ y. s.adj z y && r y) (below s.size)
     (λ y m. and-sum (s.adj z y) (p y) (q y) (r y) (h y (below-member y s.size m)))
 
+-- a test counts at most once
 pub at_most_one : (b : Bool) → one_if b ≤ 1
 at_most_one b = grind arith

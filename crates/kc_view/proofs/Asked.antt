@@ -13,6 +13,7 @@ use Rattle.kc_view.specs.Answers.{Answers, list_in, has_list, list_of, has_core,
 use Rattle.kc_view.specs.Sure.{is_listed, AsksCores}
 use Rattle.kc_view.specs.Views.{TellsList, TellsCore}
 
+-- a vertex on the list that was told of another one is on a list that was told
 listed_in : (x y : ℕ) (es : List UsedEdges) → is_some (list_in x es) ≡ true → member y (unwrap_or (list_in x es) []) ≡ true
     → list_any (λ e. member y e.neighbours) es ≡ true
 listed_in x y [] h m = absurd (false≢true h)

@@ -12,9 +12,11 @@ pub record StandsBetween (xs : List ℕ) (y low high : ℕ) : Type 0 where
   pub before : (k : ℕ) → k < low → get_or xs k 0 < y
   pub behind : (k : ℕ) → high ≤ k → k < length xs → y < get_or xs k 0
 
+-- at the beginning the number can stand anywhere
 pub anywhere : (xs : List ℕ) (y high : ℕ) → high ≡ length xs → StandsBetween xs y 0 high
 anywhere xs y high e = record { before = λ k l. absurd (omega arith); behind = λ k le l. absurd (omega arith) }
 
+-- where a lesser number stands in the middle, it can only stand behind
 pub stands-later : (xs : List ℕ) (y low high middle : ℕ) → IsStrictlyIncreasing xs → StandsBetween xs y low high → middle < length xs
     → get_or xs middle 0 < y → StandsBetween xs y (middle + 1) high
 stands-later xs y low high middle up b l less = record {
@@ -22,6 +24,7 @@ stands-later xs y low high middle up b l less = record {
   behind = b.behind;
 }
 
+-- where a greater number stands in the middle, it can only stand before
 pub stands-earlier : (xs : List ℕ) (y low high middle : ℕ) → IsStrictlyIncreasing xs → StandsBetween xs y low high → y < get_or xs middle 0
     → StandsBetween xs y low middle
 stands-earlier xs y low high middle up b more = record {
@@ -29,6 +32,7 @@ stands-earlier xs y low high middle up b more = record {
   behind = λ k le l. let r : get_or xs middle 0 ≤ get_or xs k 0 = never_falls xs up middle k le l in omega arith;
 }
 
+-- where no place is left, the list lacks the number
 pub stands-nowhere : (xs : List ℕ) (y low high : ℕ) → StandsBetween xs y low high → high ≤ low → member y xs ≡ false
 stands-nowhere xs y low high b le = false_from_ne_true _ (λ m.
     let h = rank-here y xs m in

@@ -18,7 +18,7 @@ use Rattle.kc_view.specs.Answers.{Answers, Agrees, list_in, core_in, has_list, h
 use Rattle.kc_view.specs.Lists.{IsListOf, AreLists}
 use Rattle.kc_view.specs.Views.{Further, Shown, Lasts, GoesOn}
 
--- a list that was found stays the one that is found, and so does a core number
+-- a list that was found stays the one that is found
 pub list_in-front : (w : ℕ) (xs ys : List UsedEdges) → is_some (list_in w xs) ≡ true → list_in w (xs ++ ys) ≡ list_in w xs
 list_in-front w [] ys h = absurd (false≢true h)
 list_in-front w (x ∷ xs) ys h =
@@ -28,6 +28,7 @@ list_in-front w (x ∷ xs) ys h =
       | false ↦ λ k. list_in-front w xs ys k
     ] h
 
+-- a core number that was found stays the one that is found
 pub core_in-front : (w : ℕ) (xs ys : List UsedPlace) → is_some (core_in w xs) ≡ true → core_in w (xs ++ ys) ≡ core_in w xs
 core_in-front w [] ys h = absurd (false≢true h)
 core_in-front w (x ∷ xs) ys h =
@@ -37,22 +38,27 @@ core_in-front w (x ∷ xs) ys h =
       | false ↦ λ k. core_in-front w xs ys k
     ] h
 
+-- the list of a vertex that was told is still the one that is found
 list-same : (old new : Answers) (w : ℕ) → Further old new → has_list old w ≡ true → list_in w new.edges ≡ list_in w old.edges
 list-same old new w f h = ap (list_in w) f.edges.1 ∙ list_in-front w old.edges f.edges.0 h
 
+-- the core number of a vertex that was told is still the one that is found
 core-same : (old new : Answers) (w : ℕ) → Further old new → has_core old w ≡ true → core_in w new.places ≡ core_in w old.places
 core-same old new w f h = ap (core_in w) f.places.1 ∙ core_in-front w old.places f.places.0 h
 
--- a list that was told stays, and so does a core number
+-- a list that was told is still told
 pub still_has_list : (old new : Answers) (w : ℕ) → Further old new → has_list old w ≡ true → has_list new w ≡ true
 still_has_list old new w f h = ap is_some (list-same old new w f h) ∙ h
 
+-- the list that was told of a vertex stays
 pub same_list : (old new : Answers) (w : ℕ) → Further old new → has_list old w ≡ true → list_of new w ≡ list_of old w
 same_list old new w f h = ap (λ o. unwrap_or o []) (list-same old new w f h)
 
+-- a core number that was told is still told
 pub still_has_core : (old new : Answers) (w : ℕ) → Further old new → has_core old w ≡ true → has_core new w ≡ true
 still_has_core old new w f h = ap is_some (core-same old new w f h) ∙ h
 
+-- the core number that was told of a vertex stays
 pub same_core : (old new : Answers) (w : ℕ) → Further old new → has_core old w ≡ true → core_of new w ≡ core_of old w
 same_core old new w f h = ap (λ o. unwrap_or o 0) (core-same old new w f h)
 
@@ -67,9 +73,11 @@ agreed old new s f a = record {
       (subst (All (λ o. (o.x < s.graph.size) × (o.y < s.graph.size) × (o.before ≡ ltb (place_of o.x s.order) (place_of o.y s.order)))) f.orders.1 a.orders);
 }
 
+-- answers go on from themselves
 pub Further-refl : (a : Answers) → Further a a
 Further-refl a = record { edges = ([], sym (append-nil a.edges)); places = ([], sym (append-nil a.places)); orders = ([], sym (append-nil a.orders)) }
 
+-- answers that go on from others that go on from the first go on from the first
 pub Further-trans : (a b c : Answers) → Further a b → Further b c → Further a c
 Further-trans a b c f g = record {
   edges = (f.edges.0 ++ g.edges.0, g.edges.1 ∙ (ap (λ xs. xs ++ g.edges.0) f.edges.1 ∙ append_assoc a.edges f.edges.0 g.edges.0));
@@ -77,9 +85,11 @@ Further-trans a b c f g = record {
   orders = (f.orders.0 ++ g.orders.0, g.orders.1 ∙ (ap (λ xs. xs ++ g.orders.0) f.orders.1 ∙ append_assoc a.orders f.orders.0 g.orders.0));
 }
 
+-- what is true of a view stays true while nothing is called
 pub Lasts-refl : (a : Shown) → Lasts a a
 Lasts-refl a = record { same_size = refl; misses = le_refl a.misses; still_missed = λ x h. h; still_given = λ x h. h }
 
+-- what stays true over two stretches stays true over both together
 pub Lasts-trans : (a b c : Shown) → Lasts a b → Lasts b c → Lasts a c
 Lasts-trans a b c f g = record {
   same_size = g.same_size ∙ f.same_size;
@@ -88,9 +98,11 @@ Lasts-trans a b c f g = record {
   still_given = λ x h. g.still_given x (f.still_given x h);
 }
 
+-- a view goes on where nothing is called
 pub GoesOn-refl : (a : Shown) → GoesOn a a
 GoesOn-refl a = record { lasts = Lasts-refl a; handed = refl; further = Further-refl a.kept; lists = λ h. h }
 
+-- a view that goes on, and again, goes on over both together
 pub GoesOn-trans : (a b c : Shown) → GoesOn a b → GoesOn b c → GoesOn a c
 GoesOn-trans a b c f g = record {
   lasts = Lasts-trans a b c f.lasts g.lasts;
@@ -114,9 +126,11 @@ list_in-true s w (x ∷ xs) a h =
       | false ↦ λ e k. list_in-true s w xs (λ i d l. a (suc i) d (omega arith)) k
     ] refl h
 
+-- a list that was told is that of its vertex in each state that agrees
 pub list-true : (a : Answers) (s : Ranked) (w : ℕ) → Agrees a s → has_list a w ≡ true → (w < s.graph.size) × (list_of a w ≡ neighbours_of s.graph w)
 list-true a s w g h = list_in-true s w a.edges g.edges h
 
+-- a core number found among true ones is that of the vertex in the state
 core_in-true : (s : Ranked) (w : ℕ) (xs : List UsedPlace) → All (λ p. (p.vertex < s.graph.size) × (p.core ≡ get_or s.core p.vertex 0)) xs
     → is_some (core_in w xs) ≡ true
     → (w < s.graph.size) × (unwrap_or (core_in w xs) 0 ≡ get_or s.core w 0)
@@ -131,6 +145,7 @@ core_in-true s w (x ∷ xs) a h =
       | false ↦ λ e k. core_in-true s w xs (λ i d l. a (suc i) d (omega arith)) k
     ] refl h
 
+-- a core number that was told is that of its vertex in each state that agrees
 pub core-true : (a : Answers) (s : Ranked) (w : ℕ) → Agrees a s → has_core a w ≡ true → (w < s.graph.size) × (core_of a w ≡ get_or s.core w 0)
 core-true a s w g h = core_in-true s w a.places g.places h
 
@@ -141,6 +156,7 @@ order-true a s o g =
     All-end (λ o. (o.x < s.graph.size) × (o.y < s.graph.size) × (o.before ≡ ltb (place_of o.x s.order) (place_of o.y s.order))) a.orders o
     g.orders
 
+-- a list that is found among lists of their vertices is one of the vertex looked for
 found_list : (n w : ℕ) (xs : List UsedEdges) → All (λ e. IsListOf n e.vertex e.neighbours) xs → is_some (list_in w xs) ≡ true
     → IsListOf n w (unwrap_or (list_in w xs) [])
 found_list n w [] a h = absurd (false≢true h)

@@ -20,31 +20,37 @@ use Rattle.kc_view.proofs.Handing.{lists-push}
 use Rattle.kc_view.proofs.Keeping.{list_in-front, core_in-front, no-lists}
 use Rattle.kc_view.proofs.Marking.{list_in-push, core_in-push, has_list-more, has_core-more}
 
+-- what is not there is none
 is_none : {A : Type 0} (o : Option A) → is_some o ≡ false → o ≡ None
 is_none None h = refl
 is_none (Some x) h = absurd (true≢false h)
 
+-- the list at a place counted from 1
 list_at-suc : (xs : List UsedEdges) (i m : ℕ) → m ≡ suc i → list_at xs m ≡ Some (get_or xs i no_list).neighbours
 list_at-suc xs i m e = subst (λ (n : ℕ). list_at xs n ≡ Some (get_or xs i no_list).neighbours) (sym e) refl
 
+-- the core number at a place counted from 1
 core_at-suc : (xs : List UsedPlace) (i m : ℕ) → m ≡ suc i → core_at xs m ≡ Some (get_or xs i no_place).core
 core_at-suc xs i m e = subst (λ (n : ℕ). core_at xs n ≡ Some (get_or xs i no_place).core) (sym e) refl
 
+-- the list at a place stays with more kept behind
 list_at-front : (xs ys : List UsedEdges) (m : ℕ) → m ≤ length xs → list_at (xs ++ ys) m ≡ list_at xs m
 list_at-front xs ys zero l = refl
 list_at-front xs ys (suc i) l = ap (λ (e : UsedEdges). Some e.neighbours) (get_or_append_left xs ys no_list i (omega arith))
 
+-- the core number at a place stays with more kept behind
 core_at-front : (xs ys : List UsedPlace) (m : ℕ) → m ≤ length xs → core_at (xs ++ ys) m ≡ core_at xs m
 core_at-front xs ys zero l = refl
 core_at-front xs ys (suc i) l = ap (λ (p : UsedPlace). Some p.core) (get_or_append_left xs ys no_place i (omega arith))
 
--- an answer more of another vertex
+-- with one more list of another vertex kept, the one that is found stays
 list_in-other : (w : ℕ) (xs : List UsedEdges) (e : UsedEdges) → w ≢ e.vertex → list_in w (xs ++ e ∷ []) ≡ list_in w xs
 list_in-other w xs e other = elim (cases_Bool (is_some (list_in w xs))) [
   | inl t ↦ list_in-front w xs (e ∷ []) t
   | inr f ↦ list_in-push w xs e f ∙ (ap (λ b. cond b (Some e.neighbours) None) (ne_eqb w e.vertex other) ∙ sym (is_none (list_in w xs) f))
 ]
 
+-- with one more core number of another vertex kept, the one that is found stays
 core_in-other : (w : ℕ) (xs : List UsedPlace) (p : UsedPlace) → w ≢ p.vertex → core_in w (xs ++ p ∷ []) ≡ core_in w xs
 core_in-other w xs p other = elim (cases_Bool (is_some (core_in w xs))) [
   | inl t ↦ core_in-front w xs (p ∷ []) t
@@ -60,6 +66,7 @@ member-lists w (x ∷ xs) =
       | false ↦ member-lists w xs
     ]
 
+-- a vertex is one of those whose core numbers were kept exactly where its core number is found
 pub member-places : (w : ℕ) (xs : List UsedPlace) → member w (map (λ p. p.vertex) xs) ≡ is_some (core_in w xs)
 member-places w [] = refl
 member-places w (x ∷ xs) =
@@ -68,28 +75,31 @@ member-places w (x ∷ xs) =
       | false ↦ member-places w xs
     ]
 
--- one more that was not kept before, and none is kept twice
+-- with one more list of a vertex that had none kept, no list is kept twice
 lists-once : (xs : List UsedEdges) (e : UsedEdges) → Distinct (map (λ x. x.vertex) xs) → is_some (list_in e.vertex xs) ≡ false
     → Distinct (map (λ x. x.vertex) (xs ++ e ∷ []))
 lists-once xs e d none =
     subst Distinct (sym (map-append (λ (x : UsedEdges). x.vertex) xs (e ∷ [])))
     (Distinct-push (map (λ x. x.vertex) xs) e.vertex d (member-lists e.vertex xs ∙ none))
 
+-- with one more core number of a vertex that had none kept, no core number is kept twice
 places-once : (xs : List UsedPlace) (p : UsedPlace) → Distinct (map (λ x. x.vertex) xs) → is_some (core_in p.vertex xs) ≡ false
     → Distinct (map (λ x. x.vertex) (xs ++ p ∷ []))
 places-once xs p d none =
     subst Distinct (sym (map-append (λ (x : UsedPlace). x.vertex) xs (p ∷ [])))
     (Distinct-push (map (λ x. x.vertex) xs) p.vertex d (member-places p.vertex xs ∙ none))
 
+-- where a place has no list, it is 0
 list-zero : (xs : List UsedEdges) (m : ℕ) → is_some (list_at xs m) ≡ false → m ≡ 0
 list-zero xs zero h = refl
 list-zero xs (suc i) h = absurd (true≢false h)
 
+-- where a place has no core number, it is 0
 core-zero : (xs : List UsedPlace) (m : ℕ) → is_some (core_at xs m) ≡ false → m ≡ 0
 core-zero xs zero h = refl
 core-zero xs (suc i) h = absurd (true≢false h)
 
--- every vertex whose list, or core number, was kept is one of those below
+-- every vertex whose list was kept is a number below that of all vertices
 list-vertices-below : (n : ℕ) (xs : List UsedEdges) → All (λ e. e.vertex < n) xs → (w : ℕ) → member w (map (λ e. e.vertex) xs) ≡ true → w < n
 list-vertices-below n [] h w m = absurd (false≢true m)
 list-vertices-below n (x ∷ xs) h w m = elim (or_cases (eqb w x.vertex) (member w (map (λ e. e.vertex) xs)) m) [
@@ -97,6 +107,7 @@ list-vertices-below n (x ∷ xs) h w m = elim (or_cases (eqb w x.vertex) (member
   | inr k ↦ list-vertices-below n xs (λ i d l. h (suc i) d (omega arith)) w k
 ]
 
+-- every vertex whose core number was kept is a number below that of all vertices
 place-vertices-below : (n : ℕ) (xs : List UsedPlace) → All (λ p. p.vertex < n) xs → (w : ℕ) → member w (map (λ p. p.vertex) xs) ≡ true → w < n
 place-vertices-below n [] h w m = absurd (false≢true m)
 place-vertices-below n (x ∷ xs) h w m = elim (or_cases (eqb w x.vertex) (member w (map (λ p. p.vertex) xs)) m) [
@@ -193,20 +204,23 @@ module _ (m : Memory) (listed placed : List ℕ) (is : Marks m listed placed) wh
     are_lists = is.are_lists;
   }
 
-  -- What a mark says: 0 that nothing was kept, and else at which place it stands.
+  -- What a mark says: 0 that no list was kept, and else at which place it stands.
   pub list-none : (w : ℕ) → w < m.size → get_or listed w 0 ≡ 0 → list_in w m.kept.edges ≡ None
   list-none w l e = sym (is.lists w l) ∙ ap (list_at m.kept.edges) e
 
+  -- 0 says that no core number was kept
   pub core-none : (w : ℕ) → w < m.size → get_or placed w 0 ≡ 0 → core_in w m.kept.places ≡ None
   core-none w l e = sym (is.places w l) ∙ ap (core_at m.kept.places) e
 
+  -- another mark says at which place the list stands
   pub list-some : (w i : ℕ) → w < m.size → get_or listed w 0 ≡ i + 1 → list_in w m.kept.edges ≡ Some (get_or m.kept.edges i no_list).neighbours
   list-some w i l e = sym (is.lists w l) ∙ list_at-suc m.kept.edges i (get_or listed w 0) (omega (arith, e))
 
+  -- another mark says at which place the core number stands
   pub core-some : (w i : ℕ) → w < m.size → get_or placed w 0 ≡ i + 1 → core_in w m.kept.places ≡ Some (get_or m.kept.places i no_place).core
   core-some w i l e = sym (is.places w l) ∙ core_at-suc m.kept.places i (get_or placed w 0) (omega (arith, e))
 
-  -- and all marks go
+  -- all marks of lists go
   pub lists-clear : (now : List ℕ) → length now ≡ length listed → ((w : ℕ) → get_or now w 0 ≡ cond (is_some (list_in w m.kept.edges)) 0 (get_or listed w 0))
       → AreClear m.size now
   lists-clear now long gone = record {
@@ -218,6 +232,7 @@ module _ (m : Memory) (listed placed : List ℕ) (is : Marks m listed placed) wh
     ];
   }
 
+  -- all marks of core numbers go
   pub places-clear : (now : List ℕ) → length now ≡ length placed → ((w : ℕ) → get_or now w 0 ≡ cond (is_some (core_in w m.kept.places)) 0 (get_or placed w 0))
       → AreClear m.size now
   places-clear now long gone = record {
@@ -229,12 +244,13 @@ module _ (m : Memory) (listed placed : List ℕ) (is : Marks m listed placed) wh
     ];
   }
 
-  -- No more was kept than there are vertices.
+  -- No more lists were kept than there are vertices.
   pub few-lists : length m.kept.edges ≤ m.size
   few-lists =
       let bound = below_bound m.size (map (λ e. e.vertex) m.kept.edges) is.lists_once (list-vertices-below m.size m.kept.edges is.lists_below) in
       omega (arith, bound, length-map m.kept.edges (λ (e : UsedEdges). e.vertex))
 
+  -- no more core numbers were kept than there are vertices
   pub few-places : length m.kept.places ≤ m.size
   few-places =
       let bound = below_bound m.size (map (λ p. p.vertex) m.kept.places) is.places_once (place-vertices-below m.size m.kept.places is.places_below) in
@@ -260,6 +276,7 @@ marked-list m seen listed placed e mark edges same is here none list more size =
     })) (set listed e.vertex mark) placed)
     (sym more) now)
 
+-- so it is too where the longer list of core numbers is the one that a push made
 pub marked-place : (m seen : Memory) (listed placed : List ℕ) (p : UsedPlace) (mark : ℕ) (places : List UsedPlace) → m ≡ seen → Marks m listed placed
     → p.vertex < seen.size → has_core seen.kept p.vertex ≡ false → places ≡ m.kept.places ++ p ∷ [] → mark ≡ length places
     → Marks (keeping m.size (record { edges = m.kept.edges; places = places; orders = m.kept.orders })) listed (set placed p.vertex mark)
@@ -272,7 +289,7 @@ marked-place m seen listed placed p mark places same is here none more size =
     Marks (keeping m.size (record { edges = m.kept.edges; places = ps; orders = m.kept.orders })) listed (set placed p.vertex mark))
     (sym more) now
 
--- A list more, or a core number more, can still be counted.
+-- A list more can still be counted.
 pub few-with-list : (m seen : Memory) (listed placed : List ℕ) (e : UsedEdges) → m ≡ seen → Marks m listed placed → e.vertex < seen.size
     → has_list seen.kept e.vertex ≡ false → IsListOf seen.size e.vertex e.neighbours → length (m.kept.edges ++ e ∷ []) ≤ m.size
 few-with-list m seen listed placed e same is here none list =
@@ -280,6 +297,7 @@ few-with-list m seen listed placed e same is here none list =
     (mark-list m listed placed is e (length (m.kept.edges ++ e ∷ [])) (omega (arith, ap (λ (x : Memory). x.size) same, here))
     (ap (λ (x : Memory). has_list x.kept e.vertex) same ∙ none) (subst (λ (x : Memory). IsListOf x.size e.vertex e.neighbours) (sym same) list) refl)
 
+-- a core number more can still be counted
 pub few-with-place : (m seen : Memory) (listed placed : List ℕ) (p : UsedPlace) → m ≡ seen → Marks m listed placed → p.vertex < seen.size
     → has_core seen.kept p.vertex ≡ false → length (m.kept.places ++ p ∷ []) ≤ m.size
 few-with-place m seen listed placed p same is here none =
@@ -304,15 +322,17 @@ no-marks size listed placed l p = record {
   are_lists = no-lists size;
 }
 
+-- a second alternative that holds is enough
 or-right : (b : Bool) → (b || true) ≡ true
 or-right true = refl
 or-right false = refl
 
+-- a second alternative that fails changes nothing
 or-none : (b : Bool) → (b || false) ≡ b
 or-none true = refl
 or-none false = refl
 
--- a mark less
+-- with one more of the lists' marks gone, those of the first lists are 0 and the others as before
 pub unmark-list : (marks old : List ℕ) (xs : List UsedEdges) (i : ℕ) (e : UsedEdges) → i < length xs → e ≡ get_or xs i e → e.vertex < length marks
     → ((w : ℕ) → get_or marks w 0 ≡ cond (is_some (list_in w (take i xs))) 0 (get_or old w 0)) → (w : ℕ)
     → get_or (set marks e.vertex 0) w 0 ≡ cond (is_some (list_in w (take (i + 1) xs))) 0 (get_or old w 0)
@@ -328,6 +348,7 @@ unmark-list marks old xs i e l is within was w =
           ∙ (ap (λ b. is_some (list_in w (take i xs)) || b) (ne_eqb w e.vertex other) ∙ or-none (is_some (list_in w (take i xs)))))))
     ]
 
+-- with one more of the core numbers' marks gone, those of the first are 0 and the others as before
 pub unmark-place : (marks old : List ℕ) (xs : List UsedPlace) (i : ℕ) (p : UsedPlace) → i < length xs → p ≡ get_or xs i p → p.vertex < length marks
     → ((w : ℕ) → get_or marks w 0 ≡ cond (is_some (core_in w (take i xs))) 0 (get_or old w 0)) → (w : ℕ)
     → get_or (set marks p.vertex 0) w 0 ≡ cond (is_some (core_in w (take (i + 1) xs))) 0 (get_or old w 0)

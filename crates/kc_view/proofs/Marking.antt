@@ -23,6 +23,7 @@ use Rattle.kc_view.specs.Plain.{KeepsAnswers}
 use Rattle.kc_graph.proofs.NeighbourLists.{neighbours_are}
 use Rattle.kc_view.proofs.Keeping.{still_has_list, still_has_core, list-true}
 
+-- one list more where none was found: it is found for its vertex, and none for another
 pub list_in-push : (w : ℕ) (xs : List UsedEdges) (e : UsedEdges) → is_some (list_in w xs) ≡ false
     → list_in w (xs ++ e ∷ []) ≡ cond (eqb w e.vertex) (Some e.neighbours) None
 list_in-push w [] e h = refl
@@ -33,6 +34,7 @@ list_in-push w (x ∷ xs) e h =
       | false ↦ λ k. list_in-push w xs e k
     ] h
 
+-- one core number more where none was found: it is found for its vertex, and none for another
 pub core_in-push : (w : ℕ) (xs : List UsedPlace) (p : UsedPlace) → is_some (core_in w xs) ≡ false
     → core_in w (xs ++ p ∷ []) ≡ cond (eqb w p.vertex) (Some p.core) None
 core_in-push w [] p h = refl
@@ -43,10 +45,12 @@ core_in-push w (x ∷ xs) p h =
       | false ↦ λ k. core_in-push w xs p k
     ] h
 
+-- a list is there where the test for it passes
 some-list : (b : Bool) (ws : List ℕ) → is_some (cond b (Some ws) None) ≡ b
 some-list true ws = refl
 some-list false ws = refl
 
+-- a core number is there where the test for it passes
 some-core : (b : Bool) (k : ℕ) → is_some (cond b (Some k) None) ≡ b
 some-core true k = refl
 some-core false k = refl
@@ -63,13 +67,14 @@ Further-order a o = record { edges = ([], sym (append-nil a.edges)); places = ([
 pub Further-place : (a : Answers) (p : UsedPlace) → Further a (with_place a p)
 Further-place a p = record { edges = ([], sym (append-nil a.edges)); places = (p ∷ [], refl); orders = ([], sym (append-nil a.orders)) }
 
--- whether a list or a core number was told, with one more
+-- whether a list was told, with one more
 pub has_list-more : (a : Answers) (e : UsedEdges) (w : ℕ) → has_list (with_list a e) w ≡ (has_list a w || eqb w e.vertex)
 has_list-more a e w = elim (cases_Bool (has_list a w)) [
   | inl t ↦ still_has_list a (with_list a e) w (Further-list a e) t ∙ sym (ap (λ b. b || eqb w e.vertex) t)
   | inr f ↦ ap is_some (list_in-push w a.edges e f) ∙ (some-list (eqb w e.vertex) e.neighbours ∙ sym (ap (λ b. b || eqb w e.vertex) f))
 ]
 
+-- whether a core number was told, with one more
 pub has_core-more : (a : Answers) (p : UsedPlace) (w : ℕ) → has_core (with_place a p) w ≡ (has_core a w || eqb w p.vertex)
 has_core-more a p w = elim (cases_Bool (has_core a w)) [
   | inl t ↦ still_has_core a (with_place a p) w (Further-place a p) t ∙ sym (ap (λ b. b || eqb w p.vertex) t)
@@ -139,7 +144,7 @@ keeps_order s a listed placed o k lx ly is = record {
   places = k.places;
 }
 
--- what a first call tells
+-- a first call tells a list
 pub tells_list : (a : Answers) (e : UsedEdges) → has_list a e.vertex ≡ false → TellsList a (with_list a e) e.vertex
 tells_list a e f = record {
   told = has_list-more a e e.vertex ∙ or_right (has_list a e.vertex) (eqb e.vertex e.vertex) (eq-eqb e.vertex e.vertex refl);
@@ -147,6 +152,7 @@ tells_list a e f = record {
   now = λ _. (e, refl, refl);
 }
 
+-- a first call tells a core number
 pub tells_core : (a : Answers) (p : UsedPlace) → has_core a p.vertex ≡ false → TellsCore a (with_place a p) p.vertex
 tells_core a p f = record {
   told = has_core-more a p p.vertex ∙ or_right (has_core a p.vertex) (eqb p.vertex p.vertex) (eq-eqb p.vertex p.vertex refl);
@@ -154,19 +160,21 @@ tells_core a p f = record {
   now = λ _. (p, refl, refl);
 }
 
--- and a later one
+-- a later call tells the list that was told before
 pub tells_list_again : (a : Answers) (w : ℕ) → has_list a w ≡ true → TellsList a a w
 tells_list_again a w t = record { told = t; before = λ _. refl; now = λ f. absurd (true≢false (sym t ∙ f)) }
 
+-- a later call tells the core number that was told before
 pub tells_core_again : (a : Answers) (w : ℕ) → has_core a w ≡ true → TellsCore a a w
 tells_core_again a w t = record { told = t; before = λ _. refl; now = λ f. absurd (true≢false (sym t ∙ f)) }
 
--- the list that was told now
+-- the list of a vertex that was told now is the one told
 pub list_of-now : (a : Answers) (e : UsedEdges) → has_list a e.vertex ≡ false → list_of (with_list a e) e.vertex ≡ e.neighbours
 list_of-now a e f =
     ap (λ o. unwrap_or o []) (list_in-push e.vertex a.edges e f)
     ∙ ap (λ b. unwrap_or (cond b (Some e.neighbours) None) []) (eq-eqb e.vertex e.vertex refl)
 
+-- the core number of a vertex that was told now is the one told
 pub core_of-now : (a : Answers) (p : UsedPlace) → has_core a p.vertex ≡ false → core_of (with_place a p) p.vertex ≡ p.core
 core_of-now a p f =
     ap (λ o. unwrap_or o 0) (core_in-push p.vertex a.places p f)
@@ -176,14 +184,16 @@ core_of-now a p f =
 pub IsListOf-neighbours : (s : Ranked) (w : ℕ) (ws : List ℕ) → AreNeighbours s.graph w ws → IsListOf s.graph.size w ws
 IsListOf-neighbours s w ws near = record { ascends = near.ascending; within = near.within; others = near.exact w ∙ adjacent-self s.graph w }
 
+-- a vertex has no more neighbours than there are vertices
 pub few_neighbours : (s : Ranked) (w : ℕ) (ws : List ℕ) → AreNeighbours s.graph w ws → length ws ≤ s.graph.size
 few_neighbours s w ws near = below_bound s.graph.size ws (neighbours-distinct s.graph w ws near) near.within
 
--- what the mark says
+-- the mark says whether the list was told
 pub mark_is_list : (s : Ranked) (a : Answers) (listed placed : List Bool) (w : ℕ) (b : Bool) → KeepsAnswers s a listed placed
     → w < s.graph.size → b ≡ get_or listed w b → b ≡ has_list a w
 mark_is_list s a listed placed w b k l is = get_or_read listed w b (omega (arith, k.one_each, l)) is false ∙ k.lists w
 
+-- the mark says whether the core number was told
 pub mark_is_core : (s : Ranked) (a : Answers) (listed placed : List Bool) (w : ℕ) (b : Bool) → KeepsAnswers s a listed placed
     → w < s.graph.size → b ≡ get_or placed w b → b ≡ has_core a w
 mark_is_core s a listed placed w b k l is = get_or_read placed w b (omega (arith, k.one_each_too, l)) is false ∙ k.places w
@@ -203,6 +213,7 @@ unmark-more marks v old gone gone' l was is w = elim (cases_eq w v) [
       ∙ (was w ∙ sym (ap (λ b. old w && not b) (is w ∙ (ap (λ b. gone w || b) (ne_eqb w v ne) ∙ or-false (gone w)))))
 ]
 
+-- with one more of the lists' marks gone, those of the first lists are gone and the others as before
 pub unmark_list : (marks : List Bool) (old : ℕ → Bool) (xs : List UsedEdges) (i : ℕ) (e : UsedEdges) → i < length xs → e ≡ get_or xs i e
     → e.vertex < length marks
     → ((w : ℕ) → get_or marks w false ≡ (old w && not (is_some (list_in w (take i xs))))) → (w : ℕ)
@@ -212,6 +223,7 @@ unmark_list marks old xs i e l is v was =
     unmark-more marks e.vertex old (λ w. is_some (list_in w (take i xs))) (λ w. is_some (list_in w (take (i + 1) xs))) v was
     (λ w. ap (λ (ys : List UsedEdges). is_some (list_in w ys)) next ∙ has_list-more (record { edges = take i xs; places = []; orders = [] }) e w)
 
+-- with one more of the core numbers' marks gone, those of the first are gone and the others as before
 pub unmark_place : (marks : List Bool) (old : ℕ → Bool) (xs : List UsedPlace) (i : ℕ) (p : UsedPlace) → i < length xs → p ≡ get_or xs i p
     → p.vertex < length marks
     → ((w : ℕ) → get_or marks w false ≡ (old w && not (is_some (core_in w (take i xs))))) → (w : ℕ)

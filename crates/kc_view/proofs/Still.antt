@@ -43,6 +43,7 @@ kept-holds s h z l = still-holds s s.graph h refl z l (few-ranked s.graph s.core
 abbrev pub number_then : List ℕ → List ℕ → ℕ → ℕ → ℕ
 number_then core moved k y = cond (member y moved) k (get_or core y 0)
 
+-- so many has each vertex after those of `moved` got the number `k`
 pub number_then-is : (s : Ranked) (moved : List ℕ) (k y : ℕ) → IsCertified s → y < s.graph.size
     → get_or (renumbered moved k s.core) y 0 ≡ number_then s.core moved k y
 number_then-is s moved k y h l = elim (cases_Bool (member y moved)) [
