@@ -13,7 +13,7 @@ use Rattle.kc_list.proofs.Counts.{covers, runs_short, size-agree}
 use Rattle.kc_list.proofs.Toplabels.{item_runs}
 use Rattle.kc_list.specs.declared.limits.TheConstants.{HALF_ITEMS}
 
--- a group with no items is the group of none
+-- where a group has size 0, no item is in it
 pub size_zero : (f : ℕ → ℕ) (h : ℕ) (xs : List ℕ) (y : ℕ) → size_of f h xs ≡ 0 → member y xs ≡ true → f y ≡ h → ⊥
 size_zero f h [] y e m is = false≢true m
 size_zero f h (x ∷ xs) y e m is = elim (member-cases y x xs m) [
@@ -21,6 +21,7 @@ size_zero f h (x ∷ xs) y e m is = elim (member-cases y x xs m) [
   | inr k ↦ size_zero f h xs y (omega arith) k is
 ]
 
+-- a group whose size is not 0 has an item
 used_group : (f : ℕ → ℕ) (h : ℕ) (xs : List ℕ) → (size_of f h xs ≡ 0 → ⊥) → (y : ℕ) × (member y xs ≡ true) × (f y ≡ h)
 used_group f h [] ne = absurd (ne refl)
 used_group f h (x ∷ xs) ne = elim (cases_eq (f x) h) [
@@ -31,11 +32,12 @@ used_group f h (x ∷ xs) ne = elim (cases_eq (f x) h) [
       (r.0, member-tail r.0 x xs r.1, r.2)
 ]
 
+-- a group that is kept with size 0 is free
 pub free_group : (n : ℕ) (ws list sizes : List ℕ) (h : ℕ) → Tallied n ws list sizes → 0 < h → h ≤ n + 1 → get_or sizes h 0 ≡ 0 → Free n (labels n ws) list h
 free_group n ws list sizes h t low high z =
     record { low = low; high = high; unused = λ y m e. size_zero (labels n ws).group h list y (sym (t.counts h low high) ∙ z) m e }
 
--- of n + 1 numbers one is free
+-- of the groups from 1 to k one has size 0, or none has
 search_free : (sizes : List ℕ) (k : ℕ) → ((h : ℕ) × (0 < h) × (h ≤ k) × (get_or sizes h 0 ≡ 0)) ⊎ ((h : ℕ) → 0 < h → h ≤ k → get_or sizes h 0 ≢ 0)
 search_free sizes zero = inr (λ h low high. absurd (omega arith))
 search_free sizes (suc k) = elim (search_free sizes k) [
@@ -46,6 +48,7 @@ search_free sizes (suc k) = elim (search_free sizes k) [
   ]
 ]
 
+-- of the n + 1 groups of a list one has size 0
 pub spare_group : (n : ℕ) (ws list sizes : List ℕ) → Sound n ws list → Tallied n ws list sizes → (h : ℕ) × (0 < h) × (h < length sizes) × (get_or sizes h 0 ≡ 0)
 spare_group n ws list sizes s t = elim (search_free sizes (n + 1)) [
   | inl r ↦ (r.0, r.1, omega (arith, r.2, t.length_is), r.3)
@@ -67,6 +70,7 @@ tally_agree n ws vs list sizes f t =
           t.most;
     }
 
+-- where the words of items stay, an item keeps its group
 pub items_agree : (n : ℕ) (ws vs list : List ℕ) (y : ℕ) → Sound n ws list → ((w : ℕ) → w ≤ n → get_or vs w 0 ≡ get_or ws w 0) → member y list ≡ true
     → (labels n vs).group y ≡ (labels n ws).group y
 items_agree n ws vs list y s f m = let below : y < n = (s.inside y m).below in ap (λ z. (item_of z).group) (f (1 + y) (omega arith))
@@ -114,6 +118,7 @@ once_split n ws qs vs list h items unused first second only s w = elim (cases_lt
   ]
 ]
 
+-- after a split, p has a label after it or the items of its group have their old words
 pub keeps_split : (n : ℕ) (ws qs vs list : List ℕ) (g h p : ℕ) → ((labels n vs).group p ≡ g) ⊎ ((labels n vs).group p ≡ h)
     → ((labels n vs).group p ≡ h → HasGap n vs list p) → (g ≡ h → ⊥) → 0 < h
     → ((w : ℕ) → w ≢ n + h → NotOf (labels n vs) list h w → get_or vs w 0 ≡ get_or qs w 0) → ((w : ℕ) → w ≤ n → get_or qs w 0 ≡ get_or ws w 0)

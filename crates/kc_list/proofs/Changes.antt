@@ -16,7 +16,7 @@ use Rattle.kc_list.proofs.Counts.{segment_size}
 use Rattle.kc_words.specs.declared.layout.TheConstants.{BOTTOM_ROOM}
 use Rattle.kc_list.specs.declared.limits.TheConstants.{GROUP_ITEMS, HALF_ITEMS, HALF_STEP}
 
--- the words of some items
+-- a word among those of some items is that of one of them
 pub member-words : (w : ℕ) (m : List ℕ) → member w (map (λ y. 1 + y) m) ≡ true → (y : ℕ) × (w ≡ 1 + y) × (member y m ≡ true)
 member-words w [] k = absurd (false≢true k)
 member-words w (x ∷ m) k = elim (member-cases w (1 + x) (map (λ y. 1 + y) m) k) [
@@ -24,10 +24,12 @@ member-words w (x ∷ m) k = elim (member-cases w (1 + x) (map (λ y. 1 + y) m) 
   | inr k' ↦ let r = member-words w m k' in (r.0, r.1, member-tail r.0 x m r.2)
 ]
 
+-- a word of no item of a group is none of the words of the group's members
 pub not_of : (a : Labels) (list : List ℕ) (g : ℕ) (m : List ℕ) (w : ℕ) → Segment a list g m → NotOf a list g w → member w (map (λ y. 1 + y) m) ≡ false
 not_of a list g m w seg f = false_from_ne_true (member w (map (λ y. 1 + y) m))
     (λ k. let r = member-words w m k in f r.0 (segment_in a list g m seg r.0 r.2) (seg.members r.0 r.2) r.1)
 
+-- the word of an item that is no member is none of the members' words
 pub not_word : (y : ℕ) (m : List ℕ) → member y m ≡ false → member (1 + y) (map (λ z. 1 + z) m) ≡ false
 not_word y m o = false_from_ne_true (member (1 + y) (map (λ z. 1 + z) m)) (λ k. let r = member-words (1 + y) m k in let e : y ≡ r.0 = omega (arith, r.1) in
     true≢false (sym r.2 ∙ (ap (λ z. member z m) (sym e) ∙ o)))
@@ -46,7 +48,7 @@ size-agree_at f h g [] e = refl
 size-agree_at f h g (x ∷ xs) e =
     omega (arith, ap {B = ℕ} (λ b. cond b 1 0) (e x (member-head x xs)), size-agree_at f h g xs (λ y k. e y (member-tail y x xs k)))
 
--- a full group is cut in two
+-- a full group is cut in two: what the two have, and what others keep
 pub halved : (n : ℕ) (ws vs list : List ℕ) (g h p : ℕ) (m : List ℕ) → Sound n ws list → Sound n vs list → Segment (labels n ws) list g m
     → length m ≡ GROUP_ITEMS → Free n (labels n ws) list h → Segment (labels n vs) list g (take HALF_ITEMS m)
     → Segment (labels n vs) list h (drop HALF_ITEMS m) → map (labels n vs).bottom (drop HALF_ITEMS m) ≡ evens HALF_ITEMS HALF_STEP 0

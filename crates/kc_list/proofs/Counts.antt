@@ -14,11 +14,12 @@ use Rattle.kc_words.specs.declared.layout.TheConstants.{TOP_ROOM}
 use Rattle.kc_list.specs.declared.limits.TheConstants.{GROUP_ITEMS, HALF_ITEMS}
 use Rattle.kc_words.proofs.Ordering.{Follows-all, InOrder-tail}
 
--- the size of a group is that of its segment
+-- a group that no item of a list is in has size 0
 size-none : (f : ℕ → ℕ) (g : ℕ) (xs : List ℕ) → ((y : ℕ) → member y xs ≡ true → f y ≡ g → ⊥) → size_of f g xs ≡ 0
 size-none f g [] h = refl
 size-none f g (x ∷ xs) h = rw (ne_eqb (f x) g (h x (member-head x xs))) (omega (arith, size-none f g xs (λ y k. h y (member-tail y x xs k))))
 
+-- the size of a group is the length of its segment
 pub segment_size : (a : Labels) (list : List ℕ) (g : ℕ) (m : List ℕ) → Segment a list g m → size_of a.group g list ≡ length m
 segment_size a list g m seg =
     omega (
@@ -31,7 +32,7 @@ segment_size a list g m seg =
       size-none a.group g seg.back (λ y k. seg.others y (inr k)),
     )
 
--- how the sizes change as an item moves
+-- without x, the group of x has one item less, and each other as many
 pub size-without : (f : ℕ → ℕ) (g x : ℕ) (xs : List ℕ) → Distinct xs → member x xs ≡ true → size_of f g (without x xs) + cond (eqb (f x) g) 1 0 ≡ size_of f g xs
 size-without f g x [] d m = absurd (false≢true m)
 size-without f g x (y ∷ ys) d m =
@@ -45,6 +46,7 @@ size-without f g x (y ∷ ys) d m =
           rw t (omega (arith, size-without f g x ys d.1 m'))
     ]
 
+-- with x put right after p, the group of x has one item more, and each other as many
 pub size-right_after : (f : ℕ → ℕ) (g x p : ℕ) (xs : List ℕ) → Distinct xs → member p xs ≡ true
     → size_of f g (right_after x p xs) ≡ size_of f g xs + cond (eqb (f x) g) 1 0
 size-right_after f g x p [] d m = absurd (false≢true m)
@@ -56,6 +58,7 @@ size-right_after f g x p (y ∷ ys) d m =
           rw t (omega (arith, size-right_after f g x p ys d.1 m'))
     ]
 
+-- where the items of a list keep their groups, a group keeps its size
 pub size-agree : (f h : ℕ → ℕ) (g : ℕ) (xs : List ℕ) → ((y : ℕ) → member y xs ≡ true → h y ≡ f y) → size_of h g xs ≡ size_of f g xs
 size-agree f h g [] e = refl
 size-agree f h g (x ∷ xs) e = omega (
@@ -64,11 +67,12 @@ size-agree f h g (x ∷ xs) e = omega (
   size-agree f h g xs (λ y k. e y (member-tail y x xs k)),
 )
 
--- a list that has all of 1 to k has at least k
+-- a list without x is no longer than the list
 no_longer : (x : ℕ) (xs : List ℕ) → length (without x xs) ≤ length xs
 no_longer x [] = omega arith
 no_longer x (y ∷ ys) = elim (cases_Bool (eqb x y)) [ inl t ↦ rw t (omega (arith, no_longer x ys)) | inr t ↦ rw t (omega (arith, no_longer x ys)) ]
 
+-- a list without a member is shorter than the list
 shorter : (x : ℕ) (xs : List ℕ) → member x xs ≡ true → suc (length (without x xs)) ≤ length xs
 shorter x [] m = absurd (false≢true m)
 shorter x (y ∷ ys) m =
@@ -77,21 +81,25 @@ shorter x (y ∷ ys) m =
       | inr t ↦ rw t (omega (arith, shorter x ys (elim (member-cases x y ys m) [ inl e ↦ absurd (eqb-false x y t e) | inr k ↦ k ])))
     ]
 
+-- a list that has each of 1 to k has length k at least
 pub covers : (k : ℕ) (xs : List ℕ) → ((h : ℕ) → 0 < h → h ≤ k → member h xs ≡ true) → k ≤ length xs
 covers zero xs f = omega arith
 covers (suc k) xs f =
     let m = f (suc k) (omega arith) (omega arith) in
     omega (arith, shorter (suc k) xs m, covers k (without (suc k) xs) (λ h p q. without-member h (suc k) xs (f h p (omega arith)) (omega arith)))
 
+-- a list has no more groups than items
 pub runs_short : (f : ℕ → ℕ) (xs : List ℕ) → length (runs f xs) ≤ length xs
 runs_short f [] = omega arith
 runs_short f (x ∷ []) = omega arith
 runs_short f (x ∷ y ∷ ys) = let rest : length (runs f (y ∷ ys)) ≤ suc (length ys) = runs_short f (y ∷ ys) in
     elim (cases_Bool (eqb (f x) (f y))) [ inl t ↦ rw t (omega (arith, rest)) | inr t ↦ rw t (omega (arith, rest)) ]
 
+-- two fronts, a last and a back are one list, however they are joined
 regroup : (f m : List ℕ) (l : ℕ) (b : List ℕ) → f ++ ((m ++ l ∷ []) ++ b) ≡ (f ++ m) ++ l ∷ b
 regroup f m l b = simp append_assoc
 
+-- a label below that of the first of some items in order is below those of all of them
 above_back : (n : ℕ) (a : Labels) (t z : ℕ) (back : List ℕ) → InOrder (Before a) back → ((y : ℕ) → member y back ≡ true → y < n)
     → t < top_end n a (head_or n back) → member z back ≡ true → t < a.top (a.group z)
 above_back n a t z [] h f lt m = absurd (false≢true m)
@@ -102,6 +110,7 @@ above_back n a t z (q ∷ back) h f lt m =
       | inr k ↦ elim (Follows-all (Before a) (Before-then a) q z back h k) [ inl e ↦ omega (arith, low, ap a.top e.0) | inr u ↦ omega (arith, low, u) ]
     ]
 
+-- a label below the end of the gap above a group is below those of all groups after it
 pub top_gap : (n : ℕ) (ws list : List ℕ) (g last t : ℕ) (m : List ℕ) → Sound n ws list → Segment (labels n ws) list g (m ++ last ∷ [])
     → t < top_end n (labels n ws) (next_of n last list) → (z : ℕ) → member z list ≡ true → (labels n ws).top g < (labels n ws).top ((labels n ws).group z)
     → t < (labels n ws).top ((labels n ws).group z)
@@ -125,11 +134,13 @@ top_gap n ws list g last t m s seg lt z z-in above =
       ]
     ]
 
+-- what follows x, where it is not the end, is in the list and has what an item of it has
 pub next_in : (n : ℕ) (ws list : List ℕ) (x q : ℕ) → Sound n ws list → q ≡ next_of n x list → (q ≡ n → ⊥) → (member q list ≡ true) × Placed n (labels n ws) q
 next_in n ws list x q s e ne =
     let m : member q list ≡ true = elim (next_of-in n x list) [ inl z ↦ absurd (ne (e ∙ z)) | inr k ↦ ap (λ w. member w list) e ∙ k ] in
     (m, s.inside q m)
 
+-- where labels are two below those of later groups, one fits above a group, seen from what is behind it
 top_room_first : (n : ℕ) (a : Labels) (g last : ℕ) (back : List ℕ) → a.group last ≡ g → InOrder (Before a) (last ∷ back)
     → ((y : ℕ) → member y back ≡ true → (a.group y ≡ g → ⊥)) → ((y : ℕ) → member y back ≡ true → y < n)
     → ((y : ℕ) → member y back ≡ true → a.top g < a.top (a.group y) → a.top g + 2 ≤ a.top (a.group y)) → a.top g + 2 ≤ TOP_ROOM
@@ -141,6 +152,7 @@ top_room_first n a g last (q ∷ back) e h f l k z =
     let up : a.top g < a.top (a.group q) = elim h.0 [ inl t ↦ absurd (f q q-in (sym t.0 ∙ e)) | inr u ↦ omega (arith, u, ap a.top e) ] in
     rw (ne_eqb q n (let c = b in omega arith)) (k q q-in up)
 
+-- where labels are two below those of later groups, one fits above a group, seen from its last member
 pub top_room : (n : ℕ) (ws list : List ℕ) (g last : ℕ) (m : List ℕ) → Sound n ws list → Segment (labels n ws) list g (m ++ last ∷ [])
     → ((z : ℕ) → member z list ≡ true → (labels n ws).top g < (labels n ws).top ((labels n ws).group z)
     → (labels n ws).top g + 2 ≤ (labels n ws).top ((labels n ws).group z)) → (labels n ws).top g + 2 ≤ TOP_ROOM
@@ -164,6 +176,7 @@ pub record Full (into : List ℕ) (count : ℕ) : Type 0 where
   pub last : into ≡ take (GROUP_ITEMS - 1) into ++ get_or into (GROUP_ITEMS - 1) 0 ∷ []
   pub halves : into ≡ take HALF_ITEMS into ++ drop HALF_ITEMS into
 
+-- an array with as many members as a full group is whole, and has a last and two halves
 pub full : (into : List ℕ) (count : ℕ) → length into ≡ GROUP_ITEMS → count ≤ length into → length (take count into) ≡ GROUP_ITEMS → Full into count
 full into count e l k = record {
   whole = take_all count into (omega (arith, length-take-le count into l));
@@ -187,6 +200,7 @@ pub record Halves (n : ℕ) (a : Labels) (list : List ℕ) (g : ℕ) (m : List �
   pub low_length : length (take HALF_ITEMS m) ≡ HALF_ITEMS
   pub up_length : length (take (length m - HALF_ITEMS) (drop HALF_ITEMS m)) ≡ HALF_ITEMS
 
+-- a full group has a last member, a lower half and an upper half
 pub halves : (n : ℕ) (a : Labels) (list : List ℕ) (g : ℕ) (m : List ℕ) → Segment a list g m → length m ≡ GROUP_ITEMS → Halves n a list g m
 halves n a list g m seg e =
     let last : m ≡ take (GROUP_ITEMS - 1) m ++ get_or m (GROUP_ITEMS - 1) 0 ∷ [] = sym (take_all GROUP_ITEMS m (omega arith))
@@ -202,6 +216,7 @@ halves n a list g m seg e =
       up_length = ap length (take_rest m HALF_ITEMS) ∙ (length-drop HALF_ITEMS m ∙ omega arith);
     }
 
+-- the gap above a group ends no higher than all labels of groups
 pub top_end_high : (n : ℕ) (ws list : List ℕ) (x : ℕ) → Sound n ws list → top_end n (labels n ws) (next_of n x list) ≤ TOP_ROOM
 top_end_high n ws list x s = elim (cases_eq (next_of n x list) n) [
   | inl e ↦ rw (eq-eqb (next_of n x list) n e) (omega arith)

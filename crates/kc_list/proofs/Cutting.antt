@@ -39,6 +39,7 @@ pub record Upway (a b : LabelledList) (g h : ℕ) (low ups : List ℕ) (i : ℕ)
   pub groups : b.groups ≡ a.groups
   pub halfway : Halfway a.links.size a.links.list a.sheet b.sheet g h low ups (evens (length ups) (BOTTOM_ROOM / (length ups + 1)) 0) i
 
+-- at first no upper member has moved
 pub upway-none : (a : LabelledList) (g h : ℕ) (low ups : List ℕ) → HaveMoved a.links a.sheet g h low ups (length ups) → Upway a a g h low ups (length ups)
 upway-none a g h low ups wait = record {
   links = refl;
@@ -46,6 +47,7 @@ upway-none a g h low ups wait = record {
   halfway = halfway-none a.links.size a.links.list a.sheet g h low ups (evens (length ups) (BOTTOM_ROOM / (length ups + 1)) 0) a.sound wait;
 }
 
+-- one upper member more has moved
 pub upway-more : (a b d : LabelledList) (g h : ℕ) (low ups : List ℕ) (i j : ℕ) → Upway a b g h low ups j → j ≡ i + 1
     → HaveMoved b.links d.sheet g h low ups i → StoresWord (1 + get_or ups i 0) b d → Upway a d g h low ups i
 upway-more a b d g h low ups i j way e moved stores = record {
@@ -77,6 +79,7 @@ stored_steps a d w stores low high =
     (ordered_from a.links.size d.sheet.words a.links.list (subst (λ (l : Chain). Sound l.size d.sheet.words l.list) stores.links d.sound))
     (raises_from a.sheet.words d.sheet.words w _ low high stores.stores.words stores.stores.version)
 
+-- a store adds one write
 pub stored_count : (p q : Paper) (w : ℕ) → Stores w p q → length q.writes ≡ length p.writes + 1
 stored_count p q w stores = ap length stores.writes ∙ length_push p.writes (record { word = w; value = get_or q.words w 0 })
 
@@ -93,6 +96,7 @@ split_done a b d g h low ups first moved links only =
       only = only-after (map (λ y. 1 + y) ups) a.sheet.words b.sheet.words d.sheet.words (a.links.size + h) _ first.stores.words only;
     }
 
+-- the store of the new group's label comes to the moves after it as one write more
 pub split_relabels : (a b d : LabelledList) (h most : ℕ) → 0 < h → StoresWord (a.links.size + h) a b → KeepsOrder a.links a.sheet b.sheet
     → ((w : ℕ) → b.links.size < w → get_or d.sheet.words w 0 ≡ get_or b.sheet.words w 0) → Relabels most b d → Relabels (most + 1) a d
 split_relabels a b d h most low first steps same then =

@@ -71,14 +71,14 @@ spread_above a d p spread p-in =
       high = spread.high (group_at a.links d.sheet p) here;
     }
 
--- and the items' words are as they were
+-- after a spread of all groups the items' words are as they were
 pub spread_keeps : (a d : LabelledList) → SpreadsTops a d → KeepsItems a d
 spread_keeps a d spread = record {
   items = λ w l. spread.only.same w (no_item_word a.links.size a.sheet.words a.links.list w a.sound l);
   unused = λ h f. spread.only.same (a.links.size + h) (no_free_word a.links.size a.sheet.words a.links.list h f);
 }
 
--- after it the group of p is still full, and the sizes are those of the groups
+-- the group of p is still full after a spread of all groups, and the sizes are those of the groups
 pub record Still (b : LabelledList) (p : ℕ) : Type 0 where
   pub full : IsFull b.links b.sheet p
   pub tallied : AreSizes b.links b.sheet b.groups
@@ -86,6 +86,7 @@ pub record Still (b : LabelledList) (p : ℕ) : Type 0 where
   pub size : get_or b.groups (group_at b.links b.sheet p) 0 ≡ GROUP_ITEMS
   pub high : group_at b.links b.sheet p ≤ b.links.size + 1
 
+-- where no items' words change and no group gets or loses an item, a full group is still full
 pub still : (a b : LabelledList) (p most : ℕ) → Relabels most a b → KeepsItems a b → IsFull a.links a.sheet p → AreSizes a.links a.sheet a.groups
     → Still b p
 still a b p most then kept full t =
@@ -135,7 +136,7 @@ divided a b d p g h most is first kept s low free two same sizes =
           (free.unused p s.full.p_in) low two.only items d-sound);
     }
 
--- and no word is written twice
+-- a spread of all groups and then a cut of a full group write no word twice
 pub divided_rewrites : (a b d : LabelledList) (p h few more : ℕ) → Relabels few a b → KeepsItems a b → AreSizes a.links a.sheet a.groups
     → 0 < h → h < length b.groups → get_or b.groups h 0 ≡ 0
     → Halved b.links.size b.sheet.words d.sheet.words b.links.list (group_at b.links b.sheet p) h p → Rewrites more b d → Rewrites (few + more) a d

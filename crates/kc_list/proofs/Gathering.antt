@@ -10,10 +10,12 @@ use Rattle.kc_list.specs.Places.{Before, Sound, Segment, First, size_of}
 use Rattle.kc_list.proofs.Order.{parts, Before-then}
 use Rattle.kc_words.proofs.Ordering.{Follows-all, InOrder-tail}
 
+-- a member of a list that ends with z is in what stands before it, or is z
 member-cases-end : (y : ℕ) (l : List ℕ) (z : ℕ) → member y (l ++ z ∷ []) ≡ true → (member y l ≡ true) ⊎ (y ≡ z)
 member-cases-end y l z m = elim (member-append y l (z ∷ []) m)
     [ inl k ↦ inl k | inr k ↦ elim (member-cases y z [] k) [ inl e ↦ inr e | inr none ↦ absurd (false≢true none) ] ]
 
+-- by a relation that goes on, what stands before y in a list in order is related to y
 pub all_before : (R : ℕ → ℕ → Type 0) → ((x y z : ℕ) → R x y → R y z → R x z) → (z y : ℕ) (l r : List ℕ) → InOrder R (l ++ y ∷ r) → member z l ≡ true → R z y
 all_before R t z y [] r h m = absurd (false≢true m)
 all_before R t z y (x ∷ l) r h m =
@@ -22,6 +24,7 @@ all_before R t z y (x ∷ l) r h m =
       | inr k ↦ all_before R t z y l r (InOrder-tail R x (l ++ y ∷ r) h) k
     ]
 
+-- an item of a group is its first where what stands right before it is of another group
 pub first_found : (n : ℕ) (ws list : List ℕ) (g x q : ℕ) → Sound n ws list → member x list ≡ true → (labels n ws).group x ≡ g → q ≡ prev_of n x list
     → ((q ≡ n → ⊥) → (labels n ws).group q ≡ g → ⊥) → First (labels n ws) list g x
 first_found n ws list g x q s m x-g q-is stop =
@@ -56,6 +59,7 @@ first_found n ws list g x q s m x-g q-is stop =
       ];
     }
 
+-- what stands right before an item is in the list, one place nearer its start
 pub back_facts : (n : ℕ) (ws list : List ℕ) (first before : ℕ) → Sound n ws list → member first list ≡ true → before ≡ prev_of n first list
     → (before ≡ n → ⊥) → (member before list ≡ true) × (before < n) × (suc (place_of before list) ≡ place_of first list)
 back_facts n ws list first before s m is ne =
@@ -72,18 +76,21 @@ pub record Collected (n : ℕ) (a : Labels) (list : List ℕ) (g x : ℕ) (m : L
   pub none : (y : ℕ) → member y front ≡ true → a.group y ≡ g → ⊥
   pub head : x ≡ head_or n rest
 
+-- the size of a group in two lists joined is the sum of its sizes in both
 pub size-append : (f : ℕ → ℕ) (g : ℕ) (xs ys : List ℕ) → size_of f g (xs ++ ys) ≡ size_of f g xs + size_of f g ys
 size-append f g [] ys = omega arith
 size-append f g (x ∷ xs) ys = omega (arith, size-append f g xs ys)
 
+-- where all items of a list are in one group, its size is the length of the list
 pub size-all : (f : ℕ → ℕ) (g : ℕ) (xs : List ℕ) → ((y : ℕ) → member y xs ≡ true → f y ≡ g) → size_of f g xs ≡ length xs
 size-all f g [] h = refl
 size-all f g (x ∷ xs) h = rw (eq-eqb (f x) g (h x (member-head x xs))) (omega (arith, size-all f g xs (λ y k. h y (member-tail y x xs k))))
 
+-- at the first item of a group nothing is collected yet
 pub collected-none : (n : ℕ) (a : Labels) (list : List ℕ) (g x : ℕ) → First a list g x → Collected n a list g x []
 collected-none n a list g x f = record { front = f.front; rest = x ∷ f.back; is = f.is; members = λ y k. absurd (false≢true k); none = f.none; head = refl }
 
--- one more
+-- one item more is collected, which is in the list; no more are collected than the group has
 pub record CollectStep (n : ℕ) (a : Labels) (list : List ℕ) (g x : ℕ) (m : List ℕ) : Type 0 where
   pub below : x < n
   pub x_in : member x list ≡ true
@@ -96,6 +103,7 @@ pub cons_rest : (n x : ℕ) (rest : List ℕ) → x ≡ head_or n rest → (x �
 cons_rest n x [] e ne = absurd (ne e)
 cons_rest n x (y ∷ r) e ne = (r, ap (λ z. z ∷ r) (sym e))
 
+-- what comes next, where it is not the end, is an item of the list
 pub collect_in : (n : ℕ) (ws list : List ℕ) (g x : ℕ) (m : List ℕ) → Sound n ws list → Collected n (labels n ws) list g x m → (x ≡ n → ⊥)
     → (member x list ≡ true) × (x < n)
 collect_in n ws list g x m s c ne =
@@ -104,6 +112,7 @@ collect_in n ws list g x m s c ne =
     let in' : member x list ≡ true = ap (member x) is ∙ member-append_right x c.front (m ++ x ∷ r.0) (member-append_right x m (x ∷ r.0) (member-head x r.0)) in
     (in', (s.inside x in').below)
 
+-- what comes next is collected where it is of the group
 pub collect_step : (n : ℕ) (ws list : List ℕ) (g x : ℕ) (m : List ℕ) → Sound n ws list → Collected n (labels n ws) list g x m → (x ≡ n → ⊥)
     → (labels n ws).group x ≡ g → CollectStep n (labels n ws) list g x m
 collect_step n ws list g x m s c ne x-g =
@@ -139,10 +148,12 @@ collect_step n ws list g x m s c ne x-g =
       length_less = omega (arith, ap length is, length-append c.front (m ++ x ∷ r.0), length-append m (x ∷ r.0));
     }
 
+-- where the end comes next, no item is left
 none_left : (n x : ℕ) (rest : List ℕ) → x ≡ head_or n rest → x ≡ n → ((z : ℕ) → member z rest ≡ true → z ≡ n → ⊥) → (y : ℕ) → member y rest ≡ true → ⊥
 none_left n x [] e w f y m = false≢true m
 none_left n x (z ∷ r) e w f y m = f z (member-head z r) (sym e ∙ w)
 
+-- where what comes next is not of the group, no item that is left is of it
 rest_none : (n : ℕ) (ws list : List ℕ) (g x some : ℕ) (m : List ℕ) → Sound n ws list → (c : Collected n (labels n ws) list g x m)
     → ((x ≡ n → ⊥) → (labels n ws).group x ≡ g → ⊥) → member some m ≡ true → (y : ℕ) → member y c.rest ≡ true → (labels n ws).group y ≡ g → ⊥
 rest_none n ws list g x some m s c stop some-in y y-in y-g =
@@ -172,7 +183,7 @@ rest_none n ws list g x some m s c stop some-in y y-in y-g =
           ]
     ]
 
--- at the end
+-- where what comes next is not of the group, what was collected are all its members
 pub collected : (n : ℕ) (ws list : List ℕ) (g x : ℕ) (m : List ℕ) → Sound n ws list → Collected n (labels n ws) list g x m
     → ((x ≡ n → ⊥) → (labels n ws).group x ≡ g → ⊥) → (y : ℕ) → member y m ≡ true → Segment (labels n ws) list g m
 collected n ws list g x m s c stop some some-in =
@@ -188,7 +199,7 @@ collected n ws list g x m s c stop some some-in =
       ];
     }
 
--- the first has been collected, or comes next
+-- once one more is collected, the first is among those collected
 pub begun : (x count first : ℕ) (into : List ℕ) → count < length into → ((count ≡ 0) × (x ≡ first)) ⊎ (member first (take count into) ≡ true)
     → member first (take (count + 1) (set into count x)) ≡ true
 begun x count first into l h =
@@ -197,6 +208,7 @@ begun x count first into l h =
       | inr m ↦ member-append_left first (take count into) (x ∷ []) m
     ]
 
+-- what was gathered from the first item of a group on, until no more of it comes, are all its members
 pub gathered : (n : ℕ) (ws list : List ℕ) (g x first count : ℕ) (into : List ℕ) → Sound n ws list → First (labels n ws) list g first
     → Collected n (labels n ws) list g x (take count into) → ((x ≡ n → ⊥) → (labels n ws).group x ≡ g → ⊥)
     → ((count ≡ 0) × (x ≡ first)) ⊎ (member first (take count into) ≡ true) → Segment (labels n ws) list g (take count into)

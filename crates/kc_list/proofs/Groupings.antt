@@ -21,6 +21,7 @@ abbrev pub runs_after : ℕ → (ℕ → ℕ) → List ℕ → List ℕ
 runs_after g f [] = []
 runs_after g f (x ∷ xs) = cond (eqb (f x) g) (runs_after g f xs) (f x ∷ runs_after (f x) f xs)
 
+-- the groups of a list are that of its first item and those that follow it
 runs_from : (f : ℕ → ℕ) (x : ℕ) (xs : List ℕ) → runs f (x ∷ xs) ≡ f x ∷ runs_after (f x) f xs
 runs_from f x [] = refl
 runs_from f x (y ∷ ys) =
@@ -46,25 +47,29 @@ pub record Grouped (n : ℕ) (a : Labels) (list : List ℕ) (x last : ℕ) (foun
   pub head : x ≡ head_or n rest
   pub so_far : found ++ runs_after last a.group rest ≡ runs a.group list
 
+-- before the first item no group is found
 pub grouped-none : (n : ℕ) (ws list : List ℕ) → Sound n ws list → Grouped n (labels n ws) list (head_or n list) 0 []
 grouped-none n ws list s = record
     { done = []; rest = list; is = refl; head = refl; so_far = sym (runs_all (labels n ws).group list (λ x m. (s.inside x m).group_low)) }
 
+-- the place of what is no member is the length of the list
 place_of-none : (x : ℕ) (xs : List ℕ) → member x xs ≡ false → place_of x xs ≡ length xs
 place_of-none x [] m = refl
 place_of-none x (y ∷ ys) m = let k = not_member-parts x y ys m in rw (ne_eqb x y k.0) (ap suc (place_of-none x ys k.1))
 
+-- the place of what comes first in a back part is the length of the front
 place_of-head : (n : ℕ) (d r : List ℕ) → Distinct (d ++ r) → member n (d ++ r) ≡ false → place_of (head_or n r) (d ++ r) ≡ length d
 place_of-head n d [] u m = place_of-none n (d ++ []) m ∙ ap length (append-nil d)
 place_of-head n d (x ∷ r) u m = place_of-cut x d r (Distinct-cut x d r u).0
 
--- the next item
+-- what comes next is an item of the list, and what follows it has the next place
 pub record GroupStep (n : ℕ) (a : Labels) (list : List ℕ) (x : ℕ) : Type 0 where
   pub below : x < n
   pub x_in : member x list ≡ true
   pub nearer : suc (place_of x list) ≡ place_of (next_of n x list) list
   pub short : place_of x list < length list
 
+-- what comes next, where it is not the end, is an item of the list
 pub group_step : (n : ℕ) (ws list : List ℕ) (x last : ℕ) (found : List ℕ) → Sound n ws list → Grouped n (labels n ws) list x last found → (x ≡ n → ⊥)
     → GroupStep n (labels n ws) list x
 group_step n ws list x last found s g ne =
@@ -86,6 +91,7 @@ group_step n ws list x last found s g ne =
       short = omega (arith, here, ap length is, length-append g.done (x ∷ r.0));
     }
 
+-- an item of the group found last adds none
 pub grouped-same : (n : ℕ) (ws list : List ℕ) (x last : ℕ) (found : List ℕ) → Sound n ws list → Grouped n (labels n ws) list x last found → (x ≡ n → ⊥)
     → (labels n ws).group x ≡ last → Grouped n (labels n ws) list (next_of n x list) last found
 grouped-same n ws list x last found s g ne e =
@@ -102,6 +108,7 @@ grouped-same n ws list x last found s g ne e =
       so_far = rw (eq-eqb (a.group x) last e) at after;
     }
 
+-- an item of another group adds its group
 pub grouped-new : (n : ℕ) (ws list : List ℕ) (x last : ℕ) (found : List ℕ) → Sound n ws list → Grouped n (labels n ws) list x last found → (x ≡ n → ⊥)
     → ((labels n ws).group x ≡ last → ⊥) → Grouped n (labels n ws) list (next_of n x list) ((labels n ws).group x) (found ++ (labels n ws).group x ∷ []) ×
     (length found < length list)
@@ -122,20 +129,23 @@ grouped-new n ws list x last found s g ne new =
       omega (arith, ap length after', length-append found (a.group x ∷ runs_after (a.group x) a.group r.0), runs_short a.group list),
     )
 
+-- where the end comes next, what is left is empty
 none_rest : (n x : ℕ) (rest : List ℕ) → x ≡ head_or n rest → x ≡ n → ((y : ℕ) → member y rest ≡ true → y < n) → rest ≡ []
 none_rest n x [] e is f = refl
 none_rest n x (y ∷ ys) e is f = absurd (let b = f y (member-head y ys) in omega arith)
 
+-- at the end all groups in use are found
 pub grouped-all : (n : ℕ) (ws list : List ℕ) (x last : ℕ) (found : List ℕ) → Sound n ws list → Grouped n (labels n ws) list x last found → x ≡ n
     → found ≡ runs (labels n ws).group list
 grouped-all n ws list x last found s g is =
     let none : g.rest ≡ [] = none_rest n x g.rest g.head is (λ y m. (s.inside y (ap (member y) g.is ∙ member-append_right y g.done g.rest m)).below) in
     sym (append-nil found) ∙ (ap (λ zs. found ++ runs_after last (labels n ws).group zs) (sym none) ∙ g.so_far)
 
--- how many there are, and their numbers
+-- there are no more groups in use than numbers of items
 pub groups_few : (n : ℕ) (ws list gs : List ℕ) → Sound n ws list → gs ≡ runs (labels n ws).group list → length gs ≤ n
 groups_few n ws list gs s e = omega (arith, ap length e, runs_short (labels n ws).group list, below_bound n list s.distinct (λ x m. (s.inside x m).below))
 
+-- a group in use has a number from 1 to n + 1
 pub group_in : (n : ℕ) (ws list gs : List ℕ) (g : ℕ) → Sound n ws list → gs ≡ runs (labels n ws).group list → member g gs ≡ true → (0 < g) × (g ≤ n + 1)
 group_in n ws list gs g s e m =
     let from = runs_item (labels n ws).group g list (ap (member g) (sym e) ∙ m) in
@@ -148,7 +158,7 @@ evens-rise n room l =
     let all : (0 + n + 1) * (room / (n + 1)) ≤ room = let e = div-add-mod' room (n + 1) in omega (arith, e) in
     Ascends-low 1 (0 * (room / (n + 1)) + 1) room (evens n (room / (n + 1)) 0) (omega arith) (Ascends-evens n (room / (n + 1)) 0 room some all)
 
--- by index
+-- a member stands at a place within the length
 pub index_of : (x : ℕ) (xs : List ℕ) → member x xs ≡ true → (i : ℕ) × (i < length xs) × (get_or xs i 0 ≡ x)
 index_of x [] m = absurd (false≢true m)
 index_of x (y ∷ ys) m = elim (member-cases x y ys m) [
@@ -176,6 +186,7 @@ evens-apart t gs step room g h e two all m =
           ],
     )
 
+-- labels of groups in use that share all room evenly differ by two or more, and from its end too
 pub tops_gaps : (t : ℕ → ℕ) (gs rs : List ℕ) (g h : ℕ) → gs ≡ rs → length gs ≤ ITEMS → map t gs ≡ evens (length gs) (TOP_ROOM / (length gs + 1)) 0
     → member g rs ≡ true → (t g + 2 ≤ TOP_ROOM) × (member h rs ≡ true → t g < t h → t g + 2 ≤ t h)
 tops_gaps t gs rs g h e few tops m =

@@ -33,6 +33,7 @@ item_there len i count v b w l c-is b-is w-is =
     let same : count ≡ opening_count len (1 + i / OPENING_ITEMS) = c-is ∙ omega arith in
     w-is ∙ ap (λ z. record { version = v; group = 1 + i / OPENING_ITEMS; bottom = z }) (b-is ∙ ap (λ z. (i % OPENING_ITEMS + 1) * (BOTTOM_ROOM / (z + 1))) same)
 
+-- with one item more placed, those so far have their words, and none but items' words have changed
 pub placed_step : (order start ws : List ℕ) (v i w : ℕ) → Distinct order → i < length order → 1 + get_or order i 0 < length ws
     → item_of w ≡ opening_item v (length order) i → ((k : ℕ) → k < i → item_of (get_or ws (1 + get_or order k 0) 0) ≡ opening_item v (length order) k)
     → ChangesOnly (map (λ x. 1 + x) order) start ws
@@ -51,7 +52,7 @@ placed_step order start ws v i w d l in-ws is before only = (
       (member-map (λ x. 1 + x) order (get_or order i 0) (member-get_or order i 0 l)) refl,
 )
 
--- all words
+-- once all items are placed and all groups have labels, the words are those of an opening
 pub opening_from : (n v : ℕ) (order start mid ws : List ℕ) → Distinct order → ((x : ℕ) → member x order ≡ true → x < n) → length start ≡ n + n + 2
     → get_or start 0 0 ≡ 0 → ((w : ℕ) → 0 < w → w < n + n + 2 → item_of (get_or start w 0) ≡ record { version = v; group = 0; bottom = 0 })
     → ((i : ℕ) → i < length order → item_of (get_or mid (1 + get_or order i 0) 0) ≡ opening_item v (length order) i)
@@ -75,7 +76,7 @@ opening_from n v order start mid ws d within s-len s-note s-blank placed only w-
           ∙ ap (λ z. z.version) (s-blank (n + g) (omega arith) (omega arith));
     }
 
--- in order, by places
+-- a list is in order where what stands at each place is related to what stands at the next
 InOrder-at : (R : ℕ → ℕ → Type 0) (xs : List ℕ) → ((i : ℕ) → i + 1 < length xs → R (get_or xs i 0) (get_or xs (i + 1) 0)) → InOrder R xs
 InOrder-at R [] f = tt
 InOrder-at R (x ∷ xs) f = follow x xs f
@@ -95,6 +96,7 @@ pub record Reads (n len : ℕ) (order ws : List ℕ) : Type 0 where
       → (labels n ws).bottom (get_or order i 0) ≡ (i % OPENING_ITEMS + 1) * (BOTTOM_ROOM / (opening_count len (1 + i / OPENING_ITEMS) + 1))
   pub top : (j : ℕ) → j < opening_groups len → (labels n ws).top (1 + j) ≡ (j + 1) * (TOP_ROOM / (opening_groups len + 1))
 
+-- what the words of an opening say of the items and groups is what was packed
 reads : (n v : ℕ) (order ws : List ℕ) → IsOpening n v order ws → Reads n (length order) order ws
 reads n v order ws o = record {
   group = λ i l. ap (λ z. z.group) (o.placed i l);
@@ -102,20 +104,25 @@ reads n v order ws o = record {
   top = λ j l. ap (λ z. z.top) (o.tops j l);
 }
 
+-- one step more is a product with one more
 next_product : (a s : ℕ) → (a + 1) * s ≡ a * s + s
 next_product a s = omega arith
 
+-- fewer of the steps that fit in a room than all of them end below its end
 below_end : (a c room : ℕ) → a ≤ c → 1 ≤ room / (c + 1) → (c + 1) * (room / (c + 1)) ≤ room → a * (room / (c + 1)) < room
 below_end a c room l some all =
     let le : a * (room / (c + 1)) ≤ c * (room / (c + 1)) = mul-le-mul_right (room / (c + 1)) l in
     omega (arith, le, next_product c (room / (c + 1)))
 
+-- where a room has more labels than are asked for, the step between them is not 0 and all steps fit
 step_some : (c room : ℕ) → c + 1 ≤ room → (1 ≤ room / (c + 1)) × ((c + 1) * (room / (c + 1)) ≤ room)
 step_some c room l = (le-div 1 room (c + 1) (omega arith) (omega arith), let e = div-add-mod' room (c + 1) in omega (arith, e))
 
+-- a product of what is not 0 is not 0
 first_product : (a s : ℕ) → 1 ≤ s → 1 ≤ (a + 1) * s
 first_product a s l = omega (arith, next_product a s)
 
+-- the words of an opening have the list in order
 pub opened_sound : (n v : ℕ) (order ws : List ℕ) → n ≤ ITEMS → Distinct order → ((x : ℕ) → member x order ≡ true → x < n) → IsOpening n v order ws
     → Sound n ws order
 opened_sound n v order ws small d within o =
@@ -192,7 +199,7 @@ opened_sound n v order ws small d within o =
       outside = λ x l out. ap (λ z. z.group) (o.out x l out);
     }
 
--- how many items of a list are in each group
+-- of items that are put into groups one after another, each group has as many as fit or are left
 size-opened : (f : ℕ → ℕ) (g s : ℕ) (xs : List ℕ) → 0 < g → ((k : ℕ) → k < length xs → f (get_or xs k 0) ≡ 1 + (s + k) / OPENING_ITEMS)
     → size_of f g xs + min OPENING_ITEMS (s - OPENING_ITEMS * (g - 1)) ≡ min OPENING_ITEMS (s + length xs - OPENING_ITEMS * (g - 1))
 size-opened f g s [] low h = omega arith
@@ -204,6 +211,7 @@ size-opened f g s (x ∷ xs) low h =
       | inr ne ↦ rw (ne_eqb (f x) g ne) (let other : g ≢ 1 + s / OPENING_ITEMS = λ q. ne (here ∙ sym q) in omega (arith, rest))
     ]
 
+-- the sizes that are counted at the opening are those of the groups
 pub opened_tallied : (n v : ℕ) (order ws sizes : List ℕ) → Distinct order → ((x : ℕ) → member x order ≡ true → x < n) → IsOpening n v order ws
     → length sizes ≡ n + 2 → get_or sizes 0 0 ≡ 0 → ((g : ℕ) → 0 < g → g ≤ n + 1 → get_or sizes g 0 ≡ opening_count (length order) g) → Tallied n ws order sizes
 opened_tallied n v order ws sizes d within o len zero-is sized =
@@ -221,11 +229,12 @@ opened_tallied n v order ws sizes d within o len zero-is sized =
       ];
     }
 
--- all versions are the same
+-- the word 0 has version 0
 none_version : (item_of 0).version ≡ 0
 unfolding item_of
 none_version = refl
 
+-- each word of an opening but the note has the opening's version
 pub opened_versions : (n v : ℕ) (order ws : List ℕ) → IsOpening n v order ws → (w : ℕ) → 1 ≤ w → w ≤ 2 * n + 1 → version ws w ≡ v
 opened_versions n v order ws o zero low high = absurd (omega arith)
 opened_versions n v order ws o (suc x) low high =
@@ -243,6 +252,7 @@ opened_versions n v order ws o (suc x) low high =
           ]
     ]
 
+-- the greatest version of an opening is the opening's version
 pub opened_highest : (n v : ℕ) (order ws : List ℕ) → IsOpening n v order ws → highest_of ws ≡ v
 opened_highest n v order ws o =
     highest-all ws v 1 (omega (arith, o.size)) (opened_versions n v order ws o 1 (omega arith) (omega arith)) (λ w. elim (cases_eq w 0) [
@@ -253,7 +263,7 @@ opened_highest n v order ws o =
       ]
     ])
 
--- before any item is placed
+-- before any item is placed, the words are as many as needed, and each but the note is that of nothing
 pub blank_facts : (n v : ℕ) (ys : List ℕ) → length ys ≡ n + n + 2
     → ((w : ℕ) → w < length ys → item_of (get_or ys w 0) ≡ record { version = v; group = 0; bottom = 0 })
     → (length (set ys 0 0) ≡ n + n + 2) × (get_or (set ys 0 0) 0 0 ≡ 0) ×

@@ -8,17 +8,21 @@ use Rattle.kc_list.specs.Places.{Before, IfFirst}
 use Rattle.kc_distinct.proofs.Members.{member-head, member-tail, member-append_right}
 use Rattle.kc_words.proofs.Ordering.{InOrder-tail, InOrder-mono}
 
+-- something holds of the first of a list, where it has one
 abbrev pub AtFirst : (ℕ → Type 0) → List ℕ → Type 0
 AtFirst P ys = IfFirst P ys
 
+-- something holds of the last of a list, where it has one
 abbrev pub AtLast : (ℕ → Type 0) → List ℕ → Type 0
 AtLast P [] = Unit {0}
 AtLast P (x ∷ []) = P x
 AtLast P (x ∷ y ∷ ys) = AtLast P (y ∷ ys)
 
+-- what is before another item has the lesser pair
 pub Before-pairs : (a : Labels) (x y : ℕ) → Before a x y → PairBelow a x y
 Before-pairs a x y h = elim h [ inl s ↦ inr (ap a.top s.0, s.1) | inr t ↦ inl t ]
 
+-- what is before an item that is before a third is before the third
 pub Before-then : (a : Labels) (x y z : ℕ) → Before a x y → Before a y z → Before a x z
 Before-then a x y z h k =
     elim h [
@@ -32,19 +36,21 @@ pub record Parts (R : ℕ → ℕ → Type 0) (l r : List ℕ) : Type 0 where
   pub right : InOrder R r
   pub seam : AtLast (λ x. AtFirst (R x) r) l
 
+-- two lists in order when joined are each in order, and the last of one is related to the first of the other
 pub parts : (R : ℕ → ℕ → Type 0) (l r : List ℕ) → InOrder R (l ++ r) → Parts R l r
 parts R [] r h = record { left = tt; right = h; seam = tt }
 parts R (x ∷ []) [] h = record { left = tt; right = tt; seam = tt }
 parts R (x ∷ []) (y ∷ r) h = record { left = tt; right = h.1; seam = h.0 }
 parts R (x ∷ z ∷ l) r h = let p = parts R (z ∷ l) r h.1 in record { left = (h.0, p.left); right = p.right; seam = p.seam }
 
+-- two lists in order, the last of one related to the first of the other, are in order when joined
 pub joined : (R : ℕ → ℕ → Type 0) (l r : List ℕ) → Parts R l r → InOrder R (l ++ r)
 joined R [] r p = p.right
 joined R (x ∷ []) [] p = tt
 joined R (x ∷ []) (y ∷ r) p = (p.seam, p.right)
 joined R (x ∷ z ∷ l) r p = (p.left.0, joined R (z ∷ l) r (record { left = p.left.1; right = p.right; seam = p.seam }))
 
--- one taken out
+-- a list in order is in order with one taken out
 pub InOrder-taken : (R : ℕ → ℕ → Type 0) → ((x y z : ℕ) → R x y → R y z → R x z) → (y : ℕ) (l r : List ℕ) → InOrder R (l ++ y ∷ r) → InOrder R (l ++ r)
 InOrder-taken R t y [] [] h = tt
 InOrder-taken R t y [] (z ∷ r) h = h.1
@@ -52,7 +58,7 @@ InOrder-taken R t y (x ∷ []) [] h = tt
 InOrder-taken R t y (x ∷ []) (z ∷ r) h = (t x y z h.0 h.1.0, h.1.1)
 InOrder-taken R t y (x ∷ w ∷ l) r h = (h.0, InOrder-taken R t y (w ∷ l) r h.1)
 
--- one put in
+-- a list in order is in order with one put in that fits between its neighbours
 pub InOrder-put : (R : ℕ → ℕ → Type 0) (y : ℕ) (l r : List ℕ) → InOrder R (l ++ r) → AtLast (λ x. R x y) l → AtFirst (R y) r → InOrder R (l ++ y ∷ r)
 InOrder-put R y [] [] h a b = tt
 InOrder-put R y [] (z ∷ r) h a b = (b, h)
@@ -60,11 +66,12 @@ InOrder-put R y (x ∷ []) [] h a b = (a, tt)
 InOrder-put R y (x ∷ []) (z ∷ r) h a b = (a, (b, h.1))
 InOrder-put R y (x ∷ w ∷ l) r h a b = (h.0, InOrder-put R y (w ∷ l) r h.1 a b)
 
--- the one after y may go
+-- what follows y by a relation that goes on follows what is related to y
 Follows-from : (R : ℕ → ℕ → Type 0) → ((x y z : ℕ) → R x y → R y z → R x z) → (x y : ℕ) (zs : List ℕ) → R x y → Follows R y zs → Follows R x zs
 Follows-from R t x y [] r h = tt
 Follows-from R t x y (z ∷ zs) r h = (t x y z r h.0, h.1)
 
+-- what follows y by a relation that goes on follows it without x
 Follows-without : (R : ℕ → ℕ → Type 0) → ((x y z : ℕ) → R x y → R y z → R x z) → (x y : ℕ) (ys : List ℕ) → Follows R y ys → Follows R y (without x ys)
 Follows-without R t x y [] h = tt
 Follows-without R t x y (z ∷ zs) h =
@@ -73,6 +80,7 @@ Follows-without R t x y (z ∷ zs) h =
       | false ↦ (h.0, Follows-without R t x z zs h.1)
     ]
 
+-- a list in order by a relation that goes on is in order without x
 pub InOrder-without : (R : ℕ → ℕ → Type 0) → ((x y z : ℕ) → R x y → R y z → R x z) → (x : ℕ) (ys : List ℕ) → InOrder R ys → InOrder R (without x ys)
 InOrder-without R t x [] h = tt
 InOrder-without R t x (y ∷ []) h = elim (eqb x y) as (λ b. InOrder R (cond b [] (y ∷ []))) [ true ↦ tt | false ↦ tt ]
@@ -93,26 +101,30 @@ AtFirst-without R P t x (y ∷ z ∷ zs) h p =
       | false ↦ p
     ]
 
+-- what follows from something that holds of the first holds of it too
 pub AtFirst-mono : (P Q : ℕ → Type 0) (xs : List ℕ) → ((x : ℕ) → member x xs ≡ true → P x → Q x) → AtFirst P xs → AtFirst Q xs
 AtFirst-mono P Q [] f h = tt
 AtFirst-mono P Q (x ∷ xs) f h = f x (member-head x xs) h
 
+-- what follows from something that holds of the last holds of it too
 pub AtLast-mono : (P Q : ℕ → Type 0) (xs : List ℕ) → ((x : ℕ) → member x xs ≡ true → P x → Q x) → AtLast P xs → AtLast Q xs
 AtLast-mono P Q [] f h = tt
 AtLast-mono P Q (x ∷ []) f h = f x (member-head x []) h
 AtLast-mono P Q (x ∷ y ∷ xs) f h = AtLast-mono P Q (y ∷ xs) (λ z m. f z (member-tail z x (y ∷ xs) m)) h
 
+-- what holds of an item that is put at the end holds of the last
 pub AtLast-push : (P : ℕ → Type 0) (xs : List ℕ) (x : ℕ) → P x → AtLast P (xs ++ x ∷ [])
 AtLast-push P [] x h = h
 AtLast-push P (y ∷ []) x h = h
 AtLast-push P (y ∷ z ∷ xs) x h = AtLast-push P (z ∷ xs) x h
 
--- THE FIRST LEMMA: labels that agree at each item of the list
+-- two readings of the words agree on the group and labels of an item
 pub record Agrees (a b : Labels) (x : ℕ) : Type 0 where
   pub group : b.group x ≡ a.group x
   pub bottom : b.bottom x ≡ a.bottom x
   pub top : b.top (b.group x) ≡ a.top (a.group x)
 
+-- where two readings agree on two items, one is before the other by both
 pub Before-agrees : (a b : Labels) (x y : ℕ) → Agrees a b x → Agrees a b y → Before a x y → Before b x y
 Before-agrees a b x y p q h =
     elim h [
@@ -120,18 +132,20 @@ Before-agrees a b x y p q h =
       | inr t ↦ inr (omega (arith, p.top, q.top, t))
     ]
 
+-- a list in order is in order by another reading that agrees on each of its items
 pub agreed : (a b : Labels) (xs : List ℕ) → ((x : ℕ) → member x xs ≡ true → Agrees a b x) → InOrder (Before a) xs → InOrder (Before b) xs
 agreed a b xs f h = InOrder-mono (Before a) (Before b) xs (λ y z p q r. Before-agrees a b y z (f y p) (f z q) r) h
 
--- THE SECOND AND THIRD: one item gets another place between its neighbours
+-- a list stays in order where one item gets another place between its neighbours
 pub replaced : (a b : Labels) (y : ℕ) (l r : List ℕ) → ((x : ℕ) → member x (l ++ r) ≡ true → Agrees a b x) → AtLast (λ x. Before b x y) l
     → AtFirst (Before b y) r → InOrder (Before a) (l ++ y ∷ r) → InOrder (Before b) (l ++ y ∷ r)
 replaced a b y l r f p q h = InOrder-put (Before b) y l r (agreed a b (l ++ r) f (InOrder-taken (Before a) (Before-then a) y l r h)) p q
 
--- the place between p and what follows it is free for label `v` in group `g`
+-- q stands beyond label `v` of group `g`: with a greater label in it, or in a later group
 abbrev pub Beyond : Labels → ℕ → ℕ → ℕ → Type 0
 Beyond a g v q = ((a.group q ≡ g) × (v < a.bottom q)) ⊎ (a.top g < a.top (a.group q))
 
+-- what is behind an item beyond a label is beyond it too
 pub Beyond-then : (a : Labels) (g v y z : ℕ) → Beyond a g v y → Before a y z → Beyond a g v z
 Beyond-then a g v y z h k =
     elim h [
@@ -139,6 +153,7 @@ Beyond-then a g v y z h k =
       | inr t ↦ elim k [ inl s' ↦ inr (omega (arith, ap a.top s'.0, t)) | inr t' ↦ inr (omega (arith, t, t')) ]
     ]
 
+-- two lists joined without x are both without x joined
 without-append : (x : ℕ) (l r : List ℕ) → without x (l ++ r) ≡ without x l ++ without x r
 without-append x [] r = refl
 without-append x (y ∷ l) r =
@@ -147,10 +162,11 @@ without-append x (y ∷ l) r =
       | false ↦ ap (λ zs. y ∷ zs) (without-append x l r)
     ]
 
+-- a list around p without x is what stands on both sides of p without x
 pub without-around : (x p : ℕ) (l r : List ℕ) → (x ≡ p → ⊥) → without x (l ++ p ∷ r) ≡ without x l ++ p ∷ without x r
 without-around x p l r ne = without-append x l (p ∷ r) ∙ ap (λ b. without x l ++ cond b (without x r) (p ∷ without x r)) (ne_eqb x p ne)
 
--- THE FOURTH: x comes to stand right after p
+-- a list in order is in order with x right after p, where x has a label of the gap there
 pub put_right_after : (a b : Labels) (x p g v : ℕ) (l r : List ℕ) → ((y : ℕ) → member y (without x (l ++ p ∷ r)) ≡ true → Agrees a b y) → (x ≡ p → ⊥)
     → b.group x ≡ g → b.bottom x ≡ v → b.top g ≡ a.top g → a.group p ≡ g → a.bottom p < v → AtFirst (Beyond a g v) r → InOrder (Before a) (l ++ p ∷ r)
     → InOrder (Before b) (without x l ++ p ∷ x ∷ without x r)

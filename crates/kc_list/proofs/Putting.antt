@@ -17,6 +17,7 @@ use Rattle.kc_list.proofs.Stores.{item_stored}
 use Rattle.kc_words.specs.declared.layout.TheConstants.{ITEMS, BOTTOM_ROOM}
 use Rattle.kc_words.proofs.Ordering.{InOrder-mono}
 
+-- words that have the list in order, as the crate says it, have it so as callers see it
 pub ordered_from : (n : ℕ) (ws list : List ℕ) → Sound n ws list → Ordered n ws list
 ordered_from n ws list s = record {
   pairs = InOrder-mono (Before (labels n ws)) (PairBelow (labels n ws)) list (λ x y _ _ h. Before-pairs (labels n ws) x y h) s.order;
@@ -32,6 +33,7 @@ item_agrees a b n x g v y s ne low = record {
   top = ap b.top (s.groups y ne) ∙ s.tops (a.group y) low;
 }
 
+-- an item on which two readings agree has by both what an item of the list has
 pub Placed-agrees : (n : ℕ) (a b : Labels) (x : ℕ) → Agrees a b x → Placed n a x → Placed n b x
 Placed-agrees n a b x e p = record {
   below = p.below;
@@ -56,6 +58,7 @@ beyond_first n a p v l (q ∷ r) f h lt =
       | inr f' ↦ elim step [ inl s ↦ absurd (eqb-false (a.group q) (a.group p) f' (sym s.0)) | inr t ↦ inr t ]
     ]
 
+-- the gap after an item ends no higher than all labels in a group
 pub gap_below : (n : ℕ) (a : Labels) (p q : ℕ) → ((q ≡ n → ⊥) → a.bottom q < BOTTOM_ROOM) → end_at n a p q ≤ BOTTOM_ROOM
 gap_below n a p q f =
     elim (cases_Bool (eqb q n)) [
@@ -64,6 +67,7 @@ gap_below n a p q f =
           [ true ↦ omega (arith, f (eqb-false q n t)) | false ↦ omega arith ])
     ]
 
+-- a store of a label of the gap right after p to the word of x has the list in order with x right after p
 pub put_sound : (n : ℕ) (ws list : List ℕ) (x p label v : ℕ) (w : ItemWord) → Sound n ws list → member p list ≡ true → x < n → (x ≡ p → ⊥)
     → (labels n ws).bottom p < label → label < gap_end n ws list p → item_of v ≡ w → w.group ≡ (labels n ws).group p → w.bottom ≡ label
     → Sound n (set ws (1 + x) v) (right_after x p (without x list))
@@ -128,7 +132,7 @@ in_by_group n ws list x s l =
       | inr o ↦ ap not (eq-eqb ((labels n ws).group x) 0 (s.outside x l o)) ∙ sym o
     ]
 
--- as the program stores it
+-- the word that the program stores for a put fits, and has the list in order with x right after p
 pub put_stored : (n : ℕ) (ws list : List ℕ) (x p label : ℕ) (w : ItemWord) → Sound n ws list → n ≤ ITEMS → member p list ≡ true → x < n → (x ≡ p → ⊥)
     → (labels n ws).bottom p < label → label < gap_end n ws list p → w.version < 2 ^ 24 → w.group ≡ (labels n ws).group p → w.bottom ≡ label
     → FitsItem w × Sound n (set ws (1 + x) (item_word w)) (right_after x p (without x list)) × (item_of (get_or (set ws (1 + x) (item_word w)) (1 + x) 0) ≡ w)

@@ -30,13 +30,16 @@ pub record Onway (a b : LabelledList) (g : ℕ) (m : List ℕ) (ss : Writes) (j 
   pub groups : b.groups ≡ a.groups
   pub midway : Midway a.links.size a.links.list a.sheet b.sheet g m ss j
 
+-- at first no step of a schedule is done
 pub onway-none : (a : LabelledList) (g : ℕ) (m : List ℕ) (ss : Writes) → AreMembers a.links a.sheet g m → Onway a a g m ss 0
 onway-none a g m ss seg =
     record { links = refl; groups = refl; midway = midway-none a.links.size a.links.list a.sheet g m ss a.sound seg }
 
+-- a schedule names places of members alone
 pub places_within : (f : ℕ → ℕ) (m : List ℕ) (room : ℕ) (ss : Writes) → IsSchedule room (map f m) ss → (p : ℕ) → member p (places ss) ≡ true → p < length m
 places_within f m room ss s p k = omega (arith, s.within p k, length-map m f)
 
+-- one step more of a schedule is done
 pub onway-more : (a b d : LabelledList) (g : ℕ) (m : List ℕ) (ss : Writes) (j : ℕ) → Onway a b g m ss j → j < length ss
     → IsSchedule BOTTOM_ROOM (map (bottom_at a.links a.sheet) m) ss → AreMembers b.links d.sheet g m
     → map (bottom_at b.links d.sheet) m ≡ set (map (bottom_at b.links b.sheet) m) (get_or ss j (0, 0)).0 (get_or ss j (0, 0)).1

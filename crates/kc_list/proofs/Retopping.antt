@@ -32,10 +32,12 @@ pub record Retopway (a b : LabelledList) (gs : List ℕ) (ss : Writes) (j : ℕ)
   pub groups : b.groups ≡ a.groups
   pub topway : Topway a.links.size a.links.list a.sheet b.sheet gs ss j
 
+-- at first no step of a schedule for the groups is done
 pub retopway-none : (a : LabelledList) (gs : List ℕ) (ss : Writes) → gs ≡ groups_in_use a.links a.sheet → Retopway a a gs ss 0
 retopway-none a gs ss e =
     record { links = refl; groups = refl; topway = topway-none a.links.size a.links.list a.sheet gs ss a.sound e }
 
+-- one step more of a schedule for the groups is done
 pub retopway-more : (a b d : LabelledList) (gs : List ℕ) (ss : Writes) (j : ℕ) → Retopway a b gs ss j → j < length ss
     → gs ≡ groups_in_use a.links a.sheet → IsSchedule TOP_ROOM (map (top_at a.links a.sheet) gs) ss → gs ≡ groups_in_use b.links d.sheet
     → map (top_at b.links d.sheet) gs ≡ set (map (top_at b.links b.sheet) gs) (get_or ss j (0, 0)).0 (get_or ss j (0, 0)).1

@@ -37,7 +37,7 @@ groups_before a sizes x p here there same below p-in t h k =
     subst (λ (zs : List ℕ). Moving a.links.size a.sheet.words a.links.list zs x p here.group there.group) same
     (moving a.links.size a.sheet.words a.links.list a.groups x p here.group there.group a.sound below p-in t (ap (λ w. w.group) h) (ap (λ w. w.group) k))
 
--- the sizes after a move within the list, and after that of an item that was out
+-- the sizes after a move within the list
 pub sizes_moved : (a b : LabelledList) (x p : ℕ) (here there : ItemWord) → b.groups ≡ a.groups → x < a.links.size → member p a.links.list ≡ true → x ≢ p
     → AreSizes a.links a.sheet a.groups → TakesItem a.links a.sheet x p → PutsItem x p a b → group_at a.links b.sheet x ≡ group_at a.links a.sheet p
     → here ≡ item_of (get_or a.sheet.words (1 + x) 0) → there ≡ item_of (get_or a.sheet.words (1 + p) 0) → here.group ≢ 0
@@ -48,6 +48,7 @@ sizes_moved a b x p here there same below p-in ne t takes puts group h k some =
     (moved_in a.links.size a.sheet.words b.sheet.words a.links.list a.groups x p _ here.group there.group a.sound below p-in ne t takes puts.stores.words group
     (ap (λ w. w.group) h) (ap (λ w. w.group) k) some)
 
+-- the sizes after an item that was out is put in
 pub sizes_put : (a b : LabelledList) (x p : ℕ) (here there : ItemWord) → b.groups ≡ a.groups → x < a.links.size → member p a.links.list ≡ true → x ≢ p
     → AreSizes a.links a.sheet a.groups → TakesItem a.links a.sheet x p → PutsItem x p a b → group_at a.links b.sheet x ≡ group_at a.links a.sheet p
     → here ≡ item_of (get_or a.sheet.words (1 + x) 0) → there ≡ item_of (get_or a.sheet.words (1 + p) 0) → here.group ≡ 0

@@ -11,6 +11,7 @@ use Rattle.kc_list.proofs.Spreading.{get_or-evens}
 use Rattle.kc_words.specs.declared.layout.TheConstants.{BOTTOM_ROOM}
 use Rattle.kc_list.specs.declared.limits.TheConstants.{GROUP_ITEMS}
 
+-- an item whose group has labels at even distances has a label after it
 room_at : (n : ℕ) (a : Labels) (p step : ℕ) (m2 back : List ℕ) (i count : ℕ) → count ≡ i + suc (length m2) → a.bottom p ≡ (i + 1) * step → 2 ≤ step
     → (count + 1) * step ≤ BOTTOM_ROOM → ((q : ℕ) → member q (m2 ++ back) ≡ true → (q ≡ n → ⊥)) → ((q : ℕ) → member q m2 ≡ true → a.group q ≡ a.group p)
     → ((q : ℕ) → member q back ≡ true → a.group q ≡ a.group p → ⊥) → ((q : ℕ) (r : List ℕ) → m2 ≡ q ∷ r → a.bottom q ≡ (i + 2) * step)
@@ -25,12 +26,15 @@ room_at n a p step (q ∷ m2) back i count c b two all f g h k =
     rw (ne_eqb q n (f q (member-head q (m2 ++ back))), eq-eqb (a.group q) (a.group p) (g q (member-head q m2)))
     (let u = k q m2 refl in omega (arith, b, u, two))
 
+-- nothing, and k, and one are one more than k
 zero-plus : (k : ℕ) → 0 + k + 1 ≡ k + 1
 zero-plus k = omega arith
 
+-- two fronts, p and two backs are one list, however they are joined
 regroup : (f l : List ℕ) (p : ℕ) (r k : List ℕ) → f ++ ((l ++ p ∷ r) ++ k) ≡ (f ++ l) ++ p ∷ (r ++ k)
 regroup f l p r k = simp append_assoc
 
+-- an item of the list that is in a group is among the group's members
 pub in_segment : (a : Labels) (list : List ℕ) (g : ℕ) (m : List ℕ) (y : ℕ) → Segment a list g m → member y list ≡ true → a.group y ≡ g → member y m ≡ true
 in_segment a list g m y seg k e =
     elim (member-append y seg.front (m ++ seg.back) (ap (member y) (sym seg.is) ∙ k)) [
@@ -38,6 +42,7 @@ in_segment a list g m y seg k e =
       | inr p ↦ elim (member-append y m seg.back p) [ inl q ↦ q | inr q ↦ absurd (seg.others y (inr q) e) ]
     ]
 
+-- after a group is spread each of its items has a label after it
 pub room_after_spread : (n : ℕ) (ws list : List ℕ) (m : List ℕ) (p : ℕ) → Sound n ws list → Segment (labels n ws) list ((labels n ws).group p) m
     → length m ≤ GROUP_ITEMS → member p list ≡ true → map (labels n ws).bottom m ≡ evens (length m) (BOTTOM_ROOM / (length m + 1)) 0
     → (labels n ws).bottom p + 2 ≤ gap_end n ws list p

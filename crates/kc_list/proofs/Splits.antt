@@ -28,7 +28,7 @@ use Rattle.kc_list.specs.declared.limits.TheConstants.{GROUP_ITEMS}
 use Rattle.kc_distinct.proofs.Shared.{map-agree}
 use Rattle.kc_distinct.proofs.Counting.{member-get_or}
 
--- THE FIRST LEMMA at the words: the label of a group that is not in use
+-- a store to the word of a free group leaves the group and labels of each item
 pub group_agrees : (n : ℕ) (ws list : List ℕ) (h v t y : ℕ) → Sound n ws list → Free n (labels n ws) list h
     → GroupStored (labels n ws) (labels n (set ws (n + h) v)) n h t → member y list ≡ true → Agrees (labels n ws) (labels n (set ws (n + h) v)) y
 group_agrees n ws list h v t y s f st m =
@@ -39,6 +39,7 @@ group_agrees n ws list h v t y s f st m =
       top = ap (labels n (set ws (n + h) v)).top (st.groups y below) ∙ st.tops ((labels n ws).group y) (f.unused y m);
     }
 
+-- after a store to the word of a free group the list is in order
 pub unused_stored : (n : ℕ) (ws list : List ℕ) (h v t : ℕ) → Sound n ws list → Free n (labels n ws) list h
     → GroupStored (labels n ws) (labels n (set ws (n + h) v)) n h t → Sound n (set ws (n + h) v) list
 unused_stored n ws list h v t s f st = record {
@@ -49,18 +50,22 @@ unused_stored n ws list h v t s f st = record {
   outside = λ y l o. st.groups y l ∙ s.outside y l o;
 }
 
+-- what holds of all of a list that is not empty holds of its last
 AtLast-all : (P : ℕ → Type 0) (x : ℕ) (xs : List ℕ) → ((y : ℕ) → member y (x ∷ xs) ≡ true → P y) → AtLast P (x ∷ xs)
 AtLast-all P x [] f = f x (member-head x [])
 AtLast-all P x (y ∷ ys) f = AtLast-all P y ys (λ z m. f z (member-tail z x (y ∷ ys) m))
 
+-- what holds of the last of a back part holds of the last of the whole
 AtLast-append : (P : ℕ → Type 0) (l : List ℕ) (x : ℕ) (xs : List ℕ) → AtLast P (x ∷ xs) → AtLast P (l ++ x ∷ xs)
 AtLast-append P [] x xs h = h
 AtLast-append P (y ∷ []) x xs h = h
 AtLast-append P (y ∷ z ∷ l) x xs h = AtLast-append P (z ∷ l) x xs h
 
+-- three fronts, y and two backs are one list, however they are joined
 regroup : (f l t : List ℕ) (y : ℕ) (d k : List ℕ) → f ++ ((l ++ (t ++ y ∷ d)) ++ k) ≡ (f ++ (l ++ t)) ++ y ∷ (d ++ k)
 regroup f l t y d k = simp append_assoc
 
+-- where something is left from the i-th on, i is a place within the list
 more_left : (ls : List ℕ) (i : ℕ) (zs : List ℕ) (z : ℕ) → drop i ls ≡ z ∷ zs → i < length ls
 more_left ls i zs z e = elim (cases_lt i (length ls)) [ inl l ↦ l | inr l ↦ absurd (let k = ap length (sym (drop_all i ls l) ∙ e) in omega (arith, k)) ]
 
@@ -71,6 +76,7 @@ split_cut front low ups back i l =
     let parts : ups ≡ take i ups ++ get_or ups i 0 ∷ drop (i + 1) ups = sym (take-append-drop i ups) ∙ ap (λ zs. take i ups ++ zs) (drop_more ups i 0 l) in
     ap (λ zs. front ++ ((low ++ zs) ++ back)) parts ∙ regroup front low (take i ups) (get_or ups i 0) (drop (i + 1) ups) back
 
+-- the member that moves to the new group is before what follows it there
 first_above : (a b : Labels) (h y v : ℕ) (ls zs back : List ℕ) (i : ℕ) → Ascends 1 BOTTOM_ROOM ls → map a.bottom zs ≡ drop (i + 1) ls → v ≡ get_or ls i 0
     → i < length ls → ((z : ℕ) → member z (zs ++ back) ≡ true → Agrees a b z) → ((z : ℕ) → member z zs ≡ true → a.group z ≡ h) → b.group y ≡ h
     → b.bottom y ≡ v → b.top h ≡ a.top h → AtFirst (λ z. a.top h < a.top (a.group z)) back → AtFirst (Before b y) (zs ++ back)
@@ -83,13 +89,14 @@ first_above a b h y v ls (z ∷ zs) back i asc e v-is l f up y-g y-b t after =
     let up' : get_or ls i 0 < get_or ls (i + 1) 0 = Ascends-rises 1 BOTTOM_ROOM ls asc i more in
     inl (y-g ∙ (sym (up z (member-head z zs)) ∙ sym z-agrees.group), omega (arith, y-b, v-is, z-bottom, z-agrees.bottom, up'))
 
--- THE THIRD LEMMA: the last member of g that is left moves to the front of h
+-- after the last member of g that is still to move has moved to the front of h the list is in order
 pub record MovedUp (n : ℕ) (ws list : List ℕ) (g h : ℕ) (low ups ls : List ℕ) (i : ℕ) (w : ItemWord) : Type 0 where
   pub below : get_or ups i 0 < n
   pub fits : FitsItem w
   pub sound : Sound n (set ws (1 + get_or ups i 0) (item_word w)) list
   pub splitting : Splitting n (labels n (set ws (1 + get_or ups i 0) (item_word w))) list g h low ups ls i
 
+-- the last member of g that is still to move can move to the front of h
 pub moved_up : (n : ℕ) (ws list : List ℕ) (g h : ℕ) (x : ℕ) (low ups ls : List ℕ) (i : ℕ) (w : ItemWord) → Sound n ws list → n ≤ ITEMS
     → Splitting n (labels n ws) list g h (x ∷ low) ups ls (i + 1) → i < length ups → length ls ≡ length ups → Ascends 1 BOTTOM_ROOM ls → w.version < 2 ^ 24
     → w.group ≡ h → w.bottom ≡ get_or ls i 0 → MovedUp n ws list g h (x ∷ low) ups ls i w
@@ -199,12 +206,13 @@ moved_up n ws list g h x low ups ls i w s small sp i-in ls-len asc v-fits w-g w-
       };
     }
 
--- as the program stores it
+-- the same of the word as the program stores it, which is read again
 pub record MoveFacts (n : ℕ) (ws list : List ℕ) (g h : ℕ) (low ups ls : List ℕ) (i : ℕ) (w : ItemWord) : Type 0 where
   pub all : MovedUp n ws list g h low ups ls i w
   pub read : get_or (set ws (1 + get_or ups i 0) (item_word w)) (1 + get_or ups i 0) 0 ≡ item_word w
   pub again : item_of (get_or (set ws (1 + get_or ups i 0) (item_word w)) (1 + get_or ups i 0) 0) ≡ w
 
+-- the word that the program stores as a member moves up keeps the list in order
 pub move_facts : (n : ℕ) (ws list : List ℕ) (g h : ℕ) (low ups : List ℕ) (i : ℕ) (w : ItemWord) → Sound n ws list → n ≤ ITEMS → 0 < length low
     → length ups ≤ GROUP_ITEMS → Splitting n (labels n ws) list g h low ups (evens (length ups) (BOTTOM_ROOM / (length ups + 1)) 0) (i + 1) → i < length ups
     → w.version < 2 ^ 24 → w.group ≡ h → w.bottom ≡ get_or (evens (length ups) (BOTTOM_ROOM / (length ups + 1)) 0) i 0
@@ -217,6 +225,7 @@ move_facts n ws list g h (x ∷ low) ups i w s small some le sp i-in v-fits w-g 
     get_or-set_same ws (1 + get_or ups i 0) (item_word w) 0 (omega (arith, s.size, all.below)) in
     record { all = all; read = read; again = ap item_of read ∙ item_of-item_word w all.fits }
 
+-- an upper member is an item's number
 pub upper_below : (n : ℕ) (ws list : List ℕ) (g h : ℕ) (low ups ls : List ℕ) (i j : ℕ) → Sound n ws list → Splitting n (labels n ws) list g h low ups ls j
     → i < length ups → get_or ups i 0 < n
 upper_below n ws list g h low ups ls i j s sp l =
@@ -237,6 +246,7 @@ pub record Halfway (n : ℕ) (list : List ℕ) (p q : Paper) (g h : ℕ) (low up
   pub length_is : length q.writes + i ≡ length p.writes + length ups
   pub room : q.room ≡ p.room
 
+-- at first no upper member has moved
 pub halfway-none : (n : ℕ) (list : List ℕ) (p : Paper) (g h : ℕ) (low ups ls : List ℕ) → Sound n p.words list
     → Splitting n (labels n p.words) list g h low ups ls (length ups) → Halfway n list p p g h low ups ls (length ups)
 halfway-none n list p g h low ups ls s sp = record {
@@ -252,6 +262,7 @@ halfway-none n list p g h low ups ls s sp = record {
   room = refl;
 }
 
+-- one upper member more has moved
 pub halfway-more : (n : ℕ) (list : List ℕ) (p q r : Paper) (g h : ℕ) (low ups ls : List ℕ) (i j v : ℕ) → Halfway n list p q g h low ups ls j → j ≡ i + 1
     → Distinct list → Sound n r.words list → Splitting n (labels n r.words) list g h low ups ls i
     → r.words ≡ set q.words (1 + get_or ups i 0) v → r.writes ≡ q.writes ++ record { word = 1 + get_or ups i 0; value = v } ∷ []
@@ -286,10 +297,12 @@ halfway-more n list p q r g h low ups ls i j v half e d sound splitting words wr
       room = room ∙ half.room;
     }
 
+-- a word has the same version, whether it is read as an item's or as a group's
 pub same_version : (z : ℕ) → (item_of z).version ≡ (group_of z).version
 unfolding item_of group_of
 same_version z = refl
 
+-- what holds of the last of a list that is not empty holds of a member
 AtLast-some : (P : ℕ → Type 0) (x : ℕ) (xs : List ℕ) → AtLast P (x ∷ xs) → (y : ℕ) × (member y (x ∷ xs) ≡ true) × P y
 AtLast-some P x [] h = (x, member-head x [], h)
 AtLast-some P x (y ∷ ys) h = let k = AtLast-some P y ys h in (k.0, member-tail k.0 x (y ∷ ys) k.1, k.2)
@@ -306,6 +319,7 @@ after_segment n ws list g x m s seg =
     AtFirst-mono (Before a last.0) (λ z. a.top g < a.top (a.group z)) seg.back
     (λ z k h. elim h [ inl e ↦ absurd (seg.others z (inr k) (sym e.0 ∙ last-g)) | inr t ↦ omega (arith, ap a.top last-g, t) ]) last.2
 
+-- after the store of the new group's label the list is in order, and all upper members are still to move
 pub record TopFacts (n : ℕ) (ws list : List ℕ) (g h : ℕ) (low ups ls : List ℕ) (w : GroupWord) : Type 0 where
   pub fits : FitsGroup w
   pub sound : Sound n (set ws (n + h) (group_word w)) list
@@ -313,6 +327,7 @@ pub record TopFacts (n : ℕ) (ws list : List ℕ) (g h : ℕ) (low ups ls : Lis
   pub read : get_or (set ws (n + h) (group_word w)) (n + h) 0 ≡ group_word w
   pub again : (item_of (get_or (set ws (n + h) (group_word w)) (n + h) 0)).version ≡ w.version
 
+-- a label for the new group above g and below all later groups can be stored
 pub top_facts : (n : ℕ) (ws list : List ℕ) (g h : ℕ) (low ups : List ℕ) (w : GroupWord) → Sound n ws list → 0 < length low
     → Segment (labels n ws) list g (low ++ ups) → Free n (labels n ws) list h → (labels n ws).top g < w.top → w.top < TOP_ROOM
     → ((z : ℕ) → member z list ≡ true → (labels n ws).top g < (labels n ws).top ((labels n ws).group z) → w.top < (labels n ws).top ((labels n ws).group z))
@@ -360,7 +375,7 @@ top_facts n ws list g h (x ∷ low) ups w s some seg f above high gap v-fits =
       again = same_version (get_or (set ws (n + h) (group_word w)) (n + h) 0) ∙ ap (λ z. z.version) (ap group_of read ∙ group_of-group_word w fits);
     }
 
--- the two groups at the end
+-- once all upper members have moved, the lower ones are all members of the old group
 pub lower_segment : (n : ℕ) (a : Labels) (list : List ℕ) (g h : ℕ) (low ups ls : List ℕ) → Splitting n a list g h low ups ls 0 → Segment a list g low
 lower_segment n a list g h low ups ls sp = record {
   front = sp.front;
@@ -376,6 +391,7 @@ lower_segment n a list g h low ups ls sp = record {
   ];
 }
 
+-- once all upper members have moved, they are all members of the new group
 pub upper_segment : (n : ℕ) (a : Labels) (list : List ℕ) (g h : ℕ) (low ups ls : List ℕ) → Splitting n a list g h low ups ls 0 → Segment a list h ups
 upper_segment n a list g h low ups ls sp = record {
   front = sp.front ++ low;
@@ -392,16 +408,18 @@ upper_segment n a list g h low ups ls sp = record {
   ];
 }
 
--- steps after steps
+-- a list in order along writes, and along others from there on, is so along both
 pub OrderedAlong-append : (n : ℕ) (list ws : List ℕ) (ss ts : List Write) → OrderedAlong n list ws ss → OrderedAlong n list (stored ws ss) ts
     → OrderedAlong n list ws (ss ++ ts)
 OrderedAlong-append n list ws [] ts h k = k
 OrderedAlong-append n list ws (s ∷ ss) ts h k = (h.0, OrderedAlong-append n list (set ws s.word s.value) ss ts h.1 k)
 
+-- where writes raise versions by one, and others from there on, both do
 pub RaisedAlong-append : (ws : List ℕ) (ss ts : List Write) → RaisedAlong ws ss → RaisedAlong (stored ws ss) ts → RaisedAlong ws (ss ++ ts)
 RaisedAlong-append ws [] ts h k = k
 RaisedAlong-append ws (s ∷ ss) ts h k = (h.0, RaisedAlong-append (set ws s.word s.value) ss ts h.1 k)
 
+-- steps from one sheet to a second and from there to a third are steps from the first to the third
 pub Steps-then : (n : ℕ) (list : List ℕ) (p q r : Paper) → Steps n list p q → Steps n list q r → Steps n list p r
 Steps-then n list p q r h k = record {
   added = h.added ++ k.added;
@@ -411,6 +429,7 @@ Steps-then n list p q r h k = record {
   raised = RaisedAlong-append p.words h.added k.added h.raised (subst (λ ws. RaisedAlong ws k.added) h.words k.raised);
 }
 
+-- a store to a group's word and later stores to items' words raise no version by more than one
 pub versions-then : (n h : ℕ) (ws vs us : List ℕ) (v : ℕ) → 0 < h → vs ≡ set ws (n + h) v → version vs (n + h) ≡ version ws (n + h) + 1
     → ((w : ℕ) → n < w → get_or us w 0 ≡ get_or vs w 0) → ((w : ℕ) → version us w ≤ version vs w + 1) → (w : ℕ) → version us w ≤ version ws w + 1
 versions-then n h ws vs us v low words ver same le w = elim (cases_eq w (n + h)) [
@@ -418,6 +437,7 @@ versions-then n h ws vs us v low words ver same le w = elim (cases_eq w (n + h))
   | inr ne ↦ omega (arith, le w, ap (λ z. (item_of z).version) (ap (λ xs. get_or xs w 0) words ∙ get_or-set_other ws (n + h) w v 0 ne))
 ]
 
+-- a store to a group's word leaves the versions of items' words
 pub version_kept : (n h y v : ℕ) (ws vs : List ℕ) → 0 < h → y < n → vs ≡ set ws (n + h) v → version vs (1 + y) ≡ version ws (1 + y)
 version_kept n h y v ws vs low l words = let ne : 1 + y ≢ n + h = omega arith in
     ap (λ z. (item_of z).version) (ap (λ xs. get_or xs (1 + y) 0) words ∙ get_or-set_other ws (n + h) (1 + y) v 0 ne)

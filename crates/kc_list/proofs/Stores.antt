@@ -8,6 +8,7 @@ use Rattle.kc_words.specs.declared.group.GroupWord.{GroupWord}
 use Rattle.kc_words.specs.Order.{labels}
 use Rattle.kc_list.specs.Places.{ItemStored, GroupStored}
 
+-- a store to an item's word changes its group and its label alone
 pub item_stored : (n : ℕ) (ws : List ℕ) (y v : ℕ) (w : ItemWord) → y < n → length ws ≡ n + n + 2 → item_of v ≡ w
     → ItemStored (labels n ws) (labels n (set ws (1 + y) v)) n y w.group w.bottom
 item_stored n ws y v w l e is =
@@ -21,6 +22,7 @@ item_stored n ws y v w l e is =
       tops = λ h low. let d : n + h ≢ 1 + y = omega arith in ap (λ z. (group_of z).top) (get_or-set_other ws (1 + y) (n + h) v 0 d);
     }
 
+-- a store to a group's word changes its label alone
 pub group_stored : (n : ℕ) (ws : List ℕ) (g v : ℕ) (w : GroupWord) → 0 < g → g ≤ n + 1 → length ws ≡ n + n + 2 → group_of v ≡ w
     → GroupStored (labels n ws) (labels n (set ws (n + g) v)) n g w.top
 group_stored n ws g v w low high e is =

@@ -15,6 +15,7 @@ use Rattle.kc_list.proofs.Stores.{item_stored}
 use Rattle.kc_list.proofs.Putting.{item_agrees, Placed-agrees}
 use Rattle.kc_list.proofs.Counts.{size-without, size-right_after, size-agree}
 
+-- a store of no group to the word of x has the list in order without x
 pub take_sound : (n : ℕ) (ws list : List ℕ) (x v : ℕ) (w : ItemWord) → Sound n ws list → member x list ≡ true → item_of v ≡ w → w.group ≡ 0
     → Sound n (set ws (1 + x) v) (without x list)
 take_sound n ws list x v w s x-in is out =
@@ -36,12 +37,13 @@ take_sound n ws list x v w s x-in is out =
       ];
     }
 
--- as the program stores it
+-- the same of the word as the program stores it, which fits and is read again
 pub record TakeFacts (n : ℕ) (ws list : List ℕ) (x : ℕ) (w : ItemWord) : Type 0 where
   pub fits : IsFitting w
   pub sound : Sound n (set ws (1 + x) (item_word w)) (without x list)
   pub again : item_of (get_or (set ws (1 + x) (item_word w)) (1 + x) 0) ≡ w
 
+-- the word that the program stores as x is taken out has the list in order without x
 pub take_facts : (n : ℕ) (ws list : List ℕ) (x : ℕ) (w : ItemWord) → Sound n ws list → member x list ≡ true → w.version < 2 ^ 24 → w.group ≡ 0 → w.bottom ≡ 0
     → TakeFacts n ws list x w
 take_facts n ws list x w s x-in v g b =
@@ -72,6 +74,7 @@ size_less n ws vs list x v k s below e low =
           rw none (omega (arith, kept, ap (size_of (labels n ws).group k) (without-none x list x-out)))
     ]
 
+-- with x taken out, the sizes with one less for its group are those of the groups
 pub tally_taken : (n : ℕ) (ws vs list sizes : List ℕ) (x v g : ℕ) → Sound n ws list → member x list ≡ true → Tallied n ws list sizes → vs ≡ set ws (1 + x) v
     → g ≡ (labels n ws).group x → Tallied n vs (without x list) (set sizes g (get_or sizes g 0 - 1))
 tally_taken n ws vs list sizes x v g s x-in t e g-is =
@@ -113,7 +116,7 @@ used_size n ws list sizes y s t m =
     let one = rw (eq-eqb ((labels n ws).group y) ((labels n ws).group y) refl) at k in
     omega (arith, t.counts ((labels n ws).group y) p.group_low p.group_high, one)
 
--- x comes to a group
+-- with x put right after p, its new group has one more, and its old one, if any, one less
 pub size_more : (n : ℕ) (ws vs list : List ℕ) (x p v k : ℕ) → Sound n ws list → x < n → member p list ≡ true → (x ≡ p → ⊥) → vs ≡ set ws (1 + x) v
     → (labels n vs).group x ≡ (labels n ws).group p → 0 < k
     → size_of (labels n vs).group k (right_after x p (without x list)) + cond (eqb ((labels n ws).group x) k) 1 0 ≡ size_of (labels n ws).group k list + cond
@@ -124,6 +127,7 @@ size_more n ws vs list x p v k s below p-in ne e to low =
     (without-member p x list p-in (λ q. ne (sym q))) in
     omega (arith, less, more, ap {B = ℕ} (λ g. cond (eqb g k) 1 0) to)
 
+-- sizes with one more for the new group of x and one less for its old one are those of the groups
 pub tally_moved : (n : ℕ) (ws vs list sizes new : List ℕ) (x p v from to : ℕ) → Sound n ws list → x < n → member p list ≡ true → (x ≡ p → ⊥)
     → Tallied n ws list sizes → TakesItem n ws list x p → vs ≡ set ws (1 + x) v → (labels n vs).group x ≡ (labels n ws).group p
     → from ≡ (labels n ws).group x → to ≡ (labels n ws).group p → length new ≡ length sizes → get_or new 0 0 ≡ get_or sizes 0 0
@@ -150,7 +154,7 @@ tally_moved n ws vs list sizes new x p v from to s below p-in ne t takes e group
       ];
     }
 
--- one more, and one less
+-- a size that is raised by one is one more for its group alone
 pub bumped : (sizes : List ℕ) (to k : ℕ) → to < length sizes → get_or (set sizes to (get_or sizes to 0 + 1)) k 0 ≡ get_or sizes k 0 + cond (eqb to k) 1 0
 bumped sizes to k l = elim (cases_eq k to) [
   | inl e ↦ rw (eq-eqb to k (sym e))
@@ -159,6 +163,7 @@ bumped sizes to k l = elim (cases_eq k to) [
   | inr ne ↦ rw (ne_eqb to k (λ e. ne (sym e))) (get_or-set_other sizes to k (get_or sizes to 0 + 1) 0 ne ∙ omega arith)
 ]
 
+-- a size that is lowered by one is one less for its group alone
 pub dropped : (sizes : List ℕ) (from k : ℕ) → from < length sizes → 0 < get_or sizes from 0
     → get_or (set sizes from (get_or sizes from 0 - 1)) k 0 + cond (eqb from k) 1 0 ≡ get_or sizes k 0
 dropped sizes from k l some = elim (cases_eq k from) [
@@ -176,7 +181,7 @@ dropped sizes from k l some = elim (cases_eq k from) [
 pub from_in : (n : ℕ) (ws list : List ℕ) (x from : ℕ) → Sound n ws list → x < n → from ≡ (labels n ws).group x → (from ≡ 0 → ⊥) → member x list ≡ true
 from_in n ws list x from s below e ne = elim (cases_Bool (member x list)) [ inl t ↦ t | inr o ↦ absurd (ne (e ∙ s.outside x below o)) ]
 
--- as the program counts
+-- what the program counts as x moves: the new group and the old one are within the sizes, and not empty
 pub record Moving (n : ℕ) (ws list sizes : List ℕ) (x p from to : ℕ) : Type 0 where
   pub to_used : 0 < get_or sizes to 0
   pub to_in : to < length sizes
@@ -184,6 +189,7 @@ pub record Moving (n : ℕ) (ws list sizes : List ℕ) (x p from to : ℕ) : Typ
   pub from_used : (from ≡ 0 → ⊥) → 0 < get_or (set sizes to (get_or sizes to 0 + 1)) from 0
   pub from_within : (from ≡ 0 → ⊥) → from < length (set sizes to (get_or sizes to 0 + 1))
 
+-- the new group and the old one of x are within the sizes, and not empty
 pub moving : (n : ℕ) (ws list sizes : List ℕ) (x p from to : ℕ) → Sound n ws list → x < n → member p list ≡ true → Tallied n ws list sizes
     → from ≡ (labels n ws).group x → to ≡ (labels n ws).group p → Moving n ws list sizes x p from to
 moving n ws list sizes x p from to s below p-in t from-is to-is =
@@ -203,7 +209,7 @@ moving n ws list sizes x p from to s below p-in t from-is to-is =
           omega (arith, q.group_high, t.length_is, length-set sizes to (get_or sizes to 0 + 1));
     }
 
--- an item that was in the list moves
+-- the sizes after an item that was in the list moves
 pub moved_in : (n : ℕ) (ws vs list sizes : List ℕ) (x p v from to : ℕ) → Sound n ws list → x < n → member p list ≡ true → (x ≡ p → ⊥)
     → Tallied n ws list sizes → TakesItem n ws list x p → vs ≡ set ws (1 + x) v → (labels n vs).group x ≡ (labels n ws).group p
     → from ≡ (labels n ws).group x → to ≡ (labels n ws).group p → (from ≡ 0 → ⊥)
@@ -222,7 +228,7 @@ moved_in n ws vs list sizes x p v from to s below p-in ne t takes e group from-i
     ∙ get_or-set_other sizes to 0 (get_or sizes to 0 + 1) 0 to-0)
     (λ k low. dropped (set sizes to (get_or sizes to 0 + 1)) from k (m.from_within some) (m.from_used some) ∙ bumped sizes to k m.to_in)
 
--- an item is put in
+-- the sizes after an item that was out is put in
 pub moved_new : (n : ℕ) (ws vs list sizes : List ℕ) (x p v from to : ℕ) → Sound n ws list → x < n → member p list ≡ true → (x ≡ p → ⊥)
     → Tallied n ws list sizes → TakesItem n ws list x p → vs ≡ set ws (1 + x) v → (labels n vs).group x ≡ (labels n ws).group p
     → from ≡ (labels n ws).group x → to ≡ (labels n ws).group p → from ≡ 0

@@ -13,7 +13,7 @@ use Rattle.kc_list.specs.declared.limits.TheConstants.{GROUP_ITEMS, OPENING_ITEM
 use Rattle.kc_distinct.proofs.Counting.{Distinct-push, member-get_or}
 use Rattle.kc_distinct.proofs.Shared.{some_length}
 
--- there is room for it
+-- a group in use is not among the free numbers, and there is room for it
 pub room_for : (sizes free : List ℕ) (g : ℕ) → IsTally sizes free → 0 < g → g < length sizes → 0 < get_or sizes g 0
     → (length free + 2 ≤ length sizes) × (member g free ≡ false)
 room_for sizes free g t low l used =
@@ -27,6 +27,7 @@ room_for sizes free g t low l used =
     ] in
     (omega (arith, below_bound (length sizes) (0 ∷ g ∷ free) (zero-out, (out, t.distinct)) below), out)
 
+-- a group that its last item leaves comes to the free numbers
 pub tally_leave_last : (sizes free : List ℕ) (g : ℕ) → IsTally sizes free → 0 < g → g < length sizes → get_or sizes g 0 ≡ 1
     → IsTally (set sizes g (get_or sizes g 0 - 1)) (free ++ g ∷ [])
 tally_leave_last sizes free g t low l used =
@@ -96,13 +97,14 @@ tally_split sizes free g h t l full =
     drop_end [] x d = tt
     drop_end (y ∷ ys) x d = ((not_member-append y ys (x ∷ []) d.0).0, drop_end ys x d.1)
 
--- as the program keeps them
+-- the sizes and free numbers, as the program keeps them, after the last item leaves a group
 pub record LeaveFacts (sizes free : List ℕ) (count g size : ℕ) : Type 0 where
   pub room : count < length free
   pub tally : IsTally (set sizes g (size - 1)) (take (count + 1) (set free count g))
   pub more : count + 1 ≤ length (set free count g)
   pub lengths : length (set free count g) + 1 ≡ length (set sizes g (size - 1))
 
+-- what the program does as the last item leaves a group keeps sizes and free numbers
 pub leave_facts : (sizes free old : List ℕ) (count g size : ℕ) → IsTally sizes (take count free) → count ≤ length free → length free + 1 ≡ length sizes
     → sizes ≡ old → 0 < g → g < length old → size ≡ get_or sizes g size → size ≡ 1 → LeaveFacts sizes free count g size
 leave_facts sizes free old count g size t c l is low high read one =
@@ -119,6 +121,7 @@ leave_facts sizes free old count g size t c l is low high read one =
       lengths = omega (arith, l, length-set free count g, length-set sizes g (size - 1));
     }
 
+-- the sizes and free numbers, as the program keeps them, after a full group is cut in two
 pub record SplitFacts (sizes free old : List ℕ) (count g fresh : ℕ) : Type 0 where
   pub some : 0 < count
   pub tally : IsTally (set (set sizes g HALF_ITEMS) fresh HALF_ITEMS) (take (count - 1) free)
@@ -128,12 +131,14 @@ pub record SplitFacts (sizes free old : List ℕ) (count g fresh : ℕ) : Type 0
   pub was_free : get_or old fresh 0 ≡ 0
   pub lengths : length free + 1 ≡ length (set (set sizes g HALF_ITEMS) fresh HALF_ITEMS)
 
+-- where some group has size 0, there is a free number
 pub some_count : (sizes free old : List ℕ) (count : ℕ) → IsTally sizes (take count free) → count ≤ length free → sizes ≡ old
     → (h : ℕ) × (0 < h) × (h < length old) × (get_or old h 0 ≡ 0) → 0 < count
 some_count sizes free old count t c is spare =
     let m = t.all spare.0 spare.1 (omega (arith, spare.2, ap length is)) (ap (λ zs. get_or zs spare.0 0) is ∙ spare.3) in
     omega (arith, some_length spare.0 (take count free) m, length-take-le count free c)
 
+-- what the program does as a full group is cut in two keeps sizes and free numbers
 pub split_facts : (sizes free old : List ℕ) (count g fresh : ℕ) → IsTally sizes (take count free) → count ≤ length free → length free + 1 ≡ length sizes
     → sizes ≡ old → g < length old → get_or old g 0 ≡ GROUP_ITEMS → (h : ℕ) × (0 < h) × (h < length old) × (get_or old h 0 ≡ 0)
     → fresh ≡ get_or free (count - 1) fresh → SplitFacts sizes free old count g fresh
@@ -155,10 +160,11 @@ split_facts sizes free old count g fresh t c l is g-in full spare read =
       lengths = omega (arith, l, length-set (set sizes g HALF_ITEMS) fresh HALF_ITEMS, length-set sizes g HALF_ITEMS);
     }
 
--- at the opening
+-- a list that is written over all of another, read at its length, is the list
 pub whole_back : (xs ys : List ℕ) (n : ℕ) → n ≡ length ys → length xs ≡ length ys → take n (xs ++ drop (length xs) ys) ≡ xs
 whole_back xs ys n e l = ap (λ zs. take n (xs ++ zs)) (drop_all (length xs) ys (omega arith)) ∙ (ap (take n) (append-nil xs) ∙ take_all n xs (omega arith))
 
+-- a list with different numbers at any two places is distinct
 pub Distinct-from : (xs : List ℕ) → ((i j : ℕ) → i < j → j < length xs → get_or xs i 0 ≢ get_or xs j 0) → Distinct xs
 Distinct-from [] f = tt
 Distinct-from (x ∷ xs) f = (
@@ -166,9 +172,11 @@ Distinct-from (x ∷ xs) f = (
   Distinct-from xs (λ i j l k. f (suc i) (suc j) (omega arith) (omega arith)),
 )
 
+-- what stands at a place of a front stands there in the list
 taken_at : (xs : List ℕ) (n i : ℕ) → i < n → n ≤ length xs → get_or (take n xs) i 0 ≡ get_or xs i 0
 taken_at xs n i l k = get_or-take n xs i 0 l
 
+-- at the opening the free numbers are those above the groups that have items
 pub opened_tally : (sizes free : List ℕ) (n len used : ℕ) → length sizes ≡ n + 2 → length free ≡ n + 1 → len ≤ n
     → used ≡ (len + (OPENING_ITEMS - 1)) / OPENING_ITEMS → ((g : ℕ) → 0 < g → g < length sizes → get_or sizes g 0 ≡ opening_count len g)
     → ((i : ℕ) → i < length free → get_or free i 0 ≡ length free - i) → IsTally sizes (take (n + 1 - used) free)

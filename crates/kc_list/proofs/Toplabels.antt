@@ -70,13 +70,16 @@ order_from_tops a b end low x (y ∷ ys) f k h =
           (inr (omega (arith, ap b.top fx.0, ap b.top fy.0, k2.0)), order_from_tops a b end (suc (b.top (a.group x))) y ys f' k'.1 h.1)
     ]
 
+-- a group whose label is below those of some groups is none of them
 out_of_rest : (t : ℕ → ℕ) (g : ℕ) (gs : List ℕ) → ((k : ℕ) → member k gs ≡ true → suc (t g) ≤ t k) → member g gs ≡ false
 out_of_rest t g gs f = false_from_ne_true (member g gs) (λ m. let k : suc (t g) ≤ t g = f g m in absurd (omega arith))
 
+-- labels of groups that ascend have an end no lower than they begin
 end_of : (t : ℕ → ℕ) (low end : ℕ) (gs : List ℕ) → Ascends low end (map t gs) → low ≤ end
 end_of t low end [] h = h
 end_of t low end (g ∷ gs) h = omega (arith, h.0, end_of t (suc (t g)) end gs h.1)
 
+-- each label of groups whose labels ascend is within the bounds
 pub all_range : (t : ℕ → ℕ) (low end : ℕ) (gs : List ℕ) (g : ℕ) → Ascends low end (map t gs) → member g gs ≡ true → (low ≤ t g) × (t g < end)
 all_range t low end [] g h m = absurd (false≢true m)
 all_range t low end (k ∷ gs) g h m = elim (member-cases g k gs m) [
@@ -84,6 +87,7 @@ all_range t low end (k ∷ gs) g h m = elim (member-cases g k gs m) [
   | inr m' ↦ (let r = all_range t (suc (t k)) end gs g h.1 m' in (omega (arith, r.0, h.0), r.1))
 ]
 
+-- groups whose labels ascend are distinct, and no label is below the bound
 Ascends-distinct : (t : ℕ → ℕ) (low end : ℕ) (gs : List ℕ) → Ascends low end (map t gs) → Distinct gs × ((g : ℕ) → member g gs ≡ true → low ≤ t g)
 Ascends-distinct t low end [] h = (tt, λ g m. absurd (false≢true m))
 Ascends-distinct t low end (g ∷ gs) h =
@@ -103,6 +107,7 @@ runs_item f g (x ∷ y ∷ ys) m =
       ]
     ]
 
+-- the group of an item is among the groups of the list
 pub item_runs : (f : ℕ → ℕ) (y : ℕ) (xs : List ℕ) → member y xs ≡ true → member (f y) (runs f xs) ≡ true
 item_runs f y [] m = absurd (false≢true m)
 item_runs f y (x ∷ []) m = elim (member-cases y x [] m) [
@@ -119,7 +124,7 @@ item_runs f y (x ∷ z ∷ zs) m =
           elim (cases_Bool (eqb (f x) (f z))) [ inl t ↦ rw t rest | inr t ↦ rw t (member-tail (f y) (f x) (runs f (z ∷ zs)) rest) ]
     ]
 
--- one store of a spread of the top labels
+-- after one store of a spread of the groups the list is in order, and one group has its new label
 pub record Retopped (n : ℕ) (ws list gs : List ℕ) (i : ℕ) (w : GroupWord) : Type 0 where
   pub fits : FitsGroup w
   pub below : get_or gs i 0 ≤ n + 1
@@ -127,6 +132,7 @@ pub record Retopped (n : ℕ) (ws list gs : List ℕ) (i : ℕ) (w : GroupWord) 
   pub same_runs : runs (labels n (set ws (n + get_or gs i 0) (group_word w))).group list ≡ gs
   pub tops : map (labels n (set ws (n + get_or gs i 0) (group_word w))).top gs ≡ set (map (labels n ws).top gs) i w.top
 
+-- where the items keep their groups, the groups of the list stay
 runs-same : (f g : ℕ → ℕ) (xs : List ℕ) → ((y : ℕ) → member y xs ≡ true → g y ≡ f y) → runs g xs ≡ runs f xs
 runs-same f g [] h = refl
 runs-same f g (x ∷ []) h = ap (λ z. z ∷ []) (h x (member-head x []))
@@ -137,6 +143,7 @@ runs-same f g (x ∷ y ∷ ys) h =
     ap (λ u. cond (eqb u (g y)) (runs g (y ∷ ys)) (u ∷ runs g (y ∷ ys))) hx
     ∙ (ap (λ u. cond (eqb (f x) u) (runs g (y ∷ ys)) (f x ∷ runs g (y ∷ ys))) hy ∙ ap (λ rs. cond (eqb (f x) (f y)) rs (f x ∷ rs)) rest)
 
+-- a group can get a new label with which the labels of the groups ascend
 pub retopped : (n : ℕ) (ws list gs : List ℕ) (i : ℕ) (w : GroupWord) → Sound n ws list → gs ≡ runs (labels n ws).group list → i < length gs
     → w.version < 2 ^ 24 → Ascends 1 TOP_ROOM (set (map (labels n ws).top gs) i w.top) → Retopped n ws list gs i w
 retopped n ws [] gs i w s e l v-fits asc = absurd (omega (arith, ap length e))
@@ -187,12 +194,13 @@ retopped n ws (x ∷ xs) gs i w s e l v-fits asc =
       tops = new;
     }
 
--- as the program stores it
+-- the same of the word as the program stores it, whose version is read again
 pub record RetopFacts (n : ℕ) (ws list gs : List ℕ) (i : ℕ) (w : GroupWord) : Type 0 where
   pub all : Retopped n ws list gs i w
   pub read : get_or (set ws (n + get_or gs i 0) (group_word w)) (n + get_or gs i 0) 0 ≡ group_word w
   pub again : (item_of (get_or (set ws (n + get_or gs i 0) (group_word w)) (n + get_or gs i 0) 0)).version ≡ w.version
 
+-- the word that the program stores as a group gets a new label keeps the list in order
 pub retop_facts : (n : ℕ) (ws list gs : List ℕ) (i : ℕ) (w : GroupWord) → Sound n ws list → gs ≡ runs (labels n ws).group list → i < length gs
     → w.version < 2 ^ 24 → Ascends 1 TOP_ROOM (set (map (labels n ws).top gs) i w.top) → RetopFacts n ws list gs i w
 retop_facts n ws list gs i w s e l v-fits asc =
@@ -206,6 +214,7 @@ retop_facts n ws list gs i w s e l v-fits asc =
           ∙ ap (λ z. z.version) (ap group_of read ∙ group_of-group_word w all.fits);
     }
 
+-- the group at a place of the groups in use has a number from 1 to n + 1
 pub group_range : (n : ℕ) (ws list gs : List ℕ) (i : ℕ) → Sound n ws list → gs ≡ runs (labels n ws).group list → i < length gs
     → (0 < get_or gs i 0) × (get_or gs i 0 ≤ n + 1)
 group_range n ws list gs i s e l =
@@ -225,6 +234,7 @@ pub record Topway (n : ℕ) (list : List ℕ) (p q : Paper) (gs : List ℕ) (ss 
   pub length_is : length q.writes ≡ length p.writes + j
   pub room : q.room ≡ p.room
 
+-- at first no step of a schedule for the groups is done
 pub topway-none : (n : ℕ) (list : List ℕ) (p : Paper) (gs : List ℕ) (ss : Writes) → Sound n p.words list → gs ≡ runs (labels n p.words).group list
     → Topway n list p p gs ss 0
 topway-none n list p gs ss s e =
@@ -241,6 +251,7 @@ topway-none n list p gs ss s e =
       room = refl;
     }
 
+-- after the next step of a schedule for the groups the labels ascend
 pub topway-ascends : (n : ℕ) (list : List ℕ) (p q : Paper) (gs : List ℕ) (ss : Writes) (j : ℕ) → Topway n list p q gs ss j
     → ((k : ℕ) → k ≤ length ss → Ascends 1 TOP_ROOM (written (map (labels n p.words).top gs) (take k ss))) → j < length ss
     → Ascends 1 TOP_ROOM (set (map (labels n q.words).top gs) (get_or ss j (0, 0)).0 (get_or ss j (0, 0)).1)
@@ -248,12 +259,14 @@ topway-ascends n list p q gs ss j h asc l =
     subst (Ascends 1 TOP_ROOM) (written-more (map (labels n p.words).top gs) ss j l
     ∙ ap (λ xs. set xs (get_or ss j (0, 0)).0 (get_or ss j (0, 0)).1) (sym h.tops)) (asc (j + 1) (omega arith))
 
+-- the word that the next step of a schedule for the groups writes has a version to spare
 pub topway-version : (n : ℕ) (list : List ℕ) (p q : Paper) (gs : List ℕ) (ss : Writes) (j : ℕ) → Topway n list p q gs ss j
     → ((g : ℕ) → member g gs ≡ true → version p.words (n + g) < LAST_VERSION) → (get_or ss j (0, 0)).0 < length gs → j < length ss
     → version q.words (n + get_or gs (get_or ss j (0, 0)).0 0) < LAST_VERSION
 topway-version n list p q gs ss j h v p-in l =
     omega (arith, h.waiting j (omega arith) l, v (get_or gs (get_or ss j (0, 0)).0 0) (member-get_or gs (get_or ss j (0, 0)).0 0 p-in))
 
+-- one step more of a schedule for the groups is done
 pub topway-more : (n : ℕ) (list : List ℕ) (p q r : Paper) (gs : List ℕ) (ss : Writes) (j v : ℕ) → Topway n list p q gs ss j → j < length ss → Distinct gs
     → Distinct (places ss) → ((p : ℕ) → member p (places ss) ≡ true → p < length gs)
     → Sound n r.words list → gs ≡ runs (labels n r.words).group list
@@ -291,7 +304,7 @@ topway-more n list p q r gs ss j v h l d once within sound groups tops words wri
       room = room ∙ h.room;
     }
 
--- the groups are distinct
+-- the groups of a list are distinct, and their labels ascend
 pub runs_distinct : (n : ℕ) (ws list : List ℕ) → Sound n ws list
     → Distinct (runs (labels n ws).group list) × Ascends 1 TOP_ROOM (map (labels n ws).top (runs (labels n ws).group list))
 runs_distinct n ws [] s = (tt, omega arith)

@@ -12,7 +12,7 @@ use Rattle.kc_words.specs.declared.layout.TheConstants.{TOP_ROOM}
 use Rattle.kc_list.specs.declared.limits.TheConstants.{GROUP_ITEMS}
 use Rattle.kc_distinct.proofs.Counting.{member-get_or}
 
--- the words of some groups
+-- a word among those of some groups is that of one of them
 member-shift : (w n : ℕ) (gs : List ℕ) → member w (map (λ g. n + g) gs) ≡ true → (g : ℕ) × (w ≡ n + g) × (member g gs ≡ true)
 member-shift w n [] k = absurd (false≢true k)
 member-shift w n (g ∷ gs) k = elim (member-cases w (n + g) (map (λ h. n + h) gs) k) [
@@ -20,6 +20,7 @@ member-shift w n (g ∷ gs) k = elim (member-cases w (n + g) (map (λ h. n + h) 
   | inr k' ↦ let r = member-shift w n gs k' in (r.0, r.1, member-tail r.0 g gs r.2)
 ]
 
+-- an item's word, or the note, is none of the words of the groups in use
 pub no_item_word : (n : ℕ) (ws list : List ℕ) (w : ℕ) → Sound n ws list → w ≤ n → member w (map (λ g. n + g) (runs (labels n ws).group list)) ≡ false
 no_item_word n ws list w s l = false_from_ne_true (member w (map (λ g. n + g) (runs (labels n ws).group list))) (λ k.
     let r = member-shift w n (runs (labels n ws).group list) k in
@@ -27,6 +28,7 @@ no_item_word n ws list w s l = false_from_ne_true (member w (map (λ g. n + g) (
     let low = (s.inside from.0 from.1).group_low in
     absurd (omega (arith, r.1, from.2, low)))
 
+-- the word of a free group is none of the words of the groups in use
 pub no_free_word : (n : ℕ) (ws list : List ℕ) (h : ℕ) → Free n (labels n ws) list h → member (n + h) (map (λ g. n + g) (runs (labels n ws).group list)) ≡ false
 no_free_word n ws list h f = false_from_ne_true (member (n + h) (map (λ g. n + g) (runs (labels n ws).group list))) (λ k.
     let r = member-shift (n + h) n (runs (labels n ws).group list) k in
@@ -39,6 +41,7 @@ pub record Last (n : ℕ) (ws list : List ℕ) (g : ℕ) (into : List ℕ) : Typ
   pub group : (labels n ws).group (get_or into (GROUP_ITEMS - 1) 0) ≡ g
   pub segment : Segment (labels n ws) list g (take (GROUP_ITEMS - 1) into ++ get_or into (GROUP_ITEMS - 1) 0 ∷ [])
 
+-- what stands last in the array of a full group is its last member
 pub last_facts : (n : ℕ) (ws list : List ℕ) (g count : ℕ) (into : List ℕ) → Segment (labels n ws) list g (take count into) → length into ≡ GROUP_ITEMS
     → count ≤ length into → size_of (labels n ws).group g list ≡ GROUP_ITEMS → Last n ws list g into
 last_facts n ws list g count into seg len within size =
@@ -50,7 +53,7 @@ last_facts n ws list g count into seg len within size =
       segment = (halves n (labels n ws) list g into seg' len).last;
     }
 
--- where the gap is wide enough
+-- a gap of two above the last member of a full group is a gap of two above the group
 pub wide_gap : (n : ℕ) (ws list : List ℕ) (g : ℕ) (into : List ℕ) (low high : ℕ) → Sound n ws list → Last n ws list g into → low ≡ (labels n ws).top g
     → high ≡ top_end n (labels n ws) (next_of n (get_or into (GROUP_ITEMS - 1) 0) list) → low + 2 ≤ high
     → ((z : ℕ) → member z list ≡ true → (labels n ws).top g < (labels n ws).top ((labels n ws).group z)

@@ -40,17 +40,18 @@ written_from n before after x p q r v none h words writes o rise =
       last_is = refl;
     }
 
--- the note's word stays
+-- writes that raise versions leave the note
 note_stays : (ws : List ℕ) (ss : List Write) → RaisedAlong ws ss → get_or (stored ws ss) 0 0 ≡ get_or ws 0 0
 note_stays ws [] h = refl
 note_stays ws (s ∷ ss) h = let ne : 0 ≢ s.word = (let l = h.0.low in omega arith) in note_stays (set ws s.word s.value) ss h.1
     ∙ get_or-set_other ws s.word 0 s.value 0 ne
 
+-- where there was no note before a call, there is none after it
 pub note_kept : (n : ℕ) (before after : List ℕ) (x : ℕ) (ws vs : List ℕ) (ss : List Write) → Written n before after x ws vs ss → get_or ws 0 0 ≡ 0
     → get_or vs 0 0 ≡ 0
 note_kept n before after x ws vs ss h z = ap (λ us. get_or us 0 0) h.words ∙ (note_stays ws ss h.raised ∙ z)
 
--- what is in the list is in it after a put, and after a take of another
+-- what is in the list is in it after a put
 pub put_keeps : (x p y : ℕ) (list : List ℕ) → member p list ≡ true → x ≢ p → member y list ≡ true → member y (right_after x p (without x list)) ≡ true
 put_keeps x p y list p-in ne y-in =
     let p-still : member p (without x list) ≡ true = without-member p x list p-in (λ e. ne (sym e)) in
@@ -59,7 +60,7 @@ put_keeps x p y list p-in ne y-in =
       | inr other ↦ right_after-member y x p (without x list) p-still (inr (without-member y x list y-in other))
     ]
 
--- where an item stands among the others
+-- what stands in the front has a place within it
 place-front : (x : ℕ) (l r : List ℕ) → member x l ≡ true → place_of x (l ++ r) < length l
 place-front x [] r m = absurd (false≢true m)
 place-front x (y ∷ l) r m = elim (cases_eq x y) [
@@ -67,6 +68,7 @@ place-front x (y ∷ l) r m = elim (cases_eq x y) [
   | inr ne ↦ rw (ne_eqb x y ne) (omega (arith, place-front x l r (elim (member-cases x y l m) [ inl e ↦ absurd (ne e) | inr k ↦ k ])))
 ]
 
+-- what does not stand in the front has a place behind it
 place-back : (x : ℕ) (l r : List ℕ) → member x l ≡ false → length l ≤ place_of x (l ++ r)
 place-back x [] r m = omega arith
 place-back x (y ∷ l) r m = elim (cases_eq x y) [
@@ -75,6 +77,7 @@ place-back x (y ∷ l) r m = elim (cases_eq x y) [
       (arith, place-back x l r (elim (cases_Bool (member x l)) [ inl t ↦ absurd (true≢false (sym (member-tail x y l t) ∙ m)) | inr f ↦ f ])))
 ]
 
+-- of two items of the list, the one with the lesser pair stands before the other, and only it
 pub precedes_list : (n : ℕ) (ws list : List ℕ) (x y : ℕ) → Sound n ws list → member x list ≡ true → member y list ≡ true → x ≢ y
     → (PairBelow (labels n ws) x y → place_of x list < place_of y list) × (place_of x list < place_of y list → PairBelow (labels n ws) x y)
 precedes_list n ws list x y s x-in y-in ne =
@@ -107,10 +110,11 @@ precedes_list n ws list x y s x-in y-in ne =
           (λ h. absurd (PairBelow-asym a x y h after), λ lt. absurd (no-less lt))
     ]
 
--- what stands right before and after an item is in the list
+-- what stands right after an item, where it is not the end, is in the list
 pub next_member : (n : ℕ) (x q : ℕ) (list : List ℕ) → q ≡ next_of n x list → (q ≡ n → ⊥) → member q list ≡ true
 next_member n x q list e ne = elim (next_of-in n x list) [ inl z ↦ absurd (ne (e ∙ z)) | inr k ↦ ap (λ w. member w list) e ∙ k ]
 
+-- what stands right before x is the start, or a member
 prev_of-in : (e x : ℕ) (zs : List ℕ) → (prev_of e x zs ≡ e) ⊎ (member (prev_of e x zs) zs ≡ true)
 prev_of-in e x [] = inl refl
 prev_of-in e x (y ∷ ys) = elim (eqb x y) as (λ b. (cond b e (prev_of y x ys) ≡ e) ⊎ (member (cond b e (prev_of y x ys)) (y ∷ ys) ≡ true)) [
@@ -121,6 +125,7 @@ prev_of-in e x (y ∷ ys) = elim (eqb x y) as (λ b. (cond b e (prev_of y x ys) 
   ]
 ]
 
+-- what stands right before an item, where it is not the end, is in the list
 pub prev_member : (n : ℕ) (x q : ℕ) (list : List ℕ) → q ≡ prev_of n x list → (q ≡ n → ⊥) → member q list ≡ true
 prev_member n x q list e ne = elim (prev_of-in n x list) [ inl z ↦ absurd (ne (e ∙ z)) | inr k ↦ ap (λ w. member w list) e ∙ k ]
 
@@ -135,10 +140,12 @@ some_word (u ∷ v ∷ ws) l =
       | inr ge ↦ (zero, omega arith, omega arith)
     ]
 
+-- the word 0 has version 0
 none_version : (item_of 0).version ≡ 0
 unfolding item_of
 none_version = refl
 
+-- the greatest version is that of an item's or a group's word
 pub reached : (n h : ℕ) (ws : List ℕ) → length ws ≡ n + n + 2 → get_or ws 0 0 ≡ 0 → h ≡ highest_of ws → (w : ℕ) × (1 ≤ w) × (w ≤ 2 * n + 1) × (version ws w ≡ h)
 reached n h ws e note is =
     let r = some_word ws (omega arith) in
@@ -149,7 +156,7 @@ reached n h ws e note is =
       | inr some ↦ (r.0, omega arith, omega (arith, r.1), r.2 ∙ sym is)
     ]
 
--- what a spread leaves of it
+-- where the items keep their groups, the group of p can take x as before
 pub takes_kept : (n : ℕ) (ws vs list : List ℕ) (x p : ℕ) → Sound n ws list → Sound n vs list → x < n → member p list ≡ true
     → ((y : ℕ) → member y list ≡ true → (labels n vs).group y ≡ (labels n ws).group y) → TakesItem n ws list x p → TakesItem n vs list x p
 takes_kept n ws vs list x p s t below p-in same takes = elim takes [
@@ -169,7 +176,7 @@ takes_kept n ws vs list x p s t below p-in same takes = elim takes [
 pub spare_versions : (ws us now : List ℕ) (w : ℕ) → us ≡ ws → ws ≡ now → highest_of now + 3 ≤ LAST_VERSION → version us w + 3 ≤ LAST_VERSION
 spare_versions ws us now w e is h = omega (arith, version-highest us w, ap highest_of (e ∙ is), h)
 
--- the greatest version after one store, and after a whole put
+-- where no version but the stored one may be above k, and the new one is not, the greatest is not
 pub highest_once : (ws vs : List ℕ) (w v k : ℕ) → vs ≡ set ws w v → version vs w ≡ version ws w + 1 → ((u : ℕ) → u ≢ w → version ws u ≤ k)
     → version ws w + 1 ≤ k → highest_of vs ≤ k
 highest_once ws vs w v k e ver others here = highest-below vs k (λ u. elim (cases_eq u w) [
