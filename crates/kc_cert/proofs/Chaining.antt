@@ -238,7 +238,7 @@ anchor_with-other x w y home ne = ap (λ b. unwrap_or (cond b (Some (anchor_of h
       | inr other ↦ ap (λ b. unwrap_or (cond b (Some (anchor_of home w)) (home y)) y) (ne_eqb y w other)
     ]
 
--- a vertex in no chain is its own anchor
+-- where nothing is there, the default is read
 unwrap-none : (o : Option ℕ) (y : ℕ) → is_some o ≡ false → unwrap_or o y ≡ y
 unwrap-none None y n = refl
 unwrap-none (Some k) y n = absurd (true≢false n)

@@ -37,7 +37,7 @@ risen_more core order i last h up = record {
   first = λ e. absurd (omega arith);
 }
 
--- where that holds of the whole order, the numbers never fall
+-- where the numbers of all of an order never fall up to its end, they never fall along it
 pub risen_all : (core order : List ℕ) (last : ℕ) → RisenTo core order (length order) last → NeverFalls core order
 risen_all core order last h i j d lt l =
     omega (arith, h.pairs i j lt l, ap (λ x. get_or core x 0) (get_or-any order i d 0 (omega arith)), ap (λ x. get_or core x 0) (get_or-any order j d 0 l))

@@ -22,7 +22,7 @@ part-high r low a b = grind arith
 same_part : (p q : ℕ) (r x : Bool) (y z : ℕ) → p ≡ q → r ≡ false → y < z → (ltb p q || (eqb p q && cond r x (ltb y z))) ≡ true
 same_part p q r x y z e f l = grind arith
 
--- and the greater one doesn't
+-- within a part of those that did not move, the greater rank doesn't stand first
 same_part_back : (p q : ℕ) (r x : Bool) (y z : ℕ) → p ≡ q → r ≡ false → y < z → (ltb q p || (eqb q p && cond r x (ltb z y))) ≡ false
 same_part_back p q r x y z e f l = grind arith
 
@@ -30,7 +30,7 @@ same_part_back p q r x y z e f l = grind arith
 rise_part : (p q : ℕ) (r x : Bool) (y z : ℕ) → p ≡ q → r ≡ true → y < z → (ltb p q || (eqb p q && cond r (ltb y z) x)) ≡ true
 rise_part p q r x y z e f l = grind arith
 
--- and the other doesn't
+-- within the part of those that moved, the one that is inside later doesn't stand first
 rise_part_back : (p q : ℕ) (r x : Bool) (y z : ℕ) → p ≡ q → r ≡ true → y < z → (ltb q p || (eqb q p && cond r (ltb z y) x)) ≡ false
 rise_part_back p q r x y z e f l = grind arith
 
@@ -38,7 +38,7 @@ rise_part_back p q r x y z e f l = grind arith
 other_part : (p q : ℕ) (x : Bool) → p < q → (ltb p q || (eqb p q && x)) ≡ true
 other_part p q x l = grind arith
 
--- and what is in a later one doesn't
+-- what is in a later part doesn't stand first
 other_part_back : (p q : ℕ) (x : Bool) → p < q → (ltb q p || (eqb q p && x)) ≡ false
 other_part_back p q x l = grind arith
 

@@ -81,7 +81,7 @@ looked-parts a b c d h =
     let r = or_parts c d p.1 in
     (q.0, q.1, r.0, r.1)
 
--- a vertex with a neighbour in a list
+-- where a vertex has no neighbour in a list, none of its neighbours is a member of it
 not_beside : (g : SimpleGraph) (z y : ℕ) (xs : List ℕ) → list_any (adjacent g z) xs ≡ false → adjacent g z y ≡ true → member y xs ≡ false
 not_beside g z y [] none a = refl
 not_beside g z y (x ∷ xs) none a =

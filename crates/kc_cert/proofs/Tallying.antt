@@ -202,14 +202,14 @@ neighbour-at g z i y l e =
     let near = neighbours_within g z y (ap (λ k. member k (neighbours_of g z)) e ∙ member-get_or (neighbours_of g z) i 0 l) in
     (near.0, λ same. true≢false (sym near.1 ∙ (ap (adjacent g z) (sym same) ∙ adjacent-self g z)))
 
--- where an edge comes, it is 1 if the other end passes, and 0 else
+-- where an edge comes, one more passes at an end if the other end passes, and none else
 pub gained-some : (update : Update) (z y : ℕ) (q : ℕ → Bool) → update.add ≡ true → other_end update z ≡ Some y → gained update z q ≡ one_if (q y)
 gained-some update z y q add e = ap (λ b. cond b (one_of (other_end update z) q) 0) add ∙ ap (λ o. one_of o q) e
 
--- where an edge goes, it is 0
+-- where an edge goes, none more passes
 pub gained-removed : (update : Update) (z : ℕ) (q : ℕ → Bool) → update.add ≡ false → gained update z q ≡ 0
 gained-removed update z q removes = ap (λ b. cond b (one_of (other_end update z) q) 0) removes
 
--- at a vertex that is no end it is 0
+-- at a vertex that is no end, none more passes
 pub gained-none : (update : Update) (z : ℕ) (q : ℕ → Bool) → other_end update z ≡ None → gained update z q ≡ 0
 gained-none update z q e = ap (λ o. cond update.add (one_of o q) 0) e ∙ elim update.add as (λ b. ◌≡◌ {A = ℕ} (cond b 0 0) 0) [ true ↦ refl | false ↦ refl ]
