@@ -31,7 +31,7 @@ each_member P xs n l h x m =
     let (k, lk, e) = Contains-from_member xs x m in
     subst P (get_or-any xs k 0 x lk ∙ e) (h k (omega arith))
 
--- a vertex is a neighbour where its list has it
+-- a vertex that stands at no place of the list of another's neighbours is none of them
 pub not_adjacent : (g : SimpleGraph) (u v n : ℕ) → v < g.size → length (neighbours_of g u) ≤ n
     → ((k : ℕ) → k < n → get_or (neighbours_of g u) k 0 ≢ v) → adjacent g u v ≡ true → ⊥
 not_adjacent g u v n lv l h a = each_member (λ w. w ≢ v) (neighbours_of g u) n l h v (neighbours_has g u v lv ∙ a) refl
