@@ -219,14 +219,14 @@ pub record IsMadeOf (reading : Reading) (input : Input) : Type 0 where
   pub batches : parts_of_all input.batches.items ≡ map (λ batch. numbered_deciding reading.ids.items batch.items) reading.batches.items
   pub overruled : input.overruled.items ≡ map (λ batch. overruled batch.items) reading.batches.items
 
--- its batches are those that were told
+-- the batches of an input are those that were told
 made-parts : (bytes : List ℕ) (reading : Reading) (input : Input) → (a : Accepted bytes reading) → IsMadeOf reading input
     → parts_of_all input.batches.items ≡ map (numbered_deciding input.ids.items) (batches a.told)
 made-parts bytes reading input a is =
     is.batches ∙ (made-of (numbered_deciding reading.ids.items) reading.batches.items (batches a.told) a.read.batches
     ∙ ap (λ (ids : List ℕ). map (numbered_deciding ids) (batches a.told)) (sym is.ids))
 
--- it is an input of what was told
+-- an input that is made of an accepted reading is the input of what was told
 pub made : (bytes : List ℕ) (reading : Reading) (input : Input) → Accepted bytes reading → IsMadeOf reading input
     → (told : Told) × (meaning bytes ≡ Means told) × IsInput told input
 made bytes reading input a is = (

@@ -150,7 +150,7 @@ all-deciding ids batches updates decided are among found =
     ∙ made-alike ids (Among ids) (λ us. map parts_of (last_of_edges us)) (λ cs. map (numbered_change ids) (deciding cs))
     (last-deciding ids) batches updates are among))
 
--- and the others are overruled
+-- in each batch, the updates that don't decide are as many as the changes that are overruled
 pub all-overruled : (ids : List ℕ) (batches : List (Vec Change Global)) (updates : List (Vec Update Global)) → AreAllUpdates ids batches updates
     → All (λ batch. AreAmong ids (ends (map ends_of batch.items))) batches
     → map (λ batch. length batch.items - length (last_of_edges batch.items)) updates ≡ map (λ batch. overruled batch.items) batches

@@ -23,7 +23,7 @@ both-ok (Err e) p q f = tt
 rank-place : (x : Update) (i : ℕ) → i < MOST_UPDATES → rank x i % MOST_UPDATES ≡ i
 rank-place x i l = omega arith
 
--- the same for a number that is known to be a rank
+-- a number that is known to be a rank has its place as its rest by the most updates
 place-at : (r : ℕ) (x : Update) (i : ℕ) → i < MOST_UPDATES → r ≡ rank x i → r % MOST_UPDATES ≡ i
 place-at r x i l e = ap (λ n. n % MOST_UPDATES) e ∙ rank-place x i l
 

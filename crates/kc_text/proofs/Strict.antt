@@ -228,7 +228,7 @@ same-refused bytes line kind = elim (nat_lt MOST_BYTES (length bytes)) as
       | false ↦ λ e. refused-strict 0 nothing_told (all_said bytes) line kind e
     ]
 
--- then all changes decide, and none is overruled
+-- where a text tells something by the stricter rule, all changes decide, and none is overruled
 pub all-decide : (bytes : List ℕ) (told : Told) → strict_meaning bytes ≡ Tells told
     → All (λ batch. (deciding batch ≡ batch) × (overruled batch ≡ 0)) (batches told)
 all-decide bytes told h = λ i d l.
