@@ -51,7 +51,7 @@ record IsSmall (told : Told) (lines updates most : ℕ) : Type 0 where
   changes : length (changes told) ≤ updates
   batches : length (batches told) ≤ most
 
--- so few pass no limit
+-- so few edge lines, changes and batches that no limit is passed
 record AreFew (lines updates most : ℕ) : Type 0 where
   edges : lines ≤ EDGE_LINES
   changes : updates ≤ BATCHES * TURNS

@@ -28,7 +28,7 @@ length-pair pair ids =
       length-id pair.1 ids.second,
     )
 
--- so many pieces of bounded length
+-- pieces of bounded length have so many bytes together at most
 length-all : {X : Type 0} (f : X → List ℕ) (P : X → Type 0) (most : ℕ) → ((x : X) → P x → length (f x) ≤ most) → (xs : List X) → All P xs
     → length (flat_map f xs) ≤ most * length xs
 length-all f P most each [] all = omega arith
