@@ -158,7 +158,7 @@ falls-by-one g r old new a b differ =
     let next : suc r ≡ r + 1 = omega arith in
     subst (λ (n : ℕ). total (after_rounds g n) g.size < total (after_rounds g r) g.size) next (changed g r old new a b differ)
 
--- so none of the rounds up to it has settled
+-- where the sum falls in a round, as the loop counts it, none of the rounds up to it has settled
 pub later-settled : (g : SimpleGraph) (r : ℕ) → ((s : ℕ) → IsSettled g s → r ≤ s)
     → total (after_rounds g (r + 1)) g.size < total (after_rounds g r) g.size → (s : ℕ) → IsSettled g s → r + 1 ≤ s
 later-settled g r none less s h =

@@ -45,7 +45,7 @@ first-ready g numbers crossed has within all = record {
   falls = falls g 0 numbers has;
 }
 
--- and one of the numbers that a round has made, where those that it crossed are marked
+-- a round may be made of the numbers that a round has made, where those that it crossed are marked
 pub next-ready : (g : SimpleGraph) (r : ℕ) (old new : List ℕ) (crossed crossed' : List Bool) → HasRound g r old → HasRound g (suc r) new
     → AreReady g old crossed → Crosses old new crossed' → length crossed' ≡ length crossed → AreReady g new crossed'
 next-ready g r old new crossed crossed' a b ready marks same = record {
