@@ -21,7 +21,7 @@ times_member y (x ∷ xs) m =
       | inr k ↦ let some : 0 < times y xs = times_member y xs k in omega (arith, count-cons (eqb y) x xs)
     ]
 
--- and what stands there is a member
+-- a number that stands in a list once at least is a member
 pub member_times : (y : ℕ) (xs : List ℕ) → 0 < times y xs → member y xs ≡ true
 member_times y [] some = absurd (omega arith)
 member_times y (x ∷ xs) some =
@@ -47,7 +47,7 @@ times_distinct y (x ∷ xs) d =
       | inr e ↦ let rest : times y xs ≤ 1 = times_distinct y xs d.1 in omega (arith, count-no (eqb y) x xs e)
     ]
 
--- and the other way round
+-- a list in which each number stands once at most has no doubles
 pub distinct_times : (xs : List ℕ) → ((y : ℕ) → times y xs ≤ 1) → Distinct xs
 distinct_times [] few = tt
 distinct_times (x ∷ xs) few = (
