@@ -39,7 +39,7 @@ left-taken xs front rest done n copied full =
 pub after_offer-more : (offers : Offers) (size done n : ℕ) → after_offer (after_offer offers size done) (size - done) n ≡ after_offer offers size (done + n)
 after_offer-more offers size done n = search (rules)
 
--- the same, where the sink tells its pieces, and for the first turn
+-- what is offered after some bytes goes on with it, where the sink tells its pieces, also in the first turn
 pub IsOffered-rest : (a b c : Option Offers) (size done n : ℕ) → (done ≡ 0 → b ≡ a) → (0 < done → IsOffered a b size done)
     → IsOffered b c (size - done) n → IsOffered a c size (done + n)
 IsOffered-rest None b c size done n none some h = tt
