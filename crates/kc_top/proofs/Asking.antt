@@ -31,7 +31,7 @@ within n m true t e =
     let both = and_parts (ltb 0 m) (leb m MOST_WORKERS) t in
     (omega (arith, same, ltb-true 0 m both.0), omega (arith, same, leb-true m MOST_WORKERS both.1))
 
--- so is what a word gives
+-- the number of workers that a word gives is some, and not too great
 workers-some : (text : List ℕ) (n : ℕ) → workers text ≡ Some n → AreSome n
 workers-some text n = elim (number text) as
     (λ o. option_and_then (λ m. cond (ltb 0 m && leb m MOST_WORKERS) (Some m) None) o ≡ Some n → AreSome n) [
@@ -58,7 +58,7 @@ together-some (Some w) (Some v) (Some l) None t s e = absurd (cc)
 together-some (Some w) (Some v) (Some l) (Some g) None s e = absurd (cc)
 together-some (Some w) (Some v) (Some l) (Some g) (Some t) s e = (w, refl, cc)
 
--- so right words ask for some workers
+-- right words ask for some workers, and not too many
 pub has-workers : (words : List (Bor (List ℕ))) (s : Setting) → asked words ≡ Some s → HasWorkers s
 unfolding setting
 has-workers words s = elim (is_empty (fault_of command (texts words))) as

@@ -19,7 +19,7 @@ only_memory number bytes stop.Usage same h = absurd h
 only_memory number bytes stop.ReadFault same h = absurd h
 only_memory number bytes stop.WriteFault same h = absurd h
 
--- the same of the bytes that a setting with a generator gives
+-- no stop at the bytes that a setting with a generator gives is a refusal
 pub generated_only_memory : (generator : Option ℕ) (told : Option (List ℕ)) (bytes : List ℕ) (s : Stop) → is_some generator ≡ true
     → IfSome (generated_or generator told) (λ known. bytes ≡ known) → IsRefusalOf s bytes → s ≡ stop.NoMemory
 generated_only_memory None told bytes s some same h = absurd (cc)
