@@ -87,14 +87,14 @@ none-names keep q (x ∷ batch) spares =
     or_from (keep x && eq_by_cmp pair_cmp q (changed_edge x)) (list_any (λ update. keep update && eq_by_cmp pair_cmp q (changed_edge update)) batch)
     other (none-names keep q batch spares.1)
 
--- one add first: e says whether the edge asked for is the added one
+-- an update that adds goes first: e says whether the edge asked for is the added one
 add-first : (c e a r : Bool) → (((e || c) || a) && not r) ≡ ((c || (e || a)) && not (false || r))
 add-first true true a r = refl
 add-first true false a r = refl
 add-first false true a r = refl
 add-first false false a r = refl
 
--- and one that removes; the batch then doesn't add the edge again
+-- an update that removes goes first; the batch then doesn't add the edge again
 remove-first : (c e a r : Bool) → (e ≡ true → a ≡ false) → (((not e && c) || a) && not r) ≡ ((c || (false || a)) && not (e || r))
 remove-first c true true r h = absurd (true≢false (h refl))
 remove-first true true false r h = refl
@@ -141,7 +141,7 @@ contains-other g x q other =
 edge-ordered : (u v : ℕ) → u < v → edge u v ≡ (u, v)
 edge-ordered u v l = ap (λ t. cond t (u, v) (v, u)) (lt-ltb u v l)
 
--- so ends in order are neighbours where their pair is an edge
+-- ends in order are neighbours where their pair is an edge
 pub contains-ordered : (g : SimpleGraph) (u v : ℕ) → u < v → adjacent g u v ≡ set.contains g.edges (u, v)
 contains-ordered g u v l = ap (λ t. cond t (set.contains g.edges (u, v)) (ltb v u && set.contains g.edges (v, u))) (lt-ltb u v l)
 
@@ -149,6 +149,6 @@ contains-ordered g u v l = ap (λ t. cond t (set.contains g.edges (u, v)) (ltb v
 pub graph_with-add : (g : SimpleGraph) (u v : ℕ) → u < v → with_edge g u v ≡ graph_with g (true, u, v)
 graph_with-add g u v l = ap (λ (p : ℕ × ℕ). with_edges g (set.insert g.edges p)) (edge-ordered u v l)
 
--- and so is removing one
+-- removing an edge is one update
 pub graph_with-remove : (g : SimpleGraph) (u v : ℕ) → u < v → without_edge g u v ≡ graph_with g (false, u, v)
 graph_with-remove g u v l = ap (λ (p : ℕ × ℕ). with_edges g (set.remove g.edges p)) (edge-ordered u v l)

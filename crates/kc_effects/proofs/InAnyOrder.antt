@@ -50,7 +50,7 @@ any-at p first batch index u at passes =
     ∙ or_right (list_any p (map parts_of at.front)) (p (parts_of u) || list_any p (map parts_of at.back))
     (or_left (p (parts_of u)) (list_any p (map parts_of at.back)) passes))
 
--- so what entries of the batch pass, the batch does
+-- a test that entries of the batch pass is passed by the batch
 forth : (p : Part → Bool) (first : ℕ) (batch : List Update) (es : List Entry) → AllByRecursion (IsOneOf first batch) es
     → list_any p (map change_of es) ≡ true → list_any p (map parts_of batch) ≡ true
 forth p first batch [] all h = absurd (false≢true h)

@@ -59,7 +59,7 @@ fit-row first n xs d within =
     (λ x m _. row-member first n x (within x m).0 (within x m).1) in
     omega (arith, less, count-all always xs (λ _ _. refl), count-all always (row first n) (λ _ _. refl), length-row first n)
 
--- so as many as it has are all of it
+-- distinct numbers of a row, as many as it has, are all of it
 pub as-many-are-all : (first n : ℕ) (xs : List ℕ) → Distinct xs → AreOfRow first n xs → length xs ≡ n → (place : ℕ) → place < n
     → member (first + place) xs ≡ true
 as-many-are-all first n xs d within many place l = true_from_ne_false (member (first + place) xs) (λ none.
