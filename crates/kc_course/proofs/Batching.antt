@@ -43,7 +43,7 @@ use Rattle.kc_course.proofs.Entering.{as-many-entered, is-order, one-more, updat
 use Rattle.kc_course.proofs.Receiving.{one-each-more}
 use Rattle.kc_course.proofs.Tabling.{entries-follow, tables-follow}
 
--- it went on so, and then so
+-- a journal that went on over some tables and then over more went on over all of them
 went-then : (ps qs : List PassSeen) (a b c : Journalled) → WentOn a ps b → WentOn b qs c → WentOn a (ps ++ qs) c
 went-then [] [] a b c h k = stays-on a b c h k
 went-then [] (q ∷ qs) a b c h k =

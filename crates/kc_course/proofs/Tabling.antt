@@ -35,7 +35,7 @@ is-table j base stands at zero =
       sparing = stands.sparing;
     }
 
--- the same, of a journal that stayed in its table
+-- the table of a journal that stayed in it, with all of its log
 table-stays : (old new : Journalled) (base : ℕ) → StaysIn old new → Stands new → old.levels.table.shape.base ≡ base → old.levels.table.shape.version ≡ 0
     → IsTable old.opened base (all_seen new)
 table-stays old new base stays stands at zero =
@@ -107,7 +107,7 @@ entries-follow (last ∷ more) front old new went stands long begins =
     rest ∙ (ap (λ (es : List Entry). es ++ entries_of (more ++ all_seen new ∷ [])) (ended ∙ ap (λ (es : List Entry). front ++ es) here)
     ∙ append_assoc front (entries_seen last) (entries_of (more ++ all_seen new ∷ [])))
 
--- And so do the tables.
+-- the tables over which a journal went on follow one another, its own the last
 pub tables-follow : (ended : List PassSeen) (old new : Journalled) (base : ℕ) → WentOn old ended new → Stands new
     → old.levels.table.shape.base ≡ base → old.levels.table.shape.version ≡ 0 → AreTables old.opened base (ended ++ all_seen new ∷ [])
 tables-follow [] old new base went stands at zero = (table-stays old new base went stands at zero, tt, tt)
