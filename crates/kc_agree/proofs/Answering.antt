@@ -32,7 +32,7 @@ loaded_place table opened old new a v low longer none h =
       core = refl;
     }
 
--- and how a comparison found two vertices is an order that was read
+-- how a comparison found two vertices is an order that was read
 pub compared : (table : TableName) (opened : SimpleGraph) (old new : List Event) (a : Answers) (x y : ℕ) (before : Bool)
     → x ≢ y → has_core a x ≡ true → has_core a y ≡ true → StoodSo table old new x y before
     → WereRead table opened old a → WereRead table opened new (with_order a (record { x = x; y = y; before = before }))
@@ -66,7 +66,7 @@ middle {A} P front back x xs is all = at front (subst (All P) is all)
     at [] h = h 0 x (omega arith)
     at (y ∷ ys) h = at ys (λ i d l. h (suc i) d (omega (arith, l)))
 
--- and where one is, they are not
+-- where a stamp is stale, the answers are not those of now
 pub not_current : (table : TableName) (opened : SimpleGraph) (stamps : List ℕ) (log : List Event) (edge_stamps place_stamps : List ℕ)
     (a : Answers) (s : Stale) → ArePresent table opened stamps log edge_stamps place_stamps → WereRead table opened log a
     → IsFirstStale edge_stamps place_stamps a s → AreCurrent table opened stamps log a → ⊥

@@ -25,7 +25,7 @@ use Rattle.kc_agree.specs.Stamps.{made_by, number_of, changes_graph, names, last
 
 -- An edge from a vertex to itself is none. ---------------------------------------------------------
 
--- such an edge's pair
+-- the pair of an edge from a vertex to itself
 edge-itself : (u : ℕ) → edge u u ≡ (u, u)
 edge-itself u = elim (ltb u u) as (λ b. ◌≡◌ {A = ℕ × ℕ} (cond b (u, u) (u, u)) (u, u)) [ true ↦ refl | false ↦ refl ]
 
@@ -98,7 +98,7 @@ without-same g u v a b h = elim (cases_eq u v) [
   | inr differ ↦ adjacent-without g u v a b differ ∙ removed (adjacent g a b) (joins u v a b) (λ j. joined g u v a b j ∙ h j)
 ]
 
--- such an entry changes no edge of the vertex
+-- an entry that is not applied, or does not name the vertex, changes no edge of it
 pub unchanged : (g : SimpleGraph) (e : Entry) (v : ℕ) → (changes_graph e g && names e v) ≡ false → (w : ℕ) → adjacent (after_entry g e) v w ≡ adjacent g v w
 unchanged g e v none w =
     elim e.add as (λ b. (cond b (not (adjacent g e.u e.v)) (adjacent g e.u e.v) && names e v) ≡ false
@@ -111,16 +111,16 @@ unchanged g e v none w =
 pub size-after : (g : SimpleGraph) (e : Entry) → (after_entry g e).size ≡ g.size
 size-after g e = elim e.add as (λ b. (cond b (with_edge g e.u e.v) (without_edge g e.u e.v)).size ≡ g.size) [ true ↦ refl | false ↦ refl ]
 
--- and so do all
+-- entries leave the number of vertices
 pub size-after_all : (g : SimpleGraph) (es : List Entry) → (after_entries g es).size ≡ g.size
 size-after_all g [] = refl
 size-after_all g (e ∷ es) = size-after_all (after_entry g e) es ∙ size-after g e
 
--- of the same edges the same list
+-- a vertex with the same edges has the same list of neighbours
 same_neighbours : (g h : SimpleGraph) (v : ℕ) → h.size ≡ g.size → ((w : ℕ) → adjacent h v w ≡ adjacent g v w) → neighbours_of h v ≡ neighbours_of g v
 same_neighbours g h v size same i = reverse (filter (λ w. same w i) (below (size i)))
 
--- and no list of its neighbours
+-- an entry that is not applied, or does not name the vertex, leaves the list of its neighbours
 pub unchanged_list : (g : SimpleGraph) (e : Entry) (v : ℕ) → (changes_graph e g && names e v) ≡ false → neighbours_of (after_entry g e) v ≡ neighbours_of g v
 unchanged_list g e v none = same_neighbours g (after_entry g e) v (size-after g e) (unchanged g e v none)
 
@@ -164,7 +164,7 @@ same_row g (e ∷ es) number v stamp at le w =
           ∙ (unchanged g e v none w ∙ ap (λ n. adjacent (after_entries g (take n (e ∷ es))) v w) (sym zero_now)))
     ]
 
--- so the edges of a vertex after a number of entries that is no less than its stamp are those of now
+-- the edges of a vertex after entries up to its stamp or further are those of now
 pub current_row : (table : TableName) (opened : SimpleGraph) (stamps : List ℕ) (log : List Event) (v at : ℕ) → edge_stamp table opened stamps log v ≤ at
     → (w : ℕ) → adjacent (after_entries opened (made_by table log).entries) v w ≡ adjacent (edges_after opened table.shape table.opening log at) v w
 current_row table opened stamps log v at le = same_row opened (made_by table log).entries table.shape.base v _ at le
@@ -176,7 +176,7 @@ same_size table opened log at =
     let entries = (made_by table log).entries in
     size-after_all opened entries ∙ sym (size-after_all opened (take (at - table.shape.base) entries))
 
--- and so is the list of its neighbours
+-- the list of a vertex's neighbours after entries up to its stamp or further is that of now
 pub current_list : (table : TableName) (opened : SimpleGraph) (stamps : List ℕ) (log : List Event) (v at : ℕ) → edge_stamp table opened stamps log v ≤ at
     → neighbours_of (after_entries opened (made_by table log).entries) v ≡ neighbours_of (edges_after opened table.shape table.opening log at) v
 current_list table opened stamps log v at le =
@@ -237,7 +237,7 @@ stamp_next table opened stamps old new x v is =
     ap (λ es. last_change opened es table.shape.base v (get_or stamps v 0)) is
     ∙ last_change-push opened (made_by table old).entries x table.shape.base v (get_or stamps v 0)
 
--- and the graph
+-- the graph after a log with one entry more
 pub graph_next : (table : TableName) (opened : SimpleGraph) (old new : List Event) (x : Entry)
     → (made_by table new).entries ≡ (made_by table old).entries ++ x ∷ []
     → after_entries opened (made_by table new).entries ≡ after_entry (after_entries opened (made_by table old).entries) x
@@ -294,7 +294,7 @@ last_changed g (e ∷ es) number v stamp lt = elim (cases_Bool (changes_graph e 
       names_it = h.names_it;
     }
 
--- it is no greater than the number of the last entry
+-- a stamp is no greater than the number of the last entry
 pub no_later : (g : SimpleGraph) (es : List Entry) (number v stamp : ℕ) → stamp ≤ number → last_change g es number v stamp ≤ number + length es
 no_later g [] number v stamp l = omega (arith, l)
 no_later g (e ∷ es) number v stamp l =

@@ -37,7 +37,7 @@ loaded_is t t' words shape new v word found w table named shape-is word-is is w-
     let stamp : w.stamp ≡ place_stamp t' new v = ap (λ (z : VertexWord). z.stamp) all ∙ sym (stamp-is t'.shape t'.opening new v) in
     λ i. record { vertex = v; stamp = stamp i; core = (all i).core }
 
--- a place
+-- the place of a vertex that a load found is one answer more
 pub core_read : (t t' words : TableName) (opened : SimpleGraph) (old new : List Event) (a b : Answers) (v : ℕ)
     → t' ≡ t → t ≡ words → v < words.shape.fixed → IsPrefix old new → b ≡ with_place a (place_after t' new v) → has_core a v ≡ false
     → WereRead t opened old a → WereRead t' opened new b
@@ -46,7 +46,7 @@ core_read t t' words opened old new a b v table named low longer more none h =
     let before : WereRead t' opened old a = subst (λ z. WereRead z opened old a) (sym table) h in
     subst (WereRead t' opened new) (sym more) (loaded_place t' opened old new a v below longer none before)
 
--- an order
+-- the order of two vertices that a comparison found is one answer more
 pub order_read : (t t' : TableName) (opened : SimpleGraph) (old new : List Event) (a b : Answers) (x y : ℕ) (before : Bool)
     → t' ≡ t → StoodSo t old new x y before → b ≡ with_order a (record { x = x; y = y; before = before })
     → x ≢ y → has_core a x ≡ true → has_core a y ≡ true → WereRead t opened old a → WereRead t' opened new b

@@ -40,7 +40,7 @@ front_by true false i j k l h = lt-ltb 0 (suc j) (omega arith) ∙ sym (lt-ltb 0
 front_by false true i j k l h = le-ltb (suc i) 0 (omega arith) ∙ sym (le-ltb (suc k) 0 (omega arith))
 front_by false false i j k l h = both_next i j ∙ (h ∙ sym (both_next k l))
 
--- the same item at the front of both
+-- the same item at the front of two lists leaves how two items stand in both
 front : (x y w : ℕ) (l l' : List ℕ) → first_of_two x y l ≡ first_of_two x y l' → first_of_two x y (w ∷ l) ≡ first_of_two x y (w ∷ l')
 front x y w l l' h = front_by (eqb x w) (eqb y w) (place_of x l) (place_of y l) (place_of x l') (place_of y l') h
 
@@ -60,7 +60,7 @@ without-order x y z (w ∷ l) dx dy =
       | false ↦ λ _. front x y w (without z l) l rest
     ] refl
 
--- and so does putting it
+-- putting a third item leaves how two stand
 right_after-order : (x y z p : ℕ) (l : List ℕ) → x ≢ z → y ≢ z → first_of_two x y (right_after z p l) ≡ first_of_two x y l
 right_after-order x y z p [] dx dy = refl
 right_after-order x y z p (w ∷ l) dx dy =
@@ -79,7 +79,7 @@ filter-order keep x y (w ∷ l) kx ky =
       | false ↦ λ f. rest ∙ sym (skip x y w l (λ e. true≢false (sym kx ∙ (ap keep e ∙ f))) (λ e. true≢false (sym ky ∙ (ap keep e ∙ f))))
     ] refl
 
--- whether x is in the list, where another is put or taken
+-- whether an item is in the list, where another is taken
 without-same : (x z : ℕ) (l : List ℕ) → x ≢ z → member x (without z l) ≡ member x l
 without-same x z [] d = refl
 without-same x z (w ∷ l) d =
@@ -88,7 +88,7 @@ without-same x z (w ∷ l) d =
       | false ↦ λ _. rw (without-same x z l d) refl
     ] refl
 
--- the same of a put
+-- whether an item is in the list, where another is put
 right_after-same : (x z p : ℕ) (l : List ℕ) → x ≢ z → member x (right_after z p l) ≡ member x l
 right_after-same x z p [] d = refl
 right_after-same x z p (w ∷ l) d =
@@ -192,7 +192,7 @@ stands_too table p q x y pre hx hy =
       λ h. record { first = sym same.1 ∙ h.first; second = sym same.2 ∙ h.second; before = ltb-true _ _ (sym same.0 ∙ lt-ltb _ _ h.before) },
     )
 
--- so of two vertices whose place stamps have not risen
+-- two vertices whose place stamps have not risen stand as they stood in the order list
 pub stands_still : (table : TableName) (p m q : List Event) (x y : ℕ) → x < table.shape.fixed → y < table.shape.fixed
     → IsPrefix p m → IsPrefix m q → IsAtRest table q
     → place_stamp table q x ≤ place_stamp table p x → place_stamp table q y ≤ place_stamp table p y
