@@ -103,7 +103,7 @@ enter-at s log core stamps number size index update h fits u-in v-in most stores
       },
     )
 
--- the same in the words of the contract
+-- an entry leaves an open section, in the words of the contract
 pub enter-leaves : (old : Levelled) (s now : Seen) (core stamps : List ℕ) (open_ : Bool) (number size index : ℕ) (update : Update)
     → levelled s core open_ ≡ old → Tallied (levelled s core open_) stamps number size → old.open_ ≡ false
     → index < INDICES → (update.u < size_of old) × (update.v < size_of old) → number_of old < LAST_NUMBER

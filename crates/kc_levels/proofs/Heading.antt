@@ -58,7 +58,7 @@ at_next : (n : ℕ) (part : ℕ → List ℕ) (level : ℕ) (xs : List ℕ) (k c
 at_next n part level xs k count ne = ap (λ (zs : List ℕ). (n + k) ∷ (zs ++ parts_from n (with_part part level xs) (suc k) count))
     (sym (with_part-other part level xs k ne))
 
--- and where the first does
+-- where the first part changes
 at_first : (n : ℕ) (part : ℕ → List ℕ) (level : ℕ) (xs : List ℕ) (k count : ℕ) → k ≡ level
     → (n + k) ∷ (xs ++ parts_from n part (suc k) count) ≡ parts_from n (with_part part level xs) k (suc count)
 at_first n part level xs k count e =

@@ -109,12 +109,12 @@ may-make-fitting s plan l fits certified of fresh room =
       versions = room;
     }
 
--- so may those of a local plan
+-- in a fresh section the moves of a local plan of a certified state may be made
 pub may-make-local : (s : Ranked) (plan : Plan) (l : Levelled) → IsCertified s → IsLocal s plan → AreLevelsOf s l → IsFresh l
     → HasRoom l.table l.log (3 * length (moved_vertices plan.moves)) → MayMake l plan.moves
 may-make-local s plan l h local of fresh room = may-make-fitting s plan l local.moves_fit (certified_after s plan h local) of fresh room
 
--- and lead to the levels of the state after the plan
+-- the moves of a plan lead to the levels of the state after it
 pub made-local : (s : Ranked) (plan : Plan) (old new : Levelled) → AreLevelsOf s old → Makes old new plan.moves → AreLevelsOf (state_after plan s) new
 made-local s plan old new of made =
     let moved = moved-as s (as_ranked old) plan.moves of.core of.order in

@@ -118,7 +118,7 @@ moved-at s log core core' open_ v p order' are may puts p-in list-is rises withi
 same-table : (s now : Seen) (v p : ℕ) → Puts s now v p → now ≡ record { table = s.table; log = now.log }
 same-table s now v p puts = λ i. record { table = puts.ends.table i; log = now.log }
 
--- the same for what the writer became
+-- one put, where the log's table is that of what the writer became
 pub moved-to : (s now : Seen) (core core' : List ℕ) (open_ : Bool) (v p : ℕ) (order' : List ℕ) → AreLevels (levelled s core open_)
     → MayMove (levelled s core open_) v
     → Puts s now v p → p < s.table.shape.items

@@ -77,7 +77,7 @@ turn-made n core xs list heads v level next is low below list-is heads-is =
     ∙ (append_assoc (parts_from n part 0 level) ((n + level) ∷ part level) (v ∷ [])
     ∙ (ap₂ (λ (ps qs : List ℕ). ps ++ (n + level) ∷ qs) (parts-below n part more 0 level others) here ∙ sym (cut more)))
 
--- and the heads that are left
+-- the heads that are left, behind the last vertex
 pub end-made : (n : ℕ) (core order list heads : List ℕ) (next : ℕ) → next ≤ n + 1 → ((y : ℕ) → member y order ≡ true → get_or core y 0 < next)
     → list ≡ parts_from n (level_part core order) 0 next → heads ≡ parts_from n no_part next (n + 1 - next)
     → list ++ heads ≡ with_heads n order core
@@ -206,7 +206,7 @@ heads-items n order core e low =
           (eq-eqb (get_or core v 0) (get_or core v 0) refl));
     }
 
--- the same for the list that was built
+-- the list that was built has each vertex, and no item twice
 pub list-items : (n : ℕ) (order core list items : List ℕ) → Enumerates n order → ((v : ℕ) → v < n → get_or core v 0 < n)
     → items ≡ with_heads n order core → list ≡ items → IsItems n list
 list-items n order core list items e low is same = subst (IsItems n) (sym (same ∙ is)) (heads-items n order core e low)
@@ -281,7 +281,7 @@ opened-levels words n order core stamps base version items fixed base-is version
       },
     )
 
--- the same in the words of the code
+-- a fresh table with its levels, in the words of the code
 pub open-leaves : (words : TableName) (writer : Seen) (pass : PassSeen) (shape : Shape) (n : ℕ) (order core stamps levels kept list items vertex : List ℕ)
     (base version : ℕ) → words.shape ≡ shape → shape.items ≡ 2 * n + 1 → shape.fixed ≡ n → shape.base ≡ base → shape.version ≡ version
     → n ≡ length core → length stamps ≡ n → n ≤ VERTICES → base < 2 ^ STAMP_BITS → Enumerates n order

@@ -24,7 +24,7 @@ Rises-append core (x ∷ xs) ys a b h = (
   Rises-append core xs ys a.1 b (λ u w mu mw. h u w (member-tail u x xs mu) mw),
 )
 
--- a filter keeps it
+-- a filter keeps that levels never fall along a list
 pub Rises-filter : (core : List ℕ) (p : ℕ → Bool) (xs : List ℕ) → Rises core xs → Rises core (filter p xs)
 Rises-filter core p [] a = tt
 Rises-filter core p (x ∷ xs) a = elim (p x) as (λ b. Rises core (cond b (x ∷ filter p xs) (filter p xs))) [
@@ -32,7 +32,7 @@ Rises-filter core p (x ∷ xs) a = elim (p x) as (λ b. Rises core (cond b (x �
   | false ↦ Rises-filter core p xs a.1
 ]
 
--- so does leaving one out
+-- leaving out a vertex keeps that levels never fall along a list
 pub Rises-without : (core : List ℕ) (v : ℕ) (xs : List ℕ) → Rises core xs → Rises core (without v xs)
 Rises-without core v [] a = tt
 Rises-without core v (x ∷ xs) a = elim (eqb v x) as (λ b. Rises core (cond b (without v xs) (x ∷ without v xs))) [
@@ -150,7 +150,7 @@ vertices-order n core order a h =
     vertices-from n core order 0 (suc n) a (λ y m. ((h y m).0, omega (arith, (h y m).1)))
     ∙ filter-all (λ y. leb 0 (get_or core y 0)) order (λ y m. le-leb 0 (get_or core y 0) (omega arith))
 
--- between what clauses say and the same by recursion
+-- what clauses say of all pairs gives by recursion that levels never fall along the order
 pub Rises-from_pairs : (core order : List ℕ) → AllPairs (λ v w. get_or core v 0 ≤ get_or core w 0) order → Rises core order
 Rises-from_pairs core [] h = tt
 Rises-from_pairs core (x ∷ xs) h = (
@@ -158,7 +158,7 @@ Rises-from_pairs core (x ∷ xs) h = (
   Rises-from_pairs core xs (λ i j d l k. h (suc i) (suc j) d (omega (arith, l)) (omega (arith, k))),
 )
 
--- and back
+-- that levels never fall along the order, by recursion, gives what clauses say of all pairs
 pub pairs_from_Rises : (core order : List ℕ) → Rises core order → AllPairs (λ v w. get_or core v 0 ≤ get_or core w 0) order
 pairs_from_Rises core [] h i j d l k = absurd (omega (arith, k))
 pairs_from_Rises core (x ∷ xs) h zero zero d l k = absurd (omega (arith, l))

@@ -162,7 +162,7 @@ seal-at s log core stamps open_ number size v h o moved stores =
       },
     )
 
--- the same in the words of the contract
+-- a seal of a vertex of the open section, in the words of the contract
 pub seal-leaves : (old : Levelled) (s now : Seen) (words : TableName) (core stamps : List ℕ) (open_ : Bool) (number size v k : ℕ)
     → levelled s core open_ ≡ old → Tallied (levelled s core open_) stamps number size → old.table ≡ words
     → old.open_ ≡ true → member v (unsealed_in old) ≡ true → k ≡ get_or core v k

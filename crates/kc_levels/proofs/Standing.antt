@@ -71,7 +71,7 @@ vertex-listed s core stamps open_ number size v old is h l =
     let listed : Listed s.table.shape (list_after s.table s.log) = (stands s.table.shape s.table.opening s.log h.are.legal).listed in
     listed.vertices v (omega (arith, l, ap size_of is))
 
--- the same in the words of the contract
+-- how two vertices stand in the list is how they stand in the order, in the words of the contract
 pub before-in-order : (s : Seen) (core stamps : List ℕ) (open_ : Bool) (number size x y : ℕ) (old : Levelled) (P : Type 0)
     → levelled s core open_ ≡ old → Tallied (levelled s core open_) stamps number size → (x < size_of old) × (y < size_of old) → x ≢ y
     → (P ↔ StandsBefore x y (list_after s.table s.log)) → P ↔ StandsBefore x y old.order

@@ -28,12 +28,12 @@ pub length-firsts : (shifts : List (ℕ × ℕ)) → length (firsts shifts) ≡ 
 length-firsts [] = refl
 length-firsts (s ∷ shifts) = ap suc (length-firsts shifts)
 
--- puts and then more
+-- puts and then more puts are puts one after the other
 run-append : (old : Seen) (puts more : List (ℕ × ℕ)) (mid new : Seen) → PutsEach old puts mid → PutsEach mid more new → PutsEach old (puts ++ more) new
 run-append old [] more mid new a b = subst (λ (s : Seen). PutsEach s more new) a b
 run-append old (put ∷ puts) more mid new a b = (a.0, a.1, run-append a.0 puts more mid new a.2 b)
 
--- the same of the vertices that they put
+-- puts of some vertices and then of more are puts of all of them in turn
 puts-chain : (old : Seen) (vs ws : List ℕ) (mid new : Seen) → PutsInTurn old vs mid → PutsInTurn mid ws new → PutsInTurn old (vs ++ ws) new
 puts-chain old vs ws mid new a b = record {
   puts = a.puts ++ b.puts;
@@ -102,7 +102,7 @@ puts-as : (old new : Levelled) (vs vs' order order' core core' : List ℕ) → v
     → PutsAll old new vs' order' core'
 puts-as old new vs vs' order order' core core' a b c h = subst (λ (z : List ℕ × (List ℕ × List ℕ)). PutsAll old new z.0 z.1.0 z.1.1) (λ i. (a i, (b i, c i))) h
 
--- what the next put asks
+-- a vertex that is to be put and was not yet may be put next
 pub may-move : (old mid : Levelled) (all vs order core : List ℕ) (v : ℕ) → MayPutAll old all → PutsAll old mid vs order core → member v all ≡ true
     → member v vs ≡ false → MayMove mid v
 may-move old mid all vs order core v may h m out =
@@ -237,7 +237,7 @@ fall-more old mid new level v p done are some within out h m =
     ∙ renumbered-push done v (level - 1) old.core in
     puts-as old new _ _ _ _ _ _ refl order-is core-is (puts-step old mid new done v p _ _ _ _ h m)
 
--- as many backwards
+-- a list backwards is as long
 pub length-backwards : (xs : List ℕ) → length (backwards xs) ≡ length xs
 length-backwards [] = refl
 length-backwards (x ∷ xs) = omega (arith, length-append (backwards xs) (x ∷ []), length-backwards xs)
@@ -246,18 +246,18 @@ length-backwards (x ∷ xs) = omega (arith, length-append (backwards xs) (x ∷ 
 pub or_swap : (a b : Bool) → (a || b) ≡ (b || a)
 or_swap a b = grind arith
 
--- the same members backwards
+-- a list backwards has the same members
 pub member-backwards : (v : ℕ) (xs : List ℕ) → member v (backwards xs) ≡ member v xs
 member-backwards v [] = refl
 member-backwards v (x ∷ xs) = member-push v x (backwards xs) ∙ (ap (λ b. b || eqb v x) (member-backwards v xs) ∙ or_swap (member v xs) (eqb v x))
 
 -- Seals. -------------------------------------------------------------------------------------------
 
--- and not nothing
+-- a test and not a false one is the test
 and_no : (a : Bool) → a ≡ (a && not false)
 and_no a = grind arith
 
--- and neither of two
+-- a test and neither of two others
 and_more : (a b c : Bool) → ((a && not b) && not c) ≡ (a && not (b || c))
 and_more a b c = grind arith
 
@@ -276,7 +276,7 @@ seals-none old are = record {
   others = λ v n. refl;
 }
 
--- the others are still there
+-- a list without one vertex has all its other members
 without-has : (w v : ℕ) (xs : List ℕ) → member w (without v xs) ≡ (member w xs && not (eqb w v))
 without-has w v xs = elim (cases_eq w v) [
   | inl e ↦ ap (λ (z : ℕ). member z (without v xs)) e ∙ (not_member-without v xs ∙ (let k = eq-eqb w v e in grind (arith, k)))
@@ -349,7 +349,7 @@ length-drop_at xs zero l = omega arith
 length-drop_at [] (suc i) l = absurd (omega (arith, l))
 length-drop_at (x ∷ xs) (suc i) l = omega (arith, length-drop_at xs i (omega (arith, l)))
 
--- before a shift
+-- before a shift, its vertex may be put
 pub shift-may : (old mid : Levelled) (shifts : List (ℕ × ℕ)) (i : ℕ) → MayPutAll old (firsts shifts) → Distinct (firsts shifts) → i < length shifts
     → PutsAll old mid (firsts (take i shifts)) (shifted (take i shifts) old.order) old.core
     → MayMove mid (get_or shifts i (0, 0)).0 × HasVersionsLeft mid.table mid.log
@@ -359,7 +359,7 @@ shift-may old mid shifts i may once l h = (
       (omega (arith, l, length-firsts shifts, length-firsts (take i shifts), length-take_at shifts i (omega (arith, l)))),
 )
 
--- before a rise
+-- before one more vertex rises, it may be put
 pub raise-may : (old mid : Levelled) (rise : List ℕ) (i level : ℕ) → MayPutAll old rise → Distinct rise → 0 < i → i ≤ length rise
     → PutsAll old mid (backwards (drop i rise)) (put_between (up_to old.core level) (drop i rise) old.order) (renumbered (drop i rise) (level + 1) old.core)
     → MayMove mid (get_or rise (i - 1) 0) × HasVersionsLeft mid.table mid.log
@@ -372,7 +372,7 @@ raise-may old mid rise i level may once some most h =
           (omega (arith, some, most, length-backwards (drop i rise), length-drop_at rise i most)),
     )
 
--- and after it
+-- after one more vertex has risen, so many of the rise are put
 pub raise-next : (old mid new : Levelled) (rise : List ℕ) (i level p : ℕ) → MayPutAll old rise → Distinct rise → 0 < i → i ≤ length rise
     → PutsAll old mid (backwards (drop i rise)) (put_between (up_to old.core level) (drop i rise) old.order) (renumbered (drop i rise) (level + 1) old.core)
     → MovesTo mid new (get_or rise (i - 1) 0) p (put_between (under mid.core (level + 1)) (get_or rise (i - 1) 0 ∷ []) mid.order)
@@ -386,7 +386,7 @@ raise-next old mid new rise i level p may once some most h m =
     subst (λ (z : List ℕ). PutsAll old new (backwards z) (put_between (up_to old.core level) z old.order) (renumbered z (level + 1) old.core)) (sym at)
     (rise-more old mid new level v p (drop i rise) may.are (λ x k. (may.unmoved x (drop-member i x rise k)).0) out h m)
 
--- before and after a fall
+-- before one more vertex falls, it may be put
 pub lower-may : (old mid : Levelled) (fall : List ℕ) (i level : ℕ) → MayPutAll old fall → Distinct fall → i < length fall
     → PutsAll old mid (take i fall) (put_between (under old.core level) (take i fall) old.order) (renumbered (take i fall) (level - 1) old.core)
     → MayMove mid (get_or fall i 0) × HasVersionsLeft mid.table mid.log
@@ -404,7 +404,7 @@ take-member (suc n) x (y ∷ ys) m = elim (member-cases x y (take n ys) m) [
   | inr k ↦ member-tail x y ys (take-member n x ys k)
 ]
 
--- after a fall
+-- after one more vertex has fallen, so many of the fall are put
 pub lower-next : (old mid new : Levelled) (fall : List ℕ) (i level p : ℕ) → MayPutAll old fall → Distinct fall → i < length fall → 0 < level
     → PutsAll old mid (take i fall) (put_between (under old.core level) (take i fall) old.order) (renumbered (take i fall) (level - 1) old.core)
     → MovesTo mid new (get_or fall i 0) p (put_between (up_to mid.core (level - 1)) (get_or fall i 0 ∷ []) mid.order)
@@ -421,7 +421,7 @@ pub drop_whole : (xs : List ℕ) → drop (length xs) xs ≡ []
 drop_whole [] = refl
 drop_whole (x ∷ xs) = drop_whole xs
 
--- seals
+-- after one more seal, so many of the vertices are sealed
 pub seal-next : (old mid new : Levelled) (vs : List ℕ) (i : ℕ) → i < length vs → Distinct vs → SealsAll old mid (take i vs)
     → SealsOne mid new (get_or vs i 0) → SealsAll old new (take (i + 1) vs)
 seal-next old mid new vs i l once h m = subst (λ (z : List ℕ). SealsAll old new z) (sym (take_more vs i 0 l))

@@ -137,7 +137,7 @@ as-next : (n v : ℕ) (order left : List ℕ) (o : Option ℕ) → left ≡ behi
 as-next n v order left None is h = next-behind n v order ∙ ap (head_or n) (sym is ∙ h)
 as-next n v order left (Some w) is h = (h.0 ∙ (ap (head_or n) is ∙ sym (next-behind n v order)), h.1)
 
--- the first vertex
+-- what a walk from head 0 found is the first vertex of the order
 pub first-found : (old : Levelled) (s : Seen) (core stamps : List ℕ) (open_ : Bool) (number size : ℕ) (o : Option ℕ) → levelled s core open_ ≡ old
     → Tallied (levelled s core open_) stamps number size
     → Found size (vertices_of size (behind size (list_after s.table s.log))) o
@@ -150,7 +150,7 @@ first-found old s core stamps open_ number size o is h found =
     subst (λ (z : Levelled). MatchOption o (z.order ≡ []) (λ v. (v ≡ head_or (size_of z) z.order) × (v < size_of z))) is
     (subst (λ (l : List ℕ). Found n l o) at (subst (λ (k : ℕ). Found k (vertices_of k (behind k list)) o) h.size_is found))
 
--- the next vertex
+-- what a walk from a vertex found is the next one in the order
 pub next-found : (old : Levelled) (s : Seen) (core stamps : List ℕ) (open_ : Bool) (number size v : ℕ) (o : Option ℕ) → levelled s core open_ ≡ old
     → Tallied (levelled s core open_) stamps number size → v < size_of old
     → Found size (vertices_of size (behind v (list_after s.table s.log))) o
