@@ -11,7 +11,7 @@ use Rattle.kc_table.proofs.Stamps.{stamp-is}
 use Rattle.kc_order.specs.Writers.{Leaves, Stores, entries_after, unsealed_after, vertex_word_after}
 use Rattle.kc_agree.specs.Stamps.{number_of, place_stamp}
 
--- the same word has the same stamp
+-- a vertex with the same word has the same stamp
 pub same_stamp : (old new : Seen) (v : ℕ) → vertex_word_after new v ≡ vertex_word_after old v
     → place_stamp new.table new.log v ≡ place_stamp old.table old.log v
 same_stamp old new v same =
@@ -33,7 +33,7 @@ entered old new value e v low stores leaves =
     let number : number_of new.table new.log ≡ number_of old.table old.log + 1 = omega (arith, entries, base) in
     (number, omega (arith, number, stamps, same_stamp old new v (leaves.words_are v)))
 
--- so it may be put
+-- a vertex whose stamp is below the number of the section may be put in it
 pub may_put : (old new : Seen) (value : ℕ) (e : Entry) (v : ℕ) → v < old.table.shape.fixed → Stores old new 0 value
     → Leaves new (entries_after old ++ e ∷ []) [] (vertex_word_after old)
     → MayPut new.table.shape (state_of new.table.shape new.table.opening new.log) v
