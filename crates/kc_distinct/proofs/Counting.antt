@@ -171,7 +171,7 @@ count-le-length p (x ∷ xs) =
     let rest : count_by p xs ≤ length xs = count-le-length p xs in
     elim (cases_Bool (p x)) [ inl px ↦ omega (arith, rest, count-yes p x xs px) | inr px ↦ omega (arith, rest, count-no p x xs px) ]
 
--- one that fails is not counted
+-- where a member fails, less pass than the list has
 pub count-miss : (p : ℕ → Bool) (v : ℕ) (xs : List ℕ) → member v xs ≡ true → p v ≡ false → count_by p xs < length xs
 count-miss p v [] m pv = absurd (false≢true m)
 count-miss p v (x ∷ xs) m pv =

@@ -132,7 +132,7 @@ keeps_split n ws qs vs list g h p in-group gap apart low only items s = elim in-
       ∙ items (1 + y) (omega arith))
 ]
 
--- then the items of p's group, where p has no label after it
+-- after a split, a spread of p's group where p has no label after it stores no word again
 pub once_spread : (n : ℕ) (ws qs vs list : List ℕ) (p : ℕ) → KeepsGroup n ws qs list p → (HasGap n qs list p → (w : ℕ) → get_or vs w 0 ≡ get_or qs w 0)
     → ((w : ℕ) → NotOf (labels n qs) list ((labels n qs).group p) w → get_or vs w 0 ≡ get_or qs w 0) → ((w : ℕ) → version qs w ≤ version ws w + 1)
     → ((w : ℕ) → version vs w ≤ version qs w + 1) → (w : ℕ) → version vs w ≤ version ws w + 1

@@ -20,7 +20,7 @@ use Rattle.kc_list.proofs.Spreading.{get_or-evens, Steps-none, Steps-push, raise
 use Rattle.kc_list.proofs.Splits.{MoveFacts, move_facts, Halfway, halfway-none, halfway-more, TopFacts, top_facts, same_version, lower_segment}
 use Rattle.kc_list.proofs.Splits.{upper_segment, Steps-then, versions-then}
 
--- the word of an upper member with its new group and label
+-- an upper member's word with its new group and label may be stored
 pub moved_by : (a : LabelledList) (g h i label : ℕ) (low ups : List ℕ) (old : ItemWord) → old ≡ item_of (get_or a.sheet.words (1 + get_or ups i 0) 0)
     → 0 < length low → length ups ≤ GROUP_ITEMS → HaveMoved a.links a.sheet g h low ups (i + 1) → i < length ups
     → version_at a.sheet (1 + get_or ups i 0) < LAST_VERSION → label ≡ (i + 1) * (BOTTOM_ROOM / (length ups + 1))
@@ -59,7 +59,7 @@ upway-more a b d g h low ups i j way e moved stores = record {
       stores.stores.room;
 }
 
--- the word of the new group
+-- the new group's word with its label may be stored
 pub topped_by : (a : LabelledList) (g h top : ℕ) (low ups : List ℕ) (old : GroupWord) → old ≡ group_of (get_or a.sheet.words (a.links.size + h) 0)
     → 0 < length low → AreMembers a.links a.sheet g (low ++ ups) → IsSpare a.links a.sheet h → IsTopAbove a.links a.sheet g top
     → TopFacts a.links.size a.sheet.words a.links.list g h low ups (evens (length ups) (BOTTOM_ROOM / (length ups + 1)) 0)

@@ -30,20 +30,20 @@ Before-then a x y z h k =
       | inr t ↦ elim k [ inl s' ↦ inr (omega (arith, ap a.top s'.0, t)) | inr t' ↦ inr (omega (arith, t, t')) ]
     ]
 
--- the list in two parts
+-- a list in two parts: both are in order, and related where they meet
 pub record Parts (R : ℕ → ℕ → Type 0) (l r : List ℕ) : Type 0 where
   pub left : InOrder R l
   pub right : InOrder R r
   pub seam : AtLast (λ x. AtFirst (R x) r) l
 
--- two lists in order when joined are each in order, and the last of one is related to the first of the other
+-- two lists that are in order when joined are so each, and related where they meet
 pub parts : (R : ℕ → ℕ → Type 0) (l r : List ℕ) → InOrder R (l ++ r) → Parts R l r
 parts R [] r h = record { left = tt; right = h; seam = tt }
 parts R (x ∷ []) [] h = record { left = tt; right = tt; seam = tt }
 parts R (x ∷ []) (y ∷ r) h = record { left = tt; right = h.1; seam = h.0 }
 parts R (x ∷ z ∷ l) r h = let p = parts R (z ∷ l) r h.1 in record { left = (h.0, p.left); right = p.right; seam = p.seam }
 
--- two lists in order, the last of one related to the first of the other, are in order when joined
+-- two lists in order that are related where they meet are in order when joined
 pub joined : (R : ℕ → ℕ → Type 0) (l r : List ℕ) → Parts R l r → InOrder R (l ++ r)
 joined R [] r p = p.right
 joined R (x ∷ []) [] p = tt

@@ -67,7 +67,7 @@ gap_below n a p q f =
           [ true ↦ omega (arith, f (eqb-false q n t)) | false ↦ omega arith ])
     ]
 
--- a store of a label of the gap right after p to the word of x has the list in order with x right after p
+-- a store to the word of x with a label of the gap after p puts x right after p, in order
 pub put_sound : (n : ℕ) (ws list : List ℕ) (x p label v : ℕ) (w : ItemWord) → Sound n ws list → member p list ≡ true → x < n → (x ≡ p → ⊥)
     → (labels n ws).bottom p < label → label < gap_end n ws list p → item_of v ≡ w → w.group ≡ (labels n ws).group p → w.bottom ≡ label
     → Sound n (set ws (1 + x) v) (right_after x p (without x list))

@@ -206,7 +206,7 @@ moved_up n ws list g h x low ups ls i w s small sp i-in ls-len asc v-fits w-g w-
       };
     }
 
--- the same of the word as the program stores it, which is read again
+-- after a member moves up by the word as the program stores it, which is read again
 pub record MoveFacts (n : ℕ) (ws list : List ℕ) (g h : ℕ) (low ups ls : List ℕ) (i : ℕ) (w : ItemWord) : Type 0 where
   pub all : MovedUp n ws list g h low ups ls i w
   pub read : get_or (set ws (1 + get_or ups i 0) (item_word w)) (1 + get_or ups i 0) 0 ≡ item_word w

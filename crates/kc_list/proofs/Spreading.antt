@@ -240,7 +240,7 @@ member-map f (x ∷ m) y k = elim (member-cases y x m k) [
   | inr k' ↦ member-tail (f y) (f x) (map f m) (member-map f m y k')
 ]
 
--- the same of the word as the program stores it, which is read again
+-- after one store of a spread by the word as the program stores it, which is read again
 pub record RelabelFacts (n : ℕ) (ws list : List ℕ) (g : ℕ) (m : List ℕ) (i : ℕ) (w : ItemWord) : Type 0 where
   pub below : get_or m i 0 < n
   pub all : Relabelled n ws list g m i w

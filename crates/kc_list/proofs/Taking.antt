@@ -37,7 +37,7 @@ take_sound n ws list x v w s x-in is out =
       ];
     }
 
--- the same of the word as the program stores it, which fits and is read again
+-- after x is taken out by the word as the program stores it, which fits and is read again
 pub record TakeFacts (n : ℕ) (ws list : List ℕ) (x : ℕ) (w : ItemWord) : Type 0 where
   pub fits : IsFitting w
   pub sound : Sound n (set ws (1 + x) (item_word w)) (without x list)

@@ -48,7 +48,7 @@ tops_from_order a end low x (y ∷ ys) f l h =
           rw t (l, tops_from_order a end (suc (a.top (a.group x))) y ys f' up h.1)
     ]
 
--- and other labels that ascend keep the order
+-- labels of the groups that ascend, where the items keep theirs, keep the order
 pub order_from_tops : (a b : Labels) (end low x : ℕ) (xs : List ℕ)
     → ((y : ℕ) → member y (x ∷ xs) ≡ true → (b.group y ≡ a.group y) × (b.bottom y ≡ a.bottom y)) → Ascends low end (map b.top (runs a.group (x ∷ xs)))
     → InOrder (Before a) (x ∷ xs) → InOrder (Before b) (x ∷ xs)
@@ -194,7 +194,7 @@ retopped n ws (x ∷ xs) gs i w s e l v-fits asc =
       tops = new;
     }
 
--- the same of the word as the program stores it, whose version is read again
+-- after one store of a spread of the groups by the word as the program stores it, which is read again
 pub record RetopFacts (n : ℕ) (ws list gs : List ℕ) (i : ℕ) (w : GroupWord) : Type 0 where
   pub all : Retopped n ws list gs i w
   pub read : get_or (set ws (n + get_or gs i 0) (group_word w)) (n + get_or gs i 0) 0 ≡ group_word w

@@ -22,7 +22,7 @@ use Rattle.kc_list.proofs.Highest.{version-highest, highest-below}
 use Rattle.kc_words.specs.declared.layout.TheConstants.{LAST_VERSION}
 use Rattle.kc_words.proofs.Ordering.{Follows-all, PairBelow-asym}
 
--- the writes of a call
+-- steps and then a write to the word of x are the writes of a call
 pub written_from : (n : ℕ) (before after : List ℕ) (x : ℕ) (p q r : Paper) (v : ℕ) → p.writes ≡ [] → Steps n before p q → r.words ≡ set q.words (1 + x) v
     → r.writes ≡ q.writes ++ record { word = 1 + x; value = v } ∷ [] → Ordered n r.words after → Raises q.words (record { word = 1 + x; value = v })
     → Written n before after x p.words r.words r.writes

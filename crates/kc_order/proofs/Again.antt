@@ -31,7 +31,7 @@ finds_same-steps old (l ∷ ls) new (next, one, rest) =
     let more = finds_same-steps next ls new rest in
     record { loaded = omega (arith, one.steps.loaded, more.loaded); split = omega (arith, one.steps.split, more.split) }
 
--- the first of the words differs
+-- where the first of the words differs, second loads find a word that differs
 pub finds_other-here : (old new : PassSeen) (l : Loaded) (ls : List Loaded) (again : Again) → LoadsOther old new l.word l.value again
     → FindsOther old (l ∷ ls) new again
 finds_other-here old new l ls again h = record {
@@ -45,7 +45,7 @@ finds_other-here old new l ls again h = record {
   steps = record { loaded = omega (arith, h.loaded.steps.loaded); split = omega (arith, h.loaded.steps.split) };
 }
 
--- or it is the same, and one of the others does
+-- where the first word is the same and one of the others differs, second loads find one that differs
 pub finds_other-later : (old next new : PassSeen) (l : Loaded) (ls : List Loaded) (again : Again) → LoadsWord old next l.word l.value
     → FindsOther next ls new again
     → FindsOther old (l ∷ ls) new again
@@ -70,11 +70,12 @@ words_there c n h is = (
   omega (arith, h.group_y_is, h.y_group, is),
 )
 
--- what follows from what an option tells
+-- what follows from something that holds where an option has nothing holds there too
 pub if_none : {A P Q : Type 0} (o : Option A) → IfNone o P → (P → Q) → IfNone o Q
 if_none None p f = f p
 if_none (Some a) p f = tt
 
+-- what follows from something that holds of what an option has holds of it too
 pub if_some : {A : Type 0} {P Q : A → Type 0} (o : Option A) → IfSome o P → ((a : A) → P a → Q a) → IfSome o Q
 if_some None p f = tt
 if_some (Some a) p f = f a p

@@ -8,10 +8,12 @@ use Rattle.kc_table.specs.Legal.{Legal}
 use Rattle.kc_table.proofs.LegalLogs.{legal-prefix}
 use Rattle.kc_order.specs.Writers.{stores_of, front_of, end_of, log_of_all}
 
+-- the stores of two lists of writes joined are the stores of both joined
 pub stores-append : (xs ys : List Write) → stores_of (xs ++ ys) ≡ stores_of xs ++ stores_of ys
 stores-append [] ys = refl
 stores-append (x ∷ xs) ys = ap (λ z. event x.word x.value ∷ z) (stores-append xs ys)
 
+-- the log is legal with the stores of these writes at its end
 abbrev LegalWith : Seen → List Write → Type 0
 LegalWith seen writes = Legal seen.table.shape seen.table.opening (seen.log ++ stores_of writes)
 
@@ -19,7 +21,7 @@ LegalWith seen writes = Legal seen.table.shape seen.table.opening (seen.log ++ s
 abbrev after : Seen → List Write → Seen
 after seen writes = record { table = seen.table; log = seen.log ++ stores_of writes }
 
--- a part at the front
+-- where a log is legal with all stores, it is legal with a front of them
 pub front-legal : (seen : Seen) (writes a : List Write) (n : ℕ) → a ≡ take n writes → LegalWith seen writes → LegalWith seen a
 front-legal seen writes a n front h =
     let parts : (seen.log ++ stores_of (take n writes)) ++ stores_of (drop n writes) ≡ seen.log ++ stores_of writes =
@@ -31,7 +33,7 @@ front-legal seen writes a n front h =
     (legal-prefix seen.table.shape seen.table.opening (seen.log ++ stores_of (take n writes)) (seen.log ++ stores_of writes)
     (stores_of (drop n writes), parts) h)
 
--- and what is left after it
+-- where a log is legal with all stores, it is so from after a front on with those that are left
 pub back-legal : (seen now : Seen) (writes a b : List Write) (n : ℕ) → a ≡ take n writes → b ≡ drop n writes → now ≡ after seen a
     → LegalWith seen writes → LegalWith now b
 back-legal seen now writes a b n front back is h =

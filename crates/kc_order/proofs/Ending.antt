@@ -43,9 +43,11 @@ ended shape s e =
       unsealed = put_in shape s.note e.word (sealed shape e.word s.unsealed);
     }
 
+-- a store of the note leaves the state after the note
 after-note : (shape : Shape) (s : State) (v : ℕ) → after_store shape s (event 0 v) ≡ noted s v
 after-note shape s v = refl
 
+-- a store of any word but the note does what was announced, and leaves this state
 pub after-item : (shape : Shape) (s : State) (e : Event) → 1 ≤ e.word → after_store shape s e ≡ ended shape s e
 after-item shape s e low = rw (ne_eqb e.word 0 (λ k. omega (arith, low, k))) refl
 
@@ -65,7 +67,7 @@ pub record Ends (shape : Shape) (s : State) (ws : List ℕ) (n : NoteWord) (v x 
   pub now : Ordered shape.items (set ws last.word last.value) after
   pub after_is : moved n (1 + x) s.list ≡ after
 
--- and what it leaves
+-- what a put or a take leaves: both stores legal, the list as it should be, and nothing announced
 pub record Ended (shape : Shape) (opening : List ℕ) (log : List Event) (v x : ℕ) (last : Write) (ws after : List ℕ) : Type 0 where
   pub noted_ : legal.Legal shape opening (log ++ event 0 v ∷ [])
   pub legal_ : legal.Legal shape opening ((log ++ event 0 v ∷ []) ++ event (1 + x) last.value ∷ [])
@@ -74,6 +76,7 @@ pub record Ended (shape : Shape) (opening : List ℕ) (log : List Event) (v x : 
       → get_or (set ws last.word last.value) w 0 ≡ value_at opening ((log ++ event 0 v ∷ []) ++ event (1 + x) last.value ∷ []) w
   pub quiet : (w : ℕ) → legal.FollowsNote (state_of shape opening ((log ++ event 0 v ∷ []) ++ event (1 + x) last.value ∷ [])).note w
 
+-- a put or a take that has what it needs stores its note and the word of its item
 pub ends : (shape : Shape) (opening : List ℕ) (log : List Event) (ws : List ℕ) (n : NoteWord) (v x : ℕ) (last : Write) (after : List ℕ)
     → legal.Legal shape opening log → Ends shape (state_of shape opening log) ws n v x last after
     → ((y : ℕ) → member y after ≡ true → y < shape.items) → Ended shape opening log v x last ws after

@@ -24,9 +24,11 @@ pub record IsOfItem (note : NoteWord) : Type 0 where
   pub no_entry : (entries : List Entry) → entered note entries ≡ entries
   pub no_section : (unsealed : List ℕ) → unsealed_from note unsealed ≡ unsealed
 
+-- a put's note enters nothing and begins no section
 pub put-of_item : (x p : ℕ) → IsOfItem (Put x p)
 put-of_item x p = record { no_entry = λ entries. refl; no_section = λ unsealed. refl }
 
+-- a take's note enters nothing and begins no section
 pub take-of_item : (x : ℕ) → IsOfItem (Take x)
 take-of_item x = record { no_entry = λ entries. refl; no_section = λ unsealed. refl }
 

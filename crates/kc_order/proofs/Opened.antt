@@ -20,7 +20,7 @@ use Rattle.kc_table.proofs.Listed.{member-placed, placed-member, listed-within}
 use Rattle.kc_words.proofs.Ordering.{Follows-all, InOrder-tail, PairBelow-asym}
 use Rattle.kc_order.proofs.Stood.{pair-trans, one-less}
 
--- what one test of two pairs tells
+-- where the test of two pairs is passed, the first is less
 below-true : (a : Labels) (x y : ℕ) → is_below a x y ≡ true → PairBelow a x y
 below-true a x y h =
     elim (cases_Bool (eqb (a.top (a.group x)) (a.top (a.group y)))) [
@@ -28,6 +28,7 @@ below-true a x y h =
       | inr f ↦ inl (ltb-true _ _ (sym (ap (λ b. cond b (ltb (a.bottom x) (a.bottom y)) (ltb (a.top (a.group x)) (a.top (a.group y)))) f) ∙ h))
     ]
 
+-- where the test of two pairs fails, the first is not less
 below-false : (a : Labels) (x y : ℕ) → is_below a x y ≡ false → PairBelow a x y → ⊥
 below-false a x y h less =
     elim (cases_Bool (eqb (a.top (a.group x)) (a.top (a.group y)))) [
@@ -65,7 +66,7 @@ same-order R t asym (x ∷ xs) (y ∷ ys) p q f g =
     ] in
     ap (λ z. z ∷ xs) heads ∙ ap (λ zs. y ∷ zs) (same-order R t asym xs ys (InOrder-tail R x xs p) (InOrder-tail R y ys q) lower upper)
 
--- a list stays in order where an item is placed by its pair
+-- what follows an item in order still does with one of a greater pair placed in it by its pair
 follows-placed : (a : Labels) (w x : ℕ) (zs : List ℕ) → PairBelow a w x → Follows (PairBelow a) w zs → InOrder (PairBelow a) zs
     → ((z : ℕ) → member z zs ≡ true → is_below a x z ≡ false → PairBelow a z x) → Follows (PairBelow a) w (placed a x zs)
 follows-placed a w x [] h p q f = (h, tt)
@@ -79,6 +80,7 @@ follows-placed a w x (z ∷ zs) h p q f =
       )
     ]
 
+-- a list in order stays so where an item is placed by its pair
 in_order-placed : (a : Labels) (x : ℕ) (zs : List ℕ) → InOrder (PairBelow a) zs
     → ((z : ℕ) → member z zs ≡ true → is_below a x z ≡ false → PairBelow a z x) → InOrder (PairBelow a) (placed a x zs)
 in_order-placed a x [] h f = tt
@@ -141,6 +143,7 @@ module _ (n : ℕ) (ws order : List ℕ) (o : Ordered n ws order) where
   listed-is within = same-order (PairBelow a) (pair-trans a) (PairBelow-asym a) (listed a n) order (in_order-listed n (omega arith)) o.pairs
       (λ z m. listed-in n z (omega arith) m) (λ z m. in-listed n z (omega arith) (within z m) m)
 
+-- the word 0 has version 0
 pub zero-version : (item_of 0).version ≡ 0
 unfolding item_of
 zero-version = refl
@@ -150,6 +153,7 @@ pub record Opening (shape : Shape) (words : List ℕ) (order : List ℕ) : Type 
   pub opens : legal.Opens shape words
   pub list : listed (labels shape.items words) shape.items ≡ order
 
+-- words made of a plain list's, no note and the vertices' words open a table with its list
 pub opening-of : (shape : Shape) (plain : Plain) (words order vertex : List ℕ) → AreOpeningWords words plain.opening vertex shape.items
     → plain.words ≡ plain.opening
     → ((w : ℕ) → 1 ≤ w → w ≤ 2 * shape.items + 1 → version plain.words w ≡ shape.version) → Ordered shape.items plain.words order
@@ -175,7 +179,7 @@ opening-of shape plain words order vertex h same versions o within vertices long
       list = list;
     }
 
--- and the writer's plain list is tied to its empty log
+-- the plain list with whose words a table opens is tied to its empty log
 pub tied-open : (shape : Shape) (plain : Plain) (words order vertex : List ℕ) (table : TableName) (seen : Seen) → Opening shape words order
     → AreOpeningWords words plain.opening vertex shape.items → plain.words ≡ plain.opening
     → plain.items ≡ shape.items → plain.fixed ≡ shape.fixed → plain.list ≡ order → length plain.words ≡ 2 * shape.items + 2 → version plain.words 0 ≡ 0

@@ -19,20 +19,22 @@ same_test true b f g = sym (f refl)
 same_test false true f g = g refl
 same_test false false f g = refl
 
--- at the head of a list
+-- the head of a list comes before each item behind it
 pub before-here : (x y z : ℕ) (zs : List ℕ) → x ≡ z → member y zs ≡ true → is_before x y (z ∷ zs) ≡ true
 before-here x y z zs e m = or_left (eqb x z && member y zs) (is_before x y zs) (and_from (eqb x z) (member y zs) (eq-eqb x z e) m)
 
+-- what comes before another in a list does so with one more at the head
 pub before-later : (x y z : ℕ) (zs : List ℕ) → is_before x y zs ≡ true → is_before x y (z ∷ zs) ≡ true
 before-later x y z zs h = or_right (eqb x z && member y zs) (is_before x y zs) h
 
+-- where x comes before y, x is the head and y is behind it, or this is so without the head
 pub before-cases : (x y z : ℕ) (zs : List ℕ) → is_before x y (z ∷ zs) ≡ true → ((x ≡ z) × (member y zs ≡ true)) ⊎ (is_before x y zs ≡ true)
 before-cases x y z zs h = elim (or_cases (eqb x z && member y zs) (is_before x y zs) h) [
   | inl b ↦ (let p = and_parts (eqb x z) (member y zs) b in inl (eqb-true x z p.0, p.1))
   | inr k ↦ inr k
 ]
 
--- both are in the list
+-- where x comes before y, x is in the list
 pub before-first : (x y : ℕ) (zs : List ℕ) → is_before x y zs ≡ true → member x zs ≡ true
 before-first x y [] h = absurd (false≢true h)
 before-first x y (z ∷ zs) h = elim (before-cases x y z zs h) [
@@ -40,6 +42,7 @@ before-first x y (z ∷ zs) h = elim (before-cases x y z zs h) [
   | inr k ↦ member-tail x z zs (before-first x y zs k)
 ]
 
+-- where x comes before y, y is in the list
 pub before-second : (x y : ℕ) (zs : List ℕ) → is_before x y zs ≡ true → member y zs ≡ true
 before-second x y [] h = absurd (false≢true h)
 before-second x y (z ∷ zs) h = elim (before-cases x y z zs h) [
@@ -47,17 +50,19 @@ before-second x y (z ∷ zs) h = elim (before-cases x y z zs h) [
   | inr k ↦ member-tail y z zs (before-second x y zs k)
 ]
 
--- the places of a head, and of others
+-- the head of a list has place 0
 pub place-here : (x z : ℕ) (zs : List ℕ) → x ≡ z → place_of x (z ∷ zs) ≡ 0
 place-here x z zs e = ap (λ b. cond b 0 (suc (place_of x zs))) (eq-eqb x z e)
 
+-- another than the head has a place greater by 1 than without the head
 pub place-next : (x z : ℕ) (zs : List ℕ) → x ≢ z → place_of x (z ∷ zs) ≡ suc (place_of x zs)
 place-next x z zs ne = ap (λ b. cond b 0 (suc (place_of x zs))) (ne_eqb x z ne)
 
--- In a list without repetition the test says which of two items stands first.
+-- what stands behind the head of a list without repetition is not the head
 member-other : (y z : ℕ) (zs : List ℕ) → Distinct (z ∷ zs) → member y zs ≡ true → y ≢ z
 member-other y z zs d m = λ e. true≢false (sym (subst (λ (w : ℕ). member w zs ≡ true) e m) ∙ d.0)
 
+-- in a list without repetition, x stands before y where the test says that x comes before y
 pub before-stands : (x y : ℕ) (zs : List ℕ) → Distinct zs → is_before x y zs ≡ true → StandsBefore x y zs
 before-stands x y [] d h = absurd (false≢true h)
 before-stands x y (z ∷ zs) d h = elim (before-cases x y z zs h) [
@@ -73,6 +78,7 @@ before-stands x y (z ∷ zs) d h = elim (before-cases x y z zs h) [
   }
 ]
 
+-- where x stands before y, the test says that x comes before y
 pub stands-before : (x y : ℕ) (zs : List ℕ) → StandsBefore x y zs → is_before x y zs ≡ true
 stands-before x y [] s = absurd (false≢true s.first)
 stands-before x y (z ∷ zs) s = elim (cases_eq y z) [
@@ -93,19 +99,20 @@ stands-before x y (z ∷ zs) s = elim (cases_eq y z) [
   ]
 ]
 
--- two lists in which the test tells the same
+-- in two lists without repetition for which the test tells the same, two items stand alike
 pub stands-alike : (x y : ℕ) (xs ys : List ℕ) → Distinct xs → Distinct ys → is_before x y xs ≡ is_before x y ys → StandsBefore x y xs ↔ StandsBefore x y ys
 stands-alike x y xs ys dx dy e = (
   (λ s. before-stands x y ys dy (sym e ∙ stands-before x y xs s)),
   (λ s. before-stands x y xs dx (e ∙ stands-before x y ys s)),
 )
 
--- not both ways
+-- where x stands before y, y does not stand before x
 pub stands-once : (x y : ℕ) (zs : List ℕ) → StandsBefore x y zs → StandsBefore y x zs → ⊥
 stands-once x y zs s t = omega (arith, s.before, t.before)
 
 -- Lists one after the other. ----------------------------------------------------------------------
 
+-- what comes before another in the first of two lists does so in both joined
 pub before-append_left : (x y : ℕ) (xs ys : List ℕ) → is_before x y xs ≡ true → is_before x y (xs ++ ys) ≡ true
 before-append_left x y [] ys h = absurd (false≢true h)
 before-append_left x y (z ∷ xs) ys h = elim (before-cases x y z xs h) [
@@ -113,10 +120,12 @@ before-append_left x y (z ∷ xs) ys h = elim (before-cases x y z xs h) [
   | inr k ↦ before-later x y z (xs ++ ys) (before-append_left x y xs ys k)
 ]
 
+-- what comes before another in the second of two lists does so in both joined
 pub before-append_right : (x y : ℕ) (xs ys : List ℕ) → is_before x y ys ≡ true → is_before x y (xs ++ ys) ≡ true
 before-append_right x y [] ys h = h
 before-append_right x y (z ∷ xs) ys h = before-later x y z (xs ++ ys) (before-append_right x y xs ys h)
 
+-- each of the first of two lists comes before each of the second in both joined
 pub before-append_both : (x y : ℕ) (xs ys : List ℕ) → member x xs ≡ true → member y ys ≡ true → is_before x y (xs ++ ys) ≡ true
 before-append_both x y [] ys h m = absurd (false≢true h)
 before-append_both x y (z ∷ xs) ys h m = elim (member-cases x z xs h) [
@@ -131,6 +140,7 @@ before-append_other x y (z ∷ xs) ys h =
     let p = not_member-parts x z xs h in
     ap (λ b. (b && member y (xs ++ ys)) || is_before x y (xs ++ ys)) (ne_eqb x z p.0) ∙ before-append_other x y xs ys p.1
 
+-- what the first list lacks is in both joined just where it is in the second
 member-append_other : (y : ℕ) (xs ys : List ℕ) → member y xs ≡ false → member y (xs ++ ys) ≡ member y ys
 member-append_other y xs ys h = same_test (member y (xs ++ ys)) (member y ys)
     (λ m. elim (member-append y xs ys m) [ inl k ↦ absurd (true≢false (sym k ∙ h)) | inr k ↦ k ])
@@ -138,9 +148,11 @@ member-append_other y xs ys h = same_test (member y (xs ++ ys)) (member y ys)
 
 -- Items taken out. ---------------------------------------------------------------------------------
 
+-- another than the item taken out is in the list just where it was
 member-without_other : (y z : ℕ) (zs : List ℕ) → y ≢ z → member y (without z zs) ≡ member y zs
 member-without_other y z zs ne = same_test (member y (without z zs)) (member y zs) (λ m. (member-without y z zs m).0) (λ m. without-member y z zs m ne)
 
+-- where one item is taken out, two others stand as they did
 before-without : (x y z : ℕ) (zs : List ℕ) → x ≢ z → y ≢ z → is_before x y (without z zs) ≡ is_before x y zs
 before-without x y z [] nx ny = refl
 before-without x y z (w ∷ zs) nx ny = elim (cases_eq z w) [
@@ -150,12 +162,14 @@ before-without x y z (w ∷ zs) nx ny = elim (cases_eq z w) [
       ∙ (λ i. (eqb x w && member-without_other y z zs ny i) || before-without x y z zs nx ny i)
 ]
 
+-- what is not among the items taken out is in the list just where it was
 pub member-without_each : (y : ℕ) (run zs : List ℕ) → member y run ≡ false → member y (without_each run zs) ≡ member y zs
 member-without_each y [] zs h = refl
 member-without_each y (z ∷ run) zs h =
     let p = not_member-parts y z run h in
     member-without_other y z (without_each run zs) p.0 ∙ member-without_each y run zs p.1
 
+-- where some items are taken out, two others stand as they did
 pub before-without_each : (x y : ℕ) (run zs : List ℕ) → member x run ≡ false → member y run ≡ false → is_before x y (without_each run zs) ≡ is_before x y zs
 before-without_each x y [] zs hx hy = refl
 before-without_each x y (z ∷ run) zs hx hy =
@@ -163,18 +177,22 @@ before-without_each x y (z ∷ run) zs hx hy =
     let q = not_member-parts y z run hy in
     before-without x y z (without_each run zs) p.0 q.0 ∙ before-without_each x y run zs p.1 q.1
 
+-- a list without repetition has none with some items taken out
 pub Distinct-without_each : (run zs : List ℕ) → Distinct zs → Distinct (without_each run zs)
 Distinct-without_each [] zs d = d
 Distinct-without_each (z ∷ run) zs d = Distinct-without z (without_each run zs) (Distinct-without_each run zs d)
 
 -- Items put right after another. ---------------------------------------------------------------------
 
+-- a run is put right after the head where this is p
 after-here : (run : List ℕ) (p z : ℕ) (zs : List ℕ) → p ≡ z → all_after run p (z ∷ zs) ≡ z ∷ (run ++ zs)
 after-here run p z zs e = ap (λ b. cond b (z ∷ (run ++ zs)) (z ∷ all_after run p zs)) (eq-eqb p z e)
 
+-- a run is put behind the head where this is not p
 after-next : (run : List ℕ) (p z : ℕ) (zs : List ℕ) → p ≢ z → all_after run p (z ∷ zs) ≡ z ∷ all_after run p zs
 after-next run p z zs ne = ap (λ b. cond b (z ∷ (run ++ zs)) (z ∷ all_after run p zs)) (ne_eqb p z ne)
 
+-- where a run is put into a list, another item is in it just where it was
 after-other : (y : ℕ) (run : List ℕ) (p : ℕ) (zs : List ℕ) → member y run ≡ false → member y (all_after run p zs) ≡ member y zs
 after-other y run p [] h = refl
 after-other y run p (z ∷ zs) h = elim (cases_eq p z) [
@@ -182,6 +200,7 @@ after-other y run p (z ∷ zs) h = elim (cases_eq p z) [
   | inr ne ↦ ap (member y) (after-next run p z zs ne) ∙ ap (λ b. eqb y z || b) (after-other y run p zs h)
 ]
 
+-- where a run is put right after p, each of it is in the list
 after-member : (y : ℕ) (run : List ℕ) (p : ℕ) (zs : List ℕ) → member y run ≡ true → member p zs ≡ true → member y (all_after run p zs) ≡ true
 after-member y run p [] h m = absurd (false≢true m)
 after-member y run p (z ∷ zs) h m = elim (cases_eq p z) [
@@ -192,7 +211,7 @@ after-member y run p (z ∷ zs) h m = elim (cases_eq p z) [
   ]
 ]
 
--- others stand as they did
+-- where a run is put right after p, two others stand as they did
 after-others : (x y : ℕ) (run : List ℕ) (p : ℕ) (zs : List ℕ) → member x run ≡ false → member y run ≡ false
     → is_before x y (all_after run p zs) ≡ is_before x y zs
 after-others x y run p [] hx hy = refl
@@ -203,7 +222,7 @@ after-others x y run p (z ∷ zs) hx hy = elim (cases_eq p z) [
       ∙ (λ i. (eqb x z && after-other y run p zs hy i) || after-others x y run p zs hx hy i)
 ]
 
--- what stands before p stands before each of them
+-- what stands before p stands before each of a run put right after p
 after-front : (x y : ℕ) (run : List ℕ) (p : ℕ) (zs : List ℕ) → Distinct zs → member y run ≡ true → is_before x p zs ≡ true
     → is_before x y (all_after run p zs) ≡ true
 after-front x y run p [] d m h = absurd (false≢true h)
@@ -218,7 +237,7 @@ after-front x y run p (z ∷ zs) d m h = elim (cases_eq p z) [
   ]
 ]
 
--- p stands before each of them
+-- p stands before each of a run put right after it
 after-p : (y : ℕ) (run : List ℕ) (p : ℕ) (zs : List ℕ) → member y run ≡ true → member p zs ≡ true → is_before p y (all_after run p zs) ≡ true
 after-p y run p [] m h = absurd (false≢true h)
 after-p y run p (z ∷ zs) m h = elim (cases_eq p z) [
@@ -229,7 +248,7 @@ after-p y run p (z ∷ zs) m h = elim (cases_eq p z) [
   ]
 ]
 
--- each of them stands before what p stands before
+-- each of a run put right after p stands before what p stands before
 after-back : (x y : ℕ) (run : List ℕ) (p : ℕ) (zs : List ℕ) → member x run ≡ true → is_before p y zs ≡ true → is_before x y (all_after run p zs) ≡ true
 after-back x y run p [] m h = absurd (false≢true h)
 after-back x y run p (z ∷ zs) m h = elim (cases_eq p z) [
@@ -243,7 +262,7 @@ after-back x y run p (z ∷ zs) m h = elim (cases_eq p z) [
   ]
 ]
 
--- they stand in their own order
+-- the members of a run put right after p stand in the run's order
 after-inside : (x y : ℕ) (run : List ℕ) (p : ℕ) (zs : List ℕ) → is_before x y run ≡ true → member p zs ≡ true → is_before x y (all_after run p zs) ≡ true
 after-inside x y run p [] m h = absurd (false≢true h)
 after-inside x y run p (z ∷ zs) m h = elim (cases_eq p z) [
@@ -298,18 +317,22 @@ run-none p (z ∷ zs) = elim (cases_eq p z) [
 
 -- One more, put right after p. ------------------------------------------------------------------------
 
+-- a list whose head is x is, without x, what is behind the head without x
 without-here : (x z : ℕ) (zs : List ℕ) → x ≡ z → without x (z ∷ zs) ≡ without x zs
 without-here x z zs e = ap (λ b. cond b (without x zs) (z ∷ without x zs)) (eq-eqb x z e)
 
+-- a list whose head is not x keeps the head without x
 without-next : (x z : ℕ) (zs : List ℕ) → x ≢ z → without x (z ∷ zs) ≡ z ∷ without x zs
 without-next x z zs ne = ap (λ b. cond b (without x zs) (z ∷ without x zs)) (ne_eqb x z ne)
 
+-- two lists joined, the first without x in it, lose x where the second does
 without-append : (x : ℕ) (xs ys : List ℕ) → member x xs ≡ false → without x (xs ++ ys) ≡ xs ++ without x ys
 without-append x [] ys h = refl
 without-append x (z ∷ xs) ys h =
     let q = not_member-parts x z xs h in
     without-next x z (xs ++ ys) q.0 ∙ ap (λ ws. z ∷ ws) (without-append x xs ys q.1)
 
+-- x, which is not p nor in the run, may be taken out before the run is put in or after it
 without-after : (x : ℕ) (run : List ℕ) (p : ℕ) (zs : List ℕ) → member x run ≡ false → x ≢ p → without x (all_after run p zs) ≡ all_after run p (without x zs)
 without-after x run p [] h ne = refl
 without-after x run p (z ∷ zs) h ne = elim (cases_eq p z) [
@@ -322,6 +345,7 @@ without-after x run p (z ∷ zs) h ne = elim (cases_eq p z) [
   ]
 ]
 
+-- one item put right after p, behind which a run was put, makes a run with the item in front
 one-after : (x : ℕ) (run : List ℕ) (p : ℕ) (zs : List ℕ) → right_after x p (all_after run p zs) ≡ all_after (x ∷ run) p zs
 one-after x run p [] = refl
 one-after x run p (z ∷ zs) = elim (cases_eq p z) [

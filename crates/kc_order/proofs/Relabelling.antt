@@ -56,13 +56,14 @@ pub record Goes (shape : Shape) (s : State) (ws : List ℕ) : Type 0 where
 not_note : (w : ℕ) → 1 ≤ w → eqb w 0 ≡ false
 not_note w l = ne_eqb w 0 (λ e. omega (arith, l, e))
 
--- a store of an item's or a group's word where nothing is announced changes the words alone
+-- a store of a word where nothing is announced moves no item
 pub store-quiet : (note : NoteWord) (w : ℕ) (list : List ℕ) → ((v : ℕ) → legal.FollowsNote note v) → moved note w list ≡ list
 store-quiet Nothing w list q = refl
 store-quiet (Enter add index u v) w list q = refl
 store-quiet (Put x p) w list q = absurd (omega (arith, q 0))
 store-quiet (Take x) w list q = absurd (omega (arith, q 0))
 
+-- a store of a word where nothing is announced opens no vertex
 pub put_in-quiet : (shape : Shape) (note : NoteWord) (w : ℕ) (unsealed : List ℕ) → ((v : ℕ) → legal.FollowsNote note v)
     → put_in shape note w unsealed ≡ unsealed
 put_in-quiet shape Nothing w unsealed q = refl
@@ -74,6 +75,7 @@ put_in-quiet shape (Take x) w unsealed q = refl
 abbrev pub relabelled : State → Event → State
 relabelled s e = record { words = set s.words e.word e.value; list = s.list; note = Nothing; entries = s.entries; unsealed = s.unsealed }
 
+-- a store of an item's or a group's word where nothing is announced changes the words alone
 pub after-relabel : (shape : Shape) (s : State) (e : Event) → 1 ≤ e.word → e.word < first_vertex shape → ((w : ℕ) → legal.FollowsNote s.note w)
     → after_store shape s e ≡ relabelled s e
 after-relabel shape s e low high q =
@@ -95,10 +97,12 @@ pub record Relabels (shape : Shape) (s : State) (ws : List ℕ) (e : Event) : Ty
   pub holds : legal.Holds shape (relabelled s e)
   pub goes : Goes shape (relabelled s e) (set ws e.word e.value)
 
+-- a word whose version is no greater than the last one has 64 bits
 pub value-fits : (value : ℕ) → (item_of value).version ≤ LAST_VERSION → value < 2 ^ 64
 unfolding item_of
 value-fits value h = omega (arith, h)
 
+-- two lists that agree at a place agree there after one store to both
 pub set-agree : (xs ys : List ℕ) (k v w : ℕ) → k < length xs → k < length ys → get_or xs w 0 ≡ get_or ys w 0 → get_or (set xs k v) w 0 ≡ get_or (set ys k v) w 0
 set-agree xs ys k v w x-in y-in same =
     elim (cases_eq k w) [
@@ -110,6 +114,7 @@ set-agree xs ys k v w x-in y-in same =
       | inr ne ↦ get_or-set_other xs k w v 0 (λ e. ne (sym e)) ∙ (same ∙ sym (get_or-set_other ys k w v 0 (λ e. ne (sym e))))
     ]
 
+-- a write that keeps the order and raises a version may be stored where nothing is announced
 pub relabel : (shape : Shape) (s : State) (ws : List ℕ) (w : Write) → Goes shape s ws → sheet.Raises ws w → (item_of w.value).version ≤ LAST_VERSION
     → Ordered shape.items (set ws w.word w.value) s.list → Relabels shape s ws (event w.word w.value)
 relabel shape s ws w g r few o =
@@ -145,7 +150,7 @@ relabel shape s ws w g r few o =
       };
     }
 
--- what all writes leave
+-- what all writes of a plain list leave that are stored one by one
 pub record RelabelsAll (shape : Shape) (s : State) (ws : List ℕ) (writes : List Write) : Type 0 where
   pub legal_ : legal.LegalFrom shape s (stores_of writes)
   pub goes : Goes shape (after_stores shape s (stores_of writes)) (sheet.stored ws writes)
@@ -167,10 +172,12 @@ raised-bound ws (s ∷ ss) w h =
       | inr ne ↦ omega (arith, rest, ap (λ z. (item_of z).version) (get_or-set_other ws s.word w s.value 0 (λ e. ne (sym e))))
     ]
 
+-- a list that is in order along writes is in order before them
 ordered-first : (n : ℕ) (list ws : List ℕ) (writes : List Write) → sheet.OrderedAlong n list ws writes → Ordered n ws list
 ordered-first n list ws [] h = h
 ordered-first n list ws (s ∷ ss) h = h.0
 
+-- all writes that keep the order and raise versions may be stored one by one
 pub relabel-all : (shape : Shape) (s : State) (ws : List ℕ) (writes : List Write) → Goes shape s ws → sheet.RaisedAlong ws writes
     → sheet.OrderedAlong shape.items s.list ws writes → ((w : ℕ) → sheet.version (sheet.stored ws writes) w ≤ LAST_VERSION) → RelabelsAll shape s ws writes
 relabel-all shape s ws [] g r o few = record { legal_ = tt; goes = g; list = refl; entries = refl; words = λ v. refl }

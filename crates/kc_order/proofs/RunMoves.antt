@@ -39,10 +39,12 @@ prefix-same xs ys p q = elim p.0 as (λ rest. xs ++ rest ≡ ys → xs ≡ ys) [
   | z ∷ rest ↦ λ e. absurd (omega (arith, ap length e, length-append xs (z ∷ rest), ap length q.1, length-append ys q.0))
 ] p.1
 
+-- the first store of some, and `d` where there is none
 abbrev first_or : Event → List Event → Event
 first_or d [] = d
 first_or d (e ∷ es) = e
 
+-- the stores behind the first
 abbrev rest_of : List Event → List Event
 rest_of [] = []
 rest_of (e ∷ es) = es
@@ -74,11 +76,12 @@ pauses shape note value x last is of (r ∷ more) s versioned quiet (d ∷ front
       | inr none ↦ inr none
     ]
 
--- after a prefix between a put's two ends list and entries are as before, or the put is done
+-- list and entries after a prefix are as they were before the put
 pub record IsBefore (old : Seen) (prefix : List Event) : Type 0 where
   pub list : list_after old.table prefix ≡ list_after old.table old.log
   pub entries : entries_after (record { table = old.table; log = prefix }) ≡ entries_after old
 
+-- after a prefix between a put's two ends list and entries are as before, or the put is done
 put-pauses : (old new : Seen) (x p : ℕ) → Puts old new x p → IsFitting (Put x p)
     → ((word : ℕ) → FollowsNote (state_of old.table.shape old.table.opening old.log).note word)
     → (prefix : List Event) → Between old.log new.log prefix → IsBefore old prefix ⊎ (prefix ≡ new.log)
@@ -122,7 +125,7 @@ pub record HasMoved (old now : Seen) (run : List ℕ) (p : ℕ) : Type 0 where
   pub leaves : Leaves now (entries_after old) (unsealed_after old) (vertex_word_after old)
   pub stages : (prefix : List Event) → Between old.log now.log prefix → Stage old run p prefix
 
--- none has
+-- where nothing was done, all members of the run of none have moved
 pub moved-none : (old : Seen) (p : ℕ) → Legal old.table.shape old.table.opening old.log
     → ((word : ℕ) → FollowsNote (state_of old.table.shape old.table.opening old.log).note word)
     → HasMoved old old [] p
@@ -144,7 +147,7 @@ moved-none old p legal quiet = record {
       };
 }
 
--- one put more
+-- puts in turn and one more are puts in turn
 puts-push : (old now next : Seen) (puts : List (ℕ × ℕ)) (x p : ℕ) → PutsEach old puts now → Puts now next x p → PutsEach old (puts ++ (x, p) ∷ []) next
 puts-push old now next [] x p is put = (next, subst (λ (s : Seen). Puts s next x p) is put, refl)
 puts-push old now next (one ∷ puts) x p h put = (h.0, h.1, puts-push h.0 now next puts x p h.2 put)
@@ -153,7 +156,7 @@ puts-push old now next (one ∷ puts) x p h put = (h.0, h.1, puts-push h.0 now n
 no_vertex : (fixed x : ℕ) (unsealed : List ℕ) → fixed ≤ x → with_open fixed x unsealed ≡ unsealed
 no_vertex fixed x unsealed le = ap (λ b. cond b (x ∷ unsealed) unsealed) (le-ltb x fixed le)
 
--- the member before them moves too
+-- the member before those that have moved moves too
 pub moved-more : (old now next : Seen) (x : ℕ) (run : List ℕ) (p : ℕ) → HasMoved old now run p → Puts now next x p → IsFitting (Put x p)
     → member x run ≡ false → x ≢ p → old.table.shape.fixed ≤ x → HasMoved old next (x ∷ run) p
 moved-more old now next x run p h put fits apart differ free =
@@ -200,7 +203,7 @@ moved-more old now next x run p h put fits apart differ free =
 
 -- What a run owes. -----------------------------------------------------------------------------------------
 
--- no member comes twice
+-- in a run in the list's order no member comes twice
 pub turn-distinct : (run list : List ℕ) → InListOrder run list → Distinct run
 turn-distinct [] list turn = tt
 turn-distinct (x ∷ run) list turn = (
@@ -216,7 +219,7 @@ turn-parts (z ∷ front) back list turn x y m n = elim (member-cases x z front m
   | inr k ↦ turn-parts front back list turn.1 x y k n
 ]
 
--- p is none of them
+-- an item that each of a run stands before is none of the run
 pub apart-from_run : (run : List ℕ) (p : ℕ) (list : List ℕ) → ((x : ℕ) → member x run ≡ true → StandsBefore x p list) → member p run ≡ false
 apart-from_run run p list before = false_from_ne_true (member p run) (λ m. let s = before p m in stands-once p p list s s)
 
@@ -265,6 +268,7 @@ list-distinct table log legal = (stands table.shape table.opening log legal).lis
 
 -- A run that has moved whole. ------------------------------------------------------------------------------
 
+-- where all members of a run that stands before p have moved, the run has moved
 pub moved-all : (old new : Seen) (run : List ℕ) (p : ℕ) → IsRunBefore old.table.shape.fixed run p (list_after old.table old.log)
     → member p (list_after old.table old.log) ≡ true → HasMoved old new run p → MovesRun old new run p
 moved-all old new run p is p-in h =
@@ -298,21 +302,23 @@ moved-all old new run p is p-in h =
 
 -- The next member of a run. --------------------------------------------------------------------------------
 
--- the rest of a run begins with it
+-- the members from one on are that one and those behind it
 run-next : (i : ℕ) (run : List ℕ) → 0 < i → i ≤ length run → drop (i - 1) run ≡ get_or run (i - 1) 0 ∷ drop i run
 run-next i run some most =
     let up : i - 1 + 1 ≡ i = omega (arith, some) in
     drop_more run (i - 1) 0 (omega (arith, some, most)) ∙ ap (λ k. get_or run (i - 1) 0 ∷ drop k run) up
 
+-- nothing is left behind the whole of a run
 run-whole : (run : List ℕ) → drop (length run) run ≡ []
 run-whole [] = refl
 run-whole (x ∷ run) = run-whole run
 
+-- a run is moved by as many puts as it has members
 length-puts : (run : List ℕ) (p : ℕ) → length (puts_of_run run p) ≡ length run
 length-puts [] p = refl
 length-puts (x ∷ run) p = omega (arith, length-append (puts_of_run run p) ((x, p) ∷ []), length-puts run p)
 
--- no member has moved at first
+-- no member of a run has moved at first
 pub moves-begin : (before old : Seen) (run : List ℕ) (p : ℕ) → before ≡ old → Legal before.table.shape before.table.opening before.log
     → ((word : ℕ) → FollowsNote (state_of before.table.shape before.table.opening before.log).note word) → HasMoved old old (drop (length run) run) p
 moves-begin before old run p same legal quiet =
@@ -371,7 +377,7 @@ module _ (old now : Seen) (shape : Shape) (run : List ℕ) (i p : ℕ) (of : old
       subst (λ (r : List ℕ). HasMoved old next r p) (sym (run-next i run some most))
       (moved-more old now next x (drop i run) p h put fits apart next-differs (subst (λ (s : Shape). s.fixed ≤ x) (sym of) next-free))
 
--- at the end all have
+-- at the end all members have moved, and so has the run
 pub moves-end : (old now : Seen) (shape : Shape) (run : List ℕ) (i p : ℕ) → old.table.shape ≡ shape
     → IsRunBefore shape.fixed run p (list_after old.table old.log) → member p (list_after old.table old.log) ≡ true → i ≤ 0
     → HasMoved old now (drop i run) p → MovesRun old now run p

@@ -15,7 +15,7 @@ room-put old new x p room put h = λ word v.
     let there = subst (λ (t : TableName). IsVersioned t.shape word) put.ends.table v in
     omega (arith, h word there, put.raised word there)
 
--- so puts in turn take at most two each
+-- puts in turn take at most two versions of each word for each put
 pub room-run : (old new : Seen) (puts : List (ℕ × ℕ)) (room : ℕ) → PutsEach old puts new → HasRoom old.table old.log (2 * length puts + room)
     → HasRoom new.table new.log room
 room-run old new [] room is h = subst (λ (s : Seen). HasRoom s.table s.log room) (sym is) (room-less old (2 * 0 + room) room (omega arith) h)
@@ -23,7 +23,7 @@ room-run old new (put ∷ puts) room (next, one, rest) h =
     room-run next new puts room rest (room-put old next put.0 put.1 (2 * length puts + room) one
     (room-less old (2 * length (put ∷ puts) + room) (2 + (2 * length puts + room)) (omega arith) h))
 
--- and where the greatest version leaves three for each put, each of them begins with room
+-- where the greatest version leaves three for each of some puts in turn, each begins with room
 pub room-highest : (old new : Seen) (puts : List (ℕ × ℕ)) (highest count : ℕ) → IsHighest old.table old.log highest → highest + 3 * count ≤ LAST_VERSION
     → length puts < count → PutsEach old puts new → HasVersionsLeft new.table new.log
 room-highest old new puts highest count greatest enough few run =

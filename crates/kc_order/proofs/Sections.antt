@@ -72,12 +72,13 @@ stored-aside seen plain e tied may aside t is t-list t-words stamps quiet =
       },
     )
 
+-- the note of an entry whose numbers fit has 64 bits
 enter-fits : (add : Bool) (index u v : ℕ) → IsFitting (Enter add index u v) → note_word (Enter add index u v) < 2 ^ 64
 unfolding note_word
 enter-fits true index u v h = omega (arith, h.0, h.1, h.2)
 enter-fits false index u v h = omega (arith, h.0, h.1, h.2)
 
--- an Enter note
+-- an Enter note may be stored where no vertex is left to seal; the plain list stays tied
 pub entered_at : (seen : Seen) (plain : Plain) (add : Bool) (index u v : ℕ) → Tied seen plain → IsFitting (Enter add index u v)
     → (state_of seen.table.shape seen.table.opening seen.log).unsealed ≡ []
     → let e = event 0 (note_word (Enter add index u v)) in
@@ -123,7 +124,7 @@ entered_at seen plain add index u v tied fitting closed =
     ))
     (λ w. tt)
 
--- a vertex word
+-- a vertex word that seals its vertex may be stored, and the plain list stays tied
 pub sealed_at : (seen : Seen) (plain : Plain) (v value : ℕ) → Tied seen plain → v < seen.table.shape.fixed → value < 2 ^ 64
     → legal.Seals seen.table.shape (state_of seen.table.shape seen.table.opening seen.log) v value
     → let e = event (first_vertex seen.table.shape + v) value in
@@ -232,7 +233,7 @@ vertex-leaves seen plain v value tied below =
       quiet = made.quiet;
     }
 
--- and what a call leaves, where its seat was seen as `now`
+-- what a call leaves, where its seat was seen as `now`
 pub leaves-now : (seen now new : Seen) (word value : ℕ) (entries : Seen → List Entry) (unsealed : Seen → List ℕ) (words : Seen → ℕ → ℕ) → seen ≡ now
     → new ≡ record { table = seen.table; log = seen.log ++ event word value ∷ [] }
     → Leaves (record { table = seen.table; log = seen.log ++ event word value ∷ [] }) (entries seen) (unsealed seen) (words seen)
@@ -249,6 +250,7 @@ stores-now seen now new word value is lawful new-is = record {
   legal = subst (λ (z : Seen). legal.Legal z.table.shape z.table.opening z.log) (sym new-is) lawful;
 }
 
+-- the word of a vertex whose stamp and core number fit has 64 bits
 pub fits-vertex : (stamp core : ℕ) → stamp < 2 ^ STAMP_BITS → core < 2 ^ CORE_BITS → vertex_word (record { stamp = stamp; core = core }) < 2 ^ 64
 unfolding vertex_word
 fits-vertex stamp core a b = omega (arith, a, b)

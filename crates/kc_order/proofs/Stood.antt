@@ -29,6 +29,7 @@ in_order-before R t x y (z ∷ l) r h m =
       | inr k ↦ in_order-before R t x y l r (InOrder-tail R z (l ++ y ∷ r) h) k
     ]
 
+-- a pair that is less than one that is less than a third is less than the third
 pub pair-trans : (a : Labels) (x y z : ℕ) → PairBelow a x y → PairBelow a y z → PairBelow a x z
 pair-trans a x y z h k =
     elim h [
@@ -160,7 +161,7 @@ stood_before c h held less =
     (at c.item_x (1 + c.x) h.item_x_is held.0) (at c.item_y (1 + c.y) h.item_y_is held.1) (at c.group_x _ h.group_x_is held.2)
     (at c.group_y _ h.group_y_is held.3) less
 
--- else y did
+-- where the pair of x is not less, y stood first
 pub stood_after : (c : Collected) → IsCollect c → AllHeld c → (PairLess c → ⊥) → StandsBefore c.y c.x (list_after c.table c.group_y.prefix)
 stood_after c h held not_less =
     let m = c.group_y.prefix in

@@ -35,11 +35,13 @@ use Rattle.kc_order.proofs.Leaving.{put-leaves, take-leaves}
 
 -- Lists of writes. -------------------------------------------------------------------------------
 
+-- of writes that end with `last` the front is what stands before it
 front-snoc : (front : List Write) (last : Write) → front_of (front ++ last ∷ []) ≡ front
 front-snoc front last =
     ap (λ n. take n (front ++ last ∷ [])) (omega (arith, length-append front (last ∷ [])))
     ∙ (take-append-le (length front) front (last ∷ []) (omega arith) ∙ take_all (length front) front (omega arith))
 
+-- of writes that end with `last` the end is that one write
 end-snoc : (front : List Write) (last : Write) → end_of (front ++ last ∷ []) ≡ last ∷ []
 end-snoc front last =
     ap (λ n. drop n (front ++ last ∷ [])) (omega (arith, length-append front (last ∷ [])))
@@ -49,19 +51,23 @@ end-snoc front last =
     drop-all [] = refl
     drop-all (x ∷ xs) = drop-all xs
 
+-- the words after some writes and one more are those after the writes with one store
 stored-snoc : (ws : List ℕ) (front : List Write) (last : Write) → sheet.stored ws (front ++ last ∷ []) ≡ set (sheet.stored ws front) last.word last.value
 stored-snoc ws [] last = refl
 stored-snoc ws (w ∷ front) last = stored-snoc (set ws w.word w.value) front last
 
+-- where writes raise versions, those before the last do, and so does the last after them
 raised-front : (ws : List ℕ) (front : List Write) (last : Write) → sheet.RaisedAlong ws (front ++ last ∷ [])
     → sheet.RaisedAlong ws front × sheet.Raises (sheet.stored ws front) last
 raised-front ws [] last h = (tt, h.0)
 raised-front ws (w ∷ front) last h = let rest = raised-front (set ws w.word w.value) front last h.1 in ((h.0, rest.0), rest.1)
 
+-- a list that is in order along writes is in order after them
 ordered-last : (n : ℕ) (list ws : List ℕ) (writes : List Write) → sheet.OrderedAlong n list ws writes → Ordered n (sheet.stored ws writes) list
 ordered-last n list ws [] h = h
 ordered-last n list ws (w ∷ writes) h = ordered-last n list (set ws w.word w.value) writes h.1
 
+-- writes that raise versions leave the note
 raised-word_0 : (ws : List ℕ) (writes : List Write) → sheet.RaisedAlong ws writes → get_or (sheet.stored ws writes) 0 0 ≡ get_or ws 0 0
 raised-word_0 ws [] h = refl
 raised-word_0 ws (w ∷ writes) h = raised-word_0 (set ws w.word w.value) writes h.1 ∙ get_or-set_other ws w.word 0 w.value 0 (λ e. omega (arith, e, h.0.low))
@@ -74,13 +80,14 @@ stores-versioned shape ws (w ∷ writes) long h zero d l = (h.0.low, omega (arit
 stores-versioned shape ws (w ∷ writes) long h (suc k) d l =
     stores-versioned shape (set ws w.word w.value) writes (length-set ws w.word w.value ∙ long) h.1 k d (omega (arith, l))
 
--- the stores of one write more
+-- the stores of one write more are those so far and its own
 stores-take : (writes : List Write) (i : ℕ) (d : Write) → i < length writes
     → stores_of (take (suc i) writes) ≡ stores_of (take i writes) ++ event (get_or writes i d).word (get_or writes i d).value ∷ []
 stores-take [] i d l = absurd (omega (arith, l))
 stores-take (w ∷ writes) zero d l = refl
 stores-take (w ∷ writes) (suc i) d l = ap (λ z. event w.word w.value ∷ z) (stores-take writes i d (omega (arith, l)))
 
+-- a log with the stores of some writes and then that of the next is one with one write more
 pub stores-more : (log now : List Event) (writes : List Write) (i : ℕ) (d : Write) → i < length writes → now ≡ log ++ stores_of (take i writes)
     → now ++ event (get_or writes i d).word (get_or writes i d).value ∷ [] ≡ log ++ stores_of (take (i + 1) writes)
 stores-more log now writes i d l is =
@@ -91,6 +98,7 @@ stores-more log now writes i d l is =
     (append_assoc log (stores_of (take i writes)) (e ∷ [])
     ∙ ap (λ z. log ++ z) (sym (ap (λ n. stores_of (take n writes)) next ∙ stores-take writes i d l)))
 
+-- the stores of a front of writes and of those behind it are the stores of all
 stores-split : (writes : List Write) (n : ℕ) → stores_of (take n writes) ++ stores_of (drop n writes) ≡ stores_of writes
 stores-split writes zero = refl
 stores-split [] (suc n) = refl
@@ -111,7 +119,7 @@ next-legal seen now writes i d l table is h =
     subst (λ (z : TableName × List Event). legal.Legal z.0.shape z.0.opening z.1)
     (λ k. (sym table k, sym (stores-more seen.log now.log writes i d l is) k)) part
 
--- and its word is there
+-- the word of the next store is one of the table
 pub next-there : (seen : Seen) (writes : List Write) (i : ℕ) (d : Write) → i < length writes
     → legal.Legal seen.table.shape seen.table.opening (seen.log ++ stores_of writes) → (words : TableName) → seen.table ≡ words
     → (get_or writes i d).word < word_count words.shape
@@ -165,6 +173,7 @@ MayAfter shape s n =
     (t : State) → t.list ≡ s.list → t.entries ≡ s.entries → ((k : ℕ) → legal.stamp_in shape t k ≡ legal.stamp_in shape s k)
     → legal.MayNote shape t n
 
+-- the writes of a call and its note leave a legal log, to which the new plain list is tied
 pub wrote : (seen : Seen) (old new : Plain) (n : NoteWord) (x : ℕ) (writes : List Write) → Tied seen old → IsFitting n → writes ≡ new.writes
     → new.items ≡ old.items → new.fixed ≡ old.fixed
     → Written old.items old.list new.list x old.words new.words new.writes → ((w : ℕ) → sheet.version new.words w ≤ LAST_VERSION)
@@ -293,6 +302,7 @@ plain-versions seen plain tied left (suc w) =
     get_or-past (x ∷ xs) zero d l = absurd (omega (arith, l))
     get_or-past (x ∷ xs) (suc k) d l = get_or-past xs k d (omega (arith, l))
 
+-- the greatest version of a plain list leaves three where those of its table's words do
 pub plain-highest : (seen : Seen) (plain : Plain) → Tied seen plain → HasVersionsLeft seen.table seen.log → sheet.highest_of plain.words + 3 ≤ LAST_VERSION
 plain-highest seen plain tied left =
     let h = highest-below plain.words (LAST_VERSION - 3) (λ k. omega (arith, plain-versions seen plain tied left k)) in
@@ -329,7 +339,7 @@ put seen old new x p writes tied left x-in p-in differ section same items fixed 
     wrote seen old new (Put x p) x writes tied (omega (arith, x-in, shape.few_items), omega (arith, p-below, shape.few_items)) same items
     fixed w few x-in within may (λ _. refl) refl moves (omega (arith, x-in, p-below, shape.few_items))
 
--- a take
+-- a take, as the writer makes it
 pub taken : (seen : Seen) (old new : Plain) (x : ℕ) (writes : List Write) → Tied seen old → HasVersionsLeft seen.table seen.log
     → member x (list_after seen.table seen.log) ≡ true → seen.table.shape.fixed ≤ x
     → writes ≡ new.writes → new.items ≡ old.items → new.fixed ≡ old.fixed → new.list ≡ without x old.list
@@ -349,7 +359,7 @@ taken seen old new x writes tied left x-in free same items fixed list w highest 
     wrote seen old new (Take x) x writes tied (omega (arith, x-below, shape.few_items)) same items fixed w few x-below within may
     (λ _. refl) refl moves (omega (arith, x-below, shape.few_items))
 
--- the same, where the writer's seat is seen as `now`, of the table `words`
+-- a put, as the writer makes it, where its seat is seen as `now`, of the table `words`
 pub put-at : (seen now : Seen) (words : TableName) (old new : Plain) (x p : ℕ) (writes : List Write) → seen ≡ now → now.table ≡ words
     → Tied seen old → HasVersionsLeft now.table now.log → x < words.shape.items
     → member p (list_after now.table now.log) ≡ true → x ≢ p
@@ -365,6 +375,7 @@ put-at seen now words old new x p writes is table tied left x-in p-in differ sec
     (subst (λ (z : Shape × Seen). x < z.0.fixed → legal.MayPut z.0 (state_of z.1.table.shape z.1.table.opening z.1.log) x)
     (λ i. (sym shape i, sym is i)) section)
 
+-- a take, as the writer makes it, where its seat is seen as `now`, of the table `words`
 pub taken-at : (seen now : Seen) (words : TableName) (old new : Plain) (x : ℕ) (writes : List Write) → seen ≡ now → now.table ≡ words
     → Tied seen old → HasVersionsLeft now.table now.log
     → member x (list_after now.table now.log) ≡ true → words.shape.fixed ≤ x
@@ -389,6 +400,7 @@ put-fits now words x p h table x-in p-in =
     let p-below = (stands now.table.shape now.table.opening now.log h).listed.within p p-in in
     (omega (arith, x-in, words.shape.few_items), omega (arith, p-below, items, words.shape.few_items))
 
+-- the number of an item in the list fits a note
 pub item-fits : (now : Seen) (x : ℕ) → legal.Legal now.table.shape now.table.opening now.log → member x (list_after now.table now.log) ≡ true
     → x < 2 ^ ITEM_BITS
 item-fits now x h x-in =
@@ -398,7 +410,7 @@ item-fits now x h x-in =
 abbrev pub AtMostTwice : Plain → Plain → Type 0
 AtMostTwice old new = (k : ℕ) → sheet.version new.words k ≤ sheet.version old.words k + 2
 
--- so it is for the words of the table
+-- where a plain list wrote no word more than twice, no word of its table rose by more than two
 raised-now : (seen now : Seen) (old new : Plain) → Tied seen old → Tied now new → now.table ≡ seen.table → AtMostTwice old new → AreRaised seen now
 raised-now seen now old new tied after table twice = λ k h.
     let there = subst (λ (t : TableName). legal.IsVersioned t.shape k) (sym table) h in
@@ -427,11 +439,11 @@ twice-put old new x once twice = λ k. elim (cases_eq k (1 + x)) [
   | inr ne ↦ omega (arith, once k ne)
 ]
 
--- a take makes one write
+-- a take makes one write, so it writes no word more than twice
 pub twice-take : (old new : Plain) (x : ℕ) → Written old.items old.list new.list x old.words new.words new.writes → length new.writes ≡ 1 → AtMostTwice old new
 twice-take old new x w single = λ k. omega (arith, raised-at_most old.words new.writes k w.raised, ap (λ l. sheet.version l k) w.words, single)
 
--- what a put and a take leave, in the words of the contracts
+-- what a put leaves, in the words of the contracts
 pub put-list : (seen now : Seen) (old new : Plain) (x p : ℕ) (writes : List Write) → Tied seen old → Wrote seen new (note_word (Put x p)) x writes
     → x < seen.table.shape.items → member p (list_after seen.table seen.log) ≡ true → new.list ≡ right_after x p (without x old.list)
     → now ≡ record { table = seen.table; log = log_of_all seen.log writes (note_word (Put x p)) } → AtMostTwice old new → Puts seen now x p
@@ -446,6 +458,7 @@ put-list seen now old new x p writes tied w x-in p-in list is twice =
       leaves = put-leaves seen now x p e (omega (arith, x-in, few), omega (arith, p-below, few)) x-in tied.quiet;
     }
 
+-- what a take leaves, in the words of the contracts
 pub taken-list : (seen now : Seen) (old new : Plain) (x : ℕ) (writes : List Write) → Tied seen old → Wrote seen new (note_word (Take x)) x writes
     → member x (list_after seen.table seen.log) ≡ true → new.list ≡ without x old.list
     → now ≡ record { table = seen.table; log = log_of_all seen.log writes (note_word (Take x)) } → AtMostTwice old new → Takes seen now x
@@ -459,7 +472,7 @@ taken-list seen now old new x writes tied w x-in list is twice =
       leaves = take-leaves seen now x e (omega (arith, x-below, seen.table.shape.few_items)) x-below tied.quiet;
     }
 
--- the same, where the writer's seat was seen as `before`, of the table `words`
+-- what a put leaves, where the writer's seat was seen as `before`, of the table `words`
 pub put-now : (seen before now : Seen) (words : TableName) (old new : Plain) (x p : ℕ) (writes : List Write) → seen ≡ before → before.table ≡ words
     → Tied seen old
     → Wrote seen new (note_word (Put x p)) x writes → x < words.shape.items → member p (list_after before.table before.log) ≡ true
@@ -470,6 +483,7 @@ put-now seen before now words old new x p writes is table tied w x-in p-in list 
     subst (λ s. Puts s now x p) is (put-list seen now old new x p writes tied w (subst (λ (t : TableName). x < t.shape.items) (sym named) x-in)
     (ap (λ (z : Seen). member p (list_after z.table z.log)) is ∙ p-in) list now-is twice)
 
+-- what a take leaves, where the writer's seat was seen as `before`
 pub taken-now : (seen before now : Seen) (old new : Plain) (x : ℕ) (writes : List Write) → seen ≡ before → Tied seen old
     → Wrote seen new (note_word (Take x)) x writes
     → member x (list_after before.table before.log) ≡ true → new.list ≡ without x old.list
