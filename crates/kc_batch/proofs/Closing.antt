@@ -355,7 +355,7 @@ opened-at : (words : TableName) (now next : Journalled) → now.levels.table ≡
 opened-at words now next table stays =
     λ i. record { table = sym (stays.table ∙ table) i; edges = sym stays.opened i; stamps = sym stays.opening_stamps i }
 
--- a round more of a crew
+-- a crew stays one after a round more
 pub crew-round : (old : Journalled) (first : ℕ) (batch : List Update) (ended : List PassSeen) (queue : Filled) (words : TableName) (now next : Journalled)
     (desks others : List Desked) (consumer after : Consuming) (made : ℕ)
     → IsCrew old first batch ended queue words now desks consumer → Stands now → Stands next → StaysIn now next

@@ -50,7 +50,7 @@ pub went-renewed : (ended : List PassSeen) (last : PassSeen) (old mid new : Jour
 went-renewed [] last old mid new h k = (mid, new, record { stays = h; stands = k.stands; told = k.told; spent = k.spent; renews = k.renews }, stays-self new)
 went-renewed (p ∷ more) last old mid new h k = (h.0, h.1, h.2, went-renewed more last h.1 mid new h.3 k)
 
--- what all tables of a run keep
+-- over all its tables a run keeps its start, and its entries go on
 pub went-entries : (ended : List PassSeen) (old new : Journalled) → WentOn old ended new → (new.started ≡ old.started) × IsPrefix old.entries new.entries
 went-entries [] old new h = (h.started, h.entries)
 went-entries (last ∷ more) old new h =

@@ -43,7 +43,7 @@ distinct-images f (x ∷ xs) d =
 clash : (x y : ℕ) (xs : List ℕ) (f : ℕ → ℕ) → y ≡ f x → member y (map f xs) ≡ true → member (f x) (map f xs) ≡ false → ⊥
 clash x y xs f e m away = true≢false (sym (subst (λ (z : ℕ). member z (map f xs) ≡ true) e m) ∙ away)
 
--- and two of them with one image are one
+-- of numbers with distinct images, two with one image are one
 pub images-apart : (f : ℕ → ℕ) (xs : List ℕ) (a b : ℕ) → Distinct (map f xs) → member a xs ≡ true → member b xs ≡ true → f a ≡ f b → a ≡ b
 images-apart f [] a b d in_a in_b same = absurd (true≢false (sym in_a))
 images-apart f (x ∷ xs) a b d in_a in_b same = elim (member-cases a x xs in_a) [

@@ -53,7 +53,7 @@ pace-renewed old now next batch ended last r grown left pace = record {
       | inr same ↦ absurd (fresh-lasts now r.stands (p.quiet (omega (arith, same, number-is now r.stands))) p.version r.spent)
     ]
 
--- so there are no more of them than updates
+-- no more tables were ended than the batch has updates
 pub pace-few : (old now : Journalled) (batch : List Update) (ended : List PassSeen) → (ended ≡ []) ⊎ KeepsPace old now batch ended
     → length ended ≤ length batch
 pace-few old now batch ended (inl none) = omega (arith, ap (λ (ps : List PassSeen). length ps) none)

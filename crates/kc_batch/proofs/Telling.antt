@@ -66,7 +66,7 @@ receipt_in-grows o start p q first batch receipt pre h =
       applied = h.applied;
     }
 
--- a receipt is one of a run that has gone on
+-- a receipt stays one of a run that goes on
 pub receipt_of-grows : (started : SimpleGraph) (entries more : List Entry) (first : ℕ) (batch : List Update) (from : ℕ) (receipt : Receipt)
     → IsPrefix entries more → IsReceiptOf started entries first batch from receipt → IsReceiptOf started more first batch from receipt
 receipt_of-grows started entries more first batch from receipt pre h = record {
@@ -80,7 +80,7 @@ receipt_of-grows started entries more first batch from receipt pre h = record {
   applied = h.applied;
 }
 
--- and so it is of one that counts from earlier
+-- a receipt that counts from a later entry on is one that counts from an earlier one on
 pub receipt_of-earlier : (started : SimpleGraph) (entries : List Entry) (first : ℕ) (batch : List Update) (from before : ℕ) (receipt : Receipt)
     → before ≤ from → IsReceiptOf started entries first batch from receipt → IsReceiptOf started entries first batch before receipt
 receipt_of-earlier started entries first batch from before receipt le h = record {

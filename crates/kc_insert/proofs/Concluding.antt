@@ -27,7 +27,7 @@ use Rattle.kc_insert.specs.declared.rising.Rising.{Rising}
 use Rattle.kc_insert.proofs.Sureness.{plain-sure, rise-sure, reached-forward}
 use Rattle.kc_insert.proofs.Tidy.{left-queued}
 
--- candidates, and those that were shifted, had a turn
+-- each candidate on the list of these was queued
 cand-queued : (r : Rising) (x : ℕ) → member x (cands r) ≡ true → member x r.queue.items ≡ true
 cand-queued r x m = (member-filter (is_candidate r) x r.queue.items m).0
 
@@ -47,7 +47,7 @@ all-left r ended = take_all r.turn r.queue.items (omega (arith, ended))
 none-waits : (r : Rising) → r.turn ≡ length r.queue.items → waiting r ≡ []
 none-waits r ended = drop_all r.turn r.queue.items (omega (arith, ended))
 
--- so that the lists of all that the moves name were read
+-- once all turns were taken, the lists of all that the moves name were read
 pub named-read : (update : Update) (shown : Shown) (r : Rising) (x : ℕ) → IsTidyRising update shown r → r.turn ≡ length r.queue.items
     → member x ((cands r ++ firsts r.shifts.items) ++ seconds r.shifts.items) ≡ true → has_list shown.kept x ≡ true
 named-read update shown r x t ended m = t.read x (elim (member-append x (cands r ++ firsts r.shifts.items) (seconds r.shifts.items) m) [
@@ -72,7 +72,7 @@ ended-turns : (s : Search) (root : ℕ) (r : Rising) → r.turn ≡ length r.que
 ended-turns s root r ended b =
     subst (λ (xs : List ℕ). BetweenTurns s root (cands r) xs b.0 (earlier_at r) (later_at r) r.shifts.items) (none-waits r ended) b.1.turns
 
--- where nobody rises or is shifted
+-- where nobody rises or is shifted, the plan without moves passes the local test and is sparing
 pub nobody-sure : (update : Update) (used : Used) (s : Ranked) (level root : ℕ) (r : Rising) → update.add ≡ true → IsCertified s
     → update.v < s.graph.size → adjacent s.graph update.u update.v ≡ false
     → level ≡ min (get_or s.core update.u 0) (get_or s.core update.v 0) → root ≡ root_of s update
@@ -84,7 +84,7 @@ nobody-sure update used s level root r adds h l new least is ended b none still 
     (subst (λ (xs : List ℕ). BetweenTurns (search_with update level s) root xs [] b.0 (earlier_at r) (later_at r) []) none
     (subst (λ (xs : List (ℕ × ℕ)). BetweenTurns (search_with update level s) root (cands r) [] b.0 (earlier_at r) (later_at r) xs) still k))
 
--- where some do
+-- where some rise or are shifted, the plan with these moves passes the local test and is sparing
 pub some-sure : (update : Update) (used : Used) (s : Ranked) (level root : ℕ) (r : Rising) (rise : Vec ℕ Global) → update.add ≡ true
     → IsCertified s → update.v < s.graph.size → adjacent s.graph update.u update.v ≡ false
     → level ≡ min (get_or s.core update.u 0) (get_or s.core update.v 0) → root ≡ root_of s update

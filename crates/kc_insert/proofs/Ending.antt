@@ -145,7 +145,7 @@ support_at s root cands frontier earlier later place c h z m y l a =
       ]
     ]
 
--- few later neighbours
+-- after the rise each vertex has few later neighbours
 pub few_after : (s : Search) (root : ℕ) (cands : List ℕ) (frontier : ℕ) (earlier later place : ℕ → ℕ) → Widened s root
     → Searching s root cands [] frontier earlier later place
     → (z : ℕ) → z < s.size → among s z (then_after (is_low s) cands s.rank place z) ≤ raised s.core s.level cands z
@@ -185,7 +185,7 @@ few_after s root cands frontier earlier later place c h z lz =
           ]
     ]
 
--- and enough that are as high
+-- after the rise each vertex has enough neighbours that are as high
 pub enough_after : (s : Search) (root : ℕ) (cands : List ℕ) (frontier : ℕ) (earlier later place : ℕ → ℕ) → Widened s root
     → Searching s root cands [] frontier earlier later place → AllStrong s cands earlier later
     → (z : ℕ) → z < s.size → raised s.core s.level cands z ≤ among s z (λ y. leb (raised s.core s.level cands z) (raised s.core s.level cands y))

@@ -100,7 +100,7 @@ pub next-left : (r : Rising) (x : ℕ) → IsOrderly r → length r.shifts.items
     → get_or r.weak.items (length r.shifts.items) 0 ≡ x → member x (left r) ≡ true
 next-left r x o lt first = o.weak_left x (ap (λ k. member k r.weak.items) (sym first) ∙ member-get_or r.weak.items (length r.shifts.items) 0 lt)
 
--- it is evicted
+-- where the weak candidate whose turn it is is evicted, queue and marks stay orderly
 pub evict-orderly : (x anchor : ℕ) (old new : Rising) → IsOrderly old → Evicts x anchor old new
     → length old.shifts.items < length old.weak.items → get_or old.weak.items (length old.shifts.items) 0 ≡ x
     → member anchor (left old) ≡ true → IsOrderly new
@@ -274,7 +274,7 @@ evicted-now q root x anchor frontier row old mid new w o o' ev l lt first exact 
           (sym shifts) next);
     }
 
--- nobody is too weak any more
+-- where nobody is too weak any more, the search is between two turns again
 pub settled-between : (q : Search) (root last : ℕ) (r : Rising) → IsOrderly r → length r.weak.items ≤ length r.shifts.items
     → IsSettling q root r last → IsBetweenTurns q root r
 settled-between q root last r o le st =

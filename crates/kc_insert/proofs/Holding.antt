@@ -17,7 +17,7 @@ use Rattle.kc_insert.specs.Searching.{ahead, behind, Widened, BetweenTurns}
 use Rattle.kc_insert.proofs.Steps.{ahead-later}
 use Rattle.kc_insert.proofs.Ending.{few_behind, few_after, enough_after}
 
--- where no vertex moves
+-- where no vertex moves, the certificate holds at each vertex
 pub plain-holds : (s : Ranked) (g : SimpleGraph) (level root frontier : ℕ) (earlier later : ℕ → ℕ) → IsCertified s → g.size ≡ s.graph.size
     → Widened (search_in g s level) root
     → BetweenTurns (search_in g s level) root [] [] frontier earlier later []
@@ -35,7 +35,7 @@ plain-holds s g level root frontier earlier later h size w b z l =
     ] in
     still-holds s g h size z l few (w.enough z l)
 
--- where vertices rise, and others are shifted
+-- where vertices rise, and others are shifted, the certificate holds at each vertex
 pub rise-holds : (s : Ranked) (g : SimpleGraph) (level root : ℕ) (rise : List ℕ) (frontier : ℕ) (earlier later : ℕ → ℕ)
     (shifts : List (ℕ × ℕ))
     → IsCertified s → g.size ≡ s.graph.size → Widened (search_in g s level) root

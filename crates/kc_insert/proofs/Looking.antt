@@ -22,7 +22,7 @@ and-yes a = grind arith
 or_no : (a b : Bool) → a ≡ (a || (b && false))
 or_no a b = grind arith
 
--- a neighbour more
+-- who is on the list of those behind, after one neighbour more was put there or not
 pub member-more : (b : Bool) (x y : ℕ) (next next' : List ℕ) → next' ≡ cond b (next ++ x ∷ []) next → member y next' ≡ (member y next || (eqb y x && b))
 member-more true x y next next' e = ap (member y) e ∙ (member-push y x next ∙ ap (λ k. member y next || k) (sym (and-yes (eqb y x))))
 member-more false x y next next' e = ap (member y) e ∙ or_no (member y next) (eqb y x)
@@ -75,7 +75,7 @@ next_parts m a l f h = (grind arith, grind arith, grind arith)
 swapped : (a b c : Bool) → a ≡ true → b ≡ c → b ≡ (a && c)
 swapped a b c h e = grind arith
 
--- all neighbours have been looked at
+-- once all neighbours have been looked at, count and list are those of the ones ahead
 pub ahead-is : (s : Search) (w : ℕ) (row : List ℕ) (a : Ahead) → Distinct row → ((y : ℕ) → member y row ≡ true → y < s.size)
     → ((y : ℕ) → y < s.size → member y row ≡ s.adj w y)
     → a.count ≡ count_by (λ y. is_ahead (side_in s w y)) row → ((y : ℕ) → member y a.next.items ≡ (member y row && is_next (side_in s w y))) → IsAheadOf s w a

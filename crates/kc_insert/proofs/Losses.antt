@@ -369,7 +369,7 @@ lose-orderly level loss y old new o l =
       anchored = λ z m. ap (member z) same_left ∙ o.anchored z (sym (ap (λ xs. member z (seconds xs)) k.shifts) ∙ m);
     }
 
--- nothing is lost yet
+-- where no neighbour has lost yet, nothing has changed
 pub loses-none : (level : ℕ) (loss : Loss) (r : Rising) → Loses level loss [] r r
 loses-none level loss r = record {
   earlier = λ z. omega arith;

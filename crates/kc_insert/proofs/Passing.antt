@@ -236,7 +236,7 @@ passes-ascends rank x place queue new e out le p apart up =
     (inserted-ascends rank queue place x up le p.before p.behind
     (λ z m k. true≢false (sym m ∙ (ap (λ n. member n queue) (apart z m k) ∙ out))))
 
--- a vertex that was never queued
+-- a vertex that was never queued gets its first candidate before it where it is queued
 pub enqueued-passes : (x place : ℕ) (old new : Rising) → mark_of old.marks x ≡ None
     → MarksOne x (record { earlier = 1; later = 0; turn = 0; is_candidate = false; is_weak = false }) old new
     → new.queue.items ≡ insert old.queue.items place x

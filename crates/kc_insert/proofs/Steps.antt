@@ -37,7 +37,7 @@ and-no a = grind arith
 no_candidates : (s : Search) (x : ℕ) → coming s [] x ≡ 0
 no_candidates s x = count-none (λ y. s.adj x y && (member y [] && after s y x)) (below s.size) (λ y _. and-no (s.adj x y))
 
--- before the first turn
+-- before the first turn, the search stands with the root alone in the queue
 pub start : (s : Search) (root : ℕ) → Widened s root → (earlier later : ℕ → ℕ) → ((x : ℕ) → earlier x ≡ 0)
     → Searching s root [] (root ∷ []) (s.rank root) earlier later s.rank
 start s root c earlier later none = record {
@@ -481,7 +481,7 @@ pass s root cands queue w frontier earlier later place c h few none =
       earlier_kept = λ x ne. refl;
     })
 
--- once the eviction list is empty
+-- once the eviction list is empty, all candidates are strong
 pub settled : (s : Search) (cands : List ℕ) (frontier : ℕ) (earlier later place : ℕ → ℕ) (last : ℕ)
     → WeakListed s cands frontier earlier later place [] last → AllStrong s cands earlier later
 settled s cands frontier earlier later place last e = record { strong = λ x m. e.strong x m refl }

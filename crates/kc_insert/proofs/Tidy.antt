@@ -65,7 +65,7 @@ asks-queued update a queue queue' asks grows = record {
   cores = asks.cores;
 }
 
--- the view goes on
+-- the search stays tidy where the view goes on
 pub tidy-view : (update : Update) (old new : Shown) (r : Rising) → IsTidyRising update old r → new.size ≡ old.size
     → Further old.kept new.kept → AsksQueued update new.kept r.queue.items → IsTidyRising update new r
 tidy-view update old new r t size further asks = record {
@@ -76,7 +76,7 @@ tidy-view update old new r t size further asks = record {
   asks = asks;
 }
 
--- queue, candidates and evicted go on
+-- the search stays tidy where queue, candidates and evicted go on
 pub tidy-rising : (update : Update) (shown : Shown) (old new : Rising) → IsTidyRising update shown old → IsOrderly new
     → ((z : ℕ) → member z old.queue.items ≡ true → member z new.queue.items ≡ true)
     → ((z : ℕ) → member z new.queue.items ≡ true → (member z old.queue.items ≡ true) ⊎ ((z < shown.size) × (has_core shown.kept z ≡ true)))
@@ -108,7 +108,7 @@ left-more w mark old new l lt first =
     ap (λ xs. take new.turn xs) l.queue
     ∙ (ap (λ n. take n old.queue.items) l.turn ∙ (take_more old.queue.items old.turn 0 lt ∙ ap (λ y. left old ++ y ∷ []) first))
 
--- and is found in no list
+-- the first of those that wait has not left the queue
 pub first-not_left : (w : ℕ) (r : Rising) → IsOrderly r → r.turn < length r.queue.items → get_or r.queue.items r.turn 0 ≡ w → member w (left r) ≡ false
 first-not_left w r o lt first = subst (λ (y : ℕ). member y (left r) ≡ false) first (take-not_here r.turn r.queue.items lt o.once)
 

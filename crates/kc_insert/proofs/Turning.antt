@@ -240,7 +240,7 @@ turn_same s root cands queue frontier earlier later shifts b cands' earlier' lat
   shifts_fit = Shifts-list s cands cands' frontier shifts same b.shifts_fit;
 }
 
--- and while a vertex is settled
+-- the same counts, and the same candidates in another list, while a vertex is settled
 pub settling_same : (s : Search) (root : ℕ) (cands queue : List ℕ) (frontier : ℕ) (earlier later : ℕ → ℕ) (shifts : List (ℕ × ℕ)) (evict : List ℕ) (last : ℕ)
     → InSettling s root cands queue frontier earlier later shifts evict last
     → (cands' : List ℕ) (earlier' later' : ℕ → ℕ) → ((y : ℕ) → member y cands' ≡ member y cands) → ((y : ℕ) → earlier' y ≡ earlier y)

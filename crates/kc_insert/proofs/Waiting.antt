@@ -51,7 +51,7 @@ later-of_cands s root cands queue frontier earlier later shifts b later' same =
       shifts_fit = b.shifts_fit;
     }
 
--- the mark of `w` says nothing
+-- where a vertex with no candidate before it and few ahead leaves the queue, the search is between two turns again
 pub pass-between : (s : Search) (root w : ℕ) (old new : Rising) → Widened s root → IsOrderly old → old.turn < length old.queue.items
     → get_or old.queue.items old.turn 0 ≡ w
     → Leaves w (record { earlier = 0; later = 0; turn = 0; is_candidate = false; is_weak = false }) old new → ahead s w ≤ s.level

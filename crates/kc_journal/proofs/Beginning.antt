@@ -105,6 +105,6 @@ begins {s} {version} {words} {j} {pass} b =
           ∙ (ap (λ (z : List ℕ). get_or z v 0) b.stamps_are ∙ zero-at v (omega (arith, low, size)));
     }
 
--- so it stands
+-- a journal that `open` has got stands
 pub stands-begun : {s : Ranked} {version : ℕ} {words : TableName} {j : Journalled} {pass : PassSeen} → Began s version words j pass → Stands j
 stands-begun b = (begins b).stands

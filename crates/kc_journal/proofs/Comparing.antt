@@ -40,6 +40,6 @@ compared x y b is are both told =
 pub vertex-in : {self now : Journalled} (v : ℕ) → self ≡ now → Stands self → v < now.graph.size → v < size_of self.levels
 vertex-in {self} {now} v is h low = omega (arith, low, ap (λ (j : Journalled). j.graph.size) is, size-is self h)
 
--- a row of the graph
+-- the neighbours that a journal tells of a vertex are its row in the graph
 pub row-is : {self now : Journalled} (v : ℕ) (ws : List ℕ) → self ≡ now → AreNeighbours self.graph v ws → ws ≡ neighbours_of now.graph v
 row-is {self} {now} v ws is near = neighbours_are self.graph v ws near ∙ ap (λ (j : Journalled). neighbours_of j.graph v) is

@@ -110,7 +110,7 @@ before {now} {self} {told} {pass} {index} {plan} is h same begins fits within (l
       admitted = subst (λ (j : Journalled). IsAdmitted j plan) ((λ i. record self { levels = same i }) ∙ is) admitted;
     }
 
--- so the section may be made
+-- with what is known before the first store, the section of the plan may be made
 pub fits-section : {now self : Journalled} {told : Levelled} {index : ℕ} {plan : Plan} → Before now self told index plan → FitsSection told plan
 fits-section {now} {self} {told} {index} {plan} b =
     let right = right-here now plan b.stands b.may b.admitted.current in
@@ -158,7 +158,7 @@ makes {self} {new} {told} {index} {plan} lists place number section graph entrie
   opening_stamps = opening;
 }
 
--- so the journal enters the update
+-- a journal of which the calls have made so enters the update
 enters : {now self new : Journalled} {told : Levelled} {index : ℕ} {plan : Plan} {lists : Option ListsAfter} → Before now self told index plan
     → Makes self new told index plan lists → Enters now new index plan.update plan.moves
 enters {now} {self} {new} {told} {index} {plan} {lists} b m =
@@ -181,12 +181,12 @@ next : {now self new : Journalled} {told : Levelled} {index : ℕ} {plan : Plan}
 next {now} {self} {new} {told} {index} {plan} b m =
     stands-next now new index plan b.stands b.index_fits b.may b.admitted.current b.admitted.number (enters b m)
 
--- it stands
+-- a journal stands after an entry
 pub stands-entered : {now self new : Journalled} {told : Levelled} {index : ℕ} {plan : Plan} {lists : Option ListsAfter}
     → Before now self told index plan → Makes self new told index plan lists → Stands new
 stands-entered b m = (next b m).stands
 
--- and this is what is told of it
+-- what is told of an entry is what was entered
 pub is-entered : {now self new : Journalled} {told : Levelled} {index : ℕ} {plan : Plan} {lists : Option ListsAfter} {place : ℕ} {applied : Bool}
     → Before now self told index plan → Makes self new told index plan lists → place ≡ length new.entries → applied ≡ is_some lists
     → IsEntered now new index plan (record { receipt = record { index = index; place = place; applied = applied }; lists = lists })

@@ -34,7 +34,7 @@ pub in-ok : {E : Type 0} (r : Result (List ℕ) E) {P Q : List ℕ → Type 0} �
 in-ok (Ok xs) f h = f xs h
 in-ok (Err e) f h = tt
 
--- and where it was turned into a `Some`
+-- what follows of the value in an `Ok` follows where it was turned into a `Some`
 pub in-some : {E : Type 0} (r : Result (List ℕ) E) (o : Option (List ℕ)) {P Q : List ℕ → Type 0} → o ≡ result_ok r
     → ((xs : List ℕ) → P xs → Q xs) → IfOk r P → IfSome o Q
 in-some (Ok xs) o {P} {Q} e f h = subst (λ (z : Option (List ℕ)). IfSome z Q) (sym e) (f xs h)
@@ -45,7 +45,7 @@ pub is-added : (xs : List ℕ) (w i : ℕ) (add : Bool) (new : List ℕ) → add
 is-added xs w i true new e place h = record { applied = sym (place-found xs w (Err i) place); changed = h }
 is-added xs w i false new e place h = absurd (false≢true e)
 
--- and one that was found is taken
+-- a number that was found is taken
 pub is-taken : (xs : List ℕ) (w i : ℕ) (add : Bool) (new : List ℕ) → add ≡ false → IsPlace xs w (Ok i) → Deleted xs new w → IsChangedList add xs new w
 is-taken xs w i true new e place h = absurd (false≢true (sym e))
 is-taken xs w i false new e place h = record { applied = sym (place-found xs w (Ok i) place); changed = h }

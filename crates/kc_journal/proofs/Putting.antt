@@ -175,7 +175,7 @@ module _ (table : TableName) where
             (ap (λ (z : NoteWord). item_put z (1 + x)) note-is ∙ puts.0)));
       }
 
--- one put
+-- one put adds its vertex to what the section has put
 adds-put : (old new : Seen) (x p : ℕ) → Puts old new x p → x < old.table.shape.fixed → IsQuiet old.table old.log → Adds old.table old.log new.log (x ∷ [])
 adds-put old new x p h vertex quiet =
     let e = h.ends in
@@ -185,7 +185,7 @@ adds-put old new x p h vertex quiet =
     let whole = append_assoc old.log e.relabels (event 0 (note_word (Put x p)) ∷ event (1 + x) e.value ∷ []) ∙ sym e.log in
     adds-then old.table old.log mid new.log [] (x ∷ []) asides (adds-item old.table mid new.log x p e.value vertex whole legal)
 
--- puts in turn
+-- puts in turn add their vertices to what the section has put
 pub adds-puts : (puts : List (ℕ × ℕ)) (old new : Seen) → PutsEach old puts new
     → ((v : ℕ) → member v (firsts puts) ≡ true → v < old.table.shape.fixed) → IsQuiet old.table old.log
     → (new.table ≡ old.table) × Adds old.table old.log new.log (firsts puts)

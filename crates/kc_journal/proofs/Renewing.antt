@@ -18,11 +18,11 @@ stamp-low j h v low =
     let holds = legal-holds j.levels.table.shape j.levels.table.opening j.levels.log h.levels.legal in
     omega (arith, holds.stamps v low, number-is j h)
 
--- and no edge stamp
+-- no edge stamp is above the number of entries
 pub edge-stamp-low : (j : Journalled) → Stands j → (v : ℕ) → v < size_of j.levels → get_or j.edge_stamps v 0 ≤ length j.entries
 edge-stamp-low j h v low = omega (arith, h.edge_stamps v low, no_later j.started j.entries 0 v 0 (omega arith))
 
--- so it is of the lists that a fresh table is opened with
+-- no stamp in the lists that a fresh table is opened with is above the number of entries
 pub stamps-low : {j : Journalled} {core : List ℕ} {base : ℕ} (stamps : List ℕ) → Stands j → core ≡ j.levels.core → base ≡ length j.entries
     → ((v : ℕ) → v < size_of j.levels → get_or stamps v 0 ≡ stamp_at j.levels v) → (v : ℕ) → v < length core → get_or stamps v 0 ≤ base
 stamps-low {j} {core} {base} stamps h core-is base-is each v l =
@@ -78,7 +78,7 @@ stands-renewed {self} {new} h r =
     } in
     stands-at-opening new opens
 
--- and this is what is told of it
+-- what is told of a renewed journal: the run goes on in it
 pub renews : {self now new : Journalled} → self ≡ now → Stands self → Renewed self new
     → Renews now new new.levels.table.shape.version new.levels.table (fresh_pass new.levels.table)
 renews {self} {now} {new} is h r =

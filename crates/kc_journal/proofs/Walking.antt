@@ -76,7 +76,7 @@ walk-next l done v at are w next =
 pub walk-end : (l : Levelled) (done : List ℕ) → Walked l done None → done ≡ l.order
 walk-end l done w = sym (w.is ∙ (ap (λ (xs : List ℕ). done ++ xs) w.stands ∙ append-nil done))
 
--- so has one that has passed as many as there are vertices
+-- a walk that has passed as many as there are vertices has passed the whole order
 pub walk-full : (l : Levelled) (done : List ℕ) (at : Option ℕ) → AreLevels l → Walked l done at → size_of l ≤ length done → done ≡ l.order
 walk-full l done at are w long =
     let few = below_bound (size_of l) l.order (order-distinct (size_of l) l.order are.enumerates) (order-below (size_of l) l.order are.enumerates) in

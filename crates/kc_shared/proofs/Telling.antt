@@ -188,7 +188,7 @@ told {o} {old} {new} {seen} {pass} {index} {plan} {entered} k low pre all e =
     (subst (λ (z : Opened). IsToldEntry z seen new.levels.log index plan.update entered) k.is
     (told-here seen old new index plan entered k.stands (omega (arith, low, ap (λ (z : Opened). z.table.shape.fixed) k.is)) pre e))
 
--- the pass has seen more
+-- after an entry the pass has seen what it had, and more
 pub longer : (seen : List Event) {old new : Journalled} {pass : PassSeen} {index : ℕ} {plan : Plan} {entered : Entered}
     → IsPrefix seen old.levels.log → pass ≡ all_seen new → IsEntered old new index plan entered → IsPrefix seen pass.log
 longer seen {old} {new} {pass} {index} {plan} {entered} pre all e =
@@ -207,7 +207,7 @@ receipt-earlier o earlier old new index update receipt pre r = record {
   later = omega (arith, r.later, number-grows o.table.shape o.table.opening earlier old pre);
 }
 
--- and so do the causes of a refusal
+-- the cause of a refusal since a later moment is its cause since an earlier one
 pub cause-earlier : (o : Opened) (earlier old new : List Event) (index : ℕ) (plan : Plan) (fault : SharedFault) → IsPrefix earlier old
     → HasCause o old new index plan fault → HasCause o earlier new index plan fault
 cause-earlier o earlier old new index plan (shared.Full entries) pre is = is

@@ -176,7 +176,7 @@ record HeldSince (table : TableName) (start middle : List Event) (l : Loaded) : 
   begins : IsPrefix start l.prefix
   ends : IsPrefix l.prefix middle
 
--- so were the four
+-- the four words of a collect were loaded since it began
 all_since : (start middle : List Event) (c : Collected) → IsCollect c → IsPrefix start c.item_x.prefix → IsPrefix c.group_y.prefix middle
     → All (HeldSince c.table start middle) (words_of c)
 all_since start middle c is begins ends =

@@ -24,7 +24,7 @@ neighbours_list g v ws h = record {
   others = false_from_ne_true (member v ws) (λ m. true≢false (sym m ∙ (h.exact v ∙ adjacent-self g v)));
 }
 
--- and so is what a record has, where the table opened with a graph of its vertices
+-- what a record has is a list of its vertex, where the table opened with a graph of its vertices
 pub was_list : (o : Opened) (log : List Event) (e : UsedEdges) → o.edges.size ≡ o.table.shape.fixed → WasList o.table o.edges log e
     → IsListOf o.table.shape.fixed e.vertex e.neighbours
 was_list o log e size was =
@@ -33,7 +33,7 @@ was_list o log e size was =
     let same : g.size ≡ o.table.shape.fixed = size-after_all o.edges (take (e.at - o.table.shape.base) entries) ∙ size in
     subst (λ (n : ℕ). IsListOf n e.vertex e.neighbours) same (neighbours_list g e.vertex e.neighbours was.list)
 
--- a record stays true
+-- a record stays true of a longer log
 pub record_stays : (o : Opened) (before log : List Event) (v : ℕ) (r : UsedEdges) → IsRecord o before v r → IsPrefix before log → IsRecord o log v r
 record_stays o before log v r is pre = record {
   vertex = is.vertex;

@@ -26,7 +26,7 @@ pub place_is : (s : Striped) (w : ℕ) → belongs s w ≡ true → vertex_at s.
 place_is s w here =
     omega (arith, div-add-mod' w STRIPES, eqb-true (w % STRIPES) s.number (both (eqb (w % STRIPES) s.number) (ltb w s.opened.edges.size) here).0)
 
--- which is one of its places
+-- the place of a vertex of the stripe is one of the stripe's
 pub place_in : (s : Striped) (w : ℕ) → IsStripe s → belongs s w ≡ true → w / STRIPES < length s.records
 place_in s w is here =
     let small : w < s.opened.edges.size = ltb-true w s.opened.edges.size (both (eqb (w % STRIPES) s.number) (ltb w s.opened.edges.size) here).1 in
@@ -34,7 +34,7 @@ place_in s w is here =
     let begun = lt-ltb (vertex_at s.number place) s.opened.edges.size (omega (arith, small, place_is s w here)) in
     ltb-true place (length s.records) (is.places place ∙ begun)
 
--- and the record there is its record, which is true
+-- the record at the place of a vertex of the stripe is its record, which is true
 pub record_is : (s : Striped) (w : ℕ) → IsStripe s → belongs s w ≡ true → IsRecord s.opened s.seen w (record_of s w)
 record_is s w is here =
     subst (λ (v : ℕ). IsRecord s.opened s.seen v (record_of s w)) (place_is s w here) (is.each (w / STRIPES) no_record (place_in s w is here))
@@ -48,7 +48,7 @@ seen_more s log is pre = record {
   each = λ i d l. record_stays s.opened s.seen log (vertex_at s.number i) (get_or s.records i d) (is.each i d l) pre;
 }
 
--- a true record in the place of a vertex
+-- a stripe stays one where a true record is put in the place of its vertex
 pub put_record : (s : Striped) (r : UsedEdges) → IsStripe s → belongs s r.vertex ≡ true → IsRecord s.opened s.seen r.vertex r
     → IsStripe (record s { records = set s.records (r.vertex / STRIPES) r })
 put_record s r is here new =
@@ -90,7 +90,7 @@ pub record Filling (o : Opened) (log : List Event) (number vertex : ℕ) (record
   pub each : (i : ℕ) (d : UsedEdges) → i < length records → IsRecord o log (vertex_at number i) (get_or records i d)
   pub opening : (i : ℕ) (d : UsedEdges) → i < length records → (get_or records i d).at ≡ get_or o.stamps (vertex_at number i) 0
 
--- none yet
+-- a stripe that is being filled has no records at first
 pub filling_none : (o : Opened) (log : List Event) (number : ℕ) → Filling o log number number []
 filling_none o log number = record {
   next = omega arith;
@@ -99,7 +99,7 @@ filling_none o log number = record {
   opening = λ i d l. absurd (omega (arith, l));
 }
 
--- one more: the opening list of the next vertex
+-- a stripe that is being filled gets one record more: the opening list of the next vertex
 pub filling_more : (o : Opened) (log : List Event) (number : ℕ) (records : List UsedEdges) (r : UsedEdges) → Filling o log number r.vertex records
     → r.vertex < o.edges.size → o.edges.size ≡ o.table.shape.fixed → r.at ≡ get_or o.stamps r.vertex 0 → r.at ≤ o.table.shape.base
     → AreNeighbours o.edges r.vertex r.neighbours → Filling o log number (r.vertex + STRIPES) (records ++ r ∷ [])
@@ -131,7 +131,7 @@ filling_more o log number records r f small size is old near =
       opening = λ i d l. (all i d l).1;
     }
 
--- all of them
+-- the records of all its vertices make a stripe
 pub filled : (o : Opened) (log : List Event) (number vertex : ℕ) (records : List UsedEdges) → Filling o log number vertex records → number < STRIPES
     → o.edges.size ≡ o.table.shape.fixed → o.edges.size ≤ vertex → IsStripe (record { number = number; opened = o; seen = log; records = records })
 filled o log number vertex records f few size ends = record {
@@ -144,7 +144,7 @@ filled o log number vertex records f few size ends = record {
   each = f.each;
 }
 
--- each under the opening stamp of its vertex
+-- in a stripe that was filled each record is under the opening stamp of its vertex
 pub filled_at : (o : Opened) (log : List Event) (number vertex : ℕ) (records : List UsedEdges) → Filling o log number vertex records → number < STRIPES
     → o.edges.size ≡ o.table.shape.fixed → o.edges.size ≤ vertex → (v : ℕ)
     → belongs (record { number = number; opened = o; seen = log; records = records }) v ≡ true

@@ -99,7 +99,7 @@ pub fresh : (shape : Shape) (opening : List ℕ) (w : ℕ) (p m q : List Event) 
     → value_at opening m w ≡ value_at opening p w
 fresh shape opening w p m q versioned = comes_not_back shape w version_of (version_raises shape w versioned) opening p m q
 
--- and so was a vertex's word
+-- a vertex's word that is the same after two prefixes was the same after each between
 pub fresh_vertex : (shape : Shape) (opening : List ℕ) (v : ℕ) (p m q : List Event) → IsPrefix p m → IsPrefix m q → Legal shape opening m → Legal shape opening q
     → value_at opening p (first_vertex shape + v) ≡ value_at opening q (first_vertex shape + v)
     → value_at opening m (first_vertex shape + v) ≡ value_at opening p (first_vertex shape + v)

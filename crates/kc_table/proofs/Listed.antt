@@ -74,7 +74,7 @@ Distinct-listed a (suc x) =
           (false_from_ne_true (member x (listed a x)) (λ k. let l : x < x = listed-within a x x k in omega arith))
     ]
 
--- what holds of the list
+-- the list has distinct items of the table, and each vertex
 pub record Listed (shape : Shape) (list : List ℕ) : Type 0 where
   pub distinct : Distinct list
   pub within : (x : ℕ) → member x list ≡ true → x < shape.items
@@ -92,7 +92,7 @@ pub record Stands (shape : Shape) (s : State) : Type 0 where
   pub listed : Listed shape s.list
   pub announced : Announced shape s.list s.note
 
--- the list after the store that follows a note
+-- the list stays as it should be after the store that follows a note
 moved-listed : (shape : Shape) (list : List ℕ) (word : ℕ) (note : NoteWord) → Announced shape list note → Listed shape list
     → Listed shape (moved note word list)
 moved-listed shape list word Nothing a h = h
@@ -147,7 +147,7 @@ note-announced shape s (Enter add index u v) h = tt
 note-announced shape s (Put x p) h = (h.0, h.1, h.2)
 note-announced shape s (Take x) h = h.1
 
--- one store that may follow
+-- a store that may follow keeps the list and what is announced as they should be
 stands-step : (shape : Shape) (s : State) (e : Event) → MayStore shape s e → Stands shape s → Stands shape (after_store shape s e)
 stands-step shape s e may h =
     elim (cases_Bool (eqb e.word 0)) [

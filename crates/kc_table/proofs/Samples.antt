@@ -62,7 +62,7 @@ pub two_entries-unsealed : (state_of shape opening two_entries).unsealed ≡ []
 unfolding state_of item_of item_word group_of group_word note_of note_word
 two_entries-unsealed = refl
 
--- what each section has put
+-- before the first entry of the table item 2 was put
 pub puts-before : puts_in shape opening put_and_take 1 ≡ 2 ∷ []
 unfolding puts_in item_of item_word group_of group_word note_of note_word
 puts-before = refl

@@ -37,7 +37,7 @@ pub value_at-other : (opening : List ℕ) (log : List Event) (e : Event) (word :
 value_at-other opening log e word other =
     ap (λ ws. get_or ws word 0) (words_after-push opening log e) ∙ get_or-set_other (words_after opening log) e.word word e.value 0 other
 
--- and gives its own its value
+-- a store gives its own word its value
 pub value_at-stored : (shape : Shape) (opening : List ℕ) (log : List Event) (e : Event) → Legal shape opening (log ++ e ∷ [])
     → value_at opening (log ++ e ∷ []) e.word ≡ e.value
 value_at-stored shape opening log e h =

@@ -48,7 +48,7 @@ prefix-last xs ps e p = elim (prefix_either ps xs (xs ++ e ∷ []) p (e ∷ [], 
   ] p.1
 ]
 
--- the rows with one more arc
+-- the rows with one arc more stand for the arcs with that one more
 rows-push : (rows : List (List ℕ)) (arcs : List (ℕ × ℕ)) (a b : ℕ) → a < length rows → ((x y : ℕ) → member y (row rows x) ≡ has_arc arcs x y)
     → (x y : ℕ) → member y (row (set rows a (row rows a ++ b ∷ [])) x) ≡ has_arc (arcs ++ (a, b) ∷ []) x y
 rows-push rows arcs a b low are x y = elim (cases_eq x a) [

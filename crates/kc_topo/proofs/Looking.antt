@@ -21,7 +21,7 @@ pub listed-low : (table : TableName) (log : List Event) → Legal table.shape ta
     → member x (list_after table log) ≡ true → x < table.shape.items
 listed-low table log legal x m = (stands table.shape table.opening log legal).listed.within x m
 
--- what is settled stays so
+-- what is settled stays so as the trail grows
 pub settled-grows : (list : List ℕ) (a : ℕ) (t u : Trail) → IsPrefix t.vertices u.vertices → (w : ℕ) → IsSettled list a t w → IsSettled list a u w
 settled-grows list a t u p w h = record { other = h.other; reached = λ s. member-prefix w t.vertices u.vertices p (h.reached s) }
 

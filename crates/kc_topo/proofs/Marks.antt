@@ -8,7 +8,7 @@ use Rattle.kc_distinct.proofs.Members.{Distinct-cut, member-append_right, member
 use Rattle.kc_order.proofs.Orders.{same_test}
 use Rattle.kc_topo.specs.Searching.{IsMarked, Trail}
 
--- another vertex behind the last
+-- one vertex more behind the last changes of no other whether it is there
 member-other_end : (w v : ℕ) (vs : List ℕ) → w ≢ v → member w (vs ++ v ∷ []) ≡ member w vs
 member-other_end w v vs ne = same_test (member w (vs ++ v ∷ [])) (member w vs)
     (λ m. elim (member-push_cases w v vs m) [ inl k ↦ k | inr e ↦ absurd (ne e) ]) (member-push_left w v vs)
@@ -17,7 +17,7 @@ member-other_end w v vs ne = same_test (member w (vs ++ v ∷ [])) (member w vs)
 member-own_end : (w v : ℕ) (vs : List ℕ) → w ≡ v → member w (vs ++ v ∷ []) ≡ true
 member-own_end w v vs e = subst (λ (z : ℕ). member z (vs ++ v ∷ []) ≡ true) (sym e) (member-append_right v vs (v ∷ []) (member-head v []))
 
--- its mark is set
+-- where a vertex is reached, its mark is set
 pub marked-push : (t : Trail) (marks : List Bool) (v : ℕ) (vs ps : List ℕ) → IsMarked t marks → v < t.size → member v t.vertices ≡ false
     → vs ≡ t.vertices ++ v ∷ [] → length ps ≡ length t.parents + 1 → IsMarked (record { vertices = vs; parents = ps; size = t.size }) (set marks v true)
 marked-push t marks v vs ps h low fresh are one = record {
@@ -36,7 +36,7 @@ marked-push t marks v vs ps h low fresh are one = record {
 last-apart : (v : ℕ) (vs : List ℕ) → Distinct (vs ++ v ∷ []) → member v vs ≡ false
 last-apart v vs d = (Distinct-cut v vs [] d).0
 
--- and where the last goes, its mark is cleared
+-- where the last vertex goes, its mark is cleared
 pub marks-pop : (marks : List Bool) (v : ℕ) (old vs : List ℕ) → old ≡ vs ++ v ∷ [] → Distinct old → v < length marks
     → ((w : ℕ) → get_or marks w false ≡ member w old) → (w : ℕ) → get_or (set marks v false) w false ≡ member w vs
 marks-pop marks v old vs is d low are w = elim (cases_eq w v) [

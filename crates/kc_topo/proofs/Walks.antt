@@ -77,7 +77,7 @@ leads-later arcs list top v a (w ∷ ws) h =
 pub reaches-later : (arcs : List (ℕ × ℕ)) (list : List ℕ) → IsTopological arcs list → (b v : ℕ) → Reaches arcs b v → (b ≡ v) ⊎ StandsBefore b v list
 reaches-later arcs list top b v r = let s = steps-of arcs b v r in leads-later arcs list top b v s.0 s.1
 
--- so none leads back to a vertex that stands before
+-- no walk leads back to a vertex that stands before its first one
 pub none-back : (arcs : List (ℕ × ℕ)) (list : List ℕ) → IsTopological arcs list → (a b : ℕ) → StandsBefore a b list → Reaches arcs b a → ⊥
 none-back arcs list top a b s r = elim (reaches-later arcs list top b a r) [
   | inl e ↦ never-itself a list (subst (λ (z : ℕ). StandsBefore a z list) e s)
