@@ -19,7 +19,7 @@ use Rattle.kc_table.specs.Legal.{Legal, Opens, Holds, MayStore, IsVersioned, ver
 use Rattle.kc_table.specs.Samples.{pair_shape, pair_opening, lone_shape, lone_words}
 use Rattle.kc_table.proofs.LegalLogs.{legal-nil, legal-push, state_of-nil, state_of-push}
 
--- each word of the table of two items opens with version 0
+-- each item's and each group's word of the table of two items opens with version 0
 pair_versions : (word : ℕ) → IsVersioned pair_shape word → version_of (get_or pair_opening word 0) ≡ 0
 unfolding item_of
 pair_versions zero h = absurd (omega (arith, h.0))
@@ -131,7 +131,7 @@ lone_ordered version = record { pairs = tt; inside = inside; outside = outside }
     outside zero l m = absurd (true≢false m)
     outside (suc x) l m = absurd (omega (arith, l))
 
--- each word of the table of one item opens with version 0
+-- each item's and each group's word of the table of one item opens with version 0
 lone_versions : (word : ℕ) → IsVersioned lone_shape word → version_of (get_or (lone_words 0) word 0) ≡ 0
 unfolding item_of
 lone_versions zero h = absurd (omega (arith, h.0))
