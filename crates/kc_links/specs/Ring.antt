@@ -2,22 +2,26 @@
 use Rattle.std.specs.Prelude.{◌≡◌, ℕ, zero, suc, ◌+◌, ◌<◌, ◌^◌, List, [], ◌∷◌, ◌++◌, length, slice_index, true}
 use Rattle.kc_distinct.specs.Lists.{member, Distinct}
 
+-- the list that a ring holds, and its size, which is the number that closes the ring
 pub record Chain : Type 0 where
   pub size : ℕ
   pub list : List ℕ
 
+-- the first `n` numbers on the way from `at` along `next`
 abbrev pub walk : ℕ → ℕ → List ℕ → List ℕ
 walk zero at next = []
 walk (suc n) at next = at ∷ walk n (slice_index next at) next
 
--- y stands right before z
+-- z stands right after y in the ring: `next` leads from y to z, and `prev` back
 abbrev pub Link : List ℕ → List ℕ → ℕ → ℕ → Type 0
 Link next prev y z = (slice_index next y ≡ z) × (slice_index prev z ≡ y)
 
+-- x, and each of the list, is related to the one after it
 abbrev pub Path : (ℕ → ℕ → Type 0) → ℕ → List ℕ → Type 0
 Path R x [] = Unit {0}
 Path R x (y ∷ ys) = R x y × Path R y ys
 
+-- the list has numbers below `size`, none twice; `next` and `prev` lead from `size` through it and back
 pub record IsRing (next prev : List ℕ) (size : ℕ) (list : List ℕ) : Type 0 where
   pub next_length : length next ≡ size + 1
   pub prev_length : length prev ≡ size + 1
