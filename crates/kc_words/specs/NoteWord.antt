@@ -11,6 +11,7 @@ IsFitting (Enter add index u v) = (index < 2 ^ INDEX_BITS) × (u < 2 ^ VERTEX_BI
 IsFitting (Put x p) = (x < 2 ^ ITEM_BITS) × (p < 2 ^ ITEM_BITS)
 IsFitting (Take x) = x < 2 ^ ITEM_BITS
 
+-- the word of a note: its kind in the two highest bits, and below them what the note names
 unfoldable pub note_word : NoteWord → ℕ
 note_word Nothing = 0
 note_word (Enter add index u v) = 2 ^ KIND_SHIFT + (if add then 2 ^ ADD_SHIFT else 0) + index * 2 ^ INDEX_SHIFT + u * 2 ^ VERTEX_BITS + v
@@ -21,6 +22,7 @@ note_word (Take x) = 3 * 2 ^ KIND_SHIFT + x
 abbrev pub kind_of : ℕ → ℕ
 kind_of n = n / 2 ^ KIND_SHIFT
 
+-- the note that a word stands for, by its kind
 unfoldable pub note_of : ℕ → NoteWord
 note_of n =
     if kind_of n == 0 then Nothing
