@@ -13,9 +13,11 @@ pub record CallsSoFar : Type 0 where
 abbrev pub is_next_named : CallsSoFar → Bool
 is_next_named calls = list_any (λ call. nat_eq call (one_more calls.made)) calls.fails
 
+-- with one call more that was made
 abbrev pub one_called : CallsSoFar → CallsSoFar
 one_called calls = record calls { made = one_more calls.made }
 
+-- with one call more that has failed
 abbrev pub one_failed : CallsSoFar → CallsSoFar
 one_failed calls = record calls { failed = one_more calls.failed }
 
