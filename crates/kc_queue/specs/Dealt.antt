@@ -7,6 +7,7 @@ use Rattle.kc_queue.specs.declared.consumer.TheConstants.{PARTS}
 use Rattle.kc_queue.specs.declared.dealing.Hand.{Hand}
 use Rattle.kc_queue.specs.Shares.{IsShare, IsWhole}
 
+-- a consumer with so many parts, which knows how many numbers were put and has taken these
 abbrev pub hand : ℕ → ℕ → List ℕ → Hand
 hand parts filled taken = record { parts = parts; filled = filled; taken = taken }
 
@@ -48,6 +49,7 @@ pub record IsDealt (next left : ℕ) (items : List ℕ) (views : List Hand) : Ty
   pub agree : (port : ℕ) (v : Hand) → get_elem? views port ≡ some v → Agrees (next + left) v
   pub idle : (port : ℕ) (v : Hand) → get_elem? views port ≡ some v → IsIdle v
 
+-- the queue holds numbers that come next, in order, and its consumers have taken all below them, each once
 abbrev pub Dealt : List ℕ → List Hand → Type 0
 Dealt items views = (next : ℕ) × (left : ℕ) × IsDealt next left items views
 
