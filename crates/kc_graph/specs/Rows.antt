@@ -24,6 +24,7 @@ abbrev pub pairs_from : ℕ → List (List ℕ) → List (ℕ × ℕ)
 pairs_from first [] = []
 pairs_from first (r ∷ rows) = map (λ w. (first, w)) (filter (nat_lt first) r) ++ pairs_from (first + 1) rows
 
+-- the graph with a vertex for each row, and an edge to each greater vertex that the row names
 unfoldable pub graph_of : List (List ℕ) → SimpleGraph
 graph_of rows = record { size = length rows; edges = from_list (pairs_from 0 rows) }
 
@@ -41,6 +42,7 @@ pub record HoldsEdges (rows : List (List ℕ)) (edges : ℕ) : Type 0 where
   pub counted : edges ≡ set.len (graph_of rows).edges
   pub twice : edges + edges ≡ sum_by length rows
 
+-- the code by which the logic stores a graph: its size and its set of edges
 abbrev pub code_of_graph : Coded SimpleGraph
 code_of_graph =
     code_by (ℕ × FinSet pair_cmp) (coded× coded_ℕ (set.code (coded× coded_ℕ coded_ℕ))) (λ g. (g.size, g.edges))
