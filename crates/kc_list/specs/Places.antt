@@ -6,6 +6,7 @@ use Rattle.kc_words.specs.Order.{InOrder, Labels, labels}
 use Rattle.kc_words.specs.declared.layout.TheConstants.{BOTTOM_ROOM, TOP_ROOM}
 use Rattle.kc_list.specs.declared.limits.TheConstants.{HALF_ITEMS}
 
+-- the first of the list has the property, if there is a first
 abbrev pub IfFirst : (ℕ → Type 0) → List ℕ → Type 0
 IfFirst P [] = Unit {0}
 IfFirst P (y ∷ ys) = P y
@@ -51,6 +52,7 @@ pub record GroupStored (a b : Labels) (n g t : ℕ) : Type 0 where
 abbrev pub end_at : ℕ → Labels → ℕ → ℕ → ℕ
 end_at n a p q = if q == n then BOTTOM_ROOM else if a.group q == a.group p then a.bottom q else BOTTOM_ROOM
 
+-- where the room after p ends, by the words and by what follows p in the list
 abbrev pub gap_end : ℕ → List ℕ → List ℕ → ℕ → ℕ
 gap_end n ws list p = end_at n (labels n ws) p (next_of n p list)
 
@@ -75,7 +77,7 @@ abbrev pub evens : ℕ → ℕ → ℕ → List ℕ
 evens zero step i = []
 evens (suc n) step i = (i + 1) * step ∷ evens n step (i + 1)
 
--- a group number that no item has, and a top label between those of g and of what follows
+-- h is the number of a group that no item of the list is in
 pub record Free (n : ℕ) (a : Labels) (list : List ℕ) (h : ℕ) : Type 0 where
   pub low : 0 < h
   pub high : h ≤ n + 1

@@ -5,11 +5,13 @@ use Rattle.kc_words.specs.ItemWord.{item_of}
 use Rattle.kc_list.specs.declared.sheet.Write.{Write}
 use Rattle.kc_words.specs.Order.{Ordered}
 
+-- the words, the writes that were made of them, and how many writes there is room for
 pub record Paper : Type 0 where
   pub words : List ℕ
   pub writes : List Write
   pub room : ℕ
 
+-- the version in word w
 abbrev pub version : List ℕ → ℕ → ℕ
 version ws w = (item_of (slice_index ws w)).version
 

@@ -10,25 +10,29 @@ use Rattle.kc_distinct.specs.Lists.{member, Distinct}
 use Rattle.kc_words.specs.Order.{Labels, labels, Follows, InOrder}
 use Rattle.kc_list.specs.Places.{Before, Placed, Sound}
 
--- one pair is less by the label in the group, or by that of the group, and never by both
+-- that one pair is less, by the label in the group or by that of the group and never by both, has one proof at most
 Before-prop : (a : Labels) (x y : ℕ) → IsProp (Before a x y)
 Before-prop a x y (inl p) (inl q) = ap inl (×_prop (ℕ_set (a.group x) (a.group y)) le_prop p q)
 Before-prop a x y (inl p) (inr t) = absurd (below_irrefl (a.top (a.group y)) (subst (λ (z : ℕ). a.top z < a.top (a.group y)) p.0 t))
 Before-prop a x y (inr t) (inl p) = absurd (below_irrefl (a.top (a.group y)) (subst (λ (z : ℕ). a.top z < a.top (a.group y)) p.0 t))
 Before-prop a x y (inr t) (inr u) = ap inr (le_prop t u)
 
+-- that x and then the list are in order has one proof at most
 Follows-prop : (a : Labels) (x : ℕ) (list : List ℕ) → IsProp (Follows (Before a) x list)
 Follows-prop a x [] = Unit-prop
 Follows-prop a x (y ∷ list) = ×_prop (Before-prop a x y) (Follows-prop a y list)
 
+-- that a list is in order has one proof at most
 InOrder-prop : (a : Labels) (list : List ℕ) → IsProp (InOrder (Before a) list)
 InOrder-prop a [] = Unit-prop
 InOrder-prop a (x ∷ list) = Follows-prop a x list
 
+-- that no number comes twice in a list has one proof at most
 Distinct-prop : (list : List ℕ) → IsProp (Distinct list)
 Distinct-prop [] = Unit-prop
 Distinct-prop (x ∷ list) = ×_prop (Bool-set (member x list) false) (Distinct-prop list)
 
+-- that an item has a group and labels within their bounds has one proof at most
 Placed-prop : (n : ℕ) (a : Labels) (x : ℕ) → IsProp (Placed n a x)
 Placed-prop n a x p q = λ i. record {
   below = le_prop p.below q.below i;
@@ -40,6 +44,7 @@ Placed-prop n a x p q = λ i. record {
   top_high = le_prop p.top_high q.top_high i;
 }
 
+-- that the words keep the list has one proof at most
 pub Sound-prop : (n : ℕ) (ws list : List ℕ) → IsProp (Sound n ws list)
 Sound-prop n ws list p q = λ i. record {
   size = ℕ_set (length ws) (n + n + 2) p.size q.size i;

@@ -12,10 +12,11 @@ use Rattle.kc_list.specs.declared.limits.TheConstants.{GROUP_ITEMS}
 
 -- labels
 
--- the group of item x, and its label in the group
+-- the group of item x
 abbrev pub group_at : Chain → Paper → ℕ → ℕ
 group_at c p x = (labels c.size p.words).group x
 
+-- the label of item x in its group
 abbrev pub bottom_at : Chain → Paper → ℕ → ℕ
 bottom_at c p x = (labels c.size p.words).bottom x
 
@@ -23,6 +24,7 @@ bottom_at c p x = (labels c.size p.words).bottom x
 abbrev pub top_at : Chain → Paper → ℕ → ℕ
 top_at c p g = (labels c.size p.words).top g
 
+-- the version in word w
 abbrev pub version_at : Paper → ℕ → ℕ
 version_at p w = version p.words w
 
@@ -30,17 +32,21 @@ version_at p w = version p.words w
 abbrev pub evenly : ℕ → ℕ → List ℕ
 evenly count room = evens count (room / (count + 1)) 0
 
+-- the pair of item x, its group's label and its own, is less than that of item y
 abbrev pub IsPairBelow : Chain → Paper → ℕ → ℕ → Type 0
 IsPairBelow c p x y = PairBelow (labels c.size p.words) x y
 
 -- groups
 
+-- how many items of the list are in group g
 abbrev pub group_size : Chain → Paper → ℕ → ℕ
 group_size c p g = size_of (labels c.size p.words).group g c.list
 
+-- the groups that have items of the list, in its order
 abbrev pub groups_in_use : Chain → Paper → List ℕ
 groups_in_use c p = runs (labels c.size p.words).group c.list
 
+-- no item of the list is in group h
 abbrev pub IsFree : Chain → Paper → ℕ → Type 0
 IsFree c p h = Free c.size (labels c.size p.words) c.list h
 
@@ -58,9 +64,11 @@ pub record IsFull (c : Chain) (s : Paper) (p : ℕ) : Type 0 where
 abbrev pub AreMembers : Chain → Paper → ℕ → List ℕ → Type 0
 AreMembers c p g m = Segment (labels c.size p.words) c.list g m
 
+-- x is the first item of group g
 abbrev pub IsFirst : Chain → Paper → ℕ → ℕ → Type 0
 IsFirst c p g x = First (labels c.size p.words) c.list g x
 
+-- the members of group g are `low` and `ups`, of which those from the i-th on have moved to group h and have the labels `ls`
 abbrev pub IsSplitting : Chain → Paper → ℕ → ℕ → List ℕ → List ℕ → List ℕ → ℕ → Type 0
 IsSplitting c p g h low ups ls i = Splitting c.size (labels c.size p.words) c.list g h low ups ls i
 
@@ -72,6 +80,7 @@ HaveMoved c p g h low ups i = IsSplitting c p g h low ups (evenly (length ups) B
 abbrev pub IsNoWordOf : Chain → Paper → ℕ → ℕ → Type 0
 IsNoWordOf c p g w = NotOf (labels c.size p.words) c.list g w
 
+-- these are the sizes of the groups, and none is above GROUP_ITEMS
 abbrev pub AreSizes : Chain → Paper → List ℕ → Type 0
 AreSizes c p sizes = Tallied c.size p.words c.list sizes
 
@@ -85,6 +94,7 @@ TakesItem c s x p = tally.TakesItem c.size s.words c.list x p
 abbrev pub end_after : Chain → Paper → ℕ → ℕ
 end_after c s p = gap_end c.size s.words c.list p
 
+-- there is a label for an item right after p
 abbrev pub HasLabelAfter : Chain → Paper → ℕ → Type 0
 HasLabelAfter c s p = HasGap c.size s.words c.list p
 
@@ -117,6 +127,7 @@ pub record HasRoomAbove (c : Chain) (p : Paper) (g : ℕ) : Type 0 where
   pub gap : HasLabelsAbove c p g
   pub high : top_at c p g + 2 ≤ TOP_ROOM
 
+-- between the labels of any two groups in use there is a label for one more
 abbrev pub TopsAreApart : Chain → Paper → Type 0
 TopsAreApart c p = (g : ℕ) → member g (groups_in_use c p) ≡ true → (h : ℕ) → member h (groups_in_use c p) ≡ true → top_at c p g < top_at c p h
     → top_at c p g + 2 ≤ top_at c p h
@@ -131,9 +142,11 @@ KeepsOrder c p q = Steps c.size c.list p q
 abbrev pub KeepsGroup : Chain → Paper → Paper → ℕ → Type 0
 KeepsGroup c s t p = tally.KeepsGroup c.size s.words t.words c.list p
 
+-- no word's version is more than one above what it was
 abbrev pub RisesByOne : Paper → Paper → Type 0
 RisesByOne p q = (w : ℕ) → version q.words w ≤ version p.words w + 1
 
+-- the words of these items can be written: none has the last version
 abbrev pub ItemsMayRise : Paper → List ℕ → Type 0
 ItemsMayRise p list = (y : ℕ) → member y list ≡ true → version p.words (1 + y) < LAST_VERSION
 
