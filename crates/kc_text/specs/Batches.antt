@@ -7,6 +7,7 @@ use Rattle.kc_text.specs.Meaning.{name_same}
 abbrev pub pair_of : Change → ℕ × ℕ
 pair_of c = (min c.a c.b, max c.a c.b)
 
+-- whether two pairs are the same
 abbrev pub is_pair : ℕ × ℕ → ℕ × ℕ → Bool
 is_pair p q = nat_eq p.0 q.0 && nat_eq p.1 q.1
 

@@ -5,6 +5,7 @@ use Rattle.std.specs.List.{list_any}
 use Rattle.kc_graph.specs.declared.update.Update.{Update}
 use Rattle.kc_text.specs.declared.limits.TheConstants.{MOST_IDS, MOST_UPDATES}
 
+-- whether two updates name the same edge
 abbrev pub same_edge : Update → Update → Bool
 same_edge x y = nat_eq x.u y.u && nat_eq x.v y.v
 

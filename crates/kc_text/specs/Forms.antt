@@ -8,6 +8,7 @@ use Rattle.kc_text.specs.declared.line.Line.{Line}
 use Rattle.kc_text.specs.declared.line.Line.TheVariants.{Nothing, Edge, Batch, Change, Wrong}
 use Rattle.kc_text.specs.Lines.{fields, lines, is_not_empty}
 
+-- a byte from `0` to `9`
 abbrev pub is_digit : ℕ → Bool
 is_digit b = nat_le 48 b && nat_le b 57
 
@@ -42,14 +43,17 @@ abbrev pub is_comment : List ℕ → Bool
 is_comment [] = false
 is_comment (b ∷ bytes) = b == 35 || b == 37
 
+-- what a line says that begins with `batch`, by the fields after it: there may be none
 abbrev pub batch_form : List (List ℕ) → Line
 batch_form [] = Batch
 batch_form (extra ∷ rest) = Wrong ExtraField
 
+-- a change that adds or removes the edge of the two numbers, or what is wrong with them
 abbrev pub change_form : Bool → Result (ℕ × ℕ) Kind → Line
 change_form add (Ok pair) = Change (record { add = add; a = pair.0; b = pair.1 })
 change_form add (Err kind) = Wrong kind
 
+-- an edge between the two numbers, or what is wrong with them
 abbrev pub edge_form : Result (ℕ × ℕ) Kind → Line
 edge_form (Ok pair) = Edge pair.0 pair.1
 edge_form (Err kind) = Wrong kind

@@ -62,6 +62,7 @@ pub record IsInput (told : Told) (input : Input) : Type 0 where
   pub batches : map (λ batch. map parts_of batch.items) input.batches.items
       ≡ map (λ batch. map (numbered_change input.ids.items) (deciding batch)) (batches told)
 
+-- the two ends of an update
 abbrev pub edge_of : Update → ℕ × ℕ
 edge_of update = (update.u, update.v)
 

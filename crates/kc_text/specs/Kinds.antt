@@ -5,6 +5,7 @@ use Rattle.kc_text.specs.declared.kind.Kind.{Kind}
 use Rattle.kc_text.specs.declared.kind.Kind.TheVariants.{NotANumber, MissingField, ExtraField, NumberTooLarge, LoopInBatch, UpdateOutsideBatch}
 use Rattle.kc_text.specs.declared.kind.Kind.TheVariants.{EdgeLineInBatch, TooManyVertices, TooManyEdgeLines, TooManyUpdates, TooManyBatches, TooLong}
 
+-- the number of a kind of refusal
 abbrev pub number_of : Kind → ℕ
 number_of NotANumber = 1
 number_of MissingField = 2
@@ -19,6 +20,7 @@ number_of TooManyUpdates = 11
 number_of TooManyBatches = 12
 number_of TooLong = 13
 
+-- the name of a kind of refusal
 abbrev pub name_of : Kind → List ℕ
 name_of NotANumber = codes "NotANumber"
 name_of MissingField = codes "MissingField"

@@ -3,6 +3,7 @@ use Rattle.std.specs.Prelude.{◌==◌, ◌||◌, ℕ, Bool, List, [], ◌∷◌
 use Rattle.std.specs.List.{filter, slice_split}
 use Rattle.std.specs.Str.Lines.{strip_carriage_return}
 
+-- the byte that ends a line
 abbrev pub is_newline : ℕ → Bool
 is_newline b = b == 10
 
@@ -10,6 +11,7 @@ is_newline b = b == 10
 abbrev pub is_blank : ℕ → Bool
 is_blank b = b == 32 || b == 9
 
+-- whether there is a byte
 abbrev pub is_not_empty : List ℕ → Bool
 is_not_empty xs = nat_lt 0 (length xs)
 

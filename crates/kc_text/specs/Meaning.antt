@@ -19,9 +19,11 @@ pub record Told : Type 0 where
   pub earlier : List (List change.Change)
   pub last : Option (List change.Change)
 
+-- what no line has told: no edge and no batch
 abbrev pub nothing_told : Told
 nothing_told = record { edges = []; earlier = []; last = None }
 
+-- all batches that were told, the last one among them
 abbrev pub batches : Told → List (List change.Change)
 batches told = told.earlier ++ option_to_list told.last
 
@@ -34,6 +36,7 @@ abbrev pub ends : List (ℕ × ℕ) → List ℕ
 ends [] = []
 ends (e ∷ edges) = e.0 ∷ e.1 ∷ ends edges
 
+-- the two ids that a change names
 abbrev pub ends_of : change.Change → ℕ × ℕ
 ends_of c = (c.a, c.b)
 

@@ -41,6 +41,7 @@ pub data StrictMeaning : Type 0 where
   Ends : ℕ → Cause → StrictMeaning
   Tells : Told → StrictMeaning
 
+-- the reading ends at this line if there is a cause, and else means what the rest does
 abbrev pub ends_at : Option Cause → ℕ → StrictMeaning → StrictMeaning
 ends_at (Some cause) line rest = Ends line cause
 ends_at None line rest = rest

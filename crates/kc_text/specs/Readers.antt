@@ -8,6 +8,7 @@ use Rattle.kc_text.specs.declared.refusal.Refusal.{Refusal}
 use Rattle.kc_text.specs.Meaning.{Meaning, Means, Refuses, Told, changes, names}
 use Rattle.kc_text.specs.declared.limits.TheConstants.{MOST_IDS}
 
+-- what a reader keeps as told: the edges, the batches before the last one, and the last one
 abbrev pub told_by : Reader → Told
 told_by reader = record {
   edges = reader.edges.items;
