@@ -25,6 +25,7 @@ state_after_edges (suc more) state = state_after_edges more (next_state (next_st
 abbrev pub adds : ℕ → Bool
 adds state = nat_eq (drawn 2 state) 0
 
+-- an add or a remove of the edge between these two ids
 abbrev pub change_of : Bool → ℕ × ℕ → Change
 change_of add pair = record { add = add; a = pair.0; b = pair.1 }
 

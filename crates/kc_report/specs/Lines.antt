@@ -27,6 +27,7 @@ batch_line number added removed kept overruled edges top =
     field (codes "batch ") number ++ field (codes " added ") added ++ field (codes " removed ") removed ++ field (codes " kept ") kept
     ++ overruled_field overruled ++ field (codes " edges ") edges ++ field (codes " top ") top ++ 10 ∷ []
 
+-- the bytes of a line: about the graph, about the rounds, or about a batch
 abbrev pub line_text : Line → List ℕ
 line_text (Graph vertices edges top) = graph_line vertices edges top
 line_text (Rounds rounds) = rounds_line rounds
