@@ -67,6 +67,7 @@ pub record MovesFit (s : Ranked) (moves : Moves) : Type 0 where
   -- and that either don't move or moved before
   pub in_turn : AreInTurn (shifts_of moves)
 
+-- whether the moves say that the update leaves the graph as it is
 abbrev pub is_kept : Moves → Bool
 is_kept Kept = true
 is_kept Plain = false

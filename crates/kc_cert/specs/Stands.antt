@@ -22,6 +22,7 @@ next_level Plain = 0
 next_level (Rise level rise shifts) = level + 1
 next_level (Fall level fall) = level - 1
 
+-- the shifts of a rise: pairs of a vertex and the one right after which it is put
 abbrev pub shifts_of : Moves → List (ℕ × ℕ)
 shifts_of Kept = []
 shifts_of Plain = []
