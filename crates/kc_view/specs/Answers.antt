@@ -15,6 +15,7 @@ pub record Answers : Type 0 where
   pub places : List UsedPlace
   pub orders : List UsedOrder
 
+-- no list, no core number and no order
 abbrev pub nothing_answered : Answers
 nothing_answered = record { edges = []; places = []; orders = [] }
 
@@ -36,6 +37,7 @@ core_in w (p ∷ places) = if nat_eq w p.vertex then Some p.core else core_in w 
 abbrev pub has_list : Answers → ℕ → Bool
 has_list a w = is_some (list_in w a.edges)
 
+-- the list of `w`, as it was told first, or an empty one
 abbrev pub list_of : Answers → ℕ → List ℕ
 list_of a w = unwrap_or (list_in w a.edges) []
 
@@ -43,6 +45,7 @@ list_of a w = unwrap_or (list_in w a.edges) []
 abbrev pub has_core : Answers → ℕ → Bool
 has_core a w = is_some (core_in w a.places)
 
+-- the core number of `w`, as it was told first, or 0
 abbrev pub core_of : Answers → ℕ → ℕ
 core_of a w = unwrap_or (core_in w a.places) 0
 
@@ -50,9 +53,11 @@ core_of a w = unwrap_or (core_in w a.places) 0
 abbrev pub with_list : Answers → UsedEdges → Answers
 with_list a e = record a { edges = a.edges ++ e ∷ [] }
 
+-- with one more answer about a core number
 abbrev pub with_place : Answers → UsedPlace → Answers
 with_place a p = record a { places = a.places ++ p ∷ [] }
 
+-- with one more answer about the order of two vertices
 abbrev pub with_order : Answers → UsedOrder → Answers
 with_order a o = record a { orders = a.orders ++ o ∷ [] }
 

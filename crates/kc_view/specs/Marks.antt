@@ -12,6 +12,7 @@ use Rattle.kc_view.specs.Memory.{Memory}
 abbrev pub no_list : UsedEdges
 no_list = record { vertex = 0; at = 0; neighbours = [] }
 
+-- the core number of no vertex
 abbrev pub no_place : UsedPlace
 no_place = record { vertex = 0; stamp = 0; core = 0 }
 
@@ -20,6 +21,7 @@ abbrev pub list_at : List UsedEdges → ℕ → Option (List ℕ)
 list_at edges zero = None
 list_at edges (suc i) = Some (slice_index_or edges i no_list).neighbours
 
+-- the core number at a place counted from 1; none at 0
 abbrev pub core_at : List UsedPlace → ℕ → Option ℕ
 core_at places zero = None
 core_at places (suc i) = Some (slice_index_or places i no_place).core
@@ -49,5 +51,6 @@ pub record Marks (m : Memory) (listed placed : List ℕ) : Type 0 where
 abbrev pub without_lists : List UsedEdges → List ℕ → ℕ → ℕ
 without_lists edges marks w = if is_some (list_in w edges) then 0 else slice_index marks w
 
+-- the mark of `w`, and 0 where its core number was kept
 abbrev pub without_places : List UsedPlace → List ℕ → ℕ → ℕ
 without_places places marks w = if is_some (core_in w places) then 0 else slice_index marks w

@@ -9,8 +9,10 @@ pub record Memory : Type 0 where
   pub size : ℕ
   pub kept : Answers
 
+-- these answers about so many vertices
 abbrev pub keeping : ℕ → Answers → Memory
 keeping size kept = record { size = size; kept = kept }
 
+-- the code by which the logic stores what a memo keeps
 abbrev pub code_of_memory : Coded Memory
 code_of_memory = code_by (ℕ × Answers) (coded× coded_ℕ code_of_answers) (λ m. (m.size, m.kept)) (λ p. keeping p.0 p.1) (λ _. refl)

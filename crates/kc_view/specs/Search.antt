@@ -25,6 +25,7 @@ among s z test = count_by (λ y. s.adj z y && test y) (below s.size)
 abbrev pub on_level : Search → ℕ → Bool
 on_level s y = nat_eq (s.core y) s.level
 
+-- whether `y` has a greater core number than the level's
 abbrev pub above : Search → ℕ → Bool
 above s y = nat_lt s.level (s.core y)
 

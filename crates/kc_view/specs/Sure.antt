@@ -65,6 +65,7 @@ is_listed a y = list_any (λ e. member y e.neighbours) a.edges
 abbrev pub AsksCores : Update → Answers → Type 0
 AsksCores update a = All (λ p. (p.vertex ≡ update.u) ⊎ (p.vertex ≡ update.v) ⊎ (is_listed a p.vertex ≡ true)) a.places
 
+-- a plan has asked core numbers only of the ends and of neighbours of vertices whose lists it asked
 abbrev pub AsksCoresNearby : Plan → Type 0
 AsksCoresNearby plan = AsksCores plan.update (answers_in plan.used)
 
