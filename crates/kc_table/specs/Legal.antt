@@ -23,6 +23,7 @@ stamp_in shape s v = (vertex_of (slice_index s.words (first_vertex shape + v))).
 abbrev pub version_of : ℕ → ℕ
 version_of value = (item_of value).version
 
+-- the word is an item's or a group's: these have versions
 abbrev pub IsVersioned : Shape → ℕ → Type 0
 IsVersioned shape word = (1 ≤ word) × (word < first_vertex shape)
 
@@ -85,6 +86,7 @@ pub record Opens (shape : Shape) (opening : List ℕ) : Type 0 where
   pub vertices : (v : ℕ) → v < shape.fixed → member v (opened shape opening).list ≡ true
   pub holds : Holds shape (opened shape opening)
 
+-- from this state on, each store of the log is one that may follow, and the state after it holds
 abbrev pub LegalFrom : Shape → State → List Event → Type 0
 LegalFrom shape s [] = Unit {0}
 LegalFrom shape s (e ∷ es) = MayStore shape s e × Holds shape (after_store shape s e) × LegalFrom shape (after_store shape s e) es

@@ -11,6 +11,7 @@ use Rattle.kc_table.specs.declared.view.View.{View}
 use Rattle.kc_table.specs.Log.{words_after, value_at, event, no_shape}
 use Rattle.kc_table.specs.Legal.{Legal}
 
+-- each of these is a beginning of the log
 abbrev pub EachBegins : List (List Event) → List Event → Type 0
 EachBegins [] log = Unit {0}
 EachBegins (p ∷ ps) log = IsPrefix p log × EachBegins ps log
@@ -27,6 +28,7 @@ pub record Fits (shape : Shape) (opening : List ℕ) (log : List Event) (writer 
   pub knows : v.spent ≡ false → Knows shape opening log v
   pub wrote : v.writes ≡ true → (seat ≡ writer) × (v.seen ≡ log)
 
+-- what stays true of a table: its words are those after a legal log, and what each seat knows fits that log
 pub record Keeps {S : Type 0} (k : Opening) (s : State S View) : Type 0 where
   pub log : List Event
   pub writer : ℕ
@@ -34,6 +36,7 @@ pub record Keeps {S : Type 0} (k : Opening) (s : State S View) : Type 0 where
   pub legal : Legal k.shape k.words.items log
   pub each : (seat : ℕ) (v : View) → get_elem? s.views seat ≡ some v → Fits k.shape k.words.items log writer seat v
 
+-- the view that a table begins with: it may write, and has seen nothing
 abbrev pub first_view : Opening → View
 first_view k = record {
   spent = false;
@@ -85,6 +88,7 @@ told v w = record {
   splits = v.splits + w.splits;
 }
 
+-- the view of a seat that is spent: it knows nothing
 abbrev pub nobody : View
 nobody = record {
   spent = true;

@@ -32,9 +32,11 @@ shape = record {
 abbrev pub item : ℕ → ℕ → ℕ → ℕ
 item version group bottom = item_word record { version = version; group = group; bottom = bottom }
 
+-- a group's word: its version and its top label
 abbrev pub group : ℕ → ℕ → ℕ
 group version top = group_word record { version = version; top = top }
 
+-- a vertex's word: its stamp and its core number
 abbrev pub vertex : ℕ → ℕ → ℕ
 vertex stamp core = vertex_word record { stamp = stamp; core = core }
 
@@ -72,10 +74,11 @@ sealed_unmoved = note (Enter true 7 0 1) ∷ event 8 (vertex 2 0) ∷ []
 abbrev pub two_entries : List Event
 two_entries = sealed_section ++ note (Enter false 8 0 1) ∷ []
 
--- two vertices, and no edge or one between them
+-- two vertices, and no edge
 abbrev pub no_edges : SimpleGraph
 no_edges = record { size = 2; edges = set.empty }
 
+-- two vertices, and the edge between them
 abbrev pub one_edge : SimpleGraph
 one_edge = record { size = 2; edges = set.from_list ((0, 1) ∷ []) }
 
@@ -120,6 +123,7 @@ pair_shape = record {
   version_in = leb-true 0 LAST_VERSION refl;
 }
 
+-- its opening words: item 0 is in group 1, and item 1 is in none
 abbrev pub pair_opening : List ℕ
 pair_opening = 0 ∷ 786432 ∷ 0 ∷ 549755813888 ∷ 0 ∷ 0 ∷ []
 

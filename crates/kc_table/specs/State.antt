@@ -9,6 +9,7 @@ use Rattle.kc_words.specs.declared.shape.Shape.{Shape}
 use Rattle.kc_table.specs.declared.entry.Entry.{Entry}
 use Rattle.kc_table.specs.declared.view.Event.{Event}
 
+-- the words, the list, what is announced, the entries of this table, and the vertices that wait to be sealed
 pub record State : Type 0 where
   pub words : List ℕ
   pub list : List ℕ
@@ -68,6 +69,7 @@ put_in shape (Take x) word unsealed = unsealed
 abbrev pub first_vertex : Shape → ℕ
 first_vertex shape = 2 * shape.items + 2
 
+-- how many words a table has: a note, one for each item and each group, and one for each vertex
 abbrev pub word_count : Shape → ℕ
 word_count shape = first_vertex shape + shape.fixed
 
