@@ -40,10 +40,11 @@ pub record EndsWith (old new : Seen) (note : NoteWord) (x : ℕ) : Type 0 where
   pub log : new.log ≡ old.log ++ (relabels ++ event 0 (note_word note) ∷ event (1 + x) value ∷ [])
   pub legal : Legal new.table.shape new.table.opening new.log
 
--- the entries after the log, and the vertices that its last section has put and not sealed
+-- the entries after the log
 abbrev pub entries_after : Seen → List Entry
 entries_after seen = (state_of seen.table.shape seen.table.opening seen.log).entries
 
+-- the vertices that the log's last section has put and not sealed
 abbrev pub unsealed_after : Seen → List ℕ
 unsealed_after seen = (state_of seen.table.shape seen.table.opening seen.log).unsealed
 
@@ -91,24 +92,27 @@ PutsEach old (put ∷ puts) new = (next : Seen) × Puts old next put.0 put.1 × 
 abbrev pub stores_of : List Write → List Event
 stores_of writes = map (λ (w : Write). event w.word w.value) writes
 
--- the last of a list, alone, and those before it
+-- all writes but the last
 abbrev pub front_of : List Write → List Write
 front_of writes = take (length writes - 1) writes
 
+-- the last of the writes, alone
 abbrev pub end_of : List Write → List Write
 end_of writes = drop (length writes - 1) writes
 
--- the log with all writes but the last, then with the note, and then with the last write
+-- the log with all writes but the last
 abbrev pub log_of_front : List Event → List Write → List Event
 log_of_front log writes = log ++ stores_of (front_of writes)
 
+-- the log with all writes but the last, and then with the note
 abbrev pub log_of_note : List Event → List Write → ℕ → List Event
 log_of_note log writes value = log_of_front log writes ++ event 0 value ∷ []
 
+-- the log with all writes but the last, then with the note, and then with the last write
 abbrev pub log_of_all : List Event → List Write → ℕ → List Event
 log_of_all log writes value = log_of_note log writes value ++ stores_of (end_of writes)
 
--- each of them is legal
+-- the log stays legal with all writes but the last, with the note after them, and with the last write
 pub record AreLegal (seen : Seen) (writes : List Write) (value : ℕ) : Type 0 where
   pub front : Legal seen.table.shape seen.table.opening (log_of_front seen.log writes)
   pub note : Legal seen.table.shape seen.table.opening (log_of_note seen.log writes value)
