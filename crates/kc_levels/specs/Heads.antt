@@ -5,10 +5,11 @@ use Rattle.kc_graph.specs.Plans.{shifted}
 use Rattle.kc_graph.specs.declared.plan.Moves.{Moves}
 use Rattle.kc_graph.specs.declared.plan.Moves.TheVariants.{Kept, Plain, Rise, Fall}
 
--- whether a vertex's level is at most this one, or below it
+-- whether a vertex's level is at most this one
 abbrev pub up_to : List ℕ → ℕ → ℕ → Bool
 up_to core level y = nat_le (slice_index core y) level
 
+-- whether a vertex's level is below this one
 abbrev pub under : List ℕ → ℕ → ℕ → Bool
 under core level y = nat_lt (slice_index core y) level
 

@@ -15,6 +15,7 @@ use Rattle.kc_order.specs.Standing.{list_after}
 use Rattle.kc_order.specs.Writers.{Puts, Stores}
 use Rattle.kc_levels.specs.Heads.{vertices_of, with_heads}
 
+-- levels, as contracts see them
 pub record Levelled : Type 0 where
   pub table : TableName
   pub log : List Event
@@ -29,9 +30,11 @@ pub record Levelled : Type 0 where
 abbrev pub seen : Levelled → Seen
 seen l = record { table = l.table; log = l.log }
 
+-- how many vertices there are
 abbrev pub size_of : Levelled → ℕ
 size_of l = l.table.shape.fixed
 
+-- what the log has made of the table
 abbrev pub state_in : Levelled → State
 state_in l = state_of l.table.shape l.table.opening l.log
 
@@ -39,10 +42,11 @@ state_in l = state_of l.table.shape l.table.opening l.log
 abbrev pub number_of : Levelled → ℕ
 number_of l = last_entry l.table.shape (state_in l)
 
--- the word of a vertex, and its stamp
+-- the word of a vertex
 abbrev pub word_at : Levelled → ℕ → ℕ
 word_at l v = slice_index (state_in l).words (first_vertex l.table.shape + v)
 
+-- the stamp in the word of a vertex
 abbrev pub stamp_at : Levelled → ℕ → ℕ
 stamp_at l v = stamp_in l.table.shape (state_in l) v
 

@@ -25,6 +25,7 @@ SealsInTurn stamp core old [] new = new ≡ old
 SealsInTurn stamp core old (v ∷ vs) new = (next : Seen) × Stores old next (first_vertex old.table.shape + v)
     (vertex_word (record { stamp = stamp; core = slice_index core v })) × SealsInTurn stamp core next vs new
 
+-- a list from its last to its first
 abbrev pub backwards : List ℕ → List ℕ
 backwards [] = []
 backwards (x ∷ xs) = backwards xs ++ x ∷ []
