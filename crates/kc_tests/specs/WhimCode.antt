@@ -5,11 +5,13 @@ use Rattle.kc_view.specs.Answers.{Answers}
 use Rattle.kc_view.specs.PlainCode.{code_of_answers}
 use Rattle.kc_tests.specs.Whim.{Whims}
 
+-- the code by which the logic stores two loads of a word that differed
 abbrev pub code_of_again : Coded Again
 code_of_again =
     code_by (ℕ × (ℕ × ℕ)) (coded× coded_ℕ (coded× coded_ℕ coded_ℕ)) (λ a. (a.word, (a.first, a.second)))
     (λ p. record { word = p.0; first = p.1.0; second = p.1.1 }) (λ _. refl)
 
+-- the code by which the logic stores what is seen of a view that answers what it likes
 abbrev pub code_of_whims : Coded Whims
 code_of_whims =
     code_by (ℕ × (Answers × (ℕ × (ℕ × Again)))) (coded× coded_ℕ (coded× code_of_answers (coded× coded_ℕ (coded× coded_ℕ code_of_again))))
