@@ -5,9 +5,11 @@ use Rattle.kc_view.specs.Answers.{Answers}
 use Rattle.kc_view.specs.PlainCode.{code_of_answers}
 use Rattle.kc_stripes.specs.Reads.{Loosely}
 
+-- the code by which the logic stores a store to a word
 abbrev pub code_of_event : Coded Event
 code_of_event = code_by (ℕ × ℕ) (coded× coded_ℕ coded_ℕ) (λ e. (e.word, e.value)) (λ p. record { word = p.0; value = p.1 }) (λ _. refl)
 
+-- the code by which the logic stores what is seen of a loose view
 abbrev pub code_of_loosely : Coded Loosely
 code_of_loosely =
     code_by (ℕ × (Answers × (ℕ × (ℕ × List Event))))

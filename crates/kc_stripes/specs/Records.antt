@@ -14,6 +14,7 @@ pub record Opened : Type 0 where
   pub edges : SimpleGraph
   pub stamps : List ℕ
 
+-- a table that was opened with these edges and these stamps of its vertices
 abbrev pub opened_with : TableName → SimpleGraph → List ℕ → Opened
 opened_with table edges stamps = record { table = table; edges = edges; stamps = stamps }
 
