@@ -23,10 +23,11 @@ use Rattle.kc_batch.specs.declared.left.Left.TheVariants as left
 use Rattle.kc_batch.specs.declared.standing.Standing.{Standing}
 use Rattle.kc_batch.specs.declared.standing.Standing.TheVariants as standing
 
--- all that the workers have entered, and its receipts
+-- all that the workers have entered
 abbrev pub done_in : List Share → List Done
 done_in shares = flat_map (λ s. s.done.items) shares
 
+-- the receipts of all that the workers have entered
 abbrev pub receipts_in : List Share → List Receipt
 receipts_in shares = map (λ d. d.receipt) (done_in shares)
 

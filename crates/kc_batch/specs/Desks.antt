@@ -14,6 +14,7 @@ pub record Work : Type 0 where
   pub done : List Done
   pub left : Left
 
+-- the log that a worker has seen, with its table, and the worker's part of this call
 pub record Desked : Type 0 where
   pub seen : Seen
   pub work : Work
@@ -44,10 +45,11 @@ at_places first places = map (λ place. first + place) places
 abbrev pub times_had : ℕ → ℕ → Work → ℕ
 times_had first y w = times y (told_indices (receipts_of w)) + times y (in_hand first w.left)
 
--- what all of them have entered, and its receipts
+-- what all of them have entered
 abbrev pub all_done : List Work → List Done
 all_done works = flat_map (λ w. w.done) works
 
+-- the receipts of what all of them have entered
 abbrev pub all_receipts : List Work → List Receipt
 all_receipts works = flat_map receipts_of works
 

@@ -33,6 +33,7 @@ pub record IsReceiptOf (started : SimpleGraph) (entries : List Entry) (first : �
 abbrev pub IsOneOf : ℕ → List Update → Entry → Type 0
 IsOneOf first batch e = (update : Update) × IsUpdateAt first batch e.index update × (e ≡ entry_of e.index update)
 
+-- the indices of entries
 abbrev pub indices : List Entry → List ℕ
 indices made = map (λ e. e.index) made
 
@@ -41,6 +42,7 @@ pub record AreSomeOf (first : ℕ) (batch : List Update) (made : List Entry) : T
   pub each : All (IsOneOf first batch) made
   pub once : Distinct (indices made)
 
+-- the indices that receipts tell of
 abbrev pub told_indices : List Receipt → List ℕ
 told_indices receipts = map (λ r. r.index) receipts
 
