@@ -5,6 +5,7 @@ use Rattle.std.specs.List.{list_any}
 use Rattle.kc_snapshot.specs.declared.member.Member.{Member}
 use Rattle.kc_snapshot.specs.declared.listing.Place.{Place}
 
+-- a member of the history: a list of core numbers
 abbrev pub member : List ℕ → Member
 member core = record { core = core }
 

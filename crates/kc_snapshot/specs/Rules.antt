@@ -11,14 +11,17 @@ use Rattle.kc_snapshot.specs.declared.member.Member.{Member}
 abbrev pub behind_head : ℕ → ℕ → List Cell
 behind_head members pens = replicate (members + 1) (0, true) ++ replicate pens (0, false)
 
+-- all cells, first the head, where there are so many members and pens
 abbrev pub cells_of : ℕ → ℕ → List Cell
 cells_of members pens = (3 * members + pens, true) ∷ behind_head members pens
 
+-- the cells are those for as many members as the history has, and for at most two pens
 pub record IsKept (cells : List Cell) (log : List Member) : Type 0 where
   pub pens : ℕ
   pub few : pens ≤ 2
   pub words : cells ≡ cells_of (length log) pens
 
+-- the name of no book
 abbrev pub no_book : Book
 no_book = record { number = 0; log_name = 0; cells_name = 0 }
 
