@@ -87,6 +87,7 @@ last_of first (second ∷ more) = last_of second more
 abbrev pub numbered_batch : List ℕ → List Change → Batch
 numbered_batch ids changes = record { updates = map (numbered_change ids) (deciding changes); overruled = overruled changes }
 
+-- what the batches of a text are between the numbers that stand for the ids
 abbrev pub numbered_batches : List ℕ → Told → List Batch
 numbered_batches ids told = map (numbered_batch ids) (batches told)
 
