@@ -10,9 +10,11 @@ use Rattle.kc_text.specs.Meaning.{Refuses, meaning}
 use Rattle.kc_top.specs.declared.Status.{Status}
 use Rattle.kc_top.specs.declared.Status.TheVariants.{Done, Usage, Refused, ReadFault, WriteFault, NoMemory}
 
+-- `refused line L kind K`, with the number of the line, and the number and the name of the kind
 abbrev pub refused_line : ℕ → Kind → List ℕ
 refused_line line kind = codes "refused line " ++ (decimal line ++ (codes " kind " ++ (text_of kind ++ 10 ∷ [])))
 
+-- what the program says of the words that it takes
 abbrev pub usage_line : List ℕ
 usage_line = codes "usage: kcore [--workers W] [--show cores|summary|each] [--level K] [--gen NUMBER] [--start buckets|hindex]\n"
 

@@ -18,6 +18,7 @@ abbrev pub generated_or_bytes : Option ℕ → List ℕ → List ℕ
 generated_or_bytes None bytes = bytes
 generated_or_bytes (Some number) bytes = generated number
 
+-- the bytes of the input as the words ask for it, where those of the source are known
 abbrev pub input_bytes : Option Setting → List ℕ → List ℕ
 input_bytes None bytes = bytes
 input_bytes (Some setting) bytes = generated_or_bytes setting.generator bytes

@@ -9,6 +9,7 @@ use Rattle.kc_top.specs.declared.Status.TheVariants as status
 use Rattle.kc_top.specs.declared.ending.Stop.{Stop}
 use Rattle.kc_top.specs.declared.ending.Stop.TheVariants as stop
 
+-- the status of a run that stops here
 abbrev pub status_of : Stop → Status
 status_of stop.Usage = status.Usage
 status_of (stop.Refused line) = status.Refused
@@ -16,6 +17,7 @@ status_of stop.ReadFault = status.ReadFault
 status_of stop.WriteFault = status.WriteFault
 status_of stop.NoMemory = status.NoMemory
 
+-- the line that tells where a run stops
 abbrev pub stop_line : Stop → List ℕ
 stop_line stop.Usage = usage_line
 stop_line (stop.Refused line) = string_bytes line
@@ -53,6 +55,7 @@ abbrev pub ended : Result (Unit {0}) Stop → Status
 ended (Ok u) = status.Done
 ended (Err s) = status_of s
 
+-- the last line of a run that stopped here or not: none where it did not
 abbrev pub last_line : Result (Unit {0}) Stop → List ℕ
 last_line (Ok u) = []
 last_line (Err s) = stop_line s
