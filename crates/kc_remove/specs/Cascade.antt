@@ -39,5 +39,6 @@ pub record Cascade (s : Search) (fall : List ℕ) (turn : ℕ) (part visited : �
   -- each neighbour of the level of one whose turn is done was visited
   pub done : (x y : ℕ) → member x (take turn fall) ≡ true → OnLevel s y → s.adj x y ≡ true → visited y ≡ true
 
+-- a test that no vertex passes
 abbrev pub nobody : ℕ → Bool
 nobody y = false

@@ -13,15 +13,19 @@ use Rattle.kc_remove.specs.Removed.{search_without, is_end}
 use Rattle.kc_remove.specs.Visits.{visit_of, support_in, seen_in, fallen_in}
 use Rattle.kc_remove.specs.declared.falling.Falling.{Falling}
 
+-- whether `y` was visited
 abbrev pub is_visited : Falling → ℕ → Bool
 is_visited f y = is_some (visit_of f.visits y)
 
+-- how many neighbours as high `y` has left, or 0 where it was not visited
 abbrev pub support_at : Falling → ℕ → ℕ
 support_at f y = support_in (visit_of f.visits y)
 
+-- how many had fallen when `y` was visited, or 0 where it was not
 abbrev pub seen_at : Falling → ℕ → ℕ
 seen_at f y = seen_in (visit_of f.visits y)
 
+-- whether `y` is on the list of those that fall
 abbrev pub has_fallen : Falling → ℕ → Bool
 has_fallen f y = fallen_in (visit_of f.visits y)
 

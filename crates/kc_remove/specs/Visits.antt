@@ -9,18 +9,21 @@ use Rattle.kc_remove.specs.declared.falling.Visit.{Visit}
 abbrev pub Visits : Type 0
 Visits = HashMap ℕ Visit (BuildHasherDefault VertexHasher)
 
+-- the visit of `y`, if it was visited
 abbrev pub visit_of : Visits → ℕ → Option Visit
 visit_of visits y = get nat_eq visits y
 
--- what a visit says
+-- the support that a visit tells, or 0
 abbrev pub support_in : Option Visit → ℕ
 support_in None = 0
 support_in (Some visit) = visit.support
 
+-- how many had fallen at a visit, or 0
 abbrev pub seen_in : Option Visit → ℕ
 seen_in None = 0
 seen_in (Some visit) = visit.seen
 
+-- whether a visit tells that its vertex has fallen
 abbrev pub fallen_in : Option Visit → Bool
 fallen_in None = false
 fallen_in (Some visit) = visit.fallen
