@@ -10,21 +10,27 @@ use Rattle.kc_view.specs.Views.{Shown}
 use Rattle.kc_insert.specs.Marks.{mark_of, earlier_in, later_in, turn_in, candidate_in, weak_in}
 use Rattle.kc_insert.specs.declared.rising.Rising.{Rising}
 
+-- whether `y` was ever queued
 abbrev pub is_queued : Rising → ℕ → Bool
 is_queued r y = is_some (mark_of r.marks y)
 
+-- how many neighbours of `y` are candidates that stand before it, as its mark says
 abbrev pub earlier_at : Rising → ℕ → ℕ
 earlier_at r y = earlier_in (mark_of r.marks y)
 
+-- how many neighbours of `y` are higher, or stand behind it and may still rise, as its mark says
 abbrev pub later_at : Rising → ℕ → ℕ
 later_at r y = later_in (mark_of r.marks y)
 
+-- the place of `y` in the queue, as its mark says
 abbrev pub turn_at : Rising → ℕ → ℕ
 turn_at r y = turn_in (mark_of r.marks y)
 
+-- whether `y` may rise, as its mark says
 abbrev pub is_candidate : Rising → ℕ → Bool
 is_candidate r y = candidate_in (mark_of r.marks y)
 
+-- whether `y` was found too weak to rise
 abbrev pub is_weak : Rising → ℕ → Bool
 is_weak r y = weak_in (mark_of r.marks y)
 
@@ -36,6 +42,7 @@ cands r = filter (is_candidate r) r.queue.items
 abbrev pub left : Rising → List ℕ
 left r = take r.turn r.queue.items
 
+-- those that wait in the queue
 abbrev pub waiting : Rising → List ℕ
 waiting r = drop r.turn r.queue.items
 

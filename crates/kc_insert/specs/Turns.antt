@@ -79,6 +79,7 @@ abbrev pub loses_later : Loss → Rising → ℕ → Bool
 loses_later Settled r y = is_candidate r y
 loses_later (Evicted turn) r y = is_before r turn y
 
+-- whether `y` loses an earlier neighbour, by what its neighbour comes to
 abbrev pub loses_earlier : Loss → Rising → ℕ → Bool
 loses_earlier Settled r y = false
 loses_earlier (Evicted turn) r y = not (is_before r turn y)
@@ -138,11 +139,13 @@ pub record Evicts (x anchor : ℕ) (old new : Rising) : Type 0 where
 abbrev pub side_in : Search → ℕ → ℕ → Side
 side_in s w x = if above s x then Higher else if on_level s x && after s w x then Next else Before
 
+-- whether the neighbour has a greater core number, or stands behind the vertex on the level
 abbrev pub is_ahead : Side → Bool
 is_ahead Higher = true
 is_ahead Next = true
 is_ahead Before = false
 
+-- whether the neighbour stands behind the vertex on the level
 abbrev pub is_next : Side → Bool
 is_next Higher = false
 is_next Next = true
@@ -176,6 +179,7 @@ pub record BetweenAt (s : Search) (root : ℕ) (r : Rising) (frontier : ℕ) : T
   pub turns : BetweenTurns s root (cands r) (waiting r) frontier (earlier_at r) (later_at r) r.shifts.items
   pub calm : length r.shifts.items ≡ length r.weak.items
 
+-- the search is between two turns, and some frontier parts those that have left the queue from those that wait
 abbrev pub IsBetweenTurns : Search → ℕ → Rising → Type 0
 IsBetweenTurns s root r = (frontier : ℕ) × BetweenAt s root r frontier
 
@@ -184,5 +188,6 @@ pub record SettlingAt (s : Search) (root : ℕ) (r : Rising) (frontier last : �
   pub lined : LinedUp s root r frontier
   pub settling : InSettling s root (cands r) (waiting r) frontier (earlier_at r) (later_at r) r.shifts.items (pending r) last
 
+-- a vertex is being settled before some frontier, and the next one that is evicted goes right after `last`
 abbrev pub IsSettling : Search → ℕ → Rising → ℕ → Type 0
 IsSettling s root r last = (frontier : ℕ) × SettlingAt s root r frontier last
