@@ -8,13 +8,15 @@ use Rattle.kc_graph.specs.SimpleGraph.{SimpleGraph, pair_cmp}
 abbrev pub is_add : Bool × ℕ × ℕ → Bool
 is_add update = update.0
 
+-- the edge that the update adds or removes
 abbrev pub changed_edge : Bool × ℕ × ℕ → ℕ × ℕ
 changed_edge update = (update.1, update.2)
 
--- the edges that the batch adds, and those that it removes
+-- the edges that the batch adds
 abbrev pub edges_added : List (Bool × ℕ × ℕ) → List (ℕ × ℕ)
 edges_added batch = map changed_edge (filter is_add batch)
 
+-- the edges that the batch removes
 abbrev pub edges_removed : List (Bool × ℕ × ℕ) → List (ℕ × ℕ)
 edges_removed batch = map changed_edge (filter (λ update. not (is_add update)) batch)
 
@@ -22,6 +24,7 @@ edges_removed batch = map changed_edge (filter (λ update. not (is_add update)) 
 unfoldable pub edges_after_batch : set.FinSet pair_cmp → List (Bool × ℕ × ℕ) → set.FinSet pair_cmp
 edges_after_batch edges batch = set.difference (set.union edges (set.from_list (edges_added batch))) (set.from_list (edges_removed batch))
 
+-- the graph after a batch, with the same vertices
 abbrev pub graph_after_batch : SimpleGraph → List (Bool × ℕ × ℕ) → SimpleGraph
 graph_after_batch g batch = record { size = g.size; edges = edges_after_batch g.edges batch }
 
@@ -29,13 +32,15 @@ graph_after_batch g batch = record { size = g.size; edges = edges_after_batch g.
 abbrev pub is_effective : set.FinSet pair_cmp → Bool × ℕ × ℕ → Bool
 is_effective edges update = if is_add update then not (set.contains edges (changed_edge update)) else set.contains edges (changed_edge update)
 
--- how many updates add an edge, how many remove one, and how many are kept
+-- how many updates add an edge that was not there
 abbrev pub added : set.FinSet pair_cmp → List (Bool × ℕ × ℕ) → ℕ
 added edges batch = count_by (λ update. is_add update && is_effective edges update) batch
 
+-- how many updates remove an edge that was there
 abbrev pub removed : set.FinSet pair_cmp → List (Bool × ℕ × ℕ) → ℕ
 removed edges batch = count_by (λ update. not (is_add update) && is_effective edges update) batch
 
+-- how many updates change nothing
 abbrev pub kept : set.FinSet pair_cmp → List (Bool × ℕ × ℕ) → ℕ
 kept edges batch = count_by (λ update. not (is_effective edges update)) batch
 

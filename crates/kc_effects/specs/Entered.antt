@@ -24,6 +24,7 @@ change_of e = (e.add, e.u, e.v)
 abbrev pub IsOneOf : ℕ → List Update → Entry → Type 0
 IsOneOf first batch e = (update : Update) × IsUpdateAt first batch e.index update × (change_of e ≡ parts_of update)
 
+-- the indices of entries
 abbrev pub indices : List Entry → List ℕ
 indices made = map (λ e. e.index) made
 

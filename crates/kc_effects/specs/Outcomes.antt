@@ -16,16 +16,19 @@ use Rattle.kc_effects.specs.declared.outcome.Outcome.{Outcome}
 abbrev pub adds_at : ℕ → List Update → ℕ → Bool
 adds_at first batch index = slice_index_or (map (λ update. update.add) batch) (index - first) false
 
--- how many outcomes tell that an edge was added, how many that one was removed, and how many that nothing changed
+-- how many outcomes tell that an edge was added
 abbrev pub told_added : ℕ → List Update → List Outcome → ℕ
 told_added first batch outcomes = count_by (λ o. adds_at first batch o.index && o.applied) outcomes
 
+-- how many outcomes tell that an edge was removed
 abbrev pub told_removed : ℕ → List Update → List Outcome → ℕ
 told_removed first batch outcomes = count_by (λ o. not (adds_at first batch o.index) && o.applied) outcomes
 
+-- how many outcomes tell that nothing changed
 abbrev pub told_kept : List Outcome → ℕ
 told_kept outcomes = count_by (λ o. not o.applied) outcomes
 
+-- the indices that outcomes tell of
 abbrev pub told_indices : List Outcome → List ℕ
 told_indices outcomes = map (λ o. o.index) outcomes
 
