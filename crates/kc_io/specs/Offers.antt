@@ -15,7 +15,7 @@ after_offer offers offered taken = record {
   rest = offered - taken;
 }
 
--- the same, where the sink tells what it was offered
+-- what the sink tells after it was offered a piece and took so much of it, where it tells what it was offered
 abbrev pub IsOffered : Option Offers → Option Offers → ℕ → ℕ → Type 0
 IsOffered None after offered taken = ⊤
 IsOffered (Some offers) after offered taken = after ≡ Some (after_offer offers offered taken)
