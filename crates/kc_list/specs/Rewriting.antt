@@ -25,7 +25,7 @@ pub record Rewrites (most : ℕ) (old new : LabelledList) : Type 0 where
   pub count : length new.sheet.writes ≤ length old.sheet.writes + most
   pub room : new.sheet.room ≡ old.sheet.room
 
--- the same, and no group gets or loses an item
+-- the list stays after each of at most so many writes, no word is written twice, and the groups keep their sizes
 pub record Relabels (most : ℕ) (old new : LabelledList) : Type 0 where
   pub groups : new.groups ≡ old.groups
   pub rewrites : Rewrites most old new

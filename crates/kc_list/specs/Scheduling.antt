@@ -10,7 +10,7 @@ pub record IsSchedule (room : ℕ) (labels : List ℕ) (steps : List (ℕ × ℕ
   pub within : (p : ℕ) → member p (places steps) ≡ true → p < length labels
   pub ascends : (k : ℕ) → k ≤ length steps → Ascends 1 room (written labels (take k steps))
 
--- and in the end they share the room evenly
+-- a schedule after which the labels share the room evenly
 pub record SpreadsEvenly (room : ℕ) (labels : List ℕ) (steps : List (ℕ × ℕ)) : Type 0 where
   pub schedule : IsSchedule room labels steps
   pub done : written labels steps ≡ evenly (length labels) room

@@ -122,7 +122,7 @@ pub record IsTopAbove (c : Chain) (p : Paper) (g t : ℕ) : Type 0 where
 abbrev pub HasLabelsAbove : Chain → Paper → ℕ → Type 0
 HasLabelsAbove c p g = (z : ℕ) → member z c.list ≡ true → top_at c p g < top_at c p (group_at c p z) → top_at c p g + 2 ≤ top_at c p (group_at c p z)
 
--- the same, and one below the end of all labels
+-- a label fits between that of group g and each greater one, and one below the end of all labels
 pub record HasRoomAbove (c : Chain) (p : Paper) (g : ℕ) : Type 0 where
   pub gap : HasLabelsAbove c p g
   pub high : top_at c p g + 2 ≤ TOP_ROOM
