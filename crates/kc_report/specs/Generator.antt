@@ -7,16 +7,16 @@ use Rattle.kc_report.specs.declared.sizes.TheConstants.{BATCHES, EDGE_LINES, IDS
 use Rattle.kc_report.specs.Draws.{drawn, next_state}
 use Rattle.kc_report.specs.Lines.{pair_line}
 
--- two ids
+-- the two ids that this state draws
 abbrev pub drawn_pair : ℕ → ℕ × ℕ
 drawn_pair state = (drawn IDS state, drawn IDS (next_state state))
 
--- so many edges
+-- so many edges, drawn from this state on
 unfoldable pub drawn_edges : ℕ → ℕ → List (ℕ × ℕ)
 drawn_edges zero state = []
 drawn_edges (suc more) state = drawn_pair state ∷ drawn_edges more (next_state (next_state state))
 
--- the state after them
+-- the state after so many drawn edges
 unfoldable pub state_after_edges : ℕ → ℕ → ℕ
 state_after_edges zero state = state
 state_after_edges (suc more) state = state_after_edges more (next_state (next_state state))
@@ -56,7 +56,7 @@ state_after_turns (suc more) state = state_after_turns more (state_after_turn st
 abbrev pub drawn_batch : List (ℕ × ℕ) → ℕ → List Change
 drawn_batch edges state = after_turns edges TURNS state []
 
--- so many batches
+-- so many batches, drawn from this state on
 unfoldable pub drawn_batches : List (ℕ × ℕ) → ℕ → ℕ → List (List Change)
 drawn_batches edges zero state = []
 drawn_batches edges (suc more) state = drawn_batch edges state ∷ drawn_batches edges more (state_after_turns TURNS state)
@@ -65,7 +65,7 @@ drawn_batches edges (suc more) state = drawn_batch edges state ∷ drawn_batches
 abbrev pub generated_edges : ℕ → List (ℕ × ℕ)
 generated_edges number = drawn_edges EDGE_LINES number
 
--- its batches
+-- the batches of the generated text
 abbrev pub generated_batches : ℕ → List (List Change)
 generated_batches number = drawn_batches (generated_edges number) BATCHES (state_after_edges EDGE_LINES number)
 
