@@ -139,6 +139,6 @@ pub record Looked (v : View) (word found : ℕ) (log : List Event) : Type 0 wher
 abbrev pub TellsLoad : {S : Type 0} → Step S → Me S View → ℕ → Me S View → Type 0
 TellsLoad st m found m' = (m'.1 ≡ m.1) × (m'.0 ≡ sees m.0 m'.0.seen) × Looked m.0 st.word found m'.0.seen
 
--- and where it stores
+-- what becomes of a seat and its view where it stores
 abbrev pub TellsStore : {S : Type 0} → Step S → Me S View → ℕ → Me S View → Type 0
 TellsStore st m found m' = m' ≡ (adds m.0 (event st.word found), m.1)

@@ -54,7 +54,7 @@ note n = event 0 (note_word n)
 abbrev pub one_put : List Event
 one_put = note (Put 2 0) ∷ event 3 (item 1 1 15) ∷ []
 
--- and then item 1 is taken
+-- item 2 is put right after item 0, and then item 1 is taken
 abbrev pub put_and_take : List Event
 put_and_take = one_put ++ note (Take 1) ∷ event 2 (item 1 0 0) ∷ []
 
@@ -62,7 +62,7 @@ put_and_take = one_put ++ note (Take 1) ∷ event 2 (item 1 0 0) ∷ []
 abbrev pub open_section : List Event
 open_section = note (Enter true 7 0 1) ∷ note (Put 0 1) ∷ event 1 (item 1 1 30) ∷ []
 
--- its word is stored
+-- the open section, and then the word of vertex 0 is stored
 abbrev pub sealed_section : List Event
 sealed_section = open_section ++ event 8 (vertex 2 1) ∷ []
 
@@ -70,7 +70,7 @@ sealed_section = open_section ++ event 8 (vertex 2 1) ∷ []
 abbrev pub sealed_unmoved : List Event
 sealed_unmoved = note (Enter true 7 0 1) ∷ event 8 (vertex 2 0) ∷ []
 
--- the edge is taken out again, and nothing moves
+-- the sealed section, and then the edge is taken out again, and nothing moves
 abbrev pub two_entries : List Event
 two_entries = sealed_section ++ note (Enter false 8 0 1) ∷ []
 
@@ -123,7 +123,7 @@ pair_shape = record {
   version_in = leb-true 0 LAST_VERSION refl;
 }
 
--- its opening words: item 0 is in group 1, and item 1 is in none
+-- the opening words of the table of two items: item 0 is in group 1, and item 1 is in none
 abbrev pub pair_opening : List ℕ
 pair_opening = 0 ∷ 786432 ∷ 0 ∷ 549755813888 ∷ 0 ∷ 0 ∷ []
 
@@ -144,6 +144,6 @@ lone_shape = record {
   version_in = leb-true 0 LAST_VERSION refl;
 }
 
--- its words where the word of its group was stored `version` times
+-- the words of the table of one item, where the word of its group was stored `version` times
 abbrev pub lone_words : ℕ → List ℕ
 lone_words version = 0 ∷ 786432 ∷ (version * 1099511627776 + 549755813888) ∷ 0 ∷ []

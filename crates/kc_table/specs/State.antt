@@ -44,7 +44,7 @@ entered (Enter add index u v) entries = entries ++ record { index = index; add =
 entered (Put x p) entries = entries
 entered (Take x) entries = entries
 
--- and begins a section, in which nothing was put yet
+-- an Enter note begins a section, in which nothing was put yet
 abbrev pub unsealed_from : NoteWord → List ℕ → List ℕ
 unsealed_from Nothing unsealed = unsealed
 unsealed_from (Enter add index u v) unsealed = []
