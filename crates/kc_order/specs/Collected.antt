@@ -64,7 +64,7 @@ pub record IsCollect (c : Collected) : Type 0 where
 abbrev pub HeldLast : Collected → Loaded → Type 0
 HeldLast c l = l.value ≡ value_at c.table.opening c.group_y.prefix l.word
 
--- and so were all four
+-- the values of all four loads were their words' after the collect's last prefix
 abbrev pub AllHeld : Collected → Type 0
 AllHeld c = HeldLast c c.item_x × HeldLast c c.item_y × HeldLast c c.group_x × HeldLast c c.group_y
 

@@ -27,7 +27,7 @@ pub record IsHighest (table : TableName) (log : List Event) (highest : ℕ) : Ty
 abbrev pub HasRoom : TableName → List Event → ℕ → Type 0
 HasRoom table log room = (word : ℕ) → IsVersioned table.shape word → version_of (value_at table.opening log word) + room ≤ LAST_VERSION
 
--- each can be stored three times more
+-- each word of an item or a group can be stored three times more
 abbrev pub HasVersionsLeft : TableName → List Event → Type 0
 HasVersionsLeft table log = HasRoom table log 3
 
