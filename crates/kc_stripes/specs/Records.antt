@@ -50,7 +50,7 @@ pub record IsStripe (s : Striped) : Type 0 where
 abbrev pub belongs : Striped → ℕ → Bool
 belongs s w = nat_eq (w % STRIPES) s.number && nat_lt w s.opened.edges.size
 
--- its record
+-- the record of a vertex of the stripe
 abbrev pub record_of : Striped → ℕ → UsedEdges
 record_of s w = slice_index_or s.records (w / STRIPES) no_record
 
