@@ -57,7 +57,7 @@ abbrev pub entered_in : Attempt → ℕ
 entered_in (attempt.Entered receipt) = 1
 entered_in (attempt.Missed miss) = 0
 
--- and how many were made where there may be a receipt
+-- how many entries were made where there may be a receipt
 abbrev pub entered_of : Option Receipt → ℕ
 entered_of None = 0
 entered_of (Some receipt) = 1
