@@ -34,7 +34,7 @@ pub record Seated : Type 0 where
   pub consumer : Consuming
   pub number : ℕ
 
--- its desk
+-- what the worker has seen, and its work
 abbrev pub desk_of : Seated → Desked
 desk_of s = record { seen = s.seen; work = s.work }
 
