@@ -8,7 +8,7 @@ abbrev pub generated_or : Option ℕ → Option (List ℕ) → Option (List ℕ)
 generated_or None told = told
 generated_or (Some number) told = Some (generated number)
 
--- the same, as the words ask for it
+-- the bytes of the input, where they are known, as the words ask for it
 abbrev pub given : Option Setting → Option (List ℕ) → Option (List ℕ)
 given None told = told
 given (Some setting) told = generated_or setting.generator told

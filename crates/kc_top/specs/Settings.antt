@@ -87,6 +87,6 @@ setting_in rows = together (read workers (first_of (codes "workers") rows)) (rea
 unfoldable pub setting : List (List ℕ) → Option Setting
 setting words = if is_empty (fault_of command words) then setting_in (matches_of command words) else None
 
--- the same, of words behind references
+-- what the words ask for, where they are behind references
 abbrev pub asked : List (Bor (List ℕ)) → Option Setting
 asked words = setting (texts words)
