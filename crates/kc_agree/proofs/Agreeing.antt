@@ -32,7 +32,7 @@ use Rattle.kc_agree.specs.States.{IsStateOf, IsAtRest, AreCurrent, vertices_in}
 use Rattle.kc_agree.proofs.Growing.{reads_stay}
 use Rattle.kc_agree.proofs.Unmoved.{stays_put, stays_since}
 use Rattle.kc_agree.proofs.Neighbouring.{current_list}
-use Rattle.kc_agree.proofs.Standing.{first_of_two, filter-order, same_standing}
+use Rattle.kc_agree.proofs.Bystanders.{first_of_two, filter-order, same_standing}
 
 -- a place that was kept of a vertex
 pub found_place : (P : UsedPlace → Type 0) (w : ℕ) (ps : List UsedPlace) → All P ps → is_some (core_in w ps) ≡ true → (p : UsedPlace) × (p.vertex ≡ w) × P p

@@ -22,7 +22,7 @@ use Rattle.kc_agree.specs.Stamps.{made_by}
 use Rattle.kc_agree.specs.States.{IsStateOf, IsAtRest, AreCurrent, AreOwn, OwnList, OwnPlace, OwnOrder}
 use Rattle.kc_agree.proofs.Agreeing.{found_place}
 use Rattle.kc_agree.proofs.Neighbouring.{current_neighbours, no_later}
-use Rattle.kc_agree.proofs.Standing.{first_of_two, filter-order}
+use Rattle.kc_agree.proofs.Bystanders.{first_of_two, filter-order}
 
 -- two items of a list stand at two places
 apart : (x y : ℕ) (l : List ℕ) → x ≢ y → member x l ≡ true → place_of x l ≢ place_of y l

@@ -16,7 +16,7 @@ use Rattle.kc_graph.specs.declared.update.Update.{Update}
 use Rattle.kc_table.specs.declared.view.Event.{Event}
 use Rattle.kc_table.specs.Log.{PassSeen, Seen, TableName}
 use Rattle.kc_journal.specs.Journals.{Journalled, Renews, Stands, all_seen, fresh_pass}
-use Rattle.kc_journal.proofs.Standing.{number-is, size-is}
+use Rattle.kc_journal.proofs.AfterEntry.{number-is, size-is}
 use Rattle.kc_levels.specs.declared.levels.TheConstants.{LAST_NUMBER}
 use Rattle.kc_journal.specs.declared.answer.Receipt.{Receipt}
 use Rattle.kc_queue.specs.Dealt.{times}

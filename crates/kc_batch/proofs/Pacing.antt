@@ -7,7 +7,7 @@ use Rattle.kc_table.specs.Legal.{version_of}
 use Rattle.kc_table.specs.Log.{PassSeen, TableName, value_at}
 use Rattle.kc_table.proofs.LegalLogs.{legal-opens}
 use Rattle.kc_journal.specs.Journals.{Journalled, Stands}
-use Rattle.kc_journal.proofs.Standing.{number-is}
+use Rattle.kc_journal.proofs.AfterEntry.{number-is}
 use Rattle.kc_batch.specs.Batches.{KeepsPace}
 use Rattle.kc_batch.specs.Runs.{IsNearlySpent, IsRenewal, StaysIn}
 

@@ -16,7 +16,7 @@ use Rattle.kc_agree.specs.Stamps.{changes_graph, made_by, number_of}
 use Rattle.kc_journal.specs.Entering.{entry_of}
 use Rattle.kc_journal.specs.Journals.{Journalled, Stands, entries_here}
 use Rattle.kc_journal.specs.declared.answer.Receipt.{Receipt}
-use Rattle.kc_journal.proofs.Standing.{number-is}
+use Rattle.kc_journal.proofs.AfterEntry.{number-is}
 use Rattle.kc_stripes.specs.Records.{Opened}
 use Rattle.kc_shared.specs.Answers.{IsReceipt}
 use Rattle.kc_batch.specs.Receipts.{IsReceiptOf, IsUpdateAt}

@@ -16,7 +16,7 @@ use Rattle.kc_agree.proofs.Neighbouring.{size-after_all}
 use Rattle.kc_levels.specs.Heads.{with_heads}
 use Rattle.kc_levels.specs.Levels.{size_of}
 use Rattle.kc_journal.specs.Journals.{Journalled, Renews, Stands, all_seen, entries_here, fresh_pass, ranked}
-use Rattle.kc_journal.proofs.Standing.{at-rest, size-is, state-of}
+use Rattle.kc_journal.proofs.AfterEntry.{at-rest, size-is, state-of}
 use Rattle.kc_batch.specs.Runs.{IsRenewal, StaysIn, WentOn}
 use Rattle.kc_course.specs.Tables.{AreTables, IsFollowed, IsTable, TakesOver, entries_of, entries_seen}
 use Rattle.kc_course.proofs.Lists.{same-beginning}

@@ -6,5 +6,5 @@ pub mod Rows
 pub mod Settling
 pub mod Taking
 pub mod TakingOver
-pub mod Tallying
+pub mod BoundedCounts
 pub mod Uncrossed

@@ -9,7 +9,7 @@ use Rattle.kc_graph.proofs.NeighbourLists.{neighbours_are}
 use Rattle.kc_order.specs.Standing.{StandsBefore}
 use Rattle.kc_levels.specs.Levels.{AreLevels, Levelled, size_of}
 use Rattle.kc_journal.specs.Journals.{Journalled, Stands}
-use Rattle.kc_journal.proofs.Standing.{size-is}
+use Rattle.kc_journal.proofs.AfterEntry.{size-is}
 
 -- an answer on two vertices tells whether the first one's place is the lesser
 pub precedes-is : (l : Levelled) (x y : ℕ) (b : Bool) → AreLevels l → x < size_of l → y < size_of l → IsTrue b ↔ StandsBefore x y l.order

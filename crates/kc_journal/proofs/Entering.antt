@@ -27,7 +27,7 @@ use Rattle.kc_journal.specs.Changes.{AreNewLists}
 use Rattle.kc_journal.specs.Entering.{Enters, FitsSection, HasSection, IsCurrent, MayEnter, WasReadOf, entry_of}
 use Rattle.kc_journal.specs.Journals.{Journalled, Stands, ranked}
 use Rattle.kc_journal.specs.declared.change.NewLists.{NewLists}
-use Rattle.kc_journal.proofs.Standing.{Next, levels-of, moved-within, right-here, size-is, stands-next}
+use Rattle.kc_journal.proofs.AfterEntry.{Next, levels-of, moved-within, right-here, size-is, stands-next}
 
 -- Updates that are not applied. -----------------------------------------------------------------------
 

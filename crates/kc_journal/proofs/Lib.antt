@@ -9,6 +9,6 @@ pub mod Opening
 pub mod Preparing
 pub mod Putting
 pub mod Renewing
-pub mod Standing
+pub mod AfterEntry
 pub mod Telling
 pub mod Walking

@@ -23,7 +23,7 @@ use Rattle.kc_journal.specs.Entering.{IsCurrent, MayEnter}
 use Rattle.kc_journal.specs.Holding.{AreOf}
 use Rattle.kc_journal.specs.Journals.{Journalled, Opens, Stands, ranked}
 use Rattle.kc_journal.specs.Sections.{section_puts}
-use Rattle.kc_journal.proofs.Standing.{at-rest, state-is, state-of}
+use Rattle.kc_journal.proofs.AfterEntry.{at-rest, state-is, state-of}
 
 -- the empty log has no note of an entry
 none-before : (prefix : List Event) (note : Event) → IsPrefix (prefix ++ note ∷ []) [] → ⊥

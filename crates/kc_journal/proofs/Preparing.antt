@@ -25,7 +25,7 @@ use Rattle.kc_levels.specs.Levels.{size_of}
 use Rattle.kc_journal.specs.Ahead.{AreAhead, FitWherePresent, IsChangedList}
 use Rattle.kc_journal.specs.Journals.{Journalled, Stands, entries_here}
 use Rattle.kc_journal.specs.declared.ahead.Ahead.{Ahead}
-use Rattle.kc_journal.proofs.Standing.{size-is}
+use Rattle.kc_journal.proofs.AfterEntry.{size-is}
 
 -- One list. --------------------------------------------------------------------------------------------
 

@@ -10,7 +10,7 @@ use Rattle.kc_agree.proofs.Neighbouring.{no_later}
 use Rattle.kc_levels.specs.Levels.{Levelled, size_of, stamp_at}
 use Rattle.kc_journal.specs.Journals.{IsEntry, IsFreshTable, Journalled, MayGoOn, Opens, Renews, Stands, fresh_pass, ranked}
 use Rattle.kc_journal.proofs.Opening.{stands-at-opening}
-use Rattle.kc_journal.proofs.Standing.{number-is}
+use Rattle.kc_journal.proofs.AfterEntry.{number-is}
 
 -- no place stamp is above the number of entries
 pub stamp-low : (j : Journalled) → Stands j → (v : ℕ) → v < size_of j.levels → stamp_at j.levels v ≤ length j.entries

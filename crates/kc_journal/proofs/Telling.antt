@@ -23,7 +23,7 @@ use Rattle.kc_journal.specs.Entering.{IsCurrent, MayEnter, entry_of}
 use Rattle.kc_journal.specs.Journals.{Journalled, Stands, WasLastPut, WasNotPut, entries_here}
 use Rattle.kc_journal.specs.declared.answer.Entered.{Entered}
 use Rattle.kc_journal.specs.declared.answer.Receipt.{Receipt}
-use Rattle.kc_journal.proofs.Standing.{number-is}
+use Rattle.kc_journal.proofs.AfterEntry.{number-is}
 
 -- no stamp is stale where all are current
 pub not-stale : (j : Journalled) (plan : Plan) (stale : Stale) → MayEnter j plan → IsCurrent j plan → IsStale j plan stale → ⊥

@@ -10,7 +10,7 @@ pub mod Rooms
 pub mod Counts
 pub mod Highest
 pub mod Groupings
-pub mod Tallies
+pub mod GroupSizes
 pub mod Changes
 pub mod Toprooms
 pub mod Arranging

@@ -10,5 +10,5 @@ pub mod Relabelling
 pub mod RunMoves
 pub mod Running
 pub mod Sections
-pub mod Stood
+pub mod SteadyLoads
 pub mod Writing

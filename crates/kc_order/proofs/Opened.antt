@@ -18,7 +18,7 @@ use Rattle.kc_order.specs.Writers.{AreOpeningWords, Tied}
 use Rattle.kc_order.proofs.Relabelling.{ordered-agree}
 use Rattle.kc_table.proofs.Listed.{member-placed, placed-member, listed-within}
 use Rattle.kc_words.proofs.Ordering.{Follows-all, InOrder-tail, PairBelow-asym}
-use Rattle.kc_order.proofs.Stood.{pair-trans, one-less}
+use Rattle.kc_order.proofs.SteadyLoads.{pair-trans, one-less}
 
 -- where the test of two pairs is passed, the first is less
 below-true : (a : Labels) (x y : ℕ) → is_below a x y ≡ true → PairBelow a x y

@@ -1,4 +1,4 @@
-// An order of writes that keeps labels rising.
+//! An order of writes that keeps labels rising.
 ghost use Rattle.std.specs.Prelude.{◌≡◌, ◌≢◌, ◌<◌, ◌≤◌, ◌+◌, ◌^◌, ◌↔◌, ℕ, length, take, slice_index, true};
 ghost use Rattle.std.specs.List.Sorted.{IsStrictlyIncreasing};
 ghost use Rattle.kc_distinct.specs.Lists.{member, Distinct};

@@ -1,4 +1,4 @@
-// Labels at even distances.
+//! Labels at even distances.
 ghost use Rattle.std.specs.Prelude.{◌≡◌, ◌<◌, ◌+◌, ◌*◌, ◌/◌};
 
 /// The label of the item at a place, counted from 0, where `count` items share the labels between 0

@@ -1,3 +1,4 @@
+//! Labels and schedules that are worked out by hand.
 use crate::{schedule, spread};
 
 #[test]

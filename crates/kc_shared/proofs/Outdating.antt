@@ -23,7 +23,7 @@ use Rattle.kc_journal.specs.Answers.{IsStale}
 use Rattle.kc_journal.specs.Entering.{MayEnter}
 use Rattle.kc_journal.specs.Journals.{Journalled, Stands}
 use Rattle.kc_journal.specs.Sections.{section_puts}
-use Rattle.kc_journal.proofs.Standing.{at-rest}
+use Rattle.kc_journal.proofs.AfterEntry.{at-rest}
 use Rattle.kc_journal.proofs.Telling.{middle, stale-list, stale-place}
 use Rattle.kc_stripes.specs.Reads.{HadPlace, WereReadSince}
 use Rattle.kc_stripes.specs.Records.{Opened}

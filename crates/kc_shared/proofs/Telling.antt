@@ -31,7 +31,7 @@ use Rattle.kc_journal.specs.declared.answer.EnterFault.TheVariants as enter
 use Rattle.kc_journal.specs.declared.answer.Entered.{Entered}
 use Rattle.kc_journal.specs.declared.answer.Receipt.{Receipt}
 use Rattle.kc_journal.proofs.Preparing.{ahead-stays}
-use Rattle.kc_journal.proofs.Standing.{moved-within, number-is, right-here, size-is}
+use Rattle.kc_journal.proofs.AfterEntry.{moved-within, number-is, right-here, size-is}
 use Rattle.kc_journal.proofs.Telling.{here-next, may-tell, not-stale}
 use Rattle.kc_stripes.specs.Records.{Opened}
 use Rattle.kc_shared.specs.Answers.{HasCause, IsNotStale, IsReceipt, IsToldEntry, MayBeToldIf, WasReadBehind, told_fault}

@@ -1,3 +1,4 @@
+//! Words that are packed and read back, and versions at their end.
 use crate::{
     Again, GroupWord, INDICES, ItemWord, LAST_VERSION, NoteWord, Shape, VERTICES, VertexWord,
     next_version,

@@ -4,7 +4,7 @@ use Rattle.std.specs.Prelude.{count_by}
 use Rattle.kc_distinct.proofs.Counting.{count-le-length}
 use Rattle.kc_hindex.specs.Rounds.{h_index}
 use Rattle.kc_hindex.proofs.HIndex.{in_reach, out_of_reach}
-use Rattle.kc_hindex.proofs.Tallying.{bounded-at, bounded-below, reach-from}
+use Rattle.kc_hindex.proofs.BoundedCounts.{bounded-at, bounded-below, reach-from}
 use Rattle.kc_hindex.proofs.counting.greatest_reached.Goals as goal
 
 pub loop-reached-init : goal.loop-reached-init

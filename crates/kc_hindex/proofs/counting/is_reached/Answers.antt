@@ -3,7 +3,7 @@ use Rattle.std.proofs.Common.{◌≡◌, ◌<◌, ◌∙◌, ℕ, List, ap, arit
 use Rattle.std.specs.Prelude.{All}
 use Rattle.std.proofs.lemmas.List.Elements.{All-drop}
 use Rattle.kc_hindex.specs.Rounds.{how_many_reach}
-use Rattle.kc_hindex.proofs.Tallying.{reach-parts}
+use Rattle.kc_hindex.proofs.BoundedCounts.{reach-parts}
 use Rattle.kc_hindex.proofs.counting.is_reached.Goals as goal
 
 pub loop-reached-preserved : goal.loop-reached-preserved

@@ -2,7 +2,7 @@
 use Rattle.std.proofs.Common.{◌≡◌, ◌<◌, ◌+◌, ◌*◌, ap, ◌∙◌, get_or, replicate, arith}
 use Rattle.std.proofs.lemmas.List.{get_or-replicate}
 use Rattle.kc_words.specs.ItemWord.{item_of}
-use Rattle.kc_list.proofs.Tallies.{whole_back}
+use Rattle.kc_list.proofs.GroupSizes.{whole_back}
 use Rattle.kc_list.proofs.opening.opening_words.Goals as goal
 
 pub fill_words-requires-clause-blank : goal.fill_words-requires-clause-blank

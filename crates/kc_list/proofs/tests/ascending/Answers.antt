@@ -1,6 +1,6 @@
 -- The numbers below a bound are distinct.
 use Rattle.std.proofs.Common.{◌<◌, arith}
-use Rattle.kc_list.proofs.Tallies.{Distinct-from}
+use Rattle.kc_list.proofs.GroupSizes.{Distinct-from}
 use Rattle.kc_list.proofs.Groupings.{index_of}
 use Rattle.kc_list.proofs.tests.ascending.Goals as goal
 

@@ -3,7 +3,7 @@ use Rattle.std.proofs.Common.{◌∙◌, refl, sym, subst}
 use Rattle.std.proofs.lemmas.Bool.{false≢true}
 use Rattle.kc_order.specs.Collected.{IsCollect, AllHeld, words_of}
 use Rattle.kc_order.proofs.Again.{finds_same-steps}
-use Rattle.kc_order.proofs.Stood.{all_held, stood_before, stood_after}
+use Rattle.kc_order.proofs.SteadyLoads.{all_held, stood_before, stood_after}
 use Rattle.kc_order.proofs.collect.second_collect.Goals as goal
 
 pub returns-then-is_before-clause-answer : goal.returns-then-is_before-clause-answer

@@ -3,7 +3,7 @@ use Rattle.std.proofs.Common.{◌≡◌, ◌∙◌, ◌<◌, ℕ, All, arith, le
 use Rattle.kc_graph.specs.declared.update.Update.{Update}
 use Rattle.kc_table.specs.Log.{TableName}
 use Rattle.kc_journal.specs.Journals.{Journalled}
-use Rattle.kc_journal.proofs.Standing.{size-is}
+use Rattle.kc_journal.proofs.AfterEntry.{size-is}
 use Rattle.kc_course.specs.Courses.{Coursed}
 use Rattle.kc_course.proofs.Batching.{counted, entries-more, graph-after, same-start, worked, worked-further}
 use Rattle.kc_course.proofs.course.Course.work.Goals as goal

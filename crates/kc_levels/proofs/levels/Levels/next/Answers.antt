@@ -1,5 +1,5 @@
 -- The first vertex behind a vertex.
-use Rattle.kc_levels.proofs.Standing.{vertex-listed}
+use Rattle.kc_levels.proofs.ListOrder.{vertex-listed}
 use Rattle.kc_levels.proofs.Walking.{next-found}
 use Rattle.kc_levels.proofs.levels.Levels.next.Goals as goal
 

@@ -1,5 +1,5 @@
 -- Two vertices stand in the list as they stand in the order.
-use Rattle.kc_levels.proofs.Standing.{vertex-listed, before-in-order}
+use Rattle.kc_levels.proofs.ListOrder.{vertex-listed, before-in-order}
 use Rattle.kc_levels.proofs.levels.Levels.precedes.Goals as goal
 
 pub precedes-requires-clause-x_in : goal.precedes-requires-clause-x_in

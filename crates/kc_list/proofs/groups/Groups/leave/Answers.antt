@@ -1,6 +1,6 @@
 -- A group whose last item leaves becomes free: there is room in the stack for it.
 use Rattle.std.proofs.Common.{arith}
-use Rattle.kc_list.proofs.Tallies.{leave_facts}
+use Rattle.kc_list.proofs.GroupSizes.{leave_facts}
 use Rattle.kc_list.proofs.groups.Groups.leave.Goals as goal
 
 pub index_mut-requires-then-size-eq1 : goal.index_mut-requires-then-size-eq1

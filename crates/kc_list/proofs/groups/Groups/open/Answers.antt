@@ -1,6 +1,6 @@
 -- At the opening the groups that no item has are on the stack.
 use Rattle.std.proofs.Common.{◌≡◌, ◌+◌, ◌∙◌, length, arith}
-use Rattle.kc_list.proofs.Tallies.{whole_back, opened_tally}
+use Rattle.kc_list.proofs.GroupSizes.{whole_back, opened_tally}
 use Rattle.kc_list.proofs.groups.Groups.open.Goals as goal
 
 pub invariant_of-result : goal.invariant_of-result

@@ -1,6 +1,6 @@
 -- The number on top of the stack was free, and is the new group.
 use Rattle.std.proofs.Common.{arith}
-use Rattle.kc_list.proofs.Tallies.{split_facts}
+use Rattle.kc_list.proofs.GroupSizes.{split_facts}
 use Rattle.kc_list.proofs.groups.Groups.split.Goals as goal
 
 pub index_mut-requires-2 : goal.index_mut-requires-2
