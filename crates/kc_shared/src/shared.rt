@@ -28,7 +28,7 @@ use std::sync::{Mutex, MutexGuard, Wait};
 pub const MISSES: usize = 4;
 
 /// How often a thread looks for a free lock before it sleeps. To be woken takes as long as some ten entries.
-const LOOKS: u32 = 200;
+const LOOKS: u32 = 1_500;
 
 /// How long a thread rests between two looks, so that the holder is not hindered.
 const RESTS: u32 = 12;
