@@ -1,5 +1,5 @@
 //! The neighbours of a vertex once the edge is there.
-ghost use Rattle.std.specs.Prelude.{◌≡◌, ◌≢◌, ◌<◌, ◌||◌, ◌⊎◌, ℕ, List, true, false, length, nat_eq, MatchOption, IfOk, OnOk, IfErr};
+ghost use Rattle.std.specs.Prelude.{◌≡◌, ◌≢◌, ◌<◌, ◌||◌, ◌⊎◌, ℕ, List, true, false, nat_eq, MatchOption, IfOk, OnOk, IfErr};
 ghost use Rattle.std.specs.List.Sorted.{IsStrictlyIncreasing};
 ghost use Rattle.kc_distinct.specs.Lists.{member};
 ghost use Rattle.kc_graph.specs.Rows.{IsPlace};
@@ -27,19 +27,14 @@ fn other_end(update: Update, w: u32) -> Option<u32>
     }
 }
 
-/// The list of `w`, which was read and is of this length.
-fn copy_of<V: View>(alloc: Global, view: &V, w: u32, degree: u32) -> Result<Vec<u32>, NoMemory>
+/// The list of `w`, which was read.
+fn copy_of<V: View>(alloc: Global, view: &V, w: u32) -> Result<Vec<u32>, NoMemory>
     requires read { has_list (V.shown view.now).kept w ≡ true }
-    requires degree { degree ≡ length (list_of (V.shown view.now).kept w) }
     requires lists { KeepsLists (V.shown view.now) }
     ensures same { IfOk result (λ row. row.items ≡ list_of (V.shown view.now).kept w) }
     ensures list { IfOk result (λ row. IsListOf (V.shown view.now).size w row.items) }
 {
-    let mut row = Vec::with_capacity(alloc, degree as usize)?;
-    for i in 0..degree {
-        row.push(view.neighbour(w, i))?;
-    }
-    Ok(row)
+    Ok(Vec::from_slice(alloc, view.list(w))?)
 }
 
 /// Where a vertex stands in an ascending list, or else where it has to go.
@@ -79,8 +74,8 @@ pub(crate) fn row_of<V: View>(
     ensures row { IfOk result (λ row. IsListOf (V.shown view.new).size w row.items) }
     ensures has { IfOk result (λ row. (y : ℕ) → member y row.items ≡ (member y (list_of (V.shown view.new).kept w) || is_added update w y)) }
 {
-    let degree = degree_of(view, w)?;
-    let mut row = copy_of(alloc, view, w, degree)?;
+    degree_of(view, w)?;
+    let mut row = copy_of(alloc, view, w)?;
     if let Some(other) = other_end(update, w) {
         put_in(&mut row, other)?;
     }

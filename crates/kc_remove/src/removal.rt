@@ -28,8 +28,8 @@ fn has_edge<V: View>(view: &mut V, update: Update) -> Result<bool, PlanFault>
     ensures read { OnOk result (has_list (V.shown view.new).kept update.u ≡ true) }
     ensures told { IfOk result (λ there. there ≡ member update.v (list_of (V.shown view.new).kept update.u)) }
 {
-    let degree = degree_of(view, update.u)?;
-    Ok(is_neighbour(view, update.u, degree, update.v))
+    degree_of(view, update.u)?;
+    Ok(is_neighbour(view, update.u, update.v))
 }
 
 /// The lesser core number of the two ends.

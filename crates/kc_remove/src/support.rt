@@ -70,7 +70,7 @@ fn count_support<V: View>(
 {
     let mut support = 0;
     for i in 0..degree {
-        let y = view.neighbour(x, i);
+        let y = view.list(x)[i as usize];
         if counts(view, update, level, x, y, falling)? {
             support += 1;
         }

@@ -81,7 +81,7 @@ fn come_to_each<V: View>(
         → FallsIn update level s falling.new (turn + 1) nobody) }
 {
     for i in 0..degree {
-        let y = view.neighbour(x, i);
+        let y = view.list(x)[i as usize];
         come_to(view, update, level, turn, x, y, falling)?;
     }
     Ok(())

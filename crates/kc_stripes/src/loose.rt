@@ -109,9 +109,9 @@ impl<K: Name, S: Start, R: Wait> View for Loose<'_, K, S, R> {
         Ok(degree)
     }
 
-    fn neighbour(&self, w: u32, i: u32) -> u32 {
+    fn list(&self, w: u32) -> &[u32] {
         match self.memo.list(w) {
-            Some(list) => list.as_slice()[i as usize],
+            Some(list) => list.as_slice(),
             None => unreachable!(),
         }
     }

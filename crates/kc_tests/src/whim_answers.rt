@@ -8,16 +8,12 @@ use std::alloc::Global;
 use std::process::Abort;
 use std::test::Fail;
 
-/// The list of a vertex, asked entry by entry.
+/// The list of a vertex.
 fn list_of(alloc: Global, view: &mut WhimView, w: u32) -> Result<Vec<u32>, Fail>
     requires { w < view.old.size }
 {
-    let degree = view.degree(w)?;
-    let mut list = Vec::new(alloc);
-    for i in 0..degree {
-        list.push(view.neighbour(w, i))?;
-    }
-    Ok(list)
+    view.degree(w)?;
+    Ok(Vec::from_slice(alloc, view.list(w))?)
 }
 
 /// How two vertices stand, once their core numbers were asked.

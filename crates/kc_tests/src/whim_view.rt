@@ -125,9 +125,9 @@ impl View for WhimView {
         Ok(degree)
     }
 
-    fn neighbour(&self, w: u32, i: u32) -> u32 {
+    fn list(&self, w: u32) -> &[u32] {
         match kept_list(&self.edges, w) {
-            Some(list) => list[i as usize],
+            Some(list) => list,
             None => unreachable!(),
         }
     }

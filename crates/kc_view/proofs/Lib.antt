@@ -2,7 +2,6 @@ pub mod Among
 pub mod Asked
 pub mod AtRest
 pub mod Fronts
-pub mod Halving
 pub mod Handing
 pub mod Marked
 pub mod Keeping

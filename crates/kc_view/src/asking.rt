@@ -44,26 +44,11 @@ pub fn stands_before<V: View>(view: &mut V, x: u32, y: u32) -> Result<bool, Plan
     Ok(view.precedes(x, y)?)
 }
 
-/// Whether the list of `x`, which was read and is of this length, has `y`. It is looked for by halving.
-pub fn is_neighbour<V: View>(view: &V, x: u32, degree: u32, y: u32) -> bool
+/// Whether the list of `x`, which was read, has `y`. It is looked for by halving.
+pub fn is_neighbour<V: View>(view: &V, x: u32, y: u32) -> bool
     requires read { has_list (V.shown view.now).kept x ≡ true }
-    requires degree { degree ≡ length (list_of (V.shown view.now).kept x) }
     requires lists { KeepsLists (V.shown view.now) }
     ensures { result ≡ member y (list_of (V.shown view.now).kept x) }
 {
-    let mut low = 0;
-    let mut high = degree;
-    while low < high {
-        let middle = low + (high - low) / 2;
-        let other = view.neighbour(x, middle);
-        if other == y {
-            return true;
-        }
-        if other < y {
-            low = middle + 1;
-        } else {
-            high = middle;
-        }
-    }
-    false
+    view.list(x).binary_search(&y).is_ok()
 }

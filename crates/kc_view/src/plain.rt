@@ -86,8 +86,8 @@ impl View for PlainView<'_> {
         Ok(degree)
     }
 
-    fn neighbour(&self, w: u32, i: u32) -> u32 {
-        self.state.graph().neighbours(w)[i as usize]
+    fn list(&self, w: u32) -> &[u32] {
+        self.state.graph().neighbours(w)
     }
 
     fn core(&mut self, w: u32) -> Result<u32, ViewFault> {

@@ -1,5 +1,5 @@
 //! What a planner asks.
-ghost use Rattle.std.specs.Prelude.{◌≡◌, ◌≢◌, ◌<◌, ℕ, true, length, slice_index, IfOk, OnOk, IfErr, OnErr};
+ghost use Rattle.std.specs.Prelude.{◌≡◌, ◌≢◌, ◌<◌, ℕ, true, length, IfOk, OnOk, IfErr, OnErr};
 ghost use Rattle.kc_view.specs.Answers.{answers_in, has_list, list_of, has_core, core_of, with_order};
 ghost use Rattle.kc_view.specs.Views.{Shown, KeepsLists, GoesOn, HandsOut, TellsList, TellsCore, HasViewCause};
 
@@ -24,11 +24,10 @@ pub trait View {
         ensures same { OnErr result ((shown self.new).kept ≡ (shown self.old).kept) }
         ensures cause { IfErr result (λ fault. HasViewCause (shown self.old) (shown self.new) fault) };
 
-    /// The neighbour of `w` at place `i` of its list, which was read. The list ascends.
-    fn neighbour(&self, w: u32, i: u32) -> u32
+    /// The neighbours of `w`, ascending, whose list was read.
+    fn list(&self, w: u32) -> &[u32]
         requires read { has_list (shown self.now).kept w ≡ true }
-        requires place { i < length (list_of (shown self.now).kept w) }
-        ensures { result ≡ slice_index (list_of (shown self.now).kept w) i };
+        ensures { result.now ≡ list_of (shown self.now).kept w };
 
     /// The core number of `w`, which is read at the first call for `w`, and is kept.
     fn core(&mut self, w: u32) -> Result<u32, ViewFault>

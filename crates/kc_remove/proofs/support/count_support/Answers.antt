@@ -27,9 +27,9 @@ counts-requires-clause-vertex g c =
     let i = c.loop-i.invariant in
     let old = g.V.View.shown c.args.view.now in
     let row = list_of old.kept c.args.x in
-    row-vertex old.size _ c.args.x c.loop-i.i c.neighbour-y.result row
+    row-vertex old.size _ c.args.x c.loop-i.i (get_or c.list.result.now c.loop-i.i 0) row
     (kept-list (g.V.View.shown c.args.view.now).size c.args.x (g.V.View.shown c.args.view.now).kept c.requires.lists c.requires.read)
-    (omega (arith, c.requires.degree, c.loop-i-test.true)) (c.neighbour-y.ensures ∙ ap (λ xs. get_or xs c.loop-i.i 0) i.row)
+    (omega (arith, c.requires.degree, c.loop-i-test.true)) (ap (λ xs. get_or xs c.loop-i.i 0) (c.list.ensures ∙ i.row))
     i.goes_on.lasts.same_size
 
 pub loop-i-preserved : goal.loop-i-preserved
@@ -47,14 +47,14 @@ loop-i-preserved g c =
           let before = i.told s (agreed _ _ s e.further a) in
           let here = c.in_ok-counts.ensures.told s a in
           let l : c.loop-i.i < length row = omega (arith, c.requires.degree, c.loop-i-test.true) in
-          let at : c.neighbour-y.result ≡ get_or row c.loop-i.i 0 = c.neighbour-y.ensures ∙ ap (λ xs. get_or xs c.loop-i.i 0) i.row in
+          let at : get_or c.list.result.now c.loop-i.i 0 ≡ get_or row c.loop-i.i 0 = ap (λ xs. get_or xs c.loop-i.i 0) (c.list.ensures ∙ i.row) in
           let p = is_counted c.args.update c.args.level s c.args.falling.now.list.items c.args.x in
           elim c.if-branch.branch [
             | then-branch w ↦
-                more_yes p row c.loop-i.i c.loop-i.support c.if-branch.support c.neighbour-y.result c.in_ok-counts.field-0 l at here
+                more_yes p row c.loop-i.i c.loop-i.support c.if-branch.support (get_or c.list.result.now c.loop-i.i 0) c.in_ok-counts.field-0 l at here
                 w.if-branch.true before w.support-is
             | else-branch w ↦
-                more_no p row c.loop-i.i c.loop-i.support c.if-branch.support c.neighbour-y.result c.in_ok-counts.field-0 l at here
+                more_no p row c.loop-i.i c.loop-i.support c.if-branch.support (get_or c.list.result.now c.loop-i.i 0) c.in_ok-counts.field-0 l at here
                 w.if-branch.false before w.support-is
           ];
     }

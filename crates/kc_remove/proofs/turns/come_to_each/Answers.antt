@@ -18,9 +18,9 @@ pub come_to-requires-clause-vertex : goal.come_to-requires-clause-vertex
 come_to-requires-clause-vertex g c =
     let i = c.loop-i.invariant in
     let old = g.V.View.shown c.args.view.now in
-    row-vertex old.size _ c.args.x c.loop-i.i c.neighbour-y.result (list_of old.kept c.args.x)
+    row-vertex old.size _ c.args.x c.loop-i.i (get_or c.list.result.now c.loop-i.i 0) (list_of old.kept c.args.x)
     (kept-list (g.V.View.shown c.args.view.now).size c.args.x (g.V.View.shown c.args.view.now).kept c.requires.lists c.requires.read)
-    (omega (arith, c.requires.degree, c.loop-i-test.true)) (c.neighbour-y.ensures ∙ ap (λ xs. get_or xs c.loop-i.i 0) i.row)
+    (omega (arith, c.requires.degree, c.loop-i-test.true)) (ap (λ xs. get_or xs c.loop-i.i 0) (c.list.ensures ∙ i.row))
     i.goes_on.lasts.same_size
 
 pub loop-i-preserved : goal.loop-i-preserved
@@ -30,10 +30,10 @@ loop-i-preserved g c =
     let row = list_of (g.V.View.shown c.args.view.now).kept c.args.x in
     let o = c.in_ok-come_to.ensures in
     let l : c.loop-i.i < length row = omega (arith, c.requires.degree, c.loop-i-test.true) in
-    let at : c.neighbour-y.result ≡ get_or row c.loop-i.i 0 = c.neighbour-y.ensures ∙ ap (λ xs. get_or xs c.loop-i.i 0) i.row in
-    let seam : take (c.loop-i.i + 1) row ≡ take c.loop-i.i row ++ c.neighbour-y.result ∷ [] =
+    let at : get_or c.list.result.now c.loop-i.i 0 ≡ get_or row c.loop-i.i 0 = ap (λ xs. get_or xs c.loop-i.i 0) (c.list.ensures ∙ i.row) in
+    let seam : take (c.loop-i.i + 1) row ≡ take c.loop-i.i row ++ (get_or c.list.result.now c.loop-i.i 0) ∷ [] =
     take-more c.loop-i.i row l ∙ ap (λ n. take c.loop-i.i row ++ n ∷ []) (sym at) in
-    let not_yet : member c.neighbour-y.result (take c.loop-i.i row) ≡ false =
+    let not_yet : member (get_or c.list.result.now c.loop-i.i 0) (take c.loop-i.i row) ≡ false =
     ap (λ n. member n (take c.loop-i.i row)) at
     ∙ take-not_here c.loop-i.i row l
     (Distinct-from_increasing row

@@ -1,40 +1,18 @@
--- The list ascends, so a lesser middle has only lesser ones before it and a greater one only greater behind; then no place is left.
-use Rattle.std.proofs.Common.{sym, arith}
-use Rattle.kc_view.specs.Answers.{list_of}
-use Rattle.kc_view.proofs.Halving.{stands-later, stands-earlier, stands-nowhere}
+-- The list ascends, so halving finds the place of a number that it has, and of no other.
+use Rattle.std.proofs.Common.{sym, ◌∙◌, ap, subst}
+use Rattle.std.proofs.lemmas.List.Sorted.{searched}
+use Rattle.std.specs.List.Sorted.{IsStrictlyIncreasing}
+use Rattle.kc_distinct.specs.Lists.{member}
+use Rattle.kc_distinct.proofs.Shared.{never_falls}
+use Rattle.kc_graph.proofs.RowsLemmas.{place-found}
 use Rattle.kc_view.proofs.Keeping.{kept-list}
 use Rattle.kc_view.proofs.asking.is_neighbour.Goals as goal
 
-pub loop-low-preserved-then-other-y-2 : goal.loop-low-preserved-then-other-y-2
-loop-low-preserved-then-other-y-2 g c =
-    let i = c.loop-low.invariant in
-    let list = list_of (g.V.View.shown c.args.view.now).kept c.args.x in
-    let at = c.neighbour-other.ensures in
-    let ascends = (kept-list (g.V.View.shown c.args.view.now).size c.args.x (g.V.View.shown c.args.view.now).kept c.requires.lists c.requires.read).ascends in
-    let less = c.if-other-y-2.true in
-    record {
-      within = i.within;
-      between =
-          stands-later list c.args.y c.loop-low.low c.loop-low.high _ ascends i.between
-          (omega (arith, c.loop-low-test.true, i.within, c.requires.degree)) (omega (arith, at, less));
-    }
-
-pub loop-low-preserved : goal.loop-low-preserved
-loop-low-preserved g c =
-    let i = c.loop-low.invariant in
-    let list = list_of (g.V.View.shown c.args.view.now).kept c.args.x in
-    let at = c.neighbour-other.ensures in
-    let ascends = (kept-list (g.V.View.shown c.args.view.now).size c.args.x (g.V.View.shown c.args.view.now).kept c.requires.lists c.requires.read).ascends in
-    let ne = c.if-other-y.false in
-    let ge = c.if-other-y-2.false in
-    record {
-      within = omega (arith, c.loop-low-test.true, i.within);
-      between = stands-earlier list c.args.y c.loop-low.low c.loop-low.high _ ascends i.between (omega (arith, at, ne, ge));
-    }
-
 pub returns : goal.returns
 returns g c =
-    let i = c.loop-low.invariant in
-    sym
-    (stands-nowhere (list_of (g.V.View.shown c.args.view.now).kept c.args.x) c.args.y c.loop-low.low c.loop-low.high i.between
-    (omega (arith, c.loop-low-test.false)))
+    let now = g.V.View.shown c.args.view.now in
+    let row = c.list.result.now in
+    let told = (kept-list now.size c.args.x now.kept c.requires.lists c.requires.read).ascends in
+    let ascends = subst IsStrictlyIncreasing (sym c.list.ensures) told in
+    let place = searched row c.args.y c.binary_search.result c.binary_search.ensures.position (never_falls row ascends) in
+    c.is_ok.ensures.value ∙ place-found row c.args.y c.binary_search.result place ∙ ap (member c.args.y) c.list.ensures

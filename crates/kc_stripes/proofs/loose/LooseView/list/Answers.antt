@@ -3,7 +3,7 @@ use Rattle.std.proofs.Common.{◌∙◌, ap}
 use Rattle.kc_view.specs.Answers.{has_list}
 use Rattle.kc_stripes.specs.Reads.{Loosely}
 use Rattle.kc_stripes.proofs.Loosening.{listed_below}
-use Rattle.kc_stripes.proofs.loose.LooseView.neighbour.Goals as goal
+use Rattle.kc_stripes.proofs.loose.LooseView.list.Goals as goal
 
 pub list-requires : goal.list-requires
 list-requires g c =
