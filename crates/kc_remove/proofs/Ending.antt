@@ -1,16 +1,16 @@
 -- What the vertices that fell leave: both counts of the certificate, at each vertex.
-use Rattle.std.proofs.Common.{◌≡◌, ◌≤◌, ◌<◌, ◌-◌, ℕ, suc, zero, Bool, true, false, cond, not, ◌&&◌, List, [], ◌∷◌, take, length, ltb, leb, sym, ◌∙◌}
-use Rattle.std.proofs.Common.{ap, subst, inl, inr, arith, true≢false, eq-eqb, le_trans, lt-ltb}
-use Rattle.std.proofs.lemmas.Bool.{cases_Bool, cases_eq, cases_lt, false≢true, false_from_ne_true}
+use Rattle.std.proofs.Common.{◌≡◌, ◌≤◌, ◌<◌, ◌-◌, ℕ, Bool, true, false, cond, not, ◌&&◌, List, take, length, ltb, leb, sym, ◌∙◌}
+use Rattle.std.proofs.Common.{ap, subst, inl, inr, arith, true≢false, le_trans, lt-ltb}
+use Rattle.std.proofs.lemmas.Bool.{cases_Bool, cases_eq, cases_lt, false_from_ne_true}
 use Rattle.kc_distinct.specs.Lists.{member}
-use Rattle.kc_distinct.proofs.Counting.{member-other}
 use Rattle.kc_cert.specs.Ranks.{rank_in, then_after}
-use Rattle.kc_cert.proofs.Ordered.{rank-here, rank-other}
+use Rattle.kc_cert.proofs.Ordered.{rank-here}
 use Rattle.kc_view.specs.Search.{Search, among, after, OnLevel}
 use Rattle.kc_view.proofs.Among.{among-mono}
 use Rattle.kc_remove.specs.Cascade.{Thinned, support, Cascade, nobody}
 use Rattle.kc_view.proofs.Fronts.{take-member}
 use Rattle.kc_remove.proofs.Falls.{kept_support}
+use Rattle.kc_remove.proofs.Listed.{rank-taken}
 
 -- the core number of a vertex after the fall
 abbrev pub lowered : (ℕ → ℕ) → ℕ → List ℕ → ℕ → ℕ
@@ -20,20 +20,11 @@ lowered core level fall y = cond (member y fall) (level - 1) (core y)
 abbrev pub is_low : Search → ℕ → Bool
 is_low s y = ltb (s.core y) s.level
 
--- who stands among the first `n` has a lesser place
-rank-taken : (n y : ℕ) (xs : List ℕ) → member y (take n xs) ≡ true → rank_in xs y < n
-rank-taken zero y xs m = absurd (false≢true m)
-rank-taken (suc n) y [] m = absurd (false≢true m)
-rank-taken (suc n) y (x ∷ xs) m = elim (cases_eq y x) [
-  | inl e ↦ let z : rank_in (x ∷ xs) y ≡ 0 = ap (λ b. cond b 0 (suc (rank_in xs y))) (eq-eqb y x e) in omega (arith, z)
-  | inr ne ↦ omega (arith, rank-other y x xs ne, rank-taken n y xs (member-other y x (take n xs) ne m))
-]
-
 -- few later neighbours
-pub few_after : (s : Search) (is_end : ℕ → Bool) (fall : List ℕ) (visited : ℕ → Bool) (sup seen : ℕ → ℕ) → Thinned s is_end
-    → Cascade s fall (length fall) nobody visited sup seen nobody
+pub few_after : (s : Search) (is_end : ℕ → Bool) (fall : List ℕ) (visited : ℕ → Bool) (sup : ℕ → ℕ) (looked : ℕ → ℕ → Bool) → Thinned s is_end
+    → Cascade s fall (length fall) nobody visited sup looked nobody
     → (z : ℕ) → z < s.size → among s z (then_after (is_low s) fall (rank_in fall) s.rank z) ≤ lowered s.core s.level fall z
-few_after s is_end fall visited sup seen t c z lz = elim (cases_Bool (member z fall)) [
+few_after s is_end fall visited sup looked t c z lz = elim (cases_Bool (member z fall)) [
   | inl m ↦
       let oz : OnLevel s z = c.fall_level z m in
       let down : lowered s.core s.level fall z ≡ s.level - 1 = ap (λ b. cond b (s.level - 1) (s.core z)) m in
@@ -72,11 +63,11 @@ few_after s is_end fall visited sup seen t c z lz = elim (cases_Bool (member z f
 ]
 
 -- and enough that are as high
-pub enough_after : (s : Search) (is_end : ℕ → Bool) (fall : List ℕ) (visited : ℕ → Bool) (sup seen : ℕ → ℕ) → Thinned s is_end
-    → Cascade s fall (length fall) nobody visited sup seen nobody
+pub enough_after : (s : Search) (is_end : ℕ → Bool) (fall : List ℕ) (visited : ℕ → Bool) (sup : ℕ → ℕ) (looked : ℕ → ℕ → Bool) → Thinned s is_end
+    → Cascade s fall (length fall) nobody visited sup looked nobody
     → ((z : ℕ) → OnLevel s z → is_end z ≡ true → visited z ≡ true)
     → (z : ℕ) → z < s.size → lowered s.core s.level fall z ≤ among s z (λ y. leb (lowered s.core s.level fall z) (lowered s.core s.level fall y))
-enough_after s is_end fall visited sup seen t c ends z lz =
+enough_after s is_end fall visited sup looked t c ends z lz =
     let low : ℕ → ℕ = lowered s.core s.level fall in
     elim (cases_Bool (member z fall)) [
       | inl m ↦
@@ -94,7 +85,7 @@ enough_after s is_end fall visited sup seen t c ends z lz =
                 let more : support s fall z ≤ among s z (λ y. leb (s.core z) (low y)) =
                 among-mono s z (λ y. leb s.level (s.core y) && not (member y fall)) (λ y. leb (s.core z) (low y))
                 (λ y l a h. elim (cases_Bool (member y fall)) [ inl k ↦ grind (arith, k, h) | inr k ↦ grind (arith, k, h, lvl) ]) in
-                omega (arith, more, kept_support s is_end fall visited sup seen t c ends z (record { here = lz; level = lvl }) none, lvl)
+                omega (arith, more, kept_support s is_end fall visited sup looked t c ends z (record { here = lz; level = lvl }) none, lvl)
             | inr ne ↦
                 let more : among s z (λ y. leb (s.core z) (s.core y)) ≤ among s z (λ y. leb (s.core z) (low y)) =
                 among-mono s z (λ y. leb (s.core z) (s.core y)) (λ y. leb (s.core z) (low y)) (λ y l a h. elim (cases_Bool (member y fall)) [

@@ -18,7 +18,7 @@ use Rattle.kc_cert.proofs.Keeping.{certified_after}
 use Rattle.kc_view.specs.Sure.{IsSparing}
 use Rattle.kc_view.proofs.Still.{kept-is_sure, number_then-is}
 use Rattle.kc_remove.specs.Cascade.{Thinned, Cascade, nobody}
-use Rattle.kc_remove.specs.Falling.{is_visited, support_at, seen_at, HasEnded}
+use Rattle.kc_remove.specs.Falling.{is_visited, support_at, has_looked, HasEnded}
 use Rattle.kc_remove.specs.Removed.{is_end, search_without}
 use Rattle.kc_remove.specs.declared.falling.Falling.{Falling}
 use Rattle.kc_remove.proofs.Ending.{lowered}
@@ -26,9 +26,11 @@ use Rattle.kc_remove.proofs.Holding.{plain-holds, fall-holds}
 use Rattle.kc_remove.proofs.Thinning.{thinned}
 use Rattle.kc_cert.proofs.FittingMoves.{plain_fits, fall_fits}
 
+-- a removal is applied just where its edge is there
 pub applied-is : (update : Update) (g : SimpleGraph) → update.add ≡ false → is_applied update g ≡ adjacent g update.u update.v
 applied-is update g e = ap (λ b. cond b (not (adjacent g update.u update.v)) (adjacent g update.u update.v)) e
 
+-- and leaves the graph without that edge
 pub updated-is : (update : Update) (g : SimpleGraph) → update.add ≡ false → updated update g ≡ without_edge g update.u update.v
 updated-is update g e = ap (λ (b : Bool). cond b (with_edge g update.u update.v) (without_edge g update.u update.v)) e
 
@@ -38,9 +40,11 @@ pub kept-sure : (update : Update) (used : Used) (s : Ranked) → update.add ≡ 
     → IsLocal s (record { update = update; used = used; moves = Kept }) × IsSparing s (record { update = update; used = used; moves = Kept })
 kept-sure update used s removes h l gone = kept-is_sure update used s h l (applied-is update s.graph removes ∙ gone)
 
+-- of two equal numbers none is less
 same_number : (a b : ℕ) → a ≡ b → false ≡ ltb a b
 same_number a b e = grind arith
 
+-- a lesser number passes the test for one
 less_number : (a b : ℕ) → a < b → true ≡ ltb a b
 less_number a b l = sym (lt-ltb a b l)
 
@@ -62,14 +66,16 @@ plain-sure update used s level f removes h l a least ended empty =
     let up : update.u < update.v = update.ordered in
     let t : Thinned (search_without update level s) (is_end update) =
     thinned s update.u update.v level h (λ e. absurd (omega (arith, up, e))) (omega (arith, up, l)) l a least in
-    let c : Cascade (search_without update level s) [] 0 nobody (is_visited f) (support_at f) (seen_at f) nobody =
-    subst (λ (xs : List ℕ). Cascade (search_without update level s) xs (length xs) nobody (is_visited f) (support_at f) (seen_at f) nobody) empty ended.falls in
+    let c : Cascade (search_without update level s) [] 0 nobody (is_visited f) (support_at f) (has_looked f) nobody =
+    subst (λ (xs : List ℕ). Cascade (search_without update level s) xs (length xs) nobody (is_visited f) (support_at f) (has_looked f) nobody) empty
+    ended.falls in
     let local : IsLocal s (record { update = update; used = used; moves = Plain }) = record {
       ends = l;
       kept = sym (ap not there);
       moves_fit = plain_fits s;
       holds = λ z lz _. subst (λ (g : SimpleGraph). HoldsAt (record { graph = g; core = s.core; order = s.order }) z) (sym after)
-          (plain-holds s (without_edge s.graph update.u update.v) level (is_end update) (is_visited f) (support_at f) (seen_at f) h refl t c ended.ends z lz);
+          (plain-holds s (without_edge s.graph update.u update.v) level (is_end update) (is_visited f) (support_at f) (has_looked f) h refl t c
+          ended.ends z lz);
     } in (
       local,
       record {
@@ -113,7 +119,7 @@ fall-sure update used s level f removes h l a least ended =
           })
           z)
           (sym after)
-          (fall-holds s (without_edge s.graph update.u update.v) level fall (is_end update) (is_visited f) (support_at f) (seen_at f) h refl
+          (fall-holds s (without_edge s.graph update.u update.v) level fall (is_end update) (is_visited f) (support_at f) (has_looked f) h refl
           t c ended.ends z lz);
     } in (
       local,

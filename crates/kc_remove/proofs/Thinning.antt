@@ -44,15 +44,19 @@ joined-positive g core order h u v lu lv a =
           ]
     ]
 
+-- who passes in the graph without an edge passes in the graph with it
 fewer : (a j l : Bool) → ((a && not j) && l) ≡ true → (a && l) ≡ true
 fewer a j l t = grind arith
 
+-- a pair that the edge does not join passes alike in both
 unjoined : (a j l : Bool) → j ≡ false → ((a && not j) && l) ≡ (a && l)
 unjoined a j l n = grind arith
 
+-- and so does one that it joins where the rest of the test fails
 low_end : (a j l : Bool) → (j ≡ true → l ≡ false) → (a && l) ≡ ((a && not j) && l)
 low_end a j l n = grind arith
 
+-- a pair that it joins does not pass in the graph without it
 gone : (a j l : Bool) → j ≡ true → ((a && not j) && l) ≡ false
 gone a j l n = grind arith
 
@@ -60,12 +64,14 @@ gone a j l n = grind arith
 abbrev pub is_end : ℕ → ℕ → ℕ → Bool
 is_end u v z = eqb z u || eqb z v
 
+-- the edge joins a vertex that is no end of it to no vertex
 no_end : (u v z y : ℕ) → is_end u v z ≡ false → joins u v z y ≡ false
 no_end u v z y n = false_from_ne_true _ (λ j. elim (joins-true u v z y j) [
   | inl p ↦ true≢false (sym (ap (λ b. b || eqb z v) (eq-eqb z u p.0)) ∙ n)
   | inr p ↦ let k = or_parts (eqb z u) (eqb z v) n in true≢false (sym (eq-eqb z v p.0) ∙ k.1)
 ])
 
+-- and an end to one vertex alone
 one_other : (u v z w y : ℕ) → u ≢ v → joins u v z w ≡ true → y ≢ w → joins u v z y ≡ false
 one_other u v z w y differ jw ne = false_from_ne_true _ (λ j. elim (joins-true u v z y j) [
   | inl p ↦ elim (joins-true u v z w jw) [ inl q ↦ ne (p.1 ∙ sym q.1) | inr q ↦ differ (sym p.0 ∙ q.0) ]

@@ -1,23 +1,27 @@
 -- What holds for every view, from step to step.
-use Rattle.std.proofs.Common.{◌≡◌, ◌≤◌, ◌<◌, ◌⊎◌, ℕ, Bool, true, false, cond, List, [], ◌∷◌, ◌++◌, length, get_or, eqb, ltb, refl, sym, ◌∙◌, ap}
-use Rattle.std.proofs.Common.{subst, inl, inr, arith, true≢false, eq-eqb, length-append}
+use Rattle.std.proofs.Common.{◌≡◌, ◌≢◌, ◌≤◌, ◌<◌, ◌⊎◌, ℕ, suc, Bool, true, false, cond, List, [], ◌∷◌, ◌++◌, ◌||◌, length, take, get_or, eqb, ltb, refl}
+use Rattle.std.proofs.Common.{sym, ◌∙◌, ap, subst, inl, inr, arith, true≢false, eq-eqb, ne_eqb, length-append}
 use Rattle.std.specs.Prelude.{Option, Some, None, is_some}
-use Rattle.std.proofs.lemmas.Bool.{cases_Bool, cases_eq, false≢true, or_right, false_from_ne_true}
-use Rattle.std.proofs.lemmas.List.{get_or_append_left}
+use Rattle.std.proofs.Math.Bool.{or-false}
+use Rattle.std.proofs.Math.Seq.{take-length}
+use Rattle.std.proofs.lemmas.Bool.{cases_Bool, cases_eq, cases_lt, false≢true, or_right, false_from_ne_true, lt-ltb, le-ltb}
+use Rattle.std.proofs.lemmas.List.{get_or_append_left, take-append-le, take_all}
 use Rattle.std.proofs.lemmas.List.Elements.{All-push, All-weaker}
 use Rattle.kc_distinct.specs.Lists.{member}
 use Rattle.kc_distinct.proofs.Members.{below_bound}
 use Rattle.kc_distinct.proofs.Counting.{member-push}
-use Rattle.kc_distinct.proofs.Shared.{list_any-some, member-grown_left, member-grown_other, Distinct-grown}
+use Rattle.kc_distinct.proofs.Shared.{list_any-some, member-grown_left, Distinct-grown}
 use Rattle.kc_graph.specs.declared.update.Update.{Update}
 use Rattle.kc_view.specs.Answers.{Answers, has_list, list_of, has_core, with_list}
 use Rattle.kc_view.specs.Sure.{is_listed, AsksCores}
 use Rattle.kc_view.specs.Views.{Shown, Further, TellsList, TellsCore}
 use Rattle.kc_view.proofs.Asked.{is_listed-from, cores-more, cores-listed}
+use Rattle.kc_view.proofs.Fronts.{take-member}
 use Rattle.kc_view.proofs.Keeping.{still_has_list, same_list, Further-refl}
 use Rattle.kc_view.proofs.Marking.{Further-list}
-use Rattle.kc_remove.specs.Visits.{visit_of, fallen_in}
-use Rattle.kc_remove.specs.Falling.{is_visited, has_fallen, Settles, IsNear, AsksNear, IsTidyFalling}
+use Rattle.kc_remove.specs.Visits.{visit_of, count_in, fallen_in, gone_in, is_place_below, IsBound}
+use Rattle.kc_remove.specs.Falling.{is_visited, has_fallen, is_gone, looked_at, bound_at, Settles, IsNear, AsksNear, IsTidyFalling}
+use Rattle.kc_remove.specs.declared.falling.Count.{Count}
 use Rattle.kc_remove.specs.declared.falling.Falling.{Falling}
 use Rattle.kc_remove.specs.declared.falling.Visit.{Visit}
 use Rattle.kc_remove.proofs.Listed.{some-any}
@@ -80,19 +84,58 @@ asks-fallen update a fall more asks read grows = record {
   orders = asks.orders;
 }
 
-visited_in : (o : Option Visit) → fallen_in o ≡ true → is_some o ≡ true
-visited_in None h = absurd (false≢true h)
-visited_in (Some v) h = refl
+-- who is gone was visited
+visited_in : (turns : ℕ) (o : Option Visit) → gone_in turns o ≡ true → is_some o ≡ true
+visited_in turns None h = absurd (false≢true h)
+visited_in turns (Some v) h = refl
 
--- the lists of the fallen were read
+-- a place is below some number of turns
+placed_in : (p : Option ℕ) → is_some p ≡ true → (turns : ℕ) × (is_place_below turns p ≡ true)
+placed_in None h = absurd (false≢true h)
+placed_in (Some k) h = (suc k, lt-ltb k (suc k) (omega arith))
+
+-- so who has fallen is gone after some number of turns
+fallen_gone : (o : Option Visit) → fallen_in o ≡ true → (turns : ℕ) × (gone_in turns o ≡ true)
+fallen_gone None h = absurd (false≢true h)
+fallen_gone (Some v) h = placed_in v.fallen h
+
+-- where there is no place none is below any number of turns
+placed_out : (turns : ℕ) (p : Option ℕ) → is_some p ≡ false → is_place_below turns p ≡ false
+placed_out turns None h = refl
+placed_out turns (Some k) h = absurd (true≢false h)
+
+-- so who has not fallen is never gone
+fallen_out : (turns : ℕ) (o : Option Visit) → fallen_in o ≡ false → gone_in turns o ≡ false
+fallen_out turns None h = refl
+fallen_out turns (Some v) h = placed_out turns v.fallen h
+
+-- a vertex whose visit does not say that it has fallen is not on the list
+pub fallen-out : (update : Update) (shown : Shown) (f : Falling) → IsTidyFalling update shown f → (y : ℕ) → has_fallen f y ≡ false
+    → member y f.list.items ≡ false
+fallen-out update shown f t y n =
+    ap (member y) (sym (take-length f.list.items))
+    ∙ (sym (t.marked y (length f.list.items)) ∙ fallen_out (length f.list.items) (visit_of f.visits y) n)
+
+-- and the visit of a vertex that is not on the list does not say so
+pub out-fallen : (update : Update) (shown : Shown) (f : Falling) → IsTidyFalling update shown f → (y : ℕ) → member y f.list.items ≡ false
+    → has_fallen f y ≡ false
+out-fallen update shown f t y out = false_from_ne_true _ (λ h.
+    let (turns, g) = fallen_gone (visit_of f.visits y) h in
+    true≢false (sym (take-member turns f.list.items y (sym (t.marked y turns) ∙ g)) ∙ out))
+
+-- who has fallen was visited
 pub fallen-visited : (update : Update) (shown : Shown) (f : Falling) → IsTidyFalling update shown f → (x : ℕ) → member x f.list.items ≡ true
     → is_visited f x ≡ true
-fallen-visited update shown f t x m = visited_in (visit_of f.visits x) (t.marked x ∙ m)
+fallen-visited update shown f t x m =
+    visited_in (length f.list.items) (visit_of f.visits x)
+    (t.marked x (length f.list.items) ∙ (ap (member x) (take-length f.list.items) ∙ m))
 
+-- so the lists of the fallen were read
 pub fallen-read : (update : Update) (shown : Shown) (f : Falling) → IsTidyFalling update shown f → (x : ℕ) → member x f.list.items ≡ true
     → has_list shown.kept x ≡ true
 fallen-read update shown f t x m = t.listed x (fallen-visited update shown f t x m)
 
+-- who was not visited has not fallen
 pub unvisited-out : (update : Update) (shown : Shown) (f : Falling) → IsTidyFalling update shown f → (x : ℕ) → is_visited f x ≡ false
     → member x f.list.items ≡ false
 unvisited-out update shown f t x n = false_from_ne_true _ (λ m. true≢false (sym (fallen-visited update shown f t x m) ∙ n))
@@ -105,6 +148,9 @@ tidy-view update old new f t size further asks = record {
   once = t.once;
   within = λ z v. let l : z < old.size = t.within z v in omega (arith, l, size);
   listed = λ z v. still_has_list old.kept new.kept z further (t.listed z v);
+  looked = λ z v.
+      subst (λ (row : List ℕ). IsBound row (looked_at f z) (bound_at f z)) (sym (same_list old.kept new.kept z further (t.listed z v)))
+      (t.looked z v);
   asks = asks;
 }
 
@@ -114,6 +160,12 @@ pub tidy-list : (update : Update) (old new : Shown) (f : Falling) (y : ℕ) → 
 tidy-list update old new f y t size further tells near =
     tidy-view update old new f t size further
     (asks-list update old.kept new.kept f.list.items y t.asks tells near (fallen-read update old f t))
+
+-- a list that was asked again changes nothing
+pub tidy-again : (update : Update) (old new : Shown) (f : Falling) (y : ℕ) → IsTidyFalling update old f → new.size ≡ old.size
+    → Further old.kept new.kept → TellsList old.kept new.kept y → has_list old.kept y ≡ true → IsTidyFalling update new f
+tidy-again update old new f y t size further tells read =
+    tidy-view update old new f t size further (subst (λ (a : Answers). AsksNear update a f.list.items) (sym (tells.before read)) t.asks)
 
 -- a core number was asked
 pub tidy-core : (update : Update) (old new : Shown) (f : Falling) (y : ℕ) → IsTidyFalling update old f → new.size ≡ old.size
@@ -128,10 +180,39 @@ pub tidy-neighbour : (update : Update) (old new : Shown) (f : Falling) (x y : �
     → member y (list_of old.kept x) ≡ true → IsTidyFalling update new f
 tidy-neighbour update old new f x y t goes tells read m = tidy-core update old new f y t goes.0 goes.1 tells (inr (inr (is_listed-from old.kept x y read m)))
 
-member-settled : (low : Bool) (y : ℕ) (fall next : List ℕ) → next ≡ cond low (fall ++ y ∷ []) fall → member y fall ≡ false → member y next ≡ low
-member-settled true y fall next e n = ap (member y) e ∙ (member-push y y fall ∙ or_right (member y fall) (eqb y y) (eq-eqb y y refl))
-member-settled false y fall next e n = ap (member y) e ∙ n
+-- who is not on a list is not in its front
+out-front : (turns y : ℕ) (xs : List ℕ) → member y xs ≡ false → member y (take turns xs) ≡ false
+out-front turns y xs n = false_from_ne_true _ (λ m. true≢false (sym (take-member turns xs y m) ∙ n))
 
+-- a vertex that may be new on the list is among the first just where it is new and its place is below their number
+member-settled : (low : Bool) (turns y : ℕ) (fall next : List ℕ) → next ≡ cond low (fall ++ y ∷ []) fall → member y fall ≡ false
+    → is_place_below turns (cond low (Some (length fall)) None) ≡ member y (take turns next)
+member-settled true turns y fall next e n = elim (cases_lt (length fall) turns) [
+  | inl lt ↦
+      let whole : take turns (fall ++ y ∷ []) ≡ fall ++ y ∷ [] = take_all turns (fall ++ y ∷ []) (omega (arith, lt, length-append fall (y ∷ []))) in
+      lt-ltb (length fall) turns lt
+      ∙ sym (ap (λ xs. member y (take turns xs)) e ∙ (ap (member y) whole
+      ∙ (member-push y y fall ∙ or_right (member y fall) (eqb y y) (eq-eqb y y refl))))
+  | inr ge ↦
+      le-ltb (length fall) turns ge
+      ∙ sym (ap (λ xs. member y (take turns xs)) e ∙ (ap (member y) (take-append-le turns fall (y ∷ []) ge) ∙ out-front turns y fall n))
+]
+member-settled false turns y fall next e n = sym (ap (λ xs. member y (take turns xs)) e ∙ out-front turns y fall n)
+
+-- and any other vertex is among them just where it was before
+member-kept : (low : Bool) (turns y z : ℕ) (fall next : List ℕ) → next ≡ cond low (fall ++ y ∷ []) fall → z ≢ y
+    → member z (take turns next) ≡ member z (take turns fall)
+member-kept true turns y z fall next e ne = elim (cases_lt (length fall) turns) [
+  | inl lt ↦
+      let whole : take turns (fall ++ y ∷ []) ≡ fall ++ y ∷ [] = take_all turns (fall ++ y ∷ []) (omega (arith, lt, length-append fall (y ∷ []))) in
+      ap (λ xs. member z (take turns xs)) e ∙ (ap (member z) whole
+      ∙ (member-push z y fall ∙ (ap (λ b. member z fall || b) (ne_eqb z y ne) ∙ (or-false (member z fall)
+      ∙ ap (member z) (sym (take_all turns fall (omega (arith, lt))))))))
+  | inr ge ↦ ap (λ xs. member z (take turns xs)) e ∙ ap (member z) (take-append-le turns fall (y ∷ []) ge)
+]
+member-kept false turns y z fall next e ne = ap (λ xs. member z (take turns xs)) e
+
+-- what was on the list keeps its place
 further-grown : (low : Bool) (y : ℕ) (fall next : List ℕ) → next ≡ cond low (fall ++ y ∷ []) fall → (j : ℕ) → j < length fall
     → (j < length next) × (get_or next j 0 ≡ get_or fall j 0)
 further-grown true y fall next e j l = (
@@ -140,33 +221,46 @@ further-grown true y fall next e j l = (
 )
 further-grown false y fall next e j l = (let k : length next ≡ length fall = ap length e in omega (arith, l, k), ap (λ xs. get_or xs j 0) e)
 
-pub settled-further : (level y support seen : ℕ) (old new : Falling) → Settles level y support seen old new → (j : ℕ)
+-- so it does where a vertex is settled
+pub settled-further : (level y : ℕ) (count : Count) (old new : Falling) → Settles level y count old new → (j : ℕ)
     → j < length old.list.items → (j < length new.list.items) × (get_or new.list.items j 0 ≡ get_or old.list.items j 0)
-settled-further level y support seen old new s j l = further-grown (ltb support level) y old.list.items new.list.items s.list j l
+settled-further level y count old new s j l = further-grown (ltb count.support level) y old.list.items new.list.items s.list j l
 
-pub settled-still : (level y support seen : ℕ) (old new : Falling) → Settles level y support seen old new → (z : ℕ)
+-- who was visited stays visited where a vertex is settled
+pub settled-still : (level y : ℕ) (count : Count) (old new : Falling) → Settles level y count old new → (z : ℕ)
     → is_visited old z ≡ true → is_visited new z ≡ true
-settled-still level y support seen old new s z v = elim (cases_eq z y) [
+settled-still level y count old new s z v = elim (cases_eq z y) [
   | inl e ↦ ap (λ k. is_visited new k) e ∙ ap is_some s.visit
   | inr ne ↦ ap is_some (s.others z ne) ∙ v
 ]
 
--- a vertex that is not on the list is settled
-pub settled-tidy : (update : Update) (shown : Shown) (level y support seen : ℕ) (old new : Falling) → IsTidyFalling update shown old
-    → Settles level y support seen old new → y < shown.size → has_list shown.kept y ≡ true → member y old.list.items ≡ false
+-- what holds for every view still holds where a vertex that is not on the list is settled
+pub settled-tidy : (update : Update) (shown : Shown) (level y : ℕ) (count : Count) (old new : Falling) → IsTidyFalling update shown old
+    → Settles level y count old new → y < shown.size → has_list shown.kept y ≡ true → member y old.list.items ≡ false
+    → IsBound (list_of shown.kept y) count.looked count.bound
     → IsTidyFalling update shown new
-settled-tidy update shown level y support seen old new t s l read out =
-    let low : Bool = ltb support level in
+settled-tidy update shown level y count old new t s l read out looked =
+    let low : Bool = ltb count.support level in
     record {
-      marked = λ z. elim (cases_eq z y) [
+      marked = λ z turns. elim (cases_eq z y) [
         | inl e ↦
-            let here : has_fallen new y ≡ low = ap fallen_in s.visit in
-            ap (has_fallen new) e ∙ (here ∙ sym (ap (λ k. member k new.list.items) e ∙ member-settled low y old.list.items new.list.items s.list out))
-        | inr ne ↦ ap fallen_in (s.others z ne) ∙ (t.marked z ∙ sym (member-grown_other low y z old.list.items new.list.items s.list ne))
+            ap (is_gone new turns) e ∙ (ap (gone_in turns) s.visit
+            ∙ (member-settled low turns y old.list.items new.list.items s.list out ∙ ap (λ k. member k (take turns new.list.items)) (sym e)))
+        | inr ne ↦
+            ap (gone_in turns) (s.others z ne)
+            ∙ (t.marked z turns ∙ sym (member-kept low turns y z old.list.items new.list.items s.list ne))
       ];
       once = Distinct-grown low y old.list.items new.list.items s.list t.once out;
       within = λ z v. elim (cases_eq z y) [ inl e ↦ omega (arith, l, e) | inr ne ↦ t.within z (sym (ap is_some (s.others z ne)) ∙ v) ];
       listed = λ z v. elim (cases_eq z y) [ inl e ↦ ap (has_list shown.kept) e ∙ read | inr ne ↦ t.listed z (sym (ap is_some (s.others z ne)) ∙ v) ];
+      looked = λ z v. elim (cases_eq z y) [
+        | inl e ↦
+            subst (λ (k : ℕ). IsBound (list_of shown.kept k) (looked_at new k) (bound_at new k)) (sym e)
+            (subst (λ (o : Option Visit). IsBound (list_of shown.kept y) (count_in o).looked (count_in o).bound) (sym s.visit) looked)
+        | inr ne ↦
+            subst (λ (o : Option Visit). IsBound (list_of shown.kept z) (count_in o).looked (count_in o).bound) (sym (s.others z ne))
+            (t.looked z (sym (ap is_some (s.others z ne)) ∙ v))
+      ];
       asks =
           asks-fallen update shown.kept old.list.items new.list.items t.asks (fallen-read update shown old t)
           (λ x m. member-grown_left low y x old.list.items new.list.items s.list m);

@@ -1,5 +1,5 @@
 -- The visited and the fallen, and what holds of them.
-use Rattle.std.specs.Prelude.{◌≡◌, ◌≢◌, ◌<◌, ◌⊎◌, ◌++◌, ℕ, Bool, true, List, [], ◌∷◌, All, Some, is_some, length, nat_lt, if◌then◌else◌}
+use Rattle.std.specs.Prelude.{◌≡◌, ◌≢◌, ◌<◌, ◌⊎◌, ◌++◌, ℕ, Bool, true, List, [], ◌∷◌, All, Some, None, is_some, length, take, nat_lt, if◌then◌else◌}
 use Rattle.std.specs.List.{list_any}
 use Rattle.kc_distinct.specs.Lists.{member, Distinct}
 use Rattle.kc_graph.specs.Lawful.{Ranked}
@@ -10,30 +10,44 @@ use Rattle.kc_view.specs.Sure.{AsksCores}
 use Rattle.kc_view.specs.Views.{Shown}
 use Rattle.kc_remove.specs.Cascade.{Cascade, nobody}
 use Rattle.kc_remove.specs.Removed.{search_without, is_end}
-use Rattle.kc_remove.specs.Visits.{visit_of, support_in, seen_in, fallen_in}
+use Rattle.kc_remove.specs.Visits.{visit_of, count_in, fallen_in, gone_in, IsBound}
+use Rattle.kc_remove.specs.declared.falling.Count.{Count}
 use Rattle.kc_remove.specs.declared.falling.Falling.{Falling}
 
 -- whether `y` was visited
 abbrev pub is_visited : Falling → ℕ → Bool
 is_visited f y = is_some (visit_of f.visits y)
 
--- how many neighbours as high `y` has left, or 0 where it was not visited
+-- how much support `y` has found so far, or 0 where it was not visited
 abbrev pub support_at : Falling → ℕ → ℕ
-support_at f y = support_in (visit_of f.visits y)
+support_at f y = (count_in (visit_of f.visits y)).support
 
--- how many had fallen when `y` was visited, or 0 where it was not
-abbrev pub seen_at : Falling → ℕ → ℕ
-seen_at f y = seen_in (visit_of f.visits y)
+-- at how many neighbours `y` has looked, or 0 where it was not visited
+abbrev pub looked_at : Falling → ℕ → ℕ
+looked_at f y = (count_in (visit_of f.visits y)).looked
+
+-- the number below which the neighbours are at which `y` has looked, or 0 where it was not visited
+abbrev pub bound_at : Falling → ℕ → ℕ
+bound_at f y = (count_in (visit_of f.visits y)).bound
+
+-- whether `y` has looked at its neighbour `x`
+abbrev pub has_looked : Falling → ℕ → ℕ → Bool
+has_looked f y x = nat_lt x (bound_at f y)
 
 -- whether `y` is on the list of those that fall
 abbrev pub has_fallen : Falling → ℕ → Bool
 has_fallen f y = fallen_in (visit_of f.visits y)
 
--- `y` has this support now, and is put on the list if that is too little
-pub record Settles (level y support seen : ℕ) (old new : Falling) : Type 0 where
-  pub visit : visit_of new.visits y ≡ Some (record { support = support; seen = seen; fallen = nat_lt support level })
+-- whether `y` is one of the first `turns` of that list
+abbrev pub is_gone : Falling → ℕ → ℕ → Bool
+is_gone f turns y = gone_in turns (visit_of f.visits y)
+
+-- `y` has this count now, and is put on the list if its support is too little
+pub record Settles (level y : ℕ) (count : Count) (old new : Falling) : Type 0 where
+  pub visit : visit_of new.visits y
+      ≡ Some (record { count = count; fallen = (if nat_lt count.support level then Some (length old.list.items) else None) })
   pub others : (z : ℕ) → z ≢ y → visit_of new.visits z ≡ visit_of old.visits z
-  pub list : new.list.items ≡ (if nat_lt support level then old.list.items ++ y ∷ [] else old.list.items)
+  pub list : new.list.items ≡ (if nat_lt count.support level then old.list.items ++ y ∷ [] else old.list.items)
 
 -- `y` is an end of the edge, or a neighbour of one that fell
 abbrev pub IsNear : Update → Answers → List ℕ → ℕ → Type 0
@@ -47,15 +61,16 @@ pub record AsksNear (update : Update) (a : Answers) (fall : List ℕ) : Type 0 w
 
 -- what holds for every view
 pub record IsTidyFalling (update : Update) (shown : Shown) (f : Falling) : Type 0 where
-  pub marked : (z : ℕ) → has_fallen f z ≡ member z f.list.items
+  pub marked : (z turns : ℕ) → is_gone f turns z ≡ member z (take turns f.list.items)
   pub once : Distinct f.list.items
   pub within : (z : ℕ) → is_visited f z ≡ true → z < shown.size
   pub listed : (z : ℕ) → is_visited f z ≡ true → has_list shown.kept z ≡ true
+  pub looked : (z : ℕ) → is_visited f z ≡ true → IsBound (list_of shown.kept z) (looked_at f z) (bound_at f z)
   pub asks : AsksNear update shown.kept f.list.items
 
 -- what holds in a state that agrees with the answers
 abbrev pub FallsIn : Update → ℕ → Ranked → Falling → ℕ → (ℕ → Bool) → Type 0
-FallsIn update level s f turn part = Cascade (search_without update level s) f.list.items turn part (is_visited f) (support_at f) (seen_at f) nobody
+FallsIn update level s f turn part = Cascade (search_without update level s) f.list.items turn part (is_visited f) (support_at f) (has_looked f) nobody
 
 -- all turns are done, and each end of the level was visited
 pub record HasEnded (update : Update) (level : ℕ) (s : Ranked) (f : Falling) : Type 0 where

@@ -1,7 +1,7 @@
 //! The vertices that were visited, and the list of those that fall.
-ghost use Rattle.std.specs.Prelude.{◌≡◌, ◌-◌, ℕ, None, [], OnOk, if◌then◌else◌, nat_le};
-ghost use Rattle.kc_remove.specs.Visits.{visit_of};
-ghost use Rattle.kc_remove.specs.Falling.{has_fallen, Settles};
+ghost use Rattle.std.specs.Prelude.{◌≡◌, ◌-◌, ◌&&◌, ℕ, None, [], OnOk, is_some, nat_lt, not};
+ghost use Rattle.kc_remove.specs.Visits.{visit_of, nothing_counted};
+ghost use Rattle.kc_remove.specs.Falling.{Settles, is_gone};
 
 use kc_graph::NoMemory;
 use kc_hash::VertexHasher;
@@ -9,15 +9,55 @@ use std::alloc::Global;
 use std::collections::HashMap;
 use std::hash::BuildHasherDefault;
 
+/// How far the support of a vertex was counted. The list of its neighbours ascends.
+#[derive(Clone, Copy, Debug, Drop)]
+pub(crate) struct Count {
+    /// How many neighbours support it, of those that were looked at.
+    pub support: u32,
+    /// How many neighbours were looked at, from the front of its list.
+    pub looked: u32,
+    /// Just the neighbours below this number were looked at.
+    pub bound: u64,
+}
+
 /// What is known of a visited vertex.
 #[derive(Clone, Copy, Debug, Drop)]
 pub(crate) struct Visit {
-    /// How many neighbours it has left that are as high.
-    pub support: u32,
-    /// How many had fallen when it was visited: these were never counted.
-    pub seen: usize,
-    /// Whether it is on the list.
-    pub fallen: bool,
+    pub count: Count,
+    /// The place on the list of the fallen, if it is there.
+    pub fallen: Option<usize>,
+}
+
+impl Count {
+    /// No neighbour was looked at.
+    pub fn new() -> Count
+        ensures { result ≡ nothing_counted }
+    {
+        Count {
+            support: 0,
+            looked: 0,
+            bound: 0,
+        }
+    }
+
+    /// One of the neighbours that were looked at is gone.
+    pub fn less(self) -> Count
+        ensures { result ≡ record self { support = self.support - 1 } }
+    {
+        Count {
+            support: self.support.saturating_sub(1),
+            ..self
+        }
+    }
+}
+
+impl Visit {
+    /// Whether this neighbour was looked at, and the vertex is not on the list.
+    pub fn has_looked(self, x: u32) -> bool
+        ensures { result ≡ (not (is_some self.fallen) && nat_lt x self.count.bound) }
+    {
+        self.fallen.is_none() && u64::from(x) < self.count.bound
+    }
 }
 
 /// The visited vertices, and those that fall in the order in which they were found too weak.
@@ -46,42 +86,37 @@ impl Falling {
         self.visits.get(&y).copied()
     }
 
-    /// Whether a vertex is on the list.
-    pub fn has(&self, y: u32) -> bool
-        ensures { result ≡ has_fallen self.now y }
+    /// Whether a vertex is one of the first `turns` of the list.
+    pub fn is_gone(&self, y: u32, turns: usize) -> bool
+        ensures { result ≡ is_gone self.now turns y }
     {
-        match self.find(y) {
-            Some(visit) => visit.fallen,
+        let Some(visit) = self.find(y) else {
+            return false;
+        };
+        match visit.fallen {
+            Some(place) => place < turns,
             None => false,
         }
     }
 
-    /// Keeps the support of a vertex, and puts the vertex on the list if that is less than `level`.
-    pub fn settle(&mut self, y: u32, support: u32, seen: usize, level: u32) -> Result<(), NoMemory>
-        ensures { OnOk result (Settles level y support seen self.old self.new) }
+    /// Keeps how far the support of a vertex was counted, and puts the vertex on the list if that is less than `level`.
+    pub fn settle(&mut self, y: u32, count: Count, level: u32) -> Result<(), NoMemory>
+        ensures { OnOk result (Settles level y count self.old self.new) }
     {
-        let fallen = support < level;
+        if count.support >= level {
+            let visit = Visit {
+                count,
+                fallen: None,
+            };
+            self.visits.insert(y, visit)?;
+            return Ok(());
+        }
         let visit = Visit {
-            support,
-            seen,
-            fallen,
+            count,
+            fallen: Some(self.list.len()),
         };
         self.visits.insert(y, visit)?;
-        if fallen {
-            self.list.push(y)?;
-        }
+        self.list.push(y)?;
         Ok(())
-    }
-
-    /// Takes the vertex that fell at this turn from the support of a neighbour, unless it had fallen when the neighbour was visited.
-    pub fn weaken(&mut self, y: u32, visit: Visit, turn: usize, level: u32) -> Result<(), NoMemory>
-        ensures { OnOk result (Settles level y (visit.support - (if nat_le visit.seen turn then 1 else 0)) visit.seen self.old self.new) }
-    {
-        let support = if visit.seen <= turn {
-            visit.support.saturating_sub(1)
-        } else {
-            visit.support
-        };
-        self.settle(y, support, visit.seen, level)
     }
 }

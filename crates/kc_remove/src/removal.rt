@@ -69,7 +69,7 @@ fn visit_end<V: View>(
 {
     let core = core_of(view, end)?;
     if core == level {
-        visit(view, update, level, end, falling)?;
+        visit(view, update, level, 0, end, falling)?;
     }
     Ok(())
 }

@@ -71,7 +71,8 @@ fn four_vertices_all_joined(rt: HostRuntime) -> Result<(), Fail> {
     Ok(())
 }
 
-/// The hub of a wheel is visited when three of its rim have fallen. It has three neighbours left, until vertex 2 has its turn.
+/// The hub of a wheel is visited when three of its rim have fallen, and only vertex 0 is gone. It finds support in 1, 2 and 3, and in 4 when
+/// 1 is gone. When 2 is gone it finds no more, since 5 has had its turn.
 #[test]
 fn a_rim_edge_of_a_wheel(rt: HostRuntime) -> Result<(), Fail> {
     let rim = [(0, 1), (1, 2), (2, 3), (3, 4), (4, 5), (0, 5)];

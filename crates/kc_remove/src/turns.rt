@@ -9,11 +9,12 @@ ghost use Rattle.kc_remove.specs.Removed.{has_come};
 ghost use Rattle.kc_remove.specs.Falling.{is_visited, IsTidyFalling, FallsIn};
 
 use crate::falling::Falling;
-use crate::support::{is_removed, visit};
+use crate::support::{count_on, is_removed, visit};
 use kc_graph::Update;
 use kc_view::{PlanFault, View, core_of, degree_of};
 
-/// The vertex `x`, which fell, has its turn, and comes to its neighbour `y`: this is visited now, or has one less.
+/// The vertex `x`, which fell, has its turn, and comes to its neighbour `y`: this is visited now, or has one less if it had looked at `x`.
+/// If it has not looked at `x` yet, it loses nothing: it will find that `x` is gone.
 fn come_to<V: View>(
     view: &mut V,
     update: Update,
@@ -45,14 +46,15 @@ fn come_to<V: View>(
     if core != level {
         return Ok(());
     }
-    let Some(seen) = falling.find(y) else {
-        visit(view, update, level, y, falling)?;
+    let turns = turn + 1;
+    let Some(found) = falling.find(y) else {
+        visit(view, update, level, turns, y, falling)?;
         return Ok(());
     };
-    if seen.fallen {
+    if !found.has_looked(x) {
         return Ok(());
     }
-    falling.weaken(y, seen, turn, level)?;
+    count_on(view, update, level, turns, y, found.count.less(), falling)?;
     Ok(())
 }
 

@@ -5,7 +5,7 @@ use Rattle.std.proofs.lemmas.Bool.{or_cases}
 use Rattle.kc_view.proofs.Keeping.{agreed}
 use Rattle.kc_remove.specs.Cascade.{Cascade, nobody}
 use Rattle.kc_remove.specs.Removed.{search_without}
-use Rattle.kc_remove.specs.Falling.{is_visited, support_at, seen_at, FallsIn}
+use Rattle.kc_remove.specs.Falling.{is_visited, support_at, has_looked, FallsIn}
 use Rattle.kc_remove.proofs.Falls.{calm}
 use Rattle.kc_remove.proofs.removal.find_fallen.Goals as goal
 
@@ -21,8 +21,8 @@ returns-clause-ended g c = λ s a.
     let none : (y : ℕ) → is_visited f y ≡ false = λ y. ap is_some (c.new-falling.ensures.visits y) in
     let start : FallsIn c.args.update c.args.level s f 0 nobody =
     subst
-    (λ (xs : List ℕ). Cascade (search_without c.args.update c.args.level s) xs 0 nobody (is_visited f) (support_at f) (seen_at f) nobody)
-    (sym c.new-falling.ensures.list) (calm (search_without c.args.update c.args.level s) (is_visited f) (support_at f) (seen_at f) none) in
+    (λ (xs : List ℕ). Cascade (search_without c.args.update c.args.level s) xs 0 nobody (is_visited f) (support_at f) (has_looked f) nobody)
+    (sym c.new-falling.ensures.list) (calm (search_without c.args.update c.args.level s) (is_visited f) (support_at f) (has_looked f) none) in
     let falls = c.in_ok-take_turns.ensures.falls s a (c.in_ok-visit_end-2.ensures.falls s second (c.in_ok-visit_end.ensures.falls s first start)) in
     let differ : u ≢ v = λ e. absurd (omega (arith, e, c.args.update.ordered)) in
     record {

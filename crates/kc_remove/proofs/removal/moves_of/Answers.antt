@@ -1,9 +1,12 @@
 -- By cases: the edge is not there; level 0, which no end of an edge has; nobody falls; or just those on the list lose one.
-use Rattle.std.proofs.Common.{◌≡◌, ◌<◌, ℕ, Bool, true, List, [], ◌∷◌, length, eqb, refl, sym, ◌∙◌, subst, arith, eqb-true}
+use Rattle.std.proofs.Common.{◌≡◌, ◌<◌, ℕ, Bool, true, List, [], ◌∷◌, length, eqb, refl, sym, ◌∙◌, ap, subst, arith, eqb-true}
+use Rattle.std.proofs.lemmas.List.{append-nil}
+use Rattle.kc_distinct.specs.Lists.{member}
 use Rattle.kc_graph.specs.SimpleGraph.{adjacent}
 use Rattle.kc_view.proofs.Keeping.{agreed, tells-edge}
 use Rattle.kc_remove.specs.Falling.{AsksNear}
 use Rattle.kc_remove.proofs.Sureness.{kept-sure, plain-sure, fall-sure, some-level}
+use Rattle.kc_remove.proofs.Tidy.{fallen-read}
 use Rattle.kc_remove.proofs.removal.moves_of.Goals as goal
 
 no_items : (xs : List ℕ) (n : ℕ) (b : Bool) → length xs ≡ n → b ≡ eqb n 0 → b ≡ true → xs ≡ []
@@ -47,6 +50,11 @@ returns-then-is_empty-clause-sure g c = λ s used h l a.
     let none : list.items ≡ [] = no_items list.items list.len c.is_empty.result (sym list.ok.0) c.is_empty.ensures c.if-is_empty.true in
     plain-sure c.args.update used s c.in_ok-level.level c.in_ok-list.field-0 c.requires.removes h l there
     (c.in_ok-level.ensures.told s second) (c.in_ok-list.ensures.ended s a) none
+
+pub returns-clause-named : goal.returns-clause-named
+returns-clause-named g c = λ x m.
+    let f = c.in_ok-list.field-0 in
+    fallen-read c.args.update (g.V.View.shown c.find_fallen.new.view) f c.in_ok-list.ensures.tidy x (sym (ap (member x) (append-nil f.list.items)) ∙ m)
 
 pub returns-clause-sure : goal.returns-clause-sure
 returns-clause-sure g c = λ s used h l a.

@@ -27,7 +27,7 @@ returns-in_ok-visit-clause-falls g c = λ s a falls.
     let first = agreed _ _ s c.visit.ensures.goes_on.further a in
     let is = core-true (g.V.View.shown c.core_of.new.view).kept s c.args.end first c.in_ok-core.ensures.told.told in
     let lvl : get_or s.core c.args.end 0 ≡ c.args.level = sym is.1 ∙ (sym c.in_ok-core.ensures.core ∙ c.if-core-level.true) in
-    c.in_ok-visit.ensures.falls s 0 nobody nobody a lvl falls (λ z ne. refl) (λ p. absurd (false≢true p))
+    c.in_ok-visit.ensures.falls s 0 nobody nobody a lvl refl falls (λ z ne. refl) (λ p. absurd (false≢true p))
 
 pub returns-else-core-level-clause-tidy : goal.returns-else-core-level-clause-tidy
 returns-else-core-level-clause-tidy g c =

@@ -1,18 +1,30 @@
--- Over the edge that goes, of another level or fallen, `y` is passed by; else it is visited now, or loses one if it had counted `x`.
-use Rattle.std.proofs.Common.{◌≡◌, ◌-◌, true, false, Option, Some, [], ◌∷◌, ◌++◌, get_or, leb, sym, ◌∙◌, ap, arith, true≢false}
+-- Over the edge that goes, of another level, fallen or still to look at `x`, `y` loses nothing; else it is visited now, or has one less.
+use Rattle.std.proofs.Common.{◌≡◌, ◌+◌, Bool, true, false, not, ◌&&◌, Option, Some, [], ◌∷◌, ◌++◌, get_or, ltb, take, sym, ◌∙◌, ap, subst, arith, true≢false}
 use Rattle.std.specs.Prelude.{is_some}
-use Rattle.std.proofs.lemmas.Bool.{and_parts}
 use Rattle.kc_distinct.specs.Lists.{member}
 use Rattle.kc_graph.specs.Edges.{without_edge}
 use Rattle.kc_graph.specs.SimpleGraph.{adjacent}
-use Rattle.kc_cert.proofs.Sums.{one_if}
 use Rattle.kc_view.proofs.Keeping.{GoesOn-trans, agreed, core-true}
 use Rattle.kc_remove.specs.Removed.{has_come}
-use Rattle.kc_remove.specs.Visits.{visit_of, support_in, seen_in, fallen_in}
+use Rattle.kc_remove.specs.Visits.{visit_of, fallen_in, count_in, IsSupport}
+use Rattle.kc_remove.specs.declared.falling.Count.{Count}
 use Rattle.kc_remove.specs.declared.falling.Visit.{Visit}
-use Rattle.kc_remove.proofs.Stepping.{pass-by, come-other, weakened-come, edge-gone, edge-left, listed-adjacent}
-use Rattle.kc_remove.proofs.Tidy.{tidy-neighbour, settled-tidy}
+use Rattle.kc_remove.proofs.Falls.{taken-yes}
+use Rattle.kc_remove.proofs.Stepping.{pass-by, come-now, come-other, one-less, edge-gone, edge-left, listed-adjacent}
+use Rattle.kc_remove.proofs.Tidy.{tidy-neighbour, fallen-out, out-fallen}
 use Rattle.kc_remove.proofs.turns.come_to.Goals as goal
+
+-- a vertex that has not fallen and does not pass the test has not looked
+not_looked : (b f l : Bool) → b ≡ (not f && l) → b ≡ false → f ≡ false → l ≡ false
+not_looked b f l e h n = grind arith
+
+-- a vertex that passes the test has not fallen
+not_fallen : (b f l : Bool) → b ≡ (not f && l) → b ≡ true → f ≡ false
+not_fallen b f l e h = grind arith
+
+-- and it has looked
+had_looked : (b f l : Bool) → b ≡ (not f && l) → b ≡ true → l ≡ true
+had_looked b f l e h = grind arith
 
 pub returns-then-is_removed-clause-falls : goal.returns-then-is_removed-clause-falls
 returns-then-is_removed-clause-falls g c = λ s row a new' falls.
@@ -43,53 +55,85 @@ returns-in_default-clause-goes_on g c = GoesOn-trans _ _ _ c.core_of.ensures.goe
 
 pub returns-in_default-clause-falls : goal.returns-in_default-clause-falls
 returns-in_default-clause-falls g c = λ s row a new' falls.
+    let update = c.args.update in
     let first = agreed _ _ s c.visit.ensures.goes_on.further a in
     let is = core-true (g.V.View.shown c.core_of.new.view).kept s c.args.y first c.in_ok-core.ensures.told.told in
     let lvl : get_or s.core c.args.y 0 ≡ c.args.level = sym is.1 ∙ (sym c.in_ok-core.ensures.core ∙ c.if-core-level.false) in
-    c.in_ok-visit.ensures.falls s c.args.turn (has_come c.args.update s c.args.x row) (has_come c.args.update s c.args.x (row ++ c.args.y ∷ [])) a lvl falls
-    (λ z ne. come-other c.args.update s c.args.x c.args.y z row ne)
-    (λ p. (
-      c.requires.turn,
-      ap (λ n. adjacent (without_edge s.graph c.args.update.u c.args.update.v) n c.args.y) c.requires.at
-          ∙
-          (and_parts (member c.args.y (row ++ c.args.y ∷ []))
-          (adjacent (without_edge s.graph c.args.update.u c.args.update.v) c.args.x c.args.y) p).1,
-    ))
+    let start = agreed _ _ s c.core_of.ensures.goes_on.further first in
+    let joined : adjacent (without_edge s.graph update.u update.v) c.args.x c.args.y ≡ true =
+    edge-left update s c.args.x c.args.y (sym c.is_removed.ensures ∙ c.if-is_removed.false)
+    (listed-adjacent (g.V.View.shown c.args.view.now).kept s c.args.x c.args.y start c.requires.read c.requires.neighbour) in
+    c.in_ok-visit.ensures.falls s c.args.turn (has_come update s c.args.x row) (has_come update s c.args.x (row ++ c.args.y ∷ [])) a lvl
+    (sym (taken-yes (has_come update s c.args.x (row ++ c.args.y ∷ [])) c.args.turn c.args.y (come-now update s c.args.x c.args.y row joined)))
+    falls
+    (λ z ne. come-other update s c.args.x c.args.y z row ne)
+    (λ p. (c.requires.turn, ap (λ n. adjacent (without_edge s.graph update.u update.v) n c.args.y) c.requires.at ∙ joined))
 
-pub returns-then-seen-clause-tidy : goal.returns-then-seen-clause-tidy
-returns-then-seen-clause-tidy g c =
+pub returns-then-not-has_looked-clause-tidy : goal.returns-then-not-has_looked-clause-tidy
+returns-then-not-has_looked-clause-tidy g c =
     let e = c.core_of.ensures.goes_on in
     tidy-neighbour c.args.update (g.V.View.shown c.args.view.now) (g.V.View.shown c.core_of.new.view) c.args.falling.now c.args.x c.args.y
     c.requires.tidy (e.lasts.same_size, e.further) c.in_ok-core.ensures.told c.requires.read c.requires.neighbour
 
-pub returns-then-seen-clause-falls : goal.returns-then-seen-clause-falls
-returns-then-seen-clause-falls g c = λ s row a new' falls.
-    let found : visit_of c.args.falling.now.visits c.args.y ≡ Some c.in-Some.seen = sym c.find.ensures ∙ c.in-Some.is in
-    pass-by c.args.update c.args.level s c.args.turn c.args.x c.args.y row c.args.falling.now c.requires.turn c.requires.at
-    (λ j oy. sym (c.requires.tidy.marked c.args.y) ∙ (ap fallen_in found ∙ c.if-seen.true)) falls
+pub returns-then-not-has_looked-clause-falls : goal.returns-then-not-has_looked-clause-falls
+returns-then-not-has_looked-clause-falls g c = λ s row a new' falls.
+    let f = c.args.falling.now in
+    let kept : visit_of f.visits c.args.y ≡ Some c.in-Some.found = sym c.find.ensures ∙ c.in-Some.is in
+    pass-by c.args.update c.args.level s c.args.turn c.args.x c.args.y row f c.requires.turn c.requires.at
+    (λ j oy. (
+      ap is_some kept,
+      λ out.
+          let stays = out-fallen c.args.update (g.V.View.shown c.args.view.now) f c.requires.tidy c.args.y out in
+          ap (λ (o : Option Visit). ltb c.args.x (count_in o).bound) kept
+          ∙ not_looked c.has_looked.result (is_some c.in-Some.found.fallen) (ltb c.args.x c.in-Some.found.count.bound) c.has_looked.ensures
+          c.if-not-has_looked.true (sym (ap fallen_in kept) ∙ stays),
+    )) falls
 
-pub returns-clause-tidy : goal.returns-clause-tidy
-returns-clause-tidy g c =
+pub count_on-requires-clause-out : goal.count_on-requires-clause-out
+count_on-requires-clause-out g c =
+    let f = c.args.falling.now in
+    let kept : visit_of f.visits c.args.y ≡ Some c.in-Some.found = sym c.find.ensures ∙ c.in-Some.is in
+    fallen-out c.args.update (g.V.View.shown c.args.view.now) f c.requires.tidy c.args.y
+    (ap fallen_in kept
+    ∙ not_fallen c.has_looked.result (is_some c.in-Some.found.fallen) (ltb c.args.x c.in-Some.found.count.bound) c.has_looked.ensures
+    c.if-not-has_looked.false)
+
+pub count_on-requires-clause-tidy : goal.count_on-requires-clause-tidy
+count_on-requires-clause-tidy g c =
     let e = c.core_of.ensures.goes_on in
-    let old = g.V.View.shown c.args.view.now in
-    let now = g.V.View.shown c.core_of.new.view in
-    let found : visit_of c.args.falling.now.visits c.args.y ≡ Some c.in-Some.seen = sym c.find.ensures ∙ c.in-Some.is in
-    let out : member c.args.y c.args.falling.now.list.items ≡ false = sym (c.requires.tidy.marked c.args.y) ∙ (ap fallen_in found ∙ c.if-seen.false) in
-    let t =
-    tidy-neighbour c.args.update old now c.args.falling.now c.args.x c.args.y c.requires.tidy (e.lasts.same_size, e.further)
-    c.in_ok-core.ensures.told c.requires.read c.requires.neighbour in
-    settled-tidy c.args.update now c.args.level c.args.y _ _ c.args.falling.now c.weaken.new.self t c.in_ok-weaken.ensures
-    (omega (arith, c.requires.vertex, e.lasts.same_size)) (t.listed c.args.y (ap is_some found)) out
+    tidy-neighbour c.args.update (g.V.View.shown c.args.view.now) (g.V.View.shown c.core_of.new.view) c.args.falling.now c.args.x c.args.y
+    c.requires.tidy (e.lasts.same_size, e.further) c.in_ok-core.ensures.told c.requires.read c.requires.neighbour
+
+pub returns-clause-goes_on : goal.returns-clause-goes_on
+returns-clause-goes_on g c = GoesOn-trans _ _ _ c.core_of.ensures.goes_on c.count_on.ensures.goes_on
 
 pub returns-clause-falls : goal.returns-clause-falls
 returns-clause-falls g c = λ s row a new' falls.
-    let e = c.core_of.ensures.goes_on in
+    let update = c.args.update in
+    let f = c.args.falling.now in
     let old = g.V.View.shown c.args.view.now in
-    let found : visit_of c.args.falling.now.visits c.args.y ≡ Some c.in-Some.seen = sym c.find.ensures ∙ c.in-Some.is in
-    let out : member c.args.y c.args.falling.now.list.items ≡ false = sym (c.requires.tidy.marked c.args.y) ∙ (ap fallen_in found ∙ c.if-seen.false) in
-    let joined : adjacent (without_edge s.graph c.args.update.u c.args.update.v) c.args.x c.args.y ≡ true =
-    edge-left c.args.update s c.args.x c.args.y (sym c.is_removed.ensures ∙ c.if-is_removed.false)
-    (listed-adjacent old.kept s c.args.x c.args.y (agreed _ _ s e.further a) c.requires.read c.requires.neighbour) in
-    weakened-come c.args.update c.args.level s c.args.turn c.args.x c.args.y _ _ row c.args.falling.now c.weaken.new.self
-    c.in_ok-weaken.ensures (sym (ap seen_in found)) out (ap is_some found)
-    (sym (ap (λ (o : Option Visit). support_in o - one_if (leb (seen_in o) c.args.turn)) found)) c.requires.turn c.requires.at joined new' falls
+    let first = agreed _ _ s c.count_on.ensures.goes_on.further a in
+    let is = core-true (g.V.View.shown c.core_of.new.view).kept s c.args.y first c.in_ok-core.ensures.told.told in
+    let lvl : get_or s.core c.args.y 0 ≡ c.args.level = sym is.1 ∙ (sym c.in_ok-core.ensures.core ∙ c.if-core-level.false) in
+    let start = agreed _ _ s c.core_of.ensures.goes_on.further first in
+    let kept : visit_of f.visits c.args.y ≡ Some c.in-Some.found = sym c.find.ensures ∙ c.in-Some.is in
+    let test = c.has_looked.ensures in
+    let out : member c.args.y f.list.items ≡ false =
+    fallen-out update old f c.requires.tidy c.args.y
+    (ap fallen_in kept
+    ∙ not_fallen c.has_looked.result (is_some c.in-Some.found.fallen) (ltb c.args.x c.in-Some.found.count.bound) test
+    c.if-not-has_looked.false) in
+    let seen : ltb c.args.x c.in-Some.found.count.bound ≡ true =
+    had_looked c.has_looked.result (is_some c.in-Some.found.fallen) (ltb c.args.x c.in-Some.found.count.bound) test c.if-not-has_looked.false in
+    let joined : adjacent (without_edge s.graph update.u update.v) c.args.x c.args.y ≡ true =
+    edge-left update s c.args.x c.args.y (sym c.is_removed.ensures ∙ c.if-is_removed.false)
+    (listed-adjacent old.kept s c.args.x c.args.y start c.requires.read c.requires.neighbour) in
+    let less =
+    one-less update c.args.level s c.args.turn c.args.x c.args.y c.in-Some.found row f falls c.requires.turn c.requires.at kept out seen joined
+    new' in
+    c.in_ok-count_on.ensures.falls s c.args.turn (has_come update s c.args.x row) (has_come update s c.args.x (row ++ c.args.y ∷ [])) a lvl
+    (subst (λ (k : Count). IsSupport update c.args.level s (take (c.args.turn + 1) f.list.items) c.args.y k) (sym c.less.ensures) less)
+    (sym (taken-yes (has_come update s c.args.x (row ++ c.args.y ∷ [])) c.args.turn c.args.y (come-now update s c.args.x c.args.y row joined)))
+    falls
+    (λ z ne. come-other update s c.args.x c.args.y z row ne)
+    (λ p. (c.requires.turn, ap (λ n. adjacent (without_edge s.graph update.u update.v) n c.args.y) c.requires.at ∙ joined))
