@@ -34,6 +34,26 @@ pub(crate) struct Ahead {
 }
 
 impl Ahead {
+    /// None, with no memory taken.
+    pub fn none(alloc: Global) -> Ahead
+        ensures count { result.count ≡ 0 }
+        ensures next { result.next.items ≡ [] }
+    {
+        Ahead {
+            count: 0,
+            next: Vec::new(alloc),
+        }
+    }
+
+    /// Forgets all, and keeps the memory for those of the level.
+    fn clear(&mut self)
+        ensures count { self.new.count ≡ 0 }
+        ensures next { self.new.next.items ≡ [] }
+    {
+        self.count = 0;
+        self.next.clear();
+    }
+
     /// Counts a neighbour that stands so.
     fn add(&mut self, x: u32, side: Side) -> Result<(), NoMemory>
         requires { self.old.count < 2 ^ 64 - 1 }
@@ -85,15 +105,16 @@ fn side_of<V: View>(
     }
 }
 
-/// The neighbours that are higher than `w` or stand behind it on the level, among `row`, the neighbours of `w` once the edge is there.
+/// Finds the neighbours that are higher than `w` or stand behind it on the level, among `row`, the neighbours of `w` once the edge is
+/// there. What was ahead of another vertex is forgotten.
 pub(crate) fn look_ahead<V: View>(
-    alloc: Global,
     view: &mut V,
     update: Update,
     level: u32,
     w: u32,
     row: &[u32],
-) -> Result<Ahead, PlanFault>
+    ahead: &mut Ahead,
+) -> Result<(), PlanFault>
     requires row { IsListOf (V.shown view.old).size w row.now }
     requires has { (y : ℕ) → member y row.now ≡ (member y (list_of (V.shown view.old).kept w) || is_added update w y) }
     requires placed { has_core (V.shown view.old).kept w ≡ true }
@@ -101,20 +122,17 @@ pub(crate) fn look_ahead<V: View>(
     ensures goes_on { GoesOn (V.shown view.old) (V.shown view.new) }
     ensures cause { IfErr result (λ fault. HasPlanCause (V.shown view.old) (V.shown view.new) fault) }
     ensures asks { OnOk result ((queue : List ℕ) → AsksQueued update (V.shown view.old).kept queue → AsksQueued update (V.shown view.new).kept queue) }
-    ensures from { IfOk result (λ ahead. (y : ℕ) → member y ahead.next.items ≡ true → (member y row.now ≡ true) × (has_core (V.shown view.new).kept y ≡ true)) }
-    ensures once { IfOk result (λ ahead. Distinct ahead.next.items) }
-    ensures count { IfOk result (λ ahead. (s : Ranked) → Agrees (V.shown view.new).kept s
-        → ahead.count ≡ count_by (λ y. is_ahead (side_in (search_with update level s) w y)) row.now) }
-    ensures next { IfOk result (λ ahead. (s : Ranked) → Agrees (V.shown view.new).kept s → (y : ℕ)
-        → member y ahead.next.items ≡ (member y row.now && is_next (side_in (search_with update level s) w y))) }
+    ensures from { OnOk result ((y : ℕ) → member y ahead.new.next.items ≡ true → (member y row.now ≡ true) × (has_core (V.shown view.new).kept y ≡ true)) }
+    ensures once { OnOk result (Distinct ahead.new.next.items) }
+    ensures count { OnOk result ((s : Ranked) → Agrees (V.shown view.new).kept s
+        → ahead.new.count ≡ count_by (λ y. is_ahead (side_in (search_with update level s) w y)) row.now) }
+    ensures next { OnOk result ((s : Ranked) → Agrees (V.shown view.new).kept s → (y : ℕ)
+        → member y ahead.new.next.items ≡ (member y row.now && is_next (side_in (search_with update level s) w y))) }
 {
-    let mut ahead = Ahead {
-        count: 0,
-        next: Vec::new(alloc),
-    };
+    ahead.clear();
     for x in row {
         let side = side_of(view, update, level, w, *x)?;
         ahead.add(*x, side)?;
     }
-    Ok(ahead)
+    Ok(())
 }

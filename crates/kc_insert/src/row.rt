@@ -1,5 +1,5 @@
 //! The neighbours of a vertex once the edge is there.
-ghost use Rattle.std.specs.Prelude.{◌≡◌, ◌≢◌, ◌<◌, ◌||◌, ◌⊎◌, ℕ, List, true, false, nat_eq, MatchOption, IfOk, OnOk, IfErr};
+ghost use Rattle.std.specs.Prelude.{◌≡◌, ◌≢◌, ◌<◌, ◌||◌, ◌⊎◌, ℕ, List, true, false, nat_eq, MatchOption, OnOk, IfErr};
 ghost use Rattle.std.specs.List.Sorted.{IsStrictlyIncreasing};
 ghost use Rattle.kc_distinct.specs.Lists.{member};
 ghost use Rattle.kc_graph.specs.Rows.{IsPlace};
@@ -11,7 +11,6 @@ ghost use Rattle.kc_insert.specs.Rising.{AsksQueued};
 
 use kc_graph::{NoMemory, Update};
 use kc_view::{PlanFault, View, degree_of};
-use std::alloc::Global;
 
 /// The other end of the edge, where `w` is one.
 fn other_end(update: Update, w: u32) -> Option<u32>
@@ -27,14 +26,16 @@ fn other_end(update: Update, w: u32) -> Option<u32>
     }
 }
 
-/// The list of `w`, which was read.
-fn copy_of<V: View>(alloc: Global, view: &V, w: u32) -> Result<Vec<u32>, NoMemory>
+/// Fills the row with the list of `w`, which was read.
+fn copy_to<V: View>(view: &V, w: u32, row: &mut Vec<u32>) -> Result<(), NoMemory>
     requires read { has_list (V.shown view.now).kept w ≡ true }
     requires lists { KeepsLists (V.shown view.now) }
-    ensures same { IfOk result (λ row. row.items ≡ list_of (V.shown view.now).kept w) }
-    ensures list { IfOk result (λ row. IsListOf (V.shown view.now).size w row.items) }
+    ensures same { OnOk result (row.new.items ≡ list_of (V.shown view.now).kept w) }
+    ensures list { OnOk result (IsListOf (V.shown view.now).size w row.new.items) }
 {
-    Ok(Vec::from_slice(alloc, view.list(w))?)
+    row.clear();
+    row.extend_from_slice(view.list(w))?;
+    Ok(())
 }
 
 /// Where a vertex stands in an ascending list, or else where it has to go.
@@ -57,13 +58,14 @@ fn put_in(row: &mut Vec<u32>, other: u32) -> Result<(), NoMemory>
     Ok(())
 }
 
-/// The neighbours of `w` once the edge is there, ascending: its list, with the other end where `w` is one.
-pub(crate) fn row_of<V: View>(
-    alloc: Global,
+/// Fills the row with the neighbours of `w` once the edge is there, ascending: its list, with the other end where `w` is one. What stood
+/// in the row before is gone; a search keeps one row for all its vertices, which takes memory only where a list is longer than any before.
+pub(crate) fn fill_row<V: View>(
     view: &mut V,
     update: Update,
     w: u32,
-) -> Result<Vec<u32>, PlanFault>
+    row: &mut Vec<u32>,
+) -> Result<(), PlanFault>
     requires vertex { w < (V.shown view.old).size }
     requires ends { update.v < (V.shown view.old).size }
     ensures goes_on { GoesOn (V.shown view.old) (V.shown view.new) }
@@ -71,13 +73,13 @@ pub(crate) fn row_of<V: View>(
     ensures told { OnOk result (TellsList (V.shown view.old).kept (V.shown view.new).kept w) }
     ensures asks { OnOk result ((queue : List ℕ) → AsksQueued update (V.shown view.old).kept queue → (w ≡ update.u) ⊎ (member w queue ≡ true)
         → AsksQueued update (V.shown view.new).kept queue) }
-    ensures row { IfOk result (λ row. IsListOf (V.shown view.new).size w row.items) }
-    ensures has { IfOk result (λ row. (y : ℕ) → member y row.items ≡ (member y (list_of (V.shown view.new).kept w) || is_added update w y)) }
+    ensures row { OnOk result (IsListOf (V.shown view.new).size w row.new.items) }
+    ensures has { OnOk result ((y : ℕ) → member y row.new.items ≡ (member y (list_of (V.shown view.new).kept w) || is_added update w y)) }
 {
     degree_of(view, w)?;
-    let mut row = copy_of(alloc, view, w)?;
+    copy_to(view, w, row)?;
     if let Some(other) = other_end(update, w) {
-        put_in(&mut row, other)?;
+        put_in(row, other)?;
     }
-    Ok(row)
+    Ok(())
 }

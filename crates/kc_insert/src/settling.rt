@@ -12,18 +12,17 @@ ghost use Rattle.kc_insert.specs.Turns.{IsBetweenTurns, IsSettling};
 
 use crate::losing::{Loss, lose_each};
 use crate::rising::{Mark, Rising};
-use crate::row::row_of;
+use crate::row::fill_row;
 use kc_graph::Update;
 use kc_view::{PlanFault, View};
-use std::alloc::Global;
 
 /// Evicts the weak candidate whose turn it is, and puts it behind `anchor`.
 fn evict_next<V: View>(
-    alloc: Global,
     view: &mut V,
     update: Update,
     level: u32,
     anchor: u32,
+    row: &mut Vec<u32>,
     rising: &mut Rising,
 ) -> Result<u32, PlanFault>
     requires ends { update.v < (V.shown view.old).size }
@@ -40,19 +39,19 @@ fn evict_next<V: View>(
         → IsSettling (search_with update level s) root rising.old anchor → IsSettling (search_with update level s) root rising.new x) }
 {
     let x = rising.weak[rising.shifts.len()];
-    let row = row_of(alloc, view, update, x)?;
+    fill_row(view, update, x, row)?;
     let turn = rising.evict(x, anchor)?;
-    lose_each(&row, Loss::Evicted(turn), level, rising)?;
+    lose_each(row, Loss::Evicted(turn), level, rising)?;
     Ok(x)
 }
 
 /// Evicts all candidates that are too weak, and those that are then, each right behind the one before. The first is put behind `w`.
 fn evict_weak<V: View>(
-    alloc: Global,
     view: &mut V,
     update: Update,
     level: u32,
     w: u32,
+    row: &mut Vec<u32>,
     rising: &mut Rising,
 ) -> Result<(), PlanFault>
     requires ends { update.v < (V.shown view.old).size }
@@ -67,27 +66,27 @@ fn evict_weak<V: View>(
 {
     let mut anchor = w;
     while rising.shifts.len() < rising.weak.len() {
-        anchor = evict_next(alloc, view, update, level, anchor, rising)?;
+        anchor = evict_next(view, update, level, anchor, row, rising)?;
     }
     Ok(())
 }
 
-/// The vertex `w` that waits first leaves the queue and will not rise. Its neighbours are `row`.
+/// The vertex `w` that waits first leaves the queue and will not rise. Its neighbours are `row`, in which those of the evicted stand after
+/// that, one after the other.
 pub(crate) fn settle<V: View>(
-    alloc: Global,
     view: &mut V,
     update: Update,
     level: u32,
     w: u32,
-    row: &[u32],
+    row: &mut Vec<u32>,
     rising: &mut Rising,
 ) -> Result<(), PlanFault>
     requires ends { update.v < (V.shown view.old).size }
     requires turn { rising.old.turn < length rising.old.queue.items }
     requires first { slice_index rising.old.queue.items rising.old.turn ≡ w }
     requires read { has_list (V.shown view.old).kept w ≡ true }
-    requires row { IsListOf (V.shown view.old).size w row.now }
-    requires has { (y : ℕ) → member y row.now ≡ (member y (list_of (V.shown view.old).kept w) || is_added update w y) }
+    requires row { IsListOf (V.shown view.old).size w row.old.items }
+    requires has { (y : ℕ) → member y row.old.items ≡ (member y (list_of (V.shown view.old).kept w) || is_added update w y) }
     requires tidy { IsTidyRising update (V.shown view.old) rising.old }
     ensures goes_on { GoesOn (V.shown view.old) (V.shown view.new) }
     ensures cause { IfErr result (λ fault. HasPlanCause (V.shown view.old) (V.shown view.new) fault) }
@@ -99,5 +98,5 @@ pub(crate) fn settle<V: View>(
 {
     rising.leave(w, Mark::past())?;
     lose_each(row, Loss::Settled, level, rising)?;
-    evict_weak(alloc, view, update, level, w, rising)
+    evict_weak(view, update, level, w, row, rising)
 }

@@ -8,21 +8,23 @@ ghost use Rattle.kc_insert.specs.Rising.{IsTidyRising};
 ghost use Rattle.kc_insert.specs.Searching.{Widened};
 ghost use Rattle.kc_insert.specs.Turns.{IsBetweenTurns};
 
-use crate::ahead::look_ahead;
+use crate::ahead::{Ahead, look_ahead};
 use crate::raising::raise;
 use crate::rising::{Mark, Rising};
-use crate::row::row_of;
+use crate::row::fill_row;
 use crate::settling::settle;
 use kc_graph::Update;
 use kc_view::{PlanFault, View};
 use std::alloc::Global;
 
-/// The turn of the vertex that waits first: it becomes a candidate, or is settled, or leaves the queue and changes nothing.
+/// The turn of the vertex that waits first: it becomes a candidate, or is settled, or leaves the queue and changes nothing. What stands in
+/// `row` and `ahead` is of turns before, and is overwritten.
 fn take_turn<V: View>(
-    alloc: Global,
     view: &mut V,
     update: Update,
     level: u32,
+    row: &mut Vec<u32>,
+    ahead: &mut Ahead,
     rising: &mut Rising,
 ) -> Result<(), PlanFault>
     requires ends { update.v < (V.shown view.old).size }
@@ -37,14 +39,14 @@ fn take_turn<V: View>(
         → IsBetweenTurns (search_with update level s) root rising.old → IsBetweenTurns (search_with update level s) root rising.new) }
 {
     let w = rising.queue[rising.turn];
-    let row = row_of(alloc, view, update, w)?;
-    let ahead = look_ahead(alloc, view, update, level, w, &row)?;
+    fill_row(view, update, w, row)?;
+    look_ahead(view, update, level, w, row, ahead)?;
     let earlier = rising.earlier_of(w);
     if earlier.saturating_add(ahead.count) > level as usize {
-        return raise(view, w, earlier, &ahead, rising);
+        return raise(view, w, earlier, ahead, rising);
     }
     if earlier > 0 {
-        return settle(alloc, view, update, level, w, &row, rising);
+        return settle(view, update, level, w, row, rising);
     }
     rising.leave(w, Mark::past())?;
     Ok(())
@@ -68,8 +70,10 @@ pub(crate) fn take_turns<V: View>(
         → Widened (search_with update level s) root
         → IsBetweenTurns (search_with update level s) root rising.old → IsBetweenTurns (search_with update level s) root rising.new) }
 {
+    let mut row = Vec::new(alloc);
+    let mut ahead = Ahead::none(alloc);
     while rising.turn < rising.queue.len() {
-        take_turn(alloc, view, update, level, rising)?;
+        take_turn(view, update, level, &mut row, &mut ahead, rising)?;
     }
     Ok(())
 }

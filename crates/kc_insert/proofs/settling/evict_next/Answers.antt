@@ -10,15 +10,16 @@ use Rattle.kc_insert.proofs.Rows.{row-is}
 use Rattle.kc_insert.proofs.Tidy.{left-queued, tidy-view}
 use Rattle.kc_insert.proofs.settling.evict_next.Goals as goal
 
-pub row_of-requires-clause-vertex : goal.row_of-requires-clause-vertex
-row_of-requires-clause-vertex g c =
+pub fill_row-requires-clause-vertex : goal.fill_row-requires-clause-vertex
+fill_row-requires-clause-vertex g c =
     let old = c.args.rising.now in
     let t = c.requires.tidy in
     let x = c.index-x.result.now in
     t.within x (left-queued old x (next-left old x t.orderly c.requires.some (next-weak old c.len.result x c.len.ensures c.requires.some c.index-x.ensures)))
 
 pub lose_each-requires-clause-once : goal.lose_each-requires-clause-once
-lose_each-requires-clause-once g c = subst Distinct (sym c.deref.ensures.value) (Distinct-from_increasing c.in_ok-row.row.items c.in_ok-row.ensures.row.ascends)
+lose_each-requires-clause-once g c =
+    subst Distinct (sym c.deref.ensures.value) (Distinct-from_increasing c.fill_row.new.row.items c.in_ok-fill_row.ensures.row.ascends)
 
 pub lose_each-requires-clause-orderly : goal.lose_each-requires-clause-orderly
 lose_each-requires-clause-orderly g c =
@@ -31,10 +32,10 @@ pub returns-clause-tidy : goal.returns-clause-tidy
 returns-clause-tidy g c =
     let old = c.args.rising.now in
     let before = g.V.View.shown c.args.view.now in
-    let now = g.V.View.shown c.row_of.new.view in
+    let now = g.V.View.shown c.fill_row.new.view in
     let t = c.requires.tidy in
     let x = c.index-x.result.now in
-    let e = c.in_ok-row.ensures in
+    let e = c.in_ok-fill_row.ensures in
     let ev = c.in_ok-turn.ensures.evicts in
     let l = c.in_ok-lose_each.ensures in
     let asks =
@@ -51,9 +52,9 @@ returns-clause-settling g c = λ s root a w st.
     let old = c.args.rising.now in
     let mid = c.evict.new.self in
     let new = c.lose_each.new.rising in
-    let row = c.in_ok-row.row.items in
+    let row = c.fill_row.new.row.items in
     let x = c.index-x.result.now in
-    let e = c.in_ok-row.ensures in
+    let e = c.in_ok-fill_row.ensures in
     let l = c.in_ok-lose_each.ensures in
     let turn : c.in_ok-turn.turn ≡ turn_at old x = c.in_ok-turn.ensures.turn in
     let loses : Loses c.args.level (loss.Evicted (turn_at old x)) row mid new =

@@ -5,18 +5,18 @@ use Rattle.kc_insert.proofs.Evicting.{settled-between}
 use Rattle.kc_insert.proofs.Tidy.{weak-fits}
 use Rattle.kc_insert.proofs.settling.evict_weak.Goals as goal
 
-pub loop-alloc-smaller : goal.loop-alloc-smaller
-loop-alloc-smaller g c =
-    let i = c.loop-alloc.invariant in
-    let r = c.loop-alloc.rising in
-    let fits : length r.weak.items ≤ (g.V.View.shown c.loop-alloc.view).size = weak-fits c.args.update (g.V.View.shown c.loop-alloc.view) r i.tidy in
+pub loop-update-smaller : goal.loop-update-smaller
+loop-update-smaller g c =
+    let i = c.loop-update.invariant in
+    let r = c.loop-update.rising in
+    let fits : length r.weak.items ≤ (g.V.View.shown c.loop-update.view).size = weak-fits c.args.update (g.V.View.shown c.loop-update.view) r i.tidy in
     let l : length r.shifts.items < length r.weak.items =
-    omega (arith, c.len.ensures, c.len-in-loop-alloc.ensures, c.loop-alloc-test.true, r.shifts.ok.0, r.weak.ok.0) in
+    omega (arith, c.len.ensures, c.len-in-loop-update.ensures, c.loop-update-test.true, r.shifts.ok.0, r.weak.ok.0) in
     omega (arith, fits, l, i.goes_on.lasts.same_size, c.in_ok-anchor.ensures.one)
 
-pub loop-alloc-preserved : goal.loop-alloc-preserved
-loop-alloc-preserved g c =
-    let i = c.loop-alloc.invariant in
+pub loop-update-preserved : goal.loop-update-preserved
+loop-update-preserved g c =
+    let i = c.loop-update.invariant in
     let o = c.in_ok-anchor.ensures in
     record {
       goes_on = GoesOn-trans _ _ _ i.goes_on o.goes_on;
@@ -28,8 +28,8 @@ loop-alloc-preserved g c =
 
 pub returns-clause-settled : goal.returns-clause-settled
 returns-clause-settled g c = λ s root a w st.
-    let i = c.loop-alloc.invariant in
-    let r = c.loop-alloc.rising in
+    let i = c.loop-update.invariant in
+    let r = c.loop-update.rising in
     let le : length r.weak.items ≤ length r.shifts.items =
-    omega (arith, c.len.ensures, c.len-in-loop-alloc.ensures, c.loop-alloc-test.false, r.shifts.ok.0, r.weak.ok.0) in
-    settled-between _ root c.loop-alloc.anchor r i.tidy.orderly le (i.settling s root a w st)
+    omega (arith, c.len.ensures, c.len-in-loop-update.ensures, c.loop-update-test.false, r.shifts.ok.0, r.weak.ok.0) in
+    settled-between _ root c.loop-update.anchor r i.tidy.orderly le (i.settling s root a w st)

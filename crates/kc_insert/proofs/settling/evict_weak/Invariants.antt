@@ -10,8 +10,8 @@ use Rattle.kc_insert.specs.Searching.{Widened}
 use Rattle.kc_insert.specs.Turns.{IsSettling}
 use Rattle.kc_insert.proofs.settling.evict_weak.Given as goal
 
-abbrev pub invariant-loop-alloc : goal.invariant-loop-alloc
-invariant-loop-alloc g l =
+abbrev pub invariant-loop-update : goal.invariant-loop-update
+invariant-loop-update g l =
     let v = g.V.View in
     record {
       goes_on : GoesOn (v.shown l.fn.view) (v.shown l.view);
@@ -23,5 +23,5 @@ invariant-loop-alloc g l =
           → IsSettling (search_with l.update l.level s) root l.rising l.anchor;
     }
 
-abbrev pub decreases-loop-alloc : goal.decreases-loop-alloc
-decreases-loop-alloc g l = (g.V.View.shown l.fn.view).size - length l.rising.shifts.items
+abbrev pub decreases-loop-update : goal.decreases-loop-update
+decreases-loop-update g l = (g.V.View.shown l.fn.view).size - length l.rising.shifts.items

@@ -1,8 +1,11 @@
 -- `w` leaves the queue as no candidate and its neighbours lose by it, which begins a settling; the evictions bring it to its end.
-use Rattle.std.proofs.Common.{◌≡◌, ◌∙◌, false, sym, ap, true≢false}
+use Rattle.std.proofs.Common.{◌≡◌, ◌∙◌, ℕ, List, false, sym, ap, subst, true≢false}
 use Rattle.std.proofs.lemmas.Result.{on_ok_weaker}
+use Rattle.kc_distinct.specs.Lists.{Distinct}
 use Rattle.kc_graph.proofs.RowsLemmas.{Distinct-from_increasing}
 use Rattle.kc_view.proofs.Keeping.{agreed}
+use Rattle.kc_insert.specs.Turns.{Loses}
+use Rattle.kc_insert.specs.declared.losing.Loss.TheVariants as loss
 use Rattle.kc_insert.specs.declared.rising.Mark.{Mark}
 use Rattle.kc_insert.proofs.Evicting.{stays-tidy, settled-now}
 use Rattle.kc_insert.proofs.Rows.{row-is}
@@ -10,7 +13,7 @@ use Rattle.kc_insert.proofs.Tidy.{leave-orderly, leave-tidy}
 use Rattle.kc_insert.proofs.settling.settle.Goals as goal
 
 pub lose_each-requires-clause-once : goal.lose_each-requires-clause-once
-lose_each-requires-clause-once g c = Distinct-from_increasing c.args.row.now c.requires.row.ascends
+lose_each-requires-clause-once g c = subst Distinct (sym c.deref.ensures.value) (Distinct-from_increasing c.args.row.now.items c.requires.row.ascends)
 
 pub lose_each-requires-clause-orderly : goal.lose_each-requires-clause-orderly
 lose_each-requires-clause-orderly g c =
@@ -35,9 +38,11 @@ returns-clause-settled g c =
     let r = c.requires in
     let l = c.in_ok-lose_each.ensures in
     let plain : c.past.result.is_candidate ≡ false = ap (λ (m : Mark). m.is_candidate) c.past.ensures in
+    let loses : Loses c.args.level loss.Settled c.args.row.now.items c.leave.new.self c.lose_each.new.rising =
+    subst (λ (xs : List ℕ). Loses c.args.level loss.Settled xs c.leave.new.self c.lose_each.new.rising) c.deref.ensures.value l.loses in
     on_ok_weaker c.evict_weak.result (λ settled s root a w few between.
     let first = agreed _ _ s c.evict_weak.ensures.goes_on.further a in
     settled s root a w
-    (settled-now _ root c.args.w c.past.result c.args.row.now c.args.rising.now c.leave.new.self c.lose_each.new.rising w r.tidy.orderly
-    l.orderly c.in_ok-leave.ensures plain l.loses r.turn r.first
-    (row-is _ s c.args.update c.args.w c.args.row.now first r.read r.has) few between)) c.evict_weak.ensures.settled
+    (settled-now _ root c.args.w c.past.result c.args.row.now.items c.args.rising.now c.leave.new.self c.lose_each.new.rising w r.tidy.orderly
+    l.orderly c.in_ok-leave.ensures plain loses r.turn r.first
+    (row-is _ s c.args.update c.args.w c.args.row.now.items first r.read r.has) few between)) c.evict_weak.ensures.settled

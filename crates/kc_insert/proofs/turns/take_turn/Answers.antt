@@ -54,97 +54,97 @@ within-level e n l m is few fits = omega arith
 first-there : (w : ℕ) (r : Rising) → r.turn < length r.queue.items → get_or r.queue.items r.turn 0 ≡ w → member w r.queue.items ≡ true
 first-there w r l first = subst (λ (y : ℕ). member y r.queue.items ≡ true) first (member-get_or r.queue.items r.turn 0 l)
 
-pub row_of-requires-clause-vertex : goal.row_of-requires-clause-vertex
-row_of-requires-clause-vertex g c =
+pub fill_row-requires-clause-vertex : goal.fill_row-requires-clause-vertex
+fill_row-requires-clause-vertex g c =
     let r : Rising = c.args.rising.now in
     let first : c.index-w.result.now ≡ get_or r.queue.items r.turn 0 = get_or_read r.queue.items _ _ c.requires.turn c.index-w.ensures 0 in
     c.requires.tidy.within c.index-w.result.now (first-there c.index-w.result.now r c.requires.turn (sym first))
 
 pub raise-requires-clause-read : goal.raise-requires-clause-read
 raise-requires-clause-read g c =
-    still_has_list (g.V.View.shown c.row_of.new.view).kept (g.V.View.shown c.look_ahead.new.view).kept c.index-w.result.now
-    c.look_ahead.ensures.goes_on.further c.in_ok-row.ensures.told.told
+    still_has_list (g.V.View.shown c.fill_row.new.view).kept (g.V.View.shown c.look_ahead.new.view).kept c.index-w.result.now
+    c.look_ahead.ensures.goes_on.further c.in_ok-fill_row.ensures.told.told
 
 pub raise-requires-clause-tidy : goal.raise-requires-clause-tidy
 raise-requires-clause-tidy g c =
     let r : Rising = c.args.rising.now in
     let w : ℕ = c.index-w.result.now in
     let first : w ≡ get_or r.queue.items r.turn 0 = get_or_read r.queue.items _ _ c.requires.turn c.index-w.ensures 0 in
-    let one = c.row_of.ensures.goes_on in
+    let one = c.fill_row.ensures.goes_on in
     let two = c.look_ahead.ensures.goes_on in (
       c.args.update,
-      looked-tidy c.args.update (g.V.View.shown c.args.view.now) (g.V.View.shown c.row_of.new.view) (g.V.View.shown c.look_ahead.new.view) r
+      looked-tidy c.args.update (g.V.View.shown c.args.view.now) (g.V.View.shown c.fill_row.new.view) (g.V.View.shown c.look_ahead.new.view) r
           w c.requires.tidy (first-there w r c.requires.turn (sym first))
-          one.lasts.same_size two.lasts.same_size one.further two.further c.in_ok-row.ensures.asks c.in_ok-ahead.ensures.asks,
+          one.lasts.same_size two.lasts.same_size one.further two.further c.in_ok-fill_row.ensures.asks c.in_ok-look_ahead.ensures.asks,
     )
 
 pub returns-then-saturating_add-level-clause-goes_on : goal.returns-then-saturating_add-level-clause-goes_on
 returns-then-saturating_add-level-clause-goes_on g c =
-    GoesOn-trans _ _ _ (GoesOn-trans _ _ _ c.row_of.ensures.goes_on c.look_ahead.ensures.goes_on) c.raise.ensures.goes_on
+    GoesOn-trans _ _ _ (GoesOn-trans _ _ _ c.fill_row.ensures.goes_on c.look_ahead.ensures.goes_on) c.raise.ensures.goes_on
 
 pub returns-then-saturating_add-level-clause-tidy : goal.returns-then-saturating_add-level-clause-tidy
 returns-then-saturating_add-level-clause-tidy g c =
     let r : Rising = c.args.rising.now in
     let w : ℕ = c.index-w.result.now in
     let first : w ≡ get_or r.queue.items r.turn 0 = get_or_read r.queue.items _ _ c.requires.turn c.index-w.ensures 0 in
-    let one = c.row_of.ensures.goes_on in
+    let one = c.fill_row.ensures.goes_on in
     let two = c.look_ahead.ensures.goes_on in
     let tidy =
-    looked-tidy c.args.update (g.V.View.shown c.args.view.now) (g.V.View.shown c.row_of.new.view) (g.V.View.shown c.look_ahead.new.view)
+    looked-tidy c.args.update (g.V.View.shown c.args.view.now) (g.V.View.shown c.fill_row.new.view) (g.V.View.shown c.look_ahead.new.view)
     r w c.requires.tidy (first-there w r c.requires.turn (sym first))
-    one.lasts.same_size two.lasts.same_size one.further two.further c.in_ok-row.ensures.asks c.in_ok-ahead.ensures.asks in
+    one.lasts.same_size two.lasts.same_size one.further two.further c.in_ok-fill_row.ensures.asks c.in_ok-look_ahead.ensures.asks in
     on_ok_weaker c.raise.result (λ still. still c.args.update tidy) c.raise.ensures.tidy
 
 pub returns-then-saturating_add-level-clause-turns : goal.returns-then-saturating_add-level-clause-turns
 returns-then-saturating_add-level-clause-turns g c = on_ok_weaker c.raise.result (λ raised. λ s root lv a wd b.
     let two = agreed _ _ s c.raise.ensures.goes_on.further a in
     let ahead-is =
-    looked-ahead (g.V.View.shown c.row_of.new.view).kept (g.V.View.shown c.look_ahead.new.view).kept s c.args.update c.args.level
-    (g.V.View.shown c.row_of.new.view).size c.index-w.result.now c.deref.result.now c.in_ok-row.row.items c.in_ok-ahead.ahead
-    c.look_ahead.ensures.goes_on.further two lv c.in_ok-row.ensures.told.told c.in_ok-row.ensures.row c.deref.ensures.value
-    c.in_ok-row.ensures.has (c.in_ok-ahead.ensures.count s two) (c.in_ok-ahead.ensures.next s two) in
+    looked-ahead (g.V.View.shown c.fill_row.new.view).kept (g.V.View.shown c.look_ahead.new.view).kept s c.args.update c.args.level
+    (g.V.View.shown c.fill_row.new.view).size c.index-w.result.now c.deref.result.now c.fill_row.new.row.items c.look_ahead.new.ahead
+    c.look_ahead.ensures.goes_on.further two lv c.in_ok-fill_row.ensures.told.told c.in_ok-fill_row.ensures.row c.deref.ensures.value
+    c.in_ok-fill_row.ensures.has (c.in_ok-look_ahead.ensures.count s two) (c.in_ok-look_ahead.ensures.next s two) in
     raised c.args.update c.args.level s root a wd
-    (more-than-level c.earlier_of-earlier.result c.in_ok-ahead.ahead.count c.args.level c.saturating_add.result c.saturating_add.ensures
+    (more-than-level c.earlier_of-earlier.result c.look_ahead.new.ahead.count c.args.level c.saturating_add.result c.saturating_add.ensures
     c.if-saturating_add-level.true) ahead-is b) c.raise.ensures.raised
 
 pub settle-requires-clause-read : goal.settle-requires-clause-read
 settle-requires-clause-read g c =
-    still_has_list (g.V.View.shown c.row_of.new.view).kept (g.V.View.shown c.look_ahead.new.view).kept c.index-w.result.now
-    c.look_ahead.ensures.goes_on.further c.in_ok-row.ensures.told.told
+    still_has_list (g.V.View.shown c.fill_row.new.view).kept (g.V.View.shown c.look_ahead.new.view).kept c.index-w.result.now
+    c.look_ahead.ensures.goes_on.further c.in_ok-fill_row.ensures.told.told
 
 pub settle-requires-clause-has : goal.settle-requires-clause-has
 settle-requires-clause-has g c = λ y.
     let w : ℕ = c.index-w.result.now in
     let same =
-    same_list (g.V.View.shown c.row_of.new.view).kept (g.V.View.shown c.look_ahead.new.view).kept w c.look_ahead.ensures.goes_on.further
-    c.in_ok-row.ensures.told.told in
-    ap (member y) c.deref-then-earlier-gt0.ensures.value ∙ (c.in_ok-row.ensures.has y ∙ ap (λ xs. member y xs || is_added c.args.update w y) (sym same))
+    same_list (g.V.View.shown c.fill_row.new.view).kept (g.V.View.shown c.look_ahead.new.view).kept w c.look_ahead.ensures.goes_on.further
+    c.in_ok-fill_row.ensures.told.told in
+    c.in_ok-fill_row.ensures.has y ∙ ap (λ xs. member y xs || is_added c.args.update w y) (sym same)
 
 pub settle-requires-clause-tidy : goal.settle-requires-clause-tidy
 settle-requires-clause-tidy g c =
     let r : Rising = c.args.rising.now in
     let w : ℕ = c.index-w.result.now in
     let first : w ≡ get_or r.queue.items r.turn 0 = get_or_read r.queue.items _ _ c.requires.turn c.index-w.ensures 0 in
-    let one = c.row_of.ensures.goes_on in
+    let one = c.fill_row.ensures.goes_on in
     let two = c.look_ahead.ensures.goes_on in
-    looked-tidy c.args.update (g.V.View.shown c.args.view.now) (g.V.View.shown c.row_of.new.view) (g.V.View.shown c.look_ahead.new.view) r w
+    looked-tidy c.args.update (g.V.View.shown c.args.view.now) (g.V.View.shown c.fill_row.new.view) (g.V.View.shown c.look_ahead.new.view) r w
     c.requires.tidy (first-there w r c.requires.turn (sym first))
-    one.lasts.same_size two.lasts.same_size one.further two.further c.in_ok-row.ensures.asks c.in_ok-ahead.ensures.asks
+    one.lasts.same_size two.lasts.same_size one.further two.further c.in_ok-fill_row.ensures.asks c.in_ok-look_ahead.ensures.asks
 
 pub returns-then-earlier-gt0-clause-goes_on : goal.returns-then-earlier-gt0-clause-goes_on
 returns-then-earlier-gt0-clause-goes_on g c =
-    GoesOn-trans _ _ _ (GoesOn-trans _ _ _ c.row_of.ensures.goes_on c.look_ahead.ensures.goes_on) c.settle.ensures.goes_on
+    GoesOn-trans _ _ _ (GoesOn-trans _ _ _ c.fill_row.ensures.goes_on c.look_ahead.ensures.goes_on) c.settle.ensures.goes_on
 
 pub returns-then-earlier-gt0-clause-turns : goal.returns-then-earlier-gt0-clause-turns
 returns-then-earlier-gt0-clause-turns g c = on_ok_weaker c.settle.result (λ settled. λ s root lv a wd b.
     let two = agreed _ _ s c.settle.ensures.goes_on.further a in
     let ahead-is =
-    looked-ahead (g.V.View.shown c.row_of.new.view).kept (g.V.View.shown c.look_ahead.new.view).kept s c.args.update c.args.level
-    (g.V.View.shown c.row_of.new.view).size c.index-w.result.now c.deref.result.now c.in_ok-row.row.items c.in_ok-ahead.ahead
-    c.look_ahead.ensures.goes_on.further two lv c.in_ok-row.ensures.told.told c.in_ok-row.ensures.row c.deref.ensures.value
-    c.in_ok-row.ensures.has (c.in_ok-ahead.ensures.count s two) (c.in_ok-ahead.ensures.next s two) in
+    looked-ahead (g.V.View.shown c.fill_row.new.view).kept (g.V.View.shown c.look_ahead.new.view).kept s c.args.update c.args.level
+    (g.V.View.shown c.fill_row.new.view).size c.index-w.result.now c.deref.result.now c.fill_row.new.row.items c.look_ahead.new.ahead
+    c.look_ahead.ensures.goes_on.further two lv c.in_ok-fill_row.ensures.told.told c.in_ok-fill_row.ensures.row c.deref.ensures.value
+    c.in_ok-fill_row.ensures.has (c.in_ok-look_ahead.ensures.count s two) (c.in_ok-look_ahead.ensures.next s two) in
     let few =
-    within-level c.earlier_of-earlier.result c.in_ok-ahead.ahead.count c.args.level c.saturating_add.result c.saturating_add.ensures
+    within-level c.earlier_of-earlier.result c.look_ahead.new.ahead.count c.args.level c.saturating_add.result c.saturating_add.ensures
     c.if-saturating_add-level.false c.ranges.level.fits in
     settled s root a wd (omega (arith, few, ahead-is.count, c.earlier_of-earlier.ensures)) b) c.settle.ensures.settled
 
@@ -153,16 +153,16 @@ returns-clause-tidy g c =
     let r : Rising = c.args.rising.now in
     let w : ℕ = c.index-w.result.now in
     let first : w ≡ get_or r.queue.items r.turn 0 = get_or_read r.queue.items _ _ c.requires.turn c.index-w.ensures 0 in
-    let one = c.row_of.ensures.goes_on in
+    let one = c.fill_row.ensures.goes_on in
     let two = c.look_ahead.ensures.goes_on in
     let tidy =
-    looked-tidy c.args.update (g.V.View.shown c.args.view.now) (g.V.View.shown c.row_of.new.view) (g.V.View.shown c.look_ahead.new.view)
+    looked-tidy c.args.update (g.V.View.shown c.args.view.now) (g.V.View.shown c.fill_row.new.view) (g.V.View.shown c.look_ahead.new.view)
     r w c.requires.tidy (first-there w r c.requires.turn (sym first))
-    one.lasts.same_size two.lasts.same_size one.further two.further c.in_ok-row.ensures.asks c.in_ok-ahead.ensures.asks in
+    one.lasts.same_size two.lasts.same_size one.further two.further c.in_ok-fill_row.ensures.asks c.in_ok-look_ahead.ensures.asks in
     leave-tidy c.args.update (g.V.View.shown c.look_ahead.new.view) w
     (record { earlier = 0; later = 0; turn = 0; is_candidate = false; is_weak = false }) r c.leave.new.self tidy
     (subst (λ (m : Mark). Leaves w m r c.leave.new.self) c.past.ensures c.in_ok-leave.ensures) c.requires.turn (sym first) (λ e. absurd (false≢true e)) refl
-    (still_has_list (g.V.View.shown c.row_of.new.view).kept (g.V.View.shown c.look_ahead.new.view).kept w two.further c.in_ok-row.ensures.told.told)
+    (still_has_list (g.V.View.shown c.fill_row.new.view).kept (g.V.View.shown c.look_ahead.new.view).kept w two.further c.in_ok-fill_row.ensures.told.told)
 
 pub returns-clause-turns : goal.returns-clause-turns
 returns-clause-turns g c = λ s root lv a wd b.
@@ -170,12 +170,12 @@ returns-clause-turns g c = λ s root lv a wd b.
     let w : ℕ = c.index-w.result.now in
     let first : w ≡ get_or r.queue.items r.turn 0 = get_or_read r.queue.items _ _ c.requires.turn c.index-w.ensures 0 in
     let ahead-is =
-    looked-ahead (g.V.View.shown c.row_of.new.view).kept (g.V.View.shown c.look_ahead.new.view).kept s c.args.update c.args.level
-    (g.V.View.shown c.row_of.new.view).size w c.deref.result.now c.in_ok-row.row.items c.in_ok-ahead.ahead
-    c.look_ahead.ensures.goes_on.further a lv c.in_ok-row.ensures.told.told c.in_ok-row.ensures.row c.deref.ensures.value
-    c.in_ok-row.ensures.has (c.in_ok-ahead.ensures.count s a) (c.in_ok-ahead.ensures.next s a) in
+    looked-ahead (g.V.View.shown c.fill_row.new.view).kept (g.V.View.shown c.look_ahead.new.view).kept s c.args.update c.args.level
+    (g.V.View.shown c.fill_row.new.view).size w c.deref.result.now c.fill_row.new.row.items c.look_ahead.new.ahead
+    c.look_ahead.ensures.goes_on.further a lv c.in_ok-fill_row.ensures.told.told c.in_ok-fill_row.ensures.row c.deref.ensures.value
+    c.in_ok-fill_row.ensures.has (c.in_ok-look_ahead.ensures.count s a) (c.in_ok-look_ahead.ensures.next s a) in
     let few =
-    within-level c.earlier_of-earlier.result c.in_ok-ahead.ahead.count c.args.level c.saturating_add.result c.saturating_add.ensures
+    within-level c.earlier_of-earlier.result c.look_ahead.new.ahead.count c.args.level c.saturating_add.result c.saturating_add.ensures
     c.if-saturating_add-level.false c.ranges.level.fits in
     pass-between (search_with c.args.update c.args.level s) root w r c.leave.new.self wd c.requires.tidy.orderly c.requires.turn (sym first)
     (subst (λ (m : Mark). Leaves w m r c.leave.new.self) c.past.ensures c.in_ok-leave.ensures) (omega (arith, few, ahead-is.count))
