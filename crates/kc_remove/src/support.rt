@@ -1,5 +1,5 @@
 //! The support of a vertex, counted as far as needed: neighbours that are as high, without the edge that goes and those that are gone.
-ghost use Rattle.std.specs.Prelude.{◌≡◌, ◌≢◌, ◌<◌, ◌≤◌, ◌++◌, ◌-◌, ◌⊎◌, ℕ, Bool, [], ◌∷◌, true, false, length, take, slice_index, IfOk, OnOk, IfErr};
+ghost use Rattle.std.specs.Prelude.{◌≡◌, ◌≢◌, ◌<◌, ◌≤◌, ℕ, Bool, true, false, length, take, slice_index, IfOk, OnOk, IfErr};
 ghost use Rattle.kc_distinct.specs.Lists.{member};
 ghost use Rattle.kc_graph.specs.SimpleGraph.{adjacent};
 ghost use Rattle.kc_graph.specs.Edges.{without_edge};

@@ -1,5 +1,5 @@
 //! The turns of the fallen: what each takes from its neighbours.
-ghost use Rattle.std.specs.Prelude.{◌≡◌, ◌≢◌, ◌<◌, ◌≤◌, ◌++◌, ◌+◌, ℕ, List, Bool, [], ◌∷◌, true, false, length, slice_index, IfOk, OnOk, IfErr};
+ghost use Rattle.std.specs.Prelude.{◌≡◌, ◌<◌, ◌++◌, ◌+◌, ℕ, List, [], ◌∷◌, true, false, length, slice_index, OnOk, IfErr};
 ghost use Rattle.kc_distinct.specs.Lists.{member};
 ghost use Rattle.kc_graph.specs.Lawful.{Ranked};
 ghost use Rattle.kc_view.specs.Answers.{Agrees, has_list, list_of};
