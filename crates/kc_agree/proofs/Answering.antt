@@ -1,8 +1,9 @@
 -- What a load and a comparison tell is one answer more, and what the first stale stamp tells of the state.
-use Rattle.std.proofs.Common.{◌≡◌, ◌≢◌, ℕ, suc, ◌<◌, ◌≤◌, Bool, true, false, List, [], ◌∷◌, ◌++◌, get_or, refl, subst, inl, inr, arith}
+use Rattle.std.proofs.Common.{◌≡◌, ◌≢◌, ℕ, ◌<◌, ◌≤◌, Bool, true, false, List, get_or, refl, inl, inr, arith}
 use Rattle.std.specs.Prelude.{All}
 use Rattle.std.proofs.lemmas.Bool.{true≢false, false≢true}
 use mathlib.Core.List.{IsPrefix}
+use Rattle.kc_distinct.proofs.Shared.{All-middle}
 use Rattle.kc_graph.specs.SimpleGraph.{SimpleGraph}
 use Rattle.kc_graph.specs.declared.used.UsedEdges.{UsedEdges}
 use Rattle.kc_graph.specs.declared.used.UsedPlace.{UsedPlace}
@@ -58,14 +59,6 @@ all_current table opened stamps log edge_stamps place_stamps a present read curr
       omega (arith, current.1 i d l, present.places v (read.places i d l).vertex);
 }
 
--- what holds of all holds of one in the middle
-middle : {A : Type 0} (P : A → Type 0) (front back : List A) (x : A) (xs : List A) → xs ≡ front ++ x ∷ back → All P xs → P x
-middle {A} P front back x xs is all = at front (subst (All P) is all)
-  where
-    at : (front : List A) → All P (front ++ x ∷ back) → P x
-    at [] h = h 0 x (omega arith)
-    at (y ∷ ys) h = at ys (λ i d l. h (suc i) d (omega (arith, l)))
-
 -- where a stamp is stale, the answers are not those of now
 pub not_current : (table : TableName) (opened : SimpleGraph) (stamps : List ℕ) (log : List Event) (edge_stamps place_stamps : List ℕ)
     (a : Answers) (s : Stale) → ArePresent table opened stamps log edge_stamps place_stamps → WereRead table opened log a
@@ -74,12 +67,12 @@ not_current table opened stamps log edge_stamps place_stamps a s present read st
   | inl f ↦
       let Both : UsedEdges → Type 0 = λ e. (e.vertex < table.shape.fixed) × (edge_stamp table opened stamps log e.vertex ≤ e.at) in
       let both : All Both a.edges = λ i d l. ((read.edges i d l).vertex, current.edges i d l) in
-      let e = middle Both f.front f.back f.list a.edges f.is both in
+      let e = All-middle Both f.front f.back f.list a.edges f.is both in
       omega (arith, e.1, present.edges f.list.vertex e.0, f.less)
   | inr (lists, f) ↦
       let Both : UsedPlace → Type 0 = λ p. (p.vertex < table.shape.fixed) × (place_stamp table log p.vertex ≤ p.stamp) in
       let both : All Both a.places = λ i d l. ((read.places i d l).vertex, current.places i d l) in
-      let p = middle Both f.front f.back f.place a.places f.is both in
+      let p = All-middle Both f.front f.back f.place a.places f.is both in
       omega (arith, p.1, present.places f.place.vertex p.0, f.less)
 ]
 

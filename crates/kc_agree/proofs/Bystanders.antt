@@ -2,9 +2,11 @@
 use Rattle.std.proofs.Common.{◌≡◌, ◌≢◌, ◌↔◌, ltb-true, ℕ, suc, ◌+◌, ◌<◌, ◌≤◌, Bool, true, false, cond, List, [], ◌∷◌, ◌++◌, eqb, ltb, refl, sym, ap}
 use Rattle.std.proofs.Common.{ap₂, ◌∙◌, subst, inl, inr, arith, lt-ltb, le-ltb, eqb-true, ne_eqb, append_assoc, append-nil}
 use Rattle.std.specs.List.{filter}
-use Rattle.std.proofs.lemmas.Bool.{cases_Bool, cases_lt, true≢false}
+use Rattle.std.proofs.lemmas.Bool.{cases_Bool, true≢false}
 use mathlib.Core.List.{IsPrefix}
 use Rattle.kc_distinct.specs.Lists.{member, without, right_after, place_of}
+use Rattle.kc_distinct.proofs.Shared.{ltb-next}
+use Rattle.kc_distinct.proofs.Members.{member-without_other}
 use Rattle.kc_words.specs.declared.note.NoteWord.{NoteWord}
 use Rattle.kc_words.specs.declared.note.NoteWord.TheVariants.{Nothing, Enter, Put, Take}
 use Rattle.kc_table.specs.declared.view.Event.{Event}
@@ -17,13 +19,6 @@ use Rattle.kc_agree.specs.Moved.{Announces, Moves, StaysPut}
 use Rattle.kc_agree.specs.Stamps.{made_by, place_stamp}
 use Rattle.kc_agree.specs.States.{IsAtRest}
 use Rattle.kc_agree.proofs.Unmoved.{stays_put, stays_since}
-
--- the next numbers of two compare as they do
-both_next : (a b : ℕ) → ltb (suc a) (suc b) ≡ ltb a b
-both_next a b = elim (cases_lt a b) [
-  | inl l ↦ lt-ltb (suc a) (suc b) (omega arith) ∙ sym (lt-ltb a b l)
-  | inr l ↦ le-ltb (suc a) (suc b) (omega arith) ∙ sym (le-ltb a b l)
-]
 
 -- whether x stands before y
 abbrev pub first_of_two : ℕ → ℕ → List ℕ → Bool
@@ -38,7 +33,7 @@ front_by : (a b : Bool) (i j k l : ℕ) → ltb i j ≡ ltb k l → ltb (behind 
 front_by true true i j k l h = refl
 front_by true false i j k l h = lt-ltb 0 (suc j) (omega arith) ∙ sym (lt-ltb 0 (suc l) (omega arith))
 front_by false true i j k l h = le-ltb (suc i) 0 (omega arith) ∙ sym (le-ltb (suc k) 0 (omega arith))
-front_by false false i j k l h = both_next i j ∙ (h ∙ sym (both_next k l))
+front_by false false i j k l h = ltb-next i j ∙ (h ∙ sym (ltb-next k l))
 
 -- the same item at the front of two lists leaves how two items stand in both
 front : (x y w : ℕ) (l l' : List ℕ) → first_of_two x y l ≡ first_of_two x y l' → first_of_two x y (w ∷ l) ≡ first_of_two x y (w ∷ l')
@@ -48,7 +43,7 @@ front x y w l l' h = front_by (eqb x w) (eqb y w) (place_of x l) (place_of y l) 
 skip : (x y z : ℕ) (l : List ℕ) → x ≢ z → y ≢ z → first_of_two x y (z ∷ l) ≡ first_of_two x y l
 skip x y z l dx dy =
     ap₂ (λ (a b : Bool). ltb (behind a (place_of x l)) (behind b (place_of y l))) (ne_eqb x z dx) (ne_eqb y z dy)
-    ∙ both_next (place_of x l) (place_of y l)
+    ∙ ltb-next (place_of x l) (place_of y l)
 
 -- taking a third item leaves how two stand
 without-order : (x y z : ℕ) (l : List ℕ) → x ≢ z → y ≢ z → first_of_two x y (without z l) ≡ first_of_two x y l
@@ -77,15 +72,6 @@ filter-order keep x y (w ∷ l) kx ky =
     elim (keep w) as (λ b. keep w ≡ b → first_of_two x y (cond b (w ∷ filter keep l) (filter keep l)) ≡ first_of_two x y (w ∷ l)) [
       | true ↦ λ _. front x y w (filter keep l) l rest
       | false ↦ λ f. rest ∙ sym (skip x y w l (λ e. true≢false (sym kx ∙ (ap keep e ∙ f))) (λ e. true≢false (sym ky ∙ (ap keep e ∙ f))))
-    ] refl
-
--- whether an item is in the list, where another is taken
-without-same : (x z : ℕ) (l : List ℕ) → x ≢ z → member x (without z l) ≡ member x l
-without-same x z [] d = refl
-without-same x z (w ∷ l) d =
-    elim (eqb z w) as (λ b. eqb z w ≡ b → member x (cond b (without z l) (w ∷ without z l)) ≡ member x (w ∷ l)) [
-      | true ↦ λ t. without-same x z l d ∙ sym (rw (ne_eqb x w (λ e. d (e ∙ sym (eqb-true z w t)))) refl)
-      | false ↦ λ _. rw (without-same x z l d) refl
     ] refl
 
 -- whether an item is in the list, where another is put
@@ -125,8 +111,8 @@ module _ (x y : ℕ) where
             let dx : x ≢ z = λ e. hx (sym e) (omega (arith, is, e)) in
             let dy : y ≢ z = λ e. hy (sym e) (omega (arith, is, e)) in record {
               order = right_after-order x y z p (without z list) dx dy ∙ without-order x y z list dx dy;
-              first = right_after-same x z p (without z list) dx ∙ without-same x z list dx;
-              second = right_after-same y z p (without z list) dy ∙ without-same y z list dy;
+              first = right_after-same x z p (without z list) dx ∙ member-without_other x z list dx;
+              second = right_after-same y z p (without z list) dy ∙ member-without_other y z list dy;
             }
         | false ↦ λ _. same_self list
       ] refl
@@ -137,8 +123,8 @@ module _ (x y : ℕ) where
             let dx : x ≢ z = λ e. hx (sym e) (omega (arith, is, e)) in
             let dy : y ≢ z = λ e. hy (sym e) (omega (arith, is, e)) in record {
               order = without-order x y z list dx dy;
-              first = without-same x z list dx;
-              second = without-same y z list dy;
+              first = member-without_other x z list dx;
+              second = member-without_other y z list dy;
             }
         | false ↦ λ _. same_self list
       ] refl

@@ -5,8 +5,9 @@ use Rattle.std.proofs.lemmas.Bool.{false_from_ne_true, false≢true}
 use Rattle.std.proofs.lemmas.List.{length-map}
 use Rattle.std.proofs.lemmas.List.Elements.{All-contains, All-head, All-tail, All-weaker}
 use Rattle.std.proofs.lemmas.List.Sums.{sum_by-cons}
-use Rattle.kc_distinct.specs.Lists.{Distinct, below, member}
-use Rattle.kc_distinct.proofs.Counting.{Distinct-below, below-member, count-all, count-le, length-below}
+use Rattle.kc_distinct.specs.Lists.{Distinct, below, member, times}
+use Rattle.kc_distinct.proofs.Counting.{Distinct-below, below-member, count-all, count-le, length-below, distinct_times, member_times, times_distinct}
+use Rattle.kc_distinct.proofs.Counting.{times_member}
 use Rattle.kc_distinct.proofs.Members.{below_bound, member-cases, member-head, member-tail}
 use Rattle.kc_graph.specs.SimpleGraph.{SimpleGraph}
 use Rattle.kc_graph.specs.declared.update.Update.{Update}
@@ -16,9 +17,7 @@ use Rattle.kc_table.specs.Log.{PassSeen}
 use Rattle.kc_table.proofs.Prefixes.{prefix_self}
 use Rattle.kc_journal.specs.Journals.{Journalled, Stands}
 use Rattle.kc_journal.specs.declared.answer.Receipt.{Receipt}
-use Rattle.kc_queue.specs.Dealt.{times}
 use Rattle.kc_queue.specs.Shares.{IsWhole}
-use Rattle.kc_queue.proofs.Counts.{distinct_times, member_times, times_distinct, times_member}
 use Rattle.kc_stripes.specs.Records.{Opened}
 use Rattle.kc_shared.specs.States.{opened_by}
 use Rattle.kc_shared.specs.declared.shared.TheConstants.{MISSES}

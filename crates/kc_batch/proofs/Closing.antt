@@ -9,9 +9,10 @@ use Rattle.std.proofs.lemmas.List.Elements.{All-append, All-cons, All-contains, 
 use Rattle.std.proofs.lemmas.List.Elements.{All-tail, All-weaker, Contains-append_left, Contains-append_right}
 use Rattle.std.proofs.lemmas.List.Folds.{flat_map-map}
 use Rattle.std.proofs.lemmas.List.Sums.{get_or-le-sum_by, sum_by-append, sum_by-cons}
-use Rattle.kc_distinct.specs.Lists.{Distinct, member}
+use Rattle.kc_distinct.specs.Lists.{Distinct, member, times}
 use Rattle.kc_distinct.proofs.Members.{below_bound, member-cases, member-head}
 use Rattle.kc_distinct.proofs.Shared.{All-front}
+use Rattle.kc_distinct.proofs.Counting.{member_times, times_distinct, times_member}
 use Rattle.kc_graph.specs.declared.update.Update.{Update}
 use Rattle.kc_table.specs.declared.view.Event.{Event}
 use Rattle.kc_table.specs.Log.{PassSeen, Seen, TableName}
@@ -19,10 +20,9 @@ use Rattle.kc_journal.specs.Journals.{Journalled, Renews, Stands, all_seen, fres
 use Rattle.kc_journal.proofs.AfterEntry.{number-is, size-is}
 use Rattle.kc_levels.specs.declared.levels.TheConstants.{LAST_NUMBER}
 use Rattle.kc_journal.specs.declared.answer.Receipt.{Receipt}
-use Rattle.kc_queue.specs.Dealt.{times}
 use Rattle.kc_queue.specs.Shares.{Consuming, Filled, IsShare, IsWhole}
 use Rattle.kc_queue.specs.declared.consumer.TheConstants.{PARTS}
-use Rattle.kc_queue.proofs.Counts.{member_times, times-append, times_distinct, times_member}
+use Rattle.kc_queue.proofs.Counts.{times-append}
 use Rattle.kc_stripes.specs.Records.{Opened, opened_with}
 use Rattle.kc_shared.specs.States.{Parted, opened_by}
 use Rattle.kc_shared.specs.declared.shared.TheConstants.{MISSES}

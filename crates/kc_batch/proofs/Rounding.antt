@@ -14,7 +14,7 @@ use Rattle.kc_table.specs.Log.{Seen, TableName}
 use Rattle.kc_table.proofs.Stamps.{number-grows}
 use Rattle.kc_table.proofs.Prefixes.{prefix_self, prefix_trans}
 use Rattle.kc_distinct.proofs.Shared.{All-end, All-front}
-use Rattle.kc_queue.specs.Dealt.{times}
+use Rattle.kc_distinct.specs.Lists.{times}
 use Rattle.kc_queue.specs.Shares.{Consuming, Filled}
 use Rattle.kc_queue.proofs.Counts.{times-append}
 use Rattle.kc_journal.specs.Journals.{Journalled, Stands}

@@ -1,5 +1,5 @@
 -- What a receipt tells of a table's log it tells of the run: between two moments of a journal in one table.
-use Rattle.std.proofs.Common.{◌≡◌, ℕ, ◌+◌, ◌<◌, ◌≤◌, List, [], ◌∷◌, ◌++◌, length, get_or, take, drop, refl, sym, ap, ◌∙◌, subst, arith, append_assoc}
+use Rattle.std.proofs.Common.{◌≡◌, ℕ, ◌+◌, ◌<◌, ◌≤◌, List, ◌∷◌, ◌++◌, length, get_or, take, drop, sym, ap, ◌∙◌, subst, arith, append_assoc}
 use Rattle.std.proofs.Common.{length-append}
 use mathlib.Core.List.{IsPrefix}
 use Rattle.std.proofs.lemmas.List.{drop_more, length-take-le, take-append-drop}
@@ -7,9 +7,9 @@ use Rattle.kc_graph.specs.SimpleGraph.{SimpleGraph}
 use Rattle.kc_graph.specs.declared.update.Update.{Update}
 use Rattle.kc_table.specs.declared.entry.Entry.{Entry}
 use Rattle.kc_table.specs.declared.view.Event.{Event}
-use Rattle.kc_table.specs.Edges.{after_entries, after_entry}
+use Rattle.kc_table.specs.Edges.{after_entries}
 use Rattle.kc_table.specs.Log.{TableName}
-use Rattle.kc_table.proofs.LegalLogs.{entries-prefix}
+use Rattle.kc_table.proofs.LegalLogs.{entries-prefix, after_entries-append}
 use Rattle.kc_table.proofs.Prefixes.{prefix_trans}
 use Rattle.kc_table.proofs.Stamps.{number-grows}
 use Rattle.kc_agree.specs.Stamps.{changes_graph, made_by, number_of}
@@ -93,11 +93,6 @@ receipt_of-earlier started entries first batch from before receipt le h = record
   later = omega (arith, h.later);
   applied = h.applied;
 }
-
--- the graph after two lists of entries is that of the second after that of the first
-pub after_entries-append : (g : SimpleGraph) (es fs : List Entry) → after_entries g (es ++ fs) ≡ after_entries (after_entries g es) fs
-after_entries-append g [] fs = refl
-after_entries-append g (e ∷ es) fs = after_entries-append (after_entry g e) es fs
 
 -- The entries of the table before this one are those that the run had before the table, and the graph after them is that after the same
 -- entries of the run.

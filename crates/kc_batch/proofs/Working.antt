@@ -4,13 +4,13 @@ use Rattle.std.proofs.Common.{inl, inr, refl, sym, ap, ◌∙◌, subst, arith, 
 use mathlib.Core.List.{IsPrefix}
 use Rattle.std.proofs.lemmas.List.{map-append}
 use Rattle.std.proofs.lemmas.List.Elements.{All-append, All-cons, All-nil, All-weaker}
+use Rattle.kc_distinct.specs.Lists.{times}
 use Rattle.kc_graph.specs.declared.update.Update.{Update}
 use Rattle.kc_table.specs.declared.view.Event.{Event}
 use Rattle.kc_table.specs.Legal.{Legal}
 use Rattle.kc_table.specs.Log.{Seen}
 use Rattle.kc_table.proofs.Prefixes.{prefix_self, prefix_trans}
 use Rattle.kc_journal.specs.declared.answer.Receipt.{Receipt}
-use Rattle.kc_queue.specs.Dealt.{times}
 use Rattle.kc_queue.specs.Shares.{Consuming}
 use Rattle.kc_queue.proofs.Counts.{times-append}
 use Rattle.kc_stripes.specs.Records.{Opened}

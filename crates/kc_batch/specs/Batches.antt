@@ -1,12 +1,12 @@
 -- What a batch leaves behind.
 use Rattle.std.specs.Prelude.{◌≡◌, ◌<◌, ◌≤◌, ◌+◌, ◌⊎◌, ⊤, ℕ, List, [], ◌∷◌, ◌++◌, All, Contains, length, map, slice_index_or, sum_by}
 use Rattle.std.specs.List.{flat_map}
+use Rattle.kc_distinct.specs.Lists.{times}
 use Rattle.kc_graph.specs.declared.update.Update.{Update}
 use Rattle.kc_table.specs.declared.entry.Entry.{Entry}
 use Rattle.kc_table.specs.Log.{PassSeen, TableName}
 use Rattle.kc_journal.specs.Journals.{Journalled}
 use Rattle.kc_journal.specs.declared.answer.Receipt.{Receipt}
-use Rattle.kc_queue.specs.Dealt.{times}
 use Rattle.kc_queue.specs.Shares.{Consuming, Filled, IsShare}
 use Rattle.kc_queue.specs.declared.consumer.TheConstants.{PARTS}
 use Rattle.kc_shared.specs.States.{opened_by}

@@ -1,9 +1,9 @@
 -- What contracts see of a worker's desk, and how what was taken is counted.
 use Rattle.std.specs.Prelude.{◌<◌, ◌+◌, ⊤, ℕ, List, [], ◌∷◌, ◌++◌, map}
 use Rattle.std.specs.List.{flat_map}
+use Rattle.kc_distinct.specs.Lists.{times}
 use Rattle.kc_table.specs.Log.{Seen}
 use Rattle.kc_journal.specs.declared.answer.Receipt.{Receipt}
-use Rattle.kc_queue.specs.Dealt.{times}
 use Rattle.kc_workers.specs.declared.done.Done.{Done}
 use Rattle.kc_batch.specs.Receipts.{told_indices}
 use Rattle.kc_batch.specs.declared.left.Left.{Left}

@@ -2,6 +2,7 @@
 use Rattle.std.specs.Prelude.{◌≡◌, ◌<◌, ◌≤◌, ◌+◌, ◌⊎◌, ⊤, ℕ, List, [], ◌∷◌, ◌++◌, All, Contains, None, Some, Result, Ok, Err, length, sum_by}
 use Rattle.std.specs.List.{flat_map}
 use mathlib.Core.List.{IsPrefix}
+use Rattle.kc_distinct.specs.Lists.{times}
 use Rattle.kc_graph.specs.declared.update.Update.{Update}
 use Rattle.kc_table.specs.declared.entry.Entry.{Entry}
 use Rattle.kc_table.specs.declared.view.Event.{Event}
@@ -12,7 +13,6 @@ use Rattle.kc_agree.specs.Stamps.{changes_graph, made_by, number_of}
 use Rattle.kc_levels.specs.declared.levels.TheConstants.{LAST_NUMBER}
 use Rattle.kc_journal.specs.Entering.{entry_of}
 use Rattle.kc_journal.specs.declared.answer.Receipt.{Receipt}
-use Rattle.kc_queue.specs.Dealt.{times}
 use Rattle.kc_queue.specs.Shares.{Consuming, Filled}
 use Rattle.kc_stripes.specs.Records.{Opened}
 use Rattle.kc_shared.specs.Misses.{IsTrueMiss}

@@ -6,15 +6,15 @@ use Rattle.std.specs.List.{insert}
 use Rattle.std.proofs.lemmas.List.{drop_more}
 use mathlib.Core.Path.{fun_ext}
 use Rattle.std.proofs.lemmas.Bool.{cases_Bool, cases_eq, cases_lt, or_cases, or_right, or_left, or_from, false≢true, le-ltb, true_from_ne_false}
+use Rattle.std.proofs.Math.Bool.{or-false}
 use Rattle.kc_distinct.specs.Lists.{member, Distinct, right_after, place_of}
-use Rattle.kc_distinct.proofs.Members.{member-head, member-tail, not_member-parts, Distinct-right_after}
-use Rattle.kc_distinct.proofs.Counting.{member-push, member-push_cases, Distinct-push, member-other, member-get_or}
+use Rattle.kc_distinct.proofs.Members.{member-head, member-tail, not_member-parts, Distinct-right_after, place_of-first, place_of-next}
+use Rattle.kc_distinct.proofs.Counting.{member-push, member-push_cases, Distinct-push, member-other, member-get_or, one_if}
 use Rattle.kc_cert.specs.Local.{firsts, seconds, AreInTurn}
 use Rattle.kc_cert.specs.Ranks.{moved, place_after}
 use Rattle.kc_cert.specs.Shifting.{place_in, anchor_of, with_anchor, line_with, home_with, line_after, home_after, no_home, chain_after}
 use Rattle.kc_cert.proofs.Placing.{moved-itself, moved-other, placed_has}
-use Rattle.kc_cert.proofs.Sums.{one_if}
-use Rattle.kc_distinct.proofs.Shared.{ltb-double}
+use Rattle.kc_distinct.proofs.Shared.{ltb-double, ltb-next}
 
 -- a line and anchors that the shifts to come can go on with
 pub record Linked (line : List ℕ) (home : ℕ → Option ℕ) (shifts : List (ℕ × ℕ)) : Type 0 where
@@ -47,16 +47,12 @@ chained_none place n apart = record {
   near = λ y z ly lz my mz e. absurd (false≢true my);
 }
 
--- a second alternative that fails changes nothing
-or-no : (a : Bool) → a ≡ (a || false)
-or-no a = grind arith
-
 -- what stands in the line with an anchor
 pub with_anchor-has : (w : ℕ) (line : List ℕ) (y : ℕ) → member y (with_anchor w line) ≡ (member y line || eqb y w)
 with_anchor-has w line y = elim (cases_Bool (member w line)) [
   | inl m ↦ ap (λ b. member y (cond b line (line ++ w ∷ []))) m ∙ elim (cases_eq y w) [
     | inl e ↦ (ap (λ k. member k line) e ∙ m) ∙ sym (or_right (member y line) (eqb y w) (eq-eqb y w e))
-    | inr ne ↦ or-no (member y line) ∙ ap (λ b. member y line || b) (sym (ne_eqb y w ne))
+    | inr ne ↦ sym (or-false (member y line)) ∙ ap (λ b. member y line || b) (sym (ne_eqb y w ne))
   ]
   | inr n ↦ ap (λ b. member y (cond b line (line ++ w ∷ []))) n ∙ member-push y w line
 ]
@@ -66,14 +62,6 @@ pub Distinct-with_anchor : (w : ℕ) (line : List ℕ) → Distinct line → Dis
 Distinct-with_anchor w line d =
     elim (member w line) as (λ b. member w line ≡ b → Distinct (cond b line (line ++ w ∷ []))) [ true ↦ λ _. d | false ↦ λ n. Distinct-push line w d n ] refl
 
--- the first number of a list stands at place 0
-pub place_of-first : (y v : ℕ) (vs : List ℕ) → y ≡ v → place_of y (v ∷ vs) ≡ 0
-place_of-first y v vs e = ap (λ b. cond b 0 (suc (place_of y vs))) (eq-eqb y v e)
-
--- another number stands one place later with one in front of the list
-pub place_of-next : (y v : ℕ) (vs : List ℕ) → y ≢ v → place_of y (v ∷ vs) ≡ suc (place_of y vs)
-place_of-next y v vs ne = ap (λ b. cond b 0 (suc (place_of y vs))) (ne_eqb y v ne)
-
 -- what is put right after the first number comes second
 pub right_after-here : (x w v : ℕ) (vs : List ℕ) → w ≡ v → right_after x w (v ∷ vs) ≡ v ∷ x ∷ vs
 right_after-here x w v vs e = ap (λ b. cond b (v ∷ x ∷ vs) (v ∷ right_after x w vs)) (eq-eqb w v e)
@@ -81,13 +69,6 @@ right_after-here x w v vs e = ap (λ b. cond b (v ∷ x ∷ vs) (v ∷ right_aft
 -- what is put right after another number leaves the first in front
 pub right_after-next : (x w v : ℕ) (vs : List ℕ) → w ≢ v → right_after x w (v ∷ vs) ≡ v ∷ right_after x w vs
 right_after-next x w v vs ne = ap (λ b. cond b (v ∷ x ∷ vs) (v ∷ right_after x w vs)) (ne_eqb w v ne)
-
--- next numbers compare as the numbers do
-both_next : (a b : ℕ) → ltb (suc a) (suc b) ≡ ltb a b
-both_next a b = elim (cases_lt a b) [
-  | inl l ↦ lt-ltb (suc a) (suc b) (omega arith) ∙ sym (lt-ltb a b l)
-  | inr l ↦ le-ltb (suc a) (suc b) (omega arith) ∙ sym (le-ltb a b l)
-]
 
 -- places after one is put right behind another
 pub place_of-put : (x w y : ℕ) (line : List ℕ) → member x line ≡ false → member w line ≡ true → y ≢ x
@@ -115,7 +96,7 @@ place_of-put x w y (v ∷ vs) mx mw ne =
             | inr on ↦
                 let zw : place_of w (v ∷ vs) ≡ suc (place_of w vs) = place_of-next w v vs on in
                 let same : ltb (place_of w (v ∷ vs)) (place_of y (v ∷ vs)) ≡ ltb (place_of w vs) (place_of y vs) =
-                ap₂ ltb zw z ∙ both_next (place_of w vs) (place_of y vs) in
+                ap₂ ltb zw z ∙ ltb-next (place_of w vs) (place_of y vs) in
                 let step : one_if (ltb (place_of w (v ∷ vs)) (place_of y (v ∷ vs))) ≡ one_if (ltb (place_of w vs) (place_of y vs)) = ap one_if same in
                 omega (
                   arith,

@@ -1,12 +1,12 @@
 -- Counts over the neighbours of a vertex are counts over all vertices.
 use Rattle.std.proofs.Common.{◌≡◌, ◌≤◌, ◌<◌, ℕ, Bool, false, not, ◌&&◌, List, length, get_or, take, drop, sym, ◌∙◌, ap, inl, inr, arith, true≢false}
 use Rattle.std.proofs.Common.{nat_le, take-append-drop}
-use Rattle.std.specs.Prelude.{All, count_by}
+use Rattle.std.specs.Prelude.{count_by}
 use Rattle.std.proofs.lemmas.List.Elements.{All-contains}
 use Rattle.std.proofs.lemmas.Bool.{and_parts, and_from, not-true, not_from_false}
 use Rattle.kc_distinct.specs.Lists.{member, Distinct, below}
 use Rattle.kc_distinct.proofs.Members.{member-append}
-use Rattle.kc_distinct.proofs.Counting.{member-get_or, member-from_Contains, Contains-from_member, Distinct-from_pairs, Distinct-drop, Distinct-below}
+use Rattle.kc_distinct.proofs.Counting.{member-from_Contains, Contains-from_member, Distinct-from_pairs, Distinct-drop, Distinct-below}
 use Rattle.kc_distinct.proofs.Counting.{member-below, below-member, drop-not_take, count-le, count-mono, count-agree}
 use Rattle.kc_graph.specs.SimpleGraph.{SimpleGraph, adjacent, degree_among}
 use Rattle.kc_graph.specs.Neighbours.{AreNeighbours}
@@ -14,10 +14,6 @@ use Rattle.kc_graph.specs.Certificate.{Enumerates, Certifies, degree_as_high}
 use Rattle.kc_graph.proofs.PeelingLemmas.{neighbours-distinct}
 use Rattle.kc_cert.specs.Conditions.{NeverFalls, HasFewLater, HasEnoughAsHigh}
 use Rattle.kc_cert.proofs.Enumerating.{MarkedTo}
-
--- the neighbours of a vertex are vertices
-pub neighbours_within : (g : SimpleGraph) (v : ℕ) (ws : List ℕ) → AreNeighbours g v ws → All (λ w. w < g.size) ws
-neighbours_within g v ws near k d l = near.within (get_or ws k d) (member-get_or ws k d l)
 
 -- the neighbours that are not marked are those that stand later
 pub later_count : (g : SimpleGraph) (v j : ℕ) (order ws : List ℕ) (marks : List Bool) → Enumerates g.size order → AreNeighbours g v ws

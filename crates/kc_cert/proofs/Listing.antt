@@ -1,13 +1,14 @@
 -- Places in a list, one number after the other.
 use Rattle.std.proofs.Common.{◌≡◌, ◌≢◌, ℕ, suc, Bool, true, false, cond, ◌||◌, List, [], ◌∷◌, ◌++◌, Some, None, length, eqb, refl, sym, ◌∙◌, ap, ap₂}
-use Rattle.std.proofs.Common.{inl, inr, arith, true≢false, eq-eqb, ne_eqb}
+use Rattle.std.proofs.Common.{inl, inr, true≢false, eq-eqb, ne_eqb}
 use Rattle.std.specs.Prelude.{is_some}
 use Rattle.std.proofs.lemmas.Bool.{cases_eq, false≢true, false_from_ne_true, or_right}
+use Rattle.std.proofs.Math.Bool.{or-false}
 use Rattle.kc_distinct.specs.Lists.{member, Distinct, place_of}
-use Rattle.kc_distinct.proofs.Members.{not_member-parts}
+use Rattle.kc_distinct.proofs.Members.{not_member-parts, place_of-first, place_of-next}
 use Rattle.kc_distinct.proofs.Counting.{member-push, member-push_left, member-other}
 use Rattle.kc_cert.specs.Shifting.{place_in}
-use Rattle.kc_cert.proofs.Chaining.{place_of-push, place_of-first, place_of-next}
+use Rattle.kc_cert.proofs.Chaining.{place_of-push}
 
 -- a place is found just for the members
 pub place_in-some : (xs : List ℕ) (x : ℕ) → is_some (place_in xs x) ≡ member x xs
@@ -17,10 +18,6 @@ place_in-some xs x = elim (member x xs) as (λ b. is_some (cond b (Some (place_o
 place_of-end : (x : ℕ) (xs : List ℕ) → member x xs ≡ false → place_of x (xs ++ x ∷ []) ≡ length xs
 place_of-end x [] n = place_of-first x x [] refl
 place_of-end x (y ∷ ys) n = let p = not_member-parts x y ys n in place_of-next x y (ys ++ x ∷ []) p.0 ∙ ap suc (place_of-end x ys p.1)
-
--- a second alternative that fails changes nothing
-or-no : (a : Bool) → (a || false) ≡ a
-or-no a = grind arith
 
 -- two places are found alike where both are members, at one place, or neither
 place_in-by : (xs ys : List ℕ) (x y : ℕ) (b c : Bool) → member x xs ≡ b → member y ys ≡ c → b ≡ c
@@ -36,7 +33,7 @@ other-push : (x q : ℕ) (xs : List ℕ) → (q ≡ x → member q xs ≡ true) 
 other-push x q xs there =
     let same : member q (xs ++ x ∷ []) ≡ member q xs = elim (cases_eq q x) [
       | inl e ↦ member-push_left q x xs (there e) ∙ sym (there e)
-      | inr ne ↦ member-push q x xs ∙ (ap (λ b. member q xs || b) (ne_eqb q x ne) ∙ or-no (member q xs))
+      | inr ne ↦ member-push q x xs ∙ (ap (λ b. member q xs || b) (ne_eqb q x ne) ∙ or-false (member q xs))
     ] in
     place_in-by (xs ++ x ∷ []) xs q q (member q (xs ++ x ∷ [])) (member q xs) refl refl same (λ m. place_of-push q x xs m)
 

@@ -12,7 +12,7 @@ use Rattle.kc_graph.specs.Plans.{shifted}
 use Rattle.kc_cert.specs.Local.{firsts, seconds, AreInTurn}
 use Rattle.kc_cert.specs.Ranks.{AscendsBy, moved, place_after, Orders}
 use Rattle.kc_distinct.proofs.Shared.{or-swap, and-fails}
-use Rattle.std.proofs.Math.Bool.{or_assoc}
+use Rattle.std.proofs.Math.Bool.{or_assoc, or-false}
 
 -- the new rank of what was shifted is right behind that of the one before it
 pub moved-itself : (place : ℕ → ℕ) (x last y : ℕ) → y ≡ x → moved place x last y ≡ place last + place last + 1
@@ -21,10 +21,6 @@ moved-itself place x last y e = ap (λ b. cond b (place last + place last + 1) (
 -- the new rank of another one is its rank doubled
 pub moved-other : (place : ℕ → ℕ) (x last y : ℕ) → y ≢ x → moved place x last y ≡ place y + place y
 moved-other place x last y ne = ap (λ b. cond b (place last + place last + 1) (place y + place y)) (ne_eqb y x ne)
-
--- a second alternative that fails changes nothing
-or-no : (a : Bool) → (a || false) ≡ a
-or-no a = grind arith
 
 -- a second condition that holds changes nothing
 and-yes : (a b : Bool) → b ≡ true → a ≡ (a && b)
@@ -118,7 +114,7 @@ put_after-has x w order mx mw ne z =
     placed_has x w (without x order) (left x w order ne ∙ mw) z
     ∙ elim (cases_eq z x) [
       | inl e ↦ or_right _ (eqb z x) (eq-eqb z x e) ∙ (sym mx ∙ ap (λ n. member n order) (sym e))
-      | inr nz ↦ ap (λ b. b || eqb z x) (left x z order nz) ∙ (ap (λ b. member z order || b) (ne_eqb z x nz) ∙ or-no (member z order))
+      | inr nz ↦ ap (λ b. b || eqb z x) (left x z order nz) ∙ (ap (λ b. member z order || b) (ne_eqb z x nz) ∙ or-false (member z order))
     ]
 
 -- after one shift an order ascends by the ranks after it

@@ -1,33 +1,24 @@
 -- Counts over the neighbours after an update, from those before it.
-use Rattle.std.proofs.Common.{◌≡◌, ◌≢◌, ◌≤◌, ◌<◌, ◌+◌, ℕ, Bool, true, false, cond, not, ◌&&◌, ◌||◌, List, [], ◌∷◌, Option, Some, None, length, get_or}
-use Rattle.std.proofs.Common.{take, eqb, refl, sym, ◌∙◌, ap, ap₂, inl, inr, arith, true≢false, eq-eqb, ne_eqb, lt_irrefl}
+use Rattle.std.proofs.Common.{◌≡◌, ◌≢◌, ◌≤◌, ◌<◌, ◌+◌, ℕ, Bool, true, false, cond, not, ◌&&◌, ◌||◌, List, Option, Some, None, length, get_or}
+use Rattle.std.proofs.Common.{take, eqb, refl, sym, ◌∙◌, ap, ap₂, inl, inr, arith, true≢false, eq-eqb, ne_eqb}
 use Rattle.std.specs.Prelude.{count_by}
 use Rattle.std.specs.Option.{option_eq}
-use Rattle.std.proofs.lemmas.Bool.{cases_Bool, cases_eq, and_parts, false_from_ne_true, not-true}
+use Rattle.std.proofs.lemmas.Bool.{cases_Bool, cases_eq, and_parts, not-true}
 use Rattle.std.proofs.lemmas.Option.{same_Some}
 use Rattle.std.proofs.lemmas.List.{length-take}
 use Rattle.std.proofs.lemmas.List.Sums.{count_by_more_yes, count_by_more_no}
-use Rattle.kc_distinct.specs.Lists.{member, Distinct, below}
-use Rattle.kc_distinct.proofs.Counting.{member-below, below-member, Distinct-below, count-le, count-agree, count-le-length, member-get_or}
+use Rattle.kc_distinct.specs.Lists.{member, below}
+use Rattle.kc_distinct.proofs.Counting.{member-below, below-member, Distinct-below, count-le, count-agree, count-le-length, member-get_or, one_if}
 use Rattle.kc_graph.specs.SimpleGraph.{SimpleGraph, adjacent}
 use Rattle.kc_graph.specs.Neighbours.{neighbours_of}
 use Rattle.kc_graph.specs.Plans.{is_applied, updated}
 use Rattle.kc_graph.specs.declared.update.Update.{Update}
 use Rattle.kc_graph.proofs.Law.{adjacent-self, adjacent-sym}
 use Rattle.kc_graph.proofs.Ends.{joins, joins-true}
-use Rattle.kc_graph.proofs.NeighbourLists.{Rises, neighbours_rise, neighbours_has, neighbours_within}
+use Rattle.kc_graph.proofs.NeighbourLists.{neighbours_has, neighbours_within, neighbours_once}
 use Rattle.kc_cert.specs.Stands.{other_end, keeps}
-use Rattle.kc_cert.proofs.Sums.{one_if, count-one-in, count-none, count-sum}
+use Rattle.kc_cert.proofs.Sums.{count-one-in, count-none, count-sum}
 use Rattle.kc_cert.proofs.Keeping.{adjacent-updated, ends_differ}
-
--- a rising list has each number once
-Distinct-rises : (xs : List ℕ) → Rises xs → Distinct xs
-Distinct-rises [] h = tt
-Distinct-rises (x ∷ xs) h = (false_from_ne_true (member x xs) (λ m. lt_irrefl x (h.0 x m)), Distinct-rises xs h.1)
-
--- the list of the neighbours of a vertex has each once
-neighbours-once : (g : SimpleGraph) (z : ℕ) → Distinct (neighbours_of g z)
-neighbours-once g z = Distinct-rises (neighbours_of g z) (neighbours_rise g z)
 
 -- what passes among the neighbours is counted over them or over all vertices
 pub count-neighbours : (g : SimpleGraph) (z : ℕ) (r : ℕ → Bool) → count_by (λ y. adjacent g z y && r y) (below g.size) ≡ count_by r (neighbours_of g z)
@@ -39,7 +30,7 @@ count-neighbours g z r =
     count-le both (below g.size) ws (Distinct-below g.size)
     (λ y m t. neighbours_has g z y (below-member y g.size m) ∙ (and_parts (adjacent g z y) (r y) t).0) in
     let down : count_by both ws ≤ count_by both (below g.size) =
-    count-le both ws (below g.size) (neighbours-once g z) (λ y m _. member-below y g.size (neighbours_within g z y m).0) in
+    count-le both ws (below g.size) (neighbours_once g z) (λ y m _. member-below y g.size (neighbours_within g z y m).0) in
     omega (arith, here, up, down)
 
 -- either order of an equality is the same

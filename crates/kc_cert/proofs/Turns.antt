@@ -5,12 +5,12 @@ use Rattle.std.specs.Prelude.{⊤, MatchOption}
 use Rattle.std.proofs.lemmas.Bool.{cases_Bool, cases_eq, cases_lt, false≢true, false_from_ne_true}
 use Rattle.std.proofs.lemmas.List.{take_more}
 use Rattle.kc_distinct.specs.Lists.{member, Distinct, place_of}
-use Rattle.kc_distinct.proofs.Members.{member-head, member-tail, member-cases, member-append, not_member-append, not_member-parts}
+use Rattle.kc_distinct.proofs.Members.{member-head, member-tail, member-cases, member-append, not_member-append, not_member-parts, place_of-first}
+use Rattle.kc_distinct.proofs.Members.{place_of-next}
 use Rattle.kc_distinct.proofs.Counting.{member-other, drop-member}
 use Rattle.kc_graph.specs.Lawful.{Ranked}
 use Rattle.kc_cert.specs.Local.{firsts, seconds, AreInTurn, IsOfLevel}
 use Rattle.kc_cert.specs.Shifting.{place_in}
-use Rattle.kc_cert.proofs.Chaining.{place_of-first, place_of-next}
 use Rattle.kc_cert.proofs.Ordered.{rank-here}
 use Rattle.kc_distinct.proofs.Shared.{Distinct-back}
 
@@ -18,6 +18,11 @@ use Rattle.kc_distinct.proofs.Shared.{Distinct-back}
 pub firsts-append : (xs ys : List (ℕ × ℕ)) → firsts (xs ++ ys) ≡ firsts xs ++ firsts ys
 firsts-append [] ys = refl
 firsts-append (x ∷ xs) ys = ap (λ (zs : List ℕ). x.0 ∷ zs) (firsts-append xs ys)
+
+-- a list of pairs has as many firsts as pairs
+pub length-firsts : (xs : List (ℕ × ℕ)) → length (firsts xs) ≡ length xs
+length-firsts [] = refl
+length-firsts (x ∷ xs) = ap suc (length-firsts xs)
 
 -- one shift more brings its vertex behind those moved before
 pub firsts-more : (shifts : List (ℕ × ℕ)) (i : ℕ) → i < length shifts → firsts (take (i + 1) shifts) ≡ firsts (take i shifts) ++ (get_or shifts i (0, 0)).0 ∷ []

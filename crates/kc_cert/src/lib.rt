@@ -20,8 +20,6 @@ mod local;
 mod places;
 mod state;
 mod tally;
-#[cfg(test)]
-mod tests;
 
 ghost use Rattle.std.specs.Prelude.{◌≡◌, ◌↔◌, IfOk, IsTrue};
 ghost use Rattle.kc_graph.specs.Certificate.{Certifies};

@@ -1,13 +1,13 @@
 -- Membership and counts in lists of numbers, by recursion on the list.
-use Rattle.std.proofs.Common.{◌≡◌, ◌≢◌, ◌≤◌, ◌<◌, ◌+◌, ℕ, suc, zero, Bool, true, false, cond, ◌||◌, List, [], ◌∷◌, length, get_or, eqb, refl, sym}
+use Rattle.std.proofs.Common.{◌≡◌, ◌≢◌, ◌≤◌, ◌<◌, ◌+◌, ℕ, suc, zero, Bool, true, false, cond, ◌||◌, List, [], ◌∷◌, length, get_or, eqb, refl, sym, append-nil}
 use Rattle.std.proofs.Common.{◌∙◌, ap, ◌⊎◌, inl, inr, arith, true≢false, eqb-true, eq-eqb, ne_eqb, lt_irrefl, ◌++◌, drop, take}
 use Rattle.std.specs.Prelude.{AllPairs, Contains, count_by}
 use Rattle.std.specs.List.{filter}
-use Rattle.kc_distinct.specs.Lists.{member, Distinct, below}
+use Rattle.kc_distinct.specs.Lists.{member, Distinct, below, times}
 use Rattle.kc_distinct.proofs.Members.{member-head, member-tail, member-cases}
 use Rattle.std.proofs.lemmas.Bool.{eqb-false, cases_Bool, cases_eq, or_cases, or_left, or_right, false≢true, or_parts, or_from, false_from_ne_true}
 use Rattle.std.proofs.lemmas.List.Sums.{sum_by-cons}
-use Rattle.std.proofs.lemmas.List.Elements.{Contains-get_or}
+use Rattle.std.proofs.lemmas.List.Elements.{Contains-get_or, filter-append}
 use Rattle.std.proofs.lemmas.List.Folds.{list_any-append}
 use Rattle.std.proofs.Math.Bool.{or-false}
 
@@ -15,6 +15,10 @@ use Rattle.std.proofs.Math.Bool.{or-false}
 abbrev erase : ℕ → List ℕ → List ℕ
 erase x [] = []
 erase x (y ∷ ys) = cond (eqb x y) ys (y ∷ erase x ys)
+
+-- 1 where a test passes, and 0 else
+abbrev pub one_if : Bool → ℕ
+one_if b = cond b 1 0
 
 -- a list with one more in front counts as the rest, and 1 more where the first passes
 pub count-cons : (p : ℕ → Bool) (x : ℕ) (xs : List ℕ) → count_by p (x ∷ xs) ≡ cond (p x) 1 0 + count_by p xs
@@ -198,6 +202,18 @@ member-push_cases x y xs m = elim (or_cases (member x xs) (eqb x y) (sym (member
 pub member-push_none : (x y : ℕ) (xs : List ℕ) → member x (xs ++ y ∷ []) ≡ false → (member x xs ≡ false) × (eqb x y ≡ false)
 member-push_none x y xs m = or_parts (member x xs) (eqb x y) (sym (member-push x y xs) ∙ m)
 
+-- another number is in a list as before once a number comes at its end
+pub member-push_other : (u w : ℕ) (ws : List ℕ) → (u ≡ w → ⊥) → member u (ws ++ w ∷ []) ≡ member u ws
+member-push_other u w ws ne = member-push u w ws ∙ ap (λ b. member u ws || b) (ne_eqb u w ne) ∙ or-false (member u ws)
+
+-- a number that passes, put at the end, comes at the end of those that pass
+pub filter-push_yes : (p : ℕ → Bool) (w : ℕ) (ws : List ℕ) → p w ≡ true → filter p (ws ++ w ∷ []) ≡ filter p ws ++ w ∷ []
+filter-push_yes p w ws h = filter-append p ws (w ∷ []) ∙ ap (λ b. filter p ws ++ cond b (w ∷ []) []) h
+
+-- a number that doesn't pass, put at the end, changes nothing of those that pass
+pub filter-push_no : (p : ℕ → Bool) (w : ℕ) (ws : List ℕ) → p w ≡ false → filter p (ws ++ w ∷ []) ≡ filter p ws
+filter-push_no p w ws h = filter-append p ws (w ∷ []) ∙ ap (λ b. filter p ws ++ cond b (w ∷ []) []) h ∙ append-nil (filter p ws)
+
 -- a distinct list stays distinct when a number that it has not is pushed
 pub Distinct-push : (xs : List ℕ) (y : ℕ) → Distinct xs → member y xs ≡ false → Distinct (xs ++ y ∷ [])
 Distinct-push [] y d m = (refl, tt)
@@ -283,3 +299,48 @@ count-all p [] h = refl
 count-all p (x ∷ xs) h =
     let rest : count_by p xs ≡ length xs = count-all p xs (λ y m. h y (member-tail y x xs m)) in
     omega (arith, rest, count-yes p x xs (h x (member-head x xs)))
+
+-- How often a number stands in a list. -------------------------------------------------------------
+
+-- a member stands there once at least
+pub times_member : (y : ℕ) (xs : List ℕ) → member y xs ≡ true → 0 < times y xs
+times_member y [] m = absurd (false≢true m)
+times_member y (x ∷ xs) m =
+    elim (member-cases y x xs m) [
+      | inl e ↦ omega (arith, count-yes (eqb y) x xs (eq-eqb y x e))
+      | inr k ↦ let some : 0 < times y xs = times_member y xs k in omega (arith, count-cons (eqb y) x xs)
+    ]
+
+-- a number that stands in a list once at least is a member
+pub member_times : (y : ℕ) (xs : List ℕ) → 0 < times y xs → member y xs ≡ true
+member_times y [] some = absurd (omega arith)
+member_times y (x ∷ xs) some =
+    elim (cases_Bool (eqb y x)) [
+      | inl e ↦ or_left (eqb y x) (member y xs) e
+      | inr e ↦ member-tail y x xs (member_times y xs (omega (arith, count-no (eqb y) x xs e)))
+    ]
+
+-- who is no member stands nowhere
+pub times_other : (y : ℕ) (xs : List ℕ) → member y xs ≡ false → times y xs ≡ 0
+times_other y xs away = elim (none (times y xs) refl) [ inl e ↦ e | inr some ↦ absurd (true≢false (sym (member_times y xs some) ∙ away)) ]
+  where
+    none : (n : ℕ) → times y xs ≡ n → (times y xs ≡ 0) ⊎ (0 < times y xs)
+    none zero e = inl e
+    none (suc n) e = inr (omega arith)
+
+-- in a list without doubles each stands once at most
+pub times_distinct : (y : ℕ) (xs : List ℕ) → Distinct xs → times y xs ≤ 1
+times_distinct y [] d = omega arith
+times_distinct y (x ∷ xs) d =
+    elim (cases_Bool (eqb y x)) [
+      | inl e ↦ omega (arith, count-yes (eqb y) x xs e, times_other y xs (ap (λ z. member z xs) (eqb-true y x e) ∙ d.0))
+      | inr e ↦ let rest : times y xs ≤ 1 = times_distinct y xs d.1 in omega (arith, count-no (eqb y) x xs e)
+    ]
+
+-- a list in which each number stands once at most has no doubles
+pub distinct_times : (xs : List ℕ) → ((y : ℕ) → times y xs ≤ 1) → Distinct xs
+distinct_times [] few = tt
+distinct_times (x ∷ xs) few = (
+  false_from_ne_true (member x xs) (λ m. omega (arith, few x, count-yes (eqb x) x xs (eq-eqb x x refl), times_member x xs m)),
+  distinct_times xs (λ y. omega (arith, few y, count-cons (eqb y) x xs)),
+)

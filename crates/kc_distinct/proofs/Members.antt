@@ -1,5 +1,6 @@
 -- Membership, and lists cut at a member.
 use Rattle.std.proofs.Common.{◌≡◌, ℕ, suc, zero, ◌<◌, ◌≤◌, true, false, cond, List, [], ◌∷◌, ◌++◌, length, eqb, refl, sym, ◌∙◌, ap, subst, ◌⊎◌, inl, inr, arith}
+use Rattle.std.proofs.Common.{◌≢◌}
 use Rattle.std.proofs.lemmas.Bool.{eqb-true, eqb-false, eq-eqb, ne_eqb, cases_Bool, or_cases, or_left, or_right, or_parts, or_from, false≢true}
 use Rattle.std.proofs.lemmas.Bool.{true≢false, false_from_ne_true}
 use Rattle.std.proofs.lemmas.List.{append_assoc, length-append}
@@ -24,6 +25,11 @@ not_member-cons x y ys ne h = or_from (eqb x y) (member x ys) (ne_eqb x y ne) h
 -- what is no member is neither the first nor in the rest
 pub not_member-parts : (x y : ℕ) (ys : List ℕ) → member x (y ∷ ys) ≡ false → (x ≡ y → ⊥) × (member x ys ≡ false)
 not_member-parts x y ys h = let p = or_parts (eqb x y) (member x ys) h in (eqb-false x y p.0, p.1)
+
+-- what has no member is empty
+pub no_member-empty : (xs : List ℕ) → ((v : ℕ) → member v xs ≡ false) → xs ≡ []
+no_member-empty [] h = refl
+no_member-empty (x ∷ xs) h = absurd (false≢true (sym (h x) ∙ member-head x xs))
 
 -- a member of two lists joined is in one of them
 pub member-append : (x : ℕ) (xs ys : List ℕ) → member x (xs ++ ys) ≡ true → (member x xs ≡ true) ⊎ (member x ys ≡ true)
@@ -100,6 +106,23 @@ pub without-cut : (x : ℕ) (l r : List ℕ) → member x l ≡ false → member
 without-cut x [] r a b = rw (eq-eqb x x refl) (without-none x r b)
 without-cut x (y ∷ l) r a b = let p = not_member-parts x y l a in rw (ne_eqb x y p.0) (ap (λ zs. y ∷ zs) (without-cut x l r p.1 b))
 
+-- a list whose head is x is, without x, what is behind the head without x
+pub without-here : (x z : ℕ) (zs : List ℕ) → x ≡ z → without x (z ∷ zs) ≡ without x zs
+without-here x z zs e = ap (λ b. cond b (without x zs) (z ∷ without x zs)) (eq-eqb x z e)
+
+-- a list whose head is not x keeps the head without x
+pub without-next : (x z : ℕ) (zs : List ℕ) → x ≢ z → without x (z ∷ zs) ≡ z ∷ without x zs
+without-next x z zs ne = ap (λ b. cond b (without x zs) (z ∷ without x zs)) (ne_eqb x z ne)
+
+-- two lists joined without x are both without x joined
+pub without-append : (x : ℕ) (l r : List ℕ) → without x (l ++ r) ≡ without x l ++ without x r
+without-append x [] r = refl
+without-append x (y ∷ l) r =
+    elim (eqb x y) as (λ b. cond b (without x (l ++ r)) (y ∷ without x (l ++ r)) ≡ cond b (without x l) (y ∷ without x l) ++ without x r) [
+      | true ↦ without-append x l r
+      | false ↦ ap (λ zs. y ∷ zs) (without-append x l r)
+    ]
+
 -- what is put right after p stands right behind the place where p is first
 pub right_after-cut : (x p : ℕ) (l r : List ℕ) → member p l ≡ false → right_after x p (l ++ p ∷ r) ≡ l ++ p ∷ x ∷ r
 right_after-cut x p [] r a = rw (eq-eqb p p refl) refl
@@ -157,6 +180,15 @@ without-member y x (z ∷ zs) h ne =
     elim (eqb x z) as (λ b. eqb x z ≡ b → member y (cond b (without x zs) (z ∷ without x zs)) ≡ true) [
       | true ↦ λ t. elim (member-cases y z zs h) [ inl e ↦ absurd (ne (e ∙ sym (eqb-true x z t))) | inr m ↦ without-member y x zs m ne ]
       | false ↦ λ _. elim (member-cases y z zs h) [ inl e ↦ or_left (eqb y z) _ (eq-eqb y z e) | inr m ↦ member-tail y z _ (without-member y x zs m ne) ]
+    ] refl
+
+-- another than the number taken out is in the list just where it was
+pub member-without_other : (x z : ℕ) (l : List ℕ) → x ≢ z → member x (without z l) ≡ member x l
+member-without_other x z [] d = refl
+member-without_other x z (w ∷ l) d =
+    elim (eqb z w) as (λ b. eqb z w ≡ b → member x (cond b (without z l) (w ∷ without z l)) ≡ member x (w ∷ l)) [
+      | true ↦ λ t. member-without_other x z l d ∙ sym (rw (ne_eqb x w (λ e. d (e ∙ sym (eqb-true z w t)))) refl)
+      | false ↦ λ _. rw (member-without_other x z l d) refl
     ] refl
 
 -- x is not in the list without x
@@ -258,6 +290,19 @@ next_of-in e x (z ∷ zs) =
 pub place_of-cut : (x : ℕ) (l r : List ℕ) → member x l ≡ false → place_of x (l ++ x ∷ r) ≡ length l
 place_of-cut x [] r a = rw (eq-eqb x x refl) refl
 place_of-cut x (y ∷ l) r a = let q = not_member-parts x y l a in rw (ne_eqb x y q.0) (ap suc (place_of-cut x l r q.1))
+
+-- the first number of a list stands at place 0
+pub place_of-first : (y v : ℕ) (vs : List ℕ) → y ≡ v → place_of y (v ∷ vs) ≡ 0
+place_of-first y v vs e = ap (λ b. cond b 0 (suc (place_of y vs))) (eq-eqb y v e)
+
+-- another number stands one place later with one in front of the list
+pub place_of-next : (y v : ℕ) (vs : List ℕ) → y ≢ v → place_of y (v ∷ vs) ≡ suc (place_of y vs)
+place_of-next y v vs ne = ap (λ b. cond b 0 (suc (place_of y vs))) (ne_eqb y v ne)
+
+-- the place of what is no member is the length of the list
+pub place_of-none : (x : ℕ) (xs : List ℕ) → member x xs ≡ false → place_of x xs ≡ length xs
+place_of-none x [] m = refl
+place_of-none x (y ∷ ys) m = let k = not_member-parts x y ys m in rw (ne_eqb x y k.0) (ap suc (place_of-none x ys k.1))
 
 -- a list is empty, or has a last
 pub some_or_none : (xs : List ℕ) → (xs ≡ []) ⊎ Ended xs

@@ -1,6 +1,6 @@
 -- What the proofs of several crates need of lists and tests.
-use Rattle.std.proofs.Common.{◌≡◌, ◌≢◌, ◌≤◌, ◌<◌, ◌+◌, ℕ, suc, zero, Bool, true, false, cond, ◌||◌, ◌&&◌, List, [], ◌∷◌, ◌++◌, length, get_or, refl}
-use Rattle.std.proofs.Common.{sym, ◌∙◌, ap, subst, inl, inr, arith, ne_eqb, map, ltb, length-append}
+use Rattle.std.proofs.Common.{◌≡◌, ◌≢◌, ◌≤◌, ◌<◌, ◌+◌, ℕ, suc, zero, Bool, true, false, cond, ◌||◌, ◌&&◌, List, [], ◌∷◌, ◌++◌, length, get_or, refl, eqb, ap₂}
+use Rattle.std.proofs.Common.{sym, ◌∙◌, ap, subst, inl, inr, arith, ne_eqb, map, ltb, length-append, eqb-true}
 use Rattle.std.specs.Prelude.{All}
 use Rattle.std.specs.List.{list_any}
 use Rattle.std.specs.List.Sorted.{IsStrictlyIncreasing}
@@ -9,7 +9,7 @@ use Rattle.std.proofs.lemmas.List.{get_or_append_left}
 use Rattle.std.proofs.Math.Seq.{get_or-append_seam}
 use Rattle.std.proofs.lemmas.List.Kept.{AllPairs-from_increasing}
 use Rattle.std.proofs.Math.Bool.{or-false}
-use Rattle.kc_distinct.specs.Lists.{member, Distinct}
+use Rattle.kc_distinct.specs.Lists.{member, Distinct, total}
 use Rattle.kc_distinct.proofs.Members.{member-head, member-tail, not_member-append, append-not_member}
 use Rattle.kc_distinct.proofs.Counting.{member-push, member-push_left, Distinct-push}
 
@@ -21,6 +21,17 @@ ltb-double a b = elim (cases_lt a b) [
   | inl l ↦ lt-ltb (a + a) (b + b) (omega arith) ∙ sym (lt-ltb a b l)
   | inr l ↦ le-ltb (a + a) (b + b) (omega arith) ∙ sym (le-ltb a b l)
 ]
+
+-- the next numbers of two compare as they do
+pub ltb-next : (a b : ℕ) → ltb (suc a) (suc b) ≡ ltb a b
+ltb-next a b = elim (cases_lt a b) [
+  | inl l ↦ lt-ltb (suc a) (suc b) (omega arith) ∙ sym (lt-ltb a b l)
+  | inr l ↦ le-ltb (suc a) (suc b) (omega arith) ∙ sym (le-ltb a b l)
+]
+
+-- either order of two alternatives is the same
+pub or-turned : (a b : Bool) → (a || b) ≡ (b || a)
+or-turned a b = grind arith
 
 -- the last of three goes to the middle
 pub or-swap : (a b c : Bool) → (a || (b || c)) ≡ ((a || c) || b)
@@ -111,3 +122,28 @@ All-front {A} P xs ys h k d l = subst P (get_or_append_left xs ys d k l) (h k d 
 -- what holds of each of a list holds of its last
 pub All-end : {A : Type 0} (P : A → Type 0) (xs : List A) (y : A) → All P (xs ++ y ∷ []) → P y
 All-end P xs y h = subst P (get_or-append_seam xs y [] y) (h (length xs) y (omega (arith, length-append xs (y ∷ []))))
+
+-- what holds of all holds of one in the middle
+pub All-middle : {A : Type 0} (P : A → Type 0) (front back : List A) (x : A) (xs : List A) → xs ≡ front ++ x ∷ back → All P xs → P x
+All-middle P front back x xs is all =
+    subst P (get_or-append_seam front x back x) (subst (All P) is all (length front) x (omega (arith, length-append front (x ∷ back))))
+
+-- what the test of a list for emptiness tells
+pub no_items : {A : Type 0} (xs : List A) (n : ℕ) (b : Bool) → length xs ≡ n → b ≡ eqb n 0 → b ≡ true → xs ≡ []
+no_items [] n b l e t = refl
+no_items (x ∷ xs) n b l e t = let k : n ≡ 0 = eqb-true n 0 (sym e ∙ t) in absurd (omega arith)
+
+-- each of four equal numbers is that number
+pub each-of_four : (w v : ℕ) → v < 4 → get_or (w ∷ w ∷ w ∷ w ∷ []) v 0 ≡ w
+each-of_four w zero l = refl
+each-of_four w (suc zero) l = refl
+each-of_four w (suc (suc zero)) l = refl
+each-of_four w (suc (suc (suc zero))) l = refl
+each-of_four w (suc (suc (suc (suc v)))) l = absurd (omega arith)
+
+-- Sums. --------------------------------------------------------------------------------------------
+
+-- functions that agree below a number have the same sum there
+pub total-agree : (f g : ℕ → ℕ) (n : ℕ) → ((v : ℕ) → v < n → f v ≡ g v) → total f n ≡ total g n
+total-agree f g zero h = refl
+total-agree f g (suc n) h = ap₂ (λ (a b : ℕ). a + b) (h n (omega arith)) (total-agree f g n (λ v l. h v (omega arith)))

@@ -1,10 +1,14 @@
 -- Lists of numbers in which none comes twice, and their edits.
-use Rattle.std.specs.Prelude.{◌≡◌, ℕ, zero, suc, List, [], ◌∷◌, Bool, false, if◌then◌else◌, ◌==◌, nat_eq}
+use Rattle.std.specs.Prelude.{◌≡◌, ◌+◌, ℕ, zero, suc, List, [], ◌∷◌, Bool, false, if◌then◌else◌, ◌==◌, nat_eq, count_by}
 use Rattle.std.specs.List.{list_any}
 
 -- whether the list has `x`
 abbrev pub member : ℕ → List ℕ → Bool
 member x ys = list_any (nat_eq x) ys
+
+-- how often `x` stands in the list
+abbrev pub times : ℕ → List ℕ → ℕ
+times x xs = count_by (nat_eq x) xs
 
 -- no number comes twice
 abbrev pub Distinct : List ℕ → Type 0
@@ -15,6 +19,11 @@ Distinct (x ∷ xs) = (member x xs ≡ false) × Distinct xs
 abbrev pub below : ℕ → List ℕ
 below zero = []
 below (suc n) = n ∷ below n
+
+-- the sum of what `f` gives for the numbers below `n`
+abbrev pub total : (ℕ → ℕ) → ℕ → ℕ
+total f zero = 0
+total f (suc n) = f n + total f n
 
 -- the list without each `x`
 abbrev pub without : ℕ → List ℕ → List ℕ

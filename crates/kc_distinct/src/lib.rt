@@ -1,6 +1,6 @@
 //! Lists of numbers in which none comes twice: the words that the crates above say their theorems in.
 //!
-//! `specs/Lists.antt` has the words: `member`, `Distinct`, `below`, and the edits `without` and `right_after`. `proofs/` has their
+//! `specs/Lists.antt` has the words: `member`, `times`, `Distinct`, `below`, `total`, and the edits `without` and `right_after`. `proofs/` has their
 //! lemmas: `Members` cuts a list at a member, `Counting` compares counts. Nothing here runs; the two functions below state the
 //! lemmas on which the others stand. The crate stands on the standard library alone.
 #![tactic(auto)]

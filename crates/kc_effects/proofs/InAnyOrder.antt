@@ -13,12 +13,13 @@ use Rattle.kc_graph.specs.SimpleGraph.{SimpleGraph}
 use Rattle.kc_graph.specs.declared.update.Update.{Update}
 use Rattle.kc_table.specs.declared.entry.Entry.{Entry}
 use Rattle.kc_table.specs.Edges.{after_entries}
+use Rattle.kc_table.proofs.LegalLogs.{after_entries-append}
 use Rattle.kc_text.specs.Inputs.{IsBatch, parts_of}
 use Rattle.kc_agree.specs.Stamps.{changes_graph}
 use Rattle.kc_effects.specs.Batches.{graph_after_batch, is_effective}
 use Rattle.kc_effects.specs.Entered.{AreSomeOf, IsIndexOf, IsOneOf, IsOrderOf, IsUpdateAt, change_of, indices}
 use Rattle.kc_effects.proofs.Applying.{Part, graph_after_batch-same}
-use Rattle.kc_effects.proofs.OneByOne.{after_entries-append, changes-anywhere, in_turn, index-within, one-at}
+use Rattle.kc_effects.proofs.OneByOne.{changes-anywhere, in_turn, index-within, one-at}
 use Rattle.kc_effects.proofs.Rows.{AreOfRow, as-many-are-all}
 
 -- what has an index of the batch each has its indices in the row of the batch

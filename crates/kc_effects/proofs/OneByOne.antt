@@ -18,11 +18,6 @@ use Rattle.kc_effects.specs.Entered.{IsIndexOf, IsOneOf, IsUpdateAt, change_of, 
 use Rattle.kc_effects.proofs.Applying.{Part, Spares, contains-ordered, contains-other, graph_after_batch-first, graph_after_batch-nil, graph_with-add}
 use Rattle.kc_effects.proofs.Applying.{graph_with-remove}
 
--- the entries of two lists one after the other
-pub after_entries-append : (g : SimpleGraph) (xs ys : List Entry) → after_entries g (xs ++ ys) ≡ after_entries (after_entries g xs) ys
-after_entries-append g [] ys = refl
-after_entries-append g (x ∷ xs) ys = after_entries-append (after_entry g x) xs ys
-
 module _ (first : ℕ) (batch : List Update) where
   -- an update stands under an index of the batch
   pub index-within : (index : ℕ) (u : Update) → IsUpdateAt first batch index u → IsIndexOf first batch index

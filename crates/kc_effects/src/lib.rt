@@ -13,8 +13,6 @@
 mod counts;
 pub mod laws;
 mod outcome;
-#[cfg(test)]
-mod tests;
 
 pub use counts::{Counts, count};
 pub use outcome::Outcome;

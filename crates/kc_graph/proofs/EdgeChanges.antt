@@ -4,6 +4,7 @@ use Rattle.std.specs.Cmp.{both_ways}
 use Rattle.std.specs.Ordering.{eq_by_cmp}
 use Rattle.std.specs.FinSet.{contains, insert, remove, contains-insert, contains-remove}
 use Rattle.std.proofs.lemmas.Bool.{cases_order, false_from_ne_true}
+use Rattle.kc_distinct.proofs.Shared.{or-turned}
 use Rattle.kc_graph.specs.SimpleGraph.{SimpleGraph, adjacent, pair_cmp}
 use Rattle.kc_graph.specs.Edges.{edge, with_edge, without_edge}
 use Rattle.kc_graph.proofs.Ends.{joins, joins-true, joins-sym, joins-edge, edge-joins}
@@ -30,10 +31,6 @@ adjacent-below g a b l = rw (lt-ltb a b l) refl
 adjacent-above : (g : SimpleGraph) (a b : ℕ) → b < a → adjacent g a b ≡ contains g.edges (b, a)
 adjacent-above g a b l = let n : ltb a b ≡ false = le-ltb a b (omega arith) in rw (n, lt-ltb b a l) refl
 
--- either order of two alternatives is the same
-or_swap : (a b : Bool) → (a || b) ≡ (b || a)
-or_swap a b = grind arith
-
 -- either order of a test and a denied one is the same
 and_swap : (a b : Bool) → (not a && b) ≡ (b && not a)
 and_swap a b = grind arith
@@ -43,7 +40,7 @@ with_below : (g : SimpleGraph) (u v a b : ℕ) → (u ≡ v → ⊥) → a < b �
 with_below g u v a b differ l =
     contains-insert pair_total g.edges (edge u v) (a, b)
     ∙
-    (ap₂ (λ (s t : Bool). s || t) (same_edge u v a b differ l) (sym (adjacent-below g a b l)) ∙ or_swap (joins u v a b) (adjacent g a b))
+    (ap₂ (λ (s t : Bool). s || t) (same_edge u v a b differ l) (sym (adjacent-below g a b l)) ∙ or-turned (joins u v a b) (adjacent g a b))
 
 -- after an edge went, a pair is an edge where its ends were adjacent and that edge does not join them
 without_below : (g : SimpleGraph) (u v a b : ℕ) → (u ≡ v → ⊥) → a < b → contains (remove g.edges (edge u v)) (a, b) ≡ (adjacent g a b && not (joins u v a b))

@@ -7,7 +7,7 @@ use Rattle.std.proofs.lemmas.Bool.{false_from_ne_true, true_from_ne_false}
 use Rattle.std.proofs.Math.Bool.{and-true}
 use Rattle.kc_distinct.specs.Lists.{member, Distinct}
 use Rattle.kc_distinct.proofs.Members.{member-append, member-append_left, member-append_right, append-not_member}
-use Rattle.kc_distinct.proofs.Counting.{member-push, member-push_left, member-push_cases, member-push_none, member-filter, filter-member}
+use Rattle.kc_distinct.proofs.Counting.{member-push, member-push_left, member-push_cases, member-push_none, member-filter, filter-member, one_if}
 use Rattle.kc_distinct.proofs.Counting.{Distinct-filter, Distinct-push}
 use Rattle.kc_graph.specs.SimpleGraph.{SimpleGraph, adjacent}
 use Rattle.kc_graph.specs.Certificate.{Certifies}
@@ -16,7 +16,7 @@ use Rattle.kc_graph.specs.Rows.{row}
 use Rattle.kc_graph.specs.Peeling.{at, remaining, Filed, Peels, IsAboutToTake, work, Lowered, Files}
 use Rattle.kc_graph.proofs.RowsLemmas.{row-replicate}
 use Rattle.kc_graph.proofs.Buckets.{row-set_same, row-set_other, row_past}
-use Rattle.kc_graph.proofs.PeelingLemmas.{start, raise, take_one, finish, one_if, remaining-taken, neighbours-distinct}
+use Rattle.kc_graph.proofs.PeelingLemmas.{start, raise, take_one, finish, remaining-taken, neighbours-distinct}
 use Rattle.kc_distinct.proofs.Shared.{Distinct-append}
 use Rattle.kc_graph.proofs.Law.{adjacent-sym}
 

@@ -8,25 +8,16 @@ use Rattle.std.specs.FinSet.{FinSet, contains, contains-from_list, from_list, le
 use Rattle.std.proofs.lemmas.Bool.{cases_order, or_left, or_right, or_from, and_parts, and_from, false≢true, true≢false, false_from_ne_true}
 use Rattle.std.proofs.lemmas.List.Folds.{list_any-append}
 use Rattle.std.proofs.lemmas.List.Sums.{sum_by-cons}
-use Rattle.kc_distinct.specs.Lists.{member, below, Distinct}
+use Rattle.kc_distinct.specs.Lists.{member, below, Distinct, total}
 use Rattle.kc_distinct.proofs.Members.{not_member-parts}
 use Rattle.kc_distinct.proofs.Counting.{count-cons, count-le, count-all, count-agree, member-filter, filter-member}
 use Rattle.kc_distinct.proofs.Counting.{member-below, Distinct-below, Distinct-filter}
+use Rattle.kc_distinct.proofs.Shared.{total-agree}
 use Rattle.kc_graph.specs.SimpleGraph.{pair_cmp}
 use Rattle.kc_graph.specs.Rows.{row, pairs_from, graph_of, IsAdjacency}
 use Rattle.kc_graph.proofs.RowsLemmas.{pair_total, same_pair, Distinct-from_increasing}
 
 -- Sums over the numbers below a bound. ---------------------------------------------------------------
-
--- the sum of what a function gives for the numbers below `n`
-abbrev total : (ℕ → ℕ) → ℕ → ℕ
-total f zero = 0
-total f (suc n) = f n + total f n
-
--- functions that agree below a number have the same sum there
-total-agree : (f g : ℕ → ℕ) (n : ℕ) → ((v : ℕ) → v < n → f v ≡ g v) → total f n ≡ total g n
-total-agree f g zero h = refl
-total-agree f g (suc n) h = ap₂ (λ (a b : ℕ). a + b) (h n (omega arith)) (total-agree f g n (λ v l. h v (omega arith)))
 
 -- the sum of two functions added is their sums added
 total-add : (f g : ℕ → ℕ) (n : ℕ) → total (λ v. f v + g v) n ≡ total f n + total g n

@@ -1,31 +1,16 @@
 -- One neighbour less for each of a list.
-use Rattle.std.proofs.Common.{◌≡◌, ◌≤◌, ◌<◌, ◌+◌, ◌-◌, ℕ, Bool, true, false, cond, ◌&&◌, ◌||◌, List, [], ◌∷◌, ◌++◌, length, get_or, set, take, eqb}
+use Rattle.std.proofs.Common.{◌≡◌, ◌≤◌, ◌<◌, ◌+◌, ◌-◌, ℕ, Bool, true, false, cond, ◌&&◌, List, [], ◌∷◌, ◌++◌, length, get_or, set, take, eqb}
 use Rattle.std.proofs.Common.{ltb, refl, sym, ◌∙◌, ap, subst, inl, inr, arith, length-set, length-append, append-nil, append_assoc, eq-eqb, ne_eqb}
 use Rattle.std.proofs.Common.{lt-ltb, le-ltb, le_refl, sum}
 use Rattle.std.specs.List.{filter}
 use Rattle.std.proofs.lemmas.List.{take_more, get_or-set_same, get_or-set_other}
-use Rattle.std.proofs.lemmas.List.Elements.{filter-append}
 use Rattle.std.proofs.lemmas.List.Sums.{sum_by-set}
 use Rattle.std.proofs.lemmas.Bool.{cases_eq, and_from, and_left, and_right, or_right}
-use Rattle.std.proofs.Math.Bool.{or-false}
 use Rattle.kc_distinct.specs.Lists.{Distinct, member}
-use Rattle.kc_distinct.proofs.Counting.{member-push, take-not_here}
+use Rattle.kc_distinct.proofs.Counting.{member-push, take-not_here, member-push_other, filter-push_yes, filter-push_no, one_if}
 use Rattle.kc_graph.specs.Rows.{row}
 use Rattle.kc_graph.specs.Peeling.{at, work, Lowered}
 use Rattle.kc_graph.proofs.Buckets.{row-set_same, row-set_other}
-use Rattle.kc_graph.proofs.PeelingLemmas.{one_if}
-
--- another number is in a list as before once a number comes at its end
-push_other : (u w : ℕ) (ws : List ℕ) → (u ≡ w → ⊥) → member u (ws ++ w ∷ []) ≡ member u ws
-push_other u w ws ne = member-push u w ws ∙ ap (λ b. member u ws || b) (ne_eqb u w ne) ∙ or-false (member u ws)
-
--- a number that passes, put at the end, comes at the end of those that pass
-filter-push_yes : (p : ℕ → Bool) (w : ℕ) (ws : List ℕ) → p w ≡ true → filter p (ws ++ w ∷ []) ≡ filter p ws ++ w ∷ []
-filter-push_yes p w ws h = filter-append p ws (w ∷ []) ∙ ap (λ b. filter p ws ++ cond b (w ∷ []) []) h
-
--- a number that doesn't pass, put at the end, changes nothing of those that pass
-filter-push_no : (p : ℕ → Bool) (w : ℕ) (ws : List ℕ) → p w ≡ false → filter p (ws ++ w ∷ []) ≡ filter p ws
-filter-push_no p w ws h = filter-append p ws (w ∷ []) ∙ ap (λ b. filter p ws ++ cond b (w ∷ []) []) h ∙ append-nil (filter p ws)
 
 -- where no vertex is to lose one, nothing changed
 pub lowered_none : (level : ℕ) (core : List ℕ) (rows : List (List ℕ)) → Lowered level [] core rows core rows
@@ -50,7 +35,7 @@ module _ (level w : ℕ) (ws core : List ℕ) (rows : List (List ℕ)) (core' : 
           | inl e ↦
               let z : member u (ws ++ w ∷ []) && ltb level (at core u) ≡ false = and_right _ _ (ap (λ x. ltb level (at core x)) e ∙ not_above) in
               omega (arith, ap one_if z, ap (at core) e, ap (at core') e)
-          | inr ne ↦ h.lowered u ∙ ap (λ b. at core' u + cond (b && ltb level (at core u)) 1 0) (sym (push_other u w ws ne))
+          | inr ne ↦ h.lowered u ∙ ap (λ b. at core' u + cond (b && ltb level (at core u)) 1 0) (sym (member-push_other u w ws ne))
         ];
         filed =
             λ b.
@@ -79,7 +64,7 @@ module _ (level w : ℕ) (ws core : List ℕ) (rows : List (List ℕ)) (core' : 
               and_from _ _ (member-push u w ws ∙ or_right (member u ws) (eqb u w) (eq-eqb u w e)) (ap (λ x. ltb level (at core x)) e ∙ above) in
               omega (arith, ap one_if t, at-w, ap (at less) e, ap (at core) e)
           | inr ne ↦
-              h.lowered u ∙ ap (λ b. at core' u + cond (b && ltb level (at core u)) 1 0) (sym (push_other u w ws ne))
+              h.lowered u ∙ ap (λ b. at core' u + cond (b && ltb level (at core u)) 1 0) (sym (member-push_other u w ws ne))
               ∙ ap (λ (k : ℕ). k + cond (member u (ws ++ w ∷ []) && ltb level (at core u)) 1 0) (sym (get_or-set_other core' w u c 0 ne))
         ];
         filed = λ b.

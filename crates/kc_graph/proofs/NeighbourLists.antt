@@ -1,16 +1,17 @@
 -- The list of the neighbours of a vertex: there is one, and no other.
-use Rattle.std.proofs.Common.{◌≡◌, ◌≢◌, ◌<◌, ℕ, suc, zero, Bool, true, false, cond, ◌||◌, eqb, List, [], ◌∷◌, ◌++◌, refl, sym, ◌∙◌, ap, ap₂, subst}
-use Rattle.std.proofs.Common.{inl, inr, arith, reverse}
-use Rattle.std.specs.Prelude.{⊤, AllPairs}
+use Rattle.std.proofs.Common.{◌≡◌, ◌≢◌, ◌<◌, ℕ, suc, zero, Bool, true, false, cond, ◌||◌, eqb, List, [], ◌∷◌, ◌++◌, refl, sym, ◌∙◌, ap, ap₂, subst, get_or}
+use Rattle.std.proofs.Common.{inl, inr, arith, reverse, lt_irrefl}
+use Rattle.std.specs.Prelude.{⊤, AllPairs, All}
 use Rattle.std.specs.List.{filter}
 use Rattle.std.specs.List.Sorted.{IsStrictlyIncreasing}
 use Rattle.std.proofs.lemmas.Bool.{cases_Bool, false≢true, true≢false, false_from_ne_true}
 use Rattle.std.proofs.lemmas.List.{reverse-append}
 use Rattle.std.proofs.lemmas.List.Kept.{AllPairs-from_increasing}
-use Rattle.kc_distinct.specs.Lists.{member, below}
+use Rattle.kc_distinct.specs.Lists.{member, below, Distinct}
 use Rattle.kc_distinct.proofs.Members.{member-head, member-tail, member-cases}
-use Rattle.kc_distinct.proofs.Counting.{member-other, member-push_cases, member-push, member-filter, filter-member, member-below, below-member}
+use Rattle.kc_distinct.proofs.Counting.{member-other, member-push_cases, member-push, member-filter, filter-member, member-below, below-member, member-get_or}
 use Rattle.kc_distinct.proofs.Counting.{Contains-from_member}
+use Rattle.kc_distinct.proofs.Shared.{or-turned}
 use Rattle.kc_graph.specs.SimpleGraph.{SimpleGraph, adjacent}
 use Rattle.kc_graph.specs.Neighbours.{AreNeighbours, neighbours_of}
 
@@ -69,16 +70,12 @@ rising_same (x ∷ xs) (y ∷ ys) hx hy same =
 reverse-cons : (x : ℕ) (xs : List ℕ) → reverse (x ∷ xs) ≡ reverse xs ++ x ∷ []
 reverse-cons x xs = reverse-append (x ∷ []) xs
 
--- either order of two alternatives is the same
-swap : (a b : Bool) → (a || b) ≡ (b || a)
-swap a b = grind arith
-
 -- a list turned has the same numbers
 member-reverse : (z : ℕ) (xs : List ℕ) → member z (reverse xs) ≡ member z xs
 member-reverse z [] = refl
 member-reverse z (x ∷ xs) =
     ap (member z) (reverse-cons x xs)
-    ∙ (member-push z x (reverse xs) ∙ (ap (λ b. b || eqb z x) (member-reverse z xs) ∙ swap (member z xs) (eqb z x)))
+    ∙ (member-push z x (reverse xs) ∙ (ap (λ b. b || eqb z x) (member-reverse z xs) ∙ or-turned (member z xs) (eqb z x)))
 
 -- a rising list with a greater number at its end rises
 Rises-push : (xs : List ℕ) (x : ℕ) → Rises xs → ((y : ℕ) → member y xs ≡ true → y < x) → Rises (xs ++ x ∷ [])
@@ -124,6 +121,19 @@ pub neighbours_within : (g : SimpleGraph) (v w : ℕ) → member w (neighbours_o
 neighbours_within g v w m =
     let k = member-filter (adjacent g v) w (below g.size) (sym (member-reverse w (filter (adjacent g v) (below g.size))) ∙ m) in
     (below-member w g.size k.0, k.1)
+
+-- a rising list has each number once
+pub Distinct-rises : (xs : List ℕ) → Rises xs → Distinct xs
+Distinct-rises [] h = tt
+Distinct-rises (x ∷ xs) h = (false_from_ne_true (member x xs) (λ m. lt_irrefl x (h.0 x m)), Distinct-rises xs h.1)
+
+-- the list of the neighbours of a vertex has each once
+pub neighbours_once : (g : SimpleGraph) (v : ℕ) → Distinct (neighbours_of g v)
+neighbours_once g v = Distinct-rises (neighbours_of g v) (neighbours_rise g v)
+
+-- the neighbours in a row are vertices
+pub row_within : (g : SimpleGraph) (v : ℕ) (ws : List ℕ) → AreNeighbours g v ws → All (λ w. w < g.size) ws
+row_within g v ws near k d l = near.within (get_or ws k d) (member-get_or ws k d l)
 
 -- the neighbours in ascending order are that list
 pub neighbours_are : (g : SimpleGraph) (v : ℕ) (ws : List ℕ) → AreNeighbours g v ws → ws ≡ neighbours_of g v

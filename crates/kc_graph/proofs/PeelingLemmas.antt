@@ -10,7 +10,7 @@ use Rattle.std.proofs.lemmas.List.Quantifiers.{all_pairs_push}
 use Rattle.std.proofs.Math.Bool.{or-false, and-true}
 use Rattle.std.proofs.Math.Seq.{get_or-append_seam, take-length}
 use Rattle.kc_distinct.specs.Lists.{Distinct, below, member}
-use Rattle.kc_distinct.proofs.Counting.{member-get_or, Contains-from_member, pairs_from_Distinct, count-le, count-mono, count-miss, member-push}
+use Rattle.kc_distinct.proofs.Counting.{member-get_or, Contains-from_member, pairs_from_Distinct, count-le, count-mono, count-miss, member-push, one_if}
 use Rattle.kc_distinct.proofs.Counting.{member-push_cases, member-push_none, Distinct-push, member-below, below-member, Distinct-below, length-below}
 use Rattle.kc_distinct.proofs.Counting.{drop-member, Distinct-drop, drop-not_take, count-agree, count-without, count-all}
 use Rattle.kc_graph.specs.SimpleGraph.{SimpleGraph, adjacent, degree_among}
@@ -167,10 +167,6 @@ remaining-lt g taken v l =
           (ap (λ b. b && not (member v taken)) (adjacent-self g v)),
       length-below g.size,
     )
-
--- 1 where a test passes, and 0 else
-abbrev pub one_if : Bool → ℕ
-one_if b = cond b 1 0
 
 -- a vertex that is taken is left to none of its neighbours
 pub remaining-taken : (g : SimpleGraph) (taken : List ℕ) (u v : ℕ) → v < g.size → member v taken ≡ false

@@ -22,8 +22,6 @@ mod plan;
 mod row;
 mod rows;
 mod shared;
-#[cfg(test)]
-mod tests;
 mod tidying;
 mod update;
 mod used;

@@ -1,14 +1,10 @@
 -- Counts of numbers, each above a bound counted as the bound.
-use Rattle.std.proofs.Common.{◌≡◌, ◌<◌, ◌+◌, ℕ, suc, zero, drop, map, take, min, Bool, false, cond, List, [], ◌∷◌, eqb, leb, refl, sym, ◌∙◌, ap}
+use Rattle.std.proofs.Common.{◌≡◌, ◌<◌, ◌+◌, ℕ, suc, zero, drop, map, take, min, false, List, [], ◌∷◌, eqb, leb, refl, sym, ◌∙◌, ap}
 use Rattle.std.proofs.Common.{subst, arith, inl, inr, le-leb, leb-true, eq-eqb, ne_eqb}
 use Rattle.std.specs.Prelude.{count_by}
 use Rattle.std.proofs.lemmas.Bool.{cases_eq, cases_lt, false_from_ne_true}
-use Rattle.kc_distinct.proofs.Counting.{count-agree, count-cons}
+use Rattle.kc_distinct.proofs.Counting.{count-agree, count-cons, one_if}
 use Rattle.kc_hindex.specs.Rounds.{how_many_reach}
-
--- a test as a number: one where it holds
-abbrev one_if : Bool → ℕ
-one_if b = cond b 1 0
 
 -- a number reaches `k` if it is `k` or reaches the next number
 reaches : (k n : ℕ) → one_if (leb (k + 1) n) + one_if (eqb n k) ≡ one_if (leb k n)

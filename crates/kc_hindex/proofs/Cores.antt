@@ -1,9 +1,9 @@
 -- Numbers that a round leaves unchanged, reached from the degrees, are the core numbers.
-use Rattle.std.proofs.Common.{◌≡◌, ◌≤◌, ◌<◌, ℕ, suc, zero, Bool, true, ◌&&◌, List, [], ◌∷◌, map, get_or, leb, sym, ◌∙◌, subst, arith, le_refl}
-use Rattle.std.proofs.Common.{le_trans, leb-true, le-leb, lt_irrefl}
+use Rattle.std.proofs.Common.{◌≡◌, ◌≤◌, ◌<◌, ℕ, suc, zero, Bool, true, ◌&&◌, List, map, get_or, leb, sym, ◌∙◌, subst, arith, le_refl}
+use Rattle.std.proofs.Common.{le_trans, leb-true, le-leb}
 use Rattle.std.specs.Prelude.{count_by}
 use Rattle.std.specs.List.{filter}
-use Rattle.std.proofs.lemmas.Bool.{and_parts, false_from_ne_true}
+use Rattle.std.proofs.lemmas.Bool.{and_parts}
 use Rattle.std.proofs.lemmas.List.Elements.{All-contains}
 use Rattle.kc_distinct.specs.Lists.{member, below, Distinct}
 use Rattle.kc_distinct.proofs.Counting.{count-mono, count-le, count-filter, member-get_or, member-from_Contains, Contains-from_member}
@@ -12,18 +12,9 @@ use Rattle.kc_distinct.proofs.Counting.{member-below, below-member}
 use Rattle.kc_graph.specs.SimpleGraph.{SimpleGraph, adjacent, degree_among}
 use Rattle.kc_graph.specs.Core.{IsInCore, IsCoreNumber, AreCoreNumbers, HasMinDegree}
 use Rattle.kc_graph.specs.Neighbours.{neighbours_of}
-use Rattle.kc_graph.proofs.NeighbourLists.{Rises, neighbours_rise, neighbours_has, neighbours_within}
+use Rattle.kc_graph.proofs.NeighbourLists.{neighbours_has, neighbours_within, neighbours_once}
 use Rattle.kc_hindex.specs.Rounds.{h_round, after_rounds, IsSettled, HasRound}
 use Rattle.kc_hindex.proofs.HIndex.{h_index-reached, h_index-greatest, count-map}
-
--- numbers that rise are distinct
-Distinct-rises : (xs : List ℕ) → Rises xs → Distinct xs
-Distinct-rises [] r = tt
-Distinct-rises (x ∷ xs) r = (false_from_ne_true (member x xs) (λ m. lt_irrefl x (r.0 x m)), Distinct-rises xs r.1)
-
--- no neighbour of a vertex stands twice among its neighbours
-pub neighbours_distinct : (g : SimpleGraph) (v : ℕ) → Distinct (neighbours_of g v)
-neighbours_distinct g v = Distinct-rises (neighbours_of g v) (neighbours_rise g v)
 
 -- two tests that hold hold together
 both_true : (a b : Bool) → a ≡ true → b ≡ true → (a && b) ≡ true
@@ -67,7 +58,7 @@ round-supported g c k v l =
     let one : count_by (λ w. leb h (c w)) near ≤ count_by both near =
     count-mono (λ w. leb h (c w)) both near (λ w m t. both_true (adjacent g v w) (leb h (c w)) (neighbours_within g v w m).1 t) in
     let two : count_by both near ≤ count_by both (below g.size) =
-    count-le both near (below g.size) (neighbours_distinct g v) (λ w m _. member-below w g.size (neighbours_within g v w m).0) in
+    count-le both near (below g.size) (neighbours_once g v) (λ w m _. member-below w g.size (neighbours_within g v w m).0) in
     let three : count_by both (below g.size) ≤ count_by (adjacent g v) (filter high (below g.size)) = count-filter high (adjacent g v) both
     (λ w t. let a = and_parts (adjacent g v w) (leb h (c w)) t in (le-leb k (c w) (le_trans l (leb-true h (c w) a.1)), a.0)) (below g.size) in
     omega (arith, some, one, two, three, count-map (leb h) c near)

@@ -1,31 +1,16 @@
 -- One neighbour less for each of a list, and who waits from then on.
-use Rattle.std.proofs.Common.{◌≡◌, ◌≤◌, ◌<◌, ◌+◌, ◌-◌, ℕ, Bool, true, false, cond, ◌&&◌, ◌||◌, List, [], ◌∷◌, ◌++◌, length, get_or, set, take, eqb}
+use Rattle.std.proofs.Common.{◌≡◌, ◌≤◌, ◌<◌, ◌+◌, ◌-◌, ℕ, Bool, true, false, cond, ◌&&◌, List, [], ◌∷◌, ◌++◌, length, get_or, set, take, eqb}
 use Rattle.std.proofs.Common.{ltb, refl, sym, ◌∙◌, ap, subst, inl, inr, arith, length-set, append-nil, append_assoc, eq-eqb, eqb-true, lt-ltb, le-ltb}
 use Rattle.std.proofs.Common.{ne_eqb}
 use Rattle.std.specs.List.{filter}
 use Rattle.std.proofs.lemmas.List.{take_more, get_or-set_same, get_or-set_other}
-use Rattle.std.proofs.lemmas.List.Elements.{filter-append}
 use Rattle.std.proofs.lemmas.Bool.{cases_eq, and_from, and_parts, and_left, and_right, or_right, false_from_ne_true}
-use Rattle.std.proofs.Math.Bool.{or-false}
 use Rattle.kc_distinct.specs.Lists.{Distinct, member}
-use Rattle.kc_distinct.proofs.Counting.{member-push, take-not_here}
+use Rattle.kc_distinct.proofs.Counting.{member-push, take-not_here, member-push_other, filter-push_yes, filter-push_no, one_if}
 use Rattle.kc_graph.specs.Rows.{row}
 use Rattle.kc_graph.specs.Peeling.{at}
 use Rattle.kc_graph.proofs.Buckets.{row-set_same, row-set_other}
-use Rattle.kc_graph.proofs.PeelingLemmas.{one_if}
 use Rattle.kc_hindex.specs.Ordering.{Released}
-
--- another number than the one that was put at the end
-push_other : (u w : ℕ) (ws : List ℕ) → (u ≡ w → ⊥) → member u (ws ++ w ∷ []) ≡ member u ws
-push_other u w ws ne = member-push u w ws ∙ ap (λ b. member u ws || b) (ne_eqb u w ne) ∙ or-false (member u ws)
-
--- a filter of a list with one number more at its end, which passes
-filter-push_yes : (p : ℕ → Bool) (w : ℕ) (ws : List ℕ) → p w ≡ true → filter p (ws ++ w ∷ []) ≡ filter p ws ++ w ∷ []
-filter-push_yes p w ws h = filter-append p ws (w ∷ []) ∙ ap (λ b. filter p ws ++ cond b (w ∷ []) []) h
-
--- a filter of a list with one number more at its end, which does not pass
-filter-push_no : (p : ℕ → Bool) (w : ℕ) (ws : List ℕ) → p w ≡ false → filter p (ws ++ w ∷ []) ≡ filter p ws
-filter-push_no p w ws h = filter-append p ws (w ∷ []) ∙ ap (λ b. filter p ws ++ cond b (w ∷ []) []) h ∙ append-nil (filter p ws)
 
 -- who waits in row `b` from now on: a vertex of that core number that has one neighbour more left
 abbrev pub joins : List ℕ → List ℕ → ℕ → ℕ → Bool
@@ -53,7 +38,7 @@ module _ (core ws : List ℕ) (w : ℕ) (left : List ℕ) (rows : List (List ℕ
           | inl e ↦
               let z : member u (ws ++ w ∷ []) && ltb (at core u) (at left u) ≡ false = and_right _ _ (ap (λ x. ltb (at core x) (at left x)) e ∙ not_above) in
               omega (arith, ap one_if z, ap (at left) e, ap (at left') e, same)
-          | inr ne ↦ h.lowered u ∙ ap (λ b. at left' u + cond (b && ltb (at core u) (at left u)) 1 0) (sym (push_other u w ws ne))
+          | inr ne ↦ h.lowered u ∙ ap (λ b. at left' u + cond (b && ltb (at core u) (at left u)) 1 0) (sym (member-push_other u w ws ne))
         ];
         filed = λ b.
             let no : joins core left b w ≡ false = false_from_ne_true _ (λ t.
@@ -75,7 +60,7 @@ module _ (core ws : List ℕ) (w : ℕ) (left : List ℕ) (rows : List (List ℕ
             and_from _ _ (member-push u w ws ∙ or_right (member u ws) (eqb u w) (eq-eqb u w e)) (ap (λ x. ltb (at core x) (at left x)) e ∙ above) in
             omega (arith, ap one_if t, get_or-set_same left' w c 0 lw, ap (at less) e, ap (at left) e, same, up)
         | inr ne ↦
-            h.lowered u ∙ ap (λ b. at left' u + cond (b && ltb (at core u) (at left u)) 1 0) (sym (push_other u w ws ne))
+            h.lowered u ∙ ap (λ b. at left' u + cond (b && ltb (at core u) (at left u)) 1 0) (sym (member-push_other u w ws ne))
             ∙ ap (λ (k : ℕ). k + cond (member u (ws ++ w ∷ []) && ltb (at core u) (at left u)) 1 0) (sym (get_or-set_other left' w u c 0 ne))
       ]
 

@@ -1,17 +1,13 @@
 -- What the list of the neighbours of a vertex gives to a round.
-use Rattle.std.proofs.Common.{◌≡◌, ◌<◌, ◌≤◌, ℕ, List, [], length, map, get_or, ap, sym, ◌∙◌, arith}
-use Rattle.std.specs.Prelude.{All, count_by}
+use Rattle.std.proofs.Common.{◌≡◌, ◌<◌, ◌≤◌, ℕ, List, [], length, map, ap, sym, ◌∙◌, arith}
+use Rattle.std.specs.Prelude.{count_by}
 use Rattle.kc_distinct.specs.Lists.{below}
-use Rattle.kc_distinct.proofs.Counting.{member-get_or, count-all, count-le, member-below, Distinct-below}
+use Rattle.kc_distinct.proofs.Counting.{count-all, count-le, member-below, Distinct-below}
 use Rattle.kc_graph.specs.SimpleGraph.{SimpleGraph, adjacent, degree_among}
 use Rattle.kc_graph.specs.Neighbours.{AreNeighbours}
 use Rattle.kc_graph.proofs.NeighbourLists.{neighbours_are}
 use Rattle.kc_graph.proofs.PeelingLemmas.{degree_is, remaining-lt, neighbours-distinct}
 use Rattle.kc_hindex.specs.Rounds.{h_index, h_round}
-
--- the neighbours in a row are vertices
-pub row_within : (g : SimpleGraph) (v : ℕ) (ws : List ℕ) → AreNeighbours g v ws → All (λ w. w < g.size) ws
-row_within g v ws near k d l = near.within (get_or ws k d) (member-get_or ws k d l)
 
 -- a vertex has fewer neighbours in its row than there are vertices
 pub row_few : (g : SimpleGraph) (v : ℕ) (ws : List ℕ) → v < g.size → AreNeighbours g v ws → length ws < g.size

@@ -5,14 +5,14 @@ use Rattle.std.specs.Prelude.{count_by}
 use Rattle.std.proofs.lemmas.Bool.{cases_eq}
 use Rattle.std.proofs.lemmas.List.{ext_get_or}
 use Rattle.kc_distinct.proofs.Members.{member-head, member-tail}
-use Rattle.kc_distinct.specs.Lists.{member, below}
+use Rattle.kc_distinct.specs.Lists.{member, below, total}
 use Rattle.kc_distinct.proofs.Counting.{member-below, count-le-length, length-below, count-le, count-all}
+use Rattle.kc_distinct.proofs.Shared.{total-agree}
 use Rattle.kc_graph.specs.SimpleGraph.{SimpleGraph, adjacent, degree_among}
 use Rattle.kc_graph.specs.Neighbours.{neighbours_of}
-use Rattle.kc_graph.proofs.NeighbourLists.{neighbours_within}
-use Rattle.kc_hindex.specs.Rounds.{h_index, h_round, after_rounds, IsSettled, AreRounds, total, HasRound, IsRoundOf}
+use Rattle.kc_graph.proofs.NeighbourLists.{neighbours_within, neighbours_once}
+use Rattle.kc_hindex.specs.Rounds.{h_index, h_round, after_rounds, IsSettled, AreRounds, HasRound, IsRoundOf}
 use Rattle.kc_hindex.proofs.HIndex.{h_index-length, h_index-mono, length-map}
-use Rattle.kc_hindex.proofs.Cores.{neighbours_distinct}
 
 -- two ways to number that agree on a list
 pub map-agree : (c d : ℕ → ℕ) (ws : List ℕ) → ((w : ℕ) → member w ws ≡ true → c w ≡ d w) → map c ws ≡ map d ws
@@ -25,7 +25,7 @@ round-degree g c v =
     let near : List ℕ = neighbours_of g v in
     let all : count_by (adjacent g v) near ≡ length near = count-all (adjacent g v) near (λ w m. (neighbours_within g v w m).1) in
     let some : count_by (adjacent g v) near ≤ count_by (adjacent g v) (below g.size) =
-    count-le (adjacent g v) near (below g.size) (neighbours_distinct g v) (λ w m _. member-below w g.size (neighbours_within g v w m).0) in
+    count-le (adjacent g v) near (below g.size) (neighbours_once g v) (λ w m _. member-below w g.size (neighbours_within g v w m).0) in
     omega (arith, h_index-length (map c near), length-map c near, all, some)
 
 -- one round more raises no number
@@ -50,11 +50,6 @@ same_or_less c d (suc n) h =
       | inr ne ↦ let rest : total c n ≤ total d n = total-le c d n h in inr (omega (arith, rest, h n, ne))
     ]
 
--- numbers that are the same have the same sum
-total-same : (c d : ℕ → ℕ) (n : ℕ) → ((v : ℕ) → v < n → c v ≡ d v) → total c n ≡ total d n
-total-same c d zero h = refl
-total-same c d (suc n) h = let rest : total c n ≡ total d n = total-same c d n (λ v l. h v (omega arith)) in omega (arith, rest, h n (omega arith))
-
 -- a round that changes nothing, with none before it, is the first one
 pub here : (g : SimpleGraph) (r : ℕ) → ((s : ℕ) → IsSettled g s → r ≤ s)
     → ((v : ℕ) → v < g.size → after_rounds g (suc r) v ≡ after_rounds g r v) → AreRounds g (suc r)
@@ -73,7 +68,7 @@ later g r none less s h =
       | inl e ↦
           let h' : IsSettled g r = subst (λ (x : ℕ). IsSettled g x) (sym e) h in
           let still : total (after_rounds g (suc r)) g.size ≡ total (after_rounds g r) g.size =
-          total-same (after_rounds g (suc r)) (after_rounds g r) g.size h' in
+          total-agree (after_rounds g (suc r)) (after_rounds g r) g.size h' in
           absurd (omega arith)
       | inr ne ↦ omega arith
     ]

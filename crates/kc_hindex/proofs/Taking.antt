@@ -10,7 +10,7 @@ use Rattle.std.proofs.lemmas.List.Elements.{All-contains}
 use Rattle.std.proofs.Math.Bool.{and-true}
 use Rattle.kc_distinct.specs.Lists.{Distinct, below, member}
 use Rattle.kc_distinct.proofs.Members.{member-append, member-append_left, member-append_right, Distinct-cut}
-use Rattle.kc_distinct.proofs.Counting.{Contains-from_member, count-agree, count-filter, count-le, count-mono, Distinct-below, Distinct-filter}
+use Rattle.kc_distinct.proofs.Counting.{Contains-from_member, count-agree, count-filter, count-le, count-mono, Distinct-below, Distinct-filter, one_if}
 use Rattle.kc_distinct.proofs.Counting.{Distinct-from_pairs, Distinct-push, filter-member, below-member, member-below, member-filter, member-get_or}
 use Rattle.kc_distinct.proofs.Counting.{member-push, member-push_cases, member-push_left, member-push_none, pairs_from_Distinct}
 use Rattle.kc_distinct.proofs.Shared.{Distinct-append}
@@ -21,7 +21,7 @@ use Rattle.kc_graph.specs.Neighbours.{AreNeighbours}
 use Rattle.kc_graph.specs.Rows.{row}
 use Rattle.kc_graph.specs.Peeling.{at, as_high, remaining}
 use Rattle.kc_graph.proofs.Law.{adjacent-sym}
-use Rattle.kc_graph.proofs.PeelingLemmas.{start, raise, take_one, finish, one_if, remaining-taken, neighbours-distinct}
+use Rattle.kc_graph.proofs.PeelingLemmas.{start, raise, take_one, finish, remaining-taken, neighbours-distinct}
 use Rattle.kc_graph.proofs.Buckets.{row-set_same, row-set_other}
 use Rattle.kc_hindex.specs.Rounds.{HasRound}
 use Rattle.kc_hindex.specs.Ordering.{IsNext, Orders, Released, Sorted}

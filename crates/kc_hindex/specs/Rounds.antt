@@ -1,5 +1,5 @@
 -- Rounds in which each vertex takes the h-index of its neighbours' numbers (Lü, Zhou, Zhang and Stanley 2016).
-use Rattle.std.specs.Prelude.{◌≡◌, ◌≤◌, ◌<◌, ◌+◌, ℕ, zero, suc, List, length, map, slice_index, count_by, nat_le, if◌then◌else◌}
+use Rattle.std.specs.Prelude.{◌≡◌, ◌≤◌, ◌<◌, ℕ, zero, suc, List, length, map, slice_index, count_by, nat_le, if◌then◌else◌}
 use Rattle.kc_distinct.specs.Lists.{below}
 use Rattle.kc_graph.specs.SimpleGraph.{SimpleGraph, degree_among}
 use Rattle.kc_graph.specs.Neighbours.{neighbours_of}
@@ -40,11 +40,6 @@ pub record AreRounds (g : SimpleGraph) (rounds : ℕ) : Type 0 where
   pub positive : 1 ≤ rounds
   pub settled : (r : ℕ) → rounds ≡ suc r → IsSettled g r
   pub first : (r : ℕ) → IsSettled g r → rounds ≤ suc r
-
--- the sum of `c` at the numbers below `n`
-abbrev pub total : (ℕ → ℕ) → ℕ → ℕ
-total c zero = 0
-total c (suc n) = c n + total c n
 
 -- the list has the numbers after `r` rounds
 pub record HasRound (g : SimpleGraph) (r : ℕ) (numbers : List ℕ) : Type 0 where

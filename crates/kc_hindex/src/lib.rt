@@ -19,9 +19,10 @@ mod piece;
 mod rounds;
 
 ghost use Rattle.std.specs.Prelude.{◌≡◌, ◌≤◌, ◌<◌, ◌+◌, ℕ, suc, List};
+ghost use Rattle.kc_distinct.specs.Lists.{total};
 ghost use Rattle.kc_graph.specs.SimpleGraph.{SimpleGraph};
 ghost use Rattle.kc_graph.specs.Core.{IsCoreNumber, AreCoreNumbers};
-ghost use Rattle.kc_hindex.specs.Rounds.{IsHIndex, h_index, after_rounds, IsSettled, AreRounds, HasRound, total};
+ghost use Rattle.kc_hindex.specs.Rounds.{IsHIndex, h_index, after_rounds, IsSettled, AreRounds, HasRound};
 
 pub use ordering::lawful;
 pub use peeling::{Peeled, peel};

@@ -5,8 +5,7 @@ use Rattle.std.specs.Prelude.{count_by}
 use Rattle.std.proofs.lemmas.Bool.{and_parts}
 use Rattle.std.proofs.lemmas.List.{take_more}
 use Rattle.kc_distinct.specs.Lists.{member, Distinct, below}
-use Rattle.kc_distinct.proofs.Counting.{member-push, member-below, below-member, Distinct-below, count-agree, count-le}
-use Rattle.kc_cert.proofs.Sums.{one_if}
+use Rattle.kc_distinct.proofs.Counting.{member-push, member-below, below-member, Distinct-below, count-agree, count-le, one_if}
 use Rattle.kc_cert.proofs.Tallying.{count-more}
 use Rattle.kc_view.specs.Search.{Search, on_level, above, after}
 use Rattle.kc_insert.specs.Turns.{side_in, is_ahead, is_next, IsAheadOf}

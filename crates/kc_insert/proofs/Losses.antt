@@ -5,12 +5,14 @@ use Rattle.std.proofs.Common.{eq-eqb, ne_eqb}
 use Rattle.std.specs.Prelude.{is_some}
 use Rattle.std.proofs.lemmas.Bool.{cases_Bool, cases_eq, false≢true, false_from_ne_true}
 use Rattle.std.proofs.lemmas.List.{append-nil, append_assoc, take-append-le}
+use Rattle.std.proofs.Math.Bool.{or-false}
 use Rattle.kc_distinct.specs.Lists.{member, Distinct}
 use Rattle.kc_distinct.proofs.Members.{member-head, member-tail, member-cases, member-append_left}
 use Rattle.kc_distinct.proofs.Counting.{member-push, member-push_cases, Distinct-push}
 use Rattle.kc_distinct.proofs.Shared.{member-grown_other}
 use Rattle.kc_cert.specs.Local.{firsts, seconds}
 use Rattle.kc_cert.proofs.Final.{filter-has}
+use Rattle.kc_cert.proofs.Turns.{length-firsts}
 use Rattle.kc_insert.specs.Marks.{mark_of, earlier_in, later_in, turn_in, candidate_in, weak_in}
 use Rattle.kc_insert.specs.Rising.{is_queued, earlier_at, later_at, turn_at, is_candidate, is_weak, cands, left, IsOrderly}
 use Rattle.kc_insert.specs.Turns.{loses_later, loses_earlier, taken_from, recounted, grown, Recounts, LosesOne, Loses}
@@ -48,11 +50,6 @@ both m p h = grind arith
 -- who is a candidate is on the list of these
 pub cands-has : (r : Rising) → IsOrderly r → (y : ℕ) → member y (cands r) ≡ is_candidate r y
 cands-has r o y = filter-has (is_candidate r) y r.queue.items ∙ both (member y r.queue.items) (is_candidate r y) (cand-queued r o y)
-
--- a list of pairs has as many firsts as pairs
-length-firsts : (xs : List (ℕ × ℕ)) → length (firsts xs) ≡ length xs
-length-firsts [] = refl
-length-firsts (x ∷ xs) = let k = length-firsts xs in omega (arith, k)
 
 -- the first `n` of a list are no more than the list has
 length-take : (n : ℕ) (xs : List ℕ) → length (take n xs) ≤ length xs
@@ -281,14 +278,10 @@ grown-cases : (found : Bool) (y z : ℕ) (xs ys : List ℕ) → ys ≡ cond foun
 grown-cases true y z xs ys e m = elim (member-push_cases z y xs (sym (ap (member z) e) ∙ m)) [ inl k ↦ inl k | inr q ↦ inr (q, refl) ]
 grown-cases false y z xs ys e m = inl (sym (ap (member z) e) ∙ m)
 
--- a truth or `false` is that truth
-no-more : (b : Bool) → (b || false) ≡ b
-no-more b = grind arith
-
 -- the vertex is on the list of the weak where it was before or is found now
 grown-here : (found : Bool) (y : ℕ) (xs ys : List ℕ) → ys ≡ cond found (xs ++ y ∷ []) xs → member y ys ≡ (member y xs || found)
 grown-here true y xs ys e = ap (member y) e ∙ (member-push y y xs ∙ ap (λ b. member y xs || b) (eq-eqb y y refl))
-grown-here false y xs ys e = ap (member y) e ∙ sym (no-more (member y xs))
+grown-here false y xs ys e = ap (member y) e ∙ sym (or-false (member y xs))
 
 -- the list of the weak keeps those it had, and has some behind them
 grown-more : (found : Bool) (y : ℕ) (xs ys : List ℕ) → ys ≡ cond found (xs ++ y ∷ []) xs → (more : List ℕ) × (ys ≡ xs ++ more)

@@ -7,6 +7,7 @@ use Rattle.std.proofs.Math.Bool.{or_assoc}
 use Rattle.kc_distinct.specs.Lists.{member, Distinct}
 use Rattle.kc_distinct.proofs.Members.{member-head, member-tail}
 use Rattle.kc_distinct.proofs.Counting.{member-get_or, drop-member}
+use Rattle.kc_distinct.proofs.Shared.{or-turned}
 use Rattle.kc_cert.specs.Ranks.{rank_in, AscendsBy}
 use Rattle.kc_cert.proofs.Ordered.{rank-here}
 
@@ -23,14 +24,10 @@ Ascends-drop r zero xs a = a
 Ascends-drop r (suc n) [] a = a
 Ascends-drop r (suc n) (x ∷ xs) a = Ascends-drop r n xs a.1
 
--- of two truths either may be said first
-or_comm : (a b : Bool) → (a || b) ≡ (b || a)
-or_comm a b = grind arith
-
 -- with a number put in, a list has that number and those that it had
 pub inserted-has : (xs : List ℕ) (i y z : ℕ) → member z (insert xs i y) ≡ (member z xs || eqb z y)
-inserted-has xs zero y z = or_comm (eqb z y) (member z xs)
-inserted-has [] (suc i) y z = or_comm (eqb z y) false
+inserted-has xs zero y z = or-turned (eqb z y) (member z xs)
+inserted-has [] (suc i) y z = or-turned (eqb z y) false
 inserted-has (x ∷ xs) (suc i) y z = ap (λ b. eqb z x || b) (inserted-has xs i y z) ∙ sym (or_assoc (eqb z x) (member z xs) (eqb z y))
 
 -- where two truths fail, neither holds

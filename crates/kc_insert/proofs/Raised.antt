@@ -6,9 +6,8 @@ use Rattle.std.proofs.lemmas.Bool.{cases_eq, or_cases, or_right, and_parts, fals
 use Rattle.std.proofs.lemmas.List.{drop_more}
 use Rattle.kc_distinct.specs.Lists.{member, below}
 use Rattle.kc_distinct.proofs.Members.{member-head}
-use Rattle.kc_distinct.proofs.Counting.{member-get_or, member-push_cases, Distinct-below, count-le, count-miss}
+use Rattle.kc_distinct.proofs.Counting.{member-get_or, member-push_cases, Distinct-below, count-le, count-miss, one_if}
 use Rattle.kc_cert.specs.Ranks.{AscendsBy}
-use Rattle.kc_cert.proofs.Sums.{one_if}
 use Rattle.kc_view.specs.Search.{Search, after, OnLevel, Forward, at_root, further}
 use Rattle.kc_insert.specs.Marks.{earlier_in, later_in, candidate_in}
 use Rattle.kc_insert.specs.Rising.{earlier_at, later_at, is_candidate, cands, left, waiting, IsOrderly}

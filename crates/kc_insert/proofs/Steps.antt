@@ -4,10 +4,10 @@ use Rattle.std.proofs.Common.{inl, inr, arith, true≢false, eq-eqb, ne_eqb, lt_
 use Rattle.std.proofs.lemmas.Bool.{cases_Bool, cases_eq, cases_lt, cases_order, false≢true, and_parts, and_from, or_cases, or_left, or_right, or_from}
 use Rattle.kc_distinct.specs.Lists.{member, below}
 use Rattle.kc_distinct.proofs.Members.{member-head, member-tail, member-cases}
-use Rattle.kc_distinct.proofs.Counting.{member-other}
+use Rattle.kc_distinct.proofs.Counting.{member-other, one_if}
 use Rattle.kc_distinct.proofs.Shared.{ltb-double}
 use Rattle.kc_cert.specs.Ranks.{moved}
-use Rattle.kc_cert.proofs.Sums.{one_if, count-none}
+use Rattle.kc_cert.proofs.Sums.{count-none}
 use Rattle.kc_cert.proofs.Placing.{moved-itself, moved-other}
 use Rattle.kc_view.specs.Search.{Search, among, on_level, above, after, OnLevel}
 use Rattle.kc_view.proofs.Among.{among-agree, among-one, among-some, among-sum}

@@ -4,7 +4,7 @@ use Rattle.std.proofs.Common.{arith, eqb-true, ne_eqb}
 use Rattle.std.specs.Prelude.{count_by}
 use Rattle.std.proofs.lemmas.Bool.{cases_order}
 use Rattle.kc_distinct.specs.Lists.{member, below}
-use Rattle.kc_distinct.proofs.Counting.{member-below, Distinct-below, count-mono, count-agree}
+use Rattle.kc_distinct.proofs.Counting.{member-below, Distinct-below, count-mono, count-agree, one_if}
 use Rattle.kc_graph.specs.SimpleGraph.{adjacent}
 use Rattle.kc_graph.specs.Edges.{with_edge}
 use Rattle.kc_graph.specs.Lawful.{Ranked, IsCertified}
@@ -15,7 +15,7 @@ use Rattle.kc_graph.proofs.Law.{adjacent-self, adjacent-sym}
 use Rattle.kc_cert.specs.Ranks.{rank_in}
 use Rattle.kc_cert.proofs.Keeping.{ends_differ}
 use Rattle.kc_cert.proofs.Ordered.{order-has, rank-apart, few-ranked, enough-below, ranks-rise}
-use Rattle.kc_cert.proofs.Sums.{one_if, count-one-in}
+use Rattle.kc_cert.proofs.Sums.{count-one-in}
 use Rattle.kc_view.specs.Search.{search_in}
 use Rattle.kc_view.specs.Sure.{root_of}
 use Rattle.kc_view.proofs.Among.{at_most_one}

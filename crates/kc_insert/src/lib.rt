@@ -20,8 +20,6 @@ mod raising;
 mod rising;
 mod row;
 mod settling;
-#[cfg(test)]
-mod tests;
 mod turns;
 
 pub use insertion::plan;

@@ -21,8 +21,6 @@ pub mod sink;
 pub mod source;
 pub mod std_sink;
 pub mod std_source;
-#[cfg(test)]
-mod tests;
 
 /// Want of memory.
 pub use std::alloc::AllocError as NoMemory;

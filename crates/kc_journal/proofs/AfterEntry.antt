@@ -5,7 +5,7 @@ use Rattle.std.proofs.lemmas.Bool.{cases_Bool, ne_eqb, eq-eqb, false≢true}
 use Rattle.std.proofs.lemmas.List.Elements.{All-push}
 use mathlib.Core.List.{IsPrefix}
 use Rattle.kc_distinct.specs.Lists.{member}
-use Rattle.kc_distinct.proofs.Members.{member-head, member-append_left, member-append_right, append-not_member}
+use Rattle.kc_distinct.proofs.Members.{member-append_left, member-append_right, append-not_member, no_member-empty}
 use Rattle.kc_graph.specs.SimpleGraph.{SimpleGraph}
 use Rattle.kc_graph.specs.Lawful.{Ranked, IsCertified}
 use Rattle.kc_graph.specs.Plans.{state_after}
@@ -95,11 +95,6 @@ number-is j h = omega (arith, ap length h.entries, length-append h.before (entri
 pub moved-within : (s : Ranked) (moves : Moves) → MovesFit s moves → (x : ℕ) → member x (moved_vertices moves) ≡ true → x < s.graph.size
 moved-within s moves fit x m = (fit.of_level x m).vertex
 
--- what has no member is empty
-empty : (xs : List ℕ) → ((v : ℕ) → member v xs ≡ false) → xs ≡ []
-empty [] h = refl
-empty (x ∷ xs) h = absurd (false≢true (sym (h x) ∙ member-head x xs))
-
 -- a plan that moves no more than it should puts no more than its entry calls for
 spares : (s : Ranked) (plan : Plan) (index : ℕ) → IsLocal s plan → IsSparing s plan → PutsSparingly s (entry_of index plan.update) (puts_of plan.moves)
 spares s plan index local sparing =
@@ -107,7 +102,7 @@ spares s plan index local sparing =
     record {
       vertices = λ x m. moved-within s plan.moves local.moves_fit x (sym (once.1 x) ∙ m);
       once = once.0;
-      kept = λ same. empty (puts_of plan.moves) (λ v. once.1 v ∙ ap (member v) (sparing.kept same));
+      kept = λ same. no_member-empty (puts_of plan.moves) (λ v. once.1 v ∙ ap (member v) (sparing.kept same));
       inserted = λ add x m. sparing.inserted add x (sym (once.1 x) ∙ m);
       removed = λ gone applied core are x low. once.1 x ∙ sparing.removed gone applied core are x low;
     }

@@ -1,9 +1,9 @@
 -- What an entry and a stale stamp tell those who read the log.
 use Rattle.std.proofs.Common.{◌≡◌, ℕ, ◌+◌, ◌<◌, ◌≤◌, ◌⊎◌, true, false, List, [], ◌∷◌, ◌++◌, length, get_or, drop, sym, ap, ◌∙◌, subst, inl, inr, arith}
 use Rattle.std.proofs.Common.{length-append, append_assoc}
-use Rattle.std.specs.Prelude.{All}
 use Rattle.std.proofs.lemmas.Bool.{true≢false, cases_lt}
-use Rattle.std.proofs.Math.Seq.{drop-append_seam, get_or-append_seam}
+use Rattle.std.proofs.Math.Seq.{drop-append_seam}
+use Rattle.kc_distinct.proofs.Shared.{All-middle}
 use Rattle.kc_graph.specs.SimpleGraph.{SimpleGraph}
 use Rattle.kc_graph.specs.Neighbours.{AreNeighbours}
 use Rattle.kc_graph.specs.declared.plan.Plan.{Plan}
@@ -81,11 +81,6 @@ may-tell j e h low at near =
     published j.levels.table j.opened j.levels.log e low (at ∙ sym (number-is j h))
     (subst (λ (g : SimpleGraph). AreNeighbours g e.vertex e.neighbours) h.from_opening near)
 
--- what holds of all holds of one in the middle
-pub middle : {A : Type 0} (P : A → Type 0) (front back : List A) (x : A) (xs : List A) → xs ≡ front ++ x ∷ back → All P xs → P x
-middle P front back x xs is all =
-    subst P (get_or-append_seam front x back x) (subst (All P) is all (length front) x (omega (arith, length-append front (x ∷ back))))
-
 -- a stale stamp of a list is the one at the opening, or the number of an entry that changed the vertex's edges
 pub stale-list : (j : Journalled) (plan : Plan) (stale : Stale) → Stands j → MayEnter j plan → IsStale j plan stale → stale.edges ≡ true
     → (stale.now ≡ get_or j.opening_stamps stale.vertex 0)
@@ -95,7 +90,7 @@ stale-list j plan stale h may is edges = elim is.first [
       let t : TableName = j.levels.table in
       let v : ℕ = f.list.vertex in
       let vertex : stale.vertex ≡ v = ap (λ (s : Stale). s.vertex) f.named in
-      let low : v < size_of j.levels = (middle (WasList t j.opened may.log) f.front f.back f.list _ f.is may.from_log.edges).vertex in
+      let low : v < size_of j.levels = (All-middle (WasList t j.opened may.log) f.front f.back f.list _ f.is may.from_log.edges).vertex in
       let now : stale.now ≡ edge_stamp t j.opened j.opening_stamps j.levels.log v = ap (λ (s : Stale). s.now) f.named ∙ is.present.edges v low in
       let begun : get_or j.opening_stamps v 0 ≤ edge_stamp t j.opened j.opening_stamps j.levels.log v =
       no_less j.opened (entries_here j) t.shape.base v (get_or j.opening_stamps v 0) (h.early v low) in
@@ -116,7 +111,7 @@ stale-place j plan stale h may is edges = elim is.first [
       let t : TableName = j.levels.table in
       let v : ℕ = f.place.vertex in
       let P : ℕ → ℕ → Type 0 = λ w stamp. WasLastPut t j.levels.log w stamp ⊎ WasNotPut t j.levels.log w stamp in
-      let low : v < size_of j.levels = (middle (WasPlace t may.log) f.front f.back f.place _ f.is may.from_log.places).vertex in
+      let low : v < size_of j.levels = (All-middle (WasPlace t may.log) f.front f.back f.place _ f.is may.from_log.places).vertex in
       let now : stamp_at j.levels v ≡ stale.now = sym (ap (λ (s : Stale). s.now) f.named ∙ is.present.places v low) in
       subst (λ (w : ℕ). P w stale.now) (sym (ap (λ (s : Stale). s.vertex) f.named)) (subst (P v) now (h.places v low))
 ]

@@ -5,7 +5,7 @@ use Rattle.std.specs.List.{filter}
 use Rattle.std.proofs.lemmas.Bool.{cases_Bool, cases_eq, false≢true, false_from_ne_true}
 use Rattle.kc_distinct.specs.Lists.{member, Distinct, without, right_after, last_or, prev_of}
 use Rattle.kc_distinct.proofs.Counting.{member-filter}
-use Rattle.kc_distinct.proofs.Members.{member-head, member-tail, member-cases, not_member-parts, member-last_or, without-none}
+use Rattle.kc_distinct.proofs.Members.{member-head, member-tail, member-cases, not_member-parts, member-last_or, without-none, without-here, without-next}
 use Rattle.kc_cert.proofs.Chaining.{right_after-here, right_after-next}
 
 -- the first passes and stays
@@ -50,23 +50,6 @@ filter-filter p q (x ∷ xs) = elim (cases_Bool (q x)) [
 -- two filters may change places
 pub filter-swap : (p q : ℕ → Bool) (xs : List ℕ) → filter p (filter q xs) ≡ filter q (filter p xs)
 filter-swap p q xs = filter-filter p q xs ∙ (filter-alike (λ y. q y && p y) (λ y. p y && q y) xs (λ y _. and_swap (q y) (p y)) ∙ sym (filter-filter q p xs))
-
--- the first is the one left out
-pub without-here : (v x : ℕ) (xs : List ℕ) → v ≡ x → without v (x ∷ xs) ≡ without v xs
-without-here v x xs e = ap (λ b. cond b (without v xs) (x ∷ without v xs)) (eq-eqb v x e)
-
--- the first is another and stays
-pub without-next : (v x : ℕ) (xs : List ℕ) → v ≢ x → without v (x ∷ xs) ≡ x ∷ without v xs
-without-next v x xs ne = ap (λ b. cond b (without v xs) (x ∷ without v xs)) (ne_eqb v x ne)
-
--- leaving out goes part by part
-pub without-append : (v : ℕ) (xs ys : List ℕ) → without v (xs ++ ys) ≡ without v xs ++ without v ys
-without-append v [] ys = refl
-without-append v (x ∷ xs) ys = elim (eqb v x) as (λ b. cond b (without v (xs ++ ys)) (x ∷ without v (xs ++ ys))
-    ≡ cond b (without v xs) (x ∷ without v xs) ++ without v ys) [
-      | true ↦ without-append v xs ys
-      | false ↦ ap (λ (zs : List ℕ). x ∷ zs) (without-append v xs ys)
-    ]
 
 -- a filter and leaving out may change places
 pub filter-without : (p : ℕ → Bool) (v : ℕ) (xs : List ℕ) → filter p (without v xs) ≡ without v (filter p xs)

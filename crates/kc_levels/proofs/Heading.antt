@@ -6,13 +6,13 @@ use Rattle.std.proofs.lemmas.Bool.{cases_eq, cases_lt, eqb-true, false_from_ne_t
 use Rattle.std.proofs.lemmas.List.{get_or-set_same, get_or-set_other}
 use Rattle.std.proofs.lemmas.List.Elements.{filter-append}
 use Rattle.kc_distinct.specs.Lists.{member, Distinct, without, right_after, last_or, prev_of}
-use Rattle.kc_distinct.proofs.Members.{member-cases, not_member-cons, append-not_member, member-last_or, member-without, not_member-without}
+use Rattle.kc_distinct.proofs.Members.{member-cases, not_member-cons, append-not_member, member-last_or, member-without, not_member-without, without-next}
 use Rattle.kc_distinct.proofs.Counting.{member-filter, Distinct-filter}
-use Rattle.kc_distinct.proofs.Members.{Distinct-without}
+use Rattle.kc_distinct.proofs.Members.{Distinct-without, without-append}
 use Rattle.kc_graph.specs.Plans.{put_between}
 use Rattle.kc_cert.proofs.Chaining.{right_after-here, right_after-next}
 use Rattle.kc_levels.specs.Heads.{level_part, parts_from, with_heads, put}
-use Rattle.kc_levels.proofs.Cuts.{filter-all, filter-swap, filter-alike, filter-none, filter-without, filter-but, without-next, without-append}
+use Rattle.kc_levels.proofs.Cuts.{filter-all, filter-swap, filter-alike, filter-none, filter-without, filter-but}
 use Rattle.kc_levels.proofs.Cuts.{right_after-skip, right_after-both, right_after-last, filter-right_after}
 use Rattle.kc_levels.proofs.Cuts.{prev_of-here, prev_of-next, prev_of-skip}
 

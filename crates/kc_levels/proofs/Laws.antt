@@ -6,7 +6,7 @@ use Rattle.std.proofs.lemmas.Bool.{and_left, false_from_ne_true}
 use Rattle.kc_distinct.specs.Lists.{member, Distinct}
 use Rattle.kc_distinct.proofs.Members.{below_bound}
 use Rattle.kc_distinct.proofs.Counting.{count-miss, member-from_Contains}
-use Rattle.kc_distinct.proofs.Shared.{Distinct-append}
+use Rattle.kc_distinct.proofs.Shared.{Distinct-append, or-turned}
 use Rattle.kc_graph.specs.SimpleGraph.{adjacent}
 use Rattle.kc_graph.specs.Lawful.{Ranked, IsCertified}
 use Rattle.kc_graph.specs.Plans.{moved_by, state_after, put_between, shifted, renumbered}
@@ -25,7 +25,7 @@ use Rattle.kc_levels.specs.Levels.{Levelled, OpensSection, size_of}
 use Rattle.kc_levels.specs.Makes.{AreLevelsOf, IsFresh, Makes, MayMake, as_ranked, puts_of, backwards}
 use Rattle.kc_levels.proofs.Planned.{moves-made}
 use Rattle.kc_levels.proofs.Opening.{order-below}
-use Rattle.kc_levels.proofs.Steps.{both-distinct, Distinct-apart, Distinct-backwards, member-backwards, has-both, or_swap}
+use Rattle.kc_levels.proofs.Steps.{both-distinct, Distinct-apart, Distinct-backwards, member-backwards, has-both}
 
 -- in a certified state each core number is below the number of vertices
 pub certified-low : (s : Ranked) → IsCertified s → (v : ℕ) → v < s.graph.size → get_or s.core v 0 < s.graph.size
@@ -55,7 +55,7 @@ puts-once s (Rise level rise shifts) fit =
           ∙ false_from_ne_true (member y rise.items) (λ q. true≢false (sym m ∙ Distinct-apart rise.items (firsts shifts.items) fit.once y q))),
       λ v. has-both v (firsts shifts.items) (backwards rise.items)
           ∙ (ap (λ q. member v (firsts shifts.items) || q) (member-backwards v rise.items)
-          ∙ (or_swap (member v (firsts shifts.items)) (member v rise.items) ∙ sym (has-both v rise.items (firsts shifts.items)))),
+          ∙ (or-turned (member v (firsts shifts.items)) (member v rise.items) ∙ sym (has-both v rise.items (firsts shifts.items)))),
     )
 puts-once s (Fall level fall) fit = (fit.once, λ v. refl)
 

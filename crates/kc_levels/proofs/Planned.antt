@@ -9,7 +9,7 @@ use Rattle.kc_distinct.specs.Lists.{member, Distinct, without, prev_of}
 use Rattle.kc_distinct.proofs.Members.{member-head, member-tail, member-append_left, member-append_right, append-not_member}
 use Rattle.kc_distinct.proofs.Members.{Distinct-cut, Distinct-right_after, Distinct-without, not_member-without}
 use Rattle.kc_distinct.proofs.Counting.{member-filter, member-below, below-member, Distinct-filter, member-push}
-use Rattle.kc_distinct.proofs.Shared.{Distinct-append, Distinct-front}
+use Rattle.kc_distinct.proofs.Shared.{Distinct-append, Distinct-front, or-turned}
 use Rattle.kc_graph.specs.Lawful.{Ranked}
 use Rattle.kc_graph.specs.Certificate.{Enumerates}
 use Rattle.kc_graph.specs.Plans.{put_between, shifted, renumbered, moved_by}
@@ -147,7 +147,7 @@ module _ (low test : ℕ → Bool) (moved : List ℕ) (v : ℕ) (order : List �
   between-behind all =
       let mp : filter passes moved ≡ moved = filter-all passes moved (λ y m. let k = all y m in let k' = not_v y m in grind (arith, k, k')) in
       let mf : filter fails moved ≡ [] = filter-none fails moved (λ y m. let k = all y m in grind (arith, k)) in
-      let same : (y : ℕ) → member y (v ∷ moved) ≡ member y (moved ++ v ∷ []) = λ y. or_swap (eqb y v) (member y moved) ∙ sym (member-push y v moved) in
+      let same : (y : ℕ) → member y (v ∷ moved) ≡ member y (moved ++ v ∷ []) = λ y. or-turned (eqb y v) (member y moved) ∙ sym (member-push y v moved) in
       let lows-same : lows (v ∷ moved) ≡ lows (moved ++ v ∷ []) =
       filter-alike (λ y. low y && not (member y (v ∷ moved))) (λ y. low y && not (member y (moved ++ v ∷ []))) order
       (λ y _. ap (λ b. low y && not b) (same y)) in
@@ -159,9 +159,6 @@ module _ (low test : ℕ → Bool) (moved : List ℕ) (v : ℕ) (order : List �
       (three fails ∙ (ap₂ (λ (xs ys : List ℕ). xs ++ ys) low-fails (ap₂ (λ (xs ys : List ℕ). xs ++ ys) mf high-fails) ∙ highs-same))
       ∙ (append_assoc (lows (moved ++ v ∷ [])) moved (v ∷ highs (moved ++ v ∷ []))
       ∙ ap (λ (zs : List ℕ). lows (moved ++ v ∷ []) ++ zs) (sym (append_assoc moved (v ∷ []) (highs (moved ++ v ∷ [])))))
-    where
-      or_swap : (a b : Bool) → (a || b) ≡ (b || a)
-      or_swap a b = grind arith
 
 -- what moves do to a certified order and its numbers, one level up or down
 pub record Fits (n level : ℕ) (core order moved : List ℕ) : Type 0 where

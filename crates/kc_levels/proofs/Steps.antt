@@ -4,15 +4,16 @@ use Rattle.std.proofs.Common.{set, take, drop, eqb, refl, sym, ◌∙◌, ap, ap
 use Rattle.std.proofs.lemmas.Bool.{cases_Bool, cases_eq, false≢true, or_parts, or_right, false_from_ne_true, leb-true, le-leb, lt-ltb, ltb-true}
 use Rattle.std.proofs.lemmas.List.{set-get_or, take_more}
 use Rattle.std.proofs.lemmas.List.Folds.{list_any-append}
+use Rattle.std.proofs.Math.Bool.{or-false}
 use Rattle.kc_distinct.specs.Lists.{member, Distinct, without}
 use Rattle.kc_distinct.proofs.Members.{member-head, member-tail, member-cases, member-without, without-member, not_member-without, member-append}
-use Rattle.kc_distinct.proofs.Members.{member-append_left, not_member-append}
+use Rattle.kc_distinct.proofs.Members.{member-append_left, not_member-append, no_member-empty}
 use Rattle.kc_distinct.proofs.Counting.{member-push, member-get_or, take-not_here, drop-member, Distinct-drop, Distinct-push}
-use Rattle.kc_distinct.proofs.Shared.{Distinct-front, Distinct-back}
+use Rattle.kc_distinct.proofs.Shared.{Distinct-front, Distinct-back, or-turned}
 use Rattle.kc_words.specs.VertexWord.{vertex_of, vertex_word}
 use Rattle.kc_graph.specs.Plans.{put_between, renumbered, shifted}
 use Rattle.kc_cert.specs.Local.{firsts, AreInTurn}
-use Rattle.kc_cert.proofs.Turns.{firsts-append, firsts-more}
+use Rattle.kc_cert.proofs.Turns.{firsts-append, firsts-more, length-firsts}
 use Rattle.kc_table.specs.Log.{Seen, TableName}
 use Rattle.kc_table.specs.State.{first_vertex}
 use Rattle.kc_order.specs.Writers.{HasRoom, HasVersionsLeft, Puts, PutsEach, Stores}
@@ -22,11 +23,6 @@ use Rattle.kc_levels.specs.Levels.{Levelled, AreLevels, MayMove, MovesTo, SealsO
 use Rattle.kc_levels.specs.Makes.{PutsInTurn, SealsInTurn, backwards, PutsAll, MayPutAll, SealsAll, MakesAll}
 use Rattle.kc_levels.proofs.Cuts.{filter-all, filter-none, filter-yes, filter-no}
 use Rattle.kc_levels.proofs.Planned.{rise-step, fall-step, renumbered-set, renumbered-push}
-
--- one for each shift
-pub length-firsts : (shifts : List (ℕ × ℕ)) → length (firsts shifts) ≡ length shifts
-length-firsts [] = refl
-length-firsts (s ∷ shifts) = ap suc (length-firsts shifts)
 
 -- puts and then more puts are puts one after the other
 run-append : (old : Seen) (puts more : List (ℕ × ℕ)) (mid new : Seen) → PutsEach old puts mid → PutsEach mid more new → PutsEach old (puts ++ more) new
@@ -59,10 +55,6 @@ seals-push stamp core old (x ∷ vs) mid new v t h m =
           (subst (λ (z : TableName). Stores mid new (first_vertex z.shape + v) (vertex_word (record { stamp = stamp; core = get_or core v 0 }))) (sym same) m),
     )
 
--- or nothing
-or_no : (a : Bool) → a ≡ (a || false)
-or_no a = grind arith
-
 -- three in another order
 or_more : (a b c : Bool) → (c || (a || b)) ≡ (a || (b || c))
 or_more a b c = grind arith
@@ -76,7 +68,7 @@ puts-none old are = record {
   core_is = refl;
   open_is = refl;
   are = are;
-  unsealed = λ v. or_no (member v (unsealed_in old));
+  unsealed = λ v. sym (or-false (member v (unsealed_in old)));
   entries = refl;
   words = λ w. refl;
 }
@@ -242,14 +234,10 @@ pub length-backwards : (xs : List ℕ) → length (backwards xs) ≡ length xs
 length-backwards [] = refl
 length-backwards (x ∷ xs) = omega (arith, length-append (backwards xs) (x ∷ []), length-backwards xs)
 
--- either, in either order
-pub or_swap : (a b : Bool) → (a || b) ≡ (b || a)
-or_swap a b = grind arith
-
 -- a list backwards has the same members
 pub member-backwards : (v : ℕ) (xs : List ℕ) → member v (backwards xs) ≡ member v xs
 member-backwards v [] = refl
-member-backwards v (x ∷ xs) = member-push v x (backwards xs) ∙ (ap (λ b. b || eqb v x) (member-backwards v xs) ∙ or_swap (member v xs) (eqb v x))
+member-backwards v (x ∷ xs) = member-push v x (backwards xs) ∙ (ap (λ b. b || eqb v x) (member-backwards v xs) ∙ or-turned (member v xs) (eqb v x))
 
 -- Seals. -------------------------------------------------------------------------------------------
 
@@ -493,11 +481,6 @@ seals-then old mid new vs ws a b =
       others = λ v n. let parts = not_member-append v vs ws n in b.others v parts.1 ∙ a.others v parts.0;
     }
 
--- a list without members is empty
-none-left : (xs : List ℕ) → ((v : ℕ) → member v xs ≡ false) → xs ≡ []
-none-left [] h = refl
-none-left (x ∷ xs) h = absurd (true≢false (sym (member-head x xs) ∙ h x))
-
 -- what was put and sealed is not left
 all_sealed : (a b c : Bool) → a ≡ false → b ≡ c → ((a || b) && not c) ≡ false
 all_sealed a b c h e = grind (arith, h, e)
@@ -516,7 +499,7 @@ makes old mid new puts vs order core a b fresh same =
       core_is = b.core_is ∙ a.core_is;
       open_is = b.open_is ∙ a.open_is;
       are = b.are;
-      unsealed = none-left (unsealed_in new)
+      unsealed = no_member-empty (unsealed_in new)
           (λ v. b.unsealed v ∙ (ap (λ t. t && not (member v vs)) (a.unsealed v)
           ∙ all_sealed (member v (unsealed_in old)) (member v puts) (member v vs) (ap (member v) fresh) (same v)));
       entries = b.entries ∙ a.entries;
@@ -585,7 +568,7 @@ rise-whole old a b d new shifts rise level h k s t fresh =
     makes old b new _ (rise ++ firsts shifts) _ _ named (seals-then b d new rise (firsts shifts) s t) fresh
     (λ v. has-both v (firsts shifts) (backwards rise)
     ∙ (ap (λ q. member v (firsts shifts) || q) (member-backwards v rise)
-    ∙ (or_swap (member v (firsts shifts)) (member v rise) ∙ sym (has-both v rise (firsts shifts)))))
+    ∙ (or-turned (member v (firsts shifts)) (member v rise) ∙ sym (has-both v rise (firsts shifts)))))
 
 -- nothing is made
 pub makes-none : (old : Levelled) → AreLevels old → unsealed_in old ≡ [] → MakesAll old old [] [] old.order old.core

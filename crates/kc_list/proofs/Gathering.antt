@@ -3,17 +3,13 @@ use Rattle.std.proofs.Common.{◌≡◌, ℕ, suc, ◌+◌, ◌<◌, ◌≤◌, 
 use Rattle.std.proofs.lemmas.Bool.{eq-eqb, cases_eq, false≢true}
 use Rattle.std.proofs.lemmas.List.{append_assoc, length-append, take_more_set}
 use Rattle.kc_distinct.specs.Lists.{member, Distinct, last_or, prev_of, head_or, next_of, place_of}
-use Rattle.kc_distinct.proofs.Members.{member-head, member-tail, member-cases, member-append, member-append_left, member-append_right, cut}
+use Rattle.kc_distinct.proofs.Members.{member-head, member-tail, member-cases, member-append_left, member-append_right, cut}
 use Rattle.kc_distinct.proofs.Members.{Distinct-cut, prev_of-cut, next_of-cut, prev-place, some_or_none, last_or-push}
+use Rattle.kc_distinct.proofs.Counting.{member-push_cases}
 use Rattle.kc_words.specs.Order.{Labels, labels, InOrder}
 use Rattle.kc_list.specs.Places.{Before, Sound, Segment, First, size_of}
 use Rattle.kc_list.proofs.Order.{parts, Before-then}
 use Rattle.kc_words.proofs.Ordering.{Follows-all, InOrder-tail}
-
--- a member of a list that ends with z is in what stands before it, or is z
-member-cases-end : (y : ℕ) (l : List ℕ) (z : ℕ) → member y (l ++ z ∷ []) ≡ true → (member y l ≡ true) ⊎ (y ≡ z)
-member-cases-end y l z m = elim (member-append y l (z ∷ []) m)
-    [ inl k ↦ inl k | inr k ↦ elim (member-cases y z [] k) [ inl e ↦ inr e | inr none ↦ absurd (false≢true none) ] ]
 
 -- by a relation that goes on, what stands before y in a list in order is related to y
 pub all_before : (R : ℕ → ℕ → Type 0) → ((x y z : ℕ) → R x y → R y z → R x z) → (z y : ℕ) (l r : List ℕ) → InOrder R (l ++ y ∷ r) → member z l ≡ true → R z y
@@ -49,7 +45,7 @@ first_found n ws list g x q s m x-g q-is stop =
             let other : a.group w.last ≡ g → ⊥ = λ z. stop q-n (ap a.group last ∙ z) in
             let step : Before a w.last x = ((parts (Before a) w.front (w.last ∷ x ∷ c.back) order).right).0 in
             let below : a.top (a.group w.last) < a.top g = elim step [ inl t ↦ absurd (other (t.0 ∙ x-g)) | inr t ↦ omega (arith, t, ap a.top x-g) ] in
-            elim (member-cases-end y w.front w.last (ap (member y) (sym w.is) ∙ k)) [
+            elim (member-push_cases y w.last w.front (ap (member y) (sym w.is) ∙ k)) [
               | inl in-front ↦ elim (all_before (Before a) (Before-then a) y w.last w.front (x ∷ c.back) order in-front) [
                 | inl t ↦ absurd (other (sym t.0 ∙ e))
                 | inr t ↦ absurd (let u = ap a.top e in omega (arith, t, below, u))
@@ -124,7 +120,7 @@ collect_step n ws list g x m s c ne x-g =
     let is2 : list ≡ c.front ++ ((m ++ x ∷ []) ++ r.0) = is ∙ ap (λ zs. c.front ++ zs) (sym (append_assoc m (x ∷ []) r.0)) in
     let apart = Distinct-cut x (c.front ++ m) r.0 (subst Distinct is' s.distinct) in
     let all : (y : ℕ) → member y (m ++ x ∷ []) ≡ true → a.group y ≡ g =
-    λ y q. elim (member-cases-end y m x q) [ inl p ↦ c.members y p | inr e ↦ ap a.group e ∙ x-g ] in
+    λ y q. elim (member-push_cases y x m q) [ inl p ↦ c.members y p | inr e ↦ ap a.group e ∙ x-g ] in
     record {
       below = k.1;
       x_in = k.0;

@@ -7,7 +7,8 @@ use Rattle.std.proofs.lemmas.Nat.{le-div, div-add-mod'}
 use Rattle.kc_relabel.specs.Labels.{Ascends}
 use Rattle.kc_relabel.proofs.Rising.{Ascends-low}
 use Rattle.kc_distinct.specs.Lists.{member, Distinct, head_or, next_of, place_of}
-use Rattle.kc_distinct.proofs.Members.{member-head, member-cases, member-append_right, Distinct-cut, next_of-cut, place_of-cut, not_member-parts, below_bound}
+use Rattle.kc_distinct.proofs.Members.{member-head, member-cases, member-append_right, Distinct-cut, next_of-cut, place_of-cut, below_bound}
+use Rattle.kc_distinct.proofs.Members.{place_of-none}
 use Rattle.kc_words.specs.Order.{Labels, labels}
 use Rattle.kc_list.specs.Places.{Sound, runs, evens}
 use Rattle.kc_list.proofs.Spreading.{Ascends-evens, get_or-evens}
@@ -51,11 +52,6 @@ pub record Grouped (n : ℕ) (a : Labels) (list : List ℕ) (x last : ℕ) (foun
 pub grouped-none : (n : ℕ) (ws list : List ℕ) → Sound n ws list → Grouped n (labels n ws) list (head_or n list) 0 []
 grouped-none n ws list s = record
     { done = []; rest = list; is = refl; head = refl; so_far = sym (runs_all (labels n ws).group list (λ x m. (s.inside x m).group_low)) }
-
--- the place of what is no member is the length of the list
-place_of-none : (x : ℕ) (xs : List ℕ) → member x xs ≡ false → place_of x xs ≡ length xs
-place_of-none x [] m = refl
-place_of-none x (y ∷ ys) m = let k = not_member-parts x y ys m in rw (ne_eqb x y k.0) (ap suc (place_of-none x ys k.1))
 
 -- the place of what comes first in a back part is the length of the front
 place_of-head : (n : ℕ) (d r : List ℕ) → Distinct (d ++ r) → member n (d ++ r) ≡ false → place_of (head_or n r) (d ++ r) ≡ length d

@@ -1,8 +1,9 @@
 -- The greatest version of the words.
-use Rattle.std.proofs.Common.{◌≡◌, ℕ, suc, zero, ◌+◌, ◌<◌, ◌≤◌, List, [], ◌∷◌, length, set, take, refl, ◌∙◌, ap, arith, max}
+use Rattle.std.proofs.Common.{◌≡◌, ℕ, suc, zero, ◌+◌, ◌<◌, ◌≤◌, List, [], ◌∷◌, length, set, take, ◌∙◌, ap, arith, max}
 use Rattle.std.proofs.lemmas.List.{length-set, length-take-le}
 use Rattle.kc_words.specs.declared.item.ItemWord.{ItemWord}
 use Rattle.kc_words.specs.ItemWord.{item_of}
+use Rattle.kc_words.proofs.Packing.{none_version}
 use Rattle.kc_list.specs.declared.sheet.Write.{Write}
 use Rattle.kc_list.specs.Sheets.{version, highest_of}
 
@@ -25,11 +26,6 @@ highest_stored inside old high v i r w is e l rise w-is r-is =
 pub room_stored : (buffer ws : List Write) (count room : ℕ) (s : Write) → count ≤ length buffer → take count buffer ≡ ws → length buffer ≡ room
     → length ws < room → count + 1 ≤ length (set buffer count s)
 room_stored buffer ws count room s l e is r = omega (arith, length-set buffer count s, length-take-le count buffer l, ap length e)
-
--- the word 0 has version 0
-none_version : (item_of 0).version ≡ 0
-unfolding item_of
-none_version = refl
 
 -- no word has a version above the greatest
 pub version-highest : (ws : List ℕ) (w : ℕ) → version ws w ≤ highest_of ws

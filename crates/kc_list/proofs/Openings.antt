@@ -22,6 +22,7 @@ use Rattle.kc_list.proofs.Changes.{not_word, member-words}
 use Rattle.kc_list.proofs.Groupings.{index_of}
 use Rattle.kc_list.proofs.Highest.{highest-all}
 use Rattle.kc_words.specs.declared.layout.TheConstants.{ITEMS, BOTTOM_ROOM, TOP_ROOM}
+use Rattle.kc_words.proofs.Packing.{none_version}
 use Rattle.kc_list.specs.declared.limits.TheConstants.{OPENING_ITEMS}
 use Rattle.kc_distinct.proofs.Counting.{member-get_or}
 
@@ -228,11 +229,6 @@ opened_tallied n v order ws sizes d within o len zero-is sized =
         ]
       ];
     }
-
--- the word 0 has version 0
-none_version : (item_of 0).version ≡ 0
-unfolding item_of
-none_version = refl
 
 -- each word of an opening but the note has the opening's version
 pub opened_versions : (n v : ℕ) (order ws : List ℕ) → IsOpening n v order ws → (w : ℕ) → 1 ≤ w → w ≤ 2 * n + 1 → version ws w ≡ v

@@ -1,11 +1,11 @@
 -- How single stores keep the list in order.
-use Rattle.std.proofs.Common.{◌≡◌, ℕ, ◌<◌, true, false, cond, List, [], ◌∷◌, ◌++◌, eqb, refl, sym, ◌∙◌, ap, subst, ◌⊎◌, inl, inr, arith}
+use Rattle.std.proofs.Common.{◌≡◌, ℕ, ◌<◌, true, false, cond, List, [], ◌∷◌, ◌++◌, eqb, sym, ◌∙◌, ap, subst, ◌⊎◌, inl, inr, arith}
 use Rattle.std.proofs.lemmas.Bool.{ne_eqb}
 use Rattle.std.proofs.lemmas.List.{append_assoc}
 use Rattle.kc_distinct.specs.Lists.{member, without}
 use Rattle.kc_words.specs.Order.{Labels, PairBelow, Follows, InOrder}
 use Rattle.kc_list.specs.Places.{Before, IfFirst}
-use Rattle.kc_distinct.proofs.Members.{member-head, member-tail, member-append_right}
+use Rattle.kc_distinct.proofs.Members.{member-head, member-tail, member-append_right, without-append}
 use Rattle.kc_words.proofs.Ordering.{InOrder-tail, InOrder-mono}
 
 -- something holds of the first of a list, where it has one
@@ -151,15 +151,6 @@ Beyond-then a g v y z h k =
     elim h [
       | inl s ↦ elim k [ inl s' ↦ inl (sym s'.0 ∙ s.0, omega (arith, s.1, s'.1)) | inr t ↦ inr (omega (arith, ap a.top s.0, t)) ]
       | inr t ↦ elim k [ inl s' ↦ inr (omega (arith, ap a.top s'.0, t)) | inr t' ↦ inr (omega (arith, t, t')) ]
-    ]
-
--- two lists joined without x are both without x joined
-without-append : (x : ℕ) (l r : List ℕ) → without x (l ++ r) ≡ without x l ++ without x r
-without-append x [] r = refl
-without-append x (y ∷ l) r =
-    elim (eqb x y) as (λ b. cond b (without x (l ++ r)) (y ∷ without x (l ++ r)) ≡ cond b (without x l) (y ∷ without x l) ++ without x r) [
-      | true ↦ without-append x l r
-      | false ↦ ap (λ zs. y ∷ zs) (without-append x l r)
     ]
 
 -- a list around p without x is what stands on both sides of p without x

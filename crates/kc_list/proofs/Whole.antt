@@ -21,6 +21,7 @@ use Rattle.kc_list.proofs.Splits.{RaisedAlong-append}
 use Rattle.kc_list.proofs.Highest.{version-highest, highest-below}
 use Rattle.kc_words.specs.declared.layout.TheConstants.{LAST_VERSION}
 use Rattle.kc_words.proofs.Ordering.{Follows-all, PairBelow-asym}
+use Rattle.kc_words.proofs.Packing.{none_version}
 
 -- steps and then a write to the word of x are the writes of a call
 pub written_from : (n : ℕ) (before after : List ℕ) (x : ℕ) (p q r : Paper) (v : ℕ) → p.writes ≡ [] → Steps n before p q → r.words ≡ set q.words (1 + x) v
@@ -139,11 +140,6 @@ some_word (u ∷ v ∷ ws) l =
       | inl lt ↦ (suc r.0, omega (arith, r.1), r.2 ∙ omega arith)
       | inr ge ↦ (zero, omega arith, omega arith)
     ]
-
--- the word 0 has version 0
-none_version : (item_of 0).version ≡ 0
-unfolding item_of
-none_version = refl
 
 -- the greatest version is that of an item's or a group's word
 pub reached : (n h : ℕ) (ws : List ℕ) → length ws ≡ n + n + 2 → get_or ws 0 0 ≡ 0 → h ≡ highest_of ws → (w : ℕ) × (1 ≤ w) × (w ≤ 2 * n + 1) × (version ws w ≡ h)

@@ -36,6 +36,3 @@ pub use limits::{GROUP_ITEMS, HALF_ITEMS, HALF_STEP, ITEM_WRITES, OPENING_ITEMS}
 pub use plain::PlainOrder;
 pub use sheet::Write;
 pub use std::alloc::AllocError as NoMemory;
-
-#[cfg(test)]
-mod tests;

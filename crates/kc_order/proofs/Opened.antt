@@ -143,11 +143,6 @@ module _ (n : ℕ) (ws order : List ℕ) (o : Ordered n ws order) where
   listed-is within = same-order (PairBelow a) (pair-trans a) (PairBelow-asym a) (listed a n) order (in_order-listed n (omega arith)) o.pairs
       (λ z m. listed-in n z (omega arith) m) (λ z m. in-listed n z (omega arith) (within z m) m)
 
--- the word 0 has version 0
-pub zero-version : (item_of 0).version ≡ 0
-unfolding item_of
-zero-version = refl
-
 -- words that are made of a plain list's open a table with its list
 pub record Opening (shape : Shape) (words : List ℕ) (order : List ℕ) : Type 0 where
   pub opens : legal.Opens shape words

@@ -1,10 +1,11 @@
 -- How two items stand in a list, and what is left of that where items are taken out and put elsewhere.
-use Rattle.std.proofs.Common.{◌≡◌, ◌≢◌, ◌↔◌, ℕ, suc, Bool, true, false, cond, ◌&&◌, ◌||◌, List, [], ◌∷◌, ◌++◌, eqb}
+use Rattle.std.proofs.Common.{◌≡◌, ◌≢◌, ◌↔◌, ℕ, Bool, true, false, cond, ◌&&◌, ◌||◌, List, [], ◌∷◌, ◌++◌, eqb}
 use Rattle.std.proofs.Common.{refl, sym, ap, ◌∙◌, subst, arith, inl, inr, ◌⊎◌, eq-eqb, ne_eqb, eqb-true, true≢false}
 use Rattle.std.proofs.lemmas.Bool.{cases_Bool, cases_eq, false≢true, false_from_ne_true, and_from, and_parts, or_left, or_right, or_cases}
-use Rattle.kc_distinct.specs.Lists.{Distinct, member, place_of, right_after, without}
-use Rattle.kc_distinct.proofs.Members.{member-head, member-tail, member-cases, not_member-parts, member-append, member-append_left}
-use Rattle.kc_distinct.proofs.Members.{member-append_right, member-without, without-member, Distinct-without}
+use Rattle.kc_distinct.specs.Lists.{Distinct, member, right_after, without}
+use Rattle.kc_distinct.proofs.Members.{member-head, member-tail, member-cases, not_member-parts, member-append, member-append_left, place_of-first}
+use Rattle.kc_distinct.proofs.Members.{member-append_right, Distinct-without, place_of-next, member-without_other, without-here}
+use Rattle.kc_distinct.proofs.Members.{without-next}
 use Rattle.kc_order.specs.Runs.{all_after, with_run_after, without_each}
 use Rattle.kc_order.specs.Standing.{StandsBefore}
 
@@ -50,14 +51,6 @@ before-second x y (z ∷ zs) h = elim (before-cases x y z zs h) [
   | inr k ↦ member-tail y z zs (before-second x y zs k)
 ]
 
--- the head of a list has place 0
-pub place-here : (x z : ℕ) (zs : List ℕ) → x ≡ z → place_of x (z ∷ zs) ≡ 0
-place-here x z zs e = ap (λ b. cond b 0 (suc (place_of x zs))) (eq-eqb x z e)
-
--- another than the head has a place greater by 1 than without the head
-pub place-next : (x z : ℕ) (zs : List ℕ) → x ≢ z → place_of x (z ∷ zs) ≡ suc (place_of x zs)
-place-next x z zs ne = ap (λ b. cond b 0 (suc (place_of x zs))) (ne_eqb x z ne)
-
 -- what stands behind the head of a list without repetition is not the head
 member-other : (y z : ℕ) (zs : List ℕ) → Distinct (z ∷ zs) → member y zs ≡ true → y ≢ z
 member-other y z zs d m = λ e. true≢false (sym (subst (λ (w : ℕ). member w zs ≡ true) e m) ∙ d.0)
@@ -69,12 +62,12 @@ before-stands x y (z ∷ zs) d h = elim (before-cases x y z zs h) [
   | inl b ↦ record {
     first = before-first x y (z ∷ zs) h;
     second = member-tail y z zs b.1;
-    before = omega (arith, place-here x z zs b.0, place-next y z zs (member-other y z zs d b.1));
+    before = omega (arith, place_of-first x z zs b.0, place_of-next y z zs (member-other y z zs d b.1));
   }
   | inr k ↦ let s = before-stands x y zs d.1 k in record {
     first = member-tail x z zs s.first;
     second = member-tail y z zs s.second;
-    before = omega (arith, place-next x z zs (member-other x z zs d s.first), place-next y z zs (member-other y z zs d s.second), s.before);
+    before = omega (arith, place_of-next x z zs (member-other x z zs d s.first), place_of-next y z zs (member-other y z zs d s.second), s.before);
   }
 ]
 
@@ -82,7 +75,7 @@ before-stands x y (z ∷ zs) d h = elim (before-cases x y z zs h) [
 pub stands-before : (x y : ℕ) (zs : List ℕ) → StandsBefore x y zs → is_before x y zs ≡ true
 stands-before x y [] s = absurd (false≢true s.first)
 stands-before x y (z ∷ zs) s = elim (cases_eq y z) [
-  | inl e ↦ absurd (omega (arith, place-here y z zs e, s.before))
+  | inl e ↦ absurd (omega (arith, place_of-first y z zs e, s.before))
   | inr ny ↦ elim (member-cases y z zs s.second) [
     | inl e ↦ absurd (ny e)
     | inr y-in ↦ elim (cases_eq x z) [
@@ -92,7 +85,7 @@ stands-before x y (z ∷ zs) s = elim (cases_eq y z) [
         | inr x-in ↦ before-later x y z zs (stands-before x y zs record {
           first = x-in;
           second = y-in;
-          before = omega (arith, place-next x z zs nx, place-next y z zs ny, s.before);
+          before = omega (arith, place_of-next x z zs nx, place_of-next y z zs ny, s.before);
         })
       ]
     ]
@@ -147,10 +140,6 @@ member-append_other y xs ys h = same_test (member y (xs ++ ys)) (member y ys)
     (member-append_right y xs ys)
 
 -- Items taken out. ---------------------------------------------------------------------------------
-
--- another than the item taken out is in the list just where it was
-member-without_other : (y z : ℕ) (zs : List ℕ) → y ≢ z → member y (without z zs) ≡ member y zs
-member-without_other y z zs ne = same_test (member y (without z zs)) (member y zs) (λ m. (member-without y z zs m).0) (λ m. without-member y z zs m ne)
 
 -- where one item is taken out, two others stand as they did
 before-without : (x y z : ℕ) (zs : List ℕ) → x ≢ z → y ≢ z → is_before x y (without z zs) ≡ is_before x y zs
@@ -316,14 +305,6 @@ run-none p (z ∷ zs) = elim (cases_eq p z) [
 ]
 
 -- One more, put right after p. ------------------------------------------------------------------------
-
--- a list whose head is x is, without x, what is behind the head without x
-without-here : (x z : ℕ) (zs : List ℕ) → x ≡ z → without x (z ∷ zs) ≡ without x zs
-without-here x z zs e = ap (λ b. cond b (without x zs) (z ∷ without x zs)) (eq-eqb x z e)
-
--- a list whose head is not x keeps the head without x
-without-next : (x z : ℕ) (zs : List ℕ) → x ≢ z → without x (z ∷ zs) ≡ z ∷ without x zs
-without-next x z zs ne = ap (λ b. cond b (without x zs) (z ∷ without x zs)) (ne_eqb x z ne)
 
 -- two lists joined, the first without x in it, lose x where the second does
 without-append : (x : ℕ) (xs ys : List ℕ) → member x xs ≡ false → without x (xs ++ ys) ≡ xs ++ without x ys

@@ -5,6 +5,8 @@ use Rattle.std.specs.Cmp.{both_ways}
 use Rattle.std.specs.List.Sorted.{IsStrictlyIncreasing}
 use Rattle.std.proofs.lemmas.Bool.{cases_eq}
 use Rattle.std.proofs.lemmas.List.Kept.{IsStrictlyIncreasing-filter}
+use Rattle.kc_queue.specs.Dealt.{numbers_from}
+use Rattle.kc_queue.proofs.Steps.{length-numbers}
 use Rattle.kc_graph.specs.SimpleGraph.{SimpleGraph}
 use Rattle.kc_graph.specs.Core.{AreCoreNumbers}
 use Rattle.kc_graph.proofs.Existence.{certificate_exists}
@@ -20,16 +22,6 @@ use Rattle.kc_output.specs.declared.setting.Setting.{Setting}
 use Rattle.kc_output.specs.declared.start.Start.{Start}
 use Rattle.kc_output.specs.declared.start.Start.TheVariants.{Buckets, Hindex}
 
--- the n numbers from a on
-abbrev numbers_from : ℕ → ℕ → List ℕ
-numbers_from a zero = []
-numbers_from a (suc n) = a ∷ numbers_from (suc a) n
-
--- there are n of them
-length-numbers_from : (a n : ℕ) → length (numbers_from a n) ≡ n
-length-numbers_from a zero = refl
-length-numbers_from a (suc n) = omega (arith, length-numbers_from (suc a) n)
-
 -- the k-th is a + k
 get_or-numbers_from : (a n k : ℕ) → k < n → get_or (numbers_from a n) k 0 ≡ a + k
 get_or-numbers_from a zero k l = absurd (omega arith)
@@ -39,7 +31,7 @@ get_or-numbers_from a (suc n) (suc k) l = omega (arith, get_or-numbers_from (suc
 -- they rise
 increasing : (a n : ℕ) → IsStrictlyIncreasing (numbers_from a n)
 increasing a n = λ k l.
-    let long : length (numbers_from a n) ≡ n = length-numbers_from a n in
+    let long : length (numbers_from a n) ≡ n = length-numbers a n in
     omega (arith, get_or-numbers_from a n k (omega arith), get_or-numbers_from a n (k + 1) (omega arith))
 
 -- each number from a to below a + n is among them

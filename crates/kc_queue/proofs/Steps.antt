@@ -6,13 +6,14 @@ use Rattle.std.specs.Prelude.{Option, Some, None, MatchOption}
 use mathlib.Core.Option.{some, some-ne-none, some-injective}
 use lib.ListN.{get_elem?}
 use Rattle.crossbeam_queue.specs.Fifo.{Pushes, Pops, Forks, Merges, Learns, Held}
-use Rattle.kc_distinct.specs.Lists.{member, below}
-use Rattle.kc_distinct.proofs.Counting.{below-member, member-below, Distinct-below, Distinct-push, member-push_cases, count-cons, count-yes}
+use Rattle.kc_distinct.specs.Lists.{member, below, times}
+use Rattle.kc_distinct.proofs.Counting.{below-member, member-below, Distinct-below, Distinct-push, member-push_cases, count-cons, count-yes, times_member}
+use Rattle.kc_distinct.proofs.Counting.{member_times, times_other, times_distinct}
 use Rattle.kc_queue.specs.declared.consumer.TheConstants.{PARTS}
 use Rattle.kc_queue.specs.declared.dealing.Hand.{Hand}
-use Rattle.kc_queue.specs.Dealt.{hand, times, numbers_from, parts_of, times_in, Agrees, IsIdle, IsDealt, Dealt, TakesNext, OwnsShare, HasTakenAll, HoldsAll}
+use Rattle.kc_queue.specs.Dealt.{hand, numbers_from, parts_of, times_in, Agrees, IsIdle, IsDealt, Dealt, TakesNext, OwnsShare, HasTakenAll, HoldsAll}
 use Rattle.kc_queue.specs.Shares.{IsShare}
-use Rattle.kc_queue.proofs.Counts.{times-append, times_member, member_times, times_other, times_distinct, share_times, whole_times}
+use Rattle.kc_queue.proofs.Counts.{times-append, share_times, whole_times}
 use Rattle.kc_queue.proofs.Totals.{total_set, total_snoc, total_one, total_else, total_alone, each_set, each_snoc}
 
 -- the numbers in order, with one more at the end, and without the first
@@ -36,7 +37,7 @@ numbers_first next zero x items e = absurd (none (ap length e))
 numbers_first next (suc left) x items e = record { fewer = left; one_less = refl; first = ap (λ ys. get_or ys 0 0) e; rest = ap (drop 1) e }
 
 -- as many numbers in order as were asked for
-length-numbers : (next left : ℕ) → length (numbers_from next left) ≡ left
+pub length-numbers : (next left : ℕ) → length (numbers_from next left) ≡ left
 length-numbers next zero = refl
 length-numbers next (suc left) = let rest = length-numbers (suc next) left in omega arith
 

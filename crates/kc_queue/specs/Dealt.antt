@@ -1,8 +1,8 @@
 -- The rule of the queue: it holds the numbers that come next, in order, and all that came before were taken, each once.
-use Rattle.std.specs.Prelude.{◌≡◌, ◌+◌, ◌<◌, ℕ, zero, suc, true, List, [], ◌∷◌, ◌++◌, count_by, nat_eq}
+use Rattle.std.specs.Prelude.{◌≡◌, ◌+◌, ◌<◌, ℕ, zero, suc, true, List, [], ◌∷◌, ◌++◌}
 use mathlib.Core.Option.{some}
 use lib.ListN.{get_elem?}
-use Rattle.kc_distinct.specs.Lists.{member, below}
+use Rattle.kc_distinct.specs.Lists.{member, below, times}
 use Rattle.kc_queue.specs.declared.consumer.TheConstants.{PARTS}
 use Rattle.kc_queue.specs.declared.dealing.Hand.{Hand}
 use Rattle.kc_queue.specs.Shares.{IsShare, IsWhole}
@@ -15,10 +15,6 @@ hand parts filled taken = record { parts = parts; filled = filled; taken = taken
 abbrev pub total : (Hand → ℕ) → List Hand → ℕ
 total f [] = 0
 total f (v ∷ vs) = f v + total f vs
-
--- how often `x` stands in the list
-abbrev pub times : ℕ → List ℕ → ℕ
-times x xs = count_by (nat_eq x) xs
 
 -- `count` numbers from `first` on, in order
 abbrev pub numbers_from : ℕ → ℕ → List ℕ

@@ -16,8 +16,6 @@ mod consumer;
 mod dealing;
 mod queue;
 mod queued;
-#[cfg(test)]
-mod tests;
 
 pub use consumer::{Consumer, PARTS, WORKERS};
 pub use queue::WorkQueue;

@@ -10,6 +10,3 @@ pub mod spreading;
 
 pub use scheduling::schedule;
 pub use spreading::spread;
-
-#[cfg(test)]
-mod tests;

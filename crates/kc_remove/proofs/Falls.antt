@@ -5,8 +5,7 @@ use Rattle.std.proofs.lemmas.Bool.{cases_Bool, cases_eq, cases_lt, eqb-false, fa
 use Rattle.std.proofs.lemmas.List.{take-append-le, get_or_append_left}
 use Rattle.std.proofs.Math.Seq.{get_or-append_seam, take-length}
 use Rattle.kc_distinct.specs.Lists.{member, Distinct}
-use Rattle.kc_distinct.proofs.Counting.{member-push, member-push_cases, member-push_none, take-not_here, Distinct-push}
-use Rattle.kc_cert.proofs.Sums.{one_if}
+use Rattle.kc_distinct.proofs.Counting.{member-push, member-push_cases, member-push_none, take-not_here, Distinct-push, one_if}
 use Rattle.kc_view.specs.Search.{Search, among, OnLevel}
 use Rattle.kc_view.proofs.Among.{among-one, among-mono, among-agree}
 use Rattle.kc_view.proofs.Fronts.{take-member}

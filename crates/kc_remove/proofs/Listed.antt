@@ -10,7 +10,7 @@ use Rattle.std.proofs.lemmas.List.{take_all}
 use Rattle.std.proofs.lemmas.List.Kept.{AllPairs-from_increasing}
 use Rattle.kc_distinct.specs.Lists.{member, below}
 use Rattle.kc_distinct.proofs.Members.{member-head, member-tail}
-use Rattle.kc_distinct.proofs.Counting.{member-get_or, member-other, member-push, take-not_here}
+use Rattle.kc_distinct.proofs.Counting.{member-get_or, member-other, member-push, take-not_here, one_if}
 use Rattle.kc_distinct.proofs.Shared.{and-fails, never_falls}
 use Rattle.kc_graph.specs.SimpleGraph.{adjacent}
 use Rattle.kc_graph.specs.Neighbours.{neighbours_of}
@@ -22,7 +22,7 @@ use Rattle.kc_graph.proofs.NeighbourLists.{neighbours_has, neighbours_within}
 use Rattle.kc_graph.proofs.RowsLemmas.{Distinct-from_increasing}
 use Rattle.kc_cert.specs.Ranks.{rank_in}
 use Rattle.kc_cert.proofs.Ordered.{rank-here, rank-other}
-use Rattle.kc_cert.proofs.Sums.{one_if, count-none}
+use Rattle.kc_cert.proofs.Sums.{count-none}
 use Rattle.kc_view.specs.Lists.{IsListOf}
 use Rattle.kc_view.specs.Search.{Search}
 use Rattle.kc_view.proofs.Among.{among-one, among-agree}

@@ -5,7 +5,7 @@ use Rattle.std.specs.Prelude.{Option, Some, is_some}
 use Rattle.std.proofs.lemmas.Bool.{cases_Bool, cases_eq, and_parts, and_from, or_right}
 use Rattle.std.proofs.Math.Bool.{or-false}
 use Rattle.kc_distinct.specs.Lists.{member}
-use Rattle.kc_distinct.proofs.Counting.{member-push, member-get_or}
+use Rattle.kc_distinct.proofs.Counting.{member-push, member-get_or, one_if}
 use Rattle.kc_distinct.proofs.Shared.{and-fails}
 use Rattle.kc_graph.specs.SimpleGraph.{adjacent}
 use Rattle.kc_graph.specs.Edges.{without_edge}
@@ -15,7 +15,6 @@ use Rattle.kc_graph.specs.declared.update.Update.{Update}
 use Rattle.kc_graph.proofs.EdgeChanges.{adjacent-without}
 use Rattle.kc_graph.proofs.Law.{adjacent-sym}
 use Rattle.kc_graph.proofs.NeighbourLists.{neighbours_has, neighbours_within}
-use Rattle.kc_cert.proofs.Sums.{one_if}
 use Rattle.kc_view.specs.Answers.{Answers, Agrees, has_list, list_of}
 use Rattle.kc_view.specs.Search.{Search, OnLevel}
 use Rattle.kc_view.proofs.Keeping.{list-true}

@@ -4,7 +4,7 @@ use Rattle.std.proofs.Common.{ap, subst, inl, inr, arith, true≢false, eq-eqb, 
 use Rattle.std.specs.Prelude.{count_by}
 use Rattle.std.proofs.lemmas.Bool.{cases_eq, cases_lt, cases_order, and_from, false_from_ne_true, or_parts, or_from}
 use Rattle.kc_distinct.specs.Lists.{member, below}
-use Rattle.kc_distinct.proofs.Counting.{member-below, Distinct-below, count-mono, count-agree}
+use Rattle.kc_distinct.proofs.Counting.{member-below, Distinct-below, count-mono, count-agree, one_if}
 use Rattle.kc_graph.specs.SimpleGraph.{SimpleGraph, adjacent}
 use Rattle.kc_graph.specs.Edges.{without_edge}
 use Rattle.kc_graph.specs.Certificate.{Certifies}
@@ -13,7 +13,7 @@ use Rattle.kc_graph.proofs.Ends.{joins, joins-true, joins-first, joins-second}
 use Rattle.kc_graph.proofs.EdgeChanges.{adjacent-without}
 use Rattle.kc_graph.proofs.Law.{adjacent-self, adjacent-sym}
 use Rattle.kc_cert.specs.Ranks.{rank_in}
-use Rattle.kc_cert.proofs.Sums.{one_if, count-one-in, count-some}
+use Rattle.kc_cert.proofs.Sums.{count-one-in, count-some}
 use Rattle.kc_cert.proofs.Ordered.{order-has, rank-apart, few-ranked, enough-below, ranks-rise}
 use Rattle.kc_view.specs.Search.{search_in}
 use Rattle.kc_view.proofs.Among.{at_most_one}

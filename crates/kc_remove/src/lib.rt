@@ -19,8 +19,6 @@
 mod falling;
 mod removal;
 mod support;
-#[cfg(test)]
-mod tests;
 mod turns;
 
 pub use removal::plan;

@@ -97,6 +97,3 @@ pub fn member_lines(
     }
     written
 }
-
-#[cfg(test)]
-mod tests;

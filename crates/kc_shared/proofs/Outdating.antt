@@ -3,6 +3,7 @@ use Rattle.std.proofs.Common.{◌≡◌, ℕ, ◌<◌, ◌≤◌, ◌⊎◌, Boo
 use Rattle.std.proofs.lemmas.Bool.{true≢false, false≢true, cases_lt}
 use mathlib.Core.List.{IsPrefix}
 use Rattle.kc_distinct.specs.Lists.{member}
+use Rattle.kc_distinct.proofs.Shared.{All-middle}
 use Rattle.kc_graph.specs.declared.plan.Plan.{Plan}
 use Rattle.kc_graph.specs.declared.used.UsedEdges.{UsedEdges}
 use Rattle.kc_view.specs.Answers.{Answers, answers_in}
@@ -24,7 +25,7 @@ use Rattle.kc_journal.specs.Entering.{MayEnter}
 use Rattle.kc_journal.specs.Journals.{Journalled, Stands}
 use Rattle.kc_journal.specs.Sections.{section_puts}
 use Rattle.kc_journal.proofs.AfterEntry.{at-rest}
-use Rattle.kc_journal.proofs.Telling.{middle, stale-list, stale-place}
+use Rattle.kc_journal.proofs.Telling.{stale-list, stale-place}
 use Rattle.kc_stripes.specs.Reads.{HadPlace, WereReadSince}
 use Rattle.kc_stripes.specs.Records.{Opened}
 use Rattle.kc_shared.specs.Answers.{HasMade, IsOutdated, WasUsed, opening_stamp}
@@ -51,7 +52,7 @@ list-low : (j : Journalled) (plan : Plan) (s : Stale) → MayEnter j plan → Is
 list-low j plan s may is edges = elim is.first [
   | inl f ↦
       let low : f.list.vertex < size_of j.levels =
-      (middle (WasList j.levels.table j.opened may.log) f.front f.back f.list _ f.is may.from_log.edges).vertex in
+      (All-middle (WasList j.levels.table j.opened may.log) f.front f.back f.list _ f.is may.from_log.edges).vertex in
       omega (arith, low, ap (λ (z : Stale). z.vertex) f.named)
   | inr (_, f) ↦ absurd (true≢false (sym edges ∙ ap (λ (z : Stale). z.edges) f.named))
 ]
@@ -63,7 +64,7 @@ place-now j plan s may is edges = elim is.first [
   | inl f ↦ absurd (true≢false (sym (ap (λ (z : Stale). z.edges) f.named) ∙ edges))
   | inr (_, f) ↦
       let low : f.place.vertex < size_of j.levels =
-      (middle (WasPlace j.levels.table may.log) f.front f.back f.place _ f.is may.from_log.places).vertex in
+      (All-middle (WasPlace j.levels.table may.log) f.front f.back f.place _ f.is may.from_log.places).vertex in
       ap (λ (z : Stale). z.now) f.named
       ∙ (is.present.places f.place.vertex low ∙ ap (λ (v : ℕ). place_stamp j.levels.table j.levels.log v) (sym (ap (λ (z : Stale). z.vertex) f.named)))
 ]
@@ -128,7 +129,7 @@ pub true-miss : (o : Opened) (start before log : List Event) (a : Answers) (vert
     → IsOutdated o log a vertex edges used now → IsTrueMiss o start log (missed.Stale vertex edges used now)
 true-miss o start before log a vertex true used now legal pre read out =
     let (front, back, e, is, vertex-is, used-is) = out.was_used in
-    let newer : get_or o.stamps e.vertex 0 ≤ e.at = middle (λ (x : UsedEdges). get_or o.stamps x.vertex 0 ≤ x.at) front back e a.edges is read.lists in
+    let newer : get_or o.stamps e.vertex 0 ≤ e.at = All-middle (λ (x : UsedEdges). get_or o.stamps x.vertex 0 ≤ x.at) front back e a.edges is read.lists in
     let bound : get_or o.stamps vertex 0 ≤ used = omega (arith, newer, used-is, ap (λ (v : ℕ). get_or o.stamps v 0) vertex-is) in
     elim out.because [
       | inl (early, opening) ↦ absurd (omega (arith, opening, out.less, bound))
@@ -136,7 +137,7 @@ true-miss o start before log a vertex true used now legal pre read out =
     ]
 true-miss o start before log a vertex false used now legal pre read out =
     let (front, back, p, is, vertex-is, used-is) = out.was_used in
-    let had : HadPlace o.table start before p = middle (HadPlace o.table start before) front back p a.places is read.places in
+    let had : HadPlace o.table start before p = All-middle (HadPlace o.table start before) front back p a.places is read.places in
     let there : Legal o.table.shape o.table.opening had.prefix =
     legal-prefix o.table.shape o.table.opening had.prefix log (prefix_trans had.prefix before log had.between.extended pre) legal in
     let stamp : place_stamp o.table had.prefix vertex ≡ used =

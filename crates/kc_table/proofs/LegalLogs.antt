@@ -3,6 +3,7 @@ use Rattle.std.proofs.Common.{◌≡◌, ℕ, List, [], ◌∷◌, ◌++◌, set
 use Rattle.std.proofs.lemmas.Bool.{cases_Bool}
 use mathlib.Core.List.{IsPrefix}
 use Rattle.kc_words.specs.declared.shape.Shape.{Shape}
+use Rattle.kc_graph.specs.SimpleGraph.{SimpleGraph}
 use Rattle.kc_table.specs.declared.view.Event.{Event}
 use Rattle.kc_table.specs.Log.{words_after}
 use Rattle.kc_words.specs.NoteWord.{note_of}
@@ -12,11 +13,17 @@ use Rattle.kc_table.specs.declared.entry.Entry.{Entry}
 use Rattle.kc_table.proofs.Prefixes.{prefix_self, prefix_trans}
 use Rattle.kc_table.specs.State.{entered, State, opened, after_store, after_stores, state_of}
 use Rattle.kc_table.specs.Legal.{Opens, MayStore, Holds, Legal, LegalFrom}
+use Rattle.kc_table.specs.Edges.{after_entry, after_entries}
 
 -- what two logs make, one behind the other, is what the second makes of what the first has made
 pub after_stores-append : (shape : Shape) (s : State) (es fs : List Event) → after_stores shape s (es ++ fs) ≡ after_stores shape (after_stores shape s es) fs
 after_stores-append shape s [] fs = refl
 after_stores-append shape s (e ∷ es) fs = after_stores-append shape (after_store shape s e) es fs
+
+-- the graph after two lists of entries is that of the second after that of the first
+pub after_entries-append : (g : SimpleGraph) (es fs : List Entry) → after_entries g (es ++ fs) ≡ after_entries (after_entries g es) fs
+after_entries-append g [] fs = refl
+after_entries-append g (e ∷ es) fs = after_entries-append (after_entry g e) es fs
 
 -- stores that are legal from a state stay so with one behind them that may follow and keeps the rules
 from-push : (shape : Shape) (s : State) (es : List Event) (e : Event) → LegalFrom shape s es → MayStore shape (after_stores shape s es) e

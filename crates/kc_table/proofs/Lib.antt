@@ -6,4 +6,3 @@ pub mod Putting
 pub mod Samples
 pub mod Stamps
 pub mod Steps
-pub mod TestTables

@@ -1,5 +1,5 @@
 -- A small table with written-out logs, by which the laws show what the definitions mean.
-use Rattle.std.specs.Prelude.{ℕ, ◌+◌, ◌*◌, List, [], ◌∷◌, ◌++◌, true, false, refl}
+use Rattle.std.specs.Prelude.{ℕ, List, [], ◌∷◌, ◌++◌, true, false, refl}
 use Rattle.std.specs.FinSet as set
 use Rattle.std.proofs.lemmas.Bool.{leb-true}
 use Rattle.kc_graph.specs.SimpleGraph.{SimpleGraph}
@@ -108,7 +108,7 @@ tied_opening = 0 ∷ item 0 1 20 ∷ item 0 1 20 ∷ item 0 0 0 ∷ group 0 100 
 abbrev pub stamped_opening : List ℕ
 stamped_opening = 0 ∷ item 0 1 10 ∷ item 0 1 20 ∷ item 0 0 0 ∷ group 0 100 ∷ group 0 0 ∷ group 0 0 ∷ group 0 0 ∷ vertex 2 0 ∷ []
 
--- Tables that the tests open. ------------------------------------------------------------------------
+-- A table of two items, which tests open too. --------------------------------------------------------
 
 -- two items, of which item 0 is the list
 abbrev pub pair_shape : Shape
@@ -130,20 +130,3 @@ pair_opening = 0 ∷ 786432 ∷ 0 ∷ 549755813888 ∷ 0 ∷ 0 ∷ []
 -- item 1 is put right after item 0
 abbrev pub pair_put : List Event
 pair_put = event 0 9223372036856872960 ∷ event 2 1099512545280 ∷ []
-
--- one item, which is the list
-abbrev pub lone_shape : Shape
-lone_shape = record {
-  items = 1;
-  fixed = 0;
-  base = 0;
-  version = 0;
-  some_items = leb-true 1 1 refl;
-  few_items = leb-true 1 ITEMS refl;
-  fixed_in = leb-true 0 1 refl;
-  version_in = leb-true 0 LAST_VERSION refl;
-}
-
--- the words of the table of one item, where the word of its group was stored `version` times
-abbrev pub lone_words : ℕ → List ℕ
-lone_words version = 0 ∷ 786432 ∷ (version * 1099511627776 + 549755813888) ∷ 0 ∷ []

@@ -15,8 +15,6 @@ pub mod name;
 pub mod pass;
 pub mod rule;
 pub mod table;
-#[cfg(test)]
-mod tests;
 pub mod view;
 pub mod words;
 pub mod writer_seat;

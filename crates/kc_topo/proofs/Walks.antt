@@ -2,9 +2,9 @@
 use Rattle.std.proofs.Common.{◌≡◌, ◌≢◌, ◌<◌, ◌⊎◌, ℕ, true, List, [], ◌∷◌, ◌++◌, length, get_or, refl, sym, ap, ◌∙◌, subst, arith, inl, inr}
 use Rattle.std.proofs.lemmas.Bool.{cases_eq, cases_lt, false≢true}
 use Rattle.kc_distinct.specs.Lists.{member, place_of}
-use Rattle.kc_distinct.proofs.Members.{member-cases}
+use Rattle.kc_distinct.proofs.Members.{member-cases, place_of-first, place_of-next}
 use Rattle.kc_order.specs.Standing.{StandsBefore}
-use Rattle.kc_order.proofs.Orders.{place-here, place-next, stands-once}
+use Rattle.kc_order.proofs.Orders.{stands-once}
 use Rattle.kc_topo.specs.Arcs.{IsTopological, LeadsTo, Reaches, has_arc}
 
 -- Places in a list. --------------------------------------------------------------------------------
@@ -13,12 +13,12 @@ use Rattle.kc_topo.specs.Arcs.{IsTopological, LeadsTo, Reaches, has_arc}
 pub at-place : (x : ℕ) (zs : List ℕ) → member x zs ≡ true → (place_of x zs < length zs) × (get_or zs (place_of x zs) 0 ≡ x)
 at-place x [] m = absurd (false≢true m)
 at-place x (z ∷ zs) m = elim (cases_eq x z) [
-  | inl e ↦ (omega (arith, place-here x z zs e), ap (λ k. get_or (z ∷ zs) k 0) (place-here x z zs e) ∙ sym e)
+  | inl e ↦ (omega (arith, place_of-first x z zs e), ap (λ k. get_or (z ∷ zs) k 0) (place_of-first x z zs e) ∙ sym e)
   | inr ne ↦ elim (member-cases x z zs m) [
     | inl e ↦ absurd (ne e)
     | inr k ↦ let at = at-place x zs k in (
-      omega (arith, place-next x z zs ne, at.0),
-      ap (λ k. get_or (z ∷ zs) k 0) (place-next x z zs ne) ∙ at.1,
+      omega (arith, place_of-next x z zs ne, at.0),
+      ap (λ k. get_or (z ∷ zs) k 0) (place_of-next x z zs ne) ∙ at.1,
     )
   ]
 ]

@@ -9,7 +9,5 @@
 #![tactic(auto)]
 
 mod planning;
-#[cfg(test)]
-mod tests;
 
 pub use planning::plan;

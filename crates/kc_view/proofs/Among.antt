@@ -2,8 +2,8 @@
 use Rattle.std.proofs.Common.{◌≡◌, ◌≢◌, ◌≤◌, ◌<◌, ◌+◌, ℕ, Bool, true, false, ◌&&◌, inl, inr, arith}
 use Rattle.std.proofs.lemmas.Bool.{cases_Bool, and_parts, and_from}
 use Rattle.kc_distinct.specs.Lists.{below}
-use Rattle.kc_distinct.proofs.Counting.{member-below, below-member, Distinct-below, count-agree, count-mono}
-use Rattle.kc_cert.proofs.Sums.{one_if, count-one-in, count-some, count-sum}
+use Rattle.kc_distinct.proofs.Counting.{member-below, below-member, Distinct-below, count-agree, count-mono, one_if}
+use Rattle.kc_cert.proofs.Sums.{count-one-in, count-some, count-sum}
 use Rattle.kc_view.specs.Search.{Search, among}
 
 -- where a first condition holds, a second may be replaced by one that agrees with it

@@ -6,6 +6,7 @@ use Rattle.std.proofs.lemmas.Bool.{cases_Bool, cases_eq, false≢true, or_cases,
 use Rattle.std.proofs.lemmas.List.{get_or-set_same, get_or-set_other, get_or_append_left, get_or_push, append-nil, drop_all, length-map, map-append}
 use Rattle.std.proofs.lemmas.List.{take_all, take_more}
 use Rattle.std.proofs.lemmas.List.Elements.{All-push}
+use Rattle.std.proofs.Math.Bool.{or-false}
 use Rattle.kc_distinct.specs.Lists.{Distinct, member}
 use Rattle.kc_distinct.proofs.Counting.{Distinct-push}
 use Rattle.kc_distinct.proofs.Members.{below_bound}
@@ -327,11 +328,6 @@ or-right : (b : Bool) → (b || true) ≡ true
 or-right true = refl
 or-right false = refl
 
--- a second alternative that fails changes nothing
-or-none : (b : Bool) → (b || false) ≡ b
-or-none true = refl
-or-none false = refl
-
 -- with one more of the lists' marks gone, those of the first lists are 0 and the others as before
 pub unmark-list : (marks old : List ℕ) (xs : List UsedEdges) (i : ℕ) (e : UsedEdges) → i < length xs → e ≡ get_or xs i e → e.vertex < length marks
     → ((w : ℕ) → get_or marks w 0 ≡ cond (is_some (list_in w (take i xs))) 0 (get_or old w 0)) → (w : ℕ)
@@ -345,7 +341,7 @@ unmark-list marks old xs i e l is within was w =
           ∙ sym (ap (λ b. cond b 0 (get_or old w 0)) (more ∙ (ap (λ b. is_some (list_in w (take i xs)) || b) (eq-eqb w e.vertex same)
           ∙ or-right (is_some (list_in w (take i xs)))))))
       | inr other ↦ get_or-set_other marks e.vertex w 0 0 other ∙ (was w ∙ sym (ap (λ b. cond b 0 (get_or old w 0)) (more
-          ∙ (ap (λ b. is_some (list_in w (take i xs)) || b) (ne_eqb w e.vertex other) ∙ or-none (is_some (list_in w (take i xs)))))))
+          ∙ (ap (λ b. is_some (list_in w (take i xs)) || b) (ne_eqb w e.vertex other) ∙ or-false (is_some (list_in w (take i xs)))))))
     ]
 
 -- with one more of the core numbers' marks gone, those of the first are 0 and the others as before
@@ -361,7 +357,7 @@ unmark-place marks old xs i p l is within was w =
           ∙ sym (ap (λ b. cond b 0 (get_or old w 0)) (more ∙ (ap (λ b. is_some (core_in w (take i xs)) || b) (eq-eqb w p.vertex same)
           ∙ or-right (is_some (core_in w (take i xs)))))))
       | inr other ↦ get_or-set_other marks p.vertex w 0 0 other ∙ (was w ∙ sym (ap (λ b. cond b 0 (get_or old w 0)) (more
-          ∙ (ap (λ b. is_some (core_in w (take i xs)) || b) (ne_eqb w p.vertex other) ∙ or-none (is_some (core_in w (take i xs)))))))
+          ∙ (ap (λ b. is_some (core_in w (take i xs)) || b) (ne_eqb w p.vertex other) ∙ or-false (is_some (core_in w (take i xs)))))))
     ]
 
 -- Clear marks are those of a memory that keeps nothing.

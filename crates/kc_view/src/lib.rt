@@ -17,8 +17,6 @@ mod keep;
 mod memo;
 mod plain;
 mod scratch;
-#[cfg(test)]
-mod tests;
 mod view;
 
 pub use asking::{core_of, degree_of, is_neighbour, stands_before};

@@ -93,3 +93,8 @@ pub joined_facts : (h l : ℕ) → h < 2 ^ 32 → l < 2 ^ 32 → Joined h l (bit
 joined_facts h l p q =
     let sum : bit_or (h * 2 ^ 32 % 2 ^ 64) l ≡ h * 2 ^ 32 + l = shifted_pair h 32 l 32 p refl q in
     record { sum = sum; high = ap (λ n. n / 2 ^ 32) sum ∙ shr_high h 32 l q; low = ap (λ n. n % 2 ^ 32) sum ∙ mod_low h 32 l q }
+
+-- the word 0 has version 0
+pub none_version : (item_of 0).version ≡ 0
+unfolding item_of
+none_version = refl

@@ -25,6 +25,3 @@ pub use note::NoteWord;
 pub use shape::Shape;
 pub use version::next_version;
 pub use vertex::VertexWord;
-
-#[cfg(test)]
-mod tests;

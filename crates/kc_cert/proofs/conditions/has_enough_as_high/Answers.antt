@@ -1,13 +1,14 @@
 -- Of each vertex the list of neighbours counts what the definition counts.
 use Rattle.std.proofs.Common.{get_or, ap, arith, inl, inr}
 use Rattle.std.proofs.lemmas.Bool.{false≢true, cases_eq}
-use Rattle.kc_cert.proofs.Counts.{neighbours_within, high_count}
+use Rattle.kc_cert.proofs.Counts.{high_count}
 use Rattle.kc_cert.proofs.conditions.has_enough_as_high.Goals as goal
 use Rattle.kc_graph.specs.Certificate.{degree_as_high}
+use Rattle.kc_graph.proofs.NeighbourLists.{row_within}
 use Rattle.kc_distinct.specs.Lists.{below}
 
 pub at_least-requires : goal.at_least-requires
-at_least-requires c = λ k d l. omega (arith, neighbours_within c.args.graph.now c.loop-v.v c.neighbours.result.now c.neighbours.ensures k d l, c.requires)
+at_least-requires c = λ k d l. omega (arith, row_within c.args.graph.now c.loop-v.v c.neighbours.result.now c.neighbours.ensures k d l, c.requires)
 
 pub returns-then-at_least-number : goal.returns-then-at_least-number
 returns-then-at_least-number c = (

@@ -2,8 +2,9 @@
 use Rattle.std.proofs.Common.{◌≡◌, ◌≤◌, ◌+◌, ℕ, List, Bool, true, length, get_or, set, drop, sym, ap, arith, subst, inl, inr, length-set}
 use Rattle.std.proofs.lemmas.Bool.{false≢true, cases_eq}
 use Rattle.kc_graph.specs.SimpleGraph.{SimpleGraph, degree_among}
+use Rattle.kc_graph.proofs.NeighbourLists.{row_within}
 use Rattle.kc_cert.proofs.Enumerating.{marked_more}
-use Rattle.kc_cert.proofs.Counts.{neighbours_within, counted}
+use Rattle.kc_cert.proofs.Counts.{counted}
 use Rattle.kc_cert.proofs.conditions.has_few_later.Goals as goal
 
 pub unmarked-requires : goal.unmarked-requires
@@ -11,7 +12,7 @@ unmarked-requires c = λ k d l.
     let v : ℕ = get_or c.args.order.now c.loop-v.v-index 0 in
     omega (
       arith,
-      neighbours_within c.args.graph.now v c.neighbours.result.now c.neighbours.ensures k d l,
+      row_within c.args.graph.now v c.neighbours.result.now c.neighbours.ensures k d l,
       ap (length {A = Bool}) c.deref.ensures.value,
       length-set c.loop-v.passed.items v true,
       c.loop-v.invariant.0.one_each,

@@ -1,9 +1,9 @@
 -- After the update a count over neighbours is that over the kept ones, and one more for the other end of an edge that comes.
 use Rattle.std.proofs.Common.{◌≡◌, ℕ, Bool, get_or, leb, sym, ◌∙◌, arith}
+use Rattle.kc_distinct.proofs.Counting.{one_if}
 use Rattle.kc_graph.specs.Lawful.{Ranked}
 use Rattle.kc_graph.specs.Plans.{moved_by}
 use Rattle.kc_cert.specs.Stands.{stands_after}
-use Rattle.kc_cert.proofs.Sums.{one_if}
 use Rattle.kc_cert.proofs.Tallying.{count-updated, gained, gained-some, gained-removed, gained-none}
 use Rattle.kc_cert.proofs.tally.tally_of.Goals as goal
 

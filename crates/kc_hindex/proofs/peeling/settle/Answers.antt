@@ -1,8 +1,9 @@
 -- While a round changes a number the sum of the numbers falls; once one changes none, the numbers have settled.
 use Rattle.std.proofs.Common.{◌≡◌, ◌<◌, ◌+◌, ◌∙◌, ℕ, suc, List, length, sym, subst, arith}
 use Rattle.std.proofs.lemmas.Bool.{true≢false}
+use Rattle.kc_distinct.specs.Lists.{total}
 use Rattle.kc_graph.specs.SimpleGraph.{SimpleGraph}
-use Rattle.kc_hindex.specs.Rounds.{AreRounds, HasRound, after_rounds, total}
+use Rattle.kc_hindex.specs.Rounds.{AreRounds, HasRound, after_rounds}
 use Rattle.kc_hindex.proofs.Settling.{falls-by-one, here, later-settled, round-next, round-over, total-fits, unchanged}
 use Rattle.kc_hindex.proofs.Cores.{settled-are_core}
 use Rattle.kc_hindex.proofs.Uncrossed.{first-ready, next-ready}

@@ -1,7 +1,8 @@
 -- The numbers are those after `changing` rounds, none of which settled, so that the sum of the numbers fell by at least one in each.
 use Rattle.std.proofs.Common.{◌≤◌, ◌+◌, ℕ, length}
+use Rattle.kc_distinct.specs.Lists.{total}
 use Rattle.kc_hindex.specs.Pieces.{AreDealt, AreReady}
-use Rattle.kc_hindex.specs.Rounds.{after_rounds, HasRound, IsSettled, total}
+use Rattle.kc_hindex.specs.Rounds.{after_rounds, HasRound, IsSettled}
 use Rattle.kc_hindex.proofs.peeling.settle.Given as goal
 
 -- The numbers are those after `changing` rounds. None of these settled, and the sum of the numbers has fallen by one at least in each.

@@ -1,6 +1,7 @@
 -- The row of the vertex is its list of neighbours, and the h-index of their numbers is at most the number that the vertex has.
 use Rattle.std.proofs.Common.{◌∙◌, get_or, arith}
-use Rattle.kc_hindex.proofs.Rows.{row_within, row_few, row_round}
+use Rattle.kc_graph.proofs.NeighbourLists.{row_within}
+use Rattle.kc_hindex.proofs.Rows.{row_few, row_round}
 use Rattle.kc_hindex.proofs.rounds.number_after.Goals as goal
 
 pub h_index_of-requires-clause-within : goal.h_index_of-requires-clause-within

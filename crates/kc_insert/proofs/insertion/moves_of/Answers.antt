@@ -1,6 +1,7 @@
 -- By cases: the edge was there, nobody rises or is shifted, or some do; for each a lemma says that the moves are sure.
-use Rattle.std.proofs.Common.{◌≡◌, ◌<◌, ℕ, Bool, true, false, List, [], ◌∷◌, ◌++◌, length, eqb, refl, sym, ◌∙◌, subst, arith, eqb-true}
+use Rattle.std.proofs.Common.{◌≡◌, ◌<◌, ℕ, true, false, List, [], ◌++◌, sym, ◌∙◌, subst}
 use Rattle.kc_distinct.specs.Lists.{member}
+use Rattle.kc_distinct.proofs.Shared.{no_items}
 use Rattle.kc_graph.specs.SimpleGraph.{adjacent}
 use Rattle.kc_view.proofs.Keeping.{GoesOn-trans, agreed, core-true, tells-edge}
 use Rattle.kc_cert.specs.Local.{firsts, seconds}
@@ -12,10 +13,6 @@ use Rattle.kc_insert.proofs.Concluding.{named-read, asked-forward, nobody-sure, 
 use Rattle.kc_insert.proofs.Sureness.{kept-sure}
 use Rattle.kc_insert.proofs.Widening.{widened}
 use Rattle.kc_insert.proofs.insertion.moves_of.Goals as goal
-
-no_items : {A : Type 0} (xs : List A) (n : ℕ) (b : Bool) → length xs ≡ n → b ≡ eqb n 0 → b ≡ true → xs ≡ []
-no_items [] n b l e t = refl
-no_items (x ∷ xs) n b l e t = let k : n ≡ 0 = eqb-true n 0 (sym e ∙ t) in absurd (omega arith)
 
 pub returns-then-branch-clause-sure : goal.returns-then-branch-clause-sure
 returns-then-branch-clause-sure g c = λ s used h l a.

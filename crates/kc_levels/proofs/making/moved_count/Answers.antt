@@ -1,8 +1,8 @@
 -- As many vertices are shifted as there are shifts.
 use Rattle.std.proofs.Common.{length, ap, arith, length-append}
 use Rattle.kc_cert.specs.Local.{firsts, moved_vertices}
+use Rattle.kc_cert.proofs.Turns.{length-firsts}
 use Rattle.kc_graph.specs.declared.plan.Moves.{Moves}
-use Rattle.kc_levels.proofs.Steps.{length-firsts}
 use Rattle.kc_levels.proofs.making.moved_count.Goals as goal
 
 pub returns-in-Rise : goal.returns-in-Rise

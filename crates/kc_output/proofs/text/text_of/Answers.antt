@@ -1,8 +1,9 @@
 -- The graph and the batches are those of the input.
-use Rattle.std.proofs.Common.{◌≡◌, ◌<◌, ℕ, Bool, true, false, eqb, List, [], ◌∷◌, length, refl, sym, subst, ap, ap₂, ◌∙◌, arith, eqb-true, eq-eqb, Vec, Global}
+use Rattle.std.proofs.Common.{◌≡◌, ◌<◌, ℕ, Bool, true, false, eqb, List, [], ◌∷◌, length, sym, subst, ap, ap₂, ◌∙◌, arith, eq-eqb, Vec, Global}
 use Rattle.std.proofs.lemmas.Bool.{true≢false}
 use Rattle.std.proofs.lemmas.List.{length-map}
 use Rattle.std.proofs.lemmas.Result.{IfOk-weaker}
+use Rattle.kc_distinct.proofs.Shared.{no_items}
 use Rattle.kc_graph.specs.SimpleGraph.{SimpleGraph}
 use Rattle.kc_graph.specs.declared.update.Update.{Update}
 use Rattle.kc_output.specs.Leaving.{IsLeftBy}
@@ -11,11 +12,6 @@ use Rattle.kc_output.specs.Text.{IsTextFrom}
 use Rattle.kc_output.proofs.InTurn.{lists}
 use Rattle.kc_output.proofs.Telling.{IsLeftFor-from, IsText-from, left-idle, left-worked}
 use Rattle.kc_output.proofs.text.text_of.Goals as goal
-
--- what the test of a list for emptiness tells
-no_items : {A : Type 0} (xs : List A) (n : ℕ) (b : Bool) → length xs ≡ n → b ≡ eqb n 0 → b ≡ true → xs ≡ []
-no_items [] n b l e t = refl
-no_items (x ∷ xs) n b l e t = let k : n ≡ 0 = eqb-true n 0 (sym e ∙ t) in absurd (omega arith)
 
 some_items : {A : Type 0} (xs : List A) (n : ℕ) (b : Bool) → length xs ≡ n → b ≡ eqb n 0 → b ≡ false → 0 < length xs
 some_items [] n b l e f = absurd (true≢false (sym (eq-eqb n 0 (sym l)) ∙ (sym e ∙ f)))

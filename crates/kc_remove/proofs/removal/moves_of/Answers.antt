@@ -1,17 +1,14 @@
 -- By cases: the edge is not there; level 0, which no end of an edge has; nobody falls; or just those on the list lose one.
-use Rattle.std.proofs.Common.{◌≡◌, ◌<◌, ℕ, Bool, true, List, [], ◌∷◌, length, eqb, refl, sym, ◌∙◌, ap, subst, arith, eqb-true}
+use Rattle.std.proofs.Common.{◌≡◌, ◌<◌, true, [], sym, ◌∙◌, ap, subst, arith}
 use Rattle.std.proofs.lemmas.List.{append-nil}
 use Rattle.kc_distinct.specs.Lists.{member}
+use Rattle.kc_distinct.proofs.Shared.{no_items}
 use Rattle.kc_graph.specs.SimpleGraph.{adjacent}
 use Rattle.kc_view.proofs.Keeping.{agreed, tells-edge}
 use Rattle.kc_remove.specs.Falling.{AsksNear}
 use Rattle.kc_remove.proofs.Sureness.{kept-sure, plain-sure, fall-sure, some-level}
 use Rattle.kc_remove.proofs.Tidy.{fallen-read}
 use Rattle.kc_remove.proofs.removal.moves_of.Goals as goal
-
-no_items : (xs : List ℕ) (n : ℕ) (b : Bool) → length xs ≡ n → b ≡ eqb n 0 → b ≡ true → xs ≡ []
-no_items [] n b l e t = refl
-no_items (x ∷ xs) n b l e t = let k : n ≡ 0 = eqb-true n 0 (sym e ∙ t) in absurd (omega arith)
 
 pub returns-then-not-branch-clause-sure : goal.returns-then-not-branch-clause-sure
 returns-then-not-branch-clause-sure g c = λ s used h l a.

@@ -1,7 +1,7 @@
 -- The next neighbour is found just where it supports `y`; at the end of the list all were looked at.
 use Rattle.std.proofs.Common.{◌≡◌, ◌<◌, ◌+◌, ℕ, true, List, length, get_or, ltb, take, refl, sym, ◌∙◌, ap, subst, arith}
+use Rattle.kc_distinct.proofs.Counting.{one_if}
 use Rattle.kc_graph.specs.Neighbours.{neighbours_of}
-use Rattle.kc_cert.proofs.Sums.{one_if}
 use Rattle.kc_view.specs.Answers.{Answers, has_list, list_of}
 use Rattle.kc_view.specs.Lists.{IsListOf}
 use Rattle.kc_view.specs.Views.{TellsList}

@@ -4,9 +4,10 @@ use Rattle.kc_words.specs.declared.shape.Shape.{Shape}
 use Rattle.kc_table.specs.Legal as legal
 use Rattle.kc_words.specs.ItemWord.{item_of}
 use Rattle.kc_words.specs.Order.{labels}
+use Rattle.kc_words.proofs.Packing.{none_version}
 use Rattle.kc_table.specs.State.{listed}
 use Rattle.kc_table.proofs.LegalLogs.{legal-nil, state_of-nil}
-use Rattle.kc_order.proofs.Opened.{Opening, opening-of, tied-open, zero-version}
+use Rattle.kc_order.proofs.Opened.{Opening, opening-of, tied-open}
 use Rattle.kc_order.proofs.writer.Writer.open.Goals as goal
 
 pub open-requires-2 : goal.open-requires-2
@@ -26,7 +27,7 @@ invariant_of-result c =
     let of = c.in_ok-words-2.ensures in
     tied-open c.args.shape c.in_ok-plain.plain c.in_ok-words.words.items c.args.order.now c.args.vertex.now c.in_ok-words-2.words
     c.in_ok-words-2.seat o c.in_ok-words.ensures e.opening e.items e.fixed e.list e.long
-    (ap (λ z. (item_of z).version) e.note ∙ zero-version) (of.words.0, of.words.1) of.writer
+    (ap (λ z. (item_of z).version) e.note ∙ none_version) (of.words.0, of.words.1) of.writer
 
 pub returns-clause-list : goal.returns-clause-list
 returns-clause-list c =

@@ -1,0 +1,161 @@
+//! Plans of insertions, worked out by hand.
+use kc_cert::check;
+use kc_graph::{Graph, Lawful, Moves, Plan, Update};
+use kc_insert::plan;
+use kc_view::PlainView;
+use std::process::Abort;
+use std::test::Fail;
+
+/// A graph with its core numbers and an order that certifies them.
+#[derive(Drop)]
+struct State<'a> {
+    vertices: u32,
+    edges: &'a [(u32, u32)],
+    core: &'a [u32],
+    order: &'a [u32],
+}
+
+/// The plan that adds the edge between `u` and `v`.
+fn plan_of<R: Abort + AllocGlobal>(
+    rt: &R,
+    state: &State<'_>,
+    u: u32,
+    v: u32,
+) -> Result<Plan, Fail> {
+    let mut graph = Graph::new(rt.alloc(), state.vertices)?;
+    for (a, b) in state.edges {
+        assert!(rt; *a != *b && *a < graph.vertices() && *b < graph.vertices());
+        graph.add(*a, *b)?;
+    }
+    let core = Vec::from_slice(rt.alloc(), state.core)?;
+    let order = Vec::from_slice(rt.alloc(), state.order)?;
+    assert!(rt; check(rt.alloc(), &graph, &core, &order)?);
+    let lawful = Lawful::new(rt.alloc(), graph, core, order)?;
+    let mut view = PlainView::new(rt.alloc(), &lawful)?;
+    assert!(rt; u < v && v < view.state().graph().vertices());
+    let update = Update { add: true, u, v };
+    Ok(plan(rt.alloc(), &mut view, update)?)
+}
+
+/// These vertices rise from this level in this order, and these are put behind others.
+fn assert_rise<R: Abort>(rt: &R, plan: &Plan, of: u32, these: &[u32], behind: &[(u32, u32)]) {
+    match &plan.moves {
+        Moves::Rise {
+            level,
+            rise,
+            shifts,
+        } => {
+            assert_eq!(rt; *level, of);
+            assert_eq!(rt; rise.as_slice(), these);
+            assert_eq!(rt; shifts.as_slice(), behind);
+        }
+        _ => panic!(rt; "no vertex rises or is put behind another"),
+    }
+}
+
+/// The lists of these vertices were asked, in this order.
+fn assert_asked<R: Abort>(rt: &R, plan: &Plan, lists: &[u32]) {
+    assert!(rt;
+        plan.used
+            .edges
+            .iter()
+            .map(|e| e.vertex)
+            .eq(lists.iter().copied())
+    );
+}
+
+#[test]
+fn the_ends_of_a_path_are_joined(rt: HostRuntime) -> Result<(), Fail> {
+    let path = State {
+        vertices: 4,
+        edges: &[(0, 1), (1, 2), (2, 3)],
+        core: &[1, 1, 1, 1],
+        order: &[0, 1, 2, 3],
+    };
+    let closed = plan_of(&rt, &path, 0, 3)?;
+    assert_rise(&rt, &closed, 1, &[0, 1, 2, 3], &[]);
+    assert_asked(&rt, &closed, &[0, 1, 2, 3]);
+    let there = plan_of(&rt, &path, 1, 2)?;
+    assert!(rt; matches!(there.moves, Moves::Kept));
+    assert_asked(&rt, &there, &[1]);
+    assert!(rt; there.used.places.is_empty() && there.used.orders.is_empty());
+    Ok(())
+}
+
+/// The first end of the new edge is evicted, since the vertex behind it does not rise. Where the later end comes first nobody moves.
+#[test]
+fn two_edges_are_joined(rt: HostRuntime) -> Result<(), Fail> {
+    let edges = [(0, 1), (2, 3)];
+    let core = [1, 1, 1, 1];
+    let ascending = State {
+        vertices: 4,
+        edges: &edges,
+        core: &core,
+        order: &[0, 1, 2, 3],
+    };
+    let plan = plan_of(&rt, &ascending, 0, 2)?;
+    assert_rise(&rt, &plan, 1, &[], &[(0, 1)]);
+    let mixed = State {
+        vertices: 4,
+        edges: &edges,
+        core: &core,
+        order: &[0, 2, 1, 3],
+    };
+    let plan = plan_of(&rt, &mixed, 1, 3)?;
+    assert!(rt; matches!(plan.moves, Moves::Plain));
+    assert_asked(&rt, &plan, &[1]);
+    Ok(())
+}
+
+#[test]
+fn a_vertex_alone_is_joined_to_a_triangle(rt: HostRuntime) -> Result<(), Fail> {
+    let state = State {
+        vertices: 4,
+        edges: &[(0, 1), (1, 2), (0, 2)],
+        core: &[2, 2, 2, 0],
+        order: &[3, 0, 1, 2],
+    };
+    let plan = plan_of(&rt, &state, 0, 3)?;
+    assert_rise(&rt, &plan, 0, &[3], &[]);
+    assert_asked(&rt, &plan, &[0, 3]);
+    Ok(())
+}
+
+/// Two vertices are evicted, one behind the other, in the order in which they were found too weak.
+#[test]
+fn a_ring_of_four_gets_a_chord(rt: HostRuntime) -> Result<(), Fail> {
+    let ring = State {
+        vertices: 4,
+        edges: &[(0, 2), (0, 3), (1, 2), (1, 3)],
+        core: &[2, 2, 2, 2],
+        order: &[0, 1, 2, 3],
+    };
+    let plan = plan_of(&rt, &ring, 0, 1)?;
+    assert_rise(&rt, &plan, 2, &[], &[(0, 2), (1, 0)]);
+    Ok(())
+}
+
+/// Four vertices rise. The one that stands between two of them is evicted, and put behind the one that settles it.
+#[test]
+fn some_rise_and_one_is_evicted(rt: HostRuntime) -> Result<(), Fail> {
+    let state = State {
+        vertices: 6,
+        edges: &[
+            (0, 3),
+            (0, 4),
+            (0, 5),
+            (1, 2),
+            (1, 3),
+            (1, 5),
+            (2, 3),
+            (3, 5),
+            (4, 5),
+        ],
+        core: &[2, 2, 2, 2, 2, 2],
+        order: &[2, 1, 3, 0, 4, 5],
+    };
+    let plan = plan_of(&rt, &state, 2, 5)?;
+    assert_rise(&rt, &plan, 2, &[2, 1, 3, 5], &[(0, 4)]);
+    assert_asked(&rt, &plan, &[2, 1, 3, 0, 4, 5]);
+    Ok(())
+}

@@ -1,0 +1,2 @@
+-- What the contracts of the tests speak of.
+pub mod Lone
