@@ -2,9 +2,9 @@
 use Rattle.std.proofs.Common.{◌≡◌, ◌≢◌, ◌≤◌, ◌<◌, ◌+◌, ℕ, zero, suc, Bool, true, false, cond, ◌||◌, List, [], ◌∷◌, ◌++◌, length, get_or, map, set}
 use Rattle.std.proofs.Common.{take, drop, refl, sym, ◌∙◌, ap, subst, inl, inr, arith, eqb, eqb-true, eq-eqb, ne_eqb, length-append, length-set}
 use Rattle.std.specs.Prelude.{All, Option, Some, None, is_some}
-use Rattle.std.proofs.lemmas.Bool.{cases_Bool, cases_eq, false≢true, or_cases, true≢false}
+use Rattle.std.proofs.lemmas.Bool.{cases_Bool, cases_eq, false≢true, or_cases, or_right, true≢false}
 use Rattle.std.proofs.lemmas.List.{get_or-set_same, get_or-set_other, get_or_append_left, get_or_push, append-nil, drop_all, length-map, map-append}
-use Rattle.std.proofs.lemmas.List.{take_all, take_more}
+use Rattle.std.proofs.lemmas.List.{take_all}
 use Rattle.std.proofs.lemmas.List.Elements.{All-push}
 use Rattle.std.proofs.Math.Bool.{or-false}
 use Rattle.kc_distinct.specs.Lists.{Distinct, member}
@@ -19,7 +19,7 @@ use Rattle.kc_view.specs.Marks.{AreClear, Marks, no_list, no_place, list_at, cor
 use Rattle.kc_view.specs.Memory.{Memory, keeping}
 use Rattle.kc_view.proofs.Handing.{lists-push}
 use Rattle.kc_view.proofs.Keeping.{list_in-front, core_in-front, no-lists}
-use Rattle.kc_view.proofs.Marking.{list_in-push, core_in-push, has_list-more, has_core-more}
+use Rattle.kc_view.proofs.Marking.{list_in-push, core_in-push, lists_taken, places_taken}
 
 -- what is not there is none
 is_none : {A : Type 0} (o : Option A) → is_some o ≡ false → o ≡ None
@@ -116,35 +116,58 @@ place-vertices-below n (x ∷ xs) h w m = elim (or_cases (eqb w x.vertex) (membe
   | inr k ↦ place-vertices-below n xs (λ i d l. h (suc i) d (omega arith)) w k
 ]
 
+-- the list that was pushed stands at the last place, and is the one that its vertex is told
+list_at-new : (xs : List UsedEdges) (e : UsedEdges) (mark : ℕ) → is_some (list_in e.vertex xs) ≡ false → mark ≡ length (xs ++ e ∷ [])
+    → list_at (xs ++ e ∷ []) mark ≡ list_in e.vertex (xs ++ e ∷ [])
+list_at-new xs e mark none size =
+    list_at-suc (xs ++ e ∷ []) (length xs) mark (omega (arith, size, length-append xs (e ∷ [])))
+    ∙ (ap (λ (x : UsedEdges). Some x.neighbours) (get_or_push xs e no_list (length xs) refl)
+    ∙ sym (list_in-push e.vertex xs e none ∙ ap (λ b. cond b (Some e.neighbours) None) (eq-eqb e.vertex e.vertex refl)))
+
+-- the core number that was pushed stands at the last place, and is the one that its vertex is told
+core_at-new : (xs : List UsedPlace) (p : UsedPlace) (mark : ℕ) → is_some (core_in p.vertex xs) ≡ false → mark ≡ length (xs ++ p ∷ [])
+    → core_at (xs ++ p ∷ []) mark ≡ core_in p.vertex (xs ++ p ∷ [])
+core_at-new xs p mark none size =
+    core_at-suc (xs ++ p ∷ []) (length xs) mark (omega (arith, size, length-append xs (p ∷ [])))
+    ∙ (ap (λ (x : UsedPlace). Some x.core) (get_or_push xs p no_place (length xs) refl)
+    ∙ sym (core_in-push p.vertex xs p none ∙ ap (λ b. cond b (Some p.core) None) (eq-eqb p.vertex p.vertex refl)))
+
+-- One mark is set to a last place: no mark stands behind it.
+marks-within : (size v mark before last : ℕ) (marks : List ℕ) → v < length marks → ((w : ℕ) → w < size → get_or marks w 0 ≤ before) → before ≤ last
+    → mark ≡ last → (w : ℕ) → w < size → get_or (set marks v mark) w 0 ≤ last
+marks-within size v mark before last marks here within more is w l = elim (cases_eq w v) [
+  | inl same ↦ omega (arith, ap (λ k. get_or (set marks v mark) k 0) same, get_or-set_same marks v mark 0 here, is)
+  | inr other ↦ omega (arith, get_or-set_other marks v w mark 0 other, within w l, more)
+]
+
+-- One mark is set: where it finds what its vertex is told, and the other marks found that already, each mark does.
+marks-find : {A : Type 0} (size v mark : ℕ) (marks : List ℕ) (at told : ℕ → Option A) → v < length marks → at mark ≡ told v
+    → ((w : ℕ) → w < size → w ≢ v → at (get_or marks w 0) ≡ told w) → (w : ℕ) → w < size → at (get_or (set marks v mark) w 0) ≡ told w
+marks-find size v mark marks at told here new others w l = elim (cases_eq w v) [
+  | inl same ↦ ap at (ap (λ k. get_or (set marks v mark) k 0) same ∙ get_or-set_same marks v mark 0 here) ∙ (new ∙ ap told (sym same))
+  | inr other ↦ ap at (get_or-set_other marks v w mark 0 other) ∙ others w l other
+]
+
 -- How an answer more is marked. What is marked is the memory `m`, whose marks are `listed` and `placed`.
 module _ (m : Memory) (listed placed : List ℕ) (is : Marks m listed placed) where
   -- a list more, with its mark
   pub mark-list : (e : UsedEdges) (mark : ℕ) → e.vertex < m.size → has_list m.kept e.vertex ≡ false → IsListOf m.size e.vertex e.neighbours
       → mark ≡ length (m.kept.edges ++ e ∷ []) → Marks (keeping m.size (with_list m.kept e)) (set listed e.vertex mark) placed
   mark-list e mark here none list size =
-      let long : mark ≡ suc (length m.kept.edges) = omega (arith, size, length-append m.kept.edges (e ∷ [])) in
-      let set-here : get_or (set listed e.vertex mark) e.vertex 0 ≡ mark = get_or-set_same listed e.vertex mark 0 (omega (arith, is.lists_long, here)) in
+      let set-here : e.vertex < length listed = omega (arith, is.lists_long, here) in
       record {
         few = is.few;
         lists_long = length-set listed e.vertex mark ∙ is.lists_long;
         places_long = is.places_long;
-        lists_in = λ w l. elim (cases_eq w e.vertex) [
-          | inl same ↦ omega (arith, ap (λ n. get_or (set listed e.vertex mark) n 0) same, set-here, size)
-          | inr other ↦ omega (arith, get_or-set_other listed e.vertex w mark 0 other, is.lists_in w l, long, size)
-        ];
+        lists_in =
+            marks-within m.size e.vertex mark (length m.kept.edges) (length (m.kept.edges ++ e ∷ [])) listed set-here is.lists_in
+            (omega (arith, length-append m.kept.edges (e ∷ []))) size;
         places_in = is.places_in;
-        lists = λ w l. elim (cases_eq w e.vertex) [
-          | inl same ↦
-              ap (list_at (m.kept.edges ++ e ∷ [])) (ap (λ n. get_or (set listed e.vertex mark) n 0) same ∙ set-here)
-              ∙ (list_at-suc (m.kept.edges ++ e ∷ []) (length m.kept.edges) mark long
-              ∙ (ap (λ (x : UsedEdges). Some x.neighbours) (get_or_push m.kept.edges e no_list (length m.kept.edges) refl)
-              ∙ (sym (list_in-push e.vertex m.kept.edges e none ∙ ap (λ b. cond b (Some e.neighbours) None) (eq-eqb e.vertex e.vertex refl))
-              ∙ ap (λ n. list_in n (m.kept.edges ++ e ∷ [])) (sym same))))
-          | inr other ↦
-              ap (list_at (m.kept.edges ++ e ∷ [])) (get_or-set_other listed e.vertex w mark 0 other)
-              ∙ (list_at-front m.kept.edges (e ∷ []) (get_or listed w 0) (is.lists_in w l)
-              ∙ (is.lists w l ∙ sym (list_in-other w m.kept.edges e other)))
-        ];
+        lists =
+            marks-find m.size e.vertex mark listed (list_at (m.kept.edges ++ e ∷ [])) (λ w. list_in w (m.kept.edges ++ e ∷ [])) set-here
+            (list_at-new m.kept.edges e mark none size)
+            (λ w l other. list_at-front m.kept.edges (e ∷ []) (get_or listed w 0) (is.lists_in w l)
+            ∙ (is.lists w l ∙ sym (list_in-other w m.kept.edges e other)));
         places = is.places;
         lists_once = lists-once m.kept.edges e is.lists_once none;
         places_once = is.places_once;
@@ -157,30 +180,21 @@ module _ (m : Memory) (listed placed : List ℕ) (is : Marks m listed placed) wh
   pub mark-place : (p : UsedPlace) (mark : ℕ) → p.vertex < m.size → has_core m.kept p.vertex ≡ false → mark ≡ length (m.kept.places ++ p ∷ [])
       → Marks (keeping m.size (with_place m.kept p)) listed (set placed p.vertex mark)
   mark-place p mark here none size =
-      let long : mark ≡ suc (length m.kept.places) = omega (arith, size, length-append m.kept.places (p ∷ [])) in
-      let set-here : get_or (set placed p.vertex mark) p.vertex 0 ≡ mark = get_or-set_same placed p.vertex mark 0 (omega (arith, is.places_long, here)) in
+      let set-here : p.vertex < length placed = omega (arith, is.places_long, here) in
       record {
         few = is.few;
         lists_long = is.lists_long;
         places_long = length-set placed p.vertex mark ∙ is.places_long;
         lists_in = is.lists_in;
-        places_in = λ w l. elim (cases_eq w p.vertex) [
-          | inl same ↦ omega (arith, ap (λ n. get_or (set placed p.vertex mark) n 0) same, set-here, size)
-          | inr other ↦ omega (arith, get_or-set_other placed p.vertex w mark 0 other, is.places_in w l, long, size)
-        ];
+        places_in =
+            marks-within m.size p.vertex mark (length m.kept.places) (length (m.kept.places ++ p ∷ [])) placed set-here is.places_in
+            (omega (arith, length-append m.kept.places (p ∷ []))) size;
         lists = is.lists;
-        places = λ w l. elim (cases_eq w p.vertex) [
-          | inl same ↦
-              ap (core_at (m.kept.places ++ p ∷ [])) (ap (λ n. get_or (set placed p.vertex mark) n 0) same ∙ set-here)
-              ∙ (core_at-suc (m.kept.places ++ p ∷ []) (length m.kept.places) mark long
-              ∙ (ap (λ (x : UsedPlace). Some x.core) (get_or_push m.kept.places p no_place (length m.kept.places) refl)
-              ∙ (sym (core_in-push p.vertex m.kept.places p none ∙ ap (λ b. cond b (Some p.core) None) (eq-eqb p.vertex p.vertex refl))
-              ∙ ap (λ n. core_in n (m.kept.places ++ p ∷ [])) (sym same))))
-          | inr other ↦
-              ap (core_at (m.kept.places ++ p ∷ [])) (get_or-set_other placed p.vertex w mark 0 other)
-              ∙ (core_at-front m.kept.places (p ∷ []) (get_or placed w 0) (is.places_in w l)
-              ∙ (is.places w l ∙ sym (core_in-other w m.kept.places p other)))
-        ];
+        places =
+            marks-find m.size p.vertex mark placed (core_at (m.kept.places ++ p ∷ [])) (λ w. core_in w (m.kept.places ++ p ∷ [])) set-here
+            (core_at-new m.kept.places p mark none size)
+            (λ w l other. core_at-front m.kept.places (p ∷ []) (get_or placed w 0) (is.places_in w l)
+            ∙ (is.places w l ∙ sym (core_in-other w m.kept.places p other)));
         lists_once = is.lists_once;
         places_once = places-once m.kept.places p is.places_once none;
         lists_below = is.lists_below;
@@ -323,42 +337,31 @@ no-marks size listed placed l p = record {
   are_lists = no-lists size;
 }
 
--- a second alternative that holds is enough
-or-right : (b : Bool) → (b || true) ≡ true
-or-right true = refl
-or-right false = refl
+-- with the mark of `v` set to 0, the marks that are gone are 0 and the others as before
+unmark-one : (marks old : List ℕ) (v : ℕ) (gone gone' : ℕ → Bool) → v < length marks → ((w : ℕ) → get_or marks w 0 ≡ cond (gone w) 0 (get_or old w 0))
+    → ((w : ℕ) → gone' w ≡ (gone w || eqb w v)) → (w : ℕ) → get_or (set marks v 0) w 0 ≡ cond (gone' w) 0 (get_or old w 0)
+unmark-one marks old v gone gone' within was is w = elim (cases_eq w v) [
+  | inl same ↦
+      ap (λ n. get_or (set marks v 0) n 0) same
+      ∙ (get_or-set_same marks v 0 0 within ∙ sym (ap (λ b. cond b 0 (get_or old w 0)) (is w ∙ or_right (gone w) (eqb w v) (eq-eqb w v same))))
+  | inr other ↦
+      get_or-set_other marks v w 0 0 other
+      ∙ (was w ∙ sym (ap (λ b. cond b 0 (get_or old w 0)) (is w ∙ (ap (λ b. gone w || b) (ne_eqb w v other) ∙ or-false (gone w)))))
+]
 
 -- with one more of the lists' marks gone, those of the first lists are 0 and the others as before
 pub unmark-list : (marks old : List ℕ) (xs : List UsedEdges) (i : ℕ) (e : UsedEdges) → i < length xs → e ≡ get_or xs i e → e.vertex < length marks
     → ((w : ℕ) → get_or marks w 0 ≡ cond (is_some (list_in w (take i xs))) 0 (get_or old w 0)) → (w : ℕ)
     → get_or (set marks e.vertex 0) w 0 ≡ cond (is_some (list_in w (take (i + 1) xs))) 0 (get_or old w 0)
-unmark-list marks old xs i e l is within was w =
-    let next : take (i + 1) xs ≡ take i xs ++ e ∷ [] = take_more xs i e l ∙ ap (λ (x : UsedEdges). take i xs ++ x ∷ []) (sym is) in
-    let more : is_some (list_in w (take (i + 1) xs)) ≡ (is_some (list_in w (take i xs)) || eqb w e.vertex) = ap (λ (ys : List UsedEdges). is_some
-    (list_in w ys)) next ∙ has_list-more (record { edges = take i xs; places = []; orders = [] }) e w in
-    elim (cases_eq w e.vertex) [
-      | inl same ↦ ap (λ n. get_or (set marks e.vertex 0) n 0) same ∙ (get_or-set_same marks e.vertex 0 0 within
-          ∙ sym (ap (λ b. cond b 0 (get_or old w 0)) (more ∙ (ap (λ b. is_some (list_in w (take i xs)) || b) (eq-eqb w e.vertex same)
-          ∙ or-right (is_some (list_in w (take i xs)))))))
-      | inr other ↦ get_or-set_other marks e.vertex w 0 0 other ∙ (was w ∙ sym (ap (λ b. cond b 0 (get_or old w 0)) (more
-          ∙ (ap (λ b. is_some (list_in w (take i xs)) || b) (ne_eqb w e.vertex other) ∙ or-false (is_some (list_in w (take i xs)))))))
-    ]
+unmark-list marks old xs i e l is within was =
+    unmark-one marks old e.vertex (λ w. is_some (list_in w (take i xs))) (λ w. is_some (list_in w (take (i + 1) xs))) within was (lists_taken xs i e l is)
 
 -- with one more of the core numbers' marks gone, those of the first are 0 and the others as before
 pub unmark-place : (marks old : List ℕ) (xs : List UsedPlace) (i : ℕ) (p : UsedPlace) → i < length xs → p ≡ get_or xs i p → p.vertex < length marks
     → ((w : ℕ) → get_or marks w 0 ≡ cond (is_some (core_in w (take i xs))) 0 (get_or old w 0)) → (w : ℕ)
     → get_or (set marks p.vertex 0) w 0 ≡ cond (is_some (core_in w (take (i + 1) xs))) 0 (get_or old w 0)
-unmark-place marks old xs i p l is within was w =
-    let next : take (i + 1) xs ≡ take i xs ++ p ∷ [] = take_more xs i p l ∙ ap (λ (x : UsedPlace). take i xs ++ x ∷ []) (sym is) in
-    let more : is_some (core_in w (take (i + 1) xs)) ≡ (is_some (core_in w (take i xs)) || eqb w p.vertex) = ap (λ (ys : List UsedPlace). is_some
-    (core_in w ys)) next ∙ has_core-more (record { edges = []; places = take i xs; orders = [] }) p w in
-    elim (cases_eq w p.vertex) [
-      | inl same ↦ ap (λ n. get_or (set marks p.vertex 0) n 0) same ∙ (get_or-set_same marks p.vertex 0 0 within
-          ∙ sym (ap (λ b. cond b 0 (get_or old w 0)) (more ∙ (ap (λ b. is_some (core_in w (take i xs)) || b) (eq-eqb w p.vertex same)
-          ∙ or-right (is_some (core_in w (take i xs)))))))
-      | inr other ↦ get_or-set_other marks p.vertex w 0 0 other ∙ (was w ∙ sym (ap (λ b. cond b 0 (get_or old w 0)) (more
-          ∙ (ap (λ b. is_some (core_in w (take i xs)) || b) (ne_eqb w p.vertex other) ∙ or-false (is_some (core_in w (take i xs)))))))
-    ]
+unmark-place marks old xs i p l is within was =
+    unmark-one marks old p.vertex (λ w. is_some (core_in w (take i xs))) (λ w. is_some (core_in w (take (i + 1) xs))) within was (places_taken xs i p l is)
 
 -- Clear marks are those of a memory that keeps nothing.
 pub fresh-marks : (size : ℕ) (listed placed : List ℕ) (a : Answers) → a ≡ nothing_answered → AreClear size listed → AreClear size placed

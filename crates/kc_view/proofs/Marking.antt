@@ -180,6 +180,24 @@ core_of-now a p f =
     ap (λ o. unwrap_or o 0) (core_in-push p.vertex a.places p f)
     ∙ ap (λ b. unwrap_or (cond b (Some p.core) None) 0) (eq-eqb p.vertex p.vertex refl)
 
+-- A list that is told for the first time: it is told now, and is the one that is told from now on.
+pub record TellsNewList (a : Answers) (e : UsedEdges) : Type 0 where
+  pub told : TellsList a (with_list a e) e.vertex
+  pub list : e.neighbours ≡ list_of (with_list a e) e.vertex
+
+-- so it is where the vertex had none
+pub tells_new_list : (a : Answers) (e : UsedEdges) → has_list a e.vertex ≡ false → TellsNewList a e
+tells_new_list a e none = record { told = tells_list a e none; list = sym (list_of-now a e none) }
+
+-- A core number that is told for the first time: it is told now, and is the one that is told from now on.
+pub record TellsNewCore (a : Answers) (p : UsedPlace) : Type 0 where
+  pub told : TellsCore a (with_place a p) p.vertex
+  pub core : p.core ≡ core_of (with_place a p) p.vertex
+
+-- so it is where the vertex had none
+pub tells_new_core : (a : Answers) (p : UsedPlace) → has_core a p.vertex ≡ false → TellsNewCore a p
+tells_new_core a p none = record { told = tells_core a p none; core = sym (core_of-now a p none) }
+
 -- the neighbours of a vertex are a list as a view tells it
 pub IsListOf-neighbours : (s : Ranked) (w : ℕ) (ws : List ℕ) → AreNeighbours s.graph w ws → IsListOf s.graph.size w ws
 IsListOf-neighbours s w ws near = record { ascends = near.ascending; within = near.within; others = near.exact w ∙ adjacent-self s.graph w }
@@ -213,15 +231,27 @@ unmark-more marks v old gone gone' l was is w = elim (cases_eq w v) [
       ∙ (was w ∙ sym (ap (λ b. old w && not b) (is w ∙ (ap (λ b. gone w || b) (ne_eqb w v ne) ∙ or-false (gone w)))))
 ]
 
+-- of one list more of those that were kept, its vertex has a list too
+pub lists_taken : (xs : List UsedEdges) (i : ℕ) (e : UsedEdges) → i < length xs → e ≡ get_or xs i e → (w : ℕ)
+    → is_some (list_in w (take (i + 1) xs)) ≡ (is_some (list_in w (take i xs)) || eqb w e.vertex)
+lists_taken xs i e l is w =
+    ap (λ (ys : List UsedEdges). is_some (list_in w ys)) (take_more xs i e l ∙ ap (λ (x : UsedEdges). take i xs ++ x ∷ []) (sym is))
+    ∙ has_list-more (record { edges = take i xs; places = []; orders = [] }) e w
+
+-- of one core number more of those that were kept, its vertex has a core number too
+pub places_taken : (xs : List UsedPlace) (i : ℕ) (p : UsedPlace) → i < length xs → p ≡ get_or xs i p → (w : ℕ)
+    → is_some (core_in w (take (i + 1) xs)) ≡ (is_some (core_in w (take i xs)) || eqb w p.vertex)
+places_taken xs i p l is w =
+    ap (λ (ys : List UsedPlace). is_some (core_in w ys)) (take_more xs i p l ∙ ap (λ (x : UsedPlace). take i xs ++ x ∷ []) (sym is))
+    ∙ has_core-more (record { edges = []; places = take i xs; orders = [] }) p w
+
 -- with one more of the lists' marks gone, those of the first lists are gone and the others as before
 pub unmark_list : (marks : List Bool) (old : ℕ → Bool) (xs : List UsedEdges) (i : ℕ) (e : UsedEdges) → i < length xs → e ≡ get_or xs i e
     → e.vertex < length marks
     → ((w : ℕ) → get_or marks w false ≡ (old w && not (is_some (list_in w (take i xs))))) → (w : ℕ)
     → get_or (set marks e.vertex false) w false ≡ (old w && not (is_some (list_in w (take (i + 1) xs))))
 unmark_list marks old xs i e l is v was =
-    let next : take (i + 1) xs ≡ take i xs ++ e ∷ [] = take_more xs i e l ∙ ap (λ (x : UsedEdges). take i xs ++ x ∷ []) (sym is) in
-    unmark-more marks e.vertex old (λ w. is_some (list_in w (take i xs))) (λ w. is_some (list_in w (take (i + 1) xs))) v was
-    (λ w. ap (λ (ys : List UsedEdges). is_some (list_in w ys)) next ∙ has_list-more (record { edges = take i xs; places = []; orders = [] }) e w)
+    unmark-more marks e.vertex old (λ w. is_some (list_in w (take i xs))) (λ w. is_some (list_in w (take (i + 1) xs))) v was (lists_taken xs i e l is)
 
 -- with one more of the core numbers' marks gone, those of the first are gone and the others as before
 pub unmark_place : (marks : List Bool) (old : ℕ → Bool) (xs : List UsedPlace) (i : ℕ) (p : UsedPlace) → i < length xs → p ≡ get_or xs i p
@@ -229,9 +259,7 @@ pub unmark_place : (marks : List Bool) (old : ℕ → Bool) (xs : List UsedPlace
     → ((w : ℕ) → get_or marks w false ≡ (old w && not (is_some (core_in w (take i xs))))) → (w : ℕ)
     → get_or (set marks p.vertex false) w false ≡ (old w && not (is_some (core_in w (take (i + 1) xs))))
 unmark_place marks old xs i p l is v was =
-    let next : take (i + 1) xs ≡ take i xs ++ p ∷ [] = take_more xs i p l ∙ ap (λ (x : UsedPlace). take i xs ++ x ∷ []) (sym is) in
-    unmark-more marks p.vertex old (λ w. is_some (core_in w (take i xs))) (λ w. is_some (core_in w (take (i + 1) xs))) v was
-    (λ w. ap (λ (ys : List UsedPlace). is_some (core_in w ys)) next ∙ has_core-more (record { edges = []; places = take i xs; orders = [] }) p w)
+    unmark-more marks p.vertex old (λ w. is_some (core_in w (take i xs))) (λ w. is_some (core_in w (take (i + 1) xs))) v was (places_taken xs i p l is)
 
 -- the neighbours of a vertex whose list was kept
 pub same_neighbours : (s : Ranked) (a : Answers) (w : ℕ) (ws : List ℕ) → Agrees a s → AreNeighbours s.graph w ws → has_list a w ≡ true → ws ≡ list_of a w
