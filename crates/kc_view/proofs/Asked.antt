@@ -1,6 +1,6 @@
 -- Which core numbers were asked: those of the ends of an edge and of neighbours that a list told.
-use Rattle.std.proofs.Common.{◌≡◌, ◌⊎◌, ◌||◌, ℕ, true, false, cond, List, [], ◌∷◌, eqb, sym, ◌∙◌, subst, inl, inr}
-use Rattle.std.specs.Prelude.{Some, is_some}
+use Rattle.std.proofs.Common.{◌≡◌, ◌⊎◌, ◌||◌, ℕ, true, false, cond, List, [], ◌∷◌, eqb, refl, sym, ◌∙◌, subst, inl, inr, arith}
+use Rattle.std.specs.Prelude.{All, Some, is_some}
 use Rattle.std.specs.Option.{unwrap_or}
 use Rattle.std.specs.List.{list_any}
 use Rattle.std.proofs.lemmas.Bool.{cases_Bool, false≢true, or_left, or_right}
@@ -9,8 +9,8 @@ use Rattle.std.proofs.lemmas.List.Folds.{list_any-append}
 use Rattle.kc_distinct.specs.Lists.{member}
 use Rattle.kc_graph.specs.declared.update.Update.{Update}
 use Rattle.kc_graph.specs.declared.used.UsedEdges.{UsedEdges}
-use Rattle.kc_view.specs.Answers.{Answers, list_in, has_list, list_of, has_core, with_list}
-use Rattle.kc_view.specs.Sure.{is_listed, AsksCores}
+use Rattle.kc_view.specs.Answers.{Answers, nothing_answered, list_in, has_list, list_of, has_core, with_list}
+use Rattle.kc_view.specs.Sure.{AsksOneList, is_listed, AsksCores}
 use Rattle.kc_view.specs.Views.{TellsList, TellsCore}
 
 -- a vertex on the list that was told of another one is on a list that was told
@@ -55,3 +55,15 @@ cores-listed update a b y asks tells = elim (cases_Bool (has_list a y)) [
         | inr (inr h) ↦ inr (inr (list_any-append (λ x. member q.vertex x.neighbours) a.edges (e ∷ []) ∙ or_left (is_listed a q.vertex) _ h))
       ]) a.places asks)
 ]
+
+-- where nothing was answered and a list is told, this is all that was asked
+pub one-list : (a : Answers) (w : ℕ) → TellsList nothing_answered a w → AsksOneList a w
+one-list a w tells =
+    let (e, is, eq) = tells.now refl in
+    subst (λ (b : Answers). AsksOneList b w) (sym eq)
+    (record { lists = All-push (λ d. d.vertex ≡ w) [] e (λ i d l. absurd (omega arith)) is; cores = refl; orders = refl })
+
+-- where one list alone was asked, no core number was
+pub cores-none : (update : Update) (a : Answers) (w : ℕ) → AsksOneList a w → AsksCores update a
+cores-none update a w asks =
+    subst (All (λ p. (p.vertex ≡ update.u) ⊎ (p.vertex ≡ update.v) ⊎ (is_listed a p.vertex ≡ true))) (sym asks.cores) (λ i d l. absurd (omega arith))

@@ -57,6 +57,12 @@ anchors (Fall level fall) = []
 abbrev pub NamesOnlyRead : Plan → Type 0
 NamesOnlyRead plan = (x : ℕ) → member x (moved_vertices plan.moves ++ anchors plan.moves) ≡ true → has_list (answers_in plan.used) x ≡ true
 
+-- of all lists, core numbers and orders just the list of `w` was asked
+pub record AsksOneList (a : Answers) (w : ℕ) : Type 0 where
+  pub lists : All (λ e. e.vertex ≡ w) a.edges
+  pub cores : a.places ≡ []
+  pub orders : a.orders ≡ []
+
 -- whether a list that was told has `y`
 abbrev pub is_listed : Answers → ℕ → Bool
 is_listed a y = list_any (λ e. member y e.neighbours) a.edges

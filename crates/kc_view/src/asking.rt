@@ -1,11 +1,13 @@
 //! Questions to a view, with the planner's faults.
 ghost use Rattle.std.specs.Prelude.{◌≡◌, ◌≢◌, ◌<◌, ℕ, true, length, IfOk, OnOk, IfErr};
 ghost use Rattle.kc_distinct.specs.Lists.{member};
-ghost use Rattle.kc_view.specs.Answers.{has_list, list_of, has_core, core_of, with_order};
+ghost use Rattle.kc_view.specs.Answers.{nothing_answered, has_list, list_of, has_core, core_of, with_order};
+ghost use Rattle.kc_view.specs.Sure.{AsksOneList};
 ghost use Rattle.kc_view.specs.Views.{KeepsLists, GoesOn, TellsList, TellsCore, HasPlanCause};
 
 use crate::fault::PlanFault;
 use crate::view::View;
+use kc_graph::Update;
 
 /// The number of neighbours of `w`, as `View::degree` tells it.
 pub fn degree_of<V: View>(view: &mut V, w: u32) -> Result<u32, PlanFault>
@@ -51,4 +53,18 @@ pub fn is_neighbour<V: View>(view: &V, x: u32, y: u32) -> bool
     ensures { result ≡ member y (list_of (V.shown view.now).kept x) }
 {
     view.list(x).binary_search(&y).is_ok()
+}
+
+/// Whether the list of the lesser end has the other one: whether the edge is there. It is what a planner asks first.
+pub fn has_edge<V: View>(view: &mut V, update: Update) -> Result<bool, PlanFault>
+    requires vertex { update.v < (V.shown view.old).size }
+    requires fresh { (V.shown view.old).kept ≡ nothing_answered }
+    ensures goes_on { GoesOn (V.shown view.old) (V.shown view.new) }
+    ensures cause { IfErr result (λ fault. HasPlanCause (V.shown view.old) (V.shown view.new) fault) }
+    ensures asks { OnOk result (AsksOneList (V.shown view.new).kept update.u) }
+    ensures read { OnOk result (has_list (V.shown view.new).kept update.u ≡ true) }
+    ensures told { IfOk result (λ there. there ≡ member update.v (list_of (V.shown view.new).kept update.u)) }
+{
+    degree_of(view, update.u)?;
+    Ok(is_neighbour(view, update.u, update.v))
 }

@@ -4,6 +4,8 @@
 //! vertices stands first. It keeps each answer, so that a plan can be handed on with all that it rests on. The answers need not be
 //! those of one state, and a call may miss.
 //!
+//! `Search` is what each step of a planner goes by.
+//!
 //! `Memo` is how a view keeps what it was answered: with the marks of a `Scratch`, which a worker makes once and lends to each of its views.
 //!
 //! `specs/Answers.antt` says what was asked and answered, and when a state agrees with it; `Views.antt` says what each call leaves;
@@ -17,12 +19,14 @@ mod keep;
 mod memo;
 mod plain;
 mod scratch;
+mod search;
 mod view;
 
-pub use asking::{core_of, degree_of, is_neighbour, stands_before};
+pub use asking::{core_of, degree_of, has_edge, is_neighbour, stands_before};
 pub use fault::{PlanFault, ViewFault};
 pub use keep::{keep_list, keep_order, keep_place};
 pub use memo::Memo;
 pub use plain::PlainView;
 pub use scratch::Scratch;
+pub use search::Search;
 pub use view::View;
