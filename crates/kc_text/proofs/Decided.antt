@@ -1,6 +1,6 @@
 -- The updates that decide are the changes that decide.
-use Rattle.std.proofs.Common.{◌≡◌, ◌≤◌, ◌<◌, ◌+◌, ◌-◌, ◌&&◌, ◌||◌, ℕ, suc, zero, Bool, true, false, cond, List, [], ◌∷◌, length, drop, map, get_or, refl, sym}
-use Rattle.std.proofs.Common.{ap, ap₂, subst, ◌∙◌, arith, nat_eq, eqb-true, eq-eqb, inl, inr, min, max, Vec, Global}
+use Rattle.std.proofs.Common.{◌≡◌, ◌≤◌, ◌<◌, ◌-◌, ◌||◌, ℕ, suc, Bool, true, false, cond, List, [], ◌∷◌, length, drop, map, get_or, refl, sym}
+use Rattle.std.proofs.Common.{ap, ap₂, ◌∙◌, arith, nat_eq, eqb-true, eq-eqb, inl, inr, Vec, Global}
 use Rattle.std.specs.Prelude.{All}
 use Rattle.std.specs.Cmp.{both_ways}
 use Rattle.std.specs.List.{list_any}

@@ -1,6 +1,6 @@
 -- Updates that are overruled are found beside one another among the sorted ranks.
-use Rattle.std.proofs.Common.{◌≡◌, ◌≤◌, ◌<◌, ◌+◌, ◌*◌, ◌-◌, ◌/◌, ◌%◌, ℕ, suc, zero, Bool, true, false, List, length, drop, get_or, refl, sym, ap, ap₂, subst}
-use Rattle.std.proofs.Common.{◌∙◌, arith, nat_eq, eqb-true, eq-eqb, inl, inr, length-drop, Result, Ok, Err}
+use Rattle.std.proofs.Common.{◌≡◌, ◌≤◌, ◌<◌, ◌+◌, ◌*◌, ◌-◌, ◌/◌, ◌%◌, ℕ, suc, zero, Bool, true, false, List, length, drop, get_or, sym, ap, ap₂, subst}
+use Rattle.std.proofs.Common.{◌∙◌, arith, eqb-true, eq-eqb, inl, inr, length-drop, Result, Ok, Err}
 use Rattle.std.specs.Prelude.{All, Contains, IfOk}
 use Rattle.std.specs.Cmp.{both_ways}
 use Rattle.std.specs.List.{list_any}

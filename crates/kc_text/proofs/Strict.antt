@@ -1,5 +1,5 @@
 -- Where no batch names a pair twice, the stricter rule gives the same meaning.
-use Rattle.std.proofs.Common.{◌≡◌, ℕ, ◌+◌, suc, Bool, true, false, cond, List, [], ◌∷◌, ◌++◌, length, length-append, get_or, refl, sym, ap, subst, ◌∙◌, arith}
+use Rattle.std.proofs.Common.{◌≡◌, ℕ, ◌+◌, Bool, true, false, cond, List, [], ◌∷◌, ◌++◌, length, length-append, get_or, refl, sym, ap, subst, ◌∙◌, arith}
 use Rattle.std.proofs.Common.{nat_lt, Option, Some, None}
 use Rattle.std.specs.Prelude.{All, ◌↔◌, unwrap_or}
 use Rattle.std.specs.List.{list_any}
@@ -19,7 +19,7 @@ use Rattle.kc_text.specs.Batches.{NamesOnce}
 use Rattle.kc_text.specs.Forms.{all_said}
 use Rattle.kc_text.specs.Meaning.{Told, Means, Refuses, batches, ends_or, meaning, name_same, nothing_told, or_else, passed_limit, reading, refusal, unfit}
 use Rattle.kc_text.specs.Meaning.{with_line}
-use Rattle.kc_text.specs.NamedOnce.{Cause, Ends, IsRefused, NamesAgain, StrictMeaning, Tells, cause_of, cause_or, ends_at, strict_meaning, strict_reading}
+use Rattle.kc_text.specs.NamedOnce.{Cause, Ends, IsRefused, NamesAgain, Tells, cause_of, cause_or, ends_at, strict_meaning, strict_reading}
 use Rattle.kc_text.specs.NamedOnce.{was_named}
 use Rattle.kc_text.specs.Overruling.{deciding, overruled}
 use Rattle.kc_text.specs.declared.limits.TheConstants.{MOST_BYTES}

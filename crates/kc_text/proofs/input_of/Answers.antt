@@ -8,37 +8,33 @@ use Rattle.kc_text.specs.Inputs.{numbered_change}
 use Rattle.kc_text.specs.declared.limits.TheConstants.{MOST_IDS, MOST_UPDATES}
 use Rattle.kc_text.proofs.Decided.{AreAllUpdates, all-deciding, all-overruled, all-short, all-within}
 use Rattle.kc_text.proofs.input_of.Goals as goal
+use Rattle.kc_text.proofs.input_of.Goals.{After-deref-4}
+
+-- the updates are all changes of the batches
+are-all : (c : After-deref-4) → AreAllUpdates c.args.ids.items c.args.batches.now c.in_ok-updates.updates.items
+are-all c = c.in_ok-updates.ensures
+    ∙ ap (λ (ids : List ℕ). map (λ (batch : Vec Change Global). map (numbered_change ids) batch.items) c.args.batches.now) c.deref-3.ensures.value
 
 pub decide-requires-clause-ends : goal.decide-requires-clause-ends
-decide-requires-clause-ends c =
-    let same : AreAllUpdates c.args.ids.items c.args.batches.now c.in_ok-updates.updates.items =
-    c.in_ok-updates.ensures ∙ ap (λ (ids : List ℕ). map (λ (batch : Vec Change Global). map (numbered_change ids) batch.items) c.args.batches.now)
-    c.deref-3.ensures.value in
-    subst (All (λ (batch : Vec Update Global). All (λ update. update.v < MOST_IDS) batch.items)) (sym c.deref-4.ensures.value)
-    (all-within c.args.ids.items MOST_IDS c.args.batches.now c.in_ok-updates.updates.items c.requires.few same c.requires.batches)
+decide-requires-clause-ends c = subst (All (λ (batch : Vec Update Global). All (λ update. update.v < MOST_IDS) batch.items)) (sym c.deref-4.ensures.value)
+    (all-within c.args.ids.items MOST_IDS c.args.batches.now c.in_ok-updates.updates.items c.requires.few
+    (are-all (goal.at.decide-requires-clause-ends c).After-deref-4) c.requires.batches)
 
 pub decide-requires-clause-short : goal.decide-requires-clause-short
-decide-requires-clause-short c =
-    let same : AreAllUpdates c.args.ids.items c.args.batches.now c.in_ok-updates.updates.items =
-    c.in_ok-updates.ensures ∙ ap (λ (ids : List ℕ). map (λ (batch : Vec Change Global). map (numbered_change ids) batch.items) c.args.batches.now)
-    c.deref-3.ensures.value in
-    subst (All (λ (batch : Vec Update Global). length batch.items ≤ MOST_UPDATES)) (sym c.deref-4.ensures.value)
-    (all-short c.args.ids.items MOST_UPDATES c.args.batches.now c.in_ok-updates.updates.items same c.requires.short)
+decide-requires-clause-short c = subst (All (λ (batch : Vec Update Global). length batch.items ≤ MOST_UPDATES)) (sym c.deref-4.ensures.value)
+    (all-short c.args.ids.items MOST_UPDATES c.args.batches.now c.in_ok-updates.updates.items
+    (are-all (goal.at.decide-requires-clause-short c).After-deref-4) c.requires.short)
 
 pub returns-clause-batches : goal.returns-clause-batches
 returns-clause-batches c =
-    let same : AreAllUpdates c.args.ids.items c.args.batches.now c.in_ok-updates.updates.items =
-    c.in_ok-updates.ensures ∙ ap (λ (ids : List ℕ). map (λ (batch : Vec Change Global). map (numbered_change ids) batch.items) c.args.batches.now)
-    c.deref-3.ensures.value in
     let found : map (λ batch. batch.items) c.in_ok-batches.batches.items ≡ map (λ batch. last_of_edges batch.items) c.in_ok-updates.updates.items =
     c.in_ok-batches.ensures.deciding ∙ ap (map (λ (batch : Vec Update Global). last_of_edges batch.items)) c.deref-4.ensures.value in
-    all-deciding c.args.ids.items c.args.batches.now c.in_ok-updates.updates.items c.in_ok-batches.batches.items same c.requires.batches found
+    all-deciding c.args.ids.items c.args.batches.now c.in_ok-updates.updates.items c.in_ok-batches.batches.items
+    (are-all (goal.at.returns-clause-batches c).After-deref-4) c.requires.batches found
 
 pub returns-clause-overruled : goal.returns-clause-overruled
 returns-clause-overruled c =
-    let same : AreAllUpdates c.args.ids.items c.args.batches.now c.in_ok-updates.updates.items =
-    c.in_ok-updates.ensures ∙ ap (λ (ids : List ℕ). map (λ (batch : Vec Change Global). map (numbered_change ids) batch.items) c.args.batches.now)
-    c.deref-3.ensures.value in
     c.in_ok-batches.ensures.overruled ∙ (ap (map (λ (batch : Vec Update Global). length batch.items - length (last_of_edges batch.items)))
     c.deref-4.ensures.value
-    ∙ all-overruled c.args.ids.items c.args.batches.now c.in_ok-updates.updates.items same c.requires.batches)
+    ∙ all-overruled c.args.ids.items c.args.batches.now c.in_ok-updates.updates.items (are-all (goal.at.returns-clause-overruled c).After-deref-4)
+    c.requires.batches)

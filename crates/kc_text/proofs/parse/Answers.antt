@@ -7,10 +7,11 @@ use Rattle.kc_text.specs.Meaning.{ends, ends_of}
 use Rattle.kc_text.specs.Inputs.{AreAmong, AreEdges, parts_of, start_graph}
 use Rattle.kc_text.specs.Overruling.{overruled}
 use Rattle.std.specs.Prelude.{All}
-use Rattle.kc_text.proofs.Batched.{IsMadeOf, accepted, accepted-apart, accepted-batches, accepted-edges, accepted-short, made, made-batches, made-counts}
+use Rattle.kc_text.proofs.Batched.{Accepted, IsMadeOf, accepted, accepted-apart, accepted-batches, accepted-edges, accepted-short, made, made-batches, made-counts}
 use Rattle.kc_text.proofs.Batched.{made-few_batches, made-short, numbered_deciding}
 use Rattle.kc_text.specs.declared.limits.TheConstants.{MOST_UPDATES}
 use Rattle.kc_text.proofs.parse.Goals as goal
+use Rattle.kc_text.proofs.parse.Goals.{After-deref-2, After-drop-reading-3}
 
 -- the lists that `input_of` had are those of the reading
 made_of : (reading : Reading) (input : Input) (edges : List (ℕ × ℕ)) (batches : List (Vec Change Global)) → edges ≡ reading.edges.items
@@ -25,71 +26,56 @@ made_of reading input edges batches e b ids start parts counts = record {
   overruled = counts ∙ ap (map (λ (batch : Vec Change Global). overruled batch.items)) b;
 }
 
+-- the reading has no refusal, so it is accepted
+is-accepted : (c : After-deref-2) → Accepted c.args.bytes.now c.in_ok-reading.reading
+is-accepted c = accepted c.args.bytes.now c.in_ok-reading.reading c.in_ok-reading.ensures c.in_default.is
+
+-- the input is made of it
+is-made : (c : After-drop-reading-3) → IsMadeOf c.in_ok-reading.reading c.in_ok-input_of.field-0
+is-made c = made_of c.in_ok-reading.reading c.in_ok-input_of.field-0 _ _ c.deref.ensures.value c.deref-2.ensures.value c.in_ok-input_of.ensures.ids
+    c.in_ok-input_of.ensures.start c.in_ok-input_of.ensures.batches c.in_ok-input_of.ensures.overruled
+
 pub input_of-requires-clause-few : goal.input_of-requires-clause-few
-input_of-requires-clause-few c =
-    let a = accepted c.args.bytes.now c.in_ok-reading.reading c.in_ok-reading.ensures c.in_default.is in
-    omega (arith, a.few)
+input_of-requires-clause-few c = let a = is-accepted (goal.at.input_of-requires-clause-few c).After-deref-2 in omega (arith, a.few)
 
 pub input_of-requires-clause-edges : goal.input_of-requires-clause-edges
 input_of-requires-clause-edges c =
-    let a = accepted c.args.bytes.now c.in_ok-reading.reading c.in_ok-reading.ensures c.in_default.is in
     subst (λ (es : List (ℕ × ℕ)). AreAmong c.in_ok-reading.reading.ids.items (ends es)) (sym c.deref.ensures.value)
-    (accepted-edges c.args.bytes.now c.in_ok-reading.reading a)
+    (accepted-edges _ _ (is-accepted (goal.at.input_of-requires-clause-edges c).After-deref-2))
 
 pub input_of-requires-clause-batches : goal.input_of-requires-clause-batches
 input_of-requires-clause-batches c =
-    let a = accepted c.args.bytes.now c.in_ok-reading.reading c.in_ok-reading.ensures c.in_default.is in
     subst (λ (bs : List (Vec Change Global)). All (λ batch. AreAmong c.in_ok-reading.reading.ids.items (ends (map ends_of batch.items))) bs)
-    (sym c.deref-2.ensures.value) (accepted-batches c.args.bytes.now c.in_ok-reading.reading a)
+    (sym c.deref-2.ensures.value) (accepted-batches _ _ (is-accepted (goal.at.input_of-requires-clause-batches c).After-deref-2))
 
 pub input_of-requires-clause-apart : goal.input_of-requires-clause-apart
 input_of-requires-clause-apart c =
-    let a = accepted c.args.bytes.now c.in_ok-reading.reading c.in_ok-reading.ensures c.in_default.is in
     subst (λ (bs : List (Vec Change Global)). All (λ batch. All (λ c. c.a ≢ c.b) batch.items) bs) (sym c.deref-2.ensures.value)
-    (accepted-apart c.args.bytes.now c.in_ok-reading.reading a)
+    (accepted-apart _ _ (is-accepted (goal.at.input_of-requires-clause-apart c).After-deref-2))
 
 pub input_of-requires-clause-short : goal.input_of-requires-clause-short
 input_of-requires-clause-short c =
-    let a = accepted c.args.bytes.now c.in_ok-reading.reading c.in_ok-reading.ensures c.in_default.is in
     subst (λ (bs : List (Vec Change Global)). All (λ batch. length batch.items ≤ MOST_UPDATES) bs) (sym c.deref-2.ensures.value)
-    (accepted-short c.args.bytes.now c.in_ok-reading.reading a)
+    (accepted-short _ _ (is-accepted (goal.at.input_of-requires-clause-short c).After-deref-2))
 
 pub returns-clause-input : goal.returns-clause-input
-returns-clause-input c =
-    let a = accepted c.args.bytes.now c.in_ok-reading.reading c.in_ok-reading.ensures c.in_default.is in
-    made c.args.bytes.now c.in_ok-reading.reading c.in_ok-input_of.field-0 a
-    (made_of c.in_ok-reading.reading c.in_ok-input_of.field-0 _ _ c.deref.ensures.value c.deref-2.ensures.value c.in_ok-input_of.ensures.ids
-    c.in_ok-input_of.ensures.start c.in_ok-input_of.ensures.batches c.in_ok-input_of.ensures.overruled)
+returns-clause-input c = let at = goal.at.returns-clause-input c in made _ _ _ (is-accepted at.After-deref-2) (is-made at.After-drop-reading-3)
 
 pub returns-clause-few : goal.returns-clause-few
 returns-clause-few c =
-    let a = accepted c.args.bytes.now c.in_ok-reading.reading c.in_ok-reading.ensures c.in_default.is in
+    let a = is-accepted (goal.at.returns-clause-few c).After-deref-2 in
     omega (arith, a.few, ap (length) c.in_ok-input_of.ensures.ids)
 
 pub returns-clause-few_batches : goal.returns-clause-few_batches
 returns-clause-few_batches c =
-    let a = accepted c.args.bytes.now c.in_ok-reading.reading c.in_ok-reading.ensures c.in_default.is in
-    made-few_batches c.args.bytes.now c.in_ok-reading.reading c.in_ok-input_of.field-0 a
-    (made_of c.in_ok-reading.reading c.in_ok-input_of.field-0 _ _ c.deref.ensures.value c.deref-2.ensures.value c.in_ok-input_of.ensures.ids
-    c.in_ok-input_of.ensures.start c.in_ok-input_of.ensures.batches c.in_ok-input_of.ensures.overruled)
+    let at = goal.at.returns-clause-few_batches c in
+    made-few_batches _ _ _ (is-accepted at.After-deref-2) (is-made at.After-drop-reading-3)
 
 pub returns-clause-short : goal.returns-clause-short
-returns-clause-short c =
-    let a = accepted c.args.bytes.now c.in_ok-reading.reading c.in_ok-reading.ensures c.in_default.is in
-    made-short c.args.bytes.now c.in_ok-reading.reading c.in_ok-input_of.field-0 a
-    (made_of c.in_ok-reading.reading c.in_ok-input_of.field-0 _ _ c.deref.ensures.value c.deref-2.ensures.value c.in_ok-input_of.ensures.ids
-    c.in_ok-input_of.ensures.start c.in_ok-input_of.ensures.batches c.in_ok-input_of.ensures.overruled)
+returns-clause-short c = let at = goal.at.returns-clause-short c in made-short _ _ _ (is-accepted at.After-deref-2) (is-made at.After-drop-reading-3)
 
 pub returns-clause-counts : goal.returns-clause-counts
-returns-clause-counts c =
-    let a = accepted c.args.bytes.now c.in_ok-reading.reading c.in_ok-reading.ensures c.in_default.is in
-    made-counts c.args.bytes.now c.in_ok-reading.reading c.in_ok-input_of.field-0 a
-    (made_of c.in_ok-reading.reading c.in_ok-input_of.field-0 _ _ c.deref.ensures.value c.deref-2.ensures.value c.in_ok-input_of.ensures.ids
-    c.in_ok-input_of.ensures.start c.in_ok-input_of.ensures.batches c.in_ok-input_of.ensures.overruled)
+returns-clause-counts c = let at = goal.at.returns-clause-counts c in made-counts _ _ _ (is-accepted at.After-deref-2) (is-made at.After-drop-reading-3)
 
 pub returns-clause-batches : goal.returns-clause-batches
-returns-clause-batches c =
-    let a = accepted c.args.bytes.now c.in_ok-reading.reading c.in_ok-reading.ensures c.in_default.is in
-    made-batches c.args.bytes.now c.in_ok-reading.reading c.in_ok-input_of.field-0 a
-    (made_of c.in_ok-reading.reading c.in_ok-input_of.field-0 _ _ c.deref.ensures.value c.deref-2.ensures.value c.in_ok-input_of.ensures.ids
-    c.in_ok-input_of.ensures.start c.in_ok-input_of.ensures.batches c.in_ok-input_of.ensures.overruled)
+returns-clause-batches c = let at = goal.at.returns-clause-batches c in made-batches _ _ _ (is-accepted at.After-deref-2) (is-made at.After-drop-reading-3)
