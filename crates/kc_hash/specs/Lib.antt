@@ -1,2 +1,3 @@
 -- What public contracts speak of.
+pub mod Maps
 pub mod Spreading
