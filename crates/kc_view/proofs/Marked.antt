@@ -1,6 +1,6 @@
 -- The marks of a memo: where the answers of a vertex are kept.
 use Rattle.std.proofs.Common.{◌≡◌, ◌≢◌, ◌≤◌, ◌<◌, ◌+◌, ℕ, zero, suc, Bool, true, false, cond, ◌||◌, List, [], ◌∷◌, ◌++◌, length, get_or, map, set}
-use Rattle.std.proofs.Common.{take, drop, refl, sym, ◌∙◌, ap, subst, inl, inr, arith, eqb, eqb-true, eq-eqb, ne_eqb, length-append, length-set}
+use Rattle.std.proofs.Common.{◌^◌, take, drop, refl, sym, ◌∙◌, ap, subst, inl, inr, arith, eqb, eqb-true, eq-eqb, ne_eqb, length-append, length-set}
 use Rattle.std.specs.Prelude.{All, Option, Some, None, is_some}
 use Rattle.std.proofs.lemmas.Bool.{cases_Bool, cases_eq, false≢true, or_cases, or_right, true≢false}
 use Rattle.std.proofs.lemmas.List.{get_or-set_same, get_or-set_other, get_or_append_left, get_or_push, append-nil, drop_all, length-map, map-append}
@@ -14,7 +14,7 @@ use Rattle.kc_graph.specs.declared.used.UsedEdges.{UsedEdges}
 use Rattle.kc_graph.specs.declared.used.UsedPlace.{UsedPlace}
 use Rattle.kc_graph.specs.declared.used.UsedOrder.{UsedOrder}
 use Rattle.kc_view.specs.Answers.{Answers, nothing_answered, list_in, core_in, has_list, has_core, with_list, with_place}
-use Rattle.kc_view.specs.Lists.{IsListOf}
+use Rattle.kc_view.specs.Lists.{AreLists, IsListOf}
 use Rattle.kc_view.specs.Marks.{AreClear, Marks, no_list, no_place, list_at, core_at}
 use Rattle.kc_view.specs.Memory.{Memory, keeping}
 use Rattle.kc_view.proofs.Handing.{lists-push}
@@ -100,20 +100,12 @@ core-zero : (xs : List UsedPlace) (m : ℕ) → is_some (core_at xs m) ≡ false
 core-zero xs zero h = refl
 core-zero xs (suc i) h = absurd (true≢false h)
 
--- every vertex whose list was kept is a number below that of all vertices
-list-vertices-below : (n : ℕ) (xs : List UsedEdges) → All (λ e. e.vertex < n) xs → (w : ℕ) → member w (map (λ e. e.vertex) xs) ≡ true → w < n
-list-vertices-below n [] h w m = absurd (false≢true m)
-list-vertices-below n (x ∷ xs) h w m = elim (or_cases (eqb w x.vertex) (member w (map (λ e. e.vertex) xs)) m) [
-  | inl e ↦ omega (arith, eqb-true w x.vertex e, h 0 x (omega arith))
-  | inr k ↦ list-vertices-below n xs (λ i d l. h (suc i) d (omega arith)) w k
-]
-
--- every vertex whose core number was kept is a number below that of all vertices
-place-vertices-below : (n : ℕ) (xs : List UsedPlace) → All (λ p. p.vertex < n) xs → (w : ℕ) → member w (map (λ p. p.vertex) xs) ≡ true → w < n
-place-vertices-below n [] h w m = absurd (false≢true m)
-place-vertices-below n (x ∷ xs) h w m = elim (or_cases (eqb w x.vertex) (member w (map (λ p. p.vertex) xs)) m) [
-  | inl e ↦ omega (arith, eqb-true w x.vertex e, h 0 x (omega arith))
-  | inr k ↦ place-vertices-below n xs (λ i d l. h (suc i) d (omega arith)) w k
+-- a vertex of which something was kept is a number below that of all vertices
+vertices-below : {X : Type 0} (vertex : X → ℕ) (n : ℕ) (xs : List X) → All (λ x. vertex x < n) xs → (w : ℕ) → member w (map vertex xs) ≡ true → w < n
+vertices-below vertex n [] h w m = absurd (false≢true m)
+vertices-below vertex n (x ∷ xs) h w m = elim (or_cases (eqb w (vertex x)) (member w (map vertex xs)) m) [
+  | inl e ↦ omega (arith, eqb-true w (vertex x) e, h 0 x (omega arith))
+  | inr k ↦ vertices-below vertex n xs (λ i d l. h (suc i) d (omega arith)) w k
 ]
 
 -- the list that was pushed stands at the last place, and is the one that its vertex is told
@@ -132,92 +124,125 @@ core_at-new xs p mark none size =
     ∙ (ap (λ (x : UsedPlace). Some x.core) (get_or_push xs p no_place (length xs) refl)
     ∙ sym (core_in-push p.vertex xs p none ∙ ap (λ b. cond b (Some p.core) None) (eq-eqb p.vertex p.vertex refl)))
 
--- One mark is set to a last place: no mark stands behind it.
-marks-within : (size v mark before last : ℕ) (marks : List ℕ) → v < length marks → ((w : ℕ) → w < size → get_or marks w 0 ≤ before) → before ≤ last
-    → mark ≡ last → (w : ℕ) → w < size → get_or (set marks v mark) w 0 ≤ last
-marks-within size v mark before last marks here within more is w l = elim (cases_eq w v) [
-  | inl same ↦ omega (arith, ap (λ k. get_or (set marks v mark) k 0) same, get_or-set_same marks v mark 0 here, is)
-  | inr other ↦ omega (arith, get_or-set_other marks v w mark 0 other, within w l, more)
-]
+-- The marks of lists, or of core numbers: for each vertex the place of what was kept of it, or 0. `at` is what stands at a place, and `told`
+-- what a vertex is told. Nothing was kept twice, and all of it is of vertices.
+record Places (X A : Type 0) (vertex : X → ℕ) (at told : List X → ℕ → Option A) (size : ℕ) (xs : List X) (marks : List ℕ) : Type 0 where
+  long : length marks ≡ size
+  within : (w : ℕ) → w < size → get_or marks w 0 ≤ length xs
+  finds : (w : ℕ) → w < size → at xs (get_or marks w 0) ≡ told xs w
+  once : Distinct (map vertex xs)
+  below : All (λ x. vertex x < size) xs
 
--- One mark is set: where it finds what its vertex is told, and the other marks found that already, each mark does.
-marks-find : {A : Type 0} (size v mark : ℕ) (marks : List ℕ) (at told : ℕ → Option A) → v < length marks → at mark ≡ told v
-    → ((w : ℕ) → w < size → w ≢ v → at (get_or marks w 0) ≡ told w) → (w : ℕ) → w < size → at (get_or (set marks v mark) w 0) ≡ told w
-marks-find size v mark marks at told here new others w l = elim (cases_eq w v) [
-  | inl same ↦ ap at (ap (λ k. get_or (set marks v mark) k 0) same ∙ get_or-set_same marks v mark 0 here) ∙ (new ∙ ap told (sym same))
-  | inr other ↦ ap at (get_or-set_other marks v w mark 0 other) ∙ others w l other
-]
+module _ {X A : Type 0} {vertex : X → ℕ} {at told : List X → ℕ → Option A} {size : ℕ} where
+  -- Where nothing was kept, clear marks are right.
+  places-none : (marks : List ℕ) → AreClear size marks → ((w : ℕ) → at [] 0 ≡ told [] w) → Places X A vertex at told size [] marks
+  places-none marks clear none = record {
+    long = clear.one_each;
+    within = λ w l. omega (arith, clear.clear w l);
+    finds = λ w l. ap (at []) (clear.clear w l) ∙ none w;
+    once = tt;
+    below = λ i d l. absurd (omega arith);
+  }
+
+  module _ {xs : List X} {marks : List ℕ} (is : Places X A vertex at told size xs marks) where
+    -- The mark of the vertex of what is pushed is its place: there it is found, and the rest where it was.
+    places-push : (x : X) (mark : ℕ) → vertex x < size → mark ≡ length (xs ++ x ∷ []) → at (xs ++ x ∷ []) mark ≡ told (xs ++ x ∷ []) (vertex x)
+        → ((n w : ℕ) → n ≤ length xs → w ≢ vertex x → at xs n ≡ told xs w → at (xs ++ x ∷ []) n ≡ told (xs ++ x ∷ []) w)
+        → Distinct (map vertex (xs ++ x ∷ [])) → Places X A vertex at told size (xs ++ x ∷ []) (set marks (vertex x) mark)
+    places-push x mark here last new others once =
+        let now : List ℕ = set marks (vertex x) mark in
+        let set-here : get_or now (vertex x) 0 ≡ mark = get_or-set_same marks (vertex x) mark 0 (omega (arith, is.long, here)) in
+        record {
+          long = length-set marks (vertex x) mark ∙ is.long;
+          within = λ w l. elim (cases_eq w (vertex x)) [
+            | inl same ↦ omega (arith, ap (λ k. get_or now k 0) same, set-here, last)
+            | inr other ↦ omega (arith, get_or-set_other marks (vertex x) w mark 0 other, is.within w l, length-append xs (x ∷ []))
+          ];
+          finds = λ w l. elim (cases_eq w (vertex x)) [
+            | inl same ↦ ap (at (xs ++ x ∷ [])) (ap (λ k. get_or now k 0) same ∙ set-here) ∙ (new ∙ ap (told (xs ++ x ∷ [])) (sym same))
+            | inr other ↦
+                ap (at (xs ++ x ∷ [])) (get_or-set_other marks (vertex x) w mark 0 other)
+                ∙ others (get_or marks w 0) w (is.within w l) other (is.finds w l)
+          ];
+          once = once;
+          below = All-push (λ y. vertex y < size) xs x is.below here;
+        }
+
+    -- all marks go
+    places-clear_all : size < 2 ^ 32 → ((n : ℕ) → is_some (at xs n) ≡ false → n ≡ 0) → (now : List ℕ) → length now ≡ length marks
+        → ((w : ℕ) → get_or now w 0 ≡ cond (is_some (told xs w)) 0 (get_or marks w 0)) → AreClear size now
+    places-clear_all few zero-where now long gone = record {
+      few = few;
+      one_each = long ∙ is.long;
+      clear = λ w l. elim (cases_Bool (is_some (told xs w))) [
+        | inl t ↦ gone w ∙ ap (λ b. cond b 0 (get_or marks w 0)) t
+        | inr f ↦ gone w ∙ (ap (λ b. cond b 0 (get_or marks w 0)) f ∙ zero-where (get_or marks w 0) (ap is_some (is.finds w l) ∙ f))
+      ];
+    }
+
+    -- no more was kept than there are vertices
+    places-few : length xs ≤ size
+    places-few = omega (arith, below_bound size (map vertex xs) is.once (vertices-below vertex size xs is.below), length-map xs vertex)
+
+-- the marks of lists
+abbrev ListPlaces : ℕ → List UsedEdges → List ℕ → Type 0
+ListPlaces size xs marks = Places UsedEdges (List ℕ) (λ e. e.vertex) list_at (λ ys w. list_in w ys) size xs marks
+
+-- the marks of core numbers
+abbrev CorePlaces : ℕ → List UsedPlace → List ℕ → Type 0
+CorePlaces size xs marks = Places UsedPlace ℕ (λ p. p.vertex) core_at (λ ys w. core_in w ys) size xs marks
+
+-- both together, and what the lists are
+marks-of : (m : Memory) (listed placed : List ℕ) → m.size < 2 ^ 32 → ListPlaces m.size m.kept.edges listed → CorePlaces m.size m.kept.places placed
+    → AreLists m.size m.kept.edges → Marks m listed placed
+marks-of m listed placed few lists cores are_lists = record {
+  few = few;
+  lists_long = lists.long;
+  places_long = cores.long;
+  lists_in = lists.within;
+  places_in = cores.within;
+  lists = lists.finds;
+  places = cores.finds;
+  lists_once = lists.once;
+  places_once = cores.once;
+  lists_below = lists.below;
+  places_below = cores.below;
+  are_lists = are_lists;
+}
 
 -- How an answer more is marked. What is marked is the memory `m`, whose marks are `listed` and `placed`.
 module _ (m : Memory) (listed placed : List ℕ) (is : Marks m listed placed) where
+  -- the marks of lists among all marks
+  of-lists : ListPlaces m.size m.kept.edges listed
+  of-lists = record { long = is.lists_long; within = is.lists_in; finds = is.lists; once = is.lists_once; below = is.lists_below }
+
+  -- the marks of core numbers among all marks
+  of-cores : CorePlaces m.size m.kept.places placed
+  of-cores = record { long = is.places_long; within = is.places_in; finds = is.places; once = is.places_once; below = is.places_below }
+
   -- a list more, with its mark
   pub mark-list : (e : UsedEdges) (mark : ℕ) → e.vertex < m.size → has_list m.kept e.vertex ≡ false → IsListOf m.size e.vertex e.neighbours
       → mark ≡ length (m.kept.edges ++ e ∷ []) → Marks (keeping m.size (with_list m.kept e)) (set listed e.vertex mark) placed
-  mark-list e mark here none list size =
-      let set-here : e.vertex < length listed = omega (arith, is.lists_long, here) in
-      record {
-        few = is.few;
-        lists_long = length-set listed e.vertex mark ∙ is.lists_long;
-        places_long = is.places_long;
-        lists_in =
-            marks-within m.size e.vertex mark (length m.kept.edges) (length (m.kept.edges ++ e ∷ [])) listed set-here is.lists_in
-            (omega (arith, length-append m.kept.edges (e ∷ []))) size;
-        places_in = is.places_in;
-        lists =
-            marks-find m.size e.vertex mark listed (list_at (m.kept.edges ++ e ∷ [])) (λ w. list_in w (m.kept.edges ++ e ∷ [])) set-here
-            (list_at-new m.kept.edges e mark none size)
-            (λ w l other. list_at-front m.kept.edges (e ∷ []) (get_or listed w 0) (is.lists_in w l)
-            ∙ (is.lists w l ∙ sym (list_in-other w m.kept.edges e other)));
-        places = is.places;
-        lists_once = lists-once m.kept.edges e is.lists_once none;
-        places_once = is.places_once;
-        lists_below = All-push (λ (x : UsedEdges). x.vertex < m.size) m.kept.edges e is.lists_below here;
-        places_below = is.places_below;
-        are_lists = lists-push m.size m.kept.edges e is.are_lists list;
-      }
+  mark-list e mark here none list last =
+      let more = places-push of-lists e mark here last (list_at-new m.kept.edges e mark none last)
+      (λ n w l other was. list_at-front m.kept.edges (e ∷ []) n l ∙ (was ∙ sym (list_in-other w m.kept.edges e other)))
+      (lists-once m.kept.edges e is.lists_once none) in
+      marks-of (keeping m.size (with_list m.kept e)) (set listed e.vertex mark) placed is.few more of-cores
+      (lists-push m.size m.kept.edges e is.are_lists list)
 
   -- a core number more
   pub mark-place : (p : UsedPlace) (mark : ℕ) → p.vertex < m.size → has_core m.kept p.vertex ≡ false → mark ≡ length (m.kept.places ++ p ∷ [])
       → Marks (keeping m.size (with_place m.kept p)) listed (set placed p.vertex mark)
-  mark-place p mark here none size =
-      let set-here : p.vertex < length placed = omega (arith, is.places_long, here) in
-      record {
-        few = is.few;
-        lists_long = is.lists_long;
-        places_long = length-set placed p.vertex mark ∙ is.places_long;
-        lists_in = is.lists_in;
-        places_in =
-            marks-within m.size p.vertex mark (length m.kept.places) (length (m.kept.places ++ p ∷ [])) placed set-here is.places_in
-            (omega (arith, length-append m.kept.places (p ∷ []))) size;
-        lists = is.lists;
-        places =
-            marks-find m.size p.vertex mark placed (core_at (m.kept.places ++ p ∷ [])) (λ w. core_in w (m.kept.places ++ p ∷ [])) set-here
-            (core_at-new m.kept.places p mark none size)
-            (λ w l other. core_at-front m.kept.places (p ∷ []) (get_or placed w 0) (is.places_in w l)
-            ∙ (is.places w l ∙ sym (core_in-other w m.kept.places p other)));
-        lists_once = is.lists_once;
-        places_once = places-once m.kept.places p is.places_once none;
-        lists_below = is.lists_below;
-        places_below = All-push (λ (x : UsedPlace). x.vertex < m.size) m.kept.places p is.places_below here;
-        are_lists = is.are_lists;
-      }
+  mark-place p mark here none last =
+      marks-of (keeping m.size (with_place m.kept p)) listed (set placed p.vertex mark) is.few of-lists
+      (places-push of-cores p mark here last (core_at-new m.kept.places p mark none last)
+      (λ n w l other was. core_at-front m.kept.places (p ∷ []) n l ∙ (was ∙ sym (core_in-other w m.kept.places p other)))
+      (places-once m.kept.places p is.places_once none))
+      is.are_lists
 
   -- other orders
-  pub mark-orders : (orders : List UsedOrder) → Marks (keeping m.size (record { edges = m.kept.edges; places = m.kept.places; orders = orders })) listed placed
-  mark-orders orders = record {
-    few = is.few;
-    lists_long = is.lists_long;
-    places_long = is.places_long;
-    lists_in = is.lists_in;
-    places_in = is.places_in;
-    lists = is.lists;
-    places = is.places;
-    lists_once = is.lists_once;
-    places_once = is.places_once;
-    lists_below = is.lists_below;
-    places_below = is.places_below;
-    are_lists = is.are_lists;
-  }
+  pub mark-orders : (orders : List UsedOrder) → Marks (keeping m.size (record m.kept { orders = orders })) listed placed
+  mark-orders orders = marks-of (keeping m.size (record m.kept { orders = orders })) listed placed is.few of-lists of-cores is.are_lists
 
   -- What a mark says: 0 that no list was kept, and else at which place it stands.
   pub list-none : (w : ℕ) → w < m.size → get_or listed w 0 ≡ 0 → list_in w m.kept.edges ≡ None
@@ -236,40 +261,22 @@ module _ (m : Memory) (listed placed : List ℕ) (is : Marks m listed placed) wh
   core-some w i l e = sym (is.places w l) ∙ core_at-suc m.kept.places i (get_or placed w 0) (omega (arith, e))
 
   -- all marks of lists go
-  pub lists-clear : (now : List ℕ) → length now ≡ length listed → ((w : ℕ) → get_or now w 0 ≡ cond (is_some (list_in w m.kept.edges)) 0 (get_or listed w 0))
-      → AreClear m.size now
-  lists-clear now long gone = record {
-    few = is.few;
-    one_each = long ∙ is.lists_long;
-    clear = λ w l. elim (cases_Bool (is_some (list_in w m.kept.edges))) [
-      | inl t ↦ gone w ∙ ap (λ b. cond b 0 (get_or listed w 0)) t
-      | inr f ↦ gone w ∙ (ap (λ b. cond b 0 (get_or listed w 0)) f ∙ list-zero m.kept.edges (get_or listed w 0) (ap is_some (is.lists w l) ∙ f))
-    ];
-  }
+  pub lists-clear : (now : List ℕ) → length now ≡ length listed
+      → ((w : ℕ) → get_or now w 0 ≡ cond (is_some (list_in w m.kept.edges)) 0 (get_or listed w 0)) → AreClear m.size now
+  lists-clear now long gone = places-clear_all of-lists is.few (list-zero m.kept.edges) now long gone
 
   -- all marks of core numbers go
-  pub places-clear : (now : List ℕ) → length now ≡ length placed → ((w : ℕ) → get_or now w 0 ≡ cond (is_some (core_in w m.kept.places)) 0 (get_or placed w 0))
-      → AreClear m.size now
-  places-clear now long gone = record {
-    few = is.few;
-    one_each = long ∙ is.places_long;
-    clear = λ w l. elim (cases_Bool (is_some (core_in w m.kept.places))) [
-      | inl t ↦ gone w ∙ ap (λ b. cond b 0 (get_or placed w 0)) t
-      | inr f ↦ gone w ∙ (ap (λ b. cond b 0 (get_or placed w 0)) f ∙ core-zero m.kept.places (get_or placed w 0) (ap is_some (is.places w l) ∙ f))
-    ];
-  }
+  pub places-clear : (now : List ℕ) → length now ≡ length placed
+      → ((w : ℕ) → get_or now w 0 ≡ cond (is_some (core_in w m.kept.places)) 0 (get_or placed w 0)) → AreClear m.size now
+  places-clear now long gone = places-clear_all of-cores is.few (core-zero m.kept.places) now long gone
 
   -- No more lists were kept than there are vertices.
   pub few-lists : length m.kept.edges ≤ m.size
-  few-lists =
-      let bound = below_bound m.size (map (λ e. e.vertex) m.kept.edges) is.lists_once (list-vertices-below m.size m.kept.edges is.lists_below) in
-      omega (arith, bound, length-map m.kept.edges (λ (e : UsedEdges). e.vertex))
+  few-lists = places-few of-lists
 
   -- no more core numbers were kept than there are vertices
   pub few-places : length m.kept.places ≤ m.size
-  few-places =
-      let bound = below_bound m.size (map (λ p. p.vertex) m.kept.places) is.places_once (place-vertices-below m.size m.kept.places is.places_below) in
-      omega (arith, bound, length-map m.kept.places (λ (p : UsedPlace). p.vertex))
+  few-places = places-few of-cores
 
 -- So it is where contracts see the memory as `seen`, and the longer list is the one that a push made.
 pub marked-list : (m seen : Memory) (listed placed : List ℕ) (e : UsedEdges) (mark : ℕ) (edges : List UsedEdges) → m ≡ seen → Marks m listed placed
@@ -322,20 +329,8 @@ few-with-place m seen listed placed p same is here none =
 
 -- no marks, where nothing was kept
 pub no-marks : (size : ℕ) (listed placed : List ℕ) → AreClear size listed → AreClear size placed → Marks (keeping size nothing_answered) listed placed
-no-marks size listed placed l p = record {
-  few = l.few;
-  lists_long = l.one_each;
-  places_long = p.one_each;
-  lists_in = λ w s. omega (arith, l.clear w s);
-  places_in = λ w s. omega (arith, p.clear w s);
-  lists = λ w s. ap (list_at []) (l.clear w s);
-  places = λ w s. ap (core_at []) (p.clear w s);
-  lists_once = tt;
-  places_once = tt;
-  lists_below = λ i d l. absurd (omega arith);
-  places_below = λ i d l. absurd (omega arith);
-  are_lists = no-lists size;
-}
+no-marks size listed placed l p =
+    marks-of (keeping size nothing_answered) listed placed l.few (places-none listed l (λ w. refl)) (places-none placed p (λ w. refl)) (no-lists size)
 
 -- with the mark of `v` set to 0, the marks that are gone are 0 and the others as before
 unmark-one : (marks old : List ℕ) (v : ℕ) (gone gone' : ℕ → Bool) → v < length marks → ((w : ℕ) → get_or marks w 0 ≡ cond (gone w) 0 (get_or old w 0))

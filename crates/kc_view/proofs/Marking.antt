@@ -160,14 +160,6 @@ tells_core a p f = record {
   now = λ _. (p, refl, refl);
 }
 
--- a later call tells the list that was told before
-pub tells_list_again : (a : Answers) (w : ℕ) → has_list a w ≡ true → TellsList a a w
-tells_list_again a w t = record { told = t; before = λ _. refl; now = λ f. absurd (true≢false (sym t ∙ f)) }
-
--- a later call tells the core number that was told before
-pub tells_core_again : (a : Answers) (w : ℕ) → has_core a w ≡ true → TellsCore a a w
-tells_core_again a w t = record { told = t; before = λ _. refl; now = λ f. absurd (true≢false (sym t ∙ f)) }
-
 -- the list of a vertex that was told now is the one told
 pub list_of-now : (a : Answers) (e : UsedEdges) → has_list a e.vertex ≡ false → list_of (with_list a e) e.vertex ≡ e.neighbours
 list_of-now a e f =

@@ -1,20 +1,16 @@
 -- The core number that is pushed stands at the place that its vertex's mark tells.
 use Rattle.std.proofs.Common.{arith, ap, length}
 use Rattle.kc_graph.specs.declared.used.UsedPlace.{UsedPlace}
-use Rattle.kc_view.specs.Answers.{answers_in}
-use Rattle.kc_view.specs.Memory.{Memory, keeping}
 use Rattle.kc_view.proofs.Marked.{few-with-place, marked-place}
 use Rattle.kc_view.proofs.memo.Memo.keep_place.Goals as goal
 
 pub overflow_cast-len : goal.overflow_cast-len
 overflow_cast-len c =
-    let m : Memory = keeping (length c.self.inside.listed.items) (answers_in c.self.inside.used) in
-    let few = few-with-place m c.args.self.now c.self.inside.listed.items c.self.inside.placed.items c.args.place c.self.view_is c.self.invariant
+    let few = few-with-place _ c.args.self.now c.self.inside.listed.items c.self.inside.placed.items c.args.place c.self.view_is c.self.invariant
     c.requires.vertex c.requires.once in
     omega (arith, few, c.self.invariant.few, ap (length {A = UsedPlace}) c.in_ok-push.ensures.items, c.len.ensures, c.push.new.self.ok.0)
 
 pub invariant_of-self-2 : goal.invariant_of-self-2
 invariant_of-self-2 c =
-    let m : Memory = keeping (length c.self.inside.listed.items) (answers_in c.self.inside.used) in
-    marked-place m c.args.self.now c.self.inside.listed.items c.self.inside.placed.items c.args.place c.len.result c.push.new.self.items c.self.view_is
+    marked-place _ c.args.self.now c.self.inside.listed.items c.self.inside.placed.items c.args.place c.len.result c.push.new.self.items c.self.view_is
     c.self.invariant c.requires.vertex c.requires.once c.in_ok-push.ensures.items (omega (arith, c.len.ensures, c.push.new.self.ok.0))
