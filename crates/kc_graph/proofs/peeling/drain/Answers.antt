@@ -1,73 +1,84 @@
 -- The vertex whose turn it is leaves the front of the bucket. It is taken if its number is the level, and else it was taken before.
-use Rattle.std.proofs.Common.{◌≡◌, ◌<◌, ◌+◌, ◌++◌, ◌∷◌, [], ℕ, List, length, length-set, drop, arith, subst, sym, ◌∙◌}
+use Rattle.std.proofs.Common.{◌≡◌, ◌≤◌, ◌<◌, ◌+◌, ◌++◌, ◌∷◌, [], ℕ, List, length, length-set, get_or, drop, arith, subst, sym, ◌∙◌}
+use Rattle.kc_graph.specs.SimpleGraph.{SimpleGraph}
+use Rattle.kc_graph.specs.Neighbours.{AreNeighbours}
 use Rattle.kc_graph.specs.Rows.{lists, row}
-use Rattle.kc_graph.specs.Peeling.{IsAboutToTake, Lowered, Peels, from_turn}
+use Rattle.kc_graph.specs.Peeling.{IsAboutToTake, Lowered, Peels, at, from_turn}
 use Rattle.kc_graph.proofs.Buckets.{length-lists, row-set_same}
-use Rattle.kc_graph.proofs.Filing.{has_room, next_level, popped_fits, popped_past, taken_low, took}
+use Rattle.kc_graph.proofs.Filing.{Popped, has_room, next_level, popped_fits, popped_past, taken_low, took}
 use Rattle.kc_graph.proofs.PeelingLemmas.{neighbours-distinct}
 use Rattle.kc_graph.proofs.Turning.{grows, last_turn, lowered_behind, next_turn, turn_takes}
 use Rattle.kc_graph.proofs.peeling.drain.Goals as goal
+
+-- It is the turn of `v`.
+module _ (g : SimpleGraph) (level turn v : ℕ) (core taken : List ℕ) (rows : List (List ℕ)) (level_in : level < length rows)
+    (peels : Peels g level core taken (from_turn level turn rows)) (here : (turn < length (row rows level)) × (v ≡ get_or (row rows level) turn 0)) where
+  -- it leaves the bucket
+  popped : Popped level v (from_turn level turn rows) (from_turn level (turn + 1) rows)
+  popped = next_turn level turn rows level_in v here.0 here.1
+
+  -- it is a vertex
+  fits : v < length core
+  fits = (popped_fits level v core taken (from_turn level turn rows) (from_turn level (turn + 1) rows) peels.filed popped).0
+
+  -- where its number is not the level, all stays peeled without it
+  passed : (at core v ≡ level → ⊥) → Peels g level core taken (from_turn level (turn + 1) rows)
+  passed past = popped_past g level v core taken (from_turn level turn rows) (from_turn level (turn + 1) rows) peels popped past
+
+  -- where it is the level, it is about to be taken
+  takes : at core v ≡ level → IsAboutToTake g level v core taken (from_turn level (turn + 1) rows)
+  takes is = turn_takes level turn rows level_in g v core taken peels here is
+
+  -- there is a bucket for each vertex above the level
+  room : (w : ℕ) → at core v ≡ level → w < g.size → level < at core w → at core w < length rows
+  room w is w_in up =
+      let t = takes is in
+      let rest : List (List ℕ) = from_turn level (turn + 1) rows in
+      omega (
+        arith,
+        length-set rows level (drop (turn + 1) (row rows level)),
+        has_room level w core (taken ++ v ∷ []) rest t.filed (taken_low g level v core taken rest t) (omega (arith, w_in, t.peeled.one_each)) up,
+      )
+
+  -- it is taken once its neighbours are lowered
+  lowered : (ws core' order : List ℕ) (rows' : List (List ℕ)) → at core v ≡ level → AreNeighbours g v ws → Lowered level ws core rows core' rows'
+      → order ≡ taken ++ v ∷ [] → (turn + 1 ≤ length (row rows' level)) × Peels g level core' order (from_turn level (turn + 1) rows')
+  lowered ws core' order rows' is near h ordered =
+      let behind = lowered_behind level (turn + 1) rows level_in ws core core' rows' (omega (arith, here.0)) h in (
+        omega (arith, here.0, grows level level ws core rows core' rows' h),
+        subst (λ (t : List ℕ). Peels g level core' t (from_turn level (turn + 1) rows')) (sym ordered)
+            (took g level v core taken ws (from_turn level (turn + 1) rows) core' (from_turn level (turn + 1) rows') (takes is) near behind),
+      )
 
 pub overflow_add-turn : goal.overflow_add-turn
 overflow_add-turn c = omega (arith, c.in-Some.ensures.few)
 
 pub bounds-core-v : goal.bounds-core-v
 bounds-core-v c =
-    let rows : List (List ℕ) = lists c.loop-v.buckets in
-    let here = c.in-Some.ensures.here in
-    let p = next_turn c.args.level c.loop-v.turn rows (omega (arith, length-lists c.loop-v.buckets)) c.in-Some.v here.0 here.1 in
-    (popped_fits c.args.level c.in-Some.v c.loop-v.core c.loop-v.order.items (from_turn c.args.level c.loop-v.turn rows)
-    (from_turn c.args.level (c.loop-v.turn + 1) rows) c.loop-v.invariant.1.filed p).0
+    fits _ _ _ _ _ _ (lists c.loop-v.buckets) (omega (arith, length-lists c.loop-v.buckets)) c.loop-v.invariant.1 c.in-Some.ensures.here
 
 pub lower_each-requires-clause-distinct : goal.lower_each-requires-clause-distinct
 lower_each-requires-clause-distinct c = neighbours-distinct c.args.graph.now c.in-Some.v c.neighbours.result.now c.neighbours.ensures
 
 pub lower_each-requires-clause-room : goal.lower_each-requires-clause-room
 lower_each-requires-clause-room c = λ w m up.
-    let rows : List (List ℕ) = lists c.loop-v.buckets in
-    let rest : List (List ℕ) = from_turn c.args.level (c.loop-v.turn + 1) rows in
-    let v : ℕ = c.in-Some.v in
-    let t : IsAboutToTake c.args.graph.now c.args.level v c.loop-v.core c.loop-v.order.items rest =
-    turn_takes c.args.level c.loop-v.turn rows (omega (arith, length-lists c.loop-v.buckets)) c.args.graph.now v c.loop-v.core c.loop-v.order.items
-    c.loop-v.invariant.1 c.in-Some.ensures.here c.if-core-v.true in
     omega (
       arith,
       length-lists c.loop-v.buckets,
-      length-set rows c.args.level (drop (c.loop-v.turn + 1) (row rows c.args.level)),
-      has_room c.args.level w c.loop-v.core (c.loop-v.order.items ++ v ∷ []) rest t.filed
-          (taken_low c.args.graph.now c.args.level v c.loop-v.core c.loop-v.order.items rest t)
-          (omega (arith, c.neighbours.ensures.within w m, t.peeled.one_each)) up,
+      room _ _ _ _ _ _ (lists c.loop-v.buckets) (omega (arith, length-lists c.loop-v.buckets)) c.loop-v.invariant.1 c.in-Some.ensures.here w c.if-core-v.true
+          (c.neighbours.ensures.within w m) up,
     )
 
 pub loop-v-preserved-in-Continue-branch-2 : goal.loop-v-preserved-in-Continue-branch-2
 loop-v-preserved-in-Continue-branch-2 c =
-    let rows : List (List ℕ) = lists c.loop-v.buckets in
-    let rows' : List (List ℕ) = lists c.lower_each.new.buckets in
-    let rest : List (List ℕ) = from_turn c.args.level (c.loop-v.turn + 1) rows in
-    let v : ℕ = c.in-Some.v in
-    let here = c.in-Some.ensures.here in
-    let there : c.args.level < length rows = omega (arith, length-lists c.loop-v.buckets) in
-    let t : IsAboutToTake c.args.graph.now c.args.level v c.loop-v.core c.loop-v.order.items rest =
-    turn_takes c.args.level c.loop-v.turn rows there c.args.graph.now v c.loop-v.core c.loop-v.order.items c.loop-v.invariant.1 here c.if-core-v.true in
-    let h : Lowered c.args.level c.neighbours.result.now c.loop-v.core rows c.lower_each.new.core rows' = c.in_ok-lower_each.ensures in
-    let behind = lowered_behind c.args.level (c.loop-v.turn + 1) rows there c.neighbours.result.now c.loop-v.core c.lower_each.new.core rows'
-    (omega (arith, here.0)) h in
-    let all = took c.args.graph.now c.args.level v c.loop-v.core c.loop-v.order.items c.neighbours.result.now rest c.lower_each.new.core
-    (from_turn c.args.level (c.loop-v.turn + 1) rows') t c.neighbours.ensures behind in (
-      omega (arith, here.0, grows c.args.level c.args.level c.neighbours.result.now c.loop-v.core rows c.lower_each.new.core rows' h),
-      subst (λ (order : List ℕ). Peels c.args.graph.now c.args.level c.lower_each.new.core order (from_turn c.args.level (c.loop-v.turn + 1) rows'))
-          (sym c.in_ok-push.ensures.items) all,
-    )
+    lowered _ _ _ _ _ _ (lists c.loop-v.buckets) (omega (arith, length-lists c.loop-v.buckets)) c.loop-v.invariant.1 c.in-Some.ensures.here _ _ _ _
+    c.if-core-v.true c.neighbours.ensures c.in_ok-lower_each.ensures c.in_ok-push.ensures.items
 
 pub loop-v-preserved : goal.loop-v-preserved
-loop-v-preserved c =
-    let rows : List (List ℕ) = lists c.loop-v.buckets in
-    let here = c.in-Some.ensures.here in
-    let p = next_turn c.args.level c.loop-v.turn rows (omega (arith, length-lists c.loop-v.buckets)) c.in-Some.v here.0 here.1 in (
-      omega (arith, here.0),
-      popped_past c.args.graph.now c.args.level c.in-Some.v c.loop-v.core c.loop-v.order.items (from_turn c.args.level c.loop-v.turn rows)
-          (from_turn c.args.level (c.loop-v.turn + 1) rows) c.loop-v.invariant.1 p c.if-core-v.false,
-    )
+loop-v-preserved c = (
+  omega (arith, c.in-Some.ensures.here.0),
+  passed _ _ _ _ _ _ (lists c.loop-v.buckets) (omega (arith, length-lists c.loop-v.buckets)) c.loop-v.invariant.1 c.in-Some.ensures.here c.if-core-v.false,
+)
 
 pub returns : goal.returns
 returns c =

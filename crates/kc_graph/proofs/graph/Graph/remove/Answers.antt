@@ -1,13 +1,32 @@
 -- The rows with one number less each are those of the graph without the edge.
-use Rattle.std.proofs.Common.{◌≡◌, ◌<◌, ℕ, List, length, true, arith, sym, ap, ◌∙◌}
+use Rattle.std.proofs.Common.{◌≡◌, ◌<◌, ◌-◌, ℕ, List, length, true, arith, sym, ap, ◌∙◌}
 use Rattle.kc_distinct.specs.Lists.{member}
 use Rattle.kc_graph.specs.SimpleGraph.{SimpleGraph}
 use Rattle.kc_graph.specs.Edges.{without_edge}
-use Rattle.kc_graph.specs.Rows.{row, BothDeleted}
+use Rattle.kc_graph.specs.Rows.{row, graph_of, HoldsEdges, BothDeleted}
 use Rattle.kc_graph.proofs.RowsLemmas.{size-view, adjacent-view}
 use Rattle.kc_graph.proofs.Removing.{graph_of-removed, missing}
 use Rattle.kc_graph.proofs.Held.{held-removed}
 use Rattle.kc_graph.proofs.graph.Graph.remove.Goals as goal
+
+-- Rows that have each vertex, and then lack the edge.
+module _ {rows now : List (List ℕ)} {g : SimpleGraph} {u v edges : ℕ} (held : HoldsEdges rows edges) (both : BothDeleted rows now u v)
+    (view : graph_of rows ≡ g) (differ : u ≡ v → ⊥) (u_in : u < g.size) (v_in : v < g.size) where
+  -- the first end has a row
+  row-u : u < length rows
+  row-u = omega (arith, size-view rows g view, u_in)
+
+  -- and so has the second
+  row-v : v < length rows
+  row-v = omega (arith, size-view rows g view, v_in)
+
+  -- they hold one edge less
+  held-less : member v (row rows u) ≡ true → HoldsEdges now (edges - 1)
+  held-less here = held-removed rows now u v edges differ row-u row-v held both here
+
+  -- and are those of the graph without the edge
+  view-less : graph_of now ≡ without_edge g u v
+  view-less = graph_of-removed rows now u v differ row-u row-v both ∙ ap (λ (t : SimpleGraph). without_edge t u v) view
 
 pub returns-then-not-has-clause-removed : goal.returns-then-not-has-clause-removed
 returns-then-not-has-clause-removed c = missing c.args.self.now c.args.u c.args.v c.requires.differ (sym c.has.ensures ∙ c.if-not-has.true)
@@ -24,22 +43,8 @@ delete_both-requires-clause-here c =
 
 pub invariant_of-self : goal.invariant_of-self
 invariant_of-self c =
-    let old : List (List ℕ) = c.self.inside.rows in
-    let now : List (List ℕ) = c.delete_both.new.self in
-    let size = size-view old c.args.self.now c.self.view_is in
-    let u-in : c.args.u < length old = omega (arith, size) in
-    let v-in : c.args.v < length old = omega (arith, size) in
-    let both : BothDeleted old now c.args.u c.args.v = c.delete_both.ensures in
-    let here : member c.args.v (row old c.args.u) ≡ true =
-    adjacent-view old c.args.self.now c.self.view_is c.self.invariant.adjacency c.args.u c.args.v ∙ sym c.has.ensures ∙ c.if-not-has.false in
-    held-removed old now c.args.u c.args.v c.self.inside.edges c.requires.differ u-in v-in c.self.invariant both here
+    held-less c.self.invariant c.delete_both.ensures c.self.view_is c.requires.differ (omega arith) (omega arith)
+    (adjacent-view c.self.inside.rows c.args.self.now c.self.view_is c.self.invariant.adjacency c.args.u c.args.v ∙ sym c.has.ensures ∙ c.if-not-has.false)
 
 pub returns-clause-removed : goal.returns-clause-removed
-returns-clause-removed c =
-    let old : List (List ℕ) = c.self.inside.rows in
-    let now : List (List ℕ) = c.delete_both.new.self in
-    let size = size-view old c.args.self.now c.self.view_is in
-    let u-in : c.args.u < length old = omega (arith, size) in
-    let v-in : c.args.v < length old = omega (arith, size) in
-    graph_of-removed old now c.args.u c.args.v c.requires.differ u-in v-in c.delete_both.ensures
-    ∙ ap (λ (g : SimpleGraph). without_edge g c.args.u c.args.v) c.self.view_is
+returns-clause-removed c = view-less c.self.invariant c.delete_both.ensures c.self.view_is c.requires.differ (omega arith) (omega arith)

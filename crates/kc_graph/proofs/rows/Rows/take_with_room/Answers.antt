@@ -1,53 +1,59 @@
 -- The row lies where it lay or in no block, and only its numbers change.
-use Rattle.std.proofs.Common.{◌≡◌, ◌<◌, ℕ, [], List, length, set, ap, sym, ◌∙◌, subst, arith}
+use Rattle.std.proofs.Common.{◌≡◌, ◌<◌, ℕ, [], List, length, get_or, set, ap, sym, ◌∙◌, subst, arith}
 use Rattle.std.proofs.lemmas.Result.{on_ok_weaker}
 use Rattle.kc_graph.specs.declared.row.Row.{Row}
-use Rattle.kc_graph.specs.Blocks.{LiesIn, entries_of, entries_of_each}
+use Rattle.kc_graph.specs.Blocks.{LiesIn, LieFrom, IsOwnOrSame, entries_of, entries_of_each}
 use Rattle.kc_graph.proofs.Buckets.{set-row}
 use Rattle.kc_graph.proofs.Inserting.{on_err_weaker}
 use Rattle.kc_graph.proofs.Lying.{lies-in, lie-kept, entries-set, count-view, row-view}
 use Rattle.kc_graph.proofs.rows.Rows.take_with_room.Goals as goal
 
+-- The row at `v` is `old`, and `handed` is the block as the row's own function sees it.
+module _ (block handed : List ℕ) (rows : List Row) (lists : List (List ℕ)) (v : ℕ) (old : Row) (value : handed ≡ block) (lie : LieFrom 0 block rows)
+    (view : entries_of_each block rows ≡ lists) (v_in : v < length lists) (is : old ≡ get_or rows v old) where
+  -- there is a row for each list
+  row_in : v < length rows
+  row_in = omega (arith, v_in, count-view block rows lists view)
+
+  -- the row lies in the block
+  lies : LiesIn handed old
+  lies = subst (λ (t : List ℕ). LiesIn t old) (sym value) (lies-in block rows v old lie row_in is)
+
+  -- with another row in its place the rows still lie one after the other
+  lie-still : (new : Row) → IsOwnOrSame old new → LieFrom 0 block (set rows v new)
+  lie-still new place = lie-kept block rows v old new lie row_in is place
+
+  -- only its numbers change
+  view-put : (new : Row) (list : List ℕ) → entries_of handed new ≡ list → entries_of_each block (set rows v new) ≡ set lists v list
+  view-put new list e =
+      entries-set block rows v new ∙ ap (λ (t : List (List ℕ)). set t v (entries_of block new)) view
+      ∙ ap (set lists v) (ap (λ (t : List ℕ). entries_of t new) (sym value) ∙ e)
+
+  -- and none does where they are the same
+  view-same : (new : Row) → entries_of handed new ≡ entries_of handed old → entries_of_each block (set rows v new) ≡ lists
+  view-same new e =
+      view-put new (entries_of handed old) e
+      ∙ ap (set lists v) (ap (λ (t : List ℕ). entries_of t old) value ∙ sym (row-view block rows lists v old view row_in is)) ∙ set-row lists v
+
 pub take_with_room-requires : goal.take_with_room-requires
 take_with_room-requires c =
-    let block : List ℕ = c.self.inside.block.items in
-    let rows : List Row = c.self.inside.rows.items in
-    let l : c.args.v < length rows = omega (arith, count-view block rows c.args.self.now c.self.view_is) in
-    subst (λ (t : List ℕ). LiesIn t c.index_mut.result.now) (sym c.deref.ensures.value)
-    (lies-in block rows c.args.v c.index_mut.result.now c.self.invariant l c.index_mut.ensures.value)
+    lies _ _ c.self.inside.rows.items _ c.args.v _ c.deref.ensures.value c.self.invariant c.self.view_is (omega arith) c.index_mut.ensures.value
 
 pub invariant_of-self : goal.invariant_of-self
 invariant_of-self c =
-    let block : List ℕ = c.self.inside.block.items in
-    let rows : List Row = c.self.inside.rows.items in
-    let l : c.args.v < length rows = omega (arith, count-view block rows c.args.self.now c.self.view_is) in
-    lie-kept block rows c.args.v c.index_mut.result.now c.take_with_room.new.self c.self.invariant l c.index_mut.ensures.value c.take_with_room.ensures.place
+    lie-still _ _ c.self.inside.rows.items _ c.args.v _ c.deref.ensures.value c.self.invariant c.self.view_is (omega arith) c.index_mut.ensures.value _
+    c.take_with_room.ensures.place
 
 pub returns-clause-left : goal.returns-clause-left
 returns-clause-left c =
-    let block : List ℕ = c.self.inside.block.items in
-    let rows : List Row = c.self.inside.rows.items in
-    let new : Row = c.take_with_room.new.self in
     on_ok_weaker c.take_with_room.result
-    (λ e.
-    let none : entries_of block new ≡ [] = ap (λ (t : List ℕ). entries_of t new) (sym c.deref.ensures.value) ∙ e in
-    entries-set block rows c.args.v new ∙ ap (set (entries_of_each block rows) c.args.v) none
-    ∙ ap (λ (t : List (List ℕ)). set t c.args.v []) c.self.view_is)
+    (view-put _ _ c.self.inside.rows.items _ c.args.v _ c.deref.ensures.value c.self.invariant c.self.view_is (omega arith) c.index_mut.ensures.value
+    c.take_with_room.new.self [])
     c.take_with_room.ensures.ok
 
 pub returns-clause-err : goal.returns-clause-err
 returns-clause-err c =
-    let block : List ℕ = c.self.inside.block.items in
-    let rows : List Row = c.self.inside.rows.items in
-    let lists : List (List ℕ) = c.args.self.now in
-    let old : Row = c.index_mut.result.now in
-    let new : Row = c.take_with_room.new.self in
-    let l : c.args.v < length rows = omega (arith, count-view block rows lists c.self.view_is) in
     on_err_weaker c.take_with_room.result
-    (λ e.
-    let same : entries_of block new ≡ entries_of block old =
-    ap (λ (t : List ℕ). entries_of t new) (sym c.deref.ensures.value) ∙ e ∙ ap (λ (t : List ℕ). entries_of t old) c.deref.ensures.value in
-    entries-set block rows c.args.v new ∙ ap (λ (t : List (List ℕ)). set t c.args.v (entries_of block new)) c.self.view_is
-    ∙ ap (set lists c.args.v) (same ∙ sym (row-view block rows lists c.args.v old c.self.view_is l c.index_mut.ensures.value))
-    ∙ set-row lists c.args.v)
+    (view-same _ _ c.self.inside.rows.items _ c.args.v _ c.deref.ensures.value c.self.invariant c.self.view_is (omega arith) c.index_mut.ensures.value
+    c.take_with_room.new.self)
     c.take_with_room.ensures.err
