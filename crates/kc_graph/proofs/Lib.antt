@@ -21,3 +21,4 @@ pub mod RowsLemmas
 pub mod Scattering
 pub mod SharedLists
 pub mod Turning
+pub mod TwoRows

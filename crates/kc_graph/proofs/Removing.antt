@@ -13,56 +13,21 @@ use Rattle.kc_distinct.specs.Lists.{member}
 use Rattle.kc_graph.specs.SimpleGraph.{SimpleGraph, adjacent, pair_cmp}
 use Rattle.kc_graph.specs.Edges.{edge, without_edge}
 use Rattle.kc_graph.specs.Rows.{row, graph_of, IsAdjacency, BothDeleted}
-use Rattle.kc_graph.proofs.Buckets.{row-set_same, row-set_other}
 use Rattle.kc_graph.proofs.Ends.{joins, joins-sym, joins-edge, edge-joins, contains-edge}
 use Rattle.kc_graph.proofs.RowsLemmas.{contains-edges, size-graph_of, adjacent-graph_of, pair_total, pair_exact, same_pair, tied_pair}
+use Rattle.kc_graph.proofs.TwoRows.{new-length, same-size, ascends, holds, sums}
 
 module _ (old new : List (List ℕ)) (u v : ℕ) (differ : u ≡ v → ⊥) (lu : u < length old) (lv : v < length old) (both : BothDeleted old new u v) where
-  -- there are as many rows as before
-  pub new-length : length new ≡ length old
-  new-length = ap length both.rows ∙ length-set (set old u both.first) v both.second ∙ length-set old u both.first
-
-  -- the row of the second end is the one that was put there
-  at-v : row new v ≡ both.second
-  at-v = ap (λ t. row t v) both.rows ∙ row-set_same (set old u both.first) v both.second (omega (arith, length-set old u both.first))
-
-  -- the row of the first end is the one that was put there
-  at-u : row new u ≡ both.first
-  at-u = ap (λ t. row t u) both.rows ∙ row-set_other (set old u both.first) v u both.second differ ∙ row-set_same old u both.first lu
-
-  -- the row of a vertex that is no end is as before
-  at-other : (a : ℕ) → (a ≡ u → ⊥) → (a ≡ v → ⊥) → row new a ≡ row old a
-  at-other a nu nv = ap (λ t. row t a) both.rows ∙ row-set_other (set old u both.first) v a both.second nv ∙ row-set_other old u a both.first nu
-
   -- a number is in a row where it was, unless the edge joins the two
   kept : (a b : ℕ) → member b (row new a) ≡ (member b (row old a) && not (joins u v a b))
-  kept a b = elim (cases_eq a u) [
-    | inl e ↦
-        let j : joins u v a b ≡ eqb b v =
-        ap₂ (λ s t. (s && eqb b v) || (t && eqb b u)) (eq-eqb a u e) (ne_eqb a v (λ f. differ (sym e ∙ f))) ∙ or-false (eqb b v) in
-        ap (λ k. member b (row new k)) e ∙ ap (member b) at-u ∙ both.at_first.kept b ∙ ap₂ (λ s t. s && not t) (ap (λ k. member b (row old k)) (sym e)) (sym j)
-    | inr nu ↦ elim (cases_eq a v) [
-      | inl e ↦
-          let j : joins u v a b ≡ eqb b u = ap₂ (λ s t. (s && eqb b v) || (t && eqb b u)) (ne_eqb a u nu) (eq-eqb a v e) in
-          ap (λ k. member b (row new k)) e ∙ ap (member b) at-v ∙ both.at_second.kept b
-          ∙ ap₂ (λ s t. s && not t) (ap (λ k. member b (row old k)) (sym e)) (sym j)
-      | inr nv ↦
-          let j : joins u v a b ≡ false = ap₂ (λ s t. (s && eqb b v) || (t && eqb b u)) (ne_eqb a u nu) (ne_eqb a v nv) in
-          ap (member b) (at-other a nu nv) ∙ sym (ap (λ t. member b (row old a) && not t) j ∙ and-true (member b (row old a)))
-    ]
-  ]
+  kept =
+      holds old new u v both.first both.second both.rows differ lu lv (λ s t. s && not t) and-true both.at_first.kept both.at_second.kept
 
   -- the rows are still those of a graph
   pub adjacency : IsAdjacency old → IsAdjacency new
   adjacency h = record {
-    ascends = λ a. elim (cases_eq a u) [
-      | inl e ↦ subst IsStrictlyIncreasing (sym (ap (row new) e ∙ at-u)) both.at_first.ascends
-      | inr nu ↦ elim (cases_eq a v) [
-        | inl e ↦ subst IsStrictlyIncreasing (sym (ap (row new) e ∙ at-v)) both.at_second.ascends
-        | inr nv ↦ subst IsStrictlyIncreasing (sym (at-other a nu nv)) (h.ascends a)
-      ]
-    ];
-    within = λ a b m. let k = and_parts (member b (row old a)) (not (joins u v a b)) (sym (kept a b) ∙ m) in omega (arith, h.within a b k.0, new-length);
+    ascends = ascends old new u v both.first both.second both.rows differ lu lv both.at_first.ascends both.at_second.ascends h.ascends;
+    within = λ a b m. let k = and_parts (member b (row old a)) (not (joins u v a b)) (sym (kept a b) ∙ m) in omega (arith, h.within a b k.0, new-length old new u v both.first both.second both.rows);
     irreflexive = λ a. kept a a ∙ and_left (member a (row old a)) _ (h.irreflexive a);
     symmetric = λ a b. kept a b ∙ ap₂ (λ s t. s && not t) (h.symmetric a b) (joins-sym u v a b) ∙ sym (kept b a);
   }
@@ -90,18 +55,12 @@ module _ (old new : List (List ℕ)) (u v : ℕ) (differ : u ≡ v → ⊥) (lu 
       (sym (tied_pair (a, b) (edge u v) (joins-edge u v a b differ (ltb-true a b k.0) j))
       ∙ not-true (eq_by_cmp pair_cmp (a, b) (edge u v)) p.0)) in
       and_from _ _ k.0 (kept a b ∙ and_from _ _ k.1 (not_from_false _ apart)))) in
-      let size : (graph_of new).size ≡ (graph_of old).size = size-graph_of new ∙ new-length ∙ sym (size-graph_of old) in
-      ap₂ (λ (n : ℕ) (e : FinSet pair_cmp). let g : SimpleGraph = record { size = n; edges = e } in g) size edges
+      ap₂ (λ (n : ℕ) (e : FinSet pair_cmp). let g : SimpleGraph = record { size = n; edges = e } in g) (same-size old new u v both.first both.second both.rows) edges
 
   -- there are two entries less in all rows
   pub sum-removed : sum_by length new + 2 ≡ sum_by length old
   sum-removed =
-      let mid : List (List ℕ) = set old u both.first in
-      let a : sum_by length mid + length (row old u) ≡ sum_by length old + length both.first = sum_by-set length old u both.first [] lu in
-      let b : sum_by length (set mid v both.second) + length (row mid v) ≡ sum_by length mid + length both.second =
-      sum_by-set length mid v both.second [] (omega (arith, length-set old u both.first)) in
-      let c : length (row mid v) ≡ length (row old v) = ap length (row-set_other old u v both.first (λ e. differ (sym e))) in
-      omega (arith, a, b, c, both.at_first.shorter, both.at_second.shorter, ap (sum_by length) both.rows)
+      omega (arith, sums old new u v both.first both.second both.rows differ lu lv, both.at_first.shorter, both.at_second.shorter)
 
   -- there is one edge less, where the two were adjacent
   pub len-removed : IsAdjacency old → member v (row old u) ≡ true → len (graph_of new).edges ≡ len (graph_of old).edges - 1
