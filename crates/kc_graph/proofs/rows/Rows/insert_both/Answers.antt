@@ -5,6 +5,11 @@ use Rattle.kc_graph.specs.Rows.{row, Inserted}
 use Rattle.kc_graph.proofs.Buckets.{row-set_other, set-row}
 use Rattle.kc_graph.proofs.rows.Rows.insert_both.Goals as goal
 
+-- a row that was taken out is put back
+put-back : (rows taken now : List (List ℕ)) (u : ℕ) (list : List ℕ) → taken ≡ set rows u [] → list ≡ row rows u → now ≡ set taken u list → now ≡ rows
+put-back rows taken now u list out is put =
+    put ∙ ap₂ (λ (t : List (List ℕ)) (r : List ℕ). set t u r) out is ∙ set-set rows u [] (row rows u) ∙ set-row rows u
+
 pub returns-in-Ok-clause-ok : goal.returns-in-Ok-clause-ok
 returns-in-Ok-clause-ok c =
     let rows : List (List ℕ) = c.args.self.now in
@@ -30,8 +35,4 @@ returns-in-Ok-clause-ok c =
 
 pub returns-in-Err-clause-err : goal.returns-in-Err-clause-err
 returns-in-Err-clause-err c =
-    let rows : List (List ℕ) = c.args.self.now in
-    let u : ℕ = c.args.u in
-    let taken : c.take_with_room-2.new.self ≡ set rows u [] = c.in-Err.ensures.err ∙ c.in_ok-first.ensures.left in
-    c.put-in-Err.ensures ∙ ap₂ (λ (t : List (List ℕ)) (r : List ℕ). set t u r) taken c.in_ok-first.ensures.list
-    ∙ set-set rows u [] (row rows u) ∙ set-row rows u
+    put-back c.args.self.now _ _ c.args.u _ (c.in-Err.ensures.err ∙ c.in_ok-first.ensures.left) c.in_ok-first.ensures.list c.put-in-Err.ensures
