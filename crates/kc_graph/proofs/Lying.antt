@@ -173,6 +173,16 @@ lies-in xs rows i r h l is = within xs r (subst (LiesWithin 0 xs) (sym is) (lies
 pub count-view : (xs : List ℕ) (rows : List Row) (lists : List (List ℕ)) → entries_of_each xs rows ≡ lists → length rows ≡ length lists
 count-view xs rows lists e = sym (length-entries xs rows) ∙ ap length e
 
+-- so there is a row for each list
+pub row-in : (xs : List ℕ) (rows : List Row) (lists : List (List ℕ)) (i : ℕ) → entries_of_each xs rows ≡ lists → i < length lists → i < length rows
+row-in xs rows lists i e l = omega (arith, l, count-view xs rows lists e)
+
+-- and it lies in the block, also where a slice of all of it is handed over
+pub lies-view : (xs handed : List ℕ) (rows : List Row) (lists : List (List ℕ)) (i : ℕ) (r : Row) → handed ≡ xs → LieFrom 0 xs rows
+    → entries_of_each xs rows ≡ lists → i < length lists → r ≡ get_or rows i r → LiesIn handed r
+lies-view xs handed rows lists i r value lie e l is =
+    subst (λ (t : List ℕ). LiesIn t r) (sym value) (lies-in xs rows i r lie (row-in xs rows lists i e l) is)
+
 -- the row at a place has the numbers of the list at that place
 pub row-view : (xs : List ℕ) (rows : List Row) (lists : List (List ℕ)) (i : ℕ) (r : Row) → entries_of_each xs rows ≡ lists → i < length rows
     → r ≡ get_or rows i r

@@ -1,20 +1,18 @@
 -- An edge less in the rows is an edge less in the graph.
-use Rattle.std.proofs.Common.{◌≡◌, ◌<◌, ◌+◌, ◌-◌, ℕ, true, false, cond, not, ◌&&◌, ◌||◌, List, [], length, set, eqb, ltb, sym, ◌∙◌, ap, ap₂, subst}
-use Rattle.std.proofs.Common.{inl, inr, arith, true≢false, length-set, eq-eqb, ne_eqb, ltb-true}
-use Rattle.std.specs.List.Sorted.{IsStrictlyIncreasing}
+use Rattle.std.proofs.Common.{◌≡◌, ◌<◌, ◌+◌, ◌-◌, ℕ, true, false, cond, not, ◌&&◌, List, length, ltb, sym, ◌∙◌, ap, ap₂}
+use Rattle.std.proofs.Common.{inl, inr, arith, true≢false, ltb-true}
 use Rattle.std.specs.List.{sum_by}
 use Rattle.std.specs.Ordering.{eq_by_cmp}
 use Rattle.std.specs.Cmp.{both_ways}
 use Rattle.std.specs.FinSet.{FinSet, contains, remove, len, contains-remove, len-remove, same_set}
-use Rattle.std.proofs.lemmas.List.Sums.{sum_by-set}
-use Rattle.std.proofs.lemmas.Bool.{cases_Bool, cases_eq, and_parts, and_from, and_left, false_from_ne_true, not_from_false, not_from_true, not-true}
-use Rattle.std.proofs.Math.Bool.{or-false, and-true}
+use Rattle.std.proofs.lemmas.Bool.{cases_Bool, and_parts, and_from, and_left, false_from_ne_true, not_from_false, not_from_true, not-true}
+use Rattle.std.proofs.Math.Bool.{and-true}
 use Rattle.kc_distinct.specs.Lists.{member}
 use Rattle.kc_graph.specs.SimpleGraph.{SimpleGraph, adjacent, pair_cmp}
 use Rattle.kc_graph.specs.Edges.{edge, without_edge}
 use Rattle.kc_graph.specs.Rows.{row, graph_of, IsAdjacency, BothDeleted}
 use Rattle.kc_graph.proofs.Ends.{joins, joins-sym, joins-edge, edge-joins, contains-edge}
-use Rattle.kc_graph.proofs.RowsLemmas.{contains-edges, size-graph_of, adjacent-graph_of, pair_total, pair_exact, same_pair, tied_pair}
+use Rattle.kc_graph.proofs.RowsLemmas.{contains-edges, adjacent-graph_of, pair_total, pair_exact, same_pair, tied_pair}
 use Rattle.kc_graph.proofs.TwoRows.{new-length, same-size, ascends, holds, sums}
 
 module _ (old new : List (List ℕ)) (u v : ℕ) (differ : u ≡ v → ⊥) (lu : u < length old) (lv : v < length old) (both : BothDeleted old new u v) where

@@ -1,23 +1,19 @@
 -- The row lies where it lay or in no block, and only its numbers change.
-use Rattle.std.proofs.Common.{◌≡◌, ◌<◌, ℕ, [], List, length, get_or, set, ap, sym, ◌∙◌, subst, arith}
+use Rattle.std.proofs.Common.{◌≡◌, ◌<◌, ℕ, [], List, length, get_or, set, ap, sym, ◌∙◌, arith}
 use Rattle.std.proofs.lemmas.Result.{on_ok_weaker}
 use Rattle.kc_graph.specs.declared.row.Row.{Row}
-use Rattle.kc_graph.specs.Blocks.{LiesIn, LieFrom, IsOwnOrSame, entries_of, entries_of_each}
+use Rattle.kc_graph.specs.Blocks.{LieFrom, IsOwnOrSame, entries_of, entries_of_each}
 use Rattle.kc_graph.proofs.Buckets.{set-row}
 use Rattle.kc_graph.proofs.Inserting.{on_err_weaker}
-use Rattle.kc_graph.proofs.Lying.{lies-in, lie-kept, entries-set, count-view, row-view}
+use Rattle.kc_graph.proofs.Lying.{lie-kept, entries-set, row-in, lies-view, row-view}
 use Rattle.kc_graph.proofs.rows.Rows.take_with_room.Goals as goal
 
--- The row at `v` is `old`, and `handed` is the block as the row's own function sees it.
+-- The row at `v` is `old`, and its own function was handed all of the block.
 module _ (block handed : List ℕ) (rows : List Row) (lists : List (List ℕ)) (v : ℕ) (old : Row) (value : handed ≡ block) (lie : LieFrom 0 block rows)
     (view : entries_of_each block rows ≡ lists) (v_in : v < length lists) (is : old ≡ get_or rows v old) where
   -- there is a row for each list
   row_in : v < length rows
-  row_in = omega (arith, v_in, count-view block rows lists view)
-
-  -- the row lies in the block
-  lies : LiesIn handed old
-  lies = subst (λ (t : List ℕ). LiesIn t old) (sym value) (lies-in block rows v old lie row_in is)
+  row_in = row-in block rows lists v view v_in
 
   -- with another row in its place the rows still lie one after the other
   lie-still : (new : Row) → IsOwnOrSame old new → LieFrom 0 block (set rows v new)
@@ -37,7 +33,7 @@ module _ (block handed : List ℕ) (rows : List Row) (lists : List (List ℕ)) (
 
 pub take_with_room-requires : goal.take_with_room-requires
 take_with_room-requires c =
-    lies _ _ c.self.inside.rows.items _ c.args.v _ c.deref.ensures.value c.self.invariant c.self.view_is (omega arith) c.index_mut.ensures.value
+    lies-view _ _ c.self.inside.rows.items _ c.args.v _ c.deref.ensures.value c.self.invariant c.self.view_is (omega arith) c.index_mut.ensures.value
 
 pub invariant_of-self : goal.invariant_of-self
 invariant_of-self c =
