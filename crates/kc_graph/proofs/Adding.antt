@@ -31,10 +31,11 @@ module _ (old new : List (List ℕ)) (u v : ℕ) (differ : u ≡ v → ⊥) (lu 
   pub adjacency : IsAdjacency old → IsAdjacency new
   adjacency h = record {
     ascends = ascends old new u v both.first both.second both.rows differ lu lv both.at_first.ascends both.at_second.ascends h.ascends;
-    within = λ a b m. elim (or_cases _ _ (sym (gained a b) ∙ m)) [
-      | inl k ↦ omega (arith, h.within a b k, new-length old new u v both.first both.second both.rows)
-      | inr k ↦ elim (joins-true u v a b k) [ inl p ↦ omega (arith, p.1, new-length old new u v both.first both.second both.rows) | inr p ↦ omega (arith, p.1, new-length old new u v both.first both.second both.rows) ]
-    ];
+    within = λ a b m. let count : length new ≡ length old = new-length old new u v both.first both.second both.rows in
+        elim (or_cases _ _ (sym (gained a b) ∙ m)) [
+          | inl k ↦ omega (arith, h.within a b k, count)
+          | inr k ↦ elim (joins-true u v a b k) [ inl p ↦ omega (arith, p.1, count) | inr p ↦ omega (arith, p.1, count) ]
+        ];
     irreflexive = λ a. gained a a ∙ or_from (member a (row old a)) (joins u v a a) (h.irreflexive a)
         (false_from_ne_true (joins u v a a) (λ k. elim (joins-true u v a a k) [ inl p ↦ differ (sym p.0 ∙ p.1) | inr p ↦ differ (sym p.1 ∙ p.0) ]));
     symmetric = λ a b. gained a b ∙ ap₂ (λ s t. s || t) (h.symmetric a b) (joins-sym u v a b) ∙ sym (gained b a);
@@ -58,7 +59,8 @@ module _ (old new : List (List ℕ)) (u v : ℕ) (differ : u ≡ v → ⊥) (lu 
             and_from _ _ (lt-ltb a b p.0) (gained a b ∙ or_right (member b (row old a)) _ p.1)
         | inr k ↦ let p = and_parts (ltb a b) (member b (row old a)) (sym (contains-edges old a b) ∙ k) in and_from _ _ p.0 (gained a b ∙ or_left _ _ p.1)
       ])) in
-      ap₂ (λ (n : ℕ) (e : FinSet pair_cmp). let g : SimpleGraph = record { size = n; edges = e } in g) (same-size old new u v both.first both.second both.rows) edges
+      let size : (graph_of new).size ≡ (graph_of old).size = same-size old new u v both.first both.second both.rows in
+      ap₂ (λ (n : ℕ) (e : FinSet pair_cmp). let g : SimpleGraph = record { size = n; edges = e } in g) size edges
 
   -- there are two entries more in all rows
   pub sum-added : sum_by length new ≡ sum_by length old + 2

@@ -25,7 +25,8 @@ module _ (old new : List (List ℕ)) (u v : ℕ) (differ : u ≡ v → ⊥) (lu 
   pub adjacency : IsAdjacency old → IsAdjacency new
   adjacency h = record {
     ascends = ascends old new u v both.first both.second both.rows differ lu lv both.at_first.ascends both.at_second.ascends h.ascends;
-    within = λ a b m. let k = and_parts (member b (row old a)) (not (joins u v a b)) (sym (kept a b) ∙ m) in omega (arith, h.within a b k.0, new-length old new u v both.first both.second both.rows);
+    within = λ a b m. let k = and_parts (member b (row old a)) (not (joins u v a b)) (sym (kept a b) ∙ m) in
+        omega (arith, h.within a b k.0, new-length old new u v both.first both.second both.rows);
     irreflexive = λ a. kept a a ∙ and_left (member a (row old a)) _ (h.irreflexive a);
     symmetric = λ a b. kept a b ∙ ap₂ (λ s t. s && not t) (h.symmetric a b) (joins-sym u v a b) ∙ sym (kept b a);
   }
@@ -53,7 +54,8 @@ module _ (old new : List (List ℕ)) (u v : ℕ) (differ : u ≡ v → ⊥) (lu 
       (sym (tied_pair (a, b) (edge u v) (joins-edge u v a b differ (ltb-true a b k.0) j))
       ∙ not-true (eq_by_cmp pair_cmp (a, b) (edge u v)) p.0)) in
       and_from _ _ k.0 (kept a b ∙ and_from _ _ k.1 (not_from_false _ apart)))) in
-      ap₂ (λ (n : ℕ) (e : FinSet pair_cmp). let g : SimpleGraph = record { size = n; edges = e } in g) (same-size old new u v both.first both.second both.rows) edges
+      let size : (graph_of new).size ≡ (graph_of old).size = same-size old new u v both.first both.second both.rows in
+      ap₂ (λ (n : ℕ) (e : FinSet pair_cmp). let g : SimpleGraph = record { size = n; edges = e } in g) size edges
 
   -- there are two entries less in all rows
   pub sum-removed : sum_by length new + 2 ≡ sum_by length old

@@ -41,10 +41,10 @@ delete-requires-clause-lies c =
 
 pub invariant_of-self : goal.invariant_of-self
 invariant_of-self c =
-    lie-left _ _ c.self.inside.rows.items _ c.args.v _ c.deref_mut.ensures.value c.self.invariant c.self.view_is c.requires.v_in c.index_mut.ensures.value _ _ _
-    c.delete.ensures.place (omega (arith, ap length c.deref_mut.ensures.value))
+    lie-left _ _ c.self.inside.rows.items _ c.args.v _ c.deref_mut.ensures.value c.self.invariant c.self.view_is c.requires.v_in c.index_mut.ensures.value
+    _ _ _ c.delete.ensures.place (omega (arith, ap length c.deref_mut.ensures.value))
 
 pub returns : goal.returns
 returns c =
-    view-left _ _ c.self.inside.rows.items _ c.args.v _ c.deref_mut.ensures.value c.self.invariant c.self.view_is c.requires.v_in c.index_mut.ensures.value _ _ _
-    c.delete.ensures.place (omega (arith, ap length c.deref_mut.ensures.value)) _ c.delete.ensures.deleted
+    view-left _ _ c.self.inside.rows.items _ c.args.v _ c.deref_mut.ensures.value c.self.invariant c.self.view_is c.requires.v_in c.index_mut.ensures.value
+    _ _ _ c.delete.ensures.place (omega (arith, ap length c.deref_mut.ensures.value)) _ c.delete.ensures.deleted
