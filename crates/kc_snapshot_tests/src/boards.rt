@@ -31,6 +31,80 @@ fn one_of<J: BoardName>(readers: &mut Vec<Reader<J>>, first: &[u32]) -> Result<R
 }
 
 // What a board shows to one reader that is told, and to one that is not.
+fn see_told_and_not<J: BoardName, R: Wait + Abort>(
+    rt: &R,
+    publisher: &mut Publisher<J, &R>,
+    readers: &mut [Reader<J>],
+) -> Result<(), Fail>
+    requires publisher { (length publisher.old ≡ 1) × (width publisher.old ≡ 4) }
+    requires readers { All (λ reader. width reader ≡ 4) readers.old }
+{
+    let [told, other] = readers else {
+        return Err("there are no two readers".into());
+    };
+    assert_eq!(rt; told.read(rt, 0), Read { number: 0, core: 1 });
+    assert_eq!(rt; publisher.publish(rt, &CHORDS)?, 1);
+    told.learn(rt, publisher.tell());
+    assert_eq!(rt; told.read(rt, 0), Read { number: 1, core: 2 });
+    let mut all = [0; 4];
+    assert_eq!(rt; other.cores(rt, &mut all), 1);
+    assert_eq!(rt; all, CHORDS);
+    publisher.covers(told);
+    Ok(())
+}
+
+// Two places that change, one of them twice.
+fn places(alloc: Global) -> Result<Vec<Place>, Fail> {
+    let mut places = Vec::new(alloc);
+    places.push(Place { at: 2, core: 1 })?;
+    places.push(Place { at: 2, core: 0 })?;
+    places.push(Place { at: 0, core: 1 })?;
+    Ok(places)
+}
+
+// Places that change, and a list that changes nothing.
+fn see_changes<J: BoardName, R: Wait + Abort>(
+    rt: &R,
+    alloc: Global,
+    publisher: &mut Publisher<J, &R>,
+    readers: &mut [Reader<J>],
+) -> Result<(), Fail>
+    requires publisher { (length publisher.old ≡ 1) × (width publisher.old ≡ 4) }
+    requires readers { All (λ reader. width reader ≡ 4) readers.old }
+{
+    let [reader] = readers else {
+        return Err("there is no reader".into());
+    };
+    assert_eq!(rt; publisher.publish_changes(rt, places(alloc)?)?, 1);
+    assert_eq!(rt; publisher.publish(rt, &[1, 2, 0, 2])?, 2);
+    reader.learn(rt, publisher.tell());
+    let mut all = [0; 4];
+    assert_eq!(rt; reader.cores(rt, &mut all), 2);
+    assert_eq!(rt; all, [1, 2, 0, 2]);
+    Ok(())
+}
+
+// Two vertices of a list where all numbers are new, and one that the board has not.
+fn see_among<J: BoardName, R: Wait + Abort>(
+    rt: &R,
+    publisher: &mut Publisher<J, &R>,
+    readers: &mut [Reader<J>],
+) -> Result<(), Fail>
+    requires publisher { (length publisher.old ≡ 1) × (width publisher.old ≡ 4) }
+    requires readers { All (λ reader. width reader ≡ 4) readers.old }
+{
+    let [reader] = readers else {
+        return Err("there is no reader".into());
+    };
+    assert_eq!(rt; publisher.publish_among(rt, &CHORDS, &[3, 1, 4, 3])?, 1);
+    reader.learn(rt, publisher.tell());
+    let mut all = [0; 4];
+    assert_eq!(rt; reader.cores(rt, &mut all), 1);
+    assert_eq!(rt; all, [1, 2, 1, 2]);
+    Ok(())
+}
+
+// Opens a board, and has one reader told and one not.
 fn read_by_two<J: BoardName, R: Wait + Abort>(
     rt: &R,
     alloc: Global,
@@ -39,21 +113,12 @@ fn read_by_two<J: BoardName, R: Wait + Abort>(
     requires { blank ≡ J.book }
 {
     let (mut publisher, mut readers) = open::<J, &R>(rt, alloc, blank, &PATH, 2)?;
-    let mut told = one_of(&mut readers, &PATH)?;
-    let mut other = one_of(&mut readers, &PATH)?;
-    assert_eq!(rt; told.read(rt, 0), Read { number: 0, core: 1 });
-    assert_eq!(rt; publisher.publish(rt, &CHORDS)?, 1);
-    told.learn(rt, publisher.tell());
-    assert_eq!(rt; told.read(rt, 0), Read { number: 1, core: 2 });
-    let mut all = [0; 4];
-    assert_eq!(rt; other.cores(rt, &mut all), 1);
-    assert_eq!(rt; all, CHORDS);
-    publisher.covers(&told);
+    let read = see_told_and_not(rt, &mut publisher, readers.as_mut_slice());
     publisher.end();
-    Ok(())
+    read
 }
 
-// Places that change, and a list that changes nothing.
+// Opens a board for one reader, and changes places.
 fn read_changes<J: BoardName, R: Wait + Abort>(
     rt: &R,
     alloc: Global,
@@ -62,22 +127,12 @@ fn read_changes<J: BoardName, R: Wait + Abort>(
     requires { blank ≡ J.book }
 {
     let (mut publisher, mut readers) = open::<J, &R>(rt, alloc, blank, &CHORDS, 1)?;
-    let mut reader = one_of(&mut readers, &CHORDS)?;
-    let mut places = Vec::new(alloc);
-    places.push(Place { at: 2, core: 1 })?;
-    places.push(Place { at: 2, core: 0 })?;
-    places.push(Place { at: 0, core: 1 })?;
-    assert_eq!(rt; publisher.publish_changes(rt, places)?, 1);
-    assert_eq!(rt; publisher.publish(rt, &[1, 2, 0, 2])?, 2);
-    reader.learn(rt, publisher.tell());
-    let mut all = [0; 4];
-    assert_eq!(rt; reader.cores(rt, &mut all), 2);
-    assert_eq!(rt; all, [1, 2, 0, 2]);
+    let read = see_changes(rt, alloc, &mut publisher, readers.as_mut_slice());
     publisher.end();
-    Ok(())
+    read
 }
 
-// Two vertices of a list where all numbers are new, and one that the board has not.
+// Opens a board for one reader, and names the vertices to be published.
 fn read_among<J: BoardName, R: Wait + Abort>(
     rt: &R,
     alloc: Global,
@@ -86,14 +141,9 @@ fn read_among<J: BoardName, R: Wait + Abort>(
     requires { blank ≡ J.book }
 {
     let (mut publisher, mut readers) = open::<J, &R>(rt, alloc, blank, &PATH, 1)?;
-    let mut reader = one_of(&mut readers, &PATH)?;
-    assert_eq!(rt; publisher.publish_among(rt, &CHORDS, &[3, 1, 4, 3])?, 1);
-    reader.learn(rt, publisher.tell());
-    let mut all = [0; 4];
-    assert_eq!(rt; reader.cores(rt, &mut all), 1);
-    assert_eq!(rt; all, [1, 2, 1, 2]);
+    let read = see_among(rt, &mut publisher, readers.as_mut_slice());
     publisher.end();
-    Ok(())
+    read
 }
 
 // The list that is published under a number.
