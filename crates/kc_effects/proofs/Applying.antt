@@ -7,22 +7,19 @@ use Rattle.std.proofs.lemmas.Bool.{and_parts, false_from_ne_true, or_from}
 use Rattle.kc_graph.specs.SimpleGraph.{SimpleGraph, adjacent, pair_cmp}
 use Rattle.kc_graph.specs.Edges.{edge, with_edge, without_edge}
 use Rattle.kc_graph.proofs.RowsLemmas.{pair_total, pair_exact, same_pair}
+use Rattle.kc_text.specs.Inputs.{EdgeUpdate}
 use Rattle.kc_effects.specs.Batches.{changed_edge, edges_added, edges_after_batch, edges_removed, graph_after_batch, graph_with, is_add}
 
--- the sign of an update, and its two ends
-abbrev pub Part : Type 0
-Part = Bool × ℕ × ℕ
-
 -- whether the update adds the edge q
-abbrev adds_it : ℕ × ℕ → Part → Bool
+abbrev adds_it : ℕ × ℕ → EdgeUpdate → Bool
 adds_it q update = is_add update && eq_by_cmp pair_cmp q (changed_edge update)
 
 -- whether it removes it
-abbrev removes_it : ℕ × ℕ → Part → Bool
+abbrev removes_it : ℕ × ℕ → EdgeUpdate → Bool
 removes_it q update = not (is_add update) && eq_by_cmp pair_cmp q (changed_edge update)
 
 -- an edge is one of those that are kept where an update that is kept has it
-any-kept : (keep : Part → Bool) (q : ℕ × ℕ) (batch : List Part)
+any-kept : (keep : EdgeUpdate → Bool) (q : ℕ × ℕ) (batch : List EdgeUpdate)
     → list_any (eq_by_cmp pair_cmp q) (map changed_edge (filter keep batch))
     ≡ list_any (λ update. keep update && eq_by_cmp pair_cmp q (changed_edge update)) batch
 any-kept keep q [] = refl
@@ -34,7 +31,7 @@ any-kept keep q (x ∷ batch) =
     ]
 
 -- which edges are there after a batch
-contains-after : (edges : set.FinSet pair_cmp) (batch : List Part) (q : ℕ × ℕ)
+contains-after : (edges : set.FinSet pair_cmp) (batch : List EdgeUpdate) (q : ℕ × ℕ)
     → set.contains (edges_after_batch edges batch) q ≡ ((set.contains edges q || list_any (adds_it q) batch) && not (list_any (removes_it q) batch))
 unfolding edges_after_batch
 contains-after edges batch q =
@@ -63,22 +60,22 @@ graph_after_batch-nil g =
     ap (with_edges g) same
 
 -- batches that have the same updates, in whatever order, leave the same edges
-pub edges_after_batch-same : (edges : set.FinSet pair_cmp) (xs ys : List Part) → ((p : Part → Bool) → list_any p xs ≡ list_any p ys)
+pub edges_after_batch-same : (edges : set.FinSet pair_cmp) (xs ys : List EdgeUpdate) → ((p : EdgeUpdate → Bool) → list_any p xs ≡ list_any p ys)
     → edges_after_batch edges xs ≡ edges_after_batch edges ys
 edges_after_batch-same edges xs ys same = set.same_set pair_total pair_exact _ _ (λ q. contains-after edges xs q
     ∙ ap₂ (λ (a r : Bool). (set.contains edges q || a) && not r) (same (adds_it q)) (same (removes_it q)) ∙ sym (contains-after edges ys q))
 
 -- batches that have the same updates leave the same graph, whatever their order
-pub graph_after_batch-same : (g : SimpleGraph) (xs ys : List Part) → ((p : Part → Bool) → list_any p xs ≡ list_any p ys)
+pub graph_after_batch-same : (g : SimpleGraph) (xs ys : List EdgeUpdate) → ((p : EdgeUpdate → Bool) → list_any p xs ≡ list_any p ys)
     → graph_after_batch g xs ≡ graph_after_batch g ys
 graph_after_batch-same g xs ys same = ap (with_edges g) (edges_after_batch-same g.edges xs ys same)
 
 -- no update of the batch names the edge
-abbrev pub Spares : ℕ × ℕ → List Part → Type 0
+abbrev pub Spares : ℕ × ℕ → List EdgeUpdate → Type 0
 Spares q batch = AllByRecursion (λ update. changed_edge update ≢ q) batch
 
 -- no update of a batch that spares an edge has it
-none-names : (keep : Part → Bool) (q : ℕ × ℕ) (batch : List Part) → Spares q batch
+none-names : (keep : EdgeUpdate → Bool) (q : ℕ × ℕ) (batch : List EdgeUpdate) → Spares q batch
     → list_any (λ update. keep update && eq_by_cmp pair_cmp q (changed_edge update)) batch ≡ false
 none-names keep q [] spares = refl
 none-names keep q (x ∷ batch) spares =
@@ -101,7 +98,7 @@ remove-first true true false r h = refl
 remove-first false true false r h = refl
 remove-first c false a r h = refl
 
-module _ (edges : set.FinSet pair_cmp) (x : Part) (batch : List Part) (spares : Spares (changed_edge x) batch) where
+module _ (edges : set.FinSet pair_cmp) (x : EdgeUpdate) (batch : List EdgeUpdate) (spares : Spares (changed_edge x) batch) where
   -- an edge is there after an update and then the batch where it is after the batch with that update
   contains-first : (q : ℕ × ℕ)
       → set.contains (edges_after_batch (cond (is_add x) (set.insert edges (changed_edge x)) (set.remove edges (changed_edge x))) batch) q
@@ -124,12 +121,12 @@ module _ (edges : set.FinSet pair_cmp) (x : Part) (batch : List Part) (spares : 
       ] ∙ sym after
 
 -- an update, and then a batch that spares its edge, are one batch
-pub graph_after_batch-first : (g : SimpleGraph) (x : Part) (batch : List Part) → Spares (changed_edge x) batch
+pub graph_after_batch-first : (g : SimpleGraph) (x : EdgeUpdate) (batch : List EdgeUpdate) → Spares (changed_edge x) batch
     → graph_after_batch (graph_with g x) batch ≡ graph_after_batch g (x ∷ batch)
 graph_after_batch-first g x batch spares = ap (with_edges g) (set.same_set pair_total pair_exact _ _ (contains-first g.edges x batch spares))
 
 -- an update leaves each other edge as it is
-pub contains-other : (g : SimpleGraph) (x : Part) (q : ℕ × ℕ) → changed_edge x ≢ q → set.contains (graph_with g x).edges q ≡ set.contains g.edges q
+pub contains-other : (g : SimpleGraph) (x : EdgeUpdate) (q : ℕ × ℕ) → changed_edge x ≢ q → set.contains (graph_with g x).edges q ≡ set.contains g.edges q
 contains-other g x q other =
     let differs : eq_by_cmp pair_cmp q (changed_edge x) ≡ false = false_from_ne_true _ (λ t. other (sym (same_pair q (changed_edge x) t))) in
     elim (is_add x) as (λ b. set.contains (cond b (set.insert g.edges (changed_edge x)) (set.remove g.edges (changed_edge x))) q ≡ set.contains g.edges q) [
@@ -146,9 +143,9 @@ pub contains-ordered : (g : SimpleGraph) (u v : ℕ) → u < v → adjacent g u 
 contains-ordered g u v l = ap (λ t. cond t (set.contains g.edges (u, v)) (ltb v u && set.contains g.edges (v, u))) (lt-ltb u v l)
 
 -- adding an edge is one update
-pub graph_with-add : (g : SimpleGraph) (u v : ℕ) → u < v → with_edge g u v ≡ graph_with g (true, u, v)
+pub graph_with-add : (g : SimpleGraph) (u v : ℕ) → u < v → with_edge g u v ≡ graph_with g (record { add = true; u = u; v = v })
 graph_with-add g u v l = ap (λ (p : ℕ × ℕ). with_edges g (set.insert g.edges p)) (edge-ordered u v l)
 
 -- removing an edge is one update
-pub graph_with-remove : (g : SimpleGraph) (u v : ℕ) → u < v → without_edge g u v ≡ graph_with g (false, u, v)
+pub graph_with-remove : (g : SimpleGraph) (u v : ℕ) → u < v → without_edge g u v ≡ graph_with g (record { add = false; u = u; v = v })
 graph_with-remove g u v l = ap (λ (p : ℕ × ℕ). with_edges g (set.remove g.edges p)) (edge-ordered u v l)

@@ -14,11 +14,11 @@ use Rattle.kc_graph.specs.declared.update.Update.{Update}
 use Rattle.kc_table.specs.declared.entry.Entry.{Entry}
 use Rattle.kc_table.specs.Edges.{after_entries}
 use Rattle.kc_table.proofs.LegalLogs.{after_entries-append}
-use Rattle.kc_text.specs.Inputs.{IsBatch, parts_of}
+use Rattle.kc_text.specs.Inputs.{EdgeUpdate, IsBatch, parts_of}
 use Rattle.kc_agree.specs.Stamps.{changes_graph}
 use Rattle.kc_effects.specs.Batches.{graph_after_batch, is_effective}
 use Rattle.kc_effects.specs.Entered.{AreSomeOf, IsIndexOf, IsOneOf, IsOrderOf, IsUpdateAt, change_of, indices}
-use Rattle.kc_effects.proofs.Applying.{Part, graph_after_batch-same}
+use Rattle.kc_effects.proofs.Applying.{graph_after_batch-same}
 use Rattle.kc_effects.proofs.OneByOne.{changes-anywhere, in_turn, index-within, one-at}
 use Rattle.kc_effects.proofs.Rows.{AreOfRow, as-many-are-all}
 
@@ -42,7 +42,7 @@ has-each first batch made order =
     (length-map made (λ (e : Entry). e.index) ∙ order.as_many)
 
 -- a test that an update of the batch passes is passed by the batch
-any-at : (p : Part → Bool) (first : ℕ) (batch : List Update) (index : ℕ) (u : Update) → IsUpdateAt first batch index u → p (parts_of u) ≡ true
+any-at : (p : EdgeUpdate → Bool) (first : ℕ) (batch : List Update) (index : ℕ) (u : Update) → IsUpdateAt first batch index u → p (parts_of u) ≡ true
     → list_any p (map parts_of batch) ≡ true
 any-at p first batch index u at passes =
     let split : map parts_of batch ≡ map parts_of at.front ++ parts_of u ∷ map parts_of at.back =
@@ -52,7 +52,7 @@ any-at p first batch index u at passes =
     (or_left (p (parts_of u)) (list_any p (map parts_of at.back)) passes))
 
 -- a test that entries of the batch pass is passed by the batch
-forth : (p : Part → Bool) (first : ℕ) (batch : List Update) (es : List Entry) → AllByRecursion (IsOneOf first batch) es
+forth : (p : EdgeUpdate → Bool) (first : ℕ) (batch : List Update) (es : List Entry) → AllByRecursion (IsOneOf first batch) es
     → list_any p (map change_of es) ≡ true → list_any p (map parts_of batch) ≡ true
 forth p first batch [] all h = absurd (false≢true h)
 forth p first batch (e ∷ es) all h = elim (or_cases (p (change_of e)) (list_any p (map change_of es)) h) [
@@ -61,7 +61,7 @@ forth p first batch (e ∷ es) all h = elim (or_cases (p (change_of e)) (list_an
 ]
 
 -- what the batch passes is passed by an update at some place
-found-at : (p : Part → Bool) (us : List Update) → list_any p (map parts_of us) ≡ true
+found-at : (p : EdgeUpdate → Bool) (us : List Update) → list_any p (map parts_of us) ≡ true
     → (front : List Update) × (u : Update) × (back : List Update) × (us ≡ front ++ u ∷ back) × (p (parts_of u) ≡ true)
 found-at p [] h = absurd (false≢true h)
 found-at p (x ∷ us) h = elim (or_cases (p (parts_of x)) (list_any p (map parts_of us)) h) [
@@ -70,7 +70,7 @@ found-at p (x ∷ us) h = elim (or_cases (p (parts_of x)) (list_any p (map parts
 ]
 
 -- an update that passes has an entry that does, where an entry has its index
-entry-passes : (p : Part → Bool) (first : ℕ) (batch : List Update) (index : ℕ) (u : Update) → IsUpdateAt first batch index u → p (parts_of u) ≡ true
+entry-passes : (p : EdgeUpdate → Bool) (first : ℕ) (batch : List Update) (index : ℕ) (u : Update) → IsUpdateAt first batch index u → p (parts_of u) ≡ true
     → (es : List Entry) → AllByRecursion (IsOneOf first batch) es → member index (indices es) ≡ true → list_any p (map change_of es) ≡ true
 entry-passes p first batch index u at passes [] all m = absurd (false≢true m)
 entry-passes p first batch index u at passes (e ∷ es) all m = elim (member-cases index e.index (indices es) m) [
@@ -81,7 +81,7 @@ entry-passes p first batch index u at passes (e ∷ es) all m = elim (member-cas
 
 module _ (first vertices : ℕ) (batch : List Update) (is_batch : IsBatch vertices batch) where
   -- a test is passed by the entries where the batch passes it
-  same-updates : (made : List Entry) → IsOrderOf first batch made → (p : Part → Bool) → list_any p (map change_of made) ≡ list_any p (map parts_of batch)
+  same-updates : (made : List Entry) → IsOrderOf first batch made → (p : EdgeUpdate → Bool) → list_any p (map change_of made) ≡ list_any p (map parts_of batch)
   same-updates made order p =
       let all = recursion_from_All (IsOneOf first batch) made order.some.each in
       both_ways (list_any p (map change_of made)) (list_any p (map parts_of batch))

@@ -11,12 +11,16 @@ use Rattle.kc_graph.specs.Edges.{with_edge, without_edge}
 use Rattle.kc_graph.specs.declared.update.Update.{Update}
 use Rattle.kc_table.specs.declared.entry.Entry.{Entry}
 use Rattle.kc_table.specs.Edges.{after_entry, after_entries}
-use Rattle.kc_text.specs.Inputs.{IsBatch, edge_of, parts_of}
+use Rattle.kc_text.specs.Inputs.{EdgeUpdate, IsBatch, edge_of, parts_of}
 use Rattle.kc_agree.specs.Stamps.{changes_graph}
 use Rattle.kc_effects.specs.Batches.{changed_edge, graph_after_batch, graph_with, is_effective}
 use Rattle.kc_effects.specs.Entered.{IsIndexOf, IsOneOf, IsUpdateAt, change_of, indices}
-use Rattle.kc_effects.proofs.Applying.{Part, Spares, contains-ordered, contains-other, graph_after_batch-first, graph_after_batch-nil, graph_with-add}
+use Rattle.kc_effects.proofs.Applying.{Spares, contains-ordered, contains-other, graph_after_batch-first, graph_after_batch-nil, graph_with-add}
 use Rattle.kc_effects.proofs.Applying.{graph_with-remove}
+
+-- what stands where a batch has no update
+abbrev pub no_update : EdgeUpdate
+no_update = record { add = false; u = 0; v = 0 }
 
 module _ (first : ℕ) (batch : List Update) where
   -- an update stands under an index of the batch
@@ -35,8 +39,8 @@ module _ (first : ℕ) (batch : List Update) where
   -- so there is one under an index
   pub one-at : (i j : ℕ) (u w : Update) → IsUpdateAt first batch i u → IsUpdateAt first batch j w → i ≡ j → parts_of u ≡ parts_of w
   one-at i j u w at-u at-w same =
-      sym (made-at parts_of (false, 0, 0) i u at-u)
-      ∙ (ap (λ (k : ℕ). get_or (map parts_of batch) (k - first) (false, 0, 0)) same ∙ made-at parts_of (false, 0, 0) j w at-w)
+      sym (made-at parts_of no_update i u at-u)
+      ∙ (ap (λ (k : ℕ). get_or (map parts_of batch) (k - first) no_update) same ∙ made-at parts_of no_update j w at-w)
 
   module _ (vertices : ℕ) (is_batch : IsBatch vertices batch) where
     -- an update whose place is less than that of another is of another edge
@@ -73,13 +77,13 @@ module _ (first : ℕ) (batch : List Update) where
 
   -- the ends of an entry of the batch are in order
   pub ends-ordered : (e : Entry) → IsOneOf first batch e → e.u < e.v
-  ends-ordered e of-e = omega (arith, ap (λ (p : Part). p.1) of-e.2, ap (λ (p : Part). p.2) of-e.2, of-e.0.ordered)
+  ends-ordered e of-e = omega (arith, ap (λ (p : EdgeUpdate). p.u) of-e.2, ap (λ (p : EdgeUpdate). p.v) of-e.2, of-e.0.ordered)
 
   -- an entry of the batch is one update
   pub one-entry : (g : SimpleGraph) (e : Entry) → IsOneOf first batch e → after_entry g e ≡ graph_with g (change_of e)
   one-entry g e of-e =
       let l : e.u < e.v = ends-ordered e of-e in
-      elim e.add as (λ b. cond b (with_edge g e.u e.v) (without_edge g e.u e.v) ≡ graph_with g (b, e.u, e.v)) [
+      elim e.add as (λ b. cond b (with_edge g e.u e.v) (without_edge g e.u e.v) ≡ graph_with g (record { add = b; u = e.u; v = e.v })) [
         | true ↦ graph_with-add g e.u e.v l
         | false ↦ graph_with-remove g e.u e.v l
       ]

@@ -10,23 +10,18 @@ use Rattle.kc_graph.specs.SimpleGraph.{SimpleGraph, pair_cmp}
 use Rattle.kc_graph.specs.declared.update.Update.{Update}
 use Rattle.kc_table.specs.declared.entry.Entry.{Entry}
 use Rattle.kc_table.specs.Edges.{after_entries}
-use Rattle.kc_text.specs.Inputs.{IsBatch, parts_of}
+use Rattle.kc_text.specs.Inputs.{EdgeUpdate, IsBatch, parts_of}
 use Rattle.kc_effects.specs.Batches.{added, is_add, is_effective, kept, removed}
 use Rattle.kc_effects.specs.Entered.{AreSomeOf, IsIndexOf, IsOneOf, IsUpdateAt}
 use Rattle.kc_effects.specs.Outcomes.{AreOutcomesOf, IsOutcomeIn, IsOutcomeOf, adds_at, told_added, told_indices, told_kept, told_removed}
 use Rattle.kc_effects.specs.declared.outcome.Outcome.{Outcome}
-use Rattle.kc_effects.proofs.Applying.{Part}
 use Rattle.kc_effects.proofs.InAnyOrder.{cut-behind, does-what-it-would, names-of-row}
-use Rattle.kc_effects.proofs.OneByOne.{at-cut, index-within, made-at}
+use Rattle.kc_effects.proofs.OneByOne.{at-cut, index-within, made-at, no_update}
 use Rattle.kc_effects.proofs.Rows.{AreOfRow, as-many-are-all, count-each, count-map, count-places, count-row, row}
 
--- the part that stands where the batch has no update
-abbrev no_part : Part
-no_part = (false, 0, 0)
-
--- the part of the update of an index
-abbrev part_at : ℕ → List Update → ℕ → Part
-part_at first batch index = get_or (map parts_of batch) (index - first) no_part
+-- what the update of an index says
+abbrev part_at : ℕ → List Update → ℕ → EdgeUpdate
+part_at first batch index = get_or (map parts_of batch) (index - first) no_update
 
 -- the indices of outcomes of a batch are in its row
 pub told-of-row : (edges : FinSet pair_cmp) (first : ℕ) (batch : List Update) (outcomes : List Outcome) → All (IsOutcomeOf edges first batch) outcomes
@@ -38,7 +33,7 @@ told-of-row edges first batch outcomes each =
 
 module _ (edges : FinSet pair_cmp) (first : ℕ) (batch : List Update) (outcomes : List Outcome) (are : AreOutcomesOf edges first batch outcomes) where
   -- a test of outcomes that goes by the update of their index counts what the batch has of it
-  count-told : (p : Outcome → Bool) (t : Part → Bool) → ((o : Outcome) → IsOutcomeOf edges first batch o → p o ≡ t (part_at first batch o.index))
+  count-told : (p : Outcome → Bool) (t : EdgeUpdate → Bool) → ((o : Outcome) → IsOutcomeOf edges first batch o → p o ≡ t (part_at first batch o.index))
       → count_by p outcomes ≡ count_by t (map parts_of batch)
   count-told p t agree =
       let q : ℕ → Bool = λ index. t (part_at first batch index) in
@@ -46,11 +41,11 @@ module _ (edges : FinSet pair_cmp) (first : ℕ) (batch : List Update) (outcomes
       ∙ (sym (count-map q (λ (o : Outcome). o.index) outcomes)
       ∙ (count-row q first (length batch) (told_indices outcomes) are.once (told-of-row edges first batch outcomes are.each) are.all
       ∙ (ap (λ (n : ℕ). count_by q (row first n)) (sym (length-map batch parts_of))
-      ∙ sym (count-places t no_part first (map parts_of batch)))))
+      ∙ sym (count-places t no_update first (map parts_of batch)))))
 
   -- an outcome's update, by its index
   part-is : (o : Outcome) → (of : IsOutcomeOf edges first batch o) → part_at first batch o.index ≡ parts_of of.0
-  part-is o of = made-at first batch parts_of no_part o.index of.0 of.1
+  part-is o of = made-at first batch parts_of no_update o.index of.0 of.1
 
   applied-is : (o : Outcome) → IsOutcomeOf edges first batch o → o.applied ≡ is_effective edges (part_at first batch o.index)
   applied-is o of = of.2 ∙ ap (is_effective edges) (sym (part-is o of))

@@ -1,9 +1,9 @@
 -- The updates of a batch among the entries of a run, in whatever order they were entered.
-use Rattle.std.specs.Prelude.{◌≡◌, ◌+◌, ◌<◌, ◌≤◌, ℕ, Bool, List, ◌∷◌, ◌++◌, All, length, map}
+use Rattle.std.specs.Prelude.{◌≡◌, ◌+◌, ◌<◌, ◌≤◌, ℕ, List, ◌∷◌, ◌++◌, All, length, map}
 use Rattle.kc_distinct.specs.Lists.{Distinct}
 use Rattle.kc_graph.specs.declared.update.Update.{Update}
 use Rattle.kc_table.specs.declared.entry.Entry.{Entry}
-use Rattle.kc_text.specs.Inputs.{parts_of}
+use Rattle.kc_text.specs.Inputs.{EdgeUpdate, parts_of}
 
 -- The batch has this update under this index: its updates are numbered in turn, from `first` on.
 pub record IsUpdateAt (first : ℕ) (batch : List Update) (index : ℕ) (update : Update) : Type 0 where
@@ -17,8 +17,8 @@ abbrev pub IsIndexOf : ℕ → List Update → ℕ → Type 0
 IsIndexOf first batch index = (first ≤ index) × (index < first + length batch)
 
 -- the sign of an entry, and its two ends
-abbrev pub change_of : Entry → Bool × ℕ × ℕ
-change_of e = (e.add, e.u, e.v)
+abbrev pub change_of : Entry → EdgeUpdate
+change_of e = record { add = e.add; u = e.u; v = e.v }
 
 -- the entry is an update of the batch, under its index
 abbrev pub IsOneOf : ℕ → List Update → Entry → Type 0

@@ -5,11 +5,10 @@ use Rattle.std.specs.FinSet as set
 use Rattle.kc_graph.specs.SimpleGraph.{SimpleGraph, pair_cmp}
 use Rattle.kc_graph.specs.Core.{AreCoreNumbers}
 use Rattle.kc_graph.specs.declared.update.Update.{Update}
-use Rattle.kc_text.specs.Inputs.{IsInput, numbered_change, parts_of, start_graph}
+use Rattle.kc_text.specs.Inputs.{EdgeUpdate, IsInput, numbered_change, parts_of, start_graph}
 use Rattle.kc_text.specs.Meaning.{Told, batches as batches_told}
 use Rattle.kc_text.specs.Overruling.{deciding, overruled}
 use Rattle.kc_text.specs.declared.change.Change.{Change}
-use Rattle.kc_effects.proofs.Applying.{Part}
 use Rattle.kc_text.specs.declared.input.Input.{Input}
 use Rattle.kc_course.specs.Runs.{HasRun, IsEmpty}
 use Rattle.kc_course.specs.declared.ran.Ran.{Ran}
@@ -96,7 +95,7 @@ numbered_is ids (b ∷ bs) (n ∷ ns) (t ∷ ts) u c =
     let count : n ≡ overruled t = cc in
     let counts : ns ≡ map overruled ts = cc in
     ap₂ (λ (x : Batch) (xs : List Batch). x ∷ xs)
-    (ap₂ (λ (us : List Part) (k : ℕ). let x : Batch = record { updates = us; overruled = k } in x) first count) (numbered_is ids bs ns ts rest counts)
+    (ap₂ (λ (us : List EdgeUpdate) (k : ℕ). let x : Batch = record { updates = us; overruled = k } in x) first count) (numbered_is ids bs ns ts rest counts)
 
 -- The updates that the lists have are those that are told.
 updates-told : (ids : List ℕ) (updates : List (Vec Update Global)) (told : List (List Change))
@@ -109,7 +108,7 @@ updates-told ids (b ∷ bs) (t ∷ ts) e =
     let first : map parts_of b.items ≡ map (numbered_change ids) (deciding t) = cc in
     let rest : map (λ (batch : Vec Update Global). map parts_of batch.items) bs ≡ map
     (λ (batch : List Change). map (numbered_change ids) (deciding batch)) ts = cc in
-    ap₂ (λ (us : List Part) (uss : List (List Part)). us ∷ uss) first (updates-told ids bs ts rest)
+    ap₂ (λ (us : List EdgeUpdate) (uss : List (List EdgeUpdate)). us ∷ uss) first (updates-told ids bs ts rest)
 
 -- the five parts of a text, one after another
 parts_of_text : (first rounds each lines ends : List ℕ) → ((first ++ (rounds ++ each)) ++ lines) ++ ends ≡ first ++ (rounds ++ (each ++ (lines ++ ends)))

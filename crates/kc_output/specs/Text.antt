@@ -1,11 +1,11 @@
 -- The output of a run.
-use Rattle.std.specs.Prelude.{◌≡◌, ◌+◌, ℕ, Bool, List, [], ◌∷◌, ◌++◌, map, Option, None, Some, ⊤}
+use Rattle.std.specs.Prelude.{◌≡◌, ◌+◌, ℕ, List, [], ◌∷◌, ◌++◌, map, Option, None, Some, ⊤}
 use Rattle.std.specs.FinSet as set
 use Rattle.kc_graph.specs.SimpleGraph.{SimpleGraph}
 use Rattle.kc_graph.specs.Core.{AreCoreNumbers, greatest}
 use Rattle.kc_text.specs.declared.change.Change.{Change}
 use Rattle.kc_text.specs.Meaning.{Means, Meaning, Refuses, Told, batches, meaning, names}
-use Rattle.kc_text.specs.Inputs.{AreIds, numbered_change, start_graph}
+use Rattle.kc_text.specs.Inputs.{AreIds, EdgeUpdate, numbered_change, start_graph}
 use Rattle.kc_text.specs.Overruling.{deciding, overruled}
 use Rattle.kc_hindex.specs.Rounds.{AreRounds}
 use Rattle.kc_report.specs.Lines.{batch_line, core_lines, graph_line, level_lines, rounds_line}
@@ -18,7 +18,7 @@ use Rattle.kc_output.specs.declared.start.Start.TheVariants.{Buckets, Hindex}
 
 -- a batch between the numbers that stand for the ids: the updates that decide, and how many others they overrule
 pub record Batch : Type 0 where
-  pub updates : List (Bool × ℕ × ℕ)
+  pub updates : List EdgeUpdate
   pub overruled : ℕ
 
 -- the graph after a batch

@@ -11,7 +11,8 @@ use Rattle.kc_graph.specs.declared.update.Update.{Update}
 use Rattle.kc_text.specs.declared.change.Change.{Change}
 use Rattle.kc_text.specs.declared.input.Input.{Input}
 use Rattle.kc_text.specs.declared.reading.Reading.{Reading}
-use Rattle.kc_text.specs.Inputs.{AreAmong, AreEdges, AreIds, AreUpdates, IsBatch, IsInput, edge_of, numbered_change, parts_of, place, start_graph}
+use Rattle.kc_text.specs.Inputs.{AreAmong, AreEdges, AreIds, AreUpdates, EdgeUpdate, IsBatch, IsInput, edge_of, numbered_change, parts_of, place}
+use Rattle.kc_text.specs.Inputs.{start_graph}
 use Rattle.kc_text.specs.Meaning.{Means, Told, batches, changes, ends, ends_of, meaning, name_same, names}
 use Rattle.kc_text.specs.Readers.{outcome}
 use Rattle.kc_text.specs.Batches.{NamesOnce}
@@ -39,15 +40,15 @@ update-at ids batch updates same among i d l =
     let count : length updates ≡ length batch = sym (length-map updates parts_of) ∙ (ap (length) same ∙ length-map batch (numbered_change ids)) in
     let l' : i < length batch = omega arith in
     let parts : parts_of (get_or updates i d) ≡ numbered_change ids (get_or batch i no_change) =
-    sym (get_or-map parts_of updates i d (parts_of d) l) ∙ ap (λ (t : List (Bool × ℕ × ℕ)). get_or t i (parts_of d)) same
+    sym (get_or-map parts_of updates i d (parts_of d) l) ∙ ap (λ (t : List EdgeUpdate). get_or t i (parts_of d)) same
     ∙ get_or-map (numbered_change ids) batch i no_change (parts_of d) l' in
     let (a, b) = change_ends batch i no_change l' in (
       l',
       record {
         a-in = among _ a;
         b-in = among _ b;
-        least = ap (λ (p : Bool × ℕ × ℕ). p.1) parts;
-        most = ap (λ (p : Bool × ℕ × ℕ). p.2) parts;
+        least = ap (λ (p : EdgeUpdate). p.u) parts;
+        most = ap (λ (p : EdgeUpdate). p.v) parts;
       },
     )
 
@@ -128,11 +129,11 @@ made-of f vectors lists e = through vectors ∙ ap (map f) e
     through (batch ∷ vectors) = ap (λ t. f batch.items ∷ t) (through vectors)
 
 -- the sign and the ends of each update, batch by batch
-abbrev pub parts_of_all : List (Vec Update Global) → List (List (Bool × ℕ × ℕ))
+abbrev pub parts_of_all : List (Vec Update Global) → List (List EdgeUpdate)
 parts_of_all updates = map (λ batch. map parts_of batch.items) updates
 
 -- the changes of a batch that decide, between the numbers that stand for their ids
-abbrev pub numbered_deciding : List ℕ → List Change → List (Bool × ℕ × ℕ)
+abbrev pub numbered_deciding : List ℕ → List Change → List EdgeUpdate
 numbered_deciding ids batch = map (numbered_change ids) (deciding batch)
 
 -- one batch of updates is the changes of one batch that decide
@@ -144,7 +145,7 @@ updates-at ids updates lists same i d l =
     let l' : i < length lists = omega arith in (
       l',
       sym (get_or-map (λ (batch : Vec Update Global). map parts_of batch.items) updates i d (map parts_of d.items) l)
-          ∙ ap (λ (t : List (List (Bool × ℕ × ℕ))). get_or t i (map parts_of d.items)) same
+          ∙ ap (λ (t : List (List EdgeUpdate)). get_or t i (map parts_of d.items)) same
           ∙ get_or-map (numbered_deciding ids) lists i [] (map parts_of d.items) l',
     )
 

@@ -11,7 +11,7 @@ use Rattle.std.proofs.lemmas.Simd.{map-map}
 use Rattle.kc_graph.specs.declared.update.Update.{Update}
 use Rattle.kc_text.specs.declared.change.Change.{Change}
 use Rattle.kc_text.specs.Deciding.{last_of_edges, same_edge}
-use Rattle.kc_text.specs.Inputs.{AreAmong, AreUpdates, numbered_change, parts_of, place}
+use Rattle.kc_text.specs.Inputs.{AreAmong, AreUpdates, EdgeUpdate, numbered_change, parts_of, place}
 use Rattle.kc_text.specs.Meaning.{ends, ends_of, name_same}
 use Rattle.kc_text.specs.Overruling.{deciding, overruled}
 use Rattle.kc_text.proofs.Batched.{IsUpdate, named-again, parts_of_all, update-at}
@@ -75,13 +75,13 @@ last-deciding ids [] (u ∷ us) are among = absurd (omega (arith, ap (length) ar
 last-deciding ids (c ∷ cs) [] are among = absurd (omega (arith, ap (length) are))
 last-deciding ids (c ∷ cs) (u ∷ us) are among =
     let rest : AreUpdates ids (deciding cs) (last_of_edges us) = last-deciding ids cs us (tail-updates ids c cs u us are) (tail-among ids c cs among) in
-    let first : parts_of u ≡ numbered_change ids c = ap (λ (t : List (Bool × ℕ × ℕ)). get_or t 0 (parts_of u)) are in
+    let first : parts_of u ≡ numbered_change ids c = ap (λ (t : List EdgeUpdate). get_or t 0 (parts_of u)) are in
     ap (λ b. map parts_of (cond b (last_of_edges us) (u ∷ last_of_edges us)))
     (any-same ids u c cs us (head-update ids c cs u us are among) (tail-updates ids c cs u us are) (tail-among ids c cs among))
     ∙ elim (list_any (name_same c) cs) as (λ b. map parts_of (cond b (last_of_edges us) (u ∷ last_of_edges us)) ≡ map (numbered_change ids)
     (cond b (deciding cs) (c ∷ deciding cs))) [
       | true ↦ rest
-      | false ↦ ap₂ (λ (x : Bool × ℕ × ℕ) (t : List (Bool × ℕ × ℕ)). x ∷ t) first rest
+      | false ↦ ap₂ (λ (x : EdgeUpdate) (t : List EdgeUpdate). x ∷ t) first rest
     ]
 
 -- there are as many updates as changes
@@ -106,7 +106,7 @@ each-batch ids P Q f [] [] are h = All-nil (λ batch. Q batch.items)
 each-batch ids P Q f [] (u ∷ us) are h = absurd (omega (arith, ap (length) are))
 each-batch ids P Q f (c ∷ cs) [] are h = absurd (omega (arith, ap (length) are))
 each-batch ids P Q f (c ∷ cs) (u ∷ us) are h =
-    All-cons (λ batch. Q batch.items) u us (f c.items u.items (ap (λ (t : List (List (Bool × ℕ × ℕ))). get_or t 0 []) are) (h 0 c (omega arith)))
+    All-cons (λ batch. Q batch.items) u us (f c.items u.items (ap (λ (t : List (List EdgeUpdate)). get_or t 0 []) are) (h 0 c (omega arith)))
     (each-batch ids P Q f cs us (ap (drop 1) are) (λ i d l. h (suc i) d (omega arith)))
 
 -- what is made of each batch of updates is what is made of its changes, if it is so for one batch
@@ -118,7 +118,7 @@ made-alike ids P f g same [] [] are h = refl
 made-alike ids P f g same [] (u ∷ us) are h = absurd (omega (arith, ap (length) are))
 made-alike ids P f g same (c ∷ cs) [] are h = absurd (omega (arith, ap (length) are))
 made-alike {X = X} ids P f g same (c ∷ cs) (u ∷ us) are h =
-    ap₂ (λ (x : X) (t : List X). x ∷ t) (same c.items u.items (ap (λ (t : List (List (Bool × ℕ × ℕ))). get_or t 0 []) are) (h 0 c (omega arith)))
+    ap₂ (λ (x : X) (t : List X). x ∷ t) (same c.items u.items (ap (λ (t : List (List EdgeUpdate)). get_or t 0 []) are) (h 0 c (omega arith)))
     (made-alike ids P f g same cs us (ap (drop 1) are) (λ i d l. h (suc i) d (omega arith)))
 
 -- the ends of a batch's changes are among the ids

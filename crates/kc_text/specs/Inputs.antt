@@ -42,13 +42,23 @@ pub record AreEdges (g : SimpleGraph) (pairs : List (ℕ × ℕ)) : Type 0 where
   pub within : All (λ p. (p.0 < p.1) × (p.1 < g.size)) pairs
   pub exact : set.from_list pairs ≡ g.edges
 
+-- An edge that is to come, where `add` holds, or to go: the one between `u` and `v`. It is what an `Update` says, of any two numbers.
+pub record EdgeUpdate : Type 0 where
+  pub add : Bool
+  pub u : ℕ
+  pub v : ℕ
+
 -- the sign and the ends of an update
-abbrev pub parts_of : Update → Bool × ℕ × ℕ
-parts_of update = (update.add, update.u, update.v)
+abbrev pub parts_of : Update → EdgeUpdate
+parts_of update = record { add = update.add; u = update.u; v = update.v }
 
 -- the sign of a change, and the numbers that stand for its ids, the lesser one first
-abbrev pub numbered_change : List ℕ → change.Change → Bool × ℕ × ℕ
-numbered_change ids c = (c.add, min (place ids c.a) (place ids c.b), max (place ids c.a) (place ids c.b))
+abbrev pub numbered_change : List ℕ → change.Change → EdgeUpdate
+numbered_change ids c = record {
+  add = c.add;
+  u = min (place ids c.a) (place ids c.b);
+  v = max (place ids c.a) (place ids c.b);
+}
 
 -- the updates are those changes
 abbrev pub AreUpdates : List ℕ → List change.Change → List Update → Type 0

@@ -1,10 +1,10 @@
 -- What is read has a count for each batch, and its edges join vertices that there are.
-use Rattle.std.proofs.Common.{◌≡◌, ◌<◌, ◌≤◌, ℕ, Bool, List, [], ◌∷◌, length, map, flat_map, refl, sym, ap, subst, ◌∙◌, arith, length-append, Vec, Global}
+use Rattle.std.proofs.Common.{◌≡◌, ◌<◌, ◌≤◌, ℕ, List, [], ◌∷◌, length, map, flat_map, refl, sym, ap, subst, ◌∙◌, arith, length-append, Vec, Global}
 use Rattle.std.specs.Prelude.{All}
 use Rattle.std.proofs.lemmas.List.{length-map}
 use Rattle.std.proofs.lemmas.List.Sums.{sum_by-cons}
 use Rattle.kc_graph.specs.declared.update.Update.{Update}
-use Rattle.kc_text.specs.Inputs.{IsInput, numbered_change, parts_of, start_graph}
+use Rattle.kc_text.specs.Inputs.{EdgeUpdate, IsInput, numbered_change, parts_of, start_graph}
 use Rattle.kc_text.specs.Meaning.{Means, Told, batches, meaning}
 use Rattle.kc_text.specs.Overruling.{deciding, overruled}
 use Rattle.kc_text.specs.declared.change.Change.{Change}
@@ -32,12 +32,12 @@ counted told input is =
     ∙ length-map (batches told) (λ (batch : List Change). map (numbered_change input.ids.items) (deciding batch)))
 
 -- the first of several batches, and an empty one where there is none
-abbrev first_of : List (List (Bool × ℕ × ℕ)) → List (Bool × ℕ × ℕ)
+abbrev first_of : List (List EdgeUpdate) → List EdgeUpdate
 first_of [] = []
 first_of (x ∷ xs) = x
 
 -- all batches but the first
-abbrev rest_of : List (List (Bool × ℕ × ℕ)) → List (List (Bool × ℕ × ℕ))
+abbrev rest_of : List (List EdgeUpdate) → List (List EdgeUpdate)
 rest_of [] = []
 rest_of (x ∷ xs) = xs
 
@@ -50,7 +50,7 @@ few-decide ids [] (b ∷ told) e = absurd (omega (arith, ap length e))
 few-decide ids (u ∷ updates) [] e = absurd (omega (arith, ap length e))
 few-decide ids (u ∷ updates) (b ∷ told) e =
     let here : length u.items ≡ length (deciding b) =
-    sym (length-map u.items parts_of) ∙ (ap (λ (xs : List (List (Bool × ℕ × ℕ))). length (first_of xs)) e ∙ length-map (deciding b) (numbered_change ids)) in
+    sym (length-map u.items parts_of) ∙ (ap (λ (xs : List (List EdgeUpdate)). length (first_of xs)) e ∙ length-map (deciding b) (numbered_change ids)) in
     omega (
       arith,
       sum_by-cons (λ (xs : List Update). length xs) u.items (map (λ batch. batch.items) updates),
