@@ -1,5 +1,6 @@
 -- The next of several batches, which are taken in turn.
 use Rattle.std.proofs.Common.{◌≡◌, ◌≤◌, ◌<◌, ◌+◌, ℕ, List, [], ◌∷◌, ◌++◌, length, map, get_or, take, sym, ap, ◌∙◌, subst, arith, Vec, Global}
+use Rattle.std.specs.Prelude.{All}
 use Rattle.std.proofs.lemmas.List.{get_or-map, length-map, take_more}
 use Rattle.std.proofs.lemmas.List.Sums.{sum_by_more, sum_by_more_le}
 use Rattle.kc_graph.specs.declared.update.Update.{Update}
@@ -16,6 +17,16 @@ pub record IsNext (batches : List (Vec Update Global)) (i : ℕ) (updates : List
   pub here : batch ≡ get_or batches i batch
   pub is : updates ≡ batch.items
 
+-- what is read at a place of these batches is the next of them
+pub next-read : (read batches : List (Vec Update Global)) (i : ℕ) (batch : Vec Update Global) (updates : List Update) → read ≡ batches
+    → i < length read → batch ≡ get_or read i batch → updates ≡ batch.items → IsNext batches i updates
+next-read read batches i batch updates same low here is = record {
+  batch = batch;
+  low = omega (arith, low, ap length same);
+  here = here ∙ ap (λ (bs : List (Vec Update Global)). get_or bs i batch) same;
+  is = is;
+}
+
 module _ (batches : List (Vec Update Global)) (i : ℕ) (updates : List Update) (next : IsNext batches i updates) where
   low : i < length (lists batches)
   low = omega (arith, next.low, length-map batches (λ (batch : Vec Update Global). batch.items))
@@ -23,6 +34,10 @@ module _ (batches : List (Vec Update Global)) (i : ℕ) (updates : List Update) 
   at-place : get_or (lists batches) i [] ≡ updates
   at-place = get_or-map (λ (batch : Vec Update Global). batch.items) batches i next.batch [] next.low
       ∙ (ap (λ (batch : Vec Update Global). batch.items) (sym next.here) ∙ sym next.is)
+
+  -- what holds of each batch holds of it
+  pub holds-next : (P : List Update → Type 0) → All (λ (batch : Vec Update Global). P batch.items) batches → P updates
+  holds-next P all = subst P (sym (next.is ∙ ap (λ (batch : Vec Update Global). batch.items) next.here)) (all i next.batch next.low)
 
   -- with it there is one more
   pub one-more : take (i + 1) (lists batches) ≡ take i (lists batches) ++ updates ∷ []

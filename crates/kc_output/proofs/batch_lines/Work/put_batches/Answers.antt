@@ -1,42 +1,30 @@
 -- One batch more, whose line and what is shown after it come next.
-use Rattle.std.proofs.Common.{◌≡◌, ◌+◌, ◌<◌, ◌≤◌, ◌++◌, ℕ, List, [], drop, get_or, length, take, sym, ap, ap₂, subst, ◌∙◌, arith, append_assoc, Vec, Global}
+use Rattle.std.proofs.Common.{◌≡◌, ◌+◌, ◌≤◌, ◌++◌, ℕ, List, [], drop, get_or, length, take, sym, ap, ap₂, subst, ◌∙◌, arith, append_assoc, Vec, Global}
 use Rattle.std.proofs.lemmas.List.{drop_all, get_or_default, length-map, take_all}
 use Rattle.kc_graph.specs.SimpleGraph.{SimpleGraph}
 use Rattle.kc_graph.specs.declared.update.Update.{Update}
 use Rattle.kc_text.specs.Inputs.{IsBatch}
 use Rattle.kc_batch.specs.Batches.{receipts_in}
 use Rattle.kc_course.specs.Courses.{HasWorked}
-use Rattle.kc_course.specs.Entered.{update_count}
 use Rattle.kc_output.specs.Limits.{counted_batch, counted_batches, lists_of}
 use Rattle.kc_output.specs.Screens.{HasShown}
 use Rattle.kc_output.specs.Text.{Batch, TellsBatches, line_about, shown_each}
-use Rattle.kc_output.proofs.InTurn.{IsNext, count-more, count-within, one-more}
+use Rattle.kc_output.proofs.InTurn.{count-more, count-within, holds-next, next-read, one-more}
 use Rattle.kc_output.proofs.Telling.{tells-next, tells-none}
 use Rattle.kc_output.proofs.batch_lines.Work.put_batches.Goals as goal
 
 pub put_batch-requires-clause-batch : goal.put_batch-requires-clause-batch
 put_batch-requires-clause-batch g c =
-    let xs : List (Vec Update Global) = c.args.batches.now.updates.items in
-    let i : ℕ = c.loop-updates.updates-index in
-    let l : i < length xs = omega (arith, c.loop-updates-test.true, ap length c.deref-updates-items.ensures.value) in
-    let same : (get_or xs i c.updates-item.result).items ≡ c.deref.result.now =
-    ap (λ (b : Vec Update Global). b.items)
-    (sym (c.updates-item.is ∙ ap (λ (ys : List (Vec Update Global)). get_or ys i c.updates-item.result) c.deref-updates-items.ensures.value))
-    ∙ sym c.deref.ensures.value in
+    let next = next-read _ c.args.batches.now.updates.items _ _ _ c.deref-updates-items.ensures.value c.loop-updates-test.true c.updates-item.is
+    c.deref.ensures.value in
     λ _ _. subst (λ n. IsBatch n c.deref.result.now) (sym c.loop-updates.invariant.size)
-    (subst (λ us. IsBatch c.args.course.journal.graph.size us) same (c.requires.within.sound i c.updates-item.result l))
+    (holds-next _ _ _ next (IsBatch c.args.course.journal.graph.size) c.requires.within.sound)
 
 pub put_batch-requires-clause-indices : goal.put_batch-requires-clause-indices
 put_batch-requires-clause-indices g c =
-    let xs : List (Vec Update Global) = c.args.batches.now.updates.items in
-    let i : ℕ = c.loop-updates.updates-index in
-    let l : i < length xs = omega (arith, c.loop-updates-test.true, ap length c.deref-updates-items.ensures.value) in
-    let here : c.updates-item.result ≡ get_or xs i c.updates-item.result =
-    c.updates-item.is ∙ ap (λ (ys : List (Vec Update Global)). get_or ys i c.updates-item.result) c.deref-updates-items.ensures.value in
-    let next : IsNext xs i c.deref.result.now = record { batch = c.updates-item.result; low = l; here = here; is = c.deref.ensures.value } in
-    let within : update_count (take i (lists_of c.args.batches.now)) + length c.deref.result.now ≤ update_count (lists_of c.args.batches.now) =
-    count-within xs i c.deref.result.now next in
-    omega (arith, within, c.loop-updates.invariant.entries, c.requires.within.few_updates)
+    let next = next-read _ c.args.batches.now.updates.items _ _ _ c.deref-updates-items.ensures.value c.loop-updates-test.true c.updates-item.is
+    c.deref.ensures.value in
+    omega (arith, count-within _ _ _ next, c.loop-updates.invariant.entries, c.requires.within.few_updates)
 
 pub loop-updates-preserved : goal.loop-updates-preserved
 loop-updates-preserved g c =
@@ -45,13 +33,9 @@ loop-updates-preserved g c =
     let i : ℕ = c.loop-updates.updates-index in
     let n : ℕ = c.index-overruled.result.now in
     let us : List Update = c.deref.result.now in
-    let l : i < length xs = omega (arith, c.loop-updates-test.true, ap length c.deref-updates-items.ensures.value) in
-    let short : i < length counts = omega (arith, l, c.requires.within.counted) in
-    let here : c.updates-item.result ≡ get_or xs i c.updates-item.result =
-    c.updates-item.is ∙ ap (λ (ys : List (Vec Update Global)). get_or ys i c.updates-item.result) c.deref-updates-items.ensures.value in
-    let next : IsNext xs i us = record { batch = c.updates-item.result; low = l; here = here; is = c.deref.ensures.value } in
+    let next = next-read _ xs i _ us c.deref-updates-items.ensures.value c.loop-updates-test.true c.updates-item.is c.deref.ensures.value in
     let count : n ≡ get_or counts i 0 = c.index-overruled.ensures ∙ ap (λ (k : ℕ). get_or counts k n) c.loop-updates.invariant.counted
-    ∙ get_or_default counts i n 0 short in
+    ∙ get_or_default counts i n 0 (omega (arith, next.low, c.requires.within.counted)) in
     let ids : List ℕ = c.args.batches.now.ids.items in
     let core : List ℕ = c.in_ok-course.course.journal.levels.core in
     let line : List ℕ = line_about (c.loop-updates.number + 1) c.loop-updates.course.journal.graph (counted_batch us n) core in
@@ -70,7 +54,7 @@ loop-updates-preserved g c =
       started = c.in_ok-course.ensures.started ∙ c.loop-updates.invariant.started;
       entries = c.in_ok-course.ensures.entries ∙ (ap (λ (k : ℕ). k + length us) c.loop-updates.invariant.entries ∙ sym (count-more xs i us next));
       rest = λ after last tells. c.loop-updates.invariant.rest after last
-          (tells-next xs counts i c.updates-item.result us n l c.requires.within.counted here c.deref.ensures.value count shown
+          (tells-next xs counts i us n next c.requires.within.counted count shown
           (c.loop-updates.number + 1) c.loop-updates.course.journal.graph c.in_ok-course.course.journal.graph
           c.loop-updates.course.journal.levels.core core c.loop-updates.text.items c.put_shown.new.text.items after last c.in_ok-course.ensures.graph
           c.core_numbers.ensures.seidman text tells);
