@@ -13,7 +13,8 @@ use Rattle.kc_distinct.proofs.Shared.{member-grown_other}
 use Rattle.kc_cert.specs.Local.{firsts, seconds}
 use Rattle.kc_cert.proofs.Final.{filter-has}
 use Rattle.kc_cert.proofs.Turns.{length-firsts}
-use Rattle.kc_insert.specs.Marks.{mark_of, earlier_in, later_in, turn_in, candidate_in, weak_in}
+use Rattle.kc_hash.specs.Maps.{value_of}
+use Rattle.kc_insert.specs.Marks.{earlier_in, later_in, turn_in, candidate_in, weak_in}
 use Rattle.kc_insert.specs.Rising.{is_queued, earlier_at, later_at, turn_at, is_candidate, is_weak, cands, left, IsOrderly}
 use Rattle.kc_insert.specs.Turns.{loses_later, loses_earlier, taken_from, recounted, grown, Recounts, LosesOne, Loses}
 use Rattle.kc_insert.specs.declared.losing.Loss.{Loss}
@@ -41,7 +42,7 @@ candidate_in-some (Some m) c = refl
 
 -- a candidate was queued
 pub cand-queued : (r : Rising) → IsOrderly r → (y : ℕ) → is_candidate r y ≡ true → member y r.queue.items ≡ true
-cand-queued r o y c = sym (o.marked y) ∙ candidate_in-some (mark_of r.marks y) c
+cand-queued r o y c = sym (o.marked y) ∙ candidate_in-some (value_of r.marks y) c
 
 -- where the second of two truths has the first with it, both are the second
 both : (m p : Bool) → (p ≡ true → m ≡ true) → (m && p) ≡ p
@@ -120,7 +121,7 @@ kept-weak (Evicted turn) m =
     [ true ↦ refl | false ↦ refl ]
 
 -- the earlier count of a mark that loses is less by one where it loses an earlier one
-taken-earlier : (loss : Loss) (r : Rising) (y : ℕ) (m : Mark) → mark_of r.marks y ≡ Some m
+taken-earlier : (loss : Loss) (r : Rising) (y : ℕ) (m : Mark) → value_of r.marks y ≡ Some m
     → (taken_from loss m).earlier ≡ m.earlier - cond (loses_earlier loss r y) 1 0
 taken-earlier Settled r y m is = omega arith
 taken-earlier (Evicted turn) r y m is =
@@ -130,7 +131,8 @@ taken-earlier (Evicted turn) r y m is =
     [ true ↦ omega arith | false ↦ refl ])
 
 -- the later count of a mark that loses is less by one where it loses a later one
-taken-later : (loss : Loss) (r : Rising) (y : ℕ) (m : Mark) → mark_of r.marks y ≡ Some m → (taken_from loss m).later ≡ m.later - cond (loses_later loss r y) 1 0
+taken-later : (loss : Loss) (r : Rising) (y : ℕ) (m : Mark) → value_of r.marks y ≡ Some m
+    → (taken_from loss m).later ≡ m.later - cond (loses_later loss r y) 1 0
 taken-later Settled r y m is = rw is refl
 taken-later (Evicted turn) r y m is =
     rw is
@@ -156,7 +158,7 @@ found-no : (w c : Bool) (a b : ℕ) → (not w && (c && leb a b)) ≡ false → 
 found-no w c a b h hc hw = grind arith
 
 -- a vertex without a mark loses nothing
-lost-unmarked : (level : ℕ) (loss : Loss) (y : ℕ) (old : Rising) → mark_of old.marks y ≡ None → Lost level loss y false old old
+lost-unmarked : (level : ℕ) (loss : Loss) (y : ℕ) (old : Rising) → value_of old.marks y ≡ None → Lost level loss y false old old
 lost-unmarked level loss y old none = record {
   queued = λ z. refl;
   candidates = λ z. refl;
@@ -184,11 +186,11 @@ lost-unmarked level loss y old none = record {
 }
 
 -- a vertex with a mark loses, and is found weak where its counts are then up to the level
-lost-marked : (level : ℕ) (loss : Loss) (y : ℕ) (m : Mark) (old new : Rising) → mark_of old.marks y ≡ Some m → Recounts level y (taken_from loss m) old new
+lost-marked : (level : ℕ) (loss : Loss) (y : ℕ) (m : Mark) (old new : Rising) → value_of old.marks y ≡ Some m → Recounts level y (taken_from loss m) old new
     → Lost level loss y (not m.is_weak && (m.is_candidate && leb ((taken_from loss m).earlier + (taken_from loss m).later) level)) old new
 lost-marked level loss y m old new is r =
     let m' : Mark = taken_from loss m in
-    let here : mark_of new.marks y ≡ Some (recounted level m') = r.marks.here in
+    let here : value_of new.marks y ≡ Some (recounted level m') = r.marks.here in
     let sum : earlier_at new y + later_at new y ≡ m'.earlier + m'.later = ap (λ (o : Option Mark). earlier_in o + later_in o) here in
     let c' : m'.is_candidate ≡ m.is_candidate = kept-candidate loss m in
     let w' : m'.is_weak ≡ m.is_weak = kept-weak loss m in
@@ -267,7 +269,7 @@ lost-marked level loss y m old new is r =
 
 -- a vertex loses, and is found weak or not, whether it has a mark or none
 lost : (level : ℕ) (loss : Loss) (y : ℕ) (old new : Rising) → LosesOne level loss y old new → (found : Bool) × Lost level loss y found old new
-lost level loss y old new l = elim (cases_mark (mark_of old.marks y)) [
+lost level loss y old new l = elim (cases_mark (value_of old.marks y)) [
   | inl none ↦ (false, subst (Lost level loss y false old) (sym (l.unmarked none)) (lost-unmarked level loss y old none))
   | inr some ↦ (_, lost-marked level loss y some.0 old new some.1 (l.marked some.0 some.1))
 ]

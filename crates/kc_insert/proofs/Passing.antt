@@ -14,7 +14,8 @@ use Rattle.kc_cert.specs.Local.{firsts, seconds}
 use Rattle.kc_cert.specs.Ranks.{AscendsBy}
 use Rattle.kc_view.specs.Answers.{has_core}
 use Rattle.kc_view.specs.Views.{Shown}
-use Rattle.kc_insert.specs.Marks.{mark_of, earlier_in, later_in, turn_in, candidate_in, weak_in}
+use Rattle.kc_hash.specs.Maps.{value_of}
+use Rattle.kc_insert.specs.Marks.{earlier_in, later_in, turn_in, candidate_in, weak_in}
 use Rattle.kc_insert.specs.Rising.{is_queued, earlier_at, later_at, turn_at, is_candidate, is_weak, left, IsOrderly, IsTidyRising}
 use Rattle.kc_insert.specs.Turns.{MarksOne, Passes, PassedOn, IsPlaceWithin}
 use Rattle.kc_insert.specs.declared.rising.Mark.{Mark}
@@ -237,7 +238,7 @@ passes-ascends rank x place queue new e out le p apart up =
     (λ z m k. true≢false (sym m ∙ (ap (λ n. member n queue) (apart z m k) ∙ out))))
 
 -- a vertex that was never queued gets its first candidate before it where it is queued
-pub enqueued-passes : (x place : ℕ) (old new : Rising) → mark_of old.marks x ≡ None
+pub enqueued-passes : (x place : ℕ) (old new : Rising) → value_of old.marks x ≡ None
     → MarksOne x (record { earlier = 1; later = 0; turn = 0; is_candidate = false; is_weak = false }) old new
     → new.queue.items ≡ insert old.queue.items place x
     → (new.turn ≡ old.turn) × (new.weak.items ≡ old.weak.items) × (new.shifts.items ≡ old.shifts.items) → old.turn ≤ place

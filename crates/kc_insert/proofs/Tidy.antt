@@ -11,9 +11,9 @@ use Rattle.kc_graph.specs.declared.update.Update.{Update}
 use Rattle.kc_graph.specs.declared.used.UsedOrder.{UsedOrder}
 use Rattle.kc_view.specs.Answers.{Answers, has_list, has_core, with_order}
 use Rattle.kc_cert.specs.Local.{firsts, seconds}
-use Rattle.kc_view.specs.Sure.{is_listed, AsksCores}
+use Rattle.kc_view.specs.Sure.{is_listed, AsksCores, AsksOneList}
 use Rattle.kc_view.specs.Views.{Shown, Further, TellsList, TellsCore}
-use Rattle.kc_view.proofs.Asked.{cores-more, cores-listed}
+use Rattle.kc_view.proofs.Asked.{cores-more, cores-listed, cores-none}
 use Rattle.kc_view.proofs.Fronts.{take-member}
 use Rattle.kc_view.proofs.Keeping.{still_has_list, still_has_core}
 use Rattle.kc_insert.specs.Marks.{candidate_in, turn_in, weak_in}
@@ -21,6 +21,13 @@ use Rattle.kc_insert.specs.Rising.{is_queued, is_candidate, is_weak, turn_at, le
 use Rattle.kc_insert.specs.Turns.{Leaves}
 use Rattle.kc_insert.specs.declared.rising.Mark.{Mark}
 use Rattle.kc_insert.specs.declared.rising.Rising.{Rising}
+
+-- where the list of the lesser end alone was asked, nobody need be queued
+pub asks-first : (update : Update) (a : Answers) → AsksOneList a update.u → AsksQueued update a []
+asks-first update a asks = record {
+  lists = All-weaker (λ e. e.vertex ≡ update.u) (λ e. (e.vertex ≡ update.u) ⊎ (member e.vertex [] ≡ true)) (λ e k. inl k) a.edges asks.lists;
+  cores = cores-none update a update.u asks;
+}
 
 -- one list more, of the lesser end or a queued vertex, is one that may be asked
 pub asks-list : (update : Update) (a b : Answers) (queue : List ℕ) (y : ℕ) → AsksQueued update a queue → TellsList a b y

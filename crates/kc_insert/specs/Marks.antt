@@ -1,17 +1,6 @@
 -- What is kept of the vertices that were queued.
-use Rattle.std.specs.Prelude.{ℕ, Bool, false, Option, Some, None, nat_eq}
-use Rattle.std.specs.declared.hash.BuildHasherDefault.{BuildHasherDefault}
-use Rattle.std.specs.HashMap.{get, HashMap}
-use Rattle.kc_hash.specs.declared.VertexHasher.{VertexHasher}
+use Rattle.std.specs.Prelude.{ℕ, Bool, false, Option, Some, None}
 use Rattle.kc_insert.specs.declared.rising.Mark.{Mark}
-
--- a mark for each vertex that has one
-abbrev pub Marks : Type 0
-Marks = HashMap ℕ Mark (BuildHasherDefault VertexHasher)
-
--- the mark of `y`, if it was queued
-abbrev pub mark_of : Marks → ℕ → Option Mark
-mark_of marks y = get nat_eq marks y
 
 -- what a mark says
 abbrev pub earlier_in : Option Mark → ℕ

@@ -7,32 +7,33 @@ use Rattle.kc_cert.specs.Local.{firsts, seconds}
 use Rattle.kc_view.specs.Answers.{Answers, has_list, has_core}
 use Rattle.kc_view.specs.Sure.{AsksCores}
 use Rattle.kc_view.specs.Views.{Shown}
-use Rattle.kc_insert.specs.Marks.{mark_of, earlier_in, later_in, turn_in, candidate_in, weak_in}
+use Rattle.kc_hash.specs.Maps.{value_of}
+use Rattle.kc_insert.specs.Marks.{earlier_in, later_in, turn_in, candidate_in, weak_in}
 use Rattle.kc_insert.specs.declared.rising.Rising.{Rising}
 
 -- whether `y` was ever queued
 abbrev pub is_queued : Rising → ℕ → Bool
-is_queued r y = is_some (mark_of r.marks y)
+is_queued r y = is_some (value_of r.marks y)
 
 -- how many neighbours of `y` are candidates that stand before it, as its mark says
 abbrev pub earlier_at : Rising → ℕ → ℕ
-earlier_at r y = earlier_in (mark_of r.marks y)
+earlier_at r y = earlier_in (value_of r.marks y)
 
 -- how many neighbours of `y` are higher, or stand behind it and may still rise, as its mark says
 abbrev pub later_at : Rising → ℕ → ℕ
-later_at r y = later_in (mark_of r.marks y)
+later_at r y = later_in (value_of r.marks y)
 
 -- the place of `y` in the queue, as its mark says
 abbrev pub turn_at : Rising → ℕ → ℕ
-turn_at r y = turn_in (mark_of r.marks y)
+turn_at r y = turn_in (value_of r.marks y)
 
 -- whether `y` may rise, as its mark says
 abbrev pub is_candidate : Rising → ℕ → Bool
-is_candidate r y = candidate_in (mark_of r.marks y)
+is_candidate r y = candidate_in (value_of r.marks y)
 
 -- whether `y` was found too weak to rise
 abbrev pub is_weak : Rising → ℕ → Bool
-is_weak r y = weak_in (mark_of r.marks y)
+is_weak r y = weak_in (value_of r.marks y)
 
 -- the candidates, in the order of the queue
 abbrev pub cands : Rising → List ℕ

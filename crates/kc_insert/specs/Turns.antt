@@ -5,7 +5,7 @@ use Rattle.std.specs.List.{insert}
 use Rattle.kc_distinct.specs.Lists.{member}
 use Rattle.kc_cert.specs.Ranks.{AscendsBy}
 use Rattle.kc_view.specs.Search.{Search, on_level, above, after, OnLevel, Forward}
-use Rattle.kc_insert.specs.Marks.{mark_of}
+use Rattle.kc_hash.specs.Maps.{value_of}
 use Rattle.kc_insert.specs.Rising.{is_queued, earlier_at, later_at, turn_at, is_candidate, is_weak, cands, left, waiting, pending}
 use Rattle.kc_insert.specs.Searching.{ahead, BetweenTurns, InSettling}
 use Rattle.kc_insert.specs.declared.losing.Loss.{Loss}
@@ -18,8 +18,8 @@ use Rattle.kc_insert.specs.declared.rising.Rising.{Rising}
 
 -- only the root is queued
 pub record Begins (root : ℕ) (r : Rising) : Type 0 where
-  pub here : mark_of r.marks root ≡ Some (record { earlier = 0; later = 0; turn = 0; is_candidate = false; is_weak = false })
-  pub others : (z : ℕ) → z ≢ root → mark_of r.marks z ≡ None
+  pub here : value_of r.marks root ≡ Some (record { earlier = 0; later = 0; turn = 0; is_candidate = false; is_weak = false })
+  pub others : (z : ℕ) → z ≢ root → value_of r.marks z ≡ None
   pub queue : r.queue.items ≡ root ∷ []
   pub turn : r.turn ≡ 0
   pub weak : r.weak.items ≡ []
@@ -27,8 +27,8 @@ pub record Begins (root : ℕ) (r : Rising) : Type 0 where
 
 -- one vertex is marked so
 pub record MarksOne (y : ℕ) (mark : Mark) (old new : Rising) : Type 0 where
-  pub here : mark_of new.marks y ≡ Some mark
-  pub others : (z : ℕ) → z ≢ y → mark_of new.marks z ≡ mark_of old.marks z
+  pub here : value_of new.marks y ≡ Some mark
+  pub others : (z : ℕ) → z ≢ y → value_of new.marks z ≡ value_of old.marks z
 
 -- `w`, which is first of those that wait, leaves the queue
 pub record Leaves (w : ℕ) (mark : Mark) (old new : Rising) : Type 0 where
@@ -109,8 +109,8 @@ pub record Recounts (level y : ℕ) (mark : Mark) (old new : Rising) : Type 0 wh
 
 -- a neighbour of `y` will not rise
 pub record LosesOne (level : ℕ) (loss : Loss) (y : ℕ) (old new : Rising) : Type 0 where
-  pub marked : (mark : Mark) → mark_of old.marks y ≡ Some mark → Recounts level y (taken_from loss mark) old new
-  pub unmarked : mark_of old.marks y ≡ None → new ≡ old
+  pub marked : (mark : Mark) → value_of old.marks y ≡ Some mark → Recounts level y (taken_from loss mark) old new
+  pub unmarked : value_of old.marks y ≡ None → new ≡ old
 
 -- a neighbour of each of `ys` will not rise
 pub record Loses (level : ℕ) (loss : Loss) (ys : List ℕ) (old new : Rising) : Type 0 where

@@ -9,8 +9,8 @@ ghost use Rattle.kc_insert.specs.Added.{search_with, is_added};
 ghost use Rattle.kc_insert.specs.Rising.{AsksQueued};
 ghost use Rattle.kc_insert.specs.Turns.{side_in, is_ahead, is_next};
 
-use kc_graph::{NoMemory, Update};
-use kc_view::{PlanFault, View, core_of, stands_before};
+use kc_graph::NoMemory;
+use kc_view::{PlanFault, Search, View, core_of, stands_before};
 use std::alloc::Global;
 
 /// Where a neighbour stands, as seen from a vertex of the level.
@@ -70,32 +70,59 @@ impl Ahead {
         }
         Ok(())
     }
+
+    /// Finds the neighbours that are higher than `w` or stand behind it on the level, among `row`, the neighbours of `w` once the edge is
+    /// there. What was ahead of another vertex is forgotten.
+    pub fn look_from<V: View>(
+        &mut self,
+        view: &mut V,
+        search: Search,
+        w: u32,
+        row: &[u32],
+    ) -> Result<(), PlanFault>
+        requires row { IsListOf (V.shown view.old).size w row.now }
+        requires has { (y : ℕ) → member y row.now ≡ (member y (list_of (V.shown view.old).kept w) || is_added search.update w y) }
+        requires placed { has_core (V.shown view.old).kept w ≡ true }
+        requires read { has_list (V.shown view.old).kept w ≡ true }
+        ensures goes_on { GoesOn (V.shown view.old) (V.shown view.new) }
+        ensures cause { IfErr result (λ fault. HasPlanCause (V.shown view.old) (V.shown view.new) fault) }
+        ensures asks { OnOk result ((queue : List ℕ) → AsksQueued search.update (V.shown view.old).kept queue
+            → AsksQueued search.update (V.shown view.new).kept queue) }
+        ensures from { OnOk result ((y : ℕ) → member y self.new.next.items ≡ true → (member y row.now ≡ true) × (has_core (V.shown view.new).kept y ≡ true)) }
+        ensures once { OnOk result (Distinct self.new.next.items) }
+        ensures count { OnOk result ((s : Ranked) → Agrees (V.shown view.new).kept s
+            → self.new.count ≡ count_by (λ y. is_ahead (side_in (search_with search.update search.level s) w y)) row.now) }
+        ensures next { OnOk result ((s : Ranked) → Agrees (V.shown view.new).kept s → (y : ℕ)
+            → member y self.new.next.items ≡ (member y row.now && is_next (side_in (search_with search.update search.level s) w y))) }
+    {
+        self.clear();
+        for x in row {
+            let side = side_of(view, search, w, *x)?;
+            self.add(*x, side)?;
+        }
+        Ok(())
+    }
 }
 
 /// Where the neighbour `x` stands, as seen from `w`.
-fn side_of<V: View>(
-    view: &mut V,
-    update: Update,
-    level: u32,
-    w: u32,
-    x: u32,
-) -> Result<Side, PlanFault>
+fn side_of<V: View>(view: &mut V, search: Search, w: u32, x: u32) -> Result<Side, PlanFault>
     requires vertex { x < (V.shown view.old).size }
     requires differ { w ≢ x }
     requires placed { has_core (V.shown view.old).kept w ≡ true }
     requires read { has_list (V.shown view.old).kept w ≡ true }
-    requires neighbour { (member x (list_of (V.shown view.old).kept w) || is_added update w x) ≡ true }
+    requires neighbour { (member x (list_of (V.shown view.old).kept w) || is_added search.update w x) ≡ true }
     ensures goes_on { GoesOn (V.shown view.old) (V.shown view.new) }
     ensures cause { IfErr result (λ fault. HasPlanCause (V.shown view.old) (V.shown view.new) fault) }
-    ensures asks { OnOk result ((queue : List ℕ) → AsksQueued update (V.shown view.old).kept queue → AsksQueued update (V.shown view.new).kept queue) }
+    ensures asks { OnOk result ((queue : List ℕ) → AsksQueued search.update (V.shown view.old).kept queue
+        → AsksQueued search.update (V.shown view.new).kept queue) }
     ensures placed { OnOk result (has_core (V.shown view.new).kept x ≡ true) }
-    ensures told { IfOk result (λ side. (s : Ranked) → Agrees (V.shown view.new).kept s → side ≡ side_in (search_with update level s) w x) }
+    ensures told { IfOk result (λ side. (s : Ranked) → Agrees (V.shown view.new).kept s → side ≡ side_in (search_with search.update search.level s) w x) }
 {
     let core = core_of(view, x)?;
-    if core > level {
+    if core > search.level {
         return Ok(Side::Higher);
     }
-    if core < level {
+    if core < search.level {
         return Ok(Side::Before);
     }
     if stands_before(view, w, x)? {
@@ -103,36 +130,4 @@ fn side_of<V: View>(
     } else {
         Ok(Side::Before)
     }
-}
-
-/// Finds the neighbours that are higher than `w` or stand behind it on the level, among `row`, the neighbours of `w` once the edge is
-/// there. What was ahead of another vertex is forgotten.
-pub(crate) fn look_ahead<V: View>(
-    view: &mut V,
-    update: Update,
-    level: u32,
-    w: u32,
-    row: &[u32],
-    ahead: &mut Ahead,
-) -> Result<(), PlanFault>
-    requires row { IsListOf (V.shown view.old).size w row.now }
-    requires has { (y : ℕ) → member y row.now ≡ (member y (list_of (V.shown view.old).kept w) || is_added update w y) }
-    requires placed { has_core (V.shown view.old).kept w ≡ true }
-    requires read { has_list (V.shown view.old).kept w ≡ true }
-    ensures goes_on { GoesOn (V.shown view.old) (V.shown view.new) }
-    ensures cause { IfErr result (λ fault. HasPlanCause (V.shown view.old) (V.shown view.new) fault) }
-    ensures asks { OnOk result ((queue : List ℕ) → AsksQueued update (V.shown view.old).kept queue → AsksQueued update (V.shown view.new).kept queue) }
-    ensures from { OnOk result ((y : ℕ) → member y ahead.new.next.items ≡ true → (member y row.now ≡ true) × (has_core (V.shown view.new).kept y ≡ true)) }
-    ensures once { OnOk result (Distinct ahead.new.next.items) }
-    ensures count { OnOk result ((s : Ranked) → Agrees (V.shown view.new).kept s
-        → ahead.new.count ≡ count_by (λ y. is_ahead (side_in (search_with update level s) w y)) row.now) }
-    ensures next { OnOk result ((s : Ranked) → Agrees (V.shown view.new).kept s → (y : ℕ)
-        → member y ahead.new.next.items ≡ (member y row.now && is_next (side_in (search_with update level s) w y))) }
-{
-    ahead.clear();
-    for x in row {
-        let side = side_of(view, update, level, w, *x)?;
-        ahead.add(*x, side)?;
-    }
-    Ok(())
 }

@@ -3,7 +3,7 @@ ghost use Rattle.std.specs.Prelude.{◌≡◌, ◌<◌, ◌++◌, ◌⊎◌, ℕ
 ghost use Rattle.kc_distinct.specs.Lists.{member};
 ghost use Rattle.kc_graph.specs.Lawful.{Ranked};
 ghost use Rattle.kc_cert.specs.Local.{moved_vertices};
-ghost use Rattle.kc_view.specs.Answers.{Agrees, nothing_answered, answers_in, has_list, list_of, has_core};
+ghost use Rattle.kc_view.specs.Answers.{Agrees, nothing_answered, answers_in, has_list, has_core};
 ghost use Rattle.kc_view.specs.Answers.{core_of as core_told};
 ghost use Rattle.kc_view.specs.Lists.{AreLists};
 ghost use Rattle.kc_view.specs.Sure.{IsSure, AreSure, NamesOnlyRead, AsksCores, AsksCoresNearby, AsksForward, anchors, root_of};
@@ -15,24 +15,9 @@ ghost use Rattle.kc_insert.specs.Sure.{AskForward};
 ghost use Rattle.kc_insert.specs.Turns.{IsBetweenTurns};
 
 use crate::rising::Rising;
-use crate::turns::take_turns;
 use kc_graph::{Moves, Plan, Update};
-use kc_view::{PlanFault, View, core_of, degree_of, is_neighbour, stands_before};
+use kc_view::{PlanFault, Search, View, core_of, has_edge, stands_before};
 use std::alloc::Global;
-
-/// Whether the list of the lesser end has the other one.
-fn has_edge<V: View>(view: &mut V, update: Update) -> Result<bool, PlanFault>
-    requires vertex { update.v < (V.shown view.old).size }
-    requires fresh { (V.shown view.old).kept ≡ nothing_answered }
-    ensures goes_on { GoesOn (V.shown view.old) (V.shown view.new) }
-    ensures cause { IfErr result (λ fault. HasPlanCause (V.shown view.old) (V.shown view.new) fault) }
-    ensures asks { OnOk result (AsksQueued update (V.shown view.new).kept []) }
-    ensures read { OnOk result (has_list (V.shown view.new).kept update.u ≡ true) }
-    ensures told { IfOk result (λ there. there ≡ member update.v (list_of (V.shown view.new).kept update.u)) }
-{
-    degree_of(view, update.u)?;
-    Ok(is_neighbour(view, update.u, update.v))
-}
 
 /// The end from which the search goes, and its core number.
 #[derive(Clone, Copy, Debug, Drop)]
@@ -90,26 +75,21 @@ fn find_root<V: View>(view: &mut V, update: Update) -> Result<Root, PlanFault>
     Ok(Root { vertex, level })
 }
 
-/// The search for the vertices that rise, to its end.
-fn find_rising<V: View>(
-    alloc: Global,
-    view: &mut V,
-    update: Update,
-    root: Root,
-) -> Result<Rising, PlanFault>
-    requires ends { update.v < (V.shown view.old).size }
-    requires end { (root.vertex ≡ update.u) ⊎ (root.vertex ≡ update.v) }
-    requires placed { has_core (V.shown view.old).kept root.vertex ≡ true }
-    requires asks { AsksQueued update (V.shown view.old).kept [] }
+/// The search for the vertices that rise, from the root to its end.
+fn find_rising<V: View>(view: &mut V, search: Search, root: u32) -> Result<Rising, PlanFault>
+    requires ends { search.update.v < (V.shown view.old).size }
+    requires end { (root ≡ search.update.u) ⊎ (root ≡ search.update.v) }
+    requires placed { has_core (V.shown view.old).kept root ≡ true }
+    requires asks { AsksQueued search.update (V.shown view.old).kept [] }
     ensures goes_on { GoesOn (V.shown view.old) (V.shown view.new) }
     ensures cause { IfErr result (λ fault. HasPlanCause (V.shown view.old) (V.shown view.new) fault) }
-    ensures tidy { IfOk result (λ rising. IsTidyRising update (V.shown view.new) rising) }
+    ensures tidy { IfOk result (λ rising. IsTidyRising search.update (V.shown view.new) rising) }
     ensures ended { IfOk result (λ rising. rising.turn ≡ length rising.queue.items) }
-    ensures turns { IfOk result (λ rising. (s : Ranked) → update.v < s.graph.size → Agrees (V.shown view.new).kept s
-        → Widened (search_with update root.level s) root.vertex → IsBetweenTurns (search_with update root.level s) root.vertex rising) }
+    ensures turns { IfOk result (λ rising. (s : Ranked) → search.update.v < s.graph.size → Agrees (V.shown view.new).kept s
+        → Widened (search_with search.update search.level s) root → IsBetweenTurns (search_with search.update search.level s) root rising) }
 {
-    let mut rising = Rising::start(alloc, root.vertex)?;
-    take_turns(alloc, view, update, root.level, &mut rising)?;
+    let mut rising = Rising::start(search.alloc, root)?;
+    rising.take_turns(view, search)?;
     Ok(rising)
 }
 
@@ -129,12 +109,17 @@ fn moves_of<V: View>(alloc: Global, view: &mut V, update: Update) -> Result<Move
         return Ok(Moves::Kept);
     }
     let root = find_root(view, update)?;
-    let rising = find_rising(alloc, view, update, root)?;
+    let level = root.level;
+    let search = Search {
+        alloc,
+        update,
+        level,
+    };
+    let rising = find_rising(view, search, root.vertex)?;
     let rise = rising.candidates(alloc)?;
     if rise.is_empty() && rising.shifts.is_empty() {
         return Ok(Moves::Plain);
     }
-    let level = root.level;
     let Rising { shifts, .. } = rising;
     Ok(Moves::Rise {
         level,

@@ -1,7 +1,7 @@
 //! What the neighbours of a vertex lose that will not rise.
 ghost use Rattle.std.specs.Prelude.{◌≡◌, ◌&&◌, not, false, Some, None, OnOk};
 ghost use Rattle.kc_distinct.specs.Lists.{Distinct};
-ghost use Rattle.kc_insert.specs.Marks.{mark_of};
+ghost use Rattle.kc_hash.specs.Maps.{value_of};
 ghost use Rattle.kc_insert.specs.Rising.{IsOrderly};
 ghost use Rattle.kc_insert.specs.Turns.{taken_from, recounted, MarksOne, LosesOne, Loses};
 ghost use Rattle.kc_insert.specs.declared.rising.Mark.{Mark};
@@ -41,50 +41,47 @@ impl Loss {
     }
 }
 
-/// The mark of the neighbour `y`, if it was ever queued, loses what it loses. Whether `y` is too weak by that comes back.
-fn weaken(y: u32, loss: Loss, level: u32, rising: &mut Rising) -> bool
-    ensures marked { (mark : Mark) → mark_of rising.old.marks y ≡ Some mark → MarksOne y (recounted level (taken_from loss mark)) rising.old rising.new
-        × (result ≡ (not (taken_from loss mark).is_weak && (recounted level (taken_from loss mark)).is_weak)) }
-    ensures unmarked { mark_of rising.old.marks y ≡ None → (rising.new ≡ rising.old) × (result ≡ false) }
-    ensures rest { (rising.new.queue.items ≡ rising.old.queue.items) × (rising.new.turn ≡ rising.old.turn)
-        × (rising.new.weak.items ≡ rising.old.weak.items) × (rising.new.shifts.items ≡ rising.old.shifts.items) }
-{
-    let Some(mark) = rising.marks.get_mut(&y) else {
-        return false;
-    };
-    let taken = loss.taken_from(*mark);
-    let is_found = !taken.is_weak && taken.is_too_weak(level);
-    *mark = Mark {
-        is_weak: taken.is_weak || is_found,
-        ..taken
-    };
-    is_found
-}
-
-/// What the neighbour `y` loses, if it was ever queued: where that makes a candidate too weak, it is put on the list of the weak.
-fn lose(y: u32, loss: Loss, level: u32, rising: &mut Rising) -> Result<(), NoMemory>
-    ensures { OnOk result (LosesOne level loss y rising.old rising.new) }
-{
-    if weaken(y, loss, level, rising) {
-        rising.weak.push(y)?;
+impl Rising {
+    /// The mark of the neighbour `y`, if it was ever queued, loses what it loses. Whether `y` is too weak by that comes back.
+    fn weaken(&mut self, y: u32, loss: Loss, level: u32) -> bool
+        ensures marked { (mark : Mark) → value_of self.old.marks y ≡ Some mark → MarksOne y (recounted level (taken_from loss mark)) self.old self.new
+            × (result ≡ (not (taken_from loss mark).is_weak && (recounted level (taken_from loss mark)).is_weak)) }
+        ensures unmarked { value_of self.old.marks y ≡ None → (self.new ≡ self.old) × (result ≡ false) }
+        ensures rest { (self.new.queue.items ≡ self.old.queue.items) × (self.new.turn ≡ self.old.turn)
+            × (self.new.weak.items ≡ self.old.weak.items) × (self.new.shifts.items ≡ self.old.shifts.items) }
+    {
+        let Some(mark) = self.marks.get_mut(&y) else {
+            return false;
+        };
+        let taken = loss.taken_from(*mark);
+        let is_found = !taken.is_weak && taken.is_too_weak(level);
+        *mark = Mark {
+            is_weak: taken.is_weak || is_found,
+            ..taken
+        };
+        is_found
     }
-    Ok(())
-}
 
-/// What each of the neighbours `row` loses.
-pub(crate) fn lose_each(
-    row: &[u32],
-    loss: Loss,
-    level: u32,
-    rising: &mut Rising,
-) -> Result<(), NoMemory>
-    requires once { Distinct row.now }
-    requires orderly { IsOrderly rising.old }
-    ensures orderly { OnOk result (IsOrderly rising.new) }
-    ensures loses { OnOk result (Loses level loss row.now rising.old rising.new) }
-{
-    for y in row {
-        lose(*y, loss, level, rising)?;
+    /// What the neighbour `y` loses, if it was ever queued: where that makes a candidate too weak, it is put on the list of the weak.
+    fn lose(&mut self, y: u32, loss: Loss, level: u32) -> Result<(), NoMemory>
+        ensures { OnOk result (LosesOne level loss y self.old self.new) }
+    {
+        if self.weaken(y, loss, level) {
+            self.weak.push(y)?;
+        }
+        Ok(())
     }
-    Ok(())
+
+    /// What each of the neighbours `row` loses.
+    pub fn lose_each(&mut self, row: &[u32], loss: Loss, level: u32) -> Result<(), NoMemory>
+        requires once { Distinct row.now }
+        requires orderly { IsOrderly self.old }
+        ensures orderly { OnOk result (IsOrderly self.new) }
+        ensures loses { OnOk result (Loses level loss row.now self.old self.new) }
+    {
+        for y in row {
+            self.lose(*y, loss, level)?;
+        }
+        Ok(())
+    }
 }

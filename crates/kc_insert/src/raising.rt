@@ -16,99 +16,101 @@ use crate::ahead::Ahead;
 use crate::rising::{Mark, Rising};
 use kc_view::{PlanFault, View, stands_before};
 
-/// The place of `x` among those that wait, which is looked for by halving.
-fn place_of<V: View>(view: &mut V, x: u32, rising: &Rising) -> Result<usize, PlanFault>
-    requires is_new { member x rising.now.queue.items ≡ false }
-    requires placed { has_core (V.shown view.old).kept x ≡ true }
-    requires tidy { (update : Update) × IsTidyRising update (V.shown view.old) rising.now }
-    ensures goes_on { GoesOn (V.shown view.old) (V.shown view.new) }
-    ensures cause { IfErr result (λ fault. HasPlanCause (V.shown view.old) (V.shown view.new) fault) }
-    ensures tidy { OnOk result ((update : Update) → IsTidyRising update (V.shown view.old) rising.now → IsTidyRising update (V.shown view.new) rising.now) }
-    ensures from { IfOk result (λ place. rising.now.turn ≤ place) }
-    ensures within { IfOk result (λ place. place ≤ length rising.now.queue.items) }
-    ensures place { IfOk result (λ place. (s : Ranked) → Agrees (V.shown view.new).kept s → AscendsBy (rank_in s.order) rising.now.queue.items
-        → ((z : ℕ) → member z (left rising.now) ≡ true → rank_in s.order z < rank_in s.order x)
-        → IsPlaceWithin (rank_in s.order) rising.now.queue.items x place place) }
-{
-    let mut low = rising.turn;
-    let mut high = rising.queue.len();
-    while low < high {
-        let middle = low + (high - low) / 2;
-        if stands_before(view, rising.queue[middle], x)? {
-            low = middle + 1;
-        } else {
-            high = middle;
+impl Rising {
+    /// The place of `x` among those that wait, which is looked for by halving.
+    fn place_of<V: View>(&self, view: &mut V, x: u32) -> Result<usize, PlanFault>
+        requires is_new { member x self.now.queue.items ≡ false }
+        requires placed { has_core (V.shown view.old).kept x ≡ true }
+        requires tidy { (update : Update) × IsTidyRising update (V.shown view.old) self.now }
+        ensures goes_on { GoesOn (V.shown view.old) (V.shown view.new) }
+        ensures cause { IfErr result (λ fault. HasPlanCause (V.shown view.old) (V.shown view.new) fault) }
+        ensures tidy { OnOk result ((update : Update) → IsTidyRising update (V.shown view.old) self.now → IsTidyRising update (V.shown view.new) self.now) }
+        ensures from { IfOk result (λ place. self.now.turn ≤ place) }
+        ensures within { IfOk result (λ place. place ≤ length self.now.queue.items) }
+        ensures place { IfOk result (λ place. (s : Ranked) → Agrees (V.shown view.new).kept s → AscendsBy (rank_in s.order) self.now.queue.items
+            → ((z : ℕ) → member z (left self.now) ≡ true → rank_in s.order z < rank_in s.order x)
+            → IsPlaceWithin (rank_in s.order) self.now.queue.items x place place) }
+    {
+        let mut low = self.turn;
+        let mut high = self.queue.len();
+        while low < high {
+            let middle = low + (high - low) / 2;
+            if stands_before(view, self.queue[middle], x)? {
+                low = middle + 1;
+            } else {
+                high = middle;
+            }
         }
+        Ok(low)
     }
-    Ok(low)
-}
 
-/// Counts one candidate more before `x`, which is of the level, and queues `x` if it never was.
-fn pass<V: View>(view: &mut V, x: u32, rising: &mut Rising) -> Result<(), PlanFault>
-    requires vertex { x < (V.shown view.old).size }
-    requires placed { has_core (V.shown view.old).kept x ≡ true }
-    requires tidy { (update : Update) × IsTidyRising update (V.shown view.old) rising.old }
-    ensures goes_on { GoesOn (V.shown view.old) (V.shown view.new) }
-    ensures cause { IfErr result (λ fault. HasPlanCause (V.shown view.old) (V.shown view.new) fault) }
-    ensures tidy { OnOk result ((update : Update) → IsTidyRising update (V.shown view.old) rising.old → IsTidyRising update (V.shown view.new) rising.new) }
-    ensures passes { OnOk result (Passes x rising.old rising.new) }
-    ensures ascends { OnOk result ((s : Ranked) → Agrees (V.shown view.new).kept s → StandsBehindLeft (rank_in s.order) rising.old [] x
-        → AscendsBy (rank_in s.order) rising.old.queue.items → AscendsBy (rank_in s.order) rising.new.queue.items) }
-{
-    let Some(mark) = rising.find(x) else {
-        let place = place_of(view, x, rising)?;
-        rising.enqueue(x, place)?;
-        return Ok(());
-    };
-    rising.count_candidate(x, mark)?;
-    Ok(())
-}
-
-/// Counts one candidate more before each of `next`, which are of the level, and queues those that never were.
-fn pass_on<V: View>(view: &mut V, next: &[u32], rising: &mut Rising) -> Result<(), PlanFault>
-    requires once { Distinct next.now }
-    requires vertices { (y : ℕ) → member y next.now ≡ true → y < (V.shown view.old).size }
-    requires placed { (y : ℕ) → member y next.now ≡ true → has_core (V.shown view.old).kept y ≡ true }
-    requires tidy { (update : Update) × IsTidyRising update (V.shown view.old) rising.old }
-    ensures goes_on { GoesOn (V.shown view.old) (V.shown view.new) }
-    ensures cause { IfErr result (λ fault. HasPlanCause (V.shown view.old) (V.shown view.new) fault) }
-    ensures tidy { OnOk result ((update : Update) → IsTidyRising update (V.shown view.old) rising.old → IsTidyRising update (V.shown view.new) rising.new) }
-    ensures passed { OnOk result (PassedOn next.now rising.old rising.new) }
-    ensures ascends { OnOk result ((s : Ranked) → Agrees (V.shown view.new).kept s
-        → ((y : ℕ) → member y next.now ≡ true → StandsBehindLeft (rank_in s.order) rising.old next.now y)
-        → AscendsBy (rank_in s.order) rising.old.queue.items → AscendsBy (rank_in s.order) rising.new.queue.items) }
-{
-    for x in next {
-        pass(view, *x, rising)?;
+    /// Counts one candidate more before `x`, which is of the level, and queues `x` if it never was.
+    fn pass<V: View>(&mut self, view: &mut V, x: u32) -> Result<(), PlanFault>
+        requires vertex { x < (V.shown view.old).size }
+        requires placed { has_core (V.shown view.old).kept x ≡ true }
+        requires tidy { (update : Update) × IsTidyRising update (V.shown view.old) self.old }
+        ensures goes_on { GoesOn (V.shown view.old) (V.shown view.new) }
+        ensures cause { IfErr result (λ fault. HasPlanCause (V.shown view.old) (V.shown view.new) fault) }
+        ensures tidy { OnOk result ((update : Update) → IsTidyRising update (V.shown view.old) self.old → IsTidyRising update (V.shown view.new) self.new) }
+        ensures passes { OnOk result (Passes x self.old self.new) }
+        ensures ascends { OnOk result ((s : Ranked) → Agrees (V.shown view.new).kept s → StandsBehindLeft (rank_in s.order) self.old [] x
+            → AscendsBy (rank_in s.order) self.old.queue.items → AscendsBy (rank_in s.order) self.new.queue.items) }
+    {
+        let Some(mark) = self.find(x) else {
+            let place = self.place_of(view, x)?;
+            self.enqueue(x, place)?;
+            return Ok(());
+        };
+        self.count_candidate(x, mark)?;
+        Ok(())
     }
-    Ok(())
-}
 
-/// The vertex `w` that waits first leaves the queue and becomes a candidate. It has `earlier` candidates before it.
-pub(crate) fn raise<V: View>(
-    view: &mut V,
-    w: u32,
-    earlier: usize,
-    ahead: &Ahead,
-    rising: &mut Rising,
-) -> Result<(), PlanFault>
-    requires turn { rising.old.turn < length rising.old.queue.items }
-    requires first { slice_index rising.old.queue.items rising.old.turn ≡ w }
-    requires earlier { earlier ≡ earlier_at rising.old w }
-    requires read { has_list (V.shown view.old).kept w ≡ true }
-    requires once { Distinct ahead.now.next.items }
-    requires vertices { (y : ℕ) → member y ahead.now.next.items ≡ true → y < (V.shown view.old).size }
-    requires placed { (y : ℕ) → member y ahead.now.next.items ≡ true → has_core (V.shown view.old).kept y ≡ true }
-    requires tidy { (update : Update) × IsTidyRising update (V.shown view.old) rising.old }
-    ensures goes_on { GoesOn (V.shown view.old) (V.shown view.new) }
-    ensures cause { IfErr result (λ fault. HasPlanCause (V.shown view.old) (V.shown view.new) fault) }
-    ensures tidy { OnOk result ((update : Update) → IsTidyRising update (V.shown view.old) rising.old → IsTidyRising update (V.shown view.new) rising.new) }
-    ensures turn { OnOk result (rising.new.turn ≡ rising.old.turn + 1) }
-    ensures raised { OnOk result ((update : Update) (level : ℕ) (s : Ranked) (root : ℕ) → Agrees (V.shown view.new).kept s
-        → Widened (search_with update level s) root → level < earlier + ahead.now.count → IsAheadOf (search_with update level s) w ahead.now
-        → IsBetweenTurns (search_with update level s) root rising.old → IsBetweenTurns (search_with update level s) root rising.new) }
-{
-    rising.leave(w, Mark::candidate(earlier, ahead.count, rising.turn))?;
-    pass_on(view, &ahead.next, rising)?;
-    Ok(())
+    /// Counts one candidate more before each of `next`, which are of the level, and queues those that never were.
+    fn pass_on<V: View>(&mut self, view: &mut V, next: &[u32]) -> Result<(), PlanFault>
+        requires once { Distinct next.now }
+        requires vertices { (y : ℕ) → member y next.now ≡ true → y < (V.shown view.old).size }
+        requires placed { (y : ℕ) → member y next.now ≡ true → has_core (V.shown view.old).kept y ≡ true }
+        requires tidy { (update : Update) × IsTidyRising update (V.shown view.old) self.old }
+        ensures goes_on { GoesOn (V.shown view.old) (V.shown view.new) }
+        ensures cause { IfErr result (λ fault. HasPlanCause (V.shown view.old) (V.shown view.new) fault) }
+        ensures tidy { OnOk result ((update : Update) → IsTidyRising update (V.shown view.old) self.old → IsTidyRising update (V.shown view.new) self.new) }
+        ensures passed { OnOk result (PassedOn next.now self.old self.new) }
+        ensures ascends { OnOk result ((s : Ranked) → Agrees (V.shown view.new).kept s
+            → ((y : ℕ) → member y next.now ≡ true → StandsBehindLeft (rank_in s.order) self.old next.now y)
+            → AscendsBy (rank_in s.order) self.old.queue.items → AscendsBy (rank_in s.order) self.new.queue.items) }
+    {
+        for x in next {
+            self.pass(view, *x)?;
+        }
+        Ok(())
+    }
+
+    /// The vertex `w` that waits first leaves the queue and becomes a candidate. It has `earlier` candidates before it.
+    pub fn raise<V: View>(
+        &mut self,
+        view: &mut V,
+        w: u32,
+        earlier: usize,
+        ahead: &Ahead,
+    ) -> Result<(), PlanFault>
+        requires turn { self.old.turn < length self.old.queue.items }
+        requires first { slice_index self.old.queue.items self.old.turn ≡ w }
+        requires earlier { earlier ≡ earlier_at self.old w }
+        requires read { has_list (V.shown view.old).kept w ≡ true }
+        requires once { Distinct ahead.now.next.items }
+        requires vertices { (y : ℕ) → member y ahead.now.next.items ≡ true → y < (V.shown view.old).size }
+        requires placed { (y : ℕ) → member y ahead.now.next.items ≡ true → has_core (V.shown view.old).kept y ≡ true }
+        requires tidy { (update : Update) × IsTidyRising update (V.shown view.old) self.old }
+        ensures goes_on { GoesOn (V.shown view.old) (V.shown view.new) }
+        ensures cause { IfErr result (λ fault. HasPlanCause (V.shown view.old) (V.shown view.new) fault) }
+        ensures tidy { OnOk result ((update : Update) → IsTidyRising update (V.shown view.old) self.old → IsTidyRising update (V.shown view.new) self.new) }
+        ensures turn { OnOk result (self.new.turn ≡ self.old.turn + 1) }
+        ensures raised { OnOk result ((update : Update) (level : ℕ) (s : Ranked) (root : ℕ) → Agrees (V.shown view.new).kept s
+            → Widened (search_with update level s) root → level < earlier + ahead.now.count → IsAheadOf (search_with update level s) w ahead.now
+            → IsBetweenTurns (search_with update level s) root self.old → IsBetweenTurns (search_with update level s) root self.new) }
+    {
+        self.leave(w, Mark::candidate(earlier, ahead.count, self.turn))?;
+        self.pass_on(view, &ahead.next)?;
+        Ok(())
+    }
 }

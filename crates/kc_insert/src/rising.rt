@@ -1,7 +1,7 @@
 //! The vertices that were queued, the candidates among them, and the moves of those that were evicted.
 ghost use Rattle.std.specs.Prelude.{◌≡◌, ◌<◌, ◌≤◌, ◌+◌, ◌-◌, ◌^◌, ◌&&◌, min, nat_le, true, false, IfOk, OnOk, length};
 ghost use Rattle.std.specs.List.{insert};
-ghost use Rattle.kc_insert.specs.Marks.{mark_of};
+ghost use Rattle.kc_hash.specs.Maps.{value_of};
 ghost use Rattle.kc_insert.specs.Rising.{is_candidate, cands, earlier_at, turn_at};
 ghost use Rattle.kc_insert.specs.Turns.{Begins, MarksOne, Leaves, Evicts};
 
@@ -94,7 +94,7 @@ impl Rising {
 
     /// The mark of a vertex, if it was ever queued.
     pub fn find(&self, y: u32) -> Option<Mark>
-        ensures { result ≡ mark_of self.now.marks y }
+        ensures { result ≡ value_of self.now.marks y }
     {
         self.marks.get(&y).copied()
     }

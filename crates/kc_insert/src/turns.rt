@@ -8,72 +8,63 @@ ghost use Rattle.kc_insert.specs.Rising.{IsTidyRising};
 ghost use Rattle.kc_insert.specs.Searching.{Widened};
 ghost use Rattle.kc_insert.specs.Turns.{IsBetweenTurns};
 
-use crate::ahead::{Ahead, look_ahead};
-use crate::raising::raise;
+use crate::ahead::Ahead;
 use crate::rising::{Mark, Rising};
 use crate::row::fill_row;
-use crate::settling::settle;
-use kc_graph::Update;
-use kc_view::{PlanFault, View};
-use std::alloc::Global;
+use kc_view::{PlanFault, Search, View};
 
-/// The turn of the vertex that waits first: it becomes a candidate, or is settled, or leaves the queue and changes nothing. What stands in
-/// `row` and `ahead` is of turns before, and is overwritten.
-fn take_turn<V: View>(
-    view: &mut V,
-    update: Update,
-    level: u32,
-    row: &mut Vec<u32>,
-    ahead: &mut Ahead,
-    rising: &mut Rising,
-) -> Result<(), PlanFault>
-    requires ends { update.v < (V.shown view.old).size }
-    requires turn { rising.old.turn < length rising.old.queue.items }
-    requires tidy { IsTidyRising update (V.shown view.old) rising.old }
-    ensures goes_on { GoesOn (V.shown view.old) (V.shown view.new) }
-    ensures cause { IfErr result (λ fault. HasPlanCause (V.shown view.old) (V.shown view.new) fault) }
-    ensures tidy { OnOk result (IsTidyRising update (V.shown view.new) rising.new) }
-    ensures turn { OnOk result (rising.new.turn ≡ rising.old.turn + 1) }
-    ensures turns { OnOk result ((s : Ranked) (root : ℕ) → update.v < s.graph.size → Agrees (V.shown view.new).kept s
-        → Widened (search_with update level s) root
-        → IsBetweenTurns (search_with update level s) root rising.old → IsBetweenTurns (search_with update level s) root rising.new) }
-{
-    let w = rising.queue[rising.turn];
-    fill_row(view, update, w, row)?;
-    look_ahead(view, update, level, w, row, ahead)?;
-    let earlier = rising.earlier_of(w);
-    if earlier.saturating_add(ahead.count) > level as usize {
-        return raise(view, w, earlier, ahead, rising);
+impl Rising {
+    /// The turn of the vertex that waits first: it becomes a candidate, or is settled, or leaves the queue and changes nothing. What stands in
+    /// `row` and `ahead` is of turns before, and is overwritten.
+    fn take_turn<V: View>(
+        &mut self,
+        view: &mut V,
+        search: Search,
+        row: &mut Vec<u32>,
+        ahead: &mut Ahead,
+    ) -> Result<(), PlanFault>
+        requires ends { search.update.v < (V.shown view.old).size }
+        requires turn { self.old.turn < length self.old.queue.items }
+        requires tidy { IsTidyRising search.update (V.shown view.old) self.old }
+        ensures goes_on { GoesOn (V.shown view.old) (V.shown view.new) }
+        ensures cause { IfErr result (λ fault. HasPlanCause (V.shown view.old) (V.shown view.new) fault) }
+        ensures tidy { OnOk result (IsTidyRising search.update (V.shown view.new) self.new) }
+        ensures turn { OnOk result (self.new.turn ≡ self.old.turn + 1) }
+        ensures turns { OnOk result ((s : Ranked) (root : ℕ) → search.update.v < s.graph.size → Agrees (V.shown view.new).kept s
+            → Widened (search_with search.update search.level s) root → IsBetweenTurns (search_with search.update search.level s) root self.old
+            → IsBetweenTurns (search_with search.update search.level s) root self.new) }
+    {
+        let w = self.queue[self.turn];
+        fill_row(view, search.update, w, row)?;
+        ahead.look_from(view, search, w, row)?;
+        let earlier = self.earlier_of(w);
+        if earlier.saturating_add(ahead.count) > search.level as usize {
+            return self.raise(view, w, earlier, ahead);
+        }
+        if earlier > 0 {
+            return self.settle(view, search, w, row);
+        }
+        self.leave(w, Mark::past())?;
+        Ok(())
     }
-    if earlier > 0 {
-        return settle(view, update, level, w, row, rising);
-    }
-    rising.leave(w, Mark::past())?;
-    Ok(())
-}
 
-/// Takes the turns of all that wait, and of those that are queued meanwhile.
-pub(crate) fn take_turns<V: View>(
-    alloc: Global,
-    view: &mut V,
-    update: Update,
-    level: u32,
-    rising: &mut Rising,
-) -> Result<(), PlanFault>
-    requires ends { update.v < (V.shown view.old).size }
-    requires tidy { IsTidyRising update (V.shown view.old) rising.old }
-    ensures goes_on { GoesOn (V.shown view.old) (V.shown view.new) }
-    ensures cause { IfErr result (λ fault. HasPlanCause (V.shown view.old) (V.shown view.new) fault) }
-    ensures tidy { OnOk result (IsTidyRising update (V.shown view.new) rising.new) }
-    ensures ended { OnOk result (rising.new.turn ≡ length rising.new.queue.items) }
-    ensures turns { OnOk result ((s : Ranked) (root : ℕ) → update.v < s.graph.size → Agrees (V.shown view.new).kept s
-        → Widened (search_with update level s) root
-        → IsBetweenTurns (search_with update level s) root rising.old → IsBetweenTurns (search_with update level s) root rising.new) }
-{
-    let mut row = Vec::new(alloc);
-    let mut ahead = Ahead::none(alloc);
-    while rising.turn < rising.queue.len() {
-        take_turn(view, update, level, &mut row, &mut ahead, rising)?;
+    /// Takes the turns of all that wait, and of those that are queued meanwhile.
+    pub fn take_turns<V: View>(&mut self, view: &mut V, search: Search) -> Result<(), PlanFault>
+        requires ends { search.update.v < (V.shown view.old).size }
+        requires tidy { IsTidyRising search.update (V.shown view.old) self.old }
+        ensures goes_on { GoesOn (V.shown view.old) (V.shown view.new) }
+        ensures cause { IfErr result (λ fault. HasPlanCause (V.shown view.old) (V.shown view.new) fault) }
+        ensures tidy { OnOk result (IsTidyRising search.update (V.shown view.new) self.new) }
+        ensures ended { OnOk result (self.new.turn ≡ length self.new.queue.items) }
+        ensures turns { OnOk result ((s : Ranked) (root : ℕ) → search.update.v < s.graph.size → Agrees (V.shown view.new).kept s
+            → Widened (search_with search.update search.level s) root → IsBetweenTurns (search_with search.update search.level s) root self.old
+            → IsBetweenTurns (search_with search.update search.level s) root self.new) }
+    {
+        let mut row = Vec::new(search.alloc);
+        let mut ahead = Ahead::none(search.alloc);
+        while self.turn < self.queue.len() {
+            self.take_turn(view, search, &mut row, &mut ahead)?;
+        }
+        Ok(())
     }
-    Ok(())
 }

@@ -1,16 +1,21 @@
 -- The core number that was told puts `x` above, below or on the level; on the level the order that was told says if it is behind `w`.
-use Rattle.std.proofs.Common.{◌≡◌, ◌<◌, ◌⊎◌, ◌&&◌, ◌||◌, ℕ, Bool, true, cond, get_or, eqb, ltb, sym, ◌∙◌, ap, subst, inl, inr, arith, eqb-true}
+use Rattle.std.proofs.Common.{List, ◌≡◌, ◌<◌, ◌⊎◌, ◌&&◌, ◌||◌, ℕ, Bool, true, cond, get_or, eqb, ltb, sym, ◌∙◌, ap, subst, inl, inr, arith, eqb-true}
 use Rattle.std.proofs.lemmas.Bool.{or_cases, and_parts}
 use Rattle.kc_distinct.specs.Lists.{member}
+use Rattle.kc_graph.specs.Lawful.{Ranked}
 use Rattle.kc_graph.specs.declared.update.Update.{Update}
 use Rattle.kc_view.specs.Answers.{Answers, Agrees, has_list, list_of}
 use Rattle.kc_view.specs.Sure.{is_listed}
 use Rattle.kc_view.proofs.Asked.{is_listed-from}
 use Rattle.kc_view.proofs.Keeping.{agreed, core-true, order-true, still_has_core}
-use Rattle.kc_insert.specs.Added.{is_added}
 use Rattle.kc_insert.specs.declared.ahead.Side.{Side}
 use Rattle.kc_insert.specs.declared.ahead.Side.TheVariants.{Higher, Next, Before}
+use Rattle.kc_insert.specs.Rising.{AsksQueued}
+use Rattle.kc_insert.specs.Turns.{side_in}
+use Rattle.kc_insert.specs.Added.{search_with, is_added}
 use Rattle.kc_insert.proofs.Tidy.{asks-core, asks-order}
+use Rattle.kc_insert.proofs.ahead.side_of.Given.{Over}
+use Rattle.kc_insert.proofs.ahead.side_of.Goals.{In_ok-core, In_ok-stands_before}
 use Rattle.kc_insert.proofs.ahead.side_of.Goals as goal
 
 -- a neighbour once the edge is there is an end of it or was told
@@ -34,59 +39,63 @@ beside : (core level number : ℕ) (told b : Bool) (side : Side) → core ≡ nu
     → side ≡ cond (ltb level number) Higher (cond (eqb number level && b) Next Before)
 beside core level number told b side e l t is = grind arith
 
-pub returns-then-core-level-clause-asks : goal.returns-then-core-level-clause-asks
-returns-then-core-level-clause-asks g c = λ queue asks.
-    let old = g.V.View.shown c.args.view.now in
-    asks-core c.args.update old.kept _ queue c.args.x asks c.in_ok-core.ensures.told
-    (nearby c.args.update old.kept c.args.w c.args.x c.requires.read c.requires.neighbour)
+-- the core number of the neighbour may be asked
+core-asked : (g : Over) (c : In_ok-core g) (queue : List ℕ) → AsksQueued c.args.search.update (g.V.View.shown c.args.view.now).kept queue
+    → AsksQueued c.args.search.update (g.V.View.shown c.core_of.new.view).kept queue
+core-asked g c queue asks =
+    let old = (g.V.View.shown c.args.view.now).kept in
+    asks-core c.args.search.update old _ queue c.args.x asks c.in_ok-core.ensures.told
+    (nearby c.args.search.update old c.args.w c.args.x c.requires.read c.requires.neighbour)
 
-pub returns-then-core-level-clause-told : goal.returns-then-core-level-clause-told
-returns-then-core-level-clause-told g c = λ s a.
-    let is = core-true (g.V.View.shown c.core_of.new.view).kept s c.args.x a c.in_ok-core.ensures.told.told in
-    higher c.in_ok-core.core c.args.level (get_or s.core c.args.x 0) _ (c.in_ok-core.ensures.core ∙ is.1) c.if-core-level.true
+-- and is that of each state that agrees
+core-is : (g : Over) (c : In_ok-core g) (s : Ranked) → Agrees (g.V.View.shown c.core_of.new.view).kept s → c.in_ok-core.core ≡ get_or s.core c.args.x 0
+core-is g c s a = c.in_ok-core.ensures.core ∙ (core-true _ s c.args.x a c.in_ok-core.ensures.told.told).1
 
-pub returns-then-core-level-2-clause-asks : goal.returns-then-core-level-2-clause-asks
-returns-then-core-level-2-clause-asks g c = λ queue asks.
-    let old = g.V.View.shown c.args.view.now in
-    asks-core c.args.update old.kept _ queue c.args.x asks c.in_ok-core.ensures.told
-    (nearby c.args.update old.kept c.args.w c.args.x c.requires.read c.requires.neighbour)
+-- the order may be asked too
+order-asked : (g : Over) (c : In_ok-stands_before g) (queue : List ℕ) → AsksQueued c.args.search.update (g.V.View.shown c.args.view.now).kept queue
+    → AsksQueued c.args.search.update (g.V.View.shown c.stands_before.new.view).kept queue
+order-asked g c queue asks =
+    asks-order c.args.search.update _ _ queue _ (core-asked g (goal.at.In_ok-stands_before g c).In_ok-core queue asks) c.in_ok-stands_before.ensures.told
 
-pub returns-then-core-level-2-clause-told : goal.returns-then-core-level-2-clause-told
-returns-then-core-level-2-clause-told g c = λ s a.
-    let is = core-true (g.V.View.shown c.core_of.new.view).kept s c.args.x a c.in_ok-core.ensures.told.told in
-    lower c.in_ok-core.core c.args.level (get_or s.core c.args.x 0) _ (c.in_ok-core.ensures.core ∙ is.1) c.if-core-level-2.true
+-- and says on which side the neighbour stands
+order-tells : (g : Over) (c : In_ok-stands_before g) (s : Ranked) (side : Side) → Agrees (g.V.View.shown c.stands_before.new.view).kept s
+    → side ≡ cond c.in_ok-stands_before.field-0 Next Before
+    → side ≡ side_in (search_with c.args.search.update c.args.search.level s) c.args.w c.args.x
+order-tells g c s side a is =
+    beside c.in_ok-core.core c.args.search.level (get_or s.core c.args.x 0) c.in_ok-stands_before.field-0 _ side
+    (core-is g (goal.at.In_ok-stands_before g c).In_ok-core s (agreed _ _ s c.stands_before.ensures.goes_on.further a))
+    (omega (arith, c.if-core-search.false, c.if-core-search-2.false))
+    (order-true (g.V.View.shown c.core_of.new.view).kept s _ (subst (λ (b : Answers). Agrees b s) c.in_ok-stands_before.ensures.told a)).2 is
+
+pub returns-then-core-search-clause-asks : goal.returns-then-core-search-clause-asks
+returns-then-core-search-clause-asks g c = core-asked g (goal.at.returns-then-core-search-clause-asks g c).In_ok-core
+
+pub returns-then-core-search-clause-told : goal.returns-then-core-search-clause-told
+returns-then-core-search-clause-told g c = λ s a.
+    higher c.in_ok-core.core c.args.search.level (get_or s.core c.args.x 0) _
+    (core-is g (goal.at.returns-then-core-search-clause-told g c).In_ok-core s a) c.if-core-search.true
+
+pub returns-then-core-search-2-clause-asks : goal.returns-then-core-search-2-clause-asks
+returns-then-core-search-2-clause-asks g c = core-asked g (goal.at.returns-then-core-search-2-clause-asks g c).In_ok-core
+
+pub returns-then-core-search-2-clause-told : goal.returns-then-core-search-2-clause-told
+returns-then-core-search-2-clause-told g c = λ s a.
+    lower c.in_ok-core.core c.args.search.level (get_or s.core c.args.x 0) _
+    (core-is g (goal.at.returns-then-core-search-2-clause-told g c).In_ok-core s a) c.if-core-search-2.true
 
 pub stands_before-requires-clause-first : goal.stands_before-requires-clause-first
 stands_before-requires-clause-first g c = still_has_core _ _ c.args.w c.core_of.ensures.goes_on.further c.requires.placed
 
 pub returns-then-branch-clause-asks : goal.returns-then-branch-clause-asks
-returns-then-branch-clause-asks g c = λ queue asks.
-    let old = g.V.View.shown c.args.view.now in
-    asks-order c.args.update _ _ queue _
-    (asks-core c.args.update old.kept _ queue c.args.x asks c.in_ok-core.ensures.told
-    (nearby c.args.update old.kept c.args.w c.args.x c.requires.read c.requires.neighbour))
-    c.in_ok-stands_before.ensures.told
+returns-then-branch-clause-asks g c = order-asked g (goal.at.returns-then-branch-clause-asks g c).In_ok-stands_before
 
 pub returns-then-branch-clause-told : goal.returns-then-branch-clause-told
 returns-then-branch-clause-told g c = λ s a.
-    let first = agreed _ _ s c.stands_before.ensures.goes_on.further a in
-    let is = core-true (g.V.View.shown c.core_of.new.view).kept s c.args.x first c.in_ok-core.ensures.told.told in
-    let o = order-true (g.V.View.shown c.core_of.new.view).kept s _ (subst (λ (b : Answers). Agrees b s) c.in_ok-stands_before.ensures.told a) in
-    beside c.in_ok-core.core c.args.level (get_or s.core c.args.x 0) _ _ Next (c.in_ok-core.ensures.core ∙ is.1)
-    (omega (arith, c.if-core-level.false, c.if-core-level-2.false)) o.2 (ap (λ b. cond b Next Before) (sym c.if-branch.true))
+    order-tells g (goal.at.returns-then-branch-clause-told g c).In_ok-stands_before s Next a (ap (λ b. cond b Next Before) (sym c.if-branch.true))
 
 pub returns-else-branch-clause-asks : goal.returns-else-branch-clause-asks
-returns-else-branch-clause-asks g c = λ queue asks.
-    let old = g.V.View.shown c.args.view.now in
-    asks-order c.args.update _ _ queue _
-    (asks-core c.args.update old.kept _ queue c.args.x asks c.in_ok-core.ensures.told
-    (nearby c.args.update old.kept c.args.w c.args.x c.requires.read c.requires.neighbour))
-    c.in_ok-stands_before.ensures.told
+returns-else-branch-clause-asks g c = order-asked g (goal.at.returns-else-branch-clause-asks g c).In_ok-stands_before
 
 pub returns-else-branch-clause-told : goal.returns-else-branch-clause-told
 returns-else-branch-clause-told g c = λ s a.
-    let first = agreed _ _ s c.stands_before.ensures.goes_on.further a in
-    let is = core-true (g.V.View.shown c.core_of.new.view).kept s c.args.x first c.in_ok-core.ensures.told.told in
-    let o = order-true (g.V.View.shown c.core_of.new.view).kept s _ (subst (λ (b : Answers). Agrees b s) c.in_ok-stands_before.ensures.told a) in
-    beside c.in_ok-core.core c.args.level (get_or s.core c.args.x 0) _ _ Before (c.in_ok-core.ensures.core ∙ is.1)
-    (omega (arith, c.if-core-level.false, c.if-core-level-2.false)) o.2 (ap (λ b. cond b Next Before) (sym c.if-branch.false))
+    order-tells g (goal.at.returns-else-branch-clause-told g c).In_ok-stands_before s Before a (ap (λ b. cond b Next Before) (sym c.if-branch.false))

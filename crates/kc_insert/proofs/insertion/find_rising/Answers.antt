@@ -12,10 +12,10 @@ end-fits update x n is l = let up : update.u < update.v = update.ordered in elim
 pub take_turns-requires-clause-tidy : goal.take_turns-requires-clause-tidy
 take_turns-requires-clause-tidy g c =
     let shown : Shown = g.V.View.shown c.args.view.now in
-    let root : ℕ = c.args.root.vertex in
-    begin-tidy c.args.update shown root c.in_ok-rising.rising c.in_ok-rising.ensures
-    (end-fits c.args.update root shown.size c.requires.end c.requires.ends) c.requires.placed c.requires.asks
+    let root : ℕ = c.args.root in
+    begin-tidy c.args.search.update shown root c.in_ok-rising.rising c.in_ok-rising.ensures
+    (end-fits c.args.search.update root shown.size c.requires.end c.requires.ends) c.requires.placed c.requires.asks
 
 pub returns-clause-turns : goal.returns-clause-turns
 returns-clause-turns g c = λ s lv a w.
-    c.in_ok-take_turns.ensures.turns s c.args.root.vertex lv a w (begin-between _ c.args.root.vertex c.in_ok-rising.rising c.in_ok-rising.ensures w)
+    c.in_ok-take_turns.ensures.turns s c.args.root lv a w (begin-between _ c.args.root c.in_ok-rising.rising c.in_ok-rising.ensures w)

@@ -1,12 +1,16 @@
 -- By cases: the end of the lesser core number is the root, and where both are equal the order that was told picks the first.
 use Rattle.std.proofs.Common.{◌≡◌, ◌<◌, ℕ, Bool, true, false, cond, get_or, ltb, ◌∙◌, subst, arith}
 use Rattle.kc_distinct.specs.Lists.{place_of}
-use Rattle.kc_graph.specs.declared.used.UsedOrder.{UsedOrder}
-use Rattle.kc_view.specs.Answers.{Answers, Agrees}
+use Rattle.kc_graph.specs.Lawful.{Ranked}
+use Rattle.kc_graph.specs.declared.update.Update.{Update}
+use Rattle.kc_view.specs.Answers.{Answers, Agrees, has_core, core_of}
+use Rattle.kc_view.specs.Sure.{root_of}
 use Rattle.kc_view.proofs.Keeping.{agreed, core-true, order-true}
+use Rattle.kc_insert.proofs.insertion.first_end.Given.{Over}
+use Rattle.kc_insert.proofs.insertion.first_end.Goals.{In_ok-stands_before}
 use Rattle.kc_insert.proofs.insertion.first_end.Goals as goal
 
--- which end it is
+-- which end is picked
 is-lesser : (a b p q u v : ℕ) → a < b → u ≡ cond (ltb a b) u (cond (ltb b a) v (cond (ltb p q) u v))
 is-lesser a b p q u v l = grind arith
 
@@ -19,46 +23,70 @@ is-first a b p q u v t e is told = grind arith
 is-second : (a b p q u v : ℕ) (t : Bool) → a ≡ b → t ≡ ltb p q → t ≡ false → v ≡ cond (ltb a b) u (cond (ltb b a) v (cond (ltb p q) u v))
 is-second a b p q u v t e is told = grind arith
 
+-- these are the core numbers of the two ends
+record AreCores (s : Ranked) (update : Update) (first second : ℕ) : Type 0 where
+  first_is : first ≡ get_or s.core update.u 0
+  second_is : second ≡ get_or s.core update.v 0
+
+-- what was told of the two ends is so in each state that agrees
+cores-are : (a : Answers) (s : Ranked) (update : Update) (first second : ℕ) → Agrees a s
+    → (has_core a update.u ≡ true) × (first ≡ core_of a update.u) → (has_core a update.v ≡ true) × (second ≡ core_of a update.v)
+    → AreCores s update first second
+cores-are a s update first second agrees one two = record {
+  first_is = one.1 ∙ (core-true a s update.u agrees one.0).1;
+  second_is = two.1 ∙ (core-true a s update.v agrees two.0).1;
+}
+
+lesser-root : (s : Ranked) (update : Update) (first second : ℕ) → AreCores s update first second → first < second → update.u ≡ root_of s update
+lesser-root s update first second k l =
+    is-lesser (get_or s.core update.u 0) (get_or s.core update.v 0) (place_of update.u s.order) (place_of update.v s.order) update.u update.v
+    (omega (arith, k.first_is, k.second_is, l))
+
+greater-root : (s : Ranked) (update : Update) (first second : ℕ) → AreCores s update first second → second < first → update.v ≡ root_of s update
+greater-root s update first second k l =
+    is-greater (get_or s.core update.u 0) (get_or s.core update.v 0) (place_of update.u s.order) (place_of update.v s.order) update.u update.v
+    (omega (arith, k.first_is, k.second_is, l))
+
+-- both ends have one core number, and this tells whether the first stands before the second
+record AreEven (s : Ranked) (update : Update) (before : Bool) : Type 0 where
+  even : get_or s.core update.u 0 ≡ get_or s.core update.v 0
+  told : before ≡ ltb (place_of update.u s.order) (place_of update.v s.order)
+
+first-root : (s : Ranked) (update : Update) (before : Bool) → AreEven s update before → before ≡ true → update.u ≡ root_of s update
+first-root s update before k is =
+    is-first (get_or s.core update.u 0) (get_or s.core update.v 0) (place_of update.u s.order) (place_of update.v s.order) update.u update.v
+    before k.even k.told is
+
+second-root : (s : Ranked) (update : Update) (before : Bool) → AreEven s update before → before ≡ false → update.v ≡ root_of s update
+second-root s update before k is =
+    is-second (get_or s.core update.u 0) (get_or s.core update.v 0) (place_of update.u s.order) (place_of update.v s.order) update.u update.v
+    before k.even k.told is
+
+-- where neither core number was less, both ends have one
+are-even : (g : Over) (c : In_ok-stands_before g) (s : Ranked) → Agrees (g.V.View.shown c.stands_before.new.view).kept s
+    → AreEven s c.args.update c.in_ok-stands_before.field-0
+are-even g c s a =
+    let kept : Answers = (g.V.View.shown c.args.view.now).kept in
+    let k =
+    cores-are kept s c.args.update c.args.first c.args.second (agreed _ _ s c.stands_before.ensures.goes_on.further a) c.requires.first
+    c.requires.second in
+    record {
+      even = omega (arith, k.first_is, k.second_is, c.if-first-second.false, c.if-second-first.false);
+      told = (order-true kept s _ (subst (λ (x : Answers). Agrees x s) c.in_ok-stands_before.ensures.told a)).2;
+    }
+
 pub returns-then-first-second-clause-root : goal.returns-then-first-second-clause-root
 returns-then-first-second-clause-root g c = λ s a.
-    let kept : Answers = (g.V.View.shown c.args.view.now).kept in
-    let u : ℕ = c.args.update.u in
-    let v : ℕ = c.args.update.v in
-    let first : c.args.first ≡ get_or s.core u 0 = c.requires.first.1 ∙ (core-true kept s u a c.requires.first.0).1 in
-    let second : c.args.second ≡ get_or s.core v 0 = c.requires.second.1 ∙ (core-true kept s v a c.requires.second.0).1 in
-    is-lesser (get_or s.core u 0) (get_or s.core v 0) (place_of u s.order) (place_of v s.order) u v (omega (arith, first, second, c.if-first-second.true))
+    lesser-root s c.args.update _ _ (cores-are _ s c.args.update _ _ a c.requires.first c.requires.second) c.if-first-second.true
 
 pub returns-then-second-first-clause-root : goal.returns-then-second-first-clause-root
 returns-then-second-first-clause-root g c = λ s a.
-    let kept : Answers = (g.V.View.shown c.args.view.now).kept in
-    let u : ℕ = c.args.update.u in
-    let v : ℕ = c.args.update.v in
-    let first : c.args.first ≡ get_or s.core u 0 = c.requires.first.1 ∙ (core-true kept s u a c.requires.first.0).1 in
-    let second : c.args.second ≡ get_or s.core v 0 = c.requires.second.1 ∙ (core-true kept s v a c.requires.second.0).1 in
-    is-greater (get_or s.core u 0) (get_or s.core v 0) (place_of u s.order) (place_of v s.order) u v (omega (arith, first, second, c.if-second-first.true))
+    greater-root s c.args.update _ _ (cores-are _ s c.args.update _ _ a c.requires.first c.requires.second) c.if-second-first.true
 
 pub returns-then-branch-clause-root : goal.returns-then-branch-clause-root
 returns-then-branch-clause-root g c = λ s a.
-    let kept : Answers = (g.V.View.shown c.args.view.now).kept in
-    let u : ℕ = c.args.update.u in
-    let v : ℕ = c.args.update.v in
-    let before = agreed _ _ s c.stands_before.ensures.goes_on.further a in
-    let first : c.args.first ≡ get_or s.core u 0 = c.requires.first.1 ∙ (core-true kept s u before c.requires.first.0).1 in
-    let second : c.args.second ≡ get_or s.core v 0 = c.requires.second.1 ∙ (core-true kept s v before c.requires.second.0).1 in
-    let o : UsedOrder = record { x = u; y = v; before = c.in_ok-stands_before.field-0 } in
-    let told = order-true kept s o (subst (λ (x : Answers). Agrees x s) c.in_ok-stands_before.ensures.told a) in
-    is-first (get_or s.core u 0) (get_or s.core v 0) (place_of u s.order) (place_of v s.order) u v c.in_ok-stands_before.field-0
-    (omega (arith, first, second, c.if-first-second.false, c.if-second-first.false)) told.2 c.if-branch.true
+    first-root s c.args.update _ (are-even g (goal.at.returns-then-branch-clause-root g c).In_ok-stands_before s a) c.if-branch.true
 
 pub returns-else-branch-clause-root : goal.returns-else-branch-clause-root
 returns-else-branch-clause-root g c = λ s a.
-    let kept : Answers = (g.V.View.shown c.args.view.now).kept in
-    let u : ℕ = c.args.update.u in
-    let v : ℕ = c.args.update.v in
-    let before = agreed _ _ s c.stands_before.ensures.goes_on.further a in
-    let first : c.args.first ≡ get_or s.core u 0 = c.requires.first.1 ∙ (core-true kept s u before c.requires.first.0).1 in
-    let second : c.args.second ≡ get_or s.core v 0 = c.requires.second.1 ∙ (core-true kept s v before c.requires.second.0).1 in
-    let o : UsedOrder = record { x = u; y = v; before = c.in_ok-stands_before.field-0 } in
-    let told = order-true kept s o (subst (λ (x : Answers). Agrees x s) c.in_ok-stands_before.ensures.told a) in
-    is-second (get_or s.core u 0) (get_or s.core v 0) (place_of u s.order) (place_of v s.order) u v c.in_ok-stands_before.field-0
-    (omega (arith, first, second, c.if-first-second.false, c.if-second-first.false)) told.2 c.if-branch.false
+    second-root s c.args.update _ (are-even g (goal.at.returns-else-branch-clause-root g c).In_ok-stands_before s a) c.if-branch.false

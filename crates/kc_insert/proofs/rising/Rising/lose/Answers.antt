@@ -1,0 +1,31 @@
+-- A vertex that the loss makes too weak is put on the list of these.
+use Rattle.std.proofs.Common.{◌≡◌, ◌∙◌, ℕ, Bool, true, false, not, ◌&&◌, List, [], ◌∷◌, ◌++◌, refl, sym, ap}
+use Rattle.std.proofs.lemmas.Bool.{false≢true}
+use Rattle.kc_insert.specs.Turns.{taken_from, recounted, grown}
+use Rattle.kc_insert.specs.declared.rising.Mark.{Mark}
+use Rattle.kc_insert.proofs.rising.Rising.lose.Goals as goal
+
+-- the list has one more where one is found
+grown-found : (was is : Bool) (y : ℕ) (xs : List ℕ) → (not was && is) ≡ true → grown was is y xs ≡ xs ++ y ∷ []
+grown-found true is y xs e = absurd (false≢true e)
+grown-found false true y xs e = refl
+grown-found false false y xs e = absurd (false≢true e)
+
+pub returns-in_ok-push : goal.returns-in_ok-push
+returns-in_ok-push c =
+    let w = c.weaken.ensures in
+    let old : List ℕ = c.args.self.now.weak.items in
+    record {
+      marked = λ mark is.
+          let m = w.marked mark is in
+          let taken : Mark = taken_from c.args.loss mark in
+          let found = grown-found taken.is_weak (recounted c.args.level taken).is_weak c.args.y old (sym m.1 ∙ c.if-weaken.true) in
+          record {
+            marks = record { here = m.0.here; others = m.0.others };
+            weak = c.in_ok-push.ensures.items ∙ (ap (λ xs. xs ++ c.args.y ∷ []) w.rest.2 ∙ sym found);
+            queue = w.rest.0;
+            turn = w.rest.1;
+            shifts = w.rest.3;
+          };
+      unmarked = λ none. absurd (false≢true (sym (w.unmarked none).1 ∙ c.if-weaken.true));
+    }
