@@ -66,6 +66,21 @@ fn add_up<J: BoardName, R: Wait>(rt: &R, reader: &mut Reader<J>, vertices: u32, 
     sum
 }
 
+/// Reads so many core numbers of a board, and answers how long the reads took.
+fn time_reads<J: BoardName, R: Wait + Clock>(
+    rt: &R,
+    reader: &mut Reader<J>,
+    vertices: u32,
+    reads: u32,
+) -> Result<Reads>
+    requires { (width reader.old ≡ vertices) × (0 < vertices) }
+{
+    let start = Instant::now(rt)?;
+    let sum = add_up(rt, reader, vertices, reads);
+    let took = start.elapsed(rt)?;
+    Ok(Reads { sum, took })
+}
+
 /// Opens a board where each core number is 1, and reads so many of them.
 pub(crate) fn measure_reads<J: BoardName, R: Wait + AllocGlobal + Clock>(
     rt: &R,
@@ -77,11 +92,9 @@ pub(crate) fn measure_reads<J: BoardName, R: Wait + AllocGlobal + Clock>(
 {
     let list = vec![in rt.alloc(); 1; vertices as usize]?;
     let (publisher, mut reader) = open_one::<J, &R>(rt, rt.alloc(), blank, &list)?;
-    let start = Instant::now(rt)?;
-    let sum = add_up(rt, &mut reader, vertices, reads);
-    let took = start.elapsed(rt)?;
+    let timed = time_reads(rt, &mut reader, vertices, reads);
     publisher.end();
-    Ok(Reads { sum, took })
+    timed
 }
 
 /// Gives a few vertices of a list another number, and says which.
@@ -156,6 +169,28 @@ fn shows<J: BoardName, R: Wait>(
     Ok(found == number && shown.as_slice() == list)
 }
 
+/// Publishes so many lists, and answers how long the calls took. It is an error where a reader does not see the last one then.
+fn publish_and_look<J: BoardName, R: Wait + Clock>(
+    rt: &R,
+    alloc: Global,
+    publisher: &mut Publisher<J, &R>,
+    reader: &mut Reader<J>,
+    list: &mut [u32],
+    how: How,
+    publishes: u32,
+) -> Result<Duration>
+    requires new { length publisher.old ≡ 1 }
+    requires list { (0 < length list.old) × (length list.old ≡ width publisher.old) }
+    requires reader { length list.old ≡ width reader.old }
+    requires room { publishes < MOST_PUBLISHED }
+{
+    let took = publish_all(rt, alloc, publisher, list, how, publishes)?;
+    if !shows(rt, alloc, publisher, reader, list, publishes)? {
+        bail!("a reader does not see the last list");
+    }
+    Ok(took)
+}
+
 /// Opens a board where each core number is 0, and publishes so many lists. It is an error where a reader does not see the last one then.
 pub(crate) fn measure_publishes<J: BoardName, R: Wait + AllocGlobal + Clock>(
     rt: &R,
@@ -170,10 +205,15 @@ pub(crate) fn measure_publishes<J: BoardName, R: Wait + AllocGlobal + Clock>(
     let alloc = rt.alloc();
     let mut list = vec![in alloc; 0; vertices as usize]?;
     let (mut publisher, mut reader) = open_one::<J, &R>(rt, alloc, blank, &list)?;
-    let took = publish_all(rt, alloc, &mut publisher, &mut list, how, publishes)?;
-    if !shows(rt, alloc, &publisher, &mut reader, &list, publishes)? {
-        bail!("a reader does not see the last list");
-    }
+    let took = publish_and_look(
+        rt,
+        alloc,
+        &mut publisher,
+        &mut reader,
+        &mut list,
+        how,
+        publishes,
+    );
     publisher.end();
-    Ok(took)
+    took
 }
