@@ -64,15 +64,31 @@ fn write_packages(rt: &HostRuntime, needs: &Needs, packages: &[u32]) -> Result<(
     Ok(())
 }
 
-/// Keeps the packages in order while their needs come, and writes what was refused, and the order at the end.
+/// Keeps the packages in order while their needs come, and writes what was refused.
+fn keep_needs(rt: &HostRuntime, needs: &Needs, order: &mut PackageOrder) -> Result<()> {
+    let refusals = keep_all(rt.alloc(), order, &needs.pairs)?;
+    write_refusals(rt, needs, &refusals)
+}
+
+/// Writes the packages in their order.
+fn write_order(rt: &HostRuntime, needs: &Needs, order: &mut PackageOrder) -> Result<()> {
+    let packages = order.packages(rt.alloc())?;
+    write_packages(rt, needs, &packages)
+}
+
+/// Keeps the packages in an order while their needs come, and writes what was refused, and the order at the end.
+fn keep_in(rt: &HostRuntime, needs: &Needs, order: &mut PackageOrder) -> Result<()> {
+    keep_needs(rt, needs, order)?;
+    write_order(rt, needs, order)
+}
+
+/// Keeps so many packages in an order, and writes what came of it.
 fn keep_and_write(rt: &HostRuntime, needs: &Needs, packages: u32) -> Result<()>
     requires low { 1 ≤ packages }
     requires high { packages ≤ VERTICES }
 {
     let mut order = PackageOrder::new(rt.alloc(), packages)?;
-    let refusals = keep_all(rt.alloc(), &mut order, &needs.pairs)?;
-    write_refusals(rt, needs, &refusals)?;
-    write_packages(rt, needs, &order.packages(rt.alloc())?)
+    keep_in(rt, needs, &mut order)
 }
 
 fn main(rt: HostRuntime) -> Result<()> {

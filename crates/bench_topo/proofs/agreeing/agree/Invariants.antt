@@ -1,6 +1,0 @@
--- There stay as many vertices as are drawn from.
-use Rattle.std.proofs.Common.{◌≡◌}
-use Rattle.bench_topo.proofs.agreeing.agree.Given as goal
-
-abbrev pub invariant-loop : goal.invariant-loop
-invariant-loop l = l.both.ordered.words.shape.items ≡ l.vertices
