@@ -1,5 +1,6 @@
 //! Random arcs, some of which close cycles, added to the graph and to a plain model beside it.
-ghost use Rattle.std.specs.Prelude.{◌≡◌, ◌≤◌, ◌<◌};
+ghost use Rattle.std.specs.Prelude.{◌≡◌, ◌≤◌, ◌<◌, IfOk};
+ghost use Rattle.kc_words.specs.declared.layout.TheConstants.{VERTICES};
 
 use crate::draws::Draws;
 use crate::model::{Expected, Model};
@@ -34,14 +35,33 @@ struct Both {
 }
 
 impl Both {
+    /// Both without an arc, on so many vertices.
+    fn new(alloc: Global, vertices: u32) -> Result<Both, NoMemory>
+        requires low { 1 ≤ vertices }
+        requires high { vertices ≤ VERTICES }
+        ensures { IfOk result (λ both. both.ordered.words.shape.items ≡ vertices) }
+    {
+        let model = Model::new(alloc, vertices)?;
+        let ordered = Ordered::new(alloc, vertices)?;
+        Ok(Both { ordered, model })
+    }
+
+    /// Adds the arc from `a` to `b` to the graph. Whether it answers as the model expects.
+    fn answers(&mut self, alloc: Global, expected: Expected, a: u32, b: u32) -> bool
+        requires { (a < self.old.ordered.words.shape.items) × (b < self.old.ordered.words.shape.items) }
+        ensures { self.new.ordered.words ≡ self.old.ordered.words }
+    {
+        let answer = self.ordered.add(alloc, a, b);
+        is_expected(&self.model, expected, &answer, a, b)
+    }
+
     /// Adds the arc from `a` to `b` to both. Gives what was answered, or none where the answers or the orders differ.
     fn add(&mut self, alloc: Global, a: u32, b: u32) -> Result<Option<Expected>, NoMemory>
         requires { (a < self.old.ordered.words.shape.items) × (b < self.old.ordered.words.shape.items) }
         ensures { self.new.ordered.words ≡ self.old.ordered.words }
     {
         let expected = self.model.expected(a, b);
-        let answer = self.ordered.add(alloc, a, b);
-        if !is_expected(&self.model, expected, &answer, a, b) {
+        if !self.answers(alloc, expected, a, b) {
             return Ok(None);
         }
         if expected == Expected::New {
@@ -49,6 +69,27 @@ impl Both {
         }
         let stand = stand_in(&mut self.ordered, self.model.order());
         Ok(if stand { Some(expected) } else { None })
+    }
+
+    /// Adds so many random arcs to both. Counts what was answered; gives none where one differs.
+    fn add_all(&mut self, alloc: Global, seed: u64, count: u32) -> Result<Option<Agreed>, NoMemory>
+        requires { 1 ≤ self.old.ordered.words.shape.items }
+    {
+        let vertices = self.ordered.vertices();
+        let mut draws = Draws::new(seed);
+        let mut agreed = Agreed {
+            entered: 0,
+            there: 0,
+            cycles: 0,
+        };
+        for _ in 0..count {
+            let (a, b) = (draws.below(vertices), draws.below(vertices));
+            match self.add(alloc, a, b)? {
+                Some(expected) => agreed.count(expected),
+                None => return Ok(None),
+            }
+        }
+        Ok(Some(agreed))
     }
 }
 
@@ -84,27 +125,13 @@ fn stand_in(ordered: &mut Ordered, order: &[u32]) -> bool
 /// Adds so many random arcs to a graph and to a model of it. Counts what was answered; gives none where one differs.
 pub(crate) fn agree(
     alloc: Global,
-    ordered: Ordered,
+    vertices: u32,
     seed: u64,
     count: u32,
 ) -> Result<Option<Agreed>, NoMemory>
-    requires { 1 ≤ ordered.words.shape.items }
+    requires low { 1 ≤ vertices }
+    requires high { vertices ≤ VERTICES }
 {
-    let vertices = ordered.vertices();
-    let model = Model::new(alloc, vertices)?;
-    let mut both = Both { ordered, model };
-    let mut draws = Draws::new(seed);
-    let mut agreed = Agreed {
-        entered: 0,
-        there: 0,
-        cycles: 0,
-    };
-    for _ in 0..count {
-        let (a, b) = (draws.below(vertices), draws.below(vertices));
-        match both.add(alloc, a, b)? {
-            Some(expected) => agreed.count(expected),
-            None => return Ok(None),
-        }
-    }
-    Ok(Some(agreed))
+    let mut both = Both::new(alloc, vertices)?;
+    both.add_all(alloc, seed, count)
 }

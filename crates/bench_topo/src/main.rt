@@ -54,13 +54,22 @@ const DENSER: Size = Size {
     arcs: 400_000,
 };
 
+/// Adds arcs, and gives what came of it and how long it took.
+fn time(
+    rt: &HostRuntime,
+    ordered: &mut Ordered,
+    drawn: &[(u32, u32)],
+) -> Result<(Counts, Duration)> {
+    let start = Instant::now(rt)?;
+    let counts = add_all(rt.alloc(), ordered, drawn);
+    Ok((counts, start.elapsed(rt)?))
+}
+
 /// Adds the arcs of one size, and gives what came of it and how long it took.
 fn measure(rt: &HostRuntime, size: Size) -> Result<(Counts, Duration)> {
     let drawn = drawn_arcs(rt.alloc(), SEED, size.vertices, size.arcs)?;
     let mut ordered = Ordered::new(rt.alloc(), size.vertices)?;
-    let start = Instant::now(rt)?;
-    let counts = add_all(rt.alloc(), &mut ordered, &drawn);
-    Ok((counts, start.elapsed(rt)?))
+    time(rt, &mut ordered, &drawn)
 }
 
 /// Adds the arcs of one size, and writes what came of it.
@@ -92,8 +101,7 @@ fn report_timed(rt: &HostRuntime, size: Size) -> Result<()> {
 
 /// Adds arcs to the graph and to a plain model, and writes how many were answered alike.
 fn compare(rt: &HostRuntime, size: Size) -> Result<()> {
-    let ordered = Ordered::new(rt.alloc(), size.vertices)?;
-    let Some(agreed) = agree(rt.alloc(), ordered, SEED, size.arcs)? else {
+    let Some(agreed) = agree(rt.alloc(), size.vertices, SEED, size.arcs)? else {
         bail!("an arc is not answered as the model says, or moves otherwise");
     };
     println!(rt;
