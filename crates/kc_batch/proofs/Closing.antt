@@ -2,9 +2,9 @@
 use Rattle.std.proofs.Common.{◌≡◌, inl, inr, ℕ, ◌+◌, ◌<◌, ◌≤◌, List, [], ◌∷◌, ◌++◌, All, Contains, get_or, length, map, take, sum_by, refl, sym, ap}
 use Rattle.std.proofs.Common.{zero, suc, true, false, ◌∙◌, subst, arith, append-nil, length-append}
 use Rattle.std.specs.List.{flat_map}
-use Rattle.std.proofs.lemmas.Bool.{cases_lt, false_from_ne_true, true≢false}
+use Rattle.std.proofs.lemmas.Bool.{false_from_ne_true, true≢false}
 use Rattle.std.proofs.Math.Seq.{drop-append_seam}
-use Rattle.std.proofs.lemmas.List.{flat_map_more, get_or_append_left, get_or_default, get_or_push, length-map, map-append, take_all, take_more}
+use Rattle.std.proofs.lemmas.List.{flat_map_more, get_or_default, length-map, map-append, take_all, take_more}
 use Rattle.std.proofs.lemmas.List.Elements.{All-append, All-cons, All-contains, All-contains_itself, All-drop, All-head, All-map, All-nil, All-push}
 use Rattle.std.proofs.lemmas.List.Elements.{All-tail, All-weaker, Contains-append_left, Contains-append_right}
 use Rattle.std.proofs.lemmas.List.Folds.{flat_map-map}
@@ -253,57 +253,52 @@ module _ (old now : Journalled) (first : ℕ) (batch : List Update) (ended : Lis
       }
 
 -- Of a crew between two rounds.
-module _ (old : Journalled) (first : ℕ) (batch : List Update) (ended : List PassSeen) (queue : Filled) where
+module _ {old : Journalled} {first : ℕ} {batch : List Update} {ended : List PassSeen} {queue : Filled} {words : TableName} {now : Journalled}
+    {desks : List Desked} {consumer : Consuming} (h : IsCrew old first batch ended queue words now desks consumer) where
   -- it may be cut short at any time
-  pub crew-cut : (words : TableName) (now : Journalled) (desks : List Desked) (consumer : Consuming)
-      → IsCrew old first batch ended queue words now desks consumer
-      → IsCutShort old now first batch × All (λ d. d.seen.table ≡ words) desks
-  crew-cut words now desks consumer h =
+  pub crew-cut : IsCutShort old now first batch × All (λ d. d.seen.table ≡ words) desks
+  crew-cut =
       let made = made_so old now first batch ended (map (λ (d : Desked). d.work) desks) consumer.taken h.account h.share.once in (
         record { ended = ended; made = made.made; went = made.went },
         All-weaker (λ (d : Desked). d.seen ≡ record { table = words; log = now.levels.log }) (λ (d : Desked). d.seen.table ≡ words)
             (λ d e. ap (λ (s : Seen). s.table) e) desks h.told,
       )
 
-  pub crew-keeps : (words : TableName) (now : Journalled) (desks : List Desked) (consumer : Consuming) (works : List Work)
-      → IsCrew old first batch ended queue words now desks consumer → works ≡ map (λ d. d.work) desks → All (λ w. MayGoOn w.left) works
+  pub crew-keeps : {works : List Work} → works ≡ map (λ d. d.work) desks → All (λ w. MayGoOn w.left) works
       → All (λ d. KeepsOneOf queue.count d.work.left) desks
-  crew-keeps words now desks consumer works h is may =
+  crew-keeps is may =
       let ws = map (λ (d : Desked). d.work) desks in
       all-unmapped (λ (w : Work). KeepsOneOf queue.count w.left) (λ (d : Desked). d.work) desks
       (all-keep old now first batch ended ws consumer.taken queue.count h.account h.share (subst (All (λ (w : Work). MayGoOn w.left)) is may))
 
   -- where some keep an update, fewer were entered than there are,
-  pub crew-left : (words : TableName) (now : Journalled) (desks : List Desked) (consumer : Consuming)
-      → IsCrew old first batch ended queue words now desks consumer → queue.count ≡ length batch → SomeKeeps (map (λ d. d.work) desks)
-      → length now.entries < length old.entries + length batch
-  crew-left words now desks consumer h count some =
+  pub crew-left : queue.count ≡ length batch → SomeKeeps (map (λ d. d.work) desks) → length now.entries < length old.entries + length batch
+  crew-left count some =
       keeping-left old now first batch ended (map (λ (d : Desked). d.work) desks) consumer.taken h.account
       (subst (λ (n : ℕ). IsShare n consumer.taken) count h.share) some
 
   -- so that, as all entries can be numbered, versions are nearly spent
-  pub crew-spent : (words : TableName) (now : Journalled) (desks : List Desked) (consumer : Consuming)
-      → IsCrew old first batch ended queue words now desks consumer → queue.count ≡ length batch → Stands now
-      → length old.entries + length batch ≤ LAST_NUMBER → All (λ d. KeepsIfSpent (opened_by now) now.levels.log d.work.left) desks
-      → SomeKeeps (map (λ d. d.work) desks) → IsNearlySpent now.levels.table now.levels.log
-  crew-spent words now desks consumer h count stands numbers spent some =
+  pub crew-spent : queue.count ≡ length batch → Stands now → length old.entries + length batch ≤ LAST_NUMBER
+      → All (λ d. KeepsIfSpent (opened_by now) now.levels.log d.work.left) desks → SomeKeeps (map (λ d. d.work) desks)
+      → IsNearlySpent now.levels.table now.levels.log
+  crew-spent count stands numbers spent some =
       let Spent : Work → Type 0 = λ w. KeepsIfSpent (opened_by now) now.levels.log w.left in
       let works = map (λ (d : Desked). d.work) desks in
       let all = All-map Spent (λ (d : Desked). d.work) desks spent in
       elim (subst (KeepsIfSpent (opened_by now) now.levels.log) some.3 (All-contains Spent works some.0 all some.2)) [
         | inl nearly ↦ nearly
-        | inr full ↦ absurd (omega (arith, full, crew-left words now desks consumer h count some, numbers, number-is now stands))
+        | inr full ↦ absurd (omega (arith, full, crew-left count some, numbers, number-is now stands))
       ]
 
-  pub crew-renewed : (words fresh : TableName) (now next : Journalled) (last : PassSeen) (more : List PassSeen)
-      (desks others : List Desked) (consumer : Consuming)
-      → IsCrew old first batch ended queue words now desks consumer → IsRenewal now last now next → more ≡ ended ++ last ∷ []
-      → length now.entries < length old.entries + length batch → next.levels.table ≡ fresh
-      → All (λ d. d.seen ≡ record { table = fresh; log = [] }) others → map (λ d. d.work) others ≡ map (λ d. d.work) desks
-      → IsCrew old first batch more queue fresh next others consumer
-  crew-renewed words fresh now next last more desks others consumer h renewal is left table seen works =
+  -- it is one of the same updates in a fresh table
+  pub crew-renewed : {fresh : TableName} {next : Journalled} {last : PassSeen} {more : List PassSeen} {others : List Desked} {after : Consuming}
+      → IsRenewal now last now next → more ≡ ended ++ last ∷ [] → length now.entries < length old.entries + length batch
+      → next.levels.table ≡ fresh → All (λ d. d.seen ≡ record { table = fresh; log = [] }) others
+      → map (λ d. d.work) others ≡ map (λ d. d.work) desks → after ≡ consumer → IsCrew old first batch more queue fresh next others after
+  crew-renewed {fresh} {next} {last} {more} {others} {after} renewal is left table seen works same =
       let ws = map (λ (d : Desked). d.work) desks in
-      record {
+      subst (λ (z : Consuming). IsCrew old first batch more queue fresh next others z) (sym same)
+      (record {
         account =
             subst (λ (z : List Work). Account old next first batch more z consumer.taken) (sym works)
             (subst (λ (z : List PassSeen). Account old next first batch z ws consumer.taken) (sym is)
@@ -313,41 +308,67 @@ module _ (old : Journalled) (first : ℕ) (batch : List Update) (ended : List Pa
         of_queue = h.of_queue;
         parts = h.parts;
         share = h.share;
-      }
+      })
 
-  pub crew-given : (parts : Parted) (desks others : List Desked) (consumer next : Consuming) (place : ℕ)
-      → IsCrew old first batch ended queue parts.words parts.journal desks consumer → All (λ d. d.work.left ≡ Nothing) desks → Gives place desks others
-      → next ≡ record consumer { taken = consumer.taken ++ place ∷ [] } → IsShare queue.count next.taken
-      → IsCrew old first batch ended queue parts.words parts.journal others next
-  crew-given parts [] others consumer next place h none gives took share = absurd gives
-  crew-given parts (d ∷ ds) others consumer next place h none gives took share =
-      let now = parts.journal in
-      let Told : Desked → Type 0 = λ d. d.seen ≡ record { table = parts.words; log = now.levels.log } in
-      let given : Desked = record d { work = record { done = d.work.done; left = Kept place } } in
-      let ws = map (λ (d : Desked). d.work) ds in
-      let taken = ap (λ (c : Consuming). c.taken) took in
-      record {
-        account =
-            subst (λ (z : List Desked). Account old now first batch ended (map (λ (d : Desked). d.work) z) next.taken) (sym gives)
-            (subst (λ (z : List ℕ). Account old now first batch ended (given.work ∷ ws) z) (sym taken)
-            (account-given old now first batch ended d.work ws consumer.taken place (All-head (λ (d : Desked). d.work.left ≡ Nothing) d ds none) h.account));
-        table = h.table;
-        told = subst (All Told) (sym gives) (All-cons Told given ds (All-head Told d ds h.told) (All-tail Told d ds h.told));
-        of_queue = ap (λ (c : Consuming). c.queue) took ∙ h.of_queue;
-        parts = ap (λ (c : Consuming). c.parts) took ∙ h.parts;
-        share = share;
-      }
+-- a crew whose first worker was given the next of the queue
+given-crew : (parts : Parted) (old : Journalled) (first : ℕ) (batch : List Update) (ended : List PassSeen) (queue : Filled) (desks others : List Desked)
+    (consumer next : Consuming) (place : ℕ)
+    → IsCrew old first batch ended queue parts.words parts.journal desks consumer → All (λ d. d.work.left ≡ Nothing) desks → Gives place desks others
+    → next ≡ record consumer { taken = consumer.taken ++ place ∷ [] } → IsShare queue.count next.taken
+    → IsCrew old first batch ended queue parts.words parts.journal others next
+given-crew parts old first batch ended queue [] others consumer next place h none gives took share = absurd gives
+given-crew parts old first batch ended queue (d ∷ ds) others consumer next place h none gives took share =
+    let now = parts.journal in
+    let Told : Desked → Type 0 = λ d. d.seen ≡ record { table = parts.words; log = now.levels.log } in
+    let given : Desked = record d { work = record { done = d.work.done; left = Kept place } } in
+    let ws = map (λ (d : Desked). d.work) ds in
+    let taken = ap (λ (c : Consuming). c.taken) took in
+    record {
+      account =
+          subst (λ (z : List Desked). Account old now first batch ended (map (λ (d : Desked). d.work) z) next.taken) (sym gives)
+          (subst (λ (z : List ℕ). Account old now first batch ended (given.work ∷ ws) z) (sym taken)
+          (account-given old now first batch ended d.work ws consumer.taken place (All-head (λ (d : Desked). d.work.left ≡ Nothing) d ds none) h.account));
+      table = h.table;
+      told = subst (All Told) (sym gives) (All-cons Told given ds (All-head Told d ds h.told) (All-tail Told d ds h.told));
+      of_queue = ap (λ (c : Consuming). c.queue) took ∙ h.of_queue;
+      parts = ap (λ (c : Consuming). c.parts) took ∙ h.parts;
+      share = share;
+    }
 
--- who was given an update of the batch keeps one of it
-pub given-keeps : (count place : ℕ) (desks others : List Desked) → place < count → All (λ d. d.work.left ≡ Nothing) desks → Gives place desks others
+-- The first worker was given the update at a place that was taken of the queue, where nobody had anything left.
+pub record HasGiven (count place : ℕ) (desks others : List Desked) (consumer next : Consuming) : Type 0 where
+  pub free : All (λ w. w.left ≡ Nothing) (map (λ d. d.work) desks)
+  pub gives : Gives place desks others
+  pub took : next ≡ record consumer { taken = consumer.taken ++ place ∷ [] }
+  pub below : place < count
+  pub share : IsShare count next.taken
+
+-- where nobody's work has anything left, no desk has
+pub all-free : (desks : List Desked) → All (λ w. w.left ≡ Nothing) (map (λ d. d.work) desks) → All (λ d. d.work.left ≡ Nothing) desks
+all-free desks free = all-unmapped (λ (w : Work). w.left ≡ Nothing) (λ (d : Desked). d.work) desks free
+
+-- So the crew stays one, in the parts as they are,
+pub crew-given : {old : Journalled} {first : ℕ} {batch : List Update} {ended : List PassSeen} {queue : Filled} {parts new : Parted}
+    {desks others : List Desked} {consumer next : Consuming} {place : ℕ} → new ≡ parts
+    → IsCrew old first batch ended queue parts.words parts.journal desks consumer → HasGiven queue.count place desks others consumer next
+    → IsCrew old first batch ended queue new.words new.journal others next
+crew-given {old} {first} {batch} {ended} {queue} {parts} {new} {desks} {others} {consumer} {next} {place} same h given =
+    subst (λ (z : Parted). IsCrew old first batch ended queue z.words z.journal others next) (sym same)
+    (given-crew parts old first batch ended queue desks others consumer next place h (all-free desks given.free) given.gives given.took given.share)
+
+-- and who was given an update of the batch keeps one of it.
+pub given-keeps : {count place : ℕ} {desks others : List Desked} {consumer next : Consuming} → HasGiven count place desks others consumer next
     → All (λ d. KeepsOneOf count d.work.left) others
-given-keeps count place [] others low none gives = absurd gives
-given-keeps count place (d ∷ ds) others low none gives =
-    let Keeps : Desked → Type 0 = λ d. KeepsOneOf count d.work.left in
-    let None : Desked → Type 0 = λ d. d.work.left ≡ Nothing in
-    subst (All Keeps) (sym gives)
-    (All-cons Keeps (record d { work = record { done = d.work.done; left = Kept place } }) ds low
-    (All-weaker None Keeps (λ e free. keeps-nothing count e.work.left free) ds (All-tail None d ds none)))
+given-keeps {count} {place} {desks} {others} given = keep desks (all-free desks given.free) given.gives
+  where
+    keep : (ds : List Desked) → All (λ d. d.work.left ≡ Nothing) ds → Gives place ds others → All (λ d. KeepsOneOf count d.work.left) others
+    keep [] none gives = absurd gives
+    keep (d ∷ ds) none gives =
+        let Keeps : Desked → Type 0 = λ d. KeepsOneOf count d.work.left in
+        let None : Desked → Type 0 = λ d. d.work.left ≡ Nothing in
+        subst (All Keeps) (sym gives)
+        (All-cons Keeps (record d { work = record { done = d.work.done; left = Kept place } }) ds given.below
+        (All-weaker None Keeps (λ e free. keeps-nothing count e.work.left free) ds (All-tail None d ds none)))
 
 -- what a round's table opened with
 opened-at : (words : TableName) (now next : Journalled) → now.levels.table ≡ words → StaysIn now next
@@ -355,45 +376,49 @@ opened-at : (words : TableName) (now next : Journalled) → now.levels.table ≡
 opened-at words now next table stays =
     λ i. record { table = sym (stays.table ∙ table) i; edges = sym stays.opened i; stamps = sym stays.opening_stamps i }
 
--- a crew stays one after a round more
-pub crew-round : (old : Journalled) (first : ℕ) (batch : List Update) (ended : List PassSeen) (queue : Filled) (words : TableName) (now next : Journalled)
-    (desks others : List Desked) (consumer after : Consuming) (made : ℕ)
-    → IsCrew old first batch ended queue words now desks consumer → Stands now → Stands next → StaysIn now next
-    → length next.entries ≡ length now.entries + made → (length next.entries ≡ length now.entries → next.levels.log ≡ now.levels.log)
-    → Rounds (opened_with words now.opened now.opening_stamps) now.levels.log next.levels.log first batch (map (λ d. d.work) desks) (map (λ d. d.work) others)
-    consumer.taken after.taken made
-    → All (λ d. d.seen ≡ record { table = words; log = next.levels.log }) others
-    → (after.queue ≡ queue) × (after.parts ≡ PARTS) × IsShare queue.count after.taken
-    → IsCrew old first batch ended queue words next others after
-crew-round old first batch ended queue words now next desks others consumer after made h before then stays total quiet rounds told owns =
-    let W = map (λ (d : Desked). d.work) in
-    let o = opened_with words now.opened now.opening_stamps in
-    record {
-      account = account-round old now next first batch ended (W desks) (W others) consumer.taken after.taken made o h.account before then stays
-          (opened-at words now next h.table stays) total quiet rounds;
-      table = stays.table ∙ h.table;
-      told = told;
-      of_queue = owns.0;
-      parts = owns.1;
-      share = owns.2;
-    }
+-- What a round has made of the journal, of the desks and of what was taken of the queue.
+pub record IsRound (words : TableName) (first : ℕ) (batch : List Update) (queue : Filled) (now next : Journalled) (desks others : List Desked)
+    (consumer after : Consuming) : Type 0 where
+  pub stood : Stands now
+  pub stands : Stands next
+  pub stays : StaysIn now next
+  pub made : ℕ
+  pub total : length next.entries ≡ length now.entries + made
+  pub quiet : length next.entries ≡ length now.entries → next.levels.log ≡ now.levels.log
+  pub rounds : Rounds (opened_with words now.opened now.opening_stamps) now.levels.log next.levels.log first batch (map (λ d. d.work) desks)
+      (map (λ d. d.work) others) consumer.taken after.taken made
+  pub told : All (λ d. d.seen ≡ record { table = words; log = next.levels.log }) others
+  pub owns : (after.queue ≡ queue) × (after.parts ≡ PARTS) × IsShare queue.count after.taken
 
--- who has worked in a round has met spent versions where it keeps an update
-pub round-spent : (words : TableName) (now next : Journalled) (first : ℕ) (batch : List Update) (works : List Work) (others : List Desked)
-    (taken after : List ℕ)
-    (made : ℕ) → now.levels.table ≡ words → StaysIn now next
-    → Rounds (opened_with words now.opened now.opening_stamps) now.levels.log next.levels.log first batch works (map (λ d. d.work) others) taken after made
-    → All (λ d. KeepsIfSpent (opened_by next) next.levels.log d.work.left) others
-round-spent words now next first batch works others taken after made table stays rounds =
-    let o = opened_with words now.opened now.opening_stamps in
-    subst (λ (z : Opened). All (λ (d : Desked). KeepsIfSpent z next.levels.log d.work.left) others) (opened-at words now next table stays)
-    (all-unmapped (λ (w : Work). KeepsIfSpent o next.levels.log w.left) (λ (d : Desked). d.work) others rounds.spent)
+module _ {words : TableName} {first : ℕ} {batch : List Update} {queue : Filled} {now next : Journalled} {desks others : List Desked}
+    {consumer after : Consuming} (r : IsRound words first batch queue now next desks others consumer after) where
+  -- a crew stays one after it
+  pub crew-round : {old : Journalled} {ended : List PassSeen} → IsCrew old first batch ended queue words now desks consumer
+      → IsCrew old first batch ended queue words next others after
+  crew-round {old} {ended} h =
+      let W = map (λ (d : Desked). d.work) in
+      let o = opened_with words now.opened now.opening_stamps in
+      record {
+        account = account-round old now next first batch ended (W desks) (W others) consumer.taken after.taken r.made o h.account r.stood r.stands r.stays
+            (opened-at words now next h.table r.stays) r.total r.quiet r.rounds;
+        table = r.stays.table ∙ h.table;
+        told = r.told;
+        of_queue = r.owns.0;
+        parts = r.owns.1;
+        share = r.owns.2;
+      }
+
+  -- who has worked in it has met spent versions where it keeps an update
+  pub round-spent : now.levels.table ≡ words → All (λ d. KeepsIfSpent (opened_by next) next.levels.log d.work.left) others
+  round-spent table =
+      let o = opened_with words now.opened now.opening_stamps in
+      subst (λ (z : Opened). All (λ (d : Desked). KeepsIfSpent z next.levels.log d.work.left) others) (opened-at words now next table r.stays)
+      (all-unmapped (λ (w : Work). KeepsIfSpent o next.levels.log w.left) (λ (d : Desked). d.work) others r.rounds.spent)
 
 -- as many desks after a round as before
-pub round-many : (o : Opened) (start log : List Event) (first : ℕ) (batch : List Update) (desks others : List Desked) (taken after : List ℕ) (made : ℕ)
+pub round-many : {o : Opened} {start log : List Event} {first : ℕ} {batch : List Update} (desks others : List Desked) {taken after : List ℕ} {made : ℕ}
     → Rounds o start log first batch (map (λ d. d.work) desks) (map (λ d. d.work) others) taken after made → length others ≡ length desks
-round-many o start log first batch desks others taken after made rounds =
-    omega (arith, rounds.as_many, length-map others (λ (d : Desked). d.work), length-map desks (λ (d : Desked). d.work))
+round-many desks others rounds = omega (arith, rounds.as_many, length-map others (λ (d : Desked). d.work), length-map desks (λ (d : Desked). d.work))
 
 -- Before the first round nobody has entered anything.
 abbrev pub idle : Work

@@ -237,66 +237,6 @@ module _ (o : Opened) (start : List Event) (first : ℕ) (batch : List Update) w
   tries s place amount seen update (Err (fault.NoMemory (Some receipt))) kept told pre legal at done cause more =
       leaves-untold s place amount seen update receipt kept more told pre legal at cause
 
-  pub spent-so : (w : Work) (place : ℕ) (old new : List Event) (update : Update) (outcome : Result Done UpdateFault)
-      → IfErr outcome (λ fault. HasUpdateCause o old new (first + place) update fault)
-      → w.left ≡ Kept place → KeepsIfSpent o new (noted place outcome w).left
-  spent-so w place old new update (Ok done) cause kept = tt
-  spent-so w place old new update (Err (fault.Spent highest needed)) cause kept =
-      subst (KeepsIfSpent o new) (sym kept) (inl (nearly_spent o.table new highest needed cause))
-  spent-so w place old new update (Err (fault.Full entries)) cause kept = subst (KeepsIfSpent o new) (sym kept) (inr (omega (arith, cause.0, cause.1)))
-  spent-so w place old new update (Err (fault.NoMemory None)) cause kept = tt
-  spent-so w place old new update (Err (fault.NoMemory (Some receipt))) cause kept = tt
-
-  -- The same as a step of a worker is seen, which is known as `now` from before.
-  module _ (count : ℕ) (s now : Seated) (same : s ≡ now) (ready : IsReady o start count now) where
-    legal-now : Legal o.table.shape o.table.opening s.seen.log
-    legal-now = subst (λ (n : Seated). Legal o.table.shape o.table.opening n.seen.log) (sym same) ready.legal
-
-    told-now : IsPrefix start s.seen.log
-    told-now = subst (λ (n : Seated). IsPrefix start n.seen.log) (sym same) ready.told
-
-    pub left-nothing : ((place : ℕ) → s.work.left ≡ Kept place → ⊥) → s.work.left ≡ Nothing
-    left-nothing none = nothing-kept count s.work.left (subst (λ (n : Seated). KeepsOneOf count n.work.left) (sym same) ready.keeps) none
-
-    pub picked-none : (consumer : Consuming) → consumer ≡ s.consumer → Works o start first batch now (record s { consumer = consumer })
-    picked-none consumer is = subst (λ (n : Seated). Works o start first batch n (record s { consumer = consumer })) same (picks-none s consumer is legal-now)
-
-    pub picked-next : (place : ℕ) (consumer : Consuming) → s.work.left ≡ Nothing → consumer ≡ record s.consumer { taken = s.consumer.taken ++ place ∷ [] }
-        → Works o start first batch now (record s { work = record { done = s.work.done; left = Kept place }; consumer = consumer })
-    picked-next place consumer none is =
-        subst (λ (n : Seated). Works o start first batch n (record s { work = record { done = s.work.done; left = Kept place }; consumer = consumer })) same
-        (picks-next s place consumer none legal-now is)
-
-    pub dropped : (place : ℕ) (ds : List Done) → now.work.left ≡ Kept place → ds ≡ s.work.done
-        → Works o start first batch now (record s { work = record { done = ds; left = Dropped place } })
-    dropped place ds kept is =
-        subst (λ (n : Seated). Works o start first batch n (record s { work = record { done = ds; left = Dropped place } })) same
-        (subst (λ (z : List Done). Works o start first batch s (record s { work = record { done = z; left = Dropped place } })) (sym is)
-        (drops s place s.amount s.seen (ap (λ (n : Seated). n.work.left) same ∙ kept) refl (prefix_self s.seen.log) legal-now))
-
-    module _ (place : ℕ) (update : Update) (outcome : Result Done UpdateFault) (ds : List Done) (w : Work)
-        (kept : now.work.left ≡ Kept place) (is : ds ≡ s.work.done)
-        (left : noted place outcome (record { done = ds; left = s.work.left }) ≡ w) where
-      noted-so : noted place outcome s.work ≡ w
-      noted-so = ap (λ (z : List Done). noted place outcome (record { done = z; left = s.work.left })) (sym is) ∙ left
-
-      pub tried : (amount : ℕ) (seen : Seen) → place < length batch → update ≡ get_or batch place update
-          → IsPrefix s.seen.log seen.log → Legal o.table.shape o.table.opening seen.log
-          → IfOk outcome (λ done. IsDone o s.seen.log seen.log (first + place) update done)
-          → IfErr outcome (λ fault. HasUpdateCause o s.seen.log seen.log (first + place) update fault)
-          → MatchResult outcome (λ done. amount ≡ s.amount + 1) (λ fault. amount ≡ s.amount + entered_by fault)
-          → Works o start first batch now (record s { seen = seen; amount = amount; work = w })
-      tried amount seen here at pre legal done cause more =
-          subst (λ (n : Seated). Works o start first batch n (record s { seen = seen; amount = amount; work = w })) same
-          (subst (λ (z : Work). Works o start first batch s (record s { seen = seen; amount = amount; work = z })) noted-so
-          (tries s place amount seen update outcome (ap (λ (n : Seated). n.work.left) same ∙ kept) told-now pre legal
-          (update_at first batch place update here at) done cause more))
-
-      pub tried-spent : (new : List Event) → IfErr outcome (λ fault. HasUpdateCause o s.seen.log new (first + place) update fault) → KeepsIfSpent o new w.left
-      tried-spent new cause =
-          subst (λ (z : Work). KeepsIfSpent o new z.left) noted-so
-          (spent-so s.work place s.seen.log new update outcome cause (ap (λ (n : Seated). n.work.left) same ∙ kept))
-
   -- One step after the other.
   pub works-trans : (a b c : Seated) → IsPrefix start a.seen.log → Works o start first batch a b → Works o start first batch b c → Works o start first batch a c
   works-trans a b c told h k =
@@ -320,3 +260,81 @@ module _ (o : Opened) (start : List Event) (first : ℕ) (batch : List Update) w
         amount = omega (arith, h.amount, k.amount, length-append h.added k.added);
         balance = λ y. omega (arith, h.balance y, k.balance y);
       }
+
+-- What became of the update at this place, which was kept: what the worker has seen then, what its part of the ledger counts, and its work.
+pub record IsTried (o : Opened) (first : ℕ) (batch : List Update) (s : Seated) (place : ℕ) (seen : Seen) (amount : ℕ) (work : Work) : Type 0 where
+  pub update : Update
+  pub outcome : Result Done UpdateFault
+  pub had : List Done
+  pub kept : s.work.left ≡ Kept place
+  pub is : had ≡ s.work.done
+  pub notes : noted place outcome (record { done = had; left = s.work.left }) ≡ work
+  pub within : place < length batch
+  pub at : update ≡ get_or batch place update
+  pub longer : IsPrefix s.seen.log seen.log
+  pub legal : Legal o.table.shape o.table.opening seen.log
+  pub entered : IfOk outcome (λ done. IsDone o s.seen.log seen.log (first + place) update done)
+  pub cause : IfErr outcome (λ fault. HasUpdateCause o s.seen.log seen.log (first + place) update fault)
+  pub counted : MatchResult outcome (λ done. amount ≡ s.amount + 1) (λ fault. amount ≡ s.amount + entered_by fault)
+
+-- so it is noted from the work that the worker had
+noted-so : {o : Opened} {first : ℕ} {batch : List Update} {s : Seated} {place : ℕ} {seen : Seen} {amount : ℕ} {work : Work}
+    (t : IsTried o first batch s place seen amount work) → noted place t.outcome s.work ≡ work
+noted-so {s = s} {place = place} t = ap (λ (z : List Done). noted place t.outcome (record { done = z; left = s.work.left })) (sym t.is) ∙ t.notes
+
+-- where an update is kept after that, versions are spent
+spent-so : (o : Opened) (first : ℕ) (w : Work) (place : ℕ) (old new : List Event) (update : Update) (outcome : Result Done UpdateFault)
+    → IfErr outcome (λ fault. HasUpdateCause o old new (first + place) update fault) → w.left ≡ Kept place
+    → KeepsIfSpent o new (noted place outcome w).left
+spent-so o first w place old new update (Ok done) cause kept = tt
+spent-so o first w place old new update (Err (fault.Spent highest needed)) cause kept =
+    subst (KeepsIfSpent o new) (sym kept) (inl (nearly_spent o.table new highest needed cause))
+spent-so o first w place old new update (Err (fault.Full entries)) cause kept =
+    subst (KeepsIfSpent o new) (sym kept) (inr (omega (arith, cause.0, cause.1)))
+spent-so o first w place old new update (Err (fault.NoMemory None)) cause kept = tt
+spent-so o first w place old new update (Err (fault.NoMemory (Some receipt))) cause kept = tt
+
+-- So it is here.
+pub tried-spent : {o : Opened} {first : ℕ} {batch : List Update} {s : Seated} {place : ℕ} {seen : Seen} {amount : ℕ} {work : Work}
+    → IsTried o first batch s place seen amount work → KeepsIfSpent o seen.log work.left
+tried-spent {o} {first} {batch} {s} {place} {seen} {amount} {work} t =
+    subst (λ (z : Work). KeepsIfSpent o seen.log z.left) (noted-so t)
+    (spent-so o first s.work place s.seen.log seen.log t.update t.outcome t.cause t.kept)
+
+-- The same as a step of a worker is seen, which is known as `now` from before.
+module _ {o : Opened} {start : List Event} {count : ℕ} {s now : Seated} (same : s ≡ now) (ready : IsReady o start count now) where
+  legal-now : Legal o.table.shape o.table.opening s.seen.log
+  legal-now = subst (λ (n : Seated). Legal o.table.shape o.table.opening n.seen.log) (sym same) ready.legal
+
+  told-now : IsPrefix start s.seen.log
+  told-now = subst (λ (n : Seated). IsPrefix start n.seen.log) (sym same) ready.told
+
+  pub left-nothing : ((place : ℕ) → s.work.left ≡ Kept place → ⊥) → s.work.left ≡ Nothing
+  left-nothing none = nothing-kept count s.work.left (subst (λ (n : Seated). KeepsOneOf count n.work.left) (sym same) ready.keeps) none
+
+  pub picked-none : {first : ℕ} {batch : List Update} {consumer : Consuming} → consumer ≡ s.consumer
+      → Works o start first batch now (record s { consumer = consumer })
+  picked-none {first} {batch} {consumer} is =
+      subst (λ (n : Seated). Works o start first batch n (record s { consumer = consumer })) same (picks-none o start first batch s consumer is legal-now)
+
+  pub picked-next : {first : ℕ} {batch : List Update} {place : ℕ} {consumer : Consuming} → s.work.left ≡ Nothing
+      → consumer ≡ record s.consumer { taken = s.consumer.taken ++ place ∷ [] }
+      → Works o start first batch now (record s { work = record { done = s.work.done; left = Kept place }; consumer = consumer })
+  picked-next {first} {batch} {place} {consumer} none is =
+      subst (λ (n : Seated). Works o start first batch n (record s { work = record { done = s.work.done; left = Kept place }; consumer = consumer })) same
+      (picks-next o start first batch s place consumer none legal-now is)
+
+  pub dropped : {first : ℕ} {batch : List Update} {place : ℕ} {had : List Done} → now.work.left ≡ Kept place → had ≡ s.work.done
+      → Works o start first batch now (record s { work = record { done = had; left = Dropped place } })
+  dropped {first} {batch} {place} {had} kept is =
+      subst (λ (n : Seated). Works o start first batch n (record s { work = record { done = had; left = Dropped place } })) same
+      (subst (λ (z : List Done). Works o start first batch s (record s { work = record { done = z; left = Dropped place } })) (sym is)
+      (drops o start first batch s place s.amount s.seen (ap (λ (n : Seated). n.work.left) same ∙ kept) refl (prefix_self s.seen.log) legal-now))
+
+  pub tried : {first : ℕ} {batch : List Update} {place : ℕ} {seen : Seen} {amount : ℕ} {work : Work} → IsTried o first batch s place seen amount work
+      → Works o start first batch now (record s { seen = seen; amount = amount; work = work })
+  tried {first} {batch} {place} {seen} {amount} {work} t =
+      subst (λ (n : Seated). Works o start first batch n (record s { seen = seen; amount = amount; work = work })) same
+      (subst (λ (z : Work). Works o start first batch s (record s { seen = seen; amount = amount; work = z })) (noted-so t)
+      (tries o start first batch s place amount seen t.update t.outcome t.kept told-now t.longer t.legal
+      (update_at first batch place t.update t.within t.at) t.entered t.cause t.counted))

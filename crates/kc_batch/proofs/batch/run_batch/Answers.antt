@@ -12,7 +12,19 @@ use Rattle.kc_batch.specs.Desks.{Desked, Work}
 use Rattle.kc_batch.specs.declared.done.BatchDone.{BatchDone}
 use Rattle.kc_batch.specs.declared.left.Left.TheVariants.{Nothing}
 use Rattle.kc_batch.proofs.Closing.{cut-at_start, done-so, idle, same-many, stood-all-so, stood-many}
+use Rattle.kc_batch.proofs.batch.run_batch.Given.{Over}
+use Rattle.kc_batch.proofs.batch.run_batch.Goals.{After-tell_all}
 use Rattle.kc_batch.proofs.batch.run_batch.Goals as goal
+
+-- once all are told there are as many desks as workers
+told-many : (g : Over) (c : After-tell_all g) → vec_len c.tell_all.new.desks ≡ vec_len c.args.workers.now
+told-many g c = omega (
+  arith,
+  same-many c.sit_down-desks.result.items c.tell_all.new.desks.items c.tell_all.ensures.works,
+  c.tell_all.new.desks.ok.0,
+  c.sit_down-desks.result.ok.0,
+  c.sit_down-desks.ensures.as_many,
+)
 
 pub returns-in_default-clause-cut_short : goal.returns-in_default-clause-cut_short
 returns-in_default-clause-cut_short g c = cut-at_start c.args.parts.journal c.args.first c.args.batch.now
@@ -31,52 +43,36 @@ run_desks-parts-requires-clause-numbers g c κs within =
 
 pub run_desks-parts-requires-clause-some : goal.run_desks-parts-requires-clause-some
 run_desks-parts-requires-clause-some g c κs within =
-    let many = same-many c.sit_down-desks.result.items c.tell_all.new.desks.items c.tell_all.ensures.works in
-    let same : vec_len c.tell_all.new.desks ≡ vec_len c.args.workers.now =
-    omega (arith, many, c.tell_all.new.desks.ok.0, c.sit_down-desks.result.ok.0, c.sit_down-desks.ensures.as_many) in
-    (omega (arith, same, c.requires.workers.0), omega (arith, same, c.requires.workers.1))
+    (omega (arith, told-many g c, c.requires.workers.0), omega (arith, told-many g c, c.requires.workers.1))
 
 pub stand_up-shares-requires-clause-workers : goal.stand_up-shares-requires-clause-workers
-stand_up-shares-requires-clause-workers g c =
-    let many = same-many c.sit_down-desks.result.items c.tell_all.new.desks.items c.tell_all.ensures.works in (
-      c.sit_down-desks.ensures.workers.0,
-      omega (
-        arith,
-        many,
-        c.tell_all.new.desks.ok.0,
-        c.sit_down-desks.result.ok.0,
-        c.sit_down-desks.ensures.as_many,
-        c.run_desks-parts.ensures.as_many,
-        c.sit_down-desks.ensures.workers.1,
-      ),
-    )
+stand_up-shares-requires-clause-workers g c = (
+  c.sit_down-desks.ensures.workers.0,
+  omega (
+    arith,
+    told-many g (goal.at.stand_up-shares-requires-clause-workers g c).After-tell_all,
+    c.run_desks-parts.ensures.as_many,
+    c.sit_down-desks.ensures.workers.1,
+  ),
+)
 
 pub stand_up-shares-requires-clause-shares : goal.stand_up-shares-requires-clause-shares
-stand_up-shares-requires-clause-shares g c =
-    let many = same-many c.sit_down-desks.result.items c.tell_all.new.desks.items c.tell_all.ensures.works in
-    let made = c.in-Ok-Ok.ensures' in (
-      made.items,
-      omega (
-        arith,
-        many,
-        c.tell_all.new.desks.ok.0,
-        c.sit_down-desks.result.ok.0,
-        c.sit_down-desks.ensures.as_many,
-        c.run_desks-parts.ensures.as_many,
-        made.capacity,
-        c.len-count.ensures,
-      ),
-    )
+stand_up-shares-requires-clause-shares g c = (
+  c.in-Ok-Ok.ensures'.items,
+  omega (
+    arith,
+    told-many g (goal.at.stand_up-shares-requires-clause-shares g c).After-tell_all,
+    c.run_desks-parts.ensures.as_many,
+    c.in-Ok-Ok.ensures'.capacity,
+    c.len-count.ensures,
+  ),
+)
 
 pub stand_up-shares-requires-clause-few : goal.stand_up-shares-requires-clause-few
 stand_up-shares-requires-clause-few g c =
-    let many = same-many c.sit_down-desks.result.items c.tell_all.new.desks.items c.tell_all.ensures.works in
     omega (
       arith,
-      many,
-      c.tell_all.new.desks.ok.0,
-      c.sit_down-desks.result.ok.0,
-      c.sit_down-desks.ensures.as_many,
+      told-many g (goal.at.stand_up-shares-requires-clause-few g c).After-tell_all,
       c.run_desks-parts.ensures.as_many,
       c.requires.workers.1,
     )
@@ -95,15 +91,11 @@ returns-in-Ok-clause-done g c =
     let Free : Type 0 = All (λ (d : Desked). d.work.left ≡ Nothing) desks in
     let worked = IfOk-at_ok Worked c.in-Ok.is c.run_desks-parts.ensures.worked in
     let free = IfOk-at_ok (λ (ps : Vec Pass Global). Free) c.in-Ok.is c.run_desks-parts.ensures.nothing in
-    let many = same-many c.sit_down-desks.result.items c.tell_all.new.desks.items c.tell_all.ensures.works in
     subst (λ (p : Parted). IsDone p.journal parts.journal c.args.first batch (vec_len c.args.workers.now) done) c.tell_all.ensures.same
     (done-so old parts.journal c.args.first batch desks worked.0 (vec_len c.args.workers.now) done worked.2 worked.1 free c.stand_up-shares.ensures.done
     (omega (
       arith,
-      many,
-      c.tell_all.new.desks.ok.0,
-      c.sit_down-desks.result.ok.0,
-      c.sit_down-desks.ensures.as_many,
+      told-many g (goal.at.returns-in-Ok-clause-done g c).After-tell_all,
       c.run_desks-parts.ensures.as_many,
       c.stand_up-shares.ensures.one_each,
       c.stand_up-shares.result.ok.0,
@@ -112,15 +104,10 @@ returns-in-Ok-clause-done g c =
 
 pub returns-in-Ok-clause-as_many : goal.returns-in-Ok-clause-as_many
 returns-in-Ok-clause-as_many g c =
-    let many = same-many c.sit_down-desks.result.items c.tell_all.new.desks.items c.tell_all.ensures.works in
-    let up = stood-many c.stand_up-shares.new.workers.items c.run_desks-parts.result.1.items c.stand_up-shares.ensures.workers in
     omega (
       arith,
-      many,
-      up,
-      c.tell_all.new.desks.ok.0,
-      c.sit_down-desks.result.ok.0,
-      c.sit_down-desks.ensures.as_many,
+      told-many g (goal.at.returns-in-Ok-clause-as_many g c).After-tell_all,
+      stood-many c.stand_up-shares.new.workers.items c.run_desks-parts.result.1.items c.stand_up-shares.ensures.workers,
       c.run_desks-parts.ensures.as_many,
       c.run_desks-parts.result.1.ok.0,
       c.stand_up-shares.new.workers.ok.0,
@@ -141,15 +128,10 @@ returns-in-Ok-clause-told g c =
 
 pub returns-in-Err-clause-as_many : goal.returns-in-Err-clause-as_many
 returns-in-Err-clause-as_many g c =
-    let many = same-many c.sit_down-desks.result.items c.tell_all.new.desks.items c.tell_all.ensures.works in
-    let up = stood-many c.stand_up-shares.new.workers.items c.run_desks-parts.result.1.items c.stand_up-shares.ensures.workers in
     omega (
       arith,
-      many,
-      up,
-      c.tell_all.new.desks.ok.0,
-      c.sit_down-desks.result.ok.0,
-      c.sit_down-desks.ensures.as_many,
+      told-many g (goal.at.returns-in-Err-clause-as_many g c).After-tell_all,
+      stood-many c.stand_up-shares.new.workers.items c.run_desks-parts.result.1.items c.stand_up-shares.ensures.workers,
       c.run_desks-parts.ensures.as_many,
       c.run_desks-parts.result.1.ok.0,
       c.stand_up-shares.new.workers.ok.0,

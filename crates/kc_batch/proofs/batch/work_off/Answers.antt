@@ -5,63 +5,53 @@ use Rattle.kc_table.specs.Log.{TableName}
 use Rattle.kc_journal.specs.Journals.{Stands}
 use Rattle.kc_stripes.specs.Records.{opened_with}
 use Rattle.kc_batch.specs.Batches.{IsCrew, IsCutShort}
-use Rattle.kc_batch.specs.Desks.{Desked, KeepsOneOf}
+use Rattle.kc_batch.specs.Desks.{Desked, KeepsOneOf, Work}
 use Rattle.kc_batch.specs.Seats.{Rounds}
 use Rattle.kc_batch.specs.declared.crew.Crew.{Crew}
-use Rattle.kc_batch.proofs.Closing.{crew-cut, crew-round, round-many, round-spent}
+use Rattle.kc_batch.proofs.Closing.{IsRound, crew-cut, crew-round, round-many, round-spent}
 use Rattle.kc_batch.proofs.batch.work_off.Goals as goal
 
 pub returns-in-Err-clause-cut_short : goal.returns-in-Err-clause-cut_short
 returns-in-Err-clause-cut_short g c =
-    let o = g.of in
-    let now = c.loop.crew in
-    let cut = crew-cut o.old o.first o.batch c.loop.ended.items c.args.queue.now now.parts.words now.parts.journal
-    now.desks.items now.consumer c.loop.invariant.crew in
-    subst (λ (k : Crew). IsCutShort o.old k.parts.journal o.first o.batch × All (λ (d : Desked). d.seen.table ≡ k.parts.words) k.desks.items)
-    (sym c.in-Err.ensures.same) cut
+    subst (λ (k : Crew). IsCutShort g.of.old k.parts.journal g.of.first g.of.batch × All (λ (d : Desked). d.seen.table ≡ k.parts.words) k.desks.items)
+    (sym c.in-Err.ensures.same) (crew-cut c.loop.invariant.crew)
 
 pub go_on-requires : goal.go_on-requires
 go_on-requires g c κs within =
     let b = g.of in
-    let at = c.loop.invariant in
+    let i = c.loop.invariant in
     let now : Crew = c.loop.crew in
     let next : Crew = c.in-Ok.after in
-    let r = c.in-Ok.ensures in
-    let made = r.rounds.0 in
-    let work = λ (d : Desked). d.work in
-    let before = map work now.desks.items in
-    let after = map work next.desks.items in
-    let o = opened_with now.parts.words now.parts.journal.opened now.parts.journal.opening_stamps in
-    let start = now.parts.journal.levels.log in
-    let log = next.parts.journal.levels.log in
-    let rounds : Rounds o start log b.first b.batch before after now.consumer.taken next.consumer.taken made =
-    subst (λ (f : ℕ). Rounds o start log f b.batch before after now.consumer.taken next.consumer.taken made) (sym at.of_first)
-    (subst (λ (us : List Update). Rounds o start log c.args.first us before after now.consumer.taken next.consumer.taken made) (sym at.of_batch) r.rounds.2) in
-    let stood : Stands now.parts.journal = subst Stands (ap (λ (k : Crew). k.parts.journal) c.crew.view_is) c.look.ensures in
-    let stands : Stands next.parts.journal = subst Stands (ap (λ (k : Crew). k.parts.journal) c.crew-in-loop.view_is) c.look-in-loop.ensures in
-    let on : IsCrew b.old b.first b.batch c.loop.ended.items c.args.queue.now now.parts.words next.parts.journal next.desks.items next.consumer =
-    crew-round b.old b.first b.batch c.loop.ended.items c.args.queue.now now.parts.words now.parts.journal next.parts.journal now.desks.items next.desks.items
-    now.consumer next.consumer made at.crew stood stands r.stays r.rounds.1 r.quiet rounds r.told r.consumer in (
+    let made = c.in-Ok.ensures in
+    let works : List Desked → List Work = map (λ (d : Desked). d.work) in
+    let Made : ℕ → List Update → Type 0 = λ first batch.
+    Rounds (opened_with now.parts.words now.parts.journal.opened now.parts.journal.opening_stamps) now.parts.journal.levels.log next.parts.journal.levels.log
+    first batch (works now.desks.items) (works next.desks.items) now.consumer.taken next.consumer.taken made.rounds.0 in
+    let round : IsRound now.parts.words b.first b.batch c.args.queue.now now.parts.journal next.parts.journal now.desks.items next.desks.items
+    now.consumer next.consumer = record {
+      stood = subst Stands (ap (λ (k : Crew). k.parts.journal) c.crew.view_is) c.look.ensures;
+      stands = subst Stands (ap (λ (k : Crew). k.parts.journal) c.crew-in-loop.view_is) c.look-in-loop.ensures;
+      stays = made.stays;
+      made = made.rounds.0;
+      total = made.rounds.1;
+      quiet = made.quiet;
+      rounds = subst (λ (first : ℕ). Made first b.batch) (sym i.of_first) (subst (Made c.args.first) (sym i.of_batch) made.rounds.2);
+      told = made.told;
+      owns = made.consumer;
+    } in (
       within,
       (
         subst (λ (t : TableName). IsCrew b.old b.first b.batch c.loop.ended.items c.args.queue.now t next.parts.journal next.desks.items next.consumer)
-            (sym r.words) on,
+            (sym made.words) (crew-round round i.crew),
         (
-          round-spent now.parts.words now.parts.journal next.parts.journal b.first b.batch before next.desks.items now.consumer.taken next.consumer.taken made
-              at.crew.table r.stays rounds,
+          round-spent round i.crew.table,
           (
-            stands,
+            round.stands,
             (
-              at.numbers,
+              i.numbers,
               (
-                at.count ∙ ap (λ (us : List Update). length us) (sym at.of_batch),
-                omega (
-                  arith,
-                  round-many o start log b.first b.batch now.desks.items next.desks.items now.consumer.taken next.consumer.taken made rounds,
-                  next.desks.ok.0,
-                  now.desks.ok.0,
-                  at.some,
-                ),
+                i.count ∙ ap (λ (us : List Update). length us) (sym i.of_batch),
+                omega (arith, round-many now.desks.items next.desks.items made.rounds.2, next.desks.ok.0, now.desks.ok.0, i.some),
               ),
             ),
           ),
@@ -71,17 +61,11 @@ go_on-requires g c κs within =
 
 pub loop-preserved : goal.loop-preserved
 loop-preserved g c =
-    let b = g.of in
     let at = c.loop.invariant in
     let r = c.in-Ok-true.ensures in
-    let now : Crew = c.loop.crew in
-    let next : Crew = c.in-Ok.after in
     let k = c.in-Ok.ensures in
-    let n = now.parts.journal in
-    let many : length next.desks.items ≡ length now.desks.items =
-    round-many (opened_with now.parts.words n.opened n.opening_stamps) n.levels.log next.parts.journal.levels.log c.args.first c.args.batch.now now.desks.items
-    next.desks.items now.consumer.taken next.consumer.taken k.rounds.0 k.rounds.2 in
-    let same : vec_len next.desks ≡ vec_len now.desks = omega (arith, many, next.desks.ok.0, now.desks.ok.0) in
+    let many = round-many c.loop.crew.desks.items c.in-Ok.after.desks.items k.rounds.2 in
+    let same : vec_len c.in-Ok.after.desks ≡ vec_len c.loop.crew.desks = omega (arith, many, c.in-Ok.after.desks.ok.0, c.loop.crew.desks.ok.0) in
     record {
       crew = r.crew;
       keeps = subst (λ (n : ℕ). All (λ (d : Desked). KeepsOneOf n d.work.left) c.go_on.new.self.desks.items) at.count (r.keeps c.in-Ok-true.field-0-test);

@@ -10,15 +10,12 @@ use Rattle.kc_batch.proofs.Rounding.{same-images, still}
 use Rattle.kc_batch.proofs.round.tell_all.Goals as goal
 
 pub tell-requires : goal.tell-requires
-tell-requires c =
-    let at = c.loop-desk.invariant in
-    let i = c.loop-desk.desk-index in
-    let before = c.deref_mut-desk-items.result.now in
-    let d = c.desk-item.result in
-    record {
-      table = ap (λ (d : Desked). d.seen.table) (still i c.loop-desk.desk-items before d at.rest)
-          ∙ (at.table i d c.loop-desk-test.true ∙ ap (λ (p : Parted). p.words) (sym at.same));
-    }
+tell-requires c = record {
+  table = ap (λ (d : Desked). d.seen.table)
+      (still c.loop-desk.desk-index c.loop-desk.desk-items c.deref_mut-desk-items.result.now c.desk-item.result c.loop-desk.invariant.rest)
+      ∙ (c.loop-desk.invariant.table c.loop-desk.desk-index c.desk-item.result c.loop-desk-test.true
+      ∙ ap (λ (p : Parted). p.words) (sym c.loop-desk.invariant.same));
+}
 
 pub loop-desk-preserved : goal.loop-desk-preserved
 loop-desk-preserved c =
@@ -49,8 +46,6 @@ loop-desk-preserved c =
 
 pub returns-clause-longer : goal.returns-clause-longer
 returns-clause-longer c =
-    let at = c.loop-desk.invariant in
-    let parts : Parted = c.args.parts.now in
-    let before = c.deref_mut-desk-items.result.now in
-    let Longer : Desked → Type 0 = λ d. IsPrefix d.seen.log parts.journal.levels.log in
-    subst (All Longer) (take_all c.loop-desk.desk-index before c.loop-desk-test.false ∙ c.deref_mut-desk-items.ensures.value) at.longer
+    subst (All (λ (d : Desked). IsPrefix d.seen.log c.args.parts.now.journal.levels.log))
+    (take_all c.loop-desk.desk-index c.deref_mut-desk-items.result.now c.loop-desk-test.false ∙ c.deref_mut-desk-items.ensures.value)
+    c.loop-desk.invariant.longer
