@@ -218,17 +218,24 @@ pub seats-many : (seats : List Seated) (desks : List Desked) → map desk_of (ba
 seats-many seats desks is = omega (arith, ap (λ (z : List Desked). length z) is, length-map (backward seats) desk_of, length-backward seats)
 
 -- a slice that is as long as its list is written back whole
-pub written-whole : {A : Type 0} (new old : List A) (n : ℕ) → length new ≡ length old → n ≡ length old → take n (new ++ drop (length new) old) ≡ new
+written-whole : {A : Type 0} (new old : List A) (n : ℕ) → length new ≡ length old → n ≡ length old → take n (new ++ drop (length new) old) ≡ new
 written-whole {A} new old n long is =
     ap (λ (z : List A). take n (new ++ z)) (drop_all (length new) old (omega arith))
     ∙ (ap (λ (z : List A). take n z) (append-nil new) ∙ take_all n new (omega arith))
 
 -- lists of which something holds place by place have one length
-pub zip-length : {A : Type 0} (R : A → A → Type 0) (xs ys : List A) → AllZip R xs ys → length xs ≡ length ys
+zip-length : {A : Type 0} (R : A → A → Type 0) (xs ys : List A) → AllZip R xs ys → length xs ≡ length ys
 zip-length R [] [] h = refl
 zip-length R [] (y ∷ ys) h = absurd h
 zip-length R (x ∷ xs) [] h = absurd h
 zip-length R (x ∷ xs) (y ∷ ys) h = ap suc (zip-length R xs ys h.1)
+
+-- So it is where something holds place by place of what was read of the list and of what is written, which then is the list.
+pub written-all : {A : Type 0} (R : A → A → Type 0) (old new : List A) (n : ℕ) {read : List A} → read ≡ old → AllZip R read new → n ≡ length old
+    → AllZip R old new × (take n (new ++ drop (length new) old) ≡ new)
+written-all {A} R old new n same h long =
+    let zip : AllZip R old new = subst (λ (z : List A). AllZip R z new) same h in
+    (zip, written-whole new old n (sym (zip-length R old new zip)) long)
 
 -- the log of a journal that stands is legal in its table
 pub legal_in : (t : TableName) (log : List Event) (j : Journalled) → Stands j → j.levels.table ≡ t → j.levels.log ≡ log → Legal t.shape t.opening log
