@@ -5,8 +5,19 @@ use Rattle.kc_table.specs.Log.{TableName}
 use Rattle.kc_journal.specs.Journals.{Journalled}
 use Rattle.kc_journal.proofs.AfterEntry.{size-is}
 use Rattle.kc_course.specs.Courses.{Coursed}
-use Rattle.kc_course.proofs.Batching.{counted, entries-more, graph-after, same-start, worked, worked-further}
+use Rattle.kc_course.proofs.Batching.{Counted, Worked, counted, entries-more, graph-after, same-start, worked, worked-further}
+use Rattle.kc_course.proofs.course.Course.work.Given.{Over}
+use Rattle.kc_course.proofs.course.Course.work.Goals.{After-deref-2}
 use Rattle.kc_course.proofs.course.Course.work.Goals as goal
+
+-- the batch was entered whole, and what is counted of it
+module _ (g : Over) (c : After-deref-2 g) where
+  work-entered : Worked c.args.self.journal c.in_ok-parts.parts.journal c.entered_by-first.result c.args.batch.now c.self.inside.workers.len c.in_ok-parts.done
+  work-entered = worked c.self.view_is c.entered_by-first.ensures.stands c.entered_by-first.ensures.entered c.in_ok-parts.ensures.stands c.requires.batch
+      c.in_ok-parts.ensures.done
+
+  work-counted : Counted c.args.self.journal.graph.edges c.entered_by-first.result c.args.batch.now c.deref-2.result.now
+  work-counted = counted work-entered c.deref-2.ensures.value c.in_ok-outcomes.ensures c.deref.ensures.value
 
 pub entered_by-first-requires : goal.entered_by-first-requires
 entered_by-first-requires g c = omega (arith, ap (λ (s : Coursed). length s.journal.entries) c.self.view_is, c.requires.indices)
@@ -35,56 +46,33 @@ enter_all-requires-clause-within g c = λ _ _.
     subst (λ (n : ℕ). All (λ (u : Update). u.v < n) c.args.batch.now) size c.requires.batch.within
 
 pub count-counts-requires-clause-within : goal.count-counts-requires-clause-within
-count-counts-requires-clause-within g c =
-    let w = worked c.self.view_is c.entered_by-first.ensures.stands c.entered_by-first.ensures.entered c.in_ok-parts.ensures.stands c.requires.batch
-    c.in_ok-parts.ensures.done in
-    (counted w c.deref-2.ensures.value c.in_ok-outcomes.ensures c.deref.ensures.value).within
+count-counts-requires-clause-within g c = (work-counted g c).within
 
 pub count-counts-requires-clause-few : goal.count-counts-requires-clause-few
-count-counts-requires-clause-few g c =
-    let w = worked c.self.view_is c.entered_by-first.ensures.stands c.entered_by-first.ensures.entered c.in_ok-parts.ensures.stands c.requires.batch
-    c.in_ok-parts.ensures.done in
-    omega (arith, (counted w c.deref-2.ensures.value c.in_ok-outcomes.ensures c.deref.ensures.value).few, c.requires.few)
+count-counts-requires-clause-few g c = omega (arith, (work-counted g c).few, c.requires.few)
 
 pub returns-clause-graph : goal.returns-clause-graph
-returns-clause-graph g c =
-    let w = worked c.self.view_is c.entered_by-first.ensures.stands c.entered_by-first.ensures.entered c.in_ok-parts.ensures.stands c.requires.batch
-    c.in_ok-parts.ensures.done in
-    graph-after w
+returns-clause-graph g c = graph-after (work-entered g (goal.at.returns-clause-graph g c).After-deref-2)
 
 pub returns-clause-entries : goal.returns-clause-entries
-returns-clause-entries g c =
-    let w = worked c.self.view_is c.entered_by-first.ensures.stands c.entered_by-first.ensures.entered c.in_ok-parts.ensures.stands c.requires.batch
-    c.in_ok-parts.ensures.done in
-    entries-more w
+returns-clause-entries g c = entries-more (work-entered g (goal.at.returns-clause-entries g c).After-deref-2)
 
 pub returns-clause-started : goal.returns-clause-started
-returns-clause-started g c =
-    let w = worked c.self.view_is c.entered_by-first.ensures.stands c.entered_by-first.ensures.entered c.in_ok-parts.ensures.stands c.requires.batch
-    c.in_ok-parts.ensures.done in
-    same-start w
+returns-clause-started g c = same-start (work-entered g (goal.at.returns-clause-started g c).After-deref-2)
 
 pub returns-clause-added : goal.returns-clause-added
 returns-clause-added g c =
-    let w = worked c.self.view_is c.entered_by-first.ensures.stands c.entered_by-first.ensures.entered c.in_ok-parts.ensures.stands c.requires.batch
-    c.in_ok-parts.ensures.done in
-    c.count-counts.ensures.added ∙ (counted w c.deref-2.ensures.value c.in_ok-outcomes.ensures c.deref.ensures.value).added
+    c.count-counts.ensures.added ∙ (work-counted g (goal.at.returns-clause-added g c).After-deref-2).added
 
 pub returns-clause-removed : goal.returns-clause-removed
 returns-clause-removed g c =
-    let w = worked c.self.view_is c.entered_by-first.ensures.stands c.entered_by-first.ensures.entered c.in_ok-parts.ensures.stands c.requires.batch
-    c.in_ok-parts.ensures.done in
-    c.count-counts.ensures.removed ∙ (counted w c.deref-2.ensures.value c.in_ok-outcomes.ensures c.deref.ensures.value).removed
+    c.count-counts.ensures.removed ∙ (work-counted g (goal.at.returns-clause-removed g c).After-deref-2).removed
 
 pub returns-clause-kept : goal.returns-clause-kept
 returns-clause-kept g c =
-    let w = worked c.self.view_is c.entered_by-first.ensures.stands c.entered_by-first.ensures.entered c.in_ok-parts.ensures.stands c.requires.batch
-    c.in_ok-parts.ensures.done in
-    c.count-counts.ensures.kept ∙ (counted w c.deref-2.ensures.value c.in_ok-outcomes.ensures c.deref.ensures.value).kept
+    c.count-counts.ensures.kept ∙ (work-counted g (goal.at.returns-clause-kept g c).After-deref-2).kept
 
 pub returns-clause-worked : goal.returns-clause-worked
 returns-clause-worked g c = λ batches h.
-    let w = worked c.self.view_is c.entered_by-first.ensures.stands c.entered_by-first.ensures.entered c.in_ok-parts.ensures.stands c.requires.batch
-    c.in_ok-parts.ensures.done in
-    worked-further w batches c.args.ran.now.tables.items c.take_over.new.self.tables.items c.args.ran.now.shares.items c.take_over.new.self.shares.items
-    c.in_ok-take_over.ensures.tables c.in_ok-take_over.ensures.shares h
+    worked-further (work-entered g (goal.at.returns-clause-worked g c).After-deref-2) batches c.args.ran.now.tables.items c.take_over.new.self.tables.items
+    c.args.ran.now.shares.items c.take_over.new.self.shares.items c.in_ok-take_over.ensures.tables c.in_ok-take_over.ensures.shares h
