@@ -1,3 +1,4 @@
+pub mod Coming
 pub mod Ending
 pub mod Falls
 pub mod Holding

@@ -1,6 +1,6 @@
 -- The list of a vertex as a view tells it, and how much support is found on its front.
-use Rattle.std.proofs.Common.{◌≡◌, ◌≢◌, ◌≤◌, ◌<◌, ◌+◌, ℕ, suc, zero, Bool, true, false, cond, not, ◌&&◌, ◌||◌, List, [], ◌∷◌, ◌++◌, take, length}
-use Rattle.std.proofs.Common.{get_or, eqb, ltb, leb, sym, ◌∙◌, ap, inl, inr, arith, eqb-true, eq-eqb, ne_eqb}
+use Rattle.std.proofs.Common.{◌≡◌, ◌≢◌, ◌≤◌, ◌<◌, ◌⊎◌, ◌+◌, ℕ, suc, zero, Bool, true, false, cond, not, ◌&&◌, ◌||◌, List, [], ◌∷◌, ◌++◌, take, length}
+use Rattle.std.proofs.Common.{get_or, eqb, ltb, leb, sym, ◌∙◌, ap, subst, inl, inr, arith, eqb-true, eq-eqb, ne_eqb}
 use Rattle.std.specs.List.{list_any}
 use Rattle.std.specs.List.Sorted.{IsStrictlyIncreasing}
 use Rattle.std.proofs.Math.Bool.{or-false}
@@ -23,9 +23,12 @@ use Rattle.kc_graph.proofs.RowsLemmas.{Distinct-from_increasing}
 use Rattle.kc_cert.specs.Ranks.{rank_in}
 use Rattle.kc_cert.proofs.Ordered.{rank-here, rank-other}
 use Rattle.kc_cert.proofs.Sums.{count-none}
+use Rattle.kc_view.specs.Answers.{has_list, list_of}
 use Rattle.kc_view.specs.Lists.{IsListOf}
 use Rattle.kc_view.specs.Search.{Search}
+use Rattle.kc_view.specs.Views.{Shown, KeepsLists, GoesOn}
 use Rattle.kc_view.proofs.Among.{among-one, among-agree}
+use Rattle.kc_view.proofs.Keeping.{kept-list, still_has_list, same_list}
 use Rattle.kc_remove.specs.Cascade.{found}
 use Rattle.kc_remove.specs.Removed.{search_without, is_removed, is_counted}
 use Rattle.kc_remove.specs.Visits.{IsBound, IsSupport, nothing_counted}
@@ -59,14 +62,36 @@ taken-member r (suc n) [] l k = absurd (omega arith)
 taken-member zero (suc n) (x ∷ xs) l k = member-head x (take n xs)
 taken-member (suc r) (suc n) (x ∷ xs) l k = member-tail (get_or xs r 0) x (take n xs) (taken-member r n xs (omega arith) (omega arith))
 
--- what stands on the list of a vertex is another vertex
-pub row-vertex : (size size' x i y : ℕ) (row : List ℕ) → IsListOf size x row → i < length row → y ≡ get_or row i 0 → size' ≡ size → y < size'
-row-vertex size size' x i y row list l at same =
-    let k : get_or row i 0 < size = list.within (get_or row i 0) (member-get_or row i 0 l) in omega (arith, k, at, same)
+-- `z` stands at the place `i` of the list of `y`: it is a vertex, and stands on no lower place
+pub record StandsAt (size y i z : ℕ) (row : List ℕ) : Type 0 where
+  pub list : IsListOf size y row
+  pub here : i < length row
+  pub at : z ≡ get_or row i 0
+  pub on : member z row ≡ true
+  pub vertex : z < size
+  pub seam : take (i + 1) row ≡ take i row ++ z ∷ []
+  pub first : member z (take i row) ≡ false
 
--- what stands at a place of a list is a member of it
-pub row-member : (i y : ℕ) (row : List ℕ) → i < length row → y ≡ get_or row i 0 → member y row ≡ true
-row-member i y row l at = ap (λ k. member k row) at ∙ member-get_or row i 0 l
+-- the vertex that a view tells at a place of a list that it told at first stands there
+pub stands : (first shown : Shown) (y i : ℕ) (told : List ℕ) → GoesOn first shown → KeepsLists shown → has_list first.kept y ≡ true
+    → told ≡ list_of shown.kept y → i < length (list_of first.kept y) → StandsAt shown.size y i (get_or told i 0) (list_of first.kept y)
+stands first shown y i told goes lists read is l =
+    let row : List ℕ = list_of first.kept y in
+    let same : list_of shown.kept y ≡ row = same_list first.kept shown.kept y goes.further read in
+    let list : IsListOf shown.size y row =
+    subst (λ (xs : List ℕ). IsListOf shown.size y xs) same
+    (kept-list shown.size y shown.kept lists (still_has_list first.kept shown.kept y goes.further read)) in
+    let at : get_or told i 0 ≡ get_or row i 0 = ap (λ xs. get_or xs i 0) (is ∙ same) in
+    let on : member (get_or told i 0) row ≡ true = ap (λ n. member n row) at ∙ member-get_or row i 0 l in
+    record {
+      list = list;
+      here = l;
+      at = at;
+      on = on;
+      vertex = list.within (get_or told i 0) on;
+      seam = take-more i row l ∙ ap (λ n. take i row ++ n ∷ []) (sym at);
+      first = ap (λ n. member n (take i row)) at ∙ take-not_here i row l (Distinct-from_increasing row list.ascends);
+    }
 
 -- of an ascending list just the first `i + 1` are below the number after the last of them
 pub bound-next : (i v : ℕ) (row : List ℕ) → IsStrictlyIncreasing row → i < length row → v ≡ get_or row i 0 → IsBound row (i + 1) (v + 1)
@@ -120,30 +145,45 @@ left-listed update s y z row same l a =
     ap (member z) same ∙ (neighbours_has s.graph y z l ∙ was)
 
 -- the next neighbour of the list adds one to what is found just where it counts
-pub look-next : (update : Update) (level : ℕ) (s : Ranked) (gone : List ℕ) (size y i v bound : ℕ) (row : List ℕ) → IsListOf size y row
-    → row ≡ neighbours_of s.graph y → i < length row → v ≡ get_or row i 0 → IsBound row i bound
+look-next : (update : Update) (level : ℕ) (s : Ranked) (gone : List ℕ) (size y i v bound : ℕ) (row : List ℕ) → StandsAt size y i v row
+    → row ≡ neighbours_of s.graph y → IsBound row i bound
     → found (search_without update level s) (λ z. ltb z (v + 1)) gone y
     ≡ found (search_without update level s) (λ z. ltb z bound) gone y + one_if (is_counted update level s gone y v)
-look-next update level s gone size y i v bound row list same l at below =
+look-next update level s gone size y i v bound row stands same below =
     let now : ℕ → ℕ → Bool = adjacent (without_edge s.graph update.u update.v) in
     let test : ℕ → Bool = λ z. leb level (get_or s.core z 0) && not (member z gone) in
     let apart : update.u ≢ update.v = λ e. let lt : update.u < update.v = update.ordered in absurd (omega (arith, e)) in
-    let on : member v row ≡ true = row-member i v row l at in
-    let is : (v < s.graph.size) × (adjacent s.graph y v ≡ true) = neighbours_within s.graph y v (sym (ap (member v) same) ∙ on) in
-    let next : IsBound row (i + 1) (v + 1) = bound-next i v row list.ascends l at in
-    let seam : take (i + 1) row ≡ take i row ++ v ∷ [] = take-more i row l ∙ ap (λ n. take i row ++ n ∷ []) (sym at) in
-    let not_yet : member v (take i row) ≡ false =
-    ap (λ n. member n (take i row)) at ∙ take-not_here i row l (Distinct-from_increasing row list.ascends) in
+    let is : (v < s.graph.size) × (adjacent s.graph y v ≡ true) = neighbours_within s.graph y v (sym (ap (member v) same) ∙ stands.on) in
+    let next : IsBound row (i + 1) (v + 1) = bound-next i v row stands.list.ascends stands.here stands.at in
     let step =
-    next-found (search_without update level s) gone y v (λ z. ltb z bound) (λ z. ltb z (v + 1)) is.0 (below v on ∙ not_yet)
+    next-found (search_without update level s) gone y v (λ z. ltb z bound) (λ z. ltb z (v + 1)) is.0 (below v stands.on ∙ stands.first)
     (lt-ltb v (v + 1) (omega arith))
     (λ z lz a ne.
     let m : member z row ≡ true = left-listed update s y z row same lz a in
-    next z m ∙ (ap (member z) seam ∙ (member-push z v (take i row)
+    next z m ∙ (ap (member z) stands.seam ∙ (member-push z v (take i row)
     ∙ (ap (λ b. member z (take i row) || b) (ne_eqb z v ne) ∙ (or-false (member z (take i row)) ∙ sym (below z m)))))) in
     let counted : (now y v && test v) ≡ is_counted update level s gone y v =
     sym (same_there (adjacent s.graph y v) (now y v) (is_removed update y v) (test v) (adjacent-without s.graph update.u update.v y v apart) is.1) in
     step ∙ ap (λ b. found (search_without update level s) (λ z. ltb z bound) gone y + one_if b) counted
+
+-- so a count that adds one just there is right with one neighbour more
+pub looked-one : (update : Update) (level : ℕ) (s : Ranked) (gone : List ℕ) (size y i v was bound more next : ℕ) (row : List ℕ) (counts : Bool)
+    → StandsAt size y i v row → row ≡ neighbours_of s.graph y → IsBound row i bound → next ≡ v
+    → was ≡ found (search_without update level s) (λ z. ltb z bound) gone y → counts ≡ is_counted update level s gone y v
+    → (counts ≡ true) × (more ≡ was + 1) ⊎ (counts ≡ false) × (more ≡ was)
+    → more ≡ found (search_without update level s) (λ z. ltb z (next + 1)) gone y
+looked-one update level s gone size y i v was bound more next row counts stands same below to found_so is adds =
+    let one_more = look-next update level s gone size y i v bound row stands same below in
+    let moved : found (search_without update level s) (λ z. ltb z (next + 1)) gone y ≡ found (search_without update level s) (λ z. ltb z (v + 1)) gone y =
+    ap (λ n. found (search_without update level s) (λ z. ltb z (n + 1)) gone y) to in
+    elim adds [
+      | inl (t, grown) ↦
+          let one : one_if (is_counted update level s gone y v) ≡ 1 = ap one_if (sym is ∙ t) in
+          omega (arith, found_so, one_more, moved, one, grown)
+      | inr (f, same_sum) ↦
+          let none : one_if (is_counted update level s gone y v) ≡ 0 = ap one_if (sym is ∙ f) in
+          omega (arith, found_so, one_more, moved, none, same_sum)
+    ]
 
 -- once the list is at its end each neighbour was looked at
 pub looked-all : (update : Update) (s : Ranked) (y looked bound : ℕ) (row : List ℕ) → row ≡ neighbours_of s.graph y → IsBound row looked bound

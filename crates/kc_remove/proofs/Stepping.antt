@@ -7,6 +7,7 @@ use Rattle.std.proofs.Math.Bool.{or-false}
 use Rattle.kc_distinct.specs.Lists.{member}
 use Rattle.kc_distinct.proofs.Counting.{member-push, member-get_or, one_if}
 use Rattle.kc_distinct.proofs.Shared.{and-fails}
+use Rattle.kc_hash.specs.Maps.{value_of}
 use Rattle.kc_graph.specs.SimpleGraph.{adjacent}
 use Rattle.kc_graph.specs.Edges.{without_edge}
 use Rattle.kc_graph.specs.Neighbours.{neighbours_of}
@@ -20,7 +21,7 @@ use Rattle.kc_view.specs.Search.{Search, OnLevel}
 use Rattle.kc_view.proofs.Keeping.{list-true}
 use Rattle.kc_remove.specs.Cascade.{Cascade, found, taken, nobody}
 use Rattle.kc_remove.specs.Removed.{search_without, is_removed, has_come}
-use Rattle.kc_remove.specs.Visits.{visit_of, count_in, IsSupport}
+use Rattle.kc_remove.specs.Visits.{count_in, IsSupport}
 use Rattle.kc_remove.specs.Falling.{is_visited, support_at, bound_at, has_looked, Settles, FallsIn}
 use Rattle.kc_remove.specs.declared.falling.Count.{Count}
 use Rattle.kc_remove.specs.declared.falling.Falling.{Falling}
@@ -172,7 +173,7 @@ counted-falls update level s turn turns part later y count old new h out oy is w
 -- a vertex that had looked at `x` has one less when the turn of `x` comes to it
 pub one-less : (update : Update) (level : ℕ) (s : Ranked) (turn x y : ℕ) (v : Visit) (row : List ℕ) (f : Falling)
     → FallsIn update level s f turn (has_come update s x row) → turn < length f.list.items → get_or f.list.items turn 0 ≡ x
-    → visit_of f.visits y ≡ Some v → member y f.list.items ≡ false
+    → value_of f.visits y ≡ Some v → member y f.list.items ≡ false
     → ltb x v.count.bound ≡ true → adjacent (without_edge s.graph update.u update.v) x y ≡ true → member y row ≡ false
     → IsSupport update level s (take (turn + 1) f.list.items) y (record v.count { support = v.count.support - 1 })
 one-less update level s turn x y v row f c l at kept out here a new_row =

@@ -15,7 +15,10 @@ use Rattle.kc_graph.specs.declared.plan.Moves.TheVariants.{Kept, Plain, Fall}
 use Rattle.kc_graph.proofs.Law.{certified, core-unique}
 use Rattle.kc_cert.specs.Local.{IsLocal, HoldsAt}
 use Rattle.kc_cert.proofs.Keeping.{certified_after}
+use Rattle.kc_view.specs.Answers.{Agrees, has_list, list_of}
 use Rattle.kc_view.specs.Sure.{IsSparing}
+use Rattle.kc_view.specs.Views.{Shown, GoesOn}
+use Rattle.kc_view.proofs.Keeping.{agreed, tells-edge}
 use Rattle.kc_view.proofs.Still.{kept-is_sure, number_then-is}
 use Rattle.kc_remove.specs.Cascade.{Thinned, Cascade, nobody}
 use Rattle.kc_remove.specs.Falling.{is_visited, support_at, has_looked, HasEnded}
@@ -55,17 +58,35 @@ numbers-after s plan h local core are =
     core-unique (state_after plan s).graph core (state_after plan s).core are
     (certified (state_after plan s).graph (state_after plan s).core (state_after plan s).order (certified_after s plan h local))
 
+-- the edge that goes is there, and the level is the lesser core number of its ends
+pub record Removes (update : Update) (s : Ranked) (level : ℕ) : Type 0 where
+  pub there : adjacent s.graph update.u update.v ≡ true
+  pub least : level ≡ min (get_or s.core update.u 0) (get_or s.core update.v 0)
+
+-- so it is where the list of the lesser end has the other, and then the level was told
+pub removes-told : (first second : Shown) (update : Update) (s : Ranked) (level : ℕ) (has : Bool) → GoesOn first second → Agrees second.kept s
+    → update.v < s.graph.size → has_list first.kept update.u ≡ true → has ≡ member update.v (list_of first.kept update.u) → has ≡ true
+    → ((s : Ranked) → Agrees second.kept s → level ≡ min (get_or s.core update.u 0) (get_or s.core update.v 0)) → Removes update s level
+removes-told first second update s level has goes agrees l read told is least = record {
+  there = tells-edge first.kept s update.u update.v has (agreed _ _ s goes.further agrees) read l told ∙ is;
+  least = least s agrees;
+}
+
+-- then the graph without the edge is thinned
+thinned-by : (update : Update) (s : Ranked) (level : ℕ) → IsCertified s → update.v < s.graph.size → Removes update s level
+    → Thinned (search_without update level s) (is_end update)
+thinned-by update s level h l r =
+    let up : update.u < update.v = update.ordered in
+    thinned s update.u update.v level h (λ e. absurd (omega (arith, up, e))) (omega (arith, up, l)) l r.there r.least
+
 -- no vertex falls
 pub plain-sure : (update : Update) (used : Used) (s : Ranked) (level : ℕ) (f : Falling) → update.add ≡ false → IsCertified s
-    → update.v < s.graph.size → adjacent s.graph update.u update.v ≡ true
-    → level ≡ min (get_or s.core update.u 0) (get_or s.core update.v 0) → HasEnded update level s f → f.list.items ≡ []
+    → update.v < s.graph.size → Removes update s level → HasEnded update level s f → f.list.items ≡ []
     → IsLocal s (record { update = update; used = used; moves = Plain }) × IsSparing s (record { update = update; used = used; moves = Plain })
-plain-sure update used s level f removes h l a least ended empty =
-    let there : is_applied update s.graph ≡ true = applied-is update s.graph removes ∙ a in
+plain-sure update used s level f removes h l r ended empty =
+    let there : is_applied update s.graph ≡ true = applied-is update s.graph removes ∙ r.there in
     let after : updated update s.graph ≡ without_edge s.graph update.u update.v = updated-is update s.graph removes in
-    let up : update.u < update.v = update.ordered in
-    let t : Thinned (search_without update level s) (is_end update) =
-    thinned s update.u update.v level h (λ e. absurd (omega (arith, up, e))) (omega (arith, up, l)) l a least in
+    let t = thinned-by update s level h l r in
     let c : Cascade (search_without update level s) [] 0 nobody (is_visited f) (support_at f) (has_looked f) nobody =
     subst (λ (xs : List ℕ). Cascade (search_without update level s) xs (length xs) nobody (is_visited f) (support_at f) (has_looked f) nobody) empty
     ended.falls in
@@ -90,17 +111,14 @@ plain-sure update used s level f removes h l a least ended empty =
 
 -- some do
 pub fall-sure : (update : Update) (used : Used) (s : Ranked) (level : ℕ) (f : Falling) → update.add ≡ false → IsCertified s
-    → update.v < s.graph.size → adjacent s.graph update.u update.v ≡ true
-    → level ≡ min (get_or s.core update.u 0) (get_or s.core update.v 0) → HasEnded update level s f
+    → update.v < s.graph.size → Removes update s level → HasEnded update level s f
     → IsLocal s (record { update = update; used = used; moves = Fall level f.list })
     × IsSparing s (record { update = update; used = used; moves = Fall level f.list })
-fall-sure update used s level f removes h l a least ended =
+fall-sure update used s level f removes h l r ended =
     let fall : List ℕ = f.list.items in
-    let there : is_applied update s.graph ≡ true = applied-is update s.graph removes ∙ a in
+    let there : is_applied update s.graph ≡ true = applied-is update s.graph removes ∙ r.there in
     let after : updated update s.graph ≡ without_edge s.graph update.u update.v = updated-is update s.graph removes in
-    let up : update.u < update.v = update.ordered in
-    let t : Thinned (search_without update level s) (is_end update) =
-    thinned s update.u update.v level h (λ e. absurd (omega (arith, up, e))) (omega (arith, up, l)) l a least in
+    let t = thinned-by update s level h l r in
     let c = ended.falls in
     let some : 0 < level = t.some_level in
     let local : IsLocal s (record { update = update; used = used; moves = Fall level f.list }) = record {
@@ -145,8 +163,5 @@ fall-sure update used s level f removes h l a least ended =
     )
 
 -- the level is 1 at least
-pub some-level : (update : Update) (s : Ranked) (level : ℕ) → IsCertified s → update.v < s.graph.size
-    → adjacent s.graph update.u update.v ≡ true → level ≡ min (get_or s.core update.u 0) (get_or s.core update.v 0) → 0 < level
-some-level update s level h l a least =
-    let up : update.u < update.v = update.ordered in
-    (thinned s update.u update.v level h (λ e. absurd (omega (arith, up, e))) (omega (arith, up, l)) l a least).some_level
+pub some-level : (update : Update) (s : Ranked) (level : ℕ) → IsCertified s → update.v < s.graph.size → Removes update s level → 0 < level
+some-level update s level h l r = (thinned-by update s level h l r).some_level

@@ -11,15 +11,16 @@ use Rattle.kc_distinct.specs.Lists.{member}
 use Rattle.kc_distinct.proofs.Members.{below_bound}
 use Rattle.kc_distinct.proofs.Counting.{member-push}
 use Rattle.kc_distinct.proofs.Shared.{list_any-some, member-grown_left, Distinct-grown}
+use Rattle.kc_hash.specs.Maps.{value_of}
 use Rattle.kc_graph.specs.declared.update.Update.{Update}
 use Rattle.kc_view.specs.Answers.{Answers, has_list, list_of, has_core, with_list}
-use Rattle.kc_view.specs.Sure.{is_listed, AsksCores}
-use Rattle.kc_view.specs.Views.{Shown, Further, TellsList, TellsCore}
-use Rattle.kc_view.proofs.Asked.{is_listed-from, cores-more, cores-listed}
+use Rattle.kc_view.specs.Sure.{AsksOneList, is_listed, AsksCores}
+use Rattle.kc_view.specs.Views.{Shown, Further, GoesOn, TellsList, TellsCore}
+use Rattle.kc_view.proofs.Asked.{is_listed-from, cores-none, cores-more, cores-listed}
 use Rattle.kc_view.proofs.Fronts.{take-member}
 use Rattle.kc_view.proofs.Keeping.{still_has_list, same_list, Further-refl}
 use Rattle.kc_view.proofs.Marking.{Further-list}
-use Rattle.kc_remove.specs.Visits.{visit_of, count_in, fallen_in, gone_in, is_place_below, IsBound}
+use Rattle.kc_remove.specs.Visits.{count_in, fallen_in, gone_in, is_place_below, IsBound}
 use Rattle.kc_remove.specs.Falling.{is_visited, has_fallen, is_gone, looked_at, bound_at, Settles, IsNear, AsksNear, IsTidyFalling}
 use Rattle.kc_remove.specs.declared.falling.Count.{Count}
 use Rattle.kc_remove.specs.declared.falling.Falling.{Falling}
@@ -37,6 +38,14 @@ near-grows update a b fall more y f read grows near = elim near [
       let (x, m, t) = list_any-some (λ x. member y (list_of a x)) fall h in
       inr (inr (some-any (λ x. member y (list_of b x)) x more (grows x m) (ap (member y) (same_list a b x f (read x m)) ∙ t)))
 ]
+
+-- the list of the lesser end alone
+pub asks-first : (update : Update) (a : Answers) → AsksOneList a update.u → AsksNear update a []
+asks-first update a asks = record {
+  lists = All-weaker (λ e. e.vertex ≡ update.u) (λ e. IsNear update a [] e.vertex) (λ e is. inl is) a.edges asks.lists;
+  cores = cores-none update a update.u asks;
+  orders = asks.orders;
+}
 
 -- a core number more
 pub asks-core : (update : Update) (a b : Answers) (fall : List ℕ) (y : ℕ) → AsksNear update a fall → TellsCore a b y
@@ -114,20 +123,20 @@ pub fallen-out : (update : Update) (shown : Shown) (f : Falling) → IsTidyFalli
     → member y f.list.items ≡ false
 fallen-out update shown f t y n =
     ap (member y) (sym (take-length f.list.items))
-    ∙ (sym (t.marked y (length f.list.items)) ∙ fallen_out (length f.list.items) (visit_of f.visits y) n)
+    ∙ (sym (t.marked y (length f.list.items)) ∙ fallen_out (length f.list.items) (value_of f.visits y) n)
 
 -- and the visit of a vertex that is not on the list does not say so
 pub out-fallen : (update : Update) (shown : Shown) (f : Falling) → IsTidyFalling update shown f → (y : ℕ) → member y f.list.items ≡ false
     → has_fallen f y ≡ false
 out-fallen update shown f t y out = false_from_ne_true _ (λ h.
-    let (turns, g) = fallen_gone (visit_of f.visits y) h in
+    let (turns, g) = fallen_gone (value_of f.visits y) h in
     true≢false (sym (take-member turns f.list.items y (sym (t.marked y turns) ∙ g)) ∙ out))
 
 -- who has fallen was visited
 pub fallen-visited : (update : Update) (shown : Shown) (f : Falling) → IsTidyFalling update shown f → (x : ℕ) → member x f.list.items ≡ true
     → is_visited f x ≡ true
 fallen-visited update shown f t x m =
-    visited_in (length f.list.items) (visit_of f.visits x)
+    visited_in (length f.list.items) (value_of f.visits x)
     (t.marked x (length f.list.items) ∙ (ap (member x) (take-length f.list.items) ∙ m))
 
 -- so the lists of the fallen were read
@@ -141,44 +150,45 @@ pub unvisited-out : (update : Update) (shown : Shown) (f : Falling) → IsTidyFa
 unvisited-out update shown f t x n = false_from_ne_true _ (λ m. true≢false (sym (fallen-visited update shown f t x m) ∙ n))
 
 -- the view goes on
-pub tidy-view : (update : Update) (old new : Shown) (f : Falling) → IsTidyFalling update old f → new.size ≡ old.size
-    → Further old.kept new.kept → AsksNear update new.kept f.list.items → IsTidyFalling update new f
-tidy-view update old new f t size further asks = record {
+tidy-view : (update : Update) (old new : Shown) (f : Falling) → IsTidyFalling update old f → GoesOn old new
+    → AsksNear update new.kept f.list.items → IsTidyFalling update new f
+tidy-view update old new f t goes asks = record {
   marked = t.marked;
   once = t.once;
-  within = λ z v. let l : z < old.size = t.within z v in omega (arith, l, size);
-  listed = λ z v. still_has_list old.kept new.kept z further (t.listed z v);
+  within = λ z v. let l : z < old.size = t.within z v in omega (arith, l, goes.lasts.same_size);
+  listed = λ z v. still_has_list old.kept new.kept z goes.further (t.listed z v);
   looked = λ z v.
-      subst (λ (row : List ℕ). IsBound row (looked_at f z) (bound_at f z)) (sym (same_list old.kept new.kept z further (t.listed z v)))
+      subst (λ (row : List ℕ). IsBound row (looked_at f z) (bound_at f z)) (sym (same_list old.kept new.kept z goes.further (t.listed z v)))
       (t.looked z v);
   asks = asks;
 }
 
 -- a list was asked
-pub tidy-list : (update : Update) (old new : Shown) (f : Falling) (y : ℕ) → IsTidyFalling update old f → new.size ≡ old.size
-    → Further old.kept new.kept → TellsList old.kept new.kept y → IsNear update old.kept f.list.items y → IsTidyFalling update new f
-tidy-list update old new f y t size further tells near =
-    tidy-view update old new f t size further
-    (asks-list update old.kept new.kept f.list.items y t.asks tells near (fallen-read update old f t))
+pub tidy-list : (update : Update) (old new : Shown) (f : Falling) (y : ℕ) → IsTidyFalling update old f → GoesOn old new
+    → TellsList old.kept new.kept y → IsNear update old.kept f.list.items y → IsTidyFalling update new f
+tidy-list update old new f y t goes tells near =
+    tidy-view update old new f t goes (asks-list update old.kept new.kept f.list.items y t.asks tells near (fallen-read update old f t))
 
 -- a list that was asked again changes nothing
-pub tidy-again : (update : Update) (old new : Shown) (f : Falling) (y : ℕ) → IsTidyFalling update old f → new.size ≡ old.size
-    → Further old.kept new.kept → TellsList old.kept new.kept y → has_list old.kept y ≡ true → IsTidyFalling update new f
-tidy-again update old new f y t size further tells read =
-    tidy-view update old new f t size further (subst (λ (a : Answers). AsksNear update a f.list.items) (sym (tells.before read)) t.asks)
+pub tidy-again : (update : Update) (old new : Shown) (f : Falling) (y : ℕ) → IsTidyFalling update old f → GoesOn old new
+    → TellsList old.kept new.kept y → has_list old.kept y ≡ true → IsTidyFalling update new f
+tidy-again update old new f y t goes tells read =
+    tidy-view update old new f t goes (subst (λ (a : Answers). AsksNear update a f.list.items) (sym (tells.before read)) t.asks)
 
 -- a core number was asked
-pub tidy-core : (update : Update) (old new : Shown) (f : Falling) (y : ℕ) → IsTidyFalling update old f → new.size ≡ old.size
-    → Further old.kept new.kept → TellsCore old.kept new.kept y → (y ≡ update.u) ⊎ (y ≡ update.v) ⊎ (is_listed old.kept y ≡ true)
-    → IsTidyFalling update new f
-tidy-core update old new f y t size further tells near =
-    tidy-view update old new f t size further (asks-core update old.kept new.kept f.list.items y t.asks tells near)
+tidy-core : (update : Update) (old new : Shown) (f : Falling) (y : ℕ) → IsTidyFalling update old f → GoesOn old new
+    → TellsCore old.kept new.kept y → (y ≡ update.u) ⊎ (y ≡ update.v) ⊎ (is_listed old.kept y ≡ true) → IsTidyFalling update new f
+tidy-core update old new f y t goes tells near = tidy-view update old new f t goes (asks-core update old.kept new.kept f.list.items y t.asks tells near)
+
+-- the core number of an end was asked
+pub tidy-end : (update : Update) (old new : Shown) (f : Falling) (y : ℕ) → IsTidyFalling update old f → GoesOn old new
+    → TellsCore old.kept new.kept y → (y ≡ update.u) ⊎ (y ≡ update.v) → IsTidyFalling update new f
+tidy-end update old new f y t goes tells is = tidy-core update old new f y t goes tells (elim is [ inl e ↦ inl e | inr e ↦ inr (inl e) ])
 
 -- the core number of a neighbour was asked
-pub tidy-neighbour : (update : Update) (old new : Shown) (f : Falling) (x y : ℕ) → IsTidyFalling update old f
-    → (new.size ≡ old.size) × Further old.kept new.kept → TellsCore old.kept new.kept y → has_list old.kept x ≡ true
-    → member y (list_of old.kept x) ≡ true → IsTidyFalling update new f
-tidy-neighbour update old new f x y t goes tells read m = tidy-core update old new f y t goes.0 goes.1 tells (inr (inr (is_listed-from old.kept x y read m)))
+pub tidy-neighbour : (update : Update) (old new : Shown) (f : Falling) (x y : ℕ) → IsTidyFalling update old f → GoesOn old new
+    → TellsCore old.kept new.kept y → has_list old.kept x ≡ true → member y (list_of old.kept x) ≡ true → IsTidyFalling update new f
+tidy-neighbour update old new f x y t goes tells read m = tidy-core update old new f y t goes tells (inr (inr (is_listed-from old.kept x y read m)))
 
 -- who is not on a list is not in its front
 out-front : (turns y : ℕ) (xs : List ℕ) → member y xs ≡ false → member y (take turns xs) ≡ false

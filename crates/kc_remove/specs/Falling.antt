@@ -2,6 +2,7 @@
 use Rattle.std.specs.Prelude.{◌≡◌, ◌≢◌, ◌<◌, ◌⊎◌, ◌++◌, ℕ, Bool, true, List, [], ◌∷◌, All, Some, None, is_some, length, take, nat_lt, if◌then◌else◌}
 use Rattle.std.specs.List.{list_any}
 use Rattle.kc_distinct.specs.Lists.{member, Distinct}
+use Rattle.kc_hash.specs.Maps.{value_of}
 use Rattle.kc_graph.specs.Lawful.{Ranked}
 use Rattle.kc_graph.specs.declared.update.Update.{Update}
 use Rattle.kc_view.specs.Answers.{Answers, has_list, list_of}
@@ -10,25 +11,25 @@ use Rattle.kc_view.specs.Sure.{AsksCores}
 use Rattle.kc_view.specs.Views.{Shown}
 use Rattle.kc_remove.specs.Cascade.{Cascade, nobody}
 use Rattle.kc_remove.specs.Removed.{search_without, is_end}
-use Rattle.kc_remove.specs.Visits.{visit_of, count_in, fallen_in, gone_in, IsBound}
+use Rattle.kc_remove.specs.Visits.{count_in, fallen_in, gone_in, IsBound}
 use Rattle.kc_remove.specs.declared.falling.Count.{Count}
 use Rattle.kc_remove.specs.declared.falling.Falling.{Falling}
 
 -- whether `y` was visited
 abbrev pub is_visited : Falling → ℕ → Bool
-is_visited f y = is_some (visit_of f.visits y)
+is_visited f y = is_some (value_of f.visits y)
 
 -- how much support `y` has found so far, or 0 where it was not visited
 abbrev pub support_at : Falling → ℕ → ℕ
-support_at f y = (count_in (visit_of f.visits y)).support
+support_at f y = (count_in (value_of f.visits y)).support
 
 -- at how many neighbours `y` has looked, or 0 where it was not visited
 abbrev pub looked_at : Falling → ℕ → ℕ
-looked_at f y = (count_in (visit_of f.visits y)).looked
+looked_at f y = (count_in (value_of f.visits y)).looked
 
 -- the number below which the neighbours are at which `y` has looked, or 0 where it was not visited
 abbrev pub bound_at : Falling → ℕ → ℕ
-bound_at f y = (count_in (visit_of f.visits y)).bound
+bound_at f y = (count_in (value_of f.visits y)).bound
 
 -- whether `y` has looked at its neighbour `x`
 abbrev pub has_looked : Falling → ℕ → ℕ → Bool
@@ -36,17 +37,17 @@ has_looked f y x = nat_lt x (bound_at f y)
 
 -- whether `y` is on the list of those that fall
 abbrev pub has_fallen : Falling → ℕ → Bool
-has_fallen f y = fallen_in (visit_of f.visits y)
+has_fallen f y = fallen_in (value_of f.visits y)
 
 -- whether `y` is one of the first `turns` of that list
 abbrev pub is_gone : Falling → ℕ → ℕ → Bool
-is_gone f turns y = gone_in turns (visit_of f.visits y)
+is_gone f turns y = gone_in turns (value_of f.visits y)
 
 -- `y` has this count now, and is put on the list if its support is too little
 pub record Settles (level y : ℕ) (count : Count) (old new : Falling) : Type 0 where
-  pub visit : visit_of new.visits y
+  pub visit : value_of new.visits y
       ≡ Some (record { count = count; fallen = (if nat_lt count.support level then Some (length old.list.items) else None) })
-  pub others : (z : ℕ) → z ≢ y → visit_of new.visits z ≡ visit_of old.visits z
+  pub others : (z : ℕ) → z ≢ y → value_of new.visits z ≡ value_of old.visits z
   pub list : new.list.items ≡ (if nat_lt count.support level then old.list.items ++ y ∷ [] else old.list.items)
 
 -- `y` is an end of the edge, or a neighbour of one that fell

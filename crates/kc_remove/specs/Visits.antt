@@ -1,23 +1,12 @@
 -- What is kept of the vertices that were visited.
-use Rattle.std.specs.Prelude.{◌≡◌, ℕ, Bool, true, false, Option, Some, None, List, take, is_some, nat_eq, nat_lt}
-use Rattle.std.specs.declared.hash.BuildHasherDefault.{BuildHasherDefault}
-use Rattle.std.specs.HashMap.{get, HashMap}
+use Rattle.std.specs.Prelude.{◌≡◌, ℕ, Bool, true, false, Option, Some, None, List, take, is_some, nat_lt}
 use Rattle.kc_distinct.specs.Lists.{member}
-use Rattle.kc_hash.specs.declared.VertexHasher.{VertexHasher}
 use Rattle.kc_graph.specs.Lawful.{Ranked}
 use Rattle.kc_graph.specs.declared.update.Update.{Update}
 use Rattle.kc_remove.specs.Cascade.{found}
 use Rattle.kc_remove.specs.Removed.{search_without}
 use Rattle.kc_remove.specs.declared.falling.Count.{Count}
 use Rattle.kc_remove.specs.declared.falling.Visit.{Visit}
-
--- a visit for each vertex that has one
-abbrev pub Visits : Type 0
-Visits = HashMap ℕ Visit (BuildHasherDefault VertexHasher)
-
--- the visit of `y`, if it was visited
-abbrev pub visit_of : Visits → ℕ → Option Visit
-visit_of visits y = get nat_eq visits y
 
 -- the count before any neighbour was looked at
 abbrev pub nothing_counted : Count

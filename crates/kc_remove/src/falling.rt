@@ -1,6 +1,7 @@
 //! The vertices that were visited, and the list of those that fall.
 ghost use Rattle.std.specs.Prelude.{◌≡◌, ◌-◌, ◌&&◌, ℕ, None, [], OnOk, is_some, nat_lt, not};
-ghost use Rattle.kc_remove.specs.Visits.{visit_of, nothing_counted};
+ghost use Rattle.kc_hash.specs.Maps.{value_of};
+ghost use Rattle.kc_remove.specs.Visits.{nothing_counted};
 ghost use Rattle.kc_remove.specs.Falling.{Settles, is_gone};
 
 use kc_graph::NoMemory;
@@ -26,6 +27,13 @@ pub(crate) struct Visit {
     pub count: Count,
     /// The place on the list of the fallen, if it is there.
     pub fallen: Option<usize>,
+}
+
+/// A vertex whose support is counted, once the first `turns` of the fallen have had their turns.
+#[derive(Clone, Copy, Drop)]
+pub(crate) struct Supported {
+    pub vertex: u32,
+    pub turns: usize,
 }
 
 impl Count {
@@ -70,7 +78,7 @@ pub(crate) struct Falling {
 impl Falling {
     /// Nobody was visited.
     pub fn new(alloc: Global) -> Falling
-        ensures visits { (z : ℕ) → visit_of result.visits z ≡ None }
+        ensures visits { (z : ℕ) → value_of result.visits z ≡ None }
         ensures list { result.list.items ≡ [] }
     {
         Falling {
@@ -81,7 +89,7 @@ impl Falling {
 
     /// The visit of a vertex, if there was one.
     pub fn find(&self, y: u32) -> Option<Visit>
-        ensures { result ≡ visit_of self.now.visits y }
+        ensures { result ≡ value_of self.now.visits y }
     {
         self.visits.get(&y).copied()
     }

@@ -1,36 +1,20 @@
 //! The plan of an update that removes an edge.
 ghost use Rattle.std.specs.Prelude.{◌≡◌, ◌≢◌, ◌<◌, ◌++◌, ◌⊎◌, ℕ, min, [], true, false, slice_index, IfOk, OnOk, IfErr, OnErr};
 ghost use Rattle.kc_distinct.specs.Lists.{member};
+ghost use Rattle.kc_hash.specs.Maps.{value_of};
 ghost use Rattle.kc_graph.specs.Lawful.{Ranked};
 ghost use Rattle.kc_cert.specs.Local.{moved_vertices};
-ghost use Rattle.kc_view.specs.Answers.{Agrees, nothing_answered, answers_in, has_list, list_of};
+ghost use Rattle.kc_view.specs.Answers.{Agrees, nothing_answered, answers_in, has_list};
 ghost use Rattle.kc_view.specs.Lists.{AreLists};
 ghost use Rattle.kc_view.specs.Sure.{AreSure, IsSure, NamesOnlyRead, AsksCoresNearby, AsksFallen, anchors};
 ghost use Rattle.kc_view.specs.Views.{GoesOn, HandsOut, HasPlanCause};
 ghost use Rattle.kc_remove.specs.Cascade.{nobody};
 ghost use Rattle.kc_remove.specs.Falling.{is_visited, AsksNear, IsTidyFalling, FallsIn, HasEnded};
-ghost use Rattle.kc_remove.specs.Visits.{visit_of};
 
-use crate::falling::Falling;
-use crate::support::visit;
-use crate::turns::take_turns;
+use crate::falling::{Falling, Supported};
 use kc_graph::{Moves, Plan, Update};
-use kc_view::{PlanFault, View, core_of, degree_of, is_neighbour};
+use kc_view::{PlanFault, Search, View, core_of, has_edge};
 use std::alloc::Global;
-
-/// Whether the list of the lesser end has the other one.
-fn has_edge<V: View>(view: &mut V, update: Update) -> Result<bool, PlanFault>
-    requires vertex { update.v < (V.shown view.old).size }
-    requires fresh { (V.shown view.old).kept ≡ nothing_answered }
-    ensures goes_on { GoesOn (V.shown view.old) (V.shown view.new) }
-    ensures cause { IfErr result (λ fault. HasPlanCause (V.shown view.old) (V.shown view.new) fault) }
-    ensures asks { OnOk result (AsksNear update (V.shown view.new).kept []) }
-    ensures read { OnOk result (has_list (V.shown view.new).kept update.u ≡ true) }
-    ensures told { IfOk result (λ there. there ≡ member update.v (list_of (V.shown view.new).kept update.u)) }
-{
-    degree_of(view, update.u)?;
-    Ok(is_neighbour(view, update.u, update.v))
-}
 
 /// The lesser core number of the two ends.
 fn level_of<V: View>(view: &mut V, update: Update) -> Result<u32, PlanFault>
@@ -47,51 +31,52 @@ fn level_of<V: View>(view: &mut V, update: Update) -> Result<u32, PlanFault>
     Ok(first.min(second))
 }
 
-/// Visits an end of the edge, if its core number is that of the level.
-fn visit_end<V: View>(
-    view: &mut V,
-    update: Update,
-    level: u32,
-    end: u32,
-    falling: &mut Falling,
-) -> Result<(), PlanFault>
-    requires vertex { end < (V.shown view.old).size }
-    requires is_end { (end ≡ update.u) ⊎ (end ≡ update.v) }
-    requires is_new { is_visited falling.old end ≡ false }
-    requires tidy { IsTidyFalling update (V.shown view.old) falling.old }
-    ensures goes_on { GoesOn (V.shown view.old) (V.shown view.new) }
-    ensures cause { IfErr result (λ fault. HasPlanCause (V.shown view.old) (V.shown view.new) fault) }
-    ensures tidy { OnOk result (IsTidyFalling update (V.shown view.new) falling.new) }
-    ensures others { OnOk result ((z : ℕ) → z ≢ end → visit_of falling.new.visits z ≡ visit_of falling.old.visits z) }
-    ensures visited { OnOk result ((s : Ranked) → Agrees (V.shown view.new).kept s → slice_index s.core end ≡ level → is_visited falling.new end ≡ true) }
-    ensures falls { OnOk result ((s : Ranked) → Agrees (V.shown view.new).kept s → FallsIn update level s falling.old 0 nobody
-        → FallsIn update level s falling.new 0 nobody) }
-{
-    let core = core_of(view, end)?;
-    if core == level {
-        visit(view, update, level, 0, end, falling)?;
+impl Falling {
+    /// Visits an end of the edge, if its core number is that of the level.
+    fn visit_end<V: View>(
+        &mut self,
+        view: &mut V,
+        search: Search,
+        end: u32,
+    ) -> Result<(), PlanFault>
+        requires vertex { end < (V.shown view.old).size }
+        requires is_end { (end ≡ search.update.u) ⊎ (end ≡ search.update.v) }
+        requires is_new { is_visited self.old end ≡ false }
+        requires tidy { IsTidyFalling search.update (V.shown view.old) self.old }
+        ensures goes_on { GoesOn (V.shown view.old) (V.shown view.new) }
+        ensures cause { IfErr result (λ fault. HasPlanCause (V.shown view.old) (V.shown view.new) fault) }
+        ensures tidy { OnOk result (IsTidyFalling search.update (V.shown view.new) self.new) }
+        ensures others { OnOk result ((z : ℕ) → z ≢ end → value_of self.new.visits z ≡ value_of self.old.visits z) }
+        ensures visited { OnOk result ((s : Ranked) → Agrees (V.shown view.new).kept s → slice_index s.core end ≡ search.level
+            → is_visited self.new end ≡ true) }
+        ensures falls { OnOk result ((s : Ranked) → Agrees (V.shown view.new).kept s → FallsIn search.update search.level s self.old 0 nobody
+            → FallsIn search.update search.level s self.new 0 nobody) }
+    {
+        let core = core_of(view, end)?;
+        if core == search.level {
+            let supported = Supported {
+                vertex: end,
+                turns: 0,
+            };
+            self.visit(view, search, supported)?;
+        }
+        Ok(())
     }
-    Ok(())
 }
 
 /// All vertices that fall, from those of the two ends that do.
-fn find_fallen<V: View>(
-    alloc: Global,
-    view: &mut V,
-    update: Update,
-    level: u32,
-) -> Result<Falling, PlanFault>
-    requires vertex { update.v < (V.shown view.old).size }
-    requires asks { AsksNear update (V.shown view.old).kept [] }
+fn find_fallen<V: View>(view: &mut V, search: Search) -> Result<Falling, PlanFault>
+    requires vertex { search.update.v < (V.shown view.old).size }
+    requires asks { AsksNear search.update (V.shown view.old).kept [] }
     ensures goes_on { GoesOn (V.shown view.old) (V.shown view.new) }
     ensures cause { IfErr result (λ fault. HasPlanCause (V.shown view.old) (V.shown view.new) fault) }
-    ensures tidy { IfOk result (λ falling. IsTidyFalling update (V.shown view.new) falling) }
-    ensures ended { IfOk result (λ falling. (s : Ranked) → Agrees (V.shown view.new).kept s → HasEnded update level s falling) }
+    ensures tidy { IfOk result (λ falling. IsTidyFalling search.update (V.shown view.new) falling) }
+    ensures ended { IfOk result (λ falling. (s : Ranked) → Agrees (V.shown view.new).kept s → HasEnded search.update search.level s falling) }
 {
-    let mut falling = Falling::new(alloc);
-    visit_end(view, update, level, update.u, &mut falling)?;
-    visit_end(view, update, level, update.v, &mut falling)?;
-    take_turns(view, update, level, &mut falling)?;
+    let mut falling = Falling::new(search.alloc);
+    falling.visit_end(view, search, search.update.u)?;
+    falling.visit_end(view, search, search.update.v)?;
+    falling.take_turns(view, search)?;
     Ok(falling)
 }
 
@@ -113,7 +98,12 @@ fn moves_of<V: View>(alloc: Global, view: &mut V, update: Update) -> Result<Move
     if level == 0 {
         return Ok(Moves::Plain);
     }
-    let Falling { list, .. } = find_fallen(alloc, view, update, level)?;
+    let search = Search {
+        alloc,
+        update,
+        level,
+    };
+    let Falling { list, .. } = find_fallen(view, search)?;
     if list.is_empty() {
         return Ok(Moves::Plain);
     }

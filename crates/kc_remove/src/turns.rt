@@ -8,129 +8,134 @@ ghost use Rattle.kc_remove.specs.Cascade.{nobody};
 ghost use Rattle.kc_remove.specs.Removed.{has_come};
 ghost use Rattle.kc_remove.specs.Falling.{is_visited, IsTidyFalling, FallsIn};
 
-use crate::falling::Falling;
-use crate::support::{count_on, is_removed, visit};
-use kc_graph::Update;
-use kc_view::{PlanFault, View, core_of, degree_of};
+use crate::falling::{Falling, Supported};
+use crate::support::is_removed;
+use kc_view::{PlanFault, Search, View, core_of, degree_of};
 
-/// The vertex `x`, which fell, has its turn, and comes to its neighbour `y`: this is visited now, or has one less if it had looked at `x`.
-/// If it has not looked at `x` yet, it loses nothing: it will find that `x` is gone.
-fn come_to<V: View>(
-    view: &mut V,
-    update: Update,
-    level: u32,
-    turn: usize,
-    x: u32,
-    y: u32,
-    falling: &mut Falling,
-) -> Result<(), PlanFault>
-    requires vertex { y < (V.shown view.old).size }
-    requires turn { turn < length falling.old.list.items }
-    requires at { slice_index falling.old.list.items turn ≡ x }
-    requires read { has_list (V.shown view.old).kept x ≡ true }
-    requires neighbour { member y (list_of (V.shown view.old).kept x) ≡ true }
-    requires tidy { IsTidyFalling update (V.shown view.old) falling.old }
-    ensures goes_on { GoesOn (V.shown view.old) (V.shown view.new) }
-    ensures cause { IfErr result (λ fault. HasPlanCause (V.shown view.old) (V.shown view.new) fault) }
-    ensures tidy { OnOk result (IsTidyFalling update (V.shown view.new) falling.new) }
-    ensures still { OnOk result ((z : ℕ) → is_visited falling.old z ≡ true → is_visited falling.new z ≡ true) }
-    ensures longer { OnOk result (turn < length falling.new.list.items) }
-    ensures at { OnOk result (slice_index falling.new.list.items turn ≡ x) }
-    ensures falls { OnOk result ((s : Ranked) (row : List ℕ) → Agrees (V.shown view.new).kept s → member y row ≡ false
-        → FallsIn update level s falling.old turn (has_come update s x row) → FallsIn update level s falling.new turn (has_come update s x (row ++ y ∷ []))) }
-{
-    if is_removed(update, x, y) {
-        return Ok(());
-    }
-    let core = core_of(view, y)?;
-    if core != level {
-        return Ok(());
-    }
-    let turns = turn + 1;
-    let Some(found) = falling.find(y) else {
-        visit(view, update, level, turns, y, falling)?;
-        return Ok(());
-    };
-    if !found.has_looked(x) {
-        return Ok(());
-    }
-    count_on(view, update, level, turns, y, found.count.less(), falling)?;
-    Ok(())
+/// The turn of a vertex that fell: the vertex, and its place on the list of the fallen.
+#[derive(Clone, Copy, Drop)]
+struct Turn {
+    vertex: u32,
+    place: usize,
 }
 
-/// The vertex `x`, whose list was read and is of this length, comes to each of its neighbours.
-fn come_to_each<V: View>(
-    view: &mut V,
-    update: Update,
-    level: u32,
-    turn: usize,
-    x: u32,
-    degree: u32,
-    falling: &mut Falling,
-) -> Result<(), PlanFault>
-    requires turn { turn < length falling.old.list.items }
-    requires at { slice_index falling.old.list.items turn ≡ x }
-    requires read { has_list (V.shown view.old).kept x ≡ true }
-    requires degree { degree ≡ length (list_of (V.shown view.old).kept x) }
-    requires lists { KeepsLists (V.shown view.old) }
-    requires tidy { IsTidyFalling update (V.shown view.old) falling.old }
-    ensures goes_on { GoesOn (V.shown view.old) (V.shown view.new) }
-    ensures cause { IfErr result (λ fault. HasPlanCause (V.shown view.old) (V.shown view.new) fault) }
-    ensures tidy { OnOk result (IsTidyFalling update (V.shown view.new) falling.new) }
-    ensures still { OnOk result ((z : ℕ) → is_visited falling.old z ≡ true → is_visited falling.new z ≡ true) }
-    ensures longer { OnOk result (turn < length falling.new.list.items) }
-    ensures falls { OnOk result ((s : Ranked) → Agrees (V.shown view.new).kept s → FallsIn update level s falling.old turn nobody
-        → FallsIn update level s falling.new (turn + 1) nobody) }
-{
-    for i in 0..degree {
-        let y = view.list(x)[i as usize];
-        come_to(view, update, level, turn, x, y, falling)?;
+impl Falling {
+    /// The vertex whose turn it is comes to its neighbour `y`: this is visited now, or has one less if it had looked at that vertex.
+    /// If it has not looked there yet, it loses nothing: it will find that the vertex is gone.
+    fn come_to<V: View>(
+        &mut self,
+        view: &mut V,
+        search: Search,
+        turn: Turn,
+        y: u32,
+    ) -> Result<(), PlanFault>
+        requires vertex { y < (V.shown view.old).size }
+        requires turn { turn.place < length self.old.list.items }
+        requires at { slice_index self.old.list.items turn.place ≡ turn.vertex }
+        requires read { has_list (V.shown view.old).kept turn.vertex ≡ true }
+        requires neighbour { member y (list_of (V.shown view.old).kept turn.vertex) ≡ true }
+        requires tidy { IsTidyFalling search.update (V.shown view.old) self.old }
+        ensures goes_on { GoesOn (V.shown view.old) (V.shown view.new) }
+        ensures cause { IfErr result (λ fault. HasPlanCause (V.shown view.old) (V.shown view.new) fault) }
+        ensures tidy { OnOk result (IsTidyFalling search.update (V.shown view.new) self.new) }
+        ensures still { OnOk result ((z : ℕ) → is_visited self.old z ≡ true → is_visited self.new z ≡ true) }
+        ensures longer { OnOk result (turn.place < length self.new.list.items) }
+        ensures at { OnOk result (slice_index self.new.list.items turn.place ≡ turn.vertex) }
+        ensures falls { OnOk result ((s : Ranked) (row : List ℕ) → Agrees (V.shown view.new).kept s → member y row ≡ false
+            → FallsIn search.update search.level s self.old turn.place (has_come search.update s turn.vertex row)
+            → FallsIn search.update search.level s self.new turn.place (has_come search.update s turn.vertex (row ++ y ∷ []))) }
+    {
+        if is_removed(search.update, turn.vertex, y) {
+            return Ok(());
+        }
+        let supported = Supported {
+            vertex: y,
+            turns: turn.place + 1,
+        };
+        let Some(found) = self.find(y) else {
+            let core = core_of(view, y)?;
+            if core == search.level {
+                self.visit(view, search, supported)?;
+            }
+            return Ok(());
+        };
+        if found.has_looked(turn.vertex) {
+            self.count_on(view, search, supported, found.count.less())?;
+        }
+        Ok(())
     }
-    Ok(())
-}
 
-/// The turn of the fallen vertex at this place of the list.
-fn take_turn<V: View>(
-    view: &mut V,
-    update: Update,
-    level: u32,
-    turn: usize,
-    falling: &mut Falling,
-) -> Result<(), PlanFault>
-    requires turn { turn < length falling.old.list.items }
-    requires tidy { IsTidyFalling update (V.shown view.old) falling.old }
-    ensures goes_on { GoesOn (V.shown view.old) (V.shown view.new) }
-    ensures cause { IfErr result (λ fault. HasPlanCause (V.shown view.old) (V.shown view.new) fault) }
-    ensures tidy { OnOk result (IsTidyFalling update (V.shown view.new) falling.new) }
-    ensures still { OnOk result ((z : ℕ) → is_visited falling.old z ≡ true → is_visited falling.new z ≡ true) }
-    ensures longer { OnOk result (turn < length falling.new.list.items) }
-    ensures falls { OnOk result ((s : Ranked) → Agrees (V.shown view.new).kept s → FallsIn update level s falling.old turn nobody
-        → FallsIn update level s falling.new (turn + 1) nobody) }
-{
-    let x = falling.list[turn];
-    let degree = degree_of(view, x)?;
-    come_to_each(view, update, level, turn, x, degree, falling)
-}
-
-/// Goes through the list of the fallen from the front, as it grows.
-pub(crate) fn take_turns<V: View>(
-    view: &mut V,
-    update: Update,
-    level: u32,
-    falling: &mut Falling,
-) -> Result<(), PlanFault>
-    requires tidy { IsTidyFalling update (V.shown view.old) falling.old }
-    ensures goes_on { GoesOn (V.shown view.old) (V.shown view.new) }
-    ensures cause { IfErr result (λ fault. HasPlanCause (V.shown view.old) (V.shown view.new) fault) }
-    ensures tidy { OnOk result (IsTidyFalling update (V.shown view.new) falling.new) }
-    ensures still { OnOk result ((z : ℕ) → is_visited falling.old z ≡ true → is_visited falling.new z ≡ true) }
-    ensures falls { OnOk result ((s : Ranked) → Agrees (V.shown view.new).kept s → FallsIn update level s falling.old 0 nobody
-        → FallsIn update level s falling.new (length falling.new.list.items) nobody) }
-{
-    let mut turn = 0;
-    while turn < falling.list.len() {
-        take_turn(view, update, level, turn, falling)?;
-        turn += 1;
+    /// The vertex whose turn it is, and whose list was read and is of this length, comes to each of its neighbours.
+    fn come_to_each<V: View>(
+        &mut self,
+        view: &mut V,
+        search: Search,
+        turn: Turn,
+        degree: u32,
+    ) -> Result<(), PlanFault>
+        requires turn { turn.place < length self.old.list.items }
+        requires at { slice_index self.old.list.items turn.place ≡ turn.vertex }
+        requires read { has_list (V.shown view.old).kept turn.vertex ≡ true }
+        requires degree { degree ≡ length (list_of (V.shown view.old).kept turn.vertex) }
+        requires lists { KeepsLists (V.shown view.old) }
+        requires tidy { IsTidyFalling search.update (V.shown view.old) self.old }
+        ensures goes_on { GoesOn (V.shown view.old) (V.shown view.new) }
+        ensures cause { IfErr result (λ fault. HasPlanCause (V.shown view.old) (V.shown view.new) fault) }
+        ensures tidy { OnOk result (IsTidyFalling search.update (V.shown view.new) self.new) }
+        ensures still { OnOk result ((z : ℕ) → is_visited self.old z ≡ true → is_visited self.new z ≡ true) }
+        ensures longer { OnOk result (turn.place < length self.new.list.items) }
+        ensures falls { OnOk result ((s : Ranked) → Agrees (V.shown view.new).kept s → FallsIn search.update search.level s self.old turn.place nobody
+            → FallsIn search.update search.level s self.new (turn.place + 1) nobody) }
+    {
+        for i in 0..degree {
+            let y = view.list(turn.vertex)[i as usize];
+            self.come_to(view, search, turn, y)?;
+        }
+        Ok(())
     }
-    Ok(())
+
+    /// The turn of the fallen vertex at this place of the list.
+    fn take_turn<V: View>(
+        &mut self,
+        view: &mut V,
+        search: Search,
+        place: usize,
+    ) -> Result<(), PlanFault>
+        requires turn { place < length self.old.list.items }
+        requires tidy { IsTidyFalling search.update (V.shown view.old) self.old }
+        ensures goes_on { GoesOn (V.shown view.old) (V.shown view.new) }
+        ensures cause { IfErr result (λ fault. HasPlanCause (V.shown view.old) (V.shown view.new) fault) }
+        ensures tidy { OnOk result (IsTidyFalling search.update (V.shown view.new) self.new) }
+        ensures still { OnOk result ((z : ℕ) → is_visited self.old z ≡ true → is_visited self.new z ≡ true) }
+        ensures longer { OnOk result (place < length self.new.list.items) }
+        ensures falls { OnOk result ((s : Ranked) → Agrees (V.shown view.new).kept s → FallsIn search.update search.level s self.old place nobody
+            → FallsIn search.update search.level s self.new (place + 1) nobody) }
+    {
+        let vertex = self.list[place];
+        let degree = degree_of(view, vertex)?;
+        let turn = Turn { vertex, place };
+        self.come_to_each(view, search, turn, degree)
+    }
+
+    /// Goes through the list of the fallen from the front, as it grows.
+    pub(crate) fn take_turns<V: View>(
+        &mut self,
+        view: &mut V,
+        search: Search,
+    ) -> Result<(), PlanFault>
+        requires tidy { IsTidyFalling search.update (V.shown view.old) self.old }
+        ensures goes_on { GoesOn (V.shown view.old) (V.shown view.new) }
+        ensures cause { IfErr result (λ fault. HasPlanCause (V.shown view.old) (V.shown view.new) fault) }
+        ensures tidy { OnOk result (IsTidyFalling search.update (V.shown view.new) self.new) }
+        ensures still { OnOk result ((z : ℕ) → is_visited self.old z ≡ true → is_visited self.new z ≡ true) }
+        ensures falls { OnOk result ((s : Ranked) → Agrees (V.shown view.new).kept s → FallsIn search.update search.level s self.old 0 nobody
+            → FallsIn search.update search.level s self.new (length self.new.list.items) nobody) }
+    {
+        let mut place = 0;
+        while place < self.list.len() {
+            self.take_turn(view, search, place)?;
+            place += 1;
+        }
+        Ok(())
+    }
 }

@@ -2,29 +2,37 @@
 use Rattle.std.proofs.Common.{◌≡◌, ◌≢◌, ℕ, true, false, List, get_or, eqb, inl, inr, sym, ◌∙◌, ap, subst, arith, eqb-true}
 use Rattle.std.specs.Prelude.{is_some}
 use Rattle.std.proofs.lemmas.Bool.{or_cases}
-use Rattle.kc_view.proofs.Keeping.{agreed}
+use Rattle.kc_view.proofs.Keeping.{GoesOn-trans, agreed}
 use Rattle.kc_remove.specs.Cascade.{Cascade, nobody}
 use Rattle.kc_remove.specs.Removed.{search_without}
 use Rattle.kc_remove.specs.Falling.{is_visited, support_at, has_looked, FallsIn}
 use Rattle.kc_remove.proofs.Falls.{calm}
 use Rattle.kc_remove.proofs.removal.find_fallen.Goals as goal
 
+pub returns-in_err-take_turns-clause-goes_on : goal.returns-in_err-take_turns-clause-goes_on
+returns-in_err-take_turns-clause-goes_on g c =
+    GoesOn-trans _ _ _ (GoesOn-trans _ _ _ c.visit_end.ensures.goes_on c.visit_end-2.ensures.goes_on) c.take_turns.ensures.goes_on
+
+pub returns-clause-goes_on : goal.returns-clause-goes_on
+returns-clause-goes_on g c =
+    GoesOn-trans _ _ _ (GoesOn-trans _ _ _ c.visit_end.ensures.goes_on c.visit_end-2.ensures.goes_on) c.take_turns.ensures.goes_on
+
 pub returns-clause-ended : goal.returns-clause-ended
 returns-clause-ended g c = λ s a.
     let f = c.new-falling.result in
-    let one = c.visit_end.new.falling in
-    let two = c.visit_end-2.new.falling in
+    let one = c.visit_end.new.self in
+    let two = c.visit_end-2.new.self in
     let second = agreed _ _ s c.take_turns.ensures.goes_on.further a in
     let first = agreed _ _ s c.visit_end-2.ensures.goes_on.further second in
-    let u = c.args.update.u in
-    let v = c.args.update.v in
+    let u = c.args.search.update.u in
+    let v = c.args.search.update.v in
     let none : (y : ℕ) → is_visited f y ≡ false = λ y. ap is_some (c.new-falling.ensures.visits y) in
-    let start : FallsIn c.args.update c.args.level s f 0 nobody =
+    let start : FallsIn c.args.search.update c.args.search.level s f 0 nobody =
     subst
-    (λ (xs : List ℕ). Cascade (search_without c.args.update c.args.level s) xs 0 nobody (is_visited f) (support_at f) (has_looked f) nobody)
-    (sym c.new-falling.ensures.list) (calm (search_without c.args.update c.args.level s) (is_visited f) (support_at f) (has_looked f) none) in
+    (λ (xs : List ℕ). Cascade (search_without c.args.search.update c.args.search.level s) xs 0 nobody (is_visited f) (support_at f) (has_looked f) nobody)
+    (sym c.new-falling.ensures.list) (calm (search_without c.args.search.update c.args.search.level s) (is_visited f) (support_at f) (has_looked f) none) in
     let falls = c.in_ok-take_turns.ensures.falls s a (c.in_ok-visit_end-2.ensures.falls s second (c.in_ok-visit_end.ensures.falls s first start)) in
-    let differ : u ≢ v = λ e. absurd (omega (arith, e, c.args.update.ordered)) in
+    let differ : u ≢ v = λ e. absurd (omega (arith, e, c.args.search.update.ordered)) in
     record {
       falls = falls;
       ends = λ z oz is. c.in_ok-take_turns.ensures.still z (elim (or_cases (eqb z u) (eqb z v) is) [
