@@ -7,17 +7,18 @@
 //! program writes does not.
 #![tactic(auto)]
 
-ghost use Rattle.std.specs.Prelude.{◌≡◌, ◌≤◌, IfOk, length};
+ghost use Rattle.std.specs.Prelude.{◌≡◌, ◌≤◌, ◌∷◌, [], All, IfOk, length};
+ghost use Rattle.kc_snapshot.specs.Histories.{member, width};
 ghost use Rattle.kc_text.specs.declared.limits.TheConstants.{MOST_BATCHES, MOST_IDS};
 
 mod watching;
 mod working;
 
-use crate::watching::{one_of, watchers_of};
+use crate::watching::{Watcher, one_of, watchers_of};
 use crate::working::work;
 use anyhow::{Result, bail};
 use kc_graph::{Graph, Update, core_numbers};
-use kc_snapshot::{Blank, BoardName, open};
+use kc_snapshot::{Blank, BoardName, Publisher, Reader, open};
 use kc_text::{Input, MOST_BYTES, parse};
 use std::alloc::Global;
 use std::io::Read as _;
@@ -62,37 +63,90 @@ fn graph_of(alloc: Global, vertices: u32, pairs: &[(u32, u32)]) -> Result<Graph>
     Ok(Graph::from_pairs(alloc, vertices, pairs)?)
 }
 
-/// Makes the batches in a graph, while watchers read its core numbers.
-fn watch_batches<J: BoardName + Send + Sync, R: Threads + Wait + Sync>(
+/// Makes the batches in a graph whose core numbers were published, while the watchers read them.
+fn see_batches<J: BoardName + Send + Sync, R: Threads + Wait + Sync>(
     rt: &R,
     alloc: Global,
-    blank: Blank,
-    graph: Graph,
+    graph: &mut Graph,
+    publisher: &mut Publisher<J, &R>,
+    told: &mut Reader<J>,
+    watchers: &mut [Watcher<J>],
     batches: &[Vec<Update>],
 ) -> Result<Seen>
-    requires blank { blank ≡ J.book }
+    requires opened { length publisher.old ≡ 1 }
     requires few { length batches.now ≤ MOST_BATCHES }
+    requires vertices { (width publisher.old ≡ graph.old.size) × (width told.old ≡ graph.old.size) }
 {
-    let first = core_numbers(alloc, &graph)?;
-    let (publisher, mut readers) = open::<J, &R>(rt, alloc, blank, &first, WATCHERS + 1)?;
-    let Some(told) = one_of(&mut readers, &first) else {
-        bail!("there is no reader");
-    };
-    let mut watchers = watchers_of(alloc, readers, &first, graph.vertices())?;
     let (worked, ()) = thread::join(
         rt,
         || work(rt, alloc, graph, publisher, told, batches),
         || thread::for_each_mut(
             rt,
-            watchers.as_mut_slice(),
+            watchers,
             WATCHERS as usize,
             &|_, watcher| watcher.watch(rt),
         ),
     );
-    let (publisher, lists) = worked?;
-    publisher.end();
+    let lists = worked?;
     let right = watchers.iter().all(|watcher| watcher.is_right(&lists));
     Ok(Seen { lists, right })
+}
+
+/// Makes the batches in a graph whose core numbers were published to these readers. One is told of each publish, and the others are watchers.
+fn read_batches<J: BoardName + Send + Sync, R: Threads + Wait + Sync>(
+    rt: &R,
+    alloc: Global,
+    graph: &mut Graph,
+    publisher: &mut Publisher<J, &R>,
+    mut readers: Vec<Reader<J>>,
+    first: &[u32],
+    batches: &[Vec<Update>],
+) -> Result<Seen>
+    requires opened { publisher.old ≡ member first.now ∷ [] }
+    requires readers { All (λ reader. reader ≡ member first.now ∷ []) readers.items }
+    requires few { length batches.now ≤ MOST_BATCHES }
+    requires vertices { length first.now ≡ graph.old.size }
+{
+    let Some(mut told) = one_of(&mut readers, first) else {
+        bail!("there is no reader");
+    };
+    let mut watchers = watchers_of(alloc, readers, first, graph.vertices())?;
+    see_batches(
+        rt,
+        alloc,
+        graph,
+        publisher,
+        &mut told,
+        watchers.as_mut_slice(),
+        batches,
+    )
+}
+
+/// Opens a board for a graph, and makes the batches in the graph while watchers read its core numbers.
+fn watch_batches<J: BoardName + Send + Sync, R: Threads + Wait + Sync>(
+    rt: &R,
+    alloc: Global,
+    blank: Blank,
+    graph: &mut Graph,
+    batches: &[Vec<Update>],
+) -> Result<Seen>
+    requires blank { blank ≡ J.book }
+    requires few { length batches.now ≤ MOST_BATCHES }
+{
+    let first = core_numbers(alloc, graph)?;
+    let (mut publisher, readers) = open::<J, &R>(rt, alloc, blank, &first, WATCHERS + 1)?;
+    let seen = read_batches(rt, alloc, graph, &mut publisher, readers, &first, batches);
+    publisher.end();
+    seen
+}
+
+/// Makes the batches of an input, while watchers read.
+fn watch_input<R: Threads + Wait + Sync>(rt: &R, alloc: Global, input: &Input) -> Result<Seen>
+    requires few { length input.now.ids.items ≤ MOST_IDS }
+    requires few_batches { length input.now.batches.items ≤ MOST_BATCHES }
+{
+    let mut graph = graph_of(alloc, input.ids.len() as u32, &input.start)?;
+    watch_batches::<Brand, _>(rt, alloc, Blank::new(), &mut graph, &input.batches)
 }
 
 /// Writes each list of core numbers.
@@ -107,14 +161,18 @@ fn write_lists(rt: &HostRuntime, lists: &[Vec<u32>]) -> Result<()> {
     Ok(())
 }
 
-fn main(rt: HostRuntime) -> Result<()> {
-    let input = read_input(&rt)?;
-    let graph = graph_of(rt.alloc(), input.ids.len() as u32, &input.start)?;
-    let seen = watch_batches::<Brand, _>(&rt, rt.alloc(), Blank::new(), graph, &input.batches)?;
-    write_lists(&rt, &seen.lists)?;
+/// Writes what was seen of a run.
+fn write_seen(rt: &HostRuntime, seen: &Seen) -> Result<()> {
+    write_lists(rt, &seen.lists)?;
     if !seen.right {
         bail!("a watcher read what was not published");
     }
     println!(rt; "what the watchers read was right")?;
     Ok(())
+}
+
+fn main(rt: HostRuntime) -> Result<()> {
+    let input = read_input(&rt)?;
+    let seen = watch_input(&rt, rt.alloc(), &input)?;
+    write_seen(&rt, &seen)
 }

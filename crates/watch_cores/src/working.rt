@@ -50,26 +50,26 @@ fn list_seen<J: BoardName, R: Wait + Drop, W: Wait>(
     Ok(list)
 }
 
-/// Makes batch after batch in a graph whose core numbers were published, and publishes them after each. Gives the publisher back, with the
-/// lists that a reader saw who was told of each publish.
+/// Makes batch after batch in a graph whose core numbers were published, and publishes them after each. Answers the lists that a reader
+/// saw who was told of each publish.
 pub(crate) fn work<J: BoardName, R: Wait + Drop, W: Wait>(
     rt: &W,
     alloc: Global,
-    mut graph: Graph,
-    mut publisher: Publisher<J, R>,
-    mut told: Reader<J>,
+    graph: &mut Graph,
+    publisher: &mut Publisher<J, R>,
+    told: &mut Reader<J>,
     batches: &[Vec<Update>],
-) -> Result<(Publisher<J, R>, Vec<Vec<u32>>), NoMemory>
-    requires opened { length publisher ≡ 1 }
+) -> Result<Vec<Vec<u32>>, NoMemory>
+    requires opened { length publisher.old ≡ 1 }
     requires few { length batches.now ≤ MOST_BATCHES }
-    requires vertices { (width publisher ≡ graph.size) × (width told ≡ graph.size) }
+    requires vertices { (width publisher.old ≡ graph.old.size) × (width told.old ≡ graph.old.size) }
 {
     let mut lists = Vec::new(alloc);
-    lists.push(list_seen(rt, alloc, &publisher, &mut told, graph.vertices())?)?;
+    lists.push(list_seen(rt, alloc, publisher, told, graph.vertices())?)?;
     for batch in batches {
-        apply(&mut graph, batch)?;
-        publisher.publish(rt, &core_numbers(alloc, &graph)?)?;
-        lists.push(list_seen(rt, alloc, &publisher, &mut told, graph.vertices())?)?;
+        apply(graph, batch)?;
+        publisher.publish(rt, &core_numbers(alloc, graph)?)?;
+        lists.push(list_seen(rt, alloc, publisher, told, graph.vertices())?)?;
     }
-    Ok((publisher, lists))
+    Ok(lists)
 }

@@ -1,5 +1,5 @@
 -- The board is the one of the blank.
-use Rattle.watch_cores.proofs.main.Given as goal
+use Rattle.watch_cores.proofs.watch_input.Given as goal
 
 abbrev pub ghosts-watch_batches : goal.ghosts-watch_batches
 ghosts-watch_batches g a = record { book = a.blank }
