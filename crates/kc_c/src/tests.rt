@@ -24,23 +24,32 @@ fn refused(status: u32) -> Answer {
     Answer { status, number: 0 }
 }
 
+/// The core numbers of a triangle with a tail.
+fn assert_numbers<R: Abort + AllocGlobal>(rt: &R, edges: &[Edge]) {
+    let mut core = [9; 5];
+    assert_eq!(rt;
+        kcore_core_numbers(rt.alloc(), 5, edges, &mut core),
+        done(0)
+    );
+    assert_eq!(rt; core, [2, 2, 2, 1, 0]);
+}
+
+/// The same numbers come with an order that certifies them.
+fn assert_order<R: Abort + AllocGlobal>(rt: &R, edges: &[Edge]) {
+    let (mut core, mut order) = ([9; 5], [9; 5]);
+    assert_eq!(rt;
+        kcore_degeneracy_order(rt.alloc(), 5, edges, &mut core, &mut order),
+        done(0)
+    );
+    assert_eq!(rt; core, [2, 2, 2, 1, 0]);
+    assert_eq!(rt; kcore_check(rt.alloc(), 5, edges, &core, &order), done(0));
+}
+
 #[test]
 fn the_numbers_and_order_of_a_triangle_with_a_tail(rt: HostRuntime) -> Result<(), Fail> {
     let edges = edges_of(&rt, &TAILED)?;
-    let mut core = [9; 5];
-    assert_eq!(rt;
-        kcore_core_numbers(rt.alloc(), 5, &edges, &mut core),
-        done(0)
-    );
-    assert_eq!(rt; core, [2, 2, 2, 1, 0]);
-
-    let (mut core, mut order) = ([9; 5], [9; 5]);
-    assert_eq!(rt;
-        kcore_degeneracy_order(rt.alloc(), 5, &edges, &mut core, &mut order),
-        done(0)
-    );
-    assert_eq!(rt; core, [2, 2, 2, 1, 0]);
-    assert_eq!(rt; kcore_check(rt.alloc(), 5, &edges, &core, &order), done(0));
+    assert_numbers(&rt, &edges);
+    assert_order(&rt, &edges);
     Ok(())
 }
 
@@ -65,67 +74,98 @@ fn numbers_that_no_order_certifies(rt: HostRuntime) -> Result<(), Fail> {
     Ok(())
 }
 
+/// So many vertices are in the k-core, and `after` has them first.
+fn assert_members<R: Abort + AllocGlobal>(
+    rt: &R,
+    edges: &[Edge],
+    k: u32,
+    number: usize,
+    after: [u32; 5],
+) {
+    let mut members = [9; 5];
+    assert_eq!(rt;
+        kcore_k_core(rt.alloc(), 5, edges, k, &mut members),
+        done(number),
+        "{k}"
+    );
+    assert_eq!(rt; members, after, "{k}");
+}
+
 #[test]
 fn the_members_of_each_k_core(rt: HostRuntime) -> Result<(), Fail> {
     let edges = edges_of(&rt, &TAILED)?;
-    let cases: [(u32, usize, [u32; 5]); 4] = [
-        (0, 5, [0, 1, 2, 3, 4]),
-        (1, 4, [0, 1, 2, 3, 9]),
-        (2, 3, [0, 1, 2, 9, 9]),
-        (3, 0, [9, 9, 9, 9, 9]),
-    ];
-    for (k, number, after) in cases {
-        let mut members = [9; 5];
-        assert_eq!(rt;
-            kcore_k_core(rt.alloc(), 5, &edges, k, &mut members),
-            done(number),
-            "{k}"
-        );
-        assert_eq!(rt; members, after, "{k}");
-    }
+    assert_members(&rt, &edges, 0, 5, [0, 1, 2, 3, 4]);
+    assert_members(&rt, &edges, 1, 4, [0, 1, 2, 3, 9]);
+    assert_members(&rt, &edges, 2, 3, [0, 1, 2, 9, 9]);
+    assert_members(&rt, &edges, 3, 0, [9, 9, 9, 9, 9]);
     Ok(())
+}
+
+/// An edge of a vertex that is not there: the third one, of vertex 4.
+fn stranger() -> Answer {
+    Answer {
+        status: 4,
+        number: 2,
+    }
+}
+
+/// Core numbers are refused for a table of another length and for an edge of a vertex that is not there.
+fn assert_numbers_refused<R: Abort + AllocGlobal>(rt: &R, edges: &[Edge]) {
+    let mut core = [9; 5];
+    assert_eq!(rt;
+        kcore_core_numbers(rt.alloc(), 6, edges, &mut core),
+        refused(1)
+    );
+    assert_eq!(rt;
+        kcore_core_numbers(rt.alloc(), 4, edges, &mut core[..4]),
+        stranger()
+    );
+    assert_eq!(rt; core, [9; 5]);
+}
+
+/// An order is refused for a table of another length, the core numbers' or its own, and for such an edge.
+fn assert_order_refused<R: Abort + AllocGlobal>(rt: &R, edges: &[Edge]) {
+    let (mut core, mut order) = ([9; 5], [9; 6]);
+    assert_eq!(rt;
+        kcore_degeneracy_order(rt.alloc(), 4, edges, &mut core, &mut order),
+        refused(1)
+    );
+    assert_eq!(rt;
+        kcore_degeneracy_order(rt.alloc(), 5, edges, &mut core, &mut order),
+        refused(2)
+    );
+    assert_eq!(rt;
+        kcore_degeneracy_order(rt.alloc(), 4, edges, &mut core[..4], &mut order[..4]),
+        stranger()
+    );
+    assert_eq!(rt; core, [9; 5]);
+    assert_eq!(rt; order, [9; 6]);
+}
+
+/// Members are refused for a table of another length and for such an edge.
+fn assert_members_refused<R: Abort + AllocGlobal>(rt: &R, edges: &[Edge]) {
+    let mut members = [9; 6];
+    assert_eq!(rt;
+        kcore_k_core(rt.alloc(), 5, edges, 1, &mut members),
+        refused(3)
+    );
+    assert_eq!(rt;
+        kcore_k_core(rt.alloc(), 4, edges, 1, &mut members[..4]),
+        stranger()
+    );
+    assert_eq!(rt; members, [9; 6]);
 }
 
 #[test]
 fn a_refused_call_writes_nothing(rt: HostRuntime) -> Result<(), Fail> {
     let edges = edges_of(&rt, &TAILED)?;
-    let (mut core, mut order) = ([9; 5], [9; 6]);
-    let stranger = Answer {
-        status: 4,
-        number: 2,
-    };
+    assert_numbers_refused(&rt, &edges);
+    assert_order_refused(&rt, &edges);
+    assert_members_refused(&rt, &edges);
     assert_eq!(rt;
-        kcore_core_numbers(rt.alloc(), 6, &edges, &mut core),
-        refused(1)
+        kcore_check(rt.alloc(), 4, &edges, &[9; 5], &[9; 6]),
+        stranger()
     );
-    assert_eq!(rt;
-        kcore_core_numbers(rt.alloc(), 4, &edges, &mut core[..4]),
-        stranger
-    );
-    assert_eq!(rt;
-        kcore_degeneracy_order(rt.alloc(), 4, &edges, &mut core, &mut order),
-        refused(1)
-    );
-    assert_eq!(rt;
-        kcore_degeneracy_order(rt.alloc(), 5, &edges, &mut core, &mut order),
-        refused(2)
-    );
-    assert_eq!(rt;
-        kcore_degeneracy_order(rt.alloc(), 4, &edges, &mut core[..4], &mut order[..4]),
-        stranger
-    );
-    assert_eq!(rt; kcore_check(rt.alloc(), 4, &edges, &core, &order), stranger);
-    assert_eq!(rt;
-        kcore_k_core(rt.alloc(), 5, &edges, 1, &mut order),
-        refused(3)
-    );
-    assert_eq!(rt;
-        kcore_k_core(rt.alloc(), 4, &edges, 1, &mut order[..4]),
-        stranger
-    );
-    assert_eq!(rt; core, [9; 5]);
-    assert_eq!(rt; order, [9; 6]);
-
     assert_eq!(rt; kcore_core_numbers(rt.alloc(), 0, &[], &mut []), done(0));
     Ok(())
 }
