@@ -1,5 +1,6 @@
 //! Updates of small graphs, worked out by hand: each is planned over a journal that is held, and entered in it.
-ghost use Rattle.std.specs.Prelude.{◌≡◌, ◌<◌, ◌≤◌, IfOk};
+ghost use Rattle.std.specs.Prelude.{◌≡◌, ◌<◌, ◌≤◌, IfOk, OnOk};
+ghost use Rattle.kc_graph.specs.Certificate.{Certifies};
 ghost use Rattle.kc_levels.specs.Levels.{size_of};
 ghost use Rattle.kc_journal.specs.Entering.{MayEnter};
 
@@ -144,21 +145,55 @@ const ROWS: [Row; 6] = [
     },
 ];
 
+/// The graph of a start.
+fn graph_of<R: Abort + AllocGlobal>(rt: &R, start: Start) -> Result<Graph, Fail> {
+    assert!(rt; start.core.len() <= VERTICES as usize);
+    let mut graph = Graph::new(rt.alloc(), start.core.len() as u32)?;
+    add_edges(rt, &mut graph, start.edges)?;
+    Ok(graph)
+}
+
+/// Adds these edges to a graph.
+fn add_edges<R: Abort>(rt: &R, graph: &mut Graph, edges: &[(u32, u32)]) -> Result<(), Fail> {
+    for (u, v) in edges {
+        assert!(rt; *u != *v && *u < graph.vertices() && *v < graph.vertices());
+        graph.add(*u, *v)?;
+    }
+    Ok(())
+}
+
+/// The core numbers and the order certify each other in a graph, which is no larger than a journal's.
+fn assert_certified<R: Abort + AllocGlobal>(
+    rt: &R,
+    graph: &Graph,
+    core: &[u32],
+    order: &[u32],
+) -> Result<(), Fail>
+    ensures few { OnOk result (graph.now.size ≤ VERTICES) }
+    ensures certified { OnOk result (Certifies graph.now core.now order.now) }
+{
+    assert!(rt; graph.vertices() <= VERTICES);
+    assert!(rt; check(rt.alloc(), graph, core, order)?);
+    Ok(())
+}
+
+/// A graph, with core numbers and an order that certify each other in it.
+fn lawful_of(alloc: Global, graph: Graph, core: &[u32], order: &[u32]) -> Result<Lawful, NoMemory>
+    requires { Certifies graph core.now order.now }
+    ensures { IfOk result (λ lawful. lawful.graph ≡ graph) }
+{
+    let core = Vec::from_slice(alloc, core)?;
+    let order = Vec::from_slice(alloc, order)?;
+    Lawful::new(alloc, graph, core, order)
+}
+
 /// The graph of a start, with its core numbers and its order.
 fn state_of<R: Abort + AllocGlobal>(rt: &R, start: Start) -> Result<Lawful, Fail>
     ensures { IfOk result (λ lawful. lawful.graph.size ≤ VERTICES) }
 {
-    assert!(rt; start.core.len() <= VERTICES as usize);
-    let mut graph = Graph::new(rt.alloc(), start.core.len() as u32)?;
-    for (u, v) in start.edges {
-        assert!(rt; *u != *v && *u < graph.vertices() && *v < graph.vertices());
-        graph.add(*u, *v)?;
-    }
-    let core = Vec::from_slice(rt.alloc(), start.core)?;
-    let order = Vec::from_slice(rt.alloc(), start.order)?;
-    assert!(rt; check(rt.alloc(), &graph, &core, &order)?);
-    assert!(rt; graph.vertices() <= VERTICES);
-    Ok(Lawful::new(rt.alloc(), graph, core, order)?)
+    let graph = graph_of(rt, start)?;
+    assert_certified(rt, &graph, start.core, start.order)?;
+    Ok(lawful_of(rt.alloc(), graph, start.core, start.order)?)
 }
 
 /// A journal with the words and a pass of its table.
@@ -274,19 +309,6 @@ fn update_of(add: bool, ends: (u32, u32)) -> Update
     }
 }
 
-/// The update of a row is planned and entered.
-fn enter_row<R: Abort + AllocGlobal>(rt: &R, row: &Row) -> Result<(), Fail> {
-    assert!(rt; row.ends.0 < row.ends.1);
-    let mut run = Run::open(rt, row.start, 0)?;
-    let plan = run.plan(rt, update_of(row.add, row.ends))?;
-    assert!(rt; are_moves(&plan.moves, row.moves));
-    assert!(rt; local_check(rt.alloc(), &run.journal, &plan)?);
-    let entered = run.enter(7, &plan)?;
-    assert!(rt; is_first(&entered));
-    assert!(rt; stand(rt.alloc(), &run.journal, row.core, row.order)?);
-    Ok(())
-}
-
 /// Whether the entry of the update with index 7 is the first, and changed the graph.
 fn is_first(entered: &Entered) -> bool {
     let receipt = Receipt {
@@ -295,6 +317,35 @@ fn is_first(entered: &Entered) -> bool {
         applied: true,
     };
     entered.receipt == receipt && entered.lists.is_some()
+}
+
+/// The plan of a row has its moves, is local, and is entered first; the journal is then as the row says.
+fn enter_planned<R: Abort + AllocGlobal>(
+    rt: &R,
+    run: &mut Run,
+    plan: &Plan,
+    row: &Row,
+) -> Result<(), Fail>
+    requires { MayEnter run.old.journal plan.now }
+{
+    assert!(rt; are_moves(&plan.moves, row.moves));
+    assert!(rt; local_check(rt.alloc(), &run.journal, plan)?);
+    assert!(rt; is_first(&run.enter(7, plan)?));
+    assert!(rt; stand(rt.alloc(), &run.journal, row.core, row.order)?);
+    Ok(())
+}
+
+/// The update of a row is planned and entered.
+fn plan_row<R: Abort + AllocGlobal>(rt: &R, run: &mut Run, row: &Row) -> Result<(), Fail> {
+    assert!(rt; row.ends.0 < row.ends.1);
+    let plan = run.plan(rt, update_of(row.add, row.ends))?;
+    enter_planned(rt, run, &plan, row)
+}
+
+/// A run is opened, and the update of a row is planned and entered in it.
+fn enter_row<R: Abort + AllocGlobal>(rt: &R, row: &Row) -> Result<(), Fail> {
+    let mut run = Run::open(rt, row.start, 0)?;
+    plan_row(rt, &mut run, row)
 }
 
 #[test]
@@ -319,29 +370,56 @@ fn assert_parted<R: Abort + AllocGlobal>(rt: &R, journal: &Journal) -> Result<()
     Ok(())
 }
 
-/// A plan has read an edge that is gone when it is entered.
-#[test]
-fn a_plan_is_stale(rt: HostRuntime) -> Result<(), Fail> {
-    let mut run = Run::open(&rt, EDGES, 0)?;
-    let late = run.plan(&rt, update_of(true, (0, 2)))?;
-    let early = run.plan(&rt, update_of(false, (0, 1)))?;
+/// The first of the two edges goes. A plan that might be entered may still be.
+fn part<R: Abort + AllocGlobal>(rt: &R, run: &mut Run) -> Result<(), Fail>
+    ensures { (other : Plan) → MayEnter run.old.journal other → MayEnter run.new.journal other }
+{
+    let early = run.plan(rt, update_of(false, (0, 1)))?;
     assert!(rt; run.enter(0, &early)?.receipt.applied);
+    Ok(())
+}
+
+/// A plan that has read the first of the two edges is stale once that edge is gone.
+fn assert_stale<R: Abort + AllocGlobal>(rt: &R, run: &mut Run, late: &Plan) -> Result<(), Fail>
+    requires { MayEnter run.old.journal late.now }
+{
+    part(rt, run)?;
     let stale = EnterFault::Stale {
         vertex: 0,
         edges: true,
         used: 0,
         now: 1,
     };
-    assert_eq!(rt; run.enter(1, &late).err(), Some(stale));
-    assert_parted(&rt, &run.journal)
+    assert_eq!(rt; run.enter(1, late).err(), Some(stale));
+    assert_parted(rt, &run.journal)
 }
 
-/// A run of the path with as few versions as can be, where the edge in the middle is gone.
-fn nearly_spent<R: Abort + AllocGlobal>(rt: &R) -> Result<Run, Fail> {
-    let mut run = Run::open(rt, PATH, LAST_VERSION - 1)?;
-    let plan = run.plan(rt, update_of(false, (1, 2)))?;
-    assert!(rt; run.enter(4, &plan)?.receipt.place == 1);
-    Ok(run)
+/// A plan is made, and is stale when it is entered.
+fn enter_late<R: Abort + AllocGlobal>(rt: &R, run: &mut Run) -> Result<(), Fail> {
+    let late = run.plan(rt, update_of(true, (0, 2)))?;
+    assert_stale(rt, run, &late)
+}
+
+/// A plan has read an edge that is gone when it is entered.
+#[test]
+fn a_plan_is_stale(rt: HostRuntime) -> Result<(), Fail> {
+    let mut run = Run::open(&rt, EDGES, 0)?;
+    enter_late(&rt, &mut run)
+}
+
+/// The plan of an update is made and entered, at this place.
+fn assert_entered<R: Abort + AllocGlobal>(
+    rt: &R,
+    run: &mut Run,
+    index: u32,
+    update: Update,
+    place: u32,
+) -> Result<(), Fail>
+    requires index { index < INDICES }
+{
+    let plan = run.plan(rt, update)?;
+    assert!(rt; run.enter(index, &plan)?.receipt.place == place);
+    Ok(())
 }
 
 /// The versions do not last for a move.
@@ -355,22 +433,33 @@ fn assert_spent<R: Abort + AllocGlobal>(rt: &R, run: &mut Run) -> Result<(), Fai
     Ok(())
 }
 
-/// The move is made.
-fn assert_moved<R: Abort + AllocGlobal>(rt: &R, run: &mut Run) -> Result<(), Fail> {
-    let plan = run.plan(rt, update_of(true, (0, 2)))?;
-    assert!(rt; run.enter(5, &plan)?.receipt.place == 2);
-    assert!(rt; run.journal.edge_stamps().as_slice() == [2, 1, 2, 0].as_slice());
-    assert!(rt; stand(rt.alloc(), &run.journal, &[1, 1, 1, 1], &[1, 0, 2, 3])?);
+/// The journal goes on as it was.
+fn assert_renewed<R: Abort + AllocGlobal>(rt: &R, journal: &Journal) -> Result<(), Fail> {
+    assert!(rt; journal.edge_stamps().as_slice() == [0, 1, 1, 0].as_slice());
+    assert!(rt; stand(rt.alloc(), journal, &[1, 1, 1, 1], &[0, 1, 2, 3])?);
     Ok(())
+}
+
+/// The move is made.
+fn assert_moved<R: Abort + AllocGlobal>(rt: &R, journal: &Journal) -> Result<(), Fail> {
+    assert!(rt; journal.edge_stamps().as_slice() == [2, 1, 2, 0].as_slice());
+    assert!(rt; stand(rt.alloc(), journal, &[1, 1, 1, 1], &[1, 0, 2, 3])?);
+    Ok(())
+}
+
+/// The edge in the middle of the path goes, and then the versions are spent. In a fresh table the move is made.
+fn spend_and_renew<R: Abort + AllocGlobal>(rt: &R, run: &mut Run) -> Result<(), Fail> {
+    assert_entered(rt, run, 4, update_of(false, (1, 2)), 1)?;
+    assert_spent(rt, run)?;
+    run.renew(rt)?;
+    assert_renewed(rt, &run.journal)?;
+    assert_entered(rt, run, 5, update_of(true, (0, 2)), 2)?;
+    assert_moved(rt, &run.journal)
 }
 
 /// The versions of a table are spent after an entry. The journal goes on as it was in a fresh table, which has versions again.
 #[test]
 fn a_fresh_table_has_versions_again(rt: HostRuntime) -> Result<(), Fail> {
-    let mut run = nearly_spent(&rt)?;
-    assert_spent(&rt, &mut run)?;
-    run.renew(&rt)?;
-    assert!(rt; run.journal.edge_stamps().as_slice() == [0, 1, 1, 0].as_slice());
-    assert!(rt; stand(rt.alloc(), &run.journal, &[1, 1, 1, 1], &[0, 1, 2, 3])?);
-    assert_moved(&rt, &mut run)
+    let mut run = Run::open(&rt, PATH, LAST_VERSION - 1)?;
+    spend_and_renew(&rt, &mut run)
 }
