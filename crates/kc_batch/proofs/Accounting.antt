@@ -1,14 +1,13 @@
 -- What holds of the work between two rounds, and what it comes to at the end.
-use Rattle.std.proofs.Common.{◌≡◌, ◌⊎◌, inl, inr, ⊎_elim, ℕ, ◌+◌, ◌<◌, ◌≤◌, Bool, true, List, [], ◌∷◌, ◌++◌, All, Contains, length, sum_by, refl, sym, ap}
+use Rattle.std.proofs.Common.{◌≡◌, ◌⊎◌, inl, inr, ⊎_elim, ℕ, ◌+◌, ◌<◌, ◌≤◌, true, List, [], ◌∷◌, ◌++◌, All, Contains, length, sum_by, refl, sym, ap}
 use Rattle.std.proofs.Common.{◌∙◌, subst, arith, length-append}
 use Rattle.std.proofs.lemmas.Bool.{false_from_ne_true, false≢true}
 use Rattle.std.proofs.lemmas.List.{length-map}
 use Rattle.std.proofs.lemmas.List.Elements.{All-contains, All-head, All-tail, All-weaker}
 use Rattle.std.proofs.lemmas.List.Sums.{sum_by-cons}
-use Rattle.kc_distinct.specs.Lists.{Distinct, below, member, times}
-use Rattle.kc_distinct.proofs.Counting.{Distinct-below, below-member, count-all, count-le, length-below, distinct_times, member_times, times_distinct}
-use Rattle.kc_distinct.proofs.Counting.{times_member}
-use Rattle.kc_distinct.proofs.Members.{below_bound, member-cases, member-head, member-tail}
+use Rattle.kc_distinct.specs.Lists.{Distinct, member, times}
+use Rattle.kc_distinct.proofs.Counting.{distinct_times, member_times, times_distinct, times_member}
+use Rattle.kc_distinct.proofs.Members.{member-cases, member-head, member-tail}
 use Rattle.kc_graph.specs.SimpleGraph.{SimpleGraph}
 use Rattle.kc_graph.specs.declared.update.Update.{Update}
 use Rattle.kc_table.specs.declared.entry.Entry.{Entry}
@@ -33,6 +32,7 @@ use Rattle.kc_batch.proofs.Counting.{some_of}
 use Rattle.kc_batch.proofs.Going.{went-entries, went-renewed, went-stays}
 use Rattle.kc_batch.proofs.Pacing.{pace-few, pace-renewed, pace-round}
 use Rattle.kc_batch.proofs.Telling.{receipt_of, receipt_of-earlier, receipt_of-grows}
+use Rattle.kc_batch.proofs.Turning.{fewer, whole-length}
 use Rattle.kc_batch.proofs.Working.{misses-stay, told-append}
 
 -- the opened table of a journal that stays in it
@@ -151,22 +151,6 @@ pub told-once : (old now : Journalled) (first : ℕ) (batch : List Update) (ende
 told-once old now first batch ended works taken a d =
     distinct_times (told_indices (all_receipts works))
     (λ y. omega (arith, told-le first y works, a.balance y, times_distinct y (at_places first taken) (distinct-placed first taken d)))
-
--- of distinct numbers that stand all in another list there are no more than there
-pub fewer : (xs ys : List ℕ) → Distinct xs → ((x : ℕ) → member x xs ≡ true → member x ys ≡ true) → length xs ≤ length ys
-fewer xs ys d h =
-    let any : ℕ → Bool = λ x. true in
-    omega (arith, count-le any xs ys d (λ x m t. h x m), count-all any xs (λ x m. refl), count-all any ys (λ x m. refl))
-
--- as many places were taken of a whole batch as it has updates
-whole-length : (n : ℕ) (taken : List ℕ) → IsWhole n taken → length taken ≡ n
-whole-length n taken whole =
-    omega (
-      arith,
-      below_bound n taken whole.share.once whole.share.below,
-      fewer (below n) taken (Distinct-below n) (λ x m. whole.all x (below-member x n m)),
-      length-below n,
-    )
 
 -- What was made is some of the batch, and as much as there are receipts.
 pub record Made (old now : Journalled) (first : ℕ) (batch : List Update) (ended : List PassSeen) (works : List Work) : Type 0 where

@@ -1,6 +1,7 @@
 -- How a batch begins, what is given out between two rounds, and what it has come to at its end.
 use Rattle.std.proofs.Common.{◌≡◌, inl, inr, ℕ, ◌+◌, ◌<◌, ◌≤◌, List, [], ◌∷◌, ◌++◌, All, Contains, get_or, length, map, take, sum_by, refl, sym, ap}
 use Rattle.std.proofs.Common.{zero, suc, true, false, ◌∙◌, subst, arith, append-nil, length-append}
+use Rattle.std.specs.Prelude.{Result, Ok, Err, IfOk, OnOk}
 use Rattle.std.specs.List.{flat_map}
 use Rattle.std.proofs.lemmas.Bool.{false_from_ne_true, true≢false}
 use Rattle.std.proofs.Math.Seq.{drop-append_seam}
@@ -20,7 +21,7 @@ use Rattle.kc_journal.specs.Journals.{Journalled, Renews, Stands, all_seen, fres
 use Rattle.kc_journal.proofs.AfterEntry.{number-is, size-is}
 use Rattle.kc_levels.specs.declared.levels.TheConstants.{LAST_NUMBER}
 use Rattle.kc_journal.specs.declared.answer.Receipt.{Receipt}
-use Rattle.kc_queue.specs.Shares.{Consuming, Filled, IsShare, IsWhole}
+use Rattle.kc_queue.specs.Shares.{Consuming, IsShare, IsWhole}
 use Rattle.kc_queue.specs.declared.consumer.TheConstants.{PARTS}
 use Rattle.kc_queue.proofs.Counts.{times-append}
 use Rattle.kc_stripes.specs.Records.{Opened, opened_with}
@@ -29,18 +30,20 @@ use Rattle.kc_shared.specs.declared.shared.TheConstants.{MISSES}
 use Rattle.kc_workers.specs.declared.done.Done.{Done}
 use Rattle.kc_workers.specs.declared.share.Share.{Share}
 use Rattle.kc_batch.specs.Batches.{Account, Gives, IsCrew, IsCutShort, IsDone, IsStanding, MayGoOn, SomeKeeps, done_in, receipts_in}
-use Rattle.kc_batch.specs.Desks.{Desked, KeepsOneOf, Work, all_done, all_receipts, at_places, in_hand, receipts_of, times_had, untold}
+use Rattle.kc_batch.specs.Desks.{Desked, KeepsOneOf, Work, all_done, all_receipts, at_places, at_turns, in_hand, receipts_of, times_had, untold}
 use Rattle.kc_batch.specs.Receipts.{AreAllOf, IsReceiptOf, told_indices}
 use Rattle.kc_batch.specs.Runs.{IsNearlySpent, IsRenewal, StaysIn}
 use Rattle.kc_batch.specs.Seats.{HasTrueMisses, KeepsIfSpent, Rounds, backward}
 use Rattle.kc_batch.specs.declared.done.BatchDone.{BatchDone}
 use Rattle.kc_batch.specs.declared.left.Left.{Left}
 use Rattle.kc_batch.specs.declared.left.Left.TheVariants.{Nothing, Kept, Dropped, Untold}
+use Rattle.kc_batch.specs.declared.line.Line.{Line}
 use Rattle.kc_batch.specs.declared.standing.Standing.{Standing}
 use Rattle.kc_batch.specs.declared.standing.Standing.TheVariants.{Free, Keeping, Short}
-use Rattle.kc_batch.proofs.Accounting.{account-renewed, account-round, distinct-placed, fewer, made_all, made_so, member-placed, told-le, told-once}
+use Rattle.kc_batch.proofs.Accounting.{account-renewed, account-round, distinct-placed, made_all, made_so, member-placed, told-le, told-once}
 use Rattle.kc_batch.proofs.Going.{stays-self}
 use Rattle.kc_batch.proofs.Rounding.{all-backward, all-unmapped, length-backward}
+use Rattle.kc_batch.proofs.Turning.{fewer, share-turned}
 use Rattle.kc_batch.proofs.Working.{keeps-nothing, told-append}
 
 -- the last of a list is one of it
@@ -253,32 +256,39 @@ module _ (old now : Journalled) (first : ℕ) (batch : List Update) (ended : Lis
       }
 
 -- Of a crew between two rounds.
-module _ {old : Journalled} {first : ℕ} {batch : List Update} {ended : List PassSeen} {queue : Filled} {words : TableName} {now : Journalled}
-    {desks : List Desked} {consumer : Consuming} (h : IsCrew old first batch ended queue words now desks consumer) where
+module _ {old : Journalled} {first : ℕ} {batch : List Update} {ended : List PassSeen} {line : Line} {words : TableName} {now : Journalled}
+    {desks : List Desked} {consumer : Consuming} (h : IsCrew old first batch ended line words now desks consumer) where
+  -- the places that have the turns that a consumer has taken
+  abbrev places : Consuming → List ℕ
+  places k = at_turns line.order.items k.taken
+
+  shared : {turns : List ℕ} → IsShare line.queue.count turns → IsShare line.queue.count (at_turns line.order.items turns)
+  shared {turns} share = share-turned h.order turns share
+
   -- it may be cut short at any time
   pub crew-cut : IsCutShort old now first batch × All (λ d. d.seen.table ≡ words) desks
   crew-cut =
-      let made = made_so old now first batch ended (map (λ (d : Desked). d.work) desks) consumer.taken h.account h.share.once in (
+      let made = made_so old now first batch ended (map (λ (d : Desked). d.work) desks) (places consumer) h.account (shared h.share).once in (
         record { ended = ended; made = made.made; went = made.went },
         All-weaker (λ (d : Desked). d.seen ≡ record { table = words; log = now.levels.log }) (λ (d : Desked). d.seen.table ≡ words)
             (λ d e. ap (λ (s : Seen). s.table) e) desks h.told,
       )
 
   pub crew-keeps : {works : List Work} → works ≡ map (λ d. d.work) desks → All (λ w. MayGoOn w.left) works
-      → All (λ d. KeepsOneOf queue.count d.work.left) desks
+      → All (λ d. KeepsOneOf line.queue.count d.work.left) desks
   crew-keeps is may =
       let ws = map (λ (d : Desked). d.work) desks in
-      all-unmapped (λ (w : Work). KeepsOneOf queue.count w.left) (λ (d : Desked). d.work) desks
-      (all-keep old now first batch ended ws consumer.taken queue.count h.account h.share (subst (All (λ (w : Work). MayGoOn w.left)) is may))
+      all-unmapped (λ (w : Work). KeepsOneOf line.queue.count w.left) (λ (d : Desked). d.work) desks
+      (all-keep old now first batch ended ws (places consumer) line.queue.count h.account (shared h.share) (subst (All (λ (w : Work). MayGoOn w.left)) is may))
 
   -- where some keep an update, fewer were entered than there are,
-  pub crew-left : queue.count ≡ length batch → SomeKeeps (map (λ d. d.work) desks) → length now.entries < length old.entries + length batch
+  pub crew-left : line.queue.count ≡ length batch → SomeKeeps (map (λ d. d.work) desks) → length now.entries < length old.entries + length batch
   crew-left count some =
-      keeping-left old now first batch ended (map (λ (d : Desked). d.work) desks) consumer.taken h.account
-      (subst (λ (n : ℕ). IsShare n consumer.taken) count h.share) some
+      keeping-left old now first batch ended (map (λ (d : Desked). d.work) desks) (places consumer) h.account
+      (subst (λ (n : ℕ). IsShare n (places consumer)) count (shared h.share)) some
 
   -- so that, as all entries can be numbered, versions are nearly spent
-  pub crew-spent : queue.count ≡ length batch → Stands now → length old.entries + length batch ≤ LAST_NUMBER
+  pub crew-spent : line.queue.count ≡ length batch → Stands now → length old.entries + length batch ≤ LAST_NUMBER
       → All (λ d. KeepsIfSpent (opened_by now) now.levels.log d.work.left) desks → SomeKeeps (map (λ d. d.work) desks)
       → IsNearlySpent now.levels.table now.levels.log
   crew-spent count stands numbers spent some =
@@ -294,81 +304,88 @@ module _ {old : Journalled} {first : ℕ} {batch : List Update} {ended : List Pa
   pub crew-renewed : {fresh : TableName} {next : Journalled} {last : PassSeen} {more : List PassSeen} {others : List Desked} {after : Consuming}
       → IsRenewal now last now next → more ≡ ended ++ last ∷ [] → length now.entries < length old.entries + length batch
       → next.levels.table ≡ fresh → All (λ d. d.seen ≡ record { table = fresh; log = [] }) others
-      → map (λ d. d.work) others ≡ map (λ d. d.work) desks → after ≡ consumer → IsCrew old first batch more queue fresh next others after
+      → map (λ d. d.work) others ≡ map (λ d. d.work) desks → after ≡ consumer → IsCrew old first batch more line fresh next others after
   crew-renewed {fresh} {next} {last} {more} {others} {after} renewal is left table seen works same =
       let ws = map (λ (d : Desked). d.work) desks in
-      subst (λ (z : Consuming). IsCrew old first batch more queue fresh next others z) (sym same)
+      subst (λ (z : Consuming). IsCrew old first batch more line fresh next others z) (sym same)
       (record {
         account =
-            subst (λ (z : List Work). Account old next first batch more z consumer.taken) (sym works)
-            (subst (λ (z : List PassSeen). Account old next first batch z ws consumer.taken) (sym is)
-            (account-renewed old now next first batch ended last ws consumer.taken h.account renewal left));
+            subst (λ (z : List Work). Account old next first batch more z (places consumer)) (sym works)
+            (subst (λ (z : List PassSeen). Account old next first batch z ws (places consumer)) (sym is)
+            (account-renewed old now next first batch ended last ws (places consumer) h.account renewal left));
         table = table;
         told = subst (λ (log : List Event). All (λ (d : Desked). d.seen ≡ record { table = fresh; log = log }) others) (sym renewal.renews.log) seen;
         of_queue = h.of_queue;
         parts = h.parts;
         share = h.share;
+        order = h.order;
       })
 
--- a crew whose first worker was given the next of the queue
-given-crew : (parts : Parted) (old : Journalled) (first : ℕ) (batch : List Update) (ended : List PassSeen) (queue : Filled) (desks others : List Desked)
+-- A consumer has taken the next turn, which this place has.
+pub record HasTaken (line : Line) (place : ℕ) (consumer next : Consuming) : Type 0 where
+  pub queue : next.queue ≡ consumer.queue
+  pub parts : next.parts ≡ consumer.parts
+  pub taken : at_turns line.order.items next.taken ≡ at_turns line.order.items consumer.taken ++ place ∷ []
+  pub share : IsShare line.queue.count next.taken
+
+-- a crew whose first worker was given the next of the line
+given-crew : (parts : Parted) (old : Journalled) (first : ℕ) (batch : List Update) (ended : List PassSeen) (line : Line) (desks others : List Desked)
     (consumer next : Consuming) (place : ℕ)
-    → IsCrew old first batch ended queue parts.words parts.journal desks consumer → All (λ d. d.work.left ≡ Nothing) desks → Gives place desks others
-    → next ≡ record consumer { taken = consumer.taken ++ place ∷ [] } → IsShare queue.count next.taken
-    → IsCrew old first batch ended queue parts.words parts.journal others next
-given-crew parts old first batch ended queue [] others consumer next place h none gives took share = absurd gives
-given-crew parts old first batch ended queue (d ∷ ds) others consumer next place h none gives took share =
+    → IsCrew old first batch ended line parts.words parts.journal desks consumer → All (λ d. d.work.left ≡ Nothing) desks → Gives place desks others
+    → HasTaken line place consumer next → IsCrew old first batch ended line parts.words parts.journal others next
+given-crew parts old first batch ended line [] others consumer next place h none gives took = absurd gives
+given-crew parts old first batch ended line (d ∷ ds) others consumer next place h none gives took =
     let now = parts.journal in
     let Told : Desked → Type 0 = λ d. d.seen ≡ record { table = parts.words; log = now.levels.log } in
     let given : Desked = record d { work = record { done = d.work.done; left = Kept place } } in
     let ws = map (λ (d : Desked). d.work) ds in
-    let taken = ap (λ (c : Consuming). c.taken) took in
+    let order = line.order.items in
     record {
       account =
-          subst (λ (z : List Desked). Account old now first batch ended (map (λ (d : Desked). d.work) z) next.taken) (sym gives)
-          (subst (λ (z : List ℕ). Account old now first batch ended (given.work ∷ ws) z) (sym taken)
-          (account-given old now first batch ended d.work ws consumer.taken place (All-head (λ (d : Desked). d.work.left ≡ Nothing) d ds none) h.account));
+          subst (λ (z : List Desked). Account old now first batch ended (map (λ (d : Desked). d.work) z) (at_turns order next.taken)) (sym gives)
+          (subst (λ (z : List ℕ). Account old now first batch ended (given.work ∷ ws) z) (sym took.taken)
+          (account-given old now first batch ended d.work ws (at_turns order consumer.taken) place (All-head (λ (d : Desked). d.work.left ≡ Nothing) d ds none) h.account));
       table = h.table;
       told = subst (All Told) (sym gives) (All-cons Told given ds (All-head Told d ds h.told) (All-tail Told d ds h.told));
-      of_queue = ap (λ (c : Consuming). c.queue) took ∙ h.of_queue;
-      parts = ap (λ (c : Consuming). c.parts) took ∙ h.parts;
-      share = share;
+      of_queue = took.queue ∙ h.of_queue;
+      parts = took.parts ∙ h.parts;
+      share = took.share;
+      order = h.order;
     }
 
--- The first worker was given the update at a place that was taken of the queue, where nobody had anything left.
-pub record HasGiven (count place : ℕ) (desks others : List Desked) (consumer next : Consuming) : Type 0 where
+-- The first worker was given the update at a place that was taken of the line, where nobody had anything left.
+pub record HasGiven (line : Line) (place : ℕ) (desks others : List Desked) (consumer next : Consuming) : Type 0 where
   pub free : All (λ w. w.left ≡ Nothing) (map (λ d. d.work) desks)
   pub gives : Gives place desks others
-  pub took : next ≡ record consumer { taken = consumer.taken ++ place ∷ [] }
-  pub below : place < count
-  pub share : IsShare count next.taken
+  pub took : HasTaken line place consumer next
+  pub below : place < line.queue.count
 
 -- where nobody's work has anything left, no desk has
 pub all-free : (desks : List Desked) → All (λ w. w.left ≡ Nothing) (map (λ d. d.work) desks) → All (λ d. d.work.left ≡ Nothing) desks
 all-free desks free = all-unmapped (λ (w : Work). w.left ≡ Nothing) (λ (d : Desked). d.work) desks free
 
 -- So the crew stays one, in the parts as they are,
-pub crew-given : {old : Journalled} {first : ℕ} {batch : List Update} {ended : List PassSeen} {queue : Filled} {parts new : Parted}
+pub crew-given : {old : Journalled} {first : ℕ} {batch : List Update} {ended : List PassSeen} {line : Line} {parts new : Parted}
     {desks others : List Desked} {consumer next : Consuming} {place : ℕ} → new ≡ parts
-    → IsCrew old first batch ended queue parts.words parts.journal desks consumer → HasGiven queue.count place desks others consumer next
-    → IsCrew old first batch ended queue new.words new.journal others next
-crew-given {old} {first} {batch} {ended} {queue} {parts} {new} {desks} {others} {consumer} {next} {place} same h given =
-    subst (λ (z : Parted). IsCrew old first batch ended queue z.words z.journal others next) (sym same)
-    (given-crew parts old first batch ended queue desks others consumer next place h (all-free desks given.free) given.gives given.took given.share)
+    → IsCrew old first batch ended line parts.words parts.journal desks consumer → HasGiven line place desks others consumer next
+    → IsCrew old first batch ended line new.words new.journal others next
+crew-given {old} {first} {batch} {ended} {line} {parts} {new} {desks} {others} {consumer} {next} {place} same h given =
+    subst (λ (z : Parted). IsCrew old first batch ended line z.words z.journal others next) (sym same)
+    (given-crew parts old first batch ended line desks others consumer next place h (all-free desks given.free) given.gives given.took)
 
 -- and who was given an update of the batch keeps one of it.
-pub given-keeps : {count place : ℕ} {desks others : List Desked} {consumer next : Consuming} → HasGiven count place desks others consumer next
-    → All (λ d. KeepsOneOf count d.work.left) others
-given-keeps {count} {place} {desks} {others} given = keep desks (all-free desks given.free) given.gives
+pub given-keeps : {line : Line} {place : ℕ} {desks others : List Desked} {consumer next : Consuming} → HasGiven line place desks others consumer next
+    → All (λ d. KeepsOneOf line.queue.count d.work.left) others
+given-keeps {line} {place} {desks} {others} given = keep desks (all-free desks given.free) given.gives
   where
-    keep : (ds : List Desked) → All (λ d. d.work.left ≡ Nothing) ds → Gives place ds others → All (λ d. KeepsOneOf count d.work.left) others
+    keep : (ds : List Desked) → All (λ d. d.work.left ≡ Nothing) ds → Gives place ds others → All (λ d. KeepsOneOf line.queue.count d.work.left) others
     keep [] none gives = absurd gives
     keep (d ∷ ds) none gives =
-        let Keeps : Desked → Type 0 = λ d. KeepsOneOf count d.work.left in
+        let Keeps : Desked → Type 0 = λ d. KeepsOneOf line.queue.count d.work.left in
         let None : Desked → Type 0 = λ d. d.work.left ≡ Nothing in
         subst (All Keeps) (sym gives)
         (All-cons Keeps (record d { work = record { done = d.work.done; left = Kept place } }) ds given.below
-        (All-weaker None Keeps (λ e free. keeps-nothing count e.work.left free) ds (All-tail None d ds none)))
+        (All-weaker None Keeps (λ e free. keeps-nothing line.queue.count e.work.left free) ds (All-tail None d ds none)))
 
 -- what a round's table opened with
 opened-at : (words : TableName) (now next : Journalled) → now.levels.table ≡ words → StaysIn now next
@@ -377,7 +394,7 @@ opened-at words now next table stays =
     λ i. record { table = sym (stays.table ∙ table) i; edges = sym stays.opened i; stamps = sym stays.opening_stamps i }
 
 -- What a round has made of the journal, of the desks and of what was taken of the queue.
-pub record IsRound (words : TableName) (first : ℕ) (batch : List Update) (queue : Filled) (now next : Journalled) (desks others : List Desked)
+pub record IsRound (words : TableName) (first : ℕ) (batch : List Update) (line : Line) (now next : Journalled) (desks others : List Desked)
     (consumer after : Consuming) : Type 0 where
   pub stood : Stands now
   pub stands : Stands next
@@ -386,26 +403,28 @@ pub record IsRound (words : TableName) (first : ℕ) (batch : List Update) (queu
   pub total : length next.entries ≡ length now.entries + made
   pub quiet : length next.entries ≡ length now.entries → next.levels.log ≡ now.levels.log
   pub rounds : Rounds (opened_with words now.opened now.opening_stamps) now.levels.log next.levels.log first batch (map (λ d. d.work) desks)
-      (map (λ d. d.work) others) consumer.taken after.taken made
+      (map (λ d. d.work) others) (at_turns line.order.items consumer.taken) (at_turns line.order.items after.taken) made
   pub told : All (λ d. d.seen ≡ record { table = words; log = next.levels.log }) others
-  pub owns : (after.queue ≡ queue) × (after.parts ≡ PARTS) × IsShare queue.count after.taken
+  pub owns : (after.queue ≡ line.queue) × (after.parts ≡ PARTS) × IsShare line.queue.count after.taken
 
-module _ {words : TableName} {first : ℕ} {batch : List Update} {queue : Filled} {now next : Journalled} {desks others : List Desked}
-    {consumer after : Consuming} (r : IsRound words first batch queue now next desks others consumer after) where
+module _ {words : TableName} {first : ℕ} {batch : List Update} {line : Line} {now next : Journalled} {desks others : List Desked}
+    {consumer after : Consuming} (r : IsRound words first batch line now next desks others consumer after) where
   -- a crew stays one after it
-  pub crew-round : {old : Journalled} {ended : List PassSeen} → IsCrew old first batch ended queue words now desks consumer
-      → IsCrew old first batch ended queue words next others after
+  pub crew-round : {old : Journalled} {ended : List PassSeen} → IsCrew old first batch ended line words now desks consumer
+      → IsCrew old first batch ended line words next others after
   crew-round {old} {ended} h =
       let W = map (λ (d : Desked). d.work) in
       let o = opened_with words now.opened now.opening_stamps in
       record {
-        account = account-round old now next first batch ended (W desks) (W others) consumer.taken after.taken r.made o h.account r.stood r.stands r.stays
+        account = account-round old now next first batch ended (W desks) (W others) (at_turns line.order.items consumer.taken)
+            (at_turns line.order.items after.taken) r.made o h.account r.stood r.stands r.stays
             (opened-at words now next h.table r.stays) r.total r.quiet r.rounds;
         table = r.stays.table ∙ h.table;
         told = r.told;
         of_queue = r.owns.0;
         parts = r.owns.1;
         share = r.owns.2;
+        order = h.order;
       }
 
   -- who has worked in it has met spent versions where it keeps an update
@@ -575,6 +594,11 @@ done-so old now first batch desks taken workers done a whole none is many number
       misses = λ none. subst (All (HasTrueMisses (opened_by now) old.levels.log now.levels.log)) (sym same) (b.misses none);
     }
 
+-- what follows of what holds at Ok, and of what else is so then, holds at Ok
+pub if_ok_and : {T E : Type 0} (r : Result T E) (P Q : T → Type 0) (R : Type 0) → IfOk r P → OnOk r R → ((x : T) → P x → R → Q x) → IfOk r Q
+if_ok_and (Ok x) P Q R p so follows = follows x p so
+if_ok_and (Err e) P Q R p so follows = tt
+
 -- a batch without updates is taken whole
 pub whole-none : (count : ℕ) → count ≡ 0 → IsWhole count []
 whole-none count none = record {
@@ -595,21 +619,22 @@ idle-keeps count desks none =
     (idle-left desks none)
 
 -- a crew before its first round
-pub crew-start : (parts : Parted) (first : ℕ) (batch : List Update) (queue : Filled) (desks : List Desked) (consumer : Consuming)
+pub crew-start : (parts : Parted) (first : ℕ) (batch : List Update) (line : Line) (desks : List Desked) (consumer : Consuming)
     → parts.journal.levels.table ≡ parts.words → All (λ d. d.seen ≡ record { table = parts.words; log = parts.journal.levels.log }) desks
-    → All (λ w. w ≡ idle) (map (λ d. d.work) desks) → consumer ≡ record { queue = queue; parts = PARTS; taken = [] }
-    → IsCrew parts.journal first batch [] queue parts.words parts.journal desks consumer
-crew-start parts first batch queue desks consumer table told none is =
+    → All (λ w. w ≡ idle) (map (λ d. d.work) desks) → consumer ≡ record { queue = line.queue; parts = PARTS; taken = [] }
+    → IsWhole line.queue.count line.order.items → IsCrew parts.journal first batch [] line parts.words parts.journal desks consumer
+crew-start parts first batch line desks consumer table told none is order =
     let j = parts.journal in
     let works = map (λ (d : Desked). d.work) desks in
     let taken : consumer.taken ≡ [] = ap (λ (c : Consuming). c.taken) is in
     record {
-      account = subst (λ (ps : List ℕ). Account j j first batch [] works ps) (sym taken) (account-start j first batch works none);
+      account = subst (λ (ts : List ℕ). Account j j first batch [] works (at_turns line.order.items ts)) (sym taken) (account-start j first batch works none);
       table = table;
       told = told;
       of_queue = ap (λ (c : Consuming). c.queue) is;
       parts = ap (λ (c : Consuming). c.parts) is;
-      share = subst (IsShare queue.count) (sym taken) (record { once = tt; below = λ x m. absurd (true≢false (sym m)) });
+      share = subst (IsShare line.queue.count) (sym taken) (record { once = tt; below = λ x m. absurd (true≢false (sym m)) });
+      order = order;
     }
 
 -- where their work is the same there are as many desks

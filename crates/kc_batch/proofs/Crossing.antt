@@ -15,10 +15,15 @@ use Rattle.kc_graph.specs.contracts.update.Update as update
 use Rattle.kc_table.specs.declared.name.Name as name
 use Rattle.std.specs.declared.sync.ledger.Ledger as ledger
 use Rattle.kc_batch.specs.contracts.errand.Errand as errand
+use Rattle.kc_batch.specs.contracts.line.Line as line
 
 -- threads may share an update
 update_sync : IsSync update.the_row
 update_sync = search (sendable, crosses) depth 20
+
+-- threads may share the line of a batch
+line_sync : IsSync line.the_row
+line_sync = search (sendable, crosses, queue_sync) depth 20
 
 -- threads may share the errand of a round
 pub errand_sync : (κ : NamedLft) (K G : RattleType) (n : name.Ghosts K.Denot) (l : ledger.Ghosts K.Denot) → IsSend K → IsSync K → IsSync G
@@ -29,7 +34,7 @@ errand_sync κ K G n l s y z =
     (struct_sync (shape T) (
       shr_sync _ _ _ (shared_sync K n l s y),
       (
-        shr_sync _ _ _ queue_sync,
+        shr_sync _ _ _ line_sync,
         (
           search (sendable, crosses) depth 20,
           (shr_slice_sync _ _ _ update_sync, (shr_sync _ _ _ z, (search (sendable, crosses) depth 20, tt))),

@@ -7,4 +7,5 @@ pub mod Lists
 pub mod Pacing
 pub mod Rounding
 pub mod Telling
+pub mod Turning
 pub mod Working

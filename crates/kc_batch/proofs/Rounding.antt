@@ -21,12 +21,13 @@ use Rattle.kc_journal.specs.Journals.{Journalled, Stands}
 use Rattle.kc_journal.specs.declared.answer.Receipt.{Receipt}
 use Rattle.kc_stripes.specs.Records.{Opened}
 use Rattle.kc_workers.specs.declared.done.Done.{Done}
-use Rattle.kc_batch.specs.Desks.{Desked, KeepsOneOf, Work, all_done, all_receipts, at_places, receipts_of, times_had}
+use Rattle.kc_batch.specs.Desks.{Desked, KeepsOneOf, Work, all_done, all_receipts, at_places, at_turns, receipts_of, times_had}
 use Rattle.kc_batch.specs.Seats.{HasTrueMisses, IsHired, IsReady, IsReceiptIn, KeepsIfSpent, Rounds, Seated, Works, all_taken, amounts, backward, desk_of}
 use Rattle.kc_batch.specs.declared.left.Left.{Left}
 use Rattle.kc_batch.specs.declared.left.Left.TheVariants.{Nothing, Kept, Dropped, Untold}
 use Rattle.kc_batch.proofs.Going.{spent-stays}
 use Rattle.kc_batch.proofs.Telling.{receipt_in-grows}
+use Rattle.kc_batch.proofs.Turning.{turned-append}
 use Rattle.kc_batch.proofs.Working.{misses-stay}
 
 -- what is added at the end of a list comes first from the end on
@@ -106,8 +107,8 @@ spent-later o p log (Dropped place) pre legal h = h
 spent-later o p log (Untold receipt) pre legal h = h
 
 -- A worker has worked from an empty account, and nothing that it has seen is beyond this log.
-pub record HasWorked (o : Opened) (start log : List Event) (first : ℕ) (batch : List Update) (old new : Seated) : Type 0 where
-  pub works : Works o start first batch old new
+pub record HasWorked (o : Opened) (start log : List Event) (first : ℕ) (batch : List Update) (order : List ℕ) (old new : Seated) : Type 0 where
+  pub works : Works o start first batch order old new
   pub told : IsPrefix start new.seen.log
   pub within : IsPrefix new.seen.log log
   pub spent : KeepsIfSpent o new.seen.log new.work.left
@@ -118,75 +119,77 @@ pub record HasWorked (o : Opened) (start log : List Event) (first : ℕ) (batch 
 abbrev works_at : List Seated → List Work
 works_at seats = map (λ s. s.work) seats
 
-module _ (o : Opened) (start log : List Event) (first : ℕ) (batch : List Update) (legal : Legal o.table.shape o.table.opening log) where
-  done-later : (new : Seated) → IsPrefix start new.seen.log → IsPrefix new.seen.log log → (ds : List Done) → All (HasTrueMisses o start new.seen.log) ds
-      → All (HasTrueMisses o start log) ds
-  done-later new told within ds h =
-      All-weaker (HasTrueMisses o start new.seen.log) (HasTrueMisses o start log)
-      (λ d m. misses-stay o start start new.seen.log log d legal (prefix_self start) told within m) ds h
+module _ (o : Opened) (start log : List Event) (first : ℕ) (batch : List Update) (order : List ℕ) (legal : Legal o.table.shape o.table.opening log)
+  where
+    done-later : (new : Seated) → IsPrefix start new.seen.log → IsPrefix new.seen.log log → (ds : List Done) → All (HasTrueMisses o start new.seen.log) ds
+        → All (HasTrueMisses o start log) ds
+    done-later new told within ds h =
+        All-weaker (HasTrueMisses o start new.seen.log) (HasTrueMisses o start log)
+        (λ d m. misses-stay o start start new.seen.log log d legal (prefix_self start) told within m) ds h
 
-  receipts-later : (new : Seated) → IsPrefix new.seen.log log → (rs : List Receipt) → All (IsReceiptIn o start new.seen.log first batch) rs
-      → All (IsReceiptIn o start log first batch) rs
-  receipts-later new within rs h =
-      All-weaker (IsReceiptIn o start new.seen.log first batch) (IsReceiptIn o start log first batch)
-      (λ r t. receipt_in-grows o start new.seen.log log first batch r within t) rs h
+    receipts-later : (new : Seated) → IsPrefix new.seen.log log → (rs : List Receipt) → All (IsReceiptIn o start new.seen.log first batch) rs
+        → All (IsReceiptIn o start log first batch) rs
+    receipts-later new within rs h =
+        All-weaker (IsReceiptIn o start new.seen.log first batch) (IsReceiptIn o start log first batch)
+        (λ r t. receipt_in-grows o start new.seen.log log first batch r within t) rs h
 
-  pub rounds-of : (before : List ℕ) (olds news : List Seated) → AllZip (HasWorked o start log first batch) olds news
-      → Rounds o start log first batch (works_at olds) (works_at news) before (before ++ all_taken news) (amounts news)
-  rounds-of before [] [] h = record {
-    as_many = refl;
-    done = All-nil _;
-    receipts = All-nil _;
-    count = refl;
-    balance = λ y. ap (λ (z : List ℕ). 0 + times y (at_places first z)) (sym (append-nil before));
-    spent = All-nil _;
-  }
-  rounds-of before [] (b ∷ bs) h = absurd h
-  rounds-of before (a ∷ as') [] h = absurd h
-  rounds-of before (a ∷ as') (b ∷ bs) h =
-      let k : HasWorked o start log first batch a b = h.0 in
-      let w = k.works in
-      let rest = rounds-of before as' bs h.1 in
-      let shift = λ (ps : List ℕ). map (λ p. first + p) ps in
-      record {
-        as_many = ap suc rest.as_many;
-        done =
-            All-append (λ d. Contains (all_done (works_at (a ∷ as'))) d ⊎ HasTrueMisses o start log d) b.work.done (all_done (works_at bs))
-            (left-or (HasTrueMisses o start log) a.work.done w.more b.work.done (all_done (works_at as')) w.done (done-later b k.told k.within w.more w.misses))
-            (right-or (HasTrueMisses o start log) a.work.done (all_done (works_at as')) (all_done (works_at bs)) rest.done);
-        receipts =
-            All-append (λ r. Contains (all_receipts (works_at (a ∷ as'))) r ⊎ IsReceiptIn o start log first batch r)
-            (receipts_of b.work) (all_receipts (works_at bs))
-            (left-or (IsReceiptIn o start log first batch) (receipts_of a.work) w.added (receipts_of b.work) (all_receipts (works_at as')) w.receipts
-            (receipts-later b k.within w.added w.told))
-            (right-or (IsReceiptIn o start log first batch) (receipts_of a.work) (all_receipts (works_at as')) (all_receipts (works_at bs)) rest.receipts);
-        count = omega (
-          arith,
-          rest.count,
-          length-append (receipts_of b.work) (all_receipts (works_at bs)),
-          length-append (receipts_of a.work) (all_receipts (works_at as')),
-          ap (λ (z : List Receipt). length z) w.receipts,
-          length-append (receipts_of a.work) w.added,
-          w.amount,
-          k.nothing_counted,
-          sum_by-cons (λ (s : Seated). s.amount) b bs,
-        );
-        balance = λ y. omega (
-          arith,
-          rest.balance y,
-          w.balance y,
-          ap (λ (z : List ℕ). times y (at_places first z)) k.nothing_taken,
-          sum_by-cons (times_had first y) b.work (works_at bs),
-          sum_by-cons (times_had first y) a.work (works_at as'),
-          split y before (all_taken bs),
-          split y before (b.consumer.taken ++ all_taken bs),
-          split y b.consumer.taken (all_taken bs),
-        );
-        spent = All-cons (λ u. KeepsIfSpent o log u.left) b.work (works_at bs) (spent-later o b.seen.log log b.work.left k.within legal k.spent) rest.spent;
-      }
-    where
-      split : (y : ℕ) (ps qs : List ℕ) → times y (at_places first (ps ++ qs)) ≡ times y (at_places first ps) + times y (at_places first qs)
-      split y ps qs = ap (times y) (map-append (λ (p : ℕ). first + p) ps qs) ∙ times-append y (at_places first ps) (at_places first qs)
+    pub rounds-of : (before : List ℕ) (olds news : List Seated) → AllZip (HasWorked o start log first batch order) olds news
+        → Rounds o start log first batch (works_at olds) (works_at news) before (before ++ at_turns order (all_taken news)) (amounts news)
+    rounds-of before [] [] h = record {
+      as_many = refl;
+      done = All-nil _;
+      receipts = All-nil _;
+      count = refl;
+      balance = λ y. ap (λ (z : List ℕ). 0 + times y (at_places first z)) (sym (append-nil before));
+      spent = All-nil _;
+    }
+    rounds-of before [] (b ∷ bs) h = absurd h
+    rounds-of before (a ∷ as') [] h = absurd h
+    rounds-of before (a ∷ as') (b ∷ bs) h =
+        let k : HasWorked o start log first batch order a b = h.0 in
+        let w = k.works in
+        let rest = rounds-of before as' bs h.1 in
+        let shift = λ (ps : List ℕ). map (λ p. first + p) ps in
+        record {
+          as_many = ap suc rest.as_many;
+          done =
+              All-append (λ d. Contains (all_done (works_at (a ∷ as'))) d ⊎ HasTrueMisses o start log d) b.work.done (all_done (works_at bs))
+              (left-or (HasTrueMisses o start log) a.work.done w.more b.work.done (all_done (works_at as')) w.done (done-later b k.told k.within w.more w.misses))
+              (right-or (HasTrueMisses o start log) a.work.done (all_done (works_at as')) (all_done (works_at bs)) rest.done);
+          receipts =
+              All-append (λ r. Contains (all_receipts (works_at (a ∷ as'))) r ⊎ IsReceiptIn o start log first batch r)
+              (receipts_of b.work) (all_receipts (works_at bs))
+              (left-or (IsReceiptIn o start log first batch) (receipts_of a.work) w.added (receipts_of b.work) (all_receipts (works_at as')) w.receipts
+              (receipts-later b k.within w.added w.told))
+              (right-or (IsReceiptIn o start log first batch) (receipts_of a.work) (all_receipts (works_at as')) (all_receipts (works_at bs)) rest.receipts);
+          count = omega (
+            arith,
+            rest.count,
+            length-append (receipts_of b.work) (all_receipts (works_at bs)),
+            length-append (receipts_of a.work) (all_receipts (works_at as')),
+            ap (λ (z : List Receipt). length z) w.receipts,
+            length-append (receipts_of a.work) w.added,
+            w.amount,
+            k.nothing_counted,
+            sum_by-cons (λ (s : Seated). s.amount) b bs,
+          );
+          balance = λ y. omega (
+            arith,
+            rest.balance y,
+            w.balance y,
+            ap (λ (z : List ℕ). times y (at_places first (at_turns order z))) k.nothing_taken,
+            sum_by-cons (times_had first y) b.work (works_at bs),
+            sum_by-cons (times_had first y) a.work (works_at as'),
+            split y before (at_turns order (all_taken bs)),
+            split y before (at_turns order (b.consumer.taken ++ all_taken bs)),
+            ap (λ (z : List ℕ). times y (at_places first z)) (turned-append order b.consumer.taken (all_taken bs)),
+            split y (at_turns order b.consumer.taken) (at_turns order (all_taken bs)),
+          );
+          spent = All-cons (λ u. KeepsIfSpent o log u.left) b.work (works_at bs) (spent-later o b.seen.log log b.work.left k.within legal k.spent) rest.spent;
+        }
+      where
+        split : (y : ℕ) (ps qs : List ℕ) → times y (at_places first (ps ++ qs)) ≡ times y (at_places first ps) + times y (at_places first qs)
+        split y ps qs = ap (times y) (map-append (λ (p : ℕ). first + p) ps qs) ∙ times-append y (at_places first ps) (at_places first qs)
 
 -- a list has as many elements from its end on
 pub length-backward : {A : Type 0} (xs : List A) → length (backward xs) ≡ length xs
@@ -261,66 +264,68 @@ ready-seats o start count t seats desks is told keeps legal = λ k d l.
     }
 
 -- what becomes of a seat in a round
-abbrev pub Steps : Opened → List Event → ℕ → List Update → Seated → Seated → Type 0
-Steps o start first batch a b = Works o start first batch a b × KeepsIfSpent o b.seen.log b.work.left
+abbrev pub Steps : Opened → List Event → ℕ → List Update → List ℕ → Seated → Seated → Type 0
+Steps o start first batch order a b = Works o start first batch order a b × KeepsIfSpent o b.seen.log b.work.left
 
-module _ (o : Opened) (start log : List Event) (first : ℕ) (batch : List Update) (count : ℕ) (queue : Filled) where
-  abbrev Mine : Seated → Seated → Type 0
-  Mine = Steps o start first batch
+module _ (o : Opened) (start log : List Event) (first : ℕ) (batch : List Update) (order : List ℕ) (count : ℕ) (queue : Filled)
+  where
+    abbrev Mine : Seated → Seated → Type 0
+    Mine = Steps o start first batch order
 
-  pub hired-consumers : (olds news : List Seated) → AllZip Mine olds news → All (IsHired queue) olds
-      → All (λ s. (s.consumer.queue ≡ queue) × (s.consumer.parts ≡ 1)) news
-  hired-consumers [] [] h hired = All-nil _
-  hired-consumers [] (b ∷ bs) h hired = absurd h
-  hired-consumers (a ∷ as') [] h hired = absurd h
-  hired-consumers (a ∷ as') (b ∷ bs) h hired =
-      let w : Works o start first batch a b = h.0.0 in
-      let mine = (All-head (IsHired queue) a as' hired).consumer in
-      All-cons (λ s. (s.consumer.queue ≡ queue) × (s.consumer.parts ≡ 1)) b bs
-      (w.queue ∙ ap (λ (k : Consuming). k.queue) mine, w.parts ∙ ap (λ (k : Consuming). k.parts) mine)
-      (hired-consumers as' bs h.1 (All-tail (IsHired queue) a as' hired))
+    pub hired-consumers : (olds news : List Seated) → AllZip Mine olds news → All (IsHired queue) olds
+        → All (λ s. (s.consumer.queue ≡ queue) × (s.consumer.parts ≡ 1)) news
+    hired-consumers [] [] h hired = All-nil _
+    hired-consumers [] (b ∷ bs) h hired = absurd h
+    hired-consumers (a ∷ as') [] h hired = absurd h
+    hired-consumers (a ∷ as') (b ∷ bs) h hired =
+        let w : Works o start first batch order a b = h.0.0 in
+        let mine = (All-head (IsHired queue) a as' hired).consumer in
+        All-cons (λ s. (s.consumer.queue ≡ queue) × (s.consumer.parts ≡ 1)) b bs
+        (w.queue ∙ ap (λ (k : Consuming). k.queue) mine, w.parts ∙ ap (λ (k : Consuming). k.parts) mine)
+        (hired-consumers as' bs h.1 (All-tail (IsHired queue) a as' hired))
 
-  pub have-worked : (olds news : List Seated) → AllZip Mine olds news → All (IsHired queue) olds → All (IsReady o start count) olds
-      → All (λ (s : Seated). IsPrefix s.seen.log log) news → AllZip (HasWorked o start log first batch) olds news
-  have-worked [] [] h hired ready within = tt
-  have-worked [] (b ∷ bs) h hired ready within = absurd h
-  have-worked (a ∷ as') [] h hired ready within = absurd h
-  have-worked (a ∷ as') (b ∷ bs) h hired ready within =
-      let w : Works o start first batch a b = h.0.0 in
-      let mine = All-head (IsHired queue) a as' hired in
-      let r = All-head (IsReady o start count) a as' ready in (
-        record {
-          works = w;
-          told = prefix_trans start a.seen.log b.seen.log r.told w.longer;
-          within = All-head (λ (s : Seated). IsPrefix s.seen.log log) b bs within;
-          spent = h.0.1;
-          nothing_counted = mine.amount;
-          nothing_taken = ap (λ (k : Consuming). k.taken) mine.consumer;
-        },
-        have-worked as' bs h.1 (All-tail (IsHired queue) a as' hired) (All-tail (IsReady o start count) a as' ready)
-            (All-tail (λ (s : Seated). IsPrefix s.seen.log log) b bs within),
-      )
+    pub have-worked : (olds news : List Seated) → AllZip Mine olds news → All (IsHired queue) olds → All (IsReady o start count) olds
+        → All (λ (s : Seated). IsPrefix s.seen.log log) news → AllZip (HasWorked o start log first batch order) olds news
+    have-worked [] [] h hired ready within = tt
+    have-worked [] (b ∷ bs) h hired ready within = absurd h
+    have-worked (a ∷ as') [] h hired ready within = absurd h
+    have-worked (a ∷ as') (b ∷ bs) h hired ready within =
+        let w : Works o start first batch order a b = h.0.0 in
+        let mine = All-head (IsHired queue) a as' hired in
+        let r = All-head (IsReady o start count) a as' ready in (
+          record {
+            works = w;
+            told = prefix_trans start a.seen.log b.seen.log r.told w.longer;
+            within = All-head (λ (s : Seated). IsPrefix s.seen.log log) b bs within;
+            spent = h.0.1;
+            nothing_counted = mine.amount;
+            nothing_taken = ap (λ (k : Consuming). k.taken) mine.consumer;
+          },
+          have-worked as' bs h.1 (All-tail (IsHired queue) a as' hired) (All-tail (IsReady o start count) a as' ready)
+              (All-tail (λ (s : Seated). IsPrefix s.seen.log log) b bs within),
+        )
 
-  -- What a round has made, by the desks before it and after it.
-  pub round-made : (seats news : List Seated) (olds : List Desked) (told : List Desked) (before after : List ℕ) (made : ℕ)
-      → Legal o.table.shape o.table.opening log → map desk_of (backward seats) ≡ olds → AllZip Mine seats news → All (IsHired queue) seats
-      → All (IsReady o start count) seats → All (λ d. IsPrefix d.seen.log log) (map desk_of (backward news))
-      → map (λ d. d.work) told ≡ map (λ d. d.work) (map desk_of (backward news)) → after ≡ before ++ all_taken (backward news)
-      → made ≡ amounts (backward news)
-      → Rounds o start log first batch (map (λ d. d.work) olds) (map (λ d. d.work) told) before after made
-  round-made seats news olds told before after made legal is steps hired ready within works taken total =
-      let W : List Desked → List Work = λ ds. map (λ (d : Desked). d.work) ds in
-      let zip = have-worked (backward seats) (backward news) (zip-backward Mine seats news steps) (all-backward (IsHired queue) seats hired)
-      (all-backward (IsReady o start count) seats ready)
-      (all-unmapped (λ (d : Desked). IsPrefix d.seen.log log) desk_of (backward news) within) in
-      let r = rounds-of o start log first batch legal before (backward seats) (backward news) zip in
-      let here : works_at (backward seats) ≡ W olds = sym (works-of (backward seats)) ∙ ap W is in
-      let there : works_at (backward news) ≡ W told = sym (works-of (backward news)) ∙ sym works in
-      subst (λ (z : List Work). Rounds o start log first batch z (W told) before after made) here
-      (subst (λ (z : List Work). Rounds o start log first batch (works_at (backward seats)) z before after made) there
-      (subst (λ (z : List ℕ). Rounds o start log first batch (works_at (backward seats)) (works_at (backward news)) before z made) (sym taken)
-      (subst (λ (z : ℕ). Rounds o start log first batch (works_at (backward seats)) (works_at (backward news)) before (before ++ all_taken (backward news)) z)
-      (sym total) r)))
+    -- What a round has made, by the desks before it and after it.
+    pub round-made : (seats news : List Seated) (olds : List Desked) (told : List Desked) (before after : List ℕ) (made : ℕ)
+        → Legal o.table.shape o.table.opening log → map desk_of (backward seats) ≡ olds → AllZip Mine seats news → All (IsHired queue) seats
+        → All (IsReady o start count) seats → All (λ d. IsPrefix d.seen.log log) (map desk_of (backward news))
+        → map (λ d. d.work) told ≡ map (λ d. d.work) (map desk_of (backward news)) → after ≡ before ++ at_turns order (all_taken (backward news))
+        → made ≡ amounts (backward news)
+        → Rounds o start log first batch (map (λ d. d.work) olds) (map (λ d. d.work) told) before after made
+    round-made seats news olds told before after made legal is steps hired ready within works taken total =
+        let W : List Desked → List Work = λ ds. map (λ (d : Desked). d.work) ds in
+        let zip = have-worked (backward seats) (backward news) (zip-backward Mine seats news steps) (all-backward (IsHired queue) seats hired)
+        (all-backward (IsReady o start count) seats ready)
+        (all-unmapped (λ (d : Desked). IsPrefix d.seen.log log) desk_of (backward news) within) in
+        let r = rounds-of o start log first batch order legal before (backward seats) (backward news) zip in
+        let here : works_at (backward seats) ≡ W olds = sym (works-of (backward seats)) ∙ ap W is in
+        let there : works_at (backward news) ≡ W told = sym (works-of (backward news)) ∙ sym works in
+        subst (λ (z : List Work). Rounds o start log first batch z (W told) before after made) here
+        (subst (λ (z : List Work). Rounds o start log first batch (works_at (backward seats)) z before after made) there
+        (subst (λ (z : List ℕ). Rounds o start log first batch (works_at (backward seats)) (works_at (backward news)) before z made) (sym taken)
+        (subst (λ (z : ℕ). Rounds o start log first batch (works_at (backward seats)) (works_at (backward news)) before
+        (before ++ at_turns order (all_taken (backward news))) z)
+        (sym total) r)))
 
 -- what is in its place still is as it was
 pub still : {A : Type 0} (i : ℕ) (xs ys : List A) (d : A) → drop i xs ≡ drop i ys → get_or xs i d ≡ get_or ys i d

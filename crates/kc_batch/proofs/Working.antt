@@ -21,7 +21,7 @@ use Rattle.kc_workers.specs.Updates.{HasUpdateCause, IsDone, entered_by}
 use Rattle.kc_workers.specs.declared.done.Done.{Done}
 use Rattle.kc_workers.specs.declared.fault.UpdateFault.{UpdateFault}
 use Rattle.kc_workers.specs.declared.fault.UpdateFault.TheVariants as fault
-use Rattle.kc_batch.specs.Desks.{KeepsOneOf, Work, at_places, in_hand, receipts_of, untold}
+use Rattle.kc_batch.specs.Desks.{KeepsOneOf, Work, at_places, at_turns, in_hand, receipts_of, untold}
 use Rattle.kc_batch.specs.Receipts.{IsUpdateAt, told_indices}
 use Rattle.kc_batch.specs.Seats.{HasTrueMisses, IsReady, IsReceiptIn, KeepsIfSpent, Seated, Works, noted}
 use Rattle.kc_batch.specs.declared.left.Left.{Left}
@@ -54,7 +54,7 @@ nothing-kept count (Kept place) keeps none = absurd (none place refl)
 nothing-kept count (Dropped place) keeps none = absurd keeps
 nothing-kept count (Untold receipt) keeps none = absurd keeps
 
-module _ (o : Opened) (start : List Event) (first : ℕ) (batch : List Update) where
+module _ (o : Opened) (start : List Event) (first : ℕ) (batch : List Update) (order : List ℕ) where
   -- A step that enters nothing.
   record Idles (old new : Seated) : Type 0 where
     pub done : new.work.done ≡ old.work.done
@@ -67,9 +67,9 @@ module _ (o : Opened) (start : List Event) (first : ℕ) (batch : List Update) w
 
   idles : (old new : Seated) → Idles old new → IsPrefix old.seen.log new.seen.log → Legal o.table.shape o.table.opening new.seen.log
       → new.consumer.queue ≡ old.consumer.queue → new.consumer.parts ≡ old.consumer.parts
-      → ((y : ℕ) → times y (in_hand first new.work.left) + times y (at_places first old.consumer.taken)
-      ≡ times y (in_hand first old.work.left) + times y (at_places first new.consumer.taken))
-      → Works o start first batch old new
+      → ((y : ℕ) → times y (in_hand first new.work.left) + times y (at_places first (at_turns order old.consumer.taken))
+      ≡ times y (in_hand first old.work.left) + times y (at_places first (at_turns order new.consumer.taken)))
+      → Works o start first batch order old new
   idles old new h pre legal queue parts balance = record {
     longer = pre;
     legal = legal;
@@ -110,7 +110,7 @@ module _ (o : Opened) (start : List Event) (first : ℕ) (batch : List Update) w
 
   enters : (old new : Seated) (place : ℕ) (receipt : Receipt) (more : List Done) → Enters old new place receipt more
       → IsPrefix old.seen.log new.seen.log → Legal o.table.shape o.table.opening new.seen.log
-      → IsReceiptIn o start new.seen.log first batch receipt → All (HasTrueMisses o start new.seen.log) more → Works o start first batch old new
+      → IsReceiptIn o start new.seen.log first batch receipt → All (HasTrueMisses o start new.seen.log) more → Works o start first batch order old new
   enters old new place receipt more h pre legal told misses = record {
     longer = pre;
     legal = legal;
@@ -131,47 +131,47 @@ module _ (o : Opened) (start : List Event) (first : ℕ) (batch : List Update) w
       ap (λ (n : ℕ). times y (n ∷ [])) h.index,
       ap (λ (l : Left). times y (in_hand first l)) h.kept,
       ap (times y) h.empty,
-      ap (λ (c : Consuming). times y (at_places first c.taken)) h.consumer,
+      ap (λ (c : Consuming). times y (at_places first (at_turns order c.taken))) h.consumer,
     );
   }
 
   -- What was kept stays kept.
-  pub picks-kept : (s : Seated) → Legal o.table.shape o.table.opening s.seen.log → Works o start first batch s s
+  pub picks-kept : (s : Seated) → Legal o.table.shape o.table.opening s.seen.log → Works o start first batch order s s
   picks-kept s legal =
       idles s s (record { done = refl; none = refl; amount = refl; number = refl }) (prefix_self s.seen.log) legal refl refl (λ y. refl)
 
   -- None was left in the queue.
   pub picks-none : (s : Seated) (consumer : Consuming) → consumer ≡ s.consumer → Legal o.table.shape o.table.opening s.seen.log
-      → Works o start first batch s (record s { consumer = consumer })
+      → Works o start first batch order s (record s { consumer = consumer })
   picks-none s consumer is legal =
       idles s _ (record { done = refl; none = refl; amount = refl; number = refl }) (prefix_self s.seen.log) legal
       (ap (λ (c : Consuming). c.queue) is) (ap (λ (c : Consuming). c.parts) is)
-      (λ y. ap (λ (c : Consuming). times y (in_hand first s.work.left) + times y (at_places first c.taken)) (sym is))
+      (λ y. ap (λ (c : Consuming). times y (in_hand first s.work.left) + times y (at_places first (at_turns order c.taken))) (sym is))
 
-  -- The next of the queue is kept.
+  -- The next place is kept.
   pub picks-next : (s : Seated) (place : ℕ) (consumer : Consuming) → s.work.left ≡ Nothing → Legal o.table.shape o.table.opening s.seen.log
-      → consumer ≡ record s.consumer { taken = s.consumer.taken ++ place ∷ [] }
-      → Works o start first batch s (record s { work = record { done = s.work.done; left = Kept place }; consumer = consumer })
-  picks-next s place consumer none legal is =
-      idles s _ (record { done = refl; none = ap untold (sym none); amount = refl; number = refl }) (prefix_self s.seen.log) legal
-      (ap (λ (c : Consuming). c.queue) is) (ap (λ (c : Consuming). c.parts) is)
+      → (consumer.queue ≡ s.consumer.queue) × (consumer.parts ≡ s.consumer.parts)
+      → at_turns order consumer.taken ≡ at_turns order s.consumer.taken ++ place ∷ []
+      → Works o start first batch order s (record s { work = record { done = s.work.done; left = Kept place }; consumer = consumer })
+  picks-next s place consumer none legal same is =
+      idles s _ (record { done = refl; none = ap untold (sym none); amount = refl; number = refl }) (prefix_self s.seen.log) legal same.0 same.1
       (λ y. omega (
         arith,
         ap (λ (l : Left). times y (in_hand first l)) none,
-        ap (λ (c : Consuming). times y (at_places first c.taken)) is,
-        ap (times y) (map-append (λ (p : ℕ). first + p) s.consumer.taken (place ∷ [])),
-        times-append y (at_places first s.consumer.taken) ((first + place) ∷ []),
+        ap (λ (ps : List ℕ). times y (at_places first ps)) is,
+        ap (times y) (map-append (λ (p : ℕ). first + p) (at_turns order s.consumer.taken) (place ∷ [])),
+        times-append y (at_places first (at_turns order s.consumer.taken)) ((first + place) ∷ []),
       ))
 
   -- The update is kept still, or is dropped.
   pub keeps : (s : Seated) (place amount : ℕ) (seen : Seen) → amount ≡ s.amount → IsPrefix s.seen.log seen.log → Legal o.table.shape o.table.opening seen.log
-      → Works o start first batch s (record s { seen = seen; amount = amount })
+      → Works o start first batch order s (record s { seen = seen; amount = amount })
   keeps s place amount seen same pre legal =
       idles s _ (record { done = refl; none = refl; amount = same; number = refl }) pre legal refl refl (λ y. refl)
 
   pub drops : (s : Seated) (place amount : ℕ) (seen : Seen) → s.work.left ≡ Kept place → amount ≡ s.amount → IsPrefix s.seen.log seen.log
       → Legal o.table.shape o.table.opening seen.log
-      → Works o start first batch s (record s { seen = seen; amount = amount; work = record { done = s.work.done; left = Dropped place } })
+      → Works o start first batch order s (record s { seen = seen; amount = amount; work = record { done = s.work.done; left = Dropped place } })
   drops s place amount seen kept same pre legal =
       idles s _ (record { done = refl; none = ap untold (sym kept); amount = same; number = refl }) pre legal refl refl
       (λ y. omega (arith, ap (λ (l : Left). times y (in_hand first l)) kept))
@@ -180,7 +180,7 @@ module _ (o : Opened) (start : List Event) (first : ℕ) (batch : List Update) w
   pub finishes : (s : Seated) (place amount : ℕ) (seen : Seen) (update : Update) (done : Done) → s.work.left ≡ Kept place → amount ≡ s.amount + 1
       → IsPrefix start s.seen.log → IsPrefix s.seen.log seen.log → Legal o.table.shape o.table.opening seen.log
       → IsUpdateAt first batch (first + place) update → IsDone o s.seen.log seen.log (first + place) update done
-      → Works o start first batch s
+      → Works o start first batch order s
       (record s { seen = seen; amount = amount; work = record { done = s.work.done ++ done ∷ []; left = Nothing } })
   finishes s place amount seen update done kept more told pre legal at h =
       enters s _ place done.receipt (done ∷ [])
@@ -203,7 +203,7 @@ module _ (o : Opened) (start : List Event) (first : ℕ) (batch : List Update) w
   pub leaves-untold : (s : Seated) (place amount : ℕ) (seen : Seen) (update : Update) (receipt : Receipt) → s.work.left ≡ Kept place
       → amount ≡ s.amount + 1 → IsPrefix start s.seen.log → IsPrefix s.seen.log seen.log → Legal o.table.shape o.table.opening seen.log
       → IsUpdateAt first batch (first + place) update → IsReceipt o s.seen.log seen.log (first + place) update receipt
-      → Works o start first batch s (record s { seen = seen; amount = amount; work = record { done = s.work.done; left = Untold receipt } })
+      → Works o start first batch order s (record s { seen = seen; amount = amount; work = record { done = s.work.done; left = Untold receipt } })
   leaves-untold s place amount seen update receipt kept more told pre legal at h =
       enters s _ place receipt []
       (record {
@@ -225,7 +225,7 @@ module _ (o : Opened) (start : List Event) (first : ℕ) (batch : List Update) w
       → IfOk outcome (λ done. IsDone o s.seen.log seen.log (first + place) update done)
       → IfErr outcome (λ fault. HasUpdateCause o s.seen.log seen.log (first + place) update fault)
       → MatchResult outcome (λ done. amount ≡ s.amount + 1) (λ fault. amount ≡ s.amount + entered_by fault)
-      → Works o start first batch s (record s { seen = seen; amount = amount; work = noted place outcome s.work })
+      → Works o start first batch order s (record s { seen = seen; amount = amount; work = noted place outcome s.work })
   tries s place amount seen update (Ok one) kept told pre legal at done cause more =
       finishes s place amount seen update one kept more told pre legal at done
   tries s place amount seen update (Err (fault.Spent highest needed)) kept told pre legal at done cause more =
@@ -238,7 +238,7 @@ module _ (o : Opened) (start : List Event) (first : ℕ) (batch : List Update) w
       leaves-untold s place amount seen update receipt kept more told pre legal at cause
 
   -- One step after the other.
-  pub works-trans : (a b c : Seated) → IsPrefix start a.seen.log → Works o start first batch a b → Works o start first batch b c → Works o start first batch a c
+  pub works-trans : (a b c : Seated) → IsPrefix start a.seen.log → Works o start first batch order a b → Works o start first batch order b c → Works o start first batch order a c
   works-trans a b c told h k =
       let later = λ (d : Done) (m : HasTrueMisses o start b.seen.log d).
       misses-stay o start start b.seen.log c.seen.log d k.legal (prefix_self start) (prefix_trans start a.seen.log b.seen.log told h.longer) k.longer m in
@@ -312,29 +312,31 @@ module _ {o : Opened} {start : List Event} {count : ℕ} {s now : Seated} (same 
   pub left-nothing : ((place : ℕ) → s.work.left ≡ Kept place → ⊥) → s.work.left ≡ Nothing
   left-nothing none = nothing-kept count s.work.left (subst (λ (n : Seated). KeepsOneOf count n.work.left) (sym same) ready.keeps) none
 
-  pub picked-none : {first : ℕ} {batch : List Update} {consumer : Consuming} → consumer ≡ s.consumer
-      → Works o start first batch now (record s { consumer = consumer })
-  picked-none {first} {batch} {consumer} is =
-      subst (λ (n : Seated). Works o start first batch n (record s { consumer = consumer })) same (picks-none o start first batch s consumer is legal-now)
+  pub picked-none : {first : ℕ} {batch : List Update} {order : List ℕ} {consumer : Consuming} → consumer ≡ s.consumer
+      → Works o start first batch order now (record s { consumer = consumer })
+  picked-none {first} {batch} {order} {consumer} is =
+      subst (λ (n : Seated). Works o start first batch order n (record s { consumer = consumer })) same
+      (picks-none o start first batch order s consumer is legal-now)
 
-  pub picked-next : {first : ℕ} {batch : List Update} {place : ℕ} {consumer : Consuming} → s.work.left ≡ Nothing
-      → consumer ≡ record s.consumer { taken = s.consumer.taken ++ place ∷ [] }
-      → Works o start first batch now (record s { work = record { done = s.work.done; left = Kept place }; consumer = consumer })
-  picked-next {first} {batch} {place} {consumer} none is =
-      subst (λ (n : Seated). Works o start first batch n (record s { work = record { done = s.work.done; left = Kept place }; consumer = consumer })) same
-      (picks-next o start first batch s place consumer none legal-now is)
+  pub picked-next : {first : ℕ} {batch : List Update} {order : List ℕ} {place : ℕ} {consumer : Consuming} → s.work.left ≡ Nothing
+      → (consumer.queue ≡ s.consumer.queue) × (consumer.parts ≡ s.consumer.parts)
+      → at_turns order consumer.taken ≡ at_turns order s.consumer.taken ++ place ∷ []
+      → Works o start first batch order now (record s { work = record { done = s.work.done; left = Kept place }; consumer = consumer })
+  picked-next {first} {batch} {order} {place} {consumer} none as-before is =
+      subst (λ (n : Seated). Works o start first batch order n (record s { work = record { done = s.work.done; left = Kept place }; consumer = consumer }))
+      same (picks-next o start first batch order s place consumer none legal-now as-before is)
 
-  pub dropped : {first : ℕ} {batch : List Update} {place : ℕ} {had : List Done} → now.work.left ≡ Kept place → had ≡ s.work.done
-      → Works o start first batch now (record s { work = record { done = had; left = Dropped place } })
-  dropped {first} {batch} {place} {had} kept is =
-      subst (λ (n : Seated). Works o start first batch n (record s { work = record { done = had; left = Dropped place } })) same
-      (subst (λ (z : List Done). Works o start first batch s (record s { work = record { done = z; left = Dropped place } })) (sym is)
-      (drops o start first batch s place s.amount s.seen (ap (λ (n : Seated). n.work.left) same ∙ kept) refl (prefix_self s.seen.log) legal-now))
+  pub dropped : {first : ℕ} {batch : List Update} {order : List ℕ} {place : ℕ} {had : List Done} → now.work.left ≡ Kept place → had ≡ s.work.done
+      → Works o start first batch order now (record s { work = record { done = had; left = Dropped place } })
+  dropped {first} {batch} {order} {place} {had} kept is =
+      subst (λ (n : Seated). Works o start first batch order n (record s { work = record { done = had; left = Dropped place } })) same
+      (subst (λ (z : List Done). Works o start first batch order s (record s { work = record { done = z; left = Dropped place } })) (sym is)
+      (drops o start first batch order s place s.amount s.seen (ap (λ (n : Seated). n.work.left) same ∙ kept) refl (prefix_self s.seen.log) legal-now))
 
-  pub tried : {first : ℕ} {batch : List Update} {place : ℕ} {seen : Seen} {amount : ℕ} {work : Work} → IsTried o first batch s place seen amount work
-      → Works o start first batch now (record s { seen = seen; amount = amount; work = work })
-  tried {first} {batch} {place} {seen} {amount} {work} t =
-      subst (λ (n : Seated). Works o start first batch n (record s { seen = seen; amount = amount; work = work })) same
-      (subst (λ (z : Work). Works o start first batch s (record s { seen = seen; amount = amount; work = z })) (noted-so t)
-      (tries o start first batch s place amount seen t.update t.outcome t.kept told-now t.longer t.legal
+  pub tried : {first : ℕ} {batch : List Update} {order : List ℕ} {place : ℕ} {seen : Seen} {amount : ℕ} {work : Work} → IsTried o first batch s place seen amount work
+      → Works o start first batch order now (record s { seen = seen; amount = amount; work = work })
+  tried {first} {batch} {order} {place} {seen} {amount} {work} t =
+      subst (λ (n : Seated). Works o start first batch order n (record s { seen = seen; amount = amount; work = work })) same
+      (subst (λ (z : Work). Works o start first batch order s (record s { seen = seen; amount = amount; work = z })) (noted-so t)
+      (tries o start first batch order s place amount seen t.update t.outcome t.kept told-now t.longer t.legal
       (update_at first batch place t.update t.within t.at) t.entered t.cause t.counted))

@@ -7,19 +7,20 @@ use Rattle.kc_table.specs.declared.entry.Entry.{Entry}
 use Rattle.kc_table.specs.Log.{PassSeen, TableName}
 use Rattle.kc_journal.specs.Journals.{Journalled}
 use Rattle.kc_journal.specs.declared.answer.Receipt.{Receipt}
-use Rattle.kc_queue.specs.Shares.{Consuming, Filled, IsShare}
+use Rattle.kc_queue.specs.Shares.{Consuming, IsShare, IsWhole}
 use Rattle.kc_queue.specs.declared.consumer.TheConstants.{PARTS}
 use Rattle.kc_shared.specs.States.{opened_by}
 use Rattle.kc_shared.specs.declared.shared.TheConstants.{MISSES}
 use Rattle.kc_workers.specs.declared.done.Done.{Done}
 use Rattle.kc_workers.specs.declared.share.Share.{Share}
-use Rattle.kc_batch.specs.Desks.{Desked, Work, all_done, all_receipts, at_places, times_had}
+use Rattle.kc_batch.specs.Desks.{Desked, Work, all_done, all_receipts, at_places, at_turns, times_had}
 use Rattle.kc_batch.specs.Receipts.{AreAllOf, AreSomeOf, IsReceiptOf}
 use Rattle.kc_batch.specs.Runs.{WentOn}
 use Rattle.kc_batch.specs.Seats.{HasTrueMisses}
 use Rattle.kc_batch.specs.declared.done.BatchDone.{BatchDone}
 use Rattle.kc_batch.specs.declared.left.Left.{Left}
 use Rattle.kc_batch.specs.declared.left.Left.TheVariants as left
+use Rattle.kc_batch.specs.declared.line.Line.{Line}
 use Rattle.kc_batch.specs.declared.standing.Standing.{Standing}
 use Rattle.kc_batch.specs.declared.standing.Standing.TheVariants as standing
 
@@ -69,8 +70,8 @@ pub record KeepsPace (old now : Journalled) (batch : List Update) (ended : List 
   pub some_left : now.levels.table.shape.base < length old.entries + length batch
   pub quiet : length now.entries ≡ now.levels.table.shape.base → now.levels.log ≡ []
 
--- What holds of the work between two rounds: the run went on, what was entered is told by receipts, and what was taken of the queue is what
--- the workers have entered and have in hand.
+-- What holds of the work between two rounds: the run went on, what was entered is told by receipts, and what was taken is what the workers
+-- have entered and have in hand.
 pub record Account (old now : Journalled) (first : ℕ) (batch : List Update) (ended : List PassSeen) (works : List Work) (taken : List ℕ)
     : Type 0 where
   pub went : WentOn old ended now
@@ -81,16 +82,17 @@ pub record Account (old now : Journalled) (first : ℕ) (batch : List Update) (e
   pub misses : AreTrueMisses old now ended (all_done works)
   pub pace : (ended ≡ []) ⊎ KeepsPace old now batch ended
 
--- What holds of a crew between two rounds: its account; each worker has been told the whole log; and the consumer has all parts of the
--- queue.
-pub record IsCrew (old : Journalled) (first : ℕ) (batch : List Update) (ended : List PassSeen) (queue : Filled) (words : TableName)
+-- What holds of a crew between two rounds: its account, of the places that have the turns that were taken; each worker has been told the
+-- whole log; the consumer has all parts of the queue; and each place has one turn.
+pub record IsCrew (old : Journalled) (first : ℕ) (batch : List Update) (ended : List PassSeen) (line : Line) (words : TableName)
     (now : Journalled) (desks : List Desked) (consumer : Consuming) : Type 0 where
-  pub account : Account old now first batch ended (map (λ d. d.work) desks) consumer.taken
+  pub account : Account old now first batch ended (map (λ d. d.work) desks) (at_turns line.order.items consumer.taken)
   pub table : now.levels.table ≡ words
   pub told : All (λ d. d.seen ≡ record { table = words; log = now.levels.log }) desks
-  pub of_queue : consumer.queue ≡ queue
+  pub of_queue : consumer.queue ≡ line.queue
   pub parts : consumer.parts ≡ PARTS
-  pub share : IsShare queue.count consumer.taken
+  pub share : IsShare line.queue.count consumer.taken
+  pub order : IsWhole line.queue.count line.order.items
 
 -- a call: where it began, and the batch with the index of its first update
 pub record BatchOf : Type 0 where

@@ -1,5 +1,5 @@
 -- What contracts see of a worker's desk, and how what was taken is counted.
-use Rattle.std.specs.Prelude.{◌<◌, ◌+◌, ⊤, ℕ, List, [], ◌∷◌, ◌++◌, map}
+use Rattle.std.specs.Prelude.{◌<◌, ◌+◌, ⊤, ℕ, List, [], ◌∷◌, ◌++◌, map, slice_index_or}
 use Rattle.std.specs.List.{flat_map}
 use Rattle.kc_distinct.specs.Lists.{times}
 use Rattle.kc_table.specs.Log.{Seen}
@@ -40,6 +40,10 @@ receipts_of w = map (λ done. done.receipt) w.done ++ untold w.left
 -- the indices of updates at these places of the batch
 abbrev pub at_places : ℕ → List ℕ → List ℕ
 at_places first places = map (λ place. first + place) places
+
+-- the places that have these turns, in the order in which places are taken
+abbrev pub at_turns : List ℕ → List ℕ → List ℕ
+at_turns order turns = map (λ turn. slice_index_or order turn 0) turns
 
 -- how often the index stands among those of what the worker has entered and of what it has in hand
 abbrev pub times_had : ℕ → ℕ → Work → ℕ

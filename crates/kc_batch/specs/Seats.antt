@@ -20,7 +20,7 @@ use Rattle.kc_shared.specs.declared.shared.TheConstants.{MISSES}
 use Rattle.kc_workers.specs.declared.done.Done.{Done}
 use Rattle.kc_workers.specs.declared.fault.UpdateFault.{UpdateFault}
 use Rattle.kc_workers.specs.declared.fault.UpdateFault.TheVariants as fault
-use Rattle.kc_batch.specs.Desks.{Desked, KeepsOneOf, Work, all_done, all_receipts, at_places, receipts_of, times_had}
+use Rattle.kc_batch.specs.Desks.{Desked, KeepsOneOf, Work, all_done, all_receipts, at_places, at_turns, receipts_of, times_had}
 use Rattle.kc_batch.specs.Receipts.{IsUpdateAt}
 use Rattle.kc_batch.specs.Runs.{IsNearlySpent}
 use Rattle.kc_batch.specs.declared.left.Left.{Left}
@@ -80,9 +80,9 @@ pub record IsReady (o : Opened) (start : List Event) (count : ℕ) (s : Seated) 
   pub legal : Legal o.table.shape o.table.opening s.seen.log
   pub keeps : KeepsOneOf count s.work.left
 
--- What a worker makes of its work: it enters updates that it has kept or taken, each once, and its part of the ledger counts them. What it
--- took is what it has entered and what it has in hand.
-pub record Works (o : Opened) (start : List Event) (first : ℕ) (batch : List Update) (old new : Seated) : Type 0 where
+-- What a worker makes of its work: it enters updates that it has kept or taken, each once, and its part of the ledger counts them. What has
+-- the turns that it took, in the order of the batch's places, is what it has entered and what it has in hand.
+pub record Works (o : Opened) (start : List Event) (first : ℕ) (batch : List Update) (order : List ℕ) (old new : Seated) : Type 0 where
   pub longer : IsPrefix old.seen.log new.seen.log
   pub legal : Legal o.table.shape o.table.opening new.seen.log
   pub queue : new.consumer.queue ≡ old.consumer.queue
@@ -95,8 +95,8 @@ pub record Works (o : Opened) (start : List Event) (first : ℕ) (batch : List U
   pub receipts : receipts_of new.work ≡ receipts_of old.work ++ added
   pub told : All (IsReceiptIn o start new.seen.log first batch) added
   pub amount : new.amount ≡ old.amount + length added
-  pub balance : (y : ℕ) → times_had first y new.work + times y (at_places first old.consumer.taken)
-      ≡ times_had first y old.work + times y (at_places first new.consumer.taken)
+  pub balance : (y : ℕ) → times_had first y new.work + times y (at_places first (at_turns order old.consumer.taken))
+      ≡ times_had first y old.work + times y (at_places first (at_turns order new.consumer.taken))
 
 -- the list from its end on
 abbrev pub backward : {A : Type 0} → List A → List A

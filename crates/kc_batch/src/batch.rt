@@ -8,18 +8,20 @@ ghost use Rattle.kc_levels.specs.declared.levels.TheConstants.{LAST_NUMBER};
 ghost use Rattle.kc_journal.specs.Journals.{Stands};
 ghost use Rattle.kc_workers.specs.declared.share.Share.{Share as ShareOf};
 ghost use Rattle.kc_batch.specs.Batches.{Account, BatchOf, IsCrew, IsCutShort, IsDone};
-ghost use Rattle.kc_batch.specs.Desks.{KeepsOneOf};
+ghost use Rattle.kc_batch.specs.Desks.{KeepsOneOf, at_turns};
 ghost use Rattle.kc_batch.specs.Seats.{backward};
 
 use crate::crew::Crew;
 use crate::desk::Desk;
 use crate::done::BatchDone;
 use crate::left::Left;
+use crate::line::Line;
+use crate::order::order_of;
 use crate::round::{round, tell_all};
 use kc_graph::{NoMemory, Update};
 use kc_queue::WorkQueue;
 use kc_shared::Parts;
-use kc_table::Pass;
+use kc_table::{Pass, shape};
 use kc_words::INDICES;
 use kc_workers::{Gate, Share, Worker};
 use std::alloc::{AllocError, Global};
@@ -74,24 +76,25 @@ fn work_off<G: Gate + Sync, R: Threads + Wait + Sync>(
     rt: &R,
     alloc: Global,
     mut crew: Crew,
-    queue: &WorkQueue,
+    line: &Line,
     first: u32,
     batch: &[Update],
     gate: &G,
 ) -> (Crew, Result<Vec<Pass>, NoMemory>)
     ghost of: { BatchOf }
     requires of { (of.first ≡ first) × (of.batch ≡ batch.now) }
-    requires crew { IsCrew of.old of.first of.batch [] queue.now crew.parts.words crew.parts.journal crew.desks.items crew.consumer }
+    requires crew { IsCrew of.old of.first of.batch [] line.now crew.parts.words crew.parts.journal crew.desks.items crew.consumer }
     requires keeps { All (λ d. KeepsOneOf (length batch.now) d.work.left) crew.desks.items }
     requires some { (0 < vec_len crew.desks) × (vec_len crew.desks ≤ WORKERS) }
-    requires count { queue.now.count ≡ length batch.now }
+    requires count { line.now.queue.count ≡ length batch.now }
     requires numbers { length of.old.entries + length of.batch ≤ LAST_NUMBER }
     requires indices { first + length batch.now ≤ INDICES }
     requires within { All (λ u. u.v < crew.parts.words.shape.fixed) batch.now }
     ensures as_many { vec_len result.0.desks ≡ vec_len crew.desks }
-    ensures crew { IfOk result.1 (λ ended. IsCrew of.old of.first of.batch ended.items queue.now result.0.parts.words result.0.parts.journal
+    ensures crew { IfOk result.1 (λ ended. IsCrew of.old of.first of.batch ended.items line.now result.0.parts.words result.0.parts.journal
         result.0.desks.items result.0.consumer) }
-    ensures whole { OnOk result.1 (IsWhole queue.now.count result.0.consumer.taken × All (λ d. d.work.left ≡ Left.Nothing) result.0.desks.items) }
+    ensures whole { OnOk result.1 (IsWhole line.now.queue.count (at_turns line.now.order.items result.0.consumer.taken)
+        × All (λ d. d.work.left ≡ Left.Nothing) result.0.desks.items) }
     ensures cut_short { OnErr result.1 (IsCutShort of.old result.0.parts.journal of.first of.batch
         × All (λ d. d.seen.table ≡ result.0.parts.words) result.0.desks.items) }
 {
@@ -99,12 +102,12 @@ fn work_off<G: Gate + Sync, R: Threads + Wait + Sync>(
     for _ in rt.forever() {
         crew.parts.journal.look();
         let blank = Blank::new(crew.desks.len() as u64);
-        crew = match round::<Brand, G, R>(rt, alloc, blank, crew, queue, first, batch, gate) {
+        crew = match round::<Brand, G, R>(rt, alloc, blank, crew, line, first, batch, gate) {
             Ok(after) => after,
             Err(before) => return (before, Err(AllocError)),
         };
         crew.parts.journal.look();
-        match crew.go_on(rt, alloc, queue, &mut ended) {
+        match crew.go_on(rt, alloc, line, &mut ended) {
             Ok(true) => {}
             Ok(false) => return (crew, Ok(ended)),
             Err(fault) => return (crew, Err(fault)),
@@ -144,12 +147,16 @@ fn run_desks<G: Gate + Sync, R: Threads + Wait + Sync>(
     let Ok((queue, consumer)) = WorkQueue::filled(rt, alloc, batch.len() as u32) else {
         return (parts, desks, Err(AllocError));
     };
+    let Ok(order) = order_of(alloc, shape(&parts.words).fixed, batch) else {
+        return (parts, desks, Err(AllocError));
+    };
+    let line = Line { queue, order };
     let crew = Crew {
         parts,
         desks,
         consumer,
     };
-    let (crew, worked) = work_off(rt, alloc, crew, &queue, first, batch, gate);
+    let (crew, worked) = work_off(rt, alloc, crew, &line, first, batch, gate);
     let Crew { parts, desks, .. } = crew;
     (parts, desks, worked)
 }
@@ -157,8 +164,9 @@ fn run_desks<G: Gate + Sync, R: Threads + Wait + Sync>(
 /// Enters all updates of a batch. The update at place `i` of the batch, from 0, has the index `first + i`.
 ///
 /// There is one worker for each of `workers`, in a thread of its own where one can be made; a single worker runs on the caller's. They take
-/// the updates from one queue. Where the versions of the table are nearly spent the run goes on in a fresh one, as often as it is needed,
-/// and an update that could not be entered for that is entered there.
+/// the updates from one queue: removals first, then insertions, those of the vertices that a peeling of the batch's insertions comes to last
+/// first. Where the versions of the table are nearly spent the run goes on in a fresh one, as often as it is needed, and an update that could
+/// not be entered for that is entered there.
 ///
 /// At Ok each update of the batch is an entry, once, and stands in one share, once, and no other entry was made. `NoMemory` comes where
 /// there is none: then some of the updates were entered, each at most once. Whatever is answered, the journal stands, its entries go on

@@ -6,16 +6,16 @@ ghost use Rattle.kc_levels.specs.declared.levels.TheConstants.{LAST_NUMBER};
 ghost use Rattle.kc_queue.specs.Shares.{IsWhole};
 ghost use Rattle.kc_shared.specs.States.{opened_by};
 ghost use Rattle.kc_batch.specs.Batches.{BatchOf, Gives, IsCrew, IsCutShort};
-ghost use Rattle.kc_batch.specs.Desks.{KeepsOneOf};
+ghost use Rattle.kc_batch.specs.Desks.{KeepsOneOf, at_turns};
 ghost use Rattle.kc_batch.specs.Runs.{IsNearlySpent, IsRenewal};
 ghost use Rattle.kc_batch.specs.Seats.{KeepsIfSpent};
 
 use crate::crew::Crew;
 use crate::desk::Desk;
 use crate::left::Left;
+use crate::line::Line;
 use crate::standing::{Standing, standing_of};
 use kc_graph::NoMemory;
-use kc_queue::WorkQueue;
 use kc_shared::Parts;
 use kc_table::Pass;
 use std::alloc::{AllocError, Global};
@@ -23,30 +23,30 @@ use std::sync::Wait;
 
 impl Crew {
     /// What comes after a round. Where updates are kept, the run goes on in a fresh table, and they are entered there; where none is, what is
-    /// left of the queue. Gives whether another round is needed. Memory may be wanted for a renewal, or may have run out in the round.
+    /// left of the line. Gives whether another round is needed. Memory may be wanted for a renewal, or may have run out in the round.
     pub(crate) fn go_on<R: Wait>(
         &mut self,
         rt: &R,
         alloc: Global,
-        queue: &WorkQueue,
+        line: &Line,
         ended: &mut Vec<Pass>,
     ) -> Result<bool, NoMemory>
         ghost of: { BatchOf }
-        requires crew { IsCrew of.old of.first of.batch ended.old.items queue.now self.old.parts.words self.old.parts.journal
+        requires crew { IsCrew of.old of.first of.batch ended.old.items line.now self.old.parts.words self.old.parts.journal
             self.old.desks.items self.old.consumer }
         requires spent { All (λ d. KeepsIfSpent (opened_by self.old.parts.journal) self.old.parts.journal.levels.log d.work.left)
             self.old.desks.items }
         requires stands { Stands self.old.parts.journal }
         requires numbers { length of.old.entries + length of.batch ≤ LAST_NUMBER }
-        requires count { queue.now.count ≡ length of.batch }
+        requires count { line.now.queue.count ≡ length of.batch }
         requires some { 0 < vec_len self.old.desks }
         ensures as_many { vec_len self.new.desks ≡ vec_len self.old.desks }
         ensures size { self.new.parts.words.shape.fixed ≡ self.old.parts.words.shape.fixed }
-        ensures crew { OnOk result (IsCrew of.old of.first of.batch ended.new.items queue.now self.new.parts.words self.new.parts.journal
+        ensures crew { OnOk result (IsCrew of.old of.first of.batch ended.new.items line.now self.new.parts.words self.new.parts.journal
             self.new.desks.items self.new.consumer) }
-        ensures keeps { IfOk result (λ again. again ≡ true → All (λ d. KeepsOneOf queue.now.count d.work.left) self.new.desks.items) }
-        ensures whole { IfOk result (λ again. again ≡ false → IsWhole queue.now.count self.new.consumer.taken
-            × All (λ d. d.work.left ≡ Left.Nothing) self.new.desks.items) }
+        ensures keeps { IfOk result (λ again. again ≡ true → All (λ d. KeepsOneOf line.now.queue.count d.work.left) self.new.desks.items) }
+        ensures whole { IfOk result (λ again. again ≡ false → IsWhole line.now.queue.count
+            (at_turns line.now.order.items self.new.consumer.taken) × All (λ d. d.work.left ≡ Left.Nothing) self.new.desks.items) }
         ensures cut_short { OnErr result (IsCutShort of.old self.new.parts.journal of.first of.batch
             × All (λ d. d.seen.table ≡ self.new.parts.words) self.new.desks.items) }
     {
@@ -54,7 +54,7 @@ impl Crew {
             Standing::Short => return Err(AllocError),
             Standing::Keeping => self.renew(alloc, ended)?,
             Standing::Free => {
-                let Some(place) = queue.take(rt, &mut self.consumer) else {
+                let Some(place) = line.take(rt, &mut self.consumer) else {
                     return Ok(false);
                 };
                 self.give(place);

@@ -3,15 +3,16 @@ ghost use Rattle.std.specs.Prelude.{◌≡◌, ◌<◌, ◌≤◌, ◌+◌, ◌+
 ghost use Rattle.std.specs.List.{AllZip};
 ghost use mathlib.Core.List.{IsPrefix};
 ghost use Rattle.kc_queue.specs.declared.consumer.TheConstants.{PARTS, WORKERS};
-ghost use Rattle.kc_queue.specs.Shares.{IsShare};
+ghost use Rattle.kc_queue.specs.Shares.{IsShare, IsWhole};
 ghost use Rattle.kc_stripes.specs.Records.{opened_with};
-ghost use Rattle.kc_batch.specs.Desks.{KeepsOneOf};
+ghost use Rattle.kc_batch.specs.Desks.{KeepsOneOf, at_turns};
 ghost use Rattle.kc_batch.specs.Runs.{StaysIn};
 ghost use Rattle.kc_batch.specs.Seats.{IsHired, IsReady, KeepsIfSpent, Rounds, Seated, Works, all_taken, amounts, backward, desk_of};
 
 use crate::crew::Crew;
 use crate::desk::Desk;
 use crate::errand::Errand;
+use crate::line::Line;
 use crate::seat::Seat;
 use kc_graph::Update;
 use kc_queue::{Consumer, WorkQueue};
@@ -69,14 +70,15 @@ fn work_all<K: Name + Ledger + Send + Sync, G: Gate + Sync, R: Threads + Wait + 
     errand: &Errand<'_, K, G>,
     seats: &mut [Seat<K>],
 )
-    requires queue { All (λ s. s.consumer.queue ≡ errand.now.queue.now) seats.old }
-    requires count { errand.now.queue.now.count ≡ length errand.now.batch.now }
+    requires queue { All (λ s. s.consumer.queue ≡ errand.now.line.now.queue) seats.old }
+    requires count { errand.now.line.now.queue.count ≡ length errand.now.batch.now }
+    requires order { IsWhole errand.now.line.now.queue.count errand.now.line.now.order.items }
     requires ready { All (IsReady (opened_with K.table K.opening_edges K.opening_stamps) K.log (length errand.now.batch.now)) seats.old }
     requires indices { errand.now.first + length errand.now.batch.now ≤ INDICES }
     requires within { All (λ u. u.v < K.table.shape.fixed) errand.now.batch.now }
     requires some { 0 < length seats.old }
     ensures works { AllZip (λ a b. Works (opened_with K.table K.opening_edges K.opening_stamps) K.log
-        errand.now.first errand.now.batch.now a b
+        errand.now.first errand.now.batch.now errand.now.line.now.order.items a b
         × KeepsIfSpent (opened_with K.table K.opening_edges K.opening_stamps) b.seen.log b.work.left) seats.old seats.new }
 {
     let count = seats.len();
@@ -85,12 +87,13 @@ fn work_all<K: Name + Ledger + Send + Sync, G: Gate + Sync, R: Threads + Wait + 
         seats,
         count,
         &|_, seat|
-            requires { (seat.old.consumer.queue ≡ errand.now.queue.now) × (errand.now.queue.now.count ≡ length errand.now.batch.now)
+            requires { (seat.old.consumer.queue ≡ errand.now.line.now.queue) × (errand.now.line.now.queue.count ≡ length errand.now.batch.now)
+                × IsWhole errand.now.line.now.queue.count errand.now.line.now.order.items
                 × IsReady (opened_with K.table K.opening_edges K.opening_stamps) K.log (length errand.now.batch.now) seat.old
                 × (errand.now.first + length errand.now.batch.now ≤ INDICES)
                 × All (λ u. u.v < K.table.shape.fixed) errand.now.batch.now }
             ensures { Works (opened_with K.table K.opening_edges K.opening_stamps) K.log
-                errand.entry.now.first errand.entry.now.batch.now seat.old seat.new
+                errand.entry.now.first errand.entry.now.batch.now errand.entry.now.line.now.order.items seat.old seat.new
                 × KeepsIfSpent (opened_with K.table K.opening_edges K.opening_stamps) seat.new.seen.log seat.new.work.left }
         { seat.work(rt, errand) },
     );
@@ -143,14 +146,14 @@ pub(crate) fn tell_all(parts: &mut Parts, desks: &mut Vec<Desk>)
     }
 }
 
-/// One round: each worker enters what it has kept, and what it takes of the queue, until the queue is empty or it can't go on. Where there
+/// One round: each worker enters what it has kept, and what it takes of the line, until none is left there or it can't go on. Where there
 /// is no memory for the round, all is given back as it was.
 pub(crate) fn round<K: Name + Ledger + Send + Sync, G: Gate + Sync, R: Threads + Wait + Sync>(
     rt: &R,
     alloc: Global,
     blank: Blank,
     crew: Crew,
-    queue: &WorkQueue,
+    line: &Line,
     first: u32,
     batch: &[Update],
     gate: &G,
@@ -163,8 +166,9 @@ pub(crate) fn round<K: Name + Ledger + Send + Sync, G: Gate + Sync, R: Threads +
     requires some { (0 < vec_len crew.desks) × (vec_len crew.desks ≤ WORKERS) }
     requires told { All (λ d. d.seen ≡ record { table = K.table; log = K.log }) crew.desks.items }
     requires keeps { All (λ d. KeepsOneOf (length batch.now) d.work.left) crew.desks.items }
-    requires consumer { (crew.consumer.queue ≡ queue.now) × (crew.consumer.parts ≡ PARTS) × IsShare queue.now.count crew.consumer.taken }
-    requires count { queue.now.count ≡ length batch.now }
+    requires consumer { (crew.consumer.queue ≡ line.now.queue) × (crew.consumer.parts ≡ PARTS) × IsShare line.now.queue.count crew.consumer.taken }
+    requires count { line.now.queue.count ≡ length batch.now }
+    requires order { IsWhole line.now.queue.count line.now.order.items }
     requires indices { first + length batch.now ≤ INDICES }
     requires within { All (λ u. u.v < K.table.shape.fixed) batch.now }
     ensures same { IfErr result (λ back. back ≡ crew) }
@@ -175,8 +179,10 @@ pub(crate) fn round<K: Name + Ledger + Send + Sync, G: Gate + Sync, R: Threads +
     ensures told { IfOk result (λ c. All (λ d. d.seen ≡ record { table = K.table; log = c.parts.journal.levels.log }) c.desks.items) }
     ensures rounds { IfOk result (λ c. (made : ℕ) × (length c.parts.journal.entries ≡ length crew.parts.journal.entries + made)
         × Rounds (opened_with K.table K.opening_edges K.opening_stamps) K.log c.parts.journal.levels.log first batch.now
-        (map (λ d. d.work) crew.desks.items) (map (λ d. d.work) c.desks.items) crew.consumer.taken c.consumer.taken made) }
-    ensures consumer { IfOk result (λ c. (c.consumer.queue ≡ queue.now) × (c.consumer.parts ≡ PARTS) × IsShare queue.now.count c.consumer.taken) }
+        (map (λ d. d.work) crew.desks.items) (map (λ d. d.work) c.desks.items)
+        (at_turns line.now.order.items crew.consumer.taken) (at_turns line.now.order.items c.consumer.taken) made) }
+    ensures consumer { IfOk result (λ c. (c.consumer.queue ≡ line.now.queue) × (c.consumer.parts ≡ PARTS)
+        × IsShare line.now.queue.count c.consumer.taken) }
 {
     crew.parts.journal.look();
     let count = crew.desks.len();
@@ -198,17 +204,17 @@ pub(crate) fn round<K: Name + Ledger + Send + Sync, G: Gate + Sync, R: Threads +
             });
         }
     };
-    let mut seats = hire(queue, &mut consumer, &mut part, &mut desks, seats);
+    let mut seats = hire(&line.queue, &mut consumer, &mut part, &mut desks, seats);
     let errand = Errand {
         shared: &shared,
-        queue,
+        line,
         first,
         batch,
         gate,
         alloc,
     };
     work_all(rt, &errand, &mut seats);
-    gather(queue, &mut consumer, &mut part, seats, &mut desks);
+    gather(&line.queue, &mut consumer, &mut part, seats, &mut desks);
     let mut parts = shared.into_parts(part);
     parts.journal.look();
     tell_all(&mut parts, &mut desks);

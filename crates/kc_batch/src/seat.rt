@@ -1,11 +1,12 @@
 //! A worker in one round.
 ghost use Rattle.std.specs.Prelude.{◌≡◌, ◌<◌, ◌≤◌, ◌+◌, All, IfNone, IfSome, is_ok, length, true, vec_len, vec_capacity};
+ghost use Rattle.kc_queue.specs.Shares.{IsWhole};
 ghost use Rattle.kc_stripes.specs.Records.{opened_with};
 ghost use Rattle.kc_batch.specs.Seats.{IsReady, KeepsIfSpent, Works, noted};
 
 use crate::errand::Errand;
 use crate::left::Left;
-use kc_queue::{Consumer, WorkQueue};
+use kc_queue::Consumer;
 use kc_table::Name;
 use kc_words::INDICES;
 use kc_workers::{Done, Gate, UpdateFault, Worker, update};
@@ -42,15 +43,16 @@ impl<K: Name + Ledger> Model for Seat<K> {
 }
 
 impl<K: Name + Ledger> Seat<K> {
-    /// Enters updates until none is left, or until it can't go on: what it has kept first, then what it takes of the queue. Where the
+    /// Enters updates until none is left, or until it can't go on: what it has kept first, then what it takes of the line. Where the
     /// versions of the table are spent, or the entries can't be numbered further, it keeps the update that it could not enter.
     pub(crate) fn work<G: Gate, R: Wait>(&mut self, rt: &R, errand: &Errand<'_, K, G>)
-        requires queue { (self.old.consumer.queue ≡ errand.now.queue.now) × (errand.now.queue.now.count ≡ length errand.now.batch.now) }
+        requires queue { (self.old.consumer.queue ≡ errand.now.line.now.queue) × (errand.now.line.now.queue.count ≡ length errand.now.batch.now) }
+        requires order { IsWhole errand.now.line.now.queue.count errand.now.line.now.order.items }
         requires ready { IsReady (opened_with K.table K.opening_edges K.opening_stamps) K.log (length errand.now.batch.now) self.old }
         requires indices { errand.now.first + length errand.now.batch.now ≤ INDICES }
         requires within { All (λ u. u.v < K.table.shape.fixed) errand.now.batch.now }
         ensures works { Works (opened_with K.table K.opening_edges K.opening_stamps) K.log
-            errand.now.first errand.now.batch.now self.old self.new }
+            errand.now.first errand.now.batch.now errand.now.line.now.order.items self.old self.new }
         ensures spent { KeepsIfSpent (opened_with K.table K.opening_edges K.opening_stamps) self.new.seen.log self.new.work.left }
     {
         for _ in rt.forever() {
@@ -64,13 +66,14 @@ impl<K: Name + Ledger> Seat<K> {
         unreachable!()
     }
 
-    /// The place of the update that is to be entered next: the one that is kept, or else the next of the queue, which is kept from then on.
+    /// The place of the update that is to be entered next: the one that is kept, or else the next of the line, which is kept from then on.
     /// There is none where the queue was found empty.
     fn pick<G: Gate, R: Wait>(&mut self, rt: &R, errand: &Errand<'_, K, G>) -> Option<u32>
-        requires queue { (self.old.consumer.queue ≡ errand.now.queue.now) × (errand.now.queue.now.count ≡ length errand.now.batch.now) }
+        requires queue { (self.old.consumer.queue ≡ errand.now.line.now.queue) × (errand.now.line.now.queue.count ≡ length errand.now.batch.now) }
+        requires order { IsWhole errand.now.line.now.queue.count errand.now.line.now.order.items }
         requires ready { IsReady (opened_with K.table K.opening_edges K.opening_stamps) K.log (length errand.now.batch.now) self.old }
         ensures works { Works (opened_with K.table K.opening_edges K.opening_stamps) K.log
-            errand.now.first errand.now.batch.now self.old self.new }
+            errand.now.first errand.now.batch.now errand.now.line.now.order.items self.old self.new }
         ensures kept { IfSome result (λ place. self.new.work.left ≡ Left.Kept place) }
         ensures below { IfSome result (λ place. place < length errand.now.batch.now) }
         ensures none { IfNone result (self.new.work.left ≡ Left.Nothing) }
@@ -78,7 +81,7 @@ impl<K: Name + Ledger> Seat<K> {
         if let Left::Kept { place } = self.left {
             return Some(place);
         }
-        let place = errand.queue.take(rt, &mut self.consumer)?;
+        let place = errand.line.take(rt, &mut self.consumer)?;
         self.left = Left::Kept { place };
         Some(place)
     }
@@ -91,7 +94,7 @@ impl<K: Name + Ledger> Seat<K> {
         requires indices { errand.now.first + length errand.now.batch.now ≤ INDICES }
         requires within { All (λ u. u.v < K.table.shape.fixed) errand.now.batch.now }
         ensures works { Works (opened_with K.table K.opening_edges K.opening_stamps) K.log
-            errand.now.first errand.now.batch.now self.old self.new }
+            errand.now.first errand.now.batch.now errand.now.line.now.order.items self.old self.new }
         ensures goes_on { result ≡ true → self.new.work.left ≡ Left.Nothing }
         ensures spent { KeepsIfSpent (opened_with K.table K.opening_edges K.opening_stamps) self.new.seen.log self.new.work.left }
     {

@@ -5,7 +5,7 @@ use Rattle.kc_table.specs.Log.{TableName}
 use Rattle.kc_journal.specs.Journals.{Stands}
 use Rattle.kc_stripes.specs.Records.{opened_with}
 use Rattle.kc_batch.specs.Batches.{IsCrew, IsCutShort}
-use Rattle.kc_batch.specs.Desks.{Desked, KeepsOneOf, Work}
+use Rattle.kc_batch.specs.Desks.{Desked, KeepsOneOf, Work, at_turns}
 use Rattle.kc_batch.specs.Seats.{Rounds}
 use Rattle.kc_batch.specs.declared.crew.Crew.{Crew}
 use Rattle.kc_batch.proofs.Closing.{IsRound, crew-cut, crew-round, round-many, round-spent}
@@ -20,14 +20,16 @@ pub go_on-requires : goal.go_on-requires
 go_on-requires g c κs within =
     let b = g.of in
     let i = c.loop.invariant in
+    let order = c.args.line.now.order.items in
     let now : Crew = c.loop.crew in
     let next : Crew = c.in-Ok.after in
     let made = c.in-Ok.ensures in
     let works : List Desked → List Work = map (λ (d : Desked). d.work) in
     let Made : ℕ → List Update → Type 0 = λ first batch.
     Rounds (opened_with now.parts.words now.parts.journal.opened now.parts.journal.opening_stamps) now.parts.journal.levels.log next.parts.journal.levels.log
-    first batch (works now.desks.items) (works next.desks.items) now.consumer.taken next.consumer.taken made.rounds.0 in
-    let round : IsRound now.parts.words b.first b.batch c.args.queue.now now.parts.journal next.parts.journal now.desks.items next.desks.items
+    first batch (works now.desks.items) (works next.desks.items) (at_turns order now.consumer.taken)
+    (at_turns order next.consumer.taken) made.rounds.0 in
+    let round : IsRound now.parts.words b.first b.batch c.args.line.now now.parts.journal next.parts.journal now.desks.items next.desks.items
     now.consumer next.consumer = record {
       stood = subst Stands (ap (λ (k : Crew). k.parts.journal) c.crew.view_is) c.look.ensures;
       stands = subst Stands (ap (λ (k : Crew). k.parts.journal) c.crew-in-loop.view_is) c.look-in-loop.ensures;
@@ -41,7 +43,7 @@ go_on-requires g c κs within =
     } in (
       within,
       (
-        subst (λ (t : TableName). IsCrew b.old b.first b.batch c.loop.ended.items c.args.queue.now t next.parts.journal next.desks.items next.consumer)
+        subst (λ (t : TableName). IsCrew b.old b.first b.batch c.loop.ended.items c.args.line.now t next.parts.journal next.desks.items next.consumer)
             (sym made.words) (crew-round round i.crew),
         (
           round-spent round i.crew.table,

@@ -8,14 +8,14 @@ use Rattle.kc_batch.proofs.batch.work_off.Given as goal
 
 abbrev pub invariant-loop : goal.invariant-loop
 invariant-loop g l = record {
-  crew : IsCrew g.of.old g.of.first g.of.batch l.ended.items l.queue l.crew.parts.words l.crew.parts.journal l.crew.desks.items l.crew.consumer;
+  crew : IsCrew g.of.old g.of.first g.of.batch l.ended.items l.line l.crew.parts.words l.crew.parts.journal l.crew.desks.items l.crew.consumer;
   keeps : All (λ d. KeepsOneOf (length l.batch) d.work.left) l.crew.desks.items;
   as_many : vec_len l.crew.desks ≡ vec_len l.initial.crew.desks;
   size : l.crew.parts.words.shape.fixed ≡ l.initial.crew.parts.words.shape.fixed;
   some : 0 < vec_len l.crew.desks;
   of_first : g.of.first ≡ l.first;
   of_batch : g.of.batch ≡ l.batch;
-  count : l.queue.count ≡ length l.batch;
+  count : l.line.queue.count ≡ length l.batch;
   numbers : length g.of.old.entries + length g.of.batch ≤ LAST_NUMBER;
 }
 

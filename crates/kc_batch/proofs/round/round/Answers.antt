@@ -6,10 +6,11 @@ use Rattle.kc_table.specs.declared.entry.Entry.{Entry}
 use Rattle.kc_journal.specs.Journals.{Journalled}
 use Rattle.kc_shared.specs.States.{Parted}
 use Rattle.kc_stripes.specs.Records.{Opened, opened_with}
-use Rattle.kc_batch.specs.Desks.{Desked, Work}
+use Rattle.kc_batch.specs.Desks.{Desked, Work, at_turns}
 use Rattle.kc_batch.specs.Seats.{IsReady, Rounds, Seated, all_taken, amounts, backward, desk_of}
 use Rattle.kc_batch.specs.declared.crew.Crew.{Crew}
 use Rattle.kc_batch.proofs.Rounding.{Steps, hired-consumers, legal_in, ready-seats, round-made, seats-many, written-all}
+use Rattle.kc_batch.proofs.Turning.{turned-append}
 use Rattle.kc_batch.proofs.round.round.Given.{Over}
 use Rattle.kc_batch.proofs.round.round.Goals.{After-deref_mut}
 use Rattle.kc_batch.proofs.round.round.Goals as goal
@@ -34,10 +35,10 @@ work_all-requires-clause-ready g c κs within =
 
 pub gather-requires-clause-seats : goal.gather-requires-clause-seats
 gather-requires-clause-seats g c =
-    let worked = written-all (Steps (opening g) g.K.Name.log c.args.first c.args.batch.now) c.hire-seats.result.items c.work_all.new.seats
+    let worked = written-all (Steps (opening g) g.K.Name.log c.args.first c.args.batch.now c.args.line.now.order.items) c.hire-seats.result.items c.work_all.new.seats
     c.hire-seats.result.len c.deref_mut.ensures.value c.work_all.ensures.works (omega (arith, c.hire-seats.result.ok.0)) in
-    subst (All (λ (s : Seated). (s.consumer.queue ≡ c.args.queue.now) × (s.consumer.parts ≡ 1))) (sym worked.1)
-    (hired-consumers (opening g) g.K.Name.log g.K.Name.log c.args.first c.args.batch.now (length c.args.batch.now) c.args.queue.now
+    subst (All (λ (s : Seated). (s.consumer.queue ≡ c.args.line.now.queue) × (s.consumer.parts ≡ 1))) (sym worked.1)
+    (hired-consumers (opening g) g.K.Name.log g.K.Name.log c.args.first c.args.batch.now c.args.line.now.order.items (length c.args.batch.now) c.args.line.now.queue
     c.hire-seats.result.items c.work_all.new.seats worked.0 c.hire-seats.ensures.hired)
 
 pub gather-requires-clause-room : goal.gather-requires-clause-room
@@ -74,15 +75,18 @@ pub returns-clause-rounds : goal.returns-clause-rounds
 returns-clause-rounds g c =
     let n = g.K.Name in
     let batch = c.args.batch.now in
+    let order = c.args.line.now.order.items in
     let news : List Seated = c.work_all.new.seats in
     let before : List Desked = c.args.crew.desks.items in
     let told : List Desked = c.tell_all.new.desks.items in
-    let after : List ℕ = c.gather.new.consumer.taken in
+    let before_turns : List ℕ = c.args.crew.consumer.taken in
+    let after_turns : List ℕ = c.gather.new.consumer.taken in
+    let after : List ℕ = at_turns order after_turns in
     let made : ℕ = c.gather.new.part.amount in
     let log : List Event = c.into_parts-parts.result.journal.levels.log in
     let goes = c.into_parts-parts.ensures.goes_on in
     let Works : List Desked → List Work = λ ds. map (λ (d : Desked). d.work) ds in
-    let worked = written-all (Steps (opening g) n.log c.args.first batch) c.hire-seats.result.items news c.hire-seats.result.len
+    let worked = written-all (Steps (opening g) n.log c.args.first batch order) c.hire-seats.result.items news c.hire-seats.result.len
     c.deref_mut.ensures.value c.work_all.ensures.works (omega (arith, c.hire-seats.result.ok.0)) in
     let desks : c.gather.new.desks.items ≡ map desk_of (backward news) =
     c.gather.ensures.desks ∙ ap (λ (z : List Seated). map desk_of (backward z)) worked.1 in
@@ -91,16 +95,18 @@ returns-clause-rounds g c =
     (ap (λ (p : Parted). p.journal.levels.log) c.parts.view_is) in
     let total : made ≡ amounts (backward news) =
     omega (arith, c.gather.ensures.part.1, c.hire-seats.ensures.part.1, ap (λ (z : List Seated). amounts (backward z)) worked.1) in
-    let taken_so : after ≡ c.args.crew.consumer.taken ++ all_taken (backward news) =
+    let turns : after_turns ≡ before_turns ++ all_taken (backward news) =
     c.gather.ensures.all.2 ∙ (λ i. c.hire-seats.ensures.left.2 i ++ all_taken (backward (worked.1 i))) in
-    let r : Rounds (opening g) n.log log c.args.first batch (Works before) (Works told) c.args.crew.consumer.taken after made =
-    round-made (opening g) n.log log c.args.first batch (length batch) c.args.queue.now c.hire-seats.result.items news before told
-    c.args.crew.consumer.taken after made legal c.hire-seats.ensures.seated worked.0 c.hire-seats.ensures.hired
+    let taken_so : after ≡ at_turns order before_turns ++ at_turns order (all_taken (backward news)) =
+    ap (at_turns order) turns ∙ turned-append order before_turns (all_taken (backward news)) in
+    let r : Rounds (opening g) n.log log c.args.first batch (Works before) (Works told) (at_turns order before_turns) after made =
+    round-made (opening g) n.log log c.args.first batch order (length batch) c.args.line.now.queue c.hire-seats.result.items news before told
+    (at_turns order before_turns) after made legal c.hire-seats.ensures.seated worked.0 c.hire-seats.ensures.hired
     (seats-ready g (goal.at.returns-clause-rounds g c).After-deref_mut) (subst (All (λ (d : Desked). IsPrefix d.seen.log log)) desks c.tell_all.ensures.longer)
     (c.tell_all.ensures.works ∙ ap Works desks) taken_so total in
     let Made : Parted → Type 0 = λ p.
     (made : ℕ) × (length p.journal.entries ≡ length c.args.crew.parts.journal.entries + made)
-    × Rounds (opening g) n.log p.journal.levels.log c.args.first batch (Works before) (Works told) c.args.crew.consumer.taken after made in
+    × Rounds (opening g) n.log p.journal.levels.log c.args.first batch (Works before) (Works told) (at_turns order before_turns) after made in
     subst Made (sym c.tell_all.ensures.same) (made, omega (arith, goes.counted, ap (λ (z : List Entry). length z) c.requires.now.1), r)
 
 pub returns-clause-consumer : goal.returns-clause-consumer

@@ -18,7 +18,7 @@ returns g c =
     let n = g.K.Name in
     let o = opened_with n.table n.opening_edges n.opening_stamps in
     let Mine : Seated → Seated → Type 0 = λ a b.
-    Works o n.log c.args.errand.now.first c.args.errand.now.batch.now a b × KeepsIfSpent o b.seen.log b.work.left in
+    Works o n.log c.args.errand.now.first c.args.errand.now.batch.now c.args.errand.now.line.now.order.items a b × KeepsIfSpent o b.seen.log b.work.left in
     record {
       works = zip-of Mine c.args.seats.now c.for_each_mut.new.s (omega arith) (λ i d l.
           let k = (c.for_each_mut.ensures i d l).1 in

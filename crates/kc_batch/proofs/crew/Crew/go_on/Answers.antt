@@ -1,9 +1,10 @@
--- What is kept is entered in a fresh table, and what is left of the queue is given to the first.
-use Rattle.std.proofs.Common.{◌∙◌, subst, sym}
+-- What is kept is entered in a fresh table, and what is left of the line is given to the first.
+use Rattle.std.proofs.Common.{◌∙◌, ap, subst, sym}
 use Rattle.std.proofs.lemmas.Result.{err_from_is_err_and}
 use Rattle.kc_shared.specs.States.{Parted}
 use Rattle.kc_queue.specs.Shares.{Consuming, IsShare, IsWhole}
 use Rattle.kc_batch.specs.Batches.{IsCutShort}
+use Rattle.kc_batch.specs.Desks.{at_turns}
 use Rattle.kc_batch.proofs.Closing.{HasGiven, all-free, crew-cut, crew-given, crew-keeps, crew-left, crew-renewed, crew-spent, given-keeps}
 use Rattle.kc_batch.proofs.crew.Crew.go_on.Goals.{After-give}
 use Rattle.kc_batch.proofs.crew.Crew.go_on.Given.{Over}
@@ -27,7 +28,7 @@ returns-in_err-renew-in-Keeping-clause-cut_short g c =
 
 pub returns-in_default-clause-whole : goal.returns-in_default-clause-whole
 returns-in_default-clause-whole g c = λ e. (
-  subst (λ (z : Consuming). IsWhole c.args.queue.now.count z.taken) (sym c.in_default.ensures.none) (c.in_default.ensures.all c.requires.1.0.parts),
+  subst (λ (z : Consuming). IsWhole c.args.line.now.queue.count (at_turns c.args.line.now.order.items z.taken)) (sym c.in_default.ensures.none) (c.in_default.ensures.all c.requires.1.0.parts),
   all-free c.args.self.now.desks.items c.in-Free.ensures,
 )
 
@@ -46,15 +47,19 @@ returns-in_ok-renew-in-Keeping-clause-keeps g c = λ again.
 
 -- what the first worker was given
 given : (g : Over) (c : After-give g)
-    → HasGiven c.args.queue.now.count c.in-Some.place c.args.self.now.desks.items c.give.new.self.desks.items c.args.self.now.consumer c.give.new.self.consumer
+    → HasGiven c.args.line.now c.in-Some.place c.args.self.now.desks.items c.give.new.self.desks.items c.args.self.now.consumer c.give.new.self.consumer
 given g c =
     let took = c.give.ensures.parts.1 in
     record {
       free = c.in-Free.ensures;
       gives = c.give.ensures.given;
-      took = took ∙ c.in-Some.ensures.taken;
+      took = record {
+        queue = ap (λ (z : Consuming). z.queue) took ∙ c.in-Some.ensures.same.0;
+        parts = ap (λ (z : Consuming). z.parts) took ∙ c.in-Some.ensures.same.1;
+        taken = ap (λ (z : Consuming). at_turns c.args.line.now.order.items z.taken) took ∙ c.in-Some.ensures.taken;
+        share = subst (λ (z : Consuming). IsShare c.args.line.now.queue.count z.taken) (sym took) c.in-Some.ensures.share;
+      };
       below = c.in-Some.ensures.below;
-      share = subst (λ (z : Consuming). IsShare c.args.queue.now.count z.taken) (sym took) c.in-Some.ensures.share;
     }
 
 pub returns-in-Some-clause-crew : goal.returns-in-Some-clause-crew

@@ -1,11 +1,11 @@
--- What is kept, or is taken of the queue and kept from then on, is counted as it was.
+-- What is kept, or is taken of the line and kept from then on, is counted as it was.
 use Rattle.std.proofs.Common.{◌≡◌, ℕ, IfNone, Option, rules, subst, sym}
 use Rattle.kc_batch.specs.declared.left.Left.TheVariants.{Nothing}
 use Rattle.kc_batch.proofs.Working.{left-nothing, picked-next, picked-none, picks-kept}
 use Rattle.kc_batch.proofs.seat.Seat.pick.Goals as goal
 
 pub returns-in-Kept-clause-works : goal.returns-in-Kept-clause-works
-returns-in-Kept-clause-works g c = picks-kept _ _ _ _ _ c.requires.ready.legal
+returns-in-Kept-clause-works g c = picks-kept _ _ _ _ _ _ c.requires.ready.legal
 
 pub returns-in_err-place : goal.returns-in_err-place
 returns-in_err-place g c = record {
@@ -18,7 +18,8 @@ returns-in_err-place g c = record {
 
 pub returns : goal.returns
 returns g c = record {
-  works = picked-next c.self.view_is c.requires.ready (left-nothing c.self.view_is c.requires.ready c.in_default.not-Kept) c.in_ok-place.ensures.taken;
+  works = picked-next c.self.view_is c.requires.ready (left-nothing c.self.view_is c.requires.ready c.in_default.not-Kept)
+      c.in_ok-place.ensures.same c.in_ok-place.ensures.taken;
   kept = search rules;
   below = search rules;
   none = tt;
