@@ -344,7 +344,8 @@ given-crew parts old first batch ended line (d ∷ ds) others consumer next plac
       account =
           subst (λ (z : List Desked). Account old now first batch ended (map (λ (d : Desked). d.work) z) (at_turns order next.taken)) (sym gives)
           (subst (λ (z : List ℕ). Account old now first batch ended (given.work ∷ ws) z) (sym took.taken)
-          (account-given old now first batch ended d.work ws (at_turns order consumer.taken) place (All-head (λ (d : Desked). d.work.left ≡ Nothing) d ds none) h.account));
+          (account-given old now first batch ended d.work ws (at_turns order consumer.taken) place
+          (All-head (λ (d : Desked). d.work.left ≡ Nothing) d ds none) h.account));
       table = h.table;
       told = subst (All Told) (sym gives) (All-cons Told given ds (All-head Told d ds h.told) (All-tail Told d ds h.told));
       of_queue = took.queue ∙ h.of_queue;

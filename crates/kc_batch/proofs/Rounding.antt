@@ -154,7 +154,8 @@ module _ (o : Opened) (start log : List Event) (first : ℕ) (batch : List Updat
           as_many = ap suc rest.as_many;
           done =
               All-append (λ d. Contains (all_done (works_at (a ∷ as'))) d ⊎ HasTrueMisses o start log d) b.work.done (all_done (works_at bs))
-              (left-or (HasTrueMisses o start log) a.work.done w.more b.work.done (all_done (works_at as')) w.done (done-later b k.told k.within w.more w.misses))
+              (left-or (HasTrueMisses o start log) a.work.done w.more b.work.done (all_done (works_at as')) w.done
+              (done-later b k.told k.within w.more w.misses))
               (right-or (HasTrueMisses o start log) a.work.done (all_done (works_at as')) (all_done (works_at bs)) rest.done);
           receipts =
               All-append (λ r. Contains (all_receipts (works_at (a ∷ as'))) r ⊎ IsReceiptIn o start log first batch r)

@@ -1,5 +1,6 @@
 -- Places that are taken in turns. Where each place has one turn, what is taken of the turns is taken so of the places.
-use Rattle.std.proofs.Common.{◌≡◌, Bool, ℕ, ◌<◌, ◌≤◌, ◌∷◌, ◌++◌, zero, suc, true, cond, eqb, List, [], get_or, length, inl, inr, refl, sym, ap, ◌∙◌, subst, arith}
+use Rattle.std.proofs.Common.{◌≡◌, Bool, ℕ, ◌<◌, ◌≤◌, ◌∷◌, ◌++◌, zero, suc, true, cond, eqb, List, [], get_or, length, inl, inr, refl, sym, ap, ◌∙◌, subst}
+use Rattle.std.proofs.Common.{arith}
 use Rattle.std.specs.List.Sorted.{IsPermutation}
 use Rattle.std.proofs.lemmas.Bool.{false_from_ne_true, false≢true}
 use Rattle.std.proofs.lemmas.List.{map-append}

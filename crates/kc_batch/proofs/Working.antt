@@ -238,7 +238,8 @@ module _ (o : Opened) (start : List Event) (first : ℕ) (batch : List Update) (
       leaves-untold s place amount seen update receipt kept more told pre legal at cause
 
   -- One step after the other.
-  pub works-trans : (a b c : Seated) → IsPrefix start a.seen.log → Works o start first batch order a b → Works o start first batch order b c → Works o start first batch order a c
+  pub works-trans : (a b c : Seated) → IsPrefix start a.seen.log → Works o start first batch order a b → Works o start first batch order b c
+      → Works o start first batch order a c
   works-trans a b c told h k =
       let later = λ (d : Done) (m : HasTrueMisses o start b.seen.log d).
       misses-stay o start start b.seen.log c.seen.log d k.legal (prefix_self start) (prefix_trans start a.seen.log b.seen.log told h.longer) k.longer m in
@@ -333,7 +334,8 @@ module _ {o : Opened} {start : List Event} {count : ℕ} {s now : Seated} (same 
       (subst (λ (z : List Done). Works o start first batch order s (record s { work = record { done = z; left = Dropped place } })) (sym is)
       (drops o start first batch order s place s.amount s.seen (ap (λ (n : Seated). n.work.left) same ∙ kept) refl (prefix_self s.seen.log) legal-now))
 
-  pub tried : {first : ℕ} {batch : List Update} {order : List ℕ} {place : ℕ} {seen : Seen} {amount : ℕ} {work : Work} → IsTried o first batch s place seen amount work
+  pub tried : {first : ℕ} {batch : List Update} {order : List ℕ} {place : ℕ} {seen : Seen} {amount : ℕ} {work : Work}
+      → IsTried o first batch s place seen amount work
       → Works o start first batch order now (record s { seen = seen; amount = amount; work = work })
   tried {first} {batch} {order} {place} {seen} {amount} {work} t =
       subst (λ (n : Seated). Works o start first batch order n (record s { seen = seen; amount = amount; work = work })) same

@@ -38,7 +38,8 @@ work_off-crew-requires g c κs within =
     let desks = c.args.desks.items in
     let table : parts.journal.levels.table ≡ parts.words =
     subst (λ (p : Parted). p.journal.levels.table ≡ p.words) c.parts.view_is c.parts.invariant.table in
-    let batch = c.args.batch.now in (
+    let batch = c.args.batch.now in
+    let line : Line = record { queue = c.in-Ok.queue; order = c.in-Ok-order_of.order } in (
       within.0,
       (
         within.1,
@@ -49,9 +50,8 @@ work_off-crew-requires g c κs within =
             (
               (refl, refl),
               (
-                crew-start parts c.args.first batch (record { queue = c.in-Ok.queue; order = c.in-Ok-order_of.order }) desks c.in-Ok.consumer table c.requires.told
-                    c.requires.nothing c.in-Ok.ensures.consumer
-                    (subst (λ (n : ℕ). IsWhole n c.in-Ok-order_of.order.items) (omega (arith, c.in-Ok.ensures.count)) c.in-Ok-order_of.ensures.order),
+                crew-start parts c.args.first batch line desks c.in-Ok.consumer table c.requires.told c.requires.nothing c.in-Ok.ensures.consumer
+                    (subst (λ (n : ℕ). IsWhole n line.order.items) (omega (arith, c.in-Ok.ensures.count)) c.in-Ok-order_of.ensures.order),
                 (
                   idle-keeps _ desks c.requires.nothing,
                   (

@@ -35,10 +35,12 @@ work_all-requires-clause-ready g c κs within =
 
 pub gather-requires-clause-seats : goal.gather-requires-clause-seats
 gather-requires-clause-seats g c =
-    let worked = written-all (Steps (opening g) g.K.Name.log c.args.first c.args.batch.now c.args.line.now.order.items) c.hire-seats.result.items c.work_all.new.seats
+    let batch = c.args.batch.now in
+    let line = c.args.line.now in
+    let worked = written-all (Steps (opening g) g.K.Name.log c.args.first batch line.order.items) c.hire-seats.result.items c.work_all.new.seats
     c.hire-seats.result.len c.deref_mut.ensures.value c.work_all.ensures.works (omega (arith, c.hire-seats.result.ok.0)) in
-    subst (All (λ (s : Seated). (s.consumer.queue ≡ c.args.line.now.queue) × (s.consumer.parts ≡ 1))) (sym worked.1)
-    (hired-consumers (opening g) g.K.Name.log g.K.Name.log c.args.first c.args.batch.now c.args.line.now.order.items (length c.args.batch.now) c.args.line.now.queue
+    subst (All (λ (s : Seated). (s.consumer.queue ≡ line.queue) × (s.consumer.parts ≡ 1))) (sym worked.1)
+    (hired-consumers (opening g) g.K.Name.log g.K.Name.log c.args.first batch line.order.items (length batch) line.queue
     c.hire-seats.result.items c.work_all.new.seats worked.0 c.hire-seats.ensures.hired)
 
 pub gather-requires-clause-room : goal.gather-requires-clause-room

@@ -28,7 +28,8 @@ returns-in_err-renew-in-Keeping-clause-cut_short g c =
 
 pub returns-in_default-clause-whole : goal.returns-in_default-clause-whole
 returns-in_default-clause-whole g c = λ e. (
-  subst (λ (z : Consuming). IsWhole c.args.line.now.queue.count (at_turns c.args.line.now.order.items z.taken)) (sym c.in_default.ensures.none) (c.in_default.ensures.all c.requires.1.0.parts),
+  subst (λ (z : Consuming). IsWhole c.args.line.now.queue.count (at_turns c.args.line.now.order.items z.taken)) (sym c.in_default.ensures.none)
+      (c.in_default.ensures.all c.requires.1.0.parts),
   all-free c.args.self.now.desks.items c.in-Free.ensures,
 )
 
