@@ -1,21 +1,79 @@
 //! The order in which the updates of a batch are taken.
-ghost use Rattle.std.specs.Prelude.{◌≡◌, ◌≤◌, IfOk, length};
+//!
+//! Removals come first. The insertions of a large batch are peeled as a graph of their own (Batagelj and Zaversnik 2003), and taken from
+//! the end of that on: so each vertex comes with its edges to those that stay longer, and a plan looks at the vertex that has few edges yet.
+ghost use Rattle.std.specs.Prelude.{◌≡◌, ◌<◌, ◌≤◌, ℕ, All, IfOk, IfSome, length};
 ghost use Rattle.kc_queue.specs.Shares.{IsWhole};
 
-use kc_graph::{NoMemory, Update};
+use kc_graph::{Graph, Lawful, NoMemory, Update, decompose_owned};
 use kc_words::INDICES;
 use std::alloc::Global;
+use std::cmp::Reverse;
 
-/// The places of a batch, in the order in which their updates are taken.
-pub(crate) fn order_of(
-    alloc: Global,
-    _vertices: u32,
-    batch: &[Update],
-) -> Result<Vec<u32>, NoMemory>
-    requires indices { length batch.now ≤ INDICES }
-    ensures order { IfOk result (λ order. IsWhole (length batch.now) order.items) }
+/// A batch is peeled where it has at least one update for each so many vertices. Below that, peeling takes longer than it saves.
+const VERTICES_AN_UPDATE: usize = 16;
+
+/// When an update is taken.
+#[derive(Clone, Copy, Debug, Drop, Eq, Ord, PartialEq, PartialOrd)]
+enum Turn {
+    /// Before all insertions.
+    Removal,
+    /// By the places of the ends in the peeling, the lesser first, from the last places on.
+    Insertion(Reverse<(u32, u32)>),
+}
+
+/// The pairs of ends that a batch joins.
+fn insertions(alloc: Global, batch: &[Update]) -> Result<Vec<(u32, u32)>, NoMemory>
+    ensures within { IfOk result (λ pairs. (n : ℕ) → All (λ u. u.v < n) batch.now → All (λ p. (p.0 < p.1) × (p.1 < n)) pairs.items) }
 {
-    places(alloc, batch.len() as u32)
+    let mut pairs = Vec::new(alloc);
+    for update in batch {
+        if update.add {
+            pairs.push((update.u, update.v))?;
+        }
+    }
+    Ok(pairs)
+}
+
+/// The insertions of a large batch as a graph, with the order in which it is peeled.
+fn peel(alloc: Global, vertices: u32, batch: &[Update]) -> Result<Option<Lawful>, NoMemory>
+    requires within { All (λ u. u.v < vertices) batch.now }
+    ensures size { IfOk result (λ peeled. IfSome peeled (λ p. p.graph.size ≡ vertices)) }
+{
+    if batch.len() < vertices as usize / VERTICES_AN_UPDATE {
+        return Ok(None);
+    }
+    let pairs = insertions(alloc, batch)?;
+    let graph = Graph::from_pairs(alloc, vertices, &pairs)?;
+    Ok(Some(decompose_owned(alloc, graph)?))
+}
+
+/// When an update is taken, by the peeling of its batch if there is one.
+fn turn_of(update: Update, peeled: &Option<Lawful>) -> Turn
+    requires within { IfSome peeled.now (λ p. update.v < p.graph.size) }
+{
+    if !update.add {
+        return Turn::Removal;
+    }
+    match peeled {
+        Some(peeled) => {
+            let (u, v) = (peeled.place(update.u), peeled.place(update.v));
+            Turn::Insertion(Reverse((u.min(v), u.max(v))))
+        }
+        None => Turn::Insertion(Reverse((0, 0))),
+    }
+}
+
+/// When each update of a batch is taken.
+fn turns_of(alloc: Global, vertices: u32, batch: &[Update]) -> Result<Vec<Turn>, NoMemory>
+    requires within { All (λ u. u.v < vertices) batch.now }
+{
+    let peeled = peel(alloc, vertices, batch)?;
+    let mut turns = Vec::new(alloc);
+    for update in batch {
+        turns.push(turn_of(*update, &peeled))?;
+    }
+    Ok(turns)
 }
 
 /// The numbers below `count`, in order.
@@ -27,4 +85,16 @@ fn places(alloc: Global, count: u32) -> Result<Vec<u32>, NoMemory>
         places.push_reserved(place);
     }
     Ok(places)
+}
+
+/// The places of a batch, each once, in the order in which their updates are taken. `NoMemory` comes where there is none for it.
+pub(crate) fn order_of(alloc: Global, vertices: u32, batch: &[Update]) -> Result<Vec<u32>, NoMemory>
+    requires indices { length batch.now ≤ INDICES }
+    requires within { All (λ u. u.v < vertices) batch.now }
+    ensures order { IfOk result (λ order. IsWhole (length batch.now) order.items) }
+{
+    let turns = turns_of(alloc, vertices, batch)?;
+    let mut order = places(alloc, batch.len() as u32)?;
+    order.sort_by_key(|place| turns.get(*place as usize).copied())?;
+    Ok(order)
 }
