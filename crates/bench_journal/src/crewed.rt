@@ -2,13 +2,13 @@
 ghost use Rattle.std.specs.Prelude.{◌≡◌, ◌<◌, ◌≤◌, ◌+◌, All, IfOk, true, length, vec_len};
 ghost use Rattle.kc_queue.specs.declared.consumer.TheConstants.{WORKERS as MOST_WORKERS};
 ghost use Rattle.kc_levels.specs.declared.levels.TheConstants.{LAST_NUMBER as MOST_ENTRIES};
-ghost use Rattle.kc_words.specs.declared.layout.TheConstants.{INDICES as MOST_INDICES};
+ghost use Rattle.kc_words.specs.declared.layout.TheConstants.{INDICES as MOST_INDICES, VERTICES as MOST_VERTICES};
 
 use crate::comparing::{Numbers, has_edges_of};
 use crate::draws::Draws;
 use crate::graphs::{change, draw};
 use anyhow::{Result, bail};
-use kc_batch::run_batch;
+use kc_batch::{BatchDone, run_batch};
 use kc_graph::{Graph, NoMemory, Update, decompose};
 use kc_levels::LAST_NUMBER;
 use kc_queue::WORKERS;
@@ -38,7 +38,8 @@ pub(crate) struct Crewed {
 /// So many workers, who have seen what the pass has; an error where there is no memory for one.
 fn hire(alloc: Global, parts: &Parts, pass: &mut Pass, count: u32) -> Result<Vec<Worker>, NoMemory>
     requires table { pass.old.table ≡ parts.now.words }
-    ensures { IfOk result (λ workers. All (λ w. w.table ≡ parts.now.words) workers.items) }
+    ensures count { IfOk result (λ workers. vec_len workers ≡ count) }
+    ensures table { IfOk result (λ workers. All (λ w. w.table ≡ parts.now.words) workers.items) }
 {
     let mut workers = Vec::new(alloc);
     for _ in 0..count {
@@ -99,17 +100,27 @@ fn follow(graph: &mut Graph, entries: &[Entry]) -> Result<(), NoMemory> {
     Ok(())
 }
 
+/// The parts of a run of this graph, and so many workers.
+fn open_run(alloc: Global, graph: &Graph, count: u32) -> Result<(Parts, Vec<Worker>), NoMemory>
+    requires few { graph.now.size ≤ MOST_VERTICES }
+    ensures count { IfOk result (λ r. vec_len r.1 ≡ count) }
+    ensures table { IfOk result (λ r. All (λ w. w.table ≡ r.0.words) r.1.items) }
+{
+    let (parts, mut pass) = Parts::open(alloc, decompose(alloc, graph)?, 0)?;
+    let workers = hire(alloc, &parts, &mut pass, count)?;
+    Ok((parts, workers))
+}
+
 impl Crewed {
     /// A run of this graph with so many workers.
     pub(crate) fn open(alloc: Global, graph: Graph, count: u32, seed: u64) -> Result<Crewed> {
         if graph.vertices() > VERTICES {
             bail!("too many vertices");
         }
-        let (parts, mut pass) = Parts::open(alloc, decompose(alloc, &graph)?, 0)?;
-        let workers = hire(alloc, &parts, &mut pass, count)?;
-        if workers.is_empty() || workers.len() as u64 > WORKERS {
+        if count == 0 || u64::from(count) > WORKERS {
             bail!("no such number of workers");
         }
+        let (parts, workers) = open_run(alloc, &graph, count)?;
         Ok(Crewed {
             parts,
             workers,
@@ -119,41 +130,90 @@ impl Crewed {
         })
     }
 
-    /// Draws a batch, and has it entered. Answers how long `run_batch` took. It is an error where it is not entered.
-    pub(crate) fn work<R: Threads + Wait + Sync + AllocGlobal + Clock>(
+    /// Draws a batch that the run can enter. It is an error where it can't.
+    fn draw(&mut self, alloc: Global, updates: u32) -> Result<Vec<Update>>
+        ensures indices { IfOk result (λ batch. self.new.next + length batch.items ≤ MOST_INDICES) }
+        ensures within { IfOk result (λ batch. All (λ u. u.v < self.new.parts.words.shape.fixed) batch.items) }
+        ensures numbers { IfOk result (λ batch. length self.new.parts.journal.entries + length batch.items ≤ MOST_ENTRIES) }
+    {
+        let batch = draw_batch(alloc, &mut self.draws, &self.graph, updates)?;
+        if !may_follow(&self.parts, self.next, &batch) {
+            bail!("too many updates");
+        }
+        Ok(batch)
+    }
+
+    /// Has the workers enter a batch. The graph is left as it was.
+    fn enter<R: Threads + Wait + Sync>(
         self,
         rt: &R,
-        updates: u32,
-    ) -> Result<(Crewed, Duration)> {
+        alloc: Global,
+        batch: &[Update],
+    ) -> (Crewed, Result<BatchDone, NoMemory>)
+        requires indices { self.next + length batch.now ≤ MOST_INDICES }
+        requires within { All (λ u. u.v < self.parts.words.shape.fixed) batch.now }
+        requires numbers { length self.parts.journal.entries + length batch.now ≤ MOST_ENTRIES }
+    {
         let Crewed {
             parts,
             mut workers,
-            mut graph,
-            mut draws,
+            graph,
+            draws,
             next,
         } = self;
-        let batch = draw_batch(rt.alloc(), &mut draws, &graph, updates)?;
-        if !may_follow(&parts, next, &batch) {
-            bail!("too many updates");
-        }
-        let before = parts.journal.entries().len();
-        let start = Instant::now(rt)?;
-        let (parts, done) = run_batch(rt, rt.alloc(), parts, &mut workers, next, &batch, &NoGate);
-        let took = start.elapsed(rt)?;
-        done?;
-        let Some(made) = parts.journal.entries().get(before..) else {
-            bail!("entries are lost");
-        };
-        follow(&mut graph, made)?;
-        let next = next + batch.len() as u32;
+        let (parts, done) = run_batch(rt, alloc, parts, &mut workers, next, batch, &NoGate);
         let crewed = Crewed {
             parts,
             workers,
             graph,
             draws,
-            next,
+            next: next + batch.len() as u32,
         };
+        (crewed, done)
+    }
+
+    /// Makes in the graph what was entered after so many entries. Answers how long the entry took, which began then.
+    fn follow<R: Clock>(
+        &mut self,
+        rt: &R,
+        before: usize,
+        start: Instant,
+        done: Result<BatchDone, NoMemory>,
+    ) -> Result<Duration> {
+        let took = start.elapsed(rt)?;
+        done?;
+        let Some(made) = self.parts.journal.entries().get(before..) else {
+            bail!("entries are lost");
+        };
+        follow(&mut self.graph, made)?;
+        Ok(took)
+    }
+
+    /// Has the workers enter a batch, and makes it in the graph. Answers how long `run_batch` took.
+    fn enter_timed<R: Threads + Wait + Sync + AllocGlobal + Clock>(
+        self,
+        rt: &R,
+        batch: &[Update],
+    ) -> Result<(Crewed, Duration)>
+        requires indices { self.next + length batch.now ≤ MOST_INDICES }
+        requires within { All (λ u. u.v < self.parts.words.shape.fixed) batch.now }
+        requires numbers { length self.parts.journal.entries + length batch.now ≤ MOST_ENTRIES }
+    {
+        let before = self.parts.journal.entries().len();
+        let start = Instant::now(rt)?;
+        let (mut crewed, done) = self.enter(rt, rt.alloc(), batch);
+        let took = crewed.follow(rt, before, start, done)?;
         Ok((crewed, took))
+    }
+
+    /// Draws a batch, and has it entered. Answers how long `run_batch` took. It is an error where it is not entered.
+    pub(crate) fn work<R: Threads + Wait + Sync + AllocGlobal + Clock>(
+        mut self,
+        rt: &R,
+        updates: u32,
+    ) -> Result<(Crewed, Duration)> {
+        let batch = self.draw(rt.alloc(), updates)?;
+        self.enter_timed(rt, &batch)
     }
 
     /// It is an error where the journal has other neighbours, core numbers or totals than the graph, or an order that does not certify them.

@@ -114,15 +114,9 @@ fn make_updates(rt: &HostRuntime, both: &mut Both, between: u32) -> Result<Count
     Ok(counted)
 }
 
-/// Measures updates of a graph, and writes what was counted.
-fn measure(rt: &HostRuntime, graph: Graph, between: u32) -> Result<Counted> {
-    println!(rt;
-        "graph vertices {} edges {}",
-        graph.vertices(),
-        graph.edges()
-    )?;
-    let mut both = Both::open(rt, graph, SEED)?;
-    let counted = make_updates(rt, &mut both, between)?;
+/// Makes the updates, and writes what was counted.
+fn measure_both(rt: &HostRuntime, both: &mut Both, between: u32) -> Result<Counted> {
+    let counted = make_updates(rt, both, between)?;
     println!(rt;
         "updates {UPDATES}, applied {}, compared {}, edges {}, top {}",
         counted.applied,
@@ -131,6 +125,31 @@ fn measure(rt: &HostRuntime, graph: Graph, between: u32) -> Result<Counted> {
         both.top()
     )?;
     Ok(counted)
+}
+
+/// Measures updates of a graph, and writes what was counted.
+fn measure(rt: &HostRuntime, graph: Graph, between: u32) -> Result<Counted> {
+    println!(rt;
+        "graph vertices {} edges {}",
+        graph.vertices(),
+        graph.edges()
+    )?;
+    let mut both = Both::open(rt, graph, SEED)?;
+    measure_both(rt, &mut both, between)
+}
+
+/// Has the workers enter a batch, and compares after it where that is asked for.
+fn enter_one<R: Threads + Wait + Sync + AllocGlobal + Clock>(
+    rt: &R,
+    crewed: Crewed,
+    updates: u32,
+    is_compared: bool,
+) -> Result<(Crewed, Duration)> {
+    let (crewed, took) = crewed.work(rt, updates)?;
+    if is_compared {
+        crewed.compare(rt.alloc())?;
+    }
+    Ok((crewed, took))
 }
 
 /// Has the workers enter the batches one after another, with a comparison after each so many of them. Answers how many updates were entered,
@@ -144,12 +163,10 @@ fn enter_batches<R: Threads + Wait + Sync + AllocGlobal + Clock>(
     let mut crewed = Crewed::open(rt.alloc(), graph, load.workers, SEED)?;
     let mut took = Duration::ZERO;
     for batch in 0..load.batches {
-        let (worked, time) = crewed.work(rt, load.updates)?;
+        let is_compared = (batch + 1).is_multiple_of(between);
+        let (worked, time) = enter_one(rt, crewed, load.updates, is_compared)?;
         crewed = worked;
         took = took.saturating_add(time);
-        if (batch + 1).is_multiple_of(between) {
-            crewed.compare(rt.alloc())?;
-        }
     }
     Ok((crewed.entered(), took))
 }

@@ -138,6 +138,28 @@ impl<'a, K: Name> Worker<'a, K> {
         }
         Ok(differing)
     }
+
+    /// Plans the updates, and compares each plan with that over a plain view of the state. Gives what came of it.
+    fn plan_all<R: Wait + AllocGlobal + Clock>(
+        &mut self,
+        rt: &R,
+        state: &Lawful,
+        updates: &[Update],
+    ) -> io::Result<Planned> {
+        let start = Instant::now(rt)?;
+        let asked = self
+            .plan_updates(rt, rt.alloc(), updates)
+            .map_err(error_of)?;
+        let took = start.elapsed(rt)?;
+        let differing = self
+            .count_differing(rt, rt.alloc(), state, updates)
+            .map_err(error_of)?;
+        Ok(Planned {
+            asked,
+            differing,
+            took,
+        })
+    }
 }
 
 /// A plan of an update over a plain view, by the planner that it is for.
@@ -161,6 +183,38 @@ fn error_of(fault: PlanFault) -> io::Error {
     }
 }
 
+/// What plans over loose views came to, and how long they took.
+#[derive(Clone, Copy, Drop)]
+struct Planned {
+    asked: Asked,
+    differing: u64,
+    took: Duration,
+}
+
+/// The stripes of a table at rest, how many they are, and how long they took to open.
+fn open_at_rest<K: Name, R: AllocGlobal + Clock>(
+    rt: &R,
+    words: &Words,
+    pass: &mut Pass,
+    journal: &Journal,
+) -> io::Result<(Stripes<K>, u64, Duration)>
+    requires table { (words.now ≡ K.table) × (pass.old.table ≡ K.table) × (journal.now.levels.table ≡ K.table) }
+    requires opened { (journal.now.graph ≡ K.opening_edges) × (journal.now.edge_stamps ≡ K.opening_stamps) }
+    requires early { (v : ℕ) → v < journal.now.graph.size → slice_index journal.now.edge_stamps v ≤ K.table.shape.base }
+    ensures { pass.new.table ≡ K.table }
+{
+    let alloc = rt.alloc();
+    journal.look();
+    let start = Instant::now(rt)?;
+    let stripes = open_stripes(alloc, words, pass, journal.graph(), journal.edge_stamps())?;
+    let opening = start.elapsed(rt)?;
+    let count = stripes.len() as u64;
+    match Stripes::<K>::new(alloc, stripes) {
+        Ok(stripes) => Ok((stripes, count, opening)),
+        Err(_) => Err(NoMemory.into()),
+    }
+}
+
 /// Opens the stripes of a table at rest, and plans the updates over loose views of them and over a plain view of the state.
 fn compare_at_rest<K: Name, R: Wait + AllocGlobal + Clock>(
     rt: &R,
@@ -174,35 +228,34 @@ fn compare_at_rest<K: Name, R: Wait + AllocGlobal + Clock>(
     requires opened { (journal.now.graph ≡ K.opening_edges) × (journal.now.edge_stamps ≡ K.opening_stamps) }
     requires early { (v : ℕ) → v < journal.now.graph.size → slice_index journal.now.edge_stamps v ≤ K.table.shape.base }
 {
-    let alloc = rt.alloc();
-    journal.look();
-    let start = Instant::now(rt)?;
-    let stripes = open_stripes(
-        alloc,
-        words,
-        &mut pass,
-        journal.graph(),
-        journal.edge_stamps(),
-    )?;
-    let opening = start.elapsed(rt)?;
-    let count = stripes.len() as u64;
-    let Ok(stripes) = Stripes::<K>::new(alloc, stripes) else {
-        return Err(NoMemory.into());
-    };
-    let mut worker = Worker::new(alloc, words, &stripes, pass)?;
-    let start = Instant::now(rt)?;
-    let asked = worker.plan_updates(rt, alloc, updates).map_err(error_of)?;
-    let planning = start.elapsed(rt)?;
-    let differing = worker
-        .count_differing(rt, alloc, state, updates)
-        .map_err(error_of)?;
+    let (stripes, count, opening) = open_at_rest::<K, R>(rt, words, &mut pass, journal)?;
+    let Planned {
+        asked,
+        differing,
+        took,
+    } = plan_at_rest(rt, words, &stripes, pass, state, updates)?;
     Ok(Compared {
         asked,
         differing,
         stripes: count,
         opening,
-        planning,
+        planning: took,
     })
+}
+
+/// Plans the updates over loose views of the stripes, and over a plain view of the state.
+fn plan_at_rest<K: Name, R: Wait + AllocGlobal + Clock>(
+    rt: &R,
+    words: &Words,
+    stripes: &Stripes<K>,
+    pass: Pass,
+    state: &Lawful,
+    updates: &[Update],
+) -> io::Result<Planned>
+    requires table { (words.now ≡ K.table) × (pass.table ≡ K.table) }
+{
+    let mut worker = Worker::new(rt.alloc(), words, stripes, pass)?;
+    worker.plan_all(rt, state, updates)
 }
 
 /// Opens a table in the state of a graph, and plans the updates over loose views of it and over a plain view of the state, each in that

@@ -8,6 +8,9 @@
 //! is not, the program says so and fails.
 #![tactic(auto)]
 
+ghost use Rattle.std.specs.Prelude.{◌≡◌};
+ghost use Rattle.kc_view.specs.Answers.{nothing_answered};
+
 mod draws;
 mod graphs;
 mod loose;
@@ -15,13 +18,14 @@ mod plans;
 mod same;
 mod small;
 
-use crate::graphs::{graph_of, insertions, read_edges, removals};
+use crate::graphs::{Edges, graph_of, insertions, read_edges, removals};
 use crate::loose::compare;
 use crate::plans::{Asked, plan_insertions, plan_removals};
 use crate::small::compare_small;
 use kc_cert::check;
 use kc_graph::{Graph, Lawful, Update, decompose};
 use kc_view::{PlainView, PlanFault};
+use std::alloc::Global;
 use std::rt::Clock;
 use std::sync::Wait;
 use std::time::{Duration, Instant};
@@ -64,9 +68,24 @@ fn report<R: Print>(
 }
 
 /// Decomposes the graph, and checks what came of it.
-fn measure_check(rt: &HostRuntime, size: &Size, graph: &Graph) -> io::Result<()> {
+fn measure_check<R: AllocGlobal + Clock + Print>(
+    rt: &R,
+    size: &Size,
+    graph: &Graph,
+) -> io::Result<()> {
     let start = Instant::now(rt)?;
     let state = decompose(rt.alloc(), graph)?;
+    report_check(rt, size, graph, &state, start)
+}
+
+/// Writes how long a decomposition took that began then, and checks what came of it.
+fn report_check<R: AllocGlobal + Clock + Print>(
+    rt: &R,
+    size: &Size,
+    graph: &Graph,
+    state: &Lawful,
+    start: Instant,
+) -> io::Result<()> {
     let took = start.elapsed(rt)?;
     let top = state.core().iter().copied().max().unwrap_or(0);
     report(
@@ -127,21 +146,45 @@ struct Updates {
     removed: Vec<Update>,
 }
 
+/// Plans insertions over a view, and writes what they asked.
+fn report_insertions<R: AllocGlobal + Clock + Print>(
+    rt: &R,
+    size: &Size,
+    view: &mut PlainView,
+    updates: &[Update],
+) -> io::Result<()>
+    requires { view.old.kept ≡ nothing_answered }
+{
+    let start = Instant::now(rt)?;
+    let asked = plan_insertions(rt.alloc(), view, updates);
+    report_plans(rt, size, "insertions planned", &asked, start.elapsed(rt)?)
+}
+
+/// Plans removals over a view, and writes what they asked.
+fn report_removals<R: AllocGlobal + Clock + Print>(
+    rt: &R,
+    size: &Size,
+    view: &mut PlainView,
+    updates: &[Update],
+) -> io::Result<()>
+    requires { view.old.kept ≡ nothing_answered }
+{
+    let start = Instant::now(rt)?;
+    let asked = plan_removals(rt.alloc(), view, updates);
+    report_plans(rt, size, "removals planned", &asked, start.elapsed(rt)?)
+}
+
 /// Plans insertions and removals, each in the state of the graph.
-fn measure_plans(
-    rt: &HostRuntime,
+fn measure_plans<R: AllocGlobal + Clock + Print>(
+    rt: &R,
     size: &Size,
     updates: &Updates,
     state: &Lawful,
 ) -> io::Result<()> {
     let mut view = PlainView::new(rt.alloc(), state)?;
-    let start = Instant::now(rt)?;
-    let asked = plan_insertions(rt.alloc(), &mut view, &updates.added);
-    report_plans(rt, size, "insertions planned", &asked, start.elapsed(rt)?)?;
+    report_insertions(rt, size, &mut view, &updates.added)?;
     let mut view = PlainView::new(rt.alloc(), state)?;
-    let start = Instant::now(rt)?;
-    let asked = plan_removals(rt.alloc(), &mut view, &updates.removed);
-    report_plans(rt, size, "removals planned", &asked, start.elapsed(rt)?)
+    report_removals(rt, size, &mut view, &updates.removed)
 }
 
 /// Plans updates over loose views of a table that opened with the graph. Gives how many of the plans are not those over a plain view.
@@ -197,40 +240,109 @@ fn is_timed(rt: &HostRuntime) -> io::Result<bool> {
     )
 }
 
-fn main(rt: HostRuntime) -> io::Result<()> {
-    let size = if is_timed(&rt)? { LARGE } else { SMALL };
-    let Some(edges) = read_edges(rt.alloc(), &mut rt.stdin())? else {
-        return println!(rt; "not the text of a graph");
-    };
-    let graph = graph_of(rt.alloc(), &edges)?;
+/// Updates that are drawn for a graph with these edges.
+fn draw_updates(alloc: Global, size: &Size, graph: &Graph, edges: &Edges) -> io::Result<Updates> {
+    let added = insertions(alloc, graph, size.plans)?;
+    let removed = removals(alloc, edges, size.plans)?;
+    Ok(Updates { added, removed })
+}
+
+/// Decomposes the graph round by round, and checks what came of it.
+fn measure_checks<R: AllocGlobal + Clock + Print>(
+    rt: &R,
+    size: &Size,
+    graph: &Graph,
+) -> io::Result<()> {
+    for _ in 0..size.rounds {
+        measure_check(rt, size, graph)?;
+    }
+    Ok(())
+}
+
+/// Plans the updates round by round. Gives how many of the loose plans are no plain ones.
+fn measure_rounds<R: Wait + AllocGlobal + Clock + Print>(
+    rt: &R,
+    size: &Size,
+    graph: &Graph,
+    updates: &Updates,
+    state: &Lawful,
+) -> io::Result<u64> {
+    let mut differing = 0u64;
+    for _ in 0..size.rounds {
+        measure_plans(rt, size, updates, state)?;
+        let found = measure_at_rest(rt, size, graph, updates)?;
+        differing = differing.saturating_add(found);
+    }
+    Ok(differing)
+}
+
+/// Draws updates of the graph, and plans them. Gives how many of the loose plans are no plain ones.
+fn measure_updates<R: Wait + AllocGlobal + Clock + Print>(
+    rt: &R,
+    size: &Size,
+    graph: &Graph,
+    edges: &Edges,
+) -> io::Result<u64> {
+    let updates = draw_updates(rt.alloc(), size, graph, edges)?;
+    let state = decompose(rt.alloc(), graph)?;
+    measure_rounds(rt, size, graph, &updates, &state)
+}
+
+/// Measures all that there is of a graph. Gives how many of the loose plans are no plain ones.
+fn measure_graph<R: Wait + AllocGlobal + Clock + Print>(
+    rt: &R,
+    size: &Size,
+    graph: &Graph,
+    edges: &Edges,
+) -> io::Result<u64> {
     println!(rt;
         "graph vertices {} edges {}",
         graph.vertices(),
         graph.edges()
     )?;
-    for _ in 0..size.rounds {
-        measure_check(&rt, &size, &graph)?;
-    }
-    let state = decompose(rt.alloc(), &graph)?;
-    let updates = Updates {
-        added: insertions(rt.alloc(), state.graph(), size.plans)?,
-        removed: removals(rt.alloc(), &edges, size.plans)?,
-    };
-    let mut differing = 0u64;
-    for _ in 0..size.rounds {
-        measure_plans(&rt, &size, &updates, &state)?;
-        let found = measure_at_rest(&rt, &size, &graph, &updates)?;
-        differing = differing.saturating_add(found);
-    }
-    let small = compare_small(&rt)?;
+    measure_checks(rt, size, graph)?;
+    measure_updates(rt, size, graph, edges)
+}
+
+/// Compares plans for all small graphs. Gives how many of the loose plans are no plain ones.
+fn report_small<R: Wait + AllocGlobal + Clock + Print>(rt: &R) -> io::Result<u64> {
+    let small = compare_small(rt)?;
     println!(rt;
         "small graphs: {}, updates planned loosely: {}",
         small.graphs, small.plans
     )?;
-    differing = differing.saturating_add(small.differing);
+    Ok(small.differing)
+}
+
+/// Measures all that there is of the graph with these edges. Gives how many of the loose plans are no plain ones.
+fn measure_edges<R: Wait + AllocGlobal + Clock + Print>(
+    rt: &R,
+    size: &Size,
+    edges: &Edges,
+) -> io::Result<u64> {
+    let graph = graph_of(rt.alloc(), edges)?;
+    measure_graph(rt, size, &graph, edges)
+}
+
+/// Measures the graph with these edges and all small graphs. It is an error where a loose plan is no plain one.
+fn measure<R: Wait + AllocGlobal + Clock + Print>(
+    rt: &R,
+    size: &Size,
+    edges: &Edges,
+) -> io::Result<()> {
+    let large = measure_edges(rt, size, edges)?;
+    let differing = large.saturating_add(report_small(rt)?);
     println!(rt; "loose plans that are no plain ones: {differing}")?;
     if differing > 0 {
         return Err(io::ErrorKind::Other.into());
     }
     Ok(())
+}
+
+fn main(rt: HostRuntime) -> io::Result<()> {
+    let size = if is_timed(&rt)? { LARGE } else { SMALL };
+    match read_edges(rt.alloc(), &mut rt.stdin())? {
+        Some(edges) => measure(&rt, &size, &edges),
+        None => println!(rt; "not the text of a graph"),
+    }
 }

@@ -58,22 +58,44 @@ fn updates_of(alloc: Global, vertices: u32) -> Result<Vec<Update>, NoMemory> {
 }
 
 impl Small {
-    /// Compares the plans of all updates of each graph of some vertices, up to this number.
+    /// Compares the plans of the updates of a graph.
+    fn compare_graph<R: Wait + AllocGlobal + Clock>(
+        &mut self,
+        rt: &R,
+        graph: &Graph,
+        updates: &[Update],
+    ) -> io::Result<()> {
+        let compared = compare(rt, graph, updates)?;
+        self.graphs = self.graphs.wrapping_add(1);
+        self.plans = self.plans.wrapping_add(compared.asked.plans);
+        self.differing = self.differing.wrapping_add(compared.differing);
+        Ok(())
+    }
+
+    /// Compares the plans of the updates of each graph of some vertices, up to this number.
     fn compare_graphs<R: Wait + AllocGlobal + Clock>(
+        &mut self,
+        rt: &R,
+        vertices: u32,
+        graphs: u32,
+        updates: &[Update],
+    ) -> io::Result<()> {
+        for number in 0..graphs {
+            let graph = numbered_graph(rt.alloc(), vertices, number)?;
+            self.compare_graph(rt, &graph, updates)?;
+        }
+        Ok(())
+    }
+
+    /// Compares the plans of all updates of each graph of some vertices, up to this number.
+    fn compare_all<R: Wait + AllocGlobal + Clock>(
         &mut self,
         rt: &R,
         vertices: u32,
         graphs: u32,
     ) -> io::Result<()> {
         let updates = updates_of(rt.alloc(), vertices)?;
-        for number in 0..graphs {
-            let graph = numbered_graph(rt.alloc(), vertices, number)?;
-            let compared = compare(rt, &graph, &updates)?;
-            self.graphs = self.graphs.wrapping_add(1);
-            self.plans = self.plans.wrapping_add(compared.asked.plans);
-            self.differing = self.differing.wrapping_add(compared.differing);
-        }
-        Ok(())
+        self.compare_graphs(rt, vertices, graphs, &updates)
     }
 }
 
@@ -81,7 +103,7 @@ impl Small {
 /// pairs.
 pub(crate) fn compare_small<R: Wait + AllocGlobal + Clock>(rt: &R) -> io::Result<Small> {
     let mut small = Small::default();
-    small.compare_graphs(rt, 4, 1 << 6)?;
-    small.compare_graphs(rt, 5, 1 << 10)?;
+    small.compare_all(rt, 4, 1 << 6)?;
+    small.compare_all(rt, 5, 1 << 10)?;
     Ok(small)
 }
