@@ -1,5 +1,5 @@
 //! Batches worked out by hand, on the run that begins with the edges 0 1 and 2 3: all core numbers are 1, and the order is 0, 1, 2, 3.
-ghost use Rattle.std.specs.Prelude.{◌<◌, ◌≤◌, All};
+ghost use Rattle.std.specs.Prelude.{◌≡◌, ◌<◌, ◌≤◌, All, IfOk};
 
 use crate::runs::{FIRST, enter_all, open};
 use kc_batch::BatchDone;
@@ -7,6 +7,7 @@ use kc_graph::{Graph, Update};
 use kc_shared::Parts;
 use kc_words::LAST_VERSION;
 use kc_workers::{Gate, NoGate, Share};
+use std::alloc::Global;
 use std::process::Abort;
 use std::sync::Wait;
 use std::sync::atomic::{AtomicU64, Ordering};
@@ -16,6 +17,16 @@ use std::thread::Threads;
 
 /// How often a worker looks whether the other one has come.
 const TURNS: u32 = 100_000_000;
+
+/// The graph of the two edges.
+fn two_edges(alloc: Global) -> Result<Graph, Fail>
+    ensures { IfOk result (λ graph. graph.size ≡ 4) }
+{
+    let mut graph = Graph::new(alloc, 4)?;
+    graph.add(0, 1)?;
+    graph.add(2, 3)?;
+    Ok(graph)
+}
 
 /// A batch on the two edges, whose table opens with this version, by so many workers.
 fn work<G: Gate + Sync, R: Threads + Wait + Sync + Abort + AllocGlobal>(
@@ -28,10 +39,7 @@ fn work<G: Gate + Sync, R: Threads + Wait + Sync + Abort + AllocGlobal>(
     requires version { version ≤ LAST_VERSION }
     requires within { All (λ u. u.v < 4) batch.now }
 {
-    let mut graph = Graph::new(rt.alloc(), 4)?;
-    graph.add(0, 1)?;
-    graph.add(2, 3)?;
-    let (parts, workers) = open(rt, graph, count, version)?;
+    let (parts, workers) = open(rt, two_edges(rt.alloc())?, count, version)?;
     enter_all(rt, parts, workers, 4, batch, gate)
 }
 
@@ -53,9 +61,19 @@ fn circle() -> [Update; 2]
     ]
 }
 
+/// The run has these vertices in this order.
+fn assert_order<R: Abort + AllocGlobal>(
+    rt: &R,
+    parts: &Parts,
+    wanted: [u32; 4],
+) -> Result<(), Fail> {
+    let order = parts.journal.order(rt.alloc())?;
+    assert_eq!(rt; order.as_slice(), wanted.as_slice());
+    Ok(())
+}
+
 #[test]
 fn one_worker_goes_on_in_a_fresh_table(rt: HostRuntime) -> Result<(), Fail> {
-    let alloc = rt.alloc();
     let batch = [Update {
         add: true,
         u: 0,
@@ -63,9 +81,7 @@ fn one_worker_goes_on_in_a_fresh_table(rt: HostRuntime) -> Result<(), Fail> {
     }];
     let (parts, done) = work(&rt, 1, LAST_VERSION - 1, &batch, &NoGate)?;
     assert_eq!(rt; done.ended.len(), 1);
-    let order = parts.journal.order(alloc)?;
-    assert_eq!(rt; order.as_slice(), [1, 0, 2, 3].as_slice());
-    Ok(())
+    assert_order(&rt, &parts, [1, 0, 2, 3])
 }
 
 #[test]
@@ -82,6 +98,17 @@ struct Meeting {
     calls: [AtomicU64; 2],
     workers: [AtomicU64; 2],
     met: AtomicU64,
+}
+
+impl Meeting {
+    /// Nobody has come yet.
+    fn new() -> Meeting {
+        Meeting {
+            calls: [AtomicU64::new(0), AtomicU64::new(0)],
+            workers: [AtomicU64::new(0), AtomicU64::new(0)],
+            met: AtomicU64::new(0),
+        }
+    }
 }
 
 impl Gate for Meeting {
@@ -114,11 +141,7 @@ fn assert_called<R: Abort>(rt: &R, meeting: &Meeting, share: &Share) {
 
 #[test]
 fn two_workers_meet_before_they_enter(rt: HostRuntime) -> Result<(), Fail> {
-    let meeting = Meeting {
-        calls: [AtomicU64::new(0), AtomicU64::new(0)],
-        workers: [AtomicU64::new(0), AtomicU64::new(0)],
-        met: AtomicU64::new(0),
-    };
+    let meeting = Meeting::new();
     let (parts, done) = work(&rt, 2, 0, &circle(), &meeting)?;
     assert_eq!(rt; meeting.met.load(Ordering::SeqCst), 2);
     for share in &done.shares {

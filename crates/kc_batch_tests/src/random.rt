@@ -2,6 +2,7 @@
 ghost use Rattle.std.specs.Prelude.{◌<◌, ◌≤◌, All, IfOk};
 
 use crate::runs::{enter_all, open};
+use kc_batch::BatchDone;
 use kc_graph::{Graph, Update, decompose_owned};
 use kc_shared::Parts;
 use kc_table::Entry;
@@ -62,9 +63,8 @@ fn drawn_batch(alloc: Global, seed: u64) -> Result<Vec<Update>, Fail>
     Ok(batch)
 }
 
-/// The graph that the entries make of an empty one.
-fn replayed<R: Abort>(rt: &R, alloc: Global, entries: &[Entry]) -> Result<Graph, Fail> {
-    let mut graph = Graph::new(alloc, VERTICES)?;
+/// Makes the changes of the entries.
+fn replay<R: Abort>(rt: &R, graph: &mut Graph, entries: &[Entry]) -> Result<(), Fail> {
     for entry in entries {
         assert!(rt; entry.u < entry.v && entry.v < graph.vertices());
         if entry.add {
@@ -73,6 +73,13 @@ fn replayed<R: Abort>(rt: &R, alloc: Global, entries: &[Entry]) -> Result<Graph,
             graph.remove(entry.u, entry.v);
         }
     }
+    Ok(())
+}
+
+/// The graph that the entries make of an empty one.
+fn replayed<R: Abort>(rt: &R, alloc: Global, entries: &[Entry]) -> Result<Graph, Fail> {
+    let mut graph = Graph::new(alloc, VERTICES)?;
+    replay(rt, &mut graph, entries)?;
     Ok(graph)
 }
 
@@ -84,7 +91,20 @@ fn assert_replayed<R: Abort + AllocGlobal>(rt: &R, parts: &Parts) -> Result<(), 
     Ok(())
 }
 
-/// A batch on an empty graph whose table opens with this version, by so many workers. Gives how many tables were ended.
+/// A batch on an empty graph whose table opens with this version, by so many workers.
+fn entered<R: Threads + Wait + Sync + Abort + AllocGlobal>(
+    rt: &R,
+    count: u32,
+    version: u32,
+) -> Result<(Parts, BatchDone), Fail>
+    requires { version ≤ LAST_VERSION }
+{
+    let batch = drawn_batch(rt.alloc(), u64::from(count))?;
+    let (parts, workers) = open(rt, Graph::new(rt.alloc(), VERTICES)?, count, version)?;
+    enter_all(rt, parts, workers, VERTICES, &batch, &NoGate)
+}
+
+/// Each update of such a batch has its entry, and each worker its share. Gives how many tables were ended.
 fn work<R: Threads + Wait + Sync + Abort + AllocGlobal>(
     rt: &R,
     count: u32,
@@ -92,10 +112,7 @@ fn work<R: Threads + Wait + Sync + Abort + AllocGlobal>(
 ) -> Result<usize, Fail>
     requires { version ≤ LAST_VERSION }
 {
-    let alloc = rt.alloc();
-    let (parts, workers) = open(rt, Graph::new(alloc, VERTICES)?, count, version)?;
-    let batch = drawn_batch(alloc, u64::from(count))?;
-    let (parts, done) = enter_all(rt, parts, workers, VERTICES, &batch, &NoGate)?;
+    let (parts, done) = entered(rt, count, version)?;
     assert_eq!(rt; parts.journal.entries().len(), UPDATES as usize);
     assert_eq!(rt; done.shares.len(), count as usize);
     assert_replayed(rt, &parts)?;

@@ -16,6 +16,18 @@ use std::thread::Threads;
 /// The index of the first update of a batch.
 pub(crate) const FIRST: u32 = 7;
 
+/// A worker that has seen what the pass has.
+fn hired_one(alloc: Global, words: &Words, pass: &mut Pass) -> Result<Worker, Fail>
+    requires { pass.old.table ≡ words.now }
+    ensures pass { pass.new.table ≡ words.now }
+    ensures worker { IfOk result (λ worker. worker.table ≡ words.now) }
+{
+    match Worker::new(alloc, words, split(words, pass)) {
+        Ok(worker) => Ok(worker),
+        Err(_) => Err("no memory".into()),
+    }
+}
+
 /// So many workers that have seen what the pass has.
 fn hired(alloc: Global, words: &Words, pass: &mut Pass, count: u32) -> Result<Vec<Worker>, Fail>
     requires { pass.old.table ≡ words.now }
@@ -23,11 +35,7 @@ fn hired(alloc: Global, words: &Words, pass: &mut Pass, count: u32) -> Result<Ve
 {
     let mut workers = Vec::new(alloc);
     for _ in 0..count {
-        let own = split(words, pass);
-        let Ok(worker) = Worker::new(alloc, words, own) else {
-            return Err("no memory".into());
-        };
-        workers.push(worker)?;
+        workers.push(hired_one(alloc, words, pass)?)?;
     }
     Ok(workers)
 }

@@ -1,18 +1,37 @@
 //! A run that is closed after one worker has entered an update.
-ghost use Rattle.std.specs.Prelude.{◌≡◌};
+ghost use Rattle.std.specs.Prelude.{◌≡◌, IfOk};
 
 use crate::runs::run_of;
 use crate::worker::Worker;
-use kc_graph::Update;
+use kc_graph::{Lawful, Update};
 use kc_shared::{Parts, Shared};
 use kc_table::{Name, Pass, shape};
 use std::marker::Brand;
 use std::process::Abort;
 use std::sync::Wait;
-use std::sync::ledger::{Blank, Ledger};
+use std::sync::ledger::{Blank, Ledger, Share};
 use std::test::Fail;
 
-/// One worker enters an update, and gives the parts again with its pass.
+/// One worker enters an update, and gives its pass and its part again.
+fn enter_by_one<K: Name + Ledger, R: Wait + Abort + AllocGlobal>(
+    rt: &R,
+    shared: &Shared<K>,
+    pass: Pass,
+    part: Share<K>,
+    update: Update,
+) -> Result<(Pass, Share<K>), Fail>
+    requires table { pass.table ≡ K.table }
+    requires part { part.parts ≡ 1 }
+    ensures { IfOk result (λ r. r.1.parts ≡ 1) }
+{
+    assert!(rt; update.v < shape(&shared.words).fixed);
+    let mut worker = Worker::hire(rt, &shared.words, pass, part)?;
+    worker.enter_at_last(rt, shared, 0, update);
+    let Worker { pass, part, .. } = worker;
+    Ok((pass, part))
+}
+
+/// The same in a run that nobody else has a part of, which gives its parts again.
 fn enter_alone<K: Name + Ledger, R: Wait + Abort + AllocGlobal>(
     rt: &R,
     parts: Parts,
@@ -26,14 +45,24 @@ fn enter_alone<K: Name + Ledger, R: Wait + Abort + AllocGlobal>(
     requires now { (parts.journal.levels.log ≡ K.log) × (parts.journal.entries ≡ K.entries) }
     requires ledger { (blank.name ≡ K.name) × (blank.parts ≡ K.parts) × (K.parts ≡ 1) }
 {
-    assert!(rt; update.v < shape(&parts.words).fixed);
     let Ok((shared, part)) = Shared::<K>::new(rt.alloc(), parts, blank) else {
         return Err("no memory".into());
     };
-    let mut worker = Worker::hire(rt, &shared.words, pass, part)?;
-    worker.enter_at_last(rt, &shared, 0, update);
-    let Worker { pass, part, .. } = worker;
+    let (pass, part) = enter_by_one(rt, &shared, pass, part, update)?;
     Ok((shared.into_parts(part), pass))
+}
+
+/// The state of a run that is closed with one pass.
+fn closed<R: AllocGlobal>(rt: &R, parts: Parts, pass: Pass) -> Result<Lawful, Fail> {
+    let passes = vec![in rt.alloc(); pass]?;
+    Ok(parts.close(rt.alloc(), passes)?)
+}
+
+/// The state has five edges among four vertices, each of core number 2, in ascending order.
+fn assert_five_edges<R: Abort>(rt: &R, lawful: &Lawful) {
+    assert_eq!(rt; lawful.graph().edges(), 5);
+    assert_eq!(rt; lawful.core(), [2, 2, 2, 2].as_slice());
+    assert_eq!(rt; lawful.order(), [0, 1, 2, 3].as_slice());
 }
 
 #[test]
@@ -46,10 +75,6 @@ fn a_run_that_is_closed_gives_what_its_journal_has(rt: HostRuntime) -> Result<()
         v: 1,
     };
     let (parts, pass) = enter_alone::<Brand, _>(&rt, parts, pass, Blank::new(1), removal)?;
-    let passes = vec![in rt.alloc(); pass]?;
-    let lawful = parts.close(rt.alloc(), passes)?;
-    assert_eq!(rt; lawful.graph().edges(), 5);
-    assert_eq!(rt; lawful.core(), [2, 2, 2, 2].as_slice());
-    assert_eq!(rt; lawful.order(), [0, 1, 2, 3].as_slice());
+    assert_five_edges(&rt, &closed(&rt, parts, pass)?);
     Ok(())
 }

@@ -11,7 +11,7 @@ use kc_words::INDICES;
 use std::marker::Brand;
 use std::process::Abort;
 use std::sync::Wait;
-use std::sync::ledger::{Blank, Ledger};
+use std::sync::ledger::{Blank, Ledger, Share};
 use std::test::Fail;
 
 /// A plan that is overtaken: `late` is planned, and then `early` is entered, with this number. The plan is refused so.
@@ -57,7 +57,29 @@ fn overtake<K: Name + Ledger, R: Wait + Abort + AllocGlobal>(
     assert_eq!(rt; worker.enter(rt, shared, 1, &anew), applied(1, place + 1));
 }
 
-/// One worker does so, and gives the parts again with its pass.
+/// One worker does so, and gives its pass and its part again.
+fn overtake_by_one<K: Name + Ledger, R: Wait + Abort + AllocGlobal>(
+    rt: &R,
+    shared: &Shared<K>,
+    pass: Pass,
+    part: Share<K>,
+    overtaken: Overtaken,
+) -> Result<(Pass, Share<K>), Fail>
+    requires table { pass.table ≡ K.table }
+    requires part { part.parts ≡ 1 }
+    ensures { IfOk result (λ r. (r.0.table ≡ K.table) × (r.1.parts ≡ 1)) }
+{
+    let vertices = shape(&shared.words).fixed;
+    assert!(rt;
+        overtaken.late.v < vertices && overtaken.early.v < vertices && overtaken.place < INDICES
+    );
+    let mut worker = Worker::hire(rt, &shared.words, pass, part)?;
+    overtake(rt, shared, &mut worker, overtaken);
+    let Worker { pass, part, .. } = worker;
+    Ok((pass, part))
+}
+
+/// The same in a run that nobody else has a part of, which gives its parts again.
 fn overtake_alone<K: Name + Ledger, R: Wait + Abort + AllocGlobal>(
     rt: &R,
     parts: Parts,
@@ -72,20 +94,14 @@ fn overtake_alone<K: Name + Ledger, R: Wait + Abort + AllocGlobal>(
     requires ledger { (blank.name ≡ K.name) × (blank.parts ≡ K.parts) × (K.parts ≡ 1) }
     ensures { IfOk result (λ r. r.1.table ≡ r.0.words) }
 {
-    let vertices = shape(&parts.words).fixed;
-    assert!(rt;
-        overtaken.late.v < vertices && overtaken.early.v < vertices && overtaken.place < INDICES
-    );
     let Ok((shared, part)) = Shared::<K>::new(rt.alloc(), parts, blank) else {
         return Err("no memory".into());
     };
-    let mut worker = Worker::hire(rt, &shared.words, pass, part)?;
-    overtake(rt, &shared, &mut worker, overtaken);
-    let Worker { pass, part, .. } = worker;
+    let (pass, part) = overtake_by_one(rt, &shared, pass, part, overtaken)?;
     Ok((shared.into_parts(part), pass))
 }
 
-/// One worker does so in a run that nobody else has a part of.
+/// The same where the run begins at what its parts have now.
 fn overtake_in_run<R: Wait + Abort + AllocGlobal>(
     rt: &R,
     parts: Parts,
@@ -98,21 +114,21 @@ fn overtake_in_run<R: Wait + Abort + AllocGlobal>(
     overtake_alone::<Brand, R>(rt, parts, pass, Blank::new(1), overtaken)
 }
 
-/// The run goes on in a fresh table, whose base is the number of its entries.
+/// The run goes on in a fresh table, whose base is the number of its entries, and gives a pass that has seen it.
 fn renew<R: Abort + AllocGlobal>(
     rt: &R,
-    mut parts: Parts,
+    parts: &mut Parts,
     pass: Pass,
     base: u32,
-) -> Result<(Parts, Pass), Fail>
-    requires { pass.table ≡ parts.words }
-    ensures { IfOk result (λ r. r.1.table ≡ r.0.words) }
+) -> Result<Pass, Fail>
+    requires { pass.table ≡ parts.old.words }
+    ensures { IfOk result (λ pass. pass.table ≡ parts.new.words) }
 {
     let mut passes = vec![in rt.alloc(); pass]?;
     parts.renew(rt.alloc(), &mut passes)?;
     assert_eq!(rt; shape(&parts.words).base, base);
     match passes.pop() {
-        Some(pass) => Ok((parts, pass)),
+        Some(pass) => Ok(pass),
         None => Err("there was one pass".into()),
     }
 }
@@ -158,15 +174,39 @@ fn of_vertex_0(late: u32, early: u32, used: u32) -> Overtaken
     }
 }
 
+/// A run on the edges 0 1 and 2 3 where a plan was overtaken.
+fn overtaken_once<R: Wait + Abort + AllocGlobal>(rt: &R) -> Result<(Parts, Pass), Fail>
+    ensures { IfOk result (λ r. r.1.table ≡ r.0.words) }
+{
+    let (parts, pass) = run_of(rt, 4, &[(0, 1), (2, 3)])?;
+    overtake_in_run(rt, parts, pass, of_vertex_0(2, 1, 0))
+}
+
+/// What the run has before its table is renewed it has after it.
+fn renew_and_look<R: Abort + AllocGlobal>(
+    rt: &R,
+    parts: &mut Parts,
+    pass: Pass,
+) -> Result<Pass, Fail>
+    requires { pass.table ≡ parts.old.words }
+    ensures { IfOk result (λ pass. pass.table ≡ parts.new.words) }
+{
+    assert_run(rt, parts, &[(0, 2), (2, 3)], &[2, 1, 2, 0], 2)?;
+    let pass = renew(rt, parts, pass, 2)?;
+    assert_run(rt, parts, &[(0, 2), (2, 3)], &[2, 1, 2, 0], 2)?;
+    Ok(pass)
+}
+
+/// The run after its table was renewed and another plan was overtaken.
+fn overtaken_again<R: Wait + Abort + AllocGlobal>(rt: &R) -> Result<Parts, Fail> {
+    let (mut parts, pass) = overtaken_once(rt)?;
+    let pass = renew_and_look(rt, &mut parts, pass)?;
+    let (parts, _) = overtake_in_run(rt, parts, pass, of_vertex_0(3, 2, 2))?;
+    Ok(parts)
+}
+
 #[test]
 fn a_plan_that_is_overtaken_is_refused_also_in_a_fresh_table(rt: HostRuntime) -> Result<(), Fail> {
-    let (parts, pass) = run_of(&rt, 4, &[(0, 1), (2, 3)])?;
-    let (parts, pass) = overtake_in_run(&rt, parts, pass, of_vertex_0(2, 1, 0))?;
-    assert_run(&rt, &parts, &[(0, 2), (2, 3)], &[2, 1, 2, 0], 2)?;
-
-    let (parts, pass) = renew(&rt, parts, pass, 2)?;
-    assert_run(&rt, &parts, &[(0, 2), (2, 3)], &[2, 1, 2, 0], 2)?;
-
-    let (parts, _) = overtake_in_run(&rt, parts, pass, of_vertex_0(3, 2, 2))?;
+    let parts = overtaken_again(&rt)?;
     assert_run(&rt, &parts, &[(0, 3), (2, 3)], &[4, 1, 3, 4], 4)
 }

@@ -1,14 +1,15 @@
 //! A journal that is shown to a reader that is told, and to one in another thread.
-ghost use Rattle.std.specs.Prelude.{◌≡◌, ◌<◌, ◌∷◌, [], All, IfOk, length};
-ghost use Rattle.kc_snapshot.specs.Histories.{member, width};
+ghost use Rattle.std.specs.Prelude.{◌≡◌, ◌<◌, All, IfOk, length};
+ghost use Rattle.kc_snapshot.specs.Histories.{width};
 
-use kc_graph::{Graph, Update, decompose_owned};
+use kc_graph::{Graph, Lawful, NoMemory, Update, decompose_owned};
 use kc_journal::{Journal, plan_held};
 use kc_shown::Shown;
 use kc_snapshot::{Blank, BoardName, MOST_LISTS, Read, Reader};
 use kc_table::{Pass, Words};
 use kc_view::Scratch;
 use kc_words::INDICES;
+use std::alloc::Global;
 use std::marker::Brand;
 use std::process::Abort;
 use std::sync::Wait;
@@ -50,39 +51,51 @@ struct Watcher<J: BoardName> {
     ghost wide: { width reader ≡ 4 },
 }
 
-/// The one reader of a board, which has seen a first list.
-fn only_reader<J: BoardName>(mut readers: Vec<Reader<J>>, first: &[u32]) -> Result<Reader<J>, Fail>
-    requires { All (λ reader. reader ≡ member first.now ∷ []) readers.items }
-    ensures { IfOk result (λ reader. reader ≡ member first.now ∷ []) }
-{
-    Ok(readers.pop().ok_or("there is no reader")?)
+/// What a run is watched for: entries that are told of, more moves than there are vertices, or publishes in another thread.
+#[derive(Clone, Copy)]
+enum Case {
+    Told,
+    ManyMoves,
+    Beside,
 }
 
-/// The run of the two edges, and a reader of its core numbers.
+/// The two edges, with their core numbers.
+fn start(alloc: Global) -> Result<Lawful, NoMemory>
+    ensures { IfOk result (λ lawful. lawful.graph.size ≡ 4) }
+{
+    let graph = Graph::from_pairs(alloc, 4, &START)?;
+    decompose_owned(alloc, graph)
+}
+
+/// The run of the two edges, and the readers of its core numbers.
 fn open_run<'a, J: BoardName, R: Wait + Abort + AllocGlobal>(
     rt: &'a R,
     blank: Blank,
-) -> Result<(Run<J, &'a R>, Watcher<J>), Fail>
+) -> Result<(Run<J, &'a R>, Vec<Reader<J>>), Fail>
     requires { blank ≡ J.book }
+    ensures { IfOk result (λ r. All (λ reader. width reader ≡ 4) r.1.items) }
 {
-    let graph = Graph::from_pairs(rt.alloc(), 4, &START)?;
-    let state = decompose_owned(rt.alloc(), graph)?;
-    let (words, journal, pass) = Journal::open(rt.alloc(), state, 0)?;
+    let (words, journal, pass) = Journal::open(rt.alloc(), start(rt.alloc())?, 0)?;
+    assert!(rt; journal.core_numbers().len() == 4);
     let (shown, readers) = Shown::<J, &'a R>::open(rt, rt.alloc(), blank, journal, 1)?;
-    let first = shown.journal().core_numbers();
-    assert!(rt; first.len() == 4);
-    let reader = only_reader(readers, first)?;
-    let watcher = Watcher {
-        reader,
-        right: false,
-    };
     let run = Run {
         words,
         pass,
         shown,
         lists: 1,
     };
-    Ok((run, watcher))
+    Ok((run, readers))
+}
+
+/// A watcher by the one reader of a board.
+fn only_watcher<J: BoardName>(mut readers: Vec<Reader<J>>) -> Result<Watcher<J>, Fail>
+    requires { All (λ reader. width reader ≡ 4) readers.items }
+{
+    let reader = readers.pop().ok_or("there is no reader")?;
+    Ok(Watcher {
+        reader,
+        right: false,
+    })
 }
 
 impl<J: BoardName, R: Wait + Drop> Run<J, R> {
@@ -179,62 +192,85 @@ impl<J: BoardName> Watcher<J> {
         assert_eq!(rt; self.reader.cores(rt, &mut all), number);
         assert_eq!(rt; all, [core; 4]);
     }
+
+    /// What is seen by who is told: not the entries before they are published, and then all their core numbers.
+    fn see_when_told<R: Wait + Drop, A: Wait + Abort + AllocGlobal>(
+        &mut self,
+        rt: &A,
+        run: &mut Run<J, R>,
+    ) -> Result<(), Fail> {
+        self.see_none_entered(rt, run)?;
+        assert_eq!(rt; run.publish(rt)?, 1);
+        self.see(rt, run, 1, 2);
+        Ok(())
+    }
+
+    /// What is seen where more vertices moved than there are: a list that was published as a whole, and the next one by its changes.
+    fn see_after_many<R: Wait + Drop, A: Wait + Abort + AllocGlobal>(
+        &mut self,
+        rt: &A,
+        run: &mut Run<J, R>,
+    ) -> Result<(), Fail> {
+        run.enter_many(rt)?;
+        assert_eq!(rt; run.publish(rt)?, 2);
+        self.see(rt, run, 2, 1);
+        Ok(())
+    }
 }
 
-/// What a reader sees that is told: not the entries before they are published, and then all their core numbers.
-fn read_when_told<J: BoardName, R: Wait + Abort + AllocGlobal>(
+/// One thread enters and publishes, and another watches.
+fn see_beside_publishes<J: BoardName + Send + Sync, R: Threads + Wait + Abort + Sync + AllocGlobal>(
     rt: &R,
-    blank: Blank,
-) -> Result<(), Fail>
-    requires { blank ≡ J.book }
-{
-    let (mut run, mut watcher) = open_run::<J, R>(rt, blank)?;
-    watcher.see_none_entered(rt, &mut run)?;
-    assert_eq!(rt; run.publish(rt)?, 1);
-    watcher.see(rt, &run, 1, 2);
-    Ok(())
-}
-
-/// A list is published as a whole where more vertices moved than there are, and by its changes the next time.
-fn read_after_many<J: BoardName, R: Wait + Abort + AllocGlobal>(
-    rt: &R,
-    blank: Blank,
-) -> Result<(), Fail>
-    requires { blank ≡ J.book }
-{
-    let (mut run, mut watcher) = open_run::<J, R>(rt, blank)?;
-    run.enter_many(rt)?;
-    assert_eq!(rt; run.publish(rt)?, 2);
-    watcher.see(rt, &run, 2, 1);
-    Ok(())
-}
-
-/// One thread enters and publishes, and another reads.
-fn read_beside_publishes<
-    J: BoardName + Send + Sync,
-    R: Threads + Wait + Abort + Sync + AllocGlobal,
->(rt: &R, blank: Blank) -> Result<(), Fail>
-    requires { blank ≡ J.book }
-{
-    let (mut run, mut watcher) = open_run::<J, R>(rt, blank)?;
+    run: &mut Run<J, &R>,
+    watcher: &mut Watcher<J>,
+) -> Result<(), Fail> {
     let (published, ()) = thread::join(rt, || run.publish_all(rt), || watcher.watch(rt));
     published?;
     assert!(rt; watcher.right);
-    watcher.see(rt, &run, PUBLISHES, 1);
+    watcher.see(rt, run, PUBLISHES, 1);
     Ok(())
+}
+
+/// Watches a run by the one reader of its board.
+fn watch_run<J: BoardName + Send + Sync, R: Threads + Wait + Abort + Sync + AllocGlobal>(
+    rt: &R,
+    run: &mut Run<J, &R>,
+    readers: Vec<Reader<J>>,
+    case: Case,
+) -> Result<(), Fail>
+    requires { All (λ reader. width reader ≡ 4) readers.items }
+{
+    let mut watcher = only_watcher(readers)?;
+    match case {
+        Case::Told => watcher.see_when_told(rt, run),
+        Case::ManyMoves => watcher.see_after_many(rt, run),
+        Case::Beside => see_beside_publishes(rt, run, &mut watcher),
+    }
+}
+
+/// Opens a run, and watches it.
+fn watch<J: BoardName + Send + Sync, R: Threads + Wait + Abort + Sync + AllocGlobal>(
+    rt: &R,
+    blank: Blank,
+    case: Case,
+) -> Result<(), Fail>
+    requires { blank ≡ J.book }
+{
+    let (mut run, readers) = open_run::<J, R>(rt, blank)?;
+    watch_run(rt, &mut run, readers, case)
 }
 
 #[test]
 fn a_reader_that_is_told_sees_what_was_entered(rt: HostRuntime) -> Result<(), Fail> {
-    read_when_told::<Brand, _>(&rt, Blank::new())
+    watch::<Brand, _>(&rt, Blank::new(), Case::Told)
 }
 
 #[test]
 fn more_moves_than_vertices_are_published(rt: HostRuntime) -> Result<(), Fail> {
-    read_after_many::<Brand, _>(&rt, Blank::new())
+    watch::<Brand, _>(&rt, Blank::new(), Case::ManyMoves)
 }
 
 #[test]
 fn numbers_never_fall_while_another_thread_publishes(rt: HostRuntime) -> Result<(), Fail> {
-    read_beside_publishes::<Brand, _>(&rt, Blank::new())
+    watch::<Brand, _>(&rt, Blank::new(), Case::Beside)
 }

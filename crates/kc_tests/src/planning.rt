@@ -1,5 +1,6 @@
 //! Plans, and the states after them.
-ghost use Rattle.std.specs.Prelude.{◌≡◌, ◌<◌};
+ghost use Rattle.std.specs.Prelude.{◌≡◌, ◌<◌, IfOk, IsTrue};
+ghost use Rattle.kc_graph.specs.Certificate.{Certifies};
 ghost use Rattle.kc_view.specs.Answers.{nothing_answered};
 
 use crate::levels::Levels;
@@ -34,9 +35,8 @@ pub(crate) fn plan_of(alloc: Global, state: &Lawful, update: Update) -> Result<P
     plan_over(alloc, &mut view, update)
 }
 
-/// The graph with the edge of an update, or without it.
-fn updated(alloc: Global, graph: &Graph, update: Update) -> Result<Graph, NoMemory> {
-    let mut after = Graph::new(alloc, graph.vertices())?;
+/// Adds the edges of a graph, all but the one that an update removes, and the one that it adds.
+fn add_updated(after: &mut Graph, graph: &Graph, update: Update) -> Result<(), NoMemory> {
     let keeps = |u: u32, v: u32| update.add || (u, v) != (update.u, update.v);
     for u in 0..graph.vertices() {
         for v in graph.neighbours(u) {
@@ -48,20 +48,74 @@ fn updated(alloc: Global, graph: &Graph, update: Update) -> Result<Graph, NoMemo
     if update.add && update.v < after.vertices() {
         after.add(update.u, update.v)?;
     }
+    Ok(())
+}
+
+/// The graph with the edge of an update, or without it.
+fn updated(alloc: Global, graph: &Graph, update: Update) -> Result<Graph, NoMemory> {
+    let mut after = Graph::new(alloc, graph.vertices())?;
+    add_updated(&mut after, graph, update)?;
     Ok(after)
+}
+
+/// Asserts what is to hold of a plan in a state.
+fn assert_so<R: Abort>(rt: &R, state: &Lawful, plan: &Plan, is_so: bool)
+    ensures { IsTrue is_so }
+{
+    assert!(rt; is_so, "{plan:?} in {state:?}");
 }
 
 /// A plan fits the state that it was made in: it passes the local test, and changes nothing exactly where its update is not applied.
 fn assert_fits<R: Abort + AllocGlobal>(rt: &R, state: &Lawful, plan: &Plan) -> Result<(), Fail> {
     let update = plan.update;
-    assert!(rt;
-        local_check(rt.alloc(), state, plan)?,
-        "{plan:?} in {state:?}"
-    );
+    assert_so(rt, state, plan, local_check(rt.alloc(), state, plan)?);
     assert!(rt; update.u < state.graph().vertices());
     let is_applied = state.graph().has(update.u, update.v) != update.add;
     let is_kept = matches!(plan.moves, Moves::Kept);
-    assert_ne!(rt; is_kept, is_applied, "{plan:?} in {state:?}");
+    assert_so(rt, state, plan, is_kept != is_applied);
+    Ok(())
+}
+
+/// The levels of a state, once the moves of a plan were made.
+fn moved(alloc: Global, state: &Lawful, plan: &Plan) -> Result<Levels, NoMemory> {
+    let mut levels = Levels::of(alloc, state)?;
+    levels.make(alloc, &plan.moves)?;
+    Ok(levels)
+}
+
+/// The graph and the levels that a plan leaves.
+fn made(alloc: Global, state: &Lawful, plan: &Plan) -> Result<(Graph, Levels), NoMemory> {
+    let graph = updated(alloc, state.graph(), plan.update)?;
+    let levels = moved(alloc, state, plan)?;
+    Ok((graph, levels))
+}
+
+/// The core numbers that a plan leaves are those of the graph.
+fn assert_numbers<R: Abort + AllocGlobal>(
+    rt: &R,
+    state: &Lawful,
+    plan: &Plan,
+    graph: &Graph,
+    core: &[u32],
+) -> Result<(), Fail> {
+    let fresh = decompose(rt.alloc(), graph)?;
+    assert_eq!(rt; core, fresh.core(), "{plan:?} in {state:?}");
+    Ok(())
+}
+
+/// The levels that a plan leaves have the core numbers of the graph, and are certified.
+fn assert_right<R: Abort + AllocGlobal>(
+    rt: &R,
+    state: &Lawful,
+    plan: &Plan,
+    graph: &Graph,
+    levels: &Levels,
+) -> Result<(), Fail>
+    ensures { IfOk result (λ _. Certifies graph.now levels.now.core.items levels.now.order.items) }
+{
+    assert_numbers(rt, state, plan, graph, &levels.core)?;
+    let is_certified = check(rt.alloc(), graph, &levels.core, &levels.order)?;
+    assert_so(rt, state, plan, is_certified);
     Ok(())
 }
 
@@ -72,15 +126,8 @@ pub(crate) fn state_after<R: Abort + AllocGlobal>(
     plan: &Plan,
 ) -> Result<Lawful, Fail> {
     assert_fits(rt, state, plan)?;
-    let graph = updated(rt.alloc(), state.graph(), plan.update)?;
-    let mut levels = Levels::of(rt.alloc(), state)?;
-    levels.make(rt.alloc(), &plan.moves)?;
+    let (graph, levels) = made(rt.alloc(), state, plan)?;
+    assert_right(rt, state, plan, &graph, &levels)?;
     let Levels { core, order } = levels;
-    let fresh = decompose(rt.alloc(), &graph)?;
-    assert_eq!(rt; core.as_slice(), fresh.core(), "{plan:?} in {state:?}");
-    assert!(rt;
-        check(rt.alloc(), &graph, &core, &order)?,
-        "{plan:?} in {state:?}"
-    );
     Ok(Lawful::new(rt.alloc(), graph, core, order)?)
 }

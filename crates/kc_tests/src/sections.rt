@@ -88,7 +88,30 @@ fn levels_after<R: Abort + AllocGlobal>(rt: &R, state: &Lawful, plan: &Plan) -> 
     Ok(levels)
 }
 
-/// The state after an update, which a section of levels of the state before it leaves too.
+/// A section that made the moves of a plan leaves the levels of the state after it.
+fn assert_section<R: Abort + AllocGlobal>(
+    rt: &R,
+    state: &Lawful,
+    plan: &Plan,
+    after: &Lawful,
+) -> Result<(), Fail> {
+    let levels = levels_after(rt, state, plan)?;
+    assert_levels_of(rt, &levels, after, state.graph().vertices());
+    Ok(())
+}
+
+/// The state after a plan, which a section of levels of the state before it leaves too.
+fn after_section<R: Abort + AllocGlobal>(
+    rt: &R,
+    state: &Lawful,
+    plan: &Plan,
+) -> Result<Lawful, Fail> {
+    let after = state_after(rt, state, plan)?;
+    assert_section(rt, state, plan, &after)?;
+    Ok(after)
+}
+
+/// The state after an update that is made in a section.
 fn updated<R: Abort + AllocGlobal>(
     rt: &R,
     state: &Lawful,
@@ -99,10 +122,7 @@ fn updated<R: Abort + AllocGlobal>(
 {
     let plan = plan_of(rt.alloc(), state, update)?;
     tally.count(&plan);
-    let levels = levels_after(rt, state, &plan)?;
-    let after = state_after(rt, state, &plan)?;
-    assert_levels_of(rt, &levels, &after, state.graph().vertices());
-    Ok(after)
+    after_section(rt, state, &plan)
 }
 
 /// So many updates of a graph, each made in a section of levels of the state before it.

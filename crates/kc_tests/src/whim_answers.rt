@@ -38,36 +38,56 @@ fn assert_lists<R: Abort>(rt: &R, used: &Used, vertices: &[u32]) {
     assert!(rt; used.places.is_empty() && used.orders.is_empty());
 }
 
+/// Whether of vertex 0 and another one just one is on the list of the other. None is on its own.
+fn is_one_way<R: Abort + AllocGlobal>(rt: &R, view: &mut WhimView, x: u32) -> Result<bool, Fail> {
+    assert!(rt; x < view.vertices());
+    let there = list_of(rt.alloc(), view, x)?;
+    assert!(rt; 0 < view.vertices());
+    let back = list_of(rt.alloc(), view, 0)?;
+    assert!(rt; !there.contains(&x) && !back.contains(&0));
+    Ok(there.contains(&0) != back.contains(&x))
+}
+
+/// Whether that is so of vertex 0 and any of eight others.
+fn any_is_one_way<R: Abort + AllocGlobal>(rt: &R, view: &mut WhimView) -> Result<bool, Fail> {
+    let mut any = false;
+    for x in 1..9 {
+        let one_way = is_one_way(rt, view, x)?;
+        any = any || one_way;
+    }
+    Ok(any)
+}
+
 #[test]
 fn lists_of_a_whim_fit_no_graph(rt: HostRuntime) -> Result<(), Fail> {
     let mut view = WhimView::new(rt.alloc(), 9, 7, None, again());
-    let mut one_way = false;
-    for x in 1..9 {
-        assert!(rt; x < view.vertices());
-        let there = list_of(rt.alloc(), &mut view, x)?;
-        assert!(rt; 0 < view.vertices());
-        let back = list_of(rt.alloc(), &mut view, 0)?;
-        assert!(rt; !there.contains(&x) && !back.contains(&0));
-        one_way = one_way || there.contains(&0) != back.contains(&x);
-    }
-    assert!(rt; one_way);
+    assert!(rt; any_is_one_way(&rt, &mut view)?);
     assert_lists(&rt, &view.used(), &[1, 0, 2, 3, 4, 5, 6, 7, 8]);
     assert_lists(&rt, &view.used(), &[]);
     Ok(())
 }
 
-#[test]
-fn orders_of_a_whim_change(rt: HostRuntime) -> Result<(), Fail> {
-    let mut view = WhimView::new(rt.alloc(), 2, 3, None, again());
+/// The answers that come to one question of order asked twenty times.
+fn orders_seen<R: Abort>(rt: &R, view: &mut WhimView) -> Result<[bool; 2], Fail> {
     let mut answers = [false, false];
     for _ in 0..20 {
         assert!(rt; 1 < view.vertices());
-        let before = order_of(&mut view, 0, 1)?;
+        let before = order_of(view, 0, 1)?;
         answers[before as usize] = true;
     }
-    assert_eq!(rt; answers, [true, true]);
-    let used = view.used();
-    assert_eq!(rt; (used.places.len(), used.orders.len()), (2, 20));
+    Ok(answers)
+}
+
+/// So many core numbers and orders were asked.
+fn assert_asked<R: Abort>(rt: &R, used: &Used, places: usize, orders: usize) {
+    assert_eq!(rt; (used.places.len(), used.orders.len()), (places, orders));
+}
+
+#[test]
+fn orders_of_a_whim_change(rt: HostRuntime) -> Result<(), Fail> {
+    let mut view = WhimView::new(rt.alloc(), 2, 3, None, again());
+    assert_eq!(rt; orders_seen(&rt, &mut view)?, [true, true]);
+    assert_asked(&rt, &view.used(), 2, 20);
     assert_lists(&rt, &view.used(), &[]);
     Ok(())
 }

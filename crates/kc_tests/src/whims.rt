@@ -54,19 +54,24 @@ fn named_in(alloc: Global, moves: &Moves) -> Result<Named, NoMemory> {
     Ok(Named { moved, anchors })
 }
 
-/// Moves name vertices only, and move none twice.
-fn assert_tidy<R: Abort + AllocGlobal>(rt: &R, whim: Whim, moves: &Moves) -> Result<(), Fail> {
-    let Named { moved, anchors } = named_in(rt.alloc(), moves)?;
-    let mut is_moved = vec![in rt.alloc(); false; whim.vertices as usize]?;
-    for x in &moved {
+/// Those that moves name are vertices, and none is moved twice.
+fn assert_named<R: Abort>(rt: &R, whim: Whim, moves: &Moves, named: &Named, is_moved: &mut [bool]) {
+    for x in &named.moved {
         assert!(rt; (*x as usize) < is_moved.len(), "{moves:?} at {whim:?}");
         assert!(rt; !is_moved[*x as usize], "{moves:?} at {whim:?}");
         is_moved[*x as usize] = true;
     }
     assert!(rt;
-        anchors.iter().all(|w| *w < whim.vertices),
+        named.anchors.iter().all(|w| *w < whim.vertices),
         "{moves:?} at {whim:?}"
     );
+}
+
+/// Moves name vertices only, and move none twice.
+fn assert_tidy<R: Abort + AllocGlobal>(rt: &R, whim: Whim, moves: &Moves) -> Result<(), Fail> {
+    let named = named_in(rt.alloc(), moves)?;
+    let mut is_moved = vec![in rt.alloc(); false; whim.vertices as usize]?;
+    assert_named(rt, whim, moves, &named, is_moved.as_mut_slice());
     Ok(())
 }
 

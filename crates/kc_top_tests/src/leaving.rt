@@ -1,11 +1,35 @@
 //! What a run leaves of its shares and tables.
-use crate::checks::{NONE, TRIANGLE, WORKERS, run_on, words_with};
+use crate::checks::{Left, NONE, TRIANGLE, WORKERS, run_on, words_with};
+use kc_course::Ran;
 use kc_journal::Receipt;
 use kc_top::Status;
+use std::alloc::Global;
 use std::process::Abort;
 use std::sync::Wait;
 use std::test::Fail;
 use std::thread::Threads;
+
+/// The receipts of all updates, share by share.
+fn receipts_of(alloc: Global, ran: &Ran) -> Result<Vec<Receipt>, Fail> {
+    let mut receipts = Vec::new(alloc);
+    for share in &ran.shares {
+        for done in &share.done {
+            receipts.push(done.receipt)?;
+        }
+    }
+    Ok(receipts)
+}
+
+/// What the run on an input leaves with so many workers.
+fn left_with<R: Abort + AllocGlobal + Threads + Wait + Sync>(
+    rt: &R,
+    workers: &str,
+    input: &[u8],
+) -> Result<Left, Fail> {
+    let words = words_with(rt.alloc(), workers, &[])?;
+    let input = Vec::from_slice(rt.alloc(), input)?;
+    run_on(rt, &words, input, NONE, 399)
+}
 
 /// What the runs on an input leave with so many workers, which are done: the receipts of all updates, share by share.
 fn receipts_left<R: Abort + AllocGlobal + Threads + Wait + Sync>(
@@ -15,21 +39,13 @@ fn receipts_left<R: Abort + AllocGlobal + Threads + Wait + Sync>(
     shares: usize,
     tables: usize,
 ) -> Result<Vec<Receipt>, Fail> {
-    let alloc = rt.alloc();
-    let words = words_with(alloc, workers, &[])?;
-    let left = run_on(rt, &words, Vec::from_slice(alloc, input)?, NONE, 399)?;
+    let left = left_with(rt, workers, input)?;
     assert_eq!(rt; left.status, Status::Done);
     assert_eq!(rt;
         (left.ran.shares.len(), left.ran.tables.len()),
         (shares, tables)
     );
-    let mut receipts = Vec::new(alloc);
-    for share in &left.ran.shares {
-        for done in &share.done {
-            receipts.push(done.receipt)?;
-        }
-    }
-    Ok(receipts)
+    receipts_of(rt.alloc(), &left.ran)
 }
 
 #[test]

@@ -35,6 +35,37 @@ fn enter_at_once<K: Name + Ledger, R: Wait + Abort + AllocGlobal>(
 }
 
 /// One worker adds two edges, so that all four stand in a circle, and then one that is there.
+fn enter_three<K: Name + Ledger, R: Wait + Abort + AllocGlobal>(
+    rt: &R,
+    shared: &Shared<K>,
+    worker: &mut Worker,
+    part: &mut Share<K>,
+) -> Result<(), Fail>
+    requires table { worker.old.table ≡ K.table }
+    requires part { 0 < part.old.parts }
+    ensures { part.new.parts ≡ part.old.parts }
+{
+    enter_at_once(rt, shared, worker, part, 0, change(true, 0, 2), true)?;
+    enter_at_once(rt, shared, worker, part, 1, change(true, 1, 3), true)?;
+    enter_at_once(rt, shared, worker, part, 2, change(true, 0, 1), false)
+}
+
+/// A worker that has seen what the pass has does so.
+fn enter_by_one<K: Name + Ledger, R: Wait + Abort + AllocGlobal>(
+    rt: &R,
+    shared: &Shared<K>,
+    part: &mut Share<K>,
+    pass: Pass,
+) -> Result<(), Fail>
+    requires table { pass.table ≡ K.table }
+    requires part { 0 < part.old.parts }
+    ensures { part.new.parts ≡ part.old.parts }
+{
+    let mut worker = hired(rt.alloc(), &shared.words, pass)?;
+    enter_three(rt, shared, &mut worker, part)
+}
+
+/// The same in a run that nobody else has a part of.
 fn enter_alone<K: Name + Ledger, R: Wait + Abort + AllocGlobal>(
     rt: &R,
     parts: Parts,
@@ -51,44 +82,23 @@ fn enter_alone<K: Name + Ledger, R: Wait + Abort + AllocGlobal>(
     let Ok((shared, mut part)) = Shared::<K>::new(rt.alloc(), parts, blank) else {
         return Err("no memory".into());
     };
-    let shared_ = &shared;
-    let mut worker = hired(rt.alloc(), &shared.words, pass)?;
-    enter_at_once(
-        rt,
-        shared_,
-        &mut worker,
-        &mut part,
-        0,
-        change(true, 0, 2),
-        true,
-    )?;
-    enter_at_once(
-        rt,
-        shared_,
-        &mut worker,
-        &mut part,
-        1,
-        change(true, 1, 3),
-        true,
-    )?;
-    enter_at_once(
-        rt,
-        shared_,
-        &mut worker,
-        &mut part,
-        2,
-        change(true, 0, 1),
-        false,
-    )?;
-    Ok(shared.into_parts(part))
+    let entered = enter_by_one(rt, &shared, &mut part, pass);
+    let parts = shared.into_parts(part);
+    entered?;
+    Ok(parts)
+}
+
+/// The run has three entries, and a circle.
+fn assert_circle<R: Abort>(rt: &R, parts: &Parts) {
+    assert_eq!(rt; parts.journal.entries().len(), 3);
+    assert_eq!(rt; parts.journal.graph().edges(), 4);
+    assert_eq!(rt; parts.journal.top(), 2);
 }
 
 #[test]
 fn one_worker_enters_each_update_at_its_first_try(rt: HostRuntime) -> Result<(), Fail> {
     let (parts, pass) = two_edges(rt.alloc())?;
     let parts = enter_alone::<Brand, _>(&rt, parts, Blank::new(1), pass)?;
-    assert_eq!(rt; parts.journal.entries().len(), 3);
-    assert_eq!(rt; parts.journal.graph().edges(), 4);
-    assert_eq!(rt; parts.journal.top(), 2);
+    assert_circle(&rt, &parts);
     Ok(())
 }

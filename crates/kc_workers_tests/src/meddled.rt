@@ -58,6 +58,47 @@ impl<K: Name + Ledger, R: Wait> Gate for Meddling<'_, K, R> {
     }
 }
 
+/// The gate of another worker, which takes one of two parts, and has seen what the pass has.
+fn gate_of<'a, K: Name + Ledger, R: Wait + AllocGlobal>(
+    rt: &'a R,
+    shared: &'a Shared<K>,
+    part: Share<K>,
+    pass: Pass,
+    most: u32,
+) -> Result<Meddling<'a, K, R>, Fail>
+    requires table { pass.table ≡ K.table }
+    requires part { part.parts ≡ 1 }
+{
+    let worker = hired(rt.alloc(), &shared.words, pass)?;
+    Ok(Meddling {
+        rt,
+        alloc: rt.alloc(),
+        shared,
+        most,
+        other: Mutex::new(Other {
+            worker,
+            part,
+            calls: 0,
+        }),
+    })
+}
+
+/// Adds the edge between 0 and 2 past a gate.
+fn enter_past<K: Name + Ledger, G: Gate, R: Wait + Abort + AllocGlobal>(
+    rt: &R,
+    shared: &Shared<K>,
+    part: &mut Share<K>,
+    pass: Pass,
+    gate: &G,
+) -> Result<Done, Fail>
+    requires table { pass.table ≡ K.table }
+    requires part { 0 < part.old.parts }
+    ensures { part.new.parts ≡ part.old.parts }
+{
+    let mut worker = hired(rt.alloc(), &shared.words, pass)?;
+    enter(rt, shared, &mut worker, part, 0, change(true, 0, 2), gate)
+}
+
 /// Adds the edge between 0 and 2 while another worker, which takes one of the two parts, enters an update before each of the first so many
 /// tries.
 fn enter_beside<K: Name + Ledger, R: Wait + Abort + AllocGlobal>(
@@ -71,21 +112,9 @@ fn enter_beside<K: Name + Ledger, R: Wait + Abort + AllocGlobal>(
     requires two { part.old.parts ≡ 2 }
     ensures { OnOk result (part.new.parts ≡ 2) }
 {
-    let alloc = rt.alloc();
     let theirs = split(&shared.words, &mut pass);
-    let mut worker = hired(alloc, &shared.words, pass)?;
-    let gate = Meddling {
-        rt,
-        alloc,
-        shared,
-        most,
-        other: Mutex::new(Other {
-            worker: hired(alloc, &shared.words, theirs)?,
-            part: part.split_off(1, 0),
-            calls: 0,
-        }),
-    };
-    let done = enter(rt, shared, &mut worker, part, 0, change(true, 0, 2), &gate)?;
+    let gate = gate_of(rt, shared, part.split_off(1, 0), theirs, most)?;
+    let done = enter_past(rt, shared, part, pass, &gate)?;
     let other = gate.other.into_inner();
     assert_eq!(rt; other.calls, most);
     part.merge(other.part);

@@ -1,5 +1,5 @@
 -- The board is the one of the blank.
 use Rattle.kc_shown_tests.proofs.shown.more_moves_than_vertices_are_published.Given as goal
 
-abbrev pub ghosts-read_after_many : goal.ghosts-read_after_many
-ghosts-read_after_many g a = record { book = a.blank }
+abbrev pub ghosts-watch : goal.ghosts-watch
+ghosts-watch g a = record { book = a.blank }

@@ -15,7 +15,7 @@ use Rattle.kc_shown.proofs.moved.Moved.TheSendSync as moved
 use Rattle.kc_shown.specs.contracts.shown.Shown as shown
 use Rattle.kc_shown.specs.contracts.shown.Shown.TheInside as inside
 use Rattle.kc_shown_tests.specs.contracts.shown.Run as run
-use Rattle.kc_shown_tests.proofs.shown.read_beside_publishes.Goals as goal
+use Rattle.kc_shown_tests.proofs.shown.see_beside_publishes.Goals as goal
 
 -- a journal may go to another thread
 journal_send : IsSend journal.the_row
