@@ -1,17 +1,42 @@
 -- A list is drawn at the first call for a vertex, and found at a later one.
-use Rattle.std.proofs.Common.{◌≡◌, ℕ, false, List, length, sym, ◌∙◌, ap, subst, arith}
+use Rattle.std.proofs.Common.{◌≡◌, ℕ, List, length, sym, ◌∙◌, ap, subst, arith}
 use Rattle.std.specs.Prelude.{Some, is_some}
 use Rattle.kc_graph.specs.declared.used.UsedEdges.{UsedEdges}
-use Rattle.kc_view.specs.Answers.{Answers, has_list, list_in, with_list}
+use Rattle.kc_view.specs.Answers.{Answers, list_in, with_list}
 use Rattle.kc_view.specs.Lists.{IsListOf}
 use Rattle.kc_view.specs.Views.{TellsList, GoesOn}
 use Rattle.kc_tests.specs.Whim.{Whims, shown_by_whim}
-use Rattle.kc_view.proofs.Marking.{tells_list, list_of-now}
+use Rattle.kc_view.proofs.Marking.{TellsNewList, tells_new_list}
 use Rattle.kc_view.proofs.Handing.{lists-push}
 use Rattle.kc_view.proofs.Keeping.{GoesOn-trans}
 use Rattle.kc_tests.proofs.Looking.{short_list, found-list}
-use Rattle.kc_tests.proofs.whim_view.WhimViewView.degree.Goals as goal
 use Rattle.kc_tests.proofs.Drawn.{goes-on-list}
+use Rattle.kc_tests.proofs.whim_view.WhimViewView.degree.Goals.{In_ok-keep_list}
+use Rattle.kc_tests.proofs.whim_view.WhimViewView.degree.Goals as goal
+
+-- what the view was before
+abbrev before : In_ok-keep_list → Whims
+before c = record {
+  size = c.self.inside.size;
+  kept = record { edges = c.self.inside.edges.items; places = c.self.inside.places.items; orders = c.self.inside.orders.items };
+  handed = c.self.inside.handed;
+  misses = c.self.inside.misses;
+  again = c.self.inside.again;
+}
+
+-- the list that is kept
+abbrev list : In_ok-keep_list → UsedEdges
+list c = record { vertex = c.args.w; at = 0; neighbours = c.deref-2.result.now }
+
+-- it is told for the first time
+tells : (c : In_ok-keep_list) → TellsNewList (before c).kept (list c)
+tells c =
+    tells_new_list (before c).kept (list c)
+    (ap (λ (xs : List UsedEdges). is_some (list_in c.args.w xs)) (sym c.deref.ensures.value) ∙ ap is_some c.in_default.ensures)
+
+-- it is one of its vertex
+drawn : (c : In_ok-keep_list) → IsListOf c.self.inside.size c.args.w c.deref-2.result.now
+drawn c = subst (IsListOf c.self.inside.size c.args.w) (sym c.deref-2.ensures.value) c.in_ok-list.ensures
 
 pub overflow_cast-result : goal.overflow_cast-result
 overflow_cast-result c =
@@ -35,39 +60,23 @@ invariant_of-self-2 c =
 
 pub returns-clause-told : goal.returns-clause-told
 returns-clause-told c =
-    let a : Answers = record { edges = c.self.inside.edges.items; places = c.self.inside.places.items; orders = c.self.inside.orders.items } in
-    let e : UsedEdges = record { vertex = c.args.w; at = 0; neighbours = c.deref-2.result.now } in
-    let same : a ≡ c.args.self.now.kept = ap (λ (w : Whims). w.kept) c.self.view_is ∙ c.go_on.ensures.kept in
-    let not_yet : has_list a c.args.w ≡ false =
-    ap (λ (xs : List UsedEdges). is_some (list_in c.args.w xs)) (sym c.deref.ensures.value) ∙ ap is_some c.in_default.ensures in
-    rw c.in_ok-keep_list.ensures.ok (subst (λ (x : Answers). TellsList x (with_list a e) c.args.w) same (tells_list a e not_yet))
+    let at = (goal.at.returns-clause-told c).In_ok-keep_list in
+    let same : (before at).kept ≡ c.args.self.now.kept = ap (λ (w : Whims). w.kept) c.self.view_is ∙ c.go_on.ensures.kept in
+    rw c.in_ok-keep_list.ensures.ok (subst (λ (a : Answers). TellsList a (with_list (before at).kept (list at)) c.args.w) same (tells at).told)
 
 pub returns-clause-length : goal.returns-clause-length
 returns-clause-length c =
-    let a : Answers = record { edges = c.self.inside.edges.items; places = c.self.inside.places.items; orders = c.self.inside.orders.items } in
-    let e : UsedEdges = record { vertex = c.args.w; at = 0; neighbours = c.deref-2.result.now } in
-    let not_yet : has_list a c.args.w ≡ false =
-    ap (λ (xs : List UsedEdges). is_some (list_in c.args.w xs)) (sym c.deref.ensures.value) ∙ ap is_some c.in_default.ensures in
-    rw c.in_ok-keep_list.ensures.ok (c.len-degree.ensures ∙ (sym c.deref-2.ensures.len ∙ ap (length {A = ℕ}) (sym (list_of-now a e not_yet))))
+    rw c.in_ok-keep_list.ensures.ok
+    (c.len-degree.ensures ∙ (sym c.deref-2.ensures.len ∙ ap (length {A = ℕ}) (tells (goal.at.returns-clause-length c).In_ok-keep_list).list))
 
 pub returns-clause-lists : goal.returns-clause-lists
 returns-clause-lists c =
-    let e : UsedEdges = record { vertex = c.args.w; at = 0; neighbours = c.deref-2.result.now } in
-    let here : IsListOf c.self.inside.size c.args.w c.deref-2.result.now =
-    subst (IsListOf c.self.inside.size c.args.w) (sym c.deref-2.ensures.value) c.in_ok-list.ensures in
-    rw c.in_ok-keep_list.ensures.ok (lists-push c.self.inside.size c.self.inside.edges.items e c.self.invariant.lists here)
+    let at = (goal.at.returns-clause-lists c).In_ok-keep_list in
+    rw c.in_ok-keep_list.ensures.ok (lists-push c.self.inside.size c.self.inside.edges.items (list at) c.self.invariant.lists (drawn at))
 
 pub returns-clause-goes_on : goal.returns-clause-goes_on
 returns-clause-goes_on c =
-    let e : UsedEdges = record { vertex = c.args.w; at = 0; neighbours = c.deref-2.result.now } in
-    let here : IsListOf c.self.inside.size c.args.w c.deref-2.result.now =
-    subst (IsListOf c.self.inside.size c.args.w) (sym c.deref-2.ensures.value) c.in_ok-list.ensures in
-    let w : Whims = record {
-      size = c.self.inside.size;
-      kept = record { edges = c.self.inside.edges.items; places = c.self.inside.places.items; orders = c.self.inside.orders.items };
-      handed = c.self.inside.handed;
-      misses = c.self.inside.misses;
-      again = c.self.inside.again;
-    } in
-    let step : GoesOn (shown_by_whim w) (shown_by_whim (record w { kept = with_list w.kept e })) = goes-on-list w e here in
+    let at = (goal.at.returns-clause-goes_on c).In_ok-keep_list in
+    let step : GoesOn (shown_by_whim (before at)) (shown_by_whim (record (before at) { kept = with_list (before at).kept (list at) })) =
+    goes-on-list (before at) (list at) (drawn at) in
     GoesOn-trans _ _ _ c.go_on.ensures.goes_on (rw (c.in_ok-keep_list.ensures.ok, ← c.self.view_is) step)
