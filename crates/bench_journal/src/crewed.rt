@@ -100,6 +100,24 @@ fn follow(graph: &mut Graph, entries: &[Entry]) -> Result<(), NoMemory> {
     Ok(())
 }
 
+/// Makes in the graph what was entered after so many entries. Answers how long the entry took, which began then.
+fn follow_done<R: Clock>(
+    rt: &R,
+    graph: &mut Graph,
+    entries: &[Entry],
+    before: usize,
+    start: Instant,
+    done: Result<BatchDone, NoMemory>,
+) -> Result<Duration> {
+    let took = start.elapsed(rt)?;
+    done?;
+    let Some(made) = entries.get(before..) else {
+        bail!("entries are lost");
+    };
+    follow(graph, made)?;
+    Ok(took)
+}
+
 /// The parts of a run of this graph, and so many workers.
 fn open_run(alloc: Global, graph: &Graph, count: u32) -> Result<(Parts, Vec<Worker>), NoMemory>
     requires few { graph.now.size ≤ MOST_VERTICES }
@@ -172,23 +190,6 @@ impl Crewed {
         (crewed, done)
     }
 
-    /// Makes in the graph what was entered after so many entries. Answers how long the entry took, which began then.
-    fn follow<R: Clock>(
-        &mut self,
-        rt: &R,
-        before: usize,
-        start: Instant,
-        done: Result<BatchDone, NoMemory>,
-    ) -> Result<Duration> {
-        let took = start.elapsed(rt)?;
-        done?;
-        let Some(made) = self.parts.journal.entries().get(before..) else {
-            bail!("entries are lost");
-        };
-        follow(&mut self.graph, made)?;
-        Ok(took)
-    }
-
     /// Has the workers enter a batch, and makes it in the graph. Answers how long `run_batch` took.
     fn enter_timed<R: Threads + Wait + Sync + AllocGlobal + Clock>(
         self,
@@ -202,7 +203,8 @@ impl Crewed {
         let before = self.parts.journal.entries().len();
         let start = Instant::now(rt)?;
         let (mut crewed, done) = self.enter(rt, rt.alloc(), batch);
-        let took = crewed.follow(rt, before, start, done)?;
+        let Crewed { parts, graph, .. } = &mut crewed;
+        let took = follow_done(rt, graph, parts.journal.entries(), before, start, done)?;
         Ok((crewed, took))
     }
 

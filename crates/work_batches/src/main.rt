@@ -23,13 +23,19 @@ const START: [(u32, u32); 7] = [(0, 1), (0, 2), (1, 2), (2, 3), (3, 4), (3, 5), 
 /// How many workers enter each batch.
 const WORKERS: u32 = 2;
 
-/// The update that adds an edge.
-const fn add(u: u32, v: u32) -> Update {
+/// The update that adds the edge of these ends.
+const fn add(u: u32, v: u32) -> Update
+    requires { u < v }
+    ensures { result.v ≡ v }
+{
     Update { add: true, u, v }
 }
 
-/// The update that removes an edge.
-const fn remove(u: u32, v: u32) -> Update {
+/// The update that removes the edge of these ends.
+const fn remove(u: u32, v: u32) -> Update
+    requires { u < v }
+    ensures { result.v ≡ v }
+{
     Update { add: false, u, v }
 }
 
