@@ -59,13 +59,13 @@ module _ (table : TableName) (opened : SimpleGraph) (stamps : List ℕ) (log : L
       sym was.core ∙ (ap (λ z. (vertex_of z).core) word ∙ sym (state.core p.vertex was.vertex))
 
   -- a vertex of which a place was read that is that of now has not been put since
-  pub stays : (a : Answers) (prefix : List Event) (x : ℕ)
+  pub read_place-stays : (a : Answers) (prefix : List Event) (x : ℕ)
       → All (λ p. (p.vertex ≡ x) → WasPlace table prefix p) a.places
       → IsPrefix prefix log
       → All (λ p. place_stamp table log p.vertex ≤ p.stamp) a.places
       → is_some (core_in x a.places) ≡ true
       → StaysPut table prefix log x × (x < table.shape.fixed)
-  stays a prefix x was begins le there =
+  read_place-stays a prefix x was begins le there =
       let Kept : UsedPlace → Type 0 = λ p. (p.vertex ≡ x → WasPlace table prefix p) × (place_stamp table log p.vertex ≤ p.stamp) in
       let (p, is, (read, current)) = found_place Kept x a.places (λ i d l. (was i d l, le i d l)) there in
       let w : WasPlace table prefix p = read is in
@@ -80,8 +80,8 @@ module _ (table : TableName) (opened : SimpleGraph) (stamps : List ℕ) (log : L
   pub order_now : (a : Answers) (o : UsedOrder) → WasOrder table log a o → All (λ p. place_stamp table log p.vertex ≤ p.stamp) a.places
       → (o.x < s.graph.size) × (o.y < s.graph.size) × (o.before ≡ ltb (place_of o.x s.order) (place_of o.y s.order))
   order_now a o was le =
-      let x = stays a was.prefix o.x (λ i d l is. was.read_before i d l (inl is)) was.begins le was.first_read in
-      let y = stays a was.prefix o.y (λ i d l is. was.read_before i d l (inr is)) was.begins le was.second_read in
+      let x = read_place-stays a was.prefix o.x (λ i d l is. was.read_before i d l (inl is)) was.begins le was.first_read in
+      let y = read_place-stays a was.prefix o.y (λ i d l is. was.read_before i d l (inr is)) was.begins le was.second_read in
       let list = list_after table log in
       let then = list_after table was.prefix in
       let same = same_standing o.x o.y table was.prefix log was.begins x.0 y.0 in
@@ -95,8 +95,8 @@ module _ (table : TableName) (opened : SimpleGraph) (stamps : List ℕ) (log : L
       (omega (arith, x.1, state.size), omega (arith, y.1, state.size), told ∙ sym now)
 
   -- all of them
-  pub agreement : (a : Answers) → WereRead table opened log a → AreCurrent table opened stamps log a → Agrees a s
-  agreement a read current = record {
+  pub answers-agreement : (a : Answers) → WereRead table opened log a → AreCurrent table opened stamps log a → Agrees a s
+  answers-agreement a read current = record {
     edges = λ i d l.
         let was = read.edges i d l in
         (omega (arith, was.vertex, state.size), list_now (get_or a.edges i d) was (current.edges i d l));
@@ -111,7 +111,7 @@ pub agreement_since : (table : TableName) (opened : SimpleGraph) (stamps : List 
     → IsAtRest table log → IsStateOf table opened log s → IsPrefix seen log → WereRead table opened seen a
     → AreCurrent table opened stamps log a → Agrees a s
 agreement_since table opened stamps seen log s a rest state pre read current =
-    agreement table opened stamps log s rest state a (reads_stay table opened seen log a pre read) current
+    answers-agreement table opened stamps log s rest state a (reads_stay table opened seen log a pre read) current
 
 -- a sure plan of such answers passes the local test, moves what it may, and keeps the state certified
 pub right_now : (table : TableName) (opened : SimpleGraph) (stamps : List ℕ) (seen log : List Event) (s : Ranked) (plan : Plan)

@@ -34,14 +34,14 @@ loaded_place table opened old new a v low longer none h =
     }
 
 -- how a comparison found two vertices is an order that was read
-pub compared : (table : TableName) (opened : SimpleGraph) (old new : List Event) (a : Answers) (x y : ℕ) (before : Bool)
+pub comparison-read : (table : TableName) (opened : SimpleGraph) (old new : List Event) (a : Answers) (x y : ℕ) (before : Bool)
     → x ≢ y → has_core a x ≡ true → has_core a y ≡ true → StoodSo table old new x y before
     → WereRead table opened old a → WereRead table opened new (with_order a (record { x = x; y = y; before = before }))
-compared table opened old new a x y true differ rx ry stood h =
+comparison-read table opened old new a x y true differ rx ry stood h =
     let is : IsOrderOf (list_after table stood.prefix) (record { x = x; y = y; before = true }) =
     record { before = λ _. stood.stood; after = λ f. absurd (true≢false f) } in
     one_order table opened old stood.prefix new a _ stood.between.extends stood.between.extended differ rx ry is h
-compared table opened old new a x y false differ rx ry stood h =
+comparison-read table opened old new a x y false differ rx ry stood h =
     let is : IsOrderOf (list_after table stood.prefix) (record { x = x; y = y; before = false }) =
     record { before = λ f. absurd (false≢true f); after = λ _. stood.stood } in
     one_order table opened old stood.prefix new a _ stood.between.extends stood.between.extended differ rx ry is h

@@ -36,12 +36,12 @@ front_by false true i j k l h = le-ltb (suc i) 0 (omega arith) ∙ sym (le-ltb (
 front_by false false i j k l h = ltb-next i j ∙ (h ∙ sym (ltb-next k l))
 
 -- the same item at the front of two lists leaves how two items stand in both
-front : (x y w : ℕ) (l l' : List ℕ) → first_of_two x y l ≡ first_of_two x y l' → first_of_two x y (w ∷ l) ≡ first_of_two x y (w ∷ l')
-front x y w l l' h = front_by (eqb x w) (eqb y w) (place_of x l) (place_of y l) (place_of x l') (place_of y l') h
+same_front-order : (x y w : ℕ) (l l' : List ℕ) → first_of_two x y l ≡ first_of_two x y l' → first_of_two x y (w ∷ l) ≡ first_of_two x y (w ∷ l')
+same_front-order x y w l l' h = front_by (eqb x w) (eqb y w) (place_of x l) (place_of y l) (place_of x l') (place_of y l') h
 
 -- another item at the front
-skip : (x y z : ℕ) (l : List ℕ) → x ≢ z → y ≢ z → first_of_two x y (z ∷ l) ≡ first_of_two x y l
-skip x y z l dx dy =
+other_front-order : (x y z : ℕ) (l : List ℕ) → x ≢ z → y ≢ z → first_of_two x y (z ∷ l) ≡ first_of_two x y l
+other_front-order x y z l dx dy =
     ap₂ (λ (a b : Bool). ltb (behind a (place_of x l)) (behind b (place_of y l))) (ne_eqb x z dx) (ne_eqb y z dy)
     ∙ ltb-next (place_of x l) (place_of y l)
 
@@ -51,8 +51,8 @@ without-order x y z [] dx dy = refl
 without-order x y z (w ∷ l) dx dy =
     let rest = without-order x y z l dx dy in
     elim (eqb z w) as (λ b. eqb z w ≡ b → first_of_two x y (cond b (without z l) (w ∷ without z l)) ≡ first_of_two x y (w ∷ l)) [
-      | true ↦ λ t. let is : z ≡ w = eqb-true z w t in rest ∙ sym (skip x y w l (λ e. dx (e ∙ sym is)) (λ e. dy (e ∙ sym is)))
-      | false ↦ λ _. front x y w (without z l) l rest
+      | true ↦ λ t. let is : z ≡ w = eqb-true z w t in rest ∙ sym (other_front-order x y w l (λ e. dx (e ∙ sym is)) (λ e. dy (e ∙ sym is)))
+      | false ↦ λ _. same_front-order x y w (without z l) l rest
     ] refl
 
 -- putting a third item leaves how two stand
@@ -60,8 +60,8 @@ right_after-order : (x y z p : ℕ) (l : List ℕ) → x ≢ z → y ≢ z → f
 right_after-order x y z p [] dx dy = refl
 right_after-order x y z p (w ∷ l) dx dy =
     elim (eqb p w) as (λ b. first_of_two x y (cond b (w ∷ z ∷ l) (w ∷ right_after z p l)) ≡ first_of_two x y (w ∷ l)) [
-      | true ↦ front x y w (z ∷ l) l (skip x y z l dx dy)
-      | false ↦ front x y w (right_after z p l) l (right_after-order x y z p l dx dy)
+      | true ↦ same_front-order x y w (z ∷ l) l (other_front-order x y z l dx dy)
+      | false ↦ same_front-order x y w (right_after z p l) l (right_after-order x y z p l dx dy)
     ]
 
 -- the items that pass a test stand as they do in the whole list
@@ -70,8 +70,8 @@ filter-order keep x y [] kx ky = refl
 filter-order keep x y (w ∷ l) kx ky =
     let rest = filter-order keep x y l kx ky in
     elim (keep w) as (λ b. keep w ≡ b → first_of_two x y (cond b (w ∷ filter keep l) (filter keep l)) ≡ first_of_two x y (w ∷ l)) [
-      | true ↦ λ _. front x y w (filter keep l) l rest
-      | false ↦ λ f. rest ∙ sym (skip x y w l (λ e. true≢false (sym kx ∙ (ap keep e ∙ f))) (λ e. true≢false (sym ky ∙ (ap keep e ∙ f))))
+      | true ↦ λ _. same_front-order x y w (filter keep l) l rest
+      | false ↦ λ f. rest ∙ sym (other_front-order x y w l (λ e. true≢false (sym kx ∙ (ap keep e ∙ f))) (λ e. true≢false (sym ky ∙ (ap keep e ∙ f))))
     ] refl
 
 -- whether an item is in the list, where another is put

@@ -152,9 +152,9 @@ module _ (table : TableName) (opened : SimpleGraph) where
   -- Lists that are published. ---------------------------------------------------------------------------
 
   -- the present neighbours, under the number of all entries
-  pub published : (log : List Event) (e : UsedEdges) → e.vertex < table.shape.fixed → e.at ≡ number_of table log
+  pub neighbours-published : (log : List Event) (e : UsedEdges) → e.vertex < table.shape.fixed → e.at ≡ number_of table log
       → AreNeighbours (after_entries opened (made_by table log).entries) e.vertex e.neighbours → WasList table opened log e
-  published log e low is h =
+  neighbours-published log e low is h =
       let entries = (made_by table log).entries in
       let all : take (e.at - table.shape.base) entries ≡ entries = take_all (e.at - table.shape.base) entries (omega (arith, is)) in record {
         vertex = low;

@@ -10,8 +10,8 @@ use Rattle.kc_distinct.specs.Lists.{below}
 use Rattle.kc_graph.specs.SimpleGraph.{SimpleGraph, adjacent, pair_cmp}
 use Rattle.kc_graph.specs.Edges.{edge, with_edge, without_edge}
 use Rattle.kc_graph.specs.Neighbours.{AreNeighbours, neighbours_of}
-use Rattle.kc_graph.proofs.Adding.{present}
-use Rattle.kc_graph.proofs.Removing.{missing}
+use Rattle.kc_graph.proofs.Adding.{edge-present}
+use Rattle.kc_graph.proofs.Removing.{edge-missing}
 use Rattle.kc_graph.proofs.EdgeChanges.{adjacent-with, adjacent-without}
 use Rattle.kc_graph.proofs.Ends.{joins, joins-true}
 use Rattle.kc_graph.proofs.Law.{adjacent-self, adjacent-sym}
@@ -58,27 +58,27 @@ without-itself g u = same-by_pairs g (without_edge g u u) (λ a b l.
 -- An entry that is not applied, or that does not name the vertex. ----------------------------------
 
 -- an end of an edge that the entry joins is named
-named : (e : Entry) (v w : ℕ) → joins e.u e.v v w ≡ true → names e v ≡ true
-named e v w j = elim (joins-true e.u e.v v w j) [
+joined_end-named : (e : Entry) (v w : ℕ) → joins e.u e.v v w ≡ true → names e v ≡ true
+joined_end-named e v w j = elim (joins-true e.u e.v v w j) [
   | inl p ↦ or_left (eqb v e.u) (eqb v e.v) (eq-eqb v e.u p.0)
   | inr p ↦ or_right (eqb v e.u) (eqb v e.v) (eq-eqb v e.v p.0)
 ]
 
 -- the same two ends are one edge
-joined : (g : SimpleGraph) (u v a b : ℕ) → joins u v a b ≡ true → adjacent g a b ≡ adjacent g u v
-joined g u v a b j = elim (joins-true u v a b j) [ inl p ↦ ap₂ (adjacent g) p.0 p.1 | inr p ↦ ap₂ (adjacent g) p.0 p.1 ∙ adjacent-sym g v u ]
+same_ends-adjacent : (g : SimpleGraph) (u v a b : ℕ) → joins u v a b ≡ true → adjacent g a b ≡ adjacent g u v
+same_ends-adjacent g u v a b j = elim (joins-true u v a b j) [ inl p ↦ ap₂ (adjacent g) p.0 p.1 | inr p ↦ ap₂ (adjacent g) p.0 p.1 ∙ adjacent-sym g v u ]
 
 -- where two tests don't hold together and the second holds, the first fails
 not_both : (p q : Bool) → (p && q) ≡ false → q ≡ true → p ≡ false
 not_both p q h k = grind (arith, h, k)
 
 -- a test stays with another one added to it that holds only where it does
-added : (a j : Bool) → (j ≡ true → a ≡ true) → (a || j) ≡ a
-added a j h = elim (cases_Bool j) [ inl t ↦ let k = h t in grind (arith, t, k) | inr f ↦ grind (arith, f) ]
+test-added : (a j : Bool) → (j ≡ true → a ≡ true) → (a || j) ≡ a
+test-added a j h = elim (cases_Bool j) [ inl t ↦ let k = h t in grind (arith, t, k) | inr f ↦ grind (arith, f) ]
 
 -- a test stays with another one taken from it that holds only where it fails
-removed : (a j : Bool) → (j ≡ true → a ≡ false) → (a && not j) ≡ a
-removed a j h = elim (cases_Bool j) [ inl t ↦ let k = h t in grind (arith, t, k) | inr f ↦ grind (arith, f) ]
+test-removed : (a j : Bool) → (j ≡ true → a ≡ false) → (a && not j) ≡ a
+test-removed a j h = elim (cases_Bool j) [ inl t ↦ let k = h t in grind (arith, t, k) | inr f ↦ grind (arith, f) ]
 
 -- a test whose negation fails holds
 not_not : (b : Bool) → not b ≡ false → b ≡ true
@@ -88,23 +88,24 @@ not_not b h = grind (arith, h)
 with-same : (g : SimpleGraph) (u v a b : ℕ) → (joins u v a b ≡ true → adjacent g u v ≡ true) → adjacent (with_edge g u v) a b ≡ adjacent g a b
 with-same g u v a b h = elim (cases_eq u v) [
   | inl e ↦ ap (λ z. adjacent (with_edge g u z) a b) (sym e) ∙ with-itself g u a b
-  | inr differ ↦ adjacent-with g u v a b differ ∙ added (adjacent g a b) (joins u v a b) (λ j. joined g u v a b j ∙ h j)
+  | inr differ ↦ adjacent-with g u v a b differ ∙ test-added (adjacent g a b) (joins u v a b) (λ j. same_ends-adjacent g u v a b j ∙ h j)
 ]
 
 -- a removal leaves an edge where it was not there, or other ends are asked for
 without-same : (g : SimpleGraph) (u v a b : ℕ) → (joins u v a b ≡ true → adjacent g u v ≡ false) → adjacent (without_edge g u v) a b ≡ adjacent g a b
 without-same g u v a b h = elim (cases_eq u v) [
   | inl e ↦ ap (λ z. adjacent (without_edge g u z) a b) (sym e) ∙ without-itself g u a b
-  | inr differ ↦ adjacent-without g u v a b differ ∙ removed (adjacent g a b) (joins u v a b) (λ j. joined g u v a b j ∙ h j)
+  | inr differ ↦ adjacent-without g u v a b differ ∙ test-removed (adjacent g a b) (joins u v a b) (λ j. same_ends-adjacent g u v a b j ∙ h j)
 ]
 
 -- an entry that is not applied, or does not name the vertex, changes no edge of it
-pub unchanged : (g : SimpleGraph) (e : Entry) (v : ℕ) → (changes_graph e g && names e v) ≡ false → (w : ℕ) → adjacent (after_entry g e) v w ≡ adjacent g v w
-unchanged g e v none w =
+pub neighbours-unchanged : (g : SimpleGraph) (e : Entry) (v : ℕ) → (changes_graph e g && names e v) ≡ false → (w : ℕ)
+    → adjacent (after_entry g e) v w ≡ adjacent g v w
+neighbours-unchanged g e v none w =
     elim e.add as (λ b. (cond b (not (adjacent g e.u e.v)) (adjacent g e.u e.v) && names e v) ≡ false
     → adjacent (cond b (with_edge g e.u e.v) (without_edge g e.u e.v)) v w ≡ adjacent g v w) [
-      | true ↦ λ h. with-same g e.u e.v v w (λ j. not_not _ (not_both _ _ h (named e v w j)))
-      | false ↦ λ h. without-same g e.u e.v v w (λ j. not_both _ _ h (named e v w j))
+      | true ↦ λ h. with-same g e.u e.v v w (λ j. not_not _ (not_both _ _ h (joined_end-named e v w j)))
+      | false ↦ λ h. without-same g e.u e.v v w (λ j. not_both _ _ h (joined_end-named e v w j))
     ] none
 
 -- an entry leaves the number of vertices
@@ -122,7 +123,7 @@ same_neighbours g h v size same i = reverse (filter (λ w. same w i) (below (siz
 
 -- an entry that is not applied, or does not name the vertex, leaves the list of its neighbours
 pub unchanged_list : (g : SimpleGraph) (e : Entry) (v : ℕ) → (changes_graph e g && names e v) ≡ false → neighbours_of (after_entry g e) v ≡ neighbours_of g v
-unchanged_list g e v none = same_neighbours g (after_entry g e) v (size-after g e) (unchanged g e v none)
+unchanged_list g e v none = same_neighbours g (after_entry g e) v (size-after g e) (neighbours-unchanged g e v none)
 
 -- Along entries. ------------------------------------------------------------------------------------
 
@@ -161,7 +162,7 @@ same_row g (e ∷ es) number v stamp at le w =
           let zero_then : at - suc number ≡ 0 = omega (arith, behind) in
           rest
           ∙ (ap (λ n. adjacent (after_entries (after_entry g e) (take n es)) v w) zero_then
-          ∙ (unchanged g e v none w ∙ ap (λ n. adjacent (after_entries g (take n (e ∷ es))) v w) (sym zero_now)))
+          ∙ (neighbours-unchanged g e v none w ∙ ap (λ n. adjacent (after_entries g (take n (e ∷ es))) v w) (sym zero_now)))
     ]
 
 -- the edges of a vertex after entries up to its stamp or further are those of now
@@ -247,8 +248,8 @@ graph_next table opened old new x is = ap (after_entries opened) is ∙ after_en
 pub not_applied : (g : SimpleGraph) (e : Entry) → (e.u ≡ e.v → ⊥) → changes_graph e g ≡ false → after_entry g e ≡ g
 not_applied g e differ none =
     elim e.add as (λ b. cond b (not (adjacent g e.u e.v)) (adjacent g e.u e.v) ≡ false → cond b (with_edge g e.u e.v) (without_edge g e.u e.v) ≡ g) [
-      | true ↦ λ h. sym (present g e.u e.v differ (not_not _ h))
-      | false ↦ λ h. sym (missing g e.u e.v differ h)
+      | true ↦ λ h. sym (edge-present g e.u e.v differ (not_not _ h))
+      | false ↦ λ h. sym (edge-missing g e.u e.v differ h)
     ] none
 
 -- A stamp is the number of an entry, or as it was at the opening. ----------------------------------------

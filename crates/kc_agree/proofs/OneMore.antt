@@ -14,7 +14,7 @@ use Rattle.kc_view.specs.Answers.{Answers, has_core, with_place, with_order}
 use Rattle.kc_order.specs.Standing.{Compares}
 use Rattle.kc_agree.specs.Reads.{StoodSo, WereRead, order_answer, place_after}
 use Rattle.kc_agree.specs.Stamps.{place_stamp}
-use Rattle.kc_agree.proofs.Answering.{loaded_place, compared}
+use Rattle.kc_agree.proofs.Answering.{loaded_place, comparison-read}
 use Rattle.kc_agree.proofs.Growing.{reads_stay}
 
 -- nothing more, while the log has grown
@@ -51,7 +51,7 @@ pub order_read : (t t' : TableName) (opened : SimpleGraph) (old new : List Event
     → t' ≡ t → StoodSo t old new x y before → b ≡ with_order a (record { x = x; y = y; before = before })
     → x ≢ y → has_core a x ≡ true → has_core a y ≡ true → WereRead t opened old a → WereRead t' opened new b
 order_read t t' opened old new a b x y before table stood more differ rx ry h =
-    let later : WereRead t opened new b = subst (WereRead t opened new) (sym more) (compared t opened old new a x y before differ rx ry stood h) in
+    let later : WereRead t opened new b = subst (WereRead t opened new) (sym more) (comparison-read t opened old new a x y before differ rx ry stood h) in
     subst (λ z. WereRead z opened new b) (sym table) later
 
 -- how a comparison that told it found the two

@@ -13,7 +13,7 @@ use Rattle.kc_graph.specs.declared.used.UsedPlace.{UsedPlace}
 use Rattle.kc_graph.specs.declared.used.UsedOrder.{UsedOrder}
 use Rattle.kc_table.specs.declared.view.Event.{Event}
 use Rattle.kc_table.specs.Log.{TableName}
-use Rattle.kc_table.proofs.Listed.{stands}
+use Rattle.kc_table.proofs.Listed.{list-stands}
 use Rattle.kc_table.proofs.Prefixes.{prefix_self}
 use Rattle.kc_view.specs.Answers.{Answers, core_in}
 use Rattle.kc_order.specs.Standing.{list_after}
@@ -25,9 +25,9 @@ use Rattle.kc_agree.proofs.Neighbouring.{current_neighbours, no_later}
 use Rattle.kc_agree.proofs.Bystanders.{first_of_two, filter-order}
 
 -- two items of a list stand at two places
-apart : (x y : ℕ) (l : List ℕ) → x ≢ y → member x l ≡ true → place_of x l ≢ place_of y l
-apart x y [] differ m e = false≢true m
-apart x y (w ∷ l) differ m e = elim (cases_eq x w) [
+places-apart : (x y : ℕ) (l : List ℕ) → x ≢ y → member x l ≡ true → place_of x l ≢ place_of y l
+places-apart x y [] differ m e = false≢true m
+places-apart x y (w ∷ l) differ m e = elim (cases_eq x w) [
   | inl here ↦
       let zero_x : place_of x (w ∷ l) ≡ 0 = ap (λ b. cond b 0 (suc (place_of x l))) (eq-eqb x w here) in
       let suc_y : place_of y (w ∷ l) ≡ suc (place_of y l) = ap (λ b. cond b 0 (suc (place_of y l))) (ne_eqb y w (λ k. differ (here ∙ sym k))) in
@@ -41,7 +41,7 @@ apart x y (w ∷ l) differ m e = elim (cases_eq x w) [
         | inr none ↦
             let suc_y : place_of y (w ∷ l) ≡ suc (place_of y l) = ap (λ b. cond b 0 (suc (place_of y l))) (ne_eqb y w none) in
             let rest : member x l ≡ true = elim (member-cases x w l m) [ inl k ↦ absurd (other k) | inr k ↦ k ] in
-            apart x y l differ rest (omega (arith, e, suc_x, suc_y))
+            places-apart x y l differ rest (omega (arith, e, suc_x, suc_y))
       ]
 ]
 
@@ -74,7 +74,7 @@ module _ (table : TableName) (opened : SimpleGraph) (stamps : List ℕ) (log : L
   own_order a o places own =
       let lx = low a o.x places own.first_read in
       let ly = low a o.y places own.second_read in
-      let listed = (stands table.shape table.opening log rest.legal).listed in
+      let listed = (list-stands table.shape table.opening log rest.legal).listed in
       let mx = listed.vertices o.x lx in
       let my = listed.vertices o.y ly in
       let list = list_after table log in
@@ -91,7 +91,7 @@ module _ (table : TableName) (opened : SimpleGraph) (stamps : List ℕ) (log : L
         stood = record {
           before = λ t. record { first = mx; second = my; before = ltb-true _ _ (sym is ∙ t) };
           after = λ f.
-              let ne = apart o.x o.y list own.differ mx in
+              let ne = places-apart o.x o.y list own.differ mx in
               let le = ltb-false _ _ (sym is ∙ f) in
               record { first = my; second = mx; before = omega (arith, ne, le) };
         };

@@ -11,7 +11,7 @@ use Rattle.kc_table.specs.Legal.{IsClosed, Legal}
 use Rattle.kc_table.specs.Log.{TableName}
 use Rattle.kc_table.specs.Sections.{item_put}
 use Rattle.kc_table.proofs.LegalLogs.{legal-prefix}
-use Rattle.kc_table.proofs.Listed.{Announced, stands}
+use Rattle.kc_table.proofs.Listed.{Announced, list-stands}
 use Rattle.kc_table.proofs.Prefixes.{prefix_trans}
 use Rattle.kc_table.proofs.Stamps.{open-since, put-since}
 use Rattle.kc_agree.specs.Moved.{Announces, StaysPut}
@@ -45,7 +45,7 @@ module _ (table : TableName) (p q : List Event) (v : ℕ) (low : v < table.shape
       let before : Legal table.shape table.opening log =
       legal-prefix table.shape table.opening log (log ++ e ∷ []) (e ∷ [], refl) (legal-prefix table.shape table.opening (log ++ e ∷ []) q b legal) in
       let s = made_by table log in
-      let put = moved-put table.shape s.list s.note e.word v low (stands table.shape table.opening log before).announced moves.0 moves.1 in
+      let put = moved-put table.shape s.list s.note e.word v low (list-stands table.shape table.opening log before).announced moves.0 moves.1 in
       elim (put-since table.shape table.opening v low p log e q a b legal put) [
         | inl k ↦ false≢true (sym (ap (member v) closed.0) ∙ k)
         | inr lt ↦ omega (arith, lt, le)

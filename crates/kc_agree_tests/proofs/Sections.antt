@@ -19,10 +19,10 @@ same_stamp old new v same =
     ∙ (ap (λ z. (vertex_of z).stamp) same ∙ sym (stamp-is old.table.shape old.table.opening old.log v))
 
 -- an entry has the next number, and no vertex has its stamp yet
-pub entered : (old new : Seen) (value : ℕ) (e : Entry) (v : ℕ) → v < old.table.shape.fixed → Stores old new 0 value
+pub next_entry-entered : (old new : Seen) (value : ℕ) (e : Entry) (v : ℕ) → v < old.table.shape.fixed → Stores old new 0 value
     → Leaves new (entries_after old ++ e ∷ []) [] (vertex_word_after old)
     → (number_of new.table new.log ≡ number_of old.table old.log + 1) × (place_stamp new.table new.log v < number_of new.table new.log)
-entered old new value e v low stores leaves =
+next_entry-entered old new value e v low stores leaves =
     let next : List Event = old.log ++ event 0 value ∷ [] in
     let legal : Legal old.table.shape old.table.opening next =
     subst (λ (s : Seen). Legal s.table.shape s.table.opening s.log) stores.is stores.legal in
@@ -39,7 +39,7 @@ pub may_put : (old new : Seen) (value : ℕ) (e : Entry) (v : ℕ) → v < old.t
     → MayPut new.table.shape (state_of new.table.shape new.table.opening new.log) v
 may_put old new value e v low stores leaves = record {
   inside = omega (arith, ap length leaves.entries_are, length-append (entries_after old) (e ∷ []));
-  once = (entered old new value e v low stores leaves).1;
+  once = (next_entry-entered old new value e v low stores leaves).1;
 }
 
 -- the word 0 has stamp 0

@@ -32,7 +32,7 @@ use Rattle.kc_batch.proofs.Counting.{some_of}
 use Rattle.kc_batch.proofs.Going.{went-entries, went-renewed, went-stays}
 use Rattle.kc_batch.proofs.Pacing.{pace-few, pace-renewed, pace-round}
 use Rattle.kc_batch.proofs.Telling.{receipt_of, receipt_of-earlier, receipt_of-grows}
-use Rattle.kc_batch.proofs.Turning.{fewer, whole-length}
+use Rattle.kc_batch.proofs.Turning.{distinct_within-fewer, whole-length}
 use Rattle.kc_batch.proofs.Working.{misses-stay, told-append}
 
 -- the opened table of a journal that stays in it
@@ -205,8 +205,8 @@ made_all old now first batch ended works taken a whole none =
         arith,
         length-map (all_receipts works) (λ (r : Receipt). r.index),
         length-map taken (λ (place : ℕ). first + place),
-        fewer told places once into,
-        fewer places told (distinct-placed first taken whole.share.once) back,
+        distinct_within-fewer told places once into,
+        distinct_within-fewer places told (distinct-placed first taken whole.share.once) back,
         whole-length (length batch) taken whole,
       );
     }

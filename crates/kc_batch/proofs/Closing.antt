@@ -43,7 +43,7 @@ use Rattle.kc_batch.specs.declared.standing.Standing.TheVariants.{Free, Keeping,
 use Rattle.kc_batch.proofs.Accounting.{account-renewed, account-round, distinct-placed, made_all, made_so, member-placed, told-le, told-once}
 use Rattle.kc_batch.proofs.Going.{stays-self}
 use Rattle.kc_batch.proofs.Rounding.{all-backward, all-unmapped, length-backward}
-use Rattle.kc_batch.proofs.Turning.{fewer, share-turned}
+use Rattle.kc_batch.proofs.Turning.{distinct_within-fewer, share-turned}
 use Rattle.kc_batch.proofs.Working.{keeps-nothing, told-append}
 
 -- the last of a list is one of it
@@ -199,7 +199,7 @@ module _ (old now : Journalled) (first : ℕ) (batch : List Update) (ended : Lis
       omega (
         arith,
         a.count,
-        fewer (y ∷ told) places once into,
+        distinct_within-fewer (y ∷ told) places once into,
         length-map (all_receipts works) (λ (r : Receipt). r.index),
         length-map taken (λ (p : ℕ). first + p),
         below_bound (length batch) taken share.once share.below,

@@ -40,8 +40,8 @@ distinct-images f (x ∷ xs) d =
     (false_from_ne_true (member x xs) (λ m. true≢false (sym (member-image f x xs m) ∙ d.0)), distinct-images f xs d.1)
 
 -- no number's image is both among the images of a list and not
-clash : (x y : ℕ) (xs : List ℕ) (f : ℕ → ℕ) → y ≡ f x → member y (map f xs) ≡ true → member (f x) (map f xs) ≡ false → ⊥
-clash x y xs f e m away = true≢false (sym (subst (λ (z : ℕ). member z (map f xs) ≡ true) e m) ∙ away)
+image-clash : (x y : ℕ) (xs : List ℕ) (f : ℕ → ℕ) → y ≡ f x → member y (map f xs) ≡ true → member (f x) (map f xs) ≡ false → ⊥
+image-clash x y xs f e m away = true≢false (sym (subst (λ (z : ℕ). member z (map f xs) ≡ true) e m) ∙ away)
 
 -- of numbers with distinct images, two with one image are one
 pub images-apart : (f : ℕ → ℕ) (xs : List ℕ) (a b : ℕ) → Distinct (map f xs) → member a xs ≡ true → member b xs ≡ true → f a ≡ f b → a ≡ b
@@ -49,10 +49,10 @@ images-apart f [] a b d in_a in_b same = absurd (true≢false (sym in_a))
 images-apart f (x ∷ xs) a b d in_a in_b same = elim (member-cases a x xs in_a) [
   | inl ea ↦ elim (member-cases b x xs in_b) [
     | inl eb ↦ ea ∙ sym eb
-    | inr kb ↦ absurd (clash x (f b) xs f (sym same ∙ ap f ea) (member-image f b xs kb) d.0)
+    | inr kb ↦ absurd (image-clash x (f b) xs f (sym same ∙ ap f ea) (member-image f b xs kb) d.0)
   ]
   | inr ka ↦ elim (member-cases b x xs in_b) [
-    | inl eb ↦ absurd (clash x (f a) xs f (same ∙ ap f eb) (member-image f a xs ka) d.0)
+    | inl eb ↦ absurd (image-clash x (f a) xs f (same ∙ ap f eb) (member-image f a xs ka) d.0)
     | inr kb ↦ images-apart f xs a b d.1 ka kb same
   ]
 ]

@@ -17,8 +17,8 @@ pub turned-append : (order xs ys : List ℕ) → at_turns order (xs ++ ys) ≡ a
 turned-append order xs ys = map-append (λ (turn : ℕ). get_or order turn 0) xs ys
 
 -- of distinct numbers that stand all in another list there are no more than there
-pub fewer : (xs ys : List ℕ) → Distinct xs → ((x : ℕ) → member x xs ≡ true → member x ys ≡ true) → length xs ≤ length ys
-fewer xs ys d h =
+pub distinct_within-fewer : (xs ys : List ℕ) → Distinct xs → ((x : ℕ) → member x xs ≡ true → member x ys ≡ true) → length xs ≤ length ys
+distinct_within-fewer xs ys d h =
     let any : ℕ → Bool = λ x. true in
     omega (arith, count-le any xs ys d (λ x m t. h x m), count-all any xs (λ x m. refl), count-all any ys (λ x m. refl))
 
@@ -28,7 +28,7 @@ whole-length n taken whole =
     omega (
       arith,
       below_bound n taken whole.share.once whole.share.below,
-      fewer (below n) taken (Distinct-below n) (λ x m. whole.all x (below-member x n m)),
+      distinct_within-fewer (below n) taken (Distinct-below n) (λ x m. whole.all x (below-member x n m)),
       length-below n,
     )
 
@@ -46,6 +46,7 @@ record HasTurn (order turns : List ℕ) (place : ℕ) : Type 0 where
   pub taken : member turn turns ≡ true
   pub at : get_or order turn 0 ≡ place
 
+-- and a place of those that were taken has a turn that was taken
 member-turned : (order turns : List ℕ) (place : ℕ) → member place (at_turns order turns) ≡ true → HasTurn order turns place
 member-turned order [] place m = absurd (false≢true m)
 member-turned order (u ∷ us) place m = elim (member-cases place (get_or order u 0) (at_turns order us) m) [

@@ -164,25 +164,26 @@ module _ (o : Opened) (start : List Event) (first : ℕ) (batch : List Update) (
       ))
 
   -- The update is kept still, or is dropped.
-  pub keeps : (s : Seated) (place amount : ℕ) (seen : Seen) → amount ≡ s.amount → IsPrefix s.seen.log seen.log → Legal o.table.shape o.table.opening seen.log
+  pub seat-keeps : (s : Seated) (place amount : ℕ) (seen : Seen) → amount ≡ s.amount → IsPrefix s.seen.log seen.log
+      → Legal o.table.shape o.table.opening seen.log
       → Works o start first batch order s (record s { seen = seen; amount = amount })
-  keeps s place amount seen same pre legal =
+  seat-keeps s place amount seen same pre legal =
       idles s _ (record { done = refl; none = refl; amount = same; number = refl }) pre legal refl refl (λ y. refl)
 
-  pub drops : (s : Seated) (place amount : ℕ) (seen : Seen) → s.work.left ≡ Kept place → amount ≡ s.amount → IsPrefix s.seen.log seen.log
+  pub seat-drops : (s : Seated) (place amount : ℕ) (seen : Seen) → s.work.left ≡ Kept place → amount ≡ s.amount → IsPrefix s.seen.log seen.log
       → Legal o.table.shape o.table.opening seen.log
       → Works o start first batch order s (record s { seen = seen; amount = amount; work = record { done = s.work.done; left = Dropped place } })
-  drops s place amount seen kept same pre legal =
+  seat-drops s place amount seen kept same pre legal =
       idles s _ (record { done = refl; none = ap untold (sym kept); amount = same; number = refl }) pre legal refl refl
       (λ y. omega (arith, ap (λ (l : Left). times y (in_hand first l)) kept))
 
   -- The update is entered.
-  pub finishes : (s : Seated) (place amount : ℕ) (seen : Seen) (update : Update) (done : Done) → s.work.left ≡ Kept place → amount ≡ s.amount + 1
+  pub seat-finishes : (s : Seated) (place amount : ℕ) (seen : Seen) (update : Update) (done : Done) → s.work.left ≡ Kept place → amount ≡ s.amount + 1
       → IsPrefix start s.seen.log → IsPrefix s.seen.log seen.log → Legal o.table.shape o.table.opening seen.log
       → IsUpdateAt first batch (first + place) update → IsDone o s.seen.log seen.log (first + place) update done
       → Works o start first batch order s
       (record s { seen = seen; amount = amount; work = record { done = s.work.done ++ done ∷ []; left = Nothing } })
-  finishes s place amount seen update done kept more told pre legal at h =
+  seat-finishes s place amount seen update done kept more told pre legal at h =
       enters s _ place done.receipt (done ∷ [])
       (record {
         kept = kept;
@@ -219,22 +220,22 @@ module _ (o : Opened) (start : List Event) (first : ℕ) (batch : List Update) (
       pre legal (receipt_in o start s.seen.log seen.log first batch (first + place) update receipt told at h) (All-nil (HasTrueMisses o start seen.log))
 
   -- So it is whatever became of the update.
-  pub tries : (s : Seated) (place amount : ℕ) (seen : Seen) (update : Update) (outcome : Result Done UpdateFault) → s.work.left ≡ Kept place
+  pub seat-tries : (s : Seated) (place amount : ℕ) (seen : Seen) (update : Update) (outcome : Result Done UpdateFault) → s.work.left ≡ Kept place
       → IsPrefix start s.seen.log → IsPrefix s.seen.log seen.log → Legal o.table.shape o.table.opening seen.log
       → IsUpdateAt first batch (first + place) update
       → IfOk outcome (λ done. IsDone o s.seen.log seen.log (first + place) update done)
       → IfErr outcome (λ fault. HasUpdateCause o s.seen.log seen.log (first + place) update fault)
       → MatchResult outcome (λ done. amount ≡ s.amount + 1) (λ fault. amount ≡ s.amount + entered_by fault)
       → Works o start first batch order s (record s { seen = seen; amount = amount; work = noted place outcome s.work })
-  tries s place amount seen update (Ok one) kept told pre legal at done cause more =
-      finishes s place amount seen update one kept more told pre legal at done
-  tries s place amount seen update (Err (fault.Spent highest needed)) kept told pre legal at done cause more =
-      keeps s place amount seen (omega arith) pre legal
-  tries s place amount seen update (Err (fault.Full entries)) kept told pre legal at done cause more =
-      keeps s place amount seen (omega arith) pre legal
-  tries s place amount seen update (Err (fault.NoMemory None)) kept told pre legal at done cause more =
-      drops s place amount seen kept (omega arith) pre legal
-  tries s place amount seen update (Err (fault.NoMemory (Some receipt))) kept told pre legal at done cause more =
+  seat-tries s place amount seen update (Ok one) kept told pre legal at done cause more =
+      seat-finishes s place amount seen update one kept more told pre legal at done
+  seat-tries s place amount seen update (Err (fault.Spent highest needed)) kept told pre legal at done cause more =
+      seat-keeps s place amount seen (omega arith) pre legal
+  seat-tries s place amount seen update (Err (fault.Full entries)) kept told pre legal at done cause more =
+      seat-keeps s place amount seen (omega arith) pre legal
+  seat-tries s place amount seen update (Err (fault.NoMemory None)) kept told pre legal at done cause more =
+      seat-drops s place amount seen kept (omega arith) pre legal
+  seat-tries s place amount seen update (Err (fault.NoMemory (Some receipt))) kept told pre legal at done cause more =
       leaves-untold s place amount seen update receipt kept more told pre legal at cause
 
   -- One step after the other.
@@ -327,18 +328,18 @@ module _ {o : Opened} {start : List Event} {count : ℕ} {s now : Seated} (same 
       subst (λ (n : Seated). Works o start first batch order n (record s { work = record { done = s.work.done; left = Kept place }; consumer = consumer }))
       same (picks-next o start first batch order s place consumer none legal-now as-before is)
 
-  pub dropped : {first : ℕ} {batch : List Update} {order : List ℕ} {place : ℕ} {had : List Done} → now.work.left ≡ Kept place → had ≡ s.work.done
+  pub update-dropped : {first : ℕ} {batch : List Update} {order : List ℕ} {place : ℕ} {had : List Done} → now.work.left ≡ Kept place → had ≡ s.work.done
       → Works o start first batch order now (record s { work = record { done = had; left = Dropped place } })
-  dropped {first} {batch} {order} {place} {had} kept is =
+  update-dropped {first} {batch} {order} {place} {had} kept is =
       subst (λ (n : Seated). Works o start first batch order n (record s { work = record { done = had; left = Dropped place } })) same
       (subst (λ (z : List Done). Works o start first batch order s (record s { work = record { done = z; left = Dropped place } })) (sym is)
-      (drops o start first batch order s place s.amount s.seen (ap (λ (n : Seated). n.work.left) same ∙ kept) refl (prefix_self s.seen.log) legal-now))
+      (seat-drops o start first batch order s place s.amount s.seen (ap (λ (n : Seated). n.work.left) same ∙ kept) refl (prefix_self s.seen.log) legal-now))
 
-  pub tried : {first : ℕ} {batch : List Update} {order : List ℕ} {place : ℕ} {seen : Seen} {amount : ℕ} {work : Work}
+  pub update-tried : {first : ℕ} {batch : List Update} {order : List ℕ} {place : ℕ} {seen : Seen} {amount : ℕ} {work : Work}
       → IsTried o first batch s place seen amount work
       → Works o start first batch order now (record s { seen = seen; amount = amount; work = work })
-  tried {first} {batch} {order} {place} {seen} {amount} {work} t =
+  update-tried {first} {batch} {order} {place} {seen} {amount} {work} t =
       subst (λ (n : Seated). Works o start first batch order n (record s { seen = seen; amount = amount; work = work })) same
       (subst (λ (z : Work). Works o start first batch order s (record s { seen = seen; amount = amount; work = z })) (noted-so t)
-      (tries o start first batch order s place amount seen t.update t.outcome t.kept told-now t.longer t.legal
+      (seat-tries o start first batch order s place amount seen t.update t.outcome t.kept told-now t.longer t.legal
       (update_at first batch place t.update t.within t.at) t.entered t.cause t.counted))

@@ -196,11 +196,11 @@ arranged-still s h =
     }
 
 -- what moves that fit make of the order and the numbers
-pub arranged : (s : Ranked) (moves : Moves) → IsCertified s → MovesFit s moves
+pub moves-arranged : (s : Ranked) (moves : Moves) → IsCertified s → MovesFit s moves
     → Arranged s (moved_by moves s).core (moved_by moves s).order (moved_vertices moves) (stands_after moves s)
-arranged s Kept h fit = arranged-still s h
-arranged s Plain h fit = arranged-still s h
-arranged s (Rise level rise shifts) h fit =
+moves-arranged s Kept h fit = arranged-still s h
+moves-arranged s Plain h fit = arranged-still s h
+moves-arranged s (Rise level rise shifts) h fit =
     let low : ℕ → Bool = λ y. leb (get_or s.core y 0) level in
     arranged_by s low rise.items shifts.items level (level + 1) (rise.items ++ firsts shifts.items) h (record {
       once = Distinct-front rise.items (firsts shifts.items) fit.once;
@@ -212,7 +212,7 @@ arranged s (Rise level rise shifts) h fit =
       high_above = λ y t. omega (arith, leb-false (get_or s.core y 0) level t);
       low_first = λ y z a b. omega (arith, leb-true (get_or s.core y 0) level a, leb-false (get_or s.core z 0) level b);
     }) (λ y m. not_member-append y rise.items (firsts shifts.items) m)
-arranged s (Fall level fall) h fit =
+moves-arranged s (Fall level fall) h fit =
     let low : ℕ → Bool = λ y. ltb (get_or s.core y 0) level in
     arranged_by s low fall.items [] level (level - 1) fall.items h (record {
       once = fit.once;

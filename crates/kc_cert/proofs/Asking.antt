@@ -19,7 +19,7 @@ use Rattle.kc_cert.specs.Local.{firsts, seconds, AreInTurn, MovesFit, HoldsAt}
 use Rattle.kc_cert.specs.Ranks.{rank_in, place_after}
 use Rattle.kc_cert.specs.Stands.{leaving, next_level, shifts_of, is_low, stands_after, changed_by}
 use Rattle.kc_cert.specs.Shifting.{place_in, anchor_of, line_after, home_after, no_home, chain_after}
-use Rattle.kc_cert.proofs.Arranging.{renumbered-at, after_by, arranged}
+use Rattle.kc_cert.proofs.Arranging.{renumbered-at, after_by, moves-arranged}
 use Rattle.kc_cert.proofs.Placing.{Orders-distinct, later-count}
 use Rattle.kc_cert.proofs.Sums.{count-same}
 use Rattle.kc_cert.proofs.Ordered.{order-has, rank-apart}
@@ -139,9 +139,9 @@ pub record Counted (s : Ranked) (update : Update) (moves : Moves) (z : ℕ) : Ty
       (below s.graph.size)
 
 -- in a certified state, with moves that fit, what is asked at each vertex comes to such counts
-pub counted : (s : Ranked) (update : Update) (moves : Moves) (z : ℕ) → IsCertified s → MovesFit s moves → z < s.graph.size → Counted s update moves z
-counted s update moves z h fit l =
-    let a = arranged s moves h fit in
+pub asked-counted : (s : Ranked) (update : Update) (moves : Moves) (z : ℕ) → IsCertified s → MovesFit s moves → z < s.graph.size → Counted s update moves z
+asked-counted s update moves z h fit l =
+    let a = moves-arranged s moves h fit in
     let n : ℕ = s.graph.size in
     let g : SimpleGraph = updated update s.graph in
     let core : List ℕ = (moved_by moves s).core in

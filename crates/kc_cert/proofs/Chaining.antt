@@ -229,8 +229,8 @@ pub anchor-alone : (line : List ℕ) (home : ℕ → Option ℕ) (y : ℕ) → (
 anchor-alone line home y held n = unwrap-none (home y) y (held y ∙ n)
 
 -- of two different numbers one is less just where the other is not
-opposite : (p q : ℕ) → p ≢ q → not (ltb p q) ≡ ltb q p
-opposite p q ne = elim (cases_lt p q) [
+less-opposite : (p q : ℕ) → p ≢ q → not (ltb p q) ≡ ltb q p
+less-opposite p q ne = elim (cases_lt p q) [
   | inl l ↦ ap not (lt-ltb p q l) ∙ sym (le-ltb q p (omega arith))
   | inr l ↦ ap not (le-ltb p q l) ∙ sym (lt-ltb q p (omega arith))
 ]
@@ -308,7 +308,7 @@ far-more place now n line home x w lw h y z ly lz ne = elim (cases_eq y x) [
             ∙
             (doubled_behind (now w) (now y)
             ∙
-            (opposite (now w) (now y) apart
+            (less-opposite (now w) (now y) apart
             ∙ (h.far y w ly lw (λ e. ne (ay ∙ (e ∙ sym az))) ∙ ap₂ ltb (ap place (sym ay)) (ap place (sym az)))))
         | inr nz ↦
             let az = anchor_with-other x w z home nz in

@@ -64,10 +64,10 @@ degree_as_high-order g core order v e =
     omega (arith, up, down)
 
 -- the unmarked neighbours that were counted are as many as those that stand later
-pub counted : (g : SimpleGraph) (v j n : ℕ) (order ws : List ℕ) (marks now : List Bool) → Enumerates g.size order → AreNeighbours g v ws
+pub unmarked-counted : (g : SimpleGraph) (v j n : ℕ) (order ws : List ℕ) (marks now : List Bool) → Enumerates g.size order → AreNeighbours g v ws
     → MarkedTo g.size j order marks → now ≡ marks
     → n ≡ count_by (λ w. not (get_or now w false)) ws → n ≡ degree_among g (drop j order) v
-counted g v j n order ws marks now e near marked same is =
+unmarked-counted g v j n order ws marks now e near marked same is =
     is ∙ ap (λ (t : List Bool). count_by (λ w. not (get_or t w false)) ws) same ∙ later_count g v j order ws marks e near marked
 
 -- the conditions make the certificate

@@ -43,8 +43,8 @@ risen_all core order last h i j d lt l =
     omega (arith, h.pairs i j lt l, ap (λ x. get_or core x 0) (get_or-any order i d 0 (omega arith)), ap (λ x. get_or core x 0) (get_or-any order j d 0 l))
 
 -- where one number is less than the one before, the numbers fall
-pub falls : (core order : List ℕ) (i last : ℕ) → RisenTo core order i last → i < length order → number_at core order i < last → NeverFalls core order → ⊥
-falls core order i last h l down rising = elim (cases_eq i 0) [
+pub numbers-fall : (core order : List ℕ) (i last : ℕ) → RisenTo core order i last → i < length order → number_at core order i < last → NeverFalls core order → ⊥
+numbers-fall core order i last h l down rising = elim (cases_eq i 0) [
   | inl e ↦ omega (arith, h.first e)
   | inr ne ↦ omega (arith, h.last_is (i - 1) (omega arith), rising (i - 1) i 0 (omega arith) l)
 ]

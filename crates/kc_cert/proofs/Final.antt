@@ -50,8 +50,8 @@ filter-has p z xs = elim (cases_Bool (member z (filter p xs))) [
 ]
 
 -- a member is one of those that moved, of the low others or of the rest
-three : (m a low f g : Bool) → (a ≡ true → m ≡ true) → f ≡ (m && (low && not a)) → g ≡ (m && (not low && not a)) → (f || (a || g)) ≡ m
-three m a low f g sub hf hg = grind arith
+member-three_ways : (m a low f g : Bool) → (a ≡ true → m ≡ true) → f ≡ (m && (low && not a)) → g ≡ (m && (not low && not a)) → (f || (a || g)) ≡ m
+member-three_ways m a low f g sub hf hg = grind arith
 
 -- nothing is less than itself, whichever part and place are compared
 pub not_itself : (p : ℕ) (r : Bool) (n m : ℕ) → (ltb p p || (eqb p p && cond r (ltb n n) (ltb m m))) ≡ false
@@ -113,7 +113,7 @@ final-has is_low cands order sub z =
     let high : ℕ → Bool = λ y. not (is_low y) && not (member y cands) in
     list_any-append (eqb z) (filter low order) (cands ++ filter high order)
     ∙ (ap (λ b. member z (filter low order) || b) (list_any-append (eqb z) cands (filter high order)) ∙
-    three (member z order) (member z cands) (is_low z) (member z (filter low order)) (member z (filter high order)) (sub z)
+    member-three_ways (member z order) (member z cands) (is_low z) (member z (filter low order)) (member z (filter high order)) (sub z)
     (filter-has low z order) (filter-has high z order))
 
 -- no vertex stands after itself

@@ -21,9 +21,9 @@ use Rattle.kc_cert.specs.Local.{moved_vertices, HoldsAt, is_looked_at, IsLocal}
 use Rattle.kc_cert.specs.Ranks.{rank_in}
 use Rattle.kc_cert.specs.Stands.{stands_after}
 use Rattle.kc_cert.proofs.Placing.{Orders-distinct}
-use Rattle.kc_cert.proofs.Ordered.{enumerates, few-ranked, enough-below}
+use Rattle.kc_cert.proofs.Ordered.{distinct-enumerates, few-ranked, enough-below}
 use Rattle.kc_cert.proofs.Holding.{holds-from}
-use Rattle.kc_cert.proofs.Arranging.{Arranged, arranged, Orders-pairs}
+use Rattle.kc_cert.proofs.Arranging.{Arranged, moves-arranged, Orders-pairs}
 
 -- the ends of an update differ
 pub ends_differ : (update : Update) → update.u ≡ update.v → ⊥
@@ -144,7 +144,7 @@ certified_from s t moved lt size a holds =
     λ i d l. omega (arith, below-member (get_or t.order i d) n (sym (all (get_or t.order i d)) ∙ member-get_or t.order i d l)) in
     record {
       one_each = a.one_each ∙ sym size;
-      enumerates = enumerates n t.order once all;
+      enumerates = distinct-enumerates n t.order once all;
       rising =
           λ i j d l lj.
           a.rising (get_or t.order i d) (get_or t.order j d) (vertex i d (omega arith)) (vertex j d lj)
@@ -159,7 +159,7 @@ certified_from s t moved lt size a holds =
 -- a certified state stays so after a plan that passes the local test
 pub certified_after : (s : Ranked) (plan : Plan) → IsCertified s → IsLocal s plan → IsCertified (state_after plan s)
 certified_after s plan h local =
-    let a = arranged s plan.moves h local.moves_fit in
+    let a = moves-arranged s plan.moves h local.moves_fit in
     let size : (state_after plan s).graph.size ≡ s.graph.size = size-after plan.update plan.moves s.graph in
     certified_from s (state_after plan s) (moved_vertices plan.moves) (stands_after plan.moves s) size a
     (λ z l. elim (cases_Bool (is_looked_at plan (state_after plan s).graph z)) [

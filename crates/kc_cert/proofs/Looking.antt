@@ -88,11 +88,11 @@ kept_local s plan h l kept applied = record {
 }
 
 -- a test that a member passes is passed by one of the list
-them : (p : ℕ → Bool) (xs : List ℕ) (x : ℕ) → member x xs ≡ true → p x ≡ true → list_any p xs ≡ true
-them p [] x m t = absurd (false≢true m)
-them p (y ∷ ys) x m t = elim (member-cases x y ys m) [
+list_any-member : (p : ℕ → Bool) (xs : List ℕ) (x : ℕ) → member x xs ≡ true → p x ≡ true → list_any p xs ≡ true
+list_any-member p [] x m t = absurd (false≢true m)
+list_any-member p (y ∷ ys) x m t = elim (member-cases x y ys m) [
   | inl e ↦ or_left (p y) (list_any p ys) (ap p (sym e) ∙ t)
-  | inr k ↦ or_right (p y) (list_any p ys) (them p ys x k t)
+  | inr k ↦ or_right (p y) (list_any p ys) (list_any-member p ys x k t)
 ]
 
 -- it holds wherever the test looks
@@ -151,7 +151,7 @@ holds_there s plan l fit h =
                   | inr n ↦
                       let p = or_parts (eqb y u) (eqb y v) n in
                       let a : adjacent t.graph y x ≡ true = adjacent-elsewhere plan.update s.graph y x p.0 p.1 ∙ (adjacent-sym s.graph y x ∙ near.1) in
-                      h y near.0 (or_right (eqb y u || eqb y v) _ (or_right (member y moved) _ (them (adjacent t.graph y) moved x m a)))
+                      h y near.0 (or_right (eqb y u || eqb y v) _ (or_right (member y moved) _ (list_any-member (adjacent t.graph y) moved x m a)))
                 ];
           };
     }

@@ -63,8 +63,8 @@ order-has n order h y = elim (cases_Bool (member y order)) [
 ]
 
 -- a list of the vertices below `n`, each once, is an order of them
-pub enumerates : (n : ℕ) (order : List ℕ) → Distinct order → ((y : ℕ) → member y order ≡ member y (below n)) → Enumerates n order
-enumerates n order d same = record {
+pub distinct-enumerates : (n : ℕ) (order : List ℕ) → Distinct order → ((y : ℕ) → member y order ≡ member y (below n)) → Enumerates n order
+distinct-enumerates n order d same = record {
   below = λ i e l. below-member (get_or order i e) n (sym (same (get_or order i e)) ∙ member-get_or order i e l);
   distinct = pairs_from_Distinct order d;
   complete = λ v l. Contains-from_member order v (same v ∙ member-below v n l);

@@ -101,8 +101,8 @@ Ascends-placed r x w (y ∷ ys) a m mw =
     ] refl
 
 -- the others stay in a list without one vertex
-left : (x z : ℕ) (xs : List ℕ) → z ≢ x → member z (without x xs) ≡ member z xs
-left x z xs ne = elim (cases_Bool (member z xs)) [
+others-left : (x z : ℕ) (xs : List ℕ) → z ≢ x → member z (without x xs) ≡ member z xs
+others-left x z xs ne = elim (cases_Bool (member z xs)) [
   | inl m ↦ without-member z x xs m ne ∙ sym m
   | inr n ↦ false_from_ne_true _ (λ m. true≢false (sym (member-without z x xs m).0 ∙ n)) ∙ sym n
 ]
@@ -111,17 +111,17 @@ left x z xs ne = elim (cases_Bool (member z xs)) [
 pub put_after-has : (x w : ℕ) (order : List ℕ) → member x order ≡ true → member w order ≡ true → w ≢ x → (z : ℕ)
     → member z (right_after x w (without x order)) ≡ member z order
 put_after-has x w order mx mw ne z =
-    placed_has x w (without x order) (left x w order ne ∙ mw) z
+    placed_has x w (without x order) (others-left x w order ne ∙ mw) z
     ∙ elim (cases_eq z x) [
       | inl e ↦ or_right _ (eqb z x) (eq-eqb z x e) ∙ (sym mx ∙ ap (λ n. member n order) (sym e))
-      | inr nz ↦ ap (λ b. b || eqb z x) (left x z order nz) ∙ (ap (λ b. member z order || b) (ne_eqb z x nz) ∙ or-false (member z order))
+      | inr nz ↦ ap (λ b. b || eqb z x) (others-left x z order nz) ∙ (ap (λ b. member z order || b) (ne_eqb z x nz) ∙ or-false (member z order))
     ]
 
 -- after one shift an order ascends by the ranks after it
 pub put_after-ascends : (r : ℕ → ℕ) (x w : ℕ) (order : List ℕ) → AscendsBy r order → member w order ≡ true → w ≢ x
     → AscendsBy (moved r x w) (right_after x w (without x order))
 put_after-ascends r x w order a mw ne =
-    Ascends-placed r x w (without x order) (Ascends-without r x order a) (not_member-without x order) (left x w order ne ∙ mw)
+    Ascends-placed r x w (without x order) (Ascends-without r x order a) (not_member-without x order) (others-left x w order ne ∙ mw)
 
 -- what is not in a list is not its first
 not_itself : (w x : ℕ) (xs : List ℕ) → member w (x ∷ xs) ≡ false → w ≢ x

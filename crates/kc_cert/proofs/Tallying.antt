@@ -129,12 +129,12 @@ count-other update n z q l =
     ] refl
 
 -- where an edge comes, what passes is what passed before, and the new one
-apart : (a' a j q : Bool) → a' ≡ (a || j) → (j ≡ true → a ≡ false) → one_if (a' && q) ≡ one_if (a && q) + one_if (j && q)
-apart a' a j q e n = grind arith
+edge_comes-apart : (a' a j q : Bool) → a' ≡ (a || j) → (j ≡ true → a ≡ false) → one_if (a' && q) ≡ one_if (a && q) + one_if (j && q)
+edge_comes-apart a' a j q e n = grind arith
 
 -- where an edge goes, what is left and passes is what was there, is kept and passes
-regroup : (a' a j k q : Bool) → a' ≡ (a && not j) → k ≡ not j → (a' && q) ≡ (a && (k && q))
-regroup a' a j k q e f = grind arith
+edge_goes-regrouped : (a' a j k q : Bool) → a' ≡ (a && not j) → k ≡ not j → (a' && q) ≡ (a && (k && q))
+edge_goes-regrouped a' a j k q e f = grind arith
 
 -- a first condition that holds changes nothing
 and-true : (k q : Bool) → k ≡ true → (k && q) ≡ q
@@ -158,7 +158,7 @@ count-updated update g z q l applied =
           ] in
           let sum = count-sum (λ y. adjacent g z y && q y) (λ y. join y && q y) after (below g.size)
           (λ y m.
-          apart (adjacent (updated update g) z y) (adjacent g z y) (join y) (q y)
+          edge_comes-apart (adjacent (updated update g) z y) (adjacent g z y) (join y) (q y)
           (adjacent-updated update g z y ∙ ap (λ b. cond b (adjacent g z y || join y) (adjacent g z y && not (join y))) add)
           (not_both y)) in
           let here : count_by q (neighbours_of g z) ≡ count_by kept (neighbours_of g z) =
@@ -170,7 +170,7 @@ count-updated update g z q l applied =
           let none : gained update z q ≡ 0 = ap (λ b. cond b (one_of (other_end update z) q) 0) removes in
           let same : count_by after (below g.size) ≡ count_by (λ y. adjacent g z y && kept y) (below g.size) =
           count-agree after (λ y. adjacent g z y && kept y) (below g.size)
-          (λ y m. regroup (adjacent (updated update g) z y) (adjacent g z y) (join y) (keeps update z y) (q y)
+          (λ y m. edge_goes-regrouped (adjacent (updated update g) z y) (adjacent g z y) (join y) (keeps update z y) (q y)
           (adjacent-updated update g z y ∙ ap (λ b. cond b (adjacent g z y || join y) (adjacent g z y && not (join y))) removes)
           (ap (λ b. b || not (option_eq eqb (other_end update z) (Some y))) removes ∙ ap not (sym (joins-other update z y)))) in
           omega (arith, same, count-neighbours g z kept, none)

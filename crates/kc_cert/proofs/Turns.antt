@@ -50,12 +50,12 @@ place_of-right w (x ∷ xs) ys n =
     omega (arith, place_of-next w x (xs ++ ys) p.0, place_of-right w xs ys p.1)
 
 -- a number that stands before a place is not behind it
-dropped : (k w : ℕ) (xs : List ℕ) → Distinct xs → place_of w xs < k → member w (drop k xs) ≡ false
-dropped zero w xs d l = absurd (omega arith)
-dropped (suc k) w [] d l = refl
-dropped (suc k) w (x ∷ xs) d l = elim (cases_eq w x) [
+earlier-dropped : (k w : ℕ) (xs : List ℕ) → Distinct xs → place_of w xs < k → member w (drop k xs) ≡ false
+earlier-dropped zero w xs d l = absurd (omega arith)
+earlier-dropped (suc k) w [] d l = refl
+earlier-dropped (suc k) w (x ∷ xs) d l = elim (cases_eq w x) [
   | inl e ↦ false_from_ne_true _ (λ m. true≢false (sym (drop-member k w xs m) ∙ (ap (λ n. member n xs) e ∙ d.0)))
-  | inr ne ↦ dropped k w xs d.1 (omega (arith, place_of-next w x xs ne))
+  | inr ne ↦ earlier-dropped k w xs d.1 (omega (arith, place_of-next w x xs ne))
 ]
 
 -- a member that doesn't stand before a place is behind it
@@ -87,7 +87,7 @@ stays-to front back w k d h = elim (cases_Bool (member w (front ++ back))) [
       let at = subst (StaysFrom (length front) k) (place_in-there (front ++ back) w m) h in
       let out : member w front ≡ false =
       false_from_ne_true (member w front) (λ f. absurd (omega (arith, at.0, place_of-left w front back f, (rank-here w front f).0))) in
-      (out, dropped k w back (Distinct-back front back d) (omega (arith, at.1, place_of-right w front back out)))
+      (out, earlier-dropped k w back (Distinct-back front back d) (omega (arith, at.1, place_of-right w front back out)))
   | inr n ↦
       let p = not_member-append w front back n in
       (p.0, false_from_ne_true _ (λ m. true≢false (sym (drop-member k w back m) ∙ p.1)))

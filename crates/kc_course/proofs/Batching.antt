@@ -68,10 +68,10 @@ pub record Worked (old new : Journalled) (index : ℕ) (batch : List Update) (wo
   pub is_done : IsDone old new (length old.entries) batch workers done
 
 -- So it is where the journal that was handed in is the one that contracts see of the course.
-pub worked : {self old : Coursed} {new : Journalled} {batch : List Update} {index workers : ℕ} {done : BatchDone} → self ≡ old → Stands self.journal
+pub batch-worked : {self old : Coursed} {new : Journalled} {batch : List Update} {index workers : ℕ} {done : BatchDone} → self ≡ old → Stands self.journal
     → index ≡ length self.journal.entries → Stands new → IsBatch old.journal.graph.size batch → IsDone self.journal new index batch workers done
     → Worked old.journal new index batch workers done
-worked {self} {old} {new} {batch} {index} {workers} {done} same stood entered stands is_batch is_done =
+batch-worked {self} {old} {new} {batch} {index} {workers} {done} same stood entered stands is_batch is_done =
     let at : index ≡ length old.journal.entries = entered ∙ ap (λ (s : Coursed). length s.journal.entries) same in
     record {
       stood = subst (λ (s : Coursed). Stands s.journal) same stood;
@@ -145,9 +145,10 @@ module _ {old new : Journalled} {index : ℕ} {batch : List Update} {workers : �
       (λ o of. index-within first batch o.index of.0 of.1) (map outcome_of (receipts_in done.shares.items)) outcomes-are.each
 
   -- What is counted of outcomes that are told so is what the batch did.
-  pub counted : {outs told : List Outcome} {shares : List Share} → outs ≡ told → told ≡ map outcome_of (receipts_in shares) → shares ≡ done.shares.items
+  pub outcomes-counted : {outs told : List Outcome} {shares : List Share} → outs ≡ told → told ≡ map outcome_of (receipts_in shares)
+      → shares ≡ done.shares.items
       → Counted old.graph.edges index batch outs
-  counted {outs} {told} {shares} same is of =
+  outcomes-counted {outs} {told} {shares} same is of =
       let all : map outcome_of (receipts_in done.shares.items) ≡ outs =
       sym (same ∙ (is ∙ ap (λ (ss : List Share). map outcome_of (receipts_in ss)) of)) in
       subst (Counted old.graph.edges index batch) all

@@ -72,11 +72,11 @@ pub record Cut (x : ℕ) (xs : List ℕ) : Type 0 where
   pub is : xs ≡ front ++ x ∷ back
 
 -- a list can be cut at each of its members
-pub cut : (x : ℕ) (xs : List ℕ) → member x xs ≡ true → Cut x xs
-cut x [] h = absurd (false≢true h)
-cut x (y ∷ ys) h = elim (member-cases x y ys h) [
+pub member-cut : (x : ℕ) (xs : List ℕ) → member x xs ≡ true → Cut x xs
+member-cut x [] h = absurd (false≢true h)
+member-cut x (y ∷ ys) h = elim (member-cases x y ys h) [
   | inl e ↦ record { front = []; back = ys; is = ap (λ z. z ∷ ys) (sym e) }
-  | inr m ↦ let c = cut x ys m in record { front = y ∷ c.front; back = c.back; is = ap (λ zs. y ∷ zs) c.is }
+  | inr m ↦ let c = member-cut x ys m in record { front = y ∷ c.front; back = c.back; is = ap (λ zs. y ∷ zs) c.is }
 ]
 
 -- where a distinct list is cut at x, x is on neither side, and both sides joined are distinct
@@ -150,9 +150,9 @@ pub record Ended (xs : List ℕ) : Type 0 where
   pub is : xs ≡ front ++ last ∷ []
 
 -- a list that is not empty has a last
-pub ended : (x : ℕ) (xs : List ℕ) → Ended (x ∷ xs)
-ended x [] = record { front = []; last = x; is = refl }
-ended x (y ∷ ys) = let e = ended y ys in record { front = x ∷ e.front; last = e.last; is = ap (λ zs. x ∷ zs) e.is }
+pub list-ended : (x : ℕ) (xs : List ℕ) → Ended (x ∷ xs)
+list-ended x [] = record { front = []; last = x; is = refl }
+list-ended x (y ∷ ys) = let e = list-ended y ys in record { front = x ∷ e.front; last = e.last; is = ap (λ zs. x ∷ zs) e.is }
 
 -- the last after a push is what was pushed
 pub last_or-push : (e : ℕ) (l : List ℕ) (x : ℕ) → last_or e (l ++ x ∷ []) ≡ x
@@ -307,13 +307,13 @@ place_of-none x (y ∷ ys) m = let k = not_member-parts x y ys m in rw (ne_eqb x
 -- a list is empty, or has a last
 pub some_or_none : (xs : List ℕ) → (xs ≡ []) ⊎ Ended xs
 some_or_none [] = inl refl
-some_or_none (x ∷ xs) = inr (ended x xs)
+some_or_none (x ∷ xs) = inr (list-ended x xs)
 
 -- what stands before x stands at a lesser place
 pub prev-place : (e x : ℕ) (xs : List ℕ) → Distinct xs → member x xs ≡ true → ((y : ℕ) → member y xs ≡ true → (y ≡ e → ⊥))
     → (prev_of e x xs ≡ e → ⊥) → (member (prev_of e x xs) xs ≡ true) × (suc (place_of (prev_of e x xs) xs) ≡ place_of x xs)
 prev-place e x xs d m f ne =
-    let c = cut x xs m in
+    let c = member-cut x xs m in
     let apart = Distinct-cut x c.front c.back (subst Distinct c.is d) in
     let is : prev_of e x xs ≡ last_or e c.front = ap (prev_of e x) c.is ∙ prev_of-cut e x c.front c.back apart.0 in
     elim (some_or_none c.front) [

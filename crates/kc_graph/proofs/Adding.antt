@@ -19,18 +19,18 @@ use Rattle.std.proofs.lemmas.List.Kept.{AllPairs-from_increasing}
 use Rattle.std.proofs.Math.Nat.{mul-le-mul_left}
 use Rattle.kc_graph.proofs.Ends.{joins, joins-true, joins-sym, joins-edge, edge-joins, contains-edge}
 use Rattle.kc_graph.proofs.RowsLemmas.{contains-edges, adjacent-graph_of, pair_total, pair_exact, same_pair, tied_pair}
-use Rattle.kc_graph.proofs.TwoRows.{new-length, same-size, ascends, holds, sums}
+use Rattle.kc_graph.proofs.TwoRows.{new-length, same-size, two_rows-ascend, two_rows-hold, two_rows-sum}
 
 module _ (old new : List (List ℕ)) (u v : ℕ) (differ : u ≡ v → ⊥) (lu : u < length old) (lv : v < length old) (both : BothInserted old new u v) where
   -- a number is in a row where it was, and where the edge joins the two
   gained : (a b : ℕ) → member b (row new a) ≡ (member b (row old a) || joins u v a b)
   gained =
-      holds old new u v both.first both.second both.rows differ lu lv (λ s t. s || t) or-false both.at_first.gained both.at_second.gained
+      two_rows-hold old new u v both.first both.second both.rows differ lu lv (λ s t. s || t) or-false both.at_first.gained both.at_second.gained
 
   -- the rows are still those of a graph
-  pub adjacency : IsAdjacency old → IsAdjacency new
-  adjacency h = record {
-    ascends = ascends old new u v both.first both.second both.rows differ lu lv both.at_first.ascends both.at_second.ascends h.ascends;
+  pub added-adjacency : IsAdjacency old → IsAdjacency new
+  added-adjacency h = record {
+    ascends = two_rows-ascend old new u v both.first both.second both.rows differ lu lv both.at_first.ascends both.at_second.ascends h.ascends;
     within = λ a b m. let count : length new ≡ length old = new-length old new u v both.first both.second both.rows in
         elim (or_cases _ _ (sym (gained a b) ∙ m)) [
           | inl k ↦ omega (arith, h.within a b k, count)
@@ -65,7 +65,7 @@ module _ (old new : List (List ℕ)) (u v : ℕ) (differ : u ≡ v → ⊥) (lu 
   -- there are two entries more in all rows
   pub sum-added : sum_by length new ≡ sum_by length old + 2
   sum-added =
-      omega (arith, sums old new u v both.first both.second both.rows differ lu lv, both.at_first.longer, both.at_second.longer)
+      omega (arith, two_rows-sum old new u v both.first both.second both.rows differ lu lv, both.at_first.longer, both.at_second.longer)
 
   -- there is one edge more, where the two were not adjacent
   pub len-added : IsAdjacency old → member v (row old u) ≡ false → len (graph_of new).edges ≡ len (graph_of old).edges + 1
@@ -101,8 +101,8 @@ few_edges rows h small =
     omega (arith, most, square)
 
 -- a graph that has an edge is the graph with that edge
-pub present : (g : SimpleGraph) (u v : ℕ) → (u ≡ v → ⊥) → adjacent g u v ≡ true → g ≡ with_edge g u v
-present g u v differ a =
+pub edge-present : (g : SimpleGraph) (u v : ℕ) → (u ≡ v → ⊥) → adjacent g u v ≡ true → g ≡ with_edge g u v
+edge-present g u v differ a =
     let there : contains g.edges (edge u v) ≡ true = contains-edge g u v differ ∙ a in
     let same : g.edges ≡ insert g.edges (edge u v) = same_set pair_total pair_exact _ _ (λ q. sym (contains-insert pair_total g.edges (edge u v) q ∙
     elim (cases_Bool (eq_by_cmp pair_cmp q (edge u v))) [

@@ -20,9 +20,9 @@ pub row-at : (rows : List (Vec ℕ Global)) (i : ℕ) (d : Vec ℕ Global) → i
 row-at rows i d l = get_or-map (λ (x : Vec ℕ Global). x.items) rows i d [] l
 
 -- a push into one bucket
-pub pushed : (rows : List (Vec ℕ Global)) (i w : ℕ) (d s : Vec ℕ Global) → i < length rows → s.items ≡ (get_or rows i d).items ++ w ∷ []
+pub bucket-pushed : (rows : List (Vec ℕ Global)) (i w : ℕ) (d s : Vec ℕ Global) → i < length rows → s.items ≡ (get_or rows i d).items ++ w ∷ []
     → lists (set rows i s) ≡ set (lists rows) i (row (lists rows) i ++ w ∷ [])
-pushed rows i w d s l e = lists-set rows i s ∙ ap (set (lists rows) i) (e ∙ ap (λ (t : List ℕ). t ++ w ∷ []) (sym (row-at rows i d l)))
+bucket-pushed rows i w d s l e = lists-set rows i s ∙ ap (set (lists rows) i) (e ∙ ap (λ (t : List ℕ). t ++ w ∷ []) (sym (row-at rows i d l)))
 
 -- the row that was written is what was written
 pub row-set_same : (rows : List (List ℕ)) (i : ℕ) (r : List ℕ) → i < length rows → row (set rows i r) i ≡ r
@@ -44,9 +44,9 @@ nil_of_length [] h = refl
 nil_of_length (x ∷ xs) h = absurd (omega arith)
 
 -- a pop from one bucket
-popped : (rows : List (Vec ℕ Global)) (i w : ℕ) (d s : Vec ℕ Global) → i < length rows → (get_or rows i d).items ≡ s.items ++ w ∷ []
+bucket-popped : (rows : List (Vec ℕ Global)) (i w : ℕ) (d s : Vec ℕ Global) → i < length rows → (get_or rows i d).items ≡ s.items ++ w ∷ []
     → lists rows ≡ set (lists (set rows i s)) i (row (lists (set rows i s)) i ++ w ∷ [])
-popped rows i w d s l e =
+bucket-popped rows i w d s l e =
     let now : lists (set rows i s) ≡ set (lists rows) i s.items = lists-set rows i s in
     sym (ap (λ (t : List (List ℕ)). set t i (row t i ++ w ∷ [])) now
     ∙ ap (λ (t : List ℕ). set (set (lists rows) i s.items) i (t ++ w ∷ [])) (row-set_same (lists rows) i s.items (omega (arith, length-lists rows)))
@@ -59,7 +59,7 @@ pub some_popped : (rows : List (Vec ℕ Global)) (i : ℕ) (d s : Vec ℕ Global
     → (get_or rows i d).items ≡ s.items ++ option_to_list o
     → IfSome o (λ w. lists rows ≡ set (lists (set rows i s)) i (row (lists (set rows i s)) i ++ w ∷ []))
 some_popped rows i d s None l e = tt
-some_popped rows i d s (Some w) l e = popped rows i w d s l e
+some_popped rows i d s (Some w) l e = bucket-popped rows i w d s l e
 
 -- where a pop gives none, the bucket is empty and nothing changed
 pub none_popped : (rows : List (Vec ℕ Global)) (i : ℕ) (d s : Vec ℕ Global) (o : Option ℕ) → i < length rows

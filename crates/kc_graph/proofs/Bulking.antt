@@ -37,21 +37,21 @@ and-or : (l a b : Bool) → ((l && a) || (l && b)) ≡ (l && (a || b))
 and-or l a b = grind arith
 
 -- a pair is one of the listed edges just where its lesser end comes first and a listed edge joins its ends
-listed : (edges : List Edge) (a b : ℕ)
+pair-listed : (edges : List Edge) (a b : ℕ)
     → list_any (eq_by_cmp pair_cmp (a, b)) (map (λ e. edge e.u e.v) (filter is_no_loop edges)) ≡ (ltb a b && are_joined edges a b)
-listed [] a b = both_ways _ _ (λ h. absurd (false≢true h)) (λ h. absurd (false≢true (and_parts (ltb a b) false h).1))
-listed (e ∷ edges) a b =
+pair-listed [] a b = both_ways _ _ (λ h. absurd (false≢true h)) (λ h. absurd (false≢true (and_parts (ltb a b) false h).1))
+pair-listed (e ∷ edges) a b =
     elim (is_no_loop e) as (λ t. is_no_loop e ≡ t → list_any (eq_by_cmp pair_cmp (a, b))
     (map (λ e. edge e.u e.v) (cond t (e ∷ filter is_no_loop edges) (filter is_no_loop edges)))
     ≡ (ltb a b && ((t && joins e.u e.v a b) || are_joined edges a b))) [
-      | true ↦ λ two. ap₂ (λ s t. s || t) (edge-is e a b two) (listed edges a b) ∙ and-or (ltb a b) (joins e.u e.v a b) (are_joined edges a b)
-      | false ↦ λ _. listed edges a b
+      | true ↦ λ two. ap₂ (λ s t. s || t) (edge-is e a b two) (pair-listed edges a b) ∙ and-or (ltb a b) (joins e.u e.v a b) (are_joined edges a b)
+      | false ↦ λ _. pair-listed edges a b
     ] refl
 
 -- the graph of listed edges has a pair just where its lesser end comes first and a listed edge joins its ends
 pub contains-with : (vertices : ℕ) (edges : List Edge) (a b : ℕ) → contains (graph_with vertices edges).edges (a, b) ≡ (ltb a b && are_joined edges a b)
 unfolding graph_with
-contains-with vertices edges a b = contains-from_list pair_total (map (λ e. edge e.u e.v) (filter is_no_loop edges)) (a, b) ∙ listed edges a b
+contains-with vertices edges a b = contains-from_list pair_total (map (λ e. edge e.u e.v) (filter is_no_loop edges)) (a, b) ∙ pair-listed edges a b
 
 -- the graph of listed edges has the vertices that it is given
 pub size-with : (vertices : ℕ) (edges : List Edge) → (graph_with vertices edges).size ≡ vertices

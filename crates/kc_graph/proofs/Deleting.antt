@@ -14,18 +14,18 @@ use Rattle.kc_graph.specs.Rows.{Deleted}
 use Rattle.kc_graph.proofs.RowsLemmas.{Distinct-from_increasing}
 
 -- to be in front or behind is to be in the whole list but not the number itself, where that stands in neither
-dropped : (a b e : Bool) → (e ≡ true → (a ≡ false) × (b ≡ false)) → (a || b) ≡ ((a || (e || b)) && not e)
-dropped true b true h = absurd (true≢false (h refl).0)
-dropped false true true h = absurd (true≢false (h refl).1)
-dropped false false true h = refl
-dropped true true false h = refl
-dropped true false false h = refl
-dropped false true false h = refl
-dropped false false false h = refl
+number-dropped : (a b e : Bool) → (e ≡ true → (a ≡ false) × (b ≡ false)) → (a || b) ≡ ((a || (e || b)) && not e)
+number-dropped true b true h = absurd (true≢false (h refl).0)
+number-dropped false true true h = absurd (true≢false (h refl).1)
+number-dropped false false true h = refl
+number-dropped true true false h = refl
+number-dropped true false false h = refl
+number-dropped false true false h = refl
+number-dropped false false false h = refl
 
 -- a list is what stands before a place, what stands there, and what stands behind
-parts : (xs : List ℕ) (i : ℕ) → i < length xs → take i xs ++ get_or xs i 0 ∷ drop (suc i) xs ≡ xs
-parts xs i l = ap (λ (t : List ℕ). take i xs ++ t) (sym (drop-cons xs i 0 l)) ∙ take-append-drop i xs
+place-parts : (xs : List ℕ) (i : ℕ) → i < length xs → take i xs ++ get_or xs i 0 ∷ drop (suc i) xs ≡ xs
+place-parts xs i l = ap (λ (t : List ℕ). take i xs ++ t) (sym (drop-cons xs i 0 l)) ∙ take-append-drop i xs
 
 -- in a list of distinct numbers, what stands at a place stands neither before it nor behind it
 only_here : (xs : List ℕ) (i : ℕ) → i < length xs → Distinct xs
@@ -47,10 +47,10 @@ deleted_at xs w i up l here = record {
   kept = λ b.
       let once = only_here xs i l (Distinct-from_increasing xs up) in
       let whole : member b xs ≡ (member b (take i xs) || (eqb b w || member b (drop (suc i) xs))) =
-      ap (member b) (sym (parts xs i l)) ∙ list_any-append (eqb b) (take i xs) (get_or xs i 0 ∷ drop (suc i) xs)
+      ap (member b) (sym (place-parts xs i l)) ∙ list_any-append (eqb b) (take i xs) (get_or xs i 0 ∷ drop (suc i) xs)
       ∙ ap (λ n. member b (take i xs) || (eqb b n || member b (drop (suc i) xs))) here in
       list_any-append (eqb b) (take i xs) (drop (suc i) xs)
-      ∙ dropped (member b (take i xs)) (member b (drop (suc i) xs)) (eqb b w)
+      ∙ number-dropped (member b (take i xs)) (member b (drop (suc i) xs)) (eqb b w)
       (λ t.
       let e : b ≡ get_or xs i 0 = eqb-true b w t ∙ sym here in
       (ap (λ n. member n (take i xs)) e ∙ once.0, ap (λ n. member n (drop (suc i) xs)) e ∙ once.1))

@@ -9,7 +9,7 @@ use Rattle.kc_distinct.proofs.Counting.{member-push_none}
 use Rattle.kc_graph.specs.SimpleGraph.{SimpleGraph}
 use Rattle.kc_graph.specs.Certificate.{Certifies}
 use Rattle.kc_graph.specs.Peeling.{at, Peeled, remaining}
-use Rattle.kc_graph.proofs.PeelingLemmas.{start, raise, take_one, finish, remaining-lt}
+use Rattle.kc_graph.proofs.PeelingLemmas.{peeling-starts, level-raised, take_one, peeling-finishes, remaining-lt}
 
 -- one of the first numbers that passes, or none does
 first_of_them : (p : ℕ → Bool) (n : ℕ) → ((v : ℕ) × (v < n) × (p v ≡ true)) ⊎ ((v : ℕ) → v < n → p v ≡ false)
@@ -51,16 +51,16 @@ take_next g level v core taken p high fits l left few =
     )
 
 -- where some are taken and the others untouched, the rest can be taken, in an order that certifies the numbers
-peel : (fuel : ℕ) (g : SimpleGraph) (level : ℕ) (core taken : List ℕ) → Peeled g level core taken → IsUntouched g core taken
+rest-peeled : (fuel : ℕ) (g : SimpleGraph) (level : ℕ) (core taken : List ℕ) → Peeled g level core taken → IsUntouched g core taken
     → level ≤ g.size → (g.size - level) + (g.size - length taken) < fuel
     → (core' : List ℕ) × (order : List ℕ) × Certifies g core' order
-peel zero g level core taken p high fits h = absurd (omega arith)
-peel (suc fuel) g level core taken p high fits h = elim (first_of_them (is_next g level taken) g.size) [
+rest-peeled zero g level core taken p high fits h = absurd (omega arith)
+rest-peeled (suc fuel) g level core taken p high fits h = elim (first_of_them (is_next g level taken) g.size) [
   | inl w ↦
       let parts = and_parts (not (member w.0 taken)) (nat_le (remaining g taken w.0) level) w.2 in
       let left : member w.0 taken ≡ false = not-true (member w.0 taken) parts.0 in
       let more = take_next g level w.0 core taken p high fits w.1 left (leb-true (remaining g taken w.0) level parts.1) in
-      peel fuel g level (set core w.0 level) (taken ++ w.0 ∷ []) more.0 more.1 fits
+      rest-peeled fuel g level (set core w.0 level) (taken ++ w.0 ∷ []) more.0 more.1 fits
       (omega (arith, few_taken g level (set core w.0 level) (taken ++ w.0 ∷ []) more.0, length-append taken (w.0 ∷ [])))
   | inr none ↦
       let many : (v : ℕ) → v < g.size → member v taken ≡ false → level < remaining g taken v = λ v l left. elim (cases_lt level (remaining g taken v)) [
@@ -74,12 +74,12 @@ peel (suc fuel) g level core taken p high fits h = elim (first_of_them (is_next 
       ] in
       elim (cases_lt level g.size) [
         | inl lt ↦
-            peel fuel g (level + 1) core taken (raise g level core taken p (λ v l left. (omega (arith, high v l left), many v l left))) high
+            rest-peeled fuel g (level + 1) core taken (level-raised g level core taken p (λ v l left. (omega (arith, high v l left), many v l left))) high
             (omega arith) (omega arith)
         | inr ge ↦ (
           core,
           taken,
-          finish g level core taken p
+          peeling-finishes g level core taken p
               (λ v l.
               true_from_ne_false (member v taken)
               (λ left.
@@ -93,5 +93,5 @@ peel (suc fuel) g level core taken p high fits h = elim (first_of_them (is_next 
 pub certificate_exists : (g : SimpleGraph) → (core : List ℕ) × (order : List ℕ) × Certifies g core order
 certificate_exists g =
     let full : List ℕ = replicate g.size g.size in
-    peel (g.size + g.size + 1) g 0 full [] (start g full (length-replicate g.size g.size)) (λ v l _. get_or-replicate g.size v g.size 0 l)
+    rest-peeled (g.size + g.size + 1) g 0 full [] (peeling-starts g full (length-replicate g.size g.size)) (λ v l _. get_or-replicate g.size v g.size 0 l)
     (omega arith) (omega arith)

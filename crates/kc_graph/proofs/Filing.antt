@@ -16,7 +16,7 @@ use Rattle.kc_graph.specs.Rows.{row}
 use Rattle.kc_graph.specs.Peeling.{at, remaining, Filed, Peels, IsAboutToTake, work, Lowered, Files}
 use Rattle.kc_graph.proofs.RowsLemmas.{row-replicate}
 use Rattle.kc_graph.proofs.Buckets.{row-set_same, row-set_other, row_past}
-use Rattle.kc_graph.proofs.PeelingLemmas.{start, raise, take_one, finish, remaining-taken, neighbours-distinct}
+use Rattle.kc_graph.proofs.PeelingLemmas.{peeling-starts, level-raised, take_one, peeling-finishes, remaining-taken, neighbours-distinct}
 use Rattle.kc_distinct.proofs.Shared.{Distinct-append}
 use Rattle.kc_graph.proofs.Law.{adjacent-sym}
 
@@ -181,10 +181,10 @@ pub taken_low : (g : SimpleGraph) (level v : ℕ) (core taken : List ℕ) (rows 
 taken_low g level v core taken rows t u m = elim (member-push_cases u v taken m) [ inl k ↦ t.peeled.done u k | inr e ↦ omega (arith, t.here, ap (at core) e) ]
 
 -- a vertex is taken, and its neighbours lose one
-pub took : (g : SimpleGraph) (level v : ℕ) (core taken ws : List ℕ) (rows : List (List ℕ)) (core' : List ℕ) (rows' : List (List ℕ))
+pub vertex-taken : (g : SimpleGraph) (level v : ℕ) (core taken ws : List ℕ) (rows : List (List ℕ)) (core' : List ℕ) (rows' : List (List ℕ))
     → IsAboutToTake g level v core taken rows → AreNeighbours g v ws
     → Lowered level ws core rows core' rows' → Peels g level core' (taken ++ v ∷ []) rows'
-took g level v core taken ws rows core' rows' t near h =
+vertex-taken g level v core taken ws rows core' rows' t near h =
     let low : (u : ℕ) → at core u ≤ level → at core u ≡ at core' u = λ u. lowered_low level u ws core rows core' rows' h in
     record {
       peeled = take_one g level v core taken core' t.peeled t.vertex t.left (omega (arith, t.exact v t.vertex t.left, t.here))
@@ -230,7 +230,7 @@ next_level g level core taken rows h none =
       | inr ne ↦ omega (arith, h.peeled.open_ v l out)
     ] in
     record {
-      peeled = raise g level core taken h.peeled (λ v l out. (up v l out, omega (arith, up v l out, h.exact v l out)));
+      peeled = level-raised g level core taken h.peeled (λ v l out. (up v l out, omega (arith, up v l out, h.exact v l out)));
       exact = λ v l out. omega (arith, up v l out, h.exact v l out);
       filed = h.filed;
     }
@@ -239,7 +239,7 @@ next_level g level core taken rows h none =
 pub all_taken : (g : SimpleGraph) (level : ℕ) (core taken : List ℕ) (rows : List (List ℕ)) → Peels g level core taken rows
     → length rows ≤ level → Certifies g core taken
 all_taken g level core taken rows h past =
-    finish g level core taken h.peeled (λ v l. true_from_ne_false (member v taken) (λ out.
+    peeling-finishes g level core taken h.peeled (λ v l. true_from_ne_false (member v taken) (λ out.
     let high : level ≤ at core v = h.peeled.open_ v l out in
     absurd (false≢true (sym (ap (member v) (row_past rows (at core v) (omega arith))) ∙ h.filed.waits v (omega (arith, h.peeled.one_each)) out))))
 
@@ -288,10 +288,10 @@ files_more degrees v rows f fits =
     }
 
 -- with the degrees as numbers and each vertex in the bucket of its degree, the taking can begin
-pub begin : (g : SimpleGraph) (core : List ℕ) (rows : List (List ℕ)) → length core ≡ g.size
+pub taking-begins : (g : SimpleGraph) (core : List ℕ) (rows : List (List ℕ)) → length core ≡ g.size
     → ((v : ℕ) → v < g.size → at core v ≡ remaining g [] v) → Files core (length core) rows → Peels g 0 core [] rows
-begin g core rows n each f = record {
-  peeled = start g core n;
+taking-begins g core rows n each f = record {
+  peeled = peeling-starts g core n;
   exact = λ v l _. omega (arith, each v l);
   filed = record {
     waits = λ v l _. f.waits v l;

@@ -74,14 +74,14 @@ length-greater r n u once within =
         (λ m. let k = and_parts (ltb u w) (member w r) m in filter-member (ltb u) w r k.1 k.0)
 
 -- what passes counts once where just one of two tests lets it through
-parted : (l m c : Bool) → (c ≡ true → (l || m) ≡ true) → (l && m) ≡ false → ◌≡◌ {A = ℕ} (cond c 1 0) (cond (l && c) 1 0 + cond (m && c) 1 0)
-parted true true c one apart = absurd (true≢false apart)
-parted true false true one apart = refl
-parted true false false one apart = refl
-parted false true true one apart = refl
-parted false true false one apart = refl
-parted false false true one apart = absurd (false≢true (one refl))
-parted false false false one apart = refl
+tests-parted : (l m c : Bool) → (c ≡ true → (l || m) ≡ true) → (l && m) ≡ false → ◌≡◌ {A = ℕ} (cond c 1 0) (cond (l && c) 1 0 + cond (m && c) 1 0)
+tests-parted true true c one apart = absurd (true≢false apart)
+tests-parted true false true one apart = refl
+tests-parted true false false one apart = refl
+tests-parted false true true one apart = refl
+tests-parted false true false one apart = refl
+tests-parted false false true one apart = absurd (false≢true (one refl))
+tests-parted false false false one apart = refl
 
 -- where `v` does not pass, those that do are below it or above it
 count-parted : (p : ℕ → Bool) (v : ℕ) (ws : List ℕ) → p v ≡ false → count_by p ws ≡ count_by (λ w. ltb v w && p w) ws + count_by (λ w. ltb w v && p w) ws
@@ -90,7 +90,7 @@ count-parted p v (w ∷ ws) none =
     omega (arith, count-cons p w ws, count-cons (λ w. ltb v w && p w) w ws, count-cons (λ w. ltb w v && p w) w ws, count-parted p v ws none, one)
   where
     one : ◌≡◌ {A = ℕ} (cond (p w) 1 0) (cond (ltb v w && p w) 1 0 + cond (ltb w v && p w) 1 0)
-    one = parted (ltb v w) (ltb w v) (p w)
+    one = tests-parted (ltb v w) (ltb w v) (p w)
         (λ t. elim (cases_order v w) [
           | inl e ↦ absurd (true≢false (sym t ∙ (ap p (sym e) ∙ none)))
           | inr o ↦ elim o [ inl l ↦ or_left (ltb v w) (ltb w v) (lt-ltb v w l) | inr l ↦ or_right (ltb v w) (ltb w v) (lt-ltb w v l) ]
@@ -100,11 +100,11 @@ count-parted p v (w ∷ ws) none =
 -- Pairs. ---------------------------------------------------------------------------------------------
 
 -- no pair of later rows has a lesser first part
-later : (u a b : ℕ) (rows : List (List ℕ)) → a < u → list_any (eq_by_cmp pair_cmp (a, b)) (pairs_from u rows) ≡ false
-later u a b [] l = refl
-later u a b (r ∷ rows) l =
+later_rows-no_lesser : (u a b : ℕ) (rows : List (List ℕ)) → a < u → list_any (eq_by_cmp pair_cmp (a, b)) (pairs_from u rows) ≡ false
+later_rows-no_lesser u a b [] l = refl
+later_rows-no_lesser u a b (r ∷ rows) l =
     list_any-append (eq_by_cmp pair_cmp (a, b)) (map (λ w. (u, w)) (filter (ltb u) r)) (pairs_from (u + 1) rows)
-    ∙ or_from _ _ (here (filter (ltb u) r)) (later (u + 1) a b rows (omega arith))
+    ∙ or_from _ _ (here (filter (ltb u) r)) (later_rows-no_lesser (u + 1) a b rows (omega arith))
   where
     here : (ws : List ℕ) → list_any (eq_by_cmp pair_cmp (a, b)) (map (λ w. (u, w)) ws) ≡ false
     here [] = refl
@@ -132,7 +132,7 @@ len-pairs : (u : ℕ) (rows : List (List ℕ)) → ((v : ℕ) → Distinct (row 
     → len (from_list {R = pair_cmp} (pairs_from u rows)) ≡ total (λ v. length (filter (ltb (u + v)) (row rows v))) (length rows)
 len-pairs u [] once = len-empty pair_cmp
 len-pairs u (r ∷ rows) once =
-    len-before u (filter (ltb u) r) (pairs_from (u + 1) rows) (Distinct-filter (ltb u) r (once 0)) (λ w. later (u + 1) u w rows (omega arith))
+    len-before u (filter (ltb u) r) (pairs_from (u + 1) rows) (Distinct-filter (ltb u) r (once 0)) (λ w. later_rows-no_lesser (u + 1) u w rows (omega arith))
     ∙ (ap₂ (λ (a b : ℕ). a + b)
     (greater u (u + 0) r (omega arith))
     (len-pairs (u + 1) rows (λ v. once (suc v)) ∙ total-agree _ _ (length rows) (λ v _. greater (u + 1 + v) (u + suc v) (row rows v) (omega arith)))

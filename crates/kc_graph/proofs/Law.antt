@@ -37,18 +37,18 @@ FewLater g c [] = ⊤
 FewLater g c (v ∷ later) = (degree_among g later v ≤ c v) × FewLater g c later
 
 -- The first of the members in the order has all its neighbours among them later.
-upper : (g : SimpleGraph) (c : ℕ → ℕ) (k v : ℕ) (members : List ℕ) → Distinct members
+first_member-neighbours : (g : SimpleGraph) (c : ℕ → ℕ) (k v : ℕ) (members : List ℕ) → Distinct members
     → ((u : ℕ) → member u members ≡ true → k ≤ degree_among g members u) → member v members ≡ true
     → (order : List ℕ) → Rising c order → FewLater g c order → ((x : ℕ) → member x members ≡ true → member x order ≡ true) → k ≤ c v
-upper g c k v members distinct dense in' [] rising few each = absurd (false≢true (each v in'))
-upper g c k v members distinct dense in' (u ∷ later) rising few each =
+first_member-neighbours g c k v members distinct dense in' [] rising few each = absurd (false≢true (each v in'))
+first_member-neighbours g c k v members distinct dense in' (u ∷ later) rising few each =
     elim (cases_Bool (member u members)) [
       | inl first ↦
           let among : degree_among g members u ≤ degree_among g later u = count-le (adjacent g u) members later distinct
           (λ x m a. member-other x u later (λ e. true≢false (sym a ∙ (ap (adjacent g u) e ∙ adjacent-self g u))) (each x m)) in
           let up : c u ≤ c v = elim (member-cases v u later (each v in')) [ inl e ↦ omega (arith, ap c e) | inr m ↦ rising.0 v m ] in
           omega (arith, dense u first, among, few.0, up)
-      | inr none ↦ upper g c k v members distinct dense in' later rising.1 few.1
+      | inr none ↦ first_member-neighbours g c k v members distinct dense in' later rising.1 few.1
           (λ x m. member-other x u later (λ e. true≢false (sym m ∙ (ap (λ n. member n members) e ∙ none))) (each x m))
     ]
 
@@ -79,9 +79,9 @@ FewLater-from_places g c (v ∷ later) h = (
 )
 
 -- no core that a vertex is in is for more than its certified number
-greatest : (g : SimpleGraph) (core order : List ℕ) → Certifies g core order → (v k : ℕ) → IsInCore g k v → k ≤ get_or core v 0
-greatest g core order h v k (members, dense, in') =
-    upper g (λ w. get_or core w 0) k v members (Distinct-from_pairs members dense.distinct)
+certified-greatest : (g : SimpleGraph) (core order : List ℕ) → Certifies g core order → (v k : ℕ) → IsInCore g k v → k ≤ get_or core v 0
+certified-greatest g core order h v k (members, dense, in') =
+    first_member-neighbours g (λ w. get_or core w 0) k v members (Distinct-from_pairs members dense.distinct)
     (λ u m. All-contains (λ w. k ≤ degree_among g members w) members u dense.degrees (Contains-from_member members u m))
     (member-from_Contains members v in') order
     (Rising-from_pairs (λ w. get_or core w 0) order h.rising)
@@ -89,8 +89,8 @@ greatest g core order h v k (members, dense, in') =
     (λ x m. member-from_Contains order x (h.enumerates.complete x (All-contains (λ w. w < g.size) members x dense.vertices (Contains-from_member members x m))))
 
 -- The vertices whose number is no less have enough neighbours among them.
-reached : (g : SimpleGraph) (core order : List ℕ) → Certifies g core order → (v : ℕ) → v < g.size → IsInCore g (get_or core v 0) v
-reached g core order h v l =
+certified-reached : (g : SimpleGraph) (core order : List ℕ) → Certifies g core order → (v : ℕ) → v < g.size → IsInCore g (get_or core v 0) v
+certified-reached g core order h v l =
     let high : ℕ → Bool = λ w. leb (get_or core v 0) (get_or core w 0) in
     let members : List ℕ = filter high order in (
       members,
@@ -114,10 +114,10 @@ reached g core order h v l =
     )
 
 -- certified numbers are the core numbers
-pub certified : (g : SimpleGraph) (core order : List ℕ) → Certifies g core order → AreCoreNumbers g core
-certified g core order h = record {
+pub certified-core_numbers : (g : SimpleGraph) (core order : List ℕ) → Certifies g core order → AreCoreNumbers g core
+certified-core_numbers g core order h = record {
   one_each = h.one_each;
-  each = λ v l. record { reached = reached g core order h v l; greatest = λ k in'. greatest g core order h v k in' };
+  each = λ v l. record { reached = certified-reached g core order h v l; greatest = λ k in'. certified-greatest g core order h v k in' };
 }
 
 -- a graph has one list of core numbers

@@ -91,16 +91,16 @@ LiesWithin first xs (Part from to) = (first ≤ from) × (from ≤ to) × (to �
 LiesWithin first xs (Own list) = Unit {0}
 
 -- a row that lies behind a place lies behind each earlier one
-later : (a b : ℕ) (xs : List ℕ) (r : Row) → a ≤ b → LiesWithin b xs r → LiesWithin a xs r
-later a b xs (Part from to) l h = (omega (arith, h.0), h.1, h.2)
-later a b xs (Own list) l h = tt
+row-lies_earlier : (a b : ℕ) (xs : List ℕ) (r : Row) → a ≤ b → LiesWithin b xs r → LiesWithin a xs r
+row-lies_earlier a b xs (Part from to) l h = (omega (arith, h.0), h.1, h.2)
+row-lies_earlier a b xs (Own list) l h = tt
 
 -- each of the rows that lie behind a place lies in the block behind it, or in no block
 pub lies-at : (first : ℕ) (xs : List ℕ) (rows : List Row) (i : ℕ) (d : Row) → i < length rows → LieFrom first xs rows → LiesWithin first xs (get_or rows i d)
 lies-at first xs [] i d l h = absurd (omega arith)
 lies-at first xs (Part from to ∷ rows) zero d l h = (h.0, h.1, h.2)
 lies-at first xs (Part from to ∷ rows) (suc i) d l h =
-    later first to xs (get_or rows i d) (omega (arith, h.0, h.1)) (lies-at to xs rows i d (omega arith) h.3)
+    row-lies_earlier first to xs (get_or rows i d) (omega (arith, h.0, h.1)) (lies-at to xs rows i d (omega arith) h.3)
 lies-at first xs (Own list ∷ rows) zero d l h = tt
 lies-at first xs (Own list ∷ rows) (suc i) d l h = lies-at first xs rows i d (omega arith) h
 
@@ -155,9 +155,9 @@ length-put_mid a k xs ys l n =
     )
 
 -- a row that lies behind the start of a block lies in the block
-within : (xs : List ℕ) (r : Row) → LiesWithin 0 xs r → LiesIn xs r
-within xs (Part from to) h = (h.1, h.2)
-within xs (Own list) h = tt
+row-lies_within : (xs : List ℕ) (r : Row) → LiesWithin 0 xs r → LiesIn xs r
+row-lies_within xs (Part from to) h = (h.1, h.2)
+row-lies_within xs (Own list) h = tt
 
 -- a row written over by itself changes nothing
 set-here : (rows : List Row) (i : ℕ) (d : Row) → i < length rows → set rows i (get_or rows i d) ≡ rows
@@ -167,7 +167,7 @@ set-here (x ∷ rows) (suc i) d l = ap (λ (t : List Row). x ∷ t) (set-here ro
 
 -- The row at a place lies in the block.
 pub lies-in : (xs : List ℕ) (rows : List Row) (i : ℕ) (r : Row) → LieFrom 0 xs rows → i < length rows → r ≡ get_or rows i r → LiesIn xs r
-lies-in xs rows i r h l is = within xs r (subst (LiesWithin 0 xs) (sym is) (lies-at 0 xs rows i r l h))
+lies-in xs rows i r h l is = row-lies_within xs r (subst (LiesWithin 0 xs) (sym is) (lies-at 0 xs rows i r l h))
 
 -- there are as many rows as lists of their numbers
 pub count-view : (xs : List ℕ) (rows : List Row) (lists : List (List ℕ)) → entries_of_each xs rows ≡ lists → length rows ≡ length lists

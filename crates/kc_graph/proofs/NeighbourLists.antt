@@ -42,15 +42,16 @@ not_first : (x : ℕ) (xs : List ℕ) → Rises (x ∷ xs) → (z : ℕ) → mem
 not_first x xs h z m e = omega (arith, h.0 z m)
 
 -- where two rising lists have the same numbers, what stands behind the first number of one is in the rest of the other
-rest : (x : ℕ) (xs ys : List ℕ) → Rises (x ∷ xs) → Rises (x ∷ ys) → ((z : ℕ) → member z (x ∷ xs) ≡ member z (x ∷ ys)) → (z : ℕ) → member z xs ≡ member z ys
-rest x xs ys hx hy same z = elim (cases_Bool (member z xs)) [
+rising-rest : (x : ℕ) (xs ys : List ℕ) → Rises (x ∷ xs) → Rises (x ∷ ys) → ((z : ℕ) → member z (x ∷ xs) ≡ member z (x ∷ ys))
+    → (z : ℕ) → member z xs ≡ member z ys
+rising-rest x xs ys hx hy same z = elim (cases_Bool (member z xs)) [
   | inl m ↦ m ∙ sym (member-other z x ys (not_first x xs hx z m) (sym (same z) ∙ member-tail z x xs m))
   | inr n ↦ n ∙ sym (false_from_ne_true (member z ys) (λ m. true≢false (sym (member-other z x xs (not_first x ys hy z m) (same z ∙ member-tail z x ys m)) ∙ n)))
 ]
 
 -- rising lists of the same numbers begin with the same number
-heads : (x y : ℕ) (xs ys : List ℕ) → Rises (x ∷ xs) → Rises (y ∷ ys) → ((z : ℕ) → member z (x ∷ xs) ≡ member z (y ∷ ys)) → x ≡ y
-heads x y xs ys hx hy same = elim (member-cases x y ys (sym (same x) ∙ member-head x xs)) [
+rising-heads : (x y : ℕ) (xs ys : List ℕ) → Rises (x ∷ xs) → Rises (y ∷ ys) → ((z : ℕ) → member z (x ∷ xs) ≡ member z (y ∷ ys)) → x ≡ y
+rising-heads x y xs ys hx hy same = elim (member-cases x y ys (sym (same x) ∙ member-head x xs)) [
   | inl e ↦ e
   | inr m ↦ elim (member-cases y x xs (same y ∙ member-head y ys)) [ inl e ↦ sym e | inr k ↦ absurd (omega (arith, hy.0 x m, hx.0 y k)) ]
 ]
@@ -61,10 +62,10 @@ rising_same [] [] hx hy same = refl
 rising_same [] (y ∷ ys) hx hy same = absurd (true≢false (sym (member-head y ys) ∙ sym (same y)))
 rising_same (x ∷ xs) [] hx hy same = absurd (true≢false (sym (member-head x xs) ∙ same x))
 rising_same (x ∷ xs) (y ∷ ys) hx hy same =
-    let e : x ≡ y = heads x y xs ys hx hy same in
+    let e : x ≡ y = rising-heads x y xs ys hx hy same in
     let hy' : Rises (x ∷ ys) = (λ z m. omega (arith, e, hy.0 z m), hy.1) in
     let same' : (z : ℕ) → member z (x ∷ xs) ≡ member z (x ∷ ys) = λ z. same z ∙ ap (λ n. member z (n ∷ ys)) (sym e) in
-    ap₂ (λ n ns. n ∷ ns) e (rising_same xs ys hx.1 hy.1 (rest x xs ys hx hy' same'))
+    ap₂ (λ n ns. n ∷ ns) e (rising_same xs ys hx.1 hy.1 (rising-rest x xs ys hx hy' same'))
 
 -- the first number of a list is the last of the list turned
 reverse-cons : (x : ℕ) (xs : List ℕ) → reverse (x ∷ xs) ≡ reverse xs ++ x ∷ []

@@ -21,8 +21,8 @@ use Rattle.kc_graph.proofs.Law.{adjacent-self}
 use Rattle.kc_graph.proofs.RowsLemmas.{Distinct-from_increasing}
 
 -- nothing is taken yet
-pub start : (g : SimpleGraph) (core : List ℕ) → length core ≡ g.size → Peeled g 0 core []
-start g core n = record {
+pub peeling-starts : (g : SimpleGraph) (core : List ℕ) → length core ≡ g.size → Peeled g 0 core []
+peeling-starts g core n = record {
   one_each = n;
   within = λ v m. absurd (false≢true m);
   distinct = tt;
@@ -34,9 +34,9 @@ start g core n = record {
 }
 
 -- where each vertex that is left has more than `level` neighbours left
-pub raise : (g : SimpleGraph) (level : ℕ) (core taken : List ℕ) → Peeled g level core taken
+pub level-raised : (g : SimpleGraph) (level : ℕ) (core taken : List ℕ) → Peeled g level core taken
     → ((v : ℕ) → v < g.size → member v taken ≡ false → (level < at core v) × (level < remaining g taken v)) → Peeled g (level + 1) core taken
-raise g level core taken p more = record {
+level-raised g level core taken p more = record {
   one_each = p.one_each;
   within = p.within;
   distinct = p.distinct;
@@ -130,9 +130,9 @@ take_one g level v core taken core' p l new' few k =
     }
 
 -- once all are taken
-pub finish : (g : SimpleGraph) (level : ℕ) (core taken : List ℕ) → Peeled g level core taken
+pub peeling-finishes : (g : SimpleGraph) (level : ℕ) (core taken : List ℕ) → Peeled g level core taken
     → ((v : ℕ) → v < g.size → member v taken ≡ true) → Certifies g core taken
-finish g level core taken p all = record {
+peeling-finishes g level core taken p all = record {
   one_each = p.one_each;
   enumerates = record {
     below = λ k d l. p.within (get_or taken k d) (member-get_or taken k d l);

@@ -13,18 +13,18 @@ use Rattle.kc_graph.specs.Edges.{edge, without_edge}
 use Rattle.kc_graph.specs.Rows.{row, graph_of, IsAdjacency, BothDeleted}
 use Rattle.kc_graph.proofs.Ends.{joins, joins-sym, joins-edge, edge-joins, contains-edge}
 use Rattle.kc_graph.proofs.RowsLemmas.{contains-edges, adjacent-graph_of, pair_total, pair_exact, same_pair, tied_pair}
-use Rattle.kc_graph.proofs.TwoRows.{new-length, same-size, ascends, holds, sums}
+use Rattle.kc_graph.proofs.TwoRows.{new-length, same-size, two_rows-ascend, two_rows-hold, two_rows-sum}
 
 module _ (old new : List (List ℕ)) (u v : ℕ) (differ : u ≡ v → ⊥) (lu : u < length old) (lv : v < length old) (both : BothDeleted old new u v) where
   -- a number is in a row where it was, unless the edge joins the two
   kept : (a b : ℕ) → member b (row new a) ≡ (member b (row old a) && not (joins u v a b))
   kept =
-      holds old new u v both.first both.second both.rows differ lu lv (λ s t. s && not t) and-true both.at_first.kept both.at_second.kept
+      two_rows-hold old new u v both.first both.second both.rows differ lu lv (λ s t. s && not t) and-true both.at_first.kept both.at_second.kept
 
   -- the rows are still those of a graph
-  pub adjacency : IsAdjacency old → IsAdjacency new
-  adjacency h = record {
-    ascends = ascends old new u v both.first both.second both.rows differ lu lv both.at_first.ascends both.at_second.ascends h.ascends;
+  pub removed-adjacency : IsAdjacency old → IsAdjacency new
+  removed-adjacency h = record {
+    ascends = two_rows-ascend old new u v both.first both.second both.rows differ lu lv both.at_first.ascends both.at_second.ascends h.ascends;
     within = λ a b m. let k = and_parts (member b (row old a)) (not (joins u v a b)) (sym (kept a b) ∙ m) in
         omega (arith, h.within a b k.0, new-length old new u v both.first both.second both.rows);
     irreflexive = λ a. kept a a ∙ and_left (member a (row old a)) _ (h.irreflexive a);
@@ -60,7 +60,7 @@ module _ (old new : List (List ℕ)) (u v : ℕ) (differ : u ≡ v → ⊥) (lu 
   -- there are two entries less in all rows
   pub sum-removed : sum_by length new + 2 ≡ sum_by length old
   sum-removed =
-      omega (arith, sums old new u v both.first both.second both.rows differ lu lv, both.at_first.shorter, both.at_second.shorter)
+      omega (arith, two_rows-sum old new u v both.first both.second both.rows differ lu lv, both.at_first.shorter, both.at_second.shorter)
 
   -- there is one edge less, where the two were adjacent
   pub len-removed : IsAdjacency old → member v (row old u) ≡ true → len (graph_of new).edges ≡ len (graph_of old).edges - 1
@@ -70,8 +70,8 @@ module _ (old new : List (List ℕ)) (u v : ℕ) (differ : u ≡ v → ⊥) (lu 
       ∙ ap (λ t. cond t (len (graph_of old).edges - 1) (len (graph_of old).edges)) there
 
 -- a graph that lacks an edge is the graph without that edge
-pub missing : (g : SimpleGraph) (u v : ℕ) → (u ≡ v → ⊥) → adjacent g u v ≡ false → g ≡ without_edge g u v
-missing g u v differ a =
+pub edge-missing : (g : SimpleGraph) (u v : ℕ) → (u ≡ v → ⊥) → adjacent g u v ≡ false → g ≡ without_edge g u v
+edge-missing g u v differ a =
     let absent : contains g.edges (edge u v) ≡ false = contains-edge g u v differ ∙ a in
     let same : g.edges ≡ remove g.edges (edge u v) = same_set pair_total pair_exact _ _ (λ q. sym (contains-remove pair_total g.edges (edge u v) q ∙
     elim (cases_Bool (eq_by_cmp pair_cmp q (edge u v))) [

@@ -30,11 +30,11 @@ row-here (x ∷ rows) zero r l e = sym e
 row-here (x ∷ rows) (suc v) r l e = row-here rows v r (omega arith) e
 
 -- to be in a list or the number, but not the number, is to be in the list, where it lacks the number
-regained : (a e : Bool) → (e ≡ true → a ≡ false) → ((a || e) && not e) ≡ a
-regained true true h = absurd (true≢false (h refl))
-regained false true h = refl
-regained true false h = refl
-regained false false h = refl
+list-regained : (a e : Bool) → (e ≡ true → a ≡ false) → ((a || e) && not e) ≡ a
+list-regained true true h = absurd (true≢false (h refl))
+list-regained false true h = refl
+list-regained true false h = refl
+list-regained false false h = refl
 
 -- An ascending list with the numbers of another one, and one more, is that list with it put in.
 pub inserted_from : (xs ys : List ℕ) (w : ℕ) → IsStrictlyIncreasing xs → IsStrictlyIncreasing ys → member w xs ≡ false
@@ -46,7 +46,7 @@ inserted_from xs ys w ux uy lacks same =
     let d : Deleted ys (remove ys i) w = deleted_at ys w i uy l here in
     let back : remove ys i ≡ xs = rising_same (remove ys i) xs (Rises-from_increasing (remove ys i) d.ascends) (Rises-from_increasing xs ux)
     (λ z. d.kept z ∙ ap (λ (t : Bool). t && not (eqb z w)) (same z)
-    ∙ regained (member z xs) (eqb z w) (λ t. ap (λ (k : ℕ). member k xs) (eqb-true z w t) ∙ lacks)) in
+    ∙ list-regained (member z xs) (eqb z w) (λ t. ap (λ (k : ℕ). member k xs) (eqb-true z w t) ∙ lacks)) in
     record {
       longer = omega (arith, d.shorter, ap length back);
       gained = same;

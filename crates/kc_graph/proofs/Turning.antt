@@ -23,9 +23,9 @@ pub last_turn : (level turn : ℕ) (rows : List (List ℕ)) → length (row rows
 last_turn level turn rows l = ap (set rows level) (drop_all turn (row rows level) l)
 
 -- a bucket only grows while vertices are lowered
-pub grows : (level b : ℕ) (ws core : List ℕ) (rows : List (List ℕ)) (core' : List ℕ) (rows' : List (List ℕ)) → Lowered level ws core rows core' rows'
+pub bucket-grows : (level b : ℕ) (ws core : List ℕ) (rows : List (List ℕ)) (core' : List ℕ) (rows' : List (List ℕ)) → Lowered level ws core rows core' rows'
     → length (row rows b) ≤ length (row rows' b)
-grows level b ws core rows core' rows' h = omega (arith, ap length (h.filed b), length-append (row rows b) (filter (moved level core b) ws))
+bucket-grows level b ws core rows core' rows' h = omega (arith, ap length (h.filed b), length-append (row rows b) (filter (moved level core b) ws))
 
 module _ (level turn : ℕ) (rows : List (List ℕ)) (there : level < length rows) where
   -- in the bucket are those whose turn has not come
@@ -71,7 +71,7 @@ module _ (level turn : ℕ) (rows : List (List ℕ)) (there : level < length row
               ap length left',
               length-drop turn (row rows level),
               length-drop turn (row rows' level),
-              grows level level ws core rows core' rows' h,
+              bucket-grows level level ws core rows core' rows' h,
               l,
             );
       }

@@ -36,9 +36,9 @@ module _ (old new : List (List ℕ)) (u v : ℕ) (first second : List ℕ) (put 
     at-other a nu nv = ap (λ t. row t a) put ∙ row-set_other (set old u first) v a second nv ∙ row-set_other old u a first nu
 
     -- the rows ascend, where those did that were there and those do that were put there
-    pub ascends : IsStrictlyIncreasing first → IsStrictlyIncreasing second → ((a : ℕ) → IsStrictlyIncreasing (row old a))
+    pub two_rows-ascend : IsStrictlyIncreasing first → IsStrictlyIncreasing second → ((a : ℕ) → IsStrictlyIncreasing (row old a))
         → (a : ℕ) → IsStrictlyIncreasing (row new a)
-    ascends up-u up-v h a = elim (cases_eq a u) [
+    two_rows-ascend up-u up-v h a = elim (cases_eq a u) [
       | inl e ↦ subst IsStrictlyIncreasing (sym (ap (row new) e ∙ at-u)) up-u
       | inr nu ↦ elim (cases_eq a v) [
         | inl e ↦ subst IsStrictlyIncreasing (sym (ap (row new) e ∙ at-v)) up-v
@@ -47,9 +47,9 @@ module _ (old new : List (List ℕ)) (u v : ℕ) (first second : List ℕ) (put 
     ]
 
     -- Whether a number is in a row follows from whether it was there and whether the edge joins the two, where it does so in the two rows.
-    pub holds : (f : Bool → Bool → Bool) → ((s : Bool) → f s false ≡ s) → ((b : ℕ) → member b first ≡ f (member b (row old u)) (eqb b v))
+    pub two_rows-hold : (f : Bool → Bool → Bool) → ((s : Bool) → f s false ≡ s) → ((b : ℕ) → member b first ≡ f (member b (row old u)) (eqb b v))
         → ((b : ℕ) → member b second ≡ f (member b (row old v)) (eqb b u)) → (a b : ℕ) → member b (row new a) ≡ f (member b (row old a)) (joins u v a b)
-    holds f stays at_first at_second a b = elim (cases_eq a u) [
+    two_rows-hold f stays at_first at_second a b = elim (cases_eq a u) [
       | inl e ↦
           let j : joins u v a b ≡ eqb b v =
           ap₂ (λ s t. (s && eqb b v) || (t && eqb b u)) (eq-eqb a u e) (ne_eqb a v (λ q. differ (sym e ∙ q))) ∙ or-false (eqb b v) in
@@ -65,8 +65,8 @@ module _ (old new : List (List ℕ)) (u v : ℕ) (first second : List ℕ) (put 
     ]
 
     -- in all rows there are as many entries more, or less, as in the two
-    pub sums : sum_by length new + length (row old u) + length (row old v) ≡ sum_by length old + length first + length second
-    sums =
+    pub two_rows-sum : sum_by length new + length (row old u) + length (row old v) ≡ sum_by length old + length first + length second
+    two_rows-sum =
         let mid : List (List ℕ) = set old u first in
         let a : sum_by length mid + length (row old u) ≡ sum_by length old + length first = sum_by-set length old u first [] lu in
         let b : sum_by length (set mid v second) + length (row mid v) ≡ sum_by length mid + length second =

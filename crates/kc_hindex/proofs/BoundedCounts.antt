@@ -7,8 +7,8 @@ use Rattle.kc_distinct.proofs.Counting.{count-agree, count-cons, one_if}
 use Rattle.kc_hindex.specs.Rounds.{how_many_reach}
 
 -- a number reaches `k` if it is `k` or reaches the next number
-reaches : (k n : ℕ) → one_if (leb (k + 1) n) + one_if (eqb n k) ≡ one_if (leb k n)
-reaches k n = elim (cases_eq n k) [
+number-reaches : (k n : ℕ) → one_if (leb (k + 1) n) + one_if (eqb n k) ≡ one_if (leb k n)
+number-reaches k n = elim (cases_eq n k) [
   | inl e ↦
       let a : leb (k + 1) n ≡ false = false_from_ne_true _ (λ t. absurd (omega (arith, leb-true (k + 1) n t, e))) in
       omega (arith, ap one_if a, ap one_if (eq-eqb n k e), ap one_if (le-leb k n (omega (arith, e))))
@@ -29,7 +29,7 @@ reach-step c k (w ∷ ws) =
     omega (
       arith,
       rest,
-      reaches k (c w),
+      number-reaches k (c w),
       count-cons (λ w. leb (k + 1) (c w)) w ws,
       count-cons (λ w. eqb (c w) k) w ws,
       count-cons (λ w. leb k (c w)) w ws,

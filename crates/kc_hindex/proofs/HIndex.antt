@@ -18,20 +18,20 @@ up_to-reached xs (suc n) =
     ] refl
 
 -- a number is no greater than another, or it is greater
-order : (k h : ℕ) → (k ≤ h) ⊎ (h < k)
-order zero h = inl (omega arith)
-order (suc k) h = elim (order k h) [
+numbers-ordered : (k h : ℕ) → (k ≤ h) ⊎ (h < k)
+numbers-ordered zero h = inl (omega arith)
+numbers-ordered (suc k) h = elim (numbers-ordered k h) [
   | inl l ↦ elim (cases_eq k h) [ inl e ↦ inr (omega arith) | inr ne ↦ inl (omega arith) ]
   | inr l ↦ inr (omega arith)
 ]
 
 -- what is not the limit plus one is within the limit
-above : (k n : ℕ) → k ≤ suc n → (k ≡ suc n → ⊥) → k ≤ n
-above k n l ne = elim (cases_eq k (suc n)) [ inl e ↦ absurd (ne e) | inr other ↦ omega arith ]
+limit-not_above : (k n : ℕ) → k ≤ suc n → (k ≡ suc n → ⊥) → k ≤ n
+limit-not_above k n l ne = elim (cases_eq k (suc n)) [ inl e ↦ absurd (ne e) | inr other ↦ omega arith ]
 
 -- a test of two numbers that fails tells which one is greater
 not_leb : (k h : ℕ) → leb k h ≡ false → h < k
-not_leb k h f = elim (order k h) [ inl l ↦ absurd (true≢false (sym (le-leb k h l) ∙ f)) | inr l ↦ l ]
+not_leb k h f = elim (numbers-ordered k h) [ inl l ↦ absurd (true≢false (sym (le-leb k h l) ∙ f)) | inr l ↦ l ]
 
 -- a number up to the limit that as many numbers reach is no greater than the h-index up to it
 pub up_to-greatest : (xs : List ℕ) (n k : ℕ) → k ≤ n → k ≤ how_many_reach k xs → k ≤ h_index_up_to xs n
@@ -42,7 +42,7 @@ up_to-greatest xs (suc n) k l h =
       | false ↦ λ e.
           let ne : k ≡ suc n → ⊥ =
           λ k-n. true≢false (sym (le-leb (suc n) (how_many_reach (suc n) xs) (subst (λ (m : ℕ). m ≤ how_many_reach m xs) k-n h)) ∙ e) in
-          up_to-greatest xs n k (above k n l ne) h
+          up_to-greatest xs n k (limit-not_above k n l ne) h
     ] refl
 
 -- as many numbers as the h-index reach it

@@ -51,18 +51,18 @@ same_or_less c d (suc n) h =
     ]
 
 -- a round that changes nothing, with none before it, is the first one
-pub here : (g : SimpleGraph) (r : ℕ) → ((s : ℕ) → IsSettled g s → r ≤ s)
+pub settled-here : (g : SimpleGraph) (r : ℕ) → ((s : ℕ) → IsSettled g s → r ≤ s)
     → ((v : ℕ) → v < g.size → after_rounds g (suc r) v ≡ after_rounds g r v) → AreRounds g (suc r)
-here g r none same = record {
+settled-here g r none same = record {
   positive = omega arith;
   settled = λ s e. subst (λ (x : ℕ). IsSettled g x) (omega arith) same;
   first = λ s h. let l : r ≤ s = none s h in omega arith;
 }
 
 -- where the sum falls in a round, the first one that changes nothing comes behind it
-pub later : (g : SimpleGraph) (r : ℕ) → ((s : ℕ) → IsSettled g s → r ≤ s)
+pub settled-later : (g : SimpleGraph) (r : ℕ) → ((s : ℕ) → IsSettled g s → r ≤ s)
     → total (after_rounds g (suc r)) g.size < total (after_rounds g r) g.size → (s : ℕ) → IsSettled g s → suc r ≤ s
-later g r none less s h =
+settled-later g r none less s h =
     let l : r ≤ s = none s h in
     elim (cases_eq r s) [
       | inl e ↦
@@ -78,14 +78,14 @@ search_from : (g : SimpleGraph) (fuel r : ℕ) → total (after_rounds g r) g.si
     → (n : ℕ) × AreRounds g n × (n ≤ r + fuel + 1)
 search_from g zero r enough none =
     elim (same_or_less (after_rounds g (suc r)) (after_rounds g r) g.size (never_rises g r)) [
-      | inl same ↦ (suc r, here g r none same, omega arith)
+      | inl same ↦ (suc r, settled-here g r none same, omega arith)
       | inr less ↦ absurd (omega arith)
     ]
 search_from g (suc fuel) r enough none =
     elim (same_or_less (after_rounds g (suc r)) (after_rounds g r) g.size (never_rises g r)) [
-      | inl same ↦ (suc r, here g r none same, omega arith)
+      | inl same ↦ (suc r, settled-here g r none same, omega arith)
       | inr less ↦
-          let found : (n : ℕ) × AreRounds g n × (n ≤ suc r + fuel + 1) = search_from g fuel (suc r) (omega arith) (later g r none less) in
+          let found : (n : ℕ) × AreRounds g n × (n ≤ suc r + fuel + 1) = search_from g fuel (suc r) (omega arith) (settled-later g r none less) in
           (found.0, found.1, omega (arith, found.2))
     ]
 
@@ -115,9 +115,9 @@ total-fits g small =
     omega (arith, small, total-few (after_rounds g 0) g.size each)
 
 -- a round that changed something
-pub changed : (g : SimpleGraph) (r : ℕ) (old new : List ℕ) → HasRound g r old → HasRound g (suc r) new → (old ≡ new → ⊥)
+pub round-changed : (g : SimpleGraph) (r : ℕ) (old new : List ℕ) → HasRound g r old → HasRound g (suc r) new → (old ≡ new → ⊥)
     → total (after_rounds g (suc r)) g.size < total (after_rounds g r) g.size
-changed g r old new a b differ =
+round-changed g r old new a b differ =
     elim (same_or_less (after_rounds g (suc r)) (after_rounds g r) g.size (never_rises g r)) [
       | inl same ↦ absurd (differ (ext_get_or 0 old new (a.one_each ∙ sym b.one_each) (λ v l.
           let in' : v < g.size = omega (arith, a.one_each) in
@@ -126,8 +126,8 @@ changed g r old new a b differ =
     ]
 
 -- where a round gives the numbers that were there, it has settled
-pub unchanged : (g : SimpleGraph) (r : ℕ) (old new : List ℕ) → HasRound g r old → HasRound g (suc r) new → old ≡ new → IsSettled g r
-unchanged g r old new a b same v l = sym (b.each v l) ∙ ap (λ (xs : List ℕ). get_or xs v 0) (sym same) ∙ a.each v l
+pub round-unchanged : (g : SimpleGraph) (r : ℕ) (old new : List ℕ) → HasRound g r old → HasRound g (suc r) new → old ≡ new → IsSettled g r
+round-unchanged g r old new a b same v l = sym (b.each v l) ∙ ap (λ (xs : List ℕ). get_or xs v 0) (sym same) ∙ a.each v l
 
 -- what a round makes of the numbers after some rounds are those after one more
 pub round-next : (g : SimpleGraph) (r : ℕ) (old new : List ℕ) → HasRound g r old → IsRoundOf g old new → HasRound g (suc r) new
@@ -151,19 +151,19 @@ pub falls-by-one : (g : SimpleGraph) (r : ℕ) (old new : List ℕ) → HasRound
     → total (after_rounds g (r + 1)) g.size < total (after_rounds g r) g.size
 falls-by-one g r old new a b differ =
     let next : suc r ≡ r + 1 = omega arith in
-    subst (λ (n : ℕ). total (after_rounds g n) g.size < total (after_rounds g r) g.size) next (changed g r old new a b differ)
+    subst (λ (n : ℕ). total (after_rounds g n) g.size < total (after_rounds g r) g.size) next (round-changed g r old new a b differ)
 
 -- where the sum falls in a round, as the loop counts it, none of the rounds up to it has settled
 pub later-settled : (g : SimpleGraph) (r : ℕ) → ((s : ℕ) → IsSettled g s → r ≤ s)
     → total (after_rounds g (r + 1)) g.size < total (after_rounds g r) g.size → (s : ℕ) → IsSettled g s → r + 1 ≤ s
 later-settled g r none less s h =
     let next : r + 1 ≡ suc r = omega arith in
-    omega (arith, later g r none (subst (λ (n : ℕ). total (after_rounds g n) g.size < total (after_rounds g r) g.size) next less) s h)
+    omega (arith, settled-later g r none (subst (λ (n : ℕ). total (after_rounds g n) g.size < total (after_rounds g r) g.size) next less) s h)
 
 -- a round raises no number that rounds have led to
-pub falls : (g : SimpleGraph) (r : ℕ) (numbers : List ℕ) → HasRound g r numbers → (v : ℕ) → v < g.size
+pub round-falls : (g : SimpleGraph) (r : ℕ) (numbers : List ℕ) → HasRound g r numbers → (v : ℕ) → v < g.size
     → h_round g (λ w. get_or numbers w 0) v ≤ get_or numbers v 0
-falls g r numbers h v l =
+round-falls g r numbers h v l =
     let same : h_round g (λ w. get_or numbers w 0) v ≡ after_rounds g (suc r) v =
     ap (λ (xs : List ℕ). h_index xs)
     (map-agree (λ w. get_or numbers w 0) (after_rounds g r) (neighbours_of g v) (λ w m. h.each w (neighbours_within g v w m).0)) in

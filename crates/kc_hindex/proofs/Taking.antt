@@ -21,15 +21,15 @@ use Rattle.kc_graph.specs.Neighbours.{AreNeighbours}
 use Rattle.kc_graph.specs.Rows.{row}
 use Rattle.kc_graph.specs.Peeling.{at, as_high, remaining}
 use Rattle.kc_graph.proofs.Law.{adjacent-sym}
-use Rattle.kc_graph.proofs.PeelingLemmas.{start, raise, take_one, finish, remaining-taken, neighbours-distinct}
+use Rattle.kc_graph.proofs.PeelingLemmas.{peeling-starts, level-raised, take_one, peeling-finishes, remaining-taken, neighbours-distinct}
 use Rattle.kc_graph.proofs.Buckets.{row-set_same, row-set_other}
 use Rattle.kc_hindex.specs.Rounds.{HasRound}
 use Rattle.kc_hindex.specs.Ordering.{IsNext, Orders, Released, Sorted}
 use Rattle.kc_hindex.proofs.Releasing.{joins}
 
 -- a vertex has at least as many neighbours that are as high as its core number
-pub supported : (g : SimpleGraph) (core : List ℕ) → AreCoreNumbers g core → (v : ℕ) → v < g.size → at core v ≤ as_high g core (at core v) v
-supported g core numbers v l =
+pub vertex-supported : (g : SimpleGraph) (core : List ℕ) → AreCoreNumbers g core → (v : ℕ) → v < g.size → at core v ≤ as_high g core (at core v) v
+vertex-supported g core numbers v l =
     let k : ℕ = at core v in
     let in' : IsInCore g k v = (numbers.each v l).reached in
     let members : List ℕ = in'.0 in
@@ -49,17 +49,17 @@ supported g core numbers v l =
 -- a vertex has at least as many neighbours as its core number
 pub few_enough : (g : SimpleGraph) (core : List ℕ) → AreCoreNumbers g core → (v : ℕ) → v < g.size → at core v ≤ remaining g [] v
 few_enough g core numbers v l =
-    let high : at core v ≤ as_high g core (at core v) v = supported g core numbers v l in
+    let high : at core v ≤ as_high g core (at core v) v = vertex-supported g core numbers v l in
     let all : as_high g core (at core v) v ≤ remaining g [] v =
     count-mono (λ w. adjacent g v w && leb (at core v) (at core w)) (λ w. adjacent g v w && not (member w [])) (below g.size)
     (λ w _ t. and_from _ _ (and_parts (adjacent g v w) (leb (at core v) (at core w)) t).0 refl) in
     le_trans high all
 
 -- no vertex is taken yet, and those wait that have no more neighbours than their core number
-pub begin : (g : SimpleGraph) (core left : List ℕ) (waiting : List (List ℕ)) → AreCoreNumbers g core → HasRound g 0 left
+pub taking-begins : (g : SimpleGraph) (core left : List ℕ) (waiting : List (List ℕ)) → AreCoreNumbers g core → HasRound g 0 left
     → Sorted core left g.size waiting → Orders g core 0 left [] waiting
-begin g core left waiting numbers degrees s = record {
-  peeled = start g core numbers.one_each;
+taking-begins g core left waiting numbers degrees s = record {
+  peeled = peeling-starts g core numbers.one_each;
   rest = record {
     one_each = degrees.one_each;
     counted = λ v l.
@@ -131,9 +131,9 @@ module _ (g : SimpleGraph) (core : List ℕ) (level v : ℕ) (left taken : List 
   ]
 
   -- `v` is taken, and its neighbours lose one
-  pub took : (ws left' : List ℕ) (rows' : List (List ℕ)) → AreNeighbours g v ws → Released core ws left rows left' rows'
+  pub vertex-taken : (ws left' : List ℕ) (rows' : List (List ℕ)) → AreNeighbours g v ws → Released core ws left rows left' rows'
       → Orders g core level left' (taken ++ v ∷ []) rows'
-  took ws left' rows' near h =
+  vertex-taken ws left' rows' near h =
       let kept : (u : ℕ) → at left u ≤ at core u → at left' u ≡ at left u = λ u low.
       let z : member u ws && ltb (at core u) (at left u) ≡ false = and_right (member u ws) _ (le-ltb (at core u) (at left u) low) in
       omega (arith, h.lowered u, ap one_if z) in
@@ -237,7 +237,7 @@ next_level g core level left taken rows numbers h none =
     let open' : level ≤ at core u = h.peeled.open_ u lu out in
     elim (cases_lt level (at core u)) [
       | inl up ↦
-          let high : at core u ≤ as_high g core (at core u) u = supported g core numbers u lu in
+          let high : at core u ≤ as_high g core (at core u) u = vertex-supported g core numbers u lu in
           let left' : as_high g core (at core u) u ≤ remaining g taken u =
           count-mono (λ w. adjacent g u w && leb (at core u) (at core w)) (λ w. adjacent g u w && not (member w taken)) (below g.size)
           (λ w _ a. let p = and_parts (adjacent g u w) (leb (at core u) (at core w)) a in
@@ -267,14 +267,15 @@ next_level g core level left taken rows numbers h none =
     let in' : member v members ≡ true = filter-member untaken v (below g.size) (member-below v g.size l) (not_from_false (member v taken) out) in
     let up : level + 1 ≤ at core v = (numbers.each v l).greatest (level + 1) (members, dense, Contains-from_member members v in') in
     omega (arith, up) in
-    record { peeled = raise g level core taken h.peeled (λ v l out. (above v l out, many v l out)); rest = h.rest }
+    record { peeled = level-raised g level core taken h.peeled (λ v l out. (above v l out, many v l out)); rest = h.rest }
 
 -- all levels are done
 pub all_taken : (g : SimpleGraph) (core : List ℕ) (levels : ℕ) (left taken : List ℕ) (rows : List (List ℕ))
     → Orders g core levels left taken rows → ((v : ℕ) → v < g.size → at core v < levels)
     → Certifies g core taken
 all_taken g core levels left taken rows h within =
-    finish g levels core taken h.peeled (λ v l. true_from_ne_false (member v taken) (λ out. absurd (omega (arith, h.peeled.open_ v l out, within v l))))
+    peeling-finishes g levels core taken h.peeled
+    (λ v l. true_from_ne_false (member v taken) (λ out. absurd (omega (arith, h.peeled.open_ v l out, within v l))))
 
 -- none of the first 0 vertices waits
 pub sorted_none : (core left : List ℕ) (rows : List (List ℕ)) → ((b : ℕ) → row rows b ≡ []) → Sorted core left 0 rows

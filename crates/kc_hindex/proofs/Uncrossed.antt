@@ -12,12 +12,12 @@ use Rattle.kc_hindex.specs.Crossing.{Crosses}
 use Rattle.kc_hindex.specs.Pieces.{AreReady, KeepsUncrossed}
 use Rattle.kc_hindex.specs.Rounds.{HasRound, after_rounds, h_index}
 use Rattle.kc_hindex.proofs.HIndex.{count-map, h_index-reached, in_reach}
-use Rattle.kc_hindex.proofs.Settling.{falls, map-agree, never_rises}
+use Rattle.kc_hindex.proofs.Settling.{map-agree, never_rises, round-falls}
 
 -- the neighbours that reached the number of a vertex still do, where no vertex has crossed it
-pub keeps : (g : SimpleGraph) (r : ℕ) (old new : List ℕ) (crossed : List Bool) → HasRound g r old → HasRound g (suc r) new
+pub uncrossed-keeps : (g : SimpleGraph) (r : ℕ) (old new : List ℕ) (crossed : List Bool) → HasRound g r old → HasRound g (suc r) new
     → Crosses old new crossed → KeepsUncrossed g new crossed
-keeps g r old new crossed a b marks v l none =
+uncrossed-keeps g r old new crossed a b marks v l none =
     let f : ℕ → ℕ = λ w. get_or old w 0 in
     let f' : ℕ → ℕ = λ w. get_or new w 0 in
     let k : ℕ = get_or new v 0 in
@@ -32,7 +32,7 @@ keeps g r old new crossed a b marks v l none =
           absurd (true≢false (sym marked ∙ none))
       | inr up ↦ le-leb k (f' w) up
     ]) in
-    omega (arith, falls g (suc r) new b v l, in_reach f' near k (omega (arith, before, count-map (leb k) f near, more)))
+    omega (arith, round-falls g (suc r) new b v l, in_reach f' near k (omega (arith, before, count-map (leb k) f near, more)))
 
 -- a round may be made of the degrees, where all numbers are marked
 pub first-ready : (g : SimpleGraph) (numbers : List ℕ) (crossed : List Bool) → HasRound g 0 numbers
@@ -42,7 +42,7 @@ first-ready g numbers crossed has within all = record {
   one_each = has.one_each;
   marked = λ v l. within v (omega (arith, l, has.one_each));
   keeps = λ v l none. absurd (true≢false (sym (all (get_or numbers v 0) (within v (omega (arith, l, has.one_each)))) ∙ none));
-  falls = falls g 0 numbers has;
+  falls = round-falls g 0 numbers has;
 }
 
 -- a round may be made of the numbers that a round has made, where those that it crossed are marked
@@ -51,8 +51,8 @@ pub next-ready : (g : SimpleGraph) (r : ℕ) (old new : List ℕ) (crossed cross
 next-ready g r old new crossed crossed' a b ready marks same = record {
   one_each = b.one_each;
   marked = λ v l. omega (arith, ready.marked v l, a.each v l, b.each v l, never_rises g r v, same);
-  keeps = keeps g r old new crossed' a b marks;
-  falls = falls g (suc r) new b;
+  keeps = uncrossed-keeps g r old new crossed' a b marks;
+  falls = round-falls g (suc r) new b;
 }
 
 -- degrees are at most the number of vertices

@@ -17,7 +17,7 @@ use Rattle.kc_insert.specs.Searching.{Widened, BetweenTurns}
 use Rattle.kc_insert.specs.Turns.{Begins, IsBetweenTurns}
 use Rattle.kc_insert.specs.declared.rising.Rising.{Rising}
 use Rattle.kc_insert.proofs.Tidy.{asks-queued}
-use Rattle.kc_insert.proofs.Turning.{begin}
+use Rattle.kc_insert.proofs.Turning.{turns-begin}
 
 -- where only the root is queued nobody is a candidate
 no-candidate : (root : ℕ) (r : Rising) → Begins root r → (z : ℕ) → is_candidate r z ≡ false
@@ -73,7 +73,7 @@ begin-between s root r b w =
     let none : cands r ≡ [] = ap (filter (is_candidate r)) b.queue ∙ ap (λ k. cond k (root ∷ []) []) (no-candidate root r b root) in
     let waits : waiting r ≡ root ∷ [] = ap (λ n. drop n r.queue.items) b.turn ∙ b.queue in
     let turns : BetweenTurns s root [] (root ∷ []) (s.rank root) (earlier_at r) (later_at r) [] =
-    begin s root w (earlier_at r) (later_at r) (no-earlier root r b) in (
+    turns-begin s root w (earlier_at r) (later_at r) (no-earlier root r b) in (
       s.rank root,
       record {
         lined = record {

@@ -27,7 +27,7 @@ use Rattle.kc_insert.specs.Turns.{IsBetweenTurns}
 use Rattle.kc_insert.specs.declared.rising.Rising.{Rising}
 use Rattle.kc_insert.proofs.Sureness.{plain-sure, rise-sure, reached-forward}
 use Rattle.kc_insert.proofs.Tidy.{left-queued}
-use Rattle.kc_insert.proofs.Widening.{widened}
+use Rattle.kc_insert.proofs.Widening.{state-widened}
 
 -- each candidate on the list of these was queued
 cand-queued : (r : Rising) (x : ℕ) → member x (cands r) ≡ true → member x r.queue.items ≡ true
@@ -76,7 +76,7 @@ first-forward update a asks = λ s h agrees.
 pub asked-forward : (update : Update) (shown : Shown) (s : Ranked) (level root : ℕ) (r : Rising) → update.add ≡ true
     → Concluded update s level root r → IsTidyRising update shown r → All (λ e. (e.vertex ≡ update.u) ⊎ InForward s update e.vertex) shown.kept.edges
 asked-forward update shown s level root r adds k t =
-    let w = widened update s level root k.certified k.ends k.is_new k.is_level k.is_root in
+    let w = state-widened update s level root k.certified k.ends k.is_new k.is_level k.is_root in
     let reached = k.between.1.lined.reached in
     All-weaker (λ e. (e.vertex ≡ update.u) ⊎ (member e.vertex r.queue.items ≡ true)) (λ e. (e.vertex ≡ update.u) ⊎ InForward s update e.vertex)
     (λ e in'. elim in' [

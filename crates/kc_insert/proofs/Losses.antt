@@ -45,12 +45,12 @@ pub cand-queued : (r : Rising) → IsOrderly r → (y : ℕ) → is_candidate r 
 cand-queued r o y c = sym (o.marked y) ∙ candidate_in-some (value_of r.marks y) c
 
 -- where the second of two truths has the first with it, both are the second
-both : (m p : Bool) → (p ≡ true → m ≡ true) → (m && p) ≡ p
-both m p h = grind arith
+second-both : (m p : Bool) → (p ≡ true → m ≡ true) → (m && p) ≡ p
+second-both m p h = grind arith
 
 -- who is a candidate is on the list of these
 pub cands-has : (r : Rising) → IsOrderly r → (y : ℕ) → member y (cands r) ≡ is_candidate r y
-cands-has r o y = filter-has (is_candidate r) y r.queue.items ∙ both (member y r.queue.items) (is_candidate r y) (cand-queued r o y)
+cands-has r o y = filter-has (is_candidate r) y r.queue.items ∙ second-both (member y r.queue.items) (is_candidate r y) (cand-queued r o y)
 
 -- the first `n` of a list are no more than the list has
 length-take : (n : ℕ) (xs : List ℕ) → length (take n xs) ≤ length xs
@@ -268,8 +268,8 @@ lost-marked level loss y m old new is r =
     }
 
 -- a vertex loses, and is found weak or not, whether it has a mark or none
-lost : (level : ℕ) (loss : Loss) (y : ℕ) (old new : Rising) → LosesOne level loss y old new → (found : Bool) × Lost level loss y found old new
-lost level loss y old new l = elim (cases_mark (value_of old.marks y)) [
+vertex-loses : (level : ℕ) (loss : Loss) (y : ℕ) (old new : Rising) → LosesOne level loss y old new → (found : Bool) × Lost level loss y found old new
+vertex-loses level loss y old new l = elim (cases_mark (value_of old.marks y)) [
   | inl none ↦ (false, subst (Lost level loss y false old) (sym (l.unmarked none)) (lost-unmarked level loss y old none))
   | inr some ↦ (_, lost-marked level loss y some.0 old new some.1 (l.marked some.0 some.1))
 ]
@@ -298,7 +298,7 @@ grown-distinct false y xs ys e d out = subst Distinct (sym e) d
 -- one neighbour loses what it loses
 pub loses-one : (level : ℕ) (loss : Loss) (y : ℕ) (old new : Rising) → IsOrderly old → LosesOne level loss y old new → Loses level loss (y ∷ []) old new
 loses-one level loss y old new o l =
-    let (found, k) = lost level loss y old new l in
+    let (found, k) = vertex-loses level loss y old new l in
     record {
       earlier = k.earlier;
       later = k.later;
@@ -327,7 +327,7 @@ loses-one level loss y old new o l =
 -- one neighbour's loss keeps queue and marks orderly
 pub lose-orderly : (level : ℕ) (loss : Loss) (y : ℕ) (old new : Rising) → IsOrderly old → LosesOne level loss y old new → IsOrderly new
 lose-orderly level loss y old new o l =
-    let (found, k) = lost level loss y old new l in
+    let (found, k) = vertex-loses level loss y old new l in
     let same_left : left new ≡ left old = ap (λ n. take n new.queue.items) k.turn ∙ ap (take old.turn) k.queue in
     record {
       once = subst Distinct (sym k.queue) o.once;

@@ -31,15 +31,16 @@ inserted-has [] (suc i) y z = or-turned (eqb z y) false
 inserted-has (x ∷ xs) (suc i) y z = ap (λ b. eqb z x || b) (inserted-has xs i y z) ∙ sym (or_assoc (eqb z x) (member z xs) (eqb z y))
 
 -- where two truths fail, neither holds
-other : (a e : Bool) → a ≡ false → e ≡ false → (a || e) ≡ false
-other a e h k = grind arith
+neither-holds : (a e : Bool) → a ≡ false → e ≡ false → (a || e) ≡ false
+neither-holds a e h k = grind arith
 
 -- a list with distinct items still has such with a new number put in
 pub inserted-once : (xs : List ℕ) (i y : ℕ) → Distinct xs → member y xs ≡ false → Distinct (insert xs i y)
 inserted-once xs zero y d out = (out, d)
 inserted-once [] (suc i) y d out = (out, d)
 inserted-once (x ∷ xs) (suc i) y d out = (
-  inserted-has xs i y x ∙ other (member x xs) (eqb x y) d.0 (ne_eqb x y (λ e. true≢false (sym (ap (λ k. member k (x ∷ xs)) (sym e) ∙ member-head x xs) ∙ out))),
+  inserted-has xs i y x ∙ neither-holds (member x xs) (eqb x y) d.0
+      (ne_eqb x y (λ e. true≢false (sym (ap (λ k. member k (x ∷ xs)) (sym e) ∙ member-head x xs) ∙ out))),
   inserted-once xs i y d.1 (false_from_ne_true _ (λ m. true≢false (sym (member-tail y x xs m) ∙ out))),
 )
 
@@ -75,12 +76,12 @@ and-yes : (a : Bool) → a ≡ (a && not false)
 and-yes a = grind arith
 
 -- the first item is not among those behind the first `n` + 1
-gone : (e m t : Bool) → e ≡ true → ((e || m) && not (e || t)) ≡ false
-gone e m t h = grind arith
+first-gone : (e m t : Bool) → e ≡ true → ((e || m) && not (e || t)) ≡ false
+first-gone e m t h = grind arith
 
 -- another item is behind the first `n` + 1 where it is behind the first `n` of the rest
-passed : (e m t : Bool) → e ≡ false → ((e || m) && not (e || t)) ≡ (m && not t)
-passed e m t h = grind arith
+other-passed : (e m t : Bool) → e ≡ false → ((e || m) && not (e || t)) ≡ (m && not t)
+other-passed e m t h = grind arith
 
 -- what stands behind the first `n` of distinct items is what is in the list and not among these
 pub drop-has : (n z : ℕ) (xs : List ℕ) → Distinct xs → member z (drop n xs) ≡ (member z xs && not (member z (take n xs)))
@@ -89,6 +90,6 @@ drop-has (suc n) z [] d = refl
 drop-has (suc n) z (x ∷ xs) d = elim (cases_eq z x) [
   | inl e ↦
       let out : member z (drop n xs) ≡ false = false_from_ne_true _ (λ m. true≢false (sym (drop-member n z xs m) ∙ (ap (λ k. member k xs) e ∙ d.0))) in
-      out ∙ sym (gone (eqb z x) (member z xs) (member z (take n xs)) (eq-eqb z x e))
-  | inr ne ↦ drop-has n z xs d.1 ∙ sym (passed (eqb z x) (member z xs) (member z (take n xs)) (ne_eqb z x ne))
+      out ∙ sym (first-gone (eqb z x) (member z xs) (member z (take n xs)) (eq-eqb z x e))
+  | inr ne ↦ drop-has n z xs d.1 ∙ sym (other-passed (eqb z x) (member z xs) (member z (take n xs)) (ne_eqb z x ne))
 ]

@@ -84,8 +84,8 @@ in_rest : (c' c t' t h : Bool) → c' ≡ (c || h) → t' ≡ t → (t ≡ true 
 in_rest c' c t' t h e f g = grind arith
 
 -- whoever waits is queued and has not left
-waits : (r : Rising) → IsOrderly r → (z : ℕ) → member z (waiting r) ≡ (member z r.queue.items && not (member z (left r)))
-waits r o z = drop-has r.turn z r.queue.items o.once
+waiting-queued : (r : Rising) → IsOrderly r → (z : ℕ) → member z (waiting r) ≡ (member z r.queue.items && not (member z (left r)))
+waiting-queued r o z = drop-has r.turn z r.queue.items o.once
 
 -- the first of those that wait becomes a candidate, and the search is between two turns again
 pub raised-now : (q : Search) (root w : ℕ) (mark : Mark) (a : Ahead) (old mid new : Rising) → Widened q root → IsOrderly old → IsOrderly mid
@@ -129,9 +129,9 @@ raised-now q root w mark a old mid new c o om on l cand same_earlier same_later 
       | inr e ↦ let k' : q.rank z ≡ q.rank w = ap q.rank e in absurd (omega (arith, up'))
     ]) in
     let waits_is : (z : ℕ) → member z (waiting new) ≡ (member z (waiting mid) || member z next) = λ z.
-    waits new on z ∙ (in_rest (member z new.queue.items) (member z mid.queue.items) (member z (left new)) (member z (left mid))
+    waiting-queued new on z ∙ (in_rest (member z new.queue.items) (member z mid.queue.items) (member z (left new)) (member z (left mid))
     (member z next) (p.queue z) (ap (member z) p.same_left)
-    (λ k. false_from_ne_true _ (λ m. true≢false (sym k ∙ not_left z m))) ∙ ap (λ t. t || member z next) (sym (waits mid om z))) in
+    (λ k. false_from_ne_true _ (λ m. true≢false (sym k ∙ not_left z m))) ∙ ap (λ t. t || member z next) (sym (waiting-queued mid om z))) in
     let ascends : AscendsBy q.rank new.queue.items = up (subst (AscendsBy q.rank) (sym l.queue) b.lined.ascends) in (
       q.rank w + 1,
       record {

@@ -26,8 +26,8 @@ ahead-later s root c z o = among-agree s z (λ y. above s y || (on_level s y && 
     (λ y l a. ahead-later-at s root c z o y l (c.rising z y o.here l) (c.rising y z l o.here))
 
 -- what is in a list of one item is that item
-only : (x y : ℕ) → member x (y ∷ []) ≡ true → x ≡ y
-only x y m = elim (member-cases x y [] m) [ inl e ↦ e | inr n ↦ absurd (false≢true n) ]
+single_item-only : (x y : ℕ) → member x (y ∷ []) ≡ true → x ≡ y
+single_item-only x y m = elim (member-cases x y [] m) [ inl e ↦ e | inr n ↦ absurd (false≢true n) ]
 
 -- a truth and `false` is false
 and-no : (a : Bool) → (a && false) ≡ false
@@ -38,13 +38,13 @@ no_candidates : (s : Search) (x : ℕ) → coming s [] x ≡ 0
 no_candidates s x = count-none (λ y. s.adj x y && (member y [] && after s y x)) (below s.size) (λ y _. and-no (s.adj x y))
 
 -- before the first turn, the search stands with the root alone in the queue
-pub start : (s : Search) (root : ℕ) → Widened s root → (earlier later : ℕ → ℕ) → ((x : ℕ) → earlier x ≡ 0)
+pub search-starts : (s : Search) (root : ℕ) → Widened s root → (earlier later : ℕ → ℕ) → ((x : ℕ) → earlier x ≡ 0)
     → Searching s root [] (root ∷ []) (s.rank root) earlier later s.rank
-start s root c earlier later none = record {
+search-starts s root c earlier later none = record {
   cand_level = λ x m. absurd (false≢true m);
   cand_passed = λ x m. absurd (false≢true m);
-  queue_level = λ x m. let e : x ≡ root = only x root m in record { here = grind (arith, e, c.root_here); level = ap s.core e ∙ c.root_level };
-  queue_open = λ x m. let e : x ≡ root = only x root m in grind (arith, e);
+  queue_level = λ x m. let e : x ≡ root = single_item-only x root m in record { here = grind (arith, e, c.root_here); level = ap s.core e ∙ c.root_level };
+  queue_open = λ x m. let e : x ≡ root = single_item-only x root m in grind (arith, e);
   queue_ascends = (λ y m. absurd (false≢true m), tt);
   root_queued = λ _. member-head root [];
   queued = λ x y m. absurd (false≢true m);
@@ -108,10 +108,11 @@ head_new s root cands queue w frontier earlier later place h =
     [ inl m ↦ absurd (omega (arith, h.cand_passed w m, head_open s root cands queue w frontier earlier later place h)) | inr n ↦ n ]
 
 -- A later neighbour of a candidate that has not been passed is not before the first of the queue.
-gap : (s : Search) (root : ℕ) (cands queue : List ℕ) (w frontier : ℕ) (earlier later place : ℕ → ℕ)
+later_neighbour-gap : (s : Search) (root : ℕ) (cands queue : List ℕ) (w frontier : ℕ) (earlier later place : ℕ → ℕ)
     → Searching s root cands (w ∷ queue) frontier earlier later place
     → (x y : ℕ) → member x cands ≡ true → OnLevel s y → s.adj x y ≡ true → frontier ≤ s.rank y → y ≢ w → s.rank w < s.rank y
-gap s root cands queue w frontier earlier later place h x y m o a open' ne = h.queue_ascends.0 y (member-other y w queue ne (h.queued x y m o a open'))
+later_neighbour-gap s root cands queue w frontier earlier later place h x y m o a open' ne =
+    h.queue_ascends.0 y (member-other y w queue ne (h.queued x y m o a open'))
 
 -- two vertices of the level, one open and one no candidate, keep the order of their ranks
 pub skipped_at : (s : Search) (root : ℕ) (cands queue : List ℕ) (frontier : ℕ) (earlier later place : ℕ → ℕ) → Widened s root
@@ -128,10 +129,10 @@ skipped_at s root cands queue frontier earlier later place c h z y oz oy open' n
     ]
 
 -- In the order of ranks, a vertex that is left behind without being queued has no candidate for a neighbour.
-skipped : (s : Search) (root : ℕ) (cands queue : List ℕ) (w frontier : ℕ) (earlier later place : ℕ → ℕ) → Widened s root
+vertex-skipped : (s : Search) (root : ℕ) (cands queue : List ℕ) (w frontier : ℕ) (earlier later place : ℕ → ℕ) → Widened s root
     → Searching s root cands (w ∷ queue) frontier earlier later place
     → (z : ℕ) → OnLevel s z → frontier ≤ s.rank z → s.rank z < s.rank w → behind s cands place z ≡ ahead s z
-skipped s root cands queue w frontier earlier later place c h z o open' lt =
+vertex-skipped s root cands queue w frontier earlier later place c h z o open' lt =
     among-agree s z (behind_at s cands place z) (λ y. above s y || (on_level s y && after s z y)) (λ y l a.
     elim (cases_eq (s.core y) s.level) [
       | inl lvl ↦
@@ -139,7 +140,7 @@ skipped s root cands queue w frontier earlier later place c h z o open' lt =
           let none : member y cands ≡ false = elim (cases_Bool (member y cands)) [
             | inl m ↦
                 let ne : z ≢ w = λ e. lt_irrefl (s.rank w) (subst (λ (k : ℕ). s.rank k < s.rank w) e lt) in
-                absurd (omega (arith, gap s root cands queue w frontier earlier later place h y z m o (c.symmetric y z ∙ a) open' ne))
+                absurd (omega (arith, later_neighbour-gap s root cands queue w frontier earlier later place h y z m o (c.symmetric y z ∙ a) open' ne))
             | inr n ↦ n
           ] in
           let same : ltb (place z) (place y) ≡ ltb (s.rank z) (s.rank y) =
@@ -169,7 +170,7 @@ holding-raised s root cands queue w frontier earlier later place c h cands' add 
           elim (cases_eq (s.core y) s.level) [
             | inl lvl ↦
                 let up : frontier ≤ s.rank y → s.rank w < s.rank y =
-                λ o. gap s root cands queue w frontier earlier later place h x y m (record { here = l; level = lvl }) a o ne in
+                λ o. later_neighbour-gap s root cands queue w frontier earlier later place h x y m (record { here = l; level = lvl }) a o ne in
                 let open' : frontier ≤ s.rank w = head_open s root cands queue w frontier earlier later place h in
                 holding-raised_at (above s y) (on_level s y) (after s x y) (member y cands') (member y cands) (s.rank w) frontier (s.rank y) same up open'
             | inr off ↦ grind (arith, off)
@@ -202,7 +203,13 @@ skipped_done s root cands queue w frontier earlier later place c h z o ne le non
           let q : member z (w ∷ queue) ≡ true =
           ap (λ k. member k (w ∷ queue)) e ∙ h.root_queued (subst (λ (k : ℕ). frontier ≤ s.rank k) e open') in
           absurd (omega (arith, lt, h.queue_ascends.0 z (member-other z w queue ne q))) in
-          omega (arith, skipped s root cands queue w frontier earlier later place c h z o open' lt, ahead-later s root c z o, c.few z o.here not_root, o.level)
+          omega (
+            arith,
+            vertex-skipped s root cands queue w frontier earlier later place c h z o open' lt,
+            ahead-later s root c z o,
+            c.few z o.here not_root,
+            o.level,
+          )
     ]
 
 -- one that is left behind stands before the first of the queue
@@ -244,11 +251,11 @@ not_after : (a : Bool) (n : ℕ) → one_if (a && ltb n n) ≡ 0
 not_after a n = grind arith
 
 -- the first of the queue becomes a candidate
-pub raise : (s : Search) (root : ℕ) (cands queue : List ℕ) (w frontier : ℕ) (earlier later place : ℕ → ℕ) → Widened s root
+pub first-raised : (s : Search) (root : ℕ) (cands queue : List ℕ) (w frontier : ℕ) (earlier later place : ℕ → ℕ) → Widened s root
     → Searching s root cands (w ∷ queue) frontier earlier later place → AllStrong s cands earlier later
     → (cands' queue' : List ℕ) (earlier' later' : ℕ → ℕ) → Raised s cands w queue earlier later cands' queue' earlier' later'
     → Searching s root cands' queue' (s.rank w + 1) earlier' later' place × AllStrong s cands' earlier' later'
-raise s root cands queue w frontier earlier later place c h strong cands' queue' earlier' later' r =
+first-raised s root cands queue w frontier earlier later place c h strong cands' queue' earlier' later' r =
     let ow : OnLevel s w = head_level s root cands queue w frontier earlier later place h in
     let w_open : frontier ≤ s.rank w = head_open s root cands queue w frontier earlier later place h in
     let w_new : member w cands ≡ false = head_new s root cands queue w frontier earlier later place h in
@@ -385,16 +392,16 @@ holding-settled s root cands queue w frontier earlier later place c h x m =
     elim (cases_eq (s.core y) s.level) [
       | inl lvl ↦
           let up : frontier ≤ s.rank y → s.rank w < s.rank y =
-          λ o. gap s root cands queue w frontier earlier later place h x y m (record { here = l; level = lvl }) a o ne in
+          λ o. later_neighbour-gap s root cands queue w frontier earlier later place h x y m (record { here = l; level = lvl }) a o ne in
           sym (holding-raised_at (above s y) (on_level s y) (after s x y) (member y cands) (member y cands) (s.rank w) frontier (s.rank y) refl up w_open)
       | inr off ↦ grind (arith, off)
     ])
 
 -- the first of the queue leaves it without becoming a candidate
-leave : (s : Search) (root : ℕ) (cands queue : List ℕ) (w frontier : ℕ) (earlier later place : ℕ → ℕ) → Widened s root
+first-leaves : (s : Search) (root : ℕ) (cands queue : List ℕ) (w frontier : ℕ) (earlier later place : ℕ → ℕ) → Widened s root
     → Searching s root cands (w ∷ queue) frontier earlier later place
     → (earlier' later' : ℕ → ℕ) → Settled s cands w earlier later earlier' later' → Searching s root cands queue (s.rank w + 1) earlier' later' place
-leave s root cands queue w frontier earlier later place c h earlier' later' r =
+first-leaves s root cands queue w frontier earlier later place c h earlier' later' r =
     let ow : OnLevel s w = head_level s root cands queue w frontier earlier later place h in
     let w_open : frontier ≤ s.rank w = head_open s root cands queue w frontier earlier later place h in
     let w_new : member w cands ≡ false = head_new s root cands queue w frontier earlier later place h in
@@ -431,13 +438,13 @@ leave s root cands queue w frontier earlier later place c h earlier' later' r =
     }
 
 -- the first of the queue is settled
-pub settle : (s : Search) (root : ℕ) (cands queue : List ℕ) (w frontier : ℕ) (earlier later place : ℕ → ℕ) → Widened s root
+pub first-settled : (s : Search) (root : ℕ) (cands queue : List ℕ) (w frontier : ℕ) (earlier later place : ℕ → ℕ) → Widened s root
     → Searching s root cands (w ∷ queue) frontier earlier later place → AllStrong s cands earlier later
     → (earlier' later' : ℕ → ℕ) (evict : List ℕ) → Settled s cands w earlier later earlier' later' → Relisted s cands [] earlier' later' w evict
     → Searching s root cands queue (s.rank w + 1) earlier' later' place × WeakListed s cands (s.rank w + 1) earlier' later' place evict w
-settle s root cands queue w frontier earlier later place c h strong earlier' later' evict r l =
+first-settled s root cands queue w frontier earlier later place c h strong earlier' later' evict r l =
     let w_new : member w cands ≡ false = head_new s root cands queue w frontier earlier later place h in (
-      leave s root cands queue w frontier earlier later place c h earlier' later' r,
+      first-leaves s root cands queue w frontier earlier later place c h earlier' later' r,
       record {
         distinct = l.distinct;
         listed = λ x m. (l.only x m refl).0;
@@ -458,13 +465,13 @@ settle s root cands queue w frontier earlier later place c h strong earlier' lat
     )
 
 -- the first of the queue leaves it, and no candidate is its neighbour
-pub pass : (s : Search) (root : ℕ) (cands queue : List ℕ) (w frontier : ℕ) (earlier later place : ℕ → ℕ) → Widened s root
+pub first-passes : (s : Search) (root : ℕ) (cands queue : List ℕ) (w frontier : ℕ) (earlier later place : ℕ → ℕ) → Widened s root
     → Searching s root cands (w ∷ queue) frontier earlier later place
     → ahead s w ≤ s.level → earlier w ≡ 0 → Searching s root cands queue (s.rank w + 1) earlier later place
-pass s root cands queue w frontier earlier later place c h few none =
+first-passes s root cands queue w frontier earlier later place c h few none =
     let ow : OnLevel s w = head_level s root cands queue w frontier earlier later place h in
     let w_open : frontier ≤ s.rank w = head_open s root cands queue w frontier earlier later place h in
-    leave s root cands queue w frontier earlier later place c h earlier later (record {
+    first-leaves s root cands queue w frontier earlier later place c h earlier later (record {
       weak = omega arith;
       fewer = λ x m.
           let lt : s.rank x < s.rank w = omega (arith, h.cand_passed x m) in
@@ -482,9 +489,9 @@ pass s root cands queue w frontier earlier later place c h few none =
     })
 
 -- once the eviction list is empty, all candidates are strong
-pub settled : (s : Search) (cands : List ℕ) (frontier : ℕ) (earlier later place : ℕ → ℕ) (last : ℕ)
+pub candidates-settled : (s : Search) (cands : List ℕ) (frontier : ℕ) (earlier later place : ℕ → ℕ) (last : ℕ)
     → WeakListed s cands frontier earlier later place [] last → AllStrong s cands earlier later
-settled s cands frontier earlier later place last e = record { strong = λ x m. e.strong x m refl }
+candidates-settled s cands frontier earlier later place last e = record { strong = λ x m. e.strong x m refl }
 
 -- a moved vertex is not before one that stands at or before its anchor
 odd-even : (a b : ℕ) → b ≤ a → ltb (a + a + 1) (b + b) ≡ false

@@ -21,7 +21,7 @@ use Rattle.kc_view.proofs.Still.{kept-is_sure}
 use Rattle.kc_insert.specs.Added.{search_with}
 use Rattle.kc_insert.specs.Searching.{Widened, BetweenTurns}
 use Rattle.kc_insert.proofs.Holding.{plain-holds, rise-holds}
-use Rattle.kc_insert.proofs.Widening.{widened}
+use Rattle.kc_insert.proofs.Widening.{state-widened}
 use Rattle.kc_cert.proofs.FittingMoves.{plain_fits, rise_fits}
 
 -- an added edge is applied where it is not there yet
@@ -55,7 +55,7 @@ pub plain-sure : (update : Update) (used : Used) (s : Ranked) (level root fronti
     → IsLocal s (record { update = update; used = used; moves = Plain }) × IsSparing s (record { update = update; used = used; moves = Plain })
 plain-sure update used s level root frontier earlier later adds h l new least is b =
     let applied : is_applied update s.graph ≡ true = applied-is update s.graph adds ∙ ap not new in
-    let w : Widened (search_with update level s) root = widened update s level root h l new least is in (
+    let w : Widened (search_with update level s) root = state-widened update s level root h l new least is in (
       record {
         ends = l;
         kept = sym (ap not applied);
@@ -82,7 +82,7 @@ pub rise-sure : (update : Update) (used : Used) (s : Ranked) (level root frontie
     × IsSparing s (record { update = update; used = used; moves = Rise level rise shifts })
 rise-sure update used s level root frontier earlier later rise shifts adds h l new least is b up reached =
     let applied : is_applied update s.graph ≡ true = applied-is update s.graph adds ∙ ap not new in
-    let w : Widened (search_with update level s) root = widened update s level root h l new least is in
+    let w : Widened (search_with update level s) root = state-widened update s level root h l new least is in
     let fit = b.shifts_fit in
     let done : (x : ℕ) → member x rise.items ≡ true → member x (firsts shifts.items) ≡ false =
     λ x m. false_from_ne_true _ (λ k. true≢false (sym m ∙ fit.first_done x k)) in

@@ -12,7 +12,7 @@ use Rattle.kc_view.proofs.Among.{among-agree}
 use Rattle.kc_view.proofs.Fronts.{firsts-push, seconds-push}
 use Rattle.kc_insert.specs.Searching.{ahead, coming, holding, behind, Widened, Searching, WeakListed, Adds, Drops, Raised, Settled, Evicted, Relisted}
 use Rattle.kc_insert.specs.Searching.{Shifts, BetweenTurns, InSettling}
-use Rattle.kc_insert.proofs.Steps.{start, raise, settle, pass, settled, evict_one, coming_at, holding_at, behind_at}
+use Rattle.kc_insert.proofs.Steps.{search-starts, first-raised, first-settled, first-passes, candidates-settled, evict_one, coming_at, holding_at, behind_at}
 
 -- the order after one shift more
 place_after-push : (r : ℕ → ℕ) (shifts : List (ℕ × ℕ)) (x w : ℕ) → place_after r (shifts ++ (x, w) ∷ []) ≡ moved (place_after r shifts) x w
@@ -83,10 +83,10 @@ Shifts-evict s cands cands' frontier x last shifts ox passed there drop ol pl dl
     }
 
 -- before the first turn: the root has too many later neighbours
-pub begin : (s : Search) (root : ℕ) → Widened s root → (earlier later : ℕ → ℕ) → ((x : ℕ) → earlier x ≡ 0)
+pub turns-begin : (s : Search) (root : ℕ) → Widened s root → (earlier later : ℕ → ℕ) → ((x : ℕ) → earlier x ≡ 0)
     → BetweenTurns s root [] (root ∷ []) (s.rank root) earlier later []
-begin s root c earlier later none = record {
-  searching = start s root c earlier later none;
+turns-begin s root c earlier later none = record {
+  searching = search-starts s root c earlier later none;
   strong = record { strong = λ x m. absurd (false≢true m) };
   shifts_fit = record {
     in_turn = tt;
@@ -106,7 +106,7 @@ pub turn_raise : (s : Search) (root : ℕ) (cands queue : List ℕ) (w frontier 
     → (cands' queue' : List ℕ) (earlier' later' : ℕ → ℕ) → Raised s cands w queue earlier later cands' queue' earlier' later'
     → BetweenTurns s root cands' queue' (s.rank w + 1) earlier' later' shifts
 turn_raise s root cands queue w frontier earlier later shifts c b cands' queue' earlier' later' r =
-    let next = raise s root cands queue w frontier earlier later (place_after s.rank shifts) c b.searching b.strong cands' queue' earlier' later' r in
+    let next = first-raised s root cands queue w frontier earlier later (place_after s.rank shifts) c b.searching b.strong cands' queue' earlier' later' r in
     let w_open : frontier ≤ s.rank w = b.searching.queue_open w (member-head w queue) in
     record {
       searching = next.0;
@@ -121,7 +121,7 @@ pub turn_pass : (s : Search) (root : ℕ) (cands queue : List ℕ) (w frontier :
 turn_pass s root cands queue w frontier earlier later shifts c b few none =
     let w_open : frontier ≤ s.rank w = b.searching.queue_open w (member-head w queue) in
     record {
-      searching = pass s root cands queue w frontier earlier later (place_after s.rank shifts) c b.searching few none;
+      searching = first-passes s root cands queue w frontier earlier later (place_after s.rank shifts) c b.searching few none;
       strong = b.strong;
       shifts_fit = Shifts-leave s cands frontier (s.rank w + 1) shifts (omega arith) b.shifts_fit;
     }
@@ -133,7 +133,7 @@ pub turn_settle : (s : Search) (root : ℕ) (cands queue : List ℕ) (w frontier
     → Relisted s cands [] earlier' later' w evict → InSettling s root cands queue (s.rank w + 1) earlier' later' shifts evict w
 turn_settle s root cands queue w frontier earlier later shifts c b earlier' later' evict r l =
     let w_open : frontier ≤ s.rank w = b.searching.queue_open w (member-head w queue) in
-    let next = settle s root cands queue w frontier earlier later (place_after s.rank shifts) c b.searching b.strong earlier' later' evict r l in
+    let next = first-settled s root cands queue w frontier earlier later (place_after s.rank shifts) c b.searching b.strong earlier' later' evict r l in
     record {
       searching = next.0;
       settling = next.1;
@@ -167,7 +167,7 @@ pub turn_settled : (s : Search) (root : ℕ) (cands queue : List ℕ) (frontier 
     → BetweenTurns s root cands queue frontier earlier later shifts
 turn_settled s root cands queue frontier earlier later shifts last b = record {
   searching = b.searching;
-  strong = settled s cands frontier earlier later (place_after s.rank shifts) last b.settling;
+  strong = candidates-settled s cands frontier earlier later (place_after s.rank shifts) last b.settling;
   shifts_fit = b.shifts_fit;
 }
 

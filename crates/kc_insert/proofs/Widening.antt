@@ -32,16 +32,16 @@ root_same : (a' a rr yo ro yr l : Bool) → a' ≡ (a || ((rr && yo) || (ro && y
 root_same a' a rr yo ro yr l e n r = grind arith
 
 -- neighbours stay where an edge is added
-still : (a' a x l : Bool) → a' ≡ (a || x) → (a && l) ≡ true → (a' && l) ≡ true
-still a' a x l e t = grind arith
+neighbours-still : (a' a x l : Bool) → a' ≡ (a || x) → (a && l) ≡ true → (a' && l) ≡ true
+neighbours-still a' a x l e t = grind arith
 
 -- the other end was no neighbour before
 new_one : (a l : Bool) → a ≡ false → (a && l) ≡ false
 new_one a l e = grind arith
 
 -- which end is named first makes no difference
-turned : (a b c d : Bool) → ((a && b) || (c && d)) ≡ ((c && d) || (a && b))
-turned a b c d = grind arith
+ends-turned : (a b c d : Bool) → ((a && b) || (c && d)) ≡ ((c && d) || (a && b))
+ends-turned a b c d = grind arith
 
 -- The edge joins `root` and `other`, and the root stands first.
 module _ (s : Ranked) (u v root other level : ℕ) (h : IsCertified s) (lr : root < s.graph.size) (lo : other < s.graph.size)
@@ -93,7 +93,7 @@ module _ (s : Ranked) (u v root other level : ℕ) (h : IsCertified s) (lr : roo
             ≤ count_by (λ y. now z y && leb (number z) (number y)) (below s.graph.size) =
             count-mono (λ y. adjacent s.graph z y && leb (number z) (number y)) (λ y. now z y && leb (number z) (number y))
             (below s.graph.size)
-            (λ y m t. still (now z y) (adjacent s.graph z y) (joins root other z y) (leb (number z) (number y)) (adds z y) t) in
+            (λ y m t. neighbours-still (now z y) (adjacent s.graph z y) (joins root other z y) (leb (number z) (number y)) (adds z y) t) in
             omega (arith, more, enough-below s.graph s.core s.order h z l);
       }
 
@@ -114,9 +114,9 @@ root-second : (a b p q u v : ℕ) → a ≡ b → q < p → cond (ltb a b) u (co
 root-second a b p q u v e l = grind arith
 
 -- a certified state, with the edge added, is one in which the search can begin
-pub widened : (update : Update) (s : Ranked) (level root : ℕ) → IsCertified s → update.v < s.graph.size → adjacent s.graph update.u update.v ≡ false
+pub state-widened : (update : Update) (s : Ranked) (level root : ℕ) → IsCertified s → update.v < s.graph.size → adjacent s.graph update.u update.v ≡ false
     → level ≡ min (get_or s.core update.u 0) (get_or s.core update.v 0) → root ≡ root_of s update → Widened (search_with update level s) root
-widened update s level root h l new least is =
+state-widened update s level root h l new least is =
     let u : ℕ = update.u in
     let v : ℕ = update.v in
     let up : u < v = update.ordered in
@@ -131,7 +131,7 @@ widened update s level root h l new least is =
     let from_v : root_of s update ≡ v → number v ≤ number u → rank v < rank u → Widened (search_with update level s) root = λ e le first.
     subst (λ (r : ℕ). Widened (search_with update level s) r) (sym (is
     ∙ e)) (widened-at s u v v u level h l lu (omega (arith, least, le)) first (adjacent-sym s.graph v u ∙ new)
-    (λ a b. adds a b ∙ ap (λ k. adjacent s.graph a b || k) (turned (eqb a u) (eqb b v) (eqb a v) (eqb b u)))) in
+    (λ a b. adds a b ∙ ap (λ k. adjacent s.graph a b || k) (ends-turned (eqb a u) (eqb b v) (eqb a v) (eqb b u)))) in
     elim (cases_order (number u) (number v)) [
       | inr (inl lt) ↦
           from_u (root-lesser (number u) (number v) (rank u) (rank v) u v lt) (omega (arith, lt))

@@ -7,15 +7,15 @@ use Rattle.kc_io.specs.FirstPiece.{KeepsFirst}
 use Rattle.kc_io.specs.Offers.{Offers, IsOffered, after_offer}
 
 -- the length of the first piece stays, once there was one
-stays : (n : ℕ) (after : Option ℕ) (piece : List ℕ) → 0 < n → KeepsFirst (Some n) after piece → after ≡ Some n
-stays zero after piece some h = absurd (omega arith)
-stays (suc n) after piece some h = h
+first_length-stays : (n : ℕ) (after : Option ℕ) (piece : List ℕ) → 0 < n → KeepsFirst (Some n) after piece → after ≡ Some n
+first_length-stays zero after piece some h = absurd (omega arith)
+first_length-stays (suc n) after piece some h = h
 
 -- a piece after the first one
 KeepsFirst-more : (a b c : Option ℕ) (text piece : List ℕ) → 0 < length text → KeepsFirst a b text → KeepsFirst b c piece → KeepsFirst a c text
 KeepsFirst-more None b c text piece some h k = tt
-KeepsFirst-more (Some zero) b c text piece some h k = stays (length text) c piece some (subst (λ (t : Option ℕ). KeepsFirst t c piece) h k)
-KeepsFirst-more (Some (suc n)) b c text piece some h k = stays (suc n) c piece (omega arith) (subst (λ (t : Option ℕ). KeepsFirst t c piece) h k)
+KeepsFirst-more (Some zero) b c text piece some h k = first_length-stays (length text) c piece some (subst (λ (t : Option ℕ). KeepsFirst t c piece) h k)
+KeepsFirst-more (Some (suc n)) b c text piece some h k = first_length-stays (suc n) c piece (omega arith) (subst (λ (t : Option ℕ). KeepsFirst t c piece) h k)
 
 -- what is offered after `done` bytes of a text is all that is left of it
 pub KeepsFirst-rest : (a b c : Option ℕ) (text : List ℕ) (done : ℕ) → 0 < length text → (done ≡ 0 → b ≡ a) → (0 < done → KeepsFirst a b text)

@@ -96,8 +96,8 @@ pub moved-within : (s : Ranked) (moves : Moves) → MovesFit s moves → (x : �
 moved-within s moves fit x m = (fit.of_level x m).vertex
 
 -- a plan that moves no more than it should puts no more than its entry calls for
-spares : (s : Ranked) (plan : Plan) (index : ℕ) → IsLocal s plan → IsSparing s plan → PutsSparingly s (entry_of index plan.update) (puts_of plan.moves)
-spares s plan index local sparing =
+plan-spares : (s : Ranked) (plan : Plan) (index : ℕ) → IsLocal s plan → IsSparing s plan → PutsSparingly s (entry_of index plan.update) (puts_of plan.moves)
+plan-spares s plan index local sparing =
     let once = puts-once s plan.moves local.moves_fit in
     record {
       vertices = λ x m. moved-within s plan.moves local.moves_fit x (sym (once.1 x) ∙ m);
@@ -381,7 +381,7 @@ stands-next old new index plan h fits may current room enters =
       sound = sound-next t old.opened o.log m.log x g.section closed h.sound (ranked j, state, certified);
       sparing = sparing-next t old.opened o.log m.log x g.section closed (puts_of moves) g.puts_are (λ r r-state r-certified.
           let now = right-in old plan h may current r r-state r-certified in
-          spares r plan index now.0 now.1) h.sparing;
+          plan-spares r plan index now.0 now.1) h.sparing;
     } in
     record {
       stands = subst Stands (sym is) stands;

@@ -18,12 +18,12 @@ use Rattle.kc_table.proofs.Putting.{puts_in-late}
 use Rattle.kc_journal.specs.Sections.{IsNoteOf, IsCertifiedAfter, PutsSparingly, Sound, Sparing, section_puts}
 
 -- of two beginnings of one list, one is the beginning of the other
-either : (p q : List Event) (e : Event) (more rest : List Event) → p ++ e ∷ more ≡ q ++ rest → IsPrefix (p ++ e ∷ []) q ⊎ IsPrefix q p
-either p [] e more rest is = inr (p, refl)
-either [] (x ∷ q) e more rest is = inl (q, ap (λ (z : Event). z ∷ q) (ap (λ (l : List Event). get_or l 0 e) is))
-either (y ∷ p) (x ∷ q) e more rest is =
+beginnings-either : (p q : List Event) (e : Event) (more rest : List Event) → p ++ e ∷ more ≡ q ++ rest → IsPrefix (p ++ e ∷ []) q ⊎ IsPrefix q p
+beginnings-either p [] e more rest is = inr (p, refl)
+beginnings-either [] (x ∷ q) e more rest is = inl (q, ap (λ (z : Event). z ∷ q) (ap (λ (l : List Event). get_or l 0 e) is))
+beginnings-either (y ∷ p) (x ∷ q) e more rest is =
     let first : y ≡ x = ap (λ (l : List Event). get_or l 0 y) is in
-    elim (either p q e more rest (ap (λ (l : List Event). drop 1 l) is)) [
+    elim (beginnings-either p q e more rest (ap (λ (l : List Event). drop 1 l) is)) [
       | inl pre ↦ inl (pre.0, ap₂ (λ (z : Event) (l : List Event). z ∷ l) first pre.1)
       | inr pre ↦ inr (pre.0, ap₂ (λ (z : Event) (l : List Event). z ∷ l) (sym first) pre.1)
     ]
@@ -46,18 +46,18 @@ pub number-next : (table : TableName) (log : List Event) (note : Event) (entry :
 number-next table log note entry is = omega (arith, ap length is, length-append (made_by table log).entries (entry ∷ []))
 
 -- a note of an entry in the longer log is one of the shorter log, or it is that of the new section
-split : (table : TableName) (old new prefix : List Event) (note : Event) (entry e : Entry) → NewSection table old new e
+entry_note-split : (table : TableName) (old new prefix : List Event) (note : Event) (entry e : Entry) → NewSection table old new e
     → IsPrefix (prefix ++ note ∷ []) new → IsNoteOf table prefix note entry
     → IsPrefix (prefix ++ note ∷ []) old ⊎ ((prefix ≡ old) × (entry ≡ e))
-split table old new prefix note entry e s pre is =
+entry_note-split table old new prefix note entry e s pre is =
     let next : List Event = old ++ s.note ∷ [] in
     let rest : List Event = s.begins.0 in
     let whole : prefix ++ note ∷ pre.0 ≡ next ++ rest = sym (append_assoc prefix (note ∷ []) pre.0) ∙ (pre.1 ∙ sym s.begins.1) in
-    elim (either prefix next note pre.0 rest whole) [
+    elim (beginnings-either prefix next note pre.0 rest whole) [
       | inl first ↦
           let m : List Event = first.0 in
           let at : prefix ++ note ∷ m ≡ next = sym (append_assoc prefix (note ∷ []) m) ∙ first.1 in
-          elim (either prefix old note m (s.note ∷ []) at) [
+          elim (beginnings-either prefix old note m (s.note ∷ []) at) [
             | inl within ↦ inl within
             | inr behind ↦
                 let r : List Event = behind.0 in
@@ -83,7 +83,7 @@ module _ (table : TableName) (opened : SimpleGraph) (old new : List Event) (e : 
     (s : NewSection table old new e) (closed : IsClosed (made_by table old)) where
   pub sound-next : Sound table opened old → IsCertifiedAfter table opened new → Sound table opened new
   sound-next h now = record {
-    before = λ prefix note entry pre is. elim (split table old new prefix note entry e s pre is) [
+    before = λ prefix note entry pre is. elim (entry_note-split table old new prefix note entry e s pre is) [
       | inl within ↦ h.before prefix note entry within is
       | inr (same, _) ↦ subst (IsCertifiedAfter table opened) (sym same) (h.now closed)
     ];
@@ -93,7 +93,7 @@ module _ (table : TableName) (opened : SimpleGraph) (old new : List Event) (e : 
   -- the new section puts these
   pub sparing-next : (vs : List ℕ) → ((k : ℕ) → section_puts table new k ≡ section_puts table old k ++ cond (eqb (number_of table old + 1) k) vs [])
       → ((r : Ranked) → IsStateOf table opened old r → IsCertified r → PutsSparingly r e vs) → Sparing table opened old → Sparing table opened new
-  sparing-next vs puts here h = λ prefix note entry r pre is _ state certified. elim (split table old new prefix note entry e s pre is) [
+  sparing-next vs puts here h = λ prefix note entry r pre is _ state certified. elim (entry_note-split table old new prefix note entry e s pre is) [
     | inl within ↦
         let k : ℕ = number_of table prefix + 1 in
         let low = number-grows table.shape table.opening (prefix ++ note ∷ []) old within in

@@ -190,11 +190,11 @@ put-after n v w order core within lv lw long ne =
     (ap (λ (z : ℕ). eqb z j) (get_or-set_same core v c 0 long ∙ sym (get_or-set_other core v w c 0 ne))))))
 
 -- a level's part of an order that is cut in two, with a vertex between
-parted : (core : List ℕ) (test : ℕ → Bool) (v c : ℕ) (rest : List ℕ) (j : ℕ) → member v rest ≡ false → v < length core
+level-parted : (core : List ℕ) (test : ℕ → Bool) (v c : ℕ) (rest : List ℕ) (j : ℕ) → member v rest ≡ false → v < length core
     → level_part (set core v c) (filter test rest ++ v ∷ filter (λ y. not (test y)) rest) j
     ≡ filter test (level_part core rest j) ++ cond (eqb c j) (v ∷ filter (λ y. not (test y)) (level_part core rest j))
     (filter (λ y. not (test y)) (level_part core rest j))
-parted core test v c rest j out long =
+level-parted core test v c rest j out long =
     let p : ℕ → Bool = λ y. eqb (get_or (set core v c) y 0) j in
     let high : ℕ → Bool = λ y. not (test y) in
     let same : filter p rest ≡ level_part core rest j = part-out core rest v c j out in
@@ -244,7 +244,8 @@ put-front n v level order core within lv long high =
     let at : (j : ℕ) → with_part part level (v ∷ part level) j ≡ level_part (set core v level) (put_between low (v ∷ []) order) j = λ j.
     let is : level_part (set core v level) (put_between low (v ∷ []) order) j
     ≡ filter low (part j) ++ cond (eqb level j) (v ∷ filter (λ y. not (low y)) (part j)) (filter (λ y. not (low y)) (part j)) =
-    ap (λ (zs : List ℕ). level_part (set core v level) zs j) (between-one low v order) ∙ parted core low v level rest j (not_member-without v order) long in
+    ap (λ (zs : List ℕ). level_part (set core v level) zs j) (between-one low v order)
+    ∙ level-parted core low v level rest j (not_member-without v order) long in
     elim (cases_eq j level) [
       | inl e ↦
           let h = high-part core rest low j (λ y q. le-ltb (get_or core y 0) level (omega (arith, q, e))) in
@@ -281,7 +282,8 @@ put-back n e v level order core within distinct lv long high =
     let at : (j : ℕ) → with_part part level (part level ++ v ∷ []) j ≡ level_part (set core v level) (put_between low (v ∷ []) order) j = λ j.
     let is : level_part (set core v level) (put_between low (v ∷ []) order) j
     ≡ filter low (part j) ++ cond (eqb level j) (v ∷ filter (λ y. not (low y)) (part j)) (filter (λ y. not (low y)) (part j)) =
-    ap (λ (zs : List ℕ). level_part (set core v level) zs j) (between-one low v order) ∙ parted core low v level rest j (not_member-without v order) long in
+    ap (λ (zs : List ℕ). level_part (set core v level) zs j) (between-one low v order)
+    ∙ level-parted core low v level rest j (not_member-without v order) long in
     elim (cases_eq j level) [
       | inl q ↦
           let h = low-part core rest low j (λ y k. le-leb (get_or core y 0) level (omega (arith, k, q))) in

@@ -6,7 +6,7 @@ use Rattle.kc_distinct.specs.Lists.{member, place_of}
 use Rattle.kc_distinct.proofs.Counting.{filter-member, member-other}
 use Rattle.kc_distinct.proofs.Members.{place_of-first, place_of-next}
 use Rattle.kc_table.specs.Log.{Seen}
-use Rattle.kc_table.proofs.Listed.{Listed, stands}
+use Rattle.kc_table.proofs.Listed.{Listed, list-stands}
 use Rattle.kc_order.specs.Standing.{StandsBefore, list_after}
 use Rattle.kc_levels.specs.Heads.{vertices_of}
 use Rattle.kc_levels.specs.Levels.{Levelled, levelled, Tallied, size_of}
@@ -68,7 +68,7 @@ stands-alike n x y list lx ly ne mx my =
 pub vertex-listed : (s : Seen) (core stamps : List ℕ) (open_ : Bool) (number size v : ℕ) (old : Levelled) → levelled s core open_ ≡ old
     → Tallied (levelled s core open_) stamps number size → v < size_of old → member v (list_after s.table s.log) ≡ true
 vertex-listed s core stamps open_ number size v old is h l =
-    let listed : Listed s.table.shape (list_after s.table s.log) = (stands s.table.shape s.table.opening s.log h.are.legal).listed in
+    let listed : Listed s.table.shape (list_after s.table s.log) = (list-stands s.table.shape s.table.opening s.log h.are.legal).listed in
     listed.vertices v (omega (arith, l, ap size_of is))
 
 -- how two vertices stand in the list is how they stand in the order, in the words of the contract

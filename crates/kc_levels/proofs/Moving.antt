@@ -18,7 +18,7 @@ use Rattle.kc_table.specs.declared.view.Event.{Event}
 use Rattle.kc_table.specs.Log.{Seen, TableName}
 use Rattle.kc_table.specs.State.{State, state_of}
 use Rattle.kc_table.specs.Legal.{Legal, last_entry, stamp_in}
-use Rattle.kc_table.proofs.Listed.{Listed, stands}
+use Rattle.kc_table.proofs.Listed.{Listed, list-stands}
 use Rattle.kc_order.specs.Standing.{list_after}
 use Rattle.kc_order.specs.Writers.{Puts}
 use Rattle.kc_levels.specs.Heads.{level_part, parts_from, with_heads, vertices_of, put, under, up_to}
@@ -50,7 +50,7 @@ pub enumerates-listed : (s : Seen) → Legal s.table.shape s.table.opening s.log
 enumerates-listed s lawful =
     let n : ℕ = s.table.shape.fixed in
     let list : List ℕ = list_after s.table s.log in
-    let h : Listed s.table.shape list = (stands s.table.shape s.table.opening s.log lawful).listed in
+    let h : Listed s.table.shape list = (list-stands s.table.shape s.table.opening s.log lawful).listed in
     let vertex : ℕ → Bool = λ x. ltb x n in
     record {
       below = λ i d l. ltb-true (get_or (vertices_of n list) i d) n
@@ -290,7 +290,7 @@ back-place old s core stamps open_ number size v level p is h may high =
     let head : size + level + 1 ≡ n + suc level = omega (arith, h.size_is) in
     let head-there : member (size + level + 1) list ≡ true = ap₂ (λ (k : ℕ) (l : List ℕ). member k l) head h.are.list
     ∙ head-in n (suc level) order core (omega (arith, in-level)) in
-    let listed : Listed s.table.shape list = (stands s.table.shape s.table.opening s.log h.are.legal).listed in
+    let listed : Listed s.table.shape list = (list-stands s.table.shape s.table.opening s.log h.are.legal).listed in
     let apart : size + level + 1 ≢ v = λ k. omega (arith, k, head, vertex) in
     let place : ℕ = prev_of e (size + level + 1) (without v list) in
     let is-last : place ≡ last_or (n + level) (level_part core (without v order) level) =
@@ -343,7 +343,7 @@ back-leaves old s now core stamps open_ number size v level p is h may high p-is
     let place = back-place old s core stamps open_ number size v level p is h may high in
     let head : size + level + 1 ≡ n + (level + 1) = omega (arith, h.size_is) in
     let at : p ≡ prev_of s.table.shape.items (n + (level + 1)) (without v list) = p-is ∙ ap (λ (k : ℕ). prev_of s.table.shape.items k (without v list)) head in
-    let p-below : p < s.table.shape.items = (stands s.table.shape s.table.opening s.log h.are.legal).listed.within p (place.place_in p-is) in
+    let p-below : p < s.table.shape.items = (list-stands s.table.shape s.table.opening s.log h.are.legal).listed.within p (place.place_in p-is) in
     let m = back-moved s now core open_ v level p h.are (subst (λ (z : Levelled). MayMove z v) (sym is) may)
     (subst (λ (z : Levelled). level < size_of z) (sym is) high) p-below at puts in
     let named : p ≡ prev_of (2 * n + 1) (n + (level + 1)) (without v list) = at ∙ ap (λ (k : ℕ). prev_of k (n + (level + 1)) (without v list)) h.are.items in (

@@ -486,9 +486,9 @@ all_sealed : (a b c : Bool) → a ≡ false → b ≡ c → ((a || b) && not c) 
 all_sealed a b c h e = grind (arith, h, e)
 
 -- all puts and then all seals
-pub makes : (old mid new : Levelled) (puts vs order core : List ℕ) → PutsAll old mid puts order core → SealsAll mid new vs → unsealed_in old ≡ []
+pub puts-then_seals : (old mid new : Levelled) (puts vs order core : List ℕ) → PutsAll old mid puts order core → SealsAll mid new vs → unsealed_in old ≡ []
     → ((v : ℕ) → member v puts ≡ member v vs) → MakesAll old new puts vs order core
-makes old mid new puts vs order core a b fresh same =
+puts-then_seals old mid new puts vs order core a b fresh same =
     let number : number_of mid ≡ number_of old = ap₂ (λ (x y : ℕ). x + y) (ap (λ (t : TableName). t.shape.base) a.table) (ap length a.entries) in
     record {
       between = seen mid;
@@ -565,14 +565,14 @@ rise-whole old a b d new shifts rise level h k s t fresh =
     (renumbered rise (level + 1) old.core) =
     puts-as old b _ _ _ _ _ _ refl (ap₂ (λ (c o : List ℕ). put_between (up_to c level) rise o) h.core_is h.order_is)
     (ap (λ (c : List ℕ). renumbered rise (level + 1) c) h.core_is) all in
-    makes old b new _ (rise ++ firsts shifts) _ _ named (seals-then b d new rise (firsts shifts) s t) fresh
+    puts-then_seals old b new _ (rise ++ firsts shifts) _ _ named (seals-then b d new rise (firsts shifts) s t) fresh
     (λ v. has-both v (firsts shifts) (backwards rise)
     ∙ (ap (λ q. member v (firsts shifts) || q) (member-backwards v rise)
     ∙ (or-turned (member v (firsts shifts)) (member v rise) ∙ sym (has-both v rise (firsts shifts)))))
 
 -- nothing is made
 pub makes-none : (old : Levelled) → AreLevels old → unsealed_in old ≡ [] → MakesAll old old [] [] old.order old.core
-makes-none old are fresh = makes old old old [] [] old.order old.core (puts-none old are) (seals-none old are) fresh (λ v. refl)
+makes-none old are fresh = puts-then_seals old old old [] [] old.order old.core (puts-none old are) (seals-none old are) fresh (λ v. refl)
 
 -- backwards each comes once too
 pub Distinct-backwards : (xs : List ℕ) → Distinct xs → Distinct (backwards xs)

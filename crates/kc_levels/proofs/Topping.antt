@@ -9,7 +9,7 @@ use Rattle.kc_distinct.specs.Lists.{member, last_or, prev_of}
 use Rattle.kc_distinct.proofs.Members.{member-head, member-last_or}
 use Rattle.kc_distinct.proofs.Counting.{member-filter, filter-member}
 use Rattle.kc_table.specs.Log.{Seen}
-use Rattle.kc_table.proofs.Listed.{Listed, stands}
+use Rattle.kc_table.proofs.Listed.{Listed, list-stands}
 use Rattle.kc_order.specs.Standing.{list_after}
 use Rattle.kc_levels.specs.Heads.{level_part, vertices_of, with_heads}
 use Rattle.kc_levels.specs.Levels.{levelled, AreLevels, IsHeaded, IsTop}
@@ -17,8 +17,8 @@ use Rattle.kc_levels.proofs.Heading.{parts-prev, levels-have}
 use Rattle.kc_levels.proofs.Moving.{head-in}
 
 -- what the levels say of the list
-pub headed : (s : Seen) (core : List ℕ) (open_ : Bool) → AreLevels (levelled s core open_) → IsHeaded s core
-headed s core open_ are = record {
+pub list-headed : (s : Seen) (core : List ℕ) (open_ : Bool) → AreLevels (levelled s core open_) → IsHeaded s core
+list-headed s core open_ are = record {
   legal = are.legal;
   items = omega (arith, are.items, are.long);
   few = omega (arith, are.few, are.long);
@@ -60,7 +60,7 @@ stand-at s core level r o b h high answer is t f =
     let list : List ℕ = list_after s.table s.log in
     let order : List ℕ = vertices_of n list in
     let within : (y : ℕ) → member y order ≡ true → y < n = λ y m. ltb-true y n (member-filter (λ x. ltb x n) y list m).1 in
-    let listed : Listed s.table.shape list = (stands s.table.shape s.table.opening s.log h.legal).listed in
+    let listed : Listed s.table.shape list = (list-stands s.table.shape s.table.opening s.log h.legal).listed in
     let last : prev_of e (n + level + 1) list ≡ last_or (n + level) (level_part core order level) =
     ap₂ (λ (k : ℕ) (l : List ℕ). prev_of e k l) (omega arith) h.list ∙ prev-last n e level order core within high in
     let of : (v : ℕ) → member v (level_part core order level) ≡ true → (v < n) × (get_or core v 0 ≡ level) = λ v m. let k =
@@ -104,7 +104,7 @@ top-low core top v l low h = elim h.reached [ inl e ↦ omega (arith, e, l) | in
 
 -- the levels after a move, as the code reads them
 pub headed-as : (now : Seen) (core xs : List ℕ) (open_ : Bool) → xs ≡ core → AreLevels (levelled now core open_) → IsHeaded now xs
-headed-as now core xs open_ same are = subst (IsHeaded now) (sym same) (headed now core open_ are)
+headed-as now core xs open_ same are = subst (IsHeaded now) (sym same) (list-headed now core open_ are)
 
 -- the next head is in the list
 pub next_head-in : (s : Seen) (core : List ℕ) (level : ℕ) → IsHeaded s core → level < length core

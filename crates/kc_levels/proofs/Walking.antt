@@ -7,7 +7,7 @@ use Rattle.kc_distinct.specs.Lists.{member, Distinct, head_or, next_of}
 use Rattle.kc_distinct.proofs.Members.{member-head, member-tail}
 use Rattle.kc_table.specs.Log.{Seen}
 use Rattle.kc_table.specs.Legal.{Legal}
-use Rattle.kc_table.proofs.Listed.{Listed, stands}
+use Rattle.kc_table.proofs.Listed.{Listed, list-stands}
 use Rattle.kc_order.specs.Standing.{list_after}
 use Rattle.kc_levels.specs.Heads.{behind, vertices_of, with_heads, parts_from, level_part}
 use Rattle.kc_levels.specs.Levels.{Levelled, levelled, Tallied, size_of}
@@ -76,7 +76,7 @@ pub step-found : (s : Seen) (n x at y : ℕ) → Legal s.table.shape s.table.ope
 step-found s n x at y lawful same is m l =
     let e : ℕ = s.table.shape.items in
     let list : List ℕ = list_after s.table s.log in
-    let listed : Listed s.table.shape list = (stands s.table.shape s.table.opening s.log lawful).listed in
+    let listed : Listed s.table.shape list = (list-stands s.table.shape s.table.opening s.log lawful).listed in
     let step : Step at y list = step-of e at y list (behind at list) listed.distinct refl (sym (next-behind e at list) ∙ sym is) (listed.within y m) in
     sym (ap (head_or n) (sym same ∙ (ap (vertices_of n) step.here ∙ filter-yes (λ z. ltb z n) y step.rest (lt-ltb y n l))))
 
@@ -89,7 +89,7 @@ pub step-passed : (s : Seen) (n x at y : ℕ) → Legal s.table.shape s.table.op
 step-passed s n x at y lawful same is m l =
     let e : ℕ = s.table.shape.items in
     let list : List ℕ = list_after s.table s.log in
-    let listed : Listed s.table.shape list = (stands s.table.shape s.table.opening s.log lawful).listed in
+    let listed : Listed s.table.shape list = (list-stands s.table.shape s.table.opening s.log lawful).listed in
     let step : Step at y list = step-of e at y list (behind at list) listed.distinct refl (sym (next-behind e at list) ∙ sym is) (listed.within y m) in (
       ap (vertices_of n) step.there ∙ (sym (filter-no (λ z. ltb z n) y step.rest (le-ltb y n l)) ∙ (ap (vertices_of n) (sym step.here) ∙ same)),
       omega (arith, ap length step.there, ap length step.here),
@@ -102,7 +102,7 @@ pub step-none : (s : Seen) (n x at : ℕ) → Legal s.table.shape s.table.openin
 step-none s n x at lawful same is =
     let e : ℕ = s.table.shape.items in
     let list : List ℕ = list_after s.table s.log in
-    let listed : Listed s.table.shape list = (stands s.table.shape s.table.opening s.log lawful).listed in
+    let listed : Listed s.table.shape list = (list-stands s.table.shape s.table.opening s.log lawful).listed in
     let none : behind at list ≡ [] = none-of e at list (behind at list) listed.within refl (sym (next-behind e at list) ∙ is) in
     sym same ∙ ap (vertices_of n) none
 

@@ -6,8 +6,8 @@ use Rattle.std.proofs.lemmas.List.{get_or-set_same, get_or-set_other, append_ass
 use Rattle.kc_distinct.specs.Lists.{member, Distinct, without, right_after, head_or, last_or, next_of, prev_of}
 use Rattle.kc_links.specs.Ring.{walk, Link, Path, IsRing}
 use Rattle.kc_distinct.proofs.Members.{member-head, member-tail, member-cases, member-append, member-append_left, member-append_right}
-use Rattle.kc_distinct.proofs.Members.{not_member-parts, not_member-append, cut, Distinct-cut, Distinct-insert, without-cut, right_after-cut}
-use Rattle.kc_distinct.proofs.Members.{next_of-cut, prev_of-cut, ended, last_or-push, member-last_or, below_bound}
+use Rattle.kc_distinct.proofs.Members.{not_member-parts, not_member-append, member-cut, Distinct-cut, Distinct-insert, without-cut, right_after-cut}
+use Rattle.kc_distinct.proofs.Members.{next_of-cut, prev_of-cut, list-ended, last_or-push, member-last_or, below_bound}
 use Rattle.kc_distinct.proofs.Shared.{some_length, Distinct-front}
 
 -- a path by a relation is one by another that is weaker on the numbers of the path
@@ -46,8 +46,8 @@ length-walk zero at next = refl
 length-walk (suc n) at next = ap suc (length-walk n (get_or next at 0) next)
 
 -- a member and what is no member differ
-apart : (x y : ℕ) (xs : List ℕ) → member x xs ≡ true → member y xs ≡ false → x ≢ y
-apart x y xs m n e = true≢false (sym m ∙ (ap (λ z. member z xs) e ∙ n))
+member-apart : (x y : ℕ) (xs : List ℕ) → member x xs ≡ true → member y xs ≡ false → x ≢ y
+member-apart x y xs m n e = true≢false (sym m ∙ (ap (λ z. member z xs) e ∙ n))
 
 -- an update of one place leaves the links between others
 pub Link-kept : (next prev : List ℕ) (a v b w y z : ℕ) → y ≢ a → z ≢ b → Link next prev y z → Link (set next a v) (set prev b w) y z
@@ -155,25 +155,26 @@ ring_insert next prev s x p q l r h e below out =
     ) in
     let y-left : (y : ℕ) → member y (s ∷ l) ≡ true → (y ≢ p) × (y ≢ x) = λ y m. elim (member-cases y s l m) [
       | inl at-s ↦ (omega arith, omega arith)
-      | inr in-l ↦ (apart y p l in-l p-l, apart y x l in-l x-l)
+      | inr in-l ↦ (member-apart y p l in-l p-l, member-apart y x l in-l x-l)
     ] in
     let z-left : (z : ℕ) → member z (l ++ p ∷ []) ≡ true → (z ≢ x) × (z < s) × ((member z l ≡ true) ⊎ (z ≡ p)) = λ z m. elim (member-append z l (p ∷ []) m) [
-      | inl in-l ↦ (apart z x l in-l x-l, left-below z in-l, inl in-l)
+      | inl in-l ↦ (member-apart z x l in-l x-l, left-below z in-l, inl in-l)
       | inr in-p ↦ elim (member-cases z p [] in-p) [ inl is-p ↦ (λ w. x-p (sym w ∙ is-p), omega arith, inr is-p) | inr none ↦ absurd (false≢true none) ]
     ] in
     let left-with : ((z : ℕ) → member z (l ++ p ∷ []) ≡ true → z ≢ q) → Path (Link (set (set next p x) x q) (set (set prev x p) q x)) s (l ++ p ∷ []) =
     λ z-q. Path-mono (Link next prev) (Link (set (set next p x) x q) (set (set prev x p) q x)) s l p
     (λ y z y-in z-in k. Link-twice next prev p x q y z (y-left y y-in).0 (y-left y y-in).1 (z-left z z-in).0 (z-q z z-in) k) left in
-    let right-facts : (y : ℕ) → member y r ≡ true → (y ≢ p) × (y ≢ x) × (y < s) = λ y m. (apart y p r m p-r, apart y x r m x-r, right-below y m) in
+    let right-facts : (y : ℕ) → member y r ≡ true → (y ≢ p) × (y ≢ x) × (y < s) =
+    λ y m. (member-apart y p r m p-r, member-apart y x r m x-r, right-below y m) in
     let q-in : (q ≡ s) ⊎ (member q r ≡ true) = elim (after_in next prev s p r right) [ inl z ↦ inl (e ∙ z) | inr m ↦ inr (ap (λ w. member w r) e ∙ m) ] in
-    let q-x : q ≢ x = elim q-in [ inl z ↦ omega arith | inr m ↦ apart q x r m x-r ] in
+    let q-x : q ≢ x = elim q-in [ inl z ↦ omega arith | inr m ↦ member-apart q x r m x-r ] in
     let q-s : q ≤ s = elim q-in [ inl z ↦ omega arith | inr m ↦ omega (arith, right-below q m) ] in
     let z-q : (z : ℕ) → member z (l ++ p ∷ []) ≡ true → z ≢ q = λ z m. elim q-in [
       | inl is-s ↦ (let low : z < s = (z-left z m).1 in omega arith)
       | inr in-r ↦ elim (z-left z m).2 [
         | inl in-l ↦ (λ w. apart_parts l p r h.distinct z q in-l in-r w)
         | inr is-p ↦
-            (λ w. apart q p r in-r p-r (sym w ∙ is-p))
+            (λ w. member-apart q p r in-r p-r (sym w ∙ is-p))
       ]
     ] in
     record {
@@ -217,7 +218,7 @@ ring_path : (next prev : List ℕ) (s x p q : ℕ) (l r : List ℕ) → p ≡ la
     → Path (Link (set next p q) (set prev q p)) s ((l ++ r) ++ s ∷ [])
 ring_path next prev s x p q [] r e f d h k = subst (λ z. Path (Link (set next p q) (set prev q p)) z (r ++ s ∷ [])) e k
 ring_path next prev s x p q (y ∷ ys) r e f d h k =
-    let w = ended y ys in
+    let w = list-ended y ys in
     let last : p ≡ w.last = e ∙ (ap (last_or s) w.is ∙ last_or-push s w.front w.last) in
     let split : y ∷ ys ≡ w.front ++ p ∷ [] = w.is ∙ ap (λ z. w.front ++ z ∷ []) (sym last) in
     let h' : Path (Link next prev) s (w.front ++ p ∷ (x ∷ [])) =
@@ -228,7 +229,8 @@ ring_path next prev s x p q (y ∷ ys) r e f d h k =
     let p-s : p < s = (f' p (member-append_right p w.front (p ∷ []) (member-head p []))).0 in
     let new : Path (Link (set next p q) (set prev q p)) s (w.front ++ p ∷ []) =
     Path-mono (Link next prev) (Link (set next p q) (set prev q p)) s w.front p (λ u v u-in v-in z.
-    let u-p : u ≢ p = elim (member-cases u s w.front u-in) [ inl is-s ↦ omega arith | inr in-f ↦ apart u p w.front in-f (Distinct-cut p w.front [] d').0 ] in
+    let u-p : u ≢ p =
+    elim (member-cases u s w.front u-in) [ inl is-s ↦ omega arith | inr in-f ↦ member-apart u p w.front in-f (Distinct-cut p w.front [] d').0 ] in
     Link-kept next prev p q q p u v u-p (f' v v-in).1 z) left in
     subst (λ zs. Path (Link (set next p q) (set prev q p)) s (zs ++ s ∷ [])) (sym (append_assoc w.front (p ∷ []) r) ∙ ap (λ zs. zs ++ r) (sym split))
     (path_from (set next p q) (set prev q p) s w.front p r new k)
@@ -270,8 +272,8 @@ ring_remove next prev s x p q l r h p-is q-is =
     )
 
 -- a walk of as many steps as the list is long gives the list of the ring
-pub walked : (next prev : List ℕ) (s n : ℕ) (xs : List ℕ) → IsRing next prev s xs → n ≡ length xs → walk n (get_or next s 0) next ≡ xs
-walked next prev s n xs h e = ap (λ k. walk k (get_or next s 0) next) e ∙ walk-path next prev s xs s h.path
+pub ring-walked : (next prev : List ℕ) (s n : ℕ) (xs : List ℕ) → IsRing next prev s xs → n ≡ length xs → walk n (get_or next s 0) next ≡ xs
+ring-walked next prev s n xs h e = ap (λ k. walk k (get_or next s 0) next) e ∙ walk-path next prev s xs s h.path
 
 -- what next holds at the size is the first of the list, or the size where there is none
 pub first_read : (next prev : List ℕ) (s : ℕ) (xs : List ℕ) → IsRing next prev s xs → get_or next s 0 ≡ head_or s xs
@@ -281,7 +283,7 @@ first_read next prev s (x ∷ xs) h = h.path.0.0
 -- what next holds at a member is what stands right after it
 pub next_read : (next prev : List ℕ) (s x : ℕ) (xs : List ℕ) → IsRing next prev s xs → member x xs ≡ true → get_or next x 0 ≡ next_of s x xs
 next_read next prev s x xs h m =
-    let c = cut x xs m in
+    let c = member-cut x xs m in
     let h' : IsRing next prev s (c.front ++ x ∷ c.back) = subst (IsRing next prev s) c.is h in
     after_is next prev s x c.back (path_at next prev s c.front x c.back h'.path).1
     ∙ (sym (next_of-cut s x c.front c.back (Distinct-cut x c.front c.back h'.distinct).0) ∙ ap (next_of s x) (sym c.is))
@@ -289,7 +291,7 @@ next_read next prev s x xs h m =
 -- what prev holds at a member is what stands right before it
 pub prev_read : (next prev : List ℕ) (s x : ℕ) (xs : List ℕ) → IsRing next prev s xs → member x xs ≡ true → get_or prev x 0 ≡ prev_of s x xs
 prev_read next prev s x xs h m =
-    let c = cut x xs m in
+    let c = member-cut x xs m in
     let h' : IsRing next prev s (c.front ++ x ∷ c.back) = subst (IsRing next prev s) c.is h in
     before_is next prev s c.front x (path_at next prev s c.front x c.back h'.path).0
     ∙ (sym (prev_of-cut s x c.front c.back (Distinct-cut x c.front c.back h'.distinct).0) ∙ ap (prev_of s x) (sym c.is))
@@ -302,15 +304,15 @@ pub record Removed (next prev : List ℕ) (s x p q n : ℕ) (xs : List ℕ) : Ty
   pub q_fits : q ≤ s
 
 -- the writes of a removal make a ring of the list without x
-pub removed : (next prev : List ℕ) (s x p q n : ℕ) (xs : List ℕ) → IsRing next prev s xs → n ≡ length xs → member x xs ≡ true → p ≡ get_or prev x 0
+pub ring-removed : (next prev : List ℕ) (s x p q n : ℕ) (xs : List ℕ) → IsRing next prev s xs → n ≡ length xs → member x xs ≡ true → p ≡ get_or prev x 0
     → q ≡ get_or next x 0 → Removed next prev s x p q n xs
-removed next prev s x p q n xs h e m p-is q-is =
-    let c = cut x xs m in
+ring-removed next prev s x p q n xs h e m p-is q-is =
+    let c = member-cut x xs m in
     let h' : IsRing next prev s (c.front ++ x ∷ c.back) = subst (IsRing next prev s) c.is h in
     let apart' = Distinct-cut x c.front c.back h'.distinct in
     let new = ring_remove next prev s x p q c.front c.back h' p-is q-is in
     let size : n - 1 ≡ length (c.front ++ c.back) = omega (arith, ap length c.is, length-append c.front (x ∷ c.back), length-append c.front c.back) in
-    let list = walked (set next p q) (set prev q p) s (n - 1) (c.front ++ c.back) new.0 size in
+    let list = ring-walked (set next p q) (set prev q p) s (n - 1) (c.front ++ c.back) new.0 size in
     record {
       ring = subst (IsRing (set next p q) (set prev q p) s) (sym list) new.0;
       list = list ∙ (sym (without-cut x c.front c.back apart'.0 apart'.1) ∙ ap (without x) (sym c.is));
@@ -325,17 +327,18 @@ pub record Inserted (next prev : List ℕ) (s x p q n : ℕ) (xs : List ℕ) : T
   pub q_fits : q ≤ s
 
 -- the writes of an insert make a ring of the list with x right after p
-pub inserted : (next prev : List ℕ) (s x p q n : ℕ) (xs : List ℕ) → IsRing next prev s xs → n ≡ length xs → member p xs ≡ true → member x xs ≡ false → x < s
+pub ring-inserted : (next prev : List ℕ) (s x p q n : ℕ) (xs : List ℕ) → IsRing next prev s xs → n ≡ length xs → member p xs ≡ true
+    → member x xs ≡ false → x < s
     → q ≡ get_or next p 0 → Inserted next prev s x p q n xs
-inserted next prev s x p q n xs h e m out below q-is =
-    let c = cut p xs m in
+ring-inserted next prev s x p q n xs h e m out below q-is =
+    let c = member-cut p xs m in
     let h' : IsRing next prev s (c.front ++ p ∷ c.back) = subst (IsRing next prev s) c.is h in
     let apart' = Distinct-cut p c.front c.back h'.distinct in
     let new = ring_insert next prev s x p q c.front c.back h' q-is below (ap (member x) (sym c.is) ∙ out) in
     let right = (path_at next prev s c.front p c.back h'.path).1 in
     let size : n + 1 ≡ length (c.front ++ p ∷ x ∷ c.back) =
     omega (arith, ap length c.is, length-append c.front (p ∷ c.back), length-append c.front (p ∷ x ∷ c.back)) in
-    let list = walked (set (set next p x) x q) (set (set prev x p) q x) s (n + 1) (c.front ++ p ∷ x ∷ c.back) new size in
+    let list = ring-walked (set (set next p x) x q) (set (set prev x p) q x) s (n + 1) (c.front ++ p ∷ x ∷ c.back) new size in
     record {
       ring = subst (IsRing (set (set next p x) x q) (set (set prev x p) q x) s) (sym list) new;
       list = list ∙ (sym (right_after-cut x p c.front c.back apart'.0) ∙ ap (right_after x p) (sym c.is));
@@ -358,8 +361,10 @@ pub insert_facts : (next prev : List ℕ) (s x p q n : ℕ) (xs : List ℕ) → 
 insert_facts next prev s x p q n xs h e m out below q-is =
     let h' : IsRing next prev s xs = subst (IsRing next prev s) e h in
     let size : n ≡ length xs = sym (length-walk n (get_or next s 0) next) ∙ ap length e in
-    let p-in : p < length next = omega (arith, h'.within p m, h'.next_length) in
-    (inserted next prev s x p q n xs h' size m out below (get_or_read next p q p-in q-is 0), omega (arith, below_bound s xs h'.distinct h'.within, h'.small))
+    let p-in : p < length next = omega (arith, h'.within p m, h'.next_length) in (
+      ring-inserted next prev s x p q n xs h' size m out below (get_or_read next p q p-in q-is 0),
+      omega (arith, below_bound s xs h'.distinct h'.within, h'.small),
+    )
 
 -- what a removal leaves, from the ring as the program walks it; the list was not empty
 pub remove_facts : (next prev : List ℕ) (s x p q n : ℕ) (xs : List ℕ) → IsRing next prev s (walk n (get_or next s 0) next)
@@ -369,7 +374,7 @@ remove_facts next prev s x p q n xs h e m p-is q-is =
     let size : n ≡ length xs = sym (length-walk n (get_or next s 0) next) ∙ ap length e in
     let in-next : x < length next = omega (arith, h'.within x m, h'.next_length) in
     let in-prev : x < length prev = omega (arith, h'.within x m, h'.prev_length) in (
-      removed next prev s x p q n xs h' size m (get_or_read prev x p in-prev p-is 0) (get_or_read next x q in-next q-is 0),
+      ring-removed next prev s x p q n xs h' size m (get_or_read prev x p in-prev p-is 0) (get_or_read next x q in-next q-is 0),
       omega (arith, size, some_length x xs m),
     )
 
@@ -404,7 +409,7 @@ ring_push next prev s x p [] h e below out =
       omega arith,
     )
 ring_push next prev s x p (y ∷ ys) h e below out =
-    let w = ended y ys in
+    let w = list-ended y ys in
     let at-end : Path (Link next prev) s ((y ∷ ys) ++ s ∷ []) = h.path in
     let is : p ≡ w.last = e ∙ (before_is next prev s (y ∷ ys) s at-end ∙ (ap (last_or s) w.is ∙ last_or-push s w.front w.last)) in
     let split : y ∷ ys ≡ w.front ++ p ∷ [] = w.is ∙ ap (λ z. w.front ++ z ∷ []) (sym is) in
@@ -432,7 +437,7 @@ push_facts next prev s x p n xs h e out below p-is =
     let size : n ≡ length xs = sym (length-walk n (get_or next s 0) next) ∙ ap length e in
     let s-in : s < length prev = omega (arith, h'.prev_length) in
     let new = ring_push next prev s x p xs h' (get_or_read prev s p s-in p-is 0) below out in
-    let list = walked (set (set next p x) x s) (set (set prev x p) s x) s (n + 1) (xs ++ x ∷ []) new.0 (omega (arith, size, length-append xs (x ∷ []))) in
+    let list = ring-walked (set (set next p x) x s) (set (set prev x p) s x) s (n + 1) (xs ++ x ∷ []) new.0 (omega (arith, size, length-append xs (x ∷ []))) in
     record {
       ring = subst (IsRing (set (set next p x) x s) (set (set prev x p) s x) s) (sym list) new.0;
       list = list;

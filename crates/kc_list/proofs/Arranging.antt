@@ -9,7 +9,7 @@ use Rattle.kc_words.specs.Order.{labels}
 use Rattle.kc_list.specs.Places.{Sound, Free, HasGap, NotOf, runs, size_of}
 use Rattle.kc_list.specs.Tally.{Tallied, KeepsGroup}
 use Rattle.kc_list.specs.Sheets.{version}
-use Rattle.kc_list.proofs.Counts.{covers, runs_short, size-agree}
+use Rattle.kc_list.proofs.Counts.{numbers-covered, runs_short, size-agree}
 use Rattle.kc_list.proofs.Toplabels.{item_runs}
 use Rattle.kc_list.specs.declared.limits.TheConstants.{HALF_ITEMS}
 
@@ -53,7 +53,7 @@ pub spare_group : (n : ℕ) (ws list sizes : List ℕ) → Sound n ws list → T
 spare_group n ws list sizes s t = elim (search_free sizes (n + 1)) [
   | inl r ↦ (r.0, r.1, omega (arith, r.2, t.length_is), r.3)
   | inr f ↦
-      let all : n + 1 ≤ length (runs (labels n ws).group list) = covers (n + 1) (runs (labels n ws).group list) (λ h low high.
+      let all : n + 1 ≤ length (runs (labels n ws).group list) = numbers-covered (n + 1) (runs (labels n ws).group list) (λ h low high.
       let u = used_group (labels n ws).group h list (λ z. f h low high (t.counts h low high ∙ z)) in
       ap (λ g. member g (runs (labels n ws).group list)) (sym u.2) ∙ item_runs (labels n ws).group u.0 list u.1) in
       absurd (omega (arith, all, runs_short (labels n ws).group list, below_bound n list s.distinct (λ x m. (s.inside x m).below)))

@@ -49,12 +49,12 @@ size-agree_at f h g (x ∷ xs) e =
     omega (arith, ap {B = ℕ} (λ b. cond b 1 0) (e x (member-head x xs)), size-agree_at f h g xs (λ y k. e y (member-tail y x xs k)))
 
 -- a full group is cut in two: what the two have, and what others keep
-pub halved : (n : ℕ) (ws vs list : List ℕ) (g h p : ℕ) (m : List ℕ) → Sound n ws list → Sound n vs list → Segment (labels n ws) list g m
+pub group-halved : (n : ℕ) (ws vs list : List ℕ) (g h p : ℕ) (m : List ℕ) → Sound n ws list → Sound n vs list → Segment (labels n ws) list g m
     → length m ≡ GROUP_ITEMS → Free n (labels n ws) list h → Segment (labels n vs) list g (take HALF_ITEMS m)
     → Segment (labels n vs) list h (drop HALF_ITEMS m) → map (labels n vs).bottom (drop HALF_ITEMS m) ≡ evens HALF_ITEMS HALF_STEP 0
     → ChangesOnly ((n + h) ∷ map (λ y. 1 + y) (drop HALF_ITEMS m)) ws vs → member p list ≡ true
     → ((member p (take HALF_ITEMS m) ≡ true) ⊎ (member p (drop HALF_ITEMS m) ≡ true)) → Halved n ws vs list g h p
-halved n ws vs list g h p m s t seg len free low up bottoms only p-in p-half =
+group-halved n ws vs list g h p m s t seg len free low up bottoms only p-in p-half =
     let a = labels n ws in
     let b = labels n vs in
     let up-length : length (drop HALF_ITEMS m) ≡ HALF_ITEMS = omega (arith, length-drop HALF_ITEMS m, len) in

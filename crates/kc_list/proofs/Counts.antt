@@ -8,7 +8,7 @@ use Rattle.kc_distinct.proofs.Members.{member-head, member-tail, member-cases, m
 use Rattle.kc_distinct.proofs.Members.{Distinct-cut, next_of-cut, next_of-in}
 use Rattle.kc_words.specs.Order.{Labels, labels, InOrder}
 use Rattle.kc_list.specs.Places.{Before, Placed, Sound, Segment, runs, size_of, top_end}
-use Rattle.kc_list.proofs.Order.{parts, Before-then}
+use Rattle.kc_list.proofs.Order.{order-parts, Before-then}
 use Rattle.kc_list.proofs.Gathering.{all_before, size-append, size-all}
 use Rattle.kc_words.specs.declared.layout.TheConstants.{TOP_ROOM}
 use Rattle.kc_list.specs.declared.limits.TheConstants.{GROUP_ITEMS, HALF_ITEMS}
@@ -73,20 +73,25 @@ no_longer x [] = omega arith
 no_longer x (y ∷ ys) = elim (cases_Bool (eqb x y)) [ inl t ↦ rw t (omega (arith, no_longer x ys)) | inr t ↦ rw t (omega (arith, no_longer x ys)) ]
 
 -- a list without a member is shorter than the list
-shorter : (x : ℕ) (xs : List ℕ) → member x xs ≡ true → suc (length (without x xs)) ≤ length xs
-shorter x [] m = absurd (false≢true m)
-shorter x (y ∷ ys) m =
+without-shorter : (x : ℕ) (xs : List ℕ) → member x xs ≡ true → suc (length (without x xs)) ≤ length xs
+without-shorter x [] m = absurd (false≢true m)
+without-shorter x (y ∷ ys) m =
     elim (cases_Bool (eqb x y)) [
       | inl t ↦ rw t (omega (arith, no_longer x ys))
-      | inr t ↦ rw t (omega (arith, shorter x ys (elim (member-cases x y ys m) [ inl e ↦ absurd (eqb-false x y t e) | inr k ↦ k ])))
+      | inr t ↦ rw t (omega (arith, without-shorter x ys (elim (member-cases x y ys m) [ inl e ↦ absurd (eqb-false x y t e) | inr k ↦ k ])))
     ]
 
 -- a list that has each of 1 to k has length k at least
-pub covers : (k : ℕ) (xs : List ℕ) → ((h : ℕ) → 0 < h → h ≤ k → member h xs ≡ true) → k ≤ length xs
-covers zero xs f = omega arith
-covers (suc k) xs f =
+pub numbers-covered : (k : ℕ) (xs : List ℕ) → ((h : ℕ) → 0 < h → h ≤ k → member h xs ≡ true) → k ≤ length xs
+numbers-covered zero xs f = omega arith
+numbers-covered (suc k) xs f =
     let m = f (suc k) (omega arith) (omega arith) in
-    omega (arith, shorter (suc k) xs m, covers k (without (suc k) xs) (λ h p q. without-member h (suc k) xs (f h p (omega arith)) (omega arith)))
+    omega (
+      arith,
+      without-shorter (suc k) xs m,
+      numbers-covered k (without (suc k) xs)
+          (λ h p q. without-member h (suc k) xs (f h p (omega arith)) (omega arith)),
+    )
 
 -- a list has no more groups than items
 pub runs_short : (f : ℕ → ℕ) (xs : List ℕ) → length (runs f xs) ≤ length xs
@@ -96,8 +101,8 @@ runs_short f (x ∷ y ∷ ys) = let rest : length (runs f (y ∷ ys)) ≤ suc (l
     elim (cases_Bool (eqb (f x) (f y))) [ inl t ↦ rw t (omega (arith, rest)) | inr t ↦ rw t (omega (arith, rest)) ]
 
 -- two fronts, a last and a back are one list, however they are joined
-regroup : (f m : List ℕ) (l : ℕ) (b : List ℕ) → f ++ ((m ++ l ∷ []) ++ b) ≡ (f ++ m) ++ l ∷ b
-regroup f m l b = simp append_assoc
+last-regrouped : (f m : List ℕ) (l : ℕ) (b : List ℕ) → f ++ ((m ++ l ∷ []) ++ b) ≡ (f ++ m) ++ l ∷ b
+last-regrouped f m l b = simp append_assoc
 
 -- a label below that of the first of some items in order is below those of all of them
 above_back : (n : ℕ) (a : Labels) (t z : ℕ) (back : List ℕ) → InOrder (Before a) back → ((y : ℕ) → member y back ≡ true → y < n)
@@ -116,7 +121,7 @@ pub top_gap : (n : ℕ) (ws list : List ℕ) (g last t : ℕ) (m : List ℕ) →
     → t < (labels n ws).top ((labels n ws).group z)
 top_gap n ws list g last t m s seg lt z z-in above =
     let a = labels n ws in
-    let whole : list ≡ (seg.front ++ m) ++ last ∷ seg.back = seg.is ∙ regroup seg.front m last seg.back in
+    let whole : list ≡ (seg.front ++ m) ++ last ∷ seg.back = seg.is ∙ last-regrouped seg.front m last seg.back in
     let order : InOrder (Before a) ((seg.front ++ m) ++ last ∷ seg.back) = subst (InOrder (Before a)) whole s.order in
     let apart = Distinct-cut last (seg.front ++ m) seg.back (subst Distinct whole s.distinct) in
     let next : next_of n last list ≡ head_or n seg.back = ap (next_of n last) whole ∙ next_of-cut n last (seg.front ++ m) seg.back apart.0 in
@@ -128,7 +133,7 @@ top_gap n ws list g last t m s seg lt z z-in above =
       ]
       | inr k ↦ elim (member-cases z last seg.back k) [
         | inl e ↦ absurd (let u = ap a.top (ap a.group e ∙ last-g) in omega (arith, u, above))
-        | inr q ↦ above_back n a t z seg.back (InOrder-tail (Before a) last seg.back ((parts (Before a) (seg.front ++ m) (last ∷ seg.back) order).right))
+        | inr q ↦ above_back n a t z seg.back (InOrder-tail (Before a) last seg.back ((order-parts (Before a) (seg.front ++ m) (last ∷ seg.back) order).right))
             (λ y y-in. (s.inside y (ap (member y) whole
             ∙ member-append_right y (seg.front ++ m) (last ∷ seg.back) (member-tail y last seg.back y-in))).below) (subst (λ w. t < top_end n a w) next lt) q
       ]
@@ -159,7 +164,7 @@ pub top_room : (n : ℕ) (ws list : List ℕ) (g last : ℕ) (m : List ℕ) → 
     → (labels n ws).top g + 2 ≤ top_end n (labels n ws) (next_of n last list)
 top_room n ws list g last m s seg k z =
     let a = labels n ws in
-    let whole : list ≡ (seg.front ++ m) ++ last ∷ seg.back = seg.is ∙ regroup seg.front m last seg.back in
+    let whole : list ≡ (seg.front ++ m) ++ last ∷ seg.back = seg.is ∙ last-regrouped seg.front m last seg.back in
     let order : InOrder (Before a) ((seg.front ++ m) ++ last ∷ seg.back) = subst (InOrder (Before a)) whole s.order in
     let apart = Distinct-cut last (seg.front ++ m) seg.back (subst Distinct whole s.distinct) in
     let next : next_of n last list ≡ head_or n seg.back = ap (next_of n last) whole ∙ next_of-cut n last (seg.front ++ m) seg.back apart.0 in
@@ -167,7 +172,7 @@ top_room n ws list g last m s seg k z =
     ∙ member-append_right y (seg.front ++ m) (last ∷ seg.back) (member-tail y last seg.back y-in) in
     subst (λ q. a.top g + 2 ≤ top_end n a q) (sym next)
     (top_room_first n a g last seg.back (seg.members last (member-append_right last m (last ∷ []) (member-head last [])))
-    ((parts (Before a) (seg.front ++ m) (last ∷ seg.back) order).right) (λ y y-in. seg.others y (inr y-in)) (λ y y-in. (s.inside y (in' y y-in)).below)
+    ((order-parts (Before a) (seg.front ++ m) (last ∷ seg.back) order).right) (λ y y-in. seg.others y (inr y-in)) (λ y y-in. (s.inside y (in' y y-in)).below)
     (λ y y-in. k y (in' y y-in)) z)
 
 -- the array of a full group
@@ -177,8 +182,8 @@ pub record Full (into : List ℕ) (count : ℕ) : Type 0 where
   pub halves : into ≡ take HALF_ITEMS into ++ drop HALF_ITEMS into
 
 -- an array with as many members as a full group is whole, and has a last and two halves
-pub full : (into : List ℕ) (count : ℕ) → length into ≡ GROUP_ITEMS → count ≤ length into → length (take count into) ≡ GROUP_ITEMS → Full into count
-full into count e l k = record {
+pub array-full : (into : List ℕ) (count : ℕ) → length into ≡ GROUP_ITEMS → count ≤ length into → length (take count into) ≡ GROUP_ITEMS → Full into count
+array-full into count e l k = record {
   whole = take_all count into (omega (arith, length-take-le count into l));
   last = sym (take_all GROUP_ITEMS into (omega arith)) ∙ take_more into (GROUP_ITEMS - 1) 0 (omega arith);
   halves = sym (take-append-drop HALF_ITEMS into);
@@ -189,7 +194,7 @@ pub full_segment : (a : Labels) (list : List ℕ) (g count : ℕ) (into : List �
     → length into ≡ GROUP_ITEMS → count ≤ length into → size_of a.group g list ≡ GROUP_ITEMS → Segment a list g into
 full_segment a list g count into seg len within size =
     let k = segment_size a list g (take count into) seg in
-    subst (Segment a list g) (full into count len within (omega (arith, k, size))).whole seg
+    subst (Segment a list g) (array-full into count len within (omega (arith, k, size))).whole seg
 
 -- the parts of a full group
 pub record Halves (n : ℕ) (a : Labels) (list : List ℕ) (g : ℕ) (m : List ℕ) : Type 0 where
@@ -201,8 +206,8 @@ pub record Halves (n : ℕ) (a : Labels) (list : List ℕ) (g : ℕ) (m : List �
   pub up_length : length (take (length m - HALF_ITEMS) (drop HALF_ITEMS m)) ≡ HALF_ITEMS
 
 -- a full group has a last member, a lower half and an upper half
-pub halves : (n : ℕ) (a : Labels) (list : List ℕ) (g : ℕ) (m : List ℕ) → Segment a list g m → length m ≡ GROUP_ITEMS → Halves n a list g m
-halves n a list g m seg e =
+pub group-halves : (n : ℕ) (a : Labels) (list : List ℕ) (g : ℕ) (m : List ℕ) → Segment a list g m → length m ≡ GROUP_ITEMS → Halves n a list g m
+group-halves n a list g m seg e =
     let last : m ≡ take (GROUP_ITEMS - 1) m ++ get_or m (GROUP_ITEMS - 1) 0 ∷ [] = sym (take_all GROUP_ITEMS m (omega arith))
     ∙ take_more m (GROUP_ITEMS - 1) 0 (omega arith) in
     let two : m ≡ take HALF_ITEMS m ++ take (length m - HALF_ITEMS) (drop HALF_ITEMS m) = sym (take-append-drop HALF_ITEMS m)

@@ -10,10 +10,10 @@ use Rattle.kc_list.specs.Views.{AreSizes, AreMembers, IsFull, IsFree, HasRoomAbo
 use Rattle.kc_list.specs.Rewriting.{Rewrites, Relabels, Halves, SpreadsTops, KeepsItems, Divides}
 use Rattle.kc_list.specs.declared.labelled.LabelledList.{LabelledList}
 use Rattle.kc_list.specs.declared.limits.TheConstants.{GROUP_ITEMS, HALF_ITEMS}
-use Rattle.kc_list.proofs.Counts.{full_segment, halves, size-agree}
+use Rattle.kc_list.proofs.Counts.{full_segment, group-halves, size-agree}
 use Rattle.kc_list.proofs.Counts as counts
 use Rattle.kc_list.proofs.Rooms.{in_segment}
-use Rattle.kc_list.proofs.Changes.{halved}
+use Rattle.kc_list.proofs.Changes.{group-halved}
 use Rattle.kc_list.proofs.Splits.{Steps-then}
 use Rattle.kc_list.proofs.Toplabels.{item_runs}
 use Rattle.kc_list.proofs.Toprooms.{Last, last_facts, wide_gap, no_item_word, no_free_word}
@@ -22,7 +22,7 @@ use Rattle.kc_list.proofs.Arranging.{items_agree, tally_agree, free_group, tally
 -- the two halves of a full group's members
 pub halves_of : (a : LabelledList) (g : ℕ) (m : List ℕ) → AreMembers a.links a.sheet g m → length m ≡ GROUP_ITEMS
     → counts.Halves a.links.size (labels a.links.size a.sheet.words) a.links.list g m
-halves_of a g m seg len = halves a.links.size (labels a.links.size a.sheet.words) a.links.list g m seg len
+halves_of a g m seg len = group-halves a.links.size (labels a.links.size a.sheet.words) a.links.list g m seg len
 
 -- the members of a full group fill the array
 pub whole_group : (a : LabelledList) (p count : ℕ) (into : List ℕ) → AreMembers a.links a.sheet (group_at a.links a.sheet p) (take count into)
@@ -37,7 +37,7 @@ pub halved_at : (a d : LabelledList) (p g h : ℕ) (into : List ℕ) → g ≡ g
     → Halved a.links.size a.sheet.words d.sheet.words a.links.list (group_at a.links a.sheet p) h p
 halved_at a d p g h into is seg len full free two same =
     let there = in_segment (labels a.links.size a.sheet.words) a.links.list (group_at a.links a.sheet p) into p seg full.p_in refl in
-    halved a.links.size a.sheet.words d.sheet.words a.links.list (group_at a.links a.sheet p) h p into a.sound
+    group-halved a.links.size a.sheet.words d.sheet.words a.links.list (group_at a.links a.sheet p) h p into a.sound
     (subst (λ (l : Chain). Sound l.size d.sheet.words l.list) same d.sound) seg len free
     (subst (λ (z : ℕ). AreMembers a.links d.sheet z (take HALF_ITEMS into)) is two.lower) two.upper two.bottoms two.only full.p_in
     (member-append p (take HALF_ITEMS into) (drop HALF_ITEMS into) (ap (member p) (take-append-drop HALF_ITEMS into) ∙ there))
@@ -87,9 +87,9 @@ pub record Still (b : LabelledList) (p : ℕ) : Type 0 where
   pub high : group_at b.links b.sheet p ≤ b.links.size + 1
 
 -- where no items' words change and no group gets or loses an item, a full group is still full
-pub still : (a b : LabelledList) (p most : ℕ) → Relabels most a b → KeepsItems a b → IsFull a.links a.sheet p → AreSizes a.links a.sheet a.groups
+pub group-still_full : (a b : LabelledList) (p most : ℕ) → Relabels most a b → KeepsItems a b → IsFull a.links a.sheet p → AreSizes a.links a.sheet a.groups
     → Still b p
-still a b p most then kept full t =
+group-still_full a b p most then kept full t =
     let same : (y : ℕ) → member y a.links.list ≡ true → group_at a.links b.sheet y ≡ group_at a.links a.sheet y =
     λ y m. items_agree a.links.size a.sheet.words b.sheet.words a.links.list y a.sound kept.items m in
     let size : size_of (labels a.links.size b.sheet.words).group (group_at a.links b.sheet p) a.links.list ≡ GROUP_ITEMS =
@@ -117,10 +117,10 @@ free_there b h t low within none =
     free_group b.links.size b.sheet.words b.links.list b.groups h t low (omega (arith, within, t.length_is)) none
 
 -- the group of p is divided, with sizes to match
-pub divided : (a b d : LabelledList) (p g h most : ℕ) → g ≡ group_at b.links b.sheet p → Rewrites most a b → KeepsItems a b → Still b p → 0 < h
+pub group-divided : (a b d : LabelledList) (p g h most : ℕ) → g ≡ group_at b.links b.sheet p → Rewrites most a b → KeepsItems a b → Still b p → 0 < h
     → IsFree b.links b.sheet h → Halved b.links.size b.sheet.words d.sheet.words b.links.list (group_at b.links b.sheet p) h p → d.links ≡ b.links
     → d.groups ≡ set (set b.groups g HALF_ITEMS) h HALF_ITEMS → Divides p a d
-divided a b d p g h most is first kept s low free two same sizes =
+group-divided a b d p g h most is first kept s low free two same sizes =
     let d-sound : Sound b.links.size d.sheet.words b.links.list = subst (λ (l : Chain). Sound l.size d.sheet.words l.list) same d.sound in
     let items = subst (λ (l : Chain). (w : ℕ) → w ≤ l.size → get_or b.sheet.words w 0 ≡ get_or a.sheet.words w 0) (sym first.links) kept.items in
     record {

@@ -3,12 +3,12 @@ use Rattle.std.proofs.Common.{◌≡◌, ℕ, suc, ◌+◌, ◌<◌, ◌≤◌, 
 use Rattle.std.proofs.lemmas.Bool.{eq-eqb, cases_eq, false≢true}
 use Rattle.std.proofs.lemmas.List.{append_assoc, length-append, take_more_set}
 use Rattle.kc_distinct.specs.Lists.{member, Distinct, last_or, prev_of, head_or, next_of, place_of}
-use Rattle.kc_distinct.proofs.Members.{member-head, member-tail, member-cases, member-append_left, member-append_right, cut}
+use Rattle.kc_distinct.proofs.Members.{member-head, member-tail, member-cases, member-append_left, member-append_right, member-cut}
 use Rattle.kc_distinct.proofs.Members.{Distinct-cut, prev_of-cut, next_of-cut, prev-place, some_or_none, last_or-push}
 use Rattle.kc_distinct.proofs.Counting.{member-push_cases}
 use Rattle.kc_words.specs.Order.{Labels, labels, InOrder}
 use Rattle.kc_list.specs.Places.{Before, Sound, Segment, First, size_of}
-use Rattle.kc_list.proofs.Order.{parts, Before-then}
+use Rattle.kc_list.proofs.Order.{order-parts, Before-then}
 use Rattle.kc_words.proofs.Ordering.{Follows-all, InOrder-tail}
 
 -- by a relation that goes on, what stands before y in a list in order is related to y
@@ -25,7 +25,7 @@ pub first_found : (n : ℕ) (ws list : List ℕ) (g x q : ℕ) → Sound n ws li
     → ((q ≡ n → ⊥) → (labels n ws).group q ≡ g → ⊥) → First (labels n ws) list g x
 first_found n ws list g x q s m x-g q-is stop =
     let a = labels n ws in
-    let c = cut x list m in
+    let c = member-cut x list m in
     let apart = Distinct-cut x c.front c.back (subst Distinct c.is s.distinct) in
     let is : q ≡ last_or n c.front = q-is ∙ (ap (prev_of n x) c.is ∙ prev_of-cut n x c.front c.back apart.0) in
     record {
@@ -43,7 +43,7 @@ first_found n ws list g x q s m x-g q-is stop =
             ∙ member-append_right w.last w.front (w.last ∷ x ∷ c.back) (member-head w.last (x ∷ c.back)) in
             let q-n : q ≡ n → ⊥ = λ z. let b : w.last < n = (s.inside w.last last-in).below in absurd (let u : w.last ≡ n = sym last ∙ z in omega arith) in
             let other : a.group w.last ≡ g → ⊥ = λ z. stop q-n (ap a.group last ∙ z) in
-            let step : Before a w.last x = ((parts (Before a) w.front (w.last ∷ x ∷ c.back) order).right).0 in
+            let step : Before a w.last x = ((order-parts (Before a) w.front (w.last ∷ x ∷ c.back) order).right).0 in
             let below : a.top (a.group w.last) < a.top g = elim step [ inl t ↦ absurd (other (t.0 ∙ x-g)) | inr t ↦ omega (arith, t, ap a.top x-g) ] in
             elim (member-push_cases y w.last w.front (ap (member y) (sym w.is) ∙ k)) [
               | inl in-front ↦ elim (all_before (Before a) (Before-then a) y w.last w.front (x ∷ c.back) order in-front) [
@@ -161,7 +161,7 @@ rest_none n ws list g x some m s c stop some-in y y-in y-g =
       | inr ne ↦
           let r = cons_rest n x c.rest c.head ne in
           let other : a.group x ≡ g → ⊥ = stop ne in
-          let cut-some = cut some m some-in in
+          let cut-some = member-cut some m some-in in
           let is : list ≡ c.front ++ (m ++ x ∷ r.0) = c.is ∙ ap (λ zs. c.front ++ (m ++ zs)) r.1 in
           let is' : list ≡ (c.front ++ m) ++ x ∷ r.0 = is ∙ sym (append_assoc c.front m (x ∷ r.0)) in
           let order : InOrder (Before a) ((c.front ++ m) ++ x ∷ r.0) = subst (InOrder (Before a)) is' s.order in
@@ -172,7 +172,7 @@ rest_none n ws list g x some m s c stop some-in y y-in y-g =
           ] in
           elim (member-cases y x r.0 (ap (member y) (sym r.1) ∙ y-in)) [
             | inl e ↦ other (ap a.group (sym e) ∙ y-g)
-            | inr k ↦ elim (Follows-all (Before a) (Before-then a) x y r.0 ((parts (Before a) (c.front ++ m) (x ∷ r.0) order).right) k) [
+            | inr k ↦ elim (Follows-all (Before a) (Before-then a) x y r.0 ((order-parts (Before a) (c.front ++ m) (x ∷ r.0) order).right) k) [
               | inl t ↦ other (t.0 ∙ y-g)
               | inr t ↦ absurd (let u = ap a.top y-g in omega (arith, t, up, u))
             ]
@@ -180,9 +180,9 @@ rest_none n ws list g x some m s c stop some-in y y-in y-g =
     ]
 
 -- where what comes next is not of the group, what was collected are all its members
-pub collected : (n : ℕ) (ws list : List ℕ) (g x : ℕ) (m : List ℕ) → Sound n ws list → Collected n (labels n ws) list g x m
+pub members-collected : (n : ℕ) (ws list : List ℕ) (g x : ℕ) (m : List ℕ) → Sound n ws list → Collected n (labels n ws) list g x m
     → ((x ≡ n → ⊥) → (labels n ws).group x ≡ g → ⊥) → (y : ℕ) → member y m ≡ true → Segment (labels n ws) list g m
-collected n ws list g x m s c stop some some-in =
+members-collected n ws list g x m s c stop some some-in =
     let a = labels n ws in
     record {
       front = c.front;
@@ -196,24 +196,24 @@ collected n ws list g x m s c stop some some-in =
     }
 
 -- once one more is collected, the first is among those collected
-pub begun : (x count first : ℕ) (into : List ℕ) → count < length into → ((count ≡ 0) × (x ≡ first)) ⊎ (member first (take count into) ≡ true)
+pub collecting-begun : (x count first : ℕ) (into : List ℕ) → count < length into → ((count ≡ 0) × (x ≡ first)) ⊎ (member first (take count into) ≡ true)
     → member first (take (count + 1) (set into count x)) ≡ true
-begun x count first into l h =
+collecting-begun x count first into l h =
     ap (member first) (take_more_set into count x l) ∙ elim h [
       | inl e ↦ member-append_right first (take count into) (x ∷ []) (ap (λ z. member first (z ∷ [])) e.1 ∙ member-head first [])
       | inr m ↦ member-append_left first (take count into) (x ∷ []) m
     ]
 
 -- what was gathered from the first item of a group on, until no more of it comes, are all its members
-pub gathered : (n : ℕ) (ws list : List ℕ) (g x first count : ℕ) (into : List ℕ) → Sound n ws list → First (labels n ws) list g first
+pub members-gathered : (n : ℕ) (ws list : List ℕ) (g x first count : ℕ) (into : List ℕ) → Sound n ws list → First (labels n ws) list g first
     → Collected n (labels n ws) list g x (take count into) → ((x ≡ n → ⊥) → (labels n ws).group x ≡ g → ⊥)
     → ((count ≡ 0) × (x ≡ first)) ⊎ (member first (take count into) ≡ true) → Segment (labels n ws) list g (take count into)
-gathered n ws list g x first count into s f c stop h =
+members-gathered n ws list g x first count into s f c stop h =
     elim h [
       | inl e ↦
           let first-in : member first list ≡ true = ap (member first) f.is ∙ member-append_right first f.front (first ∷ f.back) (member-head first f.back) in
           let below : first < n = (s.inside first first-in).below in
           let ne : x ≡ n → ⊥ = λ w. absurd (let u : x ≡ first = e.1 in omega arith) in
           absurd (stop ne (ap (labels n ws).group e.1 ∙ f.group))
-      | inr m ↦ collected n ws list g x (take count into) s c stop first m
+      | inr m ↦ members-collected n ws list g x (take count into) s c stop first m
     ]

@@ -98,8 +98,8 @@ pub record Reads (n len : ℕ) (order ws : List ℕ) : Type 0 where
   pub top : (j : ℕ) → j < opening_groups len → (labels n ws).top (1 + j) ≡ (j + 1) * (TOP_ROOM / (opening_groups len + 1))
 
 -- what the words of an opening say of the items and groups is what was packed
-reads : (n v : ℕ) (order ws : List ℕ) → IsOpening n v order ws → Reads n (length order) order ws
-reads n v order ws o = record {
+opening-reads : (n v : ℕ) (order ws : List ℕ) → IsOpening n v order ws → Reads n (length order) order ws
+opening-reads n v order ws o = record {
   group = λ i l. ap (λ z. z.group) (o.placed i l);
   bottom = λ i l. ap (λ z. z.bottom) (o.placed i l);
   top = λ j l. ap (λ z. z.top) (o.tops j l);
@@ -128,7 +128,7 @@ pub opened_sound : (n v : ℕ) (order ws : List ℕ) → n ≤ ITEMS → Distinc
     → Sound n ws order
 opened_sound n v order ws small d within o =
     let a = labels n ws in
-    let r = reads n v order ws o in
+    let r = opening-reads n v order ws o in
     let len = length order in
     let few : length order ≤ n = below_bound n order d within in
     let k = opening_groups (length order) in
@@ -216,7 +216,7 @@ size-opened f g s (x ∷ xs) low h =
 pub opened_tallied : (n v : ℕ) (order ws sizes : List ℕ) → Distinct order → ((x : ℕ) → member x order ≡ true → x < n) → IsOpening n v order ws
     → length sizes ≡ n + 2 → get_or sizes 0 0 ≡ 0 → ((g : ℕ) → 0 < g → g ≤ n + 1 → get_or sizes g 0 ≡ opening_count (length order) g) → Tallied n ws order sizes
 opened_tallied n v order ws sizes d within o len zero-is sized =
-    let r = reads n v order ws o in
+    let r = opening-reads n v order ws o in
     record {
       length_is = len;
       counts = λ g low high. sized g low high

@@ -37,18 +37,18 @@ pub record Parts (R : ℕ → ℕ → Type 0) (l r : List ℕ) : Type 0 where
   pub seam : AtLast (λ x. AtFirst (R x) r) l
 
 -- two lists that are in order when joined are so each, and related where they meet
-pub parts : (R : ℕ → ℕ → Type 0) (l r : List ℕ) → InOrder R (l ++ r) → Parts R l r
-parts R [] r h = record { left = tt; right = h; seam = tt }
-parts R (x ∷ []) [] h = record { left = tt; right = tt; seam = tt }
-parts R (x ∷ []) (y ∷ r) h = record { left = tt; right = h.1; seam = h.0 }
-parts R (x ∷ z ∷ l) r h = let p = parts R (z ∷ l) r h.1 in record { left = (h.0, p.left); right = p.right; seam = p.seam }
+pub order-parts : (R : ℕ → ℕ → Type 0) (l r : List ℕ) → InOrder R (l ++ r) → Parts R l r
+order-parts R [] r h = record { left = tt; right = h; seam = tt }
+order-parts R (x ∷ []) [] h = record { left = tt; right = tt; seam = tt }
+order-parts R (x ∷ []) (y ∷ r) h = record { left = tt; right = h.1; seam = h.0 }
+order-parts R (x ∷ z ∷ l) r h = let p = order-parts R (z ∷ l) r h.1 in record { left = (h.0, p.left); right = p.right; seam = p.seam }
 
 -- two lists in order that are related where they meet are in order when joined
-pub joined : (R : ℕ → ℕ → Type 0) (l r : List ℕ) → Parts R l r → InOrder R (l ++ r)
-joined R [] r p = p.right
-joined R (x ∷ []) [] p = tt
-joined R (x ∷ []) (y ∷ r) p = (p.seam, p.right)
-joined R (x ∷ z ∷ l) r p = (p.left.0, joined R (z ∷ l) r (record { left = p.left.1; right = p.right; seam = p.seam }))
+pub order-joined : (R : ℕ → ℕ → Type 0) (l r : List ℕ) → Parts R l r → InOrder R (l ++ r)
+order-joined R [] r p = p.right
+order-joined R (x ∷ []) [] p = tt
+order-joined R (x ∷ []) (y ∷ r) p = (p.seam, p.right)
+order-joined R (x ∷ z ∷ l) r p = (p.left.0, order-joined R (z ∷ l) r (record { left = p.left.1; right = p.right; seam = p.seam }))
 
 -- a list in order is in order with one taken out
 pub InOrder-taken : (R : ℕ → ℕ → Type 0) → ((x y z : ℕ) → R x y → R y z → R x z) → (y : ℕ) (l r : List ℕ) → InOrder R (l ++ y ∷ r) → InOrder R (l ++ r)
@@ -133,13 +133,13 @@ Before-agrees a b x y p q h =
     ]
 
 -- a list in order is in order by another reading that agrees on each of its items
-pub agreed : (a b : Labels) (xs : List ℕ) → ((x : ℕ) → member x xs ≡ true → Agrees a b x) → InOrder (Before a) xs → InOrder (Before b) xs
-agreed a b xs f h = InOrder-mono (Before a) (Before b) xs (λ y z p q r. Before-agrees a b y z (f y p) (f z q) r) h
+pub order-agreed : (a b : Labels) (xs : List ℕ) → ((x : ℕ) → member x xs ≡ true → Agrees a b x) → InOrder (Before a) xs → InOrder (Before b) xs
+order-agreed a b xs f h = InOrder-mono (Before a) (Before b) xs (λ y z p q r. Before-agrees a b y z (f y p) (f z q) r) h
 
 -- a list stays in order where one item gets another place between its neighbours
-pub replaced : (a b : Labels) (y : ℕ) (l r : List ℕ) → ((x : ℕ) → member x (l ++ r) ≡ true → Agrees a b x) → AtLast (λ x. Before b x y) l
+pub order-replaced : (a b : Labels) (y : ℕ) (l r : List ℕ) → ((x : ℕ) → member x (l ++ r) ≡ true → Agrees a b x) → AtLast (λ x. Before b x y) l
     → AtFirst (Before b y) r → InOrder (Before a) (l ++ y ∷ r) → InOrder (Before b) (l ++ y ∷ r)
-replaced a b y l r f p q h = InOrder-put (Before b) y l r (agreed a b (l ++ r) f (InOrder-taken (Before a) (Before-then a) y l r h)) p q
+order-replaced a b y l r f p q h = InOrder-put (Before b) y l r (order-agreed a b (l ++ r) f (InOrder-taken (Before a) (Before-then a) y l r h)) p q
 
 -- q stands beyond label `v` of group `g`: with a greater label in it, or in a later group
 abbrev pub Beyond : Labels → ℕ → ℕ → ℕ → Type 0
@@ -166,10 +166,10 @@ put_right_after a b x p g v l r f ne e-g e-v e-t p-g p-v room h =
     let f' : (y : ℕ) → member y (without x l ++ p ∷ without x r) ≡ true → Agrees a b y = λ y m. f y (ap (member y) around ∙ m) in
     let apart = append_assoc (without x l) (p ∷ []) (without x r) in
     let kept : InOrder (Before b) (without x l ++ p ∷ without x r) =
-    agreed a b (without x l ++ p ∷ without x r) f' (subst (InOrder (Before a)) around (InOrder-without (Before a) (Before-then a) x (l ++ p ∷ r) h)) in
+    order-agreed a b (without x l ++ p ∷ without x r) f' (subst (InOrder (Before a)) around (InOrder-without (Before a) (Before-then a) x (l ++ p ∷ r) h)) in
     let p-agrees : Agrees a b p = f' p (member-append_right p (without x l) (p ∷ without x r) (member-head p (without x r))) in
     let before : Before b p x = inl (p-agrees.group ∙ (p-g ∙ sym e-g), omega (arith, p-agrees.bottom, p-v, e-v)) in
-    let rights : InOrder (Before a) r = InOrder-tail (Before a) p r ((parts (Before a) l (p ∷ r) h).right) in
+    let rights : InOrder (Before a) r = InOrder-tail (Before a) p r ((order-parts (Before a) l (p ∷ r) h).right) in
     let room' : AtFirst (Beyond a g v) (without x r) = AtFirst-without (Before a) (Beyond a g v) (Beyond-then a g v) x r rights room in
     let after : AtFirst (Before b x) (without x r) = AtFirst-mono (Beyond a g v) (Before b x) (without x r) (λ q m k.
     let q-agrees : Agrees a b q = f' q (member-append_right q (without x l) (p ∷ without x r) (member-tail q p (without x r) m)) in

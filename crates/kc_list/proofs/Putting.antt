@@ -7,12 +7,12 @@ use Rattle.kc_words.specs.ItemWord.{item_of, item_word, IsFitting as FitsItem}
 use Rattle.kc_words.proofs.Packing.{item_of-item_word}
 use Rattle.kc_words.specs.declared.item.ItemWord.{ItemWord}
 use Rattle.kc_distinct.specs.Lists.{member, Distinct, without, right_after, next_of, head_or}
-use Rattle.kc_distinct.proofs.Members.{member-head, member-tail, member-append_right, cut, Distinct-cut, right_after-cut, next_of-cut, next_of-in}
+use Rattle.kc_distinct.proofs.Members.{member-head, member-tail, member-append_right, member-cut, Distinct-cut, right_after-cut, next_of-cut, next_of-in}
 use Rattle.kc_distinct.proofs.Members.{member-without, without-member, not_member-without, Distinct-without, member-right_after, right_after-member}
 use Rattle.kc_distinct.proofs.Members.{Distinct-right_after}
 use Rattle.kc_words.specs.Order.{Labels, labels, InOrder, Ordered, PairBelow}
 use Rattle.kc_list.specs.Places.{Before, Placed, Sound, ItemStored, end_at, gap_end}
-use Rattle.kc_list.proofs.Order.{AtFirst, Beyond, Agrees, Before-pairs, parts, put_right_after, without-around}
+use Rattle.kc_list.proofs.Order.{AtFirst, Beyond, Agrees, Before-pairs, order-parts, put_right_after, without-around}
 use Rattle.kc_list.proofs.Stores.{item_stored}
 use Rattle.kc_words.specs.declared.layout.TheConstants.{ITEMS, BOTTOM_ROOM}
 use Rattle.kc_words.proofs.Ordering.{InOrder-mono}
@@ -52,7 +52,7 @@ beyond_first n a p v l [] f h lt = tt
 beyond_first n a p v l (q ∷ r) f h lt =
     let q-n : eqb q n ≡ false = ne_eqb q n (let b : q < n = (f q (member-append_right q l (p ∷ q ∷ r) (member-tail q p (q ∷ r) (member-head q r)))).below in
     omega arith) in
-    let step : Before a p q = ((parts (Before a) l (p ∷ q ∷ r) h).right).0 in
+    let step : Before a p q = ((order-parts (Before a) l (p ∷ q ∷ r) h).right).0 in
     elim (cases_Bool (eqb (a.group q) (a.group p))) [
       | inl t ↦ inl (eqb-true (a.group q) (a.group p) t, rw (q-n, t) at lt)
       | inr f' ↦ elim step [ inl s ↦ absurd (eqb-false (a.group q) (a.group p) f' (sym s.0)) | inr t ↦ inr t ]
@@ -75,7 +75,7 @@ put_sound n ws list x p label v w s p-in below ne low high is w-g w-b =
     let a = labels n ws in
     let b = labels n (set ws (1 + x) v) in
     let st : ItemStored a b n x w.group w.bottom = item_stored n ws x v w below s.size is in
-    let c = cut p list p-in in
+    let c = member-cut p list p-in in
     let agrees : (y : ℕ) → member y (without x list) ≡ true → Agrees a b y = λ y m. let k = member-without y x list m in
     item_agrees a b n x w.group w.bottom y st k.1 (s.inside y k.0).group_low in
     let p-apart = Distinct-cut p c.front c.back (subst Distinct c.is s.distinct) in

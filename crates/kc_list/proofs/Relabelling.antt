@@ -56,8 +56,8 @@ onway-more a b d g m ss j way less schedule seg bottoms stores = record {
 }
 
 -- less writes are no more than that
-pub fewer : (a d : LabelledList) (few most : ℕ) → Relabels few a d → few ≤ most → Relabels most a d
-fewer a d few most then less = record {
+pub writes-fewer : (a d : LabelledList) (few most : ℕ) → Relabels few a d → few ≤ most → Relabels most a d
+writes-fewer a d few most then less = record {
   groups = then.groups;
   rewrites = record {
     links = then.rewrites.links;

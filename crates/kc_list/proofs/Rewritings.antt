@@ -16,11 +16,11 @@ use Rattle.kc_list.proofs.Splits.{Steps-then}
 use Rattle.kc_list.proofs.Arranging.{tally_agree, once_spread}
 use Rattle.kc_list.proofs.Whole.{takes_kept, written_from}
 use Rattle.kc_list.specs.declared.limits.TheConstants.{GROUP_ITEMS}
-use Rattle.kc_list.proofs.Taking.{Moving, moving, moved_in, moved_new, tally_taken}
+use Rattle.kc_list.proofs.Taking.{Moving, groups-moving, moved_in, moved_new, tally_taken}
 
 -- where nothing is written, the list is in order at the one moment that there is
-pub unwritten : (a : LabelledList) (most : ℕ) → Rewrites most a a
-unwritten a most = record {
+pub order-unwritten : (a : LabelledList) (most : ℕ) → Rewrites most a a
+order-unwritten a most = record {
   links = refl;
   steps = Steps-none a.links.size a.links.list a.sheet (ordered_from a.links.size a.sheet.words a.links.list a.sound);
   versions = λ w. omega arith;
@@ -35,7 +35,7 @@ pub groups_before : (a : LabelledList) (sizes : List ℕ) (x p : ℕ) (here ther
     → Moving a.links.size a.sheet.words a.links.list sizes x p here.group there.group
 groups_before a sizes x p here there same below p-in t h k =
     subst (λ (zs : List ℕ). Moving a.links.size a.sheet.words a.links.list zs x p here.group there.group) same
-    (moving a.links.size a.sheet.words a.links.list a.groups x p here.group there.group a.sound below p-in t (ap (λ w. w.group) h) (ap (λ w. w.group) k))
+    (groups-moving a.links.size a.sheet.words a.links.list a.groups x p here.group there.group a.sound below p-in t (ap (λ w. w.group) h) (ap (λ w. w.group) k))
 
 -- the sizes after a move within the list
 pub sizes_moved : (a b : LabelledList) (x p : ℕ) (here there : ItemWord) → b.groups ≡ a.groups → x < a.links.size → member p a.links.list ≡ true → x ≢ p
@@ -118,4 +118,4 @@ put_list a b d x p most way puts = (
 -- the one write of a call that takes x out
 pub take_written : (a d : LabelledList) (x : ℕ) → a.sheet.writes ≡ [] → TakesOut x a d → x < a.links.size
     → Written a.links.size a.links.list d.links.list x a.sheet.words d.sheet.words d.sheet.writes
-take_written a d x none takes below = call_written a a d x 0 none (unwritten a 0) takes.size takes.stores below
+take_written a d x none takes below = call_written a a d x 0 none (order-unwritten a 0) takes.size takes.stores below

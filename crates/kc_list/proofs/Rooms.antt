@@ -4,7 +4,7 @@ use Rattle.std.proofs.lemmas.Bool.{ne_eqb, eq-eqb}
 use Rattle.std.proofs.lemmas.List.{append_assoc, length-append, get_or-map, get_or_at}
 use Rattle.std.proofs.lemmas.Nat.{le-div, div-add-mod'}
 use Rattle.kc_distinct.specs.Lists.{member, Distinct, head_or, next_of}
-use Rattle.kc_distinct.proofs.Members.{member-head, member-tail, member-append, member-append_right, cut, Distinct-cut, next_of-cut}
+use Rattle.kc_distinct.proofs.Members.{member-head, member-tail, member-append, member-append_right, member-cut, Distinct-cut, next_of-cut}
 use Rattle.kc_words.specs.Order.{Labels, labels}
 use Rattle.kc_list.specs.Places.{Sound, Segment, evens, end_at, gap_end}
 use Rattle.kc_list.proofs.Spreading.{get_or-evens}
@@ -31,8 +31,8 @@ zero-plus : (k : ℕ) → 0 + k + 1 ≡ k + 1
 zero-plus k = omega arith
 
 -- two fronts, p and two backs are one list, however they are joined
-regroup : (f l : List ℕ) (p : ℕ) (r k : List ℕ) → f ++ ((l ++ p ∷ r) ++ k) ≡ (f ++ l) ++ p ∷ (r ++ k)
-regroup f l p r k = simp append_assoc
+backs-regrouped : (f l : List ℕ) (p : ℕ) (r k : List ℕ) → f ++ ((l ++ p ∷ r) ++ k) ≡ (f ++ l) ++ p ∷ (r ++ k)
+backs-regrouped f l p r k = simp append_assoc
 
 -- an item of the list that is in a group is among the group's members
 pub in_segment : (a : Labels) (list : List ℕ) (g : ℕ) (m : List ℕ) (y : ℕ) → Segment a list g m → member y list ≡ true → a.group y ≡ g → member y m ≡ true
@@ -49,10 +49,10 @@ pub room_after_spread : (n : ℕ) (ws list : List ℕ) (m : List ℕ) (p : ℕ) 
 room_after_spread n ws list m p s seg le p-in e =
     let a = labels n ws in
     let p-m : member p m ≡ true = in_segment a list (a.group p) m p seg p-in refl in
-    let c = cut p m p-m in
+    let c = member-cut p m p-m in
     let step = BOTTOM_ROOM / (length m + 1) in
     let whole : list ≡ (seg.front ++ c.front) ++ p ∷ (c.back ++ seg.back) =
-    seg.is ∙ (ap (λ zs. seg.front ++ (zs ++ seg.back)) c.is ∙ regroup seg.front c.front p c.back seg.back) in
+    seg.is ∙ (ap (λ zs. seg.front ++ (zs ++ seg.back)) c.is ∙ backs-regrouped seg.front c.front p c.back seg.back) in
     let apart = Distinct-cut p (seg.front ++ c.front) (c.back ++ seg.back) (subst Distinct whole s.distinct) in
     let next : next_of n p list ≡ head_or n (c.back ++ seg.back) = ap (next_of n p) whole
     ∙ next_of-cut n p (seg.front ++ c.front) (c.back ++ seg.back) apart.0 in

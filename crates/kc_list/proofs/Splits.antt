@@ -15,7 +15,7 @@ use Rattle.kc_distinct.specs.Lists.{member, Distinct}
 use Rattle.kc_distinct.proofs.Members.{member-head, member-tail, member-cases, member-append, member-append_left, member-append_right, Distinct-cut}
 use Rattle.kc_words.specs.Order.{Labels, labels, InOrder}
 use Rattle.kc_list.specs.Places.{Before, Placed, Sound, Segment, Free, Splitting, ItemStored, GroupStored, evens}
-use Rattle.kc_list.proofs.Order.{AtFirst, AtLast, AtFirst-mono, Agrees, agreed, replaced, parts}
+use Rattle.kc_list.proofs.Order.{AtFirst, AtLast, AtFirst-mono, Agrees, order-agreed, order-replaced, order-parts}
 use Rattle.kc_list.proofs.Stores.{item_stored, group_stored}
 use Rattle.kc_list.proofs.Putting.{item_agrees, Placed-agrees, ordered_from}
 use Rattle.kc_list.proofs.Spreading.{Ascends-at, length-evens, evens-ascend, Distinct-parts, Steps-none, Steps-push, stored-append, raises_from}
@@ -45,7 +45,7 @@ pub unused_stored : (n : ℕ) (ws list : List ℕ) (h v t : ℕ) → Sound n ws 
 unused_stored n ws list h v t s f st = record {
   size = length-set ws (n + h) v ∙ s.size;
   distinct = s.distinct;
-  order = agreed (labels n ws) (labels n (set ws (n + h) v)) list (λ y m. group_agrees n ws list h v t y s f st m) s.order;
+  order = order-agreed (labels n ws) (labels n (set ws (n + h) v)) list (λ y m. group_agrees n ws list h v t y s f st m) s.order;
   inside = λ y m. Placed-agrees n (labels n ws) (labels n (set ws (n + h) v)) y (group_agrees n ws list h v t y s f st m) (s.inside y m);
   outside = λ y l o. st.groups y l ∙ s.outside y l o;
 }
@@ -62,8 +62,8 @@ AtLast-append P (y ∷ []) x xs h = h
 AtLast-append P (y ∷ z ∷ l) x xs h = AtLast-append P (z ∷ l) x xs h
 
 -- three fronts, y and two backs are one list, however they are joined
-regroup : (f l t : List ℕ) (y : ℕ) (d k : List ℕ) → f ++ ((l ++ (t ++ y ∷ d)) ++ k) ≡ (f ++ (l ++ t)) ++ y ∷ (d ++ k)
-regroup f l t y d k = simp append_assoc
+fronts-regrouped : (f l t : List ℕ) (y : ℕ) (d k : List ℕ) → f ++ ((l ++ (t ++ y ∷ d)) ++ k) ≡ (f ++ (l ++ t)) ++ y ∷ (d ++ k)
+fronts-regrouped f l t y d k = simp append_assoc
 
 -- where something is left from the i-th on, i is a place within the list
 more_left : (ls : List ℕ) (i : ℕ) (zs : List ℕ) (z : ℕ) → drop i ls ≡ z ∷ zs → i < length ls
@@ -74,7 +74,7 @@ pub split_cut : (front low ups back : List ℕ) (i : ℕ) → i < length ups
     → front ++ ((low ++ ups) ++ back) ≡ (front ++ (low ++ take i ups)) ++ get_or ups i 0 ∷ (drop (i + 1) ups ++ back)
 split_cut front low ups back i l =
     let parts : ups ≡ take i ups ++ get_or ups i 0 ∷ drop (i + 1) ups = sym (take-append-drop i ups) ∙ ap (λ zs. take i ups ++ zs) (drop_more ups i 0 l) in
-    ap (λ zs. front ++ ((low ++ zs) ++ back)) parts ∙ regroup front low (take i ups) (get_or ups i 0) (drop (i + 1) ups) back
+    ap (λ zs. front ++ ((low ++ zs) ++ back)) parts ∙ fronts-regrouped front low (take i ups) (get_or ups i 0) (drop (i + 1) ups) back
 
 -- the member that moves to the new group is before what follows it there
 first_above : (a b : Labels) (h y v : ℕ) (ls zs back : List ℕ) (i : ℕ) → Ascends 1 BOTTOM_ROOM ls → map a.bottom zs ≡ drop (i + 1) ls → v ≡ get_or ls i 0
@@ -153,7 +153,7 @@ moved_up n ws list g h x low ups ls i w s small sp i-in ls-len asc v-fits w-g w-
     first_above a b h (get_or ups i 0) w.bottom ls (drop (i + 1) ups) sp.back i asc sp.bottoms w-b (omega arith)
     (λ z m. let k = from-right z m in agrees z k.0 k.1) sp.upper (st.group ∙ w-g) st.bottom top-h sp.after in
     let order : InOrder (Before b) ((sp.front ++ (x ∷ low ++ take i ups)) ++ get_or ups i 0 ∷ (drop (i + 1) ups ++ sp.back)) =
-    replaced a b (get_or ups i 0) (sp.front ++ (x ∷ low ++ take i ups)) (drop (i + 1) ups ++ sp.back)
+    order-replaced a b (get_or ups i 0) (sp.front ++ (x ∷ low ++ take i ups)) (drop (i + 1) ups ++ sp.back)
     (λ z m. elim (member-append z (sp.front ++ (x ∷ low ++ take i ups)) (drop (i + 1) ups ++ sp.back) m)
     [ inl k ↦ (let q = from-left z k in agrees z q.0 q.1) | inr k ↦ (let q = from-right z k in agrees z q.0 q.1) ]) left right
     (subst (InOrder (Before a)) cut-is s.order) in
@@ -312,8 +312,8 @@ pub after_segment : (n : ℕ) (ws list : List ℕ) (g x : ℕ) (m : List ℕ) �
     → AtFirst (λ z. (labels n ws).top g < (labels n ws).top ((labels n ws).group z)) seg.back
 after_segment n ws list g x m s seg =
     let a = labels n ws in
-    let p = parts (Before a) seg.front (x ∷ m ++ seg.back) (subst (InOrder (Before a)) seg.is s.order) in
-    let q = parts (Before a) (x ∷ m) seg.back p.right in
+    let p = order-parts (Before a) seg.front (x ∷ m ++ seg.back) (subst (InOrder (Before a)) seg.is s.order) in
+    let q = order-parts (Before a) (x ∷ m) seg.back p.right in
     let last = AtLast-some (λ y. AtFirst (Before a y) seg.back) x m q.seam in
     let last-g : a.group last.0 ≡ g = seg.members last.0 last.1 in
     AtFirst-mono (Before a last.0) (λ z. a.top g < a.top (a.group z)) seg.back

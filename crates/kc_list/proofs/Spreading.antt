@@ -17,7 +17,7 @@ use Rattle.kc_words.specs.Order.{Labels, labels, InOrder, Follows, Ordered}
 use Rattle.kc_list.specs.Places.{Before, Placed, Sound, Segment, ItemStored, evens}
 use Rattle.kc_list.specs.Sheets.{ChangesOnly, Paper, stored, OrderedAlong, RaisedAlong, Raises, Steps, version}
 use Rattle.kc_list.specs.declared.sheet.Write.{Write}
-use Rattle.kc_list.proofs.Order.{AtFirst, AtFirst-mono, AtLast-mono, Agrees, parts, joined, Before-agrees}
+use Rattle.kc_list.proofs.Order.{AtFirst, AtFirst-mono, AtLast-mono, Agrees, order-parts, order-joined, Before-agrees}
 use Rattle.kc_list.proofs.Stores.{item_stored}
 use Rattle.kc_list.proofs.Putting.{item_agrees, Placed-agrees, ordered_from}
 use Rattle.kc_words.specs.declared.layout.TheConstants.{LAST_VERSION, ITEMS, BOTTOM_ROOM}
@@ -27,15 +27,15 @@ use Rattle.kc_distinct.proofs.Shared.{map-agree}
 use Rattle.kc_distinct.proofs.Counting.{member-get_or}
 
 -- a list in order is so by another relation where this orders its middle and agrees on the rest
-pub middle : (R S : ℕ → ℕ → Type 0) (l m r : List ℕ) → ((x z : ℕ) → member x l ≡ true → member z (l ++ (m ++ r)) ≡ true → R x z → S x z)
+pub order-middle : (R S : ℕ → ℕ → Type 0) (l m r : List ℕ) → ((x z : ℕ) → member x l ≡ true → member z (l ++ (m ++ r)) ≡ true → R x z → S x z)
     → ((x z : ℕ) → member x m ≡ true → member z r ≡ true → R x z → S x z) → ((x z : ℕ) → member x r ≡ true → member z r ≡ true → R x z → S x z) → InOrder S m
     → InOrder R (l ++ (m ++ r)) → InOrder S (l ++ (m ++ r))
-middle R S l m r f g k new h =
-    let p = parts R l (m ++ r) h in
-    let q = parts R m r p.right in
-    joined S l (m ++ r) (record {
+order-middle R S l m r f g k new h =
+    let p = order-parts R l (m ++ r) h in
+    let q = order-parts R m r p.right in
+    order-joined S l (m ++ r) (record {
       left = InOrder-mono R S l (λ x z x-in z-in w. f x z x-in (member-append_left z l (m ++ r) z-in) w) p.left;
-      right = joined S m r (record {
+      right = order-joined S m r (record {
         left = new;
         right = InOrder-mono R S r k q.right;
         seam = AtLast-mono (λ x. AtFirst (R x) r) (λ x. AtFirst (S x) r) m (λ x x-in w. AtFirst-mono (R x) (S x) r (λ z z-in u. g x z x-in z-in u) w) q.seam;
@@ -95,9 +95,9 @@ pub record Relabelled (n : ℕ) (ws list : List ℕ) (g : ℕ) (m : List ℕ) (i
   pub bottoms : map (labels n (set ws (1 + get_or m i 0) (item_word w))).bottom m ≡ set (map (labels n ws).bottom m) i w.bottom
 
 -- a member can get a new label with which the labels of its group ascend
-pub relabelled : (n : ℕ) (ws list : List ℕ) (g : ℕ) (m : List ℕ) (i : ℕ) (w : ItemWord) → Sound n ws list → n ≤ ITEMS → Segment (labels n ws) list g m
+pub member-relabelled : (n : ℕ) (ws list : List ℕ) (g : ℕ) (m : List ℕ) (i : ℕ) (w : ItemWord) → Sound n ws list → n ≤ ITEMS → Segment (labels n ws) list g m
     → i < length m → w.version < 2 ^ 24 → w.group ≡ g → Ascends 1 BOTTOM_ROOM (set (map (labels n ws).bottom m) i w.bottom) → Relabelled n ws list g m i w
-relabelled n ws list g m i w s small seg i-in v-fits w-g asc =
+member-relabelled n ws list g m i w s small seg i-in v-fits w-g asc =
     let y = get_or m i 0 in
     let a = labels n ws in
     let b = labels n (set ws (1 + get_or m i 0) (item_word w)) in
@@ -130,7 +130,7 @@ relabelled n ws list g m i w s small seg i-in v-fits w-g asc =
     λ x z p q ne ne' h. Before-agrees a b x z (agrees x p ne) (agrees z q ne') h in
     let not-front : (z : ℕ) → member z seg.front ≡ true → z ≡ get_or m i 0 → ⊥ = λ z k e. seg.others z (inl k) (ap a.group e ∙ g-is) in
     let not-back : (z : ℕ) → member z seg.back ≡ true → z ≡ get_or m i 0 → ⊥ = λ z k e. seg.others z (inr k) (ap a.group e ∙ g-is) in
-    let order : InOrder (Before b) (seg.front ++ (m ++ seg.back)) = middle (Before a) (Before b) seg.front m seg.back
+    let order : InOrder (Before b) (seg.front ++ (m ++ seg.back)) = order-middle (Before a) (Before b) seg.front m seg.back
     (λ x z x-in z-in h. let x-list = in-list x (member-append_left x seg.front (m ++ seg.back) x-in) in
     elim (cases_eq (a.group z) g) [
       | inl z-g ↦ apart x z x-list (in-list z z-in) (λ e. seg.others x (inl x-in) (e ∙ z-g)) h
@@ -260,7 +260,7 @@ pub relabel_facts : (n : ℕ) (ws list : List ℕ) (g : ℕ) (m : List ℕ) (i :
     → i < length m → w.version < 2 ^ 24 → w.group ≡ g → Ascends 1 BOTTOM_ROOM (set (map (labels n ws).bottom m) i w.bottom) → RelabelFacts n ws list g m i w
 relabel_facts n ws list g m i w s small seg i-in v-fits w-g asc =
     let below : get_or m i 0 < n = segment_below n ws list g m i s seg i-in in
-    let all = relabelled n ws list g m i w s small seg i-in v-fits w-g asc in
+    let all = member-relabelled n ws list g m i w s small seg i-in v-fits w-g asc in
     let read : get_or (set ws (1 + get_or m i 0) (item_word w)) (1 + get_or m i 0) 0 ≡ item_word w =
     get_or-set_same ws (1 + get_or m i 0) (item_word w) 0 (omega (arith, s.size)) in
     record { below = below; all = all; read = read; again = ap item_of read ∙ item_of-item_word w all.fits }
@@ -379,11 +379,11 @@ Follows-bottoms n a g x (y ∷ m) e f h l =
     (up, Follows-bottoms n a g y m y-f.0 (λ z k. f z (member-tail z y m k)) h.1 y-f.1)
 
 -- the labels of members of one group that are in order ascend
-start : (n : ℕ) (ws : List ℕ) (g : ℕ) (m : List ℕ)
+group_labels-ascend : (n : ℕ) (ws : List ℕ) (g : ℕ) (m : List ℕ)
     → ((y : ℕ) → member y m ≡ true → ((labels n ws).group y ≡ g) × (0 < (labels n ws).bottom y) × ((labels n ws).bottom y < BOTTOM_ROOM))
     → InOrder (Before (labels n ws)) m → Ascends 1 BOTTOM_ROOM (map (labels n ws).bottom m)
-start n ws g [] f h = omega arith
-start n ws g (x ∷ m) f h =
+group_labels-ascend n ws g [] f h = omega arith
+group_labels-ascend n ws g (x ∷ m) f h =
     let x-f = f x (member-head x m) in
     (x-f.1, Follows-bottoms n (labels n ws) g x m x-f.0 (λ y k. let q = f y (member-tail y x m k) in (q.0, q.2)) h x-f.2)
 
@@ -391,9 +391,10 @@ start n ws g (x ∷ m) f h =
 pub ascends_from_order : (n : ℕ) (ws list : List ℕ) (g : ℕ) (m : List ℕ) → Sound n ws list → Segment (labels n ws) list g m
     → Ascends 1 BOTTOM_ROOM (map (labels n ws).bottom m)
 ascends_from_order n ws list g m s seg =
-    let p = parts (Before (labels n ws)) seg.front (m ++ seg.back) (subst (InOrder (Before (labels n ws))) seg.is s.order) in
-    let q = parts (Before (labels n ws)) m seg.back p.right in
-    start n ws g m (λ y k. let pl = s.inside y (segment_in (labels n ws) list g m seg y k) in (seg.members y k, pl.bottom_low, pl.bottom_high)) q.left
+    let p = order-parts (Before (labels n ws)) seg.front (m ++ seg.back) (subst (InOrder (Before (labels n ws))) seg.is s.order) in
+    let q = order-parts (Before (labels n ws)) m seg.back p.right in
+    group_labels-ascend n ws g m
+    (λ y k. let pl = s.inside y (segment_in (labels n ws) list g m seg y k) in (seg.members y k, pl.bottom_low, pl.bottom_high)) q.left
 
 -- one step more is a product with one more
 mul-expand : (i step : ℕ) → (i + 1) * step ≡ i * step + step

@@ -10,7 +10,7 @@ use Rattle.kc_distinct.proofs.Members.{member-without, without-member, without-n
 use Rattle.kc_words.specs.Order.{labels}
 use Rattle.kc_list.specs.Places.{Before, Placed, Sound, ItemStored, size_of}
 use Rattle.kc_list.specs.Tally.{Tallied, TakesItem}
-use Rattle.kc_list.proofs.Order.{Agrees, Before-then, InOrder-without, agreed}
+use Rattle.kc_list.proofs.Order.{Agrees, Before-then, InOrder-without, order-agreed}
 use Rattle.kc_list.proofs.Stores.{item_stored}
 use Rattle.kc_list.proofs.Putting.{item_agrees, Placed-agrees}
 use Rattle.kc_list.proofs.Counts.{size-without, size-right_after, size-agree}
@@ -27,7 +27,7 @@ take_sound n ws list x v w s x-in is out =
     record {
       size = length-set ws (1 + x) v ∙ s.size;
       distinct = Distinct-without x list s.distinct;
-      order = agreed a b (without x list) agrees (InOrder-without (Before a) (Before-then a) x list s.order);
+      order = order-agreed a b (without x list) agrees (InOrder-without (Before a) (Before-then a) x list s.order);
       inside = λ y m. Placed-agrees n a b y (agrees y m) (s.inside y (member-without y x list m).0);
       outside = λ y l o. elim (cases_eq y x) [
         | inl e ↦ ap b.group e ∙ (st.group ∙ out)
@@ -155,8 +155,8 @@ tally_moved n ws vs list sizes new x p v from to s below p-in ne t takes e group
     }
 
 -- a size that is raised by one is one more for its group alone
-pub bumped : (sizes : List ℕ) (to k : ℕ) → to < length sizes → get_or (set sizes to (get_or sizes to 0 + 1)) k 0 ≡ get_or sizes k 0 + cond (eqb to k) 1 0
-bumped sizes to k l = elim (cases_eq k to) [
+pub size-bumped : (sizes : List ℕ) (to k : ℕ) → to < length sizes → get_or (set sizes to (get_or sizes to 0 + 1)) k 0 ≡ get_or sizes k 0 + cond (eqb to k) 1 0
+size-bumped sizes to k l = elim (cases_eq k to) [
   | inl e ↦ rw (eq-eqb to k (sym e))
       (ap (λ i. get_or (set sizes to (get_or sizes to 0 + 1)) i 0) e
       ∙ (get_or-set_same sizes to (get_or sizes to 0 + 1) 0 l ∙ ap (λ i. get_or sizes i 0 + 1) (sym e)))
@@ -164,9 +164,9 @@ bumped sizes to k l = elim (cases_eq k to) [
 ]
 
 -- a size that is lowered by one is one less for its group alone
-pub dropped : (sizes : List ℕ) (from k : ℕ) → from < length sizes → 0 < get_or sizes from 0
+pub size-dropped : (sizes : List ℕ) (from k : ℕ) → from < length sizes → 0 < get_or sizes from 0
     → get_or (set sizes from (get_or sizes from 0 - 1)) k 0 + cond (eqb from k) 1 0 ≡ get_or sizes k 0
-dropped sizes from k l some = elim (cases_eq k from) [
+size-dropped sizes from k l some = elim (cases_eq k from) [
   | inl e ↦ rw (eq-eqb from k (sym e))
       (omega (
         arith,
@@ -190,9 +190,9 @@ pub record Moving (n : ℕ) (ws list sizes : List ℕ) (x p from to : ℕ) : Typ
   pub from_within : (from ≡ 0 → ⊥) → from < length (set sizes to (get_or sizes to 0 + 1))
 
 -- the new group and the old one of x are within the sizes, and not empty
-pub moving : (n : ℕ) (ws list sizes : List ℕ) (x p from to : ℕ) → Sound n ws list → x < n → member p list ≡ true → Tallied n ws list sizes
+pub groups-moving : (n : ℕ) (ws list sizes : List ℕ) (x p from to : ℕ) → Sound n ws list → x < n → member p list ≡ true → Tallied n ws list sizes
     → from ≡ (labels n ws).group x → to ≡ (labels n ws).group p → Moving n ws list sizes x p from to
-moving n ws list sizes x p from to s below p-in t from-is to-is =
+groups-moving n ws list sizes x p from to s below p-in t from-is to-is =
     let placed : Placed n (labels n ws) p = s.inside p p-in in
     let to-in : to < length sizes = omega (arith, placed.group_high, t.length_is) in
     record {
@@ -201,7 +201,7 @@ moving n ws list sizes x p from to s below p-in t from-is to-is =
       to_low = omega (arith, placed.group_low);
       from_used = λ ne. omega (
         arith,
-        bumped sizes to from to-in,
+        size-bumped sizes to from to-in,
         used_size n ws list sizes x s t (from_in n ws list x from s below from-is ne),
         ap (λ g. get_or sizes g 0) from-is,
       );
@@ -216,7 +216,7 @@ pub moved_in : (n : ℕ) (ws vs list sizes : List ℕ) (x p v from to : ℕ) →
     → Tallied n vs (right_after x p (without x list))
     (set (set sizes to (get_or sizes to 0 + 1)) from (get_or (set sizes to (get_or sizes to 0 + 1)) from 0 - 1))
 moved_in n ws vs list sizes x p v from to s below p-in ne t takes e group from-is to-is some =
-    let m = moving n ws list sizes x p from to s below p-in t from-is to-is in
+    let m = groups-moving n ws list sizes x p from to s below p-in t from-is to-is in
     let mid = set sizes to (get_or sizes to 0 + 1) in
     let from-0 : 0 ≢ from = λ z. some (sym z) in
     let to-0 : 0 ≢ to = (let l = m.to_low in omega arith) in
@@ -226,7 +226,7 @@ moved_in n ws vs list sizes x p v from to s below p-in ne t takes e group from-i
     ∙ length-set sizes to (get_or sizes to 0 + 1))
     (get_or-set_other (set sizes to (get_or sizes to 0 + 1)) from 0 (get_or (set sizes to (get_or sizes to 0 + 1)) from 0 - 1) 0 from-0
     ∙ get_or-set_other sizes to 0 (get_or sizes to 0 + 1) 0 to-0)
-    (λ k low. dropped (set sizes to (get_or sizes to 0 + 1)) from k (m.from_within some) (m.from_used some) ∙ bumped sizes to k m.to_in)
+    (λ k low. size-dropped (set sizes to (get_or sizes to 0 + 1)) from k (m.from_within some) (m.from_used some) ∙ size-bumped sizes to k m.to_in)
 
 -- the sizes after an item that was out is put in
 pub moved_new : (n : ℕ) (ws vs list sizes : List ℕ) (x p v from to : ℕ) → Sound n ws list → x < n → member p list ≡ true → (x ≡ p → ⊥)
@@ -234,8 +234,8 @@ pub moved_new : (n : ℕ) (ws vs list sizes : List ℕ) (x p v from to : ℕ) �
     → from ≡ (labels n ws).group x → to ≡ (labels n ws).group p → from ≡ 0
     → Tallied n vs (right_after x p (without x list)) (set sizes to (get_or sizes to 0 + 1))
 moved_new n ws vs list sizes x p v from to s below p-in ne t takes e group from-is to-is none =
-    let m = moving n ws list sizes x p from to s below p-in t from-is to-is in
+    let m = groups-moving n ws list sizes x p from to s below p-in t from-is to-is in
     let to-0 : 0 ≢ to = (let l = m.to_low in omega arith) in
     tally_moved n ws vs list sizes (set sizes to (get_or sizes to 0 + 1)) x p v from to s below p-in ne t takes e group from-is to-is
     (length-set sizes to (get_or sizes to 0 + 1)) (get_or-set_other sizes to 0 (get_or sizes to 0 + 1) 0 to-0)
-    (λ k low. let f : from ≢ k = omega arith in rw (ne_eqb from k f) (omega (arith, bumped sizes to k m.to_in)))
+    (λ k low. let f : from ≢ k = omega arith in rw (ne_eqb from k f) (omega (arith, size-bumped sizes to k m.to_in)))

@@ -144,10 +144,10 @@ runs-same f g (x ∷ y ∷ ys) h =
     ∙ (ap (λ u. cond (eqb (f x) u) (runs g (y ∷ ys)) (f x ∷ runs g (y ∷ ys))) hy ∙ ap (λ rs. cond (eqb (f x) (f y)) rs (f x ∷ rs)) rest)
 
 -- a group can get a new label with which the labels of the groups ascend
-pub retopped : (n : ℕ) (ws list gs : List ℕ) (i : ℕ) (w : GroupWord) → Sound n ws list → gs ≡ runs (labels n ws).group list → i < length gs
+pub group-retopped : (n : ℕ) (ws list gs : List ℕ) (i : ℕ) (w : GroupWord) → Sound n ws list → gs ≡ runs (labels n ws).group list → i < length gs
     → w.version < 2 ^ 24 → Ascends 1 TOP_ROOM (set (map (labels n ws).top gs) i w.top) → Retopped n ws list gs i w
-retopped n ws [] gs i w s e l v-fits asc = absurd (omega (arith, ap length e))
-retopped n ws (x ∷ xs) gs i w s e l v-fits asc =
+group-retopped n ws [] gs i w s e l v-fits asc = absurd (omega (arith, ap length e))
+group-retopped n ws (x ∷ xs) gs i w s e l v-fits asc =
     let a = labels n ws in
     let b = labels n (set ws (n + get_or gs i 0) (group_word w)) in
     let g-in : member (get_or gs i 0) gs ≡ true = member-get_or gs i 0 l in
@@ -204,7 +204,7 @@ pub record RetopFacts (n : ℕ) (ws list gs : List ℕ) (i : ℕ) (w : GroupWord
 pub retop_facts : (n : ℕ) (ws list gs : List ℕ) (i : ℕ) (w : GroupWord) → Sound n ws list → gs ≡ runs (labels n ws).group list → i < length gs
     → w.version < 2 ^ 24 → Ascends 1 TOP_ROOM (set (map (labels n ws).top gs) i w.top) → RetopFacts n ws list gs i w
 retop_facts n ws list gs i w s e l v-fits asc =
-    let all = retopped n ws list gs i w s e l v-fits asc in
+    let all = group-retopped n ws list gs i w s e l v-fits asc in
     let read : get_or (set ws (n + get_or gs i 0) (group_word w)) (n + get_or gs i 0) 0 ≡ group_word w =
     get_or-set_same ws (n + get_or gs i 0) (group_word w) 0 (omega (arith, s.size, all.below)) in
     record {

@@ -6,7 +6,7 @@ use Rattle.kc_distinct.proofs.Members.{member-head, member-tail, member-cases}
 use Rattle.kc_words.specs.Order.{labels}
 use Rattle.kc_list.specs.Places.{Sound, Segment, Free, runs, size_of, top_end}
 use Rattle.kc_list.proofs.Spreading.{segment_in}
-use Rattle.kc_list.proofs.Counts.{full_segment, halves, top_gap, top_end_high}
+use Rattle.kc_list.proofs.Counts.{full_segment, group-halves, top_gap, top_end_high}
 use Rattle.kc_list.proofs.Toplabels.{runs_item}
 use Rattle.kc_words.specs.declared.layout.TheConstants.{TOP_ROOM}
 use Rattle.kc_list.specs.declared.limits.TheConstants.{GROUP_ITEMS}
@@ -50,7 +50,7 @@ last_facts n ws list g count into seg len within size =
     record {
       inside = segment_in (labels n ws) list g into seg' (get_or into (GROUP_ITEMS - 1) 0) last-in;
       group = seg'.members (get_or into (GROUP_ITEMS - 1) 0) last-in;
-      segment = (halves n (labels n ws) list g into seg' len).last;
+      segment = (group-halves n (labels n ws) list g into seg' len).last;
     }
 
 -- a gap of two above the last member of a full group is a gap of two above the group

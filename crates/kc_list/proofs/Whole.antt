@@ -5,7 +5,7 @@ use Rattle.std.proofs.lemmas.Bool.{cases_eq, cases_lt, cases_Bool, ne_eqb, eq-eq
 use Rattle.std.proofs.lemmas.List.{get_or-set_other, append_assoc, length-append}
 use Rattle.kc_words.specs.ItemWord.{item_of}
 use Rattle.kc_distinct.specs.Lists.{member, Distinct, without, right_after, next_of, prev_of, place_of}
-use Rattle.kc_distinct.proofs.Members.{member-head, member-tail, member-cases, member-append, cut, Distinct-cut, without-member, right_after-member}
+use Rattle.kc_distinct.proofs.Members.{member-head, member-tail, member-cases, member-append, member-cut, Distinct-cut, without-member, right_after-member}
 use Rattle.kc_distinct.proofs.Members.{next_of-in, place_of-cut}
 use Rattle.kc_words.specs.Order.{labels, PairBelow, InOrder, Ordered}
 use Rattle.kc_list.specs.Places.{Before, Sound, size_of}
@@ -14,7 +14,7 @@ use Rattle.kc_list.specs.Plain.{Written}
 use Rattle.kc_list.specs.Tally.{TakesItem}
 use Rattle.kc_list.proofs.Counts.{size-agree}
 use Rattle.kc_list.specs.declared.sheet.Write.{Write}
-use Rattle.kc_list.proofs.Order.{parts, Before-then, Before-pairs}
+use Rattle.kc_list.proofs.Order.{order-parts, Before-then, Before-pairs}
 use Rattle.kc_list.proofs.Gathering.{all_before}
 use Rattle.kc_list.proofs.Spreading.{stored-append}
 use Rattle.kc_list.proofs.Splits.{RaisedAlong-append}
@@ -83,7 +83,7 @@ pub precedes_list : (n : ℕ) (ws list : List ℕ) (x y : ℕ) → Sound n ws li
     → (PairBelow (labels n ws) x y → place_of x list < place_of y list) × (place_of x list < place_of y list → PairBelow (labels n ws) x y)
 precedes_list n ws list x y s x-in y-in ne =
     let a = labels n ws in
-    let c = cut y list y-in in
+    let c = member-cut y list y-in in
     let apart = Distinct-cut y c.front c.back (subst Distinct c.is s.distinct) in
     let order : InOrder (Before a) (c.front ++ y ∷ c.back) = subst (InOrder (Before a)) c.is s.order in
     let there : length c.front ≤ place_of y list = subst (λ zs. length c.front ≤ place_of y zs) (sym c.is) (place-back y c.front (y ∷ c.back) apart.0) in
@@ -97,7 +97,7 @@ precedes_list n ws list x y s x-in y-in ne =
             | inr k ↦ elim (member-cases x y c.back k) [ inl e ↦ absurd (ne e) | inr m ↦ m ]
           ] in
           let after : PairBelow a y x = Before-pairs a y x
-          (Follows-all (Before a) (Before-then a) y x c.back ((parts (Before a) c.front (y ∷ c.back) order).right) in-back) in
+          (Follows-all (Before a) (Before-then a) y x c.back ((order-parts (Before a) c.front (y ∷ c.back) order).right) in-back) in
           let front-one : member x (c.front ++ y ∷ []) ≡ false = elim (cases_Bool (member x (c.front ++ y ∷ []))) [
             | inl k ↦ absurd (elim (member-append x c.front (y ∷ []) k)
                 [ inl q ↦ true≢false (sym q ∙ f) | inr q ↦ elim (member-cases x y [] q) [ inl e ↦ ne e | inr none ↦ false≢true none ] ])
@@ -142,8 +142,9 @@ some_word (u ∷ v ∷ ws) l =
     ]
 
 -- the greatest version is that of an item's or a group's word
-pub reached : (n h : ℕ) (ws : List ℕ) → length ws ≡ n + n + 2 → get_or ws 0 0 ≡ 0 → h ≡ highest_of ws → (w : ℕ) × (1 ≤ w) × (w ≤ 2 * n + 1) × (version ws w ≡ h)
-reached n h ws e note is =
+pub version-reached : (n h : ℕ) (ws : List ℕ) → length ws ≡ n + n + 2 → get_or ws 0 0 ≡ 0 → h ≡ highest_of ws
+    → (w : ℕ) × (1 ≤ w) × (w ≤ 2 * n + 1) × (version ws w ≡ h)
+version-reached n h ws e note is =
     let r = some_word ws (omega arith) in
     elim (cases_eq r.0 0) [
       | inl z ↦

@@ -22,10 +22,10 @@ last-between old middle new c is begins ends goes_on =
     }
 
 -- the answer of the second collect is that of the comparison
-pub compares : (old middle new : PassSeen) (x y : ℕ) (a : Answer) (c : Collected) → IsCollect c → (c.table ≡ old.table) × (c.x ≡ x) × (c.y ≡ y)
+pub collect-compares : (old middle new : PassSeen) (x y : ℕ) (a : Answer) (c : Collected) → IsCollect c → (c.table ≡ old.table) × (c.x ≡ x) × (c.y ≡ y)
     → IsPrefix old.log c.item_x.prefix → IsPrefix c.group_y.prefix middle.log → Steps old middle 4 1 → IsPrefix middle.log new.log → x ≢ y
     → EndsSecond c middle new a → Compares old new x y a
-compares old middle new x y a c is of begins ends first goes_on differ second =
+collect-compares old middle new x y a c is of begins ends first goes_on differ second =
     let two : (b : Answer) → EndsSecond c middle new b → TwoCollects old new x y b = λ b e. record {
       collect = c;
       is = is;

@@ -77,10 +77,10 @@ pub record Ended (shape : Shape) (opening : List ℕ) (log : List Event) (v x : 
   pub quiet : (w : ℕ) → legal.FollowsNote (state_of shape opening ((log ++ event 0 v ∷ []) ++ event (1 + x) last.value ∷ [])).note w
 
 -- a put or a take that has what it needs stores its note and the word of its item
-pub ends : (shape : Shape) (opening : List ℕ) (log : List Event) (ws : List ℕ) (n : NoteWord) (v x : ℕ) (last : Write) (after : List ℕ)
+pub put_or_take-ends : (shape : Shape) (opening : List ℕ) (log : List Event) (ws : List ℕ) (n : NoteWord) (v x : ℕ) (last : Write) (after : List ℕ)
     → legal.Legal shape opening log → Ends shape (state_of shape opening log) ws n v x last after
     → ((y : ℕ) → member y after ≡ true → y < shape.items) → Ended shape opening log v x last ws after
-ends shape opening log ws n v x last after lawful h within =
+put_or_take-ends shape opening log ws n v x last after lawful h within =
     let s = state_of shape opening log in
     let g = h.goes in
     let t = noted s v in

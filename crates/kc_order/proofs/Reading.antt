@@ -8,7 +8,7 @@ use Rattle.kc_table.specs.declared.view.Event.{Event}
 use Rattle.kc_table.specs.Log.{PassSeen, TableName, value_at, words_after}
 use Rattle.kc_table.specs.Legal.{Legal}
 use Rattle.kc_table.proofs.LegalLogs.{legal-holds, state_of-words}
-use Rattle.kc_table.proofs.Listed.{stands}
+use Rattle.kc_table.proofs.Listed.{list-stands}
 use Rattle.kc_order.specs.Standing.{list_after, EndsCollect, FoundIn, FoundOut, LoadsWord}
 use Rattle.kc_order.specs.declared.answer.Answer.{Answer}
 use Rattle.kc_order.specs.declared.answer.Answer.TheVariants.{Absent}
@@ -46,7 +46,7 @@ found_out old new x value one below none =
       out = none;
       absent = out;
       no_vertex = elim (cases_lt x new.table.shape.fixed) [
-        | inl lt ↦ absurd (true≢false (sym ((stands new.table.shape new.table.opening new.log one.legal).listed.vertices x lt) ∙ out))
+        | inl lt ↦ absurd (true≢false (sym ((list-stands new.table.shape new.table.opening new.log one.legal).listed.vertices x lt) ∙ out))
         | inr ge ↦ ge
       ];
     }

@@ -115,9 +115,9 @@ set-agree xs ys k v w x-in y-in same =
     ]
 
 -- a write that keeps the order and raises a version may be stored where nothing is announced
-pub relabel : (shape : Shape) (s : State) (ws : List ℕ) (w : Write) → Goes shape s ws → sheet.Raises ws w → (item_of w.value).version ≤ LAST_VERSION
+pub write-relabels : (shape : Shape) (s : State) (ws : List ℕ) (w : Write) → Goes shape s ws → sheet.Raises ws w → (item_of w.value).version ≤ LAST_VERSION
     → Ordered shape.items (set ws w.word w.value) s.list → Relabels shape s ws (event w.word w.value)
-relabel shape s ws w g r few o =
+write-relabels shape s ws w g r few o =
     let high : w.word < first_vertex shape = omega (arith, r.high, g.plain_long) in
     let in-words : w.word < length s.words = omega (arith, high, g.long) in
     let same : (k : ℕ) → 1 ≤ k → k < first_vertex shape → get_or (set s.words w.word w.value) k 0 ≡ get_or (set ws w.word w.value) k 0 =
@@ -185,7 +185,8 @@ relabel-all shape s ws (w ∷ writes) g r o few =
     let e = event w.word w.value in
     let vs = set ws w.word w.value in
     let now : sheet.version vs w.word ≡ (item_of w.value).version = ap (λ z. (item_of z).version) (get_or-set_same ws w.word w.value 0 r.0.high) in
-    let one = relabel shape s ws w g r.0 (omega (arith, now, raised-bound vs writes w.word r.1, few w.word)) (ordered-first shape.items s.list vs writes o.1) in
+    let one = write-relabels shape s ws w g r.0 (omega (arith, now, raised-bound vs writes w.word r.1, few w.word))
+    (ordered-first shape.items s.list vs writes o.1) in
     let high : w.word < first_vertex shape = omega (arith, r.0.high, g.plain_long) in
     let is : after_store shape s e ≡ relabelled s e = after-relabel shape s e r.0.low high g.quiet in
     let rest = relabel-all shape (relabelled s e) vs writes one.goes r.1 o.1 few in

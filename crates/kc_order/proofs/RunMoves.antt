@@ -18,7 +18,7 @@ use Rattle.kc_table.specs.Log.{Seen, TableName, event}
 use Rattle.kc_table.specs.State.{State, after_store, after_stores, state_of, entered}
 use Rattle.kc_table.specs.Legal.{FollowsNote, IsVersioned, Legal}
 use Rattle.kc_table.proofs.LegalLogs.{after_stores-append, legal-prefix}
-use Rattle.kc_table.proofs.Listed.{stands}
+use Rattle.kc_table.proofs.Listed.{list-stands}
 use Rattle.kc_table.proofs.Prefixes.{prefix_self, prefix_trans, prefix_either}
 use Rattle.kc_order.specs.Standing.{Between, StandsBefore, list_after}
 use Rattle.kc_order.specs.Writers.{HasRoom, Leaves, Puts, PutsEach, entries_after, unsealed_after, vertex_word_after, with_open}
@@ -55,23 +55,23 @@ record HasPaused (s t : State) : Type 0 where
   entries : t.entries ≡ s.entries
 
 -- Of the stores of one put only the last changes the list, and none the entries.
-pauses : (shape : Shape) (note : NoteWord) (value x last : ℕ) → note_of value ≡ note → IsOfItem note → (relabels : List Event) (s : State)
+put_stores-pause : (shape : Shape) (note : NoteWord) (value x last : ℕ) → note_of value ≡ note → IsOfItem note → (relabels : List Event) (s : State)
     → All (λ e. IsVersioned shape e.word) relabels → ((word : ℕ) → FollowsNote s.note word) → (front back : List Event)
     → front ++ back ≡ relabels ++ event 0 value ∷ event (1 + x) last ∷ [] → HasPaused s (after_stores shape s front) ⊎ (back ≡ [])
-pauses shape note value x last is of relabels s versioned quiet [] back e = inl record { list = refl; entries = refl }
-pauses shape note value x last is of [] s versioned quiet (d ∷ []) back e =
+put_stores-pause shape note value x last is of relabels s versioned quiet [] back e = inl record { list = refl; entries = refl }
+put_stores-pause shape note value x last is of [] s versioned quiet (d ∷ []) back e =
     let here : d ≡ event 0 value = ap (first_or d) e in
     inl (subst (λ (z : Event). HasPaused s (after_store shape s z)) (sym here)
     record { list = refl; entries = ap (λ z. entered z s.entries) is ∙ of.no_entry s.entries })
-pauses shape note value x last is of [] s versioned quiet (d ∷ (f ∷ front)) [] e = inr refl
-pauses shape note value x last is of [] s versioned quiet (d ∷ (f ∷ front)) (b ∷ back) e =
+put_stores-pause shape note value x last is of [] s versioned quiet (d ∷ (f ∷ front)) [] e = inr refl
+put_stores-pause shape note value x last is of [] s versioned quiet (d ∷ (f ∷ front)) (b ∷ back) e =
     absurd (omega (arith, ap length e, length-append front (b ∷ back)))
-pauses shape note value x last is of (r ∷ more) s versioned quiet (d ∷ front) back e =
+put_stores-pause shape note value x last is of (r ∷ more) s versioned quiet (d ∷ front) back e =
     let here : d ≡ r = ap (first_or d) e in
     let low : IsVersioned shape r.word = versioned 0 r (omega arith) in
     let next = relabelled s r in
     let after : after_store shape s d ≡ next = ap (after_store shape s) here ∙ after-relabel shape s r low.0 low.1 quiet in
-    elim (pauses shape note value x last is of more next (λ k z l. versioned (suc k) z (omega (arith, l))) (λ word. tt) front back (ap rest_of e)) [
+    elim (put_stores-pause shape note value x last is of more next (λ k z l. versioned (suc k) z (omega (arith, l))) (λ word. tt) front back (ap rest_of e)) [
       | inl h ↦ inl (subst (λ (z : State). HasPaused s (after_stores shape z front)) (sym after) record { list = h.list; entries = h.entries })
       | inr none ↦ inr none
     ]
@@ -99,7 +99,8 @@ put-pauses old new x p put fits quiet prefix b =
     let s = state_of shape opening old.log in
     let at : state_of shape opening prefix ≡ after_stores shape s front =
     ap (state_of shape opening) (sym b.extends.1) ∙ after_stores-append shape _ old.log front in
-    elim (pauses shape note (note_word note) x put.ends.value (note_of-note_word note fits) (put-of_item x p) put.ends.relabels s put.ends.versioned quiet
+    elim (put_stores-pause shape note (note_word note) x put.ends.value (note_of-note_word note fits) (put-of_item x p)
+    put.ends.relabels s put.ends.versioned quiet
     front back are) [
       | inl h ↦ inl record { list = ap (λ (z : State). z.list) at ∙ h.list; entries = ap (λ (z : State). z.entries) at ∙ h.entries }
       | inr none ↦ inr (sym (append-nil prefix) ∙ (ap (λ z. prefix ++ z) (sym none) ∙ b.extended.1))
@@ -264,7 +265,7 @@ stands-either front back p list d dm dn turn before x y =
 
 -- the list after a legal log has no item twice
 pub list-distinct : (table : TableName) (log : List Event) → Legal table.shape table.opening log → Distinct (list_after table log)
-list-distinct table log legal = (stands table.shape table.opening log legal).listed.distinct
+list-distinct table log legal = (list-stands table.shape table.opening log legal).listed.distinct
 
 -- A run that has moved whole. ------------------------------------------------------------------------------
 
@@ -343,7 +344,7 @@ module _ (old now : Seen) (shape : Shape) (run : List ℕ) (i p : ℕ) (of : old
 
   -- it is an item of the table, and no vertex
   pub next-within : x < shape.items
-  next-within = subst (λ (s : Shape). x < s.items) of ((stands old.table.shape old.table.opening old.log legal-old).listed.within x stood.first)
+  next-within = subst (λ (s : Shape). x < s.items) of ((list-stands old.table.shape old.table.opening old.log legal-old).listed.within x stood.first)
 
   pub next-free : shape.fixed ≤ x
   next-free = is.free x in_run

@@ -17,13 +17,13 @@ use Rattle.kc_table.specs.Log.{Seen, event}
 use Rattle.kc_table.specs.State.{State, after_store, state_of, first_vertex, word_count, entered, unsealed_from, sealed}
 use Rattle.kc_table.specs.Legal as legal
 use Rattle.kc_table.proofs.LegalLogs.{legal-push, legal-holds, state_of-push, state_of-words}
-use Rattle.kc_table.proofs.Listed.{stands}
+use Rattle.kc_table.proofs.Listed.{list-stands}
 use Rattle.kc_table.proofs.Steps.{value_at-other}
 use Rattle.kc_order.specs.Writers.{Leaves, Stores, Tied, entries_after, unsealed_after, vertex_word_after}
 use Rattle.kc_order.proofs.Ending.{ended, after-item}
 use Rattle.kc_order.proofs.Leaving.{leaves-state, state-word}
 use Rattle.kc_order.proofs.Relabelling.{ordered-agree, put_in-quiet, store-quiet}
-use Rattle.kc_order.proofs.Writing.{goes}
+use Rattle.kc_order.proofs.Writing.{call-begins}
 
 -- a store of a word that is no item's and no group's, after which the list and its words are as they were
 pub stored-aside : (seen : Seen) (plain : Plain) (e : Event) → Tied seen plain
@@ -45,7 +45,7 @@ stored-aside seen plain e tied may aside t is t-list t-words stamps quiet =
     λ w low high. ap (λ l. get_or l w 0) t-words ∙ get_or-set_other s.words e.word w e.value 0 (λ k. aside w low high (sym k)) in
     let ordered : Ordered shape.items t.words t.list =
     subst (Ordered shape.items t.words) (sym t-list)
-    (ordered-agree shape.items s.words t.words s.list holds.ordered (stands shape opening seen.log tied.legal).listed.within same) in
+    (ordered-agree shape.items s.words t.words s.list holds.ordered (list-stands shape opening seen.log tied.legal).listed.within same) in
     let lawful : legal.Legal shape opening (seen.log ++ e ∷ []) =
     legal-push shape opening seen.log e tied.legal may
     (subst (legal.Holds shape) (sym is) record { ordered = ordered; stamps = stamps }) in
@@ -136,7 +136,7 @@ sealed_at seen plain v value tied below fits seals =
     let s = state_of shape opening seen.log in
     let w = first_vertex shape + v in
     let e = event w value in
-    let long : length s.words ≡ word_count shape = (goes shape opening seen.log plain tied.legal tied.long tied.words tied.quiet).long in
+    let long : length s.words ≡ word_count shape = (call-begins shape opening seen.log plain tied.legal tied.long tied.words tied.quiet).long in
     let same : (k : ℕ) → w ≡ first_vertex shape + k → v ≡ k = λ k h. omega (arith, h) in
     let may : legal.MayStore shape s e = record {
       there = omega (arith, below);
@@ -214,7 +214,7 @@ vertex-leaves seen plain v value tied below =
     let t = ended shape s e in
     let at : state_of shape opening (seen.log ++ e ∷ []) ≡ t = state_of-push shape opening seen.log e ∙ after-item shape s e (omega arith) in
     let made = leaves-state seen.table (seen.log ++ e ∷ []) t at (λ word. tt) in
-    let long : length s.words ≡ word_count shape = (goes shape opening seen.log plain tied.legal tied.long tied.words tied.quiet).long in
+    let long : length s.words ≡ word_count shape = (call-begins shape opening seen.log plain tied.legal tied.long tied.words tied.quiet).long in
     let here : w - first_vertex shape ≡ v = omega arith in
     let sealed_is : sealed shape w s.unsealed ≡ without v s.unsealed =
     ap (λ b. cond b (without (w - first_vertex shape) s.unsealed) s.unsealed) (le-leb (first_vertex shape) w (omega arith)) ∙ ap (λ k. without k s.unsealed)

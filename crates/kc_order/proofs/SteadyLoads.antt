@@ -4,7 +4,7 @@ use Rattle.std.proofs.lemmas.Bool.{false≢true}
 use Rattle.std.proofs.lemmas.List.{append_assoc, length-append}
 use mathlib.Core.List.{IsPrefix}
 use Rattle.kc_distinct.specs.Lists.{member, Distinct, place_of}
-use Rattle.kc_distinct.proofs.Members.{member-head, member-cases, member-append, member-append_right, cut, Distinct-cut, place_of-cut}
+use Rattle.kc_distinct.proofs.Members.{member-head, member-cases, member-append, member-append_right, member-cut, Distinct-cut, place_of-cut}
 use Rattle.kc_words.specs.ItemWord.{item_of}
 use Rattle.kc_words.specs.GroupWord.{group_of}
 use Rattle.kc_words.specs.Order.{Labels, labels, PairBelow, InOrder}
@@ -12,9 +12,9 @@ use Rattle.kc_words.proofs.Ordering.{Follows-all, InOrder-tail, PairBelow-asym}
 use Rattle.kc_table.specs.declared.view.Event.{Event}
 use Rattle.kc_table.specs.Log.{PassSeen, TableName, value_at, words_after}
 use Rattle.kc_table.specs.Legal.{Legal, IsVersioned}
-use Rattle.kc_table.proofs.Fresh.{fresh}
+use Rattle.kc_table.proofs.Fresh.{word-fresh}
 use Rattle.kc_table.proofs.LegalLogs.{legal-prefix}
-use Rattle.kc_table.proofs.Listed.{stands}
+use Rattle.kc_table.proofs.Listed.{list-stands}
 use Rattle.kc_table.proofs.Prefixes.{prefix_self, prefix_trans}
 use Rattle.kc_order.specs.Collected.{Collected, IsCollect, Loaded, Held, AllHeld, PairLess, group_in, words_of}
 use Rattle.kc_order.specs.Standing.{list_after, FindsSame, LoadsWord, StandsBefore}
@@ -41,12 +41,12 @@ pair-trans a x y z h k =
 pub stands-first : (a : Labels) (x y : ℕ) (list : List ℕ) → InOrder (PairBelow a) list → Distinct list → member x list ≡ true
     → member y list ≡ true → x ≢ y → PairBelow a x y → place_of x list < place_of y list
 stands-first a x y list order distinct x-in y-in differ less =
-    let c = cut y list y-in in
+    let c = member-cut y list y-in in
     let apart = Distinct-cut y c.front c.back (subst Distinct c.is distinct) in
     let at-y : place_of y list ≡ length c.front = ap (place_of y) c.is ∙ place_of-cut y c.front c.back apart.0 in
     elim (member-append x c.front (y ∷ c.back) (ap (member x) (sym c.is) ∙ x-in)) [
       | inl in-front ↦
-          let d = cut x c.front in-front in
+          let d = member-cut x c.front in-front in
           let split : list ≡ d.front ++ x ∷ (d.back ++ y ∷ c.back) = c.is ∙ (ap (λ l. l ++ y ∷ c.back) d.is ∙ append_assoc d.front (x ∷ d.back) (y ∷ c.back)) in
           let apart' = Distinct-cut x d.front (d.back ++ y ∷ c.back) (subst Distinct split distinct) in
           let at-x : place_of x list ≡ length d.front = ap (place_of x) split ∙ place_of-cut x d.front (d.back ++ y ∷ c.back) apart'.0 in
@@ -54,7 +54,7 @@ stands-first a x y list order distinct x-in y-in differ less =
       | inr in-back ↦ elim (member-cases x y c.back in-back) [
         | inl e ↦ absurd (differ e)
         | inr k ↦
-            let d = cut x c.back k in
+            let d = member-cut x c.back k in
             let split : list ≡ (c.front ++ y ∷ d.front) ++ x ∷ d.back =
             c.is ∙ (ap (λ l. c.front ++ y ∷ l) d.is ∙ sym (append_assoc c.front (y ∷ d.front) (x ∷ d.back))) in
             absurd (PairBelow-asym a x y less
@@ -72,7 +72,7 @@ held_between table l m old new versioned held a begun b one =
     let m_q : IsPrefix m q = prefix_trans m old.log q b one.longer in
     let legal : Legal table.shape table.opening q = subst (λ (t : TableName). Legal t.shape t.opening q) is one.legal in
     let again : l.value ≡ value_at table.opening q l.word = one.held ∙ ap (λ (t : TableName). value_at t.opening q l.word) is in
-    held ∙ sym (fresh table.shape table.opening l.word l.prefix m q versioned a m_q (legal-prefix table.shape table.opening m q m_q legal) legal
+    held ∙ sym (word-fresh table.shape table.opening l.word l.prefix m q versioned a m_q (legal-prefix table.shape table.opening m q m_q legal) legal
     (sym held ∙ again))
 
 -- all four values were their words' after the collect's last prefix
@@ -130,20 +130,20 @@ stood_at table m x y ix iy gx gy legal differ x-in y-in x-some y-some ix-is iy-i
     record {
       first = x-here.0;
       second = y-here.0;
-      before = stands-first a x y (list_after table m) o.pairs (stands table.shape table.opening m legal).listed.distinct x-here.0 y-here.0 differ below;
+      before = stands-first a x y (list_after table m) o.pairs (list-stands table.shape table.opening m legal).listed.distinct x-here.0 y-here.0 differ below;
     }
 
 -- of two items of a list in order, one has the lesser pair
 pub one-less : (a : Labels) (x y : ℕ) (list : List ℕ) → InOrder (PairBelow a) list → member x list ≡ true → member y list ≡ true → x ≢ y
     → PairBelow a x y ⊎ PairBelow a y x
 one-less a x y list order x-in y-in differ =
-    let c = cut y list y-in in
+    let c = member-cut y list y-in in
     elim (member-append x c.front (y ∷ c.back) (ap (member x) (sym c.is) ∙ x-in)) [
       | inl in-front ↦ inl (in_order-before (PairBelow a) (pair-trans a) x y c.front c.back (subst (InOrder (PairBelow a)) c.is order) in-front)
       | inr in-back ↦ elim (member-cases x y c.back in-back) [
         | inl e ↦ absurd (differ e)
         | inr k ↦
-            let d = cut x c.back k in
+            let d = member-cut x c.back k in
             let split : list ≡ (c.front ++ y ∷ d.front) ++ x ∷ d.back =
             c.is ∙ (ap (λ l. c.front ++ y ∷ l) d.is ∙ sym (append_assoc c.front (y ∷ d.front) (x ∷ d.back))) in
             inr
@@ -194,6 +194,6 @@ stood_after c h held not_less =
       first = y-here.0;
       second = x-here.0;
       before =
-          stands-first a c.y c.x (list_after c.table m) o.pairs (stands c.table.shape c.table.opening m h.legal).listed.distinct y-here.0
+          stands-first a c.y c.x (list_after c.table m) o.pairs (list-stands c.table.shape c.table.opening m h.legal).listed.distinct y-here.0
           x-here.0 (λ e. h.differ (sym e)) less;
     }

@@ -24,13 +24,13 @@ use Rattle.kc_table.specs.Log.{TableName, Seen, event, value_at}
 use Rattle.kc_table.specs.State.{State, after_stores, state_of, first_vertex, word_count, moved, entered}
 use Rattle.kc_table.specs.Legal as legal
 use Rattle.kc_table.proofs.LegalLogs.{legal-push, legal-prefix, legal-last, legal-opens, legal-holds, state_of-push, state_of-words, after_stores-append}
-use Rattle.kc_table.proofs.Listed.{stands}
+use Rattle.kc_table.proofs.Listed.{list-stands}
 use Rattle.kc_table.proofs.Steps.{length-words_after}
 use Rattle.kc_order.specs.Standing.{list_after}
 use Rattle.kc_order.specs.Writers.{AreRaised, HasVersionsLeft, EndsWith, Puts, Takes, Tied, stores_of, front_of, end_of, log_of_front, log_of_note}
 use Rattle.kc_order.specs.Writers.{log_of_all, AreLegal}
 use Rattle.kc_order.proofs.Relabelling.{Goes, RelabelsAll, relabel-all}
-use Rattle.kc_order.proofs.Ending.{Ends, Ended, ends}
+use Rattle.kc_order.proofs.Ending.{Ends, Ended, put_or_take-ends}
 use Rattle.kc_order.proofs.Leaving.{put-leaves, take-leaves}
 
 -- Lists of writes. -------------------------------------------------------------------------------
@@ -145,13 +145,13 @@ module _ (shape : Shape) (opening : List ℕ) where
       (subst (λ s. legal.LegalFrom shape s es) (sym (state_of-push shape opening log e)) k.2))
 
   -- what stays between the stores of a call holds where it begins
-  pub goes : (log : List Event) (plain : Plain) → legal.Legal shape opening log → length plain.words ≡ first_vertex shape
+  pub call-begins : (log : List Event) (plain : Plain) → legal.Legal shape opening log → length plain.words ≡ first_vertex shape
       → ((w : ℕ) → legal.IsVersioned shape w → get_or plain.words w 0 ≡ value_at opening log w)
       → ((w : ℕ) → legal.FollowsNote (state_of shape opening log).note w) → Goes shape (state_of shape opening log) plain.words
-  goes log plain h long words quiet = record {
+  call-begins log plain h long words quiet = record {
     long = ap length (state_of-words shape opening log) ∙ (length-words_after opening log ∙ (legal-opens shape opening log h).one_each);
     plain_long = long;
-    listed = (stands shape opening log h).listed;
+    listed = (list-stands shape opening log h).listed;
     words = λ w low high. ap (λ l. get_or l w 0) (state_of-words shape opening log) ∙ sym (words w (low, high));
     stamps = (legal-holds shape opening log h).stamps;
     quiet = quiet;
@@ -174,14 +174,14 @@ MayAfter shape s n =
     → legal.MayNote shape t n
 
 -- the writes of a call and its note leave a legal log, to which the new plain list is tied
-pub wrote : (seen : Seen) (old new : Plain) (n : NoteWord) (x : ℕ) (writes : List Write) → Tied seen old → IsFitting n → writes ≡ new.writes
+pub call-writes : (seen : Seen) (old new : Plain) (n : NoteWord) (x : ℕ) (writes : List Write) → Tied seen old → IsFitting n → writes ≡ new.writes
     → new.items ≡ old.items → new.fixed ≡ old.fixed
     → Written old.items old.list new.list x old.words new.words new.writes → ((w : ℕ) → sheet.version new.words w ≤ LAST_VERSION)
     → x < seen.table.shape.items → ((y : ℕ) → member y new.list ≡ true → y < seen.table.shape.items)
     → MayAfter seen.table.shape (state_of seen.table.shape seen.table.opening seen.log) n → ((entries : List Entry) → entered n entries ≡ entries)
     → legal.FollowsNote n (1 + x) → moved n (1 + x) old.list ≡ new.list → note_word n < 2 ^ 64
     → Wrote seen new (note_word n) x writes
-wrote seen old new n x writes tied fitting same items fixed w few x-in within may no-entry follows after fits =
+call-writes seen old new n x writes tied fitting same items fixed w few x-in within may no-entry follows after fits =
     let shape = seen.table.shape in
     let opening = seen.table.opening in
     let log = seen.log in
@@ -205,7 +205,7 @@ wrote seen old new n x writes tied fitting same items fixed w few x-in within ma
             ap (λ z. (item_of z).version) (get_or-set_other ws w.last.word k w.last.value 0 (λ e. ne (sym e))),
           )
     ] in
-    let begun = goes shape opening log old tied.legal tied.long tied.words tied.quiet in
+    let begun = call-begins shape opening log old tied.legal tied.long tied.words tied.quiet in
     let along : sheet.OrderedAlong shape.items s.list old.words w.front =
     subst (λ (z : ℕ × List ℕ). sheet.OrderedAlong z.0 z.1 old.words w.front) (λ i. (tied.items i, tied.list i)) w.along in
     let r : RelabelsAll shape s old.words w.front = relabel-all shape s old.words w.front begun parts.0 along front-few in
@@ -232,7 +232,7 @@ wrote seen old new n x writes tied fitting same items fixed w few x-in within ma
       now = subst (λ (z : ℕ × List ℕ). Ordered z.0 z.1 new.list) (λ i. (tied.items i, new-words i)) w.now;
       after_is = ap (moved n (1 + x)) (t-list ∙ sym tied.list) ∙ after;
     } in
-    let done : Ended shape opening log1 v x w.last ws new.list = ends shape opening log1 ws n v x w.last new.list legal1 e within in
+    let done : Ended shape opening log1 v x w.last ws new.list = put_or_take-ends shape opening log1 ws n v x w.last new.list legal1 e within in
     let fronts : log_of_front log writes ≡ log1 = ap (λ z. log ++ stores_of z) (ap front_of are ∙ front-snoc w.front w.last) in
     let notes : log_of_note log writes v ≡ log1 ++ event 0 v ∷ [] = ap (λ z. z ++ event 0 v ∷ []) fronts in
     let lasts : stores_of (end_of writes) ≡ event (1 + x) w.last.value ∷ [] =
@@ -309,7 +309,7 @@ plain-highest seen plain tied left =
     omega (arith, h)
 
 -- a put, as the writer makes it
-pub put : (seen : Seen) (old new : Plain) (x p : ℕ) (writes : List Write) → Tied seen old → HasVersionsLeft seen.table seen.log
+pub writer-puts : (seen : Seen) (old new : Plain) (x p : ℕ) (writes : List Write) → Tied seen old → HasVersionsLeft seen.table seen.log
     → x < seen.table.shape.items → member p (list_after seen.table seen.log) ≡ true → x ≢ p
     → (x < seen.table.shape.fixed → legal.MayPut seen.table.shape (state_of seen.table.shape seen.table.opening seen.log) x)
     → writes ≡ new.writes → new.items ≡ old.items → new.fixed ≡ old.fixed → new.list ≡ right_after x p (without x old.list)
@@ -317,10 +317,10 @@ pub put : (seen : Seen) (old new : Plain) (x p : ℕ) (writes : List Write) → 
     → sheet.highest_of new.words ≤ sheet.highest_of old.words + 2
     → Wrote seen new (note_word (Put x p)) x writes
 unfolding note_word
-put seen old new x p writes tied left x-in p-in differ section same items fixed list w highest =
+writer-puts seen old new x p writes tied left x-in p-in differ section same items fixed list w highest =
     let shape = seen.table.shape in
     let s = state_of shape seen.table.opening seen.log in
-    let listed = (stands shape seen.table.opening seen.log tied.legal).listed in
+    let listed = (list-stands shape seen.table.opening seen.log tied.legal).listed in
     let p-below : p < shape.items = listed.within p p-in in
     let few : (k : ℕ) → sheet.version new.words k ≤ LAST_VERSION = λ k. omega (arith, version-highest new.words k, highest, plain-highest seen old tied left) in
     let within : (y : ℕ) → member y new.list ≡ true
@@ -336,27 +336,27 @@ put seen old new x p writes tied left x-in p-in differ section same items fixed 
     ) in
     let moves : moved (Put x p) (1 + x) old.list ≡ new.list =
     ap (λ b. cond b (right_after x p (without x old.list)) old.list) (eq-eqb (1 + x) (1 + x) refl) ∙ sym list in
-    wrote seen old new (Put x p) x writes tied (omega (arith, x-in, shape.few_items), omega (arith, p-below, shape.few_items)) same items
+    call-writes seen old new (Put x p) x writes tied (omega (arith, x-in, shape.few_items), omega (arith, p-below, shape.few_items)) same items
     fixed w few x-in within may (λ _. refl) refl moves (omega (arith, x-in, p-below, shape.few_items))
 
 -- a take, as the writer makes it
-pub taken : (seen : Seen) (old new : Plain) (x : ℕ) (writes : List Write) → Tied seen old → HasVersionsLeft seen.table seen.log
+pub writer-takes : (seen : Seen) (old new : Plain) (x : ℕ) (writes : List Write) → Tied seen old → HasVersionsLeft seen.table seen.log
     → member x (list_after seen.table seen.log) ≡ true → seen.table.shape.fixed ≤ x
     → writes ≡ new.writes → new.items ≡ old.items → new.fixed ≡ old.fixed → new.list ≡ without x old.list
     → Written old.items old.list new.list x old.words new.words new.writes → sheet.highest_of new.words ≤ sheet.highest_of old.words + 1
     → Wrote seen new (note_word (Take x)) x writes
 unfolding note_word
-taken seen old new x writes tied left x-in free same items fixed list w highest =
+writer-takes seen old new x writes tied left x-in free same items fixed list w highest =
     let shape = seen.table.shape in
     let s = state_of shape seen.table.opening seen.log in
-    let listed = (stands shape seen.table.opening seen.log tied.legal).listed in
+    let listed = (list-stands shape seen.table.opening seen.log tied.legal).listed in
     let x-below : x < shape.items = listed.within x x-in in
     let few : (k : ℕ) → sheet.version new.words k ≤ LAST_VERSION = λ k. omega (arith, version-highest new.words k, highest, plain-highest seen old tied left) in
     let within : (y : ℕ) → member y new.list ≡ true → y < shape.items =
     λ y m. listed.within y (ap (member y) (sym tied.list) ∙ (member-without y x old.list (ap (member y) (sym list) ∙ m)).0) in
     let may : MayAfter shape s (Take x) = λ t t-list t-entries t-stamp. (ap (member x) t-list ∙ x-in, free) in
     let moves : moved (Take x) (1 + x) old.list ≡ new.list = ap (λ b. cond b (without x old.list) old.list) (eq-eqb (1 + x) (1 + x) refl) ∙ sym list in
-    wrote seen old new (Take x) x writes tied (omega (arith, x-below, shape.few_items)) same items fixed w few x-below within may
+    call-writes seen old new (Take x) x writes tied (omega (arith, x-below, shape.few_items)) same items fixed w few x-below within may
     (λ _. refl) refl moves (omega (arith, x-below, shape.few_items))
 
 -- a put, as the writer makes it, where its seat is seen as `now`, of the table `words`
@@ -370,7 +370,7 @@ pub put-at : (seen now : Seen) (words : TableName) (old new : Plain) (x p : ℕ)
     → Wrote seen new (note_word (Put x p)) x writes
 put-at seen now words old new x p writes is table tied left x-in p-in differ section =
     let shape : seen.table.shape ≡ words.shape = ap (λ (t : TableName). t.shape) (ap (λ (z : Seen). z.table) is ∙ table) in
-    put seen old new x p writes tied (subst (λ (z : Seen). HasVersionsLeft z.table z.log) (sym is) left)
+    writer-puts seen old new x p writes tied (subst (λ (z : Seen). HasVersionsLeft z.table z.log) (sym is) left)
     (subst (λ (z : Shape). x < z.items) (sym shape) x-in) (ap (λ (z : Seen). member p (list_after z.table z.log)) is ∙ p-in) differ
     (subst (λ (z : Shape × Seen). x < z.0.fixed → legal.MayPut z.0 (state_of z.1.table.shape z.1.table.opening z.1.log) x)
     (λ i. (sym shape i, sym is i)) section)
@@ -384,7 +384,7 @@ pub taken-at : (seen now : Seen) (words : TableName) (old new : Plain) (x : ℕ)
     → Wrote seen new (note_word (Take x)) x writes
 taken-at seen now words old new x writes is table tied left x-in free =
     let shape : seen.table.shape ≡ words.shape = ap (λ (t : TableName). t.shape) (ap (λ (z : Seen). z.table) is ∙ table) in
-    taken seen old new x writes tied (subst (λ (z : Seen). HasVersionsLeft z.table z.log) (sym is) left)
+    writer-takes seen old new x writes tied (subst (λ (z : Seen). HasVersionsLeft z.table z.log) (sym is) left)
     (ap (λ (z : Seen). member x (list_after z.table z.log)) is ∙ x-in) (subst (λ (z : Shape). z.fixed ≤ x) (sym shape) free)
 
 -- a plain list's greatest version leaves room where the table's words do
@@ -397,14 +397,14 @@ pub put-fits : (now : Seen) (words : TableName) (x p : ℕ) → legal.Legal now.
     → member p (list_after now.table now.log) ≡ true → (x < 2 ^ ITEM_BITS) × (p < 2 ^ ITEM_BITS)
 put-fits now words x p h table x-in p-in =
     let items = ap (λ (t : TableName). t.shape.items) table in
-    let p-below = (stands now.table.shape now.table.opening now.log h).listed.within p p-in in
+    let p-below = (list-stands now.table.shape now.table.opening now.log h).listed.within p p-in in
     (omega (arith, x-in, words.shape.few_items), omega (arith, p-below, items, words.shape.few_items))
 
 -- the number of an item in the list fits a note
 pub item-fits : (now : Seen) (x : ℕ) → legal.Legal now.table.shape now.table.opening now.log → member x (list_after now.table now.log) ≡ true
     → x < 2 ^ ITEM_BITS
 item-fits now x h x-in =
-    let below = (stands now.table.shape now.table.opening now.log h).listed.within x x-in in omega (arith, below, now.table.shape.few_items)
+    let below = (list-stands now.table.shape now.table.opening now.log h).listed.within x x-in in omega (arith, below, now.table.shape.few_items)
 
 -- no word of a plain list has been written more than twice
 abbrev pub AtMostTwice : Plain → Plain → Type 0
@@ -449,7 +449,7 @@ pub put-list : (seen now : Seen) (old new : Plain) (x p : ℕ) (writes : List Wr
     → now ≡ record { table = seen.table; log = log_of_all seen.log writes (note_word (Put x p)) } → AtMostTwice old new → Puts seen now x p
 put-list seen now old new x p writes tied w x-in p-in list is twice =
     let e = w.ends_ (Put x p) refl now is in
-    let p-below = (stands seen.table.shape seen.table.opening seen.log tied.legal).listed.within p p-in in
+    let p-below = (list-stands seen.table.shape seen.table.opening seen.log tied.legal).listed.within p p-in in
     let few = seen.table.shape.few_items in
     record {
       ends = e;
@@ -464,7 +464,7 @@ pub taken-list : (seen now : Seen) (old new : Plain) (x : ℕ) (writes : List Wr
     → now ≡ record { table = seen.table; log = log_of_all seen.log writes (note_word (Take x)) } → AtMostTwice old new → Takes seen now x
 taken-list seen now old new x writes tied w x-in list is twice =
     let e = w.ends_ (Take x) refl now is in
-    let x-below = (stands seen.table.shape seen.table.opening seen.log tied.legal).listed.within x x-in in
+    let x-below = (list-stands seen.table.shape seen.table.opening seen.log tied.legal).listed.within x x-in in
     record {
       ends = e;
       list = ap (λ (z : Seen). list_after z.table z.log) is ∙ (w.list ∙ (list ∙ ap (without x) tied.list));

@@ -53,8 +53,8 @@ times_more y a b le =
     in_b m = let l = below-member y a m in omega arith
 
 -- at a queue that is open and empty, its first consumer has all parts
-pub begins : Dealt [] (hand PARTS 0 [] ∷ [])
-begins = (
+pub consumer-begins : Dealt [] (hand PARTS 0 [] ∷ [])
+consumer-begins = (
   0,
   0,
   record {
@@ -83,8 +83,8 @@ own_share v next left port items views part d at =
     omega (arith, total_one (times_in y) views port v at, d.taken y, times_more y next v.filled (omega arith)))
 
 -- what a consumer with a part has taken is its share
-pub owns : (port : ℕ) (v : Hand) → 0 < v.parts → Learns Dealt port v (OwnsShare v)
-owns port v part items views d at = own_share v d.0 d.1 port items views part d.2 at
+pub consumer-owns : (port : ℕ) (v : Hand) → 0 < v.parts → Learns Dealt port v (OwnsShare v)
+consumer-owns port v part items views d at = own_share v d.0 d.1 port items views part d.2 at
 
 -- all that was taken, where one has all parts
 all_taken : (v : Hand) (next left port : ℕ) (items : List ℕ) (views : List Hand) → v.parts ≡ PARTS → IsDealt next left items views
@@ -114,8 +114,8 @@ holds_all port v part items views d at whole nothing =
     first_is (suc n) none = absurd (omega (arith, none n, count-yes (eqb n) n (below n) (eq-eqb n n refl)))
 
 -- the next number joins the queue
-pub puts : (n port : ℕ) (v : Hand) (x : ℕ) → v.parts ≡ PARTS → x ≡ v.filled → Pushes Dealt n port v x (λ w. w ≡ hand v.parts (v.filled + 1) v.taken)
-puts n port v x whole is items views room d at =
+pub number-joins : (n port : ℕ) (v : Hand) (x : ℕ) → v.parts ≡ PARTS → x ≡ v.filled → Pushes Dealt n port v x (λ w. w ≡ hand v.parts (v.filled + 1) v.taken)
+number-joins n port v x whole is items views room d at =
     let r = d.2 in
     let w : Hand = hand v.parts (v.filled + 1) v.taken in
     let filled : v.filled ≡ d.0 + d.1 = r.agree port v at (omega arith) in (
@@ -136,8 +136,8 @@ puts n port v x whole is items views room d at =
     )
 
 -- the first number leaves it
-pub takes : (port : ℕ) (v : Hand) → 0 < v.parts → Pops Dealt port v (TakesNext v)
-takes port v part x items views d at =
+pub number-leaves : (port : ℕ) (v : Hand) → 0 < v.parts → Pops Dealt port v (TakesNext v)
+number-leaves port v part x items views d at =
     let r = d.2 in
     let w : Hand = hand v.parts v.filled (v.taken ++ x ∷ []) in
     let f = numbers_first d.0 d.1 x items r.held in
@@ -173,8 +173,8 @@ takes port v part x items views d at =
         omega arith
 
 -- a part is split off
-pub forks : (port : ℕ) (v : Hand) → 1 < v.parts → Forks Dealt port v (hand (v.parts - 1) v.filled v.taken) (hand 1 v.filled [])
-forks port v more items views d at =
+pub part-forks : (port : ℕ) (v : Hand) → 1 < v.parts → Forks Dealt port v (hand (v.parts - 1) v.filled v.taken) (hand 1 v.filled [])
+part-forks port v more items views d at =
     let r = d.2 in
     let left : Hand = hand (v.parts - 1) v.filled v.taken in
     let right : Hand = hand 1 v.filled [] in
@@ -194,9 +194,9 @@ forks port v more items views d at =
     )
 
 -- one takes over what another has
-pub merges : (port : ℕ) (v : Hand) (other : ℕ) (u : Hand) → 0 < v.parts
+pub parts-merge : (port : ℕ) (v : Hand) (other : ℕ) (u : Hand) → 0 < v.parts
     → Merges Dealt port v other u (hand (v.parts + u.parts) v.filled (v.taken ++ u.taken)) (hand 0 0 [])
-merges port v other u part items views d at apart there =
+parts-merge port v other u part items views d at apart there =
     let r = d.2 in
     let both : Hand = hand (v.parts + u.parts) v.filled (v.taken ++ u.taken) in
     let spent : Hand = hand 0 0 [] in

@@ -37,10 +37,10 @@ had_looked : (b f l : Bool) → b ≡ (not f && l) → b ≡ true → l ≡ true
 had_looked b f l e h = grind arith
 
 -- a visited vertex of which the test says that it has looked at `x` has not fallen, and it has looked there
-pub looked : (update : Update) (shown : Shown) (f : Falling) (x y : ℕ) (v : Visit) (b : Bool) → IsTidyFalling update shown f
+pub visited-looked : (update : Update) (shown : Shown) (f : Falling) (x y : ℕ) (v : Visit) (b : Bool) → IsTidyFalling update shown f
     → value_of f.visits y ≡ Some v → b ≡ (not (is_some v.fallen) && ltb x v.count.bound) → b ≡ true
     → (member y f.list.items ≡ false) × (ltb x v.count.bound ≡ true)
-looked update shown f x y v b tidy kept test passes = (
+visited-looked update shown f x y v b tidy kept test passes = (
   fallen-out update shown f tidy y (ap fallen_in kept ∙ not_fallen b (is_some v.fallen) (ltb x v.count.bound) test passes),
   had_looked b (is_some v.fallen) (ltb x v.count.bound) test passes,
 )
@@ -62,10 +62,10 @@ pub record Comes (update : Update) (s : Ranked) (turn x y : ℕ) (row fall : Lis
       → (turn < length fall) × (adjacent (without_edge s.graph update.u update.v) (get_or fall turn 0) y ≡ true)
 
 -- that is so of each neighbour that a list tells, if it is not joined by the edge that goes
-pub comes : (update : Update) (a : Answers) (s : Ranked) (turn x y : ℕ) (row fall : List ℕ) → Agrees a s → has_list a x ≡ true
+pub neighbour-comes : (update : Update) (a : Answers) (s : Ranked) (turn x y : ℕ) (row fall : List ℕ) → Agrees a s → has_list a x ≡ true
     → member y (list_of a x) ≡ true → is_removed update x y ≡ false → turn < length fall → get_or fall turn 0 ≡ x
     → Comes update s turn x y row fall
-comes update a s turn x y row fall agrees read m stays l at =
+neighbour-comes update a s turn x y row fall agrees read m stays l at =
     let left : adjacent (without_edge s.graph update.u update.v) x y ≡ true =
     edge-left update s x y stays (listed-adjacent a s x y agrees read m) in
     record {

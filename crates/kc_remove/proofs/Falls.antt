@@ -92,14 +92,14 @@ found-same s looked fall turn y l none =
     ])
 
 -- what is known is kept where one vertex was counted anew, to which the present turn may have come; it may be too weak now
-pub renew : (s : Search) (fall : List ℕ) (turn : ℕ) (part part' visited : ℕ → Bool) (sup : ℕ → ℕ) (looked : ℕ → ℕ → Bool)
+pub known-renewed : (s : Search) (fall : List ℕ) (turn : ℕ) (part part' visited : ℕ → Bool) (sup : ℕ → ℕ) (looked : ℕ → ℕ → Bool)
     → Cascade s fall turn part visited sup looked nobody
     → (y : ℕ) → OnLevel s y → (visited' : ℕ → Bool) (sup' : ℕ → ℕ) (looked' : ℕ → ℕ → Bool) → visited' y ≡ true
     → sup' y ≡ found s (looked' y) (take (taken part' turn y) fall) y
     → (part' y ≡ true → (turn < length fall) × (s.adj (get_or fall turn 0) y ≡ true))
     → ((z : ℕ) → z ≢ y → (visited' z ≡ visited z) × (sup' z ≡ sup z) × (looked' z ≡ looked z) × (part' z ≡ part z))
     → Cascade s fall turn part' visited' sup' looked' (λ z. eqb z y)
-renew s fall turn part part' visited sup looked c y oy visited' sup' looked' v n came others =
+known-renewed s fall turn part part' visited sup looked c y oy visited' sup' looked' v n came others =
     let grows : (z : ℕ) → visited z ≡ true → visited' z ≡ true = λ z m. elim (cases_eq z y) [
       | inl e ↦ ap visited' e ∙ v
       | inr ne ↦ (others z ne).0 ∙ m
@@ -130,14 +130,14 @@ renew s fall turn part part' visited sup looked c y oy visited' sup' looked' v n
     }
 
 -- what is known is kept where the present turn comes to vertices that lose nothing by it
-pub pass : (s : Search) (fall : List ℕ) (turn : ℕ) (part part' visited : ℕ → Bool) (sup : ℕ → ℕ) (looked : ℕ → ℕ → Bool)
+pub known-passed : (s : Search) (fall : List ℕ) (turn : ℕ) (part part' visited : ℕ → Bool) (sup : ℕ → ℕ) (looked : ℕ → ℕ → Bool)
     → Cascade s fall turn part visited sup looked nobody
     → ((z : ℕ) → visited z ≡ true → member z fall ≡ false
     → found s (looked z) (take (taken part turn z) fall) z ≡ found s (looked z) (take (taken part' turn z) fall) z)
     → ((z : ℕ) → part' z ≡ true → (turn < length fall) × (s.adj (get_or fall turn 0) z ≡ true))
     → ((z : ℕ) → part' z ≡ true → OnLevel s z → visited z ≡ true)
     → Cascade s fall turn part' visited sup looked nobody
-pass s fall turn part part' visited sup looked c same came seen_all = record {
+known-passed s fall turn part part' visited sup looked c same came seen_all = record {
   fall_level = c.fall_level;
   fall_visited = c.fall_visited;
   distinct = c.distinct;
@@ -152,10 +152,10 @@ pass s fall turn part part' visited sup looked c same came seen_all = record {
 }
 
 -- a vertex with enough support stays
-pub stay : (s : Search) (fall : List ℕ) (turn : ℕ) (part visited : ℕ → Bool) (sup : ℕ → ℕ) (looked : ℕ → ℕ → Bool) (y : ℕ)
+pub supported-stays : (s : Search) (fall : List ℕ) (turn : ℕ) (part visited : ℕ → Bool) (sup : ℕ → ℕ) (looked : ℕ → ℕ → Bool) (y : ℕ)
     → Cascade s fall turn part visited sup looked (λ z. eqb z y) → s.level ≤ sup y
     → Cascade s fall turn part visited sup looked nobody
-stay s fall turn part visited sup looked y c le = record {
+supported-stays s fall turn part visited sup looked y c le = record {
   fall_level = c.fall_level;
   fall_visited = c.fall_visited;
   distinct = c.distinct;
@@ -248,9 +248,9 @@ turn_over s fall turn part visited sup looked sides c l all =
     }
 
 -- before anyone was visited nobody has fallen
-pub calm : (s : Search) (visited : ℕ → Bool) (sup : ℕ → ℕ) (looked : ℕ → ℕ → Bool) → ((y : ℕ) → visited y ≡ false)
+pub unvisited-calm : (s : Search) (visited : ℕ → Bool) (sup : ℕ → ℕ) (looked : ℕ → ℕ → Bool) → ((y : ℕ) → visited y ≡ false)
     → Cascade s [] 0 nobody visited sup looked nobody
-calm s visited sup looked none = record {
+unvisited-calm s visited sup looked none = record {
   fall_level = λ x m. absurd (false≢true m);
   fall_visited = λ x m. absurd (false≢true m);
   distinct = tt;

@@ -73,9 +73,9 @@ pub record StandsAt (size y i z : ℕ) (row : List ℕ) : Type 0 where
   pub first : member z (take i row) ≡ false
 
 -- the vertex that a view tells at a place of a list that it told at first stands there
-pub stands : (first shown : Shown) (y i : ℕ) (told : List ℕ) → GoesOn first shown → KeepsLists shown → has_list first.kept y ≡ true
+pub listed-stands : (first shown : Shown) (y i : ℕ) (told : List ℕ) → GoesOn first shown → KeepsLists shown → has_list first.kept y ≡ true
     → told ≡ list_of shown.kept y → i < length (list_of first.kept y) → StandsAt shown.size y i (get_or told i 0) (list_of first.kept y)
-stands first shown y i told goes lists read is l =
+listed-stands first shown y i told goes lists read is l =
     let row : List ℕ = list_of first.kept y in
     let same : list_of shown.kept y ≡ row = same_list first.kept shown.kept y goes.further read in
     let list : IsListOf shown.size y row =

@@ -26,7 +26,7 @@ use Rattle.kc_remove.specs.Falling.{is_visited, support_at, bound_at, has_looked
 use Rattle.kc_remove.specs.declared.falling.Count.{Count}
 use Rattle.kc_remove.specs.declared.falling.Falling.{Falling}
 use Rattle.kc_remove.specs.declared.falling.Visit.{Visit}
-use Rattle.kc_remove.proofs.Falls.{found-one, found-same, taken-yes, taken-no, renew, pass, stay, fall_one, turn_over}
+use Rattle.kc_remove.proofs.Falls.{found-one, found-same, taken-yes, taken-no, known-renewed, known-passed, supported-stays, fall_one, turn_over}
 
 -- the ends of an edge are two vertices
 ends-differ : (update : Update) → update.u ≢ update.v
@@ -45,11 +45,11 @@ not_low : (a b : ℕ) → ltb a b ≡ false → b ≤ a
 not_low a b h = grind arith
 
 -- a vertex that was counted anew is settled: it stays, or it has looked at all its neighbours and falls
-settled : (q : Search) (turn : ℕ) (part : ℕ → Bool) (y : ℕ) (count : Count) (old new : Falling) → Settles q.level y count old new
+recounted-settled : (q : Search) (turn : ℕ) (part : ℕ → Bool) (y : ℕ) (count : Count) (old new : Falling) → Settles q.level y count old new
     → member y old.list.items ≡ false → (count.support < q.level → (z : ℕ) → z < q.size → q.adj y z ≡ true → ltb z count.bound ≡ true)
     → Cascade q old.list.items turn part (is_visited new) (support_at new) (has_looked new) (λ z. eqb z y)
     → Cascade q new.list.items turn part (is_visited new) (support_at new) (has_looked new) nobody
-settled q turn part y count old new s out all c =
+recounted-settled q turn part y count old new s out all c =
     let here : support_at new y ≡ count.support = ap (λ (o : Option Visit). (count_in o).support) s.visit in
     let bound : bound_at new y ≡ count.bound = ap (λ (o : Option Visit). (count_in o).bound) s.visit in
     let v : is_visited new y ≡ true = ap is_some s.visit in
@@ -64,7 +64,7 @@ settled q turn part y count old new s out all c =
           let le : q.level ≤ count.support = not_low count.support q.level high in
           let same : new.list.items ≡ old.list.items = s.list ∙ ap (λ b. cond b (old.list.items ++ y ∷ []) old.list.items) high in
           subst (λ (xs : List ℕ). Cascade q xs turn part (is_visited new) (support_at new) (has_looked new) nobody) (sym same)
-          (stay q old.list.items turn part (is_visited new) (support_at new) (has_looked new) y c (omega (arith, here, le)))
+          (supported-stays q old.list.items turn part (is_visited new) (support_at new) (has_looked new) y c (omega (arith, here, le)))
     ]
 
 -- an edge that is not the removed one is an edge of the graph without that
@@ -115,7 +115,7 @@ pass-by update level s turn x y row f l at only c =
     let same : (z : ℕ) → later z ≡ part z
     → found q (has_looked f z) (take (taken part turn z) fall) z ≡ found q (has_looked f z) (take (taken later turn z) fall) z =
     λ z e. ap (λ (b : Bool). found q (has_looked f z) (take (cond b (turn + 1) turn) fall) z) (sym e) in
-    pass q fall turn part later (is_visited f) (support_at f) (has_looked f) c
+    known-passed q fall turn part later (is_visited f) (support_at f) (has_looked f) c
     (λ z v out. elim (cases_eq z y) [
       | inr ne ↦ same z (come-other update s x y z row ne)
       | inl e ↦ elim (cases_Bool (now x y)) [
@@ -157,8 +157,8 @@ counted-falls update level s turn turns part later y count old new h out oy is w
     let sup : support_at new y ≡ count.support = ap (λ (o : Option Visit). (count_in o).support) h.visit in
     let bound : bound_at new y ≡ count.bound = ap (λ (o : Option Visit). (count_in o).bound) h.visit in
     let looked : Option Visit → ℕ → Bool = λ o x. ltb x (count_in o).bound in
-    settled q turn later y count old new h out all
-    (renew q old.list.items turn part later (is_visited old) (support_at old) (has_looked old) c y oy (is_visited new) (support_at new) (has_looked new)
+    recounted-settled q turn later y count old new h out all
+    (known-renewed q old.list.items turn part later (is_visited old) (support_at old) (has_looked old) c y oy (is_visited new) (support_at new) (has_looked new)
     (ap is_some h.visit)
     (sup ∙ (is ∙ (ap (λ n. found q (λ z. ltb z count.bound) (take n old.list.items) y) when
     ∙ ap (λ n. found q (λ z. ltb z n) (take (taken later turn y) old.list.items) y) (sym bound))))

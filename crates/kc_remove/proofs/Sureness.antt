@@ -12,13 +12,13 @@ use Rattle.kc_graph.specs.declared.update.Update.{Update}
 use Rattle.kc_graph.specs.declared.used.Used.{Used}
 use Rattle.kc_graph.specs.declared.plan.Plan.{Plan}
 use Rattle.kc_graph.specs.declared.plan.Moves.TheVariants.{Kept, Plain, Fall}
-use Rattle.kc_graph.proofs.Law.{certified, core-unique}
+use Rattle.kc_graph.proofs.Law.{certified-core_numbers, core-unique}
 use Rattle.kc_cert.specs.Local.{IsLocal, HoldsAt}
 use Rattle.kc_cert.proofs.Keeping.{certified_after}
 use Rattle.kc_view.specs.Answers.{Agrees, has_list, list_of}
 use Rattle.kc_view.specs.Sure.{IsSparing}
 use Rattle.kc_view.specs.Views.{Shown, GoesOn}
-use Rattle.kc_view.proofs.Keeping.{agreed, tells-edge}
+use Rattle.kc_view.proofs.Keeping.{answers-agreed, tells-edge}
 use Rattle.kc_view.proofs.Still.{kept-is_sure, number_then-is}
 use Rattle.kc_remove.specs.Cascade.{Thinned, Cascade, nobody}
 use Rattle.kc_remove.specs.Falling.{is_visited, support_at, has_looked, HasEnded}
@@ -26,7 +26,7 @@ use Rattle.kc_remove.specs.Removed.{is_end, search_without}
 use Rattle.kc_remove.specs.declared.falling.Falling.{Falling}
 use Rattle.kc_remove.proofs.Ending.{lowered}
 use Rattle.kc_remove.proofs.Holding.{plain-holds, fall-holds}
-use Rattle.kc_remove.proofs.Thinning.{thinned}
+use Rattle.kc_remove.proofs.Thinning.{graph-thinned}
 use Rattle.kc_cert.proofs.FittingMoves.{plain_fits, fall_fits}
 
 -- a removal is applied just where its edge is there
@@ -56,7 +56,7 @@ numbers-after : (s : Ranked) (plan : Plan) → IsCertified s → IsLocal s plan 
     → AreCoreNumbers (state_after plan s).graph core → core ≡ (state_after plan s).core
 numbers-after s plan h local core are =
     core-unique (state_after plan s).graph core (state_after plan s).core are
-    (certified (state_after plan s).graph (state_after plan s).core (state_after plan s).order (certified_after s plan h local))
+    (certified-core_numbers (state_after plan s).graph (state_after plan s).core (state_after plan s).order (certified_after s plan h local))
 
 -- the edge that goes is there, and the level is the lesser core number of its ends
 pub record Removes (update : Update) (s : Ranked) (level : ℕ) : Type 0 where
@@ -68,7 +68,7 @@ pub removes-told : (first second : Shown) (update : Update) (s : Ranked) (level 
     → update.v < s.graph.size → has_list first.kept update.u ≡ true → has ≡ member update.v (list_of first.kept update.u) → has ≡ true
     → ((s : Ranked) → Agrees second.kept s → level ≡ min (get_or s.core update.u 0) (get_or s.core update.v 0)) → Removes update s level
 removes-told first second update s level has goes agrees l read told is least = record {
-  there = tells-edge first.kept s update.u update.v has (agreed _ _ s goes.further agrees) read l told ∙ is;
+  there = tells-edge first.kept s update.u update.v has (answers-agreed _ _ s goes.further agrees) read l told ∙ is;
   least = least s agrees;
 }
 
@@ -77,7 +77,7 @@ thinned-by : (update : Update) (s : Ranked) (level : ℕ) → IsCertified s → 
     → Thinned (search_without update level s) (is_end update)
 thinned-by update s level h l r =
     let up : update.u < update.v = update.ordered in
-    thinned s update.u update.v level h (λ e. absurd (omega (arith, up, e))) (omega (arith, up, l)) l r.there r.least
+    graph-thinned s update.u update.v level h (λ e. absurd (omega (arith, up, e))) (omega (arith, up, l)) l r.there r.least
 
 -- no vertex falls
 pub plain-sure : (update : Update) (used : Used) (s : Ranked) (level : ℕ) (f : Falling) → update.add ≡ false → IsCertified s

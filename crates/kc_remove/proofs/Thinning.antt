@@ -45,20 +45,20 @@ joined-positive g core order h u v lu lv a =
     ]
 
 -- who passes in the graph without an edge passes in the graph with it
-fewer : (a j l : Bool) → ((a && not j) && l) ≡ true → (a && l) ≡ true
-fewer a j l t = grind arith
+passing-fewer : (a j l : Bool) → ((a && not j) && l) ≡ true → (a && l) ≡ true
+passing-fewer a j l t = grind arith
 
 -- a pair that the edge does not join passes alike in both
-unjoined : (a j l : Bool) → j ≡ false → ((a && not j) && l) ≡ (a && l)
-unjoined a j l n = grind arith
+pair-unjoined : (a j l : Bool) → j ≡ false → ((a && not j) && l) ≡ (a && l)
+pair-unjoined a j l n = grind arith
 
 -- and so does one that it joins where the rest of the test fails
 low_end : (a j l : Bool) → (j ≡ true → l ≡ false) → (a && l) ≡ ((a && not j) && l)
 low_end a j l n = grind arith
 
 -- a pair that it joins does not pass in the graph without it
-gone : (a j l : Bool) → j ≡ true → ((a && not j) && l) ≡ false
-gone a j l n = grind arith
+pair-gone : (a j l : Bool) → j ≡ true → ((a && not j) && l) ≡ false
+pair-gone a j l n = grind arith
 
 -- whether `z` is an end of the edge
 abbrev pub is_end : ℕ → ℕ → ℕ → Bool
@@ -111,15 +111,15 @@ module _ (s : Ranked) (u v level : ℕ) (h : IsCertified s) (differ : u ≢ v) (
       let one =
       count-one-in (λ y. adjacent s.graph z y && test y) (λ y. now z y && test y) w (below s.graph.size) (Distinct-below s.graph.size)
       (member-below w s.graph.size l)
-      (rw (adjacent-without s.graph u v z w differ) (gone (adjacent s.graph z w) (joins u v z w) (test w) j))
+      (rw (adjacent-without s.graph u v z w differ) (pair-gone (adjacent s.graph z w) (joins u v z w) (test w) j))
       (λ y m ne.
       rw (adjacent-without s.graph u v z y differ)
-      (sym (unjoined (adjacent s.graph z y) (joins u v z y) (test y) (one_other u v z w y differ j ne)))) in
+      (sym (pair-unjoined (adjacent s.graph z y) (joins u v z y) (test y) (one_other u v z w y differ j ne)))) in
       let most : one_if (adjacent s.graph z w && test w) ≤ 1 = at_most_one (adjacent s.graph z w && test w) in
       omega (arith, one, most)
 
-  pub thinned : Thinned (search_in (without_edge s.graph u v) s level) (is_end u v)
-  thinned =
+  pub graph-thinned : Thinned (search_in (without_edge s.graph u v) s level) (is_end u v)
+  graph-thinned =
       let there : (y : ℕ) → y < s.graph.size → member y s.order ≡ true = λ y l. order-has s.graph.size s.order h.enumerates y ∙ member-below y s.graph.size l in
       record {
         symmetric = adjacent-sym (without_edge s.graph u v);
@@ -133,7 +133,7 @@ module _ (s : Ranked) (u v level : ℕ) (h : IsCertified s) (differ : u ≢ v) (
             ≤ count_by (λ y. adjacent s.graph z y && ltb (rank_in s.order z) (rank_in s.order y)) (below s.graph.size) =
             count-mono (λ y. now z y && ltb (rank_in s.order z) (rank_in s.order y))
             (λ y. adjacent s.graph z y && ltb (rank_in s.order z) (rank_in s.order y)) (below s.graph.size) (λ y m t.
-            fewer (adjacent s.graph z y) (joins u v z y) (ltb (rank_in s.order z) (rank_in s.order y))
+            passing-fewer (adjacent s.graph z y) (joins u v z y) (ltb (rank_in s.order z) (rank_in s.order y))
             (sym (ap (λ b. b && ltb (rank_in s.order z) (rank_in s.order y)) (adjacent-without s.graph u v z y differ)) ∙ t)) in
             omega (arith, less, few-ranked s.graph s.core s.order h z l);
         enough = λ z l where'.
@@ -158,7 +158,7 @@ module _ (s : Ranked) (u v level : ℕ) (h : IsCertified s) (differ : u ≢ v) (
                     ≡ count_by (λ y. now z y && leb level (number y)) (below s.graph.size) =
                     count-agree (λ y. adjacent s.graph z y && leb level (number y)) (λ y. now z y && leb level (number y)) (below s.graph.size) (λ y m.
                     rw (adjacent-without s.graph u v z y differ)
-                    (sym (unjoined (adjacent s.graph z y) (joins u v z y) (leb level (number y)) (no_end u v z y out)))) in
+                    (sym (pair-unjoined (adjacent s.graph z y) (joins u v z y) (leb level (number y)) (no_end u v z y out)))) in
                     omega (arith, old', same)
               ]
             ];

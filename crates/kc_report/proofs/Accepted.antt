@@ -74,8 +74,8 @@ one_more : {X : Type 0} (all so_far before rest : List X) (x : X) → all ≡ so
 one_more all so_far before rest x whole front = whole ∙ ap (λ t. t ++ rest) front ∙ append_assoc before (x ∷ []) rest
 
 -- edges that stay the same in two steps
-stay : (last between first : List (ℕ × ℕ)) → last ≡ between → between ≡ first → last ≡ first
-stay last between first second one = second ∙ one
+edges-stay : (last between first : List (ℕ × ℕ)) → last ≡ between → between ≡ first → last ≡ first
+edges-stay last between first second one = second ∙ one
 
 -- Lines are read, whatever lines come behind them, and take what is told on.
 abbrev Reads : Told → List Line → Told → Type 0
@@ -233,7 +233,7 @@ read-batches told (b ∷ bs) lines updates most are small few =
       to = rest.to;
       reads = reads-line told rest.to said.Batch (map change_said b ++ flat_map batch_said bs) none
           (reads-append begun one.to rest.to (map change_said b) (flat_map batch_said bs) one.reads rest.reads);
-      edges' = stay rest.to.edges one.to.edges told.edges rest.edges' one.edges';
+      edges' = edges-stay rest.to.edges one.to.edges told.edges rest.edges' one.edges';
       all = one_more (batches rest.to) (batches one.to) (batches told) bs b rest.all so_far;
     }
 
@@ -260,7 +260,7 @@ told-generated number =
         means = ap (λ b. cond b (Refuses 0 TooLong) (reading 0 nothing_told (all_said (generated number))))
             (le-ltb MOST_BYTES (length (generated number)) (length-generated number))
             ∙ ap (reading 0 nothing_told) (said-generated number ∙ sym (append-nil (map edge_said es ++ flat_map batch_said bs))) ∙ reads;
-        edges = stay all.to.edges first.to.edges es all.edges' first.edges';
+        edges = edges-stay all.to.edges first.to.edges es all.edges' first.edges';
         batches = all.all ∙ ap (λ t. t ++ bs) first.batches';
       },
     )

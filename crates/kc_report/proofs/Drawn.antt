@@ -57,11 +57,11 @@ change-ids edges state ids count =
     ]
 
 -- each change differs from one that none of them names
-differ : (c : Change) (written : List Change) → list_any (name_same c) written ≡ false → All (λ d. name_same c d ≡ false) written
-differ c [] none = All-nil (λ d. name_same c d ≡ false)
-differ c (d ∷ written) none =
+changes-differ : (c : Change) (written : List Change) → list_any (name_same c) written ≡ false → All (λ d. name_same c d ≡ false) written
+changes-differ c [] none = All-nil (λ d. name_same c d ≡ false)
+changes-differ c (d ∷ written) none =
     let (first, rest) = or_parts (name_same c d) (list_any (name_same c) written) none in
-    All-cons (λ d. name_same c d ≡ false) d written first (differ c written rest)
+    All-cons (λ d. name_same c d ≡ false) d written first (changes-differ c written rest)
 
 -- what is written after so many turns more
 pub record IsAfter (turns : ℕ) (written more : List Change) : Type 0 where
@@ -81,7 +81,7 @@ after_turn written c fit once ids =
           let (apart, none) = or_parts (nat_eq c.a c.b) (list_any (name_same c) written) e in
           is false e (record {
             fit = All-push IsFit written c fit (record { ids = ids; apart = eqb-false c.a c.b apart });
-            once = all_pairs_push (λ c d. name_same d c ≡ false) written c once (differ c written none);
+            once = all_pairs_push (λ c d. name_same d c ≡ false) written c once (changes-differ c written none);
             few = omega (arith, length-append written (c ∷ []));
           })
     ]

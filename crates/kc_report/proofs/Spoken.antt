@@ -25,15 +25,15 @@ abbrev pub batch_said : List Change → List Line
 batch_said changes = said.Batch ∷ map change_said changes
 
 -- a line, the lines behind it, and the rest
-behind : (line lines rest : List ℕ) → ((line ++ 10 ∷ []) ++ lines) ++ rest ≡ line ++ 10 ∷ (lines ++ rest)
-behind line lines rest = simp append_assoc
+lines-behind : (line lines rest : List ℕ) → ((line ++ 10 ∷ []) ++ lines) ++ rest ≡ line ++ 10 ∷ (lines ++ rest)
+lines-behind line lines rest = simp append_assoc
 
 -- the lines of edges say these edges, whatever lines come behind them
 said-edges : (edges : List (ℕ × ℕ)) (rest : List ℕ) → All AreIds edges → all_said (flat_map pair_line edges ++ rest) ≡ map edge_said edges ++ all_said rest
 said-edges [] rest ids = refl
 said-edges (edge ∷ edges) rest ids =
     let first = All-head AreIds edge edges ids in
-    ap all_said (behind (pair edge.0 edge.1) (flat_map pair_line edges) rest)
+    ap all_said (lines-behind (pair edge.0 edge.1) (flat_map pair_line edges) rest)
     ∙ said-edge_line edge.0 edge.1 (flat_map pair_line edges ++ rest) (omega (arith, first.first)) (omega (arith, first.second))
     ∙ ap (λ t. edge_said edge ∷ t) (said-edges edges rest (All-tail AreIds edge edges ids))
 
@@ -43,7 +43,7 @@ said-changes : (changes : List Change) (rest : List ℕ) → All IsFit changes �
 said-changes [] rest fit = refl
 said-changes (c ∷ changes) rest fit =
     let first = (All-head IsFit c changes fit).ids in
-    ap all_said (behind (cond c.add 43 45 ∷ 32 ∷ pair c.a c.b) (flat_map change_line changes) rest)
+    ap all_said (lines-behind (cond c.add 43 45 ∷ 32 ∷ pair c.a c.b) (flat_map change_line changes) rest)
     ∙ said-change_line c.add c.a c.b (flat_map change_line changes ++ rest) (omega (arith, first.first)) (omega (arith, first.second))
     ∙ ap (λ t. change_said c ∷ t) (said-changes changes rest (All-tail IsFit c changes fit))
 

@@ -9,8 +9,8 @@ use Rattle.kc_report.specs.Generator.{after_turns, batch_lines, drawn_batch, dra
 use Rattle.kc_report.specs.Generator.{generated_edges, state_after_edges, state_after_turn, state_after_turns, with_turn}
 
 -- what is left before a turn is one more than what is left after it
-left : (n i : ℕ) → i < n → n - i ≡ suc (n - (i + 1))
-left n i l = omega arith
+turns-left : (n i : ℕ) → i < n → n - i ≡ suc (n - (i + 1))
+turns-left n i l = omega arith
 
 -- at the end nothing is left
 none_left : (n i : ℕ) → n ≡ i → 0 ≡ n - i
@@ -31,7 +31,7 @@ pub edges-turn : (n i state after : ℕ) (edges more all : List (ℕ × ℕ)) (e
     → more ≡ edges ++ edge ∷ [] → edges ++ drawn_edges (n - i) state ≡ all → more ++ drawn_edges (n - (i + 1)) after ≡ all
 edges-turn n i state after edges more all edge l drawn next pushed whole =
     let step : drawn_edges (n - i) state ≡ edge ∷ drawn_edges (n - (i + 1)) after =
-    first_edge (n - i) (n - (i + 1)) state (left n i l) ∙ ap (λ (e : ℕ × ℕ). e ∷ drawn_edges (n - (i + 1)) (next_state (next_state state))) (sym drawn)
+    first_edge (n - i) (n - (i + 1)) state (turns-left n i l) ∙ ap (λ (e : ℕ × ℕ). e ∷ drawn_edges (n - (i + 1)) (next_state (next_state state))) (sym drawn)
     ∙ ap (λ s. edge ∷ drawn_edges (n - (i + 1)) s) (sym next) in
     ap (λ (t : List (ℕ × ℕ)). t ++ drawn_edges (n - (i + 1)) after) pushed ∙ append_assoc edges (edge ∷ []) (drawn_edges (n - (i + 1)) after)
     ∙ ap (λ t. edges ++ t) (sym step) ∙ whole
@@ -40,7 +40,7 @@ edges-turn n i state after edges more all edge l drawn next pushed whole =
 pub edges_state-turn : (n i state after all : ℕ) → i < n → after ≡ next_state (next_state state) → state_after_edges (n - i) state ≡ all
     → state_after_edges (n - (i + 1)) after ≡ all
 edges_state-turn n i state after all l next whole =
-    ap (λ s. state_after_edges (n - (i + 1)) s) next ∙ sym (after_first_edge (n - i) (n - (i + 1)) state (left n i l)) ∙ whole
+    ap (λ s. state_after_edges (n - (i + 1)) s) next ∙ sym (after_first_edge (n - i) (n - (i + 1)) state (turns-left n i l)) ∙ whole
 
 -- where no edge is left, those that are drawn are all
 pub edges-end : (n i state : ℕ) (edges all : List (ℕ × ℕ)) → n ≡ i → edges ++ drawn_edges (n - i) state ≡ all → edges ≡ all
@@ -70,13 +70,13 @@ pub changes-turn : (edges : List (ℕ × ℕ)) (n i state after : ℕ) (written 
 changes-turn edges n i state after written more all change l drawn next with' whole =
     ap (λ s. after_turns edges (n - (i + 1)) s more) next ∙ ap (after_turns edges (n - (i + 1)) (state_after_turn state)) with'
     ∙ ap (λ c. after_turns edges (n - (i + 1)) (state_after_turn state) (with_turn written c)) drawn
-    ∙ sym (first_turn edges (n - i) (n - (i + 1)) state written (left n i l)) ∙ whole
+    ∙ sym (first_turn edges (n - i) (n - (i + 1)) state written (turns-left n i l)) ∙ whole
 
 -- the state after all turns is that after those that are left, from the state after one turn more
 pub turns_state-turn : (n i state after all : ℕ) → i < n → after ≡ state_after_turn state → state_after_turns (n - i) state ≡ all
     → state_after_turns (n - (i + 1)) after ≡ all
 turns_state-turn n i state after all l next whole =
-    ap (λ s. state_after_turns (n - (i + 1)) s) next ∙ sym (after_first_turn (n - i) (n - (i + 1)) state (left n i l)) ∙ whole
+    ap (λ s. state_after_turns (n - (i + 1)) s) next ∙ sym (after_first_turn (n - i) (n - (i + 1)) state (turns-left n i l)) ∙ whole
 
 -- where no turn is left, what is written is all
 pub changes-end : (edges : List (ℕ × ℕ)) (n i state : ℕ) (written all : List Change) → n ≡ i → after_turns edges (n - i) state written ≡ all → written ≡ all
@@ -101,7 +101,7 @@ pub batches-turn : (edges : List (ℕ × ℕ)) (n i state after : ℕ) (text mor
 batches-turn edges n i state after text more all l next put whole =
     let rest : List ℕ = flat_map batch_lines (drawn_batches edges (n - (i + 1)) after) in
     let step : flat_map batch_lines (drawn_batches edges (n - i) state) ≡ batch_lines (drawn_batch edges state) ++ rest =
-    ap (flat_map batch_lines) (first_batch edges (n - i) (n - (i + 1)) state (left n i l))
+    ap (flat_map batch_lines) (first_batch edges (n - i) (n - (i + 1)) state (turns-left n i l))
     ∙ ap (λ s. batch_lines (drawn_batch edges state) ++ flat_map batch_lines (drawn_batches edges (n - (i + 1)) s)) (sym next) in
     ap (λ (t : List ℕ). t ++ rest) put ∙ append_assoc text (batch_lines (drawn_batch edges state)) rest ∙ ap (λ t. text ++ t) (sym step) ∙ whole
 

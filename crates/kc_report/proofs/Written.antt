@@ -11,14 +11,14 @@ use Rattle.kc_report.specs.Generator.{with_turn}
 use Rattle.kc_report.specs.Pairs.{GainsPair, HasPairs}
 
 -- a pair is named where it is among the pairs
-named : (c : Change) (written : List Change) → list_any (name_same c) written ≡ list_any (λ d. is_pair (pair_of c) (pair_of d)) written
-named c [] = refl
-named c (d ∷ written) = ap₂ (λ (x y : Bool). x || y) (name_same-is c d) (named c written)
+pair-named : (c : Change) (written : List Change) → list_any (name_same c) written ≡ list_any (λ d. is_pair (pair_of c) (pair_of d)) written
+pair-named c [] = refl
+pair-named c (d ∷ written) = ap₂ (λ (x y : Bool). x || y) (name_same-is c d) (pair-named c written)
 
 -- a change is no new one where the batch has no place for it
 passed_over : {S : Type 0} (pairs : HashSet (ℕ × ℕ) S) (written : List Change) (c : Change) (new : Bool) → HasPairs pairs written
     → not new ≡ (nat_eq c.a c.b || contains is_pair pairs (pair_of c)) → (nat_eq c.a c.b || list_any (name_same c) written) ≡ not new
-passed_over pairs written c new has is = ap (λ b. nat_eq c.a c.b || b) (named c written ∙ sym (has (pair_of c))) ∙ sym is
+passed_over pairs written c new has is = ap (λ b. nat_eq c.a c.b || b) (pair-named c written ∙ sym (has (pair_of c))) ∙ sym is
 
 -- a change that is new is what the turn writes behind the others
 pub with_turn-new : {S : Type 0} (pairs : HashSet (ℕ × ℕ) S) (written more : List Change) (c : Change) (new : Bool) → HasPairs pairs written

@@ -96,12 +96,12 @@ Because j s b =
     ⊎ ((j.levels.table.shape.base < s.now) × HasMade (opened_by j) j.levels.log s.vertex b s.now)
 
 -- the present stamp of one that is stale is so because of the opening or of an entry
-because : (j : Journalled) (plan : Plan) (s : Stale) → Stands j → MayEnter j plan → IsStale j plan s → (b : Bool) → s.edges ≡ b → Because j s b
-because j plan s h may is true edges = elim (stale-list j plan s h may is edges) [
+stale-because : (j : Journalled) (plan : Plan) (s : Stale) → Stands j → MayEnter j plan → IsStale j plan s → (b : Bool) → s.edges ≡ b → Because j s b
+stale-because j plan s h may is true edges = elim (stale-list j plan s h may is edges) [
   | inl opening ↦ inl (omega (arith, opening, h.early s.vertex (list-low j plan s may is edges)), opening)
   | inr change ↦ inr (omega (arith, change.number_is), change)
 ]
-because j plan s h may is false edges =
+stale-because j plan s h may is false edges =
     let t : TableName = j.levels.table in
     let log : List Event = j.levels.log in
     let legal : Legal t.shape t.opening log = (at-rest j.levels h.levels h.closed).legal in
@@ -115,12 +115,12 @@ because j plan s h may is false edges =
     ]
 
 -- a stale stamp of a plan that may be entered was used, is less, and has its cause in the log
-pub outdated : (j : Journalled) (plan : Plan) (s : Stale) → Stands j → MayEnter j plan → IsStale j plan s
+pub stamp-outdated : (j : Journalled) (plan : Plan) (s : Stale) → Stands j → MayEnter j plan → IsStale j plan s
     → IsOutdated (opened_by j) j.levels.log (answers_in plan.used) s.vertex s.edges s.used s.now
-outdated j plan s h may is = record {
+stamp-outdated j plan s h may is = record {
   was_used = was-used j.edge_stamps is.place_stamps (answers_in plan.used) s is.first;
   less = is-less j.edge_stamps is.place_stamps (answers_in plan.used) s is.first;
-  because = because j plan s h may is s.edges refl;
+  because = stale-because j plan s h may is s.edges refl;
 }
 
 -- A plan that was read since a moment has used no stamp below that of the opening, and no place that was less then.

@@ -15,21 +15,21 @@ use Rattle.kc_stripes.specs.Records.{Opened, IsRecord, Striped, IsStripe, no_rec
 use Rattle.kc_stripes.proofs.Growing.{record_stays}
 
 -- where two truths hold together each holds
-both : (a b : Bool) → (a && b) ≡ true → (a ≡ true) × (b ≡ true)
-both true true h = (refl, refl)
-both true false h = absurd (false≢true h)
-both false true h = absurd (false≢true h)
-both false false h = absurd (false≢true h)
+truths-both : (a b : Bool) → (a && b) ≡ true → (a ≡ true) × (b ≡ true)
+truths-both true true h = (refl, refl)
+truths-both true false h = absurd (false≢true h)
+truths-both false true h = absurd (false≢true h)
+truths-both false false h = absurd (false≢true h)
 
 -- a vertex of the stripe stands at its place
 pub place_is : (s : Striped) (w : ℕ) → belongs s w ≡ true → vertex_at s.number (w / STRIPES) ≡ w
 place_is s w here =
-    omega (arith, div-add-mod' w STRIPES, eqb-true (w % STRIPES) s.number (both (eqb (w % STRIPES) s.number) (ltb w s.opened.edges.size) here).0)
+    omega (arith, div-add-mod' w STRIPES, eqb-true (w % STRIPES) s.number (truths-both (eqb (w % STRIPES) s.number) (ltb w s.opened.edges.size) here).0)
 
 -- the place of a vertex of the stripe is one of the stripe's
 pub place_in : (s : Striped) (w : ℕ) → IsStripe s → belongs s w ≡ true → w / STRIPES < length s.records
 place_in s w is here =
-    let small : w < s.opened.edges.size = ltb-true w s.opened.edges.size (both (eqb (w % STRIPES) s.number) (ltb w s.opened.edges.size) here).1 in
+    let small : w < s.opened.edges.size = ltb-true w s.opened.edges.size (truths-both (eqb (w % STRIPES) s.number) (ltb w s.opened.edges.size) here).1 in
     let place = w / STRIPES in
     let begun = lt-ltb (vertex_at s.number place) s.opened.edges.size (omega (arith, small, place_is s w here)) in
     ltb-true place (length s.records) (is.places place ∙ begun)
@@ -132,9 +132,9 @@ filling_more o log number records r f small size is old near =
     }
 
 -- the records of all its vertices make a stripe
-pub filled : (o : Opened) (log : List Event) (number vertex : ℕ) (records : List UsedEdges) → Filling o log number vertex records → number < STRIPES
+pub stripe-filled : (o : Opened) (log : List Event) (number vertex : ℕ) (records : List UsedEdges) → Filling o log number vertex records → number < STRIPES
     → o.edges.size ≡ o.table.shape.fixed → o.edges.size ≤ vertex → IsStripe (record { number = number; opened = o; seen = log; records = records })
-filled o log number vertex records f few size ends = record {
+stripe-filled o log number vertex records f few size ends = record {
   few = few;
   size = size;
   places = λ i. elim (cases_lt i (length records)) [
@@ -151,5 +151,5 @@ pub filled_at : (o : Opened) (log : List Event) (number vertex : ℕ) (records :
     → (record_of (record { number = number; opened = o; seen = log; records = records }) v).at ≡ get_or o.stamps v 0
 filled_at o log number vertex records f few size ends v here =
     let s : Striped = record { number = number; opened = o; seen = log; records = records } in
-    let place = place_in s v (filled o log number vertex records f few size ends) here in
+    let place = place_in s v (stripe-filled o log number vertex records f few size ends) here in
     f.opening (v / STRIPES) no_record place ∙ ap (λ n. get_or o.stamps n 0) (place_is s v here)

@@ -94,10 +94,10 @@ stamp_raises : (shape : Shape) (v : ℕ) (s : State) (e : Event) → MayStore sh
 stamp_raises shape v s e may is = (may.seals v is).later
 
 -- an item's or a group's word that is the same after two prefixes was the same after each between
-pub fresh : (shape : Shape) (opening : List ℕ) (w : ℕ) (p m q : List Event) → IsVersioned shape w → IsPrefix p m → IsPrefix m q
+pub word-fresh : (shape : Shape) (opening : List ℕ) (w : ℕ) (p m q : List Event) → IsVersioned shape w → IsPrefix p m → IsPrefix m q
     → Legal shape opening m → Legal shape opening q → value_at opening p w ≡ value_at opening q w
     → value_at opening m w ≡ value_at opening p w
-fresh shape opening w p m q versioned = comes_not_back shape w version_of (version_raises shape w versioned) opening p m q
+word-fresh shape opening w p m q versioned = comes_not_back shape w version_of (version_raises shape w versioned) opening p m q
 
 -- a vertex's word that is the same after two prefixes was the same after each between
 pub fresh_vertex : (shape : Shape) (opening : List ℕ) (v : ℕ) (p m q : List Event) → IsPrefix p m → IsPrefix m q → Legal shape opening m → Legal shape opening q

@@ -167,9 +167,9 @@ stands-from shape s [] h k = k
 stands-from shape s (e ∷ es) h k = stands-from shape (after_store shape s e) es h.2 (stands-step shape s e h.0 k)
 
 -- after a legal log the list and what is announced are as they should be
-pub stands : (shape : Shape) (opening : List ℕ) (log : List Event) → Legal shape opening log → Stands shape (state_of shape opening log)
+pub list-stands : (shape : Shape) (opening : List ℕ) (log : List Event) → Legal shape opening log → Stands shape (state_of shape opening log)
 unfolding Legal state_of
-stands shape opening log h = stands-from shape (opened shape opening) log h.1 record {
+list-stands shape opening log h = stands-from shape (opened shape opening) log h.1 record {
   listed = record {
     distinct = Distinct-listed (labels shape.items opening) shape.items;
     within = λ x m. listed-within (labels shape.items opening) shape.items x m;

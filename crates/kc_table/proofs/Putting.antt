@@ -16,7 +16,7 @@ use Rattle.kc_table.specs.Sections.{number_after, stamp_after, item_put, puts_fr
 use Rattle.kc_table.specs.State.{State, opened, after_store, after_stores, state_of, first_vertex, entered, unsealed_from, sealed}
 use Rattle.kc_table.specs.Legal.{MayStore, MayNote, FollowsNote, IsClosed, Legal, last_entry}
 use Rattle.kc_table.proofs.LegalLogs.{state_of-nil, state_of-push, legal-prefix, legal-last, legal-holds}
-use Rattle.kc_table.proofs.Listed.{stands}
+use Rattle.kc_table.proofs.Listed.{list-stands}
 use Rattle.kc_table.proofs.Stamps.{number-grows, puts-none, put_in-is, sealed-open, open-sealed, sealed-self, stamp-stored, stamp-other}
 
 -- What one store more puts. ---------------------------------------------------------------------------
@@ -147,7 +147,7 @@ module _ (shape : Shape) (opening : List ℕ) (v : ℕ) (low : v < shape.fixed) 
       elim (cases_eq e.word (first_vertex shape + v)) [
         | inl w ↦
             let none : item_put s.note e.word ≡ [] =
-            puts-none shape v s.list s.note e.word (stands shape opening log before).announced may.follows (omega (arith, w)) in
+            puts-none shape v s.list s.note e.word (list-stands shape opening log before).announced may.follows (omega (arith, w)) in
             let stamp = stamp-stored shape opening log e v legal w in
             record {
               was_put = λ _. inl (stamp.0 ∙ sym number);

@@ -140,17 +140,17 @@ unfolding vertex_of vertex_word
 stamped_opening-refused h = let l : 2 ≤ 1 = h.holds.stamps 0 (omega arith) in omega (arith, l)
 
 -- no word may be stored that the table does not have
-pub there : Legal shape opening (event 9 0 ∷ []) → ⊥
-there h = let l : 9 < 9 = (legal-last shape opening [] (event 9 0) h).there in omega (arith, l)
+pub word-there : Legal shape opening (event 9 0 ∷ []) → ⊥
+word-there h = let l : 9 < 9 = (legal-last shape opening [] (event 9 0) h).there in omega (arith, l)
 
 -- no value of more than 64 bits may be stored
-pub fits : Legal shape opening (event 0 18446744073709551617 ∷ []) → ⊥
-fits h = let l : 18446744073709551617 < 18446744073709551616 = (legal-last shape opening [] (event 0 18446744073709551617) h).fits in omega (arith, l)
+pub value-fits : Legal shape opening (event 0 18446744073709551617 ∷ []) → ⊥
+value-fits h = let l : 18446744073709551617 < 18446744073709551616 = (legal-last shape opening [] (event 0 18446744073709551617) h).fits in omega (arith, l)
 
 -- after a put's note no other word may be stored than its item's
-pub follows : Legal shape opening (note (Put 2 0) ∷ event 2 (item 1 1 12) ∷ []) → ⊥
+pub store-follows : Legal shape opening (note (Put 2 0) ∷ event 2 (item 1 1 12) ∷ []) → ⊥
 unfolding state_of note_of note_word
-follows h = let e : ◌≡◌ {A = ℕ} 2 3 = (legal-last shape opening (note (Put 2 0) ∷ []) (event 2 (item 1 1 12)) h).follows in omega (arith, e)
+store-follows h = let e : ◌≡◌ {A = ℕ} 2 3 = (legal-last shape opening (note (Put 2 0) ∷ []) (event 2 (item 1 1 12)) h).follows in omega (arith, e)
 
 -- no item may be put that the table does not have
 pub put_of_an_item : Legal shape opening (note (Put 3 0) ∷ []) → ⊥
@@ -188,9 +188,10 @@ unfolding state_of item_of item_word group_of group_word note_of note_word
 take_of_no_vertex h = let l : 1 ≤ 0 = ((legal-last shape opening [] (note (Take 0)) h).note refl).1 in omega (arith, l)
 
 -- no section may begin while a vertex of the one before is open
-pub closed : Legal shape opening (open_section ++ note (Enter false 8 0 1) ∷ []) → ⊥
+pub section-closed : Legal shape opening (open_section ++ note (Enter false 8 0 1) ∷ []) → ⊥
 unfolding state_of item_of item_word group_of group_word note_of note_word
-closed h = let e : ◌≡◌ {A = List ℕ} (0 ∷ []) [] = (legal-last shape opening open_section (note (Enter false 8 0 1)) h).note refl in omega (arith, ap length e)
+section-closed h = let e : ◌≡◌ {A = List ℕ} (0 ∷ []) [] =
+    (legal-last shape opening open_section (note (Enter false 8 0 1)) h).note refl in omega (arith, ap length e)
 
 -- no item's word may be stored with the version that it has
 pub version_stays : Legal shape opening (event 2 (item 0 1 25) ∷ []) → ⊥
@@ -227,18 +228,18 @@ unfolding state_of note_of note_word vertex_of vertex_word
 sealed_once h = let l : 2 < 2 = ((legal-last shape opening sealed_section (event 8 (vertex 2 0)) h).seals 0 refl).later in omega (arith, l)
 
 -- no store may give two items of the list one pair
-pub ordered : Legal shape opening (event 2 (item 1 1 10) ∷ []) → ⊥
+pub list-ordered : Legal shape opening (event 2 (item 1 1 10) ∷ []) → ⊥
 unfolding state_of item_of item_word group_of group_word
-ordered h =
+list-ordered h =
     let k : ((100 < 100) ⊎ ((◌≡◌ {A = ℕ} 100 100) × (10 < 10))) = (legal-holds shape opening (event 2 (item 1 1 10) ∷ []) h).ordered.pairs.0 in
     elim k [ inl l ↦ omega (arith, l) | inr l ↦ omega (arith, l.1) ]
 
 -- no store may leave an item of the list without a group
-pub inside : Legal shape opening (event 2 (item 1 0 25) ∷ []) → ⊥
+pub item-inside : Legal shape opening (event 2 (item 1 0 25) ∷ []) → ⊥
 unfolding state_of item_of item_word group_of group_word
-inside h = let l : 0 < 0 = ((legal-holds shape opening (event 2 (item 1 0 25) ∷ []) h).ordered.inside 1 refl).0 in omega (arith, l)
+item-inside h = let l : 0 < 0 = ((legal-holds shape opening (event 2 (item 1 0 25) ∷ []) h).ordered.inside 1 refl).0 in omega (arith, l)
 
 -- no store may give a group to an item that is out of the list
-pub outside : Legal shape opening (event 3 (item 1 1 40) ∷ []) → ⊥
+pub item-outside : Legal shape opening (event 3 (item 1 1 40) ∷ []) → ⊥
 unfolding state_of item_of item_word group_of group_word
-outside h = let e : ◌≡◌ {A = ℕ} 1 0 = (legal-holds shape opening (event 3 (item 1 1 40) ∷ []) h).ordered.outside 2 (omega arith) refl in omega (arith, e)
+item-outside h = let e : ◌≡◌ {A = ℕ} 1 0 = (legal-holds shape opening (event 3 (item 1 1 40) ∷ []) h).ordered.outside 2 (omega arith) refl in omega (arith, e)

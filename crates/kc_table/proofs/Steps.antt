@@ -18,8 +18,8 @@ use Rattle.kc_table.proofs.LegalLogs.{legal-last, legal-opens}
 use Rattle.kc_table.proofs.Prefixes.{prefix_self, prefix_push}
 
 -- where false is true, anything follows
-off : {X : Type 0} → false ≡ true → X
-off e = absurd (true≢false (sym e))
+false-anything : {X : Type 0} → false ≡ true → X
+false-anything e = absurd (true≢false (sym e))
 
 -- the words after one store more are those before it with that one changed
 pub words_after-push : (ws : List ℕ) (es : List Event) (e : Event) → words_after ws (es ++ e ∷ []) ≡ set (words_after ws es) e.word e.value
@@ -68,8 +68,8 @@ module _ {S : Type 0} (k : Opening) where
   abbrev Rule : State S View → Type 0
   Rule s = Keeps k s
 
-  pub begins : (xs : List S) → Legal k.shape k.words.items [] → Rule (opening k.words.items xs (first_view k))
-  begins xs legal = record {
+  pub opening-keeps_rule : (xs : List S) → Legal k.shape k.words.items [] → Rule (opening k.words.items xs (first_view k))
+  opening-keeps_rule xs legal = record {
     log = [];
     writer = 0;
     words = refl;
@@ -95,8 +95,9 @@ module _ {S : Type 0} (k : Opening) where
     each = fits_set k h.log h.writer s.views id w mine (λ j u _ e. h.each j u e);
   }
 
-  pub loads : (slots id word : ℕ) (me : Me S View) → me.0.spent ≡ false → Allows Rule slots id me word (λ n. n) (TellsLoad (step slots word 0 0 none) me)
-  loads slots id word me live s h len at bound =
+  pub load-keeps_rule : (slots id word : ℕ) (me : Me S View) → me.0.spent ≡ false
+      → Allows Rule slots id me word (λ n. n) (TellsLoad (step slots word 0 0 none) me)
+  load-keeps_rule slots id word me live s h len at bound =
       let v = me.0 in
       let f = h.each id v at in
       let n = f.knows live in
@@ -122,10 +123,10 @@ module _ {S : Type 0} (k : Opening) where
         ),
       )
 
-  pub stores : (slots id word value : ℕ) (me : Me S View) → me.0.spent ≡ false → me.0.writes ≡ true
+  pub store-keeps_rule : (slots id word value : ℕ) (me : Me S View) → me.0.spent ≡ false → me.0.writes ≡ true
       → Legal me.0.shape me.0.opening (me.0.seen ++ event word value ∷ [])
       → Allows Rule slots id me word (λ _. value) (λ _. TellsStore (step slots word value 0 none) me value)
-  stores slots id word value me live writes legal s h len at bound =
+  store-keeps_rule slots id word value me live writes legal s h len at bound =
       let v = me.0 in
       let f = h.each id v at in
       let n = f.knows live in
@@ -166,8 +167,8 @@ module _ {S : Type 0} (k : Opening) where
       )
 
   -- a split adds a pass, and the view that it was split from has made a split more
-  pub splits : (id : ℕ) (v : View) → v.spent ≡ false → Splits Rule id v (parted v) (pass_of v)
-  splits id v live s h at =
+  pub split-keeps_rule : (id : ℕ) (v : View) → v.spent ≡ false → Splits Rule id v (parted v) (pass_of v)
+  split-keeps_rule id v live s h at =
       let f = h.each id v at in
       let n = f.knows live in
       let mine : F k h.log h.writer id (parted v) = record {
@@ -182,13 +183,13 @@ module _ {S : Type 0} (k : Opening) where
             (λ was. fits_set k h.log h.writer s.views id (parted v) mine (λ i w _ e'. h.each i w e') j u was)
             (λ (same : pass_of v ≡ u). subst (F k h.log h.writer j) same record {
               knows = λ _. record { same_shape = n.same_shape; same_opening = n.same_opening; begins = n.begins; kept_begin = tt };
-              wrote = λ wr. off wr;
+              wrote = λ wr. false-anything wr;
             })
             (at_snoc (set s.views id (parted v)) (pass_of v) u j e);
       }
 
-  pub joins : (id : ℕ) (v : View) (other : ℕ) (u : View) → v.spent ≡ false → u.spent ≡ false → Joins Rule id v other u (told v u) nobody
-  joins id v other u live live' s h at apart there =
+  pub join-keeps_rule : (id : ℕ) (v : View) (other : ℕ) (u : View) → v.spent ≡ false → u.spent ≡ false → Joins Rule id v other u (told v u) nobody
+  join-keeps_rule id v other u live live' s h at apart there =
       let w = told v u in
       let f = h.each id v at in
       let n = f.knows live in
@@ -201,7 +202,7 @@ module _ {S : Type 0} (k : Opening) where
         knows = λ _. record { same_shape = n.same_shape; same_opening = n.same_opening; begins = n.begins; kept_begin = (m.begins, n.kept_begin) };
         wrote = f.wrote;
       } in
-      let none_left : F k h.log h.writer other nobody = record { knows = λ l. absurd (true≢false l); wrote = λ wr. off wr } in record {
+      let none_left : F k h.log h.writer other nobody = record { knows = λ l. absurd (true≢false l); wrote = λ wr. false-anything wr } in record {
         log = h.log;
         writer = h.writer;
         words = h.words;

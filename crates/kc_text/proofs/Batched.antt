@@ -179,9 +179,9 @@ pub record Accepted (bytes : List ℕ) (reading : Reading) : Type 0 where
   pub apart : All HasNoLoops (batches told)
 
 -- a reading that ended with no refusal has what the text means, within the limits
-pub accepted : (bytes : List ℕ) (reading : Reading) → (told : Told) × IsReading told reading × (meaning bytes ≡ outcome told reading.refusal)
+pub reading-accepted : (bytes : List ℕ) (reading : Reading) → (told : Told) × IsReading told reading × (meaning bytes ≡ outcome told reading.refusal)
     → reading.refusal ≡ None → Accepted bytes reading
-accepted bytes reading (told, read, ended) none =
+reading-accepted bytes reading (told, read, ended) none =
     let means : meaning bytes ≡ Means told = ended ∙ ap (outcome told) none in
     let fit : AreFit told = meaning-fit bytes told means in
     record {
@@ -228,9 +228,9 @@ made-parts bytes reading input a is =
     ∙ ap (λ (ids : List ℕ). map (numbered_deciding ids) (batches a.told)) (sym is.ids))
 
 -- an input that is made of an accepted reading is the input of what was told
-pub made : (bytes : List ℕ) (reading : Reading) (input : Input) → Accepted bytes reading → IsMadeOf reading input
+pub input-made : (bytes : List ℕ) (reading : Reading) (input : Input) → Accepted bytes reading → IsMadeOf reading input
     → (told : Told) × (meaning bytes ≡ Means told) × IsInput told input
-made bytes reading input a is = (
+input-made bytes reading input a is = (
   a.told,
   a.means,
   record {

@@ -30,9 +30,9 @@ is_member-unique (x ∷ xs) q =
     ]
 
 -- what is no member of a list equals none of its elements
-apart : (x : ℕ) (ys : List ℕ) → is_member nat_eq ys x ≡ false → AllByRecursion (λ y. nat_eq x y ≡ false) ys
-apart x [] h = tt
-apart x (y ∷ ys) h = let parts = or_parts (nat_eq x y) (is_member nat_eq ys x) h in (parts.0, apart x ys parts.1)
+nonmember-apart : (x : ℕ) (ys : List ℕ) → is_member nat_eq ys x ≡ false → AllByRecursion (λ y. nat_eq x y ≡ false) ys
+nonmember-apart x [] h = tt
+nonmember-apart x (y ∷ ys) h = let parts = or_parts (nat_eq x y) (is_member nat_eq ys x) h in (parts.0, nonmember-apart x ys parts.1)
 
 -- in a list without its repeats no element stands twice
 pub IsDistinct-unique : (xs : List ℕ) → IsDistinct nat_eq (unique_keys nat_eq xs)
@@ -41,7 +41,8 @@ IsDistinct-unique [] = tt
 IsDistinct-unique (x ∷ xs) =
     elim (is_member nat_eq xs x) as (λ b. is_member nat_eq xs x ≡ b → IsDistinct nat_eq (cond b (unique_keys nat_eq xs) (x ∷ unique_keys nat_eq xs))) [
       | true ↦ λ _. IsDistinct-unique xs
-      | false ↦ λ h. IsDistinct-cons nat_eq x (unique_keys nat_eq xs) (apart x (unique_keys nat_eq xs) (is_member-unique xs x ∙ h)) (IsDistinct-unique xs)
+      | false ↦ λ h. IsDistinct-cons nat_eq x (unique_keys nat_eq xs) (nonmember-apart x (unique_keys nat_eq xs) (is_member-unique xs x ∙ h))
+          (IsDistinct-unique xs)
     ] refl
 
 -- a list whose members are all in another has no more different ones
@@ -82,37 +83,37 @@ over_is None xs has unique (inr few) = sym (le-ltb MOST_IDS (distinct_count nat_
 over_is (Some s) xs has unique exact = ap (λ (n : ℕ). nat_lt MOST_IDS n) (hash_set_len-from_list nat_eq_equiv xs s (has, unique))
 
 -- of two tests joined by or it doesn't matter which is first
-flip : (a b : Bool) → (a || (b || false)) ≡ (b || (a || false))
-flip true true = refl
-flip true false = refl
-flip false true = refl
-flip false false = refl
+or-flipped : (a b : Bool) → (a || (b || false)) ≡ (b || (a || false))
+or-flipped true true = refl
+or-flipped true false = refl
+or-flipped false true = refl
+or-flipped false false = refl
 
 -- of tests joined by or, two brought behind two others
-shuffle : (x y a b r : Bool) → (x || (y || (b || (a || r)))) ≡ (b || (a || (x || (y || r))))
-shuffle true true true true r = refl
-shuffle true true true false r = refl
-shuffle true true false true r = refl
-shuffle true true false false r = refl
-shuffle true false true true r = refl
-shuffle true false true false r = refl
-shuffle true false false true r = refl
-shuffle true false false false r = refl
-shuffle false true true true r = refl
-shuffle false true true false r = refl
-shuffle false true false true r = refl
-shuffle false true false false r = refl
-shuffle false false true true r = refl
-shuffle false false true false r = refl
-shuffle false false false true r = refl
-shuffle false false false false r = refl
+or-shuffled : (x y a b r : Bool) → (x || (y || (b || (a || r)))) ≡ (b || (a || (x || (y || r))))
+or-shuffled true true true true r = refl
+or-shuffled true true true false r = refl
+or-shuffled true true false true r = refl
+or-shuffled true true false false r = refl
+or-shuffled true false true true r = refl
+or-shuffled true false true false r = refl
+or-shuffled true false false true r = refl
+or-shuffled true false false false r = refl
+or-shuffled false true true true r = refl
+or-shuffled false true true false r = refl
+or-shuffled false true false true r = refl
+or-shuffled false true false false r = refl
+or-shuffled false false true true r = refl
+or-shuffled false false true false r = refl
+or-shuffled false false false true r = refl
+or-shuffled false false false false r = refl
 
 -- one edge more gives its two ends as names
 pub ends-more : (es : List (ℕ × ℕ)) (a b : ℕ) → NamesMore (ends es) (ends (es ++ (a, b) ∷ [])) a b
-ends-more [] a b = λ q. flip (nat_eq q a) (nat_eq q b)
+ends-more [] a b = λ q. or-flipped (nat_eq q a) (nat_eq q b)
 ends-more (e ∷ es) a b = λ q.
     ap (λ t. nat_eq q e.0 || (nat_eq q e.1 || t)) (ends-more es a b q)
-    ∙ shuffle (nat_eq q e.0) (nat_eq q e.1) (nat_eq q a) (nat_eq q b) (is_member nat_eq (ends es) q)
+    ∙ or-shuffled (nat_eq q e.0) (nat_eq q e.1) (nat_eq q a) (nat_eq q b) (is_member nat_eq (ends es) q)
 
 -- the ends of edges with one more at the end: its first, then its second behind all others
 pub ends-push : (es : List (ℕ × ℕ)) (e : ℕ × ℕ) → ends (es ++ e ∷ []) ≡ (ends es ++ e.0 ∷ []) ++ e.1 ∷ []

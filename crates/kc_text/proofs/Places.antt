@@ -17,8 +17,8 @@ use Rattle.kc_text.specs.Meaning.{ends}
 use Rattle.kc_text.specs.Inputs.{AreIds, place, numbered, between}
 
 -- in ascending ids, the place of an id is where it stands
-pub found : (ids : List ℕ) (x i : ℕ) → IsStrictlyIncreasing ids → i < length ids → get_or ids i 0 ≡ x → place ids x ≡ i
-found ids x i up l e =
+pub place-found : (ids : List ℕ) (x i : ℕ) → IsStrictlyIncreasing ids → i < length ids → get_or ids i 0 ≡ x → place ids x ≡ i
+place-found ids x i up l e =
     position_or_len_is (nat_eq x) ids i 0 (omega arith)
     (λ k h.
     ne_eqb x (get_or ids k 0)

@@ -22,16 +22,17 @@ use Rattle.kc_text.proofs.FieldCuts.{fields-blank, fields-first}
 use Rattle.kc_text.proofs.LineCuts.{lines-cut}
 
 -- a digit is none of the bytes below the digits
-low : (b other : ℕ) → other < 48 → is_digit b ≡ true → (b == other) ≡ false
-low b other l h = let parts = and_parts (nat_le 48 b) (nat_le b 57) h in ne_eqb b other (λ e. let from = leb-true 48 b parts.0 in absurd (omega arith))
+digit-not_low : (b other : ℕ) → other < 48 → is_digit b ≡ true → (b == other) ≡ false
+digit-not_low b other l h =
+    let parts = and_parts (nat_le 48 b) (nat_le b 57) h in ne_eqb b other (λ e. let from = leb-true 48 b parts.0 in absurd (omega arith))
 
 -- a digit is none of the bytes above the digits
-high : (b other : ℕ) → 57 < other → is_digit b ≡ true → (b == other) ≡ false
-high b other l h = let parts = and_parts (nat_le 48 b) (nat_le b 57) h in ne_eqb b other (λ e. let to = leb-true b 57 parts.1 in absurd (omega arith))
+digit-not_high : (b other : ℕ) → 57 < other → is_digit b ≡ true → (b == other) ≡ false
+digit-not_high b other l h = let parts = and_parts (nat_le 48 b) (nat_le b 57) h in ne_eqb b other (λ e. let to = leb-true b 57 parts.1 in absurd (omega arith))
 
 -- a digit is no blank
 digit-no_blank : (b : ℕ) → is_digit b ≡ true → is_blank b ≡ false
-digit-no_blank b h = ap (λ t. t || (b == 9)) (low b 32 (omega arith) h) ∙ low b 9 (omega arith) h
+digit-no_blank b h = ap (λ t. t || (b == 9)) (digit-not_low b 32 (omega arith) h) ∙ digit-not_low b 9 (omega arith) h
 
 -- a blank is no other byte than a space or a tab
 blank-other : (b other : ℕ) → (32 ≡ other → ⊥) → (9 ≡ other → ⊥) → is_blank b ≡ true → (b == other) ≡ false
@@ -113,10 +114,10 @@ fields-plain ds blank es d h e = fields-parted ds blank es d.some (λ k x l. dig
 -- a first field that begins with a digit is that of an edge line
 digit-edge : (d : ℕ) (ds : List ℕ) (rest : List (List ℕ)) → is_digit d ≡ true → line_of ((d ∷ ds) ∷ rest) ≡ edge_form (two_numbers ((d ∷ ds) ∷ rest))
 digit-edge d ds rest h =
-    let no_hash : is_comment (d ∷ ds) ≡ false = ap (λ t. t || (d == 37)) (low d 35 (omega arith) h) ∙ low d 37 (omega arith) h in
-    let no_batch : bytes_eq (d ∷ ds) (codes "batch") ≡ false = ap (λ t. t && bytes_eq ds (codes "atch")) (high d 98 (omega arith) h) in
-    let no_plus : bytes_eq (d ∷ ds) (codes "+") ≡ false = ap (λ t. t && bytes_eq ds []) (low d 43 (omega arith) h) in
-    let no_minus : bytes_eq (d ∷ ds) (codes "-") ≡ false = ap (λ t. t && bytes_eq ds []) (low d 45 (omega arith) h) in
+    let no_hash : is_comment (d ∷ ds) ≡ false = ap (λ t. t || (d == 37)) (digit-not_low d 35 (omega arith) h) ∙ digit-not_low d 37 (omega arith) h in
+    let no_batch : bytes_eq (d ∷ ds) (codes "batch") ≡ false = ap (λ t. t && bytes_eq ds (codes "atch")) (digit-not_high d 98 (omega arith) h) in
+    let no_plus : bytes_eq (d ∷ ds) (codes "+") ≡ false = ap (λ t. t && bytes_eq ds []) (digit-not_low d 43 (omega arith) h) in
+    let no_minus : bytes_eq (d ∷ ds) (codes "-") ≡ false = ap (λ t. t && bytes_eq ds []) (digit-not_low d 45 (omega arith) h) in
     let edge : Line = edge_form (two_numbers ((d ∷ ds) ∷ rest)) in
     let minus : Line = cond (bytes_eq (d ∷ ds) (codes "-")) (change_form false (two_numbers rest)) edge in
     let plus : Line = cond (bytes_eq (d ∷ ds) (codes "+")) (change_form true (two_numbers rest)) minus in
@@ -145,8 +146,8 @@ sign-other true = (refl, refl, refl)
 sign-other false = (refl, refl, refl)
 
 -- a line without a carriage return at its end keeps all of it
-kept : (line : List ℕ) → 0 < length line → All (λ b. (b == 13) ≡ false) line → strip_carriage_return line ≡ line
-kept line some none = ap (λ b. cond b (take (length line - 1) line) line) (none (length line - 1) 0 (omega arith))
+line-kept : (line : List ℕ) → 0 < length line → All (λ b. (b == 13) ≡ false) line → strip_carriage_return line ≡ line
+line-kept line some none = ap (λ b. cond b (take (length line - 1) line) line) (none (length line - 1) 0 (omega arith))
 
 -- what is said before and after the first newline
 said-first : (line rest : List ℕ) → 0 < length line → All (λ b. is_newline b ≡ false) line → All (λ b. (b == 13) ≡ false) line
@@ -158,7 +159,7 @@ said-first line rest some none keeps =
     ∙ ap (λ (k : ℕ). strip_carriage_return (take k (line ++ (10 ∷ rest))) ∷ lines (drop 1 (drop k (line ++ (10 ∷ rest))))) n
     ∙ ap (λ (t : List ℕ). strip_carriage_return t ∷ lines (drop 1 (drop (length line) (line ++ (10 ∷ rest))))) (take_at line (10 ∷ rest) (length line) refl)
     ∙ ap (λ (t : List ℕ). strip_carriage_return line ∷ lines (drop 1 t)) (drop_at line (10 ∷ rest) (length line) refl)
-    ∙ ap (λ (t : List ℕ). t ∷ lines rest) (kept line some keeps))
+    ∙ ap (λ (t : List ℕ). t ∷ lines rest) (line-kept line some keeps))
 
 -- the bytes of a plain pair's line, none of which ends it
 pub record IsPairLine (bytes : List ℕ) (a b : ℕ) (rest line : List ℕ) : Type 0 where
@@ -180,8 +181,10 @@ pair-line bytes a b rest h =
       record {
         cut = h.whole ∙ sym (append_assoc h.first (h.blank ∷ h.second) (10 ∷ rest));
         some = omega (arith, length-append h.first (h.blank ∷ h.second));
-        none = of_line is_newline (λ x. low x 10 (omega arith)) (λ x. blank-other x 10 (omega arith) (omega arith)) h.first h.blank h.second d h.parted e;
-        keeps = of_line (λ x. x == 13) (λ x. low x 13 (omega arith)) (λ x. blank-other x 13 (omega arith) (omega arith)) h.first h.blank h.second d h.parted e;
+        none = of_line is_newline (λ x. digit-not_low x 10 (omega arith)) (λ x. blank-other x 10 (omega arith) (omega arith))
+            h.first h.blank h.second d h.parted e;
+        keeps = of_line (λ x. x == 13) (λ x. digit-not_low x 13 (omega arith)) (λ x. blank-other x 13 (omega arith) (omega arith))
+            h.first h.blank h.second d h.parted e;
         edge = ap line_of parts ∙ two-edge h.first h.second a b d h.spells_a h.spells_b;
         two = ap two_numbers parts ∙ two-said h.first h.second a b h.spells_a h.spells_b;
       },

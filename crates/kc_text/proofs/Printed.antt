@@ -45,8 +45,8 @@ abbrev pub pair : ℕ → ℕ → List ℕ
 pair a b = decimal a ++ 32 ∷ decimal b
 
 -- a printed pair with a newline behind it is a plain pair
-begins : (a b : ℕ) (rest : List ℕ) → a < 2 ^ 32 → b < 2 ^ 32 → BeginsWithPair (pair a b ++ 10 ∷ rest) a b rest
-begins a b rest la lb = record {
+pair-begins : (a b : ℕ) (rest : List ℕ) → a < 2 ^ 32 → b < 2 ^ 32 → BeginsWithPair (pair a b ++ 10 ∷ rest) a b rest
+pair-begins a b rest la lb = record {
   first = decimal a;
   blank = 32;
   second = decimal b;
@@ -58,13 +58,13 @@ begins a b rest la lb = record {
 
 -- a printed edge line, and what the lines behind it say
 pub said-edge_line : (a b : ℕ) (rest : List ℕ) → a < 2 ^ 32 → b < 2 ^ 32 → all_said (pair a b ++ 10 ∷ rest) ≡ said.Edge a b ∷ all_said rest
-said-edge_line a b rest la lb = said-edge (pair a b ++ 10 ∷ rest) a b rest (begins a b rest la lb)
+said-edge_line a b rest la lb = said-edge (pair a b ++ 10 ∷ rest) a b rest (pair-begins a b rest la lb)
 
 -- a printed add or remove line, and what the lines behind it say
 pub said-change_line : (add : Bool) (a b : ℕ) (rest : List ℕ) → a < 2 ^ 32 → b < 2 ^ 32
     → all_said ((sign_of add ∷ 32 ∷ pair a b) ++ 10 ∷ rest) ≡ said.Change (record { add = add; a = a; b = b }) ∷ all_said rest
 said-change_line add a b rest la lb =
-    said-change ((sign_of add ∷ 32 ∷ pair a b) ++ 10 ∷ rest) add 32 (pair a b ++ 10 ∷ rest) a b rest refl refl (begins a b rest la lb)
+    said-change ((sign_of add ∷ 32 ∷ pair a b) ++ 10 ∷ rest) add 32 (pair a b ++ 10 ∷ rest) a b rest refl refl (pair-begins a b rest la lb)
 
 -- a line `batch`, and what the lines behind it say
 pub said-batch_line : (rest : List ℕ) → all_said (codes "batch" ++ 10 ∷ rest) ≡ said.Batch ∷ all_said rest

@@ -13,7 +13,7 @@ use Rattle.std.proofs.lemmas.List.Kept.{AllPairs-from_increasing}
 use Rattle.kc_text.specs.Buckets.{AreBuckets, IsBegin, IsRangeOf}
 use Rattle.kc_text.specs.Inputs.{place}
 use Rattle.kc_text.proofs.Members.{Contains-from_member}
-use Rattle.kc_text.proofs.Places.{found}
+use Rattle.kc_text.proofs.Places.{place-found}
 use Rattle.kc_distinct.proofs.Shared.{never_falls}
 
 -- an ascending list does not decrease, as a sort by the numbers themselves says it
@@ -24,14 +24,14 @@ is_non_decreasing xs up = λ i j d le l. elim (cases_eq i j) [
 ]
 
 -- where a member stands
-stands : (ids : List ℕ) (id : ℕ) → is_member nat_eq ids id ≡ true → (i : ℕ) × (i < length ids) × (get_or ids i 0 ≡ id)
-stands ids id h = let (k, l, e) = Contains-from_member ids id h in (k, l, get_or_default ids k 0 id l ∙ e)
+member-stands : (ids : List ℕ) (id : ℕ) → is_member nat_eq ids id ≡ true → (i : ℕ) × (i < length ids) × (get_or ids i 0 ≡ id)
+member-stands ids id h = let (k, l, e) = Contains-from_member ids id h in (k, l, get_or_default ids k 0 id l ∙ e)
 
 -- the range of an id that is there is in the table, and the next one too
 pub range-exists : (ids : List ℕ) (width : ℕ) (begins : List ℕ) (id : ℕ) → AreBuckets ids width begins → is_member nat_eq ids id ≡ true
     → id / width + 1 < length begins
 range-exists ids width begins id h there =
-    let (i, l, e) = stands ids id there in
+    let (i, l, e) = member-stands ids id there in
     let reach : get_or ids i 0 < length ids * width = h.reach i 0 l in
     let k : id / width < length ids = (div-lt_iff_lt-mul {k = width} {x = id} {y = length ids} h.some).1 (omega arith) in
     omega (arith, h.whole)
@@ -84,14 +84,14 @@ pub found_in_range : (ids : List ℕ) (id before : ℕ) (range : List ℕ) (i : 
     → IsBinarySearchResult (λ y. nat_cmp y id) range (Ok i) → before + i ≡ place ids id
 found_in_range ids id before range i h up s =
     let (l, e) = searched_range ids id before range (Ok i) h up s in
-    sym (found ids id (before + i) up (omega (arith, h.within)) (sym (part-rises ids id before range h i l) ∙ e))
+    sym (place-found ids id (before + i) up (omega (arith, h.within)) (sym (part-rises ids id before range h i l) ∙ e))
 
 -- an id that is there is found in its range
 pub not_lost_in_range : (ids : List ℕ) (id before : ℕ) (range : List ℕ) (i : ℕ) → IsRangeOf ids id before range → IsStrictlyIncreasing ids
     → is_member nat_eq ids id ≡ true
     → IsBinarySearchResult (λ y. nat_cmp y id) range (Err i) → ⊥
 not_lost_in_range ids id before range i h up there s =
-    let (j, l, e) = stands ids id there in
+    let (j, l, e) = member-stands ids id there in
     let (from, to) = h.all j l e in
     let (most, less, greater) = searched_range ids id before range (Err i) h up s in
     let in-place : before + (j - before) ≡ j = omega arith in

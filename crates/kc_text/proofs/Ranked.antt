@@ -77,8 +77,8 @@ record Stand (xs : List ℕ) (a b : ℕ) : Type 0 where
   there : get_or xs (first + gap) 0 ≡ b
 
 -- of two elements of an ascending list, the greater one stands behind the other
-stand : (xs : List ℕ) (a b : ℕ) → IsNonDecreasingBy (λ (x : ℕ). x) xs → Contains xs a → Contains xs b → a < b → Stand xs a b
-stand xs a b up (i, li, ei) (j, lj, ej) less =
+greater-behind : (xs : List ℕ) (a b : ℕ) → IsNonDecreasingBy (λ (x : ℕ). x) xs → Contains xs a → Contains xs b → a < b → Stand xs a b
+greater-behind xs a b up (i, li, ei) (j, lj, ej) less =
     let at_i : get_or xs i 0 ≡ a = get_or_default xs i 0 a li ∙ ei in
     let at_j : get_or xs j 0 ≡ b = get_or_default xs j 0 b lj ∙ ej in
     elim (cases_lt i j) [
@@ -177,7 +177,7 @@ again-marked updates ranks sorted marks are followed i x l again =
     let edge : a / MOST_UPDATES ≡ b / MOST_UPDATES = same-edge (get_or updates i x) (get_or updates j y) i j li lj'
     (ap (same_edge (get_or updates i x)) there ∙ same) in
     let less : a < b = omega (arith, edge, rank-place (get_or updates i x) i li, rank-place (get_or updates j y) j lj') in
-    let s = stand sorted a b are.up (sorted-has updates ranks sorted are i x l) (sorted-has updates ranks sorted are j y lj) less in
+    let s = greater-behind sorted a b are.up (sorted-has updates ranks sorted are i x l) (sorted-has updates ranks sorted are j y lj) less in
     mark-found sorted marks (get_or updates i x) i b followed li edge (last-of sorted a b s.gap s.first are.up s.within s.is s.there less)
 
 -- the places of the ranks are those of updates

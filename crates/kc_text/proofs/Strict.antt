@@ -103,8 +103,8 @@ goes-parts None true limit h = absurd (cc)
 goes-parts None false limit h = (refl, refl, none-of limit h)
 
 -- a change that gives no cause to end the reading goes on
-goes : (told : Told) (c : Change) → cause_of told (said.Change c) ≡ None → Goes told c
-goes told c h =
+change-goes_on : (told : Told) (c : Change) → cause_of told (said.Change c) ≡ None → Goes told c
+change-goes_on told c h =
     let (fit, new, within) = goes-parts (unfit told.last c) (was_named told.last c) (passed_limit (with_line told (said.Change c))) h in
     record { fit = fit; new = new; within = within }
 
@@ -113,7 +113,7 @@ not-refused : (told : Told) (line : Line) → cause_of told line ≡ None → re
 not-refused told said.Nothing h = refl
 not-refused told (said.Edge a b) h = none-of (refusal told (said.Edge a b)) h
 not-refused told said.Batch h = none-of (refusal told said.Batch) h
-not-refused told (said.Change c) h = let g = goes told c h in ap (λ r. or_else r (passed_limit (with_line told (said.Change c)))) g.fit ∙ g.within
+not-refused told (said.Change c) h = let g = change-goes_on told c h in ap (λ r. or_else r (passed_limit (with_line told (said.Change c)))) g.fit ∙ g.within
 not-refused told (said.Wrong kind) h = absurd (cc)
 
 -- after a line that doesn't end the reading, no batch names a pair twice if none did before
@@ -121,7 +121,7 @@ once-after : (told : Told) (line : Line) → cause_of told line ≡ None → Onc
 once-after told said.Nothing h once = once
 once-after told (said.Edge a b) h once = once
 once-after told said.Batch h once = All-append NamesOnce (batches told) ([] ∷ []) once (All-cons NamesOnce [] [] once-nil (All-nil NamesOnce))
-once-after told (said.Change c) h once = let g = goes told c h in once-after_change told.earlier told.last c g.fit g.new once
+once-after told (said.Change c) h once = let g = change-goes_on told c h in once-after_change told.earlier told.last c g.fit g.new once
 once-after told (said.Wrong kind) h once = once
 
 -- a line that is not refused goes on if no batch names a pair twice with it

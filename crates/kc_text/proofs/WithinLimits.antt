@@ -57,8 +57,8 @@ both_none (Some kind) b h = absurd (cc)
 both_none None b h = (refl, h)
 
 -- a change that fits
-fits : (batch : List Change) (c : Change) → unfit (Some batch) c ≡ None → c.a ≢ c.b
-fits batch c h = elim (cases_Bool (nat_eq c.a c.b)) [
+change-fits : (batch : List Change) (c : Change) → unfit (Some batch) c ≡ None → c.a ≢ c.b
+change-fits batch c h = elim (cases_Bool (nat_eq c.a c.b)) [
   | inl loop ↦ absurd (let e : Some LoopInBatch ≡ None = sym (ap (λ b. cond b (Some LoopInBatch) None) loop) ∙ h in cc)
   | inr differ ↦ eqb-false c.a c.b differ
 ]
@@ -66,7 +66,7 @@ fits batch c h = elim (cases_Bool (nat_eq c.a c.b)) [
 -- the last batch with a change that fits has no loop
 fit-change : (last : Option (List Change)) (c : Change) → IfSome last HasNoLoops → unfit last c ≡ None → HasNoLoops (unwrap_or last [] ++ c ∷ [])
 fit-change None c h fit = absurd (let e : Some UpdateOutsideBatch ≡ None = fit in cc)
-fit-change (Some batch) c h fit = All-push (λ c. c.a ≢ c.b) batch c h (fits batch c fit)
+fit-change (Some batch) c h fit = All-push (λ c. c.a ≢ c.b) batch c h (change-fits batch c fit)
 
 -- no batch has a loop where neither an earlier one nor the last one has
 pub fit-batches : (earlier : List (List Change)) (last : Option (List Change)) → All HasNoLoops earlier → IfSome last HasNoLoops

@@ -24,9 +24,9 @@ value_or d None = d
 value_or d (Some n) = n
 
 -- a number that passes the test is
-within : (n m : ℕ) (b : Bool) → (ltb 0 m && leb m MOST_WORKERS) ≡ b → cond b (Some m) None ≡ Some n → AreSome n
-within n m false t e = absurd (cc)
-within n m true t e =
+workers-within : (n m : ℕ) (b : Bool) → (ltb 0 m && leb m MOST_WORKERS) ≡ b → cond b (Some m) None ≡ Some n → AreSome n
+workers-within n m false t e = absurd (cc)
+workers-within n m true t e =
     let same : m ≡ n = ap (value_or 0) e in
     let both = and_parts (ltb 0 m) (leb m MOST_WORKERS) t in
     (omega (arith, same, ltb-true 0 m both.0), omega (arith, same, leb-true m MOST_WORKERS both.1))
@@ -36,7 +36,7 @@ workers-some : (text : List ℕ) (n : ℕ) → workers text ≡ Some n → AreSo
 workers-some text n = elim (number text) as
     (λ o. option_and_then (λ m. cond (ltb 0 m && leb m MOST_WORKERS) (Some m) None) o ≡ Some n → AreSome n) [
       | None ↦ λ e. absurd (cc)
-      | Some m ↦ λ e. within n m (ltb 0 m && leb m MOST_WORKERS) refl e
+      | Some m ↦ λ e. workers-within n m (ltb 0 m && leb m MOST_WORKERS) refl e
     ]
 
 -- what is read, and what stands where nothing is said

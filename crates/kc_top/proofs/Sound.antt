@@ -25,8 +25,8 @@ edges_within told input is = subst (λ (n : ℕ). All (λ p. (p.0 < p.1) × (p.1
     (size-start_graph input.ids.items told.edges) is.start.within
 
 -- there is a count for each batch
-pub counted : (told : Told) (input : Input) → IsInput told input → length input.overruled.items ≡ length input.batches.items
-counted told input is =
+pub batches-counted : (told : Told) (input : Input) → IsInput told input → length input.overruled.items ≡ length input.batches.items
+batches-counted told input is =
     ap length is.overruled ∙ length-map (batches told) overruled
     ∙ sym (sym (length-map input.batches.items (λ batch. map parts_of batch.items)) ∙ ap length is.batches
     ∙ length-map (batches told) (λ (batch : List Change). map (numbered_change input.ids.items) (deciding batch)))

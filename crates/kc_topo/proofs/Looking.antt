@@ -9,7 +9,7 @@ use Rattle.kc_distinct.proofs.Members.{below_bound}
 use Rattle.kc_table.specs.declared.view.Event.{Event}
 use Rattle.kc_table.specs.Legal.{Legal}
 use Rattle.kc_table.specs.Log.{TableName}
-use Rattle.kc_table.proofs.Listed.{stands}
+use Rattle.kc_table.proofs.Listed.{list-stands}
 use Rattle.kc_order.specs.Standing.{list_after}
 use Rattle.kc_topo.specs.Arcs.{arcs_after, has_arc}
 use Rattle.kc_topo.specs.Dags.{IsDag}
@@ -19,7 +19,7 @@ use Rattle.kc_topo.proofs.Trails.{get_or-prefix, member-prefix}
 -- the list has vertices of the table alone
 pub listed-low : (table : TableName) (log : List Event) → Legal table.shape table.opening log → (x : ℕ)
     → member x (list_after table log) ≡ true → x < table.shape.items
-listed-low table log legal x m = (stands table.shape table.opening log legal).listed.within x m
+listed-low table log legal x m = (list-stands table.shape table.opening log legal).listed.within x m
 
 -- what is settled stays so as the trail grows
 pub settled-grows : (list : List ℕ) (a : ℕ) (t u : Trail) → IsPrefix t.vertices u.vertices → (w : ℕ) → IsSettled list a t w → IsSettled list a u w

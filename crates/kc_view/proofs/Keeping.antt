@@ -63,8 +63,8 @@ pub same_core : (old new : Answers) (w : ℕ) → Further old new → has_core o
 same_core old new w f h = ap (λ o. unwrap_or o 0) (core-same old new w f h)
 
 -- a state that agrees with all answers agrees with the first of them
-pub agreed : (old new : Answers) (s : Ranked) → Further old new → Agrees new s → Agrees old s
-agreed old new s f a = record {
+pub answers-agreed : (old new : Answers) (s : Ranked) → Further old new → Agrees new s → Agrees old s
+answers-agreed old new s f a = record {
   edges = All-front (λ e. (e.vertex < s.graph.size) × (e.neighbours ≡ neighbours_of s.graph e.vertex)) old.edges f.edges.0
       (subst (All (λ e. (e.vertex < s.graph.size) × (e.neighbours ≡ neighbours_of s.graph e.vertex))) f.edges.1 a.edges);
   places = All-front (λ p. (p.vertex < s.graph.size) × (p.core ≡ get_or s.core p.vertex 0)) old.places f.places.0

@@ -366,7 +366,7 @@ fresh-marks size listed placed a none l p =
     (subst (λ (x : Answers). Marks (keeping size x) listed placed) (sym none) (no-marks size listed placed l p))
 
 -- a whole list that was written over
-pub overwritten : (n : ℕ) (old new : List ℕ) → n ≡ length old → length new ≡ length old → take n (new ++ drop (length new) old) ≡ new
-overwritten n old new e l =
+pub list-overwritten : (n : ℕ) (old new : List ℕ) → n ≡ length old → length new ≡ length old → take n (new ++ drop (length new) old) ≡ new
+list-overwritten n old new e l =
     ap (λ (ys : List ℕ). take n (new ++ ys)) (drop_all (length new) old (omega (arith, l)))
     ∙ (ap (take n) (append-nil new) ∙ take_all n new (omega (arith, e, l)))

@@ -99,8 +99,8 @@ pub shifted_take : (x : ℕ) → x < 2 ^ 21 → bit_or (3 * 2 ^ 62) x ≡ 3 * 2 
 shifted_take x q = or_shifted 3 62 x (omega arith)
 
 -- a function of four has equal values at equal arguments
-four : {A : Type 0} → (f : Bool → ℕ → ℕ → ℕ → A) → (a b : Bool) (i j u v w x : ℕ) → a ≡ b → i ≡ j → u ≡ v → w ≡ x → f a i u w ≡ f b j v x
-four f a b i j u v w x p q r s = rw (p, q, r, s)
+ap-four : {A : Type 0} → (f : Bool → ℕ → ℕ → ℕ → A) → (a b : Bool) (i j u v w x : ℕ) → a ≡ b → i ≡ j → u ≡ v → w ≡ x → f a i u w ≡ f b j v x
+ap-four f a b i j u v w x p q r s = rw (p, q, r, s)
 
 -- a note that fits is read again from what it packs to
 pub note_of-note_word : (w : NoteWord) → IsFitting w → note_of (note_word w) ≡ w
@@ -109,12 +109,12 @@ note_of-note_word Nothing f = note_of-nothing 0 refl
 note_of-note_word (Enter true i u v) f =
     let n = 2 ^ 62 + 2 ^ 61 + i * 2 ^ 39 + u * 2 ^ 19 + v in
     note_of-enter n (omega arith)
-    ∙ four Enter (eqb (n / 2 ^ 61 % 2) 1) true (n / 2 ^ 39 % 2 ^ 22) i (n / 2 ^ 19 % 2 ^ 19) u (n % 2 ^ 19) v
+    ∙ ap-four Enter (eqb (n / 2 ^ 61 % 2) 1) true (n / 2 ^ 39 % 2 ^ 22) i (n / 2 ^ 19 % 2 ^ 19) u (n % 2 ^ 19) v
     (eq-eqb (n / 2 ^ 61 % 2) 1 (omega arith)) (omega arith) (omega arith) (omega arith)
 note_of-note_word (Enter false i u v) f =
     let n = 2 ^ 62 + 0 + i * 2 ^ 39 + u * 2 ^ 19 + v in
     note_of-enter n (omega arith)
-    ∙ four Enter (eqb (n / 2 ^ 61 % 2) 1) false (n / 2 ^ 39 % 2 ^ 22) i (n / 2 ^ 19 % 2 ^ 19) u (n % 2 ^ 19) v
+    ∙ ap-four Enter (eqb (n / 2 ^ 61 % 2) 1) false (n / 2 ^ 39 % 2 ^ 22) i (n / 2 ^ 19 % 2 ^ 19) u (n % 2 ^ 19) v
     (ne_eqb (n / 2 ^ 61 % 2) 1 (λ e. omega arith)) (omega arith) (omega arith) (omega arith)
 note_of-note_word (Put x p) f =
     let n = 2 * 2 ^ 62 + x * 2 ^ 21 + p in
@@ -131,8 +131,8 @@ pub record Packed (w : NoteWord) (n : ℕ) : Type 0 where
   pub back : note_of n ≡ w
 
 -- the word of a note that fits is read as that note
-packed : (w : NoteWord) (n : ℕ) → IsFitting w → n ≡ note_word w → Packed w n
-packed w n f e = record { word = e; back = ap note_of e ∙ note_of-note_word w f }
+note-packed : (w : NoteWord) (n : ℕ) → IsFitting w → n ≡ note_word w → Packed w n
+note-packed w n f e = record { word = e; back = ap note_of e ∙ note_of-note_word w f }
 
 -- the fields of an entered update, added up with its kind and bit as one, are its word
 enter_word : (k : ℕ) (add : Bool) (i u v : ℕ) → k ≡ cond add 3 2 → k * 2 ^ 61 + i * 2 ^ 39 + u * 2 ^ 19 + v ≡ note_word (Enter add i u v)
@@ -150,23 +150,23 @@ pub enter_packed : (w : NoteWord) (k : ℕ) (add : Bool) (i u v : ℕ) → IsFit
     → Packed w (bit_or (bit_or (bit_or (k * 2 ^ 61 % 2 ^ 64) (i * 2 ^ 39 % 2 ^ 64)) (u * 2 ^ 19 % 2 ^ 64)) v)
 enter_packed w k add i u v f e kind =
     let f' : IsFitting (Enter add i u v) = subst IsFitting e f in
-    packed w _ f (shifted_enter k i u v (kind_small k add kind) f'.0 f'.1 f'.2 ∙ (enter_word k add i u v kind ∙ ap note_word (sym e)))
+    note-packed w _ f (shifted_enter k i u v (kind_small k add kind) f'.0 f'.1 f'.2 ∙ (enter_word k add i u v kind ∙ ap note_word (sym e)))
 
 -- what the program packs of a put is its word, and is read as it
 pub put_packed : (w : NoteWord) (x p : ℕ) → IsFitting w → w ≡ Put x p → Packed w (bit_or (bit_or (2 * 2 ^ 62) (x * 2 ^ 21 % 2 ^ 64)) p)
 unfolding note_word
 put_packed w x p f e =
     let f' : IsFitting (Put x p) = subst IsFitting e f in
-    packed w _ f (shifted_put x p f'.0 f'.1 ∙ ap note_word (sym e))
+    note-packed w _ f (shifted_put x p f'.0 f'.1 ∙ ap note_word (sym e))
 
 -- what the program packs of a take is its word, and is read as it
 pub take_packed : (w : NoteWord) (x : ℕ) → IsFitting w → w ≡ Take x → Packed w (bit_or (3 * 2 ^ 62) x)
 unfolding note_word
 take_packed w x f e =
     let f' : IsFitting (Take x) = subst IsFitting e f in
-    packed w _ f (shifted_take x f' ∙ ap note_word (sym e))
+    note-packed w _ f (shifted_take x f' ∙ ap note_word (sym e))
 
 -- 0 is the word of nothing, and is read as nothing
 pub nothing_packed : (w : NoteWord) → IsFitting w → w ≡ Nothing → Packed w 0
 unfolding note_word
-nothing_packed w f e = packed w 0 f (ap note_word (sym e))
+nothing_packed w f e = note-packed w 0 f (ap note_word (sym e))

@@ -72,25 +72,25 @@ one-more o start log more misses miss legal within after all last =
 -- A refusal of the shared state. -------------------------------------------------------------------------
 
 -- a refusal for another reason than a stale stamp is a fault of the update, with its cause
-pub faults : (o : Opened) (old new : List Event) (index : ℕ) (plan : Plan) (update : Update) (f : SharedFault) → plan.update ≡ update
+pub refusal-faults : (o : Opened) (old new : List Event) (index : ℕ) (plan : Plan) (update : Update) (f : SharedFault) → plan.update ≡ update
     → HasCause o old new index plan f → IfErr (told_attempt f) (HasUpdateCause o old new index update)
-faults o old new index plan update (shared.Full entries) same is = is
-faults o old new index plan update (shared.Stale vertex edges used now) same is = tt
-faults o old new index plan update (shared.Spent highest needed) same is =
+refusal-faults o old new index plan update (shared.Full entries) same is = is
+refusal-faults o old new index plan update (shared.Stale vertex edges used now) same is = tt
+refusal-faults o old new index plan update (shared.Spent highest needed) same is =
     record { is_highest = is.is_highest; few = is.few; exceeds = is.exceeds }
-faults o old new index plan update (shared.NoMemory None) same is = tt
-faults o old new index plan update (shared.NoMemory (Some receipt)) same is =
+refusal-faults o old new index plan update (shared.NoMemory None) same is = tt
+refusal-faults o old new index plan update (shared.NoMemory (Some receipt)) same is =
     receipt-since o old old new index plan.update update receipt same (prefix_self old) is
 
 -- a refusal for a stale stamp is a true miss since the plan was begun
-misses : (o : Opened) (old before new : List Event) (index : ℕ) (plan : Plan) (update : Update) (f : SharedFault) → IsPrefix before new
+refusal-misses : (o : Opened) (old before new : List Event) (index : ℕ) (plan : Plan) (update : Update) (f : SharedFault) → IsPrefix before new
     → Legal o.table.shape o.table.opening new → WereReadSince o old before (answers_in plan.used) → HasCause o before new index plan f
     → IfOk (told_attempt f) (IsAttempt o old new index update)
-misses o old before new index plan update (shared.Full entries) goes-on legal read is = tt
-misses o old before new index plan update (shared.Stale vertex edges used now) goes-on legal read is =
+refusal-misses o old before new index plan update (shared.Full entries) goes-on legal read is = tt
+refusal-misses o old before new index plan update (shared.Stale vertex edges used now) goes-on legal read is =
     true-miss o old before new (answers_in plan.used) vertex edges used now legal goes-on read is
-misses o old before new index plan update (shared.Spent highest needed) goes-on legal read is = tt
-misses o old before new index plan update (shared.NoMemory entered) goes-on legal read is = tt
+refusal-misses o old before new index plan update (shared.Spent highest needed) goes-on legal read is = tt
+refusal-misses o old before new index plan update (shared.NoMemory entered) goes-on legal read is = tt
 
 -- A plan that a worker has made, what it had seen before, and what it has seen since.
 pub record IsPlanned (o : Opened) (old now : List Event) (update : Update) (plan : Plan) : Type 0 where
@@ -99,9 +99,9 @@ pub record IsPlanned (o : Opened) (old now : List Event) (update : Update) (plan
   pub update_is : plan.update ≡ update
 
 -- a plan that was made inside, of what was read since, is one that the worker has planned
-pub planned : {o : Opened} {inside worker : Seen} {now : List Event} {update : Update} (plan : Plan) → inside ≡ worker → IsPrefix inside.log now
+pub inside-planned : {o : Opened} {inside worker : Seen} {now : List Event} {update : Update} (plan : Plan) → inside ≡ worker → IsPrefix inside.log now
     → WereReadSince o inside.log now (answers_in plan.used) → plan.update ≡ update → IsPlanned o worker.log now update plan
-planned {o} {inside} {worker} {now} {update} plan is begins read same = record {
+inside-planned {o} {inside} {worker} {now} {update} plan is begins read same = record {
   begins = subst (λ (w : Seen). IsPrefix w.log now) is begins;
   read = subst (λ (w : Seen). WereReadSince o w.log now (answers_in plan.used)) is read;
   update_is = same;
@@ -119,7 +119,7 @@ pub missed-so : {o : Opened} {old now : List Event} {update : Update} {plan : Pl
     → Legal o.table.shape o.table.opening new → HasCause o now new index plan f → IfOk told (IsAttempt o old new index update)
 missed-so {o} {old} {now} {update} {plan} new index f told told-is p later legal is =
     subst (λ (r : Result Attempt UpdateFault). IfOk r (IsAttempt o old new index update)) (sym told-is)
-    (misses o old now new index plan update f later legal p.read is)
+    (refusal-misses o old now new index plan update f later legal p.read is)
 
 -- where a planned update was refused, and that is told as a fault, the fault has its cause
 pub refused-so : {o : Opened} {old now : List Event} {update : Update} {plan : Plan} (new : List Event) (index : ℕ) (f : SharedFault)
@@ -129,7 +129,7 @@ refused-so {o} {old} {now} {update} {plan} new index f told told-is p is =
     IfErr-weaker told (HasUpdateCause o now new index update) (HasUpdateCause o old new index update)
     (λ g h. cause-since o old now new index update g p.begins h)
     (subst (λ (r : Result Attempt UpdateFault). IfErr r (HasUpdateCause o now new index update)) (sym told-is)
-    (faults o now new index plan update f p.update_is is))
+    (refusal-faults o now new index plan update f p.update_is is))
 
 -- a fault that is handed on has its cause since any earlier moment
 pub handed-on : {T : Type 0} (o : Opened) (old now new : List Event) (index : ℕ) (update : Update) (f : UpdateFault) (r : Result T UpdateFault)
@@ -147,9 +147,9 @@ pub begun-log : {inside worker : Seen} {pass : PassSeen} {table : TableName} {lo
 begun-log {inside} {worker} {pass} {table} {loads} {splits} is split = ap (λ (p : PassSeen). p.log) split ∙ ap (λ (w : Seen). w.log) is
 
 -- a log that goes on from a split pass goes on from what its worker had seen
-pub begun : {inside worker : Seen} {pass : PassSeen} {table : TableName} {loads splits : ℕ} {now : List Event} → inside ≡ worker
+pub split-begun : {inside worker : Seen} {pass : PassSeen} {table : TableName} {loads splits : ℕ} {now : List Event} → inside ≡ worker
     → pass ≡ record { table = table; log = inside.log; loads = loads; splits = splits } → IsPrefix pass.log now → IsPrefix worker.log now
-begun {inside} {worker} {pass} {table} {loads} {splits} {now} is split pre =
+split-begun {inside} {worker} {pass} {table} {loads} {splits} {now} is split pre =
     subst (λ (l : List Event). IsPrefix l now) (begun-log is split) pre
 
 -- an update that was entered under the lock, after misses without it

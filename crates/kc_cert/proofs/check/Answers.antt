@@ -1,7 +1,7 @@
 -- The four conditions make the certificate, for high neighbours are as many in the order as below `n`; and it gives core numbers.
 use Rattle.std.proofs.Common.{ℕ, ◌∙◌, subst}
 use Rattle.kc_graph.specs.Certificate.{Enumerates}
-use Rattle.kc_graph.proofs.Law.{certified}
+use Rattle.kc_graph.proofs.Law.{certified-core_numbers}
 use Rattle.kc_cert.proofs.Counts.{all_conditions, enough_in}
 use Rattle.kc_cert.proofs.check.Goals as goal
 
@@ -16,4 +16,5 @@ returns-then-few_later-clause-exact c = (
 )
 
 pub returns-then-few_later-clause-seidman : goal.returns-then-few_later-clause-seidman
-returns-then-few_later-clause-seidman c = λ high. certified c.args.graph.now c.args.core.now c.args.order.now ((returns-then-few_later-clause-exact c).0 high)
+returns-then-few_later-clause-seidman c = λ high. certified-core_numbers c.args.graph.now c.args.core.now c.args.order.now
+    ((returns-then-few_later-clause-exact c).0 high)

@@ -7,8 +7,8 @@ use Rattle.kc_text.specs.Meaning.{ends, ends_of}
 use Rattle.kc_text.specs.Inputs.{AreAmong, AreEdges, parts_of, start_graph}
 use Rattle.kc_text.specs.Overruling.{overruled}
 use Rattle.std.specs.Prelude.{All}
-use Rattle.kc_text.proofs.Batched.{Accepted, IsMadeOf, accepted, accepted-apart, accepted-batches, accepted-edges, accepted-short, made, made-batches, made-counts}
-use Rattle.kc_text.proofs.Batched.{made-few_batches, made-short, numbered_deciding}
+use Rattle.kc_text.proofs.Batched.{Accepted, IsMadeOf, accepted-apart, accepted-batches, accepted-edges, accepted-short, input-made, made-batches, made-counts}
+use Rattle.kc_text.proofs.Batched.{made-few_batches, made-short, numbered_deciding, reading-accepted}
 use Rattle.kc_text.specs.declared.limits.TheConstants.{MOST_UPDATES}
 use Rattle.kc_text.proofs.parse.Goals as goal
 use Rattle.kc_text.proofs.parse.Goals.{After-deref-2, After-drop-reading-3}
@@ -28,7 +28,7 @@ made_of reading input edges batches e b ids start parts counts = record {
 
 -- the reading has no refusal, so it is accepted
 is-accepted : (c : After-deref-2) → Accepted c.args.bytes.now c.in_ok-reading.reading
-is-accepted c = accepted c.args.bytes.now c.in_ok-reading.reading c.in_ok-reading.ensures c.in_default.is
+is-accepted c = reading-accepted c.args.bytes.now c.in_ok-reading.reading c.in_ok-reading.ensures c.in_default.is
 
 -- the input is made of it
 is-made : (c : After-drop-reading-3) → IsMadeOf c.in_ok-reading.reading c.in_ok-input_of.field-0
@@ -59,7 +59,7 @@ input_of-requires-clause-short c =
     (accepted-short _ _ (is-accepted (goal.at.input_of-requires-clause-short c).After-deref-2))
 
 pub returns-clause-input : goal.returns-clause-input
-returns-clause-input c = let at = goal.at.returns-clause-input c in made _ _ _ (is-accepted at.After-deref-2) (is-made at.After-drop-reading-3)
+returns-clause-input c = let at = goal.at.returns-clause-input c in input-made _ _ _ (is-accepted at.After-deref-2) (is-made at.After-drop-reading-3)
 
 pub returns-clause-few : goal.returns-clause-few
 returns-clause-few c =

@@ -4,7 +4,7 @@ use Rattle.kc_words.specs.declared.shape.Shape.{Shape}
 use Rattle.kc_table.specs.Legal.{MayPut}
 use Rattle.kc_table.specs.Log.{Seen, TableName}
 use Rattle.kc_table.specs.State.{state_of}
-use Rattle.kc_agree_tests.proofs.Sections.{entered, may_put, same_stamp}
+use Rattle.kc_agree_tests.proofs.Sections.{may_put, next_entry-entered, same_stamp}
 use Rattle.kc_agree_tests.proofs.histories.enter_and_put.Goals as goal
 
 pub put_after-requires-clause-section : goal.put_after-requires-clause-section
@@ -25,5 +25,5 @@ returns-clause-stamp g c =
     let h = c.note_enter.ensures in
     let shape = ap (λ (t : TableName). t.shape) c.requires.table in
     let low : c.args.v < old.table.shape.fixed = omega (arith, c.requires.vertices.0, c.requires.shape.1, ap (λ (s : Shape). s.fixed) shape) in
-    let e = entered old new _ _ c.args.v low h.stored h.leaves in
+    let e = next_entry-entered old new _ _ c.args.v low h.stored h.leaves in
     omega (arith, e.0, e.1, c.requires.next, same_stamp new end c.args.v (c.put_after.ensures.leaves.words_are c.args.v))

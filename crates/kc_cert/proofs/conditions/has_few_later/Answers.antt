@@ -4,7 +4,7 @@ use Rattle.std.proofs.lemmas.Bool.{false≢true, cases_eq}
 use Rattle.kc_graph.specs.SimpleGraph.{SimpleGraph, degree_among}
 use Rattle.kc_graph.proofs.NeighbourLists.{row_within}
 use Rattle.kc_cert.proofs.Enumerating.{marked_more}
-use Rattle.kc_cert.proofs.Counts.{counted}
+use Rattle.kc_cert.proofs.Counts.{unmarked-counted}
 use Rattle.kc_cert.proofs.conditions.has_few_later.Goals as goal
 
 pub unmarked-requires : goal.unmarked-requires
@@ -30,7 +30,7 @@ returns-then-unmarked-core c = (
       marked_more g.size i order c.loop-v.passed.items c.loop-v.invariant.0 c.loop-v-test.true
       (c.requires.enumerates.below i 0 c.loop-v-test.true) in
       let count : c.unmarked.result ≡ degree_among g (drop (i + 1) order) v =
-      counted g v (i + 1) c.unmarked.result order c.neighbours.result.now (set c.loop-v.passed.items v true) c.deref.result.now
+      unmarked-counted g v (i + 1) c.unmarked.result order c.neighbours.result.now (set c.loop-v.passed.items v true) c.deref.result.now
       c.requires.enumerates c.neighbours.ensures marked c.deref.ensures.value c.unmarked.ensures in
       absurd (omega (arith, count, few i c.loop-v-test.true)),
 )
@@ -46,7 +46,7 @@ loop-v-preserved c =
     marked_more g.size i order c.loop-v.passed.items c.loop-v.invariant.0 c.loop-v-test.true
     (c.requires.enumerates.below i 0 c.loop-v-test.true) in
     let count : c.unmarked.result ≡ degree_among g (drop (i + 1) order) v =
-    counted g v (i + 1) c.unmarked.result order c.neighbours.result.now (set c.loop-v.passed.items v true) c.deref.result.now
+    unmarked-counted g v (i + 1) c.unmarked.result order c.neighbours.result.now (set c.loop-v.passed.items v true) c.deref.result.now
     c.requires.enumerates c.neighbours.ensures marked c.deref.ensures.value c.unmarked.ensures in
     let here : degree_among g (drop (i + 1) order) v ≤ get_or core v 0 = omega (arith, count) in (
       marked,

@@ -1,13 +1,14 @@
 -- A number no less than the last goes on rising; a lesser one is less than that of the vertex right before it in the order.
 use Rattle.std.proofs.Common.{ℕ, refl, subst, arith}
 use Rattle.std.proofs.lemmas.Bool.{false≢true}
-use Rattle.kc_cert.proofs.Falling.{RisenTo, risen_more, risen_all, falls}
+use Rattle.kc_cert.proofs.Falling.{RisenTo, risen_more, risen_all, numbers-fall}
 use Rattle.kc_cert.proofs.conditions.never_falls.Goals as goal
 
 pub returns-then-number-last : goal.returns-then-number-last
 returns-then-number-last c = (
   λ h. absurd (false≢true h),
-  λ rising. absurd (falls c.args.core.now c.args.order.now c.loop-v.v-index c.loop-v.last c.loop-v.invariant c.loop-v-test.true c.if-number-last.true rising),
+  λ rising. absurd (numbers-fall c.args.core.now c.args.order.now c.loop-v.v-index c.loop-v.last c.loop-v.invariant c.loop-v-test.true
+      c.if-number-last.true rising),
 )
 
 pub loop-v-preserved : goal.loop-v-preserved

@@ -2,14 +2,14 @@
 use Rattle.std.proofs.Common.{arith}
 use Rattle.std.proofs.lemmas.Bool.{leb-true, le-leb}
 use Rattle.kc_graph.specs.Lawful.{Ranked}
-use Rattle.kc_cert.proofs.Asking.{counted, holds_from_counts, few_later_counted, high_counted}
+use Rattle.kc_cert.proofs.Asking.{asked-counted, holds_from_counts, few_later_counted, high_counted}
 use Rattle.kc_cert.proofs.tally.holds_at.Goals as goal
 
 pub returns-then-tally-number : goal.returns-then-tally-number
 returns-then-tally-number g c =
     let s : Ranked = g.S.State.state c.args.state.now in
     let moves = c.args.arrangement.now.moves.now in
-    let k = counted s c.args.update moves c.args.z c.requires.certified c.requires.fit c.requires.vertex in (
+    let k = asked-counted s c.args.update moves c.args.z c.requires.certified c.requires.fit c.requires.vertex in (
       λ t.
           holds_from_counts s c.args.update moves c.args.z c.core-number.result c.tally_of-tally.result.later c.tally_of-tally.result.high k
           c.core-number.ensures c.tally_of-tally.ensures.later c.tally_of-tally.ensures.high c.if-tally-number.true
@@ -24,7 +24,7 @@ pub returns-else-tally-number : goal.returns-else-tally-number
 returns-else-tally-number g c =
     let s : Ranked = g.S.State.state c.args.state.now in
     let moves = c.args.arrangement.now.moves.now in
-    let k = counted s c.args.update moves c.args.z c.requires.certified c.requires.fit c.requires.vertex in (
+    let k = asked-counted s c.args.update moves c.args.z c.requires.certified c.requires.fit c.requires.vertex in (
       λ t. absurd (omega (arith, c.if-tally-number.false, leb-true c.tally_of-tally.result.later c.core-number.result t)),
       λ h.
           le-leb c.tally_of-tally.result.later c.core-number.result

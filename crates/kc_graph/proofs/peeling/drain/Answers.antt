@@ -5,9 +5,9 @@ use Rattle.kc_graph.specs.Neighbours.{AreNeighbours}
 use Rattle.kc_graph.specs.Rows.{lists, row}
 use Rattle.kc_graph.specs.Peeling.{IsAboutToTake, Lowered, Peels, at, from_turn}
 use Rattle.kc_graph.proofs.Buckets.{length-lists, row-set_same}
-use Rattle.kc_graph.proofs.Filing.{Popped, has_room, next_level, popped_fits, popped_past, taken_low, took}
+use Rattle.kc_graph.proofs.Filing.{Popped, has_room, next_level, popped_fits, popped_past, taken_low, vertex-taken}
 use Rattle.kc_graph.proofs.PeelingLemmas.{neighbours-distinct}
-use Rattle.kc_graph.proofs.Turning.{grows, last_turn, lowered_behind, next_turn, turn_takes}
+use Rattle.kc_graph.proofs.Turning.{bucket-grows, last_turn, lowered_behind, next_turn, turn_takes}
 use Rattle.kc_graph.proofs.peeling.drain.Goals as goal
 
 -- It is the turn of `v`.
@@ -45,9 +45,9 @@ module _ (g : SimpleGraph) (level turn v : ℕ) (core taken : List ℕ) (rows : 
       → order ≡ taken ++ v ∷ [] → (turn + 1 ≤ length (row rows' level)) × Peels g level core' order (from_turn level (turn + 1) rows')
   lowered ws core' order rows' is near h ordered =
       let behind = lowered_behind level (turn + 1) rows level_in ws core core' rows' (omega (arith, here.0)) h in (
-        omega (arith, here.0, grows level level ws core rows core' rows' h),
+        omega (arith, here.0, bucket-grows level level ws core rows core' rows' h),
         subst (λ (t : List ℕ). Peels g level core' t (from_turn level (turn + 1) rows')) (sym ordered)
-            (took g level v core taken ws (from_turn level (turn + 1) rows) core' (from_turn level (turn + 1) rows') (takes is) near behind),
+            (vertex-taken g level v core taken ws (from_turn level (turn + 1) rows) core' (from_turn level (turn + 1) rows') (takes is) near behind),
       )
 
 pub overflow_add-turn : goal.overflow_add-turn

@@ -4,7 +4,7 @@ use Rattle.std.proofs.Math.Seq.{take-append_seam}
 use Rattle.kc_graph.specs.Rows.{lists}
 use Rattle.kc_graph.proofs.PeelingLemmas.{remaining-lt}
 use Rattle.kc_hindex.specs.Ordering.{Orders, Sorted}
-use Rattle.kc_hindex.proofs.Taking.{all_taken, begin, few_enough}
+use Rattle.kc_hindex.proofs.Taking.{all_taken, few_enough, taking-begins}
 use Rattle.kc_hindex.proofs.ordering.order_of.Goals as goal
 
 pub levels_of-levels-requires : goal.levels_of-levels-requires
@@ -25,7 +25,7 @@ loop-level-init c =
     let all : Sorted c.args.core.now left c.args.graph.now.size (lists now) =
     subst (λ (k : ℕ). Sorted c.args.core.now left k (lists now)) c.requires.one_each sorted in
     let h : Orders c.args.graph.now c.args.core.now 0 left [] (lists now) =
-    begin c.args.graph.now c.args.core.now left (lists now) c.requires c.in_ok-left.ensures all in (
+    taking-begins c.args.graph.now c.args.core.now left (lists now) c.requires c.in_ok-left.ensures all in (
       subst (λ (t : List (Vec ℕ Global)). Orders c.args.graph.now c.args.core.now 0 left c.in_ok-order.order.items (lists t)) (sym e)
           (subst (λ (xs : List ℕ). Orders c.args.graph.now c.args.core.now 0 left xs (lists now)) (sym c.in_ok-order.ensures.items) h),
       ap length e ∙ omega (arith, c.in_ok-waiting.ensures.count, c.in_ok-put_first.ensures.one_row),

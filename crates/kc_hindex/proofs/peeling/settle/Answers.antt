@@ -4,7 +4,7 @@ use Rattle.std.proofs.lemmas.Bool.{true≢false}
 use Rattle.kc_distinct.specs.Lists.{total}
 use Rattle.kc_graph.specs.SimpleGraph.{SimpleGraph}
 use Rattle.kc_hindex.specs.Rounds.{AreRounds, HasRound, after_rounds}
-use Rattle.kc_hindex.proofs.Settling.{falls-by-one, here, later-settled, round-next, round-over, total-fits, unchanged}
+use Rattle.kc_hindex.proofs.Settling.{falls-by-one, later-settled, round-next, round-over, round-unchanged, settled-here, total-fits}
 use Rattle.kc_hindex.proofs.Cores.{settled-are_core}
 use Rattle.kc_hindex.proofs.Uncrossed.{first-ready, next-ready}
 use Rattle.kc_hindex.proofs.peeling.settle.Goals as goal
@@ -55,7 +55,7 @@ returns-clause-core g c =
     let changing : ℕ = c.loop-changing.changing in
     let same : c.round.new.numbers ≡ c.loop-changing.numbers = c.round.ensures.changed.0 c.loop-changing-test.false in
     settled-are_core graph changing c.round.new.numbers
-    (unchanged graph changing c.loop-changing.numbers c.round.new.numbers c.loop-changing.invariant.0
+    (round-unchanged graph changing c.loop-changing.numbers c.round.new.numbers c.loop-changing.invariant.0
     (round-next graph changing c.loop-changing.numbers c.round.new.numbers c.loop-changing.invariant.0 c.round.ensures.round) (sym same))
     (subst (λ (xs : List ℕ). HasRound graph changing xs) (sym same) c.loop-changing.invariant.0)
 
@@ -64,7 +64,7 @@ returns-clause-rounds g c =
     let graph : SimpleGraph = c.args.graph.now in
     let changing : ℕ = c.loop-changing.changing in
     let next : suc changing ≡ changing + 1 = omega arith in
-    subst (λ (n : ℕ). AreRounds graph n) next (here graph changing c.loop-changing.invariant.1
-    (unchanged graph changing c.loop-changing.numbers c.round.new.numbers c.loop-changing.invariant.0
+    subst (λ (n : ℕ). AreRounds graph n) next (settled-here graph changing c.loop-changing.invariant.1
+    (round-unchanged graph changing c.loop-changing.numbers c.round.new.numbers c.loop-changing.invariant.0
     (round-next graph changing c.loop-changing.numbers c.round.new.numbers c.loop-changing.invariant.0 c.round.ensures.round)
     (sym (c.round.ensures.changed.0 c.loop-changing-test.false))))

@@ -7,7 +7,7 @@ use Rattle.kc_graph.specs.declared.update.Update.{Update}
 use Rattle.kc_view.specs.Answers.{Answers, Agrees, has_list, list_of}
 use Rattle.kc_view.specs.Sure.{is_listed}
 use Rattle.kc_view.proofs.Asked.{is_listed-from}
-use Rattle.kc_view.proofs.Keeping.{agreed, core-true, order-true, still_has_core}
+use Rattle.kc_view.proofs.Keeping.{answers-agreed, core-true, order-true, still_has_core}
 use Rattle.kc_insert.specs.declared.ahead.Side.{Side}
 use Rattle.kc_insert.specs.declared.ahead.Side.TheVariants.{Higher, Next, Before}
 use Rattle.kc_insert.specs.Rising.{AsksQueued}
@@ -63,7 +63,7 @@ order-tells : (g : Over) (c : In_ok-stands_before g) (s : Ranked) (side : Side) 
     → side ≡ side_in (search_with c.args.search.update c.args.search.level s) c.args.w c.args.x
 order-tells g c s side a is =
     beside c.in_ok-core.core c.args.search.level (get_or s.core c.args.x 0) c.in_ok-stands_before.field-0 _ side
-    (core-is g (goal.at.In_ok-stands_before g c).In_ok-core s (agreed _ _ s c.stands_before.ensures.goes_on.further a))
+    (core-is g (goal.at.In_ok-stands_before g c).In_ok-core s (answers-agreed _ _ s c.stands_before.ensures.goes_on.further a))
     (omega (arith, c.if-core-search.false, c.if-core-search-2.false))
     (order-true (g.V.View.shown c.core_of.new.view).kept s _ (subst (λ (b : Answers). Agrees b s) c.in_ok-stands_before.ensures.told a)).2 is
 

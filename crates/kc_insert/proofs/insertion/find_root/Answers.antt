@@ -1,7 +1,7 @@
 -- A core number that was told stays told, so both ends have theirs at the end, and the level is the lesser one in every true state.
 use Rattle.std.proofs.Common.{◌≡◌, ℕ, true, [], get_or, refl, sym, ◌∙◌, inl, inr, arith}
 use Rattle.kc_view.specs.Answers.{Answers, has_core}
-use Rattle.kc_view.proofs.Keeping.{GoesOn-trans, agreed, core-true, still_has_core, same_core}
+use Rattle.kc_view.proofs.Keeping.{GoesOn-trans, answers-agreed, core-true, still_has_core, same_core}
 use Rattle.kc_insert.proofs.Tidy.{asks-core}
 use Rattle.kc_insert.proofs.insertion.find_root.Goals as goal
 
@@ -39,8 +39,8 @@ returns-clause-placed g c =
 
 pub returns-clause-level : goal.returns-clause-level
 returns-clause-level g c = λ s a.
-    let second = agreed _ _ s c.first_end.ensures.goes_on.further a in
-    let first = agreed _ _ s c.core_of-2.ensures.goes_on.further second in
+    let second = answers-agreed _ _ s c.first_end.ensures.goes_on.further a in
+    let first = answers-agreed _ _ s c.core_of-2.ensures.goes_on.further second in
     let u = core-true (g.V.View.shown c.core_of.new.view).kept s c.args.update.u first c.in_ok-first.ensures.told.told in
     let v = core-true (g.V.View.shown c.core_of-2.new.view).kept s c.args.update.v second c.in_ok-second.ensures.told.told in
     let one : c.in_ok-first.first ≡ get_or s.core c.args.update.u 0 = c.in_ok-first.ensures.core ∙ u.1 in

@@ -5,7 +5,7 @@ use Rattle.kc_graph.specs.Lawful.{Ranked}
 use Rattle.kc_graph.specs.declared.update.Update.{Update}
 use Rattle.kc_view.specs.Answers.{Answers, Agrees, has_core, core_of}
 use Rattle.kc_view.specs.Sure.{root_of}
-use Rattle.kc_view.proofs.Keeping.{agreed, core-true, order-true}
+use Rattle.kc_view.proofs.Keeping.{answers-agreed, core-true, order-true}
 use Rattle.kc_insert.proofs.insertion.first_end.Given.{Over}
 use Rattle.kc_insert.proofs.insertion.first_end.Goals.{In_ok-stands_before}
 use Rattle.kc_insert.proofs.insertion.first_end.Goals as goal
@@ -68,7 +68,7 @@ are-even : (g : Over) (c : In_ok-stands_before g) (s : Ranked) → Agrees (g.V.V
 are-even g c s a =
     let kept : Answers = (g.V.View.shown c.args.view.now).kept in
     let k =
-    cores-are kept s c.args.update c.args.first c.args.second (agreed _ _ s c.stands_before.ensures.goes_on.further a) c.requires.first
+    cores-are kept s c.args.update c.args.first c.args.second (answers-agreed _ _ s c.stands_before.ensures.goes_on.further a) c.requires.first
     c.requires.second in
     record {
       even = omega (arith, k.first_is, k.second_is, c.if-first-second.false, c.if-second-first.false);

@@ -7,13 +7,13 @@ use Rattle.kc_graph.specs.SimpleGraph.{adjacent}
 use Rattle.kc_graph.specs.Lawful.{Ranked, IsCertified}
 use Rattle.kc_view.specs.Answers.{Agrees}
 use Rattle.kc_view.proofs.Asked.{cores-none}
-use Rattle.kc_view.proofs.Keeping.{GoesOn-trans, agreed, core-true, tells-edge}
+use Rattle.kc_view.proofs.Keeping.{GoesOn-trans, answers-agreed, core-true, tells-edge}
 use Rattle.kc_insert.specs.Rising.{cands}
 use Rattle.kc_insert.specs.declared.rising.Rising.{Rising}
 use Rattle.kc_insert.proofs.Concluding.{Concluded, first-forward, named-read, asked-forward, nobody-sure, some-sure}
 use Rattle.kc_insert.proofs.Sureness.{kept-sure}
 use Rattle.kc_insert.proofs.Tidy.{asks-first}
-use Rattle.kc_insert.proofs.Widening.{widened}
+use Rattle.kc_insert.proofs.Widening.{state-widened}
 use Rattle.kc_insert.proofs.insertion.moves_of.Given.{Over}
 use Rattle.kc_insert.proofs.insertion.moves_of.Goals.{In_ok-rise}
 use Rattle.kc_insert.proofs.insertion.moves_of.Goals as goal
@@ -25,13 +25,13 @@ concluded g c s h a =
     let update = c.args.update in
     let edge = c.in_ok-has_edge.ensures in
     let root = c.in_ok-root.ensures in
-    let second = agreed _ _ s c.find_rising.ensures.goes_on.further a in
-    let first = agreed _ _ s c.find_root.ensures.goes_on.further second in
+    let second = answers-agreed _ _ s c.find_rising.ensures.goes_on.further a in
+    let first = answers-agreed _ _ s c.find_root.ensures.goes_on.further second in
     let l = (core-true (g.V.View.shown c.find_root.new.view).kept s update.v second root.placed.1).0 in
     let is_new : adjacent s.graph update.u update.v ≡ false =
     tells-edge (g.V.View.shown c.has_edge.new.view).kept s update.u update.v c.in_ok-has_edge.field-0 first edge.read l edge.told
     ∙ c.if-branch.false in
-    let wide = widened update s c.in_ok-root.root.level c.in_ok-root.root.vertex h l is_new (root.level s second) (root.root s second) in
+    let wide = state-widened update s c.in_ok-root.root.level c.in_ok-root.root.vertex h l is_new (root.level s second) (root.root s second) in
     record {
       certified = h;
       ends = l;

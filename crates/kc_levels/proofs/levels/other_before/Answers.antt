@@ -2,7 +2,7 @@
 use Rattle.std.proofs.Common.{◌≡◌, ◌≢◌, ◌<◌, ℕ, List, Option, Some, None, true, cond, eqb, sym, ◌∙◌, ap, arith, ne_eqb, eq-eqb}
 use Rattle.std.specs.Option.{MatchOption, unwrap_or}
 use Rattle.kc_distinct.specs.Lists.{member, Distinct, without, prev_of}
-use Rattle.kc_table.proofs.Listed.{Listed, stands}
+use Rattle.kc_table.proofs.Listed.{Listed, list-stands}
 use Rattle.kc_order.specs.Standing.{list_after}
 use Rattle.kc_levels.proofs.Cuts.{prev_of-without}
 use Rattle.kc_levels.proofs.levels.other_before.Goals as goal
@@ -32,7 +32,7 @@ pub returns-then-p-v : goal.returns-then-p-v
 returns-then-p-v c =
     let s = c.args.writer.now in
     let e : ℕ = s.table.shape.items in
-    let listed : Listed s.table.shape (list_after s.table s.log) = (stands s.table.shape s.table.opening s.log c.requires.legal).listed in
+    let listed : Listed s.table.shape (list_after s.table s.log) = (list-stands s.table.shape s.table.opening s.log c.requires.legal).listed in
     let below : c.args.v < e = listed.within c.args.v c.requires.v_in in
     (first c.before-2.result e c.args.x c.args.v c.unwrap_or-p.result (list_after s.table s.log) listed.distinct c.requires.x_in c.requires.differ
     (λ q. omega (arith, q, below)) c.requires.later c.before-2.ensures c.unwrap_or-p.ensures).0 c.if-p-v.true
@@ -42,7 +42,7 @@ returns c =
     let s = c.args.writer.now in
     let e : ℕ = s.table.shape.items in
     let list : List ℕ = list_after s.table s.log in
-    let listed : Listed s.table.shape list = (stands s.table.shape s.table.opening s.log c.requires.legal).listed in
+    let listed : Listed s.table.shape list = (list-stands s.table.shape s.table.opening s.log c.requires.legal).listed in
     let below : c.args.v < e = listed.within c.args.v c.requires.v_in in
     let same : prev_of e c.args.x (without c.args.v list) ≡ prev_of e c.args.v list =
     (first c.before-2.result e c.args.x c.args.v c.unwrap_or-p.result list listed.distinct c.requires.x_in c.requires.differ

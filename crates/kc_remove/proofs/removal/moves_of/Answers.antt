@@ -3,7 +3,7 @@ use Rattle.std.proofs.Common.{◌<◌, sym, ◌∙◌, ap, subst, arith}
 use Rattle.std.proofs.lemmas.List.{append-nil}
 use Rattle.kc_distinct.specs.Lists.{member}
 use Rattle.kc_distinct.proofs.Shared.{no_items}
-use Rattle.kc_view.proofs.Keeping.{agreed, tells-edge}
+use Rattle.kc_view.proofs.Keeping.{answers-agreed, tells-edge}
 use Rattle.kc_remove.specs.Falling.{AsksNear}
 use Rattle.kc_remove.proofs.Sureness.{kept-sure, plain-sure, fall-sure, removes-told, some-level}
 use Rattle.kc_remove.proofs.Tidy.{asks-first, fallen-read}
@@ -38,7 +38,7 @@ returns-then-is_empty-clause-sure g c = λ s used h l a.
     let e = c.in_ok-has_edge.ensures in
     let f = c.in_ok-list.field-0 in
     let r =
-    removes-told _ _ c.args.update s _ _ c.level_of.ensures.goes_on (agreed _ _ s c.find_fallen.ensures.goes_on.further a) l e.read e.told
+    removes-told _ _ c.args.update s _ _ c.level_of.ensures.goes_on (answers-agreed _ _ s c.find_fallen.ensures.goes_on.further a) l e.read e.told
     c.if-not-branch.false c.in_ok-level.ensures.told in
     plain-sure c.args.update used s c.in_ok-level.level f c.requires.removes h l r (c.in_ok-list.ensures.ended s a)
     (no_items f.list.items f.list.len c.is_empty.result (sym f.list.ok.0) c.is_empty.ensures c.if-is_empty.true)
@@ -52,6 +52,6 @@ pub returns-clause-sure : goal.returns-clause-sure
 returns-clause-sure g c = λ s used h l a.
     let e = c.in_ok-has_edge.ensures in
     let r =
-    removes-told _ _ c.args.update s _ _ c.level_of.ensures.goes_on (agreed _ _ s c.find_fallen.ensures.goes_on.further a) l e.read e.told
+    removes-told _ _ c.args.update s _ _ c.level_of.ensures.goes_on (answers-agreed _ _ s c.find_fallen.ensures.goes_on.further a) l e.read e.told
     c.if-not-branch.false c.in_ok-level.ensures.told in
     fall-sure c.args.update used s c.in_ok-level.level c.in_ok-list.field-0 c.requires.removes h l r (c.in_ok-list.ensures.ended s a)

@@ -3,13 +3,13 @@ use Rattle.kc_table.proofs.Samples as sample
 use Rattle.kc_table.proofs.laws.each_condition_of_a_store_counts.Goals as goal
 
 pub returns-clause-there : goal.returns-clause-there
-returns-clause-there c = sample.there
+returns-clause-there c = sample.word-there
 
 pub returns-clause-fits : goal.returns-clause-fits
-returns-clause-fits c = sample.fits
+returns-clause-fits c = sample.value-fits
 
 pub returns-clause-follows : goal.returns-clause-follows
-returns-clause-follows c = sample.follows
+returns-clause-follows c = sample.store-follows
 
 pub returns-clause-put_of_an_item : goal.returns-clause-put_of_an_item
 returns-clause-put_of_an_item c = sample.put_of_an_item
@@ -33,7 +33,7 @@ pub returns-clause-take_of_no_vertex : goal.returns-clause-take_of_no_vertex
 returns-clause-take_of_no_vertex c = sample.take_of_no_vertex
 
 pub returns-clause-closed : goal.returns-clause-closed
-returns-clause-closed c = sample.closed
+returns-clause-closed c = sample.section-closed
 
 pub returns-clause-version_stays : goal.returns-clause-version_stays
 returns-clause-version_stays c = sample.version_stays
@@ -51,13 +51,13 @@ pub returns-clause-sealed_once : goal.returns-clause-sealed_once
 returns-clause-sealed_once c = sample.sealed_once
 
 pub returns-clause-ordered : goal.returns-clause-ordered
-returns-clause-ordered c = sample.ordered
+returns-clause-ordered c = sample.list-ordered
 
 pub returns-clause-inside : goal.returns-clause-inside
-returns-clause-inside c = sample.inside
+returns-clause-inside c = sample.item-inside
 
 pub returns-clause-outside : goal.returns-clause-outside
-returns-clause-outside c = sample.outside
+returns-clause-outside c = sample.item-outside
 
 pub returns-clause-sealed_where_put : goal.returns-clause-sealed_where_put
 returns-clause-sealed_where_put c = sample.sealed_where_put

@@ -7,7 +7,7 @@ use Rattle.std.proofs.lemmas.List.{get_or-set_same, get_or-set_other, get_or_def
 use Rattle.std.proofs.lemmas.Map.Keys.{sorted_from_strictly_increasing, below_from_sorted}
 use Rattle.kc_text.specs.Finding.{IsTable}
 use Rattle.kc_text.proofs.Members.{Contains-from_member}
-use Rattle.kc_text.proofs.Places.{found}
+use Rattle.kc_text.proofs.Places.{place-found}
 use Rattle.kc_text.proofs.finder.table.Goals as goal
 
 -- one place more
@@ -32,7 +32,7 @@ whole ids table len up below as_many each = record {
   each = λ id h.
       let (k, l, e) = Contains-from_member ids id h in
       let here : get_or ids k 0 ≡ id = get_or_default ids k 0 id l ∙ e in
-      ap (λ (i : ℕ). get_or table i 0) (sym here) ∙ each k l ∙ sym (found ids id k up l here);
+      ap (λ (i : ℕ). get_or table i 0) (sym here) ∙ each k l ∙ sym (place-found ids id k up l here);
 }
 
 pub loop-i-preserved : goal.loop-i-preserved

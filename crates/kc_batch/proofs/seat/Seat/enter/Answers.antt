@@ -3,13 +3,13 @@ use Rattle.std.proofs.Common.{◌∙◌, ap, get_or}
 use Rattle.std.proofs.lemmas.List.{get_or_default}
 use Rattle.kc_stripes.specs.Records.{opened_with}
 use Rattle.kc_batch.specs.Seats.{Seated}
-use Rattle.kc_batch.proofs.Working.{IsTried, dropped, tried, tried-spent}
+use Rattle.kc_batch.proofs.Working.{IsTried, tried-spent, update-dropped, update-tried}
 use Rattle.kc_batch.proofs.seat.Seat.enter.Given.{Over}
 use Rattle.kc_batch.proofs.seat.Seat.enter.Goals.{After-note}
 use Rattle.kc_batch.proofs.seat.Seat.enter.Goals as goal
 
 pub returns-then-is_err-clause-works : goal.returns-then-is_err-clause-works
-returns-then-is_err-clause-works g c = dropped c.self.view_is c.requires.ready c.requires.kept c.reserve.ensures.items
+returns-then-is_err-clause-works g c = update-dropped c.self.view_is c.requires.ready c.requires.kept c.reserve.ensures.items
 
 -- what became of the update, as it is noted
 was-tried : (g : Over) (c : After-note g) → let n = g.K.Name in let e = c.args.errand.now in let i = c.self.inside in
@@ -42,7 +42,7 @@ was-tried g c =
     }
 
 pub returns-clause-works : goal.returns-clause-works
-returns-clause-works g c = tried c.self.view_is c.requires.ready (was-tried g c)
+returns-clause-works g c = update-tried c.self.view_is c.requires.ready (was-tried g c)
 
 pub returns-clause-spent : goal.returns-clause-spent
 returns-clause-spent g c = tried-spent (was-tried g c)

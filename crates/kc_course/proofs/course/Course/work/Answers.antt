@@ -5,7 +5,7 @@ use Rattle.kc_table.specs.Log.{TableName}
 use Rattle.kc_journal.specs.Journals.{Journalled}
 use Rattle.kc_journal.proofs.AfterEntry.{size-is}
 use Rattle.kc_course.specs.Courses.{Coursed}
-use Rattle.kc_course.proofs.Batching.{Counted, Worked, counted, entries-more, graph-after, same-start, worked, worked-further}
+use Rattle.kc_course.proofs.Batching.{Counted, Worked, batch-worked, entries-more, graph-after, outcomes-counted, same-start, worked-further}
 use Rattle.kc_course.proofs.course.Course.work.Given.{Over}
 use Rattle.kc_course.proofs.course.Course.work.Goals.{After-deref-2}
 use Rattle.kc_course.proofs.course.Course.work.Goals as goal
@@ -13,11 +13,11 @@ use Rattle.kc_course.proofs.course.Course.work.Goals as goal
 -- the batch was entered whole, and what is counted of it
 module _ (g : Over) (c : After-deref-2 g) where
   work-entered : Worked c.args.self.journal c.in_ok-parts.parts.journal c.entered_by-first.result c.args.batch.now c.self.inside.workers.len c.in_ok-parts.done
-  work-entered = worked c.self.view_is c.entered_by-first.ensures.stands c.entered_by-first.ensures.entered c.in_ok-parts.ensures.stands c.requires.batch
+  work-entered = batch-worked c.self.view_is c.entered_by-first.ensures.stands c.entered_by-first.ensures.entered c.in_ok-parts.ensures.stands c.requires.batch
       c.in_ok-parts.ensures.done
 
   work-counted : Counted c.args.self.journal.graph.edges c.entered_by-first.result c.args.batch.now c.deref-2.result.now
-  work-counted = counted work-entered c.deref-2.ensures.value c.in_ok-outcomes.ensures c.deref.ensures.value
+  work-counted = outcomes-counted work-entered c.deref-2.ensures.value c.in_ok-outcomes.ensures c.deref.ensures.value
 
 pub entered_by-first-requires : goal.entered_by-first-requires
 entered_by-first-requires g c = omega (arith, ap (λ (s : Coursed). length s.journal.entries) c.self.view_is, c.requires.indices)

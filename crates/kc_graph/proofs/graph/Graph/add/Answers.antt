@@ -5,7 +5,7 @@ use Rattle.kc_graph.specs.SimpleGraph.{SimpleGraph}
 use Rattle.kc_graph.specs.Edges.{with_edge}
 use Rattle.kc_graph.specs.Rows.{row, graph_of, HoldsEdges, BothInserted}
 use Rattle.kc_graph.proofs.RowsLemmas.{size-view, adjacent-view}
-use Rattle.kc_graph.proofs.Adding.{graph_of-added, few_edges, present}
+use Rattle.kc_graph.proofs.Adding.{graph_of-added, few_edges, edge-present}
 use Rattle.kc_graph.proofs.Held.{held-added}
 use Rattle.kc_graph.proofs.graph.Graph.add.Goals as goal
 
@@ -29,7 +29,7 @@ module _ {rows now : List (List ℕ)} {g : SimpleGraph} {u v edges : ℕ} (held 
   view-more = graph_of-added rows now u v differ row-u row-v both ∙ ap (λ (t : SimpleGraph). with_edge t u v) view
 
 pub returns-then-has-clause-ok : goal.returns-then-has-clause-ok
-returns-then-has-clause-ok c = present c.args.self.now c.args.u c.args.v c.requires.differ (sym c.has.ensures ∙ c.if-has.true)
+returns-then-has-clause-ok c = edge-present c.args.self.now c.args.u c.args.v c.requires.differ (sym c.has.ensures ∙ c.if-has.true)
 
 pub insert_both-requires-clause-u_in : goal.insert_both-requires-clause-u_in
 insert_both-requires-clause-u_in c = omega (arith, size-view c.self.inside.rows c.args.self.now c.self.view_is)

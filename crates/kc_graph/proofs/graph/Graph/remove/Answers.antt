@@ -5,7 +5,7 @@ use Rattle.kc_graph.specs.SimpleGraph.{SimpleGraph}
 use Rattle.kc_graph.specs.Edges.{without_edge}
 use Rattle.kc_graph.specs.Rows.{row, graph_of, HoldsEdges, BothDeleted}
 use Rattle.kc_graph.proofs.RowsLemmas.{size-view, adjacent-view}
-use Rattle.kc_graph.proofs.Removing.{graph_of-removed, missing}
+use Rattle.kc_graph.proofs.Removing.{edge-missing, graph_of-removed}
 use Rattle.kc_graph.proofs.Held.{held-removed}
 use Rattle.kc_graph.proofs.graph.Graph.remove.Goals as goal
 
@@ -29,7 +29,7 @@ module _ {rows now : List (List ℕ)} {g : SimpleGraph} {u v edges : ℕ} (held 
   view-less = graph_of-removed rows now u v differ row-u row-v both ∙ ap (λ (t : SimpleGraph). without_edge t u v) view
 
 pub returns-then-not-has-clause-removed : goal.returns-then-not-has-clause-removed
-returns-then-not-has-clause-removed c = missing c.args.self.now c.args.u c.args.v c.requires.differ (sym c.has.ensures ∙ c.if-not-has.true)
+returns-then-not-has-clause-removed c = edge-missing c.args.self.now c.args.u c.args.v c.requires.differ (sym c.has.ensures ∙ c.if-not-has.true)
 
 pub delete_both-requires-clause-u_in : goal.delete_both-requires-clause-u_in
 delete_both-requires-clause-u_in c = omega (arith, size-view c.self.inside.rows c.args.self.now c.self.view_is)

@@ -4,7 +4,7 @@ use Rattle.kc_graph.specs.declared.row.Row.{Row}
 use Rattle.kc_graph.specs.Rows.{row, Deleted}
 use Rattle.kc_graph.specs.Blocks.{LieFrom, IsShorter, entries_of, entries_of_each}
 use Rattle.kc_graph.proofs.Lying.{lie-shortened, entries-shortened, row-in, lies-view, row-view}
-use Rattle.kc_graph.proofs.Scattering.{written}
+use Rattle.kc_graph.proofs.Scattering.{list-written}
 use Rattle.kc_graph.proofs.rows.Rows.delete.Goals as goal
 
 -- The row at `v` is `old`, and then `new`; its own function was handed all of the block, which is `now` then.
@@ -21,7 +21,8 @@ module _ (block handed : List ℕ) (rows : List Row) (lists : List (List ℕ)) (
 
   -- the rows still lie one after the other
   lie-left : LieFrom 0 (take len (now ++ drop (length now) block)) (set rows v new)
-  lie-left = subst (λ (t : List ℕ). LieFrom 0 t (set rows v new)) (sym (written now block len n)) (lie-shortened block now rows v old new lie row_in is place)
+  lie-left = subst (λ (t : List ℕ). LieFrom 0 t (set rows v new)) (sym (list-written now block len n))
+      (lie-shortened block now rows v old new lie row_in is place)
 
   -- and have their numbers, but for the one that went
   view-left : (w : ℕ) → Deleted (entries_of handed old) (entries_of now new) w
@@ -30,7 +31,7 @@ module _ (block handed : List ℕ) (rows : List Row) (lists : List (List ℕ)) (
       let was : row lists v ≡ entries_of handed old =
       row-view block rows lists v old view row_in is ∙ ap (λ (t : List ℕ). entries_of t old) (sym value) in (
         entries_of now new,
-        ap (λ (t : List ℕ). entries_of_each t (set rows v new)) (written now block len n)
+        ap (λ (t : List ℕ). entries_of_each t (set rows v new)) (list-written now block len n)
             ∙ entries-shortened block now rows v old new lie row_in is place ∙ ap (λ (t : List (List ℕ)). set t v (entries_of now new)) view,
         subst (λ (t : List ℕ). Deleted t (entries_of now new) w) (sym was) gone,
       )

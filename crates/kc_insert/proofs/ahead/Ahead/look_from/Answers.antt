@@ -9,7 +9,7 @@ use Rattle.kc_distinct.proofs.Counting.{member-get_or, member-push, member-push_
 use Rattle.kc_distinct.proofs.Shared.{Distinct-grown}
 use Rattle.kc_graph.proofs.RowsLemmas.{Distinct-from_increasing}
 use Rattle.kc_view.specs.Answers.{has_core}
-use Rattle.kc_view.proofs.Keeping.{GoesOn-trans, agreed, still_has_core, still_has_list, same_list}
+use Rattle.kc_view.proofs.Keeping.{GoesOn-trans, answers-agreed, still_has_core, still_has_list, same_list}
 use Rattle.kc_insert.specs.Added.{search_with, is_added}
 use Rattle.kc_insert.specs.Turns.{side_in, is_ahead, is_next}
 use Rattle.kc_insert.proofs.Looking.{member-more, next-more, counted-more}
@@ -68,11 +68,11 @@ loop-x-preserved g c =
       count = λ s a.
           let told = c.in_ok-side.ensures.told s a in
           counted-more (search_with c.args.search.update c.args.search.level s) c.args.w x n c.loop-x.self.count c.add.new.self.count row side l refl
-          told c.in_ok-add.ensures.count (i.count s (agreed _ _ s e.further a));
+          told c.in_ok-add.ensures.count (i.count s (answers-agreed _ _ s e.further a));
       next = λ s a y.
           let told = c.in_ok-side.ensures.told s a in
           next-more (search_with c.args.search.update c.args.search.level s) c.args.w x y n row next _ side l refl told more
-          (i.next s (agreed _ _ s e.further a) y);
+          (i.next s (answers-agreed _ _ s e.further a) y);
     }
 
 pub returns-clause-count : goal.returns-clause-count

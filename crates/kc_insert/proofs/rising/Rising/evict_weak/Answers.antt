@@ -1,6 +1,6 @@
 -- One more is evicted each turn, and no more are weak than there are vertices; once all weak are evicted the settling is over.
 use Rattle.std.proofs.Common.{◌≤◌, ◌<◌, ◌∙◌, length, arith}
-use Rattle.kc_view.proofs.Keeping.{GoesOn-trans, agreed}
+use Rattle.kc_view.proofs.Keeping.{GoesOn-trans, answers-agreed}
 use Rattle.kc_insert.proofs.Evicting.{settled-between}
 use Rattle.kc_insert.proofs.Tidy.{weak-fits}
 use Rattle.kc_insert.proofs.rising.Rising.evict_weak.Goals as goal
@@ -23,7 +23,7 @@ loop-search-preserved g c =
       tidy = o.tidy;
       anchor = o.evicted;
       turn = o.turn ∙ i.turn;
-      settling = λ s root a w st. o.settling s root a w (i.settling s root (agreed _ _ s o.goes_on.further a) w st);
+      settling = λ s root a w st. o.settling s root a w (i.settling s root (answers-agreed _ _ s o.goes_on.further a) w st);
     }
 
 pub returns-clause-settled : goal.returns-clause-settled

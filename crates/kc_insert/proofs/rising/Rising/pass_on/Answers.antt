@@ -5,7 +5,7 @@ use Rattle.std.proofs.lemmas.List.{take_more}
 use Rattle.kc_distinct.specs.Lists.{member}
 use Rattle.kc_distinct.proofs.Counting.{member-get_or, take-not_here}
 use Rattle.kc_view.proofs.Fronts.{take-member}
-use Rattle.kc_view.proofs.Keeping.{GoesOn-trans, agreed, still_has_core}
+use Rattle.kc_view.proofs.Keeping.{GoesOn-trans, answers-agreed, still_has_core}
 use Rattle.kc_insert.specs.Turns.{PassedOn}
 use Rattle.kc_insert.proofs.Passing.{passed-more}
 use Rattle.kc_insert.proofs.rising.Rising.pass_on.Goals as goal
@@ -55,5 +55,5 @@ loop-x-preserved g c =
                   [ inl q ↦ inl q | inr q ↦ inr (take-member n next z q) ])
                   k
             ];
-          }) (i.ascends s (agreed _ _ s e.further a) stand up);
+          }) (i.ascends s (answers-agreed _ _ s e.further a) stand up);
     }

@@ -6,7 +6,7 @@ use Rattle.kc_distinct.proofs.Counting.{member-get_or}
 use Rattle.kc_graph.specs.Lawful.{Ranked}
 use Rattle.kc_graph.specs.declared.update.Update.{Update}
 use Rattle.kc_view.specs.Answers.{Answers, Agrees}
-use Rattle.kc_view.proofs.Keeping.{GoesOn-refl, GoesOn-trans, agreed, order-true, still_has_core}
+use Rattle.kc_view.proofs.Keeping.{GoesOn-refl, GoesOn-trans, answers-agreed, order-true, still_has_core}
 use Rattle.kc_insert.specs.Rising.{IsTidyRising}
 use Rattle.kc_insert.proofs.Passing.{place-first, place-up, place-down}
 use Rattle.kc_insert.proofs.Tidy.{asks-order, tidy-view}
@@ -77,7 +77,7 @@ loop-low-preserved-then-branch g c =
       place = λ s a up first.
           let m = middle g (goal.at.In_ok-stands_before g told).After-index in
           place-up _ c.args.self.now.queue.items c.args.x c.loop-low.low c.loop-low.high _ c.index.result.now up
-          (i.place s (agreed _ _ s c.stands_before.ensures.goes_on.further a) up first) m.here m.at (sym c.if-branch.true ∙ order-is g told s a);
+          (i.place s (answers-agreed _ _ s c.stands_before.ensures.goes_on.further a) up first) m.here m.at (sym c.if-branch.true ∙ order-is g told s a);
     }
 
 pub loop-low-preserved : goal.loop-low-preserved
@@ -93,7 +93,7 @@ loop-low-preserved g c =
       place = λ s a up first.
           let m = middle g (goal.at.In_ok-stands_before g told).After-index in
           place-down _ c.args.self.now.queue.items c.args.x c.loop-low.low c.loop-low.high _ c.index.result.now up
-          (i.place s (agreed _ _ s c.stands_before.ensures.goes_on.further a) up first) m.here m.at (sym c.if-branch.false ∙ order-is g told s a);
+          (i.place s (answers-agreed _ _ s c.stands_before.ensures.goes_on.further a) up first) m.here m.at (sym c.if-branch.false ∙ order-is g told s a);
     }
 
 pub returns-clause-place : goal.returns-clause-place

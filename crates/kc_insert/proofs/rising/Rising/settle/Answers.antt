@@ -3,7 +3,7 @@ use Rattle.std.proofs.Common.{◌≡◌, ◌∙◌, ℕ, List, false, sym, ap, s
 use Rattle.std.proofs.lemmas.Result.{on_ok_weaker}
 use Rattle.kc_distinct.specs.Lists.{Distinct}
 use Rattle.kc_graph.proofs.RowsLemmas.{Distinct-from_increasing}
-use Rattle.kc_view.proofs.Keeping.{agreed}
+use Rattle.kc_view.proofs.Keeping.{answers-agreed}
 use Rattle.kc_insert.specs.Turns.{Loses}
 use Rattle.kc_insert.specs.declared.losing.Loss.TheVariants as loss
 use Rattle.kc_insert.specs.declared.rising.Mark.{Mark}
@@ -41,7 +41,7 @@ returns-clause-settled g c =
     let loses : Loses c.args.search.level loss.Settled c.args.row.now.items c.leave.new.self c.lose_each.new.self =
     subst (λ (xs : List ℕ). Loses c.args.search.level loss.Settled xs c.leave.new.self c.lose_each.new.self) c.deref.ensures.value l.loses in
     on_ok_weaker c.evict_weak.result (λ settled s root a w few between.
-    let first = agreed _ _ s c.evict_weak.ensures.goes_on.further a in
+    let first = answers-agreed _ _ s c.evict_weak.ensures.goes_on.further a in
     settled s root a w
     (settled-now _ root c.args.w c.past.result c.args.row.now.items c.args.self.now c.leave.new.self c.lose_each.new.self w r.tidy.orderly
     l.orderly c.in_ok-leave.ensures plain loses r.turn r.first

@@ -10,7 +10,7 @@ use Rattle.kc_graph.specs.declared.update.Update.{Update}
 use Rattle.kc_view.specs.Answers.{Agrees, has_list, list_of}
 use Rattle.kc_view.specs.Lists.{IsListOf}
 use Rattle.kc_view.specs.Views.{Shown}
-use Rattle.kc_view.proofs.Keeping.{GoesOn-trans, agreed, still_has_list, same_list}
+use Rattle.kc_view.proofs.Keeping.{GoesOn-trans, answers-agreed, still_has_list, same_list}
 use Rattle.kc_insert.specs.Added.{search_with, is_added}
 use Rattle.kc_insert.specs.Rising.{AsksQueued, IsTidyRising}
 use Rattle.kc_insert.specs.Turns.{Leaves, IsAheadOf}
@@ -69,7 +69,7 @@ has-looked g c =
       has = λ y. e.has y ∙ ap (λ xs. member y xs || is_added update w y) (sym (same_list _ _ w two.further e.told.told));
       ahead_is = λ s l a.
           let same = c.deref.ensures.value in
-          ahead-of filled.kept s update c.args.search.level filled.size w c.deref.result.now c.look_from.new.self (agreed _ _ s two.further a) l
+          ahead-of filled.kept s update c.args.search.level filled.size w c.deref.result.now c.look_from.new.self (answers-agreed _ _ s two.further a) l
           e.told.told
           (subst (IsListOf filled.size w) (sym same) e.row) (λ y. ap (member y) same ∙ e.has y) (o.count s a) (o.next s a);
     }
@@ -102,7 +102,7 @@ returns-then-saturating_add-search-clause-turns g c = on_ok_weaker c.raise.resul
     (more-than-level c.earlier_of-earlier.result c.look_from.new.self.count c.args.search.level c.saturating_add.result c.saturating_add.ensures
     c.if-saturating_add-search.true)
     ((has-looked g (goal.at.returns-then-saturating_add-search-clause-turns g c).In_ok-look_from).ahead_is s lv
-    (agreed _ _ s c.raise.ensures.goes_on.further a))
+    (answers-agreed _ _ s c.raise.ensures.goes_on.further a))
     b) c.raise.ensures.raised
 
 pub settle-requires-clause-read : goal.settle-requires-clause-read
@@ -122,7 +122,7 @@ pub returns-then-earlier-gt0-clause-turns : goal.returns-then-earlier-gt0-clause
 returns-then-earlier-gt0-clause-turns g c = on_ok_weaker c.settle.result (λ settled. λ s root lv a wd b.
     let found =
     (has-looked g (goal.at.returns-then-earlier-gt0-clause-turns g c).In_ok-look_from).ahead_is s lv
-    (agreed _ _ s c.settle.ensures.goes_on.further a) in
+    (answers-agreed _ _ s c.settle.ensures.goes_on.further a) in
     let few =
     within-level c.earlier_of-earlier.result c.look_from.new.self.count c.args.search.level c.saturating_add.result c.saturating_add.ensures
     c.if-saturating_add-search.false (search rules) in

@@ -1,6 +1,6 @@
 -- Each turn lets one leave the queue, which never has more than all vertices, and keeps what holds between two turns.
 use Rattle.std.proofs.Common.{◌≤◌, ◌<◌, length, arith}
-use Rattle.kc_view.proofs.Keeping.{GoesOn-trans, agreed}
+use Rattle.kc_view.proofs.Keeping.{GoesOn-trans, answers-agreed}
 use Rattle.kc_insert.proofs.Tidy.{queue-fits}
 use Rattle.kc_insert.proofs.rising.Rising.take_turns.Goals as goal
 
@@ -21,5 +21,5 @@ loop-self-preserved g c =
     record {
       goes_on = GoesOn-trans _ _ _ i.goes_on e;
       tidy = o.tidy;
-      turns = λ s root lv a w b. o.turns s root lv a w (i.turns s root lv (agreed _ _ s e.further a) w b);
+      turns = λ s root lv a w b. o.turns s root lv a w (i.turns s root lv (answers-agreed _ _ s e.further a) w b);
     }

@@ -1,6 +1,6 @@
 -- A put right after the other vertex.
 use Rattle.std.proofs.Common.{List, ◌<◌, ℕ, sym, subst}
-use Rattle.kc_table.proofs.Listed.{Listed, stands}
+use Rattle.kc_table.proofs.Listed.{Listed, list-stands}
 use Rattle.kc_order.specs.Standing.{list_after}
 use Rattle.kc_levels.specs.Levels.{Levelled, size_of}
 use Rattle.kc_levels.proofs.Moving.{after-leaves}
@@ -11,7 +11,7 @@ use Rattle.kc_levels.proofs.levels.Levels.shift_after.Goals as goal
 pub put_after-requires-clause-p_in : goal.put_after-requires-clause-p_in
 put_after-requires-clause-p_in c =
     let s = c.self.inside.writer in
-    let listed : Listed s.table.shape (list_after s.table s.log) = (stands s.table.shape s.table.opening s.log c.self.invariant.0.are.legal).listed in
+    let listed : Listed s.table.shape (list_after s.table s.log) = (list-stands s.table.shape s.table.opening s.log c.self.invariant.0.are.legal).listed in
     listed.vertices c.args.w (subst (λ (z : Levelled). c.args.w < size_of z) (sym c.self.view_is) c.requires.other)
 
 pub invariant_of-self : goal.invariant_of-self

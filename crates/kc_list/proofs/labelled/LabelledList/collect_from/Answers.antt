@@ -2,7 +2,7 @@
 use Rattle.std.proofs.Common.{◌<◌, ℕ, arith, ap, sym, ◌∙◌, refl, length, take, inl, inr, subst, List}
 use Rattle.std.proofs.lemmas.List.{take_more_set, length-set, length-take-le}
 use Rattle.kc_words.specs.Order.{labels}
-use Rattle.kc_list.proofs.Gathering.{Collected, collected-none, collect_in, collect_step, begun, gathered}
+use Rattle.kc_list.proofs.Gathering.{Collected, collected-none, collect_in, collect_step, collecting-begun, members-gathered}
 use Rattle.kc_list.proofs.labelled.LabelledList.collect_from.Goals as goal
 
 pub loop-x-init : goal.loop-x-init
@@ -46,18 +46,20 @@ loop-x-preserved c =
     c.next-x.result m in (
       subst P (sym (take_more_set c.loop-x.into c.loop-x.count c.loop-x.x room)) (rw c.next-x.ensures s.more),
       omega (arith, length-set c.loop-x.into c.loop-x.count c.loop-x.x),
-      inr (begun c.loop-x.x c.loop-x.count c.args.first c.loop-x.into room c.loop-x.invariant.2),
+      inr (collecting-begun c.loop-x.x c.loop-x.count c.args.first c.loop-x.into room c.loop-x.invariant.2),
     )
 
 pub returns-else-item-group-clause-segment : goal.returns-else-item-group-clause-segment
 returns-else-item-group-clause-segment c =
-    gathered c.args.self.now.links.size c.args.self.now.sheet.words c.args.self.now.links.list c.args.group c.loop-x.x c.args.first c.loop-x.count c.loop-x.into
+    members-gathered c.args.self.now.links.size c.args.self.now.sheet.words c.args.self.now.links.list c.args.group c.loop-x.x
+    c.args.first c.loop-x.count c.loop-x.into
     c.args.self.now.sound c.requires.first c.loop-x.invariant.0
     (λ _ e. c.if-item-group.false (ap (λ w. w.group) c.item.ensures ∙ e)) c.loop-x.invariant.2
 
 pub returns-after-loop-x-clause-segment : goal.returns-after-loop-x-clause-segment
 returns-after-loop-x-clause-segment c =
-    gathered c.args.self.now.links.size c.args.self.now.sheet.words c.args.self.now.links.list c.args.group c.loop-x.x c.args.first c.loop-x.count c.loop-x.into
+    members-gathered c.args.self.now.links.size c.args.self.now.sheet.words c.args.self.now.links.list c.args.group c.loop-x.x
+    c.args.first c.loop-x.count c.loop-x.into
     c.args.self.now.sound c.requires.first c.loop-x.invariant.0
     (λ ne _. ne (c.loop-x-test.false ∙ c.size.ensures)) c.loop-x.invariant.2
 

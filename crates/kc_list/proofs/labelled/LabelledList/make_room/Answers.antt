@@ -1,7 +1,7 @@
 -- Where nothing is written the list is in order at the one moment that there is.
 use Rattle.std.proofs.Common.{refl}
-use Rattle.kc_list.proofs.Rewritings.{unwritten}
+use Rattle.kc_list.proofs.Rewritings.{order-unwritten}
 use Rattle.kc_list.proofs.labelled.LabelledList.make_room.Goals as goal
 
 pub returns-then-low-high-clause-relabels : goal.returns-then-low-high-clause-relabels
-returns-then-low-high-clause-relabels c = record { groups = refl; rewrites = unwritten c.args.self.now _ }
+returns-then-low-high-clause-relabels c = record { groups = refl; rewrites = order-unwritten c.args.self.now _ }

@@ -1,6 +1,6 @@
 -- The last member of the full group shows the gap above it; where that is too narrow, all groups are spread.
 use Rattle.std.proofs.Common.{arith, ap, sym, ◌∙◌, refl}
-use Rattle.kc_list.proofs.Rewritings.{unwritten}
+use Rattle.kc_list.proofs.Rewritings.{order-unwritten}
 use Rattle.kc_list.proofs.Dividing.{last_of, wide_above, spread_above, spread_keeps}
 use Rattle.kc_list.proofs.labelled.LabelledList.make_top_room.Goals as goal
 
@@ -23,7 +23,7 @@ pub returns-then-low-high-clause-kept : goal.returns-then-low-high-clause-kept
 returns-then-low-high-clause-kept c = record { items = λ w l. refl; unused = λ h f. refl }
 
 pub returns-then-low-high-clause-relabels : goal.returns-then-low-high-clause-relabels
-returns-then-low-high-clause-relabels c = record { groups = refl; rewrites = unwritten c.args.self.now _ }
+returns-then-low-high-clause-relabels c = record { groups = refl; rewrites = order-unwritten c.args.self.now _ }
 
 pub returns-clause-gap : goal.returns-clause-gap
 returns-clause-gap c = spread_above c.args.self.now c.spread_tops.new.list c.args.p c.spread_tops.ensures.spread c.requires.full.p_in

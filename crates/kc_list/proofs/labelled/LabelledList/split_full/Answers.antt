@@ -7,7 +7,7 @@ use Rattle.kc_list.specs.Sheets.{ChangesOnly}
 use Rattle.kc_list.proofs.Spreading.{segment_in}
 use Rattle.kc_list.proofs.Counts.{top_room, top_gap, top_end_high}
 use Rattle.kc_list.proofs.Dividing.{halves_of}
-use Rattle.kc_list.proofs.Relabelling.{fewer}
+use Rattle.kc_list.proofs.Relabelling.{writes-fewer}
 use Rattle.kc_list.proofs.labelled.LabelledList.split_full.Goals as goal
 use Rattle.kc_words.specs.declared.layout.TheConstants.{BOTTOM_ROOM}
 use Rattle.kc_list.specs.declared.limits.TheConstants.{GROUP_ITEMS, HALF_ITEMS}
@@ -85,5 +85,5 @@ split-requires-clause-top c =
     }
 
 pub returns-clause-relabels : goal.returns-clause-relabels
-returns-clause-relabels c = fewer c.args.self.now c.split.new.self _ (HALF_ITEMS + 1) c.split.ensures.relabels
+returns-clause-relabels c = writes-fewer c.args.self.now c.split.new.self _ (HALF_ITEMS + 1) c.split.ensures.relabels
     (omega (arith, (halves_of c.args.self.now c.args.group c.args.members.now c.requires.segment c.requires.length).up_length))

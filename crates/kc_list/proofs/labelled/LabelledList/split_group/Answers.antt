@@ -5,7 +5,7 @@ use Rattle.kc_list.specs.Views.{HasRoomAbove, group_at}
 use Rattle.kc_list.specs.Rewriting.{Rewrites}
 use Rattle.kc_list.specs.declared.limits.TheConstants.{HALF_ITEMS}
 use Rattle.kc_list.proofs.Arranging.{spare_group}
-use Rattle.kc_list.proofs.Dividing.{still, free_there, divided, divided_rewrites}
+use Rattle.kc_list.proofs.Dividing.{group-still_full, free_there, group-divided, divided_rewrites}
 use Rattle.kc_list.proofs.labelled.LabelledList.split_group.Goals as goal
 
 pub split-fresh-requires-clause-within : goal.split-fresh-requires-clause-within
@@ -13,30 +13,30 @@ split-fresh-requires-clause-within c =
     omega (
       arith,
       ap (λ w. w.group) c.item-group.ensures,
-      (still c.args.self.now c.make_top_room.new.self c.args.p _ c.make_top_room.ensures.relabels c.make_top_room.ensures.kept c.requires.full
+      (group-still_full c.args.self.now c.make_top_room.new.self c.args.p _ c.make_top_room.ensures.relabels c.make_top_room.ensures.kept c.requires.full
           c.requires.tallied).within,
     )
 
 pub split-fresh-requires-clause-full : goal.split-fresh-requires-clause-full
 split-fresh-requires-clause-full c = ap (λ w. get_or c.make_top_room.new.self.groups w.group 0) c.item-group.ensures
-    ∙ (still c.args.self.now c.make_top_room.new.self c.args.p _ c.make_top_room.ensures.relabels c.make_top_room.ensures.kept c.requires.full
+    ∙ (group-still_full c.args.self.now c.make_top_room.new.self c.args.p _ c.make_top_room.ensures.relabels c.make_top_room.ensures.kept c.requires.full
     c.requires.tallied).size
 
 pub split-fresh-requires-clause-spare : goal.split-fresh-requires-clause-spare
 split-fresh-requires-clause-spare c =
     spare_group c.make_top_room.new.self.links.size c.make_top_room.new.self.sheet.words c.make_top_room.new.self.links.list
     c.make_top_room.new.self.groups c.make_top_room.new.self.sound
-    (still c.args.self.now c.make_top_room.new.self c.args.p _ c.make_top_room.ensures.relabels c.make_top_room.ensures.kept c.requires.full
+    (group-still_full c.args.self.now c.make_top_room.new.self c.args.p _ c.make_top_room.ensures.relabels c.make_top_room.ensures.kept c.requires.full
     c.requires.tallied).tallied
 
 pub split_at-requires-clause-full : goal.split_at-requires-clause-full
 split_at-requires-clause-full c =
-    (still c.args.self.now c.make_top_room.new.self c.args.p _ c.make_top_room.ensures.relabels c.make_top_room.ensures.kept c.requires.full
+    (group-still_full c.args.self.now c.make_top_room.new.self c.args.p _ c.make_top_room.ensures.relabels c.make_top_room.ensures.kept c.requires.full
     c.requires.tallied).full
 
 pub split_at-requires-clause-fresh : goal.split_at-requires-clause-fresh
 split_at-requires-clause-fresh c =
-    let s = still c.args.self.now c.make_top_room.new.self c.args.p _ c.make_top_room.ensures.relabels c.make_top_room.ensures.kept c.requires.full
+    let s = group-still_full c.args.self.now c.make_top_room.new.self c.args.p _ c.make_top_room.ensures.relabels c.make_top_room.ensures.kept c.requires.full
     c.requires.tallied in
     record {
       free = free_there c.make_top_room.new.self c.split-fresh.result s.tallied c.split-fresh.ensures.low c.split-fresh.ensures.within
@@ -63,9 +63,9 @@ split_at-requires-clause-room c =
 
 pub returns-clause-divides : goal.returns-clause-divides
 returns-clause-divides c =
-    let s = still c.args.self.now c.make_top_room.new.self c.args.p _ c.make_top_room.ensures.relabels c.make_top_room.ensures.kept c.requires.full
+    let s = group-still_full c.args.self.now c.make_top_room.new.self c.args.p _ c.make_top_room.ensures.relabels c.make_top_room.ensures.kept c.requires.full
     c.requires.tallied in
-    divided c.args.self.now c.make_top_room.new.self c.split_at.new.self c.args.p c.item-group.result.group c.split-fresh.result _
+    group-divided c.args.self.now c.make_top_room.new.self c.split_at.new.self c.args.p c.item-group.result.group c.split-fresh.result _
     (ap (λ w. w.group) c.item-group.ensures) c.make_top_room.ensures.relabels.rewrites c.make_top_room.ensures.kept s c.split-fresh.ensures.low
     (free_there c.make_top_room.new.self c.split-fresh.result s.tallied c.split-fresh.ensures.low c.split-fresh.ensures.within
     c.split-fresh.ensures.was_free) c.split_at.ensures.halved c.split_at.ensures.relabels.rewrites.links

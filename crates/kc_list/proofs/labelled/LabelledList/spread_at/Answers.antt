@@ -6,7 +6,7 @@ use Rattle.kc_list.specs.Places.{Sound, Segment}
 use Rattle.kc_list.proofs.Spreading.{segment_in}
 use Rattle.kc_list.proofs.Rooms.{in_segment, room_after_spread}
 use Rattle.kc_links.specs.Ring.{Chain}
-use Rattle.kc_list.proofs.Relabelling.{fewer}
+use Rattle.kc_list.proofs.Relabelling.{writes-fewer}
 use Rattle.kc_list.proofs.Changes.{spread_groups, not_of}
 use Rattle.kc_list.proofs.labelled.LabelledList.spread_at.Goals as goal
 use Rattle.kc_list.specs.declared.limits.TheConstants.{GROUP_ITEMS}
@@ -47,5 +47,5 @@ returns-clause-change c = record {
 }
 
 pub returns-clause-relabels : goal.returns-clause-relabels
-returns-clause-relabels c = fewer c.args.self.now c.spread_group.new.self _ GROUP_ITEMS c.spread_group.ensures.relabels
+returns-clause-relabels c = writes-fewer c.args.self.now c.spread_group.new.self _ GROUP_ITEMS c.spread_group.ensures.relabels
     (omega (arith, length-take-le c.gather-count.result c.gather-count.new.into (omega arith), c.gather-count.ensures.within, c.requires.length))

@@ -6,7 +6,7 @@ use Rattle.kc_words.specs.declared.layout.TheConstants.{BOTTOM_ROOM}
 use Rattle.kc_list.specs.Places.{evens}
 use Rattle.kc_list.specs.Views.{bottom_at}
 use Rattle.kc_list.proofs.Spreading.{segment_in, ascends_from_order}
-use Rattle.kc_list.proofs.Relabelling.{fewer}
+use Rattle.kc_list.proofs.Relabelling.{writes-fewer}
 use Rattle.kc_list.proofs.labelled.LabelledList.spread_by.Goals as goal
 
 pub plan-used-requires-clause-within : goal.plan-used-requires-clause-within
@@ -36,7 +36,7 @@ returns-clause-spreads c = record {
 }
 
 pub returns-clause-relabels : goal.returns-clause-relabels
-returns-clause-relabels c = fewer c.args.self.now c.relabel_all.new.self _ (length c.args.members.now) c.relabel_all.ensures.relabels
+returns-clause-relabels c = writes-fewer c.args.self.now c.relabel_all.new.self _ (length c.args.members.now) c.relabel_all.ensures.relabels
     (omega (
       arith,
       length-take-le c.plan-used.result c.plan-used.new.steps (omega arith),

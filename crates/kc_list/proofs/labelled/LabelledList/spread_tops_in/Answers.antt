@@ -5,7 +5,7 @@ use Rattle.kc_words.specs.Order.{labels}
 use Rattle.kc_list.specs.Places.{runs}
 use Rattle.kc_list.specs.Sheets.{ChangesOnly}
 use Rattle.kc_words.specs.declared.layout.TheConstants.{ITEMS}
-use Rattle.kc_list.proofs.Relabelling.{fewer}
+use Rattle.kc_list.proofs.Relabelling.{writes-fewer}
 use Rattle.kc_list.proofs.Groupings.{groups_few, group_in, tops_gaps}
 use Rattle.kc_list.proofs.labelled.LabelledList.spread_tops_in.Goals as goal
 
@@ -55,6 +55,6 @@ returns-clause-spread c =
     }
 
 pub returns-clause-relabels : goal.returns-clause-relabels
-returns-clause-relabels c = fewer c.args.self.now c.spread_tops_with.new.self _ c.args.self.now.links.size c.spread_tops_with.ensures.relabels
+returns-clause-relabels c = writes-fewer c.args.self.now c.spread_tops_with.new.self _ c.args.self.now.links.size c.spread_tops_with.ensures.relabels
     (groups_few c.args.self.now.links.size c.args.self.now.sheet.words c.args.self.now.links.list
     (take c.collect_groups-count.result c.collect_groups-count.new.into) c.args.self.now.sound c.collect_groups-count.ensures.groups)

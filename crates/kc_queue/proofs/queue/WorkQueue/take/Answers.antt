@@ -1,11 +1,11 @@
 -- What a consumer has after a pop is a share again.
 use Rattle.std.proofs.Common.{ap, ◌∙◌, subst}
 use Rattle.kc_queue.specs.Shares.{Consuming, IsShare}
-use Rattle.kc_queue.proofs.Steps.{takes, has_taken_all, after_take}
+use Rattle.kc_queue.proofs.Steps.{number-leaves, has_taken_all, after_take}
 use Rattle.kc_queue.proofs.queue.WorkQueue.take.Goals as goal
 
 pub pop_as-requires-clause-rule : goal.pop_as-requires-clause-rule
-pop_as-requires-clause-rule g c = (takes _ _ c.consumer.invariant.1, has_taken_all _ _ c.consumer.invariant.1)
+pop_as-requires-clause-rule g c = (number-leaves _ _ c.consumer.invariant.1, has_taken_all _ _ c.consumer.invariant.1)
 
 pub invariant_of-consumer : goal.invariant_of-consumer
 invariant_of-consumer g c =

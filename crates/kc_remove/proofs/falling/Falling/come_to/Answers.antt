@@ -1,10 +1,10 @@
 -- Over the edge that goes, of another level, fallen or still to look there, `y` loses nothing; else it is visited now, or has one less.
 use Rattle.std.proofs.Common.{◌+◌, take, sym, ◌∙◌, ap, subst, true≢false}
 use Rattle.std.specs.Prelude.{is_some}
-use Rattle.kc_view.proofs.Keeping.{GoesOn-trans, agreed}
+use Rattle.kc_view.proofs.Keeping.{GoesOn-trans, answers-agreed}
 use Rattle.kc_remove.specs.Visits.{IsSupport}
 use Rattle.kc_remove.specs.declared.falling.Count.{Count}
-use Rattle.kc_remove.proofs.Coming.{told-core, looked, not-looked, comes}
+use Rattle.kc_remove.proofs.Coming.{told-core, visited-looked, not-looked, neighbour-comes}
 use Rattle.kc_remove.proofs.Stepping.{pass-by, one-less, edge-gone}
 use Rattle.kc_remove.proofs.Tidy.{tidy-neighbour}
 use Rattle.kc_remove.proofs.falling.Falling.come_to.Goals as goal
@@ -25,10 +25,10 @@ returns-in_ok-visit-clause-goes_on g c = GoesOn-trans _ _ _ c.core_of.ensures.go
 pub returns-in_ok-visit-clause-falls : goal.returns-in_ok-visit-clause-falls
 returns-in_ok-visit-clause-falls g c = λ s row a new' falls.
     let o = c.in_ok-core.ensures in
-    let asked = agreed _ _ s c.visit.ensures.goes_on.further a in
+    let asked = answers-agreed _ _ s c.visit.ensures.goes_on.further a in
     let now =
-    comes c.args.search.update _ s c.args.turn.place c.args.turn.vertex c.args.y row c.args.self.now.list.items
-    (agreed _ _ s c.core_of.ensures.goes_on.further asked) c.requires.read c.requires.neighbour
+    neighbour-comes c.args.search.update _ s c.args.turn.place c.args.turn.vertex c.args.y row c.args.self.now.list.items
+    (answers-agreed _ _ s c.core_of.ensures.goes_on.further asked) c.requires.read c.requires.neighbour
     (sym c.is_removed.ensures ∙ c.if-is_removed.false) c.requires.turn c.requires.at in
     c.in_ok-visit.ensures.falls s _ _ _ a (sym (told-core _ _ s _ _ asked o.told o.core) ∙ c.if-core-search.true) now.gone falls now.others now.joined
 
@@ -54,7 +54,7 @@ returns-else-has_looked-clause-falls g c = λ s row a new' falls.
 
 pub count_on-requires-clause-out : goal.count_on-requires-clause-out
 count_on-requires-clause-out g c =
-    (looked _ _ _ c.args.turn.vertex c.args.y _ _ c.requires.tidy (sym c.find.ensures ∙ c.in-Some.is) c.has_looked.ensures c.if-has_looked.true).0
+    (visited-looked _ _ _ c.args.turn.vertex c.args.y _ _ c.requires.tidy (sym c.find.ensures ∙ c.in-Some.is) c.has_looked.ensures c.if-has_looked.true).0
 
 pub returns-in_ok-count_on-clause-falls : goal.returns-in_ok-count_on-clause-falls
 returns-in_ok-count_on-clause-falls g c = λ s row a new' falls.
@@ -62,8 +62,9 @@ returns-in_ok-count_on-clause-falls g c = λ s row a new' falls.
     let f = c.args.self.now in
     let update = c.args.search.update in
     let known = sym c.find.ensures ∙ c.in-Some.is in
-    let seen = looked _ _ _ x c.args.y _ _ c.requires.tidy known c.has_looked.ensures c.if-has_looked.true in
-    let now = comes update _ s c.args.turn.place x c.args.y row f.list.items (agreed _ _ s c.count_on.ensures.goes_on.further a) c.requires.read
+    let seen = visited-looked _ _ _ x c.args.y _ _ c.requires.tidy known c.has_looked.ensures c.if-has_looked.true in
+    let now = neighbour-comes update _ s c.args.turn.place x c.args.y row f.list.items
+    (answers-agreed _ _ s c.count_on.ensures.goes_on.further a) c.requires.read
     c.requires.neighbour (sym c.is_removed.ensures ∙ c.if-is_removed.false) c.requires.turn c.requires.at in
     let less =
     one-less update c.args.search.level s c.args.turn.place x c.args.y c.in-Some.found row f falls c.requires.turn c.requires.at known

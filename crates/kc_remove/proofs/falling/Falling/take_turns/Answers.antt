@@ -1,6 +1,6 @@
 -- No more fall than there are vertices, so the turns come to an end, and then as many are done as the list has.
 use Rattle.std.proofs.Common.{◌≡◌, ◌≤◌, ◌<◌, ℕ, length, subst, arith}
-use Rattle.kc_view.proofs.Keeping.{GoesOn-trans, agreed}
+use Rattle.kc_view.proofs.Keeping.{GoesOn-trans, answers-agreed}
 use Rattle.kc_remove.specs.Cascade.{nobody}
 use Rattle.kc_remove.specs.Falling.{FallsIn}
 use Rattle.kc_remove.proofs.Tidy.{list-fits}
@@ -24,7 +24,7 @@ loop-place-preserved g c =
       tidy = o.tidy;
       still = λ z v. o.still z (i.still z v);
       place_in = omega (arith, o.longer);
-      falls = λ s a f. o.falls s a (i.falls s (agreed _ _ s e.further a) f);
+      falls = λ s a f. o.falls s a (i.falls s (answers-agreed _ _ s e.further a) f);
     }
 
 pub returns-clause-falls : goal.returns-clause-falls

@@ -1,7 +1,7 @@
 -- An end whose core number is the level is visited before any turn has come to it; an end of another number is not of the level.
 use Rattle.std.proofs.Common.{refl, sym, ◌∙◌}
 use Rattle.std.proofs.lemmas.Bool.{false≢true}
-use Rattle.kc_view.proofs.Keeping.{GoesOn-trans, agreed}
+use Rattle.kc_view.proofs.Keeping.{GoesOn-trans, answers-agreed}
 use Rattle.kc_remove.specs.Cascade.{nobody}
 use Rattle.kc_remove.proofs.Coming.{told-core}
 use Rattle.kc_remove.proofs.Tidy.{tidy-end}
@@ -16,7 +16,7 @@ returns-in_ok-visit-clause-goes_on g c = GoesOn-trans _ _ _ c.core_of.ensures.go
 pub returns-in_ok-visit-clause-falls : goal.returns-in_ok-visit-clause-falls
 returns-in_ok-visit-clause-falls g c = λ s a falls.
     let o = c.in_ok-core.ensures in
-    let is = told-core _ _ s _ _ (agreed _ _ s c.visit.ensures.goes_on.further a) o.told o.core in
+    let is = told-core _ _ s _ _ (answers-agreed _ _ s c.visit.ensures.goes_on.further a) o.told o.core in
     c.in_ok-visit.ensures.falls s 0 nobody nobody a (sym is ∙ c.if-core-search.true) refl falls (λ z ne. refl) (λ p. absurd (false≢true p))
 
 pub returns-else-core-search-clause-tidy : goal.returns-else-core-search-clause-tidy

@@ -3,7 +3,7 @@ use Rattle.std.proofs.Common.{rules, arith, ◌≡◌, ◌++◌, ℕ, List, drop
 use Rattle.kc_view.specs.Answers.{answers_in, nothing_answered}
 use Rattle.kc_view.specs.Marks.{Marks, without_lists, without_places}
 use Rattle.kc_view.specs.Memory.{Memory, keeping}
-use Rattle.kc_view.proofs.Marked.{fresh-marks, lists-clear, overwritten, places-clear}
+use Rattle.kc_view.proofs.Marked.{fresh-marks, list-overwritten, lists-clear, places-clear}
 use Rattle.kc_view.proofs.memo.Memo.hand_out.Goals as goal
 
 pub invariant_of-self : goal.invariant_of-self
@@ -21,8 +21,8 @@ invariant_of-self c =
     let now = fresh-marks m.size c.unmark_lists.new.marks c.unmark_places.new.marks (answers_in c.replace.new.dest) none
     (lists-clear m listed placed c.self.invariant c.unmark_lists.new.marks lists-long lists-gone)
     (places-clear m listed placed c.self.invariant c.unmark_places.new.marks places-long places-gone) in
-    let all-listed = overwritten c.self.inside.listed.len listed c.unmark_lists.new.marks (omega (arith, c.self.inside.listed.ok.0)) lists-long in
-    let all-placed = overwritten c.self.inside.placed.len placed c.unmark_places.new.marks (omega (arith, c.self.inside.placed.ok.0)) places-long in
+    let all-listed = list-overwritten c.self.inside.listed.len listed c.unmark_lists.new.marks (omega (arith, c.self.inside.listed.ok.0)) lists-long in
+    let all-placed = list-overwritten c.self.inside.placed.len placed c.unmark_places.new.marks (omega (arith, c.self.inside.placed.ok.0)) places-long in
     subst (λ (xs : List ℕ). Marks (keeping (length xs) (answers_in c.replace.new.dest)) xs
     (take c.self.inside.placed.len (c.unmark_places.new.marks ++ drop (length c.unmark_places.new.marks) placed))) (sym all-listed)
     (subst (λ (xs : List ℕ). Marks (keeping (length c.unmark_lists.new.marks) (answers_in c.replace.new.dest)) c.unmark_lists.new.marks xs)
