@@ -103,6 +103,13 @@ pub before_is : (next prev : List ℕ) (a : ℕ) (l : List ℕ) (p : ℕ) → Pa
 before_is next prev a [] p h = h.0.1
 before_is next prev a (y ∷ l) p h = before_is next prev y l p h.1
 
+-- what stands behind the first of a distinct list differs from it, and so does a bound of the list
+behind_first-apart : (y s v q : ℕ) (r : List ℕ) → member y r ≡ false → y < s → q ≡ y → member v (r ++ s ∷ []) ≡ true → v ≢ q
+behind_first-apart y s v q r out low is m = elim (member-append v r (s ∷ []) m) [
+  | inl in-r ↦ (λ z. member-apart v y r in-r out (z ∙ is))
+  | inr in-s ↦ elim (member-cases v s [] in-s) [ inl is-s ↦ omega arith | inr none ↦ absurd (false≢true none) ]
+]
+
 -- after an insert, the ring goes from x on through what stood behind p
 new_tail : (next prev : List ℕ) (s x p q : ℕ) (r : List ℕ) → Path (Link next prev) p (r ++ s ∷ []) → q ≡ get_or next p 0 → s ≢ x → Distinct r
     → ((y : ℕ) → member y r ≡ true → (y ≢ p) × (y ≢ x) × (y < s)) → Link (set (set next p x) x q) (set (set prev x p) q x) x q
@@ -118,15 +125,7 @@ new_tail next prev s x p q (y ∷ r) h e n d f k =
             | inr in-s ↦
                 elim (member-cases v s [] in-s) [ inl is-s ↦ (λ z. n (sym is-s ∙ z)) | inr none ↦ absurd (false≢true none) ]
           ] in
-          let v-q : v ≢ q = elim (member-append v r (s ∷ []) v-in) [
-            | inl in-r ↦ (λ z. true≢false (sym in-r ∙ (ap (λ w. member w r) (z ∙ is) ∙ d.0)))
-            | inr in-s ↦ elim (member-cases v s [] in-s) [
-              | inl is-s ↦ (let low : y < s = (f y (member-head y r)).2 in omega arith)
-              | inr none ↦
-                  absurd (false≢true none)
-            ]
-          ] in
-          Link-twice next prev p x q u v (f u u-in).0 (f u u-in).1 v-x v-q w)
+          Link-twice next prev p x q u v (f u u-in).0 (f u u-in).1 v-x (behind_first-apart y s v q r d.0 (f y (member-head y r)).2 is v-in) w)
           h.1,
     )
 
@@ -200,15 +199,7 @@ joined_tail next prev s x p q (y ∷ r) h e d f k =
       subst (λ z. Link (set next p q) (set prev q p) p z) is k,
       Path-mono (Link next prev) (Link (set next p q) (set prev q p)) y r s
           (λ u v u-in v-in w.
-          let v-q : v ≢ q = elim (member-append v r (s ∷ []) v-in) [
-            | inl in-r ↦ (λ z. true≢false (sym in-r ∙ (ap (λ w. member w r) (z ∙ is) ∙ d.0)))
-            | inr in-s ↦ elim (member-cases v s [] in-s) [
-              | inl is-s ↦ (let low : y < s = (f y (member-head y r)).1 in omega arith)
-              | inr none ↦
-                  absurd (false≢true none)
-            ]
-          ] in
-          Link-kept next prev p q q p u v (f u u-in).0 v-q w)
+          Link-kept next prev p q q p u v (f u u-in).0 (behind_first-apart y s v q r d.0 (f y (member-head y r)).1 is v-in) w)
           h.1,
     )
 
@@ -280,21 +271,40 @@ pub first_read : (next prev : List ℕ) (s : ℕ) (xs : List ℕ) → IsRing nex
 first_read next prev s [] h = h.path.0.0
 first_read next prev s (x ∷ xs) h = h.path.0.0
 
+-- a ring, and its list cut at the member `x`
+pub record CutRing (next prev : List ℕ) (s x : ℕ) (xs : List ℕ) : Type 0 where
+  pub front : List ℕ
+  pub back : List ℕ
+  pub is : xs ≡ front ++ x ∷ back
+  pub ring : IsRing next prev s (front ++ x ∷ back)
+  pub paths : Path (Link next prev) s (front ++ x ∷ []) × Path (Link next prev) x (back ++ s ∷ [])
+  pub apart : (member x front ≡ false) × (member x back ≡ false) × Distinct (front ++ back)
+
+-- a ring can be cut at each member of its list
+ring-cut : (next prev : List ℕ) (s x : ℕ) (xs : List ℕ) → IsRing next prev s xs → member x xs ≡ true → CutRing next prev s x xs
+ring-cut next prev s x xs h m =
+    let c = member-cut x xs m in
+    let ring : IsRing next prev s (c.front ++ x ∷ c.back) = subst (IsRing next prev s) c.is h in
+    record {
+      front = c.front;
+      back = c.back;
+      is = c.is;
+      ring = ring;
+      paths = path_at next prev s c.front x c.back ring.path;
+      apart = Distinct-cut x c.front c.back ring.distinct;
+    }
+
 -- what next holds at a member is what stands right after it
 pub next_read : (next prev : List ℕ) (s x : ℕ) (xs : List ℕ) → IsRing next prev s xs → member x xs ≡ true → get_or next x 0 ≡ next_of s x xs
 next_read next prev s x xs h m =
-    let c = member-cut x xs m in
-    let h' : IsRing next prev s (c.front ++ x ∷ c.back) = subst (IsRing next prev s) c.is h in
-    after_is next prev s x c.back (path_at next prev s c.front x c.back h'.path).1
-    ∙ (sym (next_of-cut s x c.front c.back (Distinct-cut x c.front c.back h'.distinct).0) ∙ ap (next_of s x) (sym c.is))
+    let c = ring-cut next prev s x xs h m in
+    after_is next prev s x c.back c.paths.1 ∙ (sym (next_of-cut s x c.front c.back c.apart.0) ∙ ap (next_of s x) (sym c.is))
 
 -- what prev holds at a member is what stands right before it
 pub prev_read : (next prev : List ℕ) (s x : ℕ) (xs : List ℕ) → IsRing next prev s xs → member x xs ≡ true → get_or prev x 0 ≡ prev_of s x xs
 prev_read next prev s x xs h m =
-    let c = member-cut x xs m in
-    let h' : IsRing next prev s (c.front ++ x ∷ c.back) = subst (IsRing next prev s) c.is h in
-    before_is next prev s c.front x (path_at next prev s c.front x c.back h'.path).0
-    ∙ (sym (prev_of-cut s x c.front c.back (Distinct-cut x c.front c.back h'.distinct).0) ∙ ap (prev_of s x) (sym c.is))
+    let c = ring-cut next prev s x xs h m in
+    before_is next prev s c.front x c.paths.0 ∙ (sym (prev_of-cut s x c.front c.back c.apart.0) ∙ ap (prev_of s x) (sym c.is))
 
 -- after the writes of a removal: a ring, whose list is the one before without x
 pub record Removed (next prev : List ℕ) (s x p q n : ℕ) (xs : List ℕ) : Type 0 where
@@ -307,15 +317,13 @@ pub record Removed (next prev : List ℕ) (s x p q n : ℕ) (xs : List ℕ) : Ty
 pub ring-removed : (next prev : List ℕ) (s x p q n : ℕ) (xs : List ℕ) → IsRing next prev s xs → n ≡ length xs → member x xs ≡ true → p ≡ get_or prev x 0
     → q ≡ get_or next x 0 → Removed next prev s x p q n xs
 ring-removed next prev s x p q n xs h e m p-is q-is =
-    let c = member-cut x xs m in
-    let h' : IsRing next prev s (c.front ++ x ∷ c.back) = subst (IsRing next prev s) c.is h in
-    let apart' = Distinct-cut x c.front c.back h'.distinct in
-    let new = ring_remove next prev s x p q c.front c.back h' p-is q-is in
+    let c = ring-cut next prev s x xs h m in
+    let new = ring_remove next prev s x p q c.front c.back c.ring p-is q-is in
     let size : n - 1 ≡ length (c.front ++ c.back) = omega (arith, ap length c.is, length-append c.front (x ∷ c.back), length-append c.front c.back) in
     let list = ring-walked (set next p q) (set prev q p) s (n - 1) (c.front ++ c.back) new.0 size in
     record {
       ring = subst (IsRing (set next p q) (set prev q p) s) (sym list) new.0;
-      list = list ∙ (sym (without-cut x c.front c.back apart'.0 apart'.1) ∙ ap (without x) (sym c.is));
+      list = list ∙ (sym (without-cut x c.front c.back c.apart.0 c.apart.1) ∙ ap (without x) (sym c.is));
       p_fits = new.1;
       q_fits = new.2;
     }
@@ -331,18 +339,15 @@ pub ring-inserted : (next prev : List ℕ) (s x p q n : ℕ) (xs : List ℕ) →
     → member x xs ≡ false → x < s
     → q ≡ get_or next p 0 → Inserted next prev s x p q n xs
 ring-inserted next prev s x p q n xs h e m out below q-is =
-    let c = member-cut p xs m in
-    let h' : IsRing next prev s (c.front ++ p ∷ c.back) = subst (IsRing next prev s) c.is h in
-    let apart' = Distinct-cut p c.front c.back h'.distinct in
-    let new = ring_insert next prev s x p q c.front c.back h' q-is below (ap (member x) (sym c.is) ∙ out) in
-    let right = (path_at next prev s c.front p c.back h'.path).1 in
+    let c = ring-cut next prev s p xs h m in
+    let new = ring_insert next prev s x p q c.front c.back c.ring q-is below (ap (member x) (sym c.is) ∙ out) in
     let size : n + 1 ≡ length (c.front ++ p ∷ x ∷ c.back) =
     omega (arith, ap length c.is, length-append c.front (p ∷ c.back), length-append c.front (p ∷ x ∷ c.back)) in
     let list = ring-walked (set (set next p x) x q) (set (set prev x p) q x) s (n + 1) (c.front ++ p ∷ x ∷ c.back) new size in
     record {
       ring = subst (IsRing (set (set next p x) x q) (set (set prev x p) q x) s) (sym list) new;
-      list = list ∙ (sym (right_after-cut x p c.front c.back apart'.0) ∙ ap (right_after x p) (sym c.is));
-      q_fits = elim (after_in next prev s p c.back right) [
+      list = list ∙ (sym (right_after-cut x p c.front c.back c.apart.0) ∙ ap (right_after x p) (sym c.is));
+      q_fits = elim (after_in next prev s p c.back c.paths.1) [
         | inl z ↦ omega (arith, q-is, z)
         | inr k ↦
             omega (
@@ -354,28 +359,38 @@ ring-inserted next prev s x p q n xs h e m out below q-is =
       ];
     }
 
+-- a ring as its list tells it, where `n` is how many numbers the program walks
+record RingOf (next prev : List ℕ) (s n : ℕ) (xs : List ℕ) : Type 0 where
+  pub ring : IsRing next prev s xs
+  pub size : n ≡ length xs
+  pub short : n < 2 ^ 31
+
+-- what the program walks tells the ring of its list
+ring-of_walk : (next prev : List ℕ) (s n : ℕ) (xs : List ℕ) → IsRing next prev s (walk n (get_or next s 0) next) → walk n (get_or next s 0) next ≡ xs
+    → RingOf next prev s n xs
+ring-of_walk next prev s n xs h e =
+    let ring : IsRing next prev s xs = subst (IsRing next prev s) e h in
+    let size : n ≡ length xs = sym (length-walk n (get_or next s 0) next) ∙ ap length e in
+    record { ring = ring; size = size; short = omega (arith, below_bound s xs ring.distinct ring.within, ring.small) }
+
 -- what an insert leaves, from the ring as the program walks it; the list is short
 pub insert_facts : (next prev : List ℕ) (s x p q n : ℕ) (xs : List ℕ) → IsRing next prev s (walk n (get_or next s 0) next)
     → walk n (get_or next s 0) next ≡ xs → member p xs ≡ true → member x xs ≡ false → x < s → q ≡ get_or next p q
     → Inserted next prev s x p q n xs × (n < 2 ^ 31)
 insert_facts next prev s x p q n xs h e m out below q-is =
-    let h' : IsRing next prev s xs = subst (IsRing next prev s) e h in
-    let size : n ≡ length xs = sym (length-walk n (get_or next s 0) next) ∙ ap length e in
-    let p-in : p < length next = omega (arith, h'.within p m, h'.next_length) in (
-      ring-inserted next prev s x p q n xs h' size m out below (get_or_read next p q p-in q-is 0),
-      omega (arith, below_bound s xs h'.distinct h'.within, h'.small),
-    )
+    let old = ring-of_walk next prev s n xs h e in
+    let p-in : p < length next = omega (arith, old.ring.within p m, old.ring.next_length) in
+    (ring-inserted next prev s x p q n xs old.ring old.size m out below (get_or_read next p q p-in q-is 0), old.short)
 
 -- what a removal leaves, from the ring as the program walks it; the list was not empty
 pub remove_facts : (next prev : List ℕ) (s x p q n : ℕ) (xs : List ℕ) → IsRing next prev s (walk n (get_or next s 0) next)
     → walk n (get_or next s 0) next ≡ xs → member x xs ≡ true → p ≡ get_or prev x p → q ≡ get_or next x q → Removed next prev s x p q n xs × (0 < n)
 remove_facts next prev s x p q n xs h e m p-is q-is =
-    let h' : IsRing next prev s xs = subst (IsRing next prev s) e h in
-    let size : n ≡ length xs = sym (length-walk n (get_or next s 0) next) ∙ ap length e in
-    let in-next : x < length next = omega (arith, h'.within x m, h'.next_length) in
-    let in-prev : x < length prev = omega (arith, h'.within x m, h'.prev_length) in (
-      ring-removed next prev s x p q n xs h' size m (get_or_read prev x p in-prev p-is 0) (get_or_read next x q in-next q-is 0),
-      omega (arith, size, some_length x xs m),
+    let old = ring-of_walk next prev s n xs h e in
+    let in-next : x < length next = omega (arith, old.ring.within x m, old.ring.next_length) in
+    let in-prev : x < length prev = omega (arith, old.ring.within x m, old.ring.prev_length) in (
+      ring-removed next prev s x p q n xs old.ring old.size m (get_or_read prev x p in-prev p-is 0) (get_or_read next x q in-next q-is 0),
+      omega (arith, old.size, some_length x xs m),
     )
 
 -- the writes of a push make a ring with x at its end
@@ -433,16 +448,16 @@ pub record Pushed (next prev : List ℕ) (s x p n : ℕ) (xs : List ℕ) : Type 
 pub push_facts : (next prev : List ℕ) (s x p n : ℕ) (xs : List ℕ) → IsRing next prev s (walk n (get_or next s 0) next) → walk n (get_or next s 0) next ≡ xs
     → member x xs ≡ false → x < s → p ≡ get_or prev s p → Pushed next prev s x p n xs
 push_facts next prev s x p n xs h e out below p-is =
-    let h' : IsRing next prev s xs = subst (IsRing next prev s) e h in
-    let size : n ≡ length xs = sym (length-walk n (get_or next s 0) next) ∙ ap length e in
-    let s-in : s < length prev = omega (arith, h'.prev_length) in
-    let new = ring_push next prev s x p xs h' (get_or_read prev s p s-in p-is 0) below out in
-    let list = ring-walked (set (set next p x) x s) (set (set prev x p) s x) s (n + 1) (xs ++ x ∷ []) new.0 (omega (arith, size, length-append xs (x ∷ []))) in
+    let old = ring-of_walk next prev s n xs h e in
+    let s-in : s < length prev = omega (arith, old.ring.prev_length) in
+    let new = ring_push next prev s x p xs old.ring (get_or_read prev s p s-in p-is 0) below out in
+    let long : n + 1 ≡ length (xs ++ x ∷ []) = omega (arith, old.size, length-append xs (x ∷ [])) in
+    let list = ring-walked (set (set next p x) x s) (set (set prev x p) s x) s (n + 1) (xs ++ x ∷ []) new.0 long in
     record {
       ring = subst (IsRing (set (set next p x) x s) (set (set prev x p) s x) s) (sym list) new.0;
       list = list;
       p_fits = new.1;
-      short = omega (arith, below_bound s xs h'.distinct h'.within, h'.small);
+      short = old.short;
     }
 
 -- where each place holds the size, the ring has no number
