@@ -1,6 +1,6 @@
 -- The comparison by chains is that of the ranks after the shifts.
 use Rattle.std.proofs.Common.{◌≡◌, ◌≢◌, ◌<◌, ◌+◌, ℕ, suc, zero, Bool, true, false, cond, not, ◌||◌, List, [], ◌∷◌, ◌++◌, Option, Some, None, length}
-use Rattle.std.proofs.Common.{get_or, drop, subst, eqb, ltb, refl, sym, ◌∙◌, ap, ap₂, inl, inr, arith, true≢false, eq-eqb, ne_eqb, eqb-true, lt-ltb}
+use Rattle.std.proofs.Common.{get_or, drop, subst, eqb, ltb, refl, sym, ◌∙◌, ◌⊎◌, ap, ap₂, inl, inr, arith, true≢false, eq-eqb, ne_eqb, eqb-true, lt-ltb}
 use Rattle.std.specs.Prelude.{is_some, unwrap_or}
 use Rattle.std.specs.List.{insert}
 use Rattle.std.proofs.lemmas.List.{drop_more}
@@ -219,6 +219,15 @@ anchor_with-other x w y home ne = ap (λ b. unwrap_or (cond b (Some (anchor_of h
       | inr other ↦ ap (λ b. unwrap_or (cond b (Some (anchor_of home w)) (home y)) y) (ne_eqb y w other)
     ]
 
+-- a shift gives the vertex shifted the anchor of the one it comes behind, and leaves the anchors and the order of the others
+cases_shifted : (now : ℕ → ℕ) (x w y : ℕ) (home : ℕ → Option ℕ)
+    → ((y ≡ x) × (anchor_of (home_with x w home) y ≡ anchor_of home w) × (moved now x w y ≡ now w + now w + 1))
+    ⊎ ((y ≢ x) × (anchor_of (home_with x w home) y ≡ anchor_of home y) × (moved now x w y ≡ now y + now y))
+cases_shifted now x w y home = elim (cases_eq y x) [
+  | inl e ↦ inl (e, anchor_with-itself x w y home e, moved-itself now x w y e)
+  | inr ne ↦ inr (ne, anchor_with-other x w y home ne, moved-other now x w y ne)
+]
+
 -- where nothing is there, the default is read
 unwrap-none : (o : Option ℕ) (y : ℕ) → is_some o ≡ false → unwrap_or o y ≡ y
 unwrap-none None y n = refl
@@ -288,34 +297,22 @@ itself_last p = le-ltb p p (omega arith)
 far-more : (place now : ℕ → ℕ) (n : ℕ) (line : List ℕ) (home : ℕ → Option ℕ) (x w : ℕ) → w < n → Chained place now n line home → (y z : ℕ) → y < n → z < n
     → anchor_of (home_with x w home) y ≢ anchor_of (home_with x w home) z
     → ltb (moved now x w y) (moved now x w z) ≡ ltb (place (anchor_of (home_with x w home) y)) (place (anchor_of (home_with x w home) z))
-far-more place now n line home x w lw h y z ly lz ne = elim (cases_eq y x) [
-  | inl y-x ↦
-      let ay = anchor_with-itself x w y home y-x in
-      elim (cases_eq z x) [
-        | inl z-x ↦ absurd (ne (ay ∙ sym (anchor_with-itself x w z home z-x)))
-        | inr nz ↦
-            let az = anchor_with-other x w z home nz in
-            ap₂ ltb (moved-itself now x w y y-x) (moved-other now x w z nz)
-            ∙ (doubled_before (now w) (now z) ∙ (h.far w z lw lz (λ e. ne (ay ∙ (e ∙ sym az))) ∙ ap₂ ltb (ap place (sym ay)) (ap place (sym az))))
+far-more place now n line home x w lw h y z ly lz ne =
+    let as_anchors : (u v : ℕ) → anchor_of (home_with x w home) y ≡ anchor_of home u → anchor_of (home_with x w home) z ≡ anchor_of home v
+    → u < n → v < n → ltb (now u) (now v) ≡ ltb (place (anchor_of (home_with x w home) y)) (place (anchor_of (home_with x w home) z)) =
+    λ u v ay az lu lv. h.far u v lu lv (λ e. ne (ay ∙ (e ∙ sym az))) ∙ ap₂ ltb (ap place (sym ay)) (ap place (sym az)) in
+    elim (cases_shifted now x w y home) [
+      | inl (y-x, ay, y-now) ↦ elim (cases_shifted now x w z home) [
+        | inl (z-x, az, z-now) ↦ absurd (ne (ay ∙ sym az))
+        | inr (nz, az, z-now) ↦ ap₂ ltb y-now z-now ∙ (doubled_before (now w) (now z) ∙ as_anchors w z ay az lw lz)
       ]
-  | inr ny ↦
-      let ay = anchor_with-other x w y home ny in
-      elim (cases_eq z x) [
-        | inl z-x ↦
-            let az = anchor_with-itself x w z home z-x in
+      | inr (ny, ay, y-now) ↦ elim (cases_shifted now x w z home) [
+        | inl (z-x, az, z-now) ↦
             let apart : now w ≢ now y = λ e. ne (ay ∙ (ap (anchor_of home) (sym (h.apart w y lw ly e)) ∙ sym az)) in
-            ap₂ ltb (moved-other now x w y ny) (moved-itself now x w z z-x)
-            ∙
-            (doubled_behind (now w) (now y)
-            ∙
-            (less-opposite (now w) (now y) apart
-            ∙ (h.far y w ly lw (λ e. ne (ay ∙ (e ∙ sym az))) ∙ ap₂ ltb (ap place (sym ay)) (ap place (sym az)))))
-        | inr nz ↦
-            let az = anchor_with-other x w z home nz in
-            ap₂ ltb (moved-other now x w y ny) (moved-other now x w z nz)
-            ∙ (ltb-double (now y) (now z) ∙ (h.far y z ly lz (λ e. ne (ay ∙ (e ∙ sym az))) ∙ ap₂ ltb (ap place (sym ay)) (ap place (sym az))))
+            ap₂ ltb y-now z-now ∙ (doubled_behind (now w) (now y) ∙ (less-opposite (now w) (now y) apart ∙ as_anchors y w ay az ly lw))
+        | inr (nz, az, z-now) ↦ ap₂ ltb y-now z-now ∙ (ltb-double (now y) (now z) ∙ as_anchors y z ay az ly lz)
       ]
-]
+    ]
 
 -- who is in the line after a shift, and is not the one shifted, was there with the anchor
 still-in : (x w : ℕ) (line : List ℕ) (y : ℕ) → y ≢ x → member y (line_with x w line) ≡ true → member y (with_anchor w line) ≡ true
@@ -337,35 +334,27 @@ near-more place now n line home x w lw held out h y z ly lz my mz e =
     λ v ne. place_of-put x w v opened out there ne in
     let itself : (v : ℕ) → v ≡ x → place_of v (line_with x w line) ≡ place_of w opened + 1 =
     λ v v-x. ap (λ k. place_of k (line_with x w line)) v-x ∙ place_of-itself x w opened out there in
-    elim (cases_eq y x) [
-      | inl y-x ↦
-          let ay = anchor_with-itself x w y home y-x in
-          elim (cases_eq z x) [
-            | inl z-x ↦
-                ap₂ ltb (moved-itself now x w y y-x) (moved-itself now x w z z-x)
-                ∙ (itself_last (now w + now w + 1) ∙ sym (ap₂ ltb (itself y y-x) (itself z z-x) ∙ itself_last (place_of w opened + 1)))
-            | inr nz ↦
-                let az = anchor_with-other x w z home nz in
-                ap₂ ltb (moved-itself now x w y y-x) (moved-other now x w z nz)
-                ∙ (doubled_before (now w) (now z) ∙ (near-open place now n line home w held h w z lw lz there (still-in x w line z nz mz) (sym ay ∙ (e ∙ az))
-                ∙ sym (ap₂ ltb (itself y y-x) (put z nz) ∙ put_before (place_of w opened) (place_of z opened))))
-          ]
-      | inr ny ↦
-          let ay = anchor_with-other x w y home ny in
-          elim (cases_eq z x) [
-            | inl z-x ↦
-                let az = anchor_with-itself x w z home z-x in
-                ap₂ ltb (moved-other now x w y ny) (moved-itself now x w z z-x)
-                ∙ (doubled_behind (now w) (now y)
-                ∙ (ap not (near-open place now n line home w held h w y lw ly there (still-in x w line y ny my) (sym az ∙ (sym e ∙ ay)))
-                ∙ sym (ap₂ ltb (put y ny) (itself z z-x) ∙ put_behind (place_of w opened) (place_of y opened))))
-            | inr nz ↦
-                let az = anchor_with-other x w z home nz in
-                ap₂ ltb (moved-other now x w y ny) (moved-other now x w z nz)
-                ∙ (ltb-double (now y) (now z) ∙ (near-open place now n line home w held h y z ly lz (still-in x w line y ny my) (still-in x w line z nz mz)
-                (sym ay ∙ (e ∙ az))
-                ∙ sym (ap₂ ltb (put y ny) (put z nz) ∙ others_stay (place_of w opened) (place_of y opened) (place_of z opened))))
-          ]
+    elim (cases_shifted now x w y home) [
+      | inl (y-x, ay, y-now) ↦ elim (cases_shifted now x w z home) [
+        | inl (z-x, az, z-now) ↦
+            ap₂ ltb y-now z-now ∙ (itself_last (now w + now w + 1) ∙ sym (ap₂ ltb (itself y y-x) (itself z z-x) ∙ itself_last (place_of w opened + 1)))
+        | inr (nz, az, z-now) ↦
+            ap₂ ltb y-now z-now
+            ∙ (doubled_before (now w) (now z) ∙ (near-open place now n line home w held h w z lw lz there (still-in x w line z nz mz) (sym ay ∙ (e ∙ az))
+            ∙ sym (ap₂ ltb (itself y y-x) (put z nz) ∙ put_before (place_of w opened) (place_of z opened))))
+      ]
+      | inr (ny, ay, y-now) ↦ elim (cases_shifted now x w z home) [
+        | inl (z-x, az, z-now) ↦
+            ap₂ ltb y-now z-now
+            ∙ (doubled_behind (now w) (now y)
+            ∙ (ap not (near-open place now n line home w held h w y lw ly there (still-in x w line y ny my) (sym az ∙ (sym e ∙ ay)))
+            ∙ sym (ap₂ ltb (put y ny) (itself z z-x) ∙ put_behind (place_of w opened) (place_of y opened))))
+        | inr (nz, az, z-now) ↦
+            ap₂ ltb y-now z-now
+            ∙ (ltb-double (now y) (now z)
+            ∙ (near-open place now n line home w held h y z ly lz (still-in x w line y ny my) (still-in x w line z nz mz) (sym ay ∙ (e ∙ az))
+            ∙ sym (ap₂ ltb (put y ny) (put z nz) ∙ others_stay (place_of w opened) (place_of y opened) (place_of z opened))))
+      ]
     ]
 
 -- after one shift more, line and anchors tell how the vertices stand
