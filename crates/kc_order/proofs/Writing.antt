@@ -80,22 +80,25 @@ stores-versioned shape ws (w ∷ writes) long h zero d l = (h.0.low, omega (arit
 stores-versioned shape ws (w ∷ writes) long h (suc k) d l =
     stores-versioned shape (set ws w.word w.value) writes (length-set ws w.word w.value ∙ long) h.1 k d (omega (arith, l))
 
+-- the store of the write at a place
+abbrev pub store_at : List Write → ℕ → Write → Event
+store_at writes i d = event (get_or writes i d).word (get_or writes i d).value
+
 -- the stores of one write more are those so far and its own
 stores-take : (writes : List Write) (i : ℕ) (d : Write) → i < length writes
-    → stores_of (take (suc i) writes) ≡ stores_of (take i writes) ++ event (get_or writes i d).word (get_or writes i d).value ∷ []
+    → stores_of (take (suc i) writes) ≡ stores_of (take i writes) ++ store_at writes i d ∷ []
 stores-take [] i d l = absurd (omega (arith, l))
 stores-take (w ∷ writes) zero d l = refl
 stores-take (w ∷ writes) (suc i) d l = ap (λ z. event w.word w.value ∷ z) (stores-take writes i d (omega (arith, l)))
 
 -- a log with the stores of some writes and then that of the next is one with one write more
 pub stores-more : (log now : List Event) (writes : List Write) (i : ℕ) (d : Write) → i < length writes → now ≡ log ++ stores_of (take i writes)
-    → now ++ event (get_or writes i d).word (get_or writes i d).value ∷ [] ≡ log ++ stores_of (take (i + 1) writes)
+    → now ++ store_at writes i d ∷ [] ≡ log ++ stores_of (take (i + 1) writes)
 stores-more log now writes i d l is =
-    let e = event (get_or writes i d).word (get_or writes i d).value in
     let next : i + 1 ≡ suc i = omega arith in
-    ap (λ z. z ++ e ∷ []) is
+    ap (λ z. z ++ store_at writes i d ∷ []) is
     ∙
-    (append_assoc log (stores_of (take i writes)) (e ∷ [])
+    (append_assoc log (stores_of (take i writes)) (store_at writes i d ∷ [])
     ∙ ap (λ z. log ++ z) (sym (ap (λ n. stores_of (take n writes)) next ∙ stores-take writes i d l)))
 
 -- the stores of a front of writes and of those behind it are the stores of all
@@ -107,9 +110,8 @@ stores-split (w ∷ writes) (suc n) = ap (λ z. event w.word w.value ∷ z) (sto
 -- the log with the next store is legal
 pub next-legal : (seen now : Seen) (writes : List Write) (i : ℕ) (d : Write) → i < length writes → now.table ≡ seen.table
     → now.log ≡ seen.log ++ stores_of (take i writes) → legal.Legal seen.table.shape seen.table.opening (seen.log ++ stores_of writes)
-    → legal.Legal now.table.shape now.table.opening (now.log ++ event (get_or writes i d).word (get_or writes i d).value ∷ [])
+    → legal.Legal now.table.shape now.table.opening (now.log ++ store_at writes i d ∷ [])
 next-legal seen now writes i d l table is h =
-    let e = event (get_or writes i d).word (get_or writes i d).value in
     let all : (seen.log ++ stores_of (take (i + 1) writes)) ++ stores_of (drop (i + 1) writes) ≡ seen.log ++ stores_of writes =
     append_assoc seen.log (stores_of (take (i + 1) writes)) (stores_of (drop (i + 1) writes))
     ∙ ap (λ z. seen.log ++ z) (stores-split writes (i + 1)) in
@@ -124,10 +126,10 @@ pub next-there : (seen : Seen) (writes : List Write) (i : ℕ) (d : Write) → i
     → legal.Legal seen.table.shape seen.table.opening (seen.log ++ stores_of writes) → (words : TableName) → seen.table ≡ words
     → (get_or writes i d).word < word_count words.shape
 next-there seen writes i d l h words table =
-    let e = event (get_or writes i d).word (get_or writes i d).value in
     let now : Seen = record { table = seen.table; log = seen.log ++ stores_of (take i writes) } in
     let part = next-legal seen now writes i d l refl refl h in
-    subst (λ (t : TableName). e.word < word_count t.shape) table (legal-last seen.table.shape seen.table.opening now.log e part).there
+    subst (λ (t : TableName). (store_at writes i d).word < word_count t.shape) table
+    (legal-last seen.table.shape seen.table.opening now.log (store_at writes i d) part).there
 
 -- Logs that go on. ---------------------------------------------------------------------------------
 
@@ -308,6 +310,11 @@ plain-highest seen plain tied left =
     let h = highest-below plain.words (LAST_VERSION - 3) (λ k. omega (arith, plain-versions seen plain tied left k)) in
     omega (arith, h)
 
+-- where a call raises the greatest version by at most two, no version passes the last
+new-versions : (seen : Seen) (old new : Plain) → Tied seen old → HasVersionsLeft seen.table seen.log
+    → sheet.highest_of new.words ≤ sheet.highest_of old.words + 2 → (k : ℕ) → sheet.version new.words k ≤ LAST_VERSION
+new-versions seen old new tied left highest k = omega (arith, version-highest new.words k, highest, plain-highest seen old tied left)
+
 -- a put, as the writer makes it
 pub writer-puts : (seen : Seen) (old new : Plain) (x p : ℕ) (writes : List Write) → Tied seen old → HasVersionsLeft seen.table seen.log
     → x < seen.table.shape.items → member p (list_after seen.table seen.log) ≡ true → x ≢ p
@@ -322,7 +329,6 @@ writer-puts seen old new x p writes tied left x-in p-in differ section same item
     let s = state_of shape seen.table.opening seen.log in
     let listed = (list-stands shape seen.table.opening seen.log tied.legal).listed in
     let p-below : p < shape.items = listed.within p p-in in
-    let few : (k : ℕ) → sheet.version new.words k ≤ LAST_VERSION = λ k. omega (arith, version-highest new.words k, highest, plain-highest seen old tied left) in
     let within : (y : ℕ) → member y new.list ≡ true
     → y < shape.items = λ y m. elim (member-right_after y x p (without x old.list) (ap (member y) (sym list) ∙ m)) [
       | inl e ↦ omega (arith, e, x-in)
@@ -337,7 +343,7 @@ writer-puts seen old new x p writes tied left x-in p-in differ section same item
     let moves : moved (Put x p) (1 + x) old.list ≡ new.list =
     ap (λ b. cond b (right_after x p (without x old.list)) old.list) (eq-eqb (1 + x) (1 + x) refl) ∙ sym list in
     call-writes seen old new (Put x p) x writes tied (omega (arith, x-in, shape.few_items), omega (arith, p-below, shape.few_items)) same items
-    fixed w few x-in within may (λ _. refl) refl moves (omega (arith, x-in, p-below, shape.few_items))
+    fixed w (new-versions seen old new tied left highest) x-in within may (λ _. refl) refl moves (omega (arith, x-in, p-below, shape.few_items))
 
 -- a take, as the writer makes it
 pub writer-takes : (seen : Seen) (old new : Plain) (x : ℕ) (writes : List Write) → Tied seen old → HasVersionsLeft seen.table seen.log
@@ -351,13 +357,12 @@ writer-takes seen old new x writes tied left x-in free same items fixed list w h
     let s = state_of shape seen.table.opening seen.log in
     let listed = (list-stands shape seen.table.opening seen.log tied.legal).listed in
     let x-below : x < shape.items = listed.within x x-in in
-    let few : (k : ℕ) → sheet.version new.words k ≤ LAST_VERSION = λ k. omega (arith, version-highest new.words k, highest, plain-highest seen old tied left) in
     let within : (y : ℕ) → member y new.list ≡ true → y < shape.items =
     λ y m. listed.within y (ap (member y) (sym tied.list) ∙ (member-without y x old.list (ap (member y) (sym list) ∙ m)).0) in
     let may : MayAfter shape s (Take x) = λ t t-list t-entries t-stamp. (ap (member x) t-list ∙ x-in, free) in
     let moves : moved (Take x) (1 + x) old.list ≡ new.list = ap (λ b. cond b (without x old.list) old.list) (eq-eqb (1 + x) (1 + x) refl) ∙ sym list in
-    call-writes seen old new (Take x) x writes tied (omega (arith, x-below, shape.few_items)) same items fixed w few x-below within may
-    (λ _. refl) refl moves (omega (arith, x-below, shape.few_items))
+    call-writes seen old new (Take x) x writes tied (omega (arith, x-below, shape.few_items)) same items fixed w
+    (new-versions seen old new tied left (omega (arith, highest))) x-below within may (λ _. refl) refl moves (omega (arith, x-below, shape.few_items))
 
 -- a put, as the writer makes it, where its seat is seen as `now`, of the table `words`
 pub put-at : (seen now : Seen) (words : TableName) (old new : Plain) (x p : ℕ) (writes : List Write) → seen ≡ now → now.table ≡ words
