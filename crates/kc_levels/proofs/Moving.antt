@@ -156,77 +156,82 @@ pub order-member : (s : Seen) (core : List ℕ) (open_ : Bool) → AreLevels (le
     → member y (vertices_of s.table.shape.fixed (list_after s.table s.log)) ≡ true
 order-member s core open_ are y l = member-from_Contains (vertices_of s.table.shape.fixed (list_after s.table s.log)) y (are.enumerates.complete y l)
 
--- a put right behind a head
-pub front-moved : (s now : Seen) (core : List ℕ) (open_ : Bool) (v level : ℕ) → AreLevels (levelled s core open_) → MayMove (levelled s core open_) v
-    → level < s.table.shape.fixed
-    → Puts s now v (s.table.shape.fixed + level)
-    → MovesTo (levelled s core open_) (levelled now (set core v level) open_) v (s.table.shape.fixed + level)
-    (put_between (under core level) (v ∷ []) (vertices_of s.table.shape.fixed (list_after s.table s.log))) (set core v level)
-front-moved s now core open_ v level are may high puts =
-    let n : ℕ = s.table.shape.fixed in
-    let order : List ℕ = vertices_of n (list_after s.table s.log) in
-    let in-core : v < length core = omega (arith, may.vertex, are.long) in
-    let within : (y : ℕ) → member y order ≡ true → y < n = order-within s core open_ are in
-    moved-to s now core (set core v level) open_ v (n + level) (put_between (under core level) (v ∷ []) order) are may puts
-    (omega (arith, high, are.items))
-    (put-front n v level order core within may.vertex in-core (omega (arith, high)))
-    (Rises-between core (under core level) v level order in-core (λ y t. omega (arith, ltb-true (get_or core y 0) level t))
-    (λ y f. ltb-false (get_or core y 0) level f) are.rising)
-    (λ y m. within y (sym (final-has (under core level) (v ∷ []) order
-    (λ x k. elim (member-cases x v [] k)
-    [ inl e ↦ ap (λ (z : ℕ). member z order) e ∙ order-member s core open_ are v may.vertex | inr none ↦ absurd (false≢true none) ]) y) ∙ m))
-    (length-set core v level)
-    (λ w ne. get_or-set_other core v w level 0 ne)
-    (omega (arith, get_or-set_same core v level 0 in-core, high))
+-- A put of a vertex, which has the levels' order and core numbers. ----------------------------------
 
--- a put right behind a vertex
-pub after-moved : (s now : Seen) (core : List ℕ) (open_ : Bool) (v w : ℕ) → AreLevels (levelled s core open_) → MayMove (levelled s core open_) v
-    → w < s.table.shape.fixed → w ≢ v
-    → Puts s now v w
-    → MovesTo (levelled s core open_) (levelled now (set core v (get_or core w 0)) open_) v w
-    (put v w (vertices_of s.table.shape.fixed (list_after s.table s.log))) (set core v (get_or core w 0))
-after-moved s now core open_ v w are may vertex ne puts =
-    let n : ℕ = s.table.shape.fixed in
-    let order : List ℕ = vertices_of n (list_after s.table s.log) in
-    let in-core : v < length core = omega (arith, may.vertex, are.long) in
-    let within : (y : ℕ) → member y order ≡ true → y < n = order-within s core open_ are in
-    let there : member w order ≡ true = order-member s core open_ are w vertex in
-    moved-to s now core (set core v (get_or core w 0)) open_ v w (put v w order) are may puts
-    (omega (arith, vertex, s.table.shape.fixed_in))
-    (put-after n v w order core within may.vertex vertex in-core ne)
-    (Rises-after core v w order there ne in-core are.rising)
-    (λ y m. within y (sym (put_after-has v w order (order-member s core open_ are v may.vertex) there ne y) ∙ m))
-    (length-set core v (get_or core w 0))
-    (λ y k. get_or-set_other core v y (get_or core w 0) 0 k)
-    (omega (arith, get_or-set_same core v (get_or core w 0) 0 in-core, are.low w vertex))
+module _ (s now : Seen) (core : List ℕ) (open_ : Bool) (v : ℕ) (are : AreLevels (levelled s core open_)) (may : MayMove (levelled s core open_) v) where
+  -- how many vertices there are
+  abbrev count : ℕ
+  count = s.table.shape.fixed
 
--- a put behind the last other vertex of a level
-pub back-moved : (s now : Seen) (core : List ℕ) (open_ : Bool) (v level p : ℕ) → AreLevels (levelled s core open_)
-    → MayMove (levelled s core open_) v → level < s.table.shape.fixed → p < s.table.shape.items
-    → p ≡ prev_of s.table.shape.items (s.table.shape.fixed + (level + 1)) (without v (list_after s.table s.log))
-    → Puts s now v p
-    → MovesTo (levelled s core open_) (levelled now (set core v level) open_) v p
-    (put_between (up_to core level) (v ∷ []) (vertices_of s.table.shape.fixed (list_after s.table s.log))) (set core v level)
-back-moved s now core open_ v level p are may high p-in p-is puts =
-    let n : ℕ = s.table.shape.fixed in
-    let order : List ℕ = vertices_of n (list_after s.table s.log) in
-    let in-core : v < length core = omega (arith, may.vertex, are.long) in
-    let within : (y : ℕ) → member y order ≡ true → y < n = order-within s core open_ are in
-    let head : n + (level + 1) ≡ n + suc level = omega arith in
-    let p-at : p ≡ prev_of s.table.shape.items (n + suc level) (without v (with_heads n order core)) = p-is
-    ∙ ap₂ (λ (k : ℕ) (l : List ℕ). prev_of s.table.shape.items k (without v l)) head are.list in
-    moved-to s now core (set core v level) open_ v p (put_between (up_to core level) (v ∷ []) order) are may puts
-    p-in
-    (ap (λ (k : ℕ). put v k (with_heads n order core)) p-at
-    ∙ put-back n s.table.shape.items v level order core within (order-distinct n order are.enumerates) may.vertex in-core high)
-    (Rises-between core (up_to core level) v level order in-core (λ y t. leb-true (get_or core y 0) level t)
-    (λ y f. omega (arith, leb-false (get_or core y 0) level f)) are.rising)
-    (λ y m. within y (sym (final-has (up_to core level) (v ∷ []) order
-    (λ x k. elim (member-cases x v [] k)
-    [ inl e ↦ ap (λ (z : ℕ). member z order) e ∙ order-member s core open_ are v may.vertex | inr none ↦ absurd (false≢true none) ]) y) ∙ m))
-    (length-set core v level)
-    (λ w ne. get_or-set_other core v w level 0 ne)
-    (omega (arith, get_or-set_same core v level 0 in-core, high))
+  -- the order of the vertices
+  abbrev old_order : List ℕ
+  old_order = vertices_of count (list_after s.table s.log)
+
+  -- the vertices of the order are those of the table
+  old_order-within : (y : ℕ) → member y old_order ≡ true → y < count
+  old_order-within = order-within s core open_ are
+
+  -- the vertex is in the order
+  vertex-in_order : member v old_order ≡ true
+  vertex-in_order = order-member s core open_ are v may.vertex
+
+  -- the vertex has a core number
+  vertex-has_core : v < length core
+  vertex-has_core = omega (arith, may.vertex, are.long)
+
+  -- a vertex of the order with the vertex put anew is one of the table
+  put-within : (low : ℕ → Bool) (y : ℕ) → member y (put_between low (v ∷ []) old_order) ≡ true → y < count
+  put-within low y m = old_order-within y (sym (final-has low (v ∷ []) old_order
+      (λ x k. elim (member-cases x v [] k) [ inl e ↦ ap (λ (z : ℕ). member z old_order) e ∙ vertex-in_order | inr none ↦ absurd (false≢true none) ]) y) ∙ m)
+
+  -- a put right behind a head
+  front-moved : (level : ℕ) → level < count → Puts s now v (count + level)
+      → MovesTo (levelled s core open_) (levelled now (set core v level) open_) v (count + level)
+      (put_between (under core level) (v ∷ []) old_order) (set core v level)
+  front-moved level high puts =
+      moved-to s now core (set core v level) open_ v (count + level) (put_between (under core level) (v ∷ []) old_order) are may puts
+      (omega (arith, high, are.items))
+      (put-front count v level old_order core old_order-within may.vertex vertex-has_core (omega (arith, high)))
+      (Rises-between core (under core level) v level old_order vertex-has_core (λ y t. omega (arith, ltb-true (get_or core y 0) level t))
+      (λ y f. ltb-false (get_or core y 0) level f) are.rising)
+      (put-within (under core level))
+      (length-set core v level)
+      (λ w ne. get_or-set_other core v w level 0 ne)
+      (omega (arith, get_or-set_same core v level 0 vertex-has_core, high))
+
+  -- a put right behind a vertex
+  after-moved : (w : ℕ) → w < count → w ≢ v → Puts s now v w
+      → MovesTo (levelled s core open_) (levelled now (set core v (get_or core w 0)) open_) v w (put v w old_order) (set core v (get_or core w 0))
+  after-moved w vertex ne puts =
+      let anchor : member w old_order ≡ true = order-member s core open_ are w vertex in
+      moved-to s now core (set core v (get_or core w 0)) open_ v w (put v w old_order) are may puts
+      (omega (arith, vertex, s.table.shape.fixed_in))
+      (put-after count v w old_order core old_order-within may.vertex vertex vertex-has_core ne)
+      (Rises-after core v w old_order anchor ne vertex-has_core are.rising)
+      (λ y m. old_order-within y (sym (put_after-has v w old_order vertex-in_order anchor ne y) ∙ m))
+      (length-set core v (get_or core w 0))
+      (λ y k. get_or-set_other core v y (get_or core w 0) 0 k)
+      (omega (arith, get_or-set_same core v (get_or core w 0) 0 vertex-has_core, are.low w vertex))
+
+  -- a put behind the last other vertex of a level
+  back-moved : (level p : ℕ) → level < count → p < s.table.shape.items
+      → p ≡ prev_of s.table.shape.items (count + (level + 1)) (without v (list_after s.table s.log)) → Puts s now v p
+      → MovesTo (levelled s core open_) (levelled now (set core v level) open_) v p (put_between (up_to core level) (v ∷ []) old_order) (set core v level)
+  back-moved level p high p-in p-is puts =
+      let head : count + (level + 1) ≡ count + suc level = omega arith in
+      let p-at : p ≡ prev_of s.table.shape.items (count + suc level) (without v (with_heads count old_order core)) = p-is
+      ∙ ap₂ (λ (k : ℕ) (l : List ℕ). prev_of s.table.shape.items k (without v l)) head are.list in
+      moved-to s now core (set core v level) open_ v p (put_between (up_to core level) (v ∷ []) old_order) are may puts
+      p-in
+      (ap (λ (k : ℕ). put v k (with_heads count old_order core)) p-at
+      ∙ put-back count s.table.shape.items v level old_order core old_order-within (order-distinct count old_order are.enumerates)
+      may.vertex vertex-has_core high)
+      (Rises-between core (up_to core level) v level old_order vertex-has_core (λ y t. leb-true (get_or core y 0) level t)
+      (λ y f. omega (arith, leb-false (get_or core y 0) level f)) are.rising)
+      (put-within (up_to core level))
+      (length-set core v level)
+      (λ w ne. get_or-set_other core v w level 0 ne)
+      (omega (arith, get_or-set_same core v level 0 vertex-has_core, high))
 
 -- The same in the words of the contracts. ----------------------------------------------------------
 
@@ -242,7 +247,7 @@ pub front-leaves : (old : Levelled) (s now : Seen) (core stamps : List ℕ) (ope
     → Leaves old now (set core v level) open_ stamps number size v (size_of old + level) (put_between (under old.core level) (v ∷ []) old.order)
     (set old.core v level)
 front-leaves old s now core stamps open_ number size v level is h may high puts =
-    let m = front-moved s now core open_ v level h.are (subst (λ (z : Levelled). MayMove z v) (sym is) may)
+    let m = front-moved s now core open_ v h.are (subst (λ (z : Levelled). MayMove z v) (sym is) may) level
     (subst (λ (z : Levelled). level < size_of z) (sym is) high) (subst (λ (k : ℕ). Puts s now v (k + level)) h.size_is puts) in (
       tallied-moved (levelled s core open_) (levelled now (set core v level) open_) stamps number size v (s.table.shape.fixed + level) _ _ h m,
       subst (λ (z : Levelled). MovesTo z (levelled now (set core v level) open_) v (size_of z + level)
@@ -257,7 +262,7 @@ pub after-leaves : (old : Levelled) (s now : Seen) (core stamps : List ℕ) (ope
 after-leaves old s now core stamps open_ number size v w level is h may vertex ne level-is puts =
     let vertex' : w < s.table.shape.fixed = subst (λ (z : Levelled). w < size_of z) (sym is) vertex in
     let at : level ≡ get_or core w 0 = get_or_read core w level (omega (arith, vertex', h.are.long)) level-is 0 in
-    let m = after-moved s now core open_ v w h.are (subst (λ (z : Levelled). MayMove z v) (sym is) may) vertex' (λ e. ne (sym e)) puts in
+    let m = after-moved s now core open_ v h.are (subst (λ (z : Levelled). MayMove z v) (sym is) may) w vertex' (λ e. ne (sym e)) puts in
     subst (λ (k : ℕ). Leaves old now (set core v k) open_ stamps number size v w (put v w old.order) (set old.core v (get_or old.core w 0))) (sym at) (
       tallied-moved (levelled s core open_) (levelled now (set core v (get_or core w 0)) open_) stamps number size v w _ _ h m,
       subst (λ (z : Levelled). MovesTo z (levelled now (set core v (get_or core w 0)) open_) v w (put v w z.order) (set z.core v (get_or z.core w 0))) is m,
@@ -344,7 +349,7 @@ back-leaves old s now core stamps open_ number size v level p is h may high p-is
     let head : size + level + 1 ≡ n + (level + 1) = omega (arith, h.size_is) in
     let at : p ≡ prev_of s.table.shape.items (n + (level + 1)) (without v list) = p-is ∙ ap (λ (k : ℕ). prev_of s.table.shape.items k (without v list)) head in
     let p-below : p < s.table.shape.items = (list-stands s.table.shape s.table.opening s.log h.are.legal).listed.within p (place.place_in p-is) in
-    let m = back-moved s now core open_ v level p h.are (subst (λ (z : Levelled). MayMove z v) (sym is) may)
+    let m = back-moved s now core open_ v h.are (subst (λ (z : Levelled). MayMove z v) (sym is) may) level p
     (subst (λ (z : Levelled). level < size_of z) (sym is) high) p-below at puts in
     let named : p ≡ prev_of (2 * n + 1) (n + (level + 1)) (without v list) = at ∙ ap (λ (k : ℕ). prev_of k (n + (level + 1)) (without v list)) h.are.items in (
       tallied-moved (levelled s core open_) (levelled now (set core v level) open_) stamps number size v p _ _ h m,

@@ -68,43 +68,51 @@ none-of : (e x : ℕ) (xs rest : List ℕ) → ((z : ℕ) → member z xs ≡ tr
 none-of e x xs [] within is h = refl
 none-of e x xs (z ∷ zs) within is h = let l : z < e = within z (member-behind z x xs (ap (member z) is ∙ member-head z zs)) in absurd (omega (arith, h, l))
 
--- a vertex behind
+-- the list as it stands
+abbrev list_of : Seen → List ℕ
+list_of s = list_after s.table s.log
+
+-- the list of a legal log
+stands-listed : (s : Seen) → Legal s.table.shape s.table.opening s.log → Listed s.table.shape (list_of s)
+stands-listed s lawful = (list-stands s.table.shape s.table.opening s.log lawful).listed
+
+-- a member that is read behind another is the next one
+step-read : (s : Seen) (at y : ℕ) → Legal s.table.shape s.table.opening s.log → y ≡ next_of s.table.shape.items at (list_of s) → member y (list_of s) ≡ true
+    → Step at y (list_of s)
+step-read s at y lawful is m =
+    let e : ℕ = s.table.shape.items in
+    let listed = stands-listed s lawful in
+    step-of e at y (list_of s) (behind at (list_of s)) listed.distinct refl (sym (next-behind e at (list_of s)) ∙ sym is) (listed.within y m)
+
+-- where the walk finds a vertex, that is the first one left
 pub step-found : (s : Seen) (n x at y : ℕ) → Legal s.table.shape s.table.opening s.log
     → vertices_of n (behind at (list_after s.table s.log)) ≡ vertices_of n (behind x (list_after s.table s.log))
     → y ≡ next_of s.table.shape.items at (list_after s.table s.log) → member y (list_after s.table s.log) ≡ true → y < n
     → y ≡ head_or n (vertices_of n (behind x (list_after s.table s.log)))
 step-found s n x at y lawful same is m l =
-    let e : ℕ = s.table.shape.items in
-    let list : List ℕ = list_after s.table s.log in
-    let listed : Listed s.table.shape list = (list-stands s.table.shape s.table.opening s.log lawful).listed in
-    let step : Step at y list = step-of e at y list (behind at list) listed.distinct refl (sym (next-behind e at list) ∙ sym is) (listed.within y m) in
+    let step = step-read s at y lawful is m in
     sym (ap (head_or n) (sym same ∙ (ap (vertices_of n) step.here ∙ filter-yes (λ z. ltb z n) y step.rest (lt-ltb y n l))))
 
--- a head behind is passed
+-- where the walk finds a head, it goes on behind it
 pub step-passed : (s : Seen) (n x at y : ℕ) → Legal s.table.shape s.table.opening s.log
     → vertices_of n (behind at (list_after s.table s.log)) ≡ vertices_of n (behind x (list_after s.table s.log))
     → y ≡ next_of s.table.shape.items at (list_after s.table s.log) → member y (list_after s.table s.log) ≡ true → n ≤ y
     → (vertices_of n (behind y (list_after s.table s.log)) ≡ vertices_of n (behind x (list_after s.table s.log)))
     × (length (behind y (list_after s.table s.log)) < length (behind at (list_after s.table s.log)))
 step-passed s n x at y lawful same is m l =
-    let e : ℕ = s.table.shape.items in
-    let list : List ℕ = list_after s.table s.log in
-    let listed : Listed s.table.shape list = (list-stands s.table.shape s.table.opening s.log lawful).listed in
-    let step : Step at y list = step-of e at y list (behind at list) listed.distinct refl (sym (next-behind e at list) ∙ sym is) (listed.within y m) in (
+    let step = step-read s at y lawful is m in (
       ap (vertices_of n) step.there ∙ (sym (filter-no (λ z. ltb z n) y step.rest (le-ltb y n l)) ∙ (ap (vertices_of n) (sym step.here) ∙ same)),
       omega (arith, ap length step.there, ap length step.here),
     )
 
--- nothing is behind
+-- where the walk finds nothing, no vertex is left
 pub step-none : (s : Seen) (n x at : ℕ) → Legal s.table.shape s.table.opening s.log
     → vertices_of n (behind at (list_after s.table s.log)) ≡ vertices_of n (behind x (list_after s.table s.log))
     → next_of s.table.shape.items at (list_after s.table s.log) ≡ s.table.shape.items → vertices_of n (behind x (list_after s.table s.log)) ≡ []
 step-none s n x at lawful same is =
     let e : ℕ = s.table.shape.items in
-    let list : List ℕ = list_after s.table s.log in
-    let listed : Listed s.table.shape list = (list-stands s.table.shape s.table.opening s.log lawful).listed in
-    let none : behind at list ≡ [] = none-of e at list (behind at list) listed.within refl (sym (next-behind e at list) ∙ is) in
-    sym same ∙ ap (vertices_of n) none
+    let within = (stands-listed s lawful).within in
+    sym same ∙ ap (vertices_of n) (none-of e at (list_of s) (behind at (list_of s)) within refl (sym (next-behind e at (list_of s)) ∙ is))
 
 -- the vertices behind a vertex
 vertices-behind : (n v : ℕ) (xs : List ℕ) → v < n → vertices_of n (behind v xs) ≡ behind v (vertices_of n xs)
@@ -144,11 +152,10 @@ pub first-found : (old : Levelled) (s : Seen) (core stamps : List ℕ) (open_ : 
     → MatchOption o (old.order ≡ []) (λ v. (v ≡ head_or (size_of old) old.order) × (v < size_of old))
 first-found old s core stamps open_ number size o is h found =
     let n : ℕ = s.table.shape.fixed in
-    let list : List ℕ = list_after s.table s.log in
-    let at : vertices_of n (behind n list) ≡ vertices_of n list = ap (λ (l : List ℕ). vertices_of n (behind n l)) h.are.list
-    ∙ (behind-first n (vertices_of n list) core ∙ ap (vertices_of n) (sym h.are.list)) in
+    let at : vertices_of n (behind n (list_of s)) ≡ vertices_of n (list_of s) = ap (λ (l : List ℕ). vertices_of n (behind n l)) h.are.list
+    ∙ (behind-first n (vertices_of n (list_of s)) core ∙ ap (vertices_of n) (sym h.are.list)) in
     subst (λ (z : Levelled). MatchOption o (z.order ≡ []) (λ v. (v ≡ head_or (size_of z) z.order) × (v < size_of z))) is
-    (subst (λ (l : List ℕ). Found n l o) at (subst (λ (k : ℕ). Found k (vertices_of k (behind k list)) o) h.size_is found))
+    (subst (λ (l : List ℕ). Found n l o) at (subst (λ (k : ℕ). Found k (vertices_of k (behind k (list_of s))) o) h.size_is found))
 
 -- what a walk from a vertex found is the next one in the order
 pub next-found : (old : Levelled) (s : Seen) (core stamps : List ℕ) (open_ : Bool) (number size v : ℕ) (o : Option ℕ) → levelled s core open_ ≡ old
@@ -157,10 +164,9 @@ pub next-found : (old : Levelled) (s : Seen) (core stamps : List ℕ) (open_ : B
     → MatchOption o (next_of (size_of old) v old.order ≡ size_of old) (λ w. (w ≡ next_of (size_of old) v old.order) × (w < size_of old))
 next-found old s core stamps open_ number size v o is h l found =
     let n : ℕ = s.table.shape.fixed in
-    let list : List ℕ = list_after s.table s.log in
     subst (λ (z : Levelled). MatchOption o (next_of (size_of z) v z.order ≡ size_of z) (λ w. (w ≡ next_of (size_of z) v z.order) × (w < size_of z))) is
-    (as-next n v (vertices_of n list) (vertices_of n (behind v list)) o (vertices-behind n v list (omega (arith, l, ap size_of is)))
-    (subst (λ (k : ℕ). Found k (vertices_of k (behind v list)) o) h.size_is found))
+    (as-next n v (vertices_of n (list_of s)) (vertices_of n (behind v (list_of s))) o (vertices-behind n v (list_of s) (omega (arith, l, ap size_of is)))
+    (subst (λ (k : ℕ). Found k (vertices_of k (behind v (list_of s))) o) h.size_is found))
 
 -- head 0 is in the list
 pub first_head-in : (s : Seen) (core stamps : List ℕ) (open_ : Bool) (number size : ℕ) → Tallied (levelled s core open_) stamps number size
