@@ -73,12 +73,12 @@ not_both : (p q : Bool) → (p && q) ≡ false → q ≡ true → p ≡ false
 not_both p q h k = grind (arith, h, k)
 
 -- a test stays with another one added to it that holds only where it does
-test-added : (a j : Bool) → (j ≡ true → a ≡ true) → (a || j) ≡ a
-test-added a j h = elim (cases_Bool j) [ inl t ↦ let k = h t in grind (arith, t, k) | inr f ↦ grind (arith, f) ]
+or-implied : (a j : Bool) → (j ≡ true → a ≡ true) → (a || j) ≡ a
+or-implied a j h = elim (cases_Bool j) [ inl t ↦ let k = h t in grind (arith, t, k) | inr f ↦ grind (arith, f) ]
 
 -- a test stays with another one taken from it that holds only where it fails
-test-removed : (a j : Bool) → (j ≡ true → a ≡ false) → (a && not j) ≡ a
-test-removed a j h = elim (cases_Bool j) [ inl t ↦ let k = h t in grind (arith, t, k) | inr f ↦ grind (arith, f) ]
+and_not-excluded : (a j : Bool) → (j ≡ true → a ≡ false) → (a && not j) ≡ a
+and_not-excluded a j h = elim (cases_Bool j) [ inl t ↦ let k = h t in grind (arith, t, k) | inr f ↦ grind (arith, f) ]
 
 -- a test whose negation fails holds
 not_not : (b : Bool) → not b ≡ false → b ≡ true
@@ -88,14 +88,14 @@ not_not b h = grind (arith, h)
 with-same : (g : SimpleGraph) (u v a b : ℕ) → (joins u v a b ≡ true → adjacent g u v ≡ true) → adjacent (with_edge g u v) a b ≡ adjacent g a b
 with-same g u v a b h = elim (cases_eq u v) [
   | inl e ↦ ap (λ z. adjacent (with_edge g u z) a b) (sym e) ∙ with-itself g u a b
-  | inr differ ↦ adjacent-with g u v a b differ ∙ test-added (adjacent g a b) (joins u v a b) (λ j. same_ends-adjacent g u v a b j ∙ h j)
+  | inr differ ↦ adjacent-with g u v a b differ ∙ or-implied (adjacent g a b) (joins u v a b) (λ j. same_ends-adjacent g u v a b j ∙ h j)
 ]
 
 -- a removal leaves an edge where it was not there, or other ends are asked for
 without-same : (g : SimpleGraph) (u v a b : ℕ) → (joins u v a b ≡ true → adjacent g u v ≡ false) → adjacent (without_edge g u v) a b ≡ adjacent g a b
 without-same g u v a b h = elim (cases_eq u v) [
   | inl e ↦ ap (λ z. adjacent (without_edge g u z) a b) (sym e) ∙ without-itself g u a b
-  | inr differ ↦ adjacent-without g u v a b differ ∙ test-removed (adjacent g a b) (joins u v a b) (λ j. same_ends-adjacent g u v a b j ∙ h j)
+  | inr differ ↦ adjacent-without g u v a b differ ∙ and_not-excluded (adjacent g a b) (joins u v a b) (λ j. same_ends-adjacent g u v a b j ∙ h j)
 ]
 
 -- an entry that is not applied, or does not name the vertex, changes no edge of it

@@ -74,14 +74,14 @@ length-greater r n u once within =
         (λ m. let k = and_parts (ltb u w) (member w r) m in filter-member (ltb u) w r k.1 k.0)
 
 -- what passes counts once where just one of two tests lets it through
-tests-parted : (l m c : Bool) → (c ≡ true → (l || m) ≡ true) → (l && m) ≡ false → ◌≡◌ {A = ℕ} (cond c 1 0) (cond (l && c) 1 0 + cond (m && c) 1 0)
-tests-parted true true c one apart = absurd (true≢false apart)
-tests-parted true false true one apart = refl
-tests-parted true false false one apart = refl
-tests-parted false true true one apart = refl
-tests-parted false true false one apart = refl
-tests-parted false false true one apart = absurd (false≢true (one refl))
-tests-parted false false false one apart = refl
+one_of_two-counted : (l m c : Bool) → (c ≡ true → (l || m) ≡ true) → (l && m) ≡ false → ◌≡◌ {A = ℕ} (cond c 1 0) (cond (l && c) 1 0 + cond (m && c) 1 0)
+one_of_two-counted true true c one apart = absurd (true≢false apart)
+one_of_two-counted true false true one apart = refl
+one_of_two-counted true false false one apart = refl
+one_of_two-counted false true true one apart = refl
+one_of_two-counted false true false one apart = refl
+one_of_two-counted false false true one apart = absurd (false≢true (one refl))
+one_of_two-counted false false false one apart = refl
 
 -- where `v` does not pass, those that do are below it or above it
 count-parted : (p : ℕ → Bool) (v : ℕ) (ws : List ℕ) → p v ≡ false → count_by p ws ≡ count_by (λ w. ltb v w && p w) ws + count_by (λ w. ltb w v && p w) ws
@@ -90,7 +90,7 @@ count-parted p v (w ∷ ws) none =
     omega (arith, count-cons p w ws, count-cons (λ w. ltb v w && p w) w ws, count-cons (λ w. ltb w v && p w) w ws, count-parted p v ws none, one)
   where
     one : ◌≡◌ {A = ℕ} (cond (p w) 1 0) (cond (ltb v w && p w) 1 0 + cond (ltb w v && p w) 1 0)
-    one = tests-parted (ltb v w) (ltb w v) (p w)
+    one = one_of_two-counted (ltb v w) (ltb w v) (p w)
         (λ t. elim (cases_order v w) [
           | inl e ↦ absurd (true≢false (sym t ∙ (ap p (sym e) ∙ none)))
           | inr o ↦ elim o [ inl l ↦ or_left (ltb v w) (ltb w v) (lt-ltb v w l) | inr l ↦ or_right (ltb v w) (ltb w v) (lt-ltb w v l) ]

@@ -18,8 +18,8 @@ use Rattle.kc_table.proofs.LegalLogs.{legal-last, legal-opens}
 use Rattle.kc_table.proofs.Prefixes.{prefix_self, prefix_push}
 
 -- where false is true, anything follows
-false-anything : {X : Type 0} → false ≡ true → X
-false-anything e = absurd (true≢false (sym e))
+false_is_true-absurd : {X : Type 0} → false ≡ true → X
+false_is_true-absurd e = absurd (true≢false (sym e))
 
 -- the words after one store more are those before it with that one changed
 pub words_after-push : (ws : List ℕ) (es : List Event) (e : Event) → words_after ws (es ++ e ∷ []) ≡ set (words_after ws es) e.word e.value
@@ -183,7 +183,7 @@ module _ {S : Type 0} (k : Opening) where
             (λ was. fits_set k h.log h.writer s.views id (parted v) mine (λ i w _ e'. h.each i w e') j u was)
             (λ (same : pass_of v ≡ u). subst (F k h.log h.writer j) same record {
               knows = λ _. record { same_shape = n.same_shape; same_opening = n.same_opening; begins = n.begins; kept_begin = tt };
-              wrote = λ wr. false-anything wr;
+              wrote = λ wr. false_is_true-absurd wr;
             })
             (at_snoc (set s.views id (parted v)) (pass_of v) u j e);
       }
@@ -202,7 +202,7 @@ module _ {S : Type 0} (k : Opening) where
         knows = λ _. record { same_shape = n.same_shape; same_opening = n.same_opening; begins = n.begins; kept_begin = (m.begins, n.kept_begin) };
         wrote = f.wrote;
       } in
-      let none_left : F k h.log h.writer other nobody = record { knows = λ l. absurd (true≢false l); wrote = λ wr. false-anything wr } in record {
+      let none_left : F k h.log h.writer other nobody = record { knows = λ l. absurd (true≢false l); wrote = λ wr. false_is_true-absurd wr } in record {
         log = h.log;
         writer = h.writer;
         words = h.words;
