@@ -248,9 +248,9 @@ turn_over s fall turn part visited sup looked sides c l all =
     }
 
 -- before anyone was visited nobody has fallen
-pub unvisited-calm : (s : Search) (visited : ℕ → Bool) (sup : ℕ → ℕ) (looked : ℕ → ℕ → Bool) → ((y : ℕ) → visited y ≡ false)
+pub unvisited-nobody_fell : (s : Search) (visited : ℕ → Bool) (sup : ℕ → ℕ) (looked : ℕ → ℕ → Bool) → ((y : ℕ) → visited y ≡ false)
     → Cascade s [] 0 nobody visited sup looked nobody
-unvisited-calm s visited sup looked none = record {
+unvisited-nobody_fell s visited sup looked none = record {
   fall_level = λ x m. absurd (false≢true m);
   fall_visited = λ x m. absurd (false≢true m);
   distinct = tt;

@@ -45,8 +45,8 @@ joined-positive g core order h u v lu lv a =
     ]
 
 -- who passes in the graph without an edge passes in the graph with it
-passing-fewer : (a j l : Bool) → ((a && not j) && l) ≡ true → (a && l) ≡ true
-passing-fewer a j l t = grind arith
+passing-with_edge : (a j l : Bool) → ((a && not j) && l) ≡ true → (a && l) ≡ true
+passing-with_edge a j l t = grind arith
 
 -- a pair that the edge does not join passes alike in both
 pair-unjoined : (a j l : Bool) → j ≡ false → ((a && not j) && l) ≡ (a && l)
@@ -133,7 +133,7 @@ module _ (s : Ranked) (u v level : ℕ) (h : IsCertified s) (differ : u ≢ v) (
             ≤ count_by (λ y. adjacent s.graph z y && ltb (rank_in s.order z) (rank_in s.order y)) (below s.graph.size) =
             count-mono (λ y. now z y && ltb (rank_in s.order z) (rank_in s.order y))
             (λ y. adjacent s.graph z y && ltb (rank_in s.order z) (rank_in s.order y)) (below s.graph.size) (λ y m t.
-            passing-fewer (adjacent s.graph z y) (joins u v z y) (ltb (rank_in s.order z) (rank_in s.order y))
+            passing-with_edge (adjacent s.graph z y) (joins u v z y) (ltb (rank_in s.order z) (rank_in s.order y))
             (sym (ap (λ b. b && ltb (rank_in s.order z) (rank_in s.order y)) (adjacent-without s.graph u v z y differ)) ∙ t)) in
             omega (arith, less, few-ranked s.graph s.core s.order h z l);
         enough = λ z l where'.

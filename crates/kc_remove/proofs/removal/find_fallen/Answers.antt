@@ -6,7 +6,7 @@ use Rattle.kc_view.proofs.Keeping.{GoesOn-trans, answers-agreed}
 use Rattle.kc_remove.specs.Cascade.{Cascade, nobody}
 use Rattle.kc_remove.specs.Removed.{search_without}
 use Rattle.kc_remove.specs.Falling.{is_visited, support_at, has_looked, FallsIn}
-use Rattle.kc_remove.proofs.Falls.{unvisited-calm}
+use Rattle.kc_remove.proofs.Falls.{unvisited-nobody_fell}
 use Rattle.kc_remove.proofs.removal.find_fallen.Goals as goal
 
 pub returns-in_err-take_turns-clause-goes_on : goal.returns-in_err-take_turns-clause-goes_on
@@ -30,7 +30,7 @@ returns-clause-ended g c = λ s a.
     let start : FallsIn c.args.search.update c.args.search.level s f 0 nobody =
     subst
     (λ (xs : List ℕ). Cascade (search_without c.args.search.update c.args.search.level s) xs 0 nobody (is_visited f) (support_at f) (has_looked f) nobody)
-    (sym c.new-falling.ensures.list) (unvisited-calm (search_without c.args.search.update c.args.search.level s)
+    (sym c.new-falling.ensures.list) (unvisited-nobody_fell (search_without c.args.search.update c.args.search.level s)
     (is_visited f) (support_at f) (has_looked f) none) in
     let falls = c.in_ok-take_turns.ensures.falls s a (c.in_ok-visit_end-2.ensures.falls s second (c.in_ok-visit_end.ensures.falls s first start)) in
     let differ : u ≢ v = λ e. absurd (omega (arith, e, c.args.search.update.ordered)) in
