@@ -65,26 +65,48 @@ pub record GroupStep (n : ℕ) (a : Labels) (list : List ℕ) (x : ℕ) : Type 0
   pub nearer : suc (place_of x list) ≡ place_of (next_of n x list) list
   pub short : place_of x list < length list
 
+-- the list, cut at the item `x` that comes next
+record NextCut (n : ℕ) (a : Labels) (list done : List ℕ) (x last : ℕ) (found : List ℕ) : Type 0 where
+  pub back : List ℕ
+  pub is : list ≡ done ++ x ∷ back
+  pub pushed : list ≡ (done ++ x ∷ []) ++ back
+  pub first : member x done ≡ false
+  pub next : next_of n x list ≡ head_or n back
+  pub so_far : found ++ runs_after last a.group (x ∷ back) ≡ runs a.group list
+
+-- where the end does not come next, the list is cut at the item that does
+next_cut : (n : ℕ) (ws list : List ℕ) (x last : ℕ) (found : List ℕ) → Sound n ws list → (g : Grouped n (labels n ws) list x last found) → (x ≡ n → ⊥)
+    → NextCut n (labels n ws) list g.done x last found
+next_cut n ws list x last found s g ne =
+    let r = cons_rest n x g.rest g.head ne in
+    let is : list ≡ g.done ++ x ∷ r.0 = g.is ∙ ap (λ zs. g.done ++ zs) r.1 in
+    let apart = Distinct-cut x g.done r.0 (subst Distinct is s.distinct) in
+    record {
+      back = r.0;
+      is = is;
+      pushed = is ∙ sym (append_assoc g.done (x ∷ []) r.0);
+      first = apart.0;
+      next = ap (next_of n x) is ∙ next_of-cut n x g.done r.0 apart.0;
+      so_far = ap (λ zs. found ++ runs_after last (labels n ws).group zs) (sym r.1) ∙ g.so_far;
+    }
+
 -- what comes next, where it is not the end, is an item of the list
 pub group_step : (n : ℕ) (ws list : List ℕ) (x last : ℕ) (found : List ℕ) → Sound n ws list → Grouped n (labels n ws) list x last found → (x ≡ n → ⊥)
     → GroupStep n (labels n ws) list x
 group_step n ws list x last found s g ne =
-    let r = cons_rest n x g.rest g.head ne in
-    let is : list ≡ g.done ++ x ∷ r.0 = g.is ∙ ap (λ zs. g.done ++ zs) r.1 in
-    let is' : list ≡ (g.done ++ x ∷ []) ++ r.0 = is ∙ sym (append_assoc g.done (x ∷ []) r.0) in
-    let x-in : member x list ≡ true = ap (member x) is ∙ member-append_right x g.done (x ∷ r.0) (member-head x r.0) in
-    let apart = Distinct-cut x g.done r.0 (subst Distinct is s.distinct) in
-    let next : next_of n x list ≡ head_or n r.0 = ap (next_of n x) is ∙ next_of-cut n x g.done r.0 apart.0 in
+    let cut = next_cut n ws list x last found s g ne in
+    let x-in : member x list ≡ true = ap (member x) cut.is ∙ member-append_right x g.done (x ∷ cut.back) (member-head x cut.back) in
     let n-out : member n list ≡ false = elim (cases_Bool (member n list)) [ inl t ↦ absurd (let b = (s.inside n t).below in omega arith) | inr f ↦ f ] in
-    let here : place_of x list ≡ length g.done = ap (place_of x) is ∙ place_of-cut x g.done r.0 apart.0 in
+    let here : place_of x list ≡ length g.done = ap (place_of x) cut.is ∙ place_of-cut x g.done cut.back cut.first in
     let there : place_of (next_of n x list) list ≡ length (g.done ++ x ∷ []) =
-    ap (λ y. place_of y list) next
-    ∙ (ap (place_of (head_or n r.0)) is' ∙ place_of-head n (g.done ++ x ∷ []) r.0 (subst Distinct is' s.distinct) (ap (member n) (sym is') ∙ n-out)) in
+    ap (λ y. place_of y list) cut.next
+    ∙ (ap (place_of (head_or n cut.back)) cut.pushed
+    ∙ place_of-head n (g.done ++ x ∷ []) cut.back (subst Distinct cut.pushed s.distinct) (ap (member n) (sym cut.pushed) ∙ n-out)) in
     record {
       below = (s.inside x x-in).below;
       x_in = x-in;
       nearer = omega (arith, here, there, length-append g.done (x ∷ []));
-      short = omega (arith, here, ap length is, length-append g.done (x ∷ r.0));
+      short = omega (arith, here, ap length cut.is, length-append g.done (x ∷ cut.back));
     }
 
 -- an item of the group found last adds none
@@ -92,17 +114,9 @@ pub grouped-same : (n : ℕ) (ws list : List ℕ) (x last : ℕ) (found : List �
     → (labels n ws).group x ≡ last → Grouped n (labels n ws) list (next_of n x list) last found
 grouped-same n ws list x last found s g ne e =
     let a = labels n ws in
-    let r = cons_rest n x g.rest g.head ne in
-    let is : list ≡ g.done ++ x ∷ r.0 = g.is ∙ ap (λ zs. g.done ++ zs) r.1 in
-    let apart = Distinct-cut x g.done r.0 (subst Distinct is s.distinct) in
-    let after : found ++ runs_after last a.group (x ∷ r.0) ≡ runs a.group list = ap (λ zs. found ++ runs_after last a.group zs) (sym r.1) ∙ g.so_far in
-    record {
-      done = g.done ++ x ∷ [];
-      rest = r.0;
-      is = is ∙ sym (append_assoc g.done (x ∷ []) r.0);
-      head = ap (next_of n x) is ∙ next_of-cut n x g.done r.0 apart.0;
-      so_far = rw (eq-eqb (a.group x) last e) at after;
-    }
+    let cut = next_cut n ws list x last found s g ne in
+    let after : found ++ runs_after last a.group (x ∷ cut.back) ≡ runs a.group list = cut.so_far in
+    record { done = g.done ++ x ∷ []; rest = cut.back; is = cut.pushed; head = cut.next; so_far = rw (eq-eqb (a.group x) last e) at after }
 
 -- an item of another group adds its group
 pub grouped-new : (n : ℕ) (ws list : List ℕ) (x last : ℕ) (found : List ℕ) → Sound n ws list → Grouped n (labels n ws) list x last found → (x ≡ n → ⊥)
@@ -110,19 +124,17 @@ pub grouped-new : (n : ℕ) (ws list : List ℕ) (x last : ℕ) (found : List �
     (length found < length list)
 grouped-new n ws list x last found s g ne new =
     let a = labels n ws in
-    let r = cons_rest n x g.rest g.head ne in
-    let is : list ≡ g.done ++ x ∷ r.0 = g.is ∙ ap (λ zs. g.done ++ zs) r.1 in
-    let apart = Distinct-cut x g.done r.0 (subst Distinct is s.distinct) in
-    let after : found ++ runs_after last a.group (x ∷ r.0) ≡ runs a.group list = ap (λ zs. found ++ runs_after last a.group zs) (sym r.1) ∙ g.so_far in
-    let after' : found ++ (a.group x ∷ runs_after (a.group x) a.group r.0) ≡ runs a.group list = rw (ne_eqb (a.group x) last new) at after in (
+    let cut = next_cut n ws list x last found s g ne in
+    let after : found ++ runs_after last a.group (x ∷ cut.back) ≡ runs a.group list = cut.so_far in
+    let after' : found ++ (a.group x ∷ runs_after (a.group x) a.group cut.back) ≡ runs a.group list = rw (ne_eqb (a.group x) last new) at after in (
       record {
         done = g.done ++ x ∷ [];
-        rest = r.0;
-        is = is ∙ sym (append_assoc g.done (x ∷ []) r.0);
-        head = ap (next_of n x) is ∙ next_of-cut n x g.done r.0 apart.0;
-        so_far = append_assoc found (a.group x ∷ []) (runs_after (a.group x) a.group r.0) ∙ after';
+        rest = cut.back;
+        is = cut.pushed;
+        head = cut.next;
+        so_far = append_assoc found (a.group x ∷ []) (runs_after (a.group x) a.group cut.back) ∙ after';
       },
-      omega (arith, ap length after', length-append found (a.group x ∷ runs_after (a.group x) a.group r.0), runs_short a.group list),
+      omega (arith, ap length after', length-append found (a.group x ∷ runs_after (a.group x) a.group cut.back), runs_short a.group list),
     )
 
 -- where the end comes next, what is left is empty

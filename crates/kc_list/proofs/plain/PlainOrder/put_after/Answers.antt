@@ -1,13 +1,25 @@
 -- Way is made for the item, then one write moves it: no word rises twice but that of `x`.
-use Rattle.std.proofs.Common.{◌<◌, ◌+◌, ℕ, List, ap, subst, ◌∙◌, get_or, length, arith}
+use Rattle.std.proofs.Common.{◌≡◌, ◌+◌, ℕ, List, ap, subst, ◌∙◌, get_or, length, arith}
 use Rattle.std.proofs.lemmas.List.{get_or-set_other}
 use Rattle.kc_words.specs.ItemWord.{item_of}
-use Rattle.kc_distinct.specs.Lists.{member}
+use Rattle.kc_distinct.specs.Lists.{member, right_after, without}
 use Rattle.kc_list.specs.Plain.{Written}
 use Rattle.kc_list.proofs.Whole.{note_kept, put_keeps, spare_versions, highest_once}
 use Rattle.kc_list.proofs.Highest.{version-highest}
 use Rattle.kc_list.proofs.Rewritings.{call_written, put_list}
+use Rattle.kc_list.proofs.plain.PlainOrder.put_after.Goals.{After-move_item}
 use Rattle.kc_list.proofs.plain.PlainOrder.put_after.Goals as goal
+
+-- the links have the item right after `p`, and their size
+links_put : (c : After-move_item) → (c.move_item.new.self.links.size ≡ c.self.inside.list.links.size)
+    × (c.move_item.new.self.links.list ≡ right_after c.args.x c.args.p (without c.args.x c.self.inside.list.links.list))
+links_put c = put_list _ c.make_way.new.self c.move_item.new.self c.args.x c.args.p _ c.make_way.ensures.rewrites c.move_item.ensures.puts
+
+-- what the call has written
+written_by : (c : After-move_item) → Written c.self.inside.list.links.size c.self.inside.list.links.list c.move_item.new.self.links.list c.args.x
+    c.clear.new.self.words c.move_item.new.self.sheet.words c.move_item.new.self.sheet.writes
+written_by c = call_written _ c.make_way.new.self c.move_item.new.self c.args.x _ c.clear.ensures.writes c.make_way.ensures.rewrites
+    c.move_item.ensures.puts.size c.move_item.ensures.puts.stores (omega (arith, c.requires.x_within, ap (λ v. v.items) c.self.view_is))
 
 pub make_way-requires-clause-spare : goal.make_way-requires-clause-spare
 make_way-requires-clause-spare c = record {
@@ -48,10 +60,8 @@ move_item-requires-clause-room c =
 
 pub invariant_of-self : goal.invariant_of-self
 invariant_of-self c =
-    let below : c.args.x < c.self.inside.list.links.size = omega (arith, c.requires.x_within, ap (λ v. v.items) c.self.view_is) in
-    let writes = call_written _ c.make_way.new.self c.move_item.new.self c.args.x _ c.clear.ensures.writes c.make_way.ensures.rewrites
-    c.move_item.ensures.puts.size c.move_item.ensures.puts.stores below in
-    let list = put_list _ c.make_way.new.self c.move_item.new.self c.args.x c.args.p _ c.make_way.ensures.rewrites c.move_item.ensures.puts in
+    let at = (goal.at.invariant_of-self c).After-move_item in
+    let list = links_put at in
     record {
       fixed_in = λ y l. rw list.1
           (put_keeps c.args.x c.args.p y c.self.inside.list.links.list (ap (member c.args.p) (ap (λ v. v.list) c.self.view_is) ∙ c.requires.p_in)
@@ -68,28 +78,21 @@ invariant_of-self c =
       );
       opening_length = omega (arith, list.0, c.self.invariant.opening_length);
       note = note_kept c.self.inside.list.links.size c.self.inside.list.links.list c.move_item.new.self.links.list c.args.x c.clear.new.self.words
-          c.move_item.new.self.sheet.words c.move_item.new.self.sheet.writes writes
+          c.move_item.new.self.sheet.words c.move_item.new.self.sheet.writes (written_by at)
           (ap (λ us. get_or us 0 0) c.clear.ensures.words ∙ c.self.invariant.note);
     }
 
 pub returns-clause-items : goal.returns-clause-items
-returns-clause-items c =
-    let list = put_list _ c.make_way.new.self c.move_item.new.self c.args.x c.args.p _ c.make_way.ensures.rewrites c.move_item.ensures.puts in
-    rw (← c.self.view_is) list.0
+returns-clause-items c = rw (← c.self.view_is) (links_put (goal.at.returns-clause-items c).After-move_item).0
 
 pub returns-clause-list : goal.returns-clause-list
-returns-clause-list c =
-    let list = put_list _ c.make_way.new.self c.move_item.new.self c.args.x c.args.p _ c.make_way.ensures.rewrites c.move_item.ensures.puts in
-    rw (← c.self.view_is) list.1
+returns-clause-list c = rw (← c.self.view_is) (links_put (goal.at.returns-clause-list c).After-move_item).1
 
 pub returns-clause-written : goal.returns-clause-written
 returns-clause-written c =
-    let below : c.args.x < c.self.inside.list.links.size = omega (arith, c.requires.x_within, ap (λ v. v.items) c.self.view_is) in
-    let writes = call_written _ c.make_way.new.self c.move_item.new.self c.args.x _ c.clear.ensures.writes c.make_way.ensures.rewrites
-    c.move_item.ensures.puts.size c.move_item.ensures.puts.stores below in
     let P : List ℕ → Type 0 = λ us. Written c.self.inside.list.links.size c.self.inside.list.links.list c.move_item.new.self.links.list c.args.x us
     c.move_item.new.self.sheet.words c.move_item.new.self.sheet.writes in
-    rw (← c.self.view_is) (subst P c.clear.ensures.words writes)
+    rw (← c.self.view_is) (subst P c.clear.ensures.words (written_by (goal.at.returns-clause-written c).After-move_item))
 
 pub returns-clause-once : goal.returns-clause-once
 returns-clause-once c w ne =
