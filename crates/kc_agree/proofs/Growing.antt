@@ -24,6 +24,7 @@ use Rattle.kc_agree.proofs.Neighbouring.{same_edges}
 module _ (table : TableName) (opened : SimpleGraph) where
   -- As the log grows. -----------------------------------------------------------------------------------
 
+  -- a list that was read stays so in a longer log
   pub list_stays : (p q : List Event) (e : UsedEdges) → IsPrefix p q → WasList table opened p e → WasList table opened q e
   list_stays p q e pre h = record {
     vertex = h.vertex;
@@ -31,6 +32,7 @@ module _ (table : TableName) (opened : SimpleGraph) where
     list = subst (λ g. AreNeighbours g e.vertex e.neighbours) (sym (same_edges table opened p q e.at pre h.at)) h.list;
   }
 
+  -- a place that was read stays so in a longer log
   pub place_stays : (p q : List Event) (u : UsedPlace) → IsPrefix p q → WasPlace table p u → WasPlace table q u
   place_stays p q u pre h = record {
     vertex = h.vertex;
@@ -40,6 +42,7 @@ module _ (table : TableName) (opened : SimpleGraph) where
     core = h.core;
   }
 
+  -- an order that was read stays so in a longer log
   pub order_stays : (p q : List Event) (a : Answers) (o : UsedOrder) → IsPrefix p q → WasOrder table p a o → WasOrder table q a o
   order_stays p q a o pre h = record {
     differ = h.differ;
@@ -51,6 +54,7 @@ module _ (table : TableName) (opened : SimpleGraph) where
     read_before = h.read_before;
   }
 
+  -- what was read stays so in a longer log
   pub reads_stay : (p q : List Event) (a : Answers) → IsPrefix p q → WereRead table opened p a → WereRead table opened q a
   reads_stay p q a pre h = record {
     edges = All-weaker (WasList table opened p) (WasList table opened q) (λ e. list_stays p q e pre) a.edges h.edges;
@@ -60,6 +64,7 @@ module _ (table : TableName) (opened : SimpleGraph) where
 
   -- One answer more. ------------------------------------------------------------------------------------
 
+  -- where nothing was answered, all of it was read
   pub nothing_read : (log : List Event) → WereRead table opened log nothing_answered
   nothing_read log = record {
     edges = λ i d l. absurd (omega (arith, l));
@@ -67,6 +72,7 @@ module _ (table : TableName) (opened : SimpleGraph) where
     orders = λ i d l. absurd (omega (arith, l));
   }
 
+  -- with one list more that was read, all was
   pub one_list : (log : List Event) (a : Answers) (e : UsedEdges) → WereRead table opened log a → WasList table opened log e
       → WereRead table opened log (with_list a e)
   one_list log a e h was = record {
@@ -83,6 +89,7 @@ module _ (table : TableName) (opened : SimpleGraph) where
     }) a.orders h.orders;
   }
 
+  -- a core number that was told stays told with one more
   still_read : (a : Answers) (u : UsedPlace) (x : ℕ) → has_core a x ≡ true → has_core (with_place a u) x ≡ true
   still_read a u x h = still_has_core a (with_place a u) x record {
     edges = ([], sym (append-nil a.edges));
@@ -94,6 +101,7 @@ module _ (table : TableName) (opened : SimpleGraph) where
   other : (a : Answers) (u : UsedPlace) (x : ℕ) → has_core a u.vertex ≡ false → has_core a x ≡ true → u.vertex ≢ x
   other a u x none some e = true≢false (sym some ∙ (ap (has_core a) (sym e) ∙ none))
 
+  -- an order that was read stays so with one place more
   place_more : (log : List Event) (a : Answers) (u : UsedPlace) (o : UsedOrder) → has_core a u.vertex ≡ false → WasOrder table log a o
       → WasOrder table log (with_place a u) o
   place_more log a u o none k = record {
@@ -109,6 +117,7 @@ module _ (table : TableName) (opened : SimpleGraph) where
     ]);
   }
 
+  -- with one place more that was read, all was
   pub one_place : (log : List Event) (a : Answers) (u : UsedPlace) → has_core a u.vertex ≡ false → WereRead table opened log a → WasPlace table log u
       → WereRead table opened log (with_place a u)
   one_place log a u none h was = record {

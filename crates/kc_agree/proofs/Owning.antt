@@ -47,6 +47,7 @@ places-apart x y (w ∷ l) differ m e = elim (cases_eq x w) [
 
 module _ (table : TableName) (opened : SimpleGraph) (stamps : List ℕ) (log : List Event) (s : Ranked) (rest : IsAtRest table log)
     (state : IsStateOf table opened log s) (early : (v : ℕ) → v < table.shape.fixed → get_or stamps v 0 ≤ table.shape.base) where
+  -- a list of the state is one that was read
   own_list : (e : UsedEdges) → OwnList table opened stamps log s e → WasList table opened log e
   own_list e own =
       let low : e.vertex < table.shape.fixed = omega (arith, own.vertex, state.size) in
@@ -58,6 +59,7 @@ module _ (table : TableName) (opened : SimpleGraph) (stamps : List ℕ) (log : L
         list = same.1 (subst (λ g. AreNeighbours g e.vertex e.neighbours) state.graph own.list);
       }
 
+  -- a place of the state is one that was read
   own_place : (p : UsedPlace) → OwnPlace table log s p → WasPlace table log p
   own_place p own = record {
     vertex = omega (arith, own.vertex, state.size);
@@ -67,9 +69,11 @@ module _ (table : TableName) (opened : SimpleGraph) (stamps : List ℕ) (log : L
     core = sym (state.core p.vertex (omega (arith, own.vertex, state.size))) ∙ sym own.core;
   }
 
+  -- a vertex whose core number was told is one of the table
   low : (a : Answers) (x : ℕ) → All (OwnPlace table log s) a.places → is_some (core_in x a.places) ≡ true → x < table.shape.fixed
   low a x own there = let (p, is, h) = found_place (OwnPlace table log s) x a.places own there in omega (arith, is, h.vertex, state.size)
 
+  -- an order of the state is one that was read
   own_order : (a : Answers) (o : UsedOrder) → All (OwnPlace table log s) a.places → OwnOrder s a o → WasOrder table log a o
   own_order a o places own =
       let lx = low a o.x places own.first_read in
@@ -98,6 +102,7 @@ module _ (table : TableName) (opened : SimpleGraph) (stamps : List ℕ) (log : L
         read_before = λ i d l _. own_place (get_or a.places i d) (places i d l);
       }
 
+  -- what is answered from the state was read, and is current
   pub own_read : (a : Answers) → AreOwn table opened stamps log s a → WereRead table opened log a × AreCurrent table opened stamps log a
   own_read a own = (
     record {

@@ -60,6 +60,7 @@ module _ (table : TableName) (v : ℕ) where
             sealed-wider p next q (place_stamp table q v) (e ∷ [], refl) (seal_since more next q on h still)
       ]
 
+  -- a stamp that rose was sealed since, in the section of its number
   pub sealed_since : (p q : List Event) → IsPrefix p q → Legal table.shape table.opening q → place_stamp table p v < place_stamp table q v
       → SealedIn table p q v (place_stamp table q v)
   sealed_since p q pre h lt = seal_since pre.0 p q pre.1 h lt
@@ -79,9 +80,11 @@ module _ (table : TableName) (v : ℕ) (low : v < table.shape.fixed) where
   abbrev new_put : List Event → Event → ℕ → List ℕ
   new_put log e k = cond (eqb (number_of table log) k) (item_put (made_by table log).note e.word) []
 
+  -- section `k` has put the vertex
   abbrev Put_in : List Event → ℕ → Type 0
   Put_in log k = member v (puts_in table.shape table.opening log k) ≡ true
 
+  -- the state after one store more
   push : (log : List Event) (e : Event) → made_by table (log ++ e ∷ []) ≡ after_store table.shape (made_by table log) e
   push log e = state_of-push table.shape table.opening log e
 
@@ -91,6 +94,7 @@ module _ (table : TableName) (v : ℕ) (low : v < table.shape.fixed) where
       ap (member v) (puts_in-push table.shape table.opening log e k)
       ∙ member-append_left v (puts_in table.shape table.opening log k) (new_put log e k) m
 
+  -- the same in each longer log
   put-stays : (more p q : List Event) (k : ℕ) → p ++ more ≡ q → Put_in p k → Put_in q k
   put-stays [] p q k is m = subst (λ log. Put_in log k) (sym (append-nil p) ∙ is) m
   put-stays (e ∷ more) p q k is m = put-stays more (p ++ e ∷ []) q k (append_assoc p (e ∷ []) more ∙ is) (put-next p e k m)
@@ -99,6 +103,7 @@ module _ (table : TableName) (v : ℕ) (low : v < table.shape.fixed) where
   abbrev WasPut : List Event → Type 0
   WasPut log = member v (made_by table log).unsealed ≡ true → Put_in log (number_of table log)
 
+  -- the same with one store more
   was_put-next : (log : List Event) (e : Event) → WasPut log → WasPut (log ++ e ∷ [])
   was_put-next log e h m =
       let s = made_by table log in
@@ -128,10 +133,12 @@ module _ (table : TableName) (v : ℕ) (low : v < table.shape.fixed) where
             subst (Put_in (log ++ e ∷ [])) (sym number) here
       ]
 
+  -- the same in each longer log
   was_put-since : (more p q : List Event) → p ++ more ≡ q → WasPut p → WasPut q
   was_put-since [] p q is h = subst WasPut (sym (append-nil p) ∙ is) h
   was_put-since (e ∷ more) p q is h = was_put-since more (p ++ e ∷ []) q (append_assoc p (e ∷ []) more ∙ is) (was_put-next p e h)
 
+  -- the same in each log
   open_was_put : (log : List Event) → WasPut log
   open_was_put log =
       let none : (made_by table []).unsealed ≡ [] = ap (λ s. s.unsealed) (state_of-nil table.shape table.opening) in
@@ -204,6 +211,7 @@ module _ (table : TableName) (v : ℕ) (low : v < table.shape.fixed) where
       ] in
       no_later-since more next q k on h closed here m
 
+  -- in a closed log, no section behind the vertex's stamp has put it
   pub put_no_later : (q : List Event) (k : ℕ) → Legal table.shape table.opening q → IsClosed (made_by table q)
       → Put_in q k → k ≤ place_stamp table q v
   put_no_later q k h closed m =

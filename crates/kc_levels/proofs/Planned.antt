@@ -89,15 +89,19 @@ nothing-left p xs h = filter-none p xs (λ y _. h y)
 -- one more between, before or behind those that are there
 module _ (low test : ℕ → Bool) (moved : List ℕ) (v : ℕ) (order : List ℕ) (out : member v moved ≡ false)
     (agree : (y : ℕ) → member y moved ≡ false → test y ≡ low y) where
+  -- the low ones of the order, apart from a list
   abbrev lows : List ℕ → List ℕ
   lows xs = filter (λ y. low y && not (member y xs)) order
 
+  -- the others of the order, apart from a list
   abbrev highs : List ℕ → List ℕ
   highs xs = filter (λ y. not (low y) && not (member y xs)) order
 
+  -- who passes, apart from the vertex
   abbrev passes : ℕ → Bool
   passes y = test y && not (member y (v ∷ []))
 
+  -- who fails, apart from the vertex
   abbrev fails : ℕ → Bool
   fails y = not (test y) && not (member y (v ∷ []))
 

@@ -91,6 +91,7 @@ in_order-placed a x (z ∷ zs) h f =
     ]
 
 module _ (n : ℕ) (ws order : List ℕ) (o : Ordered n ws order) where
+  -- the labels of the opening words
   abbrev a : Labels
   a = labels n ws
 
@@ -98,6 +99,7 @@ module _ (n : ℕ) (ws order : List ℕ) (o : Ordered n ws order) where
   in-order : (x : ℕ) → x < n → (a.group x ≡ 0 → ⊥) → member x order ≡ true
   in-order x l some = elim (cases_Bool (member x order)) [ inl m ↦ m | inr m ↦ absurd (some (o.outside x l m)) ]
 
+  -- each item that is listed is in the order
   listed-in : (k x : ℕ) → k ≤ n → member x (listed a k) ≡ true → member x order ≡ true
   listed-in zero x l m = absurd (false≢true m)
   listed-in (suc k) x l m =
@@ -109,6 +111,7 @@ module _ (n : ℕ) (ws order : List ℕ) (o : Ordered n ws order) where
         ]
       ]
 
+  -- each item of the order is listed
   in-listed : (k x : ℕ) → k ≤ n → x < k → member x order ≡ true → member x (listed a k) ≡ true
   in-listed zero x l below m = absurd (omega (arith, below))
   in-listed (suc k) x l below m =
@@ -123,6 +126,7 @@ module _ (n : ℕ) (ws order : List ℕ) (o : Ordered n ws order) where
         ])
       ]
 
+  -- what is listed is in the order of its labels
   in_order-listed : (k : ℕ) → k ≤ n → InOrder (PairBelow a) (listed a k)
   in_order-listed zero l = tt
   in_order-listed (suc k) l =
@@ -139,6 +143,7 @@ module _ (n : ℕ) (ws order : List ℕ) (o : Ordered n ws order) where
             ]))
       ]
 
+  -- the list of the opening words is the order
   pub listed-is : ((x : ℕ) → member x order ≡ true → x < n) → listed a n ≡ order
   listed-is within = same-order (PairBelow a) (pair-trans a) (PairBelow-asym a) (listed a n) order (in_order-listed n (omega arith)) o.pairs
       (λ z m. listed-in n z (omega arith) m) (λ z m. in-listed n z (omega arith) (within z m) m)

@@ -269,6 +269,7 @@ module _ (run : List ℕ) (p : ℕ) (zs : List ℕ) (apart : member p run ≡ fa
   pub run-others : (x y : ℕ) → member x run ≡ false → member y run ≡ false → is_before x y (with_run_after run p zs) ≡ is_before x y zs
   run-others x y hx hy = after-others x y run p (without_each run zs) hx hy ∙ before-without_each x y run zs hx hy
 
+  -- an item apart from the run stays in a list without it
   p-in : member p zs ≡ true → member p (without_each run zs) ≡ true
   p-in h = member-without_each p run zs apart ∙ h
 

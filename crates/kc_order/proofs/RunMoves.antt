@@ -329,15 +329,19 @@ moves-begin before old run p same legal quiet =
 module _ (old now : Seen) (shape : Shape) (run : List ℕ) (i p : ℕ) (of : old.table.shape ≡ shape)
     (is : IsRunBefore shape.fixed run p (list_after old.table old.log)) (p-in : member p (list_after old.table old.log) ≡ true)
     (some : 0 < i) (most : i ≤ length run) (h : HasMoved old now (drop i run) p) where
+  -- the item that moves next
   abbrev x : ℕ
   x = get_or run (i - 1) 0
 
+  -- it is one of the run
   in_run : member x run ≡ true
   in_run = member-get_or run (i - 1) 0 (omega (arith, some, most))
 
+  -- it stood before `p`
   stood : StandsBefore x p (list_after old.table old.log)
   stood = is.before x in_run
 
+  -- the log before the moves is legal
   legal-old : Legal old.table.shape old.table.opening old.log
   legal-old = subst (λ (t : TableName). Legal t.shape t.opening old.log) h.table
       (legal-prefix now.table.shape now.table.opening old.log now.log h.longer h.legal)
@@ -346,6 +350,7 @@ module _ (old now : Seen) (shape : Shape) (run : List ℕ) (i p : ℕ) (of : old
   pub next-within : x < shape.items
   next-within = subst (λ (s : Shape). x < s.items) of ((list-stands old.table.shape old.table.opening old.log legal-old).listed.within x stood.first)
 
+  -- it is no vertex
   pub next-free : shape.fixed ≤ x
   next-free = is.free x in_run
 
@@ -354,9 +359,11 @@ module _ (old now : Seen) (shape : Shape) (run : List ℕ) (i p : ℕ) (of : old
   next-differs e = let s = subst (λ (w : ℕ). StandsBefore x w (list_after old.table old.log)) (sym e) stood in
       stands-once x x (list_after old.table old.log) s s
 
+  -- those that have moved are members of the run
   behind : (y : ℕ) → member y (drop i run) ≡ true → member y run ≡ true
   behind y m = drop-member i y run m
 
+  -- `p` is in the list still
   pub next-listed : member p (list_after now.table now.log) ≡ true
   next-listed = ap (member p) h.list ∙ (run-members (drop i run) p (list_after old.table old.log)
       (apart-from_run (drop i run) p (list_after old.table old.log) (λ y m. is.before y (behind y m)))

@@ -134,10 +134,12 @@ next-there seen writes i d l h words table =
 -- Logs that go on. ---------------------------------------------------------------------------------
 
 module _ (shape : Shape) (opening : List ℕ) where
+  -- the state after a longer log is that after the log and the stores behind it
   state_of-append : (log es : List Event) → state_of shape opening (log ++ es) ≡ after_stores shape (state_of shape opening log) es
   unfolding state_of
   state_of-append log es = after_stores-append shape _ log es
 
+  -- a legal log goes on legally by stores that may follow it
   legal-append : (log es : List Event) → legal.Legal shape opening log → legal.LegalFrom shape (state_of shape opening log) es
       → legal.Legal shape opening (log ++ es)
   legal-append log [] h k = subst (legal.Legal shape opening) (sym (append-nil log)) h

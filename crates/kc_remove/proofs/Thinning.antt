@@ -80,12 +80,15 @@ one_other u v z w y differ jw ne = false_from_ne_true _ (λ j. elim (joins-true 
 
 module _ (s : Ranked) (u v level : ℕ) (h : IsCertified s) (differ : u ≢ v) (lu : u < s.graph.size) (lv : v < s.graph.size)
     (a : adjacent s.graph u v ≡ true) (least : level ≡ min (get_or s.core u 0) (get_or s.core v 0)) where
+  -- who is joined once the edge is gone
   abbrev now : ℕ → ℕ → Bool
   now = adjacent (without_edge s.graph u v)
 
+  -- the core numbers, as they are
   abbrev number : ℕ → ℕ
   number y = get_or s.core y 0
 
+  -- neighbours that are as high stay, but for the ends on the level
   high_now : (z : ℕ) → z < s.graph.size → (number z ≢ level) ⊎ (is_end u v z ≡ false) → (y : ℕ)
       → (adjacent s.graph z y && leb (number z) (number y)) ≡ (now z y && leb (number z) (number y))
   high_now z l where' y =
@@ -118,6 +121,7 @@ module _ (s : Ranked) (u v level : ℕ) (h : IsCertified s) (differ : u ≢ v) (
       let most : one_if (adjacent s.graph z w && test w) ≤ 1 = at_most_one (adjacent s.graph z w && test w) in
       omega (arith, one, most)
 
+  -- without the edge, the search is thinned at its ends
   pub graph-thinned : Thinned (search_in (without_edge s.graph u v) s level) (is_end u v)
   graph-thinned =
       let there : (y : ℕ) → y < s.graph.size → member y s.order ≡ true = λ y l. order-has s.graph.size s.order h.enumerates y ∙ member-below y s.graph.size l in

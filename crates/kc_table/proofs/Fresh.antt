@@ -25,11 +25,13 @@ module _ (shape : Shape) (w : ℕ) (key : ℕ → ℕ)
   abbrev Rises : ℕ → ℕ → Type 0
   Rises a b = (key a < key b) ⊎ (a ≡ b)
 
+  -- what rises twice rises
   rises-trans : (a b c : ℕ) → Rises a b → Rises b c → Rises a c
   rises-trans a b c p q =
       ⊎_elim (λ (lt : key a < key b). ⊎_elim (λ (lt' : key b < key c). inl (omega arith)) (λ (e : b ≡ c). inl (subst (λ (z : ℕ). key a < key z) e lt)) q)
       (λ (e : a ≡ b). subst (λ (z : ℕ). Rises z c) (sym e) q) p
 
+  -- at one store the key rises, or the value stays
   one_rises : (s : State) (e : Event) → length s.words ≡ word_count shape → MayStore shape s e
       → Rises (get_or s.words w 0) (get_or (after_store shape s e).words w 0)
   one_rises s e long may =
@@ -42,6 +44,7 @@ module _ (shape : Shape) (w : ℕ) (key : ℕ → ℕ)
       inl (subst (λ z. key (get_or s.words w 0) < key z) (sym new) (raises s e may is)))
       (λ (other : e.word ≢ w). inr (sym (ap (λ ws. get_or ws w 0) after ∙ get_or-set_other s.words e.word w e.value 0 (λ k. other (sym k)))))
 
+  -- so it is along all stores
   from_rises : (s : State) (es : List Event) → length s.words ≡ word_count shape → LegalFrom shape s es
       → Rises (get_or s.words w 0) (get_or (after_stores shape s es).words w 0)
   from_rises s [] long h = inr refl

@@ -3,19 +3,24 @@ use Rattle.std.proofs.Common.{◌≡◌, ◌⊎◌, List, length, arith, [], ◌
 use mathlib.Core.List.{IsPrefix}
 
 module _ {A : Type 0} where
+  -- a list begins with itself
   pub prefix_self : (xs : List A) → IsPrefix xs xs
   prefix_self xs = ([], append-nil xs)
 
+  -- a beginning of a beginning is one
   pub prefix_trans : (xs ys zs : List A) → IsPrefix xs ys → IsPrefix ys zs → IsPrefix xs zs
   prefix_trans xs ys zs p q = (p.0 ++ q.0, sym (append_assoc xs p.0 q.0) ∙ (ap (λ w. w ++ q.0) p.1 ∙ q.1))
 
+  -- a beginning stays one with one item more
   pub prefix_push : (xs ys : List A) (y : A) → IsPrefix xs ys → IsPrefix xs (ys ++ y ∷ [])
   prefix_push xs ys y p = prefix_trans xs ys (ys ++ y ∷ []) p (y ∷ [], refl)
 
+  -- the first item, or another where there is none
   abbrev first_or : A → List A → A
   first_or d [] = d
   first_or d (x ∷ xs) = x
 
+  -- what stands behind the first item
   abbrev rest_of : List A → List A
   rest_of [] = []
   rest_of (x ∷ xs) = xs

@@ -47,6 +47,7 @@ module _ (shape : Shape) (opening : List ℕ) where
   unfolding puts_in
   puts_in-nil k = refl
 
+  -- a condition on no vertices gives none
   cond-none : (b : Bool) → ◌≡◌ {A = List ℕ} (cond b [] []) []
   cond-none true = refl
   cond-none false = refl
@@ -82,6 +83,7 @@ module _ (shape : Shape) (opening : List ℕ) where
       let fewer = number-grows shape opening p q (e ∷ more, is) in
       late-since more (p ++ e ∷ []) q k (append_assoc p (e ∷ []) more ∙ is) lt (adds-elsewhere p e k (λ z. omega (arith, z, fewer, lt)) ∙ none)
 
+  -- a section that is not begun yet has no puts
   pub puts_in-late : (log : List Event) (k : ℕ) → number_after shape opening log < k → puts_in shape opening log k ≡ []
   puts_in-late log k lt = late-since log [] log k refl lt (puts_in-nil k)
 
@@ -92,6 +94,7 @@ module _ (shape : Shape) (opening : List ℕ) where
       let grown = number-grows shape opening p (p ++ e ∷ []) (e ∷ [], refl) in
       kept-since more (p ++ e ∷ []) q k (append_assoc p (e ∷ []) more ∙ is) (omega (arith, grown, lt)) ∙ adds-elsewhere p e k (λ z. omega (arith, z, lt))
 
+  -- a section that is closed keeps its puts
   pub puts_in-kept : (p q : List Event) (k : ℕ) → IsPrefix p q → k < number_after shape opening p → puts_in shape opening q k ≡ puts_in shape opening p k
   puts_in-kept p q k pre lt = kept-since pre.0 p q k pre.1 lt
 

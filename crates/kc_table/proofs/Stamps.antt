@@ -24,6 +24,7 @@ use Rattle.kc_table.proofs.Listed.{Announced}
 -- One store. --------------------------------------------------------------------------------------
 
 module _ (shape : Shape) (v : ℕ) where
+  -- the word of the vertex
   abbrev at : State → ℕ
   at s = get_or s.words (first_vertex shape + v) 0
 
@@ -79,6 +80,7 @@ module _ (shape : Shape) (v : ℕ) where
     | inr f ↦ ap (λ b. member v (cond b (without (word - first_vertex shape) us) us)) f ∙ m
   ]
 
+  -- what a store leaves open was open
   pub open-sealed : (word : ℕ) (us : List ℕ) → member v (sealed shape word us) ≡ true → member v us ≡ true
   open-sealed word us m =
       elim (leb (first_vertex shape) word) as (λ b. member v (cond b (without (word - first_vertex shape) us) us) ≡ true → member v us ≡ true) [

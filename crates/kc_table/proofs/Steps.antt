@@ -52,6 +52,7 @@ each_longer [] log e h = tt
 each_longer (p ∷ ps) log e h = (prefix_push p log e h.0, each_longer ps log e h.1)
 
 module _ (k : Opening) where
+  -- the view fits the log
   abbrev F : List Event → ℕ → ℕ → View → Type 0
   F log writer seat v = Fits k.shape k.words.items log writer seat v
 
@@ -65,9 +66,11 @@ module _ (k : Opening) where
       (at_set views id j w u e)
 
 module _ {S : Type 0} (k : Opening) where
+  -- the rule of the table
   abbrev Rule : State S View → Type 0
   Rule s = Keeps k s
 
+  -- the rule holds at the opening
   pub opening-keeps_rule : (xs : List S) → Legal k.shape k.words.items [] → Rule (opening k.words.items xs (first_view k))
   opening-keeps_rule xs legal = record {
     log = [];
@@ -95,6 +98,7 @@ module _ {S : Type 0} (k : Opening) where
     each = fits_set k h.log h.writer s.views id w mine (λ j u _ e. h.each j u e);
   }
 
+  -- a load keeps the rule
   pub load-keeps_rule : (slots id word : ℕ) (me : Me S View) → me.0.spent ≡ false
       → Allows Rule slots id me word (λ n. n) (TellsLoad (step slots word 0 0 none) me)
   load-keeps_rule slots id word me live s h len at bound =
@@ -123,6 +127,7 @@ module _ {S : Type 0} (k : Opening) where
         ),
       )
 
+  -- a store keeps the rule
   pub store-keeps_rule : (slots id word value : ℕ) (me : Me S View) → me.0.spent ≡ false → me.0.writes ≡ true
       → Legal me.0.shape me.0.opening (me.0.seen ++ event word value ∷ [])
       → Allows Rule slots id me word (λ _. value) (λ _. TellsStore (step slots word value 0 none) me value)
@@ -188,6 +193,7 @@ module _ {S : Type 0} (k : Opening) where
             (at_snoc (set s.views id (parted v)) (pass_of v) u j e);
       }
 
+  -- the rule is kept where two views are joined
   pub join-keeps_rule : (id : ℕ) (v : View) (other : ℕ) (u : View) → v.spent ≡ false → u.spent ≡ false → Joins Rule id v other u (told v u) nobody
   join-keeps_rule id v other u live live' s h at apart there =
       let w = told v u in

@@ -7,9 +7,11 @@ use Rattle.kc_order.specs.Standing.{list_after}
 use Rattle.kc_levels.proofs.Cuts.{prev_of-without}
 use Rattle.kc_levels.proofs.levels.other_before.Goals as goal
 
+-- what stands before an item is answered, or that nothing does
 abbrev Answers : ℕ → ℕ → List ℕ → Option ℕ → Type 0
 Answers e x xs o = MatchOption o (prev_of e x xs ≡ e) (λ y. (y ≡ prev_of e x xs) × (member y xs ≡ true))
 
+-- what stands before an item, with the vertex passed over
 first : (o : Option ℕ) (e x v r : ℕ) (xs : List ℕ) → Distinct xs → member x xs ≡ true → x ≢ v → e ≢ v → prev_of e x (without v xs) ≢ e
     → Answers e x xs o → r ≡ unwrap_or o v
     → (r ≢ v → r ≡ prev_of e x (without v xs)) × (r ≡ v → prev_of e x (without v xs) ≡ prev_of e v xs)
@@ -24,6 +26,7 @@ first (Some y) e x v r xs d m xv ev later h is =
       λ q. at ∙ ap (λ b. cond b (prev_of e v xs) r) (eq-eqb r v q),
     )
 
+-- what stands before the vertex
 second : (o : Option ℕ) (e v r : ℕ) (xs : List ℕ) → prev_of e v xs ≢ e → Answers e v xs o → r ≡ unwrap_or o 0 → r ≡ prev_of e v xs
 second None e v r xs ne h is = absurd (ne h)
 second (Some y) e v r xs ne h is = is ∙ h.0

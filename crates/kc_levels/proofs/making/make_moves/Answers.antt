@@ -13,6 +13,7 @@ use Rattle.kc_levels.specs.Makes.{MakesAll, Makes, MayMake, backwards}
 use Rattle.kc_levels.proofs.Steps.{makes-none}
 use Rattle.kc_levels.proofs.making.make_moves.Goals as goal
 
+-- where vertices rise, there is a level for them
 room : (l : Levelled) (moves : Moves) (level : ℕ) (rise : Vec ℕ Global) (shifts : Vec (ℕ × ℕ) Global) (xs : List ℕ) → MayMake l moves
     → moves ≡ Rise level rise shifts → xs ≡ rise.items → (v : ℕ) → member v xs ≡ true → level + 1 < size_of l
 room l moves level rise shifts xs may is same v m =
@@ -21,6 +22,7 @@ room l moves level rise shifts xs may is same v m =
     let vertex : v < size_of l = (h.fit.of_level v (member-append_left v rise.items (firsts shifts.items) there)).vertex in
     omega (arith, h.low v vertex, renumbered-moved rise.items (level + 1) l.core v (omega (arith, vertex, h.are.long)) there)
 
+-- the moves of a rise were made
 made-rise : (old new : Levelled) (moves : Moves) (level : ℕ) (rise : Vec ℕ Global) (shifts : Vec (ℕ × ℕ) Global) (xs : List ℕ) (ys : List (ℕ × ℕ))
     → moves ≡ Rise level rise shifts → xs ≡ rise.items → ys ≡ shifts.items
     → MakesAll old new (firsts ys ++ backwards xs) (xs ++ firsts ys) (put_between (up_to old.core level) xs (shifted ys old.order))
@@ -30,6 +32,7 @@ made-rise old new moves level rise shifts xs ys is same-xs same-ys h =
     (subst (λ (z : List ℕ × List (ℕ × ℕ)). MakesAll old new (firsts z.1 ++ backwards z.0) (z.0 ++ firsts z.1)
     (put_between (up_to old.core level) z.0 (shifted z.1 old.order)) (renumbered z.0 (level + 1) old.core)) (λ i. (same-xs i, same-ys i)) h)
 
+-- the moves of a fall were made
 made-fall : (old new : Levelled) (moves : Moves) (level : ℕ) (fall : Vec ℕ Global) (xs : List ℕ) → moves ≡ Fall level fall → xs ≡ fall.items
     → MakesAll old new xs xs (put_between (under old.core level) xs old.order) (renumbered xs (level - 1) old.core) → Makes old new moves
 made-fall old new moves level fall xs is same h =

@@ -18,15 +18,18 @@ use Rattle.kc_shared_tests.specs.contracts.worker.Worker as worker
 use Rattle.kc_shared.proofs.Crossing.{shared_sync}
 use Rattle.kc_shared_tests.proofs.two_workers.go_over_by_two.Goals as goal
 
+-- a scratch may go to another thread
 scratch_send : IsSend scratch.the_row
 scratch_send = search (sendable, crosses) depth 20
 
+-- a worker may go to another thread
 worker_send : (K : RattleType) (n : name.Ghosts K.Denot) (l : ledger.Ghosts K.Denot) → IsSend (worker.the_row K n l)
 worker_send K n l =
     let T : Declared = worker.the_type K n l in
     recorded_send (Struct (shape T)) T.D T.to T.to_one
     (struct_send (shape T) (pass_send, (share.the_send K l, (scratch_send, tt))))
 
+-- three values that may go to another thread may go together
 three_send : (ν : Sym) (A B C : RattleType) → IsSend A → IsSend B → IsSend C → IsSend (TupleAt ν (A ∷ B ∷ C ∷ []))
 three_send ν A B C a b c = captures_send ν (A ∷ B ∷ C ∷ []) (a, (b, (c, tt)))
 

@@ -8,6 +8,7 @@ use Rattle.std.specs.Prelude.{[], ◌∷◌}
 use Rattle.kc_stripes.proofs.Crossing.{captures_send, graph_sync, pass_send, stripes_sync, words_sync}
 use Rattle.kc_stripes_tests.proofs.publishing.publish_and_read.Goals as goal
 
+-- five values that may go to another thread may go together
 five_send : (ν : Sym) (A B C D E : RattleType) → IsSend A → IsSend B → IsSend C → IsSend D → IsSend E → IsSend (TupleAt ν (A ∷ B ∷ C ∷ D ∷ E ∷ []))
 five_send ν A B C D E a b c d e = captures_send ν (A ∷ B ∷ C ∷ D ∷ E ∷ []) (a, (b, (c, (d, (e, tt)))))
 

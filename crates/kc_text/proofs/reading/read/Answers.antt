@@ -11,6 +11,7 @@ use Rattle.kc_text.proofs.Telling.{all-items, ends-told}
 use Rattle.kc_text.proofs.reading.read.Goals as goal
 use Rattle.kc_text.specs.declared.limits.TheConstants.{MOST_BYTES}
 
+-- what a text within the limit means is what the reading of its lines tells
 meaning-is : (bytes : List ℕ) → length bytes ≤ MOST_BYTES → meaning bytes ≡ reading 0 nothing_told (all_said bytes)
 meaning-is bytes l = ap (λ b. cond b (Refuses 0 TooLong) (reading 0 nothing_told (all_said bytes))) (le-ltb MOST_BYTES (length bytes) l)
 

@@ -11,6 +11,7 @@ of_generated : (P : List ℕ → Type 0) (generator : Option ℕ) (bytes : List 
 of_generated P None bytes h = h
 of_generated P (Some number) bytes h = h
 
+-- what holds of what is given holds of the bytes that are read
 of_given : (P : List ℕ → Type 0) (asked : Option Setting) (bytes : List ℕ) → IfSome (given asked (Some bytes)) P → P (input_bytes asked bytes)
 of_given P None bytes h = h
 of_given P (Some setting) bytes h = of_generated P setting.generator bytes h

@@ -39,6 +39,7 @@ loop-row-preserved c =
           omega (arith, gone, c.loop-row.invariant.3, ap length steps),
     )
 
+-- no rows are left where their number is 0
 nothing_left : (rows : List Row) → length rows ≡ 0 → rows ≡ []
 nothing_left [] h = refl
 nothing_left (x ∷ rows) h = absurd (omega arith)
