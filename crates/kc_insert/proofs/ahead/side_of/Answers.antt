@@ -29,12 +29,15 @@ nearby update a w x read m = elim (or_cases (member x (list_of a w)) (is_added u
   ]
 ]
 
+-- a core number above the level puts the neighbour above
 higher : (core level number : ℕ) (b : Bool) → core ≡ number → level < core → Higher ≡ cond (ltb level number) Higher (cond b Next Before)
 higher core level number b e l = grind arith
 
+-- one below the level puts it below, whatever the order
 lower : (core level number : ℕ) (b : Bool) → core ≡ number → core < level → Before ≡ cond (ltb level number) Higher (cond (eqb number level && b) Next Before)
 lower core level number b e l = grind arith
 
+-- on the level the order decides
 beside : (core level number : ℕ) (told b : Bool) (side : Side) → core ≡ number → core ≡ level → told ≡ b → side ≡ cond told Next Before
     → side ≡ cond (ltb level number) Higher (cond (eqb number level && b) Next Before)
 beside core level number told b side e l t is = grind arith

@@ -10,16 +10,19 @@ use Rattle.kc_insert.proofs.insertion.first_end.Given.{Over}
 use Rattle.kc_insert.proofs.insertion.first_end.Goals.{In_ok-stands_before}
 use Rattle.kc_insert.proofs.insertion.first_end.Goals as goal
 
--- which end is picked
+-- the first end is picked where its core number is the lesser
 is-lesser : (a b p q u v : ℕ) → a < b → u ≡ cond (ltb a b) u (cond (ltb b a) v (cond (ltb p q) u v))
 is-lesser a b p q u v l = grind arith
 
+-- the second end, where its core number is the lesser
 is-greater : (a b p q u v : ℕ) → b < a → v ≡ cond (ltb a b) u (cond (ltb b a) v (cond (ltb p q) u v))
 is-greater a b p q u v l = grind arith
 
+-- the first end, where the core numbers are equal and it stands first
 is-first : (a b p q u v : ℕ) (t : Bool) → a ≡ b → t ≡ ltb p q → t ≡ true → u ≡ cond (ltb a b) u (cond (ltb b a) v (cond (ltb p q) u v))
 is-first a b p q u v t e is told = grind arith
 
+-- the second end, where the core numbers are equal and the first does not stand first
 is-second : (a b p q u v : ℕ) (t : Bool) → a ≡ b → t ≡ ltb p q → t ≡ false → v ≡ cond (ltb a b) u (cond (ltb b a) v (cond (ltb p q) u v))
 is-second a b p q u v t e is told = grind arith
 
@@ -37,11 +40,13 @@ cores-are a s update first second agrees one two = record {
   second_is = two.1 ∙ (core-true a s update.v agrees two.0).1;
 }
 
+-- the first end is the root where its core number is the lesser
 lesser-root : (s : Ranked) (update : Update) (first second : ℕ) → AreCores s update first second → first < second → update.u ≡ root_of s update
 lesser-root s update first second k l =
     is-lesser (get_or s.core update.u 0) (get_or s.core update.v 0) (place_of update.u s.order) (place_of update.v s.order) update.u update.v
     (omega (arith, k.first_is, k.second_is, l))
 
+-- the second end is the root where its core number is the lesser
 greater-root : (s : Ranked) (update : Update) (first second : ℕ) → AreCores s update first second → second < first → update.v ≡ root_of s update
 greater-root s update first second k l =
     is-greater (get_or s.core update.u 0) (get_or s.core update.v 0) (place_of update.u s.order) (place_of update.v s.order) update.u update.v
@@ -52,11 +57,13 @@ record AreEven (s : Ranked) (update : Update) (before : Bool) : Type 0 where
   even : get_or s.core update.u 0 ≡ get_or s.core update.v 0
   told : before ≡ ltb (place_of update.u s.order) (place_of update.v s.order)
 
+-- of two ends of one core number the first is the root where it stands first
 first-root : (s : Ranked) (update : Update) (before : Bool) → AreEven s update before → before ≡ true → update.u ≡ root_of s update
 first-root s update before k is =
     is-first (get_or s.core update.u 0) (get_or s.core update.v 0) (place_of update.u s.order) (place_of update.v s.order) update.u update.v
     before k.even k.told is
 
+-- and the second where the first does not stand first
 second-root : (s : Ranked) (update : Update) (before : Bool) → AreEven s update before → before ≡ false → update.v ≡ root_of s update
 second-root s update before k is =
     is-second (get_or s.core update.u 0) (get_or s.core update.v 0) (place_of update.u s.order) (place_of update.v s.order) update.u update.v

@@ -13,16 +13,16 @@ use Rattle.kc_levels.specs.Makes.{MakesAll, Makes, MayMake, backwards}
 use Rattle.kc_levels.proofs.Steps.{makes-none}
 use Rattle.kc_levels.proofs.making.make_moves.Goals as goal
 
--- where vertices rise, there is a level for them
-room : (l : Levelled) (moves : Moves) (level : ℕ) (rise : Vec ℕ Global) (shifts : Vec (ℕ × ℕ) Global) (xs : List ℕ) → MayMake l moves
+-- a vertex that rises was of the level, and there is room for the level above
+rise-room : (l : Levelled) (moves : Moves) (level : ℕ) (rise : Vec ℕ Global) (shifts : Vec (ℕ × ℕ) Global) (xs : List ℕ) → MayMake l moves
     → moves ≡ Rise level rise shifts → xs ≡ rise.items → (v : ℕ) → member v xs ≡ true → level + 1 < size_of l
-room l moves level rise shifts xs may is same v m =
+rise-room l moves level rise shifts xs may is same v m =
     let h = subst (MayMake l) is may in
     let there : member v rise.items ≡ true = ap (member v) (sym same) ∙ m in
     let vertex : v < size_of l = (h.fit.of_level v (member-append_left v rise.items (firsts shifts.items) there)).vertex in
     omega (arith, h.low v vertex, renumbered-moved rise.items (level + 1) l.core v (omega (arith, vertex, h.are.long)) there)
 
--- the moves of a rise were made
+-- what the function for rises makes is what the moves make
 made-rise : (old new : Levelled) (moves : Moves) (level : ℕ) (rise : Vec ℕ Global) (shifts : Vec (ℕ × ℕ) Global) (xs : List ℕ) (ys : List (ℕ × ℕ))
     → moves ≡ Rise level rise shifts → xs ≡ rise.items → ys ≡ shifts.items
     → MakesAll old new (firsts ys ++ backwards xs) (xs ++ firsts ys) (put_between (up_to old.core level) xs (shifted ys old.order))
@@ -32,7 +32,7 @@ made-rise old new moves level rise shifts xs ys is same-xs same-ys h =
     (subst (λ (z : List ℕ × List (ℕ × ℕ)). MakesAll old new (firsts z.1 ++ backwards z.0) (z.0 ++ firsts z.1)
     (put_between (up_to old.core level) z.0 (shifted z.1 old.order)) (renumbered z.0 (level + 1) old.core)) (λ i. (same-xs i, same-ys i)) h)
 
--- the moves of a fall were made
+-- what the function for falls makes is what the moves make
 made-fall : (old new : Levelled) (moves : Moves) (level : ℕ) (fall : Vec ℕ Global) (xs : List ℕ) → moves ≡ Fall level fall → xs ≡ fall.items
     → MakesAll old new xs xs (put_between (under old.core level) xs old.order) (renumbered xs (level - 1) old.core) → Makes old new moves
 made-fall old new moves level fall xs is same h =
@@ -41,7 +41,8 @@ made-fall old new moves level fall xs is same h =
 
 pub make_rise-requires-clause-room : goal.make_rise-requires-clause-room
 make_rise-requires-clause-room c =
-    room c.args.levels.now c.args.moves.now c.in-Rise.level c.in-Rise.rise c.in-Rise.shifts c.deref.result.now c.requires.may c.in-Rise.is c.deref.ensures.value
+    rise-room c.args.levels.now c.args.moves.now c.in-Rise.level c.in-Rise.rise c.in-Rise.shifts c.deref.result.now c.requires.may c.in-Rise.is
+    c.deref.ensures.value
 
 pub returns-in-Kept : goal.returns-in-Kept
 returns-in-Kept c = subst (Makes c.args.levels.now c.args.levels.now) (sym c.in-Kept.is) (makes-none c.args.levels.now c.requires.may.are c.requires.may.fresh)

@@ -8,6 +8,7 @@ use Rattle.kc_topo.specs.Searching.{Trail}
 use Rattle.kc_topo.proofs.Looking.{listed-low, settled-place, trail-short}
 use Rattle.kc_topo.proofs.searching.search.Goals as goal
 
+-- with each vertex that is reached fewer are left
 less-left : (n k : ℕ) → k < n → n - (k + 1) < n - k
 less-left n k l = omega (arith, l)
 

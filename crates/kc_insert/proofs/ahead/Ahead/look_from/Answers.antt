@@ -15,6 +15,7 @@ use Rattle.kc_insert.specs.Turns.{side_in, is_ahead, is_next}
 use Rattle.kc_insert.proofs.Looking.{member-more, next-more, counted-more}
 use Rattle.kc_insert.proofs.ahead.Ahead.look_from.Goals as goal
 
+-- a place more holds at most one vertex more that stands ahead
 few_more : (n' n i : ℕ) (b : Bool) → n ≤ i → n' ≡ n + cond b 1 0 → n' ≤ i + 1
 few_more n' n i b le e = grind (arith, le, e)
 

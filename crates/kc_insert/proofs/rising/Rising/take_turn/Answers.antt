@@ -24,10 +24,11 @@ use Rattle.kc_insert.proofs.rising.Rising.take_turn.Given.{Over}
 use Rattle.kc_insert.proofs.rising.Rising.take_turn.Goals.{In_ok-look_from}
 use Rattle.kc_insert.proofs.rising.Rising.take_turn.Goals as goal
 
--- a sum that stops at the greatest number
+-- a sum that stops at the greatest number and is above the level: so is the sum itself
 more-than-level : (e n l m : ℕ) → m ≡ min (e + n) 18446744073709551615 → l < m → l < e + n
 more-than-level e n l m is more = omega arith
 
+-- a sum that stops at the greatest number and is within the level is the sum itself
 within-level : (e n l m : ℕ) → m ≡ min (e + n) 18446744073709551615 → m ≤ l → l < 4294967296 → e + n ≤ l
 within-level e n l m is few fits = omega arith
 
