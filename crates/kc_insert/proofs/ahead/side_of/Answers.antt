@@ -19,9 +19,9 @@ use Rattle.kc_insert.proofs.ahead.side_of.Goals.{In_ok-core, In_ok-stands_before
 use Rattle.kc_insert.proofs.ahead.side_of.Goals as goal
 
 -- a neighbour once the edge is there is an end of it or was told
-nearby : (update : Update) (a : Answers) (w x : ℕ) → has_list a w ≡ true → (member x (list_of a w) || is_added update w x) ≡ true
+neighbour-near : (update : Update) (a : Answers) (w x : ℕ) → has_list a w ≡ true → (member x (list_of a w) || is_added update w x) ≡ true
     → (x ≡ update.u) ⊎ (x ≡ update.v) ⊎ (is_listed a x ≡ true)
-nearby update a w x read m = elim (or_cases (member x (list_of a w)) (is_added update w x) m) [
+neighbour-near update a w x read m = elim (or_cases (member x (list_of a w)) (is_added update w x) m) [
   | inl k ↦ inr (inr (is_listed-from a w x read k))
   | inr k ↦ elim (or_cases (eqb w update.u && eqb x update.v) (eqb w update.v && eqb x update.u) k) [
     | inl e ↦ inr (inl (eqb-true x update.v (and_parts (eqb w update.u) (eqb x update.v) e).1))
@@ -30,17 +30,18 @@ nearby update a w x read m = elim (or_cases (member x (list_of a w)) (is_added u
 ]
 
 -- a core number above the level puts the neighbour above
-higher : (core level number : ℕ) (b : Bool) → core ≡ number → level < core → Higher ≡ cond (ltb level number) Higher (cond b Next Before)
-higher core level number b e l = grind arith
+side-higher : (core level number : ℕ) (b : Bool) → core ≡ number → level < core → Higher ≡ cond (ltb level number) Higher (cond b Next Before)
+side-higher core level number b e l = grind arith
 
 -- one below the level puts it below, whatever the order
-lower : (core level number : ℕ) (b : Bool) → core ≡ number → core < level → Before ≡ cond (ltb level number) Higher (cond (eqb number level && b) Next Before)
-lower core level number b e l = grind arith
+side-lower : (core level number : ℕ) (b : Bool) → core ≡ number → core < level
+    → Before ≡ cond (ltb level number) Higher (cond (eqb number level && b) Next Before)
+side-lower core level number b e l = grind arith
 
 -- on the level the order decides
-beside : (core level number : ℕ) (told b : Bool) (side : Side) → core ≡ number → core ≡ level → told ≡ b → side ≡ cond told Next Before
+side-level : (core level number : ℕ) (told b : Bool) (side : Side) → core ≡ number → core ≡ level → told ≡ b → side ≡ cond told Next Before
     → side ≡ cond (ltb level number) Higher (cond (eqb number level && b) Next Before)
-beside core level number told b side e l t is = grind arith
+side-level core level number told b side e l t is = grind arith
 
 -- the core number of the neighbour may be asked
 core-asked : (g : Over) (c : In_ok-core g) (queue : List ℕ) → AsksQueued c.args.search.update (g.V.View.shown c.args.view.now).kept queue
@@ -48,7 +49,7 @@ core-asked : (g : Over) (c : In_ok-core g) (queue : List ℕ) → AsksQueued c.a
 core-asked g c queue asks =
     let old = (g.V.View.shown c.args.view.now).kept in
     asks-core c.args.search.update old _ queue c.args.x asks c.in_ok-core.ensures.told
-    (nearby c.args.search.update old c.args.w c.args.x c.requires.read c.requires.neighbour)
+    (neighbour-near c.args.search.update old c.args.w c.args.x c.requires.read c.requires.neighbour)
 
 -- and is that of each state that agrees
 core-is : (g : Over) (c : In_ok-core g) (s : Ranked) → Agrees (g.V.View.shown c.core_of.new.view).kept s → c.in_ok-core.core ≡ get_or s.core c.args.x 0
@@ -65,7 +66,7 @@ order-tells : (g : Over) (c : In_ok-stands_before g) (s : Ranked) (side : Side) 
     → side ≡ cond c.in_ok-stands_before.field-0 Next Before
     → side ≡ side_in (search_with c.args.search.update c.args.search.level s) c.args.w c.args.x
 order-tells g c s side a is =
-    beside c.in_ok-core.core c.args.search.level (get_or s.core c.args.x 0) c.in_ok-stands_before.field-0 _ side
+    side-level c.in_ok-core.core c.args.search.level (get_or s.core c.args.x 0) c.in_ok-stands_before.field-0 _ side
     (core-is g (goal.at.In_ok-stands_before g c).In_ok-core s (answers-agreed _ _ s c.stands_before.ensures.goes_on.further a))
     (omega (arith, c.if-core-search.false, c.if-core-search-2.false))
     (order-true (g.V.View.shown c.core_of.new.view).kept s _ (subst (λ (b : Answers). Agrees b s) c.in_ok-stands_before.ensures.told a)).2 is
@@ -75,7 +76,7 @@ returns-then-core-search-clause-asks g c = core-asked g (goal.at.returns-then-co
 
 pub returns-then-core-search-clause-told : goal.returns-then-core-search-clause-told
 returns-then-core-search-clause-told g c = λ s a.
-    higher c.in_ok-core.core c.args.search.level (get_or s.core c.args.x 0) _
+    side-higher c.in_ok-core.core c.args.search.level (get_or s.core c.args.x 0) _
     (core-is g (goal.at.returns-then-core-search-clause-told g c).In_ok-core s a) c.if-core-search.true
 
 pub returns-then-core-search-2-clause-asks : goal.returns-then-core-search-2-clause-asks
@@ -83,7 +84,7 @@ returns-then-core-search-2-clause-asks g c = core-asked g (goal.at.returns-then-
 
 pub returns-then-core-search-2-clause-told : goal.returns-then-core-search-2-clause-told
 returns-then-core-search-2-clause-told g c = λ s a.
-    lower c.in_ok-core.core c.args.search.level (get_or s.core c.args.x 0) _
+    side-lower c.in_ok-core.core c.args.search.level (get_or s.core c.args.x 0) _
     (core-is g (goal.at.returns-then-core-search-2-clause-told g c).In_ok-core s a) c.if-core-search-2.true
 
 pub stands_before-requires-clause-first : goal.stands_before-requires-clause-first

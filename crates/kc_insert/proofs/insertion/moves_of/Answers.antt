@@ -19,9 +19,9 @@ use Rattle.kc_insert.proofs.insertion.moves_of.Goals.{In_ok-rise}
 use Rattle.kc_insert.proofs.insertion.moves_of.Goals as goal
 
 -- what is known of a state that agrees, once the search is over
-concluded : (g : Over) (c : In_ok-rise g) (s : Ranked) → IsCertified s → Agrees (g.V.View.shown c.find_rising.new.view).kept s
+rise-concluded : (g : Over) (c : In_ok-rise g) (s : Ranked) → IsCertified s → Agrees (g.V.View.shown c.find_rising.new.view).kept s
     → Concluded c.args.update s c.in_ok-root.root.level c.in_ok-root.root.vertex c.in_ok-rising.rising
-concluded g c s h a =
+rise-concluded g c s h a =
     let update = c.args.update in
     let edge = c.in_ok-has_edge.ensures in
     let root = c.in_ok-root.ensures in
@@ -68,7 +68,7 @@ returns-then-is_empty-2-clause-goes_on g c =
 pub returns-then-is_empty-2-clause-asked : goal.returns-then-is_empty-2-clause-asked
 returns-then-is_empty-2-clause-asked g c = λ s h a.
     asked-forward c.args.update _ s _ _ c.in_ok-rising.rising c.requires.adds
-    (concluded g (goal.at.returns-then-is_empty-2-clause-asked g c).In_ok-rise s h a) c.in_ok-rising.ensures.tidy
+    (rise-concluded g (goal.at.returns-then-is_empty-2-clause-asked g c).In_ok-rise s h a) c.in_ok-rising.ensures.tidy
 
 pub returns-then-is_empty-2-clause-sure : goal.returns-then-is_empty-2-clause-sure
 returns-then-is_empty-2-clause-sure g c = λ s used h l a.
@@ -80,7 +80,7 @@ returns-then-is_empty-2-clause-sure g c = λ s used h l a.
     no_items shifts.items shifts.len c.is_empty-then-is_empty.result (sym shifts.ok.0) c.is_empty-then-is_empty.ensures
     c.if-is_empty-2.true in
     nobody-sure c.args.update used s _ _ c.in_ok-rising.rising c.requires.adds
-    (concluded g (goal.at.returns-then-is_empty-2-clause-sure g c).In_ok-rise s h a) c.in_ok-rising.ensures.ended none still
+    (rise-concluded g (goal.at.returns-then-is_empty-2-clause-sure g c).In_ok-rise s h a) c.in_ok-rising.ensures.ended none still
 
 pub returns-clause-goes_on : goal.returns-clause-goes_on
 returns-clause-goes_on g c = GoesOn-trans _ _ _ (GoesOn-trans _ _ _ c.has_edge.ensures.goes_on c.find_root.ensures.goes_on) c.find_rising.ensures.goes_on
@@ -88,7 +88,7 @@ returns-clause-goes_on g c = GoesOn-trans _ _ _ (GoesOn-trans _ _ _ c.has_edge.e
 pub returns-clause-asked : goal.returns-clause-asked
 returns-clause-asked g c = λ s h a.
     asked-forward c.args.update _ s _ _ c.in_ok-rising.rising c.requires.adds
-    (concluded g (goal.at.returns-clause-asked g c).In_ok-rise s h a) c.in_ok-rising.ensures.tidy
+    (rise-concluded g (goal.at.returns-clause-asked g c).In_ok-rise s h a) c.in_ok-rising.ensures.tidy
 
 pub returns-clause-named : goal.returns-clause-named
 returns-clause-named g c = λ x m.
@@ -99,5 +99,5 @@ returns-clause-named g c = λ x m.
 pub returns-clause-sure : goal.returns-clause-sure
 returns-clause-sure g c = λ s used h l a.
     some-sure c.args.update used s _ _ c.in_ok-rising.rising c.in_ok-rise.rise c.requires.adds
-    (concluded g (goal.at.returns-clause-sure g c).In_ok-rise s h a)
+    (rise-concluded g (goal.at.returns-clause-sure g c).In_ok-rise s h a)
     c.in_ok-rising.ensures.tidy.orderly c.in_ok-rising.ensures.ended c.in_ok-rise.ensures

@@ -11,9 +11,9 @@ use Rattle.kc_levels.proofs.Steps.{rise-none, raise-may, raise-next, drop_whole}
 use Rattle.kc_levels.proofs.making.raise_each.Goals as goal
 
 -- where a vertex rises there is a level above
-room : (old : Levelled) (rise : List ℕ) (i level : ℕ) → ((v : ℕ) → member v rise ≡ true → level + 1 < size_of old) → 0 < i → i ≤ length rise
+rise-room : (old : Levelled) (rise : List ℕ) (i level : ℕ) → ((v : ℕ) → member v rise ≡ true → level + 1 < size_of old) → 0 < i → i ≤ length rise
     → level + 1 < size_of old
-room old rise i level h some most = h (get_or rise (i - 1) 0) (member-get_or rise (i - 1) 0 (omega (arith, some, most)))
+rise-room old rise i level h some most = h (get_or rise (i - 1) 0) (member-get_or rise (i - 1) 0 (omega (arith, some, most)))
 
 pub loop-i-init : goal.loop-i-init
 loop-i-init c =
@@ -29,7 +29,7 @@ pub overflow_add-level : goal.overflow_add-level
 overflow_add-level c =
     omega (
       arith,
-      room c.args.levels.now c.args.rise.now c.loop-i.i c.args.level c.requires.room c.loop-i-test.true c.loop-i.invariant.within,
+      rise-room c.args.levels.now c.args.rise.now c.loop-i.i c.args.level c.requires.room c.loop-i-test.true c.loop-i.invariant.within,
       c.requires.may.are.few,
     )
 
@@ -46,7 +46,7 @@ to_front-requires-clause-versions c =
 pub to_front-requires-clause-level : goal.to_front-requires-clause-level
 to_front-requires-clause-level c = omega (
   arith,
-  room c.args.levels.now c.args.rise.now c.loop-i.i c.args.level c.requires.room c.loop-i-test.true c.loop-i.invariant.within,
+  rise-room c.args.levels.now c.args.rise.now c.loop-i.i c.args.level c.requires.room c.loop-i-test.true c.loop-i.invariant.within,
   ap (λ (t : TableName). t.shape.fixed) c.loop-i.invariant.puts.table,
 )
 

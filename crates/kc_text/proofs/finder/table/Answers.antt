@@ -22,9 +22,9 @@ place-more ids table i up l within before k lk = elim (cases_eq k i) [
 ]
 
 -- the table of all places
-whole : (ids table : List ℕ) (len : ℕ) → IsStrictlyIncreasing ids → All (λ id. id < len) ids → length table ≡ len
+table-whole : (ids table : List ℕ) (len : ℕ) → IsStrictlyIncreasing ids → All (λ id. id < len) ids → length table ≡ len
     → ((k : ℕ) → k < length ids → get_or table (get_or ids k 0) 0 ≡ k) → IsTable ids table
-whole ids table len up below as_many each = record {
+table-whole ids table len up below as_many each = record {
   within = λ id h.
       let (k, l, e) = Contains-from_member ids id h in
       let b : get_or ids k id < len = below k id l in
@@ -43,5 +43,5 @@ loop-i-preserved c = record {
 }
 
 pub returns : goal.returns
-returns c = whole c.args.ids.now c.loop-i.table.items c.args.len c.requires.ascending c.requires.long c.loop-i.invariant.as_many
+returns c = table-whole c.args.ids.now c.loop-i.table.items c.args.len c.requires.ascending c.requires.long c.loop-i.invariant.as_many
     (λ k l. c.loop-i.invariant.each k (omega arith))

@@ -16,9 +16,9 @@ meaning-is : (bytes : List ℕ) → length bytes ≤ MOST_BYTES → meaning byte
 meaning-is bytes l = ap (λ b. cond b (Refuses 0 TooLong) (reading 0 nothing_told (all_said bytes))) (le-ltb MOST_BYTES (length bytes) l)
 
 -- the ends that were collected are all that was named
-collected : (told : Told) (edges : List (ℕ × ℕ)) (read : List (Vec Change Global)) → edges ≡ told.edges → map (λ batch. batch.items) read ≡ batches told
+ends-collected : (told : Told) (edges : List (ℕ × ℕ)) (read : List (Vec Change Global)) → edges ≡ told.edges → map (λ batch. batch.items) read ≡ batches told
     → ends edges ++ ends (map ends_of (flat_map (λ (b : Vec Change Global). b.items) read)) ≡ names told
-collected told edges read e b =
+ends-collected told edges read e b =
     ap₂ (λ (es : List (ℕ × ℕ)) (cs : List Change). ends es ++ ends (map ends_of cs)) e (all-items read ∙ ap (flat_map (λ (batch : List Change). batch)) b)
     ∙ sym (ends-told told.edges (changes told))
 
@@ -29,7 +29,7 @@ returns c = (
     edges = c.in_ok-edges.ensures.edges;
     batches = c.in_ok-edges.ensures.batches;
     ids = subst (λ (named : List ℕ). AreIds named c.in_ok-ids.ids.items)
-        (collected (told_by c.read_lines.new.reader) c.deref.result.now c.deref-2.result.now (c.deref.ensures.value ∙ c.in_ok-edges.ensures.edges)
+        (ends-collected (told_by c.read_lines.new.reader) c.deref.result.now c.deref-2.result.now (c.deref.ensures.value ∙ c.in_ok-edges.ensures.edges)
         (ap (λ (t : List (Vec Change Global)). map (λ batch. batch.items) t) c.deref-2.ensures.value ∙ c.in_ok-edges.ensures.batches)) c.in_ok-ids.ensures;
   },
   λ how.

@@ -12,8 +12,8 @@ use Rattle.kc_top.specs.declared.words.TheConstants.{MOST_DIGITS}
 use Rattle.kc_top.proofs.words.number.Goals as goal
 
 -- a text of digits alone is a numeral, and its value is that of its digits
-own : IsNumeralModel (λ ds. list_all is_ascii_digit ds ≡ true) (digits_value 10)
-own = numerals_by_value _ (search rules)
+digits-model : IsNumeralModel (λ ds. list_all is_ascii_digit ds ≡ true) (digits_value 10)
+digits-model = numerals_by_value _ (search rules)
 
 -- a short numeral has a digit, and nothing else
 has_digits : (text : List ℕ) → is_short_numeral text ≡ true → (0 < length text) × (list_all is_ascii_digit text ≡ true)
@@ -22,12 +22,12 @@ has_digits text short =
     (ltb-true 0 (length text) (and_parts (nat_lt 0 (length text)) (nat_le (length text) MOST_DIGITS) size).0, digits)
 
 -- a numeral is read where its value fits
-reads : {E : Type 0} → (text : List ℕ) (r : Result ℕ E) → is_short_numeral text ≡ true
+number-reads : {E : Type 0} → (text : List ℕ) (r : Result ℕ E) → is_short_numeral text ≡ true
     → OkIff r ((0 < length text) × (digits_value 10 text < 2 ^ 32)) (digits_value 10 text) → result_ok r ≡ number text
-reads text (Ok n) short h = ap (λ (x : ℕ). Some x) h.1
+number-reads text (Ok n) short h = ap (λ (x : ℕ). Some x) h.1
     ∙ sym (ap (λ (b : Bool). cond b (Some (digits_value 10 text)) None)
     (and_from (is_short_numeral text) (nat_lt (digits_value 10 text) (2 ^ 32)) short (lt-ltb (digits_value 10 text) (2 ^ 32) h.0.1)))
-reads text (Err e) short h =
+number-reads text (Err e) short h =
     sym (ap (λ (b : Bool). cond b (Some (digits_value 10 text)) None)
     (and_right (is_short_numeral text) (nat_lt (digits_value 10 text) (2 ^ 32))
     (false_from_ne_true (nat_lt (digits_value 10 text) (2 ^ 32)) (λ t. h ((has_digits text short).0, ltb-true (digits_value 10 text) (2 ^ 32) t)))))
@@ -37,4 +37,5 @@ returns-then-is_short_numeral c =
     let text : List ℕ = c.args.text.now in
     let short : is_short_numeral text ≡ true = ap is_short_numeral (sym c.as_bytes.ensures.value) ∙ sym c.is_short_numeral.ensures
     ∙ c.if-is_short_numeral.true in
-    c.ok.ensures.value ∙ reads text c.parse.result short (parse_digits own 32 text c.parse.result c.parse.ensures.value.0 (has_digits text short).1)
+    c.ok.ensures.value
+    ∙ number-reads text c.parse.result short (parse_digits digits-model 32 text c.parse.result c.parse.ensures.value.0 (has_digits text short).1)

@@ -13,24 +13,24 @@ use Rattle.kc_output.specs.declared.setting.Setting.{Setting}
 use Rattle.kc_top.proofs.words.setting_of.Goals as goal
 
 -- the command is one whose matches are a function of the words
-simple : is_simple command ≡ true
+command-simple : is_simple command ≡ true
 unfolding clap_on_literals
-simple = refl
+command-simple = refl
 
 -- and none of its options has a rule on another
-free : is_simple_and_free command ≡ true
+command-free : is_simple_and_free command ≡ true
 unfolding clap_on_literals
-free = refl
+command-free = refl
 
 -- where no fault is promised, the setting is that of the matches
-right : (words : List Text) (rows : List Row) → fault_of command words ≡ [] → rows ≡ matches_of command words → setting_in rows ≡ setting words
+setting-right : (words : List Text) (rows : List Row) → fault_of command words ≡ [] → rows ≡ matches_of command words → setting_in rows ≡ setting words
 unfolding setting
-right words rows none same = rw none (ap setting_in same)
+setting-right words rows none same = rw none (ap setting_in same)
 
 -- where a fault is promised, there is no setting
-wrong : (words : List Text) (kind : ErrorKind) → IsAmong kind (fault_of command words) → None ≡ setting words
+setting-wrong : (words : List Text) (kind : ErrorKind) → IsAmong kind (fault_of command words) → None ≡ setting words
 unfolding setting
-wrong words kind among = go (fault_of command words) (setting_in (matches_of command words)) among
+setting-wrong words kind among = go (fault_of command words) (setting_in (matches_of command words)) among
   where
     go : (kinds : Kinds) (o : Option Setting) → IsAmong kind kinds → None ≡ (cond (is_empty kinds) o None)
     go [] o h = absurd h
@@ -39,15 +39,15 @@ wrong words kind among = go (fault_of command words) (setting_in (matches_of com
 pub returns-in-Ok : goal.returns-in-Ok
 returns-in-Ok c =
     let words : List Text = texts c.args.words.now in
-    c.setting_in.ensures ∙ right words (rows_of (found_of c.in-Ok.matches))
-    (sym (ap (λ (a : App). fault_of a words) c.in_ok-command.ensures) ∙ c.in-Ok.ensures.kinds (ap is_simple_and_free c.in_ok-command.ensures ∙ free))
-    ((c.in-Ok.ensures.matches (ap is_simple c.in_ok-command.ensures ∙ simple)).0 ∙ ap (λ (a : App). matches_of a words) c.in_ok-command.ensures)
+    c.setting_in.ensures ∙ setting-right words (rows_of (found_of c.in-Ok.matches))
+    (sym (ap (λ (a : App). fault_of a words) c.in_ok-command.ensures) ∙ c.in-Ok.ensures.kinds (ap is_simple_and_free c.in_ok-command.ensures ∙ command-free))
+    ((c.in-Ok.ensures.matches (ap is_simple c.in_ok-command.ensures ∙ command-simple)).0 ∙ ap (λ (a : App). matches_of a words) c.in_ok-command.ensures)
 
 pub returns : goal.returns
 returns c =
     let words : List Text = texts c.args.words.now in
-    elim (c.in-Err.ensures.kinds (ap is_simple_and_free c.in_ok-command.ensures ∙ free)) [
+    elim (c.in-Err.ensures.kinds (ap is_simple_and_free c.in_ok-command.ensures ∙ command-free)) [
       | inl memory ↦ absurd (c.in_default.not-OutOfMemory (c.kind.ensures ∙ memory))
-      | inr among ↦ wrong words (kind_of c.in-Err.error)
+      | inr among ↦ setting-wrong words (kind_of c.in-Err.error)
           (subst (λ (a : App). IsAmong (kind_of c.in-Err.error) (fault_of a words)) c.in_ok-command.ensures among)
     ]

@@ -47,9 +47,9 @@ returns-in_ok-renew-in-Keeping-clause-keeps g c = λ again.
     crew-keeps (returns-in_ok-renew-in-Keeping-clause-crew g c) (sym c.in_ok-renew-in-Keeping.ensures.works) c.in-Keeping.ensures.0
 
 -- what the first worker was given
-given : (g : Over) (c : After-give g)
+first_worker-given : (g : Over) (c : After-give g)
     → HasGiven c.args.line.now c.in-Some.place c.args.self.now.desks.items c.give.new.self.desks.items c.args.self.now.consumer c.give.new.self.consumer
-given g c =
+first_worker-given g c =
     let took = c.give.ensures.parts.1 in
     record {
       free = c.in-Free.ensures;
@@ -65,7 +65,7 @@ given g c =
 
 pub returns-in-Some-clause-crew : goal.returns-in-Some-clause-crew
 returns-in-Some-clause-crew g c =
-    crew-given c.give.ensures.parts.0 c.requires.1.0 (given g c)
+    crew-given c.give.ensures.parts.0 c.requires.1.0 (first_worker-given g c)
 
 pub returns-in-Some-clause-keeps : goal.returns-in-Some-clause-keeps
-returns-in-Some-clause-keeps g c = λ again. given-keeps (given g c)
+returns-in-Some-clause-keeps g c = λ again. given-keeps (first_worker-given g c)

@@ -20,8 +20,8 @@ record IsMiddle (queue : List ℕ) (low high x : ℕ) : Type 0 where
   at : x ≡ get_or queue (low + (high - low) / 2) 0
 
 -- so does the one that is looked at in a turn of the loop
-middle : (g : Over) (c : After-index g) → IsMiddle c.args.self.now.queue.items c.loop-low.low c.loop-low.high c.index.result.now
-middle g c =
+middle-place : (g : Over) (c : After-index g) → IsMiddle c.args.self.now.queue.items c.loop-low.low c.loop-low.high c.index.result.now
+middle-place g c =
     let l : c.loop-low.low + (c.loop-low.high - c.loop-low.low) / 2 < length c.args.self.now.queue.items =
     omega (arith, c.loop-low-test.true, c.loop-low.invariant.within) in
     record { here = l; at = get_or_read c.args.self.now.queue.items _ _ l c.index.ensures 0 }
@@ -56,7 +56,7 @@ loop-low-init g c =
 
 pub stands_before-requires-clause-first : goal.stands_before-requires-clause-first
 stands_before-requires-clause-first g c =
-    let m = middle g (goal.at.stands_before-requires-clause-first g c).After-index in
+    let m = middle-place g (goal.at.stands_before-requires-clause-first g c).After-index in
     let queue = c.args.self.now.queue.items in
     (c.loop-low.invariant.tidy c.requires.tidy.0 c.requires.tidy.1).placed c.index.result.now
     (ap (λ n. member n queue) m.at ∙ member-get_or queue _ 0 m.here)
@@ -75,7 +75,7 @@ loop-low-preserved-then-branch g c =
       up = omega (arith, c.loop-low-test.true);
       within = i.within;
       place = λ s a up first.
-          let m = middle g (goal.at.In_ok-stands_before g told).After-index in
+          let m = middle-place g (goal.at.In_ok-stands_before g told).After-index in
           place-up _ c.args.self.now.queue.items c.args.x c.loop-low.low c.loop-low.high _ c.index.result.now up
           (i.place s (answers-agreed _ _ s c.stands_before.ensures.goes_on.further a) up first) m.here m.at (sym c.if-branch.true ∙ order-is g told s a);
     }
@@ -91,7 +91,7 @@ loop-low-preserved g c =
       up = omega (arith, c.loop-low-test.true);
       within = omega (arith, c.loop-low-test.true, i.within);
       place = λ s a up first.
-          let m = middle g (goal.at.In_ok-stands_before g told).After-index in
+          let m = middle-place g (goal.at.In_ok-stands_before g told).After-index in
           place-down _ c.args.self.now.queue.items c.args.x c.loop-low.low c.loop-low.high _ c.index.result.now up
           (i.place s (answers-agreed _ _ s c.stands_before.ensures.goes_on.further a) up first) m.here m.at (sym c.if-branch.false ∙ order-is g told s a);
     }

@@ -7,9 +7,9 @@ use Rattle.kc_remove.proofs.Tidy.{tidy-neighbour}
 use Rattle.kc_remove.proofs.falling.Falling.supports.Goals as goal
 
 -- a neighbour of another core number than the level counts just where it is above it
-above : (core level number : ℕ) (j m : Bool) → core ≢ level → core ≡ number → j ≡ false → (m ≡ true → number ≡ level)
+other_level-counted : (core level number : ℕ) (j m : Bool) → core ≢ level → core ≡ number → j ≡ false → (m ≡ true → number ≡ level)
     → ltb level core ≡ (not j && (leb level number && not m))
-above core level number j m ne e out low = elim (cases_Bool m) [
+other_level-counted core level number j m ne e out low = elim (cases_Bool m) [
   | inl t ↦ let k : number ≡ level = low t in absurd (ne (e ∙ k))
   | inr f ↦ grind (arith, ne, e, out, f)
 ]
@@ -27,7 +27,7 @@ returns-then-core-search-clause-tidy g c =
 pub returns-then-core-search-clause-told : goal.returns-then-core-search-clause-told
 returns-then-core-search-clause-told g c = λ s a of_level.
     let o = c.in_ok-core.ensures in
-    above _ _ _ _ _ c.if-core-search.true (told-core _ _ s _ _ a o.told o.core) (sym c.is_removed.ensures ∙ c.if-is_removed.false)
+    other_level-counted _ _ _ _ _ c.if-core-search.true (told-core _ _ s _ _ a o.told o.core) (sym c.is_removed.ensures ∙ c.if-is_removed.false)
     (λ m. of_level c.args.z (take-member c.args.y.turns c.args.self.now.list.items c.args.z m))
 
 pub returns-clause-tidy : goal.returns-clause-tidy

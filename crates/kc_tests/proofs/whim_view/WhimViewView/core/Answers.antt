@@ -14,8 +14,8 @@ abbrev kept : In_ok-keep_place → Answers
 kept c = record { edges = c.self.inside.edges.items; places = c.self.inside.places.items; orders = c.self.inside.orders.items }
 
 -- the core number is told for the first time
-tells : (c : In_ok-keep_place) → TellsNewCore (kept c) (record { vertex = c.args.w; stamp = 0; core = c.core-core.result })
-tells c =
+core-tells : (c : In_ok-keep_place) → TellsNewCore (kept c) (record { vertex = c.args.w; stamp = 0; core = c.core-core.result })
+core-tells c =
     tells_new_core (kept c) _
     (ap (λ (xs : List UsedPlace). is_some (core_in c.args.w xs)) (sym c.deref.ensures.value) ∙ ap is_some (sym c.kept_core.ensures ∙ c.in_default.is))
 
@@ -24,7 +24,7 @@ returns-clause-told c =
     let here = (goal.at.returns-clause-told c).In_ok-keep_place in
     let same : kept here ≡ c.args.self.now.kept = ap (λ (w : Whims). w.kept) c.self.view_is ∙ c.go_on.ensures.kept in
     let p : UsedPlace = record { vertex = c.args.w; stamp = 0; core = c.core-core.result } in
-    rw c.in_ok-keep_place.ensures.ok (subst (λ (a : Answers). TellsCore a (with_place (kept here) p) c.args.w) same (tells here).told)
+    rw c.in_ok-keep_place.ensures.ok (subst (λ (a : Answers). TellsCore a (with_place (kept here) p) c.args.w) same (core-tells here).told)
 
 pub returns-clause-core : goal.returns-clause-core
-returns-clause-core c = rw c.in_ok-keep_place.ensures.ok (tells (goal.at.returns-clause-core c).In_ok-keep_place).core
+returns-clause-core c = rw c.in_ok-keep_place.ensures.ok (core-tells (goal.at.returns-clause-core c).In_ok-keep_place).core

@@ -29,14 +29,14 @@ abbrev list : In_ok-keep_list → UsedEdges
 list c = record { vertex = c.args.w; at = 0; neighbours = c.deref-2.result.now }
 
 -- it is told for the first time
-tells : (c : In_ok-keep_list) → TellsNewList (before c).kept (list c)
-tells c =
+list-tells : (c : In_ok-keep_list) → TellsNewList (before c).kept (list c)
+list-tells c =
     tells_new_list (before c).kept (list c)
     (ap (λ (xs : List UsedEdges). is_some (list_in c.args.w xs)) (sym c.deref.ensures.value) ∙ ap is_some c.in_default.ensures)
 
 -- it is one of its vertex
-drawn : (c : In_ok-keep_list) → IsListOf c.self.inside.size c.args.w c.deref-2.result.now
-drawn c = subst (IsListOf c.self.inside.size c.args.w) (sym c.deref-2.ensures.value) c.in_ok-list.ensures
+list-drawn : (c : In_ok-keep_list) → IsListOf c.self.inside.size c.args.w c.deref-2.result.now
+list-drawn c = subst (IsListOf c.self.inside.size c.args.w) (sym c.deref-2.ensures.value) c.in_ok-list.ensures
 
 pub overflow_cast-result : goal.overflow_cast-result
 overflow_cast-result c =
@@ -62,21 +62,21 @@ pub returns-clause-told : goal.returns-clause-told
 returns-clause-told c =
     let at = (goal.at.returns-clause-told c).In_ok-keep_list in
     let same : (before at).kept ≡ c.args.self.now.kept = ap (λ (w : Whims). w.kept) c.self.view_is ∙ c.go_on.ensures.kept in
-    rw c.in_ok-keep_list.ensures.ok (subst (λ (a : Answers). TellsList a (with_list (before at).kept (list at)) c.args.w) same (tells at).told)
+    rw c.in_ok-keep_list.ensures.ok (subst (λ (a : Answers). TellsList a (with_list (before at).kept (list at)) c.args.w) same (list-tells at).told)
 
 pub returns-clause-length : goal.returns-clause-length
 returns-clause-length c =
     rw c.in_ok-keep_list.ensures.ok
-    (c.len-degree.ensures ∙ (sym c.deref-2.ensures.len ∙ ap (length {A = ℕ}) (tells (goal.at.returns-clause-length c).In_ok-keep_list).list))
+    (c.len-degree.ensures ∙ (sym c.deref-2.ensures.len ∙ ap (length {A = ℕ}) (list-tells (goal.at.returns-clause-length c).In_ok-keep_list).list))
 
 pub returns-clause-lists : goal.returns-clause-lists
 returns-clause-lists c =
     let at = (goal.at.returns-clause-lists c).In_ok-keep_list in
-    rw c.in_ok-keep_list.ensures.ok (lists-push c.self.inside.size c.self.inside.edges.items (list at) c.self.invariant.lists (drawn at))
+    rw c.in_ok-keep_list.ensures.ok (lists-push c.self.inside.size c.self.inside.edges.items (list at) c.self.invariant.lists (list-drawn at))
 
 pub returns-clause-goes_on : goal.returns-clause-goes_on
 returns-clause-goes_on c =
     let at = (goal.at.returns-clause-goes_on c).In_ok-keep_list in
     let step : GoesOn (shown_by_whim (before at)) (shown_by_whim (record (before at) { kept = with_list (before at).kept (list at) })) =
-    goes-on-list (before at) (list at) (drawn at) in
+    goes-on-list (before at) (list at) (list-drawn at) in
     GoesOn-trans _ _ _ c.go_on.ensures.goes_on (rw (c.in_ok-keep_list.ensures.ok, ← c.self.view_is) step)

@@ -5,25 +5,25 @@ use Rattle.kc_view.proofs.plain.PlainViewView.core.Goals.{In_ok-keep_place}
 use Rattle.kc_view.proofs.plain.PlainViewView.core.Goals as goal
 
 -- what the first call leaves
-first : (c : In_ok-keep_place) → FirstCore c.self.inside.state.now
+core-first : (c : In_ok-keep_place) → FirstCore c.self.inside.state.now
     (record { edges = c.self.inside.edges.items; places = c.self.inside.places.items; orders = c.self.inside.orders.items })
     c.self.inside.handed c.self.inside.is_listed.items c.self.inside.is_placed.items
     (record { vertex = c.args.w; stamp = 0; core = get_or c.core.result.now c.args.w 0 })
-first c =
+core-first c =
     first_core c.self.invariant c.self.view_is _ _ c.requires (ap (λ (xs : List ℕ). get_or xs c.args.w 0) c.core.ensures.core) c.index.ensures
     c.if-not-index.true
 
 pub invariant_of-self-then-not-index : goal.invariant_of-self-then-not-index
 invariant_of-self-then-not-index c =
-    rw c.in_ok-keep_place.ensures.ok (first (goal.at.invariant_of-self-then-not-index c).In_ok-keep_place).rests.keeps
+    rw c.in_ok-keep_place.ensures.ok (core-first (goal.at.invariant_of-self-then-not-index c).In_ok-keep_place).rests.keeps
 
 pub returns-in_ok-keep_place-clause-told : goal.returns-in_ok-keep_place-clause-told
 returns-in_ok-keep_place-clause-told c =
-    rw (c.in_ok-keep_place.ensures.ok, ← c.self.view_is) (first (goal.at.returns-in_ok-keep_place-clause-told c).In_ok-keep_place).tells.told
+    rw (c.in_ok-keep_place.ensures.ok, ← c.self.view_is) (core-first (goal.at.returns-in_ok-keep_place-clause-told c).In_ok-keep_place).tells.told
 
 pub returns-in_ok-keep_place-clause-core : goal.returns-in_ok-keep_place-clause-core
 returns-in_ok-keep_place-clause-core c =
-    rw c.in_ok-keep_place.ensures.ok (first (goal.at.returns-in_ok-keep_place-clause-core c).In_ok-keep_place).tells.core
+    rw c.in_ok-keep_place.ensures.ok (core-first (goal.at.returns-in_ok-keep_place-clause-core c).In_ok-keep_place).tells.core
 
 pub returns-else-not-index-clause-core : goal.returns-else-not-index-clause-core
 returns-else-not-index-clause-core c =
@@ -42,4 +42,4 @@ returns-else-not-index-clause-lists c = rw (← c.self.view_is) (lists-true _ c.
 
 pub returns-in_ok-keep_place-clause-goes_on : goal.returns-in_ok-keep_place-clause-goes_on
 returns-in_ok-keep_place-clause-goes_on c =
-    rw (c.in_ok-keep_place.ensures.ok, ← c.self.view_is) (first (goal.at.returns-in_ok-keep_place-clause-goes_on c).In_ok-keep_place).rests.goes_on
+    rw (c.in_ok-keep_place.ensures.ok, ← c.self.view_is) (core-first (goal.at.returns-in_ok-keep_place-clause-goes_on c).In_ok-keep_place).rests.goes_on

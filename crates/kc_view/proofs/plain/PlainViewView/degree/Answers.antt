@@ -5,26 +5,27 @@ use Rattle.kc_view.proofs.plain.PlainViewView.degree.Goals.{In_ok-keep_list}
 use Rattle.kc_view.proofs.plain.PlainViewView.degree.Goals as goal
 
 -- what the first call leaves
-first : (c : In_ok-keep_list) → FirstList c.self.inside.state.now
+list-first : (c : In_ok-keep_list) → FirstList c.self.inside.state.now
     (record { edges = c.self.inside.edges.items; places = c.self.inside.places.items; orders = c.self.inside.orders.items })
     c.self.inside.handed c.self.inside.is_listed.items c.self.inside.is_placed.items
     (record { vertex = c.args.w; at = 0; neighbours = c.neighbours-neighbours.result.now })
-first c = first_list c.self.invariant c.self.view_is _ _ c.requires c.graph.ensures.graph c.neighbours-neighbours.ensures c.index.ensures c.if-not-index.true
+list-first c =
+    first_list c.self.invariant c.self.view_is _ _ c.requires c.graph.ensures.graph c.neighbours-neighbours.ensures c.index.ensures c.if-not-index.true
 
 pub overflow_cast-degree : goal.overflow_cast-degree
 overflow_cast-degree c = omega (arith, few_there c.self.invariant c.self.view_is c.args.w _ c.graph.ensures.graph c.neighbours-neighbours.ensures)
 
 pub invariant_of-self-then-not-index : goal.invariant_of-self-then-not-index
 invariant_of-self-then-not-index c =
-    rw c.in_ok-keep_list.ensures.ok (first (goal.at.invariant_of-self-then-not-index c).In_ok-keep_list).rests.keeps
+    rw c.in_ok-keep_list.ensures.ok (list-first (goal.at.invariant_of-self-then-not-index c).In_ok-keep_list).rests.keeps
 
 pub returns-in_ok-keep_list-clause-told : goal.returns-in_ok-keep_list-clause-told
 returns-in_ok-keep_list-clause-told c =
-    rw (c.in_ok-keep_list.ensures.ok, ← c.self.view_is) (first (goal.at.returns-in_ok-keep_list-clause-told c).In_ok-keep_list).tells.told
+    rw (c.in_ok-keep_list.ensures.ok, ← c.self.view_is) (list-first (goal.at.returns-in_ok-keep_list-clause-told c).In_ok-keep_list).tells.told
 
 pub returns-in_ok-keep_list-clause-length : goal.returns-in_ok-keep_list-clause-length
 returns-in_ok-keep_list-clause-length c =
-    rw c.in_ok-keep_list.ensures.ok (ap (length {A = ℕ}) (first (goal.at.returns-in_ok-keep_list-clause-length c).In_ok-keep_list).tells.list)
+    rw c.in_ok-keep_list.ensures.ok (ap (length {A = ℕ}) (list-first (goal.at.returns-in_ok-keep_list-clause-length c).In_ok-keep_list).tells.list)
 
 pub returns-else-not-index-clause-length : goal.returns-else-not-index-clause-length
 returns-else-not-index-clause-length c =
@@ -37,11 +38,11 @@ returns-in_err-keep_list-clause-lists c = rw c.in_err-keep_list.ensures.err (lis
 
 pub returns-in_ok-keep_list-clause-lists : goal.returns-in_ok-keep_list-clause-lists
 returns-in_ok-keep_list-clause-lists c =
-    rw c.in_ok-keep_list.ensures.ok (first (goal.at.returns-in_ok-keep_list-clause-lists c).In_ok-keep_list).rests.lists
+    rw c.in_ok-keep_list.ensures.ok (list-first (goal.at.returns-in_ok-keep_list-clause-lists c).In_ok-keep_list).rests.lists
 
 pub returns-else-not-index-clause-lists : goal.returns-else-not-index-clause-lists
 returns-else-not-index-clause-lists c = rw (← c.self.view_is) (lists-true _ c.self.inside.state.now c.self.invariant.agrees)
 
 pub returns-in_ok-keep_list-clause-goes_on : goal.returns-in_ok-keep_list-clause-goes_on
 returns-in_ok-keep_list-clause-goes_on c =
-    rw (c.in_ok-keep_list.ensures.ok, ← c.self.view_is) (first (goal.at.returns-in_ok-keep_list-clause-goes_on c).In_ok-keep_list).rests.goes_on
+    rw (c.in_ok-keep_list.ensures.ok, ← c.self.view_is) (list-first (goal.at.returns-in_ok-keep_list-clause-goes_on c).In_ok-keep_list).rests.goes_on
