@@ -71,8 +71,8 @@ next_parts : (m a l f : Bool) → (m && (not a && (l && f))) ≡ true → (m ≡
 next_parts m a l f h = (grind arith, grind arith, grind arith)
 
 -- a truth that is another is that other, with what is true besides
-truth-swapped : (a b c : Bool) → a ≡ true → b ≡ c → b ≡ (a && c)
-truth-swapped a b c h e = grind arith
+and-true_first : (a b c : Bool) → a ≡ true → b ≡ c → b ≡ (a && c)
+and-true_first a b c h e = grind arith
 
 -- once all neighbours have been looked at, count and list are those of the ones ahead
 pub ahead-is : (s : Search) (w : ℕ) (row : List ℕ) (a : Ahead) → Distinct row → ((y : ℕ) → member y row ≡ true → y < s.size)
@@ -84,7 +84,7 @@ ahead-is s w row a once within exact counted next =
     let here : count_by (λ y. is_ahead (side_in s w y)) row ≡ count_by q row =
     count-agree (λ y. is_ahead (side_in s w y)) q row
     (λ y m.
-    truth-swapped (s.adj w y) (is_ahead (side_in s w y)) (p y) (sym (exact y (within y m)) ∙ m)
+    and-true_first (s.adj w y) (is_ahead (side_in s w y)) (p y) (sym (exact y (within y m)) ∙ m)
     (side_ahead (above s y) (on_level s y && after s w y))) in
     let up : count_by q row ≤ count_by q (below s.size) = count-le q row (below s.size) once (λ y m _. member-below y s.size (within y m)) in
     let down : count_by q (below s.size) ≤ count_by q row =

@@ -45,12 +45,12 @@ pub cand-queued : (r : Rising) → IsOrderly r → (y : ℕ) → is_candidate r 
 cand-queued r o y c = sym (o.marked y) ∙ candidate_in-some (value_of r.marks y) c
 
 -- where the second of two truths has the first with it, both are the second
-second-both : (m p : Bool) → (p ≡ true → m ≡ true) → (m && p) ≡ p
-second-both m p h = grind arith
+and-implied : (m p : Bool) → (p ≡ true → m ≡ true) → (m && p) ≡ p
+and-implied m p h = grind arith
 
 -- who is a candidate is on the list of these
 pub cands-has : (r : Rising) → IsOrderly r → (y : ℕ) → member y (cands r) ≡ is_candidate r y
-cands-has r o y = filter-has (is_candidate r) y r.queue.items ∙ second-both (member y r.queue.items) (is_candidate r y) (cand-queued r o y)
+cands-has r o y = filter-has (is_candidate r) y r.queue.items ∙ and-implied (member y r.queue.items) (is_candidate r y) (cand-queued r o y)
 
 -- the first `n` of a list are no more than the list has
 length-take : (n : ℕ) (xs : List ℕ) → length (take n xs) ≤ length xs

@@ -2,7 +2,7 @@
 use Rattle.std.proofs.Common.{◌≡◌, ◌≢◌, ◌≤◌, ◌<◌, ◌&&◌, ◌||◌, ℕ, suc, zero, Bool, true, false, not, List, [], ◌∷◌, length, take, drop, get_or, eqb}
 use Rattle.std.proofs.Common.{refl, sym, ◌∙◌, ap, inl, inr, arith, true≢false, eqb-true, eq-eqb, ne_eqb}
 use Rattle.std.specs.List.{insert}
-use Rattle.std.proofs.lemmas.Bool.{cases_eq, or_cases, false_from_ne_true}
+use Rattle.std.proofs.lemmas.Bool.{cases_eq, or_cases, or_from, false_from_ne_true}
 use Rattle.std.proofs.Math.Bool.{or_assoc}
 use Rattle.kc_distinct.specs.Lists.{member, Distinct}
 use Rattle.kc_distinct.proofs.Members.{member-head, member-tail}
@@ -30,16 +30,12 @@ inserted-has xs zero y z = or-turned (eqb z y) (member z xs)
 inserted-has [] (suc i) y z = or-turned (eqb z y) false
 inserted-has (x ∷ xs) (suc i) y z = ap (λ b. eqb z x || b) (inserted-has xs i y z) ∙ sym (or_assoc (eqb z x) (member z xs) (eqb z y))
 
--- where two truths fail, neither holds
-neither-holds : (a e : Bool) → a ≡ false → e ≡ false → (a || e) ≡ false
-neither-holds a e h k = grind arith
-
 -- a list with distinct items still has such with a new number put in
 pub inserted-once : (xs : List ℕ) (i y : ℕ) → Distinct xs → member y xs ≡ false → Distinct (insert xs i y)
 inserted-once xs zero y d out = (out, d)
 inserted-once [] (suc i) y d out = (out, d)
 inserted-once (x ∷ xs) (suc i) y d out = (
-  inserted-has xs i y x ∙ neither-holds (member x xs) (eqb x y) d.0
+  inserted-has xs i y x ∙ or_from (member x xs) (eqb x y) d.0
       (ne_eqb x y (λ e. true≢false (sym (ap (λ k. member k (x ∷ xs)) (sym e) ∙ member-head x xs) ∙ out))),
   inserted-once xs i y d.1 (false_from_ne_true _ (λ m. true≢false (sym (member-tail y x xs m) ∙ out))),
 )
@@ -76,12 +72,12 @@ and-yes : (a : Bool) → a ≡ (a && not false)
 and-yes a = grind arith
 
 -- the first item is not among those behind the first `n` + 1
-first-gone : (e m t : Bool) → e ≡ true → ((e || m) && not (e || t)) ≡ false
-first-gone e m t h = grind arith
+first_item-not_behind : (e m t : Bool) → e ≡ true → ((e || m) && not (e || t)) ≡ false
+first_item-not_behind e m t h = grind arith
 
 -- another item is behind the first `n` + 1 where it is behind the first `n` of the rest
-other-passed : (e m t : Bool) → e ≡ false → ((e || m) && not (e || t)) ≡ (m && not t)
-other-passed e m t h = grind arith
+other_item-behind : (e m t : Bool) → e ≡ false → ((e || m) && not (e || t)) ≡ (m && not t)
+other_item-behind e m t h = grind arith
 
 -- what stands behind the first `n` of distinct items is what is in the list and not among these
 pub drop-has : (n z : ℕ) (xs : List ℕ) → Distinct xs → member z (drop n xs) ≡ (member z xs && not (member z (take n xs)))
@@ -90,6 +86,6 @@ drop-has (suc n) z [] d = refl
 drop-has (suc n) z (x ∷ xs) d = elim (cases_eq z x) [
   | inl e ↦
       let out : member z (drop n xs) ≡ false = false_from_ne_true _ (λ m. true≢false (sym (drop-member n z xs m) ∙ (ap (λ k. member k xs) e ∙ d.0))) in
-      out ∙ sym (first-gone (eqb z x) (member z xs) (member z (take n xs)) (eq-eqb z x e))
-  | inr ne ↦ drop-has n z xs d.1 ∙ sym (other-passed (eqb z x) (member z xs) (member z (take n xs)) (ne_eqb z x ne))
+      out ∙ sym (first_item-not_behind (eqb z x) (member z xs) (member z (take n xs)) (eq-eqb z x e))
+  | inr ne ↦ drop-has n z xs d.1 ∙ sym (other_item-behind (eqb z x) (member z xs) (member z (take n xs)) (ne_eqb z x ne))
 ]

@@ -47,15 +47,19 @@ ends-turned a b c d = grind arith
 module _ (s : Ranked) (u v root other level : ℕ) (h : IsCertified s) (lr : root < s.graph.size) (lo : other < s.graph.size)
     (least : level ≡ get_or s.core root 0) (first : rank_in s.order root < rank_in s.order other) (new : adjacent s.graph root other ≡ false)
     (adds : (a b : ℕ) → adjacent (with_edge s.graph u v) a b ≡ (adjacent s.graph a b || joins root other a b)) where
+  -- who is joined once the edge is there
   abbrev now : ℕ → ℕ → Bool
   now = adjacent (with_edge s.graph u v)
 
+  -- the ranks, as they are
   abbrev rank : ℕ → ℕ
   rank = rank_in s.order
 
+  -- the core numbers, as they are
   abbrev number : ℕ → ℕ
   number y = get_or s.core y 0
 
+  -- with the edge, the search is widened at the root
   widened-at : Widened (search_in (with_edge s.graph u v) s level) root
   widened-at =
       let there : (y : ℕ) → y < s.graph.size → member y s.order ≡ true = λ y l. order-has s.graph.size s.order h.enumerates y ∙ member-below y s.graph.size l in
