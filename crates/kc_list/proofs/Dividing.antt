@@ -13,6 +13,7 @@ use Rattle.kc_list.specs.declared.limits.TheConstants.{GROUP_ITEMS, HALF_ITEMS}
 use Rattle.kc_list.proofs.Counts.{full_segment, group-halves, size-agree}
 use Rattle.kc_list.proofs.Counts as counts
 use Rattle.kc_list.proofs.Rooms.{in_segment}
+use Rattle.kc_list.proofs.Spreading.{segment-agree}
 use Rattle.kc_list.proofs.Changes.{group-halved}
 use Rattle.kc_list.proofs.Splits.{Steps-then}
 use Rattle.kc_list.proofs.Toplabels.{item_runs}
@@ -43,21 +44,18 @@ halved_at a d p g h into is seg len full free two same =
     (member-append p (take HALF_ITEMS into) (drop HALF_ITEMS into) (ap (member p) (take-append-drop HALF_ITEMS into) ∙ there))
 
 -- the last member of a full group
-pub last_of : (a : LabelledList) (p count : ℕ) (into : List ℕ) → AreMembers a.links a.sheet (group_at a.links a.sheet p) (take count into)
-    → length into ≡ GROUP_ITEMS → count ≤ length into → IsFull a.links a.sheet p
+pub last_of : (a : LabelledList) (p : ℕ) (into : List ℕ) → AreMembers a.links a.sheet (group_at a.links a.sheet p) into → length into ≡ GROUP_ITEMS
     → Last a.links.size a.sheet.words a.links.list (group_at a.links a.sheet p) into
-last_of a p count into seg len within full =
-    last_facts a.links.size a.sheet.words a.links.list (group_at a.links a.sheet p) count into seg len within full.size
+last_of a p into seg len = last_facts a.links.size a.sheet.words a.links.list (group_at a.links a.sheet p) into seg len
 
 -- a gap above that member is room above the group
-pub wide_above : (a : LabelledList) (p count g : ℕ) (into : List ℕ) (low high : ℕ)
-    → AreMembers a.links a.sheet (group_at a.links a.sheet p) (take count into) → length into ≡ GROUP_ITEMS → count ≤ length into
-    → IsFull a.links a.sheet p → g ≡ group_at a.links a.sheet p → low ≡ top_at a.links a.sheet g
+pub wide_above : (a : LabelledList) (p g : ℕ) (into : List ℕ) (low high : ℕ) → AreMembers a.links a.sheet (group_at a.links a.sheet p) into
+    → length into ≡ GROUP_ITEMS → g ≡ group_at a.links a.sheet p → low ≡ top_at a.links a.sheet g
     → high ≡ end_above a.links a.sheet (get_or into (GROUP_ITEMS - 1) 0) → low + 2 ≤ high
     → HasRoomAbove a.links a.sheet (group_at a.links a.sheet p)
-wide_above a p count g into low high seg len within full is low-is high-is wide =
+wide_above a p g into low high seg len is low-is high-is wide =
     let w = wide_gap a.links.size a.sheet.words a.links.list (group_at a.links a.sheet p) into low high a.sound
-    (last_of a p count into seg len within full) (low-is ∙ ap (labels a.links.size a.sheet.words).top is) high-is wide in
+    (last_of a p into seg len) (low-is ∙ ap (labels a.links.size a.sheet.words).top is) high-is wide in
     record { gap = w.0; high = w.1 }
 
 -- after a spread of all groups there is room above each
@@ -109,6 +107,17 @@ group-still_full a b p most then kept full t =
       size = t-now.counts (group_at b.links b.sheet p) placed.group_low placed.group_high ∙ full-now.size;
       high = placed.group_high;
     }
+
+-- where no items' words change, the members of a full group are as they were
+pub members-still : (a b : LabelledList) (p most : ℕ) (m : List ℕ) → Relabels most a b → KeepsItems a b → IsFull a.links a.sheet p
+    → AreMembers a.links a.sheet (group_at a.links a.sheet p) m → AreMembers b.links b.sheet (group_at b.links b.sheet p) m
+members-still a b p most m then kept full seg =
+    let same : (y : ℕ) → member y a.links.list ≡ true → group_at a.links b.sheet y ≡ group_at a.links a.sheet y =
+    λ y k. items_agree a.links.size a.sheet.words b.sheet.words a.links.list y a.sound kept.items k in
+    let there : AreMembers a.links b.sheet (group_at a.links a.sheet p) m =
+    segment-agree (labels a.links.size a.sheet.words) (labels a.links.size b.sheet.words) a.links.list (group_at a.links a.sheet p) m same seg in
+    subst (λ (l : Chain). AreMembers l b.sheet (group_at l b.sheet p) m) (sym then.rewrites.links)
+    (subst (λ (z : ℕ). AreMembers a.links b.sheet z m) (sym (same p full.p_in)) there)
 
 -- a number of size 0 is free
 pub free_there : (b : LabelledList) (h : ℕ) → AreSizes b.links b.sheet b.groups → 0 < h → h < length b.groups → get_or b.groups h 0 ≡ 0

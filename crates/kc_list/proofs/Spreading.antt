@@ -251,6 +251,22 @@ pub record RelabelFacts (n : ℕ) (ws list : List ℕ) (g : ℕ) (m : List ℕ) 
 pub segment_in : (a : Labels) (list : List ℕ) (g : ℕ) (m : List ℕ) → Segment a list g m → (y : ℕ) → member y m ≡ true → member y list ≡ true
 segment_in a list g m seg y k = ap (member y) seg.is ∙ member-append_right y seg.front (m ++ seg.back) (member-append_left y m seg.back k)
 
+-- where each item keeps its group, the members of a group stay together
+pub segment-agree : (a b : Labels) (list : List ℕ) (g : ℕ) (m : List ℕ) → ((y : ℕ) → member y list ≡ true → b.group y ≡ a.group y)
+    → Segment a list g m → Segment b list g m
+segment-agree a b list g m same seg = record {
+  front = seg.front;
+  back = seg.back;
+  is = seg.is;
+  members = λ y k. same y (segment_in a list g m seg y k) ∙ seg.members y k;
+  others = λ y k e.
+      let inside : member y list ≡ true = ap (member y) seg.is ∙ elim k [
+        | inl f ↦ member-append_left y seg.front (m ++ seg.back) f
+        | inr r ↦ member-append_right y seg.front (m ++ seg.back) (member-append_right y m seg.back r)
+      ] in
+      seg.others y k (sym (same y inside) ∙ e);
+}
+
 -- a member of a group is an item's number
 pub segment_below : (n : ℕ) (ws list : List ℕ) (g : ℕ) (m : List ℕ) (i : ℕ) → Sound n ws list → Segment (labels n ws) list g m → i < length m → get_or m i 0 < n
 segment_below n ws list g m i s seg l = (s.inside (get_or m i 0) (segment_in (labels n ws) list g m seg (get_or m i 0) (member-get_or m i 0 l))).below

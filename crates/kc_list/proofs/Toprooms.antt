@@ -4,9 +4,9 @@ use Rattle.std.proofs.lemmas.Bool.{false≢true, false_from_ne_true}
 use Rattle.kc_distinct.specs.Lists.{member, next_of}
 use Rattle.kc_distinct.proofs.Members.{member-head, member-tail, member-cases}
 use Rattle.kc_words.specs.Order.{labels}
-use Rattle.kc_list.specs.Places.{Sound, Segment, Free, runs, size_of, top_end}
+use Rattle.kc_list.specs.Places.{Sound, Segment, Free, runs, top_end}
 use Rattle.kc_list.proofs.Spreading.{segment_in}
-use Rattle.kc_list.proofs.Counts.{full_segment, group-halves, top_gap, top_end_high}
+use Rattle.kc_list.proofs.Counts.{group-halves, top_gap, top_end_high}
 use Rattle.kc_list.proofs.Toplabels.{runs_item}
 use Rattle.kc_words.specs.declared.layout.TheConstants.{TOP_ROOM}
 use Rattle.kc_list.specs.declared.limits.TheConstants.{GROUP_ITEMS}
@@ -42,15 +42,13 @@ pub record Last (n : ℕ) (ws list : List ℕ) (g : ℕ) (into : List ℕ) : Typ
   pub segment : Segment (labels n ws) list g (take (GROUP_ITEMS - 1) into ++ get_or into (GROUP_ITEMS - 1) 0 ∷ [])
 
 -- what stands last in the array of a full group is its last member
-pub last_facts : (n : ℕ) (ws list : List ℕ) (g count : ℕ) (into : List ℕ) → Segment (labels n ws) list g (take count into) → length into ≡ GROUP_ITEMS
-    → count ≤ length into → size_of (labels n ws).group g list ≡ GROUP_ITEMS → Last n ws list g into
-last_facts n ws list g count into seg len within size =
-    let seg' : Segment (labels n ws) list g into = full_segment (labels n ws) list g count into seg len within size in
+pub last_facts : (n : ℕ) (ws list : List ℕ) (g : ℕ) (into : List ℕ) → Segment (labels n ws) list g into → length into ≡ GROUP_ITEMS → Last n ws list g into
+last_facts n ws list g into seg len =
     let last-in : member (get_or into (GROUP_ITEMS - 1) 0) into ≡ true = member-get_or into (GROUP_ITEMS - 1) 0 (omega arith) in
     record {
-      inside = segment_in (labels n ws) list g into seg' (get_or into (GROUP_ITEMS - 1) 0) last-in;
-      group = seg'.members (get_or into (GROUP_ITEMS - 1) 0) last-in;
-      segment = (group-halves n (labels n ws) list g into seg' len).last;
+      inside = segment_in (labels n ws) list g into seg (get_or into (GROUP_ITEMS - 1) 0) last-in;
+      group = seg.members (get_or into (GROUP_ITEMS - 1) 0) last-in;
+      segment = (group-halves n (labels n ws) list g into seg len).last;
     }
 
 -- a gap of two above the last member of a full group is a gap of two above the group

@@ -88,10 +88,11 @@ impl LabelledList {
         self.split(cut, top);
     }
 
-    /// Splits the full group of `p`.
-    fn split_at(&mut self, p: u32, fresh: u32, members: &mut [u32])
-        requires length { length members.old ≡ GROUP_ITEMS }
+    /// Splits the full group of `p`, which has these members.
+    fn split_at(&mut self, p: u32, fresh: u32, members: &[u32])
+        requires length { length members.now ≡ GROUP_ITEMS }
         requires full { IsFull self.old.links self.old.sheet p }
+        requires segment { AreMembers self.old.links self.old.sheet (group_at self.old.links self.old.sheet p) members.now }
         requires fresh { IsSpare self.old.links self.old.sheet fresh }
         requires gap { HasRoomAbove self.old.links self.old.sheet (group_at self.old.links self.old.sheet p) }
         requires version { ItemsMayRise self.old.sheet self.old.links.list }
@@ -101,14 +102,15 @@ impl LabelledList {
         ensures relabels { Relabels (HALF_ITEMS + 1) self.old self.new }
     {
         let group = self.item(p).group;
-        self.gather(p, members);
         let grows = half_of(p, members);
         self.split_full(members, group, fresh, grows);
     }
 
-    /// Sees to it that there is a top label between the full group of `p` and what follows it.
-    fn make_top_room(&mut self, scratch: &mut Scratch, p: u32)
+    /// Sees to it that there is a top label between the full group of `p`, which has these members, and what follows it.
+    fn make_top_room(&mut self, scratch: &mut Scratch, p: u32, members: &[u32])
+        requires length { length members.now ≡ GROUP_ITEMS }
         requires full { IsFull self.old.links self.old.sheet p }
+        requires segment { AreMembers self.old.links self.old.sheet (group_at self.old.links self.old.sheet p) members.now }
         requires scratch { self.old.links.size ≤ scratch.old }
         requires version { (w : ℕ) → version_at self.old.sheet w < LAST_VERSION }
         requires room { length self.old.sheet.writes + self.old.links.size ≤ self.old.sheet.room }
@@ -117,8 +119,6 @@ impl LabelledList {
         ensures kept { KeepsItems self.old self.new }
         ensures relabels { Relabels self.old.links.size self.old self.new }
     {
-        let mut members = [0u32; GROUP_ITEMS];
-        self.gather(p, &mut members);
         let group = self.item(p).group;
         let (low, high) = self.top_gap(group, members[GROUP_ITEMS - 1]);
         if low + 2 <= high {
@@ -137,11 +137,12 @@ impl LabelledList {
         ensures divides { Divides p self.old self.new }
         ensures rewrites { Rewrites (self.old.links.size + HALF_ITEMS + 1) self.old self.new }
     {
-        self.make_top_room(scratch, p);
+        let mut members = [0u32; GROUP_ITEMS];
+        self.gather(p, &mut members);
+        self.make_top_room(scratch, p, &members);
         let group = self.item(p).group;
         let fresh = self.groups.split(group);
-        let mut members = [0u32; GROUP_ITEMS];
-        self.split_at(p, fresh, &mut members);
+        self.split_at(p, fresh, &members);
     }
 
     /// Sees to it that the group of `p` can take `x`. An `x` of that group leaves it as large as it is.

@@ -1,13 +1,13 @@
--- The full group of `p` fills the array, so that its two halves are those of the array.
-use Rattle.std.proofs.Common.{ℕ, ap, sym, subst, arith}
+-- The array has the members of the full group of `p`, so that the group's two halves are those of the array.
+use Rattle.std.proofs.Common.{ℕ, ap, sym, subst}
 use Rattle.kc_list.specs.Views.{AreMembers, HasRoomAbove}
-use Rattle.kc_list.proofs.Dividing.{whole_group, halved_at}
+use Rattle.kc_list.proofs.Dividing.{halved_at}
 use Rattle.kc_list.proofs.labelled.LabelledList.split_at.Goals as goal
 
 pub split_full-requires-clause-segment : goal.split_full-requires-clause-segment
 split_full-requires-clause-segment c =
-    subst (λ (z : ℕ). AreMembers c.args.self.now.links c.args.self.now.sheet z c.gather.new.into) (sym (ap (λ w. w.group) c.item-group.ensures))
-    (whole_group c.args.self.now c.args.p c.gather.result c.gather.new.into c.gather.ensures.segment (omega arith) (omega arith) c.requires.full)
+    subst (λ (z : ℕ). AreMembers c.args.self.now.links c.args.self.now.sheet z c.args.members.now) (sym (ap (λ w. w.group) c.item-group.ensures))
+    c.requires.segment
 
 pub split_full-requires-clause-gap : goal.split_full-requires-clause-gap
 split_full-requires-clause-gap c =
@@ -15,7 +15,6 @@ split_full-requires-clause-gap c =
 
 pub returns-clause-halved : goal.returns-clause-halved
 returns-clause-halved c =
-    halved_at c.args.self.now c.split_full.new.self c.args.p c.item-group.result.group c.args.fresh c.gather.new.into
-    (ap (λ w. w.group) c.item-group.ensures)
-    (whole_group c.args.self.now c.args.p c.gather.result c.gather.new.into c.gather.ensures.segment (omega arith) (omega arith) c.requires.full)
-    (omega arith) c.requires.full c.requires.fresh.free c.split_full.ensures.halves c.split_full.ensures.relabels.rewrites.links
+    halved_at c.args.self.now c.split_full.new.self c.args.p c.item-group.result.group c.args.fresh c.args.members.now
+    (ap (λ w. w.group) c.item-group.ensures) c.requires.segment c.requires.length c.requires.full c.requires.fresh.free c.split_full.ensures.halves
+    c.split_full.ensures.relabels.rewrites.links

@@ -5,7 +5,7 @@ use Rattle.kc_list.specs.Views.{HasRoomAbove, group_at}
 use Rattle.kc_list.specs.Rewriting.{Rewrites}
 use Rattle.kc_list.specs.declared.limits.TheConstants.{HALF_ITEMS}
 use Rattle.kc_list.proofs.Arranging.{spare_group}
-use Rattle.kc_list.proofs.Dividing.{group-still_full, free_there, group-divided, divided_rewrites}
+use Rattle.kc_list.proofs.Dividing.{whole_group, group-still_full, members-still, free_there, group-divided, divided_rewrites}
 use Rattle.kc_list.proofs.labelled.LabelledList.split_group.Goals as goal
 
 pub split-fresh-requires-clause-within : goal.split-fresh-requires-clause-within
@@ -28,6 +28,16 @@ split-fresh-requires-clause-spare c =
     c.make_top_room.new.self.groups c.make_top_room.new.self.sound
     (group-still_full c.args.self.now c.make_top_room.new.self c.args.p _ c.make_top_room.ensures.relabels c.make_top_room.ensures.kept c.requires.full
     c.requires.tallied).tallied
+
+pub make_top_room-requires-clause-segment : goal.make_top_room-requires-clause-segment
+make_top_room-requires-clause-segment c =
+    whole_group c.args.self.now c.args.p c.gather.result c.gather.new.into c.gather.ensures.segment (omega arith) (omega arith) c.requires.full
+
+pub split_at-requires-clause-segment : goal.split_at-requires-clause-segment
+split_at-requires-clause-segment c =
+    members-still c.args.self.now c.make_top_room.new.self c.args.p _ c.gather.new.into c.make_top_room.ensures.relabels c.make_top_room.ensures.kept
+    c.requires.full
+    (whole_group c.args.self.now c.args.p c.gather.result c.gather.new.into c.gather.ensures.segment (omega arith) (omega arith) c.requires.full)
 
 pub split_at-requires-clause-full : goal.split_at-requires-clause-full
 split_at-requires-clause-full c =
