@@ -1,7 +1,7 @@
 //! Where an item stands, and how it comes to stand elsewhere.
-ghost use Rattle.std.specs.Prelude.{◌≡◌, ◌≢◌, ◌<◌, ◌+◌, ◌-◌, ◌/◌, length, slice_index, true, IsTrue, ◌↔◌};
+ghost use Rattle.std.specs.Prelude.{◌≡◌, ◌≢◌, ◌<◌, ◌≤◌, ◌+◌, ◌-◌, ◌/◌, length, slice_index, true, IsTrue, ◌↔◌};
 ghost use Rattle.kc_distinct.specs.Lists.{member, without, right_after};
-ghost use Rattle.kc_list.specs.Views.{group_at, bottom_at, HasLabelAfter, FitsAfter, AreSizes, end_after, IsPairBelow, version_at};
+ghost use Rattle.kc_list.specs.Views.{group_at, bottom_at, FitsAfter, AreSizes, end_after, IsPairBelow, version_at};
 ghost use Rattle.kc_list.specs.Rewriting.{HasWay, PutsItem, TakesOut};
 
 use crate::labelled::LabelledList;
@@ -34,6 +34,20 @@ fn take_out(links: &mut Links, x: u32, is_in: bool)
     }
 }
 
+/// A label of a gap: near one end where the puts are in a row, so that the next ones have room, and else the middle.
+pub fn label_between(low: u32, high: u32, growth: Growth) -> u32
+    requires gap { low + 2 ≤ high }
+    ensures low { low < result }
+    ensures high { result < high }
+{
+    let share = ((high - low) / PUT_SHARE).max(1);
+    match growth {
+        Growth::Onwards => low + share,
+        Growth::Backwards => high - share,
+        Growth::Anywhere => low + (high - low) / 2,
+    }
+}
+
 impl LabelledList {
     /// The room for labels right after `p`, in its group.
     pub fn gap(&self, p: u32) -> (u32, u32)
@@ -53,22 +67,6 @@ impl LabelledList {
             BOTTOM_END
         };
         (here.bottom, end)
-    }
-
-    /// A label between that of `p` and that of what follows it: near one end where the puts are in a row,
-    /// so that the next ones have room, and else the middle.
-    pub fn label_after(&self, p: u32, growth: Growth) -> u32
-        requires p_in { member p self.now.links.list ≡ true }
-        requires gap { HasLabelAfter self.now.links self.now.sheet p }
-        ensures { FitsAfter self.now.links self.now.sheet p result }
-    {
-        let (low, high) = self.gap(p);
-        let share = ((high - low) / PUT_SHARE).max(1);
-        match growth {
-            Growth::Onwards => low + share,
-            Growth::Backwards => high - share,
-            Growth::Anywhere => low + (high - low) / 2,
-        }
     }
 
     /// Puts `x` right after `p`, with a label of the gap.

@@ -11,7 +11,7 @@ use crate::groups::Groups;
 use crate::labelled::LabelledList;
 use crate::limits::ITEM_WRITES;
 use crate::opening::{link, opening_words};
-use crate::place::Growth;
+use crate::place::{Growth, label_between};
 use crate::scratch::Scratch;
 use crate::sheet::{Sheet, Write};
 use kc_words::{LAST_VERSION, Shape};
@@ -155,8 +155,8 @@ impl PlainOrder {
         ensures highest { highest_of self.new.words ≤ highest_of self.old.words + 2 }
     {
         self.list.sheet.clear();
-        self.list.make_way(&mut self.scratch, x, p);
-        let label = self.list.label_after(p, self.last.growth(p));
+        let (low, high) = self.list.make_way(&mut self.scratch, x, p);
+        let label = label_between(low, high, self.last.growth(p));
         self.list.move_item(x, p, label);
         self.last = LastPut { item: x, after: p };
     }

@@ -5,3 +5,6 @@ use Rattle.kc_list.proofs.labelled.LabelledList.make_room.Goals as goal
 
 pub returns-then-low-high-clause-relabels : goal.returns-then-low-high-clause-relabels
 returns-then-low-high-clause-relabels c = record { groups = refl; rewrites = order-unwritten c.args.self.now _ }
+
+pub gap-requires : goal.gap-requires
+gap-requires c = rw c.spread_at.ensures.relabels.rewrites.links c.requires.p_in
