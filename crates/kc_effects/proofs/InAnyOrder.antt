@@ -52,12 +52,12 @@ any-at p first batch index u at passes =
     (or_left (p (parts_of u)) (list_any p (map parts_of at.back)) passes))
 
 -- a test that entries of the batch pass is passed by the batch
-test-forth : (p : EdgeUpdate → Bool) (first : ℕ) (batch : List Update) (es : List Entry) → AllByRecursion (IsOneOf first batch) es
+entries_test-in_batch : (p : EdgeUpdate → Bool) (first : ℕ) (batch : List Update) (es : List Entry) → AllByRecursion (IsOneOf first batch) es
     → list_any p (map change_of es) ≡ true → list_any p (map parts_of batch) ≡ true
-test-forth p first batch [] all h = absurd (false≢true h)
-test-forth p first batch (e ∷ es) all h = elim (or_cases (p (change_of e)) (list_any p (map change_of es)) h) [
+entries_test-in_batch p first batch [] all h = absurd (false≢true h)
+entries_test-in_batch p first batch (e ∷ es) all h = elim (or_cases (p (change_of e)) (list_any p (map change_of es)) h) [
   | inl passes ↦ any-at p first batch e.index all.0.0 all.0.1 (ap p (sym all.0.2) ∙ passes)
-  | inr k ↦ test-forth p first batch es all.1 k
+  | inr k ↦ entries_test-in_batch p first batch es all.1 k
 ]
 
 -- what the batch passes is passed by an update at some place
@@ -85,7 +85,7 @@ module _ (first vertices : ℕ) (batch : List Update) (is_batch : IsBatch vertic
   same-updates made order p =
       let all = recursion_from_All (IsOneOf first batch) made order.some.each in
       both_ways (list_any p (map change_of made)) (list_any p (map parts_of batch))
-      (test-forth p first batch made all)
+      (entries_test-in_batch p first batch made all)
       (λ h.
       let r = found-at p batch h in
       let at : IsUpdateAt first batch (first + length r.0) r.1 = record { front = r.0; back = r.2; is = r.3; index_is = refl } in

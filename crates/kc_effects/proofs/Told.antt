@@ -47,20 +47,25 @@ module _ (edges : FinSet pair_cmp) (first : ℕ) (batch : List Update) (outcomes
   part-is : (o : Outcome) → (of : IsOutcomeOf edges first batch o) → part_at first batch o.index ≡ parts_of of.0
   part-is o of = made-at first batch parts_of no_update o.index of.0 of.1
 
+  -- an outcome was applied just where its part is effective
   applied-is : (o : Outcome) → IsOutcomeOf edges first batch o → o.applied ≡ is_effective edges (part_at first batch o.index)
   applied-is o of = of.2 ∙ ap (is_effective edges) (sym (part-is o of))
 
+  -- an outcome adds just where its part does
   adds-is : (o : Outcome) → IsOutcomeOf edges first batch o → adds_at first batch o.index ≡ is_add (part_at first batch o.index)
   adds-is o of = made-at first batch (λ (u : Update). u.add) false o.index of.0 of.1 ∙ ap is_add (sym (part-is o of))
 
+  -- the edges told as added are those that the batch adds
   pub tells-added : told_added first batch outcomes ≡ added edges (map parts_of batch)
   tells-added = count-told (λ o. adds_at first batch o.index && o.applied) (λ x. is_add x && is_effective edges x)
       (λ o of. ap₂ (λ (a b : Bool). a && b) (adds-is o of) (applied-is o of))
 
+  -- the edges told as removed are those that the batch removes
   pub tells-removed : told_removed first batch outcomes ≡ removed edges (map parts_of batch)
   tells-removed = count-told (λ o. not (adds_at first batch o.index) && o.applied) (λ x. not (is_add x) && is_effective edges x)
       (λ o of. ap₂ (λ (a b : Bool). not a && b) (adds-is o of) (applied-is o of))
 
+  -- the edges told as kept are those that the batch keeps
   pub tells-kept : told_kept outcomes ≡ kept edges (map parts_of batch)
   tells-kept = count-told (λ o. not o.applied) (λ x. not (is_effective edges x)) (λ o of. ap not (applied-is o of))
 

@@ -174,6 +174,10 @@ part-out core order v c k out =
     filter-alike (λ y. eqb (get_or (set core v c) y 0) k) (λ y. eqb (get_or core y 0) k) order
     (λ y m. ap (λ (z : ℕ). eqb z k) (get_or-set_other core v y c 0 (λ (e : y ≡ v). true≢false (sym m ∙ (ap (λ (z : ℕ). member z order) e ∙ out)))))
 
+-- what is within a bound is so without one of it
+rest-within : (n v : ℕ) (order : List ℕ) → ((y : ℕ) → member y order ≡ true → y < n) → (y : ℕ) → member y (without v order) ≡ true → y < n
+rest-within n v order within y m = within y (member-without y v order m).0
+
 -- A vertex is put right after another: it has that one's level.
 pub put-after : (n v w : ℕ) (order core : List ℕ) → ((y : ℕ) → member y order ≡ true → y < n) → v < n → w < n → v < length core → w ≢ v
     → put v w (with_heads n order core) ≡ with_heads n (put v w order) (set core v (get_or core w 0))
@@ -181,7 +185,7 @@ unfolding with_heads
 put-after n v w order core within lv lw long ne =
     let rest : List ℕ = without v order in
     let c : ℕ = get_or core w 0 in
-    let inside : (y : ℕ) → member y rest ≡ true → y < n = λ y m. within y (member-without y v order m).0 in
+    let inside = rest-within n v order within in
     ap (right_after v w) (heads-without n v order core lv)
     ∙ (parts-after n v w (level_part core rest) 0 (suc n) (levels-apart core rest) lw
     ∙ parts-alike n (λ j. right_after v w (level_part core rest j)) (level_part (set core v c) (right_after v w rest)) 0 (suc n)
@@ -240,7 +244,7 @@ put-front n v level order core within lv long high =
     let rest : List ℕ = without v order in
     let part : ℕ → List ℕ = level_part core rest in
     let low : ℕ → Bool = λ y. ltb (get_or core y 0) level in
-    let inside : (y : ℕ) → member y rest ≡ true → y < n = λ y m. within y (member-without y v order m).0 in
+    let inside = rest-within n v order within in
     let at : (j : ℕ) → with_part part level (v ∷ part level) j ≡ level_part (set core v level) (put_between low (v ∷ []) order) j = λ j.
     let is : level_part (set core v level) (put_between low (v ∷ []) order) j
     ≡ filter low (part j) ++ cond (eqb level j) (v ∷ filter (λ y. not (low y)) (part j)) (filter (λ y. not (low y)) (part j)) =
@@ -278,7 +282,7 @@ put-back n e v level order core within distinct lv long high =
     let rest : List ℕ = without v order in
     let part : ℕ → List ℕ = level_part core rest in
     let low : ℕ → Bool = λ y. leb (get_or core y 0) level in
-    let inside : (y : ℕ) → member y rest ≡ true → y < n = λ y m. within y (member-without y v order m).0 in
+    let inside = rest-within n v order within in
     let at : (j : ℕ) → with_part part level (part level ++ v ∷ []) j ≡ level_part (set core v level) (put_between low (v ∷ []) order) j = λ j.
     let is : level_part (set core v level) (put_between low (v ∷ []) order) j
     ≡ filter low (part j) ++ cond (eqb level j) (v ∷ filter (λ y. not (low y)) (part j)) (filter (λ y. not (low y)) (part j)) =

@@ -28,15 +28,19 @@ turn-before (z ∷ run) list turn x y m n s = elim (member-cases y z run n) [
 ]
 
 module _ (seen : Seen) (a b : ℕ) (run : List ℕ) (is : IsRunFor seen a b run) where
+  -- the arcs before
   abbrev arcs : List (ℕ × ℕ)
   arcs = arcs_after seen.table seen.log
 
+  -- the list before
   abbrev list : List ℕ
   list = list_after seen.table seen.log
 
+  -- the list after
   abbrev after : List ℕ
   after = with_run_after run a list
 
+  -- each of the run stands before `a`
   in_run : (v : ℕ) → member v run ≡ true → StandsBefore v a list
   in_run v m = ((is.members v).0 m).1
 
@@ -44,6 +48,7 @@ module _ (seen : Seen) (a b : ℕ) (run : List ℕ) (is : IsRunFor seen a b run)
   pub run-before : (fixed : ℕ) → fixed ≡ 0 → IsRunBefore fixed run a list
   run-before fixed none = record { turn = is.turn; before = in_run; free = λ x m. omega (arith, none) }
 
+  -- `a` is none of the run
   a-apart : member a run ≡ false
   a-apart = false_from_ne_true (member a run) (λ m. never-itself a list (in_run a m))
 

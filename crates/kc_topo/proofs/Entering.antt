@@ -75,35 +75,45 @@ module _ (old moved new : Seen) (rows : List (List ℕ)) (run : List ℕ) (a b :
     (acyclic : Reaches (arcs_after old.table old.log) b a → ⊥) (is : IsRunFor old a b run) (moves : MovesRun old moved run a)
     (stores : Stores moved new 0 (note_word (note_of_arc a b)))
     (leaves : Leaves new (entries_after moved ++ entry_of a b ∷ []) [] (vertex_word_after moved)) where
+  -- the arcs before
   abbrev arcs : List (ℕ × ℕ)
   arcs = arcs_after old.table old.log
 
+  -- the list after
   abbrev after : List ℕ
   after = with_run_after run a (list_after old.table old.log)
 
+  -- the word that is stored
   abbrev value : ℕ
   value = note_word (note_of_arc a b)
 
+  -- arcs and list are a dag before
   begun : IsDag old.table old.log
   begun = k.dag old.log (prefix_self old.log)
 
+  -- the table stays
   to : new.table ≡ old.table
   to = ap (λ (s : Seen). s.table) stores.is ∙ moves.table
 
+  -- there is one entry more
   entries : entries_after new ≡ entries_after old ++ entry_of a b ∷ []
   entries = leaves.entries_are ∙ ap (λ (es : List Entry). es ++ entry_of a b ∷ []) moves.leaves.entries_are
 
+  -- there is one arc more
   arcs-new : arcs_after new.table new.log ≡ arcs ++ (a, b) ∷ []
   arcs-new = ap (map arc_of) entries ∙ arcs-push (entries_after old) a b
 
+  -- the list is the one that was made
   list-new : list_after new.table new.log ≡ after
   list-new = ap (λ (s : Seen). list_after s.table s.log) stores.is
       ∙ (ap (λ (z : State). z.list) (state_of-push moved.table.shape moved.table.opening moved.log (event 0 value)) ∙ moves.list)
 
+  -- the list is topological for the arcs before
   still : IsTopological arcs after
   still = still-topological old a b run is begun.topological acyclic (begun.vertices a low.0) (begun.vertices b low.1)
       (list-distinct old.table old.log k.legal) (subst Distinct moves.list (list-distinct moved.table moved.log moves.legal))
 
+  -- the arc leads forwards
   leads : StandsBefore a b after
   leads = new-leads old a b run is begun.topological acyclic (begun.vertices a low.0) (begun.vertices b low.1)
       (list-distinct old.table old.log k.legal) (subst Distinct moves.list (list-distinct moved.table moved.log moves.legal))
@@ -138,6 +148,7 @@ module _ (old moved new : Seen) (rows : List (List ℕ)) (run : List ℕ) (a b :
         ]);
       }
 
+  -- all is sound along the whole log
   along : IsDagAlong new.table new.log
   along prefix p =
       let grown : new.log ≡ moved.log ++ event 0 value ∷ [] = ap (λ (s : Seen). s.log) stores.is in

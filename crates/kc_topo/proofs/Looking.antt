@@ -39,19 +39,24 @@ module _ (table : TableName) (log : List Event) (dag : IsDag table log) (legal :
     (t u : Trail) (rows : List ℕ) (a b place i : ℕ)
     (trail : IsTrail (arcs_after table log) (list_after table log) a b u) (in_place : place < length t.vertices) (grows : IsPrefix t.vertices u.vertices)
     (are : (w : ℕ) → member w rows ≡ has_arc (arcs_after table log) (get_or t.vertices place 0) w) (l : i < length rows) where
+  -- the vertex that is looked at next
   abbrev next : ℕ
   next = get_or rows i 0
 
+  -- an arc leads to it
   pub next-arc : has_arc (arcs_after table log) (get_or u.vertices place 0) next ≡ true
   next-arc = ap (λ z. has_arc (arcs_after table log) z next) (get_or-prefix t.vertices u.vertices place grows in_place)
       ∙ (sym (are next) ∙ member-get_or rows i 0 l)
 
+  -- it is in the list
   pub next-listed : member next (list_after table log) ≡ true
   next-listed = (dag.topological (get_or u.vertices place 0) next next-arc).second
 
+  -- it is a vertex of the table
   pub next-low : next < table.shape.items
   next-low = listed-low table log legal next next-listed
 
+  -- the end of the new arc is in the list
   pub a-listed : member a (list_after table log) ≡ true
   a-listed = (trail.before (get_or u.vertices 0 0) (member-get_or u.vertices 0 0 trail.some)).second
 

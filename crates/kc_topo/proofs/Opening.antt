@@ -56,6 +56,7 @@ whole-empty (e ∷ es) p = absurd (omega (arith, ap length p.1))
 
 module _ (words : TableName) (n : ℕ) (items : words.shape.items ≡ n) (fixed : words.shape.fixed ≡ 0) (few : n ≤ VERTICES)
     (list : list_after words [] ≡ ascending n) (legal : Legal words.shape words.opening []) where
+  -- a table with no arcs is a dag
   begins : IsDag words []
   begins = record {
     vertices = λ v l. ap (member v) list ∙ ascending-member n v (omega (arith, l, items));
@@ -63,6 +64,7 @@ module _ (words : TableName) (n : ℕ) (items : words.shape.items ≡ n) (fixed 
     topological = λ a b arc. absurd (false≢true (ap (λ zs. has_arc zs a b) (sym (no-arcs words)) ∙ arc));
   }
 
+  -- it keeps the empty rows
   pub opens-keeps : (rows : List (List ℕ)) → rows ≡ replicate n [] → Keeps (record { table = words; log = [] }) rows
   opens-keeps rows are = record {
     dag = λ prefix p. subst (IsDag words) (sym (whole-empty prefix p)) begins;
@@ -74,6 +76,7 @@ module _ (words : TableName) (n : ℕ) (items : words.shape.items ≡ n) (fixed 
     rows_are = λ a b. ap (λ rs. member b (row rs a)) are ∙ (ap (member b) (row-none n a) ∙ ap (λ zs. has_arc zs a b) (sym (no-arcs words)));
   }
 
+  -- so the dag opens
   pub opens-dag : (arcs : Seen) (pass : PassSeen) → words.shape.base ≡ 0 → words.shape.version ≡ 0 → arcs ≡ record { table = words; log = [] }
       → pass ≡ record { table = words; log = []; loads = 0; splits = 0 } → OpensDag n words arcs pass
   opens-dag arcs pass base version a p = record {

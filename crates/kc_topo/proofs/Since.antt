@@ -33,12 +33,15 @@ arc-stays table prefix log a b p h =
 
 module _ (old new : Seen) (table : TableName) (before after : List Event) (a b : ℕ) (at : old.table ≡ table) (same : new.table ≡ old.table)
     (longer : IsPrefix before old.log) (is : after ≡ new.log) where
+  -- the arcs before are of the table
   old-is : old ≡ record { table = table; log = old.log }
   old-is i = record { table = at i; log = old.log }
 
+  -- the arcs after are of the table
   new-is : new ≡ record { table = table; log = after }
   new-is i = record { table = (same ∙ at) i; log = sym is i }
 
+  -- what a call added is added since the prefix that was seen
   since : (d : Added) → IsAdded old new a b d → IsAddedSince table before after a b d
   since added.There h = ap (λ (s : Seen). has_arc (arcs_after s.table s.log) a b) (sym new-is ∙ h.1) ∙ h.0
   since added.New h = record {
@@ -49,6 +52,7 @@ module _ (old new : Seen) (table : TableName) (before after : List Event) (a b :
     adds = subst (λ (s : Seen). AddsArc s (record { table = table; log = after }) a b) old-is (subst (λ (s : Seen). AddsArc old s a b) new-is h);
   }
 
+  -- so it is for a call that may fail
   pub added-since : (r : Result Added DagFault) → IfOk r (IsAdded old new a b) → IfOk r (IsAddedSince table before after a b)
   added-since (Ok d) h = since d h
   added-since (Err f) h = tt

@@ -101,6 +101,7 @@ module _ (arcs : List (ℕ × ℕ)) (list : List ℕ) (a b : ℕ) where
         (h.arcs_are k (omega (arith, ne)) high)
   ]
 
+  -- each vertex of a trail is reached
   pub trail-reaches : (t : Trail) → IsTrail arcs list a b t → (v : ℕ) → member v t.vertices ≡ true → Reaches arcs b v
   trail-reaches t h v m =
       let at = at-place v t.vertices m in
