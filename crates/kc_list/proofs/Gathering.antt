@@ -99,13 +99,27 @@ pub cons_rest : (n x : ℕ) (rest : List ℕ) → x ≡ head_or n rest → (x �
 cons_rest n x [] e ne = absurd (ne e)
 cons_rest n x (y ∷ r) e ne = (r, ap (λ z. z ∷ r) (sym e))
 
+-- the list where `x` comes next behind the front and what was collected
+record NextItem (list front m : List ℕ) (x : ℕ) (rest : List ℕ) : Type 0 where
+  pub back : List ℕ
+  pub rest_is : rest ≡ x ∷ back
+  pub is : list ≡ front ++ (m ++ x ∷ back)
+  pub behind : list ≡ (front ++ m) ++ x ∷ back
+
+-- where the end does not come next, an item does
+next_item : (n : ℕ) (a : Labels) (list : List ℕ) (g x : ℕ) (m : List ℕ) (c : Collected n a list g x m) → (x ≡ n → ⊥) → NextItem list c.front m x c.rest
+next_item n a list g x m c ne =
+    let (back, rest-is) = cons_rest n x c.rest c.head ne in
+    let is : list ≡ c.front ++ (m ++ x ∷ back) = c.is ∙ ap (λ zs. c.front ++ (m ++ zs)) rest-is in
+    record { back = back; rest_is = rest-is; is = is; behind = is ∙ sym (append_assoc c.front m (x ∷ back)) }
+
 -- what comes next, where it is not the end, is an item of the list
 pub collect_in : (n : ℕ) (ws list : List ℕ) (g x : ℕ) (m : List ℕ) → Sound n ws list → Collected n (labels n ws) list g x m → (x ≡ n → ⊥)
     → (member x list ≡ true) × (x < n)
 collect_in n ws list g x m s c ne =
-    let r = cons_rest n x c.rest c.head ne in
-    let is : list ≡ c.front ++ (m ++ x ∷ r.0) = c.is ∙ ap (λ zs. c.front ++ (m ++ zs)) r.1 in
-    let in' : member x list ≡ true = ap (member x) is ∙ member-append_right x c.front (m ++ x ∷ r.0) (member-append_right x m (x ∷ r.0) (member-head x r.0)) in
+    let t = next_item n (labels n ws) list g x m c ne in
+    let in' : member x list ≡ true =
+    ap (member x) t.is ∙ member-append_right x c.front (m ++ x ∷ t.back) (member-append_right x m (x ∷ t.back) (member-head x t.back)) in
     (in', (s.inside x in').below)
 
 -- what comes next is collected where it is of the group
@@ -114,11 +128,9 @@ pub collect_step : (n : ℕ) (ws list : List ℕ) (g x : ℕ) (m : List ℕ) →
 collect_step n ws list g x m s c ne x-g =
     let a = labels n ws in
     let k = collect_in n ws list g x m s c ne in
-    let r = cons_rest n x c.rest c.head ne in
-    let is : list ≡ c.front ++ (m ++ x ∷ r.0) = c.is ∙ ap (λ zs. c.front ++ (m ++ zs)) r.1 in
-    let is' : list ≡ (c.front ++ m) ++ x ∷ r.0 = is ∙ sym (append_assoc c.front m (x ∷ r.0)) in
-    let is2 : list ≡ c.front ++ ((m ++ x ∷ []) ++ r.0) = is ∙ ap (λ zs. c.front ++ zs) (sym (append_assoc m (x ∷ []) r.0)) in
-    let apart = Distinct-cut x (c.front ++ m) r.0 (subst Distinct is' s.distinct) in
+    let t = next_item n a list g x m c ne in
+    let pushed : list ≡ c.front ++ ((m ++ x ∷ []) ++ t.back) = t.is ∙ ap (λ zs. c.front ++ zs) (sym (append_assoc m (x ∷ []) t.back)) in
+    let apart = Distinct-cut x (c.front ++ m) t.back (subst Distinct t.behind s.distinct) in
     let all : (y : ℕ) → member y (m ++ x ∷ []) ≡ true → a.group y ≡ g =
     λ y q. elim (member-push_cases y x m q) [ inl p ↦ c.members y p | inr e ↦ ap a.group e ∙ x-g ] in
     record {
@@ -126,22 +138,22 @@ collect_step n ws list g x m s c ne x-g =
       x_in = k.0;
       size = omega (
         arith,
-        ap (size_of a.group g) is2,
-        size-append a.group g c.front ((m ++ x ∷ []) ++ r.0),
-        size-append a.group g (m ++ x ∷ []) r.0,
+        ap (size_of a.group g) pushed,
+        size-append a.group g c.front ((m ++ x ∷ []) ++ t.back),
+        size-append a.group g (m ++ x ∷ []) t.back,
         size-all a.group g (m ++ x ∷ []) all,
         length-append m (x ∷ []),
       );
       more = record {
         front = c.front;
-        rest = r.0;
-        is = is2;
+        rest = t.back;
+        is = pushed;
         members = all;
         none = c.none;
-        head = ap (next_of n x) is'
-            ∙ next_of-cut n x (c.front ++ m) r.0 apart.0;
+        head = ap (next_of n x) t.behind
+            ∙ next_of-cut n x (c.front ++ m) t.back apart.0;
       };
-      length_less = omega (arith, ap length is, length-append c.front (m ++ x ∷ r.0), length-append m (x ∷ r.0));
+      length_less = omega (arith, ap length t.is, length-append c.front (m ++ x ∷ t.back), length-append m (x ∷ t.back));
     }
 
 -- where the end comes next, no item is left
@@ -159,22 +171,20 @@ rest_none n ws list g x some m s c stop some-in y y-in y-g =
           (λ z k. let q : z < n = (s.inside z (ap (member z) c.is ∙ member-append_right z c.front (m ++ c.rest) (member-append_right z m c.rest k))).below in
           (λ w. absurd (omega arith))) y y-in
       | inr ne ↦
-          let r = cons_rest n x c.rest c.head ne in
+          let t = next_item n a list g x m c ne in
           let other : a.group x ≡ g → ⊥ = stop ne in
           let cut-some = member-cut some m some-in in
-          let is : list ≡ c.front ++ (m ++ x ∷ r.0) = c.is ∙ ap (λ zs. c.front ++ (m ++ zs)) r.1 in
-          let is' : list ≡ (c.front ++ m) ++ x ∷ r.0 = is ∙ sym (append_assoc c.front m (x ∷ r.0)) in
-          let order : InOrder (Before a) ((c.front ++ m) ++ x ∷ r.0) = subst (InOrder (Before a)) is' s.order in
+          let order : InOrder (Before a) ((c.front ++ m) ++ x ∷ t.back) = subst (InOrder (Before a)) t.behind s.order in
           let up : a.top g < a.top (a.group x) =
-          elim (all_before (Before a) (Before-then a) some x (c.front ++ m) r.0 order (member-append_right some c.front m some-in)) [
-            | inl t ↦ absurd (other (sym t.0 ∙ c.members some some-in))
-            | inr t ↦ omega (arith, t, ap a.top (c.members some some-in))
+          elim (all_before (Before a) (Before-then a) some x (c.front ++ m) t.back order (member-append_right some c.front m some-in)) [
+            | inl same ↦ absurd (other (sym same.0 ∙ c.members some some-in))
+            | inr less ↦ omega (arith, less, ap a.top (c.members some some-in))
           ] in
-          elim (member-cases y x r.0 (ap (member y) (sym r.1) ∙ y-in)) [
+          elim (member-cases y x t.back (ap (member y) (sym t.rest_is) ∙ y-in)) [
             | inl e ↦ other (ap a.group (sym e) ∙ y-g)
-            | inr k ↦ elim (Follows-all (Before a) (Before-then a) x y r.0 ((order-parts (Before a) (c.front ++ m) (x ∷ r.0) order).right) k) [
-              | inl t ↦ other (t.0 ∙ y-g)
-              | inr t ↦ absurd (let u = ap a.top y-g in omega (arith, t, up, u))
+            | inr k ↦ elim (Follows-all (Before a) (Before-then a) x y t.back ((order-parts (Before a) (c.front ++ m) (x ∷ t.back) order).right) k) [
+              | inl same ↦ other (same.0 ∙ y-g)
+              | inr less ↦ absurd (let u = ap a.top y-g in omega (arith, less, up, u))
             ]
           ]
     ]
