@@ -26,8 +26,8 @@ pub room-at : (pieces : List Piece) (p : ℕ) (d : Piece) → p < length pieces 
 room-at pieces p d l = get_or-map (λ (x : Piece). x.counts.len) pieces p d 0 l
 
 -- each vertex is that of some turn of some piece
-pub vertex-turn : (k v : ℕ) → v ≡ v % k + v / k * k
-vertex-turn k v = sym (mod-add-div' v k)
+pub vertex-has_turn : (k v : ℕ) → v ≡ v % k + v / k * k
+vertex-has_turn k v = sym (mod-add-div' v k)
 
 -- what the pieces made, where it stands at their vertices, is the round
 pub round-dealt : (g : SimpleGraph) (old new : List ℕ) (counts : ℕ) (pieces : List Piece) → length new ≡ g.size → AreDealt g.size counts pieces
@@ -38,7 +38,7 @@ round-dealt g old new counts pieces same dealt made stands = record {
       let k : ℕ = length pieces in
       let p : ℕ = v % k in
       let i : ℕ = v / k in
-      let at-v : v ≡ p + i * k = vertex-turn k v in
+      let at-v : v ≡ p + i * k = vertex-has_turn k v in
       let in' : p < k = mod-lt v dealt.some in
       let here : i < length (row (numbers_of pieces) p) = dealt.whole p i in' (omega (arith, l, at-v)) in
       ap (λ (x : ℕ). get_or new x 0) at-v ∙ stands p in' i here ∙ made p in' i here ∙ ap (λ (x : ℕ). h_round g (λ w. get_or old w 0) x) (sym at-v);

@@ -123,6 +123,7 @@ module _ (g : SimpleGraph) (core : List ℕ) (level v : ℕ) (left taken : List 
     | inr other ↦ sym (ap (member u) (t.others b other)) ∙ m
   ]
 
+  -- each row has a vertex once
   row-once : (b : ℕ) → Distinct (row rows b)
   row-once b = elim (cases_eq b level) [
     | inl e ↦ subst (λ (j : ℕ). Distinct (row rows j)) (sym e)

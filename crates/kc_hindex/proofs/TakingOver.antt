@@ -8,7 +8,7 @@ use Rattle.kc_hindex.specs.declared.piece.Piece.{Piece}
 use Rattle.kc_hindex.specs.Crossing.{AllTaken, Crosses, KeepsMarks, Taken}
 use Rattle.kc_hindex.specs.Pieces.{AreDealt, StandFrom, StandInTurn, numbers_of}
 use Rattle.std.proofs.Math.Nat.{mod-lt}
-use Rattle.kc_hindex.proofs.Dealing.{steps-apart, turns-apart, vertex-turn}
+use Rattle.kc_hindex.proofs.Dealing.{steps-apart, turns-apart, vertex-has_turn}
 
 -- what two parts of a round crossed is marked, where the second kept the marks of the first
 pub crosses-both : (old middle new : List ℕ) (marks crossed : List Bool) → length middle ≡ length old → Crosses old middle marks → KeepsMarks marks crossed
@@ -123,7 +123,7 @@ all-same pieces n counts old marks numbers crossed changed end dealt after =
       (λ none. ext_get_or 0 numbers old after.len (λ v l.
           let p : ℕ = v % k in
           let i : ℕ = v / k in
-          let at-v : v ≡ p + i * k = vertex-turn k v in
+          let at-v : v ≡ p + i * k = vertex-has_turn k v in
           let in' : p < n = omega (arith, mod-lt v dealt.some, end) in
           let here : i < length (row (numbers_of pieces) p) = dealt.whole p i (omega (arith, in', end)) (omega (arith, l, after.len, at-v)) in
           subst (λ (x : ℕ). get_or numbers x 0 ≡ get_or old x 0) (sym at-v) (after.taken p in' i here ∙ sym (after.same.0 none p in' i here)))),
