@@ -1,7 +1,7 @@
 -- The vertices of a stripe and the places of their records.
-use Rattle.std.proofs.Common.{◌≡◌, ◌≤◌, ◌<◌, ◌+◌, ◌/◌, ◌%◌, ℕ, Bool, true, false, ◌&&◌, List, [], ◌∷◌, ◌++◌, length, get_or, set, refl, sym, ◌∙◌, ap}
+use Rattle.std.proofs.Common.{◌≡◌, ◌≤◌, ◌<◌, ◌+◌, ◌/◌, ◌%◌, ℕ, true, List, [], ◌∷◌, ◌++◌, length, get_or, set, refl, sym, ◌∙◌, ap}
 use Rattle.std.proofs.Common.{subst, inl, inr, arith, eqb, ltb, eqb-true, length-append, length-set}
-use Rattle.std.proofs.lemmas.Bool.{cases_eq, cases_lt, lt-ltb, le-ltb, ltb-true, false≢true}
+use Rattle.std.proofs.lemmas.Bool.{and_parts, cases_eq, cases_lt, lt-ltb, le-ltb, ltb-true}
 use Rattle.std.proofs.lemmas.Nat.{div-add-mod'}
 use Rattle.std.proofs.lemmas.List.{get_or-set_same, get_or-set_other, get_or_read, get_or_push, get_or_append_left}
 use mathlib.Core.List.{IsPrefix}
@@ -14,22 +14,15 @@ use Rattle.kc_stripes.specs.declared.stripe.TheConstants.{STRIPES}
 use Rattle.kc_stripes.specs.Records.{Opened, IsRecord, Striped, IsStripe, no_record, vertex_at, belongs, record_of}
 use Rattle.kc_stripes.proofs.Growing.{record_stays}
 
--- where two truths hold together each holds
-truths-both : (a b : Bool) → (a && b) ≡ true → (a ≡ true) × (b ≡ true)
-truths-both true true h = (refl, refl)
-truths-both true false h = absurd (false≢true h)
-truths-both false true h = absurd (false≢true h)
-truths-both false false h = absurd (false≢true h)
-
 -- a vertex of the stripe stands at its place
 pub place_is : (s : Striped) (w : ℕ) → belongs s w ≡ true → vertex_at s.number (w / STRIPES) ≡ w
 place_is s w here =
-    omega (arith, div-add-mod' w STRIPES, eqb-true (w % STRIPES) s.number (truths-both (eqb (w % STRIPES) s.number) (ltb w s.opened.edges.size) here).0)
+    omega (arith, div-add-mod' w STRIPES, eqb-true (w % STRIPES) s.number (and_parts (eqb (w % STRIPES) s.number) (ltb w s.opened.edges.size) here).0)
 
 -- the place of a vertex of the stripe is one of the stripe's
 pub place_in : (s : Striped) (w : ℕ) → IsStripe s → belongs s w ≡ true → w / STRIPES < length s.records
 place_in s w is here =
-    let small : w < s.opened.edges.size = ltb-true w s.opened.edges.size (truths-both (eqb (w % STRIPES) s.number) (ltb w s.opened.edges.size) here).1 in
+    let small : w < s.opened.edges.size = ltb-true w s.opened.edges.size (and_parts (eqb (w % STRIPES) s.number) (ltb w s.opened.edges.size) here).1 in
     let place = w / STRIPES in
     let begun = lt-ltb (vertex_at s.number place) s.opened.edges.size (omega (arith, small, place_is s w here)) in
     ltb-true place (length s.records) (is.places place ∙ begun)

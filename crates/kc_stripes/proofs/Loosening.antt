@@ -139,6 +139,7 @@ module _ {o : Opened} {start : List Event} {l : Loosely} where
   pub listed_below : (w : ℕ) → IsLoose o start l → has_list l.kept w ≡ true → w < l.size
   listed_below w is told = omega (arith, is.size, list_below o start l.seen l.kept w is.read told)
 
+  -- a vertex whose core number is kept is one of the table
   pub placed_below : (w : ℕ) → IsLoose o start l → has_core l.kept w ≡ true → w < o.table.shape.fixed
   placed_below w is told = core_below o start l.seen l.kept w is.read told
 
