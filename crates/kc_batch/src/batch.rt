@@ -147,7 +147,9 @@ fn run_desks<G: Gate + Sync, R: Threads + Wait + Sync>(
     let Ok((queue, consumer)) = WorkQueue::filled(rt, alloc, batch.len() as u32) else {
         return (parts, desks, Err(AllocError));
     };
-    let Ok(order) = order_of(alloc, shape(&parts.words).fixed, batch) else {
+    let vertices = shape(&parts.words).fixed;
+    let core_numbers = parts.journal.core_numbers();
+    let Ok(order) = order_of(alloc, vertices, core_numbers, batch) else {
         return (parts, desks, Err(AllocError));
     };
     let line = Line { queue, order };

@@ -1,7 +1,9 @@
 //! The order in which the updates of a batch are taken.
 //!
-//! Removals come first. The insertions of a large batch are peeled as a graph of their own (Batagelj and Zaversnik 2003), and taken from
-//! the end of that on: so each vertex comes with its edges to those that stay longer, and a plan looks at the vertex that has few edges yet.
+//! Removals come first, those in the innermost cores before others: there most vertices can fall, and a plan that is long is begun while
+//! the other workers have much to do. The insertions of a large batch are peeled as a graph of their own (Batagelj and Zaversnik 2003),
+//! and taken from the end of that on: so each vertex comes with its edges to those that stay longer, and a plan looks at the vertex that
+//! has few edges yet.
 ghost use Rattle.std.specs.Prelude.{◌≡◌, ◌<◌, ◌≤◌, ℕ, All, IfOk, IfSome, length};
 ghost use Rattle.kc_queue.specs.Shares.{IsWhole};
 
@@ -16,8 +18,8 @@ const VERTICES_AN_UPDATE: usize = 16;
 /// When an update is taken.
 #[derive(Clone, Copy, Debug, Drop, Eq, Ord, PartialEq, PartialOrd)]
 enum Turn {
-    /// Before all insertions.
-    Removal,
+    /// Before all insertions, by the lesser core number of the ends, from the greatest on.
+    Removal(Reverse<Option<u32>>),
     /// By the places of the ends in the peeling, the lesser first, from the last places on.
     Insertion(Reverse<(u32, u32)>),
 }
@@ -48,12 +50,19 @@ fn peel(alloc: Global, vertices: u32, batch: &[Update]) -> Result<Option<Lawful>
     Ok(Some(decompose_owned(alloc, graph)?))
 }
 
-/// When an update is taken, by the peeling of its batch if there is one.
-fn turn_of(update: Update, peeled: &Option<Lawful>) -> Turn
+/// The lesser core number of the ends of an update, where both have one.
+fn level_of(update: Update, core_numbers: &[u32]) -> Option<u32> {
+    let first = core_numbers.get(update.u as usize)?;
+    let second = core_numbers.get(update.v as usize)?;
+    Some(*first.min(second))
+}
+
+/// When an update is taken, by the core numbers, and by the peeling of its batch if there is one.
+fn turn_of(update: Update, core_numbers: &[u32], peeled: &Option<Lawful>) -> Turn
     requires within { IfSome peeled.now (λ p. update.v < p.graph.size) }
 {
     if !update.add {
-        return Turn::Removal;
+        return Turn::Removal(Reverse(level_of(update, core_numbers)));
     }
     match peeled {
         Some(peeled) => {
@@ -65,13 +74,18 @@ fn turn_of(update: Update, peeled: &Option<Lawful>) -> Turn
 }
 
 /// When each update of a batch is taken.
-fn turns_of(alloc: Global, vertices: u32, batch: &[Update]) -> Result<Vec<Turn>, NoMemory>
+fn turns_of(
+    alloc: Global,
+    vertices: u32,
+    core_numbers: &[u32],
+    batch: &[Update],
+) -> Result<Vec<Turn>, NoMemory>
     requires within { All (λ u. u.v < vertices) batch.now }
 {
     let peeled = peel(alloc, vertices, batch)?;
     let mut turns = Vec::new(alloc);
     for update in batch {
-        turns.push(turn_of(*update, &peeled))?;
+        turns.push(turn_of(*update, core_numbers, &peeled))?;
     }
     Ok(turns)
 }
@@ -88,12 +102,17 @@ fn places(alloc: Global, count: u32) -> Result<Vec<u32>, NoMemory>
 }
 
 /// The places of a batch, each once, in the order in which their updates are taken. `NoMemory` comes where there is none for it.
-pub(crate) fn order_of(alloc: Global, vertices: u32, batch: &[Update]) -> Result<Vec<u32>, NoMemory>
+pub(crate) fn order_of(
+    alloc: Global,
+    vertices: u32,
+    core_numbers: &[u32],
+    batch: &[Update],
+) -> Result<Vec<u32>, NoMemory>
     requires indices { length batch.now ≤ INDICES }
     requires within { All (λ u. u.v < vertices) batch.now }
     ensures order { IfOk result (λ order. IsWhole (length batch.now) order.items) }
 {
-    let turns = turns_of(alloc, vertices, batch)?;
+    let turns = turns_of(alloc, vertices, core_numbers, batch)?;
     let mut order = places(alloc, batch.len() as u32)?;
     order.sort_by_key(|place| turns.get(*place as usize).copied())?;
     Ok(order)
