@@ -147,9 +147,9 @@ pub begun-log : {inside worker : Seen} {pass : PassSeen} {table : TableName} {lo
 begun-log {inside} {worker} {pass} {table} {loads} {splits} is split = ap (λ (p : PassSeen). p.log) split ∙ ap (λ (w : Seen). w.log) is
 
 -- a log that goes on from a split pass goes on from what its worker had seen
-pub split-begun : {inside worker : Seen} {pass : PassSeen} {table : TableName} {loads splits : ℕ} {now : List Event} → inside ≡ worker
+pub split_log-goes_on : {inside worker : Seen} {pass : PassSeen} {table : TableName} {loads splits : ℕ} {now : List Event} → inside ≡ worker
     → pass ≡ record { table = table; log = inside.log; loads = loads; splits = splits } → IsPrefix pass.log now → IsPrefix worker.log now
-split-begun {inside} {worker} {pass} {table} {loads} {splits} {now} is split pre =
+split_log-goes_on {inside} {worker} {pass} {table} {loads} {splits} {now} is split pre =
     subst (λ (l : List Event). IsPrefix l now) (begun-log is split) pre
 
 -- an update that was entered under the lock, after misses without it
