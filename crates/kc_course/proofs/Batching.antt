@@ -83,15 +83,19 @@ batch-worked {self} {old} {new} {batch} {index} {workers} {done} same stood ente
     }
 
 module _ {old new : Journalled} {index : ℕ} {batch : List Update} {workers : ℕ} {done : BatchDone} (w : Worked old new index batch workers done) where
+  -- the index of the first update
   abbrev first : ℕ
   first = length old.entries
 
+  -- the entries are an order of the batch
   order : effects.IsOrderOf first batch w.is_done.made
   order = is-order first batch w.is_done.made w.is_done.went.some w.is_done.as_many
 
+  -- the run starts from the same graph
   pub same-start : new.started ≡ old.started
   same-start = (went-entries done.ended.items old new w.is_done.went.went).0
 
+  -- as many entries more as the batch has updates
   pub entries-more : length new.entries ≡ length old.entries + length batch
   entries-more = ap length w.is_done.went.entries ∙ (length-append old.entries w.is_done.made ∙ ap (λ (n : ℕ). length old.entries + n) w.is_done.as_many)
 
@@ -140,6 +144,7 @@ module _ {old new : Journalled} {index : ℕ} {batch : List Update} {workers : �
         length-map os (λ (o : Outcome). o.index),
       )
 
+  -- the outcomes are of indices of the batch
   outcomes-within : All (λ (o : Outcome). effects.IsIndexOf first batch o.index) (map outcome_of (receipts_in done.shares.items))
   outcomes-within = All-weaker (IsOutcomeOf old.graph.edges first batch) (λ (o : Outcome). effects.IsIndexOf first batch o.index)
       (λ o of. index-within first batch o.index of.0 of.1) (map outcome_of (receipts_in done.shares.items)) outcomes-are.each
