@@ -205,12 +205,14 @@ module _ (old now : Journalled) (first : ℕ) (batch : List Update) (ended : Lis
         below_bound (length batch) taken share.once share.below,
       )
 
+  -- who may go on keeps nothing, or one of those that were taken
   keeps-low : (count : ℕ) (left : Left) → MayGoOn left → ((place : ℕ) → left ≡ Kept place → place < count) → KeepsOneOf count left
   keeps-low count Nothing may low = tt
   keeps-low count (Kept place) may low = low place refl
   keeps-low count (Dropped place) may low = absurd may
   keeps-low count (Untold receipt) may low = absurd may
 
+  -- each keeps nothing, or one of those that were taken
   pub all-keep : (works : List Work) (taken : List ℕ) (count : ℕ) → Account old now first batch ended works taken → IsShare count taken
       → All (λ w. MayGoOn w.left) works → All (λ w. KeepsOneOf count w.left) works
   all-keep works taken count a share may = λ k d l.
@@ -262,6 +264,7 @@ module _ {old : Journalled} {first : ℕ} {batch : List Update} {ended : List Pa
   abbrev places : Consuming → List ℕ
   places k = at_turns line.order.items k.taken
 
+  -- a share of the turns is a share of their places
   shared : {turns : List ℕ} → IsShare line.queue.count turns → IsShare line.queue.count (at_turns line.order.items turns)
   shared {turns} share = share-turned h.order turns share
 
@@ -274,6 +277,7 @@ module _ {old : Journalled} {first : ℕ} {batch : List Update} {ended : List Pa
             (λ d e. ap (λ (s : Seen). s.table) e) desks h.told,
       )
 
+  -- each of a crew keeps nothing, or one of the line
   pub crew-keeps : {works : List Work} → works ≡ map (λ d. d.work) desks → All (λ w. MayGoOn w.left) works
       → All (λ d. KeepsOneOf line.queue.count d.work.left) desks
   crew-keeps is may =

@@ -24,6 +24,7 @@ abbrev index_at : List Entry → ℕ → ℕ
 index_at made k = get_or (indices made) k 0
 
 module _ (started : SimpleGraph) (old made : List Entry) (first : ℕ) (batch : List Update) where
+  -- the receipt is one of an update of the batch
   abbrev Tells : Receipt → Type 0
   Tells r = IsReceiptOf started (old ++ made) first batch (length old) r
 
@@ -45,16 +46,19 @@ module _ (started : SimpleGraph) (old made : List Entry) (first : ℕ) (batch : 
             ∙ (ap (λ (z : List Entry). get_or z (length h.front) d) h.is ∙ get_or_at h.front e h.back d (length h.front) refl));
       }
 
+  -- the index that a receipt tells is that of its entry
   told_index : (r : Receipt) → Tells r → r.index ≡ index_at made (which (length old) r)
   told_index r h =
       let p = placed r h in
       let d : Entry = entry_of r.index h.update in
       sym (get_or-map (λ (e : Entry). e.index) made (which (length old) r) d 0 p.there ∙ ap (λ (e : Entry). e.index) (p.is d))
 
+  -- the indices that receipts tell are those of their entries
   images : (rs : List Receipt) → All Tells rs → told_indices rs ≡ map (index_at made) (map (which (length old)) rs)
   images [] h = refl
   images (r ∷ rs) h = λ i. told_index r (All-head Tells r rs h) i ∷ images rs (All-tail Tells r rs h) i
 
+  -- each entry that is named is named by one of the receipts
   named : (rs : List Receipt) → All Tells rs → (k : ℕ) → member k (map (which (length old)) rs) ≡ true → (r : Receipt) × Tells r × (k ≡ which (length old) r)
   named [] h k m = absurd (true≢false (sym m))
   named (r ∷ rs) h k m = elim (member-cases k (which (length old) r) (map (which (length old)) rs) m) [
@@ -62,6 +66,7 @@ module _ (started : SimpleGraph) (old made : List Entry) (first : ℕ) (batch : 
     | inr n ↦ named rs (All-tail Tells r rs h) k n
   ]
 
+  -- receipts of different indices, as many as entries, tell some of the batch
   pub some_of : (rs : List Receipt) → All Tells rs → Distinct (told_indices rs) → length rs ≡ length made → AreSomeOf first batch made
   some_of rs h once as_many =
       let ks = map (which (length old)) rs in

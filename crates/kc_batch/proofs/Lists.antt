@@ -9,6 +9,7 @@ use Rattle.kc_distinct.proofs.Members.{below_bound, member-cases, member-head, m
 use Rattle.kc_table.proofs.Prefixes.{prefix_either}
 
 module _ {A : Type 0} where
+  -- a list that is no longer than its front has nothing more
   nothing-more : (xs ys more : List A) → xs ++ more ≡ ys → length ys ≤ length xs → more ≡ []
   nothing-more xs ys more is le = nil_from_length more (omega (arith, ap length is, length-append xs more))
 

@@ -329,8 +329,8 @@ module _ (o : Opened) (start log : List Event) (first : ℕ) (batch : List Updat
         (sym total) r)))
 
 -- what is in its place still is as it was
-pub place-still_same : {A : Type 0} (i : ℕ) (xs ys : List A) (d : A) → drop i xs ≡ drop i ys → get_or xs i d ≡ get_or ys i d
-place-still_same {A} i xs ys d is =
+pub item-unchanged : {A : Type 0} (i : ℕ) (xs ys : List A) (d : A) → drop i xs ≡ drop i ys → get_or xs i d ≡ get_or ys i d
+item-unchanged {A} i xs ys d is =
     let at : i + 0 ≡ i = omega arith in
     ap (λ (k : ℕ). get_or xs k d) (sym at)
     ∙ (sym (get_or-drop i xs 0 d) ∙ (ap (λ (z : List A). get_or z 0 d) is ∙ (get_or-drop i ys 0 d ∙ ap (λ (k : ℕ). get_or ys k d) at)))

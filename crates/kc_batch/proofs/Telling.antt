@@ -97,6 +97,7 @@ receipt_of-earlier started entries first batch from before receipt le h = record
 -- The entries of the table before this one are those that the run had before the table, and the graph after them is that after the same
 -- entries of the run.
 module _ (old new : Journalled) (h : Stands old) (k : Stands new) (on : StaysIn old new) where
+  -- both have the same entries of the run before the table
   before-same : h.before ≡ k.before
   before-same =
       prefix-same h.before k.before new.entries
@@ -104,6 +105,7 @@ module _ (old new : Journalled) (h : Stands old) (k : Stands new) (on : StaysIn 
       (entries_here new, sym k.entries)
       (h.base ∙ (ap (λ (t : TableName). t.shape.base) (sym on.table) ∙ sym k.base))
 
+  -- the entries of the table are a beginning of those at the end
   here-begins : IsPrefix (entries_here old) (entries_here new)
   here-begins =
       subst (λ (t : TableName). IsPrefix (entries_here old) (made_by t new.levels.log).entries) (sym on.table)
@@ -125,6 +127,7 @@ module _ (old new : Journalled) (h : Stands old) (k : Stands new) (on : StaysIn 
       ∙ (ap (λ (g : SimpleGraph). after_entries g (old.entries ++ rest)) (sym on.started)
       ∙ ap (λ (z : List Entry). after_entries new.started z) all)))))
 
+  -- a receipt in a log is one of the journal
   pub receipt_of : (o : Opened) (first : ℕ) (batch : List Update) (receipt : Receipt) → o.table ≡ new.levels.table → o.edges ≡ new.opened
       → IsReceiptIn o old.levels.log new.levels.log first batch receipt
       → IsReceiptOf new.started new.entries first batch (length old.entries) receipt

@@ -73,6 +73,7 @@ turn-of (x ∷ xs) place m = elim (member-cases place x xs m) [
 ]
 
 module _ {n : ℕ} {order : List ℕ} (whole : IsWhole n order) where
+  -- the order is as long as there are turns
   long : length order ≡ n
   long = whole-length n order whole
 
@@ -80,6 +81,7 @@ module _ {n : ℕ} {order : List ℕ} (whole : IsWhole n order) where
   pub turn-below : (t : ℕ) → t < n → get_or order t 0 < n
   turn-below t l = whole.share.below (get_or order t 0) (member-get_or order t 0 (omega (arith, l, long)))
 
+  -- different turns have different places
   turned-once : (turns : List ℕ) → Distinct turns → ((t : ℕ) → member t turns ≡ true → t < n) → Distinct (at_turns order turns)
   turned-once [] d below = tt
   turned-once (u ∷ us) d below = (

@@ -62,9 +62,11 @@ module _ (o : Opened) (start : List Event) (first : ℕ) (batch : List Update) (
     pub amount : new.amount ≡ old.amount
     pub number : new.number ≡ old.number
 
+  -- what enters nothing leaves the receipts
   same-receipts : (old new : Seated) → Idles old new → receipts_of new.work ≡ receipts_of old.work
   same-receipts old new h = λ i. map (λ done. done.receipt) (h.done i) ++ h.none i
 
+  -- what enters nothing is a step of work
   idles : (old new : Seated) → Idles old new → IsPrefix old.seen.log new.seen.log → Legal o.table.shape o.table.opening new.seen.log
       → new.consumer.queue ≡ old.consumer.queue → new.consumer.parts ≡ old.consumer.parts
       → ((y : ℕ) → times y (in_hand first new.work.left) + times y (at_places first (at_turns order old.consumer.taken))
@@ -97,6 +99,7 @@ module _ (o : Opened) (start : List Event) (first : ℕ) (batch : List Update) (
     pub number : new.number ≡ old.number
     pub consumer : new.consumer ≡ old.consumer
 
+  -- what enters an update has one receipt more
   one-more : (old new : Seated) (place : ℕ) (receipt : Receipt) (more : List Done) → Enters old new place receipt more
       → receipts_of new.work ≡ receipts_of old.work ++ receipt ∷ []
   one-more old new place receipt more h =
@@ -108,6 +111,7 @@ module _ (o : Opened) (start : List Event) (first : ℕ) (batch : List Update) (
       ∙ ap (λ (rs : List Receipt). rs ++ receipt ∷ [])
       (sym (append-nil (map f old.work.done)) ∙ ap (λ (l : Left). map f old.work.done ++ untold l) (sym h.kept)))))
 
+  -- what enters an update is a step of work
   enters : (old new : Seated) (place : ℕ) (receipt : Receipt) (more : List Done) → Enters old new place receipt more
       → IsPrefix old.seen.log new.seen.log → Legal o.table.shape o.table.opening new.seen.log
       → IsReceiptIn o start new.seen.log first batch receipt → All (HasTrueMisses o start new.seen.log) more → Works o start first batch order old new
@@ -170,6 +174,7 @@ module _ (o : Opened) (start : List Event) (first : ℕ) (batch : List Update) (
   seat-keeps s place amount seen same pre legal =
       idles s _ (record { done = refl; none = refl; amount = same; number = refl }) pre legal refl refl (λ y. refl)
 
+  -- to drop the update that is kept is a step of work
   pub seat-drops : (s : Seated) (place amount : ℕ) (seen : Seen) → s.work.left ≡ Kept place → amount ≡ s.amount → IsPrefix s.seen.log seen.log
       → Legal o.table.shape o.table.opening seen.log
       → Works o start first batch order s (record s { seen = seen; amount = amount; work = record { done = s.work.done; left = Dropped place } })
@@ -305,21 +310,26 @@ tried-spent {o} {first} {batch} {s} {place} {seen} {amount} {work} t =
 
 -- The same as a step of a worker is seen, which is known as `now` from before.
 module _ {o : Opened} {start : List Event} {count : ℕ} {s now : Seated} (same : s ≡ now) (ready : IsReady o start count now) where
+  -- what the seat has seen is legal
   legal-now : Legal o.table.shape o.table.opening s.seen.log
   legal-now = subst (λ (n : Seated). Legal o.table.shape o.table.opening n.seen.log) (sym same) ready.legal
 
+  -- what the seat has seen goes on from the start
   told-now : IsPrefix start s.seen.log
   told-now = subst (λ (n : Seated). IsPrefix start n.seen.log) (sym same) ready.told
 
+  -- who keeps nothing has nothing left
   pub left-nothing : ((place : ℕ) → s.work.left ≡ Kept place → ⊥) → s.work.left ≡ Nothing
   left-nothing none = nothing-kept count s.work.left (subst (λ (n : Seated). KeepsOneOf count n.work.left) (sym same) ready.keeps) none
 
+  -- to take nothing is a step of work
   pub picked-none : {first : ℕ} {batch : List Update} {order : List ℕ} {consumer : Consuming} → consumer ≡ s.consumer
       → Works o start first batch order now (record s { consumer = consumer })
   picked-none {first} {batch} {order} {consumer} is =
       subst (λ (n : Seated). Works o start first batch order n (record s { consumer = consumer })) same
       (picks-none o start first batch order s consumer is legal-now)
 
+  -- to take the next turn is a step of work
   pub picked-next : {first : ℕ} {batch : List Update} {order : List ℕ} {place : ℕ} {consumer : Consuming} → s.work.left ≡ Nothing
       → (consumer.queue ≡ s.consumer.queue) × (consumer.parts ≡ s.consumer.parts)
       → at_turns order consumer.taken ≡ at_turns order s.consumer.taken ++ place ∷ []
@@ -328,6 +338,7 @@ module _ {o : Opened} {start : List Event} {count : ℕ} {s now : Seated} (same 
       subst (λ (n : Seated). Works o start first batch order n (record s { work = record { done = s.work.done; left = Kept place }; consumer = consumer }))
       same (picks-next o start first batch order s place consumer none legal-now as-before is)
 
+  -- to drop the update that is kept is a step of work
   pub update-dropped : {first : ℕ} {batch : List Update} {order : List ℕ} {place : ℕ} {had : List Done} → now.work.left ≡ Kept place → had ≡ s.work.done
       → Works o start first batch order now (record s { work = record { done = had; left = Dropped place } })
   update-dropped {first} {batch} {order} {place} {had} kept is =
@@ -335,6 +346,7 @@ module _ {o : Opened} {start : List Event} {count : ℕ} {s now : Seated} (same 
       (subst (λ (z : List Done). Works o start first batch order s (record s { work = record { done = z; left = Dropped place } })) (sym is)
       (seat-drops o start first batch order s place s.amount s.seen (ap (λ (n : Seated). n.work.left) same ∙ kept) refl (prefix_self s.seen.log) legal-now))
 
+  -- to try the update that is kept is a step of work
   pub update-tried : {first : ℕ} {batch : List Update} {order : List ℕ} {place : ℕ} {seen : Seen} {amount : ℕ} {work : Work}
       → IsTried o first batch s place seen amount work
       → Works o start first batch order now (record s { seen = seen; amount = amount; work = work })

@@ -6,7 +6,7 @@ use Rattle.kc_table.specs.declared.view.Event.{Event}
 use Rattle.kc_table.specs.Log.{PassSeen, Seen}
 use Rattle.kc_batch.specs.Desks.{Desked}
 use Rattle.kc_shared.specs.States.{Parted}
-use Rattle.kc_batch.proofs.Rounding.{place-still_same, same-images}
+use Rattle.kc_batch.proofs.Rounding.{item-unchanged, same-images}
 use Rattle.kc_batch.proofs.between.move_all.Goals as goal
 
 pub move_to-requires-clause-size : goal.move_to-requires-clause-size
@@ -16,7 +16,7 @@ move_to-requires-clause-size c =
     let d = c.desk-item.result in
     ap (λ (p : Parted). p.words.shape.fixed) c.parts.view_is
     ∙ (at.size i d (omega arith)
-    ∙ ap (λ (e : Desked). e.seen.table.shape.fixed) (sym (place-still_same i c.loop-desk.desk-items c.deref_mut-desk-items.result.now d at.rest)))
+    ∙ ap (λ (e : Desked). e.seen.table.shape.fixed) (sym (item-unchanged i c.loop-desk.desk-items c.deref_mut-desk-items.result.now d at.rest)))
 
 pub loop-desk-preserved : goal.loop-desk-preserved
 loop-desk-preserved c =

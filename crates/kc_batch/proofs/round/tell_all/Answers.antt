@@ -6,13 +6,13 @@ use Rattle.std.proofs.lemmas.List.Elements.{All-push}
 use Rattle.kc_table.specs.Log.{Seen}
 use Rattle.kc_batch.specs.Desks.{Desked}
 use Rattle.kc_shared.specs.States.{Parted}
-use Rattle.kc_batch.proofs.Rounding.{place-still_same, same-images}
+use Rattle.kc_batch.proofs.Rounding.{item-unchanged, same-images}
 use Rattle.kc_batch.proofs.round.tell_all.Goals as goal
 
 pub tell-requires : goal.tell-requires
 tell-requires c = record {
   table = ap (λ (d : Desked). d.seen.table)
-      (place-still_same c.loop-desk.desk-index c.loop-desk.desk-items c.deref_mut-desk-items.result.now c.desk-item.result c.loop-desk.invariant.rest)
+      (item-unchanged c.loop-desk.desk-index c.loop-desk.desk-items c.deref_mut-desk-items.result.now c.desk-item.result c.loop-desk.invariant.rest)
       ∙ (c.loop-desk.invariant.table c.loop-desk.desk-index c.desk-item.result c.loop-desk-test.true
       ∙ ap (λ (p : Parted). p.words) (sym c.loop-desk.invariant.same));
 }
@@ -33,7 +33,7 @@ loop-desk-preserved c =
     let told : Told new = c.tell.ensures.told ∙ ap all_of at.same in
     let longer : Longer (get_or before i d) =
     subst (λ (p : Parted). IsPrefix (get_or before i d).seen.log p.journal.levels.log) at.same
-    (subst (λ (x : Desked). IsPrefix x.seen.log c.loop-desk.parts.journal.levels.log) (place-still_same i ds before d at.rest) c.tell.ensures.longer) in
+    (subst (λ (x : Desked). IsPrefix x.seen.log c.loop-desk.parts.journal.levels.log) (item-unchanged i ds before d at.rest) c.tell.ensures.longer) in
     record {
       same = c.tell.ensures.same ∙ at.same;
       table = at.table;
