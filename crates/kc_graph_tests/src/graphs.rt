@@ -1,25 +1,20 @@
 //! Small graphs, with answers worked out by hand.
-use kc_graph::{Graph, Neighbours, NoMemory, SharedGraph, Update, core_numbers, decompose};
+use crate::states::graph_of;
+use kc_graph::{Graph, Lawful, Neighbours, SharedGraph, Update, core_numbers, decompose};
 use std::process::Abort;
 use std::test::Fail;
 
-/// The graph with these edges.
-fn graph_of<R: Abort + AllocGlobal>(
-    rt: &R,
-    vertices: u32,
-    edges: &[(u32, u32)],
-) -> Result<Graph, NoMemory> {
-    let mut graph = Graph::new(rt.alloc(), vertices)?;
-    for (u, v) in edges {
-        assert!(rt; *u != *v && *u < graph.vertices() && *v < graph.vertices());
-        graph.add(*u, *v)?;
+/// Adds or removes the edge between `u` and `v`, and tells whether it changed the graph.
+fn change<R: Abort>(rt: &R, graph: &mut Graph, add: bool, u: u32, v: u32) -> Result<bool, Fail> {
+    assert!(rt; u < v && v < graph.vertices());
+    if add {
+        return Ok(graph.add(v, u)?);
     }
-    Ok(graph)
+    Ok(graph.remove(v, u))
 }
 
-#[test]
-fn updates_tell_whether_they_changed_the_graph(rt: HostRuntime) -> Result<(), Fail> {
-    let mut graph = Graph::new(rt.alloc(), 4)?;
+/// Each update changes the graph or not.
+fn assert_changes<R: Abort>(rt: &R, graph: &mut Graph) -> Result<(), Fail> {
     // An update, whether it changes the graph, and how many edges there are then.
     let steps = [
         (true, 0, 1, true, 1),
@@ -30,19 +25,46 @@ fn updates_tell_whether_they_changed_the_graph(rt: HostRuntime) -> Result<(), Fa
         (false, 0, 1, true, 2),
         (false, 0, 1, false, 2),
     ];
-    for (add, u, v, changes, edges) in steps {
-        assert!(rt; u < v && v < graph.vertices());
-        let changed = if add {
-            graph.add(v, u)?
-        } else {
-            graph.remove(v, u)
-        };
-        assert_eq!(rt; changed, changes, "at {u} {v}");
-        assert_eq!(rt; graph.has(u, v), add, "at {u} {v}");
-        assert_eq!(rt; graph.edges(), edges, "at {u} {v}");
+    for (add, u, v, changes, edges) in &steps {
+        let changed = change(rt, graph, *add, *u, *v)?;
+        assert_eq!(rt; changed, *changes, "at {u} {v}");
+        assert!(rt; *u < graph.vertices());
+        assert_eq!(rt; graph.has(*u, *v), *add, "at {u} {v}");
+        assert_eq!(rt; graph.edges(), *edges, "at {u} {v}");
     }
     assert!(rt; 2 < graph.vertices());
     assert_eq!(rt; graph.neighbours(2), [1, 3].as_slice());
+    Ok(())
+}
+
+#[test]
+fn updates_tell_whether_they_changed_the_graph(rt: HostRuntime) -> Result<(), Fail> {
+    let mut graph = Graph::new(rt.alloc(), 4)?;
+    assert_changes(&rt, &mut graph)
+}
+
+/// A decomposition has these core numbers, so many edges, and a place for each vertex.
+fn assert_decomposition<R: Abort>(rt: &R, lawful: &Lawful, core: &[u32], edges: u64) {
+    assert_eq!(rt; lawful.core(), core);
+    assert_eq!(rt; lawful.graph().edges(), edges);
+    for v in 0..lawful.graph().vertices() {
+        assert_eq!(rt;
+            lawful.order().get(lawful.place(v) as usize).copied(),
+            Some(v)
+        );
+    }
+}
+
+/// The core numbers of a graph are these, and so are those of its decomposition.
+fn assert_numbers<R: Abort + AllocGlobal>(
+    rt: &R,
+    graph: &Graph,
+    core: &[u32],
+    edges: u64,
+) -> Result<(), Fail> {
+    assert_eq!(rt; core_numbers(rt.alloc(), graph)?.as_slice(), core);
+    let lawful = decompose(rt.alloc(), graph)?;
+    assert_decomposition(rt, &lawful, core, edges);
     Ok(())
 }
 
@@ -54,17 +76,7 @@ fn check<R: Abort + AllocGlobal>(
     core: &[u32],
 ) -> Result<(), Fail> {
     let graph = graph_of(rt, vertices, edges)?;
-    assert_eq!(rt; core_numbers(rt.alloc(), &graph)?.as_slice(), core);
-    let lawful = decompose(rt.alloc(), &graph)?;
-    assert_eq!(rt; lawful.core(), core);
-    assert_eq!(rt; lawful.graph().edges(), edges.len() as u64);
-    for v in 0..lawful.graph().vertices() {
-        assert_eq!(rt;
-            lawful.order().get(lawful.place(v) as usize).copied(),
-            Some(v)
-        );
-    }
-    Ok(())
+    assert_numbers(rt, &graph, core, edges.len() as u64)
 }
 
 #[test]
@@ -91,45 +103,82 @@ fn core_numbers_of_small_graphs(rt: HostRuntime) -> Result<(), Fail> {
     check(&rt, 5, &all_of_four_and_one_more, &[3, 3, 3, 3, 2])
 }
 
-#[test]
-fn a_list_of_neighbours_is_shared_and_stays(rt: HostRuntime) -> Result<(), Fail> {
+/// A list that was shared, and whose first owner is gone.
+fn shared_list<R: AllocGlobal>(rt: &R) -> Result<Neighbours, Fail> {
     let list = Neighbours::copy_of(rt.alloc(), &[1, 3, 7])?;
-    let other = list.share()?;
-    drop(list);
-    assert_eq!(rt; other.as_slice(), [1, 3, 7].as_slice());
+    Ok(list.share()?)
+}
+
+/// A list that was a vector.
+fn list_of_one<R: AllocGlobal>(rt: &R) -> Result<Neighbours, Fail> {
     let mut items = Vec::new(rt.alloc());
     items.push(5u32)?;
-    let list = Neighbours::from_vec(items)?;
-    assert_eq!(rt; list.as_slice(), [5].as_slice());
+    Ok(Neighbours::from_vec(items)?)
+}
+
+#[test]
+fn a_list_of_neighbours_is_shared_and_stays(rt: HostRuntime) -> Result<(), Fail> {
+    let shared = shared_list(&rt)?;
+    assert_eq!(rt; shared.as_slice(), [1, 3, 7].as_slice());
+    drop(shared);
+    let one = list_of_one(&rt)?;
+    assert_eq!(rt; one.as_slice(), [5].as_slice());
     Ok(())
 }
 
 /// A value that other threads may see and get.
 fn goes_between_threads<T: Send + Sync>(_value: &T) {}
 
-#[test]
-fn a_shared_list_stays_while_its_graph_changes(rt: HostRuntime) -> Result<(), Fail> {
+/// A square less one edge, as a shared graph.
+fn shared_graph<R: AllocGlobal>(rt: &R) -> Result<SharedGraph, Fail> {
     let graph = Graph::from_pairs(rt.alloc(), 4, &[(0, 1), (0, 2), (2, 3)])?;
     goes_between_threads(&graph);
-    let mut graph = SharedGraph::from_graph(graph)?;
-    assert!(rt; graph.vertices() == 4);
-    let before = graph.share_neighbours(0)?;
-    goes_between_threads(&graph);
-    goes_between_threads(&before);
+    Ok(SharedGraph::from_graph(graph)?)
+}
+
+/// Puts the two lists of an update.
+fn update<R: Abort>(rt: &R, graph: &mut SharedGraph, update: Update) -> Result<(), Fail> {
+    let Update { add, u, v } = update;
+    assert!(rt; u < v && v < graph.vertices() && graph.has(u, v) != add);
+    let lists = graph.lists_after(update)?;
+    graph.put_lists(update, lists);
+    Ok(())
+}
+
+/// Updates change the neighbours of vertex 0 and the number of edges.
+fn assert_updates<R: Abort>(rt: &R, graph: &mut SharedGraph) -> Result<(), Fail> {
     // An update, and the neighbours of vertex 0 and the number of edges after it.
     let steps: [(bool, u32, u32, &[u32], u64); 3] = [
         (true, 0, 3, &[1, 2, 3], 4),
         (false, 0, 1, &[2, 3], 3),
         (false, 2, 3, &[2, 3], 2),
     ];
-    for (add, u, v, neighbours, edges) in steps {
-        assert!(rt; u < v && v < graph.vertices() && graph.has(u, v) != add);
-        let update = Update { add, u, v };
-        let lists = graph.lists_after(update)?;
-        graph.put_lists(update, lists);
-        assert_eq!(rt; graph.neighbours(0), neighbours);
-        assert_eq!(rt; graph.edges(), edges);
+    for (add, u, v, neighbours, edges) in &steps {
+        let (add, u, v) = (*add, *u, *v);
+        update(rt, graph, Update { add, u, v })?;
+        assert!(rt; 0 < graph.vertices());
+        assert_eq!(rt; graph.neighbours(0), *neighbours);
+        assert_eq!(rt; graph.edges(), *edges);
     }
-    assert_eq!(rt; before.as_slice(), [1, 2].as_slice());
+    Ok(())
+}
+
+/// The list of vertex 0 as it was shared, after updates.
+fn list_before_updates<R: Abort>(rt: &R, graph: &mut SharedGraph) -> Result<Neighbours, Fail> {
+    assert!(rt; graph.vertices() == 4);
+    let before = graph.share_neighbours(0)?;
+    goes_between_threads(graph);
+    goes_between_threads(&before);
+    assert_updates(rt, graph)?;
+    Ok(before)
+}
+
+#[test]
+fn a_shared_list_stays_while_its_graph_changes(rt: HostRuntime) -> Result<(), Fail> {
+    let mut graph = shared_graph(&rt)?;
+    assert_eq!(rt;
+        list_before_updates(&rt, &mut graph)?.as_slice(),
+        [1, 2].as_slice()
+    );
     Ok(())
 }

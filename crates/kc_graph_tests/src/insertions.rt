@@ -1,18 +1,31 @@
 //! Plans of insertions, worked out by hand.
-use kc_cert::check;
-use kc_graph::{Graph, Lawful, Moves, Plan, Update};
+use crate::states::state_of;
+use kc_graph::{Lawful, Moves, Plan, Update};
 use kc_insert::plan;
 use kc_view::PlainView;
 use std::process::Abort;
 use std::test::Fail;
 
 /// A graph with its core numbers and an order that certifies them.
-#[derive(Drop)]
+#[derive(Clone, Copy, Drop)]
 struct State<'a> {
     vertices: u32,
     edges: &'a [(u32, u32)],
     core: &'a [u32],
     order: &'a [u32],
+}
+
+/// The plan that adds the edge between `u` and `v` to a graph at rest.
+fn plan_at_rest<R: Abort + AllocGlobal>(
+    rt: &R,
+    lawful: &Lawful,
+    u: u32,
+    v: u32,
+) -> Result<Plan, Fail> {
+    let mut view = PlainView::new(rt.alloc(), lawful)?;
+    assert!(rt; u < v && v < view.state().graph().vertices());
+    let update = Update { add: true, u, v };
+    Ok(plan(rt.alloc(), &mut view, update)?)
 }
 
 /// The plan that adds the edge between `u` and `v`.
@@ -22,19 +35,8 @@ fn plan_of<R: Abort + AllocGlobal>(
     u: u32,
     v: u32,
 ) -> Result<Plan, Fail> {
-    let mut graph = Graph::new(rt.alloc(), state.vertices)?;
-    for (a, b) in state.edges {
-        assert!(rt; *a != *b && *a < graph.vertices() && *b < graph.vertices());
-        graph.add(*a, *b)?;
-    }
-    let core = Vec::from_slice(rt.alloc(), state.core)?;
-    let order = Vec::from_slice(rt.alloc(), state.order)?;
-    assert!(rt; check(rt.alloc(), &graph, &core, &order)?);
-    let lawful = Lawful::new(rt.alloc(), graph, core, order)?;
-    let mut view = PlainView::new(rt.alloc(), &lawful)?;
-    assert!(rt; u < v && v < view.state().graph().vertices());
-    let update = Update { add: true, u, v };
-    Ok(plan(rt.alloc(), &mut view, update)?)
+    let lawful = state_of(rt, state.vertices, state.edges, state.core, state.order)?;
+    plan_at_rest(rt, &lawful, u, v)
 }
 
 /// These vertices rise from this level in this order, and these are put behind others.
@@ -64,6 +66,23 @@ fn assert_asked<R: Abort>(rt: &R, plan: &Plan, lists: &[u32]) {
     );
 }
 
+/// The whole of a path rises where its ends are joined.
+fn assert_ends_joined<R: Abort + AllocGlobal>(rt: &R, path: &State<'_>) -> Result<(), Fail> {
+    let closed = plan_of(rt, path, 0, 3)?;
+    assert_rise(rt, &closed, 1, &[0, 1, 2, 3], &[]);
+    assert_asked(rt, &closed, &[0, 1, 2, 3]);
+    Ok(())
+}
+
+/// An edge of a path that is there is kept, and one list tells it.
+fn assert_there<R: Abort + AllocGlobal>(rt: &R, path: &State<'_>) -> Result<(), Fail> {
+    let there = plan_of(rt, path, 1, 2)?;
+    assert!(rt; matches!(there.moves, Moves::Kept));
+    assert_asked(rt, &there, &[1]);
+    assert!(rt; there.used.places.is_empty() && there.used.orders.is_empty());
+    Ok(())
+}
+
 #[test]
 fn the_ends_of_a_path_are_joined(rt: HostRuntime) -> Result<(), Fail> {
     let path = State {
@@ -72,39 +91,39 @@ fn the_ends_of_a_path_are_joined(rt: HostRuntime) -> Result<(), Fail> {
         core: &[1, 1, 1, 1],
         order: &[0, 1, 2, 3],
     };
-    let closed = plan_of(&rt, &path, 0, 3)?;
-    assert_rise(&rt, &closed, 1, &[0, 1, 2, 3], &[]);
-    assert_asked(&rt, &closed, &[0, 1, 2, 3]);
-    let there = plan_of(&rt, &path, 1, 2)?;
-    assert!(rt; matches!(there.moves, Moves::Kept));
-    assert_asked(&rt, &there, &[1]);
-    assert!(rt; there.used.places.is_empty() && there.used.orders.is_empty());
+    assert_ends_joined(&rt, &path)?;
+    assert_there(&rt, &path)
+}
+
+/// Two edges, whose vertices stand in this order.
+fn two_edges(order: &[u32]) -> State<'_> {
+    State {
+        vertices: 4,
+        edges: &[(0, 1), (2, 3)],
+        core: &[1, 1, 1, 1],
+        order,
+    }
+}
+
+/// The first end of the new edge is evicted, since the vertex behind it does not rise.
+fn assert_evicted<R: Abort + AllocGlobal>(rt: &R) -> Result<(), Fail> {
+    let plan = plan_of(rt, &two_edges(&[0, 1, 2, 3]), 0, 2)?;
+    assert_rise(rt, &plan, 1, &[], &[(0, 1)]);
     Ok(())
 }
 
-/// The first end of the new edge is evicted, since the vertex behind it does not rise. Where the later end comes first nobody moves.
+/// Where the later end of each edge comes first nobody moves.
+fn assert_plain<R: Abort + AllocGlobal>(rt: &R) -> Result<(), Fail> {
+    let plan = plan_of(rt, &two_edges(&[0, 2, 1, 3]), 1, 3)?;
+    assert!(rt; matches!(plan.moves, Moves::Plain));
+    assert_asked(rt, &plan, &[1]);
+    Ok(())
+}
+
 #[test]
 fn two_edges_are_joined(rt: HostRuntime) -> Result<(), Fail> {
-    let edges = [(0, 1), (2, 3)];
-    let core = [1, 1, 1, 1];
-    let ascending = State {
-        vertices: 4,
-        edges: &edges,
-        core: &core,
-        order: &[0, 1, 2, 3],
-    };
-    let plan = plan_of(&rt, &ascending, 0, 2)?;
-    assert_rise(&rt, &plan, 1, &[], &[(0, 1)]);
-    let mixed = State {
-        vertices: 4,
-        edges: &edges,
-        core: &core,
-        order: &[0, 2, 1, 3],
-    };
-    let plan = plan_of(&rt, &mixed, 1, 3)?;
-    assert!(rt; matches!(plan.moves, Moves::Plain));
-    assert_asked(&rt, &plan, &[1]);
-    Ok(())
+    assert_evicted(&rt)?;
+    assert_plain(&rt)
 }
 
 #[test]

@@ -13,4 +13,6 @@ mod insertions;
 #[cfg(test)]
 mod removals;
 #[cfg(test)]
+mod states;
+#[cfg(test)]
 mod views;

@@ -1,9 +1,23 @@
 //! Plans of removals, worked out by hand.
-use kc_graph::{Graph, Moves, Plan, Update, decompose};
+use crate::states::decomposition_of;
+use kc_graph::{Lawful, Moves, Plan, Update};
 use kc_remove::plan;
 use kc_view::PlainView;
 use std::process::Abort;
 use std::test::Fail;
+
+/// The plan that takes the edge between `u` and `v` out of a graph at rest.
+fn plan_at_rest<R: Abort + AllocGlobal>(
+    rt: &R,
+    lawful: &Lawful,
+    u: u32,
+    v: u32,
+) -> Result<Plan, Fail> {
+    let mut view = PlainView::new(rt.alloc(), lawful)?;
+    assert!(rt; u < v && v < view.state().graph().vertices());
+    let update = Update { add: false, u, v };
+    Ok(plan(rt.alloc(), &mut view, update)?)
+}
 
 /// The plan that takes the edge between `u` and `v` out of the graph with these edges.
 fn plan_of<R: Abort + AllocGlobal>(
@@ -13,16 +27,8 @@ fn plan_of<R: Abort + AllocGlobal>(
     u: u32,
     v: u32,
 ) -> Result<Plan, Fail> {
-    let mut graph = Graph::new(rt.alloc(), vertices)?;
-    for (a, b) in edges {
-        assert!(rt; *a != *b && *a < graph.vertices() && *b < graph.vertices());
-        graph.add(*a, *b)?;
-    }
-    let lawful = decompose(rt.alloc(), &graph)?;
-    let mut view = PlainView::new(rt.alloc(), &lawful)?;
-    assert!(rt; u < v && v < view.state().graph().vertices());
-    let update = Update { add: false, u, v };
-    Ok(plan(rt.alloc(), &mut view, update)?)
+    let lawful = decomposition_of(rt, vertices, edges)?;
+    plan_at_rest(rt, &lawful, u, v)
 }
 
 /// These vertices fall from this level, in this order.
@@ -48,19 +54,38 @@ fn assert_asked<R: Abort>(rt: &R, plan: &Plan, lists: &[u32]) {
     assert!(rt; plan.used.orders.is_empty());
 }
 
-#[test]
-fn edges_of_a_path(rt: HostRuntime) -> Result<(), Fail> {
-    let path = [(0, 1), (1, 2), (2, 3)];
-    let middle = plan_of(&rt, 4, &path, 1, 2)?;
+/// A path of four vertices.
+const PATH: [(u32, u32); 3] = [(0, 1), (1, 2), (2, 3)];
+
+/// Nobody falls where the edge in the middle of a path goes.
+fn assert_middle<R: Abort + AllocGlobal>(rt: &R) -> Result<(), Fail> {
+    let middle = plan_of(rt, 4, &PATH, 1, 2)?;
     assert!(rt; matches!(middle.moves, Moves::Plain));
-    let end = plan_of(&rt, 4, &path, 0, 1)?;
-    assert_fall(&rt, &end, 1, &[0]);
-    assert_asked(&rt, &end, &[0, 1]);
-    let absent = plan_of(&rt, 4, &path, 0, 2)?;
+    Ok(())
+}
+
+/// The end of a path falls where its edge goes.
+fn assert_end<R: Abort + AllocGlobal>(rt: &R) -> Result<(), Fail> {
+    let end = plan_of(rt, 4, &PATH, 0, 1)?;
+    assert_fall(rt, &end, 1, &[0]);
+    assert_asked(rt, &end, &[0, 1]);
+    Ok(())
+}
+
+/// An edge that is not there is kept so, and one list tells it.
+fn assert_absent<R: Abort + AllocGlobal>(rt: &R) -> Result<(), Fail> {
+    let absent = plan_of(rt, 4, &PATH, 0, 2)?;
     assert!(rt; matches!(absent.moves, Moves::Kept));
-    assert_asked(&rt, &absent, &[0]);
+    assert_asked(rt, &absent, &[0]);
     assert!(rt; absent.used.places.is_empty());
     Ok(())
+}
+
+#[test]
+fn edges_of_a_path(rt: HostRuntime) -> Result<(), Fail> {
+    assert_middle(&rt)?;
+    assert_end(&rt)?;
+    assert_absent(&rt)
 }
 
 #[test]
@@ -71,16 +96,27 @@ fn four_vertices_all_joined(rt: HostRuntime) -> Result<(), Fail> {
     Ok(())
 }
 
+/// The rim of a wheel, and its spokes to vertex 6.
+const WHEEL: [(u32, u32); 12] = [
+    (0, 1),
+    (1, 2),
+    (2, 3),
+    (3, 4),
+    (4, 5),
+    (0, 5),
+    (0, 6),
+    (1, 6),
+    (2, 6),
+    (3, 6),
+    (4, 6),
+    (5, 6),
+];
+
 /// The hub of a wheel is visited when three of its rim have fallen, and only vertex 0 is gone. It finds support in 1, 2 and 3, and in 4 when
 /// 1 is gone. When 2 is gone it finds no more, since 5 has had its turn.
 #[test]
 fn a_rim_edge_of_a_wheel(rt: HostRuntime) -> Result<(), Fail> {
-    let rim = [(0, 1), (1, 2), (2, 3), (3, 4), (4, 5), (0, 5)];
-    let spokes = [(0, 6), (1, 6), (2, 6), (3, 6), (4, 6), (5, 6)];
-    let mut edges = Vec::new(rt.alloc());
-    edges.extend_from_slice(&rim)?;
-    edges.extend_from_slice(&spokes)?;
-    let plan = plan_of(&rt, 7, &edges, 0, 1)?;
+    let plan = plan_of(&rt, 7, &WHEEL, 0, 1)?;
     assert_fall(&rt, &plan, 3, &[0, 1, 5, 2, 4, 3, 6]);
     assert_asked(&rt, &plan, &[0, 1, 5, 6, 2, 4, 3]);
     Ok(())

@@ -1,20 +1,15 @@
 //! A view of a graph at rest, each call with its answer.
 ghost use Rattle.std.specs.Prelude.{◌≢◌, ◌<◌};
 
-use kc_graph::{Graph, Lawful, Used, UsedOrder, UsedPlace, decompose};
+use crate::states::decomposition_of;
+use kc_graph::{Lawful, NoMemory, Used};
 use kc_view::{PlainView, PlanFault, View, ViewFault, degree_of, is_neighbour};
-use std::alloc::Global;
 use std::process::Abort;
 use std::test::Fail;
 
 /// A triangle with a tail, and a vertex alone. The core numbers are 2, 2, 2, 1 and 0.
-fn triangle_with_a_tail<R: Abort + AllocGlobal>(rt: &R) -> Result<Lawful, Fail> {
-    let mut graph = Graph::new(rt.alloc(), 5)?;
-    for (u, v) in [(0, 1), (0, 2), (1, 2), (2, 3)] {
-        assert!(rt; u != v && u < graph.vertices() && v < graph.vertices());
-        graph.add(u, v)?;
-    }
-    Ok(decompose(rt.alloc(), &graph)?)
+fn triangle_with_a_tail<R: Abort + AllocGlobal>(rt: &R) -> Result<Lawful, NoMemory> {
+    decomposition_of(rt, 5, &[(0, 1), (0, 2), (1, 2), (2, 3)])
 }
 
 /// The list of a vertex, and its length as it was told.
@@ -54,27 +49,58 @@ fn assert_lists<R: Abort>(rt: &R, used: &Used, vertices: &[u32]) {
     assert!(rt; used.places.is_empty() && used.orders.is_empty());
 }
 
+/// `w` has just these neighbours.
+fn assert_neighbours<R: Abort>(
+    rt: &R,
+    view: &mut PlainView<'_>,
+    w: u32,
+    list: &[u32],
+) -> Result<(), Fail> {
+    for y in 0..6 {
+        assert!(rt; w < view.state().graph().vertices());
+        let has = has_neighbour(view, w, y)?;
+        assert_eq!(rt; has, list.contains(&y), "{w} and {y}");
+    }
+    Ok(())
+}
+
+/// The neighbours of each vertex are found.
+fn assert_all_neighbours<R: Abort>(rt: &R, view: &mut PlainView<'_>) -> Result<(), Fail> {
+    assert_neighbours(rt, view, 0, &[1, 2])?;
+    assert_neighbours(rt, view, 1, &[0, 2])?;
+    assert_neighbours(rt, view, 2, &[0, 1, 3])?;
+    assert_neighbours(rt, view, 3, &[2])?;
+    assert_neighbours(rt, view, 4, &[])
+}
+
 #[test]
 fn neighbours_are_found_by_halving(rt: HostRuntime) -> Result<(), Fail> {
     let lawful = triangle_with_a_tail(&rt)?;
     let mut view = PlainView::new(rt.alloc(), &lawful)?;
-    let lists = [
-        [1, 2].as_slice(),
-        [0, 2].as_slice(),
-        [0, 1, 3].as_slice(),
-        [2].as_slice(),
-        [].as_slice(),
-    ];
-    for (w, list) in (0..5).zip(lists) {
-        for y in 0..6 {
-            assert!(rt; w < view.state().graph().vertices());
-            assert_eq!(rt;
-                has_neighbour(&mut view, w, y)?,
-                list.contains(&y),
-                "{w} and {y}"
-            );
-        }
-    }
+    assert_all_neighbours(&rt, &mut view)
+}
+
+/// The list of `w` is this one.
+fn assert_list<R: Abort>(
+    rt: &R,
+    view: &mut PlainView<'_>,
+    w: u32,
+    list: &[u32],
+) -> Result<(), Fail> {
+    assert!(rt; w < view.state().graph().vertices());
+    let (degree, told) = list_of(view, w)?;
+    assert_eq!(rt; (degree as usize, told), (list.len(), list), "at {w}");
+    Ok(())
+}
+
+/// The lists of three vertices are told, that of the first once more at the end, and each is handed out once.
+fn assert_each_list<R: Abort>(rt: &R, view: &mut PlainView<'_>) -> Result<(), Fail> {
+    assert_list(rt, view, 2, &[0, 1, 3])?;
+    assert_list(rt, view, 4, &[])?;
+    assert_list(rt, view, 0, &[1, 2])?;
+    assert_list(rt, view, 2, &[0, 1, 3])?;
+    assert_lists(rt, &view.used(), &[2, 4, 0]);
+    assert_lists(rt, &view.used(), &[]);
     Ok(())
 }
 
@@ -82,17 +108,37 @@ fn neighbours_are_found_by_halving(rt: HostRuntime) -> Result<(), Fail> {
 fn lists_of_a_graph_at_rest(rt: HostRuntime) -> Result<(), Fail> {
     let lawful = triangle_with_a_tail(&rt)?;
     let mut view = PlainView::new(rt.alloc(), &lawful)?;
-    for (w, list) in [
-        (2, [0, 1, 3].as_slice()),
-        (4, [].as_slice()),
-        (0, [1, 2].as_slice()),
-        (2, [0, 1, 3].as_slice()),
-    ] {
-        assert!(rt; w < view.state().graph().vertices());
-        assert_eq!(rt; list_of(&mut view, w)?, (list.len() as u32, list), "at {w}");
-    }
-    assert_lists(&rt, &view.used(), &[2, 4, 0]);
-    assert_lists(&rt, &view.used(), &[]);
+    assert_each_list(&rt, &mut view)
+}
+
+/// The core numbers and the order of two vertices are these.
+fn assert_compared<R: Abort>(
+    rt: &R,
+    view: &mut PlainView<'_>,
+    x: u32,
+    y: u32,
+    answer: (u32, u32, bool),
+) -> Result<(), Fail> {
+    let vertices = view.state().graph().vertices();
+    assert!(rt; x != y && x < vertices && y < vertices);
+    assert_eq!(rt; compared(view, x, y)?, answer);
+    Ok(())
+}
+
+/// Two questions of order were asked, and nothing else.
+fn assert_orders<R: Abort>(rt: &R, used: &Used) {
+    let places = [(3, 1), (0, 2)];
+    assert!(rt; used.places.iter().map(|p| (p.vertex, p.core)).eq(places));
+    let orders = [(3, 0, true), (0, 3, false)];
+    assert!(rt; used.orders.iter().map(|o| (o.x, o.y, o.before)).eq(orders));
+}
+
+/// Two questions of order are answered, and handed out.
+fn assert_each_order<R: Abort>(rt: &R, view: &mut PlainView<'_>) -> Result<(), Fail> {
+    assert_compared(rt, view, 3, 0, (1, 2, true))?;
+    assert_compared(rt, view, 0, 3, (2, 1, false))?;
+    assert_orders(rt, &view.used());
+    assert_lists(rt, &view.used(), &[]);
     Ok(())
 }
 
@@ -100,16 +146,5 @@ fn lists_of_a_graph_at_rest(rt: HostRuntime) -> Result<(), Fail> {
 fn orders_of_a_graph_at_rest(rt: HostRuntime) -> Result<(), Fail> {
     let lawful = triangle_with_a_tail(&rt)?;
     let mut view = PlainView::new(rt.alloc(), &lawful)?;
-    for (x, y, answer) in [(3, 0, (1, 2, true)), (0, 3, (2, 1, false))] {
-        let vertices = view.state().graph().vertices();
-        assert!(rt; x != y && x < vertices && y < vertices);
-        assert_eq!(rt; compared(&mut view, x, y)?, answer);
-    }
-    let used = view.used();
-    let places = [(3, 1), (0, 2)];
-    assert!(rt; used.places.iter().map(|p| (p.vertex, p.core)).eq(places));
-    let orders = [(3, 0, true), (0, 3, false)];
-    assert!(rt; used.orders.iter().map(|o| (o.x, o.y, o.before)).eq(orders));
-    assert_lists(&rt, &view.used(), &[]);
-    Ok(())
+    assert_each_order(&rt, &mut view)
 }

@@ -1,0 +1,66 @@
+//! Small graphs and certified states, made once for the tests of each file.
+ghost use Rattle.std.specs.Prelude.{IfOk};
+ghost use Rattle.kc_graph.specs.Certificate.{Certifies};
+
+use kc_cert::check;
+use kc_graph::{Graph, Lawful, NoMemory, decompose};
+use std::process::Abort;
+
+/// Adds these edges.
+fn add_all<R: Abort>(rt: &R, graph: &mut Graph, edges: &[(u32, u32)]) -> Result<(), NoMemory> {
+    for (u, v) in edges {
+        assert!(rt; *u != *v && *u < graph.vertices() && *v < graph.vertices());
+        graph.add(*u, *v)?;
+    }
+    Ok(())
+}
+
+/// The graph with these edges.
+pub(crate) fn graph_of<R: Abort + AllocGlobal>(
+    rt: &R,
+    vertices: u32,
+    edges: &[(u32, u32)],
+) -> Result<Graph, NoMemory> {
+    let mut graph = Graph::new(rt.alloc(), vertices)?;
+    add_all(rt, &mut graph, edges)?;
+    Ok(graph)
+}
+
+/// The graph with these edges, with its core numbers and an order that certifies them.
+pub(crate) fn decomposition_of<R: Abort + AllocGlobal>(
+    rt: &R,
+    vertices: u32,
+    edges: &[(u32, u32)],
+) -> Result<Lawful, NoMemory> {
+    let graph = graph_of(rt, vertices, edges)?;
+    decompose(rt.alloc(), &graph)
+}
+
+/// The order certifies these core numbers of the graph.
+fn assert_certified<R: Abort + AllocGlobal>(
+    rt: &R,
+    graph: &Graph,
+    core: &[u32],
+    order: &[u32],
+) -> Result<(), NoMemory>
+    ensures { IfOk result (λ _. Certifies graph.now core.now order.now) }
+{
+    let is_certified = check(rt.alloc(), graph, core, order)?;
+    assert!(rt; is_certified);
+    Ok(())
+}
+
+/// The graph with these edges, with core numbers that the order certifies.
+pub(crate) fn state_of<R: Abort + AllocGlobal>(
+    rt: &R,
+    vertices: u32,
+    edges: &[(u32, u32)],
+    core: &[u32],
+    order: &[u32],
+) -> Result<Lawful, NoMemory> {
+    let graph = graph_of(rt, vertices, edges)?;
+    assert_certified(rt, &graph, core, order)?;
+    let core = Vec::from_slice(rt.alloc(), core)?;
+    let order = Vec::from_slice(rt.alloc(), order)?;
+    Lawful::new(rt.alloc(), graph, core, order)
+}
