@@ -73,8 +73,8 @@ pen_moves v e m p old few old_is cs log kept pre away =
     subst P (sym kept.words) (omega arith, refl, pen_goes log v e m p old few old_is kept.pens kept.few (3 * length log + kept.pens == old) refl)
 
 -- a cell that is not at home stands behind all lists
-pub cell-far : (n pens k : ℕ) → (cell (cells_of n pens) k).1 ≡ false → n + 2 ≤ k
-cell-far n pens k is = elim (cases_lt k (n + 2)) [ inl l ↦ absurd (cc (is, home-cell n pens k l)) | inr le ↦ le ]
+pub cell-behind_lists : (n pens k : ℕ) → (cell (cells_of n pens) k).1 ≡ false → n + 2 ≤ k
+cell-behind_lists n pens k is = elim (cases_lt k (n + 2)) [ inl l ↦ absurd (cc (is, home-cell n pens k l)) | inr le ↦ le ]
 
 -- the step that adds a list: who has the pen has seen the whole history
 pub list_goes : (log v : List Member) (e : Member) (k old : ℕ) → k ≡ length v + 2 → old ≡ 3 * length v + 2 → IsPrefix v log
@@ -84,7 +84,7 @@ pub list_goes : (log v : List Member) (e : Member) (k old : ℕ) → k ≡ lengt
 list_goes log v e k old k_is old_is pre pens few out true is =
     let n : ℕ = length log in
     let here : 3 * n + pens ≡ old = grind (arith, nat_tests) in
-    let le : n + 2 ≤ k = cell-far n pens k out in
+    let le : n + 2 ≤ k = cell-behind_lists n pens k out in
     let same : v ≡ log = prefix_whole v log pre (omega arith) in
     let long : length v ≡ n = ap length same in
     let two : pens ≡ 2 = omega arith in
@@ -105,7 +105,7 @@ list_goes log v e k old k_is old_is pre pens few out true is =
       rw is (ap (λ (w : List Member). w ++ e ∷ []) (sym same)),
     )
 list_goes log v e k old k_is old_is pre pens few out false is =
-    let le : length log + 2 ≤ k = cell-far (length log) pens k out in
+    let le : length log + 2 ≤ k = cell-behind_lists (length log) pens k out in
     let same : v ≡ log = prefix_whole v log pre (omega arith) in
     let head : exchanged old (old + 2) (3 * length log + pens) ≡ 3 * length log + pens = rw is refl in (
       keeps,
@@ -146,7 +146,7 @@ pub length_goes : (log v : List Member) (e : Member) (k : ℕ) → k ≤ length 
     → Goes IsKept shown moved 0 (v, (nib may_write k 0, None)) (exchanged 0 0) (TellsLength (step 0 0 0 e) (v, (nib may_write k 0, None)))
     (cells_of (length log) pens) log
 length_goes log v e k k_le pre pens few out =
-    let le : length log + 2 ≤ k = cell-far (length log) pens k out in
+    let le : length log + 2 ≤ k = cell-behind_lists (length log) pens k out in
     let short : length v ≤ length log = prefix_length v log pre in
     let all : length (log ++ []) ≡ length log = ap length (append-nil log) in
     let head = same_head (3 * length log + pens) (3 * length log + pens == 0) refl in (
