@@ -1,6 +1,5 @@
 pub mod Again
 pub mod Comparing
-pub mod Cutting
 pub mod Ending
 pub mod Leaving
 pub mod Opened

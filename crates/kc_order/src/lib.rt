@@ -16,8 +16,6 @@ pub mod fault;
 pub mod laws;
 pub mod shared;
 mod storing;
-#[cfg(test)]
-mod tests;
 pub mod writer;
 
 pub use answer::Answer;

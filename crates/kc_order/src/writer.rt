@@ -25,9 +25,6 @@ use kc_words::{INDICES, NoteWord, Shape, VERTICES, VertexWord};
 use std::alloc::Global;
 use std::marker::Model;
 
-#[cfg(test)]
-pub(crate) mod beneath;
-
 /// The right to change the list, with the list as it is. Contracts see its table and the whole log.
 #[derive(Drop)]
 pub struct Writer {

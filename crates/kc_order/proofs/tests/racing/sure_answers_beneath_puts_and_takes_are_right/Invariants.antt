@@ -1,7 +1,0 @@
--- `K` names the table that was just opened for the race, so that both threads put, take and compare in one list.
-use Rattle.std.specs.Prelude.{[]}
-use Rattle.kc_table.specs.Log.{no_graph}
-use Rattle.kc_order.proofs.tests.racing.sure_answers_beneath_puts_and_takes_are_right.Given as goal
-
-abbrev pub ghosts-race : goal.ghosts-race
-ghosts-race g a = record { table = a.words; opening_edges = no_graph; opening_stamps = []; start_edges = no_graph; log = []; entries = [] }
