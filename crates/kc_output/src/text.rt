@@ -2,12 +2,14 @@
 ghost use Rattle.std.specs.Prelude.{◌≡◌, ◌++◌, [], IfOk, OnOk, length};
 ghost use Rattle.kc_text.specs.Inputs.{IsInput};
 ghost use Rattle.kc_text.specs.Meaning.{Told};
+ghost use Rattle.kc_batch.specs.Batches.{receipts_in};
+ghost use Rattle.kc_course.specs.Courses.{HasWorked};
 ghost use Rattle.kc_course.specs.Runs.{HasRun, IsEmpty};
 ghost use Rattle.kc_output.specs.Inputs.{HasWorkers, IsSound};
 ghost use Rattle.kc_output.specs.Leaving.{IsLeftFor};
 ghost use Rattle.kc_output.specs.Limits.{AreWithinLimits, batches_of, lists_of};
 ghost use Rattle.kc_output.specs.Screens.{HasShown};
-ghost use Rattle.kc_output.specs.Text.{IsText, IsTextFrom, first_line, shown_each, shown_rounds};
+ghost use Rattle.kc_output.specs.Text.{IsText, IsTextFrom, TellsBatches, TellsRun, first_line, shown_each, shown_rounds};
 
 use crate::batch_lines::Work;
 use crate::batches::{Batches, start_of};
@@ -19,7 +21,7 @@ use crate::setting::Setting;
 use crate::show::Show;
 use crate::start_numbers::numbers_of;
 use kc_course::{Course, Ran};
-use kc_graph::{Graph, NoMemory};
+use kc_graph::{Graph, Lawful, NoMemory};
 use kc_report::{Line, summary};
 use kc_snapshot::{Blank, BoardName};
 use kc_text::Input;
@@ -95,6 +97,53 @@ fn screen_of<'a, J: BoardName, R: Wait>(
     }
 }
 
+/// Lets the workers enter the batches in turn from this state on, and appends what is written of each.
+fn put_worked<J: BoardName, G: Gate + Sync, R: Threads + Wait + Sync>(
+    work: &Work<'_, G, R>,
+    blank: Blank,
+    lawful: Lawful,
+    batches: &Batches,
+    text: &mut Vec<u8>,
+    ran: &mut Ran,
+) -> Result<Course, NoMemory>
+    requires blank { blank ≡ J.book }
+    requires within { AreWithinLimits lawful.graph.size batches.now }
+    requires workers { HasWorkers work.now.setting }
+    requires empty { IsEmpty ran.old }
+    ensures text { IfOk result (λ course. TellsBatches (shown_each work.now.setting.show batches.now.ids.items) 1 lawful.graph lawful.core
+        (batches_of batches.now) text.old.items text.new.items course.journal.levels.core) }
+    ensures started { IfOk result (λ course. course.journal.started ≡ lawful.graph) }
+    ensures size { IfOk result (λ course. course.journal.graph.size ≡ lawful.graph.size) }
+    ensures worked { IfOk result (λ course. HasWorked (lists_of batches.now) ran.new.tables.items (receipts_in ran.new.shares.items) course.journal) }
+{
+    let core = lawful.core();
+    let screen = screen_of::<J, R>(work.rt, work.alloc, blank, work.setting.show, core)?;
+    let course = Course::open(work.alloc, lawful, work.setting.workers)?;
+    work.put_batches(course, batches, screen, text, ran)
+}
+
+/// Works the batches from this state on, and appends what is written of them and of the end. What the run leaves goes to `ran`.
+fn put_run<J: BoardName, G: Gate + Sync, R: Threads + Wait + Sync>(
+    work: &Work<'_, G, R>,
+    blank: Blank,
+    lawful: Lawful,
+    batches: &Batches,
+    text: &mut Vec<u8>,
+    ran: &mut Ran,
+) -> Result<(), NoMemory>
+    requires blank { blank ≡ J.book }
+    requires within { AreWithinLimits lawful.graph.size batches.now }
+    requires workers { HasWorkers work.now.setting }
+    requires empty { IsEmpty ran.old }
+    ensures text { OnOk result (TellsRun work.now.setting batches.now.ids.items lawful.graph lawful.core (batches_of batches.now)
+        text.old.items text.new.items) }
+    ensures ran { OnOk result (HasRun lawful.graph (lists_of batches.now) ran.new) }
+{
+    let course = put_worked::<J, G, R>(work, blank, lawful, batches, text, ran)?;
+    put_end(text, work.setting, &batches.ids, course.core_numbers())?;
+    course.end(ran)
+}
+
 /// The text of an input with batches, which are worked in turn from the state of the graph on. What the run leaves goes to `ran`.
 fn worked_text<J: BoardName, G: Gate + Sync, R: Threads + Wait + Sync>(
     work: &Work<'_, G, R>,
@@ -122,11 +171,7 @@ fn worked_text<J: BoardName, G: Gate + Sync, R: Threads + Wait + Sync>(
         core,
         begun.rounds,
     )?;
-    let screen = screen_of::<J, R>(work.rt, work.alloc, blank, setting.show, core)?;
-    let course = Course::open(work.alloc, begun.lawful, setting.workers)?;
-    let course = work.put_batches(course, batches, screen, &mut text, ran)?;
-    put_end(&mut text, setting, ids, course.core_numbers())?;
-    course.end(ran)?;
+    put_run::<J, G, R>(work, blank, begun.lawful, batches, &mut text, ran)?;
     Ok(text)
 }
 
