@@ -1,11 +1,12 @@
 //! Sections of small graphs: the moves of whole plans, and moves made one by one.
 ghost use Rattle.std.specs.Prelude.{◌≡◌, ◌<◌, IfOk, false, length};
+ghost use Rattle.kc_graph.specs.Certificate.{Certifies};
 ghost use Rattle.kc_graph.specs.Plans.{state_after};
 ghost use Rattle.kc_levels.specs.Levels.{AreLevels, size_of};
 ghost use Rattle.kc_levels.specs.Makes.{AreLevelsOf};
 
 use kc_cert::{check, local_check};
-use kc_graph::{Graph, Lawful, Moves, Plan, Update, Used};
+use kc_graph::{Graph, Lawful, Moves, NoMemory, Plan, Update, Used};
 use kc_levels::{LAST_NUMBER, Levels, make_moves, moved_count};
 use kc_table::Words;
 use kc_words::{LAST_VERSION, VERTICES};
@@ -28,18 +29,44 @@ struct Left<'a> {
     moved: &'a [u32],
 }
 
-/// The graph of a start, with its core numbers and its order.
-fn state_of<R: Abort + AllocGlobal>(rt: &R, start: Start) -> Result<Lawful, Fail> {
-    assert!(rt; start.core.len() <= VERTICES as usize);
-    let mut graph = Graph::new(rt.alloc(), start.core.len() as u32)?;
-    for (u, v) in start.edges {
+/// Adds these edges.
+fn add_all<R: Abort>(rt: &R, graph: &mut Graph, edges: &[(u32, u32)]) -> Result<(), NoMemory> {
+    for (u, v) in edges {
         assert!(rt; *u != *v && *u < graph.vertices() && *v < graph.vertices());
         graph.add(*u, *v)?;
     }
+    Ok(())
+}
+
+/// The graph of a start.
+fn graph_of<R: Abort + AllocGlobal>(rt: &R, start: Start) -> Result<Graph, NoMemory> {
+    assert!(rt; start.core.len() <= VERTICES as usize);
+    let mut graph = Graph::new(rt.alloc(), start.core.len() as u32)?;
+    add_all(rt, &mut graph, start.edges)?;
+    Ok(graph)
+}
+
+/// The order certifies these core numbers of the graph.
+fn assert_certified<R: Abort + AllocGlobal>(
+    rt: &R,
+    graph: &Graph,
+    core: &[u32],
+    order: &[u32],
+) -> Result<(), NoMemory>
+    ensures { IfOk result (λ _. Certifies graph.now core.now order.now) }
+{
+    let is_certified = check(rt.alloc(), graph, core, order)?;
+    assert!(rt; is_certified);
+    Ok(())
+}
+
+/// The graph of a start, with its core numbers and its order.
+fn state_of<R: Abort + AllocGlobal>(rt: &R, start: Start) -> Result<Lawful, NoMemory> {
+    let graph = graph_of(rt, start)?;
+    assert_certified(rt, &graph, start.core, start.order)?;
     let core = Vec::from_slice(rt.alloc(), start.core)?;
     let order = Vec::from_slice(rt.alloc(), start.order)?;
-    assert!(rt; check(rt.alloc(), &graph, &core, &order)?);
-    Ok(Lawful::new(rt.alloc(), graph, core, order)?)
+    Lawful::new(rt.alloc(), graph, core, order)
 }
 
 /// Levels of a state, over a fresh table.
@@ -151,19 +178,37 @@ fn fall<R: AllocGlobal>(rt: &R, level: u32, fall: &[u32]) -> Result<Moves, Fail>
     })
 }
 
-/// The section of a plan leaves what it should.
+/// Levels of a state, after a section that made the moves of a plan.
+fn levels_after<R: Abort + AllocGlobal>(rt: &R, state: &Lawful, plan: &Plan) -> Result<Levels, Fail>
+    ensures { IfOk result (λ levels. size_of levels ≡ state.now.graph.size) }
+{
+    let (words, mut levels) = levels_of(rt, state)?;
+    make_plan(rt, &words, &mut levels, state, plan)?;
+    Ok(levels)
+}
+
+/// The section of a plan leaves what it should of a state.
+fn assert_left<R: Abort + AllocGlobal>(
+    rt: &R,
+    state: &Lawful,
+    plan: &Plan,
+    left: Left,
+) -> Result<(), Fail> {
+    let levels = levels_after(rt, state, plan)?;
+    assert!(rt; left.core.len() == state.graph().vertices() as usize);
+    assert_stand(rt, &levels, left);
+    Ok(())
+}
+
+/// The section of a plan leaves what it should of a start.
 fn assert_section<R: Abort + AllocGlobal>(
     rt: &R,
     start: Start,
-    plan: Plan,
+    plan: &Plan,
     left: Left,
 ) -> Result<(), Fail> {
     let state = state_of(rt, start)?;
-    let (words, mut levels) = levels_of(rt, &state)?;
-    assert!(rt; left.core.len() == state.core().len());
-    make_plan(rt, &words, &mut levels, &state, &plan)?;
-    assert_stand(rt, &levels, left);
-    Ok(())
+    assert_left(rt, &state, plan, left)
 }
 
 /// Two edges.
@@ -188,7 +233,7 @@ fn a_shift(rt: HostRuntime) -> Result<(), Fail> {
         order: &[1, 0, 2, 3],
         moved: &[0],
     };
-    assert_section(&rt, EDGES, plan, left)
+    assert_section(&rt, EDGES, &plan, left)
 }
 
 #[test]
@@ -199,7 +244,7 @@ fn a_path_becomes_a_ring(rt: HostRuntime) -> Result<(), Fail> {
         order: &[0, 1, 2, 3],
         moved: &[0, 1, 2, 3],
     };
-    assert_section(&rt, PATH, plan, left)
+    assert_section(&rt, PATH, &plan, left)
 }
 
 #[test]
@@ -215,7 +260,7 @@ fn four_lose_an_edge_of_six(rt: HostRuntime) -> Result<(), Fail> {
         order: &[0, 1, 2, 3],
         moved: &[0, 1, 2, 3],
     };
-    assert_section(&rt, start, plan, left)
+    assert_section(&rt, start, &plan, left)
 }
 
 #[test]
@@ -226,7 +271,7 @@ fn an_end_of_a_path_falls(rt: HostRuntime) -> Result<(), Fail> {
         order: &[0, 1, 2, 3],
         moved: &[0],
     };
-    assert_section(&rt, PATH, plan, left)
+    assert_section(&rt, PATH, &plan, left)
 }
 
 #[test]
@@ -237,7 +282,7 @@ fn an_edge_goes_and_nothing_moves(rt: HostRuntime) -> Result<(), Fail> {
         order: &[0, 1, 2, 3],
         moved: &[],
     };
-    assert_section(&rt, PATH, plan, left)
+    assert_section(&rt, PATH, &plan, left)
 }
 
 #[test]
@@ -248,7 +293,7 @@ fn an_edge_that_is_there_is_kept(rt: HostRuntime) -> Result<(), Fail> {
         order: &[0, 1, 2, 3],
         moved: &[],
     };
-    assert_section(&rt, PATH, plan, left)
+    assert_section(&rt, PATH, &plan, left)
 }
 
 #[test]
@@ -264,7 +309,7 @@ fn one_rises_past_an_empty_level(rt: HostRuntime) -> Result<(), Fail> {
         order: &[3, 0, 1, 2],
         moved: &[3],
     };
-    assert_section(&rt, start, plan, left)
+    assert_section(&rt, start, &plan, left)
 }
 
 #[test]
@@ -280,7 +325,7 @@ fn three_rise_in_front_of_their_level(rt: HostRuntime) -> Result<(), Fail> {
         order: &[2, 0, 1, 3, 4, 5],
         moved: &[0, 1, 2],
     };
-    assert_section(&rt, start, plan, left)
+    assert_section(&rt, start, &plan, left)
 }
 
 #[test]
@@ -296,5 +341,5 @@ fn three_fall_to_the_back_of_their_level(rt: HostRuntime) -> Result<(), Fail> {
         order: &[6, 7, 1, 0, 2, 3, 4, 5],
         moved: &[0, 1, 2],
     };
-    assert_section(&rt, start, plan, left)
+    assert_section(&rt, start, &plan, left)
 }
