@@ -19,15 +19,21 @@ fn compare_lists(journal: &Journal, graph: &Graph) -> Result<()> {
     Ok(())
 }
 
+/// It is an error where the journal has other core numbers than these, or an order that does not certify them.
+fn compare_numbers(alloc: Global, journal: &Journal, graph: &Graph, core: &[u32]) -> Result<()> {
+    if journal.core_numbers() != core {
+        bail!("the journal has other core numbers");
+    }
+    let order = journal.order(alloc)?;
+    if !check(alloc, graph, core, &order)? {
+        bail!("the order of the journal does not certify its core numbers");
+    }
+    Ok(())
+}
+
 /// It is an error where the journal has other edges or core numbers than the graph, or an order that does not certify them.
 pub(crate) fn compare(alloc: Global, journal: &Journal, graph: &Graph) -> Result<()> {
     compare_lists(journal, graph)?;
     let core = core_numbers(alloc, graph)?;
-    if journal.core_numbers() != core.as_slice() {
-        bail!("the journal has other core numbers");
-    }
-    if !check(alloc, graph, &core, &journal.order(alloc)?)? {
-        bail!("the order of the journal does not certify its core numbers");
-    }
-    Ok(())
+    compare_numbers(alloc, journal, graph, &core)
 }

@@ -8,7 +8,7 @@ use crate::comparing::compare;
 use crate::gate::Holding;
 use crate::receipts::{look_at, make_entered};
 use crate::updates::make_all;
-use anyhow::{Result, bail};
+use anyhow::{Result, anyhow, bail};
 use kc_batch::{BatchDone, run_batch};
 use kc_graph::{Graph, NoMemory, Update, decompose};
 use kc_journal::Journal;
@@ -57,7 +57,8 @@ fn open_parts(alloc: Global, graph: &Graph, left: u32) -> Result<(Parts, Pass)>
 /// So many workers, who have seen what the pass has; an error where there is no memory for one.
 fn hire(alloc: Global, parts: &Parts, pass: &mut Pass, count: u32) -> Result<Vec<Worker>, NoMemory>
     requires table { pass.old.table ≡ parts.now.words }
-    ensures { IfOk result (λ workers. All (λ w. w.table ≡ parts.now.words) workers.items) }
+    ensures count { IfOk result (λ workers. vec_len workers ≡ count) }
+    ensures table { IfOk result (λ workers. All (λ w. w.table ≡ parts.now.words) workers.items) }
 {
     let mut workers = Vec::new(alloc);
     for _ in 0..count {
@@ -68,6 +69,19 @@ fn hire(alloc: Global, parts: &Parts, pass: &mut Pass, count: u32) -> Result<Vec
         workers.push(worker)?;
     }
     Ok(workers)
+}
+
+/// The parts of a run of this graph, in a table that has so many versions left, and so many workers.
+fn open_run(alloc: Global, graph: &Graph, count: u32, left: u32) -> Result<(Parts, Vec<Worker>)>
+    ensures some { IfOk result (λ r. (0 < vec_len r.1) × (vec_len r.1 ≤ MOST_WORKERS)) }
+    ensures table { IfOk result (λ r. All (λ w. w.table ≡ r.0.words) r.1.items) }
+{
+    if count == 0 || u64::from(count) > WORKERS {
+        bail!("no such number of workers");
+    }
+    let (parts, mut pass) = open_parts(alloc, graph, left)?;
+    let workers = hire(alloc, &parts, &mut pass, count)?;
+    Ok((parts, workers))
 }
 
 /// Whether these updates, the first of which has this index, can be a batch of the run.
@@ -137,11 +151,7 @@ fn follow(
 impl Crew {
     /// A run of this graph with so many workers, in a table that has so many versions left.
     pub(crate) fn open(alloc: Global, graph: Graph, count: u32, left: u32) -> Result<Crew> {
-        let (parts, mut pass) = open_parts(alloc, &graph, left)?;
-        let workers = hire(alloc, &parts, &mut pass, count)?;
-        if workers.is_empty() || workers.len() as u64 > WORKERS {
-            bail!("no such number of workers");
-        }
+        let (parts, workers) = open_run(alloc, &graph, count, left)?;
         Ok(Crew {
             parts,
             workers,
@@ -155,6 +165,34 @@ impl Crew {
         self.graph
     }
 
+    /// Has a batch entered. The graph is left as it was.
+    fn enter<R: Threads + Wait + Sync>(
+        self,
+        rt: &R,
+        alloc: Global,
+        batch: &[Update],
+        gate: &Holding,
+    ) -> (Crew, Result<BatchDone, NoMemory>)
+        requires indices { self.next + length batch.now ≤ MOST_INDICES }
+        requires within { All (λ u. u.v < self.parts.words.shape.fixed) batch.now }
+        requires numbers { length self.parts.journal.entries + length batch.now ≤ MOST_ENTRIES }
+    {
+        let Crew {
+            parts,
+            mut workers,
+            graph,
+            next,
+        } = self;
+        let (parts, done) = run_batch(rt, alloc, parts, &mut workers, next, batch, gate);
+        let crew = Crew {
+            parts,
+            workers,
+            graph,
+            next: next + batch.len() as u32,
+        };
+        (crew, done)
+    }
+
     /// Has a batch entered, and looks at its receipts. Where memory runs out some of its updates were entered, each at most once, and the
     /// journal has to have just these.
     pub(crate) fn work<R: Threads + Wait + Sync>(
@@ -163,25 +201,15 @@ impl Crew {
         alloc: Global,
         batch: &[Update],
         gate: &Holding,
-    ) -> Result<(Crew, Worked)> {
-        let Crew {
-            parts,
-            mut workers,
-            mut graph,
-            next,
-        } = self;
-        if !may_follow(&parts, next, batch) {
-            bail!("too many updates");
+    ) -> (Crew, Result<Worked>) {
+        let first = self.next;
+        if !may_follow(&self.parts, first, batch) {
+            return (self, Err(anyhow!("too many updates")));
         }
-        let (parts, done) = run_batch(rt, alloc, parts, &mut workers, next, batch, gate);
-        let worked = follow(alloc, &mut graph, next, batch, &parts.journal, &done)?;
-        let crew = Crew {
-            parts,
-            workers,
-            graph,
-            next: next + batch.len() as u32,
-        };
-        Ok((crew, worked))
+        let (mut crew, done) = self.enter(rt, alloc, batch, gate);
+        let Crew { parts, graph, .. } = &mut crew;
+        let worked = follow(alloc, graph, first, batch, &parts.journal, &done);
+        (crew, worked)
     }
 
     /// It is an error where the journal has other edges, entries or core numbers than it is to have, or an order that does not certify them.

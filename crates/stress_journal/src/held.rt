@@ -1,6 +1,6 @@
 //! Updates of a journal in one thread, each planned over it and entered. Where one is refused for want of memory, the journal has to be as
 //! it was.
-ghost use Rattle.std.specs.Prelude.{◌≡◌, ◌<◌};
+ghost use Rattle.std.specs.Prelude.{◌≡◌, ◌<◌, IfOk};
 
 use crate::comparing::compare;
 use crate::updates::{draw, is_applied, make};
@@ -53,13 +53,21 @@ struct Held {
     ghost table: { journal.levels.table ≡ words },
 }
 
+/// A journal of this graph, with the words of its table and a pass.
+fn open_journal(alloc: Global, graph: &Graph) -> Result<(Words, Journal, Pass)>
+    ensures told { IfOk result (λ r. r.2.table ≡ r.0) }
+    ensures table { IfOk result (λ r. r.1.levels.table ≡ r.0) }
+{
+    if graph.vertices() > VERTICES {
+        bail!("too many vertices");
+    }
+    Ok(Journal::open(alloc, decompose(alloc, graph)?, 0)?)
+}
+
 impl Held {
-    /// A journal of this graph.
+    /// A journal of this graph beside it.
     fn open(alloc: Global, graph: Graph) -> Result<Held> {
-        if graph.vertices() > VERTICES {
-            bail!("too many vertices");
-        }
-        let (words, journal, pass) = Journal::open(alloc, decompose(alloc, &graph)?, 0)?;
+        let (words, journal, pass) = open_journal(alloc, &graph)?;
         Ok(Held {
             words,
             journal,
@@ -81,9 +89,11 @@ impl Held {
         let plan = planned.ok()?;
         let entered = self
             .journal
-            .enter(&self.words, &mut self.pass, index, &plan, None)
-            .ok()?;
-        Some(entered.receipt)
+            .enter(&self.words, &mut self.pass, index, &plan, None);
+        match entered {
+            Ok(entered) => Some(entered.receipt),
+            Err(_) => None,
+        }
     }
 
     /// The same. Where the update is refused, the journal has to answer all as before, and the error is that there is no memory.
@@ -128,14 +138,18 @@ impl Held {
             None => bail!("there are less than two vertices"),
         }
     }
+
+    /// The same so often, and a comparison after it.
+    fn work(&mut self, alloc: Global, updates: u32, draws: &mut Draws) -> Result<()> {
+        for index in 0..updates.min(INDICES) {
+            self.draw_and_step(alloc, index, draws)?;
+        }
+        compare(alloc, &self.journal, &self.graph)
+    }
 }
 
 /// So many updates of a graph without edges, one after another.
 pub(crate) fn work_held(alloc: Global, vertices: u32, updates: u32, seed: u64) -> Result<()> {
-    let mut draws = Draws::new(seed);
     let mut held = Held::open(alloc, Graph::new(alloc, vertices)?)?;
-    for index in 0..updates.min(INDICES) {
-        held.draw_and_step(alloc, index, &mut draws)?;
-    }
-    compare(alloc, &held.journal, &held.graph)
+    held.work(alloc, updates, &mut Draws::new(seed))
 }

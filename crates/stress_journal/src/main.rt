@@ -22,7 +22,7 @@ mod updates;
 use crate::held::work_held;
 use crate::runs::{Counted, Size, work_run};
 use anyhow::{Result, bail};
-use std::env;
+use std::env::{self, Args};
 use std::rt::Clock;
 use std::sync::Wait;
 use std::thread::Threads;
@@ -112,16 +112,21 @@ fn number(word: Option<String>) -> Result<u64> {
     }
 }
 
+/// The run that the words ask for that come next.
+fn run_of(words: &mut Args) -> Result<Mode> {
+    Ok(Mode::Run {
+        seconds: number(words.next())?,
+        seed: number(words.next())?,
+    })
+}
+
 /// What the words ask for; an error where they are others.
 fn mode_of(rt: &HostRuntime) -> Result<Mode> {
     let mut words = env::args(rt)?;
     let word = words.nth(1);
     match word.as_ref().map(|word| word.as_str()) {
         None => Ok(Mode::Small),
-        Some("run") => Ok(Mode::Run {
-            seconds: number(words.next())?,
-            seed: number(words.next())?,
-        }),
+        Some("run") => run_of(&mut words),
         Some("few") => Ok(Mode::Few),
         Some(_) => bail!("the words are run SECONDS SEED, few, or none"),
     }

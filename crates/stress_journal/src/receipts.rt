@@ -59,6 +59,18 @@ impl Taken {
         Ok(misses)
     }
 
+    /// The same for all shares. It is an error too where an update has no receipt.
+    fn see_shares(&mut self, graph: &Graph, batch: &[Update], shares: &[Share]) -> Result<u64> {
+        let mut misses = 0u64;
+        for share in shares {
+            misses = misses.saturating_add(self.see_share(graph, batch, share)?);
+        }
+        if !self.has_all() {
+            bail!("an update has no receipt");
+        }
+        Ok(misses)
+    }
+
     /// Takes the update of an entry, and makes it in the graph. It is an error where it was taken before, or is another one.
     fn enter(&mut self, graph: &mut Graph, batch: &[Update], entry: &Entry) -> Result<()> {
         let index = entry.index;
@@ -69,6 +81,14 @@ impl Taken {
             bail!("update {index} is entered as another one");
         }
         make(graph, update)?;
+        Ok(())
+    }
+
+    /// The same for all entries.
+    fn enter_all(&mut self, graph: &mut Graph, batch: &[Update], entries: &[Entry]) -> Result<()> {
+        for entry in entries {
+            self.enter(graph, batch, entry)?;
+        }
         Ok(())
     }
 }
@@ -82,14 +102,7 @@ pub(crate) fn look_at(
     shares: &[Share],
 ) -> Result<u64> {
     let mut taken = Taken::none(alloc, first, batch)?;
-    let mut misses = 0u64;
-    for share in shares {
-        misses = misses.saturating_add(taken.see_share(graph, batch, share)?);
-    }
-    if !taken.has_all() {
-        bail!("an update has no receipt");
-    }
-    Ok(misses)
+    taken.see_shares(graph, batch, shares)
 }
 
 /// Makes the updates that were entered in the graph. It is an error where an entry is of no update of the batch, or of one that was entered
@@ -102,8 +115,5 @@ pub(crate) fn make_entered(
     entries: &[Entry],
 ) -> Result<()> {
     let mut taken = Taken::none(alloc, first, batch)?;
-    for entry in entries {
-        taken.enter(graph, batch, entry)?;
-    }
-    Ok(())
+    taken.enter_all(graph, batch, entries)
 }

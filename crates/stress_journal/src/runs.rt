@@ -4,7 +4,7 @@ use crate::gate::Holding;
 use crate::updates::draw_batch;
 use anyhow::Result;
 use kc_draws::Draws;
-use kc_graph::Graph;
+use kc_graph::{Graph, Update};
 use std::alloc::Global;
 use std::sync::Wait;
 use std::thread::Threads;
@@ -79,6 +79,33 @@ impl Size {
     }
 }
 
+/// Counts a batch that was worked. It is an error where that went wrong, or where the journal then is not as it is to be.
+fn count_batch(
+    alloc: Global,
+    crew: &Crew,
+    updates: usize,
+    worked: Result<Worked>,
+    counted: &mut Counted,
+) -> Result<()> {
+    let worked = worked?;
+    crew.compare(alloc)?;
+    counted.add_batch(updates, worked);
+    Ok(())
+}
+
+/// Has a batch entered, and counts it.
+fn enter_batch<R: Threads + Wait + Sync>(
+    rt: &R,
+    alloc: Global,
+    crew: Crew,
+    batch: &[Update],
+    counted: &mut Counted,
+) -> Result<Crew> {
+    let (crew, worked) = crew.work(rt, alloc, batch, &Holding::new());
+    count_batch(alloc, &crew, batch.len(), worked, counted)?;
+    Ok(crew)
+}
+
 /// One batch. It is an error where the journal then is not as it is to be.
 fn work_batch<R: Threads + Wait + Sync>(
     rt: &R,
@@ -88,10 +115,7 @@ fn work_batch<R: Threads + Wait + Sync>(
     counted: &mut Counted,
 ) -> Result<Crew> {
     let batch = draw_batch(alloc, &mut size.draws, &crew.graph, size.updates)?;
-    let (crew, worked) = crew.work(rt, alloc, &batch, &Holding::new())?;
-    crew.compare(alloc)?;
-    counted.add_batch(batch.len(), worked);
-    Ok(crew)
+    enter_batch(rt, alloc, crew, &batch, counted)
 }
 
 /// Some batches of one opening. Gives the graph that they leave.
