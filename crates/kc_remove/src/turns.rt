@@ -52,11 +52,12 @@ impl Falling {
             vertex: y,
             turns: turn.place + 1,
         };
+        let core = core_of(view, y)?;
+        if core != search.level {
+            return Ok(());
+        }
         let Some(found) = self.find(y) else {
-            let core = core_of(view, y)?;
-            if core == search.level {
-                self.visit(view, search, supported)?;
-            }
+            self.visit(view, search, supported)?;
             return Ok(());
         };
         if found.has_looked(turn.vertex) {

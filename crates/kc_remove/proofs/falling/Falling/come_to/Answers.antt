@@ -14,34 +14,39 @@ returns-then-is_removed-clause-falls g c = λ s row a new' falls.
     pass-by c.args.search.update c.args.search.level s _ c.args.turn.vertex c.args.y row c.args.self.now c.requires.turn c.requires.at
     (λ j oy. absurd (true≢false (sym j ∙ edge-gone c.args.search.update s _ _ (sym c.is_removed.ensures ∙ c.if-is_removed.true)))) falls
 
+pub returns-then-core-search-clause-tidy : goal.returns-then-core-search-clause-tidy
+returns-then-core-search-clause-tidy g c =
+    let r = c.requires in
+    tidy-neighbour _ _ _ _ c.args.turn.vertex _ r.tidy c.core_of.ensures.goes_on c.in_ok-core.ensures.told r.read r.neighbour
+
+pub returns-then-core-search-clause-falls : goal.returns-then-core-search-clause-falls
+returns-then-core-search-clause-falls g c = λ s row a new' falls.
+    let o = c.in_ok-core.ensures in
+    pass-by c.args.search.update c.args.search.level s _ c.args.turn.vertex c.args.y row c.args.self.now c.requires.turn c.requires.at
+    (λ j oy. absurd (c.if-core-search.true (told-core _ _ s _ _ a o.told o.core ∙ oy.level))) falls
+
 pub visit-requires-clause-tidy : goal.visit-requires-clause-tidy
 visit-requires-clause-tidy g c =
     let r = c.requires in
     tidy-neighbour _ _ _ _ c.args.turn.vertex _ r.tidy c.core_of.ensures.goes_on c.in_ok-core.ensures.told r.read r.neighbour
 
-pub returns-in_ok-visit-clause-goes_on : goal.returns-in_ok-visit-clause-goes_on
-returns-in_ok-visit-clause-goes_on g c = GoesOn-trans _ _ _ c.core_of.ensures.goes_on c.visit.ensures.goes_on
+pub returns-in_default-clause-goes_on : goal.returns-in_default-clause-goes_on
+returns-in_default-clause-goes_on g c = GoesOn-trans _ _ _ c.core_of.ensures.goes_on c.visit.ensures.goes_on
 
-pub returns-in_ok-visit-clause-falls : goal.returns-in_ok-visit-clause-falls
-returns-in_ok-visit-clause-falls g c = λ s row a new' falls.
+pub returns-in_default-clause-falls : goal.returns-in_default-clause-falls
+returns-in_default-clause-falls g c = λ s row a new' falls.
     let o = c.in_ok-core.ensures in
     let asked = answers-agreed _ _ s c.visit.ensures.goes_on.further a in
     let now =
     neighbour-comes c.args.search.update _ s c.args.turn.place c.args.turn.vertex c.args.y row c.args.self.now.list.items
     (answers-agreed _ _ s c.core_of.ensures.goes_on.further asked) c.requires.read c.requires.neighbour
     (sym c.is_removed.ensures ∙ c.if-is_removed.false) c.requires.turn c.requires.at in
-    c.in_ok-visit.ensures.falls s _ _ _ a (sym (told-core _ _ s _ _ asked o.told o.core) ∙ c.if-core-search.true) now.gone falls now.others now.joined
+    c.in_ok-visit.ensures.falls s _ _ _ a (sym (told-core _ _ s _ _ asked o.told o.core) ∙ c.if-core-search.false) now.gone falls now.others now.joined
 
-pub returns-else-core-search-clause-tidy : goal.returns-else-core-search-clause-tidy
-returns-else-core-search-clause-tidy g c =
+pub returns-else-has_looked-clause-tidy : goal.returns-else-has_looked-clause-tidy
+returns-else-has_looked-clause-tidy g c =
     let r = c.requires in
     tidy-neighbour _ _ _ _ c.args.turn.vertex _ r.tidy c.core_of.ensures.goes_on c.in_ok-core.ensures.told r.read r.neighbour
-
-pub returns-else-core-search-clause-falls : goal.returns-else-core-search-clause-falls
-returns-else-core-search-clause-falls g c = λ s row a new' falls.
-    let o = c.in_ok-core.ensures in
-    pass-by c.args.search.update c.args.search.level s _ c.args.turn.vertex c.args.y row c.args.self.now c.requires.turn c.requires.at
-    (λ j oy. absurd (c.if-core-search.false (told-core _ _ s _ _ a o.told o.core ∙ oy.level))) falls
 
 pub returns-else-has_looked-clause-falls : goal.returns-else-has_looked-clause-falls
 returns-else-has_looked-clause-falls g c = λ s row a new' falls.
@@ -52,9 +57,17 @@ returns-else-has_looked-clause-falls g c = λ s row a new' falls.
       not-looked _ _ _ c.args.turn.vertex c.args.y c.in-Some.found c.has_looked.result c.requires.tidy kept c.has_looked.ensures c.if-has_looked.false,
     )) falls
 
+pub count_on-requires-clause-tidy : goal.count_on-requires-clause-tidy
+count_on-requires-clause-tidy g c =
+    let r = c.requires in
+    tidy-neighbour _ _ _ _ c.args.turn.vertex _ r.tidy c.core_of.ensures.goes_on c.in_ok-core.ensures.told r.read r.neighbour
+
 pub count_on-requires-clause-out : goal.count_on-requires-clause-out
 count_on-requires-clause-out g c =
     (visited-looked _ _ _ c.args.turn.vertex c.args.y _ _ c.requires.tidy (sym c.find.ensures ∙ c.in-Some.is) c.has_looked.ensures c.if-has_looked.true).0
+
+pub returns-in_ok-count_on-clause-goes_on : goal.returns-in_ok-count_on-clause-goes_on
+returns-in_ok-count_on-clause-goes_on g c = GoesOn-trans _ _ _ c.core_of.ensures.goes_on c.count_on.ensures.goes_on
 
 pub returns-in_ok-count_on-clause-falls : goal.returns-in_ok-count_on-clause-falls
 returns-in_ok-count_on-clause-falls g c = λ s row a new' falls.
@@ -64,7 +77,7 @@ returns-in_ok-count_on-clause-falls g c = λ s row a new' falls.
     let known = sym c.find.ensures ∙ c.in-Some.is in
     let seen = visited-looked _ _ _ x c.args.y _ _ c.requires.tidy known c.has_looked.ensures c.if-has_looked.true in
     let now = neighbour-comes update _ s c.args.turn.place x c.args.y row f.list.items
-    (answers-agreed _ _ s c.count_on.ensures.goes_on.further a) c.requires.read
+    (answers-agreed _ _ s c.core_of.ensures.goes_on.further (answers-agreed _ _ s c.count_on.ensures.goes_on.further a)) c.requires.read
     c.requires.neighbour (sym c.is_removed.ensures ∙ c.if-is_removed.false) c.requires.turn c.requires.at in
     let less =
     one-less update c.args.search.level s c.args.turn.place x c.args.y c.in-Some.found row f falls c.requires.turn c.requires.at known
