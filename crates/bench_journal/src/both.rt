@@ -2,10 +2,10 @@
 ghost use Rattle.std.specs.Prelude.{◌<◌};
 
 use crate::comparing::{Answers, Numbers, has_edges_of};
-use crate::draws::Draws;
 use crate::graphs::{change, draw};
 use crate::run::Run;
 use anyhow::{Result, bail};
+use kc_draws::Draws;
 use kc_graph::{Graph, decompose};
 use kc_words::INDICES;
 use std::time::{Duration, Instant};

@@ -5,10 +5,10 @@ ghost use Rattle.kc_levels.specs.declared.levels.TheConstants.{LAST_NUMBER as MO
 ghost use Rattle.kc_words.specs.declared.layout.TheConstants.{INDICES as MOST_INDICES, VERTICES as MOST_VERTICES};
 
 use crate::comparing::{Numbers, has_edges_of};
-use crate::draws::Draws;
 use crate::graphs::{change, draw};
 use anyhow::{Result, bail};
 use kc_batch::{BatchDone, run_batch};
+use kc_draws::Draws;
 use kc_graph::{Graph, NoMemory, Update, decompose};
 use kc_levels::LAST_NUMBER;
 use kc_queue::WORKERS;

@@ -1,7 +1,7 @@
 //! The graph that is read, and the updates of it.
 ghost use Rattle.std.specs.Prelude.{◌≤◌, length};
 
-use crate::draws::Draws;
+use kc_draws::Draws;
 use kc_graph::{Graph, NoMemory, Update};
 use kc_text::{Input, MOST_BYTES, ParseFault, parse};
 use std::alloc::Global;

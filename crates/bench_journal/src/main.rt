@@ -18,7 +18,6 @@
 mod both;
 mod comparing;
 mod crewed;
-mod draws;
 mod graphs;
 mod opening;
 mod run;

@@ -7,7 +7,6 @@
 ghost use Rattle.std.specs.Prelude.{◌≡◌, ◌<◌, ◌≤◌};
 ghost use Rattle.bench_order.specs.declared.TheConstants.{ROOM};
 
-mod draws;
 mod plain;
 mod shared;
 

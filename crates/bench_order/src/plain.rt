@@ -1,7 +1,7 @@
 //! Puts into the list of one thread.
 ghost use Rattle.std.specs.Prelude.{◌≡◌, ◌≢◌, ◌<◌, ◌≤◌};
 
-use crate::draws::Draws;
+use kc_draws::Draws;
 use kc_list::PlainOrder;
 use kc_words::LAST_VERSION;
 

@@ -1,7 +1,7 @@
 //! Puts and comparisons by way of a shared table, on one thread.
 ghost use Rattle.std.specs.Prelude.{◌≡◌, ◌<◌};
 
-use crate::draws::Draws;
+use kc_draws::Draws;
 use kc_order::{Answer, NoMemory, SharedOrder, Writer, precedes};
 use kc_table::{Name, Pass, Words};
 use kc_words::LAST_VERSION;

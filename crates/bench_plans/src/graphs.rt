@@ -1,7 +1,7 @@
 //! The graph that is read, and the updates of it that are planned.
 ghost use Rattle.std.specs.Prelude.{◌<◌};
 
-use crate::draws::Draws;
+use kc_draws::Draws;
 use kc_graph::{Graph, NoMemory, Update};
 use kc_text::{ParseFault, parse};
 use std::alloc::Global;

@@ -11,7 +11,6 @@
 ghost use Rattle.std.specs.Prelude.{◌≡◌};
 ghost use Rattle.kc_view.specs.Answers.{nothing_answered};
 
-mod draws;
 mod graphs;
 mod loose;
 mod plans;

@@ -1,6 +1,6 @@
 //! The arcs that are drawn, and how they are added.
-use crate::draws::Draws;
 use crate::ordered::Ordered;
+use kc_draws::Draws;
 use kc_topo::{Added, NoMemory};
 use std::alloc::Global;
 

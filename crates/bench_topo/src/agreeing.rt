@@ -2,9 +2,9 @@
 ghost use Rattle.std.specs.Prelude.{◌≡◌, ◌≤◌, ◌<◌, IfOk};
 ghost use Rattle.kc_words.specs.declared.layout.TheConstants.{VERTICES};
 
-use crate::draws::Draws;
 use crate::model::{Expected, Model};
 use crate::ordered::Ordered;
+use kc_draws::Draws;
 use kc_topo::{Added, DagFault, NoMemory};
 use std::alloc::Global;
 

@@ -11,7 +11,6 @@ ghost use Rattle.kc_words.specs.declared.layout.TheConstants.{VERTICES};
 
 mod adding;
 mod agreeing;
-mod draws;
 mod model;
 mod ordered;
 

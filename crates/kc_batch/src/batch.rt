@@ -166,10 +166,10 @@ fn run_desks<G: Gate + Sync, R: Threads + Wait + Sync>(
 /// Enters all updates of a batch. The update at place `i` of the batch, from 0, has the index `first + i`.
 ///
 /// There is one worker for each of `workers`, in a thread of its own where one can be made; a single worker runs on the caller's. They take
-/// the updates from one queue: removals first, from the innermost cores on, then insertions. The insertions of a large batch, of at least one
-/// update for each 16 vertices, are peeled as a graph of their own, and those of the vertices that come last in that are taken first; those
-/// of a smaller batch stand as they were given. Where the versions of the table are nearly spent the run goes on in a fresh one, as often as it is needed, and an update
-/// that could not be entered for that is entered there.
+/// the updates from one queue: removals first, from the innermost cores on, then insertions. The insertions of a large batch, of at least
+/// one update for each 16 vertices, are peeled as a graph of their own, and those of the vertices that come last in that are taken first;
+/// those of a smaller batch stand as they were given. Where the versions of the table are nearly spent the run goes on in a fresh one, as
+/// often as it is needed, and an update that could not be entered for that is entered there.
 ///
 /// At Ok each update of the batch is an entry, once, and stands in one share, once, and no other entry was made. `NoMemory` comes where
 /// there is none: then some of the updates were entered, each at most once. Whatever is answered, the journal stands, its entries go on
