@@ -36,6 +36,9 @@ report 'a triangle' 0 $? ''
 "$program" --bogus < "$place/triangle" > /dev/null 2> "$place/err"
 report 'a word that is no option' 2 $? 'usage: kcore *'
 
+"$program" "$(printf '\377')" < "$place/triangle" > /dev/null 2> "$place/err"
+report 'a word that is no UTF-8' 2 $? 'usage: kcore *'
+
 "$program" < "$place/refused" > /dev/null 2> "$place/err"
 report 'a letter in place of a number' 3 $? 'refused line 2 kind 1 NotANumber'
 
