@@ -2,7 +2,7 @@
 use Rattle.std.specs.Prelude.{ℕ, Option, nat_eq}
 use Rattle.std.specs.declared.hash.BuildHasherDefault.{BuildHasherDefault}
 use Rattle.std.specs.HashMap.{get, HashMap}
-use Rattle.kc_hash.specs.declared.VertexHasher.{VertexHasher}
+use Rattle.kc_hash.specs.declared.hasher.VertexHasher.{VertexHasher}
 
 -- a value for each vertex that has one
 abbrev pub VertexMap : Type 0 → Type 0

@@ -1,6 +1,6 @@
 -- What a hasher of vertices computes.
 use Rattle.std.specs.Prelude.{ℕ, ◌+◌, ◌*◌, ◌/◌, ◌%◌, ◌^◌, List, length, slice_index, nat_eq, if◌then◌else◌}
-use Rattle.kc_hash.specs.declared.VertexHasher.{VertexHasher}
+use Rattle.kc_hash.specs.declared.hasher.VertexHasher.{VertexHasher}
 
 -- the number of four bytes, the lowest first
 abbrev pub number_of : List ℕ → ℕ

@@ -48,7 +48,7 @@ begin-orderly root r b = record {
   weak_once = subst Distinct (sym b.weak) tt;
   weak_marked = λ z. no-weak root r b z ∙ sym (ap (member z) b.weak);
   weak_left = λ z m. absurd (true≢false (sym m ∙ ap (member z) b.weak));
-  shifted = ap firsts b.shifts ∙ sym (ap (λ xs. take (length xs) r.weak.items) b.shifts);
+  shifted = ap firsts b.shifts ∙ sym (ap (λ xs. take (length xs) r.seen.weak.items) b.shifts);
   anchored = λ z m. absurd (true≢false (sym m ∙ ap (λ xs. member z (seconds xs)) b.shifts));
 }
 

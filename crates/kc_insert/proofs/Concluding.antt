@@ -35,7 +35,7 @@ cand-queued r x m = (member-filter (is_candidate r) x r.queue.items m).0
 
 -- whoever was shifted has left the queue
 shifted-left : (r : Rising) (x : ℕ) → IsOrderly r → member x (firsts r.shifts.items) ≡ true → member x (left r) ≡ true
-shifted-left r x o m = o.weak_left x (take-member (length r.shifts.items) r.weak.items x (sym (ap (member x) o.shifted) ∙ m))
+shifted-left r x o m = o.weak_left x (take-member (length r.shifts.items) r.seen.weak.items x (sym (ap (member x) o.shifted) ∙ m))
 
 -- candidates and those that were shifted were queued
 pub moved-queued : (r : Rising) (x : ℕ) → IsOrderly r → member x (cands r ++ firsts r.shifts.items) ≡ true → member x r.queue.items ≡ true

@@ -89,25 +89,25 @@ turn-behind rank r o up y x cy cx ne =
     (λ e. ne (sym (o.turned y cy).1 ∙ (ap (λ n. get_or r.queue.items n 0) e ∙ (o.turned x cx).1)))
 
 -- the weak candidate whose turn it is
-pub next-weak : (r : Rising) (i x : ℕ) → i ≡ vec_len r.shifts → length r.shifts.items < length r.weak.items → x ≡ get_or r.weak.items i x
-    → get_or r.weak.items (length r.shifts.items) 0 ≡ x
+pub next-weak : (r : Rising) (i x : ℕ) → i ≡ vec_len r.shifts → length r.shifts.items < length r.seen.weak.items → x ≡ get_or r.seen.weak.items i x
+    → get_or r.seen.weak.items (length r.shifts.items) 0 ≡ x
 next-weak r i x len lt at =
     let e : i ≡ length r.shifts.items = omega (arith, len, r.shifts.ok.0) in
-    ap (λ n. get_or r.weak.items n 0) (sym e) ∙ sym (get_or_read r.weak.items i x (omega (arith, lt, e)) at 0)
+    ap (λ n. get_or r.seen.weak.items n 0) (sym e) ∙ sym (get_or_read r.seen.weak.items i x (omega (arith, lt, e)) at 0)
 
 -- the weak candidate whose turn it is has left the queue
-pub next-left : (r : Rising) (x : ℕ) → IsOrderly r → length r.shifts.items < length r.weak.items
-    → get_or r.weak.items (length r.shifts.items) 0 ≡ x → member x (left r) ≡ true
-next-left r x o lt first = o.weak_left x (ap (λ k. member k r.weak.items) (sym first) ∙ member-get_or r.weak.items (length r.shifts.items) 0 lt)
+pub next-left : (r : Rising) (x : ℕ) → IsOrderly r → length r.shifts.items < length r.seen.weak.items
+    → get_or r.seen.weak.items (length r.shifts.items) 0 ≡ x → member x (left r) ≡ true
+next-left r x o lt first = o.weak_left x (ap (λ k. member k r.seen.weak.items) (sym first) ∙ member-get_or r.seen.weak.items (length r.shifts.items) 0 lt)
 
 -- where the weak candidate whose turn it is is evicted, queue and marks stay orderly
 pub evict-orderly : (x anchor : ℕ) (old new : Rising) → IsOrderly old → Evicts x anchor old new
-    → length old.shifts.items < length old.weak.items → get_or old.weak.items (length old.shifts.items) 0 ≡ x
+    → length old.shifts.items < length old.seen.weak.items → get_or old.seen.weak.items (length old.shifts.items) 0 ≡ x
     → member anchor (left old) ≡ true → IsOrderly new
 evict-orderly x anchor old new o e lt first near =
     let n : ℕ = length old.shifts.items in
     let same : left new ≡ left old = same-left old new e.queue e.turn in
-    let there : member x old.weak.items ≡ true = ap (λ k. member k old.weak.items) (sym first) ∙ member-get_or old.weak.items n 0 lt in
+    let there : member x old.seen.weak.items ≡ true = ap (λ k. member k old.seen.weak.items) (sym first) ∙ member-get_or old.seen.weak.items n 0 lt in
     let queued : member x old.queue.items ≡ true = left-queued old x (next-left old x o lt first) in
     let count : length new.shifts.items ≡ n + 1 = ap length e.shifts ∙ length_push old.shifts.items (x, anchor) in
     record {
@@ -128,14 +128,14 @@ evict-orderly x anchor old new o e lt first near =
       ];
       weak_once = subst Distinct (sym e.weak) o.weak_once;
       weak_marked = λ z. elim (cases_eq z x) [
-        | inl q ↦ ap (is_weak new) q ∙ (ap weak_in e.marks.here ∙ sym (ap (member z) e.weak ∙ (ap (λ k. member k old.weak.items) q ∙ there)))
+        | inl q ↦ ap (is_weak new) q ∙ (ap weak_in e.marks.here ∙ sym (ap (member z) e.weak ∙ (ap (λ k. member k old.seen.weak.items) q ∙ there)))
         | inr ne ↦ ap weak_in (e.marks.others z ne) ∙ (o.weak_marked z ∙ sym (ap (member z) e.weak))
       ];
       weak_left = λ z m. ap (member z) same ∙ o.weak_left z (sym (ap (member z) e.weak) ∙ m);
       shifted = ap firsts e.shifts ∙ (firsts-push old.shifts.items x anchor
           ∙ (ap (λ xs. xs ++ x ∷ []) o.shifted
-          ∙ (ap (λ k. take n old.weak.items ++ k ∷ []) (sym first) ∙ (sym (take_more old.weak.items n 0 lt)
-          ∙ (ap (λ k. take k old.weak.items) (sym count) ∙ ap (take (length new.shifts.items)) (sym e.weak))))));
+          ∙ (ap (λ k. take n old.seen.weak.items ++ k ∷ []) (sym first) ∙ (sym (take_more old.seen.weak.items n 0 lt)
+          ∙ (ap (λ k. take k old.seen.weak.items) (sym count) ∙ ap (take (length new.shifts.items)) (sym e.weak))))));
       anchored = λ z m. ap (member z) same
           ∙ elim (member-push_cases z anchor (seconds old.shifts.items) (sym (ap (λ xs. member z (seconds xs)) e.shifts
           ∙ ap (member z) (seconds-push old.shifts.items x anchor)) ∙ m)) [
@@ -183,13 +183,13 @@ lined-same q root frontier old new l queue turn = record {
 -- a candidate is evicted, and its neighbours lose by it
 pub evicted-now : (q : Search) (root x anchor frontier : ℕ) (row : List ℕ) (old mid new : Rising) → Widened q root → IsOrderly old
     → IsOrderly new → Evicts x anchor old mid → Loses q.level (loss.Evicted (turn_at old x)) row mid new
-    → length old.shifts.items < length old.weak.items → get_or old.weak.items (length old.shifts.items) 0 ≡ x
+    → length old.shifts.items < length old.seen.weak.items → get_or old.seen.weak.items (length old.shifts.items) 0 ≡ x
     → ((y : ℕ) → y < q.size → member y row ≡ q.adj x y)
     → SettlingAt q root old frontier anchor → SettlingAt q root new frontier x
 evicted-now q root x anchor frontier row old mid new w o o' ev l lt first exact st =
     let n : ℕ = length old.shifts.items in
-    let rest : List ℕ = drop (n + 1) old.weak.items in
-    let head : pending old ≡ x ∷ rest = drop_more old.weak.items n 0 lt ∙ ap (λ k. k ∷ rest) first in
+    let rest : List ℕ = drop (n + 1) old.seen.weak.items in
+    let head : pending old ≡ x ∷ rest = drop_more old.seen.weak.items n 0 lt ∙ ap (λ k. k ∷ rest) first in
     let b =
     subst
     (λ (xs : List ℕ). InSettling q root (cands old) (waiting old) frontier (earlier_at old) (later_at old) old.shifts.items xs anchor)
@@ -199,9 +199,9 @@ evicted-now q root x anchor frontier row old mid new w o o' ev l lt first exact 
     let shifts : new.shifts.items ≡ old.shifts.items ++ (x, anchor) ∷ [] = l.shifts ∙ ev.shifts in
     let count : length new.shifts.items ≡ n + 1 = ap length shifts ∙ length_push old.shifts.items (x, anchor) in
     let more : List ℕ = l.more.0 in
-    let weak : new.weak.items ≡ old.weak.items ++ more = l.more.1 ∙ ap (λ xs. xs ++ more) ev.weak in
+    let weak : new.seen.weak.items ≡ old.seen.weak.items ++ more = l.more.1 ∙ ap (λ xs. xs ++ more) ev.weak in
     let pend : pending new ≡ rest ++ more =
-    ap (λ k. drop k new.weak.items) count ∙ (ap (drop (n + 1)) weak ∙ drop-append-le (n + 1) old.weak.items more (omega (arith, lt))) in
+    ap (λ k. drop k new.seen.weak.items) count ∙ (ap (drop (n + 1)) weak ∙ drop-append-le (n + 1) old.seen.weak.items more (omega (arith, lt))) in
     let x_cand : is_candidate old x ≡ true = sym (cands-has old o x) ∙ b.settling.listed x (member-head x rest) in
     let gone : is_candidate new x ≡ false = l.candidates x ∙ ap candidate_in ev.marks.here in
     let mid_cand : (y : ℕ) → y ≢ x → is_candidate mid y ≡ is_candidate old y = λ y ne. ap candidate_in (ev.marks.others y ne) in
@@ -242,18 +242,18 @@ evicted-now q root x anchor frontier row old mid new w o o' ev l lt first exact 
           (l.earlier y) (ap earlier_in (ev.marks.others y ne)) (exact y oy.here) behind;
     })
     (record {
-      distinct = Distinct-drop (length new.shifts.items) new.weak.items o'.weak_once;
+      distinct = Distinct-drop (length new.shifts.items) new.seen.weak.items o'.weak_once;
       kept = λ y m. ap (member y) pend ∙ member-append_left y rest more m;
       only = λ y m none.
           let added : member y more ≡ true =
           elim (member-append y rest more (sym (ap (member y) pend) ∙ m)) [ inl k ↦ absurd (true≢false (sym k ∙ none)) | inr k ↦ k ] in
-          let here : member y new.weak.items ≡ true = ap (member y) l.more.1 ∙ member-append_right y mid.weak.items more added in
-          let out : member y mid.weak.items ≡ false = distinct-apart y mid.weak.items more (subst Distinct l.more.1 o'.weak_once) added in
+          let here : member y new.seen.weak.items ≡ true = ap (member y) l.more.1 ∙ member-append_right y mid.seen.weak.items more added in
+          let out : member y mid.seen.weak.items ≡ false = distinct-apart y mid.seen.weak.items more (subst Distinct l.more.1 o'.weak_once) added in
           let k = l.only y here out in
           (cands-has new o' y ∙ (l.candidates y ∙ k.0), k.1);
       all_weak = λ y m a none.
           let k = was y m in
-          let out : member y new.weak.items ≡ false = false_from_ne_true _ (λ t. elim (take-or_drop (length new.shifts.items) new.weak.items y t) [
+          let out : member y new.seen.weak.items ≡ false = false_from_ne_true _ (λ t. elim (take-or_drop (length new.shifts.items) new.seen.weak.items y t) [
             | inl h ↦ elim (member-push_cases y x (firsts old.shifts.items) (sym (ap (member y) (sym o'.shifted
                 ∙ (ap firsts shifts ∙ firsts-push old.shifts.items x anchor))) ∙ h)) [
                   | inl f ↦ true≢false (sym (cands-has old o y ∙ k.1) ∙ b.shifts_fit.first_done y f)
@@ -275,11 +275,11 @@ evicted-now q root x anchor frontier row old mid new w o o' ev l lt first exact 
     }
 
 -- where nobody is too weak any more, the search is between two turns again
-pub settled-between : (q : Search) (root last : ℕ) (r : Rising) → IsOrderly r → length r.weak.items ≤ length r.shifts.items
+pub settled-between : (q : Search) (root last : ℕ) (r : Rising) → IsOrderly r → length r.seen.weak.items ≤ length r.shifts.items
     → IsSettling q root r last → IsBetweenTurns q root r
 settled-between q root last r o le st =
     let frontier : ℕ = st.0 in
-    let none : pending r ≡ [] = drop_all (length r.shifts.items) r.weak.items le in (
+    let none : pending r ≡ [] = drop_all (length r.shifts.items) r.seen.weak.items le in (
       frontier,
       record {
         lined = st.1.lined;
@@ -318,8 +318,8 @@ settled-now q root w mark row old mid new wide o o' lv plain l lt first exact we
     let shifts : new.shifts.items ≡ old.shifts.items = l.shifts ∙ lv.shifts in
     let more : List ℕ = l.more.0 in
     let pend : pending new ≡ more =
-    ap (λ k. drop k new.weak.items) (ap length shifts)
-    ∙ (ap (drop n) (l.more.1 ∙ ap (λ xs. xs ++ more) lv.weak) ∙ drop_at old.weak.items more n (sym at.calm)) in
+    ap (λ k. drop k new.seen.weak.items) (ap length shifts)
+    ∙ (ap (drop n) (l.more.1 ∙ ap (λ xs. xs ++ more) lv.weak) ∙ drop_at old.seen.weak.items more n (sym at.calm)) in
     let mid_cand : (y : ℕ) → is_candidate mid y ≡ is_candidate old y = λ y. elim (cases_eq y w) [
       | inl e ↦ ap (is_candidate mid) e ∙ (ap candidate_in lv.marks.here ∙ (plain ∙ sym (ap (is_candidate old) e ∙ w_none)))
       | inr ne ↦ ap candidate_in (lv.marks.others y ne)
@@ -343,17 +343,17 @@ settled-now q root w mark row old mid new wide o o' lv plain l lt first exact we
           (ap earlier_in (lv.marks.others y ne));
     })
     (record {
-      distinct = Distinct-drop (length new.shifts.items) new.weak.items o'.weak_once;
+      distinct = Distinct-drop (length new.shifts.items) new.seen.weak.items o'.weak_once;
       kept = λ y m. absurd (false≢true m);
       only = λ y m none.
           let added : member y more ≡ true = sym (ap (member y) pend) ∙ m in
-          let here : member y new.weak.items ≡ true = ap (member y) l.more.1 ∙ member-append_right y mid.weak.items more added in
-          let not_yet : member y mid.weak.items ≡ false = distinct-apart y mid.weak.items more (subst Distinct l.more.1 o'.weak_once) added in
+          let here : member y new.seen.weak.items ≡ true = ap (member y) l.more.1 ∙ member-append_right y mid.seen.weak.items more added in
+          let not_yet : member y mid.seen.weak.items ≡ false = distinct-apart y mid.seen.weak.items more (subst Distinct l.more.1 o'.weak_once) added in
           let k = l.only y here not_yet in
           (cands-has old o y ∙ (sym (mid_cand y) ∙ k.0), k.1);
       all_weak = λ y m a none.
           let k = was y m in
-          let missed : member y new.weak.items ≡ false = false_from_ne_true _ (λ t. elim (take-or_drop (length new.shifts.items) new.weak.items y t) [
+          let missed : member y new.seen.weak.items ≡ false = false_from_ne_true _ (λ t. elim (take-or_drop (length new.shifts.items) new.seen.weak.items y t) [
             | inl h ↦ true≢false (sym m ∙ b.shifts_fit.first_done y (sym (ap (member y) (sym o'.shifted ∙ ap firsts shifts)) ∙ h))
             | inr h ↦ true≢false (sym h ∙ none)
           ]) in

@@ -42,7 +42,7 @@ candidate_in-some (Some m) c = refl
 
 -- a candidate was queued
 pub cand-queued : (r : Rising) → IsOrderly r → (y : ℕ) → is_candidate r y ≡ true → member y r.queue.items ≡ true
-cand-queued r o y c = sym (o.marked y) ∙ candidate_in-some (value_of r.marks y) c
+cand-queued r o y c = sym (o.marked y) ∙ candidate_in-some (value_of r.seen.marks y) c
 
 -- where the second of two truths has the first with it, both are the second
 and-implied : (m p : Bool) → (p ≡ true → m ≡ true) → (m && p) ≡ p
@@ -59,10 +59,10 @@ length-take (suc n) [] = omega arith
 length-take (suc n) (x ∷ xs) = let k = length-take n xs in omega (arith, k)
 
 -- no more are shifted than are weak
-pub shifts-fit : (r : Rising) → IsOrderly r → length r.shifts.items ≤ length r.weak.items
+pub shifts-fit : (r : Rising) → IsOrderly r → length r.shifts.items ≤ length r.seen.weak.items
 shifts-fit r o =
-    let e : length (firsts r.shifts.items) ≡ length (take (length r.shifts.items) r.weak.items) = ap length o.shifted in
-    omega (arith, e, length-firsts r.shifts.items, length-take (length r.shifts.items) r.weak.items)
+    let e : length (firsts r.shifts.items) ≡ length (take (length r.shifts.items) r.seen.weak.items) = ap length o.shifted in
+    omega (arith, e, length-firsts r.shifts.items, length-take (length r.shifts.items) r.seen.weak.items)
 
 -- What changes at `y`, which is found too weak or not.
 record Lost (level : ℕ) (loss : Loss) (y : ℕ) (found : Bool) (old new : Rising) : Type 0 where
@@ -75,7 +75,7 @@ record Lost (level : ℕ) (loss : Loss) (y : ℕ) (found : Bool) (old new : Risi
   weak_here : is_weak new y ≡ (is_weak old y || found)
   was : found ≡ true → (is_candidate old y ≡ true) × (is_weak old y ≡ false) × (earlier_at new y + later_at new y ≤ level)
   missed : found ≡ false → is_candidate old y ≡ true → is_weak old y ≡ false → level < earlier_at new y + later_at new y
-  weak : new.weak.items ≡ cond found (old.weak.items ++ y ∷ []) old.weak.items
+  weak : new.seen.weak.items ≡ cond found (old.seen.weak.items ++ y ∷ []) old.seen.weak.items
   queue : new.queue.items ≡ old.queue.items
   turn : new.turn ≡ old.turn
   shifts : new.shifts.items ≡ old.shifts.items
@@ -121,7 +121,7 @@ kept-weak (Evicted turn) m =
     [ true ↦ refl | false ↦ refl ]
 
 -- the earlier count of a mark that loses is less by one where it loses an earlier one
-taken-earlier : (loss : Loss) (r : Rising) (y : ℕ) (m : Mark) → value_of r.marks y ≡ Some m
+taken-earlier : (loss : Loss) (r : Rising) (y : ℕ) (m : Mark) → value_of r.seen.marks y ≡ Some m
     → (taken_from loss m).earlier ≡ m.earlier - cond (loses_earlier loss r y) 1 0
 taken-earlier Settled r y m is = omega arith
 taken-earlier (Evicted turn) r y m is =
@@ -131,7 +131,7 @@ taken-earlier (Evicted turn) r y m is =
     [ true ↦ omega arith | false ↦ refl ])
 
 -- the later count of a mark that loses is less by one where it loses a later one
-taken-later : (loss : Loss) (r : Rising) (y : ℕ) (m : Mark) → value_of r.marks y ≡ Some m
+taken-later : (loss : Loss) (r : Rising) (y : ℕ) (m : Mark) → value_of r.seen.marks y ≡ Some m
     → (taken_from loss m).later ≡ m.later - cond (loses_later loss r y) 1 0
 taken-later Settled r y m is = rw is refl
 taken-later (Evicted turn) r y m is =
@@ -158,7 +158,7 @@ found-no : (w c : Bool) (a b : ℕ) → (not w && (c && leb a b)) ≡ false → 
 found-no w c a b h hc hw = grind arith
 
 -- a vertex without a mark loses nothing
-lost-unmarked : (level : ℕ) (loss : Loss) (y : ℕ) (old : Rising) → value_of old.marks y ≡ None → Lost level loss y false old old
+lost-unmarked : (level : ℕ) (loss : Loss) (y : ℕ) (old : Rising) → value_of old.seen.marks y ≡ None → Lost level loss y false old old
 lost-unmarked level loss y old none = record {
   queued = λ z. refl;
   candidates = λ z. refl;
@@ -186,11 +186,12 @@ lost-unmarked level loss y old none = record {
 }
 
 -- a vertex with a mark loses, and is found weak where its counts are then up to the level
-lost-marked : (level : ℕ) (loss : Loss) (y : ℕ) (m : Mark) (old new : Rising) → value_of old.marks y ≡ Some m → Recounts level y (taken_from loss m) old new
+lost-marked : (level : ℕ) (loss : Loss) (y : ℕ) (m : Mark) (old new : Rising) → value_of old.seen.marks y ≡ Some m
+    → Recounts level y (taken_from loss m) old new
     → Lost level loss y (not m.is_weak && (m.is_candidate && leb ((taken_from loss m).earlier + (taken_from loss m).later) level)) old new
 lost-marked level loss y m old new is r =
     let m' : Mark = taken_from loss m in
-    let here : value_of new.marks y ≡ Some (recounted level m') = r.marks.here in
+    let here : value_of new.seen.marks y ≡ Some (recounted level m') = r.marks.here in
     let sum : earlier_at new y + later_at new y ≡ m'.earlier + m'.later = ap (λ (o : Option Mark). earlier_in o + later_in o) here in
     let c' : m'.is_candidate ≡ m.is_candidate = kept-candidate loss m in
     let w' : m'.is_weak ≡ m.is_weak = kept-weak loss m in
@@ -258,10 +259,10 @@ lost-marked level loss y m old new is r =
       weak =
           r.weak
           ∙
-          (ap (λ b. grown b (b || (m'.is_candidate && low)) y old.weak.items) w'
+          (ap (λ b. grown b (b || (m'.is_candidate && low)) y old.seen.weak.items) w'
           ∙
-          (ap (λ b. grown m.is_weak (m.is_weak || (b && low)) y old.weak.items) c'
-          ∙ grown-found m.is_weak (m.is_candidate && low) y old.weak.items));
+          (ap (λ b. grown m.is_weak (m.is_weak || (b && low)) y old.seen.weak.items) c'
+          ∙ grown-found m.is_weak (m.is_candidate && low) y old.seen.weak.items));
       queue = r.queue;
       turn = r.turn;
       shifts = r.shifts;
@@ -269,7 +270,7 @@ lost-marked level loss y m old new is r =
 
 -- a vertex loses, and is found weak or not, whether it has a mark or none
 vertex-loses : (level : ℕ) (loss : Loss) (y : ℕ) (old new : Rising) → LosesOne level loss y old new → (found : Bool) × Lost level loss y found old new
-vertex-loses level loss y old new l = elim (cases_mark (value_of old.marks y)) [
+vertex-loses level loss y old new l = elim (cases_mark (value_of old.seen.marks y)) [
   | inl none ↦ (false, subst (Lost level loss y false old) (sym (l.unmarked none)) (lost-unmarked level loss y old none))
   | inr some ↦ (_, lost-marked level loss y some.0 old new some.1 (l.marked some.0 some.1))
 ]
@@ -304,16 +305,16 @@ loses-one level loss y old new o l =
       later = k.later;
       turns = k.turns;
       candidates = k.candidates;
-      more = grown-more found y old.weak.items new.weak.items k.weak;
-      only = λ z m none. elim (grown-cases found y z old.weak.items new.weak.items k.weak m) [
+      more = grown-more found y old.seen.weak.items new.seen.weak.items k.weak;
+      only = λ z m none. elim (grown-cases found y z old.seen.weak.items new.seen.weak.items k.weak m) [
         | inl h ↦ absurd (true≢false (sym h ∙ none))
         | inr h ↦ let w = k.was h.1 in (ap (is_candidate old) h.0 ∙ w.0, omega (arith, w.2, ap (earlier_at new) h.0, ap (later_at new) h.0))
       ];
       all_weak = λ z m c none. elim (member-cases z y [] m) [
         | inl e ↦
-            let none' : (member y old.weak.items || found) ≡ false =
-            sym (grown-here found y old.weak.items new.weak.items k.weak) ∙ (ap (λ n. member n new.weak.items) (sym e) ∙ none) in
-            let out : member y old.weak.items ≡ false = grind (arith, none') in
+            let none' : (member y old.seen.weak.items || found) ≡ false =
+            sym (grown-here found y old.seen.weak.items new.seen.weak.items k.weak) ∙ (ap (λ n. member n new.seen.weak.items) (sym e) ∙ none) in
+            let out : member y old.seen.weak.items ≡ false = grind (arith, none') in
             let missed : found ≡ false = grind (arith, none') in
             let h = k.missed missed (ap (is_candidate old) (sym e) ∙ c) (o.weak_marked y ∙ out) in
             omega (arith, h, ap (earlier_at new) e, ap (later_at new) e)
@@ -338,7 +339,7 @@ lose-orderly level loss y old new o l =
             omega (arith, t.0, k.turns z, k.turn),
             ap (λ xs. get_or xs (turn_at new z) 0) k.queue ∙ (ap (λ n. get_or old.queue.items n 0) (k.turns z) ∙ t.1),
           );
-      weak_once = grown-distinct found y old.weak.items new.weak.items k.weak o.weak_once (λ f. sym (o.weak_marked y) ∙ (k.was f).1);
+      weak_once = grown-distinct found y old.seen.weak.items new.seen.weak.items k.weak o.weak_once (λ f. sym (o.weak_marked y) ∙ (k.was f).1);
       weak_marked = λ z. elim (cases_eq z y) [
         | inl e ↦
             ap (is_weak new) e
@@ -346,21 +347,21 @@ lose-orderly level loss y old new o l =
             (k.weak_here
             ∙
             (ap (λ b. b || found) (o.weak_marked y)
-            ∙ (sym (grown-here found y old.weak.items new.weak.items k.weak) ∙ ap (λ n. member n new.weak.items) (sym e))))
-        | inr ne ↦ k.weak_others z ne ∙ (o.weak_marked z ∙ sym (member-grown_other found y z old.weak.items new.weak.items k.weak ne))
+            ∙ (sym (grown-here found y old.seen.weak.items new.seen.weak.items k.weak) ∙ ap (λ n. member n new.seen.weak.items) (sym e))))
+        | inr ne ↦ k.weak_others z ne ∙ (o.weak_marked z ∙ sym (member-grown_other found y z old.seen.weak.items new.seen.weak.items k.weak ne))
       ];
-      weak_left = λ z m. ap (member z) same_left ∙ elim (grown-cases found y z old.weak.items new.weak.items k.weak m) [
+      weak_left = λ z m. ap (member z) same_left ∙ elim (grown-cases found y z old.seen.weak.items new.seen.weak.items k.weak m) [
         | inl h ↦ o.weak_left z h
         | inr h ↦ cand-left old o z (ap (is_candidate old) h.0 ∙ (k.was h.1).0)
       ];
       shifted =
-          let (more, e) = grown-more found y old.weak.items new.weak.items k.weak in
+          let (more, e) = grown-more found y old.seen.weak.items new.seen.weak.items k.weak in
           ap firsts k.shifts
           ∙
           (o.shifted
           ∙
-          (sym (take-append-le (length old.shifts.items) old.weak.items more (shifts-fit old o))
-          ∙ (ap (take (length old.shifts.items)) (sym e) ∙ ap (λ xs. take (length xs) new.weak.items) (sym k.shifts))));
+          (sym (take-append-le (length old.shifts.items) old.seen.weak.items more (shifts-fit old o))
+          ∙ (ap (take (length old.shifts.items)) (sym e) ∙ ap (λ xs. take (length xs) new.seen.weak.items) (sym k.shifts))));
       anchored = λ z m. ap (member z) same_left ∙ o.anchored z (sym (ap (λ xs. member z (seconds xs)) k.shifts) ∙ m);
     }
 
@@ -371,7 +372,7 @@ loses-none level loss r = record {
   later = λ z. omega arith;
   turns = λ z. refl;
   candidates = λ z. refl;
-  more = ([], sym (append-nil r.weak.items));
+  more = ([], sym (append-nil r.seen.weak.items));
   only = λ z m none. absurd (true≢false (sym m ∙ none));
   all_weak = λ z m. absurd (false≢true m);
   queue = refl;
@@ -405,8 +406,8 @@ pub loses-more : (level : ℕ) (loss : Loss) (y : ℕ) (ws : List ℕ) (old mid 
     → Loses level loss (y ∷ []) mid new → member y ws ≡ false → Loses level loss (ws ++ y ∷ []) old new
 loses-more level loss y ws old mid new d e new' =
     let apart : (z : ℕ) → eqb z y ≡ true → member z ws ≡ false = λ z q. ap (λ n. member n ws) (eqb-true z y q) ∙ new' in
-    let grows : (z : ℕ) → member z mid.weak.items ≡ true → member z new.weak.items ≡ true =
-    λ z m. ap (member z) e.more.1 ∙ member-append_left z mid.weak.items e.more.0 m in
+    let grows : (z : ℕ) → member z mid.seen.weak.items ≡ true → member z new.seen.weak.items ≡ true =
+    λ z m. ap (member z) e.more.1 ∙ member-append_left z mid.seen.weak.items e.more.0 m in
     record {
       earlier =
           λ z.
@@ -420,8 +421,8 @@ loses-more level loss y ws old mid new d e new' =
           (d.later z) (e.later z) (same-loses_later loss old mid z (d.candidates z) (d.turns z)) (member-push z y ws) (apart z);
       turns = λ z. e.turns z ∙ d.turns z;
       candidates = λ z. e.candidates z ∙ d.candidates z;
-      more = (d.more.0 ++ e.more.0, e.more.1 ∙ (ap (λ xs. xs ++ e.more.0) d.more.1 ∙ append_assoc old.weak.items d.more.0 e.more.0));
-      only = λ z m none. elim (cases_Bool (member z mid.weak.items)) [
+      more = (d.more.0 ++ e.more.0, e.more.1 ∙ (ap (λ xs. xs ++ e.more.0) d.more.1 ∙ append_assoc old.seen.weak.items d.more.0 e.more.0));
+      only = λ z m none. elim (cases_Bool (member z mid.seen.weak.items)) [
         | inl k ↦
             let q = d.only z k none in
             let a = e.earlier z in
@@ -433,7 +434,7 @@ loses-more level loss y ws old mid new d e new' =
         | inl k ↦
             let ne : z ≢ y = λ q. true≢false (sym k ∙ apart z (eq-eqb z y q)) in
             let n : eqb z y ≡ false = ne_eqb z y ne in
-            let none' : member z mid.weak.items ≡ false = false_from_ne_true _ (λ t. true≢false (sym (grows z t) ∙ none)) in
+            let none' : member z mid.seen.weak.items ≡ false = false_from_ne_true _ (λ t. true≢false (sym (grows z t) ∙ none)) in
             let a : earlier_at new z ≡ earlier_at mid z = kept_one (earlier_at new z) (earlier_at mid z) (eqb z y) (loses_earlier loss mid z) (e.earlier z) n in
             let b : later_at new z ≡ later_at mid z = kept_one (later_at new z) (later_at mid z) (eqb z y) (loses_later loss mid z) (e.later z) n in
             omega (arith, d.all_weak z k c none', a, b)

@@ -15,9 +15,10 @@ use Rattle.kc_cert.specs.Ranks.{AscendsBy}
 use Rattle.kc_view.specs.Answers.{has_core}
 use Rattle.kc_view.specs.Views.{Shown}
 use Rattle.kc_hash.specs.Maps.{value_of}
+use Rattle.kc_hash.specs.Seen.{MarksOne}
 use Rattle.kc_insert.specs.Marks.{earlier_in, later_in, turn_in, candidate_in, weak_in}
 use Rattle.kc_insert.specs.Rising.{is_queued, earlier_at, later_at, turn_at, is_candidate, is_weak, left, IsOrderly, IsTidyRising}
-use Rattle.kc_insert.specs.Turns.{MarksOne, Passes, PassedOn, IsPlaceWithin}
+use Rattle.kc_insert.specs.Turns.{Passes, PassedOn, IsPlaceWithin}
 use Rattle.kc_insert.specs.declared.rising.Mark.{Mark}
 use Rattle.kc_insert.specs.declared.rising.Rising.{Rising}
 use Rattle.kc_insert.proofs.Queues.{Ascends-at, inserted-has, inserted-once, inserted-front, inserted-ascends}
@@ -157,7 +158,7 @@ passes-orderly x old new o p =
       weak_left = λ z m. ap (member z) stay ∙ o.weak_left z (sym (ap (member z) p.weak) ∙ m);
       shifted =
           ap firsts p.shifts
-          ∙ (o.shifted ∙ sym (ap (λ xs. take (length new.shifts.items) xs) p.weak ∙ ap (λ xs. take (length xs) old.weak.items) p.shifts));
+          ∙ (o.shifted ∙ sym (ap (λ xs. take (length new.shifts.items) xs) p.weak ∙ ap (λ xs. take (length xs) old.seen.weak.items) p.shifts));
       anchored = λ z m. ap (member z) stay ∙ o.anchored z (sym (ap (λ xs. member z (seconds xs)) p.shifts) ∙ m);
     }
 
@@ -238,10 +239,10 @@ passes-ascends rank x place queue new e out le p apart up =
     (λ z m k. true≢false (sym m ∙ (ap (λ n. member n queue) (apart z m k) ∙ out))))
 
 -- a vertex that was never queued gets its first candidate before it where it is queued
-pub enqueued-passes : (x place : ℕ) (old new : Rising) → value_of old.marks x ≡ None
-    → MarksOne x (record { earlier = 1; later = 0; turn = 0; is_candidate = false; is_weak = false }) old new
+pub enqueued-passes : (x place : ℕ) (old new : Rising) → value_of old.seen.marks x ≡ None
+    → MarksOne x (record { earlier = 1; later = 0; turn = 0; is_candidate = false; is_weak = false }) old.seen new.seen
     → new.queue.items ≡ insert old.queue.items place x
-    → (new.turn ≡ old.turn) × (new.weak.items ≡ old.weak.items) × (new.shifts.items ≡ old.shifts.items) → old.turn ≤ place
+    → (new.turn ≡ old.turn) × (new.seen.weak.items ≡ old.seen.weak.items) × (new.shifts.items ≡ old.shifts.items) → old.turn ≤ place
     → place ≤ length old.queue.items → Passes x old new
 enqueued-passes x place old new none marks queue rest from le = record {
   marks = record {

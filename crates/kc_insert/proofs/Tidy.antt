@@ -105,8 +105,8 @@ pub left-queued : (r : Rising) (z : ℕ) → member z (left r) ≡ true → memb
 left-queued r z m = take-member r.turn r.queue.items z m
 
 -- no more are weak than there are vertices
-pub weak-fits : (update : Update) (shown : Shown) (r : Rising) → IsTidyRising update shown r → length r.weak.items ≤ shown.size
-weak-fits update shown r t = below_bound shown.size r.weak.items t.orderly.weak_once (λ x m. t.within x (left-queued r x (t.orderly.weak_left x m)))
+pub weak-fits : (update : Update) (shown : Shown) (r : Rising) → IsTidyRising update shown r → length r.seen.weak.items ≤ shown.size
+weak-fits update shown r t = below_bound shown.size r.seen.weak.items t.orderly.weak_once (λ x m. t.within x (left-queued r x (t.orderly.weak_left x m)))
 
 -- the first of those that wait leaves the queue
 pub left-more : (w : ℕ) (mark : Mark) (old new : Rising) → Leaves w mark old new → old.turn < length old.queue.items
@@ -152,14 +152,14 @@ leave-orderly w mark old new o l lt first turn none =
       weak_once = subst Distinct (sym l.weak) o.weak_once;
       weak_marked = λ z. elim (cases_eq z w) [
         | inl e ↦
-            let absent : member w old.weak.items ≡ false = false_from_ne_true _ (λ m. true≢false (sym (o.weak_left w m) ∙ out)) in
-            ap (is_weak new) e ∙ (ap weak_in l.marks.here ∙ (none ∙ sym (ap (member z) l.weak ∙ (ap (λ y. member y old.weak.items) e ∙ absent))))
+            let absent : member w old.seen.weak.items ≡ false = false_from_ne_true _ (λ m. true≢false (sym (o.weak_left w m) ∙ out)) in
+            ap (is_weak new) e ∙ (ap weak_in l.marks.here ∙ (none ∙ sym (ap (member z) l.weak ∙ (ap (λ y. member y old.seen.weak.items) e ∙ absent))))
         | inr ne ↦ ap weak_in (l.marks.others z ne) ∙ (o.weak_marked z ∙ sym (ap (member z) l.weak))
       ];
       weak_left = λ z m. grows z (o.weak_left z (sym (ap (member z) l.weak) ∙ m));
       shifted =
           ap firsts l.shifts
-          ∙ (o.shifted ∙ sym (ap (λ xs. take (length new.shifts.items) xs) l.weak ∙ ap (λ xs. take (length xs) old.weak.items) l.shifts));
+          ∙ (o.shifted ∙ sym (ap (λ xs. take (length new.shifts.items) xs) l.weak ∙ ap (λ xs. take (length xs) old.seen.weak.items) l.shifts));
       anchored = λ z m. grows z (o.anchored z (sym (ap (λ xs. member z (seconds xs)) l.shifts) ∙ m));
     }
 

@@ -13,27 +13,27 @@ use Rattle.kc_insert.specs.declared.rising.Rising.{Rising}
 
 -- whether `y` was ever queued
 abbrev pub is_queued : Rising → ℕ → Bool
-is_queued r y = is_some (value_of r.marks y)
+is_queued r y = is_some (value_of r.seen.marks y)
 
 -- how many neighbours of `y` are candidates that stand before it, as its mark says
 abbrev pub earlier_at : Rising → ℕ → ℕ
-earlier_at r y = earlier_in (value_of r.marks y)
+earlier_at r y = earlier_in (value_of r.seen.marks y)
 
 -- how many neighbours of `y` are higher, or stand behind it and may still rise, as its mark says
 abbrev pub later_at : Rising → ℕ → ℕ
-later_at r y = later_in (value_of r.marks y)
+later_at r y = later_in (value_of r.seen.marks y)
 
 -- the place of `y` in the queue, as its mark says
 abbrev pub turn_at : Rising → ℕ → ℕ
-turn_at r y = turn_in (value_of r.marks y)
+turn_at r y = turn_in (value_of r.seen.marks y)
 
 -- whether `y` may rise, as its mark says
 abbrev pub is_candidate : Rising → ℕ → Bool
-is_candidate r y = candidate_in (value_of r.marks y)
+is_candidate r y = candidate_in (value_of r.seen.marks y)
 
 -- whether `y` was found too weak to rise
 abbrev pub is_weak : Rising → ℕ → Bool
-is_weak r y = weak_in (value_of r.marks y)
+is_weak r y = weak_in (value_of r.seen.marks y)
 
 -- the candidates, in the order of the queue
 abbrev pub cands : Rising → List ℕ
@@ -49,7 +49,7 @@ waiting r = drop r.turn r.queue.items
 
 -- those that are too weak and not evicted yet
 abbrev pub pending : Rising → List ℕ
-pending r = drop (length r.shifts.items) r.weak.items
+pending r = drop (length r.shifts.items) r.seen.weak.items
 
 -- what holds whatever was answered
 pub record IsOrderly (r : Rising) : Type 0 where
@@ -58,11 +58,11 @@ pub record IsOrderly (r : Rising) : Type 0 where
   pub turn_in : r.turn ≤ length r.queue.items
   -- a candidate has left the queue, and its turn is its place there
   pub turned : (z : ℕ) → is_candidate r z ≡ true → (turn_at r z < r.turn) × (slice_index r.queue.items (turn_at r z) ≡ z)
-  pub weak_once : Distinct r.weak.items
-  pub weak_marked : (z : ℕ) → is_weak r z ≡ member z r.weak.items
-  pub weak_left : (z : ℕ) → member z r.weak.items ≡ true → member z (left r) ≡ true
+  pub weak_once : Distinct r.seen.weak.items
+  pub weak_marked : (z : ℕ) → is_weak r z ≡ member z r.seen.weak.items
+  pub weak_left : (z : ℕ) → member z r.seen.weak.items ≡ true → member z (left r) ≡ true
   -- the weak are evicted in turn
-  pub shifted : firsts r.shifts.items ≡ take (length r.shifts.items) r.weak.items
+  pub shifted : firsts r.shifts.items ≡ take (length r.shifts.items) r.seen.weak.items
   pub anchored : (z : ℕ) → member z (seconds r.shifts.items) ≡ true → member z (left r) ≡ true
 
 -- what was asked: lists of the lesser end and of queued vertices alone, core numbers of the ends and of neighbours on such lists

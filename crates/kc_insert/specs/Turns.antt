@@ -6,6 +6,7 @@ use Rattle.kc_distinct.specs.Lists.{member}
 use Rattle.kc_cert.specs.Ranks.{AscendsBy}
 use Rattle.kc_view.specs.Search.{Search, on_level, above, after, OnLevel, Forward}
 use Rattle.kc_hash.specs.Maps.{value_of}
+use Rattle.kc_hash.specs.Seen.{MarksOne}
 use Rattle.kc_insert.specs.Rising.{is_queued, earlier_at, later_at, turn_at, is_candidate, is_weak, cands, left, waiting, pending}
 use Rattle.kc_insert.specs.Searching.{ahead, BetweenTurns, InSettling}
 use Rattle.kc_insert.specs.declared.losing.Loss.{Loss}
@@ -18,24 +19,19 @@ use Rattle.kc_insert.specs.declared.rising.Rising.{Rising}
 
 -- only the root is queued
 pub record Begins (root : ℕ) (r : Rising) : Type 0 where
-  pub here : value_of r.marks root ≡ Some (record { earlier = 0; later = 0; turn = 0; is_candidate = false; is_weak = false })
-  pub others : (z : ℕ) → z ≢ root → value_of r.marks z ≡ None
+  pub here : value_of r.seen.marks root ≡ Some (record { earlier = 0; later = 0; turn = 0; is_candidate = false; is_weak = false })
+  pub others : (z : ℕ) → z ≢ root → value_of r.seen.marks z ≡ None
   pub queue : r.queue.items ≡ root ∷ []
   pub turn : r.turn ≡ 0
-  pub weak : r.weak.items ≡ []
+  pub weak : r.seen.weak.items ≡ []
   pub shifts : r.shifts.items ≡ []
-
--- one vertex is marked so
-pub record MarksOne (y : ℕ) (mark : Mark) (old new : Rising) : Type 0 where
-  pub here : value_of new.marks y ≡ Some mark
-  pub others : (z : ℕ) → z ≢ y → value_of new.marks z ≡ value_of old.marks z
 
 -- `w`, which is first of those that wait, leaves the queue
 pub record Leaves (w : ℕ) (mark : Mark) (old new : Rising) : Type 0 where
-  pub marks : MarksOne w mark old new
+  pub marks : MarksOne w mark old.seen new.seen
   pub queue : new.queue.items ≡ old.queue.items
   pub turn : new.turn ≡ old.turn + 1
-  pub weak : new.weak.items ≡ old.weak.items
+  pub weak : new.seen.weak.items ≡ old.seen.weak.items
   pub shifts : new.shifts.items ≡ old.shifts.items
 
 -- the mark of `x` with one candidate more before it
@@ -51,12 +47,12 @@ passed_mark r x =
 
 -- `x` has one candidate more before it, and is queued if it never was
 pub record Passes (x : ℕ) (old new : Rising) : Type 0 where
-  pub marks : MarksOne x (passed_mark old x) old new
+  pub marks : MarksOne x (passed_mark old x) old.seen new.seen
   pub kept : is_queued old x ≡ true → new.queue.items ≡ old.queue.items
   pub queued : is_queued old x ≡ false
       → (place : ℕ) × (old.turn ≤ place) × (place ≤ length old.queue.items) × (new.queue.items ≡ insert old.queue.items place x)
   pub turn : new.turn ≡ old.turn
-  pub weak : new.weak.items ≡ old.weak.items
+  pub weak : new.seen.weak.items ≡ old.seen.weak.items
   pub shifts : new.shifts.items ≡ old.shifts.items
 
 -- each of `xs` has one candidate more before it, and is queued
@@ -67,7 +63,7 @@ pub record PassedOn (xs : List ℕ) (old new : Rising) : Type 0 where
   pub queue : (z : ℕ) → member z new.queue.items ≡ (member z old.queue.items || member z xs)
   pub same_left : left new ≡ left old
   pub turn : new.turn ≡ old.turn
-  pub weak : new.weak.items ≡ old.weak.items
+  pub weak : new.seen.weak.items ≡ old.seen.weak.items
   pub shifts : new.shifts.items ≡ old.shifts.items
 
 -- whether `y` is a candidate that left the queue before the turn
@@ -101,16 +97,16 @@ grown was is y weak = if was then weak else if is then weak ++ y ∷ [] else wea
 
 -- `y` has these counts now
 pub record Recounts (level y : ℕ) (mark : Mark) (old new : Rising) : Type 0 where
-  pub marks : MarksOne y (recounted level mark) old new
-  pub weak : new.weak.items ≡ grown mark.is_weak (recounted level mark).is_weak y old.weak.items
+  pub marks : MarksOne y (recounted level mark) old.seen new.seen
+  pub weak : new.seen.weak.items ≡ grown mark.is_weak (recounted level mark).is_weak y old.seen.weak.items
   pub queue : new.queue.items ≡ old.queue.items
   pub turn : new.turn ≡ old.turn
   pub shifts : new.shifts.items ≡ old.shifts.items
 
 -- a neighbour of `y` will not rise
 pub record LosesOne (level : ℕ) (loss : Loss) (y : ℕ) (old new : Rising) : Type 0 where
-  pub marked : (mark : Mark) → value_of old.marks y ≡ Some mark → Recounts level y (taken_from loss mark) old new
-  pub unmarked : value_of old.marks y ≡ None → new ≡ old
+  pub marked : (mark : Mark) → value_of old.seen.marks y ≡ Some mark → Recounts level y (taken_from loss mark) old new
+  pub unmarked : value_of old.seen.marks y ≡ None → new ≡ old
 
 -- a neighbour of each of `ys` will not rise
 pub record Loses (level : ℕ) (loss : Loss) (ys : List ℕ) (old new : Rising) : Type 0 where
@@ -118,21 +114,21 @@ pub record Loses (level : ℕ) (loss : Loss) (ys : List ℕ) (old new : Rising) 
   pub later : (z : ℕ) → later_at new z ≡ later_at old z - (if member z ys && loses_later loss old z then 1 else 0)
   pub turns : (z : ℕ) → turn_at new z ≡ turn_at old z
   pub candidates : (z : ℕ) → is_candidate new z ≡ is_candidate old z
-  pub more : (more : List ℕ) × (new.weak.items ≡ old.weak.items ++ more)
+  pub more : (more : List ℕ) × (new.seen.weak.items ≡ old.seen.weak.items ++ more)
   -- who is found too weak is so, and whoever is so is found
-  pub only : (z : ℕ) → member z new.weak.items ≡ true → member z old.weak.items ≡ false
+  pub only : (z : ℕ) → member z new.seen.weak.items ≡ true → member z old.seen.weak.items ≡ false
       → (is_candidate old z ≡ true) × (earlier_at new z + later_at new z ≤ level)
-  pub all_weak : (z : ℕ) → member z ys ≡ true → is_candidate old z ≡ true → member z new.weak.items ≡ false → level < earlier_at new z + later_at new z
+  pub all_weak : (z : ℕ) → member z ys ≡ true → is_candidate old z ≡ true → member z new.seen.weak.items ≡ false → level < earlier_at new z + later_at new z
   pub queue : new.queue.items ≡ old.queue.items
   pub turn : new.turn ≡ old.turn
   pub shifts : new.shifts.items ≡ old.shifts.items
 
 -- `x` is no candidate any more, and is put behind `anchor`
 pub record Evicts (x anchor : ℕ) (old new : Rising) : Type 0 where
-  pub marks : MarksOne x (record { earlier = 0; later = 0; turn = turn_at old x; is_candidate = false; is_weak = true }) old new
+  pub marks : MarksOne x (record { earlier = 0; later = 0; turn = turn_at old x; is_candidate = false; is_weak = true }) old.seen new.seen
   pub queue : new.queue.items ≡ old.queue.items
   pub turn : new.turn ≡ old.turn
-  pub weak : new.weak.items ≡ old.weak.items
+  pub weak : new.seen.weak.items ≡ old.seen.weak.items
   pub shifts : new.shifts.items ≡ old.shifts.items ++ (x, anchor) ∷ []
 
 -- where a neighbour stands, as seen from `w`
@@ -177,7 +173,7 @@ pub record LinedUp (s : Search) (root : ℕ) (r : Rising) (frontier : ℕ) : Typ
 pub record BetweenAt (s : Search) (root : ℕ) (r : Rising) (frontier : ℕ) : Type 0 where
   pub lined : LinedUp s root r frontier
   pub turns : BetweenTurns s root (cands r) (waiting r) frontier (earlier_at r) (later_at r) r.shifts.items
-  pub calm : length r.shifts.items ≡ length r.weak.items
+  pub calm : length r.shifts.items ≡ length r.seen.weak.items
 
 -- the search is between two turns, and some frontier parts those that have left the queue from those that wait
 abbrev pub IsBetweenTurns : Search → ℕ → Rising → Type 0

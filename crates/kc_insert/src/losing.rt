@@ -2,8 +2,9 @@
 ghost use Rattle.std.specs.Prelude.{◌≡◌, ◌&&◌, not, false, Some, None, OnOk};
 ghost use Rattle.kc_distinct.specs.Lists.{Distinct};
 ghost use Rattle.kc_hash.specs.Maps.{value_of};
+ghost use Rattle.kc_hash.specs.Seen.{MarksOne};
 ghost use Rattle.kc_insert.specs.Rising.{IsOrderly};
-ghost use Rattle.kc_insert.specs.Turns.{taken_from, recounted, MarksOne, LosesOne, Loses};
+ghost use Rattle.kc_insert.specs.Turns.{taken_from, recounted, LosesOne, Loses};
 ghost use Rattle.kc_insert.specs.declared.rising.Mark.{Mark};
 
 use crate::rising::{Mark, Rising};
@@ -44,13 +45,14 @@ impl Loss {
 impl Rising {
     /// The mark of the neighbour `y`, if it was ever queued, loses what it loses. Whether `y` is too weak by that comes back.
     fn weaken(&mut self, y: u32, loss: Loss, level: u32) -> bool
-        ensures marked { (mark : Mark) → value_of self.old.marks y ≡ Some mark → MarksOne y (recounted level (taken_from loss mark)) self.old self.new
+        ensures marked { (mark : Mark) → value_of self.old.seen.marks y ≡ Some mark
+            → MarksOne y (recounted level (taken_from loss mark)) self.old.seen self.new.seen
             × (result ≡ (not (taken_from loss mark).is_weak && (recounted level (taken_from loss mark)).is_weak)) }
-        ensures unmarked { value_of self.old.marks y ≡ None → (self.new ≡ self.old) × (result ≡ false) }
+        ensures unmarked { value_of self.old.seen.marks y ≡ None → (self.new ≡ self.old) × (result ≡ false) }
         ensures rest { (self.new.queue.items ≡ self.old.queue.items) × (self.new.turn ≡ self.old.turn)
-            × (self.new.weak.items ≡ self.old.weak.items) × (self.new.shifts.items ≡ self.old.shifts.items) }
+            × (self.new.seen.weak.items ≡ self.old.seen.weak.items) × (self.new.shifts.items ≡ self.old.shifts.items) }
     {
-        let Some(mark) = self.marks.get_mut(&y) else {
+        let Some(mark) = self.seen.marks.get_mut(&y) else {
             return false;
         };
         let taken = loss.taken_from(*mark);
@@ -67,7 +69,7 @@ impl Rising {
         ensures { OnOk result (LosesOne level loss y self.old self.new) }
     {
         if self.weaken(y, loss, level) {
-            self.weak.push(y)?;
+            self.seen.add_weak(y)?;
         }
         Ok(())
     }

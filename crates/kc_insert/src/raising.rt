@@ -56,7 +56,7 @@ impl Rising {
         ensures ascends { OnOk result ((s : Ranked) → Agrees (V.shown view.new).kept s → StandsBehindLeft (rank_in s.order) self.old [] x
             → AscendsBy (rank_in s.order) self.old.queue.items → AscendsBy (rank_in s.order) self.new.queue.items) }
     {
-        let Some(mark) = self.find(x) else {
+        let Some(mark) = self.seen.find(x) else {
             let place = self.place_of(view, x)?;
             self.enqueue(x, place)?;
             return Ok(());

@@ -1,15 +1,13 @@
 //! The vertices that were queued, the candidates among them, and the moves of those that were evicted.
 ghost use Rattle.std.specs.Prelude.{◌≡◌, ◌<◌, ◌≤◌, ◌+◌, ◌-◌, ◌^◌, ◌&&◌, min, nat_le, true, false, IfOk, OnOk, length};
 ghost use Rattle.std.specs.List.{insert};
-ghost use Rattle.kc_hash.specs.Maps.{value_of};
+ghost use Rattle.kc_hash.specs.Seen.{MarksOne};
 ghost use Rattle.kc_insert.specs.Rising.{is_candidate, cands, earlier_at, turn_at};
-ghost use Rattle.kc_insert.specs.Turns.{Begins, MarksOne, Leaves, Evicts};
+ghost use Rattle.kc_insert.specs.Turns.{Begins, Leaves, Evicts};
 
 use kc_graph::NoMemory;
-use kc_hash::VertexHasher;
+use kc_hash::Seen;
 use std::alloc::Global;
-use std::collections::HashMap;
-use std::hash::BuildHasherDefault;
 
 /// What is known of a vertex that was queued.
 #[derive(Clone, Copy, Debug, Drop)]
@@ -29,14 +27,13 @@ pub(crate) struct Mark {
 /// How far a search for the vertices that rise has come.
 #[derive(Drop)]
 pub(crate) struct Rising {
-    pub marks: HashMap<u32, Mark, BuildHasherDefault<VertexHasher>>,
+    /// The mark of each vertex that was ever queued, and the candidates that were found too weak.
+    pub seen: Seen<Mark>,
     /// All that were ever queued, in the order of the view.
     pub queue: Vec<u32>,
     /// How many of them have left.
     pub turn: usize,
-    /// The candidates that were found too weak, in the order in which they were.
-    pub weak: Vec<u32>,
-    /// For each of these that was evicted, itself and the vertex behind which it is put.
+    /// For each of the weak that was evicted, itself and the vertex behind which it is put.
     pub shifts: Vec<(u32, u32)>,
 }
 
@@ -80,30 +77,22 @@ impl Rising {
     pub fn start(alloc: Global, root: u32) -> Result<Rising, NoMemory>
         ensures { IfOk result (λ rising. Begins root rising) }
     {
-        let mut marks = HashMap::with_hasher(alloc, BuildHasherDefault::new());
-        marks.insert(root, Mark::past())?;
+        let mut seen = Seen::new(alloc);
+        seen.mark(root, Mark::past())?;
         let queue = vec![in alloc; root]?;
         Ok(Rising {
-            marks,
+            seen,
             queue,
             turn: 0,
-            weak: Vec::new(alloc),
             shifts: Vec::new(alloc),
         })
-    }
-
-    /// The mark of a vertex, if it was ever queued.
-    pub fn find(&self, y: u32) -> Option<Mark>
-        ensures { result ≡ value_of self.now.marks y }
-    {
-        self.marks.get(&y).copied()
     }
 
     /// How many candidates stand before a vertex among its neighbours, as far as this was counted.
     pub fn earlier_of(&self, y: u32) -> usize
         ensures { result ≡ earlier_at self.now y }
     {
-        match self.find(y) {
+        match self.seen.find(y) {
             Some(mark) => mark.earlier,
             None => 0,
         }
@@ -114,7 +103,7 @@ impl Rising {
         requires { self.old.turn < length self.old.queue.items }
         ensures { OnOk result (Leaves w mark self.old self.new) }
     {
-        self.marks.insert(w, mark)?;
+        self.seen.mark(w, mark)?;
         self.turn += 1;
         Ok(())
     }
@@ -122,29 +111,29 @@ impl Rising {
     /// Queues a vertex at this place, with one candidate before it.
     pub fn enqueue(&mut self, x: u32, place: usize) -> Result<(), NoMemory>
         requires { place ≤ length self.old.queue.items }
-        ensures marks { OnOk result (MarksOne x (record { earlier = 1; later = 0; turn = 0; is_candidate = false; is_weak = false }) self.old self.new) }
+        ensures marks { OnOk result (MarksOne x
+            (record { earlier = 1; later = 0; turn = 0; is_candidate = false; is_weak = false }) self.old.seen self.new.seen) }
         ensures queue { OnOk result (self.new.queue.items ≡ insert self.old.queue.items place x) }
-        ensures rest { OnOk result ((self.new.turn ≡ self.old.turn) × (self.new.weak.items ≡ self.old.weak.items)
+        ensures rest { OnOk result ((self.new.turn ≡ self.old.turn) × (self.new.seen.weak.items ≡ self.old.seen.weak.items)
             × (self.new.shifts.items ≡ self.old.shifts.items)) }
     {
         let mark = Mark {
             earlier: 1,
             ..Mark::past()
         };
-        self.marks.insert(x, mark)?;
+        self.seen.mark(x, mark)?;
         self.queue.insert(place, x)?;
         Ok(())
     }
 
     /// Counts one candidate more before a queued vertex.
     pub fn count_candidate(&mut self, x: u32, mark: Mark) -> Result<(), NoMemory>
-        ensures marks { OnOk result (MarksOne x (record mark { earlier = min (mark.earlier + 1) (2 ^ 64 - 1) }) self.old self.new) }
+        ensures marks { OnOk result (MarksOne x (record mark { earlier = min (mark.earlier + 1) (2 ^ 64 - 1) }) self.old.seen self.new.seen) }
         ensures rest { OnOk result ((self.new.queue.items ≡ self.old.queue.items) × (self.new.turn ≡ self.old.turn)
-            × (self.new.weak.items ≡ self.old.weak.items) × (self.new.shifts.items ≡ self.old.shifts.items)) }
+            × (self.new.seen.weak.items ≡ self.old.seen.weak.items) × (self.new.shifts.items ≡ self.old.shifts.items)) }
     {
         let earlier = mark.earlier.saturating_add(1);
-        self.marks.insert(x, Mark { earlier, ..mark })?;
-        Ok(())
+        self.seen.mark(x, Mark { earlier, ..mark })
     }
 
     /// A candidate that was found too weak will not rise, and is put behind another. What comes back is its turn.
@@ -161,11 +150,11 @@ impl Rising {
     fn dismiss(&mut self, x: u32) -> Result<usize, NoMemory>
         ensures turn { IfOk result (λ turn. turn ≡ turn_at self.old x) }
         ensures marks { OnOk result (MarksOne x
-            (record { earlier = 0; later = 0; turn = turn_at self.old x; is_candidate = false; is_weak = true }) self.old self.new) }
+            (record { earlier = 0; later = 0; turn = turn_at self.old x; is_candidate = false; is_weak = true }) self.old.seen self.new.seen) }
         ensures rest { OnOk result ((self.new.queue.items ≡ self.old.queue.items) × (self.new.turn ≡ self.old.turn)
-            × (self.new.weak.items ≡ self.old.weak.items) × (self.new.shifts.items ≡ self.old.shifts.items)) }
+            × (self.new.seen.weak.items ≡ self.old.seen.weak.items) × (self.new.shifts.items ≡ self.old.shifts.items)) }
     {
-        let mark = self.marks.entry(x)?.or_insert(Mark::past());
+        let mark = self.seen.marks.entry(x)?.or_insert(Mark::past());
         let turn = mark.turn;
         *mark = Mark {
             turn,
@@ -192,7 +181,7 @@ impl Rising {
     fn may_rise(&self, y: u32) -> bool
         ensures { result ≡ is_candidate self.now y }
     {
-        match self.find(y) {
+        match self.seen.find(y) {
             Some(mark) => mark.is_candidate,
             None => false,
         }

@@ -25,7 +25,7 @@ impl Rising {
         row: &mut Vec<u32>,
     ) -> Result<u32, PlanFault>
         requires ends { search.update.v < (V.shown view.old).size }
-        requires some { length self.old.shifts.items < length self.old.weak.items }
+        requires some { length self.old.shifts.items < length self.old.seen.weak.items }
         requires anchor { member anchor (left self.old) ≡ true }
         requires tidy { IsTidyRising search.update (V.shown view.old) self.old }
         ensures goes_on { GoesOn (V.shown view.old) (V.shown view.new) }
@@ -38,7 +38,7 @@ impl Rising {
             → Widened (search_with search.update search.level s) root → IsSettling (search_with search.update search.level s) root self.old anchor
             → IsSettling (search_with search.update search.level s) root self.new x) }
     {
-        let x = self.weak[self.shifts.len()];
+        let x = self.seen.weak[self.shifts.len()];
         fill_row(view, search.update, x, row)?;
         let turn = self.evict(x, anchor)?;
         self.lose_each(row, Loss::Evicted(turn), search.level)?;
@@ -64,7 +64,7 @@ impl Rising {
             → IsSettling (search_with search.update search.level s) root self.old w → IsBetweenTurns (search_with search.update search.level s) root self.new) }
     {
         let mut anchor = w;
-        while self.shifts.len() < self.weak.len() {
+        while self.shifts.len() < self.seen.weak.len() {
             anchor = self.evict_next(view, search, anchor, row)?;
         }
         Ok(())

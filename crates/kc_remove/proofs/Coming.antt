@@ -38,8 +38,8 @@ had_looked b f l e h = grind arith
 
 -- a visited vertex of which the test says that it has looked at `x` has not fallen, and it has looked there
 pub visited-looked : (update : Update) (shown : Shown) (f : Falling) (x y : ℕ) (v : Visit) (b : Bool) → IsTidyFalling update shown f
-    → value_of f.visits y ≡ Some v → b ≡ (not (is_some v.fallen) && ltb x v.count.bound) → b ≡ true
-    → (member y f.list.items ≡ false) × (ltb x v.count.bound ≡ true)
+    → value_of f.seen.marks y ≡ Some v → b ≡ (not (is_some v.fallen) && ltb x v.count.bound) → b ≡ true
+    → (member y f.seen.weak.items ≡ false) × (ltb x v.count.bound ≡ true)
 visited-looked update shown f x y v b tidy kept test passes = (
   fallen-out update shown f tidy y (ap fallen_in kept ∙ not_fallen b (is_some v.fallen) (ltb x v.count.bound) test passes),
   had_looked b (is_some v.fallen) (ltb x v.count.bound) test passes,
@@ -47,7 +47,7 @@ visited-looked update shown f x y v b tidy kept test passes = (
 
 -- one of which the test does not say so has not looked at `x`, if it has not fallen
 pub not-looked : (update : Update) (shown : Shown) (f : Falling) (x y : ℕ) (v : Visit) (b : Bool) → IsTidyFalling update shown f
-    → value_of f.visits y ≡ Some v → b ≡ (not (is_some v.fallen) && ltb x v.count.bound) → b ≡ false → member y f.list.items ≡ false
+    → value_of f.seen.marks y ≡ Some v → b ≡ (not (is_some v.fallen) && ltb x v.count.bound) → b ≡ false → member y f.seen.weak.items ≡ false
     → has_looked f y x ≡ false
 not-looked update shown f x y v b tidy kept test fails out =
     ap (λ (o : Option Visit). ltb x (count_in o).bound) kept

@@ -46,25 +46,26 @@ not_low a b h = grind arith
 
 -- a vertex that was counted anew is settled: it stays, or it has looked at all its neighbours and falls
 recounted-settled : (q : Search) (turn : ℕ) (part : ℕ → Bool) (y : ℕ) (count : Count) (old new : Falling) → Settles q.level y count old new
-    → member y old.list.items ≡ false → (count.support < q.level → (z : ℕ) → z < q.size → q.adj y z ≡ true → ltb z count.bound ≡ true)
-    → Cascade q old.list.items turn part (is_visited new) (support_at new) (has_looked new) (λ z. eqb z y)
-    → Cascade q new.list.items turn part (is_visited new) (support_at new) (has_looked new) nobody
+    → member y old.seen.weak.items ≡ false → (count.support < q.level → (z : ℕ) → z < q.size → q.adj y z ≡ true → ltb z count.bound ≡ true)
+    → Cascade q old.seen.weak.items turn part (is_visited new) (support_at new) (has_looked new) (λ z. eqb z y)
+    → Cascade q new.seen.weak.items turn part (is_visited new) (support_at new) (has_looked new) nobody
 recounted-settled q turn part y count old new s out all c =
-    let here : support_at new y ≡ count.support = ap (λ (o : Option Visit). (count_in o).support) s.visit in
-    let bound : bound_at new y ≡ count.bound = ap (λ (o : Option Visit). (count_in o).bound) s.visit in
-    let v : is_visited new y ≡ true = ap is_some s.visit in
+    let here : support_at new y ≡ count.support = ap (λ (o : Option Visit). (count_in o).support) s.marks.here in
+    let bound : bound_at new y ≡ count.bound = ap (λ (o : Option Visit). (count_in o).bound) s.marks.here in
+    let v : is_visited new y ≡ true = ap is_some s.marks.here in
     elim (cases_Bool (ltb count.support q.level)) [
       | inl low ↦
           let lt : count.support < q.level = ltb-true count.support q.level low in
-          let longer : new.list.items ≡ old.list.items ++ y ∷ [] = s.list ∙ ap (λ b. cond b (old.list.items ++ y ∷ []) old.list.items) low in
+          let longer : new.seen.weak.items ≡ old.seen.weak.items ++ y ∷ [] =
+          s.weak ∙ ap (λ b. cond b (old.seen.weak.items ++ y ∷ []) old.seen.weak.items) low in
           subst (λ (xs : List ℕ). Cascade q xs turn part (is_visited new) (support_at new) (has_looked new) nobody) (sym longer)
-          (fall_one q old.list.items turn part (is_visited new) (support_at new) (has_looked new) y c v out (omega (arith, here, lt))
+          (fall_one q old.seen.weak.items turn part (is_visited new) (support_at new) (has_looked new) y c v out (omega (arith, here, lt))
           (λ z l a. ap (ltb z) bound ∙ all lt z l a))
       | inr high ↦
           let le : q.level ≤ count.support = not_low count.support q.level high in
-          let same : new.list.items ≡ old.list.items = s.list ∙ ap (λ b. cond b (old.list.items ++ y ∷ []) old.list.items) high in
+          let same : new.seen.weak.items ≡ old.seen.weak.items = s.weak ∙ ap (λ b. cond b (old.seen.weak.items ++ y ∷ []) old.seen.weak.items) high in
           subst (λ (xs : List ℕ). Cascade q xs turn part (is_visited new) (support_at new) (has_looked new) nobody) (sym same)
-          (supported-stays q old.list.items turn part (is_visited new) (support_at new) (has_looked new) y c (omega (arith, here, le)))
+          (supported-stays q old.seen.weak.items turn part (is_visited new) (support_at new) (has_looked new) y c (omega (arith, here, le)))
     ]
 
 -- an edge that is not the removed one is an edge of the graph without that
@@ -101,17 +102,17 @@ pub come-late : (update : Update) (s : Ranked) (x y : ℕ) (row : List ℕ) → 
 come-late update s x y row n = ap (λ b. b && adjacent (without_edge s.graph update.u update.v) x y) n
 
 -- the turn may come to a vertex that is not of the level, has fallen or has not looked at `x` yet: nothing is lost by it
-pub pass-by : (update : Update) (level : ℕ) (s : Ranked) (turn x y : ℕ) (row : List ℕ) (f : Falling) → turn < length f.list.items
-    → get_or f.list.items turn 0 ≡ x
+pub pass-by : (update : Update) (level : ℕ) (s : Ranked) (turn x y : ℕ) (row : List ℕ) (f : Falling) → turn < length f.seen.weak.items
+    → get_or f.seen.weak.items turn 0 ≡ x
     → (adjacent (without_edge s.graph update.u update.v) x y ≡ true → OnLevel (search_without update level s) y
-    → (is_visited f y ≡ true) × (member y f.list.items ≡ false → has_looked f y x ≡ false))
+    → (is_visited f y ≡ true) × (member y f.seen.weak.items ≡ false → has_looked f y x ≡ false))
     → FallsIn update level s f turn (has_come update s x row) → FallsIn update level s f turn (has_come update s x (row ++ y ∷ []))
 pass-by update level s turn x y row f l at only c =
     let q : Search = search_without update level s in
     let now : ℕ → ℕ → Bool = adjacent (without_edge s.graph update.u update.v) in
     let part : ℕ → Bool = has_come update s x row in
     let later : ℕ → Bool = has_come update s x (row ++ y ∷ []) in
-    let fall : List ℕ = f.list.items in
+    let fall : List ℕ = f.seen.weak.items in
     let same : (z : ℕ) → later z ≡ part z
     → found q (has_looked f z) (take (taken part turn z) fall) z ≡ found q (has_looked f z) (take (taken later turn z) fall) z =
     λ z e. ap (λ (b : Bool). found q (has_looked f z) (take (cond b (turn + 1) turn) fall) z) (sym e) in
@@ -146,40 +147,41 @@ pass-by update level s turn x y row f l at only c =
 
 -- what is known is kept where the support of a vertex that has not fallen was counted as far as needed
 pub counted-falls : (update : Update) (level : ℕ) (s : Ranked) (turn turns : ℕ) (part later : ℕ → Bool) (y : ℕ) (count : Count) (old new : Falling)
-    → Settles level y count old new → member y old.list.items ≡ false → OnLevel (search_without update level s) y
-    → IsSupport update level s (take turns old.list.items) y count → turns ≡ taken later turn y
+    → Settles level y count old new → member y old.seen.weak.items ≡ false → OnLevel (search_without update level s) y
+    → IsSupport update level s (take turns old.seen.weak.items) y count → turns ≡ taken later turn y
     → (count.support < level → (z : ℕ) → z < s.graph.size → adjacent (without_edge s.graph update.u update.v) y z ≡ true → ltb z count.bound ≡ true)
     → FallsIn update level s old turn part → ((z : ℕ) → z ≢ y → later z ≡ part z)
-    → (later y ≡ true → (turn < length old.list.items) × (adjacent (without_edge s.graph update.u update.v) (get_or old.list.items turn 0) y ≡ true))
+    → (later y ≡ true → (turn < length old.seen.weak.items) × (adjacent (without_edge s.graph update.u update.v) (get_or old.seen.weak.items turn 0) y ≡ true))
     → FallsIn update level s new turn later
 counted-falls update level s turn turns part later y count old new h out oy is when all c same came =
     let q : Search = search_without update level s in
-    let sup : support_at new y ≡ count.support = ap (λ (o : Option Visit). (count_in o).support) h.visit in
-    let bound : bound_at new y ≡ count.bound = ap (λ (o : Option Visit). (count_in o).bound) h.visit in
+    let sup : support_at new y ≡ count.support = ap (λ (o : Option Visit). (count_in o).support) h.marks.here in
+    let bound : bound_at new y ≡ count.bound = ap (λ (o : Option Visit). (count_in o).bound) h.marks.here in
     let looked : Option Visit → ℕ → Bool = λ o x. ltb x (count_in o).bound in
     recounted-settled q turn later y count old new h out all
-    (known-renewed q old.list.items turn part later (is_visited old) (support_at old) (has_looked old) c y oy (is_visited new) (support_at new) (has_looked new)
-    (ap is_some h.visit)
-    (sup ∙ (is ∙ (ap (λ n. found q (λ z. ltb z count.bound) (take n old.list.items) y) when
-    ∙ ap (λ n. found q (λ z. ltb z n) (take (taken later turn y) old.list.items) y) (sym bound))))
+    (known-renewed q old.seen.weak.items turn part later (is_visited old) (support_at old) (has_looked old) c y oy
+    (is_visited new) (support_at new) (has_looked new)
+    (ap is_some h.marks.here)
+    (sup ∙ (is ∙ (ap (λ n. found q (λ z. ltb z count.bound) (take n old.seen.weak.items) y) when
+    ∙ ap (λ n. found q (λ z. ltb z n) (take (taken later turn y) old.seen.weak.items) y) (sym bound))))
     came
     (λ z ne. (
-      ap is_some (h.others z ne),
-      ap (λ (o : Option Visit). (count_in o).support) (h.others z ne),
-      ap looked (h.others z ne),
+      ap is_some (h.marks.others z ne),
+      ap (λ (o : Option Visit). (count_in o).support) (h.marks.others z ne),
+      ap looked (h.marks.others z ne),
       same z ne,
     )))
 
 -- a vertex that had looked at `x` has one less when the turn of `x` comes to it
 pub one-less : (update : Update) (level : ℕ) (s : Ranked) (turn x y : ℕ) (v : Visit) (row : List ℕ) (f : Falling)
-    → FallsIn update level s f turn (has_come update s x row) → turn < length f.list.items → get_or f.list.items turn 0 ≡ x
-    → value_of f.visits y ≡ Some v → member y f.list.items ≡ false
+    → FallsIn update level s f turn (has_come update s x row) → turn < length f.seen.weak.items → get_or f.seen.weak.items turn 0 ≡ x
+    → value_of f.seen.marks y ≡ Some v → member y f.seen.weak.items ≡ false
     → ltb x v.count.bound ≡ true → adjacent (without_edge s.graph update.u update.v) x y ≡ true → member y row ≡ false
-    → IsSupport update level s (take (turn + 1) f.list.items) y (record v.count { support = v.count.support - 1 })
+    → IsSupport update level s (take (turn + 1) f.seen.weak.items) y (record v.count { support = v.count.support - 1 })
 one-less update level s turn x y v row f c l at kept out here a new_row =
     let count : Count = v.count in
     let q : Search = search_without update level s in
-    let fall : List ℕ = f.list.items in
+    let fall : List ℕ = f.seen.weak.items in
     let part : ℕ → Bool = has_come update s x row in
     let number : support_at f y ≡ count.support = ap (λ (o : Option Visit). (count_in o).support) kept in
     let bound : bound_at f y ≡ count.bound = ap (λ (o : Option Visit). (count_in o).bound) kept in
@@ -195,12 +197,12 @@ one-less update level s turn x y v row f c l at kept out here a new_row =
     omega (arith, number, was, one, joined)
 
 -- a turn that has come to each of the list is done
-pub turn-over : (update : Update) (level : ℕ) (s : Ranked) (turn x : ℕ) (row : List ℕ) (f : Falling) → turn < length f.list.items
-    → get_or f.list.items turn 0 ≡ x → row ≡ neighbours_of s.graph x
+pub turn-over : (update : Update) (level : ℕ) (s : Ranked) (turn x : ℕ) (row : List ℕ) (f : Falling) → turn < length f.seen.weak.items
+    → get_or f.seen.weak.items turn 0 ≡ x → row ≡ neighbours_of s.graph x
     → FallsIn update level s f turn (has_come update s x row) → FallsIn update level s f (turn + 1) nobody
 turn-over update level s turn x row f l at same c =
     let now : ℕ → ℕ → Bool = adjacent (without_edge s.graph update.u update.v) in
-    turn_over (search_without update level s) f.list.items turn (has_come update s x row) (is_visited f) (support_at f) (has_looked f)
+    turn_over (search_without update level s) f.seen.weak.items turn (has_come update s x row) (is_visited f) (support_at f) (has_looked f)
     (adjacent-sym (without_edge s.graph update.u update.v)) c l
     (λ y oy a out.
     let here : now x y ≡ true = ap (λ n. now n y) (sym at) ∙ a in

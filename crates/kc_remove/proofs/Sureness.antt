@@ -81,7 +81,7 @@ thinned-by update s level h l r =
 
 -- no vertex falls
 pub plain-sure : (update : Update) (used : Used) (s : Ranked) (level : ℕ) (f : Falling) → update.add ≡ false → IsCertified s
-    → update.v < s.graph.size → Removes update s level → HasEnded update level s f → f.list.items ≡ []
+    → update.v < s.graph.size → Removes update s level → HasEnded update level s f → f.seen.weak.items ≡ []
     → IsLocal s (record { update = update; used = used; moves = Plain }) × IsSparing s (record { update = update; used = used; moves = Plain })
 plain-sure update used s level f removes h l r ended empty =
     let there : is_applied update s.graph ≡ true = applied-is update s.graph removes ∙ r.there in
@@ -112,19 +112,19 @@ plain-sure update used s level f removes h l r ended empty =
 -- some do
 pub fall-sure : (update : Update) (used : Used) (s : Ranked) (level : ℕ) (f : Falling) → update.add ≡ false → IsCertified s
     → update.v < s.graph.size → Removes update s level → HasEnded update level s f
-    → IsLocal s (record { update = update; used = used; moves = Fall level f.list })
-    × IsSparing s (record { update = update; used = used; moves = Fall level f.list })
+    → IsLocal s (record { update = update; used = used; moves = Fall level f.seen.weak })
+    × IsSparing s (record { update = update; used = used; moves = Fall level f.seen.weak })
 fall-sure update used s level f removes h l r ended =
-    let fall : List ℕ = f.list.items in
+    let fall : List ℕ = f.seen.weak.items in
     let there : is_applied update s.graph ≡ true = applied-is update s.graph removes ∙ r.there in
     let after : updated update s.graph ≡ without_edge s.graph update.u update.v = updated-is update s.graph removes in
     let t = thinned-by update s level h l r in
     let c = ended.falls in
     let some : 0 < level = t.some_level in
-    let local : IsLocal s (record { update = update; used = used; moves = Fall level f.list }) = record {
+    let local : IsLocal s (record { update = update; used = used; moves = Fall level f.seen.weak }) = record {
       ends = l;
       kept = sym (ap not there);
-      moves_fit = fall_fits s level f.list c.distinct (λ x m. let k = c.fall_level x m in (record { vertex = k.here; of_level = k.level }, some));
+      moves_fit = fall_fits s level f.seen.weak c.distinct (λ x m. let k = c.fall_level x m in (record { vertex = k.here; of_level = k.level }, some));
       holds =
           λ z lz _.
           subst
@@ -147,7 +147,7 @@ fall-sure update used s level f removes h l r ended =
         inserted = λ add. absurd (true≢false (sym add ∙ removes));
         removed = λ _ _ core are x lx.
             let same : core ≡ renumbered fall (level - 1) s.core =
-            numbers-after s (record { update = update; used = used; moves = Fall level f.list }) h local core are in
+            numbers-after s (record { update = update; used = used; moves = Fall level f.seen.weak }) h local core are in
             let number : get_or core x 0 ≡ lowered (λ y. get_or s.core y 0) level fall x =
             ap (λ (xs : List ℕ). get_or xs x 0) same ∙ number_then-is s fall (level - 1) x h lx in
             elim (cases_Bool (member x fall)) [

@@ -120,38 +120,38 @@ fallen_out turns (Some v) h = placed_out turns v.fallen h
 
 -- a vertex whose visit does not say that it has fallen is not on the list
 pub fallen-out : (update : Update) (shown : Shown) (f : Falling) → IsTidyFalling update shown f → (y : ℕ) → has_fallen f y ≡ false
-    → member y f.list.items ≡ false
+    → member y f.seen.weak.items ≡ false
 fallen-out update shown f t y n =
-    ap (member y) (sym (take-length f.list.items))
-    ∙ (sym (t.marked y (length f.list.items)) ∙ fallen_out (length f.list.items) (value_of f.visits y) n)
+    ap (member y) (sym (take-length f.seen.weak.items))
+    ∙ (sym (t.marked y (length f.seen.weak.items)) ∙ fallen_out (length f.seen.weak.items) (value_of f.seen.marks y) n)
 
 -- and the visit of a vertex that is not on the list does not say so
-pub out-fallen : (update : Update) (shown : Shown) (f : Falling) → IsTidyFalling update shown f → (y : ℕ) → member y f.list.items ≡ false
+pub out-fallen : (update : Update) (shown : Shown) (f : Falling) → IsTidyFalling update shown f → (y : ℕ) → member y f.seen.weak.items ≡ false
     → has_fallen f y ≡ false
 out-fallen update shown f t y out = false_from_ne_true _ (λ h.
-    let (turns, g) = fallen_gone (value_of f.visits y) h in
-    true≢false (sym (take-member turns f.list.items y (sym (t.marked y turns) ∙ g)) ∙ out))
+    let (turns, g) = fallen_gone (value_of f.seen.marks y) h in
+    true≢false (sym (take-member turns f.seen.weak.items y (sym (t.marked y turns) ∙ g)) ∙ out))
 
 -- who has fallen was visited
-pub fallen-visited : (update : Update) (shown : Shown) (f : Falling) → IsTidyFalling update shown f → (x : ℕ) → member x f.list.items ≡ true
+pub fallen-visited : (update : Update) (shown : Shown) (f : Falling) → IsTidyFalling update shown f → (x : ℕ) → member x f.seen.weak.items ≡ true
     → is_visited f x ≡ true
 fallen-visited update shown f t x m =
-    visited_in (length f.list.items) (value_of f.visits x)
-    (t.marked x (length f.list.items) ∙ (ap (member x) (take-length f.list.items) ∙ m))
+    visited_in (length f.seen.weak.items) (value_of f.seen.marks x)
+    (t.marked x (length f.seen.weak.items) ∙ (ap (member x) (take-length f.seen.weak.items) ∙ m))
 
 -- so the lists of the fallen were read
-pub fallen-read : (update : Update) (shown : Shown) (f : Falling) → IsTidyFalling update shown f → (x : ℕ) → member x f.list.items ≡ true
+pub fallen-read : (update : Update) (shown : Shown) (f : Falling) → IsTidyFalling update shown f → (x : ℕ) → member x f.seen.weak.items ≡ true
     → has_list shown.kept x ≡ true
 fallen-read update shown f t x m = t.listed x (fallen-visited update shown f t x m)
 
 -- who was not visited has not fallen
 pub unvisited-out : (update : Update) (shown : Shown) (f : Falling) → IsTidyFalling update shown f → (x : ℕ) → is_visited f x ≡ false
-    → member x f.list.items ≡ false
+    → member x f.seen.weak.items ≡ false
 unvisited-out update shown f t x n = false_from_ne_true _ (λ m. true≢false (sym (fallen-visited update shown f t x m) ∙ n))
 
 -- the view goes on
 tidy-view : (update : Update) (old new : Shown) (f : Falling) → IsTidyFalling update old f → GoesOn old new
-    → AsksNear update new.kept f.list.items → IsTidyFalling update new f
+    → AsksNear update new.kept f.seen.weak.items → IsTidyFalling update new f
 tidy-view update old new f t goes asks = record {
   marked = t.marked;
   once = t.once;
@@ -165,20 +165,20 @@ tidy-view update old new f t goes asks = record {
 
 -- a list was asked
 pub tidy-list : (update : Update) (old new : Shown) (f : Falling) (y : ℕ) → IsTidyFalling update old f → GoesOn old new
-    → TellsList old.kept new.kept y → IsNear update old.kept f.list.items y → IsTidyFalling update new f
+    → TellsList old.kept new.kept y → IsNear update old.kept f.seen.weak.items y → IsTidyFalling update new f
 tidy-list update old new f y t goes tells near =
-    tidy-view update old new f t goes (asks-list update old.kept new.kept f.list.items y t.asks tells near (fallen-read update old f t))
+    tidy-view update old new f t goes (asks-list update old.kept new.kept f.seen.weak.items y t.asks tells near (fallen-read update old f t))
 
 -- a list that was asked again changes nothing
 pub tidy-again : (update : Update) (old new : Shown) (f : Falling) (y : ℕ) → IsTidyFalling update old f → GoesOn old new
     → TellsList old.kept new.kept y → has_list old.kept y ≡ true → IsTidyFalling update new f
 tidy-again update old new f y t goes tells read =
-    tidy-view update old new f t goes (subst (λ (a : Answers). AsksNear update a f.list.items) (sym (tells.before read)) t.asks)
+    tidy-view update old new f t goes (subst (λ (a : Answers). AsksNear update a f.seen.weak.items) (sym (tells.before read)) t.asks)
 
 -- a core number was asked
 tidy-core : (update : Update) (old new : Shown) (f : Falling) (y : ℕ) → IsTidyFalling update old f → GoesOn old new
     → TellsCore old.kept new.kept y → (y ≡ update.u) ⊎ (y ≡ update.v) ⊎ (is_listed old.kept y ≡ true) → IsTidyFalling update new f
-tidy-core update old new f y t goes tells near = tidy-view update old new f t goes (asks-core update old.kept new.kept f.list.items y t.asks tells near)
+tidy-core update old new f y t goes tells near = tidy-view update old new f t goes (asks-core update old.kept new.kept f.seen.weak.items y t.asks tells near)
 
 -- the core number of an end was asked
 pub tidy-end : (update : Update) (old new : Shown) (f : Falling) (y : ℕ) → IsTidyFalling update old f → GoesOn old new
@@ -233,20 +233,20 @@ further-grown false y fall next e j l = (let k : length next ≡ length fall = a
 
 -- so it does where a vertex is settled
 pub settled-further : (level y : ℕ) (count : Count) (old new : Falling) → Settles level y count old new → (j : ℕ)
-    → j < length old.list.items → (j < length new.list.items) × (get_or new.list.items j 0 ≡ get_or old.list.items j 0)
-settled-further level y count old new s j l = further-grown (ltb count.support level) y old.list.items new.list.items s.list j l
+    → j < length old.seen.weak.items → (j < length new.seen.weak.items) × (get_or new.seen.weak.items j 0 ≡ get_or old.seen.weak.items j 0)
+settled-further level y count old new s j l = further-grown (ltb count.support level) y old.seen.weak.items new.seen.weak.items s.weak j l
 
 -- who was visited stays visited where a vertex is settled
 pub settled-still : (level y : ℕ) (count : Count) (old new : Falling) → Settles level y count old new → (z : ℕ)
     → is_visited old z ≡ true → is_visited new z ≡ true
 settled-still level y count old new s z v = elim (cases_eq z y) [
-  | inl e ↦ ap (λ k. is_visited new k) e ∙ ap is_some s.visit
-  | inr ne ↦ ap is_some (s.others z ne) ∙ v
+  | inl e ↦ ap (λ k. is_visited new k) e ∙ ap is_some s.marks.here
+  | inr ne ↦ ap is_some (s.marks.others z ne) ∙ v
 ]
 
 -- what holds for every view still holds where a vertex that is not on the list is settled
 pub settled-tidy : (update : Update) (shown : Shown) (level y : ℕ) (count : Count) (old new : Falling) → IsTidyFalling update shown old
-    → Settles level y count old new → y < shown.size → has_list shown.kept y ≡ true → member y old.list.items ≡ false
+    → Settles level y count old new → y < shown.size → has_list shown.kept y ≡ true → member y old.seen.weak.items ≡ false
     → IsBound (list_of shown.kept y) count.looked count.bound
     → IsTidyFalling update shown new
 settled-tidy update shown level y count old new t s l read out looked =
@@ -254,28 +254,28 @@ settled-tidy update shown level y count old new t s l read out looked =
     record {
       marked = λ z turns. elim (cases_eq z y) [
         | inl e ↦
-            ap (is_gone new turns) e ∙ (ap (gone_in turns) s.visit
-            ∙ (member-settled low turns y old.list.items new.list.items s.list out ∙ ap (λ k. member k (take turns new.list.items)) (sym e)))
+            ap (is_gone new turns) e ∙ (ap (gone_in turns) s.marks.here
+            ∙ (member-settled low turns y old.seen.weak.items new.seen.weak.items s.weak out ∙ ap (λ k. member k (take turns new.seen.weak.items)) (sym e)))
         | inr ne ↦
-            ap (gone_in turns) (s.others z ne)
-            ∙ (t.marked z turns ∙ sym (member-kept low turns y z old.list.items new.list.items s.list ne))
+            ap (gone_in turns) (s.marks.others z ne)
+            ∙ (t.marked z turns ∙ sym (member-kept low turns y z old.seen.weak.items new.seen.weak.items s.weak ne))
       ];
-      once = Distinct-grown low y old.list.items new.list.items s.list t.once out;
-      within = λ z v. elim (cases_eq z y) [ inl e ↦ omega (arith, l, e) | inr ne ↦ t.within z (sym (ap is_some (s.others z ne)) ∙ v) ];
-      listed = λ z v. elim (cases_eq z y) [ inl e ↦ ap (has_list shown.kept) e ∙ read | inr ne ↦ t.listed z (sym (ap is_some (s.others z ne)) ∙ v) ];
+      once = Distinct-grown low y old.seen.weak.items new.seen.weak.items s.weak t.once out;
+      within = λ z v. elim (cases_eq z y) [ inl e ↦ omega (arith, l, e) | inr ne ↦ t.within z (sym (ap is_some (s.marks.others z ne)) ∙ v) ];
+      listed = λ z v. elim (cases_eq z y) [ inl e ↦ ap (has_list shown.kept) e ∙ read | inr ne ↦ t.listed z (sym (ap is_some (s.marks.others z ne)) ∙ v) ];
       looked = λ z v. elim (cases_eq z y) [
         | inl e ↦
             subst (λ (k : ℕ). IsBound (list_of shown.kept k) (looked_at new k) (bound_at new k)) (sym e)
-            (subst (λ (o : Option Visit). IsBound (list_of shown.kept y) (count_in o).looked (count_in o).bound) (sym s.visit) looked)
+            (subst (λ (o : Option Visit). IsBound (list_of shown.kept y) (count_in o).looked (count_in o).bound) (sym s.marks.here) looked)
         | inr ne ↦
-            subst (λ (o : Option Visit). IsBound (list_of shown.kept z) (count_in o).looked (count_in o).bound) (sym (s.others z ne))
-            (t.looked z (sym (ap is_some (s.others z ne)) ∙ v))
+            subst (λ (o : Option Visit). IsBound (list_of shown.kept z) (count_in o).looked (count_in o).bound) (sym (s.marks.others z ne))
+            (t.looked z (sym (ap is_some (s.marks.others z ne)) ∙ v))
       ];
       asks =
-          asks-fallen update shown.kept old.list.items new.list.items t.asks (fallen-read update shown old t)
-          (λ x m. member-grown_left low y x old.list.items new.list.items s.list m);
+          asks-fallen update shown.kept old.seen.weak.items new.seen.weak.items t.asks (fallen-read update shown old t)
+          (λ x m. member-grown_left low y x old.seen.weak.items new.seen.weak.items s.weak m);
     }
 
 -- no more fall than there are vertices
-pub list-fits : (update : Update) (shown : Shown) (f : Falling) → IsTidyFalling update shown f → length f.list.items ≤ shown.size
-list-fits update shown f t = below_bound shown.size f.list.items t.once (λ x m. t.within x (fallen-visited update shown f t x m))
+pub list-fits : (update : Update) (shown : Shown) (f : Falling) → IsTidyFalling update shown f → length f.seen.weak.items ≤ shown.size
+list-fits update shown f t = below_bound shown.size f.seen.weak.items t.once (λ x m. t.within x (fallen-visited update shown f t x m))

@@ -5,10 +5,8 @@ ghost use Rattle.kc_remove.specs.Visits.{nothing_counted};
 ghost use Rattle.kc_remove.specs.Falling.{Settles, is_gone};
 
 use kc_graph::NoMemory;
-use kc_hash::VertexHasher;
+use kc_hash::Seen;
 use std::alloc::Global;
-use std::collections::HashMap;
-use std::hash::BuildHasherDefault;
 
 /// How far the support of a vertex was counted. The list of its neighbours ascends.
 #[derive(Clone, Copy, Debug, Drop)]
@@ -68,37 +66,27 @@ impl Visit {
     }
 }
 
-/// The visited vertices, and those that fall in the order in which they were found too weak.
+/// The visited vertices, each with its visit, and as the weak those that fall.
 #[derive(Drop)]
 pub(crate) struct Falling {
-    pub visits: HashMap<u32, Visit, BuildHasherDefault<VertexHasher>>,
-    pub list: Vec<u32>,
+    pub seen: Seen<Visit>,
 }
 
 impl Falling {
     /// Nobody was visited.
     pub fn new(alloc: Global) -> Falling
-        ensures visits { (z : ℕ) → value_of result.visits z ≡ None }
-        ensures list { result.list.items ≡ [] }
+        ensures marks { (z : ℕ) → value_of result.seen.marks z ≡ None }
+        ensures weak { result.seen.weak.items ≡ [] }
     {
-        Falling {
-            visits: HashMap::with_hasher(alloc, BuildHasherDefault::new()),
-            list: Vec::new(alloc),
-        }
-    }
-
-    /// The visit of a vertex, if there was one.
-    pub fn find(&self, y: u32) -> Option<Visit>
-        ensures { result ≡ value_of self.now.visits y }
-    {
-        self.visits.get(&y).copied()
+        let seen = Seen::new(alloc);
+        Falling { seen }
     }
 
     /// Whether a vertex is one of the first `turns` of the list.
     pub fn is_gone(&self, y: u32, turns: usize) -> bool
         ensures { result ≡ is_gone self.now turns y }
     {
-        let Some(visit) = self.find(y) else {
+        let Some(visit) = self.seen.find(y) else {
             return false;
         };
         match visit.fallen {
@@ -116,15 +104,14 @@ impl Falling {
                 count,
                 fallen: None,
             };
-            self.visits.insert(y, visit)?;
-            return Ok(());
+            return self.seen.mark(y, visit);
         }
         let visit = Visit {
             count,
-            fallen: Some(self.list.len()),
+            fallen: Some(self.seen.weak.len()),
         };
-        self.visits.insert(y, visit)?;
-        self.list.push(y)?;
+        self.seen.mark(y, visit)?;
+        self.seen.add_weak(y)?;
         Ok(())
     }
 }

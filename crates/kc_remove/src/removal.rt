@@ -13,6 +13,7 @@ ghost use Rattle.kc_remove.specs.Falling.{is_visited, AsksNear, IsTidyFalling, F
 
 use crate::falling::{Falling, Supported};
 use kc_graph::{Moves, Plan, Update};
+use kc_hash::Seen;
 use kc_view::{PlanFault, Search, View, core_of, has_edge};
 use std::alloc::Global;
 
@@ -46,7 +47,7 @@ impl Falling {
         ensures goes_on { GoesOn (V.shown view.old) (V.shown view.new) }
         ensures cause { IfErr result (λ fault. HasPlanCause (V.shown view.old) (V.shown view.new) fault) }
         ensures tidy { OnOk result (IsTidyFalling search.update (V.shown view.new) self.new) }
-        ensures others { OnOk result ((z : ℕ) → z ≢ end → value_of self.new.visits z ≡ value_of self.old.visits z) }
+        ensures others { OnOk result ((z : ℕ) → z ≢ end → value_of self.new.seen.marks z ≡ value_of self.old.seen.marks z) }
         ensures visited { OnOk result ((s : Ranked) → Agrees (V.shown view.new).kept s → slice_index s.core end ≡ search.level
             → is_visited self.new end ≡ true) }
         ensures falls { OnOk result ((s : Ranked) → Agrees (V.shown view.new).kept s → FallsIn search.update search.level s self.old 0 nobody
@@ -103,11 +104,13 @@ fn moves_of<V: View>(alloc: Global, view: &mut V, update: Update) -> Result<Move
         update,
         level,
     };
-    let Falling { list, .. } = find_fallen(view, search)?;
-    if list.is_empty() {
+    let Falling {
+        seen: Seen { weak, .. },
+    } = find_fallen(view, search)?;
+    if weak.is_empty() {
         return Ok(Moves::Plain);
     }
-    Ok(Moves::Fall { level, fall: list })
+    Ok(Moves::Fall { level, fall: weak })
 }
 
 /// The plan of an update that removes an edge: which vertices lose one from their core number, in the order in which they then stand

@@ -40,8 +40,8 @@ impl Falling {
         ensures cause { IfErr result (λ fault. HasPlanCause (V.shown view.old) (V.shown view.new) fault) }
         ensures tidy { OnOk result (IsTidyFalling search.update (V.shown view.new) self.now) }
         ensures told { IfOk result (λ supports. (s : Ranked) → Agrees (V.shown view.new).kept s
-            → ((x : ℕ) → member x self.now.list.items ≡ true → slice_index s.core x ≡ search.level)
-            → supports ≡ is_counted search.update search.level s (take y.turns self.now.list.items) y.vertex z) }
+            → ((x : ℕ) → member x self.now.seen.weak.items ≡ true → slice_index s.core x ≡ search.level)
+            → supports ≡ is_counted search.update search.level s (take y.turns self.now.seen.weak.items) y.vertex z) }
     {
         if is_removed(search.update, y.vertex, z) {
             return Ok(false);
@@ -72,9 +72,9 @@ impl Falling {
         ensures looked { IfOk result (λ found. IsBound (list_of (V.shown view.old).kept y.vertex) found.looked found.bound) }
         ensures all { IfOk result (λ found. found.support < search.level → length (list_of (V.shown view.old).kept y.vertex) ≤ found.looked) }
         ensures told { IfOk result (λ found. (s : Ranked) → Agrees (V.shown view.new).kept s
-            → ((x : ℕ) → member x self.now.list.items ≡ true → slice_index s.core x ≡ search.level)
-            → IsSupport search.update search.level s (take y.turns self.now.list.items) y.vertex count
-            → IsSupport search.update search.level s (take y.turns self.now.list.items) y.vertex found) }
+            → ((x : ℕ) → member x self.now.seen.weak.items ≡ true → slice_index s.core x ≡ search.level)
+            → IsSupport search.update search.level s (take y.turns self.now.seen.weak.items) y.vertex count
+            → IsSupport search.update search.level s (take y.turns self.now.seen.weak.items) y.vertex found) }
     {
         if count.support >= search.level {
             return Ok(count);
@@ -108,7 +108,7 @@ impl Falling {
     ) -> Result<(), PlanFault>
         requires vertex { y.vertex < (V.shown view.old).size }
         requires read { has_list (V.shown view.old).kept y.vertex ≡ true }
-        requires out { member y.vertex self.old.list.items ≡ false }
+        requires out { member y.vertex self.old.seen.weak.items ≡ false }
         requires looked { IsBound (list_of (V.shown view.old).kept y.vertex) count.looked count.bound }
         requires tidy { IsTidyFalling search.update (V.shown view.old) self.old }
         ensures goes_on { GoesOn (V.shown view.old) (V.shown view.new) }
@@ -116,15 +116,15 @@ impl Falling {
         ensures tidy { OnOk result (IsTidyFalling search.update (V.shown view.new) self.new) }
         ensures visited { OnOk result (is_visited self.new y.vertex ≡ true) }
         ensures still { OnOk result ((z : ℕ) → is_visited self.old z ≡ true → is_visited self.new z ≡ true) }
-        ensures others { OnOk result ((z : ℕ) → z ≢ y.vertex → value_of self.new.visits z ≡ value_of self.old.visits z) }
-        ensures further { OnOk result ((j : ℕ) → j < length self.old.list.items
-            → (j < length self.new.list.items) × (slice_index self.new.list.items j ≡ slice_index self.old.list.items j)) }
+        ensures others { OnOk result ((z : ℕ) → z ≢ y.vertex → value_of self.new.seen.marks z ≡ value_of self.old.seen.marks z) }
+        ensures further { OnOk result ((j : ℕ) → j < length self.old.seen.weak.items
+            → (j < length self.new.seen.weak.items) × (slice_index self.new.seen.weak.items j ≡ slice_index self.old.seen.weak.items j)) }
         ensures falls { OnOk result ((s : Ranked) (turn : ℕ) (part later : ℕ → Bool) → Agrees (V.shown view.new).kept s
             → slice_index s.core y.vertex ≡ search.level
-            → IsSupport search.update search.level s (take y.turns self.old.list.items) y.vertex count → y.turns ≡ taken later turn y.vertex
+            → IsSupport search.update search.level s (take y.turns self.old.seen.weak.items) y.vertex count → y.turns ≡ taken later turn y.vertex
             → FallsIn search.update search.level s self.old turn part → ((z : ℕ) → z ≢ y.vertex → later z ≡ part z)
-            → (later y.vertex ≡ true → (turn < length self.old.list.items)
-            × (adjacent (without_edge s.graph search.update.u search.update.v) (slice_index self.old.list.items turn) y.vertex ≡ true))
+            → (later y.vertex ≡ true → (turn < length self.old.seen.weak.items)
+            × (adjacent (without_edge s.graph search.update.u search.update.v) (slice_index self.old.seen.weak.items turn) y.vertex ≡ true))
             → FallsIn search.update search.level s self.new turn later) }
     {
         let found = self.look_on(view, search, y, count)?;
@@ -141,22 +141,22 @@ impl Falling {
     ) -> Result<(), PlanFault>
         requires vertex { y.vertex < (V.shown view.old).size }
         requires is_new { is_visited self.old y.vertex ≡ false }
-        requires near { IsNear search.update (V.shown view.old).kept self.old.list.items y.vertex }
+        requires near { IsNear search.update (V.shown view.old).kept self.old.seen.weak.items y.vertex }
         requires tidy { IsTidyFalling search.update (V.shown view.old) self.old }
         ensures goes_on { GoesOn (V.shown view.old) (V.shown view.new) }
         ensures cause { IfErr result (λ fault. HasPlanCause (V.shown view.old) (V.shown view.new) fault) }
         ensures tidy { OnOk result (IsTidyFalling search.update (V.shown view.new) self.new) }
         ensures visited { OnOk result (is_visited self.new y.vertex ≡ true) }
         ensures still { OnOk result ((z : ℕ) → is_visited self.old z ≡ true → is_visited self.new z ≡ true) }
-        ensures others { OnOk result ((z : ℕ) → z ≢ y.vertex → value_of self.new.visits z ≡ value_of self.old.visits z) }
-        ensures further { OnOk result ((j : ℕ) → j < length self.old.list.items
-            → (j < length self.new.list.items) × (slice_index self.new.list.items j ≡ slice_index self.old.list.items j)) }
+        ensures others { OnOk result ((z : ℕ) → z ≢ y.vertex → value_of self.new.seen.marks z ≡ value_of self.old.seen.marks z) }
+        ensures further { OnOk result ((j : ℕ) → j < length self.old.seen.weak.items
+            → (j < length self.new.seen.weak.items) × (slice_index self.new.seen.weak.items j ≡ slice_index self.old.seen.weak.items j)) }
         ensures falls { OnOk result ((s : Ranked) (turn : ℕ) (part later : ℕ → Bool) → Agrees (V.shown view.new).kept s
             → slice_index s.core y.vertex ≡ search.level
             → y.turns ≡ taken later turn y.vertex
             → FallsIn search.update search.level s self.old turn part → ((z : ℕ) → z ≢ y.vertex → later z ≡ part z)
-            → (later y.vertex ≡ true → (turn < length self.old.list.items)
-            × (adjacent (without_edge s.graph search.update.u search.update.v) (slice_index self.old.list.items turn) y.vertex ≡ true))
+            → (later y.vertex ≡ true → (turn < length self.old.seen.weak.items)
+            × (adjacent (without_edge s.graph search.update.u search.update.v) (slice_index self.old.seen.weak.items turn) y.vertex ≡ true))
             → FallsIn search.update search.level s self.new turn later) }
     {
         degree_of(view, y.vertex)?;

@@ -30,8 +30,8 @@ impl Falling {
         y: u32,
     ) -> Result<(), PlanFault>
         requires vertex { y < (V.shown view.old).size }
-        requires turn { turn.place < length self.old.list.items }
-        requires at { slice_index self.old.list.items turn.place ≡ turn.vertex }
+        requires turn { turn.place < length self.old.seen.weak.items }
+        requires at { slice_index self.old.seen.weak.items turn.place ≡ turn.vertex }
         requires read { has_list (V.shown view.old).kept turn.vertex ≡ true }
         requires neighbour { member y (list_of (V.shown view.old).kept turn.vertex) ≡ true }
         requires tidy { IsTidyFalling search.update (V.shown view.old) self.old }
@@ -39,8 +39,8 @@ impl Falling {
         ensures cause { IfErr result (λ fault. HasPlanCause (V.shown view.old) (V.shown view.new) fault) }
         ensures tidy { OnOk result (IsTidyFalling search.update (V.shown view.new) self.new) }
         ensures still { OnOk result ((z : ℕ) → is_visited self.old z ≡ true → is_visited self.new z ≡ true) }
-        ensures longer { OnOk result (turn.place < length self.new.list.items) }
-        ensures at { OnOk result (slice_index self.new.list.items turn.place ≡ turn.vertex) }
+        ensures longer { OnOk result (turn.place < length self.new.seen.weak.items) }
+        ensures at { OnOk result (slice_index self.new.seen.weak.items turn.place ≡ turn.vertex) }
         ensures falls { OnOk result ((s : Ranked) (row : List ℕ) → Agrees (V.shown view.new).kept s → member y row ≡ false
             → FallsIn search.update search.level s self.old turn.place (has_come search.update s turn.vertex row)
             → FallsIn search.update search.level s self.new turn.place (has_come search.update s turn.vertex (row ++ y ∷ []))) }
@@ -56,7 +56,7 @@ impl Falling {
         if core != search.level {
             return Ok(());
         }
-        let Some(found) = self.find(y) else {
+        let Some(found) = self.seen.find(y) else {
             self.visit(view, search, supported)?;
             return Ok(());
         };
@@ -74,8 +74,8 @@ impl Falling {
         turn: Turn,
         degree: u32,
     ) -> Result<(), PlanFault>
-        requires turn { turn.place < length self.old.list.items }
-        requires at { slice_index self.old.list.items turn.place ≡ turn.vertex }
+        requires turn { turn.place < length self.old.seen.weak.items }
+        requires at { slice_index self.old.seen.weak.items turn.place ≡ turn.vertex }
         requires read { has_list (V.shown view.old).kept turn.vertex ≡ true }
         requires degree { degree ≡ length (list_of (V.shown view.old).kept turn.vertex) }
         requires lists { KeepsLists (V.shown view.old) }
@@ -84,7 +84,7 @@ impl Falling {
         ensures cause { IfErr result (λ fault. HasPlanCause (V.shown view.old) (V.shown view.new) fault) }
         ensures tidy { OnOk result (IsTidyFalling search.update (V.shown view.new) self.new) }
         ensures still { OnOk result ((z : ℕ) → is_visited self.old z ≡ true → is_visited self.new z ≡ true) }
-        ensures longer { OnOk result (turn.place < length self.new.list.items) }
+        ensures longer { OnOk result (turn.place < length self.new.seen.weak.items) }
         ensures falls { OnOk result ((s : Ranked) → Agrees (V.shown view.new).kept s → FallsIn search.update search.level s self.old turn.place nobody
             → FallsIn search.update search.level s self.new (turn.place + 1) nobody) }
     {
@@ -102,17 +102,17 @@ impl Falling {
         search: Search,
         place: usize,
     ) -> Result<(), PlanFault>
-        requires turn { place < length self.old.list.items }
+        requires turn { place < length self.old.seen.weak.items }
         requires tidy { IsTidyFalling search.update (V.shown view.old) self.old }
         ensures goes_on { GoesOn (V.shown view.old) (V.shown view.new) }
         ensures cause { IfErr result (λ fault. HasPlanCause (V.shown view.old) (V.shown view.new) fault) }
         ensures tidy { OnOk result (IsTidyFalling search.update (V.shown view.new) self.new) }
         ensures still { OnOk result ((z : ℕ) → is_visited self.old z ≡ true → is_visited self.new z ≡ true) }
-        ensures longer { OnOk result (place < length self.new.list.items) }
+        ensures longer { OnOk result (place < length self.new.seen.weak.items) }
         ensures falls { OnOk result ((s : Ranked) → Agrees (V.shown view.new).kept s → FallsIn search.update search.level s self.old place nobody
             → FallsIn search.update search.level s self.new (place + 1) nobody) }
     {
-        let vertex = self.list[place];
+        let vertex = self.seen.weak[place];
         let degree = degree_of(view, vertex)?;
         let turn = Turn { vertex, place };
         self.come_to_each(view, search, turn, degree)
@@ -130,10 +130,10 @@ impl Falling {
         ensures tidy { OnOk result (IsTidyFalling search.update (V.shown view.new) self.new) }
         ensures still { OnOk result ((z : ℕ) → is_visited self.old z ≡ true → is_visited self.new z ≡ true) }
         ensures falls { OnOk result ((s : Ranked) → Agrees (V.shown view.new).kept s → FallsIn search.update search.level s self.old 0 nobody
-            → FallsIn search.update search.level s self.new (length self.new.list.items) nobody) }
+            → FallsIn search.update search.level s self.new (length self.new.seen.weak.items) nobody) }
     {
         let mut place = 0;
-        while place < self.list.len() {
+        while place < self.seen.weak.len() {
             self.take_turn(view, search, place)?;
             place += 1;
         }

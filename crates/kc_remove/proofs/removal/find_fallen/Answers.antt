@@ -26,11 +26,11 @@ returns-clause-ended g c = λ s a.
     let first = answers-agreed _ _ s c.visit_end-2.ensures.goes_on.further second in
     let u = c.args.search.update.u in
     let v = c.args.search.update.v in
-    let none : (y : ℕ) → is_visited f y ≡ false = λ y. ap is_some (c.new-falling.ensures.visits y) in
+    let none : (y : ℕ) → is_visited f y ≡ false = λ y. ap is_some (c.new-falling.ensures.marks y) in
     let start : FallsIn c.args.search.update c.args.search.level s f 0 nobody =
     subst
     (λ (xs : List ℕ). Cascade (search_without c.args.search.update c.args.search.level s) xs 0 nobody (is_visited f) (support_at f) (has_looked f) nobody)
-    (sym c.new-falling.ensures.list) (unvisited-nobody_fell (search_without c.args.search.update c.args.search.level s)
+    (sym c.new-falling.ensures.weak) (unvisited-nobody_fell (search_without c.args.search.update c.args.search.level s)
     (is_visited f) (support_at f) (has_looked f) none) in
     let falls = c.in_ok-take_turns.ensures.falls s a (c.in_ok-visit_end-2.ensures.falls s second (c.in_ok-visit_end.ensures.falls s first start)) in
     let differ : u ≢ v = λ e. absurd (omega (arith, e, c.args.search.update.ordered)) in

@@ -29,24 +29,24 @@ returns-then-level-eq0-clause-sure g c = λ s used h l a.
 
 pub returns-then-is_empty-clause-asks : goal.returns-then-is_empty-clause-asks
 returns-then-is_empty-clause-asks g c =
-    let list = c.in_ok-list.field-0.list in
+    let list = c.in_ok-weak.field-0.seen.weak in
     subst (AsksNear c.args.update (g.V.View.shown c.find_fallen.new.view).kept)
-    (no_items list.items list.len c.is_empty.result (sym list.ok.0) c.is_empty.ensures c.if-is_empty.true) c.in_ok-list.ensures.tidy.asks
+    (no_items list.items list.len c.is_empty.result (sym list.ok.0) c.is_empty.ensures c.if-is_empty.true) c.in_ok-weak.ensures.tidy.asks
 
 pub returns-then-is_empty-clause-sure : goal.returns-then-is_empty-clause-sure
 returns-then-is_empty-clause-sure g c = λ s used h l a.
     let e = c.in_ok-has_edge.ensures in
-    let f = c.in_ok-list.field-0 in
+    let f = c.in_ok-weak.field-0 in
     let r =
     removes-told _ _ c.args.update s _ _ c.level_of.ensures.goes_on (answers-agreed _ _ s c.find_fallen.ensures.goes_on.further a) l e.read e.told
     c.if-not-branch.false c.in_ok-level.ensures.told in
-    plain-sure c.args.update used s c.in_ok-level.level f c.requires.removes h l r (c.in_ok-list.ensures.ended s a)
-    (no_items f.list.items f.list.len c.is_empty.result (sym f.list.ok.0) c.is_empty.ensures c.if-is_empty.true)
+    plain-sure c.args.update used s c.in_ok-level.level f c.requires.removes h l r (c.in_ok-weak.ensures.ended s a)
+    (no_items f.seen.weak.items f.seen.weak.len c.is_empty.result (sym f.seen.weak.ok.0) c.is_empty.ensures c.if-is_empty.true)
 
 pub returns-clause-named : goal.returns-clause-named
 returns-clause-named g c = λ x m.
-    let f = c.in_ok-list.field-0 in
-    fallen-read c.args.update _ f c.in_ok-list.ensures.tidy x (sym (ap (member x) (append-nil f.list.items)) ∙ m)
+    let f = c.in_ok-weak.field-0 in
+    fallen-read c.args.update _ f c.in_ok-weak.ensures.tidy x (sym (ap (member x) (append-nil f.seen.weak.items)) ∙ m)
 
 pub returns-clause-sure : goal.returns-clause-sure
 returns-clause-sure g c = λ s used h l a.
@@ -54,4 +54,4 @@ returns-clause-sure g c = λ s used h l a.
     let r =
     removes-told _ _ c.args.update s _ _ c.level_of.ensures.goes_on (answers-agreed _ _ s c.find_fallen.ensures.goes_on.further a) l e.read e.told
     c.if-not-branch.false c.in_ok-level.ensures.told in
-    fall-sure c.args.update used s c.in_ok-level.level c.in_ok-list.field-0 c.requires.removes h l r (c.in_ok-list.ensures.ended s a)
+    fall-sure c.args.update used s c.in_ok-level.level c.in_ok-weak.field-0 c.requires.removes h l r (c.in_ok-weak.ensures.ended s a)

@@ -15,7 +15,7 @@ use Rattle.kc_insert.proofs.rising.Rising.evict_next.Goals as goal
 
 -- `x` is the first weak candidate that is not evicted yet, and was queued
 record IsNextWeak (r : Rising) (x : ℕ) : Type 0 where
-  first : get_or r.weak.items (length r.shifts.items) 0 ≡ x
+  first : get_or r.seen.weak.items (length r.shifts.items) 0 ≡ x
   queued : member x r.queue.items ≡ true
 
 -- so is the one that was read
@@ -23,7 +23,7 @@ is-next : (g : Over) (c : After-index-x g) → IsNextWeak c.args.self.now c.inde
 is-next g c =
     let old = c.args.self.now in
     let x = c.index-x.result.now in
-    let first : get_or old.weak.items (length old.shifts.items) 0 ≡ x =
+    let first : get_or old.seen.weak.items (length old.shifts.items) 0 ≡ x =
     next-weak old c.len.result x c.len.ensures c.requires.some c.index-x.ensures in
     record { first = first; queued = left-queued old x (next-left old x c.requires.tidy.orderly c.requires.some first) }
 

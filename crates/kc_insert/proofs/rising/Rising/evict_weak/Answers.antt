@@ -9,9 +9,10 @@ pub loop-search-smaller : goal.loop-search-smaller
 loop-search-smaller g c =
     let i = c.loop-search.invariant in
     let r = c.loop-search.self in
-    let fits : length r.weak.items ≤ (g.V.View.shown c.loop-search.view).size = weak-fits c.args.search.update (g.V.View.shown c.loop-search.view) r i.tidy in
-    let l : length r.shifts.items < length r.weak.items =
-    omega (arith, c.len.ensures, c.len-in-loop-search.ensures, c.loop-search-test.true, r.shifts.ok.0, r.weak.ok.0) in
+    let fits : length r.seen.weak.items ≤ (g.V.View.shown c.loop-search.view).size =
+    weak-fits c.args.search.update (g.V.View.shown c.loop-search.view) r i.tidy in
+    let l : length r.shifts.items < length r.seen.weak.items =
+    omega (arith, c.len.ensures, c.len-in-loop-search.ensures, c.loop-search-test.true, r.shifts.ok.0, r.seen.weak.ok.0) in
     omega (arith, fits, l, i.goes_on.lasts.same_size, c.in_ok-anchor.ensures.one)
 
 pub loop-search-preserved : goal.loop-search-preserved
@@ -30,6 +31,6 @@ pub returns-clause-settled : goal.returns-clause-settled
 returns-clause-settled g c = λ s root a w st.
     let i = c.loop-search.invariant in
     let r = c.loop-search.self in
-    let le : length r.weak.items ≤ length r.shifts.items =
-    omega (arith, c.len.ensures, c.len-in-loop-search.ensures, c.loop-search-test.false, r.shifts.ok.0, r.weak.ok.0) in
+    let le : length r.seen.weak.items ≤ length r.shifts.items =
+    omega (arith, c.len.ensures, c.len-in-loop-search.ensures, c.loop-search-test.false, r.shifts.ok.0, r.seen.weak.ok.0) in
     settled-between _ root c.loop-search.anchor r i.tidy.orderly le (i.settling s root a w st)

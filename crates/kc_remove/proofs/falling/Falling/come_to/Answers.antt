@@ -38,7 +38,7 @@ returns-in_default-clause-falls g c = λ s row a new' falls.
     let o = c.in_ok-core.ensures in
     let asked = answers-agreed _ _ s c.visit.ensures.goes_on.further a in
     let now =
-    neighbour-comes c.args.search.update _ s c.args.turn.place c.args.turn.vertex c.args.y row c.args.self.now.list.items
+    neighbour-comes c.args.search.update _ s c.args.turn.place c.args.turn.vertex c.args.y row c.args.self.now.seen.weak.items
     (answers-agreed _ _ s c.core_of.ensures.goes_on.further asked) c.requires.read c.requires.neighbour
     (sym c.is_removed.ensures ∙ c.if-is_removed.false) c.requires.turn c.requires.at in
     c.in_ok-visit.ensures.falls s _ _ _ a (sym (told-core _ _ s _ _ asked o.told o.core) ∙ c.if-core-search.false) now.gone falls now.others now.joined
@@ -76,12 +76,12 @@ returns-in_ok-count_on-clause-falls g c = λ s row a new' falls.
     let update = c.args.search.update in
     let known = sym c.find.ensures ∙ c.in-Some.is in
     let seen = visited-looked _ _ _ x c.args.y _ _ c.requires.tidy known c.has_looked.ensures c.if-has_looked.true in
-    let now = neighbour-comes update _ s c.args.turn.place x c.args.y row f.list.items
+    let now = neighbour-comes update _ s c.args.turn.place x c.args.y row f.seen.weak.items
     (answers-agreed _ _ s c.core_of.ensures.goes_on.further (answers-agreed _ _ s c.count_on.ensures.goes_on.further a)) c.requires.read
     c.requires.neighbour (sym c.is_removed.ensures ∙ c.if-is_removed.false) c.requires.turn c.requires.at in
     let less =
     one-less update c.args.search.level s c.args.turn.place x c.args.y c.in-Some.found row f falls c.requires.turn c.requires.at known
     seen.0 seen.1 now.left new' in
     c.in_ok-count_on.ensures.falls s _ _ _ a (falls.visited_level c.args.y (ap is_some known)).level
-    (subst (λ (k : Count). IsSupport update c.args.search.level s (take (c.args.turn.place + 1) f.list.items) c.args.y k) (sym c.less.ensures) less)
+    (subst (λ (k : Count). IsSupport update c.args.search.level s (take (c.args.turn.place + 1) f.seen.weak.items) c.args.y k) (sym c.less.ensures) less)
     now.gone falls now.others now.joined

@@ -17,8 +17,8 @@ invariant-loop-i g l =
       row : list_of (v.shown l.view).kept l.turn.vertex ≡ list_of (v.shown l.fn.view).kept l.turn.vertex;
       tidy : IsTidyFalling l.search.update (v.shown l.view) l.self;
       still : (z : ℕ) → is_visited l.fn.self z ≡ true → is_visited l.self z ≡ true;
-      longer : l.turn.place < length l.self.list.items;
-      at : get_or l.self.list.items l.turn.place 0 ≡ l.turn.vertex;
+      longer : l.turn.place < length l.self.seen.weak.items;
+      at : get_or l.self.seen.weak.items l.turn.place 0 ≡ l.turn.vertex;
       falls : (s : Ranked) → Agrees (v.shown l.view).kept s → FallsIn l.search.update l.search.level s l.fn.self l.turn.place nobody
           → FallsIn l.search.update l.search.level s l.self l.turn.place
           (has_come l.search.update s l.turn.vertex (take l.i (list_of (v.shown l.fn.view).kept l.turn.vertex)));

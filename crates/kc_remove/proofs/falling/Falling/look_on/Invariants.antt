@@ -21,9 +21,9 @@ invariant-loop-support g l =
       lists : KeepsLists (v.shown l.view);
       looked : IsBound (list_of (v.shown l.fn.view).kept y) l.looked l.bound;
       told : (s : Ranked) → Agrees (v.shown l.view).kept s
-          → ((x : ℕ) → member x l.self.list.items ≡ true → get_or s.core x 0 ≡ l.search.level)
-          → IsSupport l.search.update l.search.level s (take l.y.turns l.self.list.items) y l.fn.count
-          → IsSupport l.search.update l.search.level s (take l.y.turns l.self.list.items) y
+          → ((x : ℕ) → member x l.self.seen.weak.items ≡ true → get_or s.core x 0 ≡ l.search.level)
+          → IsSupport l.search.update l.search.level s (take l.y.turns l.self.seen.weak.items) y l.fn.count
+          → IsSupport l.search.update l.search.level s (take l.y.turns l.self.seen.weak.items) y
           (record { support = l.support; looked = l.looked; bound = l.bound });
     }
 

@@ -28,7 +28,7 @@ pub returns-then-core-search-clause-told : goal.returns-then-core-search-clause-
 returns-then-core-search-clause-told g c = λ s a of_level.
     let o = c.in_ok-core.ensures in
     other_level-counted _ _ _ _ _ c.if-core-search.true (told-core _ _ s _ _ a o.told o.core) (sym c.is_removed.ensures ∙ c.if-is_removed.false)
-    (λ m. of_level c.args.z (take-member c.args.y.turns c.args.self.now.list.items c.args.z m))
+    (λ m. of_level c.args.z (take-member c.args.y.turns c.args.self.now.seen.weak.items c.args.z m))
 
 pub returns-clause-tidy : goal.returns-clause-tidy
 returns-clause-tidy g c =

@@ -9,9 +9,10 @@ use Rattle.kc_remove.proofs.falling.Falling.take_turns.Goals as goal
 pub loop-place-smaller : goal.loop-place-smaller
 loop-place-smaller g c =
     let i = c.loop-place.invariant in
-    let fits : length c.loop-place.self.list.items ≤ (g.V.View.shown c.loop-place.view).size =
+    let fits : length c.loop-place.self.seen.weak.items ≤ (g.V.View.shown c.loop-place.view).size =
     list-fits c.args.search.update (g.V.View.shown c.loop-place.view) c.loop-place.self i.tidy in
-    let l : c.loop-place.place < length c.loop-place.self.list.items = omega (arith, c.len.ensures, c.loop-place-test.true, c.loop-place.self.list.ok.0) in
+    let l : c.loop-place.place < length c.loop-place.self.seen.weak.items =
+    omega (arith, c.len.ensures, c.loop-place-test.true, c.loop-place.self.seen.weak.ok.0) in
     omega (arith, fits, l, i.goes_on.lasts.same_size)
 
 pub loop-place-preserved : goal.loop-place-preserved
@@ -30,6 +31,6 @@ loop-place-preserved g c =
 pub returns-clause-falls : goal.returns-clause-falls
 returns-clause-falls g c = λ s a f.
     let i = c.loop-place.invariant in
-    let e : c.loop-place.place ≡ length c.loop-place.self.list.items =
-    omega (arith, i.place_in, c.len.ensures, c.loop-place-test.false, c.loop-place.self.list.ok.0) in
+    let e : c.loop-place.place ≡ length c.loop-place.self.seen.weak.items =
+    omega (arith, i.place_in, c.len.ensures, c.loop-place-test.false, c.loop-place.self.seen.weak.ok.0) in
     subst (λ (n : ℕ). FallsIn c.args.search.update c.args.search.level s c.loop-place.self n nobody) e (i.falls s a f)

@@ -14,7 +14,7 @@ invariant-loop-place g l =
       goes_on : GoesOn (v.shown l.fn.view) (v.shown l.view);
       tidy : IsTidyFalling l.search.update (v.shown l.view) l.self;
       still : (z : ℕ) → is_visited l.fn.self z ≡ true → is_visited l.self z ≡ true;
-      place_in : l.place ≤ length l.self.list.items;
+      place_in : l.place ≤ length l.self.seen.weak.items;
       falls : (s : Ranked) → Agrees (v.shown l.view).kept s → FallsIn l.search.update l.search.level s l.fn.self 0 nobody
           → FallsIn l.search.update l.search.level s l.self l.place nobody;
     }

@@ -18,7 +18,7 @@ returns-clause-goes_on g c = GoesOn-trans _ _ _ c.degree_of.ensures.goes_on c.co
 
 pub returns-clause-falls : goal.returns-clause-falls
 returns-clause-falls g c = λ s turn part later a lvl.
-    let gone = take c.args.y.turns c.args.self.now.list.items in
+    let gone = take c.args.y.turns c.args.self.now.seen.weak.items in
     c.in_ok-count_on.ensures.falls s turn part later a lvl
     (subst (λ (count : Count). IsSupport c.args.search.update c.args.search.level s gone c.args.y.vertex count) (sym c.new.ensures)
     (none-found c.args.search.update c.args.search.level s gone c.args.y.vertex))
