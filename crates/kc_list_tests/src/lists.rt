@@ -5,7 +5,6 @@ use kc_list::{GROUP_ITEMS, NoMemory, PlainOrder, Write};
 use kc_words::{GroupWord, ITEMS, ItemWord, LAST_VERSION, Shape};
 use std::alloc::Global;
 use std::process::Abort;
-use std::test::Fail;
 
 /// The numbers below `len`, in ascending order.
 fn numbers(alloc: Global, len: u32) -> Result<Vec<u32>, NoMemory>
@@ -57,18 +56,19 @@ fn check_middle(rt: &impl Abort, order: &mut PlainOrder)
     let first = ItemWord::of(order.opening(1));
     put(rt, order, 1, 0);
     assert_eq!(rt; order.writes().len(), 1);
-    assert_eq!(rt; order.writes()[0].word, 2);
-    let word = ItemWord::of(order.writes()[0].value);
-    assert_eq!(rt; word.version, 1);
-    assert_eq!(rt; word.group, first.group);
-    assert_eq!(rt; word.bottom, 393_216);
+    let write = order.writes()[0];
+    let middle = ItemWord {
+        version: 1,
+        group: first.group,
+        bottom: 393_216,
+    };
+    assert_eq!(rt; (write.word, ItemWord::of(write.value)), (2, middle));
 }
 
 #[test]
-fn a_first_put_takes_the_middle_of_the_gap(rt: HostRuntime) -> Result<(), Fail> {
-    let mut order = ascending(rt.alloc(), 2, 1)?;
+fn a_first_put_takes_the_middle_of_the_gap(rt: HostRuntime) {
+    let mut order = ascending(rt.alloc(), 2, 1).expect(&rt, "no memory");
     check_middle(&rt, &mut order);
-    Ok(())
 }
 
 /// Looks at the labels of a list that opened with one group.
@@ -78,19 +78,18 @@ fn check_opening(rt: &impl Abort, order: &PlainOrder, items: u32, bottom: u32)
     requires items { order.now.items ≡ items }
 {
     let first = ItemWord::of(order.opening(1));
-    assert_eq!(rt; first.bottom, bottom);
     assert!(rt; 1 <= first.group && first.group <= items + 1);
     let group = GroupWord::of(order.opening(items + first.group));
-    assert_eq!(rt; group.top, 549_755_813_888);
-    assert_eq!(rt; order.writes().len(), 0);
-    assert_eq!(rt; order.highest(), 0);
+    assert_eq!(rt; (first.bottom, group.top), (bottom, 549_755_813_888));
+    assert_eq!(rt; (order.writes().len(), order.highest()), (0, 0));
 }
 
 #[test]
-fn a_list_opens_with_even_labels(rt: HostRuntime) -> Result<(), Fail> {
-    check_opening(&rt, &ascending(rt.alloc(), 1, 1)?, 1, 262_144);
-    check_opening(&rt, &ascending(rt.alloc(), 32, 32)?, 32, 15_887);
-    Ok(())
+fn a_list_opens_with_even_labels(rt: HostRuntime) {
+    let one = ascending(rt.alloc(), 1, 1).expect(&rt, "no memory");
+    check_opening(&rt, &one, 1, 262_144);
+    let many = ascending(rt.alloc(), 32, 32).expect(&rt, "no memory");
+    check_opening(&rt, &many, 32, 15_887);
 }
 
 /// Fills the group of 0 to 31, and puts one item more into it.
@@ -101,18 +100,19 @@ fn check_split(rt: &impl Abort, order: &mut PlainOrder)
         put(rt, order, x, x - 1);
     }
     put(rt, order, 64, 0);
-    assert_eq!(rt; order.writes().len(), 34);
-    let moved = ItemWord::of(order.writes()[1].value);
-    assert_eq!(rt; order.writes()[0].word, 100 + moved.group);
-    assert_eq!(rt; order.writes()[1].word, 64);
-    assert_eq!(rt; order.writes()[33].word, 65);
+    let writes = order.writes();
+    assert_eq!(rt; writes.len(), 34);
+    let moved = ItemWord::of(writes[1].value);
+    assert_eq!(rt;
+        [writes[0].word, writes[1].word, writes[33].word],
+        [100 + moved.group, 64, 65]
+    );
 }
 
 #[test]
-fn a_full_group_is_split_from_its_last_item_on(rt: HostRuntime) -> Result<(), Fail> {
-    let mut order = ascending(rt.alloc(), 100, 32)?;
+fn a_full_group_is_split_from_its_last_item_on(rt: HostRuntime) {
+    let mut order = ascending(rt.alloc(), 100, 32).expect(&rt, "no memory");
     check_split(&rt, &mut order);
-    Ok(())
 }
 
 /// Puts all items, each right after 0.
@@ -139,11 +139,10 @@ fn check_reverse(rt: &impl Abort, order: &PlainOrder)
 }
 
 #[test]
-fn puts_after_the_first_item_stand_in_reverse(rt: HostRuntime) -> Result<(), Fail> {
-    let mut order = ascending(rt.alloc(), 100_001, 1)?;
+fn puts_after_the_first_item_stand_in_reverse(rt: HostRuntime) {
+    let mut order = ascending(rt.alloc(), 100_001, 1).expect(&rt, "no memory");
     put_all_after_0(&rt, &mut order);
     check_reverse(&rt, &order);
-    Ok(())
 }
 
 /// `y` stands right after `x`.
@@ -217,7 +216,7 @@ fn step(
     turn: u32,
     x: u32,
     random: usize,
-) -> Result<(), Fail>
+)
     requires items { order.old.items ≡ 1000 }
     requires fixed { order.old.fixed ≡ 0 }
     requires x_within { x < 1000 }
@@ -232,23 +231,18 @@ fn step(
         assert!(rt; order.present(x) && order.highest() <= LAST_VERSION - 3);
         order.take(x);
         assert_eq!(rt; order.writes().len(), 1);
-        return Ok(());
+        return;
     }
     assert!(rt; plain.len() > 0);
     let at = choose_place(turn, random / 8, plain.len());
     let p = plain[at];
     assert!(rt; p < 1_000);
-    plain.insert(at + 1, x)?;
+    plain.insert(at + 1, x).expect(rt, "no memory");
     put(rt, order, x, p);
-    Ok(())
 }
 
 /// Many turns in the list and in a plain one, and what they wrote.
-fn take_turns(
-    rt: &impl Abort,
-    order: &mut PlainOrder,
-    plain: &mut Vec<u32>,
-) -> Result<Relabels, Fail>
+fn take_turns(rt: &impl Abort, order: &mut PlainOrder, plain: &mut Vec<u32>) -> Relabels
     requires items { order.old.items ≡ 1000 }
     requires fixed { order.old.fixed ≡ 0 }
     ensures { order.new.items ≡ order.old.items }
@@ -258,10 +252,10 @@ fn take_turns(
     for turn in 0..100_000 {
         let x = next_random(&mut state) % 999 + 1;
         let random = next_random(&mut state);
-        step(rt, order, plain, turn, x as u32, random)?;
+        step(rt, order, plain, turn, x as u32, random);
         relabels.count(rt, 1_000, order.writes());
     }
-    Ok(relabels)
+    relabels
 }
 
 /// The items of the list stand as those of a plain one do, which begins with 0.
@@ -277,20 +271,19 @@ fn check_order(rt: &impl Abort, order: &PlainOrder, plain: &[u32])
 }
 
 /// Many turns in both, which make labels anew in each way that there is.
-fn check_turns(rt: &impl Abort, order: &mut PlainOrder, plain: &mut Vec<u32>) -> Result<(), Fail>
+fn check_turns(rt: &impl Abort, order: &mut PlainOrder, plain: &mut Vec<u32>)
     requires items { order.old.items ≡ 1000 }
     requires fixed { order.old.fixed ≡ 0 }
 {
-    let relabels = take_turns(rt, order, plain)?;
+    let relabels = take_turns(rt, order, plain);
     check_order(rt, order, plain);
     assert!(rt; relabels.spreads > 0 && relabels.splits > 0 && relabels.respreads > 0);
     assert_eq!(rt; relabels.most, 64);
-    Ok(())
 }
 
 #[test]
-fn the_list_is_a_plain_list(rt: HostRuntime) -> Result<(), Fail> {
-    let mut order = ascending(rt.alloc(), 1_000, 500)?;
-    let mut plain = numbers(rt.alloc(), 500)?;
-    check_turns(&rt, &mut order, &mut plain)
+fn the_list_is_a_plain_list(rt: HostRuntime) {
+    let mut order = ascending(rt.alloc(), 1_000, 500).expect(&rt, "no memory");
+    let mut plain = numbers(rt.alloc(), 500).expect(&rt, "no memory");
+    check_turns(&rt, &mut order, &mut plain);
 }

@@ -27,11 +27,12 @@ fn a_told_pass_and_one_split_from_it_load_what_was_stored(rt: HostRuntime) -> Re
     store(&words, &mut seat, 0, PUT_NOTE);
     store(&words, &mut seat, 2, PUT_ITEM);
     tell(&words, &mut seat, &mut pass);
-    assert_eq!(rt; load(&words, &mut pass, 2), PUT_ITEM);
+    let told = load(&words, &mut pass, 2);
     let mut other = split(&words, &mut pass);
-    assert_eq!(rt; load(&words, &mut other, 0), PUT_NOTE);
+    let note = load(&words, &mut other, 0);
     meet(&words, &mut pass, other);
-    assert_eq!(rt; load(&words, &mut pass, 1), 786_432);
+    let opened = load(&words, &mut pass, 1);
+    assert_eq!(rt; [told, note, opened], [PUT_ITEM, PUT_NOTE, 786_432]);
     assert_eq!(rt; shape(&words).items, 2);
     Ok(())
 }
