@@ -1,46 +1,51 @@
 //! Small graphs, with answers worked out by hand.
+ghost use Rattle.std.specs.Prelude.{◌<◌};
+
 use crate::states::graph_of;
 use kc_graph::{Graph, Lawful, Neighbours, SharedGraph, Update, core_numbers, decompose};
 use std::process::Abort;
-use std::test::Fail;
 
 /// Adds or removes the edge between `u` and `v`, and tells whether it changed the graph.
-fn change<R: Abort>(rt: &R, graph: &mut Graph, add: bool, u: u32, v: u32) -> Result<bool, Fail> {
+fn change<R: Abort>(rt: &R, graph: &mut Graph, add: bool, u: u32, v: u32) -> bool {
     assert!(rt; u < v && v < graph.vertices());
     if add {
-        return Ok(graph.add(v, u)?);
+        return graph.add(v, u).expect(rt, "no memory");
     }
-    Ok(graph.remove(v, u))
+    graph.remove(v, u)
+}
+
+/// An update changes the graph or not, and leaves so many edges.
+fn assert_change<R: Abort>(
+    rt: &R,
+    graph: &mut Graph,
+    update: (bool, u32, u32),
+    changes: bool,
+    edges: u64,
+) {
+    let (add, u, v) = update;
+    let changed = change(rt, graph, add, u, v);
+    assert!(rt; u < graph.vertices());
+    let left = (changed, graph.has(u, v), graph.edges());
+    assert_eq!(rt; left, (changes, add, edges), "at {u} {v}");
 }
 
 /// Each update changes the graph or not.
-fn assert_changes<R: Abort>(rt: &R, graph: &mut Graph) -> Result<(), Fail> {
-    // An update, whether it changes the graph, and how many edges there are then.
-    let steps = [
-        (true, 0, 1, true, 1),
-        (true, 2, 3, true, 2),
-        (true, 0, 1, false, 2),
-        (true, 1, 2, true, 3),
-        (false, 0, 3, false, 3),
-        (false, 0, 1, true, 2),
-        (false, 0, 1, false, 2),
-    ];
-    for (add, u, v, changes, edges) in &steps {
-        let changed = change(rt, graph, *add, *u, *v)?;
-        assert_eq!(rt; changed, *changes, "at {u} {v}");
-        assert!(rt; *u < graph.vertices());
-        assert_eq!(rt; graph.has(*u, *v), *add, "at {u} {v}");
-        assert_eq!(rt; graph.edges(), *edges, "at {u} {v}");
-    }
+fn assert_changes<R: Abort>(rt: &R, graph: &mut Graph) {
+    assert_change(rt, graph, (true, 0, 1), true, 1);
+    assert_change(rt, graph, (true, 2, 3), true, 2);
+    assert_change(rt, graph, (true, 0, 1), false, 2);
+    assert_change(rt, graph, (true, 1, 2), true, 3);
+    assert_change(rt, graph, (false, 0, 3), false, 3);
+    assert_change(rt, graph, (false, 0, 1), true, 2);
+    assert_change(rt, graph, (false, 0, 1), false, 2);
     assert!(rt; 2 < graph.vertices());
     assert_eq!(rt; graph.neighbours(2), [1, 3].as_slice());
-    Ok(())
 }
 
 #[test]
-fn updates_tell_whether_they_changed_the_graph(rt: HostRuntime) -> Result<(), Fail> {
-    let mut graph = Graph::new(rt.alloc(), 4)?;
-    assert_changes(&rt, &mut graph)
+fn updates_tell_whether_they_changed_the_graph(rt: HostRuntime) {
+    let mut graph = Graph::new(rt.alloc(), 4).expect(&rt, "no memory");
+    assert_changes(&rt, &mut graph);
 }
 
 /// A decomposition has these core numbers, so many edges, and a place for each vertex.
@@ -56,39 +61,29 @@ fn assert_decomposition<R: Abort>(rt: &R, lawful: &Lawful, core: &[u32], edges: 
 }
 
 /// The core numbers of a graph are these, and so are those of its decomposition.
-fn assert_numbers<R: Abort + AllocGlobal>(
-    rt: &R,
-    graph: &Graph,
-    core: &[u32],
-    edges: u64,
-) -> Result<(), Fail> {
-    assert_eq!(rt; core_numbers(rt.alloc(), graph)?.as_slice(), core);
-    let lawful = decompose(rt.alloc(), graph)?;
+fn assert_numbers<R: Abort + AllocGlobal>(rt: &R, graph: &Graph, core: &[u32], edges: u64) {
+    let numbers = core_numbers(rt.alloc(), graph).expect(rt, "no memory");
+    assert_eq!(rt; numbers.as_slice(), core);
+    let lawful = decompose(rt.alloc(), graph).expect(rt, "no memory");
     assert_decomposition(rt, &lawful, core, edges);
-    Ok(())
 }
 
 /// The core numbers of this graph are these, and its decomposition has its edges and a place for each vertex.
-fn check<R: Abort + AllocGlobal>(
-    rt: &R,
-    vertices: u32,
-    edges: &[(u32, u32)],
-    core: &[u32],
-) -> Result<(), Fail> {
-    let graph = graph_of(rt, vertices, edges)?;
-    assert_numbers(rt, &graph, core, edges.len() as u64)
+fn check<R: Abort + AllocGlobal>(rt: &R, vertices: u32, edges: &[(u32, u32)], core: &[u32]) {
+    let graph = graph_of(rt, vertices, edges);
+    assert_numbers(rt, &graph, core, edges.len() as u64);
 }
 
 #[test]
-fn core_numbers_of_small_graphs(rt: HostRuntime) -> Result<(), Fail> {
-    check(&rt, 0, &[], &[])?;
-    check(&rt, 2, &[], &[0, 0])?;
+fn core_numbers_of_small_graphs(rt: HostRuntime) {
+    check(&rt, 0, &[], &[]);
+    check(&rt, 2, &[], &[0, 0]);
 
     let triangle_with_a_tail = [(0, 1), (0, 2), (1, 2), (2, 3), (3, 4)];
-    check(&rt, 6, &triangle_with_a_tail, &[2, 2, 2, 1, 1, 0])?;
+    check(&rt, 6, &triangle_with_a_tail, &[2, 2, 2, 1, 1, 0]);
 
     let triangles_with_a_common_edge = [(1, 2), (0, 2), (1, 3), (0, 1), (2, 3)];
-    check(&rt, 4, &triangles_with_a_common_edge, &[2, 2, 2, 2])?;
+    check(&rt, 4, &triangles_with_a_common_edge, &[2, 2, 2, 2]);
 
     let all_of_four_and_one_more = [
         (0, 1),
@@ -100,85 +95,87 @@ fn core_numbers_of_small_graphs(rt: HostRuntime) -> Result<(), Fail> {
         (0, 4),
         (1, 4),
     ];
-    check(&rt, 5, &all_of_four_and_one_more, &[3, 3, 3, 3, 2])
+    check(&rt, 5, &all_of_four_and_one_more, &[3, 3, 3, 3, 2]);
 }
 
 /// A list that was shared, and whose first owner is gone.
-fn shared_list<R: AllocGlobal>(rt: &R) -> Result<Neighbours, Fail> {
-    let list = Neighbours::copy_of(rt.alloc(), &[1, 3, 7])?;
-    Ok(list.share()?)
+fn shared_list<R: Abort + AllocGlobal>(rt: &R) -> Neighbours {
+    let list = Neighbours::copy_of(rt.alloc(), &[1, 3, 7]).expect(rt, "no memory");
+    list.share().expect(rt, "no memory")
 }
 
 /// A list that was a vector.
-fn list_of_one<R: AllocGlobal>(rt: &R) -> Result<Neighbours, Fail> {
-    let mut items = Vec::new(rt.alloc());
-    items.push(5u32)?;
-    Ok(Neighbours::from_vec(items)?)
+fn list_of_one<R: Abort + AllocGlobal>(rt: &R) -> Neighbours {
+    let items = Vec::from_slice(rt.alloc(), &[5u32]).expect(rt, "no memory");
+    Neighbours::from_vec(items).expect(rt, "no memory")
 }
 
 #[test]
-fn a_list_of_neighbours_is_shared_and_stays(rt: HostRuntime) -> Result<(), Fail> {
-    let shared = shared_list(&rt)?;
+fn a_list_of_neighbours_is_shared_and_stays(rt: HostRuntime) {
+    let shared = shared_list(&rt);
     assert_eq!(rt; shared.as_slice(), [1, 3, 7].as_slice());
     drop(shared);
-    let one = list_of_one(&rt)?;
+    let one = list_of_one(&rt);
     assert_eq!(rt; one.as_slice(), [5].as_slice());
-    Ok(())
 }
 
 /// A value that other threads may see and get.
 fn goes_between_threads<T: Send + Sync>(_value: &T) {}
 
 /// A square less one edge, as a shared graph.
-fn shared_graph<R: AllocGlobal>(rt: &R) -> Result<SharedGraph, Fail> {
-    let graph = Graph::from_pairs(rt.alloc(), 4, &[(0, 1), (0, 2), (2, 3)])?;
+fn shared_graph<R: Abort + AllocGlobal>(rt: &R) -> SharedGraph {
+    let graph = Graph::from_pairs(rt.alloc(), 4, &[(0, 1), (0, 2), (2, 3)]);
+    let graph = graph.expect(rt, "no memory");
     goes_between_threads(&graph);
-    Ok(SharedGraph::from_graph(graph)?)
+    SharedGraph::from_graph(graph).expect(rt, "no memory")
 }
 
 /// Puts the two lists of an update.
-fn update<R: Abort>(rt: &R, graph: &mut SharedGraph, update: Update) -> Result<(), Fail> {
+fn update<R: Abort>(rt: &R, graph: &mut SharedGraph, update: Update) {
     let Update { add, u, v } = update;
     assert!(rt; u < v && v < graph.vertices() && graph.has(u, v) != add);
-    let lists = graph.lists_after(update)?;
+    let lists = graph.lists_after(update).expect(rt, "no memory");
     graph.put_lists(update, lists);
-    Ok(())
+}
+
+/// An update leaves these neighbours of vertex 0 and so many edges.
+fn assert_update<R: Abort>(
+    rt: &R,
+    graph: &mut SharedGraph,
+    change: (bool, u32, u32),
+    neighbours: &[u32],
+    edges: u64,
+)
+    requires { change.1 < change.2 }
+{
+    let (add, u, v) = change;
+    update(rt, graph, Update { add, u, v });
+    assert!(rt; 0 < graph.vertices());
+    assert_eq!(rt; (graph.neighbours(0), graph.edges()), (neighbours, edges));
 }
 
 /// Updates change the neighbours of vertex 0 and the number of edges.
-fn assert_updates<R: Abort>(rt: &R, graph: &mut SharedGraph) -> Result<(), Fail> {
-    // An update, and the neighbours of vertex 0 and the number of edges after it.
-    let steps: [(bool, u32, u32, &[u32], u64); 3] = [
-        (true, 0, 3, &[1, 2, 3], 4),
-        (false, 0, 1, &[2, 3], 3),
-        (false, 2, 3, &[2, 3], 2),
-    ];
-    for (add, u, v, neighbours, edges) in &steps {
-        let (add, u, v) = (*add, *u, *v);
-        update(rt, graph, Update { add, u, v })?;
-        assert!(rt; 0 < graph.vertices());
-        assert_eq!(rt; graph.neighbours(0), *neighbours);
-        assert_eq!(rt; graph.edges(), *edges);
-    }
-    Ok(())
+fn assert_updates<R: Abort>(rt: &R, graph: &mut SharedGraph) {
+    assert_update(rt, graph, (true, 0, 3), &[1, 2, 3], 4);
+    assert_update(rt, graph, (false, 0, 1), &[2, 3], 3);
+    assert_update(rt, graph, (false, 2, 3), &[2, 3], 2);
 }
 
 /// The list of vertex 0 as it was shared, after updates.
-fn list_before_updates<R: Abort>(rt: &R, graph: &mut SharedGraph) -> Result<Neighbours, Fail> {
+fn list_before_updates<R: Abort>(rt: &R, graph: &mut SharedGraph) -> Neighbours {
     assert!(rt; graph.vertices() == 4);
-    let before = graph.share_neighbours(0)?;
+    let before = graph.share_neighbours(0).expect(rt, "no memory");
     goes_between_threads(graph);
     goes_between_threads(&before);
-    assert_updates(rt, graph)?;
-    Ok(before)
+    assert_updates(rt, graph);
+    before
 }
 
 #[test]
-fn a_shared_list_stays_while_its_graph_changes(rt: HostRuntime) -> Result<(), Fail> {
-    let mut graph = shared_graph(&rt)?;
+fn a_shared_list_stays_while_its_graph_changes(rt: HostRuntime) {
+    let mut graph = shared_graph(&rt);
     assert_eq!(rt;
-        list_before_updates(&rt, &mut graph)?.as_slice(),
+        list_before_updates(&rt, &mut graph).as_slice(),
         [1, 2].as_slice()
     );
-    Ok(())
 }

@@ -4,7 +4,6 @@ use kc_graph::{Lawful, Moves, Plan, Update};
 use kc_insert::plan;
 use kc_view::PlainView;
 use std::process::Abort;
-use std::test::Fail;
 
 /// A graph with its core numbers and an order that certifies them.
 #[derive(Clone, Copy, Drop)]
@@ -16,26 +15,16 @@ struct State<'a> {
 }
 
 /// The plan that adds the edge between `u` and `v` to a graph at rest.
-fn plan_at_rest<R: Abort + AllocGlobal>(
-    rt: &R,
-    lawful: &Lawful,
-    u: u32,
-    v: u32,
-) -> Result<Plan, Fail> {
-    let mut view = PlainView::new(rt.alloc(), lawful)?;
+fn plan_at_rest<R: Abort + AllocGlobal>(rt: &R, lawful: &Lawful, u: u32, v: u32) -> Plan {
+    let mut view = PlainView::new(rt.alloc(), lawful).expect(rt, "no memory");
     assert!(rt; u < v && v < view.state().graph().vertices());
     let update = Update { add: true, u, v };
-    Ok(plan(rt.alloc(), &mut view, update)?)
+    plan(rt.alloc(), &mut view, update).expect(rt, "a plan")
 }
 
 /// The plan that adds the edge between `u` and `v`.
-fn plan_of<R: Abort + AllocGlobal>(
-    rt: &R,
-    state: &State<'_>,
-    u: u32,
-    v: u32,
-) -> Result<Plan, Fail> {
-    let lawful = state_of(rt, state.vertices, state.edges, state.core, state.order)?;
+fn plan_of<R: Abort + AllocGlobal>(rt: &R, state: &State<'_>, u: u32, v: u32) -> Plan {
+    let lawful = state_of(rt, state.vertices, state.edges, state.core, state.order);
     plan_at_rest(rt, &lawful, u, v)
 }
 
@@ -67,32 +56,30 @@ fn assert_asked<R: Abort>(rt: &R, plan: &Plan, lists: &[u32]) {
 }
 
 /// The whole of a path rises where its ends are joined.
-fn assert_ends_joined<R: Abort + AllocGlobal>(rt: &R, path: &State<'_>) -> Result<(), Fail> {
-    let closed = plan_of(rt, path, 0, 3)?;
+fn assert_ends_joined<R: Abort + AllocGlobal>(rt: &R, path: &State<'_>) {
+    let closed = plan_of(rt, path, 0, 3);
     assert_rise(rt, &closed, 1, &[0, 1, 2, 3], &[]);
     assert_asked(rt, &closed, &[0, 1, 2, 3]);
-    Ok(())
 }
 
 /// An edge of a path that is there is kept, and one list tells it.
-fn assert_there<R: Abort + AllocGlobal>(rt: &R, path: &State<'_>) -> Result<(), Fail> {
-    let there = plan_of(rt, path, 1, 2)?;
+fn assert_there<R: Abort + AllocGlobal>(rt: &R, path: &State<'_>) {
+    let there = plan_of(rt, path, 1, 2);
     assert!(rt; matches!(there.moves, Moves::Kept));
     assert_asked(rt, &there, &[1]);
     assert!(rt; there.used.places.is_empty() && there.used.orders.is_empty());
-    Ok(())
 }
 
 #[test]
-fn the_ends_of_a_path_are_joined(rt: HostRuntime) -> Result<(), Fail> {
+fn the_ends_of_a_path_are_joined(rt: HostRuntime) {
     let path = State {
         vertices: 4,
         edges: &[(0, 1), (1, 2), (2, 3)],
         core: &[1, 1, 1, 1],
         order: &[0, 1, 2, 3],
     };
-    assert_ends_joined(&rt, &path)?;
-    assert_there(&rt, &path)
+    assert_ends_joined(&rt, &path);
+    assert_there(&rt, &path);
 }
 
 /// Two edges, whose vertices stand in this order.
@@ -106,57 +93,53 @@ fn two_edges(order: &[u32]) -> State<'_> {
 }
 
 /// The first end of the new edge is evicted, since the vertex behind it does not rise.
-fn assert_evicted<R: Abort + AllocGlobal>(rt: &R) -> Result<(), Fail> {
-    let plan = plan_of(rt, &two_edges(&[0, 1, 2, 3]), 0, 2)?;
+fn assert_evicted<R: Abort + AllocGlobal>(rt: &R) {
+    let plan = plan_of(rt, &two_edges(&[0, 1, 2, 3]), 0, 2);
     assert_rise(rt, &plan, 1, &[], &[(0, 1)]);
-    Ok(())
 }
 
 /// Where the later end of each edge comes first nobody moves.
-fn assert_plain<R: Abort + AllocGlobal>(rt: &R) -> Result<(), Fail> {
-    let plan = plan_of(rt, &two_edges(&[0, 2, 1, 3]), 1, 3)?;
+fn assert_plain<R: Abort + AllocGlobal>(rt: &R) {
+    let plan = plan_of(rt, &two_edges(&[0, 2, 1, 3]), 1, 3);
     assert!(rt; matches!(plan.moves, Moves::Plain));
     assert_asked(rt, &plan, &[1]);
-    Ok(())
 }
 
 #[test]
-fn two_edges_are_joined(rt: HostRuntime) -> Result<(), Fail> {
-    assert_evicted(&rt)?;
-    assert_plain(&rt)
+fn two_edges_are_joined(rt: HostRuntime) {
+    assert_evicted(&rt);
+    assert_plain(&rt);
 }
 
 #[test]
-fn a_vertex_alone_is_joined_to_a_triangle(rt: HostRuntime) -> Result<(), Fail> {
+fn a_vertex_alone_is_joined_to_a_triangle(rt: HostRuntime) {
     let state = State {
         vertices: 4,
         edges: &[(0, 1), (1, 2), (0, 2)],
         core: &[2, 2, 2, 0],
         order: &[3, 0, 1, 2],
     };
-    let plan = plan_of(&rt, &state, 0, 3)?;
+    let plan = plan_of(&rt, &state, 0, 3);
     assert_rise(&rt, &plan, 0, &[3], &[]);
     assert_asked(&rt, &plan, &[0, 3]);
-    Ok(())
 }
 
 /// Two vertices are evicted, one behind the other, in the order in which they were found too weak.
 #[test]
-fn a_ring_of_four_gets_a_chord(rt: HostRuntime) -> Result<(), Fail> {
+fn a_ring_of_four_gets_a_chord(rt: HostRuntime) {
     let ring = State {
         vertices: 4,
         edges: &[(0, 2), (0, 3), (1, 2), (1, 3)],
         core: &[2, 2, 2, 2],
         order: &[0, 1, 2, 3],
     };
-    let plan = plan_of(&rt, &ring, 0, 1)?;
+    let plan = plan_of(&rt, &ring, 0, 1);
     assert_rise(&rt, &plan, 2, &[], &[(0, 2), (1, 0)]);
-    Ok(())
 }
 
 /// Four vertices rise. The one that stands between two of them is evicted, and put behind the one that settles it.
 #[test]
-fn some_rise_and_one_is_evicted(rt: HostRuntime) -> Result<(), Fail> {
+fn some_rise_and_one_is_evicted(rt: HostRuntime) {
     let state = State {
         vertices: 6,
         edges: &[
@@ -173,8 +156,7 @@ fn some_rise_and_one_is_evicted(rt: HostRuntime) -> Result<(), Fail> {
         core: &[2, 2, 2, 2, 2, 2],
         order: &[2, 1, 3, 0, 4, 5],
     };
-    let plan = plan_of(&rt, &state, 2, 5)?;
+    let plan = plan_of(&rt, &state, 2, 5);
     assert_rise(&rt, &plan, 2, &[2, 1, 3, 5], &[(0, 4)]);
     assert_asked(&rt, &plan, &[2, 1, 3, 0, 4, 5]);
-    Ok(())
 }

@@ -4,19 +4,13 @@ use kc_graph::{Lawful, Moves, Plan, Update};
 use kc_remove::plan;
 use kc_view::PlainView;
 use std::process::Abort;
-use std::test::Fail;
 
 /// The plan that takes the edge between `u` and `v` out of a graph at rest.
-fn plan_at_rest<R: Abort + AllocGlobal>(
-    rt: &R,
-    lawful: &Lawful,
-    u: u32,
-    v: u32,
-) -> Result<Plan, Fail> {
-    let mut view = PlainView::new(rt.alloc(), lawful)?;
+fn plan_at_rest<R: Abort + AllocGlobal>(rt: &R, lawful: &Lawful, u: u32, v: u32) -> Plan {
+    let mut view = PlainView::new(rt.alloc(), lawful).expect(rt, "no memory");
     assert!(rt; u < v && v < view.state().graph().vertices());
     let update = Update { add: false, u, v };
-    Ok(plan(rt.alloc(), &mut view, update)?)
+    plan(rt.alloc(), &mut view, update).expect(rt, "a plan")
 }
 
 /// The plan that takes the edge between `u` and `v` out of the graph with these edges.
@@ -26,8 +20,8 @@ fn plan_of<R: Abort + AllocGlobal>(
     edges: &[(u32, u32)],
     u: u32,
     v: u32,
-) -> Result<Plan, Fail> {
-    let lawful = decomposition_of(rt, vertices, edges)?;
+) -> Plan {
+    let lawful = decomposition_of(rt, vertices, edges);
     plan_at_rest(rt, &lawful, u, v)
 }
 
@@ -58,42 +52,38 @@ fn assert_asked<R: Abort>(rt: &R, plan: &Plan, lists: &[u32]) {
 const PATH: [(u32, u32); 3] = [(0, 1), (1, 2), (2, 3)];
 
 /// Nobody falls where the edge in the middle of a path goes.
-fn assert_middle<R: Abort + AllocGlobal>(rt: &R) -> Result<(), Fail> {
-    let middle = plan_of(rt, 4, &PATH, 1, 2)?;
+fn assert_middle<R: Abort + AllocGlobal>(rt: &R) {
+    let middle = plan_of(rt, 4, &PATH, 1, 2);
     assert!(rt; matches!(middle.moves, Moves::Plain));
-    Ok(())
 }
 
 /// The end of a path falls where its edge goes.
-fn assert_end<R: Abort + AllocGlobal>(rt: &R) -> Result<(), Fail> {
-    let end = plan_of(rt, 4, &PATH, 0, 1)?;
+fn assert_end<R: Abort + AllocGlobal>(rt: &R) {
+    let end = plan_of(rt, 4, &PATH, 0, 1);
     assert_fall(rt, &end, 1, &[0]);
     assert_asked(rt, &end, &[0, 1]);
-    Ok(())
 }
 
 /// An edge that is not there is kept so, and one list tells it.
-fn assert_absent<R: Abort + AllocGlobal>(rt: &R) -> Result<(), Fail> {
-    let absent = plan_of(rt, 4, &PATH, 0, 2)?;
+fn assert_absent<R: Abort + AllocGlobal>(rt: &R) {
+    let absent = plan_of(rt, 4, &PATH, 0, 2);
     assert!(rt; matches!(absent.moves, Moves::Kept));
     assert_asked(rt, &absent, &[0]);
     assert!(rt; absent.used.places.is_empty());
-    Ok(())
 }
 
 #[test]
-fn edges_of_a_path(rt: HostRuntime) -> Result<(), Fail> {
-    assert_middle(&rt)?;
-    assert_end(&rt)?;
-    assert_absent(&rt)
+fn edges_of_a_path(rt: HostRuntime) {
+    assert_middle(&rt);
+    assert_end(&rt);
+    assert_absent(&rt);
 }
 
 #[test]
-fn four_vertices_all_joined(rt: HostRuntime) -> Result<(), Fail> {
+fn four_vertices_all_joined(rt: HostRuntime) {
     let edges = [(0, 1), (0, 2), (0, 3), (1, 2), (1, 3), (2, 3)];
-    let plan = plan_of(&rt, 4, &edges, 0, 1)?;
+    let plan = plan_of(&rt, 4, &edges, 0, 1);
     assert_fall(&rt, &plan, 3, &[0, 1, 2, 3]);
-    Ok(())
 }
 
 /// The rim of a wheel, and its spokes to vertex 6.
@@ -115,19 +105,17 @@ const WHEEL: [(u32, u32); 12] = [
 /// The hub of a wheel is visited when three of its rim have fallen, and only vertex 0 is gone. It finds support in 1, 2 and 3, and in 4 when
 /// 1 is gone. When 2 is gone it finds no more, since 5 has had its turn.
 #[test]
-fn a_rim_edge_of_a_wheel(rt: HostRuntime) -> Result<(), Fail> {
-    let plan = plan_of(&rt, 7, &WHEEL, 0, 1)?;
+fn a_rim_edge_of_a_wheel(rt: HostRuntime) {
+    let plan = plan_of(&rt, 7, &WHEEL, 0, 1);
     assert_fall(&rt, &plan, 3, &[0, 1, 5, 2, 4, 3, 6]);
     assert_asked(&rt, &plan, &[0, 1, 5, 6, 2, 4, 3]);
-    Ok(())
 }
 
 /// The vertex that two triangles share keeps two neighbours.
 #[test]
-fn an_edge_of_one_of_two_triangles(rt: HostRuntime) -> Result<(), Fail> {
+fn an_edge_of_one_of_two_triangles(rt: HostRuntime) {
     let edges = [(0, 1), (0, 2), (1, 2), (2, 3), (2, 4), (3, 4)];
-    let plan = plan_of(&rt, 5, &edges, 0, 1)?;
+    let plan = plan_of(&rt, 5, &edges, 0, 1);
     assert_fall(&rt, &plan, 2, &[0, 1]);
     assert_asked(&rt, &plan, &[0, 1, 2]);
-    Ok(())
 }

@@ -1,18 +1,16 @@
 //! Small graphs and certified states, made once for the tests of each file.
-ghost use Rattle.std.specs.Prelude.{IfOk};
 ghost use Rattle.kc_graph.specs.Certificate.{Certifies};
 
 use kc_cert::check;
-use kc_graph::{Graph, Lawful, NoMemory, decompose};
+use kc_graph::{Graph, Lawful, decompose};
 use std::process::Abort;
 
 /// Adds these edges.
-fn add_all<R: Abort>(rt: &R, graph: &mut Graph, edges: &[(u32, u32)]) -> Result<(), NoMemory> {
+fn add_all<R: Abort>(rt: &R, graph: &mut Graph, edges: &[(u32, u32)]) {
     for (u, v) in edges {
         assert!(rt; *u != *v && *u < graph.vertices() && *v < graph.vertices());
-        graph.add(*u, *v)?;
+        graph.add(*u, *v).expect(rt, "no memory");
     }
-    Ok(())
 }
 
 /// The graph with these edges.
@@ -20,10 +18,10 @@ pub(crate) fn graph_of<R: Abort + AllocGlobal>(
     rt: &R,
     vertices: u32,
     edges: &[(u32, u32)],
-) -> Result<Graph, NoMemory> {
-    let mut graph = Graph::new(rt.alloc(), vertices)?;
-    add_all(rt, &mut graph, edges)?;
-    Ok(graph)
+) -> Graph {
+    let mut graph = Graph::new(rt.alloc(), vertices).expect(rt, "no memory");
+    add_all(rt, &mut graph, edges);
+    graph
 }
 
 /// The graph with these edges, with its core numbers and an order that certifies them.
@@ -31,23 +29,17 @@ pub(crate) fn decomposition_of<R: Abort + AllocGlobal>(
     rt: &R,
     vertices: u32,
     edges: &[(u32, u32)],
-) -> Result<Lawful, NoMemory> {
-    let graph = graph_of(rt, vertices, edges)?;
-    decompose(rt.alloc(), &graph)
+) -> Lawful {
+    let graph = graph_of(rt, vertices, edges);
+    decompose(rt.alloc(), &graph).expect(rt, "no memory")
 }
 
 /// The order certifies these core numbers of the graph.
-fn assert_certified<R: Abort + AllocGlobal>(
-    rt: &R,
-    graph: &Graph,
-    core: &[u32],
-    order: &[u32],
-) -> Result<(), NoMemory>
-    ensures { IfOk result (λ _. Certifies graph.now core.now order.now) }
+fn assert_certified<R: Abort + AllocGlobal>(rt: &R, graph: &Graph, core: &[u32], order: &[u32])
+    ensures { Certifies graph.now core.now order.now }
 {
-    let is_certified = check(rt.alloc(), graph, core, order)?;
+    let is_certified = check(rt.alloc(), graph, core, order).expect(rt, "no memory");
     assert!(rt; is_certified);
-    Ok(())
 }
 
 /// The graph with these edges, with core numbers that the order certifies.
@@ -57,10 +49,10 @@ pub(crate) fn state_of<R: Abort + AllocGlobal>(
     edges: &[(u32, u32)],
     core: &[u32],
     order: &[u32],
-) -> Result<Lawful, NoMemory> {
-    let graph = graph_of(rt, vertices, edges)?;
-    assert_certified(rt, &graph, core, order)?;
-    let core = Vec::from_slice(rt.alloc(), core)?;
-    let order = Vec::from_slice(rt.alloc(), order)?;
-    Lawful::new(rt.alloc(), graph, core, order)
+) -> Lawful {
+    let graph = graph_of(rt, vertices, edges);
+    assert_certified(rt, &graph, core, order);
+    let core = Vec::from_slice(rt.alloc(), core).expect(rt, "no memory");
+    let order = Vec::from_slice(rt.alloc(), order).expect(rt, "no memory");
+    Lawful::new(rt.alloc(), graph, core, order).expect(rt, "no memory")
 }

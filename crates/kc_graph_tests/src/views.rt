@@ -2,13 +2,12 @@
 ghost use Rattle.std.specs.Prelude.{◌≢◌, ◌<◌};
 
 use crate::states::decomposition_of;
-use kc_graph::{Lawful, NoMemory, Used};
+use kc_graph::{Lawful, Used};
 use kc_view::{PlainView, PlanFault, View, ViewFault, degree_of, is_neighbour};
 use std::process::Abort;
-use std::test::Fail;
 
 /// A triangle with a tail, and a vertex alone. The core numbers are 2, 2, 2, 1 and 0.
-fn triangle_with_a_tail<R: Abort + AllocGlobal>(rt: &R) -> Result<Lawful, NoMemory> {
+fn triangle_with_a_tail<R: Abort + AllocGlobal>(rt: &R) -> Lawful {
     decomposition_of(rt, 5, &[(0, 1), (0, 2), (1, 2), (2, 3)])
 }
 
@@ -50,65 +49,52 @@ fn assert_lists<R: Abort>(rt: &R, used: &Used, vertices: &[u32]) {
 }
 
 /// `w` has just these neighbours.
-fn assert_neighbours<R: Abort>(
-    rt: &R,
-    view: &mut PlainView<'_>,
-    w: u32,
-    list: &[u32],
-) -> Result<(), Fail> {
+fn assert_neighbours<R: Abort>(rt: &R, view: &mut PlainView<'_>, w: u32, list: &[u32]) {
     for y in 0..6 {
         assert!(rt; w < view.state().graph().vertices());
-        let has = has_neighbour(view, w, y)?;
+        let has = has_neighbour(view, w, y).expect(rt, "an answer");
         assert_eq!(rt; has, list.contains(&y), "{w} and {y}");
     }
-    Ok(())
 }
 
 /// The neighbours of each vertex are found.
-fn assert_all_neighbours<R: Abort>(rt: &R, view: &mut PlainView<'_>) -> Result<(), Fail> {
-    assert_neighbours(rt, view, 0, &[1, 2])?;
-    assert_neighbours(rt, view, 1, &[0, 2])?;
-    assert_neighbours(rt, view, 2, &[0, 1, 3])?;
-    assert_neighbours(rt, view, 3, &[2])?;
-    assert_neighbours(rt, view, 4, &[])
+fn assert_all_neighbours<R: Abort>(rt: &R, view: &mut PlainView<'_>) {
+    assert_neighbours(rt, view, 0, &[1, 2]);
+    assert_neighbours(rt, view, 1, &[0, 2]);
+    assert_neighbours(rt, view, 2, &[0, 1, 3]);
+    assert_neighbours(rt, view, 3, &[2]);
+    assert_neighbours(rt, view, 4, &[]);
 }
 
 #[test]
-fn neighbours_are_found_by_halving(rt: HostRuntime) -> Result<(), Fail> {
-    let lawful = triangle_with_a_tail(&rt)?;
-    let mut view = PlainView::new(rt.alloc(), &lawful)?;
-    assert_all_neighbours(&rt, &mut view)
+fn neighbours_are_found_by_halving(rt: HostRuntime) {
+    let lawful = triangle_with_a_tail(&rt);
+    let mut view = PlainView::new(rt.alloc(), &lawful).expect(&rt, "no memory");
+    assert_all_neighbours(&rt, &mut view);
 }
 
 /// The list of `w` is this one.
-fn assert_list<R: Abort>(
-    rt: &R,
-    view: &mut PlainView<'_>,
-    w: u32,
-    list: &[u32],
-) -> Result<(), Fail> {
+fn assert_list<R: Abort>(rt: &R, view: &mut PlainView<'_>, w: u32, list: &[u32]) {
     assert!(rt; w < view.state().graph().vertices());
-    let (degree, told) = list_of(view, w)?;
-    assert_eq!(rt; (degree as usize, told), (list.len(), list), "at {w}");
-    Ok(())
+    let told = list_of(view, w).expect(rt, "an answer");
+    assert_eq!(rt; (told.0 as usize, told.1), (list.len(), list), "at {w}");
 }
 
 /// The lists of three vertices are told, that of the first once more at the end, and each is handed out once.
-fn assert_each_list<R: Abort>(rt: &R, view: &mut PlainView<'_>) -> Result<(), Fail> {
-    assert_list(rt, view, 2, &[0, 1, 3])?;
-    assert_list(rt, view, 4, &[])?;
-    assert_list(rt, view, 0, &[1, 2])?;
-    assert_list(rt, view, 2, &[0, 1, 3])?;
+fn assert_each_list<R: Abort>(rt: &R, view: &mut PlainView<'_>) {
+    assert_list(rt, view, 2, &[0, 1, 3]);
+    assert_list(rt, view, 4, &[]);
+    assert_list(rt, view, 0, &[1, 2]);
+    assert_list(rt, view, 2, &[0, 1, 3]);
     assert_lists(rt, &view.used(), &[2, 4, 0]);
     assert_lists(rt, &view.used(), &[]);
-    Ok(())
 }
 
 #[test]
-fn lists_of_a_graph_at_rest(rt: HostRuntime) -> Result<(), Fail> {
-    let lawful = triangle_with_a_tail(&rt)?;
-    let mut view = PlainView::new(rt.alloc(), &lawful)?;
-    assert_each_list(&rt, &mut view)
+fn lists_of_a_graph_at_rest(rt: HostRuntime) {
+    let lawful = triangle_with_a_tail(&rt);
+    let mut view = PlainView::new(rt.alloc(), &lawful).expect(&rt, "no memory");
+    assert_each_list(&rt, &mut view);
 }
 
 /// The core numbers and the order of two vertices are these.
@@ -118,11 +104,11 @@ fn assert_compared<R: Abort>(
     x: u32,
     y: u32,
     answer: (u32, u32, bool),
-) -> Result<(), Fail> {
+) {
     let vertices = view.state().graph().vertices();
     assert!(rt; x != y && x < vertices && y < vertices);
-    assert_eq!(rt; compared(view, x, y)?, answer);
-    Ok(())
+    let told = compared(view, x, y).expect(rt, "an answer");
+    assert_eq!(rt; told, answer);
 }
 
 /// Two questions of order were asked, and nothing else.
@@ -134,17 +120,16 @@ fn assert_orders<R: Abort>(rt: &R, used: &Used) {
 }
 
 /// Two questions of order are answered, and handed out.
-fn assert_each_order<R: Abort>(rt: &R, view: &mut PlainView<'_>) -> Result<(), Fail> {
-    assert_compared(rt, view, 3, 0, (1, 2, true))?;
-    assert_compared(rt, view, 0, 3, (2, 1, false))?;
+fn assert_each_order<R: Abort>(rt: &R, view: &mut PlainView<'_>) {
+    assert_compared(rt, view, 3, 0, (1, 2, true));
+    assert_compared(rt, view, 0, 3, (2, 1, false));
     assert_orders(rt, &view.used());
     assert_lists(rt, &view.used(), &[]);
-    Ok(())
 }
 
 #[test]
-fn orders_of_a_graph_at_rest(rt: HostRuntime) -> Result<(), Fail> {
-    let lawful = triangle_with_a_tail(&rt)?;
-    let mut view = PlainView::new(rt.alloc(), &lawful)?;
-    assert_each_order(&rt, &mut view)
+fn orders_of_a_graph_at_rest(rt: HostRuntime) {
+    let lawful = triangle_with_a_tail(&rt);
+    let mut view = PlainView::new(rt.alloc(), &lawful).expect(&rt, "no memory");
+    assert_each_order(&rt, &mut view);
 }
