@@ -49,7 +49,7 @@ fn decomposed<R: Threads + Wait + Sync>(rt: &R, alloc: Global) -> Result<Lawful>
 }
 
 /// Writes core numbers in a line.
-fn write_cores(rt: &HostRuntime, head: &str, cores: &[u32]) -> Result<()> {
+fn write_cores<R: Print>(rt: &R, head: &str, cores: &[u32]) -> Result<()> {
     print!(rt; "{head}:")?;
     for core in cores {
         print!(rt; " {core}")?;
@@ -58,19 +58,34 @@ fn write_cores(rt: &HostRuntime, head: &str, cores: &[u32]) -> Result<()> {
     Ok(())
 }
 
+/// The run of the start, whose core numbers are written.
+fn open_and_write<R: Threads + Wait + Sync + AllocGlobal + Print>(rt: &R) -> Result<Run> {
+    let run = Run::open(rt.alloc(), decomposed(rt, rt.alloc())?, WORKERS)?;
+    write_cores(rt, "start", run.core_numbers())?;
+    Ok(run)
+}
+
+/// Has the workers enter a batch, and writes the core numbers after it.
+fn work_and_write<R: Threads + Wait + Sync + AllocGlobal + Print>(
+    rt: &R,
+    run: Run,
+    head: &str,
+    batch: &[Update],
+) -> Result<Run>
+    requires { All (λ u. u.v < VERTICES) batch.now }
+{
+    let run = run.work(rt, rt.alloc(), batch)?;
+    write_cores(rt, head, run.core_numbers())?;
+    Ok(run)
+}
+
 fn main(rt: HostRuntime) -> Result<()> {
-    let alloc = rt.alloc();
-    let run = Run::open(alloc, decomposed(&rt, alloc)?, WORKERS)?;
-    write_cores(&rt, "start", run.core_numbers())?;
-    let run = run.work(&rt, alloc, &[add(1, 3), add(1, 4), add(2, 4)])?;
-    write_cores(&rt, "batch 1", run.core_numbers())?;
-    let run = run.work(
-        &rt,
-        alloc,
-        &[add(2, 5), add(1, 5), remove(0, 1), remove(0, 2)],
-    )?;
-    write_cores(&rt, "batch 2", run.core_numbers())?;
-    let run = run.work(&rt, alloc, &[remove(2, 3), remove(4, 5), add(0, 5)])?;
-    write_cores(&rt, "batch 3", run.core_numbers())?;
+    let run = open_and_write(&rt)?;
+    let batch = [add(1, 3), add(1, 4), add(2, 4)];
+    let run = work_and_write(&rt, run, "batch 1", &batch)?;
+    let batch = [add(2, 5), add(1, 5), remove(0, 1), remove(0, 2)];
+    let run = work_and_write(&rt, run, "batch 2", &batch)?;
+    let batch = [remove(2, 3), remove(4, 5), add(0, 5)];
+    work_and_write(&rt, run, "batch 3", &batch)?;
     Ok(())
 }
