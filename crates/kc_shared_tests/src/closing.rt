@@ -1,5 +1,5 @@
 //! A run that is closed after one worker has entered an update.
-ghost use Rattle.std.specs.Prelude.{◌≡◌, IfOk};
+ghost use Rattle.std.specs.Prelude.{◌≡◌};
 
 use crate::runs::run_of;
 use crate::worker::Worker;
@@ -10,7 +10,6 @@ use std::marker::Brand;
 use std::process::Abort;
 use std::sync::Wait;
 use std::sync::ledger::{Blank, Ledger, Share};
-use std::test::Fail;
 
 /// One worker enters an update, and gives its pass and its part again.
 fn enter_by_one<K: Name + Ledger, R: Wait + Abort + AllocGlobal>(
@@ -19,16 +18,16 @@ fn enter_by_one<K: Name + Ledger, R: Wait + Abort + AllocGlobal>(
     pass: Pass,
     part: Share<K>,
     update: Update,
-) -> Result<(Pass, Share<K>), Fail>
+) -> (Pass, Share<K>)
     requires table { pass.table ≡ K.table }
     requires part { part.parts ≡ 1 }
-    ensures { IfOk result (λ r. r.1.parts ≡ 1) }
+    ensures { result.1.parts ≡ 1 }
 {
     assert!(rt; update.v < shape(&shared.words).fixed);
-    let mut worker = Worker::hire(rt, &shared.words, pass, part)?;
+    let mut worker = Worker::hire(rt, &shared.words, pass, part);
     worker.enter_at_last(rt, shared, 0, update);
     let Worker { pass, part, .. } = worker;
-    Ok((pass, part))
+    (pass, part)
 }
 
 /// The same in a run that nobody else has a part of, which gives its parts again.
@@ -38,43 +37,46 @@ fn enter_alone<K: Name + Ledger, R: Wait + Abort + AllocGlobal>(
     pass: Pass,
     blank: Blank,
     update: Update,
-) -> Result<(Parts, Pass), Fail>
+) -> (Parts, Pass)
     requires table { (parts.words ≡ K.table) × (pass.table ≡ K.table) }
     requires opened { (parts.journal.opened ≡ K.opening_edges) × (parts.journal.opening_stamps ≡ K.opening_stamps) }
     requires started { parts.journal.started ≡ K.start_edges }
     requires now { (parts.journal.levels.log ≡ K.log) × (parts.journal.entries ≡ K.entries) }
     requires ledger { (blank.name ≡ K.name) × (blank.parts ≡ K.parts) × (K.parts ≡ 1) }
 {
-    let Ok((shared, part)) = Shared::<K>::new(rt.alloc(), parts, blank) else {
-        return Err("no memory".into());
+    let (shared, part) = match Shared::<K>::new(rt.alloc(), parts, blank) {
+        Ok(shared) => shared,
+        Err(_) => panic!(rt; "no memory"),
     };
-    let (pass, part) = enter_by_one(rt, &shared, pass, part, update)?;
-    Ok((shared.into_parts(part), pass))
+    let (pass, part) = enter_by_one(rt, &shared, pass, part, update);
+    (shared.into_parts(part), pass)
 }
 
 /// The state of a run that is closed with one pass.
-fn closed<R: AllocGlobal>(rt: &R, parts: Parts, pass: Pass) -> Result<Lawful, Fail> {
-    let passes = vec![in rt.alloc(); pass]?;
-    Ok(parts.close(rt.alloc(), passes)?)
+fn closed<R: Abort + AllocGlobal>(rt: &R, parts: Parts, pass: Pass) -> Lawful {
+    let passes = vec![in rt.alloc(); pass].expect(rt, "no memory");
+    match parts.close(rt.alloc(), passes) {
+        Ok(lawful) => lawful,
+        Err(_) => panic!(rt; "no memory"),
+    }
 }
 
 /// The state has five edges among four vertices, each of core number 2, in ascending order.
 fn assert_five_edges<R: Abort>(rt: &R, lawful: &Lawful) {
-    assert_eq!(rt; lawful.graph().edges(), 5);
-    assert_eq!(rt; lawful.core(), [2, 2, 2, 2].as_slice());
-    assert_eq!(rt; lawful.order(), [0, 1, 2, 3].as_slice());
+    let closed = (lawful.graph().edges(), lawful.core(), lawful.order());
+    let (core, order) = ([2, 2, 2, 2], [0, 1, 2, 3]);
+    assert_eq!(rt; closed, (5, core.as_slice(), order.as_slice()));
 }
 
 #[test]
-fn a_run_that_is_closed_gives_what_its_journal_has(rt: HostRuntime) -> Result<(), Fail> {
+fn a_run_that_is_closed_gives_what_its_journal_has(rt: HostRuntime) {
     let clique = [(0, 1), (0, 2), (0, 3), (1, 2), (1, 3), (2, 3)];
-    let (parts, pass) = run_of(&rt, 4, &clique)?;
+    let (parts, pass) = run_of(&rt, 4, &clique);
     let removal = Update {
         add: false,
         u: 0,
         v: 1,
     };
-    let (parts, pass) = enter_alone::<Brand, _>(&rt, parts, pass, Blank::new(1), removal)?;
-    assert_five_edges(&rt, &closed(&rt, parts, pass)?);
-    Ok(())
+    let (parts, pass) = enter_alone::<Brand, _>(&rt, parts, pass, Blank::new(1), removal);
+    assert_five_edges(&rt, &closed(&rt, parts, pass));
 }

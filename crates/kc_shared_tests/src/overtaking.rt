@@ -1,5 +1,5 @@
 //! Plans that are overtaken, also over a table that the run has gone on in.
-ghost use Rattle.std.specs.Prelude.{◌≡◌, ◌<◌, IfOk};
+ghost use Rattle.std.specs.Prelude.{◌≡◌, ◌<◌};
 
 use crate::runs::{assert_decomposed, run_of};
 use crate::worker::Worker;
@@ -12,7 +12,6 @@ use std::marker::Brand;
 use std::process::Abort;
 use std::sync::Wait;
 use std::sync::ledger::{Blank, Ledger, Share};
-use std::test::Fail;
 
 /// A plan that is overtaken: `late` is planned, and then `early` is entered, with this number. The plan is refused so.
 #[derive(Clone, Copy)]
@@ -51,10 +50,12 @@ fn overtake<K: Name + Ledger, R: Wait + Abort + AllocGlobal>(
     } = overtaken;
     let before = worker.plan_alone(rt, shared, late);
     let first = worker.plan_alone(rt, shared, early);
-    assert_eq!(rt; worker.enter(rt, shared, 0, &first), applied(0, place));
-    assert_eq!(rt; worker.enter(rt, shared, 1, &before), Err(refused));
+    let entered = worker.enter(rt, shared, 0, &first);
+    let overtaken = worker.enter(rt, shared, 1, &before);
     let anew = worker.plan_alone(rt, shared, late);
-    assert_eq!(rt; worker.enter(rt, shared, 1, &anew), applied(1, place + 1));
+    let at_last = worker.enter(rt, shared, 1, &anew);
+    let wanted = [applied(0, place), Err(refused), applied(1, place + 1)];
+    assert_eq!(rt; [entered, overtaken, at_last], wanted);
 }
 
 /// One worker does so, and gives its pass and its part again.
@@ -64,19 +65,19 @@ fn overtake_by_one<K: Name + Ledger, R: Wait + Abort + AllocGlobal>(
     pass: Pass,
     part: Share<K>,
     overtaken: Overtaken,
-) -> Result<(Pass, Share<K>), Fail>
+) -> (Pass, Share<K>)
     requires table { pass.table ≡ K.table }
     requires part { part.parts ≡ 1 }
-    ensures { IfOk result (λ r. (r.0.table ≡ K.table) × (r.1.parts ≡ 1)) }
+    ensures { (result.0.table ≡ K.table) × (result.1.parts ≡ 1) }
 {
     let vertices = shape(&shared.words).fixed;
     assert!(rt;
         overtaken.late.v < vertices && overtaken.early.v < vertices && overtaken.place < INDICES
     );
-    let mut worker = Worker::hire(rt, &shared.words, pass, part)?;
+    let mut worker = Worker::hire(rt, &shared.words, pass, part);
     overtake(rt, shared, &mut worker, overtaken);
     let Worker { pass, part, .. } = worker;
-    Ok((pass, part))
+    (pass, part)
 }
 
 /// The same in a run that nobody else has a part of, which gives its parts again.
@@ -86,19 +87,20 @@ fn overtake_alone<K: Name + Ledger, R: Wait + Abort + AllocGlobal>(
     pass: Pass,
     blank: Blank,
     overtaken: Overtaken,
-) -> Result<(Parts, Pass), Fail>
+) -> (Parts, Pass)
     requires table { (parts.words ≡ K.table) × (pass.table ≡ K.table) }
     requires opened { (parts.journal.opened ≡ K.opening_edges) × (parts.journal.opening_stamps ≡ K.opening_stamps) }
     requires started { parts.journal.started ≡ K.start_edges }
     requires now { (parts.journal.levels.log ≡ K.log) × (parts.journal.entries ≡ K.entries) }
     requires ledger { (blank.name ≡ K.name) × (blank.parts ≡ K.parts) × (K.parts ≡ 1) }
-    ensures { IfOk result (λ r. r.1.table ≡ r.0.words) }
+    ensures { result.1.table ≡ result.0.words }
 {
-    let Ok((shared, part)) = Shared::<K>::new(rt.alloc(), parts, blank) else {
-        return Err("no memory".into());
+    let (shared, part) = match Shared::<K>::new(rt.alloc(), parts, blank) {
+        Ok(shared) => shared,
+        Err(_) => panic!(rt; "no memory"),
     };
-    let (pass, part) = overtake_by_one(rt, &shared, pass, part, overtaken)?;
-    Ok((shared.into_parts(part), pass))
+    let (pass, part) = overtake_by_one(rt, &shared, pass, part, overtaken);
+    (shared.into_parts(part), pass)
 }
 
 /// The same where the run begins at what its parts have now.
@@ -107,30 +109,22 @@ fn overtake_in_run<R: Wait + Abort + AllocGlobal>(
     parts: Parts,
     pass: Pass,
     overtaken: Overtaken,
-) -> Result<(Parts, Pass), Fail>
+) -> (Parts, Pass)
     requires { pass.table ≡ parts.words }
-    ensures { IfOk result (λ r. r.1.table ≡ r.0.words) }
+    ensures { result.1.table ≡ result.0.words }
 {
     overtake_alone::<Brand, R>(rt, parts, pass, Blank::new(1), overtaken)
 }
 
 /// The run goes on in a fresh table, whose base is the number of its entries, and gives a pass that has seen it.
-fn renew<R: Abort + AllocGlobal>(
-    rt: &R,
-    parts: &mut Parts,
-    pass: Pass,
-    base: u32,
-) -> Result<Pass, Fail>
+fn renew<R: Abort + AllocGlobal>(rt: &R, parts: &mut Parts, pass: Pass, base: u32) -> Pass
     requires { pass.table ≡ parts.old.words }
-    ensures { IfOk result (λ pass. pass.table ≡ parts.new.words) }
+    ensures { result.table ≡ parts.new.words }
 {
-    let mut passes = vec![in rt.alloc(); pass]?;
-    parts.renew(rt.alloc(), &mut passes)?;
+    let mut passes = vec![in rt.alloc(); pass].expect(rt, "no memory");
+    parts.renew(rt.alloc(), &mut passes).expect(rt, "no memory");
     assert_eq!(rt; shape(&parts.words).base, base);
-    match passes.pop() {
-        Some(pass) => Ok(pass),
-        None => Err("there was one pass".into()),
-    }
+    passes.pop().expect(rt, "there was one pass")
 }
 
 /// The run has these edges among four vertices, with the core numbers that belong to them, these edge stamps, and so many entries.
@@ -140,11 +134,11 @@ fn assert_run<R: Abort + AllocGlobal>(
     edges: &[(u32, u32)],
     stamps: &[u32],
     entries: usize,
-) -> Result<(), Fail> {
-    assert_decomposed(rt, &parts.journal, 4, edges)?;
-    assert_eq!(rt; parts.journal.edge_stamps().as_slice(), stamps);
-    assert_eq!(rt; parts.journal.entries().len(), entries);
-    Ok(())
+) {
+    assert_decomposed(rt, &parts.journal, 4, edges);
+    let journal = &parts.journal;
+    let left = (journal.edge_stamps().as_slice(), journal.entries().len());
+    assert_eq!(rt; left, (stamps, entries));
 }
 
 /// The update that is planned first is to add an edge of vertex 0; before it the other one removes one. The plan has read the list of
@@ -175,38 +169,34 @@ fn of_vertex_0(late: u32, early: u32, used: u32) -> Overtaken
 }
 
 /// A run on the edges 0 1 and 2 3 where a plan was overtaken.
-fn overtaken_once<R: Wait + Abort + AllocGlobal>(rt: &R) -> Result<(Parts, Pass), Fail>
-    ensures { IfOk result (λ r. r.1.table ≡ r.0.words) }
+fn overtaken_once<R: Wait + Abort + AllocGlobal>(rt: &R) -> (Parts, Pass)
+    ensures { result.1.table ≡ result.0.words }
 {
-    let (parts, pass) = run_of(rt, 4, &[(0, 1), (2, 3)])?;
+    let (parts, pass) = run_of(rt, 4, &[(0, 1), (2, 3)]);
     overtake_in_run(rt, parts, pass, of_vertex_0(2, 1, 0))
 }
 
 /// What the run has before its table is renewed it has after it.
-fn renew_and_look<R: Abort + AllocGlobal>(
-    rt: &R,
-    parts: &mut Parts,
-    pass: Pass,
-) -> Result<Pass, Fail>
+fn renew_and_look<R: Abort + AllocGlobal>(rt: &R, parts: &mut Parts, pass: Pass) -> Pass
     requires { pass.table ≡ parts.old.words }
-    ensures { IfOk result (λ pass. pass.table ≡ parts.new.words) }
+    ensures { result.table ≡ parts.new.words }
 {
-    assert_run(rt, parts, &[(0, 2), (2, 3)], &[2, 1, 2, 0], 2)?;
-    let pass = renew(rt, parts, pass, 2)?;
-    assert_run(rt, parts, &[(0, 2), (2, 3)], &[2, 1, 2, 0], 2)?;
-    Ok(pass)
+    assert_run(rt, parts, &[(0, 2), (2, 3)], &[2, 1, 2, 0], 2);
+    let pass = renew(rt, parts, pass, 2);
+    assert_run(rt, parts, &[(0, 2), (2, 3)], &[2, 1, 2, 0], 2);
+    pass
 }
 
 /// The run after its table was renewed and another plan was overtaken.
-fn overtaken_again<R: Wait + Abort + AllocGlobal>(rt: &R) -> Result<Parts, Fail> {
-    let (mut parts, pass) = overtaken_once(rt)?;
-    let pass = renew_and_look(rt, &mut parts, pass)?;
-    let (parts, _) = overtake_in_run(rt, parts, pass, of_vertex_0(3, 2, 2))?;
-    Ok(parts)
+fn overtaken_again<R: Wait + Abort + AllocGlobal>(rt: &R) -> Parts {
+    let (mut parts, pass) = overtaken_once(rt);
+    let pass = renew_and_look(rt, &mut parts, pass);
+    let (parts, _) = overtake_in_run(rt, parts, pass, of_vertex_0(3, 2, 2));
+    parts
 }
 
 #[test]
-fn a_plan_that_is_overtaken_is_refused_also_in_a_fresh_table(rt: HostRuntime) -> Result<(), Fail> {
-    let parts = overtaken_again(&rt)?;
-    assert_run(&rt, &parts, &[(0, 3), (2, 3)], &[4, 1, 3, 4], 4)
+fn a_plan_that_is_overtaken_is_refused_also_in_a_fresh_table(rt: HostRuntime) {
+    let parts = overtaken_again(&rt);
+    assert_run(&rt, &parts, &[(0, 3), (2, 3)], &[4, 1, 3, 4], 4);
 }

@@ -1,5 +1,5 @@
 //! Runs on small graphs, and what their journals have.
-ghost use Rattle.std.specs.Prelude.{◌≡◌, ◌≤◌, IfOk};
+ghost use Rattle.std.specs.Prelude.{◌≡◌, ◌≤◌};
 
 use kc_graph::{Graph, Lawful, decompose_owned};
 use kc_journal::Journal;
@@ -7,22 +7,17 @@ use kc_shared::Parts;
 use kc_table::Pass;
 use kc_words::VERTICES;
 use std::process::Abort;
-use std::test::Fail;
 
 /// The graph with these edges, each with its lesser end first.
-fn graph_of<R: Abort + AllocGlobal>(
-    rt: &R,
-    vertices: u32,
-    edges: &[(u32, u32)],
-) -> Result<Graph, Fail>
-    ensures { IfOk result (λ graph. graph.size ≡ vertices) }
+fn graph_of<R: Abort + AllocGlobal>(rt: &R, vertices: u32, edges: &[(u32, u32)]) -> Graph
+    ensures { result.size ≡ vertices }
 {
-    let mut graph = Graph::new(rt.alloc(), vertices)?;
+    let mut graph = Graph::new(rt.alloc(), vertices).expect(rt, "no memory");
     for (u, v) in edges {
         assert!(rt; *u < *v && *v < vertices);
-        graph.add(*u, *v)?;
+        graph.add(*u, *v).expect(rt, "no memory");
     }
-    Ok(graph)
+    graph
 }
 
 /// A run that begins with these edges.
@@ -30,12 +25,19 @@ pub(crate) fn run_of<R: Abort + AllocGlobal>(
     rt: &R,
     vertices: u32,
     edges: &[(u32, u32)],
-) -> Result<(Parts, Pass), Fail>
+) -> (Parts, Pass)
     requires { vertices ≤ VERTICES }
-    ensures { IfOk result (λ r. r.1.table ≡ r.0.words) }
+    ensures { result.1.table ≡ result.0.words }
 {
-    let graph = graph_of(rt, vertices, edges)?;
-    Ok(Parts::open(rt.alloc(), decompose_owned(rt.alloc(), graph)?, 0)?)
+    let lawful = decomposed(rt, vertices, edges);
+    Parts::open(rt.alloc(), lawful, 0).expect(rt, "no memory")
+}
+
+/// The graph with these edges, and its core numbers.
+fn decomposed<R: Abort + AllocGlobal>(rt: &R, vertices: u32, edges: &[(u32, u32)]) -> Lawful
+    ensures { result.graph.size ≡ vertices }
+{
+    decompose_owned(rt.alloc(), graph_of(rt, vertices, edges)).expect(rt, "no memory")
 }
 
 /// The journal has these edges, and the core numbers that `decompose` finds for them.
@@ -44,11 +46,10 @@ pub(crate) fn assert_decomposed<R: Abort + AllocGlobal>(
     journal: &Journal,
     vertices: u32,
     edges: &[(u32, u32)],
-) -> Result<(), Fail> {
-    let lawful = decompose_owned(rt.alloc(), graph_of(rt, vertices, edges)?)?;
+) {
+    let lawful = decomposed(rt, vertices, edges);
     assert_eq!(rt; journal.graph().vertices(), vertices);
     assert_same(rt, journal, &lawful);
-    Ok(())
 }
 
 /// Graph and core numbers are those.

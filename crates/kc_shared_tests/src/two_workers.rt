@@ -8,8 +8,7 @@ use kc_table::{Name, Pass, split};
 use std::marker::Brand;
 use std::process::Abort;
 use std::sync::Wait;
-use std::sync::ledger::{Blank, Ledger};
-use std::test::Fail;
+use std::sync::ledger::{Blank, Ledger, Share};
 use std::thread;
 use std::thread::Threads;
 
@@ -34,41 +33,55 @@ const AT_LAST: [(u32, u32); 8] = [
     (3, 4),
 ];
 
-/// Two workers enter updates at once, until all are entered.
+/// Two workers enter updates at once, until all are entered, and give their part again.
+fn go_over_at_once<K: Name + Ledger + Send + Sync, R: Threads + Wait + Abort + AllocGlobal + Sync>(
+    rt: &R,
+    shared: &Shared<K>,
+    mut pass: Pass,
+    mut part: Share<K>,
+) -> Share<K>
+    requires table { pass.table ≡ K.table }
+    requires two { part.parts ≡ 2 }
+    ensures { result.parts ≡ 2 }
+{
+    let other = split(&shared.words, &mut pass);
+    let second = Worker::hire(rt, &shared.words, other, part.split_off(1, 0));
+    let first = Worker::hire(rt, &shared.words, pass, part);
+    let (first, second) = thread::join(
+        rt,
+        move || first.go_over(rt, shared, &FIRST),
+        move || second.go_over(rt, shared, &SECOND),
+    );
+    let Worker { mut part, .. } = first;
+    part.merge(second.part);
+    part
+}
+
+/// The same in a run that nobody else has a part of.
 fn go_over_by_two<K: Name + Ledger + Send + Sync, R: Threads + Wait + Abort + AllocGlobal + Sync>(
     rt: &R,
     parts: Parts,
-    mut pass: Pass,
+    pass: Pass,
     blank: Blank,
-) -> Result<Parts, Fail>
+) -> Parts
     requires table { (parts.words ≡ K.table) × (pass.table ≡ K.table) }
     requires opened { (parts.journal.opened ≡ K.opening_edges) × (parts.journal.opening_stamps ≡ K.opening_stamps) }
     requires started { parts.journal.started ≡ K.start_edges }
     requires now { (parts.journal.levels.log ≡ K.log) × (parts.journal.entries ≡ K.entries) }
     requires ledger { (blank.name ≡ K.name) × (blank.parts ≡ K.parts) × (K.parts ≡ 2) }
 {
-    let Ok((shared, mut part)) = Shared::<K>::new(rt.alloc(), parts, blank) else {
-        return Err("no memory".into());
+    let (shared, part) = match Shared::<K>::new(rt.alloc(), parts, blank) {
+        Ok(shared) => shared,
+        Err(_) => panic!(rt; "no memory"),
     };
-    let lent = &shared;
-    let other = split(&shared.words, &mut pass);
-    let second = Worker::hire(rt, &shared.words, other, part.split_off(1, 0))?;
-    let first = Worker::hire(rt, &shared.words, pass, part)?;
-    let (first, second) = thread::join(
-        rt,
-        move || first.go_over(rt, lent, &FIRST),
-        move || second.go_over(rt, lent, &SECOND),
-    );
-    let Worker { mut part, .. } = first;
-    part.merge(second.part);
-    Ok(shared.into_parts(part))
+    let part = go_over_at_once(rt, &shared, pass, part);
+    shared.into_parts(part)
 }
 
 #[test]
-fn two_workers_enter_all_that_they_are_told(rt: HostRuntime) -> Result<(), Fail> {
-    let (parts, pass) = run_of(&rt, 5, &START)?;
-    let parts = go_over_by_two::<Brand, _>(&rt, parts, pass, Blank::new(2))?;
-    assert_decomposed(&rt, &parts.journal, 5, &AT_LAST)?;
+fn two_workers_enter_all_that_they_are_told(rt: HostRuntime) {
+    let (parts, pass) = run_of(&rt, 5, &START);
+    let parts = go_over_by_two::<Brand, _>(&rt, parts, pass, Blank::new(2));
+    assert_decomposed(&rt, &parts.journal, 5, &AT_LAST);
     assert_eq!(rt; parts.journal.entries().len(), 606);
-    Ok(())
 }

@@ -15,7 +15,6 @@ use kc_words::INDICES;
 use std::process::Abort;
 use std::sync::Wait;
 use std::sync::ledger::{Ledger, Share};
-use std::test::Fail;
 
 /// How often a worker goes over its edges. It is odd, so at the end all of them are there.
 const ROUNDS: u32 = 101;
@@ -33,21 +32,21 @@ pub(crate) struct Worker<K: Name + Ledger> {
 
 impl<K: Name + Ledger> Worker<K> {
     /// One who has this part of the ledger, and has seen what the pass has.
-    pub(crate) fn hire<R: AllocGlobal>(
+    pub(crate) fn hire<R: Abort + AllocGlobal>(
         rt: &R,
         words: &Words,
         pass: Pass,
         part: Share<K>,
-    ) -> Result<Worker<K>, Fail>
+    ) -> Worker<K>
         requires table { (words.now ≡ K.table) × (pass.table ≡ K.table) }
         requires part { part.parts ≡ 1 }
     {
-        let scratch = Scratch::new(rt.alloc(), shape(words).fixed)?;
-        Ok(Worker {
+        let scratch = Scratch::new(rt.alloc(), shape(words).fixed).expect(rt, "no memory");
+        Worker {
             pass,
             part,
             scratch,
-        })
+        }
     }
 
     /// A plan of an update, made of what the pass has seen then. There is none where a word changed beneath it.

@@ -16,7 +16,7 @@ use Rattle.kc_view.specs.contracts.scratch.Scratch as scratch
 use Rattle.kc_stripes.proofs.Crossing.{captures_send, pass_send}
 use Rattle.kc_shared_tests.specs.contracts.worker.Worker as worker
 use Rattle.kc_shared.proofs.Crossing.{shared_sync}
-use Rattle.kc_shared_tests.proofs.two_workers.go_over_by_two.Goals as goal
+use Rattle.kc_shared_tests.proofs.two_workers.go_over_at_once.Goals as goal
 
 -- a scratch may go to another thread
 scratch_send : IsSend scratch.the_row
