@@ -6,7 +6,7 @@ use kc_graph::{Graph, NoMemory, Update};
 use std::alloc::Global;
 
 /// Numbers that follow from a seed and from nothing else (Steele, Lea and Flood 2014).
-#[derive(Debug, Drop)]
+#[derive(Drop)]
 pub(crate) struct Draws {
     state: u64,
 }

@@ -1,5 +1,5 @@
 //! Plans, and the states after them.
-ghost use Rattle.std.specs.Prelude.{◌≡◌, ◌<◌, IfOk, IsTrue};
+ghost use Rattle.std.specs.Prelude.{◌≡◌, ◌<◌, IsTrue};
 ghost use Rattle.kc_graph.specs.Certificate.{Certifies};
 ghost use Rattle.kc_view.specs.Answers.{nothing_answered};
 
@@ -9,7 +9,6 @@ use kc_graph::{Graph, Lawful, Moves, NoMemory, Plan, Update, decompose};
 use kc_view::{PlainView, PlanFault, View};
 use std::alloc::Global;
 use std::process::Abort;
-use std::test::Fail;
 
 /// The plan of an update over a view, by the planner that it is for.
 pub(crate) fn plan_over<V: View>(
@@ -28,11 +27,11 @@ pub(crate) fn plan_over<V: View>(
 }
 
 /// The plan of an update in a state.
-pub(crate) fn plan_of(alloc: Global, state: &Lawful, update: Update) -> Result<Plan, PlanFault>
+pub(crate) fn plan_of<R: Abort + AllocGlobal>(rt: &R, state: &Lawful, update: Update) -> Plan
     requires { update.v < state.now.graph.size }
 {
-    let mut view = PlainView::new(alloc, state)?;
-    plan_over(alloc, &mut view, update)
+    let mut view = PlainView::new(rt.alloc(), state).expect(rt, "no memory");
+    plan_over(rt.alloc(), &mut view, update).expect(rt, "a plan")
 }
 
 /// Adds the edges of a graph, all but the one that an update removes, and the one that it adds.
@@ -52,10 +51,10 @@ fn add_updated(after: &mut Graph, graph: &Graph, update: Update) -> Result<(), N
 }
 
 /// The graph with the edge of an update, or without it.
-fn updated(alloc: Global, graph: &Graph, update: Update) -> Result<Graph, NoMemory> {
-    let mut after = Graph::new(alloc, graph.vertices())?;
-    add_updated(&mut after, graph, update)?;
-    Ok(after)
+fn updated<R: Abort + AllocGlobal>(rt: &R, graph: &Graph, update: Update) -> Graph {
+    let mut after = Graph::new(rt.alloc(), graph.vertices()).expect(rt, "no memory");
+    add_updated(&mut after, graph, update).expect(rt, "no memory");
+    after
 }
 
 /// Asserts what is to hold of a plan in a state.
@@ -66,28 +65,21 @@ fn assert_so<R: Abort>(rt: &R, state: &Lawful, plan: &Plan, is_so: bool)
 }
 
 /// A plan fits the state that it was made in: it passes the local test, and changes nothing exactly where its update is not applied.
-fn assert_fits<R: Abort + AllocGlobal>(rt: &R, state: &Lawful, plan: &Plan) -> Result<(), Fail> {
+fn assert_fits<R: Abort + AllocGlobal>(rt: &R, state: &Lawful, plan: &Plan) {
     let update = plan.update;
-    assert_so(rt, state, plan, local_check(rt.alloc(), state, plan)?);
+    let is_local = local_check(rt.alloc(), state, plan).expect(rt, "no memory");
+    assert_so(rt, state, plan, is_local);
     assert!(rt; update.u < state.graph().vertices());
     let is_applied = state.graph().has(update.u, update.v) != update.add;
     let is_kept = matches!(plan.moves, Moves::Kept);
     assert_so(rt, state, plan, is_kept != is_applied);
-    Ok(())
 }
 
 /// The levels of a state, once the moves of a plan were made.
-fn moved(alloc: Global, state: &Lawful, plan: &Plan) -> Result<Levels, NoMemory> {
-    let mut levels = Levels::of(alloc, state)?;
-    levels.make(alloc, &plan.moves)?;
-    Ok(levels)
-}
-
-/// The graph and the levels that a plan leaves.
-fn made(alloc: Global, state: &Lawful, plan: &Plan) -> Result<(Graph, Levels), NoMemory> {
-    let graph = updated(alloc, state.graph(), plan.update)?;
-    let levels = moved(alloc, state, plan)?;
-    Ok((graph, levels))
+fn moved<R: Abort + AllocGlobal>(rt: &R, state: &Lawful, plan: &Plan) -> Levels {
+    let mut levels = Levels::of(rt.alloc(), state).expect(rt, "no memory");
+    levels.make(rt.alloc(), &plan.moves).expect(rt, "no memory");
+    levels
 }
 
 /// The core numbers that a plan leaves are those of the graph.
@@ -97,10 +89,9 @@ fn assert_numbers<R: Abort + AllocGlobal>(
     plan: &Plan,
     graph: &Graph,
     core: &[u32],
-) -> Result<(), Fail> {
-    let fresh = decompose(rt.alloc(), graph)?;
+) {
+    let fresh = decompose(rt.alloc(), graph).expect(rt, "no memory");
     assert_eq!(rt; core, fresh.core(), "{plan:?} in {state:?}");
-    Ok(())
 }
 
 /// The levels that a plan leaves have the core numbers of the graph, and are certified.
@@ -110,24 +101,23 @@ fn assert_right<R: Abort + AllocGlobal>(
     plan: &Plan,
     graph: &Graph,
     levels: &Levels,
-) -> Result<(), Fail>
-    ensures { IfOk result (λ _. Certifies graph.now levels.now.core.items levels.now.order.items) }
+)
+    ensures { Certifies graph.now levels.now.core.items levels.now.order.items }
 {
-    assert_numbers(rt, state, plan, graph, &levels.core)?;
-    let is_certified = check(rt.alloc(), graph, &levels.core, &levels.order)?;
+    assert_numbers(rt, state, plan, graph, &levels.core);
+    let is_certified = check(rt.alloc(), graph, &levels.core, &levels.order).expect(
+        rt,
+        "no memory",
+    );
     assert_so(rt, state, plan, is_certified);
-    Ok(())
 }
 
 /// The state after a plan, which has to be certified and to have the core numbers of its graph.
-pub(crate) fn state_after<R: Abort + AllocGlobal>(
-    rt: &R,
-    state: &Lawful,
-    plan: &Plan,
-) -> Result<Lawful, Fail> {
-    assert_fits(rt, state, plan)?;
-    let (graph, levels) = made(rt.alloc(), state, plan)?;
-    assert_right(rt, state, plan, &graph, &levels)?;
+pub(crate) fn state_after<R: Abort + AllocGlobal>(rt: &R, state: &Lawful, plan: &Plan) -> Lawful {
+    assert_fits(rt, state, plan);
+    let graph = updated(rt, state.graph(), plan.update);
+    let levels = moved(rt, state, plan);
+    assert_right(rt, state, plan, &graph, &levels);
     let Levels { core, order } = levels;
-    Ok(Lawful::new(rt.alloc(), graph, core, order)?)
+    Lawful::new(rt.alloc(), graph, core, order).expect(rt, "no memory")
 }

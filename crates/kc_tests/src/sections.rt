@@ -17,16 +17,17 @@ use std::process::Abort;
 use std::test::Fail;
 
 /// Levels of a state, over a fresh table.
-fn levels_of<R: Abort + AllocGlobal>(rt: &R, state: &Lawful) -> Result<(Words, Levels), Fail>
-    ensures table { IfOk result (λ r. r.1.table ≡ r.0) }
-    ensures closed { IfOk result (λ r. AreLevels r.1 × (r.1.open_ ≡ false)) }
-    ensures of { IfOk result (λ r. AreLevelsOf state.now r.1) }
+fn levels_of<R: Abort + AllocGlobal>(rt: &R, state: &Lawful) -> (Words, Levels)
+    ensures table { result.1.table ≡ result.0 }
+    ensures closed { AreLevels result.1 × (result.1.open_ ≡ false) }
+    ensures of { AreLevelsOf state.now result.1 }
 {
     let core = state.core();
     assert!(rt; core.len() <= VERTICES as usize);
-    let stamps = vec![in rt.alloc(); 0u32; core.len()]?;
-    let (words, levels, _) = Levels::open(rt.alloc(), state.order(), core, &stamps, 0, 0)?;
-    Ok((words, levels))
+    let stamps = vec![in rt.alloc(); 0u32; core.len()].expect(rt, "no memory");
+    let opened = Levels::open(rt.alloc(), state.order(), core, &stamps, 0, 0);
+    let (words, levels, _) = opened.expect(rt, "no memory");
+    (words, levels)
 }
 
 /// Makes the moves of a plan in a section of its own, where the plan passes the local test in the state whose levels these are.
@@ -83,21 +84,9 @@ fn assert_levels_of<R: Abort>(rt: &R, levels: &Levels, state: &Lawful, vertices:
 fn levels_after<R: Abort + AllocGlobal>(rt: &R, state: &Lawful, plan: &Plan) -> Result<Levels, Fail>
     ensures { IfOk result (λ levels. size_of levels ≡ state.now.graph.size) }
 {
-    let (words, mut levels) = levels_of(rt, state)?;
+    let (words, mut levels) = levels_of(rt, state);
     make_plan(rt, &words, &mut levels, state, plan)?;
     Ok(levels)
-}
-
-/// A section that made the moves of a plan leaves the levels of the state after it.
-fn assert_section<R: Abort + AllocGlobal>(
-    rt: &R,
-    state: &Lawful,
-    plan: &Plan,
-    after: &Lawful,
-) -> Result<(), Fail> {
-    let levels = levels_after(rt, state, plan)?;
-    assert_levels_of(rt, &levels, after, state.graph().vertices());
-    Ok(())
 }
 
 /// The state after a plan, which a section of levels of the state before it leaves too.
@@ -106,8 +95,9 @@ fn after_section<R: Abort + AllocGlobal>(
     state: &Lawful,
     plan: &Plan,
 ) -> Result<Lawful, Fail> {
-    let after = state_after(rt, state, plan)?;
-    assert_section(rt, state, plan, &after)?;
+    let levels = levels_after(rt, state, plan)?;
+    let after = state_after(rt, state, plan);
+    assert_levels_of(rt, &levels, &after, state.graph().vertices());
     Ok(after)
 }
 
@@ -120,12 +110,28 @@ fn updated<R: Abort + AllocGlobal>(
 ) -> Result<Lawful, Fail>
     requires { update.v < state.now.graph.size }
 {
-    let plan = plan_of(rt.alloc(), state, update)?;
+    let plan = plan_of(rt, state, update);
     tally.count(&plan);
     after_section(rt, state, &plan)
 }
 
-/// So many updates of a graph, each made in a section of levels of the state before it.
+/// So many updates of a state, each made in a section of levels of the state before it.
+fn go_on<R: Abort + AllocGlobal>(
+    rt: &R,
+    state: &mut Lawful,
+    updates: u32,
+    draws: &mut Draws,
+    tally: &mut Tally,
+) -> Result<(), Fail> {
+    for _ in 0..updates {
+        assert!(rt; state.graph().vertices() > 1);
+        let update = draws.update(state.graph());
+        *state = updated(rt, state, update, tally)?;
+    }
+    Ok(())
+}
+
+/// So many updates of a graph, each made in a section.
 fn run<R: Abort + AllocGlobal>(
     rt: &R,
     case: Case,
@@ -134,11 +140,7 @@ fn run<R: Abort + AllocGlobal>(
 ) -> Result<(), Fail> {
     let mut draws = Draws::new(case.seed);
     let mut state = case.begin(rt.alloc(), &mut draws)?;
-    for _ in 0..updates {
-        assert!(rt; state.graph().vertices() > 1);
-        state = updated(rt, &state, draws.update(state.graph()), tally)?;
-    }
-    Ok(())
+    go_on(rt, &mut state, updates, &mut draws, tally)
 }
 
 #[test]

@@ -7,17 +7,12 @@ use crate::shapes::{Case, cases};
 use crate::tally::Tally;
 use kc_graph::{Lawful, Plan, Update, Used, UsedEdges, UsedOrder, UsedPlace};
 use std::process::Abort;
-use std::test::Fail;
 
 /// The plan of the next update that is drawn.
-fn next_plan<R: Abort + AllocGlobal>(
-    rt: &R,
-    state: &Lawful,
-    draws: &mut Draws,
-) -> Result<Plan, Fail> {
+fn next_plan<R: Abort + AllocGlobal>(rt: &R, state: &Lawful, draws: &mut Draws) -> Plan {
     assert!(rt; state.graph().vertices() > 1);
     let update = draws.update(state.graph());
-    Ok(plan_of(rt.alloc(), state, update)?)
+    plan_of(rt, state, update)
 }
 
 /// The state after an update that is drawn.
@@ -26,30 +21,32 @@ fn next_state<R: Abort + AllocGlobal>(
     state: &Lawful,
     draws: &mut Draws,
     tally: &mut Tally,
-) -> Result<Lawful, Fail> {
-    let plan = next_plan(rt, state, draws)?;
-    tally.count(&plan);
-    state_after(rt, state, &plan)
+) -> Lawful {
+    assert!(rt; state.graph().vertices() > 1);
+    updated(rt, state, draws.update(state.graph()), tally)
 }
 
-/// Two hundred updates of a graph, each with the state after it.
-fn run<R: Abort + AllocGlobal>(rt: &R, case: Case, tally: &mut Tally) -> Result<(), Fail> {
-    let mut draws = Draws::new(case.seed);
-    let mut state = case.begin(rt.alloc(), &mut draws)?;
+/// Two hundred updates of a state, each with the state after it.
+fn go_on<R: Abort + AllocGlobal>(rt: &R, state: &mut Lawful, draws: &mut Draws, tally: &mut Tally) {
     for _ in 0..200 {
-        state = next_state(rt, &state, &mut draws, tally)?;
+        *state = next_state(rt, state, draws, tally);
     }
-    Ok(())
+}
+
+/// Two hundred updates of a graph.
+fn run<R: Abort + AllocGlobal>(rt: &R, case: Case, tally: &mut Tally) {
+    let mut draws = Draws::new(case.seed);
+    let mut state = case.begin(rt.alloc(), &mut draws).expect(rt, "no memory");
+    go_on(rt, &mut state, &mut draws, tally);
 }
 
 #[test]
-fn plans_keep_numbers_and_order_right_over_long_sequences(rt: HostRuntime) -> Result<(), Fail> {
+fn plans_keep_numbers_and_order_right_over_long_sequences(rt: HostRuntime) {
     let mut tally = Tally::new();
     for case in cases() {
-        run(&rt, case, &mut tally)?;
+        run(&rt, case, &mut tally);
     }
     assert!(rt; tally.has_all(), "{tally:?}");
-    Ok(())
 }
 
 /// The lists that were answered are those of the state.
@@ -90,37 +87,36 @@ fn assert_true_of<R: Abort>(rt: &R, state: &Lawful, used: &Used) {
     assert_orders_of(rt, state, &used.orders);
 }
 
-/// The state after an update that is drawn, and whether its plan asks orders. What was answered to the plan is so.
-fn after_answers<R: Abort + AllocGlobal>(
-    rt: &R,
-    state: &Lawful,
-    draws: &mut Draws,
-) -> Result<(Lawful, bool), Fail> {
-    let plan = next_plan(rt, state, draws)?;
+/// Goes on to the state after an update that is drawn, and tells whether its plan asks orders. What was answered to the plan is so.
+fn follow_answers<R: Abort + AllocGlobal>(rt: &R, state: &mut Lawful, draws: &mut Draws) -> bool {
+    let plan = next_plan(rt, state, draws);
     assert_true_of(rt, state, &plan.used);
-    let after = state_after(rt, state, &plan)?;
-    Ok((after, !plan.used.orders.is_empty()))
+    *state = state_after(rt, state, &plan);
+    !plan.used.orders.is_empty()
 }
 
 /// Compares what was answered over forty updates, and tells whether orders were asked.
-fn run_answers<R: Abort + AllocGlobal>(rt: &R, case: Case) -> Result<bool, Fail> {
-    let mut draws = Draws::new(case.seed);
-    let mut state = case.begin(rt.alloc(), &mut draws)?;
-    let mut asks_order = false;
+fn any_asks_order<R: Abort + AllocGlobal>(rt: &R, state: &mut Lawful, draws: &mut Draws) -> bool {
+    let mut any = false;
     for _ in 0..40 {
-        let (after, asks) = after_answers(rt, &state, &mut draws)?;
-        asks_order = asks_order || asks;
-        state = after;
+        let asks = follow_answers(rt, state, draws);
+        any = any || asks;
     }
-    Ok(asks_order)
+    any
+}
+
+/// Whether orders were asked over forty updates of a graph.
+fn run_answers<R: Abort + AllocGlobal>(rt: &R, case: Case) -> bool {
+    let mut draws = Draws::new(case.seed);
+    let mut state = case.begin(rt.alloc(), &mut draws).expect(rt, "no memory");
+    any_asks_order(rt, &mut state, &mut draws)
 }
 
 #[test]
-fn what_is_asked_is_what_is_answered(rt: HostRuntime) -> Result<(), Fail> {
+fn what_is_asked_is_what_is_answered(rt: HostRuntime) {
     for case in cases() {
-        assert!(rt; run_answers(&rt, case)?, "{case:?}");
+        assert!(rt; run_answers(&rt, case), "{case:?}");
     }
-    Ok(())
 }
 
 /// The state after an update.
@@ -129,9 +125,9 @@ fn updated<R: Abort + AllocGlobal>(
     state: &Lawful,
     update: Update,
     tally: &mut Tally,
-) -> Result<Lawful, Fail> {
+) -> Lawful {
     assert!(rt; update.v < state.graph().vertices());
-    let plan = plan_of(rt.alloc(), state, update)?;
+    let plan = plan_of(rt, state, update);
     tally.count(&plan);
     state_after(rt, state, &plan)
 }
@@ -142,8 +138,8 @@ fn turned_back<R: Abort + AllocGlobal>(
     state: &Lawful,
     update: Update,
     tally: &mut Tally,
-) -> Result<Lawful, Fail> {
-    let there = updated(rt, state, update, tally)?;
+) -> Lawful {
+    let there = updated(rt, state, update, tally);
     let Update { u, v, .. } = update;
     let add = !update.add;
     updated(rt, &there, Update { add, u, v }, tally)
@@ -156,35 +152,42 @@ fn there_and_back<R: Abort + AllocGlobal>(
     u: u32,
     v: u32,
     tally: &mut Tally,
-) -> Result<Lawful, Fail>
+) -> Lawful
     requires { u < v }
 {
     assert!(rt; u < state.graph().vertices());
     let add = !state.graph().has(u, v);
-    let back = turned_back(rt, state, Update { add, u, v }, tally)?;
+    let back = turned_back(rt, state, Update { add, u, v }, tally);
     assert_eq!(rt; back.core(), state.core(), "{u} {v} in {state:?}");
-    Ok(back)
+    back
 }
 
-/// Each pair of a graph in turn, there and back.
-fn run_pairs<R: Abort + AllocGlobal>(rt: &R, case: Case, tally: &mut Tally) -> Result<(), Fail> {
-    let mut draws = Draws::new(case.seed);
-    let mut state = case.begin(rt.alloc(), &mut draws)?;
-    for v in 0..case.vertices {
+/// Each pair of a state with these vertices in turn, there and back.
+fn turn_pairs<R: Abort + AllocGlobal>(
+    rt: &R,
+    state: &mut Lawful,
+    vertices: u32,
+    tally: &mut Tally,
+) {
+    for v in 0..vertices {
         for u in 0..v {
-            state = there_and_back(rt, &state, u, v, tally)?;
+            *state = there_and_back(rt, state, u, v, tally);
         }
     }
-    Ok(())
+}
+
+/// Each pair of a graph in turn.
+fn run_pairs<R: Abort + AllocGlobal>(rt: &R, case: Case, tally: &mut Tally) {
+    let mut draws = Draws::new(case.seed);
+    let mut state = case.begin(rt.alloc(), &mut draws).expect(rt, "no memory");
+    turn_pairs(rt, &mut state, case.vertices, tally);
 }
 
 #[test]
-fn inserting_and_removing_an_edge_gives_the_numbers_back(rt: HostRuntime) -> Result<(), Fail> {
+fn inserting_and_removing_an_edge_gives_the_numbers_back(rt: HostRuntime) {
     let mut tally = Tally::new();
     for case in cases() {
-        run_pairs(&rt, case, &mut tally)?;
+        run_pairs(&rt, case, &mut tally);
     }
-    assert_eq!(rt; tally.kept, 0);
-    assert_eq!(rt; tally.rising, tally.falling);
-    Ok(())
+    assert_eq!(rt; (tally.kept, tally.rising), (0, tally.falling));
 }

@@ -4,16 +4,14 @@ ghost use Rattle.std.specs.Prelude.{◌<◌, ◌≢◌};
 use crate::whim_view::{WhimView, again};
 use kc_graph::Used;
 use kc_view::{View, ViewFault};
-use std::alloc::Global;
 use std::process::Abort;
-use std::test::Fail;
 
 /// The list of a vertex.
-fn list_of(alloc: Global, view: &mut WhimView, w: u32) -> Result<Vec<u32>, Fail>
+fn list_of<R: Abort + AllocGlobal>(rt: &R, view: &mut WhimView, w: u32) -> Vec<u32>
     requires { w < view.old.size }
 {
-    view.degree(w)?;
-    Ok(Vec::from_slice(alloc, view.list(w))?)
+    view.degree(w).expect(rt, "an answer");
+    Vec::from_slice(rt.alloc(), view.list(w)).expect(rt, "no memory")
 }
 
 /// How two vertices stand, once their core numbers were asked.
@@ -39,43 +37,42 @@ fn assert_lists<R: Abort>(rt: &R, used: &Used, vertices: &[u32]) {
 }
 
 /// Whether of vertex 0 and another one just one is on the list of the other. None is on its own.
-fn is_one_way<R: Abort + AllocGlobal>(rt: &R, view: &mut WhimView, x: u32) -> Result<bool, Fail> {
+fn is_one_way<R: Abort + AllocGlobal>(rt: &R, view: &mut WhimView, x: u32) -> bool {
     assert!(rt; x < view.vertices());
-    let there = list_of(rt.alloc(), view, x)?;
+    let there = list_of(rt, view, x);
     assert!(rt; 0 < view.vertices());
-    let back = list_of(rt.alloc(), view, 0)?;
+    let back = list_of(rt, view, 0);
     assert!(rt; !there.contains(&x) && !back.contains(&0));
-    Ok(there.contains(&0) != back.contains(&x))
+    there.contains(&0) != back.contains(&x)
 }
 
 /// Whether that is so of vertex 0 and any of eight others.
-fn any_is_one_way<R: Abort + AllocGlobal>(rt: &R, view: &mut WhimView) -> Result<bool, Fail> {
+fn any_is_one_way<R: Abort + AllocGlobal>(rt: &R, view: &mut WhimView) -> bool {
     let mut any = false;
     for x in 1..9 {
-        let one_way = is_one_way(rt, view, x)?;
+        let one_way = is_one_way(rt, view, x);
         any = any || one_way;
     }
-    Ok(any)
+    any
 }
 
 #[test]
-fn lists_of_a_whim_fit_no_graph(rt: HostRuntime) -> Result<(), Fail> {
+fn lists_of_a_whim_fit_no_graph(rt: HostRuntime) {
     let mut view = WhimView::new(rt.alloc(), 9, 7, None, again());
-    assert!(rt; any_is_one_way(&rt, &mut view)?);
+    assert!(rt; any_is_one_way(&rt, &mut view));
     assert_lists(&rt, &view.used(), &[1, 0, 2, 3, 4, 5, 6, 7, 8]);
     assert_lists(&rt, &view.used(), &[]);
-    Ok(())
 }
 
 /// The answers that come to one question of order asked twenty times.
-fn orders_seen<R: Abort>(rt: &R, view: &mut WhimView) -> Result<[bool; 2], Fail> {
+fn orders_seen<R: Abort>(rt: &R, view: &mut WhimView) -> [bool; 2] {
     let mut answers = [false, false];
     for _ in 0..20 {
         assert!(rt; 1 < view.vertices());
-        let before = order_of(view, 0, 1)?;
+        let before = order_of(view, 0, 1).expect(rt, "an answer");
         answers[before as usize] = true;
     }
-    Ok(answers)
+    answers
 }
 
 /// So many core numbers and orders were asked.
@@ -84,12 +81,11 @@ fn assert_asked<R: Abort>(rt: &R, used: &Used, places: usize, orders: usize) {
 }
 
 #[test]
-fn orders_of_a_whim_change(rt: HostRuntime) -> Result<(), Fail> {
+fn orders_of_a_whim_change(rt: HostRuntime) {
     let mut view = WhimView::new(rt.alloc(), 2, 3, None, again());
-    assert_eq!(rt; orders_seen(&rt, &mut view)?, [true, true]);
+    assert_eq!(rt; orders_seen(&rt, &mut view), [true, true]);
     assert_asked(&rt, &view.used(), 2, 20);
     assert_lists(&rt, &view.used(), &[]);
-    Ok(())
 }
 
 /// The first of six calls that misses.

@@ -15,7 +15,7 @@ use std::mem;
 
 /// A view whose answers fit no graph: `w` may be on the list of `x` and `x` not on that of `w`, core numbers are any numbers, and each
 /// question of order is answered anew. All follows from a seed. A planner has to return over it too.
-#[derive(Debug, Drop)]
+#[derive(Drop)]
 pub(crate) struct WhimView {
     alloc: Global,
     size: u32,

@@ -6,7 +6,6 @@ use kc_graph::{Moves, NoMemory, Plan, Update};
 use kc_view::PlanFault;
 use std::alloc::Global;
 use std::process::Abort;
-use std::test::Fail;
 
 /// A view to be drawn, and the update that is planned over it.
 #[derive(Clone, Copy, Debug)]
@@ -36,30 +35,39 @@ struct Named {
     anchors: Vec<u32>,
 }
 
-/// What moves name.
-fn named_in(alloc: Global, moves: &Moves) -> Result<Named, NoMemory> {
-    let mut moved = Vec::new(alloc);
-    let mut anchors = Vec::new(alloc);
+/// Adds what moves name.
+fn add_named(named: &mut Named, moves: &Moves) -> Result<(), NoMemory> {
     match moves {
         Moves::Kept | Moves::Plain => {}
         Moves::Rise { rise, shifts, .. } => {
-            moved.extend_from_slice(rise)?;
+            named.moved.extend_from_slice(rise)?;
             for (x, w) in shifts {
-                moved.push(*x)?;
-                anchors.push(*w)?;
+                named.moved.push(*x)?;
+                named.anchors.push(*w)?;
             }
         }
-        Moves::Fall { fall, .. } => moved.extend_from_slice(fall)?,
+        Moves::Fall { fall, .. } => named.moved.extend_from_slice(fall)?,
     }
-    Ok(Named { moved, anchors })
+    Ok(())
+}
+
+/// What moves name.
+fn named_in(alloc: Global, moves: &Moves) -> Result<Named, NoMemory> {
+    let mut named = Named {
+        moved: Vec::new(alloc),
+        anchors: Vec::new(alloc),
+    };
+    add_named(&mut named, moves)?;
+    Ok(named)
 }
 
 /// Those that moves name are vertices, and none is moved twice.
 fn assert_named<R: Abort>(rt: &R, whim: Whim, moves: &Moves, named: &Named, is_moved: &mut [bool]) {
     for x in &named.moved {
-        assert!(rt; (*x as usize) < is_moved.len(), "{moves:?} at {whim:?}");
-        assert!(rt; !is_moved[*x as usize], "{moves:?} at {whim:?}");
-        is_moved[*x as usize] = true;
+        match is_moved.get_mut(*x as usize) {
+            Some(moved) if !*moved => *moved = true,
+            _ => panic!(rt; "{moves:?} at {whim:?}"),
+        }
     }
     assert!(rt;
         named.anchors.iter().all(|w| *w < whim.vertices),
@@ -68,20 +76,20 @@ fn assert_named<R: Abort>(rt: &R, whim: Whim, moves: &Moves, named: &Named, is_m
 }
 
 /// Moves name vertices only, and move none twice.
-fn assert_tidy<R: Abort + AllocGlobal>(rt: &R, whim: Whim, moves: &Moves) -> Result<(), Fail> {
-    let named = named_in(rt.alloc(), moves)?;
-    let mut is_moved = vec![in rt.alloc(); false; whim.vertices as usize]?;
+fn assert_tidy<R: Abort + AllocGlobal>(rt: &R, whim: Whim, moves: &Moves) {
+    let named = named_in(rt.alloc(), moves).expect(rt, "no memory");
+    let is_moved = vec![in rt.alloc(); false; whim.vertices as usize];
+    let mut is_moved = is_moved.expect(rt, "no memory");
     assert_named(rt, whim, moves, &named, is_moved.as_mut_slice());
-    Ok(())
 }
 
 /// How many calls on the view a plan takes: with less patience the planner hands on the miss.
-fn calls_of<R: Abort + AllocGlobal>(rt: &R, whim: Whim) -> Result<u64, Fail> {
+fn calls_of<R: Abort + AllocGlobal>(rt: &R, whim: Whim) -> u64 {
     for patience in 0..5000u64 {
         match plan_of(rt, whim, Some(patience)) {
             Ok(plan) => {
-                assert_tidy(rt, whim, &plan.moves)?;
-                return Ok(patience);
+                assert_tidy(rt, whim, &plan.moves);
+                return patience;
             }
             Err(fault) => assert_eq!(rt; fault, PlanFault::Miss(again()), "{whim:?}"),
         }
@@ -90,15 +98,14 @@ fn calls_of<R: Abort + AllocGlobal>(rt: &R, whim: Whim) -> Result<u64, Fail> {
 }
 
 /// The plan over a view that never misses.
-fn run<R: Abort + AllocGlobal>(rt: &R, whim: Whim, tally: &mut Tally) -> Result<(), Fail> {
-    let plan = plan_of(rt, whim, None)?;
-    assert_tidy(rt, whim, &plan.moves)?;
+fn run<R: Abort + AllocGlobal>(rt: &R, whim: Whim, tally: &mut Tally) {
+    let plan = plan_of(rt, whim, None).expect(rt, "a plan");
+    assert_tidy(rt, whim, &plan.moves);
     tally.count(&plan);
-    Ok(())
 }
 
 #[test]
-fn planners_return_over_views_that_answer_what_they_like(rt: HostRuntime) -> Result<(), Fail> {
+fn planners_return_over_views_that_answer_what_they_like(rt: HostRuntime) {
     let mut tally = Tally::new();
     for vertices in [2, 3, 5, 8, 13, 20, 28] {
         for seed in 0..2000u64 {
@@ -108,13 +115,12 @@ fn planners_return_over_views_that_answer_what_they_like(rt: HostRuntime) -> Res
                     seed,
                     add,
                 };
-                run(&rt, whim, &mut tally)?;
+                run(&rt, whim, &mut tally);
                 if seed < 20 {
-                    assert!(rt; calls_of(&rt, whim)? > 0, "{whim:?}");
+                    assert!(rt; calls_of(&rt, whim) > 0, "{whim:?}");
                 }
             }
         }
     }
     assert!(rt; tally.has_all(), "{tally:?}");
-    Ok(())
 }

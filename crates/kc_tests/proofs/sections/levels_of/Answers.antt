@@ -3,8 +3,8 @@ use Rattle.std.proofs.Common.{◌<◌, ℕ, List, length, get_or, sym, ap, subst
 use Rattle.kc_levels.proofs.Laws.{certified-low}
 use Rattle.kc_tests.proofs.sections.levels_of.Goals as goal
 
-pub open-requires-clause-low : goal.open-requires-clause-low
-open-requires-clause-low g c =
+pub open-opened-requires-clause-low : goal.open-opened-requires-clause-low
+open-opened-requires-clause-low g c =
     let e = c.core-core.ensures in
     let s = c.args.state.now in
     λ v l. subst (λ (core : List ℕ). get_or core v 0 < length core) (sym e.core)
