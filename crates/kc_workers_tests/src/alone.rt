@@ -10,7 +10,6 @@ use std::marker::Brand;
 use std::process::Abort;
 use std::sync::Wait;
 use std::sync::ledger::{Blank, Ledger, Share};
-use std::test::Fail;
 
 /// An update is entered at its first try, as the entry after those of the updates before it.
 fn enter_at_once<K: Name + Ledger, R: Wait + Abort + AllocGlobal>(
@@ -21,17 +20,16 @@ fn enter_at_once<K: Name + Ledger, R: Wait + Abort + AllocGlobal>(
     index: u32,
     change: Update,
     applied: bool,
-) -> Result<(), Fail>
+)
     requires table { worker.old.table ≡ K.table }
     requires part { 0 < part.old.parts }
     requires index { index < 4 }
     ensures table { worker.new.table ≡ K.table }
     ensures parts { part.new.parts ≡ part.old.parts }
 {
-    let done = enter(rt, shared, worker, part, index, change, &NoGate)?;
+    let done = enter(rt, shared, worker, part, index, change, &NoGate);
     assert_entered(rt, &done, index, index + 1, applied);
     assert!(rt; done.misses.is_empty());
-    Ok(())
 }
 
 /// One worker adds two edges, so that all four stand in a circle, and then one that is there.
@@ -40,14 +38,14 @@ fn enter_three<K: Name + Ledger, R: Wait + Abort + AllocGlobal>(
     shared: &Shared<K>,
     worker: &mut Worker,
     part: &mut Share<K>,
-) -> Result<(), Fail>
+)
     requires table { worker.old.table ≡ K.table }
     requires part { 0 < part.old.parts }
     ensures { part.new.parts ≡ part.old.parts }
 {
-    enter_at_once(rt, shared, worker, part, 0, change(true, 0, 2), true)?;
-    enter_at_once(rt, shared, worker, part, 1, change(true, 1, 3), true)?;
-    enter_at_once(rt, shared, worker, part, 2, change(true, 0, 1), false)
+    enter_at_once(rt, shared, worker, part, 0, change(true, 0, 2), true);
+    enter_at_once(rt, shared, worker, part, 1, change(true, 1, 3), true);
+    enter_at_once(rt, shared, worker, part, 2, change(true, 0, 1), false);
 }
 
 /// A worker that has seen what the pass has does so.
@@ -56,13 +54,13 @@ fn enter_by_one<K: Name + Ledger, R: Wait + Abort + AllocGlobal>(
     shared: &Shared<K>,
     part: &mut Share<K>,
     pass: Pass,
-) -> Result<(), Fail>
+)
     requires table { pass.table ≡ K.table }
     requires part { 0 < part.old.parts }
     ensures { part.new.parts ≡ part.old.parts }
 {
-    let mut worker = hired(rt.alloc(), &shared.words, pass)?;
-    enter_three(rt, shared, &mut worker, part)
+    let mut worker = hired(rt, &shared.words, pass);
+    enter_three(rt, shared, &mut worker, part);
 }
 
 /// The same in a run that nobody else has a part of.
@@ -71,7 +69,7 @@ fn enter_alone<K: Name + Ledger, R: Wait + Abort + AllocGlobal>(
     parts: Parts,
     blank: Blank,
     pass: Pass,
-) -> Result<Parts, Fail>
+) -> Parts
     requires words { (parts.words ≡ K.table) × (pass.table ≡ K.table) }
     requires opened { (parts.journal.opened ≡ K.opening_edges) × (parts.journal.opening_stamps ≡ K.opening_stamps) }
     requires started { parts.journal.started ≡ K.start_edges }
@@ -79,13 +77,12 @@ fn enter_alone<K: Name + Ledger, R: Wait + Abort + AllocGlobal>(
     requires ledger { (blank.name ≡ K.name) × (blank.parts ≡ K.parts) }
     requires some { 0 < K.parts }
 {
-    let Ok((shared, mut part)) = Shared::<K>::new(rt.alloc(), parts, blank) else {
-        return Err("no memory".into());
+    let (shared, mut part) = match Shared::<K>::new(rt.alloc(), parts, blank) {
+        Ok(shared) => shared,
+        Err(_) => panic!(rt; "no memory"),
     };
-    let entered = enter_by_one(rt, &shared, &mut part, pass);
-    let parts = shared.into_parts(part);
-    entered?;
-    Ok(parts)
+    enter_by_one(rt, &shared, &mut part, pass);
+    shared.into_parts(part)
 }
 
 /// The run has three entries, and a circle.
@@ -96,9 +93,8 @@ fn assert_circle<R: Abort>(rt: &R, parts: &Parts) {
 }
 
 #[test]
-fn one_worker_enters_each_update_at_its_first_try(rt: HostRuntime) -> Result<(), Fail> {
-    let (parts, pass) = two_edges(rt.alloc())?;
-    let parts = enter_alone::<Brand, _>(&rt, parts, Blank::new(1), pass)?;
+fn one_worker_enters_each_update_at_its_first_try(rt: HostRuntime) {
+    let (parts, pass) = two_edges(&rt);
+    let parts = enter_alone::<Brand, _>(&rt, parts, Blank::new(1), pass);
     assert_circle(&rt, &parts);
-    Ok(())
 }

@@ -1,5 +1,5 @@
 //! An update that another worker overtakes before each of its first tries.
-ghost use Rattle.std.specs.Prelude.{◌≡◌, ◌<◌, OnOk};
+ghost use Rattle.std.specs.Prelude.{◌≡◌, ◌<◌};
 
 use crate::runs::{assert_entered, change, enter, hired, two_edges};
 use kc_shared::{Missed, Parts, Shared};
@@ -10,7 +10,6 @@ use std::marker::Brand;
 use std::process::Abort;
 use std::sync::ledger::{Blank, Ledger, Share};
 use std::sync::{Mutex, Wait};
-use std::test::Fail;
 
 /// What the other worker keeps from one call of the gate to the next.
 #[derive(Drop)]
@@ -59,18 +58,18 @@ impl<K: Name + Ledger, R: Wait> Gate for Meddling<'_, K, R> {
 }
 
 /// The gate of another worker, which takes one of two parts, and has seen what the pass has.
-fn gate_of<'a, K: Name + Ledger, R: Wait + AllocGlobal>(
+fn gate_of<'a, K: Name + Ledger, R: Wait + Abort + AllocGlobal>(
     rt: &'a R,
     shared: &'a Shared<K>,
     part: Share<K>,
     pass: Pass,
     most: u32,
-) -> Result<Meddling<'a, K, R>, Fail>
+) -> Meddling<'a, K, R>
     requires table { pass.table ≡ K.table }
     requires part { part.parts ≡ 1 }
 {
-    let worker = hired(rt.alloc(), &shared.words, pass)?;
-    Ok(Meddling {
+    let worker = hired(rt, &shared.words, pass);
+    Meddling {
         rt,
         alloc: rt.alloc(),
         shared,
@@ -80,7 +79,7 @@ fn gate_of<'a, K: Name + Ledger, R: Wait + AllocGlobal>(
             part,
             calls: 0,
         }),
-    })
+    }
 }
 
 /// Adds the edge between 0 and 2 past a gate.
@@ -90,12 +89,12 @@ fn enter_past<K: Name + Ledger, G: Gate, R: Wait + Abort + AllocGlobal>(
     part: &mut Share<K>,
     pass: Pass,
     gate: &G,
-) -> Result<Done, Fail>
+) -> Done
     requires table { pass.table ≡ K.table }
     requires part { 0 < part.old.parts }
     ensures { part.new.parts ≡ part.old.parts }
 {
-    let mut worker = hired(rt.alloc(), &shared.words, pass)?;
+    let mut worker = hired(rt, &shared.words, pass);
     enter(rt, shared, &mut worker, part, 0, change(true, 0, 2), gate)
 }
 
@@ -107,18 +106,18 @@ fn enter_beside<K: Name + Ledger, R: Wait + Abort + AllocGlobal>(
     part: &mut Share<K>,
     mut pass: Pass,
     most: u32,
-) -> Result<Done, Fail>
+) -> Done
     requires table { pass.table ≡ K.table }
     requires two { part.old.parts ≡ 2 }
-    ensures { OnOk result (part.new.parts ≡ 2) }
+    ensures { part.new.parts ≡ 2 }
 {
     let theirs = split(&shared.words, &mut pass);
-    let gate = gate_of(rt, shared, part.split_off(1, 0), theirs, most)?;
-    let done = enter_past(rt, shared, part, pass, &gate)?;
+    let gate = gate_of(rt, shared, part.split_off(1, 0), theirs, most);
+    let done = enter_past(rt, shared, part, pass, &gate);
     let other = gate.other.into_inner();
     assert_eq!(rt; other.calls, most);
     part.merge(other.part);
-    Ok(done)
+    done
 }
 
 /// The same in a run that nobody else has a part of.
@@ -128,7 +127,7 @@ fn enter_meddled<K: Name + Ledger, R: Wait + Abort + AllocGlobal>(
     blank: Blank,
     pass: Pass,
     most: u32,
-) -> Result<(Done, Parts), Fail>
+) -> (Done, Parts)
     requires words { (parts.words ≡ K.table) × (pass.table ≡ K.table) }
     requires opened { (parts.journal.opened ≡ K.opening_edges) × (parts.journal.opening_stamps ≡ K.opening_stamps) }
     requires started { parts.journal.started ≡ K.start_edges }
@@ -136,16 +135,17 @@ fn enter_meddled<K: Name + Ledger, R: Wait + Abort + AllocGlobal>(
     requires ledger { (blank.name ≡ K.name) × (blank.parts ≡ K.parts) }
     requires two { K.parts ≡ 2 }
 {
-    let Ok((shared, mut part)) = Shared::<K>::new(rt.alloc(), parts, blank) else {
-        return Err("no memory".into());
+    let (shared, mut part) = match Shared::<K>::new(rt.alloc(), parts, blank) {
+        Ok(shared) => shared,
+        Err(_) => panic!(rt; "no memory"),
     };
-    let done = enter_beside(rt, &shared, &mut part, pass, most)?;
-    Ok((done, shared.into_parts(part)))
+    let done = enter_beside(rt, &shared, &mut part, pass, most);
+    (done, shared.into_parts(part))
 }
 
 /// The same in a run on two edges.
-fn meddled_run<R: Wait + Abort + AllocGlobal>(rt: &R, most: u32) -> Result<(Done, Parts), Fail> {
-    let (parts, pass) = two_edges(rt.alloc())?;
+fn meddled_run<R: Wait + Abort + AllocGlobal>(rt: &R, most: u32) -> (Done, Parts) {
+    let (parts, pass) = two_edges(rt);
     enter_meddled::<Brand, R>(rt, parts, Blank::new(2), pass, most)
 }
 
@@ -168,22 +168,18 @@ fn overtaken(used: u32) -> Missed
 }
 
 #[test]
-fn an_update_is_entered_under_the_lock_after_four_misses(rt: HostRuntime) -> Result<(), Fail> {
-    let (done, parts) = meddled_run(&rt, 5)?;
+fn an_update_is_entered_under_the_lock_after_four_misses(rt: HostRuntime) {
+    let (done, parts) = meddled_run(&rt, 5);
     assert_entered(&rt, &done, 0, 6, true);
     let expected = [overtaken(0), overtaken(1), overtaken(2), overtaken(3)];
     assert_eq!(rt; done.misses.as_slice(), expected.as_slice());
     assert_run(&rt, &parts, 6, &[6, 5, 6, 0]);
-    Ok(())
 }
 
 #[test]
-fn an_update_that_was_overtaken_once_is_entered_at_its_second_try(
-    rt: HostRuntime,
-) -> Result<(), Fail> {
-    let (done, parts) = meddled_run(&rt, 1)?;
+fn an_update_that_was_overtaken_once_is_entered_at_its_second_try(rt: HostRuntime) {
+    let (done, parts) = meddled_run(&rt, 1);
     assert_entered(&rt, &done, 0, 2, true);
     assert_eq!(rt; done.misses.as_slice(), [overtaken(0)].as_slice());
     assert_run(&rt, &parts, 2, &[2, 1, 2, 0]);
-    Ok(())
 }

@@ -1,35 +1,32 @@
 //! A run on two edges, and an update of one of its workers.
-ghost use Rattle.std.specs.Prelude.{◌≡◌, ◌<◌, IfOk};
+ghost use Rattle.std.specs.Prelude.{◌≡◌, ◌<◌};
 
 use kc_graph::{Graph, Update, decompose_owned};
 use kc_journal::Receipt;
 use kc_shared::{Parts, Shared};
 use kc_table::{Name, Pass, Words, shape};
 use kc_workers::{Done, Gate, Worker, update};
-use std::alloc::Global;
 use std::process::Abort;
 use std::sync::Wait;
 use std::sync::ledger::{Ledger, Share};
-use std::test::Fail;
 
 /// A run that begins with the edges 0 1 and 2 3: all core numbers are 1, and the order is 0, 1, 2, 3.
-pub(crate) fn two_edges(alloc: Global) -> Result<(Parts, Pass), Fail>
-    ensures { IfOk result (λ r. r.1.table ≡ r.0.words) }
+pub(crate) fn two_edges<R: Abort + AllocGlobal>(rt: &R) -> (Parts, Pass)
+    ensures { result.1.table ≡ result.0.words }
 {
-    let mut graph = Graph::new(alloc, 4)?;
-    graph.add(0, 1)?;
-    graph.add(2, 3)?;
-    Ok(Parts::open(alloc, decompose_owned(alloc, graph)?, 0)?)
+    let graph = Graph::from_pairs(rt.alloc(), 4, &[(0, 1), (2, 3)]).expect(rt, "no memory");
+    let lawful = decompose_owned(rt.alloc(), graph).expect(rt, "no memory");
+    Parts::open(rt.alloc(), lawful, 0).expect(rt, "no memory")
 }
 
 /// A worker that has seen what the pass has.
-pub(crate) fn hired(alloc: Global, words: &Words, pass: Pass) -> Result<Worker, Fail>
+pub(crate) fn hired<R: Abort + AllocGlobal>(rt: &R, words: &Words, pass: Pass) -> Worker
     requires { pass.table ≡ words.now }
-    ensures { IfOk result (λ worker. worker.table ≡ words.now) }
+    ensures { result.table ≡ words.now }
 {
-    match Worker::new(alloc, words, pass) {
-        Ok(worker) => Ok(worker),
-        Err(_) => Err("no memory".into()),
+    match Worker::new(rt.alloc(), words, pass) {
+        Ok(worker) => worker,
+        Err(_) => panic!(rt; "no memory"),
     }
 }
 
@@ -50,7 +47,7 @@ pub(crate) fn enter<K: Name + Ledger, G: Gate, R: Wait + Abort + AllocGlobal>(
     index: u32,
     change: Update,
     gate: &G,
-) -> Result<Done, Fail>
+) -> Done
     requires table { worker.old.table ≡ K.table }
     requires part { 0 < part.old.parts }
     requires index { index < 4 }
@@ -58,7 +55,7 @@ pub(crate) fn enter<K: Name + Ledger, G: Gate, R: Wait + Abort + AllocGlobal>(
     ensures parts { part.new.parts ≡ part.old.parts }
 {
     assert!(rt; change.v < shape(&shared.words).fixed);
-    Ok(update(rt, rt.alloc(), shared, worker, part, 0, index, change, gate)?)
+    update(rt, rt.alloc(), shared, worker, part, 0, index, change, gate).expect(rt, "it is entered")
 }
 
 /// The update with this index has that entry.
