@@ -23,7 +23,7 @@ fn plan_twice<K: Name, R: Wait + Abort + AllocGlobal>(
     graph: &SharedGraph,
     at: &Vec<u32>,
     update: Update,
-) -> Result<(Plan, Plan), Fail>
+) -> (Plan, Plan)
     requires table { (words.now ≡ K.table) × (pass.table ≡ K.table) }
     requires graph { (graph.now ≡ K.opening_edges) × (at.now.items ≡ K.opening_stamps) × (graph.now.size ≡ K.table.shape.fixed) }
     requires count { vec_len stripes ≡ STRIPES }
@@ -31,13 +31,20 @@ fn plan_twice<K: Name, R: Wait + Abort + AllocGlobal>(
     requires vertex { update.v < graph.now.size }
 {
     let alloc = rt.alloc();
-    let Ok(stripes) = Stripes::<K>::new(alloc, stripes) else {
-        return Err("no memory".into());
+    let stripes = match Stripes::<K>::new(alloc, stripes) {
+        Ok(stripes) => stripes,
+        Err(_) => panic!(rt; "no memory"),
     };
-    let mut scratch = Scratch::new(alloc, graph.vertices())?;
-    let first = plan(rt, alloc, words, &stripes, &mut pass, &mut scratch, update)?;
-    let again = plan(rt, alloc, words, &stripes, &mut pass, &mut scratch, update)?;
-    Ok((first, again))
+    let mut scratch = Scratch::new(alloc, graph.vertices()).expect(rt, "no memory");
+    let first = plan(rt, alloc, words, &stripes, &mut pass, &mut scratch, update).expect(
+        rt,
+        "a first plan",
+    );
+    let again = plan(rt, alloc, words, &stripes, &mut pass, &mut scratch, update).expect(
+        rt,
+        "a second plan",
+    );
+    (first, again)
 }
 
 /// Vertex 0 rises behind 1, by what the table opened with.
@@ -56,9 +63,7 @@ fn assert_rests_on_the_opening<R: Abort>(rt: &R, plan: &Plan) {
 #[test]
 fn a_plan_between_two_edges_reads_what_opened(rt: HostRuntime) -> Result<(), Fail> {
     let alloc = rt.alloc();
-    let mut graph = Graph::new(alloc, 4)?;
-    graph.add(0, 1)?;
-    graph.add(2, 3)?;
+    let graph = Graph::from_pairs(alloc, 4, &[(0, 1), (2, 3)])?;
     let graph = SharedGraph::from_graph(graph)?;
     let shape = Shape {
         items: 4,
@@ -67,15 +72,18 @@ fn a_plan_between_two_edges_reads_what_opened(rt: HostRuntime) -> Result<(), Fai
         version: 0,
     };
     let word = VertexWord { stamp: 0, core: 1 }.pack();
-    let (words, _writer, mut pass) = Writer::open(alloc, shape, &[0, 1, 2, 3], &[word; 4])?;
-    let at = vec![in alloc; 0; 4]?;
-    let stripes = open_stripes(alloc, &words, &mut pass, &graph, &at)?;
+    let (words, _writer, mut pass) = Writer::open(alloc, shape, &[0, 1, 2, 3], &[word; 4]).expect(
+        &rt,
+        "no memory",
+    );
+    let at = vec![in alloc; 0; 4].expect(&rt, "no memory");
+    let stripes = open_stripes(alloc, &words, &mut pass, &graph, &at).expect(&rt, "no memory");
     let update = Update {
         add: true,
         u: 0,
         v: 2,
     };
-    let (first, again) = plan_twice::<Brand, _>(&rt, &words, stripes, pass, &graph, &at, update)?;
+    let (first, again) = plan_twice::<Brand, _>(&rt, &words, stripes, pass, &graph, &at, update);
     assert_rests_on_the_opening(&rt, &first);
     assert_rests_on_the_opening(&rt, &again);
     Ok(())
