@@ -22,10 +22,7 @@ const TURNS: u32 = 100_000_000;
 fn two_edges(alloc: Global) -> Result<Graph, Fail>
     ensures { IfOk result (λ graph. graph.size ≡ 4) }
 {
-    let mut graph = Graph::new(alloc, 4)?;
-    graph.add(0, 1)?;
-    graph.add(2, 3)?;
-    Ok(graph)
+    Ok(Graph::from_pairs(alloc, 4, &[(0, 1), (2, 3)])?)
 }
 
 /// A batch on the two edges, whose table opens with this version, by so many workers.
@@ -39,8 +36,8 @@ fn work<G: Gate + Sync, R: Threads + Wait + Sync + Abort + AllocGlobal>(
     requires version { version ≤ LAST_VERSION }
     requires within { All (λ u. u.v < 4) batch.now }
 {
-    let (parts, workers) = open(rt, two_edges(rt.alloc())?, count, version)?;
-    enter_all(rt, parts, workers, 4, batch, gate)
+    let (parts, workers) = open(rt, two_edges(rt.alloc())?, count, version);
+    Ok(enter_all(rt, parts, workers, 4, batch, gate))
 }
 
 /// The updates that make a circle of the two edges.

@@ -1,9 +1,9 @@
 //! Batches of random updates, by one worker and by many, also where versions run out in the middle.
-ghost use Rattle.std.specs.Prelude.{◌<◌, ◌≤◌, All, IfOk};
+ghost use Rattle.std.specs.Prelude.{◌≡◌, ◌<◌, ◌≤◌, All, IfOk};
 
 use crate::runs::{enter_all, open};
 use kc_batch::BatchDone;
-use kc_graph::{Graph, Update, decompose_owned};
+use kc_graph::{Graph, Lawful, NoMemory, Update, decompose_owned};
 use kc_shared::Parts;
 use kc_table::Entry;
 use kc_words::LAST_VERSION;
@@ -64,7 +64,7 @@ fn drawn_batch(alloc: Global, seed: u64) -> Result<Vec<Update>, Fail>
 }
 
 /// Makes the changes of the entries.
-fn replay<R: Abort>(rt: &R, graph: &mut Graph, entries: &[Entry]) -> Result<(), Fail> {
+fn replay<R: Abort>(rt: &R, graph: &mut Graph, entries: &[Entry]) -> Result<(), NoMemory> {
     for entry in entries {
         assert!(rt; entry.u < entry.v && entry.v < graph.vertices());
         if entry.add {
@@ -77,34 +77,40 @@ fn replay<R: Abort>(rt: &R, graph: &mut Graph, entries: &[Entry]) -> Result<(), 
 }
 
 /// The graph that the entries make of an empty one.
-fn replayed<R: Abort>(rt: &R, alloc: Global, entries: &[Entry]) -> Result<Graph, Fail> {
-    let mut graph = Graph::new(alloc, VERTICES)?;
+fn replayed<R: Abort + AllocGlobal>(rt: &R, entries: &[Entry]) -> Result<Graph, NoMemory> {
+    let mut graph = Graph::new(rt.alloc(), VERTICES)?;
     replay(rt, &mut graph, entries)?;
     Ok(graph)
 }
 
-/// The core numbers are those of the graph that the entries make of an empty one.
-fn assert_replayed<R: Abort + AllocGlobal>(rt: &R, parts: &Parts) -> Result<(), Fail> {
-    let alloc = rt.alloc();
-    let lawful = decompose_owned(alloc, replayed(rt, alloc, parts.journal.entries())?)?;
-    assert_eq!(rt; parts.journal.core_numbers(), lawful.core());
-    Ok(())
+/// That graph with its core numbers.
+fn decomposed<R: Abort + AllocGlobal>(rt: &R, entries: &[Entry]) -> Result<Lawful, NoMemory> {
+    decompose_owned(rt.alloc(), replayed(rt, entries)?)
 }
 
-/// A batch on an empty graph whose table opens with this version, by so many workers.
+/// The core numbers are those of the graph that the entries make of an empty one.
+fn assert_replayed<R: Abort + AllocGlobal>(rt: &R, parts: &Parts) {
+    let lawful = decomposed(rt, parts.journal.entries()).expect(rt, "no memory");
+    assert_eq!(rt; parts.journal.core_numbers(), lawful.core());
+}
+
+/// A batch on this graph, whose table opens with this version, by so many workers.
 fn entered<R: Threads + Wait + Sync + Abort + AllocGlobal>(
     rt: &R,
+    graph: Graph,
     count: u32,
     version: u32,
-) -> Result<(Parts, BatchDone), Fail>
-    requires { version ≤ LAST_VERSION }
+    batch: &[Update],
+) -> (Parts, BatchDone)
+    requires vertices { graph.size ≡ VERTICES }
+    requires version { version ≤ LAST_VERSION }
+    requires within { All (λ u. u.v < VERTICES) batch.now }
 {
-    let batch = drawn_batch(rt.alloc(), u64::from(count))?;
-    let (parts, workers) = open(rt, Graph::new(rt.alloc(), VERTICES)?, count, version)?;
-    enter_all(rt, parts, workers, VERTICES, &batch, &NoGate)
+    let (parts, workers) = open(rt, graph, count, version);
+    enter_all(rt, parts, workers, VERTICES, batch, &NoGate)
 }
 
-/// Each update of such a batch has its entry, and each worker its share. Gives how many tables were ended.
+/// Each update of a random batch on an empty graph has its entry, and each worker its share. Gives how many tables were ended.
 fn work<R: Threads + Wait + Sync + Abort + AllocGlobal>(
     rt: &R,
     count: u32,
@@ -112,10 +118,12 @@ fn work<R: Threads + Wait + Sync + Abort + AllocGlobal>(
 ) -> Result<usize, Fail>
     requires { version ≤ LAST_VERSION }
 {
-    let (parts, done) = entered(rt, count, version)?;
+    let graph = Graph::new(rt.alloc(), VERTICES)?;
+    let batch = drawn_batch(rt.alloc(), u64::from(count))?;
+    let (parts, done) = entered(rt, graph, count, version, &batch);
     assert_eq!(rt; parts.journal.entries().len(), UPDATES as usize);
     assert_eq!(rt; done.shares.len(), count as usize);
-    assert_replayed(rt, &parts)?;
+    assert_replayed(rt, &parts);
     Ok(done.ended.len())
 }
 
