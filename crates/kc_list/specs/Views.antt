@@ -64,6 +64,12 @@ pub record IsFull (c : Chain) (s : Paper) (p : ℕ) : Type 0 where
 abbrev pub AreMembers : Chain → Paper → ℕ → List ℕ → Type 0
 AreMembers c p g m = Segment (labels c.size p.words) c.list g m
 
+-- these are the members of the full group of p, in order
+pub record AreAllOf (c : Chain) (s : Paper) (p : ℕ) (members : List ℕ) : Type 0 where
+  pub count : length members ≡ GROUP_ITEMS
+  pub full : IsFull c s p
+  pub segment : AreMembers c s (group_at c s p) members
+
 -- x is the first item of group g
 abbrev pub IsFirst : Chain → Paper → ℕ → ℕ → Type 0
 IsFirst c p g x = First (labels c.size p.words) c.list g x
@@ -97,6 +103,11 @@ end_after c s p = gap_end c.size s.words c.list p
 -- there is a label for an item right after p
 abbrev pub HasLabelAfter : Chain → Paper → ℕ → Type 0
 HasLabelAfter c s p = HasGap c.size s.words c.list p
+
+-- the gap right after p goes from its label to this end
+pub record IsGapAfter (c : Chain) (s : Paper) (p label end : ℕ) : Type 0 where
+  pub low : label ≡ bottom_at c s p
+  pub high : end ≡ end_after c s p
 
 -- a label of the gap right after p, which is in the list
 pub record FitsAfter (c : Chain) (s : Paper) (p label : ℕ) : Type 0 where
@@ -149,6 +160,11 @@ RisesByOne p q = (w : ℕ) → version q.words w ≤ version p.words w + 1
 -- the words of these items can be written: none has the last version
 abbrev pub ItemsMayRise : Paper → List ℕ → Type 0
 ItemsMayRise p list = (y : ℕ) → member y list ≡ true → version p.words (1 + y) < LAST_VERSION
+
+-- the words of these items can be written, and there is memory for so many more writes
+pub record ItemsHaveSpare (most : ℕ) (p : Paper) (list : List ℕ) : Type 0 where
+  pub version : ItemsMayRise p list
+  pub room : length p.writes + most ≤ p.room
 
 -- no word changes but word w
 abbrev pub SetsWord : ℕ → Paper → Paper → Type 0

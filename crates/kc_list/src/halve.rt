@@ -2,7 +2,7 @@
 ghost use Rattle.std.specs.Prelude.{◌≡◌, ◌<◌, ◌≤◌, ◌+◌, ℕ, length, true};
 ghost use Rattle.kc_distinct.specs.Lists.{member};
 ghost use Rattle.kc_list.specs.Places.{Halved};
-ghost use Rattle.kc_list.specs.Views.{group_at, top_at, HasRoomAbove, AreMembers, IsSpare, IsFull, AreSizes, HasSpare, end_above, version_at, ItemsMayRise};
+ghost use Rattle.kc_list.specs.Views.{group_at, top_at, HasRoomAbove, AreAllOf, AreMembers, IsSpare, IsFull, AreSizes, HasSpare, end_above, version_at, ItemsMayRise};
 ghost use Rattle.kc_list.specs.Rewriting.{Rewrites, Relabels, Halves, KeepsItems, Divides, MakesRoom};
 
 use crate::cut::Cut;
@@ -90,9 +90,7 @@ impl LabelledList {
 
     /// Splits the full group of `p`, which has these members.
     fn split_at(&mut self, p: u32, fresh: u32, members: &[u32])
-        requires length { length members.now ≡ GROUP_ITEMS }
-        requires full { IsFull self.old.links self.old.sheet p }
-        requires segment { AreMembers self.old.links self.old.sheet (group_at self.old.links self.old.sheet p) members.now }
+        requires members { AreAllOf self.old.links self.old.sheet p members.now }
         requires fresh { IsSpare self.old.links self.old.sheet fresh }
         requires gap { HasRoomAbove self.old.links self.old.sheet (group_at self.old.links self.old.sheet p) }
         requires version { ItemsMayRise self.old.sheet self.old.links.list }
@@ -108,9 +106,7 @@ impl LabelledList {
 
     /// Sees to it that there is a top label between the full group of `p`, which has these members, and what follows it.
     fn make_top_room(&mut self, scratch: &mut Scratch, p: u32, members: &[u32])
-        requires length { length members.now ≡ GROUP_ITEMS }
-        requires full { IsFull self.old.links self.old.sheet p }
-        requires segment { AreMembers self.old.links self.old.sheet (group_at self.old.links self.old.sheet p) members.now }
+        requires members { AreAllOf self.old.links self.old.sheet p members.now }
         requires scratch { self.old.links.size ≤ scratch.old }
         requires version { (w : ℕ) → version_at self.old.sheet w < LAST_VERSION }
         requires room { length self.old.sheet.writes + self.old.links.size ≤ self.old.sheet.room }

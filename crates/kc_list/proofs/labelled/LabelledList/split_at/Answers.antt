@@ -7,7 +7,7 @@ use Rattle.kc_list.proofs.labelled.LabelledList.split_at.Goals as goal
 pub split_full-requires-clause-segment : goal.split_full-requires-clause-segment
 split_full-requires-clause-segment c =
     subst (λ (z : ℕ). AreMembers c.args.self.now.links c.args.self.now.sheet z c.args.members.now) (sym (ap (λ w. w.group) c.item-group.ensures))
-    c.requires.segment
+    c.requires.members.segment
 
 pub split_full-requires-clause-gap : goal.split_full-requires-clause-gap
 split_full-requires-clause-gap c =
@@ -16,5 +16,5 @@ split_full-requires-clause-gap c =
 pub returns-clause-halved : goal.returns-clause-halved
 returns-clause-halved c =
     halved_at c.args.self.now c.split_full.new.self c.args.p c.item-group.result.group c.args.fresh c.args.members.now
-    (ap (λ w. w.group) c.item-group.ensures) c.requires.segment c.requires.length c.requires.full c.requires.fresh.free c.split_full.ensures.halves
+    (ap (λ w. w.group) c.item-group.ensures) c.requires.members.segment c.requires.members.count c.requires.members.full c.requires.fresh.free c.split_full.ensures.halves
     c.split_full.ensures.relabels.rewrites.links

@@ -29,20 +29,22 @@ split-fresh-requires-clause-spare c =
     (group-still_full c.args.self.now c.make_top_room.new.self c.args.p _ c.make_top_room.ensures.relabels c.make_top_room.ensures.kept c.requires.full
     c.requires.tallied).tallied
 
-pub make_top_room-requires-clause-segment : goal.make_top_room-requires-clause-segment
-make_top_room-requires-clause-segment c =
-    whole_group c.args.self.now c.args.p c.gather.result c.gather.new.into c.gather.ensures.segment (omega arith) (omega arith) c.requires.full
+pub make_top_room-requires-clause-members : goal.make_top_room-requires-clause-members
+make_top_room-requires-clause-members c = record {
+  count = omega arith;
+  full = c.requires.full;
+  segment = whole_group c.args.self.now c.args.p c.gather.result c.gather.new.into c.gather.ensures.segment (omega arith) (omega arith) c.requires.full;
+}
 
-pub split_at-requires-clause-segment : goal.split_at-requires-clause-segment
-split_at-requires-clause-segment c =
-    members-still c.args.self.now c.make_top_room.new.self c.args.p _ c.gather.new.into c.make_top_room.ensures.relabels c.make_top_room.ensures.kept
-    c.requires.full
-    (whole_group c.args.self.now c.args.p c.gather.result c.gather.new.into c.gather.ensures.segment (omega arith) (omega arith) c.requires.full)
-
-pub split_at-requires-clause-full : goal.split_at-requires-clause-full
-split_at-requires-clause-full c =
-    (group-still_full c.args.self.now c.make_top_room.new.self c.args.p _ c.make_top_room.ensures.relabels c.make_top_room.ensures.kept c.requires.full
-    c.requires.tallied).full
+pub split_at-requires-clause-members : goal.split_at-requires-clause-members
+split_at-requires-clause-members c = record {
+  count = omega arith;
+  full = (group-still_full c.args.self.now c.make_top_room.new.self c.args.p _ c.make_top_room.ensures.relabels c.make_top_room.ensures.kept
+      c.requires.full c.requires.tallied).full;
+  segment = members-still c.args.self.now c.make_top_room.new.self c.args.p _ c.gather.new.into c.make_top_room.ensures.relabels
+      c.make_top_room.ensures.kept c.requires.full
+      (whole_group c.args.self.now c.args.p c.gather.result c.gather.new.into c.gather.ensures.segment (omega arith) (omega arith) c.requires.full);
+}
 
 pub split_at-requires-clause-fresh : goal.split_at-requires-clause-fresh
 split_at-requires-clause-fresh c =

@@ -21,6 +21,12 @@ written_by : (c : After-move_item) → Written c.self.inside.list.links.size c.s
 written_by c = call_written _ c.make_way-low.new.self c.move_item.new.self c.args.x _ c.clear.ensures.writes c.make_way-low.ensures.rewrites
     c.move_item.ensures.puts.size c.move_item.ensures.puts.stores (omega (arith, c.requires.x_within, ap (λ v. v.items) c.self.view_is))
 
+pub make_way-low-requires-clause-items : goal.make_way-low-requires-clause-items
+make_way-low-requires-clause-items c = (
+  omega (arith, c.requires.x_within, ap (λ v. v.items) c.self.view_is),
+  ap (member c.args.p) (ap (λ v. v.list) c.self.view_is) ∙ c.requires.p_in,
+)
+
 pub make_way-low-requires-clause-spare : goal.make_way-low-requires-clause-spare
 make_way-low-requires-clause-spare c = record {
   versions = λ w. omega (
@@ -32,13 +38,13 @@ make_way-low-requires-clause-spare c = record {
 }
 
 pub label_between-label-requires : goal.label_between-label-requires
-label_between-label-requires c = omega (arith, c.make_way-low.ensures.low, c.make_way-low.ensures.high, c.make_way-low.ensures.way.gap)
+label_between-label-requires c = omega (arith, c.make_way-low.ensures.told.low, c.make_way-low.ensures.told.high, c.make_way-low.ensures.way.gap)
 
 pub move_item-requires-clause-fits : goal.move_item-requires-clause-fits
 move_item-requires-clause-fits c = record {
   p_in = rw c.make_way-low.ensures.rewrites.links (ap (member c.args.p) (ap (λ v. v.list) c.self.view_is) ∙ c.requires.p_in);
-  low = omega (arith, c.make_way-low.ensures.low, c.label_between-label.ensures.low);
-  high = omega (arith, c.make_way-low.ensures.high, c.label_between-label.ensures.high);
+  low = omega (arith, c.make_way-low.ensures.told.low, c.label_between-label.ensures.low);
+  high = omega (arith, c.make_way-low.ensures.told.high, c.label_between-label.ensures.high);
 }
 
 pub move_item-requires-clause-x_within : goal.move_item-requires-clause-x_within
