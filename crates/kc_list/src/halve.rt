@@ -2,7 +2,8 @@
 ghost use Rattle.std.specs.Prelude.{◌≡◌, ◌<◌, ◌≤◌, ◌+◌, ℕ, length, true};
 ghost use Rattle.kc_distinct.specs.Lists.{member};
 ghost use Rattle.kc_list.specs.Places.{Halved};
-ghost use Rattle.kc_list.specs.Views.{group_at, top_at, HasRoomAbove, AreAllOf, AreMembers, IsSpare, IsFull, AreSizes, HasSpare, end_above, version_at, ItemsMayRise};
+ghost use Rattle.kc_list.specs.Views.{group_at, top_at, end_above, version_at, HasRoomAbove, HasSpare, ItemsMayRise};
+ghost use Rattle.kc_list.specs.Views.{AreAllOf, AreMembers, AreSizes, IsFull, IsSpare};
 ghost use Rattle.kc_list.specs.Rewriting.{Rewrites, Relabels, Halves, KeepsItems, Divides, MakesRoom};
 
 use crate::cut::Cut;

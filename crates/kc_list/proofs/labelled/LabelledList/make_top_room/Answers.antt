@@ -16,7 +16,8 @@ top_gap-low-requires-clause-group c =
 pub returns-then-low-high-clause-gap : goal.returns-then-low-high-clause-gap
 returns-then-low-high-clause-gap c =
     wide_above c.args.self.now c.args.p c.item-group.result.group c.args.members.now c.top_gap-low.result.0 c.top_gap-low.result.1
-    c.requires.members.segment c.requires.members.count (ap (λ w. w.group) c.item-group.ensures) c.top_gap-low.ensures.low c.top_gap-low.ensures.high c.if-low-high.true
+    c.requires.members.segment c.requires.members.count (ap (λ w. w.group) c.item-group.ensures) c.top_gap-low.ensures.low
+    c.top_gap-low.ensures.high c.if-low-high.true
 
 pub returns-then-low-high-clause-kept : goal.returns-then-low-high-clause-kept
 returns-then-low-high-clause-kept c = record { items = λ w l. refl; unused = λ h f. refl }

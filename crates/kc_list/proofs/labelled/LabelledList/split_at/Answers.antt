@@ -16,5 +16,6 @@ split_full-requires-clause-gap c =
 pub returns-clause-halved : goal.returns-clause-halved
 returns-clause-halved c =
     halved_at c.args.self.now c.split_full.new.self c.args.p c.item-group.result.group c.args.fresh c.args.members.now
-    (ap (λ w. w.group) c.item-group.ensures) c.requires.members.segment c.requires.members.count c.requires.members.full c.requires.fresh.free c.split_full.ensures.halves
+    (ap (λ w. w.group) c.item-group.ensures) c.requires.members.segment c.requires.members.count c.requires.members.full c.requires.fresh.free
+    c.split_full.ensures.halves
     c.split_full.ensures.relabels.rewrites.links
