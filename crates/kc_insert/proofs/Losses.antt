@@ -13,7 +13,7 @@ use Rattle.kc_distinct.proofs.Shared.{member-grown_other}
 use Rattle.kc_cert.specs.Local.{firsts, seconds}
 use Rattle.kc_cert.proofs.Final.{filter-has}
 use Rattle.kc_cert.proofs.Turns.{length-firsts}
-use Rattle.kc_hash.specs.Maps.{value_of}
+use Rattle.kc_seen.specs.Maps.{value_of}
 use Rattle.kc_insert.specs.Marks.{earlier_in, later_in, turn_in, candidate_in, weak_in}
 use Rattle.kc_insert.specs.Rising.{is_queued, earlier_at, later_at, turn_at, is_candidate, is_weak, cands, left, IsOrderly}
 use Rattle.kc_insert.specs.Turns.{loses_later, loses_earlier, taken_from, recounted, grown, Recounts, LosesOne, Loses}

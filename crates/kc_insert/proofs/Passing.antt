@@ -14,8 +14,8 @@ use Rattle.kc_cert.specs.Local.{firsts, seconds}
 use Rattle.kc_cert.specs.Ranks.{AscendsBy}
 use Rattle.kc_view.specs.Answers.{has_core}
 use Rattle.kc_view.specs.Views.{Shown}
-use Rattle.kc_hash.specs.Maps.{value_of}
-use Rattle.kc_hash.specs.Seen.{MarksOne}
+use Rattle.kc_seen.specs.Maps.{value_of}
+use Rattle.kc_seen.specs.Seen.{MarksOne}
 use Rattle.kc_insert.specs.Marks.{earlier_in, later_in, turn_in, candidate_in, weak_in}
 use Rattle.kc_insert.specs.Rising.{is_queued, earlier_at, later_at, turn_at, is_candidate, is_weak, left, IsOrderly, IsTidyRising}
 use Rattle.kc_insert.specs.Turns.{Passes, PassedOn, IsPlaceWithin}

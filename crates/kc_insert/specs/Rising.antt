@@ -7,7 +7,7 @@ use Rattle.kc_cert.specs.Local.{firsts, seconds}
 use Rattle.kc_view.specs.Answers.{Answers, has_list, has_core}
 use Rattle.kc_view.specs.Sure.{AsksCores}
 use Rattle.kc_view.specs.Views.{Shown}
-use Rattle.kc_hash.specs.Maps.{value_of}
+use Rattle.kc_seen.specs.Maps.{value_of}
 use Rattle.kc_insert.specs.Marks.{earlier_in, later_in, turn_in, candidate_in, weak_in}
 use Rattle.kc_insert.specs.declared.rising.Rising.{Rising}
 

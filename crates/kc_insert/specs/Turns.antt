@@ -5,8 +5,8 @@ use Rattle.std.specs.List.{insert}
 use Rattle.kc_distinct.specs.Lists.{member}
 use Rattle.kc_cert.specs.Ranks.{AscendsBy}
 use Rattle.kc_view.specs.Search.{Search, on_level, above, after, OnLevel, Forward}
-use Rattle.kc_hash.specs.Maps.{value_of}
-use Rattle.kc_hash.specs.Seen.{MarksOne}
+use Rattle.kc_seen.specs.Maps.{value_of}
+use Rattle.kc_seen.specs.Seen.{MarksOne}
 use Rattle.kc_insert.specs.Rising.{is_queued, earlier_at, later_at, turn_at, is_candidate, is_weak, cands, left, waiting, pending}
 use Rattle.kc_insert.specs.Searching.{ahead, BetweenTurns, InSettling}
 use Rattle.kc_insert.specs.declared.losing.Loss.{Loss}

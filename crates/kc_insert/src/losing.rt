@@ -1,8 +1,8 @@
 //! What the neighbours of a vertex lose that will not rise.
 ghost use Rattle.std.specs.Prelude.{◌≡◌, ◌&&◌, not, false, Some, None, OnOk};
 ghost use Rattle.kc_distinct.specs.Lists.{Distinct};
-ghost use Rattle.kc_hash.specs.Maps.{value_of};
-ghost use Rattle.kc_hash.specs.Seen.{MarksOne};
+ghost use Rattle.kc_seen.specs.Maps.{value_of};
+ghost use Rattle.kc_seen.specs.Seen.{MarksOne};
 ghost use Rattle.kc_insert.specs.Rising.{IsOrderly};
 ghost use Rattle.kc_insert.specs.Turns.{taken_from, recounted, LosesOne, Loses};
 ghost use Rattle.kc_insert.specs.declared.rising.Mark.{Mark};
@@ -52,15 +52,16 @@ impl Rising {
         ensures rest { (self.new.queue.items ≡ self.old.queue.items) × (self.new.turn ≡ self.old.turn)
             × (self.new.seen.weak.items ≡ self.old.seen.weak.items) × (self.new.shifts.items ≡ self.old.shifts.items) }
     {
-        let Some(mark) = self.seen.marks.get_mut(&y) else {
+        let Some(mark) = self.seen.find(y) else {
             return false;
         };
-        let taken = loss.taken_from(*mark);
+        let taken = loss.taken_from(mark);
         let is_found = !taken.is_weak && taken.is_too_weak(level);
-        *mark = Mark {
+        let recounted = Mark {
             is_weak: taken.is_weak || is_found,
             ..taken
         };
+        self.seen.mark_again(y, recounted);
         is_found
     }
 

@@ -1,12 +1,12 @@
 //! The vertices that were queued, the candidates among them, and the moves of those that were evicted.
 ghost use Rattle.std.specs.Prelude.{◌≡◌, ◌<◌, ◌≤◌, ◌+◌, ◌-◌, ◌^◌, ◌&&◌, min, nat_le, true, false, IfOk, OnOk, length};
 ghost use Rattle.std.specs.List.{insert};
-ghost use Rattle.kc_hash.specs.Seen.{MarksOne};
+ghost use Rattle.kc_seen.specs.Seen.{MarksOne};
 ghost use Rattle.kc_insert.specs.Rising.{is_candidate, cands, earlier_at, turn_at};
 ghost use Rattle.kc_insert.specs.Turns.{Begins, Leaves, Evicts};
 
 use kc_graph::NoMemory;
-use kc_hash::Seen;
+use kc_seen::Seen;
 use std::alloc::Global;
 
 /// What is known of a vertex that was queued.
@@ -146,6 +146,16 @@ impl Rising {
         Ok(turn)
     }
 
+    /// The place in the queue of a vertex, or 0 where it has no mark.
+    fn turn_of(&self, x: u32) -> usize
+        ensures { result ≡ turn_at self.now x }
+    {
+        match self.seen.find(x) {
+            Some(mark) => mark.turn,
+            None => 0,
+        }
+    }
+
     /// The mark of a vertex says from now on that it was too weak. What comes back is its turn.
     fn dismiss(&mut self, x: u32) -> Result<usize, NoMemory>
         ensures turn { IfOk result (λ turn. turn ≡ turn_at self.old x) }
@@ -154,13 +164,13 @@ impl Rising {
         ensures rest { OnOk result ((self.new.queue.items ≡ self.old.queue.items) × (self.new.turn ≡ self.old.turn)
             × (self.new.seen.weak.items ≡ self.old.seen.weak.items) × (self.new.shifts.items ≡ self.old.shifts.items)) }
     {
-        let mark = self.seen.marks.entry(x)?.or_insert(Mark::past());
-        let turn = mark.turn;
-        *mark = Mark {
+        let turn = self.turn_of(x);
+        let mark = Mark {
             turn,
             is_weak: true,
             ..Mark::past()
         };
+        self.seen.mark(x, mark)?;
         Ok(turn)
     }
 

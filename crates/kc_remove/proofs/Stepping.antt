@@ -7,7 +7,7 @@ use Rattle.std.proofs.Math.Bool.{or-false}
 use Rattle.kc_distinct.specs.Lists.{member}
 use Rattle.kc_distinct.proofs.Counting.{member-push, member-get_or, one_if}
 use Rattle.kc_distinct.proofs.Shared.{and-fails}
-use Rattle.kc_hash.specs.Maps.{value_of}
+use Rattle.kc_seen.specs.Maps.{value_of}
 use Rattle.kc_graph.specs.SimpleGraph.{adjacent}
 use Rattle.kc_graph.specs.Edges.{without_edge}
 use Rattle.kc_graph.specs.Neighbours.{neighbours_of}

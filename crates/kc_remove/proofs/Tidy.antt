@@ -11,7 +11,7 @@ use Rattle.kc_distinct.specs.Lists.{member}
 use Rattle.kc_distinct.proofs.Members.{below_bound}
 use Rattle.kc_distinct.proofs.Counting.{member-push}
 use Rattle.kc_distinct.proofs.Shared.{list_any-some, member-grown_left, Distinct-grown}
-use Rattle.kc_hash.specs.Maps.{value_of}
+use Rattle.kc_seen.specs.Maps.{value_of}
 use Rattle.kc_graph.specs.declared.update.Update.{Update}
 use Rattle.kc_view.specs.Answers.{Answers, has_list, list_of, has_core, with_list}
 use Rattle.kc_view.specs.Sure.{AsksOneList, is_listed, AsksCores}

@@ -1,11 +1,11 @@
 //! The vertices that were visited, and the list of those that fall.
 ghost use Rattle.std.specs.Prelude.{◌≡◌, ◌-◌, ◌&&◌, ℕ, None, [], OnOk, is_some, nat_lt, not};
-ghost use Rattle.kc_hash.specs.Maps.{value_of};
+ghost use Rattle.kc_seen.specs.Maps.{value_of};
 ghost use Rattle.kc_remove.specs.Visits.{nothing_counted};
 ghost use Rattle.kc_remove.specs.Falling.{Settles, is_gone};
 
 use kc_graph::NoMemory;
-use kc_hash::Seen;
+use kc_seen::Seen;
 use std::alloc::Global;
 
 /// How far the support of a vertex was counted. The list of its neighbours ascends.

@@ -1,7 +1,7 @@
 //! The plan of an update that removes an edge.
 ghost use Rattle.std.specs.Prelude.{◌≡◌, ◌≢◌, ◌<◌, ◌++◌, ◌⊎◌, ℕ, min, [], true, false, slice_index, IfOk, OnOk, IfErr, OnErr};
 ghost use Rattle.kc_distinct.specs.Lists.{member};
-ghost use Rattle.kc_hash.specs.Maps.{value_of};
+ghost use Rattle.kc_seen.specs.Maps.{value_of};
 ghost use Rattle.kc_graph.specs.Lawful.{Ranked};
 ghost use Rattle.kc_cert.specs.Local.{moved_vertices};
 ghost use Rattle.kc_view.specs.Answers.{Agrees, nothing_answered, answers_in, has_list};
@@ -13,7 +13,7 @@ ghost use Rattle.kc_remove.specs.Falling.{is_visited, AsksNear, IsTidyFalling, F
 
 use crate::falling::{Falling, Supported};
 use kc_graph::{Moves, Plan, Update};
-use kc_hash::Seen;
+use kc_seen::Seen;
 use kc_view::{PlanFault, Search, View, core_of, has_edge};
 use std::alloc::Global;
 

@@ -1,7 +1,7 @@
 //! The support of a vertex, counted as far as needed: neighbours that are as high, without the edge that goes and those that are gone.
 ghost use Rattle.std.specs.Prelude.{◌≡◌, ◌≢◌, ◌<◌, ◌≤◌, ℕ, Bool, true, false, length, take, slice_index, IfOk, OnOk, IfErr};
 ghost use Rattle.kc_distinct.specs.Lists.{member};
-ghost use Rattle.kc_hash.specs.Maps.{value_of};
+ghost use Rattle.kc_seen.specs.Maps.{value_of};
 ghost use Rattle.kc_graph.specs.SimpleGraph.{adjacent};
 ghost use Rattle.kc_graph.specs.Edges.{without_edge};
 ghost use Rattle.kc_graph.specs.Lawful.{Ranked};

@@ -3,7 +3,7 @@ use Rattle.std.proofs.Common.{◌<◌, sym, ◌∙◌, ap, subst, arith}
 use Rattle.std.proofs.lemmas.List.{append-nil}
 use Rattle.kc_distinct.specs.Lists.{member}
 use Rattle.kc_distinct.proofs.Shared.{no_items}
-use Rattle.kc_view.proofs.Keeping.{answers-agreed, tells-edge}
+use Rattle.kc_view.proofs.Keeping.{GoesOn-trans, answers-agreed, tells-edge}
 use Rattle.kc_remove.specs.Falling.{AsksNear}
 use Rattle.kc_remove.proofs.Sureness.{kept-sure, plain-sure, fall-sure, removes-told, some-level}
 use Rattle.kc_remove.proofs.Tidy.{asks-first, fallen-read}
@@ -27,6 +27,10 @@ returns-then-level-eq0-clause-sure g c = λ s used h l a.
     let some : 0 < c.in_ok-level.level = some-level c.args.update s c.in_ok-level.level h l r in
     absurd (omega (arith, some, c.if-level-eq0.true))
 
+pub returns-then-is_empty-clause-goes_on : goal.returns-then-is_empty-clause-goes_on
+returns-then-is_empty-clause-goes_on g c =
+    GoesOn-trans _ _ _ c.has_edge.ensures.goes_on (GoesOn-trans _ _ _ c.level_of.ensures.goes_on c.find_fallen.ensures.goes_on)
+
 pub returns-then-is_empty-clause-asks : goal.returns-then-is_empty-clause-asks
 returns-then-is_empty-clause-asks g c =
     let list = c.in_ok-weak.field-0.seen.weak in
@@ -42,6 +46,10 @@ returns-then-is_empty-clause-sure g c = λ s used h l a.
     c.if-not-branch.false c.in_ok-level.ensures.told in
     plain-sure c.args.update used s c.in_ok-level.level f c.requires.removes h l r (c.in_ok-weak.ensures.ended s a)
     (no_items f.seen.weak.items f.seen.weak.len c.is_empty.result (sym f.seen.weak.ok.0) c.is_empty.ensures c.if-is_empty.true)
+
+pub returns-clause-goes_on : goal.returns-clause-goes_on
+returns-clause-goes_on g c =
+    GoesOn-trans _ _ _ c.has_edge.ensures.goes_on (GoesOn-trans _ _ _ c.level_of.ensures.goes_on c.find_fallen.ensures.goes_on)
 
 pub returns-clause-named : goal.returns-clause-named
 returns-clause-named g c = λ x m.

@@ -1,7 +1,7 @@
 -- A vertex that the loss makes too weak is put on the list of these.
 use Rattle.std.proofs.Common.{◌≡◌, ◌∙◌, ℕ, Bool, true, false, not, ◌&&◌, List, [], ◌∷◌, ◌++◌, refl, sym, ap}
 use Rattle.std.proofs.lemmas.Bool.{false≢true}
-use Rattle.kc_hash.specs.Maps.{VertexMap, value_of}
+use Rattle.kc_seen.specs.Maps.{VertexMap, value_of}
 use Rattle.kc_insert.specs.Turns.{taken_from, recounted, grown}
 use Rattle.kc_insert.specs.declared.rising.Mark.{Mark}
 use Rattle.kc_insert.proofs.rising.Rising.lose.Goals as goal

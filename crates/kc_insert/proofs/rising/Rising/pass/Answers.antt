@@ -3,7 +3,7 @@ use Rattle.std.proofs.Common.{◌≡◌, false, None, sym, ◌∙◌, ap, inl, a
 use Rattle.std.specs.Prelude.{is_some}
 use Rattle.kc_distinct.specs.Lists.{member}
 use Rattle.kc_view.proofs.Keeping.{still_has_core}
-use Rattle.kc_hash.specs.Maps.{value_of}
+use Rattle.kc_seen.specs.Maps.{value_of}
 use Rattle.kc_insert.proofs.Passing.{enqueued-passes, passes-tidy, passes-ascends}
 use Rattle.kc_insert.proofs.rising.Rising.pass.Goals as goal
 

@@ -1,18 +1,16 @@
 //! What a search has seen: marks of vertices, and the list of those that are too weak.
-ghost use Rattle.std.specs.Prelude.{◌≡◌, ◌++◌, ℕ, None, [], ◌∷◌, OnOk, OnErr};
-ghost use Rattle.kc_hash.specs.Maps.{value_of};
-ghost use Rattle.kc_hash.specs.Seen.{MarksOne};
+ghost use Rattle.std.specs.Prelude.{◌≡◌, ◌++◌, ℕ, None, [], ◌∷◌, true, is_some, OnOk, OnErr};
+ghost use Rattle.kc_seen.specs.Maps.{value_of};
+ghost use Rattle.kc_seen.specs.Seen.{MarksOne};
 
-use crate::hasher::VertexHasher;
+use crate::map::VertexMap;
 use std::alloc::{AllocError, Global};
-use std::collections::HashMap;
-use std::hash::BuildHasherDefault;
 
 /// What a search has seen: the mark of each vertex that it has come to, and the vertices that it found too weak to stay where they are, in
 /// the order in which it did.
 #[derive(Drop)]
 pub struct Seen<M> {
-    pub marks: HashMap<u32, M, BuildHasherDefault<VertexHasher>>,
+    pub marks: VertexMap<M>,
     pub weak: Vec<u32>,
 }
 
@@ -23,7 +21,7 @@ impl<M: Copy + Drop> Seen<M> {
         ensures weak { result.weak.items ≡ [] }
     {
         Seen {
-            marks: HashMap::with_hasher(alloc, BuildHasherDefault::new()),
+            marks: VertexMap::new(alloc),
             weak: Vec::new(alloc),
         }
     }
@@ -33,18 +31,27 @@ impl<M: Copy + Drop> Seen<M> {
     pub fn find(&self, y: u32) -> Option<M>
         ensures { result ≡ value_of self.now.marks y }
     {
-        self.marks.get(&y).copied()
+        self.marks.find(y)
     }
 
     /// Marks a vertex, whether or not it had a mark. Where there is no memory for it, all marks stay.
     #[inline]
     pub fn mark(&mut self, y: u32, mark: M) -> Result<(), AllocError>
         ensures ok { OnOk result (MarksOne y mark self.old self.new) }
-        ensures err { OnErr result ((z : ℕ) → value_of self.new.marks z ≡ value_of self.old.marks z) }
+        ensures err { OnErr result (self.new.marks ≡ self.old.marks) }
         ensures weak { self.new.weak.items ≡ self.old.weak.items }
     {
-        self.marks.insert(y, mark)?;
-        Ok(())
+        self.marks.insert(y, mark)
+    }
+
+    /// Gives a vertex that has a mark another one.
+    #[inline]
+    pub fn mark_again(&mut self, y: u32, mark: M)
+        requires { is_some (value_of self.old.marks y) ≡ true }
+        ensures marks { MarksOne y mark self.old self.new }
+        ensures weak { self.new.weak.items ≡ self.old.weak.items }
+    {
+        self.marks.replace(y, mark);
     }
 
     /// Puts a vertex at the end of the list of the weak. Where there is no memory for it, the list stays.

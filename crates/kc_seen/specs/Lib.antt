@@ -1,4 +1,4 @@
 -- What public contracts speak of.
 pub mod Maps
 pub mod Seen
-pub mod Spreading
+pub mod Sparse
