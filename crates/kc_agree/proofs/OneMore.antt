@@ -12,7 +12,7 @@ use Rattle.kc_table.specs.State.{first_vertex}
 use Rattle.kc_table.proofs.Stamps.{stamp-is}
 use Rattle.kc_view.specs.Answers.{Answers, has_core, with_place, with_order}
 use Rattle.kc_order.specs.Standing.{Compares}
-use Rattle.kc_agree.specs.Reads.{StoodSo, WereRead, order_answer, place_after}
+use Rattle.kc_agree.specs.Reads.{IsOtherPlace, StoodSo, WereRead, order_answer, place_after, word_of_place}
 use Rattle.kc_agree.specs.Stamps.{place_stamp}
 use Rattle.kc_agree.proofs.Answering.{loaded_place, comparison-read}
 use Rattle.kc_agree.proofs.Growing.{reads_stay}
@@ -36,6 +36,32 @@ loaded_is t t' words shape new v word found w table named shape-is word-is is w-
     let all : w ≡ vertex_of (value_at t'.opening new (first_vertex t'.shape + v)) = w-is ∙ ap vertex_of (is ∙ ap (value_at t'.opening new) here) in
     let stamp : w.stamp ≡ place_stamp t' new v = ap (λ (z : VertexWord). z.stamp) all ∙ sym (stamp-is t'.shape t'.opening new v) in
     λ i. record { vertex = v; stamp = stamp i; core = (all i).core }
+
+-- the number of a vertex's word, as the shape that a call was told has it
+word_is : (t t' words : TableName) (shape : Shape) (v word : ℕ) → t' ≡ t → t ≡ words → shape ≡ words.shape → word ≡ 2 * shape.items + 2 + v
+    → word ≡ first_vertex t'.shape + v
+word_is t t' words shape v word table named shape-is is =
+    omega (arith, is, ap (λ (z : Shape). z.items) shape-is, ap (λ (z : TableName). z.shape.items) (table ∙ named))
+
+-- a load that finds another value than the place's has found another place
+pub other_is : (t t' words : TableName) (shape : Shape) (new : List Event) (p : UsedPlace) (word first second : ℕ)
+    → t' ≡ t → t ≡ words → shape ≡ words.shape → word ≡ 2 * shape.items + 2 + p.vertex
+    → first ≡ word_of_place p → second ≡ value_at t'.opening new word → first ≢ second
+    → IsOtherPlace t' new p (record { word = word; first = first; second = second })
+other_is t t' words shape new p word first second table named shape-is is was now ne = record {
+  word = word_is t t' words shape p.vertex word table named shape-is is;
+  first = was;
+  second = now;
+  differ = ne;
+}
+
+-- and one that finds the same value has found the place
+pub still_is : (t t' words : TableName) (shape : Shape) (new : List Event) (p : UsedPlace) (word first second : ℕ)
+    → t' ≡ t → t ≡ words → shape ≡ words.shape → word ≡ 2 * shape.items + 2 + p.vertex
+    → first ≡ word_of_place p → second ≡ value_at t'.opening new word → first ≡ second
+    → value_at t'.opening new (first_vertex t'.shape + p.vertex) ≡ word_of_place p
+still_is t t' words shape new p word first second table named shape-is is was now same =
+    ap (value_at t'.opening new) (sym (word_is t t' words shape p.vertex word table named shape-is is)) ∙ (sym now ∙ (sym same ∙ was))
 
 -- the place of a vertex that a load found is one answer more
 pub core_read : (t t' words : TableName) (opened : SimpleGraph) (old new : List Event) (a b : Answers) (v : ℕ)

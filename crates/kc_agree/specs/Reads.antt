@@ -1,5 +1,5 @@
 -- What was read of a table, at different moments: each list, core number and order was so after some prefix of the log.
-use Rattle.std.specs.Prelude.{◌≡◌, ◌≢◌, ◌≤◌, ◌<◌, ◌⊎◌, ℕ, Bool, List, All, true, false}
+use Rattle.std.specs.Prelude.{◌≡◌, ◌≢◌, ◌≤◌, ◌<◌, ◌+◌, ◌⊎◌, ℕ, Bool, List, All, true, false}
 use mathlib.Core.List.{IsPrefix}
 use Rattle.kc_graph.specs.SimpleGraph.{SimpleGraph}
 use Rattle.kc_graph.specs.Neighbours.{AreNeighbours}
@@ -12,7 +12,10 @@ use Rattle.kc_view.specs.declared.fault.ViewFault.{ViewFault}
 use Rattle.kc_view.specs.declared.fault.ViewFault.TheVariants.{Miss, NoMemory}
 use Rattle.kc_table.specs.declared.view.Event.{Event}
 use Rattle.kc_table.specs.Edges.{edges_after}
-use Rattle.kc_table.specs.Log.{PassSeen, TableName}
+use Rattle.kc_words.specs.VertexWord.{vertex_word}
+use Rattle.kc_words.specs.declared.again.Again.{Again}
+use Rattle.kc_table.specs.Log.{PassSeen, TableName, value_at}
+use Rattle.kc_table.specs.State.{first_vertex}
 use Rattle.kc_order.specs.Standing.{Compares, StandsBefore, StoodBefore, list_after}
 use Rattle.kc_order.specs.declared.answer.Answer.{Answer}
 use Rattle.kc_order.specs.declared.answer.Answer.TheVariants as answer
@@ -61,6 +64,17 @@ From plan table opened log = WereRead table opened log (answers_in plan.used)
 -- the place of a vertex as it is after the log
 abbrev pub place_after : TableName → List Event → ℕ → UsedPlace
 place_after table log v = record { vertex = v; stamp = place_stamp table log v; core = core_after table log v }
+
+-- the word of a vertex with the stamp and the core number of this place
+abbrev pub word_of_place : UsedPlace → ℕ
+word_of_place p = vertex_word (record { stamp = p.stamp; core = p.core })
+
+-- The word of a vertex, which was read as this place, has another value after the log: which word, that value, and the one that it has.
+pub record IsOtherPlace (table : TableName) (log : List Event) (p : UsedPlace) (again : Again) : Type 0 where
+  pub word : again.word ≡ first_vertex table.shape + p.vertex
+  pub first : again.first ≡ word_of_place p
+  pub second : again.second ≡ value_at table.opening log again.word
+  pub differ : again.first ≢ again.second
 
 -- x stood before y, or y before x, after a prefix between the two
 abbrev pub StoodSo : TableName → List Event → List Event → ℕ → ℕ → Bool → Type 0

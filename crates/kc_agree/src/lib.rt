@@ -7,13 +7,14 @@
 //!
 //! Where no stamp is less than that of now, all the answers are true of the state now, though they were read at different moments. That
 //! is the theorem of agreement, `laws::what_was_read_is_true_now`. So whoever holds the state looks at stamps alone: `first_stale` tells
-//! the first that is less. `read_core` and `read_order` each load one answer. Nothing else here is code; the rest of the crate is laws.
+//! the first that is less. `read_core` and `read_order` each load one answer, and `read_again` looks whether a core number and its stamp are
+//! still what they were. Nothing else here is code; the rest of the crate is laws.
 #![tactic(auto)]
 
 pub mod laws;
 mod reading;
 mod stale;
 
-pub use reading::{read_core, read_order};
+pub use reading::{read_again, read_core, read_order};
 pub use stale::{Stale, first_stale};
 pub use std::alloc::AllocError as NoMemory;

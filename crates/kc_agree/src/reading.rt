@@ -1,13 +1,15 @@
 //! One answer more: a core number by one load, an order by one comparison. Each call says what was so, and when, and keeps all that was
 //! read before.
-ghost use Rattle.std.specs.Prelude.{◌≡◌, ◌≢◌, ◌<◌, true, false, IfErr, IfOk, OnErr};
+ghost use Rattle.std.specs.Prelude.{◌≡◌, ◌≢◌, ◌<◌, ◌+◌, true, false, IfErr, IfOk, OnErr, OnOk};
 ghost use mathlib.Core.List.{IsPrefix};
 ghost use Rattle.kc_graph.specs.SimpleGraph.{SimpleGraph};
 ghost use Rattle.kc_view.specs.Answers.{has_core, with_order, with_place};
 ghost use Rattle.kc_view.specs.Memory.{keeping};
 ghost use Rattle.kc_order.specs.Standing.{Compares, Steps};
 ghost use Rattle.kc_order.specs.declared.answer.Answer.TheVariants as answer;
-ghost use Rattle.kc_agree.specs.Reads.{HasOrderCause, WereRead, order_answer, place_after};
+ghost use Rattle.kc_table.specs.Log.{value_at};
+ghost use Rattle.kc_table.specs.State.{first_vertex};
+ghost use Rattle.kc_agree.specs.Reads.{HasOrderCause, IsOtherPlace, WereRead, order_answer, place_after, word_of_place};
 ghost use Rattle.kc_agree.specs.Stamps.{core_after};
 
 use crate::NoMemory;
@@ -40,6 +42,35 @@ pub fn read_core(words: &Words, pass: &mut Pass, memo: &mut Memo, v: u32) -> Res
         core,
     })?;
     Ok(core)
+}
+
+/// Reads once more the core number and the stamp of a vertex that were read before: one load of its word. Where the word has another value
+/// now, both come back.
+pub fn read_again(words: &Words, pass: &mut Pass, place: UsedPlace) -> Result<(), Again>
+    requires table { pass.old.table ≡ words.now }
+    requires vertex { place.vertex < words.now.shape.fixed }
+    ensures table { pass.new.table ≡ pass.old.table }
+    ensures longer { IsPrefix pass.old.log pass.new.log }
+    ensures steps { Steps pass.old pass.new 1 0 }
+    ensures same { OnOk result (value_at pass.new.table.opening pass.new.log (first_vertex pass.new.table.shape + place.vertex) ≡ word_of_place place) }
+    ensures again { IfErr result (IsOtherPlace pass.new.table pass.new.log place) }
+{
+    let UsedPlace {
+        vertex,
+        stamp,
+        core,
+    } = place;
+    let word = shape(words).vertex(vertex);
+    let first = VertexWord { stamp, core }.pack();
+    let second = load(words, pass, word);
+    if first != second {
+        return Err(Again {
+            word,
+            first,
+            second,
+        });
+    }
+    Ok(())
 }
 
 /// Reads whether the first of two vertices stands before the second, where the core numbers of both were read: one comparison. It

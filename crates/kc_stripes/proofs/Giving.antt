@@ -1,15 +1,21 @@
 -- What a loose view has answered stays so, and each answer more is so too; what a miss means.
-use Rattle.std.proofs.Common.{◌≡◌, ◌≤◌, ◌<◌, ℕ, suc, true, false, cond, List, [], ◌∷◌, ◌++◌, length, get_or, refl, sym, ◌∙◌, ap, subst, arith, eqb, eqb-true}
+use Rattle.std.proofs.Common.{◌≡◌, ◌≤◌, ◌<◌, ◌+◌, ℕ, suc, true, false, cond, List, [], ◌∷◌, ◌++◌, length, get_or}
+use Rattle.std.proofs.Common.{refl, sym, ◌∙◌, ap, subst, arith, eqb, eqb-true}
 use Rattle.std.specs.Prelude.{All, Some, is_some}
 use Rattle.std.proofs.lemmas.Bool.{false≢true}
 use Rattle.std.proofs.lemmas.List.Elements.{All-cons, All-nil, All-push, All-weaker}
 use mathlib.Core.List.{IsPrefix}
 use Rattle.kc_graph.specs.declared.used.UsedEdges.{UsedEdges}
 use Rattle.kc_graph.specs.declared.used.UsedPlace.{UsedPlace}
+use Rattle.kc_words.proofs.Packing.{vertex_word-vertex_of}
+use Rattle.kc_words.specs.VertexWord.{vertex_of, vertex_word}
 use Rattle.kc_words.specs.declared.again.Again.{Again}
+use Rattle.kc_words.specs.declared.vertex.VertexWord.{VertexWord}
 use Rattle.kc_table.specs.declared.view.Event.{Event}
 use Rattle.kc_table.specs.Log.{PassSeen, TableName, value_at}
+use Rattle.kc_table.specs.State.{first_vertex}
 use Rattle.kc_table.proofs.Prefixes.{prefix_self, prefix_trans}
+use Rattle.kc_table.proofs.Stamps.{stamp-is}
 use Rattle.kc_order.specs.Collected.{Collected, IsCollect, Loaded, Held, words_of}
 use Rattle.kc_order.specs.Standing.{Between, FindsSame, TwoCollects}
 use Rattle.kc_order.specs.declared.answer.Answer.TheVariants as answer
@@ -17,7 +23,7 @@ use Rattle.kc_view.specs.Answers.{Answers, nothing_answered, list_in, core_in, h
 use Rattle.kc_view.specs.Views.{Shown, HasPlanCause}
 use Rattle.kc_view.specs.declared.fault.PlanFault.{PlanFault}
 use Rattle.kc_view.specs.declared.fault.PlanFault.TheVariants as plan
-use Rattle.kc_agree.specs.Reads.{WasList, WasPlace, WereRead, place_after}
+use Rattle.kc_agree.specs.Reads.{IsOtherPlace, WasList, WasPlace, WereRead, place_after, word_of_place}
 use Rattle.kc_agree.proofs.Growing.{reads_stay, nothing_read, one_list}
 use Rattle.kc_stripes.specs.Records.{Opened}
 use Rattle.kc_stripes.specs.Reads.{HadPlace, HadValue, HasLooseCause, IsMissed, WereReadSince}
@@ -223,4 +229,33 @@ missed_of table start old new x y again named same begins t =
         held = f.differs.loaded.held ∙ (ap (λ (z : TableName). value_at z.opening new.log l.word) same ∙ ap (value_at table.opening new.log) word);
       };
       differ = f.differs.differ;
+    }
+
+-- the place that a vertex had is a value that its word had
+placed_value : (table : TableName) (start log : List Event) (p : UsedPlace) → HadPlace table start log p
+    → HadValue table start log (first_vertex table.shape + p.vertex) (word_of_place p)
+placed_value table start log p h =
+    let value : ℕ = value_at table.opening h.prefix (first_vertex table.shape + p.vertex) in
+    let is : ◌≡◌ {A = VertexWord} (vertex_of value) (record { stamp = p.stamp; core = p.core }) =
+    λ i. record { stamp = (sym (stamp-is table.shape table.opening h.prefix p.vertex) ∙ h.stamp) i; core = h.core i } in
+    record { prefix = h.prefix; between = h.between; held = ap vertex_word (sym is) ∙ vertex_word-vertex_of value }
+
+-- A place that was read since `start` and is another one now: its word has missed.
+pub missed_place : (o : Opened) (start before log : List Event) (a : Answers) (i : ℕ) (p : UsedPlace) (now : TableName) (again : Again)
+    → WereReadSince o start before a → IsPrefix start log → IsPrefix before log → i < length a.places → get_or a.places i p ≡ p → now ≡ o.table
+    → IsOtherPlace now log p again → IsMissed o.table start log again
+missed_place o start before log a i p now again h begins pre low is named other =
+    let had : HadPlace o.table start log p =
+    place_grows o.table start before log p (subst (HadPlace o.table start before) is (h.places i p low)) pre in
+    let word : again.word ≡ first_vertex o.table.shape + p.vertex = other.word ∙ ap (λ (z : TableName). first_vertex z.shape + p.vertex) named in
+    record {
+      first =
+          subst (λ w. HadValue o.table start log w again.first) (sym word)
+          (subst (HadValue o.table start log (first_vertex o.table.shape + p.vertex)) (sym other.first) (placed_value o.table start log p had));
+      second = record {
+        prefix = log;
+        between = record { extends = begins; extended = prefix_self log };
+        held = other.second ∙ ap (λ (z : TableName). value_at z.opening log again.word) named;
+      };
+      differ = other.differ;
     }

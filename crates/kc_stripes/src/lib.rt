@@ -7,7 +7,8 @@
 //! list is counted and never changed, so nothing is copied under a lock.
 //!
 //! `Loose` is a view of `kc_view` over stripes and the words of the table. What it has answered was so at moments since it was made, and
-//! need not be so of one; where an order finds a word changed it misses, and says which loads differed.
+//! need not be so of one; where an order finds a word changed it misses, and says which loads differed;
+//! and so does a long plan that looks back at a core number which has changed.
 //!
 //! `specs/Records.antt` says what a stripe keeps and when a record is true, `specs/Reads.antt` what a loose view has answered and what
 //! its misses mean, `specs/Loose.antt` what it keeps true. The crate stands on `kc_view`, `kc_table`, `kc_order` and `kc_agree`, whose

@@ -1,11 +1,14 @@
 //! A view over stripes and words, while others change them.
-ghost use Rattle.std.specs.Prelude.{◌≡◌};
+ghost use Rattle.std.specs.Prelude.{◌≡◌, IfErr};
 ghost use mathlib.Core.List.{IsPrefix};
 ghost use Rattle.kc_view.specs.Answers.{nothing_answered};
+ghost use Rattle.kc_view.specs.Views.{GoesOn, HasViewCause};
+ghost use Rattle.kc_stripes.specs.Records.{opened_with};
+ghost use Rattle.kc_stripes.specs.Reads.{shown_loosely};
 
 use crate::start::Start;
 use crate::stripes::Stripes;
-use kc_agree::{read_core, read_order};
+use kc_agree::{read_again, read_core, read_order};
 use kc_graph::{Used, UsedEdges};
 use kc_table::{Name, Pass, Words};
 use kc_view::{Memo, Scratch, View, ViewFault};
@@ -13,11 +16,18 @@ use std::alloc::Global;
 use std::marker::{Model, PhantomData};
 use std::sync::Wait;
 
+/// From so many core numbers on a view looks back, whether each is still what it was read as.
+const LONG_PLAN: usize = 1024;
+
+/// A view looks back at one core number in so many calls for a list that it has kept.
+const LOOK_BACK_EVERY: u32 = 4;
+
 /// A view of K's table that reads while others change it. It owns its pass, which a caller split from its own, and hands it back.
 ///
 /// All that it has answered was read of what its pass has seen: each list is not older than the opening, and each stamp and core number
-/// was so at some moment not before `S`. The answers need not be those of one state. A miss is true from `S` to what the pass has seen,
-/// and none but an order misses.
+/// was so at some moment not before `S`. The answers need not be those of one state. A miss is true from `S` to what the pass has seen. An
+/// order misses, and so does a list that was kept, where the view has looked back: of `LONG_PLAN` core numbers and more it loads one again
+/// now and then, in the order of asking, so that a long plan which others have overtaken ends long before it is whole.
 ///
 /// What was kept is found by the marks of a `Scratch`, which a worker lends it. So making it, and ending it, costs nothing of the size of
 /// the graph.
@@ -30,6 +40,10 @@ pub struct Loose<'a, K: Name, S: Start, R: Wait> {
     memo: Memo,
     handed: u64,
     misses: u64,
+    /// How often a list was asked that was kept. It matters for speed alone.
+    again: u32,
+    /// The place, in the order of asking, of the core number that is looked back at next.
+    back: usize,
     of: PhantomData<S>,
 }
 
@@ -73,6 +87,8 @@ impl<'a, K: Name, S: Start, R: Wait> Loose<'a, K, S, R> {
             memo: Memo::new(alloc, scratch),
             handed: 0,
             misses: 0,
+            again: 0,
+            back: 0,
             of: PhantomData,
         }
     }
@@ -87,6 +103,30 @@ impl<'a, K: Name, S: Start, R: Wait> Loose<'a, K, S, R> {
         let Loose { pass, memo, .. } = self;
         (pass, memo.into_scratch())
     }
+
+    /// Looks now and then, where many core numbers were read, whether the next of them is still what it was read as.
+    fn look_back(&mut self) -> Result<(), ViewFault>
+        ensures kept { self.new.kept ≡ self.old.kept }
+        ensures goes_on { GoesOn (shown_loosely (opened_with K.table K.opening_edges K.opening_stamps) S.log self.old)
+            (shown_loosely (opened_with K.table K.opening_edges K.opening_stamps) S.log self.new) }
+        ensures cause { IfErr result (λ fault. HasViewCause (shown_loosely (opened_with K.table K.opening_edges K.opening_stamps) S.log self.old)
+            (shown_loosely (opened_with K.table K.opening_edges K.opening_stamps) S.log self.new) fault) }
+    {
+        self.again = self.again.wrapping_add(1);
+        if self.again % LOOK_BACK_EVERY != 0 || self.memo.place(LONG_PLAN).is_none() {
+            return Ok(());
+        }
+        let Some(place) = self.memo.place(self.back) else {
+            self.back = 0;
+            return Ok(());
+        };
+        self.back = self.back.saturating_add(1);
+        let Err(again) = read_again(self.words, &mut self.pass, place) else {
+            return Ok(());
+        };
+        self.misses = self.misses.saturating_add(1);
+        Err(ViewFault::Miss(again))
+    }
 }
 
 impl<K: Name, S: Start, R: Wait> View for Loose<'_, K, S, R> {
@@ -97,7 +137,9 @@ impl<K: Name, S: Start, R: Wait> View for Loose<'_, K, S, R> {
 
     fn degree(&mut self, w: u32) -> Result<u32, ViewFault> {
         if let Some(list) = self.memo.list(w) {
-            return Ok(list.as_slice().len() as u32);
+            let length = list.as_slice().len() as u32;
+            self.look_back()?;
+            return Ok(length);
         }
         let (neighbours, at) = self.stripes.read(self.rt, self.words, &mut self.pass, w)?;
         let degree = neighbours.as_slice().len() as u32;

@@ -1,5 +1,5 @@
 //! What a view was answered, and how it finds that again.
-ghost use Rattle.std.specs.Prelude.{◌≡◌, ◌<◌, [], None, Some, false, MatchOption, OnErr, OnOk};
+ghost use Rattle.std.specs.Prelude.{◌≡◌, ◌<◌, ◌≤◌, [], None, Some, false, length, slice_index_or, MatchOption, OnErr, OnOk};
 ghost use Rattle.kc_view.specs.Answers.{answers_in, core_in, has_core, has_list, list_in, nothing_answered, with_list, with_order, with_place};
 ghost use Rattle.kc_view.specs.Lists.{IsListOf};
 ghost use Rattle.kc_view.specs.Memory.{keeping};
@@ -38,14 +38,14 @@ impl Model for Memo {
 }
 
 impl Memo {
-    /// A memo of nothing, with the marks of the scratch. It takes no memory.
+    /// A memo of nothing, with the marks and the memory of the scratch. It takes no memory.
     pub fn new(alloc: Global, scratch: Scratch) -> Memo
         ensures { result ≡ keeping scratch nothing_answered }
     {
-        let (listed, placed) = scratch.into_marks();
+        let (listed, placed, used) = scratch.into_marks();
         Memo {
             alloc,
-            used: nothing_used(alloc),
+            used,
             listed,
             placed,
         }
@@ -73,6 +73,17 @@ impl Memo {
             return None;
         }
         Some(self.used.places[(mark - 1) as usize].core)
+    }
+
+    /// The core number that was kept at this place, in the order of asking, with its vertex and stamp; `None` where fewer were kept.
+    pub fn place(&self, i: usize) -> Option<UsedPlace>
+        ensures { MatchOption result (length self.now.kept.places ≤ i)
+            (λ place. (i < length self.now.kept.places) × (slice_index_or self.now.kept.places i place ≡ place)) }
+    {
+        if i >= self.used.places.len() {
+            return None;
+        }
+        Some(self.used.places[i])
     }
 
     /// Keeps the list of a vertex whose list was not kept. Where there is no memory for it, the memo stays as it was.
@@ -126,19 +137,22 @@ impl Memo {
         ensures { result ≡ self.size }
     {
         let Memo {
-            used,
+            mut used,
             mut listed,
             mut placed,
             ..
         } = self;
         unmark_lists(&mut listed, &used.edges);
         unmark_places(&mut placed, &used.places);
-        Scratch::of_marks(listed, placed)
+        used.edges.clear();
+        used.places.clear();
+        used.orders.clear();
+        Scratch::of_marks(listed, placed, used)
     }
 }
 
 /// No answers. It takes no memory.
-fn nothing_used(alloc: Global) -> Used
+pub(crate) fn nothing_used(alloc: Global) -> Used
     ensures { answers_in result ≡ nothing_answered }
 {
     Used {

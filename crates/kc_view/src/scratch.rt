@@ -1,30 +1,37 @@
 //! Marks that a worker keeps and lends to its views, so that no view is as large as the graph.
 //!
 //! A view needs a mark for each vertex, to find what it was answered. To make them for every plan would cost the graph each time: so a
-//! worker makes them once, and each view clears what it has set.
+//! worker makes them once, and each view clears what it has set. The memory of a plan's answers comes back in the same way.
 ghost use Rattle.std.specs.Prelude.{◌≡◌, ◌<◌, ℕ, All, IfOk, length, slice_index};
+ghost use Rattle.kc_view.specs.Answers.{answers_in, nothing_answered};
 ghost use Rattle.kc_view.specs.Marks.{AreClear, without_lists, without_places};
 
-use kc_graph::{NoMemory, UsedEdges, UsedPlace};
+use crate::memo::nothing_used;
+use kc_graph::{NoMemory, Used, UsedEdges, UsedPlace};
 use std::alloc::Global;
 use std::marker::Model;
 
-/// Two clear marks for each vertex, eight bytes together. Contracts see the number of vertices.
+/// Two clear marks for each vertex, eight bytes together, and the memory of answers that are no longer used. Contracts see the number of
+/// vertices.
 #[derive(Drop)]
 pub struct Scratch {
     listed: Vec<u32>,
     placed: Vec<u32>,
+    spare: Used,
 }
 
 impl Model for Scratch {
     ghost use Rattle.std.specs.Prelude.{ℕ, length};
+    ghost use Rattle.std.specs.Prelude.{◌≡◌};
+    ghost use Rattle.kc_view.specs.Answers.{answers_in, nothing_answered};
     ghost use Rattle.kc_view.specs.Marks.{AreClear};
 
     ghost Value = { ℕ };
 
     ghost view = { λ s. length s.listed.items };
 
-    ghost invariant = { λ s. AreClear (length s.listed.items) s.listed.items × AreClear (length s.listed.items) s.placed.items };
+    ghost invariant = { λ s. AreClear (length s.listed.items) s.listed.items × AreClear (length s.listed.items) s.placed.items
+        × (answers_in s.spare ≡ nothing_answered) };
 }
 
 impl Scratch {
@@ -34,7 +41,11 @@ impl Scratch {
     {
         let listed = vec![in alloc; 0; vertices as usize]?;
         let placed = vec![in alloc; 0; vertices as usize]?;
-        Ok(Scratch { listed, placed })
+        Ok(Scratch {
+            listed,
+            placed,
+            spare: nothing_used(alloc),
+        })
     }
 
     /// Marks for no vertex. It takes no memory.
@@ -44,23 +55,45 @@ impl Scratch {
         Scratch {
             listed: Vec::new(alloc),
             placed: Vec::new(alloc),
+            spare: nothing_used(alloc),
         }
     }
 
-    /// The marks.
-    pub(crate) fn into_marks(self) -> (Vec<u32>, Vec<u32>)
-        ensures { AreClear self result.0.items × AreClear self result.1.items }
+    /// The marks, and the memory for answers.
+    pub(crate) fn into_marks(self) -> (Vec<u32>, Vec<u32>, Used)
+        ensures marks { AreClear self result.0.items × AreClear self result.1.items }
+        ensures spare { answers_in result.2 ≡ nothing_answered }
     {
-        let Scratch { listed, placed } = self;
-        (listed, placed)
+        let Scratch {
+            listed,
+            placed,
+            spare,
+        } = self;
+        (listed, placed, spare)
     }
 
-    /// Marks that are clear again.
-    pub(crate) fn of_marks(listed: Vec<u32>, placed: Vec<u32>) -> Scratch
-        requires { AreClear (length listed.items) listed.items × AreClear (length listed.items) placed.items }
+    /// Keeps the memory of answers that are no longer used, for those of the next view.
+    pub fn take_back(&mut self, used: Used)
+        ensures { self.new ≡ self.old }
+    {
+        let mut used = used;
+        used.edges.clear();
+        used.places.clear();
+        used.orders.clear();
+        self.spare = used;
+    }
+
+    /// Marks that are clear again, and memory in which no answer is left.
+    pub(crate) fn of_marks(listed: Vec<u32>, placed: Vec<u32>, spare: Used) -> Scratch
+        requires marks { AreClear (length listed.items) listed.items × AreClear (length listed.items) placed.items }
+        requires spare { answers_in spare ≡ nothing_answered }
         ensures { result ≡ length listed.items }
     {
-        Scratch { listed, placed }
+        Scratch {
+            listed,
+            placed,
+            spare,
+        }
     }
 }
 

@@ -1,1 +1,2 @@
 pub mod Attempting
+pub mod Crossing

@@ -39,8 +39,9 @@ pub(crate) struct Entering<'a, K: Name + Ledger, G: Gate, R: Wait> {
 }
 
 impl<K: Name + Ledger, G: Gate, R: Wait> Entering<'_, K, G, R> {
-    /// Makes a plan while others change what it reads, and tries to enter it. An order that was asked while a word changed is a miss, and
-    /// so is a stamp that is stale by then. Each other refusal of the plan is answered.
+    /// Makes a plan while others change what it reads, and tries to enter it. A word that changed between two loads of the plan is a miss,
+    /// and so is a stamp that is stale by then. Each other refusal of the plan is answered. The memory of the plan's answers goes back to the
+    /// worker.
     fn attempt(&self, worker: &mut Worker, part: &mut Share<K>) -> Result<Attempt, UpdateFault>
         requires table { worker.old.table ≡ K.table }
         requires part { 0 < part.old.parts }
@@ -68,7 +69,9 @@ impl<K: Name + Ledger, G: Gate, R: Wait> Entering<'_, K, G, R> {
         ) {
             Ok(plan) => {
                 self.gate.before_enter(self.number, self.index);
-                match self.shared.enter(self.rt, pass, part, self.index, &plan) {
+                let entered = self.shared.enter(self.rt, pass, part, self.index, &plan);
+                scratch.take_back(plan.used);
+                match entered {
                     Ok(receipt) => Ok(Attempt::Entered(receipt)),
                     Err(fault) => attempt_of(fault),
                 }

@@ -85,8 +85,10 @@ impl Held {
             return None;
         }
         let scratch = Scratch::new(alloc, vertices).ok()?;
-        let (planned, _) = plan_held(alloc, &self.journal, scratch, update);
-        let plan = planned.ok()?;
+        let (planned, _lent) = plan_held(alloc, &self.journal, scratch, update);
+        let Ok(plan) = planned else {
+            return None;
+        };
         let entered = self
             .journal
             .enter(&self.words, &mut self.pass, index, &plan, None);

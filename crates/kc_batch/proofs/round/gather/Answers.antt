@@ -8,6 +8,12 @@ use Rattle.kc_batch.specs.Seats.{Seated, desk_of}
 use Rattle.kc_batch.proofs.Rounding.{back-amount, back-images, back-taken}
 use Rattle.kc_batch.proofs.round.gather.Goals as goal
 
+pub join-requires-clause-other : goal.join-requires-clause-other
+join-requires-clause-other g c =
+    let Mine : Seated → Type 0 = λ s. (s.consumer.queue ≡ c.args.queue.now) × (s.consumer.parts ≡ 1) in
+    let mine = All-end Mine c.pop.new.self.items c.in-Some.seat (subst (All Mine) c.in-Some.ensures.items c.loop-seat.invariant.seats) in
+    ap (λ (s : Seated). s.consumer.queue) c.seat.view_is ∙ mine.0
+
 pub loop-seat-preserved : goal.loop-seat-preserved
 loop-seat-preserved g c =
     let x : Seated = c.in-Some.seat in

@@ -1,12 +1,16 @@
 -- The threads share what is behind references, and each call leaves its seat as `work` says.
 use denote.Exit.{no}
-use denote.Param.Send.{arg_sync, param_sync, shr_sync}
+use denote.Param.{param}
+use denote.Param.Send.{arg_send, arg_sync, param_send, param_sync, shr_sync}
 use Rattle.std.proofs.Common.{[], ◌∷◌, get_or, subst, arith}
 use Rattle.kc_stripes.specs.Records.{opened_with}
 use Rattle.kc_batch.specs.Seats.{KeepsIfSpent, Seated, Works}
-use Rattle.kc_batch.proofs.Crossing.{captures_sync, errand_sync}
+use Rattle.kc_batch.proofs.Crossing.{captures_sync, errand_sync, seat_send}
 use Rattle.kc_batch.proofs.Rounding.{zip-of}
 use Rattle.kc_batch.proofs.round.work_all.Goals as goal
+
+pub for_each_mut-requires-send-T : goal.for_each_mut-requires-send-T
+for_each_mut-requires-send-T g c κs within = param_send 1 _ (arg_send _ no _ (seat_send (param 0 g.row.K) g.K.Name g.K.Ledger))
 
 pub for_each_mut-requires-sync-F : goal.for_each_mut-requires-sync-F
 for_each_mut-requires-sync-F g c κs within =

@@ -21,8 +21,8 @@ tells : (g : given.Over) (c : goal.In_ok-keep_list g) → TellsNewList c.self.in
     (record { vertex = c.args.w; at = c.in_ok-neighbours.at; neighbours = c.in_ok-neighbours.neighbours })
 tells g c = tells_new_list c.self.inside.memo.kept _ (search rules)
 
-pub overflow_cast-result : goal.overflow_cast-result
-overflow_cast-result g c =
+pub overflow_cast-length : goal.overflow_cast-length
+overflow_cast-length g c =
     omega (arith, short_told c.args.w c.in-Some.list.now c.self.invariant.2 c.in-Some.ensures, ap (length {A = ℕ}) c.as_slice.ensures)
 
 pub invariant_of-self : goal.invariant_of-self
