@@ -1,8 +1,9 @@
 -- The entries of a map: where the one of a vertex stands, and what becomes of all when one is changed or comes.
-use Rattle.std.proofs.Common.{◌≡◌, ◌≢◌, ◌≤◌, ◌<◌, ◌+◌, ◌-◌, ℕ, zero, suc, Bool, true, false, cond, List, [], ◌∷◌, ◌++◌, length, get_or, set}
+use Rattle.std.proofs.Common.{◌≡◌, ◌≢◌, ◌≤◌, ◌<◌, ◌+◌, ◌-◌, ℕ, zero, suc, Bool, true, false, cond, List, [], ◌∷◌, ◌++◌, length, drop, get_or, set}
 use Rattle.std.proofs.Common.{refl, sym, ◌∙◌, ap, subst, arith, eqb, eqb-true, eq-eqb, ne_eqb, inl, inr}
-use Rattle.std.specs.Prelude.{Option, Some, None}
+use Rattle.std.specs.Prelude.{Some, None}
 use Rattle.std.proofs.lemmas.Bool.{cases_Bool, cases_eq}
+use Rattle.std.proofs.lemmas.List.{drop_more}
 use Rattle.std.proofs.lemmas.Option.{none-some}
 use Rattle.kc_seen.specs.Maps.{VertexMap, ValuesOne, number_in, one_on, value_of}
 use Rattle.kc_seen.specs.declared.map.Entry.{Entry}
@@ -22,15 +23,30 @@ one_on-most : (n k : ℕ) → n ≤ k → one_on n ≤ suc k
 one_on-most zero k l = omega arith
 one_on-most (suc n) k l = omega (arith, l)
 
+-- a place so many further on, where there is one
+abbrev pub on_by : ℕ → ℕ → ℕ
+on_by i zero = 0
+on_by i (suc n) = i + suc n
+
+-- of a place one further on, it is that of one more
+on_by-one_on : (i n : ℕ) → on_by i (one_on n) ≡ on_by (i + 1) n
+on_by-one_on i zero = refl
+on_by-one_on i (suc n) = ap (on_by i) {x = n + 2} {y = suc (n + 1)} (omega arith) ∙ omega arith
+
 -- a number that is not 0 counts from 1
 counted : (n r : ℕ) → r ≡ n → (r ≡ 0 → ⊥) → n ≡ suc (r - 1)
 counted n zero e ne = absurd (ne refl)
 counted n (suc r) e ne = omega (arith, e)
 
 module _ {V : Type 0} where
-  -- where the entry of a vertex stands that has a number
-  pub placed : (m : VertexMap V) (y r n : ℕ) → r ≡ n → n ≡ number_in m y → (r ≡ 0 → ⊥) → number_in m y ≡ suc (r - 1)
-  placed m y r n e is ne = counted (number_in m y) r (e ∙ is) ne
+  -- where the entry of a vertex stands that has a number, which was told of the entries as contracts see them
+  pub placed : {m seen : VertexMap V} (y r : ℕ) → m ≡ seen → r ≡ number_in seen y → (r ≡ 0 → ⊥) → number_in m y ≡ suc (r - 1)
+  placed {m} {seen} y r same is ne = counted (number_in m y) r (is ∙ ap (λ (l : VertexMap V). number_in l y) (sym same)) ne
+
+  -- an entry that is not the first has the place before among those after the first
+  further : (e : Entry V) (m : VertexMap V) (y i : ℕ) → eqb y e.vertex ≡ false → number_in (e ∷ m) y ≡ suc i
+      → (k : ℕ) × (i ≡ suc k) × (number_in m y ≡ suc k)
+  further e m y i f h = one_on-suc (number_in m y) i (sym (ap (λ b. cond b 1 (one_on (number_in m y))) f) ∙ h)
 
   -- no place is behind the last entry
   pub number-most : (m : VertexMap V) (y : ℕ) → number_in m y ≤ length m
@@ -44,6 +60,32 @@ module _ {V : Type 0} where
         omega (arith, on, one_on-most (number_in m y) (length m) (number-most m y))
   ]
 
+  -- the place of an entry, told by what comes from a place on: the one that stands there has the place, or it is one further on
+  number-from : (m : VertexMap V) (y i : ℕ) (d : Entry V) → i < length m
+      → on_by i (number_in (drop i m) y) ≡ cond (eqb y (get_or m i d).vertex) (i + 1) (on_by (i + 1) (number_in (drop (i + 1) m) y))
+  number-from m y i d within =
+      let rest : ℕ = number_in (drop (i + 1) m) y in
+      let from : number_in (drop i m) y ≡ cond (eqb y (get_or m i d).vertex) 1 (one_on rest) =
+      ap (λ (l : VertexMap V). number_in l y) (drop_more m i d within) in
+      ap (on_by i) from
+      ∙ elim (eqb y (get_or m i d).vertex) as (λ b. on_by i (cond b 1 (one_on rest)) ≡ cond b (i + 1) (on_by (i + 1) rest)) [
+        | true ↦ omega arith
+        | false ↦ on_by-one_on i rest
+      ]
+
+  -- numbers that tell the entries behind one tell those from it on, once its vertex has its place
+  pub numbers-from : (m : VertexMap V) (i next : ℕ) (d : Entry V) (old new : ℕ → ℕ) → i < length m → next ≡ i + 1
+      → ((z : ℕ) → old z ≡ on_by next (number_in (drop next m) z)) → new (get_or m i d).vertex ≡ i + 1
+      → ((z : ℕ) → z ≢ (get_or m i d).vertex → new z ≡ old z) → (z : ℕ) → new z ≡ on_by i (number_in (drop i m) z)
+  numbers-from m i next d old new within after was here others z =
+      let first : Bool → ℕ = λ b. cond b (i + 1) (on_by (i + 1) (number_in (drop (i + 1) m) z)) in
+      let at : ℕ = (get_or m i d).vertex in
+      elim (cases_eq z at) [
+        | inl e ↦ ap new e ∙ (here ∙ ap first (sym (eq-eqb z at e)))
+        | inr ne ↦ others z ne ∙ (was z ∙ (ap (λ (j : ℕ). on_by j (number_in (drop j m) z)) after ∙ ap first (sym (ne_eqb z at ne))))
+      ]
+      ∙ sym (number-from m z i d within)
+
   -- a vertex without an entry has no value
   pub no-value : (m : VertexMap V) (y : ℕ) → number_in m y ≡ 0 → value_of m y ≡ None
   no-value [] y h = refl
@@ -53,7 +95,7 @@ module _ {V : Type 0} where
   ] h
 
   -- a vertex without a value has no entry
-  pub no-number : (m : VertexMap V) (y : ℕ) → value_of m y ≡ None → number_in m y ≡ 0
+  no-number : (m : VertexMap V) (y : ℕ) → value_of m y ≡ None → number_in m y ≡ 0
   no-number [] y h = refl
   no-number (e ∷ m) y h = elim (eqb y e.vertex) as (λ b. cond b (Some e.value) (value_of m y) ≡ None → cond b 1 (one_on (number_in m y)) ≡ 0) [
     | true ↦ λ k. absurd (none-some e.value (sym k))
@@ -79,7 +121,7 @@ module _ {V : Type 0} where
         ap (λ (j : ℕ). (get_or (e ∷ m) j d).vertex) {x = i} {y = 0} (omega (arith, h, ap (λ b. cond b 1 (one_on (number_in m y))) t))
         ∙ sym (eqb-true y e.vertex t)
     | inr f ↦
-        let on = one_on-suc (number_in m y) i (sym (ap (λ b. cond b 1 (one_on (number_in m y))) f) ∙ h) in
+        let on = further e m y i f h in
         ap (λ (j : ℕ). (get_or (e ∷ m) j d).vertex) on.1 ∙ vertex-at m y on.0 d on.2
   ]
 
@@ -95,7 +137,7 @@ module _ {V : Type 0} where
         ap (λ (j : ℕ). number_in (set (e ∷ m) j (entry_of y v)) z) {x = i} {y = 0} (omega (arith, h, ap (λ b. cond b 1 (one_on (number_in m y))) t))
         ∙ ap (λ (x : ℕ). cond (eqb z x) 1 (one_on (number_in m z))) (eqb-true y e.vertex t)
     | inr f ↦
-        let on = one_on-suc (number_in m y) i (sym (ap (λ b. cond b 1 (one_on (number_in m y))) f) ∙ h) in
+        let on = further e m y i f h in
         ap (λ (j : ℕ). number_in (set (e ∷ m) j (entry_of y v)) z) on.1
         ∙ ap (λ n. cond (eqb z e.vertex) 1 (one_on n)) (number-set m y on.0 v on.2 z)
   ]
@@ -108,7 +150,7 @@ module _ {V : Type 0} where
         ap (λ (j : ℕ). value_of (set (e ∷ m) j (entry_of y v)) y) {x = i} {y = 0} (omega (arith, h, ap (λ b. cond b 1 (one_on (number_in m y))) t))
         ∙ ap (λ b. cond b (Some v) (value_of m y)) (eq-eqb y y refl)
     | inr f ↦
-        let on = one_on-suc (number_in m y) i (sym (ap (λ b. cond b 1 (one_on (number_in m y))) f) ∙ h) in
+        let on = further e m y i f h in
         ap (λ (j : ℕ). value_of (set (e ∷ m) j (entry_of y v)) y) on.1
         ∙ (ap (λ b. cond b (Some e.value) (value_of (set m on.0 (entry_of y v)) y)) f ∙ value-set-here m y on.0 v on.2)
   ]
@@ -122,7 +164,7 @@ module _ {V : Type 0} where
         ∙ (ap (λ b. cond b (Some v) (value_of m z)) (ne_eqb z y ne)
         ∙ sym (ap (λ b. cond b (Some e.value) (value_of m z)) (ne_eqb z e.vertex (λ k. ne (k ∙ sym (eqb-true y e.vertex t))))))
     | inr f ↦
-        let on = one_on-suc (number_in m y) i (sym (ap (λ b. cond b 1 (one_on (number_in m y))) f) ∙ h) in
+        let on = further e m y i f h in
         ap (λ (j : ℕ). value_of (set (e ∷ m) j (entry_of y v)) z) on.1
         ∙ ap (cond (eqb z e.vertex) (Some e.value)) (value-set-other m y on.0 v on.2 z ne)
   ]
@@ -184,13 +226,11 @@ module _ {V : Type 0} where
       (record { here = value-push-here seen y v none; others = value-push-other seen y v })
 
   -- the numbers after it, where they are told one by one
-  pub number-push : (m seen now : VertexMap V) (y : ℕ) (v : V) (old new : ℕ → ℕ) → m ≡ seen → now ≡ m ++ entry_of y v ∷ [] → value_of seen y ≡ None
-      → ((z : ℕ) → old z ≡ number_in m z) → new y ≡ length seen + 1 → ((z : ℕ) → z ≢ y → new z ≡ old z) → (z : ℕ) → new z ≡ number_in now z
-  number-push m seen now y v old new same more none was here others z =
-      let found : number_in m y ≡ 0 = no-number m y (ap (λ (old : VertexMap V). value_of old y) same ∙ none) in
+  pub number-push : (m now : VertexMap V) (y : ℕ) (v : V) (old new : ℕ → ℕ) → now ≡ m ++ entry_of y v ∷ [] → value_of m y ≡ None
+      → ((z : ℕ) → old z ≡ number_in m z) → new y ≡ length m + 1 → ((z : ℕ) → z ≢ y → new z ≡ old z) → (z : ℕ) → new z ≡ number_in now z
+  number-push m now y v old new more none was here others z =
       elim (cases_eq z y) [
-        | inl e ↦ ap new e ∙ (here ∙ (ap (λ (old : VertexMap V). length old + 1) (sym same) ∙ sym (number-push-here m y v found)
-            ∙ ap (number_in (m ++ entry_of y v ∷ [])) (sym e)))
+        | inl e ↦ ap new e ∙ (here ∙ (sym (number-push-here m y v (no-number m y none)) ∙ ap (number_in (m ++ entry_of y v ∷ [])) (sym e)))
         | inr ne ↦ others z ne ∙ (was z ∙ sym (number-push-other m y v z ne))
       ]
       ∙ ap (λ (new : VertexMap V). number_in new z) (sym more)

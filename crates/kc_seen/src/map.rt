@@ -1,10 +1,14 @@
 //! A map whose keys are vertices.
-ghost use Rattle.std.specs.Prelude.{◌≡◌, ◌+◌, ℕ, None, [], false, is_some, length, IfOk, IsTrue, OnErr, OnOk};
-ghost use Rattle.kc_seen.specs.Maps.{ValuesOne, value_of};
+ghost use Rattle.std.specs.Prelude.{◌≡◌, ◌<◌, ◌≤◌, ◌+◌, ℕ, None, [], false, is_some, length, IfOk, IsTrue, OnErr, OnOk};
+ghost use Rattle.kc_seen.specs.Maps.{ValuesOne, number_in, value_of};
+ghost use Rattle.kc_seen.specs.Sparse.{number_at};
 
 use crate::sparse::SparseArray;
 use std::alloc::{AllocError, Global};
 use std::marker::Model;
+
+/// A map of so many entries is looked through. Only one of more has an array that says where each vertex has its entry.
+const FEW: usize = 8;
 
 /// A vertex and its value.
 #[derive(Clone, Copy, Drop)]
@@ -13,8 +17,8 @@ pub struct Entry<V> {
     pub value: V,
 }
 
-/// A map from vertices to values. The entries stand in the order in which their vertices came, and a sparse array says where each vertex
-/// has its own.
+/// A map from vertices to values. The entries stand in the order in which their vertices came. While they are few, they are looked through,
+/// and the sparse array says nothing; once they are more, it says where each vertex has its own.
 ///
 /// Contracts see the entries.
 #[derive(Drop)]
@@ -24,16 +28,17 @@ pub struct VertexMap<V> {
 }
 
 impl<V> Model for VertexMap<V> {
-    ghost use Rattle.std.specs.Prelude.{◌≡◌, ℕ, List};
+    ghost use Rattle.std.specs.Prelude.{◌≡◌, ◌<◌, ℕ, List, length};
     ghost use Rattle.kc_seen.specs.Maps.{number_in};
     ghost use Rattle.kc_seen.specs.Sparse.{number_at};
     ghost use Rattle.kc_seen.specs.declared.map.Entry.{Entry};
+    ghost use Rattle.kc_seen.specs.declared.map.TheConstants.{FEW};
 
     ghost Value = { List (Entry V) };
 
     ghost view = { λ m. m.entries.items };
 
-    ghost invariant = { λ m. (y : ℕ) → number_at m.numbers y ≡ number_in m.entries.items y };
+    ghost invariant = { λ m. FEW < length m.entries.items → (y : ℕ) → number_at m.numbers y ≡ number_in m.entries.items y };
 }
 
 impl<V: Copy + Drop> VertexMap<V> {
@@ -52,7 +57,7 @@ impl<V: Copy + Drop> VertexMap<V> {
     pub fn find(&self, y: u32) -> Option<V>
         ensures { result ≡ value_of self.now y }
     {
-        let number = self.numbers.get(y);
+        let number = self.number_of(y);
         if number == 0 {
             return None;
         }
@@ -78,7 +83,7 @@ impl<V: Copy + Drop> VertexMap<V> {
         ensures found { IsTrue result → ValuesOne y value self.old self.new }
         ensures none { result ≡ false → self.new ≡ self.old }
     {
-        let number = self.numbers.get(y);
+        let number = self.number_of(y);
         if number == 0 {
             return false;
         }
@@ -86,29 +91,88 @@ impl<V: Copy + Drop> VertexMap<V> {
         true
     }
 
-    /// Gives a vertex that has no value its first one.
+    /// The place of the entry of a vertex, counted from 1, or 0 where it has none.
+    #[inline]
+    fn number_of(&self, y: u32) -> u32
+        ensures { result ≡ number_in self.now y }
+    {
+        if self.entries.len() <= FEW {
+            return number_among(&self.entries, y);
+        }
+        self.numbers.get(y)
+    }
+
+    /// Gives a vertex that has no value its first one. With the entry after the few the array begins to say where each vertex has its own.
     fn add(&mut self, y: u32, value: V) -> Result<(), AllocError>
         requires { value_of self.old y ≡ None }
         ensures ok { OnOk result (ValuesOne y value self.old self.new) }
         ensures err { OnErr result (self.new ≡ self.old) }
     {
-        let number = self.next_number()?;
-        self.entries.push(Entry { vertex: y, value })?;
-        if let Err(error) = self.numbers.set(y, number) {
-            self.entries.pop();
-            return Err(error);
+        if self.entries.len() < FEW {
+            self.entries.push(Entry { vertex: y, value })?;
+            return Ok(());
         }
-        Ok(())
+        if self.entries.len() == FEW {
+            self.numbers = numbers_of(*self.entries.allocator(), &self.entries)?;
+        }
+        push_numbered(&mut self.entries, &mut self.numbers, y, value)
     }
+}
 
-    /// The place of the entry that comes next, counted from 1.
-    fn next_number(&self) -> Result<u32, AllocError>
-        ensures { IfOk result (λ number. number ≡ length self.now + 1) }
-    {
-        let entries = self.entries.len();
-        if entries >= u32::MAX as usize {
-            return Err(AllocError);
+/// The place of the entry of a vertex, counted from 1, or 0 where it has none. The entries are looked through.
+fn number_among<V>(entries: &[Entry<V>], y: u32) -> u32
+    requires { length entries.now ≤ FEW }
+    ensures { result ≡ number_in entries.now y }
+{
+    for (i, entry) in entries.iter().enumerate() {
+        if entry.vertex == y {
+            return i as u32 + 1;
         }
-        Ok(entries as u32 + 1)
     }
+    0
+}
+
+/// An array that says of each vertex where its entry stands. The last entry is numbered first, so a vertex keeps the number of its first.
+fn numbers_of<V>(alloc: Global, entries: &[Entry<V>]) -> Result<SparseArray, AllocError>
+    requires { length entries.now ≤ FEW }
+    ensures { IfOk result (λ numbers. (y : ℕ) → number_at numbers y ≡ number_in entries.now y) }
+{
+    let mut numbers = SparseArray::new(alloc);
+    for i in (0..entries.len()).rev() {
+        numbers.set(entries[i].vertex, i as u32 + 1)?;
+    }
+    Ok(numbers)
+}
+
+/// Puts the entry of a vertex that has none behind the others, where the array says where each stands. Where there is no memory for it, the
+/// entries stay, and so does what the array says.
+fn push_numbered<V: Copy + Drop>(
+    entries: &mut Vec<Entry<V>>,
+    numbers: &mut SparseArray,
+    y: u32,
+    value: V,
+) -> Result<(), AllocError>
+    requires none { value_of entries.old.items y ≡ None }
+    requires numbered { (z : ℕ) → number_at numbers.old z ≡ number_in entries.old.items z }
+    ensures numbered { (z : ℕ) → number_at numbers.new z ≡ number_in entries.new.items z }
+    ensures ok { OnOk result (ValuesOne y value entries.old.items entries.new.items) }
+    ensures err { OnErr result (entries.new.items ≡ entries.old.items) }
+{
+    let number = next_number(entries.len())?;
+    entries.push(Entry { vertex: y, value })?;
+    if let Err(error) = numbers.set(y, number) {
+        entries.pop();
+        return Err(error);
+    }
+    Ok(())
+}
+
+/// The place of the entry that comes next, counted from 1.
+fn next_number(entries: usize) -> Result<u32, AllocError>
+    ensures { IfOk result (λ number. number ≡ entries + 1) }
+{
+    if entries >= u32::MAX as usize {
+        return Err(AllocError);
+    }
+    Ok(entries as u32 + 1)
 }
