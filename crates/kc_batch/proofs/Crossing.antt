@@ -13,7 +13,7 @@ use Rattle.std.proofs.sync.ledger.Share.TheSendSync as share
 use Rattle.kc_queue.proofs.Crossing.{consumer_send, queue_sync}
 use Rattle.kc_shared.proofs.Crossing.{shared_sync}
 use Rattle.kc_stripes.proofs.Crossing.{pass_send}
-use Rattle.kc_workers.proofs.Crossing.{scratch_send}
+use Rattle.kc_view.proofs.Crossing.{scratch_send}
 use Rattle.kc_workers.specs.contracts.worker.Worker as worker
 use Rattle.kc_workers.specs.contracts.worker.Worker.TheInside as worker_inside
 use Rattle.kc_graph.specs.contracts.update.Update as update

@@ -13,6 +13,7 @@ pub mod Law
 pub mod Lowering
 pub mod Lying
 pub mod NeighbourLists
+pub mod PartsOfRows
 pub mod PeelingLemmas
 pub mod Places
 pub mod Removing

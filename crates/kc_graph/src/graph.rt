@@ -124,7 +124,7 @@ impl Graph {
         ensures lists { IfOk result (λ lists. graph_of lists.items ≡ self) }
         ensures held { IfOk result (λ lists. HoldsEdges lists.items (set.len self.edges)) }
     {
-        self.rows.into_lists()
+        self.rows.to_lists()
     }
 
     /// The same graph once more.

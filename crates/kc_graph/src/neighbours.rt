@@ -1,6 +1,6 @@
 //! Lists of neighbours that several holders share.
 //!
-//! A list is a part of a block of numbers that is never changed, so that the rows of a whole graph can lie in one block.
+//! A list is a part of a block of numbers that is never changed, so that the rows of many vertices can lie in one block.
 ghost use Rattle.std.specs.Prelude.{◌≡◌, ◌≤◌, IfOk, length};
 ghost use Rattle.std.specs.List.{between};
 ghost use Rattle.std.specs.Arc.{arc_slice_items};

@@ -4,7 +4,7 @@
 //! that grows moves out of the block into a list of its own, where there is room for more. One that gets shorter stays where it is.
 ghost use Rattle.std.specs.Prelude.{◌≡◌, ◌≢◌, ◌<◌, ◌≤◌, ◌-◌, ◌+◌, ◌^◌, ◌++◌, ◌∷◌, ℕ, List, [], true, false, length, replicate, vec_len, vec_capacity};
 ghost use Rattle.std.specs.Prelude.{slice_set, IfOk, OnOk, OnErr};
-ghost use Rattle.std.specs.List.{sum_by};
+ghost use Rattle.std.specs.List.{between, sum_by};
 ghost use Rattle.std.specs.List.Sorted.{IsStrictlyIncreasing};
 ghost use Rattle.kc_distinct.specs.Lists.{member};
 ghost use Rattle.kc_graph.specs.Rows.{row, Deleted, IsAdjacency, BothInserted, BothDeleted};
@@ -17,6 +17,10 @@ use crate::row::Row;
 use std::alloc::Global;
 use std::marker::Model;
 use std::sync::ArcSlice;
+
+/// So many rows in a row share a block once they are counted lists: threads that hold the lists of vertices far apart then count their
+/// holders at different places, and a block is free once all its lists were replaced.
+const ROWS_A_BLOCK: u32 = 64;
 
 /// Rows of numbers.
 #[derive(Debug, Drop)]
@@ -156,18 +160,38 @@ impl Rows {
         Ok(())
     }
 
+    /// How many numbers the rows from one to below another have together.
+    fn numbers_in(&self, from: u32, to: u32) -> usize
+        requires { to ≤ length self.now }
+    {
+        let mut numbers = 0usize;
+        for v in from..to {
+            numbers = numbers.saturating_add(self.get(v).len());
+        }
+        numbers
+    }
+
+    /// The rows from one to below another once more, all in one block.
+    fn copy_part(&self, alloc: Global, from: u32, to: u32) -> Result<Rows, NoMemory>
+        requires order { from ≤ to }
+        requires within { to ≤ length self.now }
+        ensures { IfOk result (λ rows. rows ≡ between from to self.now) }
+    {
+        let block = Vec::with_capacity(alloc, self.numbers_in(from, to))?;
+        let rows = Vec::with_capacity(alloc, (to - from) as usize)?;
+        let mut copies = Rows::new(block, rows);
+        for v in from..to {
+            copies.push(self.get(v))?;
+        }
+        Ok(copies)
+    }
+
     /// The same rows once more, all in one block.
     pub(crate) fn copy(&self, alloc: Global) -> Result<Rows, NoMemory>
         requires { length self.now < 2 ^ 32 }
         ensures { IfOk result (λ rows. rows ≡ self.now) }
     {
-        let block = Vec::with_capacity(alloc, self.block.len())?;
-        let rows = Vec::with_capacity(alloc, self.count())?;
-        let mut copies = Rows::new(block, rows);
-        for v in 0..self.count() as u32 {
-            copies.push(self.get(v))?;
-        }
-        Ok(copies)
+        self.copy_part(alloc, 0, self.count() as u32)
     }
 
     /// Rows with the numbers of these lists, all in one block.
@@ -182,15 +206,32 @@ impl Rows {
         Ok(copies)
     }
 
-    /// The rows as counted lists. Those that lie in the block share it, and are not copied. Where there is no memory, the rows are dropped.
-    pub(crate) fn into_lists(self) -> Result<Vec<Neighbours>, NoMemory>
-        ensures { IfOk result (λ lists. lists.items ≡ self) }
+    /// Puts the rows behind other lists, as counted ones. Those that lie in the block share it, and are not copied. Where there is no
+    /// memory, the rows are dropped.
+    fn append_to(self, lists: &mut Vec<Neighbours>) -> Result<(), NoMemory>
+        ensures { OnOk result (lists.new.items ≡ lists.old.items ++ self) }
     {
         let Rows { block, rows } = self;
-        let mut lists = Vec::with_capacity(*block.allocator(), rows.len())?;
         let block = ArcSlice::from_vec(block)?;
         for row in rows {
             lists.push(row.into_list(&block)?)?;
+        }
+        Ok(())
+    }
+
+    /// The rows as counted lists, of which `ROWS_A_BLOCK` in a row share a block.
+    pub(crate) fn to_lists(&self) -> Result<Vec<Neighbours>, NoMemory>
+        requires { length self.now < 2 ^ 32 }
+        ensures { IfOk result (λ lists. lists.items ≡ self.now) }
+    {
+        let alloc = *self.block.allocator();
+        let count = self.count() as u32;
+        let mut lists = Vec::with_capacity(alloc, count as usize)?;
+        let mut from = 0;
+        while from < count {
+            let to = from + (count - from).min(ROWS_A_BLOCK);
+            self.copy_part(alloc, from, to)?.append_to(&mut lists)?;
+            from = to;
         }
         Ok(lists)
     }

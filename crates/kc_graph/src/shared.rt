@@ -64,8 +64,9 @@ fn changed(alloc: Global, list: &[u32], add: bool, w: u32) -> Result<Neighbours,
 }
 
 impl SharedGraph {
-    /// The same graph, with its lists shared. All lists that lie in one block stay there, and are not copied. Where there is no memory for
-    /// the counts, the graph is dropped and the answer is `NoMemory`.
+    /// The same graph, with its lists shared. Those of 64 vertices in a row are copied into one block, which is given back once each of
+    /// them was replaced: the holders of a list are counted at its block, and so threads that hold the lists of other vertices seldom count
+    /// at one place. Where there is no memory for the lists, the graph is dropped and the answer is `NoMemory`.
     pub fn from_graph(graph: Graph) -> Result<SharedGraph, NoMemory>
         ensures { IfOk result (λ shared. shared ≡ graph) }
     {

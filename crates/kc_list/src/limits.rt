@@ -19,11 +19,11 @@ pub const HALF_STEP: u64 = BOTTOM_ROOM / (HALF_ITEMS as u64 + 1);
 /// A put right after the item that was put last takes its label this part of the gap from the lower
 /// end, and one at the place of the put before it this part from the upper end: puts in a row are
 /// followed by more, and leave them the room.
-pub const PUT_SHARE: u32 = 8;
+pub const PUT_SHARE: u32 = 32;
 
 /// Where a group is split, the label of the new one stands this part of the gap from one end, so that
 /// the half that grows has nearly all of it.
-pub const SPLIT_SHARE: u64 = 16;
+pub const SPLIT_SHARE: u64 = 256;
 
 /// The most words that a call writes beside those of groups that are in use: the new group's, those
 /// of the upper half, those of a group that is spread, and the moved item's.

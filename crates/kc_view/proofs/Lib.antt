@@ -1,6 +1,7 @@
 pub mod Among
 pub mod Asked
 pub mod AtRest
+pub mod Crossing
 pub mod Fronts
 pub mod Handing
 pub mod Marked

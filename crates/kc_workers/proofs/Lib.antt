@@ -1,2 +1,1 @@
 pub mod Attempting
-pub mod Crossing

@@ -1,5 +1,5 @@
--- What a worker takes to another thread: its scratch, with the memory of answers that it keeps. Each part is shown by itself: one search
--- over all runs out of steps.
+-- A scratch may go to another thread, with the memory of answers that it keeps. Each part is shown by itself: one search over all runs
+-- out of steps.
 use denote.Struct.Declared.{Declared, shape}
 use denote.Struct.Struct.{Struct}
 use denote.Param.Send.{IsSend, recorded_send, sendable, struct_send, view_send}
