@@ -1,5 +1,5 @@
 //! A map whose keys are vertices.
-ghost use Rattle.std.specs.Prelude.{◌≡◌, ◌<◌, ◌≤◌, ◌+◌, ℕ, None, [], false, is_some, length, IfOk, IsTrue, OnErr, OnOk};
+ghost use Rattle.std.specs.Prelude.{◌≡◌, ◌<◌, ◌≤◌, ◌+◌, ◌-◌, ◌^◌, ℕ, None, [], false, is_some, length, IfOk, IsTrue, OnErr, OnOk};
 ghost use Rattle.kc_seen.specs.Maps.{ValuesOne, number_in, value_of};
 ghost use Rattle.kc_seen.specs.Sparse.{number_at};
 
@@ -167,9 +167,10 @@ fn push_numbered<V: Copy + Drop>(
     Ok(())
 }
 
-/// The place of the entry that comes next, counted from 1.
+/// The place of the entry that comes next, counted from 1; an error where it can't be told.
 fn next_number(entries: usize) -> Result<u32, AllocError>
-    ensures { IfOk result (λ number. number ≡ entries + 1) }
+    ensures next { IfOk result (λ number. number ≡ entries + 1) }
+    ensures none { OnErr result (2 ^ 32 - 1 ≤ entries) }
 {
     if entries >= u32::MAX as usize {
         return Err(AllocError);

@@ -28,10 +28,7 @@ use std::sync::{Mutex, MutexGuard, Wait};
 pub const MISSES: usize = 4;
 
 /// How often a thread looks for a free lock before it sleeps. To be woken takes as long as some ten entries.
-const LOOKS: u32 = 1_500;
-
-/// How long a thread rests between two looks, so that the holder is not hindered.
-const RESTS: u32 = 12;
+const LOOKS: u32 = 6_000;
 
 /// The state of K's table. Words and stripes are read without the journal's lock, which only `enter` and `hold` take.
 #[derive(Drop)]
@@ -242,15 +239,8 @@ impl<K: Name + Ledger> Shared<K> {
             if let Some(guard) = self.kept.try_lock() {
                 return guard;
             }
-            rest();
+            spin_loop();
         }
         self.kept.lock(rt)
-    }
-}
-
-/// Does nothing for a moment.
-fn rest() {
-    for _ in 0..RESTS {
-        spin_loop();
     }
 }

@@ -8,7 +8,7 @@ pub returns-clause-numbered : goal.returns-clause-numbered
 returns-clause-numbered g c =
     let one = c.in_default.ensures.ok in
     number-push c.args.entries.now.items c.push.new.self.items c.args.y c.args.value (number_at c.args.numbers.now) (number_at c.set.new.self)
-    c.in_ok-push.ensures.items c.requires.none c.requires.numbered (omega (arith, one.here)) one.others
+    c.in_ok-push.ensures.items c.requires.none c.requires.numbered (omega (arith, one.here, c.in_ok-number.ensures.next)) one.others
 
 pub returns-clause-ok : goal.returns-clause-ok
 returns-clause-ok g c =
