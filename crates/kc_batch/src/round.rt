@@ -13,7 +13,7 @@ use crate::crew::Crew;
 use crate::desk::Desk;
 use crate::errand::Errand;
 use crate::line::Line;
-use crate::seat::Seat;
+use crate::seat::{APART, Seat};
 use kc_graph::Update;
 use kc_queue::{Consumer, WorkQueue};
 use kc_shared::{Parts, Shared};
@@ -59,6 +59,7 @@ fn hire<K: Name + Ledger>(
             part: part.split_off(1, 0),
             consumer: own,
             number,
+            apart: [0; APART],
         });
     }
     seats

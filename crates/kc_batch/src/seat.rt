@@ -14,6 +14,9 @@ use std::marker::Model;
 use std::sync::Wait;
 use std::sync::ledger::{Ledger, Share};
 
+/// The words of two lines of a cache.
+pub(crate) const APART: usize = 16;
+
 /// A desk in one round, with one part of the ledger and the right to take from the queue.
 #[derive(Drop)]
 pub(crate) struct Seat<K: Name + Ledger> {
@@ -23,6 +26,8 @@ pub(crate) struct Seat<K: Name + Ledger> {
     pub part: Share<K>,
     pub consumer: Consumer,
     pub number: u32,
+    /// Keeps the seat apart from the next one, which another thread changes.
+    pub apart: [u64; APART],
 }
 
 impl<K: Name + Ledger> Model for Seat<K> {
