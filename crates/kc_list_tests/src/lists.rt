@@ -1,5 +1,6 @@
 //! The list over long runs, beside a plain list, and its labels in a few small ones.
-ghost use Rattle.std.specs.Prelude.{◌≡◌, ◌<◌, ◌≤◌, ℕ, length, slice_index, IfOk};
+ghost use Rattle.std.specs.Prelude.{◌≡◌, ◌<◌, ◌≤◌, ◌+◌, ℕ, length, slice_index, IfOk};
+ghost use Rattle.kc_list_tests.specs.declared.lists.TheConstants.{PUTS};
 
 use kc_list::{GROUP_ITEMS, NoMemory, PlainOrder, Write};
 use kc_words::{GroupWord, ITEMS, ItemWord, LAST_VERSION, Shape};
@@ -270,14 +271,14 @@ fn check_order(rt: &impl Abort, order: &PlainOrder, plain: &[u32])
     }
 }
 
-/// Many turns in both, which make labels anew in each way that there is.
+/// Many turns in both, which spread and split groups.
 fn check_turns(rt: &impl Abort, order: &mut PlainOrder, plain: &mut Vec<u32>)
     requires items { order.old.items ≡ 1000 }
     requires fixed { order.old.fixed ≡ 0 }
 {
     let relabels = take_turns(rt, order, plain);
     check_order(rt, order, plain);
-    assert!(rt; relabels.spreads > 0 && relabels.splits > 0 && relabels.respreads > 0);
+    assert!(rt; relabels.spreads > 0 && relabels.splits > 0);
     assert_eq!(rt; relabels.most, 64);
 }
 
@@ -286,4 +287,68 @@ fn the_list_is_a_plain_list(rt: HostRuntime) {
     let mut order = ascending(rt.alloc(), 1_000, 500).expect(&rt, "no memory");
     let mut plain = numbers(rt.alloc(), 500).expect(&rt, "no memory");
     check_turns(&rt, &mut order, &mut plain);
+}
+
+/// How many puts after the first item of a group of 32 split it.
+const PUTS: u32 = 33;
+
+/// How often the last group is split where the gap above it is small.
+const ROUNDS: u32 = 8;
+
+/// Puts so many items from `first` on right after `p`, also in a plain list. Where `p` begins the last group, that is split, and `first`
+/// begins the new last one, above which few labels are left.
+fn split_after(
+    rt: &impl Abort,
+    order: &mut PlainOrder,
+    plain: &mut Vec<u32>,
+    relabels: &mut Relabels,
+    first: u32,
+    p: u32,
+)
+    requires items { order.old.items ≡ 1000 }
+    requires first_within { first + PUTS ≤ 1000 }
+    requires p_within { p < 1000 }
+    ensures items { order.new.items ≡ order.old.items }
+{
+    let at = plain
+        .iter()
+        .position(|y| *y == p)
+        .expect(rt, "no such item");
+    for x in first..first + PUTS {
+        plain.insert(at + 1, x).expect(rt, "no memory");
+        put(rt, order, x, p);
+        relabels.count(rt, 1_000, order.writes());
+    }
+}
+
+/// Splits the last group again and again, and counts what was written.
+fn split_the_last(rt: &impl Abort, order: &mut PlainOrder, plain: &mut Vec<u32>) -> Relabels
+    requires items { order.old.items ≡ 1000 }
+    ensures items { order.new.items ≡ order.old.items }
+{
+    let mut relabels = Relabels::default();
+    let mut p = 0;
+    for round in 0..ROUNDS {
+        let first = 32 + PUTS * round;
+        split_after(rt, order, plain, &mut relabels, first, p);
+        p = first;
+    }
+    relabels
+}
+
+/// The last group is split until no label is left above it, so that all groups get new ones.
+fn check_respread(rt: &impl Abort, order: &mut PlainOrder, plain: &mut Vec<u32>)
+    requires items { order.old.items ≡ 1000 }
+{
+    let relabels = split_the_last(rt, order, plain);
+    check_order(rt, order, plain);
+    assert_eq!(rt; relabels.splits, 7);
+    assert_eq!(rt; relabels.respreads, 1);
+}
+
+#[test]
+fn all_groups_are_spread_where_no_label_is_left_above_a_full_one(rt: HostRuntime) {
+    let mut order = ascending(rt.alloc(), 1_000, 32).expect(&rt, "no memory");
+    let mut plain = numbers(rt.alloc(), 32).expect(&rt, "no memory");
+    check_respread(&rt, &mut order, &mut plain);
 }
