@@ -10,4 +10,4 @@ pub HasCause-failed : {T E : Type 0} (before begun after : CallsSoFar) (e : E) �
 HasCause-failed before begun after e called failed later =
     let same : begun.failed ≡ before.failed = ap (λ (calls : CallsSoFar). calls.failed) called in
     let more : after.failed ≡ one_more before.failed = ap (λ (calls : CallsSoFar). calls.failed) failed ∙ ap one_more same in
-    record { later = omega arith; failed = omega arith }
+    record { later = omega arith; failed = omega arith; kept = tt }

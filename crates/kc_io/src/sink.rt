@@ -24,6 +24,7 @@ pub trait Sink {
 
     /// Takes some bytes of the front of `piece`, at least one, and gives their number.
     /// A call that fails takes no byte, and the count of faults rises. The piece was offered then too.
+    /// At any other call the count stays.
     fn write(&mut self, piece: &[u8]) -> Result<usize, Failed>
         requires { 0 < length piece.now }
         ensures bound { IfOk result (λ n. (0 < n) × (n ≤ length piece.now)) }
@@ -36,7 +37,8 @@ pub trait Sink {
 /// Puts out a whole text. At each turn all that is left of it is offered: for a sink that tells its pieces the call
 /// is as one write of the whole text, which begins one text and leaves of it what was not taken, nothing at `Ok`.
 ///
-/// `Failed` comes only where the sink's count of faults rose in this call; then a prefix of the text was taken.
+/// `Failed` comes only where the sink's count of faults rose in this call; then a prefix of the text was taken. At
+/// `Ok` no call of the sink has failed.
 /// Of an empty text nothing is offered.
 pub fn write_all<O: Sink>(sink: &mut O, text: &[u8]) -> Result<(), Failed>
     ensures whole { OnOk result (Appends (O.taken sink.old) (O.taken sink.new) text.now) }

@@ -1,5 +1,5 @@
 //! Where bytes come from.
-ghost use Rattle.std.specs.Prelude.{◌≡◌, ◌<◌, ◌≤◌, ◌+◌, ℕ, List, Option, Result, IfSome, IfOk, OnOk, IsErrOf, length, take, drop};
+ghost use Rattle.std.specs.Prelude.{◌≡◌, ◌≢◌, ◌<◌, ◌≤◌, ◌+◌, ℕ, List, Option, Result, IfSome, IfOk, OnOk, IsErrOf, length, take, drop};
 ghost use Rattle.std.specs.Io.{ReadsAtMost};
 ghost use Rattle.std.specs.Io.KnownBytes.{ReadConsumes, Consumes, IsAtEnd};
 ghost use Rattle.kc_io.specs.Causes.{HasCause, Rose};
@@ -18,7 +18,7 @@ pub trait Source {
     ghost faults: { Self → ℕ };
 
     /// Puts the next bytes at the front of `into` and gives their number; 0 is the end of the input.
-    /// A call that fails takes no byte, and the count of faults rises.
+    /// A call that fails takes no byte, and the count of faults rises. At any other call the count stays.
     fn read(&mut self, into: &mut [u8]) -> Result<usize, Failed>
         requires { 0 < length into.old }
         ensures bound { ReadsAtMost result into.new }
@@ -92,9 +92,9 @@ fn read_behind<S: Source>(source: &mut S, bytes: &mut Vec<u8>, done: usize) -> R
 
 /// All bytes of the source, up to its end. They are read straight into the vector that is given back.
 ///
-/// `ReadFault` comes only where the source's count of faults rose in this call, `TooLong` only where the source
-/// gave more bytes than [`READ_LIMIT`]. After each answer the source has lost just the bytes that it gave in this
-/// call, and they are at most one more than [`READ_LIMIT`].
+/// `ReadFault` comes only where the source's count of faults rose in this call; at each other answer no call of the
+/// source has failed. `TooLong` comes only where the source gave more bytes than [`READ_LIMIT`]. After each answer the
+/// source has lost just the bytes that it gave in this call, and they are at most one more than [`READ_LIMIT`].
 pub fn read_all<S: Source>(alloc: Global, source: &mut S) -> Result<Vec<u8>, ReadAllFault>
     ensures whole { IfOk result (λ bytes. IfSome (S.left source.old) (λ told. bytes.items ≡ told)) }
     ensures ended { OnOk result (IsAtEnd (S.left source.new)) }
@@ -103,6 +103,7 @@ pub fn read_all<S: Source>(alloc: Global, source: &mut S) -> Result<Vec<u8>, Rea
         × IfOk result (λ bytes. bytes.items ≡ given)
         × (IsErrOf result ReadAllFault.TooLong → READ_LIMIT < length given)
         × (length given ≤ READ_LIMIT + 1) }
+    ensures faultless { result ≢ Err ReadAllFault.ReadFault → S.faults source.new ≡ S.faults source.old }
     ensures later { S.faults source.old ≤ S.faults source.new }
     ensures read_fault { IsErrOf result ReadAllFault.ReadFault → Rose (S.faults source.old) (S.faults source.new) }
     ensures too_long { IsErrOf result ReadAllFault.TooLong → IfSome (S.left source.old) (λ told. READ_LIMIT < length told) }

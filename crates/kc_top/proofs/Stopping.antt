@@ -1,11 +1,17 @@
 -- Why a run stops, and what it has written then.
-use Rattle.std.proofs.Common.{◌≡◌, ◌<◌, ℕ, List, [], length, cond, ap, subst, arith, lt-ltb, None, Some, IfSome, Option, refl, sym, Result, Ok, Err, IsErrAnd}
+use Rattle.std.proofs.Common.{◌≡◌, ◌≢◌, ◌<◌, ℕ, List, [], length, cond, ap, subst, arith}
+use Rattle.std.proofs.Common.{lt-ltb, None, Some, IfSome, Option, refl, sym, Result, Ok, Err, IsErrAnd}
 use Rattle.std.specs.Io.KnownBytes.{Appends}
 use Rattle.kc_text.specs.declared.kind.Kind.{Kind}
 use Rattle.kc_text.specs.declared.kind.Kind.TheVariants.{TooLong}
 use Rattle.kc_text.specs.Forms.{all_said}
 use Rattle.kc_text.specs.Meaning.{Refuses, meaning, nothing_told, reading}
-use Rattle.kc_top.specs.Outcome.{IsOutputOf, Took, TookSome}
+use Rattle.kc_course.specs.declared.ran.Ran.{Ran}
+use Rattle.kc_top.specs.Faults.{RoseOnlyAt}
+use Rattle.kc_top.specs.Leaving.{Answers, Leaves}
+use Rattle.kc_top.specs.Outcome.{IsAnswer, IsOutputOf, Took, TookSome}
+use Rattle.kc_top.specs.declared.Status.{Status}
+use Rattle.kc_top.specs.declared.Status.TheVariants as status
 use Rattle.kc_top.specs.Stops.{HasNoText, IsRefusalOf, TellsRefusal, ended, status_of}
 use Rattle.kc_output.specs.Text.{IsTextOf}
 use Rattle.kc_output.specs.declared.setting.Setting.{Setting}
@@ -16,12 +22,12 @@ use Rattle.kc_text.specs.declared.limits.TheConstants.{MOST_BYTES}
 
 -- a stop at a refusal says why there is no text
 pub HasNoText-refused : (s : Stop) (n : ℕ) (kind : Kind) (input : Option (List ℕ)) (f f' : ℕ) → TellsRefusal s n kind
-    → IfSome input (λ bytes. meaning bytes ≡ Refuses n kind) → HasNoText s input f f'
-HasNoText-refused (stop.Refused line) n kind input f f' h m = (n, kind, h, m)
-HasNoText-refused stop.NoMemory n kind input f f' h m = tt
-HasNoText-refused stop.Usage n kind input f f' h m = absurd h
-HasNoText-refused stop.ReadFault n kind input f f' h m = absurd h
-HasNoText-refused stop.WriteFault n kind input f f' h m = absurd h
+    → IfSome input (λ bytes. meaning bytes ≡ Refuses n kind) → f' ≡ f → HasNoText s input f f'
+HasNoText-refused (stop.Refused line) n kind input f f' h m kept = (n, kind, h, m, kept)
+HasNoText-refused stop.NoMemory n kind input f f' h m kept = kept
+HasNoText-refused stop.Usage n kind input f f' h m kept = absurd h
+HasNoText-refused stop.ReadFault n kind input f f' h m kept = absurd h
+HasNoText-refused stop.WriteFault n kind input f f' h m kept = absurd h
 
 -- what holds of the bytes that were read holds of all bytes, where they are told
 pub told_is : (P : List ℕ → Type 0) (input : Option (List ℕ)) (bytes : List ℕ) → IfSome input (λ all. bytes ≡ all) → P bytes → IfSome input P
@@ -38,13 +44,13 @@ IsRefusalOf-refused stop.WriteFault n kind bytes h m = absurd h
 
 -- why these bytes give no input is why there is no text, where what is known of the input are these bytes
 pub HasNoText-bytes : (s : Stop) (bytes : List ℕ) (input : Option (List ℕ)) (f f' : ℕ) → IsRefusalOf s bytes → IfSome input (λ all. bytes ≡ all)
-    → HasNoText s input f f'
-HasNoText-bytes (stop.Refused line) bytes input f f' (n, kind, told, means) known =
-    (n, kind, told, told_is (λ b. meaning b ≡ Refuses n kind) input bytes known means)
-HasNoText-bytes stop.NoMemory bytes input f f' h known = tt
-HasNoText-bytes stop.Usage bytes input f f' h known = absurd h
-HasNoText-bytes stop.ReadFault bytes input f f' h known = absurd h
-HasNoText-bytes stop.WriteFault bytes input f f' h known = absurd h
+    → f' ≡ f → HasNoText s input f f'
+HasNoText-bytes (stop.Refused line) bytes input f f' (n, kind, told, means) known kept =
+    (n, kind, told, told_is (λ b. meaning b ≡ Refuses n kind) input bytes known means, kept)
+HasNoText-bytes stop.NoMemory bytes input f f' h known kept = kept
+HasNoText-bytes stop.Usage bytes input f f' h known kept = absurd h
+HasNoText-bytes stop.ReadFault bytes input f f' h known kept = absurd h
+HasNoText-bytes stop.WriteFault bytes input f f' h known kept = absurd h
 
 -- too many bytes are refused as a whole
 pub too_long_refuses : (input : Option (List ℕ)) → IfSome input (λ all. MOST_BYTES < length all) → IfSome input (λ bytes. meaning bytes ≡ Refuses 0 TooLong)
@@ -81,3 +87,50 @@ pub Took-ended : (r : Result (Unit {0}) Stop) (s : Stop) (asked : Option Setting
     → Took (status_of s) asked input before after → Took (ended r) asked input before after
 Took-ended (Ok u) s asked input before after h took = absurd h
 Took-ended (Err e) s asked input before after h took = subst (λ (x : Stop). Took (status_of x) asked input before after) (sym h) took
+
+-- where there is no text, what was there is left, unless there was no memory
+pub Leaves-nothing : (s : Stop) (asked : Option Setting) (input before after : Option (List ℕ)) (ran ran' : Ran) (f f' : ℕ) → HasNoText s input f f'
+    → (s ≢ stop.NoMemory → ran' ≡ ran) → Leaves (status_of s) asked input before after ran ran'
+Leaves-nothing (stop.Refused line) asked input before after ran ran' f f' h untouched = untouched (λ e. absurd (cc))
+Leaves-nothing stop.ReadFault asked input before after ran ran' f f' h untouched = untouched (λ e. absurd (cc))
+Leaves-nothing stop.NoMemory asked input before after ran ran' f f' h untouched = tt
+Leaves-nothing stop.Usage asked input before after ran ran' f f' h untouched = absurd h
+Leaves-nothing stop.WriteFault asked input before after ran ran' f f' h untouched = absurd h
+
+-- what is left at a stop is left where the run ended by it
+pub Leaves-ended : (r : Result (Unit {0}) Stop) (s : Stop) (asked : Option Setting) (input before after : Option (List ℕ)) (ran ran' : Ran)
+    → IsErrAnd r (λ e. e ≡ s) → Leaves (status_of s) asked input before after ran ran' → Leaves (ended r) asked input before after ran ran'
+Leaves-ended (Ok u) s asked input before after ran ran' h leaves = absurd h
+Leaves-ended (Err e) s asked input before after ran ran' h leaves = subst (λ (x : Stop). Leaves (status_of x) asked input before after ran ran') (sym h) leaves
+
+-- a text beside which a run leaves something is the text of the input
+pub IsAnswer-of : (asked : Option Setting) (input : Option (List ℕ)) (text : List ℕ) (ran : Ran) → Answers asked input text ran → IsAnswer asked input text
+IsAnswer-of asked input text ran a = record {
+  setting = a.setting;
+  asks = a.asks;
+  bytes = a.bytes;
+  read = a.read;
+  is = record { told = a.told; means = a.means; written = a.written };
+}
+
+-- where there is no text, the source's count of faults rose at a read fault alone
+pub RoseOnlyAt-read : (s : Stop) (input : Option (List ℕ)) (f f' : ℕ) → HasNoText s input f f' → RoseOnlyAt status.ReadFault (status_of s) f f'
+RoseOnlyAt-read (stop.Refused line) input f f' h = record { rose = λ e. absurd (cc); kept = λ _. h.4 }
+RoseOnlyAt-read stop.ReadFault input f f' h = record { rose = λ _. h; kept = λ e. absurd (e refl) }
+RoseOnlyAt-read stop.NoMemory input f f' h = record { rose = λ e. absurd (cc); kept = λ _. h }
+RoseOnlyAt-read stop.Usage input f f' h = absurd h
+RoseOnlyAt-read stop.WriteFault input f f' h = absurd h
+
+-- where there is no text, the output has no fault
+pub RoseOnlyAt-write : (s : Stop) (input : Option (List ℕ)) (f f' g : ℕ) → HasNoText s input f f' → RoseOnlyAt status.WriteFault (status_of s) g g
+RoseOnlyAt-write (stop.Refused line) input f f' g h = record { rose = λ e. absurd (cc); kept = λ _. refl }
+RoseOnlyAt-write stop.ReadFault input f f' g h = record { rose = λ e. absurd (cc); kept = λ _. refl }
+RoseOnlyAt-write stop.NoMemory input f f' g h = record { rose = λ e. absurd (cc); kept = λ _. refl }
+RoseOnlyAt-write stop.Usage input f f' g h = absurd h
+RoseOnlyAt-write stop.WriteFault input f f' g h = absurd h
+
+-- a count of faults that moved so at a stop moved so where the run ended by it
+pub RoseOnlyAt-ended : (fault : Status) (r : Result (Unit {0}) Stop) (s : Stop) (f f' : ℕ) → IsErrAnd r (λ e. e ≡ s)
+    → RoseOnlyAt fault (status_of s) f f' → RoseOnlyAt fault (ended r) f f'
+RoseOnlyAt-ended fault (Ok u) s f f' h rose = absurd h
+RoseOnlyAt-ended fault (Err e) s f f' h rose = subst (λ (x : Stop). RoseOnlyAt fault (status_of x) f f') (sym h) rose

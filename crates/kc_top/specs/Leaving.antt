@@ -1,16 +1,47 @@
--- What a run leaves of its tables and receipts.
-use Rattle.std.specs.Prelude.{◌≡◌, ℕ, List, Option, Some, IfSome}
+-- What a run leaves of its tables and receipts at each status. `asked` is what the words ask for, if they are right, and `input` are the
+-- bytes of the input, where they are known.
+use Rattle.std.specs.Prelude.{◌≡◌, ◌≤◌, ℕ, List, Option, Some, IfSome, length, take, ⊤}
+use Rattle.std.specs.Io.KnownBytes.{Appends}
 use Rattle.kc_text.specs.Meaning.{Means, Told, meaning}
 use Rattle.kc_course.specs.declared.ran.Ran.{Ran}
 use Rattle.kc_output.specs.Leaving.{IsLeftFor}
+use Rattle.kc_output.specs.Text.{IsText}
 use Rattle.kc_output.specs.declared.setting.Setting.{Setting}
+use Rattle.kc_top.specs.declared.Status.{Status}
+use Rattle.kc_top.specs.declared.Status.TheVariants.{Done, Usage, Refused, ReadFault, WriteFault, NoMemory}
 
--- It is what the run of the input leaves, whose bytes are those where they are known. `asked` is what the words ask for.
-pub record Leaves (asked : Option Setting) (input : Option (List ℕ)) (ran : Ran) : Type 0 where
+-- This is the text of the input, and this is what the run of the input leaves. Both are of the same bytes, which are those of the input
+-- where they are known.
+pub record Answers (asked : Option Setting) (input : Option (List ℕ)) (text : List ℕ) (ran : Ran) : Type 0 where
   pub setting : Setting
   pub asks : asked ≡ Some setting
   pub bytes : List ℕ
   pub read : IfSome input (λ all. bytes ≡ all)
   pub told : Told
   pub means : meaning bytes ≡ Means told
+  pub written : IsText setting told text
   pub left : IsLeftFor told ran
+
+-- the whole text was taken, and what is left belongs to it
+pub record LeavesBesideText (asked : Option Setting) (input before after : Option (List ℕ)) (ran : Ran) : Type 0 where
+  pub text : List ℕ
+  pub answers : Answers asked input text ran
+  pub took : Appends before after text
+
+-- a prefix of the text was taken, and what is left belongs to the whole text
+pub record LeavesBesideFront (asked : Option Setting) (input before after : Option (List ℕ)) (ran : Ran) : Type 0 where
+  pub text : List ℕ
+  pub answers : Answers asked input text ran
+  pub amount : ℕ
+  pub within : amount ≤ length text
+  pub took : Appends before after (take amount text)
+
+-- What is left at each status: what the run of the input leaves where there was a text to write, and what was there where the run stopped
+-- before. Nothing is said where there was no memory. `before` and `after` are what the output has taken.
+abbrev pub Leaves : Status → Option Setting → Option (List ℕ) → Option (List ℕ) → Option (List ℕ) → Ran → Ran → Type 0
+Leaves Done asked input before after ran ran' = LeavesBesideText asked input before after ran'
+Leaves WriteFault asked input before after ran ran' = LeavesBesideFront asked input before after ran'
+Leaves Usage asked input before after ran ran' = ran' ≡ ran
+Leaves Refused asked input before after ran ran' = ran' ≡ ran
+Leaves ReadFault asked input before after ran ran' = ran' ≡ ran
+Leaves NoMemory asked input before after ran ran' = ⊤

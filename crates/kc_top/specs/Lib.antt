@@ -1,5 +1,6 @@
 -- What public contracts speak of.
 pub mod ErrLines
+pub mod Faults
 pub mod Given
 pub mod Leaving
 pub mod Outcome

@@ -41,12 +41,12 @@ IsRefusalOf stop.Usage bytes = ⊥
 IsRefusalOf stop.ReadFault bytes = ⊥
 IsRefusalOf stop.WriteFault bytes = ⊥
 
--- why there is no text, where `input` are the bytes of the input if they are known
+-- Why there is no text, where `input` are the bytes of the input if they are known. The source's count of faults rose at a read fault alone.
 abbrev pub HasNoText : Stop → Option (List ℕ) → ℕ → ℕ → Type 0
 HasNoText (stop.Refused line) input faults faults' =
-    (n : ℕ) × (kind : Kind) × (string_bytes line ≡ refused_line n kind) × IfSome input (λ bytes. meaning bytes ≡ Refuses n kind)
+    (n : ℕ) × (kind : Kind) × (string_bytes line ≡ refused_line n kind) × IfSome input (λ bytes. meaning bytes ≡ Refuses n kind) × (faults' ≡ faults)
 HasNoText stop.ReadFault input faults faults' = Rose faults faults'
-HasNoText stop.NoMemory input faults faults' = ⊤
+HasNoText stop.NoMemory input faults faults' = faults' ≡ faults
 HasNoText stop.Usage input faults faults' = ⊥
 HasNoText stop.WriteFault input faults faults' = ⊥
 

@@ -1,10 +1,13 @@
 //! A whole run: bytes in, core numbers out.
 //!
 //! [`run`](run::run) reads a graph and its batches of updates from a source, writes a line about the graph, a line about
-//! each batch and the core numbers after the last to a sink, and writes one line to a second sink where it can't. The graph
-//! is decomposed once; from then on workers keep its core numbers, and no batch is computed anew. The contract says what the
-//! output is by `kc_output`, and what the run leaves of its tables and receipts (`specs/Leaving.antt`). It says too when each
-//! other status comes, and what was written then (`specs/Outcome.antt`, `specs/ErrLines.antt`).
+//! each batch and the core numbers after the last to a sink, and writes one line to a second sink where it can't. The contract
+//! says what the output is by `kc_output`, and what the run leaves of its tables and receipts (`specs/Leaving.antt`). It says
+//! too when each other status comes, and what was written then (`specs/Outcome.antt`, `specs/ErrLines.antt`), and that a fault
+//! of the source or of the output comes at its own status alone (`specs/Faults.antt`).
+//!
+//! The graph is decomposed once, and from then on workers keep its core numbers by the journal. The contract says that the
+//! journal's tables hold the updates and were certified all along. It does not say that nothing is computed anew beside them.
 //!
 //! [`run_in_memory`](memory::run_in_memory) is the same run over the source and the sinks in memory, where every
 //! clause speaks of bytes that are known. The crate stands on `kc_io`, `kc_text`, `kc_report` and `kc_output`.

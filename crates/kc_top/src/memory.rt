@@ -1,10 +1,10 @@
 //! The run over a source and sinks in memory.
 ghost use Rattle.std.specs.Prelude.{◌≡◌, ◌⊎◌, [], ℕ, List, None, Some, false, is_some, true};
-ghost use Rattle.kc_io.specs.Causes.{Rose};
 ghost use Rattle.kc_text.specs.declared.kind.Kind.{Kind};
 ghost use Rattle.kc_text.specs.Meaning.{Means, Refuses, Told, meaning};
 ghost use Rattle.kc_course.specs.Runs.{IsEmpty};
 ghost use Rattle.kc_top.specs.ErrLines.{IsErrLine, OfferedLine, TookLine};
+ghost use Rattle.kc_top.specs.Faults.{RoseOnlyAt};
 ghost use Rattle.kc_top.specs.Given.{given, input_bytes, reads};
 ghost use Rattle.kc_top.specs.Leaving.{Leaves};
 ghost use Rattle.kc_top.specs.Outcome.{Offered, Took};
@@ -41,15 +41,15 @@ pub fn run_in_memory<R: Threads + Wait + Sync>(
     ensures took { Took result (asked words.now) (given (asked words.now) (Some source.old.left)) (Some out.old.taken) (Some out.new.taken) }
     ensures offered { Offered result (asked words.now) (given (asked words.now) (Some source.old.left)) (Some out.old.first) (Some out.new.first) }
 
-    ensures ran { result ≡ Status.Done → Leaves (asked words.now) (given (asked words.now) (Some source.old.left)) ran.new }
+    ensures ran { Leaves result (asked words.now) (given (asked words.now) (Some source.old.left)) (Some out.old.taken) (Some out.new.taken) ran.old ran.new }
 
     ensures quiet { result ≡ Status.Done → err.new ≡ err.old }
     ensures line { (line : List ℕ) × IsErrLine result (given (asked words.now) (Some source.old.left)) line
         × TookLine (Some err.old.taken) (Some err.new.taken) err.old.calls.failed err.new.calls.failed line
         × OfferedLine result (Some err.old.first) (Some err.new.first) line }
 
-    ensures read_fault { result ≡ Status.ReadFault → Rose source.old.calls.failed source.new.calls.failed }
-    ensures write_fault { result ≡ Status.WriteFault → Rose out.old.calls.failed out.new.calls.failed }
+    ensures read_fault { RoseOnlyAt Status.ReadFault result source.old.calls.failed source.new.calls.failed }
+    ensures write_fault { RoseOnlyAt Status.WriteFault result out.old.calls.failed out.new.calls.failed }
     ensures refused { result ≡ Status.Refused → (n : ℕ) × (kind : Kind) × (meaning (input_bytes (asked words.now) source.old.left) ≡ Refuses n kind) }
     ensures refuses { (s : Setting) (n : ℕ) (kind : Kind) → asked words.now ≡ Some s → meaning (input_bytes (Some s) source.old.left) ≡ Refuses n kind
         → (result ≡ Status.Refused) ⊎ (result ≡ Status.ReadFault) ⊎ (result ≡ Status.NoMemory) }

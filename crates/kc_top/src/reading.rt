@@ -25,6 +25,7 @@ fn bytes_from<S: Source>(alloc: Global, source: &mut S) -> Result<Vec<u8>, Stop>
     ensures few { IfOk result (λ bytes. length bytes.items ≤ MOST_BYTES) }
     ensures read { OnOk result (IsAtEnd (S.left source.new)) }
     ensures stopped { IfErr result (λ stop. HasNoText stop (S.left source.old) (S.faults source.old) (S.faults source.new)) }
+    ensures faultless { OnOk result (S.faults source.new ≡ S.faults source.old) }
 {
     match read_all(alloc, source) {
         Ok(bytes) => Ok(bytes),
@@ -54,6 +55,7 @@ fn bytes_of<S: Source>(
     ensures unread { is_some generator ≡ true → source.new ≡ source.old }
     ensures accepted { is_some generator ≡ true → IfErr result (λ stop. stop ≡ Stop.NoMemory) }
     ensures stopped { IfErr result (λ stop. HasNoText stop (generated_or generator (S.left source.old)) (S.faults source.old) (S.faults source.new)) }
+    ensures faultless { OnOk result (S.faults source.new ≡ S.faults source.old) }
 {
     match generator {
         Some(number) => Ok(generated_bytes(alloc, number)?),
@@ -85,6 +87,7 @@ pub(crate) fn input_of<S: Source>(
     ensures unread { is_some generator ≡ true → source.new ≡ source.old }
     ensures accepted { is_some generator ≡ true → IfErr result (λ stop. stop ≡ Stop.NoMemory) }
     ensures stopped { IfErr result (λ stop. HasNoText stop (generated_or generator (S.left source.old)) (S.faults source.old) (S.faults source.new)) }
+    ensures faultless { OnOk result (S.faults source.new ≡ S.faults source.old) }
 {
     let bytes = bytes_of(alloc, generator, source)?;
     parsed(alloc, bytes)

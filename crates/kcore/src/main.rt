@@ -1,20 +1,15 @@
 //! The program: reads a graph on standard input and writes the core number of each vertex on standard output.
 //!
-//! It only ties [`run`](kc_top::run::run) to the program's arguments and to the standard streams, and ends with the
-//! status's number. [`run_on`](program::run_on) says it over any source and sinks. Of the arguments and of the streams of
-//! the operating system no contract can say more than that: the streams tell no bytes, so what was given on standard
-//! input, and that what was taken reached its reader, is trusted. It stands on `kc_top`, `kc_course` and
-//! `kc_io`.
+//! It only gives [`run_on`](kc_program::program::run_on) the program's arguments and the standard streams, and ends with the exit
+//! code that it answers. `run_on` says all over any source and sinks. Of the arguments and of the streams of the operating system no
+//! contract can say more than that: the streams tell no bytes, so what was given on standard input, and that what was taken
+//! reached its reader, is trusted. It stands on `kc_program`, `kc_course` and `kc_io`.
 #![tactic(auto)]
 
-mod program;
-mod words;
-
-use crate::program::run_on;
 use kc_course::Ran;
 use kc_io::std_sink::StdSink;
 use kc_io::std_source::StdSource;
-use kc_top::exit_number;
+use kc_program::program::run_on;
 use std::env;
 use std::process::ExitCode;
 
@@ -23,7 +18,7 @@ fn main(rt: HostRuntime) -> ExitCode {
     let mut out = StdSink::new(rt.stdout());
     let mut err = StdSink::new(rt.stderr());
     let mut ran = Ran::new(rt.alloc());
-    let status = run_on(
+    run_on(
         &rt,
         rt.alloc(),
         env::args(&rt),
@@ -31,6 +26,5 @@ fn main(rt: HostRuntime) -> ExitCode {
         &mut out,
         &mut err,
         &mut ran,
-    );
-    ExitCode::from(exit_number(status))
+    )
 }

@@ -27,5 +27,5 @@ loop-done-preserved g c =
       offered = λ _. IsOffered-rest (g.O.Sink.offers c.args.sink.now) (g.O.Sink.offers c.loop-done.sink) (g.O.Sink.offers c.write.new.self) (length text) done n
           (λ h. ap g.O.Sink.offers (c.loop-done.invariant.none_yet h)) c.loop-done.invariant.offered
           (subst (λ (k : ℕ). IsOffered (g.O.Sink.offers c.loop-done.sink) (g.O.Sink.offers c.write.new.self) k n) size c.in_ok-done.ensures.offers);
-      later = omega (arith, c.in_ok-done.ensures.cause.later);
+      faultless = c.in_ok-done.ensures.cause.kept ∙ c.loop-done.invariant.faultless;
     }

@@ -12,7 +12,7 @@ invariant-loop-done g l = record {
   none_yet : l.done ≡ 0 → l.sink ≡ l.fn.sink;
   first : 0 < l.done → KeepsFirst (g.O.Sink.first l.fn.sink) (g.O.Sink.first l.sink) l.text;
   offered : 0 < l.done → IsOffered (g.O.Sink.offers l.fn.sink) (g.O.Sink.offers l.sink) (length l.text) l.done;
-  later : g.O.Sink.faults l.fn.sink ≤ g.O.Sink.faults l.sink;
+  faultless : g.O.Sink.faults l.sink ≡ g.O.Sink.faults l.fn.sink;
 }
 
 abbrev pub decreases-loop-done : goal.decreases-loop-done

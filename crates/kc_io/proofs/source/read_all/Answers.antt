@@ -18,5 +18,5 @@ loop-done-preserved g c =
       consumed = subst (Consumes (g.S.Source.left c.args.source.now) (g.S.Source.left c.read_behind.new.source)) joined
           (Consumes-trans (g.S.Source.left c.args.source.now) (g.S.Source.left c.loop-done.source) (g.S.Source.left c.read_behind.new.source)
           (take done c.loop-done.bytes.items) (take n (drop done now)) c.loop-done.invariant.consumed c.in_ok-n.ensures.bytes.0);
-      later = omega (arith, c.loop-done.invariant.later, c.in_ok-n.ensures.cause.later);
+      faultless = c.in_ok-n.ensures.cause.kept ∙ c.loop-done.invariant.faultless;
     }

@@ -1,5 +1,5 @@
--- The bytes that are done are all that the source gave, and no count of faults fell.
-use Rattle.std.proofs.Common.{◌+◌, ◌-◌, ◌≤◌, length, take}
+-- The bytes that are done are all that the source gave, and no call failed.
+use Rattle.std.proofs.Common.{◌≡◌, ◌+◌, ◌-◌, ◌≤◌, length, take}
 use Rattle.std.specs.Io.KnownBytes.{Consumes}
 use Rattle.kc_io.proofs.source.read_all.Given as goal
 use Rattle.kc_io.specs.declared.source.TheConstants.{READ_LIMIT}
@@ -9,7 +9,7 @@ invariant-loop-done g l = record {
   within : l.done ≤ length l.bytes.items;
   fits : length l.bytes.items ≤ READ_LIMIT + 1;
   consumed : Consumes (g.S.Source.left l.fn.source) (g.S.Source.left l.source) (take l.done l.bytes.items);
-  later : g.S.Source.faults l.fn.source ≤ g.S.Source.faults l.source;
+  faultless : g.S.Source.faults l.source ≡ g.S.Source.faults l.fn.source;
 }
 
 abbrev pub decreases-loop-done : goal.decreases-loop-done

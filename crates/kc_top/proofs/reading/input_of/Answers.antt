@@ -9,7 +9,8 @@ pub returns-clause-stopped : goal.returns-clause-stopped
 returns-clause-stopped g c =
     IfErr-weaker c.parsed.result _ _
     (λ s h. HasNoText-bytes s c.in_ok-bytes.bytes.items
-    (generated_or c.args.generator (g.S.Source.left c.args.source.now)) _ _ h c.in_ok-bytes.ensures.bytes) c.parsed.ensures.stopped
+    (generated_or c.args.generator (g.S.Source.left c.args.source.now)) _ _ h c.in_ok-bytes.ensures.bytes c.in_ok-bytes.ensures.faultless)
+    c.parsed.ensures.stopped
 
 pub returns-clause-accepted : goal.returns-clause-accepted
 returns-clause-accepted g c = λ some.

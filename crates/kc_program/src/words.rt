@@ -2,7 +2,7 @@
 ghost use Rattle.std.specs.Prelude.{◌≡◌, ◌≢◌, IfOk, IfErr, IsErr, drop, map, string_bytes};
 ghost use Rattle.std.specs.IoError.{error_kind};
 ghost use Rattle.std.specs.Vec.Iter.{into_iter_items};
-ghost use Rattle.kcore.specs.Words.{AreWords};
+ghost use Rattle.kc_program.specs.Words.{AreWords};
 
 use kc_io::NoMemory;
 use std::alloc::Global;

@@ -1,6 +1,6 @@
 -- The words before the next are borrowed.
 use Rattle.std.proofs.Common.{◌≡◌, map, take, string_bytes}
-use Rattle.kcore.proofs.words.borrowed.Given as goal
+use Rattle.kc_program.proofs.words.borrowed.Given as goal
 
 abbrev pub invariant-loop-word : goal.invariant-loop-word
 invariant-loop-word l = map (λ text. text.now) l.texts.items ≡ map string_bytes (take l.word-index l.words)

@@ -1,0 +1,74 @@
+//! A run on the program's arguments, over any source and sinks.
+ghost use Rattle.std.specs.Prelude.{◌≡◌, ◌≢◌, ◌⊎◌, ℕ, List, IfErr, false};
+ghost use Rattle.std.specs.IoError.{error_kind};
+ghost use Rattle.std.specs.Process.{exit_status};
+ghost use Rattle.kc_course.specs.Runs.{IsEmpty};
+ghost use Rattle.kc_program.specs.Ending.{Ended};
+ghost use Rattle.kc_program.specs.Words.{AreWords};
+ghost use Rattle.kc_top.specs.ErrLines.{OfferedLine, TookLine};
+ghost use Rattle.kc_top.specs.Faults.{RoseOnlyAt};
+ghost use Rattle.kc_top.specs.Given.{reads};
+ghost use Rattle.kc_top.specs.Settings.{setting};
+ghost use Rattle.kc_top.specs.Statuses.{exit_of};
+ghost use Rattle.kc_top.specs.declared.Status.{Status};
+
+use crate::words::{borrowed, words_of};
+use kc_course::Ran;
+use kc_io::sink::Sink;
+use kc_io::source::Source;
+use kc_top::run::run;
+use kc_top::{Status, exit_number};
+use kc_workers::NoGate;
+use std::alloc::Global;
+use std::env::Args;
+use std::io;
+use std::io::ErrorKind;
+use std::process::ExitCode;
+use std::sync::Wait;
+use std::thread::Threads;
+
+/// The exit code of a status.
+fn exit_with(status: Status) -> ExitCode
+    ensures { exit_status result ≡ exit_of status }
+{
+    ExitCode::from(exit_number(status))
+}
+
+/// Runs on the words of `args`, and gives the exit code of the status. The words are the arguments after the program's name, in their
+/// order, and an empty word in place of all where one is not UTF-8.
+///
+/// `ran` takes what the run leaves. Where there is no memory for the words, the status is `NoMemory`, and nothing was read or written.
+pub fn run_on<S: Source, O: Sink, E: Sink, R: Threads + Wait + Sync>(
+    rt: &R,
+    alloc: Global,
+    args: io::Result<Args>,
+    source: &mut S,
+    out: &mut O,
+    err: &mut E,
+    ran: &mut Ran,
+) -> ExitCode
+    requires empty { IsEmpty ran.old }
+    // The exit code is that of a status. The run ends by this status as `run` promises it for these words; or there was no memory for the
+    // words, and all is as it was.
+    ensures ended { (status : Status) × (exit_status result ≡ exit_of status)
+        × (((words : List (List ℕ)) × (line : List ℕ) × AreWords args words
+        × Ended words status (S.left source.old) (S.left source.new) (O.taken out.old) (O.taken out.new)
+        (O.first out.old) (O.first out.new) ran.old ran.new line
+        × (reads (setting words) ≡ false → source.new ≡ source.old)
+        × TookLine (E.taken err.old) (E.taken err.new) (E.faults err.old) (E.faults err.new) line
+        × OfferedLine status (E.first err.old) (E.first err.new) line)
+        ⊎ ((status ≡ Status.NoMemory) × (source.new ≡ source.old) × (out.new ≡ out.old) × (err.new ≡ err.old) × (ran.new ≡ ran.old)))
+        × (status ≡ Status.Done → err.new ≡ err.old)
+        × RoseOnlyAt Status.ReadFault status (S.faults source.old) (S.faults source.new)
+        × RoseOnlyAt Status.WriteFault status (O.faults out.old) (O.faults out.new) }
+    ensures no_memory { IfErr args (λ error. error_kind error ≢ ErrorKind.InvalidData → exit_status result ≡ exit_of Status.NoMemory) }
+{
+    let Ok(words) = words_of(alloc, args) else {
+        return exit_with(Status::NoMemory);
+    };
+    let Ok(texts) = borrowed(alloc, &words) else {
+        return exit_with(Status::NoMemory);
+    };
+    let status = run(rt, alloc, &texts, source, out, err, &NoGate, ran);
+    exit_with(status)
+}
