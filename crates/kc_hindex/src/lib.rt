@@ -1,4 +1,4 @@
-//! Core numbers by rounds, in a thread for each processor.
+//! Core numbers by rounds that are dealt out to threads.
 //!
 //! Each vertex begins with its degree. In a round each takes the h-index of its neighbours' numbers, all at once: the greatest k for which
 //! at least k of them are at least k. Numbers never rise, and once a round changes none they are the core numbers (Lü, Zhou, Zhang and
@@ -6,8 +6,9 @@
 //! known, by one thread.
 //!
 //! `specs/Rounds.antt` says what an h-index is, what a round makes of numbers, and which round is the last; the other files there serve
-//! the crate's own proofs. The laws below have no code. That several threads ran is said by no clause; that the numbers and the count of
-//! rounds do not depend on it is. The crate stands on `kc_graph`, `kc_distinct` and `rayon`.
+//! the crate's own proofs. The laws below have no code. The code asks for a thread for each processor that `rayon` counts, and for at
+//! most 32. That more than one thread ran is said by no clause; that the numbers and the count of rounds do not depend on it is. The
+//! crate stands on `kc_graph`, `kc_distinct` and `rayon`.
 #![tactic(auto)]
 
 mod counting;

@@ -43,12 +43,12 @@ fn settle(
     changing + 1
 }
 
-/// The core numbers of a graph, by rounds in a thread for each processor (Lü, Zhou, Zhang and Stanley 2016): each vertex begins with its
-/// degree, and in a round takes the h-index of its neighbours' numbers, all vertices at once, until a round changes no number. A round
-/// looks only at the vertices whose number another one has crossed in the round before, as [`crossing`](crate::crossing) says, and takes
-/// time linear in the edges and no memory. Numbers and count of rounds are the same however the vertices are dealt out among threads.
-/// `NoMemory` comes where there is none for two numbers for each vertex, for a mark for each number, and for a count for each number and
-/// each thread.
+/// The core numbers of a graph, by rounds (Lü, Zhou, Zhang and Stanley 2016): each vertex begins with its degree, and in a round takes the
+/// h-index of its neighbours' numbers, all vertices at once, until a round changes no number. A round looks only at the vertices whose
+/// number another one has crossed in the round before, as [`crossing`](crate::crossing) says, and takes time linear in the edges and no
+/// memory; no clause speaks of its time. The vertices are dealt out to a thread for each processor, at most 32. That more than one ran is
+/// said by no clause; numbers and count of rounds are the same however the vertices are dealt out. `NoMemory` comes where there is none
+/// for two numbers for each vertex, for a mark for each number, and for a count for each number and each thread.
 pub fn peel(rt: &(impl Threads + Sync), alloc: Global, graph: &Graph) -> Result<Peeled, NoMemory>
     ensures core { IfOk result (λ peeled. AreCoreNumbers graph.now peeled.core.items) }
     ensures rounds { IfOk result (λ peeled. AreRounds graph.now peeled.rounds) }

@@ -1,4 +1,4 @@
-//! One round, by a thread for each processor.
+//! One round, dealt out to threads.
 ghost use Rattle.std.specs.Prelude.{◌≡◌, ◌↔◌, ◌≤◌, ◌<◌, ◌+◌, ◌*◌, ◌^◌, ℕ, false, length, slice_index, vec_len};
 ghost use Rattle.kc_hindex.specs.Rounds.{IsRoundOf, h_round};
 ghost use Rattle.kc_hindex.specs.Crossing.{Crosses};
@@ -12,10 +12,10 @@ use rayon::current_num_threads;
 use std::thread;
 use std::thread::Threads;
 
-/// How many processors rounds make use of.
+/// The most threads that a round is dealt out to.
 const MOST_PROCESSORS: usize = 32;
 
-/// How many processors there are to make use of.
+/// How many threads a round is dealt out to: as many as there are processors, at most `MOST_PROCESSORS`. The clause says only: some.
 pub(crate) fn processors(rt: &impl Threads) -> usize
     ensures { 0 < result }
 {

@@ -129,8 +129,12 @@ fn moves_of<V: View>(alloc: Global, view: &mut V, update: Update) -> Result<Move
 }
 
 /// The plan of an update that adds an edge: which vertices gain one in their core number, in the order in which they then stand in front
-/// of the next level, and which are put behind others of their level. Where its answers are those of one certified state, it asks the
-/// lists of the lesser end and of vertices that walks along the order reach from the end that stands first, and no others.
+/// of the next level, and which are put behind others of their level.
+///
+/// Where its answers are those of one certified state, the plan passes the local test there, so who rises is fixed. It moves each vertex
+/// at most once, and only vertices that walks along the order reach from the end that stands first. That each of these moves is needed
+/// is said by no clause: a plan may also put some of them behind others where nothing asks for it. Lists are asked only of the lesser end
+/// and of vertices that such walks reach.
 ///
 /// `Miss` comes only where a call on the view missed, and `NoMemory` where there is no memory, for the view or for the search. At `Ok` the
 /// view has handed out, once, all that this call asked, and keeps nothing; after a fault it has handed out nothing, and keeps what it was

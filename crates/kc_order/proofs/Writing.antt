@@ -163,12 +163,19 @@ module _ (shape : Shape) (opening : List ℕ) where
 
 -- The whole of a call. -----------------------------------------------------------------------------
 
+-- where the writes end with one and are one, none stands before it
+no-front : (writes front : List Write) (last : Write) → writes ≡ front ++ last ∷ [] → length writes ≡ 1 → front ≡ []
+no-front writes [] last are one = refl
+no-front writes (w ∷ front) last are one = absurd (omega (arith, one, ap length are, length-append front (last ∷ [])))
+
 -- what a call leaves, the last of whose writes is `last`
 pub record Wrote (seen : Seen) (new : Plain) (v x : ℕ) (writes : List Write) : Type 0 where
   pub some : 0 < length writes
   pub legal_ : AreLegal seen writes v
   pub tied : (now : Seen) → now ≡ record { table = seen.table; log = log_of_all seen.log writes v } → Tied now new
   pub ends_ : (n : NoteWord) → v ≡ note_word n → (now : Seen) → now ≡ record { table = seen.table; log = log_of_all seen.log writes v } → EndsWith seen now n x
+  pub single : (n : NoteWord) (is : v ≡ note_word n) (now : Seen) (same : now ≡ record { table = seen.table; log = log_of_all seen.log writes v })
+      → length writes ≡ 1 → (ends_ n is now same).relabels ≡ []
   pub list : list_after seen.table (log_of_all seen.log writes v) ≡ new.list
 
 -- what a note may name before the relabelling stores it may name after them
@@ -280,6 +287,7 @@ call-writes seen old new n x writes tied fitting same items fixed w few x-in wit
             ∙ ap (λ z. log ++ (stores_of w.front ++ event 0 z ∷ event (1 + x) w.last.value ∷ [])) is-v)));
         legal = subst (λ (z : Seen). legal.Legal z.table.shape z.table.opening z.log) (sym is) (subst (legal.Legal shape opening) (sym all) done.legal_);
       };
+      single = λ m is-v now is one. ap stores_of (no-front writes w.front w.last are one);
       list = ap (list_after seen.table) all ∙ done.list;
     }
 
@@ -413,15 +421,16 @@ pub item-fits : (now : Seen) (x : ℕ) → legal.Legal now.table.shape now.table
 item-fits now x h x-in =
     let below = (list-stands now.table.shape now.table.opening now.log h).listed.within x x-in in omega (arith, below, now.table.shape.few_items)
 
--- no word of a plain list has been written more than twice
-abbrev pub AtMostTwice : Plain → Plain → Type 0
-AtMostTwice old new = (k : ℕ) → sheet.version new.words k ≤ sheet.version old.words k + 2
+-- no word of a plain list has been written more than so many times
+abbrev pub WrittenAtMost : ℕ → Plain → Plain → Type 0
+WrittenAtMost most old new = (k : ℕ) → sheet.version new.words k ≤ sheet.version old.words k + most
 
--- where a plain list wrote no word more than twice, no word of its table rose by more than two
-raised-now : (seen now : Seen) (old new : Plain) → Tied seen old → Tied now new → now.table ≡ seen.table → AtMostTwice old new → AreRaised seen now
-raised-now seen now old new tied after table twice = λ k h.
+-- where a plain list wrote no word more than so many times, no word of its table rose by more
+raised-now : (most : ℕ) (seen now : Seen) (old new : Plain) → Tied seen old → Tied now new → now.table ≡ seen.table → WrittenAtMost most old new
+    → AreRaised most seen now
+raised-now most seen now old new tied after table few = λ k h.
     let there = subst (λ (t : TableName). legal.IsVersioned t.shape k) (sym table) h in
-    omega (arith, twice k, ap (λ z. (item_of z).version) (tied.words k h), ap (λ z. (item_of z).version) (after.words k there))
+    omega (arith, few k, ap (λ z. (item_of z).version) (tied.words k h), ap (λ z. (item_of z).version) (after.words k there))
 
 -- each word's version rises by at most the number of the writes
 raised-at_most : (ws : List ℕ) (writes : List Write) (k : ℕ) → sheet.RaisedAlong ws writes
@@ -440,20 +449,21 @@ raised-at_most ws (w ∷ writes) k h =
 
 -- a put writes each word once, and that of its item at most twice
 pub twice-put : (old new : Plain) (x : ℕ) → ((w : ℕ) → w ≢ 1 + x → sheet.version new.words w ≤ sheet.version old.words w + 1)
-    → sheet.version new.words (1 + x) ≤ sheet.version old.words (1 + x) + 2 → AtMostTwice old new
+    → sheet.version new.words (1 + x) ≤ sheet.version old.words (1 + x) + 2 → WrittenAtMost 2 old new
 twice-put old new x once twice = λ k. elim (cases_eq k (1 + x)) [
   | inl q ↦ omega (arith, twice, ap (sheet.version new.words) q, ap (sheet.version old.words) q)
   | inr ne ↦ omega (arith, once k ne)
 ]
 
--- a take makes one write, so it writes no word more than twice
-pub twice-take : (old new : Plain) (x : ℕ) → Written old.items old.list new.list x old.words new.words new.writes → length new.writes ≡ 1 → AtMostTwice old new
-twice-take old new x w single = λ k. omega (arith, raised-at_most old.words new.writes k w.raised, ap (λ l. sheet.version l k) w.words, single)
+-- a take makes one write, so it writes no word more than once
+pub once-take : (old new : Plain) (x : ℕ) → Written old.items old.list new.list x old.words new.words new.writes → length new.writes ≡ 1
+    → WrittenAtMost 1 old new
+once-take old new x w single = λ k. omega (arith, raised-at_most old.words new.writes k w.raised, ap (λ l. sheet.version l k) w.words, single)
 
 -- what a put leaves, in the words of the contracts
 pub put-list : (seen now : Seen) (old new : Plain) (x p : ℕ) (writes : List Write) → Tied seen old → Wrote seen new (note_word (Put x p)) x writes
     → x < seen.table.shape.items → member p (list_after seen.table seen.log) ≡ true → new.list ≡ right_after x p (without x old.list)
-    → now ≡ record { table = seen.table; log = log_of_all seen.log writes (note_word (Put x p)) } → AtMostTwice old new → Puts seen now x p
+    → now ≡ record { table = seen.table; log = log_of_all seen.log writes (note_word (Put x p)) } → WrittenAtMost 2 old new → Puts seen now x p
 put-list seen now old new x p writes tied w x-in p-in list is twice =
     let e = w.ends_ (Put x p) refl now is in
     let p-below = (list-stands seen.table.shape seen.table.opening seen.log tied.legal).listed.within p p-in in
@@ -461,21 +471,24 @@ put-list seen now old new x p writes tied w x-in p-in list is twice =
     record {
       ends = e;
       list = ap (λ (z : Seen). list_after z.table z.log) is ∙ (w.list ∙ (list ∙ ap (λ l. right_after x p (without x l)) tied.list));
-      raised = raised-now seen now old new tied (w.tied now is) e.table twice;
+      raised = raised-now 2 seen now old new tied (w.tied now is) e.table twice;
       leaves = put-leaves seen now x p e (omega (arith, x-in, few), omega (arith, p-below, few)) x-in tied.quiet;
     }
 
 -- what a take leaves, in the words of the contracts
 pub taken-list : (seen now : Seen) (old new : Plain) (x : ℕ) (writes : List Write) → Tied seen old → Wrote seen new (note_word (Take x)) x writes
     → member x (list_after seen.table seen.log) ≡ true → new.list ≡ without x old.list
-    → now ≡ record { table = seen.table; log = log_of_all seen.log writes (note_word (Take x)) } → AtMostTwice old new → Takes seen now x
-taken-list seen now old new x writes tied w x-in list is twice =
+    → now ≡ record { table = seen.table; log = log_of_all seen.log writes (note_word (Take x)) } → length writes ≡ 1 → WrittenAtMost 1 old new
+    → Takes seen now x
+taken-list seen now old new x writes tied w x-in list is one once =
     let e = w.ends_ (Take x) refl now is in
     let x-below = (list-stands seen.table.shape seen.table.opening seen.log tied.legal).listed.within x x-in in
     record {
       ends = e;
+      value = e.value;
+      single = e.log ∙ ap (λ relabels. seen.log ++ (relabels ++ event 0 (note_word (Take x)) ∷ event (1 + x) e.value ∷ [])) (w.single (Take x) refl now is one);
       list = ap (λ (z : Seen). list_after z.table z.log) is ∙ (w.list ∙ (list ∙ ap (without x) tied.list));
-      raised = raised-now seen now old new tied (w.tied now is) e.table twice;
+      raised = raised-now 1 seen now old new tied (w.tied now is) e.table once;
       leaves = take-leaves seen now x e (omega (arith, x-below, seen.table.shape.few_items)) x-below tied.quiet;
     }
 
@@ -484,7 +497,7 @@ pub put-now : (seen before now : Seen) (words : TableName) (old new : Plain) (x 
     → Tied seen old
     → Wrote seen new (note_word (Put x p)) x writes → x < words.shape.items → member p (list_after before.table before.log) ≡ true
     → new.list ≡ right_after x p (without x old.list)
-    → now ≡ record { table = seen.table; log = log_of_all seen.log writes (note_word (Put x p)) } → AtMostTwice old new → Puts before now x p
+    → now ≡ record { table = seen.table; log = log_of_all seen.log writes (note_word (Put x p)) } → WrittenAtMost 2 old new → Puts before now x p
 put-now seen before now words old new x p writes is table tied w x-in p-in list now-is twice =
     let named : seen.table ≡ words = ap (λ (z : Seen). z.table) is ∙ table in
     subst (λ s. Puts s now x p) is (put-list seen now old new x p writes tied w (subst (λ (t : TableName). x < t.shape.items) (sym named) x-in)
@@ -494,6 +507,7 @@ put-now seen before now words old new x p writes is table tied w x-in p-in list 
 pub taken-now : (seen before now : Seen) (old new : Plain) (x : ℕ) (writes : List Write) → seen ≡ before → Tied seen old
     → Wrote seen new (note_word (Take x)) x writes
     → member x (list_after before.table before.log) ≡ true → new.list ≡ without x old.list
-    → now ≡ record { table = seen.table; log = log_of_all seen.log writes (note_word (Take x)) } → AtMostTwice old new → Takes before now x
-taken-now seen before now old new x writes is tied w x-in list now-is twice = subst (λ s. Takes s now x) is
-    (taken-list seen now old new x writes tied w (ap (λ (z : Seen). member x (list_after z.table z.log)) is ∙ x-in) list now-is twice)
+    → now ≡ record { table = seen.table; log = log_of_all seen.log writes (note_word (Take x)) } → length writes ≡ 1 → WrittenAtMost 1 old new
+    → Takes before now x
+taken-now seen before now old new x writes is tied w x-in list now-is one once = subst (λ s. Takes s now x) is
+    (taken-list seen now old new x writes tied w (ap (λ (z : Seen). member x (list_after z.table z.log)) is ∙ x-in) list now-is one once)

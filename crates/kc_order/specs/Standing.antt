@@ -130,8 +130,8 @@ pub record TwoCollects (old new : PassSeen) (x y : ℕ) (answer : Answer) : Type
   pub first : Steps old middle 4 1
   pub second : EndsSecond collect middle new answer
 
--- What a comparison answers: by its arguments alone, by the load of an item's word, or by two collects, which it makes once. A sure
--- answer is how the two stood after one prefix, and takes eight loads; `Again` takes four and those up to the word that differs.
+-- What a comparison answers: by its arguments alone, by the load of an item's word, or by two collects of the caller's pass. A sure
+-- answer is how the two stood after one prefix, and takes eight loads of that pass; `Again` takes four and those up to the word that differs.
 abbrev pub Compares : PassSeen → PassSeen → ℕ → ℕ → Answer → Type 0
 Compares old new x y answer.Before =
     (x ≢ y) × StoodBefore old.table old.log new.log x y × TwoCollects old new x y answer.Before × Steps old new 8 1

@@ -60,10 +60,10 @@ pub record Leaves (new : Seen) (entries : List Entry) (unsealed : List ℕ) (wor
   pub words_are : (v : ℕ) → vertex_word_after new v ≡ words v
   pub quiet : (word : ℕ) → FollowsNote (state_of new.table.shape new.table.opening new.log).note word
 
--- no word of an item or a group has risen by more than two versions
-abbrev pub AreRaised : Seen → Seen → Type 0
-AreRaised old new = (word : ℕ) → IsVersioned old.table.shape word
-    → version_of (value_at new.table.opening new.log word) ≤ version_of (value_at old.table.opening old.log word) + 2
+-- no word of an item or a group has risen by more than so many versions
+abbrev pub AreRaised : ℕ → Seen → Seen → Type 0
+AreRaised most old new = (word : ℕ) → IsVersioned old.table.shape word
+    → version_of (value_at new.table.opening new.log word) ≤ version_of (value_at old.table.opening old.log word) + most
 
 -- with an item that was put, where it is one of the `fixed` vertices
 abbrev pub with_open : ℕ → ℕ → List ℕ → List ℕ
@@ -73,14 +73,16 @@ with_open fixed x unsealed = if nat_lt x fixed then x ∷ unsealed else unsealed
 pub record Puts (old new : Seen) (x p : ℕ) : Type 0 where
   pub ends : EndsWith old new (Put x p) x
   pub list : list_after new.table new.log ≡ right_after x p (without x (list_after old.table old.log))
-  pub raised : AreRaised old new
+  pub raised : AreRaised 2 old new
   pub leaves : Leaves new (entries_after old) (with_open old.table.shape.fixed x (unsealed_after old)) (vertex_word_after old)
 
--- x is out now
+-- x is out now, by the note and one store of its word; no other label has changed
 pub record Takes (old new : Seen) (x : ℕ) : Type 0 where
   pub ends : EndsWith old new (Take x) x
+  pub value : ℕ
+  pub single : new.log ≡ old.log ++ event 0 (note_word (Take x)) ∷ event (1 + x) value ∷ []
   pub list : list_after new.table new.log ≡ without x (list_after old.table old.log)
-  pub raised : AreRaised old new
+  pub raised : AreRaised 1 old new
   pub leaves : Leaves new (entries_after old) (unsealed_after old) (vertex_word_after old)
 
 -- puts one after the other, each of an item right after another

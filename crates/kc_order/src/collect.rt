@@ -1,7 +1,7 @@
 //! The double collect: the words of two items and of their groups, each loaded twice.
 //!
-//! Each call says which loads it makes, in their order, and what they found: so an answer comes by the loads of this very call, and
-//! `precedes` makes its two collects once. It takes no lock and no memory.
+//! Each call says which loads the caller's pass makes, in their order, and what they found. So an answer comes by the loads of this very
+//! call, and `precedes` collects twice with that pass and no more. Loads of a pass that was split off are counted by no clause.
 ghost use Rattle.std.specs.Prelude.{◌≡◌, ◌≢◌, ◌<◌, ◌≤◌, ◌+◌, ◌↔◌, IfErr, IfNone, IfOk, IfSome, IsTrue};
 ghost use mathlib.Core.List.{IsPrefix};
 ghost use Rattle.kc_table.specs.Legal.{Legal};
@@ -227,8 +227,8 @@ pub fn second_collect(words: &Words, pass: &mut Pass, collect: Collect) -> Answe
 /// extends. It takes no lock and no memory.
 ///
 /// `Same` comes where they are one item, without a load. `Absent` comes where the word of one names no group, by the first load or the
-/// second. Else two collects are made, once: `Before` and `After` come where no word differs between its two loads, after eight loads, and
-/// `Again` where one does, after four loads and those up to that word.
+/// second. Else the pass makes two collects: `Before` and `After` come where no word differs between its two loads, after eight loads, and
+/// `Again` where one does, after four loads and those up to that word. All these are loads of the caller's pass.
 pub fn precedes(words: &Words, pass: &mut Pass, x: u32, y: u32) -> Answer
     requires table { pass.old.table ≡ words.now }
     requires x_in { x < words.now.shape.items }

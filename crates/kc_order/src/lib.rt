@@ -6,8 +6,9 @@
 //! the same four again. No value ever comes back to one of these words, so equal values held all four words at one moment, and the
 //! answer is how the list stood then: after one prefix of the writer's log that holds all that the caller had seen.
 //!
-//! Comparisons, loads and collects take no lock and no memory. Each contract says how many loads and splits of its pass it makes, so a
-//! comparison makes its two collects once. Nothing is said of progress: a comparison may answer `Again` each time.
+//! Comparisons, loads and collects take no lock and no memory. Each contract counts the loads and splits of the caller's pass: a sure
+//! answer takes eight loads, so that pass collects twice and no more. Loads of a pass that was split off are counted by no clause.
+//! Nothing is said of progress: a comparison may answer `Again` each time.
 #![tactic(auto)]
 
 pub mod answer;

@@ -2,10 +2,11 @@
 //!
 //! `SharedOrder` keeps the words outside of the lock and the writer behind it: comparisons take no lock, and a put or a take tells the
 //! caller's pass the log while it holds the lock.
-ghost use Rattle.std.specs.Prelude.{◌≡◌, ◌≢◌, ◌<◌, ◌≤◌, ◌+◌, OnOk, IfErr};
+ghost use Rattle.std.specs.Prelude.{◌≡◌, ◌≢◌, ◌<◌, ◌≤◌, ◌+◌, OnOk, OnErr, IfErr};
 ghost use mathlib.Core.List.{IsPrefix};
 ghost use Rattle.kc_order.specs.Shared.{EndsWithPut, EndsWithTake, IsReady, IsRefusal};
 ghost use Rattle.kc_order.specs.Standing.{Compares};
+ghost use Rattle.kc_order.specs.Writers.{Puts, Takes};
 
 use crate::answer::Answer;
 use crate::collect::precedes;
@@ -50,6 +51,7 @@ impl<K: Name> Kept<K> {
         Ok(())
     }
 
+    /// One put and nothing else, or a refusal at which nothing is stored; and the pass is told the log.
     fn put_after(
         &mut self,
         words: &Words,
@@ -60,7 +62,10 @@ impl<K: Name> Kept<K> {
         requires table { (pass.old.table ≡ K.table) × (words.now ≡ K.table) }
         requires items { (x < K.table.shape.items) × (p < K.table.shape.items) }
         requires differ { x ≢ p }
+        ensures alone { OnOk result (Puts self.old.writer self.new.writer x p) }
+        ensures same { OnErr result (self.new.writer ≡ self.old.writer) }
         ensures table { pass.new.table ≡ K.table }
+        ensures told { pass.new.log ≡ self.new.writer.log }
         ensures anew { (pass.new.loads ≡ 0) × (pass.new.splits ≡ 0) }
         ensures longer { IsPrefix pass.old.log pass.new.log }
         ensures put { OnOk result (EndsWithPut K.table pass.old.log pass.new.log x p) }
@@ -72,10 +77,14 @@ impl<K: Name> Kept<K> {
         Ok(())
     }
 
+    /// One take and nothing else, or a refusal at which nothing is stored; and the pass is told the log.
     fn take(&mut self, words: &Words, pass: &mut Pass, x: u32) -> Result<(), OrderFault>
         requires table { (pass.old.table ≡ K.table) × (words.now ≡ K.table) }
         requires item { x < K.table.shape.items }
+        ensures alone { OnOk result (Takes self.old.writer self.new.writer x) }
+        ensures same { OnErr result (self.new.writer ≡ self.old.writer) }
         ensures table { pass.new.table ≡ K.table }
+        ensures told { pass.new.log ≡ self.new.writer.log }
         ensures anew { (pass.new.loads ≡ 0) × (pass.new.splits ≡ 0) }
         ensures longer { IsPrefix pass.old.log pass.new.log }
         ensures taken { OnOk result (EndsWithTake K.table pass.old.log pass.new.log x) }
@@ -121,8 +130,11 @@ impl<K: Name> SharedOrder<K> {
     /// Moves or adds `x` right after `p`, under the lock. The pass is told the log there, so each answer speaks of what it has seen now.
     /// It begins anew with no load and no split.
     ///
-    /// `Absent` where `p` is out of the list, and `Spent` where it is in it and the versions of the words are spent; nothing is stored
-    /// then.
+    /// `Absent` where `p` is out of the list, and `Spent` where it is in it and the versions of the words are spent.
+    ///
+    /// Calls of other threads may come between what the pass had seen and the put. The clauses do not tell whose they were, so they do not
+    /// refuse a call that makes other lawful changes before its put or its refusal. The step that the lock guards is exact by its own
+    /// clauses: one put and nothing else, or no store.
     pub fn put_after<R: Wait>(
         &self,
         rt: &R,
@@ -142,7 +154,7 @@ impl<K: Name> SharedOrder<K> {
         self.kept.lock(rt).put_after(&self.words, pass, x, p)
     }
 
-    /// Takes `x` out, under the lock, with the same refusals of `x`.
+    /// Takes `x` out, under the lock, with the same refusals of `x`. What is said of other changes at `put_after` is so here too.
     pub fn take<R: Wait>(&self, rt: &R, pass: &mut Pass, x: u32) -> Result<(), OrderFault>
         requires table { pass.old.table ≡ K.table }
         requires item { x < K.table.shape.items }

@@ -104,7 +104,7 @@ impl Writer {
         }
     }
 
-    /// Takes `x` out: the note, and then the store at which the list changes.
+    /// Takes `x` out: the note, and then the store at which the list changes. No other word is stored.
     pub fn take(&mut self, words: &Words, x: u32)
         requires table { self.old.table ≡ words.now }
         requires x_in { member x (list_after self.old.table self.old.log) ≡ true }

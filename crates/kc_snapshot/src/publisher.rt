@@ -169,8 +169,8 @@ impl<J: BoardName, R: Wait + Drop> Publisher<J, R> {
     }
 
     /// Publishes the last list with the numbers that `core` has at these vertices, and answers the new one's number. So where no other
-    /// vertex has a new number, `core` is published. It waits as `publish` does, and costs these vertices alone. `NoMemory`: the history is
-    /// as it was.
+    /// vertex has a new number, `core` is published. It waits as `publish` does. Its cost is that of these vertices, which no clause says.
+    /// `NoMemory`: the history is as it was.
     pub fn publish_among<W: Wait>(
         &mut self,
         rt: &W,
@@ -191,8 +191,8 @@ impl<J: BoardName, R: Wait + Drop> Publisher<J, R> {
         self.publish_changes(rt, places)
     }
 
-    /// Publishes the last list with these places changed, and answers the new one's number. It waits as `publish` does, and costs the
-    /// places alone. `NoMemory`: the history is as it was.
+    /// Publishes the last list with these places changed, and answers the new one's number. It waits as `publish` does. Its cost is that
+    /// of the places, which no clause says. `NoMemory`: the history is as it was.
     pub fn publish_changes<W: Wait>(&mut self, rt: &W, places: Vec<Place>) -> Result<u32, NoMemory>
         requires room { length self.old < MOST_LISTS }
         ensures added { MatchResult result

@@ -1,5 +1,6 @@
 pub mod Fresh
 pub mod LegalLogs
+pub mod LegalSamples
 pub mod Listed
 pub mod Prefixes
 pub mod Putting

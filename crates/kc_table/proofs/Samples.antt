@@ -239,6 +239,11 @@ pub item-inside : Legal shape opening (event 2 (item 1 0 25) ∷ []) → ⊥
 unfolding state_of item_of item_word group_of group_word
 item-inside h = let l : 0 < 0 = ((legal-holds shape opening (event 2 (item 1 0 25) ∷ []) h).ordered.inside 1 refl).0 in omega (arith, l)
 
+-- no store may give an item of the list a group that the table does not have
+pub item-inside_the_groups : Legal shape opening (event 1 (item 1 5 10) ∷ []) → ⊥
+unfolding state_of item_of item_word group_of group_word
+item-inside_the_groups h = let l : 5 ≤ 4 = ((legal-holds shape opening (event 1 (item 1 5 10) ∷ []) h).ordered.inside 0 refl).1 in omega (arith, l)
+
 -- no store may give a group to an item that is out of the list
 pub item-outside : Legal shape opening (event 3 (item 1 1 40) ∷ []) → ⊥
 unfolding state_of item_of item_word group_of group_word

@@ -66,13 +66,17 @@ open_section = note (Enter true 7 0 1) ∷ note (Put 0 1) ∷ event 1 (item 1 1 
 abbrev pub sealed_section : List Event
 sealed_section = open_section ++ event 8 (vertex 2 1) ∷ []
 
--- An edge is entered and vertex 0 is not put; then its word is stored, as if it had been. (This log is not legal.)
-abbrev pub sealed_unmoved : List Event
-sealed_unmoved = note (Enter true 7 0 1) ∷ event 8 (vertex 2 0) ∷ []
-
 -- the sealed section, and then the edge is taken out again, and nothing moves
 abbrev pub two_entries : List Event
 two_entries = sealed_section ++ note (Enter false 8 0 1) ∷ []
+
+-- A log that is not legal. -------------------------------------------------------------------------
+
+-- an edge is entered and vertex 0 is not put; then its word is stored, as if it had been
+abbrev pub sealed_unmoved : List Event
+sealed_unmoved = note (Enter true 7 0 1) ∷ event 8 (vertex 2 0) ∷ []
+
+-- Graphs of two vertices. --------------------------------------------------------------------------
 
 -- two vertices, and no edge
 abbrev pub no_edges : SimpleGraph

@@ -130,6 +130,17 @@ pub fn entries_stay()
         → IsPrefix (state_of shape opening before).entries (state_of shape opening log).entries }
 {}
 
+/// The opening words of the small table open it, and its written-out logs are legal.
+pub fn the_written_out_logs_are_legal()
+    ensures opening { Opens sample.shape sample.opening }
+    ensures none { Legal sample.shape sample.opening [] }
+    ensures one_put { Legal sample.shape sample.opening sample.one_put }
+    ensures put_and_take { Legal sample.shape sample.opening sample.put_and_take }
+    ensures open_section { Legal sample.shape sample.opening sample.open_section }
+    ensures sealed_section { Legal sample.shape sample.opening sample.sealed_section }
+    ensures two_entries { Legal sample.shape sample.opening sample.two_entries }
+{}
+
 /// Opening words that break one condition each open no table.
 pub fn each_condition_of_opening_words_counts()
     ensures one_each { Opens sample.shape sample.longer_opening → ⊥ }
@@ -140,7 +151,8 @@ pub fn each_condition_of_opening_words_counts()
     ensures stamps { Opens sample.shape sample.stamped_opening → ⊥ }
 {}
 
-/// Logs whose last store breaks a condition are not legal. Each condition has a log of its own.
+/// Logs whose last store breaks a condition are not legal. Each condition has a log of its own. Without its last store each log is one
+/// of those that are legal, or begins one.
 pub fn each_condition_of_a_store_counts()
     // There is no word 9.
     ensures there { Legal sample.shape sample.opening (event 9 0 ∷ []) → ⊥ }
@@ -179,6 +191,8 @@ pub fn each_condition_of_a_store_counts()
     ensures ordered { Legal sample.shape sample.opening (event 2 (sample.item 1 1 10) ∷ []) → ⊥ }
     // Item 1 is in the list and has group 0.
     ensures inside { Legal sample.shape sample.opening (event 2 (sample.item 1 0 25) ∷ []) → ⊥ }
+    // Item 0 is in the list and has group 5, of four.
+    ensures inside_the_groups { Legal sample.shape sample.opening (event 1 (sample.item 1 5 10) ∷ []) → ⊥ }
     // Item 2 is out of the list and has a group.
     ensures outside { Legal sample.shape sample.opening (event 3 (sample.item 1 1 40) ∷ []) → ⊥ }
 {}

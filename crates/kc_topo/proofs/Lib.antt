@@ -6,5 +6,6 @@ pub mod Marks
 pub mod Opening
 pub mod Since
 pub mod Sorting
+pub mod Telling
 pub mod Trails
 pub mod Walks

@@ -9,8 +9,10 @@ use Rattle.kc_table.specs.declared.view.Event.{Event}
 use Rattle.kc_table.specs.Legal.{Legal}
 use Rattle.kc_table.specs.Log.{PassSeen, Seen, TableName}
 use Rattle.kc_order.specs.Runs.{InListOrder, MovesRun, with_run_after}
-use Rattle.kc_order.specs.Standing.{StandsBefore, list_after}
+use Rattle.kc_order.specs.Standing.{Between, StandsBefore, list_after}
 use Rattle.kc_order.specs.Writers.{HasRoom, IsHighest, Stores, entries_after, unsealed_after}
+use Rattle.kc_order.specs.declared.answer.Answer.{Answer}
+use Rattle.kc_order.specs.declared.answer.Answer.TheVariants as answer
 use Rattle.kc_topo.specs.declared.added.Added.{Added}
 use Rattle.kc_topo.specs.declared.added.Added.TheVariants as added
 use Rattle.kc_topo.specs.declared.fault.DagFault.{DagFault}
@@ -72,6 +74,21 @@ pub record AddsArcSince (table : TableName) (old new : List Event) (a b : ℕ) :
 abbrev pub IsAddedSince : TableName → List Event → List Event → ℕ → ℕ → Added → Type 0
 IsAddedSince table old new a b added.There = has_arc (arcs_after table new) a b ≡ true
 IsAddedSince table old new a b added.New = AddsArcSince table old new a b
+
+-- x stood before y after a prefix of the log, after which the list was topological for the arcs that were entered until then
+pub record StoodInDag (table : TableName) (old new : List Event) (x y : ℕ) : Type 0 where
+  pub prefix : List Event
+  pub between : Between old new prefix
+  pub stood : StandsBefore x y (list_after table prefix)
+  pub dag : IsDag table prefix
+
+-- What a comparison tells of a graph: a sure answer is how two vertices stood in such a list, and no vertex is ever absent.
+abbrev pub TellsOfDag : TableName → List Event → List Event → ℕ → ℕ → Answer → Type 0
+TellsOfDag table old new x y answer.Before = StoodInDag table old new x y
+TellsOfDag table old new x y answer.After = StoodInDag table old new y x
+TellsOfDag table old new x y answer.Same = x ≡ y
+TellsOfDag table old new x y (answer.Absent item) = ⊥
+TellsOfDag table old new x y (answer.Again again) = Unit {0}
 
 -- a pass that has seen this log and made no step since
 abbrev pub told : Seen → PassSeen

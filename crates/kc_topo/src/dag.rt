@@ -2,11 +2,12 @@
 //!
 //! `Dag` keeps the words outside of the lock and the arcs behind it: comparisons take no lock, and the calls that do tell the caller's
 //! pass the log while they hold it.
-ghost use Rattle.std.specs.Prelude.{◌≡◌, ◌<◌, IfOk, IfErr};
+ghost use Rattle.std.specs.Prelude.{◌≡◌, ◌<◌, List, IfOk, IfErr, MatchResult};
 ghost use mathlib.Core.List.{IsPrefix};
+ghost use Rattle.kc_table.specs.declared.view.Event.{Event};
 ghost use Rattle.kc_order.specs.Standing.{Compares};
 ghost use Rattle.kc_topo.specs.Arcs.{arcs_after, has_arc};
-ghost use Rattle.kc_topo.specs.Dags.{IsAddedSince, IsDagAlong, IsRefused};
+ghost use Rattle.kc_topo.specs.Dags.{IsAdded, IsAddedSince, IsDagAlong, IsRefused, TellsOfDag};
 
 use crate::added::Added;
 use crate::arcs::Arcs;
@@ -26,6 +27,7 @@ struct Kept<K: Name> {
 }
 
 impl<K: Name> Kept<K> {
+    /// One arc and nothing else, or no store; and the pass is told the log.
     fn add(
         &mut self,
         alloc: Global,
@@ -36,6 +38,8 @@ impl<K: Name> Kept<K> {
     ) -> Result<Added, DagFault>
         requires table { (pass.old.table ≡ K.table) × (words.now ≡ K.table) }
         requires vertices { (a < K.table.shape.items) × (b < K.table.shape.items) }
+        ensures alone { MatchResult result (IsAdded self.old.arcs self.new.arcs a b) (λ fault. self.new.arcs ≡ self.old.arcs) }
+        ensures told { pass.new.log ≡ self.new.arcs.log }
         ensures table { pass.new.table ≡ K.table }
         ensures anew { (pass.new.loads ≡ 0) × (pass.new.splits ≡ 0) }
         ensures longer { IsPrefix pass.old.log pass.new.log }
@@ -46,9 +50,12 @@ impl<K: Name> Kept<K> {
         self.arcs.add(alloc, words, pass, a, b)
     }
 
+    /// Whether the arc stands; the pass is told the log, and nothing is stored.
     fn arc(&mut self, words: &Words, pass: &mut Pass, a: u32, b: u32) -> bool
         requires table { (pass.old.table ≡ K.table) × (words.now ≡ K.table) }
         requires vertices { (a < K.table.shape.items) × (b < K.table.shape.items) }
+        ensures same { self.new.arcs ≡ self.old.arcs }
+        ensures told { pass.new.log ≡ self.new.arcs.log }
         ensures table { pass.new.table ≡ K.table }
         ensures anew { (pass.new.loads ≡ 0) × (pass.new.splits ≡ 0) }
         ensures longer { IsPrefix pass.old.log pass.new.log }
@@ -93,6 +100,10 @@ impl<K: Name> Dag<K> {
     /// has seen now, after each prefix of which the list is topological for the arcs. It begins anew with no load and no split.
     ///
     /// `New` comes only where the pass had not seen the arc before, and its entry is the last that it has seen now.
+    ///
+    /// Calls of other threads may come between what the pass had seen and this one. The clauses do not tell whose they were, so they do not
+    /// refuse a call that enters other lawful arcs first, also before a refusal, or that enters the arc and answers `There`. The step that
+    /// the lock guards is exact by its own clauses: one arc and nothing else, or no store.
     pub fn add<R: Wait>(
         &self,
         rt: &R,
@@ -113,19 +124,26 @@ impl<K: Name> Dag<K> {
         self.kept.lock(rt).add(alloc, &self.words, pass, a, b)
     }
 
-    /// How two vertices stand, as `kc_order::precedes` tells. It takes no lock and no memory. The list by which it answers is topological
-    /// for each arc that was entered until then: a later `add` or `arc` of the same pass tells so of each prefix that it has seen.
+    /// How two vertices stand, as `kc_order::precedes` tells. It takes no lock and no memory.
+    ///
+    /// A sure answer is how the two stood after one prefix of the log, between what the pass had seen and what it has seen now. That the
+    /// list was topological then for each arc entered until then, the pass does not know yet. It learns it from a later `add` or `arc`,
+    /// whose `dag` speaks of each prefix of the log that it tells. With such a log `tells` gives it for this answer. A pass that never
+    /// takes the lock learns it of no answer.
     pub fn precedes(&self, pass: &mut Pass, x: u32, y: u32) -> Answer
         requires table { pass.old.table ≡ K.table }
         requires vertices { (x < K.table.shape.items) × (y < K.table.shape.items) }
         ensures table { pass.new.table ≡ K.table }
         ensures longer { IsPrefix pass.old.log pass.new.log }
         ensures answer { Compares pass.old pass.new x y result }
+        ensures tells { (log : List Event) → IsPrefix pass.new.log log → IsDagAlong K.table log
+            → TellsOfDag K.table pass.old.log pass.new.log x y result }
     {
         precedes(&self.words, pass, x, y)
     }
 
-    /// Whether the arc from `a` to `b` stands, under the lock, where the pass is told the log.
+    /// Whether the arc from `a` to `b` stands, under the lock, where the pass is told the log. What is said of other changes at `add` is
+    /// so here too.
     pub fn arc<R: Wait>(&self, rt: &R, pass: &mut Pass, a: u32, b: u32) -> bool
         requires table { pass.old.table ≡ K.table }
         requires vertices { (a < K.table.shape.items) × (b < K.table.shape.items) }

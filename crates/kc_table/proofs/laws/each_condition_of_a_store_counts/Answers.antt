@@ -56,6 +56,9 @@ returns-clause-ordered c = sample.list-ordered
 pub returns-clause-inside : goal.returns-clause-inside
 returns-clause-inside c = sample.item-inside
 
+pub returns-clause-inside_the_groups : goal.returns-clause-inside_the_groups
+returns-clause-inside_the_groups c = sample.item-inside_the_groups
+
 pub returns-clause-outside : goal.returns-clause-outside
 returns-clause-outside c = sample.item-outside
 

@@ -1,10 +1,10 @@
 -- The plain list's one write, stored with the note before it.
-use Rattle.std.proofs.Common.{subst}
+use Rattle.std.proofs.Common.{subst, ap, length, ◌∙◌}
 use Rattle.kc_words.specs.NoteWord.{note_word}
 use Rattle.kc_words.specs.declared.note.NoteWord.TheVariants.{Take}
 use Rattle.kc_table.specs.Legal.{Legal}
 use Rattle.kc_table.specs.Log.{Seen}
-use Rattle.kc_order.proofs.Writing.{Wrote, highest-at, item-fits, taken-at, taken-now, twice-take}
+use Rattle.kc_order.proofs.Writing.{Wrote, highest-at, item-fits, taken-at, taken-now, once-take}
 use Rattle.kc_order.proofs.writer.Writer.take.Goals.{After-writes}
 use Rattle.kc_order.proofs.writer.Writer.take.Goals as goal
 
@@ -35,4 +35,4 @@ returns c =
     let e = c.take.ensures in
     taken-now c.self.inside.seat c.args.self.now c.store_writes.new.seat c.self.inside.plain c.take.new.self c.args.x c.writes.result.now
     c.self.view_is c.self.invariant (take_written (goal.at.returns c).After-writes) c.requires.x_in e.list c.store_writes.ensures
-    (twice-take c.self.inside.plain c.take.new.self c.args.x e.written e.single)
+    (ap length c.writes.ensures ∙ e.single) (once-take c.self.inside.plain c.take.new.self c.args.x e.written e.single)
