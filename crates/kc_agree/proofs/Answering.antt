@@ -14,7 +14,7 @@ use Rattle.kc_view.specs.Answers.{Answers, has_core, with_place, with_order}
 use Rattle.kc_order.specs.Standing.{list_after}
 use Rattle.kc_agree.specs.Reads.{IsOrderOf, StoodSo, WereRead, place_after}
 use Rattle.kc_agree.specs.Stale.{AllCurrent, IsFirstStale}
-use Rattle.kc_agree.specs.Stamps.{made_by, place_stamp, edge_stamp, IsLastChange}
+use Rattle.kc_agree.specs.Stamps.{made_by, place_stamp, edge_stamp, IsChangeOf}
 use Rattle.kc_agree.specs.States.{AreCurrent, ArePresent}
 use Rattle.kc_agree.specs.declared.stale.Stale.{Stale}
 use Rattle.kc_agree.proofs.Growing.{one_place, one_order, reads_stay}
@@ -79,5 +79,5 @@ not_current table opened stamps log edge_stamps place_stamps a s present read st
 -- An edge stamp that is greater than the one at the opening is the number of an entry that changed the edges of the vertex.
 pub of_an_entry : (table : TableName) (opened : SimpleGraph) (stamps : List ℕ) (log : List Event) (v : ℕ)
     → get_or stamps v 0 < edge_stamp table opened stamps log v
-    → IsLastChange opened (made_by table log).entries table.shape.base v (edge_stamp table opened stamps log v)
+    → IsChangeOf opened (made_by table log).entries table.shape.base v (edge_stamp table opened stamps log v)
 of_an_entry table opened stamps log v later = last_changed opened (made_by table log).entries table.shape.base v (get_or stamps v 0) later

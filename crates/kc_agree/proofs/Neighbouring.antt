@@ -21,7 +21,7 @@ use Rattle.kc_table.specs.declared.view.Event.{Event}
 use Rattle.kc_table.specs.Edges.{after_entry, after_entries, edges_after}
 use Rattle.kc_table.specs.Log.{TableName}
 use Rattle.kc_table.proofs.LegalLogs.{entries-prefix}
-use Rattle.kc_agree.specs.Stamps.{made_by, number_of, changes_graph, names, last_change, edge_stamp, IsLastChange}
+use Rattle.kc_agree.specs.Stamps.{made_by, number_of, changes_graph, names, last_change, edge_stamp, IsChangeOf}
 
 -- An edge from a vertex to itself is none. ---------------------------------------------------------
 
@@ -256,7 +256,7 @@ not_applied g e differ none =
 
 -- a stamp that has risen is the number of an entry that changed the vertex's edges
 pub last_changed : (g : SimpleGraph) (es : List Entry) (number v stamp : ℕ) → stamp < last_change g es number v stamp
-    → IsLastChange g es number v (last_change g es number v stamp)
+    → IsChangeOf g es number v (last_change g es number v stamp)
 last_changed g [] number v stamp lt = absurd (omega (arith, lt))
 last_changed g (e ∷ es) number v stamp lt = elim (cases_Bool (changes_graph e g && names e v)) [
   | inl t ↦
@@ -265,7 +265,7 @@ last_changed g (e ∷ es) number v stamp lt = elim (cases_Bool (changes_graph e 
       elim (cases_lt (suc number) (from (suc number))) [
         | inl later ↦
             let behind = last_changed (after_entry g e) es (suc number) v (suc number) later in
-            subst (IsLastChange g (e ∷ es) number v) (sym is) (behind_first g e es number v _ behind)
+            subst (IsChangeOf g (e ∷ es) number v) (sym is) (behind_first g e es number v _ behind)
         | inr this ↦ record {
           front = [];
           entry = e;
@@ -280,11 +280,11 @@ last_changed g (e ∷ es) number v stamp lt = elim (cases_Bool (changes_graph e 
       let from : ℕ → ℕ = λ k. last_change (after_entry g e) es (suc number) v k in
       let is : last_change g (e ∷ es) number v stamp ≡ from stamp = ap (λ b. from (cond b (suc number) stamp)) f in
       let behind = last_changed (after_entry g e) es (suc number) v stamp (omega (arith, lt, is)) in
-      subst (IsLastChange g (e ∷ es) number v) (sym is) (behind_first g e es number v _ behind)
+      subst (IsChangeOf g (e ∷ es) number v) (sym is) (behind_first g e es number v _ behind)
 ]
   where
-    behind_first : (g : SimpleGraph) (e : Entry) (es : List Entry) (number v now : ℕ) → IsLastChange (after_entry g e) es (suc number) v now
-        → IsLastChange g (e ∷ es) number v now
+    behind_first : (g : SimpleGraph) (e : Entry) (es : List Entry) (number v now : ℕ) → IsChangeOf (after_entry g e) es (suc number) v now
+        → IsChangeOf g (e ∷ es) number v now
     behind_first g e es number v now h = record {
       front = e ∷ h.front;
       entry = h.entry;

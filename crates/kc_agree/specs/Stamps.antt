@@ -45,8 +45,9 @@ last_change g (e ∷ es) number v stamp =
 abbrev pub edge_stamp : TableName → SimpleGraph → List ℕ → List Event → ℕ → ℕ
 edge_stamp table opened stamps log v = last_change opened (made_by table log).entries table.shape.base v (slice_index stamps v)
 
--- `stamp` is the number of an entry that names the vertex and changes the graph that the entries before it have made.
-pub record IsLastChange (g : SimpleGraph) (es : List Entry) (number v stamp : ℕ) : Type 0 where
+-- `stamp` is the number of an entry that names the vertex and changes the graph that the entries before it have made. It need not be the
+-- last one such: that is `edge_stamp`.
+pub record IsChangeOf (g : SimpleGraph) (es : List Entry) (number v stamp : ℕ) : Type 0 where
   pub front : List Entry
   pub entry : Entry
   pub back : List Entry

@@ -26,7 +26,7 @@ ghost use Rattle.kc_order.specs.Standing.{StandsBefore, list_after};
 ghost use Rattle.kc_agree.specs.Moved.{StaysPut};
 ghost use Rattle.kc_agree.specs.Reads.{From, IsOrderOf, StoodSo, WasList, WasPlace, WereRead, place_after};
 ghost use Rattle.kc_agree.specs.Sections.{SealedIn};
-ghost use Rattle.kc_agree.specs.Stamps.{IsLastChange, changes_graph, core_after, edge_stamp, made_by, names, number_of, place_stamp};
+ghost use Rattle.kc_agree.specs.Stamps.{IsChangeOf, changes_graph, core_after, edge_stamp, made_by, names, number_of, place_stamp};
 ghost use Rattle.kc_agree.specs.States.{AreCurrent, AreOwn, ArePresent, IsAtRest, IsStateOf};
 ghost use Rattle.kc_agree.specs.Stale.{AllCurrent, IsFirstStale};
 ghost use Rattle.kc_agree.specs.declared.stale.Stale.{Stale};
@@ -169,7 +169,7 @@ pub fn an_edge_stamp_is_the_number_of_an_entry()
         → slice_index stamps v ≤ table.shape.base → edge_stamp table opened stamps log v ≤ number_of table log }
     ensures entry { (table : TableName) (opened : SimpleGraph) (stamps : List ℕ) (log : List Event) (v : ℕ)
         → slice_index stamps v < edge_stamp table opened stamps log v
-        → IsLastChange opened (made_by table log).entries table.shape.base v (edge_stamp table opened stamps log v) }
+        → IsChangeOf opened (made_by table log).entries table.shape.base v (edge_stamp table opened stamps log v) }
 {}
 
 /// A place stamp that has risen between two prefixes is the number of the section in which the vertex's word was stored since, and which

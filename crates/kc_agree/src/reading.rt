@@ -19,7 +19,8 @@ use kc_table::{Pass, Words, load, shape};
 use kc_view::{Memo, ViewFault};
 use kc_words::{Again, VertexWord};
 
-/// Reads the core number of a vertex that was not read yet: one load of its word, which has the place stamp too.
+/// Reads what the word of a vertex has as its core number, where it was not read yet: one load, which gives the place stamp too. While a
+/// section is open this need not be a core number of any graph of the run.
 pub fn read_core(words: &Words, pass: &mut Pass, memo: &mut Memo, v: u32) -> Result<u32, NoMemory>
     requires table { pass.old.table ≡ words.now }
     requires size { memo.old.size ≡ words.now.shape.fixed }

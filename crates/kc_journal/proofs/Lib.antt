@@ -8,6 +8,7 @@ pub mod Making
 pub mod Opening
 pub mod Preparing
 pub mod Putting
+pub mod Raising
 pub mod Renewing
 pub mod AfterEntry
 pub mod Telling

@@ -6,6 +6,7 @@ ghost use Rattle.kc_graph.specs.Core.{AreCoreNumbers};
 ghost use Rattle.kc_view.specs.Sure.{IsSure};
 ghost use Rattle.kc_agree.specs.Stamps.{edge_stamp, place_stamp};
 ghost use Rattle.kc_levels.specs.Levels.{IsTop, size_of};
+ghost use Rattle.kc_order.specs.Writers.{IsHighest};
 
 use crate::ahead::Ahead;
 use crate::answer::{EnterFault, Entered, Receipt};
@@ -196,6 +197,14 @@ impl Journal {
         self.levels.top()
     }
 
+    /// The greatest version of a word of the table. An entry needs room for three more a vertex that it moves, and takes two at most; a
+    /// fresh table has a small one again (`renew`). It is kept, not looked for.
+    pub fn highest(&self) -> u32
+        ensures { IsHighest self.now.levels.table self.now.levels.log result }
+    {
+        self.levels.highest()
+    }
+
     /// All entries of the run, oldest first.
     pub fn entries(&self) -> &[Entry]
         ensures { result.now ≡ self.now.entries }
@@ -217,7 +226,8 @@ impl Journal {
     /// the pass the whole log. All memory is taken before the first store, and none that the size of the graph counts for. Where the lists
     /// of both ends were made ahead, of lists that are the present ones, it copies none.
     ///
-    /// The journal is as it was after each fault. Of two causes that stand together the one that `EnterFault` names first comes.
+    /// The journal is as it was after each fault, and the pass has seen all that it had: so the same plan may be tried again. Of two causes
+    /// that stand together the one that `EnterFault` names first comes.
     pub fn enter(
         &mut self,
         words: &Words,
@@ -236,6 +246,7 @@ impl Journal {
         ensures cause { IfErr result (λ fault. IsCause self.old plan.now fault) }
         ensures same { OnErr result (self.new ≡ self.old) }
         ensures told { pass.new ≡ all_seen self.old }
+        ensures longer { IsPrefix pass.old.log self.old.levels.log }
     {
         self.levels.tell(words, pass);
         if let Some(fault) = self.refusal(plan) {

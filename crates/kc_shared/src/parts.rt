@@ -17,11 +17,12 @@ use std::mem;
 
 /// The words of a table, its stripes and its journal.
 ///
-/// By its type all three are of one table, with the same opening edges and opening edge stamps, and there are `STRIPES` stripes.
+/// By its type all three are of one table, with the same opening edges and opening edge stamps, and there are `STRIPES` stripes. These are
+/// private: the lock of a vertex's stripe is found by its place, so nobody else may change their order.
 #[derive(Drop)]
 pub struct Parts {
     pub words: Words,
-    pub stripes: Vec<Stripe>,
+    pub(crate) stripes: Vec<Stripe>,
     pub journal: Journal,
 }
 

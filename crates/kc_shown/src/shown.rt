@@ -119,6 +119,7 @@ impl<J: BoardName, R: Wait + Drop> Shown<J, R> {
         ensures cause { IfErr result (λ fault. IsCause self.old.journal plan.now fault) }
         ensures same { OnErr result (self.new.journal ≡ self.old.journal) }
         ensures told { pass.new ≡ all_seen self.old.journal }
+        ensures longer { IsPrefix pass.old.log self.old.journal.levels.log }
         ensures history { self.new.history ≡ self.old.history }
     {
         let entered = self.journal.enter(words, pass, index, plan, None)?;

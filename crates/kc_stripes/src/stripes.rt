@@ -140,7 +140,8 @@ impl<K: Name> Stripes<K> {
         })
     }
 
-    /// The stripes again, in their order. It takes no lock and no memory.
+    /// The stripes again. It takes no lock and no memory. Each lock gives its stripe back at the place where `new` found it; no clause says so,
+    /// since what a lock hides is known by its type alone.
     pub fn into_stripes(self) -> Vec<Stripe>
         ensures count { vec_len result ≡ STRIPES }
         ensures opened { All (λ s. s.opened ≡ opened_with K.table K.opening_edges K.opening_stamps) result.items }
@@ -174,7 +175,10 @@ impl<K: Name> Stripes<K> {
     }
 
     /// Puts a list in its vertex's place, where it is of a later entry. It takes the lock of the vertex's stripe, and no memory. `NoMemory`
-    /// comes exactly where the stripe under that lock lacks the vertex, and nothing is put then: no row of `open_stripes` is such.
+    /// comes where the stripe under that lock lacks the vertex, and nothing is put then: no row of `open_stripes` is such.
+    ///
+    /// Its clauses ask that the list is true, and say that the pass stays. That a list is put is no clause of it: what a lock hides is known by
+    /// its type alone. It is one of the step that is made under the lock.
     pub fn publish<R: Wait>(
         &self,
         rt: &R,

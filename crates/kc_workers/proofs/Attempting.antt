@@ -16,7 +16,7 @@ use Rattle.kc_table.proofs.Stamps.{number-grows}
 use Rattle.kc_journal.specs.declared.answer.Receipt.{Receipt}
 use Rattle.kc_stripes.specs.Reads.{WereReadSince}
 use Rattle.kc_stripes.specs.Records.{Opened}
-use Rattle.kc_shared.specs.Answers.{HasCause, IsReceipt}
+use Rattle.kc_shared.specs.Answers.{HasCause, IsPlanReceipt, IsReceipt}
 use Rattle.kc_shared.specs.Misses.{IsTrueMiss}
 use Rattle.kc_shared.specs.declared.fault.SharedFault.{SharedFault}
 use Rattle.kc_shared.specs.declared.fault.SharedFault.TheVariants as shared
@@ -80,7 +80,7 @@ refusal-faults o old new index plan update (shared.Spent highest needed) same is
     record { is_highest = is.is_highest; few = is.few; exceeds = is.exceeds }
 refusal-faults o old new index plan update (shared.NoMemory None) same is = tt
 refusal-faults o old new index plan update (shared.NoMemory (Some receipt)) same is =
-    receipt-since o old old new index plan.update update receipt same (prefix_self old) is
+    receipt-since o old old new index plan.update update receipt same (prefix_self old) is.of_update
 
 -- a refusal for a stale stamp is a true miss since the plan was begun
 refusal-misses : (o : Opened) (old before new : List Event) (index : ℕ) (plan : Plan) (update : Update) (f : SharedFault) → IsPrefix before new
@@ -109,9 +109,9 @@ inside-planned {o} {inside} {worker} {now} {update} plan is begins read same = r
 
 -- the receipt of a planned update is one since its worker began
 pub entered-so : {o : Opened} {old now new : List Event} {index : ℕ} {update : Update} {plan : Plan} {receipt : Receipt}
-    → IsPlanned o old now update plan → IsReceipt o now new index plan.update receipt → IsReceipt o old new index update receipt
+    → IsPlanned o old now update plan → IsPlanReceipt o now new index plan receipt → IsReceipt o old new index update receipt
 entered-so {o} {old} {now} {new} {index} {update} {plan} {receipt} p r =
-    receipt-since o old now new index plan.update update receipt p.update_is p.begins r
+    receipt-since o old now new index plan.update update receipt p.update_is p.begins r.of_update
 
 -- where a planned update was refused, and that is told as a miss, the miss is true
 pub missed-so : {o : Opened} {old now : List Event} {update : Update} {plan : Plan} (new : List Event) (index : ℕ) (f : SharedFault)

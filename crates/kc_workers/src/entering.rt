@@ -116,7 +116,7 @@ impl<K: Name + Ledger, G: Gate, R: Wait> Entering<'_, K, G, R> {
         Ok(None)
     }
 
-    /// Plans under the lock and enters there, and publishes before it gives the lock back. It is for one who has lost `MISSES` times.
+    /// Plans under the lock and enters there, and publishes before it gives the lock back. It is for one who shows `MISSES` true misses.
     pub(crate) fn under_lock(
         &self,
         worker: &mut Worker,

@@ -23,11 +23,11 @@ use std::sync::ledger::{Ledger, Share};
 /// The worker makes at most `MISSES` plans without the journal's lock, and tries to enter each. Where all are lost it takes the lock, and
 /// plans and enters under it. In either case the lists of both ends are published under the lock, where the edge changed.
 ///
-/// At Ok the new `seen`, but not the old one, has the entry that the receipt names; the misses are those of the plans that were lost, each
-/// true from the old `seen` to the new one. `NoMemory` with a receipt has entered the update too. After each other fault nothing of it is
-/// entered. `Full`: the entries after the new `seen`, together with those before the table, can't be numbered further. `Spent`: the
-/// greatest version after the new `seen` leaves no room for the moves. `part` counts one more exactly where the update was entered, and no
-/// fault makes what the worker has seen shorter.
+/// At Ok the new `seen`, but not the old one, has the entry that the receipt names; which vertices it moved, the puts of its section tell.
+/// There are at most `MISSES` misses, each true from the old `seen` to the new one. `NoMemory` with a receipt has entered the update too.
+/// After each other fault nothing of it is entered. `Full`: the entries after the new `seen`, together with those before the table, can't
+/// be numbered further. `Spent`: the greatest version after the new `seen` leaves no room for the moves. `part` counts one more exactly
+/// where the update was entered, and no fault makes what the worker has seen shorter.
 pub fn update<K: Name + Ledger, G: Gate, R: Wait>(
     rt: &R,
     alloc: Global,
