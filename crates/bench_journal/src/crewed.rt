@@ -7,7 +7,7 @@ ghost use Rattle.kc_words.specs.declared.layout.TheConstants.{INDICES as MOST_IN
 use crate::comparing::{Numbers, has_edges_of};
 use crate::graphs::{change, draw};
 use anyhow::{Result, bail};
-use kc_batch::{BatchDone, run_batch};
+use kc_batch::{BatchDone, CutShort, run_batch};
 use kc_draws::Draws;
 use kc_graph::{Graph, NoMemory, Update, decompose};
 use kc_levels::LAST_NUMBER;
@@ -107,10 +107,12 @@ fn follow_done<R: Clock>(
     entries: &[Entry],
     before: usize,
     start: Instant,
-    done: Result<BatchDone, NoMemory>,
+    done: Result<BatchDone, CutShort>,
 ) -> Result<Duration> {
     let took = start.elapsed(rt)?;
-    done?;
+    if done.is_err() {
+        bail!("no memory for the batch");
+    }
     let Some(made) = entries.get(before..) else {
         bail!("entries are lost");
     };
@@ -167,7 +169,7 @@ impl Crewed {
         rt: &R,
         alloc: Global,
         batch: &[Update],
-    ) -> (Crewed, Result<BatchDone, NoMemory>)
+    ) -> (Crewed, Result<BatchDone, CutShort>)
         requires indices { self.next + length batch.now ≤ MOST_INDICES }
         requires within { All (λ u. u.v < self.parts.words.shape.fixed) batch.now }
         requires numbers { length self.parts.journal.entries + length batch.now ≤ MOST_ENTRIES }

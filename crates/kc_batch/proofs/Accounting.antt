@@ -23,12 +23,12 @@ use Rattle.kc_shared.specs.declared.shared.TheConstants.{MISSES}
 use Rattle.kc_workers.specs.declared.done.Done.{Done}
 use Rattle.kc_batch.specs.Batches.{Account, WentOnBy}
 use Rattle.kc_batch.specs.Desks.{Work, all_done, all_receipts, at_places, in_hand, receipts_of, times_had}
-use Rattle.kc_batch.specs.Receipts.{AreAllOf, IsReceiptOf, told_indices}
+use Rattle.kc_batch.specs.Receipts.{AreAllOf, AreReceiptsOf, IsReceiptOf, told_indices}
 use Rattle.kc_batch.specs.Runs.{IsRenewal, StaysIn, WentOn}
 use Rattle.kc_batch.specs.Seats.{HasTrueMisses, IsReceiptIn, Rounds}
 use Rattle.kc_batch.specs.declared.left.Left.{Left}
 use Rattle.kc_batch.specs.declared.left.Left.TheVariants.{Nothing}
-use Rattle.kc_batch.proofs.Counting.{some_of}
+use Rattle.kc_batch.proofs.Counting.{each-told, some_of}
 use Rattle.kc_batch.proofs.Going.{went-entries, went-renewed, went-stays}
 use Rattle.kc_batch.proofs.Pacing.{pace-few, pace-renewed, pace-round}
 use Rattle.kc_batch.proofs.Telling.{receipt_of, receipt_of-earlier, receipt_of-grows}
@@ -152,11 +152,12 @@ told-once old now first batch ended works taken a d =
     distinct_times (told_indices (all_receipts works))
     (λ y. omega (arith, told-le first y works, a.balance y, times_distinct y (at_places first taken) (distinct-placed first taken d)))
 
--- What was made is some of the batch, and as much as there are receipts.
+-- What was made is some of the batch, and each of it has one receipt.
 pub record Made (old now : Journalled) (first : ℕ) (batch : List Update) (ended : List PassSeen) (works : List Work) : Type 0 where
   pub made : List Entry
   pub went : WentOnBy old now first batch ended made
   pub as_many : length made ≡ length (all_receipts works)
+  pub told : AreReceiptsOf now.started now.entries first batch (length old.entries) made (all_receipts works)
 
 -- an account with distinct places comes to some of the batch, each made at most once
 pub made_so : (old now : Journalled) (first : ℕ) (batch : List Update) (ended : List PassSeen) (works : List Work) (taken : List ℕ)
@@ -165,17 +166,20 @@ made_so old now first batch ended works taken a d =
     let pre = (went-entries ended old now a.went).1 in
     let rs = all_receipts works in
     let as_many : length rs ≡ length pre.0 = omega (arith, a.count, ap (λ (z : List Entry). length z) pre.1, length-append old.entries pre.0) in
+    let each : All (IsReceiptOf now.started (old.entries ++ pre.0) first batch (length old.entries)) rs =
+    subst (λ (z : List Entry). All (IsReceiptOf now.started z first batch (length old.entries)) rs) (sym pre.1) a.receipts in
+    let once : Distinct (told_indices rs) = told-once old now first batch ended works taken a d in
     record {
       made = pre.0;
       went = record {
         went = a.went;
         entries = sym pre.1;
-        some = some_of now.started old.entries pre.0 first batch rs
-            (subst (λ (z : List Entry). All (IsReceiptOf now.started z first batch (length old.entries)) rs) (sym pre.1) a.receipts)
-            (told-once old now first batch ended works taken a d) as_many;
+        some = some_of now.started old.entries pre.0 first batch rs each once as_many;
         few_tables = pace-few old now batch ended a.pace;
       };
       as_many = sym as_many;
+      told = subst (λ (z : List Entry). AreReceiptsOf now.started z first batch (length old.entries) pre.0 rs) pre.1
+          (each-told now.started old.entries pre.0 first batch rs each once as_many);
     }
 
 -- Where nothing is in hand and all was taken, all was made.

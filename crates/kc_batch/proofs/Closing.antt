@@ -1,7 +1,7 @@
 -- How a batch begins, what is given out between two rounds, and what it has come to at its end.
-use Rattle.std.proofs.Common.{◌≡◌, inl, inr, ℕ, ◌+◌, ◌<◌, ◌≤◌, List, [], ◌∷◌, ◌++◌, All, Contains, get_or, length, map, take, sum_by, refl, sym, ap}
+use Rattle.std.proofs.Common.{◌≡◌, inl, inr, ℕ, ◌+◌, ◌<◌, ◌≤◌, List, [], ◌∷◌, ◌++◌, All, Contains, drop, get_or, length, map, take, sum_by, refl, sym, ap, ap₂}
 use Rattle.std.proofs.Common.{zero, suc, true, false, ◌∙◌, subst, arith, append-nil, length-append}
-use Rattle.std.specs.Prelude.{Result, Ok, Err, IfOk, OnOk}
+use Rattle.std.specs.Prelude.{Option, None}
 use Rattle.std.specs.List.{flat_map}
 use Rattle.std.proofs.lemmas.Bool.{false_from_ne_true, true≢false}
 use Rattle.std.proofs.Math.Seq.{drop-append_seam}
@@ -15,6 +15,7 @@ use Rattle.kc_distinct.proofs.Members.{below_bound, member-cases, member-head}
 use Rattle.kc_distinct.proofs.Shared.{All-front}
 use Rattle.kc_distinct.proofs.Counting.{member_times, times_distinct, times_member}
 use Rattle.kc_graph.specs.declared.update.Update.{Update}
+use Rattle.kc_table.specs.declared.entry.Entry.{Entry}
 use Rattle.kc_table.specs.declared.view.Event.{Event}
 use Rattle.kc_table.specs.Log.{PassSeen, Seen, TableName}
 use Rattle.kc_journal.specs.Journals.{Journalled, Renews, Stands, all_seen, fresh_pass}
@@ -29,18 +30,20 @@ use Rattle.kc_shared.specs.States.{Parted, opened_by}
 use Rattle.kc_shared.specs.declared.shared.TheConstants.{MISSES}
 use Rattle.kc_workers.specs.declared.done.Done.{Done}
 use Rattle.kc_workers.specs.declared.share.Share.{Share}
-use Rattle.kc_batch.specs.Batches.{Account, Gives, IsCrew, IsCutShort, IsDone, IsStanding, MayGoOn, SomeKeeps, done_in, receipts_in}
-use Rattle.kc_batch.specs.Desks.{Desked, KeepsOneOf, Work, all_done, all_receipts, at_places, at_turns, in_hand, receipts_of, times_had, untold}
-use Rattle.kc_batch.specs.Receipts.{AreAllOf, IsReceiptOf, told_indices}
+use Rattle.kc_batch.specs.Batches.{Account, Gives, IsCrew, IsCutShort, IsDone, IsStanding, MayGoOn, SomeKeeps, done_in, entered_in, WentOnBy, entered_by, listed, receipts_in}
+use Rattle.kc_batch.specs.Desks.{Desked, KeepsOneOf, Work, all_done, all_receipts, at_places, at_turns, in_hand, receipts_of, times_had, untold, untold_of}
+use Rattle.kc_batch.specs.Receipts.{AreAllOf, AreReceiptsOf, IsReceiptOf, told_indices}
 use Rattle.kc_batch.specs.Runs.{IsNearlySpent, IsRenewal, StaysIn}
 use Rattle.kc_batch.specs.Seats.{HasTrueMisses, KeepsIfSpent, Rounds, backward}
 use Rattle.kc_batch.specs.declared.done.BatchDone.{BatchDone}
+use Rattle.kc_batch.specs.declared.done.CutShort.{CutShort}
 use Rattle.kc_batch.specs.declared.left.Left.{Left}
 use Rattle.kc_batch.specs.declared.left.Left.TheVariants.{Nothing, Kept, Dropped, Untold}
 use Rattle.kc_batch.specs.declared.line.Line.{Line}
 use Rattle.kc_batch.specs.declared.standing.Standing.{Standing}
 use Rattle.kc_batch.specs.declared.standing.Standing.TheVariants.{Free, Keeping, Short}
 use Rattle.kc_batch.proofs.Accounting.{account-renewed, account-round, distinct-placed, made_all, made_so, member-placed, told-le, told-once}
+use Rattle.kc_batch.proofs.Counting.{whole-told}
 use Rattle.kc_batch.proofs.Going.{stays-self}
 use Rattle.kc_batch.proofs.Rounding.{all-backward, all-unmapped, length-backward}
 use Rattle.kc_batch.proofs.Turning.{distinct_within-fewer, share-turned}
@@ -268,14 +271,9 @@ module _ {old : Journalled} {first : ℕ} {batch : List Update} {ended : List Pa
   shared : {turns : List ℕ} → IsShare line.queue.count turns → IsShare line.queue.count (at_turns line.order.items turns)
   shared {turns} share = share-turned h.order turns share
 
-  -- it may be cut short at any time
-  pub crew-cut : IsCutShort old now first batch × All (λ d. d.seen.table ≡ words) desks
-  crew-cut =
-      let made = made_so old now first batch ended (map (λ (d : Desked). d.work) desks) (places consumer) h.account (shared h.share).once in (
-        record { ended = ended; made = made.made; went = made.went },
-        All-weaker (λ (d : Desked). d.seen ≡ record { table = words; log = now.levels.log }) (λ (d : Desked). d.seen.table ≡ words)
-            (λ d e. ap (λ (s : Seen). s.table) e) desks h.told,
-      )
+  -- the places that it has taken are a share of the line
+  pub crew-taken : IsShare line.queue.count (places consumer)
+  crew-taken = shared h.share
 
   -- each of a crew keeps nothing, or one of the line
   pub crew-keeps : {works : List Work} → works ≡ map (λ d. d.work) desks → All (λ w. MayGoOn w.left) works
@@ -324,6 +322,17 @@ module _ {old : Journalled} {first : ℕ} {batch : List Update} {ended : List Pa
         share = h.share;
         order = h.order;
       })
+
+-- a crew is one too in the same parts, at the same desks and behind the same tables
+pub crew-same : {old : Journalled} {first : ℕ} {batch : List Update} {ended tables : List PassSeen} {line : Line} {parts others : Parted}
+    {desks after : List Desked} {consumer next : Consuming} → others ≡ parts → after ≡ desks → tables ≡ ended → next ≡ consumer
+    → IsCrew old first batch ended line parts.words parts.journal desks consumer
+    → IsCrew old first batch tables line others.words others.journal after next
+crew-same {old} {first} {batch} {ended} {tables} {line} {parts} {others} {desks} {after} {consumer} {next} same at behind taken h =
+    subst (λ (z : Parted). IsCrew old first batch tables line z.words z.journal after next) (sym same)
+    (subst (λ (z : List Desked). IsCrew old first batch tables line parts.words parts.journal z next) (sym at)
+    (subst (λ (z : List PassSeen). IsCrew old first batch z line parts.words parts.journal desks next) (sym behind)
+    (subst (λ (z : Consuming). IsCrew old first batch ended line parts.words parts.journal desks z) (sym taken) h)))
 
 -- A consumer has taken the next turn, which this place has.
 pub record HasTaken (line : Line) (place : ℕ) (consumer next : Consuming) : Type 0 where
@@ -472,6 +481,10 @@ none-had first y (w ∷ ws) none = omega (
   none-had first y ws (All-tail (λ (u : Work). u ≡ idle) w ws none),
 )
 
+-- nothing is a share of any number of places
+pub none-taken : (count : ℕ) → IsShare count []
+none-taken count = record { once = tt; below = λ x m. absurd (true≢false (sym m)) }
+
 -- the account of a call before its first round
 pub account-start : (j : Journalled) (first : ℕ) (batch : List Update) (works : List Work) → All (λ w. w ≡ idle) works → Account j j first batch [] works []
 account-start j first batch works none =
@@ -488,11 +501,27 @@ account-start j first batch works none =
       pace = inl refl;
     }
 
--- a batch that was not begun is cut short, with nothing made
-pub cut-at_start : (j : Journalled) (first : ℕ) (batch : List Update) → IsCutShort j j first batch
-cut-at_start j first batch =
+-- a list of no entries has none
+none-made : (made : List Entry) → length made ≡ 0 → made ≡ []
+none-made [] none = refl
+none-made (e ∷ es) none = absurd (omega (arith, none))
+
+-- a batch that was not begun is cut short, with nothing made and no shares
+pub cut-at_start : (j : Journalled) (first : ℕ) (batch : List Update) (workers : ℕ) (cut : CutShort) → cut.shares.items ≡ [] → cut.ended.items ≡ []
+    → IsCutShort j j first batch workers cut
+cut-at_start j first batch workers cut none here =
     let made = made_so j j first batch [] [] [] (account-start j first batch [] (All-nil (λ (w : Work). w ≡ idle))) tt in
-    record { ended = []; made = made.made; went = made.went }
+    let Few : Done → Type 0 = λ d. length d.misses.items ≤ MISSES in
+    let True : Done → Type 0 = HasTrueMisses (opened_by j) j.levels.log j.levels.log in
+    record {
+      made = made.made;
+      went = subst (λ (ps : List PassSeen). WentOnBy j j first batch ps made.made) (sym here) made.went;
+      receipts = subst (λ (ss : List Share). AreReceiptsOf j.started j.entries first batch (length j.entries) made.made (entered_in ss)) (sym none) made.told;
+      one_each = inr (none, none-made made.made made.as_many);
+      numbered = λ i d low. absurd (omega (arith, low, ap (λ (ss : List Share). length ss) none));
+      few = subst (λ (ss : List Share). All Few (done_in ss)) (sym none) (All-nil Few);
+      misses = λ _. subst (λ (ss : List Share). All True (done_in ss)) (sym none) (All-nil True);
+    }
 
 -- images from the end on are those of the list from its end on
 pub images-backward : {A B : Type 0} (f : A → B) (xs : List A) → map f (backward xs) ≡ backward (map f xs)
@@ -561,23 +590,57 @@ shared-done shares works is =
     sym (flat_map-map id (λ (s : Share). s.done.items) shares)
     ∙ (ap (λ (z : List (List Done)). flat_map id z) is ∙ flat_map-map id (λ (w : Work). w.done) works)
 
--- what was entered at the desks from the end on is what their work has from its end on
-done-back : (desks : List Desked) → map (λ d. d.work.done) (backward desks) ≡ map (λ w. w.done) (backward (map (λ d. d.work) desks))
-done-back desks =
-    images-backward (λ (d : Desked). d.work.done) desks
-    ∙ (ap backward (of-works desks) ∙ sym (images-backward (λ (w : Work). w.done) (map (λ (d : Desked). d.work) desks)))
+-- what could not be told, if anything, stands as a list of one receipt or of none
+listed-untold : (left : Left) → listed (untold_of left) ≡ untold left
+listed-untold Nothing = refl
+listed-untold (Kept place) = refl
+listed-untold (Dropped place) = refl
+listed-untold (Untold receipt) = refl
+
+-- where shares have what the workers have entered and what they could not tell, both have the same receipts
+shared-receipts : (shares : List Share) (works : List Work) → map (λ s. s.done.items) shares ≡ map (λ w. w.done) works
+    → map (λ s. s.untold) shares ≡ map (λ w. untold_of w.left) works → all_receipts works ≡ entered_in shares
+shared-receipts [] [] is late = refl
+shared-receipts [] (w ∷ ws) is late = absurd (omega (arith, ap (λ (z : List (List Done)). length z) is))
+shared-receipts (s ∷ ss) [] is late = absurd (omega (arith, ap (λ (z : List (List Done)). length z) is))
+shared-receipts (s ∷ ss) (w ∷ ws) is late =
+    let done : s.done.items ≡ w.done = ap (λ (z : List (List Done)). get_or z 0 []) is in
+    let one : s.untold ≡ untold_of w.left = ap (λ (z : List (Option Receipt)). get_or z 0 None) late in
+    let rest = shared-receipts ss ws (ap (λ (z : List (List Done)). drop 1 z) is) (ap (λ (z : List (Option Receipt)). drop 1 z) late) in
+    let f = λ (d : Done). d.receipt in
+    let first : receipts_of w ≡ entered_by s =
+    ap (λ (rs : List Receipt). map f w.done ++ rs) (sym (listed-untold w.left))
+    ∙ ap₂ (λ (ds : List Done) (o : Option Receipt). map f ds ++ listed o) (sym done) (sym one) in
+    ap₂ (λ (xs ys : List Receipt). xs ++ ys) first rest
+
+-- what the work at the desks has from the end on is what their work has from its end on
+works-back : {B : Type 0} (f : Work → B) (desks : List Desked) → map (λ d. f d.work) (backward desks) ≡ map f (backward (map (λ d. d.work) desks))
+works-back {B} f desks =
+    images-backward (λ (d : Desked). f d.work) desks
+    ∙ (ap backward (of-works desks) ∙ sym (images-backward f (map (λ (d : Desked). d.work) desks)))
   where
-    of-works : (ds : List Desked) → map (λ (d : Desked). d.work.done) ds ≡ map (λ (w : Work). w.done) (map (λ (d : Desked). d.work) ds)
+    of-works : (ds : List Desked) → map (λ (d : Desked). f d.work) ds ≡ map f (map (λ (d : Desked). d.work) ds)
     of-works [] = refl
-    of-works (d ∷ ds) = ap (λ (z : List (List Done)). d.work.done ∷ z) (of-works ds)
+    of-works (d ∷ ds) = ap (λ (z : List B). f d.work ∷ z) (of-works ds)
+
+-- where nothing is left, no share has an update that could not be told
+all-told : (shares : List Share) (desks : List Desked) → All (λ d. d.work.left ≡ Nothing) desks
+    → map (λ s. s.untold) shares ≡ map (λ d. untold_of d.work.left) (backward desks) → All (λ s. s.untold ≡ None) shares
+all-told shares desks none late =
+    let No : Option Receipt → Type 0 = λ o. o ≡ None in
+    let at_desks : All (λ d. No (untold_of d.work.left)) desks =
+    All-weaker (λ (d : Desked). d.work.left ≡ Nothing) (λ (d : Desked). No (untold_of d.work.left)) (λ d e. ap untold_of e) desks none in
+    all-unmapped No (λ (s : Share). s.untold) shares (subst (All No) (sym late)
+    (All-map No (λ (d : Desked). untold_of d.work.left) (backward desks) (all-backward (λ (d : Desked). No (untold_of d.work.left)) desks at_desks)))
 
 -- What a batch has come to, where all was taken and nothing is left.
 pub done-so : (old now : Journalled) (first : ℕ) (batch : List Update) (desks : List Desked) (taken : List ℕ) (workers : ℕ) (done : BatchDone)
     → Account old now first batch done.ended.items (map (λ d. d.work) desks) taken → IsWhole (length batch) taken → All (λ d. d.work.left ≡ Nothing) desks
-    → map (λ s. s.done.items) done.shares.items ≡ map (λ d. d.work.done) (backward desks) → length done.shares.items ≡ workers
+    → map (λ s. s.done.items) done.shares.items ≡ map (λ d. d.work.done) (backward desks)
+    → map (λ s. s.untold) done.shares.items ≡ map (λ d. untold_of d.work.left) (backward desks) → length done.shares.items ≡ workers
     → ((i : ℕ) (d : Share) → i < length done.shares.items → (get_or done.shares.items i d).worker ≡ i)
     → IsDone old now first batch workers done
-done-so old now first batch desks taken workers done a whole none is many numbered =
+done-so old now first batch desks taken workers done a whole none is late many numbered =
     let works = map (λ (d : Desked). d.work) desks in
     let back = backward works in
     let ended = done.ended.items in
@@ -585,7 +648,7 @@ done-so old now first batch desks taken workers done a whole none is many number
     let left = all-backward (λ (w : Work). w.left ≡ Nothing) works (All-map (λ (w : Work). w.left ≡ Nothing) (λ (d : Desked). d.work) desks none) in
     let made = made_so old now first batch ended back taken b whole.share.once in
     let all = made_all old now first batch ended back taken b whole left in
-    let same : done_in done.shares.items ≡ all_done back = shared-done done.shares.items back (is ∙ done-back desks) in
+    let same : done_in done.shares.items ≡ all_done back = shared-done done.shares.items back (is ∙ works-back (λ (w : Work). w.done) desks) in
     let told : all_receipts back ≡ receipts_in done.shares.items =
     told-done back left ∙ ap (λ (z : List Done). map (λ (d : Done). d.receipt) z) (sym same) in
     record {
@@ -593,21 +656,80 @@ done-so old now first batch desks taken workers done a whole none is many number
       went = made.went;
       as_many = made.as_many ∙ all.as_many;
       receipts = subst (AreAllOf now.started now.entries first batch (length old.entries)) told all.receipts;
+      told = all-told done.shares.items desks none late;
       one_each = many;
       numbered = numbered;
       few = subst (All (λ (d : Done). length d.misses.items ≤ MISSES)) (sym same) b.few;
       misses = λ none. subst (All (HasTrueMisses (opened_by now) old.levels.log now.levels.log)) (sym same) (b.misses none);
     }
 
--- what follows of what holds at Ok, and of what else is so then, holds at Ok
-pub if_ok_and : {T E : Type 0} (r : Result T E) (P Q : T → Type 0) (R : Type 0) → IfOk r P → OnOk r R → ((x : T) → P x → R → Q x) → IfOk r Q
-if_ok_and (Ok x) P Q R p so follows = follows x p so
-if_ok_and (Err e) P Q R p so follows = tt
+-- What a batch has come to, where memory ran out.
+pub cut-so : (old now : Journalled) (first : ℕ) (batch : List Update) (desks : List Desked) (taken : List ℕ) (workers : ℕ) (cut : CutShort)
+    → Account old now first batch cut.ended.items (map (λ d. d.work) desks) taken → Distinct taken
+    → map (λ s. s.done.items) cut.shares.items ≡ map (λ d. d.work.done) (backward desks)
+    → map (λ s. s.untold) cut.shares.items ≡ map (λ d. untold_of d.work.left) (backward desks) → length cut.shares.items ≡ workers
+    → ((i : ℕ) (d : Share) → i < length cut.shares.items → (get_or cut.shares.items i d).worker ≡ i)
+    → IsCutShort old now first batch workers cut
+cut-so old now first batch desks taken workers cut a once is late many numbered =
+    let works = map (λ (d : Desked). d.work) desks in
+    let back = backward works in
+    let ended = cut.ended.items in
+    let shares = cut.shares.items in
+    let b = account-backward old now first batch ended works taken a in
+    let made = made_so old now first batch ended back taken b once in
+    let dones = is ∙ works-back (λ (w : Work). w.done) desks in
+    let same : done_in shares ≡ all_done back = shared-done shares back dones in
+    let told : all_receipts back ≡ entered_in shares =
+    shared-receipts shares back dones (late ∙ works-back (λ (w : Work). untold_of w.left) desks) in
+    record {
+      made = made.made;
+      went = made.went;
+      receipts = subst (AreReceiptsOf now.started now.entries first batch (length old.entries) made.made) told made.told;
+      one_each = inl many;
+      numbered = numbered;
+      few = subst (All (λ (d : Done). length d.misses.items ≤ MISSES)) (sym same) b.few;
+      misses = λ none. subst (All (HasTrueMisses (opened_by now) old.levels.log now.levels.log)) (sym same) (b.misses none);
+    }
+
+-- where no share has an update that could not be told, all that was entered is told
+entered-told : (shares : List Share) → All (λ s. s.untold ≡ None) shares → receipts_in shares ≡ entered_in shares
+entered-told [] none = refl
+entered-told (s ∷ ss) none =
+    let f = λ (d : Done). d.receipt in
+    let No : Share → Type 0 = λ s. s.untold ≡ None in
+    map-append f s.done.items (done_in ss)
+    ∙ ap₂ (λ (xs ys : List Receipt). xs ++ ys)
+    (sym (append-nil (map f s.done.items)) ∙ ap (λ (o : Option Receipt). map f s.done.items ++ listed o) (sym (All-head No s ss none)))
+    (entered-told ss (All-tail No s ss none))
+
+-- A batch that was entered whole has come to what one has that is cut short: all its updates are some of them.
+pub done-cut : {old now : Journalled} {first : ℕ} {batch : List Update} {workers : ℕ} {done : BatchDone} (cut : CutShort)
+    → cut.shares.items ≡ done.shares.items → cut.ended.items ≡ done.ended.items → IsDone old now first batch workers done
+    → IsCutShort old now first batch workers cut
+done-cut {old} {now} {first} {batch} {workers} {done} cut shares ended h =
+    let Few : Done → Type 0 = λ d. length d.misses.items ≤ MISSES in
+    let told : receipts_in done.shares.items ≡ entered_in cut.shares.items =
+    entered-told done.shares.items h.told ∙ ap entered_in (sym shares) in
+    let all : AreAllOf now.started (old.entries ++ h.made) first batch (length old.entries) (receipts_in done.shares.items) =
+    subst (λ (z : List Entry). AreAllOf now.started z first batch (length old.entries) (receipts_in done.shares.items)) h.went.entries h.receipts in
+    record {
+      made = h.made;
+      went = subst (λ (ps : List PassSeen). WentOnBy old now first batch ps h.made) (sym ended) h.went;
+      receipts = subst (λ (z : List Entry). AreReceiptsOf now.started z first batch (length old.entries) h.made (entered_in cut.shares.items))
+          (sym h.went.entries)
+          (subst (AreReceiptsOf now.started (old.entries ++ h.made) first batch (length old.entries) h.made) told
+          (whole-told now.started old.entries h.made first batch (receipts_in done.shares.items) all h.went.some));
+      one_each = inl (ap (λ (ss : List Share). length ss) shares ∙ h.one_each);
+      numbered = subst (λ (ss : List Share). (i : ℕ) (d : Share) → i < length ss → (get_or ss i d).worker ≡ i) (sym shares) h.numbered;
+      few = subst (λ (ss : List Share). All Few (done_in ss)) (sym shares) h.few;
+      misses = λ none. subst (λ (ss : List Share). All (HasTrueMisses (opened_by now) old.levels.log now.levels.log) (done_in ss)) (sym shares)
+          (h.misses (sym ended ∙ none));
+    }
 
 -- a batch without updates is taken whole
 pub whole-none : (count : ℕ) → count ≡ 0 → IsWhole count []
 whole-none count none = record {
-  share = record { once = tt; below = λ x m. absurd (true≢false (sym m)) };
+  share = none-taken count;
   all = λ x low. absurd (omega arith);
 }
 
@@ -638,7 +760,7 @@ crew-start parts first batch line desks consumer table told none is order =
       told = told;
       of_queue = ap (λ (c : Consuming). c.queue) is;
       parts = ap (λ (c : Consuming). c.parts) is;
-      share = subst (IsShare line.queue.count) (sym taken) (record { once = tt; below = λ x m. absurd (true≢false (sym m)) });
+      share = subst (IsShare line.queue.count) (sym taken) (none-taken line.queue.count);
       order = order;
     }
 
@@ -665,3 +787,11 @@ pub stood-all-so : (P : Seen → Type 0) (workers : List Seen) (desks : List Des
     → All P workers
 stood-all-so P workers desks is h =
     subst (All P) (sym is) (All-map P (λ (d : Desked). d.seen) (backward desks) (all-backward (λ (d : Desked). P d.seen) desks h))
+
+-- those who have stood up are of the table that all at the desks were told of
+pub told-tables : (workers : List Seen) (desks : List Desked) (words : TableName) (log : List Event) → workers ≡ map (λ d. d.seen) (backward desks)
+    → All (λ d. d.seen ≡ record { table = words; log = log }) desks → All (λ w. w.table ≡ words) workers
+told-tables workers desks words log is told =
+    stood-all-so (λ (s : Seen). s.table ≡ words) workers desks is
+    (All-weaker (λ (d : Desked). d.seen ≡ record { table = words; log = log }) (λ (d : Desked). d.seen.table ≡ words)
+    (λ d e. ap (λ (s : Seen). s.table) e) desks told)

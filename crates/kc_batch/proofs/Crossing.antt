@@ -74,6 +74,15 @@ seat_send K n l =
       worker_send,
       (
         search (sendable, crosses) depth 20,
-        (search (sendable, crosses) depth 20, (share.the_send K l, (consumer_send, (search (sendable, crosses) depth 20, (search (sendable, crosses) depth 20, tt))))),
+        (
+          search (sendable, crosses) depth 20,
+          (
+            share.the_send K l,
+            (
+              consumer_send,
+              (search (sendable, crosses) depth 20, (search (sendable, crosses) depth 20, tt)),
+            ),
+          ),
+        ),
       ),
     )))

@@ -1,5 +1,5 @@
 -- What a batch leaves behind.
-use Rattle.std.specs.Prelude.{◌≡◌, ◌<◌, ◌≤◌, ◌+◌, ◌⊎◌, ⊤, ℕ, List, [], ◌∷◌, ◌++◌, All, Contains, length, map, slice_index_or, sum_by}
+use Rattle.std.specs.Prelude.{◌≡◌, ◌<◌, ◌≤◌, ◌+◌, ◌⊎◌, ⊤, ℕ, List, [], ◌∷◌, ◌++◌, All, Contains, Option, None, Some, length, map, slice_index_or, sum_by}
 use Rattle.std.specs.List.{flat_map}
 use Rattle.kc_distinct.specs.Lists.{times}
 use Rattle.kc_graph.specs.declared.update.Update.{Update}
@@ -14,23 +14,37 @@ use Rattle.kc_shared.specs.declared.shared.TheConstants.{MISSES}
 use Rattle.kc_workers.specs.declared.done.Done.{Done}
 use Rattle.kc_workers.specs.declared.share.Share.{Share}
 use Rattle.kc_batch.specs.Desks.{Desked, Work, all_done, all_receipts, at_places, at_turns, times_had}
-use Rattle.kc_batch.specs.Receipts.{AreAllOf, AreSomeOf, IsReceiptOf}
+use Rattle.kc_batch.specs.Receipts.{AreAllOf, AreReceiptsOf, AreSomeOf, IsReceiptOf}
 use Rattle.kc_batch.specs.Runs.{WentOn}
 use Rattle.kc_batch.specs.Seats.{HasTrueMisses}
 use Rattle.kc_batch.specs.declared.done.BatchDone.{BatchDone}
+use Rattle.kc_batch.specs.declared.done.CutShort.{CutShort}
 use Rattle.kc_batch.specs.declared.left.Left.{Left}
 use Rattle.kc_batch.specs.declared.left.Left.TheVariants as left
 use Rattle.kc_batch.specs.declared.line.Line.{Line}
 use Rattle.kc_batch.specs.declared.standing.Standing.{Standing}
 use Rattle.kc_batch.specs.declared.standing.Standing.TheVariants as standing
 
--- all that the workers have entered
+-- all that the workers have entered and told
 abbrev pub done_in : List Share → List Done
 done_in shares = flat_map (λ s. s.done.items) shares
 
--- the receipts of all that the workers have entered
+-- the receipts of all that the workers have entered and told
 abbrev pub receipts_in : List Share → List Receipt
 receipts_in shares = map (λ d. d.receipt) (done_in shares)
+
+-- a receipt, if there is one
+abbrev pub listed : Option Receipt → List Receipt
+listed None = []
+listed (Some receipt) = receipt ∷ []
+
+-- the receipts of all that a worker has entered: of what it told, and of an update that was entered when memory ran out
+abbrev pub entered_by : Share → List Receipt
+entered_by s = map (λ d. d.receipt) s.done.items ++ listed s.untold
+
+-- the receipts of all that the workers have entered
+abbrev pub entered_in : List Share → List Receipt
+entered_in shares = flat_map entered_by shares
 
 -- The run went on so over these tables, of which no more were ended than the batch has updates, and made some entries of the batch's updates,
 -- each at most once.
@@ -40,26 +54,32 @@ pub record WentOnBy (old new : Journalled) (first : ℕ) (batch : List Update) (
   pub some : AreSomeOf first batch made
   pub few_tables : length ended ≤ length batch
 
--- where no table was ended, each miss is true from the start of the call to its end
+-- Where no table was ended, each miss is true from the start of the call to its end. Where one was, nothing more is said of them.
 abbrev pub AreTrueMisses : Journalled → Journalled → List PassSeen → List Done → Type 0
 AreTrueMisses old new ended done = ended ≡ [] → All (HasTrueMisses (opened_by new) old.levels.log new.levels.log) done
 
--- Each update of the batch was entered once, and stands in one share once. There is one share for each worker, in turn.
+-- Each update of the batch was entered once, and stands in one share once; all were told. There is one share for each worker, in turn.
 pub record IsDone (old new : Journalled) (first : ℕ) (batch : List Update) (workers : ℕ) (done : BatchDone) : Type 0 where
   pub made : List Entry
   pub went : WentOnBy old new first batch done.ended.items made
   pub as_many : length made ≡ length batch
   pub receipts : AreAllOf new.started new.entries first batch (length old.entries) (receipts_in done.shares.items)
+  pub told : All (λ s. s.untold ≡ None) done.shares.items
   pub one_each : length done.shares.items ≡ workers
   pub numbered : (i : ℕ) (d : Share) → i < length done.shares.items → (slice_index_or done.shares.items i d).worker ≡ i
   pub few : All (λ d. length d.misses.items ≤ MISSES) (done_in done.shares.items)
   pub misses : AreTrueMisses old new done.ended.items (done_in done.shares.items)
 
--- Nothing but some of the batch's updates was entered, each at most once.
-pub record IsCutShort (old new : Journalled) (first : ℕ) (batch : List Update) : Type 0 where
-  pub ended : List PassSeen
+-- Memory ran out. Nothing but some of the batch's updates was entered, each at most once; each entry has one receipt in the shares, and no
+-- other receipt is there. There is one share for each worker, in turn, or there is none, and then nothing was entered.
+pub record IsCutShort (old new : Journalled) (first : ℕ) (batch : List Update) (workers : ℕ) (cut : CutShort) : Type 0 where
   pub made : List Entry
-  pub went : WentOnBy old new first batch ended made
+  pub went : WentOnBy old new first batch cut.ended.items made
+  pub receipts : AreReceiptsOf new.started new.entries first batch (length old.entries) made (entered_in cut.shares.items)
+  pub one_each : (length cut.shares.items ≡ workers) ⊎ ((cut.shares.items ≡ []) × (made ≡ []))
+  pub numbered : (i : ℕ) (d : Share) → i < length cut.shares.items → (slice_index_or cut.shares.items i d).worker ≡ i
+  pub few : All (λ d. length d.misses.items ≤ MISSES) (done_in cut.shares.items)
+  pub misses : AreTrueMisses old new cut.ended.items (done_in cut.shares.items)
 
 -- How it stands with tables where one was ended in the call. The present one opened at version 0, when as many entries were made in the call
 -- as tables were ended before it, all but one, and not yet as many as the batch has updates. Where no entry was made in it, nothing was

@@ -1,5 +1,5 @@
 -- What contracts see of a worker's desk, and how what was taken is counted.
-use Rattle.std.specs.Prelude.{◌<◌, ◌+◌, ⊤, ℕ, List, [], ◌∷◌, ◌++◌, map, slice_index_or}
+use Rattle.std.specs.Prelude.{◌<◌, ◌+◌, ⊤, ℕ, List, [], ◌∷◌, ◌++◌, Option, None, Some, map, slice_index_or}
 use Rattle.std.specs.List.{flat_map}
 use Rattle.kc_distinct.specs.Lists.{times}
 use Rattle.kc_table.specs.Log.{Seen}
@@ -25,6 +25,13 @@ untold Nothing = []
 untold (Kept place) = []
 untold (Dropped place) = []
 untold (Untold receipt) = receipt ∷ []
+
+-- its receipt, if there is such an update
+abbrev pub untold_of : Left → Option Receipt
+untold_of Nothing = None
+untold_of (Kept place) = None
+untold_of (Dropped place) = None
+untold_of (Untold receipt) = Some receipt
 
 -- the index of an update that was taken and not entered
 abbrev pub in_hand : ℕ → Left → List ℕ

@@ -46,6 +46,15 @@ pub record AreSomeOf (first : ℕ) (batch : List Update) (made : List Entry) : T
 abbrev pub told_indices : List Receipt → List ℕ
 told_indices receipts = map (λ r. r.index) receipts
 
+-- Each of these entries, which were made behind the first `from`, has one receipt among these, and there is no other: each is of one of them,
+-- no two are of one index, and they are as many.
+pub record AreReceiptsOf (started : SimpleGraph) (entries : List Entry) (first : ℕ) (batch : List Update) (from : ℕ) (made : List Entry)
+    (receipts : List Receipt) : Type 0 where
+  pub each : All (IsReceiptOf started entries first batch from) receipts
+  pub once : Distinct (told_indices receipts)
+  pub as_many : length receipts ≡ length made
+  pub all : All (λ e. member e.index (told_indices receipts) ≡ true) made
+
 -- Each update of the batch has one receipt among these, and there is no other.
 pub record AreAllOf (started : SimpleGraph) (entries : List Entry) (first : ℕ) (batch : List Update) (from : ℕ) (receipts : List Receipt)
     : Type 0 where

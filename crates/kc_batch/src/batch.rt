@@ -1,19 +1,19 @@
 //! A batch of updates, entered by several workers.
-ghost use Rattle.std.specs.Prelude.{◌≡◌, ◌<◌, ◌≤◌, ◌+◌, ℕ, List, [], All, IfOk, OnErr, OnOk, length, map, slice_index_or};
+ghost use Rattle.std.specs.Prelude.{◌≡◌, ◌<◌, ◌≤◌, ◌+◌, ℕ, List, [], All, IfErr, IfOk, OnOk, length, map, slice_index_or};
 ghost use Rattle.std.specs.Prelude.{vec_len, vec_capacity};
 ghost use Rattle.kc_table.specs.Log.{TableName};
 ghost use Rattle.kc_queue.specs.declared.consumer.TheConstants.{WORKERS};
-ghost use Rattle.kc_queue.specs.Shares.{IsWhole};
+ghost use Rattle.kc_queue.specs.Shares.{IsShare, IsWhole};
 ghost use Rattle.kc_levels.specs.declared.levels.TheConstants.{LAST_NUMBER};
 ghost use Rattle.kc_journal.specs.Journals.{Stands};
 ghost use Rattle.kc_workers.specs.declared.share.Share.{Share as ShareOf};
 ghost use Rattle.kc_batch.specs.Batches.{Account, BatchOf, IsCrew, IsCutShort, IsDone};
-ghost use Rattle.kc_batch.specs.Desks.{KeepsOneOf, at_turns};
+ghost use Rattle.kc_batch.specs.Desks.{KeepsOneOf, at_turns, untold_of};
 ghost use Rattle.kc_batch.specs.Seats.{backward};
 
 use crate::crew::Crew;
 use crate::desk::Desk;
-use crate::done::BatchDone;
+use crate::done::{BatchDone, CutShort};
 use crate::left::Left;
 use crate::line::Line;
 use crate::order::order_of;
@@ -55,23 +55,25 @@ fn stand_up(mut desks: Vec<Desk>, workers: &mut Vec<Worker>, mut shares: Vec<Sha
     requires few { vec_len desks ≤ WORKERS }
     ensures workers { workers.new.items ≡ map (λ d. d.seen) (backward desks.items) }
     ensures done { map (λ s. s.done.items) result.items ≡ map (λ d. d.work.done) (backward desks.items) }
+    ensures untold { map (λ s. s.untold) result.items ≡ map (λ d. untold_of d.work.left) (backward desks.items) }
     ensures one_each { vec_len result ≡ vec_len desks }
     ensures numbered { (i : ℕ) (d : ShareOf) → i < length result.items → (slice_index_or result.items i d).worker ≡ i }
 {
     while let Some(desk) = desks.pop() {
-        let Desk { worker, done, .. } = desk;
+        let Desk { worker, done, left } = desk;
         workers.push_reserved(worker);
         let number = shares.len() as u32;
         shares.push_reserved(Share {
             worker: number,
             done,
+            untold: left.untold(),
         });
     }
     shares
 }
 
 /// Rounds of workers, with a renewal of the table between two of them where its versions are nearly spent, until all updates of the batch
-/// are entered or memory runs out.
+/// are entered or memory runs out. Gives a pass of each table that was ended, also where memory ran out.
 fn work_off<G: Gate + Sync, R: Threads + Wait + Sync>(
     rt: &R,
     alloc: Global,
@@ -80,7 +82,7 @@ fn work_off<G: Gate + Sync, R: Threads + Wait + Sync>(
     first: u32,
     batch: &[Update],
     gate: &G,
-) -> (Crew, Result<Vec<Pass>, NoMemory>)
+) -> (Crew, Vec<Pass>, Result<(), NoMemory>)
     ghost of: { BatchOf }
     requires of { (of.first ≡ first) × (of.batch ≡ batch.now) }
     requires crew { IsCrew of.old of.first of.batch [] line.now crew.parts.words crew.parts.journal crew.desks.items crew.consumer }
@@ -91,12 +93,10 @@ fn work_off<G: Gate + Sync, R: Threads + Wait + Sync>(
     requires indices { first + length batch.now ≤ INDICES }
     requires within { All (λ u. u.v < crew.parts.words.shape.fixed) batch.now }
     ensures as_many { vec_len result.0.desks ≡ vec_len crew.desks }
-    ensures crew { IfOk result.1 (λ ended. IsCrew of.old of.first of.batch ended.items line.now result.0.parts.words result.0.parts.journal
-        result.0.desks.items result.0.consumer) }
-    ensures whole { OnOk result.1 (IsWhole line.now.queue.count (at_turns line.now.order.items result.0.consumer.taken)
+    ensures crew { IsCrew of.old of.first of.batch result.1.items line.now result.0.parts.words result.0.parts.journal
+        result.0.desks.items result.0.consumer }
+    ensures whole { OnOk result.2 (IsWhole line.now.queue.count (at_turns line.now.order.items result.0.consumer.taken)
         × All (λ d. d.work.left ≡ Left.Nothing) result.0.desks.items) }
-    ensures cut_short { OnErr result.1 (IsCutShort of.old result.0.parts.journal of.first of.batch
-        × All (λ d. d.seen.table ≡ result.0.parts.words) result.0.desks.items) }
 {
     let mut ended = Vec::new(alloc);
     for _ in rt.forever() {
@@ -104,19 +104,20 @@ fn work_off<G: Gate + Sync, R: Threads + Wait + Sync>(
         let blank = Blank::new(crew.desks.len() as u64);
         crew = match round::<Brand, G, R>(rt, alloc, blank, crew, line, first, batch, gate) {
             Ok(after) => after,
-            Err(before) => return (before, Err(AllocError)),
+            Err(before) => return (before, ended, Err(AllocError)),
         };
         crew.parts.journal.look();
         match crew.go_on(rt, alloc, line, &mut ended) {
             Ok(true) => {}
-            Ok(false) => return (crew, Ok(ended)),
-            Err(fault) => return (crew, Err(fault)),
+            Ok(false) => return (crew, ended, Ok(())),
+            Err(fault) => return (crew, ended, Err(fault)),
         }
     }
     unreachable!()
 }
 
-/// Works off a batch from desks that have been told all and have nothing left. Gives them back with the parts and what `work_off` gives.
+/// Works off a batch from desks that have been told all and have nothing left. Gives them back with the parts and what `work_off` gives, also
+/// where memory runs out.
 fn run_desks<G: Gate + Sync, R: Threads + Wait + Sync>(
     rt: &R,
     alloc: Global,
@@ -125,7 +126,7 @@ fn run_desks<G: Gate + Sync, R: Threads + Wait + Sync>(
     first: u32,
     batch: &[Update],
     gate: &G,
-) -> (Parts, Vec<Desk>, Result<Vec<Pass>, NoMemory>)
+) -> (Parts, Vec<Desk>, Vec<Pass>, Result<(), NoMemory>)
     requires told { All (λ d. d.seen ≡ record { table = parts.words; log = parts.journal.levels.log }) desks.items }
     requires nothing { All (λ w. w ≡ record { done = []; left = Left.Nothing }) (map (λ d. d.work) desks.items) }
     requires some { (0 < vec_len desks) × (vec_len desks ≤ WORKERS) }
@@ -133,24 +134,22 @@ fn run_desks<G: Gate + Sync, R: Threads + Wait + Sync>(
     requires indices { first + length batch.now ≤ INDICES }
     requires within { All (λ u. u.v < parts.words.shape.fixed) batch.now }
     ensures as_many { vec_len result.1 ≡ vec_len desks }
-    ensures worked { IfOk result.2 (λ ended. (taken : List ℕ) × IsWhole (length batch.now) taken
-        × Account parts.journal result.0.journal first batch.now ended.items (map (λ d. d.work) result.1.items) taken) }
-    ensures nothing { OnOk result.2 (All (λ d. d.work.left ≡ Left.Nothing) result.1.items) }
-    ensures told { OnOk result.2 (All (λ d. d.seen ≡ record { table = result.0.words; log = result.0.journal.levels.log }) result.1.items) }
-    ensures cut_short { OnErr result.2 (IsCutShort parts.journal result.0.journal first batch.now) }
-    ensures table { All (λ d. d.seen.table ≡ result.0.words) result.1.items }
+    ensures worked { (taken : List ℕ) × IsShare (length batch.now) taken × OnOk result.3 (IsWhole (length batch.now) taken)
+        × Account parts.journal result.0.journal first batch.now result.2.items (map (λ d. d.work) result.1.items) taken }
+    ensures nothing { OnOk result.3 (All (λ d. d.work.left ≡ Left.Nothing) result.1.items) }
+    ensures told { All (λ d. d.seen ≡ record { table = result.0.words; log = result.0.journal.levels.log }) result.1.items }
 {
     parts.journal.look();
     if batch.is_empty() {
-        return (parts, desks, Ok(Vec::new(alloc)));
+        return (parts, desks, Vec::new(alloc), Ok(()));
     }
     let Ok((queue, consumer)) = WorkQueue::filled(rt, alloc, batch.len() as u32) else {
-        return (parts, desks, Err(AllocError));
+        return (parts, desks, Vec::new(alloc), Err(AllocError));
     };
     let vertices = shape(&parts.words).fixed;
     let core_numbers = parts.journal.core_numbers();
     let Ok(order) = order_of(alloc, vertices, core_numbers, batch) else {
-        return (parts, desks, Err(AllocError));
+        return (parts, desks, Vec::new(alloc), Err(AllocError));
     };
     let line = Line { queue, order };
     let crew = Crew {
@@ -158,9 +157,9 @@ fn run_desks<G: Gate + Sync, R: Threads + Wait + Sync>(
         desks,
         consumer,
     };
-    let (crew, worked) = work_off(rt, alloc, crew, &line, first, batch, gate);
+    let (crew, ended, worked) = work_off(rt, alloc, crew, &line, first, batch, gate);
     let Crew { parts, desks, .. } = crew;
-    (parts, desks, worked)
+    (parts, desks, ended, worked)
 }
 
 /// Enters all updates of a batch. The update at place `i` of the batch, from 0, has the index `first + i`.
@@ -168,13 +167,20 @@ fn run_desks<G: Gate + Sync, R: Threads + Wait + Sync>(
 /// There is one worker for each of `workers`, in a thread of its own where one can be made; a single worker runs on the caller's. They take
 /// the updates from one queue: removals first, from the innermost cores on, then insertions. The insertions of a large batch, of at least
 /// one update for each 16 vertices, are peeled as a graph of their own, and those of the vertices that come last in that are taken first;
-/// those of a smaller batch stand as they were given. Where the versions of the table are nearly spent the run goes on in a fresh one, as
-/// often as it is needed, and an update that could not be entered for that is entered there.
+/// those of a smaller batch stand as they were given. Where the versions of the table are nearly spent the run goes on in a fresh one, and
+/// an update that could not be entered for that is entered there. So a table is ended as often as versions were nearly spent.
 ///
-/// At Ok each update of the batch is an entry, once, and stands in one share, once, and no other entry was made. `NoMemory` comes where
-/// there is none: then some of the updates were entered, each at most once. Whatever is answered, the journal stands, its entries go on
-/// from the old ones, no more tables were ended than the batch has updates, and there are as many workers as before, all of the table of
-/// the answered parts.
+/// Removals come before insertions, so a batch is to name each pair at most once if it is to mean what its lines say: of `+ a b` and then
+/// `- a b` the edge is left. `kc_effects::decide` makes such a batch of any updates, by the rule that the last one of a pair wins.
+///
+/// At Ok each update of the batch is an entry, once, and stands in one share, once, and no other entry was made. `CutShort` comes where
+/// there was no memory: then some of the updates were entered, each at most once, and each entry has one receipt in the shares. What has no
+/// receipt there was not entered, and can be entered by another call. An update whose lists could not be published after it was entered
+/// stands as `untold` in its worker's share. Where not even the list of shares could be made, nothing was entered.
+///
+/// Whatever is answered, the journal stands, its entries go on from the old ones, no more tables were ended than the batch has updates, and
+/// there are as many workers as before, all of the table of the answered parts. A receipt tells at most `MISSES` lost plans. Where no table
+/// was ended each was truly lost; where one was, their number alone is bound.
 pub fn run_batch<G: Gate + Sync, R: Threads + Wait + Sync>(
     rt: &R,
     alloc: Global,
@@ -183,7 +189,7 @@ pub fn run_batch<G: Gate + Sync, R: Threads + Wait + Sync>(
     first: u32,
     batch: &[Update],
     gate: &G,
-) -> (Parts, Result<BatchDone, NoMemory>)
+) -> (Parts, Result<BatchDone, CutShort>)
     requires workers { (0 < vec_len workers.old) × (vec_len workers.old ≤ WORKERS) }
     requires table { All (λ w. w.table ≡ parts.words) workers.old.items }
     requires indices { first + length batch.now ≤ INDICES }
@@ -192,7 +198,7 @@ pub fn run_batch<G: Gate + Sync, R: Threads + Wait + Sync>(
     ensures stands { Stands result.0.journal }
     ensures words { result.0.journal.levels.table ≡ result.0.words }
     ensures done { IfOk result.1 (λ done. IsDone parts.journal result.0.journal first batch.now (vec_len workers.old) done) }
-    ensures cut_short { OnErr result.1 (IsCutShort parts.journal result.0.journal first batch.now) }
+    ensures cut_short { IfErr result.1 (λ cut. IsCutShort parts.journal result.0.journal first batch.now (vec_len workers.old) cut) }
     ensures as_many { vec_len workers.new ≡ vec_len workers.old }
     ensures table { All (λ w. w.table ≡ result.0.words) workers.new.items }
     ensures told { OnOk result.1 (All (λ w. w ≡ record { table = result.0.words; log = result.0.journal.levels.log }) workers.new.items) }
@@ -202,14 +208,16 @@ pub fn run_batch<G: Gate + Sync, R: Threads + Wait + Sync>(
         Vec::with_capacity(alloc, count),
         Vec::with_capacity(alloc, count),
     ) else {
-        return (parts, Err(AllocError));
+        let shares = Vec::new(alloc);
+        let ended = Vec::new(alloc);
+        return (parts, Err(CutShort { shares, ended }));
     };
     let mut desks = sit_down(alloc, workers, desks);
     tell_all(&mut parts, &mut desks);
-    let (parts, desks, worked) = run_desks(rt, alloc, parts, desks, first, batch, gate);
+    let (parts, desks, ended, worked) = run_desks(rt, alloc, parts, desks, first, batch, gate);
     let shares = stand_up(desks, workers, shares);
     match worked {
-        Ok(ended) => (parts, Ok(BatchDone { shares, ended })),
-        Err(fault) => (parts, Err(fault)),
+        Ok(()) => (parts, Ok(BatchDone { shares, ended })),
+        Err(_) => (parts, Err(CutShort { shares, ended })),
     }
 }

@@ -5,7 +5,7 @@ ghost use Rattle.kc_journal.specs.Journals.{Journalled, Stands};
 ghost use Rattle.kc_levels.specs.declared.levels.TheConstants.{LAST_NUMBER};
 ghost use Rattle.kc_queue.specs.Shares.{IsWhole};
 ghost use Rattle.kc_shared.specs.States.{opened_by};
-ghost use Rattle.kc_batch.specs.Batches.{BatchOf, Gives, IsCrew, IsCutShort};
+ghost use Rattle.kc_batch.specs.Batches.{BatchOf, Gives, IsCrew};
 ghost use Rattle.kc_batch.specs.Desks.{KeepsOneOf, at_turns};
 ghost use Rattle.kc_batch.specs.Runs.{IsNearlySpent, IsRenewal};
 ghost use Rattle.kc_batch.specs.Seats.{KeepsIfSpent};
@@ -23,7 +23,8 @@ use std::sync::Wait;
 
 impl Crew {
     /// What comes after a round. Where updates are kept, the run goes on in a fresh table, and they are entered there; where none is, what is
-    /// left of the line. Gives whether another round is needed. Memory may be wanted for a renewal, or may have run out in the round.
+    /// left of the line. Gives whether another round is needed. Memory may be wanted for a renewal, or may have run out in the round: then
+    /// nothing changes.
     pub(crate) fn go_on<R: Wait>(
         &mut self,
         rt: &R,
@@ -42,13 +43,11 @@ impl Crew {
         requires some { 0 < vec_len self.old.desks }
         ensures as_many { vec_len self.new.desks ≡ vec_len self.old.desks }
         ensures size { self.new.parts.words.shape.fixed ≡ self.old.parts.words.shape.fixed }
-        ensures crew { OnOk result (IsCrew of.old of.first of.batch ended.new.items line.now self.new.parts.words self.new.parts.journal
-            self.new.desks.items self.new.consumer) }
+        ensures crew { IsCrew of.old of.first of.batch ended.new.items line.now self.new.parts.words self.new.parts.journal
+            self.new.desks.items self.new.consumer }
         ensures keeps { IfOk result (λ again. again ≡ true → All (λ d. KeepsOneOf line.now.queue.count d.work.left) self.new.desks.items) }
         ensures whole { IfOk result (λ again. again ≡ false → IsWhole line.now.queue.count
             (at_turns line.now.order.items self.new.consumer.taken) × All (λ d. d.work.left ≡ Left.Nothing) self.new.desks.items) }
-        ensures cut_short { OnErr result (IsCutShort of.old self.new.parts.journal of.first of.batch
-            × All (λ d. d.seen.table ≡ self.new.parts.words) self.new.desks.items) }
     {
         match standing_of(&self.desks) {
             Standing::Short => return Err(AllocError),
@@ -86,8 +85,8 @@ impl Crew {
         ensures of_words { OnOk result (self.new.parts.journal.levels.table ≡ self.new.parts.words) }
         ensures told { IfOk result (λ _. All (λ d. d.seen ≡ record { table = self.new.parts.words; log = [] }) self.new.desks.items) }
         ensures size { self.new.parts.words.shape.fixed ≡ self.old.parts.words.shape.fixed }
-        ensures same { OnErr result ((self.new.parts ≡ self.old.parts) × (ended.new.items ≡ ended.old.items)) }
-        ensures table { All (λ d. d.seen.table ≡ self.new.parts.words) self.new.desks.items }
+        ensures same { OnErr result ((self.new.parts ≡ self.old.parts) × (self.new.desks.items ≡ self.old.desks.items)
+            × (ended.new.items ≡ ended.old.items)) }
         ensures works { map (λ d. d.work) self.new.desks.items ≡ map (λ d. d.work) self.old.desks.items }
         ensures consumer { self.new.consumer ≡ self.old.consumer }
     {

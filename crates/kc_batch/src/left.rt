@@ -1,4 +1,7 @@
 //! What a worker has left of the updates that it took.
+ghost use Rattle.std.specs.Prelude.{◌≡◌};
+ghost use Rattle.kc_batch.specs.Desks.{untold_of};
+
 use kc_journal::Receipt;
 
 /// What a worker has left at the end of a round.
@@ -12,4 +15,16 @@ pub(crate) enum Left {
     Dropped { place: u32 },
     /// An update that was entered before memory ran out.
     Untold { receipt: Receipt },
+}
+
+impl Left {
+    /// The receipt of an update that was entered before memory ran out, if there is one.
+    pub(crate) fn untold(self) -> Option<Receipt>
+        ensures { result ≡ untold_of self }
+    {
+        match self {
+            Left::Untold { receipt } => Some(receipt),
+            Left::Nothing | Left::Kept { .. } | Left::Dropped { .. } => None,
+        }
+    }
 }

@@ -15,7 +15,7 @@ use std::test::Fail;
 use std::thread::Threads;
 
 /// How many vertices the graphs have.
-const VERTICES: u32 = 12;
+pub(crate) const VERTICES: u32 = 12;
 
 /// How many updates a batch has.
 const UPDATES: u32 = 40;
@@ -49,7 +49,7 @@ fn drawn(first: u64, second: u64, third: u64) -> Update
 }
 
 /// So many random updates.
-fn drawn_batch(alloc: Global, seed: u64) -> Result<Vec<Update>, Fail>
+pub(crate) fn drawn_batch(alloc: Global, seed: u64) -> Result<Vec<Update>, Fail>
     ensures { IfOk result (λ batch. All (λ u. u.v < VERTICES) batch.items) }
 {
     let mut state = seed;
@@ -89,7 +89,7 @@ fn decomposed<R: Abort + AllocGlobal>(rt: &R, entries: &[Entry]) -> Result<Lawfu
 }
 
 /// The core numbers are those of the graph that the entries make of an empty one.
-fn assert_replayed<R: Abort + AllocGlobal>(rt: &R, parts: &Parts) {
+pub(crate) fn assert_replayed<R: Abort + AllocGlobal>(rt: &R, parts: &Parts) {
     let lawful = decomposed(rt, parts.journal.entries()).expect(rt, "no memory");
     assert_eq!(rt; parts.journal.core_numbers(), lawful.core());
 }

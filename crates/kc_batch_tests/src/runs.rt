@@ -83,7 +83,9 @@ pub(crate) fn enter_all<G: Gate + Sync, R: Threads + Wait + Sync + Abort + Alloc
     assert_eq!(rt; shape(&parts.words).fixed, vertices);
     assert!(rt; !workers.is_empty() && workers.len() <= 64 && batch.len() < 100);
     let (parts, done) = run_batch(rt, rt.alloc(), parts, &mut workers, FIRST, batch, gate);
-    let done = done.expect(rt, "no memory");
+    let Ok(done) = done else {
+        panic!(rt; "no memory")
+    };
     assert_eq!(rt; parts.journal.entries().len(), batch.len());
     assert_eq!(rt; told(done.shares.as_slice()), batch.len());
     (parts, done)

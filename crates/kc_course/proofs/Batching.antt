@@ -26,10 +26,12 @@ use Rattle.kc_journal.specs.Entering.{entry_of}
 use Rattle.kc_journal.specs.Journals.{Journalled, OpensRun, Stands, all_seen}
 use Rattle.kc_journal.specs.declared.answer.Receipt.{Receipt}
 use Rattle.kc_workers.specs.declared.share.Share.{Share}
-use Rattle.kc_batch.specs.Batches.{IsDone, receipts_in}
+use Rattle.kc_batch.specs.Batches.{IsCutShort, IsDone, receipts_in}
 use Rattle.kc_batch.specs.Receipts.{AreAllOf, IsReceiptOf, told_indices}
 use Rattle.kc_batch.specs.Runs.{IsRenewal, WentOn}
 use Rattle.kc_batch.specs.declared.done.BatchDone.{BatchDone}
+use Rattle.kc_batch.specs.declared.done.CutShort.{CutShort}
+use Rattle.kc_batch.proofs.Closing.{done-cut}
 use Rattle.kc_batch.proofs.Going.{stays-on, stays-self, went-entries}
 use Rattle.kc_course.specs.Courses.{Coursed, HasWorked, IsBeginning}
 use Rattle.kc_course.specs.Entered.{AreEnteredInTurn, update_count}
@@ -82,6 +84,20 @@ batch-worked {self} {old} {new} {batch} {index} {workers} {done} same stood ente
           (subst (λ (s : Coursed). IsDone s.journal new index batch workers done) same is_done);
     }
 
+-- So it is where memory ran out in the batch.
+pub batch-cut : {self old : Coursed} {new : Journalled} {batch : List Update} {index workers : ℕ} {cut : CutShort} → self ≡ old
+    → index ≡ length self.journal.entries → workers ≡ self.workers → IsCutShort self.journal new index batch workers cut
+    → IsCutShort old.journal new (length old.journal.entries) batch old.workers cut
+batch-cut {self} {old} {new} {batch} {index} {workers} {cut} same entered many h =
+    subst (λ (s : Coursed). IsCutShort s.journal new (length s.journal.entries) batch s.workers cut) same
+    (subst (λ (n : ℕ). IsCutShort self.journal new (length self.journal.entries) batch n cut) many
+    (subst (λ (n : ℕ). IsCutShort self.journal new n batch workers cut) entered h))
+
+-- where memory ran out the run started from the same graph
+pub cut-start : {old new : Journalled} {first : ℕ} {batch : List Update} {workers : ℕ} {cut : CutShort} → IsCutShort old new first batch workers cut
+    → new.started ≡ old.started
+cut-start {old} {new} {first} {batch} {workers} {cut} h = (went-entries cut.ended.items old new h.went.went).0
+
 module _ {old new : Journalled} {index : ℕ} {batch : List Update} {workers : ℕ} {done : BatchDone} (w : Worked old new index batch workers done) where
   -- the index of the first update
   abbrev first : ℕ
@@ -94,6 +110,11 @@ module _ {old new : Journalled} {index : ℕ} {batch : List Update} {workers : �
   -- the run starts from the same graph
   pub same-start : new.started ≡ old.started
   same-start = (went-entries done.ended.items old new w.is_done.went.went).0
+
+  -- What was entered whole and is not counted is told as a batch that was cut short.
+  pub whole-cut : (cut : CutShort) (n : ℕ) → cut.shares.items ≡ done.shares.items → cut.ended.items ≡ done.ended.items → workers ≡ n
+      → IsCutShort old new (length old.entries) batch n cut
+  whole-cut cut n shares ended many = subst (λ (m : ℕ). IsCutShort old new (length old.entries) batch m cut) many (done-cut cut shares ended w.is_done)
 
   -- as many entries more as the batch has updates
   pub entries-more : length new.entries ≡ length old.entries + length batch
@@ -180,6 +201,7 @@ module _ {old new : Journalled} {index : ℕ} {batch : List Update} {workers : �
         begun = h.begun;
         beginning = h.beginning;
         went = went-then tables done.ended.items h.begun old new h.went w.is_done.went.went;
+        few_tables = omega (arith, h.few_tables, w.is_done.went.few_tables, entries-more, length-append tables done.ended.items);
         entered = subst (AreEnteredInTurn 0 (batches ++ batch ∷ [])) (sym is) (one-more 0 batches old.entries batch made h.entered
             (subst (λ (n : ℕ). effects.IsOrderOf n batch made) (omega arith) order));
         receipts_are = subst (λ (es : List Entry). HasOneEach new.started es (length es) (receipts ++ news)) (sym is)
@@ -211,6 +233,7 @@ run-ended batches tables j ran stands h is =
       tables = subst (AreTables j.started 0) (sym is)
           (subst (λ (g : SimpleGraph). AreTables g 0 (tables ++ all_seen j ∷ [])) start
           (tables-follow tables h.begun j 0 h.went stands h.beginning.base h.beginning.version));
+      few_tables = omega (arith, h.few_tables, count, ap length is, length-append tables (all_seen j ∷ []));
       entries = subst (AreEnteredInTurn 0 batches) all h.entered;
       receipts = subst (λ (es : List Entry). HasOneEach j.started es (update_count batches) (receipts_in ran.shares.items)) all
           (subst (λ (n : ℕ). HasOneEach j.started j.entries n (receipts_in ran.shares.items)) count h.receipts_are);
@@ -222,6 +245,7 @@ none-worked j h stays = record {
   begun = j;
   beginning = h;
   went = stays;
+  few_tables = omega arith;
   entered = h.entries;
   receipts_are = record {
     each = λ k d low. absurd (omega (arith, low));

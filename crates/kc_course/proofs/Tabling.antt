@@ -17,7 +17,7 @@ use Rattle.kc_levels.specs.Heads.{with_heads}
 use Rattle.kc_levels.specs.Levels.{size_of}
 use Rattle.kc_journal.specs.Journals.{Journalled, Renews, Stands, all_seen, entries_here, fresh_pass, ranked}
 use Rattle.kc_journal.proofs.AfterEntry.{at-rest, size-is, state-of}
-use Rattle.kc_batch.specs.Runs.{IsRenewal, StaysIn, WentOn}
+use Rattle.kc_batch.specs.Runs.{IsNearlySpent, IsRenewal, StaysIn, WentOn}
 use Rattle.kc_course.specs.Tables.{AreTables, IsFollowed, IsTable, TakesOver, entries_of, entries_seen}
 use Rattle.kc_course.proofs.Lists.{same-beginning}
 
@@ -62,21 +62,25 @@ takes-over end next stands renews =
     }
 
 -- The next of the tables is the fresh one.
-is-followed : (p : PassSeen) (more : List PassSeen) (next new : Journalled) → TakesOver p (fresh_pass next.levels.table) → WentOn next more new
-    → IsFollowed p (more ++ all_seen new ∷ [])
-is-followed p [] next new takes went =
-    let same : new.levels.table ≡ next.levels.table = went.table in
-    record {
-      list = ap (λ (t : TableName). list_after t []) same ∙ takes.list;
-      core = λ v low. ap (λ (t : TableName). core_after t [] v) same ∙ takes.core v low;
-    }
-is-followed p (q ∷ more) next new takes went =
+is-followed : (p : PassSeen) (more : List PassSeen) (next new : Journalled) → IsNearlySpent p.table p.log → TakesOver p (fresh_pass next.levels.table)
+    → WentOn next more new → IsFollowed p (more ++ all_seen new ∷ [])
+is-followed p [] next new spent takes went =
+    let same : new.levels.table ≡ next.levels.table = went.table in (
+      spent,
+      record {
+        list = ap (λ (t : TableName). list_after t []) same ∙ takes.list;
+        core = λ v low. ap (λ (t : TableName). core_after t [] v) same ∙ takes.core v low;
+      },
+    )
+is-followed p (q ∷ more) next new spent takes went =
     let renewal : IsRenewal next q went.0 went.1 = went.2 in
-    let same : q.table ≡ next.levels.table = ap (λ (z : PassSeen). z.table) renewal.told ∙ renewal.stays.table in
-    record {
-      list = ap (λ (t : TableName). list_after t []) same ∙ takes.list;
-      core = λ v low. ap (λ (t : TableName). core_after t [] v) same ∙ takes.core v low;
-    }
+    let same : q.table ≡ next.levels.table = ap (λ (z : PassSeen). z.table) renewal.told ∙ renewal.stays.table in (
+      spent,
+      record {
+        list = ap (λ (t : TableName). list_after t []) same ∙ takes.list;
+        core = λ v low. ap (λ (t : TableName). core_after t [] v) same ∙ takes.core v low;
+      },
+    )
 
 -- What a journal's entries are where its table begins behind `front`: those, and then the table's own.
 entries-behind : (front : List Entry) (j : Journalled) → Stands j → length front ≡ j.levels.table.shape.base → IsPrefix front j.entries
@@ -120,6 +124,7 @@ tables-follow (last ∷ more) old new base went stands at zero =
     let table : IsTable old.opened base last =
     subst (IsTable old.opened base) told (table-stays old end base renewal.stays stood at zero) in
     let followed : IsFollowed last (more ++ all_seen new ∷ []) = is-followed last more next new
+    (subst (λ (p : PassSeen). IsNearlySpent p.table p.log) told renewal.spent)
     (subst (λ (p : PassSeen). TakesOver p (fresh_pass next.levels.table)) told (takes-over end next stood renewal.renews)) went.3 in
     let graph : next.opened ≡ after_entries old.opened (entries_seen last) =
     renewal.renews.opened ∙ (stood.from_opening ∙ ap₂ after_entries renewal.stays.opened (ap entries_seen told)) in

@@ -28,10 +28,11 @@ pub record IsBeginning (j : Journalled) : Type 0 where
   pub opened : j.opened ≡ j.started
 
 -- The run began so, and came to this journal by working these batches in turn, over these tables that were ended and the journal's own.
--- These receipts were given for all that was entered.
+-- No more were ended than entries were made. These receipts were given for all that was entered.
 pub record HasWorked (batches : List (List Update)) (tables : List PassSeen) (receipts : List Receipt) (j : Journalled) : Type 0 where
   pub begun : Journalled
   pub beginning : IsBeginning begun
   pub went : WentOn begun tables j
+  pub few_tables : length tables ≤ length j.entries
   pub entered : AreEnteredInTurn 0 batches j.entries
   pub receipts_are : HasOneEach j.started j.entries (length j.entries) receipts

@@ -1,20 +1,19 @@
 //! The state of a run while its batches are worked.
-ghost use Rattle.std.specs.Prelude.{◌≡◌, ◌≤◌, ◌<◌, ◌+◌, ◌++◌, ◌∷◌, ℕ, List, [], All, IfOk, OnErr, OnOk, length, map, vec_len};
+ghost use Rattle.std.specs.Prelude.{◌≡◌, ◌≤◌, ◌<◌, ◌+◌, ◌++◌, ◌∷◌, List, [], All, IfErr, IfOk, OnErr, OnOk, length, map};
 ghost use Rattle.std.specs.FinSet as set;
 ghost use Rattle.kc_graph.specs.Core.{AreCoreNumbers, greatest};
 ghost use Rattle.kc_graph.specs.declared.update.Update.{Update};
 ghost use Rattle.kc_effects.specs.Batches.{added, graph_after_batch, kept, removed};
-ghost use Rattle.kc_levels.specs.declared.levels.TheConstants.{LAST_NUMBER};
 ghost use Rattle.kc_journal.specs.Journals.{Stands, ranked};
 ghost use Rattle.kc_text.specs.Inputs.{IsBatch, parts_of};
 ghost use Rattle.kc_text.specs.declared.limits.TheConstants.{MOST_UPDATES};
-ghost use Rattle.kc_batch.specs.Batches.{IsDone, receipts_in};
+ghost use Rattle.kc_batch.specs.Batches.{IsCutShort, receipts_in};
 ghost use Rattle.kc_course.specs.Courses.{HasWorked};
 ghost use Rattle.kc_course.specs.Runs.{HasRun};
 
 use crate::counting::outcomes_of;
 use crate::ran::Ran;
-use kc_batch::{BatchDone, run_batch};
+use kc_batch::{BatchDone, CutShort, run_batch};
 use kc_effects::{Counts, count};
 use kc_graph::{Lawful, NoMemory, SharedGraph, Update};
 use kc_queue::WORKERS;
@@ -78,32 +77,6 @@ fn entered_by(parts: &Parts) -> u32
     parts.journal.entries().len() as u32
 }
 
-/// Lets the workers enter a batch whose first update has the index `first`. At `NoMemory` the parts are dropped.
-fn enter_all<G: Gate + Sync, R: Threads + Wait + Sync>(
-    rt: &R,
-    alloc: Global,
-    parts: Parts,
-    workers: &mut Vec<Worker>,
-    first: u32,
-    batch: &[Update],
-    gate: &G,
-) -> Result<(Parts, BatchDone), NoMemory>
-    requires workers { (0 < vec_len workers.old) × (vec_len workers.old ≤ WORKERS) }
-    requires table { All (λ w. w.table ≡ parts.words) workers.old.items }
-    requires indices { first + length batch.now ≤ INDICES }
-    requires within { All (λ u. u.v < parts.words.shape.fixed) batch.now }
-    requires numbers { length parts.journal.entries + length batch.now ≤ LAST_NUMBER }
-    ensures stands { IfOk result (λ r. Stands r.0.journal) }
-    ensures done { IfOk result (λ r. IsDone parts.journal r.0.journal first batch.now (vec_len workers.old) r.1) }
-    ensures as_many { vec_len workers.new ≡ vec_len workers.old }
-    ensures table { IfOk result (λ r. All (λ w. w.table ≡ r.0.words) workers.new.items) }
-{
-    match run_batch(rt, alloc, parts, workers, first, batch, gate) {
-        (parts, Ok(done)) => Ok((parts, done)),
-        (_, Err(fault)) => Err(fault),
-    }
-}
-
 impl Course {
     /// The course of a new run from this state, with so many workers. Nothing was entered. `NoMemory` comes where there is none for the
     /// table, the stripes or the workers' marks; `lawful` is then dropped.
@@ -123,10 +96,11 @@ impl Course {
     }
 
     /// Lets the workers enter a batch, each update once, in whatever order they come to it, and counts what it did. The first update has
-    /// the number of entries as index. The shares, and the tables that were ended since their versions were spent, go to `ran`.
+    /// the number of entries as index. The shares, and the tables that were ended since their versions were nearly spent, go to `ran`.
     ///
-    /// `gate` is called before each try to enter an update. `NoMemory` may have entered some of the updates, each at most once: the course
-    /// is then dropped, and `ran` is as it was.
+    /// `gate` is called before each try to enter an update. `CutShort` comes where memory ran out, in the batch or when it was entered whole
+    /// and what it did could not be counted or kept. It has the receipts of what was entered, and the course stands with just these entries
+    /// more. `ran` is then as it was. Whatever is answered, the course may go on.
     pub fn work<G: Gate + Sync, R: Threads + Wait + Sync>(
         self,
         rt: &R,
@@ -134,30 +108,42 @@ impl Course {
         batch: &[Update],
         gate: &G,
         ran: &mut Ran,
-    ) -> Result<(Course, Counts), NoMemory>
+    ) -> (Course, Result<Counts, CutShort>)
         requires batch { IsBatch self.journal.graph.size batch.now }
         requires few { length batch.now ≤ MOST_UPDATES }
         requires indices { length self.journal.entries + length batch.now ≤ INDICES }
-        ensures graph { IfOk result (λ r. r.0.journal.graph ≡ graph_after_batch self.journal.graph (map parts_of batch.now)) }
-        ensures added { IfOk result (λ r. r.1.added ≡ added self.journal.graph.edges (map parts_of batch.now)) }
-        ensures removed { IfOk result (λ r. r.1.removed ≡ removed self.journal.graph.edges (map parts_of batch.now)) }
-        ensures kept { IfOk result (λ r. r.1.kept ≡ kept self.journal.graph.edges (map parts_of batch.now)) }
-        ensures started { IfOk result (λ r. r.0.journal.started ≡ self.journal.started) }
-        ensures entries { IfOk result (λ r. length r.0.journal.entries ≡ length self.journal.entries + length batch.now) }
-        ensures workers { IfOk result (λ r. r.0.workers ≡ self.workers) }
-        ensures shares { OnOk result (length ran.new.shares.items ≡ length ran.old.shares.items + self.workers) }
-        ensures worked { IfOk result (λ r. (batches : List (List Update))
+        ensures stands { Stands result.0.journal }
+        ensures started { result.0.journal.started ≡ self.journal.started }
+        ensures workers { result.0.workers ≡ self.workers }
+        ensures graph { OnOk result.1 (result.0.journal.graph ≡ graph_after_batch self.journal.graph (map parts_of batch.now)) }
+        ensures added { IfOk result.1 (λ counts. counts.added ≡ added self.journal.graph.edges (map parts_of batch.now)) }
+        ensures removed { IfOk result.1 (λ counts. counts.removed ≡ removed self.journal.graph.edges (map parts_of batch.now)) }
+        ensures kept { IfOk result.1 (λ counts. counts.kept ≡ kept self.journal.graph.edges (map parts_of batch.now)) }
+        ensures entries { OnOk result.1 (length result.0.journal.entries ≡ length self.journal.entries + length batch.now) }
+        ensures shares { OnOk result.1 (length ran.new.shares.items ≡ length ran.old.shares.items + self.workers) }
+        ensures worked { OnOk result.1 ((batches : List (List Update))
             → HasWorked batches ran.old.tables.items (receipts_in ran.old.shares.items) self.journal
-            → HasWorked (batches ++ batch.now ∷ []) ran.new.tables.items (receipts_in ran.new.shares.items) r.0.journal) }
-        ensures same { OnErr result ((ran.new.shares.items ≡ ran.old.shares.items) × (ran.new.tables.items ≡ ran.old.tables.items)) }
+            → HasWorked (batches ++ batch.now ∷ []) ran.new.tables.items (receipts_in ran.new.shares.items) result.0.journal) }
+        ensures cut_short { IfErr result.1 (λ cut. IsCutShort self.journal result.0.journal (length self.journal.entries) batch.now self.workers cut) }
+        ensures same { OnErr result.1 ((ran.new.shares.items ≡ ran.old.shares.items) × (ran.new.tables.items ≡ ran.old.tables.items)) }
     {
         let Course { parts, mut workers } = self;
         let first = entered_by(&parts);
-        let (parts, done) = enter_all(rt, alloc, parts, &mut workers, first, batch, gate)?;
-        let outcomes = outcomes_of(alloc, &done.shares)?;
+        let (parts, worked) = run_batch(rt, alloc, parts, &mut workers, first, batch, gate);
+        let course = Course { parts, workers };
+        let done = match worked {
+            Ok(done) => done,
+            Err(cut) => return (course, Err(cut)),
+        };
+        let Ok(outcomes) = outcomes_of(alloc, &done.shares) else {
+            let BatchDone { shares, ended } = done;
+            return (course, Err(CutShort { shares, ended }));
+        };
         let counts = count(first, batch, &outcomes);
-        ran.take_over(done)?;
-        Ok((Course { parts, workers }, counts))
+        match ran.take_over(done) {
+            Ok(()) => (course, Ok(counts)),
+            Err(cut) => (course, Err(cut)),
+        }
     }
 
     /// How many updates were entered.
@@ -196,14 +182,18 @@ impl Course {
         self.parts.journal.top()
     }
 
-    /// Ends the run: the last table goes to `ran`, as a pass that is told the whole log. Where there is no memory for it `ran` is as it was.
-    pub fn end(self, ran: &mut Ran) -> Result<(), NoMemory>
+    /// Ends the run: the last table goes to `ran`, as a pass that is told the whole log. Where there is no memory for it the course is given
+    /// back, and it and `ran` are as they were.
+    pub fn end(self, ran: &mut Ran) -> Result<(), Course>
         ensures shares { ran.new.shares.items ≡ ran.old.shares.items }
         ensures run { OnOk result ((batches : List (List Update))
             → HasWorked batches ran.old.tables.items (receipts_in ran.old.shares.items) self.journal
             → HasRun self.journal.started batches ran.new) }
-        ensures same { OnErr result (ran.new.tables.items ≡ ran.old.tables.items) }
+        ensures same { IfErr result (λ back. (back ≡ self) × (ran.new.tables.items ≡ ran.old.tables.items)) }
     {
+        if ran.tables.reserve(1).is_err() {
+            return Err(self);
+        }
         let Course { parts, mut workers } = self;
         let Parts {
             words,
@@ -215,7 +205,7 @@ impl Course {
         };
         journal.look();
         journal.tell(&words, &mut pass);
-        ran.tables.push(pass)?;
+        ran.tables.push_reserved(pass);
         Ok(())
     }
 }

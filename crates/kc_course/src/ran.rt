@@ -1,9 +1,8 @@
 //! What a run leaves.
-ghost use Rattle.std.specs.Prelude.{◌≡◌, ◌++◌, OnErr, OnOk};
+ghost use Rattle.std.specs.Prelude.{◌≡◌, ◌++◌, IfErr, OnErr, OnOk};
 ghost use Rattle.kc_course.specs.Runs.{IsEmpty};
 
-use kc_batch::BatchDone;
-use kc_graph::NoMemory;
+use kc_batch::{BatchDone, CutShort};
 use kc_table::Pass;
 use kc_workers::Share;
 use std::alloc::Global;
@@ -28,19 +27,27 @@ impl Ran {
         }
     }
 
-    /// Takes over the shares of a batch, and the tables that were ended in it. Where there is no memory for them it stays as it was.
-    pub(crate) fn take_over(&mut self, done: BatchDone) -> Result<(), NoMemory>
+    /// Takes over the shares of a batch, and the tables that were ended in it. Where there is no memory for them it stays as it was, and they
+    /// are given back.
+    pub(crate) fn take_over(&mut self, done: BatchDone) -> Result<(), CutShort>
         ensures shares { OnOk result (self.new.shares.items ≡ self.old.shares.items ++ done.shares.items) }
         ensures tables { OnOk result (self.new.tables.items ≡ self.old.tables.items ++ done.ended.items) }
         ensures same { OnErr result ((self.new.shares.items ≡ self.old.shares.items) × (self.new.tables.items ≡ self.old.tables.items)) }
+        ensures back { IfErr result (λ cut. (cut.shares.items ≡ done.shares.items) × (cut.ended.items ≡ done.ended.items)) }
     {
         let BatchDone {
             mut shares,
             mut ended,
         } = done;
-        self.shares.reserve(shares.len())?;
-        self.tables.append(&mut ended)?;
-        self.shares.append(&mut shares)?;
+        if self.shares.reserve(shares.len()).is_err() {
+            return Err(CutShort { shares, ended });
+        }
+        if self.tables.append(&mut ended).is_err() {
+            return Err(CutShort { shares, ended });
+        }
+        let Ok(()) = self.shares.append(&mut shares) else {
+            unreachable!()
+        };
         Ok(())
     }
 }

@@ -26,6 +26,20 @@ fn path(alloc: Global, workers: u32) -> Result<Course, Fail>
     Ok(Course::open(alloc, decompose_owned(alloc, graph)?, workers)?)
 }
 
+/// Works a batch of one update, and counts what it did if there is memory.
+fn work_batch<R: Abort + AllocGlobal + Threads + Wait + Sync>(
+    rt: &R,
+    course: Course,
+    update: Update,
+    ran: &mut Ran,
+) -> (Course, Option<Counts>) {
+    assert!(rt; update.v < course.graph().vertices());
+    assert!(rt; course.entered() < 1000);
+    let batch = [update];
+    let (course, counts) = course.work(rt, rt.alloc(), &batch, &NoGate, ran);
+    (course, counts.ok())
+}
+
 /// Works a batch of one update, and compares its counts.
 fn work_one<R: Abort + AllocGlobal + Threads + Wait + Sync>(
     rt: &R,
@@ -33,13 +47,10 @@ fn work_one<R: Abort + AllocGlobal + Threads + Wait + Sync>(
     update: Update,
     ran: &mut Ran,
     wanted: Counts,
-) -> Result<Course, Fail> {
-    assert!(rt; update.v < course.graph().vertices());
-    assert!(rt; course.entered() < 1000);
-    let batch = [update];
-    let (course, counts) = course.work(rt, rt.alloc(), &batch, &NoGate, ran)?;
-    assert_eq!(rt; counts, wanted);
-    Ok(course)
+) -> Course {
+    let (course, counts) = work_batch(rt, course, update, ran);
+    assert_eq!(rt; counts, Some(wanted));
+    course
 }
 
 const ADDED: Counts = Counts {
@@ -65,28 +76,28 @@ fn circle_and_back<R: Abort + AllocGlobal + Threads + Wait + Sync>(
     rt: &R,
     course: Course,
     ran: &mut Ran,
-) -> Result<Course, Fail> {
+) -> Course {
     let ends = Update {
         add: true,
         u: 0,
         v: 3,
     };
-    let course = work_one(rt, course, ends, ran, ADDED)?;
+    let course = work_one(rt, course, ends, ran, ADDED);
     assert_eq!(rt; course.core_numbers(), [2, 2, 2, 2].as_slice());
     assert_eq!(rt; course.top(), 2);
     assert_eq!(rt; course.edges(), 4);
-    let course = work_one(rt, course, ends, ran, KEPT)?;
+    let course = work_one(rt, course, ends, ran, KEPT);
     let gone = Update {
         add: false,
         u: 1,
         v: 2,
     };
-    let course = work_one(rt, course, gone, ran, REMOVED)?;
+    let course = work_one(rt, course, gone, ran, REMOVED);
     assert_eq!(rt; course.core_numbers(), [1, 1, 1, 1].as_slice());
     assert_eq!(rt; course.top(), 1);
     assert_eq!(rt; course.edges(), 3);
     assert_eq!(rt; course.entered(), 3);
-    Ok(course)
+    course
 }
 
 /// Compares the receipts of all batches, of one update each, with the places of their entries.
@@ -108,13 +119,63 @@ fn a_run_leaves_its_table_and_the_receipts_of_all_batches(rt: HostRuntime) -> Re
     for workers in [1, 2, 3] {
         let mut ran = Ran::new(rt.alloc());
         let course = path(rt.alloc(), workers)?;
-        let course = circle_and_back(&rt, course, &mut ran)?;
-        course.end(&mut ran)?;
+        let course = circle_and_back(&rt, course, &mut ran);
+        assert!(rt; ended(course, &mut ran));
         assert_eq!(rt; ran.tables.len(), 1);
         assert_eq!(rt; ran.shares.len(), 3 * workers as usize);
         are_told_in_turn(&rt, &ran, 3);
     }
     Ok(())
+}
+
+/// Works a batch of one update, and once more where memory ran out before it was entered. Then the course has one entry more.
+fn work_again<R: Abort + AllocGlobal + Threads + Wait + Sync>(
+    rt: &R,
+    course: Course,
+    update: Update,
+    ran: &mut Ran,
+) -> Course {
+    let before = course.entered();
+    let (course, counts) = work_batch(rt, course, update, ran);
+    if counts.is_some() || course.entered() > before {
+        return course;
+    }
+    let (course, counts) = work_batch(rt, course, update, ran);
+    assert!(rt; counts.is_some());
+    course
+}
+
+/// With no request for memory refused each batch is worked at once. `rt try --test --fail-alloc N` refuses the one of this number.
+#[test]
+fn a_course_goes_on_where_memory_ran_out(rt: HostRuntime) -> Result<(), Fail> {
+    let mut ran = Ran::new(rt.alloc());
+    let course = path(rt.alloc(), 2)?;
+    let ends = Update {
+        add: true,
+        u: 0,
+        v: 3,
+    };
+    let course = work_again(&rt, course, ends, &mut ran);
+    assert_eq!(rt; course.core_numbers(), [2, 2, 2, 2].as_slice());
+    let gone = Update {
+        add: false,
+        u: 1,
+        v: 2,
+    };
+    let course = work_again(&rt, course, gone, &mut ran);
+    assert_eq!(rt; course.core_numbers(), [1, 1, 1, 1].as_slice());
+    assert_eq!(rt; course.entered(), 2);
+    assert!(rt; ended(course, &mut ran));
+    assert_eq!(rt; ran.tables.len(), 1);
+    Ok(())
+}
+
+/// Ends a run, and once more where memory ran out.
+fn ended(course: Course, ran: &mut Ran) -> bool {
+    match course.end(ran) {
+        Ok(()) => true,
+        Err(course) => course.end(ran).is_ok(),
+    }
 }
 
 /// A batch that adds an edge to the path, removes one, and leaves two as they are.
@@ -134,7 +195,10 @@ fn work_mixed<R: Abort + AllocGlobal + Threads + Wait + Sync>(
     let course = path(rt.alloc(), workers)?;
     assert!(rt; course.graph().vertices() == 4);
     assert!(rt; course.entered() == 0);
-    let (course, counts) = course.work(rt, rt.alloc(), batch, &NoGate, &mut ran)?;
+    let (course, counts) = course.work(rt, rt.alloc(), batch, &NoGate, &mut ran);
+    let Ok(counts) = counts else {
+        panic!(rt; "no memory")
+    };
     let wanted = Counts {
         added: 1,
         removed: 1,

@@ -57,7 +57,10 @@ impl<G: Gate + Sync, R: Threads + Wait + Sync> Work<'_, G, R> {
             → HasWorked batches ran.old.tables.items (receipts_in ran.old.shares.items) course.journal
             → HasWorked (batches ++ updates.now ∷ []) ran.new.tables.items (receipts_in ran.new.shares.items) new.journal) }
     {
-        let (course, counts) = course.work(self.rt, self.alloc, updates, self.gate, ran)?;
+        let (course, counts) = course.work(self.rt, self.alloc, updates, self.gate, ran);
+        let Ok(counts) = counts else {
+            return Err(NoMemory);
+        };
         let line = Line::Batch {
             number,
             added: counts.added,

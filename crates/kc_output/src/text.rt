@@ -141,7 +141,10 @@ fn put_run<J: BoardName, G: Gate + Sync, R: Threads + Wait + Sync>(
 {
     let course = put_worked::<J, G, R>(work, blank, lawful, batches, text, ran)?;
     put_end(text, work.setting, &batches.ids, course.core_numbers())?;
-    course.end(ran)
+    let Ok(()) = course.end(ran) else {
+        return Err(NoMemory);
+    };
+    Ok(())
 }
 
 /// The text of an input with batches, which are worked in turn from the state of the graph on. What the run leaves goes to `ran`.

@@ -6,10 +6,10 @@ ghost use Rattle.kc_words.specs.declared.layout.TheConstants.{INDICES as MOST_IN
 
 use crate::comparing::compare;
 use crate::gate::Holding;
-use crate::receipts::{look_at, make_entered};
+use crate::receipts::{look_at, look_at_part, make_entered};
 use crate::updates::make_all;
 use anyhow::{Result, anyhow, bail};
-use kc_batch::{BatchDone, run_batch};
+use kc_batch::{BatchDone, CutShort, run_batch};
 use kc_graph::{Graph, NoMemory, Update, decompose};
 use kc_journal::Journal;
 use kc_levels::LAST_NUMBER;
@@ -115,17 +115,23 @@ fn follow_whole(
     })
 }
 
-/// Makes those updates of a batch in the graph that were entered before memory ran out. The journal has to have just these.
+/// Makes those updates of a batch in the graph that were entered before memory ran out. The journal has to have just these, and the shares
+/// have to tell each of them once.
 fn follow_part(
     alloc: Global,
     graph: &mut Graph,
     first: u32,
     batch: &[Update],
     journal: &Journal,
+    cut: &CutShort,
 ) -> Result<()> {
     let Some(entries) = journal.entries().get(first as usize..) else {
         bail!("entries are lost");
     };
+    let told = look_at_part(alloc, graph, first, batch, &cut.shares)?;
+    if told != entries.len() {
+        bail!("an entry has no receipt");
+    }
     make_entered(alloc, graph, first, batch, entries)?;
     compare(alloc, journal, graph)
 }
@@ -137,12 +143,12 @@ fn follow(
     first: u32,
     batch: &[Update],
     journal: &Journal,
-    done: &Result<BatchDone, NoMemory>,
+    done: &Result<BatchDone, CutShort>,
 ) -> Result<Worked> {
     match done {
         Ok(done) => follow_whole(alloc, graph, first, batch, done),
-        Err(_) => {
-            follow_part(alloc, graph, first, batch, journal)?;
+        Err(cut) => {
+            follow_part(alloc, graph, first, batch, journal, cut)?;
             Err(NoMemory.into())
         }
     }
@@ -172,7 +178,7 @@ impl Crew {
         alloc: Global,
         batch: &[Update],
         gate: &Holding,
-    ) -> (Crew, Result<BatchDone, NoMemory>)
+    ) -> (Crew, Result<BatchDone, CutShort>)
         requires indices { self.next + length batch.now ≤ MOST_INDICES }
         requires within { All (λ u. u.v < self.parts.words.shape.fixed) batch.now }
         requires numbers { length self.parts.journal.entries + length batch.now ≤ MOST_ENTRIES }

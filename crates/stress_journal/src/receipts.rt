@@ -2,8 +2,9 @@
 use crate::updates::{is_applied, make};
 use anyhow::{Result, bail};
 use kc_graph::{Graph, NoMemory, Update};
+use kc_journal::Receipt;
 use kc_table::Entry;
-use kc_workers::{Done, Share};
+use kc_workers::Share;
 use std::alloc::Global;
 
 /// Which updates of a batch were taken, whose first one has this index.
@@ -38,12 +39,12 @@ impl Taken {
 
     /// Takes the update of a receipt. It is an error where it was taken before, or where the receipt tells otherwise than the graph before
     /// the batch whether it was applied.
-    fn see(&mut self, graph: &Graph, batch: &[Update], done: &Done) -> Result<()> {
-        let index = done.receipt.index;
+    fn see(&mut self, graph: &Graph, batch: &[Update], receipt: Receipt) -> Result<()> {
+        let index = receipt.index;
         let Some(update) = self.take(batch, index) else {
             bail!("update {index} has two receipts, or is none of the batch");
         };
-        if done.receipt.applied != is_applied(graph, update) {
+        if receipt.applied != is_applied(graph, update) {
             bail!("the receipt of update {index} tells otherwise whether it was applied");
         }
         Ok(())
@@ -53,7 +54,7 @@ impl Taken {
     fn see_share(&mut self, graph: &Graph, batch: &[Update], share: &Share) -> Result<u64> {
         let mut misses = 0u64;
         for done in &share.done {
-            self.see(graph, batch, done)?;
+            self.see(graph, batch, done.receipt)?;
             misses = misses.saturating_add(done.misses.len() as u64);
         }
         Ok(misses)
@@ -69,6 +70,16 @@ impl Taken {
             bail!("an update has no receipt");
         }
         Ok(misses)
+    }
+
+    /// The same for each receipt of a share, also of an update that could not be told. Answers how many there are.
+    fn see_part(&mut self, graph: &Graph, batch: &[Update], share: &Share) -> Result<usize> {
+        self.see_share(graph, batch, share)?;
+        let Some(receipt) = share.untold else {
+            return Ok(share.done.len());
+        };
+        self.see(graph, batch, receipt)?;
+        Ok(share.done.len().saturating_add(1))
     }
 
     /// Takes the update of an entry, and makes it in the graph. It is an error where it was taken before, or is another one.
@@ -103,6 +114,23 @@ pub(crate) fn look_at(
 ) -> Result<u64> {
     let mut taken = Taken::none(alloc, first, batch)?;
     taken.see_shares(graph, batch, shares)
+}
+
+/// Looks at the receipts of a batch that was cut short. It is an error where an update has two, or one that is wrong. Answers how many there
+/// are.
+pub(crate) fn look_at_part(
+    alloc: Global,
+    graph: &Graph,
+    first: u32,
+    batch: &[Update],
+    shares: &[Share],
+) -> Result<usize> {
+    let mut taken = Taken::none(alloc, first, batch)?;
+    let mut told = 0usize;
+    for share in shares {
+        told = told.saturating_add(taken.see_part(graph, batch, share)?);
+    }
+    Ok(told)
 }
 
 /// Makes the updates that were entered in the graph. It is an error where an entry is of no update of the batch, or of one that was entered

@@ -3,7 +3,7 @@ ghost use Rattle.std.specs.Prelude.{◌≡◌, ◌<◌, ◌≤◌, All, IfOk, le
 ghost use Rattle.work_batches.specs.declared.run.TheConstants.{MOST, VERTICES};
 
 use anyhow::{Result, bail};
-use kc_batch::{BatchDone, run_batch};
+use kc_batch::{BatchDone, CutShort, run_batch};
 use kc_graph::{Lawful, Update};
 use kc_shared::Parts;
 use kc_table::{Pass, Words, shape, split};
@@ -82,7 +82,7 @@ impl Run {
         alloc: Global,
         first: u32,
         batch: &[Update],
-    ) -> (Run, Result<BatchDone, NoMemory>)
+    ) -> (Run, Result<BatchDone, CutShort>)
         requires fixed { self.parts.words.shape.fixed ≡ VERTICES }
         requires entered { first ≡ length self.parts.journal.entries }
         requires few { (first ≤ MOST) × (length batch.now ≤ MOST) }
@@ -107,7 +107,7 @@ impl Run {
         let (run, done) = self.enter(rt, alloc, first, batch);
         match done {
             Ok(_) => Ok(run),
-            Err(fault) => Err(fault.into()),
+            Err(_) => Err(NoMemory.into()),
         }
     }
 }

@@ -1,17 +1,17 @@
 -- What the desks have come to is what the shares tell.
-use Rattle.std.proofs.Common.{◌≡◌, ◌+◌, ◌≤◌, ℕ, All, Global, List, Vec, subst, sym, arith, length, map, vec_len}
-use Rattle.kc_table.specs.declared.pass.Pass.{Pass}
+use Rattle.std.proofs.Common.{◌≡◌, ◌+◌, ◌≤◌, All, subst, sym, arith, length, vec_len}
 use Rattle.std.proofs.lemmas.List.Elements.{All-map}
 use Rattle.std.proofs.lemmas.Result.{IfOk-at_ok}
 use Rattle.kc_table.specs.Log.{Seen}
 use Rattle.kc_queue.specs.Shares.{IsWhole}
 use Rattle.kc_levels.specs.declared.levels.TheConstants.{LAST_NUMBER}
 use Rattle.kc_shared.specs.States.{Parted}
-use Rattle.kc_batch.specs.Batches.{Account, IsDone}
+use Rattle.kc_batch.specs.Batches.{IsCutShort, IsDone}
 use Rattle.kc_batch.specs.Desks.{Desked, Work}
 use Rattle.kc_batch.specs.declared.done.BatchDone.{BatchDone}
+use Rattle.kc_batch.specs.declared.done.CutShort.{CutShort}
 use Rattle.kc_batch.specs.declared.left.Left.TheVariants.{Nothing}
-use Rattle.kc_batch.proofs.Closing.{cut-at_start, done-so, idle, same-many, stood-all-so, stood-many}
+use Rattle.kc_batch.proofs.Closing.{cut-at_start, cut-so, done-so, idle, same-many, stood-all-so, stood-many, told-tables}
 use Rattle.kc_batch.proofs.batch.run_batch.Given.{Over}
 use Rattle.kc_batch.proofs.batch.run_batch.Goals.{After-tell_all}
 use Rattle.kc_batch.proofs.batch.run_batch.Goals as goal
@@ -27,7 +27,9 @@ told-many g c = omega (
 )
 
 pub returns-in_default-clause-cut_short : goal.returns-in_default-clause-cut_short
-returns-in_default-clause-cut_short g c = cut-at_start c.args.parts.journal c.args.first c.args.batch.now
+returns-in_default-clause-cut_short g c =
+    let cut : CutShort = record { shares = c.new-shares.result; ended = c.new-ended.result } in
+    cut-at_start c.args.parts.journal c.args.first c.args.batch.now (vec_len c.args.workers.now) cut c.new-shares.ensures.items c.new-ended.ensures.items
 
 pub tell_all-requires : goal.tell_all-requires
 tell_all-requires g c = record { table = c.sit_down-desks.ensures.table c.args.parts.words c.requires.table }
@@ -81,21 +83,38 @@ pub returns-in-Ok-clause-done : goal.returns-in-Ok-clause-done
 returns-in-Ok-clause-done g c =
     let parts = c.run_desks-parts.result.0 in
     let desks = c.run_desks-parts.result.1.items in
-    let ended = c.in-Ok.ended in
     let before : Parted = c.tell_all.new.parts in
-    let old = before.journal in
     let batch = c.args.batch.now in
-    let done : BatchDone = record { shares = c.stand_up-shares.result; ended = ended } in
-    let Worked : Vec Pass Global → Type 0 = λ ps. (taken : List ℕ) × IsWhole (length batch) taken
-    × Account old parts.journal c.args.first batch ps.items (map (λ (d : Desked). d.work) desks) taken in
-    let Free : Type 0 = All (λ (d : Desked). d.work.left ≡ Nothing) desks in
-    let worked = IfOk-at_ok Worked c.in-Ok.is c.run_desks-parts.ensures.worked in
-    let free = IfOk-at_ok (λ (ps : Vec Pass Global). Free) c.in-Ok.is c.run_desks-parts.ensures.nothing in
+    let done : BatchDone = record { shares = c.stand_up-shares.result; ended = c.run_desks-parts.result.2 } in
+    let worked = c.run_desks-parts.ensures.worked in
+    let whole = IfOk-at_ok (λ _. IsWhole (length batch) worked.0) c.in-Ok.is worked.2 in
+    let free = IfOk-at_ok (λ _. All (λ (d : Desked). d.work.left ≡ Nothing) desks) c.in-Ok.is c.run_desks-parts.ensures.nothing in
     subst (λ (p : Parted). IsDone p.journal parts.journal c.args.first batch (vec_len c.args.workers.now) done) c.tell_all.ensures.same
-    (done-so old parts.journal c.args.first batch desks worked.0 (vec_len c.args.workers.now) done worked.2 worked.1 free c.stand_up-shares.ensures.done
+    (done-so before.journal parts.journal c.args.first batch desks worked.0 (vec_len c.args.workers.now) done worked.3 whole free
+    c.stand_up-shares.ensures.done c.stand_up-shares.ensures.untold
     (omega (
       arith,
       told-many g (goal.at.returns-in-Ok-clause-done g c).After-tell_all,
+      c.run_desks-parts.ensures.as_many,
+      c.stand_up-shares.ensures.one_each,
+      c.stand_up-shares.result.ok.0,
+    ))
+    c.stand_up-shares.ensures.numbered)
+
+pub returns-in-Err-clause-cut_short : goal.returns-in-Err-clause-cut_short
+returns-in-Err-clause-cut_short g c =
+    let parts = c.run_desks-parts.result.0 in
+    let desks = c.run_desks-parts.result.1.items in
+    let before : Parted = c.tell_all.new.parts in
+    let batch = c.args.batch.now in
+    let cut : CutShort = record { shares = c.stand_up-shares.result; ended = c.run_desks-parts.result.2 } in
+    let worked = c.run_desks-parts.ensures.worked in
+    subst (λ (p : Parted). IsCutShort p.journal parts.journal c.args.first batch (vec_len c.args.workers.now) cut) c.tell_all.ensures.same
+    (cut-so before.journal parts.journal c.args.first batch desks worked.0 (vec_len c.args.workers.now) cut worked.3 worked.1.once
+    c.stand_up-shares.ensures.done c.stand_up-shares.ensures.untold
+    (omega (
+      arith,
+      told-many g (goal.at.returns-in-Err-clause-cut_short g c).After-tell_all,
       c.run_desks-parts.ensures.as_many,
       c.stand_up-shares.ensures.one_each,
       c.stand_up-shares.result.ok.0,
@@ -115,16 +134,15 @@ returns-in-Ok-clause-as_many g c =
 
 pub returns-in-Ok-clause-table : goal.returns-in-Ok-clause-table
 returns-in-Ok-clause-table g c =
-    stood-all-so (λ (s : Seen). s.table ≡ c.run_desks-parts.result.0.words) c.stand_up-shares.new.workers.items c.run_desks-parts.result.1.items
-    c.stand_up-shares.ensures.workers c.run_desks-parts.ensures.table
+    told-tables c.stand_up-shares.new.workers.items c.run_desks-parts.result.1.items c.run_desks-parts.result.0.words
+    c.run_desks-parts.result.0.journal.levels.log c.stand_up-shares.ensures.workers c.run_desks-parts.ensures.told
 
 pub returns-in-Ok-clause-told : goal.returns-in-Ok-clause-told
 returns-in-Ok-clause-told g c =
     let parts = c.run_desks-parts.result.0 in
-    let desks = c.run_desks-parts.result.1.items in
     let Told : Seen → Type 0 = λ s. s ≡ record { table = parts.words; log = parts.journal.levels.log } in
-    stood-all-so Told c.stand_up-shares.new.workers.items desks c.stand_up-shares.ensures.workers
-    (IfOk-at_ok (λ (ps : Vec Pass Global). All (λ (d : Desked). Told d.seen) desks) c.in-Ok.is c.run_desks-parts.ensures.told)
+    stood-all-so Told c.stand_up-shares.new.workers.items c.run_desks-parts.result.1.items c.stand_up-shares.ensures.workers
+    c.run_desks-parts.ensures.told
 
 pub returns-in-Err-clause-as_many : goal.returns-in-Err-clause-as_many
 returns-in-Err-clause-as_many g c =
@@ -139,5 +157,5 @@ returns-in-Err-clause-as_many g c =
 
 pub returns-in-Err-clause-table : goal.returns-in-Err-clause-table
 returns-in-Err-clause-table g c =
-    stood-all-so (λ (s : Seen). s.table ≡ c.run_desks-parts.result.0.words) c.stand_up-shares.new.workers.items c.run_desks-parts.result.1.items
-    c.stand_up-shares.ensures.workers c.run_desks-parts.ensures.table
+    told-tables c.stand_up-shares.new.workers.items c.run_desks-parts.result.1.items c.run_desks-parts.result.0.words
+    c.run_desks-parts.result.0.journal.levels.log c.stand_up-shares.ensures.workers c.run_desks-parts.ensures.told

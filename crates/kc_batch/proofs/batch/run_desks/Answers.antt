@@ -1,15 +1,14 @@
 -- Before the first round nobody has entered anything.
-use Rattle.std.proofs.Common.{◌≡◌, [], ℕ, All, Global, List, Vec, refl, subst, sym, arith, length, map}
+use Rattle.std.proofs.Common.{◌≡◌, [], ℕ, All, List, refl, subst, sym, arith, length, map}
 use Rattle.std.proofs.lemmas.Bool.Decides.{nat_tests}
-use Rattle.kc_table.specs.declared.pass.Pass.{Pass}
+use Rattle.std.proofs.lemmas.Result.{IfOk-weaker}
 use Rattle.kc_table.specs.Log.{PassSeen}
-use Rattle.kc_queue.specs.Shares.{IsWhole}
+use Rattle.kc_queue.specs.Shares.{IsShare, IsWhole}
 use Rattle.kc_shared.specs.States.{Parted}
-use Rattle.kc_batch.specs.Batches.{Account, IsCrew}
+use Rattle.kc_batch.specs.Batches.{Account}
 use Rattle.kc_batch.specs.Desks.{Desked, at_turns}
-use Rattle.kc_batch.specs.declared.left.Left.TheVariants.{Nothing}
 use Rattle.kc_batch.specs.declared.line.Line.{Line}
-use Rattle.kc_batch.proofs.Closing.{account-start, crew-start, cut-at_start, idle-keeps, idle-left, if_ok_and, whole-none}
+use Rattle.kc_batch.proofs.Closing.{account-start, crew-start, crew-taken, idle-keeps, idle-left, none-taken, whole-none}
 use Rattle.kc_batch.proofs.batch.run_desks.Goals as goal
 
 pub returns-then-is_empty-clause-worked : goal.returns-then-is_empty-clause-worked
@@ -18,6 +17,7 @@ returns-then-is_empty-clause-worked g c =
     let works = map (λ (d : Desked). d.work) c.args.desks.items in
     let batch = c.args.batch.now in (
       [],
+      none-taken (length batch),
       whole-none _ (let h = c.if-is_empty.ensures in grind (arith, nat_tests)),
       subst (λ (ps : List PassSeen). Account j j c.args.first batch ps works []) (sym c.new.ensures.items)
           (account-start j c.args.first batch works c.requires.nothing),
@@ -26,11 +26,27 @@ returns-then-is_empty-clause-worked g c =
 pub returns-then-is_empty-clause-nothing : goal.returns-then-is_empty-clause-nothing
 returns-then-is_empty-clause-nothing g c = idle-left c.args.desks.items c.requires.nothing
 
-pub returns-in_default-clause-cut_short : goal.returns-in_default-clause-cut_short
-returns-in_default-clause-cut_short g c = cut-at_start c.args.parts.journal c.args.first c.args.batch.now
+pub returns-in_default-clause-worked : goal.returns-in_default-clause-worked
+returns-in_default-clause-worked g c =
+    let j = c.args.parts.journal in
+    let works = map (λ (d : Desked). d.work) c.args.desks.items in (
+      [],
+      none-taken (length c.args.batch.now),
+      tt,
+      subst (λ (ps : List PassSeen). Account j j c.args.first c.args.batch.now ps works []) (sym c.new-in_default.ensures.items)
+          (account-start j c.args.first c.args.batch.now works c.requires.nothing),
+    )
 
-pub returns-in_default-order_of-clause-cut_short : goal.returns-in_default-order_of-clause-cut_short
-returns-in_default-order_of-clause-cut_short g c = cut-at_start c.args.parts.journal c.args.first c.args.batch.now
+pub returns-in_default-order_of-clause-worked : goal.returns-in_default-order_of-clause-worked
+returns-in_default-order_of-clause-worked g c =
+    let j = c.args.parts.journal in
+    let works = map (λ (d : Desked). d.work) c.args.desks.items in (
+      [],
+      none-taken (length c.args.batch.now),
+      tt,
+      subst (λ (ps : List PassSeen). Account j j c.args.first c.args.batch.now ps works []) (sym c.new-in_default-order_of.ensures.items)
+          (account-start j c.args.first c.args.batch.now works c.requires.nothing),
+    )
 
 pub work_off-crew-requires : goal.work_off-crew-requires
 work_off-crew-requires g c κs within =
@@ -72,18 +88,11 @@ work_off-crew-requires g c κs within =
 pub returns-clause-worked : goal.returns-clause-worked
 returns-clause-worked g c =
     let off = c.work_off-crew in
-    let old = c.args.parts.journal in
-    let parts : Parted = off.result.0.parts in
-    let batch = c.args.batch.now in
     let line : Line = record { queue = c.in-Ok.queue; order = c.in-Ok-order_of.order } in
-    let desks = off.result.0.desks.items in
-    let consumer = off.result.0.consumer in
-    let places : List ℕ = at_turns line.order.items consumer.taken in
-    let works = map (λ (d : Desked). d.work) desks in
-    let Ends : Vec Pass Global → Type 0 = λ ended.
-    IsCrew old c.args.first batch ended.items line parts.words parts.journal desks consumer in
-    let Whole : Type 0 = IsWhole line.queue.count places × All (λ (d : Desked). d.work.left ≡ Nothing) desks in
-    let Worked : Vec Pass Global → Type 0 = λ ended.
-    (taken : List ℕ) × IsWhole (length batch) taken × Account old parts.journal c.args.first batch ended.items works taken in
-    if_ok_and off.result.1 Ends Worked Whole off.ensures.crew off.ensures.whole
-    (λ ended crew whole. (places, subst (λ (n : ℕ). IsWhole n places) (omega (arith, c.in-Ok.ensures.count)) whole.0, crew.account))
+    let places : List ℕ = at_turns line.order.items off.result.0.consumer.taken in
+    let count : line.queue.count ≡ length c.args.batch.now = omega (arith, c.in-Ok.ensures.count) in (
+      places,
+      subst (λ (n : ℕ). IsShare n places) count (crew-taken off.ensures.crew),
+      IfOk-weaker off.result.2 _ _ (λ _ whole. subst (λ (n : ℕ). IsWhole n places) count whole.0) off.ensures.whole,
+      off.ensures.crew.account,
+    )

@@ -4,17 +4,17 @@ use Rattle.kc_graph.specs.declared.update.Update.{Update}
 use Rattle.kc_table.specs.Log.{TableName}
 use Rattle.kc_journal.specs.Journals.{Stands}
 use Rattle.kc_stripes.specs.Records.{opened_with}
-use Rattle.kc_batch.specs.Batches.{IsCrew, IsCutShort}
+use Rattle.kc_batch.specs.Batches.{IsCrew}
 use Rattle.kc_batch.specs.Desks.{Desked, KeepsOneOf, Work, at_turns}
 use Rattle.kc_batch.specs.Seats.{Rounds}
 use Rattle.kc_batch.specs.declared.crew.Crew.{Crew}
-use Rattle.kc_batch.proofs.Closing.{IsRound, crew-cut, crew-round, round-many, round-spent}
+use Rattle.kc_batch.proofs.Closing.{IsRound, crew-round, round-many, round-spent}
 use Rattle.kc_batch.proofs.batch.work_off.Goals as goal
 
-pub returns-in-Err-clause-cut_short : goal.returns-in-Err-clause-cut_short
-returns-in-Err-clause-cut_short g c =
-    subst (λ (k : Crew). IsCutShort g.of.old k.parts.journal g.of.first g.of.batch × All (λ (d : Desked). d.seen.table ≡ k.parts.words) k.desks.items)
-    (sym c.in-Err.ensures.same) (crew-cut c.loop.invariant.crew)
+pub returns-in-Err-clause-crew : goal.returns-in-Err-clause-crew
+returns-in-Err-clause-crew g c =
+    subst (λ (k : Crew). IsCrew g.of.old g.of.first g.of.batch c.loop.ended.items c.args.line.now k.parts.words k.parts.journal k.desks.items k.consumer)
+    (sym c.in-Err.ensures.same) c.loop.invariant.crew
 
 pub go_on-requires : goal.go_on-requires
 go_on-requires g c κs within =

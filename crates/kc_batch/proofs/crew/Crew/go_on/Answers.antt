@@ -1,30 +1,21 @@
 -- What is kept is entered in a fresh table, and what is left of the line is given to the first.
 use Rattle.std.proofs.Common.{◌∙◌, ap, subst, sym}
-use Rattle.std.proofs.lemmas.Result.{err_from_is_err_and}
-use Rattle.kc_shared.specs.States.{Parted}
 use Rattle.kc_queue.specs.Shares.{Consuming, IsShare, IsWhole}
-use Rattle.kc_batch.specs.Batches.{IsCutShort}
 use Rattle.kc_batch.specs.Desks.{at_turns}
-use Rattle.kc_batch.proofs.Closing.{HasGiven, all-free, crew-cut, crew-given, crew-keeps, crew-left, crew-renewed, crew-spent, given-keeps}
+use Rattle.kc_batch.proofs.Closing.{HasGiven, all-free, crew-given, crew-keeps, crew-left, crew-renewed, crew-same, crew-spent, given-keeps}
 use Rattle.kc_batch.proofs.crew.Crew.go_on.Goals.{After-give}
 use Rattle.kc_batch.proofs.crew.Crew.go_on.Given.{Over}
 use Rattle.kc_batch.proofs.crew.Crew.go_on.Goals as goal
-
-pub returns-in-Short-clause-cut_short : goal.returns-in-Short-clause-cut_short
-returns-in-Short-clause-cut_short g c = crew-cut c.requires.1.0
 
 pub renew-requires-clause-spent : goal.renew-requires-clause-spent
 renew-requires-clause-spent g c =
     let r = c.requires.1 in
     crew-spent r.0 r.1.1.1.1.0 r.1.1.0 r.1.1.1.0 r.1.0 c.in-Keeping.ensures.1
 
-pub returns-in_err-renew-in-Keeping-clause-cut_short : goal.returns-in_err-renew-in-Keeping-clause-cut_short
-returns-in_err-renew-in-Keeping-clause-cut_short g c =
-    let p = err_from_is_err_and c.from_residual.result c.from_residual.ensures.1 in
-    rw p.1 (
-      subst (λ (z : Parted). IsCutShort g.of.old z.journal g.of.first g.of.batch) (sym c.in_err-renew-in-Keeping.ensures.same.0) (crew-cut c.requires.1.0).0,
-      c.in_err-renew-in-Keeping.ensures.table,
-    )
+pub returns-in_err-renew-in-Keeping-clause-crew : goal.returns-in_err-renew-in-Keeping-clause-crew
+returns-in_err-renew-in-Keeping-clause-crew g c =
+    let r = c.in_err-renew-in-Keeping.ensures in
+    crew-same r.same.0 r.same.1 r.same.2 r.consumer c.requires.1.0
 
 pub returns-in_default-clause-whole : goal.returns-in_default-clause-whole
 returns-in_default-clause-whole g c = λ e. (
