@@ -1,9 +1,10 @@
 -- The edges after a batch, and after an update and a batch that names its edge no more.
-use Rattle.std.proofs.Common.{◌≡◌, ◌≢◌, ◌<◌, ℕ, Bool, true, false, cond, not, ◌&&◌, ◌||◌, List, [], ◌∷◌, map, refl, sym, ap, ap₂, ◌∙◌, true≢false, lt-ltb, ltb}
+use Rattle.std.proofs.Common.{◌≡◌, ◌≢◌, ◌<◌, ℕ, Bool, true, false, cond, not, ◌&&◌, ◌||◌, List, [], ◌∷◌, map, refl, sym, ap, ap₂, ◌∙◌, true≢false}
+use Rattle.std.proofs.Common.{lt-ltb, ltb, inl, inr}
 use Rattle.std.specs.List.{AllByRecursion, filter, list_any}
 use Rattle.std.specs.Ordering.{eq_by_cmp}
 use Rattle.std.specs.FinSet as set
-use Rattle.std.proofs.lemmas.Bool.{and_parts, false_from_ne_true, or_from}
+use Rattle.std.proofs.lemmas.Bool.{and_parts, cases_Bool, false_from_ne_true, or_from}
 use Rattle.kc_graph.specs.SimpleGraph.{SimpleGraph, adjacent, pair_cmp}
 use Rattle.kc_graph.specs.Edges.{edge, with_edge, without_edge}
 use Rattle.kc_graph.proofs.RowsLemmas.{pair_total, pair_exact, same_pair}
@@ -125,13 +126,62 @@ pub graph_after_batch-first : (g : SimpleGraph) (x : EdgeUpdate) (batch : List E
     → graph_after_batch (graph_with g x) batch ≡ graph_after_batch g (x ∷ batch)
 graph_after_batch-first g x batch spares = ap (with_edges g) (set.same_set pair_total pair_exact _ _ (contains-first g.edges x batch spares))
 
--- an update leaves each other edge as it is
-pub contains-other : (g : SimpleGraph) (x : EdgeUpdate) (q : ℕ × ℕ) → changed_edge x ≢ q → set.contains (graph_with g x).edges q ≡ set.contains g.edges q
-contains-other g x q other =
-    let differs : eq_by_cmp pair_cmp q (changed_edge x) ≡ false = false_from_ne_true _ (λ t. other (sym (same_pair q (changed_edge x) t))) in
+-- an update leaves each edge as it is that differs from its own
+contains-differs : (g : SimpleGraph) (x : EdgeUpdate) (q : ℕ × ℕ) → eq_by_cmp pair_cmp q (changed_edge x) ≡ false
+    → set.contains (graph_with g x).edges q ≡ set.contains g.edges q
+contains-differs g x q differs =
     elim (is_add x) as (λ b. set.contains (cond b (set.insert g.edges (changed_edge x)) (set.remove g.edges (changed_edge x))) q ≡ set.contains g.edges q) [
       | true ↦ set.contains-insert pair_total g.edges (changed_edge x) q ∙ ap (λ t. t || set.contains g.edges q) differs
       | false ↦ set.contains-remove pair_total g.edges (changed_edge x) q ∙ ap (λ t. not t && set.contains g.edges q) differs
+    ]
+
+-- so it leaves each other edge as it is
+pub contains-other : (g : SimpleGraph) (x : EdgeUpdate) (q : ℕ × ℕ) → changed_edge x ≢ q → set.contains (graph_with g x).edges q ≡ set.contains g.edges q
+contains-other g x q other = contains-differs g x q (false_from_ne_true _ (λ t. other (sym (same_pair q (changed_edge x) t))))
+
+-- whether an update of the batch names the edge
+abbrev pub names_edge : ℕ × ℕ → List EdgeUpdate → Bool
+names_edge q batch = list_any (λ update. eq_by_cmp pair_cmp q (changed_edge update)) batch
+
+-- an update of an edge adds it or removes it, or else one behind it does; k says whether it adds, and e whether it is of that edge
+first-or-later : (k e a r n : Bool) → (n ≡ true → (a || r) ≡ true) → (e || n) ≡ true → (((k && e) || a) || ((not k && e) || r)) ≡ true
+first-or-later true true a r n later h = refl
+first-or-later false true true r n later h = refl
+first-or-later false true false r n later h = refl
+first-or-later true false a r n later h = later h
+first-or-later false false a r n later h = later h
+
+-- a batch that names an edge adds it or removes it
+adds-or-removes : (q : ℕ × ℕ) (batch : List EdgeUpdate) → names_edge q batch ≡ true → (list_any (adds_it q) batch || list_any (removes_it q) batch) ≡ true
+adds-or-removes q [] h = absurd (true≢false (sym h))
+adds-or-removes q (x ∷ batch) h =
+    first-or-later (is_add x) (eq_by_cmp pair_cmp q (changed_edge x)) (list_any (adds_it q) batch) (list_any (removes_it q) batch) (names_edge q batch)
+    (adds-or-removes q batch) h
+
+-- whether an edge that a batch adds or removes is there after it doesn't depend on what was there before
+whatever-was : (c d a r : Bool) → (a || r) ≡ true → ((c || a) && not r) ≡ ((d || a) && not r)
+whatever-was true true a r h = refl
+whatever-was false false a r h = refl
+whatever-was true false true r h = refl
+whatever-was true false false true h = refl
+whatever-was true false false false h = absurd (true≢false (sym h))
+whatever-was false true true r h = refl
+whatever-was false true false true h = refl
+whatever-was false true false false h = absurd (true≢false (sym h))
+
+-- an update whose edge the batch behind it names makes no difference after that batch
+pub graph_after_batch-again : (g : SimpleGraph) (x : EdgeUpdate) (batch : List EdgeUpdate) → names_edge (changed_edge x) batch ≡ true
+    → graph_after_batch (graph_with g x) batch ≡ graph_after_batch g batch
+graph_after_batch-again g x batch named =
+    ap (with_edges g) (set.same_set pair_total pair_exact _ _ (λ q. contains-after (graph_with g x).edges batch q ∙ (alike q
+    ∙ sym (contains-after g.edges batch q))))
+  where
+    alike : (q : ℕ × ℕ) → ((set.contains (graph_with g x).edges q || list_any (adds_it q) batch) && not (list_any (removes_it q) batch))
+        ≡ ((set.contains g.edges q || list_any (adds_it q) batch) && not (list_any (removes_it q) batch))
+    alike q = elim (cases_Bool (eq_by_cmp pair_cmp q (changed_edge x))) [
+      | inl same ↦ whatever-was (set.contains (graph_with g x).edges q) (set.contains g.edges q) (list_any (adds_it q) batch) (list_any (removes_it q) batch)
+          (adds-or-removes q batch (ap (λ (p : ℕ × ℕ). names_edge p batch) (same_pair q (changed_edge x) same) ∙ named))
+      | inr differs ↦ ap (λ t. (t || list_any (adds_it q) batch) && not (list_any (removes_it q) batch)) (contains-differs g x q differs)
     ]
 
 -- a pair in order is an edge as it stands

@@ -1,4 +1,5 @@
 pub mod Applying
+pub mod LastUpdates
 pub mod InAnyOrder
 pub mod OneByOne
 pub mod Rows

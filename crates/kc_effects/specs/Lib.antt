@@ -2,3 +2,4 @@
 pub mod Batches
 pub mod Entered
 pub mod Outcomes
+pub mod Updates

@@ -8,10 +8,12 @@ ghost use Rattle.kc_graph.specs.declared.update.Update.{Update};
 ghost use Rattle.kc_table.specs.declared.entry.Entry.{Entry};
 ghost use Rattle.kc_table.specs.Edges.{after_entries};
 ghost use Rattle.kc_text.specs.Inputs.{IsBatch, parts_of};
+ghost use Rattle.kc_text.specs.LastUpdates.{last_of_edges};
 ghost use Rattle.kc_agree.specs.Stamps.{changes_graph};
 ghost use Rattle.kc_effects.specs.Batches.{added, graph_after_batch, is_effective, kept, removed};
 ghost use Rattle.kc_effects.specs.Entered.{AreSomeOf, IsOrderOf, change_of, indices};
 ghost use Rattle.kc_effects.specs.Outcomes.{AreOutcomesOf, IsOutcomeIn, told_added, told_indices, told_kept, told_removed};
+ghost use Rattle.kc_effects.specs.Updates.{after_updates};
 ghost use Rattle.kc_effects.specs.declared.outcome.Outcome.{Outcome};
 
 /// As many entries as a batch has updates, none twice, have each update.
@@ -54,4 +56,11 @@ pub fn outcomes_tell_what_a_batch_did()
         → AreOutcomesOf edges first batch outcomes → told_removed first batch outcomes ≡ removed edges (map parts_of batch) }
     ensures kept { (edges : FinSet pair_cmp) (first : ℕ) (batch : List Update) (outcomes : List Outcome)
         → AreOutcomesOf edges first batch outcomes → told_kept outcomes ≡ kept edges (map parts_of batch) }
+{}
+
+/// What updates leave that are made one by one, in their order, the last update of each edge leaves: as a batch, and entered in any order.
+pub fn the_last_updates_leave_what_all_leave()
+    ensures as_a_batch { (g : SimpleGraph) (updates : List Update) → after_updates g updates ≡ graph_after_batch g (map parts_of (last_of_edges updates)) }
+    ensures in_any_order { (g : SimpleGraph) (vertices first : ℕ) (updates : List Update) (made : List Entry)
+        → All (λ update. update.v < vertices) updates → IsOrderOf first (last_of_edges updates) made → after_entries g made ≡ after_updates g updates }
 {}

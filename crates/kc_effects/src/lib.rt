@@ -6,13 +6,19 @@
 //! here say that both come to the same: the graph in the end, whether each update was applied, and the counts.
 //!
 //! `specs/Entered.antt` says when entries are those of a batch, and `specs/Outcomes.antt` when what is told is told of each update once.
-//! [`count`] is the only code. The crate makes no table and starts no thread; it stands on `kc_agree`, `kc_table`, `kc_text`, `kc_graph`,
+//!
+//! Updates that may name an edge again mean something only in their order, and then the last update of an edge decides. [`decide`] finds
+//! these last ones: they are a batch, and leave the graph that all updates leave, one by one. [`count`] counts what became of a batch.
+//! There is no other code. The crate makes no table and starts no thread; it stands on `kc_agree`, `kc_table`, `kc_text`, `kc_graph`,
 //! `kc_words` and `kc_distinct`.
 #![tactic(auto)]
 
 mod counts;
+mod deciding;
 pub mod laws;
 mod outcome;
 
 pub use counts::{Counts, count};
+pub use deciding::decide;
+pub use kc_text::{Decision, NoMemory};
 pub use outcome::Outcome;

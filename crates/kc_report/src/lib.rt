@@ -10,6 +10,7 @@
 mod drawing;
 mod draws;
 mod generator;
+pub mod laws;
 mod pieces;
 mod sizes;
 

@@ -1,5 +1,5 @@
 -- Batches between the numbers that stand for ids.
-use Rattle.std.proofs.Common.{◌≡◌, ◌≢◌, ◌≤◌, ◌<◌, ℕ, suc, zero, Bool, true, List, [], ◌∷◌, length, length-append, map, get_or, refl, sym, ap, subst, ◌∙◌}
+use Rattle.std.proofs.Common.{◌≡◌, ◌≢◌, ◌≤◌, ◌<◌, ℕ, suc, zero, true, List, [], ◌∷◌, length, length-append, map, get_or, refl, sym, ap, subst, ◌∙◌}
 use Rattle.std.proofs.Common.{arith, nat_eq, eqb-true, eq-eqb, min, max, inl, inr, Vec, Global, None}
 use Rattle.std.specs.Prelude.{All}
 use Rattle.std.specs.List.{flat_map}

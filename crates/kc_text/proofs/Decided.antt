@@ -10,7 +10,7 @@ use Rattle.std.proofs.lemmas.List.Elements.{All-cons, All-nil}
 use Rattle.std.proofs.lemmas.Simd.{map-map}
 use Rattle.kc_graph.specs.declared.update.Update.{Update}
 use Rattle.kc_text.specs.declared.change.Change.{Change}
-use Rattle.kc_text.specs.Deciding.{last_of_edges, same_edge}
+use Rattle.kc_text.specs.LastUpdates.{last_of_edges, same_edge}
 use Rattle.kc_text.specs.Inputs.{AreAmong, AreUpdates, EdgeUpdate, numbered_change, parts_of, place}
 use Rattle.kc_text.specs.Meaning.{ends, ends_of, name_same}
 use Rattle.kc_text.specs.Overruling.{deciding, overruled}

@@ -4,6 +4,7 @@ pub mod Few
 pub mod Decided
 pub mod FieldCuts
 pub mod Keeping
+pub mod LastOfEdges
 pub mod LineCuts
 pub mod Marks
 pub mod Members

@@ -1,22 +1,14 @@
--- The updates of a batch that decide, and how they are found by a sort.
-use Rattle.std.specs.Prelude.{◌≡◌, ◌<◌, ◌*◌, ◌+◌, ◌&&◌, ◌/◌, ◌%◌, ℕ, Bool, true, false, List, [], ◌∷◌, length, drop, nat_eq, slice_index, slice_index_or}
-use Rattle.std.specs.Prelude.{if◌then◌else◌}
+-- How the updates of a batch that decide are found by a sort.
+use Rattle.std.specs.Prelude.{◌≡◌, ◌<◌, ◌*◌, ◌+◌, ◌/◌, ◌%◌, ℕ, Bool, true, false, List, length, drop, slice_index, slice_index_or}
 use Rattle.std.specs.List.{list_any}
 use Rattle.kc_graph.specs.declared.update.Update.{Update}
-use Rattle.kc_text.specs.declared.limits.TheConstants.{MOST_IDS, MOST_UPDATES}
-
--- whether two updates name the same edge
-abbrev pub same_edge : Update → Update → Bool
-same_edge x y = nat_eq x.u y.u && nat_eq x.v y.v
-
--- the last update of each edge
-abbrev pub last_of_edges : List Update → List Update
-last_of_edges [] = []
-last_of_edges (x ∷ rest) = if list_any (same_edge x) rest then last_of_edges rest else x ∷ last_of_edges rest
+use Rattle.kc_text.specs.LastUpdates.{same_edge}
+use Rattle.kc_text.specs.declared.limits.TheConstants.{MOST_IDS}
+use Rattle.kc_text.specs.declared.overruling.TheConstants.{MOST_TO_DECIDE}
 
 -- The edge of an update and its place in the batch, as one number. Such numbers stand by their edges, and those of one edge by their places.
 abbrev pub rank : Update → ℕ → ℕ
-rank x place = (x.u * MOST_IDS + x.v) * MOST_UPDATES + place
+rank x place = (x.u * MOST_IDS + x.v) * MOST_TO_DECIDE + place
 
 -- the ranks of the updates of a batch
 pub record AreRanks (updates : List Update) (ranks : List ℕ) : Type 0 where
@@ -25,14 +17,14 @@ pub record AreRanks (updates : List Update) (ranks : List ℕ) : Type 0 where
 
 -- a rank, and a greater one of the same edge
 abbrev pub AreOfOneEdge : ℕ → ℕ → Type 0
-AreOfOneEdge a b = (a < b) × (a / MOST_UPDATES ≡ b / MOST_UPDATES)
+AreOfOneEdge a b = (a < b) × (a / MOST_TO_DECIDE ≡ b / MOST_TO_DECIDE)
 
 -- the places are marked of the ranks that one of the same edge follows
 pub record MarksFollowed (ranks : List ℕ) (marks : List Bool) : Type 0 where
   pub sound : (place : ℕ) → slice_index_or marks place false ≡ true
-      → (k : ℕ) × (k + 1 < length ranks) × AreOfOneEdge (slice_index ranks k) (slice_index ranks (k + 1)) × (slice_index ranks k % MOST_UPDATES ≡ place)
+      → (k : ℕ) × (k + 1 < length ranks) × AreOfOneEdge (slice_index ranks k) (slice_index ranks (k + 1)) × (slice_index ranks k % MOST_TO_DECIDE ≡ place)
   pub complete : (k : ℕ) → k + 1 < length ranks → AreOfOneEdge (slice_index ranks k) (slice_index ranks (k + 1))
-      → slice_index_or marks (slice_index ranks k % MOST_UPDATES) false ≡ true
+      → slice_index_or marks (slice_index ranks k % MOST_TO_DECIDE) false ≡ true
 
 -- each update is marked of whose edge there is a later one
 pub record AreOverruled (updates : List Update) (marks : List Bool) : Type 0 where

@@ -3,6 +3,7 @@ pub mod Batches
 pub mod Forms
 pub mod Inputs
 pub mod Kinds
+pub mod LastUpdates
 pub mod Lines
 pub mod Meaning
 pub mod NamedOnce

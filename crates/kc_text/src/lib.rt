@@ -6,6 +6,7 @@
 //! after what the lines before it have told, and `Inputs` numbers the ids. The other files there serve the crate's own proofs.
 //!
 //! A batch may name a pair again. Then the last line that names it decides, as `specs/Overruling` says, and the others are counted.
+//! [`decide`] does the same for a list of updates, as `specs/LastUpdates` says.
 //!
 //! Reading is linear but for sorts. A plain line is read in one scan (`plain`), any other is cut off and into fields. Ids that are not
 //! far apart are marked and listed, and far ones sorted (`ids`). The different ids are counted at the end, and only where there are too
@@ -22,6 +23,7 @@ mod finder;
 mod ids;
 mod input;
 mod kind;
+pub mod laws;
 mod limits;
 mod line;
 mod look;
@@ -48,13 +50,14 @@ ghost use Rattle.kc_text.specs.declared.limits.TheConstants.{MOST_BATCHES, MOST_
 
 use crate::finder::Finder;
 use crate::numbering::{batches_of, start_of};
-use crate::overruling::decide;
+use crate::overruling::decide_batches;
 use crate::reading::{Reading, read_text};
 pub use change::Change;
 pub use fault::ParseFault;
 pub use input::Input;
 pub use kind::Kind;
 pub use limits::{MOST_BATCHES, MOST_BYTES, MOST_EDGE_LINES, MOST_IDS, MOST_UPDATES};
+pub use overruling::{Decision, MOST_TO_DECIDE, decide};
 pub use refusal::Refusal;
 pub use std::alloc::AllocError as NoMemory;
 use std::alloc::Global;
@@ -81,7 +84,7 @@ fn input_of(
     let finder = Finder::new(alloc, &ids)?;
     let start = start_of(alloc, &ids, &finder, edges)?;
     let updates = batches_of(alloc, &ids, &finder, batches)?;
-    let (batches, overruled) = decide(alloc, &updates)?;
+    let (batches, overruled) = decide_batches(alloc, &updates)?;
     Ok(Input {
         ids,
         start,

@@ -1,28 +1,42 @@
 //! Finds the updates of a batch that decide: a batch may name an edge again, and then the last update of it decides. They are found by
 //! a sort of numbers, which costs less than a set of the edges would.
-ghost use Rattle.std.specs.Prelude.{◌≡◌, ◌≤◌, ◌<◌, ◌-◌, ◌%◌, All, IfOk, length, map};
-ghost use Rattle.kc_text.specs.Deciding.{AreOverruled, AreRanks, MarksFollowed, last_of_edges, rank};
+ghost use Rattle.std.specs.Prelude.{◌≡◌, ◌≤◌, ◌<◌, ◌+◌, ◌-◌, ◌%◌, All, IfOk, length, map};
+ghost use Rattle.kc_text.specs.Deciding.{AreOverruled, AreRanks, MarksFollowed, rank};
+ghost use Rattle.kc_text.specs.LastUpdates.{last_of_edges};
 ghost use Rattle.kc_text.specs.declared.limits.TheConstants.{MOST_IDS, MOST_UPDATES};
+ghost use Rattle.kc_text.specs.declared.overruling.TheConstants.{MOST_TO_DECIDE};
 
 use crate::NoMemory;
-use crate::limits::{MOST_IDS, MOST_UPDATES};
+use crate::limits::MOST_IDS;
 use kc_graph::Update;
 use std::alloc::Global;
+
+/// The most updates of which [`decide`] finds those that decide.
+pub const MOST_TO_DECIDE: usize = 4_194_304;
+
+/// The updates of a batch that decide, and how many they overrule.
+#[derive(Drop)]
+pub struct Decision {
+    /// For each edge that the batch names the last update of it, in the order of these last updates.
+    pub updates: Vec<Update>,
+    /// How many updates of the batch a later one of the same edge overrules.
+    pub overruled: u32,
+}
 
 /// The edge of an update and its place in the batch, as one number.
 fn rank(update: Update, place: usize) -> u64
     requires ends { update.v < MOST_IDS }
-    requires place { place < MOST_UPDATES }
+    requires place { place < MOST_TO_DECIDE }
     ensures { result ≡ rank update place }
 {
     let edge = u64::from(update.u) * MOST_IDS as u64 + u64::from(update.v);
-    edge * MOST_UPDATES as u64 + place as u64
+    edge * MOST_TO_DECIDE as u64 + place as u64
 }
 
 /// The ranks of the updates, in their order.
 fn ranks_of(alloc: Global, updates: &[Update]) -> Result<Vec<u64>, NoMemory>
     requires ends { All (λ update. update.v < MOST_IDS) updates.now }
-    requires short { length updates.now ≤ MOST_UPDATES }
+    requires short { length updates.now ≤ MOST_TO_DECIDE }
     ensures { IfOk result (λ ranks. AreRanks updates.now ranks.items) }
 {
     let mut ranks = Vec::with_capacity(alloc, updates.len())?;
@@ -34,15 +48,15 @@ fn ranks_of(alloc: Global, updates: &[Update]) -> Result<Vec<u64>, NoMemory>
 
 /// Marks the places of the ranks that one of the same edge follows.
 fn mark_followed(alloc: Global, ranks: &[u64]) -> Result<Vec<bool>, NoMemory>
-    requires { All (λ rank. rank % MOST_UPDATES < length ranks.now) ranks.now }
+    requires { All (λ rank. rank % MOST_TO_DECIDE < length ranks.now) ranks.now }
     ensures count { IfOk result (λ marks. length marks.items ≡ length ranks.now) }
     ensures marks { IfOk result (λ marks. MarksFollowed ranks.now marks.items) }
 {
     let mut marks = vec![in alloc; false; ranks.len()]?;
     for k in 1..ranks.len() {
         let (rank, next) = (ranks[k - 1], ranks[k]);
-        if rank < next && rank / MOST_UPDATES as u64 == next / MOST_UPDATES as u64 {
-            marks[(rank % MOST_UPDATES as u64) as usize] = true;
+        if rank < next && rank / MOST_TO_DECIDE as u64 == next / MOST_TO_DECIDE as u64 {
+            marks[(rank % MOST_TO_DECIDE as u64) as usize] = true;
         }
     }
     Ok(marks)
@@ -51,7 +65,7 @@ fn mark_followed(alloc: Global, ranks: &[u64]) -> Result<Vec<bool>, NoMemory>
 /// For each update, whether a later one of the same edge overrules it.
 fn overruled(alloc: Global, updates: &[Update]) -> Result<Vec<bool>, NoMemory>
     requires ends { All (λ update. update.v < MOST_IDS) updates.now }
-    requires short { length updates.now ≤ MOST_UPDATES }
+    requires short { length updates.now ≤ MOST_TO_DECIDE }
     ensures { IfOk result (λ marks. AreOverruled updates.now marks.items) }
 {
     let mut ranks = ranks_of(alloc, updates)?;
@@ -73,8 +87,25 @@ fn unmarked(alloc: Global, updates: &[Update], marks: &[bool]) -> Result<Vec<Upd
     Ok(left)
 }
 
+/// The updates of a batch that decide: of each edge that it names the last one, in their order. It sorts a number for each update, and
+/// takes memory for a few more. `NoMemory` comes only where there is none.
+pub fn decide(alloc: Global, updates: &[Update]) -> Result<Decision, NoMemory>
+    requires ends { All (λ update. update.v < MOST_IDS) updates.now }
+    requires short { length updates.now ≤ MOST_TO_DECIDE }
+    ensures deciding { IfOk result (λ decision. decision.updates.items ≡ last_of_edges updates.now) }
+    ensures overruled { IfOk result (λ decision. length decision.updates.items + decision.overruled ≡ length updates.now) }
+{
+    let marks = overruled(alloc, updates)?;
+    let left = unmarked(alloc, updates, &marks)?;
+    let overruled = (updates.len() - left.len()) as u32;
+    Ok(Decision {
+        updates: left,
+        overruled,
+    })
+}
+
 /// The updates of each batch that decide, and how many are overruled.
-pub(crate) fn decide(
+pub(crate) fn decide_batches(
     alloc: Global,
     batches: &[Vec<Update>],
 ) -> Result<(Vec<Vec<Update>>, Vec<u32>), NoMemory>
@@ -86,10 +117,9 @@ pub(crate) fn decide(
     let mut deciding = Vec::with_capacity(alloc, batches.len())?;
     let mut counts = Vec::with_capacity(alloc, batches.len())?;
     for batch in batches {
-        let marks = overruled(alloc, batch)?;
-        let left = unmarked(alloc, batch, &marks)?;
-        counts.push((batch.len() - left.len()) as u32)?;
-        deciding.push(left)?;
+        let decision = decide(alloc, batch)?;
+        counts.push(decision.overruled)?;
+        deciding.push(decision.updates)?;
     }
     Ok((deciding, counts))
 }

@@ -3,7 +3,7 @@ use Rattle.std.proofs.Common.{◌≡◌, ◌≤◌, ◌<◌, ◌-◌, ℕ, List,
 use Rattle.std.specs.Prelude.{All}
 use Rattle.kc_graph.specs.declared.update.Update.{Update}
 use Rattle.kc_text.specs.declared.change.Change.{Change}
-use Rattle.kc_text.specs.Deciding.{last_of_edges}
+use Rattle.kc_text.specs.LastUpdates.{last_of_edges}
 use Rattle.kc_text.specs.Inputs.{numbered_change}
 use Rattle.kc_text.specs.declared.limits.TheConstants.{MOST_IDS, MOST_UPDATES}
 use Rattle.kc_text.proofs.Decided.{AreAllUpdates, all-deciding, all-overruled, all-short, all-within}
@@ -15,15 +15,16 @@ are-all : (c : After-deref-4) → AreAllUpdates c.args.ids.items c.args.batches.
 are-all c = c.in_ok-updates.ensures
     ∙ ap (λ (ids : List ℕ). map (λ (batch : Vec Change Global). map (numbered_change ids) batch.items) c.args.batches.now) c.deref-3.ensures.value
 
-pub decide-requires-clause-ends : goal.decide-requires-clause-ends
-decide-requires-clause-ends c = subst (All (λ (batch : Vec Update Global). All (λ update. update.v < MOST_IDS) batch.items)) (sym c.deref-4.ensures.value)
+pub decide_batches-requires-clause-ends : goal.decide_batches-requires-clause-ends
+decide_batches-requires-clause-ends c =
+    subst (All (λ (batch : Vec Update Global). All (λ update. update.v < MOST_IDS) batch.items)) (sym c.deref-4.ensures.value)
     (all-within c.args.ids.items MOST_IDS c.args.batches.now c.in_ok-updates.updates.items c.requires.few
-    (are-all (goal.at.decide-requires-clause-ends c).After-deref-4) c.requires.batches)
+    (are-all (goal.at.decide_batches-requires-clause-ends c).After-deref-4) c.requires.batches)
 
-pub decide-requires-clause-short : goal.decide-requires-clause-short
-decide-requires-clause-short c = subst (All (λ (batch : Vec Update Global). length batch.items ≤ MOST_UPDATES)) (sym c.deref-4.ensures.value)
+pub decide_batches-requires-clause-short : goal.decide_batches-requires-clause-short
+decide_batches-requires-clause-short c = subst (All (λ (batch : Vec Update Global). length batch.items ≤ MOST_UPDATES)) (sym c.deref-4.ensures.value)
     (all-short c.args.ids.items MOST_UPDATES c.args.batches.now c.in_ok-updates.updates.items
-    (are-all (goal.at.decide-requires-clause-short c).After-deref-4) c.requires.short)
+    (are-all (goal.at.decide_batches-requires-clause-short c).After-deref-4) c.requires.short)
 
 pub returns-clause-batches : goal.returns-clause-batches
 returns-clause-batches c =

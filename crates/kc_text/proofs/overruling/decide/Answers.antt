@@ -3,13 +3,8 @@ use Rattle.std.proofs.Common.{arith, ap, length}
 use Rattle.kc_text.proofs.Decided.{length-last}
 use Rattle.kc_text.proofs.overruling.decide.Goals as goal
 
-pub overflow_sub-len : goal.overflow_sub-len
-overflow_sub-len c = omega (
-  arith,
-  c.len.ensures,
-  c.len-in-loop-batch.ensures,
-  length-last c.deref-in-loop-batch.result.now,
-  ap
-      (length) c.in_ok-left.ensures,
-  ap (length) c.deref-in-loop-batch.ensures.value,
-)
+pub overflow_sub-overruled : goal.overflow_sub-overruled
+overflow_sub-overruled c = omega (arith, c.len.ensures, length-last c.args.updates.now, ap (length) c.in_ok-left.ensures)
+
+pub returns-clause-overruled : goal.returns-clause-overruled
+returns-clause-overruled c = omega (arith, c.len.ensures, length-last c.args.updates.now, ap (length) c.in_ok-left.ensures)

@@ -4,7 +4,7 @@ use Rattle.std.specs.Prelude.{All}
 use Rattle.std.specs.List.Sorted.{IsNonDecreasingBy}
 use Rattle.std.proofs.lemmas.List.Sorted.{IsNonDecreasingBy-from_sort, length_permutation}
 use Rattle.kc_text.specs.Deciding.{MarksFollowed}
-use Rattle.kc_text.specs.declared.limits.TheConstants.{MOST_UPDATES}
+use Rattle.kc_text.specs.declared.overruling.TheConstants.{MOST_TO_DECIDE}
 use Rattle.kc_text.proofs.Ranked.{both-ok, overruled-are, places-within}
 use Rattle.kc_text.proofs.overruling.overruled.Goals as goal
 
@@ -13,8 +13,8 @@ mark_followed-requires c =
     let ranks : List ℕ = c.in_ok-ranks.ranks.items in
     let sorted : List ℕ = c.sort_unstable.new.self.items in
     let count : length sorted ≡ length c.args.updates.now = length_permutation ranks sorted c.sort_unstable.ensures.permutation ∙ c.in_ok-ranks.ensures.count in
-    subst (λ (t : List ℕ). All (λ r. r % MOST_UPDATES < length t) t) (sym c.deref.ensures.value)
-    (subst (λ n. All (λ r. r % MOST_UPDATES < n) sorted) (sym count) (places-within c.args.updates.now ranks sorted c.requires.short c.in_ok-ranks.ensures
+    subst (λ (t : List ℕ). All (λ r. r % MOST_TO_DECIDE < length t) t) (sym c.deref.ensures.value)
+    (subst (λ n. All (λ r. r % MOST_TO_DECIDE < n) sorted) (sym count) (places-within c.args.updates.now ranks sorted c.requires.short c.in_ok-ranks.ensures
     c.sort_unstable.ensures.permutation))
 
 pub returns : goal.returns

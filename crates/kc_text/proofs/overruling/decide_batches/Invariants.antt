@@ -1,7 +1,7 @@
 -- For each batch so far there are the last updates of its edges, and the count of those that are not.
 use Rattle.std.proofs.Common.{◌≡◌, ◌-◌, length, take, map}
-use Rattle.kc_text.specs.Deciding.{last_of_edges}
-use Rattle.kc_text.proofs.overruling.decide.Given as goal
+use Rattle.kc_text.specs.LastUpdates.{last_of_edges}
+use Rattle.kc_text.proofs.overruling.decide_batches.Given as goal
 
 abbrev pub invariant-loop-batch : goal.invariant-loop-batch
 invariant-loop-batch l = record {
