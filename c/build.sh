@@ -17,7 +17,12 @@ addlib $allocator
 save
 end
 END
-printf 'KCORE { global: kcore_*; local: *; };\n' > "$build/exports.map"
+cat > "$build/exports.map" << 'END'
+KCORE {
+    global: kcore_version; kcore_core_numbers; kcore_degeneracy_order; kcore_check; kcore_k_core;
+    local: *;
+};
+END
 ${CC:-cc} -shared -Wl,-z,text,-z,defs -Wl,--version-script="$build/exports.map" -Wl,--whole-archive "$build/libkcore.a" \
     -Wl,--no-whole-archive -o "$build/libkcore.so"
 echo "$build"

@@ -1,6 +1,7 @@
 #!/bin/sh
-# Builds both libraries, and tries them from C and from Python: the example on a small graph, plain and under the address and undefined
-# behaviour sanitizers, with each allocation failing in turn, and the Python tests.
+# Builds both libraries, and tries them from C and from Python: what is exported and declared, the example on small graphs and on inputs
+# that it refuses, plain and under the address and undefined behaviour sanitizers, with each allocation failing in turn, and the Python
+# tests by the python3 that PYTHON names.
 set -eu
 top=$(cd "$(dirname "$0")/.." && pwd)
 build=$("$top/c/build.sh")
@@ -8,17 +9,65 @@ flags="-std=c11 -O2 -g -Wall -Wextra -Werror -I$top/include"
 sanitized="-fsanitize=address,undefined -fno-sanitize-recover=all"
 wrapped="-Wl,--wrap=malloc,--wrap=realloc,--wrap=free"
 
+# The library exports what the header declares, and nothing else.
+grep -o '\<kcore_[a-z_]*(' "$top/include/kcore.h" | tr -d '(' | sort -u > "$build/declared"
+nm -D --defined-only "$build/libkcore.so" | sed -n 's/.* T \([a-z_]*\).*/\1/p' | sort > "$build/exported"
+cmp "$build/declared" "$build/exported"
+echo "exported: $(tr '\n' ' ' < "$build/exported")"
+
+# The header is C of 1999 and later and C++, and an answer that is dropped is warned of.
+for language in "c -std=c99" "c -std=c11" "c++ -std=c++11"; do
+    ${CC:-cc} -x $language -pedantic -Wall -Wextra -Werror -fsyntax-only "$top/include/kcore.h"
+done
+printf '#include "kcore.h"\nvoid drop(struct kcore_edge *edges, uint32_t *core) { kcore_core_numbers(1, edges, 0, core, 1); }\n' > "$build/dropped.c"
+if ${CC:-cc} $flags -c "$build/dropped.c" -o "$build/dropped.o" 2> "$build/told"; then
+    echo "a dropped answer is not warned of" >&2
+    exit 1
+fi
+grep -q 'unused' "$build/told"
+
 ${CC:-cc} $flags "$top/examples/c/core_numbers.c" "$build/libkcore.a" -o "$build/core_numbers"
 ${CC:-cc} $flags $sanitized "$top/examples/c/core_numbers.c" "$build/libkcore.a" -o "$build/core_numbers_sanitized"
 ${CC:-cc} $flags $wrapped "$top/examples/c/no_memory.c" "$build/libkcore.a" -o "$build/no_memory"
 ${CC:-cc} $flags $sanitized "$top/examples/c/no_memory.c" $wrapped "$build/libkcore.a" -o "$build/no_memory_sanitized"
 
+# The example's status on standard input is 1, it writes no number, and tells this.
+refused() {
+    told=$1
+    if "$build/$program" > "$build/found" 2> "$build/told"; then
+        echo "$program: what has to be told as '$told' is taken" >&2
+        exit 1
+    fi
+    if [ -s "$build/found" ] || ! grep -q "$told" "$build/told"; then
+        echo "$program: '$told' is wanted alone, and it wrote" >&2
+        head -n 5 "$build/found" "$build/told" >&2
+        exit 1
+    fi
+}
+
 for program in core_numbers core_numbers_sanitized; do
-    printf '0 1\n1 2\n2 0\n2 3\n3 2\n4 4\n' | "$build/$program" > "$build/found"
+    printf '# a triangle\n\n0 1\n1\t2\r\n 2 0 \n2 3\n3 2\n4 4' | "$build/$program" > "$build/found"
     printf '0 2\n1 2\n2 2\n3 1\n4 0\n' | cmp - "$build/found"
+    "$build/$program" < /dev/null | cmp - /dev/null
+    for line in '-1 2' '1 -2' '1 4294967295' '4294967296 1' '1 99999999999999999999' '1 2 3' '1 2x' '1x 2' '1' 'a b' '1,2' '1 2\0003' '+1 2'; do
+        printf "0 1\n1 2\n$line\n2 0\n" | refused 'line 3: this is not two vertices'
+    done
+    { printf '# '; head -c 3000 /dev/zero | tr '\0' 'x'; printf '\n0 1\n1 '; head -c 3000 /dev/zero | tr '\0' '7'; } | refused 'line 3: '
+    refused 'after line 0' < /
+    if echo '0 1' | "$build/$program" > /dev/full 2> "$build/told" || ! grep -q 'standard output' "$build/told"; then
+        echo "$program: output that can't be written is not told" >&2
+        exit 1
+    fi
     "$build/$program" < "$top/graphs/karate.txt" > "$build/found"
     echo "$program: $(cut -d' ' -f2 "$build/found" | sort -n | uniq -c | tr -s ' \n' ' ')on karate"
 done
+# Where memory is refused, in reading or in a call, no numbers of the edges so far are written. The sanitizers want more room.
+program=core_numbers
+for room in 8000 20000 40000; do
+    (ulimit -v $room && yes '0 1' | head -n 4000000 | refused 'no memory')
+done
+(ulimit -v 20000 && echo '0 90000000' | refused 'no memory')
+echo "core_numbers: each line that it can't use is refused, and it tells where a read, a write or an allocation fails"
 "$build/no_memory"
 "$build/no_memory_sanitized"
 cd "$top/python" && ${PYTHON:-python3} -m unittest

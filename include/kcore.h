@@ -8,7 +8,8 @@
  *
  * What a caller owes, and nothing checks:
  *   - each pointer leads to as many initialized values as the length beside it says, is aligned for their type, and is not null, even
- *     where the length is 0;
+ *     where the length is 0. This holds of results too, since the proof is over places that have values: set them, say to 0, before the
+ *     first call, as by `= {0}` or by calloc;
  *   - what a function writes overlaps nothing else that it is given;
  *   - during a call no other thread writes what it is given, or reads what it writes;
  *   - malloc, realloc and free of the program belong together and align to 16;
@@ -16,7 +17,7 @@
  * All else is tested: no values of the arguments are wrong to pass. A function keeps nothing between calls, and several threads may call
  * at the same time.
  *
- * Each function answers a status and a number. Where the status is not KCORE_DONE, nothing was written to the results.
+ * Each function but kcore_version answers a status and a number. Where the status is not KCORE_DONE, nothing was written to the results.
  */
 #ifndef KCORE_H
 #define KCORE_H
@@ -27,6 +28,19 @@
 #ifdef __cplusplus
 extern "C" {
 #endif
+
+/* The version that this header is for, 0.1.0: 65536 times its first number, 256 times its second, and its third. */
+#define KCORE_VERSION 0x000100u
+
+/* What a compiler warns of where an answer is dropped. */
+#if defined(__GNUC__)
+#define KCORE_LOOK_AT_ANSWER __attribute__((warn_unused_result))
+#else
+#define KCORE_LOOK_AT_ANSWER
+#endif
+
+/* The version of the library that is linked or loaded. Where it is not KCORE_VERSION, call nothing else of it. */
+KCORE_LOOK_AT_ANSWER uint32_t kcore_version(void);
 
 /* Two vertices that are joined. */
 struct kcore_edge {
@@ -61,16 +75,16 @@ struct kcore_answer {
  * an edge, and for a sparse graph the overhead of malloc for one or two blocks a vertex.
  *
  *     struct kcore_edge edges[] = {{0, 1}, {1, 2}, {2, 0}, {2, 3}};
- *     uint32_t core[4];
+ *     uint32_t core[4] = {0};
  *     struct kcore_answer answer = kcore_core_numbers(4, edges, 4, core, 4);
  *     // answer.status is KCORE_DONE, and core is 2, 2, 2, 1
  */
-struct kcore_answer kcore_core_numbers(uint32_t vertices, const struct kcore_edge *edges, size_t edges_len, uint32_t *core,
-                                       size_t core_len);
+KCORE_LOOK_AT_ANSWER struct kcore_answer kcore_core_numbers(uint32_t vertices, const struct kcore_edge *edges, size_t edges_len,
+                                                            uint32_t *core, size_t core_len);
 
 /* Writes the core number of each vertex, and all vertices in an order that certifies these numbers: they never fall along it, and each
  * vertex has at most as many later neighbours as its number. Such an order is a degeneracy order. Which of several such orders it is, is
- * left open, but it is the same at each call.
+ * left open.
  *
  *   vertices    how many vertices there are
  *   edges       edges_len edges; not null
@@ -80,12 +94,12 @@ struct kcore_answer kcore_core_numbers(uint32_t vertices, const struct kcore_edg
  * Statuses: KCORE_DONE, KCORE_WRONG_CORE_LENGTH, KCORE_WRONG_ORDER_LENGTH, KCORE_NOT_A_VERTEX, KCORE_NO_MEMORY, tested in this order.
  * Cost: that of kcore_core_numbers, and a copy of the graph.
  *
- *     uint32_t core[4], order[4];
+ *     uint32_t core[4] = {0}, order[4] = {0};
  *     answer = kcore_degeneracy_order(4, edges, 4, core, 4, order, 4);
  *     // order begins with 3, the vertex of core number 1
  */
-struct kcore_answer kcore_degeneracy_order(uint32_t vertices, const struct kcore_edge *edges, size_t edges_len, uint32_t *core,
-                                           size_t core_len, uint32_t *order, size_t order_len);
+KCORE_LOOK_AT_ANSWER struct kcore_answer kcore_degeneracy_order(uint32_t vertices, const struct kcore_edge *edges, size_t edges_len,
+                                                                uint32_t *core, size_t core_len, uint32_t *order, size_t order_len);
 
 /* Whether `order` certifies that `core` has the core numbers, wherever both come from. KCORE_DONE says that it does: `core` has a number
  * for each vertex, `order` has each vertex once, the numbers never fall along it, and each vertex has at most as many later neighbours as
@@ -103,11 +117,12 @@ struct kcore_answer kcore_degeneracy_order(uint32_t vertices, const struct kcore
  *     answer = kcore_check(4, edges, 4, core, 4, order, 4);
  *     // answer.status is KCORE_DONE
  */
-struct kcore_answer kcore_check(uint32_t vertices, const struct kcore_edge *edges, size_t edges_len, const uint32_t *core,
-                                size_t core_len, const uint32_t *order, size_t order_len);
+KCORE_LOOK_AT_ANSWER struct kcore_answer kcore_check(uint32_t vertices, const struct kcore_edge *edges, size_t edges_len,
+                                                     const uint32_t *core, size_t core_len, const uint32_t *order, size_t order_len);
 
 /* Writes the vertices of the k-core, the greatest set of vertices that gives each member at least k neighbours inside, in ascending order
- * to the front of `members`. `number` is how many there are. What stands behind them in `members` stays as it was.
+ * to the front of `members`. `number` is how many there are, which is at most members_len. What stands behind them in `members` stays as
+ * it was.
  *
  *   vertices    how many vertices there are
  *   edges       edges_len edges; not null
@@ -117,12 +132,12 @@ struct kcore_answer kcore_check(uint32_t vertices, const struct kcore_edge *edge
  * Statuses: KCORE_DONE, KCORE_WRONG_MEMBERS_LENGTH, KCORE_NOT_A_VERTEX, KCORE_NO_MEMORY, tested in this order.
  * Cost: that of kcore_core_numbers.
  *
- *     uint32_t members[4];
+ *     uint32_t members[4] = {0};
  *     answer = kcore_k_core(4, edges, 4, 2, members, 4);
  *     // answer.number is 3, and members begins with 0, 1, 2
  */
-struct kcore_answer kcore_k_core(uint32_t vertices, const struct kcore_edge *edges, size_t edges_len, uint32_t k, uint32_t *members,
-                                 size_t members_len);
+KCORE_LOOK_AT_ANSWER struct kcore_answer kcore_k_core(uint32_t vertices, const struct kcore_edge *edges, size_t edges_len, uint32_t k,
+                                                      uint32_t *members, size_t members_len);
 
 #ifdef __cplusplus
 }

@@ -14,8 +14,12 @@ A graph is given as `edges`, in one of three forms:
 In the first two forms the vertices are the numbers below `vertices`, or up to the greatest end where `vertices` is left out. Loops are
 dropped, and an edge that is listed again, in either direction, counts once.
 
+A graph of networkx may not be directed, since networkx counts the edges in and out of a node there: give its `to_undirected()`.
+
 The library is the file that the environment variable KCORE_LIBRARY names, or else build/libkcore.so of this repository, which c/build.sh
-makes. Other threads run during a call: none may write the arrays that it is given meanwhile.
+makes. A library of another version is refused when the module is imported. Other threads run during a call: none may write the arrays that
+it is given meanwhile. No call may come from the child of a fork of a process with several threads, and NumPy may have started some: let
+`multiprocessing` start its processes by "spawn" or "forkserver".
 
 References
 ----------

@@ -2,6 +2,7 @@
 
 from __future__ import annotations
 
+import operator
 import sys
 from typing import TYPE_CHECKING, Any, Dict, Hashable, Iterable, List, Mapping, Optional, Sequence, Tuple, Union
 
@@ -14,6 +15,9 @@ if TYPE_CHECKING:
     Edges = Union[numpy.ndarray, Iterable[Tuple[int, int]], networkx.Graph]
     Numbers = Union[numpy.ndarray, List[int], Dict[Hashable, int]]
     Vertices = Union[numpy.ndarray, List[int], List[Hashable]]
+
+
+_DIRECTED = "networkx counts the edges in and out of a node of a directed graph, and this module does not: give it graph.to_undirected()"
 
 
 class NotAVertexError(ValueError):
@@ -53,6 +57,8 @@ class _Graph:
             elif _is_networkx(edges):
                 if vertices is not None:
                     raise TypeError("a graph of networkx has its own vertices")
+                if edges.is_directed():
+                    raise TypeError(_DIRECTED)
                 self.nodes = list(edges)
                 numbers = {node: number for number, node in enumerate(self.nodes)}
                 self.ends = _lists.from_pairs((numbers[u], numbers[v]) for u, v in edges.edges())
@@ -61,16 +67,17 @@ class _Graph:
                 self.ends = _lists.from_pairs(edges)
         except OverflowError:
             raise ValueError(f"an end of an edge is not in 0 to {_lists.GREATEST}") from None
-        size = self.ends.size if self.like_array else len(self.ends)
+        size = _lists.size(self.ends)
         self.edges = size // 2
         if vertices is None:
             vertices = 0 if not size else int(self.ends.max() if self.like_array else max(self.ends)) + 1
+        vertices = operator.index(vertices)
         if not 0 <= vertices <= _lists.GREATEST:
             raise ValueError(f"there are {vertices} vertices, and 0 to {_lists.GREATEST} are allowed")
         self.vertices = vertices
 
-    def call(self, function: Any, *arguments: int) -> _library.Answer:
-        """Calls the library. Raises NotAVertexError or MemoryError."""
+    def call(self, function: Any, *arguments: int, other: Tuple[int, ...] = ()) -> _library.Answer:
+        """Calls the library. Raises NotAVertexError or MemoryError, and RuntimeError at a status that is neither 0 nor one of `other`."""
         answer = function(self.vertices, _lists.address(self.ends), self.edges, *arguments)
         if answer.status == _library.NOT_A_VERTEX:
             if self.like_array:
@@ -80,6 +87,8 @@ class _Graph:
             raise NotAVertexError(answer.number, (int(first), int(second)), self.vertices)
         if answer.status == _library.NO_MEMORY:
             raise MemoryError("there is no memory for the graph")
+        if answer.status != _library.DONE and answer.status not in other:
+            raise RuntimeError(f"{function.__name__} answered the status {answer.status}, which is not one that it may have here")
         return answer
 
     def room(self) -> Any:
@@ -126,16 +135,19 @@ def core_numbers(edges: Edges, vertices: Optional[int] = None) -> Numbers:
     ValueError
         Where the edges are no pairs, or an end or `vertices` does not fit 32 bits.
     TypeError
-        Where the ends are no integers.
+        Where the ends are no integers, an edge is of bytes, an array is masked, or a graph of networkx is directed.
     MemoryError
         Where there is no memory.
+    RuntimeError
+        Where the library answers a status that it does not have here, as only one of another version would.
 
     Notes
     -----
     The core number is the greatest k for which some set of vertices has the vertex, and gives each member at least k neighbours inside the
     set [1]_. Vertices are taken one after the other, those with the fewest neighbours left first [2]_, in time linear in the edges but for
-    sorting the neighbours of each vertex. Each call makes the graph anew. The direction of edges in a networkx.DiGraph, and how often an
-    edge comes in a networkx.MultiGraph, do not matter.
+    sorting the neighbours of each vertex. Each call makes the graph anew. How often an edge comes in a networkx.MultiGraph does not
+    matter. A directed graph of networkx is refused, since networkx counts the edges in and out of a node there: give its
+    `to_undirected()`. No function of this module may be called in the child of a fork of a process with several threads.
 
     References
     ----------
@@ -174,7 +186,7 @@ def degeneracy_order(edges: Edges, vertices: Optional[int] = None) -> Tuple[Numb
 
     Raises
     ------
-    NotAVertexError, ValueError, TypeError, MemoryError
+    NotAVertexError, ValueError, TypeError, MemoryError, RuntimeError
         As `core_numbers` does.
 
     See Also
@@ -211,7 +223,7 @@ def k_core(edges: Edges, k: int, vertices: Optional[int] = None) -> Vertices:
     edges : array of shape (edges, 2), iterable of pairs of int, or networkx.Graph
         The edges, in any order. Loops are dropped, and an edge that comes again, in either direction, counts once.
     k : int
-        How many neighbours inside each member has.
+        How many neighbours inside each member has. No core number is above 32 bits, so a k above them has no members.
     vertices : int, optional
         How many vertices there are: they are the numbers below it. By default one more than the greatest end. Not for a graph of networkx.
 
@@ -222,16 +234,19 @@ def k_core(edges: Edges, k: int, vertices: Optional[int] = None) -> Vertices:
 
     Raises
     ------
-    NotAVertexError, TypeError, MemoryError
+    NotAVertexError, MemoryError, RuntimeError
         As `core_numbers` does.
     ValueError
         As `core_numbers` does, and where `k` is negative.
+    TypeError
+        As `core_numbers` does, and where `k` is no integer.
 
     Examples
     --------
     >>> k_core([(0, 1), (1, 2), (2, 0), (2, 3)], 2)
     [0, 1, 2]
     """
+    k = operator.index(k)
     if k < 0:
         raise ValueError(f"k is {k}, and no number of neighbours is negative")
     graph = _Graph(edges, vertices)
@@ -239,6 +254,18 @@ def k_core(edges: Edges, k: int, vertices: Optional[int] = None) -> Vertices:
     # No core number is as great as the greatest number of 32 bits, so that number stands for each greater k.
     answer = graph.call(_library.k_core, min(k, _lists.GREATEST), _lists.address(members), graph.vertices)
     return graph.told_vertices(members[: answer.number])
+
+
+def _by_number(nodes: List[Hashable], core: Any, order: Any) -> Optional[Tuple[List[int], List[int]]]:
+    """Numbers and an order of nodes as the library takes them, or None where the numbers or the order are of other nodes."""
+    if not hasattr(core, "keys"):
+        raise TypeError(f"for a graph of networkx core is a mapping with its nodes as keys, and not of the type {type(core).__name__}")
+    _lists.refuse_unordered(order, "order")
+    numbers = {node: number for number, node in enumerate(nodes)}
+    listed = list(order)
+    if len(core) != len(nodes) or any(node not in core for node in nodes) or any(node not in numbers for node in listed):
+        return None
+    return [core[node] for node in nodes], [numbers[node] for node in listed]
 
 
 def check(
@@ -253,9 +280,9 @@ def check(
     ----------
     edges : array of shape (edges, 2), iterable of pairs of int, or networkx.Graph
         The edges, in any order. Loops are dropped, and an edge that comes again, in either direction, counts once.
-    core : array, sequence of int, or mapping
+    core : array of one dimension, sequence of int, or mapping
         The number of each vertex at its place; for a graph of networkx a mapping with its nodes as keys.
-    order : array or sequence
+    order : array of one dimension or sequence
         The vertices, or the nodes, in order.
     vertices : int, optional
         How many vertices there are: they are the numbers below it. By default one more than the greatest end. Not for a graph of networkx.
@@ -269,10 +296,13 @@ def check(
 
     Raises
     ------
-    NotAVertexError, ValueError, MemoryError
+    NotAVertexError, MemoryError, RuntimeError
         As `core_numbers` does.
+    ValueError
+        As `core_numbers` does, and where `core` or `order` is an array that has not one dimension.
     TypeError
-        As `core_numbers` does, and where `core` or `order` has something else than integers.
+        As `core_numbers` does, and where `core` or `order` has something else than integers, or is of bytes, a set, a masked array or, but
+        for a graph of networkx, a mapping. For such a graph where `core` is no mapping.
 
     References
     ----------
@@ -288,14 +318,18 @@ def check(
     """
     graph = _Graph(edges, vertices)
     if graph.nodes is not None:
-        numbers = {node: number for number, node in enumerate(graph.nodes)}
-        if len(core) != len(graph.nodes) or any(node not in core for node in graph.nodes) or any(node not in numbers for node in order):
+        by_number = _by_number(graph.nodes, core, order)
+        if by_number is None:
             return False
-        core, order = [core[node] for node in graph.nodes], [numbers[node] for node in order]
+        core, order = by_number
     try:
-        core, order = _lists.from_numbers(core), _lists.from_numbers(order)
+        core, order = _lists.from_numbers(core, "core"), _lists.from_numbers(order, "order")
+        fit = True
     except OverflowError:
-        # A number that does not fit 32 bits is neither a core number nor a vertex.
-        return False
-    answer = graph.call(_library.check, _lists.address(core), len(core), _lists.address(order), len(order))
-    return answer.status == _library.DONE
+        # A number that does not fit 32 bits is neither a core number nor a vertex. The edges are judged still.
+        core = order = _lists.room(0, False)
+        fit = False
+    answer = graph.call(
+        _library.check, _lists.address(core), _lists.size(core), _lists.address(order), _lists.size(order), other=(_library.NOT_CERTIFIED,)
+    )
+    return fit and answer.status == _library.DONE

@@ -8,6 +8,9 @@ from pathlib import Path
 
 DONE, WRONG_CORE_LENGTH, WRONG_ORDER_LENGTH, WRONG_MEMBERS_LENGTH, NOT_A_VERTEX, NO_MEMORY, NOT_CERTIFIED = range(7)
 
+#: The version of the library that this module calls, as KCORE_VERSION of include/kcore.h.
+VERSION = 0x000100
+
 
 class Answer(ctypes.Structure):
     """How a call ended: a status, and a number that goes with it."""
@@ -15,12 +18,28 @@ class Answer(ctypes.Structure):
     _fields_ = [("status", ctypes.c_uint32), ("number", ctypes.c_size_t)]
 
 
+def _dotted(version: int) -> str:
+    return f"{version >> 16}.{version >> 8 & 255}.{version & 255}"
+
+
 def _load() -> ctypes.CDLL:
     named = os.environ.get("KCORE_LIBRARY")
     path = Path(named) if named else Path(__file__).resolve().parents[2] / "build" / "libkcore.so"
+    remedy = "make it by c/build.sh, or name another in KCORE_LIBRARY"
     if not path.exists():
-        raise ImportError(f"there is no library {path}: make it by c/build.sh, or name it in KCORE_LIBRARY")
-    return ctypes.CDLL(str(path))
+        raise ImportError(f"there is no library {path}: {remedy}")
+    try:
+        library = ctypes.CDLL(str(path.resolve()))
+    except OSError as cause:
+        raise ImportError(f"{path} is no library that can be loaded ({cause}): {remedy}") from None
+    try:
+        library.kcore_version.argtypes, library.kcore_version.restype = [], ctypes.c_uint32
+    except AttributeError:
+        raise ImportError(f"{path} tells no version, and this module calls version {_dotted(VERSION)}: {remedy}") from None
+    version = library.kcore_version()
+    if version != VERSION:
+        raise ImportError(f"{path} is version {_dotted(version)}, and this module calls version {_dotted(VERSION)}: {remedy}")
+    return library
 
 
 _library = _load()

@@ -5,6 +5,7 @@ from __future__ import annotations
 import ctypes
 import sys
 from array import array
+from collections.abc import Mapping, Set
 from typing import Any, Iterable, Tuple
 
 #: The greatest number of 32 bits, which is also the greatest number of vertices.
@@ -17,6 +18,9 @@ _CODE = next(code for code in "IL" if array(code).itemsize == 4)
 _nothing = ctypes.c_uint32()
 _NOWHERE = ctypes.addressof(_nothing)
 
+# What has bytes where numbers are wanted.
+_BYTES = (bytes, bytearray)
+
 
 def is_array(values: Any) -> bool:
     """Whether the values are a NumPy array. Whoever has one has imported NumPy."""
@@ -24,11 +28,26 @@ def is_array(values: Any) -> bool:
     return numpy is not None and isinstance(values, numpy.ndarray)
 
 
+def refuse_masked(values: Any) -> None:
+    """Raises TypeError where the values are a masked array of NumPy, whose mask the library would not see."""
+    masked = sys.modules.get("numpy.ma")
+    if masked is not None and isinstance(values, masked.MaskedArray):
+        raise TypeError("a masked array has places without a number: give the rows that have one, or fill it by its method filled()")
+
+
+def refuse_unordered(values: Any, what: str) -> None:
+    """Raises TypeError where the values are bytes, a mapping, a set or a masked array, and so no sequence of numbers or nodes."""
+    refuse_masked(values)
+    if isinstance(values, (*_BYTES, Mapping, Set)):
+        raise TypeError(f"{what} is a sequence or an array, and not of the type {type(values).__name__}")
+
+
 def from_array(values: Any) -> Any:
     """The numbers as an array of `uint32` in rows: the same array where it is one, else a copy.
 
     Raises TypeError where they are no integers, and OverflowError where one does not fit.
     """
+    refuse_masked(values)
     dtype = values.dtype
     if dtype.char == _CODE and dtype.isnative and values.flags.carray:
         return values
@@ -45,24 +64,39 @@ def from_array(values: Any) -> Any:
 
 def from_pairs(pairs: Iterable[Tuple[int, int]]) -> array:
     """The parts of pairs, one after the other. Raises TypeError, ValueError or OverflowError where they are no pairs of such numbers."""
+    if isinstance(pairs, (str, *_BYTES)):
+        raise TypeError(f"edges are pairs of integers, and not of the type {type(pairs).__name__}")
     flat = array(_CODE)
     append = flat.append
-    for first, second in pairs:
+    for pair in pairs:
+        if type(pair) is not tuple and isinstance(pair, _BYTES):
+            raise TypeError(f"an edge is a pair of integers, and not of the type {type(pair).__name__}")
+        first, second = pair
         append(first)
         append(second)
     return flat
 
 
-def from_numbers(values: Any) -> Any:
-    """The numbers as a list that the library reads. Raises TypeError or OverflowError."""
-    return from_array(values) if is_array(values) else array(_CODE, values)
+def from_numbers(values: Any, what: str) -> Any:
+    """The numbers as a list that the library reads. Raises TypeError, ValueError or OverflowError."""
+    refuse_unordered(values, what)
+    if not is_array(values):
+        return array(_CODE, values)
+    if values.ndim != 1:
+        raise ValueError(f"{what} is an array of one dimension, and this one has the shape {values.shape}: give it flat, as by ravel()")
+    return from_array(values)
 
 
 def room(length: int, like_array: bool) -> Any:
-    """A list of this length to be written."""
+    """A list of this length to be written. Its places are 0, since the library wants numbers there."""
     if like_array:
-        return sys.modules["numpy"].empty(length, sys.modules["numpy"].uint32)
+        return sys.modules["numpy"].zeros(length, sys.modules["numpy"].uint32)
     return array(_CODE, bytes(4 * length))
+
+
+def size(values: Any) -> int:
+    """How many numbers there are."""
+    return len(values) if isinstance(values, array) else values.size
 
 
 def address(values: Any) -> int:

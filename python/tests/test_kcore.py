@@ -3,14 +3,20 @@
 graphs/karate.txt is part of the repository. Other graphs are looked for in bench/data, and in the folder that KCORE_GRAPHS names.
 """
 
+import _ctypes
 import doctest
 import os
 import random
+import re
+import shutil
+import subprocess
+import tempfile
 import unittest
 from pathlib import Path
+from unittest import mock
 
 import kcore
-from kcore import _api
+from kcore import _api, _library, _lists
 
 try:
     import numpy
@@ -31,6 +37,7 @@ FOLDERS = [TOP / "graphs", TOP / "bench" / "data", *([Path(os.environ["KCORE_GRA
 needs_numpy = unittest.skipIf(numpy is None, "NumPy is not installed")
 needs_networkx = unittest.skipIf(networkx is None, "networkx is not installed")
 needs_igraph = unittest.skipIf(igraph is None, "igraph is not installed")
+needs_compiler = unittest.skipIf(shutil.which("cc") is None, "there is no cc")
 
 # A triangle with a tail, listed with a loop, a repeat and a repeat the other way round, and a vertex that has a loop alone.
 TAILED = [(0, 1), (1, 0), (4, 4), (2, 0), (1, 2), (1, 2), (3, 2)]
@@ -84,7 +91,7 @@ class Results(unittest.TestCase):
         core, order = kcore.degeneracy_order(TAILED)
         self.assertEqual(core, TAILED_CORE)
         self.certified(TAILED, 5, core, order)
-        members = {0: [0, 1, 2, 3, 4], 1: [0, 1, 2, 3], 2: [0, 1, 2], 3: [], 2**40: []}
+        members = {0: [0, 1, 2, 3, 4], 1: [0, 1, 2, 3], 2: [0, 1, 2], 3: [], 2**32 - 1: [], 2**32: [], 2**40: []}
         for k, wanted in members.items():
             self.assertEqual(kcore.k_core(TAILED, k), wanted)
 
@@ -131,6 +138,22 @@ class Results(unittest.TestCase):
         self.assertIs(_api._Graph(edges, None).ends, edges)
 
     @needs_numpy
+    def test_lists_of_other_kinds(self):
+        core, order = numpy.array(TAILED_CORE), [4, 3, 0, 1, 2]
+        for given in [core, core[::-1][::-1], core.astype(">i8"), tuple(TAILED_CORE), iter(TAILED_CORE), memoryview(bytes(TAILED_CORE))]:
+            self.assertTrue(kcore.check(TAILED, given, numpy.array(order)))
+        self.assertTrue(kcore.check(TAILED, core, iter(order)))
+        self.assertEqual(kcore.core_numbers(TAILED, numpy.int64(6)), TAILED_CORE + [0])
+        self.assertEqual(kcore.k_core(TAILED, numpy.uint8(2)), [0, 1, 2])
+
+    def test_results_are_written_over_zeros(self):
+        self.assertEqual(_lists.room(3, False).tolist(), [0, 0, 0])
+        if numpy is not None:
+            freed = numpy.full(100_000, 7, numpy.uint32)
+            del freed
+            self.assertFalse(_lists.room(100_000, True).any())
+
+    @needs_numpy
     @needs_igraph
     def test_igraph_has_the_same_numbers(self):
         for vertices, edges in random_graphs(1000):
@@ -159,6 +182,28 @@ class Results(unittest.TestCase):
                 self.assertEqual(set(kcore.k_core(graph, k)), {node for node, number in core.items() if number >= k})
         with self.assertRaises(TypeError):
             kcore.core_numbers(networkx.Graph(), vertices=1)
+
+    @needs_networkx
+    def test_numbers_of_nodes_from_anywhere(self):
+        graph = networkx.Graph([("a", "b"), ("b", "c"), ("c", "a"), ("c", "d")])
+        core, order = kcore.degeneracy_order(graph)
+        self.assertTrue(kcore.check(graph, core, iter(order)))
+        self.assertTrue(kcore.check(graph, core, tuple(order)))
+        self.assertFalse(kcore.check(graph, core, iter(order[:-1])))
+        self.assertFalse(kcore.check(graph, core, iter([*order, order[0]])))
+        self.assertFalse(kcore.check(graph, {"a": 2, "b": 2, "c": 2}, order))
+        self.assertFalse(kcore.check(graph, {**core, "a": 2**32 + 2}, order))
+        for given in [[2, 2, 2, 1], "abcd", iter(core)]:
+            with self.assertRaisesRegex(TypeError, "core is a mapping"):
+                kcore.check(graph, given, order)
+        for given in [set(order), dict.fromkeys(order), b"dabc"]:
+            with self.assertRaisesRegex(TypeError, "order is a sequence"):
+                kcore.check(graph, core, given)
+
+    @needs_networkx
+    def test_a_graph_with_several_edges_of_two_nodes(self):
+        graph = networkx.MultiGraph([("a", "b"), ("b", "a"), ("a", "b"), ("b", "c"), ("c", "c")])
+        self.assertEqual(kcore.core_numbers(graph), {"a": 1, "b": 1, "c": 1})
 
 
 class KnownGraphs(unittest.TestCase):
@@ -230,10 +275,109 @@ class Refusals(unittest.TestCase):
         self.refused(TypeError, [("a", "b")])
         self.refused(TypeError, [(0.5, 1)])
         self.refused(TypeError, 5)
+        for edges in ["0 1", b"ab", bytearray(b"ab")]:
+            self.refused(TypeError, edges, text="edges are pairs of integers")
+        for edges in [[b"ab"], [(0, 1), bytearray(b"ab")]]:
+            self.refused(TypeError, edges, text="an edge is a pair of integers")
 
-    def test_a_negative_k(self):
-        with self.assertRaisesRegex(ValueError, "k is -1"):
-            kcore.k_core(TAILED, -1)
+    @needs_networkx
+    def test_directed_graphs(self):
+        pairs = [(1, 2), (2, 1), (2, 3), (2, 4), (3, 4), (4, 3)]
+        for graph in [networkx.DiGraph(pairs), networkx.MultiDiGraph(pairs)]:
+            self.refused(TypeError, graph, text="to_undirected")
+            undirected = networkx.Graph(graph.to_undirected())
+            self.assertEqual(kcore.core_numbers(graph.to_undirected()), networkx.core_number(undirected))
+
+    def test_numbers_of_vertices_that_are_no_integers(self):
+        for vertices in [4.0, "4"]:
+            self.refused(TypeError, [(0, 1)], vertices)
+
+    def test_a_k_that_is_no_number_of_neighbours(self):
+        for k in [-1, -(2**40)]:
+            with self.assertRaisesRegex(ValueError, f"k is {k}"):
+                kcore.k_core(TAILED, k)
+        for k in [1.0, "1", None]:
+            with self.assertRaises(TypeError):
+                kcore.k_core(TAILED, k)
+
+    def assert_no_list(self, cause, text, core, order):
+        for given in [(core, [4, 3, 0, 1, 2]), (TAILED_CORE, order)]:
+            with self.assertRaisesRegex(cause, text):
+                kcore.check(TAILED, *given)
+
+    def test_what_is_no_list_of_numbers(self):
+        for given in [bytes(20), bytearray(20), dict.fromkeys(range(5), 2), {0, 1, 2}, frozenset()]:
+            self.assert_no_list(TypeError, "is a sequence or an array", given, given)
+        for given in ["ab", [0.5], [None], 5]:
+            self.assert_no_list(TypeError, "", given, given)
+
+    @needs_numpy
+    def test_arrays_of_another_dimension(self):
+        core = numpy.array(TAILED_CORE, numpy.uint32)
+        for given in [numpy.empty((5, 0), numpy.uint32), numpy.empty((0, 5), numpy.int64), core.reshape(5, 1), core.reshape(1, 5), core[0:1][0, ...]]:
+            self.assert_no_list(ValueError, "one dimension", given, given)
+        # The first five of these ten numbers are right in both.
+        self.assert_no_list(ValueError, "ravel", numpy.append(core, core).reshape(5, 2), numpy.array([4, 3, 0, 1, 2] * 2).reshape(5, 2))
+        self.assert_no_list(TypeError, "no integers", core.astype(float), core > 0)
+
+    @needs_numpy
+    def test_masked_arrays(self):
+        masked = numpy.ma.masked_array(numpy.array(TAILED, numpy.uint32), mask=False)
+        self.refused(TypeError, masked, text="masked")
+        self.assert_no_list(TypeError, "masked", numpy.ma.array(TAILED_CORE), numpy.ma.array([4, 3, 0, 1, 2]))
+        if networkx is not None:
+            graph = networkx.Graph(TAILED)
+            with self.assertRaisesRegex(TypeError, "masked"):
+                kcore.check(graph, kcore.core_numbers(graph), numpy.ma.array([4, 3, 0, 1, 2]))
+
+    def test_edges_are_judged_beside_numbers_that_do_not_fit(self):
+        with self.assertRaises(kcore.NotAVertexError):
+            kcore.check([(0, 3)], [2**32], [0], vertices=1)
+        self.assertFalse(kcore.check([], [2**32], []))
+        self.assertFalse(kcore.check([], [], [-1]))
+
+    def test_statuses_that_a_function_does_not_have(self):
+        names = ["core_numbers", "degeneracy_order", "k_core", "check"]
+        for name, call in zip(names, self.CALLS):
+            for status in [1, 2, 3, 6, 7, 2**32 - 1]:
+                if (name, status) == ("check", 6):
+                    continue
+                fake = mock.Mock(return_value=_library.Answer(status, 0), __name__=f"kcore_{name}")
+                with mock.patch.object(_library, name, fake), self.assertRaisesRegex(RuntimeError, f"kcore_{name} .* {status},"):
+                    call(TAILED)
+
+
+class Libraries(unittest.TestCase):
+    """Which libraries are taken."""
+
+    def refused(self, path, text):
+        with mock.patch.dict(os.environ, KCORE_LIBRARY=str(path)), self.assertRaisesRegex(ImportError, text) as caught:
+            _library._load()
+        self.assertIn(str(path), str(caught.exception))
+        self.assertIn("c/build.sh", str(caught.exception))
+
+    def test_the_version_is_the_headers_and_the_crates(self):
+        header = re.search(r"KCORE_VERSION (0x[0-9a-f]+)u", (TOP / "include" / "kcore.h").read_text())
+        crate = re.search(r"VERSION: u32 = (0x[0-9a-f_]+);", (TOP / "crates" / "kc_c" / "src" / "lib.rt").read_text())
+        self.assertEqual(int(header[1], 16), _library.VERSION)
+        self.assertEqual(int(crate[1].replace("_", ""), 16), _library.VERSION)
+        self.assertEqual(_library._library.kcore_version(), _library.VERSION)
+
+    def test_what_is_no_library(self):
+        self.refused("/nowhere/libkcore.so", "there is no library")
+        self.refused(__file__, "no library that can be loaded")
+
+    def test_a_library_without_a_version(self):
+        self.refused(_ctypes.__file__, "tells no version, and this module calls version 0.1.0")
+
+    @needs_compiler
+    def test_a_library_of_another_version(self):
+        with tempfile.TemporaryDirectory() as folder:
+            for version, told in [(0x000101, "0.1.1"), (0x010203, "1.2.3")]:
+                path = Path(folder) / f"{told}.so"
+                text = f"unsigned kcore_version(void) {{ return {version}; }}"
+                subprocess.run(["cc", "-shared", "-fPIC", "-x", "c", "-", "-o", str(path)], input=text.encode(), check=True)
+                self.refused(path, f"is version {told}, and this module calls version 0.1.0")
 
 
 if __name__ == "__main__":

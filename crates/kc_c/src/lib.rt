@@ -15,7 +15,7 @@
 //! | 5 | there is no memory | 0 |
 //! | 6 | the order does not certify the numbers | 0 |
 //!
-//! `include/kcore.h` declares the functions for C, and `examples/c` calls them.
+//! `include/kcore.h` declares the functions for C, and `examples/c` calls them. `kcore_version` tells which version of them is linked.
 #![tactic(auto)]
 
 mod answer;
@@ -24,7 +24,7 @@ mod members;
 #[cfg(test)]
 mod tests;
 
-ghost use Rattle.std.specs.Prelude.{◌≡◌, ◌≢◌, ◌&&◌, ◌||◌, ◌==◌, not, true, length, is_some, Some, take, drop};
+ghost use Rattle.std.specs.Prelude.{◌≡◌, ◌≢◌, ◌≤◌, ◌&&◌, ◌||◌, ◌==◌, not, true, length, is_some, Some, take, drop};
 ghost use Rattle.kc_graph.specs.Bulk.{graph_with};
 ghost use Rattle.kc_graph.specs.Certificate.{Certifies};
 ghost use Rattle.kc_graph.specs.Core.{AreCoreNumbers};
@@ -36,6 +36,18 @@ use crate::answer::answer_to;
 use crate::calls::{check_numbers, write_core_numbers, write_decomposition, write_k_core};
 use kc_graph::Edge;
 use std::alloc::Global;
+
+/// The version of these functions, 0.1.0: 65,536 times its first number, 256 times its second, and its third. `include/kcore.h` and
+/// `python/kcore/_library.py` name the same version.
+pub const VERSION: u32 = 0x00_01_00;
+
+/// The version of these functions, by which a caller knows a library that its header or module is not for.
+#[unsafe(no_mangle)]
+pub extern "C" fn kcore_version() -> u32
+    ensures { result ≡ VERSION }
+{
+    VERSION
+}
 
 /// Writes the core number of each vertex to its place in `core`.
 #[unsafe(no_mangle)]
@@ -114,6 +126,7 @@ pub extern "C" fn kcore_k_core(
 ) -> Answer
     ensures known { (result.status == 0 || result.status == 3 || result.status == 4 || result.status == 5) ≡ true }
     ensures done { result.status ≡ 0 → AreCoreMembers (graph_with vertices edges.now) k (take result.number members.new) }
+    ensures places { result.status ≡ 0 → result.number ≤ length members.new }
     ensures rest { result.status ≡ 0 → drop result.number members.new ≡ drop result.number members.old }
     ensures kept { result.status ≢ 0 → members.new ≡ members.old }
     ensures members_length { result.status == 3 ≡ not (length members.old == vertices) }

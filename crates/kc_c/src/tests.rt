@@ -1,5 +1,7 @@
 //! The exported functions, called with small graphs. The answers are worked out by hand.
-use crate::{Answer, kcore_check, kcore_core_numbers, kcore_degeneracy_order, kcore_k_core};
+use crate::{
+    Answer, kcore_check, kcore_core_numbers, kcore_degeneracy_order, kcore_k_core, kcore_version,
+};
 use kc_graph::Edge;
 use std::process::Abort;
 use std::test::Fail;
@@ -168,4 +170,9 @@ fn a_refused_call_writes_nothing(rt: HostRuntime) -> Result<(), Fail> {
     );
     assert_eq!(rt; kcore_core_numbers(rt.alloc(), 0, &[], &mut []), done(0));
     Ok(())
+}
+
+#[test]
+fn the_version_is_0_1_0(rt: HostRuntime) {
+    assert_eq!(rt; kcore_version(), 256);
 }
