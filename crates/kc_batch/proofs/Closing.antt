@@ -30,7 +30,8 @@ use Rattle.kc_shared.specs.States.{Parted, opened_by}
 use Rattle.kc_shared.specs.declared.shared.TheConstants.{MISSES}
 use Rattle.kc_workers.specs.declared.done.Done.{Done}
 use Rattle.kc_workers.specs.declared.share.Share.{Share}
-use Rattle.kc_batch.specs.Batches.{Account, Gives, IsCrew, IsCutShort, IsDone, IsStanding, MayGoOn, SomeKeeps, done_in, entered_in, WentOnBy, entered_by, listed, receipts_in}
+use Rattle.kc_batch.specs.Batches.{Account, Gives, IsCrew, IsCutShort, IsDone, IsStanding, MayGoOn, SomeKeeps, WentOnBy}
+use Rattle.kc_batch.specs.Batches.{done_in, entered_by, entered_in, listed, receipts_in}
 use Rattle.kc_batch.specs.Desks.{Desked, KeepsOneOf, Work, all_done, all_receipts, at_places, at_turns, in_hand, receipts_of, times_had, untold, untold_of}
 use Rattle.kc_batch.specs.Receipts.{AreAllOf, AreReceiptsOf, IsReceiptOf, told_indices}
 use Rattle.kc_batch.specs.Runs.{IsNearlySpent, IsRenewal, StaysIn}

@@ -12,7 +12,8 @@ use Rattle.kc_course.proofs.course.Course.work.Goals as goal
 
 -- the batch was entered whole
 module _ (g : Over) (c : After-deref g) where
-  entered-whole : Worked c.args.self.journal c.run_batch-parts.result.0.journal c.entered_by-first.result c.args.batch.now c.self.inside.workers.len c.in-Ok.done
+  entered-whole : Worked c.args.self.journal c.run_batch-parts.result.0.journal c.entered_by-first.result c.args.batch.now
+      c.self.inside.workers.len c.in-Ok.done
   entered-whole =
       batch-worked c.self.view_is c.entered_by-first.ensures.stands c.entered_by-first.ensures.entered c.run_batch-parts.ensures.stands c.requires.batch
       (IfOk-at_ok (λ (done : BatchDone). IsDone c.self.inside.parts.journal c.run_batch-parts.result.0.journal c.entered_by-first.result
