@@ -1,0 +1,48 @@
+#!/bin/sh
+# Says whether the packed program is whole and of these sources. Status 0 where it is, 1 where it is not, with a sentence.
+# usage: dist/check.sh [--build]
+# It compares sums, and needs no kit; where the command rt is there, it has to be the same kit. With --build the sources are copied to a
+# new folder and proved and built there by `rt run`, and the object and the program are compared with dist/SHA256SUMS and with what is
+# packed, byte by byte. `rt run` takes over what it has kept of the same text on this machine, if anything; else it takes half an hour. The
+# folder takes up to 5 GB, in $TMPDIR or /tmp.
+set -u
+top=$(dirname "$(dirname "$(readlink -f "$0")")")
+. "$top/dist/common.sh"
+
+fail() {
+    echo "check.sh: $*" >&2
+    exit 1
+}
+
+if [ $# -gt 1 ] || [ "${1:---build}" != --build ]; then
+    echo "usage: dist/check.sh [--build]" >&2
+    exit 2
+fi
+room=$(mktemp -d) || exit 1
+trap 'rm -rf "$room"' EXIT
+trap 'exit 1' HUP INT TERM
+unpack "$room/packed" || fail "$why"
+fits "$top/dist/SOURCES" || fail "the sources are not those of the program in dist: dist/make.sh makes it anew"
+kit=$(value "$top/dist/SOURCES" kit)
+if command -v rt > /dev/null; then
+    found=$(rt version < /dev/null)
+    [ "$found" = "$kit" ] || fail "dist was made with $kit, and rt is $found"
+fi
+echo "check.sh: dist is whole and of these sources ($kit)"
+[ $# = 1 ] || exit 0
+
+command -v rt > /dev/null || fail "the command rt (the Rattle kit) is not on the path"
+mkdir -p "$room/copy/.git" "$room/copy/crates"
+rows_of_program > "$room/copy/crates.txt"
+cp "$top/HANDLES" "$room/copy"
+for folder in $(folders_of $(crates_of_program)); do
+    mkdir -p "$room/copy/crates/${folder%/*}"
+    cp -R "$top/crates/$folder" "$room/copy/crates/$folder"
+done
+echo "check.sh: rt run proves and builds the program in $room/copy"
+(cd "$room/copy/crates/kcore" && rt run < /dev/null > "$room/log" 2>&1) || { tail -n 20 "$room/log" >&2; fail "it was not proved and built"; }
+grep '^logic=' "$room/log"
+out=$room/copy/crates/kcore/out
+[ "$(sum_of "$out/kcore.o")" = "$(sum_in kcore.o)" ] || fail "the object that was built has another sum than dist/SHA256SUMS says"
+cmp "$out/kcore" "$room/packed" || fail "the program that was built differs from the packed one"
+echo "check.sh: the object and the program that were built here are those of dist, byte by byte"

@@ -1,0 +1,351 @@
+#!/bin/sh
+# Tries ./kcore and dist/check.sh in copies of this checkout, with nothing on the path but the tools of any Debian. It proves and builds
+# nothing: where a build is due, a command of the name rt notes that it was called, and leaves a program that says so.
+# usage: dist/test.sh [CASE..]   (names of the functions that the last lines list; default: all of them)
+# One line a case. Ends with 1 where one went wrong. dist/ has to fit the sources.
+set -u
+top=$(dirname "$(dirname "$(readlink -f "$0")")")
+. "$top/dist/common.sh"
+if ! sh "$top/dist/check.sh" > /dev/null; then exit 1; fi
+room=$(mktemp -d) || exit 1
+trap 'rm -rf "$room"' EXIT
+chmod 755 "$room"
+wrong=0
+machine=
+input=$top/graphs/karate.txt
+usage=$(sed -n 's/^usage_line = codes "\(.*\)\\n"$/\1/p' "$top/crates/kc_top/specs/ErrLines.antt")
+
+# A folder of the tools alone, and one with a command rt that stands for the kit's.
+mkdir "$room/tools" "$room/kit" "$room/temporary"
+chmod 1777 "$room/temporary"
+for tool in sh dirname readlink awk sed sort find xargs sha256sum cut gzip chmod cp cmp mv rm mkdir mktemp touch uname cat tail grep; do
+    ln -s "$(command -v "$tool")" "$room/tools/$tool"
+done
+cat > "$room/kit/rt" << END
+#!/bin/sh
+if [ "\$1" = version ]; then echo "$(value "$top/dist/SOURCES" kit)"; exit; fi
+echo "\$*" >> "$room/calls"
+mkdir -p out
+printf '#!/bin/sh\necho built\n' > out/kcore
+chmod 755 out/kcore
+END
+chmod 755 "$room/kit/rt"
+
+# A copy without what was built, and the one that the cases change. Each case begins with what may be changed as it was.
+mkdir "$room/first"
+(cd "$top" && tar -cf - --no-wildcards-match-slash --exclude='crates/*/out' kcore crates.txt dist $(crates_of_program | sed 's|^|crates/|')) |
+    (cd "$room/first" && tar -xf -)
+clone="$room/a copy"
+cp -R "$room/first" "$clone"
+
+begin() {
+    title=$1
+    for part in kcore crates.txt dist crates/kcore crates/kc_graph crates/kc_io; do
+        rm -rf "${clone:?}/$part"
+        cp -R "$room/first/$part" "$clone/$part"
+    done
+    rm -f "$room/calls"
+    path=$room/tools
+    is_wrong=
+}
+
+# Runs a command with the environment of a case; its streams are left in the room, and its status in $status.
+try() {
+    env -i PATH="$path" TMPDIR="$room/temporary" ${machine:+"KCORE_MACHINE=$machine"} "$@" < "$input" > "$room/out" 2> "$room/err"
+    status=$?
+}
+
+# Notes what is not as it has to be.
+want() {
+    what=$1
+    shift
+    "$@" || is_wrong="$is_wrong; not so: $what"
+}
+
+# Runs a line of shell in a folder of the copy.
+within() (
+    cd "$clone/$1" && eval "$2"
+)
+
+has_numbers() {
+    [ $status = 0 ] && [ "$(head -n 3 "$room/out")" = "$(printf 'graph vertices 34 edges 78 top 4\n0 4\n1 4')" ] && [ "$(wc -l < "$room/out")" = 35 ]
+}
+
+says() {
+    case $(cat "$room/err") in *"$1"*) [ "$(wc -l < "$room/err")" = 1 ] ;; *) return 1 ;; esac
+}
+
+has_built() {
+    [ "$(cat "$room/calls" 2> /dev/null)" = run ] && [ "$(cat "$room/out")" = built ]
+}
+
+is_quiet() {
+    [ ! -s "$room/err" ]
+}
+
+is_unasked() {
+    [ ! -e "$room/calls" ]
+}
+
+is_usage() {
+    [ $status = 2 ] && [ "$(cat "$room/err")" = "$usage" ] && [ ! -s "$room/out" ]
+}
+
+end() {
+    if [ -n "$is_wrong" ]; then
+        wrong=1
+        echo "WRONG  $title$is_wrong"
+        sed 's/^/           /' "$room/err"
+    else
+        echo "well   $title"
+    fi
+}
+
+# Where a build is due: without rt a sentence and status 127, with it the sentence, the call and what was built; then no call again.
+builds() {
+    try "$clone/kcore"
+    want "status 127 without rt" [ $status = 127 ]
+    want "the reason without rt" says "$1"
+    path=$room/tools:$room/kit
+    try "$clone/kcore"
+    want "it is built" has_built
+    want "the reason" says "$1"
+}
+
+first_call() {
+    begin 'the first call, and the second'
+    before=$(date +%s%N)
+    try "$clone/kcore"
+    took=$((($(date +%s%N) - before) / 1000000))
+    want 'the numbers' has_numbers
+    want 'the sentence' says 'not here: rt ci proves them'
+    want "two seconds are enough ($took ms)" [ $took -lt 2000 ]
+    try "$clone/kcore"
+    want 'the numbers again' has_numbers
+    want 'no sentence again' is_quiet
+    title="$title ($took ms)"
+    end
+}
+
+with_the_kit() {
+    begin 'the first call where the kit is there'
+    path=$room/tools:$room/kit
+    try "$clone/kcore"
+    want 'the numbers' has_numbers
+    want 'the sentence' says 'not here: rt ci proves them'
+    want 'no build' is_unasked
+    end
+    begin 'what rt ci has built is the program of dist'
+    mkdir "$clone/crates/kcore/out"
+    unpack "$clone/crates/kcore/out/kcore"
+    try "$clone/kcore"
+    want 'the numbers' has_numbers
+    want 'no sentence' is_quiet
+    end
+}
+
+places() {
+    begin 'from another folder and through a link'
+    mkdir "$room/link"
+    ln -s "$clone/kcore" "$room/link/kcore"
+    (cd / && try "$room/link/kcore" && has_numbers) || is_wrong="; not through a link"
+    (cd "$clone" && try ./kcore && has_numbers && is_quiet) || is_wrong="$is_wrong; not from its folder"
+    rm -r "$room/link"
+    end
+}
+
+words() {
+    begin 'a wrong word'
+    try "$clone/kcore" --help
+    want 'the usage line after the sentence' [ "$(tail -n 1 "$room/err")" = "$usage" ]
+    try "$clone/kcore" --workers 0
+    want 'the usage line alone' is_usage
+    input=/dev/null
+    try "$clone/kcore" --level 3 --show summary
+    want 'right words' [ $status = 0 ]
+    input=$top/graphs/karate.txt
+    end
+    begin 'a wrong word where a build is due'
+    path=$room/tools:$room/kit
+    echo >> "$clone/crates/kc_graph/src/lib.rt"
+    try "$clone/kcore" --workers 0
+    want 'the usage line at once' is_usage
+    want 'no build' is_unasked
+    end
+    begin 'the script takes just the words that the program takes'
+    unpack "$room/program"
+    input=/dev/null
+    while read -r line; do
+        eval "set -- $line"
+        try "$room/program" "$@"
+        program=$status
+        is_taken=2
+        if are_right "$@"; then is_taken=0; fi
+        want "the same for $line" [ "$is_taken" = "$program" ]
+    done << 'END'
+
+--
+-- --
+x
+-- x
+''
+--help
+-h
+-V
+--workers
+--workers 1
+--workers 0
+--workers 64
+--workers 65
+--workers 0064
+--workers 00000000001
+--workers=2
+--workers=
+--workers= 2
+--workers ''
+--workers ' 1'
+--workers -1
+--workers +1
+--workers 0x1
+--workers 1 --workers 1
+--workers=1 --workers 2
+--work 1
+--workers 1 2
+--show cores
+--show summary
+--show each
+--show Each
+--show=each
+--show=
+--show --level
+--show cores --level 3
+--level 3 --show cores
+--level 0
+--level 4294967295
+--level 4294967296
+--level 9999999999
+--level=-3
+--level --
+--level 1 --
+--level 1 -- 2
+--level 1 --level 1
+--gen 7
+--gen 7 --show summary
+--gen=07
+--gen 7x
+--start buckets
+--start hindex
+--start h
+--start=buckets --start=hindex
+--gen 1 --workers 2 --show each --level 2 --start hindex --
+END
+    input=$top/graphs/karate.txt
+    end
+}
+
+changes() {
+    for change in 'echo >> crates/kc_graph/src/lib.rt' 'rm crates/kc_graph/specs/Lib.antt' 'echo > crates/kc_io/proofs/New.antt' \
+        'mv crates/kc_io/src/lib.rt crates/kc_io/src/other.rt' 'rm -r crates/kc_graph/proofs' 'sed -i s/^kc_io:/kc_io:\ itoa/ crates.txt'; do
+        begin "a source is changed: $change"
+        want 'the change itself' within . "$change"
+        builds 'the sources are not those'
+        end
+    done
+    begin 'a source is changed after the first call, and its time is set back'
+    try "$clone/kcore"
+    echo >> "$clone/crates/kc_graph/src/lib.rt"
+    touch -d 2001-01-01 "$clone/crates/kc_graph/src/lib.rt"
+    builds 'the sources are not those'
+    rm "$room/calls"
+    try "$clone/kcore"
+    want 'no second build' is_unasked
+    want 'no sentence again' is_quiet
+    cp "$room/first/crates/kc_graph/src/lib.rt" "$clone/crates/kc_graph/src/lib.rt"
+    try "$clone/kcore"
+    want 'the numbers where the change is taken back' has_numbers
+    end
+}
+
+no_changes() {
+    begin 'changes that do not count'
+    try "$clone/kcore"
+    path=$room/tools:$room/kit
+    (cd "$clone" && echo > README.md && echo >> crates/kcore/stdin && rm -r crates/kc_graph/must-fail && mkdir crates/kc_io/out &&
+        touch crates/kc_graph/src/lib.rt && echo '# a comment' >> crates.txt)
+    try "$clone/kcore"
+    want 'the numbers' has_numbers
+    want 'no sentence' is_quiet
+    want 'no build' is_unasked
+    end
+}
+
+damage() {
+    for harm in 'truncate -s 9000 kcore-x86_64-linux.gz' 'printf x | dd of=kcore-x86_64-linux.gz bs=1 seek=9000 conv=notrunc 2> /dev/null' \
+        'sed -i s/^./x/ SHA256SUMS' 'sed -i "s/^program .*/program 0/" SOURCES' 'rm SOURCES' 'rm SHA256SUMS' 'rm kcore-x86_64-linux.gz' \
+        'echo > kcore; gzip -nc < kcore > kcore-x86_64-linux.gz; sed -i "/linux.gz/s/^[^ ]*/$(sha256sum < kcore-x86_64-linux.gz | cut -c 1-64)/" SHA256SUMS'; do
+        begin "a file of dist is damaged: $harm"
+        want 'the harm itself' within dist "$harm"
+        builds 'dist/'
+        sh "$clone/dist/check.sh" > /dev/null 2>&1 && is_wrong="$is_wrong; check.sh passes it"
+        end
+    done
+    begin 'the unpacked program is damaged'
+    try "$clone/kcore"
+    echo >> "$clone/crates/kcore/out/kcore"
+    try "$clone/kcore"
+    want 'the numbers' has_numbers
+    want 'it is unpacked anew' says 'not here: rt ci proves them'
+    end
+}
+
+machines() {
+    for machine in 'Darwin arm64' 'Linux aarch64' 'FreeBSD x86_64'; do
+        begin "another machine: $machine"
+        builds "no program for this machine ($machine)"
+        end
+    done
+    machine=
+    begin 'the program of dist does not run here'
+    (cd "$clone/dist" && printf '#!/bin/sh\nexit 1\n' > program && gzip -nc < program > "$packed" &&
+        write_record "$(value SOURCES kit)" "$(value SOURCES sources)" program SOURCES && rm program &&
+        for file in "$packed" SOURCES; do sed -i "/ $file\$/s/^[^ ]*/$(sum_of "$file")/" SHA256SUMS; done &&
+        sed -i "/ $unpacked\$/s/^[^ ]*/$(value SOURCES program)/" SHA256SUMS)
+    builds 'does not run on this machine'
+    end
+}
+
+read_only() {
+    begin 'a checkout that cannot be written'
+    chmod -R a+rX,a-w "$clone"
+    user=
+    if [ "$(id -u)" = 0 ]; then user='setpriv --reuid=65534 --regid=65534 --clear-groups'; fi
+    cp "$(command -v setpriv)" "$room/tools/"
+    try $user "$clone/kcore"
+    want 'the numbers' has_numbers
+    want 'the sentence' says 'not here: rt ci proves them'
+    try $user "$clone/kcore" --help
+    want 'the usage line' [ $status = 2 ]
+    want 'nothing is left' [ -z "$(ls "$room/temporary")" ]
+    want 'nothing is unpacked there' [ ! -e "$clone/crates/kcore/out" ]
+    chmod -R u+w "$clone"
+    end
+}
+
+checked() {
+    begin 'check.sh says whether it fits'
+    (cd / && try sh "$clone/dist/check.sh" && says_fit) || is_wrong='; not where it does'
+    echo >> "$clone/crates/kc_graph/src/lib.rt"
+    try sh "$clone/dist/check.sh"
+    want 'status 1 where a source is changed' [ $status = 1 ]
+    want 'the reason' says 'the sources are not those'
+    end
+}
+
+says_fit() {
+    case $(cat "$room/out") in *'dist is whole and of these sources'*) is_quiet ;; *) return 1 ;; esac
+}
+
+for case in ${*:-first_call with_the_kit places words changes no_changes damage machines read_only checked}; do
+    "$case"
+done
+exit $wrong
