@@ -1,10 +1,20 @@
 #!/usr/bin/env python3
-"""Looks up each name of docs/MAP.md in the crate that its heading names.
+"""Looks up the names of the documents in the sources.
 
     python3 bench/check_map.py
 
-A row has a promise and five cells of names in backticks, parted by commas: functions, definitions, lemmas, edits and tests.
-A name that is not found is printed with its line, and the status is 1 then. Edits that stand in no row are named too.
+docs/MAP.md: a row has a promise and five cells of names in backticks, parted by commas: functions, definitions, lemmas, edits and tests
+of the crate that the heading names. Edits that stand in no row are named too.
+
+docs/DEFINITIONS.md: each word in backticks of a row's first cell is looked up in the files of its column `Where`. A bare `File.antt` there is
+of the crate that was named last, and `the same` is the cell above.
+
+README.md, CHANGELOG.md and the other pages of docs/: each name in backticks that has an underscore, a capital inside or `::` is a word of
+the sources, but those of OUTSIDE.
+
+docs/DECISIONS.md has a table of the public names that several crates have; it is compared with the sources.
+
+A name that is not found is printed with its line, and the status is 1 then.
 """
 import pathlib
 import re
@@ -12,6 +22,8 @@ import sys
 
 TOP = pathlib.Path(__file__).resolve().parent.parent
 CRATES = TOP / "crates"
+DOCS = TOP / "docs"
+OUTSIDE = {"CachePadded", "Backoff", "crossbeam_utils", "par_for_each_mut"}  # names of the kit that no source here has
 
 
 def text_of(path):
@@ -83,9 +95,10 @@ def edits_without_a_row(text):
     return [f"in no row: {path.relative_to(TOP)}" for path in sorted(CRATES.glob("*/must-fail/*.edit")) if f"`{path.stem}`" not in text]
 
 
-def main():
+def faults_of_map():
+    """The rows of docs/MAP.md, and what is wrong with them."""
     crate, rows, faults = "", 0, []
-    text = text_of(TOP / "docs" / "MAP.md")
+    text = text_of(DOCS / "MAP.md")
     for place, line in enumerate(text.splitlines(), 1):
         if line.startswith("## "):
             crate = line[3:].strip()
@@ -95,8 +108,121 @@ def main():
         rows += 1
         wrong = list(faults_of_row(crate, cells)) if len(cells) == len(KINDS) else [f"{len(cells)} cells of names"]
         faults += [f"docs/MAP.md:{place}: {fault}" for fault in wrong]
-    print("\n".join(faults + edits_without_a_row(text) + [f"{rows} rows, {len(faults)} names that are not found"]))
-    return 1 if faults or not rows else 0
+    return rows, faults + edits_without_a_row(text)
+
+
+def files_of(cell, before):
+    """The files that a cell of the column `Where` names."""
+    files = list(before) if "the same" in cell else []
+    crate = before[-1].split("/")[0] if before else ""
+    for name in re.findall(r"`([^`]+)`", cell):
+        if "/" in name:
+            crate = name.split("/")[0]
+            files.append(name)
+        else:
+            files.append(f"{crate}/{name}" if name.startswith(("src/", "specs/")) else f"{crate}/specs/{name}")
+    return files
+
+
+def is_defined(name, files):
+    """A word of specs/, or a type, constant, variant or function of src/."""
+    word = re.escape(name)
+    stated = re.compile(rf"^ *(?:[a-z]+ )*{word}(?=[ :(\n])", re.M)
+    coded = re.compile(rf"\b(?:struct|enum|trait|type|const|fn) {word}\b|^ +{word}(?= *[,({{])", re.M)
+    return any((stated if file.endswith(".antt") else coded).search(text_of(CRATES / file)) for file in files)
+
+
+def faults_of_definitions():
+    """The words of docs/DEFINITIONS.md that are looked up, and those that are not found where they are said to stand."""
+    looked_up, faults, column, files = 0, [], None, []
+    for place, line in enumerate(text_of(DOCS / "DEFINITIONS.md").splitlines(), 1):
+        cells = [cell.strip() for cell in line.strip().strip("|").split("|")] if line.startswith("|") else []
+        if not cells:
+            column = None
+        elif "Where" in cells:
+            column, files = cells.index("Where"), []
+        elif column is not None and len(cells) > column and not cells[0].startswith("---"):
+            files = files_of(cells[column], files)
+            faults += [] if files else [f"docs/DEFINITIONS.md:{place}: no file is named"]
+            faults += [f"docs/DEFINITIONS.md:{place}: no file {file}" for file in files if not (CRATES / file).is_file()]
+            for name in re.findall(r"`([^\s`]+)[^`]*`", cells[0]):
+                looked_up += 1
+                if not is_defined(name, files):
+                    faults.append(f"docs/DEFINITIONS.md:{place}: no {name} in {', '.join(files)}")
+    return looked_up, faults
+
+
+def words_of_sources():
+    """Each word of the sources and of the names of their files and folders, and those of each crate."""
+    lines = text_of(TOP / "crates.txt").splitlines()
+    here = {re.split(r"[\s:]", line)[0]: set() for line in lines if line.strip() and not line.startswith("#")}
+    folders = {name: [CRATES / name] for name in here} | {"": [TOP / it for it in ("bench", "c", "dist", "include", "python")]}
+    for name, places in folders.items():
+        words = here.setdefault(name, set())
+        for path in (it for place in places for it in place.rglob("*") if "out" not in it.relative_to(TOP).parts):
+            words.update(re.findall(r"\w+", path.name))
+            if path.suffix in (".rt", ".antt", ".h", ".c", ".cpp", ".py", ".sh"):
+                words.update(re.findall(r"\w+", text_of(path)))
+    everywhere = set().union(*here.values(), re.findall(r"\w+", "\n".join(lines)))
+    return {it for it in everywhere if not it.startswith("kc_") or it in here}, here
+
+
+def faults_of_page(page, everywhere, here):
+    """Names of a page that are looked up, and those that are not found: `kc_x::name` in its crate, others anywhere."""
+    looked_up, faults = 0, []
+    for place, line in enumerate(text_of(page).splitlines(), 1):
+        for quoted in re.findall(r"`([^`]+)`", line):
+            for path in re.findall(r"[A-Za-z_]\w*(?:::[A-Za-z_]\w*)*", quoted):
+                crate, *rest = path.split("::")
+                words = here[crate] if rest and crate in here else everywhere
+                names = [it for it in (rest if rest else [crate]) if "::" in path or re.search(r"[a-z]_[a-z]|[a-z][A-Z]", it)]
+                looked_up += len(names)
+                faults += [f"{page.relative_to(TOP)}:{place}: no {name} in the sources" for name in names if name not in words | OUTSIDE]
+    return looked_up, faults
+
+
+def names_of(crate):
+    """The public names of a crate: types and functions of src/ that stand at the margin, and words of specs/."""
+    coded = re.compile(r"^pub (?:struct|enum|trait|type|fn) (\w+)", re.M)
+    stated = re.compile(r"^(?:abbrev pub|unfoldable pub|pub record|pub data|pub) (?!mod |use |record |data )([\w']+)(?=[ :(\n])", re.M)
+    for folder, suffix, name in (("src", "rt", coded), ("specs", "antt", stated)):
+        for path in (CRATES / crate / folder).rglob(f"*.{suffix}"):
+            yield from name.findall(text_of(path))
+
+
+def faults_of_names(crates):
+    """Public names that stand in several crates and not in the table of docs/DECISIONS.md, or the other way round."""
+    found = {}
+    for crate in crates:
+        if crate.startswith("kc_") and not crate.endswith("_tests"):
+            for name in set(names_of(crate)):
+                found.setdefault(name, set()).add(crate)
+    section = re.search(r"^## Names that several crates have$(.*?)^## ", text_of(DOCS / "DECISIONS.md"), re.M | re.S)
+    listed = {}
+    for line in section.group(1).splitlines() if section else []:
+        cells = line.strip().strip("|").split("|")
+        if line.startswith("| `") and len(cells) == 3:
+            listed.update({name: set(re.findall(r"`([^`]+)`", cells[1])) for name in re.findall(r"`([^`]+)`", cells[0])})
+    several = {name: of for name, of in found.items() if len(of) > 1}
+    for name in sorted(several.keys() | listed.keys()):
+        here, said = several.get(name, set()), listed.get(name, set())
+        if here != said:
+            yield f"docs/DECISIONS.md: {name}: the table has {sorted(said) or 'no row'}, the sources {sorted(here) or 'at most one crate'}"
+
+
+def main():
+    rows, faults = faults_of_map()
+    defined, more = faults_of_definitions()
+    faults += more
+    everywhere, here = words_of_sources()
+    faults += faults_of_names(here)
+    named = 0
+    for page in [TOP / "README.md", TOP / "CHANGELOG.md", TOP / "bench/README.md", *sorted(DOCS.glob("*.md"))]:
+        if page.name != "MAP.md":
+            count, more = faults_of_page(page, everywhere, here)
+            named, faults = named + count, faults + more
+    print("\n".join(faults + [f"{rows} rows, {defined} definitions, {named} names on other pages, {len(faults)} faults"]))
+    return 1 if faults or not rows or not defined else 0
 
 
 if __name__ == "__main__":

@@ -5,12 +5,11 @@
 //! how many processors there are.
 #![tactic(auto)]
 
-use kc_graph::{Graph, NoMemory, core_numbers};
+use kc_graph::{Graph, core_numbers};
 use kc_hindex::{lawful, peel};
 use kc_io::source::read_all;
 use kc_io::std_source::StdSource;
 use kc_text::parse;
-use std::alloc::Global;
 use std::time::{Duration, Instant};
 use std::{env, io};
 
@@ -33,23 +32,16 @@ fn report(
     }
 }
 
-/// The graph with these edges.
-fn graph_of(alloc: Global, vertices: u32, edges: &[(u32, u32)]) -> Result<Graph, NoMemory> {
-    let mut graph = Graph::new(alloc, vertices)?;
-    for (u, v) in edges {
-        if u < v && *v < graph.vertices() {
-            graph.add(*u, *v)?;
-        }
-    }
-    Ok(graph)
-}
-
 /// The graph of the edges on standard input, or none where they are refused.
 fn read_graph(rt: &HostRuntime) -> Option<Graph> {
     let mut source = StdSource::new(rt.stdin());
     let bytes = read_all(rt.alloc(), &mut source).ok()?;
     let input = parse(rt.alloc(), &bytes).ok()?;
-    graph_of(rt.alloc(), input.ids.len() as u32, &input.start).ok()
+    let vertices = input.ids.len() as u32;
+    if !input.start.iter().all(|(u, v)| u < v && *v < vertices) {
+        return None;
+    }
+    Graph::from_pairs(rt.alloc(), vertices, &input.start).ok()
 }
 
 /// Takes the time of an order for core numbers that are known.

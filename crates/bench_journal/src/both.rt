@@ -5,9 +5,10 @@ use crate::comparing::{Answers, Numbers, has_edges_of};
 use crate::graphs::{change, draw};
 use crate::run::Run;
 use anyhow::{Result, bail};
-use kc_draws::Draws;
 use kc_graph::{Graph, decompose};
 use kc_words::INDICES;
+use rand_core::SeedableRng;
+use rand_xoshiro::Xoshiro256PlusPlus;
 use std::time::{Duration, Instant};
 
 /// What an update came to.
@@ -23,7 +24,7 @@ pub(crate) struct Step {
 pub(crate) struct Both {
     run: Run,
     graph: Graph,
-    draws: Draws,
+    draws: Xoshiro256PlusPlus,
 }
 
 impl Both {
@@ -36,7 +37,7 @@ impl Both {
         Ok(Both {
             run,
             graph,
-            draws: Draws::new(seed),
+            draws: Xoshiro256PlusPlus::seed_from_u64(seed),
         })
     }
 

@@ -7,15 +7,16 @@ ghost use Rattle.kc_words.specs.declared.layout.TheConstants.{INDICES as MOST_IN
 use crate::comparing::{Numbers, has_edges_of};
 use crate::graphs::{change, draw};
 use anyhow::{Result, bail};
-use kc_batch::{BatchDone, CutShort, run_batch};
-use kc_draws::Draws;
+use kc_batch::{BatchDone, CutShort, IndexedBatch, run_batch};
 use kc_graph::{Graph, NoMemory, Update, decompose};
 use kc_levels::LAST_NUMBER;
 use kc_queue::WORKERS;
 use kc_shared::Parts;
-use kc_table::{Entry, Pass, shape, split};
+use kc_table::{Entry, shape};
 use kc_words::{INDICES, VERTICES};
-use kc_workers::{NoGate, Worker};
+use kc_workers::{NoGate, Worker, hire};
+use rand_core::SeedableRng;
+use rand_xoshiro::Xoshiro256PlusPlus;
 use std::alloc::Global;
 use std::rt::Clock;
 use std::sync::Wait;
@@ -28,34 +29,17 @@ pub(crate) struct Crewed {
     parts: Parts,
     workers: Vec<Worker>,
     graph: Graph,
-    draws: Draws,
+    draws: Xoshiro256PlusPlus,
     /// The index of the next update.
     next: u32,
     ghost some: { (0 < vec_len workers) × (vec_len workers ≤ MOST_WORKERS) },
     ghost table: { All (λ w. w.table ≡ parts.words) workers.items },
 }
 
-/// So many workers, who have seen what the pass has; an error where there is no memory for one.
-fn hire(alloc: Global, parts: &Parts, pass: &mut Pass, count: u32) -> Result<Vec<Worker>, NoMemory>
-    requires table { pass.old.table ≡ parts.now.words }
-    ensures count { IfOk result (λ workers. vec_len workers ≡ count) }
-    ensures table { IfOk result (λ workers. All (λ w. w.table ≡ parts.now.words) workers.items) }
-{
-    let mut workers = Vec::new(alloc);
-    for _ in 0..count {
-        let own = split(&parts.words, pass);
-        let Ok(worker) = Worker::new(alloc, &parts.words, own) else {
-            return Err(NoMemory);
-        };
-        workers.push(worker)?;
-    }
-    Ok(workers)
-}
-
 /// So many updates of a graph; fewer where it has less than two vertices.
 fn draw_batch(
     alloc: Global,
-    draws: &mut Draws,
+    draws: &mut Xoshiro256PlusPlus,
     graph: &Graph,
     updates: u32,
 ) -> Result<Vec<Update>, NoMemory> {
@@ -127,7 +111,7 @@ fn open_run(alloc: Global, graph: &Graph, count: u32) -> Result<(Parts, Vec<Work
     ensures table { IfOk result (λ r. All (λ w. w.table ≡ r.0.words) r.1.items) }
 {
     let (parts, mut pass) = Parts::open(alloc, decompose(alloc, graph)?, 0)?;
-    let workers = hire(alloc, &parts, &mut pass, count)?;
+    let workers = hire(alloc, &parts.words, &mut pass, count)?;
     Ok((parts, workers))
 }
 
@@ -145,7 +129,7 @@ impl Crewed {
             parts,
             workers,
             graph,
-            draws: Draws::new(seed),
+            draws: Xoshiro256PlusPlus::seed_from_u64(seed),
             next: 0,
         })
     }
@@ -181,7 +165,11 @@ impl Crewed {
             draws,
             next,
         } = self;
-        let (parts, done) = run_batch(rt, alloc, parts, &mut workers, next, batch, &NoGate);
+        let indexed = IndexedBatch {
+            first: next,
+            updates: batch,
+        };
+        let (parts, done) = run_batch(rt, alloc, parts, &mut workers, indexed, &NoGate);
         let crewed = Crewed {
             parts,
             workers,

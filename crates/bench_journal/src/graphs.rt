@@ -1,9 +1,10 @@
 //! The graph that is read, and the updates of it.
 ghost use Rattle.std.specs.Prelude.{◌≤◌, length};
 
-use kc_draws::Draws;
 use kc_graph::{Graph, NoMemory, Update};
 use kc_text::{Input, MOST_BYTES, ParseFault, parse};
+use rand::RngExt;
+use rand_xoshiro::Xoshiro256PlusPlus;
 use std::alloc::Global;
 use std::cmp::Ordering;
 use std::io;
@@ -64,19 +65,19 @@ fn update_of(add: bool, first: u32, second: u32) -> Option<Update> {
 
 /// Any update of a graph: one edge in two comes between any two vertices, and else one of a vertex goes. A vertex without neighbours gets
 /// an edge. There is none where the graph has less than two vertices.
-pub(crate) fn draw(draws: &mut Draws, graph: &Graph) -> Option<Update> {
+pub(crate) fn draw(draws: &mut Xoshiro256PlusPlus, graph: &Graph) -> Option<Update> {
     let vertices = graph.vertices();
     if vertices < 2 {
         return None;
     }
-    let first = draws.below(vertices);
+    let first = draws.random_range(0..vertices);
     let list = graph.neighbours(first);
-    let many = u32::try_from(list.len()).ok()?;
-    if many == 0 || draws.below(2) == 0 {
-        return update_of(true, first, draws.other_below(vertices, first));
+    if list.is_empty() || draws.random::<bool>() {
+        let other = draws.random_range(0..vertices - 1);
+        let second = if other < first { other } else { other + 1 };
+        return update_of(true, first, second);
     }
-    let second = list.get(draws.below(many) as usize)?;
-    update_of(false, first, *second)
+    update_of(false, first, list[draws.random_range(0..list.len())])
 }
 
 /// Makes an update in a graph that has its vertices.

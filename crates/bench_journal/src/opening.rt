@@ -13,7 +13,7 @@ fn report_opened(rt: &HostRuntime, words: &Words, pass: &mut Pass, journal: &Jou
     requires table { (pass.old.table ≡ words.now) × (journal.now.levels.table ≡ words.now) }
     requires base { (v : ℕ) → v < journal.now.graph.size → slice_index journal.now.edge_stamps v ≤ words.now.shape.base }
 {
-    journal.look();
+    journal.recall_stands();
     let stripes = open_stripes(
         rt.alloc(),
         words,

@@ -1,9 +1,11 @@
 //! Puts into the list of one thread.
 ghost use Rattle.std.specs.Prelude.{◌≡◌, ◌≢◌, ◌<◌, ◌≤◌};
 
-use kc_draws::Draws;
 use kc_list::PlainOrder;
 use kc_words::LAST_VERSION;
+use rand::RngExt;
+use rand_core::SeedableRng;
+use rand_xoshiro::Xoshiro256PlusPlus;
 
 /// Puts `x` right after `p`, and says how many words it wrote; 0 where the list refuses it.
 fn put(order: &mut PlainOrder, x: u32, p: u32) -> u64
@@ -48,11 +50,11 @@ pub(crate) fn put_anywhere(order: &mut PlainOrder, items: u32, puts: u32) -> u64
     requires within { items ≤ order.old.items }
     ensures { order.new.items ≡ order.old.items }
 {
-    let mut draws = Draws::new(1);
+    let mut draws = Xoshiro256PlusPlus::seed_from_u64(1);
     let mut written: u64 = 0;
     for _ in 0..puts {
-        let x = draws.below(items);
-        let p = draws.below(items);
+        let x = draws.random_range(0..items);
+        let p = draws.random_range(0..items);
         if x != p {
             written = written.wrapping_add(put(order, x, p));
         }

@@ -1,10 +1,12 @@
 //! Puts and comparisons by way of a shared table, on one thread.
 ghost use Rattle.std.specs.Prelude.{◌≡◌, ◌<◌};
 
-use kc_draws::Draws;
 use kc_order::{Answer, NoMemory, SharedOrder, Writer, precedes};
 use kc_table::{Name, Pass, Words};
 use kc_words::LAST_VERSION;
+use rand::RngExt;
+use rand_core::SeedableRng;
+use rand_xoshiro::Xoshiro256PlusPlus;
 use std::alloc::Global;
 use std::sync::Wait;
 
@@ -33,9 +35,9 @@ pub(crate) fn put_under_lock<K: Name, R: Wait>(
     mut pass: Pass,
     puts: u32,
 ) -> u64
-    requires table { (words ≡ K.table) × (writer.table ≡ K.table) × (pass.table ≡ K.table) }
-    requires free { K.table.shape.fixed ≡ 0 }
-    requires items { puts < K.table.shape.items }
+    requires table { (words ≡ K.opened.table) × (writer.table ≡ K.opened.table) × (pass.table ≡ K.opened.table) }
+    requires free { K.opened.table.shape.fixed ≡ 0 }
+    requires items { puts < K.opened.table.shape.items }
 {
     let shared = SharedOrder::<K>::new(words, writer);
     let mut count: u64 = 0;
@@ -51,11 +53,11 @@ pub(crate) fn put_under_lock<K: Name, R: Wait>(
 pub(crate) fn draw_pairs(alloc: Global, bound: u32, count: u32) -> Result<Vec<(u32, u32)>, NoMemory>
     requires { 0 < bound }
 {
-    let mut draws = Draws::new(2);
+    let mut draws = Xoshiro256PlusPlus::seed_from_u64(2);
     let mut pairs = Vec::new(alloc);
     for _ in 0..count {
-        let x = draws.below(bound);
-        let y = draws.below(bound);
+        let x = draws.random_range(0..bound);
+        let y = draws.random_range(0..bound);
         pairs.push((x, y))?;
     }
     Ok(pairs)

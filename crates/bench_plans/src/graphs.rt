@@ -1,49 +1,44 @@
 //! The graph that is read, and the updates of it that are planned.
-ghost use Rattle.std.specs.Prelude.{◌<◌};
+ghost use Rattle.std.specs.Prelude.{◌<◌, All};
 
-use kc_draws::Draws;
 use kc_graph::{Graph, NoMemory, Update};
-use kc_text::{ParseFault, parse};
+use kc_text::{MOST_BYTES, ParseFault, parse};
+use rand::RngExt;
+use rand_core::SeedableRng;
+use rand_xoshiro::Xoshiro256PlusPlus;
 use std::alloc::Global;
 use std::io;
 use std::io::Read;
-
-/// The most bytes of a text.
-const BYTES: usize = 67_108_864;
 
 /// The edges of a text, between numbers that stand for its ids.
 #[derive(Drop)]
 pub(crate) struct Edges {
     pub vertices: u32,
     pub pairs: Vec<(u32, u32)>,
+    ghost within: { All (λ p. (p.0 < p.1) × (p.1 < vertices)) pairs.items },
+}
+
+/// These edges; `None` where a pair is none.
+fn edges_of(vertices: u32, pairs: Vec<(u32, u32)>) -> Option<Edges> {
+    if pairs.iter().all(|(u, v)| u < v && *v < vertices) {
+        Some(Edges { vertices, pairs })
+    } else {
+        None
+    }
 }
 
 /// Reads a text to its end; `None` where it is too long or is not that of a graph.
 pub(crate) fn read_edges<R: Read>(alloc: Global, source: &mut R) -> io::Result<Option<Edges>> {
     let mut bytes = Vec::new(alloc);
     source.read_to_end(&mut bytes)?;
-    if bytes.len() > BYTES {
+    if bytes.len() > MOST_BYTES {
         return Ok(None);
     }
     match parse(alloc, &bytes) {
-        Ok(input) => Ok(Some(Edges {
-            vertices: input.ids.len() as u32,
-            pairs: input.start,
-        })),
+        Ok(input) => Ok(edges_of(input.ids.len() as u32, input.start)),
         Err(ParseFault::Refused(_)) => Ok(None),
         Err(ParseFault::NoMemory) => Err(NoMemory.into()),
     }
-}
-
-/// The graph with these edges.
-pub(crate) fn graph_of(alloc: Global, edges: &Edges) -> Result<Graph, NoMemory> {
-    let mut graph = Graph::new(alloc, edges.vertices)?;
-    for (u, v) in &edges.pairs {
-        if u < v && *v < graph.vertices() {
-            graph.add(*u, *v)?;
-        }
-    }
-    Ok(graph)
 }
 
 /// The numbers that insertions and removals are drawn by.
@@ -55,15 +50,15 @@ pub(crate) fn insertions(
     graph: &Graph,
     count: usize,
 ) -> Result<Vec<Update>, NoMemory> {
-    let mut draws = Draws::new(SEED);
+    let mut draws = Xoshiro256PlusPlus::seed_from_u64(SEED);
     let mut updates = Vec::new(alloc);
     let vertices = graph.vertices();
     if vertices == 0 {
         return Ok(updates);
     }
     for _ in 0..count.saturating_mul(8) {
-        let u = draws.below(vertices);
-        let v = draws.below(vertices);
+        let u = draws.random_range(0..vertices);
+        let v = draws.random_range(0..vertices);
         if updates.len() < count && u < v && !graph.has(u, v) {
             updates.push(Update { add: true, u, v })?;
         }
@@ -77,17 +72,14 @@ pub(crate) fn removals(
     edges: &Edges,
     count: usize,
 ) -> Result<Vec<Update>, NoMemory> {
-    let mut draws = Draws::new(SEED);
+    let mut draws = Xoshiro256PlusPlus::seed_from_u64(SEED);
     let mut updates = Vec::new(alloc);
     let pairs = edges.pairs.as_slice();
-    let Ok(many) = u32::try_from(pairs.len()) else {
-        return Ok(updates);
-    };
     for _ in 0..count {
-        if many == 0 {
+        if pairs.is_empty() {
             break;
         }
-        let (u, v) = pairs[draws.below(many) as usize];
+        let (u, v) = pairs[draws.random_range(0..pairs.len())];
         if u < v {
             updates.push(Update { add: false, u, v })?;
         }

@@ -8,8 +8,9 @@ use kc_graph::{Graph, Lawful, NoMemory, Plan, Update, decompose};
 use kc_journal::Journal;
 use kc_stripes::{Stripes, open_stripes};
 use kc_table::{Name, Pass, Words, shape};
-use kc_view::{PlainView, PlanFault, Scratch};
+use kc_view::{PlainView, PlanFault};
 use kc_words::VERTICES;
+use kc_workers::{Worker, plan};
 use std::alloc::Global;
 use std::io;
 use std::marker::Brand;
@@ -32,56 +33,48 @@ pub(crate) struct Compared {
     pub planning: Duration,
 }
 
-/// What a worker plans with: the shared words and stripes of a table, its own pass, and the marks that it lends.
+/// A worker, and the shared words and stripes of a table that it plans with.
 #[derive(Drop)]
-struct Worker<'a, K: Name> {
+struct LoosePlanner<'a, K: Name> {
     words: &'a Words,
     stripes: &'a Stripes<K>,
-    pass: Pass,
-    scratch: Scratch,
-    ghost table: { (words.now ≡ K.table) × (pass.table ≡ K.table) },
-    ghost marks: { scratch ≡ K.table.shape.fixed },
+    worker: Worker,
+    ghost table: { (words.now ≡ K.opened.table) × (worker.table ≡ K.opened.table) },
 }
 
-impl<'a, K: Name> Worker<'a, K> {
-    /// A worker on a table, with marks for its vertices.
+impl<'a, K: Name> LoosePlanner<'a, K> {
+    /// A worker of a table, which has seen what the pass has.
     fn new(
         alloc: Global,
         words: &'a Words,
         stripes: &'a Stripes<K>,
         pass: Pass,
-    ) -> Result<Worker<'a, K>, NoMemory>
-        requires { (words.now ≡ K.table) × (pass.table ≡ K.table) }
+    ) -> Result<LoosePlanner<'a, K>, NoMemory>
+        requires { (words.now ≡ K.opened.table) × (pass.table ≡ K.opened.table) }
     {
-        let scratch = Scratch::new(alloc, shape(words).fixed)?;
-        Ok(Worker {
-            words,
-            stripes,
-            pass,
-            scratch,
-        })
+        match Worker::new(alloc, words, pass) {
+            Ok(worker) => Ok(LoosePlanner {
+                words,
+                stripes,
+                worker,
+            }),
+            Err(_) => Err(NoMemory),
+        }
     }
 
     /// The number of vertices.
     fn vertices(&self) -> u32
-        ensures { result ≡ K.table.shape.fixed }
+        ensures { result ≡ K.opened.table.shape.fixed }
     {
         shape(self.words).fixed
     }
 
     /// A plan of an update over a loose view.
     fn plan<R: Wait>(&mut self, rt: &R, alloc: Global, update: Update) -> Result<Plan, PlanFault>
-        requires { update.v < K.table.shape.fixed }
+        requires { update.v < K.opened.table.shape.fixed }
     {
-        kc_tries::plan(
-            rt,
-            alloc,
-            self.words,
-            self.stripes,
-            &mut self.pass,
-            &mut self.scratch,
-            update,
-        )
+        let worker = &mut self.worker;
+        plan(rt, alloc, self.words, self.stripes, worker, update)
     }
 
     /// Plans updates, one after another, and counts what they ask.
@@ -108,7 +101,7 @@ impl<'a, K: Name> Worker<'a, K> {
         view: &mut PlainView,
         update: Update,
     ) -> Result<bool, PlanFault>
-        requires here { update.v < K.table.shape.fixed }
+        requires here { update.v < K.opened.table.shape.fixed }
         requires vertex { update.v < view.old.state.graph.size }
         requires fresh { view.old.kept ≡ nothing_answered }
         ensures { OnOk result (view.new.kept ≡ nothing_answered) }
@@ -198,13 +191,13 @@ fn open_at_rest<K: Name, R: AllocGlobal + Clock>(
     pass: &mut Pass,
     journal: &Journal,
 ) -> io::Result<(Stripes<K>, u64, Duration)>
-    requires table { (words.now ≡ K.table) × (pass.old.table ≡ K.table) × (journal.now.levels.table ≡ K.table) }
-    requires opened { (journal.now.graph ≡ K.opening_edges) × (journal.now.edge_stamps ≡ K.opening_stamps) }
-    requires early { (v : ℕ) → v < journal.now.graph.size → slice_index journal.now.edge_stamps v ≤ K.table.shape.base }
-    ensures { pass.new.table ≡ K.table }
+    requires table { (words.now ≡ K.opened.table) × (pass.old.table ≡ K.opened.table) × (journal.now.levels.table ≡ K.opened.table) }
+    requires opened { (journal.now.graph ≡ K.opened.edges) × (journal.now.edge_stamps ≡ K.opened.stamps) }
+    requires early { (v : ℕ) → v < journal.now.graph.size → slice_index journal.now.edge_stamps v ≤ K.opened.table.shape.base }
+    ensures { pass.new.table ≡ K.opened.table }
 {
     let alloc = rt.alloc();
-    journal.look();
+    journal.recall_stands();
     let start = Instant::now(rt)?;
     let stripes = open_stripes(alloc, words, pass, journal.graph(), journal.edge_stamps())?;
     let opening = start.elapsed(rt)?;
@@ -224,9 +217,9 @@ fn compare_at_rest<K: Name, R: Wait + AllocGlobal + Clock>(
     state: &Lawful,
     updates: &[Update],
 ) -> io::Result<Compared>
-    requires table { (words.now ≡ K.table) × (pass.table ≡ K.table) × (journal.now.levels.table ≡ K.table) }
-    requires opened { (journal.now.graph ≡ K.opening_edges) × (journal.now.edge_stamps ≡ K.opening_stamps) }
-    requires early { (v : ℕ) → v < journal.now.graph.size → slice_index journal.now.edge_stamps v ≤ K.table.shape.base }
+    requires table { (words.now ≡ K.opened.table) × (pass.table ≡ K.opened.table) × (journal.now.levels.table ≡ K.opened.table) }
+    requires opened { (journal.now.graph ≡ K.opened.edges) × (journal.now.edge_stamps ≡ K.opened.stamps) }
+    requires early { (v : ℕ) → v < journal.now.graph.size → slice_index journal.now.edge_stamps v ≤ K.opened.table.shape.base }
 {
     let (stripes, count, opening) = open_at_rest::<K, R>(rt, words, &mut pass, journal)?;
     let Planned {
@@ -252,10 +245,10 @@ fn plan_at_rest<K: Name, R: Wait + AllocGlobal + Clock>(
     state: &Lawful,
     updates: &[Update],
 ) -> io::Result<Planned>
-    requires table { (words.now ≡ K.table) × (pass.table ≡ K.table) }
+    requires table { (words.now ≡ K.opened.table) × (pass.table ≡ K.opened.table) }
 {
-    let mut worker = Worker::new(rt.alloc(), words, stripes, pass)?;
-    worker.plan_all(rt, state, updates)
+    let mut planner = LoosePlanner::new(rt.alloc(), words, stripes, pass)?;
+    planner.plan_all(rt, state, updates)
 }
 
 /// Opens a table in the state of a graph, and plans the updates over loose views of it and over a plain view of the state, each in that

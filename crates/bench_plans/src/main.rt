@@ -17,7 +17,7 @@ mod plans;
 mod same;
 mod small;
 
-use crate::graphs::{Edges, graph_of, insertions, read_edges, removals};
+use crate::graphs::{Edges, insertions, read_edges, removals};
 use crate::loose::compare;
 use crate::plans::{Asked, plan_insertions, plan_removals};
 use crate::small::compare_small;
@@ -319,7 +319,7 @@ fn measure_edges<R: Wait + AllocGlobal + Clock + Print>(
     size: &Size,
     edges: &Edges,
 ) -> io::Result<u64> {
-    let graph = graph_of(rt.alloc(), edges)?;
+    let graph = Graph::from_pairs(rt.alloc(), edges.vertices, &edges.pairs)?;
     measure_graph(rt, size, &graph, edges)
 }
 

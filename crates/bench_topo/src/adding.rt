@@ -1,7 +1,10 @@
 //! The arcs that are drawn, and how they are added.
 use crate::ordered::Ordered;
-use kc_draws::Draws;
 use kc_topo::{Added, NoMemory};
+use rand::RngExt;
+use rand::seq::SliceRandom;
+use rand_core::SeedableRng;
+use rand_xoshiro::Xoshiro256PlusPlus;
 use std::alloc::Global;
 
 /// What became of arcs.
@@ -13,16 +16,16 @@ pub(crate) struct Counts {
 }
 
 /// The numbers below this one in a random order.
-fn shuffled(alloc: Global, draws: &mut Draws, vertices: u32) -> Result<Vec<u32>, NoMemory> {
+fn shuffled(
+    alloc: Global,
+    draws: &mut Xoshiro256PlusPlus,
+    vertices: u32,
+) -> Result<Vec<u32>, NoMemory> {
     let mut order = Vec::new(alloc);
     for v in 0..vertices {
-        let place = draws.below(v + 1) as usize;
         order.push(v)?;
-        let last = order.len() - 1;
-        if place < last {
-            order.swap(place, last);
-        }
     }
+    order.as_mut_slice().shuffle(draws);
     Ok(order)
 }
 
@@ -33,12 +36,12 @@ pub(crate) fn drawn_arcs(
     vertices: u32,
     count: u32,
 ) -> Result<Vec<(u32, u32)>, NoMemory> {
-    let mut draws = Draws::new(seed);
+    let mut draws = Xoshiro256PlusPlus::seed_from_u64(seed);
     let order = shuffled(alloc, &mut draws, vertices)?;
     let mut arcs = Vec::new(alloc);
     for _ in 0..count {
-        let x = draws.below(vertices.max(1)) as usize;
-        let y = draws.below(vertices.max(1)) as usize;
+        let x = draws.random_range(0..vertices.max(1)) as usize;
+        let y = draws.random_range(0..vertices.max(1)) as usize;
         if let (Some(a), Some(b)) = (order.get(x.min(y)), order.get(x.max(y))) {
             if a != b {
                 arcs.push((*a, *b))?;

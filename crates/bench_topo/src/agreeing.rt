@@ -4,8 +4,10 @@ ghost use Rattle.kc_words.specs.declared.layout.TheConstants.{VERTICES};
 
 use crate::model::{Expected, Model};
 use crate::ordered::Ordered;
-use kc_draws::Draws;
 use kc_topo::{Added, DagFault, NoMemory};
+use rand::RngExt;
+use rand_core::SeedableRng;
+use rand_xoshiro::Xoshiro256PlusPlus;
 use std::alloc::Global;
 
 /// How many arcs were added to both and answered alike, by what was answered.
@@ -76,14 +78,15 @@ impl Both {
         requires { 1 ≤ self.old.ordered.words.shape.items }
     {
         let vertices = self.ordered.vertices();
-        let mut draws = Draws::new(seed);
+        let mut draws = Xoshiro256PlusPlus::seed_from_u64(seed);
         let mut agreed = Agreed {
             entered: 0,
             there: 0,
             cycles: 0,
         };
         for _ in 0..count {
-            let (a, b) = (draws.below(vertices), draws.below(vertices));
+            let a = draws.random_range(0..vertices);
+            let b = draws.random_range(0..vertices);
             match self.add(alloc, a, b)? {
                 Some(expected) => agreed.count(expected),
                 None => return Ok(None),

@@ -4,7 +4,7 @@ use Rattle.std.proofs.Common.{lt-ltb, le-ltb, eqb-true}
 use Rattle.std.specs.Prelude.{All, Some, is_some}
 use Rattle.std.proofs.lemmas.Bool.{cases_Bool, false≢true}
 use mathlib.Core.List.{IsPrefix}
-use Rattle.kc_distinct.specs.Lists.{place_of}
+use Rattle.kc_lists.specs.Lists.{place_of}
 use Rattle.kc_graph.specs.SimpleGraph.{SimpleGraph}
 use Rattle.kc_graph.specs.Lawful.{Ranked, IsCertified}
 use Rattle.kc_graph.specs.Plans.{state_after}

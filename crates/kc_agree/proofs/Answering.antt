@@ -3,7 +3,7 @@ use Rattle.std.proofs.Common.{◌≡◌, ◌≢◌, ℕ, ◌<◌, ◌≤◌, Boo
 use Rattle.std.specs.Prelude.{All}
 use Rattle.std.proofs.lemmas.Bool.{true≢false, false≢true}
 use mathlib.Core.List.{IsPrefix}
-use Rattle.kc_distinct.proofs.Shared.{All-middle}
+use Rattle.kc_lists.proofs.Shared.{All-middle}
 use Rattle.kc_graph.specs.SimpleGraph.{SimpleGraph}
 use Rattle.kc_graph.specs.declared.used.UsedEdges.{UsedEdges}
 use Rattle.kc_graph.specs.declared.used.UsedPlace.{UsedPlace}
@@ -12,7 +12,7 @@ use Rattle.kc_table.specs.Log.{TableName}
 use Rattle.kc_table.proofs.Prefixes.{prefix_self}
 use Rattle.kc_view.specs.Answers.{Answers, has_core, with_place, with_order}
 use Rattle.kc_order.specs.Standing.{list_after}
-use Rattle.kc_agree.specs.Reads.{IsOrderOf, StoodSo, WereRead, place_after}
+use Rattle.kc_agree.specs.Reads.{IsTrueOrder, StoodSo, WereRead, place_after}
 use Rattle.kc_agree.specs.Stale.{AllCurrent, IsFirstStale}
 use Rattle.kc_agree.specs.Stamps.{made_by, place_stamp, edge_stamp, IsChangeOf}
 use Rattle.kc_agree.specs.States.{AreCurrent, ArePresent}
@@ -38,11 +38,11 @@ pub comparison-read : (table : TableName) (opened : SimpleGraph) (old new : List
     → x ≢ y → has_core a x ≡ true → has_core a y ≡ true → StoodSo table old new x y before
     → WereRead table opened old a → WereRead table opened new (with_order a (record { x = x; y = y; before = before }))
 comparison-read table opened old new a x y true differ rx ry stood h =
-    let is : IsOrderOf (list_after table stood.prefix) (record { x = x; y = y; before = true }) =
+    let is : IsTrueOrder (list_after table stood.prefix) (record { x = x; y = y; before = true }) =
     record { before = λ _. stood.stood; after = λ f. absurd (true≢false f) } in
     one_order table opened old stood.prefix new a _ stood.between.extends stood.between.extended differ rx ry is h
 comparison-read table opened old new a x y false differ rx ry stood h =
-    let is : IsOrderOf (list_after table stood.prefix) (record { x = x; y = y; before = false }) =
+    let is : IsTrueOrder (list_after table stood.prefix) (record { x = x; y = y; before = false }) =
     record { before = λ f. absurd (false≢true f); after = λ _. stood.stood } in
     one_order table opened old stood.prefix new a _ stood.between.extends stood.between.extended differ rx ry is h
 

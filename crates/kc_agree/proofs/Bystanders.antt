@@ -4,14 +4,14 @@ use Rattle.std.proofs.Common.{ap₂, ◌∙◌, subst, inl, inr, arith, lt-ltb, 
 use Rattle.std.specs.List.{filter}
 use Rattle.std.proofs.lemmas.Bool.{cases_Bool, true≢false}
 use mathlib.Core.List.{IsPrefix}
-use Rattle.kc_distinct.specs.Lists.{member, without, right_after, place_of}
-use Rattle.kc_distinct.proofs.Shared.{ltb-next}
-use Rattle.kc_distinct.proofs.Members.{member-without_other}
+use Rattle.kc_lists.specs.Lists.{member, without, right_after, place_of}
+use Rattle.kc_lists.proofs.Shared.{ltb-next}
+use Rattle.kc_lists.proofs.Members.{member-without_other}
 use Rattle.kc_words.specs.declared.note.NoteWord.{NoteWord}
 use Rattle.kc_words.specs.declared.note.NoteWord.TheVariants.{Nothing, Enter, Put, Take}
 use Rattle.kc_table.specs.declared.view.Event.{Event}
 use Rattle.kc_table.specs.Log.{TableName}
-use Rattle.kc_table.specs.State.{State, after_store, moved}
+use Rattle.kc_table.specs.TableState.{TableState, after_store, moved}
 use Rattle.kc_table.proofs.LegalLogs.{state_of-push}
 use Rattle.kc_table.proofs.Prefixes.{prefix_self, prefix_trans}
 use Rattle.kc_order.specs.Standing.{list_after, StandsBefore}
@@ -139,7 +139,7 @@ module _ (x y : ℕ) where
           | inl t ↦ rw t (same_self s.list)
           | inr f ↦ rw f (moved-same s.note e.word s.list (λ a w. hx (a, w)) (λ a w. hy (a, w)))
         ] in
-        subst (λ (z : State). Same z.list s.list) (sym (state_of-push table.shape table.opening log e)) next
+        subst (λ (z : TableState). Same z.list s.list) (sym (state_of-push table.shape table.opening log e)) next
 
     -- all stores behind a prefix
     more-stores : (more log : List Event) → StaysPut table log (log ++ more) x → StaysPut table log (log ++ more) y

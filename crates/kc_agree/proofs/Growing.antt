@@ -17,7 +17,7 @@ use Rattle.kc_table.proofs.Stamps.{number-grows}
 use Rattle.kc_view.specs.Answers.{Answers, nothing_answered, has_core, with_list, with_place, with_order}
 use Rattle.kc_view.proofs.Keeping.{still_has_core}
 use Rattle.kc_order.specs.Standing.{list_after}
-use Rattle.kc_agree.specs.Reads.{WasList, WasPlace, WasOrder, WereRead, IsOrderOf}
+use Rattle.kc_agree.specs.Reads.{WasList, WasPlace, WasOrder, WereRead, IsTrueOrder}
 use Rattle.kc_agree.specs.Stamps.{made_by, number_of}
 use Rattle.kc_agree.proofs.Neighbouring.{same_edges}
 
@@ -128,7 +128,7 @@ module _ (table : TableName) (opened : SimpleGraph) where
 
   -- The order is that after a prefix which holds all that had been seen before the question.
   pub one_order : (old prefix new : List Event) (a : Answers) (o : UsedOrder) → IsPrefix old prefix → IsPrefix prefix new → o.x ≢ o.y
-      → has_core a o.x ≡ true → has_core a o.y ≡ true → IsOrderOf (list_after table prefix) o
+      → has_core a o.x ≡ true → has_core a o.y ≡ true → IsTrueOrder (list_after table prefix) o
       → WereRead table opened old a → WereRead table opened new (with_order a o)
   one_order old prefix new a o before after differ rx ry stood h =
       let later : WereRead table opened new a = reads_stay old new a (prefix_trans old prefix new before after) h in

@@ -6,7 +6,7 @@ use Rattle.std.specs.Ordering.{eq_by_cmp}
 use Rattle.std.specs.FinSet.{contains, contains-insert, contains-remove}
 use Rattle.std.proofs.lemmas.Bool.{cases_Bool, cases_order, cases_eq, cases_lt, false_from_ne_true, and_parts, or_left, or_right}
 use mathlib.Core.List.{IsPrefix}
-use Rattle.kc_distinct.specs.Lists.{below}
+use Rattle.kc_lists.specs.Lists.{below}
 use Rattle.kc_graph.specs.SimpleGraph.{SimpleGraph, adjacent, pair_cmp}
 use Rattle.kc_graph.specs.Edges.{edge, with_edge, without_edge}
 use Rattle.kc_graph.specs.Neighbours.{AreNeighbours, neighbours_of}

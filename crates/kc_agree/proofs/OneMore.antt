@@ -8,7 +8,7 @@ use Rattle.kc_words.specs.declared.shape.Shape.{Shape}
 use Rattle.kc_words.specs.declared.vertex.VertexWord.{VertexWord}
 use Rattle.kc_table.specs.declared.view.Event.{Event}
 use Rattle.kc_table.specs.Log.{PassSeen, TableName, value_at}
-use Rattle.kc_table.specs.State.{first_vertex}
+use Rattle.kc_table.specs.TableState.{first_vertex}
 use Rattle.kc_table.proofs.Stamps.{stamp-is}
 use Rattle.kc_view.specs.Answers.{Answers, has_core, with_place, with_order}
 use Rattle.kc_order.specs.Standing.{Compares}

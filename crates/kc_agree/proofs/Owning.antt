@@ -3,8 +3,8 @@ use Rattle.std.proofs.Common.{◌≡◌, ◌≢◌, ℕ, suc, ◌<◌, ◌≤◌
 use Rattle.std.proofs.Common.{ltb-true, ltb-false, eq-eqb}
 use Rattle.std.specs.Prelude.{All, is_some}
 use Rattle.std.proofs.lemmas.Bool.{cases_eq, false≢true, ne_eqb}
-use Rattle.kc_distinct.specs.Lists.{member, place_of}
-use Rattle.kc_distinct.proofs.Members.{member-cases}
+use Rattle.kc_lists.specs.Lists.{member, place_of}
+use Rattle.kc_lists.proofs.Members.{member-cases}
 use Rattle.kc_graph.specs.SimpleGraph.{SimpleGraph}
 use Rattle.kc_graph.specs.Lawful.{Ranked}
 use Rattle.kc_graph.specs.Neighbours.{AreNeighbours}

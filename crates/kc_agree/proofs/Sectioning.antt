@@ -4,8 +4,8 @@ use Rattle.std.proofs.Common.{refl, sym, ap, ◌∙◌, subst, inl, inr, arith, 
 use Rattle.std.specs.Prelude.{◌||◌}
 use Rattle.std.proofs.lemmas.Bool.{cases_Bool, cases_eq, cases_lt, false≢true, or_cases}
 use mathlib.Core.List.{IsPrefix}
-use Rattle.kc_distinct.specs.Lists.{member}
-use Rattle.kc_distinct.proofs.Members.{member-append, member-append_left, member-append_right}
+use Rattle.kc_lists.specs.Lists.{member}
+use Rattle.kc_lists.proofs.Members.{member-append, member-append_left, member-append_right}
 use Rattle.kc_words.specs.NoteWord.{note_of}
 use Rattle.kc_words.specs.declared.note.NoteWord.{NoteWord}
 use Rattle.kc_words.specs.declared.note.NoteWord.TheVariants.{Nothing, Enter, Put, Take}
@@ -14,7 +14,7 @@ use Rattle.kc_table.specs.declared.view.Event.{Event}
 use Rattle.kc_table.specs.Legal.{IsClosed, Legal}
 use Rattle.kc_table.specs.Log.{TableName}
 use Rattle.kc_table.specs.Sections.{item_put, puts_in}
-use Rattle.kc_table.specs.State.{after_store, entered, first_vertex, sealed, unsealed_from}
+use Rattle.kc_table.specs.TableState.{after_store, entered, first_vertex, sealed, unsealed_from}
 use Rattle.kc_table.proofs.LegalLogs.{legal-last, legal-prefix, state_of-nil, state_of-push}
 use Rattle.kc_table.proofs.Prefixes.{prefix_self, prefix_trans}
 use Rattle.kc_table.proofs.Putting.{puts_in-nil, puts_in-push}

@@ -15,7 +15,7 @@ use Rattle.kc_table.specs.Edges.{edges_after}
 use Rattle.kc_words.specs.VertexWord.{vertex_word}
 use Rattle.kc_words.specs.declared.again.Again.{Again}
 use Rattle.kc_table.specs.Log.{PassSeen, TableName, value_at}
-use Rattle.kc_table.specs.State.{first_vertex}
+use Rattle.kc_table.specs.TableState.{first_vertex}
 use Rattle.kc_order.specs.Standing.{Compares, StandsBefore, StoodBefore, list_after}
 use Rattle.kc_order.specs.declared.answer.Answer.{Answer}
 use Rattle.kc_order.specs.declared.answer.Answer.TheVariants as answer
@@ -36,7 +36,7 @@ pub record WasPlace (table : TableName) (log : List Event) (p : UsedPlace) : Typ
   pub core : core_after table prefix p.vertex ≡ p.core
 
 -- the answer is how the two items stand in the list
-pub record IsOrderOf (list : List ℕ) (o : UsedOrder) : Type 0 where
+pub record IsTrueOrder (list : List ℕ) (o : UsedOrder) : Type 0 where
   pub before : o.before ≡ true → StandsBefore o.x o.y list
   pub after : o.before ≡ false → StandsBefore o.y o.x list
 
@@ -48,7 +48,7 @@ pub record WasOrder (table : TableName) (log : List Event) (a : Answers) (o : Us
   pub second_read : has_core a o.y ≡ true
   pub prefix : List Event
   pub begins : IsPrefix prefix log
-  pub stood : IsOrderOf (list_after table prefix) o
+  pub stood : IsTrueOrder (list_after table prefix) o
   pub read_before : All (λ p. (p.vertex ≡ o.x) ⊎ (p.vertex ≡ o.y) → WasPlace table prefix p) a.places
 
 -- All answers were so after prefixes of the log of a table that opened with these edges. They may be answers of different moments.

@@ -3,7 +3,7 @@ use Rattle.std.specs.Prelude.{◌≡◌, ◌+◌, ℕ, List, [], ◌∷◌, ◌+
 use mathlib.Core.List.{IsPrefix}
 use Rattle.kc_table.specs.declared.view.Event.{Event}
 use Rattle.kc_table.specs.Log.{TableName}
-use Rattle.kc_table.specs.State.{first_vertex}
+use Rattle.kc_table.specs.TableState.{first_vertex}
 use Rattle.kc_agree.specs.Stamps.{number_of}
 
 -- a store between the two prefixes was to the vertex's word, in the section of this number

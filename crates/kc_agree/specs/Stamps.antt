@@ -7,10 +7,10 @@ use Rattle.kc_table.specs.declared.view.Event.{Event}
 use Rattle.kc_table.specs.Edges.{after_entry, after_entries}
 use Rattle.kc_table.specs.Log.{TableName, value_at}
 use Rattle.kc_table.specs.Sections.{number_after, stamp_after}
-use Rattle.kc_table.specs.State.{State, state_of, first_vertex}
+use Rattle.kc_table.specs.TableState.{TableState, state_of, first_vertex}
 
 -- what the log has made of the table
-abbrev pub made_by : TableName → List Event → State
+abbrev pub made_by : TableName → List Event → TableState
 made_by table log = state_of table.shape table.opening log
 
 -- the number of the log's last entry, over all tables of the run: that of its last section

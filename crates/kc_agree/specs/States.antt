@@ -6,7 +6,7 @@ use Rattle.kc_graph.specs.Neighbours.{AreNeighbours}
 use Rattle.kc_graph.specs.declared.used.UsedEdges.{UsedEdges}
 use Rattle.kc_graph.specs.declared.used.UsedPlace.{UsedPlace}
 use Rattle.kc_graph.specs.declared.used.UsedOrder.{UsedOrder}
-use Rattle.kc_distinct.specs.Lists.{place_of}
+use Rattle.kc_lists.specs.Lists.{place_of}
 use Rattle.kc_view.specs.Answers.{Answers, has_core}
 use Rattle.kc_table.specs.declared.view.Event.{Event}
 use Rattle.kc_table.specs.Edges.{after_entries}

@@ -4,7 +4,7 @@
 //! to be what was read, and the last ones what the stamps are numbers of.
 ghost use Rattle.std.specs.Prelude.{◌≡◌, ◌≢◌, ◌≤◌, ◌<◌, ◌+◌, ◌↔◌, ◌&&◌, ℕ, Bool, List, [], ◌∷◌, ◌++◌, true, false, slice_index, if◌then◌else◌};
 ghost use mathlib.Core.List.{IsPrefix};
-ghost use Rattle.kc_distinct.specs.Lists.{member};
+ghost use Rattle.kc_lists.specs.Lists.{member};
 ghost use Rattle.kc_graph.specs.SimpleGraph.{SimpleGraph};
 ghost use Rattle.kc_graph.specs.Lawful.{IsCertified, Ranked};
 ghost use Rattle.kc_graph.specs.Neighbours.{AreNeighbours};
@@ -24,7 +24,7 @@ ghost use Rattle.kc_view.specs.Answers.{Agrees, Answers, answers_in, has_core, n
 ghost use Rattle.kc_view.specs.Sure.{IsSparing, IsSure};
 ghost use Rattle.kc_order.specs.Standing.{StandsBefore, list_after};
 ghost use Rattle.kc_agree.specs.Moved.{StaysPut};
-ghost use Rattle.kc_agree.specs.Reads.{From, IsOrderOf, StoodSo, WasList, WasPlace, WereRead, place_after};
+ghost use Rattle.kc_agree.specs.Reads.{From, IsTrueOrder, StoodSo, WasList, WasPlace, WereRead, place_after};
 ghost use Rattle.kc_agree.specs.Sections.{SealedIn};
 ghost use Rattle.kc_agree.specs.Stamps.{IsChangeOf, changes_graph, core_after, edge_stamp, made_by, names, number_of, place_stamp};
 ghost use Rattle.kc_agree.specs.States.{AreCurrent, AreOwn, ArePresent, IsAtRest, IsStateOf};
@@ -94,7 +94,7 @@ pub fn one_answer_more()
         → WereRead table opened log a → WasPlace table log p → WereRead table opened log (with_place a p) }
     ensures order { (table : TableName) (opened : SimpleGraph) (old prefix new : List Event) (a : Answers) (o : UsedOrder)
         → IsPrefix old prefix → IsPrefix prefix new
-        → o.x ≢ o.y → has_core a o.x ≡ true → has_core a o.y ≡ true → IsOrderOf (list_after table prefix) o
+        → o.x ≢ o.y → has_core a o.x ≡ true → has_core a o.y ≡ true → IsTrueOrder (list_after table prefix) o
         → WereRead table opened old a → WereRead table opened new (with_order a o) }
 {}
 

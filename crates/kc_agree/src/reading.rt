@@ -8,7 +8,7 @@ ghost use Rattle.kc_view.specs.Memory.{keeping};
 ghost use Rattle.kc_order.specs.Standing.{Compares, Steps};
 ghost use Rattle.kc_order.specs.declared.answer.Answer.TheVariants as answer;
 ghost use Rattle.kc_table.specs.Log.{value_at};
-ghost use Rattle.kc_table.specs.State.{first_vertex};
+ghost use Rattle.kc_table.specs.TableState.{first_vertex};
 ghost use Rattle.kc_agree.specs.Reads.{HasOrderCause, IsOtherPlace, WereRead, order_answer, place_after, word_of_place};
 ghost use Rattle.kc_agree.specs.Stamps.{core_after};
 

@@ -5,10 +5,10 @@ use Rattle.kc_table.specs.declared.entry.Entry.{Entry}
 use Rattle.kc_table.specs.declared.view.Event.{Event}
 use Rattle.kc_table.specs.Legal.{Legal, MayPut, last_entry}
 use Rattle.kc_table.specs.Log.{Seen, TableName, event}
-use Rattle.kc_table.specs.State.{state_of}
+use Rattle.kc_table.specs.TableState.{state_of}
 use Rattle.kc_table.proofs.LegalLogs.{legal-holds, legal-prefix, state_of-nil}
 use Rattle.kc_table.proofs.Stamps.{stamp-is}
-use Rattle.kc_order.specs.Writers.{Leaves, Stores, entries_after, unsealed_after, vertex_word_after}
+use Rattle.kc_order.specs.Writers.{LeavesBeside, Stores, entries_after, unsealed_after, vertex_word_after}
 use Rattle.kc_agree.specs.Stamps.{number_of, place_stamp}
 
 -- a vertex with the same word has the same stamp
@@ -20,7 +20,7 @@ same_stamp old new v same =
 
 -- an entry has the next number, and no vertex has its stamp yet
 pub next_entry-entered : (old new : Seen) (value : ℕ) (e : Entry) (v : ℕ) → v < old.table.shape.fixed → Stores old new 0 value
-    → Leaves new (entries_after old ++ e ∷ []) [] (vertex_word_after old)
+    → LeavesBeside new (entries_after old ++ e ∷ []) [] (vertex_word_after old)
     → (number_of new.table new.log ≡ number_of old.table old.log + 1) × (place_stamp new.table new.log v < number_of new.table new.log)
 next_entry-entered old new value e v low stores leaves =
     let next : List Event = old.log ++ event 0 value ∷ [] in
@@ -35,7 +35,7 @@ next_entry-entered old new value e v low stores leaves =
 
 -- a vertex whose stamp is below the number of the section may be put in it
 pub may_put : (old new : Seen) (value : ℕ) (e : Entry) (v : ℕ) → v < old.table.shape.fixed → Stores old new 0 value
-    → Leaves new (entries_after old ++ e ∷ []) [] (vertex_word_after old)
+    → LeavesBeside new (entries_after old ++ e ∷ []) [] (vertex_word_after old)
     → MayPut new.table.shape (state_of new.table.shape new.table.opening new.log) v
 may_put old new value e v low stores leaves = record {
   inside = omega (arith, ap length leaves.entries_are, length-append (entries_after old) (e ∷ []));

@@ -5,9 +5,9 @@ use Rattle.std.proofs.lemmas.Bool.{false_from_ne_true, false≢true}
 use Rattle.std.proofs.lemmas.List.{length-map}
 use Rattle.std.proofs.lemmas.List.Elements.{All-contains, All-head, All-tail, All-weaker}
 use Rattle.std.proofs.lemmas.List.Sums.{sum_by-cons}
-use Rattle.kc_distinct.specs.Lists.{Distinct, member, times}
-use Rattle.kc_distinct.proofs.Counting.{distinct_times, member_times, times_distinct, times_member}
-use Rattle.kc_distinct.proofs.Members.{member-cases, member-head, member-tail}
+use Rattle.kc_lists.specs.Lists.{Distinct, member, times}
+use Rattle.kc_lists.proofs.Counting.{distinct_times, member_times, times_distinct, times_member}
+use Rattle.kc_lists.proofs.Members.{member-cases, member-head, member-tail}
 use Rattle.kc_graph.specs.SimpleGraph.{SimpleGraph}
 use Rattle.kc_graph.specs.declared.update.Update.{Update}
 use Rattle.kc_table.specs.declared.entry.Entry.{Entry}
@@ -16,14 +16,14 @@ use Rattle.kc_table.specs.Log.{PassSeen}
 use Rattle.kc_table.proofs.Prefixes.{prefix_self}
 use Rattle.kc_journal.specs.Journals.{Journalled, Stands}
 use Rattle.kc_journal.specs.declared.answer.Receipt.{Receipt}
-use Rattle.kc_queue.specs.Shares.{IsWhole}
-use Rattle.kc_stripes.specs.Records.{Opened}
+use Rattle.kc_queue.specs.Shares.{AreAllBelow}
+use Rattle.kc_table.specs.Log.{Opened}
 use Rattle.kc_shared.specs.States.{opened_by}
 use Rattle.kc_shared.specs.declared.shared.TheConstants.{MISSES}
 use Rattle.kc_workers.specs.declared.done.Done.{Done}
 use Rattle.kc_batch.specs.Batches.{Account, WentOnBy}
 use Rattle.kc_batch.specs.Desks.{Work, all_done, all_receipts, at_places, in_hand, receipts_of, times_had}
-use Rattle.kc_batch.specs.Receipts.{AreAllOf, AreReceiptsOf, IsReceiptOf, told_indices}
+use Rattle.kc_batch.specs.Receipts.{AreBatchReceipts, AreReceiptsOf, IsReceiptOf, told_indices}
 use Rattle.kc_batch.specs.Runs.{IsRenewal, StaysIn, WentOn}
 use Rattle.kc_batch.specs.Seats.{HasTrueMisses, IsReceiptIn, Rounds}
 use Rattle.kc_batch.specs.declared.left.Left.{Left}
@@ -184,12 +184,12 @@ made_so old now first batch ended works taken a d =
 
 -- Where nothing is in hand and all was taken, all was made.
 pub record MadeAll (old now : Journalled) (first : ℕ) (batch : List Update) (works : List Work) : Type 0 where
-  pub receipts : AreAllOf now.started now.entries first batch (length old.entries) (all_receipts works)
+  pub receipts : AreBatchReceipts now.started now.entries first batch (length old.entries) (all_receipts works)
   pub as_many : length (all_receipts works) ≡ length batch
 
 -- an account of a batch that was taken whole, with nothing in hand, comes to all of it
 pub made_all : (old now : Journalled) (first : ℕ) (batch : List Update) (ended : List PassSeen) (works : List Work) (taken : List ℕ)
-    → Account old now first batch ended works taken → IsWhole (length batch) taken → All (λ w. w.left ≡ Nothing) works → MadeAll old now first batch works
+    → Account old now first batch ended works taken → AreAllBelow (length batch) taken → All (λ w. w.left ≡ Nothing) works → MadeAll old now first batch works
 made_all old now first batch ended works taken a whole none =
     let told = told_indices (all_receipts works) in
     let places = at_places first taken in

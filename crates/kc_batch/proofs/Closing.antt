@@ -10,10 +10,10 @@ use Rattle.std.proofs.lemmas.List.Elements.{All-append, All-cons, All-contains, 
 use Rattle.std.proofs.lemmas.List.Elements.{All-tail, All-weaker, Contains-append_left, Contains-append_right}
 use Rattle.std.proofs.lemmas.List.Folds.{flat_map-map}
 use Rattle.std.proofs.lemmas.List.Sums.{get_or-le-sum_by, sum_by-append, sum_by-cons}
-use Rattle.kc_distinct.specs.Lists.{Distinct, member, times}
-use Rattle.kc_distinct.proofs.Members.{below_bound, member-cases, member-head}
-use Rattle.kc_distinct.proofs.Shared.{All-front}
-use Rattle.kc_distinct.proofs.Counting.{member_times, times_distinct, times_member}
+use Rattle.kc_lists.specs.Lists.{Distinct, member, times}
+use Rattle.kc_lists.proofs.Members.{below_bound, member-cases, member-head}
+use Rattle.kc_lists.proofs.Shared.{All-front}
+use Rattle.kc_lists.proofs.Counting.{member_times, times_distinct, times_member}
 use Rattle.kc_graph.specs.declared.update.Update.{Update}
 use Rattle.kc_table.specs.declared.entry.Entry.{Entry}
 use Rattle.kc_table.specs.declared.view.Event.{Event}
@@ -22,31 +22,31 @@ use Rattle.kc_journal.specs.Journals.{Journalled, Renews, Stands, all_seen, fres
 use Rattle.kc_journal.proofs.AfterEntry.{number-is, size-is}
 use Rattle.kc_levels.specs.declared.levels.TheConstants.{LAST_NUMBER}
 use Rattle.kc_journal.specs.declared.answer.Receipt.{Receipt}
-use Rattle.kc_queue.specs.Shares.{Consuming, IsShare, IsWhole}
+use Rattle.kc_queue.specs.Shares.{Consuming, IsShare, AreAllBelow}
 use Rattle.kc_queue.specs.declared.consumer.TheConstants.{PARTS}
 use Rattle.kc_queue.proofs.Counts.{times-append}
-use Rattle.kc_stripes.specs.Records.{Opened, opened_with}
+use Rattle.kc_table.specs.Log.{Opened, opened_with}
 use Rattle.kc_shared.specs.States.{Parted, opened_by}
 use Rattle.kc_shared.specs.declared.shared.TheConstants.{MISSES}
 use Rattle.kc_workers.specs.declared.done.Done.{Done}
-use Rattle.kc_workers.specs.declared.share.Share.{Share}
-use Rattle.kc_batch.specs.Batches.{Account, Gives, IsCrew, IsCutShort, IsDone, IsStanding, MayGoOn, SomeKeeps, WentOnBy}
-use Rattle.kc_batch.specs.Batches.{done_in, entered_by, entered_in, listed, receipts_in}
+use Rattle.kc_workers.specs.declared.share.WorkerShare.{WorkerShare}
+use Rattle.kc_batch.specs.Batches.{Account, Gives, IsBatchState, IsCutShort, IsBatchDone, IsStanding, MayGoOn, SomeKeeps, WentOnBy}
+use Rattle.kc_batch.specs.Batches.{done_in, entered_by, entered_in, one_receipt, receipts_in}
 use Rattle.kc_batch.specs.Desks.{Desked, KeepsOneOf, Work, all_done, all_receipts, at_places, at_turns, in_hand, receipts_of, times_had, untold, untold_of}
-use Rattle.kc_batch.specs.Receipts.{AreAllOf, AreReceiptsOf, IsReceiptOf, told_indices}
+use Rattle.kc_batch.specs.Receipts.{AreBatchReceipts, AreReceiptsOf, IsReceiptOf, told_indices}
 use Rattle.kc_batch.specs.Runs.{IsNearlySpent, IsRenewal, StaysIn}
-use Rattle.kc_batch.specs.Seats.{HasTrueMisses, KeepsIfSpent, Rounds, backward}
+use Rattle.kc_batch.specs.Seats.{HasTrueMisses, KeepsIfSpent, Rounds}
 use Rattle.kc_batch.specs.declared.done.BatchDone.{BatchDone}
 use Rattle.kc_batch.specs.declared.done.CutShort.{CutShort}
 use Rattle.kc_batch.specs.declared.left.Left.{Left}
 use Rattle.kc_batch.specs.declared.left.Left.TheVariants.{Nothing, Kept, Dropped, Untold}
-use Rattle.kc_batch.specs.declared.line.Line.{Line}
+use Rattle.kc_batch.specs.declared.turns.TurnQueue.{TurnQueue}
 use Rattle.kc_batch.specs.declared.standing.Standing.{Standing}
 use Rattle.kc_batch.specs.declared.standing.Standing.TheVariants.{Free, Keeping, Short}
 use Rattle.kc_batch.proofs.Accounting.{account-renewed, account-round, distinct-placed, made_all, made_so, member-placed, told-le, told-once}
 use Rattle.kc_batch.proofs.Counting.{whole-told}
 use Rattle.kc_batch.proofs.Going.{stays-self}
-use Rattle.kc_batch.proofs.Rounding.{all-backward, all-unmapped, length-backward}
+use Rattle.kc_batch.proofs.Rounding.{all-unmapped}
 use Rattle.kc_batch.proofs.Turning.{distinct_within-fewer, share-turned}
 use Rattle.kc_batch.proofs.Working.{keeps-nothing, told-append}
 
@@ -261,56 +261,56 @@ module _ (old now : Journalled) (first : ℕ) (batch : List Update) (ended : Lis
         pace = a.pace;
       }
 
--- Of a crew between two rounds.
-module _ {old : Journalled} {first : ℕ} {batch : List Update} {ended : List PassSeen} {line : Line} {words : TableName} {now : Journalled}
-    {desks : List Desked} {consumer : Consuming} (h : IsCrew old first batch ended line words now desks consumer) where
+-- Of a batch between two rounds.
+module _ {old : Journalled} {first : ℕ} {batch : List Update} {ended : List PassSeen} {turns : TurnQueue} {words : TableName} {now : Journalled}
+    {desks : List Desked} {consumer : Consuming} (h : IsBatchState old first batch ended turns words now desks consumer) where
   -- the places that have the turns that a consumer has taken
   abbrev places : Consuming → List ℕ
-  places k = at_turns line.order.items k.taken
+  places k = at_turns turns.order.items k.taken
 
   -- a share of the turns is a share of their places
-  shared : {turns : List ℕ} → IsShare line.queue.count turns → IsShare line.queue.count (at_turns line.order.items turns)
-  shared {turns} share = share-turned h.order turns share
+  shared : {taken : List ℕ} → IsShare turns.queue.count taken → IsShare turns.queue.count (at_turns turns.order.items taken)
+  shared {taken} share = share-turned h.order taken share
 
-  -- the places that it has taken are a share of the line
-  pub crew-taken : IsShare line.queue.count (places consumer)
-  crew-taken = shared h.share
+  -- the places that it has taken are a share of the turns
+  pub state-taken : IsShare turns.queue.count (places consumer)
+  state-taken = shared h.share
 
-  -- each of a crew keeps nothing, or one of the line
-  pub crew-keeps : {works : List Work} → works ≡ map (λ d. d.work) desks → All (λ w. MayGoOn w.left) works
-      → All (λ d. KeepsOneOf line.queue.count d.work.left) desks
-  crew-keeps is may =
+  -- each of its workers keeps nothing, or one of the queue
+  pub state-keeps : {works : List Work} → works ≡ map (λ d. d.work) desks → All (λ w. MayGoOn w.left) works
+      → All (λ d. KeepsOneOf turns.queue.count d.work.left) desks
+  state-keeps is may =
       let ws = map (λ (d : Desked). d.work) desks in
-      all-unmapped (λ (w : Work). KeepsOneOf line.queue.count w.left) (λ (d : Desked). d.work) desks
-      (all-keep old now first batch ended ws (places consumer) line.queue.count h.account (shared h.share) (subst (All (λ (w : Work). MayGoOn w.left)) is may))
+      all-unmapped (λ (w : Work). KeepsOneOf turns.queue.count w.left) (λ (d : Desked). d.work) desks
+      (all-keep old now first batch ended ws (places consumer) turns.queue.count h.account (shared h.share) (subst (All (λ (w : Work). MayGoOn w.left)) is may))
 
   -- where some keep an update, fewer were entered than there are,
-  pub crew-left : line.queue.count ≡ length batch → SomeKeeps (map (λ d. d.work) desks) → length now.entries < length old.entries + length batch
-  crew-left count some =
+  pub state-left : turns.queue.count ≡ length batch → SomeKeeps (map (λ d. d.work) desks) → length now.entries < length old.entries + length batch
+  state-left count some =
       keeping-left old now first batch ended (map (λ (d : Desked). d.work) desks) (places consumer) h.account
       (subst (λ (n : ℕ). IsShare n (places consumer)) count (shared h.share)) some
 
   -- so that, as all entries can be numbered, versions are nearly spent
-  pub crew-spent : line.queue.count ≡ length batch → Stands now → length old.entries + length batch ≤ LAST_NUMBER
+  pub state-spent : turns.queue.count ≡ length batch → Stands now → length old.entries + length batch ≤ LAST_NUMBER
       → All (λ d. KeepsIfSpent (opened_by now) now.levels.log d.work.left) desks → SomeKeeps (map (λ d. d.work) desks)
       → IsNearlySpent now.levels.table now.levels.log
-  crew-spent count stands numbers spent some =
+  state-spent count stands numbers spent some =
       let Spent : Work → Type 0 = λ w. KeepsIfSpent (opened_by now) now.levels.log w.left in
       let works = map (λ (d : Desked). d.work) desks in
       let all = All-map Spent (λ (d : Desked). d.work) desks spent in
       elim (subst (KeepsIfSpent (opened_by now) now.levels.log) some.3 (All-contains Spent works some.0 all some.2)) [
         | inl nearly ↦ nearly
-        | inr full ↦ absurd (omega (arith, full, crew-left count some, numbers, number-is now stands))
+        | inr full ↦ absurd (omega (arith, full, state-left count some, numbers, number-is now stands))
       ]
 
   -- it is one of the same updates in a fresh table
-  pub crew-renewed : {fresh : TableName} {next : Journalled} {last : PassSeen} {more : List PassSeen} {others : List Desked} {after : Consuming}
+  pub state-renewed : {fresh : TableName} {next : Journalled} {last : PassSeen} {more : List PassSeen} {others : List Desked} {after : Consuming}
       → IsRenewal now last now next → more ≡ ended ++ last ∷ [] → length now.entries < length old.entries + length batch
       → next.levels.table ≡ fresh → All (λ d. d.seen ≡ record { table = fresh; log = [] }) others
-      → map (λ d. d.work) others ≡ map (λ d. d.work) desks → after ≡ consumer → IsCrew old first batch more line fresh next others after
-  crew-renewed {fresh} {next} {last} {more} {others} {after} renewal is left table seen works same =
+      → map (λ d. d.work) others ≡ map (λ d. d.work) desks → after ≡ consumer → IsBatchState old first batch more turns fresh next others after
+  state-renewed {fresh} {next} {last} {more} {others} {after} renewal is left table seen works same =
       let ws = map (λ (d : Desked). d.work) desks in
-      subst (λ (z : Consuming). IsCrew old first batch more line fresh next others z) (sym same)
+      subst (λ (z : Consuming). IsBatchState old first batch more turns fresh next others z) (sym same)
       (record {
         account =
             subst (λ (z : List Work). Account old next first batch more z (places consumer)) (sym works)
@@ -324,36 +324,36 @@ module _ {old : Journalled} {first : ℕ} {batch : List Update} {ended : List Pa
         order = h.order;
       })
 
--- a crew is one too in the same parts, at the same desks and behind the same tables
-pub crew-same : {old : Journalled} {first : ℕ} {batch : List Update} {ended tables : List PassSeen} {line : Line} {parts others : Parted}
+-- the state is one too in the same parts, at the same desks and behind the same tables
+pub state-same : {old : Journalled} {first : ℕ} {batch : List Update} {ended tables : List PassSeen} {turns : TurnQueue} {parts others : Parted}
     {desks after : List Desked} {consumer next : Consuming} → others ≡ parts → after ≡ desks → tables ≡ ended → next ≡ consumer
-    → IsCrew old first batch ended line parts.words parts.journal desks consumer
-    → IsCrew old first batch tables line others.words others.journal after next
-crew-same {old} {first} {batch} {ended} {tables} {line} {parts} {others} {desks} {after} {consumer} {next} same at behind taken h =
-    subst (λ (z : Parted). IsCrew old first batch tables line z.words z.journal after next) (sym same)
-    (subst (λ (z : List Desked). IsCrew old first batch tables line parts.words parts.journal z next) (sym at)
-    (subst (λ (z : List PassSeen). IsCrew old first batch z line parts.words parts.journal desks next) (sym behind)
-    (subst (λ (z : Consuming). IsCrew old first batch ended line parts.words parts.journal desks z) (sym taken) h)))
+    → IsBatchState old first batch ended turns parts.words parts.journal desks consumer
+    → IsBatchState old first batch tables turns others.words others.journal after next
+state-same {old} {first} {batch} {ended} {tables} {turns} {parts} {others} {desks} {after} {consumer} {next} same at behind taken h =
+    subst (λ (z : Parted). IsBatchState old first batch tables turns z.words z.journal after next) (sym same)
+    (subst (λ (z : List Desked). IsBatchState old first batch tables turns parts.words parts.journal z next) (sym at)
+    (subst (λ (z : List PassSeen). IsBatchState old first batch z turns parts.words parts.journal desks next) (sym behind)
+    (subst (λ (z : Consuming). IsBatchState old first batch ended turns parts.words parts.journal desks z) (sym taken) h)))
 
 -- A consumer has taken the next turn, which this place has.
-pub record HasTaken (line : Line) (place : ℕ) (consumer next : Consuming) : Type 0 where
+pub record HasTaken (turns : TurnQueue) (place : ℕ) (consumer next : Consuming) : Type 0 where
   pub queue : next.queue ≡ consumer.queue
   pub parts : next.parts ≡ consumer.parts
-  pub taken : at_turns line.order.items next.taken ≡ at_turns line.order.items consumer.taken ++ place ∷ []
-  pub share : IsShare line.queue.count next.taken
+  pub taken : at_turns turns.order.items next.taken ≡ at_turns turns.order.items consumer.taken ++ place ∷ []
+  pub share : IsShare turns.queue.count next.taken
 
--- a crew whose first worker was given the next of the line
-given-crew : (parts : Parted) (old : Journalled) (first : ℕ) (batch : List Update) (ended : List PassSeen) (line : Line) (desks others : List Desked)
+-- a state whose first worker was given the next of the queue
+given-state : (parts : Parted) (old : Journalled) (first : ℕ) (batch : List Update) (ended : List PassSeen) (turns : TurnQueue) (desks others : List Desked)
     (consumer next : Consuming) (place : ℕ)
-    → IsCrew old first batch ended line parts.words parts.journal desks consumer → All (λ d. d.work.left ≡ Nothing) desks → Gives place desks others
-    → HasTaken line place consumer next → IsCrew old first batch ended line parts.words parts.journal others next
-given-crew parts old first batch ended line [] others consumer next place h none gives took = absurd gives
-given-crew parts old first batch ended line (d ∷ ds) others consumer next place h none gives took =
+    → IsBatchState old first batch ended turns parts.words parts.journal desks consumer → All (λ d. d.work.left ≡ Nothing) desks → Gives place desks others
+    → HasTaken turns place consumer next → IsBatchState old first batch ended turns parts.words parts.journal others next
+given-state parts old first batch ended turns [] others consumer next place h none gives took = absurd gives
+given-state parts old first batch ended turns (d ∷ ds) others consumer next place h none gives took =
     let now = parts.journal in
     let Told : Desked → Type 0 = λ d. d.seen ≡ record { table = parts.words; log = now.levels.log } in
     let given : Desked = record d { work = record { done = d.work.done; left = Kept place } } in
     let ws = map (λ (d : Desked). d.work) ds in
-    let order = line.order.items in
+    let order = turns.order.items in
     record {
       account =
           subst (λ (z : List Desked). Account old now first batch ended (map (λ (d : Desked). d.work) z) (at_turns order next.taken)) (sym gives)
@@ -368,39 +368,39 @@ given-crew parts old first batch ended line (d ∷ ds) others consumer next plac
       order = h.order;
     }
 
--- The first worker was given the update at a place that was taken of the line, where nobody had anything left.
-pub record HasGiven (line : Line) (place : ℕ) (desks others : List Desked) (consumer next : Consuming) : Type 0 where
+-- The first worker was given the update at a place that was taken of the queue, where nobody had anything left.
+pub record HasGiven (turns : TurnQueue) (place : ℕ) (desks others : List Desked) (consumer next : Consuming) : Type 0 where
   pub free : All (λ w. w.left ≡ Nothing) (map (λ d. d.work) desks)
   pub gives : Gives place desks others
-  pub took : HasTaken line place consumer next
-  pub below : place < line.queue.count
+  pub took : HasTaken turns place consumer next
+  pub below : place < turns.queue.count
 
 -- where nobody's work has anything left, no desk has
 pub all-free : (desks : List Desked) → All (λ w. w.left ≡ Nothing) (map (λ d. d.work) desks) → All (λ d. d.work.left ≡ Nothing) desks
 all-free desks free = all-unmapped (λ (w : Work). w.left ≡ Nothing) (λ (d : Desked). d.work) desks free
 
--- So the crew stays one, in the parts as they are,
-pub crew-given : {old : Journalled} {first : ℕ} {batch : List Update} {ended : List PassSeen} {line : Line} {parts new : Parted}
+-- So the state stays one, in the parts as they are,
+pub state-given : {old : Journalled} {first : ℕ} {batch : List Update} {ended : List PassSeen} {turns : TurnQueue} {parts new : Parted}
     {desks others : List Desked} {consumer next : Consuming} {place : ℕ} → new ≡ parts
-    → IsCrew old first batch ended line parts.words parts.journal desks consumer → HasGiven line place desks others consumer next
-    → IsCrew old first batch ended line new.words new.journal others next
-crew-given {old} {first} {batch} {ended} {line} {parts} {new} {desks} {others} {consumer} {next} {place} same h given =
-    subst (λ (z : Parted). IsCrew old first batch ended line z.words z.journal others next) (sym same)
-    (given-crew parts old first batch ended line desks others consumer next place h (all-free desks given.free) given.gives given.took)
+    → IsBatchState old first batch ended turns parts.words parts.journal desks consumer → HasGiven turns place desks others consumer next
+    → IsBatchState old first batch ended turns new.words new.journal others next
+state-given {old} {first} {batch} {ended} {turns} {parts} {new} {desks} {others} {consumer} {next} {place} same h given =
+    subst (λ (z : Parted). IsBatchState old first batch ended turns z.words z.journal others next) (sym same)
+    (given-state parts old first batch ended turns desks others consumer next place h (all-free desks given.free) given.gives given.took)
 
 -- and who was given an update of the batch keeps one of it.
-pub given-keeps : {line : Line} {place : ℕ} {desks others : List Desked} {consumer next : Consuming} → HasGiven line place desks others consumer next
-    → All (λ d. KeepsOneOf line.queue.count d.work.left) others
-given-keeps {line} {place} {desks} {others} given = keep desks (all-free desks given.free) given.gives
+pub given-keeps : {turns : TurnQueue} {place : ℕ} {desks others : List Desked} {consumer next : Consuming} → HasGiven turns place desks others consumer next
+    → All (λ d. KeepsOneOf turns.queue.count d.work.left) others
+given-keeps {turns} {place} {desks} {others} given = keep desks (all-free desks given.free) given.gives
   where
-    keep : (ds : List Desked) → All (λ d. d.work.left ≡ Nothing) ds → Gives place ds others → All (λ d. KeepsOneOf line.queue.count d.work.left) others
+    keep : (ds : List Desked) → All (λ d. d.work.left ≡ Nothing) ds → Gives place ds others → All (λ d. KeepsOneOf turns.queue.count d.work.left) others
     keep [] none gives = absurd gives
     keep (d ∷ ds) none gives =
-        let Keeps : Desked → Type 0 = λ d. KeepsOneOf line.queue.count d.work.left in
+        let Keeps : Desked → Type 0 = λ d. KeepsOneOf turns.queue.count d.work.left in
         let None : Desked → Type 0 = λ d. d.work.left ≡ Nothing in
         subst (All Keeps) (sym gives)
         (All-cons Keeps (record d { work = record { done = d.work.done; left = Kept place } }) ds given.below
-        (All-weaker None Keeps (λ e free. keeps-nothing line.queue.count e.work.left free) ds (All-tail None d ds none)))
+        (All-weaker None Keeps (λ e free. keeps-nothing turns.queue.count e.work.left free) ds (All-tail None d ds none)))
 
 -- what a round's table opened with
 opened-at : (words : TableName) (now next : Journalled) → now.levels.table ≡ words → StaysIn now next
@@ -409,7 +409,7 @@ opened-at words now next table stays =
     λ i. record { table = sym (stays.table ∙ table) i; edges = sym stays.opened i; stamps = sym stays.opening_stamps i }
 
 -- What a round has made of the journal, of the desks and of what was taken of the queue.
-pub record IsRound (words : TableName) (first : ℕ) (batch : List Update) (line : Line) (now next : Journalled) (desks others : List Desked)
+pub record IsRound (words : TableName) (first : ℕ) (batch : List Update) (turns : TurnQueue) (now next : Journalled) (desks others : List Desked)
     (consumer after : Consuming) : Type 0 where
   pub stood : Stands now
   pub stands : Stands next
@@ -418,21 +418,21 @@ pub record IsRound (words : TableName) (first : ℕ) (batch : List Update) (line
   pub total : length next.entries ≡ length now.entries + made
   pub quiet : length next.entries ≡ length now.entries → next.levels.log ≡ now.levels.log
   pub rounds : Rounds (opened_with words now.opened now.opening_stamps) now.levels.log next.levels.log first batch (map (λ d. d.work) desks)
-      (map (λ d. d.work) others) (at_turns line.order.items consumer.taken) (at_turns line.order.items after.taken) made
+      (map (λ d. d.work) others) (at_turns turns.order.items consumer.taken) (at_turns turns.order.items after.taken) made
   pub told : All (λ d. d.seen ≡ record { table = words; log = next.levels.log }) others
-  pub owns : (after.queue ≡ line.queue) × (after.parts ≡ PARTS) × IsShare line.queue.count after.taken
+  pub owns : (after.queue ≡ turns.queue) × (after.parts ≡ PARTS) × IsShare turns.queue.count after.taken
 
-module _ {words : TableName} {first : ℕ} {batch : List Update} {line : Line} {now next : Journalled} {desks others : List Desked}
-    {consumer after : Consuming} (r : IsRound words first batch line now next desks others consumer after) where
-  -- a crew stays one after it
-  pub crew-round : {old : Journalled} {ended : List PassSeen} → IsCrew old first batch ended line words now desks consumer
-      → IsCrew old first batch ended line words next others after
-  crew-round {old} {ended} h =
+module _ {words : TableName} {first : ℕ} {batch : List Update} {turns : TurnQueue} {now next : Journalled} {desks others : List Desked}
+    {consumer after : Consuming} (r : IsRound words first batch turns now next desks others consumer after) where
+  -- the state stays one after it
+  pub state-round : {old : Journalled} {ended : List PassSeen} → IsBatchState old first batch ended turns words now desks consumer
+      → IsBatchState old first batch ended turns words next others after
+  state-round {old} {ended} h =
       let W = map (λ (d : Desked). d.work) in
       let o = opened_with words now.opened now.opening_stamps in
       record {
-        account = account-round old now next first batch ended (W desks) (W others) (at_turns line.order.items consumer.taken)
-            (at_turns line.order.items after.taken) r.made o h.account r.stood r.stands r.stays
+        account = account-round old now next first batch ended (W desks) (W others) (at_turns turns.order.items consumer.taken)
+            (at_turns turns.order.items after.taken) r.made o h.account r.stood r.stands r.stays
             (opened-at words now next h.table r.stays) r.total r.quiet r.rounds;
         table = r.stays.table ∙ h.table;
         told = r.told;
@@ -517,62 +517,13 @@ cut-at_start j first batch workers cut none here =
     record {
       made = made.made;
       went = subst (λ (ps : List PassSeen). WentOnBy j j first batch ps made.made) (sym here) made.went;
-      receipts = subst (λ (ss : List Share). AreReceiptsOf j.started j.entries first batch (length j.entries) made.made (entered_in ss)) (sym none) made.told;
+      receipts = subst (λ (ss : List WorkerShare). AreReceiptsOf j.started j.entries first batch (length j.entries) made.made (entered_in ss))
+          (sym none) made.told;
       one_each = inr (none, none-made made.made made.as_many);
-      numbered = λ i d low. absurd (omega (arith, low, ap (λ (ss : List Share). length ss) none));
-      few = subst (λ (ss : List Share). All Few (done_in ss)) (sym none) (All-nil Few);
-      misses = λ _. subst (λ (ss : List Share). All True (done_in ss)) (sym none) (All-nil True);
+      numbered = λ i d low. absurd (omega (arith, low, ap (λ (ss : List WorkerShare). length ss) none));
+      few = subst (λ (ss : List WorkerShare). All Few (done_in ss)) (sym none) (All-nil Few);
+      misses = λ _. subst (λ (ss : List WorkerShare). All True (done_in ss)) (sym none) (All-nil True);
     }
-
--- images from the end on are those of the list from its end on
-pub images-backward : {A B : Type 0} (f : A → B) (xs : List A) → map f (backward xs) ≡ backward (map f xs)
-images-backward f [] = refl
-images-backward {A} {B} f (x ∷ xs) = map-append f (backward xs) (x ∷ []) ∙ ap (λ (z : List B). z ++ f x ∷ []) (images-backward f xs)
-
--- the lists of all from the end on end with those of the first
-flat-back : {A B : Type 0} (f : A → List B) (x : A) (xs : List A) → flat_map f (backward (x ∷ xs)) ≡ flat_map f (backward xs) ++ f x
-flat-back f x xs = sym (flat_map_more f [] (backward xs) x)
-
--- what holds of all of a list holds of all of its second part
-all-end : {A : Type 0} (P : A → Type 0) (xs ys : List A) → All P (xs ++ ys) → All P ys
-all-end {A} P xs ys h = subst (All P) (drop-append_seam xs ys) (All-drop P (length xs) (xs ++ ys) h)
-
--- what holds of all in the lists of some holds of all in these lists from the end on
-all-flat-back : {A B : Type 0} (P : B → Type 0) (f : A → List B) (xs : List A) → All P (flat_map f xs) → All P (flat_map f (backward xs))
-all-flat-back P f [] h = h
-all-flat-back P f (x ∷ xs) h =
-    subst (All P) (sym (flat-back f x xs))
-    (All-append P (flat_map f (backward xs)) (f x) (all-flat-back P f xs (all-end P (f x) (flat_map f xs) h)) (All-front P (f x) (flat_map f xs) h))
-
--- the lists of some have together as many elements from the end on
-length-flat-back : {A B : Type 0} (f : A → List B) (xs : List A) → length (flat_map f (backward xs)) ≡ length (flat_map f xs)
-length-flat-back f [] = refl
-length-flat-back {A} {B} f (x ∷ xs) = omega (
-  arith,
-  ap (λ (z : List B). length z) (flat-back f x xs),
-  length-append (flat_map f (backward xs)) (f x),
-  length-append (f x) (flat_map f xs),
-  length-flat-back f xs,
-)
-
--- a sum is the same from the end on
-sum-back : {A : Type 0} (f : A → ℕ) (xs : List A) → sum_by f (backward xs) ≡ sum_by f xs
-sum-back f [] = refl
-sum-back f (x ∷ xs) =
-    omega (arith, sum_by-append f (backward xs) (x ∷ []), sum_by-cons f x [], sum_by-cons f x xs, sum-back f xs)
-
--- an account is one of the same work from its end on
-pub account-backward : (old now : Journalled) (first : ℕ) (batch : List Update) (ended : List PassSeen) (works : List Work) (taken : List ℕ)
-    → Account old now first batch ended works taken → Account old now first batch ended (backward works) taken
-account-backward old now first batch ended works taken a = record {
-  went = a.went;
-  receipts = all-flat-back (IsReceiptOf now.started now.entries first batch (length old.entries)) receipts_of works a.receipts;
-  count = omega (arith, a.count, length-flat-back receipts_of works);
-  balance = λ y. sum-back (times_had first y) works ∙ a.balance y;
-  few = all-flat-back (λ d. length d.misses.items ≤ MISSES) (λ w. w.done) works a.few;
-  misses = λ none. all-flat-back (HasTrueMisses (opened_by now) old.levels.log now.levels.log) (λ w. w.done) works (a.misses none);
-  pace = a.pace;
-}
 
 -- where nothing is left the receipts are those of what was entered
 told-done : (works : List Work) → All (λ w. w.left ≡ Nothing) works → all_receipts works ≡ map (λ d. d.receipt) (all_done works)
@@ -585,21 +536,21 @@ told-done (w ∷ ws) none =
     ∙ sym (map-append f w.done (all_done ws))))
 
 -- where shares have what the workers have entered, both come to the same together
-shared-done : (shares : List Share) (works : List Work) → map (λ s. s.done.items) shares ≡ map (λ w. w.done) works → done_in shares ≡ all_done works
+shared-done : (shares : List WorkerShare) (works : List Work) → map (λ s. s.done.items) shares ≡ map (λ w. w.done) works → done_in shares ≡ all_done works
 shared-done shares works is =
     let id = λ (ds : List Done). ds in
-    sym (flat_map-map id (λ (s : Share). s.done.items) shares)
+    sym (flat_map-map id (λ (s : WorkerShare). s.done.items) shares)
     ∙ (ap (λ (z : List (List Done)). flat_map id z) is ∙ flat_map-map id (λ (w : Work). w.done) works)
 
 -- what could not be told, if anything, stands as a list of one receipt or of none
-listed-untold : (left : Left) → listed (untold_of left) ≡ untold left
-listed-untold Nothing = refl
-listed-untold (Kept place) = refl
-listed-untold (Dropped place) = refl
-listed-untold (Untold receipt) = refl
+one_receipt-untold : (left : Left) → one_receipt (untold_of left) ≡ untold left
+one_receipt-untold Nothing = refl
+one_receipt-untold (Kept place) = refl
+one_receipt-untold (Dropped place) = refl
+one_receipt-untold (Untold receipt) = refl
 
 -- where shares have what the workers have entered and what they could not tell, both have the same receipts
-shared-receipts : (shares : List Share) (works : List Work) → map (λ s. s.done.items) shares ≡ map (λ w. w.done) works
+shared-receipts : (shares : List WorkerShare) (works : List Work) → map (λ s. s.done.items) shares ≡ map (λ w. w.done) works
     → map (λ s. s.untold) shares ≡ map (λ w. untold_of w.left) works → all_receipts works ≡ entered_in shares
 shared-receipts [] [] is late = refl
 shared-receipts [] (w ∷ ws) is late = absurd (omega (arith, ap (λ (z : List (List Done)). length z) is))
@@ -610,109 +561,100 @@ shared-receipts (s ∷ ss) (w ∷ ws) is late =
     let rest = shared-receipts ss ws (ap (λ (z : List (List Done)). drop 1 z) is) (ap (λ (z : List (Option Receipt)). drop 1 z) late) in
     let f = λ (d : Done). d.receipt in
     let first : receipts_of w ≡ entered_by s =
-    ap (λ (rs : List Receipt). map f w.done ++ rs) (sym (listed-untold w.left))
-    ∙ ap₂ (λ (ds : List Done) (o : Option Receipt). map f ds ++ listed o) (sym done) (sym one) in
+    ap (λ (rs : List Receipt). map f w.done ++ rs) (sym (one_receipt-untold w.left))
+    ∙ ap₂ (λ (ds : List Done) (o : Option Receipt). map f ds ++ one_receipt o) (sym done) (sym one) in
     ap₂ (λ (xs ys : List Receipt). xs ++ ys) first rest
 
--- what the work at the desks has from the end on is what their work has from its end on
-works-back : {B : Type 0} (f : Work → B) (desks : List Desked) → map (λ d. f d.work) (backward desks) ≡ map f (backward (map (λ d. d.work) desks))
-works-back {B} f desks =
-    images-backward (λ (d : Desked). f d.work) desks
-    ∙ (ap backward (of-works desks) ∙ sym (images-backward f (map (λ (d : Desked). d.work) desks)))
-  where
-    of-works : (ds : List Desked) → map (λ (d : Desked). f d.work) ds ≡ map f (map (λ (d : Desked). d.work) ds)
-    of-works [] = refl
-    of-works (d ∷ ds) = ap (λ (z : List B). f d.work ∷ z) (of-works ds)
+-- what the work at the desks has is what their work has
+works-of : {B : Type 0} (f : Work → B) (desks : List Desked) → map (λ d. f d.work) desks ≡ map f (map (λ d. d.work) desks)
+works-of f [] = refl
+works-of {B} f (d ∷ ds) = ap (λ (z : List B). f d.work ∷ z) (works-of f ds)
 
 -- where nothing is left, no share has an update that could not be told
-all-told : (shares : List Share) (desks : List Desked) → All (λ d. d.work.left ≡ Nothing) desks
-    → map (λ s. s.untold) shares ≡ map (λ d. untold_of d.work.left) (backward desks) → All (λ s. s.untold ≡ None) shares
+all-told : (shares : List WorkerShare) (desks : List Desked) → All (λ d. d.work.left ≡ Nothing) desks
+    → map (λ s. s.untold) shares ≡ map (λ d. untold_of d.work.left) desks → All (λ s. s.untold ≡ None) shares
 all-told shares desks none late =
     let No : Option Receipt → Type 0 = λ o. o ≡ None in
     let at_desks : All (λ d. No (untold_of d.work.left)) desks =
     All-weaker (λ (d : Desked). d.work.left ≡ Nothing) (λ (d : Desked). No (untold_of d.work.left)) (λ d e. ap untold_of e) desks none in
-    all-unmapped No (λ (s : Share). s.untold) shares (subst (All No) (sym late)
-    (All-map No (λ (d : Desked). untold_of d.work.left) (backward desks) (all-backward (λ (d : Desked). No (untold_of d.work.left)) desks at_desks)))
+    all-unmapped No (λ (s : WorkerShare). s.untold) shares (subst (All No) (sym late)
+    (All-map No (λ (d : Desked). untold_of d.work.left) desks at_desks))
 
 -- What a batch has come to, where all was taken and nothing is left.
 pub done-so : (old now : Journalled) (first : ℕ) (batch : List Update) (desks : List Desked) (taken : List ℕ) (workers : ℕ) (done : BatchDone)
-    → Account old now first batch done.ended.items (map (λ d. d.work) desks) taken → IsWhole (length batch) taken → All (λ d. d.work.left ≡ Nothing) desks
-    → map (λ s. s.done.items) done.shares.items ≡ map (λ d. d.work.done) (backward desks)
-    → map (λ s. s.untold) done.shares.items ≡ map (λ d. untold_of d.work.left) (backward desks) → length done.shares.items ≡ workers
-    → ((i : ℕ) (d : Share) → i < length done.shares.items → (get_or done.shares.items i d).worker ≡ i)
-    → IsDone old now first batch workers done
+    → Account old now first batch done.ended.items (map (λ d. d.work) desks) taken → AreAllBelow (length batch) taken → All (λ d. d.work.left ≡ Nothing) desks
+    → map (λ s. s.done.items) done.shares.items ≡ map (λ d. d.work.done) desks
+    → map (λ s. s.untold) done.shares.items ≡ map (λ d. untold_of d.work.left) desks → length done.shares.items ≡ workers
+    → ((i : ℕ) (d : WorkerShare) → i < length done.shares.items → (get_or done.shares.items i d).worker ≡ i)
+    → IsBatchDone old now first batch workers done
 done-so old now first batch desks taken workers done a whole none is late many numbered =
     let works = map (λ (d : Desked). d.work) desks in
-    let back = backward works in
     let ended = done.ended.items in
-    let b = account-backward old now first batch ended works taken a in
-    let left = all-backward (λ (w : Work). w.left ≡ Nothing) works (All-map (λ (w : Work). w.left ≡ Nothing) (λ (d : Desked). d.work) desks none) in
-    let made = made_so old now first batch ended back taken b whole.share.once in
-    let all = made_all old now first batch ended back taken b whole left in
-    let same : done_in done.shares.items ≡ all_done back = shared-done done.shares.items back (is ∙ works-back (λ (w : Work). w.done) desks) in
-    let told : all_receipts back ≡ receipts_in done.shares.items =
-    told-done back left ∙ ap (λ (z : List Done). map (λ (d : Done). d.receipt) z) (sym same) in
+    let left = All-map (λ (w : Work). w.left ≡ Nothing) (λ (d : Desked). d.work) desks none in
+    let made = made_so old now first batch ended works taken a whole.share.once in
+    let all = made_all old now first batch ended works taken a whole left in
+    let same : done_in done.shares.items ≡ all_done works = shared-done done.shares.items works (is ∙ works-of (λ (w : Work). w.done) desks) in
+    let told : all_receipts works ≡ receipts_in done.shares.items =
+    told-done works left ∙ ap (λ (z : List Done). map (λ (d : Done). d.receipt) z) (sym same) in
     record {
       made = made.made;
       went = made.went;
       as_many = made.as_many ∙ all.as_many;
-      receipts = subst (AreAllOf now.started now.entries first batch (length old.entries)) told all.receipts;
+      receipts = subst (AreBatchReceipts now.started now.entries first batch (length old.entries)) told all.receipts;
       told = all-told done.shares.items desks none late;
       one_each = many;
       numbered = numbered;
-      few = subst (All (λ (d : Done). length d.misses.items ≤ MISSES)) (sym same) b.few;
-      misses = λ none. subst (All (HasTrueMisses (opened_by now) old.levels.log now.levels.log)) (sym same) (b.misses none);
+      few = subst (All (λ (d : Done). length d.misses.items ≤ MISSES)) (sym same) a.few;
+      misses = λ none. subst (All (HasTrueMisses (opened_by now) old.levels.log now.levels.log)) (sym same) (a.misses none);
     }
 
 -- What a batch has come to, where memory ran out.
 pub cut-so : (old now : Journalled) (first : ℕ) (batch : List Update) (desks : List Desked) (taken : List ℕ) (workers : ℕ) (cut : CutShort)
     → Account old now first batch cut.ended.items (map (λ d. d.work) desks) taken → Distinct taken
-    → map (λ s. s.done.items) cut.shares.items ≡ map (λ d. d.work.done) (backward desks)
-    → map (λ s. s.untold) cut.shares.items ≡ map (λ d. untold_of d.work.left) (backward desks) → length cut.shares.items ≡ workers
-    → ((i : ℕ) (d : Share) → i < length cut.shares.items → (get_or cut.shares.items i d).worker ≡ i)
+    → map (λ s. s.done.items) cut.shares.items ≡ map (λ d. d.work.done) desks
+    → map (λ s. s.untold) cut.shares.items ≡ map (λ d. untold_of d.work.left) desks → length cut.shares.items ≡ workers
+    → ((i : ℕ) (d : WorkerShare) → i < length cut.shares.items → (get_or cut.shares.items i d).worker ≡ i)
     → IsCutShort old now first batch workers cut
 cut-so old now first batch desks taken workers cut a once is late many numbered =
     let works = map (λ (d : Desked). d.work) desks in
-    let back = backward works in
     let ended = cut.ended.items in
     let shares = cut.shares.items in
-    let b = account-backward old now first batch ended works taken a in
-    let made = made_so old now first batch ended back taken b once in
-    let dones = is ∙ works-back (λ (w : Work). w.done) desks in
-    let same : done_in shares ≡ all_done back = shared-done shares back dones in
-    let told : all_receipts back ≡ entered_in shares =
-    shared-receipts shares back dones (late ∙ works-back (λ (w : Work). untold_of w.left) desks) in
+    let made = made_so old now first batch ended works taken a once in
+    let dones = is ∙ works-of (λ (w : Work). w.done) desks in
+    let same : done_in shares ≡ all_done works = shared-done shares works dones in
+    let told : all_receipts works ≡ entered_in shares =
+    shared-receipts shares works dones (late ∙ works-of (λ (w : Work). untold_of w.left) desks) in
     record {
       made = made.made;
       went = made.went;
       receipts = subst (AreReceiptsOf now.started now.entries first batch (length old.entries) made.made) told made.told;
       one_each = inl many;
       numbered = numbered;
-      few = subst (All (λ (d : Done). length d.misses.items ≤ MISSES)) (sym same) b.few;
-      misses = λ none. subst (All (HasTrueMisses (opened_by now) old.levels.log now.levels.log)) (sym same) (b.misses none);
+      few = subst (All (λ (d : Done). length d.misses.items ≤ MISSES)) (sym same) a.few;
+      misses = λ none. subst (All (HasTrueMisses (opened_by now) old.levels.log now.levels.log)) (sym same) (a.misses none);
     }
 
 -- where no share has an update that could not be told, all that was entered is told
-entered-told : (shares : List Share) → All (λ s. s.untold ≡ None) shares → receipts_in shares ≡ entered_in shares
+entered-told : (shares : List WorkerShare) → All (λ s. s.untold ≡ None) shares → receipts_in shares ≡ entered_in shares
 entered-told [] none = refl
 entered-told (s ∷ ss) none =
     let f = λ (d : Done). d.receipt in
-    let No : Share → Type 0 = λ s. s.untold ≡ None in
+    let No : WorkerShare → Type 0 = λ s. s.untold ≡ None in
     map-append f s.done.items (done_in ss)
     ∙ ap₂ (λ (xs ys : List Receipt). xs ++ ys)
-    (sym (append-nil (map f s.done.items)) ∙ ap (λ (o : Option Receipt). map f s.done.items ++ listed o) (sym (All-head No s ss none)))
+    (sym (append-nil (map f s.done.items)) ∙ ap (λ (o : Option Receipt). map f s.done.items ++ one_receipt o) (sym (All-head No s ss none)))
     (entered-told ss (All-tail No s ss none))
 
 -- A batch that was entered whole has come to what one has that is cut short: all its updates are some of them.
 pub done-cut : {old now : Journalled} {first : ℕ} {batch : List Update} {workers : ℕ} {done : BatchDone} (cut : CutShort)
-    → cut.shares.items ≡ done.shares.items → cut.ended.items ≡ done.ended.items → IsDone old now first batch workers done
+    → cut.shares.items ≡ done.shares.items → cut.ended.items ≡ done.ended.items → IsBatchDone old now first batch workers done
     → IsCutShort old now first batch workers cut
 done-cut {old} {now} {first} {batch} {workers} {done} cut shares ended h =
     let Few : Done → Type 0 = λ d. length d.misses.items ≤ MISSES in
     let told : receipts_in done.shares.items ≡ entered_in cut.shares.items =
     entered-told done.shares.items h.told ∙ ap entered_in (sym shares) in
-    let all : AreAllOf now.started (old.entries ++ h.made) first batch (length old.entries) (receipts_in done.shares.items) =
-    subst (λ (z : List Entry). AreAllOf now.started z first batch (length old.entries) (receipts_in done.shares.items)) h.went.entries h.receipts in
+    let all : AreBatchReceipts now.started (old.entries ++ h.made) first batch (length old.entries) (receipts_in done.shares.items) =
+    subst (λ (z : List Entry). AreBatchReceipts now.started z first batch (length old.entries) (receipts_in done.shares.items)) h.went.entries h.receipts in
     record {
       made = h.made;
       went = subst (λ (ps : List PassSeen). WentOnBy old now first batch ps h.made) (sym ended) h.went;
@@ -720,15 +662,15 @@ done-cut {old} {now} {first} {batch} {workers} {done} cut shares ended h =
           (sym h.went.entries)
           (subst (AreReceiptsOf now.started (old.entries ++ h.made) first batch (length old.entries) h.made) told
           (whole-told now.started old.entries h.made first batch (receipts_in done.shares.items) all h.went.some));
-      one_each = inl (ap (λ (ss : List Share). length ss) shares ∙ h.one_each);
-      numbered = subst (λ (ss : List Share). (i : ℕ) (d : Share) → i < length ss → (get_or ss i d).worker ≡ i) (sym shares) h.numbered;
-      few = subst (λ (ss : List Share). All Few (done_in ss)) (sym shares) h.few;
-      misses = λ none. subst (λ (ss : List Share). All (HasTrueMisses (opened_by now) old.levels.log now.levels.log) (done_in ss)) (sym shares)
+      one_each = inl (ap (λ (ss : List WorkerShare). length ss) shares ∙ h.one_each);
+      numbered = subst (λ (ss : List WorkerShare). (i : ℕ) (d : WorkerShare) → i < length ss → (get_or ss i d).worker ≡ i) (sym shares) h.numbered;
+      few = subst (λ (ss : List WorkerShare). All Few (done_in ss)) (sym shares) h.few;
+      misses = λ none. subst (λ (ss : List WorkerShare). All (HasTrueMisses (opened_by now) old.levels.log now.levels.log) (done_in ss)) (sym shares)
           (h.misses (sym ended ∙ none));
     }
 
 -- a batch without updates is taken whole
-pub whole-none : (count : ℕ) → count ≡ 0 → IsWhole count []
+pub whole-none : (count : ℕ) → count ≡ 0 → AreAllBelow count []
 whole-none count none = record {
   share = none-taken count;
   all = λ x low. absurd (omega arith);
@@ -746,22 +688,22 @@ idle-keeps count desks none =
     All-weaker (λ (d : Desked). d.work.left ≡ Nothing) (λ (d : Desked). KeepsOneOf count d.work.left) (λ d e. keeps-nothing count d.work.left e) desks
     (idle-left desks none)
 
--- a crew before its first round
-pub crew-start : (parts : Parted) (first : ℕ) (batch : List Update) (line : Line) (desks : List Desked) (consumer : Consuming)
+-- the state before its first round
+pub state-start : (parts : Parted) (first : ℕ) (batch : List Update) (turns : TurnQueue) (desks : List Desked) (consumer : Consuming)
     → parts.journal.levels.table ≡ parts.words → All (λ d. d.seen ≡ record { table = parts.words; log = parts.journal.levels.log }) desks
-    → All (λ w. w ≡ idle) (map (λ d. d.work) desks) → consumer ≡ record { queue = line.queue; parts = PARTS; taken = [] }
-    → IsWhole line.queue.count line.order.items → IsCrew parts.journal first batch [] line parts.words parts.journal desks consumer
-crew-start parts first batch line desks consumer table told none is order =
+    → All (λ w. w ≡ idle) (map (λ d. d.work) desks) → consumer ≡ record { queue = turns.queue; parts = PARTS; taken = [] }
+    → AreAllBelow turns.queue.count turns.order.items → IsBatchState parts.journal first batch [] turns parts.words parts.journal desks consumer
+state-start parts first batch turns desks consumer table told none is order =
     let j = parts.journal in
     let works = map (λ (d : Desked). d.work) desks in
     let taken : consumer.taken ≡ [] = ap (λ (c : Consuming). c.taken) is in
     record {
-      account = subst (λ (ts : List ℕ). Account j j first batch [] works (at_turns line.order.items ts)) (sym taken) (account-start j first batch works none);
+      account = subst (λ (ts : List ℕ). Account j j first batch [] works (at_turns turns.order.items ts)) (sym taken) (account-start j first batch works none);
       table = table;
       told = told;
       of_queue = ap (λ (c : Consuming). c.queue) is;
       parts = ap (λ (c : Consuming). c.parts) is;
-      share = subst (IsShare line.queue.count) (sym taken) (none-taken line.queue.count);
+      share = subst (IsShare turns.queue.count) (sym taken) (none-taken turns.queue.count);
       order = order;
     }
 
@@ -774,25 +716,24 @@ same-many desks others same = omega (
   length-map desks (λ (d : Desked). d.work),
 )
 
--- as many workers have stood up as there were desks
-pub stood-many : (workers : List Seen) (desks : List Desked) → workers ≡ map (λ d. d.seen) (backward desks) → length workers ≡ length desks
-stood-many workers desks is = omega (
+-- there are as many workers as desks
+pub workers-many : (workers : List Seen) (desks : List Desked) → workers ≡ map (λ d. d.seen) desks → length workers ≡ length desks
+workers-many workers desks is = omega (
   arith,
   ap (λ (z : List Seen). length z) is,
-  length-map (backward desks) (λ (d : Desked). d.seen),
-  length-backward desks,
+  length-map desks (λ (d : Desked). d.seen),
 )
 
--- what holds of all that the desks have seen holds of those who have stood up
-pub stood-all-so : (P : Seen → Type 0) (workers : List Seen) (desks : List Desked) → workers ≡ map (λ d. d.seen) (backward desks) → All (λ d. P d.seen) desks
+-- what holds of all that the desks have seen holds of the workers
+pub all-workers : (P : Seen → Type 0) (workers : List Seen) (desks : List Desked) → workers ≡ map (λ d. d.seen) desks → All (λ d. P d.seen) desks
     → All P workers
-stood-all-so P workers desks is h =
-    subst (All P) (sym is) (All-map P (λ (d : Desked). d.seen) (backward desks) (all-backward (λ (d : Desked). P d.seen) desks h))
+all-workers P workers desks is h =
+    subst (All P) (sym is) (All-map P (λ (d : Desked). d.seen) desks h)
 
--- those who have stood up are of the table that all at the desks were told of
-pub told-tables : (workers : List Seen) (desks : List Desked) (words : TableName) (log : List Event) → workers ≡ map (λ d. d.seen) (backward desks)
+-- the workers are of the table that all at the desks were told of
+pub told-tables : (workers : List Seen) (desks : List Desked) (words : TableName) (log : List Event) → workers ≡ map (λ d. d.seen) desks
     → All (λ d. d.seen ≡ record { table = words; log = log }) desks → All (λ w. w.table ≡ words) workers
 told-tables workers desks words log is told =
-    stood-all-so (λ (s : Seen). s.table ≡ words) workers desks is
+    all-workers (λ (s : Seen). s.table ≡ words) workers desks is
     (All-weaker (λ (d : Desked). d.seen ≡ record { table = words; log = log }) (λ (d : Desked). d.seen.table ≡ words)
     (λ d e. ap (λ (s : Seen). s.table) e) desks told)

@@ -4,15 +4,16 @@ use Rattle.std.proofs.Common.{length-append}
 use Rattle.std.proofs.lemmas.Bool.{true≢false}
 use Rattle.std.proofs.lemmas.List.{get_or-append-add, get_or-map, get_or_at, get_or_default, length-map}
 use Rattle.std.proofs.lemmas.List.Elements.{All-head, All-tail, All-weaker}
-use Rattle.kc_distinct.specs.Lists.{Distinct, member}
-use Rattle.kc_distinct.proofs.Counting.{Distinct-from_pairs}
-use Rattle.kc_distinct.proofs.Members.{below_bound, member-cases, member-head, member-tail}
+use Rattle.kc_lists.specs.Lists.{Distinct, member}
+use Rattle.kc_lists.proofs.Counting.{Distinct-from_pairs}
+use Rattle.kc_lists.proofs.Members.{below_bound, member-cases, member-head, member-tail}
 use Rattle.kc_graph.specs.SimpleGraph.{SimpleGraph}
 use Rattle.kc_graph.specs.declared.update.Update.{Update}
 use Rattle.kc_table.specs.declared.entry.Entry.{Entry}
 use Rattle.kc_journal.specs.Entering.{entry_of}
 use Rattle.kc_journal.specs.declared.answer.Receipt.{Receipt}
-use Rattle.kc_batch.specs.Receipts.{AreAllOf, AreReceiptsOf, AreSomeOf, IsOneOf, IsReceiptOf, IsUpdateAt, indices, told_indices}
+use Rattle.kc_batch_effects.specs.Entered.{AreSomeOf, IsOneOf, IsUpdateAt, indices}
+use Rattle.kc_batch.specs.Receipts.{AreBatchReceipts, AreReceiptsOf, IsReceiptOf, told_indices}
 use Rattle.kc_batch.proofs.Lists.{all-below, distinct-images, images-apart}
 use Rattle.kc_batch.proofs.Turning.{distinct_within-fewer}
 
@@ -151,7 +152,7 @@ module _ (started : SimpleGraph) (old made : List Entry) (first : ℕ) (batch : 
   ]
 
   -- where each update of the batch has one receipt, so has each entry that was made of them
-  pub whole-told : (rs : List Receipt) → AreAllOf started (old ++ made) first batch (length old) rs → AreSomeOf first batch made
+  pub whole-told : (rs : List Receipt) → AreBatchReceipts started (old ++ made) first batch (length old) rs → AreSomeOf first batch made
       → AreReceiptsOf started (old ++ made) first batch (length old) made rs
   whole-told rs all some =
       let told = told_indices rs in

@@ -10,7 +10,7 @@ use Rattle.std.proofs.lemmas.Bool.{cases_lt}
 use Rattle.kc_table.specs.declared.view.Event.{Event}
 use Rattle.kc_table.specs.Legal.{IsVersioned, Legal, version_of}
 use Rattle.kc_table.specs.Log.{PassSeen, TableName, value_at, words_after}
-use Rattle.kc_table.specs.State.{state_of}
+use Rattle.kc_table.specs.TableState.{state_of}
 use Rattle.kc_table.proofs.LegalLogs.{after_store-words, legal-last, legal-prefix, state_of-push, state_of-words}
 use Rattle.kc_table.proofs.Prefixes.{prefix_self, prefix_trans}
 use Rattle.kc_journal.specs.Journals.{Journalled}

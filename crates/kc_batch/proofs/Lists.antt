@@ -4,8 +4,8 @@ use Rattle.std.proofs.Common.{append-nil, length-append}
 use mathlib.Core.List.{IsPrefix}
 use Rattle.std.proofs.lemmas.Bool.{cases_Bool, cases_lt, true≢false, false_from_ne_true}
 use Rattle.std.proofs.lemmas.List.{get_or_append_left, get_or_push, nil_from_length}
-use Rattle.kc_distinct.specs.Lists.{Distinct, member}
-use Rattle.kc_distinct.proofs.Members.{below_bound, member-cases, member-head, member-tail}
+use Rattle.kc_lists.specs.Lists.{Distinct, member}
+use Rattle.kc_lists.proofs.Members.{below_bound, member-cases, member-head, member-tail}
 use Rattle.kc_table.proofs.Prefixes.{prefix_either}
 
 module _ {A : Type 0} where

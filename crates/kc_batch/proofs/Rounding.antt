@@ -4,7 +4,7 @@ use Rattle.std.proofs.Common.{map, refl, sym, ap, ◌∙◌, subst, arith, appen
 use Rattle.std.specs.List.{AllZip}
 use mathlib.Core.List.{IsPrefix}
 use Rattle.std.proofs.lemmas.List.{drop_all, get_or-drop, length-map, map-append, take_all}
-use Rattle.std.proofs.lemmas.List.Elements.{All-append, All-cons, All-contains_itself, All-head, All-nil, All-push, All-tail, All-weaker, AllZip-push}
+use Rattle.std.proofs.lemmas.List.Elements.{All-append, All-cons, All-contains_itself, All-head, All-nil, All-push, All-tail, All-weaker}
 use Rattle.std.proofs.lemmas.List.Elements.{Contains-append_left, Contains-append_right}
 use Rattle.std.proofs.lemmas.List.Sums.{sum_by-cons}
 use Rattle.kc_graph.specs.declared.update.Update.{Update}
@@ -13,16 +13,15 @@ use Rattle.kc_table.specs.Legal.{Legal}
 use Rattle.kc_table.specs.Log.{Seen, TableName}
 use Rattle.kc_table.proofs.Stamps.{number-grows}
 use Rattle.kc_table.proofs.Prefixes.{prefix_self, prefix_trans}
-use Rattle.kc_distinct.proofs.Shared.{All-end, All-front}
-use Rattle.kc_distinct.specs.Lists.{times}
-use Rattle.kc_queue.specs.Shares.{Consuming, Filled}
+use Rattle.kc_lists.specs.Lists.{times}
+use Rattle.kc_queue.specs.Shares.{Consuming, FilledQueue}
 use Rattle.kc_queue.proofs.Counts.{times-append}
 use Rattle.kc_journal.specs.Journals.{Journalled, Stands}
 use Rattle.kc_journal.specs.declared.answer.Receipt.{Receipt}
-use Rattle.kc_stripes.specs.Records.{Opened}
+use Rattle.kc_table.specs.Log.{Opened}
 use Rattle.kc_workers.specs.declared.done.Done.{Done}
 use Rattle.kc_batch.specs.Desks.{Desked, KeepsOneOf, Work, all_done, all_receipts, at_places, at_turns, receipts_of, times_had}
-use Rattle.kc_batch.specs.Seats.{HasTrueMisses, IsHired, IsReady, IsReceiptIn, KeepsIfSpent, Rounds, Seated, Works, all_taken, amounts, backward, desk_of}
+use Rattle.kc_batch.specs.Seats.{HasTrueMisses, IsFreshSeat, CanGoOn, IsReceiptIn, KeepsIfSpent, Rounds, Seated, Works, all_taken, amounts, desk_of}
 use Rattle.kc_batch.specs.declared.left.Left.{Left}
 use Rattle.kc_batch.specs.declared.left.Left.TheVariants.{Nothing, Kept, Dropped, Untold}
 use Rattle.kc_batch.proofs.Going.{spent-stays}
@@ -30,48 +29,33 @@ use Rattle.kc_batch.proofs.Telling.{receipt_in-grows}
 use Rattle.kc_batch.proofs.Turning.{turned-append}
 use Rattle.kc_batch.proofs.Working.{misses-stay}
 
--- what is added at the end of a list comes first from the end on
-pub backward-push : {A : Type 0} (xs : List A) (x : A) → backward (xs ++ x ∷ []) ≡ x ∷ backward xs
-backward-push [] x = refl
-backward-push {A} (y ∷ ys) x = ap (λ (z : List A). z ++ y ∷ []) (backward-push ys x)
+-- The first one is taken from a list, and what it gives comes next.
+pub next-image : {A B : Type 0} (f : A → B) (done new : List B) (old rest : List A) (x : A) (b : B) → old ≡ x ∷ rest → b ≡ f x
+    → new ≡ done ++ b ∷ [] → new ++ map f rest ≡ done ++ map f old
+next-image {A} {B} f done new old rest x b is image more =
+    ap (λ (z : List B). z ++ map f rest) more
+    ∙ (append_assoc done (b ∷ []) (map f rest)
+    ∙ (ap (λ (z : B). done ++ z ∷ map f rest) image ∙ ap (λ (z : List A). done ++ map f z) (sym is)))
 
--- what holds place by place holds so from the end on
-pub zip-backward : {A : Type 0} (R : A → A → Type 0) (xs ys : List A) → AllZip R xs ys → AllZip R (backward xs) (backward ys)
-zip-backward R [] [] h = tt
-zip-backward R [] (y ∷ ys) h = absurd h
-zip-backward R (x ∷ xs) [] h = absurd h
-zip-backward R (x ∷ xs) (y ∷ ys) h = AllZip-push R (backward xs) (backward ys) x y (zip-backward R xs ys h.1) h.0
+-- The first of the desks is seated.
+pub next-seat : (old rest : List Desked) (d : Desked) (seats new : List Seated) (s : Seated) → old ≡ d ∷ rest → desk_of s ≡ d → new ≡ seats ++ s ∷ []
+    → map desk_of new ++ rest ≡ map desk_of seats ++ old
+next-seat old rest d seats new s is desk more =
+    ap (λ (z : List Seated). map desk_of z ++ rest) more
+    ∙ (ap (λ (z : List Desked). z ++ rest) (map-append desk_of seats (s ∷ []))
+    ∙ (append_assoc (map desk_of seats) (desk_of s ∷ []) rest
+    ∙ (ap (λ (z : Desked). map desk_of seats ++ z ∷ rest) desk ∙ ap (λ (z : List Desked). map desk_of seats ++ z) (sym is))))
 
--- a list that ends with an element begins with it from its end on
-back-is : {A : Type 0} (old rest : List A) (x : A) → old ≡ rest ++ x ∷ [] → backward old ≡ x ∷ backward rest
-back-is old rest x is = ap backward is ∙ backward-push rest x
+-- where the first seat is taken from a list, its amount comes first
+pub next-amount : (old rest : List Seated) (x : Seated) → old ≡ x ∷ rest → amounts old ≡ x.amount + amounts rest
+next-amount old rest x is = ap amounts is ∙ sum_by-cons (λ (s : Seated). s.amount) x rest
 
--- The last one is taken from a list, and what it gives comes next,
-pub back-images : {A B : Type 0} (f : A → B) (done new : List B) (old rest : List A) (x : A) (b : B) → old ≡ rest ++ x ∷ [] → b ≡ f x
-    → new ≡ done ++ b ∷ [] → new ++ map f (backward rest) ≡ done ++ map f (backward old)
-back-images {A} {B} f done new old rest x b is image more =
-    ap (λ (z : List B). z ++ map f (backward rest)) more
-    ∙ (append_assoc done (b ∷ []) (map f (backward rest))
-    ∙ (ap (λ (z : B). done ++ z ∷ map f (backward rest)) image ∙ ap (λ (z : List A). done ++ map f z) (sym (back-is old rest x is))))
-
--- where the last seat is taken from a list, its amount comes first from the end on
-pub back-amount : (old rest : List Seated) (x : Seated) → old ≡ rest ++ x ∷ [] → amounts (backward old) ≡ x.amount + amounts (backward rest)
-back-amount old rest x is = ap amounts (back-is old rest x is) ∙ sum_by-cons (λ (s : Seated). s.amount) x (backward rest)
-
--- where the last seat is taken from a list, what it has taken comes next
-pub back-taken : (taken new : List ℕ) (old rest : List Seated) (x : Seated) → old ≡ rest ++ x ∷ [] → new ≡ taken ++ x.consumer.taken
-    → new ++ all_taken (backward rest) ≡ taken ++ all_taken (backward old)
-back-taken taken new old rest x is more =
-    ap (λ (z : List ℕ). z ++ all_taken (backward rest)) more
-    ∙ (append_assoc taken x.consumer.taken (all_taken (backward rest)) ∙ ap (λ (z : List Seated). taken ++ all_taken z) (sym (back-is old rest x is)))
-
--- The last of the desks is seated.
-pub seat-desks : (old rest : List Desked) (d : Desked) (seats new : List Seated) (s : Seated) → old ≡ rest ++ d ∷ [] → desk_of s ≡ d → new ≡ seats ++ s ∷ []
-    → rest ++ map desk_of (backward new) ≡ old ++ map desk_of (backward seats)
-seat-desks old rest d seats new s is desk more =
-    ap (λ (z : List Seated). rest ++ map desk_of z) (back-is new seats s more)
-    ∙ (ap (λ (z : Desked). rest ++ z ∷ map desk_of (backward seats)) desk
-    ∙ (sym (append_assoc rest (d ∷ []) (map desk_of (backward seats))) ∙ ap (λ (z : List Desked). z ++ map desk_of (backward seats)) (sym is)))
+-- where the first seat is taken from a list, what it has taken comes next
+pub next-taken : (taken new : List ℕ) (old rest : List Seated) (x : Seated) → old ≡ x ∷ rest → new ≡ taken ++ x.consumer.taken
+    → new ++ all_taken rest ≡ taken ++ all_taken old
+next-taken taken new old rest x is more =
+    ap (λ (z : List ℕ). z ++ all_taken rest) more
+    ∙ (append_assoc taken x.consumer.taken (all_taken rest) ∙ ap (λ (z : List Seated). taken ++ all_taken z) (sym is))
 
 -- what holds at each place holds place by place
 pub zip-of : {A : Type 0} (R : A → A → Type 0) (xs ys : List A) → length xs ≡ length ys
@@ -192,21 +176,6 @@ module _ (o : Opened) (start log : List Event) (first : ℕ) (batch : List Updat
         split : (y : ℕ) (ps qs : List ℕ) → times y (at_places first (ps ++ qs)) ≡ times y (at_places first ps) + times y (at_places first qs)
         split y ps qs = ap (times y) (map-append (λ (p : ℕ). first + p) ps qs) ∙ times-append y (at_places first ps) (at_places first qs)
 
--- a list has as many elements from its end on
-pub length-backward : {A : Type 0} (xs : List A) → length (backward xs) ≡ length xs
-length-backward [] = refl
-length-backward (x ∷ xs) = omega (arith, length-append (backward xs) (x ∷ []), length-backward xs)
-
--- what holds of all of a list holds so from its end on
-pub all-backward : {A : Type 0} (P : A → Type 0) (xs : List A) → All P xs → All P (backward xs)
-all-backward P [] h = All-nil P
-all-backward P (x ∷ xs) h = All-push P (backward xs) x (all-backward P xs (All-tail P x xs h)) (All-head P x xs h)
-
--- what holds of all of a list from its end on holds of all of it
-pub all-forward : {A : Type 0} (P : A → Type 0) (xs : List A) → All P (backward xs) → All P xs
-all-forward P [] h = All-nil P
-all-forward P (x ∷ xs) h = All-cons P x xs (All-end P (backward xs) x h) (all-forward P xs (All-front P (backward xs) (x ∷ []) h))
-
 -- what holds of all images of a list holds of the image of each
 pub all-unmapped : {A B : Type 0} (P : B → Type 0) (f : A → B) (xs : List A) → All P (map f xs) → All (λ x. P (f x)) xs
 all-unmapped P f [] h = All-nil _
@@ -217,9 +186,9 @@ pub works-of : (seats : List Seated) → map (λ (d : Desked). d.work) (map desk
 works-of [] = refl
 works-of (s ∷ ss) = ap (λ (z : List Work). s.work ∷ z) (works-of ss)
 
--- there are as many seats as desks, where these are the seats' from the end on
-pub seats-many : (seats : List Seated) (desks : List Desked) → map desk_of (backward seats) ≡ desks → length seats ≡ length desks
-seats-many seats desks is = omega (arith, ap (λ (z : List Desked). length z) is, length-map (backward seats) desk_of, length-backward seats)
+-- there are as many seats as desks
+pub seats-many : (seats : List Seated) (desks : List Desked) → map desk_of seats ≡ desks → length seats ≡ length desks
+seats-many seats desks is = omega (arith, ap (λ (z : List Desked). length z) is, length-map seats desk_of)
 
 -- a slice that is as long as its list is written back whole
 written-whole : {A : Type 0} (new old : List A) (n : ℕ) → length new ≡ length old → n ≡ length old → take n (new ++ drop (length new) old) ≡ new
@@ -249,51 +218,50 @@ legal_in t log j stands table is =
 
 -- who is seated at a desk that may go on may go on
 pub ready-seats : (o : Opened) (start : List Event) (count : ℕ) (t : TableName) (seats : List Seated) (desks : List Desked)
-    → map desk_of (backward seats) ≡ desks → All (λ d. d.seen ≡ record { table = t; log = start }) desks
-    → All (λ d. KeepsOneOf count d.work.left) desks → Legal o.table.shape o.table.opening start → All (IsReady o start count) seats
+    → map desk_of seats ≡ desks → All (λ d. d.seen ≡ record { table = t; log = start }) desks
+    → All (λ d. KeepsOneOf count d.work.left) desks → Legal o.table.shape o.table.opening start → All (CanGoOn o start count) seats
 ready-seats o start count t seats desks is told keeps legal = λ k d l.
     let Told : Desked → Type 0 = λ d. d.seen ≡ record { table = t; log = start } in
     let Keeps : Desked → Type 0 = λ d. KeepsOneOf count d.work.left in
-    let seen = all-unmapped Told desk_of (backward seats) (subst (All Told) (sym is) told) in
-    let kept = all-unmapped Keeps desk_of (backward seats) (subst (All Keeps) (sym is) keeps) in
-    let seen' = all-forward (λ (s : Seated). Told (desk_of s)) seats seen k d l in
-    let log : (get_or seats k d).seen.log ≡ start = ap (λ (z : Seen). z.log) seen' in
+    let seen = all-unmapped Told desk_of seats (subst (All Told) (sym is) told) in
+    let kept = all-unmapped Keeps desk_of seats (subst (All Keeps) (sym is) keeps) in
+    let log : (get_or seats k d).seen.log ≡ start = ap (λ (z : Seen). z.log) (seen k d l) in
     record {
       told = subst (IsPrefix start) (sym log) (prefix_self start);
       legal = subst (λ (z : List Event). Legal o.table.shape o.table.opening z) (sym log) legal;
-      keeps = all-forward (λ (s : Seated). Keeps (desk_of s)) seats kept k d l;
+      keeps = kept k d l;
     }
 
 -- what becomes of a seat in a round
 abbrev pub Steps : Opened → List Event → ℕ → List Update → List ℕ → Seated → Seated → Type 0
 Steps o start first batch order a b = Works o start first batch order a b × KeepsIfSpent o b.seen.log b.work.left
 
-module _ (o : Opened) (start log : List Event) (first : ℕ) (batch : List Update) (order : List ℕ) (count : ℕ) (queue : Filled)
+module _ (o : Opened) (start log : List Event) (first : ℕ) (batch : List Update) (order : List ℕ) (count : ℕ) (queue : FilledQueue)
   where
     abbrev Mine : Seated → Seated → Type 0
     Mine = Steps o start first batch order
 
-    pub hired-consumers : (olds news : List Seated) → AllZip Mine olds news → All (IsHired queue) olds
+    pub seat-consumers : (olds news : List Seated) → AllZip Mine olds news → All (IsFreshSeat queue) olds
         → All (λ s. (s.consumer.queue ≡ queue) × (s.consumer.parts ≡ 1)) news
-    hired-consumers [] [] h hired = All-nil _
-    hired-consumers [] (b ∷ bs) h hired = absurd h
-    hired-consumers (a ∷ as') [] h hired = absurd h
-    hired-consumers (a ∷ as') (b ∷ bs) h hired =
+    seat-consumers [] [] h fresh = All-nil _
+    seat-consumers [] (b ∷ bs) h fresh = absurd h
+    seat-consumers (a ∷ as') [] h fresh = absurd h
+    seat-consumers (a ∷ as') (b ∷ bs) h fresh =
         let w : Works o start first batch order a b = h.0.0 in
-        let mine = (All-head (IsHired queue) a as' hired).consumer in
+        let mine = (All-head (IsFreshSeat queue) a as' fresh).consumer in
         All-cons (λ s. (s.consumer.queue ≡ queue) × (s.consumer.parts ≡ 1)) b bs
         (w.queue ∙ ap (λ (k : Consuming). k.queue) mine, w.parts ∙ ap (λ (k : Consuming). k.parts) mine)
-        (hired-consumers as' bs h.1 (All-tail (IsHired queue) a as' hired))
+        (seat-consumers as' bs h.1 (All-tail (IsFreshSeat queue) a as' fresh))
 
-    pub have-worked : (olds news : List Seated) → AllZip Mine olds news → All (IsHired queue) olds → All (IsReady o start count) olds
+    pub have-worked : (olds news : List Seated) → AllZip Mine olds news → All (IsFreshSeat queue) olds → All (CanGoOn o start count) olds
         → All (λ (s : Seated). IsPrefix s.seen.log log) news → AllZip (HasWorked o start log first batch order) olds news
-    have-worked [] [] h hired ready within = tt
-    have-worked [] (b ∷ bs) h hired ready within = absurd h
-    have-worked (a ∷ as') [] h hired ready within = absurd h
-    have-worked (a ∷ as') (b ∷ bs) h hired ready within =
+    have-worked [] [] h fresh ready within = tt
+    have-worked [] (b ∷ bs) h fresh ready within = absurd h
+    have-worked (a ∷ as') [] h fresh ready within = absurd h
+    have-worked (a ∷ as') (b ∷ bs) h fresh ready within =
         let w : Works o start first batch order a b = h.0.0 in
-        let mine = All-head (IsHired queue) a as' hired in
-        let r = All-head (IsReady o start count) a as' ready in (
+        let mine = All-head (IsFreshSeat queue) a as' fresh in
+        let r = All-head (CanGoOn o start count) a as' ready in (
           record {
             works = w;
             told = prefix_trans start a.seen.log b.seen.log r.told w.longer;
@@ -302,30 +270,26 @@ module _ (o : Opened) (start log : List Event) (first : ℕ) (batch : List Updat
             nothing_counted = mine.amount;
             nothing_taken = ap (λ (k : Consuming). k.taken) mine.consumer;
           },
-          have-worked as' bs h.1 (All-tail (IsHired queue) a as' hired) (All-tail (IsReady o start count) a as' ready)
+          have-worked as' bs h.1 (All-tail (IsFreshSeat queue) a as' fresh) (All-tail (CanGoOn o start count) a as' ready)
               (All-tail (λ (s : Seated). IsPrefix s.seen.log log) b bs within),
         )
 
     -- What a round has made, by the desks before it and after it.
     pub round-made : (seats news : List Seated) (olds : List Desked) (told : List Desked) (before after : List ℕ) (made : ℕ)
-        → Legal o.table.shape o.table.opening log → map desk_of (backward seats) ≡ olds → AllZip Mine seats news → All (IsHired queue) seats
-        → All (IsReady o start count) seats → All (λ d. IsPrefix d.seen.log log) (map desk_of (backward news))
-        → map (λ d. d.work) told ≡ map (λ d. d.work) (map desk_of (backward news)) → after ≡ before ++ at_turns order (all_taken (backward news))
-        → made ≡ amounts (backward news)
+        → Legal o.table.shape o.table.opening log → map desk_of seats ≡ olds → AllZip Mine seats news → All (IsFreshSeat queue) seats
+        → All (CanGoOn o start count) seats → All (λ d. IsPrefix d.seen.log log) (map desk_of news)
+        → map (λ d. d.work) told ≡ map (λ d. d.work) (map desk_of news) → after ≡ before ++ at_turns order (all_taken news) → made ≡ amounts news
         → Rounds o start log first batch (map (λ d. d.work) olds) (map (λ d. d.work) told) before after made
-    round-made seats news olds told before after made legal is steps hired ready within works taken total =
+    round-made seats news olds told before after made legal is steps fresh ready within works taken total =
         let W : List Desked → List Work = λ ds. map (λ (d : Desked). d.work) ds in
-        let zip = have-worked (backward seats) (backward news) (zip-backward Mine seats news steps) (all-backward (IsHired queue) seats hired)
-        (all-backward (IsReady o start count) seats ready)
-        (all-unmapped (λ (d : Desked). IsPrefix d.seen.log log) desk_of (backward news) within) in
-        let r = rounds-of o start log first batch order legal before (backward seats) (backward news) zip in
-        let here : works_at (backward seats) ≡ W olds = sym (works-of (backward seats)) ∙ ap W is in
-        let there : works_at (backward news) ≡ W told = sym (works-of (backward news)) ∙ sym works in
+        let zip = have-worked seats news steps fresh ready (all-unmapped (λ (d : Desked). IsPrefix d.seen.log log) desk_of news within) in
+        let r = rounds-of o start log first batch order legal before seats news zip in
+        let here : works_at seats ≡ W olds = sym (works-of seats) ∙ ap W is in
+        let there : works_at news ≡ W told = sym (works-of news) ∙ sym works in
         subst (λ (z : List Work). Rounds o start log first batch z (W told) before after made) here
-        (subst (λ (z : List Work). Rounds o start log first batch (works_at (backward seats)) z before after made) there
-        (subst (λ (z : List ℕ). Rounds o start log first batch (works_at (backward seats)) (works_at (backward news)) before z made) (sym taken)
-        (subst (λ (z : ℕ). Rounds o start log first batch (works_at (backward seats)) (works_at (backward news)) before
-        (before ++ at_turns order (all_taken (backward news))) z)
+        (subst (λ (z : List Work). Rounds o start log first batch (works_at seats) z before after made) there
+        (subst (λ (z : List ℕ). Rounds o start log first batch (works_at seats) (works_at news) before z made) (sym taken)
+        (subst (λ (z : ℕ). Rounds o start log first batch (works_at seats) (works_at news) before (before ++ at_turns order (all_taken news)) z)
         (sym total) r)))
 
 -- what is in its place still is as it was

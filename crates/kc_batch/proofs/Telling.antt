@@ -17,9 +17,10 @@ use Rattle.kc_journal.specs.Entering.{entry_of}
 use Rattle.kc_journal.specs.Journals.{Journalled, Stands, entries_here}
 use Rattle.kc_journal.specs.declared.answer.Receipt.{Receipt}
 use Rattle.kc_journal.proofs.AfterEntry.{number-is}
-use Rattle.kc_stripes.specs.Records.{Opened}
+use Rattle.kc_table.specs.Log.{Opened}
 use Rattle.kc_shared.specs.Answers.{IsReceipt}
-use Rattle.kc_batch.specs.Receipts.{IsReceiptOf, IsUpdateAt}
+use Rattle.kc_batch_effects.specs.Entered.{IsUpdateAt}
+use Rattle.kc_batch.specs.Receipts.{IsReceiptOf}
 use Rattle.kc_batch.specs.Runs.{StaysIn}
 use Rattle.kc_batch.specs.Seats.{IsReceiptIn}
 use Rattle.kc_batch.proofs.Lists.{prefix-same, prefix-shorter}

@@ -5,11 +5,11 @@ use Rattle.std.specs.List.Sorted.{IsPermutation}
 use Rattle.std.proofs.lemmas.Bool.{false_from_ne_true, false≢true}
 use Rattle.std.proofs.lemmas.List.{map-append}
 use Rattle.std.proofs.lemmas.List.Sorted.{sum_by-IsPermutation}
-use Rattle.kc_distinct.specs.Lists.{Distinct, below, member, times}
-use Rattle.kc_distinct.proofs.Counting.{Distinct-below, below-member, count-all, count-le, length-below, member-get_or, distinct_times, member_times}
-use Rattle.kc_distinct.proofs.Counting.{times_distinct, times_member}
-use Rattle.kc_distinct.proofs.Members.{below_bound, member-cases, member-head, member-tail}
-use Rattle.kc_queue.specs.Shares.{IsShare, IsWhole}
+use Rattle.kc_lists.specs.Lists.{Distinct, below, member, times}
+use Rattle.kc_lists.proofs.Counting.{Distinct-below, below-member, count-all, count-le, length-below, member-get_or, distinct_times, member_times}
+use Rattle.kc_lists.proofs.Counting.{times_distinct, times_member}
+use Rattle.kc_lists.proofs.Members.{below_bound, member-cases, member-head, member-tail}
+use Rattle.kc_queue.specs.Shares.{IsShare, AreAllBelow}
 use Rattle.kc_batch.specs.Desks.{at_turns}
 
 -- turns that come behind others have their places behind those of the others
@@ -23,7 +23,7 @@ distinct_within-fewer xs ys d h =
     omega (arith, count-le any xs ys d (λ x m t. h x m), count-all any xs (λ x m. refl), count-all any ys (λ x m. refl))
 
 -- all numbers below a count are as many
-pub whole-length : (n : ℕ) (taken : List ℕ) → IsWhole n taken → length taken ≡ n
+pub whole-length : (n : ℕ) (taken : List ℕ) → AreAllBelow n taken → length taken ≡ n
 whole-length n taken whole =
     omega (
       arith,
@@ -72,7 +72,7 @@ turn-of (x ∷ xs) place m = elim (member-cases place x xs m) [
   | inr k ↦ let h = turn-of xs place k in (suc h.0, omega (arith, h.1), h.2)
 ]
 
-module _ {n : ℕ} {order : List ℕ} (whole : IsWhole n order) where
+module _ {n : ℕ} {order : List ℕ} (whole : AreAllBelow n order) where
   -- the order is as long as there are turns
   long : length order ≡ n
   long = whole-length n order whole
@@ -104,7 +104,7 @@ module _ {n : ℕ} {order : List ℕ} (whole : IsWhole n order) where
   }
 
   -- and all turns have all places
-  pub whole-turned : (turns : List ℕ) → IsWhole n turns → IsWhole n (at_turns order turns)
+  pub whole-turned : (turns : List ℕ) → AreAllBelow n turns → AreAllBelow n (at_turns order turns)
   whole-turned turns all = record {
     share = share-turned turns all.share;
     all = λ place l.
@@ -114,7 +114,7 @@ module _ {n : ℕ} {order : List ℕ} (whole : IsWhole n order) where
   }
 
 -- all numbers below a count are so in any order
-pub whole-permuted : (n : ℕ) (xs ys : List ℕ) → IsPermutation xs ys → IsWhole n xs → IsWhole n ys
+pub whole-permuted : (n : ℕ) (xs ys : List ℕ) → IsPermutation xs ys → AreAllBelow n xs → AreAllBelow n ys
 whole-permuted n xs ys p whole =
     let same : (x : ℕ) → times x ys ≡ times x xs = λ x. sum_by-IsPermutation (λ (y : ℕ). cond (eqb x y) 1 0) xs ys p in
     record {

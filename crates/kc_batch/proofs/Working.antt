@@ -4,26 +4,28 @@ use Rattle.std.proofs.Common.{inl, inr, refl, sym, ap, ◌∙◌, subst, arith, 
 use mathlib.Core.List.{IsPrefix}
 use Rattle.std.proofs.lemmas.List.{map-append}
 use Rattle.std.proofs.lemmas.List.Elements.{All-append, All-cons, All-nil, All-weaker}
-use Rattle.kc_distinct.specs.Lists.{times}
+use Rattle.kc_lists.specs.Lists.{times}
 use Rattle.kc_graph.specs.declared.update.Update.{Update}
 use Rattle.kc_table.specs.declared.view.Event.{Event}
 use Rattle.kc_table.specs.Legal.{Legal}
 use Rattle.kc_table.specs.Log.{Seen}
 use Rattle.kc_table.proofs.Prefixes.{prefix_self, prefix_trans}
+use Rattle.kc_journal.specs.declared.answer.EnterFault.TheVariants as enter
 use Rattle.kc_journal.specs.declared.answer.Receipt.{Receipt}
 use Rattle.kc_queue.specs.Shares.{Consuming}
 use Rattle.kc_queue.proofs.Counts.{times-append}
-use Rattle.kc_stripes.specs.Records.{Opened}
-use Rattle.kc_shared.specs.Answers.{IsReceipt}
+use Rattle.kc_table.specs.Log.{Opened}
+use Rattle.kc_shared.specs.Answers.{IsReceipt, entered_at}
 use Rattle.kc_shared.specs.Misses.{IsTrueMiss}
+use Rattle.kc_shared.specs.declared.fault.SharedFault.{SharedFault}
+use Rattle.kc_shared.specs.declared.fault.SharedFault.TheVariants as fault
 use Rattle.kc_shared.proofs.Staying.{stays-true}
-use Rattle.kc_workers.specs.Updates.{HasUpdateCause, IsDone, entered_by}
+use Rattle.kc_workers.specs.Updates.{HasUpdateCause, IsUpdateDone}
 use Rattle.kc_workers.specs.declared.done.Done.{Done}
-use Rattle.kc_workers.specs.declared.fault.UpdateFault.{UpdateFault}
-use Rattle.kc_workers.specs.declared.fault.UpdateFault.TheVariants as fault
-use Rattle.kc_batch.specs.Desks.{KeepsOneOf, Work, at_places, at_turns, in_hand, receipts_of, untold}
-use Rattle.kc_batch.specs.Receipts.{IsUpdateAt, told_indices}
-use Rattle.kc_batch.specs.Seats.{HasTrueMisses, IsReady, IsReceiptIn, KeepsIfSpent, Seated, Works, noted}
+use Rattle.kc_batch.specs.Desks.{Desked, KeepsOneOf, Work, at_places, at_turns, in_hand, receipts_of, untold}
+use Rattle.kc_batch_effects.specs.Entered.{IsUpdateAt}
+use Rattle.kc_batch.specs.Receipts.{told_indices}
+use Rattle.kc_batch.specs.Seats.{HasTrueMisses, CanGoOn, IsReceiptIn, KeepsIfSpent, Seated, Works, noted}
 use Rattle.kc_batch.specs.declared.left.Left.{Left}
 use Rattle.kc_batch.specs.declared.left.Left.TheVariants.{Nothing, Kept, Dropped, Untold}
 use Rattle.kc_batch.proofs.Going.{nearly_spent}
@@ -185,7 +187,7 @@ module _ (o : Opened) (start : List Event) (first : ℕ) (batch : List Update) (
   -- The update is entered.
   pub seat-finishes : (s : Seated) (place amount : ℕ) (seen : Seen) (update : Update) (done : Done) → s.work.left ≡ Kept place → amount ≡ s.amount + 1
       → IsPrefix start s.seen.log → IsPrefix s.seen.log seen.log → Legal o.table.shape o.table.opening seen.log
-      → IsUpdateAt first batch (first + place) update → IsDone o s.seen.log seen.log (first + place) update done
+      → IsUpdateAt first batch (first + place) update → IsUpdateDone o s.seen.log seen.log (first + place) update done
       → Works o start first batch order s
       (record s { seen = seen; amount = amount; work = record { done = s.work.done ++ done ∷ []; left = Nothing } })
   seat-finishes s place amount seen update done kept more told pre legal at h =
@@ -225,22 +227,24 @@ module _ (o : Opened) (start : List Event) (first : ℕ) (batch : List Update) (
       pre legal (receipt_in o start s.seen.log seen.log first batch (first + place) update receipt told at h) (All-nil (HasTrueMisses o start seen.log))
 
   -- So it is whatever became of the update.
-  pub seat-tries : (s : Seated) (place amount : ℕ) (seen : Seen) (update : Update) (outcome : Result Done UpdateFault) → s.work.left ≡ Kept place
+  pub seat-tries : (s : Seated) (place amount : ℕ) (seen : Seen) (update : Update) (outcome : Result Done SharedFault) → s.work.left ≡ Kept place
       → IsPrefix start s.seen.log → IsPrefix s.seen.log seen.log → Legal o.table.shape o.table.opening seen.log
       → IsUpdateAt first batch (first + place) update
-      → IfOk outcome (λ done. IsDone o s.seen.log seen.log (first + place) update done)
+      → IfOk outcome (λ done. IsUpdateDone o s.seen.log seen.log (first + place) update done)
       → IfErr outcome (λ fault. HasUpdateCause o s.seen.log seen.log (first + place) update fault)
-      → MatchResult outcome (λ done. amount ≡ s.amount + 1) (λ fault. amount ≡ s.amount + entered_by fault)
+      → MatchResult outcome (λ done. amount ≡ s.amount + 1) (λ fault. amount ≡ s.amount + entered_at fault)
       → Works o start first batch order s (record s { seen = seen; amount = amount; work = noted place outcome s.work })
   seat-tries s place amount seen update (Ok one) kept told pre legal at done cause more =
       seat-finishes s place amount seen update one kept more told pre legal at done
-  seat-tries s place amount seen update (Err (fault.Spent highest needed)) kept told pre legal at done cause more =
+  seat-tries s place amount seen update (Err (fault.Enter (enter.Full entries))) kept told pre legal at done cause more =
       seat-keeps s place amount seen (omega arith) pre legal
-  seat-tries s place amount seen update (Err (fault.Full entries)) kept told pre legal at done cause more =
+  seat-tries s place amount seen update (Err (fault.Enter (enter.Stale vertex edges used now))) kept told pre legal at done cause more =
+      absurd cause
+  seat-tries s place amount seen update (Err (fault.Enter (enter.Spent highest needed))) kept told pre legal at done cause more =
       seat-keeps s place amount seen (omega arith) pre legal
-  seat-tries s place amount seen update (Err (fault.NoMemory None)) kept told pre legal at done cause more =
+  seat-tries s place amount seen update (Err (fault.Enter enter.NoMemory)) kept told pre legal at done cause more =
       seat-drops s place amount seen kept (omega arith) pre legal
-  seat-tries s place amount seen update (Err (fault.NoMemory (Some receipt))) kept told pre legal at done cause more =
+  seat-tries s place amount seen update (Err (fault.Untold receipt)) kept told pre legal at done cause more =
       leaves-untold s place amount seen update receipt kept more told pre legal at cause
 
   -- One step after the other.
@@ -271,7 +275,7 @@ module _ (o : Opened) (start : List Event) (first : ℕ) (batch : List Update) (
 -- What became of the update at this place, which was kept: what the worker has seen then, what its part of the ledger counts, and its work.
 pub record IsTried (o : Opened) (first : ℕ) (batch : List Update) (s : Seated) (place : ℕ) (seen : Seen) (amount : ℕ) (work : Work) : Type 0 where
   pub update : Update
-  pub outcome : Result Done UpdateFault
+  pub outcome : Result Done SharedFault
   pub had : List Done
   pub kept : s.work.left ≡ Kept place
   pub is : had ≡ s.work.done
@@ -280,9 +284,9 @@ pub record IsTried (o : Opened) (first : ℕ) (batch : List Update) (s : Seated)
   pub at : update ≡ get_or batch place update
   pub longer : IsPrefix s.seen.log seen.log
   pub legal : Legal o.table.shape o.table.opening seen.log
-  pub entered : IfOk outcome (λ done. IsDone o s.seen.log seen.log (first + place) update done)
+  pub entered : IfOk outcome (λ done. IsUpdateDone o s.seen.log seen.log (first + place) update done)
   pub cause : IfErr outcome (λ fault. HasUpdateCause o s.seen.log seen.log (first + place) update fault)
-  pub counted : MatchResult outcome (λ done. amount ≡ s.amount + 1) (λ fault. amount ≡ s.amount + entered_by fault)
+  pub counted : MatchResult outcome (λ done. amount ≡ s.amount + 1) (λ fault. amount ≡ s.amount + entered_at fault)
 
 -- so it is noted from the work that the worker had
 noted-so : {o : Opened} {first : ℕ} {batch : List Update} {s : Seated} {place : ℕ} {seen : Seen} {amount : ℕ} {work : Work}
@@ -290,16 +294,17 @@ noted-so : {o : Opened} {first : ℕ} {batch : List Update} {s : Seated} {place 
 noted-so {s = s} {place = place} t = ap (λ (z : List Done). noted place t.outcome (record { done = z; left = s.work.left })) (sym t.is) ∙ t.notes
 
 -- where an update is kept after that, versions are spent
-spent-so : (o : Opened) (first : ℕ) (w : Work) (place : ℕ) (old new : List Event) (update : Update) (outcome : Result Done UpdateFault)
+spent-so : (o : Opened) (first : ℕ) (w : Work) (place : ℕ) (old new : List Event) (update : Update) (outcome : Result Done SharedFault)
     → IfErr outcome (λ fault. HasUpdateCause o old new (first + place) update fault) → w.left ≡ Kept place
     → KeepsIfSpent o new (noted place outcome w).left
 spent-so o first w place old new update (Ok done) cause kept = tt
-spent-so o first w place old new update (Err (fault.Spent highest needed)) cause kept =
-    subst (KeepsIfSpent o new) (sym kept) (inl (nearly_spent o.table new highest needed cause))
-spent-so o first w place old new update (Err (fault.Full entries)) cause kept =
+spent-so o first w place old new update (Err (fault.Enter (enter.Full entries))) cause kept =
     subst (KeepsIfSpent o new) (sym kept) (inr (omega (arith, cause.0, cause.1)))
-spent-so o first w place old new update (Err (fault.NoMemory None)) cause kept = tt
-spent-so o first w place old new update (Err (fault.NoMemory (Some receipt))) cause kept = tt
+spent-so o first w place old new update (Err (fault.Enter (enter.Stale vertex edges used now))) cause kept = absurd cause
+spent-so o first w place old new update (Err (fault.Enter (enter.Spent highest needed))) cause kept =
+    subst (KeepsIfSpent o new) (sym kept) (inl (nearly_spent o.table new highest needed cause))
+spent-so o first w place old new update (Err (fault.Enter enter.NoMemory)) cause kept = tt
+spent-so o first w place old new update (Err (fault.Untold receipt)) cause kept = tt
 
 -- So it is here.
 pub tried-spent : {o : Opened} {first : ℕ} {batch : List Update} {s : Seated} {place : ℕ} {seen : Seen} {amount : ℕ} {work : Work}
@@ -308,8 +313,15 @@ tried-spent {o} {first} {batch} {s} {place} {seen} {amount} {work} t =
     subst (λ (z : Work). KeepsIfSpent o seen.log z.left) (noted-so t)
     (spent-so o first s.work place s.seen.log seen.log t.update t.outcome t.cause t.kept)
 
+-- A seat is known by what its desk is.
+pub seat-is : {d e : Desked} {amount : ℕ} {consumer : Consuming} {number : ℕ} {now : Seated} → d ≡ e
+    → record { seen = e.seen; work = e.work; amount = amount; consumer = consumer; number = number } ≡ now
+    → record { seen = d.seen; work = d.work; amount = amount; consumer = consumer; number = number } ≡ now
+seat-is {d} {e} {amount} {consumer} {number} {now} desk seat =
+    ap (λ (z : Desked). record { seen = z.seen; work = z.work; amount = amount; consumer = consumer; number = number }) desk ∙ seat
+
 -- The same as a step of a worker is seen, which is known as `now` from before.
-module _ {o : Opened} {start : List Event} {count : ℕ} {s now : Seated} (same : s ≡ now) (ready : IsReady o start count now) where
+module _ {o : Opened} {start : List Event} {count : ℕ} {s now : Seated} (same : s ≡ now) (ready : CanGoOn o start count now) where
   -- what the seat has seen is legal
   legal-now : Legal o.table.shape o.table.opening s.seen.log
   legal-now = subst (λ (n : Seated). Legal o.table.shape o.table.opening n.seen.log) (sym same) ready.legal

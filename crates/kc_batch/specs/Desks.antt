@@ -1,7 +1,7 @@
 -- What contracts see of a worker's desk, and how what was taken is counted.
 use Rattle.std.specs.Prelude.{◌<◌, ◌+◌, ⊤, ℕ, List, [], ◌∷◌, ◌++◌, Option, None, Some, map, slice_index_or}
 use Rattle.std.specs.List.{flat_map}
-use Rattle.kc_distinct.specs.Lists.{times}
+use Rattle.kc_lists.specs.Lists.{times}
 use Rattle.kc_table.specs.Log.{Seen}
 use Rattle.kc_journal.specs.declared.answer.Receipt.{Receipt}
 use Rattle.kc_workers.specs.declared.done.Done.{Done}

@@ -1,20 +1,14 @@
 -- What a batch's updates have become of a run: entries, each told by one receipt. Nothing here speaks of tables.
 use Rattle.std.specs.Prelude.{◌≡◌, ◌≤◌, ◌<◌, ◌+◌, ℕ, true, List, ◌∷◌, ◌++◌, All, length, map}
-use Rattle.kc_distinct.specs.Lists.{Distinct, member}
+use Rattle.kc_lists.specs.Lists.{Distinct, member}
 use Rattle.kc_graph.specs.SimpleGraph.{SimpleGraph}
 use Rattle.kc_graph.specs.declared.update.Update.{Update}
 use Rattle.kc_table.specs.declared.entry.Entry.{Entry}
 use Rattle.kc_table.specs.Edges.{after_entries}
 use Rattle.kc_agree.specs.Stamps.{changes_graph}
+use Rattle.kc_batch_effects.specs.Entered.{IsUpdateAt}
 use Rattle.kc_journal.specs.Entering.{entry_of}
 use Rattle.kc_journal.specs.declared.answer.Receipt.{Receipt}
-
--- The batch has this update under this index: its updates are numbered in turn from `first` on.
-pub record IsUpdateAt (first : ℕ) (batch : List Update) (index : ℕ) (update : Update) : Type 0 where
-  pub front : List Update
-  pub back : List Update
-  pub is : batch ≡ front ++ update ∷ back
-  pub index_is : index ≡ first + length front
 
 -- The receipt names an entry behind the first `from`: it is the update of the batch that has the receipt's index, its place in the run is
 -- the receipt's, and the receipt tells whether it changed the edges that the entries before it have made.
@@ -28,19 +22,6 @@ pub record IsReceiptOf (started : SimpleGraph) (entries : List Entry) (first : �
   pub place_is : receipt.place ≡ length front + 1
   pub later : from ≤ length front
   pub applied : receipt.applied ≡ changes_graph (entry_of receipt.index update) (after_entries started front)
-
--- the entry is an update of the batch, under its index
-abbrev pub IsOneOf : ℕ → List Update → Entry → Type 0
-IsOneOf first batch e = (update : Update) × IsUpdateAt first batch e.index update × (e ≡ entry_of e.index update)
-
--- the indices of entries
-abbrev pub indices : List Entry → List ℕ
-indices made = map (λ e. e.index) made
-
--- Each of these entries is an update of the batch, and none comes twice.
-pub record AreSomeOf (first : ℕ) (batch : List Update) (made : List Entry) : Type 0 where
-  pub each : All (IsOneOf first batch) made
-  pub once : Distinct (indices made)
 
 -- the indices that receipts tell of
 abbrev pub told_indices : List Receipt → List ℕ
@@ -56,7 +37,7 @@ pub record AreReceiptsOf (started : SimpleGraph) (entries : List Entry) (first :
   pub all : All (λ e. member e.index (told_indices receipts) ≡ true) made
 
 -- Each update of the batch has one receipt among these, and there is no other.
-pub record AreAllOf (started : SimpleGraph) (entries : List Entry) (first : ℕ) (batch : List Update) (from : ℕ) (receipts : List Receipt)
+pub record AreBatchReceipts (started : SimpleGraph) (entries : List Entry) (first : ℕ) (batch : List Update) (from : ℕ) (receipts : List Receipt)
     : Type 0 where
   pub each : All (IsReceiptOf started entries first batch from) receipts
   pub once : Distinct (told_indices receipts)

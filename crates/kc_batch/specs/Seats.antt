@@ -2,8 +2,9 @@
 use Rattle.std.specs.Prelude.{◌≡◌, ◌<◌, ◌≤◌, ◌+◌, ◌⊎◌, ⊤, ℕ, List, [], ◌∷◌, ◌++◌, All, Contains, None, Some, Result, Ok, Err, length, sum_by}
 use Rattle.std.specs.List.{flat_map}
 use mathlib.Core.List.{IsPrefix}
-use Rattle.kc_distinct.specs.Lists.{times}
+use Rattle.kc_lists.specs.Lists.{times}
 use Rattle.kc_graph.specs.declared.update.Update.{Update}
+use Rattle.kc_words.specs.declared.layout.TheConstants.{INDICES}
 use Rattle.kc_table.specs.declared.entry.Entry.{Entry}
 use Rattle.kc_table.specs.declared.view.Event.{Event}
 use Rattle.kc_table.specs.Edges.{after_entries}
@@ -11,20 +12,22 @@ use Rattle.kc_table.specs.Legal.{Legal}
 use Rattle.kc_table.specs.Log.{Seen}
 use Rattle.kc_agree.specs.Stamps.{changes_graph, made_by, number_of}
 use Rattle.kc_levels.specs.declared.levels.TheConstants.{LAST_NUMBER}
+use Rattle.kc_batch_effects.specs.Entered.{IsUpdateAt}
 use Rattle.kc_journal.specs.Entering.{entry_of}
+use Rattle.kc_journal.specs.declared.answer.EnterFault.TheVariants as enter
 use Rattle.kc_journal.specs.declared.answer.Receipt.{Receipt}
-use Rattle.kc_queue.specs.Shares.{Consuming, Filled}
-use Rattle.kc_stripes.specs.Records.{Opened}
+use Rattle.kc_queue.specs.Shares.{AreAllBelow, Consuming, FilledQueue}
+use Rattle.kc_table.specs.Log.{Opened}
 use Rattle.kc_shared.specs.Misses.{IsTrueMiss}
+use Rattle.kc_shared.specs.declared.fault.SharedFault.{SharedFault}
+use Rattle.kc_shared.specs.declared.fault.SharedFault.TheVariants as fault
 use Rattle.kc_shared.specs.declared.shared.TheConstants.{MISSES}
 use Rattle.kc_workers.specs.declared.done.Done.{Done}
-use Rattle.kc_workers.specs.declared.fault.UpdateFault.{UpdateFault}
-use Rattle.kc_workers.specs.declared.fault.UpdateFault.TheVariants as fault
 use Rattle.kc_batch.specs.Desks.{Desked, KeepsOneOf, Work, all_done, all_receipts, at_places, at_turns, receipts_of, times_had}
-use Rattle.kc_batch.specs.Receipts.{IsUpdateAt}
 use Rattle.kc_batch.specs.Runs.{IsNearlySpent}
 use Rattle.kc_batch.specs.declared.left.Left.{Left}
 use Rattle.kc_batch.specs.declared.left.Left.TheVariants as left
+use Rattle.kc_batch.specs.declared.turns.TurnQueue.{TurnQueue}
 
 -- what the worker has seen, its work, how many entries its part of the ledger counts, what it has taken of the queue, and its number
 pub record Seated : Type 0 where
@@ -39,9 +42,15 @@ abbrev pub desk_of : Seated → Desked
 desk_of s = record { seen = s.seen; work = s.work }
 
 -- It has entered nothing yet, and taken nothing of the queue.
-pub record IsHired (queue : Filled) (s : Seated) : Type 0 where
+pub record IsFreshSeat (queue : FilledQueue) (s : Seated) : Type 0 where
   pub consumer : s.consumer ≡ record { queue = queue; parts = 1; taken = [] }
   pub amount : s.amount ≡ 0
+
+-- There is one turn for each update of the batch, each place has one, and each update has an index.
+pub record AreTurnsOf (turns : TurnQueue) : Type 0 where
+  pub count : turns.queue.count ≡ length turns.batch.updates.now
+  pub order : AreAllBelow turns.queue.count turns.order.items
+  pub indices : turns.batch.first + length turns.batch.updates.now ≤ INDICES
 
 -- The log of the table has the entry that the receipt names, behind those of `start`: an update of the batch under its index. The receipt
 -- tells whether it changed the edges.
@@ -67,15 +76,16 @@ KeepsIfSpent o log (left.Dropped place) = ⊤
 KeepsIfSpent o log (left.Untold receipt) = ⊤
 
 -- the work after an update at this place was tried: it is done, or is kept, or is dropped, or was entered when memory ran out
-abbrev pub noted : ℕ → Result Done UpdateFault → Work → Work
+abbrev pub noted : ℕ → Result Done SharedFault → Work → Work
 noted place (Ok done) w = record { done = w.done ++ done ∷ []; left = left.Nothing }
-noted place (Err (fault.Spent highest needed)) w = w
-noted place (Err (fault.Full entries)) w = w
-noted place (Err (fault.NoMemory None)) w = record { done = w.done; left = left.Dropped place }
-noted place (Err (fault.NoMemory (Some receipt))) w = record { done = w.done; left = left.Untold receipt }
+noted place (Err (fault.Untold receipt)) w = record { done = w.done; left = left.Untold receipt }
+noted place (Err (fault.Enter (enter.Full entries))) w = w
+noted place (Err (fault.Enter (enter.Stale vertex edges used now))) w = w
+noted place (Err (fault.Enter (enter.Spent highest needed))) w = w
+noted place (Err (fault.Enter enter.NoMemory)) w = record { done = w.done; left = left.Dropped place }
 
 -- The worker knows what the log was when the round began, and may go on.
-pub record IsReady (o : Opened) (start : List Event) (count : ℕ) (s : Seated) : Type 0 where
+pub record CanGoOn (o : Opened) (start : List Event) (count : ℕ) (s : Seated) : Type 0 where
   pub told : IsPrefix start s.seen.log
   pub legal : Legal o.table.shape o.table.opening s.seen.log
   pub keeps : KeepsOneOf count s.work.left
@@ -98,10 +108,9 @@ pub record Works (o : Opened) (start : List Event) (first : ℕ) (batch : List U
   pub balance : (y : ℕ) → times_had first y new.work + times y (at_places first (at_turns order old.consumer.taken))
       ≡ times_had first y old.work + times y (at_places first (at_turns order new.consumer.taken))
 
--- the list from its end on
-abbrev pub backward : {A : Type 0} → List A → List A
-backward [] = []
-backward (x ∷ xs) = backward xs ++ x ∷ []
+-- The same, of what a queue of turns has.
+abbrev pub WorksOn : Opened → List Event → TurnQueue → Seated → Seated → Type 0
+WorksOn o start turns old new = Works o start turns.batch.first turns.batch.updates.now turns.order.items old new
 
 -- how many entries all of them count
 abbrev pub amounts : List Seated → ℕ
@@ -122,3 +131,8 @@ pub record Rounds (o : Opened) (start log : List Event) (first : ℕ) (batch : L
   pub balance : (y : ℕ) → sum_by (times_had first y) new + times y (at_places first before)
       ≡ sum_by (times_had first y) old + times y (at_places first after)
   pub spent : All (λ w. KeepsIfSpent o log w.left) new
+
+-- The same, of what a queue of turns has, and by the turns that were taken of it before the round and after it.
+abbrev pub RoundsOn : Opened → List Event → List Event → TurnQueue → List Work → List Work → List ℕ → List ℕ → ℕ → Type 0
+RoundsOn o start log turns old new before after made =
+    Rounds o start log turns.batch.first turns.batch.updates.now old new (at_turns turns.order.items before) (at_turns turns.order.items after) made

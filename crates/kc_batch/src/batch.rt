@@ -3,42 +3,43 @@ ghost use Rattle.std.specs.Prelude.{◌≡◌, ◌<◌, ◌≤◌, ◌+◌, ℕ,
 ghost use Rattle.std.specs.Prelude.{vec_len, vec_capacity};
 ghost use Rattle.kc_table.specs.Log.{TableName};
 ghost use Rattle.kc_queue.specs.declared.consumer.TheConstants.{WORKERS};
-ghost use Rattle.kc_queue.specs.Shares.{IsShare, IsWhole};
+ghost use Rattle.kc_queue.specs.Shares.{IsShare, AreAllBelow};
 ghost use Rattle.kc_levels.specs.declared.levels.TheConstants.{LAST_NUMBER};
-ghost use Rattle.kc_journal.specs.Journals.{Stands};
-ghost use Rattle.kc_workers.specs.declared.share.Share.{Share as ShareOf};
-ghost use Rattle.kc_batch.specs.Batches.{Account, BatchOf, IsCrew, IsCutShort, IsDone};
+ghost use Rattle.kc_journal.specs.Journals.{Journalled, Stands};
+ghost use Rattle.kc_workers.specs.declared.share.WorkerShare.{WorkerShare};
+ghost use Rattle.kc_batch.specs.Batches.{Account, IsBatchDone, IsCutShort, IsStateOfBatch};
 ghost use Rattle.kc_batch.specs.Desks.{KeepsOneOf, at_turns, untold_of};
-ghost use Rattle.kc_batch.specs.Seats.{backward};
+ghost use Rattle.kc_batch.specs.Seats.{AreTurnsOf};
 
-use crate::crew::Crew;
 use crate::desk::Desk;
 use crate::done::{BatchDone, CutShort};
+use crate::indexed::IndexedBatch;
 use crate::left::Left;
-use crate::line::Line;
 use crate::order::order_of;
-use crate::round::{round, tell_all};
-use kc_graph::{NoMemory, Update};
+use crate::round::{run_round, tell_all};
+use crate::state::BatchState;
+use crate::turns::TurnQueue;
+use kc_graph::NoMemory;
 use kc_queue::WorkQueue;
 use kc_shared::Parts;
 use kc_table::{Pass, shape};
 use kc_words::INDICES;
-use kc_workers::{Gate, Share, Worker};
+use kc_workers::{Gate, Worker, WorkerShare};
 use std::alloc::{AllocError, Global};
 use std::marker::Brand;
 use std::sync::Wait;
 use std::sync::ledger::Blank;
 use std::thread::Threads;
 
-/// Gives each worker a desk, the last one first. The list of workers keeps its room.
-fn sit_down(alloc: Global, workers: &mut Vec<Worker>, mut desks: Vec<Desk>) -> Vec<Desk>
+/// Gives each worker a desk. The list of workers keeps its room.
+fn open_desks(alloc: Global, workers: &mut Vec<Worker>, mut desks: Vec<Desk>) -> Vec<Desk>
     requires room { (desks.items ≡ []) × (vec_len workers.old ≤ vec_capacity desks) }
     ensures workers { (workers.new.items ≡ []) × (vec_len workers.old ≤ vec_capacity workers.new) }
     ensures as_many { vec_len result ≡ vec_len workers.old }
     ensures table { (t : TableName) → All (λ w. w.table ≡ t) workers.old.items → All (λ d. d.seen.table ≡ t) result.items }
     ensures nothing { All (λ d. d.work ≡ record { done = []; left = Left.Nothing }) result.items }
 {
-    while let Some(worker) = workers.pop() {
+    for worker in workers.drain(..) {
         desks.push_reserved(Desk {
             worker,
             done: Vec::new(alloc),
@@ -48,22 +49,26 @@ fn sit_down(alloc: Global, workers: &mut Vec<Worker>, mut desks: Vec<Desk>) -> V
     desks
 }
 
-/// Gives each worker back, the last one first, and what it has entered as its share.
-fn stand_up(mut desks: Vec<Desk>, workers: &mut Vec<Worker>, mut shares: Vec<Share>) -> Vec<Share>
+/// Gives each worker back, and what it has entered as its share.
+fn close_desks(
+    desks: Vec<Desk>,
+    workers: &mut Vec<Worker>,
+    mut shares: Vec<WorkerShare>,
+) -> Vec<WorkerShare>
     requires workers { (workers.old.items ≡ []) × (vec_len desks ≤ vec_capacity workers.old) }
     requires shares { (shares.items ≡ []) × (vec_len desks ≤ vec_capacity shares) }
     requires few { vec_len desks ≤ WORKERS }
-    ensures workers { workers.new.items ≡ map (λ d. d.seen) (backward desks.items) }
-    ensures done { map (λ s. s.done.items) result.items ≡ map (λ d. d.work.done) (backward desks.items) }
-    ensures untold { map (λ s. s.untold) result.items ≡ map (λ d. untold_of d.work.left) (backward desks.items) }
+    ensures workers { workers.new.items ≡ map (λ d. d.seen) desks.items }
+    ensures done { map (λ s. s.done.items) result.items ≡ map (λ d. d.work.done) desks.items }
+    ensures untold { map (λ s. s.untold) result.items ≡ map (λ d. untold_of d.work.left) desks.items }
     ensures one_each { vec_len result ≡ vec_len desks }
-    ensures numbered { (i : ℕ) (d : ShareOf) → i < length result.items → (slice_index_or result.items i d).worker ≡ i }
+    ensures numbered { (i : ℕ) (d : WorkerShare) → i < length result.items → (slice_index_or result.items i d).worker ≡ i }
 {
-    while let Some(desk) = desks.pop() {
+    for desk in desks {
         let Desk { worker, done, left } = desk;
         workers.push_reserved(worker);
         let number = shares.len() as u32;
-        shares.push_reserved(Share {
+        shares.push_reserved(WorkerShare {
             worker: number,
             done,
             untold: left.untold(),
@@ -77,92 +82,93 @@ fn stand_up(mut desks: Vec<Desk>, workers: &mut Vec<Worker>, mut shares: Vec<Sha
 fn work_off<G: Gate + Sync, R: Threads + Wait + Sync>(
     rt: &R,
     alloc: Global,
-    mut crew: Crew,
-    line: &Line,
-    first: u32,
-    batch: &[Update],
+    mut state: BatchState,
+    turns: &TurnQueue<'_>,
     gate: &G,
-) -> (Crew, Vec<Pass>, Result<(), NoMemory>)
-    ghost of: { BatchOf }
-    requires of { (of.first ≡ first) × (of.batch ≡ batch.now) }
-    requires crew { IsCrew of.old of.first of.batch [] line.now crew.parts.words crew.parts.journal crew.desks.items crew.consumer }
-    requires keeps { All (λ d. KeepsOneOf (length batch.now) d.work.left) crew.desks.items }
-    requires some { (0 < vec_len crew.desks) × (vec_len crew.desks ≤ WORKERS) }
-    requires count { line.now.queue.count ≡ length batch.now }
-    requires numbers { length of.old.entries + length of.batch ≤ LAST_NUMBER }
-    requires indices { first + length batch.now ≤ INDICES }
-    requires within { All (λ u. u.v < crew.parts.words.shape.fixed) batch.now }
-    ensures as_many { vec_len result.0.desks ≡ vec_len crew.desks }
-    ensures crew { IsCrew of.old of.first of.batch result.1.items line.now result.0.parts.words result.0.parts.journal
-        result.0.desks.items result.0.consumer }
-    ensures whole { OnOk result.2 (IsWhole line.now.queue.count (at_turns line.now.order.items result.0.consumer.taken)
+) -> (BatchState, Vec<Pass>, Result<(), NoMemory>)
+    ghost began: { Journalled }
+    requires state { IsStateOfBatch began turns.now [] state }
+    requires keeps { All (λ d. KeepsOneOf (length turns.now.batch.updates.now) d.work.left) state.desks.items }
+    requires some { (0 < vec_len state.desks) × (vec_len state.desks ≤ WORKERS) }
+    requires numbers { length began.entries + length turns.now.batch.updates.now ≤ LAST_NUMBER }
+    requires turns { AreTurnsOf turns.now }
+    requires within { All (λ u. u.v < state.parts.words.shape.fixed) turns.now.batch.updates.now }
+    ensures as_many { vec_len result.0.desks ≡ vec_len state.desks }
+    ensures state { IsStateOfBatch began turns.now result.1.items result.0 }
+    ensures whole { OnOk result.2 (AreAllBelow turns.now.queue.count (at_turns turns.now.order.items result.0.consumer.taken)
         × All (λ d. d.work.left ≡ Left.Nothing) result.0.desks.items) }
 {
     let mut ended = Vec::new(alloc);
     for _ in rt.forever() {
-        crew.parts.journal.look();
-        let blank = Blank::new(crew.desks.len() as u64);
-        crew = match round::<Brand, G, R>(rt, alloc, blank, crew, line, first, batch, gate) {
+        state.parts.journal.recall_stands();
+        let blank = Blank::new(state.desks.len() as u64);
+        state = match run_round::<Brand, G, R>(rt, alloc, blank, state, turns, gate) {
             Ok(after) => after,
             Err(before) => return (before, ended, Err(AllocError)),
         };
-        crew.parts.journal.look();
-        match crew.go_on(rt, alloc, line, &mut ended) {
+        state.parts.journal.recall_stands();
+        match state.go_on(rt, alloc, turns, &mut ended) {
             Ok(true) => {}
-            Ok(false) => return (crew, ended, Ok(())),
-            Err(fault) => return (crew, ended, Err(fault)),
+            Ok(false) => return (state, ended, Ok(())),
+            Err(fault) => return (state, ended, Err(fault)),
         }
     }
     unreachable!()
 }
 
-/// Works off a batch from desks that have been told all and have nothing left. Gives them back with the parts and what `work_off` gives, also
-/// where memory runs out.
+/// Works off a batch from desks that have been told all and have nothing left. Gives them back with the parts and what `work_off` gives,
+/// also where memory runs out.
 fn run_desks<G: Gate + Sync, R: Threads + Wait + Sync>(
     rt: &R,
     alloc: Global,
     parts: Parts,
     desks: Vec<Desk>,
-    first: u32,
-    batch: &[Update],
+    batch: IndexedBatch<'_>,
     gate: &G,
 ) -> (Parts, Vec<Desk>, Vec<Pass>, Result<(), NoMemory>)
     requires told { All (λ d. d.seen ≡ record { table = parts.words; log = parts.journal.levels.log }) desks.items }
     requires nothing { All (λ w. w ≡ record { done = []; left = Left.Nothing }) (map (λ d. d.work) desks.items) }
     requires some { (0 < vec_len desks) × (vec_len desks ≤ WORKERS) }
-    requires numbers { length parts.journal.entries + length batch.now ≤ LAST_NUMBER }
-    requires indices { first + length batch.now ≤ INDICES }
-    requires within { All (λ u. u.v < parts.words.shape.fixed) batch.now }
+    requires numbers { length parts.journal.entries + length batch.updates.now ≤ LAST_NUMBER }
+    requires indices { batch.first + length batch.updates.now ≤ INDICES }
+    requires within { All (λ u. u.v < parts.words.shape.fixed) batch.updates.now }
     ensures as_many { vec_len result.1 ≡ vec_len desks }
-    ensures worked { (taken : List ℕ) × IsShare (length batch.now) taken × OnOk result.3 (IsWhole (length batch.now) taken)
-        × Account parts.journal result.0.journal first batch.now result.2.items (map (λ d. d.work) result.1.items) taken }
+    ensures worked { (taken : List ℕ) × IsShare (length batch.entry.updates.now) taken
+        × OnOk result.3 (AreAllBelow (length batch.entry.updates.now) taken)
+        × Account parts.journal result.0.journal batch.entry.first batch.entry.updates.now result.2.items
+        (map (λ d. d.work) result.1.items) taken }
     ensures nothing { OnOk result.3 (All (λ d. d.work.left ≡ Left.Nothing) result.1.items) }
     ensures told { All (λ d. d.seen ≡ record { table = result.0.words; log = result.0.journal.levels.log }) result.1.items }
 {
-    parts.journal.look();
-    if batch.is_empty() {
+    parts.journal.recall_stands();
+    let updates = batch.updates;
+    if updates.is_empty() {
         return (parts, desks, Vec::new(alloc), Ok(()));
     }
-    let Ok((queue, consumer)) = WorkQueue::filled(rt, alloc, batch.len() as u32) else {
+    let Ok((queue, consumer)) = WorkQueue::filled(rt, alloc, updates.len() as u32) else {
         return (parts, desks, Vec::new(alloc), Err(AllocError));
     };
     let vertices = shape(&parts.words).fixed;
     let core_numbers = parts.journal.core_numbers();
-    let Ok(order) = order_of(alloc, vertices, core_numbers, batch) else {
+    let Ok(order) = order_of(alloc, vertices, core_numbers, updates) else {
         return (parts, desks, Vec::new(alloc), Err(AllocError));
     };
-    let line = Line { queue, order };
-    let crew = Crew {
+    let turns = TurnQueue {
+        batch,
+        queue,
+        order,
+    };
+    let state = BatchState {
         parts,
         desks,
         consumer,
     };
-    let (crew, ended, worked) = work_off(rt, alloc, crew, &line, first, batch, gate);
-    let Crew { parts, desks, .. } = crew;
+    let (state, ended, worked) = work_off(rt, alloc, state, &turns, gate);
+    let BatchState { parts, desks, .. } = state;
     (parts, desks, ended, worked)
 }
 
-/// Enters all updates of a batch. The update at place `i` of the batch, from 0, has the index `first + i`.
+/// Enters all updates of a batch. Each has the index that the batch gives it.
 ///
 /// There is one worker for each of `workers`, in a thread of its own where one can be made; a single worker runs on the caller's. They take
 /// the updates from one queue: removals first, from the innermost cores on, then insertions. The insertions of a large batch, of at least
@@ -171,7 +177,7 @@ fn run_desks<G: Gate + Sync, R: Threads + Wait + Sync>(
 /// an update that could not be entered for that is entered there. So a table is ended as often as versions were nearly spent.
 ///
 /// Removals come before insertions, so a batch is to name each pair at most once if it is to mean what its lines say: of `+ a b` and then
-/// `- a b` the edge is left. `kc_effects::decide` makes such a batch of any updates, by the rule that the last one of a pair wins.
+/// `- a b` the edge is left. `kc_batch_effects::decide` makes such a batch of any updates, by the rule that the last one of a pair wins.
 ///
 /// At Ok each update of the batch is an entry, once, and stands in one share, once, and no other entry was made. `CutShort` comes where
 /// there was no memory: then some of the updates were entered, each at most once, and each entry has one receipt in the shares. What has no
@@ -186,19 +192,20 @@ pub fn run_batch<G: Gate + Sync, R: Threads + Wait + Sync>(
     alloc: Global,
     mut parts: Parts,
     workers: &mut Vec<Worker>,
-    first: u32,
-    batch: &[Update],
+    batch: IndexedBatch<'_>,
     gate: &G,
 ) -> (Parts, Result<BatchDone, CutShort>)
     requires workers { (0 < vec_len workers.old) × (vec_len workers.old ≤ WORKERS) }
     requires table { All (λ w. w.table ≡ parts.words) workers.old.items }
-    requires indices { first + length batch.now ≤ INDICES }
-    requires within { All (λ u. u.v < parts.words.shape.fixed) batch.now }
-    requires numbers { length parts.journal.entries + length batch.now ≤ LAST_NUMBER }
+    requires indices { batch.first + length batch.updates.now ≤ INDICES }
+    requires within { All (λ u. u.v < parts.words.shape.fixed) batch.updates.now }
+    requires numbers { length parts.journal.entries + length batch.updates.now ≤ LAST_NUMBER }
     ensures stands { Stands result.0.journal }
     ensures words { result.0.journal.levels.table ≡ result.0.words }
-    ensures done { IfOk result.1 (λ done. IsDone parts.journal result.0.journal first batch.now (vec_len workers.old) done) }
-    ensures cut_short { IfErr result.1 (λ cut. IsCutShort parts.journal result.0.journal first batch.now (vec_len workers.old) cut) }
+    ensures done { IfOk result.1 (λ done.
+        IsBatchDone parts.journal result.0.journal batch.entry.first batch.entry.updates.now (vec_len workers.old) done) }
+    ensures cut_short { IfErr result.1 (λ cut.
+        IsCutShort parts.journal result.0.journal batch.entry.first batch.entry.updates.now (vec_len workers.old) cut) }
     ensures as_many { vec_len workers.new ≡ vec_len workers.old }
     ensures table { All (λ w. w.table ≡ result.0.words) workers.new.items }
     ensures told { OnOk result.1 (All (λ w. w ≡ record { table = result.0.words; log = result.0.journal.levels.log }) workers.new.items) }
@@ -212,10 +219,10 @@ pub fn run_batch<G: Gate + Sync, R: Threads + Wait + Sync>(
         let ended = Vec::new(alloc);
         return (parts, Err(CutShort { shares, ended }));
     };
-    let mut desks = sit_down(alloc, workers, desks);
+    let mut desks = open_desks(alloc, workers, desks);
     tell_all(&mut parts, &mut desks);
-    let (parts, desks, ended, worked) = run_desks(rt, alloc, parts, desks, first, batch, gate);
-    let shares = stand_up(desks, workers, shares);
+    let (parts, desks, ended, worked) = run_desks(rt, alloc, parts, desks, batch, gate);
+    let shares = close_desks(desks, workers, shares);
     match worked {
         Ok(()) => (parts, Ok(BatchDone { shares, ended })),
         Err(_) => (parts, Err(CutShort { shares, ended })),

@@ -5,7 +5,7 @@
 //! and taken from the end of that on: so each vertex comes with its edges to those that stay longer, and a plan looks at the vertex that
 //! has few edges yet.
 ghost use Rattle.std.specs.Prelude.{◌≡◌, ◌<◌, ◌≤◌, ℕ, All, IfOk, IfSome, length};
-ghost use Rattle.kc_queue.specs.Shares.{IsWhole};
+ghost use Rattle.kc_queue.specs.Shares.{AreAllBelow};
 
 use kc_graph::{Graph, Lawful, NoMemory, Update, decompose_owned};
 use kc_words::INDICES;
@@ -17,7 +17,7 @@ const VERTICES_AN_UPDATE: usize = 16;
 
 /// When an update is taken.
 #[derive(Clone, Copy, Debug, Drop, Eq, Ord, PartialEq, PartialOrd)]
-enum Turn {
+enum UpdateTurn {
     /// Before all insertions, by the lesser core number of the ends, from the greatest on.
     Removal(Reverse<Option<u32>>),
     /// By the places of the ends in the peeling, the lesser first, from the last places on.
@@ -58,18 +58,18 @@ fn level_of(update: Update, core_numbers: &[u32]) -> Option<u32> {
 }
 
 /// When an update is taken, by the core numbers, and by the peeling of its batch if there is one.
-fn turn_of(update: Update, core_numbers: &[u32], peeled: &Option<Lawful>) -> Turn
+fn turn_of(update: Update, core_numbers: &[u32], peeled: &Option<Lawful>) -> UpdateTurn
     requires within { IfSome peeled.now (λ p. update.v < p.graph.size) }
 {
     if !update.add {
-        return Turn::Removal(Reverse(level_of(update, core_numbers)));
+        return UpdateTurn::Removal(Reverse(level_of(update, core_numbers)));
     }
     match peeled {
         Some(peeled) => {
             let (u, v) = (peeled.place(update.u), peeled.place(update.v));
-            Turn::Insertion(Reverse((u.min(v), u.max(v))))
+            UpdateTurn::Insertion(Reverse((u.min(v), u.max(v))))
         }
-        None => Turn::Insertion(Reverse((0, 0))),
+        None => UpdateTurn::Insertion(Reverse((0, 0))),
     }
 }
 
@@ -79,7 +79,7 @@ fn turns_of(
     vertices: u32,
     core_numbers: &[u32],
     batch: &[Update],
-) -> Result<Vec<Turn>, NoMemory>
+) -> Result<Vec<UpdateTurn>, NoMemory>
     requires within { All (λ u. u.v < vertices) batch.now }
 {
     let peeled = peel(alloc, vertices, batch)?;
@@ -92,7 +92,7 @@ fn turns_of(
 
 /// The numbers below `count`, in order.
 fn places(alloc: Global, count: u32) -> Result<Vec<u32>, NoMemory>
-    ensures { IfOk result (λ places. IsWhole count places.items) }
+    ensures { IfOk result (λ places. AreAllBelow count places.items) }
 {
     let mut places = Vec::with_capacity(alloc, count as usize)?;
     for place in 0..count {
@@ -110,7 +110,7 @@ pub(crate) fn order_of(
 ) -> Result<Vec<u32>, NoMemory>
     requires indices { length batch.now ≤ INDICES }
     requires within { All (λ u. u.v < vertices) batch.now }
-    ensures order { IfOk result (λ order. IsWhole (length batch.now) order.items) }
+    ensures order { IfOk result (λ order. AreAllBelow (length batch.now) order.items) }
 {
     let turns = turns_of(alloc, vertices, core_numbers, batch)?;
     let mut order = places(alloc, batch.len() as u32)?;

@@ -3,12 +3,12 @@ ghost use Rattle.std.specs.Prelude.{◌≡◌, ◌<◌, ◌≤◌, All, length, 
 
 use crate::random::{VERTICES, assert_replayed, drawn_batch};
 use crate::runs::{FIRST, open};
-use kc_batch::run_batch;
+use kc_batch::{IndexedBatch, run_batch};
 use kc_graph::{Graph, Update};
 use kc_shared::Parts;
 use kc_table::shape;
 use kc_words::LAST_VERSION;
-use kc_workers::{NoGate, Share, Worker};
+use kc_workers::{NoGate, Worker, WorkerShare};
 use std::process::Abort;
 use std::sync::Wait;
 use std::test::Fail;
@@ -18,7 +18,7 @@ use std::thread::Threads;
 const NEXT: u32 = 1000;
 
 /// Whether the share has a receipt of this index.
-fn tells(share: &Share, index: u32) -> bool {
+fn tells(share: &WorkerShare, index: u32) -> bool {
     if let Some(receipt) = share.untold {
         if receipt.index == index {
             return true;
@@ -33,7 +33,7 @@ fn tells(share: &Share, index: u32) -> bool {
 }
 
 /// Whether one of the shares has a receipt of this index.
-fn is_told(shares: &[Share], index: u32) -> bool {
+fn is_told(shares: &[WorkerShare], index: u32) -> bool {
     for share in shares {
         if tells(share, index) {
             return true;
@@ -43,7 +43,7 @@ fn is_told(shares: &[Share], index: u32) -> bool {
 }
 
 /// The updates of the batch that have no receipt in the shares.
-fn rest_of<R: Abort + AllocGlobal>(rt: &R, batch: &[Update], shares: &[Share]) -> Vec<Update>
+fn rest_of<R: Abort + AllocGlobal>(rt: &R, batch: &[Update], shares: &[WorkerShare]) -> Vec<Update>
     requires { All (λ u. u.v < VERTICES) batch.now }
     ensures { All (λ u. u.v < VERTICES) result.items }
 {
@@ -73,7 +73,11 @@ fn enter_rest<R: Threads + Wait + Sync + Abort + AllocGlobal>(
     assert!(rt; !workers.is_empty() && workers.len() <= 64);
     assert!(rt; rest.len() < 100 && entered < 100);
     assert_eq!(rt; parts.journal.entries().len(), entered);
-    let (parts, done) = run_batch(rt, rt.alloc(), parts, workers, NEXT, rest, &NoGate);
+    let indexed = IndexedBatch {
+        first: NEXT,
+        updates: rest,
+    };
+    let (parts, done) = run_batch(rt, rt.alloc(), parts, workers, indexed, &NoGate);
     assert!(rt; done.is_ok());
     parts
 }
@@ -91,7 +95,11 @@ fn enter_in_two<R: Threads + Wait + Sync + Abort + AllocGlobal>(
 {
     assert_eq!(rt; shape(&parts.words).fixed, VERTICES);
     assert!(rt; !workers.is_empty() && workers.len() <= 64 && batch.len() < 100);
-    let (parts, done) = run_batch(rt, rt.alloc(), parts, &mut workers, FIRST, batch, &NoGate);
+    let indexed = IndexedBatch {
+        first: FIRST,
+        updates: batch,
+    };
+    let (parts, done) = run_batch(rt, rt.alloc(), parts, &mut workers, indexed, &NoGate);
     let Err(cut) = done else {
         return parts;
     };

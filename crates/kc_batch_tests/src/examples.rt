@@ -6,7 +6,7 @@ use kc_batch::BatchDone;
 use kc_graph::{Graph, Update};
 use kc_shared::Parts;
 use kc_words::LAST_VERSION;
-use kc_workers::{Gate, NoGate, Share};
+use kc_workers::{Gate, NoGate, WorkerShare};
 use std::alloc::Global;
 use std::process::Abort;
 use std::sync::Wait;
@@ -126,7 +126,7 @@ impl Gate for Meeting {
 }
 
 /// The share is of the worker that was called for what stands in it.
-fn assert_called<R: Abort>(rt: &R, meeting: &Meeting, share: &Share) {
+fn assert_called<R: Abort>(rt: &R, meeting: &Meeting, share: &WorkerShare) {
     for one in &share.done {
         let mine = usize::from(one.receipt.index != FIRST);
         assert_eq!(rt;

@@ -8,6 +8,9 @@ use kc_shared::Parts;
 use kc_table::Entry;
 use kc_words::LAST_VERSION;
 use kc_workers::NoGate;
+use rand::RngExt;
+use rand_core::SeedableRng;
+use rand_xoshiro::Xoshiro256PlusPlus;
 use std::alloc::Global;
 use std::process::Abort;
 use std::sync::Wait;
@@ -20,45 +23,24 @@ pub(crate) const VERTICES: u32 = 12;
 /// How many updates a batch has.
 const UPDATES: u32 = 40;
 
-/// The number after this one: a linear congruential generator.
-fn next(state: u64) -> u64 {
-    state
-        .wrapping_mul(6_364_136_223_846_793_005)
-        .wrapping_add(1_442_695_040_888_963_407)
-}
-
-/// A number below the bound, by the upper half of the state.
-fn below(state: u64, bound: u32) -> u32
-    requires { 0 < bound }
-    ensures { result < bound }
-{
-    ((state >> 33) % u64::from(bound)) as u32
-}
-
-/// The update that three numbers give: two of three add their edge.
-fn drawn(first: u64, second: u64, third: u64) -> Update
+/// A random update: two of three add their edge.
+fn drawn(draws: &mut Xoshiro256PlusPlus) -> Update
     ensures { result.v < VERTICES }
 {
-    let u = below(first, VERTICES - 1);
-    let v = u + 1 + below(second, VERTICES - 1 - u);
-    Update {
-        add: below(third, 3) > 0,
-        u,
-        v,
-    }
+    let u = draws.random_range(0..VERTICES - 1);
+    let v = draws.random_range(u + 1..VERTICES);
+    let add = draws.random_range(0u32..3) > 0;
+    Update { add, u, v }
 }
 
 /// So many random updates.
 pub(crate) fn drawn_batch(alloc: Global, seed: u64) -> Result<Vec<Update>, Fail>
     ensures { IfOk result (λ batch. All (λ u. u.v < VERTICES) batch.items) }
 {
-    let mut state = seed;
+    let mut draws = Xoshiro256PlusPlus::seed_from_u64(seed);
     let mut batch = Vec::new(alloc);
     for _ in 0..UPDATES {
-        let first = next(state);
-        let second = next(first);
-        state = next(second);
-        batch.push(drawn(first, second, state))?;
+        batch.push(drawn(&mut draws))?;
     }
     Ok(batch)
 }

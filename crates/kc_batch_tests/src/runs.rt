@@ -1,43 +1,18 @@
 //! Runs with workers, and a batch that they enter.
 ghost use Rattle.std.specs.Prelude.{◌≡◌, ◌<◌, ◌≤◌, All, length};
 
-use kc_batch::{BatchDone, run_batch};
+use kc_batch::{BatchDone, IndexedBatch, run_batch};
 use kc_graph::{Graph, Update, decompose_owned};
 use kc_shared::Parts;
-use kc_table::{Pass, Words, shape, split};
+use kc_table::shape;
 use kc_words::{LAST_VERSION, VERTICES};
-use kc_workers::{Gate, Share, Worker};
+use kc_workers::{Gate, Worker, WorkerShare, hire};
 use std::process::Abort;
 use std::sync::Wait;
 use std::thread::Threads;
 
 /// The index of the first update of a batch.
 pub(crate) const FIRST: u32 = 7;
-
-/// A worker that has seen what the pass has.
-fn hired_one<R: Abort + AllocGlobal>(rt: &R, words: &Words, pass: &mut Pass) -> Worker
-    requires { pass.old.table ≡ words.now }
-    ensures pass { pass.new.table ≡ words.now }
-    ensures worker { result.table ≡ words.now }
-{
-    match Worker::new(rt.alloc(), words, split(words, pass)) {
-        Ok(worker) => worker,
-        Err(_) => panic!(rt; "no memory"),
-    }
-}
-
-/// So many workers that have seen what the pass has.
-fn hired<R: Abort + AllocGlobal>(rt: &R, words: &Words, pass: &mut Pass, count: u32) -> Vec<Worker>
-    requires { pass.old.table ≡ words.now }
-    ensures { All (λ w. w.table ≡ words.now) result.items }
-{
-    let mut workers = Vec::new(rt.alloc());
-    for _ in 0..count {
-        let worker = hired_one(rt, words, pass);
-        workers.push(worker).expect(rt, "no memory");
-    }
-    workers
-}
 
 /// A run on this graph whose table opens with this version, and so many workers.
 pub(crate) fn open<R: Abort + AllocGlobal>(
@@ -53,13 +28,12 @@ pub(crate) fn open<R: Abort + AllocGlobal>(
 {
     let lawful = decompose_owned(rt.alloc(), graph).expect(rt, "no memory");
     let (parts, mut pass) = Parts::open(rt.alloc(), lawful, version).expect(rt, "no memory");
-    let workers = hired(rt, &parts.words, &mut pass, count);
-    assert_eq!(rt; workers.len(), count as usize);
+    let workers = hire(rt.alloc(), &parts.words, &mut pass, count).expect(rt, "no memory");
     (parts, workers)
 }
 
 /// How many updates stand in the shares.
-fn told(shares: &[Share]) -> usize {
+fn told(shares: &[WorkerShare]) -> usize {
     let mut told = 0usize;
     for share in shares {
         told = told.wrapping_add(share.done.len());
@@ -82,7 +56,11 @@ pub(crate) fn enter_all<G: Gate + Sync, R: Threads + Wait + Sync + Abort + Alloc
 {
     assert_eq!(rt; shape(&parts.words).fixed, vertices);
     assert!(rt; !workers.is_empty() && workers.len() <= 64 && batch.len() < 100);
-    let (parts, done) = run_batch(rt, rt.alloc(), parts, &mut workers, FIRST, batch, gate);
+    let indexed = IndexedBatch {
+        first: FIRST,
+        updates: batch,
+    };
+    let (parts, done) = run_batch(rt, rt.alloc(), parts, &mut workers, indexed, gate);
     let Ok(done) = done else {
         panic!(rt; "no memory")
     };

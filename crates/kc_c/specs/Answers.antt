@@ -3,7 +3,7 @@ use Rattle.std.specs.Prelude.{ℕ, not, List, Option, None, Some, Result, Ok, Er
 use Rattle.std.specs.List.{position}
 use Rattle.kc_graph.specs.Bulk.{is_within}
 use Rattle.kc_graph.specs.declared.bulk.Edge.{Edge}
-use Rattle.kc_c.specs.declared.answer.Answer.{Answer}
+use Rattle.kc_c.specs.declared.answer.CallResult.{CallResult}
 use Rattle.kc_c.specs.declared.answer.Refusal.{Refusal}
 use Rattle.kc_c.specs.declared.answer.Refusal.TheVariants.{WrongCoreLength, WrongOrderLength, WrongMembersLength, NotAVertex, NoMemory, NotCertified}
 
@@ -17,7 +17,7 @@ refusal_by None = NoMemory
 refusal_by (Some place) = NotAVertex place
 
 -- the status and the number that say how a call ended
-abbrev pub answer_to : Result ℕ Refusal → Answer
+abbrev pub answer_to : Result ℕ Refusal → CallResult
 answer_to (Ok number) = record { status = 0; number = number }
 answer_to (Err WrongCoreLength) = record { status = 1; number = 0 }
 answer_to (Err WrongOrderLength) = record { status = 2; number = 0 }

@@ -5,7 +5,7 @@ ghost use Rattle.kc_c.specs.Answers.{answer_to};
 /// How a call ended: a status, and a number that goes with it.
 #[repr(C)]
 #[derive(Clone, Copy, Debug, PartialEq, Eq)]
-pub struct Answer {
+pub struct CallResult {
     pub status: u32,
     pub number: usize,
 }
@@ -27,7 +27,7 @@ pub(crate) enum Refusal {
 }
 
 /// The answer that tells C how a call ended.
-pub(crate) fn answer_to(outcome: Result<usize, Refusal>) -> Answer
+pub(crate) fn answer_to(outcome: Result<usize, Refusal>) -> CallResult
     ensures { result ≡ answer_to outcome }
 {
     let (status, number) = match outcome {
@@ -39,5 +39,5 @@ pub(crate) fn answer_to(outcome: Result<usize, Refusal>) -> Answer
         Err(Refusal::NoMemory) => (5, 0),
         Err(Refusal::NotCertified) => (6, 0),
     };
-    Answer { status, number }
+    CallResult { status, number }
 }

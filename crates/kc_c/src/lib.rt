@@ -31,7 +31,7 @@ ghost use Rattle.kc_graph.specs.Core.{AreCoreNumbers};
 ghost use Rattle.kc_c.specs.Answers.{first_stranger};
 ghost use Rattle.kc_c.specs.KCores.{AreCoreMembers};
 
-pub use crate::answer::Answer;
+pub use crate::answer::CallResult;
 use crate::answer::answer_to;
 use crate::calls::{check_numbers, write_core_numbers, write_decomposition, write_k_core};
 use kc_graph::Edge;
@@ -56,7 +56,7 @@ pub extern "C" fn kcore_core_numbers(
     vertices: u32,
     edges: &[Edge],
     core: &mut [u32],
-) -> Answer
+) -> CallResult
     ensures known { (result.status == 0 || result.status == 1 || result.status == 4 || result.status == 5) ≡ true }
     ensures done { result.status ≡ 0 → AreCoreNumbers (graph_with vertices edges.now) core.new }
     ensures kept { result.status ≢ 0 → core.new ≡ core.old }
@@ -77,7 +77,7 @@ pub extern "C" fn kcore_degeneracy_order(
     edges: &[Edge],
     core: &mut [u32],
     order: &mut [u32],
-) -> Answer
+) -> CallResult
     ensures known { (result.status == 0 || result.status == 1 || result.status == 2 || result.status == 4 || result.status == 5) ≡ true }
     ensures certified { result.status ≡ 0 → Certifies (graph_with vertices edges.now) core.new order.new }
     ensures seidman { result.status ≡ 0 → AreCoreNumbers (graph_with vertices edges.now) core.new }
@@ -102,7 +102,7 @@ pub extern "C" fn kcore_check(
     edges: &[Edge],
     core: &[u32],
     order: &[u32],
-) -> Answer
+) -> CallResult
     ensures known { (result.status == 0 || result.status == 4 || result.status == 5 || result.status == 6) ≡ true }
     ensures certified { result.status ≡ 0 → Certifies (graph_with vertices edges.now) core.now order.now }
     ensures seidman { result.status ≡ 0 → AreCoreNumbers (graph_with vertices edges.now) core.now }
@@ -123,7 +123,7 @@ pub extern "C" fn kcore_k_core(
     edges: &[Edge],
     k: u32,
     members: &mut [u32],
-) -> Answer
+) -> CallResult
     ensures known { (result.status == 0 || result.status == 3 || result.status == 4 || result.status == 5) ≡ true }
     ensures done { result.status ≡ 0 → AreCoreMembers (graph_with vertices edges.now) k (take result.number members.new) }
     ensures places { result.status ≡ 0 → result.number ≤ length members.new }

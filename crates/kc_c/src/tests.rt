@@ -1,6 +1,7 @@
 //! The exported functions, called with small graphs. The answers are worked out by hand.
 use crate::{
-    Answer, kcore_check, kcore_core_numbers, kcore_degeneracy_order, kcore_k_core, kcore_version,
+    CallResult, kcore_check, kcore_core_numbers, kcore_degeneracy_order, kcore_k_core,
+    kcore_version,
 };
 use kc_graph::Edge;
 use std::process::Abort;
@@ -18,12 +19,12 @@ fn edges_of<R: AllocGlobal>(rt: &R, ends: &[(u32, u32)]) -> Result<Vec<Edge>, Fa
 /// A triangle with a tail, listed with a loop, a repeat and a repeat the other way round, and a vertex that has a loop alone.
 const TAILED: [(u32, u32); 7] = [(0, 1), (1, 0), (4, 4), (2, 0), (1, 2), (1, 2), (3, 2)];
 
-fn done(number: usize) -> Answer {
-    Answer { status: 0, number }
+fn done(number: usize) -> CallResult {
+    CallResult { status: 0, number }
 }
 
-fn refused(status: u32) -> Answer {
-    Answer { status, number: 0 }
+fn refused(status: u32) -> CallResult {
+    CallResult { status, number: 0 }
 }
 
 /// The core numbers of a triangle with a tail.
@@ -104,8 +105,8 @@ fn the_members_of_each_k_core(rt: HostRuntime) -> Result<(), Fail> {
 }
 
 /// An edge of a vertex that is not there: the third one, of vertex 4.
-fn stranger() -> Answer {
-    Answer {
+fn stranger() -> CallResult {
+    CallResult {
         status: 4,
         number: 2,
     }

@@ -3,9 +3,9 @@ use Rattle.std.proofs.Common.{◌≡◌, ◌≢◌, ◌≤◌, ◌<◌, ◌+◌,
 use Rattle.std.proofs.Common.{eqb, ltb, leb, refl, sym, ◌∙◌, ap, ap₂, inl, inr, arith, true≢false, eq-eqb, lt-ltb}
 use Rattle.std.specs.Prelude.{AllPairs}
 use Rattle.std.proofs.lemmas.Bool.{cases_Bool, cases_eq, cases_lt, or_parts, false≢true, ltb-true, ltb-false, leb-true, leb-false, le-ltb}
-use Rattle.kc_distinct.specs.Lists.{member, Distinct, below}
-use Rattle.kc_distinct.proofs.Members.{member-head, member-tail, not_member-append, member-append_left, member-append_right}
-use Rattle.kc_distinct.proofs.Counting.{member-get_or, member-below}
+use Rattle.kc_lists.specs.Lists.{member, Distinct, below}
+use Rattle.kc_lists.proofs.Members.{member-head, member-tail, not_member-append, member-append_left, member-append_right}
+use Rattle.kc_lists.proofs.Counting.{member-get_or, member-below}
 use Rattle.kc_graph.specs.Lawful.{Ranked, IsCertified}
 use Rattle.kc_graph.specs.Plans.{put_between, shifted, renumbered, moved_by}
 use Rattle.kc_graph.specs.declared.plan.Moves.{Moves}
@@ -17,7 +17,7 @@ use Rattle.kc_cert.proofs.Placing.{moved-itself, moved-other, shifted-has, shift
 use Rattle.kc_cert.proofs.Ordered.{rank-ascends, order-has, order-distinct, ranks-rise}
 use Rattle.kc_cert.proofs.Final.{final-orders, final-has, after-itself}
 use Rattle.kc_cert.proofs.Holding.{length-renumbered, renumbered-other, renumbered-moved}
-use Rattle.kc_distinct.proofs.Shared.{ltb-double, Distinct-front}
+use Rattle.kc_lists.proofs.Shared.{ltb-double, Distinct-front}
 
 -- two vertices that no shift moves stand as before
 pub place_after-still : (place : ℕ → ℕ) (shifts : List (ℕ × ℕ)) (y z : ℕ) → member y (firsts shifts) ≡ false → member z (firsts shifts) ≡ false

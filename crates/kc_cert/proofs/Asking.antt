@@ -5,9 +5,9 @@ use Rattle.std.specs.Prelude.{unwrap_or, count_by}
 use Rattle.std.specs.Bool.{beq}
 use Rattle.std.proofs.lemmas.Bool.{false≢true}
 use mathlib.Core.Path.{fun_ext}
-use Rattle.kc_distinct.specs.Lists.{member, Distinct, below, place_of}
-use Rattle.kc_distinct.proofs.Members.{member-head}
-use Rattle.kc_distinct.proofs.Counting.{member-below, Distinct-below}
+use Rattle.kc_lists.specs.Lists.{member, Distinct, below, place_of}
+use Rattle.kc_lists.proofs.Members.{member-head}
+use Rattle.kc_lists.proofs.Counting.{member-below, Distinct-below}
 use Rattle.kc_graph.specs.SimpleGraph.{SimpleGraph, adjacent, degree_among}
 use Rattle.kc_graph.specs.Certificate.{degree_as_high}
 use Rattle.kc_graph.specs.declared.update.Update.{Update}
@@ -24,7 +24,7 @@ use Rattle.kc_cert.proofs.Placing.{Orders-distinct, later-count}
 use Rattle.kc_cert.proofs.Sums.{count-same}
 use Rattle.kc_cert.proofs.Ordered.{order-has, rank-apart}
 use Rattle.kc_cert.proofs.Chaining.{Linked, Chained, linked_none, chained_none, linked_all, chained_all, chain_after-is}
-use Rattle.kc_distinct.proofs.Shared.{Distinct-back}
+use Rattle.kc_lists.proofs.Shared.{Distinct-back}
 
 -- the core number of a vertex after moves
 pub core-moved : (s : Ranked) (moves : Moves) (y : ℕ) → y < length s.core

@@ -7,14 +7,14 @@ use Rattle.std.proofs.lemmas.List.{drop_more}
 use mathlib.Core.Path.{fun_ext}
 use Rattle.std.proofs.lemmas.Bool.{cases_Bool, cases_eq, cases_lt, or_cases, or_right, or_left, or_from, false≢true, le-ltb, true_from_ne_false}
 use Rattle.std.proofs.Math.Bool.{or-false}
-use Rattle.kc_distinct.specs.Lists.{member, Distinct, right_after, place_of}
-use Rattle.kc_distinct.proofs.Members.{member-head, member-tail, not_member-parts, Distinct-right_after, place_of-first, place_of-next}
-use Rattle.kc_distinct.proofs.Counting.{member-push, member-push_cases, Distinct-push, member-other, member-get_or, one_if}
+use Rattle.kc_lists.specs.Lists.{member, Distinct, right_after, place_of}
+use Rattle.kc_lists.proofs.Members.{member-head, member-tail, not_member-parts, Distinct-right_after, place_of-first, place_of-next}
+use Rattle.kc_lists.proofs.Counting.{member-push, member-push_cases, Distinct-push, member-other, member-get_or, one_if}
 use Rattle.kc_cert.specs.Local.{firsts, seconds, AreInTurn}
 use Rattle.kc_cert.specs.Ranks.{moved, place_after}
 use Rattle.kc_cert.specs.Shifting.{place_in, anchor_of, with_anchor, line_with, home_with, line_after, home_after, no_home, chain_after}
 use Rattle.kc_cert.proofs.Placing.{moved-itself, moved-other, placed_has}
-use Rattle.kc_distinct.proofs.Shared.{ltb-double, ltb-next}
+use Rattle.kc_lists.proofs.Shared.{ltb-double, ltb-next}
 
 -- a line and anchors that the shifts to come can go on with
 pub record Linked (line : List ℕ) (home : ℕ → Option ℕ) (shifts : List (ℕ × ℕ)) : Type 0 where

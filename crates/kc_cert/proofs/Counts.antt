@@ -4,10 +4,10 @@ use Rattle.std.proofs.Common.{nat_le, take-append-drop}
 use Rattle.std.specs.Prelude.{count_by}
 use Rattle.std.proofs.lemmas.List.Elements.{All-contains}
 use Rattle.std.proofs.lemmas.Bool.{and_parts, and_from, not-true, not_from_false}
-use Rattle.kc_distinct.specs.Lists.{member, Distinct, below}
-use Rattle.kc_distinct.proofs.Members.{member-append}
-use Rattle.kc_distinct.proofs.Counting.{member-from_Contains, Contains-from_member, Distinct-from_pairs, Distinct-drop, Distinct-below}
-use Rattle.kc_distinct.proofs.Counting.{member-below, below-member, drop-not_take, count-le, count-mono, count-agree}
+use Rattle.kc_lists.specs.Lists.{member, Distinct, below}
+use Rattle.kc_lists.proofs.Members.{member-append}
+use Rattle.kc_lists.proofs.Counting.{member-from_Contains, Contains-from_member, Distinct-from_pairs, Distinct-drop, Distinct-below}
+use Rattle.kc_lists.proofs.Counting.{member-below, below-member, drop-not_take, count-le, count-mono, count-agree}
 use Rattle.kc_graph.specs.SimpleGraph.{SimpleGraph, adjacent, degree_among}
 use Rattle.kc_graph.specs.Neighbours.{AreNeighbours}
 use Rattle.kc_graph.specs.Certificate.{Enumerates, Certifies, degree_as_high}

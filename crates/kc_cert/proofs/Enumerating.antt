@@ -5,10 +5,10 @@ use Rattle.std.proofs.lemmas.Bool.{cases_eq, false≢true, or_right, true_from_n
 use Rattle.std.proofs.lemmas.List.{take_more, get_or-set_same, get_or-set_other, get_or-replicate, length-replicate}
 use Rattle.std.proofs.Math.Bool.{or-false}
 use Rattle.std.proofs.Math.Seq.{take-length}
-use Rattle.kc_distinct.specs.Lists.{member, Distinct}
-use Rattle.kc_distinct.proofs.Members.{member-cases, below_bound}
-use Rattle.kc_distinct.proofs.Counting.{member-get_or, member-push, member-push_cases, Distinct-push, Contains-from_member, Distinct-from_pairs}
-use Rattle.kc_distinct.proofs.Counting.{pairs_from_Distinct, take-not_here}
+use Rattle.kc_lists.specs.Lists.{member, Distinct}
+use Rattle.kc_lists.proofs.Members.{member-cases, below_bound}
+use Rattle.kc_lists.proofs.Counting.{member-get_or, member-push, member-push_cases, Distinct-push, Contains-from_member, Distinct-from_pairs}
+use Rattle.kc_lists.proofs.Counting.{pairs_from_Distinct, take-not_here}
 use Rattle.kc_graph.specs.Certificate.{Enumerates}
 
 -- a number below `n` is marked just where it is one of the first `i` of the order

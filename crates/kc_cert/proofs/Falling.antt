@@ -2,7 +2,7 @@
 use Rattle.std.proofs.Common.{◌≡◌, ◌≤◌, ◌<◌, ◌+◌, ◌-◌, ℕ, List, length, get_or, ap, arith, inl, inr}
 use Rattle.std.proofs.lemmas.Bool.{cases_eq}
 use Rattle.kc_cert.specs.Conditions.{NeverFalls}
-use Rattle.kc_distinct.proofs.Shared.{get_or-any}
+use Rattle.kc_lists.proofs.Shared.{get_or-any}
 
 -- the number of the vertex at a place of the order
 abbrev number_at : List ℕ → List ℕ → ℕ → ℕ

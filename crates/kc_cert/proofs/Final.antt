@@ -4,8 +4,8 @@ use Rattle.std.proofs.Common.{true≢false, lt_irrefl}
 use Rattle.std.specs.List.{filter}
 use Rattle.std.proofs.lemmas.Bool.{cases_Bool, and_parts, and_from, or_cases, false_from_ne_true, not-true}
 use Rattle.std.proofs.lemmas.List.Folds.{list_any-append}
-use Rattle.kc_distinct.specs.Lists.{member, Distinct}
-use Rattle.kc_distinct.proofs.Counting.{member-filter, filter-member}
+use Rattle.kc_lists.specs.Lists.{member, Distinct}
+use Rattle.kc_lists.proofs.Counting.{member-filter, filter-member}
 use Rattle.kc_graph.specs.Plans.{put_between}
 use Rattle.kc_cert.specs.Ranks.{AscendsBy, Orders, part, then_after}
 use Rattle.kc_cert.proofs.Placing.{Ascends-filter, Orders-from_Ascends, Orders-append}

@@ -4,8 +4,8 @@ use Rattle.std.proofs.Common.{◌∙◌, ap, inl, inr, arith, true≢false, eq-e
 use Rattle.std.specs.Prelude.{count_by}
 use Rattle.std.proofs.lemmas.Bool.{cases_Bool, cases_eq, or_parts}
 use Rattle.std.proofs.lemmas.List.{get_or-set_same, get_or-set_other}
-use Rattle.kc_distinct.specs.Lists.{member, Distinct, below, place_of}
-use Rattle.kc_distinct.proofs.Counting.{member-below, Distinct-below}
+use Rattle.kc_lists.specs.Lists.{member, Distinct, below, place_of}
+use Rattle.kc_lists.proofs.Counting.{member-below, Distinct-below}
 use Rattle.kc_graph.specs.SimpleGraph.{SimpleGraph, adjacent, degree_among}
 use Rattle.kc_graph.specs.Plans.{renumbered}
 use Rattle.kc_cert.specs.Local.{HoldsAt}

@@ -4,8 +4,8 @@ use Rattle.std.proofs.Common.{refl, sym, ◌∙◌, ap, ap₂, subst, inl, inr, 
 use Rattle.std.specs.Prelude.{count_by}
 use Rattle.std.specs.List.{list_any}
 use Rattle.std.proofs.lemmas.Bool.{cases_Bool, or_parts, or_from}
-use Rattle.kc_distinct.specs.Lists.{member, Distinct, below, place_of}
-use Rattle.kc_distinct.proofs.Counting.{member-get_or, below-member, count-agree}
+use Rattle.kc_lists.specs.Lists.{member, Distinct, below, place_of}
+use Rattle.kc_lists.proofs.Counting.{member-get_or, below-member, count-agree}
 use Rattle.kc_graph.specs.SimpleGraph.{SimpleGraph, adjacent, degree_among}
 use Rattle.kc_graph.specs.Edges.{with_edge, without_edge}
 use Rattle.kc_graph.specs.Lawful.{Ranked, IsCertified}

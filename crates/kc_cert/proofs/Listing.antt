@@ -4,9 +4,9 @@ use Rattle.std.proofs.Common.{inl, inr, true≢false, eq-eqb, ne_eqb}
 use Rattle.std.specs.Prelude.{is_some}
 use Rattle.std.proofs.lemmas.Bool.{cases_eq, false≢true, false_from_ne_true, or_right}
 use Rattle.std.proofs.Math.Bool.{or-false}
-use Rattle.kc_distinct.specs.Lists.{member, Distinct, place_of}
-use Rattle.kc_distinct.proofs.Members.{not_member-parts, place_of-first, place_of-next}
-use Rattle.kc_distinct.proofs.Counting.{member-push, member-push_left, member-other}
+use Rattle.kc_lists.specs.Lists.{member, Distinct, place_of}
+use Rattle.kc_lists.proofs.Members.{not_member-parts, place_of-first, place_of-next}
+use Rattle.kc_lists.proofs.Counting.{member-push, member-push_left, member-other}
 use Rattle.kc_cert.specs.Shifting.{place_in}
 use Rattle.kc_cert.proofs.Chaining.{place_of-push}
 

@@ -3,9 +3,9 @@ use Rattle.std.proofs.Common.{◌≡◌, ◌≢◌, ◌≤◌, ◌<◌, ◌+◌,
 use Rattle.std.proofs.Common.{subst, inl, inr, arith, true≢false, eq-eqb, ne_eqb}
 use Rattle.std.specs.List.{list_any}
 use Rattle.std.proofs.lemmas.Bool.{cases_Bool, cases_eq, or_cases, or_left, or_right, or_from, or_parts, false≢true}
-use Rattle.kc_distinct.specs.Lists.{member, place_of}
-use Rattle.kc_distinct.proofs.Members.{member-cases}
-use Rattle.kc_distinct.proofs.Counting.{member-below, Contains-from_member}
+use Rattle.kc_lists.specs.Lists.{member, place_of}
+use Rattle.kc_lists.proofs.Members.{member-cases}
+use Rattle.kc_lists.proofs.Counting.{member-below, Contains-from_member}
 use Rattle.kc_graph.specs.SimpleGraph.{SimpleGraph, adjacent, degree_among}
 use Rattle.kc_graph.specs.Neighbours.{neighbours_of}
 use Rattle.kc_graph.specs.Lawful.{Ranked, IsCertified}
@@ -21,7 +21,7 @@ use Rattle.kc_cert.specs.Ranks.{rank_in}
 use Rattle.kc_cert.specs.Stands.{changed_by}
 use Rattle.kc_cert.proofs.Ordered.{rank-here, order-has}
 use Rattle.kc_cert.proofs.Keeping.{adjacent-elsewhere}
-use Rattle.kc_distinct.proofs.Shared.{list_any-some, get_or-any}
+use Rattle.kc_lists.proofs.Shared.{list_any-some, get_or-any}
 use Rattle.kc_graph.proofs.Law.{adjacent-sym}
 use Rattle.kc_cert.proofs.FittingMoves.{kept_fits}
 

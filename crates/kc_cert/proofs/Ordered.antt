@@ -4,10 +4,10 @@ use Rattle.std.proofs.Common.{ap, subst, inl, inr, arith, true≢false, eq-eqb, 
 use Rattle.std.proofs.lemmas.Bool.{cases_Bool, cases_eq, cases_order, false≢true, false_from_ne_true}
 use Rattle.std.proofs.lemmas.List.Elements.{All-contains}
 use Rattle.std.specs.Prelude.{count_by, AllPairs}
-use Rattle.kc_distinct.specs.Lists.{member, Distinct, below}
-use Rattle.kc_distinct.proofs.Members.{member-head, member-tail}
-use Rattle.kc_distinct.proofs.Counting.{member-other, member-below, below-member, Distinct-below, member-from_Contains, Contains-from_member}
-use Rattle.kc_distinct.proofs.Counting.{Distinct-from_pairs, pairs_from_Distinct, member-get_or}
+use Rattle.kc_lists.specs.Lists.{member, Distinct, below}
+use Rattle.kc_lists.proofs.Members.{member-head, member-tail}
+use Rattle.kc_lists.proofs.Counting.{member-other, member-below, below-member, Distinct-below, member-from_Contains, Contains-from_member}
+use Rattle.kc_lists.proofs.Counting.{Distinct-from_pairs, pairs_from_Distinct, member-get_or}
 use Rattle.kc_graph.specs.SimpleGraph.{SimpleGraph, adjacent, degree_among}
 use Rattle.kc_graph.specs.Certificate.{Certifies, Enumerates, degree_as_high}
 use Rattle.kc_cert.specs.Ranks.{rank_in, AscendsBy, Orders}

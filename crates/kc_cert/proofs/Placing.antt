@@ -5,13 +5,13 @@ use Rattle.std.specs.Prelude.{count_by}
 use Rattle.std.specs.List.{filter}
 use Rattle.std.proofs.lemmas.Bool.{cases_Bool, cases_eq, eqb-false, false≢true, or_cases, or_right, or_parts, false_from_ne_true}
 use Rattle.std.proofs.lemmas.List.Folds.{list_any-append}
-use Rattle.kc_distinct.specs.Lists.{member, Distinct, without, right_after, place_of}
-use Rattle.kc_distinct.proofs.Members.{member-head, member-tail, member-cases, member-without, without-member, not_member-without}
-use Rattle.kc_distinct.proofs.Counting.{member-other, member-filter, count-no, count-agree}
+use Rattle.kc_lists.specs.Lists.{member, Distinct, without, right_after, place_of}
+use Rattle.kc_lists.proofs.Members.{member-head, member-tail, member-cases, member-without, without-member, not_member-without}
+use Rattle.kc_lists.proofs.Counting.{member-other, member-filter, count-no, count-agree}
 use Rattle.kc_graph.specs.Plans.{shifted}
 use Rattle.kc_cert.specs.Local.{firsts, seconds, AreInTurn}
 use Rattle.kc_cert.specs.Ranks.{AscendsBy, moved, place_after, Orders}
-use Rattle.kc_distinct.proofs.Shared.{or-swap, and-fails}
+use Rattle.kc_lists.proofs.Shared.{or-swap, and-fails}
 use Rattle.std.proofs.Math.Bool.{or_assoc, or-false}
 
 -- the new rank of what was shifted is right behind that of the one before it

@@ -2,9 +2,9 @@
 use Rattle.std.proofs.Common.{◌≡◌, ◌≢◌, ◌≤◌, ◌<◌, ◌+◌, ℕ, Bool, true, false, List, [], ◌∷◌, refl, sym, ◌∙◌, ap, inl, inr, arith, true≢false}
 use Rattle.std.specs.Prelude.{count_by}
 use Rattle.std.proofs.lemmas.Bool.{cases_eq, false≢true}
-use Rattle.kc_distinct.specs.Lists.{member, Distinct}
-use Rattle.kc_distinct.proofs.Members.{member-head, member-tail, member-cases}
-use Rattle.kc_distinct.proofs.Counting.{member-other, count-agree, count-le, count-yes, count-no, count-cons, one_if}
+use Rattle.kc_lists.specs.Lists.{member, Distinct}
+use Rattle.kc_lists.proofs.Members.{member-head, member-tail, member-cases}
+use Rattle.kc_lists.proofs.Counting.{member-other, count-agree, count-le, count-yes, count-no, count-cons, one_if}
 
 -- counts that differ at one number at most
 pub count-one-in : (p q : ℕ → Bool) (v : ℕ) (xs : List ℕ) → Distinct xs → member v xs ≡ true → q v ≡ false

@@ -7,8 +7,8 @@ use Rattle.std.proofs.lemmas.Bool.{cases_Bool, cases_eq, and_parts, not-true}
 use Rattle.std.proofs.lemmas.Option.{same_Some}
 use Rattle.std.proofs.lemmas.List.{length-take}
 use Rattle.std.proofs.lemmas.List.Sums.{count_by_more_yes, count_by_more_no}
-use Rattle.kc_distinct.specs.Lists.{member, below}
-use Rattle.kc_distinct.proofs.Counting.{member-below, below-member, Distinct-below, count-le, count-agree, count-le-length, member-get_or, one_if}
+use Rattle.kc_lists.specs.Lists.{member, below}
+use Rattle.kc_lists.proofs.Counting.{member-below, below-member, Distinct-below, count-le, count-agree, count-le-length, member-get_or, one_if}
 use Rattle.kc_graph.specs.SimpleGraph.{SimpleGraph, adjacent}
 use Rattle.kc_graph.specs.Neighbours.{neighbours_of}
 use Rattle.kc_graph.specs.Plans.{is_applied, updated}

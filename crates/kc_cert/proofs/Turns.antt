@@ -4,15 +4,15 @@ use Rattle.std.proofs.Common.{drop, refl, sym, ◌∙◌, ap, subst, inl, inr, a
 use Rattle.std.specs.Prelude.{⊤, MatchOption}
 use Rattle.std.proofs.lemmas.Bool.{cases_Bool, cases_eq, cases_lt, false≢true, false_from_ne_true}
 use Rattle.std.proofs.lemmas.List.{take_more}
-use Rattle.kc_distinct.specs.Lists.{member, Distinct, place_of}
-use Rattle.kc_distinct.proofs.Members.{member-head, member-tail, member-cases, member-append, not_member-append, not_member-parts, place_of-first}
-use Rattle.kc_distinct.proofs.Members.{place_of-next}
-use Rattle.kc_distinct.proofs.Counting.{member-other, drop-member}
+use Rattle.kc_lists.specs.Lists.{member, Distinct, place_of}
+use Rattle.kc_lists.proofs.Members.{member-head, member-tail, member-cases, member-append, not_member-append, not_member-parts, place_of-first}
+use Rattle.kc_lists.proofs.Members.{place_of-next}
+use Rattle.kc_lists.proofs.Counting.{member-other, drop-member}
 use Rattle.kc_graph.specs.Lawful.{Ranked}
 use Rattle.kc_cert.specs.Local.{firsts, seconds, AreInTurn, IsOfLevel}
 use Rattle.kc_cert.specs.Shifting.{place_in}
 use Rattle.kc_cert.proofs.Ordered.{rank-here}
-use Rattle.kc_distinct.proofs.Shared.{Distinct-back}
+use Rattle.kc_lists.proofs.Shared.{Distinct-back}
 
 -- the vertices of some shifts and then of more
 pub firsts-append : (xs ys : List (ℕ × ℕ)) → firsts (xs ++ ys) ≡ firsts xs ++ firsts ys

@@ -1,7 +1,7 @@
 -- What the maps hold by which moves are asked.
 use Rattle.std.specs.Prelude.{◌≡◌, ◌↔◌, ℕ, IsTrue, List, [], nat_eq}
 use Rattle.std.specs.HashMap.{get}
-use Rattle.kc_distinct.specs.Lists.{Distinct}
+use Rattle.kc_lists.specs.Lists.{Distinct}
 use Rattle.kc_graph.specs.declared.plan.Moves.{Moves}
 use Rattle.kc_cert.specs.declared.places.Places.{Places}
 use Rattle.kc_cert.specs.declared.chains.Chains.{Chains}
@@ -19,6 +19,6 @@ pub record AreChainsOf (shifts : List (ℕ × ℕ)) (chains : Chains) : Type 0 w
   pub places : (x : ℕ) → get nat_eq chains.places.of x ≡ place_in (line_after [] shifts) x
 
 -- the places of the vertices that leave their level, and the chains of the shifts
-pub record Shows (moves : Moves) (front : Places) (put : Chains) : Type 0 where
+pub record AreArranged (moves : Moves) (front : Places) (put : Chains) : Type 0 where
   pub leaving : (x : ℕ) → get nat_eq front.of x ≡ place_in (leaving moves) x
   pub shifted : AreChainsOf (shifts_of moves) put

@@ -1,6 +1,6 @@
 -- The conditions of the certificate, one by one.
 use Rattle.std.specs.Prelude.{◌≤◌, ◌<◌, ◌+◌, ℕ, List, length, slice_index, AllPairs, drop}
-use Rattle.kc_distinct.specs.Lists.{below}
+use Rattle.kc_lists.specs.Lists.{below}
 use Rattle.kc_graph.specs.SimpleGraph.{SimpleGraph, degree_among}
 use Rattle.kc_graph.specs.Certificate.{degree_as_high}
 

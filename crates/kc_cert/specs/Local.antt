@@ -1,7 +1,7 @@
 -- When a plan keeps the certificate, as far as a look at what it touches can tell.
 use Rattle.std.specs.Prelude.{◌≡◌, ◌≤◌, ◌<◌, ◌+◌, ⊤, ℕ, Bool, true, false, not, ◌||◌, List, [], ◌∷◌, ◌++◌, drop, slice_index, nat_eq}
 use Rattle.std.specs.List.{list_any}
-use Rattle.kc_distinct.specs.Lists.{member, Distinct, place_of}
+use Rattle.kc_lists.specs.Lists.{member, Distinct, place_of}
 use Rattle.kc_graph.specs.SimpleGraph.{SimpleGraph, adjacent, degree_among}
 use Rattle.kc_graph.specs.Certificate.{degree_as_high}
 use Rattle.kc_graph.specs.Lawful.{Ranked}

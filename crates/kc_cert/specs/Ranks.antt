@@ -1,6 +1,6 @@
 -- An order as the rank of each vertex.
 use Rattle.std.specs.Prelude.{◌≡◌, ◌<◌, ◌+◌, ⊤, ℕ, Bool, true, false, List, [], ◌∷◌, nat_eq, nat_lt, if◌then◌else◌, ◌&&◌, ◌||◌}
-use Rattle.kc_distinct.specs.Lists.{member, place_of}
+use Rattle.kc_lists.specs.Lists.{member, place_of}
 
 -- how many stand before a vertex in a list
 abbrev pub rank_in : List ℕ → ℕ → ℕ

@@ -1,7 +1,7 @@
 -- How shifts are compared without making them. Shifted vertices stand in chains, each behind an anchor that no shift moves: a vertex
 -- comes right behind the one that its shift names. One line has all anchors and shifted vertices, each chain in its order.
 use Rattle.std.specs.Prelude.{ℕ, Bool, List, [], ◌∷◌, ◌++◌, Option, None, Some, unwrap_or, nat_eq, nat_lt, if◌then◌else◌}
-use Rattle.kc_distinct.specs.Lists.{member, right_after, place_of}
+use Rattle.kc_lists.specs.Lists.{member, right_after, place_of}
 
 -- where a list has a number
 abbrev pub place_in : List ℕ → ℕ → Option ℕ

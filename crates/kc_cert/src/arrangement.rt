@@ -1,11 +1,11 @@
 //! Core numbers and order after moves, asked a vertex at a time.
 ghost use Rattle.std.specs.Prelude.{◌≡◌, ◌≢◌, ◌<◌, ℕ, IfOk, slice_index, false};
-ghost use Rattle.kc_distinct.specs.Lists.{member, Distinct};
+ghost use Rattle.kc_lists.specs.Lists.{member, Distinct};
 ghost use Rattle.kc_graph.specs.Lawful.{Ranked, IsCertified};
 ghost use Rattle.kc_graph.specs.Plans.{moved_by};
 ghost use Rattle.kc_cert.specs.Local.{firsts, AreInTurn, MovesFit};
 ghost use Rattle.kc_cert.specs.Stands.{leaving, next_level, shifts_of, is_low, stands_after};
-ghost use Rattle.kc_cert.specs.Arrangements.{Shows};
+ghost use Rattle.kc_cert.specs.Arrangements.{AreArranged};
 
 use crate::NoMemory;
 use crate::chains::Chains;
@@ -31,7 +31,7 @@ pub(crate) struct Arrangement<'a> {
     moves: &'a Moves,
     leaving: Places,
     chains: Chains,
-    ghost shown: { Shows moves.now leaving chains },
+    ghost shown: { AreArranged moves.now leaving chains },
 }
 
 impl<'a> Arrangement<'a> {

@@ -1,7 +1,7 @@
 //! Shifts, compared without making them.
 ghost use Rattle.std.specs.Prelude.{◌≡◌, ◌≢◌, ◌<◌, ℕ, [], IfOk, OnOk, true, false, length, nat_eq, slice_index, is_some, if◌then◌else◌, Some};
 ghost use Rattle.std.specs.HashMap.{get};
-ghost use Rattle.kc_distinct.specs.Lists.{member, Distinct, right_after};
+ghost use Rattle.kc_lists.specs.Lists.{member, Distinct, right_after};
 ghost use Rattle.kc_graph.specs.Lawful.{Ranked};
 ghost use Rattle.kc_cert.specs.Local.{firsts, AreInTurn};
 ghost use Rattle.kc_cert.specs.Ranks.{rank_in};
@@ -16,7 +16,7 @@ use std::collections::HashMap;
 
 /// All anchors and shifted vertices, each chain in its order, and the anchor of each.
 #[derive(Drop)]
-struct Line {
+struct ChainLine {
     vertices: Vec<u32>,
     anchors: HashMap<u32, u32>,
 }
@@ -45,7 +45,7 @@ fn put_behind(line: &mut Vec<u32>, x: u32, w: u32) -> Result<(), NoMemory>
     Ok(())
 }
 
-impl Line {
+impl ChainLine {
     /// The anchor of `w`, which stands in the line then.
     fn anchor(&mut self, w: u32) -> Result<u32, NoMemory>
         requires held { (y : ℕ) → is_some (get nat_eq self.old.anchors y) ≡ member y self.old.vertices.items }
@@ -79,13 +79,13 @@ impl Line {
 }
 
 /// The line of shifts.
-fn line_of(alloc: Global, shifts: &[(u32, u32)]) -> Result<Line, NoMemory>
+fn line_of(alloc: Global, shifts: &[(u32, u32)]) -> Result<ChainLine, NoMemory>
     requires in_turn { AreInTurn shifts.now }
     requires once { Distinct (firsts shifts.now) }
     ensures vertices { IfOk result (λ line. line.vertices.items ≡ line_after [] shifts.now) }
     ensures anchors { IfOk result (λ line. (y : ℕ) → get nat_eq line.anchors y ≡ home_after no_home shifts.now y) }
 {
-    let mut line = Line {
+    let mut line = ChainLine {
         vertices: Vec::new(alloc),
         anchors: HashMap::new(alloc),
     };

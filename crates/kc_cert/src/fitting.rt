@@ -1,6 +1,6 @@
 //! Whether moves fit a state: each vertex moves once, in its level.
 ghost use Rattle.std.specs.Prelude.{◌≡◌, ◌↔◌, ◌≤◌, ◌<◌, ◌+◌, ◌++◌, ℕ, ⊤, IfOk, IsTrue, MatchOption, true, false, length};
-ghost use Rattle.kc_distinct.specs.Lists.{member, Distinct};
+ghost use Rattle.kc_lists.specs.Lists.{member, Distinct};
 ghost use Rattle.kc_graph.specs.Lawful.{Ranked};
 ghost use Rattle.kc_cert.specs.Local.{firsts, seconds, AreInTurn, IsOfLevel, MovesFit, moved_vertices};
 ghost use Rattle.kc_cert.specs.Arrangements.{ArePlacesIn};

@@ -9,7 +9,7 @@
 //! holds at the ends of the edge, at the vertices that move and at their neighbours. `local_plans_keep_the_certificate` is the law that
 //! a certified state stays certified then, and `local_check` tells for any plan whether it passes, in any `State`, without making the
 //! moves: `fitting` has whether they fit, `chains` compares shifted vertices, `arrangement` all vertices, and `tally` counts at one
-//! (`specs/Stands.antt`, `Shifting.antt`). The crate stands on `kc_graph` and `kc_distinct`.
+//! (`specs/Stands.antt`, `Shifting.antt`). The crate stands on `kc_graph` and `kc_lists`.
 #![tactic(auto)]
 
 mod arrangement;

@@ -1,7 +1,7 @@
 //! The local test of a plan.
 ghost use Rattle.std.specs.Prelude.{◌≡◌, ◌↔◌, ◌<◌, ℕ, IfOk, OnOk, IsTrue, true, nat_eq};
 ghost use Rattle.std.specs.HashSet.{contains};
-ghost use Rattle.kc_distinct.specs.Lists.{member};
+ghost use Rattle.kc_lists.specs.Lists.{member};
 ghost use Rattle.kc_graph.specs.SimpleGraph.{adjacent};
 ghost use Rattle.kc_graph.specs.Neighbours.{neighbours_of};
 ghost use Rattle.kc_graph.specs.Lawful.{Ranked, IsCertified};

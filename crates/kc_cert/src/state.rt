@@ -1,6 +1,6 @@
 //! States that a local test can ask.
 ghost use Rattle.std.specs.Prelude.{◌≡◌, ◌≢◌, ◌<◌, ℕ, length, slice_index, nat_lt};
-ghost use Rattle.kc_distinct.specs.Lists.{place_of};
+ghost use Rattle.kc_lists.specs.Lists.{place_of};
 ghost use Rattle.kc_graph.specs.Lawful.{Ranked, IsCertified};
 ghost use Rattle.kc_graph.specs.Neighbours.{neighbours_of};
 

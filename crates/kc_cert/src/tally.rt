@@ -1,6 +1,6 @@
 //! What the certificate asks at a vertex, counted after an update and its moves.
 ghost use Rattle.std.specs.Prelude.{◌≡◌, ◌≢◌, ◌↔◌, ◌<◌, ◌+◌, ◌^◌, ◌&&◌, ℕ, IsTrue, Option, None, Some, true, count_by, slice_index, nat_le, if◌then◌else◌};
-ghost use Rattle.kc_distinct.specs.Lists.{below};
+ghost use Rattle.kc_lists.specs.Lists.{below};
 ghost use Rattle.kc_graph.specs.SimpleGraph.{adjacent};
 ghost use Rattle.kc_graph.specs.Neighbours.{neighbours_of};
 ghost use Rattle.kc_graph.specs.Lawful.{Ranked, IsCertified};

@@ -8,11 +8,11 @@ use Rattle.std.specs.FinSet.{FinSet, contains, insert, len, contains-insert, len
 use Rattle.std.proofs.lemmas.List.Sums.{sum_by-le}
 use Rattle.std.proofs.lemmas.Bool.{cases_Bool, or_cases, or_left, or_right, or_from, and_parts, and_from, false_from_ne_true}
 use Rattle.std.proofs.Math.Bool.{or-false}
-use Rattle.kc_distinct.specs.Lists.{below, member}
+use Rattle.kc_lists.specs.Lists.{below, member}
 use Rattle.kc_graph.specs.SimpleGraph.{SimpleGraph, adjacent, pair_cmp}
 use Rattle.kc_graph.specs.Edges.{edge, with_edge}
 use Rattle.kc_graph.specs.Rows.{row, graph_of, IsAdjacency, BothInserted}
-use Rattle.kc_distinct.proofs.Counting.{member-below, length-below, count-all, count-le, Distinct-from_pairs}
+use Rattle.kc_lists.proofs.Counting.{member-below, length-below, count-all, count-le, Distinct-from_pairs}
 use Rattle.std.proofs.lemmas.List.Folds.{sum_by-replicate}
 use Rattle.std.proofs.lemmas.List.Elements.{All-from_get_or}
 use Rattle.std.proofs.lemmas.List.Kept.{AllPairs-from_increasing}

@@ -10,7 +10,7 @@ use Rattle.std.specs.FinSet.{FinSet, from_list, contains, contains-from_list, sa
 use Rattle.std.proofs.lemmas.Bool.{cases_lt, cases_order, or_cases, or_from, and_parts, and_from, false≢true, true≢false, false_from_ne_true}
 use Rattle.std.proofs.lemmas.List.Elements.{All-tail, All-map, All-weaker}
 use Rattle.std.specs.List.{between}
-use Rattle.kc_distinct.specs.Lists.{member}
+use Rattle.kc_lists.specs.Lists.{member}
 use Rattle.kc_graph.specs.SimpleGraph.{SimpleGraph, adjacent, pair_cmp}
 use Rattle.kc_graph.specs.Edges.{edge}
 use Rattle.kc_graph.specs.Rows.{row, graph_of, IsAdjacency}

@@ -4,7 +4,7 @@ use Rattle.std.specs.Cmp.{both_ways}
 use Rattle.std.specs.Ordering.{eq_by_cmp}
 use Rattle.std.specs.FinSet.{contains, insert, remove, contains-insert, contains-remove}
 use Rattle.std.proofs.lemmas.Bool.{cases_order, false_from_ne_true}
-use Rattle.kc_distinct.proofs.Shared.{or-turned}
+use Rattle.kc_lists.proofs.Shared.{or-turned}
 use Rattle.kc_graph.specs.SimpleGraph.{SimpleGraph, adjacent, pair_cmp}
 use Rattle.kc_graph.specs.Edges.{edge, with_edge, without_edge}
 use Rattle.kc_graph.proofs.Ends.{joins, joins-true, joins-sym, joins-edge, edge-joins}

@@ -3,12 +3,12 @@ use Rattle.std.proofs.Common.{◌≡◌, ◌≢◌, ◌≤◌, ◌<◌, ◌+◌,
 use Rattle.std.proofs.Common.{replicate, sym, ap, ◌∙◌, inl, inr, arith, nat_le, leb-true, le-leb, length-append, length-set, true≢false}
 use Rattle.std.proofs.lemmas.Bool.{cases_Bool, cases_eq, cases_lt, and_parts, and_from, false≢true, not-true, true_from_ne_false, eqb-false}
 use Rattle.std.proofs.lemmas.List.{get_or-set_same, get_or-set_other, get_or-replicate, length-replicate}
-use Rattle.kc_distinct.specs.Lists.{member}
-use Rattle.kc_distinct.proofs.Members.{below_bound}
-use Rattle.kc_distinct.proofs.Counting.{member-push_none}
+use Rattle.kc_lists.specs.Lists.{member}
+use Rattle.kc_lists.proofs.Members.{below_bound}
+use Rattle.kc_lists.proofs.Counting.{member-push_none}
 use Rattle.kc_graph.specs.SimpleGraph.{SimpleGraph}
 use Rattle.kc_graph.specs.Certificate.{Certifies}
-use Rattle.kc_graph.specs.Peeling.{at, Peeled, remaining}
+use Rattle.kc_graph.specs.Peeling.{at, IsPeeledTo, remaining}
 use Rattle.kc_graph.proofs.PeelingLemmas.{peeling-starts, level-raised, take_one, peeling-finishes, remaining-lt}
 
 -- one of the first numbers that passes, or none does
@@ -23,7 +23,7 @@ first_of_them p (suc n) = elim (cases_Bool (p n)) [
 ]
 
 -- no more vertices are taken than there are
-few_taken : (g : SimpleGraph) (level : ℕ) (core taken : List ℕ) → Peeled g level core taken → length taken ≤ g.size
+few_taken : (g : SimpleGraph) (level : ℕ) (core taken : List ℕ) → IsPeeledTo g level core taken → length taken ≤ g.size
 few_taken g level core taken p = below_bound g.size taken p.distinct p.within
 
 -- the number of each vertex that is left is the number of vertices
@@ -35,9 +35,9 @@ abbrev is_next : SimpleGraph → ℕ → List ℕ → ℕ → Bool
 is_next g level taken v = not (member v taken) && nat_le (remaining g taken v) level
 
 -- a vertex that is left with few neighbours may be taken, and those left stay untouched
-take_next : (g : SimpleGraph) (level v : ℕ) (core taken : List ℕ) → Peeled g level core taken → IsUntouched g core taken → level ≤ g.size
+take_next : (g : SimpleGraph) (level v : ℕ) (core taken : List ℕ) → IsPeeledTo g level core taken → IsUntouched g core taken → level ≤ g.size
     → v < g.size → member v taken ≡ false → remaining g taken v ≤ level
-    → Peeled g level (set core v level) (taken ++ v ∷ []) × IsUntouched g (set core v level) (taken ++ v ∷ [])
+    → IsPeeledTo g level (set core v level) (taken ++ v ∷ []) × IsUntouched g (set core v level) (taken ++ v ∷ [])
 take_next g level v core taken p high fits l left few =
     let same : (w : ℕ) → w ≢ v → at (set core v level) w ≡ at core w = λ w ne. get_or-set_other core v w level 0 ne in (
       take_one g level v core taken (set core v level) p l left few
@@ -51,7 +51,7 @@ take_next g level v core taken p high fits l left few =
     )
 
 -- where some are taken and the others untouched, the rest can be taken, in an order that certifies the numbers
-rest-peeled : (fuel : ℕ) (g : SimpleGraph) (level : ℕ) (core taken : List ℕ) → Peeled g level core taken → IsUntouched g core taken
+rest-peeled : (fuel : ℕ) (g : SimpleGraph) (level : ℕ) (core taken : List ℕ) → IsPeeledTo g level core taken → IsUntouched g core taken
     → level ≤ g.size → (g.size - level) + (g.size - length taken) < fuel
     → (core' : List ℕ) × (order : List ℕ) × Certifies g core' order
 rest-peeled zero g level core taken p high fits h = absurd (omega arith)

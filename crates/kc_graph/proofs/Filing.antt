@@ -5,10 +5,10 @@ use Rattle.std.specs.List.{filter}
 use Rattle.std.proofs.lemmas.Bool.{cases_Bool, cases_eq, cases_lt, false≢true, or_right, and_parts, and_from, and_right, eqb-false, or_cases, or_left}
 use Rattle.std.proofs.lemmas.Bool.{false_from_ne_true, true_from_ne_false}
 use Rattle.std.proofs.Math.Bool.{and-true}
-use Rattle.kc_distinct.specs.Lists.{member, Distinct}
-use Rattle.kc_distinct.proofs.Members.{member-append, member-append_left, member-append_right, append-not_member}
-use Rattle.kc_distinct.proofs.Counting.{member-push, member-push_left, member-push_cases, member-push_none, member-filter, filter-member, one_if}
-use Rattle.kc_distinct.proofs.Counting.{Distinct-filter, Distinct-push}
+use Rattle.kc_lists.specs.Lists.{member, Distinct}
+use Rattle.kc_lists.proofs.Members.{member-append, member-append_left, member-append_right, append-not_member}
+use Rattle.kc_lists.proofs.Counting.{member-push, member-push_left, member-push_cases, member-push_none, member-filter, filter-member, one_if}
+use Rattle.kc_lists.proofs.Counting.{Distinct-filter, Distinct-push}
 use Rattle.kc_graph.specs.SimpleGraph.{SimpleGraph, adjacent}
 use Rattle.kc_graph.specs.Certificate.{Certifies}
 use Rattle.kc_graph.specs.Neighbours.{AreNeighbours}
@@ -17,7 +17,7 @@ use Rattle.kc_graph.specs.Peeling.{at, remaining, Filed, Peels, IsAboutToTake, w
 use Rattle.kc_graph.proofs.RowsLemmas.{row-replicate}
 use Rattle.kc_graph.proofs.Buckets.{row-set_same, row-set_other, row_past}
 use Rattle.kc_graph.proofs.PeelingLemmas.{peeling-starts, level-raised, take_one, peeling-finishes, remaining-taken, neighbours-distinct}
-use Rattle.kc_distinct.proofs.Shared.{Distinct-append}
+use Rattle.kc_lists.proofs.Shared.{Distinct-append}
 use Rattle.kc_graph.proofs.Law.{adjacent-sym}
 
 -- the first vertex of a bucket leaves it

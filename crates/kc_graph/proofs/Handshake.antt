@@ -8,11 +8,11 @@ use Rattle.std.specs.FinSet.{FinSet, contains, contains-from_list, from_list, le
 use Rattle.std.proofs.lemmas.Bool.{cases_order, or_left, or_right, or_from, and_parts, and_from, false≢true, true≢false, false_from_ne_true}
 use Rattle.std.proofs.lemmas.List.Folds.{list_any-append}
 use Rattle.std.proofs.lemmas.List.Sums.{sum_by-cons}
-use Rattle.kc_distinct.specs.Lists.{member, below, Distinct, total}
-use Rattle.kc_distinct.proofs.Members.{not_member-parts}
-use Rattle.kc_distinct.proofs.Counting.{count-cons, count-le, count-all, count-agree, member-filter, filter-member}
-use Rattle.kc_distinct.proofs.Counting.{member-below, Distinct-below, Distinct-filter}
-use Rattle.kc_distinct.proofs.Shared.{total-agree}
+use Rattle.kc_lists.specs.Lists.{member, below, Distinct, total}
+use Rattle.kc_lists.proofs.Members.{not_member-parts}
+use Rattle.kc_lists.proofs.Counting.{count-cons, count-le, count-all, count-agree, member-filter, filter-member}
+use Rattle.kc_lists.proofs.Counting.{member-below, Distinct-below, Distinct-filter}
+use Rattle.kc_lists.proofs.Shared.{total-agree}
 use Rattle.kc_graph.specs.SimpleGraph.{pair_cmp}
 use Rattle.kc_graph.specs.Rows.{row, pairs_from, graph_of, IsAdjacency}
 use Rattle.kc_graph.proofs.RowsLemmas.{pair_total, same_pair, Distinct-from_increasing}

@@ -1,6 +1,6 @@
 -- The rows go on holding their edges, where one edge more or less stands in two of them.
 use Rattle.std.proofs.Common.{◌≡◌, ◌≤◌, ◌<◌, ◌+◌, ◌-◌, ℕ, true, false, List, length, arith}
-use Rattle.kc_distinct.specs.Lists.{member}
+use Rattle.kc_lists.specs.Lists.{member}
 use Rattle.kc_graph.specs.Rows.{row, HoldsEdges, BothInserted, BothDeleted}
 use Rattle.kc_graph.proofs.Adding.{added-adjacency, sum-added, len-added}
 use Rattle.kc_graph.proofs.Removing as removing

@@ -7,10 +7,10 @@ use Rattle.std.specs.List.Sorted.{IsStrictlyIncreasing}
 use Rattle.std.proofs.lemmas.Bool.{cases_eq, cases_lt, false≢true}
 use Rattle.std.proofs.lemmas.List.Edits.{length-insert, get_or-insert_below, get_or-insert_at, get_or-insert_above}
 use Rattle.std.proofs.lemmas.List.Folds.{list_any-append}
-use Rattle.kc_distinct.specs.Lists.{member}
+use Rattle.kc_lists.specs.Lists.{member}
 use Rattle.kc_graph.specs.Rows.{Inserted, IsPlace}
 use Rattle.kc_graph.proofs.RowsLemmas.{place-found}
-use Rattle.kc_distinct.proofs.Shared.{or-swap}
+use Rattle.kc_lists.proofs.Shared.{or-swap}
 
 -- a number put between the lesser and the greater ones of an ascending row goes into its place
 inserted_at : (xs : List ℕ) (w i : ℕ) → IsStrictlyIncreasing xs → i ≤ length xs → ((k : ℕ) → k < i → get_or xs k 0 < w)

@@ -6,13 +6,13 @@ use Rattle.std.specs.List.{filter}
 use Rattle.std.proofs.lemmas.Bool.{cases_Bool, and_parts, false≢true, cases_order}
 use Rattle.std.proofs.lemmas.List.{ext_get_or}
 use Rattle.std.proofs.lemmas.List.Elements.{All-contains, All-filter}
-use Rattle.kc_distinct.specs.Lists.{Distinct, member}
-use Rattle.kc_distinct.proofs.Members.{member-cases}
+use Rattle.kc_lists.specs.Lists.{Distinct, member}
+use Rattle.kc_lists.proofs.Members.{member-cases}
 use Rattle.kc_graph.specs.SimpleGraph.{SimpleGraph, adjacent, degree_among}
 use Rattle.kc_graph.specs.Core.{IsInCore, AreCoreNumbers}
 use Rattle.kc_graph.specs.Certificate.{Certifies, degree_as_high}
-use Rattle.kc_distinct.proofs.Counting.{member-other, member-get_or, member-from_Contains, Contains-from_member, Distinct-from_pairs}
-use Rattle.kc_distinct.proofs.Counting.{pairs_from_Distinct, member-filter, filter-member, Distinct-filter, count-le, count-filter}
+use Rattle.kc_lists.proofs.Counting.{member-other, member-get_or, member-from_Contains, Contains-from_member, Distinct-from_pairs}
+use Rattle.kc_lists.proofs.Counting.{pairs_from_Distinct, member-filter, filter-member, Distinct-filter, count-le, count-filter}
 
 -- no vertex is its own neighbour
 pub adjacent-self : (g : SimpleGraph) (v : ℕ) → adjacent g v v ≡ false

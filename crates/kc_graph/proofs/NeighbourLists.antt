@@ -7,11 +7,11 @@ use Rattle.std.specs.List.Sorted.{IsStrictlyIncreasing}
 use Rattle.std.proofs.lemmas.Bool.{cases_Bool, false≢true, true≢false, false_from_ne_true}
 use Rattle.std.proofs.lemmas.List.{reverse-append}
 use Rattle.std.proofs.lemmas.List.Kept.{AllPairs-from_increasing}
-use Rattle.kc_distinct.specs.Lists.{member, below, Distinct}
-use Rattle.kc_distinct.proofs.Members.{member-head, member-tail, member-cases}
-use Rattle.kc_distinct.proofs.Counting.{member-other, member-push_cases, member-push, member-filter, filter-member, member-below, below-member, member-get_or}
-use Rattle.kc_distinct.proofs.Counting.{Contains-from_member}
-use Rattle.kc_distinct.proofs.Shared.{or-turned}
+use Rattle.kc_lists.specs.Lists.{member, below, Distinct}
+use Rattle.kc_lists.proofs.Members.{member-head, member-tail, member-cases}
+use Rattle.kc_lists.proofs.Counting.{member-other, member-push_cases, member-push, member-filter, filter-member, member-below, below-member, member-get_or}
+use Rattle.kc_lists.proofs.Counting.{Contains-from_member}
+use Rattle.kc_lists.proofs.Shared.{or-turned}
 use Rattle.kc_graph.specs.SimpleGraph.{SimpleGraph, adjacent}
 use Rattle.kc_graph.specs.Neighbours.{AreNeighbours, neighbours_of}
 

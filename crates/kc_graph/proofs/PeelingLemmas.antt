@@ -9,19 +9,19 @@ use Rattle.std.proofs.lemmas.List.{take-append-le, get_or_append_left}
 use Rattle.std.proofs.lemmas.List.Quantifiers.{all_pairs_push}
 use Rattle.std.proofs.Math.Bool.{or-false, and-true}
 use Rattle.std.proofs.Math.Seq.{get_or-append_seam, take-length}
-use Rattle.kc_distinct.specs.Lists.{Distinct, below, member}
-use Rattle.kc_distinct.proofs.Counting.{member-get_or, Contains-from_member, pairs_from_Distinct, count-le, count-mono, count-miss, member-push, one_if}
-use Rattle.kc_distinct.proofs.Counting.{member-push_cases, member-push_none, Distinct-push, member-below, below-member, Distinct-below, length-below}
-use Rattle.kc_distinct.proofs.Counting.{drop-member, Distinct-drop, drop-not_take, count-agree, count-without, count-all}
+use Rattle.kc_lists.specs.Lists.{Distinct, below, member}
+use Rattle.kc_lists.proofs.Counting.{member-get_or, Contains-from_member, pairs_from_Distinct, count-le, count-mono, count-miss, member-push, one_if}
+use Rattle.kc_lists.proofs.Counting.{member-push_cases, member-push_none, Distinct-push, member-below, below-member, Distinct-below, length-below}
+use Rattle.kc_lists.proofs.Counting.{drop-member, Distinct-drop, drop-not_take, count-agree, count-without, count-all}
 use Rattle.kc_graph.specs.SimpleGraph.{SimpleGraph, adjacent, degree_among}
 use Rattle.kc_graph.specs.Certificate.{Certifies, degree_as_high}
 use Rattle.kc_graph.specs.Neighbours.{AreNeighbours}
-use Rattle.kc_graph.specs.Peeling.{at, remaining, as_high, Peeled}
+use Rattle.kc_graph.specs.Peeling.{at, remaining, as_high, IsPeeledTo}
 use Rattle.kc_graph.proofs.Law.{adjacent-self}
 use Rattle.kc_graph.proofs.RowsLemmas.{Distinct-from_increasing}
 
 -- nothing is taken yet
-pub peeling-starts : (g : SimpleGraph) (core : List ℕ) → length core ≡ g.size → Peeled g 0 core []
+pub peeling-starts : (g : SimpleGraph) (core : List ℕ) → length core ≡ g.size → IsPeeledTo g 0 core []
 peeling-starts g core n = record {
   one_each = n;
   within = λ v m. absurd (false≢true m);
@@ -34,8 +34,8 @@ peeling-starts g core n = record {
 }
 
 -- where each vertex that is left has more than `level` neighbours left
-pub level-raised : (g : SimpleGraph) (level : ℕ) (core taken : List ℕ) → Peeled g level core taken
-    → ((v : ℕ) → v < g.size → member v taken ≡ false → (level < at core v) × (level < remaining g taken v)) → Peeled g (level + 1) core taken
+pub level-raised : (g : SimpleGraph) (level : ℕ) (core taken : List ℕ) → IsPeeledTo g level core taken
+    → ((v : ℕ) → v < g.size → member v taken ≡ false → (level < at core v) × (level < remaining g taken v)) → IsPeeledTo g (level + 1) core taken
 level-raised g level core taken p more = record {
   one_each = p.one_each;
   within = p.within;
@@ -78,8 +78,8 @@ pub record KeepsTaken (g : SimpleGraph) (level v : ℕ) (taken core core' : List
   pub left : (w : ℕ) → w < g.size → member w taken ≡ false → w ≢ v → level ≤ at core' w
 
 -- a vertex with at most `level` neighbours left is taken
-pub take_one : (g : SimpleGraph) (level v : ℕ) (core taken core' : List ℕ) → Peeled g level core taken → v < g.size → member v taken ≡ false
-    → remaining g taken v ≤ level → KeepsTaken g level v taken core core' → Peeled g level core' (taken ++ v ∷ [])
+pub take_one : (g : SimpleGraph) (level v : ℕ) (core taken core' : List ℕ) → IsPeeledTo g level core taken → v < g.size → member v taken ≡ false
+    → remaining g taken v ≤ level → KeepsTaken g level v taken core core' → IsPeeledTo g level core' (taken ++ v ∷ [])
 take_one g level v core taken core' p l new' few k =
     let after : List ℕ = taken ++ v ∷ [] in
     record {
@@ -130,7 +130,7 @@ take_one g level v core taken core' p l new' few k =
     }
 
 -- once all are taken
-pub peeling-finishes : (g : SimpleGraph) (level : ℕ) (core taken : List ℕ) → Peeled g level core taken
+pub peeling-finishes : (g : SimpleGraph) (level : ℕ) (core taken : List ℕ) → IsPeeledTo g level core taken
     → ((v : ℕ) → v < g.size → member v taken ≡ true) → Certifies g core taken
 peeling-finishes g level core taken p all = record {
   one_each = p.one_each;

@@ -4,13 +4,13 @@ use Rattle.std.proofs.Common.{inr, arith, true≢false, length-set, eq-eqb, ne_e
 use Rattle.std.proofs.lemmas.Bool.{cases_eq}
 use Rattle.std.proofs.lemmas.List.{get_or-set_same, get_or-set_other}
 use Rattle.std.proofs.lemmas.List.Elements.{All-contains}
-use Rattle.kc_distinct.specs.Lists.{member, Distinct, below, place_of}
-use Rattle.kc_distinct.proofs.Members.{below_bound}
-use Rattle.kc_distinct.proofs.Counting.{member-get_or, Contains-from_member, member-from_Contains, Distinct-from_pairs, count-all, count-le}
-use Rattle.kc_distinct.proofs.Counting.{Distinct-below, below-member, length-below}
+use Rattle.kc_lists.specs.Lists.{member, Distinct, below, place_of}
+use Rattle.kc_lists.proofs.Members.{below_bound}
+use Rattle.kc_lists.proofs.Counting.{member-get_or, Contains-from_member, member-from_Contains, Distinct-from_pairs, count-all, count-le}
+use Rattle.kc_lists.proofs.Counting.{Distinct-below, below-member, length-below}
 use Rattle.kc_graph.specs.Certificate.{Enumerates}
 use Rattle.kc_graph.specs.Lawful.{ArePlaces}
-use Rattle.kc_distinct.proofs.Shared.{get_or-any}
+use Rattle.kc_lists.proofs.Shared.{get_or-any}
 
 -- the first places are known
 pub record PlacedTo (n i : ℕ) (order places : List ℕ) : Type 0 where

@@ -7,7 +7,7 @@ use Rattle.std.specs.Cmp.{both_ways}
 use Rattle.std.specs.FinSet.{FinSet, contains, remove, len, contains-remove, len-remove, same_set}
 use Rattle.std.proofs.lemmas.Bool.{cases_Bool, and_parts, and_from, and_left, false_from_ne_true, not_from_false, not_from_true, not-true}
 use Rattle.std.proofs.Math.Bool.{and-true}
-use Rattle.kc_distinct.specs.Lists.{member}
+use Rattle.kc_lists.specs.Lists.{member}
 use Rattle.kc_graph.specs.SimpleGraph.{SimpleGraph, adjacent, pair_cmp}
 use Rattle.kc_graph.specs.Edges.{edge, without_edge}
 use Rattle.kc_graph.specs.Rows.{row, graph_of, IsAdjacency, BothDeleted}

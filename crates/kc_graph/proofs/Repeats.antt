@@ -5,8 +5,8 @@ use Rattle.std.specs.List.Sorted.{IsStrictlyIncreasing, IsNonDecreasing}
 use Rattle.std.specs.Cmp.{both_ways}
 use Rattle.std.proofs.lemmas.Bool.{cases_eq, or_cases, or_left}
 use Rattle.std.proofs.lemmas.List.{take_more, take_more_set, get_or-take, length-take-le}
-use Rattle.kc_distinct.specs.Lists.{member}
-use Rattle.kc_distinct.proofs.Counting.{member-push, member-get_or}
+use Rattle.kc_lists.specs.Lists.{member}
+use Rattle.kc_lists.proofs.Counting.{member-push, member-get_or}
 
 -- The first `kept` numbers ascend and are those of the first `i`, the last of them is the last of these, and the rest is as it was.
 pub record Dropped (old new : List ℕ) (i kept : ℕ) : Type 0 where

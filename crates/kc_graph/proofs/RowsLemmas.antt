@@ -9,8 +9,8 @@ use Rattle.std.proofs.lemmas.Cmp.{on_total, then_total}
 use Rattle.std.proofs.lemmas.Map.Lookups.{exact_pairs, exact_unsigned}
 use Rattle.std.proofs.lemmas.Bool.{cases_lt, or_cases, or_left, or_right, and_parts, and_from, false≢true, false_from_ne_true, ltb-true, cases_order}
 use Rattle.std.proofs.lemmas.List.Folds.{list_any-append}
-use Rattle.kc_distinct.specs.Lists.{member, Distinct}
-use Rattle.kc_distinct.proofs.Members.{member-cases, member-tail}
+use Rattle.kc_lists.specs.Lists.{member, Distinct}
+use Rattle.kc_lists.proofs.Members.{member-cases, member-tail}
 use Rattle.kc_graph.specs.SimpleGraph.{SimpleGraph, adjacent, pair_cmp}
 use Rattle.std.specs.List.Sorted.{IsStrictlyIncreasing}
 use Rattle.std.specs.Result.{is_ok}
@@ -21,8 +21,8 @@ use Rattle.std.proofs.lemmas.List.Kept.{AllPairs-from_increasing}
 use Rattle.kc_graph.specs.Neighbours.{AreNeighbours}
 use Rattle.kc_graph.specs.Rows.{row, pairs_from, graph_of, IsAdjacency, IsPlace}
 use Rattle.kc_graph.proofs.Law.{adjacent-self}
-use Rattle.kc_distinct.proofs.Counting.{member-get_or, Contains-from_member, Distinct-from_pairs}
-use Rattle.kc_distinct.proofs.Shared.{get_or-any, never_falls}
+use Rattle.kc_lists.proofs.Counting.{member-get_or, Contains-from_member, Distinct-from_pairs}
+use Rattle.kc_lists.proofs.Shared.{get_or-any, never_falls}
 
 -- pairs stand in a total order
 pub pair_total : IsTotalOrder pair_cmp

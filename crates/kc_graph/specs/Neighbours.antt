@@ -1,7 +1,7 @@
 -- The neighbours of a vertex as a list.
 use Rattle.std.specs.Prelude.{◌≡◌, ◌<◌, ℕ, List, true, filter, reverse}
 use Rattle.std.specs.List.Sorted.{IsStrictlyIncreasing}
-use Rattle.kc_distinct.specs.Lists.{member, below}
+use Rattle.kc_lists.specs.Lists.{member, below}
 use Rattle.kc_graph.specs.SimpleGraph.{SimpleGraph, adjacent}
 
 -- exactly the neighbours of `v`, in ascending order

@@ -1,7 +1,7 @@
 -- What the decomposition keeps true while it takes one vertex after another.
 use Rattle.std.specs.Prelude.{◌≡◌, ◌≤◌, ◌<◌, ◌+◌, ℕ, min, max, true, false, not, ◌&&◌, List, [], ◌∷◌, ◌++◌, length, slice_index, slice_set, drop}
 use Rattle.std.specs.Prelude.{take, filter, AllPairs, count_by, nat_le, nat_lt, nat_eq, sum, if◌then◌else◌}
-use Rattle.kc_distinct.specs.Lists.{member, Distinct, below}
+use Rattle.kc_lists.specs.Lists.{member, Distinct, below}
 use Rattle.kc_graph.specs.SimpleGraph.{SimpleGraph, adjacent}
 use Rattle.kc_graph.specs.Rows.{row}
 
@@ -19,7 +19,7 @@ as_high g core k v = count_by (λ w. adjacent g v w && nat_le k (at core w)) (be
 
 -- Each taken vertex had at most as many neighbours left as its number, which is at most `level`.
 -- The number of each other one is at least `level`.
-pub record Peeled (g : SimpleGraph) (level : ℕ) (core taken : List ℕ) : Type 0 where
+pub record IsPeeledTo (g : SimpleGraph) (level : ℕ) (core taken : List ℕ) : Type 0 where
   pub one_each : length core ≡ g.size
   pub within : (v : ℕ) → member v taken ≡ true → v < g.size
   pub distinct : Distinct taken
@@ -43,7 +43,7 @@ pub record Filed (core taken : List ℕ) (buckets : List (List ℕ)) : Type 0 wh
 
 -- vertices have been taken up to a level
 pub record Peels (g : SimpleGraph) (level : ℕ) (core taken : List ℕ) (buckets : List (List ℕ)) : Type 0 where
-  pub peeled : Peeled g level core taken
+  pub peeled : IsPeeledTo g level core taken
   pub exact : LeftAreCounted g level core taken
   pub filed : Filed core taken buckets
 
@@ -53,7 +53,7 @@ from_turn level turn rows = slice_set rows level (drop turn (row rows level))
 
 -- `v`, whose number is `level`, has come out of its bucket, and is about to be taken.
 pub record IsAboutToTake (g : SimpleGraph) (level v : ℕ) (core taken : List ℕ) (buckets : List (List ℕ)) : Type 0 where
-  pub peeled : Peeled g level core taken
+  pub peeled : IsPeeledTo g level core taken
   pub exact : LeftAreCounted g level core taken
   pub filed : Filed core (taken ++ v ∷ []) buckets
   pub vertex : v < g.size

@@ -1,6 +1,6 @@
 -- What a plan makes of a graph with its core numbers and their order.
-use Rattle.std.specs.Prelude.{ℕ, ◌+◌, ◌-◌, Bool, not, ◌&&◌, List, [], ◌∷◌, ◌++◌, filter, slice_index, slice_set, nat_le, nat_lt, if◌then◌else◌}
-use Rattle.kc_distinct.specs.Lists.{member, right_after, without}
+use Rattle.std.specs.Prelude.{ℕ, ◌+◌, ◌-◌, Bool, not, ◌&&◌, ◌||◌, List, [], ◌∷◌, ◌++◌, filter, slice_index, slice_set, nat_eq, nat_le, nat_lt, if◌then◌else◌}
+use Rattle.kc_lists.specs.Lists.{member, right_after, without}
 use Rattle.kc_graph.specs.SimpleGraph.{SimpleGraph, adjacent}
 use Rattle.kc_graph.specs.Edges.{with_edge, without_edge}
 use Rattle.kc_graph.specs.Lawful.{Ranked}
@@ -8,6 +8,10 @@ use Rattle.kc_graph.specs.declared.update.Update.{Update}
 use Rattle.kc_graph.specs.declared.plan.Moves.{Moves}
 use Rattle.kc_graph.specs.declared.plan.Moves.TheVariants.{Kept, Plain, Rise, Fall}
 use Rattle.kc_graph.specs.declared.plan.Plan.{Plan}
+
+-- whether the edge of the update joins the two
+abbrev pub joins : Update → ℕ → ℕ → Bool
+joins update x y = (nat_eq x update.u && nat_eq y update.v) || (nat_eq x update.v && nat_eq y update.u)
 
 -- whether the update changes the graph: an edge to be added is not there, or one to be removed is
 abbrev pub is_applied : Update → SimpleGraph → Bool

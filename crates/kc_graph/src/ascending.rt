@@ -1,7 +1,7 @@
 //! Ascending lists of numbers, which a graph keeps for each vertex.
 ghost use Rattle.std.specs.Prelude.{◌≡◌, ◌<◌, ◌-◌, ℕ, true, false, length, take, vec_len, vec_capacity};
 ghost use Rattle.std.specs.List.Sorted.{IsStrictlyIncreasing};
-ghost use Rattle.kc_distinct.specs.Lists.{member};
+ghost use Rattle.kc_lists.specs.Lists.{member};
 ghost use Rattle.kc_graph.specs.Rows.{IsPlace, Inserted, Deleted};
 
 /// Where a number stands in an ascending list, or else where it has to go. One that is greater than the last costs one comparison.

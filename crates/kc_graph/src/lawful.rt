@@ -1,6 +1,6 @@
 //! A graph with its core numbers, and the order that certifies them.
 ghost use Rattle.std.specs.Prelude.{◌≡◌, ◌<◌, IfOk, Some, slice_get};
-ghost use Rattle.kc_distinct.specs.Lists.{place_of};
+ghost use Rattle.kc_lists.specs.Lists.{place_of};
 ghost use Rattle.kc_graph.specs.Certificate.{Certifies, Enumerates};
 ghost use Rattle.kc_graph.specs.Lawful.{Ranked, ArePlaces, IsCertified};
 ghost use Rattle.kc_graph.specs.Core.{AreCoreNumbers};

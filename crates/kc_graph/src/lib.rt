@@ -8,7 +8,7 @@
 //!
 //! `specs/SimpleGraph.antt`, `Core.antt`, `Certificate.antt` and `Edges.antt` say what these words mean; the other files there serve
 //! the crate's own proofs. The three laws below have no code: certified numbers are the core numbers, a graph has one list of core
-//! numbers and no more, and it has one. The crate stands on `kc_distinct` and the standard library.
+//! numbers and no more, and it has one. The crate stands on `kc_lists` and the standard library.
 #![tactic(auto)]
 
 mod ascending;

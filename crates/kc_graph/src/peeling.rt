@@ -4,7 +4,7 @@
 //! or the level where that is more. A vertex that is left stands in the bucket of its number. When a neighbour is taken it is put at
 //! the end of the next lower bucket too, and stays in the old one: an entry whose vertex has a lesser number by now is passed over.
 ghost use Rattle.std.specs.Prelude.{◌≡◌, ◌<◌, ◌≤◌, ◌+◌, ◌-◌, ◌^◌, ℕ, true, [], ◌∷◌, ◌++◌, IfOk, IfSome, MatchOption, OnOk, length, slice_index, slice_set};
-ghost use Rattle.kc_distinct.specs.Lists.{Distinct, member};
+ghost use Rattle.kc_lists.specs.Lists.{Distinct, member};
 ghost use Rattle.kc_graph.specs.Core.{AreCoreNumbers};
 ghost use Rattle.kc_graph.specs.Certificate.{Certifies};
 ghost use Rattle.kc_graph.specs.Lawful.{IsCertified};

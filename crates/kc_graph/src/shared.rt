@@ -5,7 +5,7 @@
 ghost use Rattle.std.specs.Prelude.{◌≡◌, ◌<◌, true, not, IfOk, length};
 ghost use Rattle.std.specs.FinSet as set;
 ghost use Rattle.std.specs.List.Sorted.{IsStrictlyIncreasing};
-ghost use Rattle.kc_distinct.specs.Lists.{member};
+ghost use Rattle.kc_lists.specs.Lists.{member};
 ghost use Rattle.kc_graph.specs.SimpleGraph.{SimpleGraph, adjacent};
 ghost use Rattle.kc_graph.specs.Neighbours.{AreNeighbours, neighbours_of};
 ghost use Rattle.kc_graph.specs.Plans.{is_applied, updated};

@@ -1,7 +1,8 @@
 //! Certificates of small graphs, right ones and wrong ones.
-use crate::states::{graph_of, state_of};
+ghost use Rattle.std.specs.Prelude.{◌<◌, All};
+
 use kc_cert::{check, local_check};
-use kc_graph::{Graph, Lawful, Moves, Plan, Update, Used};
+use kc_graph::{Graph, Lawful, Moves, Plan, Update, Used, decompose_owned};
 use std::process::Abort;
 
 /// Core numbers and an order pass the check of a graph, or do not.
@@ -59,13 +60,15 @@ fn assert_triangle<R: Abort + AllocGlobal>(rt: &R, graph: &Graph) {
 
 #[test]
 fn a_triangle(rt: HostRuntime) {
-    let graph = graph_of(&rt, 3, &[(0, 1), (0, 2), (1, 2)]);
+    let graph = Graph::from_pairs(rt.alloc(), 3, &[(0, 1), (0, 2), (1, 2)]);
+    let graph = graph.expect(&rt, "no memory");
     assert_triangle(&rt, &graph);
 }
 
 #[test]
 fn a_triangle_with_a_tail(rt: HostRuntime) {
-    let graph = graph_of(&rt, 4, &[(0, 1), (0, 2), (1, 2), (2, 3)]);
+    let graph = Graph::from_pairs(rt.alloc(), 4, &[(0, 1), (0, 2), (1, 2), (2, 3)]);
+    let graph = graph.expect(&rt, "no memory");
     assert_checked(
         &rt,
         &graph,
@@ -84,9 +87,14 @@ fn a_triangle_with_a_tail(rt: HostRuntime) {
     );
 }
 
-/// A graph of four vertices of core number 1, which stand in their order.
-fn of_level_1<R: Abort + AllocGlobal>(rt: &R, edges: &[(u32, u32)]) -> Lawful {
-    state_of(rt, 4, edges, &[1, 1, 1, 1], &[0, 1, 2, 3])
+/// A graph of four vertices of core number 1.
+fn of_level_1<R: Abort + AllocGlobal>(rt: &R, edges: &[(u32, u32)]) -> Lawful
+    requires { All (λ p. (p.0 < p.1) × (p.1 < 4)) edges.now }
+{
+    let graph = Graph::from_pairs(rt.alloc(), 4, edges).expect(rt, "no memory");
+    let state = decompose_owned(rt.alloc(), graph).expect(rt, "no memory");
+    assert_eq!(rt; state.core(), [1, 1, 1, 1].as_slice());
+    state
 }
 
 /// Whether a plan of this update, which read nothing, passes.
@@ -246,6 +254,7 @@ fn assert_shifts<R: Abort + AllocGlobal>(rt: &R, state: &Lawful) {
 #[test]
 fn an_edge_between_two_edges(rt: HostRuntime) {
     let state = of_level_1(&rt, &[(0, 1), (2, 3)]);
+    assert_eq!(rt; state.order(), [0, 1, 2, 3].as_slice());
     assert_shifts(&rt, &state);
 }
 

@@ -1,7 +1,6 @@
 //! Small graphs, with answers worked out by hand.
-ghost use Rattle.std.specs.Prelude.{◌<◌};
+ghost use Rattle.std.specs.Prelude.{◌<◌, All};
 
-use crate::states::graph_of;
 use kc_graph::{Graph, Lawful, Neighbours, SharedGraph, Update, core_numbers, decompose};
 use std::process::Abort;
 
@@ -69,8 +68,10 @@ fn assert_numbers<R: Abort + AllocGlobal>(rt: &R, graph: &Graph, core: &[u32], e
 }
 
 /// The core numbers of this graph are these, and its decomposition has its edges and a place for each vertex.
-fn check<R: Abort + AllocGlobal>(rt: &R, vertices: u32, edges: &[(u32, u32)], core: &[u32]) {
-    let graph = graph_of(rt, vertices, edges);
+fn check<R: Abort + AllocGlobal>(rt: &R, vertices: u32, edges: &[(u32, u32)], core: &[u32])
+    requires { All (λ p. (p.0 < p.1) × (p.1 < vertices)) edges.now }
+{
+    let graph = Graph::from_pairs(rt.alloc(), vertices, edges).expect(rt, "no memory");
     assert_numbers(rt, &graph, core, edges.len() as u64);
 }
 

@@ -3,7 +3,7 @@ use Rattle.std.proofs.Common.{◌≡◌, ◌<◌, ◌+◌, ℕ, suc, zero, drop,
 use Rattle.std.proofs.Common.{subst, arith, inl, inr, le-leb, leb-true, eq-eqb, ne_eqb}
 use Rattle.std.specs.Prelude.{count_by}
 use Rattle.std.proofs.lemmas.Bool.{cases_eq, cases_lt, false_from_ne_true}
-use Rattle.kc_distinct.proofs.Counting.{count-agree, count-cons, one_if}
+use Rattle.kc_lists.proofs.Counting.{count-agree, count-cons, one_if}
 use Rattle.kc_hindex.specs.Rounds.{how_many_reach}
 
 -- a number reaches `k` if it is `k` or reaches the next number

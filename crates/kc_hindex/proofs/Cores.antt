@@ -5,10 +5,10 @@ use Rattle.std.specs.Prelude.{count_by}
 use Rattle.std.specs.List.{filter}
 use Rattle.std.proofs.lemmas.Bool.{and_parts}
 use Rattle.std.proofs.lemmas.List.Elements.{All-contains}
-use Rattle.kc_distinct.specs.Lists.{member, below, Distinct}
-use Rattle.kc_distinct.proofs.Counting.{count-mono, count-le, count-filter, member-get_or, member-from_Contains, Contains-from_member}
-use Rattle.kc_distinct.proofs.Counting.{Distinct-from_pairs, pairs_from_Distinct, member-filter, filter-member, Distinct-filter, Distinct-below}
-use Rattle.kc_distinct.proofs.Counting.{member-below, below-member}
+use Rattle.kc_lists.specs.Lists.{member, below, Distinct}
+use Rattle.kc_lists.proofs.Counting.{count-mono, count-le, count-filter, member-get_or, member-from_Contains, Contains-from_member}
+use Rattle.kc_lists.proofs.Counting.{Distinct-from_pairs, pairs_from_Distinct, member-filter, filter-member, Distinct-filter, Distinct-below}
+use Rattle.kc_lists.proofs.Counting.{member-below, below-member}
 use Rattle.kc_graph.specs.SimpleGraph.{SimpleGraph, adjacent, degree_among}
 use Rattle.kc_graph.specs.Core.{IsInCore, IsCoreNumber, AreCoreNumbers, HasMinDegree}
 use Rattle.kc_graph.specs.Neighbours.{neighbours_of}

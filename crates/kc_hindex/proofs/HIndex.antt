@@ -3,8 +3,8 @@ use Rattle.std.proofs.Common.{◌≡◌, ◌≤◌, ◌<◌, ◌+◌, ℕ, suc, 
 use Rattle.std.proofs.Common.{◌⊎◌, inl, inr, arith, true≢false, le_trans, leb-true, le-leb}
 use Rattle.std.specs.Prelude.{count_by}
 use Rattle.std.proofs.lemmas.Bool.{cases_Bool, cases_eq}
-use Rattle.kc_distinct.specs.Lists.{member}
-use Rattle.kc_distinct.proofs.Counting.{count-cons, count-mono, count-le-length}
+use Rattle.kc_lists.specs.Lists.{member}
+use Rattle.kc_lists.proofs.Counting.{count-cons, count-mono, count-le-length}
 use Rattle.kc_hindex.specs.Rounds.{how_many_reach, h_index_up_to, h_index, IsHIndex}
 
 -- as many numbers as the h-index up to a limit reach it

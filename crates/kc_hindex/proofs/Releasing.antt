@@ -5,8 +5,8 @@ use Rattle.std.proofs.Common.{ne_eqb}
 use Rattle.std.specs.List.{filter}
 use Rattle.std.proofs.lemmas.List.{take_more, get_or-set_same, get_or-set_other}
 use Rattle.std.proofs.lemmas.Bool.{cases_eq, and_from, and_parts, and_left, and_right, or_right, false_from_ne_true}
-use Rattle.kc_distinct.specs.Lists.{Distinct, member}
-use Rattle.kc_distinct.proofs.Counting.{member-push, take-not_here, member-push_other, filter-push_yes, filter-push_no, one_if}
+use Rattle.kc_lists.specs.Lists.{Distinct, member}
+use Rattle.kc_lists.proofs.Counting.{member-push, take-not_here, member-push_other, filter-push_yes, filter-push_no, one_if}
 use Rattle.kc_graph.specs.Rows.{row}
 use Rattle.kc_graph.specs.Peeling.{at}
 use Rattle.kc_graph.proofs.Buckets.{row-set_same, row-set_other}

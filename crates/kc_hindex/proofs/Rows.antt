@@ -1,8 +1,8 @@
 -- What the list of the neighbours of a vertex gives to a round.
 use Rattle.std.proofs.Common.{◌≡◌, ◌<◌, ◌≤◌, ℕ, List, [], length, map, ap, sym, ◌∙◌, arith}
 use Rattle.std.specs.Prelude.{count_by}
-use Rattle.kc_distinct.specs.Lists.{below}
-use Rattle.kc_distinct.proofs.Counting.{count-all, count-le, member-below, Distinct-below}
+use Rattle.kc_lists.specs.Lists.{below}
+use Rattle.kc_lists.proofs.Counting.{count-all, count-le, member-below, Distinct-below}
 use Rattle.kc_graph.specs.SimpleGraph.{SimpleGraph, adjacent, degree_among}
 use Rattle.kc_graph.specs.Neighbours.{AreNeighbours}
 use Rattle.kc_graph.proofs.NeighbourLists.{neighbours_are}

@@ -4,10 +4,10 @@ use Rattle.std.proofs.Common.{subst, ◌⊎◌, inl, inr, arith, le_refl}
 use Rattle.std.specs.Prelude.{count_by}
 use Rattle.std.proofs.lemmas.Bool.{cases_eq}
 use Rattle.std.proofs.lemmas.List.{ext_get_or}
-use Rattle.kc_distinct.proofs.Members.{member-head, member-tail}
-use Rattle.kc_distinct.specs.Lists.{member, below, total}
-use Rattle.kc_distinct.proofs.Counting.{member-below, count-le-length, length-below, count-le, count-all}
-use Rattle.kc_distinct.proofs.Shared.{total-agree}
+use Rattle.kc_lists.proofs.Members.{member-head, member-tail}
+use Rattle.kc_lists.specs.Lists.{member, below, total}
+use Rattle.kc_lists.proofs.Counting.{member-below, count-le-length, length-below, count-le, count-all}
+use Rattle.kc_lists.proofs.Shared.{total-agree}
 use Rattle.kc_graph.specs.SimpleGraph.{SimpleGraph, adjacent, degree_among}
 use Rattle.kc_graph.specs.Neighbours.{neighbours_of}
 use Rattle.kc_graph.proofs.NeighbourLists.{neighbours_within, neighbours_once}

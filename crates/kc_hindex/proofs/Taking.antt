@@ -8,12 +8,12 @@ use Rattle.std.proofs.lemmas.Bool.{cases_Bool, cases_eq, cases_lt, and_from, and
 use Rattle.std.proofs.lemmas.Bool.{false_from_ne_true, true_from_ne_false, not_from_false, not-true, or_right}
 use Rattle.std.proofs.lemmas.List.Elements.{All-contains}
 use Rattle.std.proofs.Math.Bool.{and-true}
-use Rattle.kc_distinct.specs.Lists.{Distinct, below, member}
-use Rattle.kc_distinct.proofs.Members.{member-append, member-append_left, member-append_right, Distinct-cut}
-use Rattle.kc_distinct.proofs.Counting.{Contains-from_member, count-agree, count-filter, count-le, count-mono, Distinct-below, Distinct-filter, one_if}
-use Rattle.kc_distinct.proofs.Counting.{Distinct-from_pairs, Distinct-push, filter-member, below-member, member-below, member-filter, member-get_or}
-use Rattle.kc_distinct.proofs.Counting.{member-push, member-push_cases, member-push_left, member-push_none, pairs_from_Distinct}
-use Rattle.kc_distinct.proofs.Shared.{Distinct-append}
+use Rattle.kc_lists.specs.Lists.{Distinct, below, member}
+use Rattle.kc_lists.proofs.Members.{member-append, member-append_left, member-append_right, Distinct-cut}
+use Rattle.kc_lists.proofs.Counting.{Contains-from_member, count-agree, count-filter, count-le, count-mono, Distinct-below, Distinct-filter, one_if}
+use Rattle.kc_lists.proofs.Counting.{Distinct-from_pairs, Distinct-push, filter-member, below-member, member-below, member-filter, member-get_or}
+use Rattle.kc_lists.proofs.Counting.{member-push, member-push_cases, member-push_left, member-push_none, pairs_from_Distinct}
+use Rattle.kc_lists.proofs.Shared.{Distinct-append}
 use Rattle.kc_graph.specs.SimpleGraph.{SimpleGraph, adjacent, degree_among}
 use Rattle.kc_graph.specs.Core.{AreCoreNumbers, HasMinDegree, IsInCore}
 use Rattle.kc_graph.specs.Certificate.{Certifies}

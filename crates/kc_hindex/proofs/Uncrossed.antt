@@ -3,8 +3,8 @@ use Rattle.std.proofs.Common.{◌≡◌, ◌≤◌, ◌<◌, ◌∙◌, ℕ, suc
 use Rattle.std.proofs.Common.{true≢false, leb-true, le-leb}
 use Rattle.std.specs.Prelude.{count_by}
 use Rattle.std.proofs.lemmas.Bool.{cases_lt}
-use Rattle.kc_distinct.specs.Lists.{below}
-use Rattle.kc_distinct.proofs.Counting.{count-le-length, count-mono, length-below}
+use Rattle.kc_lists.specs.Lists.{below}
+use Rattle.kc_lists.proofs.Counting.{count-le-length, count-mono, length-below}
 use Rattle.kc_graph.specs.SimpleGraph.{SimpleGraph, adjacent}
 use Rattle.kc_graph.specs.Neighbours.{neighbours_of}
 use Rattle.kc_graph.proofs.NeighbourLists.{neighbours_within}

@@ -1,10 +1,10 @@
 -- What the search for an order keeps true, where the core numbers are known.
 use Rattle.std.specs.Prelude.{◌≡◌, ◌<◌, ◌+◌, ◌&&◌, ◌++◌, ◌∷◌, [], max, ℕ, true, false, List, length, nat_eq, nat_lt, if◌then◌else◌}
 use Rattle.std.specs.List.{filter}
-use Rattle.kc_distinct.specs.Lists.{member, Distinct}
+use Rattle.kc_lists.specs.Lists.{member, Distinct}
 use Rattle.kc_graph.specs.SimpleGraph.{SimpleGraph}
 use Rattle.kc_graph.specs.Rows.{row}
-use Rattle.kc_graph.specs.Peeling.{at, remaining, Peeled}
+use Rattle.kc_graph.specs.Peeling.{at, remaining, IsPeeledTo}
 
 -- The number left of a vertex is how many neighbours it has left, or its core number where that is more. A vertex that is left, and has no
 -- more neighbours left than its core number, waits in the row of that number.
@@ -18,12 +18,12 @@ pub record Waits (g : SimpleGraph) (core left taken : List ℕ) (waiting : List 
 
 -- Vertices of the levels below have been taken, and some of this level, each with few neighbours left.
 pub record Orders (g : SimpleGraph) (core : List ℕ) (level : ℕ) (left taken : List ℕ) (waiting : List (List ℕ)) : Type 0 where
-  pub peeled : Peeled g level core taken
+  pub peeled : IsPeeledTo g level core taken
   pub rest : Waits g core left taken waiting
 
 -- `v`, whose core number is `level`, has come out of its row, and is about to be taken.
 pub record IsNext (g : SimpleGraph) (core : List ℕ) (level v : ℕ) (left taken : List ℕ) (waiting : List (List ℕ)) : Type 0 where
-  pub peeled : Peeled g level core taken
+  pub peeled : IsPeeledTo g level core taken
   pub vertex : v < g.size
   pub here : at core v ≡ level
   pub few : at left v ≡ at core v

@@ -1,6 +1,6 @@
 -- Rounds in which each vertex takes the h-index of its neighbours' numbers (Lü, Zhou, Zhang and Stanley 2016).
 use Rattle.std.specs.Prelude.{◌≡◌, ◌≤◌, ◌<◌, ℕ, zero, suc, List, length, map, slice_index, count_by, nat_le, if◌then◌else◌}
-use Rattle.kc_distinct.specs.Lists.{below}
+use Rattle.kc_lists.specs.Lists.{below}
 use Rattle.kc_graph.specs.SimpleGraph.{SimpleGraph, degree_among}
 use Rattle.kc_graph.specs.Neighbours.{neighbours_of}
 

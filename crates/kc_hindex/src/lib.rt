@@ -8,7 +8,7 @@
 //! `specs/Rounds.antt` says what an h-index is, what a round makes of numbers, and which round is the last; the other files there serve
 //! the crate's own proofs. The laws below have no code. The code asks for a thread for each processor that `rayon` counts, and for at
 //! most 32. That more than one thread ran is said by no clause; that the numbers and the count of rounds do not depend on it is. The
-//! crate stands on `kc_graph`, `kc_distinct` and `rayon`.
+//! crate stands on `kc_graph`, `kc_lists` and `rayon`.
 #![tactic(auto)]
 
 mod counting;
@@ -20,7 +20,7 @@ mod piece;
 mod rounds;
 
 ghost use Rattle.std.specs.Prelude.{◌≡◌, ◌≤◌, ◌<◌, ◌+◌, ℕ, suc, List};
-ghost use Rattle.kc_distinct.specs.Lists.{total};
+ghost use Rattle.kc_lists.specs.Lists.{total};
 ghost use Rattle.kc_graph.specs.SimpleGraph.{SimpleGraph};
 ghost use Rattle.kc_graph.specs.Core.{IsCoreNumber, AreCoreNumbers};
 ghost use Rattle.kc_hindex.specs.Rounds.{IsHIndex, h_index, after_rounds, IsSettled, AreRounds, HasRound};

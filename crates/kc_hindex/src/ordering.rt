@@ -5,7 +5,7 @@
 //! each have more neighbours among them than the level, so they would be in a higher core (Batagelj and Zaversnik 2003 take vertices so
 //! to find the numbers).
 ghost use Rattle.std.specs.Prelude.{◌≡◌, ◌<◌, ◌≤◌, ◌+◌, ◌-◌, ◌^◌, ℕ, true, [], ◌∷◌, ◌++◌, IfOk, OnOk, IfSome, IfNone, length, slice_set};
-ghost use Rattle.kc_distinct.specs.Lists.{Distinct, member};
+ghost use Rattle.kc_lists.specs.Lists.{Distinct, member};
 ghost use Rattle.kc_graph.specs.Core.{AreCoreNumbers};
 ghost use Rattle.kc_graph.specs.Certificate.{Certifies};
 ghost use Rattle.kc_graph.specs.Peeling.{at};

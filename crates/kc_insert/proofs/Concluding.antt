@@ -3,9 +3,9 @@ use Rattle.std.proofs.Common.{◌≡◌, ◌<◌, ◌⊎◌, ◌++◌, ℕ, min,
 use Rattle.std.specs.Prelude.{All}
 use Rattle.std.proofs.lemmas.List.{drop_all, take_all}
 use Rattle.std.proofs.lemmas.List.Elements.{All-weaker}
-use Rattle.kc_distinct.specs.Lists.{member}
-use Rattle.kc_distinct.proofs.Counting.{member-filter}
-use Rattle.kc_distinct.proofs.Members.{member-append}
+use Rattle.kc_lists.specs.Lists.{member}
+use Rattle.kc_lists.proofs.Counting.{member-filter}
+use Rattle.kc_lists.proofs.Members.{member-append}
 use Rattle.kc_graph.specs.SimpleGraph.{adjacent}
 use Rattle.kc_graph.specs.Lawful.{Ranked, IsCertified}
 use Rattle.kc_graph.specs.declared.update.Update.{Update}
@@ -30,8 +30,8 @@ use Rattle.kc_insert.proofs.Tidy.{left-queued}
 use Rattle.kc_insert.proofs.Widening.{state-widened}
 
 -- each candidate on the list of these was queued
-cand-queued : (r : Rising) (x : ℕ) → member x (cands r) ≡ true → member x r.queue.items ≡ true
-cand-queued r x m = (member-filter (is_candidate r) x r.queue.items m).0
+listed-queued : (r : Rising) (x : ℕ) → member x (cands r) ≡ true → member x r.queue.items ≡ true
+listed-queued r x m = (member-filter (is_candidate r) x r.queue.items m).0
 
 -- whoever was shifted has left the queue
 shifted-left : (r : Rising) (x : ℕ) → IsOrderly r → member x (firsts r.shifts.items) ≡ true → member x (left r) ≡ true
@@ -39,7 +39,10 @@ shifted-left r x o m = o.weak_left x (take-member (length r.shifts.items) r.seen
 
 -- candidates and those that were shifted were queued
 pub moved-queued : (r : Rising) (x : ℕ) → IsOrderly r → member x (cands r ++ firsts r.shifts.items) ≡ true → member x r.queue.items ≡ true
-moved-queued r x o m = elim (member-append x (cands r) (firsts r.shifts.items) m) [ inl k ↦ cand-queued r x k | inr k ↦ left-queued r x (shifted-left r x o k) ]
+moved-queued r x o m = elim (member-append x (cands r) (firsts r.shifts.items) m) [
+  | inl k ↦ listed-queued r x k
+  | inr k ↦ left-queued r x (shifted-left r x o k)
+]
 
 -- once all turns were taken, whoever was queued has left the queue
 all-left : (r : Rising) → r.turn ≡ length r.queue.items → left r ≡ r.queue.items

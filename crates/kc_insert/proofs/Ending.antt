@@ -2,8 +2,8 @@
 use Rattle.std.proofs.Common.{◌≡◌, ◌≢◌, ◌≤◌, ◌<◌, ◌+◌, ℕ, Bool, true, false, cond, ◌&&◌, ◌||◌, List, [], ltb, leb, sym, ◌∙◌, ap, subst, inl, inr}
 use Rattle.std.proofs.Common.{arith, true≢false, eq-eqb, le_trans}
 use Rattle.std.proofs.lemmas.Bool.{cases_Bool, cases_eq, cases_lt, cases_order, false≢true}
-use Rattle.kc_distinct.specs.Lists.{member}
-use Rattle.kc_distinct.proofs.Counting.{one_if}
+use Rattle.kc_lists.specs.Lists.{member}
+use Rattle.kc_lists.proofs.Counting.{one_if}
 use Rattle.kc_cert.specs.Ranks.{then_after}
 use Rattle.kc_view.specs.Search.{Search, among, on_level, above, after, OnLevel}
 use Rattle.kc_view.proofs.Among.{among-agree, among-mono, among-sum}

@@ -5,9 +5,9 @@ use Rattle.std.specs.Prelude.{is_some}
 use Rattle.std.specs.Vec.{vec_len}
 use Rattle.std.proofs.lemmas.Bool.{cases_Bool, cases_eq, cases_order, false≢true, false_from_ne_true}
 use Rattle.std.proofs.lemmas.List.{take_more, drop_more, drop_all, drop_at, drop-append-le, length_push, get_or_read}
-use Rattle.kc_distinct.specs.Lists.{member, Distinct}
-use Rattle.kc_distinct.proofs.Members.{member-head, member-tail, member-cases, member-append, member-append_left, member-append_right, not_member-cons}
-use Rattle.kc_distinct.proofs.Counting.{member-get_or, member-push_cases, Distinct-drop}
+use Rattle.kc_lists.specs.Lists.{member, Distinct}
+use Rattle.kc_lists.proofs.Members.{member-head, member-tail, member-cases, member-append, member-append_left, member-append_right, not_member-cons}
+use Rattle.kc_lists.proofs.Counting.{member-get_or, member-push_cases, Distinct-drop}
 use Rattle.kc_graph.specs.declared.update.Update.{Update}
 use Rattle.kc_cert.specs.Local.{firsts, seconds}
 use Rattle.kc_cert.specs.Ranks.{AscendsBy}
@@ -17,7 +17,7 @@ use Rattle.kc_view.proofs.Fronts.{firsts-push, seconds-push}
 use Rattle.kc_insert.specs.Marks.{earlier_in, later_in, turn_in, candidate_in, weak_in}
 use Rattle.kc_insert.specs.Rising.{is_queued, earlier_at, later_at, turn_at, is_candidate, is_weak, cands, left, waiting, pending, IsOrderly, IsTidyRising}
 use Rattle.kc_insert.specs.Searching.{ahead, Widened, Drops, BetweenTurns, InSettling}
-use Rattle.kc_insert.specs.Turns.{Leaves, Loses, Evicts, LinedUp, SettlingAt, IsBetweenTurns, IsSettling}
+use Rattle.kc_insert.specs.Turns.{LeavesQueue, Loses, Evicts, LinedUp, SettlingAt, IsBetweenTurns, IsSettling}
 use Rattle.kc_insert.specs.declared.losing.Loss.TheVariants as loss
 use Rattle.kc_insert.specs.declared.rising.Mark.{Mark}
 use Rattle.kc_insert.specs.declared.rising.Rising.{Rising}
@@ -299,7 +299,7 @@ none-less n'' n' n h e e' = grind arith
 
 -- the first of the queue is settled, and its neighbours lose by it
 pub settled-now : (q : Search) (root w : ℕ) (mark : Mark) (row : List ℕ) (old mid new : Rising) → Widened q root → IsOrderly old
-    → IsOrderly new → Leaves w mark old mid → mark.is_candidate ≡ false → Loses q.level loss.Settled row mid new
+    → IsOrderly new → LeavesQueue w mark old mid → mark.is_candidate ≡ false → Loses q.level loss.Settled row mid new
     → old.turn < length old.queue.items → get_or old.queue.items old.turn 0 ≡ w → ((y : ℕ) → y < q.size → member y row ≡ q.adj w y)
     → earlier_at old w + ahead q w ≤ q.level
     → IsBetweenTurns q root old → IsSettling q root new w

@@ -2,10 +2,11 @@
 use Rattle.std.proofs.Common.{◌≡◌, ◌≤◌, ◌<◌, ◌+◌, ℕ, Bool, true, false, cond, not, ◌&&◌, ◌||◌, List, [], ◌∷◌, ◌++◌, length, take, get_or, eqb, ltb}
 use Rattle.std.proofs.Common.{refl, sym, ◌∙◌, ap, arith, eqb-true}
 use Rattle.std.specs.Prelude.{count_by}
+use Rattle.std.proofs.Math.Bool.{and-true}
 use Rattle.std.proofs.lemmas.Bool.{and_parts}
 use Rattle.std.proofs.lemmas.List.{take_more}
-use Rattle.kc_distinct.specs.Lists.{member, Distinct, below}
-use Rattle.kc_distinct.proofs.Counting.{member-push, member-below, below-member, Distinct-below, count-agree, count-le, one_if}
+use Rattle.kc_lists.specs.Lists.{member, Distinct, below}
+use Rattle.kc_lists.proofs.Counting.{member-push, member-below, below-member, Distinct-below, count-agree, count-le, one_if}
 use Rattle.kc_cert.proofs.Tallying.{count-more}
 use Rattle.kc_view.specs.Search.{Search, on_level, above, after}
 use Rattle.kc_insert.specs.Turns.{side_in, is_ahead, is_next, IsAheadOf}
@@ -13,17 +14,13 @@ use Rattle.kc_insert.specs.declared.ahead.Ahead.{Ahead}
 use Rattle.kc_insert.specs.declared.ahead.Side.{Side}
 use Rattle.kc_insert.specs.declared.ahead.Side.TheVariants.{Higher, Next, Before}
 
--- a truth with `true` is that truth
-and-yes : (a : Bool) → (a && true) ≡ a
-and-yes a = grind arith
-
 -- a truth, or something and `false`, is that truth
 or_no : (a b : Bool) → a ≡ (a || (b && false))
 or_no a b = grind arith
 
 -- who is on the list of those behind, after one neighbour more was put there or not
 pub member-more : (b : Bool) (x y : ℕ) (next next' : List ℕ) → next' ≡ cond b (next ++ x ∷ []) next → member y next' ≡ (member y next || (eqb y x && b))
-member-more true x y next next' e = ap (member y) e ∙ (member-push y x next ∙ ap (λ k. member y next || k) (sym (and-yes (eqb y x))))
+member-more true x y next next' e = ap (member y) e ∙ (member-push y x next ∙ ap (λ k. member y next || k) (sym (and-true (eqb y x))))
 member-more false x y next next' e = ap (member y) e ∙ or_no (member y next) (eqb y x)
 
 -- who is on the list of those behind, and was looked at, after one neighbour more

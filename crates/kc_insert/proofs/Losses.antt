@@ -6,14 +6,14 @@ use Rattle.std.specs.Prelude.{is_some}
 use Rattle.std.proofs.lemmas.Bool.{cases_Bool, cases_eq, false≢true, false_from_ne_true}
 use Rattle.std.proofs.lemmas.List.{append-nil, append_assoc, take-append-le}
 use Rattle.std.proofs.Math.Bool.{or-false}
-use Rattle.kc_distinct.specs.Lists.{member, Distinct}
-use Rattle.kc_distinct.proofs.Members.{member-head, member-tail, member-cases, member-append_left}
-use Rattle.kc_distinct.proofs.Counting.{member-push, member-push_cases, Distinct-push}
-use Rattle.kc_distinct.proofs.Shared.{member-grown_other}
+use Rattle.kc_lists.specs.Lists.{member, Distinct}
+use Rattle.kc_lists.proofs.Members.{member-head, member-tail, member-cases, member-append_left}
+use Rattle.kc_lists.proofs.Counting.{member-push, member-push_cases, Distinct-push}
+use Rattle.kc_lists.proofs.Shared.{member-grown_other}
 use Rattle.kc_cert.specs.Local.{firsts, seconds}
 use Rattle.kc_cert.proofs.Final.{filter-has}
 use Rattle.kc_cert.proofs.Turns.{length-firsts}
-use Rattle.kc_seen.specs.Maps.{value_of}
+use Rattle.kc_marks.specs.Maps.{value_of}
 use Rattle.kc_insert.specs.Marks.{earlier_in, later_in, turn_in, candidate_in, weak_in}
 use Rattle.kc_insert.specs.Rising.{is_queued, earlier_at, later_at, turn_at, is_candidate, is_weak, cands, left, IsOrderly}
 use Rattle.kc_insert.specs.Turns.{loses_later, loses_earlier, taken_from, recounted, grown, Recounts, LosesOne, Loses}

@@ -6,16 +6,16 @@ use Rattle.std.specs.List.{insert}
 use Rattle.std.proofs.lemmas.Bool.{cases_Bool, cases_eq, or_cases, or_left, or_right}
 use Rattle.std.proofs.lemmas.List.{get_or-take, length-take}
 use Rattle.std.proofs.lemmas.List.Edits.{length-insert}
-use Rattle.kc_distinct.specs.Lists.{member, Distinct}
-use Rattle.kc_distinct.proofs.Counting.{member-get_or, member-push}
-use Rattle.kc_distinct.proofs.Shared.{or-absorbs}
+use Rattle.kc_lists.specs.Lists.{member, Distinct}
+use Rattle.kc_lists.proofs.Counting.{member-get_or, member-push}
+use Rattle.kc_lists.proofs.Shared.{or-absorbs}
 use Rattle.kc_graph.specs.declared.update.Update.{Update}
 use Rattle.kc_cert.specs.Local.{firsts, seconds}
 use Rattle.kc_cert.specs.Ranks.{AscendsBy}
 use Rattle.kc_view.specs.Answers.{has_core}
 use Rattle.kc_view.specs.Views.{Shown}
-use Rattle.kc_seen.specs.Maps.{value_of}
-use Rattle.kc_seen.specs.Seen.{MarksOne}
+use Rattle.kc_marks.specs.Maps.{value_of}
+use Rattle.kc_marks.specs.SearchMarks.{MarksOne}
 use Rattle.kc_insert.specs.Marks.{earlier_in, later_in, turn_in, candidate_in, weak_in}
 use Rattle.kc_insert.specs.Rising.{is_queued, earlier_at, later_at, turn_at, is_candidate, is_weak, left, IsOrderly, IsTidyRising}
 use Rattle.kc_insert.specs.Turns.{Passes, PassedOn, IsPlaceWithin}

@@ -3,11 +3,11 @@ use Rattle.std.proofs.Common.{◌≡◌, ◌≢◌, ◌≤◌, ◌<◌, ◌&&◌
 use Rattle.std.proofs.Common.{refl, sym, ◌∙◌, ap, inl, inr, arith, true≢false, eqb-true, eq-eqb, ne_eqb}
 use Rattle.std.specs.List.{insert}
 use Rattle.std.proofs.lemmas.Bool.{cases_eq, or_cases, or_from, false_from_ne_true}
-use Rattle.std.proofs.Math.Bool.{or_assoc}
-use Rattle.kc_distinct.specs.Lists.{member, Distinct}
-use Rattle.kc_distinct.proofs.Members.{member-head, member-tail}
-use Rattle.kc_distinct.proofs.Counting.{member-get_or, drop-member}
-use Rattle.kc_distinct.proofs.Shared.{or-turned}
+use Rattle.std.proofs.Math.Bool.{and-true, or_assoc}
+use Rattle.kc_lists.specs.Lists.{member, Distinct}
+use Rattle.kc_lists.proofs.Members.{member-head, member-tail}
+use Rattle.kc_lists.proofs.Counting.{member-get_or, drop-member}
+use Rattle.kc_lists.proofs.Shared.{or-turned}
 use Rattle.kc_cert.specs.Ranks.{rank_in, AscendsBy}
 use Rattle.kc_cert.proofs.Ordered.{rank-here}
 
@@ -67,10 +67,6 @@ inserted-ascends r (x ∷ xs) (suc i) y a l before behind apart = (
       (λ z m. apart z (member-tail z x xs m)),
 )
 
--- a truth and not `false` is that truth
-and-yes : (a : Bool) → a ≡ (a && not false)
-and-yes a = grind arith
-
 -- the first item is not among those behind the first `n` + 1
 first_item-not_behind : (e m t : Bool) → e ≡ true → ((e || m) && not (e || t)) ≡ false
 first_item-not_behind e m t h = grind arith
@@ -81,7 +77,7 @@ other_item-behind e m t h = grind arith
 
 -- what stands behind the first `n` of distinct items is what is in the list and not among these
 pub drop-has : (n z : ℕ) (xs : List ℕ) → Distinct xs → member z (drop n xs) ≡ (member z xs && not (member z (take n xs)))
-drop-has zero z xs d = and-yes (member z xs)
+drop-has zero z xs d = sym (and-true (member z xs))
 drop-has (suc n) z [] d = refl
 drop-has (suc n) z (x ∷ xs) d = elim (cases_eq z x) [
   | inl e ↦

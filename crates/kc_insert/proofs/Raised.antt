@@ -4,15 +4,15 @@ use Rattle.std.proofs.Common.{get_or, eqb, ltb, sym, ◌∙◌, ap, subst, inl, 
 use Rattle.std.specs.Prelude.{count_by}
 use Rattle.std.proofs.lemmas.Bool.{cases_eq, or_cases, or_right, and_parts, false_from_ne_true}
 use Rattle.std.proofs.lemmas.List.{drop_more}
-use Rattle.kc_distinct.specs.Lists.{member, below}
-use Rattle.kc_distinct.proofs.Members.{member-head}
-use Rattle.kc_distinct.proofs.Counting.{member-get_or, member-push_cases, Distinct-below, count-le, count-miss, one_if}
+use Rattle.kc_lists.specs.Lists.{member, below}
+use Rattle.kc_lists.proofs.Members.{member-head}
+use Rattle.kc_lists.proofs.Counting.{member-get_or, member-push_cases, Distinct-below, count-le, count-miss, one_if}
 use Rattle.kc_cert.specs.Ranks.{AscendsBy}
 use Rattle.kc_view.specs.Search.{Search, after, OnLevel, Forward, at_root, further}
 use Rattle.kc_insert.specs.Marks.{earlier_in, later_in, candidate_in}
 use Rattle.kc_insert.specs.Rising.{earlier_at, later_at, is_candidate, cands, left, waiting, IsOrderly}
 use Rattle.kc_insert.specs.Searching.{Widened, coming, BetweenTurns}
-use Rattle.kc_insert.specs.Turns.{Leaves, PassedOn, IsAheadOf, StandsBehindLeft, BetweenAt, IsBetweenTurns}
+use Rattle.kc_insert.specs.Turns.{LeavesQueue, PassedOn, IsAheadOf, StandsBehindLeft, BetweenAt, IsBetweenTurns}
 use Rattle.kc_insert.specs.declared.ahead.Ahead.{Ahead}
 use Rattle.kc_insert.specs.declared.rising.Mark.{Mark}
 use Rattle.kc_insert.specs.declared.rising.Rising.{Rising}
@@ -37,7 +37,7 @@ few-coming s r w z o m none =
     omega (arith, some, less)
 
 -- the queue behind the first of those that wait
-pub waiting-next : (w : ℕ) (mark : Mark) (old new : Rising) → Leaves w mark old new → old.turn < length old.queue.items
+pub waiting-next : (w : ℕ) (mark : Mark) (old new : Rising) → LeavesQueue w mark old new → old.turn < length old.queue.items
     → get_or old.queue.items old.turn 0 ≡ w → waiting old ≡ w ∷ waiting new
 waiting-next w mark old new l lt first = drop_more old.queue.items old.turn 0 lt ∙ (ap (λ y. y ∷ drop (old.turn + 1) old.queue.items) first
     ∙ ap (λ ys. w ∷ ys) (sym (ap (λ xs. drop new.turn xs) l.queue ∙ ap (λ n. drop n old.queue.items) l.turn)))
@@ -49,7 +49,7 @@ reached-level q root x c (further y z r o a l) = o
 
 -- what is passed on stands behind those that have left, and apart from all that are queued
 pub stands-behind : (q : Search) (root w frontier : ℕ) (mark : Mark) (a : Ahead) (old mid : Rising) → Widened q root → IsOrderly old
-    → Leaves w mark old mid → old.turn < length old.queue.items → get_or old.queue.items old.turn 0 ≡ w
+    → LeavesQueue w mark old mid → old.turn < length old.queue.items → get_or old.queue.items old.turn 0 ≡ w
     → IsAheadOf q w a → BetweenAt q root old frontier → (y : ℕ) → member y a.next.items ≡ true → StandsBehindLeft q.rank mid a.next.items y
 stands-behind q root w frontier mark a old mid c o l lt first ahead' b y m =
     let only = ahead'.only y m in
@@ -89,7 +89,7 @@ waiting-queued r o z = drop-has r.turn z r.queue.items o.once
 
 -- the first of those that wait becomes a candidate, and the search is between two turns again
 pub raised-now : (q : Search) (root w : ℕ) (mark : Mark) (a : Ahead) (old mid new : Rising) → Widened q root → IsOrderly old → IsOrderly mid
-    → IsOrderly new → Leaves w mark old mid → mark.is_candidate ≡ true → mark.earlier ≡ earlier_at old w → mark.later ≡ a.count
+    → IsOrderly new → LeavesQueue w mark old mid → mark.is_candidate ≡ true → mark.earlier ≡ earlier_at old w → mark.later ≡ a.count
     → PassedOn a.next.items mid new → old.turn < length old.queue.items → get_or old.queue.items old.turn 0 ≡ w
     → length old.queue.items < 2 ^ 64 → q.level < earlier_at old w + a.count → IsAheadOf q w a
     → (AscendsBy q.rank mid.queue.items → AscendsBy q.rank new.queue.items)

@@ -2,16 +2,16 @@
 use Rattle.std.proofs.Common.{◌≡◌, ◌≢◌, ◌≤◌, ◌<◌, ◌+◌, ◌-◌, ℕ, Bool, true, false, ◌&&◌, ◌||◌, List, [], ◌∷◌, eqb, ltb, leb, refl, sym, ◌∙◌, ap, subst}
 use Rattle.std.proofs.Common.{inl, inr, arith, true≢false, eq-eqb, ne_eqb, lt_irrefl, lt-ltb, le-leb, le_of_eq, le_of_lt}
 use Rattle.std.proofs.lemmas.Bool.{cases_Bool, cases_eq, cases_lt, cases_order, false≢true, and_parts, and_from, or_cases, or_left, or_right, or_from}
-use Rattle.kc_distinct.specs.Lists.{member, below}
-use Rattle.kc_distinct.proofs.Members.{member-head, member-tail, member-cases}
-use Rattle.kc_distinct.proofs.Counting.{member-other, one_if}
-use Rattle.kc_distinct.proofs.Shared.{ltb-double}
+use Rattle.kc_lists.specs.Lists.{member, below}
+use Rattle.kc_lists.proofs.Members.{member-head, member-tail, member-cases}
+use Rattle.kc_lists.proofs.Counting.{member-other, one_if}
+use Rattle.kc_lists.proofs.Shared.{ltb-double}
 use Rattle.kc_cert.specs.Ranks.{moved}
 use Rattle.kc_cert.proofs.Sums.{count-none}
 use Rattle.kc_cert.proofs.Placing.{moved-itself, moved-other}
 use Rattle.kc_view.specs.Search.{Search, among, on_level, above, after, OnLevel}
 use Rattle.kc_view.proofs.Among.{among-agree, among-one, among-some, among-sum}
-use Rattle.kc_insert.specs.Searching.{ahead, coming, holding, behind, Widened, Searching, AllStrong, WeakListed, Adds, Drops, Raised, Settled}
+use Rattle.kc_insert.specs.Searching.{ahead, coming, holding, behind, Widened, Searching, AllStrong, WeakListed, AddsCandidate, Drops, Raised, Settled}
 use Rattle.kc_insert.specs.Searching.{Evicted, Relisted}
 
 -- a neighbour is ahead of a vertex of the level exactly where it stands later
@@ -110,7 +110,7 @@ holding-raised_at : (a l lt m' m : Bool) (rw' f ry : ℕ) → m' ≡ m → (f �
 holding-raised_at a l lt m' m rw' f ry same up open' = grind arith
 
 -- a vertex that is left behind has the same neighbours behind it
-behind-raised : (s : Search) (cands cands' : List ℕ) (w : ℕ) (place : ℕ → ℕ) → OnLevel s w → Adds cands w cands' → (z : ℕ)
+behind-raised : (s : Search) (cands cands' : List ℕ) (w : ℕ) (place : ℕ → ℕ) → OnLevel s w → AddsCandidate cands w cands' → (z : ℕ)
     → place z < place w → behind s cands' place z ≡ behind s cands place z
 behind-raised s cands cands' w place ow add z lt =
     among-agree s z (behind_at s cands' place z) (behind_at s cands place z) (λ y l a.
@@ -180,7 +180,8 @@ module _ (s : Search) (root : ℕ) (cands queue : List ℕ) (w frontier : ℕ) (
       ])
 
   -- how the counts of candidates change when the first of the queue becomes one
-  holding-raised : (cands' : List ℕ) → Adds cands w cands' → (x : ℕ) → member x cands ≡ true → holding s cands' (s.rank w + 1) x ≡ holding s cands frontier x
+  holding-raised : (cands' : List ℕ) → AddsCandidate cands w cands' → (x : ℕ) → member x cands ≡ true
+      → holding s cands' (s.rank w + 1) x ≡ holding s cands frontier x
   holding-raised cands' add x m =
       among-agree s x (holding_at s cands' (s.rank w + 1) x) (holding_at s cands frontier x) (λ y l a.
       elim (cases_eq y w) [

@@ -2,9 +2,9 @@
 use Rattle.std.proofs.Common.{◌≡◌, ◌<◌, ◌+◌, ℕ, min, Bool, true, false, cond, not, [], ◌++◌, get_or, leb, refl, sym, ◌∙◌, ap, subst, inl, inr}
 use Rattle.std.proofs.Common.{true≢false, Vec, Global}
 use Rattle.std.proofs.lemmas.Bool.{false≢true, false_from_ne_true}
-use Rattle.kc_distinct.specs.Lists.{member, Distinct}
-use Rattle.kc_distinct.proofs.Members.{member-append}
-use Rattle.kc_distinct.proofs.Shared.{Distinct-append}
+use Rattle.kc_lists.specs.Lists.{member, Distinct}
+use Rattle.kc_lists.proofs.Members.{member-append}
+use Rattle.kc_lists.proofs.Shared.{Distinct-append}
 use Rattle.kc_graph.specs.SimpleGraph.{SimpleGraph, adjacent}
 use Rattle.kc_graph.specs.Edges.{with_edge, without_edge}
 use Rattle.kc_graph.specs.Lawful.{Ranked, IsCertified}
@@ -64,10 +64,12 @@ plain-sure update used s level root frontier earlier later adds h l new least is
             (plain-holds s (with_edge s.graph update.u update.v) level root frontier earlier later h refl w b z lz);
       },
       record {
-        once = tt;
-        kept = λ none. absurd (true≢false (sym applied ∙ none));
-        inserted = λ _ x m. absurd (false≢true m);
-        removed = λ removes. absurd (true≢false (sym adds ∙ removes));
+        moves = record {
+          once = tt;
+          kept = λ none. absurd (true≢false (sym applied ∙ none));
+          inserted = λ _ x m. absurd (false≢true m);
+          removed = λ removes. absurd (true≢false (sym adds ∙ removes));
+        };
       },
     )
 
@@ -113,9 +115,11 @@ rise-sure update used s level root frontier earlier later rise shifts adds h l n
             (rise-holds s (with_edge s.graph update.u update.v) level root rise.items frontier earlier later shifts.items h refl w b up z lz);
       },
       record {
-        once = once;
-        kept = λ none. absurd (true≢false (sym applied ∙ none));
-        inserted = λ _ x m. reached-forward update s level root x adds (sym w.root_level) is (reached x m);
-        removed = λ removes. absurd (true≢false (sym adds ∙ removes));
+        moves = record {
+          once = once;
+          kept = λ none. absurd (true≢false (sym applied ∙ none));
+          inserted = λ _ x m. reached-forward update s level root x adds (sym w.root_level) is (reached x m);
+          removed = λ removes. absurd (true≢false (sym adds ∙ removes));
+        };
       },
     )

@@ -4,9 +4,9 @@ use Rattle.std.specs.Prelude.{is_some}
 use Rattle.std.proofs.lemmas.Bool.{cases_Bool, cases_eq, false_from_ne_true}
 use Rattle.std.proofs.lemmas.List.{take_more}
 use Rattle.std.proofs.lemmas.List.Elements.{All-push, All-weaker}
-use Rattle.kc_distinct.specs.Lists.{member, Distinct}
-use Rattle.kc_distinct.proofs.Counting.{member-get_or, member-push_left, member-push_cases, take-not_here}
-use Rattle.kc_distinct.proofs.Members.{below_bound}
+use Rattle.kc_lists.specs.Lists.{member, Distinct}
+use Rattle.kc_lists.proofs.Counting.{member-get_or, member-push_left, member-push_cases, take-not_here}
+use Rattle.kc_lists.proofs.Members.{below_bound}
 use Rattle.kc_graph.specs.declared.update.Update.{Update}
 use Rattle.kc_graph.specs.declared.used.UsedOrder.{UsedOrder}
 use Rattle.kc_view.specs.Answers.{Answers, has_list, has_core, with_order}
@@ -18,7 +18,7 @@ use Rattle.kc_view.proofs.Fronts.{take-member}
 use Rattle.kc_view.proofs.Keeping.{still_has_list, still_has_core}
 use Rattle.kc_insert.specs.Marks.{candidate_in, turn_in, weak_in}
 use Rattle.kc_insert.specs.Rising.{is_queued, is_candidate, is_weak, turn_at, left, IsOrderly, AsksQueued, IsTidyRising}
-use Rattle.kc_insert.specs.Turns.{Leaves}
+use Rattle.kc_insert.specs.Turns.{LeavesQueue}
 use Rattle.kc_insert.specs.declared.rising.Mark.{Mark}
 use Rattle.kc_insert.specs.declared.rising.Rising.{Rising}
 
@@ -109,7 +109,7 @@ pub weak-fits : (update : Update) (shown : Shown) (r : Rising) → IsTidyRising 
 weak-fits update shown r t = below_bound shown.size r.seen.weak.items t.orderly.weak_once (λ x m. t.within x (left-queued r x (t.orderly.weak_left x m)))
 
 -- the first of those that wait leaves the queue
-pub left-more : (w : ℕ) (mark : Mark) (old new : Rising) → Leaves w mark old new → old.turn < length old.queue.items
+pub left-more : (w : ℕ) (mark : Mark) (old new : Rising) → LeavesQueue w mark old new → old.turn < length old.queue.items
     → get_or old.queue.items old.turn 0 ≡ w → left new ≡ left old ++ w ∷ []
 left-more w mark old new l lt first =
     ap (λ xs. take new.turn xs) l.queue
@@ -120,7 +120,7 @@ pub first-not_left : (w : ℕ) (r : Rising) → IsOrderly r → r.turn < length 
 first-not_left w r o lt first = subst (λ (y : ℕ). member y (left r) ≡ false) first (take-not_here r.turn r.queue.items lt o.once)
 
 -- where the first of those that wait leaves, queue and marks stay orderly
-pub leave-orderly : (w : ℕ) (mark : Mark) (old new : Rising) → IsOrderly old → Leaves w mark old new → old.turn < length old.queue.items
+pub leave-orderly : (w : ℕ) (mark : Mark) (old new : Rising) → IsOrderly old → LeavesQueue w mark old new → old.turn < length old.queue.items
     → get_or old.queue.items old.turn 0 ≡ w
     → (mark.is_candidate ≡ true → mark.turn ≡ old.turn) → mark.is_weak ≡ false → IsOrderly new
 leave-orderly w mark old new o l lt first turn none =
@@ -165,7 +165,7 @@ leave-orderly w mark old new o l lt first turn none =
 
 -- where the first of those that wait leaves and its list was read, the search stays tidy
 pub leave-tidy : (update : Update) (shown : Shown) (w : ℕ) (mark : Mark) (old new : Rising) → IsTidyRising update shown old
-    → Leaves w mark old new → old.turn < length old.queue.items → get_or old.queue.items old.turn 0 ≡ w
+    → LeavesQueue w mark old new → old.turn < length old.queue.items → get_or old.queue.items old.turn 0 ≡ w
     → (mark.is_candidate ≡ true → mark.turn ≡ old.turn) → mark.is_weak ≡ false → has_list shown.kept w ≡ true → IsTidyRising update shown new
 leave-tidy update shown w mark old new t l lt first turn none read =
     tidy-rising update shown old new t (leave-orderly w mark old new t.orderly l lt first turn none) (λ z m. ap (member z) l.queue ∙ m)

@@ -2,15 +2,15 @@
 use Rattle.std.proofs.Common.{◌≡◌, ◌≢◌, ◌≤◌, ◌<◌, ◌+◌, ℕ, true, false, ◌&&◌, ◌||◌, List, [], ◌∷◌, ◌++◌, ltb, leb, refl, sym, ◌∙◌, ap, subst, ◌⊎◌, inl}
 use Rattle.std.proofs.Common.{inr, arith, true≢false, le_trans}
 use Rattle.std.proofs.lemmas.Bool.{cases_eq, false≢true, false_from_ne_true}
-use Rattle.kc_distinct.specs.Lists.{member, Distinct}
-use Rattle.kc_distinct.proofs.Members.{member-head, not_member-cons, not_member-parts, append-not_member}
-use Rattle.kc_distinct.proofs.Counting.{member-push_cases, Distinct-push}
+use Rattle.kc_lists.specs.Lists.{member, Distinct}
+use Rattle.kc_lists.proofs.Members.{member-head, not_member-cons, not_member-parts, append-not_member}
+use Rattle.kc_lists.proofs.Counting.{member-push_cases, Distinct-push}
 use Rattle.kc_cert.specs.Local.{firsts, seconds, AreInTurn}
 use Rattle.kc_cert.specs.Ranks.{moved, place_after}
 use Rattle.kc_view.specs.Search.{Search, on_level, above, after, OnLevel}
 use Rattle.kc_view.proofs.Among.{among-agree}
 use Rattle.kc_view.proofs.Fronts.{firsts-push, seconds-push}
-use Rattle.kc_insert.specs.Searching.{ahead, coming, holding, behind, Widened, Searching, WeakListed, Adds, Drops, Raised, Settled, Evicted, Relisted}
+use Rattle.kc_insert.specs.Searching.{ahead, coming, holding, behind, Widened, Searching, WeakListed, AddsCandidate, Drops, Raised, Settled, Evicted, Relisted}
 use Rattle.kc_insert.specs.Searching.{Shifts, BetweenTurns, InSettling}
 use Rattle.kc_insert.proofs.Steps.{search-starts, first-raised, first-settled, first-passes, candidates-settled, evict_one, coming_at, holding_at, behind_at}
 
@@ -30,7 +30,7 @@ AreInTurn-push (p ∷ shifts) x w t ne n =
     (not_member-cons p.1 p.0 (firsts (shifts ++ (x, w) ∷ [])) old.0 new, AreInTurn-push shifts x w t.1 ne k.1)
 
 -- the shifts stay fit where the candidates change at a vertex that none of them names
-Shifts-raise : (s : Search) (cands cands' : List ℕ) (frontier w : ℕ) (shifts : List (ℕ × ℕ)) → frontier ≤ s.rank w → Adds cands w cands'
+Shifts-raise : (s : Search) (cands cands' : List ℕ) (frontier w : ℕ) (shifts : List (ℕ × ℕ)) → frontier ≤ s.rank w → AddsCandidate cands w cands'
     → Shifts s cands frontier shifts → Shifts s cands' (s.rank w + 1) shifts
 Shifts-raise s cands cands' frontier w shifts open' add f = record {
   in_turn = f.in_turn;

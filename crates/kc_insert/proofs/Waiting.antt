@@ -1,16 +1,16 @@
 -- A vertex that has no candidate before it leaves the queue, and nothing else changes.
 use Rattle.std.proofs.Common.{◌≡◌, ◌≤◌, ◌<◌, ◌+◌, ℕ, true, false, ◌&&◌, List, ◌∷◌, length, get_or, refl, sym, ◌∙◌, ap, subst, inl, inr, arith, true≢false}
 use Rattle.std.proofs.lemmas.Bool.{cases_eq, false_from_ne_true}
-use Rattle.kc_distinct.specs.Lists.{member}
-use Rattle.kc_distinct.proofs.Counting.{member-push_cases, member-filter}
-use Rattle.kc_distinct.proofs.Members.{member-head}
+use Rattle.kc_lists.specs.Lists.{member}
+use Rattle.kc_lists.proofs.Counting.{member-push_cases, member-filter}
+use Rattle.kc_lists.proofs.Members.{member-head}
 use Rattle.kc_cert.specs.Ranks.{AscendsBy}
 use Rattle.kc_cert.proofs.Final.{filter-has}
 use Rattle.kc_view.specs.Search.{Search}
 use Rattle.kc_insert.specs.Marks.{candidate_in, earlier_in, later_in}
 use Rattle.kc_insert.specs.Rising.{is_candidate, earlier_at, later_at, cands, left, waiting, IsOrderly}
 use Rattle.kc_insert.specs.Searching.{ahead, Widened, BetweenTurns}
-use Rattle.kc_insert.specs.Turns.{Leaves, IsBetweenTurns}
+use Rattle.kc_insert.specs.Turns.{LeavesQueue, IsBetweenTurns}
 use Rattle.kc_insert.specs.declared.rising.Mark.{Mark}
 use Rattle.kc_insert.specs.declared.rising.Rising.{Rising}
 use Rattle.kc_insert.proofs.Losses.{cand-left}
@@ -54,7 +54,7 @@ later-of_cands s root cands queue frontier earlier later shifts b later' same =
 -- where a vertex with no candidate before it and few ahead leaves the queue, the search is between two turns again
 pub pass-between : (s : Search) (root w : ℕ) (old new : Rising) → Widened s root → IsOrderly old → old.turn < length old.queue.items
     → get_or old.queue.items old.turn 0 ≡ w
-    → Leaves w (record { earlier = 0; later = 0; turn = 0; is_candidate = false; is_weak = false }) old new → ahead s w ≤ s.level
+    → LeavesQueue w (record { earlier = 0; later = 0; turn = 0; is_candidate = false; is_weak = false }) old new → ahead s w ≤ s.level
     → earlier_at old w ≡ 0 → IsBetweenTurns s root old → IsBetweenTurns s root new
 pass-between s root w old new c o lt first l few none (f, b) =
     let mark : Mark = record { earlier = 0; later = 0; turn = 0; is_candidate = false; is_weak = false } in

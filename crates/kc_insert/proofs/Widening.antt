@@ -3,8 +3,8 @@ use Rattle.std.proofs.Common.{◌≡◌, ◌≢◌, ◌≤◌, ◌<◌, ℕ, min
 use Rattle.std.proofs.Common.{arith, eqb-true, ne_eqb}
 use Rattle.std.specs.Prelude.{count_by}
 use Rattle.std.proofs.lemmas.Bool.{cases_order}
-use Rattle.kc_distinct.specs.Lists.{member, below}
-use Rattle.kc_distinct.proofs.Counting.{member-below, Distinct-below, count-mono, count-agree, one_if}
+use Rattle.kc_lists.specs.Lists.{member, below}
+use Rattle.kc_lists.proofs.Counting.{member-below, Distinct-below, count-mono, count-agree, one_if}
 use Rattle.kc_graph.specs.SimpleGraph.{adjacent}
 use Rattle.kc_graph.specs.Edges.{with_edge}
 use Rattle.kc_graph.specs.Lawful.{Ranked, IsCertified}

@@ -1,13 +1,13 @@
 -- The queue, the candidates and the evicted, and what holds of them for every view.
 use Rattle.std.specs.Prelude.{◌≡◌, ◌≤◌, ◌<◌, ◌⊎◌, ℕ, Bool, true, List, All, is_some, length, take, drop, slice_index}
 use Rattle.std.specs.List.{filter}
-use Rattle.kc_distinct.specs.Lists.{member, Distinct}
+use Rattle.kc_lists.specs.Lists.{member, Distinct}
 use Rattle.kc_graph.specs.declared.update.Update.{Update}
 use Rattle.kc_cert.specs.Local.{firsts, seconds}
 use Rattle.kc_view.specs.Answers.{Answers, has_list, has_core}
 use Rattle.kc_view.specs.Sure.{AsksCores}
 use Rattle.kc_view.specs.Views.{Shown}
-use Rattle.kc_seen.specs.Maps.{value_of}
+use Rattle.kc_marks.specs.Maps.{value_of}
 use Rattle.kc_insert.specs.Marks.{earlier_in, later_in, turn_in, candidate_in, weak_in}
 use Rattle.kc_insert.specs.declared.rising.Rising.{Rising}
 

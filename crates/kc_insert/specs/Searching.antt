@@ -1,6 +1,6 @@
 -- Raising core numbers after an edge was added: what the search for the vertices that rise keeps true.
 use Rattle.std.specs.Prelude.{◌≡◌, ◌≢◌, ◌≤◌, ◌<◌, ◌+◌, ◌-◌, ℕ, true, false, ◌&&◌, ◌||◌, List, nat_le, nat_lt, if◌then◌else◌}
-use Rattle.kc_distinct.specs.Lists.{member, Distinct}
+use Rattle.kc_lists.specs.Lists.{member, Distinct}
 use Rattle.kc_cert.specs.Local.{firsts, seconds, AreInTurn}
 use Rattle.kc_cert.specs.Ranks.{AscendsBy, place_after}
 use Rattle.kc_view.specs.Search.{Search, among, on_level, above, after, OnLevel}
@@ -69,7 +69,7 @@ pub record WeakListed (s : Search) (cands : List ℕ) (frontier : ℕ) (earlier 
   pub last_of_all : (z : ℕ) → OnLevel s z → s.rank z < frontier → member z cands ≡ false → z ≢ last → place z < place last
 
 -- `cands'` has `w` besides
-pub record Adds (cands : List ℕ) (w : ℕ) (cands' : List ℕ) : Type 0 where
+pub record AddsCandidate (cands : List ℕ) (w : ℕ) (cands' : List ℕ) : Type 0 where
   pub itself : member w cands' ≡ true
   pub others : (y : ℕ) → y ≢ w → member y cands' ≡ member y cands
 
@@ -85,7 +85,7 @@ pub record Raised (s : Search) (cands : List ℕ) (w : ℕ) (queue : List ℕ) (
   pub counted : later' w ≡ ahead s w
   pub later_kept : (x : ℕ) → member x cands ≡ true → later' x ≡ later x
   pub more : (y : ℕ) → OnLevel s y → earlier' y ≡ earlier y + (if s.adj w y && after s w y then 1 else 0)
-  pub added : Adds cands w cands'
+  pub added : AddsCandidate cands w cands'
   pub queue_ascends : AscendsBy s.rank queue'
   pub queue_from : (y : ℕ) → OnLevel s y → member y queue' ≡ (member y queue || (s.adj w y && after s w y))
   pub queue_level : (y : ℕ) → member y queue' ≡ true → OnLevel s y

@@ -2,11 +2,11 @@
 use Rattle.std.specs.Prelude.{◌≡◌, ◌≢◌, ◌≤◌, ◌<◌, ◌+◌, ◌-◌, ◌^◌, ◌⊎◌, ◌++◌, ◌&&◌, ◌||◌, ℕ, Bool, true, false, not, min, List, [], ◌∷◌, Some, None}
 use Rattle.std.specs.Prelude.{length, slice_index, nat_lt, nat_le, if◌then◌else◌}
 use Rattle.std.specs.List.{insert}
-use Rattle.kc_distinct.specs.Lists.{member}
+use Rattle.kc_lists.specs.Lists.{member}
 use Rattle.kc_cert.specs.Ranks.{AscendsBy}
 use Rattle.kc_view.specs.Search.{Search, on_level, above, after, OnLevel, Forward}
-use Rattle.kc_seen.specs.Maps.{value_of}
-use Rattle.kc_seen.specs.Seen.{MarksOne}
+use Rattle.kc_marks.specs.Maps.{value_of}
+use Rattle.kc_marks.specs.SearchMarks.{MarksOne}
 use Rattle.kc_insert.specs.Rising.{is_queued, earlier_at, later_at, turn_at, is_candidate, is_weak, cands, left, waiting, pending}
 use Rattle.kc_insert.specs.Searching.{ahead, BetweenTurns, InSettling}
 use Rattle.kc_insert.specs.declared.losing.Loss.{Loss}
@@ -27,7 +27,7 @@ pub record Begins (root : ℕ) (r : Rising) : Type 0 where
   pub shifts : r.shifts.items ≡ []
 
 -- `w`, which is first of those that wait, leaves the queue
-pub record Leaves (w : ℕ) (mark : Mark) (old new : Rising) : Type 0 where
+pub record LeavesQueue (w : ℕ) (mark : Mark) (old new : Rising) : Type 0 where
   pub marks : MarksOne w mark old.seen new.seen
   pub queue : new.queue.items ≡ old.queue.items
   pub turn : new.turn ≡ old.turn + 1

@@ -1,11 +1,12 @@
 //! Where the neighbours of a vertex stand.
 ghost use Rattle.std.specs.Prelude.{◌≡◌, ◌≢◌, ◌<◌, ◌+◌, ◌-◌, ◌^◌, ◌++◌, ◌&&◌, ◌||◌, ℕ, List, [], ◌∷◌, true, count_by, IfOk, OnOk, IfErr, if◌then◌else◌};
-ghost use Rattle.kc_distinct.specs.Lists.{member, Distinct};
+ghost use Rattle.kc_lists.specs.Lists.{member, Distinct};
 ghost use Rattle.kc_graph.specs.Lawful.{Ranked};
 ghost use Rattle.kc_view.specs.Answers.{Agrees, has_list, list_of, has_core};
 ghost use Rattle.kc_view.specs.Lists.{IsListOf};
 ghost use Rattle.kc_view.specs.Views.{GoesOn, HasPlanCause};
-ghost use Rattle.kc_insert.specs.Added.{search_with, is_added};
+ghost use Rattle.kc_insert.specs.Added.{search_with};
+ghost use Rattle.kc_graph.specs.Plans.{joins};
 ghost use Rattle.kc_insert.specs.Rising.{AsksQueued};
 ghost use Rattle.kc_insert.specs.Turns.{side_in, is_ahead, is_next};
 
@@ -81,7 +82,7 @@ impl Ahead {
         row: &[u32],
     ) -> Result<(), PlanFault>
         requires row { IsListOf (V.shown view.old).size w row.now }
-        requires has { (y : ℕ) → member y row.now ≡ (member y (list_of (V.shown view.old).kept w) || is_added search.update w y) }
+        requires has { (y : ℕ) → member y row.now ≡ (member y (list_of (V.shown view.old).kept w) || joins search.update w y) }
         requires placed { has_core (V.shown view.old).kept w ≡ true }
         requires read { has_list (V.shown view.old).kept w ≡ true }
         ensures goes_on { GoesOn (V.shown view.old) (V.shown view.new) }
@@ -110,7 +111,7 @@ fn side_of<V: View>(view: &mut V, search: Search, w: u32, x: u32) -> Result<Side
     requires differ { w ≢ x }
     requires placed { has_core (V.shown view.old).kept w ≡ true }
     requires read { has_list (V.shown view.old).kept w ≡ true }
-    requires neighbour { (member x (list_of (V.shown view.old).kept w) || is_added search.update w x) ≡ true }
+    requires neighbour { (member x (list_of (V.shown view.old).kept w) || joins search.update w x) ≡ true }
     ensures goes_on { GoesOn (V.shown view.old) (V.shown view.new) }
     ensures cause { IfErr result (λ fault. HasPlanCause (V.shown view.old) (V.shown view.new) fault) }
     ensures asks { OnOk result ((queue : List ℕ) → AsksQueued search.update (V.shown view.old).kept queue

@@ -1,12 +1,10 @@
 //! The plan of an update that adds an edge.
-ghost use Rattle.std.specs.Prelude.{◌≡◌, ◌<◌, ◌++◌, ◌⊎◌, ℕ, min, [], true, slice_index, IfOk, OnOk, IfErr, OnErr, length};
-ghost use Rattle.kc_distinct.specs.Lists.{member};
+ghost use Rattle.std.specs.Prelude.{◌≡◌, ◌<◌, ◌⊎◌, min, [], true, slice_index, IfOk, OnOk, IfErr, OnErr, length};
 ghost use Rattle.kc_graph.specs.Lawful.{Ranked};
-ghost use Rattle.kc_cert.specs.Local.{moved_vertices};
-ghost use Rattle.kc_view.specs.Answers.{Agrees, nothing_answered, answers_in, has_list, has_core};
+ghost use Rattle.kc_view.specs.Answers.{Agrees, nothing_answered, answers_in, has_core};
 ghost use Rattle.kc_view.specs.Answers.{core_of as core_told};
 ghost use Rattle.kc_view.specs.Lists.{AreLists};
-ghost use Rattle.kc_view.specs.Sure.{IsSure, AreSure, NamesOnlyRead, AsksCores, AsksCoresNearby, AsksForward, anchors, root_of};
+ghost use Rattle.kc_view.specs.Sure.{AreSure, AsksCores, AsksForward, IsPlanFor, WereNamedRead, root_of};
 ghost use Rattle.kc_view.specs.Views.{GoesOn, HandsOut, HasPlanCause};
 ghost use Rattle.kc_insert.specs.Added.{search_with};
 ghost use Rattle.kc_insert.specs.Rising.{AsksQueued, IsTidyRising};
@@ -102,8 +100,8 @@ fn moves_of<V: View>(alloc: Global, view: &mut V, update: Update) -> Result<Move
     ensures cause { IfErr result (λ fault. HasPlanCause (V.shown view.old) (V.shown view.new) fault) }
     ensures cores { OnOk result (AsksCores update (V.shown view.new).kept) }
     ensures asked { OnOk result (AskForward update (V.shown view.new).kept) }
-    ensures named { IfOk result (λ moves. (x : ℕ) → member x (moved_vertices moves ++ anchors moves) ≡ true → has_list (V.shown view.new).kept x ≡ true) }
-    ensures sure { IfOk result (λ moves. AreSure update (V.shown view.new).kept moves) }
+    ensures named { IfOk result (WereNamedRead (V.shown view.new).kept) }
+    ensures sure { IfOk result (AreSure update (V.shown view.new).kept) }
 {
     if has_edge(view, update)? {
         return Ok(Moves::Kept);
@@ -145,10 +143,7 @@ pub fn plan<V: View>(alloc: Global, view: &mut V, update: Update) -> Result<Plan
     requires fresh { (V.shown view.old).kept ≡ nothing_answered }
     ensures hands_out { OnOk result (HandsOut (V.shown view.old) (V.shown view.new)) }
     ensures goes_on { OnErr result (GoesOn (V.shown view.old) (V.shown view.new)) }
-    ensures update { IfOk result (λ plan. plan.update ≡ update) }
-    ensures sure { IfOk result IsSure }
-    ensures named { IfOk result NamesOnlyRead }
-    ensures cores { IfOk result AsksCoresNearby }
+    ensures plan { IfOk result (IsPlanFor update) }
     ensures asked { IfOk result AsksForward }
     ensures given { IfOk result (λ plan. (V.shown view.new).is_given (answers_in plan.used)) }
     ensures lists { IfOk result (λ plan. AreLists (V.shown view.new).size plan.used.edges.items) }

@@ -10,7 +10,7 @@
 //! walks along the order reach from that end; no clause says that it needs each of these moves. It names only vertices whose lists were
 //! read. It returns for every view, also where the answers fit no state. `specs/Searching.antt` says what the search keeps true on its
 //! way, in a state that agrees with the answers so far; `Turns.antt` what the code's steps make of queue, candidates and evicted, and
-//! `Rising.antt` what holds of these for every view. The crate stands on `kc_view`, `kc_seen` and `kc_graph`, and its proofs on `kc_cert`.
+//! `Rising.antt` what holds of these for every view. The crate stands on `kc_view`, `kc_marks` and `kc_graph`, and its proofs on `kc_cert`.
 #![tactic(auto)]
 
 mod ahead;

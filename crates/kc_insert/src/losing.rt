@@ -1,8 +1,8 @@
 //! What the neighbours of a vertex lose that will not rise.
 ghost use Rattle.std.specs.Prelude.{◌≡◌, ◌&&◌, not, false, Some, None, OnOk};
-ghost use Rattle.kc_distinct.specs.Lists.{Distinct};
-ghost use Rattle.kc_seen.specs.Maps.{value_of};
-ghost use Rattle.kc_seen.specs.Seen.{MarksOne};
+ghost use Rattle.kc_lists.specs.Lists.{Distinct};
+ghost use Rattle.kc_marks.specs.Maps.{value_of};
+ghost use Rattle.kc_marks.specs.SearchMarks.{MarksOne};
 ghost use Rattle.kc_insert.specs.Rising.{IsOrderly};
 ghost use Rattle.kc_insert.specs.Turns.{taken_from, recounted, LosesOne, Loses};
 ghost use Rattle.kc_insert.specs.declared.rising.Mark.{Mark};

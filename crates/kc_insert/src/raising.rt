@@ -1,6 +1,6 @@
 //! A vertex becomes a candidate, and those behind it are queued.
 ghost use Rattle.std.specs.Prelude.{◌≡◌, ◌≢◌, ◌<◌, ◌≤◌, ◌+◌, ◌&&◌, ℕ, List, [], true, false, length, slice_index, IfOk, OnOk, IfErr};
-ghost use Rattle.kc_distinct.specs.Lists.{member, Distinct};
+ghost use Rattle.kc_lists.specs.Lists.{member, Distinct};
 ghost use Rattle.kc_graph.specs.Lawful.{Ranked};
 ghost use Rattle.kc_graph.specs.declared.update.Update.{Update};
 ghost use Rattle.kc_cert.specs.Ranks.{rank_in, AscendsBy};

@@ -1,12 +1,12 @@
 //! The vertices that were queued, the candidates among them, and the moves of those that were evicted.
 ghost use Rattle.std.specs.Prelude.{◌≡◌, ◌<◌, ◌≤◌, ◌+◌, ◌-◌, ◌^◌, ◌&&◌, min, nat_le, true, false, IfOk, OnOk, length};
 ghost use Rattle.std.specs.List.{insert};
-ghost use Rattle.kc_seen.specs.Seen.{MarksOne};
+ghost use Rattle.kc_marks.specs.SearchMarks.{MarksOne};
 ghost use Rattle.kc_insert.specs.Rising.{is_candidate, cands, earlier_at, turn_at};
-ghost use Rattle.kc_insert.specs.Turns.{Begins, Leaves, Evicts};
+ghost use Rattle.kc_insert.specs.Turns.{Begins, LeavesQueue, Evicts};
 
 use kc_graph::NoMemory;
-use kc_seen::Seen;
+use kc_marks::SearchMarks;
 use std::alloc::Global;
 
 /// What is known of a vertex that was queued.
@@ -28,7 +28,7 @@ pub(crate) struct Mark {
 #[derive(Drop)]
 pub(crate) struct Rising {
     /// The mark of each vertex that was ever queued, and the candidates that were found too weak.
-    pub seen: Seen<Mark>,
+    pub seen: SearchMarks<Mark>,
     /// All that were ever queued, in the order of the view.
     pub queue: Vec<u32>,
     /// How many of them have left.
@@ -77,7 +77,7 @@ impl Rising {
     pub fn start(alloc: Global, root: u32) -> Result<Rising, NoMemory>
         ensures { IfOk result (λ rising. Begins root rising) }
     {
-        let mut seen = Seen::new(alloc);
+        let mut seen = SearchMarks::new(alloc);
         seen.mark(root, Mark::past())?;
         let queue = vec![in alloc; root]?;
         Ok(Rising {
@@ -101,7 +101,7 @@ impl Rising {
     /// The vertex that waits first leaves the queue.
     pub fn leave(&mut self, w: u32, mark: Mark) -> Result<(), NoMemory>
         requires { self.old.turn < length self.old.queue.items }
-        ensures { OnOk result (Leaves w mark self.old self.new) }
+        ensures { OnOk result (LeavesQueue w mark self.old self.new) }
     {
         self.seen.mark(w, mark)?;
         self.turn += 1;

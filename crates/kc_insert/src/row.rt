@@ -1,12 +1,12 @@
 //! The neighbours of a vertex once the edge is there.
 ghost use Rattle.std.specs.Prelude.{◌≡◌, ◌≢◌, ◌<◌, ◌||◌, ◌⊎◌, ℕ, List, true, false, nat_eq, MatchOption, OnOk, IfErr};
 ghost use Rattle.std.specs.List.Sorted.{IsStrictlyIncreasing};
-ghost use Rattle.kc_distinct.specs.Lists.{member};
+ghost use Rattle.kc_lists.specs.Lists.{member};
 ghost use Rattle.kc_graph.specs.Rows.{IsPlace};
 ghost use Rattle.kc_view.specs.Answers.{has_list, list_of};
 ghost use Rattle.kc_view.specs.Lists.{IsListOf};
 ghost use Rattle.kc_view.specs.Views.{KeepsLists, GoesOn, TellsList, HasPlanCause};
-ghost use Rattle.kc_insert.specs.Added.{is_added};
+ghost use Rattle.kc_graph.specs.Plans.{joins};
 ghost use Rattle.kc_insert.specs.Rising.{AsksQueued};
 
 use kc_graph::{NoMemory, Update};
@@ -14,7 +14,7 @@ use kc_view::{PlanFault, View, degree_of};
 
 /// The other end of the edge, where `w` is one.
 fn other_end(update: Update, w: u32) -> Option<u32>
-    ensures { MatchOption result ((y : ℕ) → is_added update w y ≡ false) (λ other. ((y : ℕ) → is_added update w y ≡ nat_eq y other)
+    ensures { MatchOption result ((y : ℕ) → joins update w y ≡ false) (λ other. ((y : ℕ) → joins update w y ≡ nat_eq y other)
         × ((other ≡ update.u) ⊎ (other ≡ update.v)) × (other ≢ w)) }
 {
     if w == update.u {
@@ -74,7 +74,7 @@ pub(crate) fn fill_row<V: View>(
     ensures asks { OnOk result ((queue : List ℕ) → AsksQueued update (V.shown view.old).kept queue → (w ≡ update.u) ⊎ (member w queue ≡ true)
         → AsksQueued update (V.shown view.new).kept queue) }
     ensures row { OnOk result (IsListOf (V.shown view.new).size w row.new.items) }
-    ensures has { OnOk result ((y : ℕ) → member y row.new.items ≡ (member y (list_of (V.shown view.new).kept w) || is_added update w y)) }
+    ensures has { OnOk result ((y : ℕ) → member y row.new.items ≡ (member y (list_of (V.shown view.new).kept w) || joins update w y)) }
 {
     degree_of(view, w)?;
     copy_to(view, w, row)?;

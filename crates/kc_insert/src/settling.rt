@@ -1,11 +1,12 @@
 //! A vertex that cannot rise leaves the queue, and the candidates that are too weak without it are evicted.
 ghost use Rattle.std.specs.Prelude.{◌≡◌, ◌<◌, ◌≤◌, ◌+◌, ◌||◌, ℕ, true, length, slice_index, IfOk, OnOk, IfErr};
-ghost use Rattle.kc_distinct.specs.Lists.{member};
+ghost use Rattle.kc_lists.specs.Lists.{member};
 ghost use Rattle.kc_graph.specs.Lawful.{Ranked};
 ghost use Rattle.kc_view.specs.Answers.{Agrees, has_list, list_of};
 ghost use Rattle.kc_view.specs.Lists.{IsListOf};
 ghost use Rattle.kc_view.specs.Views.{GoesOn, HasPlanCause};
-ghost use Rattle.kc_insert.specs.Added.{search_with, is_added};
+ghost use Rattle.kc_insert.specs.Added.{search_with};
+ghost use Rattle.kc_graph.specs.Plans.{joins};
 ghost use Rattle.kc_insert.specs.Rising.{left, earlier_at, IsTidyRising};
 ghost use Rattle.kc_insert.specs.Searching.{Widened, ahead};
 ghost use Rattle.kc_insert.specs.Turns.{IsBetweenTurns, IsSettling};
@@ -84,7 +85,7 @@ impl Rising {
         requires first { slice_index self.old.queue.items self.old.turn ≡ w }
         requires read { has_list (V.shown view.old).kept w ≡ true }
         requires row { IsListOf (V.shown view.old).size w row.old.items }
-        requires has { (y : ℕ) → member y row.old.items ≡ (member y (list_of (V.shown view.old).kept w) || is_added search.update w y) }
+        requires has { (y : ℕ) → member y row.old.items ≡ (member y (list_of (V.shown view.old).kept w) || joins search.update w y) }
         requires tidy { IsTidyRising search.update (V.shown view.old) self.old }
         ensures goes_on { GoesOn (V.shown view.old) (V.shown view.new) }
         ensures cause { IfErr result (λ fault. HasPlanCause (V.shown view.old) (V.shown view.new) fault) }

@@ -1,30 +1,28 @@
 -- Lists that were made ahead of an entry, and when they are those that the entry makes.
-use Rattle.std.proofs.Common.{◌≡◌, ℕ, ◌<◌, ◌≤◌, Bool, true, false, not, List, get_or, sym, ap, ◌∙◌, subst, refl, arith, cond}
+use Rattle.std.proofs.Common.{◌≡◌, ℕ, ◌<◌, ◌≤◌, Bool, true, false, not, List, get_or, sym, ap, ◌∙◌, subst, arith, cond}
 use Rattle.std.proofs.lemmas.Bool.{false≢true}
 use Rattle.std.specs.Prelude.{Option, Result, Ok, Err, IfOk, IfSome}
-use Rattle.std.specs.Result.{is_ok, result_ok}
+use Rattle.std.specs.Result.{result_ok}
 use mathlib.Core.List.{IsPrefix}
-use Rattle.kc_distinct.specs.Lists.{member}
+use Rattle.kc_lists.specs.Lists.{member}
 use Rattle.kc_graph.specs.SimpleGraph.{SimpleGraph, adjacent}
 use Rattle.kc_graph.specs.Neighbours.{AreNeighbours}
 use Rattle.kc_graph.specs.Plans.{is_applied}
 use Rattle.kc_graph.specs.Rows.{Deleted, Inserted, IsPlace}
-use Rattle.kc_graph.specs.Sharing.{AreListsAfter, IsChanged}
 use Rattle.kc_graph.specs.declared.update.Update.{Update}
 use Rattle.kc_graph.specs.declared.used.UsedEdges.{UsedEdges}
 use Rattle.kc_graph.proofs.RowsLemmas.{place-found}
 use Rattle.kc_graph.proofs.SharedLists.{near-first, near-second}
 use Rattle.kc_table.specs.declared.view.Event.{Event}
-use Rattle.kc_table.specs.Edges.{after_entries, edges_after}
 use Rattle.kc_table.specs.Log.{TableName}
 use Rattle.kc_agree.specs.Reads.{WasList}
 use Rattle.kc_agree.specs.Stamps.{edge_stamp}
 use Rattle.kc_agree.proofs.Growing.{list_stays}
 use Rattle.kc_agree.proofs.Neighbouring.{current_neighbours}
 use Rattle.kc_levels.specs.Levels.{size_of}
-use Rattle.kc_journal.specs.Ahead.{AreAhead, FitWherePresent, IsChangedList}
-use Rattle.kc_journal.specs.Journals.{Journalled, Stands, entries_here}
-use Rattle.kc_journal.specs.declared.ahead.Ahead.{Ahead}
+use Rattle.kc_journal.specs.ListsAhead.{AreAhead, FitWherePresent, IsChangedList}
+use Rattle.kc_journal.specs.Journals.{Journalled, Stands}
+use Rattle.kc_journal.specs.declared.ahead.ListsAhead.{ListsAhead}
 use Rattle.kc_journal.proofs.AfterEntry.{size-is}
 
 -- One list. --------------------------------------------------------------------------------------------
@@ -53,7 +51,7 @@ is-taken xs w i false new e place h = record { applied = sym (place-found xs w (
 -- Both lists. ------------------------------------------------------------------------------------------
 
 -- what was made of lists that were read stays so as the log grows
-pub ahead-stays : (table : TableName) (opened : SimpleGraph) (p q : List Event) (update : Update) (a : Ahead) → IsPrefix p q
+pub ahead-stays : (table : TableName) (opened : SimpleGraph) (p q : List Event) (update : Update) (a : ListsAhead) → IsPrefix p q
     → AreAhead table opened p update a → AreAhead table opened q update a
 ahead-stays table opened p q update a pre h = record {
   first_of = h.first_of;
@@ -84,7 +82,7 @@ applied-so : (g : SimpleGraph) (update : Update) (list : List ℕ) → AreNeighb
 applied-so g update list near lacks = either-way update.add (adjacent g update.u update.v) (sym (near.exact update.v) ∙ lacks)
 
 -- so what was made ahead of present lists is what the update makes
-pub fit-where-present : (j : Journalled) (update : Update) (a : Ahead) → Stands j → update.v < size_of j.levels
+pub fit-where-present : (j : Journalled) (update : Update) (a : ListsAhead) → Stands j → update.v < size_of j.levels
     → AreAhead j.levels.table j.opened j.levels.log update a → FitWherePresent j.edge_stamps update j.graph a
 fit-where-present j update a h low ahead first-le second-le =
     let u : ℕ = update.u in
@@ -108,7 +106,7 @@ fit-where-present j update a h low ahead first-le second-le =
     )
 
 -- the same of a pass that has seen a beginning of the journal's log
-pub fit-as-told : {self now : Journalled} (seen : List Event) (stamps : List ℕ) (update : Update) (a : Ahead) → self ≡ now → Stands self
+pub fit-as-told : {self now : Journalled} (seen : List Event) (stamps : List ℕ) (update : Update) (a : ListsAhead) → self ≡ now → Stands self
     → IsPrefix seen self.levels.log → update.v < size_of now.levels → stamps ≡ self.edge_stamps
     → AreAhead now.levels.table now.opened seen update a → FitWherePresent stamps update self.graph a
 fit-as-told {self} {now} seen stamps update a is h pre low stamps-are ahead =

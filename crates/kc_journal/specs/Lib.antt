@@ -1,5 +1,5 @@
 -- What public contracts speak of.
-pub mod Ahead
+pub mod ListsAhead
 pub mod Answers
 pub mod Entering
 pub mod Holding

@@ -1,14 +1,14 @@
 //! The state with its log, and how an update is entered.
 ghost use Rattle.std.specs.Prelude.{◌≡◌, ◌≢◌, ◌<◌, ◌≤◌, nat_lt, ℕ, IfErr, IfOk, IfSome, MatchOption, OnErr, slice_index};
 ghost use mathlib.Core.List.{IsPrefix};
-ghost use Rattle.kc_distinct.specs.Lists.{place_of};
+ghost use Rattle.kc_lists.specs.Lists.{place_of};
 ghost use Rattle.kc_graph.specs.Core.{AreCoreNumbers};
 ghost use Rattle.kc_view.specs.Sure.{IsSure};
 ghost use Rattle.kc_agree.specs.Stamps.{edge_stamp, place_stamp};
 ghost use Rattle.kc_levels.specs.Levels.{IsTop, size_of};
 ghost use Rattle.kc_order.specs.Writers.{IsHighest};
 
-use crate::ahead::Ahead;
+use crate::ahead::ListsAhead;
 use crate::answer::{EnterFault, Entered, Receipt};
 use crate::change::{add_entry, make_section, make_update, versions_needed};
 use crate::renewal::order_of;
@@ -68,7 +68,7 @@ impl Model for Journal {
 }
 
 impl Journal {
-    ghost use Rattle.kc_journal.specs.Ahead.{AreAhead};
+    ghost use Rattle.kc_journal.specs.ListsAhead.{AreAhead};
     ghost use Rattle.kc_journal.specs.Answers.{IsAdmitted, IsCause, IsEntered};
     ghost use Rattle.kc_journal.specs.Entering.{MayEnter, WasReadOf};
     ghost use Rattle.kc_journal.specs.Journals.{IsFreshTable, MayGoOn, OpensRun, Renews, Stands, all_seen, fresh_pass, ranked};
@@ -100,8 +100,8 @@ impl Journal {
         Ok((words, journal, pass))
     }
 
-    /// What holds of each journal.
-    pub fn look(&self)
+    /// Recalls to a proof what holds of each journal, and does nothing when it runs.
+    pub fn recall_stands(&self)
         ensures { Stands self.now }
     {
         let _entries = self.entries.len();
@@ -234,7 +234,7 @@ impl Journal {
         pass: &mut Pass,
         index: u32,
         plan: &Plan,
-        ahead: Option<&Ahead>,
+        ahead: Option<&ListsAhead>,
     ) -> Result<Entered, EnterFault>
         requires table { (pass.old.table ≡ words.now) × (self.old.levels.table ≡ words.now) }
         requires index { index < INDICES }

@@ -18,7 +18,7 @@ pub mod laws;
 mod planning;
 mod renewal;
 
-pub use ahead::Ahead;
+pub use ahead::ListsAhead;
 pub use answer::{EnterFault, Entered, Receipt};
 pub use held::{Held, Of};
 pub use journal::Journal;

@@ -145,23 +145,6 @@ const ROWS: [Row; 6] = [
     },
 ];
 
-/// The graph of a start.
-fn graph_of<R: Abort + AllocGlobal>(rt: &R, start: Start) -> Result<Graph, Fail> {
-    assert!(rt; start.core.len() <= VERTICES as usize);
-    let mut graph = Graph::new(rt.alloc(), start.core.len() as u32)?;
-    add_edges(rt, &mut graph, start.edges)?;
-    Ok(graph)
-}
-
-/// Adds these edges to a graph.
-fn add_edges<R: Abort>(rt: &R, graph: &mut Graph, edges: &[(u32, u32)]) -> Result<(), Fail> {
-    for (u, v) in edges {
-        assert!(rt; *u != *v && *u < graph.vertices() && *v < graph.vertices());
-        graph.add(*u, *v)?;
-    }
-    Ok(())
-}
-
 /// The core numbers and the order certify each other in a graph, which is no larger than a journal's.
 fn assert_certified<R: Abort + AllocGlobal>(
     rt: &R,
@@ -191,7 +174,10 @@ fn lawful_of(alloc: Global, graph: Graph, core: &[u32], order: &[u32]) -> Result
 fn state_of<R: Abort + AllocGlobal>(rt: &R, start: Start) -> Result<Lawful, Fail>
     ensures { IfOk result (λ lawful. lawful.graph.size ≤ VERTICES) }
 {
-    let graph = graph_of(rt, start)?;
+    assert!(rt; start.core.len() <= VERTICES as usize);
+    let vertices = start.core.len() as u32;
+    assert!(rt; start.edges.iter().all(|(u, v)| u < v && *v < vertices));
+    let graph = Graph::from_pairs(rt.alloc(), vertices, start.edges)?;
     assert_certified(rt, &graph, start.core, start.order)?;
     Ok(lawful_of(rt.alloc(), graph, start.core, start.order)?)
 }

@@ -3,9 +3,9 @@ use Rattle.std.proofs.Common.{◌≡◌, ◌≢◌, ℕ, Bool, true, false, cond
 use Rattle.std.proofs.Common.{true≢false, eq-eqb, ne_eqb}
 use Rattle.std.specs.List.{filter}
 use Rattle.std.proofs.lemmas.Bool.{cases_Bool, cases_eq, false≢true, false_from_ne_true}
-use Rattle.kc_distinct.specs.Lists.{member, Distinct, without, right_after, last_or, prev_of}
-use Rattle.kc_distinct.proofs.Counting.{member-filter}
-use Rattle.kc_distinct.proofs.Members.{member-head, member-tail, member-cases, not_member-parts, member-last_or, without-none, without-here, without-next}
+use Rattle.kc_lists.specs.Lists.{member, Distinct, without, right_after, last_or, prev_of}
+use Rattle.kc_lists.proofs.Counting.{member-filter}
+use Rattle.kc_lists.proofs.Members.{member-head, member-tail, member-cases, not_member-parts, member-last_or, without-none, without-here, without-next}
 use Rattle.kc_cert.proofs.Chaining.{right_after-here, right_after-next}
 
 -- the first passes and stays

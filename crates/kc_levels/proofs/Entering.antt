@@ -3,7 +3,7 @@ use Rattle.std.proofs.Common.{◌≡◌, ◌<◌, ◌+◌, ℕ, Bool, true, fals
 use Rattle.std.proofs.Common.{arith, true≢false, length-append}
 use Rattle.std.proofs.lemmas.Bool.{false≢true}
 use Rattle.std.proofs.lemmas.List.{get_or-set_other}
-use Rattle.kc_distinct.specs.Lists.{member}
+use Rattle.kc_lists.specs.Lists.{member}
 use Rattle.kc_words.specs.VertexWord.{vertex_of}
 use Rattle.kc_words.specs.NoteWord.{note_of, note_word}
 use Rattle.kc_words.proofs.Notes.{note_of-note_word}
@@ -15,7 +15,7 @@ use Rattle.kc_graph.specs.declared.update.Update.{Update}
 use Rattle.kc_table.specs.declared.view.Event.{Event}
 use Rattle.kc_table.specs.declared.entry.Entry.{Entry}
 use Rattle.kc_table.specs.Log.{Seen, event}
-use Rattle.kc_table.specs.State.{State, state_of, first_vertex, entered, unsealed_from}
+use Rattle.kc_table.specs.TableState.{TableState, state_of, first_vertex, entered, unsealed_from}
 use Rattle.kc_table.specs.Legal as legal
 use Rattle.kc_table.proofs.LegalLogs.{state_of-push, legal-holds}
 use Rattle.kc_order.specs.Standing.{list_after}
@@ -37,14 +37,21 @@ enter-at s log core stamps number size index update h fits u-in v-in most stores
     let old : Levelled = levelled s core false in
     let now : Seen = record { table = s.table; log = log } in
     let are = h.are in
-    let before : State = state_in old in
+    let before : TableState = state_in old in
     let note : NoteWord = Enter update.add index update.u update.v in
     let value : ℕ = note_word note in
     let entry : Entry = record { index = index; add = update.add; u = update.u; v = update.v } in
     let is : note_of value ≡ note = note_of-note_word note (fits, omega (arith, u-in, are.few), omega (arith, v-in, are.few)) in
-    let after : State = record { words = set before.words 0 value; list = before.list; note = note; entries = before.entries ++ entry ∷ []; unsealed = [] } in
+    let after : TableState = record {
+      words = set before.words 0 value;
+      list = before.list;
+      note = note;
+      entries = before.entries ++ entry ∷ [];
+      unsealed =
+          [];
+    } in
     let grown : log ≡ s.log ++ event 0 value ∷ [] = ap (λ (z : Seen). z.log) stores.is in
-    let t : State = state_of shape s.table.opening log in
+    let t : TableState = state_of shape s.table.opening log in
     let at : t ≡ after =
     ap (state_of shape s.table.opening) grown ∙ (state_of-push shape s.table.opening s.log (event 0 value)
     ∙ ap (λ (z : NoteWord). record {
@@ -55,23 +62,23 @@ enter-at s log core stamps number size index update h fits u-in v-in most stores
       unsealed = unsealed_from z before.unsealed;
     }) is) in
     let none : unsealed_in old ≡ [] = are.closed refl in
-    let now-none : t.unsealed ≡ [] = ap (λ (z : State). z.unsealed) at in
-    let entries : t.entries ≡ before.entries ++ entry ∷ [] = ap (λ (z : State). z.entries) at in
-    let order-is : vertices_of n (list_after s.table log) ≡ vertices_of n (list_after s.table s.log) = ap (λ (z : State). vertices_of n z.list) at in
+    let now-none : t.unsealed ≡ [] = ap (λ (z : TableState). z.unsealed) at in
+    let entries : t.entries ≡ before.entries ++ entry ∷ [] = ap (λ (z : TableState). z.entries) at in
+    let order-is : vertices_of n (list_after s.table log) ≡ vertices_of n (list_after s.table s.log) = ap (λ (z : TableState). vertices_of n z.list) at in
     let words : (w : ℕ) → get_or t.words (first_vertex shape + w) 0 ≡ word_at old w =
-    λ w. ap (λ (z : State). get_or z.words (first_vertex shape + w) 0) at
+    λ w. ap (λ (z : TableState). get_or z.words (first_vertex shape + w) 0) at
     ∙ get_or-set_other before.words 0 (first_vertex shape + w) value 0 (λ q. omega (arith, q)) in
     let many : length t.entries ≡ length before.entries + 1 = ap length entries ∙ length-append before.entries (entry ∷ []) in
     let are-now : AreLevels (levelled now core true) = record {
       legal = stores.legal;
       items = are.items;
       few = are.few;
-      list = ap (λ (z : State). z.list) at ∙ (are.list ∙ ap (λ (xs : List ℕ). with_heads n xs core) (sym order-is));
+      list = ap (λ (z : TableState). z.list) at ∙ (are.list ∙ ap (λ (xs : List ℕ). with_heads n xs core) (sym order-is));
       enumerates = subst (Enumerates n) (sym order-is) are.enumerates;
       rising = subst (Rises core) (sym order-is) are.rising;
       long = are.long;
       low = are.low;
-      quiet = λ w. subst (λ (z : State). legal.FollowsNote z.note w) (sym at) tt;
+      quiet = λ w. subst (λ (z : TableState). legal.FollowsNote z.note w) (sym at) tt;
       words = λ w l out. ap (λ (z : ℕ). (vertex_of z).core) (words w) ∙ are.words w l (ap (member w) none);
       unsealed = λ w m. absurd (false≢true (sym (ap (member w) now-none) ∙ m));
       inside = λ q. omega (arith, many);

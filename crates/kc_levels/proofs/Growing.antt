@@ -4,13 +4,13 @@ use Rattle.std.proofs.lemmas.Bool.{lt-ltb}
 use Rattle.kc_words.specs.declared.shape.Shape.{Shape}
 use Rattle.kc_table.specs.declared.view.Event.{Event}
 use Rattle.kc_table.specs.Log.{Seen}
-use Rattle.kc_table.specs.State.{State, state_of, first_vertex}
+use Rattle.kc_table.specs.TableState.{TableState, state_of, first_vertex}
 use Rattle.kc_table.specs.Legal.{FollowsNote}
 use Rattle.kc_order.specs.Writers.{Puts, unsealed_after}
 use Rattle.kc_order.proofs.Leaving.{state-word}
 
 -- what a put of a vertex leaves
-pub record PutState (shape : Shape) (s t : State) (x : ℕ) : Type 0 where
+pub record PutState (shape : Shape) (s t : TableState) (x : ℕ) : Type 0 where
   pub entries : t.entries ≡ s.entries
   pub unsealed : t.unsealed ≡ x ∷ s.unsealed
   pub words : (v : ℕ) → get_or t.words (first_vertex shape + v) 0 ≡ get_or s.words (first_vertex shape + v) 0

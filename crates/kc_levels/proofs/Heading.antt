@@ -5,10 +5,10 @@ use Rattle.std.specs.List.{filter}
 use Rattle.std.proofs.lemmas.Bool.{cases_eq, cases_lt, eqb-true, false_from_ne_true, lt-ltb, le-ltb, le-leb, lt-leb}
 use Rattle.std.proofs.lemmas.List.{get_or-set_same, get_or-set_other}
 use Rattle.std.proofs.lemmas.List.Elements.{filter-append}
-use Rattle.kc_distinct.specs.Lists.{member, Distinct, without, right_after, last_or, prev_of}
-use Rattle.kc_distinct.proofs.Members.{member-cases, not_member-cons, append-not_member, member-last_or, member-without, not_member-without, without-next}
-use Rattle.kc_distinct.proofs.Counting.{member-filter, Distinct-filter}
-use Rattle.kc_distinct.proofs.Members.{Distinct-without, without-append}
+use Rattle.kc_lists.specs.Lists.{member, Distinct, without, right_after, last_or, prev_of}
+use Rattle.kc_lists.proofs.Members.{member-cases, not_member-cons, append-not_member, member-last_or, member-without, not_member-without, without-next}
+use Rattle.kc_lists.proofs.Counting.{member-filter, Distinct-filter}
+use Rattle.kc_lists.proofs.Members.{Distinct-without, without-append}
 use Rattle.kc_graph.specs.Plans.{put_between}
 use Rattle.kc_cert.proofs.Chaining.{right_after-here, right_after-next}
 use Rattle.kc_levels.specs.Heads.{level_part, parts_from, with_heads, put}

@@ -3,10 +3,10 @@ use Rattle.std.proofs.Common.{◌≡◌, ◌<◌, ◌≤◌, ◌+◌, ◌*◌, �
 use Rattle.std.proofs.Common.{arith, true≢false}
 use Rattle.std.specs.Prelude.{count_by}
 use Rattle.std.proofs.lemmas.Bool.{and_left, false_from_ne_true}
-use Rattle.kc_distinct.specs.Lists.{member, Distinct}
-use Rattle.kc_distinct.proofs.Members.{below_bound}
-use Rattle.kc_distinct.proofs.Counting.{count-miss, member-from_Contains}
-use Rattle.kc_distinct.proofs.Shared.{Distinct-append, or-turned}
+use Rattle.kc_lists.specs.Lists.{member, Distinct}
+use Rattle.kc_lists.proofs.Members.{below_bound}
+use Rattle.kc_lists.proofs.Counting.{count-miss, member-from_Contains}
+use Rattle.kc_lists.proofs.Shared.{Distinct-append, or-turned}
 use Rattle.kc_graph.specs.SimpleGraph.{adjacent}
 use Rattle.kc_graph.specs.Lawful.{Ranked, IsCertified}
 use Rattle.kc_graph.specs.Plans.{moved_by, state_after, put_between, shifted, renumbered}

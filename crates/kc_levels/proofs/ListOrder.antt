@@ -2,9 +2,9 @@
 use Rattle.std.proofs.Common.{◌↔◌, ◌≡◌, ◌≢◌, ◌<◌, ℕ, Bool, true, List, [], ◌∷◌, ltb, sym, ◌∙◌, ap, subst, inl, inr, arith}
 use Rattle.std.specs.List.{filter}
 use Rattle.std.proofs.lemmas.Bool.{cases_Bool, cases_eq, cases_order, false≢true, lt-ltb}
-use Rattle.kc_distinct.specs.Lists.{member, place_of}
-use Rattle.kc_distinct.proofs.Counting.{filter-member, member-other}
-use Rattle.kc_distinct.proofs.Members.{place_of-first, place_of-next}
+use Rattle.kc_lists.specs.Lists.{member, place_of}
+use Rattle.kc_lists.proofs.Counting.{filter-member, member-other}
+use Rattle.kc_lists.proofs.Members.{place_of-first, place_of-next}
 use Rattle.kc_table.specs.Log.{Seen}
 use Rattle.kc_table.proofs.Listed.{Listed, list-stands}
 use Rattle.kc_order.specs.Standing.{StandsBefore, list_after}

@@ -3,11 +3,11 @@ use Rattle.std.proofs.Common.{◌⊎◌, ◌≡◌, ◌≢◌, ◌<◌, ◌≤�
 use Rattle.std.proofs.Common.{sym, ◌∙◌, ap, ap₂, subst, inl, inr, arith, true≢false, length-set}
 use Rattle.std.proofs.lemmas.Bool.{cases_eq, lt-ltb, ltb-true, ltb-false, leb-true, leb-false, false≢true}
 use Rattle.std.proofs.lemmas.List.{get_or-set_same, get_or-set_other, get_or_read}
-use Rattle.kc_distinct.specs.Lists.{member, without, prev_of, last_or}
-use Rattle.kc_distinct.proofs.Members.{member-head, member-tail, member-cases, member-append_right, not_member-parts, member-without, without-member}
-use Rattle.kc_distinct.proofs.Members.{member-last_or}
-use Rattle.kc_distinct.proofs.Counting.{member-filter, filter-member, Distinct-filter, member-get_or, pairs_from_Distinct, Contains-from_member}
-use Rattle.kc_distinct.proofs.Counting.{member-from_Contains}
+use Rattle.kc_lists.specs.Lists.{member, without, prev_of, last_or}
+use Rattle.kc_lists.proofs.Members.{member-head, member-tail, member-cases, member-append_right, not_member-parts, member-without, without-member}
+use Rattle.kc_lists.proofs.Members.{member-last_or}
+use Rattle.kc_lists.proofs.Counting.{member-filter, filter-member, Distinct-filter, member-get_or, pairs_from_Distinct, Contains-from_member}
+use Rattle.kc_lists.proofs.Counting.{member-from_Contains}
 use Rattle.kc_words.specs.VertexWord.{vertex_of}
 use Rattle.kc_graph.specs.Certificate.{Enumerates}
 use Rattle.kc_graph.specs.Plans.{put_between}
@@ -16,7 +16,7 @@ use Rattle.kc_cert.proofs.Placing.{put_after-has}
 use Rattle.kc_cert.proofs.Ordered.{order-distinct}
 use Rattle.kc_table.specs.declared.view.Event.{Event}
 use Rattle.kc_table.specs.Log.{Seen, TableName}
-use Rattle.kc_table.specs.State.{State, state_of}
+use Rattle.kc_table.specs.TableState.{TableState, state_of}
 use Rattle.kc_table.specs.Legal.{Legal, last_entry, stamp_in}
 use Rattle.kc_table.proofs.Listed.{Listed, list-stands}
 use Rattle.kc_order.specs.Standing.{list_after}
@@ -72,7 +72,7 @@ moved-at s log core core' open_ v p order' are may puts p-in list-is rises withi
     let n : ℕ = shape.fixed in
     let old : Levelled = levelled s core open_ in
     let now : Seen = record { table = s.table; log = log } in
-    let t : State = state_of shape s.table.opening log in
+    let t : TableState = state_of shape s.table.opening log in
     let vertex : v < n = may.vertex in
     let state : PutState shape (state_in old) t v =
     puts-state s log v p puts vertex in

@@ -5,17 +5,17 @@ use Rattle.std.specs.Prelude.{AllPairs}
 use Rattle.std.proofs.lemmas.Bool.{cases_eq, false≢true, false_from_ne_true}
 use Rattle.std.proofs.lemmas.List.{take_more, take_all}
 use Rattle.std.proofs.lemmas.List.Elements.{filter-append}
-use Rattle.kc_distinct.specs.Lists.{member, Distinct}
-use Rattle.kc_distinct.proofs.Members.{member-tail, member-cases, member-append, member-append_left, member-append_right, append-not_member}
-use Rattle.kc_distinct.proofs.Counting.{filter-member, member-push_cases, Distinct-filter, member-from_Contains, below-member}
-use Rattle.kc_distinct.proofs.Shared.{Distinct-append}
+use Rattle.kc_lists.specs.Lists.{member, Distinct}
+use Rattle.kc_lists.proofs.Members.{member-tail, member-cases, member-append, member-append_left, member-append_right, append-not_member}
+use Rattle.kc_lists.proofs.Counting.{filter-member, member-push_cases, Distinct-filter, member-from_Contains, below-member}
+use Rattle.kc_lists.proofs.Shared.{Distinct-append}
 use Rattle.kc_words.specs.VertexWord.{vertex_of, vertex_word}
 use Rattle.kc_words.specs.declared.shape.Shape.{Shape}
 use Rattle.kc_words.specs.declared.layout.TheConstants.{STAMP_BITS, VERTICES}
 use Rattle.kc_graph.specs.Certificate.{Enumerates}
 use Rattle.kc_cert.proofs.Ordered.{order-distinct, order-has}
 use Rattle.kc_table.specs.Log.{PassSeen, Seen, TableName}
-use Rattle.kc_table.specs.State.{State, state_of, opened, first_vertex}
+use Rattle.kc_table.specs.TableState.{TableState, state_of, opened, first_vertex}
 use Rattle.kc_table.specs.Legal.{Legal, FollowsNote}
 use Rattle.kc_table.proofs.LegalLogs.{state_of-nil}
 use Rattle.kc_order.specs.Standing.{list_after}
@@ -233,15 +233,16 @@ pub opened-levels : (words : TableName) (n : ℕ) (order core stamps : List ℕ)
 opened-levels words n order core stamps base version items fixed base-is version-is long long' few fits enumerates pairs low most lawful list vertex =
     let s : Seen = record { table = words; log = [] } in
     let shape = words.shape in
-    let state : State = state_of shape words.opening [] in
+    let state : TableState = state_of shape words.opening [] in
     let at : state ≡ opened shape words.opening = state_of-nil shape words.opening in
-    let none : state.unsealed ≡ [] = ap (λ (z : State). z.unsealed) at in
+    let none : state.unsealed ≡ [] = ap (λ (z : TableState). z.unsealed) at in
     let rises = Rises-from_pairs core order pairs in
     let order-is : vertices_of shape.fixed (list_after words []) ≡ order =
     ap₂ (λ (k : ℕ) (l : List ℕ). vertices_of k l) fixed list
     ∙ vertices-order n core order rises (λ y m. let l : y < n = order-below n order enumerates y m in (l, omega (arith, low y l))) in
     let word : (v : ℕ) → v < n → get_or state.words (first_vertex shape + v) 0 ≡ vertex_word
-    (record { stamp = get_or stamps v 0; core = get_or core v 0 }) = λ v l. ap (λ (z : State). get_or z.words (first_vertex shape + v) 0) at ∙ vertex v l in
+    (record { stamp = get_or stamps v 0; core = get_or core v 0 }) = λ v l. ap (λ (z : TableState). get_or z.words (first_vertex shape + v) 0) at
+    ∙ vertex v l in
     let fields : (v : ℕ) → v < n → ((vertex_of (get_or state.words (first_vertex shape + v) 0)).stamp ≡ get_or stamps v 0)
     × ((vertex_of (get_or state.words (first_vertex shape + v) 0)).core ≡ get_or core v 0) = λ v l.
     let f = fields-back (get_or stamps v 0) (get_or core v 0) (omega (arith, most v l, fits)) (omega (arith, low v l, few)) in
@@ -255,13 +256,13 @@ opened-levels words n order core stamps base version items fixed base-is version
       rising = subst (Rises core) (sym order-is) rises;
       long = sym long ∙ sym fixed;
       low = λ v l. omega (arith, low v (omega (arith, l, fixed)), fixed);
-      quiet = λ w. subst (λ (z : State). FollowsNote z.note w) (sym at) tt;
+      quiet = λ w. subst (λ (z : TableState). FollowsNote z.note w) (sym at) tt;
       words = λ v l out. (fields v (omega (arith, l, fixed))).1;
       unsealed = λ v m. absurd (false≢true (sym (ap (member v) none) ∙ m));
       inside = λ q. absurd (false≢true q);
       closed = λ q. none;
     } in
-    let no-entries : length state.entries ≡ 0 = ap (λ (z : State). length z.entries) at in (
+    let no-entries : length state.entries ≡ 0 = ap (λ (z : TableState). length z.entries) at in (
       record {
         are = are;
         long = long' ∙ sym fixed;

@@ -5,11 +5,11 @@ use Rattle.std.specs.List.{filter}
 use Rattle.std.proofs.lemmas.Bool.{cases_Bool, cases_lt, false_from_ne_true, lt-ltb, le-ltb, le-leb, lt-leb, not-true, and_parts}
 use Rattle.std.proofs.lemmas.List.{set-get_or}
 use Rattle.std.proofs.lemmas.List.Elements.{filter-append}
-use Rattle.kc_distinct.specs.Lists.{member, Distinct, without, prev_of}
-use Rattle.kc_distinct.proofs.Members.{member-head, member-tail, member-append_left, member-append_right, append-not_member}
-use Rattle.kc_distinct.proofs.Members.{Distinct-cut, Distinct-right_after, Distinct-without, not_member-without}
-use Rattle.kc_distinct.proofs.Counting.{member-filter, member-below, below-member, Distinct-filter, member-push}
-use Rattle.kc_distinct.proofs.Shared.{Distinct-append, Distinct-front, or-turned}
+use Rattle.kc_lists.specs.Lists.{member, Distinct, without, prev_of}
+use Rattle.kc_lists.proofs.Members.{member-head, member-tail, member-append_left, member-append_right, append-not_member}
+use Rattle.kc_lists.proofs.Members.{Distinct-cut, Distinct-right_after, Distinct-without, not_member-without}
+use Rattle.kc_lists.proofs.Counting.{member-filter, member-below, below-member, Distinct-filter, member-push}
+use Rattle.kc_lists.proofs.Shared.{Distinct-append, Distinct-front, or-turned}
 use Rattle.kc_graph.specs.Lawful.{Ranked}
 use Rattle.kc_graph.specs.Certificate.{Enumerates}
 use Rattle.kc_graph.specs.Plans.{put_between, shifted, renumbered, moved_by}

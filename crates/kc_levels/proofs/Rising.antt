@@ -6,9 +6,9 @@ use Rattle.std.specs.Prelude.{AllPairs}
 use Rattle.std.proofs.lemmas.Bool.{cases_order, eqb-true, eqb-false, lt-ltb, le-ltb, le-leb, lt-leb, not-true}
 use Rattle.std.proofs.lemmas.List.{get_or-set_same, get_or-set_other}
 use Rattle.std.proofs.lemmas.List.Elements.{filter-append}
-use Rattle.kc_distinct.specs.Lists.{member, without, right_after}
-use Rattle.kc_distinct.proofs.Members.{member-head, member-tail, member-cases, member-append, member-without, member-right_after, without-member}
-use Rattle.kc_distinct.proofs.Counting.{member-filter, member-get_or, Contains-from_member}
+use Rattle.kc_lists.specs.Lists.{member, without, right_after}
+use Rattle.kc_lists.proofs.Members.{member-head, member-tail, member-cases, member-append, member-without, member-right_after, without-member}
+use Rattle.kc_lists.proofs.Counting.{member-filter, member-get_or, Contains-from_member}
 use Rattle.kc_graph.specs.Plans.{put_between}
 use Rattle.kc_levels.specs.Heads.{level_part, parts_from, with_heads, vertices_of, put}
 use Rattle.kc_levels.specs.Levels.{Rises}

@@ -3,14 +3,14 @@ use Rattle.std.proofs.Common.{◌≡◌, ◌≢◌, ◌<◌, ◌+◌, ◌-◌, �
 use Rattle.std.proofs.Common.{subst, inl, inr, arith, true≢false, length-set}
 use Rattle.std.proofs.lemmas.Bool.{cases_eq, le-leb, false_from_ne_true}
 use Rattle.std.proofs.lemmas.List.{get_or-set_same, get_or-set_other, get_or_read}
-use Rattle.kc_distinct.specs.Lists.{member, without}
-use Rattle.kc_distinct.proofs.Members.{member-without, without-member}
+use Rattle.kc_lists.specs.Lists.{member, without}
+use Rattle.kc_lists.proofs.Members.{member-without, without-member}
 use Rattle.kc_words.specs.VertexWord.{vertex_of, vertex_word}
 use Rattle.kc_words.specs.declared.shape.Shape.{Shape}
 use Rattle.kc_words.specs.declared.layout.TheConstants.{CORE_BITS, STAMP_BITS}
 use Rattle.kc_table.specs.declared.view.Event.{Event}
 use Rattle.kc_table.specs.Log.{Seen, TableName, event}
-use Rattle.kc_table.specs.State.{State, state_of, first_vertex, word_count, after_store, sealed}
+use Rattle.kc_table.specs.TableState.{TableState, state_of, first_vertex, word_count, after_store, sealed}
 use Rattle.kc_table.specs.Legal as legal
 use Rattle.kc_table.proofs.Steps.{length-words_after}
 use Rattle.kc_table.proofs.LegalLogs.{state_of-push, state_of-words, legal-opens}
@@ -28,7 +28,7 @@ pub has-words : (shape : Shape) (opening : List ℕ) (log : List Event) → lega
 has-words shape opening log h = ap length (state_of-words shape opening log) ∙ (length-words_after opening log ∙ (legal-opens shape opening log h).one_each)
 
 -- what the store of a vertex's word leaves
-pub record SealState (shape : Shape) (s t : State) (v value : ℕ) : Type 0 where
+pub record SealState (shape : Shape) (s t : TableState) (v value : ℕ) : Type 0 where
   pub list : t.list ≡ s.list
   pub entries : t.entries ≡ s.entries
   pub unsealed : t.unsealed ≡ without v s.unsealed
@@ -37,7 +37,7 @@ pub record SealState (shape : Shape) (s t : State) (v value : ℕ) : Type 0 wher
   pub quiet : (w : ℕ) → legal.FollowsNote t.note w
 
 -- what the store of a vertex word leaves
-after-seal : (shape : Shape) (s : State) (v value : ℕ) → v < shape.fixed → length s.words ≡ word_count shape → ((w : ℕ) → legal.FollowsNote s.note w)
+after-seal : (shape : Shape) (s : TableState) (v value : ℕ) → v < shape.fixed → length s.words ≡ word_count shape → ((w : ℕ) → legal.FollowsNote s.note w)
     → SealState shape s (after_store shape s (event (first_vertex shape + v) value)) v value
 after-seal shape s v value vertex long quiet =
     let word : ℕ = first_vertex shape + v in
@@ -45,7 +45,7 @@ after-seal shape s v value vertex long quiet =
     let sealed-is : sealed shape word s.unsealed ≡ without v s.unsealed =
     ap (λ b. cond b (without (word - first_vertex shape) s.unsealed) s.unsealed) (le-leb (first_vertex shape) word (omega arith))
     ∙ ap (λ (k : ℕ). without k s.unsealed) (omega arith) in
-    subst (λ (z : State). SealState shape s z v value) (sym (after-item shape s e (omega arith))) record {
+    subst (λ (z : TableState). SealState shape s z v value) (sym (after-item shape s e (omega arith))) record {
       list = store-quiet s.note word s.list quiet;
       entries = refl;
       unsealed = put_in-quiet shape s.note word (sealed shape word s.unsealed) quiet ∙ sealed-is;
@@ -94,8 +94,8 @@ seal-at s log core stamps open_ number size v h o moved stores =
     let old : Levelled = levelled s core open_ in
     let now : Seen = record { table = s.table; log = log } in
     let are = h.are in
-    let before : State = state_in old in
-    let t : State = state_of shape s.table.opening log in
+    let before : TableState = state_in old in
+    let t : TableState = state_of shape s.table.opening log in
     let value : ℕ = vertex_word (record { stamp = number; core = get_or core v 0 }) in
     let u = are.unsealed v moved in
     let vertex : v < n = u.0 in
@@ -103,7 +103,7 @@ seal-at s log core stamps open_ number size v h o moved stores =
     let grown : log ≡ s.log ++ event (first_vertex shape + v) value ∷ [] = ap (λ (z : Seen). z.log) stores.is in
     let st : SealState shape before t v value =
     subst (λ (l : List Event). SealState shape before (state_of shape s.table.opening l) v value) (sym grown)
-    (subst (λ (z : State). SealState shape before z v value) (sym (state_of-push shape s.table.opening s.log (event (first_vertex shape + v) value)))
+    (subst (λ (z : TableState). SealState shape before z v value) (sym (state_of-push shape s.table.opening s.log (event (first_vertex shape + v) value)))
     (after-seal shape before v value vertex (has-words shape s.table.opening s.log are.legal) are.quiet)) in
     let order-is : vertices_of n (list_after s.table log) ≡ vertices_of n (list_after s.table s.log) = ap (vertices_of n) st.list in
     let number-is : legal.last_entry shape t ≡ number_of old = ap (λ es. shape.base + length es) st.entries in

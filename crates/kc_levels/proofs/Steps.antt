@@ -5,17 +5,17 @@ use Rattle.std.proofs.lemmas.Bool.{cases_Bool, cases_eq, false≢true, or_parts,
 use Rattle.std.proofs.lemmas.List.{set-get_or, take_more}
 use Rattle.std.proofs.lemmas.List.Folds.{list_any-append}
 use Rattle.std.proofs.Math.Bool.{or-false}
-use Rattle.kc_distinct.specs.Lists.{member, Distinct, without}
-use Rattle.kc_distinct.proofs.Members.{member-head, member-tail, member-cases, member-without, without-member, not_member-without, member-append}
-use Rattle.kc_distinct.proofs.Members.{member-append_left, not_member-append, no_member-empty}
-use Rattle.kc_distinct.proofs.Counting.{member-push, member-get_or, take-not_here, drop-member, Distinct-drop, Distinct-push}
-use Rattle.kc_distinct.proofs.Shared.{Distinct-front, Distinct-back, or-turned}
+use Rattle.kc_lists.specs.Lists.{member, Distinct, without}
+use Rattle.kc_lists.proofs.Members.{member-head, member-tail, member-cases, member-without, without-member, not_member-without, member-append}
+use Rattle.kc_lists.proofs.Members.{member-append_left, not_member-append, no_member-empty}
+use Rattle.kc_lists.proofs.Counting.{member-push, member-get_or, take-not_here, drop-member, Distinct-drop, Distinct-push}
+use Rattle.kc_lists.proofs.Shared.{Distinct-front, Distinct-back, or-turned}
 use Rattle.kc_words.specs.VertexWord.{vertex_of, vertex_word}
 use Rattle.kc_graph.specs.Plans.{put_between, renumbered, shifted}
 use Rattle.kc_cert.specs.Local.{firsts, AreInTurn}
 use Rattle.kc_cert.proofs.Turns.{firsts-append, firsts-more, length-firsts}
 use Rattle.kc_table.specs.Log.{Seen, TableName}
-use Rattle.kc_table.specs.State.{first_vertex}
+use Rattle.kc_table.specs.TableState.{first_vertex}
 use Rattle.kc_order.specs.Writers.{HasRoom, HasVersionsLeft, Puts, PutsEach, Stores}
 use Rattle.kc_order.proofs.Running.{room-less, room-run}
 use Rattle.kc_levels.specs.Heads.{put, under, up_to}

@@ -5,9 +5,9 @@ use Rattle.std.specs.Prelude.{max, MatchBool}
 use Rattle.std.specs.Option.{MatchOption, unwrap_or}
 use Rattle.std.proofs.lemmas.Bool.{cases_eq, false≢true, eqb-true, ltb-true, lt-ltb}
 use Rattle.std.proofs.lemmas.List.{get_or-set_other}
-use Rattle.kc_distinct.specs.Lists.{member, last_or, prev_of}
-use Rattle.kc_distinct.proofs.Members.{member-head, member-last_or}
-use Rattle.kc_distinct.proofs.Counting.{member-filter, filter-member}
+use Rattle.kc_lists.specs.Lists.{member, last_or, prev_of}
+use Rattle.kc_lists.proofs.Members.{member-head, member-last_or}
+use Rattle.kc_lists.proofs.Counting.{member-filter, filter-member}
 use Rattle.kc_table.specs.Log.{Seen}
 use Rattle.kc_table.proofs.Listed.{Listed, list-stands}
 use Rattle.kc_order.specs.Standing.{list_after}

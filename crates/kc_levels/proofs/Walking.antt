@@ -3,8 +3,8 @@ use Rattle.std.proofs.Common.{◌≡◌, ◌≢◌, ◌<◌, ◌≤◌, ◌+◌,
 use Rattle.std.proofs.Common.{sym, ◌∙◌, ap, subst, inl, inr, arith, true≢false, eq-eqb, ne_eqb}
 use Rattle.std.specs.Option.{MatchOption}
 use Rattle.std.proofs.lemmas.Bool.{cases_Bool, cases_eq, lt-ltb, le-ltb}
-use Rattle.kc_distinct.specs.Lists.{member, Distinct, head_or, next_of}
-use Rattle.kc_distinct.proofs.Members.{member-head, member-tail}
+use Rattle.kc_lists.specs.Lists.{member, Distinct, head_or, next_of}
+use Rattle.kc_lists.proofs.Members.{member-head, member-tail}
 use Rattle.kc_table.specs.Log.{Seen}
 use Rattle.kc_table.specs.Legal.{Legal}
 use Rattle.kc_table.proofs.Listed.{Listed, list-stands}

@@ -1,6 +1,6 @@
 -- One list that holds vertices and the heads of their levels: head k stands before the vertices of level k.
 use Rattle.std.specs.Prelude.{ℕ, zero, suc, ◌+◌, Bool, List, [], ◌∷◌, ◌++◌, filter, slice_index, nat_eq, nat_le, nat_lt, if◌then◌else◌, ◌==◌}
-use Rattle.kc_distinct.specs.Lists.{right_after, without, prev_of}
+use Rattle.kc_lists.specs.Lists.{right_after, without, prev_of}
 use Rattle.kc_graph.specs.Plans.{shifted}
 use Rattle.kc_graph.specs.declared.plan.Moves.{Moves}
 use Rattle.kc_graph.specs.declared.plan.Moves.TheVariants.{Kept, Plain, Rise, Fall}

@@ -1,6 +1,6 @@
 -- What contracts see of levels: the table and its log, the vertices in order, and where each stands.
 use Rattle.std.specs.Prelude.{◌≡◌, ◌≢◌, ◌≤◌, ◌<◌, ◌+◌, ◌*◌, ◌^◌, ◌⊎◌, ⊤, ℕ, Bool, true, false, List, [], ◌∷◌, ◌++◌, length, slice_index}
-use Rattle.kc_distinct.specs.Lists.{member, without}
+use Rattle.kc_lists.specs.Lists.{member, without}
 use Rattle.kc_words.specs.VertexWord.{vertex_of, vertex_word}
 use Rattle.kc_words.specs.NoteWord.{note_word}
 use Rattle.kc_words.specs.declared.layout.TheConstants.{STAMP_BITS, VERTICES}
@@ -9,7 +9,7 @@ use Rattle.kc_graph.specs.declared.update.Update.{Update}
 use Rattle.kc_graph.specs.Certificate.{Enumerates}
 use Rattle.kc_table.specs.declared.view.Event.{Event}
 use Rattle.kc_table.specs.Log.{PassSeen, Seen, TableName}
-use Rattle.kc_table.specs.State.{State, state_of, first_vertex}
+use Rattle.kc_table.specs.TableState.{TableState, state_of, first_vertex}
 use Rattle.kc_table.specs.Legal.{Legal, FollowsNote, last_entry, stamp_in}
 use Rattle.kc_order.specs.Standing.{list_after}
 use Rattle.kc_order.specs.Writers.{Puts, Stores}
@@ -35,7 +35,7 @@ abbrev pub size_of : Levelled → ℕ
 size_of l = l.table.shape.fixed
 
 -- what the log has made of the table
-abbrev pub state_in : Levelled → State
+abbrev pub state_in : Levelled → TableState
 state_in l = state_of l.table.shape l.table.opening l.log
 
 -- the number of the last entry: that of the open section

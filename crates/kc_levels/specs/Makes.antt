@@ -1,7 +1,7 @@
 -- What making all moves of a plan does: its puts, one at a time, and then the words of the vertices that were moved.
 use Rattle.std.specs.Prelude.{◌≡◌, ◌<◌, ◌+◌, ◌*◌, ℕ, true, false, not, ◌||◌, ◌&&◌, List, [], ◌∷◌, ◌++◌, length, slice_index}
 use Rattle.std.specs.FinSet as set
-use Rattle.kc_distinct.specs.Lists.{member}
+use Rattle.kc_lists.specs.Lists.{member}
 use Rattle.kc_words.specs.VertexWord.{vertex_word}
 use Rattle.kc_graph.specs.Lawful.{Ranked}
 use Rattle.kc_graph.specs.Plans.{moved_by}
@@ -9,7 +9,7 @@ use Rattle.kc_graph.specs.declared.plan.Moves.{Moves}
 use Rattle.kc_graph.specs.declared.plan.Moves.TheVariants.{Kept, Plain, Rise, Fall}
 use Rattle.kc_cert.specs.Local.{firsts, MovesFit, moved_vertices}
 use Rattle.kc_table.specs.Log.{Seen}
-use Rattle.kc_table.specs.State.{first_vertex}
+use Rattle.kc_table.specs.TableState.{first_vertex}
 use Rattle.kc_order.specs.Writers.{HasRoom, PutsEach, Stores}
 use Rattle.kc_levels.specs.Levels.{Levelled, AreLevels, MayMove, seen, size_of, state_in, number_of, stamp_at, word_at, unsealed_in}
 

@@ -6,7 +6,7 @@
 ghost use Rattle.std.specs.Prelude.{◌≡◌, ◌≢◌, ◌<◌, ◌≤◌, ◌+◌, ◌-◌, ◌*◌, ◌++◌, ℕ, [], ◌∷◌, true, false, length, slice_index, slice_set, ◌↔◌, IfOk};
 ghost use Rattle.std.specs.Prelude.{IsTrue, MatchBool, MatchOption, max};
 ghost use mathlib.Core.List.{IsPrefix};
-ghost use Rattle.kc_distinct.specs.Lists.{head_or, member, next_of, prev_of, without};
+ghost use Rattle.kc_lists.specs.Lists.{head_or, member, next_of, prev_of, without};
 ghost use Rattle.kc_words.specs.VertexWord.{vertex_word};
 ghost use Rattle.kc_graph.specs.Certificate.{Enumerates};
 ghost use Rattle.kc_graph.specs.Plans.{put_between};

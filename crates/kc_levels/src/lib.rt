@@ -10,7 +10,7 @@ mod levels;
 mod making;
 
 ghost use Rattle.std.specs.Prelude.{◌≡◌, ◌<◌, ◌*◌, ℕ, length, slice_index};
-ghost use Rattle.kc_distinct.specs.Lists.{member, Distinct};
+ghost use Rattle.kc_lists.specs.Lists.{member, Distinct};
 ghost use Rattle.kc_graph.specs.Lawful.{IsCertified, Ranked};
 ghost use Rattle.kc_graph.specs.declared.plan.Plan.{Plan};
 ghost use Rattle.kc_graph.specs.Certificate.{Enumerates};

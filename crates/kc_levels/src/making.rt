@@ -2,7 +2,7 @@
 //!
 //! Shifts are put in turn, the risen from the last to the first right behind the next head, and the fallen in turn before the head.
 ghost use Rattle.std.specs.Prelude.{◌≡◌, ◌≢◌, ◌<◌, ◌≤◌, ◌+◌, ◌-◌, ◌++◌, ℕ, [], true, false, length, slice_index};
-ghost use Rattle.kc_distinct.specs.Lists.{member, Distinct};
+ghost use Rattle.kc_lists.specs.Lists.{member, Distinct};
 ghost use Rattle.kc_graph.specs.Plans.{put_between, renumbered, shifted};
 ghost use Rattle.kc_cert.specs.Local.{firsts, moved_vertices, seconds, AreInTurn};
 ghost use Rattle.kc_levels.specs.Heads.{under, up_to};

@@ -29,23 +29,6 @@ struct Left<'a> {
     moved: &'a [u32],
 }
 
-/// Adds these edges.
-fn add_all<R: Abort>(rt: &R, graph: &mut Graph, edges: &[(u32, u32)]) -> Result<(), NoMemory> {
-    for (u, v) in edges {
-        assert!(rt; *u != *v && *u < graph.vertices() && *v < graph.vertices());
-        graph.add(*u, *v)?;
-    }
-    Ok(())
-}
-
-/// The graph of a start.
-fn graph_of<R: Abort + AllocGlobal>(rt: &R, start: Start) -> Result<Graph, NoMemory> {
-    assert!(rt; start.core.len() <= VERTICES as usize);
-    let mut graph = Graph::new(rt.alloc(), start.core.len() as u32)?;
-    add_all(rt, &mut graph, start.edges)?;
-    Ok(graph)
-}
-
 /// The order certifies these core numbers of the graph.
 fn assert_certified<R: Abort + AllocGlobal>(
     rt: &R,
@@ -62,7 +45,10 @@ fn assert_certified<R: Abort + AllocGlobal>(
 
 /// The graph of a start, with its core numbers and its order.
 fn state_of<R: Abort + AllocGlobal>(rt: &R, start: Start) -> Result<Lawful, NoMemory> {
-    let graph = graph_of(rt, start)?;
+    assert!(rt; start.core.len() <= VERTICES as usize);
+    let vertices = start.core.len() as u32;
+    assert!(rt; start.edges.iter().all(|(u, v)| u < v && *v < vertices));
+    let graph = Graph::from_pairs(rt.alloc(), vertices, start.edges)?;
     assert_certified(rt, &graph, start.core, start.order)?;
     let core = Vec::from_slice(rt.alloc(), start.core)?;
     let order = Vec::from_slice(rt.alloc(), start.order)?;

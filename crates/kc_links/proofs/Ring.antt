@@ -3,39 +3,39 @@ use Rattle.std.proofs.Common.{◌≡◌, ◌≢◌, ℕ, suc, zero, ◌+◌, ◌
 use Rattle.std.proofs.Common.{sym, ◌∙◌, ap, subst, ◌⊎◌, inl, inr, arith}
 use Rattle.std.proofs.lemmas.Bool.{true≢false, false≢true}
 use Rattle.std.proofs.lemmas.List.{get_or-set_same, get_or-set_other, append_assoc, length-append, length-set, get_or_read, get_or-replicate, length-replicate}
-use Rattle.kc_distinct.specs.Lists.{member, Distinct, without, right_after, head_or, last_or, next_of, prev_of}
-use Rattle.kc_links.specs.Ring.{walk, Link, Path, IsRing}
-use Rattle.kc_distinct.proofs.Members.{member-head, member-tail, member-cases, member-append, member-append_left, member-append_right}
-use Rattle.kc_distinct.proofs.Members.{not_member-parts, not_member-append, member-cut, Distinct-cut, Distinct-insert, without-cut, right_after-cut}
-use Rattle.kc_distinct.proofs.Members.{next_of-cut, prev_of-cut, list-ended, last_or-push, member-last_or, below_bound}
-use Rattle.kc_distinct.proofs.Shared.{some_length, Distinct-front}
+use Rattle.kc_lists.specs.Lists.{member, Distinct, without, right_after, head_or, last_or, next_of, prev_of, Follows}
+use Rattle.kc_links.specs.Ring.{walk, Link, IsRing}
+use Rattle.kc_lists.proofs.Members.{member-head, member-tail, member-cases, member-append, member-append_left, member-append_right}
+use Rattle.kc_lists.proofs.Members.{not_member-parts, not_member-append, member-cut, Distinct-cut, Distinct-insert, without-cut, right_after-cut}
+use Rattle.kc_lists.proofs.Members.{next_of-cut, prev_of-cut, list-ended, last_or-push, member-last_or, below_bound}
+use Rattle.kc_lists.proofs.Shared.{some_length, Distinct-front}
 
 -- a path by a relation is one by another that is weaker on the numbers of the path
-pub Path-mono : (R S : ℕ → ℕ → Type 0) (x : ℕ) (xs : List ℕ) (e : ℕ)
-    → ((y z : ℕ) → member y (x ∷ xs) ≡ true → member z (xs ++ e ∷ []) ≡ true → R y z → S y z) → Path R x (xs ++ e ∷ []) → Path S x (xs ++ e ∷ [])
-Path-mono R S x [] e f h = (f x e (member-head x []) (member-head e []) h.0, tt)
-Path-mono R S x (y ∷ ys) e f h = (
+pub Follows-mono : (R S : ℕ → ℕ → Type 0) (x : ℕ) (xs : List ℕ) (e : ℕ)
+    → ((y z : ℕ) → member y (x ∷ xs) ≡ true → member z (xs ++ e ∷ []) ≡ true → R y z → S y z) → Follows R x (xs ++ e ∷ []) → Follows S x (xs ++ e ∷ [])
+Follows-mono R S x [] e f h = (f x e (member-head x []) (member-head e []) h.0, tt)
+Follows-mono R S x (y ∷ ys) e f h = (
   f x y (member-head x (y ∷ ys)) (member-head y (ys ++ e ∷ [])) h.0,
-  Path-mono R S y ys e (λ u v p q r. f u v (member-tail u x (y ∷ ys) p) (member-tail v y (ys ++ e ∷ []) q) r) h.1,
+  Follows-mono R S y ys e (λ u v p q r. f u v (member-tail u x (y ∷ ys) p) (member-tail v y (ys ++ e ∷ []) q) r) h.1,
 )
 
 -- of a path through p, the part up to p is a path
-pub Path-left : (R : ℕ → ℕ → Type 0) (x : ℕ) (l : List ℕ) (p : ℕ) (r : List ℕ) → Path R x (l ++ p ∷ r) → Path R x (l ++ p ∷ [])
-Path-left R x [] p r h = (h.0, tt)
-Path-left R x (y ∷ l) p r h = (h.0, Path-left R y l p r h.1)
+pub Follows-left : (R : ℕ → ℕ → Type 0) (x : ℕ) (l : List ℕ) (p : ℕ) (r : List ℕ) → Follows R x (l ++ p ∷ r) → Follows R x (l ++ p ∷ [])
+Follows-left R x [] p r h = (h.0, tt)
+Follows-left R x (y ∷ l) p r h = (h.0, Follows-left R y l p r h.1)
 
 -- of a path through p, the part from p on is a path
-pub Path-right : (R : ℕ → ℕ → Type 0) (x : ℕ) (l : List ℕ) (p : ℕ) (r : List ℕ) → Path R x (l ++ p ∷ r) → Path R p r
-Path-right R x [] p r h = h.1
-Path-right R x (y ∷ l) p r h = Path-right R y l p r h.1
+pub Follows-right : (R : ℕ → ℕ → Type 0) (x : ℕ) (l : List ℕ) (p : ℕ) (r : List ℕ) → Follows R x (l ++ p ∷ r) → Follows R p r
+Follows-right R x [] p r h = h.1
+Follows-right R x (y ∷ l) p r h = Follows-right R y l p r h.1
 
 -- a path up to p and a path from p on are one path
-pub Path-join : (R : ℕ → ℕ → Type 0) (x : ℕ) (l : List ℕ) (p : ℕ) (r : List ℕ) → Path R x (l ++ p ∷ []) → Path R p r → Path R x (l ++ p ∷ r)
-Path-join R x [] p r h k = (h.0, k)
-Path-join R x (y ∷ l) p r h k = (h.0, Path-join R y l p r h.1 k)
+pub Follows-join : (R : ℕ → ℕ → Type 0) (x : ℕ) (l : List ℕ) (p : ℕ) (r : List ℕ) → Follows R x (l ++ p ∷ []) → Follows R p r → Follows R x (l ++ p ∷ r)
+Follows-join R x [] p r h k = (h.0, k)
+Follows-join R x (y ∷ l) p r h k = (h.0, Follows-join R y l p r h.1 k)
 
 -- a walk along the links of a path gives the numbers on it
-pub walk-path : (next prev : List ℕ) (a : ℕ) (xs : List ℕ) (s : ℕ) → Path (Link next prev) a (xs ++ s ∷ []) → walk (length xs) (get_or next a 0) next ≡ xs
+pub walk-path : (next prev : List ℕ) (a : ℕ) (xs : List ℕ) (s : ℕ) → Follows (Link next prev) a (xs ++ s ∷ []) → walk (length xs) (get_or next a 0) next ≡ xs
 walk-path next prev a [] s h = refl
 walk-path next prev a (x ∷ xs) s h =
     ap (λ z. z ∷ walk (length xs) (get_or next z 0) next) h.0.0 ∙ ap (λ zs. x ∷ zs) (walk-path next prev x xs s h.1)
@@ -63,16 +63,17 @@ Link-twice next prev p x q y z n m m' n' h = (
 )
 
 -- the ring cut at p: a path from the start up to p, and one from p back to the start
-pub path_at : (next prev : List ℕ) (s : ℕ) (l : List ℕ) (p : ℕ) (r : List ℕ) → Path (Link next prev) s ((l ++ p ∷ r) ++ s ∷ [])
-    → Path (Link next prev) s (l ++ p ∷ []) × Path (Link next prev) p (r ++ s ∷ [])
+pub path_at : (next prev : List ℕ) (s : ℕ) (l : List ℕ) (p : ℕ) (r : List ℕ) → Follows (Link next prev) s ((l ++ p ∷ r) ++ s ∷ [])
+    → Follows (Link next prev) s (l ++ p ∷ []) × Follows (Link next prev) p (r ++ s ∷ [])
 path_at next prev s l p r h =
-    let h' : Path (Link next prev) s (l ++ p ∷ (r ++ s ∷ [])) = subst (Path (Link next prev) s) (append_assoc l (p ∷ r) (s ∷ [])) h in
-    (Path-left (Link next prev) s l p (r ++ s ∷ []) h', Path-right (Link next prev) s l p (r ++ s ∷ []) h')
+    let h' : Follows (Link next prev) s (l ++ p ∷ (r ++ s ∷ [])) = subst (Follows (Link next prev) s) (append_assoc l (p ∷ r) (s ∷ [])) h in
+    (Follows-left (Link next prev) s l p (r ++ s ∷ []) h', Follows-right (Link next prev) s l p (r ++ s ∷ []) h')
 
 -- a path from the start up to p and one from p back to the start are the ring
-pub path_from : (next prev : List ℕ) (s : ℕ) (l : List ℕ) (p : ℕ) (r : List ℕ) → Path (Link next prev) s (l ++ p ∷ [])
-    → Path (Link next prev) p (r ++ s ∷ []) → Path (Link next prev) s ((l ++ p ∷ r) ++ s ∷ [])
-path_from next prev s l p r h k = subst (Path (Link next prev) s) (sym (append_assoc l (p ∷ r) (s ∷ []))) (Path-join (Link next prev) s l p (r ++ s ∷ []) h k)
+pub path_from : (next prev : List ℕ) (s : ℕ) (l : List ℕ) (p : ℕ) (r : List ℕ) → Follows (Link next prev) s (l ++ p ∷ [])
+    → Follows (Link next prev) p (r ++ s ∷ []) → Follows (Link next prev) s ((l ++ p ∷ r) ++ s ∷ [])
+path_from next prev s l p r h k = subst (Follows (Link next prev) s) (sym (append_assoc l (p ∷ r) (s ∷ []))) (Follows-join (Link next prev) s l p
+    (r ++ s ∷ []) h k)
 
 -- what stands behind a number in a distinct list is distinct
 Distinct-right : (l : List ℕ) (p : ℕ) (r : List ℕ) → Distinct (l ++ p ∷ r) → Distinct r
@@ -89,17 +90,17 @@ apart_parts (y ∷ l) p r d z q m n =
     ]
 
 -- what follows p is the end, or in the rest
-after_in : (next prev : List ℕ) (s p : ℕ) (r : List ℕ) → Path (Link next prev) p (r ++ s ∷ []) → (get_or next p 0 ≡ s) ⊎ (member (get_or next p 0) r ≡ true)
+after_in : (next prev : List ℕ) (s p : ℕ) (r : List ℕ) → Follows (Link next prev) p (r ++ s ∷ []) → (get_or next p 0 ≡ s) ⊎ (member (get_or next p 0) r ≡ true)
 after_in next prev s p [] h = inl h.0.0
 after_in next prev s p (y ∷ r) h = inr (ap (λ z. member z (y ∷ r)) h.0.0 ∙ member-head y r)
 
 -- what follows p is the first of the rest, or the end
-pub after_is : (next prev : List ℕ) (s p : ℕ) (r : List ℕ) → Path (Link next prev) p (r ++ s ∷ []) → get_or next p 0 ≡ head_or s r
+pub after_is : (next prev : List ℕ) (s p : ℕ) (r : List ℕ) → Follows (Link next prev) p (r ++ s ∷ []) → get_or next p 0 ≡ head_or s r
 after_is next prev s p [] h = h.0.0
 after_is next prev s p (y ∷ r) h = h.0.0
 
 -- what stands before p is the last of what leads up to it, or the start
-pub before_is : (next prev : List ℕ) (a : ℕ) (l : List ℕ) (p : ℕ) → Path (Link next prev) a (l ++ p ∷ []) → get_or prev p 0 ≡ last_or a l
+pub before_is : (next prev : List ℕ) (a : ℕ) (l : List ℕ) (p : ℕ) → Follows (Link next prev) a (l ++ p ∷ []) → get_or prev p 0 ≡ last_or a l
 before_is next prev a [] p h = h.0.1
 before_is next prev a (y ∷ l) p h = before_is next prev y l p h.1
 
@@ -111,14 +112,14 @@ behind_first-apart y s v q r out low is m = elim (member-append v r (s ∷ []) m
 ]
 
 -- after an insert, the ring goes from x on through what stood behind p
-new_tail : (next prev : List ℕ) (s x p q : ℕ) (r : List ℕ) → Path (Link next prev) p (r ++ s ∷ []) → q ≡ get_or next p 0 → s ≢ x → Distinct r
+new_tail : (next prev : List ℕ) (s x p q : ℕ) (r : List ℕ) → Follows (Link next prev) p (r ++ s ∷ []) → q ≡ get_or next p 0 → s ≢ x → Distinct r
     → ((y : ℕ) → member y r ≡ true → (y ≢ p) × (y ≢ x) × (y < s)) → Link (set (set next p x) x q) (set (set prev x p) q x) x q
-    → Path (Link (set (set next p x) x q) (set (set prev x p) q x)) x (r ++ s ∷ [])
+    → Follows (Link (set (set next p x) x q) (set (set prev x p) q x)) x (r ++ s ∷ [])
 new_tail next prev s x p q [] h e n d f k = (subst (λ z. Link (set (set next p x) x q) (set (set prev x p) q x) x z) (e ∙ h.0.0) k, tt)
 new_tail next prev s x p q (y ∷ r) h e n d f k =
     let is : q ≡ y = e ∙ h.0.0 in (
       subst (λ z. Link (set (set next p x) x q) (set (set prev x p) q x) x z) is k,
-      Path-mono (Link next prev) (Link (set (set next p x) x q) (set (set prev x p) q x)) y r s
+      Follows-mono (Link next prev) (Link (set (set next p x) x q) (set (set prev x p) q x)) y r s
           (λ u v u-in v-in w.
           let v-x : v ≢ x = elim (member-append v r (s ∷ []) v-in) [
             | inl in-r ↦ (f v (member-tail v y r in-r)).1
@@ -160,8 +161,8 @@ ring_insert next prev s x p q l r h e below out =
       | inl in-l ↦ (member-apart z x l in-l x-l, left-below z in-l, inl in-l)
       | inr in-p ↦ elim (member-cases z p [] in-p) [ inl is-p ↦ (λ w. x-p (sym w ∙ is-p), omega arith, inr is-p) | inr none ↦ absurd (false≢true none) ]
     ] in
-    let left-with : ((z : ℕ) → member z (l ++ p ∷ []) ≡ true → z ≢ q) → Path (Link (set (set next p x) x q) (set (set prev x p) q x)) s (l ++ p ∷ []) =
-    λ z-q. Path-mono (Link next prev) (Link (set (set next p x) x q) (set (set prev x p) q x)) s l p
+    let left-with : ((z : ℕ) → member z (l ++ p ∷ []) ≡ true → z ≢ q) → Follows (Link (set (set next p x) x q) (set (set prev x p) q x)) s (l ++ p ∷ []) =
+    λ z-q. Follows-mono (Link next prev) (Link (set (set next p x) x q) (set (set prev x p) q x)) s l p
     (λ y z y-in z-in k. Link-twice next prev p x q y z (y-left y y-in).0 (y-left y y-in).1 (z-left z z-in).0 (z-q z z-in) k) left in
     let right-facts : (y : ℕ) → member y r ≡ true → (y ≢ p) × (y ≢ x) × (y < s) =
     λ y m. (member-apart y p r m p-r, member-apart y x r m x-r, right-below y m) in
@@ -191,13 +192,13 @@ ring_insert next prev s x p q l r h e below out =
     }
 
 -- after a removal of x, the ring goes from p on through what stood behind x
-joined_tail : (next prev : List ℕ) (s x p q : ℕ) (r : List ℕ) → Path (Link next prev) x (r ++ s ∷ []) → q ≡ get_or next x 0 → Distinct r
-    → ((y : ℕ) → member y r ≡ true → (y ≢ p) × (y < s)) → Link (set next p q) (set prev q p) p q → Path (Link (set next p q) (set prev q p)) p (r ++ s ∷ [])
+joined_tail : (next prev : List ℕ) (s x p q : ℕ) (r : List ℕ) → Follows (Link next prev) x (r ++ s ∷ []) → q ≡ get_or next x 0 → Distinct r
+    → ((y : ℕ) → member y r ≡ true → (y ≢ p) × (y < s)) → Link (set next p q) (set prev q p) p q → Follows (Link (set next p q) (set prev q p)) p (r ++ s ∷ [])
 joined_tail next prev s x p q [] h e d f k = (subst (λ z. Link (set next p q) (set prev q p) p z) (e ∙ h.0.0) k, tt)
 joined_tail next prev s x p q (y ∷ r) h e d f k =
     let is : q ≡ y = e ∙ h.0.0 in (
       subst (λ z. Link (set next p q) (set prev q p) p z) is k,
-      Path-mono (Link next prev) (Link (set next p q) (set prev q p)) y r s
+      Follows-mono (Link next prev) (Link (set next p q) (set prev q p)) y r s
           (λ u v u-in v-in w.
           Link-kept next prev p q q p u v (f u u-in).0 (behind_first-apart y s v q r d.0 (f y (member-head y r)).1 is v-in) w)
           h.1,
@@ -205,25 +206,25 @@ joined_tail next prev s x p q (y ∷ r) h e d f k =
 
 -- after a removal of x, the way up to p and the way from p on are one ring
 ring_path : (next prev : List ℕ) (s x p q : ℕ) (l r : List ℕ) → p ≡ last_or s l → ((z : ℕ) → member z l ≡ true → (z < s) × (z ≢ q)) → Distinct l
-    → Path (Link next prev) s (l ++ x ∷ []) → Path (Link (set next p q) (set prev q p)) p (r ++ s ∷ [])
-    → Path (Link (set next p q) (set prev q p)) s ((l ++ r) ++ s ∷ [])
-ring_path next prev s x p q [] r e f d h k = subst (λ z. Path (Link (set next p q) (set prev q p)) z (r ++ s ∷ [])) e k
+    → Follows (Link next prev) s (l ++ x ∷ []) → Follows (Link (set next p q) (set prev q p)) p (r ++ s ∷ [])
+    → Follows (Link (set next p q) (set prev q p)) s ((l ++ r) ++ s ∷ [])
+ring_path next prev s x p q [] r e f d h k = subst (λ z. Follows (Link (set next p q) (set prev q p)) z (r ++ s ∷ [])) e k
 ring_path next prev s x p q (y ∷ ys) r e f d h k =
     let w = list-ended y ys in
     let last : p ≡ w.last = e ∙ (ap (last_or s) w.is ∙ last_or-push s w.front w.last) in
     let split : y ∷ ys ≡ w.front ++ p ∷ [] = w.is ∙ ap (λ z. w.front ++ z ∷ []) (sym last) in
-    let h' : Path (Link next prev) s (w.front ++ p ∷ (x ∷ [])) =
-    subst (Path (Link next prev) s) (ap (λ zs. zs ++ x ∷ []) split ∙ append_assoc w.front (p ∷ []) (x ∷ [])) h in
-    let left : Path (Link next prev) s (w.front ++ p ∷ []) = Path-left (Link next prev) s w.front p (x ∷ []) h' in
+    let h' : Follows (Link next prev) s (w.front ++ p ∷ (x ∷ [])) =
+    subst (Follows (Link next prev) s) (ap (λ zs. zs ++ x ∷ []) split ∙ append_assoc w.front (p ∷ []) (x ∷ [])) h in
+    let left : Follows (Link next prev) s (w.front ++ p ∷ []) = Follows-left (Link next prev) s w.front p (x ∷ []) h' in
     let d' : Distinct (w.front ++ p ∷ []) = subst Distinct split d in
     let f' : (z : ℕ) → member z (w.front ++ p ∷ []) ≡ true → (z < s) × (z ≢ q) = λ z m. f z (ap (member z) split ∙ m) in
     let p-s : p < s = (f' p (member-append_right p w.front (p ∷ []) (member-head p []))).0 in
-    let new : Path (Link (set next p q) (set prev q p)) s (w.front ++ p ∷ []) =
-    Path-mono (Link next prev) (Link (set next p q) (set prev q p)) s w.front p (λ u v u-in v-in z.
+    let new : Follows (Link (set next p q) (set prev q p)) s (w.front ++ p ∷ []) =
+    Follows-mono (Link next prev) (Link (set next p q) (set prev q p)) s w.front p (λ u v u-in v-in z.
     let u-p : u ≢ p =
     elim (member-cases u s w.front u-in) [ inl is-s ↦ omega arith | inr in-f ↦ member-apart u p w.front in-f (Distinct-cut p w.front [] d').0 ] in
     Link-kept next prev p q q p u v u-p (f' v v-in).1 z) left in
-    subst (λ zs. Path (Link (set next p q) (set prev q p)) s (zs ++ s ∷ [])) (sym (append_assoc w.front (p ∷ []) r) ∙ ap (λ zs. zs ++ r) (sym split))
+    subst (λ zs. Follows (Link (set next p q) (set prev q p)) s (zs ++ s ∷ [])) (sym (append_assoc w.front (p ∷ []) r) ∙ ap (λ zs. zs ++ r) (sym split))
     (path_from (set next p q) (set prev q p) s w.front p r new k)
 
 -- the ring without x
@@ -277,7 +278,7 @@ pub record CutRing (next prev : List ℕ) (s x : ℕ) (xs : List ℕ) : Type 0 w
   pub back : List ℕ
   pub is : xs ≡ front ++ x ∷ back
   pub ring : IsRing next prev s (front ++ x ∷ back)
-  pub paths : Path (Link next prev) s (front ++ x ∷ []) × Path (Link next prev) x (back ++ s ∷ [])
+  pub paths : Follows (Link next prev) s (front ++ x ∷ []) × Follows (Link next prev) x (back ++ s ∷ [])
   pub apart : (member x front ≡ false) × (member x back ≡ false) × Distinct (front ++ back)
 
 -- a ring can be cut at each member of its list
@@ -425,7 +426,7 @@ ring_push next prev s x p [] h e below out =
     )
 ring_push next prev s x p (y ∷ ys) h e below out =
     let w = list-ended y ys in
-    let at-end : Path (Link next prev) s ((y ∷ ys) ++ s ∷ []) = h.path in
+    let at-end : Follows (Link next prev) s ((y ∷ ys) ++ s ∷ []) = h.path in
     let is : p ≡ w.last = e ∙ (before_is next prev s (y ∷ ys) s at-end ∙ (ap (last_or s) w.is ∙ last_or-push s w.front w.last)) in
     let split : y ∷ ys ≡ w.front ++ p ∷ [] = w.is ∙ ap (λ z. w.front ++ z ∷ []) (sym is) in
     let h' : IsRing next prev s (w.front ++ p ∷ []) = subst (IsRing next prev s) split h in

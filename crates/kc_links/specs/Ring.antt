@@ -1,6 +1,6 @@
 -- A list kept as a ring through one more number, its size.
 use Rattle.std.specs.Prelude.{◌≡◌, ℕ, zero, suc, ◌+◌, ◌<◌, ◌^◌, List, [], ◌∷◌, ◌++◌, length, slice_index, true}
-use Rattle.kc_distinct.specs.Lists.{member, Distinct}
+use Rattle.kc_lists.specs.Lists.{member, Distinct, Follows}
 
 -- the list that a ring holds, and its size, which is the number that closes the ring
 pub record Chain : Type 0 where
@@ -16,11 +16,6 @@ walk (suc n) at next = at ∷ walk n (slice_index next at) next
 abbrev pub Link : List ℕ → List ℕ → ℕ → ℕ → Type 0
 Link next prev y z = (slice_index next y ≡ z) × (slice_index prev z ≡ y)
 
--- x, and each of the list, is related to the one after it
-abbrev pub Path : (ℕ → ℕ → Type 0) → ℕ → List ℕ → Type 0
-Path R x [] = Unit {0}
-Path R x (y ∷ ys) = R x y × Path R y ys
-
 -- the list has numbers below `size`, none twice; `next` and `prev` lead from `size` through it and back
 pub record IsRing (next prev : List ℕ) (size : ℕ) (list : List ℕ) : Type 0 where
   pub next_length : length next ≡ size + 1
@@ -28,4 +23,4 @@ pub record IsRing (next prev : List ℕ) (size : ℕ) (list : List ℕ) : Type 0
   pub small : size < 2 ^ 31
   pub distinct : Distinct list
   pub within : (x : ℕ) → member x list ≡ true → x < size
-  pub path : Path (Link next prev) size (list ++ size ∷ [])
+  pub path : Follows (Link next prev) size (list ++ size ∷ [])

@@ -2,7 +2,7 @@
 #![tactic(auto)]
 
 ghost use Rattle.std.specs.Prelude.{◌≡◌, ◌≢◌, ◌<◌, ◌+◌, ◌^◌, true, false, IfOk, [], ◌∷◌, ◌++◌, ℕ, List};
-ghost use Rattle.kc_distinct.specs.Lists.{member, without, right_after, head_or, next_of, prev_of};
+ghost use Rattle.kc_lists.specs.Lists.{member, without, right_after, head_or, next_of, prev_of};
 ghost use Rattle.kc_links.specs.Ring.{Chain};
 
 pub use std::alloc::AllocError as NoMemory;

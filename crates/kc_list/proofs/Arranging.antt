@@ -3,11 +3,11 @@ use Rattle.std.proofs.Common.{◌≡◌, ◌≢◌, ℕ, suc, zero, ◌+◌, ◌
 use Rattle.std.proofs.lemmas.Bool.{cases_eq, cases_lt, cases_Bool, eq-eqb, ne_eqb, false≢true, true≢false}
 use Rattle.std.proofs.lemmas.List.{length-set, get_or-set_same, get_or-set_other}
 use Rattle.kc_words.specs.ItemWord.{item_of}
-use Rattle.kc_distinct.specs.Lists.{member}
-use Rattle.kc_distinct.proofs.Members.{member-head, member-tail, member-cases, below_bound}
+use Rattle.kc_lists.specs.Lists.{member}
+use Rattle.kc_lists.proofs.Members.{member-head, member-tail, member-cases, below_bound}
 use Rattle.kc_words.specs.Order.{labels}
-use Rattle.kc_list.specs.Places.{Sound, Free, HasGap, NotOf, runs, size_of}
-use Rattle.kc_list.specs.Tally.{Tallied, KeepsGroup}
+use Rattle.kc_list.specs.Places.{WordsKeepList, Free, HasGap, NotOf, runs, size_of}
+use Rattle.kc_list.specs.Tally.{AreGroupSizes, KeepsGroup}
 use Rattle.kc_list.specs.Sheets.{version}
 use Rattle.kc_list.proofs.Counts.{numbers-covered, runs_short, size-agree}
 use Rattle.kc_list.proofs.Toplabels.{item_runs}
@@ -33,7 +33,8 @@ used_group f h (x ∷ xs) ne = elim (cases_eq (f x) h) [
 ]
 
 -- a group that is kept with size 0 is free
-pub free_group : (n : ℕ) (ws list sizes : List ℕ) (h : ℕ) → Tallied n ws list sizes → 0 < h → h ≤ n + 1 → get_or sizes h 0 ≡ 0 → Free n (labels n ws) list h
+pub free_group : (n : ℕ) (ws list sizes : List ℕ) (h : ℕ) → AreGroupSizes n ws list sizes → 0 < h → h ≤ n + 1 → get_or sizes h 0 ≡ 0
+    → Free n (labels n ws) list h
 free_group n ws list sizes h t low high z =
     record { low = low; high = high; unused = λ y m e. size_zero (labels n ws).group h list y (sym (t.counts h low high) ∙ z) m e }
 
@@ -49,7 +50,8 @@ search_free sizes (suc k) = elim (search_free sizes k) [
 ]
 
 -- of the n + 1 groups of a list one has size 0
-pub spare_group : (n : ℕ) (ws list sizes : List ℕ) → Sound n ws list → Tallied n ws list sizes → (h : ℕ) × (0 < h) × (h < length sizes) × (get_or sizes h 0 ≡ 0)
+pub spare_group : (n : ℕ) (ws list sizes : List ℕ) → WordsKeepList n ws list → AreGroupSizes n ws list sizes
+    → (h : ℕ) × (0 < h) × (h < length sizes) × (get_or sizes h 0 ≡ 0)
 spare_group n ws list sizes s t = elim (search_free sizes (n + 1)) [
   | inl r ↦ (r.0, r.1, omega (arith, r.2, t.length_is), r.3)
   | inr f ↦
@@ -61,7 +63,7 @@ spare_group n ws list sizes s t = elim (search_free sizes (n + 1)) [
 
 -- sizes where the groups of all items stay
 pub tally_agree : (n : ℕ) (ws vs list sizes : List ℕ) → ((y : ℕ) → member y list ≡ true → (labels n vs).group y ≡ (labels n ws).group y)
-    → Tallied n ws list sizes → Tallied n vs list sizes
+    → AreGroupSizes n ws list sizes → AreGroupSizes n vs list sizes
 tally_agree n ws vs list sizes f t =
     record {
       length_is = t.length_is;
@@ -71,15 +73,15 @@ tally_agree n ws vs list sizes f t =
     }
 
 -- where the words of items stay, an item keeps its group
-pub items_agree : (n : ℕ) (ws vs list : List ℕ) (y : ℕ) → Sound n ws list → ((w : ℕ) → w ≤ n → get_or vs w 0 ≡ get_or ws w 0) → member y list ≡ true
+pub items_agree : (n : ℕ) (ws vs list : List ℕ) (y : ℕ) → WordsKeepList n ws list → ((w : ℕ) → w ≤ n → get_or vs w 0 ≡ get_or ws w 0) → member y list ≡ true
     → (labels n vs).group y ≡ (labels n ws).group y
 items_agree n ws vs list y s f m = let below : y < n = (s.inside y m).below in ap (λ z. (item_of z).group) (f (1 + y) (omega arith))
 
 -- sizes where a full group is cut in two
-pub tally_halved : (n : ℕ) (ws vs list sizes : List ℕ) (g h : ℕ) → Tallied n ws list sizes → g ≤ n + 1 → h ≤ n + 1
+pub tally_halved : (n : ℕ) (ws vs list sizes : List ℕ) (g h : ℕ) → AreGroupSizes n ws list sizes → g ≤ n + 1 → h ≤ n + 1
     → size_of (labels n vs).group g list ≡ HALF_ITEMS → size_of (labels n vs).group h list ≡ HALF_ITEMS
     → ((k : ℕ) → k ≢ g → k ≢ h → size_of (labels n vs).group k list ≡ size_of (labels n ws).group k list)
-    → Tallied n vs list (set (set sizes g HALF_ITEMS) h HALF_ITEMS)
+    → AreGroupSizes n vs list (set (set sizes g HALF_ITEMS) h HALF_ITEMS)
 tally_halved n ws vs list sizes g h t g-high h-high left fresh others =
     let at-h : get_or (set (set sizes g HALF_ITEMS) h HALF_ITEMS) h 0 ≡ HALF_ITEMS =
     get_or-set_same (set sizes g HALF_ITEMS) h HALF_ITEMS 0 (omega (arith, length-set sizes g HALF_ITEMS, t.length_is)) in
@@ -109,7 +111,7 @@ tally_halved n ws vs list sizes g h t g-high h-high left fresh others =
 -- no word is stored more than once: first those of groups, then those of the fresh group and its items
 pub once_split : (n : ℕ) (ws qs vs list : List ℕ) (h : ℕ) → ((w : ℕ) → w ≤ n → get_or qs w 0 ≡ get_or ws w 0) → get_or qs (n + h) 0 ≡ get_or ws (n + h) 0
     → ((w : ℕ) → version qs w ≤ version ws w + 1) → ((w : ℕ) → version vs w ≤ version qs w + 1)
-    → ((w : ℕ) → w ≢ n + h → NotOf (labels n vs) list h w → get_or vs w 0 ≡ get_or qs w 0) → Sound n vs list → (w : ℕ) → version vs w ≤ version ws w + 1
+    → ((w : ℕ) → w ≢ n + h → NotOf (labels n vs) list h w → get_or vs w 0 ≡ get_or qs w 0) → WordsKeepList n vs list → (w : ℕ) → version vs w ≤ version ws w + 1
 once_split n ws qs vs list h items unused first second only s w = elim (cases_lt n w) [
   | inr low ↦ omega (arith, second w, ap (λ z. (item_of z).version) (items w low))
   | inl high ↦ elim (cases_eq w (n + h)) [
@@ -122,7 +124,7 @@ once_split n ws qs vs list h items unused first second only s w = elim (cases_lt
 pub keeps_split : (n : ℕ) (ws qs vs list : List ℕ) (g h p : ℕ) → ((labels n vs).group p ≡ g) ⊎ ((labels n vs).group p ≡ h)
     → ((labels n vs).group p ≡ h → HasGap n vs list p) → (g ≡ h → ⊥) → 0 < h
     → ((w : ℕ) → w ≢ n + h → NotOf (labels n vs) list h w → get_or vs w 0 ≡ get_or qs w 0) → ((w : ℕ) → w ≤ n → get_or qs w 0 ≡ get_or ws w 0)
-    → Sound n vs list → KeepsGroup n ws vs list p
+    → WordsKeepList n vs list → KeepsGroup n ws vs list p
 keeps_split n ws qs vs list g h p in-group gap apart low only items s = elim in-group [
   | inr e ↦ inl (gap e)
   | inl e ↦ inr (λ y m y-g.

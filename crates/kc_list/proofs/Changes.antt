@@ -4,14 +4,14 @@ use Rattle.std.proofs.Common.{◌⊎◌, inl, inr, arith}
 use Rattle.std.proofs.lemmas.Bool.{cases_Bool, ne_eqb, false≢true, true≢false, false_from_ne_true}
 use Rattle.std.proofs.lemmas.List.{length-take-le, length-drop}
 use Rattle.kc_words.specs.ItemWord.{item_of}
-use Rattle.kc_distinct.specs.Lists.{member}
-use Rattle.kc_distinct.proofs.Members.{member-head, member-tail, member-cases, not_member-cons}
+use Rattle.kc_lists.specs.Lists.{member}
+use Rattle.kc_lists.proofs.Members.{member-head, member-tail, member-cases, not_member-cons}
 use Rattle.kc_words.specs.Order.{Labels, labels}
-use Rattle.kc_list.specs.Places.{Sound, Segment, Free, NotOf, Halved, size_of, evens}
+use Rattle.kc_list.specs.Places.{WordsKeepList, Segment, Free, NotOf, Halved, size_of, evens}
 use Rattle.kc_list.specs.Sheets.{ChangesOnly}
 use Rattle.kc_list.proofs.Spreading.{segment_in}
 use Rattle.kc_list.proofs.Rooms.{room_after_spread}
-use Rattle.kc_distinct.proofs.Counting.{drop-member}
+use Rattle.kc_lists.proofs.Counting.{drop-member}
 use Rattle.kc_list.proofs.Counts.{segment_size}
 use Rattle.kc_words.specs.declared.layout.TheConstants.{BOTTOM_ROOM}
 use Rattle.kc_list.specs.declared.limits.TheConstants.{GROUP_ITEMS, HALF_ITEMS, HALF_STEP}
@@ -49,7 +49,7 @@ size-agree_at f h g (x ∷ xs) e =
     omega (arith, ap {B = ℕ} (λ b. cond b 1 0) (e x (member-head x xs)), size-agree_at f h g xs (λ y k. e y (member-tail y x xs k)))
 
 -- a full group is cut in two: what the two have, and what others keep
-pub group-halved : (n : ℕ) (ws vs list : List ℕ) (g h p : ℕ) (m : List ℕ) → Sound n ws list → Sound n vs list → Segment (labels n ws) list g m
+pub group-halved : (n : ℕ) (ws vs list : List ℕ) (g h p : ℕ) (m : List ℕ) → WordsKeepList n ws list → WordsKeepList n vs list → Segment (labels n ws) list g m
     → length m ≡ GROUP_ITEMS → Free n (labels n ws) list h → Segment (labels n vs) list g (take HALF_ITEMS m)
     → Segment (labels n vs) list h (drop HALF_ITEMS m) → map (labels n vs).bottom (drop HALF_ITEMS m) ≡ evens HALF_ITEMS HALF_STEP 0
     → ChangesOnly ((n + h) ∷ map (λ y. 1 + y) (drop HALF_ITEMS m)) ws vs → member p list ≡ true

@@ -3,11 +3,11 @@ use Rattle.std.proofs.Common.{◌≡◌, ℕ, suc, zero, ◌+◌, ◌-◌, ◌<�
 use Rattle.std.proofs.Common.{ap, subst, ◌⊎◌, inl, inr, arith}
 use Rattle.std.proofs.lemmas.Bool.{ne_eqb, eqb-true, eqb-false, eq-eqb, cases_eq, cases_Bool, false≢true}
 use Rattle.std.proofs.lemmas.List.{append_assoc, take_all, take_more, take-append-drop, length-take-le, take_rest, length-drop}
-use Rattle.kc_distinct.specs.Lists.{member, Distinct, without, right_after, next_of, head_or}
-use Rattle.kc_distinct.proofs.Members.{member-head, member-tail, member-cases, member-append, member-append_right, without-member, without-none}
-use Rattle.kc_distinct.proofs.Members.{Distinct-cut, next_of-cut, next_of-in}
-use Rattle.kc_words.specs.Order.{Labels, labels, InOrder}
-use Rattle.kc_list.specs.Places.{Before, Placed, Sound, Segment, runs, size_of, top_end}
+use Rattle.kc_lists.specs.Lists.{member, Distinct, without, right_after, next_of, head_or, InOrder}
+use Rattle.kc_lists.proofs.Members.{member-head, member-tail, member-cases, member-append, member-append_right, without-member, without-none}
+use Rattle.kc_lists.proofs.Members.{Distinct-cut, next_of-cut, next_of-in}
+use Rattle.kc_words.specs.Order.{Labels, labels}
+use Rattle.kc_list.specs.Places.{Before, Placed, WordsKeepList, Segment, runs, size_of, top_end}
 use Rattle.kc_list.proofs.Order.{order-parts, Before-then}
 use Rattle.kc_list.proofs.Gathering.{all_before, size-append, size-all}
 use Rattle.kc_words.specs.declared.layout.TheConstants.{TOP_ROOM}
@@ -116,7 +116,7 @@ above_back n a t z (q ∷ back) h f lt m =
     ]
 
 -- a label below the end of the gap above a group is below those of all groups after it
-pub top_gap : (n : ℕ) (ws list : List ℕ) (g last t : ℕ) (m : List ℕ) → Sound n ws list → Segment (labels n ws) list g (m ++ last ∷ [])
+pub top_gap : (n : ℕ) (ws list : List ℕ) (g last t : ℕ) (m : List ℕ) → WordsKeepList n ws list → Segment (labels n ws) list g (m ++ last ∷ [])
     → t < top_end n (labels n ws) (next_of n last list) → (z : ℕ) → member z list ≡ true → (labels n ws).top g < (labels n ws).top ((labels n ws).group z)
     → t < (labels n ws).top ((labels n ws).group z)
 top_gap n ws list g last t m s seg lt z z-in above =
@@ -140,7 +140,8 @@ top_gap n ws list g last t m s seg lt z z-in above =
     ]
 
 -- what follows x, where it is not the end, is in the list and has what an item of it has
-pub next_in : (n : ℕ) (ws list : List ℕ) (x q : ℕ) → Sound n ws list → q ≡ next_of n x list → (q ≡ n → ⊥) → (member q list ≡ true) × Placed n (labels n ws) q
+pub next_in : (n : ℕ) (ws list : List ℕ) (x q : ℕ) → WordsKeepList n ws list → q ≡ next_of n x list → (q ≡ n → ⊥)
+    → (member q list ≡ true) × Placed n (labels n ws) q
 next_in n ws list x q s e ne =
     let m : member q list ≡ true = elim (next_of-in n x list) [ inl z ↦ absurd (ne (e ∙ z)) | inr k ↦ ap (λ w. member w list) e ∙ k ] in
     (m, s.inside q m)
@@ -158,7 +159,7 @@ top_room_first n a g last (q ∷ back) e h f l k z =
     rw (ne_eqb q n (let c = b in omega arith)) (k q q-in up)
 
 -- where labels are two below those of later groups, one fits above a group, seen from its last member
-pub top_room : (n : ℕ) (ws list : List ℕ) (g last : ℕ) (m : List ℕ) → Sound n ws list → Segment (labels n ws) list g (m ++ last ∷ [])
+pub top_room : (n : ℕ) (ws list : List ℕ) (g last : ℕ) (m : List ℕ) → WordsKeepList n ws list → Segment (labels n ws) list g (m ++ last ∷ [])
     → ((z : ℕ) → member z list ≡ true → (labels n ws).top g < (labels n ws).top ((labels n ws).group z)
     → (labels n ws).top g + 2 ≤ (labels n ws).top ((labels n ws).group z)) → (labels n ws).top g + 2 ≤ TOP_ROOM
     → (labels n ws).top g + 2 ≤ top_end n (labels n ws) (next_of n last list)
@@ -222,7 +223,7 @@ group-halves n a list g m seg e =
     }
 
 -- the gap above a group ends no higher than all labels of groups
-pub top_end_high : (n : ℕ) (ws list : List ℕ) (x : ℕ) → Sound n ws list → top_end n (labels n ws) (next_of n x list) ≤ TOP_ROOM
+pub top_end_high : (n : ℕ) (ws list : List ℕ) (x : ℕ) → WordsKeepList n ws list → top_end n (labels n ws) (next_of n x list) ≤ TOP_ROOM
 top_end_high n ws list x s = elim (cases_eq (next_of n x list) n) [
   | inl e ↦ rw (eq-eqb (next_of n x list) n e) (omega arith)
   | inr ne ↦ rw (ne_eqb (next_of n x list) n ne) (let p = (next_in n ws list x (next_of n x list) s refl ne).1 in omega (arith, p.top_high))

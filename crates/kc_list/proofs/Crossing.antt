@@ -5,7 +5,7 @@ use Rattle.kc_links.specs.contracts.Links as links
 use Rattle.kc_list.specs.contracts.groups.Groups as groups
 use Rattle.kc_list.specs.contracts.labelled.LabelledList as labelled
 use Rattle.kc_list.specs.contracts.plain.PlainOrder as plain
-use Rattle.kc_list.specs.contracts.scratch.Scratch as room
+use Rattle.kc_list.specs.contracts.scratch.GroupRoom as room
 use Rattle.kc_list.specs.contracts.sheet.Sheet as sheet
 
 -- the ring of the list may go to another thread

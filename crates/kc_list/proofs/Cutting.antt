@@ -10,15 +10,15 @@ use Rattle.kc_words.specs.declared.group.GroupWord.{GroupWord}
 use Rattle.kc_words.specs.declared.layout.TheConstants.{LAST_VERSION, BOTTOM_ROOM}
 use Rattle.kc_list.specs.declared.limits.TheConstants.{GROUP_ITEMS}
 use Rattle.kc_list.specs.declared.sheet.Write.{Write}
-use Rattle.kc_list.specs.Places.{Sound, evens}
+use Rattle.kc_list.specs.Places.{WordsKeepList, evens}
 use Rattle.kc_list.specs.Sheets.{Paper, ChangesOnly}
 use Rattle.kc_list.specs.Views.{AreMembers, HaveMoved, IsSpare, IsTopAbove, KeepsOrder, version_at}
-use Rattle.kc_list.specs.Rewriting.{Stores, StoresWord, Relabels, Splits}
+use Rattle.kc_list.specs.Rewriting.{WritesWord, StoresWord, Relabels, Splits}
 use Rattle.kc_list.specs.declared.labelled.LabelledList.{LabelledList}
 use Rattle.kc_list.proofs.Putting.{ordered_from}
-use Rattle.kc_list.proofs.Spreading.{get_or-evens, Steps-none, Steps-push, raises_from, only-after}
+use Rattle.kc_list.proofs.Spreading.{get_or-evens, WritesKeepOrder-none, WritesKeepOrder-push, raises_from, only-after}
 use Rattle.kc_list.proofs.Splits.{MoveFacts, move_facts, Halfway, halfway-none, halfway-more, TopFacts, top_facts, same_version, lower_segment}
-use Rattle.kc_list.proofs.Splits.{upper_segment, Steps-then, versions-then}
+use Rattle.kc_list.proofs.Splits.{upper_segment, WritesKeepOrder-then, versions-then}
 
 -- an upper member's word with its new group and label may be stored
 pub moved_by : (a : LabelledList) (g h i label : ℕ) (low ups : List ℕ) (old : ItemWord) → old ≡ item_of (get_or a.sheet.words (1 + get_or ups i 0) 0)
@@ -54,7 +54,7 @@ upway-more a b d g h low ups i j way e moved stores = record {
   links = stores.links ∙ way.links;
   groups = stores.groups ∙ way.groups;
   halfway = halfway-more a.links.size a.links.list a.sheet b.sheet d.sheet g h low ups (evens (length ups) (BOTTOM_ROOM / (length ups + 1)) 0) i j _
-      way.halfway e a.sound.distinct (subst (λ (l : Chain). Sound l.size d.sheet.words l.list) (stores.links ∙ way.links) d.sound)
+      way.halfway e a.sound.distinct (subst (λ (l : Chain). WordsKeepList l.size d.sheet.words l.list) (stores.links ∙ way.links) d.sound)
       (subst (λ (l : Chain). HaveMoved l d.sheet g h low ups i) way.links moved) stores.stores.words stores.stores.writes stores.stores.version
       stores.stores.room;
 }
@@ -73,14 +73,14 @@ topped_by a g h top low ups old is some seg spare above =
 pub stored_steps : (a d : LabelledList) (w : ℕ) → StoresWord w a d → 0 < w → w < length a.sheet.words → KeepsOrder a.links a.sheet d.sheet
 stored_steps a d w stores low high =
     let one : Write = record { word = w; value = get_or d.sheet.words w 0 } in
-    Steps-push a.links.size a.links.list a.sheet a.sheet d.sheet one
-    (Steps-none a.links.size a.links.list a.sheet (ordered_from a.links.size a.sheet.words a.links.list a.sound))
+    WritesKeepOrder-push a.links.size a.links.list a.sheet a.sheet d.sheet one
+    (WritesKeepOrder-none a.links.size a.links.list a.sheet (ordered_from a.links.size a.sheet.words a.links.list a.sound))
     stores.stores.words stores.stores.writes
-    (ordered_from a.links.size d.sheet.words a.links.list (subst (λ (l : Chain). Sound l.size d.sheet.words l.list) stores.links d.sound))
+    (ordered_from a.links.size d.sheet.words a.links.list (subst (λ (l : Chain). WordsKeepList l.size d.sheet.words l.list) stores.links d.sound))
     (raises_from a.sheet.words d.sheet.words w _ low high stores.stores.words stores.stores.version)
 
 -- a store adds one write
-pub stored_count : (p q : Paper) (w : ℕ) → Stores w p q → length q.writes ≡ length p.writes + 1
+pub stored_count : (p q : Paper) (w : ℕ) → WritesWord w p q → length q.writes ≡ length p.writes + 1
 stored_count p q w stores = ap length stores.writes ∙ length_push p.writes (record { word = w; value = get_or q.words w 0 })
 
 -- the group's label is stored, then all upper members move
@@ -105,7 +105,7 @@ split_relabels a b d h most low first steps same then =
       groups = then.groups ∙ first.groups;
       rewrites = record {
         links = then.rewrites.links ∙ first.links;
-        steps = Steps-then a.links.size a.links.list a.sheet b.sheet d.sheet steps
+        steps = WritesKeepOrder-then a.links.size a.links.list a.sheet b.sheet d.sheet steps
             (subst (λ (l : Chain). KeepsOrder l b.sheet d.sheet) first.links then.rewrites.steps);
         versions = versions-then a.links.size h a.sheet.words b.sheet.words d.sheet.words _ low first.stores.words first.stores.version same-there
             then.rewrites.versions;

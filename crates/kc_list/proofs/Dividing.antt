@@ -1,11 +1,11 @@
 -- How a full group of the labelled list is divided in two.
 use Rattle.std.proofs.Common.{◌≡◌, ℕ, ◌+◌, ◌<◌, ◌≤◌, ◌-◌, true, List, refl, sym, ap, ◌∙◌, get_or, set, length, take, drop, inl, inr, subst, arith}
 use Rattle.std.proofs.lemmas.List.{take-append-drop}
-use Rattle.kc_distinct.specs.Lists.{member}
-use Rattle.kc_distinct.proofs.Members.{member-append}
+use Rattle.kc_lists.specs.Lists.{member}
+use Rattle.kc_lists.proofs.Members.{member-append}
 use Rattle.kc_links.specs.Ring.{Chain}
 use Rattle.kc_words.specs.Order.{labels}
-use Rattle.kc_list.specs.Places.{Sound, Halved, size_of}
+use Rattle.kc_list.specs.Places.{WordsKeepList, Halved, size_of}
 use Rattle.kc_list.specs.Views.{AreSizes, AreMembers, IsFull, IsFree, HasRoomAbove, KeepsOrder, group_at, top_at, end_above}
 use Rattle.kc_list.specs.Rewriting.{Rewrites, Relabels, Halves, SpreadsTops, KeepsItems, Divides}
 use Rattle.kc_list.specs.declared.labelled.LabelledList.{LabelledList}
@@ -15,7 +15,7 @@ use Rattle.kc_list.proofs.Counts as counts
 use Rattle.kc_list.proofs.Rooms.{in_segment}
 use Rattle.kc_list.proofs.Spreading.{segment-agree}
 use Rattle.kc_list.proofs.Changes.{group-halved}
-use Rattle.kc_list.proofs.Splits.{Steps-then}
+use Rattle.kc_list.proofs.Splits.{WritesKeepOrder-then}
 use Rattle.kc_list.proofs.Toplabels.{item_runs}
 use Rattle.kc_list.proofs.Toprooms.{Last, last_facts, wide_gap, no_item_word, no_free_word}
 use Rattle.kc_list.proofs.Arranging.{items_agree, tally_agree, free_group, tally_halved, keeps_split, once_split}
@@ -39,7 +39,7 @@ pub halved_at : (a d : LabelledList) (p g h : ℕ) (into : List ℕ) → g ≡ g
 halved_at a d p g h into is seg len full free two same =
     let there = in_segment (labels a.links.size a.sheet.words) a.links.list (group_at a.links a.sheet p) into p seg full.p_in refl in
     group-halved a.links.size a.sheet.words d.sheet.words a.links.list (group_at a.links a.sheet p) h p into a.sound
-    (subst (λ (l : Chain). Sound l.size d.sheet.words l.list) same d.sound) seg len free
+    (subst (λ (l : Chain). WordsKeepList l.size d.sheet.words l.list) same d.sound) seg len free
     (subst (λ (z : ℕ). AreMembers a.links d.sheet z (take HALF_ITEMS into)) is two.lower) two.upper two.bottoms two.only full.p_in
     (member-append p (take HALF_ITEMS into) (drop HALF_ITEMS into) (ap (member p) (take-append-drop HALF_ITEMS into) ∙ there))
 
@@ -130,7 +130,7 @@ pub group-divided : (a b d : LabelledList) (p g h most : ℕ) → g ≡ group_at
     → IsFree b.links b.sheet h → Halved b.links.size b.sheet.words d.sheet.words b.links.list (group_at b.links b.sheet p) h p → d.links ≡ b.links
     → d.groups ≡ set (set b.groups g HALF_ITEMS) h HALF_ITEMS → Divides p a d
 group-divided a b d p g h most is first kept s low free two same sizes =
-    let d-sound : Sound b.links.size d.sheet.words b.links.list = subst (λ (l : Chain). Sound l.size d.sheet.words l.list) same d.sound in
+    let d-sound : WordsKeepList b.links.size d.sheet.words b.links.list = subst (λ (l : Chain). WordsKeepList l.size d.sheet.words l.list) same d.sound in
     let items = subst (λ (l : Chain). (w : ℕ) → w ≤ l.size → get_or b.sheet.words w 0 ≡ get_or a.sheet.words w 0) (sym first.links) kept.items in
     record {
       tallied = rw (same, sizes, is)
@@ -151,14 +151,14 @@ pub divided_rewrites : (a b d : LabelledList) (p h few more : ℕ) → Relabels 
     → Halved b.links.size b.sheet.words d.sheet.words b.links.list (group_at b.links b.sheet p) h p → Rewrites more b d → Rewrites (few + more) a d
 divided_rewrites a b d p h few more first kept t low within none two then =
     let same = first.rewrites.links in
-    let d-sound : Sound b.links.size d.sheet.words b.links.list = subst (λ (l : Chain). Sound l.size d.sheet.words l.list) then.links d.sound in
+    let d-sound : WordsKeepList b.links.size d.sheet.words b.links.list = subst (λ (l : Chain). WordsKeepList l.size d.sheet.words l.list) then.links d.sound in
     let items = subst (λ (l : Chain). (w : ℕ) → w ≤ l.size → get_or b.sheet.words w 0 ≡ get_or a.sheet.words w 0) (sym same) kept.items in
     let free : IsFree a.links a.sheet h = free_there a h t low (subst (λ (zs : List ℕ). h < length zs) first.groups within)
     (subst (λ (zs : List ℕ). get_or zs h 0 ≡ 0) first.groups none) in
     let unused = subst (λ (l : Chain). get_or b.sheet.words (l.size + h) 0 ≡ get_or a.sheet.words (l.size + h) 0) (sym same) (kept.unused h free) in
     record {
       links = then.links ∙ same;
-      steps = Steps-then a.links.size a.links.list a.sheet b.sheet d.sheet first.rewrites.steps
+      steps = WritesKeepOrder-then a.links.size a.links.list a.sheet b.sheet d.sheet first.rewrites.steps
           (subst (λ (l : Chain). KeepsOrder l b.sheet d.sheet) same then.steps);
       versions = once_split b.links.size a.sheet.words b.sheet.words d.sheet.words b.links.list h items unused first.rewrites.versions then.versions
           two.only d-sound;

@@ -2,12 +2,12 @@
 use Rattle.std.proofs.Common.{◌≡◌, ℕ, suc, ◌+◌, ◌<◌, ◌≤◌, true, List, [], ◌∷◌, ◌++◌, length, set, take, refl, sym, ◌∙◌, ap, subst, ◌⊎◌, inl, inr, arith}
 use Rattle.std.proofs.lemmas.Bool.{eq-eqb, cases_eq, false≢true}
 use Rattle.std.proofs.lemmas.List.{append_assoc, length-append, take_more_set}
-use Rattle.kc_distinct.specs.Lists.{member, Distinct, last_or, prev_of, head_or, next_of, place_of}
-use Rattle.kc_distinct.proofs.Members.{member-head, member-tail, member-cases, member-append_left, member-append_right, member-cut}
-use Rattle.kc_distinct.proofs.Members.{Distinct-cut, prev_of-cut, next_of-cut, prev-place, some_or_none, last_or-push}
-use Rattle.kc_distinct.proofs.Counting.{member-push_cases}
-use Rattle.kc_words.specs.Order.{Labels, labels, InOrder}
-use Rattle.kc_list.specs.Places.{Before, Sound, Segment, First, size_of}
+use Rattle.kc_lists.specs.Lists.{member, Distinct, last_or, prev_of, head_or, next_of, place_of, InOrder}
+use Rattle.kc_lists.proofs.Members.{member-head, member-tail, member-cases, member-append_left, member-append_right, member-cut}
+use Rattle.kc_lists.proofs.Members.{Distinct-cut, prev_of-cut, next_of-cut, prev-place, some_or_none, last_or-push}
+use Rattle.kc_lists.proofs.Counting.{member-push_cases}
+use Rattle.kc_words.specs.Order.{Labels, labels}
+use Rattle.kc_list.specs.Places.{Before, WordsKeepList, Segment, First, size_of}
 use Rattle.kc_list.proofs.Order.{order-parts, Before-then}
 use Rattle.kc_words.proofs.Ordering.{Follows-all, InOrder-tail}
 
@@ -21,7 +21,7 @@ all_before R t z y (x ∷ l) r h m =
     ]
 
 -- an item of a group is its first where what stands right before it is of another group
-pub first_found : (n : ℕ) (ws list : List ℕ) (g x q : ℕ) → Sound n ws list → member x list ≡ true → (labels n ws).group x ≡ g → q ≡ prev_of n x list
+pub first_found : (n : ℕ) (ws list : List ℕ) (g x q : ℕ) → WordsKeepList n ws list → member x list ≡ true → (labels n ws).group x ≡ g → q ≡ prev_of n x list
     → ((q ≡ n → ⊥) → (labels n ws).group q ≡ g → ⊥) → First (labels n ws) list g x
 first_found n ws list g x q s m x-g q-is stop =
     let a = labels n ws in
@@ -56,7 +56,7 @@ first_found n ws list g x q s m x-g q-is stop =
     }
 
 -- what stands right before an item is in the list, one place nearer its start
-pub back_facts : (n : ℕ) (ws list : List ℕ) (first before : ℕ) → Sound n ws list → member first list ≡ true → before ≡ prev_of n first list
+pub back_facts : (n : ℕ) (ws list : List ℕ) (first before : ℕ) → WordsKeepList n ws list → member first list ≡ true → before ≡ prev_of n first list
     → (before ≡ n → ⊥) → (member before list ≡ true) × (before < n) × (suc (place_of before list) ≡ place_of first list)
 back_facts n ws list first before s m is ne =
     let k = prev-place n first list s.distinct m (λ y y-in e. let b : y < n = (s.inside y y-in).below in absurd (omega arith)) (λ e. ne (is ∙ e)) in
@@ -114,7 +114,7 @@ next_item n a list g x m c ne =
     record { back = back; rest_is = rest-is; is = is; behind = is ∙ sym (append_assoc c.front m (x ∷ back)) }
 
 -- what comes next, where it is not the end, is an item of the list
-pub collect_in : (n : ℕ) (ws list : List ℕ) (g x : ℕ) (m : List ℕ) → Sound n ws list → Collected n (labels n ws) list g x m → (x ≡ n → ⊥)
+pub collect_in : (n : ℕ) (ws list : List ℕ) (g x : ℕ) (m : List ℕ) → WordsKeepList n ws list → Collected n (labels n ws) list g x m → (x ≡ n → ⊥)
     → (member x list ≡ true) × (x < n)
 collect_in n ws list g x m s c ne =
     let t = next_item n (labels n ws) list g x m c ne in
@@ -123,7 +123,7 @@ collect_in n ws list g x m s c ne =
     (in', (s.inside x in').below)
 
 -- what comes next is collected where it is of the group
-pub collect_step : (n : ℕ) (ws list : List ℕ) (g x : ℕ) (m : List ℕ) → Sound n ws list → Collected n (labels n ws) list g x m → (x ≡ n → ⊥)
+pub collect_step : (n : ℕ) (ws list : List ℕ) (g x : ℕ) (m : List ℕ) → WordsKeepList n ws list → Collected n (labels n ws) list g x m → (x ≡ n → ⊥)
     → (labels n ws).group x ≡ g → CollectStep n (labels n ws) list g x m
 collect_step n ws list g x m s c ne x-g =
     let a = labels n ws in
@@ -162,7 +162,7 @@ none_left n x [] e w f y m = false≢true m
 none_left n x (z ∷ r) e w f y m = f z (member-head z r) (sym e ∙ w)
 
 -- where what comes next is not of the group, no item that is left is of it
-rest_none : (n : ℕ) (ws list : List ℕ) (g x some : ℕ) (m : List ℕ) → Sound n ws list → (c : Collected n (labels n ws) list g x m)
+rest_none : (n : ℕ) (ws list : List ℕ) (g x some : ℕ) (m : List ℕ) → WordsKeepList n ws list → (c : Collected n (labels n ws) list g x m)
     → ((x ≡ n → ⊥) → (labels n ws).group x ≡ g → ⊥) → member some m ≡ true → (y : ℕ) → member y c.rest ≡ true → (labels n ws).group y ≡ g → ⊥
 rest_none n ws list g x some m s c stop some-in y y-in y-g =
     let a = labels n ws in
@@ -190,7 +190,7 @@ rest_none n ws list g x some m s c stop some-in y y-in y-g =
     ]
 
 -- where what comes next is not of the group, what was collected are all its members
-pub members-collected : (n : ℕ) (ws list : List ℕ) (g x : ℕ) (m : List ℕ) → Sound n ws list → Collected n (labels n ws) list g x m
+pub members-collected : (n : ℕ) (ws list : List ℕ) (g x : ℕ) (m : List ℕ) → WordsKeepList n ws list → Collected n (labels n ws) list g x m
     → ((x ≡ n → ⊥) → (labels n ws).group x ≡ g → ⊥) → (y : ℕ) → member y m ≡ true → Segment (labels n ws) list g m
 members-collected n ws list g x m s c stop some some-in =
     let a = labels n ws in
@@ -215,7 +215,7 @@ collecting-begun x count first into l h =
     ]
 
 -- what was gathered from the first item of a group on, until no more of it comes, are all its members
-pub members-gathered : (n : ℕ) (ws list : List ℕ) (g x first count : ℕ) (into : List ℕ) → Sound n ws list → First (labels n ws) list g first
+pub members-gathered : (n : ℕ) (ws list : List ℕ) (g x first count : ℕ) (into : List ℕ) → WordsKeepList n ws list → First (labels n ws) list g first
     → Collected n (labels n ws) list g x (take count into) → ((x ≡ n → ⊥) → (labels n ws).group x ≡ g → ⊥)
     → ((count ≡ 0) × (x ≡ first)) ⊎ (member first (take count into) ≡ true) → Segment (labels n ws) list g (take count into)
 members-gathered n ws list g x first count into s f c stop h =

@@ -4,14 +4,14 @@ use Rattle.std.proofs.Common.{ap, subst, inl, inr, arith}
 use Rattle.std.proofs.lemmas.Bool.{cases_eq, true≢false, false≢true, false_from_ne_true}
 use Rattle.std.proofs.lemmas.List.{length-set, get_or-set_same, get_or-set_other, take_more, take_more_set, length-take-le, get_or_read, take_all}
 use Rattle.std.proofs.lemmas.List.{drop_all, append-nil, get_or-take}
-use Rattle.kc_distinct.specs.Lists.{member, Distinct}
-use Rattle.kc_distinct.proofs.Members.{member-head, member-cases, member-append, member-append_left, member-append_right, not_member-append}
-use Rattle.kc_distinct.proofs.Members.{Distinct-cut, below_bound}
+use Rattle.kc_lists.specs.Lists.{member, Distinct}
+use Rattle.kc_lists.proofs.Members.{member-head, member-cases, member-append, member-append_left, member-append_right, not_member-append}
+use Rattle.kc_lists.proofs.Members.{Distinct-cut, below_bound}
 use Rattle.kc_list.specs.Tally.{IsTally, opening_count}
 use Rattle.kc_list.proofs.Groupings.{index_of}
 use Rattle.kc_list.specs.declared.limits.TheConstants.{GROUP_ITEMS, OPENING_ITEMS, HALF_ITEMS}
-use Rattle.kc_distinct.proofs.Counting.{Distinct-push, member-get_or}
-use Rattle.kc_distinct.proofs.Shared.{some_length}
+use Rattle.kc_lists.proofs.Counting.{Distinct-push, member-get_or}
+use Rattle.kc_lists.proofs.Shared.{some_length}
 
 -- a group in use is not among the free numbers, and there is room for it
 pub room_for : (sizes free : List ℕ) (g : ℕ) → IsTally sizes free → 0 < g → g < length sizes → 0 < get_or sizes g 0

@@ -6,11 +6,11 @@ use Rattle.std.proofs.lemmas.List.{append_assoc, append-nil, length-append, get_
 use Rattle.std.proofs.lemmas.Nat.{le-div, div-add-mod'}
 use Rattle.kc_relabel.specs.Labels.{Ascends}
 use Rattle.kc_relabel.proofs.Rising.{Ascends-low}
-use Rattle.kc_distinct.specs.Lists.{member, Distinct, head_or, next_of, place_of}
-use Rattle.kc_distinct.proofs.Members.{member-head, member-cases, member-append_right, Distinct-cut, next_of-cut, place_of-cut, below_bound}
-use Rattle.kc_distinct.proofs.Members.{place_of-none}
+use Rattle.kc_lists.specs.Lists.{member, Distinct, head_or, next_of, place_of}
+use Rattle.kc_lists.proofs.Members.{member-head, member-cases, member-append_right, Distinct-cut, next_of-cut, place_of-cut, below_bound}
+use Rattle.kc_lists.proofs.Members.{place_of-none}
 use Rattle.kc_words.specs.Order.{Labels, labels}
-use Rattle.kc_list.specs.Places.{Sound, runs, evens}
+use Rattle.kc_list.specs.Places.{WordsKeepList, runs, evens}
 use Rattle.kc_list.proofs.Spreading.{Ascends-evens, get_or-evens}
 use Rattle.kc_list.proofs.Gathering.{cons_rest}
 use Rattle.kc_list.proofs.Counts.{runs_short}
@@ -49,7 +49,7 @@ pub record Grouped (n : ℕ) (a : Labels) (list : List ℕ) (x last : ℕ) (foun
   pub so_far : found ++ runs_after last a.group rest ≡ runs a.group list
 
 -- before the first item no group is found
-pub grouped-none : (n : ℕ) (ws list : List ℕ) → Sound n ws list → Grouped n (labels n ws) list (head_or n list) 0 []
+pub grouped-none : (n : ℕ) (ws list : List ℕ) → WordsKeepList n ws list → Grouped n (labels n ws) list (head_or n list) 0 []
 grouped-none n ws list s = record
     { done = []; rest = list; is = refl; head = refl; so_far = sym (runs_all (labels n ws).group list (λ x m. (s.inside x m).group_low)) }
 
@@ -75,7 +75,7 @@ record NextCut (n : ℕ) (a : Labels) (list done : List ℕ) (x last : ℕ) (fou
   pub so_far : found ++ runs_after last a.group (x ∷ back) ≡ runs a.group list
 
 -- where the end does not come next, the list is cut at the item that does
-next_cut : (n : ℕ) (ws list : List ℕ) (x last : ℕ) (found : List ℕ) → Sound n ws list → (g : Grouped n (labels n ws) list x last found) → (x ≡ n → ⊥)
+next_cut : (n : ℕ) (ws list : List ℕ) (x last : ℕ) (found : List ℕ) → WordsKeepList n ws list → (g : Grouped n (labels n ws) list x last found) → (x ≡ n → ⊥)
     → NextCut n (labels n ws) list g.done x last found
 next_cut n ws list x last found s g ne =
     let r = cons_rest n x g.rest g.head ne in
@@ -91,7 +91,7 @@ next_cut n ws list x last found s g ne =
     }
 
 -- what comes next, where it is not the end, is an item of the list
-pub group_step : (n : ℕ) (ws list : List ℕ) (x last : ℕ) (found : List ℕ) → Sound n ws list → Grouped n (labels n ws) list x last found → (x ≡ n → ⊥)
+pub group_step : (n : ℕ) (ws list : List ℕ) (x last : ℕ) (found : List ℕ) → WordsKeepList n ws list → Grouped n (labels n ws) list x last found → (x ≡ n → ⊥)
     → GroupStep n (labels n ws) list x
 group_step n ws list x last found s g ne =
     let cut = next_cut n ws list x last found s g ne in
@@ -110,7 +110,7 @@ group_step n ws list x last found s g ne =
     }
 
 -- an item of the group found last adds none
-pub grouped-same : (n : ℕ) (ws list : List ℕ) (x last : ℕ) (found : List ℕ) → Sound n ws list → Grouped n (labels n ws) list x last found → (x ≡ n → ⊥)
+pub grouped-same : (n : ℕ) (ws list : List ℕ) (x last : ℕ) (found : List ℕ) → WordsKeepList n ws list → Grouped n (labels n ws) list x last found → (x ≡ n → ⊥)
     → (labels n ws).group x ≡ last → Grouped n (labels n ws) list (next_of n x list) last found
 grouped-same n ws list x last found s g ne e =
     let a = labels n ws in
@@ -119,7 +119,7 @@ grouped-same n ws list x last found s g ne e =
     record { done = g.done ++ x ∷ []; rest = cut.back; is = cut.pushed; head = cut.next; so_far = rw (eq-eqb (a.group x) last e) at after }
 
 -- an item of another group adds its group
-pub grouped-new : (n : ℕ) (ws list : List ℕ) (x last : ℕ) (found : List ℕ) → Sound n ws list → Grouped n (labels n ws) list x last found → (x ≡ n → ⊥)
+pub grouped-new : (n : ℕ) (ws list : List ℕ) (x last : ℕ) (found : List ℕ) → WordsKeepList n ws list → Grouped n (labels n ws) list x last found → (x ≡ n → ⊥)
     → ((labels n ws).group x ≡ last → ⊥) → Grouped n (labels n ws) list (next_of n x list) ((labels n ws).group x) (found ++ (labels n ws).group x ∷ []) ×
     (length found < length list)
 grouped-new n ws list x last found s g ne new =
@@ -143,18 +143,18 @@ none_rest n x [] e is f = refl
 none_rest n x (y ∷ ys) e is f = absurd (let b = f y (member-head y ys) in omega arith)
 
 -- at the end all groups in use are found
-pub grouped-all : (n : ℕ) (ws list : List ℕ) (x last : ℕ) (found : List ℕ) → Sound n ws list → Grouped n (labels n ws) list x last found → x ≡ n
+pub grouped-all : (n : ℕ) (ws list : List ℕ) (x last : ℕ) (found : List ℕ) → WordsKeepList n ws list → Grouped n (labels n ws) list x last found → x ≡ n
     → found ≡ runs (labels n ws).group list
 grouped-all n ws list x last found s g is =
     let none : g.rest ≡ [] = none_rest n x g.rest g.head is (λ y m. (s.inside y (ap (member y) g.is ∙ member-append_right y g.done g.rest m)).below) in
     sym (append-nil found) ∙ (ap (λ zs. found ++ runs_after last (labels n ws).group zs) (sym none) ∙ g.so_far)
 
 -- there are no more groups in use than numbers of items
-pub groups_few : (n : ℕ) (ws list gs : List ℕ) → Sound n ws list → gs ≡ runs (labels n ws).group list → length gs ≤ n
+pub groups_few : (n : ℕ) (ws list gs : List ℕ) → WordsKeepList n ws list → gs ≡ runs (labels n ws).group list → length gs ≤ n
 groups_few n ws list gs s e = omega (arith, ap length e, runs_short (labels n ws).group list, below_bound n list s.distinct (λ x m. (s.inside x m).below))
 
 -- a group in use has a number from 1 to n + 1
-pub group_in : (n : ℕ) (ws list gs : List ℕ) (g : ℕ) → Sound n ws list → gs ≡ runs (labels n ws).group list → member g gs ≡ true → (0 < g) × (g ≤ n + 1)
+pub group_in : (n : ℕ) (ws list gs : List ℕ) (g : ℕ) → WordsKeepList n ws list → gs ≡ runs (labels n ws).group list → member g gs ≡ true → (0 < g) × (g ≤ n + 1)
 group_in n ws list gs g s e m =
     let from = runs_item (labels n ws).group g list (ap (member g) (sym e) ∙ m) in
     (omega (arith, from.2, (s.inside from.0 from.1).group_low), omega (arith, from.2, (s.inside from.0 from.1).group_high))

@@ -1,6 +1,6 @@
 pub mod Crossing
 pub mod Order
-pub mod Stores
+pub mod WritesWord
 pub mod Putting
 pub mod Spreading
 pub mod Splits

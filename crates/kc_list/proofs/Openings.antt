@@ -8,13 +8,13 @@ use Rattle.std.proofs.lemmas.Nat.{le-div, div-add-mod'}
 use Rattle.kc_words.specs.declared.item.ItemWord.{ItemWord}
 use Rattle.kc_words.specs.ItemWord.{item_of}
 use Rattle.kc_words.specs.GroupWord.{group_of}
-use Rattle.kc_distinct.specs.Lists.{member, Distinct}
-use Rattle.kc_distinct.proofs.Members.{below_bound}
+use Rattle.kc_lists.specs.Lists.{member, Distinct, InOrder, Follows}
+use Rattle.kc_lists.proofs.Members.{below_bound}
 use Rattle.kc_relabel.proofs.Once.{Distinct-at}
-use Rattle.kc_words.specs.Order.{labels, InOrder, Follows}
-use Rattle.kc_list.specs.Places.{Before, Sound, size_of}
+use Rattle.kc_words.specs.Order.{labels}
+use Rattle.kc_list.specs.Places.{Before, WordsKeepList, size_of}
 use Rattle.kc_list.specs.Sheets.{ChangesOnly, version, highest_of}
-use Rattle.kc_list.specs.Tally.{Tallied, opening_count}
+use Rattle.kc_list.specs.Tally.{AreGroupSizes, opening_count}
 use Rattle.kc_list.specs.Opening.{IsOpening, opening_item, opening_group, opening_groups}
 use Rattle.kc_list.proofs.Spreading.{only-more, member-map}
 use Rattle.kc_list.proofs.Splits.{same_version}
@@ -24,7 +24,7 @@ use Rattle.kc_list.proofs.Highest.{highest-all}
 use Rattle.kc_words.specs.declared.layout.TheConstants.{ITEMS, BOTTOM_ROOM, TOP_ROOM}
 use Rattle.kc_words.proofs.Packing.{none_version}
 use Rattle.kc_list.specs.declared.limits.TheConstants.{OPENING_ITEMS}
-use Rattle.kc_distinct.proofs.Counting.{member-get_or}
+use Rattle.kc_lists.proofs.Counting.{member-get_or}
 
 -- one item more has its word
 pub item_there : (len i count v b : ℕ) (w : ItemWord) → i < len → count ≡ min (len - (i - i % OPENING_ITEMS)) OPENING_ITEMS
@@ -125,7 +125,7 @@ first_product a s l = omega (arith, next_product a s)
 
 -- the words of an opening have the list in order
 pub opened_sound : (n v : ℕ) (order ws : List ℕ) → n ≤ ITEMS → Distinct order → ((x : ℕ) → member x order ≡ true → x < n) → IsOpening n v order ws
-    → Sound n ws order
+    → WordsKeepList n ws order
 opened_sound n v order ws small d within o =
     let a = labels n ws in
     let r = opening-reads n v order ws o in
@@ -214,7 +214,8 @@ size-opened f g s (x ∷ xs) low h =
 
 -- the sizes that are counted at the opening are those of the groups
 pub opened_tallied : (n v : ℕ) (order ws sizes : List ℕ) → Distinct order → ((x : ℕ) → member x order ≡ true → x < n) → IsOpening n v order ws
-    → length sizes ≡ n + 2 → get_or sizes 0 0 ≡ 0 → ((g : ℕ) → 0 < g → g ≤ n + 1 → get_or sizes g 0 ≡ opening_count (length order) g) → Tallied n ws order sizes
+    → length sizes ≡ n + 2 → get_or sizes 0 0 ≡ 0 → ((g : ℕ) → 0 < g → g ≤ n + 1 → get_or sizes g 0 ≡ opening_count (length order) g)
+    → AreGroupSizes n ws order sizes
 opened_tallied n v order ws sizes d within o len zero-is sized =
     let r = opening-reads n v order ws o in
     record {

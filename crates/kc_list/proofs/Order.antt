@@ -2,10 +2,10 @@
 use Rattle.std.proofs.Common.{◌≡◌, ℕ, ◌<◌, true, false, cond, List, [], ◌∷◌, ◌++◌, eqb, sym, ◌∙◌, ap, subst, ◌⊎◌, inl, inr, arith}
 use Rattle.std.proofs.lemmas.Bool.{ne_eqb}
 use Rattle.std.proofs.lemmas.List.{append_assoc}
-use Rattle.kc_distinct.specs.Lists.{member, without}
-use Rattle.kc_words.specs.Order.{Labels, PairBelow, Follows, InOrder}
+use Rattle.kc_lists.specs.Lists.{member, without, Follows, InOrder}
+use Rattle.kc_words.specs.Order.{Labels, PairBelow}
 use Rattle.kc_list.specs.Places.{Before, IfFirst}
-use Rattle.kc_distinct.proofs.Members.{member-head, member-tail, member-append_right, without-append}
+use Rattle.kc_lists.proofs.Members.{member-head, member-tail, member-append_right, without-append}
 use Rattle.kc_words.proofs.Ordering.{InOrder-tail, InOrder-mono}
 
 -- something holds of the first of a list, where it has one

@@ -6,19 +6,19 @@ use Rattle.std.proofs.lemmas.List.{length-set, get_or-set_same}
 use Rattle.kc_words.specs.ItemWord.{item_of, item_word, IsFitting as FitsItem}
 use Rattle.kc_words.proofs.Packing.{item_of-item_word}
 use Rattle.kc_words.specs.declared.item.ItemWord.{ItemWord}
-use Rattle.kc_distinct.specs.Lists.{member, Distinct, without, right_after, next_of, head_or}
-use Rattle.kc_distinct.proofs.Members.{member-head, member-tail, member-append_right, member-cut, Distinct-cut, right_after-cut, next_of-cut, next_of-in}
-use Rattle.kc_distinct.proofs.Members.{member-without, without-member, not_member-without, Distinct-without, member-right_after, right_after-member}
-use Rattle.kc_distinct.proofs.Members.{Distinct-right_after}
-use Rattle.kc_words.specs.Order.{Labels, labels, InOrder, Ordered, PairBelow}
-use Rattle.kc_list.specs.Places.{Before, Placed, Sound, ItemStored, end_at, gap_end}
+use Rattle.kc_lists.specs.Lists.{member, Distinct, without, right_after, next_of, head_or, InOrder}
+use Rattle.kc_lists.proofs.Members.{member-head, member-tail, member-append_right, member-cut, Distinct-cut, right_after-cut, next_of-cut, next_of-in}
+use Rattle.kc_lists.proofs.Members.{member-without, without-member, not_member-without, Distinct-without, member-right_after, right_after-member}
+use Rattle.kc_lists.proofs.Members.{Distinct-right_after}
+use Rattle.kc_words.specs.Order.{Labels, labels, Ordered, PairBelow}
+use Rattle.kc_list.specs.Places.{Before, Placed, WordsKeepList, ItemStored, end_at, gap_end}
 use Rattle.kc_list.proofs.Order.{AtFirst, Beyond, Agrees, Before-pairs, order-parts, put_right_after, without-around}
-use Rattle.kc_list.proofs.Stores.{item_stored}
+use Rattle.kc_list.proofs.WritesWord.{item_stored}
 use Rattle.kc_words.specs.declared.layout.TheConstants.{ITEMS, BOTTOM_ROOM}
 use Rattle.kc_words.proofs.Ordering.{InOrder-mono}
 
 -- words that have the list in order, as the crate says it, have it so as callers see it
-pub ordered_from : (n : ℕ) (ws list : List ℕ) → Sound n ws list → Ordered n ws list
+pub ordered_from : (n : ℕ) (ws list : List ℕ) → WordsKeepList n ws list → Ordered n ws list
 ordered_from n ws list s = record {
   pairs = InOrder-mono (Before (labels n ws)) (PairBelow (labels n ws)) list (λ x y _ _ h. Before-pairs (labels n ws) x y h) s.order;
   inside = λ x m. let p = s.inside x m in (p.group_low, p.group_high);
@@ -68,9 +68,9 @@ gap_below n a p q f =
     ]
 
 -- a store to the word of x with a label of the gap after p puts x right after p, in order
-pub put_sound : (n : ℕ) (ws list : List ℕ) (x p label v : ℕ) (w : ItemWord) → Sound n ws list → member p list ≡ true → x < n → (x ≡ p → ⊥)
+pub put_sound : (n : ℕ) (ws list : List ℕ) (x p label v : ℕ) (w : ItemWord) → WordsKeepList n ws list → member p list ≡ true → x < n → (x ≡ p → ⊥)
     → (labels n ws).bottom p < label → label < gap_end n ws list p → item_of v ≡ w → w.group ≡ (labels n ws).group p → w.bottom ≡ label
-    → Sound n (set ws (1 + x) v) (right_after x p (without x list))
+    → WordsKeepList n (set ws (1 + x) v) (right_after x p (without x list))
 put_sound n ws list x p label v w s p-in below ne low high is w-g w-b =
     let a = labels n ws in
     let b = labels n (set ws (1 + x) v) in
@@ -125,7 +125,7 @@ put_sound n ws list x p label v w s p-in below ne low high is w-g w-b =
     }
 
 -- an item is in the list exactly where it has a group
-pub in_by_group : (n : ℕ) (ws list : List ℕ) (x : ℕ) → Sound n ws list → x < n → not (eqb ((labels n ws).group x) 0) ≡ member x list
+pub in_by_group : (n : ℕ) (ws list : List ℕ) (x : ℕ) → WordsKeepList n ws list → x < n → not (eqb ((labels n ws).group x) 0) ≡ member x list
 in_by_group n ws list x s l =
     elim (cases_Bool (member x list)) [
       | inl m ↦ let low : 0 < (labels n ws).group x = (s.inside x m).group_low in ap not (ne_eqb ((labels n ws).group x) 0 (omega arith)) ∙ sym m
@@ -133,9 +133,10 @@ in_by_group n ws list x s l =
     ]
 
 -- the word that the program stores for a put fits, and has the list in order with x right after p
-pub put_stored : (n : ℕ) (ws list : List ℕ) (x p label : ℕ) (w : ItemWord) → Sound n ws list → n ≤ ITEMS → member p list ≡ true → x < n → (x ≡ p → ⊥)
+pub put_stored : (n : ℕ) (ws list : List ℕ) (x p label : ℕ) (w : ItemWord) → WordsKeepList n ws list → n ≤ ITEMS → member p list ≡ true → x < n → (x ≡ p → ⊥)
     → (labels n ws).bottom p < label → label < gap_end n ws list p → w.version < 2 ^ 24 → w.group ≡ (labels n ws).group p → w.bottom ≡ label
-    → FitsItem w × Sound n (set ws (1 + x) (item_word w)) (right_after x p (without x list)) × (item_of (get_or (set ws (1 + x) (item_word w)) (1 + x) 0) ≡ w)
+    → FitsItem w × WordsKeepList n (set ws (1 + x) (item_word w)) (right_after x p (without x list)) × (item_of (get_or (set ws (1 + x) (item_word w))
+    (1 + x) 0) ≡ w)
 put_stored n ws list x p label w s small p-in below ne low high v-fits w-g w-b =
     let g-high : (labels n ws).group p ≤ n + 1 = (s.inside p p-in).group_high in
     let l-high : gap_end n ws list p ≤ BOTTOM_ROOM =

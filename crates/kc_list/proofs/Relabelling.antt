@@ -1,14 +1,14 @@
 -- How the members of a group of the labelled list get new labels.
 use Rattle.std.proofs.Common.{◌≡◌, ℕ, ◌+◌, ◌<◌, ◌≤◌, true, List, refl, ap, ◌∙◌, get_or, set, length, map, subst, arith}
 use Rattle.std.proofs.lemmas.List.{length-map}
-use Rattle.kc_distinct.specs.Lists.{member}
+use Rattle.kc_lists.specs.Lists.{member}
 use Rattle.kc_links.specs.Ring.{Chain}
 use Rattle.kc_relabel.specs.Labels.{Ascends, places}
 use Rattle.kc_relabel.proofs.Rising.{Writes}
 use Rattle.kc_words.specs.ItemWord.{item_of}
 use Rattle.kc_words.specs.declared.item.ItemWord.{ItemWord}
 use Rattle.kc_words.specs.declared.layout.TheConstants.{LAST_VERSION, BOTTOM_ROOM}
-use Rattle.kc_list.specs.Places.{Sound}
+use Rattle.kc_list.specs.Places.{WordsKeepList}
 use Rattle.kc_list.specs.Views.{AreMembers, bottom_at, version_at}
 use Rattle.kc_list.specs.Scheduling.{IsSchedule}
 use Rattle.kc_list.specs.Rewriting.{Relabels, StoresWord}
@@ -49,7 +49,7 @@ onway-more a b d g m ss j way less schedule seg bottoms stores = record {
   groups = stores.groups ∙ way.groups;
   midway = midway-more a.links.size a.links.list a.sheet b.sheet d.sheet g m ss j _ way.midway less a.sound.distinct schedule.once
       (places_within (bottom_at a.links a.sheet) m BOTTOM_ROOM ss schedule)
-      (subst (λ (l : Chain). Sound l.size d.sheet.words l.list) (stores.links ∙ way.links) d.sound)
+      (subst (λ (l : Chain). WordsKeepList l.size d.sheet.words l.list) (stores.links ∙ way.links) d.sound)
       (subst (λ (l : Chain). AreMembers l d.sheet g m) way.links seg)
       (subst (λ (l : Chain). map (bottom_at l d.sheet) m ≡ set (map (bottom_at l b.sheet) m) (get_or ss j (0, 0)).0 (get_or ss j (0, 0)).1)
       way.links bottoms) stores.stores.words stores.stores.writes stores.stores.version stores.stores.room;

@@ -6,7 +6,7 @@ use Rattle.kc_relabel.proofs.Rising.{Writes}
 use Rattle.kc_words.specs.GroupWord.{group_of}
 use Rattle.kc_words.specs.declared.group.GroupWord.{GroupWord}
 use Rattle.kc_words.specs.declared.layout.TheConstants.{LAST_VERSION, TOP_ROOM}
-use Rattle.kc_list.specs.Places.{Sound}
+use Rattle.kc_list.specs.Places.{WordsKeepList}
 use Rattle.kc_list.specs.Views.{groups_in_use, top_at, version_at}
 use Rattle.kc_list.specs.Scheduling.{IsSchedule}
 use Rattle.kc_list.specs.Rewriting.{StoresWord}
@@ -14,7 +14,7 @@ use Rattle.kc_list.specs.declared.labelled.LabelledList.{LabelledList}
 use Rattle.kc_list.proofs.Splits.{same_version}
 use Rattle.kc_list.proofs.Relabelling.{places_within}
 use Rattle.kc_list.proofs.Toplabels.{RetopFacts, retop_facts, Topway, topway-none, topway-more, runs_distinct}
-use Rattle.kc_distinct.specs.Lists.{Distinct}
+use Rattle.kc_lists.specs.Lists.{Distinct}
 
 -- the word of a group with another label
 pub retopped_by : (a : LabelledList) (gs : List ℕ) (i label : ℕ) (old : GroupWord) → old ≡ group_of (get_or a.sheet.words (a.links.size + get_or gs i 0) 0)
@@ -50,7 +50,7 @@ retopway-more a b d gs ss j way less e schedule groups tops stores =
       groups = stores.groups ∙ way.groups;
       topway = topway-more a.links.size a.links.list a.sheet b.sheet d.sheet gs ss j _ way.topway less distinct schedule.once
           (places_within (top_at a.links a.sheet) gs TOP_ROOM ss schedule)
-          (subst (λ (l : Chain). Sound l.size d.sheet.words l.list) (stores.links ∙ way.links) d.sound)
+          (subst (λ (l : Chain). WordsKeepList l.size d.sheet.words l.list) (stores.links ∙ way.links) d.sound)
           (subst (λ (l : Chain). gs ≡ groups_in_use l d.sheet) way.links groups)
           (subst (λ (l : Chain). map (top_at l d.sheet) gs ≡ set (map (top_at l b.sheet) gs) (get_or ss j (0, 0)).0 (get_or ss j (0, 0)).1)
           way.links tops) there.stores.words there.stores.writes there.stores.version there.stores.room;

@@ -1,18 +1,18 @@
 -- How the states of the labelled list follow one another.
 use Rattle.std.proofs.Common.{◌≡◌, ◌≢◌, ℕ, ◌+◌, ◌<◌, ◌≤◌, ◌-◌, true, List, [], refl, ap, ◌∙◌, get_or, set, subst, arith}
-use Rattle.kc_distinct.specs.Lists.{member, without, right_after}
+use Rattle.kc_lists.specs.Lists.{member, without, right_after}
 use Rattle.kc_links.specs.Ring.{Chain}
 use Rattle.kc_words.specs.declared.item.ItemWord.{ItemWord}
 use Rattle.kc_words.specs.ItemWord.{item_of}
 use Rattle.kc_words.specs.Order.{Ordered}
 use Rattle.kc_list.specs.Plain.{Written}
-use Rattle.kc_list.specs.Places.{Sound}
+use Rattle.kc_list.specs.Places.{WordsKeepList}
 use Rattle.kc_list.specs.Views.{AreSizes, TakesItem, KeepsOrder, HasLabelAfter, group_at, group_size}
-use Rattle.kc_list.specs.Rewriting.{Stores, Rewrites, Relabels, ChangesGroup, MakesRoom, HasWay, PutsItem, TakesOut}
+use Rattle.kc_list.specs.Rewriting.{WritesWord, Rewrites, Relabels, ChangesGroup, MakesRoom, HasWay, PutsItem, TakesOut}
 use Rattle.kc_list.specs.declared.labelled.LabelledList.{LabelledList}
 use Rattle.kc_list.proofs.Putting.{ordered_from}
-use Rattle.kc_list.proofs.Spreading.{Steps-none, raises_from}
-use Rattle.kc_list.proofs.Splits.{Steps-then}
+use Rattle.kc_list.proofs.Spreading.{WritesKeepOrder-none, raises_from}
+use Rattle.kc_list.proofs.Splits.{WritesKeepOrder-then}
 use Rattle.kc_list.proofs.Arranging.{tally_agree, once_spread}
 use Rattle.kc_list.proofs.Whole.{takes_kept, written_from}
 use Rattle.kc_list.specs.declared.limits.TheConstants.{GROUP_ITEMS}
@@ -22,7 +22,7 @@ use Rattle.kc_list.proofs.Taking.{Moving, groups-moving, moved_in, moved_new, ta
 pub order-unwritten : (a : LabelledList) (most : ℕ) → Rewrites most a a
 order-unwritten a most = record {
   links = refl;
-  steps = Steps-none a.links.size a.links.list a.sheet (ordered_from a.links.size a.sheet.words a.links.list a.sound);
+  steps = WritesKeepOrder-none a.links.size a.links.list a.sheet (ordered_from a.links.size a.sheet.words a.links.list a.sound);
   versions = λ w. omega arith;
   count = omega arith;
   room = refl;
@@ -81,7 +81,7 @@ way_made a b d x p most room change then gap below p-in = record {
       (tally_agree b.links.size b.sheet.words d.sheet.words b.links.list b.groups change.groups room.tallied);
   takes = rw then.rewrites.links
       (takes_kept b.links.size b.sheet.words d.sheet.words b.links.list x p b.sound
-      (subst (λ (l : Chain). Sound l.size d.sheet.words l.list) then.rewrites.links d.sound) below p-in change.groups room.takes);
+      (subst (λ (l : Chain). WordsKeepList l.size d.sheet.words l.list) then.rewrites.links d.sound) below p-in change.groups room.takes);
   gap = rw then.rewrites.links gap;
 }
 
@@ -90,7 +90,7 @@ pub way_rewrites : (a b d : LabelledList) (x p few more : ℕ) → MakesRoom x p
     → (HasLabelAfter b.links b.sheet p → d.sheet ≡ b.sheet) → Rewrites more b d → Rewrites (few + more) a d
 way_rewrites a b d x p few more room first change kept then = record {
   links = then.links ∙ first.links;
-  steps = Steps-then a.links.size a.links.list a.sheet b.sheet d.sheet first.steps
+  steps = WritesKeepOrder-then a.links.size a.links.list a.sheet b.sheet d.sheet first.steps
       (subst (λ (l : Chain). KeepsOrder l b.sheet d.sheet) first.links then.steps);
   versions = once_spread b.links.size a.sheet.words b.sheet.words d.sheet.words b.links.list p room.kept
       (λ gap w. ap (λ s. get_or s.words w 0) (kept gap)) change.only first.versions then.versions;
@@ -99,7 +99,8 @@ way_rewrites a b d x p few more room first change kept then = record {
 }
 
 -- the writes of a call: those that make way, and the last, to the word of x
-pub call_written : (a b d : LabelledList) (x most : ℕ) → a.sheet.writes ≡ [] → Rewrites most a b → d.links.size ≡ b.links.size → Stores (1 + x) b.sheet d.sheet
+pub call_written : (a b d : LabelledList) (x most : ℕ) → a.sheet.writes ≡ [] → Rewrites most a b → d.links.size ≡ b.links.size
+    → WritesWord (1 + x) b.sheet d.sheet
     → x < a.links.size → Written a.links.size a.links.list d.links.list x a.sheet.words d.sheet.words d.sheet.writes
 call_written a b d x most none way size stores below =
     let same : b.links.size ≡ a.links.size = ap (λ (l : Chain). l.size) way.links in

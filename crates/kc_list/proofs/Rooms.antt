@@ -3,10 +3,10 @@ use Rattle.std.proofs.Common.{◌≡◌, ℕ, suc, ◌+◌, ◌*◌, ◌/◌, �
 use Rattle.std.proofs.lemmas.Bool.{ne_eqb, eq-eqb}
 use Rattle.std.proofs.lemmas.List.{append_assoc, length-append, get_or-map, get_or_at}
 use Rattle.std.proofs.lemmas.Nat.{le-div, div-add-mod'}
-use Rattle.kc_distinct.specs.Lists.{member, Distinct, head_or, next_of}
-use Rattle.kc_distinct.proofs.Members.{member-head, member-tail, member-append, member-append_right, member-cut, Distinct-cut, next_of-cut}
+use Rattle.kc_lists.specs.Lists.{member, Distinct, head_or, next_of}
+use Rattle.kc_lists.proofs.Members.{member-head, member-tail, member-append, member-append_right, member-cut, Distinct-cut, next_of-cut}
 use Rattle.kc_words.specs.Order.{Labels, labels}
-use Rattle.kc_list.specs.Places.{Sound, Segment, evens, end_at, gap_end}
+use Rattle.kc_list.specs.Places.{WordsKeepList, Segment, evens, end_at, gap_end}
 use Rattle.kc_list.proofs.Spreading.{get_or-evens}
 use Rattle.kc_words.specs.declared.layout.TheConstants.{BOTTOM_ROOM}
 use Rattle.kc_list.specs.declared.limits.TheConstants.{GROUP_ITEMS}
@@ -43,7 +43,7 @@ in_segment a list g m y seg k e =
     ]
 
 -- after a group is spread each of its items has a label after it
-pub room_after_spread : (n : ℕ) (ws list : List ℕ) (m : List ℕ) (p : ℕ) → Sound n ws list → Segment (labels n ws) list ((labels n ws).group p) m
+pub room_after_spread : (n : ℕ) (ws list : List ℕ) (m : List ℕ) (p : ℕ) → WordsKeepList n ws list → Segment (labels n ws) list ((labels n ws).group p) m
     → length m ≤ GROUP_ITEMS → member p list ≡ true → map (labels n ws).bottom m ≡ evens (length m) (BOTTOM_ROOM / (length m + 1)) 0
     → (labels n ws).bottom p + 2 ≤ gap_end n ws list p
 room_after_spread n ws list m p s seg le p-in e =

@@ -11,25 +11,26 @@ use Rattle.kc_words.specs.declared.item.ItemWord.{ItemWord}
 use Rattle.kc_words.specs.declared.group.GroupWord.{GroupWord}
 use Rattle.kc_relabel.specs.Labels.{Ascends}
 use Rattle.kc_relabel.proofs.Rising.{Ascends-rises}
-use Rattle.kc_distinct.specs.Lists.{member, Distinct}
-use Rattle.kc_distinct.proofs.Members.{member-head, member-tail, member-cases, member-append, member-append_left, member-append_right, Distinct-cut}
-use Rattle.kc_words.specs.Order.{Labels, labels, InOrder}
-use Rattle.kc_list.specs.Places.{Before, Placed, Sound, Segment, Free, Splitting, ItemStored, GroupStored, evens}
+use Rattle.kc_lists.specs.Lists.{member, Distinct, InOrder}
+use Rattle.kc_lists.proofs.Members.{member-head, member-tail, member-cases, member-append, member-append_left, member-append_right, Distinct-cut}
+use Rattle.kc_words.specs.Order.{Labels, labels}
+use Rattle.kc_list.specs.Places.{Before, Placed, WordsKeepList, Segment, Free, Splitting, ItemStored, GroupStored, evens}
 use Rattle.kc_list.proofs.Order.{AtFirst, AtLast, AtFirst-mono, Agrees, order-agreed, order-replaced, order-parts}
-use Rattle.kc_list.proofs.Stores.{item_stored, group_stored}
+use Rattle.kc_list.proofs.WritesWord.{item_stored, group_stored}
 use Rattle.kc_list.proofs.Putting.{item_agrees, Placed-agrees, ordered_from}
-use Rattle.kc_list.proofs.Spreading.{Ascends-at, length-evens, evens-ascend, Distinct-parts, Steps-none, Steps-push, stored-append, raises_from}
+use Rattle.kc_list.proofs.Spreading.{Ascends-at, length-evens, evens-ascend, Distinct-parts}
+use Rattle.kc_list.proofs.Spreading.{WritesKeepOrder-none, WritesKeepOrder-push, stored-append, raises_from}
 use Rattle.kc_list.proofs.Spreading.{only-none, only-more, member-map}
-use Rattle.kc_list.specs.Sheets.{ChangesOnly, Paper, Steps, version, stored, OrderedAlong, RaisedAlong}
+use Rattle.kc_list.specs.Sheets.{ChangesOnly, Paper, WritesKeepOrder, version, stored, OrderedAlong, RaisedAlong}
 use Rattle.kc_list.specs.declared.sheet.Write.{Write}
 use Rattle.kc_relabel.proofs.Once.{Distinct-at}
 use Rattle.kc_words.specs.declared.layout.TheConstants.{ITEMS, BOTTOM_ROOM, TOP_ROOM}
 use Rattle.kc_list.specs.declared.limits.TheConstants.{GROUP_ITEMS}
-use Rattle.kc_distinct.proofs.Shared.{map-agree}
-use Rattle.kc_distinct.proofs.Counting.{member-get_or}
+use Rattle.kc_lists.proofs.Shared.{map-agree}
+use Rattle.kc_lists.proofs.Counting.{member-get_or}
 
 -- a store to the word of a free group leaves the group and labels of each item
-pub group_agrees : (n : ℕ) (ws list : List ℕ) (h v t y : ℕ) → Sound n ws list → Free n (labels n ws) list h
+pub group_agrees : (n : ℕ) (ws list : List ℕ) (h v t y : ℕ) → WordsKeepList n ws list → Free n (labels n ws) list h
     → GroupStored (labels n ws) (labels n (set ws (n + h) v)) n h t → member y list ≡ true → Agrees (labels n ws) (labels n (set ws (n + h) v)) y
 group_agrees n ws list h v t y s f st m =
     let below : y < n = (s.inside y m).below in
@@ -40,8 +41,8 @@ group_agrees n ws list h v t y s f st m =
     }
 
 -- after a store to the word of a free group the list is in order
-pub unused_stored : (n : ℕ) (ws list : List ℕ) (h v t : ℕ) → Sound n ws list → Free n (labels n ws) list h
-    → GroupStored (labels n ws) (labels n (set ws (n + h) v)) n h t → Sound n (set ws (n + h) v) list
+pub unused_stored : (n : ℕ) (ws list : List ℕ) (h v t : ℕ) → WordsKeepList n ws list → Free n (labels n ws) list h
+    → GroupStored (labels n ws) (labels n (set ws (n + h) v)) n h t → WordsKeepList n (set ws (n + h) v) list
 unused_stored n ws list h v t s f st = record {
   size = length-set ws (n + h) v ∙ s.size;
   distinct = s.distinct;
@@ -93,11 +94,11 @@ first_above a b h y v ls (z ∷ zs) back i asc e v-is l f up y-g y-b t after =
 pub record MovedUp (n : ℕ) (ws list : List ℕ) (g h : ℕ) (low ups ls : List ℕ) (i : ℕ) (w : ItemWord) : Type 0 where
   pub below : get_or ups i 0 < n
   pub fits : FitsItem w
-  pub sound : Sound n (set ws (1 + get_or ups i 0) (item_word w)) list
+  pub sound : WordsKeepList n (set ws (1 + get_or ups i 0) (item_word w)) list
   pub splitting : Splitting n (labels n (set ws (1 + get_or ups i 0) (item_word w))) list g h low ups ls i
 
 -- the last member of g that is still to move can move to the front of h
-pub moved_up : (n : ℕ) (ws list : List ℕ) (g h : ℕ) (x : ℕ) (low ups ls : List ℕ) (i : ℕ) (w : ItemWord) → Sound n ws list → n ≤ ITEMS
+pub moved_up : (n : ℕ) (ws list : List ℕ) (g h : ℕ) (x : ℕ) (low ups ls : List ℕ) (i : ℕ) (w : ItemWord) → WordsKeepList n ws list → n ≤ ITEMS
     → Splitting n (labels n ws) list g h (x ∷ low) ups ls (i + 1) → i < length ups → length ls ≡ length ups → Ascends 1 BOTTOM_ROOM ls → w.version < 2 ^ 24
     → w.group ≡ h → w.bottom ≡ get_or ls i 0 → MovedUp n ws list g h (x ∷ low) ups ls i w
 moved_up n ws list g h x low ups ls i w s small sp i-in ls-len asc v-fits w-g w-b =
@@ -213,7 +214,7 @@ pub record MoveFacts (n : ℕ) (ws list : List ℕ) (g h : ℕ) (low ups ls : Li
   pub again : item_of (get_or (set ws (1 + get_or ups i 0) (item_word w)) (1 + get_or ups i 0) 0) ≡ w
 
 -- the word that the program stores as a member moves up keeps the list in order
-pub move_facts : (n : ℕ) (ws list : List ℕ) (g h : ℕ) (low ups : List ℕ) (i : ℕ) (w : ItemWord) → Sound n ws list → n ≤ ITEMS → 0 < length low
+pub move_facts : (n : ℕ) (ws list : List ℕ) (g h : ℕ) (low ups : List ℕ) (i : ℕ) (w : ItemWord) → WordsKeepList n ws list → n ≤ ITEMS → 0 < length low
     → length ups ≤ GROUP_ITEMS → Splitting n (labels n ws) list g h low ups (evens (length ups) (BOTTOM_ROOM / (length ups + 1)) 0) (i + 1) → i < length ups
     → w.version < 2 ^ 24 → w.group ≡ h → w.bottom ≡ get_or (evens (length ups) (BOTTOM_ROOM / (length ups + 1)) 0) i 0
     → MoveFacts n ws list g h low ups (evens (length ups) (BOTTOM_ROOM / (length ups + 1)) 0) i w
@@ -226,7 +227,8 @@ move_facts n ws list g h (x ∷ low) ups i w s small some le sp i-in v-fits w-g 
     record { all = all; read = read; again = ap item_of read ∙ item_of-item_word w all.fits }
 
 -- an upper member is an item's number
-pub upper_below : (n : ℕ) (ws list : List ℕ) (g h : ℕ) (low ups ls : List ℕ) (i j : ℕ) → Sound n ws list → Splitting n (labels n ws) list g h low ups ls j
+pub upper_below : (n : ℕ) (ws list : List ℕ) (g h : ℕ) (low ups ls : List ℕ) (i j : ℕ) → WordsKeepList n ws list
+    → Splitting n (labels n ws) list g h low ups ls j
     → i < length ups → get_or ups i 0 < n
 upper_below n ws list g h low ups ls i j s sp l =
     (s.inside (get_or ups i 0) (ap (member (get_or ups i 0)) sp.is
@@ -236,9 +238,9 @@ upper_below n ws list g h low ups ls i j s sp l =
 -- after the members from the i-th on have moved
 pub record Halfway (n : ℕ) (list : List ℕ) (p q : Paper) (g h : ℕ) (low ups ls : List ℕ) (i : ℕ) : Type 0 where
   pub within : i ≤ length ups
-  pub sound : Sound n q.words list
+  pub sound : WordsKeepList n q.words list
   pub splitting : Splitting n (labels n q.words) list g h low ups ls i
-  pub steps : Steps n list p q
+  pub steps : WritesKeepOrder n list p q
   pub versions : (w : ℕ) → version q.words w ≤ version p.words w + 1
   pub only : ChangesOnly (map (λ y. 1 + y) ups) p.words q.words
   pub waiting : (k : ℕ) → k < i → version q.words (1 + get_or ups k 0) ≡ version p.words (1 + get_or ups k 0)
@@ -247,13 +249,13 @@ pub record Halfway (n : ℕ) (list : List ℕ) (p q : Paper) (g h : ℕ) (low up
   pub room : q.room ≡ p.room
 
 -- at first no upper member has moved
-pub halfway-none : (n : ℕ) (list : List ℕ) (p : Paper) (g h : ℕ) (low ups ls : List ℕ) → Sound n p.words list
+pub halfway-none : (n : ℕ) (list : List ℕ) (p : Paper) (g h : ℕ) (low ups ls : List ℕ) → WordsKeepList n p.words list
     → Splitting n (labels n p.words) list g h low ups ls (length ups) → Halfway n list p p g h low ups ls (length ups)
 halfway-none n list p g h low ups ls s sp = record {
   within = omega arith;
   sound = s;
   splitting = sp;
-  steps = Steps-none n list p (ordered_from n p.words list s);
+  steps = WritesKeepOrder-none n list p (ordered_from n p.words list s);
   versions = λ w. omega arith;
   only = only-none (map (λ y. 1 + y) ups) p.words;
   waiting = λ k _. refl;
@@ -264,7 +266,7 @@ halfway-none n list p g h low ups ls s sp = record {
 
 -- one upper member more has moved
 pub halfway-more : (n : ℕ) (list : List ℕ) (p q r : Paper) (g h : ℕ) (low ups ls : List ℕ) (i j v : ℕ) → Halfway n list p q g h low ups ls j → j ≡ i + 1
-    → Distinct list → Sound n r.words list → Splitting n (labels n r.words) list g h low ups ls i
+    → Distinct list → WordsKeepList n r.words list → Splitting n (labels n r.words) list g h low ups ls i
     → r.words ≡ set q.words (1 + get_or ups i 0) v → r.writes ≡ q.writes ++ record { word = 1 + get_or ups i 0; value = v } ∷ []
     → version r.words (1 + get_or ups i 0) ≡ version q.words (1 + get_or ups i 0) + 1 → r.room ≡ q.room → Halfway n list p r g h low ups ls i
 halfway-more n list p q r g h low ups ls i j v half e d sound splitting words writes ver room =
@@ -278,7 +280,7 @@ halfway-more n list p q r g h low ups ls i j v half e d sound splitting words wr
       within = omega (arith, half.within);
       sound = sound;
       splitting = splitting;
-      steps = Steps-push n list p q r one half.steps words writes (ordered_from n r.words list sound)
+      steps = WritesKeepOrder-push n list p q r one half.steps words writes (ordered_from n r.words list sound)
           (raises_from q.words r.words (1 + get_or ups i 0) v (omega arith)
           (omega (arith, upper_below n q.words list g h low ups ls i j half.sound sp (omega (arith, half.within)), half.sound.size)) words ver);
       versions = λ w. elim (cases_eq w (1 + get_or ups i 0)) [
@@ -308,7 +310,7 @@ AtLast-some P x [] h = (x, member-head x [], h)
 AtLast-some P x (y ∷ ys) h = let k = AtLast-some P y ys h in (k.0, member-tail k.0 x (y ∷ ys) k.1, k.2)
 
 -- what follows a group has a greater top label
-pub after_segment : (n : ℕ) (ws list : List ℕ) (g x : ℕ) (m : List ℕ) → Sound n ws list → (seg : Segment (labels n ws) list g (x ∷ m))
+pub after_segment : (n : ℕ) (ws list : List ℕ) (g x : ℕ) (m : List ℕ) → WordsKeepList n ws list → (seg : Segment (labels n ws) list g (x ∷ m))
     → AtFirst (λ z. (labels n ws).top g < (labels n ws).top ((labels n ws).group z)) seg.back
 after_segment n ws list g x m s seg =
     let a = labels n ws in
@@ -322,13 +324,13 @@ after_segment n ws list g x m s seg =
 -- after the store of the new group's label the list is in order, and all upper members are still to move
 pub record TopFacts (n : ℕ) (ws list : List ℕ) (g h : ℕ) (low ups ls : List ℕ) (w : GroupWord) : Type 0 where
   pub fits : FitsGroup w
-  pub sound : Sound n (set ws (n + h) (group_word w)) list
+  pub sound : WordsKeepList n (set ws (n + h) (group_word w)) list
   pub splitting : Splitting n (labels n (set ws (n + h) (group_word w))) list g h low ups ls (length ups)
   pub read : get_or (set ws (n + h) (group_word w)) (n + h) 0 ≡ group_word w
   pub again : (item_of (get_or (set ws (n + h) (group_word w)) (n + h) 0)).version ≡ w.version
 
 -- a label for the new group above g and below all later groups can be stored
-pub top_facts : (n : ℕ) (ws list : List ℕ) (g h : ℕ) (low ups : List ℕ) (w : GroupWord) → Sound n ws list → 0 < length low
+pub top_facts : (n : ℕ) (ws list : List ℕ) (g h : ℕ) (low ups : List ℕ) (w : GroupWord) → WordsKeepList n ws list → 0 < length low
     → Segment (labels n ws) list g (low ++ ups) → Free n (labels n ws) list h → (labels n ws).top g < w.top → w.top < TOP_ROOM
     → ((z : ℕ) → member z list ≡ true → (labels n ws).top g < (labels n ws).top ((labels n ws).group z) → w.top < (labels n ws).top ((labels n ws).group z))
     → w.version < 2 ^ 24 → TopFacts n ws list g h low ups (evens (length ups) (BOTTOM_ROOM / (length ups + 1)) 0) w
@@ -420,8 +422,8 @@ RaisedAlong-append ws [] ts h k = k
 RaisedAlong-append ws (s ∷ ss) ts h k = (h.0, RaisedAlong-append (set ws s.word s.value) ss ts h.1 k)
 
 -- steps from one sheet to a second and from there to a third are steps from the first to the third
-pub Steps-then : (n : ℕ) (list : List ℕ) (p q r : Paper) → Steps n list p q → Steps n list q r → Steps n list p r
-Steps-then n list p q r h k = record {
+pub WritesKeepOrder-then : (n : ℕ) (list : List ℕ) (p q r : Paper) → WritesKeepOrder n list p q → WritesKeepOrder n list q r → WritesKeepOrder n list p r
+WritesKeepOrder-then n list p q r h k = record {
   added = h.added ++ k.added;
   writes = k.writes ∙ (ap (λ ss. ss ++ k.added) h.writes ∙ append_assoc p.writes h.added k.added);
   words = k.words ∙ (ap (λ ws. stored ws k.added) h.words ∙ sym (stored-append p.words h.added k.added));

@@ -11,20 +11,20 @@ use Rattle.kc_relabel.specs.Labels.{Ascends, written, places}
 use Rattle.kc_relabel.proofs.Rising.{Writes, written-append, Ascends-end, Ascends-low}
 use Rattle.std.proofs.lemmas.Nat.{le-div, div-add-mod'}
 use Rattle.kc_relabel.proofs.Once.{Distinct-at, place_at, length-places}
-use Rattle.kc_distinct.specs.Lists.{member, Distinct}
-use Rattle.kc_distinct.proofs.Members.{member-head, member-tail, member-cases, member-append_left, member-append_right, not_member-append, not_member-parts}
-use Rattle.kc_words.specs.Order.{Labels, labels, InOrder, Follows, Ordered}
-use Rattle.kc_list.specs.Places.{Before, Placed, Sound, Segment, ItemStored, evens}
-use Rattle.kc_list.specs.Sheets.{ChangesOnly, Paper, stored, OrderedAlong, RaisedAlong, Raises, Steps, version}
+use Rattle.kc_lists.specs.Lists.{member, Distinct, InOrder, Follows}
+use Rattle.kc_lists.proofs.Members.{member-head, member-tail, member-cases, member-append_left, member-append_right, not_member-append, not_member-parts}
+use Rattle.kc_words.specs.Order.{Labels, labels, Ordered}
+use Rattle.kc_list.specs.Places.{Before, Placed, WordsKeepList, Segment, ItemStored, evens}
+use Rattle.kc_list.specs.Sheets.{ChangesOnly, Paper, stored, OrderedAlong, RaisedAlong, Raises, WritesKeepOrder, version}
 use Rattle.kc_list.specs.declared.sheet.Write.{Write}
 use Rattle.kc_list.proofs.Order.{AtFirst, AtFirst-mono, AtLast-mono, Agrees, order-parts, order-joined, Before-agrees}
-use Rattle.kc_list.proofs.Stores.{item_stored}
+use Rattle.kc_list.proofs.WritesWord.{item_stored}
 use Rattle.kc_list.proofs.Putting.{item_agrees, Placed-agrees, ordered_from}
 use Rattle.kc_words.specs.declared.layout.TheConstants.{LAST_VERSION, ITEMS, BOTTOM_ROOM}
 use Rattle.kc_list.specs.declared.limits.TheConstants.{GROUP_ITEMS}
 use Rattle.kc_words.proofs.Ordering.{InOrder-mono}
-use Rattle.kc_distinct.proofs.Shared.{map-agree}
-use Rattle.kc_distinct.proofs.Counting.{member-get_or}
+use Rattle.kc_lists.proofs.Shared.{map-agree}
+use Rattle.kc_lists.proofs.Counting.{member-get_or}
 
 -- a list in order is so by another relation where this orders its middle and agrees on the rest
 pub order-middle : (R S : ℕ → ℕ → Type 0) (l m r : List ℕ) → ((x z : ℕ) → member x l ≡ true → member z (l ++ (m ++ r)) ≡ true → R x z → S x z)
@@ -90,12 +90,13 @@ set_range xs i v h l = let k = Ascends-at 1 BOTTOM_ROOM (set xs i v) i h (omega 
 -- after one store of a spread the list is in order, the members stay, and one has its new label
 pub record Relabelled (n : ℕ) (ws list : List ℕ) (g : ℕ) (m : List ℕ) (i : ℕ) (w : ItemWord) : Type 0 where
   pub fits : FitsItem w
-  pub sound : Sound n (set ws (1 + get_or m i 0) (item_word w)) list
+  pub sound : WordsKeepList n (set ws (1 + get_or m i 0) (item_word w)) list
   pub segment : Segment (labels n (set ws (1 + get_or m i 0) (item_word w))) list g m
   pub bottoms : map (labels n (set ws (1 + get_or m i 0) (item_word w))).bottom m ≡ set (map (labels n ws).bottom m) i w.bottom
 
 -- a member can get a new label with which the labels of its group ascend
-pub member-relabelled : (n : ℕ) (ws list : List ℕ) (g : ℕ) (m : List ℕ) (i : ℕ) (w : ItemWord) → Sound n ws list → n ≤ ITEMS → Segment (labels n ws) list g m
+pub member-relabelled : (n : ℕ) (ws list : List ℕ) (g : ℕ) (m : List ℕ) (i : ℕ) (w : ItemWord) → WordsKeepList n ws list → n ≤ ITEMS
+    → Segment (labels n ws) list g m
     → i < length m → w.version < 2 ^ 24 → w.group ≡ g → Ascends 1 BOTTOM_ROOM (set (map (labels n ws).bottom m) i w.bottom) → Relabelled n ws list g m i w
 member-relabelled n ws list g m i w s small seg i-in v-fits w-g asc =
     let y = get_or m i 0 in
@@ -184,8 +185,8 @@ stored-append ws [] ts = refl
 stored-append ws (s ∷ ss) ts = stored-append (set ws s.word s.value) ss ts
 
 -- no writes are steps from a sheet to itself
-pub Steps-none : (n : ℕ) (list : List ℕ) (p : Paper) → Ordered n p.words list → Steps n list p p
-Steps-none n list p o = record { added = []; writes = sym (append-nil p.writes); words = refl; along = o; raised = tt }
+pub WritesKeepOrder-none : (n : ℕ) (list : List ℕ) (p : Paper) → Ordered n p.words list → WritesKeepOrder n list p p
+WritesKeepOrder-none n list p o = record { added = []; writes = sym (append-nil p.writes); words = refl; along = o; raised = tt }
 
 -- where writes raise versions by one, and one more does, all of them do
 RaisedAlong-push : (ws : List ℕ) (ss : List Write) (s : Write) → RaisedAlong ws ss → Raises (stored ws ss) s → RaisedAlong ws (ss ++ s ∷ [])
@@ -202,9 +203,9 @@ raises_from ws vs w v low high e ver = record {
 }
 
 -- steps and one write more are steps
-pub Steps-push : (n : ℕ) (list : List ℕ) (p q r : Paper) (s : Write) → Steps n list p q → r.words ≡ set q.words s.word s.value
-    → r.writes ≡ q.writes ++ s ∷ [] → Ordered n r.words list → Raises q.words s → Steps n list p r
-Steps-push n list p q r s h words writes o rise =
+pub WritesKeepOrder-push : (n : ℕ) (list : List ℕ) (p q r : Paper) (s : Write) → WritesKeepOrder n list p q → r.words ≡ set q.words s.word s.value
+    → r.writes ≡ q.writes ++ s ∷ [] → Ordered n r.words list → Raises q.words s → WritesKeepOrder n list p r
+WritesKeepOrder-push n list p q r s h words writes o rise =
     let now : r.words ≡ stored p.words (h.added ++ s ∷ []) =
     words ∙ (ap (λ ws. set ws s.word s.value) h.words ∙ sym (stored-append p.words h.added (s ∷ []))) in
     record {
@@ -268,11 +269,13 @@ segment-agree a b list g m same seg = record {
 }
 
 -- a member of a group is an item's number
-pub segment_below : (n : ℕ) (ws list : List ℕ) (g : ℕ) (m : List ℕ) (i : ℕ) → Sound n ws list → Segment (labels n ws) list g m → i < length m → get_or m i 0 < n
+pub segment_below : (n : ℕ) (ws list : List ℕ) (g : ℕ) (m : List ℕ) (i : ℕ) → WordsKeepList n ws list → Segment (labels n ws) list g m → i < length m
+    → get_or m i 0 < n
 segment_below n ws list g m i s seg l = (s.inside (get_or m i 0) (segment_in (labels n ws) list g m seg (get_or m i 0) (member-get_or m i 0 l))).below
 
 -- the word that the program stores as a member gets a new label keeps the list in order
-pub relabel_facts : (n : ℕ) (ws list : List ℕ) (g : ℕ) (m : List ℕ) (i : ℕ) (w : ItemWord) → Sound n ws list → n ≤ ITEMS → Segment (labels n ws) list g m
+pub relabel_facts : (n : ℕ) (ws list : List ℕ) (g : ℕ) (m : List ℕ) (i : ℕ) (w : ItemWord) → WordsKeepList n ws list → n ≤ ITEMS
+    → Segment (labels n ws) list g m
     → i < length m → w.version < 2 ^ 24 → w.group ≡ g → Ascends 1 BOTTOM_ROOM (set (map (labels n ws).bottom m) i w.bottom) → RelabelFacts n ws list g m i w
 relabel_facts n ws list g m i w s small seg i-in v-fits w-g asc =
     let below : get_or m i 0 < n = segment_below n ws list g m i s seg i-in in
@@ -287,10 +290,10 @@ label_fits a m i v l h = (set_range (map a.bottom m) i v h (omega (arith, length
 
 -- after j steps of a schedule
 pub record Midway (n : ℕ) (list : List ℕ) (p q : Paper) (g : ℕ) (m : List ℕ) (ss : Writes) (j : ℕ) : Type 0 where
-  pub sound : Sound n q.words list
+  pub sound : WordsKeepList n q.words list
   pub segment : Segment (labels n q.words) list g m
   pub bottoms : map (labels n q.words).bottom m ≡ written (map (labels n p.words).bottom m) (take j ss)
-  pub steps : Steps n list p q
+  pub steps : WritesKeepOrder n list p q
   pub versions : (w : ℕ) → version q.words w ≤ version p.words w + 1
   pub only : ChangesOnly (map (λ y. 1 + y) m) p.words q.words
   pub waiting : (k : ℕ) → j ≤ k → k < length ss
@@ -304,13 +307,13 @@ pub written-more : (xs : List ℕ) (ss : Writes) (j : ℕ) → j < length ss
 written-more xs ss j l = ap (written xs) (take_more ss j (0, 0) l) ∙ written-append xs (take j ss) (get_or ss j (0, 0) ∷ [])
 
 -- at first no step of a schedule is done
-pub midway-none : (n : ℕ) (list : List ℕ) (p : Paper) (g : ℕ) (m : List ℕ) (ss : Writes) → Sound n p.words list → Segment (labels n p.words) list g m
+pub midway-none : (n : ℕ) (list : List ℕ) (p : Paper) (g : ℕ) (m : List ℕ) (ss : Writes) → WordsKeepList n p.words list → Segment (labels n p.words) list g m
     → Midway n list p p g m ss 0
 midway-none n list p g m ss s seg = record {
   sound = s;
   segment = seg;
   bottoms = refl;
-  steps = Steps-none n list p (ordered_from n p.words list s);
+  steps = WritesKeepOrder-none n list p (ordered_from n p.words list s);
   versions = λ w. omega arith;
   only = only-none (map (λ y. 1 + y) m) p.words;
   waiting = λ k _ _. refl;
@@ -345,7 +348,7 @@ two-apart m i j d ne l k e = elim (cases_lt i j) [ inl lt ↦ Distinct-at m i j 
 -- one step more of a schedule is done
 pub midway-more : (n : ℕ) (list : List ℕ) (p q r : Paper) (g : ℕ) (m : List ℕ) (ss : Writes) (j v : ℕ) → Midway n list p q g m ss j → j < length ss
     → Distinct list → Distinct (places ss) → ((p : ℕ) → member p (places ss) ≡ true → p < length m)
-    → Sound n r.words list → Segment (labels n r.words) list g m
+    → WordsKeepList n r.words list → Segment (labels n r.words) list g m
     → map (labels n r.words).bottom m ≡ set (map (labels n q.words).bottom m) (get_or ss j (0, 0)).0 (get_or ss j (0, 0)).1
     → r.words ≡ set q.words (1 + get_or m (get_or ss j (0, 0)).0 0) v
     → r.writes ≡ q.writes ++ record { word = 1 + get_or m (get_or ss j (0, 0)).0 0; value = v } ∷ []
@@ -364,7 +367,7 @@ midway-more n list p q r g m ss j v h l d once within sound seg bottoms words wr
       segment = seg;
       bottoms = bottoms ∙ (ap (λ xs. set xs (get_or ss j (0, 0)).0 (get_or ss j (0, 0)).1) h.bottoms
           ∙ sym (written-more (map (labels n p.words).bottom m) ss j l));
-      steps = Steps-push n list p q r one h.steps words writes (ordered_from n r.words list sound)
+      steps = WritesKeepOrder-push n list p q r one h.steps words writes (ordered_from n r.words list sound)
           (raises_from q.words r.words (1 + get_or m (get_or ss j (0, 0)).0 0) v (omega arith)
           (omega (arith, segment_below n q.words list g m (get_or ss j (0, 0)).0 h.sound h.segment (place-in m ss j within l), h.sound.size)) words ver);
       versions = λ w. elim (cases_eq w (1 + get_or m (get_or ss j (0, 0)).0 0)) [
@@ -404,7 +407,7 @@ group_labels-ascend n ws g (x ∷ m) f h =
     (x-f.1, Follows-bottoms n (labels n ws) g x m x-f.0 (λ y k. let q = f y (member-tail y x m k) in (q.0, q.2)) h x-f.2)
 
 -- the labels of a group's members ascend
-pub ascends_from_order : (n : ℕ) (ws list : List ℕ) (g : ℕ) (m : List ℕ) → Sound n ws list → Segment (labels n ws) list g m
+pub ascends_from_order : (n : ℕ) (ws list : List ℕ) (g : ℕ) (m : List ℕ) → WordsKeepList n ws list → Segment (labels n ws) list g m
     → Ascends 1 BOTTOM_ROOM (map (labels n ws).bottom m)
 ascends_from_order n ws list g m s seg =
     let p = order-parts (Before (labels n ws)) seg.front (m ++ seg.back) (subst (InOrder (Before (labels n ws))) seg.is s.order) in

@@ -5,19 +5,19 @@ use Rattle.std.proofs.lemmas.List.{length-set, get_or-set_same, get_or-set_other
 use Rattle.kc_words.specs.ItemWord.{item_of, item_word, IsFitting}
 use Rattle.kc_words.proofs.Packing.{item_of-item_word}
 use Rattle.kc_words.specs.declared.item.ItemWord.{ItemWord}
-use Rattle.kc_distinct.specs.Lists.{member, without, right_after}
-use Rattle.kc_distinct.proofs.Members.{member-without, without-member, without-none, Distinct-without}
+use Rattle.kc_lists.specs.Lists.{member, without, right_after}
+use Rattle.kc_lists.proofs.Members.{member-without, without-member, without-none, Distinct-without}
 use Rattle.kc_words.specs.Order.{labels}
-use Rattle.kc_list.specs.Places.{Before, Placed, Sound, ItemStored, size_of}
-use Rattle.kc_list.specs.Tally.{Tallied, TakesItem}
+use Rattle.kc_list.specs.Places.{Before, Placed, WordsKeepList, ItemStored, size_of}
+use Rattle.kc_list.specs.Tally.{AreGroupSizes, TakesItem}
 use Rattle.kc_list.proofs.Order.{Agrees, Before-then, InOrder-without, order-agreed}
-use Rattle.kc_list.proofs.Stores.{item_stored}
+use Rattle.kc_list.proofs.WritesWord.{item_stored}
 use Rattle.kc_list.proofs.Putting.{item_agrees, Placed-agrees}
 use Rattle.kc_list.proofs.Counts.{size-without, size-right_after, size-agree}
 
 -- a store of no group to the word of x has the list in order without x
-pub take_sound : (n : ℕ) (ws list : List ℕ) (x v : ℕ) (w : ItemWord) → Sound n ws list → member x list ≡ true → item_of v ≡ w → w.group ≡ 0
-    → Sound n (set ws (1 + x) v) (without x list)
+pub take_sound : (n : ℕ) (ws list : List ℕ) (x v : ℕ) (w : ItemWord) → WordsKeepList n ws list → member x list ≡ true → item_of v ≡ w → w.group ≡ 0
+    → WordsKeepList n (set ws (1 + x) v) (without x list)
 take_sound n ws list x v w s x-in is out =
     let a = labels n ws in
     let b = labels n (set ws (1 + x) v) in
@@ -40,11 +40,12 @@ take_sound n ws list x v w s x-in is out =
 -- after x is taken out by the word as the program stores it, which fits and is read again
 pub record TakeFacts (n : ℕ) (ws list : List ℕ) (x : ℕ) (w : ItemWord) : Type 0 where
   pub fits : IsFitting w
-  pub sound : Sound n (set ws (1 + x) (item_word w)) (without x list)
+  pub sound : WordsKeepList n (set ws (1 + x) (item_word w)) (without x list)
   pub again : item_of (get_or (set ws (1 + x) (item_word w)) (1 + x) 0) ≡ w
 
 -- the word that the program stores as x is taken out has the list in order without x
-pub take_facts : (n : ℕ) (ws list : List ℕ) (x : ℕ) (w : ItemWord) → Sound n ws list → member x list ≡ true → w.version < 2 ^ 24 → w.group ≡ 0 → w.bottom ≡ 0
+pub take_facts : (n : ℕ) (ws list : List ℕ) (x : ℕ) (w : ItemWord) → WordsKeepList n ws list → member x list ≡ true → w.version < 2 ^ 24 → w.group ≡ 0
+    → w.bottom ≡ 0
     → TakeFacts n ws list x w
 take_facts n ws list x w s x-in v g b =
     let fits : IsFitting w = (v, omega arith, omega arith) in
@@ -61,7 +62,7 @@ stored_other n ws vs x v y e ne = let d : 1 + y ≢ 1 + x = λ q. ne (omega arit
     ap (λ z. (item_of z).group) (ap (λ us. get_or us (1 + y) 0) e ∙ get_or-set_other ws (1 + x) (1 + y) v 0 d)
 
 -- without x, a group has one less where x is in it
-pub size_less : (n : ℕ) (ws vs list : List ℕ) (x v k : ℕ) → Sound n ws list → x < n → vs ≡ set ws (1 + x) v → 0 < k
+pub size_less : (n : ℕ) (ws vs list : List ℕ) (x v k : ℕ) → WordsKeepList n ws list → x < n → vs ≡ set ws (1 + x) v → 0 < k
     → size_of (labels n vs).group k (without x list) + cond (eqb ((labels n ws).group x) k) 1 0 ≡ size_of (labels n ws).group k list
 size_less n ws vs list x v k s below e low =
     let f = (labels n ws).group in
@@ -75,8 +76,9 @@ size_less n ws vs list x v k s below e low =
     ]
 
 -- with x taken out, the sizes with one less for its group are those of the groups
-pub tally_taken : (n : ℕ) (ws vs list sizes : List ℕ) (x v g : ℕ) → Sound n ws list → member x list ≡ true → Tallied n ws list sizes → vs ≡ set ws (1 + x) v
-    → g ≡ (labels n ws).group x → Tallied n vs (without x list) (set sizes g (get_or sizes g 0 - 1))
+pub tally_taken : (n : ℕ) (ws vs list sizes : List ℕ) (x v g : ℕ) → WordsKeepList n ws list → member x list ≡ true → AreGroupSizes n ws list sizes
+    → vs ≡ set ws (1 + x) v
+    → g ≡ (labels n ws).group x → AreGroupSizes n vs (without x list) (set sizes g (get_or sizes g 0 - 1))
 tally_taken n ws vs list sizes x v g s x-in t e g-is =
     let placed : Placed n (labels n ws) x = s.inside x x-in in
     let g-low : 0 < g = omega (arith, placed.group_low) in
@@ -108,7 +110,7 @@ tally_taken n ws vs list sizes x v g s x-in t e g-is =
     }
 
 -- a group that has an item is not empty
-pub used_size : (n : ℕ) (ws list sizes : List ℕ) (y : ℕ) → Sound n ws list → Tallied n ws list sizes → member y list ≡ true
+pub used_size : (n : ℕ) (ws list sizes : List ℕ) (y : ℕ) → WordsKeepList n ws list → AreGroupSizes n ws list sizes → member y list ≡ true
     → 0 < get_or sizes ((labels n ws).group y) 0
 used_size n ws list sizes y s t m =
     let p : Placed n (labels n ws) y = s.inside y m in
@@ -117,7 +119,7 @@ used_size n ws list sizes y s t m =
     omega (arith, t.counts ((labels n ws).group y) p.group_low p.group_high, one)
 
 -- with x put right after p, its new group has one more, and its old one, if any, one less
-pub size_more : (n : ℕ) (ws vs list : List ℕ) (x p v k : ℕ) → Sound n ws list → x < n → member p list ≡ true → (x ≡ p → ⊥) → vs ≡ set ws (1 + x) v
+pub size_more : (n : ℕ) (ws vs list : List ℕ) (x p v k : ℕ) → WordsKeepList n ws list → x < n → member p list ≡ true → (x ≡ p → ⊥) → vs ≡ set ws (1 + x) v
     → (labels n vs).group x ≡ (labels n ws).group p → 0 < k
     → size_of (labels n vs).group k (right_after x p (without x list)) + cond (eqb ((labels n ws).group x) k) 1 0 ≡ size_of (labels n ws).group k list + cond
     (eqb ((labels n ws).group p) k) 1 0
@@ -128,10 +130,11 @@ size_more n ws vs list x p v k s below p-in ne e to low =
     omega (arith, less, more, ap {B = ℕ} (λ g. cond (eqb g k) 1 0) to)
 
 -- sizes with one more for the new group of x and one less for its old one are those of the groups
-pub tally_moved : (n : ℕ) (ws vs list sizes new : List ℕ) (x p v from to : ℕ) → Sound n ws list → x < n → member p list ≡ true → (x ≡ p → ⊥)
-    → Tallied n ws list sizes → TakesItem n ws list x p → vs ≡ set ws (1 + x) v → (labels n vs).group x ≡ (labels n ws).group p
+pub tally_moved : (n : ℕ) (ws vs list sizes new : List ℕ) (x p v from to : ℕ) → WordsKeepList n ws list → x < n → member p list ≡ true → (x ≡ p → ⊥)
+    → AreGroupSizes n ws list sizes → TakesItem n ws list x p → vs ≡ set ws (1 + x) v → (labels n vs).group x ≡ (labels n ws).group p
     → from ≡ (labels n ws).group x → to ≡ (labels n ws).group p → length new ≡ length sizes → get_or new 0 0 ≡ get_or sizes 0 0
-    → ((k : ℕ) → 0 < k → get_or new k 0 + cond (eqb from k) 1 0 ≡ get_or sizes k 0 + cond (eqb to k) 1 0) → Tallied n vs (right_after x p (without x list)) new
+    → ((k : ℕ) → 0 < k → get_or new k 0 + cond (eqb from k) 1 0 ≡ get_or sizes k 0 + cond (eqb to k) 1 0)
+    → AreGroupSizes n vs (right_after x p (without x list)) new
 tally_moved n ws vs list sizes new x p v from to s below p-in ne t takes e group from-is to-is len zero-is each =
     let placed : Placed n (labels n ws) p = s.inside p p-in in
     let size-to : get_or sizes to 0 ≡ size_of (labels n ws).group ((labels n ws).group p) list = ap (λ g. get_or sizes g 0) to-is
@@ -178,7 +181,7 @@ size-dropped sizes from k l some = elim (cases_eq k from) [
 ]
 
 -- an item with a group is in the list
-pub from_in : (n : ℕ) (ws list : List ℕ) (x from : ℕ) → Sound n ws list → x < n → from ≡ (labels n ws).group x → (from ≡ 0 → ⊥) → member x list ≡ true
+pub from_in : (n : ℕ) (ws list : List ℕ) (x from : ℕ) → WordsKeepList n ws list → x < n → from ≡ (labels n ws).group x → (from ≡ 0 → ⊥) → member x list ≡ true
 from_in n ws list x from s below e ne = elim (cases_Bool (member x list)) [ inl t ↦ t | inr o ↦ absurd (ne (e ∙ s.outside x below o)) ]
 
 -- what the program counts as x moves: the new group and the old one are within the sizes, and not empty
@@ -190,7 +193,7 @@ pub record Moving (n : ℕ) (ws list sizes : List ℕ) (x p from to : ℕ) : Typ
   pub from_within : (from ≡ 0 → ⊥) → from < length (set sizes to (get_or sizes to 0 + 1))
 
 -- the new group and the old one of x are within the sizes, and not empty
-pub groups-moving : (n : ℕ) (ws list sizes : List ℕ) (x p from to : ℕ) → Sound n ws list → x < n → member p list ≡ true → Tallied n ws list sizes
+pub groups-moving : (n : ℕ) (ws list sizes : List ℕ) (x p from to : ℕ) → WordsKeepList n ws list → x < n → member p list ≡ true → AreGroupSizes n ws list sizes
     → from ≡ (labels n ws).group x → to ≡ (labels n ws).group p → Moving n ws list sizes x p from to
 groups-moving n ws list sizes x p from to s below p-in t from-is to-is =
     let placed : Placed n (labels n ws) p = s.inside p p-in in
@@ -210,10 +213,10 @@ groups-moving n ws list sizes x p from to s below p-in t from-is to-is =
     }
 
 -- the sizes after an item that was in the list moves
-pub moved_in : (n : ℕ) (ws vs list sizes : List ℕ) (x p v from to : ℕ) → Sound n ws list → x < n → member p list ≡ true → (x ≡ p → ⊥)
-    → Tallied n ws list sizes → TakesItem n ws list x p → vs ≡ set ws (1 + x) v → (labels n vs).group x ≡ (labels n ws).group p
+pub moved_in : (n : ℕ) (ws vs list sizes : List ℕ) (x p v from to : ℕ) → WordsKeepList n ws list → x < n → member p list ≡ true → (x ≡ p → ⊥)
+    → AreGroupSizes n ws list sizes → TakesItem n ws list x p → vs ≡ set ws (1 + x) v → (labels n vs).group x ≡ (labels n ws).group p
     → from ≡ (labels n ws).group x → to ≡ (labels n ws).group p → (from ≡ 0 → ⊥)
-    → Tallied n vs (right_after x p (without x list))
+    → AreGroupSizes n vs (right_after x p (without x list))
     (set (set sizes to (get_or sizes to 0 + 1)) from (get_or (set sizes to (get_or sizes to 0 + 1)) from 0 - 1))
 moved_in n ws vs list sizes x p v from to s below p-in ne t takes e group from-is to-is some =
     let m = groups-moving n ws list sizes x p from to s below p-in t from-is to-is in
@@ -229,10 +232,10 @@ moved_in n ws vs list sizes x p v from to s below p-in ne t takes e group from-i
     (λ k low. size-dropped (set sizes to (get_or sizes to 0 + 1)) from k (m.from_within some) (m.from_used some) ∙ size-bumped sizes to k m.to_in)
 
 -- the sizes after an item that was out is put in
-pub moved_new : (n : ℕ) (ws vs list sizes : List ℕ) (x p v from to : ℕ) → Sound n ws list → x < n → member p list ≡ true → (x ≡ p → ⊥)
-    → Tallied n ws list sizes → TakesItem n ws list x p → vs ≡ set ws (1 + x) v → (labels n vs).group x ≡ (labels n ws).group p
+pub moved_new : (n : ℕ) (ws vs list sizes : List ℕ) (x p v from to : ℕ) → WordsKeepList n ws list → x < n → member p list ≡ true → (x ≡ p → ⊥)
+    → AreGroupSizes n ws list sizes → TakesItem n ws list x p → vs ≡ set ws (1 + x) v → (labels n vs).group x ≡ (labels n ws).group p
     → from ≡ (labels n ws).group x → to ≡ (labels n ws).group p → from ≡ 0
-    → Tallied n vs (right_after x p (without x list)) (set sizes to (get_or sizes to 0 + 1))
+    → AreGroupSizes n vs (right_after x p (without x list)) (set sizes to (get_or sizes to 0 + 1))
 moved_new n ws vs list sizes x p v from to s below p-in ne t takes e group from-is to-is none =
     let m = groups-moving n ws list sizes x p from to s below p-in t from-is to-is in
     let to-0 : 0 ≢ to = (let l = m.to_low in omega arith) in

@@ -10,19 +10,20 @@ use Rattle.kc_words.specs.declared.group.GroupWord.{GroupWord}
 use Rattle.kc_relabel.specs.Labels.{Ascends, written, places}
 use Rattle.kc_relabel.proofs.Rising.{Writes}
 use Rattle.kc_relabel.proofs.Once.{Distinct-at, place_at, length-places}
-use Rattle.kc_list.specs.Sheets.{ChangesOnly, Paper, Steps, version}
+use Rattle.kc_list.specs.Sheets.{ChangesOnly, Paper, WritesKeepOrder, version}
 use Rattle.kc_list.specs.declared.sheet.Write.{Write}
 use Rattle.kc_list.proofs.Putting.{ordered_from}
 use Rattle.kc_list.proofs.Splits.{same_version}
-use Rattle.kc_distinct.specs.Lists.{member, Distinct}
-use Rattle.kc_distinct.proofs.Members.{member-head, member-tail, member-cases}
-use Rattle.kc_words.specs.Order.{Labels, labels, InOrder}
-use Rattle.kc_list.specs.Places.{Before, Sound, GroupStored, runs}
-use Rattle.kc_list.proofs.Stores.{group_stored}
-use Rattle.kc_list.proofs.Spreading.{map_stored, Ascends-at, written-more, place-in, two-apart, Steps-none, Steps-push, raises_from, only-none}
+use Rattle.kc_lists.specs.Lists.{member, Distinct, InOrder}
+use Rattle.kc_lists.proofs.Members.{member-head, member-tail, member-cases}
+use Rattle.kc_words.specs.Order.{Labels, labels}
+use Rattle.kc_list.specs.Places.{Before, WordsKeepList, GroupStored, runs}
+use Rattle.kc_list.proofs.WritesWord.{group_stored}
+use Rattle.kc_list.proofs.Spreading.{map_stored, Ascends-at, written-more, place-in, two-apart}
+use Rattle.kc_list.proofs.Spreading.{WritesKeepOrder-none, WritesKeepOrder-push, raises_from, only-none}
 use Rattle.kc_list.proofs.Spreading.{only-more, member-map}
 use Rattle.kc_words.specs.declared.layout.TheConstants.{LAST_VERSION, TOP_ROOM}
-use Rattle.kc_distinct.proofs.Counting.{member-get_or}
+use Rattle.kc_lists.proofs.Counting.{member-get_or}
 
 -- the groups of a list begin with that of its first
 pub runs_head : (f : ℕ → ℕ) (x : ℕ) (xs : List ℕ) → (gs : List ℕ) × (runs f (x ∷ xs) ≡ f x ∷ gs)
@@ -128,7 +129,7 @@ item_runs f y (x ∷ z ∷ zs) m =
 pub record Retopped (n : ℕ) (ws list gs : List ℕ) (i : ℕ) (w : GroupWord) : Type 0 where
   pub fits : FitsGroup w
   pub below : get_or gs i 0 ≤ n + 1
-  pub sound : Sound n (set ws (n + get_or gs i 0) (group_word w)) list
+  pub sound : WordsKeepList n (set ws (n + get_or gs i 0) (group_word w)) list
   pub same_runs : runs (labels n (set ws (n + get_or gs i 0) (group_word w))).group list ≡ gs
   pub tops : map (labels n (set ws (n + get_or gs i 0) (group_word w))).top gs ≡ set (map (labels n ws).top gs) i w.top
 
@@ -144,7 +145,7 @@ runs-same f g (x ∷ y ∷ ys) h =
     ∙ (ap (λ u. cond (eqb (f x) u) (runs g (y ∷ ys)) (f x ∷ runs g (y ∷ ys))) hy ∙ ap (λ rs. cond (eqb (f x) (f y)) rs (f x ∷ rs)) rest)
 
 -- a group can get a new label with which the labels of the groups ascend
-pub group-retopped : (n : ℕ) (ws list gs : List ℕ) (i : ℕ) (w : GroupWord) → Sound n ws list → gs ≡ runs (labels n ws).group list → i < length gs
+pub group-retopped : (n : ℕ) (ws list gs : List ℕ) (i : ℕ) (w : GroupWord) → WordsKeepList n ws list → gs ≡ runs (labels n ws).group list → i < length gs
     → w.version < 2 ^ 24 → Ascends 1 TOP_ROOM (set (map (labels n ws).top gs) i w.top) → Retopped n ws list gs i w
 group-retopped n ws [] gs i w s e l v-fits asc = absurd (omega (arith, ap length e))
 group-retopped n ws (x ∷ xs) gs i w s e l v-fits asc =
@@ -201,7 +202,7 @@ pub record RetopFacts (n : ℕ) (ws list gs : List ℕ) (i : ℕ) (w : GroupWord
   pub again : (item_of (get_or (set ws (n + get_or gs i 0) (group_word w)) (n + get_or gs i 0) 0)).version ≡ w.version
 
 -- the word that the program stores as a group gets a new label keeps the list in order
-pub retop_facts : (n : ℕ) (ws list gs : List ℕ) (i : ℕ) (w : GroupWord) → Sound n ws list → gs ≡ runs (labels n ws).group list → i < length gs
+pub retop_facts : (n : ℕ) (ws list gs : List ℕ) (i : ℕ) (w : GroupWord) → WordsKeepList n ws list → gs ≡ runs (labels n ws).group list → i < length gs
     → w.version < 2 ^ 24 → Ascends 1 TOP_ROOM (set (map (labels n ws).top gs) i w.top) → RetopFacts n ws list gs i w
 retop_facts n ws list gs i w s e l v-fits asc =
     let all = group-retopped n ws list gs i w s e l v-fits asc in
@@ -215,7 +216,7 @@ retop_facts n ws list gs i w s e l v-fits asc =
     }
 
 -- the group at a place of the groups in use has a number from 1 to n + 1
-pub group_range : (n : ℕ) (ws list gs : List ℕ) (i : ℕ) → Sound n ws list → gs ≡ runs (labels n ws).group list → i < length gs
+pub group_range : (n : ℕ) (ws list gs : List ℕ) (i : ℕ) → WordsKeepList n ws list → gs ≡ runs (labels n ws).group list → i < length gs
     → (0 < get_or gs i 0) × (get_or gs i 0 ≤ n + 1)
 group_range n ws list gs i s e l =
     let from = runs_item (labels n ws).group (get_or gs i 0) list (ap (member (get_or gs i 0)) (sym e) ∙ member-get_or gs i 0 l) in
@@ -223,10 +224,10 @@ group_range n ws list gs i s e l =
 
 -- after j steps of a schedule
 pub record Topway (n : ℕ) (list : List ℕ) (p q : Paper) (gs : List ℕ) (ss : Writes) (j : ℕ) : Type 0 where
-  pub sound : Sound n q.words list
+  pub sound : WordsKeepList n q.words list
   pub groups : gs ≡ runs (labels n q.words).group list
   pub tops : map (labels n q.words).top gs ≡ written (map (labels n p.words).top gs) (take j ss)
-  pub steps : Steps n list p q
+  pub steps : WritesKeepOrder n list p q
   pub versions : (w : ℕ) → version q.words w ≤ version p.words w + 1
   pub only : ChangesOnly (map (λ g. n + g) gs) p.words q.words
   pub waiting : (k : ℕ) → j ≤ k → k < length ss
@@ -235,14 +236,14 @@ pub record Topway (n : ℕ) (list : List ℕ) (p q : Paper) (gs : List ℕ) (ss 
   pub room : q.room ≡ p.room
 
 -- at first no step of a schedule for the groups is done
-pub topway-none : (n : ℕ) (list : List ℕ) (p : Paper) (gs : List ℕ) (ss : Writes) → Sound n p.words list → gs ≡ runs (labels n p.words).group list
+pub topway-none : (n : ℕ) (list : List ℕ) (p : Paper) (gs : List ℕ) (ss : Writes) → WordsKeepList n p.words list → gs ≡ runs (labels n p.words).group list
     → Topway n list p p gs ss 0
 topway-none n list p gs ss s e =
     record {
       sound = s;
       groups = e;
       tops = refl;
-      steps = Steps-none n list p (ordered_from n p.words list s);
+      steps = WritesKeepOrder-none n list p (ordered_from n p.words list s);
       versions = λ w. omega arith;
       only =
           only-none (map (λ g. n + g) gs) p.words;
@@ -269,7 +270,7 @@ topway-version n list p q gs ss j h v p-in l =
 -- one step more of a schedule for the groups is done
 pub topway-more : (n : ℕ) (list : List ℕ) (p q r : Paper) (gs : List ℕ) (ss : Writes) (j v : ℕ) → Topway n list p q gs ss j → j < length ss → Distinct gs
     → Distinct (places ss) → ((p : ℕ) → member p (places ss) ≡ true → p < length gs)
-    → Sound n r.words list → gs ≡ runs (labels n r.words).group list
+    → WordsKeepList n r.words list → gs ≡ runs (labels n r.words).group list
     → map (labels n r.words).top gs ≡ set (map (labels n q.words).top gs) (get_or ss j (0, 0)).0 (get_or ss j (0, 0)).1
     → r.words ≡ set q.words (n + get_or gs (get_or ss j (0, 0)).0 0) v
     → r.writes ≡ q.writes ++ record { word = n + get_or gs (get_or ss j (0, 0)).0 0; value = v } ∷ []
@@ -283,7 +284,7 @@ topway-more n list p q r gs ss j v h l d once within sound groups tops words wri
       sound = sound;
       groups = groups;
       tops = tops ∙ (ap (λ xs. set xs (get_or ss j (0, 0)).0 (get_or ss j (0, 0)).1) h.tops ∙ sym (written-more (map (labels n p.words).top gs) ss j l));
-      steps = Steps-push n list p q r one h.steps words writes (ordered_from n r.words list sound)
+      steps = WritesKeepOrder-push n list p q r one h.steps words writes (ordered_from n r.words list sound)
           (raises_from q.words r.words (n + get_or gs (get_or ss j (0, 0)).0 0) v
           (omega (arith, (group_range n q.words list gs (get_or ss j (0, 0)).0 h.sound h.groups (place-in gs ss j within l)).0))
           (omega (arith, (group_range n q.words list gs (get_or ss j (0, 0)).0 h.sound h.groups (place-in gs ss j within l)).1, h.sound.size)) words ver);
@@ -305,7 +306,7 @@ topway-more n list p q r gs ss j v h l d once within sound groups tops words wri
     }
 
 -- the groups of a list are distinct, and their labels ascend
-pub runs_distinct : (n : ℕ) (ws list : List ℕ) → Sound n ws list
+pub runs_distinct : (n : ℕ) (ws list : List ℕ) → WordsKeepList n ws list
     → Distinct (runs (labels n ws).group list) × Ascends 1 TOP_ROOM (map (labels n ws).top (runs (labels n ws).group list))
 runs_distinct n ws [] s = (tt, omega arith)
 runs_distinct n ws (x ∷ xs) s =

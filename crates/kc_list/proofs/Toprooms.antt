@@ -1,16 +1,16 @@
 -- Room for a top label above a full group.
 use Rattle.std.proofs.Common.{◌≡◌, ℕ, ◌+◌, ◌-◌, ◌<◌, ◌≤◌, true, false, List, [], ◌∷◌, ◌++◌, length, get_or, take, map, ◌∙◌, inl, inr, arith}
 use Rattle.std.proofs.lemmas.Bool.{false≢true, false_from_ne_true}
-use Rattle.kc_distinct.specs.Lists.{member, next_of}
-use Rattle.kc_distinct.proofs.Members.{member-head, member-tail, member-cases}
+use Rattle.kc_lists.specs.Lists.{member, next_of}
+use Rattle.kc_lists.proofs.Members.{member-head, member-tail, member-cases}
 use Rattle.kc_words.specs.Order.{labels}
-use Rattle.kc_list.specs.Places.{Sound, Segment, Free, runs, top_end}
+use Rattle.kc_list.specs.Places.{WordsKeepList, Segment, Free, runs, top_end}
 use Rattle.kc_list.proofs.Spreading.{segment_in}
 use Rattle.kc_list.proofs.Counts.{group-halves, top_gap, top_end_high}
 use Rattle.kc_list.proofs.Toplabels.{runs_item}
 use Rattle.kc_words.specs.declared.layout.TheConstants.{TOP_ROOM}
 use Rattle.kc_list.specs.declared.limits.TheConstants.{GROUP_ITEMS}
-use Rattle.kc_distinct.proofs.Counting.{member-get_or}
+use Rattle.kc_lists.proofs.Counting.{member-get_or}
 
 -- a word among those of some groups is that of one of them
 member-shift : (w n : ℕ) (gs : List ℕ) → member w (map (λ g. n + g) gs) ≡ true → (g : ℕ) × (w ≡ n + g) × (member g gs ≡ true)
@@ -21,7 +21,7 @@ member-shift w n (g ∷ gs) k = elim (member-cases w (n + g) (map (λ h. n + h) 
 ]
 
 -- an item's word, or the note, is none of the words of the groups in use
-pub no_item_word : (n : ℕ) (ws list : List ℕ) (w : ℕ) → Sound n ws list → w ≤ n → member w (map (λ g. n + g) (runs (labels n ws).group list)) ≡ false
+pub no_item_word : (n : ℕ) (ws list : List ℕ) (w : ℕ) → WordsKeepList n ws list → w ≤ n → member w (map (λ g. n + g) (runs (labels n ws).group list)) ≡ false
 no_item_word n ws list w s l = false_from_ne_true (member w (map (λ g. n + g) (runs (labels n ws).group list))) (λ k.
     let r = member-shift w n (runs (labels n ws).group list) k in
     let from = runs_item (labels n ws).group r.0 list r.2 in
@@ -52,7 +52,7 @@ last_facts n ws list g into seg len =
     }
 
 -- a gap of two above the last member of a full group is a gap of two above the group
-pub wide_gap : (n : ℕ) (ws list : List ℕ) (g : ℕ) (into : List ℕ) (low high : ℕ) → Sound n ws list → Last n ws list g into → low ≡ (labels n ws).top g
+pub wide_gap : (n : ℕ) (ws list : List ℕ) (g : ℕ) (into : List ℕ) (low high : ℕ) → WordsKeepList n ws list → Last n ws list g into → low ≡ (labels n ws).top g
     → high ≡ top_end n (labels n ws) (next_of n (get_or into (GROUP_ITEMS - 1) 0) list) → low + 2 ≤ high
     → ((z : ℕ) → member z list ≡ true → (labels n ws).top g < (labels n ws).top ((labels n ws).group z)
     → (labels n ws).top g + 2 ≤ (labels n ws).top ((labels n ws).group z)) × ((labels n ws).top g + 2 ≤ TOP_ROOM)

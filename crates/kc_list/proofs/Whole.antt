@@ -4,12 +4,12 @@ use Rattle.std.proofs.Common.{◌∙◌, ap, subst, ◌⊎◌, inl, inr, arith}
 use Rattle.std.proofs.lemmas.Bool.{cases_eq, cases_lt, cases_Bool, ne_eqb, eq-eqb, true≢false, false≢true}
 use Rattle.std.proofs.lemmas.List.{get_or-set_other, append_assoc, length-append}
 use Rattle.kc_words.specs.ItemWord.{item_of}
-use Rattle.kc_distinct.specs.Lists.{member, Distinct, without, right_after, next_of, prev_of, place_of}
-use Rattle.kc_distinct.proofs.Members.{member-head, member-tail, member-cases, member-append, member-cut, Distinct-cut, without-member, right_after-member}
-use Rattle.kc_distinct.proofs.Members.{next_of-in, place_of-cut}
-use Rattle.kc_words.specs.Order.{labels, PairBelow, InOrder, Ordered}
-use Rattle.kc_list.specs.Places.{Before, Sound, size_of}
-use Rattle.kc_list.specs.Sheets.{Paper, Steps, Raises, RaisedAlong, stored, version, highest_of}
+use Rattle.kc_lists.specs.Lists.{member, Distinct, without, right_after, next_of, prev_of, place_of, InOrder}
+use Rattle.kc_lists.proofs.Members.{member-head, member-tail, member-cases, member-append, member-cut, Distinct-cut, without-member, right_after-member}
+use Rattle.kc_lists.proofs.Members.{next_of-in, place_of-cut}
+use Rattle.kc_words.specs.Order.{labels, PairBelow, Ordered}
+use Rattle.kc_list.specs.Places.{Before, WordsKeepList, size_of}
+use Rattle.kc_list.specs.Sheets.{Paper, WritesKeepOrder, Raises, RaisedAlong, stored, version, highest_of}
 use Rattle.kc_list.specs.Plain.{Written}
 use Rattle.kc_list.specs.Tally.{TakesItem}
 use Rattle.kc_list.proofs.Counts.{size-agree}
@@ -24,7 +24,8 @@ use Rattle.kc_words.proofs.Ordering.{Follows-all, PairBelow-asym}
 use Rattle.kc_words.proofs.Packing.{none_version}
 
 -- steps and then a write to the word of x are the writes of a call
-pub written_from : (n : ℕ) (before after : List ℕ) (x : ℕ) (p q r : Paper) (v : ℕ) → p.writes ≡ [] → Steps n before p q → r.words ≡ set q.words (1 + x) v
+pub written_from : (n : ℕ) (before after : List ℕ) (x : ℕ) (p q r : Paper) (v : ℕ) → p.writes ≡ [] → WritesKeepOrder n before p q
+    → r.words ≡ set q.words (1 + x) v
     → r.writes ≡ q.writes ++ record { word = 1 + x; value = v } ∷ [] → Ordered n r.words after → Raises q.words (record { word = 1 + x; value = v })
     → Written n before after x p.words r.words r.writes
 written_from n before after x p q r v none h words writes o rise =
@@ -79,7 +80,7 @@ place-back x (y ∷ l) r m = elim (cases_eq x y) [
 ]
 
 -- of two items of the list, the one with the lesser pair stands before the other, and only it
-pub precedes_list : (n : ℕ) (ws list : List ℕ) (x y : ℕ) → Sound n ws list → member x list ≡ true → member y list ≡ true → x ≢ y
+pub precedes_list : (n : ℕ) (ws list : List ℕ) (x y : ℕ) → WordsKeepList n ws list → member x list ≡ true → member y list ≡ true → x ≢ y
     → (PairBelow (labels n ws) x y → place_of x list < place_of y list) × (place_of x list < place_of y list → PairBelow (labels n ws) x y)
 precedes_list n ws list x y s x-in y-in ne =
     let a = labels n ws in
@@ -154,7 +155,7 @@ version-reached n h ws e note is =
     ]
 
 -- where the items keep their groups, the group of p can take x as before
-pub takes_kept : (n : ℕ) (ws vs list : List ℕ) (x p : ℕ) → Sound n ws list → Sound n vs list → x < n → member p list ≡ true
+pub takes_kept : (n : ℕ) (ws vs list : List ℕ) (x p : ℕ) → WordsKeepList n ws list → WordsKeepList n vs list → x < n → member p list ≡ true
     → ((y : ℕ) → member y list ≡ true → (labels n vs).group y ≡ (labels n ws).group y) → TakesItem n ws list x p → TakesItem n vs list x p
 takes_kept n ws vs list x p s t below p-in same takes = elim takes [
   | inl less ↦ inl (omega (

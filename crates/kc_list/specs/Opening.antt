@@ -4,7 +4,7 @@ use Rattle.kc_words.specs.declared.item.ItemWord.{ItemWord}
 use Rattle.kc_words.specs.declared.group.GroupWord.{GroupWord}
 use Rattle.kc_words.specs.ItemWord.{item_of}
 use Rattle.kc_words.specs.GroupWord.{group_of}
-use Rattle.kc_distinct.specs.Lists.{member}
+use Rattle.kc_lists.specs.Lists.{member}
 use Rattle.kc_list.specs.Sheets.{version}
 use Rattle.kc_list.specs.Tally.{opening_count}
 use Rattle.kc_words.specs.declared.layout.TheConstants.{BOTTOM_ROOM, TOP_ROOM}

@@ -1,8 +1,8 @@
 -- The place of an item: the label of its group, and its own label in the group.
 use Rattle.std.specs.Prelude.{if◌then◌else◌, ◌≡◌, ◌≢◌, ℕ, zero, suc, ◌+◌, ◌*◌, ◌<◌, ◌≤◌, ◌⊎◌, List, [], ◌∷◌, ◌++◌, length, take, drop, map}
 use Rattle.std.specs.Prelude.{slice_index, true, false, ◌==◌}
-use Rattle.kc_distinct.specs.Lists.{member, Distinct, next_of}
-use Rattle.kc_words.specs.Order.{InOrder, Labels, labels}
+use Rattle.kc_lists.specs.Lists.{member, Distinct, next_of, InOrder}
+use Rattle.kc_words.specs.Order.{Labels, labels}
 use Rattle.kc_words.specs.declared.layout.TheConstants.{BOTTOM_ROOM, TOP_ROOM}
 use Rattle.kc_list.specs.declared.limits.TheConstants.{HALF_ITEMS}
 
@@ -26,7 +26,7 @@ pub record Placed (n : ℕ) (a : Labels) (x : ℕ) : Type 0 where
   pub top_high : a.top (a.group x) < TOP_ROOM
 
 -- what the words keep of the list between any two stores
-pub record Sound (n : ℕ) (ws : List ℕ) (list : List ℕ) : Type 0 where
+pub record WordsKeepList (n : ℕ) (ws : List ℕ) (list : List ℕ) : Type 0 where
   pub size : length ws ≡ n + n + 2
   pub distinct : Distinct list
   pub order : InOrder (Before (labels n ws)) list

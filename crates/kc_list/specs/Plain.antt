@@ -1,10 +1,10 @@
 -- What callers see of the list.
 use Rattle.std.specs.Prelude.{◌≡◌, ℕ, ◌+◌, ◌<◌, ◌≤◌, List, [], ◌∷◌, ◌++◌, length, slice_index, true}
-use Rattle.kc_distinct.specs.Lists.{member}
+use Rattle.kc_lists.specs.Lists.{member}
 use Rattle.kc_list.specs.declared.sheet.Write.{Write}
 use Rattle.kc_words.specs.Order.{Ordered}
 use Rattle.kc_list.specs.Sheets.{Paper, stored, OrderedAlong, RaisedAlong}
-use Rattle.kc_list.specs.Tally.{Tallied}
+use Rattle.kc_list.specs.Tally.{AreGroupSizes}
 use Rattle.kc_list.specs.declared.limits.TheConstants.{ITEM_WRITES}
 
 -- the items are the numbers below `items`, those below `fixed` stay in the list; `opening` and `words` are by word number
@@ -29,9 +29,9 @@ pub record Written (n : ℕ) (before after : List ℕ) (x : ℕ) (old new : List
   pub last_is : last.word ≡ 1 + x
 
 -- what is kept between two calls beside the labels: the sizes of the groups, and memory enough for a call
-pub record IsWhole (n fixed : ℕ) (list : List ℕ) (sheet : Paper) (sizes : List ℕ) (scratch : ℕ) (opening : List ℕ) : Type 0 where
+pub record IsBetweenCalls (n fixed : ℕ) (list : List ℕ) (sheet : Paper) (sizes : List ℕ) (scratch : ℕ) (opening : List ℕ) : Type 0 where
   pub fixed_in : (x : ℕ) → x < fixed → member x list ≡ true
-  pub tallied : Tallied n sheet.words list sizes
+  pub tallied : AreGroupSizes n sheet.words list sizes
   pub scratch_room : n ≤ scratch
   pub write_room : n + ITEM_WRITES ≤ sheet.room
   pub opening_length : length opening ≡ n + n + 2

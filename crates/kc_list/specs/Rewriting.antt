@@ -1,6 +1,6 @@
 -- From one state of the labelled list to a later one.
 use Rattle.std.specs.Prelude.{◌≡◌, ℕ, ◌+◌, ◌<◌, ◌≤◌, List, ◌∷◌, length, take, drop, map, slice_index, true}
-use Rattle.kc_distinct.specs.Lists.{member, without, right_after}
+use Rattle.kc_lists.specs.Lists.{member, without, right_after}
 use Rattle.kc_words.specs.ItemWord.{item_of}
 use Rattle.kc_list.specs.Places.{evens}
 use Rattle.kc_list.specs.Sheets.{Paper, ChangesOnly}
@@ -11,7 +11,7 @@ use Rattle.kc_list.specs.declared.limits.TheConstants.{GROUP_ITEMS, HALF_ITEMS, 
 use Rattle.kc_list.specs.declared.labelled.LabelledList.{LabelledList}
 
 -- word w is written, once
-pub record Stores (w : ℕ) (old new : Paper) : Type 0 where
+pub record WritesWord (w : ℕ) (old new : Paper) : Type 0 where
   pub words : SetsWord w old new
   pub writes : AddsWrite w old new
   pub version : version_at new w ≡ version_at old w + 1
@@ -34,7 +34,7 @@ pub record Relabels (most : ℕ) (old new : LabelledList) : Type 0 where
 pub record StoresWord (w : ℕ) (old new : LabelledList) : Type 0 where
   pub links : new.links ≡ old.links
   pub groups : new.groups ≡ old.groups
-  pub stores : Stores w old.sheet new.sheet
+  pub stores : WritesWord w old.sheet new.sheet
 
 -- the members of group g share its room evenly, and no other words change
 pub record Spreads (g : ℕ) (members : List ℕ) (old new : LabelledList) : Type 0 where
@@ -89,13 +89,13 @@ pub record MakesRoom (x p : ℕ) (old new : LabelledList) : Type 0 where
 pub record PutsItem (x p : ℕ) (old new : LabelledList) : Type 0 where
   pub size : new.links.size ≡ old.links.size
   pub list : new.links.list ≡ right_after x p (without x old.links.list)
-  pub stores : Stores (1 + x) old.sheet new.sheet
+  pub stores : WritesWord (1 + x) old.sheet new.sheet
 
 -- x is out of the list, by one write to its word, which says no group and no label
 pub record TakesOut (x : ℕ) (old new : LabelledList) : Type 0 where
   pub size : new.links.size ≡ old.links.size
   pub list : new.links.list ≡ without x old.links.list
-  pub stores : Stores (1 + x) old.sheet new.sheet
+  pub stores : WritesWord (1 + x) old.sheet new.sheet
   pub out : item_of (slice_index new.sheet.words (1 + x)) ≡ record { version = version_at old.sheet (1 + x) + 1; group = 0; bottom = 0 }
 
 -- x can be put right after p

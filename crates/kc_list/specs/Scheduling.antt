@@ -1,6 +1,6 @@
 -- Labels that are written one after another.
 use Rattle.std.specs.Prelude.{◌≡◌, ℕ, ◌<◌, ◌≤◌, List, length, take, true}
-use Rattle.kc_distinct.specs.Lists.{member, Distinct}
+use Rattle.kc_lists.specs.Lists.{member, Distinct}
 use Rattle.kc_relabel.specs.Labels.{Ascends, written, places}
 use Rattle.kc_list.specs.Views.{evenly}
 

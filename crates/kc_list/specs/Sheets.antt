@@ -1,6 +1,6 @@
 -- The words, and what was stored to them.
 use Rattle.std.specs.Prelude.{◌≡◌, ℕ, ◌+◌, ◌<◌, List, [], ◌∷◌, ◌++◌, length, slice_index, slice_set, max, false}
-use Rattle.kc_distinct.specs.Lists.{member}
+use Rattle.kc_lists.specs.Lists.{member}
 use Rattle.kc_words.specs.ItemWord.{item_of}
 use Rattle.kc_list.specs.declared.sheet.Write.{Write}
 use Rattle.kc_words.specs.Order.{Ordered}
@@ -46,7 +46,7 @@ pub record ChangesOnly (at ws vs : List ℕ) : Type 0 where
   pub same : (w : ℕ) → member w at ≡ false → slice_index vs w ≡ slice_index ws w
 
 -- some writes are added, and the list stays as it is at each moment
-pub record Steps (n : ℕ) (list : List ℕ) (old new : Paper) : Type 0 where
+pub record WritesKeepOrder (n : ℕ) (list : List ℕ) (old new : Paper) : Type 0 where
   pub added : List Write
   pub writes : new.writes ≡ old.writes ++ added
   pub words : new.words ≡ stored old.words added

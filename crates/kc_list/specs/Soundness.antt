@@ -6,9 +6,9 @@ use native.Mathlib.Nat.{ℕ_set}
 use Rattle.std.specs.Prelude.{ℕ, ◌+◌, ◌<◌, List, [], ◌∷◌, length, false}
 use Rattle.std.specs.Coded.{×_prop, Unit-prop, le_prop}
 use Rattle.std.specs.Cmp.{below_irrefl}
-use Rattle.kc_distinct.specs.Lists.{member, Distinct}
-use Rattle.kc_words.specs.Order.{Labels, labels, Follows, InOrder}
-use Rattle.kc_list.specs.Places.{Before, Placed, Sound}
+use Rattle.kc_lists.specs.Lists.{member, Distinct, Follows, InOrder}
+use Rattle.kc_words.specs.Order.{Labels, labels}
+use Rattle.kc_list.specs.Places.{Before, Placed, WordsKeepList}
 
 -- that one pair is less, by the label in the group or by that of the group and never by both, has one proof at most
 Before-prop : (a : Labels) (x y : ℕ) → IsProp (Before a x y)
@@ -45,8 +45,8 @@ Placed-prop n a x p q = λ i. record {
 }
 
 -- that the words keep the list has one proof at most
-pub Sound-prop : (n : ℕ) (ws list : List ℕ) → IsProp (Sound n ws list)
-Sound-prop n ws list p q = λ i. record {
+pub WordsKeepList-prop : (n : ℕ) (ws list : List ℕ) → IsProp (WordsKeepList n ws list)
+WordsKeepList-prop n ws list p q = λ i. record {
   size = ℕ_set (length ws) (n + n + 2) p.size q.size i;
   distinct = Distinct-prop list p.distinct q.distinct i;
   order = InOrder-prop (labels n ws) list p.order q.order i;

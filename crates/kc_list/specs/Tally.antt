@@ -1,6 +1,6 @@
 -- The sizes of the groups, and the free numbers.
 use Rattle.std.specs.Prelude.{◌≡◌, ℕ, ◌+◌, ◌-◌, ◌*◌, ◌<◌, ◌≤◌, ◌⊎◌, List, length, slice_index, min, true}
-use Rattle.kc_distinct.specs.Lists.{member, Distinct}
+use Rattle.kc_lists.specs.Lists.{member, Distinct}
 use Rattle.kc_words.specs.Order.{labels}
 use Rattle.kc_list.specs.Places.{size_of, HasGap}
 use Rattle.kc_list.specs.declared.limits.TheConstants.{GROUP_ITEMS, OPENING_ITEMS}
@@ -16,7 +16,7 @@ abbrev pub opening_count : ℕ → ℕ → ℕ
 opening_count len g = min OPENING_ITEMS (len - OPENING_ITEMS * (g - 1))
 
 -- the sizes are those of the groups of a list, and none is above GROUP_ITEMS
-pub record Tallied (n : ℕ) (ws list sizes : List ℕ) : Type 0 where
+pub record AreGroupSizes (n : ℕ) (ws list sizes : List ℕ) : Type 0 where
   pub length_is : length sizes ≡ n + 2
   pub counts : (g : ℕ) → 0 < g → g ≤ n + 1 → slice_index sizes g ≡ size_of (labels n ws).group g list
   pub most : (g : ℕ) → slice_index sizes g ≤ GROUP_ITEMS

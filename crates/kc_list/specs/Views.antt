@@ -1,11 +1,11 @@
 -- The words of the contracts, over a list and the sheet that has its words.
 use Rattle.std.specs.Prelude.{◌≡◌, ℕ, ◌+◌, ◌/◌, ◌<◌, ◌≤◌, List, [], ◌∷◌, ◌++◌, length, slice_index, slice_set, true}
 use Rattle.kc_links.specs.Ring.{Chain}
-use Rattle.kc_distinct.specs.Lists.{member, next_of}
+use Rattle.kc_lists.specs.Lists.{member, next_of}
 use Rattle.kc_words.specs.Order.{PairBelow, labels}
 use Rattle.kc_list.specs.Places.{Segment, First, Free, Splitting, NotOf, HasGap, size_of, runs, gap_end, top_end, evens}
-use Rattle.kc_list.specs.Sheets.{Paper, Steps, version}
-use Rattle.kc_list.specs.Tally.{Tallied}
+use Rattle.kc_list.specs.Sheets.{Paper, WritesKeepOrder, version}
+use Rattle.kc_list.specs.Tally.{AreGroupSizes}
 use Rattle.kc_list.specs.Tally as tally
 use Rattle.kc_words.specs.declared.layout.TheConstants.{LAST_VERSION, BOTTOM_ROOM, TOP_ROOM}
 use Rattle.kc_list.specs.declared.limits.TheConstants.{GROUP_ITEMS}
@@ -65,7 +65,7 @@ abbrev pub AreMembers : Chain → Paper → ℕ → List ℕ → Type 0
 AreMembers c p g m = Segment (labels c.size p.words) c.list g m
 
 -- these are the members of the full group of p, in order
-pub record AreAllOf (c : Chain) (s : Paper) (p : ℕ) (members : List ℕ) : Type 0 where
+pub record AreGroupMembers (c : Chain) (s : Paper) (p : ℕ) (members : List ℕ) : Type 0 where
   pub count : length members ≡ GROUP_ITEMS
   pub full : IsFull c s p
   pub segment : AreMembers c s (group_at c s p) members
@@ -88,7 +88,7 @@ IsNoWordOf c p g w = NotOf (labels c.size p.words) c.list g w
 
 -- these are the sizes of the groups, and none is above GROUP_ITEMS
 abbrev pub AreSizes : Chain → Paper → List ℕ → Type 0
-AreSizes c p sizes = Tallied c.size p.words c.list sizes
+AreSizes c p sizes = AreGroupSizes c.size p.words c.list sizes
 
 -- the group of p can take x
 abbrev pub TakesItem : Chain → Paper → ℕ → ℕ → Type 0
@@ -147,7 +147,7 @@ TopsAreApart c p = (g : ℕ) → member g (groups_in_use c p) ≡ true → (h : 
 
 -- the list is in order after each write
 abbrev pub KeepsOrder : Chain → Paper → Paper → Type 0
-KeepsOrder c p q = Steps c.size c.list p q
+KeepsOrder c p q = WritesKeepOrder c.size c.list p q
 
 -- p has a label after it, or the words of its group's items are as they were
 abbrev pub KeepsGroup : Chain → Paper → Paper → ℕ → Type 0

@@ -1,6 +1,6 @@
 //! The members of a group.
 ghost use Rattle.std.specs.Prelude.{◌≡◌, ◌≤◌, ◌+◌, length, take, true};
-ghost use Rattle.kc_distinct.specs.Lists.{member};
+ghost use Rattle.kc_lists.specs.Lists.{member};
 ghost use Rattle.kc_list.specs.Views.{group_at, group_size, AreMembers, IsFirst};
 
 use crate::labelled::LabelledList;

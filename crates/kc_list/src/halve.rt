@@ -1,15 +1,15 @@
 //! A full group becomes two.
 ghost use Rattle.std.specs.Prelude.{◌≡◌, ◌<◌, ◌≤◌, ◌+◌, ℕ, length, true};
-ghost use Rattle.kc_distinct.specs.Lists.{member};
+ghost use Rattle.kc_lists.specs.Lists.{member};
 ghost use Rattle.kc_list.specs.Places.{Halved};
 ghost use Rattle.kc_list.specs.Views.{group_at, top_at, end_above, version_at, HasRoomAbove, HasSpare, ItemsMayRise};
-ghost use Rattle.kc_list.specs.Views.{AreAllOf, AreMembers, AreSizes, IsFull, IsSpare};
+ghost use Rattle.kc_list.specs.Views.{AreGroupMembers, AreMembers, AreSizes, IsFull, IsSpare};
 ghost use Rattle.kc_list.specs.Rewriting.{Rewrites, Relabels, Halves, KeepsItems, Divides, MakesRoom};
 
 use crate::cut::Cut;
 use crate::labelled::LabelledList;
 use crate::limits::{GROUP_ITEMS, HALF_ITEMS, SPLIT_SHARE};
-use crate::scratch::Scratch;
+use crate::scratch::GroupRoom;
 use kc_words::{LAST_VERSION, TOP_ROOM};
 
 /// The half of a full group in which an item is put next.
@@ -91,7 +91,7 @@ impl LabelledList {
 
     /// Splits the full group of `p`, which has these members.
     fn split_at(&mut self, p: u32, fresh: u32, members: &[u32])
-        requires members { AreAllOf self.old.links self.old.sheet p members.now }
+        requires members { AreGroupMembers self.old.links self.old.sheet p members.now }
         requires fresh { IsSpare self.old.links self.old.sheet fresh }
         requires gap { HasRoomAbove self.old.links self.old.sheet (group_at self.old.links self.old.sheet p) }
         requires version { ItemsMayRise self.old.sheet self.old.links.list }
@@ -106,8 +106,8 @@ impl LabelledList {
     }
 
     /// Sees to it that there is a top label between the full group of `p`, which has these members, and what follows it.
-    fn make_top_room(&mut self, scratch: &mut Scratch, p: u32, members: &[u32])
-        requires members { AreAllOf self.old.links self.old.sheet p members.now }
+    fn make_top_room(&mut self, scratch: &mut GroupRoom, p: u32, members: &[u32])
+        requires members { AreGroupMembers self.old.links self.old.sheet p members.now }
         requires scratch { self.old.links.size ≤ scratch.old }
         requires version { (w : ℕ) → version_at self.old.sheet w < LAST_VERSION }
         requires room { length self.old.sheet.writes + self.old.links.size ≤ self.old.sheet.room }
@@ -125,7 +125,7 @@ impl LabelledList {
     }
 
     /// Splits the full group of `p`, with new labels for all groups before it where they stand too close.
-    fn split_group(&mut self, scratch: &mut Scratch, p: u32)
+    fn split_group(&mut self, scratch: &mut GroupRoom, p: u32)
         requires full { IsFull self.old.links self.old.sheet p }
         requires tallied { AreSizes self.old.links self.old.sheet self.old.groups }
         requires scratch { self.old.links.size ≤ scratch.old }
@@ -143,7 +143,7 @@ impl LabelledList {
     }
 
     /// Sees to it that the group of `p` can take `x`. An `x` of that group leaves it as large as it is.
-    pub fn make_group_room(&mut self, scratch: &mut Scratch, x: u32, p: u32)
+    pub fn make_group_room(&mut self, scratch: &mut GroupRoom, x: u32, p: u32)
         requires p_in { member p self.old.links.list ≡ true }
         requires x_within { x < self.old.links.size }
         requires tallied { AreSizes self.old.links self.old.sheet self.old.groups }

@@ -2,9 +2,9 @@
 ghost use Rattle.std.specs.Prelude.{◌≡◌, ◌<◌, ◌≤◌, ◌+◌, length, slice_index, slice_set};
 ghost use Rattle.kc_words.specs.ItemWord.{item_of, item_word, IsFitting};
 ghost use Rattle.kc_words.specs.GroupWord.{group_of, group_word, IsFitting as IsFittingGroup};
-ghost use Rattle.kc_list.specs.Places.{Sound};
+ghost use Rattle.kc_list.specs.Places.{WordsKeepList};
 ghost use Rattle.kc_list.specs.Sheets.{version};
-ghost use Rattle.kc_list.specs.Soundness.{Sound-prop};
+ghost use Rattle.kc_list.specs.Soundness.{WordsKeepList-prop};
 ghost use Rattle.kc_words.specs.declared.layout.TheConstants.{ITEMS};
 
 use crate::groups::Groups;
@@ -18,7 +18,7 @@ pub struct LabelledList {
     pub links: Links,
     pub sheet: Sheet,
     pub groups: Groups,
-    ghost sound: { Sound links.size sheet.words links.list } by { Sound-prop links.size sheet.words links.list },
+    ghost sound: { WordsKeepList links.size sheet.words links.list } by { WordsKeepList-prop links.size sheet.words links.list },
     ghost small: { links.size ≤ ITEMS },
 }
 
@@ -41,12 +41,12 @@ impl LabelledList {
         GroupWord::of(self.sheet.word(self.links.size() + g))
     }
 
-    /// Stores the word of an item, by which the labels still order the list.
+    /// WritesWord the word of an item, by which the labels still order the list.
     pub fn store_item(&mut self, x: u32, word: ItemWord)
         requires x_in { x < self.old.links.size }
         requires fits { IsFitting word }
         requires rises { word.version ≡ version self.old.sheet.words (1 + x) + 1 }
-        requires sound { Sound self.old.links.size (slice_set self.old.sheet.words (1 + x) (item_word word)) self.old.links.list }
+        requires sound { WordsKeepList self.old.links.size (slice_set self.old.sheet.words (1 + x) (item_word word)) self.old.links.list }
         requires room { length self.old.sheet.writes < self.old.sheet.room }
         ensures words { self.new.sheet.words ≡ slice_set self.old.sheet.words (1 + x) (item_word word) }
         ensures stores { StoresWord (1 + x) self.old self.new }
@@ -54,13 +54,13 @@ impl LabelledList {
         self.sheet.store(1 + x, word.pack());
     }
 
-    /// Stores the word of a group, by which the labels still order the list.
+    /// WritesWord the word of a group, by which the labels still order the list.
     pub fn store_group(&mut self, g: u32, word: GroupWord)
         requires low { 0 < g }
         requires within { g ≤ self.old.links.size + 1 }
         requires fits { IsFittingGroup word }
         requires rises { word.version ≡ version self.old.sheet.words (self.old.links.size + g) + 1 }
-        requires sound { Sound self.old.links.size
+        requires sound { WordsKeepList self.old.links.size
             (slice_set self.old.sheet.words (self.old.links.size + g) (group_word word)) self.old.links.list }
         requires room { length self.old.sheet.writes < self.old.sheet.room }
         ensures words { self.new.sheet.words ≡ slice_set self.old.sheet.words (self.old.links.size + g) (group_word word) }

@@ -2,7 +2,7 @@
 ghost use Rattle.std.specs.Prelude.{◌≡◌, ◌<◌, ◌≤◌, ◌+◌, ◌*◌, ◌/◌, ◌⊎◌, ◌∷◌, [], ◌^◌, ℕ, length, slice_index, map, true, IfOk};
 ghost use Rattle.kc_words.specs.ItemWord.{item_of};
 ghost use Rattle.kc_words.specs.GroupWord.{group_of};
-ghost use Rattle.kc_distinct.specs.Lists.{member, Distinct};
+ghost use Rattle.kc_lists.specs.Lists.{member, Distinct};
 ghost use Rattle.kc_list.specs.Sheets.{ChangesOnly};
 ghost use Rattle.kc_list.specs.Opening.{IsOpening, opening_item, opening_group, opening_groups};
 

@@ -1,6 +1,6 @@
 //! Where an item stands, and how it comes to stand elsewhere.
 ghost use Rattle.std.specs.Prelude.{◌≡◌, ◌≢◌, ◌<◌, ◌≤◌, ◌+◌, ◌-◌, ◌/◌, length, slice_index, true, IsTrue, ◌↔◌};
-ghost use Rattle.kc_distinct.specs.Lists.{member, without, right_after};
+ghost use Rattle.kc_lists.specs.Lists.{member, without, right_after};
 ghost use Rattle.kc_list.specs.Views.{group_at, bottom_at, FitsAfter, AreSizes, end_after, IsPairBelow, version_at};
 ghost use Rattle.kc_list.specs.Rewriting.{HasWay, PutsItem, TakesOut};
 

@@ -1,7 +1,7 @@
 //! The list of one thread, with the writes that its words need.
 ghost use Rattle.std.specs.Prelude.{◌≡◌, ◌≢◌, ◌<◌, ◌≤◌, ◌+◌, ◌*◌, ◌↔◌, ℕ, length, slice_index, true, [], IfOk, MatchOption, IsTrue};
 ghost use Rattle.kc_words.specs.ItemWord.{item_of};
-ghost use Rattle.kc_distinct.specs.Lists.{member, Distinct, without, right_after, next_of, prev_of, place_of};
+ghost use Rattle.kc_lists.specs.Lists.{member, Distinct, without, right_after, next_of, prev_of, place_of};
 ghost use Rattle.kc_words.specs.Order.{labels, Ordered, PairBelow};
 ghost use Rattle.kc_list.specs.Sheets.{version, highest_of};
 ghost use Rattle.kc_list.specs.Plain.{Plain, Written};
@@ -12,7 +12,7 @@ use crate::labelled::LabelledList;
 use crate::limits::ITEM_WRITES;
 use crate::opening::{link, opening_words};
 use crate::place::{Growth, label_between};
-use crate::scratch::Scratch;
+use crate::scratch::GroupRoom;
 use crate::sheet::{Sheet, Write};
 use kc_words::{LAST_VERSION, Shape};
 use std::alloc::Global;
@@ -28,7 +28,7 @@ use std::marker::Model;
 #[derive(Drop)]
 pub struct PlainOrder {
     list: LabelledList,
-    scratch: Scratch,
+    scratch: GroupRoom,
     opening: Vec<u64>,
     fixed: u32,
     last: LastPut,
@@ -60,7 +60,7 @@ impl Model for PlainOrder {
 
     ghost Value = { Plain };
 
-    ghost use Rattle.kc_list.specs.Plain.{IsWhole};
+    ghost use Rattle.kc_list.specs.Plain.{IsBetweenCalls};
 
     ghost view = { λ a. record {
       items = a.list.links.size;
@@ -71,7 +71,7 @@ impl Model for PlainOrder {
       writes = a.list.sheet.writes;
     } };
 
-    ghost invariant = { λ a. IsWhole a.list.links.size a.fixed a.list.links.list a.list.sheet a.list.groups a.scratch a.opening.items };
+    ghost invariant = { λ a. IsBetweenCalls a.list.links.size a.fixed a.list.links.list a.list.sheet a.list.groups a.scratch a.opening.items };
 }
 
 impl PlainOrder {
@@ -102,7 +102,7 @@ impl PlainOrder {
             shape.items as usize + ITEM_WRITES,
         )?;
         let groups = Groups::open(alloc, shape.items, order.len() as u32)?;
-        let scratch = Scratch::new(alloc, shape.items as usize)?;
+        let scratch = GroupRoom::new(alloc, shape.items as usize)?;
         Ok(PlainOrder {
             list: LabelledList {
                 links,

@@ -1,12 +1,12 @@
 //! Room for a label right after an item, in its group.
 ghost use Rattle.std.specs.Prelude.{◌≡◌, ◌<◌, ◌≤◌, ◌+◌, length, true};
-ghost use Rattle.kc_distinct.specs.Lists.{member};
+ghost use Rattle.kc_lists.specs.Lists.{member};
 ghost use Rattle.kc_list.specs.Views.{AreSizes, HasSpare, group_at, group_size, HasLabelAfter, IsGapAfter, ItemsHaveSpare, ItemsMayRise};
 ghost use Rattle.kc_list.specs.Rewriting.{Rewrites, Relabels, ChangesGroup, HasWay};
 
 use crate::labelled::LabelledList;
 use crate::limits::{GROUP_ITEMS, HALF_ITEMS, ITEM_WRITES};
-use crate::scratch::Scratch;
+use crate::scratch::GroupRoom;
 
 impl LabelledList {
     /// Spreads the group of `p`.
@@ -47,7 +47,7 @@ impl LabelledList {
 
     /// Sees to it that `x` can be put right after `p`: the group of `p` can take it, and has a label for it, in the gap that the answer
     /// names.
-    pub fn make_way(&mut self, scratch: &mut Scratch, x: u32, p: u32) -> (u32, u32)
+    pub fn make_way(&mut self, scratch: &mut GroupRoom, x: u32, p: u32) -> (u32, u32)
         requires items { (x < self.old.links.size) × (member p self.old.links.list ≡ true) }
         requires tallied { AreSizes self.old.links self.old.sheet self.old.groups }
         requires scratch { self.old.links.size ≤ scratch.old }

@@ -12,14 +12,14 @@ use std::marker::Model;
 /// The memory in which all groups are given new labels. It is taken once, so that a put takes none.
 /// Contracts see how many groups it has room for.
 #[derive(Drop)]
-pub struct Scratch {
+pub struct GroupRoom {
     groups: Vec<u32>,
     before: Vec<u64>,
     after: Vec<u64>,
     steps: Vec<(u32, u64)>,
 }
 
-impl Model for Scratch {
+impl Model for GroupRoom {
     ghost use Rattle.std.specs.Prelude.{ℕ, length, ◌≡◌};
 
     ghost Value = { ℕ };
@@ -31,7 +31,7 @@ impl Model for Scratch {
         × (length a.steps.items ≡ length a.groups.items) };
 }
 
-impl Scratch {
+impl GroupRoom {
     pub fn new(alloc: Global, count: usize) -> Result<Self, NoMemory>
         ensures { IfOk result (λ a. a ≡ count) }
     {
@@ -39,7 +39,7 @@ impl Scratch {
         let before = vec![in alloc; 0u64; count]?;
         let after = vec![in alloc; 0u64; count]?;
         let steps = vec![in alloc; (0u32, 0u64); count]?;
-        Ok(Scratch {
+        Ok(GroupRoom {
             groups,
             before,
             after,
@@ -57,7 +57,7 @@ impl Scratch {
         ensures spread { SpreadsTops list.old list.new }
         ensures relabels { Relabels list.old.links.size list.old list.new }
     {
-        let Scratch {
+        let GroupRoom {
             groups,
             before,
             after,

@@ -59,7 +59,7 @@ impl Sheet {
         self.words[word as usize]
     }
 
-    /// Stores a value, and notes the write.
+    /// WritesWord a value, and notes the write.
     pub fn store(&mut self, word: u32, value: u64)
         requires low { 0 < word }
         requires word_in { word < length self.old.words }

@@ -1,6 +1,6 @@
 //! New labels for the members of a group, one store after another.
 ghost use Rattle.std.specs.Prelude.{◌≡◌, ◌<◌, ◌≤◌, ◌+◌, ◌^◌, ℕ, length, slice_index, slice_set, take, map, true};
-ghost use Rattle.kc_distinct.specs.Lists.{member};
+ghost use Rattle.kc_lists.specs.Lists.{member};
 ghost use Rattle.kc_relabel.specs.Labels.{Ascends, written};
 ghost use Rattle.kc_list.specs.Sheets.{ChangesOnly};
 ghost use Rattle.kc_list.specs.Views.{bottom_at, AreMembers, version_at, ItemsMayRise, evenly};
@@ -39,7 +39,7 @@ pub fn schedule_evenly(room: u64, old: &[u64], even: &mut [u64], steps: &mut [(u
 }
 
 impl LabelledList {
-    /// Stores the word of one member with another label.
+    /// WritesWord the word of one member with another label.
     fn relabel(&mut self, members: &[u32], group: u32, place: u32, label: u64)
         requires segment { AreMembers self.old.links self.old.sheet group members.now }
         requires place_in { place < length members.now }
@@ -61,7 +61,7 @@ impl LabelledList {
         self.store_item(y, new);
     }
 
-    /// Stores new labels in the order of a schedule.
+    /// WritesWord new labels in the order of a schedule.
     fn relabel_all(&mut self, members: &[u32], group: u32, steps: &[(u32, u64)])
         requires segment { AreMembers self.old.links self.old.sheet group members.now }
         requires schedule { IsSchedule BOTTOM_ROOM (map (bottom_at self.old.links self.old.sheet) members.now) steps.now }

@@ -1,6 +1,6 @@
 //! New labels for all groups, one store after another.
 ghost use Rattle.std.specs.Prelude.{◌≡◌, ◌<◌, ◌≤◌, ◌+◌, ℕ, length, slice_index, slice_set, take, map, true};
-ghost use Rattle.kc_distinct.specs.Lists.{member};
+ghost use Rattle.kc_lists.specs.Lists.{member};
 ghost use Rattle.kc_relabel.specs.Labels.{Ascends, written};
 ghost use Rattle.kc_list.specs.Sheets.{ChangesOnly};
 ghost use Rattle.kc_list.specs.Views.{top_at, groups_in_use, version_at, evenly};
@@ -12,7 +12,7 @@ use crate::spread::schedule_evenly;
 use kc_words::{GroupWord, LAST_VERSION, TOP_ROOM};
 
 impl LabelledList {
-    /// Stores the word of one group with another label.
+    /// WritesWord the word of one group with another label.
     fn retop(&mut self, groups: &[u32], place: u32, label: u64)
         requires groups { groups.now ≡ groups_in_use self.old.links self.old.sheet }
         requires place_in { place < length groups.now }
@@ -33,7 +33,7 @@ impl LabelledList {
         self.store_group(number, new);
     }
 
-    /// Stores new labels in the order of a schedule.
+    /// WritesWord new labels in the order of a schedule.
     fn retop_all(&mut self, groups: &[u32], steps: &[(u32, u64)])
         requires groups { groups.now ≡ groups_in_use self.old.links self.old.sheet }
         requires schedule { IsSchedule TOP_ROOM (map (top_at self.old.links self.old.sheet) groups.now) steps.now }

@@ -5,7 +5,7 @@ use mathlib.Core.List.{IsPrefix}
 use Rattle.kc_words.specs.declared.again.Again.{Again}
 use Rattle.kc_table.specs.Legal.{Legal}
 use Rattle.kc_table.specs.Log.{PassSeen, value_at}
-use Rattle.kc_table.specs.State.{word_count}
+use Rattle.kc_table.specs.TableState.{word_count}
 use Rattle.kc_order.specs.Collected.{Collected, IsCollect, Loaded}
 use Rattle.kc_order.specs.Standing.{FindsOther, FindsSame, LoadsOther, LoadsWord, Steps}
 

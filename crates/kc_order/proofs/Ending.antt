@@ -2,7 +2,7 @@
 use Rattle.std.proofs.Common.{◌≡◌, ℕ, ◌+◌, ◌<◌, ◌≤◌, ◌^◌, true, List, [], ◌∷◌, ◌++◌, length, set, get_or, refl, sym, ap, ◌∙◌, subst, arith}
 use Rattle.std.proofs.Common.{get_or-set_other, length-set}
 use Rattle.std.proofs.lemmas.Bool.{ne_eqb}
-use Rattle.kc_distinct.specs.Lists.{member}
+use Rattle.kc_lists.specs.Lists.{member}
 use Rattle.kc_words.specs.ItemWord.{item_of}
 use Rattle.kc_words.specs.VertexWord.{vertex_of}
 use Rattle.kc_words.specs.NoteWord.{note_of}
@@ -16,13 +16,13 @@ use Rattle.kc_list.specs.Sheets as sheet
 use Rattle.kc_table.specs.declared.view.Event.{Event}
 use Rattle.kc_table.specs.declared.entry.Entry.{Entry}
 use Rattle.kc_table.specs.Log.{event, value_at}
-use Rattle.kc_table.specs.State.{State, after_store, state_of, first_vertex, word_count, moved, entered, unsealed_from, put_in, sealed}
+use Rattle.kc_table.specs.TableState.{TableState, after_store, state_of, first_vertex, word_count, moved, entered, unsealed_from, put_in, sealed}
 use Rattle.kc_table.specs.Legal as legal
 use Rattle.kc_table.proofs.LegalLogs.{legal-push, state_of-push, state_of-words}
 use Rattle.kc_order.proofs.Relabelling.{Goes, ordered-agree, value-fits, set-agree}
 
 -- the state after the note
-abbrev pub noted : State → ℕ → State
+abbrev pub noted : TableState → ℕ → TableState
 noted s v =
     record {
       words = set s.words 0 v;
@@ -33,7 +33,7 @@ noted s v =
     }
 
 -- the state after the store of the item's word
-abbrev pub ended : Shape → State → Event → State
+abbrev pub ended : Shape → TableState → Event → TableState
 ended shape s e =
     record {
       words = set s.words e.word e.value;
@@ -44,15 +44,15 @@ ended shape s e =
     }
 
 -- a store of the note leaves the state after the note
-after-note : (shape : Shape) (s : State) (v : ℕ) → after_store shape s (event 0 v) ≡ noted s v
+after-note : (shape : Shape) (s : TableState) (v : ℕ) → after_store shape s (event 0 v) ≡ noted s v
 after-note shape s v = refl
 
 -- a store of any word but the note does what was announced, and leaves this state
-pub after-item : (shape : Shape) (s : State) (e : Event) → 1 ≤ e.word → after_store shape s e ≡ ended shape s e
+pub after-item : (shape : Shape) (s : TableState) (e : Event) → 1 ≤ e.word → after_store shape s e ≡ ended shape s e
 after-item shape s e low = rw (ne_eqb e.word 0 (λ k. omega (arith, low, k))) refl
 
 -- what a put or a take needs where its note is stored
-pub record Ends (shape : Shape) (s : State) (ws : List ℕ) (n : NoteWord) (v x : ℕ) (last : Write) (after : List ℕ) : Type 0 where
+pub record Ends (shape : Shape) (s : TableState) (ws : List ℕ) (n : NoteWord) (v x : ℕ) (last : Write) (after : List ℕ) : Type 0 where
   pub goes : Goes shape s ws
   pub ordered : Ordered shape.items ws s.list
   pub note_is : note_of v ≡ n
@@ -132,7 +132,7 @@ put_or_take-ends shape opening log ws n v x last after lawful h within =
     λ k.
     ap (λ z. (vertex_of z).stamp)
     (get_or-set_other t.words (1 + x) (first_vertex shape + k) last.value 0 (λ is. omega (arith, is, high))) in
-    let item-holds : legal.Holds shape u = record {
+    let item-holds : legal.StateHolds shape u = record {
       ordered = subst (Ordered shape.items u.words) (sym list) (ordered-agree shape.items (set ws last.word last.value) u.words after h.now within agree);
       stamps = λ k l. omega (arith, item-stamp k, note-stamps k l);
     } in
@@ -142,7 +142,7 @@ put_or_take-ends shape opening log ws n v x last after lawful h within =
     record {
       noted_ = noted-legal;
       legal_ = legal-push shape opening (log ++ event 0 v ∷ []) e noted-legal (subst (λ z. legal.MayStore shape z e) (sym at-note) may-item)
-          (subst (legal.Holds shape) (sym (ap (λ z. after_store shape z e) at-note ∙ is)) item-holds);
+          (subst (legal.StateHolds shape) (sym (ap (λ z. after_store shape z e) at-note ∙ is)) item-holds);
       list = ap (λ z. z.list) at-end ∙ list;
       words =
           λ w low up.

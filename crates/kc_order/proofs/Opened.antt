@@ -2,9 +2,9 @@
 use Rattle.std.proofs.Common.{◌≡◌, ℕ, zero, suc, ◌+◌, ◌*◌, ◌<◌, ◌≤◌, true, false, cond, List, [], ◌∷◌, length, get_or, eqb, ltb, refl, sym, ap, ◌∙◌}
 use Rattle.std.proofs.Common.{subst, inl, inr, arith}
 use Rattle.std.proofs.lemmas.Bool.{cases_Bool, cases_eq, eqb-true, eqb-false, ltb-true, ltb-false, false≢true}
-use Rattle.kc_distinct.specs.Lists.{member}
-use Rattle.kc_distinct.proofs.Members.{member-head, member-tail, member-cases}
-use Rattle.kc_words.specs.Order.{Labels, labels, PairBelow, Follows, InOrder, Ordered}
+use Rattle.kc_lists.specs.Lists.{member, Follows, InOrder}
+use Rattle.kc_lists.proofs.Members.{member-head, member-tail, member-cases}
+use Rattle.kc_words.specs.Order.{Labels, labels, PairBelow, Ordered}
 use Rattle.kc_words.specs.ItemWord.{item_of}
 use Rattle.kc_words.specs.VertexWord.{vertex_of}
 use Rattle.kc_words.specs.declared.shape.Shape.{Shape}
@@ -12,7 +12,7 @@ use Rattle.kc_list.specs.Plain.{Plain}
 use Rattle.kc_list.specs.Sheets.{version}
 use Rattle.kc_table.specs.Legal as legal
 use Rattle.kc_table.specs.Log.{TableName, Seen}
-use Rattle.kc_table.specs.State.{is_below, placed, listed, opened, state_of}
+use Rattle.kc_table.specs.TableState.{is_below, placed, listed, opened, state_of}
 use Rattle.kc_table.proofs.LegalLogs.{legal-nil, state_of-nil}
 use Rattle.kc_order.specs.Writers.{AreOpeningWords, Tied}
 use Rattle.kc_order.proofs.Relabelling.{ordered-agree}
@@ -150,7 +150,7 @@ module _ (n : ℕ) (ws order : List ℕ) (o : Ordered n ws order) where
 
 -- words that are made of a plain list's open a table with its list
 pub record Opening (shape : Shape) (words : List ℕ) (order : List ℕ) : Type 0 where
-  pub opens : legal.Opens shape words
+  pub opens : legal.IsTableOpening shape words
   pub list : listed (labels shape.items words) shape.items ≡ order
 
 -- words made of a plain list's, no note and the vertices' words open a table with its list

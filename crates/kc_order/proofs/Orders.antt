@@ -2,10 +2,10 @@
 use Rattle.std.proofs.Common.{◌≡◌, ◌≢◌, ◌↔◌, ℕ, Bool, true, false, cond, ◌&&◌, ◌||◌, List, [], ◌∷◌, ◌++◌, eqb}
 use Rattle.std.proofs.Common.{refl, sym, ap, ◌∙◌, subst, arith, inl, inr, ◌⊎◌, eq-eqb, ne_eqb, eqb-true, true≢false}
 use Rattle.std.proofs.lemmas.Bool.{cases_Bool, cases_eq, false≢true, false_from_ne_true, and_from, and_parts, or_left, or_right, or_cases}
-use Rattle.kc_distinct.specs.Lists.{Distinct, member, right_after, without}
-use Rattle.kc_distinct.proofs.Members.{member-head, member-tail, member-cases, not_member-parts, member-append, member-append_left, place_of-first}
-use Rattle.kc_distinct.proofs.Members.{member-append_right, Distinct-without, place_of-next, member-without_other, without-here}
-use Rattle.kc_distinct.proofs.Members.{without-next}
+use Rattle.kc_lists.specs.Lists.{Distinct, member, right_after, without}
+use Rattle.kc_lists.proofs.Members.{member-head, member-tail, member-cases, not_member-parts, member-append, member-append_left, place_of-first}
+use Rattle.kc_lists.proofs.Members.{member-append_right, Distinct-without, place_of-next, member-without_other, without-here}
+use Rattle.kc_lists.proofs.Members.{without-next}
 use Rattle.kc_order.specs.Runs.{all_after, with_run_after, without_each}
 use Rattle.kc_order.specs.Standing.{StandsBefore}
 

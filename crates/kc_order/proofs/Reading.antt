@@ -1,7 +1,7 @@
 -- What a load of an item's word tells of the list.
 use Rattle.std.proofs.Common.{◌≡◌, ℕ, ◌+◌, ◌<◌, ◌≤◌, true, false, List, refl, sym, ap, ◌∙◌, subst, inl, inr, arith}
 use Rattle.std.proofs.lemmas.Bool.{cases_Bool, cases_lt, true≢false, false_from_ne_true}
-use Rattle.kc_distinct.specs.Lists.{member}
+use Rattle.kc_lists.specs.Lists.{member}
 use Rattle.kc_words.specs.ItemWord.{item_of}
 use Rattle.kc_words.specs.Order as order
 use Rattle.kc_table.specs.declared.view.Event.{Event}

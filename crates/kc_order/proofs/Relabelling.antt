@@ -2,7 +2,7 @@
 use Rattle.std.proofs.Common.{◌≡◌, ℕ, ◌+◌, ◌*◌, ◌-◌, ◌<◌, ◌≤◌, ◌^◌, true, false, cond, List, [], ◌∷◌, length, set, get_or, eqb, leb, refl, sym, ap}
 use Rattle.std.proofs.Common.{◌∙◌, subst, inl, inr, arith, get_or-set_same, get_or-set_other, length-set}
 use Rattle.std.proofs.lemmas.Bool.{cases_eq, ne_eqb, lt-leb}
-use Rattle.kc_distinct.specs.Lists.{member, without}
+use Rattle.kc_lists.specs.Lists.{member, without}
 use Rattle.kc_words.specs.ItemWord.{item_of}
 use Rattle.kc_words.specs.GroupWord.{group_of}
 use Rattle.kc_words.specs.VertexWord.{vertex_of}
@@ -16,7 +16,7 @@ use Rattle.kc_list.specs.declared.sheet.Write.{Write}
 use Rattle.kc_list.specs.Sheets as sheet
 use Rattle.kc_table.specs.declared.view.Event.{Event}
 use Rattle.kc_table.specs.Log.{event}
-use Rattle.kc_table.specs.State.{State, after_store, after_stores, first_vertex, word_count, moved, put_in, sealed}
+use Rattle.kc_table.specs.TableState.{TableState, after_store, after_stores, first_vertex, word_count, moved, put_in, sealed}
 use Rattle.kc_table.specs.Legal as legal
 use Rattle.kc_table.proofs.Listed.{Listed}
 use Rattle.kc_order.specs.Writers.{stores_of}
@@ -44,7 +44,7 @@ ordered-agree n ws vs list o within same =
     }
 
 -- what stays between the stores of a call: the list's items, the plain list's words, the stamps, and that nothing is announced
-pub record Goes (shape : Shape) (s : State) (ws : List ℕ) : Type 0 where
+pub record Goes (shape : Shape) (s : TableState) (ws : List ℕ) : Type 0 where
   pub long : length s.words ≡ word_count shape
   pub plain_long : length ws ≡ first_vertex shape
   pub listed : Listed shape s.list
@@ -72,11 +72,11 @@ put_in-quiet shape (Put x p) w unsealed q = absurd (omega (arith, q 0))
 put_in-quiet shape (Take x) w unsealed q = refl
 
 -- the state after a store of an item's or a group's word where nothing is announced
-abbrev pub relabelled : State → Event → State
+abbrev pub relabelled : TableState → Event → TableState
 relabelled s e = record { words = set s.words e.word e.value; list = s.list; note = Nothing; entries = s.entries; unsealed = s.unsealed }
 
 -- a store of an item's or a group's word where nothing is announced changes the words alone
-pub after-relabel : (shape : Shape) (s : State) (e : Event) → 1 ≤ e.word → e.word < first_vertex shape → ((w : ℕ) → legal.FollowsNote s.note w)
+pub after-relabel : (shape : Shape) (s : TableState) (e : Event) → 1 ≤ e.word → e.word < first_vertex shape → ((w : ℕ) → legal.FollowsNote s.note w)
     → after_store shape s e ≡ relabelled s e
 after-relabel shape s e low high q =
     let no_vertex : leb (first_vertex shape) e.word ≡ false = lt-leb (first_vertex shape) e.word high in
@@ -92,9 +92,9 @@ after-relabel shape s e low high q =
     })
 
 -- one write of a plain list, stored where nothing is announced
-pub record Relabels (shape : Shape) (s : State) (ws : List ℕ) (e : Event) : Type 0 where
+pub record Relabels (shape : Shape) (s : TableState) (ws : List ℕ) (e : Event) : Type 0 where
   pub may : legal.MayStore shape s e
-  pub holds : legal.Holds shape (relabelled s e)
+  pub holds : legal.StateHolds shape (relabelled s e)
   pub goes : Goes shape (relabelled s e) (set ws e.word e.value)
 
 -- a word whose version is no greater than the last one has 64 bits
@@ -115,7 +115,7 @@ set-agree xs ys k v w x-in y-in same =
     ]
 
 -- a write that keeps the order and raises a version may be stored where nothing is announced
-pub write-relabels : (shape : Shape) (s : State) (ws : List ℕ) (w : Write) → Goes shape s ws → sheet.Raises ws w → (item_of w.value).version ≤ LAST_VERSION
+pub write-relabels : (shape : Shape) (s : TableState) (ws : List ℕ) (w : Write) → Goes shape s ws → sheet.Raises ws w → (item_of w.value).version ≤ LAST_VERSION
     → Ordered shape.items (set ws w.word w.value) s.list → Relabels shape s ws (event w.word w.value)
 write-relabels shape s ws w g r few o =
     let high : w.word < first_vertex shape = omega (arith, r.high, g.plain_long) in
@@ -151,7 +151,7 @@ write-relabels shape s ws w g r few o =
     }
 
 -- what all writes of a plain list leave that are stored one by one
-pub record RelabelsAll (shape : Shape) (s : State) (ws : List ℕ) (writes : List Write) : Type 0 where
+pub record RelabelsAll (shape : Shape) (s : TableState) (ws : List ℕ) (writes : List Write) : Type 0 where
   pub legal_ : legal.LegalFrom shape s (stores_of writes)
   pub goes : Goes shape (after_stores shape s (stores_of writes)) (sheet.stored ws writes)
   pub list : (after_stores shape s (stores_of writes)).list ≡ s.list
@@ -178,7 +178,7 @@ ordered-first n list ws [] h = h
 ordered-first n list ws (s ∷ ss) h = h.0
 
 -- all writes that keep the order and raise versions may be stored one by one
-pub relabel-all : (shape : Shape) (s : State) (ws : List ℕ) (writes : List Write) → Goes shape s ws → sheet.RaisedAlong ws writes
+pub relabel-all : (shape : Shape) (s : TableState) (ws : List ℕ) (writes : List Write) → Goes shape s ws → sheet.RaisedAlong ws writes
     → sheet.OrderedAlong shape.items s.list ws writes → ((w : ℕ) → sheet.version (sheet.stored ws writes) w ≤ LAST_VERSION) → RelabelsAll shape s ws writes
 relabel-all shape s ws [] g r o few = record { legal_ = tt; goes = g; list = refl; entries = refl; words = λ v. refl }
 relabel-all shape s ws (w ∷ writes) g r o few =
@@ -191,7 +191,7 @@ relabel-all shape s ws (w ∷ writes) g r o few =
     let is : after_store shape s e ≡ relabelled s e = after-relabel shape s e r.0.low high g.quiet in
     let rest = relabel-all shape (relabelled s e) vs writes one.goes r.1 o.1 few in
     record {
-      legal_ = (one.may, subst (legal.Holds shape) (sym is) one.holds, subst (λ t. legal.LegalFrom shape t (stores_of writes)) (sym is) rest.legal_);
+      legal_ = (one.may, subst (legal.StateHolds shape) (sym is) one.holds, subst (λ t. legal.LegalFrom shape t (stores_of writes)) (sym is) rest.legal_);
       goes = subst (λ t. Goes shape (after_stores shape t (stores_of writes)) (sheet.stored vs writes)) (sym is) rest.goes;
       list = ap (λ t. (after_stores shape t (stores_of writes)).list) is ∙ rest.list;
       entries = ap (λ t. (after_stores shape t (stores_of writes)).entries) is ∙ rest.entries;

@@ -5,9 +5,9 @@ use Rattle.std.specs.Prelude.{All}
 use Rattle.std.proofs.lemmas.Bool.{cases_Bool, false≢true, false_from_ne_true, le-ltb}
 use Rattle.std.proofs.lemmas.List.{append_cancel_left, drop_more}
 use mathlib.Core.List.{IsPrefix}
-use Rattle.kc_distinct.specs.Lists.{Distinct, member, right_after, without}
-use Rattle.kc_distinct.proofs.Counting.{Distinct-drop, drop-member, member-get_or}
-use Rattle.kc_distinct.proofs.Members.{member-cases, member-append_left, member-append_right}
+use Rattle.kc_lists.specs.Lists.{Distinct, member, right_after, without}
+use Rattle.kc_lists.proofs.Counting.{Distinct-drop, drop-member, member-get_or}
+use Rattle.kc_lists.proofs.Members.{member-cases, member-append_left, member-append_right}
 use Rattle.kc_words.specs.NoteWord.{note_of, note_word, IsFitting}
 use Rattle.kc_words.proofs.Notes.{note_of-note_word}
 use Rattle.kc_words.specs.declared.note.NoteWord.{NoteWord}
@@ -15,13 +15,13 @@ use Rattle.kc_words.specs.declared.note.NoteWord.TheVariants.{Put}
 use Rattle.kc_words.specs.declared.shape.Shape.{Shape}
 use Rattle.kc_table.specs.declared.view.Event.{Event}
 use Rattle.kc_table.specs.Log.{Seen, TableName, event}
-use Rattle.kc_table.specs.State.{State, after_store, after_stores, state_of, entered}
+use Rattle.kc_table.specs.TableState.{TableState, after_store, after_stores, state_of, entered}
 use Rattle.kc_table.specs.Legal.{FollowsNote, IsVersioned, Legal}
 use Rattle.kc_table.proofs.LegalLogs.{after_stores-append, legal-prefix}
 use Rattle.kc_table.proofs.Listed.{list-stands}
 use Rattle.kc_table.proofs.Prefixes.{prefix_self, prefix_trans, prefix_either}
 use Rattle.kc_order.specs.Standing.{Between, StandsBefore, list_after}
-use Rattle.kc_order.specs.Writers.{HasRoom, Leaves, Puts, PutsEach, entries_after, unsealed_after, vertex_word_after, with_open}
+use Rattle.kc_order.specs.Writers.{HasRoom, LeavesBeside, Puts, PutsEach, entries_after, unsealed_after, vertex_word_after, with_open}
 use Rattle.kc_order.specs.Runs.{InListOrder, IsRunBefore, MovesRun, StandsAsEither, puts_of_run, with_run_after}
 use Rattle.kc_order.proofs.Leaving.{IsOfItem, put-of_item}
 use Rattle.kc_order.proofs.Orders.{is_before, before-stands, run-front, run-members, run-more, run-none, run-others, run-parts}
@@ -50,12 +50,12 @@ rest_of [] = []
 rest_of (e ∷ es) = es
 
 -- a state with the list and the entries of another
-record HasPaused (s t : State) : Type 0 where
+record HasPaused (s t : TableState) : Type 0 where
   list : t.list ≡ s.list
   entries : t.entries ≡ s.entries
 
 -- Of the stores of one put only the last changes the list, and none the entries.
-put_stores-pause : (shape : Shape) (note : NoteWord) (value x last : ℕ) → note_of value ≡ note → IsOfItem note → (relabels : List Event) (s : State)
+put_stores-pause : (shape : Shape) (note : NoteWord) (value x last : ℕ) → note_of value ≡ note → IsOfItem note → (relabels : List Event) (s : TableState)
     → All (λ e. IsVersioned shape e.word) relabels → ((word : ℕ) → FollowsNote s.note word) → (front back : List Event)
     → front ++ back ≡ relabels ++ event 0 value ∷ event (1 + x) last ∷ [] → HasPaused s (after_stores shape s front) ⊎ (back ≡ [])
 put_stores-pause shape note value x last is of relabels s versioned quiet [] back e = inl record { list = refl; entries = refl }
@@ -72,7 +72,7 @@ put_stores-pause shape note value x last is of (r ∷ more) s versioned quiet (d
     let next = relabelled s r in
     let after : after_store shape s d ≡ next = ap (after_store shape s) here ∙ after-relabel shape s r low.0 low.1 quiet in
     elim (put_stores-pause shape note value x last is of more next (λ k z l. versioned (suc k) z (omega (arith, l))) (λ word. tt) front back (ap rest_of e)) [
-      | inl h ↦ inl (subst (λ (z : State). HasPaused s (after_stores shape z front)) (sym after) record { list = h.list; entries = h.entries })
+      | inl h ↦ inl (subst (λ (z : TableState). HasPaused s (after_stores shape z front)) (sym after) record { list = h.list; entries = h.entries })
       | inr none ↦ inr none
     ]
 
@@ -102,7 +102,7 @@ put-pauses old new x p put fits quiet prefix b =
     elim (put_stores-pause shape note (note_word note) x put.ends.value (note_of-note_word note fits) (put-of_item x p)
     put.ends.relabels s put.ends.versioned quiet
     front back are) [
-      | inl h ↦ inl record { list = ap (λ (z : State). z.list) at ∙ h.list; entries = ap (λ (z : State). z.entries) at ∙ h.entries }
+      | inl h ↦ inl record { list = ap (λ (z : TableState). z.list) at ∙ h.list; entries = ap (λ (z : TableState). z.entries) at ∙ h.entries }
       | inr none ↦ inr (sym (append-nil prefix) ∙ (ap (λ z. prefix ++ z) (sym none) ∙ b.extended.1))
     ]
 
@@ -123,7 +123,7 @@ pub record HasMoved (old now : Seen) (run : List ℕ) (p : ℕ) : Type 0 where
   pub legal : Legal now.table.shape now.table.opening now.log
   pub puts : PutsEach old (puts_of_run run p) now
   pub list : list_after now.table now.log ≡ with_run_after run p (list_after old.table old.log)
-  pub leaves : Leaves now (entries_after old) (unsealed_after old) (vertex_word_after old)
+  pub leaves : LeavesBeside now (entries_after old) (unsealed_after old) (vertex_word_after old)
   pub stages : (prefix : List Event) → Between old.log now.log prefix → Stage old run p prefix
 
 -- where nothing was done, all members of the run of none have moved

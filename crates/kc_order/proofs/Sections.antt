@@ -2,7 +2,7 @@
 use Rattle.std.proofs.Common.{◌≡◌, ◌≢◌, ℕ, ◌+◌, ◌*◌, ◌<◌, ◌≤◌, ◌^◌, ◌-◌, Bool, true, false, cond, eqb, List, [], ◌∷◌, ◌++◌, length, set, get_or, eq-eqb}
 use Rattle.std.proofs.Common.{ne_eqb, le-leb, refl, sym, ap, ◌∙◌, subst, inl, inr, arith, get_or-set_same, get_or-set_other, length-append}
 use Rattle.std.proofs.lemmas.Bool.{cases_eq}
-use Rattle.kc_distinct.specs.Lists.{without}
+use Rattle.kc_lists.specs.Lists.{without}
 use Rattle.kc_words.specs.VertexWord.{vertex_of, vertex_word}
 use Rattle.kc_words.specs.NoteWord.{note_of, note_word, IsFitting}
 use Rattle.kc_words.proofs.Notes.{note_of-note_word}
@@ -14,12 +14,12 @@ use Rattle.kc_list.specs.Plain.{Plain}
 use Rattle.kc_table.specs.declared.entry.Entry.{Entry}
 use Rattle.kc_table.specs.declared.view.Event.{Event}
 use Rattle.kc_table.specs.Log.{Seen, event}
-use Rattle.kc_table.specs.State.{State, after_store, state_of, first_vertex, word_count, entered, unsealed_from, sealed}
+use Rattle.kc_table.specs.TableState.{TableState, after_store, state_of, first_vertex, word_count, entered, unsealed_from, sealed}
 use Rattle.kc_table.specs.Legal as legal
 use Rattle.kc_table.proofs.LegalLogs.{legal-push, legal-holds, state_of-push, state_of-words}
 use Rattle.kc_table.proofs.Listed.{list-stands}
 use Rattle.kc_table.proofs.Steps.{value_at-other}
-use Rattle.kc_order.specs.Writers.{Leaves, Stores, Tied, entries_after, unsealed_after, vertex_word_after}
+use Rattle.kc_order.specs.Writers.{LeavesBeside, Stores, Tied, entries_after, unsealed_after, vertex_word_after}
 use Rattle.kc_order.proofs.Ending.{ended, after-item}
 use Rattle.kc_order.proofs.Leaving.{leaves-state, state-word}
 use Rattle.kc_order.proofs.Relabelling.{ordered-agree, put_in-quiet, store-quiet}
@@ -29,7 +29,7 @@ use Rattle.kc_order.proofs.Writing.{call-begins}
 pub stored-aside : (seen : Seen) (plain : Plain) (e : Event) → Tied seen plain
     → legal.MayStore seen.table.shape (state_of seen.table.shape seen.table.opening seen.log) e
     → ((w : ℕ) → 1 ≤ w → w < first_vertex seen.table.shape → e.word ≢ w)
-    → (t : State) → after_store seen.table.shape (state_of seen.table.shape seen.table.opening seen.log) e ≡ t
+    → (t : TableState) → after_store seen.table.shape (state_of seen.table.shape seen.table.opening seen.log) e ≡ t
     → t.list ≡ (state_of seen.table.shape seen.table.opening seen.log).list
     → t.words ≡ set (state_of seen.table.shape seen.table.opening seen.log).words e.word e.value
     → ((v : ℕ) → v < seen.table.shape.fixed → legal.stamp_in seen.table.shape t v ≤ legal.last_entry seen.table.shape t)
@@ -48,7 +48,7 @@ stored-aside seen plain e tied may aside t is t-list t-words stamps quiet =
     (ordered-agree shape.items s.words t.words s.list holds.ordered (list-stands shape opening seen.log tied.legal).listed.within same) in
     let lawful : legal.Legal shape opening (seen.log ++ e ∷ []) =
     legal-push shape opening seen.log e tied.legal may
-    (subst (legal.Holds shape) (sym is) record { ordered = ordered; stamps = stamps }) in
+    (subst (legal.StateHolds shape) (sym is) record { ordered = ordered; stamps = stamps }) in
     let at : state_of shape opening (seen.log ++ e ∷ []) ≡ t = state_of-push shape opening seen.log e ∙ is in (
       lawful,
       λ now now-is. subst (λ z. Tied z plain) (sym now-is) record {
@@ -90,7 +90,7 @@ entered_at seen plain add index u v tied fitting closed =
     let value = note_word n in
     let s = state_of shape seen.table.opening seen.log in
     let is : note_of value ≡ n = note_of-note_word n fitting in
-    let t : State =
+    let t : TableState =
     record {
       words = set s.words 0 value;
       list = s.list;
@@ -168,7 +168,7 @@ sealed_at seen plain v value tied below fits seals =
 -- what an Enter note leaves beside the list
 pub enter-leaves : (seen : Seen) (add : Bool) (index u v : ℕ) → IsFitting (Enter add index u v)
     → let entry : Entry = record { index = index; add = add; u = u; v = v } in
-    Leaves (record { table = seen.table; log = seen.log ++ event 0 (note_word (Enter add index u v)) ∷ [] }) (entries_after seen ++ entry ∷ []) []
+    LeavesBeside (record { table = seen.table; log = seen.log ++ event 0 (note_word (Enter add index u v)) ∷ [] }) (entries_after seen ++ entry ∷ []) []
     (vertex_word_after seen)
 enter-leaves seen add index u v fitting =
     let shape = seen.table.shape in
@@ -177,7 +177,7 @@ enter-leaves seen add index u v fitting =
     let e = event 0 value in
     let s = state_of shape seen.table.opening seen.log in
     let note : note_of value ≡ n = note_of-note_word n fitting in
-    let t : State = record {
+    let t : TableState = record {
       words = set s.words 0 value;
       list = s.list;
       note = n;
@@ -194,7 +194,7 @@ enter-leaves seen add index u v fitting =
       quiet = made.quiet;
     }
   where
-    noted-as : State → ℕ → NoteWord → State
+    noted-as : TableState → ℕ → NoteWord → TableState
     noted-as s value z = record { words = set s.words 0 value; list = s.list; note = z; entries = entered z s.entries; unsealed = unsealed_from z s.unsealed }
 
 -- what has been seen, with one store more
@@ -203,7 +203,7 @@ with_store seen word value = record { table = seen.table; log = seen.log ++ even
 
 -- what a vertex word leaves beside the list
 pub vertex-leaves : (seen : Seen) (plain : Plain) (v value : ℕ) → Tied seen plain → v < seen.table.shape.fixed
-    → Leaves (with_store seen (first_vertex seen.table.shape + v) value) (entries_after seen) (without v (unsealed_after seen))
+    → LeavesBeside (with_store seen (first_vertex seen.table.shape + v) value) (entries_after seen) (without v (unsealed_after seen))
     (λ w. cond (eqb w v) value (vertex_word_after seen w))
 vertex-leaves seen plain v value tied below =
     let shape = seen.table.shape in
@@ -236,10 +236,10 @@ vertex-leaves seen plain v value tied below =
 -- what a call leaves, where its seat was seen as `now`
 pub leaves-now : (seen now new : Seen) (word value : ℕ) (entries : Seen → List Entry) (unsealed : Seen → List ℕ) (words : Seen → ℕ → ℕ) → seen ≡ now
     → new ≡ record { table = seen.table; log = seen.log ++ event word value ∷ [] }
-    → Leaves (record { table = seen.table; log = seen.log ++ event word value ∷ [] }) (entries seen) (unsealed seen) (words seen)
-    → Leaves new (entries now) (unsealed now) (words now)
+    → LeavesBeside (record { table = seen.table; log = seen.log ++ event word value ∷ [] }) (entries seen) (unsealed seen) (words seen)
+    → LeavesBeside new (entries now) (unsealed now) (words now)
 leaves-now seen now new word value entries unsealed words is new-is h =
-    subst (λ (z : Seen × Seen). Leaves z.0 (entries z.1) (unsealed z.1) (words z.1)) (λ i. (sym new-is i, is i)) h
+    subst (λ (z : Seen × Seen). LeavesBeside z.0 (entries z.1) (unsealed z.1) (words z.1)) (λ i. (sym new-is i, is i)) h
 
 -- what one store leaves, in the words of the contracts
 pub stores-now : (seen now new : Seen) (word value : ℕ) → seen ≡ now

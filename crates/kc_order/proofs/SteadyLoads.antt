@@ -3,11 +3,11 @@ use Rattle.std.proofs.Common.{◌≡◌, ◌≢◌, ◌⊎◌, ℕ, ◌+◌, ◌
 use Rattle.std.proofs.lemmas.Bool.{false≢true}
 use Rattle.std.proofs.lemmas.List.{append_assoc, length-append}
 use mathlib.Core.List.{IsPrefix}
-use Rattle.kc_distinct.specs.Lists.{member, Distinct, place_of}
-use Rattle.kc_distinct.proofs.Members.{member-head, member-cases, member-append, member-append_right, member-cut, Distinct-cut, place_of-cut}
+use Rattle.kc_lists.specs.Lists.{member, Distinct, place_of, InOrder}
+use Rattle.kc_lists.proofs.Members.{member-head, member-cases, member-append, member-append_right, member-cut, Distinct-cut, place_of-cut}
 use Rattle.kc_words.specs.ItemWord.{item_of}
 use Rattle.kc_words.specs.GroupWord.{group_of}
-use Rattle.kc_words.specs.Order.{Labels, labels, PairBelow, InOrder}
+use Rattle.kc_words.specs.Order.{Labels, labels, PairBelow}
 use Rattle.kc_words.proofs.Ordering.{Follows-all, InOrder-tail, PairBelow-asym}
 use Rattle.kc_table.specs.declared.view.Event.{Event}
 use Rattle.kc_table.specs.Log.{PassSeen, TableName, value_at, words_after}

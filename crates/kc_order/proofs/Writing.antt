@@ -3,8 +3,8 @@ use Rattle.std.proofs.Common.{◌≡◌, ◌≢◌, ◌⊎◌, ℕ, zero, suc, �
 use Rattle.std.proofs.Common.{sym, ap, ◌∙◌, subst, inl, inr, arith, get_or-set_same, get_or-set_other, length-set, append_assoc, append-nil, length-append}
 use Rattle.std.proofs.lemmas.List.{take-append-le, drop-append-le, take_all}
 use Rattle.std.proofs.lemmas.Bool.{cases_eq, eq-eqb}
-use Rattle.kc_distinct.specs.Lists.{member, without, right_after}
-use Rattle.kc_distinct.proofs.Members.{member-right_after, member-without}
+use Rattle.kc_lists.specs.Lists.{member, without, right_after}
+use Rattle.kc_lists.proofs.Members.{member-right_after, member-without}
 use Rattle.kc_words.specs.ItemWord.{item_of}
 use Rattle.kc_words.specs.VertexWord.{vertex_of}
 use Rattle.kc_words.specs.NoteWord.{note_word, IsFitting}
@@ -21,7 +21,7 @@ use Rattle.kc_list.proofs.Highest.{version-highest, highest-below}
 use Rattle.kc_table.specs.declared.view.Event.{Event}
 use Rattle.kc_table.specs.declared.entry.Entry.{Entry}
 use Rattle.kc_table.specs.Log.{TableName, Seen, event, value_at}
-use Rattle.kc_table.specs.State.{State, after_stores, state_of, first_vertex, word_count, moved, entered}
+use Rattle.kc_table.specs.TableState.{TableState, after_stores, state_of, first_vertex, word_count, moved, entered}
 use Rattle.kc_table.specs.Legal as legal
 use Rattle.kc_table.proofs.LegalLogs.{legal-push, legal-prefix, legal-last, legal-opens, legal-holds, state_of-push, state_of-words, after_stores-append}
 use Rattle.kc_table.proofs.Listed.{list-stands}
@@ -179,9 +179,9 @@ pub record Wrote (seen : Seen) (new : Plain) (v x : ℕ) (writes : List Write) :
   pub list : list_after seen.table (log_of_all seen.log writes v) ≡ new.list
 
 -- what a note may name before the relabelling stores it may name after them
-abbrev pub MayAfter : Shape → State → NoteWord → Type 0
+abbrev pub MayAfter : Shape → TableState → NoteWord → Type 0
 MayAfter shape s n =
-    (t : State) → t.list ≡ s.list → t.entries ≡ s.entries → ((k : ℕ) → legal.stamp_in shape t k ≡ legal.stamp_in shape s k)
+    (t : TableState) → t.list ≡ s.list → t.entries ≡ s.entries → ((k : ℕ) → legal.stamp_in shape t k ≡ legal.stamp_in shape s k)
     → legal.MayNote shape t n
 
 -- the writes of a call and its note leave a legal log, to which the new plain list is tied

@@ -1,12 +1,12 @@
 -- A run of items that stand before another item, and moves to right after it.
 use Rattle.std.specs.Prelude.{◌≡◌, ◌≤◌, ◌⊎◌, ◌↔◌, ◌==◌, if◌then◌else◌, ℕ, List, [], ◌∷◌, ◌++◌, true}
 use mathlib.Core.List.{IsPrefix}
-use Rattle.kc_distinct.specs.Lists.{member, without}
+use Rattle.kc_lists.specs.Lists.{member, without}
 use Rattle.kc_table.specs.declared.view.Event.{Event}
 use Rattle.kc_table.specs.Log.{Seen}
 use Rattle.kc_table.specs.Legal.{Legal}
 use Rattle.kc_order.specs.Standing.{Between, StandsBefore, list_after}
-use Rattle.kc_order.specs.Writers.{Leaves, PutsEach, entries_after, unsealed_after, vertex_word_after}
+use Rattle.kc_order.specs.Writers.{LeavesBeside, PutsEach, entries_after, unsealed_after, vertex_word_after}
 
 -- the list without each of these
 abbrev pub without_each : List ℕ → List ℕ → List ℕ
@@ -56,5 +56,5 @@ pub record MovesRun (old new : Seen) (run : List ℕ) (p : ℕ) : Type 0 where
   pub legal : Legal new.table.shape new.table.opening new.log
   pub puts : PutsEach old (puts_of_run run p) new
   pub list : list_after new.table new.log ≡ with_run_after run p (list_after old.table old.log)
-  pub leaves : Leaves new (entries_after old) (unsealed_after old) (vertex_word_after old)
+  pub leaves : LeavesBeside new (entries_after old) (unsealed_after old) (vertex_word_after old)
   pub underway : (prefix : List Event) → Between old.log new.log prefix → IsUnderway old new prefix

@@ -1,12 +1,12 @@
 -- How two items stand in the list of a log, and what a comparison may answer.
 use Rattle.std.specs.Prelude.{◌≡◌, ◌≢◌, ◌<◌, ◌≤◌, ◌+◌, ◌⊎◌, ℕ, List, [], ◌∷◌, ◌++◌, length, true, false}
 use mathlib.Core.List.{IsPrefix}
-use Rattle.kc_distinct.specs.Lists.{member, place_of}
+use Rattle.kc_lists.specs.Lists.{member, place_of}
 use Rattle.kc_words.specs.ItemWord.{item_of}
 use Rattle.kc_words.specs.declared.again.Again.{Again}
 use Rattle.kc_table.specs.declared.view.Event.{Event}
 use Rattle.kc_table.specs.Log.{PassSeen, TableName, value_at}
-use Rattle.kc_table.specs.State.{state_of}
+use Rattle.kc_table.specs.TableState.{state_of}
 use Rattle.kc_table.specs.Legal.{Legal}
 use Rattle.kc_order.specs.Collected.{Collected, IsCollect, Loaded, words_of}
 use Rattle.kc_order.specs.declared.answer.Answer.{Answer}

@@ -1,7 +1,7 @@
 -- What a writer's calls do to the log.
 use Rattle.std.specs.Prelude.{◌≡◌, ◌<◌, ◌≤◌, ◌+◌, ◌-◌, ◌*◌, ℕ, List, [], ◌∷◌, ◌++◌, All, length, slice_index, map, take, drop}
 use Rattle.std.specs.Prelude.{nat_lt, if◌then◌else◌}
-use Rattle.kc_distinct.specs.Lists.{without, right_after}
+use Rattle.kc_lists.specs.Lists.{without, right_after}
 use Rattle.kc_words.specs.ItemWord.{item_of}
 use Rattle.kc_words.specs.NoteWord.{note_word}
 use Rattle.kc_words.specs.declared.layout.TheConstants.{LAST_VERSION}
@@ -12,7 +12,7 @@ use Rattle.kc_list.specs.Plain.{Plain}
 use Rattle.kc_table.specs.declared.entry.Entry.{Entry}
 use Rattle.kc_table.specs.declared.view.Event.{Event}
 use Rattle.kc_table.specs.Log.{Seen, TableName, event, value_at}
-use Rattle.kc_table.specs.State.{state_of, first_vertex}
+use Rattle.kc_table.specs.TableState.{state_of, first_vertex}
 use Rattle.kc_table.specs.Legal.{Legal, FollowsNote, IsVersioned, version_of}
 use Rattle.kc_order.specs.Standing.{list_after}
 
@@ -54,7 +54,7 @@ vertex_word_after seen v = value_at seen.table.opening seen.log (first_vertex se
 
 -- What a call leaves beside the list: these entries, these vertices put and not sealed, and these words of the vertices; and nothing is
 -- announced.
-pub record Leaves (new : Seen) (entries : List Entry) (unsealed : List ℕ) (words : ℕ → ℕ) : Type 0 where
+pub record LeavesBeside (new : Seen) (entries : List Entry) (unsealed : List ℕ) (words : ℕ → ℕ) : Type 0 where
   pub entries_are : entries_after new ≡ entries
   pub unsealed_are : unsealed_after new ≡ unsealed
   pub words_are : (v : ℕ) → vertex_word_after new v ≡ words v
@@ -74,7 +74,7 @@ pub record Puts (old new : Seen) (x p : ℕ) : Type 0 where
   pub ends : EndsWith old new (Put x p) x
   pub list : list_after new.table new.log ≡ right_after x p (without x (list_after old.table old.log))
   pub raised : AreRaised 2 old new
-  pub leaves : Leaves new (entries_after old) (with_open old.table.shape.fixed x (unsealed_after old)) (vertex_word_after old)
+  pub leaves : LeavesBeside new (entries_after old) (with_open old.table.shape.fixed x (unsealed_after old)) (vertex_word_after old)
 
 -- x is out now, by the note and one store of its word; no other label has changed
 pub record Takes (old new : Seen) (x : ℕ) : Type 0 where
@@ -83,7 +83,7 @@ pub record Takes (old new : Seen) (x : ℕ) : Type 0 where
   pub single : new.log ≡ old.log ++ event 0 (note_word (Take x)) ∷ event (1 + x) value ∷ []
   pub list : list_after new.table new.log ≡ without x (list_after old.table old.log)
   pub raised : AreRaised 1 old new
-  pub leaves : Leaves new (entries_after old) (unsealed_after old) (vertex_word_after old)
+  pub leaves : LeavesBeside new (entries_after old) (unsealed_after old) (vertex_word_after old)
 
 -- puts one after the other, each of an item right after another
 abbrev pub PutsEach : Seen → List (ℕ × ℕ) → Seen → Type 0

@@ -5,7 +5,7 @@
 ghost use Rattle.std.specs.Prelude.{◌≡◌, ◌≢◌, ◌<◌, ◌≤◌, ◌+◌, ◌↔◌, IfErr, IfNone, IfOk, IfSome, IsTrue};
 ghost use mathlib.Core.List.{IsPrefix};
 ghost use Rattle.kc_table.specs.Legal.{Legal};
-ghost use Rattle.kc_table.specs.State.{word_count};
+ghost use Rattle.kc_table.specs.TableState.{word_count};
 ghost use Rattle.kc_words.specs.ItemWord.{item_of};
 ghost use Rattle.kc_order.specs.Collected.{IsCollect, PairLess, words_of};
 ghost use Rattle.kc_order.specs.Standing.{Compares, EndsCollect, EndsSecond, FindsOther, FindsSame, FoundOut, LoadsOther, LoadsWord, Steps};

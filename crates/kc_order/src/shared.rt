@@ -22,23 +22,23 @@ const LAST_HIGHEST: u32 = LAST_VERSION - 3;
 
 /// The value behind the lock: the writer of K's table, which has no vertices.
 #[derive(Drop)]
-struct Kept<K: Name> {
+struct LockedWriter<K: Name> {
     writer: Writer,
     of: PhantomData<K>,
-    ghost of_table: { writer.table ≡ K.table },
-    ghost no_vertices: { K.table.shape.fixed ≡ 0 },
+    ghost of_table: { writer.table ≡ K.opened.table },
+    ghost no_vertices: { K.opened.table.shape.fixed ≡ 0 },
 }
 
-impl<K: Name> Kept<K> {
+impl<K: Name> LockedWriter<K> {
     /// Tells the pass the log, and says whether the item is in the list and versions are left.
     fn look(&mut self, words: &Words, pass: &mut Pass, item: u32) -> Result<(), OrderFault>
-        requires table { (pass.old.table ≡ K.table) × (words.now ≡ K.table) }
-        requires item { item < K.table.shape.items }
+        requires table { (pass.old.table ≡ K.opened.table) × (words.now ≡ K.opened.table) }
+        requires item { item < K.opened.table.shape.items }
         ensures writer { self.new.writer ≡ self.old.writer }
         ensures pass { pass.new ≡ record { table = self.new.writer.table; log = self.new.writer.log; loads = 0; splits = 0 } }
         ensures longer { IsPrefix pass.old.log pass.new.log }
-        ensures ready { OnOk result (IsReady K.table pass.new.log item) }
-        ensures refused { IfErr result (λ fault. IsRefusal K.table pass.new.log item fault) }
+        ensures ready { OnOk result (IsReady K.opened.table pass.new.log item) }
+        ensures refused { IfErr result (λ fault. IsRefusal K.opened.table pass.new.log item fault) }
     {
         self.writer.tell(words, pass);
         if !self.writer.present(item) {
@@ -59,17 +59,17 @@ impl<K: Name> Kept<K> {
         x: u32,
         p: u32,
     ) -> Result<(), OrderFault>
-        requires table { (pass.old.table ≡ K.table) × (words.now ≡ K.table) }
-        requires items { (x < K.table.shape.items) × (p < K.table.shape.items) }
+        requires table { (pass.old.table ≡ K.opened.table) × (words.now ≡ K.opened.table) }
+        requires items { (x < K.opened.table.shape.items) × (p < K.opened.table.shape.items) }
         requires differ { x ≢ p }
         ensures alone { OnOk result (Puts self.old.writer self.new.writer x p) }
         ensures same { OnErr result (self.new.writer ≡ self.old.writer) }
-        ensures table { pass.new.table ≡ K.table }
+        ensures table { pass.new.table ≡ K.opened.table }
         ensures told { pass.new.log ≡ self.new.writer.log }
         ensures anew { (pass.new.loads ≡ 0) × (pass.new.splits ≡ 0) }
         ensures longer { IsPrefix pass.old.log pass.new.log }
-        ensures put { OnOk result (EndsWithPut K.table pass.old.log pass.new.log x p) }
-        ensures refused { IfErr result (λ fault. IsRefusal K.table pass.new.log p fault) }
+        ensures put { OnOk result (EndsWithPut K.opened.table pass.old.log pass.new.log x p) }
+        ensures refused { IfErr result (λ fault. IsRefusal K.opened.table pass.new.log p fault) }
     {
         self.look(words, pass, p)?;
         self.writer.put_after(words, x, p);
@@ -79,16 +79,16 @@ impl<K: Name> Kept<K> {
 
     /// One take and nothing else, or a refusal at which nothing is stored; and the pass is told the log.
     fn take(&mut self, words: &Words, pass: &mut Pass, x: u32) -> Result<(), OrderFault>
-        requires table { (pass.old.table ≡ K.table) × (words.now ≡ K.table) }
-        requires item { x < K.table.shape.items }
+        requires table { (pass.old.table ≡ K.opened.table) × (words.now ≡ K.opened.table) }
+        requires item { x < K.opened.table.shape.items }
         ensures alone { OnOk result (Takes self.old.writer self.new.writer x) }
         ensures same { OnErr result (self.new.writer ≡ self.old.writer) }
-        ensures table { pass.new.table ≡ K.table }
+        ensures table { pass.new.table ≡ K.opened.table }
         ensures told { pass.new.log ≡ self.new.writer.log }
         ensures anew { (pass.new.loads ≡ 0) × (pass.new.splits ≡ 0) }
         ensures longer { IsPrefix pass.old.log pass.new.log }
-        ensures taken { OnOk result (EndsWithTake K.table pass.old.log pass.new.log x) }
-        ensures refused { IfErr result (λ fault. IsRefusal K.table pass.new.log x fault) }
+        ensures taken { OnOk result (EndsWithTake K.opened.table pass.old.log pass.new.log x) }
+        ensures refused { IfErr result (λ fault. IsRefusal K.opened.table pass.new.log x fault) }
     {
         self.look(words, pass, x)?;
         self.writer.take(words, x);
@@ -101,19 +101,19 @@ impl<K: Name> Kept<K> {
 #[derive(Drop)]
 pub struct SharedOrder<K: Name> {
     words: Words,
-    kept: Mutex<Kept<K>>,
-    ghost of_table: { words ≡ K.table },
+    kept: Mutex<LockedWriter<K>>,
+    ghost of_table: { words ≡ K.opened.table },
 }
 
 impl<K: Name> SharedOrder<K> {
     /// The list of K's table. It takes no memory.
     pub fn new(words: Words, writer: Writer) -> SharedOrder<K>
-        requires table { (words ≡ K.table) × (writer.table ≡ K.table) }
-        requires no_vertices { K.table.shape.fixed ≡ 0 }
+        requires table { (words ≡ K.opened.table) × (writer.table ≡ K.opened.table) }
+        requires no_vertices { K.opened.table.shape.fixed ≡ 0 }
     {
         SharedOrder {
             words,
-            kept: Mutex::new(Kept {
+            kept: Mutex::new(LockedWriter {
                 writer,
                 of: PhantomData,
             }),
@@ -122,7 +122,7 @@ impl<K: Name> SharedOrder<K> {
 
     /// The words, for loads and passes.
     pub fn words(&self) -> &Words
-        ensures { result.now ≡ K.table }
+        ensures { result.now ≡ K.opened.table }
     {
         &self.words
     }
@@ -142,36 +142,36 @@ impl<K: Name> SharedOrder<K> {
         x: u32,
         p: u32,
     ) -> Result<(), OrderFault>
-        requires table { pass.old.table ≡ K.table }
-        requires items { (x < K.table.shape.items) × (p < K.table.shape.items) }
+        requires table { pass.old.table ≡ K.opened.table }
+        requires items { (x < K.opened.table.shape.items) × (p < K.opened.table.shape.items) }
         requires differ { x ≢ p }
-        ensures table { pass.new.table ≡ K.table }
+        ensures table { pass.new.table ≡ K.opened.table }
         ensures anew { (pass.new.loads ≡ 0) × (pass.new.splits ≡ 0) }
         ensures longer { IsPrefix pass.old.log pass.new.log }
-        ensures put { OnOk result (EndsWithPut K.table pass.old.log pass.new.log x p) }
-        ensures refused { IfErr result (λ fault. IsRefusal K.table pass.new.log p fault) }
+        ensures put { OnOk result (EndsWithPut K.opened.table pass.old.log pass.new.log x p) }
+        ensures refused { IfErr result (λ fault. IsRefusal K.opened.table pass.new.log p fault) }
     {
         self.kept.lock(rt).put_after(&self.words, pass, x, p)
     }
 
     /// Takes `x` out, under the lock, with the same refusals of `x`. What is said of other changes at `put_after` is so here too.
     pub fn take<R: Wait>(&self, rt: &R, pass: &mut Pass, x: u32) -> Result<(), OrderFault>
-        requires table { pass.old.table ≡ K.table }
-        requires item { x < K.table.shape.items }
-        ensures table { pass.new.table ≡ K.table }
+        requires table { pass.old.table ≡ K.opened.table }
+        requires item { x < K.opened.table.shape.items }
+        ensures table { pass.new.table ≡ K.opened.table }
         ensures anew { (pass.new.loads ≡ 0) × (pass.new.splits ≡ 0) }
         ensures longer { IsPrefix pass.old.log pass.new.log }
-        ensures taken { OnOk result (EndsWithTake K.table pass.old.log pass.new.log x) }
-        ensures refused { IfErr result (λ fault. IsRefusal K.table pass.new.log x fault) }
+        ensures taken { OnOk result (EndsWithTake K.opened.table pass.old.log pass.new.log x) }
+        ensures refused { IfErr result (λ fault. IsRefusal K.opened.table pass.new.log x fault) }
     {
         self.kept.lock(rt).take(&self.words, pass, x)
     }
 
     /// How two items stand, as `precedes` tells. It takes no lock.
     pub fn precedes(&self, pass: &mut Pass, x: u32, y: u32) -> Answer
-        requires table { pass.old.table ≡ K.table }
-        requires items { (x < K.table.shape.items) × (y < K.table.shape.items) }
-        ensures table { pass.new.table ≡ K.table }
+        requires table { pass.old.table ≡ K.opened.table }
+        requires items { (x < K.opened.table.shape.items) × (y < K.opened.table.shape.items) }
+        ensures table { pass.new.table ≡ K.opened.table }
         ensures longer { IsPrefix pass.old.log pass.new.log }
         ensures answer { Compares pass.old pass.new x y result }
     {

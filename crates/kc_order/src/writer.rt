@@ -5,15 +5,15 @@
 ghost use Rattle.std.specs.Prelude.{◌≡◌, ◌≢◌, ◌<◌, ◌≤◌, ◌+◌, ◌*◌, ◌++◌, ◌∷◌, ◌↔◌, ◌==◌, if◌then◌else◌, ℕ, [], true, length, slice_index};
 ghost use Rattle.std.specs.Prelude.{IfOk, IsTrue, MatchOption};
 ghost use mathlib.Core.List.{IsPrefix};
-ghost use Rattle.kc_distinct.specs.Lists.{Distinct, member, next_of, prev_of, without};
+ghost use Rattle.kc_lists.specs.Lists.{Distinct, member, next_of, prev_of, without};
 ghost use Rattle.kc_words.specs.NoteWord.{note_word};
 ghost use Rattle.kc_words.specs.VertexWord.{vertex_of, vertex_word};
 ghost use Rattle.kc_words.specs.declared.note.NoteWord.TheVariants.{Enter};
 ghost use Rattle.kc_table.specs.Legal.{Legal, MayPut, Seals};
-ghost use Rattle.kc_table.specs.State.{first_vertex, state_of};
+ghost use Rattle.kc_table.specs.TableState.{first_vertex, state_of};
 ghost use Rattle.kc_order.specs.Standing.{StandsBefore, list_after};
 ghost use Rattle.kc_order.specs.Runs.{IsRunBefore, MovesRun};
-ghost use Rattle.kc_order.specs.Writers.{AreOpeningWords, HasRoom, HasVersionsLeft, IsHighest, Leaves, Puts, Stores, Takes};
+ghost use Rattle.kc_order.specs.Writers.{AreOpeningWords, HasRoom, HasVersionsLeft, IsHighest, LeavesBeside, Puts, Stores, Takes};
 ghost use Rattle.kc_order.specs.Writers.{entries_after, unsealed_after, vertex_word_after};
 
 use crate::NoMemory;
@@ -125,7 +125,7 @@ impl Writer {
         requires fits { (update.u < VERTICES) × (update.v < VERTICES) }
         requires closed { (state_of self.old.table.shape self.old.table.opening self.old.log).unsealed ≡ [] }
         ensures stored { Stores self.old self.new 0 (note_word (Enter update.add index update.u update.v)) }
-        ensures leaves { Leaves self.new (entries_after self.old ++ record { index = index; add = update.add; u = update.u; v = update.v } ∷ []) []
+        ensures leaves { LeavesBeside self.new (entries_after self.old ++ record { index = index; add = update.add; u = update.u; v = update.v } ∷ []) []
             (vertex_word_after self.old) }
     {
         let note = NoteWord::Enter {
@@ -144,7 +144,7 @@ impl Writer {
         requires section { Seals words.now.shape
             (state_of self.old.table.shape self.old.table.opening self.old.log) v (vertex_word (record { stamp = stamp; core = core })) }
         ensures stored { Stores self.old self.new (first_vertex words.now.shape + v) (vertex_word (record { stamp = stamp; core = core })) }
-        ensures leaves { Leaves self.new (entries_after self.old) (without v (unsealed_after self.old))
+        ensures leaves { LeavesBeside self.new (entries_after self.old) (without v (unsealed_after self.old))
             (λ w. if w == v then vertex_word (record { stamp = stamp; core = core }) else vertex_word_after self.old w) }
     {
         let word = shape(words).vertex(v);

@@ -22,7 +22,7 @@ struct Handed<K: Name> {
     item: u32,
     pass: Pass,
     of: PhantomData<K>,
-    ghost of_table: { pass.table ≡ K.table },
+    ghost of_table: { pass.table ≡ K.opened.table },
     ghost within: { item ≤ 10000 },
 }
 
@@ -37,10 +37,10 @@ fn put_one<K: Name, R: Wait + Abort>(
     pass: &mut Pass,
     item: u32,
 )
-    requires table { pass.old.table ≡ K.table }
-    requires items { PUTS < K.table.shape.items }
+    requires table { pass.old.table ≡ K.opened.table }
+    requires items { PUTS < K.opened.table.shape.items }
     requires item { (0 < item) × (item ≤ PUTS) }
-    ensures { pass.new.table ≡ K.table }
+    ensures { pass.new.table ≡ K.opened.table }
 {
     put_after_0(rt, shared, pass, item);
     let next = Handed {
@@ -58,8 +58,8 @@ fn put_all<K: Name, R: Wait + Abort>(
     waiting: &Waiting<K>,
     mut pass: Pass,
 )
-    requires table { pass.table ≡ K.table }
-    requires items { PUTS < K.table.shape.items }
+    requires table { pass.table ≡ K.opened.table }
+    requires items { PUTS < K.opened.table.shape.items }
 {
     for item in 1..=PUTS {
         put_one(rt, shared, waiting, &mut pass, item);
@@ -68,9 +68,9 @@ fn put_all<K: Name, R: Wait + Abort>(
 
 /// Meets what was handed over, and compares 0 with its item. The item is in the list and behind 0.
 fn meet_one<K: Name, R: Abort>(rt: &R, shared: &SharedOrder<K>, pass: &mut Pass, next: Handed<K>)
-    requires table { pass.old.table ≡ K.table }
-    requires items { PUTS < K.table.shape.items }
-    ensures { pass.new.table ≡ K.table }
+    requires table { pass.old.table ≡ K.opened.table }
+    requires items { PUTS < K.opened.table.shape.items }
+    ensures { pass.new.table ≡ K.opened.table }
 {
     let Handed {
         item,
@@ -92,8 +92,8 @@ fn meet_all<K: Name, R: Wait + Abort>(
     waiting: &Waiting<K>,
     mut pass: Pass,
 )
-    requires table { pass.table ≡ K.table }
-    requires items { PUTS < K.table.shape.items }
+    requires table { pass.table ≡ K.opened.table }
+    requires items { PUTS < K.opened.table.shape.items }
 {
     let mut met = 0;
     for _ in rt.forever() {
@@ -116,8 +116,8 @@ fn put_and_meet<K: Name + Send + Sync, R: Threads + Wait + Abort + Sync>(
     writer: Writer,
     mut pass: Pass,
 )
-    requires table { (words ≡ K.table) × (writer.table ≡ K.table) × (pass.table ≡ K.table) }
-    requires shape { (PUTS < K.table.shape.items) × (K.table.shape.fixed ≡ 0) }
+    requires table { (words ≡ K.opened.table) × (writer.table ≡ K.opened.table) × (pass.table ≡ K.opened.table) }
+    requires shape { (PUTS < K.opened.table.shape.items) × (K.opened.table.shape.fixed ≡ 0) }
 {
     let shared = &SharedOrder::<K>::new(words, writer);
     let waiting = &Mutex::new(VecDeque::new(alloc));
@@ -125,10 +125,10 @@ fn put_and_meet<K: Name + Send + Sync, R: Threads + Wait + Abort + Sync>(
     thread::join(
         rt,
         move ||
-            requires { (other.table ≡ K.table) × (PUTS < K.table.shape.items) }
+            requires { (other.table ≡ K.opened.table) × (PUTS < K.opened.table.shape.items) }
         { put_all(rt, shared, waiting, other) },
         move ||
-            requires { (pass.table ≡ K.table) × (PUTS < K.table.shape.items) }
+            requires { (pass.table ≡ K.opened.table) × (PUTS < K.opened.table.shape.items) }
         { meet_all(rt, shared, waiting, pass) },
     );
 }

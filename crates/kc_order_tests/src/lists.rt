@@ -101,9 +101,9 @@ pub(crate) fn ask<K: Name, R: Abort>(
     y: u32,
     wanted: Answer,
 )
-    requires table { pass.old.table ≡ K.table }
-    requires items { (x < K.table.shape.items) × (y < K.table.shape.items) }
-    ensures { pass.new.table ≡ K.table }
+    requires table { pass.old.table ≡ K.opened.table }
+    requires items { (x < K.opened.table.shape.items) × (y < K.opened.table.shape.items) }
+    ensures { pass.new.table ≡ K.opened.table }
 {
     assert_eq!(rt; shared.precedes(pass, x, y), wanted);
 }
@@ -115,9 +115,9 @@ pub(crate) fn put_after_0<K: Name, R: Wait + Abort>(
     pass: &mut Pass,
     x: u32,
 )
-    requires table { pass.old.table ≡ K.table }
-    requires item { (0 < x) × (x < K.table.shape.items) }
-    ensures { pass.new.table ≡ K.table }
+    requires table { pass.old.table ≡ K.opened.table }
+    requires item { (0 < x) × (x < K.opened.table.shape.items) }
+    ensures { pass.new.table ≡ K.opened.table }
 {
     assert_eq!(rt; shared.put_after(rt, pass, x, 0), Ok(()));
 }
@@ -130,18 +130,18 @@ pub(crate) fn take<K: Name, R: Wait + Abort>(
     x: u32,
     wanted: Result<(), OrderFault>,
 )
-    requires table { pass.old.table ≡ K.table }
-    requires item { x < K.table.shape.items }
-    ensures { pass.new.table ≡ K.table }
+    requires table { pass.old.table ≡ K.opened.table }
+    requires item { x < K.opened.table.shape.items }
+    ensures { pass.new.table ≡ K.opened.table }
 {
     assert_eq!(rt; shared.take(rt, pass, x), wanted);
 }
 
 /// Each of the first five of a short list stands before the next.
 fn ask_each_pair<K: Name, R: Abort>(rt: &R, shared: &SharedOrder<K>, pass: &mut Pass)
-    requires table { pass.old.table ≡ K.table }
-    requires items { K.table.shape.items ≡ 6 }
-    ensures { pass.new.table ≡ K.table }
+    requires table { pass.old.table ≡ K.opened.table }
+    requires items { K.opened.table.shape.items ≡ 6 }
+    ensures { pass.new.table ≡ K.opened.table }
 {
     for k in 0..4 {
         ask(rt, shared, pass, k, k + 1, Answer::Before);
@@ -151,8 +151,8 @@ fn ask_each_pair<K: Name, R: Abort>(rt: &R, shared: &SharedOrder<K>, pass: &mut 
 
 /// Row by row: one item, a take, and the rest of a short list.
 fn ask_a_short_list<K: Name, R: Wait + Abort>(rt: &R, words: Words, writer: Writer, mut pass: Pass)
-    requires table { (words ≡ K.table) × (writer.table ≡ K.table) × (pass.table ≡ K.table) }
-    requires shape { (K.table.shape.items ≡ 6) × (K.table.shape.fixed ≡ 0) }
+    requires table { (words ≡ K.opened.table) × (writer.table ≡ K.opened.table) × (pass.table ≡ K.opened.table) }
+    requires shape { (K.opened.table.shape.items ≡ 6) × (K.opened.table.shape.fixed ≡ 0) }
 {
     let shared = SharedOrder::<K>::new(words, writer);
     ask(rt, &shared, &mut pass, 3, 3, Answer::Same);
@@ -181,9 +181,9 @@ const MANY: u32 = 100_000;
 
 /// Puts 1, 2 and so on, each right after 0, so that they stand from the last put to the first.
 fn put_each_after_0<K: Name, R: Wait + Abort>(rt: &R, shared: &SharedOrder<K>, pass: &mut Pass)
-    requires table { pass.old.table ≡ K.table }
-    requires items { MANY < K.table.shape.items }
-    ensures { pass.new.table ≡ K.table }
+    requires table { pass.old.table ≡ K.opened.table }
+    requires items { MANY < K.opened.table.shape.items }
+    ensures { pass.new.table ≡ K.opened.table }
 {
     for x in 1..=MANY {
         put_after_0(rt, shared, pass, x);
@@ -191,8 +191,8 @@ fn put_each_after_0<K: Name, R: Wait + Abort>(rt: &R, shared: &SharedOrder<K>, p
 }
 
 fn ask_a_long_list<K: Name, R: Wait + Abort>(rt: &R, words: Words, writer: Writer, mut pass: Pass)
-    requires table { (words ≡ K.table) × (writer.table ≡ K.table) × (pass.table ≡ K.table) }
-    requires shape { (MANY < K.table.shape.items) × (K.table.shape.fixed ≡ 0) }
+    requires table { (words ≡ K.opened.table) × (writer.table ≡ K.opened.table) × (pass.table ≡ K.opened.table) }
+    requires shape { (MANY < K.opened.table.shape.items) × (K.opened.table.shape.fixed ≡ 0) }
 {
     let shared = SharedOrder::<K>::new(words, writer);
     put_each_after_0(rt, &shared, &mut pass);

@@ -20,7 +20,7 @@ struct Over<K: Name> {
     round: u32,
     pass: Pass,
     of: PhantomData<K>,
-    ghost of_table: { pass.table ≡ K.table },
+    ghost of_table: { pass.table ≡ K.opened.table },
     ghost within: { (0 < round) × (round ≤ 30000) },
 }
 
@@ -34,10 +34,10 @@ fn put_and_take<K: Name, R: Wait + Abort>(
     pass: &mut Pass,
     round: u32,
 )
-    requires table { pass.old.table ≡ K.table }
-    requires items { 2 * ROUNDS < K.table.shape.items }
+    requires table { pass.old.table ≡ K.opened.table }
+    requires items { 2 * ROUNDS < K.opened.table.shape.items }
     requires round { (0 < round) × (round ≤ ROUNDS) }
-    ensures { pass.new.table ≡ K.table }
+    ensures { pass.new.table ≡ K.opened.table }
 {
     let (goes, stays) = (2 * round - 1, 2 * round);
     put_after_0(rt, shared, pass, goes);
@@ -47,9 +47,9 @@ fn put_and_take<K: Name, R: Wait + Abort>(
 
 /// What a round that is over hands to the thread that compares.
 fn end_round<K: Name>(shared: &SharedOrder<K>, pass: &mut Pass, round: u32) -> Over<K>
-    requires table { pass.old.table ≡ K.table }
+    requires table { pass.old.table ≡ K.opened.table }
     requires round { (0 < round) × (round ≤ ROUNDS) }
-    ensures { pass.new.table ≡ K.table }
+    ensures { pass.new.table ≡ K.opened.table }
 {
     Over {
         round,
@@ -65,8 +65,8 @@ fn put_and_take_all<K: Name, R: Wait + Abort>(
     newest: &Newest<K>,
     mut pass: Pass,
 )
-    requires table { pass.table ≡ K.table }
-    requires items { 2 * ROUNDS < K.table.shape.items }
+    requires table { pass.table ≡ K.opened.table }
+    requires items { 2 * ROUNDS < K.opened.table.shape.items }
 {
     for round in 1..=ROUNDS {
         put_and_take(rt, shared, &mut pass, round);
@@ -96,10 +96,10 @@ impl Told {
 
     /// Compares items of which the thread was told. Those that stayed stand from the last to the first, and will.
     fn compare<K: Name, R: Abort>(&mut self, rt: &R, shared: &SharedOrder<K>, pass: &mut Pass)
-        requires table { pass.old.table ≡ K.table }
-        requires items { 2 * ROUNDS < K.table.shape.items }
+        requires table { pass.old.table ≡ K.opened.table }
+        requires items { 2 * ROUNDS < K.opened.table.shape.items }
         requires round { (0 < self.old.round) × (self.old.round ≤ ROUNDS) }
-        ensures table { pass.new.table ≡ K.table }
+        ensures table { pass.new.table ≡ K.opened.table }
         ensures round { self.new.round ≡ self.old.round }
     {
         let (last, middle) = (2 * self.round, 2 * self.round.div_ceil(2));
@@ -115,9 +115,9 @@ impl Told {
 
     /// Takes in a round that is over, if there is one.
     fn learn<K: Name>(&mut self, shared: &SharedOrder<K>, pass: &mut Pass, newest: Option<Over<K>>)
-        requires table { pass.old.table ≡ K.table }
+        requires table { pass.old.table ≡ K.opened.table }
         requires round { self.old.round ≤ ROUNDS }
-        ensures table { pass.new.table ≡ K.table }
+        ensures table { pass.new.table ≡ K.opened.table }
         ensures round { self.new.round ≤ ROUNDS }
     {
         if let Some(over) = newest {
@@ -139,9 +139,9 @@ fn compare_what_is_put<K: Name, R: Abort>(
     pass: &mut Pass,
     item: u32,
 )
-    requires table { pass.old.table ≡ K.table }
-    requires item { (0 < item) × (item < K.table.shape.items) }
-    ensures { pass.new.table ≡ K.table }
+    requires table { pass.old.table ≡ K.opened.table }
+    requires item { (0 < item) × (item < K.opened.table.shape.items) }
+    ensures { pass.new.table ≡ K.opened.table }
 {
     let answer = shared.precedes(pass, 0, item);
     assert!(rt; answer != Answer::After && answer != Answer::Same);
@@ -154,8 +154,8 @@ fn compare_all<K: Name, R: Wait + Abort>(
     newest: &Newest<K>,
     mut pass: Pass,
 )
-    requires table { pass.table ≡ K.table }
-    requires items { 2 * ROUNDS + 2 < K.table.shape.items }
+    requires table { pass.table ≡ K.opened.table }
+    requires items { 2 * ROUNDS + 2 < K.opened.table.shape.items }
 {
     let mut told = Told { round: 0, sure: 0 };
     for _ in rt.forever() {
@@ -179,8 +179,8 @@ fn compare_at_rest<K: Name, R: Abort>(
     mut pass: Pass,
     mut told: Told,
 )
-    requires table { pass.table ≡ K.table }
-    requires items { 2 * ROUNDS < K.table.shape.items }
+    requires table { pass.table ≡ K.opened.table }
+    requires items { 2 * ROUNDS < K.opened.table.shape.items }
     requires round { told.round ≤ ROUNDS }
 {
     assert_eq!(rt; told.round, ROUNDS);
@@ -195,8 +195,8 @@ fn race<K: Name + Send + Sync, R: Threads + Wait + Abort + Sync>(
     writer: Writer,
     mut pass: Pass,
 )
-    requires table { (words ≡ K.table) × (writer.table ≡ K.table) × (pass.table ≡ K.table) }
-    requires shape { (2 * ROUNDS + 2 < K.table.shape.items) × (K.table.shape.fixed ≡ 0) }
+    requires table { (words ≡ K.opened.table) × (writer.table ≡ K.opened.table) × (pass.table ≡ K.opened.table) }
+    requires shape { (2 * ROUNDS + 2 < K.opened.table.shape.items) × (K.opened.table.shape.fixed ≡ 0) }
 {
     let shared = &SharedOrder::<K>::new(words, writer);
     let newest = &Mutex::new(None);
@@ -204,10 +204,10 @@ fn race<K: Name + Send + Sync, R: Threads + Wait + Abort + Sync>(
     thread::join(
         rt,
         move ||
-            requires { (other.table ≡ K.table) × (2 * ROUNDS + 2 < K.table.shape.items) }
+            requires { (other.table ≡ K.opened.table) × (2 * ROUNDS + 2 < K.opened.table.shape.items) }
         { put_and_take_all(rt, shared, newest, other) },
         move ||
-            requires { (pass.table ≡ K.table) × (2 * ROUNDS + 2 < K.table.shape.items) }
+            requires { (pass.table ≡ K.opened.table) × (2 * ROUNDS + 2 < K.opened.table.shape.items) }
         { compare_all(rt, shared, newest, pass) },
     );
 }

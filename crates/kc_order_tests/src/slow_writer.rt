@@ -4,7 +4,7 @@
 //! the table stand open, tied in the same way, so that the same stores are made in parts.
 ghost use Rattle.std.specs.Prelude.{◌≡◌, ◌≢◌, ◌<◌, ◌≤◌, ◌+◌, ◌*◌, ◌++◌, ◌∷◌, ◌↔◌, ℕ, [], true, length, IfOk, IsTrue};
 ghost use mathlib.Core.List.{IsPrefix};
-ghost use Rattle.kc_distinct.specs.Lists.{Distinct, member};
+ghost use Rattle.kc_lists.specs.Lists.{Distinct, member};
 ghost use Rattle.kc_words.specs.NoteWord.{IsFitting, note_word};
 ghost use Rattle.kc_table.specs.Legal.{Legal};
 ghost use Rattle.kc_order.specs.Standing.{list_after};

@@ -1,25 +1,25 @@
 //! The lines about batches.
 ghost use Rattle.std.specs.Prelude.{◌≡◌, ◌≤◌, ◌<◌, ◌+◌, ◌++◌, ◌∷◌, [], List, IfOk, OnOk, length, map};
 ghost use Rattle.kc_graph.specs.declared.update.Update.{Update};
-ghost use Rattle.kc_effects.specs.Batches.{graph_after_batch};
-ghost use Rattle.kc_text.specs.Inputs.{IsBatch, parts_of};
+ghost use Rattle.kc_batch_effects.specs.Batches.{graph_after_batch};
+ghost use Rattle.kc_text.specs.Inputs.{IsBatch, parts_of, parts_of_batch};
 ghost use Rattle.kc_text.specs.declared.limits.TheConstants.{MOST_UPDATES};
 ghost use Rattle.kc_words.specs.declared.layout.TheConstants.{INDICES};
 ghost use Rattle.kc_batch.specs.Batches.{receipts_in};
-ghost use Rattle.kc_course.specs.Courses.{HasWorked};
+ghost use Rattle.kc_run.specs.Courses.{HasWorked};
 ghost use Rattle.kc_snapshot.specs.declared.publisher.TheConstants.{MOST_LISTS};
-ghost use Rattle.kc_output.specs.Limits.{AreWithinLimits, batches_of, counted_batch, lists_of};
+ghost use Rattle.kc_output.specs.Inputs.{IsSound, updates_of};
 ghost use Rattle.kc_output.specs.Screens.{HasShown};
 ghost use Rattle.kc_output.specs.Text.{TellsBatches, line_about, shown_each};
 
-use crate::batches::Batches;
 use crate::numbers::put_each;
 use crate::screen::Screen;
 use crate::setting::Setting;
-use kc_course::{Course, Ran};
-use kc_graph::{NoMemory, Update};
+use kc_graph::NoMemory;
 use kc_report::{Line, summary};
+use kc_run::{Course, Ran};
 use kc_snapshot::BoardName;
+use kc_text::{Batch, Input};
 use kc_workers::Gate;
 use std::alloc::Global;
 use std::sync::Wait;
@@ -40,24 +40,23 @@ impl<G: Gate + Sync, R: Threads + Wait + Sync> Work<'_, G, R> {
         &self,
         number: u32,
         course: Course,
-        updates: &[Update],
-        overruled: u32,
+        batch: &Batch,
         text: &mut Vec<u8>,
         ran: &mut Ran,
     ) -> Result<Course, NoMemory>
-        requires batch { IsBatch course.journal.graph.size updates.now }
-        requires few { length updates.now ≤ MOST_UPDATES }
-        requires indices { length course.journal.entries + length updates.now ≤ INDICES }
-        ensures graph { IfOk result (λ new. new.journal.graph ≡ graph_after_batch course.journal.graph (map parts_of updates.now)) }
+        requires batch { IsBatch course.journal.graph.size batch.now.updates.items }
+        requires few { length batch.now.updates.items ≤ MOST_UPDATES }
+        requires indices { length course.journal.entries + length batch.now.updates.items ≤ INDICES }
+        ensures graph { IfOk result (λ new. new.journal.graph ≡ graph_after_batch course.journal.graph (map parts_of batch.now.updates.items)) }
         ensures started { IfOk result (λ new. new.journal.started ≡ course.journal.started) }
-        ensures entries { IfOk result (λ new. length new.journal.entries ≡ length course.journal.entries + length updates.now) }
+        ensures entries { IfOk result (λ new. length new.journal.entries ≡ length course.journal.entries + length batch.now.updates.items) }
         ensures text { IfOk result (λ new. text.new.items ≡ text.old.items
-            ++ line_about number course.journal.graph (counted_batch updates.now overruled) new.journal.levels.core) }
+            ++ line_about number course.journal.graph (parts_of_batch batch.now) new.journal.levels.core) }
         ensures worked { IfOk result (λ new. (batches : List (List Update))
             → HasWorked batches ran.old.tables.items (receipts_in ran.old.shares.items) course.journal
-            → HasWorked (batches ++ updates.now ∷ []) ran.new.tables.items (receipts_in ran.new.shares.items) new.journal) }
+            → HasWorked (batches ++ batch.now.updates.items ∷ []) ran.new.tables.items (receipts_in ran.new.shares.items) new.journal) }
     {
-        let (course, counts) = course.work(self.rt, self.alloc, updates, self.gate, ran);
+        let (course, counts) = course.work(self.rt, self.alloc, &batch.updates, self.gate, ran);
         let Ok(counts) = counts else {
             return Err(NoMemory);
         };
@@ -66,7 +65,7 @@ impl<G: Gate + Sync, R: Threads + Wait + Sync> Work<'_, G, R> {
             added: counts.added,
             removed: counts.removed,
             kept: counts.kept,
-            overruled,
+            overruled: batch.overruled,
             edges: course.edges(),
             top: course.top(),
         };
@@ -103,27 +102,27 @@ impl<G: Gate + Sync, R: Threads + Wait + Sync> Work<'_, G, R> {
     pub(crate) fn put_batches<J: BoardName>(
         &self,
         mut course: Course,
-        batches: &Batches,
+        input: &Input,
         mut screen: Option<Screen<'_, J, R>>,
         text: &mut Vec<u8>,
         ran: &mut Ran,
     ) -> Result<Course, NoMemory>
-        requires within { AreWithinLimits course.journal.graph.size batches.now }
+        requires sound { IsSound input.now }
+        requires size { length input.now.ids.items ≡ course.journal.graph.size }
         requires begun { course.journal.entries ≡ [] }
         requires shown { HasShown course.journal.graph.size 1 screen }
-        ensures text { IfOk result (λ new. TellsBatches (shown_each self.now.setting.show batches.now.ids.items) 1 course.journal.graph
-            course.journal.levels.core (batches_of batches.now) text.old.items text.new.items new.journal.levels.core) }
+        ensures text { IfOk result (λ new. TellsBatches (shown_each self.now.setting.show input.now.ids.items) 1 course.journal.graph
+            course.journal.levels.core (map parts_of_batch input.now.batches.items) text.old.items text.new.items new.journal.levels.core) }
         ensures started { IfOk result (λ new. new.journal.started ≡ course.journal.started) }
         ensures size { IfOk result (λ new. new.journal.graph.size ≡ course.journal.graph.size) }
         ensures worked { IfOk result (λ new. HasWorked [] ran.old.tables.items (receipts_in ran.old.shares.items) course.journal
-            → HasWorked (lists_of batches.now) ran.new.tables.items (receipts_in ran.new.shares.items) new.journal) }
+            → HasWorked (updates_of input.now.batches.items) ran.new.tables.items (receipts_in ran.new.shares.items) new.journal) }
     {
         let mut number = 0;
-        for updates in &batches.updates {
-            let overruled = batches.overruled[number as usize];
+        for batch in &input.batches {
             number += 1;
-            course = self.put_batch(number, course, updates, overruled, text, ran)?;
-            screen = self.put_shown(number, screen, &batches.ids, course.core_numbers(), text)?;
+            course = self.put_batch(number, course, batch, text, ran)?;
+            screen = self.put_shown(number, screen, &input.ids, course.core_numbers(), text)?;
         }
         Ok(course)
     }

@@ -1,28 +1,27 @@
 //! The output of a run, as a text.
-ghost use Rattle.std.specs.Prelude.{◌≡◌, ◌++◌, [], IfOk, OnOk, length};
-ghost use Rattle.kc_text.specs.Inputs.{IsInput};
+ghost use Rattle.std.specs.Prelude.{◌≡◌, ◌++◌, [], IfOk, OnOk, length, map};
+ghost use Rattle.kc_text.specs.Inputs.{IsInput, parts_of_batch};
 ghost use Rattle.kc_text.specs.Meaning.{Told};
 ghost use Rattle.kc_batch.specs.Batches.{receipts_in};
-ghost use Rattle.kc_course.specs.Courses.{HasWorked};
-ghost use Rattle.kc_course.specs.Runs.{HasRun, IsEmpty};
-ghost use Rattle.kc_output.specs.Inputs.{HasWorkers, IsSound};
+ghost use Rattle.kc_run.specs.Courses.{HasWorked};
+ghost use Rattle.kc_run.specs.Runs.{HasRun, IsEmpty};
+ghost use Rattle.kc_output.specs.Inputs.{HasWorkers, IsSound, updates_of};
 ghost use Rattle.kc_output.specs.Leaving.{IsLeftFor};
-ghost use Rattle.kc_output.specs.Limits.{AreWithinLimits, batches_of, lists_of};
 ghost use Rattle.kc_output.specs.Screens.{HasShown};
 ghost use Rattle.kc_output.specs.Text.{IsText, IsTextFrom, TellsBatches, TellsRun, first_line, shown_each, shown_rounds};
 
 use crate::batch_lines::Work;
-use crate::batches::{Batches, start_of};
 use crate::begun::begun_from;
 use crate::greatest::greatest;
 use crate::numbers::{put_each, put_end, put_rounds};
 use crate::screen::Screen;
 use crate::setting::Setting;
 use crate::show::Show;
+use crate::start_graph::start_of;
 use crate::start_numbers::numbers_of;
-use kc_course::{Course, Ran};
 use kc_graph::{Graph, Lawful, NoMemory};
 use kc_report::{Line, summary};
+use kc_run::{Course, Ran};
 use kc_snapshot::{Blank, BoardName};
 use kc_text::Input;
 use kc_workers::Gate;
@@ -102,24 +101,26 @@ fn put_worked<J: BoardName, G: Gate + Sync, R: Threads + Wait + Sync>(
     work: &Work<'_, G, R>,
     blank: Blank,
     lawful: Lawful,
-    batches: &Batches,
+    input: &Input,
     text: &mut Vec<u8>,
     ran: &mut Ran,
 ) -> Result<Course, NoMemory>
     requires blank { blank ≡ J.book }
-    requires within { AreWithinLimits lawful.graph.size batches.now }
+    requires sound { IsSound input.now }
+    requires size { length input.now.ids.items ≡ lawful.graph.size }
     requires workers { HasWorkers work.now.setting }
     requires empty { IsEmpty ran.old }
-    ensures text { IfOk result (λ course. TellsBatches (shown_each work.now.setting.show batches.now.ids.items) 1 lawful.graph lawful.core
-        (batches_of batches.now) text.old.items text.new.items course.journal.levels.core) }
+    ensures text { IfOk result (λ course. TellsBatches (shown_each work.now.setting.show input.now.ids.items) 1 lawful.graph lawful.core
+        (map parts_of_batch input.now.batches.items) text.old.items text.new.items course.journal.levels.core) }
     ensures started { IfOk result (λ course. course.journal.started ≡ lawful.graph) }
     ensures size { IfOk result (λ course. course.journal.graph.size ≡ lawful.graph.size) }
-    ensures worked { IfOk result (λ course. HasWorked (lists_of batches.now) ran.new.tables.items (receipts_in ran.new.shares.items) course.journal) }
+    ensures worked { IfOk result (λ course. HasWorked (updates_of input.now.batches.items)
+        ran.new.tables.items (receipts_in ran.new.shares.items) course.journal) }
 {
     let core = lawful.core();
     let screen = screen_of::<J, R>(work.rt, work.alloc, blank, work.setting.show, core)?;
     let course = Course::open(work.alloc, lawful, work.setting.workers)?;
-    work.put_batches(course, batches, screen, text, ran)
+    work.put_batches(course, input, screen, text, ran)
 }
 
 /// Works the batches from this state on, and appends what is written of them and of the end. What the run leaves goes to `ran`.
@@ -127,20 +128,21 @@ fn put_run<J: BoardName, G: Gate + Sync, R: Threads + Wait + Sync>(
     work: &Work<'_, G, R>,
     blank: Blank,
     lawful: Lawful,
-    batches: &Batches,
+    input: &Input,
     text: &mut Vec<u8>,
     ran: &mut Ran,
 ) -> Result<(), NoMemory>
     requires blank { blank ≡ J.book }
-    requires within { AreWithinLimits lawful.graph.size batches.now }
+    requires sound { IsSound input.now }
+    requires size { length input.now.ids.items ≡ lawful.graph.size }
     requires workers { HasWorkers work.now.setting }
     requires empty { IsEmpty ran.old }
-    ensures text { OnOk result (TellsRun work.now.setting batches.now.ids.items lawful.graph lawful.core (batches_of batches.now)
+    ensures text { OnOk result (TellsRun work.now.setting input.now.ids.items lawful.graph lawful.core (map parts_of_batch input.now.batches.items)
         text.old.items text.new.items) }
-    ensures ran { OnOk result (HasRun lawful.graph (lists_of batches.now) ran.new) }
+    ensures ran { OnOk result (HasRun lawful.graph (updates_of input.now.batches.items) ran.new) }
 {
-    let course = put_worked::<J, G, R>(work, blank, lawful, batches, text, ran)?;
-    put_end(text, work.setting, &batches.ids, course.core_numbers())?;
+    let course = put_worked::<J, G, R>(work, blank, lawful, input, text, ran)?;
+    put_end(text, work.setting, &input.ids, course.core_numbers())?;
     let Ok(()) = course.end(ran) else {
         return Err(NoMemory);
     };
@@ -152,19 +154,20 @@ fn worked_text<J: BoardName, G: Gate + Sync, R: Threads + Wait + Sync>(
     work: &Work<'_, G, R>,
     blank: Blank,
     graph: Graph,
-    batches: &Batches,
+    input: &Input,
     ran: &mut Ran,
 ) -> Result<Vec<u8>, NoMemory>
     requires blank { blank ≡ J.book }
-    requires within { AreWithinLimits graph.size batches.now }
+    requires sound { IsSound input.now }
+    requires size { length input.now.ids.items ≡ graph.size }
     requires workers { HasWorkers work.now.setting }
     requires empty { IsEmpty ran.old }
-    ensures text { IfOk result (λ text. IsTextFrom work.now.setting batches.now.ids.items graph (batches_of batches.now) text.items) }
-    ensures ran { OnOk result (HasRun graph (lists_of batches.now) ran.new) }
+    ensures text { IfOk result (λ text. IsTextFrom work.now.setting input.now.ids.items graph (map parts_of_batch input.now.batches.items) text.items) }
+    ensures ran { OnOk result (HasRun graph (updates_of input.now.batches.items) ran.new) }
 {
     let setting = work.setting;
     let begun = begun_from(work.rt, work.alloc, setting.start, graph)?;
-    let ids = &batches.ids;
+    let ids = &input.ids;
     let core = begun.lawful.core();
     let mut text = start_text(
         work.alloc,
@@ -174,7 +177,7 @@ fn worked_text<J: BoardName, G: Gate + Sync, R: Threads + Wait + Sync>(
         core,
         begun.rounds,
     )?;
-    put_run::<J, G, R>(work, blank, begun.lawful, batches, &mut text, ran)?;
+    put_run::<J, G, R>(work, blank, begun.lawful, input, &mut text, ran)?;
     Ok(text)
 }
 
@@ -197,9 +200,9 @@ pub fn text_of<G: Gate + Sync, R: Threads + Wait + Sync>(
     ensures text { IfOk result (λ text. (told : Told) → IsInput told input → IsText setting told text.items) }
     ensures ran { OnOk result ((told : Told) → IsInput told input → IsLeftFor told ran.new) }
 {
-    let (graph, batches) = start_of(alloc, input)?;
-    if batches.updates.is_empty() {
-        return static_text(rt, alloc, setting, graph, &batches.ids);
+    let (graph, input) = start_of(alloc, input)?;
+    if input.batches.is_empty() {
+        return static_text(rt, alloc, setting, graph, &input.ids);
     }
     let work = Work {
         rt,
@@ -207,5 +210,5 @@ pub fn text_of<G: Gate + Sync, R: Threads + Wait + Sync>(
         gate,
         setting,
     };
-    worked_text::<Brand, G, R>(&work, Blank::new(), graph, &batches, ran)
+    worked_text::<Brand, G, R>(&work, Blank::new(), graph, &input, ran)
 }

@@ -1,3 +1,2 @@
 -- What public contracts speak of.
-pub mod Ending
 pub mod Words

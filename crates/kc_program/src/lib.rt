@@ -1,9 +1,11 @@
 //! The program but its streams: a run on the words of the arguments, over any source and sinks, and the exit code.
 //!
 //! [`run_on`](program::run_on) reads the words of the arguments, runs [`run`](kc_top::run::run) on them, and gives the exit code of
-//! its status. It keeps each clause of `run`. So what a program still does is to make the streams of the operating system and to
-//! hand the exit code on. The crate stands on `kc_top`, `kc_course`, `kc_workers` and `kc_io`.
+//! its status. It keeps the promise of `run`. So what a program still does is to make the streams of the operating system and to
+//! hand the exit code on. The crate stands on `kc_top`, `kc_run`, `kc_workers` and `kc_io`.
 #![tactic(auto)]
 
 pub mod program;
 mod words;
+
+pub use kc_top::Streams;

@@ -1,23 +1,21 @@
 //! A run on the program's arguments, over any source and sinks.
-ghost use Rattle.std.specs.Prelude.{◌≡◌, ◌≢◌, ◌⊎◌, ℕ, List, IfErr, false};
+ghost use Rattle.std.specs.Prelude.{◌≡◌, ◌≢◌, ◌⊎◌, ℕ, List, IfErr};
 ghost use Rattle.std.specs.IoError.{error_kind};
 ghost use Rattle.std.specs.Process.{exit_status};
-ghost use Rattle.kc_course.specs.Runs.{IsEmpty};
-ghost use Rattle.kc_program.specs.Ending.{Ended};
+ghost use Rattle.kc_run.specs.Runs.{IsEmpty};
 ghost use Rattle.kc_program.specs.Words.{AreWords};
-ghost use Rattle.kc_top.specs.ErrLines.{OfferedLine, TookLine};
-ghost use Rattle.kc_top.specs.Faults.{RoseOnlyAt};
-ghost use Rattle.kc_top.specs.Given.{reads};
+ghost use Rattle.kc_top.specs.EndedFor.{EndedFor, ToldEnd};
+ghost use Rattle.kc_top.specs.Given.{given};
 ghost use Rattle.kc_top.specs.Settings.{setting};
 ghost use Rattle.kc_top.specs.Statuses.{exit_of};
 ghost use Rattle.kc_top.specs.declared.Status.{Status};
 
 use crate::words::{borrowed, words_of};
-use kc_course::Ran;
 use kc_io::sink::Sink;
 use kc_io::source::Source;
+use kc_run::Ran;
 use kc_top::run::run;
-use kc_top::{Status, exit_number};
+use kc_top::{Status, Streams, exit_number};
 use kc_workers::NoGate;
 use std::alloc::Global;
 use std::env::Args;
@@ -42,25 +40,17 @@ pub fn run_on<S: Source, O: Sink, E: Sink, R: Threads + Wait + Sync>(
     rt: &R,
     alloc: Global,
     args: io::Result<Args>,
-    source: &mut S,
-    out: &mut O,
-    err: &mut E,
+    streams: &mut Streams<S, O, E>,
     ran: &mut Ran,
 ) -> ExitCode
     requires empty { IsEmpty ran.old }
     // The exit code is that of a status. The run ends by this status as `run` promises it for these words; or there was no memory for the
     // words, and all is as it was.
     ensures ended { (status : Status) × (exit_status result ≡ exit_of status)
-        × (((words : List (List ℕ)) × (line : List ℕ) × AreWords args words
-        × Ended words status (S.left source.old) (S.left source.new) (O.taken out.old) (O.taken out.new)
-        (O.first out.old) (O.first out.new) ran.old ran.new line
-        × (reads (setting words) ≡ false → source.new ≡ source.old)
-        × TookLine (E.taken err.old) (E.taken err.new) (E.faults err.old) (E.faults err.new) line
-        × OfferedLine status (E.first err.old) (E.first err.new) line)
-        ⊎ ((status ≡ Status.NoMemory) × (source.new ≡ source.old) × (out.new ≡ out.old) × (err.new ≡ err.old) × (ran.new ≡ ran.old)))
-        × (status ≡ Status.Done → err.new ≡ err.old)
-        × RoseOnlyAt Status.ReadFault status (S.faults source.old) (S.faults source.new)
-        × RoseOnlyAt Status.WriteFault status (O.faults out.old) (O.faults out.new) }
+        × (((words : List (List ℕ)) × AreWords args words
+        × EndedFor S.Source O.Sink (setting words) status streams.old.source streams.new.source streams.old.out streams.new.out ran.old ran.new
+        × ToldEnd E.Sink (given (setting words) (S.left streams.old.source)) status streams.old.err streams.new.err)
+        ⊎ ((status ≡ Status.NoMemory) × (streams.new ≡ streams.old) × (ran.new ≡ ran.old))) }
     ensures no_memory { IfErr args (λ error. error_kind error ≢ ErrorKind.InvalidData → exit_status result ≡ exit_of Status.NoMemory) }
 {
     let Ok(words) = words_of(alloc, args) else {
@@ -69,6 +59,6 @@ pub fn run_on<S: Source, O: Sink, E: Sink, R: Threads + Wait + Sync>(
     let Ok(texts) = borrowed(alloc, &words) else {
         return exit_with(Status::NoMemory);
     };
-    let status = run(rt, alloc, &texts, source, out, err, &NoGate, ran);
+    let status = run(rt, alloc, &texts, streams, &NoGate, ran);
     exit_with(status)
 }

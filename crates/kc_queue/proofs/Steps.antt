@@ -6,9 +6,9 @@ use Rattle.std.specs.Prelude.{Option, Some, None, MatchOption}
 use mathlib.Core.Option.{some, some-ne-none, some-injective}
 use lib.ListN.{get_elem?}
 use Rattle.crossbeam_queue.specs.Fifo.{Pushes, Pops, Forks, Merges, Learns, Held}
-use Rattle.kc_distinct.specs.Lists.{member, below, times}
-use Rattle.kc_distinct.proofs.Counting.{below-member, member-below, Distinct-below, Distinct-push, member-push_cases, count-cons, count-yes, times_member}
-use Rattle.kc_distinct.proofs.Counting.{member_times, times_other, times_distinct}
+use Rattle.kc_lists.specs.Lists.{member, below, times}
+use Rattle.kc_lists.proofs.Counting.{below-member, member-below, Distinct-below, Distinct-push, member-push_cases, count-cons, count-yes, times_member}
+use Rattle.kc_lists.proofs.Counting.{member_times, times_other, times_distinct}
 use Rattle.kc_queue.specs.declared.consumer.TheConstants.{PARTS}
 use Rattle.kc_queue.specs.declared.dealing.Hand.{Hand}
 use Rattle.kc_queue.specs.Dealt.{hand, numbers_from, parts_of, times_in, Agrees, IsIdle, IsDealt, Dealt, TakesNext, OwnsShare, HasTakenAll, HoldsAll}

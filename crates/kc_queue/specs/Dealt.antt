@@ -2,10 +2,10 @@
 use Rattle.std.specs.Prelude.{◌≡◌, ◌+◌, ◌<◌, ℕ, zero, suc, true, List, [], ◌∷◌, ◌++◌}
 use mathlib.Core.Option.{some}
 use lib.ListN.{get_elem?}
-use Rattle.kc_distinct.specs.Lists.{member, below, times}
+use Rattle.kc_lists.specs.Lists.{member, below, times}
 use Rattle.kc_queue.specs.declared.consumer.TheConstants.{PARTS}
 use Rattle.kc_queue.specs.declared.dealing.Hand.{Hand}
-use Rattle.kc_queue.specs.Shares.{IsShare, IsWhole}
+use Rattle.kc_queue.specs.Shares.{IsShare, AreAllBelow}
 
 -- a consumer with so many parts, which knows how many numbers were put and has taken these
 abbrev pub hand : ℕ → ℕ → List ℕ → Hand
@@ -59,7 +59,7 @@ OwnsShare v items = IsShare v.filled v.taken
 
 -- who has all parts has taken all, where the queue is empty
 abbrev pub HasTakenAll : Hand → List ℕ → Type 0
-HasTakenAll v items = v.parts ≡ PARTS → items ≡ [] → IsWhole v.filled v.taken
+HasTakenAll v items = v.parts ≡ PARTS → items ≡ [] → AreAllBelow v.filled v.taken
 
 -- who has all parts and has taken nothing sees all in the queue
 abbrev pub HoldsAll : Hand → List ℕ → Type 0

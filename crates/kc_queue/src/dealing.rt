@@ -45,31 +45,31 @@ impl Join<Hand> for Part {
 }
 
 /// The next number is put.
-pub struct Puts;
+pub struct PutsNumber;
 
-impl Outcome<u32, Hand> for Puts {
+impl Outcome<u32, Hand> for PutsNumber {
     ghost use Rattle.std.specs.Prelude.{◌≡◌, ◌+◌};
     ghost use Rattle.kc_queue.specs.Dealt.{hand};
 
     ghost then = { λ v x w. w ≡ hand v.parts (v.filled + 1) v.taken };
 }
 
-impl Lesson<u32, Hand> for Puts {
+impl Lesson<u32, Hand> for PutsNumber {
     ghost use Rattle.kc_queue.specs.Dealt.{HoldsAll};
 
     ghost fact = { HoldsAll };
 }
 
 /// A number is taken.
-pub struct Takes;
+pub struct TakesNumber;
 
-impl Outcome<u32, Hand> for Takes {
+impl Outcome<u32, Hand> for TakesNumber {
     ghost use Rattle.kc_queue.specs.Dealt.{TakesNext};
 
     ghost then = { TakesNext };
 }
 
-impl Lesson<u32, Hand> for Takes {
+impl Lesson<u32, Hand> for TakesNumber {
     ghost use Rattle.kc_queue.specs.Dealt.{HasTakenAll};
 
     ghost fact = { HasTakenAll };

@@ -6,9 +6,9 @@ use std::marker::Brand;
 /// Of a worker that a thread is handed, only its type is known. So such a type has a parameter `K: Queued`, and its consumer is one of the
 /// queue that K names. A call with `Brand` for K picks the queue from the parts that it is handed.
 pub trait Queued {
-    ghost use Rattle.kc_queue.specs.Shares.{Filled};
+    ghost use Rattle.kc_queue.specs.Shares.{FilledQueue};
 
-    ghost queue: { Filled };
+    ghost queue: { FilledQueue };
 }
 
 impl Queued for Brand {

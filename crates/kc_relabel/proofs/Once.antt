@@ -3,11 +3,11 @@ use Rattle.std.proofs.Common.{◌≡◌, ◌≢◌, ℕ, suc, zero, ◌+◌, ◌
 use Rattle.std.proofs.Common.{subst, inl, inr, arith}
 use Rattle.std.proofs.lemmas.Bool.{lt-ltb, le-ltb, cases_lt, true≢false, false≢true, false_from_ne_true}
 use Rattle.std.proofs.lemmas.List.{append-nil, append_assoc}
-use Rattle.kc_distinct.specs.Lists.{member, Distinct}
-use Rattle.kc_distinct.proofs.Members.{member-head, member-tail, member-cases, member-append, append-not_member, Distinct-insert}
+use Rattle.kc_lists.specs.Lists.{member, Distinct}
+use Rattle.kc_lists.proofs.Members.{member-head, member-tail, member-cases, member-append, append-not_member, Distinct-insert}
 use Rattle.kc_relabel.specs.Labels.{ups, downs, schedule_of, places}
 use Rattle.kc_relabel.proofs.Rising.{Writes, later, ups-suc, downs-suc, later-append}
-use Rattle.kc_distinct.proofs.Counting.{member-get_or}
+use Rattle.kc_lists.proofs.Counting.{member-get_or}
 
 -- the places of two lists of writes joined are the places of both joined
 pub places-append : (ws vs : Writes) → places (ws ++ vs) ≡ places ws ++ places vs

@@ -2,7 +2,7 @@
 //!
 //! `spread` gives labels at even distances. `schedule` lists the writes that turn one rising list
 //! of labels into another, so that the labels rise after each single write: whoever reads them
-//! between two writes finds the same order. No call takes memory. The crate stands on `kc_distinct`.
+//! between two writes finds the same order. No call takes memory. The crate stands on `kc_lists`.
 #![tactic(auto)]
 
 pub mod scheduling;

@@ -1,7 +1,7 @@
 //! An order of writes that keeps labels rising.
 ghost use Rattle.std.specs.Prelude.{◌≡◌, ◌≢◌, ◌<◌, ◌≤◌, ◌+◌, ◌^◌, ◌↔◌, ℕ, length, take, slice_index, true};
 ghost use Rattle.std.specs.List.Sorted.{IsStrictlyIncreasing};
-ghost use Rattle.kc_distinct.specs.Lists.{member, Distinct};
+ghost use Rattle.kc_lists.specs.Lists.{member, Distinct};
 ghost use Rattle.kc_relabel.specs.Labels.{ups, schedule_of, written, places};
 
 /// Lists the places whose label differs, each with its new label: those that grow from last to

@@ -1,8 +1,8 @@
 -- What a step knows of the vertex to which it comes: its core number, if the view told it, its visit, if it has one, and its edge.
 use Rattle.std.proofs.Common.{◌≡◌, ◌≢◌, ◌<◌, ◌+◌, ℕ, Bool, true, false, not, ◌&&◌, Option, Some, List, [], ◌∷◌, ◌++◌, length, get_or, ltb, sym, ◌∙◌, ap, arith}
 use Rattle.std.specs.Prelude.{is_some}
-use Rattle.kc_distinct.specs.Lists.{member}
-use Rattle.kc_seen.specs.Maps.{value_of}
+use Rattle.kc_lists.specs.Lists.{member}
+use Rattle.kc_marks.specs.Maps.{value_of}
 use Rattle.kc_graph.specs.Edges.{without_edge}
 use Rattle.kc_graph.specs.Lawful.{Ranked}
 use Rattle.kc_graph.specs.SimpleGraph.{adjacent}
@@ -12,7 +12,8 @@ use Rattle.kc_view.specs.Views.{Shown, TellsCore}
 use Rattle.kc_view.proofs.Keeping.{core-true}
 use Rattle.kc_remove.specs.Cascade.{taken}
 use Rattle.kc_remove.specs.Falling.{has_looked, IsTidyFalling}
-use Rattle.kc_remove.specs.Removed.{is_removed, has_come}
+use Rattle.kc_remove.specs.Removed.{has_come}
+use Rattle.kc_graph.specs.Plans.{joins}
 use Rattle.kc_remove.specs.Visits.{fallen_in, count_in}
 use Rattle.kc_remove.specs.declared.falling.Falling.{Falling}
 use Rattle.kc_remove.specs.declared.falling.Visit.{Visit}
@@ -63,7 +64,7 @@ pub record Comes (update : Update) (s : Ranked) (turn x y : ℕ) (row fall : Lis
 
 -- that is so of each neighbour that a list tells, if it is not joined by the edge that goes
 pub neighbour-comes : (update : Update) (a : Answers) (s : Ranked) (turn x y : ℕ) (row fall : List ℕ) → Agrees a s → has_list a x ≡ true
-    → member y (list_of a x) ≡ true → is_removed update x y ≡ false → turn < length fall → get_or fall turn 0 ≡ x
+    → member y (list_of a x) ≡ true → joins update x y ≡ false → turn < length fall → get_or fall turn 0 ≡ x
     → Comes update s turn x y row fall
 neighbour-comes update a s turn x y row fall agrees read m stays l at =
     let left : adjacent (without_edge s.graph update.u update.v) x y ≡ true =

@@ -2,7 +2,7 @@
 use Rattle.std.proofs.Common.{◌≡◌, ◌≤◌, ◌<◌, ◌-◌, ℕ, Bool, true, false, cond, not, ◌&&◌, List, take, length, ltb, leb, sym, ◌∙◌}
 use Rattle.std.proofs.Common.{ap, subst, inl, inr, arith, true≢false, le_trans, lt-ltb}
 use Rattle.std.proofs.lemmas.Bool.{cases_Bool, cases_eq, cases_lt, false_from_ne_true}
-use Rattle.kc_distinct.specs.Lists.{member}
+use Rattle.kc_lists.specs.Lists.{member}
 use Rattle.kc_cert.specs.Ranks.{rank_in, then_after}
 use Rattle.kc_cert.proofs.Ordered.{rank-here}
 use Rattle.kc_view.specs.Search.{Search, among, after, OnLevel}

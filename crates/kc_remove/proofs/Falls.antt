@@ -4,8 +4,8 @@ use Rattle.std.proofs.Common.{length, get_or, eqb, leb, refl, sym, ◌∙◌, ap
 use Rattle.std.proofs.lemmas.Bool.{cases_Bool, cases_eq, cases_lt, eqb-false, false≢true, or_right, and_parts}
 use Rattle.std.proofs.lemmas.List.{take-append-le, get_or_append_left}
 use Rattle.std.proofs.Math.Seq.{get_or-append_seam, take-length}
-use Rattle.kc_distinct.specs.Lists.{member, Distinct}
-use Rattle.kc_distinct.proofs.Counting.{member-push, member-push_cases, member-push_none, take-not_here, Distinct-push, one_if}
+use Rattle.kc_lists.specs.Lists.{member, Distinct}
+use Rattle.kc_lists.proofs.Counting.{member-push, member-push_cases, member-push_none, take-not_here, Distinct-push, one_if}
 use Rattle.kc_view.specs.Search.{Search, among, OnLevel}
 use Rattle.kc_view.proofs.Among.{among-one, among-mono, among-agree}
 use Rattle.kc_view.proofs.Fronts.{take-member}

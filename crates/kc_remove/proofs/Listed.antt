@@ -8,10 +8,10 @@ use Rattle.std.proofs.lemmas.Bool.{cases_Bool, cases_eq, cases_lt, false≢true,
 use Rattle.std.proofs.lemmas.Bool.{lt-ltb, le-ltb}
 use Rattle.std.proofs.lemmas.List.{take_all}
 use Rattle.std.proofs.lemmas.List.Kept.{AllPairs-from_increasing}
-use Rattle.kc_distinct.specs.Lists.{member, below}
-use Rattle.kc_distinct.proofs.Members.{member-head, member-tail}
-use Rattle.kc_distinct.proofs.Counting.{member-get_or, member-other, member-push, take-not_here, one_if}
-use Rattle.kc_distinct.proofs.Shared.{and-fails, never_falls}
+use Rattle.kc_lists.specs.Lists.{member, below}
+use Rattle.kc_lists.proofs.Members.{member-head, member-tail}
+use Rattle.kc_lists.proofs.Counting.{member-get_or, member-other, member-push, take-not_here, one_if}
+use Rattle.kc_lists.proofs.Shared.{and-fails, never_falls}
 use Rattle.kc_graph.specs.SimpleGraph.{adjacent}
 use Rattle.kc_graph.specs.Neighbours.{neighbours_of}
 use Rattle.kc_graph.specs.Edges.{without_edge}
@@ -30,7 +30,8 @@ use Rattle.kc_view.specs.Views.{Shown, KeepsLists, GoesOn}
 use Rattle.kc_view.proofs.Among.{among-one, among-agree}
 use Rattle.kc_view.proofs.Keeping.{kept-list, still_has_list, same_list}
 use Rattle.kc_remove.specs.Cascade.{found}
-use Rattle.kc_remove.specs.Removed.{search_without, is_removed, is_counted}
+use Rattle.kc_remove.specs.Removed.{search_without, is_counted}
+use Rattle.kc_graph.specs.Plans.{joins}
 use Rattle.kc_remove.specs.Visits.{IsBound, IsSupport, nothing_counted}
 use Rattle.kc_remove.proofs.Falls.{take-more}
 
@@ -41,10 +42,6 @@ same_there a a' j t e h = grind arith
 -- a second test that passes changes no count
 kept_one : (a t : Bool) → t ≡ true → one_if (a && t) ≡ one_if a
 kept_one a t h = grind arith
-
--- and one that fails leaves nothing to count
-lost_one : (a t : Bool) → t ≡ false → one_if (a && t) ≡ 0
-lost_one a t h = grind arith
 
 -- who stands among the first `n` of a list has a place below `n`
 pub rank-taken : (n y : ℕ) (xs : List ℕ) → member y (take n xs) ≡ true → rank_in xs y < n
@@ -126,7 +123,7 @@ next-found q gone y v looked more l new now same =
           let here : one_if (q.adj y v && test v) ≡ one_if (q.adj y v) = kept_one (q.adj y v) (test v) t in
           omega (arith, one, here)
       | inr n ↦
-          let none : one_if (q.adj y v && test v) ≡ 0 = lost_one (q.adj y v) (test v) n in
+          let none : one_if (q.adj y v && test v) ≡ 0 = ap one_if (and-fails (q.adj y v) (test v) n) in
           let all : found q more gone y ≡ found q looked gone y =
           among-agree q y (λ z. more z && test z) (λ z. looked z && test z) (λ z lz a. elim (cases_eq z v) [
             | inl e ↦ and-fails (more z) (test z) (ap test e ∙ n) ∙ sym (and-fails (looked z) (test z) (ap test e ∙ n))
@@ -141,7 +138,7 @@ left-listed : (update : Update) (s : Ranked) (y z : ℕ) (row : List ℕ) → ro
 left-listed update s y z row same l a =
     let apart : update.u ≢ update.v = λ e. let lt : update.u < update.v = update.ordered in absurd (omega (arith, e)) in
     let was : adjacent s.graph y z ≡ true =
-    (and_parts (adjacent s.graph y z) (not (is_removed update y z)) (sym (adjacent-without s.graph update.u update.v y z apart) ∙ a)).0 in
+    (and_parts (adjacent s.graph y z) (not (joins update y z)) (sym (adjacent-without s.graph update.u update.v y z apart) ∙ a)).0 in
     ap (member z) same ∙ (neighbours_has s.graph y z l ∙ was)
 
 -- the next neighbour of the list adds one to what is found just where it counts
@@ -163,7 +160,7 @@ look-next update level s gone size y i v bound row stands same below =
     next z m ∙ (ap (member z) stands.seam ∙ (member-push z v (take i row)
     ∙ (ap (λ b. member z (take i row) || b) (ne_eqb z v ne) ∙ (or-false (member z (take i row)) ∙ sym (below z m)))))) in
     let counted : (now y v && test v) ≡ is_counted update level s gone y v =
-    sym (same_there (adjacent s.graph y v) (now y v) (is_removed update y v) (test v) (adjacent-without s.graph update.u update.v y v apart) is.1) in
+    sym (same_there (adjacent s.graph y v) (now y v) (joins update y v) (test v) (adjacent-without s.graph update.u update.v y v apart) is.1) in
     step ∙ ap (λ b. found (search_without update level s) (λ z. ltb z bound) gone y + one_if b) counted
 
 -- so a count that adds one just there is right with one neighbour more

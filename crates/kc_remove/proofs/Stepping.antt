@@ -4,10 +4,10 @@ use Rattle.std.proofs.Common.{get_or, eqb, ltb, refl, sym, ◌∙◌, ap, subst,
 use Rattle.std.specs.Prelude.{Option, Some, is_some}
 use Rattle.std.proofs.lemmas.Bool.{cases_Bool, cases_eq, and_parts, and_from, or_right}
 use Rattle.std.proofs.Math.Bool.{or-false}
-use Rattle.kc_distinct.specs.Lists.{member}
-use Rattle.kc_distinct.proofs.Counting.{member-push, member-get_or, one_if}
-use Rattle.kc_distinct.proofs.Shared.{and-fails}
-use Rattle.kc_seen.specs.Maps.{value_of}
+use Rattle.kc_lists.specs.Lists.{member}
+use Rattle.kc_lists.proofs.Counting.{member-push, member-get_or, one_if}
+use Rattle.kc_lists.proofs.Shared.{and-fails}
+use Rattle.kc_marks.specs.Maps.{value_of}
 use Rattle.kc_graph.specs.SimpleGraph.{adjacent}
 use Rattle.kc_graph.specs.Edges.{without_edge}
 use Rattle.kc_graph.specs.Neighbours.{neighbours_of}
@@ -20,7 +20,8 @@ use Rattle.kc_view.specs.Answers.{Answers, Agrees, has_list, list_of}
 use Rattle.kc_view.specs.Search.{Search, OnLevel}
 use Rattle.kc_view.proofs.Keeping.{list-true}
 use Rattle.kc_remove.specs.Cascade.{Cascade, found, taken, nobody}
-use Rattle.kc_remove.specs.Removed.{search_without, is_removed, has_come}
+use Rattle.kc_remove.specs.Removed.{search_without, has_come}
+use Rattle.kc_graph.specs.Plans.{joins}
 use Rattle.kc_remove.specs.Visits.{count_in, IsSupport}
 use Rattle.kc_remove.specs.Falling.{is_visited, support_at, bound_at, has_looked, Settles, FallsIn}
 use Rattle.kc_remove.specs.declared.falling.Count.{Count}
@@ -69,17 +70,17 @@ recounted-settled q turn part y count old new s out all c =
     ]
 
 -- an edge that is not the removed one is an edge of the graph without that
-pub edge-left : (update : Update) (s : Ranked) (x y : ℕ) → is_removed update x y ≡ false → adjacent s.graph x y ≡ true
+pub edge-left : (update : Update) (s : Ranked) (x y : ℕ) → joins update x y ≡ false → adjacent s.graph x y ≡ true
     → adjacent (without_edge s.graph update.u update.v) x y ≡ true
 edge-left update s x y n a =
     let k = adjacent-without s.graph update.u update.v x y (ends-differ update) in
-    k ∙ left_in (adjacent s.graph x y) (is_removed update x y) a n
+    k ∙ left_in (adjacent s.graph x y) (joins update x y) a n
 
 -- and the removed one is none
-pub edge-gone : (update : Update) (s : Ranked) (x y : ℕ) → is_removed update x y ≡ true → adjacent (without_edge s.graph update.u update.v) x y ≡ false
+pub edge-gone : (update : Update) (s : Ranked) (x y : ℕ) → joins update x y ≡ true → adjacent (without_edge s.graph update.u update.v) x y ≡ false
 edge-gone update s x y j =
     let k = adjacent-without s.graph update.u update.v x y (ends-differ update) in
-    k ∙ left_out (adjacent s.graph x y) (is_removed update x y) j
+    k ∙ left_out (adjacent s.graph x y) (joins update x y) j
 
 -- where the turn comes to one vertex more, it has come to the others just where it had before
 pub come-other : (update : Update) (s : Ranked) (x y z : ℕ) (row : List ℕ) → z ≢ y → has_come update s x (row ++ y ∷ []) z ≡ has_come update s x row z
@@ -207,7 +208,7 @@ turn-over update level s turn x row f l at same c =
     (λ y oy a out.
     let here : now x y ≡ true = ap (λ n. now n y) (sym at) ∙ a in
     let was : adjacent s.graph x y ≡ true =
-    (and_parts (adjacent s.graph x y) (not (is_removed update x y))
+    (and_parts (adjacent s.graph x y) (not (joins update x y))
     (sym (adjacent-without s.graph update.u update.v x y (ends-differ update)) ∙ here)).0 in
     and_from _ _ (ap (member y) same ∙ (neighbours_has s.graph x y oy.here ∙ was)) here)
 

@@ -2,7 +2,7 @@
 use Rattle.std.proofs.Common.{◌≡◌, ◌<◌, ◌-◌, ℕ, min, Bool, true, false, cond, not, List, [], length, get_or, ltb, refl, sym, ◌∙◌, ap, subst, inl, inr}
 use Rattle.std.proofs.Common.{arith, true≢false, lt-ltb}
 use Rattle.std.proofs.lemmas.Bool.{cases_Bool}
-use Rattle.kc_distinct.specs.Lists.{member}
+use Rattle.kc_lists.specs.Lists.{member}
 use Rattle.kc_graph.specs.SimpleGraph.{SimpleGraph, adjacent}
 use Rattle.kc_graph.specs.Edges.{without_edge, with_edge}
 use Rattle.kc_graph.specs.Core.{AreCoreNumbers}
@@ -100,12 +100,14 @@ plain-sure update used s level f removes h l r ended empty =
     } in (
       local,
       record {
-        once = tt;
-        kept = λ none. absurd (true≢false (sym there ∙ none));
-        inserted = λ add. absurd (true≢false (sym add ∙ removes));
-        removed = λ _ _ core are x lx.
-            let same : core ≡ s.core = numbers-after s (record { update = update; used = used; moves = Plain }) h local core are in
-            same_number (get_or core x 0) (get_or s.core x 0) (ap (λ (xs : List ℕ). get_or xs x 0) same);
+        moves = record {
+          once = tt;
+          kept = λ none. absurd (true≢false (sym there ∙ none));
+          inserted = λ add. absurd (true≢false (sym add ∙ removes));
+          removed = λ _ _ core are x lx.
+              let same : core ≡ s.core = numbers-after s (record { update = update; used = used; moves = Plain }) h local core are in
+              same_number (get_or core x 0) (get_or s.core x 0) (ap (λ (xs : List ℕ). get_or xs x 0) same);
+        };
       },
     )
 
@@ -142,23 +144,25 @@ fall-sure update used s level f removes h l r ended =
     } in (
       local,
       record {
-        once = c.distinct;
-        kept = λ none. absurd (true≢false (sym there ∙ none));
-        inserted = λ add. absurd (true≢false (sym add ∙ removes));
-        removed = λ _ _ core are x lx.
-            let same : core ≡ renumbered fall (level - 1) s.core =
-            numbers-after s (record { update = update; used = used; moves = Fall level f.seen.weak }) h local core are in
-            let number : get_or core x 0 ≡ lowered (λ y. get_or s.core y 0) level fall x =
-            ap (λ (xs : List ℕ). get_or xs x 0) same ∙ number_then-is s fall (level - 1) x h lx in
-            elim (cases_Bool (member x fall)) [
-              | inl m ↦
-                  let down : get_or core x 0 ≡ level - 1 = number ∙ ap (λ b. cond b (level - 1) (get_or s.core x 0)) m in
-                  let lvl : get_or s.core x 0 ≡ level = (c.fall_level x m).level in
-                  m ∙ less_number (get_or core x 0) (get_or s.core x 0) (omega (arith, down, lvl, some))
-              | inr n ↦
-                  let kept : get_or core x 0 ≡ get_or s.core x 0 = number ∙ ap (λ b. cond b (level - 1) (get_or s.core x 0)) n in
-                  n ∙ same_number (get_or core x 0) (get_or s.core x 0) kept
-            ];
+        moves = record {
+          once = c.distinct;
+          kept = λ none. absurd (true≢false (sym there ∙ none));
+          inserted = λ add. absurd (true≢false (sym add ∙ removes));
+          removed = λ _ _ core are x lx.
+              let same : core ≡ renumbered fall (level - 1) s.core =
+              numbers-after s (record { update = update; used = used; moves = Fall level f.seen.weak }) h local core are in
+              let number : get_or core x 0 ≡ lowered (λ y. get_or s.core y 0) level fall x =
+              ap (λ (xs : List ℕ). get_or xs x 0) same ∙ number_then-is s fall (level - 1) x h lx in
+              elim (cases_Bool (member x fall)) [
+                | inl m ↦
+                    let down : get_or core x 0 ≡ level - 1 = number ∙ ap (λ b. cond b (level - 1) (get_or s.core x 0)) m in
+                    let lvl : get_or s.core x 0 ≡ level = (c.fall_level x m).level in
+                    m ∙ less_number (get_or core x 0) (get_or s.core x 0) (omega (arith, down, lvl, some))
+                | inr n ↦
+                    let kept : get_or core x 0 ≡ get_or s.core x 0 = number ∙ ap (λ b. cond b (level - 1) (get_or s.core x 0)) n in
+                    n ∙ same_number (get_or core x 0) (get_or s.core x 0) kept
+              ];
+        };
       },
     )
 

@@ -3,8 +3,8 @@ use Rattle.std.proofs.Common.{◌≡◌, ◌≢◌, ◌≤◌, ◌<◌, ◌+◌,
 use Rattle.std.proofs.Common.{ap, subst, inl, inr, arith, true≢false, eq-eqb, ne_eqb, lt-ltb}
 use Rattle.std.specs.Prelude.{count_by}
 use Rattle.std.proofs.lemmas.Bool.{cases_eq, cases_lt, cases_order, and_from, false_from_ne_true, or_parts, or_from}
-use Rattle.kc_distinct.specs.Lists.{member, below}
-use Rattle.kc_distinct.proofs.Counting.{member-below, Distinct-below, count-mono, count-agree, one_if}
+use Rattle.kc_lists.specs.Lists.{member, below}
+use Rattle.kc_lists.proofs.Counting.{member-below, Distinct-below, count-mono, count-agree, one_if}
 use Rattle.kc_graph.specs.SimpleGraph.{SimpleGraph, adjacent}
 use Rattle.kc_graph.specs.Edges.{without_edge}
 use Rattle.kc_graph.specs.Certificate.{Certifies}
@@ -60,12 +60,12 @@ low_end a j l n = grind arith
 pair-gone : (a j l : Bool) → j ≡ true → ((a && not j) && l) ≡ false
 pair-gone a j l n = grind arith
 
--- whether `z` is an end of the edge
-abbrev pub is_end : ℕ → ℕ → ℕ → Bool
-is_end u v z = eqb z u || eqb z v
+-- whether `z` is one of the two
+abbrev pub is_either : ℕ → ℕ → ℕ → Bool
+is_either u v z = eqb z u || eqb z v
 
 -- the edge joins a vertex that is no end of it to no vertex
-no_end : (u v z y : ℕ) → is_end u v z ≡ false → joins u v z y ≡ false
+no_end : (u v z y : ℕ) → is_either u v z ≡ false → joins u v z y ≡ false
 no_end u v z y n = false_from_ne_true _ (λ j. elim (joins-true u v z y j) [
   | inl p ↦ true≢false (sym (ap (λ b. b || eqb z v) (eq-eqb z u p.0)) ∙ n)
   | inr p ↦ let k = or_parts (eqb z u) (eqb z v) n in true≢false (sym (eq-eqb z v p.0) ∙ k.1)
@@ -89,7 +89,7 @@ module _ (s : Ranked) (u v level : ℕ) (h : IsCertified s) (differ : u ≢ v) (
   number y = get_or s.core y 0
 
   -- neighbours that are as high stay, but for the ends on the level
-  high_now : (z : ℕ) → z < s.graph.size → (number z ≢ level) ⊎ (is_end u v z ≡ false) → (y : ℕ)
+  high_now : (z : ℕ) → z < s.graph.size → (number z ≢ level) ⊎ (is_either u v z ≡ false) → (y : ℕ)
       → (adjacent s.graph z y && leb (number z) (number y)) ≡ (now z y && leb (number z) (number y))
   high_now z l where' y =
       let e = adjacent-without s.graph u v z y differ in
@@ -122,7 +122,7 @@ module _ (s : Ranked) (u v level : ℕ) (h : IsCertified s) (differ : u ≢ v) (
       omega (arith, one, most)
 
   -- without the edge, the search is thinned at its ends
-  pub graph-thinned : Thinned (search_in (without_edge s.graph u v) s level) (is_end u v)
+  pub graph-thinned : Thinned (search_in (without_edge s.graph u v) s level) (is_either u v)
   graph-thinned =
       let there : (y : ℕ) → y < s.graph.size → member y s.order ≡ true = λ y l. order-has s.graph.size s.order h.enumerates y ∙ member-below y s.graph.size l in
       record {
@@ -157,7 +157,7 @@ module _ (s : Ranked) (u v level : ℕ) (h : IsCertified s) (differ : u ≢ v) (
               | inr nu ↦ elim (cases_eq z v) [
                 | inl e ↦ omega (arith, old', lost_one z u (λ y. leb level (number y)) lu (joins-second u v z u e refl))
                 | inr nv ↦
-                    let out : is_end u v z ≡ false = or_from (eqb z u) (eqb z v) (ne_eqb z u nu) (ne_eqb z v nv) in
+                    let out : is_either u v z ≡ false = or_from (eqb z u) (eqb z v) (ne_eqb z u nu) (ne_eqb z v nv) in
                     let same : count_by (λ y. adjacent s.graph z y && leb level (number y)) (below s.graph.size)
                     ≡ count_by (λ y. now z y && leb level (number y)) (below s.graph.size) =
                     count-agree (λ y. adjacent s.graph z y && leb level (number y)) (λ y. now z y && leb level (number y)) (below s.graph.size) (λ y m.

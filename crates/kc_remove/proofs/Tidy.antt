@@ -7,11 +7,11 @@ use Rattle.std.proofs.Math.Seq.{take-length}
 use Rattle.std.proofs.lemmas.Bool.{cases_Bool, cases_eq, cases_lt, false≢true, or_right, false_from_ne_true, lt-ltb, le-ltb}
 use Rattle.std.proofs.lemmas.List.{get_or_append_left, take-append-le, take_all}
 use Rattle.std.proofs.lemmas.List.Elements.{All-push, All-weaker}
-use Rattle.kc_distinct.specs.Lists.{member}
-use Rattle.kc_distinct.proofs.Members.{below_bound}
-use Rattle.kc_distinct.proofs.Counting.{member-push}
-use Rattle.kc_distinct.proofs.Shared.{list_any-some, member-grown_left, Distinct-grown}
-use Rattle.kc_seen.specs.Maps.{value_of}
+use Rattle.kc_lists.specs.Lists.{member}
+use Rattle.kc_lists.proofs.Members.{below_bound}
+use Rattle.kc_lists.proofs.Counting.{member-push}
+use Rattle.kc_lists.proofs.Shared.{list_any-some, member-grown_left, Distinct-grown}
+use Rattle.kc_marks.specs.Maps.{value_of}
 use Rattle.kc_graph.specs.declared.update.Update.{Update}
 use Rattle.kc_view.specs.Answers.{Answers, has_list, list_of, has_core, with_list}
 use Rattle.kc_view.specs.Sure.{AsksOneList, is_listed, AsksCores}

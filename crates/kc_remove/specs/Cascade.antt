@@ -1,6 +1,6 @@
 -- The vertices that fall one after another once an edge is gone: what the search for them keeps true.
 use Rattle.std.specs.Prelude.{◌≡◌, ◌≢◌, ◌≤◌, ◌<◌, ◌+◌, ◌⊎◌, ℕ, Bool, true, false, not, ◌&&◌, List, take, length, slice_index, nat_le, if◌then◌else◌}
-use Rattle.kc_distinct.specs.Lists.{member, Distinct}
+use Rattle.kc_lists.specs.Lists.{member, Distinct}
 use Rattle.kc_view.specs.Search.{Search, among, after, OnLevel}
 
 -- What is known of the state before, in the graph after the edge was removed. `is_end` tells the two ends of the edge.

@@ -1,9 +1,9 @@
 -- The visited and the fallen, and what holds of them.
 use Rattle.std.specs.Prelude.{◌≡◌, ◌<◌, ◌⊎◌, ◌++◌, ℕ, Bool, true, List, [], ◌∷◌, All, Some, None, is_some, length, take, nat_lt, if◌then◌else◌}
 use Rattle.std.specs.List.{list_any}
-use Rattle.kc_distinct.specs.Lists.{member, Distinct}
-use Rattle.kc_seen.specs.Maps.{value_of}
-use Rattle.kc_seen.specs.Seen.{MarksOne}
+use Rattle.kc_lists.specs.Lists.{member, Distinct}
+use Rattle.kc_marks.specs.Maps.{value_of}
+use Rattle.kc_marks.specs.SearchMarks.{MarksOne}
 use Rattle.kc_graph.specs.Lawful.{Ranked}
 use Rattle.kc_graph.specs.declared.update.Update.{Update}
 use Rattle.kc_view.specs.Answers.{Answers, has_list, list_of}

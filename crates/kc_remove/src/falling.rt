@@ -1,11 +1,11 @@
 //! The vertices that were visited, and the list of those that fall.
 ghost use Rattle.std.specs.Prelude.{◌≡◌, ◌-◌, ◌&&◌, ℕ, None, [], OnOk, is_some, nat_lt, not};
-ghost use Rattle.kc_seen.specs.Maps.{value_of};
+ghost use Rattle.kc_marks.specs.Maps.{value_of};
 ghost use Rattle.kc_remove.specs.Visits.{nothing_counted};
 ghost use Rattle.kc_remove.specs.Falling.{Settles, is_gone};
 
 use kc_graph::NoMemory;
-use kc_seen::Seen;
+use kc_marks::SearchMarks;
 use std::alloc::Global;
 
 /// How far the support of a vertex was counted. The list of its neighbours ascends.
@@ -69,7 +69,7 @@ impl Visit {
 /// The visited vertices, each with its visit, and as the weak those that fall.
 #[derive(Drop)]
 pub(crate) struct Falling {
-    pub seen: Seen<Visit>,
+    pub seen: SearchMarks<Visit>,
 }
 
 impl Falling {
@@ -78,7 +78,7 @@ impl Falling {
         ensures marks { (z : ℕ) → value_of result.seen.marks z ≡ None }
         ensures weak { result.seen.weak.items ≡ [] }
     {
-        let seen = Seen::new(alloc);
+        let seen = SearchMarks::new(alloc);
         Falling { seen }
     }
 

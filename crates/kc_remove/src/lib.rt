@@ -13,7 +13,7 @@
 //! whose core number falls. It names only vertices whose lists were read, and asks no more than the ends of the edge and neighbours of
 //! those that fall. It returns for every view, also where the answers fit no state. `specs/Sure.antt` of `kc_view` says the first of
 //! this; `specs/Cascade.antt` says what the search keeps true on its way, in a state that agrees with the answers so far, and
-//! `Falling.antt` what holds for every view. The crate stands on `kc_view`, `kc_seen` and `kc_graph`, and its proofs on `kc_cert`.
+//! `Falling.antt` what holds for every view. The crate stands on `kc_view`, `kc_marks` and `kc_graph`, and its proofs on `kc_cert`.
 #![tactic(auto)]
 
 mod falling;

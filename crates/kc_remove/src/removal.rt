@@ -1,19 +1,18 @@
 //! The plan of an update that removes an edge.
-ghost use Rattle.std.specs.Prelude.{◌≡◌, ◌≢◌, ◌<◌, ◌++◌, ◌⊎◌, ℕ, min, [], true, false, slice_index, IfOk, OnOk, IfErr, OnErr};
-ghost use Rattle.kc_distinct.specs.Lists.{member};
-ghost use Rattle.kc_seen.specs.Maps.{value_of};
+ghost use Rattle.std.specs.Prelude.{◌≡◌, ◌≢◌, ◌<◌, ◌⊎◌, ℕ, min, [], true, false, slice_index, IfOk, OnOk, IfErr, OnErr};
+ghost use Rattle.kc_marks.specs.Maps.{value_of};
 ghost use Rattle.kc_graph.specs.Lawful.{Ranked};
 ghost use Rattle.kc_cert.specs.Local.{moved_vertices};
-ghost use Rattle.kc_view.specs.Answers.{Agrees, nothing_answered, answers_in, has_list};
+ghost use Rattle.kc_view.specs.Answers.{Agrees, nothing_answered, answers_in};
 ghost use Rattle.kc_view.specs.Lists.{AreLists};
-ghost use Rattle.kc_view.specs.Sure.{AreSure, IsSure, NamesOnlyRead, AsksCoresNearby, AsksFallen, anchors};
+ghost use Rattle.kc_view.specs.Sure.{AreSure, AsksFallen, IsPlanFor, WereNamedRead};
 ghost use Rattle.kc_view.specs.Views.{GoesOn, HandsOut, HasPlanCause};
 ghost use Rattle.kc_remove.specs.Cascade.{nobody};
 ghost use Rattle.kc_remove.specs.Falling.{is_visited, AsksNear, IsTidyFalling, FallsIn, HasEnded};
 
 use crate::falling::{Falling, Supported};
 use kc_graph::{Moves, Plan, Update};
-use kc_seen::Seen;
+use kc_marks::SearchMarks;
 use kc_view::{PlanFault, Search, View, core_of, has_edge};
 use std::alloc::Global;
 
@@ -89,8 +88,8 @@ fn moves_of<V: View>(alloc: Global, view: &mut V, update: Update) -> Result<Move
     ensures goes_on { GoesOn (V.shown view.old) (V.shown view.new) }
     ensures cause { IfErr result (λ fault. HasPlanCause (V.shown view.old) (V.shown view.new) fault) }
     ensures asks { IfOk result (λ moves. AsksNear update (V.shown view.new).kept (moved_vertices moves)) }
-    ensures named { IfOk result (λ moves. (x : ℕ) → member x (moved_vertices moves ++ anchors moves) ≡ true → has_list (V.shown view.new).kept x ≡ true) }
-    ensures sure { IfOk result (λ moves. AreSure update (V.shown view.new).kept moves) }
+    ensures named { IfOk result (WereNamedRead (V.shown view.new).kept) }
+    ensures sure { IfOk result (AreSure update (V.shown view.new).kept) }
 {
     if !has_edge(view, update)? {
         return Ok(Moves::Kept);
@@ -105,7 +104,7 @@ fn moves_of<V: View>(alloc: Global, view: &mut V, update: Update) -> Result<Move
         level,
     };
     let Falling {
-        seen: Seen { weak, .. },
+        seen: SearchMarks { weak, .. },
     } = find_fallen(view, search)?;
     if weak.is_empty() {
         return Ok(Moves::Plain);
@@ -125,10 +124,7 @@ pub fn plan<V: View>(alloc: Global, view: &mut V, update: Update) -> Result<Plan
     requires fresh { (V.shown view.old).kept ≡ nothing_answered }
     ensures hands_out { OnOk result (HandsOut (V.shown view.old) (V.shown view.new)) }
     ensures goes_on { OnErr result (GoesOn (V.shown view.old) (V.shown view.new)) }
-    ensures update { IfOk result (λ plan. plan.update ≡ update) }
-    ensures sure { IfOk result IsSure }
-    ensures named { IfOk result NamesOnlyRead }
-    ensures cores { IfOk result AsksCoresNearby }
+    ensures plan { IfOk result (IsPlanFor update) }
     ensures asked { IfOk result AsksFallen }
     ensures given { IfOk result (λ plan. (V.shown view.new).is_given (answers_in plan.used)) }
     ensures lists { IfOk result (λ plan. AreLists (V.shown view.new).size plan.used.edges.items) }

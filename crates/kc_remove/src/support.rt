@@ -1,14 +1,15 @@
 //! The support of a vertex, counted as far as needed: neighbours that are as high, without the edge that goes and those that are gone.
 ghost use Rattle.std.specs.Prelude.{◌≡◌, ◌≢◌, ◌<◌, ◌≤◌, ℕ, Bool, true, false, length, take, slice_index, IfOk, OnOk, IfErr};
-ghost use Rattle.kc_distinct.specs.Lists.{member};
-ghost use Rattle.kc_seen.specs.Maps.{value_of};
+ghost use Rattle.kc_lists.specs.Lists.{member};
+ghost use Rattle.kc_marks.specs.Maps.{value_of};
 ghost use Rattle.kc_graph.specs.SimpleGraph.{adjacent};
 ghost use Rattle.kc_graph.specs.Edges.{without_edge};
 ghost use Rattle.kc_graph.specs.Lawful.{Ranked};
 ghost use Rattle.kc_view.specs.Answers.{Agrees, has_list, list_of};
 ghost use Rattle.kc_view.specs.Views.{GoesOn, HasPlanCause};
 ghost use Rattle.kc_remove.specs.Cascade.{taken};
-ghost use Rattle.kc_remove.specs.Removed.{is_removed, is_counted};
+ghost use Rattle.kc_remove.specs.Removed.{is_counted};
+ghost use Rattle.kc_graph.specs.Plans.{joins};
 ghost use Rattle.kc_remove.specs.Falling.{is_visited, IsNear, IsTidyFalling, FallsIn};
 ghost use Rattle.kc_remove.specs.Visits.{IsBound, IsSupport};
 
@@ -17,8 +18,8 @@ use kc_graph::Update;
 use kc_view::{PlanFault, Search, View, core_of, degree_of};
 
 /// Whether the edge that goes joins the two.
-pub(crate) fn is_removed(update: Update, x: u32, y: u32) -> bool
-    ensures { result ≡ is_removed update x y }
+pub(crate) fn joins(update: Update, x: u32, y: u32) -> bool
+    ensures { result ≡ joins update x y }
 {
     (x == update.u && y == update.v) || (x == update.v && y == update.u)
 }
@@ -43,7 +44,7 @@ impl Falling {
             → ((x : ℕ) → member x self.now.seen.weak.items ≡ true → slice_index s.core x ≡ search.level)
             → supports ≡ is_counted search.update search.level s (take y.turns self.now.seen.weak.items) y.vertex z) }
     {
-        if is_removed(search.update, y.vertex, z) {
+        if joins(search.update, y.vertex, z) {
             return Ok(false);
         }
         let core = core_of(view, z)?;

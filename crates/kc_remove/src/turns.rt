@@ -1,6 +1,6 @@
 //! The turns of the fallen: what each takes from its neighbours.
 ghost use Rattle.std.specs.Prelude.{◌≡◌, ◌<◌, ◌++◌, ◌+◌, ℕ, List, [], ◌∷◌, true, false, length, slice_index, OnOk, IfErr};
-ghost use Rattle.kc_distinct.specs.Lists.{member};
+ghost use Rattle.kc_lists.specs.Lists.{member};
 ghost use Rattle.kc_graph.specs.Lawful.{Ranked};
 ghost use Rattle.kc_view.specs.Answers.{Agrees, has_list, list_of};
 ghost use Rattle.kc_view.specs.Views.{KeepsLists, GoesOn, HasPlanCause};
@@ -9,7 +9,7 @@ ghost use Rattle.kc_remove.specs.Removed.{has_come};
 ghost use Rattle.kc_remove.specs.Falling.{is_visited, IsTidyFalling, FallsIn};
 
 use crate::falling::{Falling, Supported};
-use crate::support::is_removed;
+use crate::support::joins;
 use kc_view::{PlanFault, Search, View, core_of, degree_of};
 
 /// The turn of a vertex that fell: the vertex, and its place on the list of the fallen.
@@ -45,7 +45,7 @@ impl Falling {
             → FallsIn search.update search.level s self.old turn.place (has_come search.update s turn.vertex row)
             → FallsIn search.update search.level s self.new turn.place (has_come search.update s turn.vertex (row ++ y ∷ []))) }
     {
-        if is_removed(search.update, turn.vertex, y) {
+        if joins(search.update, turn.vertex, y) {
             return Ok(());
         }
         let supported = Supported {

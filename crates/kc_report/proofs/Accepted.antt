@@ -8,11 +8,11 @@ use Rattle.std.specs.Set.{distinct_count, is_member, unique_keys}
 use Rattle.std.proofs.lemmas.Bool.{false≢true, le-ltb, ne_eqb, or_cases}
 use Rattle.std.proofs.lemmas.List.Elements.{All-head, All-tail}
 use Rattle.std.proofs.lemmas.Map.Steps.{length-le_from_distinct_below}
-use Rattle.kc_text.specs.declared.change.Change.{Change}
+use Rattle.kc_text.specs.declared.change.ChangeLine.{ChangeLine}
 use Rattle.kc_text.specs.declared.kind.Kind.TheVariants.{EdgeLineInBatch, LoopInBatch, TooLong}
 use Rattle.kc_text.specs.declared.limits.TheConstants.{MOST_BATCHES, MOST_BYTES, MOST_EDGE_LINES, MOST_IDS, MOST_UPDATES}
-use Rattle.kc_text.specs.declared.line.Line.{Line}
-use Rattle.kc_text.specs.declared.line.Line.TheVariants as said
+use Rattle.kc_text.specs.declared.line.TextLine.{TextLine}
+use Rattle.kc_text.specs.declared.line.TextLine.TheVariants as said
 use Rattle.kc_text.specs.Forms.{all_said}
 use Rattle.kc_text.specs.Meaning.{Means, Refuses, Told, batches, changes, ends_or, first_limit, meaning, names, nothing_told, or_else, passed_limit}
 use Rattle.kc_text.specs.Meaning.{reading, refusal, unfit, with_line}
@@ -78,21 +78,22 @@ edges-stay : (last between first : List (ℕ × ℕ)) → last ≡ between → b
 edges-stay last between first second one = second ∙ one
 
 -- Lines are read, whatever lines come behind them, and take what is told on.
-abbrev Reads : Told → List Line → Told → Type 0
-Reads from lines to = (done : ℕ) (rest : List Line) → (after : ℕ) × (reading done from (lines ++ rest) ≡ reading after to rest)
+abbrev Reads : Told → List TextLine → Told → Type 0
+Reads from lines to = (done : ℕ) (rest : List TextLine) → (after : ℕ) × (reading done from (lines ++ rest) ≡ reading after to rest)
 
 -- no lines leave what is told as it is
 reads-none : (told : Told) → Reads told [] told
 reads-none told done rest = (done, refl)
 
 -- a line that is not refused is read, and the lines behind it go on from there
-reads-line : (told to : Told) (line : Line) (lines : List Line) → refusal told line ≡ None → Reads (with_line told line) lines to → Reads told (line ∷ lines) to
+reads-line : (told to : Told) (line : TextLine) (lines : List TextLine) → refusal told line ≡ None → Reads (with_line told line) lines to
+    → Reads told (line ∷ lines) to
 reads-line told to line lines none reads done rest =
     let (after, e) = reads (done + 1) rest in
     (after, ap (λ r. ends_or r (done + 1) (reading (done + 1) (with_line told line) (lines ++ rest))) none ∙ e)
 
 -- lines and more lines behind them take what is told on in two steps
-reads-append : (from between to : Told) (first second : List Line) → Reads from first between → Reads between second to → Reads from (first ++ second) to
+reads-append : (from between to : Told) (first second : List TextLine) → Reads from first between → Reads between second to → Reads from (first ++ second) to
 reads-append from between to first second one two done rest =
     let (middle, e) = one done (second ++ rest) in
     let (after, f) = two middle rest in
@@ -141,7 +142,7 @@ read-edges told (edge ∷ edges) lines updates most none ids small few =
     }
 
 -- what is told after the changes of a batch
-record AfterChanges (told : Told) (batch changes : List Change) (lines updates most : ℕ) : Type 0 where
+record AfterChanges (told : Told) (batch changes : List ChangeLine) (lines updates most : ℕ) : Type 0 where
   to : Told
   reads : Reads told (map change_said changes) to
   small : IsSmall to lines (updates + length changes) most
@@ -150,20 +151,21 @@ record AfterChanges (told : Told) (batch changes : List Change) (lines updates m
   last : to.last ≡ Some (batch ++ changes)
 
 -- a change that fits is not refused
-taken-change : (told : Told) (batch : List Change) (c : Change) → told.last ≡ Some batch → c.a ≢ c.b → passed_limit (with_line told (said.Change c)) ≡ None
+taken-change : (told : Told) (batch : List ChangeLine) (c : ChangeLine) → told.last ≡ Some batch → c.a ≢ c.b
+    → passed_limit (with_line told (said.Change c)) ≡ None
     → refusal told (said.Change c) ≡ None
 taken-change told batch c last apart none =
     ap (λ l. or_else (unfit l c) (passed_limit (with_line told (said.Change c)))) last
     ∙ ap (λ b. or_else (cond b (Some LoopInBatch) None) (passed_limit (with_line told (said.Change c)))) (ne_eqb c.a c.b apart) ∙ none
 
 -- another last batch in place of the last one leaves the number of batches
-one_batch : (earlier : List (List Change)) (last : Option (List Change)) (batch more : List Change) → last ≡ Some batch
+one_batch : (earlier : List (List ChangeLine)) (last : Option (List ChangeLine)) (batch more : List ChangeLine) → last ≡ Some batch
     → length (earlier ++ option_to_list (Some more)) ≡ length (earlier ++ option_to_list last)
 one_batch earlier last batch more e =
     length-append earlier (more ∷ []) ∙ sym (ap (λ l. length (earlier ++ option_to_list l)) e ∙ length-append earlier (batch ∷ []))
 
 -- changes behind their batch line are read: they go to its batch, and what is told stays small
-read-changes : (told : Told) (batch cs : List Change) (lines updates most : ℕ) → told.last ≡ Some batch → All IsFit cs → IsSmall told lines updates most
+read-changes : (told : Told) (batch cs : List ChangeLine) (lines updates most : ℕ) → told.last ≡ Some batch → All IsFit cs → IsSmall told lines updates most
     → AreFew lines (updates + length cs) most → AfterChanges told batch cs lines updates most
 read-changes told batch [] lines updates most last fit small few = record {
   to = told;
@@ -200,14 +202,14 @@ read-changes told batch (c ∷ cs) lines updates most last fit small few =
     }
 
 -- what is told after batches
-record AfterBatches (told : Told) (batches' : List (List Change)) (lines updates most : ℕ) : Type 0 where
+record AfterBatches (told : Told) (batches' : List (List ChangeLine)) (lines updates most : ℕ) : Type 0 where
   to : Told
   reads : Reads told (flat_map batch_said batches') to
   edges' : to.edges ≡ told.edges
   all : batches to ≡ batches told ++ batches'
 
 -- batches are read one after the other: they are told behind the earlier ones
-read-batches : (told : Told) (bs : List (List Change)) (lines updates most : ℕ) → All IsBatch bs → IsSmall told lines updates most
+read-batches : (told : Told) (bs : List (List ChangeLine)) (lines updates most : ℕ) → All IsBatch bs → IsSmall told lines updates most
     → AreFew lines (updates + TURNS * length bs) (most + length bs) → AfterBatches told bs lines updates most
 read-batches told [] lines updates most are small few = record { to = told; reads = reads-none told; edges' = refl; all = sym (append-nil (batches told)) }
 read-batches told (b ∷ bs) lines updates most are small few =
@@ -248,7 +250,7 @@ pub told-generated : (number : ℕ) → (told : Told) × IsTold number told
 told-generated number =
     let drawn = generated-is number in
     let es : List (ℕ × ℕ) = generated_edges number in
-    let bs : List (List Change) = generated_batches number in
+    let bs : List (List ChangeLine) = generated_batches number in
     let none : IsSmall nothing_told 0 0 0 = record { ids = λ q h. absurd (false≢true h); edges = omega arith; changes = omega arith; batches = omega arith } in
     let first : AfterEdges nothing_told es 0 0 0 = read-edges nothing_told es 0 0 0 refl drawn.ids none
     (record { edges = omega (arith, drawn.edge_count); changes = omega arith; batches = omega arith }) in

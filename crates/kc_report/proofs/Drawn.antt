@@ -7,11 +7,11 @@ use Rattle.std.proofs.Math.Nat.{mod-lt}
 use Rattle.std.proofs.lemmas.Bool.{cases_Bool, eqb-false, or_parts}
 use Rattle.std.proofs.lemmas.List.Elements.{All-cons, All-get_or, All-nil, All-push}
 use Rattle.std.proofs.lemmas.List.Quantifiers.{all_pairs_push}
-use Rattle.kc_text.specs.declared.change.Change.{Change}
+use Rattle.kc_text.specs.declared.change.ChangeLine.{ChangeLine}
 use Rattle.kc_text.specs.Batches.{NamesOnce}
 use Rattle.kc_text.specs.Meaning.{name_same}
 use Rattle.kc_report.specs.declared.sizes.TheConstants.{BATCHES, EDGE_LINES, IDS, TURNS}
-use Rattle.kc_report.specs.Draws.{drawn, next_state}
+use Rattle.kc_report.specs.TextDraws.{drawn, next_state}
 use Rattle.kc_report.specs.Generator.{adds, after_turns, change_of, drawn_batch, drawn_batches, drawn_change, drawn_edges, drawn_pair}
 use Rattle.kc_report.specs.Generator.{generated_batches, generated_edges, state_after_edges, state_after_turn, state_after_turns, with_turn}
 use Rattle.kc_report.proofs.Turns.{length-edges}
@@ -38,7 +38,7 @@ edges-ids (suc n) state = All-cons AreIds (drawn_pair state) (drawn_edges n (nex
     (edges-ids n (next_state (next_state state)))
 
 -- a change that is written: both ends are ids, and they differ
-pub record IsFit (c : Change) : Type 0 where
+pub record IsFit (c : ChangeLine) : Type 0 where
   pub ids : AreIds (c.a, c.b)
   pub apart : c.a ≢ c.b
 
@@ -57,20 +57,20 @@ change-ids edges state ids count =
     ]
 
 -- each change differs from one that none of them names
-changes-differ : (c : Change) (written : List Change) → list_any (name_same c) written ≡ false → All (λ d. name_same c d ≡ false) written
+changes-differ : (c : ChangeLine) (written : List ChangeLine) → list_any (name_same c) written ≡ false → All (λ d. name_same c d ≡ false) written
 changes-differ c [] none = All-nil (λ d. name_same c d ≡ false)
 changes-differ c (d ∷ written) none =
     let (first, rest) = or_parts (name_same c d) (list_any (name_same c) written) none in
     All-cons (λ d. name_same c d ≡ false) d written first (changes-differ c written rest)
 
 -- what is written after so many turns more
-pub record IsAfter (turns : ℕ) (written more : List Change) : Type 0 where
+pub record IsAfter (turns : ℕ) (written more : List ChangeLine) : Type 0 where
   pub fit : All IsFit more
   pub once : NamesOnce more
   pub few : length more ≤ turns + length written
 
 -- after one turn more, what is written fits and names no pair twice
-after_turn : (written : List Change) (c : Change) → All IsFit written → NamesOnce written → AreIds (c.a, c.b) → IsAfter 1 written (with_turn written c)
+after_turn : (written : List ChangeLine) (c : ChangeLine) → All IsFit written → NamesOnce written → AreIds (c.a, c.b) → IsAfter 1 written (with_turn written c)
 after_turn written c fit once ids =
     let is : (b : Bool) → (nat_eq c.a c.b || list_any (name_same c) written) ≡ b → IsAfter 1 written (cond b written (written ++ c ∷ []))
     → IsAfter 1 written (with_turn written c)
@@ -87,7 +87,7 @@ after_turn written c fit once ids =
     ]
 
 -- after all turns of a batch, what is written fits and names no pair twice
-after_all : (edges : List (ℕ × ℕ)) (turns state : ℕ) (written : List Change) → All AreIds edges → length edges ≡ EDGE_LINES → All IsFit written
+after_all : (edges : List (ℕ × ℕ)) (turns state : ℕ) (written : List ChangeLine) → All AreIds edges → length edges ≡ EDGE_LINES → All IsFit written
     → NamesOnce written
     → IsAfter turns written (after_turns edges turns state written)
 unfolding after_turns
@@ -98,7 +98,7 @@ after_all edges (suc turns) state written ids count fit once =
     record { fit = rest.fit; once = rest.once; few = omega (arith, rest.few, first.few) }
 
 -- the changes of a batch
-pub record IsBatch (changes : List Change) : Type 0 where
+pub record IsBatch (changes : List ChangeLine) : Type 0 where
   pub fit : All IsFit changes
   pub once : NamesOnce changes
   pub few : length changes ≤ TURNS
@@ -124,7 +124,7 @@ length-batches edges zero state = refl
 length-batches edges (suc n) state = ap suc (length-batches edges n (state_after_turns TURNS state))
 
 -- what a generated text has
-pub record IsDrawn (edges : List (ℕ × ℕ)) (batches : List (List Change)) : Type 0 where
+pub record IsDrawn (edges : List (ℕ × ℕ)) (batches : List (List ChangeLine)) : Type 0 where
   pub ids : All AreIds edges
   pub edge_count : length edges ≡ EDGE_LINES
   pub fit : All IsBatch batches

@@ -5,7 +5,7 @@ use Rattle.std.specs.Fmt.{decimal}
 use Rattle.std.specs.List.{flat_map}
 use Rattle.std.proofs.lemmas.Fmt.{length-decimal-le}
 use Rattle.std.proofs.lemmas.List.Elements.{All-head, All-tail}
-use Rattle.kc_text.specs.declared.change.Change.{Change}
+use Rattle.kc_text.specs.declared.change.ChangeLine.{ChangeLine}
 use Rattle.kc_text.specs.declared.limits.TheConstants.{MOST_BYTES}
 use Rattle.kc_report.specs.declared.sizes.TheConstants.{IDS, TURNS}
 use Rattle.kc_report.specs.Generator.{batch_lines, change_line, generated, generated_batches, generated_edges}
@@ -37,11 +37,11 @@ length-all f P most each (x ∷ xs) all =
     omega (arith, length-append (f x) (flat_map f xs), each x (All-head P x xs all))
 
 -- a line of a change has twelve bytes at most
-length-change : (change : Change) → IsFit change → length (change_line change) ≤ 12
+length-change : (change : ChangeLine) → IsFit change → length (change_line change) ≤ 12
 length-change change fit = omega (arith, length-pair (change.a, change.b) fit.ids)
 
 -- the lines of a batch have six bytes and twelve for each turn at most
-length-batch : (changes : List Change) → IsBatch changes → length (batch_lines changes) ≤ 6 + 12 * TURNS
+length-batch : (changes : List ChangeLine) → IsBatch changes → length (batch_lines changes) ≤ 6 + 12 * TURNS
 length-batch changes batch =
     let lines = length-all change_line IsFit 12 length-change changes batch.fit in
     omega (arith, length-append (codes "batch") (10 ∷ flat_map change_line changes), batch.few)

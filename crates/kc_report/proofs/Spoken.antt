@@ -3,9 +3,9 @@ use Rattle.std.proofs.Common.{◌≡◌, ℕ, cond, List, [], ◌∷◌, ◌++�
 use Rattle.std.specs.Prelude.{All}
 use Rattle.std.specs.List.{flat_map}
 use Rattle.std.proofs.lemmas.List.Elements.{All-head, All-tail}
-use Rattle.kc_text.specs.declared.change.Change.{Change}
-use Rattle.kc_text.specs.declared.line.Line.{Line}
-use Rattle.kc_text.specs.declared.line.Line.TheVariants as said
+use Rattle.kc_text.specs.declared.change.ChangeLine.{ChangeLine}
+use Rattle.kc_text.specs.declared.line.TextLine.{TextLine}
+use Rattle.kc_text.specs.declared.line.TextLine.TheVariants as said
 use Rattle.kc_text.specs.Forms.{all_said}
 use Rattle.kc_text.proofs.Printed.{pair, said-batch_line, said-change_line, said-edge_line}
 use Rattle.kc_report.specs.Generator.{batch_lines, change_line, generated, generated_batches, generated_edges}
@@ -13,15 +13,15 @@ use Rattle.kc_report.specs.Lines.{pair_line}
 use Rattle.kc_report.proofs.Drawn.{AreIds, IsBatch, IsFit, generated-is}
 
 -- what the line of an edge says
-abbrev pub edge_said : ℕ × ℕ → Line
+abbrev pub edge_said : ℕ × ℕ → TextLine
 edge_said edge = said.Edge edge.0 edge.1
 
 -- what the line of a change says
-abbrev pub change_said : Change → Line
+abbrev pub change_said : ChangeLine → TextLine
 change_said c = said.Change c
 
 -- what the lines of a batch say
-abbrev pub batch_said : List Change → List Line
+abbrev pub batch_said : List ChangeLine → List TextLine
 batch_said changes = said.Batch ∷ map change_said changes
 
 -- a line, the lines behind it, and the rest
@@ -38,7 +38,7 @@ said-edges (edge ∷ edges) rest ids =
     ∙ ap (λ t. edge_said edge ∷ t) (said-edges edges rest (All-tail AreIds edge edges ids))
 
 -- the lines of changes say these changes, whatever lines come behind them
-said-changes : (changes : List Change) (rest : List ℕ) → All IsFit changes → all_said (flat_map change_line changes ++ rest)
+said-changes : (changes : List ChangeLine) (rest : List ℕ) → All IsFit changes → all_said (flat_map change_line changes ++ rest)
     ≡ map change_said changes ++ all_said rest
 said-changes [] rest fit = refl
 said-changes (c ∷ changes) rest fit =
@@ -48,7 +48,7 @@ said-changes (c ∷ changes) rest fit =
     ∙ ap (λ t. change_said c ∷ t) (said-changes changes rest (All-tail IsFit c changes fit))
 
 -- the lines of batches say these batches
-said-batches : (batches : List (List Change)) → All IsBatch batches → all_said (flat_map batch_lines batches) ≡ flat_map batch_said batches
+said-batches : (batches : List (List ChangeLine)) → All IsBatch batches → all_said (flat_map batch_lines batches) ≡ flat_map batch_said batches
 said-batches [] are = refl
 said-batches (changes ∷ batches) are =
     ap all_said (append_assoc (codes "batch") (10 ∷ flat_map change_line changes) (flat_map batch_lines batches))

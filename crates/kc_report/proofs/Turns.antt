@@ -1,9 +1,9 @@
 -- One more of so many things that are drawn, in a loop that counts up to them.
 use Rattle.std.proofs.Common.{◌≡◌, ◌<◌, ◌+◌, ◌-◌, ℕ, suc, zero, length, List, [], ◌∷◌, ◌++◌, ap, sym, ◌∙◌, arith, append_assoc, append-nil, refl}
 use Rattle.std.specs.List.{flat_map}
-use Rattle.kc_text.specs.declared.change.Change.{Change}
+use Rattle.kc_text.specs.declared.change.ChangeLine.{ChangeLine}
 use Rattle.kc_report.specs.declared.sizes.TheConstants.{BATCHES, EDGE_LINES, TURNS}
-use Rattle.kc_report.specs.Draws.{next_state}
+use Rattle.kc_report.specs.TextDraws.{next_state}
 use Rattle.kc_report.specs.Lines.{pair_line}
 use Rattle.kc_report.specs.Generator.{after_turns, batch_lines, drawn_batch, drawn_batches, drawn_change, drawn_edges, drawn_pair, generated}
 use Rattle.kc_report.specs.Generator.{generated_edges, state_after_edges, state_after_turn, state_after_turns, with_turn}
@@ -53,7 +53,7 @@ unfolding state_after_edges
 edges_state-end n i state all e whole = ap (λ k. state_after_edges k state) (none_left n i e) ∙ whole
 
 -- what is written after turns is what the first one writes, and then one turn fewer
-first_turn : (edges : List (ℕ × ℕ)) (k m state : ℕ) (written : List Change) → k ≡ suc m
+first_turn : (edges : List (ℕ × ℕ)) (k m state : ℕ) (written : List ChangeLine) → k ≡ suc m
     → after_turns edges k state written ≡ after_turns edges m (state_after_turn state) (with_turn written (drawn_change edges state))
 unfolding after_turns
 first_turn edges k m state written e = ap (λ k. after_turns edges k state written) e
@@ -64,7 +64,8 @@ unfolding state_after_turns
 after_first_turn k m state e = ap (λ k. state_after_turns k state) e
 
 -- what is written after one turn more, with the turns that are left
-pub changes-turn : (edges : List (ℕ × ℕ)) (n i state after : ℕ) (written more all : List Change) (change : Change) → i < n → change ≡ drawn_change edges state
+pub changes-turn : (edges : List (ℕ × ℕ)) (n i state after : ℕ) (written more all : List ChangeLine) (change : ChangeLine) → i < n
+    → change ≡ drawn_change edges state
     → after ≡ state_after_turn state → more ≡ with_turn written change
     → after_turns edges (n - i) state written ≡ all → after_turns edges (n - (i + 1)) after more ≡ all
 changes-turn edges n i state after written more all change l drawn next with' whole =
@@ -79,7 +80,7 @@ turns_state-turn n i state after all l next whole =
     ap (λ s. state_after_turns (n - (i + 1)) s) next ∙ sym (after_first_turn (n - i) (n - (i + 1)) state (turns-left n i l)) ∙ whole
 
 -- where no turn is left, what is written is all
-pub changes-end : (edges : List (ℕ × ℕ)) (n i state : ℕ) (written all : List Change) → n ≡ i → after_turns edges (n - i) state written ≡ all → written ≡ all
+pub changes-end : (edges : List (ℕ × ℕ)) (n i state : ℕ) (written all : List ChangeLine) → n ≡ i → after_turns edges (n - i) state written ≡ all → written ≡ all
 unfolding after_turns
 changes-end edges n i state written all e whole = ap (λ k. after_turns edges k state written) (none_left n i e) ∙ whole
 

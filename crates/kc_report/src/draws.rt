@@ -1,6 +1,6 @@
 //! Numbers that look random and follow from a seed alone.
 ghost use Rattle.std.specs.Prelude.{◌≡◌, ◌<◌};
-ghost use Rattle.kc_report.specs.Draws.{drawn, next_state};
+ghost use Rattle.kc_report.specs.TextDraws.{drawn, next_state};
 
 /// The factor of a step.
 const MULTIPLIER: u64 = 6_364_136_223_846_793_005;
@@ -13,16 +13,16 @@ const DROPPED_BITS: u32 = 33;
 
 /// A linear congruential generator (Lehmer 1951), modulo 2^64. The factor and the summand are those of MMIX (Knuth 1997).
 #[derive(Drop)]
-pub(crate) struct Draws {
+pub(crate) struct TextDraws {
     state: u64,
 }
 
-impl Draws {
+impl TextDraws {
     /// The numbers that follow from a seed.
-    pub(crate) fn new(seed: u32) -> Draws
+    pub(crate) fn new(seed: u32) -> TextDraws
         ensures { result.state ≡ seed }
     {
-        Draws {
+        TextDraws {
             state: u64::from(seed),
         }
     }

@@ -11,10 +11,10 @@ ghost use Rattle.kc_report.specs.Lines.{pair_line};
 
 use crate::NoMemory;
 use crate::drawing::{draw_batch, draw_edges};
-use crate::draws::Draws;
+use crate::draws::TextDraws;
 use crate::pieces::put_pair;
 use crate::sizes::BATCHES;
-use kc_text::Change;
+use kc_text::ChangeLine;
 use std::alloc::Global;
 
 /// Puts a line for each edge.
@@ -28,7 +28,7 @@ fn put_edges(out: &mut Vec<u8>, edges: &[(u32, u32)]) -> Result<(), NoMemory>
 }
 
 /// Puts the line of a change.
-fn put_change(out: &mut Vec<u8>, change: Change) -> Result<(), NoMemory>
+fn put_change(out: &mut Vec<u8>, change: ChangeLine) -> Result<(), NoMemory>
     ensures { OnOk result (out.new.items ≡ out.old.items ++ change_line change) }
 {
     let sign = if change.add { b"+ " } else { b"- " };
@@ -37,7 +37,7 @@ fn put_change(out: &mut Vec<u8>, change: Change) -> Result<(), NoMemory>
 }
 
 /// Puts the line `batch`, and a line for each change.
-fn put_batch(out: &mut Vec<u8>, changes: &[Change]) -> Result<(), NoMemory>
+fn put_batch(out: &mut Vec<u8>, changes: &[ChangeLine]) -> Result<(), NoMemory>
     ensures { OnOk result (out.new.items ≡ out.old.items ++ batch_lines changes.now) }
 {
     out.extend_from_slice(b"batch\n")?;
@@ -52,7 +52,7 @@ fn put_drawn_batch(
     alloc: Global,
     out: &mut Vec<u8>,
     edges: &[(u32, u32)],
-    draws: &mut Draws,
+    draws: &mut TextDraws,
 ) -> Result<(), NoMemory>
     requires { length edges.now ≡ EDGE_LINES }
     ensures text { OnOk result (out.new.items ≡ out.old.items ++ batch_lines (drawn_batch edges.now draws.old.state)) }
@@ -68,7 +68,7 @@ fn put_drawn_batch(
 pub fn generate(alloc: Global, number: u32) -> Result<Vec<u8>, NoMemory>
     ensures { IfOk result (λ text. text.items ≡ generated number) }
 {
-    let mut draws = Draws::new(number);
+    let mut draws = TextDraws::new(number);
     let edges = draw_edges(alloc, &mut draws)?;
     let mut text = Vec::new(alloc);
     put_edges(&mut text, &edges)?;

@@ -83,7 +83,7 @@ impl Parts {
         ensures longer { IfOk result (λ last. All (λ p. IsPrefix p.log last.log) passes.old.items) }
         ensures same { OnErr result ((self.new ≡ self.old) × (passes.new ≡ passes.old)) }
     {
-        self.journal.look();
+        self.journal.recall_stands();
         let (words, levels, mut fresh) = self.journal.fresh_table(alloc, 0)?;
         let stripes = open_stripes(
             alloc,

@@ -1,8 +1,8 @@
 //! A run that is closed after one worker has entered an update.
 ghost use Rattle.std.specs.Prelude.{◌≡◌};
 
+use crate::entrant::Entrant;
 use crate::runs::run_of;
-use crate::worker::Worker;
 use kc_graph::{Lawful, Update};
 use kc_shared::{Parts, Shared};
 use kc_table::{Name, Pass, shape};
@@ -19,15 +19,14 @@ fn enter_by_one<K: Name + Ledger, R: Wait + Abort + AllocGlobal>(
     part: Share<K>,
     update: Update,
 ) -> (Pass, Share<K>)
-    requires table { pass.table ≡ K.table }
+    requires table { pass.table ≡ K.opened.table }
     requires part { part.parts ≡ 1 }
     ensures { result.1.parts ≡ 1 }
 {
     assert!(rt; update.v < shape(&shared.words).fixed);
-    let mut worker = Worker::hire(rt, &shared.words, pass, part);
-    worker.enter_at_last(rt, shared, 0, update);
-    let Worker { pass, part, .. } = worker;
-    (pass, part)
+    let mut entrant = Entrant::hire(rt, &shared.words, pass, part);
+    entrant.enter_at_last(rt, shared, 0, update);
+    entrant.end()
 }
 
 /// The same in a run that nobody else has a part of, which gives its parts again.
@@ -38,8 +37,8 @@ fn enter_alone<K: Name + Ledger, R: Wait + Abort + AllocGlobal>(
     blank: Blank,
     update: Update,
 ) -> (Parts, Pass)
-    requires table { (parts.words ≡ K.table) × (pass.table ≡ K.table) }
-    requires opened { (parts.journal.opened ≡ K.opening_edges) × (parts.journal.opening_stamps ≡ K.opening_stamps) }
+    requires table { (parts.words ≡ K.opened.table) × (pass.table ≡ K.opened.table) }
+    requires opened { (parts.journal.opened ≡ K.opened.edges) × (parts.journal.opening_stamps ≡ K.opened.stamps) }
     requires started { parts.journal.started ≡ K.start_edges }
     requires now { (parts.journal.levels.log ≡ K.log) × (parts.journal.entries ≡ K.entries) }
     requires ledger { (blank.name ≡ K.name) × (blank.parts ≡ K.parts) × (K.parts ≡ 1) }

@@ -7,10 +7,10 @@
 #[cfg(test)]
 mod closing;
 #[cfg(test)]
+mod entrant;
+#[cfg(test)]
 mod overtaking;
 #[cfg(test)]
 mod runs;
 #[cfg(test)]
 mod two_workers;
-#[cfg(test)]
-mod worker;

@@ -1,10 +1,10 @@
 //! Plans that are overtaken, also over a table that the run has gone on in.
 ghost use Rattle.std.specs.Prelude.{◌≡◌, ◌<◌};
 
+use crate::entrant::Entrant;
 use crate::runs::{assert_decomposed, run_of};
-use crate::worker::Worker;
 use kc_graph::Update;
-use kc_journal::Receipt;
+use kc_journal::{EnterFault, Receipt};
 use kc_shared::{Parts, Shared, SharedFault};
 use kc_table::{Name, Pass, shape};
 use kc_words::INDICES;
@@ -35,11 +35,11 @@ fn applied(index: u32, place: u32) -> Result<Receipt, SharedFault> {
 fn overtake<K: Name + Ledger, R: Wait + Abort + AllocGlobal>(
     rt: &R,
     shared: &Shared<K>,
-    worker: &mut Worker<K>,
+    entrant: &mut Entrant<K>,
     overtaken: Overtaken,
 )
-    requires late { overtaken.late.v < K.table.shape.fixed }
-    requires early { overtaken.early.v < K.table.shape.fixed }
+    requires late { overtaken.late.v < K.opened.table.shape.fixed }
+    requires early { overtaken.early.v < K.opened.table.shape.fixed }
     requires place { overtaken.place < INDICES }
 {
     let Overtaken {
@@ -48,12 +48,12 @@ fn overtake<K: Name + Ledger, R: Wait + Abort + AllocGlobal>(
         place,
         refused,
     } = overtaken;
-    let before = worker.plan_alone(rt, shared, late);
-    let first = worker.plan_alone(rt, shared, early);
-    let entered = worker.enter(rt, shared, 0, &first);
-    let overtaken = worker.enter(rt, shared, 1, &before);
-    let anew = worker.plan_alone(rt, shared, late);
-    let at_last = worker.enter(rt, shared, 1, &anew);
+    let before = entrant.plan_alone(rt, shared, late);
+    let first = entrant.plan_alone(rt, shared, early);
+    let entered = entrant.enter(rt, shared, 0, &first);
+    let overtaken = entrant.enter(rt, shared, 1, &before);
+    let anew = entrant.plan_alone(rt, shared, late);
+    let at_last = entrant.enter(rt, shared, 1, &anew);
     let wanted = [applied(0, place), Err(refused), applied(1, place + 1)];
     assert_eq!(rt; [entered, overtaken, at_last], wanted);
 }
@@ -66,18 +66,17 @@ fn overtake_by_one<K: Name + Ledger, R: Wait + Abort + AllocGlobal>(
     part: Share<K>,
     overtaken: Overtaken,
 ) -> (Pass, Share<K>)
-    requires table { pass.table ≡ K.table }
+    requires table { pass.table ≡ K.opened.table }
     requires part { part.parts ≡ 1 }
-    ensures { (result.0.table ≡ K.table) × (result.1.parts ≡ 1) }
+    ensures { (result.0.table ≡ K.opened.table) × (result.1.parts ≡ 1) }
 {
     let vertices = shape(&shared.words).fixed;
     assert!(rt;
         overtaken.late.v < vertices && overtaken.early.v < vertices && overtaken.place < INDICES
     );
-    let mut worker = Worker::hire(rt, &shared.words, pass, part);
-    overtake(rt, shared, &mut worker, overtaken);
-    let Worker { pass, part, .. } = worker;
-    (pass, part)
+    let mut entrant = Entrant::hire(rt, &shared.words, pass, part);
+    overtake(rt, shared, &mut entrant, overtaken);
+    entrant.end()
 }
 
 /// The same in a run that nobody else has a part of, which gives its parts again.
@@ -88,8 +87,8 @@ fn overtake_alone<K: Name + Ledger, R: Wait + Abort + AllocGlobal>(
     blank: Blank,
     overtaken: Overtaken,
 ) -> (Parts, Pass)
-    requires table { (parts.words ≡ K.table) × (pass.table ≡ K.table) }
-    requires opened { (parts.journal.opened ≡ K.opening_edges) × (parts.journal.opening_stamps ≡ K.opening_stamps) }
+    requires table { (parts.words ≡ K.opened.table) × (pass.table ≡ K.opened.table) }
+    requires opened { (parts.journal.opened ≡ K.opened.edges) × (parts.journal.opening_stamps ≡ K.opened.stamps) }
     requires started { parts.journal.started ≡ K.start_edges }
     requires now { (parts.journal.levels.log ≡ K.log) × (parts.journal.entries ≡ K.entries) }
     requires ledger { (blank.name ≡ K.name) × (blank.parts ≡ K.parts) × (K.parts ≡ 1) }
@@ -159,12 +158,12 @@ fn of_vertex_0(late: u32, early: u32, used: u32) -> Overtaken
             v: early,
         },
         place: now,
-        refused: SharedFault::Stale {
+        refused: SharedFault::Enter(EnterFault::Stale {
             vertex: 0,
             edges: true,
             used,
             now,
-        },
+        }),
     }
 }
 

@@ -8,18 +8,6 @@ use kc_table::Pass;
 use kc_words::VERTICES;
 use std::process::Abort;
 
-/// The graph with these edges, each with its lesser end first.
-fn graph_of<R: Abort + AllocGlobal>(rt: &R, vertices: u32, edges: &[(u32, u32)]) -> Graph
-    ensures { result.size ≡ vertices }
-{
-    let mut graph = Graph::new(rt.alloc(), vertices).expect(rt, "no memory");
-    for (u, v) in edges {
-        assert!(rt; *u < *v && *v < vertices);
-        graph.add(*u, *v).expect(rt, "no memory");
-    }
-    graph
-}
-
 /// A run that begins with these edges.
 pub(crate) fn run_of<R: Abort + AllocGlobal>(
     rt: &R,
@@ -33,11 +21,13 @@ pub(crate) fn run_of<R: Abort + AllocGlobal>(
     Parts::open(rt.alloc(), lawful, 0).expect(rt, "no memory")
 }
 
-/// The graph with these edges, and its core numbers.
+/// The graph with these edges, each with its lesser end first, and its core numbers.
 fn decomposed<R: Abort + AllocGlobal>(rt: &R, vertices: u32, edges: &[(u32, u32)]) -> Lawful
     ensures { result.graph.size ≡ vertices }
 {
-    decompose_owned(rt.alloc(), graph_of(rt, vertices, edges)).expect(rt, "no memory")
+    assert!(rt; edges.iter().all(|(u, v)| u < v && *v < vertices));
+    let graph = Graph::from_pairs(rt.alloc(), vertices, edges).expect(rt, "no memory");
+    decompose_owned(rt.alloc(), graph).expect(rt, "no memory")
 }
 
 /// The journal has these edges, and the core numbers that `decompose` finds for them.
@@ -54,7 +44,7 @@ pub(crate) fn assert_decomposed<R: Abort + AllocGlobal>(
 
 /// Graph and core numbers are those.
 fn assert_same<R: Abort>(rt: &R, journal: &Journal, lawful: &Lawful) {
-    journal.look();
+    journal.recall_stands();
     let vertices = journal.graph().vertices();
     assert_eq!(rt; lawful.graph().vertices(), vertices);
     for v in 0..vertices {

@@ -1,8 +1,8 @@
 //! Two workers that enter updates at once.
 ghost use Rattle.std.specs.Prelude.{◌≡◌};
 
+use crate::entrant::Entrant;
 use crate::runs::{assert_decomposed, run_of};
-use crate::worker::Worker;
 use kc_shared::{Parts, Shared};
 use kc_table::{Name, Pass, split};
 use std::marker::Brand;
@@ -40,19 +40,19 @@ fn go_over_at_once<K: Name + Ledger + Send + Sync, R: Threads + Wait + Abort + A
     mut pass: Pass,
     mut part: Share<K>,
 ) -> Share<K>
-    requires table { pass.table ≡ K.table }
+    requires table { pass.table ≡ K.opened.table }
     requires two { part.parts ≡ 2 }
     ensures { result.parts ≡ 2 }
 {
     let other = split(&shared.words, &mut pass);
-    let second = Worker::hire(rt, &shared.words, other, part.split_off(1, 0));
-    let first = Worker::hire(rt, &shared.words, pass, part);
+    let second = Entrant::hire(rt, &shared.words, other, part.split_off(1, 0));
+    let first = Entrant::hire(rt, &shared.words, pass, part);
     let (first, second) = thread::join(
         rt,
         move || first.go_over(rt, shared, &FIRST),
         move || second.go_over(rt, shared, &SECOND),
     );
-    let Worker { mut part, .. } = first;
+    let (_, mut part) = first.end();
     part.merge(second.part);
     part
 }
@@ -64,8 +64,8 @@ fn go_over_by_two<K: Name + Ledger + Send + Sync, R: Threads + Wait + Abort + Al
     pass: Pass,
     blank: Blank,
 ) -> Parts
-    requires table { (parts.words ≡ K.table) × (pass.table ≡ K.table) }
-    requires opened { (parts.journal.opened ≡ K.opening_edges) × (parts.journal.opening_stamps ≡ K.opening_stamps) }
+    requires table { (parts.words ≡ K.opened.table) × (pass.table ≡ K.opened.table) }
+    requires opened { (parts.journal.opened ≡ K.opened.edges) × (parts.journal.opening_stamps ≡ K.opened.stamps) }
     requires started { parts.journal.started ≡ K.start_edges }
     requires now { (parts.journal.levels.log ≡ K.log) × (parts.journal.entries ≡ K.entries) }
     requires ledger { (blank.name ≡ K.name) × (blank.parts ≡ K.parts) × (K.parts ≡ 2) }

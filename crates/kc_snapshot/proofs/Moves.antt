@@ -8,7 +8,7 @@ use mathlib.Core.List.{IsPrefix}
 use prog.Atomic.{either}
 use Rattle.logbook.specs.Pages.{Cell, cell, keeps, gives, adds, no_nib, nib, may_make, may_write, step, Moves, Goes, Away}
 use Rattle.kc_snapshot.specs.declared.member.Member.{Member}
-use Rattle.kc_snapshot.specs.Rules.{IsKept, behind_head, cells_of, TellsPen, TellsAdded, TellsLength}
+use Rattle.kc_snapshot.specs.Rules.{AreHistoryCells, behind_head, cells_of, TellsPen, TellsAdded, TellsLength}
 use Rattle.kc_snapshot.proofs.Prefixes.{prefix_whole, prefix_length}
 use Rattle.kc_snapshot.proofs.Cells.{home, home-cell, length-cells, one_away, one_home}
 
@@ -32,7 +32,7 @@ kept_words h pens log is =
 -- the step that makes a pen: where the head is the one expected
 pub pen_goes : (log v : List Member) (e : Member) (m p old : ℕ) → p < 2 → old ≡ 3 * m + p
     → (pens : ℕ) → pens ≤ 2 → (b : Bool) → (3 * length log + pens == old) ≡ b
-    → Goes IsKept shown moved 0 (v, (no_nib, None)) (exchanged old (old + 1)) (TellsPen (step 0 old (old + 1) e) (v, (no_nib, None)))
+    → Goes AreHistoryCells shown moved 0 (v, (no_nib, None)) (exchanged old (old + 1)) (TellsPen (step 0 old (old + 1) e) (v, (no_nib, None)))
     (cells_of (length log) pens) log
 pen_goes log v e m p old few old_is pens pens_few true is =
     let n : ℕ = length log in
@@ -63,12 +63,12 @@ pen_goes log v e m p old few old_is pens pens_few false is =
 
 -- whatever the book is, the step makes a pen where the head is the one expected
 pub pen_moves : (v : List Member) (e : Member) (m p old : ℕ) → p < 2 → old ≡ 3 * m + p
-    → Moves IsKept shown moved 0 (v, (no_nib, None)) (exchanged old (old + 1)) (TellsPen (step 0 old (old + 1) e) (v, (no_nib, None)))
+    → Moves AreHistoryCells shown moved 0 (v, (no_nib, None)) (exchanged old (old + 1)) (TellsPen (step 0 old (old + 1) e) (v, (no_nib, None)))
 pen_moves v e m p old few old_is cs log kept pre away =
     let P : List Cell → Type 0 =
     λ c.
     (0 < length c) × ((cell c 0).1 ≡ true)
-    × Goes IsKept shown moved 0 (v, (no_nib, None)) (exchanged old (old + 1))
+    × Goes AreHistoryCells shown moved 0 (v, (no_nib, None)) (exchanged old (old + 1))
     (TellsPen (step 0 old (old + 1) e) (v, (no_nib, None))) c log in
     subst P (sym kept.words) (omega arith, refl, pen_goes log v e m p old few old_is kept.pens kept.few (3 * length log + kept.pens == old) refl)
 
@@ -79,7 +79,7 @@ cell-behind_lists n pens k is = elim (cases_lt k (n + 2)) [ inl l ↦ absurd (cc
 -- the step that adds a list: who has the pen has seen the whole history
 pub list_goes : (log v : List Member) (e : Member) (k old : ℕ) → k ≡ length v + 2 → old ≡ 3 * length v + 2 → IsPrefix v log
     → (pens : ℕ) → pens ≤ 2 → (cell (cells_of (length log) pens) k).1 ≡ false → (b : Bool) → (3 * length log + pens == old) ≡ b
-    → Goes IsKept shown moved 0 (v, (nib may_write k 0, None)) (exchanged old (old + 2))
+    → Goes AreHistoryCells shown moved 0 (v, (nib may_write k 0, None)) (exchanged old (old + 2))
     (TellsAdded (step 0 old (old + 2) e) (v, (nib may_write k 0, None))) (cells_of (length log) pens) log
 list_goes log v e k old k_is old_is pre pens few out true is =
     let n : ℕ = length log in
@@ -119,13 +119,16 @@ list_goes log v e k old k_is old_is pre pens few out false is =
 
 -- whatever the book is, the step adds the list or changes nothing
 pub list_moves : (v : List Member) (e : Member) (k old : ℕ) → k ≡ length v + 2 → old ≡ 3 * length v + 2
-    → Moves IsKept shown moved 0 (v, (nib may_write k 0, None)) (exchanged old (old + 2)) (TellsAdded (step 0 old (old + 2) e) (v, (nib may_write k 0, None)))
+    → Moves AreHistoryCells shown moved 0 (v, (nib may_write k 0, None)) (exchanged old (old + 2)) (TellsAdded (step 0 old (old + 2) e) (
+      v,
+      (nib may_write k 0, None),
+    ))
 list_moves v e k old k_is old_is cs log kept pre away =
     let P : List Cell → Type 0 =
     λ c.
     Away (nib may_write k 0) c
     → (0 < length c) × ((cell c 0).1 ≡ true)
-    × Goes IsKept shown moved 0 (v, (nib may_write k 0, None)) (exchanged old (old + 2))
+    × Goes AreHistoryCells shown moved 0 (v, (nib may_write k 0, None)) (exchanged old (old + 2))
     (TellsAdded (step 0 old (old + 2) e) (v, (nib may_write k 0, None))) c log in
     subst P (sym kept.words)
     (λ out. (
@@ -143,7 +146,7 @@ same_head h false is = rw is refl
 -- the step that looks how long the history is, where all that was seen has the pen's own part in it
 pub length_goes : (log v : List Member) (e : Member) (k : ℕ) → k ≤ length v + 2 → IsPrefix v log
     → (pens : ℕ) → pens ≤ 2 → (cell (cells_of (length log) pens) k).1 ≡ false
-    → Goes IsKept shown moved 0 (v, (nib may_write k 0, None)) (exchanged 0 0) (TellsLength (step 0 0 0 e) (v, (nib may_write k 0, None)))
+    → Goes AreHistoryCells shown moved 0 (v, (nib may_write k 0, None)) (exchanged 0 0) (TellsLength (step 0 0 0 e) (v, (nib may_write k 0, None)))
     (cells_of (length log) pens) log
 length_goes log v e k k_le pre pens few out =
     let le : length log + 2 ≤ k = cell-behind_lists (length log) pens k out in
@@ -161,12 +164,12 @@ length_goes log v e k k_le pre pens few out =
 
 -- whatever the book is, it has no more lists than the pen says
 pub length_moves : (v : List Member) (e : Member) (k : ℕ) → k ≤ length v + 2
-    → Moves IsKept shown moved 0 (v, (nib may_write k 0, None)) (exchanged 0 0) (TellsLength (step 0 0 0 e) (v, (nib may_write k 0, None)))
+    → Moves AreHistoryCells shown moved 0 (v, (nib may_write k 0, None)) (exchanged 0 0) (TellsLength (step 0 0 0 e) (v, (nib may_write k 0, None)))
 length_moves v e k k_le cs log kept pre away =
     let P : List Cell → Type 0 =
     λ c.
     Away (nib may_write k 0) c
     → (0 < length c) × ((cell c 0).1 ≡ true)
-    × Goes IsKept shown moved 0 (v, (nib may_write k 0, None)) (exchanged 0 0)
+    × Goes AreHistoryCells shown moved 0 (v, (nib may_write k 0, None)) (exchanged 0 0)
     (TellsLength (step 0 0 0 e) (v, (nib may_write k 0, None))) c log in
     subst P (sym kept.words) (λ out. (omega arith, refl, length_goes log v e k k_le pre kept.pens kept.few (out refl).1)) away

@@ -16,7 +16,7 @@ abbrev pub cells_of : ℕ → ℕ → List Cell
 cells_of members pens = (3 * members + pens, true) ∷ behind_head members pens
 
 -- the cells are those for as many members as the history has, and for at most two pens
-pub record IsKept (cells : List Cell) (log : List Member) : Type 0 where
+pub record AreHistoryCells (cells : List Cell) (log : List Member) : Type 0 where
   pub pens : ℕ
   pub few : pens ≤ 2
   pub words : cells ≡ cells_of (length log) pens

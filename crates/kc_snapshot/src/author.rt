@@ -4,7 +4,7 @@ ghost use mathlib.Core.List.{IsPrefix};
 ghost use Rattle.kc_snapshot.specs.Histories.{changed, last_list, member, width};
 
 use crate::NoMemory;
-use crate::front::{Begun, Front, begin};
+use crate::front::{Front, OpenedHistory, begin};
 use crate::listing::Place;
 use crate::name::BoardName;
 use crate::rule::Draft;
@@ -43,7 +43,7 @@ impl<J: BoardName> Author<J> {
         ensures { IfOk result (λ a. a ≡ member (changed core.now.items places.now.items) ∷ []) }
     {
         let draft = Draft::of(core, places);
-        let Some(Begun { head, pen, front }) = begin::<J>(blank, &draft) else {
+        let Some(OpenedHistory { head, pen, front }) = begin::<J>(blank, &draft) else {
             return Err(NoMemory);
         };
         Ok(Author { head, pen, front })
@@ -56,7 +56,7 @@ impl<J: BoardName> Author<J> {
         &self.front
     }
 
-    /// Adds a list to the history: this one, changed at these places.
+    /// AddsList a list to the history: this one, changed at these places.
     pub(crate) fn add(&mut self, core: &Vec<u32>, places: &Vec<Place>) -> Result<(), NoMemory>
         requires room { length self.old + 1 < 2 ^ 32 }
         requires core { core.now.items ≡ last_list self.old }

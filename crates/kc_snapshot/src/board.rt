@@ -33,13 +33,13 @@ impl<J: BoardName> Model for Board<J> {
 
 /// From one list to the next: the places that differ, and the history before and after. Contracts see these two.
 #[derive(Drop)]
-pub struct Change<J: BoardName> {
+pub struct BoardChange<J: BoardName> {
     before: Front<J>,
     after: Front<J>,
     places: Vec<Place>,
 }
 
-impl<J: BoardName> Model for Change<J> {
+impl<J: BoardName> Model for BoardChange<J> {
     ghost use Rattle.std.specs.Prelude.{◌≡◌};
     ghost use Rattle.kc_snapshot.specs.Histories.{changed, last_list};
     ghost use Rattle.kc_snapshot.specs.Changes.{Going};
@@ -86,13 +86,13 @@ impl<J: BoardName> Board<J> {
     }
 }
 
-impl<J: BoardName> Change<J> {
+impl<J: BoardName> BoardChange<J> {
     /// The change of these places, from one list to the next.
-    pub(crate) fn new(before: Front<J>, after: Front<J>, places: Vec<Place>) -> Change<J>
+    pub(crate) fn new(before: Front<J>, after: Front<J>, places: Vec<Place>) -> BoardChange<J>
         requires { last_list after ≡ changed (last_list before) places.items }
         ensures { result ≡ record { before = before; after = after } }
     {
-        Change {
+        BoardChange {
             before,
             after,
             places,
@@ -101,7 +101,7 @@ impl<J: BoardName> Change<J> {
 }
 
 /// A board that is not where the change begins stays as it is. No such change is made.
-impl<J: BoardName> Absorb<Change<J>> for Board<J> {
+impl<J: BoardName> Absorb<BoardChange<J>> for Board<J> {
     type State = [Member; 0];
 
     ghost state = { λ board. board };
@@ -110,8 +110,12 @@ impl<J: BoardName> Absorb<Change<J>> for Board<J> {
 
     ghost never_fails = { Unit {0} };
 
-    fn absorb_first(&mut self, operation: &Change<J>, _other: &Board<J>) -> Result<(), AllocError> {
-        let Change {
+    fn absorb_first(
+        &mut self,
+        operation: &BoardChange<J>,
+        _other: &Board<J>,
+    ) -> Result<(), AllocError> {
+        let BoardChange {
             before,
             after,
             places,

@@ -35,14 +35,14 @@ impl<J: BoardName> Model for Front<J> {
 }
 
 /// What opens a history: the head of its book, the pen for the second list, and the history with the first one.
-pub(crate) struct Begun<J: BoardName> {
+pub(crate) struct OpenedHistory<J: BoardName> {
     pub head: Head,
     pub pen: Pen,
     pub front: Front<J>,
 }
 
 /// Begins the history of a board. None where another has begun it.
-pub(crate) fn begin<J: BoardName>(blank: Blank, draft: &Draft) -> Option<Begun<J>>
+pub(crate) fn begin<J: BoardName>(blank: Blank, draft: &Draft) -> Option<OpenedHistory<J>>
     requires { blank ≡ J.book }
     ensures head { IfSome result (λ b. b.head ≡ head_of J.book) }
     ensures pen { IfSome result (λ b. IsPen J.book 1 b.pen.book b.pen.nib) }
@@ -59,7 +59,7 @@ pub(crate) fn begin<J: BoardName>(blank: Blank, draft: &Draft) -> Option<Begun<J
         seen,
         of: PhantomData,
     };
-    Some(Begun { head, pen, front })
+    Some(OpenedHistory { head, pen, front })
 }
 
 impl<J: BoardName> Front<J> {
@@ -144,7 +144,7 @@ impl<J: BoardName> Front<J> {
         }
     }
 
-    /// Adds a list, and says whether it did.
+    /// AddsList a list, and says whether it did.
     pub(crate) fn extend(&mut self, head: &Head, pen: &mut Pen, draft: &Draft) -> bool
         requires head { head.now ≡ head_of J.book }
         requires pen { IsPen J.book (length self.old) pen.old.book pen.old.nib }

@@ -7,7 +7,7 @@ ghost use Rattle.kc_snapshot.specs.Histories.{DifferAmong, changed, last_list, m
 
 use crate::NoMemory;
 use crate::author::Author;
-use crate::board::{Board, Change};
+use crate::board::{Board, BoardChange};
 use crate::front::{Front, Note};
 use crate::listing::{Place, differences, numbers_at};
 use crate::member::Member;
@@ -25,7 +25,7 @@ pub const MOST_READERS: u32 = 64;
 /// The most lists that a board may have.
 pub const MOST_LISTS: u32 = u32::MAX;
 
-type Shown<J, R> = WriteHandle<Board<J>, Change<J>, R>;
+type BoardWriter<J, R> = WriteHandle<Board<J>, BoardChange<J>, R>;
 
 /// The one that publishes. Contracts see the whole history of the board.
 ///
@@ -33,16 +33,16 @@ type Shown<J, R> = WriteHandle<Board<J>, Change<J>, R>;
 #[derive(Drop)]
 pub struct Publisher<J: BoardName, R: Wait + Drop>
 where
-    Board<J>: Absorb<Change<J>, State = [Member; 0]>,
+    Board<J>: Absorb<BoardChange<J>, State = [Member; 0]>,
 {
     alloc: Global,
     author: Author<J>,
-    shown: Shown<J, R>,
+    shown: BoardWriter<J, R>,
 }
 
 impl<J: BoardName, R: Wait + Drop> Model for Publisher<J, R>
 where
-    Board<J>: Absorb<Change<J>, State = [Member; 0]>,
+    Board<J>: Absorb<BoardChange<J>, State = [Member; 0]>,
 {
     ghost use Rattle.std.specs.Prelude.{◌≡◌, List, length};
     ghost use Rattle.left_right.specs.Handles.{pending, published};
@@ -90,15 +90,15 @@ pub fn open<J: BoardName, R: Wait + Drop>(
 fn make_room<J: BoardName, R: Wait + Drop>(
     alloc: Global,
     front: &Front<J>,
-    shown: &mut Shown<J, R>,
+    shown: &mut BoardWriter<J, R>,
 ) -> Result<(), NoMemory>
     requires published { published shown.old ≡ front.now }
     requires pending { length (pending shown.old) ≡ 0 }
     ensures published { IfOk result (λ _. published shown.new ≡ front.now) }
     ensures pending { IfOk result (λ _. length (pending shown.new) ≡ 0) }
 {
-    let one = Change::new(front.again(), front.again(), Vec::new(alloc));
-    let two = Change::new(front.again(), front.again(), Vec::new(alloc));
+    let one = BoardChange::new(front.again(), front.again(), Vec::new(alloc));
+    let two = BoardChange::new(front.again(), front.again(), Vec::new(alloc));
     shown.append(one).map_err(|_| NoMemory)?;
     shown.append(two).map_err(|_| NoMemory)?;
     shown.publish()?;
@@ -109,7 +109,7 @@ fn make_room<J: BoardName, R: Wait + Drop>(
 fn seat<J: BoardName, R: Wait + Drop>(
     alloc: Global,
     front: &Front<J>,
-    shown: &Shown<J, R>,
+    shown: &BoardWriter<J, R>,
     readers: u32,
 ) -> Result<Vec<Reader<J>>, NoMemory>
     ensures count { IfOk result (λ seats. vec_len seats ≡ readers) }
@@ -124,7 +124,11 @@ fn seat<J: BoardName, R: Wait + Drop>(
 
 // Keeps a change until it is shown. Room was made for it when the board was opened; where there is none, it asks again.
 #[tactic(auto, using(crate::proofs::Lists::only_one))]
-fn keep<J: BoardName, R: Wait + Drop, W: Wait>(rt: &W, shown: &mut Shown<J, R>, change: Change<J>)
+fn keep<J: BoardName, R: Wait + Drop, W: Wait>(
+    rt: &W,
+    shown: &mut BoardWriter<J, R>,
+    change: BoardChange<J>,
+)
     requires { length (pending shown.old) ≡ 0 }
     ensures published { published shown.new ≡ published shown.old }
     ensures pending { pending shown.new ≡ change ∷ [] }
@@ -140,7 +144,11 @@ fn keep<J: BoardName, R: Wait + Drop, W: Wait>(rt: &W, shown: &mut Shown<J, R>, 
 }
 
 // Shows a change to the readers.
-fn show<J: BoardName, R: Wait + Drop, W: Wait>(rt: &W, shown: &mut Shown<J, R>, change: Change<J>)
+fn show<J: BoardName, R: Wait + Drop, W: Wait>(
+    rt: &W,
+    shown: &mut BoardWriter<J, R>,
+    change: BoardChange<J>,
+)
     requires { length (pending shown.old) ≡ 0 }
     ensures published { published shown.new ≡ gone_on (published shown.old) change }
     ensures pending { length (pending shown.new) ≡ 0 }
@@ -204,7 +212,7 @@ impl<J: BoardName, R: Wait + Drop> Publisher<J, R> {
         self.author.add(self.shown.published().core(), &places)?;
         let after = self.author.front().again();
         let number = after.last();
-        show(rt, &mut self.shown, Change::new(before, after, places));
+        show(rt, &mut self.shown, BoardChange::new(before, after, places));
         Ok(number)
     }
 

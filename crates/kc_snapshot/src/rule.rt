@@ -15,9 +15,9 @@ pub struct Law;
 impl Rule<Member, u64> for Law {
     ghost use Rattle.std.specs.Prelude.{[]};
     ghost use base.Fml.{ftrue};
-    ghost use Rattle.kc_snapshot.specs.Rules.{IsKept};
+    ghost use Rattle.kc_snapshot.specs.Rules.{AreHistoryCells};
 
-    ghost holds = { λ cells log. IsKept cells log };
+    ghost holds = { λ cells log. AreHistoryCells cells log };
 
     ghost first = { [] };
 
@@ -61,7 +61,7 @@ impl Draft {
 }
 
 /// What a step asks for: the list that is to be added.
-impl Plain<Draft, Member, u64> for Adds {
+impl Plain<Draft, Member, u64> for AddsList {
     ghost use Rattle.std.specs.Prelude.{None};
     ghost use Rattle.kc_snapshot.specs.Histories.{changed, member};
 
@@ -90,9 +90,9 @@ impl Play<Member, u64> for Prepares {
 }
 
 /// A step that adds a list.
-pub struct Adds;
+pub struct AddsList;
 
-impl Play<Member, u64> for Adds {
+impl Play<Member, u64> for AddsList {
     ghost use Rattle.kc_snapshot.specs.Rules.{TellsAdded};
 
     ghost then = { TellsAdded };

@@ -5,7 +5,7 @@ ghost use Rattle.kc_snapshot.specs.Histories.{changed, member};
 ghost use Rattle.kc_snapshot.specs.Rules.{IsPen, head_of};
 
 use crate::member::Member;
-use crate::rule::{Adds, Checks, Draft, Law, Nothing, Prepares};
+use crate::rule::{AddsList, Checks, Draft, Law, Nothing, Prepares};
 use logbook::{Offer, Pen, Seen, Start, Word};
 use std::marker::Model;
 
@@ -71,7 +71,7 @@ pub(crate) fn prepare(head: &Head, seen: &Known, members: u64, pens: u64) -> Opt
     Some(pen)
 }
 
-/// Adds a list to the history, which has so many, and says whether it did. It did not where the next pen is not made.
+/// AddsList a list to the history, which has so many, and says whether it did. It did not where the next pen is not made.
 pub(crate) fn add(head: &Head, seen: &mut Known, members: u64, pen: &mut Pen, draft: &Draft) -> bool
     requires head { head.now ≡ head_of seen.old.book }
     requires members { (members ≡ length seen.old.log) × (members < 2 ^ 32) }
@@ -82,9 +82,9 @@ pub(crate) fn add(head: &Head, seen: &mut Known, members: u64, pen: &mut Pen, dr
         (seen.new.log ≡ seen.old.log) }
     ensures pen { MatchBool result (Unit {0}) (IsPen seen.old.book members pen.new.book pen.new.nib) }
 {
-    let mut offer: Ask = seen.plain::<Nothing, Draft, Adds>(draft);
+    let mut offer: Ask = seen.plain::<Nothing, Draft, AddsList>(draft);
     let old = 3 * members + 2;
-    let found = head.compare_exchange::<Adds, Nothing>(old, old + 2, seen, &mut offer, pen);
+    let found = head.compare_exchange::<AddsList, Nothing>(old, old + 2, seen, &mut offer, pen);
     found == old
 }
 

@@ -13,7 +13,7 @@ use Rattle.kc_words.specs.declared.again.Again.{Again}
 use Rattle.kc_words.specs.declared.vertex.VertexWord.{VertexWord}
 use Rattle.kc_table.specs.declared.view.Event.{Event}
 use Rattle.kc_table.specs.Log.{PassSeen, TableName, value_at}
-use Rattle.kc_table.specs.State.{first_vertex}
+use Rattle.kc_table.specs.TableState.{first_vertex}
 use Rattle.kc_table.proofs.Prefixes.{prefix_self, prefix_trans}
 use Rattle.kc_table.proofs.Stamps.{stamp-is}
 use Rattle.kc_order.specs.Collected.{Collected, IsCollect, Loaded, Held, words_of}
@@ -25,7 +25,7 @@ use Rattle.kc_view.specs.declared.fault.PlanFault.{PlanFault}
 use Rattle.kc_view.specs.declared.fault.PlanFault.TheVariants as plan
 use Rattle.kc_agree.specs.Reads.{IsOtherPlace, WasList, WasPlace, WereRead, place_after, word_of_place}
 use Rattle.kc_agree.proofs.Growing.{reads_stay, nothing_read, one_list}
-use Rattle.kc_stripes.specs.Records.{Opened}
+use Rattle.kc_table.specs.Log.{Opened}
 use Rattle.kc_stripes.specs.Reads.{HadPlace, HadValue, HasLooseCause, IsMissed, WereReadSince}
 
 -- Where more was seen. ---------------------------------------------------------------------------------

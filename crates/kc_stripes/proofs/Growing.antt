@@ -2,19 +2,20 @@
 use Rattle.std.proofs.Common.{◌≡◌, ◌-◌, ℕ, List, take, sym, ◌∙◌, subst}
 use Rattle.std.proofs.lemmas.Bool.{false_from_ne_true, true≢false}
 use mathlib.Core.List.{IsPrefix}
-use Rattle.kc_distinct.specs.Lists.{member}
+use Rattle.kc_lists.specs.Lists.{member}
 use Rattle.kc_graph.specs.SimpleGraph.{SimpleGraph}
 use Rattle.kc_graph.specs.Neighbours.{AreNeighbours}
 use Rattle.kc_graph.specs.declared.used.UsedEdges.{UsedEdges}
 use Rattle.kc_graph.proofs.Law.{adjacent-self}
 use Rattle.kc_table.specs.declared.view.Event.{Event}
 use Rattle.kc_table.specs.Edges.{edges_after}
-use Rattle.kc_table.specs.State.{state_of}
+use Rattle.kc_table.specs.TableState.{state_of}
 use Rattle.kc_view.specs.Lists.{IsListOf}
 use Rattle.kc_agree.specs.Reads.{WasList}
 use Rattle.kc_agree.proofs.Growing.{list_stays}
 use Rattle.kc_agree.proofs.Neighbouring.{size-after_all}
-use Rattle.kc_stripes.specs.Records.{Opened, IsRecord}
+use Rattle.kc_stripes.specs.Records.{IsRecord}
+use Rattle.kc_table.specs.Log.{Opened}
 
 -- the neighbours of a vertex are a list of it
 pub neighbours_list : (g : SimpleGraph) (v : ℕ) (ws : List ℕ) → AreNeighbours g v ws → IsListOf g.size v ws

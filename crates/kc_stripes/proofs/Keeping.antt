@@ -11,7 +11,9 @@ use Rattle.kc_table.specs.declared.view.Event.{Event}
 use Rattle.kc_agree.specs.Reads.{WasList}
 use Rattle.kc_agree.proofs.Growing.{opened_with}
 use Rattle.kc_stripes.specs.declared.stripe.TheConstants.{STRIPES}
-use Rattle.kc_stripes.specs.Records.{Opened, IsRecord, Striped, IsStripe, no_record, vertex_at, belongs, record_of}
+use Rattle.kc_stripes.specs.Records.{IsRecord, Striped, IsStripe, vertex_at, belongs, record_of}
+use Rattle.kc_view.specs.Marks.{no_list}
+use Rattle.kc_table.specs.Log.{Opened}
 use Rattle.kc_stripes.proofs.Growing.{record_stays}
 
 -- a vertex of the stripe stands at its place
@@ -30,7 +32,7 @@ place_in s w is here =
 -- the record at the place of a vertex of the stripe is its record, which is true
 pub record_is : (s : Striped) (w : ℕ) → IsStripe s → belongs s w ≡ true → IsRecord s.opened s.seen w (record_of s w)
 record_is s w is here =
-    subst (λ (v : ℕ). IsRecord s.opened s.seen v (record_of s w)) (place_is s w here) (is.each (w / STRIPES) no_record (place_in s w is here))
+    subst (λ (v : ℕ). IsRecord s.opened s.seen v (record_of s w)) (place_is s w here) (is.each (w / STRIPES) no_list (place_in s w is here))
 
 -- where the pass has seen more, each record stays true
 pub seen_more : (s : Striped) (log : List Event) → IsStripe s → IsPrefix s.seen log → IsStripe (record s { seen = log })
@@ -72,7 +74,7 @@ pub put_newer : (s : Striped) (log : List Event) (new r : UsedEdges) → IsStrip
 put_newer s log new r is pre here was read old =
     let w = new.vertex in
     let before : IsRecord s.opened s.seen w (record_of s w) = record_is s w is here in
-    let same : r.at ≡ (record_of s w).at = ap (λ (x : UsedEdges). x.at) (get_or_read s.records (w / STRIPES) r (place_in s w is here) read no_record) in
+    let same : r.at ≡ (record_of s w).at = ap (λ (x : UsedEdges). x.at) (get_or_read s.records (w / STRIPES) r (place_in s w is here) read no_list) in
     put_record (record s { seen = log }) new (seen_more s log is pre) here
     (record { vertex = refl; was = was; newer = omega (arith, before.newer, same, old) })
 
@@ -145,4 +147,4 @@ pub filled_at : (o : Opened) (log : List Event) (number vertex : ℕ) (records :
 filled_at o log number vertex records f few size ends v here =
     let s : Striped = record { number = number; opened = o; seen = log; records = records } in
     let place = place_in s v (stripe-filled o log number vertex records f few size ends) here in
-    f.opening (v / STRIPES) no_record place ∙ ap (λ n. get_or o.stamps n 0) (place_is s v here)
+    f.opening (v / STRIPES) no_list place ∙ ap (λ n. get_or o.stamps n 0) (place_is s v here)

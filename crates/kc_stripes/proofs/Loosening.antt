@@ -3,7 +3,7 @@ use Rattle.std.proofs.Common.{◌≡◌, ◌≤◌, ◌<◌, ℕ, true, List, []
 use Rattle.std.specs.Prelude.{Some, is_some}
 use Rattle.std.specs.Option.{unwrap_or}
 use mathlib.Core.List.{IsPrefix}
-use Rattle.kc_distinct.proofs.Members.{below_bound}
+use Rattle.kc_lists.proofs.Members.{below_bound}
 use Rattle.kc_graph.proofs.RowsLemmas.{Distinct-from_increasing}
 use Rattle.kc_graph.specs.SimpleGraph.{SimpleGraph}
 use Rattle.kc_graph.specs.declared.used.UsedEdges.{UsedEdges}
@@ -19,7 +19,7 @@ use Rattle.kc_view.proofs.Handing.{lists-push}
 use Rattle.kc_view.proofs.Keeping.{Further-refl, kept-list, no-lists}
 use Rattle.kc_view.proofs.Marking.{Further-list, Further-place, Further-order}
 use Rattle.kc_agree.specs.Reads.{WasList, WereRead, place_after}
-use Rattle.kc_stripes.specs.Records.{Opened}
+use Rattle.kc_table.specs.Log.{Opened}
 use Rattle.kc_stripes.specs.Reads.{Loosely, loosely, shown_loosely}
 use Rattle.kc_stripes.specs.Loose.{IsLoose}
 use Rattle.kc_stripes.proofs.Giving.{nothing_since, since_grows, list_since, place_since, missed_grows, list_below, core_below}

@@ -3,7 +3,7 @@ use Rattle.std.specs.Prelude.{◌≡◌, List}
 use mathlib.Core.List.{IsPrefix}
 use Rattle.kc_table.specs.declared.view.Event.{Event}
 use Rattle.kc_view.specs.Lists.{AreLists}
-use Rattle.kc_stripes.specs.Records.{Opened}
+use Rattle.kc_table.specs.Log.{Opened}
 use Rattle.kc_stripes.specs.Reads.{WereReadSince, Loosely}
 
 -- It has seen what it began with, what it keeps was read since, and each list is one of its vertex.

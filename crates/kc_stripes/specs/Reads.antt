@@ -12,7 +12,7 @@ use Rattle.kc_view.specs.declared.fault.PlanFault.{PlanFault}
 use Rattle.kc_view.specs.declared.fault.PlanFault.TheVariants as plan
 use Rattle.kc_agree.specs.Reads.{WereRead}
 use Rattle.kc_agree.specs.Stamps.{core_after, place_stamp}
-use Rattle.kc_stripes.specs.Records.{Opened}
+use Rattle.kc_table.specs.Log.{Opened}
 
 -- the vertex word had this stamp and core number after a prefix between the two
 pub record HadPlace (table : TableName) (start log : List Event) (p : UsedPlace) : Type 0 where

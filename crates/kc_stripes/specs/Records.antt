@@ -4,19 +4,10 @@ use Rattle.std.specs.Prelude.{nat_lt, if◌then◌else◌}
 use Rattle.kc_graph.specs.SimpleGraph.{SimpleGraph}
 use Rattle.kc_graph.specs.declared.used.UsedEdges.{UsedEdges}
 use Rattle.kc_table.specs.declared.view.Event.{Event}
-use Rattle.kc_table.specs.Log.{TableName}
+use Rattle.kc_table.specs.Log.{Opened}
+use Rattle.kc_view.specs.Marks.{no_list}
 use Rattle.kc_agree.specs.Reads.{WasList}
 use Rattle.kc_stripes.specs.declared.stripe.TheConstants.{STRIPES}
-
--- A table with what its graph was when it was opened: the edges, and for each vertex the number of the last entry that changed its edges.
-pub record Opened : Type 0 where
-  pub table : TableName
-  pub edges : SimpleGraph
-  pub stamps : List ℕ
-
--- a table that was opened with these edges and these stamps of its vertices
-abbrev pub opened_with : TableName → SimpleGraph → List ℕ → Opened
-opened_with table edges stamps = record { table = table; edges = edges; stamps = stamps }
 
 -- What a record says of a vertex: its list after the first `at` entries, all of which the log holds. It is not older than the opening.
 pub record IsRecord (o : Opened) (log : List Event) (v : ℕ) (r : UsedEdges) : Type 0 where
@@ -30,10 +21,6 @@ pub record Striped : Type 0 where
   pub opened : Opened
   pub seen : List Event
   pub records : List UsedEdges
-
--- the record of no vertex
-abbrev pub no_record : UsedEdges
-no_record = record { vertex = 0; at = 0; neighbours = [] }
 
 -- the vertex at a place of a stripe
 abbrev pub vertex_at : ℕ → ℕ → ℕ
@@ -52,9 +39,9 @@ belongs s w = nat_eq (w % STRIPES) s.number && nat_lt w s.opened.edges.size
 
 -- the record of a vertex of the stripe
 abbrev pub record_of : Striped → ℕ → UsedEdges
-record_of s w = slice_index_or s.records (w / STRIPES) no_record
+record_of s w = slice_index_or s.records (w / STRIPES) no_list
 
 -- the records with that of one vertex put where it is newer
 abbrev pub with_newer : List UsedEdges → UsedEdges → List UsedEdges
 with_newer records r =
-    if nat_lt (slice_index_or records (r.vertex / STRIPES) no_record).at r.at then slice_set records (r.vertex / STRIPES) r else records
+    if nat_lt (slice_index_or records (r.vertex / STRIPES) no_list).at r.at then slice_set records (r.vertex / STRIPES) r else records

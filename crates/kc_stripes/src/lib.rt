@@ -21,6 +21,6 @@ mod stripe;
 mod stripes;
 
 pub use loose::Loose;
-pub use start::Start;
+pub use start::Moment;
 pub use stripe::{STRIPES, Stripe, open_stripes};
 pub use stripes::Stripes;

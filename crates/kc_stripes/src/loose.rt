@@ -3,10 +3,9 @@ ghost use Rattle.std.specs.Prelude.{◌≡◌, IfErr};
 ghost use mathlib.Core.List.{IsPrefix};
 ghost use Rattle.kc_view.specs.Answers.{nothing_answered};
 ghost use Rattle.kc_view.specs.Views.{GoesOn, HasViewCause};
-ghost use Rattle.kc_stripes.specs.Records.{opened_with};
 ghost use Rattle.kc_stripes.specs.Reads.{shown_loosely};
 
-use crate::start::Start;
+use crate::start::Moment;
 use crate::stripes::Stripes;
 use kc_agree::{read_again, read_core, read_order};
 use kc_graph::{Used, UsedEdges};
@@ -32,7 +31,7 @@ const LOOK_BACK_EVERY: u32 = 4;
 /// What was kept is found by the marks of a `Scratch`, which a worker lends it. So making it, and ending it, costs nothing of the size of
 /// the graph.
 #[derive(Drop)]
-pub struct Loose<'a, K: Name, S: Start, R: Wait> {
+pub struct Loose<'a, K: Name, S: Moment, R: Wait> {
     rt: &'a R,
     words: &'a Words,
     stripes: &'a Stripes<K>,
@@ -40,16 +39,15 @@ pub struct Loose<'a, K: Name, S: Start, R: Wait> {
     memo: Memo,
     handed: u64,
     misses: u64,
-    /// How often a list was asked that was kept. It matters for speed alone.
-    again: u32,
+    /// How many calls have asked for a list that was kept. It matters for speed alone.
+    repeats: u32,
     /// The place, in the order of asking, of the core number that is looked back at next.
     back: usize,
     of: PhantomData<S>,
 }
 
-impl<'a, K: Name, S: Start, R: Wait> Model for Loose<'a, K, S, R> {
+impl<'a, K: Name, S: Moment, R: Wait> Model for Loose<'a, K, S, R> {
     ghost use Rattle.std.specs.Prelude.{◌≡◌};
-    ghost use Rattle.kc_stripes.specs.Records.{opened_with};
     ghost use Rattle.kc_stripes.specs.Reads.{Loosely, loosely};
     ghost use Rattle.kc_stripes.specs.ReadsCode.{code_of_loosely};
     ghost use Rattle.kc_stripes.specs.Loose.{IsLoose};
@@ -60,11 +58,11 @@ impl<'a, K: Name, S: Start, R: Wait> Model for Loose<'a, K, S, R> {
 
     ghost view = { λ l. loosely l.memo l.handed l.misses l.pass.log };
 
-    ghost invariant = { λ l. (l.words.now ≡ K.table) × (l.pass.table ≡ K.table)
-        × IsLoose (opened_with K.table K.opening_edges K.opening_stamps) S.log (loosely l.memo l.handed l.misses l.pass.log) };
+    ghost invariant = { λ l. (l.words.now ≡ K.opened.table) × (l.pass.table ≡ K.opened.table)
+        × IsLoose K.opened S.log (loosely l.memo l.handed l.misses l.pass.log) };
 }
 
-impl<'a, K: Name, S: Start, R: Wait> Loose<'a, K, S, R> {
+impl<'a, K: Name, S: Moment, R: Wait> Loose<'a, K, S, R> {
     /// A view with nothing kept. The pass is one that a caller split from its own, and has seen `S`.
     pub fn new(
         rt: &'a R,
@@ -74,10 +72,10 @@ impl<'a, K: Name, S: Start, R: Wait> Loose<'a, K, S, R> {
         pass: Pass,
         scratch: Scratch,
     ) -> Loose<'a, K, S, R>
-        requires table { (words.now ≡ K.table) × (pass.table ≡ K.table) }
+        requires table { (words.now ≡ K.opened.table) × (pass.table ≡ K.opened.table) }
         requires start { IsPrefix S.log pass.log }
-        requires scratch { scratch ≡ K.table.shape.fixed }
-        ensures { result ≡ record { size = K.table.shape.fixed; kept = nothing_answered; handed = 0; misses = 0; seen = pass.log } }
+        requires scratch { scratch ≡ K.opened.table.shape.fixed }
+        ensures { result ≡ record { size = K.opened.table.shape.fixed; kept = nothing_answered; handed = 0; misses = 0; seen = pass.log } }
     {
         Loose {
             rt,
@@ -87,7 +85,7 @@ impl<'a, K: Name, S: Start, R: Wait> Loose<'a, K, S, R> {
             memo: Memo::new(alloc, scratch),
             handed: 0,
             misses: 0,
-            again: 0,
+            repeats: 0,
             back: 0,
             of: PhantomData,
         }
@@ -95,9 +93,9 @@ impl<'a, K: Name, S: Start, R: Wait> Loose<'a, K, S, R> {
 
     /// The pass, and the scratch as it was lent.
     pub fn end(self) -> (Pass, Scratch)
-        ensures table { result.0.table ≡ K.table }
+        ensures table { result.0.table ≡ K.opened.table }
         ensures log { result.0.log ≡ self.entry.seen }
-        ensures scratch { result.1 ≡ K.table.shape.fixed }
+        ensures scratch { result.1 ≡ K.opened.table.shape.fixed }
         ensures start { IsPrefix S.log self.entry.seen }
     {
         let Loose { pass, memo, .. } = self;
@@ -107,13 +105,13 @@ impl<'a, K: Name, S: Start, R: Wait> Loose<'a, K, S, R> {
     /// Looks now and then, where many core numbers were read, whether the next of them is still what it was read as.
     fn look_back(&mut self) -> Result<(), ViewFault>
         ensures kept { self.new.kept ≡ self.old.kept }
-        ensures goes_on { GoesOn (shown_loosely (opened_with K.table K.opening_edges K.opening_stamps) S.log self.old)
-            (shown_loosely (opened_with K.table K.opening_edges K.opening_stamps) S.log self.new) }
-        ensures cause { IfErr result (λ fault. HasViewCause (shown_loosely (opened_with K.table K.opening_edges K.opening_stamps) S.log self.old)
-            (shown_loosely (opened_with K.table K.opening_edges K.opening_stamps) S.log self.new) fault) }
+        ensures goes_on { GoesOn (shown_loosely K.opened S.log self.old)
+            (shown_loosely K.opened S.log self.new) }
+        ensures cause { IfErr result (λ fault. HasViewCause (shown_loosely K.opened S.log self.old)
+            (shown_loosely K.opened S.log self.new) fault) }
     {
-        self.again = self.again.wrapping_add(1);
-        if self.again % LOOK_BACK_EVERY != 0 || self.memo.place(LONG_PLAN).is_none() {
+        self.repeats = self.repeats.wrapping_add(1);
+        if self.repeats % LOOK_BACK_EVERY != 0 || self.memo.place(LONG_PLAN).is_none() {
             return Ok(());
         }
         let Some(place) = self.memo.place(self.back) else {
@@ -129,11 +127,10 @@ impl<'a, K: Name, S: Start, R: Wait> Loose<'a, K, S, R> {
     }
 }
 
-impl<K: Name, S: Start, R: Wait> View for Loose<'_, K, S, R> {
-    ghost use Rattle.kc_stripes.specs.Records.{opened_with};
+impl<K: Name, S: Moment, R: Wait> View for Loose<'_, K, S, R> {
     ghost use Rattle.kc_stripes.specs.Reads.{shown_loosely};
 
-    ghost shown = { λ l. shown_loosely (opened_with K.table K.opening_edges K.opening_stamps) S.log l };
+    ghost shown = { λ l. shown_loosely K.opened S.log l };
 
     fn degree(&mut self, w: u32) -> Result<u32, ViewFault> {
         if let Some(list) = self.memo.list(w) {

@@ -4,7 +4,8 @@ ghost use mathlib.Core.List.{IsPrefix};
 ghost use Rattle.kc_graph.specs.declared.used.UsedEdges.{UsedEdges};
 ghost use Rattle.kc_view.specs.Lists.{IsListOf};
 ghost use Rattle.kc_agree.specs.Reads.{WasList};
-ghost use Rattle.kc_stripes.specs.Records.{IsRecord, Striped, belongs, opened_with, record_of, with_newer};
+ghost use Rattle.kc_stripes.specs.Records.{IsRecord, Striped, belongs, record_of, with_newer};
+ghost use Rattle.kc_table.specs.Log.{opened_with};
 
 use kc_graph::{Neighbours, NoMemory, SharedGraph, UsedEdges};
 use kc_table::{Pass, Words, meet, split};
@@ -34,7 +35,8 @@ impl Model for Stripe {
     ghost use Rattle.std.specs.Prelude.{◌≡◌};
     ghost use Rattle.std.specs.Coded.{codes};
     ghost use Rattle.kc_graph.specs.Rows.{code_of_graph};
-    ghost use Rattle.kc_stripes.specs.Records.{Striped, IsStripe, opened_with};
+    ghost use Rattle.kc_stripes.specs.Records.{Striped, IsStripe};
+    ghost use Rattle.kc_table.specs.Log.{opened_with};
 
     ghost Value = { Striped };
 

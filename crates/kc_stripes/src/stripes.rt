@@ -3,7 +3,7 @@ ghost use Rattle.std.specs.Prelude.{◌≡◌, ◌≤◌, ◌<◌, ◌+◌, ℕ,
 ghost use mathlib.Core.List.{IsPrefix};
 ghost use Rattle.kc_view.specs.Lists.{IsListOf};
 ghost use Rattle.kc_agree.specs.Reads.{WasList};
-ghost use Rattle.kc_stripes.specs.Records.{belongs, opened_with, with_newer};
+ghost use Rattle.kc_stripes.specs.Records.{belongs, with_newer};
 ghost use Rattle.kc_stripes.specs.declared.stripe.TheConstants.{STRIPES};
 
 use crate::stripe::{STRIPES, Stripe};
@@ -15,16 +15,16 @@ use std::sync::{Mutex, Wait};
 
 /// The value behind one lock: a stripe of K's table, with K's opening edges and edge stamps.
 #[derive(Drop)]
-struct Kept<K: Name> {
+struct LockedStripe<K: Name> {
     stripe: Stripe,
     of: PhantomData<K>,
 }
 
-impl<K: Name> Model for Kept<K> {
+impl<K: Name> Model for LockedStripe<K> {
     ghost use Rattle.std.specs.Prelude.{◌≡◌};
     ghost use Rattle.std.specs.Coded.{codes};
     ghost use Rattle.kc_graph.specs.Rows.{code_of_graph};
-    ghost use Rattle.kc_stripes.specs.Records.{Striped, opened_with};
+    ghost use Rattle.kc_stripes.specs.Records.{Striped};
 
     ghost Value = { Striped };
 
@@ -32,15 +32,15 @@ impl<K: Name> Model for Kept<K> {
 
     ghost view = { λ k. k.stripe };
 
-    ghost invariant = { λ k. k.stripe.opened ≡ opened_with K.table K.opening_edges K.opening_stamps };
+    ghost invariant = { λ k. k.stripe.opened ≡ K.opened };
 }
 
-impl<K: Name> Kept<K> {
+impl<K: Name> LockedStripe<K> {
     /// The stripe, as one of K's.
-    fn new(stripe: Stripe) -> Kept<K>
-        requires { stripe.opened ≡ opened_with K.table K.opening_edges K.opening_stamps }
+    fn new(stripe: Stripe) -> LockedStripe<K>
+        requires { stripe.opened ≡ K.opened }
     {
-        Kept {
+        LockedStripe {
             stripe,
             of: PhantomData,
         }
@@ -48,9 +48,9 @@ impl<K: Name> Kept<K> {
 
     /// The stripe again.
     fn into_stripe(self) -> Stripe
-        ensures { result.opened ≡ opened_with K.table K.opening_edges K.opening_stamps }
+        ensures { result.opened ≡ K.opened }
     {
-        let Kept { stripe, .. } = self;
+        let LockedStripe { stripe, .. } = self;
         stripe
     }
 
@@ -61,12 +61,12 @@ impl<K: Name> Kept<K> {
         pass: &mut Pass,
         w: u32,
     ) -> Result<(Neighbours, u32), NoMemory>
-        requires table { (words.now ≡ K.table) × (pass.old.table ≡ K.table) }
-        ensures table { pass.new.table ≡ K.table }
+        requires table { (words.now ≡ K.opened.table) × (pass.old.table ≡ K.opened.table) }
+        ensures table { pass.new.table ≡ K.opened.table }
         ensures longer { IsPrefix pass.old.log pass.new.log }
-        ensures was { IfOk result (λ r. WasList K.table K.opening_edges pass.new.log (record { vertex = w; at = r.1; neighbours = r.0 })) }
-        ensures newer { IfOk result (λ r. slice_index K.opening_stamps w ≤ r.1) }
-        ensures others { IfOk result (λ r. IsListOf K.table.shape.fixed w r.0) }
+        ensures was { IfOk result (λ r. WasList K.opened.table K.opened.edges pass.new.log (record { vertex = w; at = r.1; neighbours = r.0 })) }
+        ensures newer { IfOk result (λ r. slice_index K.opened.stamps w ≤ r.1) }
+        ensures others { IfOk result (λ r. IsListOf K.opened.table.shape.fixed w r.0) }
     {
         if !self.stripe.has(w) {
             return Err(NoMemory);
@@ -83,8 +83,8 @@ impl<K: Name> Kept<K> {
         neighbours: Neighbours,
         at: u32,
     ) -> Result<(), NoMemory>
-        requires table { (words.now ≡ K.table) × (pass.old.table ≡ K.table) }
-        requires was { WasList K.table K.opening_edges pass.old.log (record { vertex = w; at = at; neighbours = neighbours }) }
+        requires table { (words.now ≡ K.opened.table) × (pass.old.table ≡ K.opened.table) }
+        requires was { WasList K.opened.table K.opened.edges pass.old.log (record { vertex = w; at = at; neighbours = neighbours }) }
         ensures table { pass.new.table ≡ pass.old.table }
         ensures log { pass.new.log ≡ pass.old.log }
         ensures ok { OnOk result (belongs self.old w ≡ true) }
@@ -115,7 +115,7 @@ struct Room {
 /// the vertex belongs to it.
 #[derive(Drop)]
 pub struct Stripes<K: Name> {
-    locks: Vec<Mutex<Kept<K>>>,
+    locks: Vec<Mutex<LockedStripe<K>>>,
     room: Mutex<Room>,
     ghost all: { vec_len locks ≡ STRIPES },
 }
@@ -124,15 +124,15 @@ impl<K: Name> Stripes<K> {
     /// A lock round each stripe. The error is want of memory, and gives the stripes back.
     pub fn new(alloc: Global, stripes: Vec<Stripe>) -> Result<Stripes<K>, Vec<Stripe>>
         requires count { vec_len stripes ≡ STRIPES }
-        requires opened { All (λ s. s.opened ≡ opened_with K.table K.opening_edges K.opening_stamps) stripes.items }
+        requires opened { All (λ s. s.opened ≡ K.opened) stripes.items }
         ensures { IfErr result (λ back. back ≡ stripes) }
     {
         let Ok(mut locks) = Vec::with_capacity(alloc, STRIPES as usize) else {
             return Err(stripes);
         };
         let mut stripes = stripes;
-        while let Some(stripe) = stripes.pop() {
-            locks.push_reserved(Mutex::new(Kept::new(stripe)));
+        for stripe in stripes.drain(..) {
+            locks.push_reserved(Mutex::new(LockedStripe::new(stripe)));
         }
         Ok(Stripes {
             locks,
@@ -144,11 +144,11 @@ impl<K: Name> Stripes<K> {
     /// since what a lock hides is known by its type alone.
     pub fn into_stripes(self) -> Vec<Stripe>
         ensures count { vec_len result ≡ STRIPES }
-        ensures opened { All (λ s. s.opened ≡ opened_with K.table K.opening_edges K.opening_stamps) result.items }
+        ensures opened { All (λ s. s.opened ≡ K.opened) result.items }
     {
-        let Stripes { mut locks, room } = self;
+        let Stripes { locks, room } = self;
         let Room { mut stripes } = room.into_inner();
-        while let Some(lock) = locks.pop() {
+        for lock in locks {
             stripes.push_reserved(lock.into_inner().into_stripe());
         }
         stripes
@@ -164,12 +164,12 @@ impl<K: Name> Stripes<K> {
         pass: &mut Pass,
         w: u32,
     ) -> Result<(Neighbours, u32), NoMemory>
-        requires table { (words.now ≡ K.table) × (pass.old.table ≡ K.table) }
-        ensures table { pass.new.table ≡ K.table }
+        requires table { (words.now ≡ K.opened.table) × (pass.old.table ≡ K.opened.table) }
+        ensures table { pass.new.table ≡ K.opened.table }
         ensures longer { IsPrefix pass.old.log pass.new.log }
-        ensures was { IfOk result (λ r. WasList K.table K.opening_edges pass.new.log (record { vertex = w; at = r.1; neighbours = r.0 })) }
-        ensures newer { IfOk result (λ r. slice_index K.opening_stamps w ≤ r.1) }
-        ensures others { IfOk result (λ r. IsListOf K.table.shape.fixed w r.0) }
+        ensures was { IfOk result (λ r. WasList K.opened.table K.opened.edges pass.new.log (record { vertex = w; at = r.1; neighbours = r.0 })) }
+        ensures newer { IfOk result (λ r. slice_index K.opened.stamps w ≤ r.1) }
+        ensures others { IfOk result (λ r. IsListOf K.opened.table.shape.fixed w r.0) }
     {
         self.locks[place_of(w)].lock(rt).read(words, pass, w)
     }
@@ -188,8 +188,8 @@ impl<K: Name> Stripes<K> {
         neighbours: Neighbours,
         at: u32,
     ) -> Result<(), NoMemory>
-        requires table { (words.now ≡ K.table) × (pass.old.table ≡ K.table) }
-        requires was { WasList K.table K.opening_edges pass.old.log (record { vertex = w; at = at; neighbours = neighbours }) }
+        requires table { (words.now ≡ K.opened.table) × (pass.old.table ≡ K.opened.table) }
+        requires was { WasList K.opened.table K.opened.edges pass.old.log (record { vertex = w; at = at; neighbours = neighbours }) }
         ensures table { pass.new.table ≡ pass.old.table }
         ensures log { pass.new.log ≡ pass.old.log }
     {
@@ -199,9 +199,9 @@ impl<K: Name> Stripes<K> {
     }
 }
 
-/// Where the lock of a vertex's stripe stands: the locks were made from the last stripe to the first.
+/// Where the lock of a vertex's stripe stands.
 fn place_of(w: u32) -> usize
     ensures { result < STRIPES }
 {
-    (STRIPES - 1 - w % STRIPES) as usize
+    (w % STRIPES) as usize
 }

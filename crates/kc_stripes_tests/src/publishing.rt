@@ -1,6 +1,5 @@
 //! Lists that one thread publishes while another reads, each list with the number of entries after which it was so.
 ghost use Rattle.std.specs.Prelude.{◌≡◌, ◌<◌, ◌≤◌, vec_len, All};
-ghost use Rattle.kc_stripes.specs.Records.{opened_with};
 
 use kc_graph::{Graph, Neighbours, SharedGraph};
 use kc_order::Writer;
@@ -28,11 +27,11 @@ fn publish_one<K: Name, R: Wait + Abort + AllocGlobal>(
     vertex: u32,
     at: u32,
 )
-    requires table { (words.now ≡ K.table) × (pass.old.table ≡ K.table) }
-    requires graph { (graph.now ≡ K.opening_edges) × (graph.now.size ≡ K.table.shape.fixed) }
+    requires table { (words.now ≡ K.opened.table) × (pass.old.table ≡ K.opened.table) }
+    requires graph { (graph.now ≡ K.opened.edges) × (graph.now.size ≡ K.opened.table.shape.fixed) }
     requires vertex { vertex < graph.now.size }
-    requires at { at ≤ K.table.shape.base }
-    ensures { pass.new.table ≡ K.table }
+    requires at { at ≤ K.opened.table.shape.base }
+    ensures { pass.new.table ≡ K.opened.table }
 {
     let Ok(list) = Neighbours::copy_of(rt.alloc(), graph.neighbours(vertex)) else {
         panic!(rt; "no memory")
@@ -48,9 +47,9 @@ fn publish_all<K: Name, R: Wait + Abort + AllocGlobal>(
     mut pass: Pass,
     graph: &SharedGraph,
 )
-    requires table { (words.now ≡ K.table) × (pass.table ≡ K.table) }
-    requires graph { (graph.now ≡ K.opening_edges) × (graph.now.size ≡ K.table.shape.fixed) }
-    requires base { BASE ≤ K.table.shape.base }
+    requires table { (words.now ≡ K.opened.table) × (pass.table ≡ K.opened.table) }
+    requires graph { (graph.now ≡ K.opened.edges) × (graph.now.size ≡ K.opened.table.shape.fixed) }
+    requires base { BASE ≤ K.opened.table.shape.base }
 {
     for at in 1..=BASE {
         for vertex in 0..graph.vertices() {
@@ -69,9 +68,9 @@ fn read_one<K: Name, R: Wait + Abort>(
     vertex: u32,
     earlier: u32,
 ) -> u32
-    requires table { (words.now ≡ K.table) × (pass.old.table ≡ K.table) }
+    requires table { (words.now ≡ K.opened.table) × (pass.old.table ≡ K.opened.table) }
     requires vertex { vertex < graph.now.size }
-    ensures { pass.new.table ≡ K.table }
+    ensures { pass.new.table ≡ K.opened.table }
 {
     let Ok((list, at)) = stripes.read(rt, words, pass, vertex) else {
         panic!(rt; "no stripe has {vertex}")
@@ -93,7 +92,7 @@ fn read_all<K: Name, R: Wait + Abort>(
     graph: &SharedGraph,
     vertex: u32,
 )
-    requires table { (words.now ≡ K.table) × (pass.table ≡ K.table) }
+    requires table { (words.now ≡ K.opened.table) × (pass.table ≡ K.opened.table) }
     requires vertex { vertex < graph.now.size }
 {
     let mut at = 0;
@@ -114,12 +113,12 @@ fn publish_and_read<K: Name + Send + Sync, R: Threads + Wait + Abort + AllocGlob
     graph: &SharedGraph,
     at: &Vec<u32>,
 )
-    requires table { (words.now ≡ K.table) × (pass.table ≡ K.table) }
-    requires graph { (graph.now ≡ K.opening_edges) × (at.now.items ≡ K.opening_stamps) × (graph.now.size ≡ K.table.shape.fixed) }
+    requires table { (words.now ≡ K.opened.table) × (pass.table ≡ K.opened.table) }
+    requires graph { (graph.now ≡ K.opened.edges) × (at.now.items ≡ K.opened.stamps) × (graph.now.size ≡ K.opened.table.shape.fixed) }
     requires few { 3 < graph.now.size }
-    requires base { BASE ≤ K.table.shape.base }
+    requires base { BASE ≤ K.opened.table.shape.base }
     requires count { vec_len stripes ≡ STRIPES }
-    requires opened { All (λ s. s.opened ≡ opened_with K.table K.opening_edges K.opening_stamps) stripes.items }
+    requires opened { All (λ s. s.opened ≡ K.opened) stripes.items }
 {
     let Ok(shared) = Stripes::<K>::new(rt.alloc(), stripes) else {
         panic!(rt; "no memory")
@@ -130,11 +129,11 @@ fn publish_and_read<K: Name + Send + Sync, R: Threads + Wait + Abort + AllocGlob
     thread::join(
         rt,
         move ||
-            requires { (words.now ≡ K.table) × (first.table ≡ K.table) × (graph.now ≡ K.opening_edges)
-                × (graph.now.size ≡ K.table.shape.fixed) × (BASE ≤ K.table.shape.base) }
+            requires { (words.now ≡ K.opened.table) × (first.table ≡ K.opened.table) × (graph.now ≡ K.opened.edges)
+                × (graph.now.size ≡ K.opened.table.shape.fixed) × (BASE ≤ K.opened.table.shape.base) }
         { publish_all(rt, words, shared, first, graph) },
         move ||
-            requires { (words.now ≡ K.table) × (second.table ≡ K.table) × (3 < graph.now.size) }
+            requires { (words.now ≡ K.opened.table) × (second.table ≡ K.opened.table) × (3 < graph.now.size) }
         { read_all(rt, words, shared, second, graph, 3) },
     );
     for vertex in 0..4u32 {

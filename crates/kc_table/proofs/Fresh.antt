@@ -8,19 +8,19 @@ use Rattle.kc_words.specs.VertexWord.{vertex_of}
 use Rattle.kc_words.specs.declared.shape.Shape.{Shape}
 use Rattle.kc_table.specs.declared.view.Event.{Event}
 use Rattle.kc_table.specs.Log.{value_at}
-use Rattle.kc_table.specs.State.{State, opened, after_store, after_stores, state_of, first_vertex, word_count}
+use Rattle.kc_table.specs.TableState.{TableState, opened, after_store, after_stores, state_of, first_vertex, word_count}
 use Rattle.kc_table.specs.Legal.{MayStore, Legal, LegalFrom, IsVersioned, version_of}
 use Rattle.kc_table.proofs.LegalLogs.{after_store-words, state_of-words, legal_from-back, after_stores-append}
 
 -- no store changes how many words there are
-length-stores : (shape : Shape) (s : State) (es : List Event) → length (after_stores shape s es).words ≡ length s.words
+length-stores : (shape : Shape) (s : TableState) (es : List Event) → length (after_stores shape s es).words ≡ length s.words
 length-stores shape s [] = refl
 length-stores shape s (e ∷ es) =
     length-stores shape (after_store shape s e) es ∙ (ap length (after_store-words shape s e) ∙ length-set s.words e.word e.value)
 
 -- A word at which each allowed store raises the key of its value.
 module _ (shape : Shape) (w : ℕ) (key : ℕ → ℕ)
-    (raises : (s : State) (e : Event) → MayStore shape s e → e.word ≡ w → key (get_or s.words w 0) < key e.value) where
+    (raises : (s : TableState) (e : Event) → MayStore shape s e → e.word ≡ w → key (get_or s.words w 0) < key e.value) where
   -- the key rises, or the value stays
   abbrev Rises : ℕ → ℕ → Type 0
   Rises a b = (key a < key b) ⊎ (a ≡ b)
@@ -32,7 +32,7 @@ module _ (shape : Shape) (w : ℕ) (key : ℕ → ℕ)
       (λ (e : a ≡ b). subst (λ (z : ℕ). Rises z c) (sym e) q) p
 
   -- at one store the key rises, or the value stays
-  one_rises : (s : State) (e : Event) → length s.words ≡ word_count shape → MayStore shape s e
+  one_rises : (s : TableState) (e : Event) → length s.words ≡ word_count shape → MayStore shape s e
       → Rises (get_or s.words w 0) (get_or (after_store shape s e).words w 0)
   one_rises s e long may =
       let after = after_store-words shape s e in
@@ -45,7 +45,7 @@ module _ (shape : Shape) (w : ℕ) (key : ℕ → ℕ)
       (λ (other : e.word ≢ w). inr (sym (ap (λ ws. get_or ws w 0) after ∙ get_or-set_other s.words e.word w e.value 0 (λ k. other (sym k)))))
 
   -- so it is along all stores
-  from_rises : (s : State) (es : List Event) → length s.words ≡ word_count shape → LegalFrom shape s es
+  from_rises : (s : TableState) (es : List Event) → length s.words ≡ word_count shape → LegalFrom shape s es
       → Rises (get_or s.words w 0) (get_or (after_stores shape s es).words w 0)
   from_rises s [] long h = inr refl
   from_rises s (e ∷ es) long h =
@@ -84,7 +84,7 @@ module _ (shape : Shape) (w : ℕ) (key : ℕ → ℕ)
         (λ (is : value_at opening p w ≡ value_at opening m w). sym is) (rises p m a legal_m)
 
 -- a store that may be made to an item's or a group's word raises its version
-version_raises : (shape : Shape) (w : ℕ) → IsVersioned shape w → (s : State) (e : Event) → MayStore shape s e → e.word ≡ w
+version_raises : (shape : Shape) (w : ℕ) → IsVersioned shape w → (s : TableState) (e : Event) → MayStore shape s e → e.word ≡ w
     → version_of (get_or s.words w 0) < version_of e.value
 version_raises shape w versioned s e may is =
     let newer = may.fresh (subst (IsVersioned shape) (sym is) versioned) in
@@ -92,7 +92,7 @@ version_raises shape w versioned s e may is =
     omega (arith, newer, old)
 
 -- a store that may be made to a vertex's word raises its stamp
-stamp_raises : (shape : Shape) (v : ℕ) (s : State) (e : Event) → MayStore shape s e → e.word ≡ first_vertex shape + v
+stamp_raises : (shape : Shape) (v : ℕ) (s : TableState) (e : Event) → MayStore shape s e → e.word ≡ first_vertex shape + v
     → (vertex_of (get_or s.words (first_vertex shape + v) 0)).stamp < (vertex_of e.value).stamp
 stamp_raises shape v s e may is = (may.seals v is).later
 

@@ -2,19 +2,19 @@
 use Rattle.std.proofs.Common.{◌≡◌, ◌+◌, ◌<◌, ◌≤◌, ◌^◌, ℕ, zero, suc, true, false, List, [], ◌∷◌, ◌++◌, length, set, refl, sym, ap, subst, arith, inl, inr, lit<}
 use Rattle.std.specs.Prelude.{slice_index}
 use Rattle.std.proofs.lemmas.Bool.{cases_eq, false≢true}
-use Rattle.kc_distinct.specs.Lists.{member}
-use Rattle.kc_distinct.proofs.Members.{member-cases}
+use Rattle.kc_lists.specs.Lists.{member, InOrder}
+use Rattle.kc_lists.proofs.Members.{member-cases}
 use Rattle.kc_words.specs.ItemWord.{item_of, item_word}
 use Rattle.kc_words.specs.GroupWord.{group_of, group_word}
 use Rattle.kc_words.specs.VertexWord.{vertex_of, vertex_word}
 use Rattle.kc_words.specs.NoteWord.{note_of, note_word}
-use Rattle.kc_words.specs.Order.{InOrder, PairBelow, labels}
+use Rattle.kc_words.specs.Order.{PairBelow, labels}
 use Rattle.kc_words.specs.declared.note.NoteWord.{NoteWord}
 use Rattle.kc_words.specs.declared.note.NoteWord.TheVariants.{Nothing, Enter, Put, Take}
 use Rattle.kc_table.specs.declared.entry.Entry.{Entry}
 use Rattle.kc_table.specs.Log.{event}
-use Rattle.kc_table.specs.State.{State, opened, state_of}
-use Rattle.kc_table.specs.Legal.{FollowsNote, Holds, IsNewer, Legal, MayNote, MayStore, Opens, Seals, last_entry, stamp_in}
+use Rattle.kc_table.specs.TableState.{TableState, opened, state_of}
+use Rattle.kc_table.specs.Legal.{FollowsNote, StateHolds, IsNewer, Legal, MayNote, MayStore, IsTableOpening, Seals, last_entry, stamp_in}
 use Rattle.kc_table.specs.Samples.{shape, item, vertex, note, opening, one_put, put_and_take, open_section, sealed_section, two_entries}
 use Rattle.kc_table.proofs.LegalLogs.{legal-nil, legal-push}
 
@@ -39,20 +39,20 @@ each-below P zero h x low = absurd (omega (arith, low))
 each-below P (suc n) h x low = elim (cases_eq x n) [ inl e ↦ subst P (sym e) h.0 | inr ne ↦ each-below P n h.1 x (omega (arith, low, ne)) ]
 
 -- the group of item x by the words of a state
-abbrev group_in : State → ℕ → ℕ
+abbrev group_in : TableState → ℕ → ℕ
 group_in s x = (labels 3 s.words).group x
 
 -- the item has one of the four groups
-abbrev HasGroup : State → ℕ → Type 0
+abbrev HasGroup : TableState → ℕ → Type 0
 HasGroup s x = (0 < group_in s x) × (group_in s x ≤ 4)
 
 -- where the item is out, it has no group
-abbrev IsOut : State → ℕ → Type 0
+abbrev IsOut : TableState → ℕ → Type 0
 IsOut s x = member x s.list ≡ false → group_in s x ≡ 0
 
 -- the rules hold of a state of the small table by what its pairs, its groups and its one stamp are
-holds-of : (s : State) → InOrder (PairBelow (labels 3 s.words)) s.list → HoldsOfEach (HasGroup s) s.list → HoldsBelow (IsOut s) 3
-    → stamp_in shape s 0 ≤ last_entry shape s → Holds shape s
+holds-of : (s : TableState) → InOrder (PairBelow (labels 3 s.words)) s.list → HoldsOfEach (HasGroup s) s.list → HoldsBelow (IsOut s) 3
+    → stamp_in shape s 0 ≤ last_entry shape s → StateHolds shape s
 holds-of s pairs groups others stamp = record {
   ordered = record {
     pairs = pairs;
@@ -63,7 +63,7 @@ holds-of s pairs groups others stamp = record {
 }
 
 -- a note may be stored that the note before it and the rule of notes allow
-note-may : (s : State) (n : NoteWord) → note_word n < 2 ^ 64 → FollowsNote s.note 0 → MayNote shape s (note_of (note_word n)) → MayStore shape s (note n)
+note-may : (s : TableState) (n : NoteWord) → note_word n < 2 ^ 64 → FollowsNote s.note 0 → MayNote shape s (note_of (note_word n)) → MayStore shape s (note n)
 note-may s n fits follows may = record {
   there = omega arith;
   fits = fits;
@@ -74,7 +74,7 @@ note-may s n fits follows may = record {
 }
 
 -- the word of an item may be stored with the next version
-item-may : (s : State) (x value : ℕ) → x < 3 → value < 2 ^ 64 → FollowsNote s.note (1 + x) → IsNewer (slice_index s.words (1 + x)) value
+item-may : (s : TableState) (x value : ℕ) → x < 3 → value < 2 ^ 64 → FollowsNote s.note (1 + x) → IsNewer (slice_index s.words (1 + x)) value
     → MayStore shape s (event (1 + x) value)
 item-may s x value low fits follows newer = record {
   there = omega (arith, low);
@@ -86,7 +86,7 @@ item-may s x value low fits follows newer = record {
 }
 
 -- the word of the vertex may be stored where that seals it
-vertex-may : (s : State) (value : ℕ) → value < 2 ^ 64 → FollowsNote s.note 8 → Seals shape s 0 value → MayStore shape s (event 8 value)
+vertex-may : (s : TableState) (value : ℕ) → value < 2 ^ 64 → FollowsNote s.note 8 → Seals shape s 0 value → MayStore shape s (event 8 value)
 vertex-may s value fits follows seals = record {
   there = omega arith;
   fits = fits;
@@ -100,14 +100,14 @@ vertex-may s value fits follows seals = record {
 
 -- the rules hold of a state with the opening words, whatever is announced and entered
 opening-holds : (note : NoteWord) (entries : List Entry) (unsealed : List ℕ) (first : ℕ)
-    → Holds shape (record { words = set opening 0 first; list = 0 ∷ 1 ∷ []; note = note; entries = entries; unsealed = unsealed })
+    → StateHolds shape (record { words = set opening 0 first; list = 0 ∷ 1 ∷ []; note = note; entries = entries; unsealed = unsealed })
 unfolding item_of item_word group_of group_word vertex_of vertex_word
 opening-holds note entries unsealed first =
     holds-of _ (inr (refl, omega arith), tt) ((omega arith, omega arith), ((omega arith, omega arith), tt))
     ((λ out. refl), ((λ out. absurd (false≢true (sym out))), ((λ out. absurd (false≢true (sym out))), tt))) (omega arith)
 
 -- the small table is opened rightly
-pub opening-opens : Opens shape opening
+pub opening-opens : IsTableOpening shape opening
 unfolding item_of item_word group_of group_word vertex_of vertex_word
 opening-opens = record {
   one_each = refl;
@@ -122,7 +122,7 @@ opening-opens = record {
 
 -- the rules hold where item 2 stands between the items 0 and 1
 between-holds : (first : ℕ) (note : NoteWord)
-    → Holds shape (record { words = set (set opening 3 (item 1 1 15)) 0 first; list = 0 ∷ 2 ∷ 1 ∷ []; note = note; entries = []; unsealed = [] })
+    → StateHolds shape (record { words = set (set opening 3 (item 1 1 15)) 0 first; list = 0 ∷ 2 ∷ 1 ∷ []; note = note; entries = []; unsealed = [] })
 unfolding item_of item_word group_of group_word vertex_of vertex_word
 between-holds first note =
     holds-of _ (inr (refl, omega arith), (inr (refl, omega arith), tt))
@@ -162,7 +162,7 @@ section_words first stamped = set (set (set opening 1 (item 1 1 30)) 8 stamped) 
 
 -- the rules hold where item 0 stands behind item 1
 behind-holds : (first stamped : ℕ) (note : NoteWord) (entries : List Entry) (unsealed : List ℕ) → (vertex_of stamped).stamp ≤ 1 + length entries
-    → Holds shape (record { words = section_words first stamped; list = 1 ∷ 0 ∷ []; note = note; entries = entries; unsealed = unsealed })
+    → StateHolds shape (record { words = section_words first stamped; list = 1 ∷ 0 ∷ []; note = note; entries = entries; unsealed = unsealed })
 unfolding item_of item_word group_of group_word
 behind-holds first stamped note entries unsealed stamp =
     holds-of _ (inr (refl, omega arith), tt) ((omega arith, omega arith), ((omega arith, omega arith), tt))

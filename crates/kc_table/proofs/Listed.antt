@@ -1,16 +1,16 @@
 -- The list of a legal log: its items are distinct items of the table, and each vertex is in it.
 use Rattle.std.proofs.Common.{◌≡◌, ◌≢◌, ◌⊎◌, ℕ, zero, suc, ◌+◌, ◌<◌, ◌≤◌, true, false, cond, List, [], ◌∷◌, eqb, refl, sym, ap, ◌∙◌, subst, inl, inr, arith}
 use Rattle.std.proofs.lemmas.Bool.{cases_Bool, cases_eq, eqb-true, eq-eqb, true≢false, false≢true, false_from_ne_true, or_left}
-use Rattle.kc_distinct.specs.Lists.{member, Distinct, without, right_after}
-use Rattle.kc_distinct.proofs.Members.{member-tail, member-cases, member-without, without-member, not_member-without, not_member-parts}
-use Rattle.kc_distinct.proofs.Members.{Distinct-without, member-right_after, right_after-member, Distinct-right_after}
+use Rattle.kc_lists.specs.Lists.{member, Distinct, without, right_after}
+use Rattle.kc_lists.proofs.Members.{member-tail, member-cases, member-without, without-member, not_member-without, not_member-parts}
+use Rattle.kc_lists.proofs.Members.{Distinct-without, member-right_after, right_after-member, Distinct-right_after}
 use Rattle.kc_words.specs.Order.{Labels, labels}
 use Rattle.kc_words.specs.NoteWord.{note_of}
 use Rattle.kc_words.specs.declared.note.NoteWord.{NoteWord}
 use Rattle.kc_words.specs.declared.note.NoteWord.TheVariants.{Nothing, Enter, Put, Take}
 use Rattle.kc_words.specs.declared.shape.Shape.{Shape}
 use Rattle.kc_table.specs.declared.view.Event.{Event}
-use Rattle.kc_table.specs.State.{State, opened, after_store, after_stores, state_of, placed, listed, is_below, moved}
+use Rattle.kc_table.specs.TableState.{TableState, opened, after_store, after_stores, state_of, placed, listed, is_below, moved}
 use Rattle.kc_table.specs.Legal.{MayStore, MayNote, Legal, LegalFrom}
 
 -- what is in the list after an item was placed by its pair is that item, or was there before
@@ -88,7 +88,7 @@ Announced shape list (Put x p) = (x < shape.items) × (member p list ≡ true) �
 Announced shape list (Take x) = shape.fixed ≤ x
 
 -- the list of a state is as it should be, and so is what the last note announced
-pub record Stands (shape : Shape) (s : State) : Type 0 where
+pub record Stands (shape : Shape) (s : TableState) : Type 0 where
   pub listed : Listed shape s.list
   pub announced : Announced shape s.list s.note
 
@@ -141,14 +141,14 @@ moved-listed shape list word (Take x) a h =
     ]
 
 -- a note that may be stored announces what an announced item owes
-note-announced : (shape : Shape) (s : State) (note : NoteWord) → MayNote shape s note → Announced shape s.list note
+note-announced : (shape : Shape) (s : TableState) (note : NoteWord) → MayNote shape s note → Announced shape s.list note
 note-announced shape s Nothing h = tt
 note-announced shape s (Enter add index u v) h = tt
 note-announced shape s (Put x p) h = (h.0, h.1, h.2)
 note-announced shape s (Take x) h = h.1
 
 -- a store that may follow keeps the list and what is announced as they should be
-stands-step : (shape : Shape) (s : State) (e : Event) → MayStore shape s e → Stands shape s → Stands shape (after_store shape s e)
+stands-step : (shape : Shape) (s : TableState) (e : Event) → MayStore shape s e → Stands shape s → Stands shape (after_store shape s e)
 stands-step shape s e may h =
     elim (cases_Bool (eqb e.word 0)) [
       | inl t ↦ rw t record {
@@ -162,7 +162,7 @@ stands-step shape s e may h =
     ]
 
 -- stores that are legal from a state keep its list and what is announced as they should be
-stands-from : (shape : Shape) (s : State) (es : List Event) → LegalFrom shape s es → Stands shape s → Stands shape (after_stores shape s es)
+stands-from : (shape : Shape) (s : TableState) (es : List Event) → LegalFrom shape s es → Stands shape s → Stands shape (after_stores shape s es)
 stands-from shape s [] h k = k
 stands-from shape s (e ∷ es) h k = stands-from shape (after_store shape s e) es h.2 (stands-step shape s e h.0 k)
 

@@ -4,8 +4,8 @@ use Rattle.std.proofs.Common.{refl, sym, ap, ◌∙◌, subst, inl, inr, arith, 
 use Rattle.std.specs.Prelude.{◌||◌}
 use Rattle.std.proofs.lemmas.Bool.{cases_Bool, cases_eq, false≢true, or_left, or_right, or_cases}
 use mathlib.Core.List.{IsPrefix}
-use Rattle.kc_distinct.specs.Lists.{member}
-use Rattle.kc_distinct.proofs.Members.{member-append, member-append_left, member-append_right}
+use Rattle.kc_lists.specs.Lists.{member}
+use Rattle.kc_lists.proofs.Members.{member-append, member-append_left, member-append_right}
 use Rattle.kc_words.specs.NoteWord.{note_of}
 use Rattle.kc_words.specs.declared.note.NoteWord.{NoteWord}
 use Rattle.kc_words.specs.declared.note.NoteWord.TheVariants.{Nothing, Enter, Put, Take}
@@ -13,7 +13,7 @@ use Rattle.kc_words.specs.declared.shape.Shape.{Shape}
 use Rattle.kc_table.specs.declared.entry.Entry.{Entry}
 use Rattle.kc_table.specs.declared.view.Event.{Event}
 use Rattle.kc_table.specs.Sections.{number_after, stamp_after, item_put, puts_from, puts_in}
-use Rattle.kc_table.specs.State.{State, opened, after_store, after_stores, state_of, first_vertex, entered, unsealed_from, sealed}
+use Rattle.kc_table.specs.TableState.{TableState, opened, after_store, after_stores, state_of, first_vertex, entered, unsealed_from, sealed}
 use Rattle.kc_table.specs.Legal.{MayStore, MayNote, FollowsNote, IsClosed, Legal, last_entry}
 use Rattle.kc_table.proofs.LegalLogs.{state_of-nil, state_of-push, legal-prefix, legal-last, legal-holds}
 use Rattle.kc_table.proofs.Listed.{list-stands}
@@ -22,12 +22,12 @@ use Rattle.kc_table.proofs.Stamps.{number-grows, puts-none, put_in-is, sealed-op
 -- What one store more puts. ---------------------------------------------------------------------------
 
 -- what two logs put in a section, one behind the other, is what the first puts and then what the second puts
-puts_from-append : (shape : Shape) (s : State) (es fs : List Event) (k : ℕ)
+puts_from-append : (shape : Shape) (s : TableState) (es fs : List Event) (k : ℕ)
     → puts_from shape s (es ++ fs) k ≡ puts_from shape s es k ++ puts_from shape (after_stores shape s es) fs k
 puts_from-append shape s [] fs k = refl
 puts_from-append shape s (e ∷ es) fs k =
     let here : List ℕ = cond (eqb (last_entry shape s) k) (item_put s.note e.word) [] in
-    let t : State = after_store shape s e in
+    let t : TableState = after_store shape s e in
     ap (λ (z : List ℕ). here ++ z) (puts_from-append shape t es fs k)
     ∙ sym (append_assoc here (puts_from shape t es k) (puts_from shape (after_stores shape t es) fs k))
 
@@ -37,8 +37,8 @@ module _ (shape : Shape) (opening : List ℕ) where
       ≡ puts_in shape opening log k ++ cond (eqb (number_after shape opening log) k) (item_put (state_of shape opening log).note e.word) []
   unfolding puts_in state_of
   puts_in-push log e k =
-      let s : State = opened shape opening in
-      let t : State = after_stores shape s log in
+      let s : TableState = opened shape opening in
+      let t : TableState = after_stores shape s log in
       let here : List ℕ = cond (eqb (last_entry shape t) k) (item_put t.note e.word) [] in
       puts_from-append shape s log (e ∷ []) k ∙ ap (λ (z : List ℕ). puts_from shape s log k ++ z) (append-nil here)
 
@@ -219,14 +219,14 @@ module _ (shape : Shape) (opening : List ℕ) (v : ℕ) (low : v < shape.fixed) 
       → (member v (puts_in shape opening log (number_after shape opening log)) ≡ true) ↔ (stamp_after shape opening log v ≡ number_after shape opening log)
   put-exactly log h closed some =
       let begins : TellsAt [] = λ (l : 0 < length (state_of shape opening []).entries).
-      absurd (omega (arith, l, ap (λ (z : State). length z.entries) (state_of-nil shape opening))) in
+      absurd (omega (arith, l, ap (λ (z : TableState). length z.entries) (state_of-nil shape opening))) in
       let told = tells-since log [] log refl h begins some in (
         λ m. elim (told.was_put m) [ inl e ↦ e | inr k ↦ absurd (false≢true (sym (ap (member v) closed.0) ∙ k)) ],
         told.stamped,
       )
 
 -- a store that adds an entry is to the note word
-entry-noted : (shape : Shape) (s : State) (e : Event) → length s.entries < length (after_store shape s e).entries → e.word ≡ 0
+entry-noted : (shape : Shape) (s : TableState) (e : Event) → length s.entries < length (after_store shape s e).entries → e.word ≡ 0
 entry-noted shape s e =
     elim (cases_Bool (eqb e.word 0)) [
       | inl t ↦ λ _. eqb-true e.word 0 t
@@ -234,7 +234,7 @@ entry-noted shape s e =
     ]
 
 -- one that enters is allowed only where the section before is closed
-entry-closed : (shape : Shape) (s : State) (e : Event) → MayStore shape s e → e.word ≡ 0 → length s.entries < length (entered (note_of e.value) s.entries)
+entry-closed : (shape : Shape) (s : TableState) (e : Event) → MayStore shape s e → e.word ≡ 0 → length s.entries < length (entered (note_of e.value) s.entries)
     → IsClosed s
 entry-closed shape s e may is more = (nothing-left (note_of e.value) (may.note is) more, quiet s.note may.follows)
   where
@@ -256,7 +256,7 @@ module _ (shape : Shape) (opening : List ℕ) where
       → number_after shape opening before < number_after shape opening (before ++ e ∷ []) → IsClosed (state_of shape opening before)
   closed-before before e h lt =
       let s = state_of shape opening before in
-      let push = ap (λ (z : State). z.entries) (state_of-push shape opening before e) in
+      let push = ap (λ (z : TableState). z.entries) (state_of-push shape opening before e) in
       let more : length s.entries < length (after_store shape s e).entries = omega (arith, lt, ap length push) in
       let is = entry-noted shape s e more in
       let noted : (after_store shape s e).entries ≡ entered (note_of e.value) s.entries = rw (eq-eqb e.word 0 is) refl in
@@ -278,7 +278,7 @@ module _ (shape : Shape) (opening : List ℕ) where
       let legal = legal-prefix shape opening next log pre h in
       let early = legal-prefix shape opening before next (e ∷ [], refl) legal in
       let s = state_of shape opening before in
-      let is = entry-noted shape s e (omega (arith, lt, ap (λ (z : State). length z.entries) (state_of-push shape opening before e))) in
+      let is = entry-noted shape s e (omega (arith, lt, ap (λ (z : TableState). length z.entries) (state_of-push shape opening before e))) in
       let same : puts_in shape opening log (number_after shape opening before) ≡ puts_in shape opening before (number_after shape opening before) =
       puts_in-kept shape opening next log (number_after shape opening before) pre lt
       ∙ adds-none shape opening before e (number_after shape opening before) (note-puts shape opening s.note e.word is) in

@@ -14,8 +14,8 @@ use Rattle.kc_words.specs.declared.note.NoteWord.TheVariants.{Enter, Put, Take}
 use Rattle.kc_table.specs.Log.{event}
 use Rattle.kc_table.specs.Edges.{edges_after}
 use Rattle.kc_table.specs.Sections.{puts_in}
-use Rattle.kc_table.specs.State.{state_of}
-use Rattle.kc_table.specs.Legal.{Legal, Opens}
+use Rattle.kc_table.specs.TableState.{state_of}
+use Rattle.kc_table.specs.Legal.{Legal, IsTableOpening}
 use Rattle.kc_table.specs.Samples.{shape, item, vertex, note, opening, one_put, put_and_take, open_section, sealed_section, sealed_unmoved, two_entries}
 use Rattle.kc_table.specs.Samples.{pair_shape, pair_opening, pair_put, no_edges, one_edge, longer_opening, noted_opening, ahead_opening, missing_opening}
 use Rattle.kc_table.specs.Samples.{tied_opening, stamped_opening}
@@ -110,32 +110,32 @@ unfolding state_of item_of item_word group_of group_word note_of note_word
 edges-later = ap (λ edges. record { size = 2; edges = edges }) (removed_again (0, 1))
 
 -- opening words that are one too many open no table
-pub longer_opening-refused : Opens shape longer_opening → ⊥
+pub longer_opening-refused : IsTableOpening shape longer_opening → ⊥
 longer_opening-refused h = omega (arith, h.one_each)
 
 -- opening words with a note open no table
-pub noted_opening-refused : Opens shape noted_opening → ⊥
+pub noted_opening-refused : IsTableOpening shape noted_opening → ⊥
 noted_opening-refused h = omega (arith, h.no_note)
 
 -- opening words with a version that is not the shape's open no table
-pub ahead_opening-refused : Opens shape ahead_opening → ⊥
+pub ahead_opening-refused : IsTableOpening shape ahead_opening → ⊥
 unfolding item_of item_word
 ahead_opening-refused h = let e : ◌≡◌ {A = ℕ} 1 0 = h.versions 2 (omega arith, omega arith) in omega (arith, e)
 
 -- opening words whose list lacks a vertex open no table
-pub missing_opening-refused : Opens shape missing_opening → ⊥
+pub missing_opening-refused : IsTableOpening shape missing_opening → ⊥
 unfolding item_of item_word group_of group_word
 missing_opening-refused h = let e : false ≡ true = h.vertices 0 (omega arith) in false≢true e
 
 -- opening words in which two items have one pair open no table
-pub tied_opening-refused : Opens shape tied_opening → ⊥
+pub tied_opening-refused : IsTableOpening shape tied_opening → ⊥
 unfolding item_of item_word group_of group_word
 tied_opening-refused h =
     let k : ((100 < 100) ⊎ ((◌≡◌ {A = ℕ} 100 100) × (20 < 20))) = h.holds.ordered.pairs.0 in
     elim k [ inl l ↦ omega (arith, l) | inr l ↦ omega (arith, l.1) ]
 
 -- opening words with a stamp beyond the last entry open no table
-pub stamped_opening-refused : Opens shape stamped_opening → ⊥
+pub stamped_opening-refused : IsTableOpening shape stamped_opening → ⊥
 unfolding vertex_of vertex_word
 stamped_opening-refused h = let l : 2 ≤ 1 = h.holds.stamps 0 (omega arith) in omega (arith, l)
 

@@ -5,8 +5,8 @@ use Rattle.std.proofs.Common.{leb-true, lt-ltb, eqb-true, ne_eqb, le-ltb, leb-fa
 use Rattle.std.specs.Prelude.{◌||◌}
 use Rattle.std.proofs.lemmas.Bool.{cases_Bool, cases_eq, cases_lt, false≢true, or_right}
 use mathlib.Core.List.{IsPrefix}
-use Rattle.kc_distinct.specs.Lists.{member, without}
-use Rattle.kc_distinct.proofs.Members.{member-without, without-member, not_member-without}
+use Rattle.kc_lists.specs.Lists.{member, without}
+use Rattle.kc_lists.proofs.Members.{member-without, without-member, not_member-without}
 use Rattle.kc_words.specs.NoteWord.{note_of}
 use Rattle.kc_words.specs.VertexWord.{vertex_of}
 use Rattle.kc_words.specs.declared.note.NoteWord.{NoteWord}
@@ -15,7 +15,7 @@ use Rattle.kc_words.specs.declared.shape.Shape.{Shape}
 use Rattle.kc_table.specs.declared.view.Event.{Event}
 use Rattle.kc_table.specs.Log.{value_at}
 use Rattle.kc_table.specs.Sections.{number_after, stamp_after, item_put}
-use Rattle.kc_table.specs.State.{State, after_store, state_of, first_vertex, word_count, unsealed_from, put_in, sealed}
+use Rattle.kc_table.specs.TableState.{TableState, after_store, state_of, first_vertex, word_count, unsealed_from, put_in, sealed}
 use Rattle.kc_table.specs.Legal.{MayStore, MayNote, FollowsNote, Legal, stamp_in}
 use Rattle.kc_table.proofs.Fresh.{vertex-rises, long-after}
 use Rattle.kc_table.proofs.LegalLogs.{after_store-words, state_of-words, state_of-push, legal-prefix, legal-last, entries-prefix}
@@ -25,17 +25,17 @@ use Rattle.kc_table.proofs.Listed.{Announced}
 
 module _ (shape : Shape) (v : ℕ) where
   -- the word of the vertex
-  abbrev at : State → ℕ
+  abbrev at : TableState → ℕ
   at s = get_or s.words (first_vertex shape + v) 0
 
   -- a store to another word leaves the vertex's
-  pub at-other : (s : State) (e : Event) → e.word ≢ first_vertex shape + v → at (after_store shape s e) ≡ at s
+  pub at-other : (s : TableState) (e : Event) → e.word ≢ first_vertex shape + v → at (after_store shape s e) ≡ at s
   at-other s e other =
       ap (λ ws. get_or ws (first_vertex shape + v) 0) (after_store-words shape s e)
       ∙ get_or-set_other s.words e.word (first_vertex shape + v) e.value 0 (λ k. other (sym k))
 
   -- a store to the word itself gives it its value
-  pub at-stored : (s : State) (e : Event) → length s.words ≡ word_count shape → MayStore shape s e → e.word ≡ first_vertex shape + v
+  pub at-stored : (s : TableState) (e : Event) → length s.words ≡ word_count shape → MayStore shape s e → e.word ≡ first_vertex shape + v
       → at (after_store shape s e) ≡ e.value
   at-stored s e long may is =
       let there : first_vertex shape + v < length s.words = omega (arith, may.there, long, is) in
@@ -100,14 +100,14 @@ module _ (shape : Shape) (v : ℕ) where
       ] refl
 
   -- a note but that of an entry leaves open what is open, and that comes only where nothing is
-  note-open : (s : State) (note : NoteWord) → MayNote shape s note → member v s.unsealed ≡ true → member v (unsealed_from note s.unsealed) ≡ true
+  note-open : (s : TableState) (note : NoteWord) → MayNote shape s note → member v s.unsealed ≡ true → member v (unsealed_from note s.unsealed) ≡ true
   note-open s Nothing h m = m
   note-open s (Enter add index u w) h m = absurd (false≢true (sym (ap (member v) h) ∙ m))
   note-open s (Put x p) h m = m
   note-open s (Take x) h m = m
 
   -- so a vertex that was put stays open until its word is stored
-  pub still-open : v < shape.fixed → (s : State) (e : Event) → MayStore shape s e → e.word ≢ first_vertex shape + v → member v s.unsealed ≡ true
+  pub still-open : v < shape.fixed → (s : TableState) (e : Event) → MayStore shape s e → e.word ≢ first_vertex shape + v → member v s.unsealed ≡ true
       → member v (after_store shape s e).unsealed ≡ true
   still-open low s e may other m = elim (cases_Bool (eqb e.word 0)) [
     | inl t ↦ rw t (note-open s (note_of e.value) (may.note (eqb-true e.word 0 t)) m)

@@ -10,10 +10,10 @@ use Rattle.atomic_table.proofs.Lists.{at_set, at_snoc}
 use Rattle.kc_table.specs.declared.view.Event.{Event}
 use Rattle.kc_words.specs.declared.shape.Shape.{Shape}
 use Rattle.kc_table.specs.declared.view.Opening.{Opening}
-use Rattle.kc_table.specs.declared.view.View.{View}
+use Rattle.kc_table.specs.declared.view.Knowledge.{Knowledge}
 use Rattle.kc_table.specs.Log.{words_after, value_at, event}
 use Rattle.kc_table.specs.Legal.{Legal}
-use Rattle.kc_table.specs.Rule.{EachBegins, Fits, Keeps, first_view, pass_of, parted, told, nobody, adds, sees, TellsLoad, TellsStore}
+use Rattle.kc_table.specs.Rule.{EachBegins, Fits, KeepsTable, first_view, pass_of, parted, told, nobody, adds, sees, TellsLoad, TellsStore}
 use Rattle.kc_table.proofs.LegalLogs.{legal-last, legal-opens}
 use Rattle.kc_table.proofs.Prefixes.{prefix_self, prefix_push}
 
@@ -53,22 +53,22 @@ each_longer (p ∷ ps) log e h = (prefix_push p log e h.0, each_longer ps log e 
 
 module _ (k : Opening) where
   -- the view fits the log
-  abbrev F : List Event → ℕ → ℕ → View → Type 0
+  abbrev F : List Event → ℕ → ℕ → Knowledge → Type 0
   F log writer seat v = Fits k.shape k.words.items log writer seat v
 
   -- the views after one is set: that one fits, and so does each other
-  fits_set : (log : List Event) (writer : ℕ) (views : List View) (id : ℕ) (w : View) → F log writer id w
-      → ((j : ℕ) (u : View) → j ≢ id → get_elem? views j ≡ some u → F log writer j u)
-      → (j : ℕ) (u : View) → get_elem? (set views id w) j ≡ some u → F log writer j u
+  fits_set : (log : List Event) (writer : ℕ) (views : List Knowledge) (id : ℕ) (w : Knowledge) → F log writer id w
+      → ((j : ℕ) (u : Knowledge) → j ≢ id → get_elem? views j ≡ some u → F log writer j u)
+      → (j : ℕ) (u : Knowledge) → get_elem? (set views id w) j ≡ some u → F log writer j u
   fits_set log writer views id w mine others j u e = ⊎_elim
-      (λ (t : (j ≡ id) × (w ≡ u)). subst (λ (x : ℕ × View). F log writer x.0 x.1) (λ i. (sym t.0 i, t.1 i)) mine)
+      (λ (t : (j ≡ id) × (w ≡ u)). subst (λ (x : ℕ × Knowledge). F log writer x.0 x.1) (λ i. (sym t.0 i, t.1 i)) mine)
       (λ (t : (j ≢ id) × (get_elem? views j ≡ some u)). others j u t.0 t.1)
       (at_set views id j w u e)
 
 module _ {S : Type 0} (k : Opening) where
   -- the rule of the table
-  abbrev Rule : State S View → Type 0
-  Rule s = Keeps k s
+  abbrev Rule : State S Knowledge → Type 0
+  Rule s = KeepsTable k s
 
   -- the rule holds at the opening
   pub opening-keeps_rule : (xs : List S) → Legal k.shape k.words.items [] → Rule (opening k.words.items xs (first_view k))
@@ -80,7 +80,7 @@ module _ {S : Type 0} (k : Opening) where
     each = one;
   }
     where
-      one : (j : ℕ) (v : View) → get_elem? (first_view k ∷ []) j ≡ some v → F k [] 0 j v
+      one : (j : ℕ) (v : Knowledge) → get_elem? (first_view k ∷ []) j ≡ some v → F k [] 0 j v
       one zero v e = subst (F k [] 0 0) (some-injective _ _ e) record {
         knows = λ _. record { same_shape = refl; same_opening = refl; begins = prefix_self []; kept_begin = tt };
         wrote = λ _. (refl, refl);
@@ -88,7 +88,7 @@ module _ {S : Type 0} (k : Opening) where
       one (suc j) v e = absurd (some-ne-none v (sym e))
 
   -- a step that changes no word
-  unmoved : (s : State S View) (h : Rule s) (i id : ℕ) (cs : List (ℕ × S)) (w : View) → F k h.log h.writer id w
+  unmoved : (s : State S Knowledge) (h : Rule s) (i id : ℕ) (cs : List (ℕ × S)) (w : Knowledge) → F k h.log h.writer id w
       → Rule (stepped s i (get_or s.words i 0) id cs w keeps)
   unmoved s h i id cs w mine = record {
     log = h.log;
@@ -99,7 +99,7 @@ module _ {S : Type 0} (k : Opening) where
   }
 
   -- a load keeps the rule
-  pub load-keeps_rule : (slots id word : ℕ) (me : Me S View) → me.0.spent ≡ false
+  pub load-keeps_rule : (slots id word : ℕ) (me : Me S Knowledge) → me.0.spent ≡ false
       → Allows Rule slots id me word (λ n. n) (TellsLoad (step slots word 0 0 none) me)
   load-keeps_rule slots id word me live s h len at bound =
       let v = me.0 in
@@ -128,7 +128,7 @@ module _ {S : Type 0} (k : Opening) where
       )
 
   -- a store keeps the rule
-  pub store-keeps_rule : (slots id word value : ℕ) (me : Me S View) → me.0.spent ≡ false → me.0.writes ≡ true
+  pub store-keeps_rule : (slots id word value : ℕ) (me : Me S Knowledge) → me.0.spent ≡ false → me.0.writes ≡ true
       → Legal me.0.shape me.0.opening (me.0.seen ++ event word value ∷ [])
       → Allows Rule slots id me word (λ _. value) (λ _. TellsStore (step slots word value 0 none) me value)
   store-keeps_rule slots id word value me live writes legal s h len at bound =
@@ -148,7 +148,7 @@ module _ {S : Type 0} (k : Opening) where
         };
         wrote = λ _. (all.0, ap (λ (l : List Event). l ++ e ∷ []) all.1);
       } in
-      let others : (j : ℕ) (u : View) → j ≢ id → get_elem? s.views j ≡ some u → F k log h.writer j u = λ j u apart there.
+      let others : (j : ℕ) (u : Knowledge) → j ≢ id → get_elem? s.views j ≡ some u → F k log h.writer j u = λ j u apart there.
       let g = h.each j u there in record {
         knows = λ l. let m = g.knows l in record {
           same_shape = m.same_shape;
@@ -172,7 +172,7 @@ module _ {S : Type 0} (k : Opening) where
       )
 
   -- a split adds a pass, and the view that it was split from has made a split more
-  pub split-keeps_rule : (id : ℕ) (v : View) → v.spent ≡ false → Splits Rule id v (parted v) (pass_of v)
+  pub split-keeps_rule : (id : ℕ) (v : Knowledge) → v.spent ≡ false → Splits Rule id v (parted v) (pass_of v)
   split-keeps_rule id v live s h at =
       let f = h.each id v at in
       let n = f.knows live in
@@ -194,7 +194,7 @@ module _ {S : Type 0} (k : Opening) where
       }
 
   -- the rule is kept where two views are joined
-  pub join-keeps_rule : (id : ℕ) (v : View) (other : ℕ) (u : View) → v.spent ≡ false → u.spent ≡ false → Joins Rule id v other u (told v u) nobody
+  pub join-keeps_rule : (id : ℕ) (v : Knowledge) (other : ℕ) (u : Knowledge) → v.spent ≡ false → u.spent ≡ false → Joins Rule id v other u (told v u) nobody
   join-keeps_rule id v other u live live' s h at apart there =
       let w = told v u in
       let f = h.each id v at in

@@ -5,7 +5,7 @@ use Rattle.kc_graph.specs.Edges.{with_edge, without_edge}
 use Rattle.kc_words.specs.declared.shape.Shape.{Shape}
 use Rattle.kc_table.specs.declared.entry.Entry.{Entry}
 use Rattle.kc_table.specs.declared.view.Event.{Event}
-use Rattle.kc_table.specs.State.{state_of}
+use Rattle.kc_table.specs.TableState.{state_of}
 
 -- the graph after one entry: with its edge, or without it
 abbrev pub after_entry : SimpleGraph → Entry → SimpleGraph

@@ -4,6 +4,6 @@ pub mod Legal
 pub mod Log
 pub mod Rule
 pub mod Sections
-pub mod State
+pub mod TableState
 -- What the crate's own functions and invariants speak of.
 pub mod Samples

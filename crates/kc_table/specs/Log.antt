@@ -14,6 +14,16 @@ pub record TableName : Type 0 where
   pub shape : Shape
   pub opening : List ℕ
 
+-- A table with what its graph was when it was opened: the edges, and for each vertex the number of the last entry that changed its edges.
+pub record Opened : Type 0 where
+  pub table : TableName
+  pub edges : SimpleGraph
+  pub stamps : List ℕ
+
+-- a table that was opened with these edges and these stamps of its vertices
+abbrev pub opened_with : TableName → SimpleGraph → List ℕ → Opened
+opened_with table edges stamps = record { table = table; edges = edges; stamps = stamps }
+
 -- a prefix of a table's log
 pub record Seen : Type 0 where
   pub table : TableName

@@ -4,7 +4,7 @@ use Rattle.kc_words.specs.declared.note.NoteWord.{NoteWord}
 use Rattle.kc_words.specs.declared.note.NoteWord.TheVariants.{Nothing, Enter, Put, Take}
 use Rattle.kc_words.specs.declared.shape.Shape.{Shape}
 use Rattle.kc_table.specs.declared.view.Event.{Event}
-use Rattle.kc_table.specs.State.{State, opened, after_store, state_of}
+use Rattle.kc_table.specs.TableState.{TableState, opened, after_store, state_of}
 use Rattle.kc_table.specs.Legal.{last_entry, stamp_in}
 
 -- the number of the log's last entry, over all tables of a run: that of its last section
@@ -23,7 +23,7 @@ item_put (Put x p) word = if word == 1 + x then x ∷ [] else []
 item_put (Take x) word = []
 
 -- what these stores, made from a state on, put while the last entry has this number
-abbrev pub puts_from : Shape → State → List Event → ℕ → List ℕ
+abbrev pub puts_from : Shape → TableState → List Event → ℕ → List ℕ
 puts_from shape s [] number = []
 puts_from shape s (e ∷ es) number =
     (if last_entry shape s == number then item_put s.note e.word else []) ++ puts_from shape (after_store shape s e) es number

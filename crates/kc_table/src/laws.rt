@@ -3,27 +3,27 @@
 //! Each function does nothing, and its contract is the law.
 ghost use Rattle.std.specs.Prelude.{◌≡◌, ◌≢◌, ◌+◌, ◌<◌, ◌≤◌, ◌⊎◌, ◌↔◌, ℕ, Bool, List, [], ◌∷◌, ◌++◌, length, true, false};
 ghost use mathlib.Core.List.{IsPrefix};
-ghost use Rattle.kc_distinct.specs.Lists.{Distinct, member};
+ghost use Rattle.kc_lists.specs.Lists.{Distinct, member};
 ghost use Rattle.kc_words.specs.declared.note.NoteWord.TheVariants.{Enter, Put, Take};
 ghost use Rattle.kc_words.specs.declared.shape.Shape.{Shape};
 ghost use Rattle.kc_table.specs.declared.view.Event.{Event};
 ghost use Rattle.kc_table.specs.Edges.{edges_after};
-ghost use Rattle.kc_table.specs.Legal.{Holds, IsClosed, IsVersioned, Legal, MayStore, Opens};
+ghost use Rattle.kc_table.specs.Legal.{StateHolds, IsClosed, IsVersioned, Legal, MayStore, IsTableOpening};
 ghost use Rattle.kc_table.specs.Log.{event, value_at};
 ghost use Rattle.kc_table.specs.Samples as sample;
 ghost use Rattle.kc_table.specs.Sections.{item_put, number_after, puts_in, stamp_after};
-ghost use Rattle.kc_table.specs.State.{after_store, first_vertex, state_of};
+ghost use Rattle.kc_table.specs.TableState.{after_store, first_vertex, state_of};
 
 /// A log is legal where the table was opened rightly, each store was one that might follow, and the rules held after it.
 pub fn a_log_is_legal_store_by_store()
-    ensures empty { (shape : Shape) (opening : List ℕ) → Opens shape opening → Legal shape opening [] }
+    ensures empty { (shape : Shape) (opening : List ℕ) → IsTableOpening shape opening → Legal shape opening [] }
     ensures longer { (shape : Shape) (opening : List ℕ) (log : List Event) (e : Event) → Legal shape opening log
-        → MayStore shape (state_of shape opening log) e → Holds shape (state_of shape opening (log ++ e ∷ [])) → Legal shape opening (log ++ e ∷ []) }
+        → MayStore shape (state_of shape opening log) e → StateHolds shape (state_of shape opening (log ++ e ∷ [])) → Legal shape opening (log ++ e ∷ []) }
     ensures prefix { (shape : Shape) (opening : List ℕ) (before log : List Event) → IsPrefix before log → Legal shape opening log → Legal shape opening before }
-    ensures opening { (shape : Shape) (opening : List ℕ) (log : List Event) → Legal shape opening log → Opens shape opening }
+    ensures opening { (shape : Shape) (opening : List ℕ) (log : List Event) → Legal shape opening log → IsTableOpening shape opening }
     ensures last { (shape : Shape) (opening : List ℕ) (log : List Event) (e : Event) → Legal shape opening (log ++ e ∷ [])
         → MayStore shape (state_of shape opening log) e }
-    ensures holds { (shape : Shape) (opening : List ℕ) (log : List Event) → Legal shape opening log → Holds shape (state_of shape opening log) }
+    ensures holds { (shape : Shape) (opening : List ℕ) (log : List Event) → Legal shape opening log → StateHolds shape (state_of shape opening log) }
 {}
 
 /// One more store changes what a log has made by `after_store`.
@@ -132,7 +132,7 @@ pub fn entries_stay()
 
 /// The opening words of the small table open it, and its written-out logs are legal.
 pub fn the_written_out_logs_are_legal()
-    ensures opening { Opens sample.shape sample.opening }
+    ensures opening { IsTableOpening sample.shape sample.opening }
     ensures none { Legal sample.shape sample.opening [] }
     ensures one_put { Legal sample.shape sample.opening sample.one_put }
     ensures put_and_take { Legal sample.shape sample.opening sample.put_and_take }
@@ -143,12 +143,12 @@ pub fn the_written_out_logs_are_legal()
 
 /// Opening words that break one condition each open no table.
 pub fn each_condition_of_opening_words_counts()
-    ensures one_each { Opens sample.shape sample.longer_opening → ⊥ }
-    ensures no_note { Opens sample.shape sample.noted_opening → ⊥ }
-    ensures versions { Opens sample.shape sample.ahead_opening → ⊥ }
-    ensures vertices { Opens sample.shape sample.missing_opening → ⊥ }
-    ensures ordered { Opens sample.shape sample.tied_opening → ⊥ }
-    ensures stamps { Opens sample.shape sample.stamped_opening → ⊥ }
+    ensures one_each { IsTableOpening sample.shape sample.longer_opening → ⊥ }
+    ensures no_note { IsTableOpening sample.shape sample.noted_opening → ⊥ }
+    ensures versions { IsTableOpening sample.shape sample.ahead_opening → ⊥ }
+    ensures vertices { IsTableOpening sample.shape sample.missing_opening → ⊥ }
+    ensures ordered { IsTableOpening sample.shape sample.tied_opening → ⊥ }
+    ensures stamps { IsTableOpening sample.shape sample.stamped_opening → ⊥ }
 {}
 
 /// Logs whose last store breaks a condition are not legal. Each condition has a log of its own. Without its last store each log is one

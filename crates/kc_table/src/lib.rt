@@ -3,7 +3,7 @@
 //! The writer's stores form a log, oldest first, which exists in the proofs alone. Each `Pass` has seen a prefix of it: a load answers
 //! its word's value after a prefix that is no shorter than what the pass had seen before. The log is *legal*: `specs/Legal.antt` says
 //! what may be stored next and what holds after each store, so every thread knows this of every prefix that it sees. What a log
-//! makes of the table, its list, its entries and its sections, is in `specs/State.antt`.
+//! makes of the table, its list, its entries and its sections, is in `specs/TableState.antt`.
 //!
 //! `open` alone takes memory, no call takes a lock, and a pass has no bytes. The crate stands on `atomic_table`, whose one fact about
 //! all words and all seats is the rule of `specs/Rule.antt`, and on the formats of `kc_words`.

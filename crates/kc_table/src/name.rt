@@ -8,18 +8,13 @@ use std::marker::Brand;
 pub trait Name {
     ghost use Rattle.std.specs.Prelude.{ℕ, List};
     ghost use Rattle.kc_graph.specs.SimpleGraph.{SimpleGraph};
-    ghost use Rattle.kc_table.specs.Log.{TableName};
+    ghost use Rattle.kc_table.specs.Log.{Opened};
     ghost use Rattle.kc_table.specs.declared.entry.Entry.{Entry};
     ghost use Rattle.kc_table.specs.declared.view.Event.{Event};
 
-    /// The table.
-    ghost table: { TableName };
-
-    /// The edges that the table opened with.
-    ghost opening_edges: { SimpleGraph };
-
-    /// For each vertex, the number of the last entry before the table that changed its edges, or 0.
-    ghost opening_stamps: { List ℕ };
+    /// The table, with the edges that it opened with, and for each vertex the number of the last entry before it that changed its edges,
+    /// or 0.
+    ghost opened: { Opened };
 
     /// The edges that the run started with, before all its entries.
     ghost start_edges: { SimpleGraph };
@@ -33,13 +28,9 @@ pub trait Name {
 
 impl Name for Brand {
     ghost use Rattle.std.specs.Prelude.{[]};
-    ghost use Rattle.kc_table.specs.Log.{no_table, no_graph};
+    ghost use Rattle.kc_table.specs.Log.{no_table, no_graph, opened_with};
 
-    ghost table = { no_table };
-
-    ghost opening_edges = { no_graph };
-
-    ghost opening_stamps = { [] };
+    ghost opened = { opened_with no_table no_graph [] };
 
     ghost start_edges = { no_graph };
 

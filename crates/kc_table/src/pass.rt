@@ -1,5 +1,5 @@
 //! What a thread has seen of a table, and the steps that it has made there.
-use crate::view::View;
+use crate::view::Knowledge;
 use atomic_table::Seat;
 use std::marker::Model;
 
@@ -9,7 +9,7 @@ use std::marker::Model;
 /// No call makes what a pass has seen shorter. What one pass has seen reaches another by `meet`, or where it is told the log.
 #[derive(Drop)]
 pub struct Pass {
-    pub(crate) seat: Seat<u8, View>,
+    pub(crate) seat: Seat<u8, Knowledge>,
 }
 
 impl Model for Pass {

@@ -4,8 +4,8 @@
 ghost use Rattle.std.specs.Prelude.{◌≡◌, ◌<◌, ◌+◌, ◌++◌, [], ◌∷◌, IfOk};
 ghost use mathlib.Core.List.{IsPrefix};
 ghost use Rattle.kc_table.specs.Log.{value_at, event};
-ghost use Rattle.kc_table.specs.State.{word_count};
-ghost use Rattle.kc_table.specs.Legal.{Legal, Opens};
+ghost use Rattle.kc_table.specs.TableState.{word_count};
+ghost use Rattle.kc_table.specs.Legal.{Legal, IsTableOpening};
 
 use crate::NoMemory;
 use crate::pass::Pass;
@@ -25,7 +25,7 @@ pub fn open(
     shape: Shape,
     words: Vec<u64>,
 ) -> Result<(Words, WriterSeat, Pass), NoMemory>
-    requires { Opens shape words.items }
+    requires { IsTableOpening shape words.items }
     ensures words { IfOk result (λ r. (r.0.shape ≡ shape) × (r.0.opening ≡ words.items)) }
     ensures writer { IfOk result (λ r. r.1 ≡ record { table = r.0; log = [] }) }
     ensures pass { IfOk result (λ r. r.2 ≡ record { table = r.0; log = []; loads = 0; splits = 0 }) }

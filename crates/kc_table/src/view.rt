@@ -17,7 +17,7 @@ pub struct Opening {
 
 /// What a seat knows: the table's shape and opening words, the stores that it has seen, what it was told of since its last load, and how
 /// many loads and splits it has made.
-pub struct View {
+pub struct Knowledge {
     pub spent: bool,
     pub writes: bool,
     pub shape: Shape,

@@ -1,12 +1,12 @@
 //! The writer's right to store.
-use crate::view::View;
+use crate::view::Knowledge;
 use atomic_table::Seat;
 use std::marker::Model;
 
 /// The right to store, of which a table has one. Contracts see its table and the whole log.
 #[derive(Drop)]
 pub struct WriterSeat {
-    pub(crate) seat: Seat<u8, View>,
+    pub(crate) seat: Seat<u8, Knowledge>,
 }
 
 impl Model for WriterSeat {

@@ -1,5 +1,5 @@
 -- Batches between the numbers that stand for ids.
-use Rattle.std.proofs.Common.{◌≡◌, ◌≢◌, ◌≤◌, ◌<◌, ℕ, suc, zero, true, List, [], ◌∷◌, length, length-append, map, get_or, refl, sym, ap, subst, ◌∙◌}
+use Rattle.std.proofs.Common.{◌≡◌, ◌≢◌, ◌≤◌, ◌<◌, ◌+◌, ℕ, suc, zero, true, List, [], ◌∷◌, length, length-append, map, get_or, refl, sym, ap, subst, ◌∙◌}
 use Rattle.std.proofs.Common.{arith, nat_eq, eqb-true, eq-eqb, min, max, inl, inr, Vec, Global, None}
 use Rattle.std.specs.Prelude.{All}
 use Rattle.std.specs.List.{flat_map}
@@ -8,15 +8,16 @@ use Rattle.std.proofs.lemmas.Bool.{or_cases, and_parts, and_from, or_left, or_ri
 use Rattle.std.proofs.lemmas.List.{get_or-map, length-map}
 use Rattle.std.proofs.lemmas.List.Folds.{list_any-append}
 use Rattle.kc_graph.specs.declared.update.Update.{Update}
-use Rattle.kc_text.specs.declared.change.Change.{Change}
+use Rattle.kc_text.specs.declared.change.ChangeLine.{ChangeLine}
+use Rattle.kc_text.specs.declared.batch.Batch.{Batch}
 use Rattle.kc_text.specs.declared.input.Input.{Input}
 use Rattle.kc_text.specs.declared.reading.Reading.{Reading}
-use Rattle.kc_text.specs.Inputs.{AreAmong, AreEdges, AreIds, AreUpdates, EdgeUpdate, IsBatch, IsInput, edge_of, numbered_change, parts_of, place}
-use Rattle.kc_text.specs.Inputs.{start_graph}
+use Rattle.kc_text.specs.Inputs.{AreAmong, AreEdges, AreIds, AreUpdates, EdgeBatch, EdgeUpdate, IsBatch, IsInput, edge_of, numbered_batch, numbered_change}
+use Rattle.kc_text.specs.Inputs.{numbered_batches, parts_of, parts_of_batch, place, start_graph}
 use Rattle.kc_text.specs.Meaning.{Means, Told, batches, changes, ends, ends_of, meaning, name_same, names}
 use Rattle.kc_text.specs.Readers.{outcome}
 use Rattle.kc_text.specs.Batches.{NamesOnce}
-use Rattle.kc_text.specs.Overruling.{deciding, overruled}
+use Rattle.kc_text.specs.Overruling.{deciding}
 use Rattle.kc_text.specs.Readings.{IsReading}
 use Rattle.kc_text.proofs.Overruled.{deciding-among, deciding-count, deciding-once}
 use Rattle.kc_text.proofs.WithinLimits.{AreFit, HasNoLoops, fit-batches, meaning-fit}
@@ -26,14 +27,14 @@ use Rattle.kc_text.proofs.Telling.{change_ends, ends-told, ends-batches}
 use Rattle.kc_text.specs.declared.limits.TheConstants.{MOST_BATCHES, MOST_IDS, MOST_UPDATES}
 
 -- an update of the batch, and the change that it is
-pub record IsUpdate (ids : List ℕ) (u : Update) (c : Change) : Type 0 where
+pub record IsUpdate (ids : List ℕ) (u : Update) (c : ChangeLine) : Type 0 where
   pub a-in : is_member nat_eq ids c.a ≡ true
   pub b-in : is_member nat_eq ids c.b ≡ true
   pub least : u.u ≡ min (place ids c.a) (place ids c.b)
   pub most : u.v ≡ max (place ids c.a) (place ids c.b)
 
 -- an update of a batch is of the change at the same place
-pub update-at : (ids : List ℕ) (batch : List Change) (updates : List Update) → AreUpdates ids batch updates → AreAmong ids (ends (map ends_of batch))
+pub update-at : (ids : List ℕ) (batch : List ChangeLine) (updates : List Update) → AreUpdates ids batch updates → AreAmong ids (ends (map ends_of batch))
     → (i : ℕ) (d : Update) → i < length updates
     → (i < length batch) × IsUpdate ids (get_or updates i d) (get_or batch i no_change)
 update-at ids batch updates same among i d l =
@@ -53,7 +54,7 @@ update-at ids batch updates same among i d l =
     )
 
 -- the changes of two updates of one edge name the same pair
-pub named-again : (ids : List ℕ) (u v : Update) (c d : Change) → IsUpdate ids u c → IsUpdate ids v d → edge_of u ≡ edge_of v → name_same d c ≡ true
+pub named-again : (ids : List ℕ) (u v : Update) (c d : ChangeLine) → IsUpdate ids u c → IsUpdate ids v d → edge_of u ≡ edge_of v → name_same d c ≡ true
 named-again ids u v c d p q e =
     let least : u.u ≡ v.u = ap (λ (x : ℕ × ℕ). x.0) e in
     let most : u.v ≡ v.v = ap (λ (x : ℕ × ℕ). x.1) e in
@@ -71,7 +72,7 @@ named-again ids u v c d p q e =
     ]
 
 -- updates are fit, each within the vertices and no two of one edge, where the changes name no pair twice
-pub fit-updates : (ids : List ℕ) (batch : List Change) (updates : List Update) → AreUpdates ids batch updates → AreAmong ids (ends (map ends_of batch))
+pub fit-updates : (ids : List ℕ) (batch : List ChangeLine) (updates : List Update) → AreUpdates ids batch updates → AreAmong ids (ends (map ends_of batch))
     → NamesOnce batch → IsBatch (length ids) updates
 fit-updates ids batch updates same among once = record {
   within = λ i d l.
@@ -84,14 +85,15 @@ fit-updates ids batch updates same among once = record {
 }
 
 -- what holds of the lists holds of the vectors that keep them
-pub All-items : (P : List Change → Type 0) (vectors : List (Vec Change Global)) (lists : List (List Change)) → map (λ batch. batch.items) vectors ≡ lists
+pub All-items : (P : List ChangeLine → Type 0) (vectors : List (Vec ChangeLine Global)) (lists : List (List ChangeLine))
+    → map (λ batch. batch.items) vectors ≡ lists
     → All P lists → All (λ batch. P batch.items) vectors
-All-items P vectors lists e h = λ i d l. subst P (ap (λ (t : List (List Change)). get_or t i d.items) (sym e)
-    ∙ get_or-map (λ (batch : Vec Change Global). batch.items) vectors i d d.items l)
-    (h i d.items (omega (arith, ap (length) e, length-map vectors (λ (batch : Vec Change Global). batch.items))))
+All-items P vectors lists e h = λ i d l. subst P (ap (λ (t : List (List ChangeLine)). get_or t i d.items) (sym e)
+    ∙ get_or-map (λ (batch : Vec ChangeLine Global). batch.items) vectors i d d.items l)
+    (h i d.items (omega (arith, ap (length) e, length-map vectors (λ (batch : Vec ChangeLine Global). batch.items))))
 
 -- the ids of a batch are among those of all
-ids-of_batch : (lists : List (List Change)) (i : ℕ) (d : List Change) (id : ℕ) → i < length lists
+ids-of_batch : (lists : List (List ChangeLine)) (i : ℕ) (d : List ChangeLine) (id : ℕ) → i < length lists
     → is_member nat_eq (ends (map ends_of (get_or lists i d))) id ≡ true
     → is_member nat_eq (ends (map ends_of (flat_map (λ batch. batch) lists))) id ≡ true
 ids-of_batch [] i d id l h = absurd (omega arith)
@@ -114,59 +116,51 @@ among-batches told ids h = λ i d l id m. h.exact id ∙ (ap (λ (t : List ℕ).
     ∙ list_any-append (nat_eq id) (ends told.edges) (ends (map ends_of (changes told))) ∙ or_right _ _ (ids-of_batch (batches told) i d id l m))
 
 -- a batch is no longer than all batches together
-batch-length : (lists : List (List Change)) (i : ℕ) (d : List Change) → i < length lists → length (get_or lists i d) ≤ length (flat_map (λ batch. batch) lists)
+batch-length : (lists : List (List ChangeLine)) (i : ℕ) (d : List ChangeLine) → i < length lists
+    → length (get_or lists i d) ≤ length (flat_map (λ batch. batch) lists)
 batch-length [] i d l = absurd (omega arith)
 batch-length (list ∷ lists) zero d l = omega (arith, length-append list (flat_map (λ batch. batch) lists))
 batch-length (list ∷ lists) (suc i) d l = omega (arith, length-append list (flat_map (λ batch. batch) lists), batch-length lists i d (omega arith))
 
 -- what is made of each vector is made of each list
-pub made-of : {X : Type 0} (f : List Change → X) (vectors : List (Vec Change Global)) (lists : List (List Change))
+pub made-of : {X : Type 0} (f : List ChangeLine → X) (vectors : List (Vec ChangeLine Global)) (lists : List (List ChangeLine))
     → map (λ batch. batch.items) vectors ≡ lists → map (λ batch. f batch.items) vectors ≡ map f lists
 made-of f vectors lists e = through vectors ∙ ap (map f) e
   where
-    through : (vectors : List (Vec Change Global)) → map (λ batch. f batch.items) vectors ≡ map f (map (λ batch. batch.items) vectors)
+    through : (vectors : List (Vec ChangeLine Global)) → map (λ batch. f batch.items) vectors ≡ map f (map (λ batch. batch.items) vectors)
     through [] = refl
     through (batch ∷ vectors) = ap (λ t. f batch.items ∷ t) (through vectors)
 
--- the sign and the ends of each update, batch by batch
-abbrev pub parts_of_all : List (Vec Update Global) → List (List EdgeUpdate)
-parts_of_all updates = map (λ batch. map parts_of batch.items) updates
-
--- the changes of a batch that decide, between the numbers that stand for their ids
-abbrev pub numbered_deciding : List ℕ → List Change → List EdgeUpdate
-numbered_deciding ids batch = map (numbered_change ids) (deciding batch)
-
--- one batch of updates is the changes of one batch that decide
-updates-at : (ids : List ℕ) (updates : List (Vec Update Global)) (lists : List (List Change)) → parts_of_all updates ≡ map (numbered_deciding ids) lists
-    → (i : ℕ) (d : Vec Update Global) → i < length updates → (i < length lists) × AreUpdates ids (deciding (get_or lists i [])) (get_or updates i d).items
-updates-at ids updates lists same i d l =
-    let count : length updates ≡ length lists = sym (length-map updates (λ (batch : Vec Update Global). map parts_of batch.items))
-    ∙ (ap (length) same ∙ length-map lists (numbered_deciding ids)) in
+-- a batch of updates is one batch of changes, by the changes that decide
+batch-at : (ids : List ℕ) (made : List Batch) (lists : List (List ChangeLine)) → map parts_of_batch made ≡ map (numbered_batch ids) lists
+    → (i : ℕ) (d : Batch) → i < length made → (i < length lists) × (parts_of_batch (get_or made i d) ≡ numbered_batch ids (get_or lists i []))
+batch-at ids made lists same i d l =
+    let count : length made ≡ length lists = sym (length-map made parts_of_batch) ∙ (ap (length) same ∙ length-map lists (numbered_batch ids)) in
     let l' : i < length lists = omega arith in (
       l',
-      sym (get_or-map (λ (batch : Vec Update Global). map parts_of batch.items) updates i d (map parts_of d.items) l)
-          ∙ ap (λ (t : List (List EdgeUpdate)). get_or t i (map parts_of d.items)) same
-          ∙ get_or-map (numbered_deciding ids) lists i [] (map parts_of d.items) l',
+      sym (get_or-map parts_of_batch made i d (parts_of_batch d) l) ∙ ap (λ (t : List EdgeBatch). get_or t i (parts_of_batch d)) same
+          ∙ get_or-map (numbered_batch ids) lists i [] (parts_of_batch d) l',
     )
 
 -- each batch of updates is fit
-fit-input : (ids : List ℕ) (updates : List (Vec Update Global)) (lists : List (List Change)) → parts_of_all updates ≡ map (numbered_deciding ids) lists
-    → All (λ batch. AreAmong ids (ends (map ends_of batch))) lists → All (λ batch. IsBatch (length ids) batch.items) updates
-fit-input ids updates lists same among = λ i d l.
-    let (l', parts) = updates-at ids updates lists same i d l in
-    let batch : List Change = get_or lists i [] in
-    fit-updates ids (deciding batch) (get_or updates i d).items parts (deciding-among ids batch (among i [] l')) (deciding-once batch)
+fit-input : (ids : List ℕ) (made : List Batch) (lists : List (List ChangeLine)) → map parts_of_batch made ≡ map (numbered_batch ids) lists
+    → All (λ batch. AreAmong ids (ends (map ends_of batch))) lists → All (λ batch. IsBatch (length ids) batch.updates.items) made
+fit-input ids made lists same among = λ i d l.
+    let (l', is) = batch-at ids made lists same i d l in
+    let batch : List ChangeLine = get_or lists i [] in
+    fit-updates ids (deciding batch) (get_or made i d).updates.items (ap (λ (b : EdgeBatch). b.updates) is) (deciding-among ids batch (among i [] l'))
+    (deciding-once batch)
 
--- each batch of updates is as short as the batch of changes
-short-input : (ids : List ℕ) (most : ℕ) (updates : List (Vec Update Global)) (lists : List (List Change))
-    → parts_of_all updates ≡ map (numbered_deciding ids) lists
-    → All (λ batch. length batch ≤ most) lists → All (λ batch. length batch.items ≤ most) updates
-short-input ids most updates lists same short = λ i d l.
-    let (l', parts) = updates-at ids updates lists same i d l in
-    let batch : List Change = get_or lists i [] in
-    let count : length (get_or updates i d).items ≡ length (deciding batch) = sym (length-map (get_or updates i d).items parts_of)
-    ∙ (ap (length) parts ∙ length-map (deciding batch) (numbered_change ids)) in
-    omega (arith, deciding-count batch, short i [] l')
+-- each batch of updates is as short as the batch of changes, and no more are overruled
+short-input : (ids : List ℕ) (most : ℕ) (made : List Batch) (lists : List (List ChangeLine)) → map parts_of_batch made ≡ map (numbered_batch ids) lists
+    → All (λ batch. length batch ≤ most) lists → All (λ batch. length batch.updates.items + batch.overruled ≤ most) made
+short-input ids most made lists same short = λ i d l.
+    let (l', is) = batch-at ids made lists same i d l in
+    let batch : List ChangeLine = get_or lists i [] in
+    let updates : List Update = (get_or made i d).updates.items in
+    let count : length updates ≡ length (deciding batch) = sym (length-map updates parts_of)
+    ∙ (ap (λ (b : EdgeBatch). length b.updates) is ∙ length-map (deciding batch) (numbered_change ids)) in
+    omega (arith, deciding-count batch, short i [] l', ap (λ (b : EdgeBatch). b.overruled) is)
 
 -- what a reading has that ended with no refusal
 pub record Accepted (bytes : List ℕ) (reading : Reading) : Type 0 where
@@ -217,15 +211,14 @@ accepted-short bytes reading a = All-items (λ batch. length batch ≤ MOST_UPDA
 pub record IsMadeOf (reading : Reading) (input : Input) : Type 0 where
   pub ids : input.ids.items ≡ reading.ids.items
   pub start : AreEdges (start_graph reading.ids.items reading.edges.items) input.start.items
-  pub batches : parts_of_all input.batches.items ≡ map (λ batch. numbered_deciding reading.ids.items batch.items) reading.batches.items
-  pub overruled : input.overruled.items ≡ map (λ batch. overruled batch.items) reading.batches.items
+  pub batches : map parts_of_batch input.batches.items ≡ map (λ batch. numbered_batch reading.ids.items batch.items) reading.batches.items
 
 -- the batches of an input are those that were told
 made-parts : (bytes : List ℕ) (reading : Reading) (input : Input) → (a : Accepted bytes reading) → IsMadeOf reading input
-    → parts_of_all input.batches.items ≡ map (numbered_deciding input.ids.items) (batches a.told)
+    → map parts_of_batch input.batches.items ≡ numbered_batches input.ids.items a.told
 made-parts bytes reading input a is =
-    is.batches ∙ (made-of (numbered_deciding reading.ids.items) reading.batches.items (batches a.told) a.read.batches
-    ∙ ap (λ (ids : List ℕ). map (numbered_deciding ids) (batches a.told)) (sym is.ids))
+    is.batches ∙ (made-of (numbered_batch reading.ids.items) reading.batches.items (batches a.told) a.read.batches
+    ∙ ap (λ (ids : List ℕ). numbered_batches ids a.told) (sym is.ids))
 
 -- an input that is made of an accepted reading is the input of what was told
 pub input-made : (bytes : List ℕ) (reading : Reading) (input : Input) → Accepted bytes reading → IsMadeOf reading input
@@ -237,7 +230,6 @@ input-made bytes reading input a is = (
     named = subst (AreIds (names a.told)) (sym is.ids) a.read.ids;
     start = subst (λ (ids : List ℕ). AreEdges (start_graph ids a.told.edges) input.start.items) (sym is.ids)
         (subst (λ (edges : List (ℕ × ℕ)). AreEdges (start_graph reading.ids.items edges) input.start.items) a.read.edges is.start);
-    overruled = is.overruled ∙ made-of overruled reading.batches.items (batches a.told) a.read.batches;
     batches = made-parts bytes reading input a is;
   },
 )
@@ -251,7 +243,7 @@ among-input bytes reading input a is =
 
 -- each batch of the input is fit for a graph of as many vertices as there are ids
 pub made-batches : (bytes : List ℕ) (reading : Reading) (input : Input) → Accepted bytes reading → IsMadeOf reading input
-    → All (λ batch. IsBatch (length input.ids.items) batch.items) input.batches.items
+    → All (λ batch. IsBatch (length input.ids.items) batch.updates.items) input.batches.items
 made-batches bytes reading input a is = fit-input input.ids.items input.batches.items (batches a.told) (made-parts bytes reading input a is)
     (among-input bytes reading input a is)
 
@@ -259,25 +251,22 @@ made-batches bytes reading input a is = fit-input input.ids.items input.batches.
 pub made-few_batches : (bytes : List ℕ) (reading : Reading) (input : Input) → Accepted bytes reading → IsMadeOf reading input
     → length input.batches.items ≤ MOST_BATCHES
 made-few_batches bytes reading input a is =
-    let count : length input.batches.items ≡ length (batches a.told) = sym
-    (length-map input.batches.items (λ (batch : Vec Update Global). map parts_of batch.items))
-    ∙ (ap (length) (made-parts bytes reading input a is) ∙ length-map (batches a.told) (numbered_deciding input.ids.items)) in
+    let count : length input.batches.items ≡ length (batches a.told) = sym (length-map input.batches.items parts_of_batch)
+    ∙ (ap (length) (made-parts bytes reading input a is) ∙ length-map (batches a.told) (numbered_batch input.ids.items)) in
     omega (arith, a.few_batches)
+
+-- a batch of the input has no more updates, and overrules no more, than the limit of changes
+made-few : (bytes : List ℕ) (reading : Reading) (input : Input) → Accepted bytes reading → IsMadeOf reading input
+    → All (λ batch. length batch.updates.items + batch.overruled ≤ MOST_UPDATES) input.batches.items
+made-few bytes reading input a is = short-input input.ids.items MOST_UPDATES input.batches.items (batches a.told)
+    (made-parts bytes reading input a is) a.short
 
 -- each batch of the input has at most as many updates as the limit of changes
 pub made-short : (bytes : List ℕ) (reading : Reading) (input : Input) → Accepted bytes reading → IsMadeOf reading input
-    → All (λ batch. length batch.items ≤ MOST_UPDATES) input.batches.items
-made-short bytes reading input a is = short-input input.ids.items MOST_UPDATES input.batches.items (batches a.told)
-    (made-parts bytes reading input a is) a.short
+    → All (λ batch. length batch.updates.items ≤ MOST_UPDATES) input.batches.items
+made-short bytes reading input a is = λ i d l. let few = made-few bytes reading input a is i d l in omega (arith, few)
 
 -- no more changes are overruled than a batch has
 pub made-counts : (bytes : List ℕ) (reading : Reading) (input : Input) → Accepted bytes reading → IsMadeOf reading input
-    → All (λ count. count ≤ MOST_UPDATES) input.overruled.items
-made-counts bytes reading input a is =
-    let same : input.overruled.items ≡ map overruled (batches a.told) = is.overruled
-    ∙ made-of overruled reading.batches.items (batches a.told) a.read.batches in
-    λ i d l.
-    let count : length input.overruled.items ≡ length (batches a.told) = ap (length) same ∙ length-map (batches a.told) overruled in
-    let is : get_or input.overruled.items i d ≡ overruled (get_or (batches a.told) i []) = ap (λ (t : List ℕ). get_or t i d) same
-    ∙ get_or-map overruled (batches a.told) i [] d (omega arith) in
-    omega (arith, deciding-count (get_or (batches a.told) i []), a.short i [] (omega arith))
+    → All (λ batch. batch.overruled ≤ MOST_UPDATES) input.batches.items
+made-counts bytes reading input a is = λ i d l. let few = made-few bytes reading input a is i d l in omega (arith, few)

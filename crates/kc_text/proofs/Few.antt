@@ -2,9 +2,9 @@
 use Rattle.std.proofs.Common.{◌≡◌, ◌≤◌, ℕ, List, length, subst, sym, ◌∙◌, arith, nat_eq, inl, inr}
 use Rattle.std.specs.Prelude.{is_some}
 use Rattle.std.specs.Set.{distinct_count}
-use Rattle.kc_text.specs.declared.change.Change.{Change}
-use Rattle.kc_text.specs.declared.line.Line.{Line}
-use Rattle.kc_text.specs.declared.line.Line.TheVariants as said
+use Rattle.kc_text.specs.declared.change.ChangeLine.{ChangeLine}
+use Rattle.kc_text.specs.declared.line.TextLine.{TextLine}
+use Rattle.kc_text.specs.declared.line.TextLine.TheVariants as said
 use Rattle.kc_text.specs.declared.reader.Reader.{Reader}
 use Rattle.kc_text.specs.declared.reading.Reading.{Reading}
 use Rattle.kc_text.specs.Meaning.{Told, names, with_line}
@@ -20,7 +20,7 @@ pub few-edge : (told : Told) (a b : ℕ) → NamesFew (with_line told (said.Edge
 few-edge told a b few = omega (arith, few, fewer_names (names told) (names (with_line told (said.Edge a b))) a b (names-edge told a b))
 
 -- few ids after a change were few before it
-pub few-change : (told : Told) (c : Change) → NamesFew (with_line told (said.Change c)) → NamesFew told
+pub few-change : (told : Told) (c : ChangeLine) → NamesFew (with_line told (said.Change c)) → NamesFew told
 few-change told c few = omega (arith, few, fewer_names (names told) (names (with_line told (said.Change c))) c.a c.b (names-change told c))
 
 -- few ids after a batch line were few before it
@@ -28,7 +28,7 @@ pub few-batch : (told : Told) → NamesFew (with_line told said.Batch) → Names
 few-batch told few = subst (λ (t : List ℕ). distinct_count nat_eq t ≤ MOST_IDS) (names-batch told) few
 
 -- a reader that is exact was exact a line before
-pub exact-before : (old new : Reader) (line : Line) → told_by new ≡ with_line (told_by old) line → is_some new.ids ≡ is_some old.ids
+pub exact-before : (old new : Reader) (line : TextLine) → told_by new ≡ with_line (told_by old) line → is_some new.ids ≡ is_some old.ids
     → (NamesFew (with_line (told_by old) line) → NamesFew (told_by old)) → IsExact new → IsExact old
 exact-before old new line told same few (inl exact) = inl (sym same ∙ exact)
 exact-before old new line told same few (inr is) = inr (few (subst NamesFew told is))

@@ -3,11 +3,11 @@ use Rattle.std.proofs.Common.{◌≡◌, ◌+◌, ℕ, Bool, List, [], ◌∷◌
 use Rattle.std.specs.Prelude.{IfSome}
 use Rattle.std.specs.HashSet.{IsUnique}
 use Rattle.std.specs.Set.{distinct_count}
-use Rattle.kc_text.specs.declared.change.Change.{Change}
+use Rattle.kc_text.specs.declared.change.ChangeLine.{ChangeLine}
 use Rattle.kc_text.specs.declared.reader.Reader.{Reader}
-use Rattle.kc_text.specs.declared.line.Line.TheVariants as said
+use Rattle.kc_text.specs.declared.line.TextLine.TheVariants as said
 use Rattle.kc_text.specs.Meaning.{Told, batches, changes, first_limit, names, passed_limit, with_line}
-use Rattle.kc_text.specs.Readers.{Gains, IsExact, IsKept, is_over, told_by}
+use Rattle.kc_text.specs.Readers.{Gains, IsExact, ReaderKeeps, is_over, told_by}
 use Rattle.kc_text.proofs.Counts.{NamesMore, has_more, over_is}
 use Rattle.kc_text.proofs.Telling.{changes-more, names-change, names-edge}
 use Rattle.kc_text.specs.declared.limits.TheConstants.{MOST_IDS, MOST_EDGE_LINES, MOST_UPDATES, MOST_BATCHES}
@@ -18,7 +18,7 @@ names-after_edge : (old new : Reader) (a b : ℕ) → told_by new ≡ with_line 
 names-after_edge old new a b told = subst (λ (t : Told). NamesMore (names (told_by old)) (names t) a b) (sym told) (names-edge (told_by old) a b)
 
 -- a reader that was told a change more has its two ids as names more
-names-after_change : (old new : Reader) (c : Change) → told_by new ≡ with_line (told_by old) (said.Change c)
+names-after_change : (old new : Reader) (c : ChangeLine) → told_by new ≡ with_line (told_by old) (said.Change c)
     → NamesMore (names (told_by old)) (names (told_by new)) c.a c.b
 names-after_change old new c told = subst (λ (t : Told). NamesMore (names (told_by old)) (names t) c.a c.b) (sym told) (names-change (told_by old) c)
 
@@ -27,20 +27,20 @@ abbrev pub with_edges : Reader → List (ℕ × ℕ) → Told
 with_edges reader edges = record { edges = edges; earlier = (told_by reader).earlier; last = (told_by reader).last }
 
 -- what a reader was told, with another last batch
-abbrev pub with_last : Reader → Option (List Change) → Told
+abbrev pub with_last : Reader → Option (List ChangeLine) → Told
 with_last reader last = record { edges = (told_by reader).edges; earlier = (told_by reader).earlier; last = last }
 
 -- a reader keeps what it should after an edge line, if its ids gained the two ends
 pub keeps-edge : (old new : Reader) (a b : ℕ) → told_by new ≡ with_line (told_by old) (said.Edge a b) → new.changes ≡ old.changes → Gains old.ids new.ids a b
-    → IsKept old → IsKept new
+    → ReaderKeeps old → ReaderKeeps new
 keeps-edge old new a b told same gains kept = record {
   ids = has_more old.ids new.ids (names (told_by old)) (names (told_by new)) a b (names-after_edge old new a b told) gains kept.ids;
   changes = same ∙ kept.changes ∙ sym (ap (λ (t : Told). length (changes t)) told);
 }
 
 -- a reader keeps what it should after a change, if it counted it and its ids gained the two ends
-pub keeps-change : (old new : Reader) (c : Change) → told_by new ≡ with_line (told_by old) (said.Change c) → new.changes ≡ old.changes + 1
-    → Gains old.ids new.ids c.a c.b → IsKept old → IsKept new
+pub keeps-change : (old new : Reader) (c : ChangeLine) → told_by new ≡ with_line (told_by old) (said.Change c) → new.changes ≡ old.changes + 1
+    → Gains old.ids new.ids c.a c.b → ReaderKeeps old → ReaderKeeps new
 keeps-change old new c told more gains kept = record {
   ids = has_more old.ids new.ids (names (told_by old)) (names (told_by new)) c.a c.b (names-after_change old new c told) gains kept.ids;
   changes =
@@ -50,7 +50,7 @@ keeps-change old new c told more gains kept = record {
 }
 
 -- the limit that a reader finds passed by its own counts is the one that what was told passes
-pub limit-found : (reader : Reader) (many edge_lines updates batch_lines : Bool) → IsKept reader → IfSome reader.ids (IsUnique nat_eq) → IsExact reader
+pub limit-found : (reader : Reader) (many edge_lines updates batch_lines : Bool) → ReaderKeeps reader → IfSome reader.ids (IsUnique nat_eq) → IsExact reader
     → many ≡ is_over reader.ids → edge_lines ≡ nat_lt MOST_EDGE_LINES (length (told_by reader).edges)
     → updates ≡ nat_lt MOST_UPDATES reader.changes → batch_lines ≡ nat_lt MOST_BATCHES (length (batches (told_by reader)))
     → first_limit many edge_lines updates batch_lines ≡ passed_limit (told_by reader)

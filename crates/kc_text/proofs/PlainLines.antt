@@ -12,8 +12,8 @@ use Rattle.std.proofs.lemmas.List.Elements.{All-nil, All-cons, All-append}
 use Rattle.std.proofs.lemmas.List.Sums.{position_or_len_is}
 use Rattle.kc_text.specs.declared.kind.Kind.{Kind}
 use Rattle.kc_text.specs.declared.kind.Kind.TheVariants.{NotANumber, NumberTooLarge}
-use Rattle.kc_text.specs.declared.line.Line.{Line}
-use Rattle.kc_text.specs.declared.line.Line.TheVariants.{Nothing, Edge, Change}
+use Rattle.kc_text.specs.declared.line.TextLine.{TextLine}
+use Rattle.kc_text.specs.declared.line.TextLine.TheVariants.{Nothing, Edge, Change}
 use Rattle.kc_text.specs.Forms.{all_said, batch_form, change_form, edge_form, first_number, is_comment, is_digit, last_number, line_of, number}
 use Rattle.kc_text.specs.Forms.{said_by, two_numbers, value}
 use Rattle.kc_text.specs.Lines.{fields, is_blank, is_newline, is_not_empty, lines}
@@ -118,10 +118,10 @@ digit-edge d ds rest h =
     let no_batch : bytes_eq (d ∷ ds) (codes "batch") ≡ false = ap (λ t. t && bytes_eq ds (codes "atch")) (digit-not_high d 98 (omega arith) h) in
     let no_plus : bytes_eq (d ∷ ds) (codes "+") ≡ false = ap (λ t. t && bytes_eq ds []) (digit-not_low d 43 (omega arith) h) in
     let no_minus : bytes_eq (d ∷ ds) (codes "-") ≡ false = ap (λ t. t && bytes_eq ds []) (digit-not_low d 45 (omega arith) h) in
-    let edge : Line = edge_form (two_numbers ((d ∷ ds) ∷ rest)) in
-    let minus : Line = cond (bytes_eq (d ∷ ds) (codes "-")) (change_form false (two_numbers rest)) edge in
-    let plus : Line = cond (bytes_eq (d ∷ ds) (codes "+")) (change_form true (two_numbers rest)) minus in
-    let batch : Line = cond (bytes_eq (d ∷ ds) (codes "batch")) (batch_form rest) plus in
+    let edge : TextLine = edge_form (two_numbers ((d ∷ ds) ∷ rest)) in
+    let minus : TextLine = cond (bytes_eq (d ∷ ds) (codes "-")) (change_form false (two_numbers rest)) edge in
+    let plus : TextLine = cond (bytes_eq (d ∷ ds) (codes "+")) (change_form true (two_numbers rest)) minus in
+    let batch : TextLine = cond (bytes_eq (d ∷ ds) (codes "batch")) (batch_form rest) plus in
     ap (λ t. cond t Nothing batch) no_hash ∙ ap (λ t. cond t (batch_form rest) plus) no_batch
     ∙ ap (λ t. cond t (change_form true (two_numbers rest)) minus) no_plus
     ∙ ap (λ t. cond t (change_form false (two_numbers rest)) edge) no_minus
@@ -194,7 +194,7 @@ pair-line bytes a b rest h =
 pub said-edge : (bytes : List ℕ) (a b : ℕ) (rest : List ℕ) → BeginsWithPair bytes a b rest → all_said bytes ≡ Edge a b ∷ all_said rest
 said-edge bytes a b rest h =
     let (line, is) = pair-line bytes a b rest h in
-    ap all_said is.cut ∙ said-first line rest is.some is.none is.keeps ∙ ap (λ (l : Line). l ∷ all_said rest) is.edge
+    ap all_said is.cut ∙ said-first line rest is.some is.none is.keeps ∙ ap (λ (l : TextLine). l ∷ all_said rest) is.edge
 
 -- bytes that begin with a sign, a blank and a plain pair say the change first
 pub said-change : (bytes : List ℕ) (add : Bool) (blank : ℕ) (after : List ℕ) (a b : ℕ) (rest : List ℕ) → bytes ≡ sign_of add ∷ blank ∷ after
@@ -212,7 +212,7 @@ said-change bytes add blank after a b rest whole space h =
     ∙ said-first (sign ∷ blank ∷ line) rest (omega arith)
     (signed is_newline no_newline (blank-other blank 10 (omega arith) (omega arith) space) pair.none)
     (signed (λ x. x == 13) no_return (blank-other blank 13 (omega arith) (omega arith) space) pair.keeps)
-    ∙ ap (λ (l : Line). l ∷ all_said rest) (ap line_of parts ∙ sign-change add (fields line) ∙ ap (change_form add) pair.two)
+    ∙ ap (λ (l : TextLine). l ∷ all_said rest) (ap line_of parts ∙ sign-change add (fields line) ∙ ap (change_form add) pair.two)
 
 -- behind a plain pair fewer bytes are left
 pub shorter-pair : (bytes : List ℕ) (a b : ℕ) (rest : List ℕ) → BeginsWithPair bytes a b rest → length rest < length bytes

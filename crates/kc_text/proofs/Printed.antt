@@ -7,7 +7,7 @@ use Rattle.std.proofs.lemmas.Bool.{and_from, le-leb}
 use Rattle.std.proofs.lemmas.Fmt.{decimal_by_steps}
 use Rattle.std.proofs.lemmas.List.Folds.{list_all-append}
 use Rattle.std.proofs.lemmas.List.Sums.{fold-append}
-use Rattle.kc_text.specs.declared.line.Line.TheVariants as said
+use Rattle.kc_text.specs.declared.line.TextLine.TheVariants as said
 use Rattle.kc_text.specs.Forms.{all_said, is_digit, number, said_by, value}
 use Rattle.kc_text.specs.Plain.{BeginsWithPair, sign_of}
 use Rattle.kc_text.proofs.LineCuts.{lines-cut}

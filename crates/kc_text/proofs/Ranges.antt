@@ -14,7 +14,7 @@ use Rattle.kc_text.specs.Buckets.{AreBuckets, IsBegin, IsRangeOf}
 use Rattle.kc_text.specs.Inputs.{place}
 use Rattle.kc_text.proofs.Members.{Contains-from_member}
 use Rattle.kc_text.proofs.Places.{place-found}
-use Rattle.kc_distinct.proofs.Shared.{never_falls}
+use Rattle.kc_lists.proofs.Shared.{never_falls}
 
 -- an ascending list does not decrease, as a sort by the numbers themselves says it
 pub is_non_decreasing : (xs : List ℕ) → IsStrictlyIncreasing xs → IsNonDecreasingBy (λ (x : ℕ). x) xs

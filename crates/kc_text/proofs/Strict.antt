@@ -9,12 +9,12 @@ use Rattle.std.proofs.lemmas.List.{get_or_append_left}
 use Rattle.std.proofs.lemmas.List.Elements.{All-nil, All-cons, All-append}
 use Rattle.std.proofs.lemmas.List.Folds.{list_any_none}
 use Rattle.std.proofs.lemmas.List.Quantifiers.{all_pairs_push}
-use Rattle.kc_distinct.proofs.Shared.{All-front, All-end}
-use Rattle.kc_text.specs.declared.change.Change.{Change}
+use Rattle.kc_lists.proofs.Shared.{All-front, All-end}
+use Rattle.kc_text.specs.declared.change.ChangeLine.{ChangeLine}
 use Rattle.kc_text.specs.declared.kind.Kind.{Kind}
 use Rattle.kc_text.specs.declared.kind.Kind.TheVariants.{TooLong, UpdateOutsideBatch}
-use Rattle.kc_text.specs.declared.line.Line.{Line}
-use Rattle.kc_text.specs.declared.line.Line.TheVariants as said
+use Rattle.kc_text.specs.declared.line.TextLine.{TextLine}
+use Rattle.kc_text.specs.declared.line.TextLine.TheVariants as said
 use Rattle.kc_text.specs.Batches.{NamesOnce}
 use Rattle.kc_text.specs.Forms.{all_said}
 use Rattle.kc_text.specs.Meaning.{Told, Means, Refuses, batches, ends_or, meaning, name_same, nothing_told, or_else, passed_limit, reading, refusal, unfit}
@@ -31,11 +31,11 @@ once-nil : NamesOnce []
 once-nil = λ i j d l m. absurd (omega arith)
 
 -- a batch that names no pair twice names none twice with one change more whose pair was not named
-once-push : (batch : List Change) (c : Change) → NamesOnce batch → list_any (name_same c) batch ≡ false → NamesOnce (batch ++ c ∷ [])
+once-push : (batch : List ChangeLine) (c : ChangeLine) → NamesOnce batch → list_any (name_same c) batch ≡ false → NamesOnce (batch ++ c ∷ [])
 once-push batch c once none = all_pairs_push (λ c d. name_same d c ≡ false) batch c once (λ k d l. none-at (name_same c) batch none k d l)
 
 -- a batch that names no pair twice names none twice without its last change
-once-front : (batch : List Change) (c : Change) → NamesOnce (batch ++ c ∷ []) → NamesOnce batch
+once-front : (batch : List ChangeLine) (c : ChangeLine) → NamesOnce (batch ++ c ∷ []) → NamesOnce batch
 once-front batch c h = λ i j d l m.
     let more = length-append batch (c ∷ []) in
     let at_i = get_or_append_left batch (c ∷ []) d i (omega arith) in
@@ -43,7 +43,7 @@ once-front batch c h = λ i j d l m.
     subst (λ e. name_same (get_or batch j d) e ≡ false) at_i (subst (λ e. name_same e (get_or (batch ++ c ∷ []) i d) ≡ false) at_j (h i j d l (omega arith)))
 
 -- in a batch that names no pair twice, the pair of the last change was not named before
-once-end : (batch : List Change) (c : Change) → NamesOnce (batch ++ c ∷ []) → list_any (name_same c) batch ≡ false
+once-end : (batch : List ChangeLine) (c : ChangeLine) → NamesOnce (batch ++ c ∷ []) → list_any (name_same c) batch ≡ false
 once-end batch c h = list_any_none (name_same c) batch (λ i d l.
     let more = length-append batch (c ∷ []) in
     let at_i = get_or_append_left batch (c ∷ []) d i l in
@@ -55,7 +55,7 @@ abbrev Once : Told → Type 0
 Once told = All NamesOnce (batches told)
 
 -- no batch names a pair twice after a change that fits and whose pair the last batch had not named
-once-after_change : (earlier : List (List Change)) (last : Option (List Change)) (c : Change) → unfit last c ≡ None → was_named last c ≡ false
+once-after_change : (earlier : List (List ChangeLine)) (last : Option (List ChangeLine)) (c : ChangeLine) → unfit last c ≡ None → was_named last c ≡ false
     → All NamesOnce (earlier ++ option_to_list last) → All NamesOnce (earlier ++ (unwrap_or last [] ++ c ∷ []) ∷ [])
 once-after_change earlier None c fit new once = absurd (let e : Some UpdateOutsideBatch ≡ None = fit in cc)
 once-after_change earlier (Some batch) c fit new once =
@@ -63,7 +63,8 @@ once-after_change earlier (Some batch) c fit new once =
     (All-cons NamesOnce (batch ++ c ∷ []) [] (once-push batch c (All-end NamesOnce earlier batch once) new) (All-nil NamesOnce))
 
 -- where no batch names a pair twice after a change, none did before it
-once-before_change : (earlier : List (List Change)) (last : Option (List Change)) (c : Change) → All NamesOnce (earlier ++ (unwrap_or last [] ++ c ∷ []) ∷ [])
+once-before_change : (earlier : List (List ChangeLine)) (last : Option (List ChangeLine)) (c : ChangeLine)
+    → All NamesOnce (earlier ++ (unwrap_or last [] ++ c ∷ []) ∷ [])
     → All NamesOnce (earlier ++ option_to_list last)
 once-before_change earlier None c h = All-append NamesOnce earlier [] (All-front NamesOnce earlier ((c ∷ []) ∷ []) h) (All-nil NamesOnce)
 once-before_change earlier (Some batch) c h =
@@ -71,13 +72,14 @@ once-before_change earlier (Some batch) c h =
     (All-cons NamesOnce batch [] (once-front batch c (All-end NamesOnce earlier (batch ++ c ∷ []) h)) (All-nil NamesOnce))
 
 -- where no batch names a pair twice after a change, the last batch had not named its pair
-new-before_change : (earlier : List (List Change)) (last : Option (List Change)) (c : Change) → All NamesOnce (earlier ++ (unwrap_or last [] ++ c ∷ []) ∷ [])
+new-before_change : (earlier : List (List ChangeLine)) (last : Option (List ChangeLine)) (c : ChangeLine)
+    → All NamesOnce (earlier ++ (unwrap_or last [] ++ c ∷ []) ∷ [])
     → was_named last c ≡ false
 new-before_change earlier None c h = refl
 new-before_change earlier (Some batch) c h = once-end batch c (All-end NamesOnce earlier (batch ++ c ∷ []) h)
 
 -- no batch names a pair twice before a line if none does after it
-once-before : (told : Told) (line : Line) → Once (with_line told line) → Once told
+once-before : (told : Told) (line : TextLine) → Once (with_line told line) → Once told
 once-before told said.Nothing h = h
 once-before told (said.Edge a b) h = h
 once-before told said.Batch h = All-front NamesOnce (batches told) ([] ∷ []) h
@@ -90,7 +92,7 @@ none-of (Some kind) h = absurd (cc)
 none-of None h = refl
 
 -- a change that doesn't end the reading fits, names a new pair and passes no limit
-record Goes (told : Told) (c : Change) : Type 0 where
+record Goes (told : Told) (c : ChangeLine) : Type 0 where
   fit : unfit told.last c ≡ None
   new : was_named told.last c ≡ false
   within : passed_limit (with_line told (said.Change c)) ≡ None
@@ -103,13 +105,13 @@ goes-parts None true limit h = absurd (cc)
 goes-parts None false limit h = (refl, refl, none-of limit h)
 
 -- a change that gives no cause to end the reading goes on
-change-goes_on : (told : Told) (c : Change) → cause_of told (said.Change c) ≡ None → Goes told c
+change-goes_on : (told : Told) (c : ChangeLine) → cause_of told (said.Change c) ≡ None → Goes told c
 change-goes_on told c h =
     let (fit, new, within) = goes-parts (unfit told.last c) (was_named told.last c) (passed_limit (with_line told (said.Change c))) h in
     record { fit = fit; new = new; within = within }
 
 -- a line that doesn't end the reading is not refused, and names no pair again
-not-refused : (told : Told) (line : Line) → cause_of told line ≡ None → refusal told line ≡ None
+not-refused : (told : Told) (line : TextLine) → cause_of told line ≡ None → refusal told line ≡ None
 not-refused told said.Nothing h = refl
 not-refused told (said.Edge a b) h = none-of (refusal told (said.Edge a b)) h
 not-refused told said.Batch h = none-of (refusal told said.Batch) h
@@ -117,7 +119,7 @@ not-refused told (said.Change c) h = let g = change-goes_on told c h in ap (λ r
 not-refused told (said.Wrong kind) h = absurd (cc)
 
 -- after a line that doesn't end the reading, no batch names a pair twice if none did before
-once-after : (told : Told) (line : Line) → cause_of told line ≡ None → Once told → Once (with_line told line)
+once-after : (told : Told) (line : TextLine) → cause_of told line ≡ None → Once told → Once (with_line told line)
 once-after told said.Nothing h once = once
 once-after told (said.Edge a b) h once = once
 once-after told said.Batch h once = All-append NamesOnce (batches told) ([] ∷ []) once (All-cons NamesOnce [] [] once-nil (All-nil NamesOnce))
@@ -125,7 +127,7 @@ once-after told (said.Change c) h once = let g = change-goes_on told c h in once
 once-after told (said.Wrong kind) h once = once
 
 -- a line that is not refused goes on if no batch names a pair twice with it
-goes-on : (told : Told) (line : Line) → refusal told line ≡ None → Once (with_line told line) → cause_of told line ≡ None
+goes-on : (told : Told) (line : TextLine) → refusal told line ≡ None → Once (with_line told line) → cause_of told line ≡ None
 goes-on told said.Nothing h once = refl
 goes-on told (said.Edge a b) h once = ap (option_map IsRefused) h
 goes-on told said.Batch h once = ap (option_map IsRefused) h
@@ -138,7 +140,7 @@ goes-on told (said.Change c) h once =
 goes-on told (said.Wrong kind) h once = absurd (cc)
 
 -- what the lines tell by the stricter rule they mean, and no batch names a pair twice
-from-strict : (done : ℕ) (told : Told) (lines : List Line) (all : Told) → Once told → strict_reading done told lines ≡ Tells all
+from-strict : (done : ℕ) (told : Told) (lines : List TextLine) (all : Told) → Once told → strict_reading done told lines ≡ Tells all
     → (reading done told lines ≡ Means all) × Once all
 from-strict done told [] all once h = let same : told ≡ all = cc in (ap Means same, subst Once same once)
 from-strict done told (line ∷ rest) all once h =
@@ -151,7 +153,7 @@ from-strict done told (line ∷ rest) all once h =
     ] refl h
 
 -- the other way round: what they mean they tell by the stricter rule, if no batch names a pair twice
-to-strict : (done : ℕ) (told : Told) (lines : List Line) (all : Told) → reading done told lines ≡ Means all → Once all
+to-strict : (done : ℕ) (told : Told) (lines : List TextLine) (all : Told) → reading done told lines ≡ Means all → Once all
     → (strict_reading done told lines ≡ Tells all) × Once told
 to-strict done told [] all h once = let same : told ≡ all = cc in (ap Tells same, subst Once (sym same) once)
 to-strict done told (line ∷ rest) all h once =
@@ -181,7 +183,7 @@ refused-of (Some k) kind h = cc
 refused-of None kind h = absurd (cc)
 
 -- a line that is refused by the stricter rule is refused for the same
-same-refusal : (told : Told) (line : Line) (kind : Kind) → cause_of told line ≡ Some (IsRefused kind) → refusal told line ≡ Some kind
+same-refusal : (told : Told) (line : TextLine) (kind : Kind) → cause_of told line ≡ Some (IsRefused kind) → refusal told line ≡ Some kind
 same-refusal told said.Nothing kind h = absurd (cc)
 same-refusal told (said.Edge a b) kind h = refused-of (refusal told (said.Edge a b)) kind h
 same-refusal told said.Batch kind h = refused-of (refusal told said.Batch) kind h
@@ -189,7 +191,7 @@ same-refusal told (said.Change c) kind h = refused-parts (unfit told.last c) (wa
 same-refusal told (said.Wrong k) kind h = cc
 
 -- lines whose reading a refusal ends by the stricter rule are refused there for the same
-refused-strict : (done : ℕ) (told : Told) (lines : List Line) (at : ℕ) (kind : Kind) → strict_reading done told lines ≡ Ends at (IsRefused kind)
+refused-strict : (done : ℕ) (told : Told) (lines : List TextLine) (at : ℕ) (kind : Kind) → strict_reading done told lines ≡ Ends at (IsRefused kind)
     → reading done told lines ≡ Refuses at kind
 refused-strict done told [] at kind h = absurd (cc)
 refused-strict done told (line ∷ rest) at kind h =

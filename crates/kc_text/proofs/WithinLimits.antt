@@ -6,18 +6,18 @@ use Rattle.std.specs.Option.{option_to_list}
 use Rattle.std.specs.Set.{distinct_count}
 use Rattle.std.proofs.lemmas.Bool.{cases_Bool, eqb-false}
 use Rattle.std.proofs.lemmas.List.Elements.{All-nil, All-cons, All-append, All-push}
-use Rattle.kc_text.specs.declared.change.Change.{Change}
+use Rattle.kc_text.specs.declared.change.ChangeLine.{ChangeLine}
 use Rattle.kc_text.specs.declared.kind.Kind.{Kind}
 use Rattle.kc_text.specs.declared.kind.Kind.TheVariants.{LoopInBatch, EdgeLineInBatch, UpdateOutsideBatch, TooLong}
-use Rattle.kc_text.specs.declared.line.Line.{Line}
-use Rattle.kc_text.specs.declared.line.Line.TheVariants as said
+use Rattle.kc_text.specs.declared.line.TextLine.{TextLine}
+use Rattle.kc_text.specs.declared.line.TextLine.TheVariants as said
 use Rattle.kc_text.specs.Forms.{all_said}
 use Rattle.kc_text.specs.Meaning.{Told, Means, Refuses, batches, changes, ends_or, first_limit, meaning, names, nothing_told, or_else, passed_limit, reading}
 use Rattle.kc_text.specs.Meaning.{refusal, unfit, with_line}
 use Rattle.kc_text.specs.declared.limits.TheConstants.{MOST_IDS, MOST_EDGE_LINES, MOST_UPDATES, MOST_BATCHES, MOST_BYTES}
 
 -- no change is a loop
-abbrev pub HasNoLoops : List Change → Type 0
+abbrev pub HasNoLoops : List ChangeLine → Type 0
 HasNoLoops batch = All (λ c. c.a ≢ c.b) batch
 
 -- no limit is passed
@@ -57,19 +57,19 @@ both_none (Some kind) b h = absurd (cc)
 both_none None b h = (refl, h)
 
 -- a change that fits
-change-fits : (batch : List Change) (c : Change) → unfit (Some batch) c ≡ None → c.a ≢ c.b
+change-fits : (batch : List ChangeLine) (c : ChangeLine) → unfit (Some batch) c ≡ None → c.a ≢ c.b
 change-fits batch c h = elim (cases_Bool (nat_eq c.a c.b)) [
   | inl loop ↦ absurd (let e : Some LoopInBatch ≡ None = sym (ap (λ b. cond b (Some LoopInBatch) None) loop) ∙ h in cc)
   | inr differ ↦ eqb-false c.a c.b differ
 ]
 
 -- the last batch with a change that fits has no loop
-fit-change : (last : Option (List Change)) (c : Change) → IfSome last HasNoLoops → unfit last c ≡ None → HasNoLoops (unwrap_or last [] ++ c ∷ [])
+fit-change : (last : Option (List ChangeLine)) (c : ChangeLine) → IfSome last HasNoLoops → unfit last c ≡ None → HasNoLoops (unwrap_or last [] ++ c ∷ [])
 fit-change None c h fit = absurd (let e : Some UpdateOutsideBatch ≡ None = fit in cc)
 fit-change (Some batch) c h fit = All-push (λ c. c.a ≢ c.b) batch c h (change-fits batch c fit)
 
 -- no batch has a loop where neither an earlier one nor the last one has
-pub fit-batches : (earlier : List (List Change)) (last : Option (List Change)) → All HasNoLoops earlier → IfSome last HasNoLoops
+pub fit-batches : (earlier : List (List ChangeLine)) (last : Option (List ChangeLine)) → All HasNoLoops earlier → IfSome last HasNoLoops
     → All HasNoLoops (earlier ++ option_to_list last)
 fit-batches earlier None h l = All-append HasNoLoops earlier [] h (All-nil HasNoLoops)
 fit-batches earlier (Some batch) h l = All-append HasNoLoops earlier (batch ∷ []) h (All-cons HasNoLoops batch [] l (All-nil HasNoLoops))
@@ -83,7 +83,7 @@ edge_taken told a b h = elim (is_some told.last) as (λ t. cond t (Some EdgeLine
     ] h
 
 -- what was told stays fit with a line that is not refused
-after_line : (told : Told) (line : Line) → AreFit told → refusal told line ≡ None → AreFit (with_line told line)
+after_line : (told : Told) (line : TextLine) → AreFit told → refusal told line ≡ None → AreFit (with_line told line)
 after_line told said.Nothing fit h = fit
 after_line told (said.Edge a b) fit h = record {
   within = not_over (with_line told (said.Edge a b)) (edge_taken told a b h);
@@ -95,7 +95,7 @@ after_line told said.Batch fit h = record {
   within = not_over (with_line told said.Batch) h;
   earlier =
       fit-batches told.earlier told.last fit.earlier fit.last;
-  last = All-nil (λ (c : Change). c.a ≢ c.b);
+  last = All-nil (λ (c : ChangeLine). c.a ≢ c.b);
 }
 after_line told (said.Change c) fit h =
     let (unfit', limit) = both_none (unfit told.last c) (passed_limit (with_line told (said.Change c))) h in
@@ -103,7 +103,7 @@ after_line told (said.Change c) fit h =
 after_line told (said.Wrong kind) fit h = fit
 
 -- what lines tell with no refusal, after what is fit, is fit
-reading-fit : (done : ℕ) (told : Told) (lines : List Line) (all : Told) → AreFit told → reading done told lines ≡ Means all → AreFit all
+reading-fit : (done : ℕ) (told : Told) (lines : List TextLine) (all : Told) → AreFit told → reading done told lines ≡ Means all → AreFit all
 reading-fit done told [] all fit h = let same : told ≡ all = cc in subst AreFit same fit
 reading-fit done told (line ∷ rest) all fit h =
     elim (refusal told line) as (λ r. refusal told line ≡ r → ends_or r (done + 1) (reading (done + 1) (with_line told line) rest) ≡ Means all → AreFit all) [

@@ -1,8 +1,9 @@
 -- How the updates of a batch that decide are found by a sort.
-use Rattle.std.specs.Prelude.{◌≡◌, ◌<◌, ◌*◌, ◌+◌, ◌/◌, ◌%◌, ℕ, Bool, true, false, List, length, drop, slice_index, slice_index_or}
+use Rattle.std.specs.Prelude.{◌≡◌, ◌<◌, ◌*◌, ◌+◌, ◌-◌, ◌/◌, ◌%◌, ℕ, Bool, true, false, List, length, drop, map, slice_index, slice_index_or}
 use Rattle.std.specs.List.{list_any}
 use Rattle.kc_graph.specs.declared.update.Update.{Update}
-use Rattle.kc_text.specs.LastUpdates.{same_edge}
+use Rattle.kc_text.specs.Inputs.{EdgeBatch, parts_of}
+use Rattle.kc_text.specs.LastUpdates.{last_of_edges, same_edge}
 use Rattle.kc_text.specs.declared.limits.TheConstants.{MOST_IDS}
 use Rattle.kc_text.specs.declared.overruling.TheConstants.{MOST_TO_DECIDE}
 
@@ -30,3 +31,7 @@ pub record MarksFollowed (ranks : List ℕ) (marks : List Bool) : Type 0 where
 pub record AreOverruled (updates : List Update) (marks : List Bool) : Type 0 where
   pub count : length marks ≡ length updates
   pub each : (i : ℕ) (x : Update) → i < length updates → slice_index_or marks i false ≡ list_any (same_edge (slice_index_or updates i x)) (drop (i + 1) updates)
+
+-- the last update of each edge, and how many others there are
+abbrev pub last_batch : List Update → EdgeBatch
+last_batch updates = record { updates = map parts_of (last_of_edges updates); overruled = length updates - length (last_of_edges updates) }

@@ -4,8 +4,8 @@ use Rattle.std.specs.Str.{bytes_eq}
 use Rattle.std.specs.List.{list_all}
 use Rattle.kc_text.specs.declared.kind.Kind.{Kind}
 use Rattle.kc_text.specs.declared.kind.Kind.TheVariants.{NotANumber, MissingField, ExtraField, NumberTooLarge}
-use Rattle.kc_text.specs.declared.line.Line.{Line}
-use Rattle.kc_text.specs.declared.line.Line.TheVariants.{Nothing, Edge, Batch, Change, Wrong}
+use Rattle.kc_text.specs.declared.line.TextLine.{TextLine}
+use Rattle.kc_text.specs.declared.line.TextLine.TheVariants.{Nothing, Edge, Batch, Change, Wrong}
 use Rattle.kc_text.specs.Lines.{fields, lines, is_not_empty}
 
 -- a byte from `0` to `9`
@@ -44,22 +44,22 @@ is_comment [] = false
 is_comment (b ∷ bytes) = b == 35 || b == 37
 
 -- what a line says that begins with `batch`, by the fields after it: there may be none
-abbrev pub batch_form : List (List ℕ) → Line
+abbrev pub batch_form : List (List ℕ) → TextLine
 batch_form [] = Batch
 batch_form (extra ∷ rest) = Wrong ExtraField
 
 -- a change that adds or removes the edge of the two numbers, or what is wrong with them
-abbrev pub change_form : Bool → Result (ℕ × ℕ) Kind → Line
+abbrev pub change_form : Bool → Result (ℕ × ℕ) Kind → TextLine
 change_form add (Ok pair) = Change (record { add = add; a = pair.0; b = pair.1 })
 change_form add (Err kind) = Wrong kind
 
 -- an edge between the two numbers, or what is wrong with them
-abbrev pub edge_form : Result (ℕ × ℕ) Kind → Line
+abbrev pub edge_form : Result (ℕ × ℕ) Kind → TextLine
 edge_form (Ok pair) = Edge pair.0 pair.1
 edge_form (Err kind) = Wrong kind
 
 -- the form of a line is told by its first field
-abbrev pub line_of : List (List ℕ) → Line
+abbrev pub line_of : List (List ℕ) → TextLine
 line_of [] = Nothing
 line_of (first ∷ rest) =
     if is_comment first then Nothing
@@ -69,9 +69,9 @@ line_of (first ∷ rest) =
     else edge_form (two_numbers (first ∷ rest))
 
 -- what a line says
-abbrev pub said_by : List ℕ → Line
+abbrev pub said_by : List ℕ → TextLine
 said_by line = line_of (fields line)
 
 -- what each line of a text says
-abbrev pub all_said : List ℕ → List Line
+abbrev pub all_said : List ℕ → List TextLine
 all_said bytes = map said_by (lines bytes)

@@ -5,9 +5,10 @@ use Rattle.std.specs.List.Sorted.{IsStrictlyIncreasing, IsStrictlySortedBy}
 use Rattle.std.specs.Set.{is_member}
 use Rattle.std.specs.FinSet as set
 use Rattle.kc_graph.specs.SimpleGraph.{SimpleGraph, pair_cmp}
+use Rattle.kc_text.specs.declared.batch.Batch.{Batch}
 use Rattle.kc_text.specs.declared.input.Input.{Input}
 use Rattle.kc_graph.specs.declared.update.Update.{Update}
-use Rattle.kc_text.specs.declared.change.Change as change
+use Rattle.kc_text.specs.declared.change.ChangeLine as change
 use Rattle.kc_text.specs.Meaning.{Told, batches, names}
 use Rattle.kc_text.specs.Overruling.{deciding, overruled}
 
@@ -53,7 +54,7 @@ abbrev pub parts_of : Update → EdgeUpdate
 parts_of update = record { add = update.add; u = update.u; v = update.v }
 
 -- the sign of a change, and the numbers that stand for its ids, the lesser one first
-abbrev pub numbered_change : List ℕ → change.Change → EdgeUpdate
+abbrev pub numbered_change : List ℕ → change.ChangeLine → EdgeUpdate
 numbered_change ids c = record {
   add = c.add;
   u = min (place ids c.a) (place ids c.b);
@@ -61,16 +62,31 @@ numbered_change ids c = record {
 }
 
 -- the updates are those changes
-abbrev pub AreUpdates : List ℕ → List change.Change → List Update → Type 0
+abbrev pub AreUpdates : List ℕ → List change.ChangeLine → List Update → Type 0
 AreUpdates ids changes updates = map parts_of updates ≡ map (numbered_change ids) changes
+
+-- The updates of a batch that decide, and how many others they overrule. It is what a `Batch` says, between any numbers.
+pub record EdgeBatch : Type 0 where
+  pub updates : List EdgeUpdate
+  pub overruled : ℕ
+
+-- what each update of a batch says, and the count of the others
+abbrev pub parts_of_batch : Batch → EdgeBatch
+parts_of_batch batch = record { updates = map parts_of batch.updates.items; overruled = batch.overruled }
+
+-- the changes of a batch that decide, between the numbers that stand for their ids, and how many others they overrule
+abbrev pub numbered_batch : List ℕ → List change.ChangeLine → EdgeBatch
+numbered_batch ids changes = record { updates = map (numbered_change ids) (deciding changes); overruled = overruled changes }
+
+-- what the batches of a text are between the numbers that stand for the ids
+abbrev pub numbered_batches : List ℕ → Told → List EdgeBatch
+numbered_batches ids told = map (numbered_batch ids) (batches told)
 
 -- the input is what was told: the updates of a batch are the changes that decide, in their order
 pub record IsInput (told : Told) (input : Input) : Type 0 where
   pub named : AreIds (names told) input.ids.items
   pub start : AreEdges (start_graph input.ids.items told.edges) input.start.items
-  pub overruled : input.overruled.items ≡ map overruled (batches told)
-  pub batches : map (λ batch. map parts_of batch.items) input.batches.items
-      ≡ map (λ batch. map (numbered_change input.ids.items) (deciding batch)) (batches told)
+  pub batches : map parts_of_batch input.batches.items ≡ numbered_batches input.ids.items told
 
 -- the two ends of an update
 abbrev pub edge_of : Update → ℕ × ℕ

@@ -3,12 +3,12 @@ use Rattle.std.specs.Prelude.{ℕ, ◌+◌, ◌&&◌, ◌||◌, Bool, List, [], 
 use Rattle.std.specs.List.{flat_map}
 use Rattle.std.specs.Option.{option_to_list, unwrap_or}
 use Rattle.std.specs.Set.{distinct_count}
-use Rattle.kc_text.specs.declared.change.Change as change
+use Rattle.kc_text.specs.declared.change.ChangeLine as change
 use Rattle.kc_text.specs.declared.kind.Kind.{Kind}
 use Rattle.kc_text.specs.declared.kind.Kind.TheVariants.{LoopInBatch, UpdateOutsideBatch, EdgeLineInBatch, TooManyVertices, TooManyEdgeLines, TooManyUpdates}
 use Rattle.kc_text.specs.declared.kind.Kind.TheVariants.{TooManyBatches, TooLong}
-use Rattle.kc_text.specs.declared.line.Line.{Line}
-use Rattle.kc_text.specs.declared.line.Line.TheVariants.{Nothing, Edge, Batch, Change, Wrong}
+use Rattle.kc_text.specs.declared.line.TextLine.{TextLine}
+use Rattle.kc_text.specs.declared.line.TextLine.TheVariants.{Nothing, Edge, Batch, Change, Wrong}
 use Rattle.kc_text.specs.Forms.{all_said}
 use Rattle.kc_text.specs.declared.limits.TheConstants.{MOST_IDS, MOST_EDGE_LINES, MOST_UPDATES, MOST_BATCHES, MOST_BYTES}
 
@@ -16,19 +16,19 @@ use Rattle.kc_text.specs.declared.limits.TheConstants.{MOST_IDS, MOST_EDGE_LINES
 -- one, and the last one, once there is a batch line.
 pub record Told : Type 0 where
   pub edges : List (ℕ × ℕ)
-  pub earlier : List (List change.Change)
-  pub last : Option (List change.Change)
+  pub earlier : List (List change.ChangeLine)
+  pub last : Option (List change.ChangeLine)
 
 -- what no line has told: no edge and no batch
 abbrev pub nothing_told : Told
 nothing_told = record { edges = []; earlier = []; last = None }
 
 -- all batches that were told, the last one among them
-abbrev pub batches : Told → List (List change.Change)
+abbrev pub batches : Told → List (List change.ChangeLine)
 batches told = told.earlier ++ option_to_list told.last
 
 -- the changes of all batches
-abbrev pub changes : Told → List change.Change
+abbrev pub changes : Told → List change.ChangeLine
 changes told = flat_map (λ batch. batch) (batches told)
 
 -- the ends of edges
@@ -37,7 +37,7 @@ ends [] = []
 ends (e ∷ edges) = e.0 ∷ e.1 ∷ ends edges
 
 -- the two ids that a change names
-abbrev pub ends_of : change.Change → ℕ × ℕ
+abbrev pub ends_of : change.ChangeLine → ℕ × ℕ
 ends_of c = (c.a, c.b)
 
 -- all ids that were named, each as often as it was
@@ -45,7 +45,7 @@ abbrev pub names : Told → List ℕ
 names told = ends (told.edges ++ map ends_of (changes told))
 
 -- what is told with one more line
-abbrev pub with_line : Told → Line → Told
+abbrev pub with_line : Told → TextLine → Told
 with_line told Nothing = told
 with_line told (Edge a b) = record told { edges = told.edges ++ (a, b) ∷ [] }
 with_line told Batch = record told { earlier = batches told; last = Some [] }
@@ -53,11 +53,11 @@ with_line told (Change c) = record told { last = Some (unwrap_or told.last [] ++
 with_line told (Wrong kind) = told
 
 -- whether both name the same pair, in either direction
-abbrev pub name_same : change.Change → change.Change → Bool
+abbrev pub name_same : change.ChangeLine → change.ChangeLine → Bool
 name_same c d = (nat_eq c.a d.a && nat_eq c.b d.b) || (nat_eq c.a d.b && nat_eq c.b d.a)
 
 -- why the last batch, if there is one, can't have one more change: it belongs in a batch and joins two ids
-abbrev pub unfit : Option (List change.Change) → change.Change → Option Kind
+abbrev pub unfit : Option (List change.ChangeLine) → change.ChangeLine → Option Kind
 unfit None c = Some UpdateOutsideBatch
 unfit (Some batch) c = if nat_eq c.a c.b then Some LoopInBatch else None
 
@@ -83,7 +83,7 @@ or_else None next = next
 
 -- Why a line is refused, if it is, after what the lines before it have told: its form is wrong, or it doesn't stand in its place (an
 -- edge line stands before any batch line, a change after one), or it doesn't fit its batch, or a limit is passed with it.
-abbrev pub refusal : Told → Line → Option Kind
+abbrev pub refusal : Told → TextLine → Option Kind
 refusal told Nothing = None
 refusal told (Edge a b) = if is_some told.last then Some EdgeLineInBatch else passed_limit (with_line told (Edge a b))
 refusal told Batch = passed_limit (with_line told Batch)
@@ -101,7 +101,7 @@ ends_or (Some kind) line rest = Refuses line kind
 ends_or None line rest = rest
 
 -- the meaning of the rest of the lines, after so many lines that have told this
-abbrev pub reading : ℕ → Told → List Line → Meaning
+abbrev pub reading : ℕ → Told → List TextLine → Meaning
 reading done told [] = Means told
 reading done told (line ∷ rest) = ends_or (refusal told line) (done + 1) (reading (done + 1) (with_line told line) rest)
 

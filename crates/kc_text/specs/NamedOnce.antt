@@ -2,11 +2,11 @@
 use Rattle.std.specs.Prelude.{ℕ, ◌+◌, Bool, false, List, [], ◌∷◌, length, nat_lt, if◌then◌else◌, Option, Some, None}
 use Rattle.std.specs.List.{list_any}
 use Rattle.std.specs.Option.{option_map}
-use Rattle.kc_text.specs.declared.change.Change as change
+use Rattle.kc_text.specs.declared.change.ChangeLine as change
 use Rattle.kc_text.specs.declared.kind.Kind.{Kind}
 use Rattle.kc_text.specs.declared.kind.Kind.TheVariants.{TooLong}
-use Rattle.kc_text.specs.declared.line.Line.{Line}
-use Rattle.kc_text.specs.declared.line.Line.TheVariants.{Nothing, Edge, Batch, Change, Wrong}
+use Rattle.kc_text.specs.declared.line.TextLine.{TextLine}
+use Rattle.kc_text.specs.declared.line.TextLine.TheVariants.{Nothing, Edge, Batch, Change, Wrong}
 use Rattle.kc_text.specs.Forms.{all_said}
 use Rattle.kc_text.specs.Meaning.{Told, name_same, nothing_told, passed_limit, refusal, unfit, with_line}
 use Rattle.kc_text.specs.declared.limits.TheConstants.{MOST_BYTES}
@@ -17,7 +17,7 @@ pub data Cause : Type 0 where
   NamesAgain : Cause
 
 -- whether the last batch, if there is one, has named the pair of a change
-abbrev pub was_named : Option (List change.Change) → change.Change → Bool
+abbrev pub was_named : Option (List change.ChangeLine) → change.ChangeLine → Bool
 was_named None c = false
 was_named (Some batch) c = list_any (name_same c) batch
 
@@ -27,7 +27,7 @@ cause_or (Some cause) next = Some cause
 cause_or None next = next
 
 -- Why a line ends the reading, if it does. That a pair is named again is found after all but the limits.
-abbrev pub cause_of : Told → Line → Option Cause
+abbrev pub cause_of : Told → TextLine → Option Cause
 cause_of told Nothing = None
 cause_of told (Edge a b) = option_map IsRefused (refusal told (Edge a b))
 cause_of told Batch = option_map IsRefused (refusal told Batch)
@@ -47,7 +47,7 @@ ends_at (Some cause) line rest = Ends line cause
 ends_at None line rest = rest
 
 -- the meaning of the rest of the lines, after so many lines that have told this
-abbrev pub strict_reading : ℕ → Told → List Line → StrictMeaning
+abbrev pub strict_reading : ℕ → Told → List TextLine → StrictMeaning
 strict_reading done told [] = Tells told
 strict_reading done told (line ∷ rest) = ends_at (cause_of told line) (done + 1) (strict_reading (done + 1) (with_line told line) rest)
 

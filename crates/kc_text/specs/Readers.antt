@@ -21,7 +21,7 @@ abbrev pub HasIds : {S : Type 0} → Option (HashSet ℕ S) → List ℕ → Typ
 HasIds ids named = IfSome ids (λ ids. (id : ℕ) → contains nat_eq ids id ≡ is_member nat_eq named id)
 
 -- what a reader keeps beside what it was told
-pub record IsKept (reader : Reader) : Type 0 where
+pub record ReaderKeeps (reader : Reader) : Type 0 where
   pub ids : HasIds reader.ids (names (told_by reader))
   pub changes : reader.changes ≡ length (changes (told_by reader))
 

@@ -2,7 +2,7 @@
 
 /// What an add or remove line says: the edge between two ids comes, where `add` holds, or goes.
 #[derive(Clone, Copy)]
-pub struct Change {
+pub struct ChangeLine {
     pub add: bool,
     /// The first id of the line.
     pub a: u32,

@@ -3,7 +3,7 @@ ghost use Rattle.std.specs.Prelude.{◌≡◌, ◌<◌, ◌^◌, All, true, leng
 ghost use Rattle.std.specs.List.Sorted.{IsStrictlyIncreasing};
 ghost use Rattle.std.specs.Set.{is_member};
 ghost use Rattle.kc_text.specs.Inputs.{place};
-ghost use Rattle.kc_text.specs.Finding.{FindsPlaces, IsTable};
+ghost use Rattle.kc_text.specs.Finding.{FindsPlaces, IsPlaceTable};
 
 use crate::NoMemory;
 use crate::buckets::Buckets;
@@ -39,7 +39,7 @@ fn table(alloc: Global, ids: &[u32], len: usize) -> Result<Vec<u32>, NoMemory>
     requires ascending { IsStrictlyIncreasing ids.now }
     requires few { length ids.now < 2 ^ 32 }
     requires long { All (λ id. id < len) ids.now }
-    ensures { IfOk result (λ table. IsTable ids.now table.items) }
+    ensures { IfOk result (λ table. IsPlaceTable ids.now table.items) }
 {
     let mut table = vec![in alloc; 0; len]?;
     for (i, id) in ids.iter().enumerate() {

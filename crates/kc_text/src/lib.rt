@@ -14,6 +14,7 @@
 //! updates.
 #![tactic(auto)]
 
+mod batch;
 mod buckets;
 mod bytes;
 mod change;
@@ -39,11 +40,11 @@ ghost use Rattle.std.specs.Prelude.{◌≡◌, ◌≢◌, ◌≤◌, ◌<◌, �
 ghost use Rattle.std.specs.List.{list_any};
 ghost use Rattle.std.specs.List.Sorted.{IsStrictlyIncreasing};
 ghost use Rattle.kc_text.specs.Batches.{NamesOnce};
-ghost use Rattle.kc_text.specs.Inputs.{AreAmong, AreEdges, IsBatch, IsInput, numbered_change, parts_of, start_graph};
+ghost use Rattle.kc_text.specs.Inputs.{AreAmong, AreEdges, IsBatch, IsInput, numbered_batch, parts_of_batch, start_graph};
 ghost use Rattle.kc_text.specs.Meaning.{Means, Refuses, Told, batches, ends, ends_of, meaning, name_same};
 ghost use Rattle.kc_text.specs.NamedOnce.{Ends, IsRefused, Tells, strict_meaning};
 ghost use Rattle.kc_text.specs.Overruling.{deciding, overruled};
-ghost use Rattle.kc_text.specs.declared.change.Change as change;
+ghost use Rattle.kc_text.specs.declared.change.ChangeLine as change;
 ghost use Rattle.kc_text.specs.declared.kind.Kind.{Kind};
 ghost use Rattle.kc_text.specs.declared.refusal.Refusal.{Refusal};
 ghost use Rattle.kc_text.specs.declared.limits.TheConstants.{MOST_BATCHES, MOST_BYTES, MOST_IDS, MOST_UPDATES};
@@ -52,12 +53,13 @@ use crate::finder::Finder;
 use crate::numbering::{batches_of, start_of};
 use crate::overruling::decide_batches;
 use crate::reading::{Reading, read_text};
-pub use change::Change;
+pub use batch::Batch;
+pub use change::ChangeLine;
 pub use fault::ParseFault;
 pub use input::Input;
 pub use kind::Kind;
 pub use limits::{MOST_BATCHES, MOST_BYTES, MOST_EDGE_LINES, MOST_IDS, MOST_UPDATES};
-pub use overruling::{Decision, MOST_TO_DECIDE, decide};
+pub use overruling::{MOST_TO_DECIDE, decide};
 pub use refusal::Refusal;
 pub use std::alloc::AllocError as NoMemory;
 use std::alloc::Global;
@@ -67,7 +69,7 @@ fn input_of(
     alloc: Global,
     ids: Vec<u32>,
     edges: &[(u32, u32)],
-    batches: &[Vec<Change>],
+    batches: &[Vec<ChangeLine>],
 ) -> Result<Input, NoMemory>
     requires ascending { IsStrictlyIncreasing ids.items }
     requires few { length ids.items ≤ MOST_IDS }
@@ -77,19 +79,16 @@ fn input_of(
     requires short { All (λ batch. length batch.items ≤ MOST_UPDATES) batches.now }
     ensures ids { IfOk result (λ input. input.ids.items ≡ ids.items) }
     ensures start { IfOk result (λ input. AreEdges (start_graph ids.items edges.now) input.start.items) }
-    ensures batches { IfOk result (λ input. map (λ batch. map parts_of batch.items) input.batches.items
-        ≡ map (λ batch. map (numbered_change ids.items) (deciding batch.items)) batches.now) }
-    ensures overruled { IfOk result (λ input. input.overruled.items ≡ map (λ batch. overruled batch.items) batches.now) }
+    ensures batches { IfOk result (λ input. map parts_of_batch input.batches.items ≡ map (λ batch. numbered_batch ids.items batch.items) batches.now) }
 {
     let finder = Finder::new(alloc, &ids)?;
     let start = start_of(alloc, &ids, &finder, edges)?;
     let updates = batches_of(alloc, &ids, &finder, batches)?;
-    let (batches, overruled) = decide_batches(alloc, &updates)?;
+    let batches = decide_batches(alloc, &updates)?;
     Ok(Input {
         ids,
         start,
         batches,
-        overruled,
     })
 }
 
@@ -102,9 +101,9 @@ pub fn parse(alloc: Global, bytes: &[u8]) -> Result<Input, ParseFault>
     ensures input { IfOk result (λ input. (told : Told) × (meaning bytes.now ≡ Means told) × IsInput told input) }
     ensures few { IfOk result (λ input. length input.ids.items ≤ MOST_IDS) }
     ensures few_batches { IfOk result (λ input. length input.batches.items ≤ MOST_BATCHES) }
-    ensures short { IfOk result (λ input. All (λ batch. length batch.items ≤ MOST_UPDATES) input.batches.items) }
-    ensures counts { IfOk result (λ input. All (λ count. count ≤ MOST_UPDATES) input.overruled.items) }
-    ensures batches { IfOk result (λ input. All (λ batch. IsBatch (length input.ids.items) batch.items) input.batches.items) }
+    ensures short { IfOk result (λ input. All (λ batch. length batch.updates.items ≤ MOST_UPDATES) input.batches.items) }
+    ensures counts { IfOk result (λ input. All (λ batch. batch.overruled ≤ MOST_UPDATES) input.batches.items) }
+    ensures batches { IfOk result (λ input. All (λ batch. IsBatch (length input.ids.items) batch.updates.items) input.batches.items) }
     ensures refused { (r : Refusal) → IsErrOf result (ParseFault.Refused r) → meaning bytes.now ≡ Refuses r.line r.kind }
 {
     let reading = read_text(alloc, bytes)?;
@@ -116,9 +115,9 @@ pub fn parse(alloc: Global, bytes: &[u8]) -> Result<Input, ParseFault>
 
 /// The changes of a batch that decide name each pair that the batch names, and none twice, and all its other changes are overruled.
 pub fn a_batch_decides_each_pair_once()
-    ensures once { (batch : List change.Change) → NamesOnce (deciding batch) }
-    ensures each { (c : change.Change) (batch : List change.Change) → list_any (name_same c) (deciding batch) ≡ list_any (name_same c) batch }
-    ensures others { (batch : List change.Change) → length (deciding batch) + overruled batch ≡ length batch }
+    ensures once { (batch : List change.ChangeLine) → NamesOnce (deciding batch) }
+    ensures each { (c : change.ChangeLine) (batch : List change.ChangeLine) → list_any (name_same c) (deciding batch) ≡ list_any (name_same c) batch }
+    ensures others { (batch : List change.ChangeLine) → length (deciding batch) + overruled batch ≡ length batch }
 {}
 
 /// A text means what it means by a stricter rule, by which a line that names a pair of its batch again ends the reading: just where no

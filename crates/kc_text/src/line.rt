@@ -4,7 +4,7 @@ ghost use Rattle.kc_text.specs.Lines.{fields};
 ghost use Rattle.kc_text.specs.Forms.{all_said, batch_form, change_form, edge_form, is_comment, said_by, two_numbers};
 
 use crate::bytes::cut_line;
-use crate::change::Change;
+use crate::change::ChangeLine;
 use crate::fields::cut_field;
 use crate::kind::Kind;
 use crate::number::number;
@@ -12,7 +12,7 @@ use crate::plain::plain_line;
 
 /// What one line says.
 #[derive(Clone, Copy)]
-pub enum Line {
+pub enum TextLine {
     /// The line is blank or a comment.
     Nothing,
     /// There is an edge between the two ids.
@@ -20,7 +20,7 @@ pub enum Line {
     /// A batch begins.
     Batch,
     /// The batch has one more change.
-    Change(Change),
+    Change(ChangeLine),
     /// The line has none of these forms, for this cause.
     Wrong(Kind),
 }
@@ -52,42 +52,42 @@ fn two_numbers(text: &[u8]) -> Result<(u32, u32), Kind>
     Ok((a, b))
 }
 
-fn edge_form(text: &[u8]) -> Line
+fn edge_form(text: &[u8]) -> TextLine
     ensures { result ≡ edge_form (two_numbers (fields text.now)) }
 {
     match two_numbers(text) {
-        Ok((a, b)) => Line::Edge(a, b),
-        Err(kind) => Line::Wrong(kind),
+        Ok((a, b)) => TextLine::Edge(a, b),
+        Err(kind) => TextLine::Wrong(kind),
     }
 }
 
-fn batch_form(rest: &[u8]) -> Line
+fn batch_form(rest: &[u8]) -> TextLine
     ensures { result ≡ batch_form (fields rest.now) }
 {
     match cut_field(rest) {
-        Some(_) => Line::Wrong(Kind::ExtraField),
-        None => Line::Batch,
+        Some(_) => TextLine::Wrong(Kind::ExtraField),
+        None => TextLine::Batch,
     }
 }
 
-fn change_form(add: bool, rest: &[u8]) -> Line
+fn change_form(add: bool, rest: &[u8]) -> TextLine
     ensures { result ≡ change_form add (two_numbers (fields rest.now)) }
 {
     match two_numbers(rest) {
-        Ok((a, b)) => Line::Change(Change { add, a, b }),
-        Err(kind) => Line::Wrong(kind),
+        Ok((a, b)) => TextLine::Change(ChangeLine { add, a, b }),
+        Err(kind) => TextLine::Wrong(kind),
     }
 }
 
 /// What a line says. Its first field tells which form it has.
-fn read_line(line: &[u8]) -> Line
+fn read_line(line: &[u8]) -> TextLine
     ensures { result ≡ said_by line.now }
 {
     let Some((first, rest)) = cut_field(line) else {
-        return Line::Nothing;
+        return TextLine::Nothing;
     };
     if is_comment(first) {
-        Line::Nothing
+        TextLine::Nothing
     } else if first == b"batch".as_slice() {
         batch_form(rest)
     } else if first == b"+".as_slice() {
@@ -100,7 +100,7 @@ fn read_line(line: &[u8]) -> Line
 }
 
 /// What the first line of a text says, and what follows it.
-pub(crate) fn next_line(bytes: &[u8]) -> Option<(Line, &[u8])>
+pub(crate) fn next_line(bytes: &[u8]) -> Option<(TextLine, &[u8])>
     ensures lines { MatchOption result (all_said bytes.now ≡ []) (λ r. all_said bytes.now ≡ r.0 ∷ all_said r.1.now) }
     ensures shorter { IfSome result (λ r. length r.1.now < length bytes.now) }
 {

@@ -8,7 +8,7 @@ ghost use Rattle.kc_text.specs.Meaning.{ends, ends_of};
 ghost use Rattle.kc_text.specs.Inputs.{AreAmong, AreEdges, AreUpdates, between, numbered, numbered_change, parts_of, start_graph};
 
 use crate::NoMemory;
-use crate::change::Change;
+use crate::change::ChangeLine;
 use crate::finder::Finder;
 use kc_graph::Update;
 use std::alloc::Global;
@@ -68,7 +68,7 @@ pub(crate) fn start_of(
 }
 
 /// The change between the numbers that stand for its ids.
-fn update_of(ids: &[u32], finder: &Finder, change: Change) -> Update
+fn update_of(ids: &[u32], finder: &Finder, change: ChangeLine) -> Update
     requires ascending { IsStrictlyIncreasing ids.now }
     requires few { length ids.now < 2 ^ 32 }
     requires finder { FindsPlaces ids.now finder.now }
@@ -92,7 +92,7 @@ fn updates_of(
     alloc: Global,
     ids: &[u32],
     finder: &Finder,
-    batch: &[Change],
+    batch: &[ChangeLine],
 ) -> Result<Vec<Update>, NoMemory>
     requires ascending { IsStrictlyIncreasing ids.now }
     requires few { length ids.now < 2 ^ 32 }
@@ -113,7 +113,7 @@ pub(crate) fn batches_of(
     alloc: Global,
     ids: &[u32],
     finder: &Finder,
-    batches: &[Vec<Change>],
+    batches: &[Vec<ChangeLine>],
 ) -> Result<Vec<Vec<Update>>, NoMemory>
     requires ascending { IsStrictlyIncreasing ids.now }
     requires few { length ids.now < 2 ^ 32 }

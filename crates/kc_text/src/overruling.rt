@@ -1,27 +1,20 @@
 //! Finds the updates of a batch that decide: a batch may name an edge again, and then the last update of it decides. They are found by
 //! a sort of numbers, which costs less than a set of the edges would.
-ghost use Rattle.std.specs.Prelude.{◌≡◌, ◌≤◌, ◌<◌, ◌+◌, ◌-◌, ◌%◌, All, IfOk, length, map};
-ghost use Rattle.kc_text.specs.Deciding.{AreOverruled, AreRanks, MarksFollowed, rank};
+ghost use Rattle.std.specs.Prelude.{◌≡◌, ◌≤◌, ◌<◌, ◌+◌, ◌%◌, All, IfOk, length, map};
+ghost use Rattle.kc_text.specs.Deciding.{AreOverruled, AreRanks, MarksFollowed, last_batch, rank};
+ghost use Rattle.kc_text.specs.Inputs.{parts_of_batch};
 ghost use Rattle.kc_text.specs.LastUpdates.{last_of_edges};
 ghost use Rattle.kc_text.specs.declared.limits.TheConstants.{MOST_IDS, MOST_UPDATES};
 ghost use Rattle.kc_text.specs.declared.overruling.TheConstants.{MOST_TO_DECIDE};
 
 use crate::NoMemory;
+use crate::batch::Batch;
 use crate::limits::MOST_IDS;
 use kc_graph::Update;
 use std::alloc::Global;
 
 /// The most updates of which [`decide`] finds those that decide.
 pub const MOST_TO_DECIDE: usize = 4_194_304;
-
-/// The updates of a batch that decide, and how many they overrule.
-#[derive(Drop)]
-pub struct Decision {
-    /// For each edge that the batch names the last update of it, in the order of these last updates.
-    pub updates: Vec<Update>,
-    /// How many updates of the batch a later one of the same edge overrules.
-    pub overruled: u32,
-}
 
 /// The edge of an update and its place in the batch, as one number.
 fn rank(update: Update, place: usize) -> u64
@@ -89,37 +82,30 @@ fn unmarked(alloc: Global, updates: &[Update], marks: &[bool]) -> Result<Vec<Upd
 
 /// The updates of a batch that decide: of each edge that it names the last one, in their order. It sorts a number for each update, and
 /// takes memory for a few more. `NoMemory` comes only where there is none.
-pub fn decide(alloc: Global, updates: &[Update]) -> Result<Decision, NoMemory>
+pub fn decide(alloc: Global, updates: &[Update]) -> Result<Batch, NoMemory>
     requires ends { All (λ update. update.v < MOST_IDS) updates.now }
     requires short { length updates.now ≤ MOST_TO_DECIDE }
-    ensures deciding { IfOk result (λ decision. decision.updates.items ≡ last_of_edges updates.now) }
-    ensures overruled { IfOk result (λ decision. length decision.updates.items + decision.overruled ≡ length updates.now) }
+    ensures deciding { IfOk result (λ batch. batch.updates.items ≡ last_of_edges updates.now) }
+    ensures overruled { IfOk result (λ batch. length batch.updates.items + batch.overruled ≡ length updates.now) }
 {
     let marks = overruled(alloc, updates)?;
     let left = unmarked(alloc, updates, &marks)?;
     let overruled = (updates.len() - left.len()) as u32;
-    Ok(Decision {
+    Ok(Batch {
         updates: left,
         overruled,
     })
 }
 
 /// The updates of each batch that decide, and how many are overruled.
-pub(crate) fn decide_batches(
-    alloc: Global,
-    batches: &[Vec<Update>],
-) -> Result<(Vec<Vec<Update>>, Vec<u32>), NoMemory>
+pub(crate) fn decide_batches(alloc: Global, batches: &[Vec<Update>]) -> Result<Vec<Batch>, NoMemory>
     requires ends { All (λ batch. All (λ update. update.v < MOST_IDS) batch.items) batches.now }
     requires short { All (λ batch. length batch.items ≤ MOST_UPDATES) batches.now }
-    ensures deciding { IfOk result (λ r. map (λ batch. batch.items) r.0.items ≡ map (λ batch. last_of_edges batch.items) batches.now) }
-    ensures overruled { IfOk result (λ r. r.1.items ≡ map (λ batch. length batch.items - length (last_of_edges batch.items)) batches.now) }
+    ensures { IfOk result (λ decided. map parts_of_batch decided.items ≡ map (λ batch. last_batch batch.items) batches.now) }
 {
-    let mut deciding = Vec::with_capacity(alloc, batches.len())?;
-    let mut counts = Vec::with_capacity(alloc, batches.len())?;
+    let mut decided = Vec::with_capacity(alloc, batches.len())?;
     for batch in batches {
-        let decision = decide(alloc, batch)?;
-        counts.push(decision.overruled)?;
-        deciding.push(decision.updates)?;
+        decided.push(decide(alloc, batch)?)?;
     }
-    Ok((deciding, counts))
+    Ok(decided)
 }

@@ -4,9 +4,9 @@ ghost use Rattle.std.specs.Prelude.{◌≡◌, ◌∷◌, ◌<◌, IfSome, lengt
 ghost use Rattle.kc_text.specs.Forms.{all_said};
 ghost use Rattle.kc_text.specs.Plain.{BeginsWithNumber, BeginsWithPair, sign_of};
 
-use crate::change::Change;
+use crate::change::ChangeLine;
 use crate::fields::is_blank;
-use crate::line::Line;
+use crate::line::TextLine;
 
 /// A value that is not above it has room for one digit more.
 const LARGE: u32 = 400_000_000;
@@ -61,7 +61,7 @@ fn adds(sign: u8) -> Option<bool>
 }
 
 /// What a plain first line says that begins with a sign, and what follows the line.
-fn plain_change(bytes: &[u8]) -> Option<(Line, &[u8])>
+fn plain_change(bytes: &[u8]) -> Option<(TextLine, &[u8])>
     ensures said { IfSome result (λ r. all_said bytes.now ≡ r.0 ∷ all_said r.1.now) }
     ensures shorter { IfSome result (λ r. length r.1.now < length bytes.now) }
 {
@@ -72,16 +72,16 @@ fn plain_change(bytes: &[u8]) -> Option<(Line, &[u8])>
         return None;
     }
     let (a, b, rest) = front_pair(rest)?;
-    Some((Line::Change(Change { add, a, b }), rest))
+    Some((TextLine::Change(ChangeLine { add, a, b }), rest))
 }
 
 /// What a plain first line says, and what follows the line. There is none where the line has another form, or may have.
-pub(crate) fn plain_line(bytes: &[u8]) -> Option<(Line, &[u8])>
+pub(crate) fn plain_line(bytes: &[u8]) -> Option<(TextLine, &[u8])>
     ensures said { IfSome result (λ r. all_said bytes.now ≡ r.0 ∷ all_said r.1.now) }
     ensures shorter { IfSome result (λ r. length r.1.now < length bytes.now) }
 {
     match front_pair(bytes) {
-        Some((a, b, rest)) => Some((Line::Edge(a, b), rest)),
+        Some((a, b, rest)) => Some((TextLine::Edge(a, b), rest)),
         None => plain_change(bytes),
     }
 }

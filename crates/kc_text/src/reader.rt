@@ -3,16 +3,16 @@ ghost use Rattle.std.specs.Prelude.{◌≡◌, ◌≤◌, ◌<◌, ◌+◌, ◌^
 ghost use Rattle.std.specs.Prelude.{unwrap_or, ◌∷◌};
 ghost use Rattle.std.specs.HashSet.{IsUnique};
 ghost use Rattle.std.specs.Option.{option_map, option_to_list};
-ghost use Rattle.kc_text.specs.declared.line.Line.TheVariants as said;
+ghost use Rattle.kc_text.specs.declared.line.TextLine.TheVariants as said;
 ghost use Rattle.kc_text.specs.Looks.{is_exact};
 ghost use Rattle.kc_text.specs.Meaning.{batches, first_limit, nothing_told, passed_limit, refusal, unfit, with_line};
-ghost use Rattle.kc_text.specs.Readers.{told_by, Gains, HasIds, IsExact, IsKept, is_over};
+ghost use Rattle.kc_text.specs.Readers.{told_by, Gains, HasIds, IsExact, ReaderKeeps, is_over};
 
 use crate::NoMemory;
-use crate::change::Change;
+use crate::change::ChangeLine;
 use crate::kind::Kind;
 use crate::limits::{MOST_BATCHES, MOST_EDGE_LINES, MOST_IDS, MOST_UPDATES};
-use crate::line::Line;
+use crate::line::TextLine;
 use crate::look::Look;
 use std::alloc::Global;
 use std::collections::HashSet;
@@ -22,8 +22,8 @@ use std::collections::HashSet;
 pub(crate) struct Reader {
     edges: Vec<(u32, u32)>,
     /// The batches before the last.
-    earlier: Vec<Vec<Change>>,
-    last: Option<Vec<Change>>,
+    earlier: Vec<Vec<ChangeLine>>,
+    last: Option<Vec<ChangeLine>>,
     /// How many changes there are in all batches.
     changes: usize,
     /// The different ids, where they are counted line by line.
@@ -82,7 +82,10 @@ fn first_limit(ids: bool, edge_lines: bool, updates: bool, batches: bool) -> Opt
 }
 
 /// Takes a change into the last batch, or gives the cause if it doesn't fit.
-fn take_into(last: &mut Option<Vec<Change>>, change: Change) -> Result<Option<Kind>, NoMemory>
+fn take_into(
+    last: &mut Option<Vec<ChangeLine>>,
+    change: ChangeLine,
+) -> Result<Option<Kind>, NoMemory>
     ensures refused { IfOk result (λ cause. cause ≡ unfit (option_map (λ batch. batch.items) last.old) change) }
     ensures changes { IfOk result (λ cause. cause ≡ None → option_map (λ batch. batch.items) last.new
         ≡ Some (unwrap_or (option_map (λ batch. batch.items) last.old) [] ++ change ∷ [])) }
@@ -99,7 +102,7 @@ fn take_into(last: &mut Option<Vec<Change>>, change: Change) -> Result<Option<Ki
 }
 
 /// Puts a batch that is read behind the earlier ones.
-fn close(earlier: &mut Vec<Vec<Change>>, last: Option<Vec<Change>>) -> Result<(), NoMemory>
+fn close(earlier: &mut Vec<Vec<ChangeLine>>, last: Option<Vec<ChangeLine>>) -> Result<(), NoMemory>
     ensures { OnOk result (map (λ batch. batch.items) earlier.new.items ≡ map (λ batch. batch.items) earlier.old.items
         ++ option_to_list (option_map (λ batch. batch.items) last)) }
 {
@@ -112,7 +115,7 @@ fn close(earlier: &mut Vec<Vec<Change>>, last: Option<Vec<Change>>) -> Result<()
 impl Reader {
     pub(crate) fn new(alloc: Global, look: Look) -> Reader
         ensures told { told_by result ≡ nothing_told }
-        ensures kept { IsKept result }
+        ensures kept { ReaderKeeps result }
         ensures looks { is_some result.ids ≡ is_exact look }
     {
         Reader {
@@ -125,10 +128,10 @@ impl Reader {
     }
 
     /// Takes what one line says, or gives the cause if the line is refused.
-    pub(crate) fn take(&mut self, alloc: Global, line: Line) -> Result<Option<Kind>, NoMemory>
-        requires kept { IsKept self.old }
+    pub(crate) fn take(&mut self, alloc: Global, line: TextLine) -> Result<Option<Kind>, NoMemory>
+        requires kept { ReaderKeeps self.old }
         requires few { self.old.changes < 2 ^ 32 }
-        ensures kept { IfOk result (λ cause. cause ≡ None → IsKept self.new) }
+        ensures kept { IfOk result (λ cause. cause ≡ None → ReaderKeeps self.new) }
         ensures told { IfOk result (λ cause. cause ≡ None → told_by self.new ≡ with_line (told_by self.old) line) }
         ensures refused { IfOk result (λ cause. IsExact self.new → cause ≡ refusal (told_by self.old) line) }
         ensures exact { OnOk result (IsExact self.new → IsExact self.old) }
@@ -136,17 +139,17 @@ impl Reader {
         ensures grows { OnOk result (self.new.changes ≤ self.old.changes + 1) }
     {
         match line {
-            Line::Nothing => Ok(None),
-            Line::Edge(a, b) => self.take_edge(a, b),
-            Line::Batch => self.take_batch(alloc),
-            Line::Change(change) => self.take_change(change),
-            Line::Wrong(kind) => Ok(Some(kind)),
+            TextLine::Nothing => Ok(None),
+            TextLine::Edge(a, b) => self.take_edge(a, b),
+            TextLine::Batch => self.take_batch(alloc),
+            TextLine::Change(change) => self.take_change(change),
+            TextLine::Wrong(kind) => Ok(Some(kind)),
         }
     }
 
     fn take_edge(&mut self, a: u32, b: u32) -> Result<Option<Kind>, NoMemory>
-        requires { IsKept self.old }
-        ensures kept { IfOk result (λ cause. cause ≡ None → IsKept self.new) }
+        requires { ReaderKeeps self.old }
+        ensures kept { IfOk result (λ cause. cause ≡ None → ReaderKeeps self.new) }
         ensures told { IfOk result (λ cause. cause ≡ None → told_by self.new ≡ with_line (told_by self.old) (said.Edge a b)) }
         ensures refused { IfOk result (λ cause. IsExact self.new → cause ≡ refusal (told_by self.old) (said.Edge a b)) }
         ensures exact { OnOk result (IsExact self.new → IsExact self.old) }
@@ -162,8 +165,8 @@ impl Reader {
     }
 
     fn take_batch(&mut self, alloc: Global) -> Result<Option<Kind>, NoMemory>
-        requires { IsKept self.old }
-        ensures kept { OnOk result (IsKept self.new) }
+        requires { ReaderKeeps self.old }
+        ensures kept { OnOk result (ReaderKeeps self.new) }
         ensures told { OnOk result (told_by self.new ≡ with_line (told_by self.old) said.Batch) }
         ensures refused { IfOk result (λ cause. IsExact self.new → cause ≡ refusal (told_by self.old) said.Batch) }
         ensures exact { OnOk result (IsExact self.new → IsExact self.old) }
@@ -175,10 +178,10 @@ impl Reader {
         Ok(self.passed_limit())
     }
 
-    fn take_change(&mut self, change: Change) -> Result<Option<Kind>, NoMemory>
-        requires kept { IsKept self.old }
+    fn take_change(&mut self, change: ChangeLine) -> Result<Option<Kind>, NoMemory>
+        requires kept { ReaderKeeps self.old }
         requires few { self.old.changes < 2 ^ 32 }
-        ensures kept { IfOk result (λ cause. cause ≡ None → IsKept self.new) }
+        ensures kept { IfOk result (λ cause. cause ≡ None → ReaderKeeps self.new) }
         ensures told { IfOk result (λ cause. cause ≡ None → told_by self.new ≡ with_line (told_by self.old) (said.Change change)) }
         ensures refused { IfOk result (λ cause. IsExact self.new → cause ≡ refusal (told_by self.old) (said.Change change)) }
         ensures exact { OnOk result (IsExact self.new → IsExact self.old) }
@@ -194,7 +197,7 @@ impl Reader {
     }
 
     /// The edges of the edge lines and the changes of the batches.
-    pub(crate) fn into_lists(self) -> Result<(Vec<(u32, u32)>, Vec<Vec<Change>>), NoMemory>
+    pub(crate) fn into_lists(self) -> Result<(Vec<(u32, u32)>, Vec<Vec<ChangeLine>>), NoMemory>
         ensures edges { IfOk result (λ lists. lists.0.items ≡ (told_by self).edges) }
         ensures batches { IfOk result (λ lists. map (λ batch. batch.items) lists.1.items ≡ batches (told_by self)) }
     {
@@ -211,7 +214,7 @@ impl Reader {
 
     /// The first limit that is passed.
     fn passed_limit(&self) -> Option<Kind>
-        requires { IsKept self.now }
+        requires { ReaderKeeps self.now }
         ensures { IsExact self.now → result ≡ passed_limit (told_by self.now) }
     {
         first_limit(

@@ -2,12 +2,12 @@
 ghost use Rattle.std.specs.Prelude.{◌≡◌, ◌≤◌, ◌↔◌, All, IfOk, IsTrue, OnOk, is_some, length};
 ghost use Rattle.kc_text.specs.Forms.{all_said};
 ghost use Rattle.kc_text.specs.Meaning.{Told, meaning, nothing_told, reading};
-ghost use Rattle.kc_text.specs.Readers.{told_by, IsExact, IsKept, outcome};
+ghost use Rattle.kc_text.specs.Readers.{told_by, IsExact, ReaderKeeps, outcome};
 ghost use Rattle.kc_text.specs.Readings.{IsEnd, IsReading};
 ghost use Rattle.kc_text.specs.declared.limits.TheConstants.{MOST_IDS, MOST_BYTES};
 
 use crate::NoMemory;
-use crate::change::Change;
+use crate::change::ChangeLine;
 use crate::ids::ids_of;
 use crate::limits::MOST_IDS;
 use crate::line::next_line;
@@ -22,7 +22,7 @@ pub(crate) struct Reading {
     /// The ends of the edge lines, in their order.
     pub(crate) edges: Vec<(u32, u32)>,
     /// The batches, with their changes, in their order.
-    pub(crate) batches: Vec<Vec<Change>>,
+    pub(crate) batches: Vec<Vec<ChangeLine>>,
     /// The different ids, ascending.
     pub(crate) ids: Vec<u32>,
     /// The first line that is refused, if one is.
@@ -32,7 +32,7 @@ pub(crate) struct Reading {
 /// Reads line after line, up to the first that is refused.
 fn read_lines(alloc: Global, reader: &mut Reader, bytes: &[u8]) -> Result<Option<Refusal>, NoMemory>
     requires fresh { told_by reader.old ≡ nothing_told }
-    requires kept { IsKept reader.old }
+    requires kept { ReaderKeeps reader.old }
     requires few { length bytes.now ≤ MOST_BYTES }
     ensures exact { IfOk result (λ refusal. IsExact reader.new → reading 0 nothing_told (all_said bytes.now) ≡ outcome (told_by reader.new) refusal) }
     ensures looks { OnOk result (is_some reader.new.ids ≡ is_some reader.old.ids) }

@@ -86,13 +86,15 @@ fn batches(rt: HostRuntime) -> Result<(), Fail> {
     assert_eq!(rt; input.start.as_slice(), [(0, 2)].as_slice());
     assert_eq!(rt; input.batches.len(), 3);
     let first = [update(true, 0, 1), update(false, 0, 2)];
-    assert_eq!(rt; input.batches[0].as_slice(), first.as_slice());
-    assert_eq!(rt; input.batches[1].as_slice(), [].as_slice());
+    assert_eq!(rt; input.batches[0].updates.as_slice(), first.as_slice());
+    assert_eq!(rt; input.batches[1].updates.as_slice(), [].as_slice());
     assert_eq!(rt;
-        input.batches[2].as_slice(),
+        input.batches[2].updates.as_slice(),
         [update(true, 0, 2)].as_slice()
     );
-    assert_eq!(rt; input.overruled.as_slice(), [0, 0, 0].as_slice());
+    for batch in &input.batches {
+        assert_eq!(rt; batch.overruled, 0);
+    }
     Ok(())
 }
 
@@ -115,14 +117,15 @@ fn the_last_line_of_a_pair_decides(rt: HostRuntime) -> Result<(), Fail> {
         b"1 2\n2 3\nbatch\n+ 1 3\n+ 0 4294967295\n- 3 1\n- 1 2\n+ 4294967295 0\n+ 3 1\nbatch\n- 3 1\n";
     let input = parse(rt.alloc(), text).map_err(|_| "refused")?;
     assert_eq!(rt; input.ids.as_slice(), [0, 1, 2, 3, 4294967295].as_slice());
-    assert_eq!(rt; input.overruled.as_slice(), [3, 0].as_slice());
     assert_eq!(rt; input.batches.len(), 2);
     let updates = [update(false, 1, 2), update(true, 0, 4), update(true, 1, 3)];
-    assert_eq!(rt; input.batches[0].as_slice(), updates.as_slice());
+    assert_eq!(rt; input.batches[0].updates.as_slice(), updates.as_slice());
+    assert_eq!(rt; input.batches[0].overruled, 3);
     assert_eq!(rt;
-        input.batches[1].as_slice(),
+        input.batches[1].updates.as_slice(),
         [update(false, 1, 3)].as_slice()
     );
+    assert_eq!(rt; input.batches[1].overruled, 0);
     check_refusal(&rt, b"batch\n+ 1 2\n- 2 1\n+ 3 3\n", 4, Kind::LoopInBatch)
 }
 

@@ -1,18 +1,20 @@
--- What is read has a count for each batch, and its edges join vertices that there are.
-use Rattle.std.proofs.Common.{◌≡◌, ◌<◌, ◌≤◌, ℕ, List, [], ◌∷◌, length, map, flat_map, refl, sym, ap, subst, ◌∙◌, arith, length-append, Vec, Global}
+-- The edges of what is read join vertices that there are, and it has no more updates than a text may have.
+use Rattle.std.proofs.Common.{◌≡◌, ◌<◌, ◌≤◌, ℕ, List, [], ◌∷◌, length, map, flat_map, refl, sym, ap, subst, ◌∙◌, arith, length-append}
 use Rattle.std.specs.Prelude.{All}
 use Rattle.std.proofs.lemmas.List.{length-map}
 use Rattle.std.proofs.lemmas.List.Sums.{sum_by-cons}
 use Rattle.kc_graph.specs.declared.update.Update.{Update}
-use Rattle.kc_text.specs.Inputs.{EdgeUpdate, IsInput, numbered_change, parts_of, start_graph}
+use Rattle.kc_text.specs.Inputs.{EdgeBatch, IsInput, numbered_batch, numbered_change, parts_of, parts_of_batch, start_graph}
 use Rattle.kc_text.specs.Meaning.{Means, Told, batches, meaning}
-use Rattle.kc_text.specs.Overruling.{deciding, overruled}
-use Rattle.kc_text.specs.declared.change.Change.{Change}
+use Rattle.kc_text.specs.Overruling.{deciding}
+use Rattle.kc_text.specs.declared.batch.Batch.{Batch}
+use Rattle.kc_text.specs.declared.change.ChangeLine.{ChangeLine}
 use Rattle.kc_text.specs.declared.input.Input.{Input}
 use Rattle.kc_text.specs.declared.limits.TheConstants.{MOST_UPDATES}
 use Rattle.kc_text.proofs.Overruled.{deciding-count}
 use Rattle.kc_text.proofs.WithinLimits.{meaning-fit}
-use Rattle.kc_course.specs.Entered.{update_count}
+use Rattle.kc_run.specs.Entered.{update_count}
+use Rattle.kc_output.specs.Inputs.{updates_of}
 
 -- the graph of an input has a vertex for each id
 size-start_graph : (ids : List ℕ) (edges : List (ℕ × ℕ)) → (start_graph ids edges).size ≡ length ids
@@ -24,44 +26,36 @@ pub edges_within : (told : Told) (input : Input) → IsInput told input → All 
 edges_within told input is = subst (λ (n : ℕ). All (λ p. (p.0 < p.1) × (p.1 < n)) input.start.items)
     (size-start_graph input.ids.items told.edges) is.start.within
 
--- there is a count for each batch
-pub batches-counted : (told : Told) (input : Input) → IsInput told input → length input.overruled.items ≡ length input.batches.items
-batches-counted told input is =
-    ap length is.overruled ∙ length-map (batches told) overruled
-    ∙ sym (sym (length-map input.batches.items (λ batch. map parts_of batch.items)) ∙ ap length is.batches
-    ∙ length-map (batches told) (λ (batch : List Change). map (numbered_change input.ids.items) (deciding batch)))
-
--- the first of several batches, and an empty one where there is none
-abbrev first_of : List (List EdgeUpdate) → List EdgeUpdate
-first_of [] = []
-first_of (x ∷ xs) = x
+-- how many updates the first of several batches has, and 0 where there is none
+abbrev first_count : List EdgeBatch → ℕ
+first_count [] = 0
+first_count (batch ∷ batches) = length batch.updates
 
 -- all batches but the first
-abbrev rest_of : List (List EdgeUpdate) → List (List EdgeUpdate)
+abbrev rest_of : List EdgeBatch → List EdgeBatch
 rest_of [] = []
-rest_of (x ∷ xs) = xs
+rest_of (batch ∷ batches) = batches
 
 -- no more updates decide than there are changes
-few-decide : (ids : List ℕ) (updates : List (Vec Update Global)) (told : List (List Change))
-    → map (λ batch. map parts_of batch.items) updates ≡ map (λ batch. map (numbered_change ids) (deciding batch)) told
-    → update_count (map (λ batch. batch.items) updates) ≤ length (flat_map (λ batch. batch) told)
+few-decide : (ids : List ℕ) (made : List Batch) (told : List (List ChangeLine)) → map parts_of_batch made ≡ map (numbered_batch ids) told
+    → update_count (updates_of made) ≤ length (flat_map (λ batch. batch) told)
 few-decide ids [] [] e = omega arith
 few-decide ids [] (b ∷ told) e = absurd (omega (arith, ap length e))
-few-decide ids (u ∷ updates) [] e = absurd (omega (arith, ap length e))
-few-decide ids (u ∷ updates) (b ∷ told) e =
-    let here : length u.items ≡ length (deciding b) =
-    sym (length-map u.items parts_of) ∙ (ap (λ (xs : List (List EdgeUpdate)). length (first_of xs)) e ∙ length-map (deciding b) (numbered_change ids)) in
+few-decide ids (m ∷ made) [] e = absurd (omega (arith, ap length e))
+few-decide ids (m ∷ made) (b ∷ told) e =
+    let here : length m.updates.items ≡ length (deciding b) =
+    sym (length-map m.updates.items parts_of) ∙ (ap first_count e ∙ length-map (deciding b) (numbered_change ids)) in
     omega (
       arith,
-      sum_by-cons (λ (xs : List Update). length xs) u.items (map (λ batch. batch.items) updates),
+      sum_by-cons (λ (xs : List Update). length xs) m.updates.items (updates_of made),
       here,
       deciding-count b,
       length-append b (flat_map (λ batch. batch) told),
-      few-decide ids updates told (ap rest_of e),
+      few-decide ids made told (ap rest_of e),
     )
 
 -- an input has no more updates than a text may have changes
 pub few_updates : (bytes : List ℕ) (told : Told) (input : Input) → meaning bytes ≡ Means told → IsInput told input
-    → update_count (map (λ batch. batch.items) input.batches.items) ≤ MOST_UPDATES
+    → update_count (updates_of input.batches.items) ≤ MOST_UPDATES
 few_updates bytes told input means is =
     omega (arith, few-decide input.ids.items input.batches.items (batches told) is.batches, (meaning-fit bytes told means).within.changes)

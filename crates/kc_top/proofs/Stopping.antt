@@ -1,18 +1,17 @@
 -- Why a run stops, and what it has written then.
 use Rattle.std.proofs.Common.{◌≡◌, ◌≢◌, ◌<◌, ℕ, List, [], length, cond, ap, subst, arith}
-use Rattle.std.proofs.Common.{lt-ltb, None, Some, IfSome, Option, refl, sym, Result, Ok, Err, IsErrAnd}
+use Rattle.std.proofs.Common.{lt-ltb, None, Some, IfSome, Option, refl}
 use Rattle.std.specs.Io.KnownBytes.{Appends}
 use Rattle.kc_text.specs.declared.kind.Kind.{Kind}
 use Rattle.kc_text.specs.declared.kind.Kind.TheVariants.{TooLong}
 use Rattle.kc_text.specs.Forms.{all_said}
 use Rattle.kc_text.specs.Meaning.{Refuses, meaning, nothing_told, reading}
-use Rattle.kc_course.specs.declared.ran.Ran.{Ran}
+use Rattle.kc_run.specs.declared.ran.Ran.{Ran}
 use Rattle.kc_top.specs.Faults.{RoseOnlyAt}
-use Rattle.kc_top.specs.Leaving.{Answers, Leaves}
+use Rattle.kc_top.specs.Leaving.{AnswersInput, RunLeaves}
 use Rattle.kc_top.specs.Outcome.{IsAnswer, IsOutputOf, Took, TookSome}
-use Rattle.kc_top.specs.declared.Status.{Status}
 use Rattle.kc_top.specs.declared.Status.TheVariants as status
-use Rattle.kc_top.specs.Stops.{HasNoText, IsRefusalOf, TellsRefusal, ended, status_of}
+use Rattle.kc_top.specs.Stops.{HasNoText, IsRefusalOf, TellsRefusal, status_of}
 use Rattle.kc_output.specs.Text.{IsTextOf}
 use Rattle.kc_output.specs.declared.setting.Setting.{Setting}
 use Rattle.kc_top.specs.declared.ending.Stop.{Stop}
@@ -82,29 +81,17 @@ Took-nothing stop.NoMemory asked input before after f f' h took = TookSome-nothi
 Took-nothing stop.Usage asked input before after f f' h took = absurd h
 Took-nothing stop.WriteFault asked input before after f f' h took = absurd h
 
--- what was taken at a stop was taken where the run ended by it
-pub Took-ended : (r : Result (Unit {0}) Stop) (s : Stop) (asked : Option Setting) (input before after : Option (List ℕ)) → IsErrAnd r (λ e. e ≡ s)
-    → Took (status_of s) asked input before after → Took (ended r) asked input before after
-Took-ended (Ok u) s asked input before after h took = absurd h
-Took-ended (Err e) s asked input before after h took = subst (λ (x : Stop). Took (status_of x) asked input before after) (sym h) took
-
 -- where there is no text, what was there is left, unless there was no memory
-pub Leaves-nothing : (s : Stop) (asked : Option Setting) (input before after : Option (List ℕ)) (ran ran' : Ran) (f f' : ℕ) → HasNoText s input f f'
-    → (s ≢ stop.NoMemory → ran' ≡ ran) → Leaves (status_of s) asked input before after ran ran'
-Leaves-nothing (stop.Refused line) asked input before after ran ran' f f' h untouched = untouched (λ e. absurd (cc))
-Leaves-nothing stop.ReadFault asked input before after ran ran' f f' h untouched = untouched (λ e. absurd (cc))
-Leaves-nothing stop.NoMemory asked input before after ran ran' f f' h untouched = tt
-Leaves-nothing stop.Usage asked input before after ran ran' f f' h untouched = absurd h
-Leaves-nothing stop.WriteFault asked input before after ran ran' f f' h untouched = absurd h
-
--- what is left at a stop is left where the run ended by it
-pub Leaves-ended : (r : Result (Unit {0}) Stop) (s : Stop) (asked : Option Setting) (input before after : Option (List ℕ)) (ran ran' : Ran)
-    → IsErrAnd r (λ e. e ≡ s) → Leaves (status_of s) asked input before after ran ran' → Leaves (ended r) asked input before after ran ran'
-Leaves-ended (Ok u) s asked input before after ran ran' h leaves = absurd h
-Leaves-ended (Err e) s asked input before after ran ran' h leaves = subst (λ (x : Stop). Leaves (status_of x) asked input before after ran ran') (sym h) leaves
+pub RunLeaves-nothing : (s : Stop) (asked : Option Setting) (input before after : Option (List ℕ)) (ran ran' : Ran) (f f' : ℕ) → HasNoText s input f f'
+    → (s ≢ stop.NoMemory → ran' ≡ ran) → RunLeaves (status_of s) asked input before after ran ran'
+RunLeaves-nothing (stop.Refused line) asked input before after ran ran' f f' h untouched = untouched (λ e. absurd (cc))
+RunLeaves-nothing stop.ReadFault asked input before after ran ran' f f' h untouched = untouched (λ e. absurd (cc))
+RunLeaves-nothing stop.NoMemory asked input before after ran ran' f f' h untouched = tt
+RunLeaves-nothing stop.Usage asked input before after ran ran' f f' h untouched = absurd h
+RunLeaves-nothing stop.WriteFault asked input before after ran ran' f f' h untouched = absurd h
 
 -- a text beside which a run leaves something is the text of the input
-pub IsAnswer-of : (asked : Option Setting) (input : Option (List ℕ)) (text : List ℕ) (ran : Ran) → Answers asked input text ran → IsAnswer asked input text
+pub IsAnswer-of : (asked : Option Setting) (input : Option (List ℕ)) (text : List ℕ) (ran : Ran) → AnswersInput asked input text ran → IsAnswer asked input text
 IsAnswer-of asked input text ran a = record {
   setting = a.setting;
   asks = a.asks;
@@ -128,9 +115,3 @@ RoseOnlyAt-write stop.ReadFault input f f' g h = record { rose = λ e. absurd (c
 RoseOnlyAt-write stop.NoMemory input f f' g h = record { rose = λ e. absurd (cc); kept = λ _. refl }
 RoseOnlyAt-write stop.Usage input f f' g h = absurd h
 RoseOnlyAt-write stop.WriteFault input f f' g h = absurd h
-
--- a count of faults that moved so at a stop moved so where the run ended by it
-pub RoseOnlyAt-ended : (fault : Status) (r : Result (Unit {0}) Stop) (s : Stop) (f f' : ℕ) → IsErrAnd r (λ e. e ≡ s)
-    → RoseOnlyAt fault (status_of s) f f' → RoseOnlyAt fault (ended r) f f'
-RoseOnlyAt-ended fault (Ok u) s f f' h rose = absurd h
-RoseOnlyAt-ended fault (Err e) s f f' h rose = subst (λ (x : Stop). RoseOnlyAt fault (status_of x) f f') (sym h) rose

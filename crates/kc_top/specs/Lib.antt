@@ -1,4 +1,5 @@
 -- What public contracts speak of.
+pub mod EndedFor
 pub mod ErrLines
 pub mod Faults
 pub mod Given

@@ -1,10 +1,11 @@
 //! A whole run: bytes in, core numbers out.
 //!
 //! [`run`](run::run) reads a graph and its batches of updates from a source, writes a line about the graph, a line about
-//! each batch and the core numbers after the last to a sink, and writes one line to a second sink where it can't. The contract
-//! says what the output is by `kc_output`, and what the run leaves of its tables and receipts (`specs/Leaving.antt`). It says
-//! too when each other status comes, and what was written then (`specs/Outcome.antt`, `specs/ErrLines.antt`), and that a fault
-//! of the source or of the output comes at its own status alone (`specs/Faults.antt`).
+//! each batch and the core numbers after the last to a sink, and writes one line to a second sink where it can't. Its promise is
+//! one record, `EndedFor`, with a field for each clause (`specs/EndedFor.antt`): what the output is, by `kc_output`; what the run
+//! leaves of its tables and receipts (`specs/Leaving.antt`); when each other status comes, and what was written then
+//! (`specs/Outcome.antt`, `specs/ErrLines.antt`); and that a fault of the source or of the output comes at its own status alone
+//! (`specs/Faults.antt`).
 //!
 //! The graph is decomposed once, and from then on workers keep its core numbers by the journal. The contract says that the
 //! journal's tables hold the updates and were certified all along. It does not say that nothing is computed anew beside them.
@@ -17,12 +18,14 @@ mod ending;
 pub mod memory;
 mod reading;
 pub mod run;
+mod streams;
 pub mod words;
 
 ghost use Rattle.std.specs.Prelude.{◌≡◌};
 ghost use Rattle.kc_top.specs.Statuses.{exit_of};
 
 pub use kc_output::{Setting, Show, Start};
+pub use streams::Streams;
 
 /// How a run ended.
 #[derive(Clone, Copy, Debug, PartialEq, Eq)]

@@ -1,8 +1,8 @@
 //! The gate of a run.
 use crate::checks::{NONE, sink_of, source_of};
-use kc_course::Ran;
-use kc_top::Status;
+use kc_run::Ran;
 use kc_top::run::run;
+use kc_top::{Status, Streams};
 use kc_workers::Gate;
 use std::process::Abort;
 use std::sync::Wait;
@@ -35,24 +35,17 @@ fn calls_for<R: Abort + AllocGlobal + Threads + Wait + Sync>(
     input: &[u8],
 ) -> Result<(u64, u64), Fail> {
     let alloc = rt.alloc();
-    let mut source = source_of(alloc, Vec::from_slice(alloc, input)?, NONE.source)?;
-    let mut out = sink_of(alloc, 399, 10, NONE.out)?;
-    let mut err = sink_of(alloc, 200, 10, NONE.err)?;
+    let mut streams = Streams {
+        source: source_of(alloc, Vec::from_slice(alloc, input)?, NONE.source)?,
+        out: sink_of(alloc, 399, 10, NONE.out)?,
+        err: sink_of(alloc, 200, 10, NONE.err)?,
+    };
     let mut ran = Ran::new(alloc);
     let gate = Counting {
         first: AtomicU64::new(0),
         second: AtomicU64::new(0),
     };
-    let status = run(
-        rt,
-        alloc,
-        words,
-        &mut source,
-        &mut out,
-        &mut err,
-        &gate,
-        &mut ran,
-    );
+    let status = run(rt, alloc, words, &mut streams, &gate, &mut ran);
     assert_eq!(rt; status, Status::Done);
     let first = gate.first.load(Ordering::SeqCst);
     let second = gate.second.load(Ordering::SeqCst);

@@ -1,7 +1,7 @@
 //! What a run leaves of its shares and tables.
 use crate::checks::{Left, NONE, TRIANGLE, WORKERS, run_on, words_with};
-use kc_course::Ran;
 use kc_journal::Receipt;
+use kc_run::Ran;
 use kc_top::Status;
 use std::alloc::Global;
 use std::process::Abort;

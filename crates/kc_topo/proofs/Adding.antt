@@ -1,8 +1,8 @@
 -- The list where the run for an arc has moved is topological for the arcs, and for the new one.
 use Rattle.std.proofs.Common.{◌≡◌, ◌≢◌, ℕ, arith, true, false, List, [], ◌∷◌, sym, ◌∙◌, subst, inl, inr, true≢false}
 use Rattle.std.proofs.lemmas.Bool.{cases_Bool, false≢true, false_from_ne_true}
-use Rattle.kc_distinct.specs.Lists.{Distinct, member}
-use Rattle.kc_distinct.proofs.Members.{member-cases}
+use Rattle.kc_lists.specs.Lists.{Distinct, member}
+use Rattle.kc_lists.proofs.Members.{member-cases}
 use Rattle.kc_table.specs.Log.{Seen}
 use Rattle.kc_order.specs.Runs.{InListOrder, IsRunBefore, with_run_after}
 use Rattle.kc_order.specs.Standing.{StandsBefore, list_after}

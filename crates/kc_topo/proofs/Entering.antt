@@ -3,9 +3,9 @@ use Rattle.std.proofs.Common.{◌≡◌, ◌<◌, ◌≤◌, ◌+◌, ◌*◌, �
 use Rattle.std.proofs.Common.{append-nil, length-append, length-set, get_or-set_other, get_or-set_same}
 use Rattle.std.proofs.lemmas.Bool.{cases_eq}
 use mathlib.Core.List.{IsPrefix}
-use Rattle.kc_distinct.specs.Lists.{Distinct, member}
-use Rattle.kc_distinct.proofs.Counting.{member-push_cases, member-push_left}
-use Rattle.kc_distinct.proofs.Members.{below_bound, member-append_right, member-head}
+use Rattle.kc_lists.specs.Lists.{Distinct, member}
+use Rattle.kc_lists.proofs.Counting.{member-push_cases, member-push_left}
+use Rattle.kc_lists.proofs.Members.{below_bound, member-append_right, member-head}
 use Rattle.kc_graph.specs.Rows.{row}
 use Rattle.kc_words.specs.NoteWord.{note_word}
 use Rattle.kc_words.specs.declared.layout.TheConstants.{LAST_VERSION, VERTICES}
@@ -13,16 +13,16 @@ use Rattle.kc_words.specs.declared.note.NoteWord.{NoteWord}
 use Rattle.kc_table.specs.declared.entry.Entry.{Entry}
 use Rattle.kc_table.specs.declared.view.Event.{Event}
 use Rattle.kc_table.specs.Log.{Seen, TableName, event}
-use Rattle.kc_table.specs.State.{State}
+use Rattle.kc_table.specs.TableState.{TableState}
 use Rattle.kc_table.proofs.LegalLogs.{state_of-push}
 use Rattle.kc_table.proofs.Prefixes.{prefix_either, prefix_self}
 use Rattle.kc_order.specs.Runs.{MovesRun, with_run_after}
 use Rattle.kc_order.specs.Standing.{Between, StandsBefore, list_after}
-use Rattle.kc_order.specs.Writers.{HasRoom, IsHighest, Leaves, Stores, entries_after, vertex_word_after}
+use Rattle.kc_order.specs.Writers.{HasRoom, IsHighest, LeavesBeside, Stores, entries_after, vertex_word_after}
 use Rattle.kc_order.proofs.Orders.{same_test}
 use Rattle.kc_order.proofs.RunMoves.{list-distinct, turn-distinct}
 use Rattle.kc_topo.specs.Arcs.{IsTopological, Reaches, StandOnce, arc_of, arcs_after, entry_of, has_arc, note_of_arc}
-use Rattle.kc_topo.specs.Dags.{AddsArc, IsDag, IsDagAlong, IsRunFor, Keeps}
+use Rattle.kc_topo.specs.Dags.{AddsArc, IsDag, IsDagAlong, IsRunFor, KeepsRows}
 use Rattle.kc_topo.proofs.Adding.{new-leads, still-topological}
 use Rattle.kc_topo.proofs.ArcLists.{arc-push_cases, arc-push_new, arc-push_old, arcs-push, once-push}
 use Rattle.kc_topo.proofs.Looking.{listed-low}
@@ -70,11 +70,11 @@ rows-push rows arcs a b low are x y = elim (cases_eq x a) [
       (λ h. elim (arc-push_cases arcs a b x y h) [ inl old ↦ old | inr new ↦ absurd (ne new.0) ]))
 ]
 
-module _ (old moved new : Seen) (rows : List (List ℕ)) (run : List ℕ) (a b : ℕ) (k : Keeps old rows)
+module _ (old moved new : Seen) (rows : List (List ℕ)) (run : List ℕ) (a b : ℕ) (k : KeepsRows old rows)
     (low : (a < old.table.shape.items) × (b < old.table.shape.items)) (fresh : has_arc (arcs_after old.table old.log) a b ≡ false)
     (acyclic : Reaches (arcs_after old.table old.log) b a → ⊥) (is : IsRunFor old a b run) (moves : MovesRun old moved run a)
     (stores : Stores moved new 0 (note_word (note_of_arc a b)))
-    (leaves : Leaves new (entries_after moved ++ entry_of a b ∷ []) [] (vertex_word_after moved)) where
+    (leaves : LeavesBeside new (entries_after moved ++ entry_of a b ∷ []) [] (vertex_word_after moved)) where
   -- the arcs before
   abbrev arcs : List (ℕ × ℕ)
   arcs = arcs_after old.table old.log
@@ -106,7 +106,7 @@ module _ (old moved new : Seen) (rows : List (List ℕ)) (run : List ℕ) (a b :
   -- the list is the one that was made
   list-new : list_after new.table new.log ≡ after
   list-new = ap (λ (s : Seen). list_after s.table s.log) stores.is
-      ∙ (ap (λ (z : State). z.list) (state_of-push moved.table.shape moved.table.opening moved.log (event 0 value)) ∙ moves.list)
+      ∙ (ap (λ (z : TableState). z.list) (state_of-push moved.table.shape moved.table.opening moved.log (event 0 value)) ∙ moves.list)
 
   -- the list is topological for the arcs before
   still : IsTopological arcs after
@@ -177,7 +177,7 @@ module _ (old moved new : Seen) (rows : List (List ℕ)) (run : List ℕ) (a b :
   }
 
   -- and what is kept is right again
-  pub keeps-on : Keeps new (set rows a (row rows a ++ b ∷ []))
+  pub keeps-on : KeepsRows new (set rows a (row rows a ++ b ∷ []))
   keeps-on = record {
     dag = along;
     legal = stores.legal;
@@ -190,11 +190,11 @@ module _ (old moved new : Seen) (rows : List (List ℕ)) (run : List ℕ) (a b :
 
 -- The same, where the state before is seen as `now`, and the note and the entry are those of an update.
 pub entered-now : (old now moved new : Seen) (rows more : List (List ℕ)) (run : List ℕ) (a b : ℕ) (note : NoteWord) (entry : Entry) → old ≡ now
-    → Keeps old rows → (a < now.table.shape.items) × (b < now.table.shape.items) → has_arc (arcs_after now.table now.log) a b ≡ false
+    → KeepsRows old rows → (a < now.table.shape.items) × (b < now.table.shape.items) → has_arc (arcs_after now.table now.log) a b ≡ false
     → (Reaches (arcs_after now.table now.log) b a → ⊥) → IsRunFor now a b run → HasRoom now.table now.log (3 * length run) → MovesRun old moved run a
     → note_of_arc a b ≡ note → Stores moved new 0 (note_word note) → entry_of a b ≡ entry
-    → Leaves new (entries_after moved ++ entry ∷ []) [] (vertex_word_after moved) → more ≡ set rows a (row rows a ++ b ∷ [])
-    → AddsArc now new a b × Keeps new more
+    → LeavesBeside new (entries_after moved ++ entry ∷ []) [] (vertex_word_after moved) → more ≡ set rows a (row rows a ++ b ∷ [])
+    → AddsArc now new a b × KeepsRows new more
 entered-now old now moved new rows more run a b note entry same k low fresh acyclic is room moves note-is stores entry-is leaves more-is =
     let back = sym same in
     let low' = subst (λ (s : Seen). (a < s.table.shape.items) × (b < s.table.shape.items)) back low in
@@ -203,13 +203,13 @@ entered-now old now moved new rows more run a b note entry same k low fresh acyc
     let is' = subst (λ (s : Seen). IsRunFor s a b run) back is in
     let room' = subst (λ (s : Seen). HasRoom s.table s.log (3 * length run)) back room in
     let stores' = subst (λ (n : NoteWord). Stores moved new 0 (note_word n)) (sym note-is) stores in
-    let leaves' = subst (λ (e : Entry). Leaves new (entries_after moved ++ e ∷ []) [] (vertex_word_after moved)) (sym entry-is) leaves in (
+    let leaves' = subst (λ (e : Entry). LeavesBeside new (entries_after moved ++ e ∷ []) [] (vertex_word_after moved)) (sym entry-is) leaves in (
       subst (λ (s : Seen). AddsArc s new a b) same (adds-arc old moved new rows run a b k low' fresh' acyclic' is' moves stores' leaves' room'),
-      subst (Keeps new) (sym more-is) (keeps-on old moved new rows run a b k low' fresh' acyclic' is' moves stores' leaves'),
+      subst (KeepsRows new) (sym more-is) (keeps-on old moved new rows run a b k low' fresh' acyclic' is' moves stores' leaves'),
     )
 
 -- a run has no more members than there are vertices
-pub run-short : (seen : Seen) (rows : List (List ℕ)) (a b : ℕ) (run : List ℕ) → Keeps seen rows → IsRunFor seen a b run → length run ≤ 524288
+pub run-short : (seen : Seen) (rows : List (List ℕ)) (a b : ℕ) (run : List ℕ) → KeepsRows seen rows → IsRunFor seen a b run → length run ≤ 524288
 run-short seen rows a b run k is =
     let short = below_bound seen.table.shape.items run (turn-distinct run (list_after seen.table seen.log) is.turn)
     (λ v m. listed-low seen.table seen.log k.legal v ((is.members v).0 m).1.first) in

@@ -3,9 +3,9 @@ use Rattle.std.proofs.Common.{◌≡◌, ◌<◌, ◌≤◌, ◌+◌, ℕ, true,
 use Rattle.std.proofs.lemmas.Bool.{cases_lt}
 use Rattle.std.proofs.lemmas.List.{take_more}
 use mathlib.Core.List.{IsPrefix}
-use Rattle.kc_distinct.specs.Lists.{Distinct, member}
-use Rattle.kc_distinct.proofs.Counting.{member-get_or, member-push_cases}
-use Rattle.kc_distinct.proofs.Members.{below_bound}
+use Rattle.kc_lists.specs.Lists.{Distinct, member}
+use Rattle.kc_lists.proofs.Counting.{member-get_or, member-push_cases}
+use Rattle.kc_lists.proofs.Members.{below_bound}
 use Rattle.kc_table.specs.declared.view.Event.{Event}
 use Rattle.kc_table.specs.Legal.{Legal}
 use Rattle.kc_table.specs.Log.{TableName}

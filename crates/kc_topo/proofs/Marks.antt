@@ -2,9 +2,9 @@
 use Rattle.std.proofs.Common.{◌≡◌, ◌≢◌, ◌<◌, ◌+◌, ℕ, Bool, true, false, List, [], ◌∷◌, ◌++◌, length, get_or, set, sym, ap, ◌∙◌, subst, arith, inl, inr}
 use Rattle.std.proofs.Common.{get_or-set_other, get_or-set_same, length-append, length-set}
 use Rattle.std.proofs.lemmas.Bool.{cases_eq}
-use Rattle.kc_distinct.specs.Lists.{Distinct, member}
-use Rattle.kc_distinct.proofs.Counting.{Distinct-push, member-push_cases, member-push_left}
-use Rattle.kc_distinct.proofs.Members.{Distinct-cut, member-append_right, member-head}
+use Rattle.kc_lists.specs.Lists.{Distinct, member}
+use Rattle.kc_lists.proofs.Counting.{Distinct-push, member-push_cases, member-push_left}
+use Rattle.kc_lists.proofs.Members.{Distinct-cut, member-append_right, member-head}
 use Rattle.kc_order.proofs.Orders.{same_test}
 use Rattle.kc_topo.specs.Searching.{IsMarked, Trail}
 

@@ -3,19 +3,19 @@ use Rattle.std.proofs.Common.{◌≡◌, ◌<◌, ◌≤◌, ℕ, zero, suc, tru
 use Rattle.std.proofs.lemmas.Bool.{cases_eq, false≢true, false_from_ne_true}
 use Rattle.std.proofs.lemmas.List.{length-replicate}
 use mathlib.Core.List.{IsPrefix}
-use Rattle.kc_distinct.specs.Lists.{Distinct, member}
-use Rattle.kc_distinct.proofs.Counting.{Distinct-push, member-push_cases, member-push_left}
-use Rattle.kc_distinct.proofs.Members.{member-append_right, member-head}
+use Rattle.kc_lists.specs.Lists.{Distinct, member}
+use Rattle.kc_lists.proofs.Counting.{Distinct-push, member-push_cases, member-push_left}
+use Rattle.kc_lists.proofs.Members.{member-append_right, member-head}
 use Rattle.kc_graph.specs.Rows.{row}
 use Rattle.kc_words.specs.declared.layout.TheConstants.{VERTICES}
 use Rattle.kc_table.specs.declared.view.Event.{Event}
 use Rattle.kc_table.specs.Legal.{Legal}
 use Rattle.kc_table.specs.Log.{PassSeen, Seen, TableName}
-use Rattle.kc_table.specs.State.{State}
+use Rattle.kc_table.specs.TableState.{TableState}
 use Rattle.kc_table.proofs.LegalLogs.{state_of-nil}
 use Rattle.kc_order.specs.Standing.{list_after}
 use Rattle.kc_topo.specs.Arcs.{StandOnce, arc_of, arcs_after, ascending, has_arc}
-use Rattle.kc_topo.specs.Dags.{IsDag, Keeps, OpensDag}
+use Rattle.kc_topo.specs.Dags.{IsDag, KeepsRows, OpensDag}
 
 -- what is among the ascending numbers below n is below n
 pub ascending-low : (n v : ℕ) → member v (ascending n) ≡ true → v < n
@@ -47,7 +47,7 @@ row-none (suc n) (suc a) = row-none n a
 
 -- where nothing was stored no arc was entered
 no-arcs : (table : TableName) → arcs_after table [] ≡ []
-no-arcs table = ap (λ (s : State). map arc_of s.entries) (state_of-nil table.shape table.opening)
+no-arcs table = ap (λ (s : TableState). map arc_of s.entries) (state_of-nil table.shape table.opening)
 
 -- the one prefix of the empty log is empty
 whole-empty : (prefix : List Event) → IsPrefix prefix [] → prefix ≡ []
@@ -65,13 +65,13 @@ module _ (words : TableName) (n : ℕ) (items : words.shape.items ≡ n) (fixed 
   }
 
   -- it keeps the empty rows
-  pub opens-keeps : (rows : List (List ℕ)) → rows ≡ replicate n [] → Keeps (record { table = words; log = [] }) rows
+  pub opens-keeps : (rows : List (List ℕ)) → rows ≡ replicate n [] → KeepsRows (record { table = words; log = [] }) rows
   opens-keeps rows are = record {
     dag = λ prefix p. subst (IsDag words) (sym (whole-empty prefix p)) begins;
     legal = legal;
     free = fixed;
     few = omega (arith, items, few);
-    closed = ap (λ (s : State). s.unsealed) (state_of-nil words.shape words.opening);
+    closed = ap (λ (s : TableState). s.unsealed) (state_of-nil words.shape words.opening);
     long = ap length are ∙ (length-replicate {A = List ℕ} n [] ∙ sym items);
     rows_are = λ a b. ap (λ rs. member b (row rs a)) are ∙ (ap (member b) (row-none n a) ∙ ap (λ zs. has_arc zs a b) (sym (no-arcs words)));
   }

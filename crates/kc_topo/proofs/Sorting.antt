@@ -4,9 +4,9 @@ use Rattle.std.proofs.Common.{true≢false}
 use Rattle.std.specs.List.Sorted.{IsNonDecreasingBy, IsPermutation}
 use Rattle.std.proofs.lemmas.Bool.{false_from_ne_true}
 use Rattle.std.proofs.lemmas.List.Sorted.{sum_by-IsPermutation}
-use Rattle.kc_distinct.specs.Lists.{Distinct, member, place_of, times}
-use Rattle.kc_distinct.proofs.Members.{member-head, member-tail, place_of-none}
-use Rattle.kc_distinct.proofs.Counting.{times_distinct, distinct_times}
+use Rattle.kc_lists.specs.Lists.{Distinct, member, place_of, times}
+use Rattle.kc_lists.proofs.Members.{member-head, member-tail, place_of-none}
+use Rattle.kc_lists.proofs.Counting.{times_distinct, distinct_times}
 use Rattle.kc_table.specs.declared.view.Event.{Event}
 use Rattle.kc_table.specs.Legal.{Legal}
 use Rattle.kc_table.specs.Log.{TableName}

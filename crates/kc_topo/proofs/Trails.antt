@@ -3,9 +3,9 @@ use Rattle.std.proofs.Common.{◌≡◌, ◌<◌, ◌+◌, ◌↔◌, ℕ, zero,
 use Rattle.std.proofs.Common.{inl, inr, length-append}
 use Rattle.std.proofs.lemmas.Bool.{cases_eq, cases_lt, false≢true}
 use mathlib.Core.List.{IsPrefix}
-use Rattle.kc_distinct.specs.Lists.{member, place_of}
-use Rattle.kc_distinct.proofs.Counting.{member-get_or, member-push_cases}
-use Rattle.kc_distinct.proofs.Members.{member-append_left}
+use Rattle.kc_lists.specs.Lists.{member, place_of}
+use Rattle.kc_lists.proofs.Counting.{member-get_or, member-push_cases}
+use Rattle.kc_lists.proofs.Members.{member-append_left}
 use Rattle.kc_table.specs.Log.{Seen}
 use Rattle.kc_order.specs.Runs.{InListOrder}
 use Rattle.kc_order.specs.Standing.{StandsBefore, list_after}

@@ -1,8 +1,8 @@
 -- Walks along arcs, in a list that is topological for them.
 use Rattle.std.proofs.Common.{◌≡◌, ◌≢◌, ◌<◌, ◌⊎◌, ℕ, true, List, [], ◌∷◌, ◌++◌, length, get_or, refl, sym, ap, ◌∙◌, subst, arith, inl, inr}
 use Rattle.std.proofs.lemmas.Bool.{cases_eq, cases_lt, false≢true}
-use Rattle.kc_distinct.specs.Lists.{member, place_of}
-use Rattle.kc_distinct.proofs.Members.{member-cases, place_of-first, place_of-next}
+use Rattle.kc_lists.specs.Lists.{member, place_of}
+use Rattle.kc_lists.proofs.Members.{member-cases, place_of-first, place_of-next}
 use Rattle.kc_order.specs.Standing.{StandsBefore}
 use Rattle.kc_order.proofs.Orders.{stands-once}
 use Rattle.kc_topo.specs.Arcs.{IsTopological, LeadsTo, Reaches, has_arc}

@@ -5,7 +5,7 @@ use Rattle.kc_words.specs.declared.note.NoteWord.TheVariants.{Enter}
 use Rattle.kc_table.specs.declared.entry.Entry.{Entry}
 use Rattle.kc_table.specs.declared.view.Event.{Event}
 use Rattle.kc_table.specs.Log.{TableName}
-use Rattle.kc_table.specs.State.{state_of}
+use Rattle.kc_table.specs.TableState.{state_of}
 use Rattle.kc_order.specs.Standing.{StandsBefore}
 
 -- The arc that an entry stands for. The entry names the lesser end first; it adds where the arc leads to the greater end.

@@ -1,7 +1,7 @@
 -- What contracts see of an acyclic graph whose arcs a table's log has entered, and what adding an arc does.
 use Rattle.std.specs.Prelude.{◌≡◌, ◌<◌, ◌≤◌, ◌+◌, ◌*◌, ◌++◌, ◌↔◌, ℕ, List, [], ◌∷◌, true, false, length}
 use mathlib.Core.List.{IsPrefix}
-use Rattle.kc_distinct.specs.Lists.{member}
+use Rattle.kc_lists.specs.Lists.{member}
 use Rattle.kc_graph.specs.Rows.{row}
 use Rattle.kc_words.specs.NoteWord.{note_word}
 use Rattle.kc_words.specs.declared.layout.TheConstants.{LAST_VERSION, VERTICES}
@@ -106,7 +106,7 @@ pub record OpensDag (vertices : ℕ) (words : TableName) (arcs : Seen) (pass : P
   pub list : list_after words [] ≡ ascending vertices
 
 -- What the code keeps beside the log: the rows of the vertices that arcs lead to from each vertex. Nothing is left open.
-pub record Keeps (seen : Seen) (rows : List (List ℕ)) : Type 0 where
+pub record KeepsRows (seen : Seen) (rows : List (List ℕ)) : Type 0 where
   pub dag : IsDagAlong seen.table seen.log
   pub legal : Legal seen.table.shape seen.table.opening seen.log
   pub free : seen.table.shape.fixed ≡ 0

@@ -1,6 +1,6 @@
 -- A search that goes on from the vertices that it has reached, each of them by an arc from one that it reached before.
 use Rattle.std.specs.Prelude.{◌≡◌, ◌≢◌, ◌<◌, ℕ, Bool, true, false, List, length, slice_index, slice_index_or}
-use Rattle.kc_distinct.specs.Lists.{Distinct, member}
+use Rattle.kc_lists.specs.Lists.{Distinct, member}
 use Rattle.kc_order.specs.Standing.{StandsBefore}
 use Rattle.kc_topo.specs.Arcs.{has_arc}
 

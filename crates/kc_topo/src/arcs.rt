@@ -36,13 +36,13 @@ pub struct Arcs {
 impl Model for Arcs {
     ghost use Rattle.std.specs.Prelude.{◌≡◌, []};
     ghost use Rattle.kc_table.specs.Log.{Seen};
-    ghost use Rattle.kc_topo.specs.Dags.{Keeps};
+    ghost use Rattle.kc_topo.specs.Dags.{KeepsRows};
 
     ghost Value = { Seen };
 
     ghost view = { λ s. s.writer };
 
-    ghost invariant = { λ s. Keeps s.writer s.successors × (s.reached ≡ record { vertices = []; parents = []; size = s.writer.table.shape.items }) };
+    ghost invariant = { λ s. KeepsRows s.writer s.successors × (s.reached ≡ record { vertices = []; parents = []; size = s.writer.table.shape.items }) };
 }
 
 impl Arcs {

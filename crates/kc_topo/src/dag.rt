@@ -20,13 +20,13 @@ use std::sync::{Mutex, Wait};
 
 /// The value behind the lock: the arcs of K's table.
 #[derive(Drop)]
-struct Kept<K: Name> {
+struct LockedArcs<K: Name> {
     arcs: Arcs,
     of: PhantomData<K>,
-    ghost of_table: { arcs.table ≡ K.table },
+    ghost of_table: { arcs.table ≡ K.opened.table },
 }
 
-impl<K: Name> Kept<K> {
+impl<K: Name> LockedArcs<K> {
     /// One arc and nothing else, or no store; and the pass is told the log.
     fn add(
         &mut self,
@@ -36,31 +36,31 @@ impl<K: Name> Kept<K> {
         a: u32,
         b: u32,
     ) -> Result<Added, DagFault>
-        requires table { (pass.old.table ≡ K.table) × (words.now ≡ K.table) }
-        requires vertices { (a < K.table.shape.items) × (b < K.table.shape.items) }
+        requires table { (pass.old.table ≡ K.opened.table) × (words.now ≡ K.opened.table) }
+        requires vertices { (a < K.opened.table.shape.items) × (b < K.opened.table.shape.items) }
         ensures alone { MatchResult result (IsAdded self.old.arcs self.new.arcs a b) (λ fault. self.new.arcs ≡ self.old.arcs) }
         ensures told { pass.new.log ≡ self.new.arcs.log }
-        ensures table { pass.new.table ≡ K.table }
+        ensures table { pass.new.table ≡ K.opened.table }
         ensures anew { (pass.new.loads ≡ 0) × (pass.new.splits ≡ 0) }
         ensures longer { IsPrefix pass.old.log pass.new.log }
-        ensures dag { IsDagAlong K.table pass.new.log }
-        ensures added { IfOk result (IsAddedSince K.table pass.old.log pass.new.log a b) }
-        ensures refused { IfErr result (IsRefused (record { table = K.table; log = pass.new.log }) a b) }
+        ensures dag { IsDagAlong K.opened.table pass.new.log }
+        ensures added { IfOk result (IsAddedSince K.opened.table pass.old.log pass.new.log a b) }
+        ensures refused { IfErr result (IsRefused (record { table = K.opened.table; log = pass.new.log }) a b) }
     {
         self.arcs.add(alloc, words, pass, a, b)
     }
 
     /// Whether the arc stands; the pass is told the log, and nothing is stored.
     fn arc(&mut self, words: &Words, pass: &mut Pass, a: u32, b: u32) -> bool
-        requires table { (pass.old.table ≡ K.table) × (words.now ≡ K.table) }
-        requires vertices { (a < K.table.shape.items) × (b < K.table.shape.items) }
+        requires table { (pass.old.table ≡ K.opened.table) × (words.now ≡ K.opened.table) }
+        requires vertices { (a < K.opened.table.shape.items) × (b < K.opened.table.shape.items) }
         ensures same { self.new.arcs ≡ self.old.arcs }
         ensures told { pass.new.log ≡ self.new.arcs.log }
-        ensures table { pass.new.table ≡ K.table }
+        ensures table { pass.new.table ≡ K.opened.table }
         ensures anew { (pass.new.loads ≡ 0) × (pass.new.splits ≡ 0) }
         ensures longer { IsPrefix pass.old.log pass.new.log }
-        ensures dag { IsDagAlong K.table pass.new.log }
-        ensures arc { result ≡ has_arc (arcs_after K.table pass.new.log) a b }
+        ensures dag { IsDagAlong K.opened.table pass.new.log }
+        ensures arc { result ≡ has_arc (arcs_after K.opened.table pass.new.log) a b }
     {
         self.arcs.tell(words, pass);
         self.arcs.has(a, b)
@@ -71,18 +71,18 @@ impl<K: Name> Kept<K> {
 #[derive(Drop)]
 pub struct Dag<K: Name> {
     words: Words,
-    kept: Mutex<Kept<K>>,
-    ghost of_table: { words ≡ K.table },
+    kept: Mutex<LockedArcs<K>>,
+    ghost of_table: { words ≡ K.opened.table },
 }
 
 impl<K: Name> Dag<K> {
     /// The graph of K's table. It takes no memory.
     pub fn new(words: Words, arcs: Arcs) -> Dag<K>
-        requires { (words ≡ K.table) × (arcs.table ≡ K.table) }
+        requires { (words ≡ K.opened.table) × (arcs.table ≡ K.opened.table) }
     {
         Dag {
             words,
-            kept: Mutex::new(Kept {
+            kept: Mutex::new(LockedArcs {
                 arcs,
                 of: PhantomData,
             }),
@@ -91,7 +91,7 @@ impl<K: Name> Dag<K> {
 
     /// The words, for loads and passes.
     pub fn words(&self) -> &Words
-        ensures { result.now ≡ K.table }
+        ensures { result.now ≡ K.opened.table }
     {
         &self.words
     }
@@ -112,14 +112,14 @@ impl<K: Name> Dag<K> {
         a: u32,
         b: u32,
     ) -> Result<Added, DagFault>
-        requires table { pass.old.table ≡ K.table }
-        requires vertices { (a < K.table.shape.items) × (b < K.table.shape.items) }
-        ensures table { pass.new.table ≡ K.table }
+        requires table { pass.old.table ≡ K.opened.table }
+        requires vertices { (a < K.opened.table.shape.items) × (b < K.opened.table.shape.items) }
+        ensures table { pass.new.table ≡ K.opened.table }
         ensures anew { (pass.new.loads ≡ 0) × (pass.new.splits ≡ 0) }
         ensures longer { IsPrefix pass.old.log pass.new.log }
-        ensures dag { IsDagAlong K.table pass.new.log }
-        ensures added { IfOk result (IsAddedSince K.table pass.old.log pass.new.log a b) }
-        ensures refused { IfErr result (IsRefused (record { table = K.table; log = pass.new.log }) a b) }
+        ensures dag { IsDagAlong K.opened.table pass.new.log }
+        ensures added { IfOk result (IsAddedSince K.opened.table pass.old.log pass.new.log a b) }
+        ensures refused { IfErr result (IsRefused (record { table = K.opened.table; log = pass.new.log }) a b) }
     {
         self.kept.lock(rt).add(alloc, &self.words, pass, a, b)
     }
@@ -131,13 +131,13 @@ impl<K: Name> Dag<K> {
     /// whose `dag` speaks of each prefix of the log that it tells. With such a log `tells` gives it for this answer. A pass that never
     /// takes the lock learns it of no answer.
     pub fn precedes(&self, pass: &mut Pass, x: u32, y: u32) -> Answer
-        requires table { pass.old.table ≡ K.table }
-        requires vertices { (x < K.table.shape.items) × (y < K.table.shape.items) }
-        ensures table { pass.new.table ≡ K.table }
+        requires table { pass.old.table ≡ K.opened.table }
+        requires vertices { (x < K.opened.table.shape.items) × (y < K.opened.table.shape.items) }
+        ensures table { pass.new.table ≡ K.opened.table }
         ensures longer { IsPrefix pass.old.log pass.new.log }
         ensures answer { Compares pass.old pass.new x y result }
-        ensures tells { (log : List Event) → IsPrefix pass.new.log log → IsDagAlong K.table log
-            → TellsOfDag K.table pass.old.log pass.new.log x y result }
+        ensures tells { (log : List Event) → IsPrefix pass.new.log log → IsDagAlong K.opened.table log
+            → TellsOfDag K.opened.table pass.old.log pass.new.log x y result }
     {
         precedes(&self.words, pass, x, y)
     }
@@ -145,13 +145,13 @@ impl<K: Name> Dag<K> {
     /// Whether the arc from `a` to `b` stands, under the lock, where the pass is told the log. What is said of other changes at `add` is
     /// so here too.
     pub fn arc<R: Wait>(&self, rt: &R, pass: &mut Pass, a: u32, b: u32) -> bool
-        requires table { pass.old.table ≡ K.table }
-        requires vertices { (a < K.table.shape.items) × (b < K.table.shape.items) }
-        ensures table { pass.new.table ≡ K.table }
+        requires table { pass.old.table ≡ K.opened.table }
+        requires vertices { (a < K.opened.table.shape.items) × (b < K.opened.table.shape.items) }
+        ensures table { pass.new.table ≡ K.opened.table }
         ensures anew { (pass.new.loads ≡ 0) × (pass.new.splits ≡ 0) }
         ensures longer { IsPrefix pass.old.log pass.new.log }
-        ensures dag { IsDagAlong K.table pass.new.log }
-        ensures arc { result ≡ has_arc (arcs_after K.table pass.new.log) a b }
+        ensures dag { IsDagAlong K.opened.table pass.new.log }
+        ensures arc { result ≡ has_arc (arcs_after K.opened.table pass.new.log) a b }
     {
         self.kept.lock(rt).arc(&self.words, pass, a, b)
     }

@@ -1,6 +1,6 @@
 //! The vertices that a search has reached.
 ghost use Rattle.std.specs.Prelude.{◌≡◌, ◌<◌, ◌++◌, ◌∷◌, ℕ, [], true, false, length, slice_index, IfOk, OnOk, OnErr};
-ghost use Rattle.kc_distinct.specs.Lists.{Distinct, member};
+ghost use Rattle.kc_lists.specs.Lists.{Distinct, member};
 
 use crate::NoMemory;
 use std::alloc::Global;

@@ -2,12 +2,12 @@
 ghost use Rattle.std.specs.Prelude.{◌≡◌, ◌≢◌, ◌<◌, ℕ, [], true, false, length, slice_index, IfOk, IfErr, OnOk, MatchBool, MatchOption};
 ghost use Rattle.std.specs.Ordering.{nat_cmp};
 ghost use mathlib.Core.List.{IsPrefix};
-ghost use Rattle.kc_distinct.specs.Lists.{Distinct, member, place_of};
+ghost use Rattle.kc_lists.specs.Lists.{Distinct, member, place_of};
 ghost use Rattle.kc_table.specs.Legal.{Legal};
 ghost use Rattle.kc_order.specs.Runs.{InListOrder};
 ghost use Rattle.kc_order.specs.Standing.{StandsBefore, list_after};
 ghost use Rattle.kc_topo.specs.Arcs.{IsWalk, Reaches, arcs_after, has_arc};
-ghost use Rattle.kc_topo.specs.Dags.{IsDag, IsRefused, IsRunFor, Keeps};
+ghost use Rattle.kc_topo.specs.Dags.{IsDag, IsRefused, IsRunFor, KeepsRows};
 ghost use Rattle.kc_topo.specs.Searching.{AreSettled, IsSettled, IsTrail};
 
 use crate::NoMemory;
@@ -27,7 +27,7 @@ pub(crate) fn find_run(
     a: u32,
     b: u32,
 ) -> Result<Vec<u32>, DagFault>
-    requires keeps { Keeps writer.now successors.now }
+    requires keeps { KeepsRows writer.now successors.now }
     requires none { reached.old ≡ record { vertices = []; parents = []; size = writer.now.table.shape.items } }
     requires before { StandsBefore b a (list_after writer.now.table writer.now.log) }
     requires fresh { has_arc (arcs_after writer.now.table writer.now.log) a b ≡ false }
@@ -52,7 +52,7 @@ fn search(
     a: u32,
     b: u32,
 ) -> Result<Option<usize>, NoMemory>
-    requires keeps { Keeps writer.now successors.now }
+    requires keeps { KeepsRows writer.now successors.now }
     requires none { reached.old ≡ record { vertices = []; parents = []; size = writer.now.table.shape.items } }
     requires before { StandsBefore b a (list_after writer.now.table writer.now.log) }
     ensures size { reached.new.size ≡ reached.old.size }

@@ -17,9 +17,9 @@ pub(crate) fn add<K: Name, R: Wait + Abort + AllocGlobal>(
     arc: (u32, u32),
     wanted: Added,
 )
-    requires table { pass.old.table ≡ K.table }
-    requires vertices { (arc.0 < K.table.shape.items) × (arc.1 < K.table.shape.items) }
-    ensures { pass.new.table ≡ K.table }
+    requires table { pass.old.table ≡ K.opened.table }
+    requires vertices { (arc.0 < K.opened.table.shape.items) × (arc.1 < K.opened.table.shape.items) }
+    ensures { pass.new.table ≡ K.opened.table }
 {
     let Ok(added) = dag.add(rt, rt.alloc(), pass, arc.0, arc.1) else {
         panic!(rt; "the arc closes no cycle");
@@ -35,9 +35,9 @@ fn refuse<K: Name, R: Wait + Abort + AllocGlobal>(
     arc: (u32, u32),
     wanted: &[u32],
 )
-    requires table { pass.old.table ≡ K.table }
-    requires vertices { (arc.0 < K.table.shape.items) × (arc.1 < K.table.shape.items) }
-    ensures { pass.new.table ≡ K.table }
+    requires table { pass.old.table ≡ K.opened.table }
+    requires vertices { (arc.0 < K.opened.table.shape.items) × (arc.1 < K.opened.table.shape.items) }
+    ensures { pass.new.table ≡ K.opened.table }
 {
     let Err(DagFault::Cycle { walk }) = dag.add(rt, rt.alloc(), pass, arc.0, arc.1) else {
         panic!(rt; "the arc closes a cycle");
@@ -47,9 +47,9 @@ fn refuse<K: Name, R: Wait + Abort + AllocGlobal>(
 
 /// Three vertices stand in this order.
 fn stand<K: Name, R: Abort>(rt: &R, dag: &Dag<K>, pass: &mut Pass, order: (u32, u32, u32))
-    requires table { pass.old.table ≡ K.table }
-    requires vertices { (order.0 < K.table.shape.items) × (order.1 < K.table.shape.items) × (order.2 < K.table.shape.items) }
-    ensures { pass.new.table ≡ K.table }
+    requires table { pass.old.table ≡ K.opened.table }
+    requires vertices { (order.0 < K.opened.table.shape.items) × (order.1 < K.opened.table.shape.items) × (order.2 < K.opened.table.shape.items) }
+    ensures { pass.new.table ≡ K.opened.table }
 {
     assert_eq!(rt; dag.precedes(pass, order.0, order.1), Answer::Before);
     assert_eq!(rt; dag.precedes(pass, order.1, order.2), Answer::Before);
@@ -63,8 +63,8 @@ fn three_vertices<K: Name, R: Wait + Abort + AllocGlobal>(
     arcs: Arcs,
     mut pass: Pass,
 )
-    requires table { (words ≡ K.table) × (arcs.table ≡ K.table) × (pass.table ≡ K.table) }
-    requires shape { K.table.shape.items ≡ 3 }
+    requires table { (words ≡ K.opened.table) × (arcs.table ≡ K.opened.table) × (pass.table ≡ K.opened.table) }
+    requires shape { K.opened.table.shape.items ≡ 3 }
 {
     let dag = Dag::<K>::new(words, arcs);
     add(rt, &dag, &mut pass, (2, 0), Added::New);

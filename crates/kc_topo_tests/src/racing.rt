@@ -20,7 +20,7 @@ const LAST: u32 = 999;
 struct Over<K: Name> {
     pass: Pass,
     of: PhantomData<K>,
-    ghost of_table: { pass.table ≡ K.table },
+    ghost of_table: { pass.table ≡ K.opened.table },
 }
 
 /// The pass of the thread that adds, once it has ended.
@@ -33,8 +33,8 @@ fn add_all<K: Name, R: Wait + Abort + AllocGlobal>(
     ended: &Ended<K>,
     mut pass: Pass,
 )
-    requires table { pass.table ≡ K.table }
-    requires vertices { LAST < K.table.shape.items }
+    requires table { pass.table ≡ K.opened.table }
+    requires vertices { LAST < K.opened.table.shape.items }
 {
     for k in 0..LAST {
         add(rt, dag, &mut pass, (k + 1, k), Added::New);
@@ -47,9 +47,9 @@ fn add_all<K: Name, R: Wait + Abort + AllocGlobal>(
 
 /// Both ends are in the list, however they stand.
 fn compare<K: Name, R: Abort>(rt: &R, dag: &Dag<K>, pass: &mut Pass)
-    requires table { pass.old.table ≡ K.table }
-    requires vertices { LAST < K.table.shape.items }
-    ensures { pass.new.table ≡ K.table }
+    requires table { pass.old.table ≡ K.opened.table }
+    requires vertices { LAST < K.opened.table.shape.items }
+    ensures { pass.new.table ≡ K.opened.table }
 {
     match dag.precedes(pass, 0, LAST) {
         Answer::Before | Answer::After | Answer::Again(_) => {}
@@ -59,8 +59,8 @@ fn compare<K: Name, R: Abort>(rt: &R, dag: &Dag<K>, pass: &mut Pass)
 
 /// After all arcs the ends have changed places.
 fn compare_at_rest<K: Name, R: Abort>(rt: &R, dag: &Dag<K>, mut pass: Pass, over: Over<K>)
-    requires table { pass.table ≡ K.table }
-    requires vertices { LAST < K.table.shape.items }
+    requires table { pass.table ≡ K.opened.table }
+    requires vertices { LAST < K.opened.table.shape.items }
 {
     let Over { pass: other, .. } = over;
     meet(dag.words(), &mut pass, other);
@@ -69,8 +69,8 @@ fn compare_at_rest<K: Name, R: Abort>(rt: &R, dag: &Dag<K>, mut pass: Pass, over
 
 /// Compares until all arcs were added, and once more when it has seen them.
 fn compare_all<K: Name, R: Wait + Abort>(rt: &R, dag: &Dag<K>, ended: &Ended<K>, mut pass: Pass)
-    requires table { pass.table ≡ K.table }
-    requires vertices { LAST < K.table.shape.items }
+    requires table { pass.table ≡ K.opened.table }
+    requires vertices { LAST < K.opened.table.shape.items }
 {
     for _ in rt.forever() {
         compare(rt, dag, &mut pass);
@@ -88,8 +88,8 @@ fn race<K: Name + Send + Sync, R: Threads + Wait + Abort + AllocGlobal + Sync>(
     arcs: Arcs,
     mut pass: Pass,
 )
-    requires table { (words ≡ K.table) × (arcs.table ≡ K.table) × (pass.table ≡ K.table) }
-    requires vertices { LAST < K.table.shape.items }
+    requires table { (words ≡ K.opened.table) × (arcs.table ≡ K.opened.table) × (pass.table ≡ K.opened.table) }
+    requires vertices { LAST < K.opened.table.shape.items }
 {
     let dag = &Dag::<K>::new(words, arcs);
     let ended = &Mutex::new(None);
@@ -97,10 +97,10 @@ fn race<K: Name + Send + Sync, R: Threads + Wait + Abort + AllocGlobal + Sync>(
     thread::join(
         rt,
         move ||
-            requires { (other.table ≡ K.table) × (LAST < K.table.shape.items) }
+            requires { (other.table ≡ K.opened.table) × (LAST < K.opened.table.shape.items) }
         { add_all(rt, dag, ended, other) },
         move ||
-            requires { (pass.table ≡ K.table) × (LAST < K.table.shape.items) }
+            requires { (pass.table ≡ K.opened.table) × (LAST < K.opened.table.shape.items) }
         { compare_all(rt, dag, ended, pass) },
     );
 }

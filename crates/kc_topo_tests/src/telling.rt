@@ -21,7 +21,7 @@ struct Told<K: Name> {
     arcs: u32,
     pass: Pass,
     of: PhantomData<K>,
-    ghost of_table: { pass.table ≡ K.table },
+    ghost of_table: { pass.table ≡ K.opened.table },
 }
 
 /// Where the thread that adds tells the others.
@@ -34,8 +34,8 @@ fn add_and_tell<K: Name, R: Wait + Abort + AllocGlobal>(
     board: &Board<K>,
     mut pass: Pass,
 )
-    requires table { pass.table ≡ K.table }
-    requires vertices { LAST < K.table.shape.items }
+    requires table { pass.table ≡ K.opened.table }
+    requires vertices { LAST < K.opened.table.shape.items }
 {
     for k in 0..LAST {
         add(rt, dag, &mut pass, (k + 1, k), Added::New);
@@ -49,8 +49,8 @@ fn add_and_tell<K: Name, R: Wait + Abort + AllocGlobal>(
 
 /// Takes in what was told, and gives how many arcs that is.
 fn hear<K: Name, R: Wait>(rt: &R, dag: &Dag<K>, board: &Board<K>, pass: &mut Pass) -> u32
-    requires { pass.old.table ≡ K.table }
-    ensures { pass.new.table ≡ K.table }
+    requires { pass.old.table ≡ K.opened.table }
+    ensures { pass.new.table ≡ K.opened.table }
 {
     let mut told = board.lock(rt);
     let other = split(dag.words(), &mut told.pass);
@@ -60,9 +60,9 @@ fn hear<K: Name, R: Wait>(rt: &R, dag: &Dag<K>, board: &Board<K>, pass: &mut Pas
 
 /// An arc that was told of: no sure answer has it turned, whatever moves meanwhile.
 fn compare<K: Name, R: Abort>(rt: &R, dag: &Dag<K>, pass: &mut Pass, k: u32)
-    requires table { pass.old.table ≡ K.table }
-    requires vertices { k < LAST × (LAST < K.table.shape.items) }
-    ensures { pass.new.table ≡ K.table }
+    requires table { pass.old.table ≡ K.opened.table }
+    requires vertices { k < LAST × (LAST < K.opened.table.shape.items) }
+    ensures { pass.new.table ≡ K.opened.table }
 {
     match dag.precedes(pass, k + 1, k) {
         Answer::Before | Answer::Again(_) => {}
@@ -72,8 +72,8 @@ fn compare<K: Name, R: Abort>(rt: &R, dag: &Dag<K>, pass: &mut Pass, k: u32)
 
 /// Compares the ends of all arcs that it is told of, until these are all that there are.
 fn compare_told<K: Name, R: Wait + Abort>(rt: &R, dag: &Dag<K>, board: &Board<K>, mut pass: Pass)
-    requires table { pass.table ≡ K.table }
-    requires vertices { LAST < K.table.shape.items }
+    requires table { pass.table ≡ K.opened.table }
+    requires vertices { LAST < K.opened.table.shape.items }
 {
     for _ in rt.forever() {
         let told = hear(rt, dag, board, &mut pass).min(LAST);
@@ -93,18 +93,18 @@ fn compare_by_three<K: Name + Send + Sync, R: Threads + Wait + Abort + Sync>(
     board: &Board<K>,
     mut pass: Pass,
 )
-    requires table { pass.table ≡ K.table }
-    requires vertices { LAST < K.table.shape.items }
+    requires table { pass.table ≡ K.opened.table }
+    requires vertices { LAST < K.opened.table.shape.items }
 {
     let second = split(dag.words(), &mut pass);
     let third = split(dag.words(), &mut pass);
     thread::join(
         rt,
         move ||
-            requires { (pass.table ≡ K.table) × (LAST < K.table.shape.items) }
+            requires { (pass.table ≡ K.opened.table) × (LAST < K.opened.table.shape.items) }
         { compare_told(rt, dag, board, pass) },
         move ||
-            requires { (second.table ≡ K.table) × (third.table ≡ K.table) × (LAST < K.table.shape.items) }
+            requires { (second.table ≡ K.opened.table) × (third.table ≡ K.opened.table) × (LAST < K.opened.table.shape.items) }
         { compare_by_two(rt, dag, board, second, third) },
     );
 }
@@ -117,16 +117,16 @@ fn compare_by_two<K: Name + Send + Sync, R: Threads + Wait + Abort + Sync>(
     pass: Pass,
     other: Pass,
 )
-    requires table { (pass.table ≡ K.table) × (other.table ≡ K.table) }
-    requires vertices { LAST < K.table.shape.items }
+    requires table { (pass.table ≡ K.opened.table) × (other.table ≡ K.opened.table) }
+    requires vertices { LAST < K.opened.table.shape.items }
 {
     thread::join(
         rt,
         move ||
-            requires { (pass.table ≡ K.table) × (LAST < K.table.shape.items) }
+            requires { (pass.table ≡ K.opened.table) × (LAST < K.opened.table.shape.items) }
         { compare_told(rt, dag, board, pass) },
         move ||
-            requires { (other.table ≡ K.table) × (LAST < K.table.shape.items) }
+            requires { (other.table ≡ K.opened.table) × (LAST < K.opened.table.shape.items) }
         { compare_told(rt, dag, board, other) },
     );
 }
@@ -137,8 +137,8 @@ fn tell_three<K: Name + Send + Sync, R: Threads + Wait + Abort + AllocGlobal + S
     arcs: Arcs,
     mut pass: Pass,
 )
-    requires table { (words ≡ K.table) × (arcs.table ≡ K.table) × (pass.table ≡ K.table) }
-    requires vertices { LAST < K.table.shape.items }
+    requires table { (words ≡ K.opened.table) × (arcs.table ≡ K.opened.table) × (pass.table ≡ K.opened.table) }
+    requires vertices { LAST < K.opened.table.shape.items }
 {
     let dag = &Dag::<K>::new(words, arcs);
     let adding = split(dag.words(), &mut pass);
@@ -151,10 +151,10 @@ fn tell_three<K: Name + Send + Sync, R: Threads + Wait + Abort + AllocGlobal + S
     thread::join(
         rt,
         move ||
-            requires { (adding.table ≡ K.table) × (LAST < K.table.shape.items) }
+            requires { (adding.table ≡ K.opened.table) × (LAST < K.opened.table.shape.items) }
         { add_and_tell(rt, dag, board, adding) },
         move ||
-            requires { (comparing.table ≡ K.table) × (LAST < K.table.shape.items) }
+            requires { (comparing.table ≡ K.opened.table) × (LAST < K.opened.table.shape.items) }
         { compare_by_three(rt, dag, board, comparing) },
     );
 }

@@ -1,8 +1,8 @@
 -- Counts of neighbours in a search.
 use Rattle.std.proofs.Common.{◌≡◌, ◌≢◌, ◌≤◌, ◌<◌, ◌+◌, ℕ, Bool, true, false, ◌&&◌, inl, inr, arith}
 use Rattle.std.proofs.lemmas.Bool.{cases_Bool, and_parts, and_from}
-use Rattle.kc_distinct.specs.Lists.{below}
-use Rattle.kc_distinct.proofs.Counting.{member-below, below-member, Distinct-below, count-agree, count-mono, one_if}
+use Rattle.kc_lists.specs.Lists.{below}
+use Rattle.kc_lists.proofs.Counting.{member-below, below-member, Distinct-below, count-agree, count-mono, one_if}
 use Rattle.kc_cert.proofs.Sums.{count-one-in, count-some, count-sum}
 use Rattle.kc_view.specs.Search.{Search, among}
 

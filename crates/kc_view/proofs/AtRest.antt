@@ -4,8 +4,8 @@ use Rattle.std.proofs.Common.{◌^◌, arith, true≢false}
 use Rattle.std.specs.List.Sorted.{IsStrictlyIncreasing}
 use Rattle.std.proofs.lemmas.Bool.{false_from_ne_true}
 use Rattle.std.proofs.lemmas.List.Elements.{All-weaker}
-use Rattle.kc_distinct.specs.Lists.{member, place_of}
-use Rattle.kc_distinct.proofs.Counting.{member-get_or}
+use Rattle.kc_lists.specs.Lists.{member, place_of}
+use Rattle.kc_lists.proofs.Counting.{member-get_or}
 use Rattle.kc_graph.specs.SimpleGraph.{SimpleGraph}
 use Rattle.kc_graph.specs.Lawful.{Ranked}
 use Rattle.kc_graph.specs.Neighbours.{AreNeighbours, neighbours_of}
@@ -19,7 +19,7 @@ use Rattle.kc_view.specs.Lists.{IsListOf, AreLists}
 use Rattle.kc_view.specs.Plain.{Resting, KeepsAnswers, shown_at_rest}
 use Rattle.kc_view.specs.Views.{Further, GoesOn}
 use Rattle.kc_view.proofs.Keeping.{core-true}
-use Rattle.kc_view.proofs.Marking.{Further-list, Further-place, Further-order, keeps_list, keeps_place, keeps_order, mark_is_list, mark_is_core}
+use Rattle.kc_view.proofs.Marking.{Further-list, Further-place, Further-order, keeps_list, keeps_place, keeps_order, mark_tells}
 use Rattle.kc_view.proofs.Marking.{few_neighbours, same_neighbours, TellsNewList, TellsNewCore, tells_new_list, tells_new_core}
 
 -- a rising list ascends from place to place
@@ -102,11 +102,11 @@ module _ {s : Ranked} {a : Answers} {handed : ℕ} {listed placed : List Bool} {
 
   -- the mark of a vertex says whether its list was told
   list_mark : (w : ℕ) (b : Bool) → w < seen.state.graph.size → b ≡ get_or listed w b → has_list a w ≡ b
-  list_mark w b here mark = sym (mark_is_list s a listed placed w b keeps (seen_below w here) mark)
+  list_mark w b here mark = sym (mark_tells listed (has_list a) w b (omega (arith, keeps.one_each, seen_below w here)) keeps.lists mark)
 
   -- the mark of a vertex says whether its core number was told
   core_mark : (w : ℕ) (b : Bool) → w < seen.state.graph.size → b ≡ get_or placed w b → has_core a w ≡ b
-  core_mark w b here mark = sym (mark_is_core s a listed placed w b keeps (seen_below w here) mark)
+  core_mark w b here mark = sym (mark_tells placed (has_core a) w b (omega (arith, keeps.one_each_too, seen_below w here)) keeps.places mark)
 
   -- a vertex that has no mark is told its list, which is kept
   pub first_list : {graph : SimpleGraph} (e : UsedEdges) (b : Bool) → e.vertex < seen.state.graph.size → graph ≡ s.graph

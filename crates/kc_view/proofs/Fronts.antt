@@ -2,8 +2,8 @@
 use Rattle.std.proofs.Common.{◌≡◌, ℕ, suc, zero, true, List, [], ◌∷◌, ◌++◌, take, eqb, refl, ap, inl, inr, eq-eqb}
 use Rattle.std.proofs.lemmas.Bool.{false≢true, or_left}
 use Rattle.kc_cert.specs.Local.{firsts, seconds}
-use Rattle.kc_distinct.specs.Lists.{member}
-use Rattle.kc_distinct.proofs.Members.{member-tail, member-cases}
+use Rattle.kc_lists.specs.Lists.{member}
+use Rattle.kc_lists.proofs.Members.{member-tail, member-cases}
 
 -- who stands in front stands in the list
 pub take-member : (n : ℕ) (xs : List ℕ) (y : ℕ) → member y (take n xs) ≡ true → member y xs ≡ true

@@ -1,50 +1,27 @@
 -- What a view kept, it keeps: lists and core numbers that were told stay, and a state that agrees now agreed before.
-use Rattle.std.proofs.Common.{◌≡◌, ◌<◌, ℕ, suc, true, false, cond, List, [], ◌∷◌, ◌++◌, get_or, eqb, ltb, refl, sym, ◌∙◌, ap, subst, arith, eqb-true}
-use Rattle.std.proofs.Common.{le_refl, le_trans, Bool}
-use Rattle.std.specs.Prelude.{All, Some, is_some}
+use Rattle.std.proofs.Common.{◌≡◌, ◌<◌, ℕ, Bool, true, [], ◌++◌, get_or, ltb, refl, sym, ◌∙◌, ap, subst, arith, le_refl, le_trans}
+use Rattle.std.specs.Prelude.{All, is_some}
 use Rattle.std.specs.Option.{unwrap_or}
-use Rattle.std.proofs.lemmas.Bool.{false≢true}
 use Rattle.std.proofs.lemmas.List.{append_assoc, append-nil}
-use Rattle.kc_distinct.specs.Lists.{place_of, member}
-use Rattle.kc_distinct.proofs.Shared.{All-front, All-end}
+use Rattle.kc_lists.specs.Lists.{place_of, member}
+use Rattle.kc_lists.proofs.Shared.{All-front, All-end}
 use Rattle.kc_graph.specs.Lawful.{Ranked}
 use Rattle.kc_graph.specs.Neighbours.{neighbours_of}
-use Rattle.kc_graph.specs.declared.used.UsedEdges.{UsedEdges}
-use Rattle.kc_graph.specs.declared.used.UsedPlace.{UsedPlace}
 use Rattle.kc_graph.specs.declared.used.UsedOrder.{UsedOrder}
 use Rattle.kc_graph.specs.SimpleGraph.{adjacent}
 use Rattle.kc_graph.proofs.NeighbourLists.{neighbours_has}
 use Rattle.kc_view.specs.Answers.{Answers, Agrees, list_in, core_in, has_list, has_core, list_of, core_of, with_order}
 use Rattle.kc_view.specs.Lists.{IsListOf, AreLists}
 use Rattle.kc_view.specs.Views.{Further, Shown, Lasts, GoesOn}
-
--- a list that was found stays the one that is found
-pub list_in-front : (w : ℕ) (xs ys : List UsedEdges) → is_some (list_in w xs) ≡ true → list_in w (xs ++ ys) ≡ list_in w xs
-list_in-front w [] ys h = absurd (false≢true h)
-list_in-front w (x ∷ xs) ys h =
-    elim (eqb w x.vertex) as (λ b. is_some (cond b (Some x.neighbours) (list_in w xs)) ≡ true
-    → cond b (Some x.neighbours) (list_in w (xs ++ ys)) ≡ cond b (Some x.neighbours) (list_in w xs)) [
-      | true ↦ λ _. refl
-      | false ↦ λ k. list_in-front w xs ys k
-    ] h
-
--- a core number that was found stays the one that is found
-pub core_in-front : (w : ℕ) (xs ys : List UsedPlace) → is_some (core_in w xs) ≡ true → core_in w (xs ++ ys) ≡ core_in w xs
-core_in-front w [] ys h = absurd (false≢true h)
-core_in-front w (x ∷ xs) ys h =
-    elim (eqb w x.vertex) as (λ b. is_some (cond b (Some x.core) (core_in w xs)) ≡ true
-    → cond b (Some x.core) (core_in w (xs ++ ys)) ≡ cond b (Some x.core) (core_in w xs)) [
-      | true ↦ λ _. refl
-      | false ↦ λ k. core_in-front w xs ys k
-    ] h
+use Rattle.kc_view.proofs.Lookups.{list_answers, core_answers, found-front, found-holds}
 
 -- the list of a vertex that was told is still the one that is found
 list-same : (old new : Answers) (w : ℕ) → Further old new → has_list old w ≡ true → list_in w new.edges ≡ list_in w old.edges
-list-same old new w f h = ap (list_in w) f.edges.1 ∙ list_in-front w old.edges f.edges.0 h
+list-same old new w f h = ap (list_in w) f.edges.1 ∙ found-front list_answers w old.edges f.edges.0 h
 
 -- the core number of a vertex that was told is still the one that is found
 core-same : (old new : Answers) (w : ℕ) → Further old new → has_core old w ≡ true → core_in w new.places ≡ core_in w old.places
-core-same old new w f h = ap (core_in w) f.places.1 ∙ core_in-front w old.places f.places.0 h
+core-same old new w f h = ap (core_in w) f.places.1 ∙ found-front core_answers w old.places f.places.0 h
 
 -- a list that was told is still told
 pub still_has_list : (old new : Answers) (w : ℕ) → Further old new → has_list old w ≡ true → has_list new w ≡ true
@@ -111,43 +88,15 @@ GoesOn-trans a b c f g = record {
   lists = λ h. g.lists (f.lists h);
 }
 
--- what a state that agrees says of a list that was told
-list_in-true : (s : Ranked) (w : ℕ) (xs : List UsedEdges)
-    → All (λ e. (e.vertex < s.graph.size) × (e.neighbours ≡ neighbours_of s.graph e.vertex)) xs → is_some (list_in w xs) ≡ true
-    → (w < s.graph.size) × (unwrap_or (list_in w xs) [] ≡ neighbours_of s.graph w)
-list_in-true s w [] a h = absurd (false≢true h)
-list_in-true s w (x ∷ xs) a h =
-    elim (eqb w x.vertex) as (λ b. eqb w x.vertex ≡ b → is_some (cond b (Some x.neighbours) (list_in w xs)) ≡ true
-    → (w < s.graph.size) × (unwrap_or (cond b (Some x.neighbours) (list_in w xs)) [] ≡ neighbours_of s.graph w)) [
-      | true ↦
-          λ e _.
-          let k = a 0 x (omega arith) in
-          let same : w ≡ x.vertex = eqb-true w x.vertex e in (omega (arith, k.0, same), k.1 ∙ ap (neighbours_of s.graph) (sym same))
-      | false ↦ λ e k. list_in-true s w xs (λ i d l. a (suc i) d (omega arith)) k
-    ] refl h
-
 -- a list that was told is that of its vertex in each state that agrees
 pub list-true : (a : Answers) (s : Ranked) (w : ℕ) → Agrees a s → has_list a w ≡ true → (w < s.graph.size) × (list_of a w ≡ neighbours_of s.graph w)
-list-true a s w g h = list_in-true s w a.edges g.edges h
-
--- a core number found among true ones is that of the vertex in the state
-core_in-true : (s : Ranked) (w : ℕ) (xs : List UsedPlace) → All (λ p. (p.vertex < s.graph.size) × (p.core ≡ get_or s.core p.vertex 0)) xs
-    → is_some (core_in w xs) ≡ true
-    → (w < s.graph.size) × (unwrap_or (core_in w xs) 0 ≡ get_or s.core w 0)
-core_in-true s w [] a h = absurd (false≢true h)
-core_in-true s w (x ∷ xs) a h =
-    elim (eqb w x.vertex) as (λ b. eqb w x.vertex ≡ b → is_some (cond b (Some x.core) (core_in w xs)) ≡ true
-    → (w < s.graph.size) × (unwrap_or (cond b (Some x.core) (core_in w xs)) 0 ≡ get_or s.core w 0)) [
-      | true ↦
-          λ e _.
-          let k = a 0 x (omega arith) in
-          let same : w ≡ x.vertex = eqb-true w x.vertex e in (omega (arith, k.0, same), k.1 ∙ ap (λ v. get_or s.core v 0) (sym same))
-      | false ↦ λ e k. core_in-true s w xs (λ i d l. a (suc i) d (omega arith)) k
-    ] refl h
+list-true a s w g h =
+    found-holds list_answers (λ v ws. (v < s.graph.size) × (ws ≡ neighbours_of s.graph v)) w a.edges [] g.edges h
 
 -- a core number that was told is that of its vertex in each state that agrees
 pub core-true : (a : Answers) (s : Ranked) (w : ℕ) → Agrees a s → has_core a w ≡ true → (w < s.graph.size) × (core_of a w ≡ get_or s.core w 0)
-core-true a s w g h = core_in-true s w a.places g.places h
+core-true a s w g h =
+    found-holds core_answers (λ v n. (v < s.graph.size) × (n ≡ get_or s.core v 0)) w a.places 0 g.places h
 
 -- and of an order
 pub order-true : (a : Answers) (s : Ranked) (o : UsedOrder) → Agrees (with_order a o) s
@@ -156,21 +105,10 @@ order-true a s o g =
     All-end (λ o. (o.x < s.graph.size) × (o.y < s.graph.size) × (o.before ≡ ltb (place_of o.x s.order) (place_of o.y s.order))) a.orders o
     g.orders
 
--- a list that is found among lists of their vertices is one of the vertex looked for
-found_list : (n w : ℕ) (xs : List UsedEdges) → All (λ e. IsListOf n e.vertex e.neighbours) xs → is_some (list_in w xs) ≡ true
-    → IsListOf n w (unwrap_or (list_in w xs) [])
-found_list n w [] a h = absurd (false≢true h)
-found_list n w (x ∷ xs) a h =
-    elim (eqb w x.vertex) as (λ b. eqb w x.vertex ≡ b → is_some (cond b (Some x.neighbours) (list_in w xs)) ≡ true
-    → IsListOf n w (unwrap_or (cond b (Some x.neighbours) (list_in w xs)) [])) [
-      | true ↦ λ e _. subst (λ (v : ℕ). IsListOf n v x.neighbours) (sym (eqb-true w x.vertex e)) (a 0 x (omega arith))
-      | false ↦ λ e k. found_list n w xs (λ i d l. a (suc i) d (omega arith)) k
-    ] refl h
-
 -- where all lists are those of their vertices, the one of a vertex that is looked up is
 pub kept-list : (size w : ℕ) (a : Answers) → AreLists size a.edges → has_list a w ≡ true → IsListOf size w (list_of a w)
 unfolding AreLists
-kept-list size w a all h = found_list size w a.edges all h
+kept-list size w a all h = found-holds list_answers (IsListOf size) w a.edges [] all h
 
 -- the list of one end tells whether the edge is there
 pub tells-edge : (a : Answers) (s : Ranked) (u v : ℕ) (b : Bool) → Agrees a s → has_list a u ≡ true → v < s.graph.size

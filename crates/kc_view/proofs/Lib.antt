@@ -4,7 +4,8 @@ pub mod AtRest
 pub mod Crossing
 pub mod Fronts
 pub mod Handing
-pub mod Marked
 pub mod Keeping
+pub mod Lookups
+pub mod Marked
 pub mod Marking
 pub mod Still

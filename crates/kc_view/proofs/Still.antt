@@ -3,8 +3,8 @@ use Rattle.std.proofs.Common.{◌≡◌, ◌≤◌, ◌<◌, ℕ, Bool, false, c
 use Rattle.std.proofs.Common.{true≢false, lt-ltb}
 use Rattle.std.specs.Prelude.{count_by}
 use Rattle.std.proofs.lemmas.Bool.{cases_Bool, false≢true}
-use Rattle.kc_distinct.specs.Lists.{member, Distinct, below}
-use Rattle.kc_distinct.proofs.Counting.{below-member, count-agree}
+use Rattle.kc_lists.specs.Lists.{member, Distinct, below}
+use Rattle.kc_lists.proofs.Counting.{below-member, count-agree}
 use Rattle.kc_graph.specs.SimpleGraph.{SimpleGraph, adjacent}
 use Rattle.kc_graph.specs.Lawful.{Ranked, IsCertified}
 use Rattle.kc_graph.specs.Plans.{is_applied, renumbered}
@@ -84,9 +84,11 @@ kept-is_sure update used s h l none = (
     holds = λ z lz _. kept-holds s h z lz;
   },
   record {
-    once = tt;
-    kept = λ _. refl;
-    inserted = λ _ x m. absurd (false≢true m);
-    removed = λ _ applied. absurd (true≢false (sym applied ∙ none));
+    moves = record {
+      once = tt;
+      kept = λ _. refl;
+      inserted = λ _ x m. absurd (false≢true m);
+      removed = λ _ applied. absurd (true≢false (sym applied ∙ none));
+    };
   },
 )

@@ -1,7 +1,7 @@
 -- What was asked and answered, and when that is true of a state.
 use Rattle.std.specs.Prelude.{◌≡◌, ◌<◌, ◌++◌, ℕ, Bool, List, [], ◌∷◌, All, Option, Some, None, is_some, slice_index, nat_eq, nat_lt, if◌then◌else◌}
 use Rattle.std.specs.Option.{unwrap_or}
-use Rattle.kc_distinct.specs.Lists.{place_of}
+use Rattle.kc_lists.specs.Lists.{place_of}
 use Rattle.kc_graph.specs.Neighbours.{neighbours_of}
 use Rattle.kc_graph.specs.Lawful.{Ranked}
 use Rattle.kc_graph.specs.declared.used.UsedEdges.{UsedEdges}

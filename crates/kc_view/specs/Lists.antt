@@ -1,7 +1,7 @@
 -- The neighbours of a vertex, as a view tells them.
 use Rattle.std.specs.Prelude.{◌≡◌, ◌<◌, ℕ, List, true, false, All}
 use Rattle.std.specs.List.Sorted.{IsStrictlyIncreasing}
-use Rattle.kc_distinct.specs.Lists.{member}
+use Rattle.kc_lists.specs.Lists.{member}
 use Rattle.kc_graph.specs.declared.used.UsedEdges.{UsedEdges}
 
 -- the list ascends and has vertices alone, and not `w` itself

@@ -1,7 +1,7 @@
 -- Where the answers of a vertex are kept.
 use Rattle.std.specs.Prelude.{◌≡◌, ◌≤◌, ◌<◌, ◌^◌, ℕ, zero, suc, List, [], Option, Some, None, length, map, slice_index, slice_index_or, is_some, All}
 use Rattle.std.specs.Prelude.{if◌then◌else◌}
-use Rattle.kc_distinct.specs.Lists.{Distinct}
+use Rattle.kc_lists.specs.Lists.{Distinct}
 use Rattle.kc_graph.specs.declared.used.UsedEdges.{UsedEdges}
 use Rattle.kc_graph.specs.declared.used.UsedPlace.{UsedPlace}
 use Rattle.kc_view.specs.Answers.{list_in, core_in}
@@ -16,15 +16,18 @@ no_list = record { vertex = 0; at = 0; neighbours = [] }
 abbrev pub no_place : UsedPlace
 no_place = record { vertex = 0; stamp = 0; core = 0 }
 
--- the list, and the core number, at a place counted from 1; none at 0
+-- what the item at a place counted from 1 tells; nothing at 0
+abbrev pub told_at : {X A : Type 0} → (X → A) → X → List X → ℕ → Option A
+told_at tells nothing xs zero = None
+told_at tells nothing xs (suc i) = Some (tells (slice_index_or xs i nothing))
+
+-- the list at a place counted from 1; none at 0
 abbrev pub list_at : List UsedEdges → ℕ → Option (List ℕ)
-list_at edges zero = None
-list_at edges (suc i) = Some (slice_index_or edges i no_list).neighbours
+list_at edges place = told_at (λ (e : UsedEdges). e.neighbours) no_list edges place
 
 -- the core number at a place counted from 1; none at 0
 abbrev pub core_at : List UsedPlace → ℕ → Option ℕ
-core_at places zero = None
-core_at places (suc i) = Some (slice_index_or places i no_place).core
+core_at places place = told_at (λ (p : UsedPlace). p.core) no_place places place
 
 -- Marks without an answer.
 pub record AreClear (size : ℕ) (marks : List ℕ) : Type 0 where

@@ -1,6 +1,6 @@
 -- A state after its graph was updated, as a search for the vertices that move sees it.
 use Rattle.std.specs.Prelude.{◌≡◌, ◌<◌, ℕ, Bool, true, ◌&&◌, count_by, slice_index, nat_lt, nat_eq}
-use Rattle.kc_distinct.specs.Lists.{below}
+use Rattle.kc_lists.specs.Lists.{below}
 use Rattle.kc_graph.specs.SimpleGraph.{SimpleGraph, adjacent}
 use Rattle.kc_graph.specs.Lawful.{Ranked}
 use Rattle.kc_cert.specs.Ranks.{rank_in}

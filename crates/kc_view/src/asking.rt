@@ -1,6 +1,6 @@
 //! Questions to a view, with the planner's faults.
 ghost use Rattle.std.specs.Prelude.{◌≡◌, ◌≢◌, ◌<◌, ℕ, true, length, IfOk, OnOk, IfErr};
-ghost use Rattle.kc_distinct.specs.Lists.{member};
+ghost use Rattle.kc_lists.specs.Lists.{member};
 ghost use Rattle.kc_view.specs.Answers.{nothing_answered, has_list, list_of, has_core, core_of, with_order};
 ghost use Rattle.kc_view.specs.Sure.{AsksOneList};
 ghost use Rattle.kc_view.specs.Views.{KeepsLists, GoesOn, TellsList, TellsCore, HasPlanCause};

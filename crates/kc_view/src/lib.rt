@@ -10,7 +10,7 @@
 //!
 //! `specs/Answers.antt` says what was asked and answered, and when a state agrees with it; `Views.antt` says what each call leaves;
 //! `Sure.antt` says when a plan is right wherever its answers are. `PlainView` is a view of a graph at rest: it never misses, and all
-//! its answers are true of that graph. The crate stands on `kc_graph`, and its definitions on `kc_distinct`, `kc_words` and `kc_cert`.
+//! its answers are true of that graph. The crate stands on `kc_graph`, and its definitions on `kc_lists`, `kc_words` and `kc_cert`.
 #![tactic(auto)]
 
 mod asking;

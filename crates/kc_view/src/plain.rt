@@ -1,5 +1,5 @@
 //! A view of a graph at rest.
-ghost use Rattle.std.specs.Prelude.{◌≡◌, ◌<◌, ◌&&◌, ℕ, not, is_some, false, All, IfOk, length, slice_index_or};
+ghost use Rattle.std.specs.Prelude.{◌≡◌, ◌<◌, ℕ, is_some, false, All, IfOk, length, slice_index_or, if◌then◌else◌};
 ghost use Rattle.kc_view.specs.Answers.{nothing_answered, list_in, core_in};
 
 use crate::fault::ViewFault;
@@ -120,7 +120,7 @@ impl View for PlainView<'_> {
 /// Takes the mark from each vertex whose list was kept.
 fn unmark_lists(is_listed: &mut [bool], edges: &[UsedEdges])
     requires { All (λ e. e.vertex < length is_listed.old) edges.now }
-    ensures { (w : ℕ) → slice_index_or is_listed.new w false ≡ slice_index_or is_listed.old w false && not (is_some (list_in w edges.now)) }
+    ensures { (w : ℕ) → slice_index_or is_listed.new w false ≡ (if is_some (list_in w edges.now) then false else slice_index_or is_listed.old w false) }
 {
     for list in edges {
         is_listed[list.vertex as usize] = false;
@@ -130,7 +130,7 @@ fn unmark_lists(is_listed: &mut [bool], edges: &[UsedEdges])
 /// Takes the mark from each vertex whose core number was kept.
 fn unmark_places(is_placed: &mut [bool], places: &[UsedPlace])
     requires { All (λ p. p.vertex < length is_placed.old) places.now }
-    ensures { (w : ℕ) → slice_index_or is_placed.new w false ≡ slice_index_or is_placed.old w false && not (is_some (core_in w places.now)) }
+    ensures { (w : ℕ) → slice_index_or is_placed.new w false ≡ (if is_some (core_in w places.now) then false else slice_index_or is_placed.old w false) }
 {
     for place in places {
         is_placed[place.vertex as usize] = false;

@@ -1,9 +1,9 @@
 -- Lists in which each is related to the next.
 use Rattle.std.proofs.Common.{◌≡◌, ℕ, true, List, [], ◌∷◌, sym, subst, inl, inr, arith}
 use Rattle.std.proofs.lemmas.Bool.{false≢true}
-use Rattle.kc_distinct.specs.Lists.{member}
-use Rattle.kc_distinct.proofs.Members.{member-head, member-tail, member-cases}
-use Rattle.kc_words.specs.Order.{Labels, PairBelow, Follows, InOrder}
+use Rattle.kc_lists.specs.Lists.{member, Follows, InOrder}
+use Rattle.kc_lists.proofs.Members.{member-head, member-tail, member-cases}
+use Rattle.kc_words.specs.Order.{Labels, PairBelow}
 
 -- a relation that goes on relates the first to all behind it
 pub Follows-all : (R : ℕ → ℕ → Type 0) → ((x y z : ℕ) → R x y → R y z → R x z) → (x z : ℕ) (ys : List ℕ) → Follows R x ys → member z ys ≡ true → R x z

@@ -1,6 +1,6 @@
 -- The order that the words say the items of a list have.
 use Rattle.std.specs.Prelude.{◌≡◌, ℕ, ◌+◌, ◌<◌, ◌≤◌, ◌⊎◌, List, [], ◌∷◌, slice_index, true, false}
-use Rattle.kc_distinct.specs.Lists.{member}
+use Rattle.kc_lists.specs.Lists.{member, InOrder}
 use Rattle.kc_words.specs.ItemWord.{item_of}
 use Rattle.kc_words.specs.GroupWord.{group_of}
 
@@ -21,16 +21,6 @@ labels n ws = record {
 -- the pair of x, which is the top label of its group and its own bottom label, is less than that of y
 abbrev pub PairBelow : Labels → ℕ → ℕ → Type 0
 PairBelow a x y = (a.top (a.group x) < a.top (a.group y)) ⊎ ((a.top (a.group x) ≡ a.top (a.group y)) × (a.bottom x < a.bottom y))
-
--- x, and each of the list, is related to the next
-abbrev pub Follows : (ℕ → ℕ → Type 0) → ℕ → List ℕ → Type 0
-Follows R x [] = Unit {0}
-Follows R x (y ∷ ys) = R x y × Follows R y ys
-
--- each is related to the next
-abbrev pub InOrder : (ℕ → ℕ → Type 0) → List ℕ → Type 0
-InOrder R [] = Unit {0}
-InOrder R (x ∷ xs) = Follows R x xs
 
 -- the pairs order the list, and an item has a group exactly where it is in the list
 pub record Ordered (n : ℕ) (ws : List ℕ) (list : List ℕ) : Type 0 where

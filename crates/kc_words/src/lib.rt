@@ -5,7 +5,7 @@
 //! `pack` packs, and says for which words `pack` gives back what `of` reads. `Shape` numbers the
 //! words of a table. No call takes memory. `specs/Order.antt` says when the words order a list: the
 //! order list keeps that, and the table's log is legal only where it holds. The crate stands on the
-//! words of `kc_distinct`.
+//! words of `kc_lists`.
 #![tactic(auto)]
 
 pub mod again;

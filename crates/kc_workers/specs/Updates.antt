@@ -7,8 +7,10 @@ use Rattle.kc_table.specs.Log.{TableName}
 use Rattle.kc_order.specs.Writers.{IsHighest}
 use Rattle.kc_agree.specs.Stamps.{number_of}
 use Rattle.kc_levels.specs.declared.levels.TheConstants.{LAST_NUMBER}
+use Rattle.kc_journal.specs.declared.answer.EnterFault.{EnterFault}
+use Rattle.kc_journal.specs.declared.answer.EnterFault.TheVariants as enter
 use Rattle.kc_journal.specs.declared.answer.Receipt.{Receipt}
-use Rattle.kc_stripes.specs.Records.{Opened}
+use Rattle.kc_table.specs.Log.{Opened}
 use Rattle.kc_shared.specs.Answers.{IsReceipt}
 use Rattle.kc_shared.specs.Misses.{IsTrueMiss}
 use Rattle.kc_shared.specs.declared.fault.SharedFault.{SharedFault}
@@ -18,11 +20,9 @@ use Rattle.kc_shared.specs.declared.shared.TheConstants.{MISSES}
 use Rattle.kc_workers.specs.declared.attempt.Attempt.{Attempt}
 use Rattle.kc_workers.specs.declared.attempt.Attempt.TheVariants as attempt
 use Rattle.kc_workers.specs.declared.done.Done.{Done}
-use Rattle.kc_workers.specs.declared.fault.UpdateFault.{UpdateFault}
-use Rattle.kc_workers.specs.declared.fault.UpdateFault.TheVariants as fault
 
 -- The update was entered, and its misses were true: at most so many, each from the old log to the new one.
-pub record IsDone (o : Opened) (old new : List Event) (index : ℕ) (update : Update) (done : Done) : Type 0 where
+pub record IsUpdateDone (o : Opened) (old new : List Event) (index : ℕ) (update : Update) (done : Done) : Type 0 where
   pub receipt : IsReceipt o old new index update done.receipt
   pub few : length done.misses.items ≤ MISSES
   pub misses : All (IsTrueMiss o old new) done.misses.items
@@ -33,19 +33,17 @@ pub record LeavesNoRoom (table : TableName) (log : List Event) (highest needed :
   pub few : needed ≤ 3 * table.shape.fixed
   pub exceeds : LAST_VERSION < highest + needed
 
--- Each fault has its cause in the new log.
-abbrev pub HasUpdateCause : Opened → List Event → List Event → ℕ → Update → UpdateFault → Type 0
-HasUpdateCause o old new index update (fault.Full entries) = (entries ≡ number_of o.table new) × (entries ≡ LAST_NUMBER)
-HasUpdateCause o old new index update (fault.Spent highest needed) = LeavesNoRoom o.table new highest needed
-HasUpdateCause o old new index update (fault.NoMemory None) = ⊤
-HasUpdateCause o old new index update (fault.NoMemory (Some receipt)) = IsReceipt o old new index update receipt
+-- Each refusal has its cause in the new log. None is for a stale stamp: that is a miss.
+abbrev pub HasRefusalCause : Opened → List Event → EnterFault → Type 0
+HasRefusalCause o new (enter.Full entries) = (entries ≡ number_of o.table new) × (entries ≡ LAST_NUMBER)
+HasRefusalCause o new (enter.Stale vertex edges used now) = ⊥
+HasRefusalCause o new (enter.Spent highest needed) = LeavesNoRoom o.table new highest needed
+HasRefusalCause o new enter.NoMemory = ⊤
 
--- how many entries a fault has made
-abbrev pub entered_by : UpdateFault → ℕ
-entered_by (fault.Full entries) = 0
-entered_by (fault.Spent highest needed) = 0
-entered_by (fault.NoMemory None) = 0
-entered_by (fault.NoMemory (Some receipt)) = 1
+-- The update was refused, which has its cause in the new log; or it was entered, though not told to all.
+abbrev pub HasUpdateCause : Opened → List Event → List Event → ℕ → Update → SharedFault → Type 0
+HasUpdateCause o old new index update (shared.Enter fault) = HasRefusalCause o new fault
+HasUpdateCause o old new index update (shared.Untold receipt) = IsReceipt o old new index update receipt
 
 -- an attempt was entered, or its miss is true
 abbrev pub IsAttempt : Opened → List Event → List Event → ℕ → Update → Attempt → Type 0
@@ -62,9 +60,10 @@ abbrev pub entered_of : Option Receipt → ℕ
 entered_of None = 0
 entered_of (Some receipt) = 1
 
--- what a refusal of the shared state is to an update: a stale stamp is a miss, and any other refusal is the update's too
-abbrev pub told_attempt : SharedFault → Result Attempt UpdateFault
-told_attempt (shared.Full entries) = Err (fault.Full entries)
-told_attempt (shared.Stale vertex edges used now) = Ok (attempt.Missed (missed.Stale vertex edges used now))
-told_attempt (shared.Spent highest needed) = Err (fault.Spent highest needed)
-told_attempt (shared.NoMemory entered) = Err (fault.NoMemory entered)
+-- what a fault of the shared state is to an attempt: a stale stamp is a miss, and any other fault is the update's too
+abbrev pub told_attempt : SharedFault → Result Attempt SharedFault
+told_attempt (shared.Enter (enter.Full entries)) = Err (shared.Enter (enter.Full entries))
+told_attempt (shared.Enter (enter.Stale vertex edges used now)) = Ok (attempt.Missed (missed.Stale vertex edges used now))
+told_attempt (shared.Enter (enter.Spent highest needed)) = Err (shared.Enter (enter.Spent highest needed))
+told_attempt (shared.Enter enter.NoMemory) = Err (shared.Enter enter.NoMemory)
+told_attempt (shared.Untold receipt) = Err (shared.Untold receipt)

@@ -4,7 +4,7 @@ use kc_journal::Receipt;
 
 /// The updates of a batch that this worker entered.
 #[derive(Debug, Drop)]
-pub struct Share {
+pub struct WorkerShare {
     pub worker: u32,
     /// Each update that was entered and told, with the plans for it that were lost before.
     pub done: Vec<Done>,

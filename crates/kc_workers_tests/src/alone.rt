@@ -1,11 +1,10 @@
 //! Updates of one worker, which nobody overtakes.
 ghost use Rattle.std.specs.Prelude.{◌≡◌, ◌<◌};
 
-use crate::runs::{assert_entered, change, enter, hired, two_edges};
-use kc_graph::Update;
+use crate::runs::{addition, assert_entered, enter, hired, two_edges};
 use kc_shared::{Parts, Shared};
 use kc_table::{Name, Pass};
-use kc_workers::{NoGate, Worker};
+use kc_workers::{Assignment, NoGate, Worker, Workplace};
 use std::marker::Brand;
 use std::process::Abort;
 use std::sync::Wait;
@@ -17,17 +16,22 @@ fn enter_at_once<K: Name + Ledger, R: Wait + Abort + AllocGlobal>(
     shared: &Shared<K>,
     worker: &mut Worker,
     part: &mut Share<K>,
-    index: u32,
-    change: Update,
+    assignment: Assignment,
     applied: bool,
 )
-    requires table { worker.old.table ≡ K.table }
+    requires table { worker.old.table ≡ K.opened.table }
     requires part { 0 < part.old.parts }
-    requires index { index < 4 }
-    ensures table { worker.new.table ≡ K.table }
+    requires index { assignment.index < 4 }
+    ensures table { worker.new.table ≡ K.opened.table }
     ensures parts { part.new.parts ≡ part.old.parts }
 {
-    let done = enter(rt, shared, worker, part, index, change, &NoGate);
+    let workplace = Workplace {
+        shared,
+        gate: &NoGate,
+        alloc: rt.alloc(),
+    };
+    let index = assignment.index;
+    let done = enter(rt, workplace, worker, part, assignment);
     assert_entered(rt, &done, index, index + 1, applied);
     assert!(rt; done.misses.is_empty());
 }
@@ -39,13 +43,13 @@ fn enter_three<K: Name + Ledger, R: Wait + Abort + AllocGlobal>(
     worker: &mut Worker,
     part: &mut Share<K>,
 )
-    requires table { worker.old.table ≡ K.table }
+    requires table { worker.old.table ≡ K.opened.table }
     requires part { 0 < part.old.parts }
     ensures { part.new.parts ≡ part.old.parts }
 {
-    enter_at_once(rt, shared, worker, part, 0, change(true, 0, 2), true);
-    enter_at_once(rt, shared, worker, part, 1, change(true, 1, 3), true);
-    enter_at_once(rt, shared, worker, part, 2, change(true, 0, 1), false);
+    enter_at_once(rt, shared, worker, part, addition(0, 0, 2), true);
+    enter_at_once(rt, shared, worker, part, addition(1, 1, 3), true);
+    enter_at_once(rt, shared, worker, part, addition(2, 0, 1), false);
 }
 
 /// A worker that has seen what the pass has does so.
@@ -55,7 +59,7 @@ fn enter_by_one<K: Name + Ledger, R: Wait + Abort + AllocGlobal>(
     part: &mut Share<K>,
     pass: Pass,
 )
-    requires table { pass.table ≡ K.table }
+    requires table { pass.table ≡ K.opened.table }
     requires part { 0 < part.old.parts }
     ensures { part.new.parts ≡ part.old.parts }
 {
@@ -70,8 +74,8 @@ fn enter_alone<K: Name + Ledger, R: Wait + Abort + AllocGlobal>(
     blank: Blank,
     pass: Pass,
 ) -> Parts
-    requires words { (parts.words ≡ K.table) × (pass.table ≡ K.table) }
-    requires opened { (parts.journal.opened ≡ K.opening_edges) × (parts.journal.opening_stamps ≡ K.opening_stamps) }
+    requires words { (parts.words ≡ K.opened.table) × (pass.table ≡ K.opened.table) }
+    requires opened { (parts.journal.opened ≡ K.opened.edges) × (parts.journal.opening_stamps ≡ K.opened.stamps) }
     requires started { parts.journal.started ≡ K.start_edges }
     requires now { (parts.journal.levels.log ≡ K.log) × (parts.journal.entries ≡ K.entries) }
     requires ledger { (blank.name ≡ K.name) × (blank.parts ≡ K.parts) }

@@ -1,10 +1,11 @@
 //! An update that another worker overtakes before each of its first tries.
 ghost use Rattle.std.specs.Prelude.{◌≡◌, ◌<◌};
 
-use crate::runs::{assert_entered, change, enter, hired, two_edges};
+use crate::runs::{addition, assert_entered, enter, hired, two_edges};
+use kc_graph::Update;
 use kc_shared::{Missed, Parts, Shared};
 use kc_table::{Name, Pass, shape, split};
-use kc_workers::{Done, Gate, NoGate, Worker, update};
+use kc_workers::{Assignment, Done, Gate, NoGate, Worker, Workplace, update};
 use std::alloc::Global;
 use std::marker::Brand;
 use std::process::Abort;
@@ -17,7 +18,7 @@ struct Other<K: Name + Ledger> {
     worker: Worker,
     part: Share<K>,
     calls: u32,
-    ghost table: { worker.table ≡ K.table },
+    ghost table: { worker.table ≡ K.opened.table },
     ghost parts: { part.parts ≡ 1 },
 }
 
@@ -40,19 +41,22 @@ impl<K: Name + Ledger, R: Wait> Gate for Meddling<'_, K, R> {
             calls,
         } = &mut *other;
         if *calls < self.most && shape(&self.shared.words).fixed > 1 {
-            let turn = change(*calls % 2 == 1, 0, 1);
+            let workplace = Workplace {
+                shared: self.shared,
+                gate: &NoGate,
+                alloc: self.alloc,
+            };
+            let turn = Assignment {
+                worker: 1,
+                index: 3,
+                update: Update {
+                    add: *calls % 2 == 1,
+                    u: 0,
+                    v: 1,
+                },
+            };
             *calls += 1;
-            let _ = update(
-                self.rt,
-                self.alloc,
-                self.shared,
-                worker,
-                part,
-                1,
-                3,
-                turn,
-                &NoGate,
-            );
+            let _ = update(self.rt, workplace, worker, part, turn);
         }
     }
 }
@@ -65,7 +69,7 @@ fn gate_of<'a, K: Name + Ledger, R: Wait + Abort + AllocGlobal>(
     pass: Pass,
     most: u32,
 ) -> Meddling<'a, K, R>
-    requires table { pass.table ≡ K.table }
+    requires table { pass.table ≡ K.opened.table }
     requires part { part.parts ≡ 1 }
 {
     let worker = hired(rt, &shared.words, pass);
@@ -90,12 +94,17 @@ fn enter_past<K: Name + Ledger, G: Gate, R: Wait + Abort + AllocGlobal>(
     pass: Pass,
     gate: &G,
 ) -> Done
-    requires table { pass.table ≡ K.table }
+    requires table { pass.table ≡ K.opened.table }
     requires part { 0 < part.old.parts }
     ensures { part.new.parts ≡ part.old.parts }
 {
     let mut worker = hired(rt, &shared.words, pass);
-    enter(rt, shared, &mut worker, part, 0, change(true, 0, 2), gate)
+    let workplace = Workplace {
+        shared,
+        gate,
+        alloc: rt.alloc(),
+    };
+    enter(rt, workplace, &mut worker, part, addition(0, 0, 2))
 }
 
 /// Adds the edge between 0 and 2 while another worker, which takes one of the two parts, enters an update before each of the first so many
@@ -107,7 +116,7 @@ fn enter_beside<K: Name + Ledger, R: Wait + Abort + AllocGlobal>(
     mut pass: Pass,
     most: u32,
 ) -> Done
-    requires table { pass.table ≡ K.table }
+    requires table { pass.table ≡ K.opened.table }
     requires two { part.old.parts ≡ 2 }
     ensures { part.new.parts ≡ 2 }
 {
@@ -128,8 +137,8 @@ fn enter_meddled<K: Name + Ledger, R: Wait + Abort + AllocGlobal>(
     pass: Pass,
     most: u32,
 ) -> (Done, Parts)
-    requires words { (parts.words ≡ K.table) × (pass.table ≡ K.table) }
-    requires opened { (parts.journal.opened ≡ K.opening_edges) × (parts.journal.opening_stamps ≡ K.opening_stamps) }
+    requires words { (parts.words ≡ K.opened.table) × (pass.table ≡ K.opened.table) }
+    requires opened { (parts.journal.opened ≡ K.opened.edges) × (parts.journal.opening_stamps ≡ K.opened.stamps) }
     requires started { parts.journal.started ≡ K.start_edges }
     requires now { (parts.journal.levels.log ≡ K.log) × (parts.journal.entries ≡ K.entries) }
     requires ledger { (blank.name ≡ K.name) × (blank.parts ≡ K.parts) }

@@ -3,9 +3,9 @@ ghost use Rattle.std.specs.Prelude.{◌≡◌, ◌<◌};
 
 use kc_graph::{Graph, Update, decompose_owned};
 use kc_journal::Receipt;
-use kc_shared::{Parts, Shared};
+use kc_shared::Parts;
 use kc_table::{Name, Pass, Words, shape};
-use kc_workers::{Done, Gate, Worker, update};
+use kc_workers::{Assignment, Done, Gate, Worker, Workplace, update};
 use std::process::Abort;
 use std::sync::Wait;
 use std::sync::ledger::{Ledger, Share};
@@ -30,32 +30,34 @@ pub(crate) fn hired<R: Abort + AllocGlobal>(rt: &R, words: &Words, pass: Pass) -
     }
 }
 
-/// The update that adds or removes the edge between two vertices.
-pub(crate) fn change(add: bool, u: u32, v: u32) -> Update
+/// The update that adds the edge between two vertices, under this index, for worker 0.
+pub(crate) fn addition(index: u32, u: u32, v: u32) -> Assignment
     requires { u < v }
-    ensures { result.v ≡ v }
+    ensures { result.index ≡ index }
 {
-    Update { add, u, v }
+    Assignment {
+        worker: 0,
+        index,
+        update: Update { add: true, u, v },
+    }
 }
 
-/// An update of worker 0.
+/// An update that a worker enters.
 pub(crate) fn enter<K: Name + Ledger, G: Gate, R: Wait + Abort + AllocGlobal>(
     rt: &R,
-    shared: &Shared<K>,
+    workplace: Workplace<'_, K, G>,
     worker: &mut Worker,
     part: &mut Share<K>,
-    index: u32,
-    change: Update,
-    gate: &G,
+    assignment: Assignment,
 ) -> Done
-    requires table { worker.old.table ≡ K.table }
+    requires table { worker.old.table ≡ K.opened.table }
     requires part { 0 < part.old.parts }
-    requires index { index < 4 }
-    ensures table { worker.new.table ≡ K.table }
+    requires index { assignment.index < 4 }
+    ensures table { worker.new.table ≡ K.opened.table }
     ensures parts { part.new.parts ≡ part.old.parts }
 {
-    assert!(rt; change.v < shape(&shared.words).fixed);
-    update(rt, rt.alloc(), shared, worker, part, 0, index, change, gate).expect(rt, "it is entered")
+    assert!(rt; assignment.update.v < shape(&workplace.shared.words).fixed);
+    update(rt, workplace, worker, part, assignment).expect(rt, "it is entered")
 }
 
 /// The update with this index has that entry.

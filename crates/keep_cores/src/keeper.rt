@@ -6,7 +6,7 @@ ghost use Rattle.kc_snapshot.specs.Histories.{width};
 use anyhow::{Result, bail};
 use kc_graph::{Graph, Plan, Update, decompose_owned};
 use kc_journal::{Journal, plan_held};
-use kc_shown::Shown;
+use kc_published::Published;
 use kc_snapshot::{Blank, BoardName, MOST_LISTS, Reader};
 use kc_table::{Pass, Words};
 use kc_view::Scratch;
@@ -26,7 +26,7 @@ const START: [(u32, u32); 7] = [(0, 1), (0, 2), (1, 2), (2, 3), (3, 4), (3, 5), 
 pub(crate) struct Keeper<J: BoardName, R: Wait + Drop> {
     words: Words,
     pass: Pass,
-    shown: Shown<J, R>,
+    shown: Published<J, R>,
     reader: Reader<J>,
     lists: u32,
     ghost told: { pass.table ≡ words },
@@ -52,13 +52,13 @@ fn show<J: BoardName, R: Wait + Drop>(
     alloc: Global,
     blank: Blank,
     journal: Journal,
-) -> Result<(Shown<J, R>, Reader<J>), NoMemory>
+) -> Result<(Published<J, R>, Reader<J>), NoMemory>
     requires { blank ≡ J.book }
     ensures journal { IfOk result (λ r. r.0.journal ≡ journal) }
     ensures count { IfOk result (λ r. length r.0.history ≡ 1) }
     ensures wide { IfOk result (λ r. width r.1 ≡ length journal.levels.core) }
 {
-    let (shown, mut readers) = Shown::open(rt, alloc, blank, journal, 1)?;
+    let (shown, mut readers) = Published::open(rt, alloc, blank, journal, 1)?;
     match readers.pop() {
         Some(reader) => Ok((shown, reader)),
         None => unreachable!(),

@@ -1,6 +1,6 @@
 //! Keeps the core numbers of a graph while edges come and go, one update after the other, and writes how each update changed them.
 //!
-//! It shows how `kc_journal` and `kc_shown` are used from one thread: an update is planned over the journal, the plan is entered, and the
+//! It shows how `kc_journal` and `kc_published` are used from one thread: an update is planned over the journal, the plan is entered, and the
 //! new core numbers are published and read from the board by a reader that is told of it.
 #![tactic(auto)]
 

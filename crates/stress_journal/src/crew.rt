@@ -9,15 +9,15 @@ use crate::gate::Holding;
 use crate::receipts::{look_at, look_at_part, make_entered};
 use crate::updates::make_all;
 use anyhow::{Result, anyhow, bail};
-use kc_batch::{BatchDone, CutShort, run_batch};
+use kc_batch::{BatchDone, CutShort, IndexedBatch, run_batch};
 use kc_graph::{Graph, NoMemory, Update, decompose};
 use kc_journal::Journal;
 use kc_levels::LAST_NUMBER;
 use kc_queue::WORKERS;
 use kc_shared::Parts;
-use kc_table::{Pass, shape, split};
+use kc_table::{Pass, shape};
 use kc_words::{INDICES, LAST_VERSION, VERTICES};
-use kc_workers::Worker;
+use kc_workers::{Worker, hire};
 use std::alloc::Global;
 use std::sync::Wait;
 use std::thread::Threads;
@@ -54,23 +54,6 @@ fn open_parts(alloc: Global, graph: &Graph, left: u32) -> Result<(Parts, Pass)>
     Ok((parts, pass))
 }
 
-/// So many workers, who have seen what the pass has; an error where there is no memory for one.
-fn hire(alloc: Global, parts: &Parts, pass: &mut Pass, count: u32) -> Result<Vec<Worker>, NoMemory>
-    requires table { pass.old.table ≡ parts.now.words }
-    ensures count { IfOk result (λ workers. vec_len workers ≡ count) }
-    ensures table { IfOk result (λ workers. All (λ w. w.table ≡ parts.now.words) workers.items) }
-{
-    let mut workers = Vec::new(alloc);
-    for _ in 0..count {
-        let own = split(&parts.words, pass);
-        let Ok(worker) = Worker::new(alloc, &parts.words, own) else {
-            return Err(NoMemory);
-        };
-        workers.push(worker)?;
-    }
-    Ok(workers)
-}
-
 /// The parts of a run of this graph, in a table that has so many versions left, and so many workers.
 fn open_run(alloc: Global, graph: &Graph, count: u32, left: u32) -> Result<(Parts, Vec<Worker>)>
     ensures some { IfOk result (λ r. (0 < vec_len r.1) × (vec_len r.1 ≤ MOST_WORKERS)) }
@@ -80,7 +63,7 @@ fn open_run(alloc: Global, graph: &Graph, count: u32, left: u32) -> Result<(Part
         bail!("no such number of workers");
     }
     let (parts, mut pass) = open_parts(alloc, graph, left)?;
-    let workers = hire(alloc, &parts, &mut pass, count)?;
+    let workers = hire(alloc, &parts.words, &mut pass, count)?;
     Ok((parts, workers))
 }
 
@@ -189,7 +172,11 @@ impl Crew {
             graph,
             next,
         } = self;
-        let (parts, done) = run_batch(rt, alloc, parts, &mut workers, next, batch, gate);
+        let indexed = IndexedBatch {
+            first: next,
+            updates: batch,
+        };
+        let (parts, done) = run_batch(rt, alloc, parts, &mut workers, indexed, gate);
         let crew = Crew {
             parts,
             workers,

@@ -5,12 +5,13 @@ ghost use Rattle.std.specs.Prelude.{◌≡◌, ◌<◌, IfOk};
 use crate::comparing::compare;
 use crate::updates::{draw, is_applied, make};
 use anyhow::{Result, bail};
-use kc_draws::Draws;
 use kc_graph::{Graph, NoMemory, Update, decompose};
 use kc_journal::{Journal, Receipt, plan_held};
 use kc_table::{Entry, Pass, Words};
 use kc_view::Scratch;
 use kc_words::{INDICES, VERTICES};
+use rand_core::SeedableRng;
+use rand_xoshiro::Xoshiro256PlusPlus;
 use std::alloc::Global;
 
 /// What a journal answers to whoever asks everything but its lists of neighbours.
@@ -132,7 +133,12 @@ impl Held {
     }
 
     /// The same with an update that is drawn.
-    fn draw_and_step(&mut self, alloc: Global, index: u32, draws: &mut Draws) -> Result<()>
+    fn draw_and_step(
+        &mut self,
+        alloc: Global,
+        index: u32,
+        draws: &mut Xoshiro256PlusPlus,
+    ) -> Result<()>
         requires { index < INDICES }
     {
         match draw(draws, &self.graph) {
@@ -142,9 +148,10 @@ impl Held {
     }
 
     /// The same so often, and a comparison after it.
-    fn work(&mut self, alloc: Global, updates: u32, draws: &mut Draws) -> Result<()> {
+    fn work(&mut self, alloc: Global, updates: u32, seed: u64) -> Result<()> {
+        let mut draws = Xoshiro256PlusPlus::seed_from_u64(seed);
         for index in 0..updates.min(INDICES) {
-            self.draw_and_step(alloc, index, draws)?;
+            self.draw_and_step(alloc, index, &mut draws)?;
         }
         compare(alloc, &self.journal, &self.graph)
     }
@@ -153,5 +160,5 @@ impl Held {
 /// So many updates of a graph without edges, one after another.
 pub(crate) fn work_held(alloc: Global, vertices: u32, updates: u32, seed: u64) -> Result<()> {
     let mut held = Held::open(alloc, Graph::new(alloc, vertices)?)?;
-    held.work(alloc, updates, &mut Draws::new(seed))
+    held.work(alloc, updates, seed)
 }

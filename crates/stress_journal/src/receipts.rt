@@ -4,7 +4,7 @@ use anyhow::{Result, bail};
 use kc_graph::{Graph, NoMemory, Update};
 use kc_journal::Receipt;
 use kc_table::Entry;
-use kc_workers::Share;
+use kc_workers::WorkerShare;
 use std::alloc::Global;
 
 /// Which updates of a batch were taken, whose first one has this index.
@@ -51,7 +51,7 @@ impl Taken {
     }
 
     /// The same for each receipt of a share. Answers how many plans were lost.
-    fn see_share(&mut self, graph: &Graph, batch: &[Update], share: &Share) -> Result<u64> {
+    fn see_share(&mut self, graph: &Graph, batch: &[Update], share: &WorkerShare) -> Result<u64> {
         let mut misses = 0u64;
         for done in &share.done {
             self.see(graph, batch, done.receipt)?;
@@ -61,7 +61,12 @@ impl Taken {
     }
 
     /// The same for all shares. It is an error too where an update has no receipt.
-    fn see_shares(&mut self, graph: &Graph, batch: &[Update], shares: &[Share]) -> Result<u64> {
+    fn see_shares(
+        &mut self,
+        graph: &Graph,
+        batch: &[Update],
+        shares: &[WorkerShare],
+    ) -> Result<u64> {
         let mut misses = 0u64;
         for share in shares {
             misses = misses.saturating_add(self.see_share(graph, batch, share)?);
@@ -73,7 +78,7 @@ impl Taken {
     }
 
     /// The same for each receipt of a share, also of an update that could not be told. Answers how many there are.
-    fn see_part(&mut self, graph: &Graph, batch: &[Update], share: &Share) -> Result<usize> {
+    fn see_part(&mut self, graph: &Graph, batch: &[Update], share: &WorkerShare) -> Result<usize> {
         self.see_share(graph, batch, share)?;
         let Some(receipt) = share.untold else {
             return Ok(share.done.len());
@@ -110,7 +115,7 @@ pub(crate) fn look_at(
     graph: &Graph,
     first: u32,
     batch: &[Update],
-    shares: &[Share],
+    shares: &[WorkerShare],
 ) -> Result<u64> {
     let mut taken = Taken::none(alloc, first, batch)?;
     taken.see_shares(graph, batch, shares)
@@ -123,7 +128,7 @@ pub(crate) fn look_at_part(
     graph: &Graph,
     first: u32,
     batch: &[Update],
-    shares: &[Share],
+    shares: &[WorkerShare],
 ) -> Result<usize> {
     let mut taken = Taken::none(alloc, first, batch)?;
     let mut told = 0usize;

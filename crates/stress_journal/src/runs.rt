@@ -3,8 +3,10 @@ use crate::crew::{Crew, Worked};
 use crate::gate::Holding;
 use crate::updates::draw_batch;
 use anyhow::Result;
-use kc_draws::Draws;
 use kc_graph::{Graph, Update};
+use rand::RngExt;
+use rand_core::SeedableRng;
+use rand_xoshiro::Xoshiro256PlusPlus;
 use std::alloc::Global;
 use std::sync::Wait;
 use std::thread::Threads;
@@ -49,16 +51,16 @@ pub(crate) struct Size {
     pub(crate) batches: u32,
     /// How many updates are drawn for a batch.
     pub(crate) updates: u32,
-    pub(crate) draws: Draws,
+    pub(crate) draws: Xoshiro256PlusPlus,
 }
 
 impl Size {
     /// A size that follows from the seed.
     pub(crate) fn drawn(seed: u64, workers: u32) -> Size {
-        let mut draws = Draws::new(seed);
+        let mut draws = Xoshiro256PlusPlus::seed_from_u64(seed);
         Size {
             workers,
-            vertices: 2 + draws.below(40),
+            vertices: draws.random_range(2u32..42),
             openings: 4,
             batches: 3,
             updates: 64,
@@ -74,7 +76,7 @@ impl Size {
             openings: 1,
             batches: 2,
             updates: 5,
-            draws: Draws::new(seed),
+            draws: Xoshiro256PlusPlus::seed_from_u64(seed),
         }
     }
 }
@@ -126,7 +128,7 @@ fn work_opening<R: Threads + Wait + Sync>(
     graph: Graph,
     counted: &mut Counted,
 ) -> Result<Graph> {
-    let left = 1 + size.draws.below(24);
+    let left = size.draws.random_range(1u32..25);
     let mut crew = Crew::open(alloc, graph, size.workers, left)?;
     for _ in 0..size.batches {
         crew = work_batch(rt, alloc, size, crew, counted)?;

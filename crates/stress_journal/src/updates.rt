@@ -1,32 +1,33 @@
 //! The updates of a batch.
 ghost use Rattle.std.specs.Prelude.{◌≡◌, ◌<◌, IfSome};
 
-use kc_draws::Draws;
 use kc_graph::{Graph, NoMemory, Update};
+use rand::RngExt;
+use rand_xoshiro::Xoshiro256PlusPlus;
 use std::alloc::Global;
 
 /// The ends of an edge between any two vertices, the lesser one first. `None` where there are less than two vertices.
-fn draw_ends(draws: &mut Draws, vertices: u32) -> Option<(u32, u32)>
+fn draw_ends(draws: &mut Xoshiro256PlusPlus, vertices: u32) -> Option<(u32, u32)>
     ensures ordered { IfSome result (λ ends. ends.0 < ends.1) }
     ensures within { IfSome result (λ ends. ends.1 < vertices) }
 {
     if vertices < 2 {
         return None;
     }
-    let first = draws.below(vertices);
-    let second = draws.other_below(vertices, first);
-    if first < second {
-        Some((first, second))
+    let first = draws.random_range(0..vertices);
+    let other = draws.random_range(0..vertices - 1);
+    if other < first {
+        Some((other, first))
     } else {
-        Some((second, first))
+        Some((first, other + 1))
     }
 }
 
 /// An update of an edge between any two vertices, seven times of eight one that changes the graph.
-pub(crate) fn draw(draws: &mut Draws, graph: &Graph) -> Option<Update> {
+pub(crate) fn draw(draws: &mut Xoshiro256PlusPlus, graph: &Graph) -> Option<Update> {
     let (u, v) = draw_ends(draws, graph.vertices())?;
     let there = graph.has(u, v);
-    let changes = draws.below(8) > 0;
+    let changes = draws.random_range(0u32..8) > 0;
     Some(Update {
         add: there != changes,
         u,
@@ -44,7 +45,7 @@ fn has_edge_of(batch: &[Update], update: Update) -> bool {
 /// At most so many updates of a graph, none of which has the edge of another.
 pub(crate) fn draw_batch(
     alloc: Global,
-    draws: &mut Draws,
+    draws: &mut Xoshiro256PlusPlus,
     graph: &Graph,
     updates: u32,
 ) -> Result<Vec<Update>, NoMemory> {

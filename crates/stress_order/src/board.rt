@@ -15,7 +15,7 @@ pub(crate) struct Told<K: Name> {
     pub(crate) ended: bool,
     pub(crate) pass: Pass,
     pub(crate) of: PhantomData<K>,
-    ghost of_table: { pass.table ≡ K.table },
+    ghost of_table: { pass.table ≡ K.opened.table },
     ghost within: { rounds ≤ LAST_ROUND },
 }
 
@@ -32,7 +32,7 @@ pub(crate) struct Heard {
 
 /// A board where nothing is told yet.
 pub(crate) fn open_board<K: Name>(pass: Pass) -> Board<K>
-    requires { pass.table ≡ K.table }
+    requires { pass.table ≡ K.opened.table }
 {
     Mutex::new(Told {
         rounds: 0,
@@ -50,9 +50,9 @@ pub(crate) fn tell<K: Name, R: Wait>(
     pass: &mut Pass,
     rounds: u32,
 )
-    requires table { pass.old.table ≡ K.table }
+    requires table { pass.old.table ≡ K.opened.table }
     requires rounds { rounds ≤ ROUNDS }
-    ensures { pass.new.table ≡ K.table }
+    ensures { pass.new.table ≡ K.opened.table }
 {
     let next = Told {
         rounds,
@@ -71,7 +71,7 @@ pub(crate) fn end<K: Name, R: Wait>(rt: &R, board: &Board<K>) {
 
 /// A pass that has seen what was told.
 pub(crate) fn pass_of<K: Name, R: Wait>(rt: &R, shared: &SharedOrder<K>, board: &Board<K>) -> Pass
-    ensures { result.table ≡ K.table }
+    ensures { result.table ≡ K.opened.table }
 {
     let mut told = board.lock(rt);
     split(shared.words(), &mut told.pass)
@@ -84,8 +84,8 @@ pub(crate) fn hear<K: Name, R: Wait>(
     board: &Board<K>,
     pass: &mut Pass,
 ) -> Heard
-    requires { pass.old.table ≡ K.table }
-    ensures { pass.new.table ≡ K.table }
+    requires { pass.old.table ≡ K.opened.table }
+    ensures { pass.new.table ≡ K.opened.table }
 {
     let mut told = board.lock(rt);
     let other = split(shared.words(), &mut told.pass);

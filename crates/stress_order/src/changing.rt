@@ -5,11 +5,13 @@ ghost use Rattle.stress_order.specs.declared.rounds.TheConstants.{ITEMS as ALL_I
 use crate::board::{Board, end, tell};
 use crate::rounds::{ITEMS, NEAR, ROUNDS};
 use crate::wrong::Wrong;
-use kc_draws::Draws;
 use kc_list::PlainOrder;
 use kc_order::SharedOrder;
 use kc_table::{Name, Pass};
 use kc_words::LAST_VERSION;
+use rand::RngExt;
+use rand_core::SeedableRng;
+use rand_xoshiro::Xoshiro256PlusPlus;
 use std::marker::PhantomData;
 use std::sync::Wait;
 
@@ -18,26 +20,26 @@ use std::sync::Wait;
 pub(crate) struct Changer<K: Name> {
     pass: Pass,
     plain: PlainOrder,
-    draws: Draws,
+    draws: Xoshiro256PlusPlus,
     pub(crate) stores: u64,
     of: PhantomData<K>,
-    ghost of_table: { pass.table ≡ K.table },
+    ghost of_table: { pass.table ≡ K.opened.table },
     ghost room: { plain.items ≡ ALL_ITEMS },
     ghost free: { plain.fixed ≡ 0 },
-    ghost same: { K.table.shape.items ≡ ALL_ITEMS },
+    ghost same: { K.opened.table.shape.items ≡ ALL_ITEMS },
 }
 
 impl<K: Name> Changer<K> {
     /// Nothing is done so far.
     pub(crate) fn new(pass: Pass, plain: PlainOrder, seed: u64) -> Changer<K>
-        requires table { pass.table ≡ K.table }
-        requires items { (plain.items ≡ ITEMS) × (K.table.shape.items ≡ ITEMS) }
+        requires table { pass.table ≡ K.opened.table }
+        requires items { (plain.items ≡ ITEMS) × (K.opened.table.shape.items ≡ ITEMS) }
         requires free { plain.fixed ≡ 0 }
     {
         Changer {
             pass,
             plain,
-            draws: Draws::new(seed),
+            draws: Xoshiro256PlusPlus::seed_from_u64(seed),
             stores: 0,
             of: PhantomData,
         }
@@ -111,8 +113,8 @@ impl<K: Name> Changer<K> {
         requires { (0 < round) × (round ≤ ROUNDS) }
     {
         let (odd, even) = (2 * round - 1, 2 * round);
-        let near = 2 * (round - 1 - self.draws.below(round.min(NEAR)));
-        let behind = 2 * (1 + self.draws.below(round));
+        let near = 2 * self.draws.random_range(round - round.min(NEAR)..round);
+        let behind = 2 * self.draws.random_range(1..round + 1);
         self.put(rt, shared, round, odd, near)?;
         self.put(rt, shared, round, even, 0)?;
         self.put(rt, shared, round, odd, behind)?;

@@ -5,9 +5,11 @@ ghost use Rattle.stress_order.specs.declared.rounds.TheConstants.{ITEMS as ALL_I
 use crate::board::{Board, Heard, hear, pass_of};
 use crate::rounds::{ITEMS, ROUNDS};
 use crate::wrong::Wrong;
-use kc_draws::Draws;
 use kc_order::{Answer, SharedOrder};
 use kc_table::{Name, Pass};
+use rand::RngExt;
+use rand_core::SeedableRng;
+use rand_xoshiro::Xoshiro256PlusPlus;
 use std::marker::PhantomData;
 use std::sync::Wait;
 
@@ -26,11 +28,11 @@ pub(crate) struct Found {
 #[derive(Drop)]
 struct Comparer<K: Name> {
     pass: Pass,
-    draws: Draws,
+    draws: Xoshiro256PlusPlus,
     found: Found,
     of: PhantomData<K>,
-    ghost of_table: { pass.table ≡ K.table },
-    ghost same: { K.table.shape.items ≡ ALL_ITEMS },
+    ghost of_table: { pass.table ≡ K.opened.table },
+    ghost same: { K.opened.table.shape.items ≡ ALL_ITEMS },
 }
 
 impl<K: Name> Comparer<K> {
@@ -101,8 +103,8 @@ impl<K: Name> Comparer<K> {
         if told.rounds == 0 {
             return;
         }
-        let early = 1 + self.draws.below(told.rounds);
-        let late = early + self.draws.below(told.rounds - early + 1);
+        let early = self.draws.random_range(1..told.rounds + 1);
+        let late = self.draws.random_range(early..told.rounds + 1);
         self.compare(shared, told, 0, 2 * late, Answer::Before);
         self.compare(shared, told, 2 * early, 0, Answer::After);
         if early < late {
@@ -130,11 +132,11 @@ pub(crate) fn compare_told<K: Name, R: Wait>(
     board: &Board<K>,
     seed: u64,
 ) -> Found
-    requires { K.table.shape.items ≡ ITEMS }
+    requires { K.opened.table.shape.items ≡ ITEMS }
 {
     let mut comparer = Comparer::<K> {
         pass: pass_of(rt, shared, board),
-        draws: Draws::new(seed),
+        draws: Xoshiro256PlusPlus::seed_from_u64(seed),
         found: Found {
             comparisons: 0,
             sure: 0,

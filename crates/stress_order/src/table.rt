@@ -58,10 +58,10 @@ fn next_differs<K: Name>(
     plain: &PlainOrder,
     first: u32,
 ) -> Option<Wrong>
-    requires table { pass.old.table ≡ K.table }
-    requires items { (plain.now.items ≡ ITEMS) × (K.table.shape.items ≡ ITEMS) }
+    requires table { pass.old.table ≡ K.opened.table }
+    requires items { (plain.now.items ≡ ITEMS) × (K.opened.table.shape.items ≡ ITEMS) }
     requires first { first < ITEMS }
-    ensures { pass.new.table ≡ K.table }
+    ensures { pass.new.table ≡ K.opened.table }
 {
     if !plain.present(first) {
         return None;
@@ -83,8 +83,8 @@ fn next_differs<K: Name>(
 
 /// What is wrong of the shared list at rest, beside the list of one thread.
 fn differs<K: Name>(shared: &SharedOrder<K>, mut pass: Pass, plain: &PlainOrder) -> Option<Wrong>
-    requires table { pass.table ≡ K.table }
-    requires items { (plain.now.items ≡ ITEMS) × (K.table.shape.items ≡ ITEMS) }
+    requires table { pass.table ≡ K.opened.table }
+    requires items { (plain.now.items ≡ ITEMS) × (K.opened.table.shape.items ≡ ITEMS) }
 {
     for first in 0..ITEMS {
         let wrong = next_differs(shared, &mut pass, plain, first);
@@ -118,8 +118,8 @@ fn race<K: Name + Send + Sync, R: Threads + Wait + Sync>(
     seed: u64,
     others: u32,
 ) -> Result<(Counted, Option<Wrong>), NoMemory>
-    requires table { (words ≡ K.table) × (writer.table ≡ K.table) × (pass.table ≡ K.table) }
-    requires shape { (K.table.shape.items ≡ ITEMS) × (K.table.shape.fixed ≡ 0) }
+    requires table { (words ≡ K.opened.table) × (writer.table ≡ K.opened.table) × (pass.table ≡ K.opened.table) }
+    requires shape { (K.opened.table.shape.items ≡ ITEMS) × (K.opened.table.shape.fixed ≡ 0) }
     requires plain { (plain.items ≡ ITEMS) × (plain.fixed ≡ 0) }
 {
     let shared = &SharedOrder::<K>::new(words, writer);
@@ -130,7 +130,7 @@ fn race<K: Name + Send + Sync, R: Threads + Wait + Sync>(
         rt,
         move || changer.change(rt, shared, board),
         move ||
-            requires { K.table.shape.items ≡ ITEMS }
+            requires { K.opened.table.shape.items ≡ ITEMS }
         { compare_by_all(rt, alloc, shared, board, seed, others) },
     );
     let mut counted = Counted {
@@ -154,14 +154,14 @@ fn compare_by_all<K: Name + Send + Sync, R: Threads + Wait + Sync>(
     seed: u64,
     others: u32,
 ) -> Result<Vec<Found>, NoMemory>
-    requires { K.table.shape.items ≡ ITEMS }
+    requires { K.opened.table.shape.items ≡ ITEMS }
 {
     thread::map_indices(
         rt,
         alloc,
         others as usize,
         &|index: usize|
-            requires { K.table.shape.items ≡ ITEMS }
+            requires { K.opened.table.shape.items ≡ ITEMS }
         {
             compare_told(
                 rt,

@@ -17,9 +17,9 @@ mod working;
 use crate::watching::{Watcher, one_of, watchers_of};
 use crate::working::work;
 use anyhow::{Result, bail};
-use kc_graph::{Graph, Update, core_numbers};
+use kc_graph::{Graph, core_numbers};
 use kc_snapshot::{Blank, BoardName, Publisher, Reader, open};
-use kc_text::{Input, MOST_BYTES, parse};
+use kc_text::{Batch, Input, MOST_BYTES, parse};
 use std::alloc::Global;
 use std::io::Read as _;
 use std::marker::Brand;
@@ -32,7 +32,7 @@ const WATCHERS: u32 = 4;
 
 /// What was seen of a run.
 #[derive(Drop)]
-struct Seen {
+struct ReaderSeen {
     /// The core numbers before the first batch, and after each.
     lists: Vec<Vec<u32>>,
     /// Whether all that the watchers read was right.
@@ -71,8 +71,8 @@ fn see_batches<J: BoardName + Send + Sync, R: Threads + Wait + Sync>(
     publisher: &mut Publisher<J, &R>,
     told: &mut Reader<J>,
     watchers: &mut [Watcher<J>],
-    batches: &[Vec<Update>],
-) -> Result<Seen>
+    batches: &[Batch],
+) -> Result<ReaderSeen>
     requires opened { length publisher.old ≡ 1 }
     requires few { length batches.now ≤ MOST_BATCHES }
     requires vertices { (width publisher.old ≡ graph.old.size) × (width told.old ≡ graph.old.size) }
@@ -89,7 +89,7 @@ fn see_batches<J: BoardName + Send + Sync, R: Threads + Wait + Sync>(
     );
     let lists = worked?;
     let right = watchers.iter().all(|watcher| watcher.is_right(&lists));
-    Ok(Seen { lists, right })
+    Ok(ReaderSeen { lists, right })
 }
 
 /// Makes the batches in a graph whose core numbers were published to these readers. One is told of each publish, and the others are watchers.
@@ -100,8 +100,8 @@ fn read_batches<J: BoardName + Send + Sync, R: Threads + Wait + Sync>(
     publisher: &mut Publisher<J, &R>,
     mut readers: Vec<Reader<J>>,
     first: &[u32],
-    batches: &[Vec<Update>],
-) -> Result<Seen>
+    batches: &[Batch],
+) -> Result<ReaderSeen>
     requires opened { publisher.old ≡ member first.now ∷ [] }
     requires readers { All (λ reader. reader ≡ member first.now ∷ []) readers.items }
     requires few { length batches.now ≤ MOST_BATCHES }
@@ -128,8 +128,8 @@ fn watch_batches<J: BoardName + Send + Sync, R: Threads + Wait + Sync>(
     alloc: Global,
     blank: Blank,
     graph: &mut Graph,
-    batches: &[Vec<Update>],
-) -> Result<Seen>
+    batches: &[Batch],
+) -> Result<ReaderSeen>
     requires blank { blank ≡ J.book }
     requires few { length batches.now ≤ MOST_BATCHES }
 {
@@ -141,7 +141,7 @@ fn watch_batches<J: BoardName + Send + Sync, R: Threads + Wait + Sync>(
 }
 
 /// Makes the batches of an input, while watchers read.
-fn watch_input<R: Threads + Wait + Sync>(rt: &R, alloc: Global, input: &Input) -> Result<Seen>
+fn watch_input<R: Threads + Wait + Sync>(rt: &R, alloc: Global, input: &Input) -> Result<ReaderSeen>
     requires few { length input.now.ids.items ≤ MOST_IDS }
     requires few_batches { length input.now.batches.items ≤ MOST_BATCHES }
 {
@@ -162,7 +162,7 @@ fn write_lists(rt: &HostRuntime, lists: &[Vec<u32>]) -> Result<()> {
 }
 
 /// Writes what was seen of a run.
-fn write_seen(rt: &HostRuntime, seen: &Seen) -> Result<()> {
+fn write_seen(rt: &HostRuntime, seen: &ReaderSeen) -> Result<()> {
     write_lists(rt, &seen.lists)?;
     if !seen.right {
         bail!("a watcher read what was not published");

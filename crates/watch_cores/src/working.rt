@@ -5,6 +5,7 @@ ghost use Rattle.kc_text.specs.declared.limits.TheConstants.{MOST_BATCHES};
 
 use kc_graph::{Graph, Update, core_numbers};
 use kc_snapshot::{BoardName, NoMemory, Publisher, Reader};
+use kc_text::Batch;
 use std::alloc::Global;
 use std::sync::Wait;
 
@@ -58,7 +59,7 @@ pub(crate) fn work<J: BoardName, R: Wait + Drop, W: Wait>(
     graph: &mut Graph,
     publisher: &mut Publisher<J, R>,
     told: &mut Reader<J>,
-    batches: &[Vec<Update>],
+    batches: &[Batch],
 ) -> Result<Vec<Vec<u32>>, NoMemory>
     requires opened { length publisher.old ≡ 1 }
     requires few { length batches.now ≤ MOST_BATCHES }
@@ -67,7 +68,7 @@ pub(crate) fn work<J: BoardName, R: Wait + Drop, W: Wait>(
     let mut lists = Vec::new(alloc);
     lists.push(list_seen(rt, alloc, publisher, told, graph.vertices())?)?;
     for batch in batches {
-        apply(graph, batch)?;
+        apply(graph, &batch.updates)?;
         publisher.publish(rt, &core_numbers(alloc, graph)?)?;
         lists.push(list_seen(rt, alloc, publisher, told, graph.vertices())?)?;
     }

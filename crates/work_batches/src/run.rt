@@ -3,11 +3,11 @@ ghost use Rattle.std.specs.Prelude.{◌≡◌, ◌<◌, ◌≤◌, All, IfOk, le
 ghost use Rattle.work_batches.specs.declared.run.TheConstants.{MOST, VERTICES};
 
 use anyhow::{Result, bail};
-use kc_batch::{BatchDone, CutShort, run_batch};
+use kc_batch::{BatchDone, CutShort, IndexedBatch, run_batch};
 use kc_graph::{Lawful, Update};
 use kc_shared::Parts;
-use kc_table::{Pass, Words, shape, split};
-use kc_workers::{NoGate, Worker};
+use kc_table::shape;
+use kc_workers::{NoGate, Worker, hire};
 use std::alloc::{AllocError as NoMemory, Global};
 use std::sync::Wait;
 use std::thread::Threads;
@@ -26,22 +26,6 @@ pub(crate) struct Run {
     ghost table: { All (λ w. w.table ≡ parts.words) workers.items },
 }
 
-/// So many workers that have seen what the pass has.
-fn hired(alloc: Global, words: &Words, pass: &mut Pass, count: u32) -> Result<Vec<Worker>>
-    requires { pass.old.table ≡ words.now }
-    ensures { IfOk result (λ workers. All (λ w. w.table ≡ words.now) workers.items) }
-{
-    let mut workers = Vec::new(alloc);
-    for _ in 0..count {
-        let own = split(words, pass);
-        let Ok(worker) = Worker::new(alloc, words, own) else {
-            bail!("no memory for a worker");
-        };
-        workers.push(worker)?;
-    }
-    Ok(workers)
-}
-
 impl Run {
     /// A run that begins with these core numbers, and so many workers.
     pub fn open(alloc: Global, state: Lawful, count: u32) -> Result<Run> {
@@ -49,7 +33,7 @@ impl Run {
             bail!("the graph has another number of vertices");
         }
         let (parts, mut pass) = Parts::open(alloc, state, 0)?;
-        let workers = hired(alloc, &parts.words, &mut pass, count)?;
+        let workers = hire(alloc, &parts.words, &mut pass, count)?;
         Ok(Run { parts, workers })
     }
 
@@ -90,7 +74,11 @@ impl Run {
         requires within { All (λ u. u.v < VERTICES) batch.now }
     {
         let Run { parts, mut workers } = self;
-        let (parts, done) = run_batch(rt, alloc, parts, &mut workers, first, batch, &NoGate);
+        let indexed = IndexedBatch {
+            first,
+            updates: batch,
+        };
+        let (parts, done) = run_batch(rt, alloc, parts, &mut workers, indexed, &NoGate);
         (Run { parts, workers }, done)
     }
 

@@ -5,4 +5,4 @@ use Rattle.bench_order.proofs.measure_shared.Given as goal
 
 abbrev pub ghosts-put_under_lock : goal.ghosts-put_under_lock
 ghosts-put_under_lock g a =
-    record { table = a.words; opening_edges = no_graph; opening_stamps = []; start_edges = no_graph; log = []; entries = [] }
+    record { opened = record { table = a.words; edges = no_graph; stamps = [] }; start_edges = no_graph; log = []; entries = [] }

@@ -1,19 +1,19 @@
 -- The updates that decide are the changes that decide, and the others are overruled.
-use Rattle.std.proofs.Common.{◌≡◌, ◌≤◌, ◌<◌, ◌-◌, ℕ, List, length, map, sym, ap, subst, ◌∙◌, Vec, Global}
+use Rattle.std.proofs.Common.{◌≤◌, ◌<◌, ℕ, List, length, map, sym, ap, subst, ◌∙◌, Vec, Global}
 use Rattle.std.specs.Prelude.{All}
 use Rattle.kc_graph.specs.declared.update.Update.{Update}
-use Rattle.kc_text.specs.declared.change.Change.{Change}
-use Rattle.kc_text.specs.LastUpdates.{last_of_edges}
+use Rattle.kc_text.specs.declared.change.ChangeLine.{ChangeLine}
+use Rattle.kc_text.specs.Deciding.{last_batch}
 use Rattle.kc_text.specs.Inputs.{numbered_change}
 use Rattle.kc_text.specs.declared.limits.TheConstants.{MOST_IDS, MOST_UPDATES}
-use Rattle.kc_text.proofs.Decided.{AreAllUpdates, all-deciding, all-overruled, all-short, all-within}
+use Rattle.kc_text.proofs.Decided.{AreAllUpdates, all-numbered, all-short, all-within}
 use Rattle.kc_text.proofs.input_of.Goals as goal
 use Rattle.kc_text.proofs.input_of.Goals.{After-deref-4}
 
 -- the updates are all changes of the batches
 are-all : (c : After-deref-4) → AreAllUpdates c.args.ids.items c.args.batches.now c.in_ok-updates.updates.items
 are-all c = c.in_ok-updates.ensures
-    ∙ ap (λ (ids : List ℕ). map (λ (batch : Vec Change Global). map (numbered_change ids) batch.items) c.args.batches.now) c.deref-3.ensures.value
+    ∙ ap (λ (ids : List ℕ). map (λ (batch : Vec ChangeLine Global). map (numbered_change ids) batch.items) c.args.batches.now) c.deref-3.ensures.value
 
 pub decide_batches-requires-clause-ends : goal.decide_batches-requires-clause-ends
 decide_batches-requires-clause-ends c =
@@ -28,14 +28,6 @@ decide_batches-requires-clause-short c = subst (All (λ (batch : Vec Update Glob
 
 pub returns-clause-batches : goal.returns-clause-batches
 returns-clause-batches c =
-    let found : map (λ batch. batch.items) c.in_ok-batches.batches.items ≡ map (λ batch. last_of_edges batch.items) c.in_ok-updates.updates.items =
-    c.in_ok-batches.ensures.deciding ∙ ap (map (λ (batch : Vec Update Global). last_of_edges batch.items)) c.deref-4.ensures.value in
-    all-deciding c.args.ids.items c.args.batches.now c.in_ok-updates.updates.items c.in_ok-batches.batches.items
-    (are-all (goal.at.returns-clause-batches c).After-deref-4) c.requires.batches found
-
-pub returns-clause-overruled : goal.returns-clause-overruled
-returns-clause-overruled c =
-    c.in_ok-batches.ensures.overruled ∙ (ap (map (λ (batch : Vec Update Global). length batch.items - length (last_of_edges batch.items)))
-    c.deref-4.ensures.value
-    ∙ all-overruled c.args.ids.items c.args.batches.now c.in_ok-updates.updates.items (are-all (goal.at.returns-clause-overruled c).After-deref-4)
+    c.in_ok-batches.ensures ∙ (ap (map (λ (batch : Vec Update Global). last_batch batch.items)) c.deref-4.ensures.value
+    ∙ all-numbered c.args.ids.items c.args.batches.now c.in_ok-updates.updates.items (are-all (goal.at.returns-clause-batches c).After-deref-4)
     c.requires.batches)

@@ -1,29 +1,26 @@
 -- The reading is accepted, and the input is made of it.
 use Rattle.std.proofs.Common.{◌≡◌, ◌≢◌, ◌≤◌, ℕ, List, length, ap, sym, subst, ◌∙◌, arith, Vec, Global, map}
-use Rattle.kc_text.specs.declared.change.Change.{Change}
+use Rattle.kc_text.specs.declared.change.ChangeLine.{ChangeLine}
 use Rattle.kc_text.specs.declared.input.Input.{Input}
 use Rattle.kc_text.specs.declared.reading.Reading.{Reading}
 use Rattle.kc_text.specs.Meaning.{ends, ends_of}
-use Rattle.kc_text.specs.Inputs.{AreAmong, AreEdges, parts_of, start_graph}
-use Rattle.kc_text.specs.Overruling.{overruled}
+use Rattle.kc_text.specs.Inputs.{AreAmong, AreEdges, numbered_batch, parts_of_batch, start_graph}
 use Rattle.std.specs.Prelude.{All}
 use Rattle.kc_text.proofs.Batched.{Accepted, IsMadeOf, accepted-apart, accepted-batches, accepted-edges, accepted-short, input-made, made-batches, made-counts}
-use Rattle.kc_text.proofs.Batched.{made-few_batches, made-short, numbered_deciding, reading-accepted}
+use Rattle.kc_text.proofs.Batched.{made-few_batches, made-short, reading-accepted}
 use Rattle.kc_text.specs.declared.limits.TheConstants.{MOST_UPDATES}
 use Rattle.kc_text.proofs.parse.Goals as goal
 use Rattle.kc_text.proofs.parse.Goals.{After-deref-2, After-drop-reading-3}
 
 -- the lists that `input_of` had are those of the reading
-made_of : (reading : Reading) (input : Input) (edges : List (ℕ × ℕ)) (batches : List (Vec Change Global)) → edges ≡ reading.edges.items
+made_of : (reading : Reading) (input : Input) (edges : List (ℕ × ℕ)) (batches : List (Vec ChangeLine Global)) → edges ≡ reading.edges.items
     → batches ≡ reading.batches.items
     → input.ids.items ≡ reading.ids.items → AreEdges (start_graph reading.ids.items edges) input.start.items
-    → map (λ batch. map parts_of batch.items) input.batches.items ≡ map (λ batch. numbered_deciding reading.ids.items batch.items) batches
-    → input.overruled.items ≡ map (λ batch. overruled batch.items) batches → IsMadeOf reading input
-made_of reading input edges batches e b ids start parts counts = record {
+    → map parts_of_batch input.batches.items ≡ map (λ batch. numbered_batch reading.ids.items batch.items) batches → IsMadeOf reading input
+made_of reading input edges batches e b ids start parts = record {
   ids = ids;
   start = subst (λ (es : List (ℕ × ℕ)). AreEdges (start_graph reading.ids.items es) input.start.items) e start;
-  batches = parts ∙ ap (map (λ (batch : Vec Change Global). numbered_deciding reading.ids.items batch.items)) b;
-  overruled = counts ∙ ap (map (λ (batch : Vec Change Global). overruled batch.items)) b;
+  batches = parts ∙ ap (map (λ (batch : Vec ChangeLine Global). numbered_batch reading.ids.items batch.items)) b;
 }
 
 -- the reading has no refusal, so it is accepted
@@ -33,7 +30,7 @@ is-accepted c = reading-accepted c.args.bytes.now c.in_ok-reading.reading c.in_o
 -- the input is made of it
 is-made : (c : After-drop-reading-3) → IsMadeOf c.in_ok-reading.reading c.in_ok-input_of.field-0
 is-made c = made_of c.in_ok-reading.reading c.in_ok-input_of.field-0 _ _ c.deref.ensures.value c.deref-2.ensures.value c.in_ok-input_of.ensures.ids
-    c.in_ok-input_of.ensures.start c.in_ok-input_of.ensures.batches c.in_ok-input_of.ensures.overruled
+    c.in_ok-input_of.ensures.start c.in_ok-input_of.ensures.batches
 
 pub input_of-requires-clause-few : goal.input_of-requires-clause-few
 input_of-requires-clause-few c = let a = is-accepted (goal.at.input_of-requires-clause-few c).After-deref-2 in omega (arith, a.few)
@@ -45,17 +42,17 @@ input_of-requires-clause-edges c =
 
 pub input_of-requires-clause-batches : goal.input_of-requires-clause-batches
 input_of-requires-clause-batches c =
-    subst (λ (bs : List (Vec Change Global)). All (λ batch. AreAmong c.in_ok-reading.reading.ids.items (ends (map ends_of batch.items))) bs)
+    subst (λ (bs : List (Vec ChangeLine Global)). All (λ batch. AreAmong c.in_ok-reading.reading.ids.items (ends (map ends_of batch.items))) bs)
     (sym c.deref-2.ensures.value) (accepted-batches _ _ (is-accepted (goal.at.input_of-requires-clause-batches c).After-deref-2))
 
 pub input_of-requires-clause-apart : goal.input_of-requires-clause-apart
 input_of-requires-clause-apart c =
-    subst (λ (bs : List (Vec Change Global)). All (λ batch. All (λ c. c.a ≢ c.b) batch.items) bs) (sym c.deref-2.ensures.value)
+    subst (λ (bs : List (Vec ChangeLine Global)). All (λ batch. All (λ c. c.a ≢ c.b) batch.items) bs) (sym c.deref-2.ensures.value)
     (accepted-apart _ _ (is-accepted (goal.at.input_of-requires-clause-apart c).After-deref-2))
 
 pub input_of-requires-clause-short : goal.input_of-requires-clause-short
 input_of-requires-clause-short c =
-    subst (λ (bs : List (Vec Change Global)). All (λ batch. length batch.items ≤ MOST_UPDATES) bs) (sym c.deref-2.ensures.value)
+    subst (λ (bs : List (Vec ChangeLine Global)). All (λ batch. length batch.items ≤ MOST_UPDATES) bs) (sym c.deref-2.ensures.value)
     (accepted-short _ _ (is-accepted (goal.at.input_of-requires-clause-short c).After-deref-2))
 
 pub returns-clause-input : goal.returns-clause-input

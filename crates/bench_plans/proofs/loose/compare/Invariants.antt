@@ -5,9 +5,7 @@ use Rattle.bench_plans.proofs.loose.compare.Given as goal
 
 abbrev pub ghosts-compare_at_rest : goal.ghosts-compare_at_rest
 ghosts-compare_at_rest g a = record {
-  table = a.words.now;
-  opening_edges = a.journal.now.graph;
-  opening_stamps = a.journal.now.edge_stamps;
+  opened = record { table = a.words.now; edges = a.journal.now.graph; stamps = a.journal.now.edge_stamps };
   start_edges = no_graph;
   log = [];
   entries = [];

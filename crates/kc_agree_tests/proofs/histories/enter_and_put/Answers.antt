@@ -3,7 +3,7 @@ use Rattle.std.proofs.Common.{◌<◌, ap, arith, subst, ◌∙◌}
 use Rattle.kc_words.specs.declared.shape.Shape.{Shape}
 use Rattle.kc_table.specs.Legal.{MayPut}
 use Rattle.kc_table.specs.Log.{Seen, TableName}
-use Rattle.kc_table.specs.State.{state_of}
+use Rattle.kc_table.specs.TableState.{state_of}
 use Rattle.kc_agree_tests.proofs.Sections.{may_put, next_entry-entered, same_stamp}
 use Rattle.kc_agree_tests.proofs.histories.enter_and_put.Goals as goal
 

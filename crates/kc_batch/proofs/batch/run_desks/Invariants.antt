@@ -2,4 +2,4 @@
 use Rattle.kc_batch.proofs.batch.run_desks.Given as goal
 
 abbrev pub ghost-work_off : goal.ghost-work_off
-ghost-work_off g a = record { old = a.crew.parts.journal; first = a.first; batch = a.batch.now }
+ghost-work_off g a = a.state.parts.journal

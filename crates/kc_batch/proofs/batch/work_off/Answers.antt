@@ -1,60 +1,49 @@
 -- A round more, and what comes after it.
-use Rattle.std.proofs.Common.{◌≡◌, ◌∙◌, ℕ, All, List, ap, subst, sym, arith, length, map, vec_len}
-use Rattle.kc_graph.specs.declared.update.Update.{Update}
-use Rattle.kc_table.specs.Log.{TableName}
+use Rattle.std.proofs.Common.{◌≡◌, ◌∙◌, ℕ, All, ap, subst, sym, arith, vec_len}
 use Rattle.kc_journal.specs.Journals.{Stands}
-use Rattle.kc_stripes.specs.Records.{opened_with}
-use Rattle.kc_batch.specs.Batches.{IsCrew}
-use Rattle.kc_batch.specs.Desks.{Desked, KeepsOneOf, Work, at_turns}
-use Rattle.kc_batch.specs.Seats.{Rounds}
-use Rattle.kc_batch.specs.declared.crew.Crew.{Crew}
-use Rattle.kc_batch.proofs.Closing.{IsRound, crew-round, round-many, round-spent}
+use Rattle.kc_table.specs.Log.{TableName}
+use Rattle.kc_batch.specs.Batches.{IsBatchState, IsStateOfBatch}
+use Rattle.kc_batch.specs.Desks.{Desked, KeepsOneOf}
+use Rattle.kc_batch.specs.declared.state.BatchState.{BatchState}
+use Rattle.kc_batch.proofs.Closing.{IsRound, round-many, round-spent, state-round}
 use Rattle.kc_batch.proofs.batch.work_off.Goals as goal
 
-pub returns-in-Err-clause-crew : goal.returns-in-Err-clause-crew
-returns-in-Err-clause-crew g c =
-    subst (λ (k : Crew). IsCrew g.of.old g.of.first g.of.batch c.loop.ended.items c.args.line.now k.parts.words k.parts.journal k.desks.items k.consumer)
-    (sym c.in-Err.ensures.same) c.loop.invariant.crew
+pub returns-in-Err-clause-state : goal.returns-in-Err-clause-state
+returns-in-Err-clause-state g c =
+    subst (IsStateOfBatch g.began c.args.turns.now c.loop.ended.items) (sym c.in-Err.ensures.same) c.loop.invariant.state
 
 pub go_on-requires : goal.go_on-requires
 go_on-requires g c κs within =
-    let b = g.of in
     let i = c.loop.invariant in
-    let order = c.args.line.now.order.items in
-    let now : Crew = c.loop.crew in
-    let next : Crew = c.in-Ok.after in
+    let turns = c.args.turns.now in
+    let batch = turns.batch in
+    let now : BatchState = c.loop.state in
+    let next : BatchState = c.in-Ok.after in
     let made = c.in-Ok.ensures in
-    let works : List Desked → List Work = map (λ (d : Desked). d.work) in
-    let Made : ℕ → List Update → Type 0 = λ first batch.
-    Rounds (opened_with now.parts.words now.parts.journal.opened now.parts.journal.opening_stamps) now.parts.journal.levels.log next.parts.journal.levels.log
-    first batch (works now.desks.items) (works next.desks.items) (at_turns order now.consumer.taken)
-    (at_turns order next.consumer.taken) made.rounds.0 in
-    let round : IsRound now.parts.words b.first b.batch c.args.line.now now.parts.journal next.parts.journal now.desks.items next.desks.items
+    let round : IsRound now.parts.words batch.first batch.updates.now turns now.parts.journal next.parts.journal now.desks.items next.desks.items
     now.consumer next.consumer = record {
-      stood = subst Stands (ap (λ (k : Crew). k.parts.journal) c.crew.view_is) c.look.ensures;
-      stands = subst Stands (ap (λ (k : Crew). k.parts.journal) c.crew-in-loop.view_is) c.look-in-loop.ensures;
+      stood = subst Stands (ap (λ (k : BatchState). k.parts.journal) c.state.view_is) c.recall_stands.ensures;
+      stands = subst Stands (ap (λ (k : BatchState). k.parts.journal) c.state-in-loop.view_is) c.recall_stands-in-loop.ensures;
       stays = made.stays;
       made = made.rounds.0;
       total = made.rounds.1;
       quiet = made.quiet;
-      rounds = subst (λ (first : ℕ). Made first b.batch) (sym i.of_first) (subst (Made c.args.first) (sym i.of_batch) made.rounds.2);
+      rounds = made.rounds.2;
       told = made.told;
       owns = made.consumer;
     } in (
       within,
       (
-        subst (λ (t : TableName). IsCrew b.old b.first b.batch c.loop.ended.items c.args.line.now t next.parts.journal next.desks.items next.consumer)
-            (sym made.words) (crew-round round i.crew),
+        subst (λ (t : TableName).
+            IsBatchState g.began batch.first batch.updates.now c.loop.ended.items turns t next.parts.journal next.desks.items next.consumer)
+            (sym made.words) (state-round round i.state),
         (
-          round-spent round i.crew.table,
+          round-spent round i.state.table,
           (
             round.stands,
             (
               i.numbers,
-              (
-                i.count ∙ ap (λ (us : List Update). length us) (sym i.of_batch),
-                omega (arith, round-many now.desks.items next.desks.items made.rounds.2, next.desks.ok.0, now.desks.ok.0, i.some),
-              ),
+              (i.turns, omega (arith, round-many now.desks.items next.desks.items made.rounds.2, next.desks.ok.0, now.desks.ok.0, i.some)),
             ),
           ),
         ),
@@ -66,16 +55,15 @@ loop-preserved g c =
     let at = c.loop.invariant in
     let r = c.in-Ok-true.ensures in
     let k = c.in-Ok.ensures in
-    let many = round-many c.loop.crew.desks.items c.in-Ok.after.desks.items k.rounds.2 in
-    let same : vec_len c.in-Ok.after.desks ≡ vec_len c.loop.crew.desks = omega (arith, many, c.in-Ok.after.desks.ok.0, c.loop.crew.desks.ok.0) in
+    let many = round-many c.loop.state.desks.items c.in-Ok.after.desks.items k.rounds.2 in
+    let same : vec_len c.in-Ok.after.desks ≡ vec_len c.loop.state.desks = omega (arith, many, c.in-Ok.after.desks.ok.0, c.loop.state.desks.ok.0) in
     record {
-      crew = r.crew;
-      keeps = subst (λ (n : ℕ). All (λ (d : Desked). KeepsOneOf n d.work.left) c.go_on.new.self.desks.items) at.count (r.keeps c.in-Ok-true.field-0-test);
+      state = r.state;
+      keeps = subst (λ (n : ℕ). All (λ (d : Desked). KeepsOneOf n d.work.left) c.go_on.new.self.desks.items) at.turns.count
+          (r.keeps c.in-Ok-true.field-0-test);
       as_many = omega (arith, r.as_many, same, at.as_many);
       size = r.size ∙ (ap (λ (t : TableName). t.shape.fixed) k.words ∙ at.size);
       some = omega (arith, r.as_many, same, at.some);
-      of_first = at.of_first;
-      of_batch = at.of_batch;
-      count = at.count;
+      turns = at.turns;
       numbers = at.numbers;
     }

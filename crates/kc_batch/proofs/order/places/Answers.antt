@@ -1,7 +1,7 @@
 -- One number more is the next.
 use Rattle.std.proofs.Common.{◌≡◌, ◌∙◌, ◌+◌, ◌∷◌, ℕ, suc, [], ap, eqb, arith}
-use Rattle.kc_distinct.specs.Lists.{below, times}
-use Rattle.kc_distinct.proofs.Counting.{count-cons}
+use Rattle.kc_lists.specs.Lists.{below, times}
+use Rattle.kc_lists.proofs.Counting.{count-cons}
 use Rattle.kc_queue.proofs.Counts.{times-append, whole_times}
 use Rattle.kc_batch.proofs.order.places.Goals as goal
 

@@ -1,7 +1,7 @@
 -- The numbers so far are those below the next.
 use Rattle.std.proofs.Common.{◌≡◌, ◌≤◌, ℕ, vec_len}
 use Rattle.std.specs.Prelude.{vec_capacity}
-use Rattle.kc_distinct.specs.Lists.{below, times}
+use Rattle.kc_lists.specs.Lists.{below, times}
 use Rattle.kc_batch.proofs.order.places.Given as goal
 
 abbrev pub invariant-loop-place : goal.invariant-loop-place

@@ -1,6 +1,6 @@
 -- The last place is not before that of `w`, and a place where another vertex stands is behind it.
 use Rattle.std.proofs.Common.{◌≢◌, get_or, ◌∙◌, ap, arith}
-use Rattle.kc_distinct.specs.Lists.{place_of}
+use Rattle.kc_lists.specs.Lists.{place_of}
 use Rattle.kc_cert.proofs.Ordered.{rank-here}
 use Rattle.kc_cert.proofs.chains.place_from_end.Goals as goal
 

@@ -1,6 +1,6 @@
 -- The place is in the line and not before that of `w`, and falls with each turn.
 use Rattle.std.proofs.Common.{◌<◌, ◌≤◌, length}
-use Rattle.kc_distinct.specs.Lists.{place_of}
+use Rattle.kc_lists.specs.Lists.{place_of}
 use Rattle.kc_cert.proofs.chains.place_from_end.Given as goal
 
 abbrev pub invariant-loop-place : goal.invariant-loop-place

@@ -5,7 +5,7 @@ use Rattle.kc_cert.proofs.Counts.{high_count}
 use Rattle.kc_cert.proofs.conditions.has_enough_as_high.Goals as goal
 use Rattle.kc_graph.specs.Certificate.{degree_as_high}
 use Rattle.kc_graph.proofs.NeighbourLists.{row_within}
-use Rattle.kc_distinct.specs.Lists.{below}
+use Rattle.kc_lists.specs.Lists.{below}
 
 pub at_least-requires : goal.at_least-requires
 at_least-requires c = λ k d l. omega (arith, row_within c.args.graph.now c.loop-v.v c.neighbours.result.now c.neighbours.ensures k d l, c.requires)

@@ -1,9 +1,9 @@
 -- A member stands at one of the places that were looked at.
 use Rattle.std.proofs.Common.{refl, ◌∙◌, subst, arith}
-use Rattle.kc_distinct.proofs.Counting.{Contains-from_member}
+use Rattle.kc_lists.proofs.Counting.{Contains-from_member}
 use Rattle.kc_cert.specs.Local.{IsOfLevel}
 use Rattle.kc_cert.proofs.fitting.are_of_level.Goals as goal
-use Rattle.kc_distinct.proofs.Shared.{get_or-any}
+use Rattle.kc_lists.proofs.Shared.{get_or-any}
 
 pub returns : goal.returns
 returns g c = (

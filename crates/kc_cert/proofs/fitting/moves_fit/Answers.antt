@@ -1,6 +1,6 @@
 -- Vertices that fall are told by `can_fall` as the moves' conditions tell them.
 use Rattle.std.proofs.Common.{ℕ, List, sym, ◌∙◌}
-use Rattle.kc_distinct.specs.Lists.{Distinct}
+use Rattle.kc_lists.specs.Lists.{Distinct}
 use Rattle.kc_graph.specs.Lawful.{Ranked}
 use Rattle.kc_graph.specs.declared.plan.Moves.{Moves}
 use Rattle.kc_cert.proofs.FittingMoves.{fall_to, fall_from}

@@ -1,7 +1,7 @@
 -- Each turn looks around the next moved vertex; a failed look refutes that vertex, and in the end every moved one had its turn.
 use Rattle.std.proofs.Common.{◌≤◌, ℕ, length, get_or, refl, sym, ◌∙◌, ap, subst, inl, inr, arith, true≢false}
 use Rattle.std.proofs.lemmas.Bool.{cases_eq, false≢true}
-use Rattle.kc_distinct.proofs.Counting.{member-get_or}
+use Rattle.kc_lists.proofs.Counting.{member-get_or}
 use Rattle.kc_graph.specs.Lawful.{Ranked}
 use Rattle.kc_cert.specs.Looks.{HoldsAround}
 use Rattle.kc_cert.specs.Stands.{changed_by}

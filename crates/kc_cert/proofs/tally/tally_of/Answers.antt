@@ -1,8 +1,8 @@
 -- After the update a count over neighbours is that over the kept ones, and one more for the other end of an edge that comes.
 use Rattle.std.proofs.Common.{◌≡◌, ◌+◌, ◌&&◌, ℕ, Bool, Some, get_or, leb, sym, ◌∙◌, arith}
 use Rattle.std.specs.Prelude.{count_by}
-use Rattle.kc_distinct.specs.Lists.{below}
-use Rattle.kc_distinct.proofs.Counting.{one_if}
+use Rattle.kc_lists.specs.Lists.{below}
+use Rattle.kc_lists.proofs.Counting.{one_if}
 use Rattle.kc_graph.specs.SimpleGraph.{adjacent}
 use Rattle.kc_graph.specs.Neighbours.{neighbours_of}
 use Rattle.kc_graph.specs.Lawful.{Ranked}

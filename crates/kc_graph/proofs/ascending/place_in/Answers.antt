@@ -2,7 +2,7 @@
 use Rattle.std.proofs.lemmas.List.Sorted.{searched}
 use Rattle.kc_graph.proofs.RowsLemmas.{place_at_end}
 use Rattle.kc_graph.proofs.ascending.place_in.Goals as goal
-use Rattle.kc_distinct.proofs.Shared.{never_falls}
+use Rattle.kc_lists.proofs.Shared.{never_falls}
 
 pub returns-in-Some : goal.returns-in-Some
 returns-in-Some c = place_at_end c.args.row.now c.args.w c.in-Some.last.now c.requires c.in-Some.ensures.value c.if-last-w.true

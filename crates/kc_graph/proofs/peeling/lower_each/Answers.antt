@@ -1,6 +1,6 @@
 -- Neighbours are distinct, so the next one has its first number still: above the level it loses one, and else it is passed over.
 use Rattle.std.proofs.Common.{arith, ◌≡◌, ℕ, get_or}
-use Rattle.kc_distinct.proofs.Counting.{member-get_or, take-not_here}
+use Rattle.kc_lists.proofs.Counting.{member-get_or, take-not_here}
 use Rattle.kc_graph.specs.Rows.{lists}
 use Rattle.kc_graph.specs.Peeling.{at}
 use Rattle.kc_graph.proofs.Buckets.{length-lists}

@@ -2,7 +2,7 @@
 use Rattle.std.proofs.Common.{◌≡◌, ◌<◌, ◌≤◌, ℕ, length, take, drop, get_or}
 use Rattle.std.specs.List.{between}
 use Rattle.std.specs.List.Sorted.{IsStrictlyIncreasing}
-use Rattle.kc_distinct.specs.Lists.{member}
+use Rattle.kc_lists.specs.Lists.{member}
 use Rattle.kc_graph.specs.Rows.{row}
 use Rattle.kc_graph.specs.Blocks.{LieFrom, entries_of_each, first_of}
 use Rattle.kc_graph.proofs.tidying.rows_in.Given as goal

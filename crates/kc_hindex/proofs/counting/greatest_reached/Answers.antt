@@ -1,7 +1,7 @@
 -- So many numbers reach the one where the search stands; while these are too few, the h-index lies below.
 use Rattle.std.proofs.Common.{◌≡◌, ◌≤◌, ◌<◌, ◌-◌, ℕ, map, get_or, leb, eqb, min, le_refl, arith, ◌∙◌}
 use Rattle.std.specs.Prelude.{count_by}
-use Rattle.kc_distinct.proofs.Counting.{count-le-length}
+use Rattle.kc_lists.proofs.Counting.{count-le-length}
 use Rattle.kc_hindex.specs.Rounds.{h_index}
 use Rattle.kc_hindex.proofs.HIndex.{in_reach, out_of_reach}
 use Rattle.kc_hindex.proofs.BoundedCounts.{bounded-at, bounded-below, reach-from}

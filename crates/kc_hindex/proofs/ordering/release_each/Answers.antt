@@ -1,7 +1,7 @@
 -- The vertex whose turn it is has what it had before the call; it loses one and waits, or loses one, or is passed.
 use Rattle.std.proofs.Common.{arith, ◌≡◌, ◌<◌, ◌+◌, ℕ, length, get_or, inl, inr}
 use Rattle.std.proofs.lemmas.Bool.{cases_eq}
-use Rattle.kc_distinct.proofs.Counting.{member-get_or, take-not_here}
+use Rattle.kc_lists.proofs.Counting.{member-get_or, take-not_here}
 use Rattle.kc_graph.specs.Rows.{lists}
 use Rattle.kc_graph.specs.Peeling.{at}
 use Rattle.kc_graph.proofs.Buckets.{length-lists}

@@ -1,6 +1,6 @@
 -- Who comes out of the row of the level is taken; once the row is empty, no vertex of the level is left.
 use Rattle.std.proofs.Common.{arith, sym, subst, ◌≤◌, ℕ, List, length}
-use Rattle.kc_distinct.proofs.Members.{below_bound}
+use Rattle.kc_lists.proofs.Members.{below_bound}
 use Rattle.kc_graph.specs.Rows.{lists}
 use Rattle.kc_graph.proofs.Buckets.{length-lists}
 use Rattle.kc_hindex.specs.Ordering.{IsNext, Orders}

@@ -1,7 +1,7 @@
 -- While a round changes a number the sum of the numbers falls; once one changes none, the numbers have settled.
 use Rattle.std.proofs.Common.{◌≡◌, ◌<◌, ◌+◌, ◌∙◌, ℕ, suc, List, length, sym, subst, arith}
 use Rattle.std.proofs.lemmas.Bool.{true≢false}
-use Rattle.kc_distinct.specs.Lists.{total}
+use Rattle.kc_lists.specs.Lists.{total}
 use Rattle.kc_graph.specs.SimpleGraph.{SimpleGraph}
 use Rattle.kc_hindex.specs.Rounds.{AreRounds, HasRound, after_rounds}
 use Rattle.kc_hindex.proofs.Settling.{falls-by-one, later-settled, round-next, round-over, round-unchanged, settled-here, total-fits}

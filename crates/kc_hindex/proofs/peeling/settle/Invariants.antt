@@ -1,6 +1,6 @@
 -- The numbers are those after `changing` rounds, none of which settled, so that the sum of the numbers fell by at least one in each.
 use Rattle.std.proofs.Common.{◌≤◌, ◌+◌, ℕ, length}
-use Rattle.kc_distinct.specs.Lists.{total}
+use Rattle.kc_lists.specs.Lists.{total}
 use Rattle.kc_hindex.specs.Pieces.{AreDealt, AreReady}
 use Rattle.kc_hindex.specs.Rounds.{after_rounds, HasRound, IsSettled}
 use Rattle.kc_hindex.proofs.peeling.settle.Given as goal

@@ -1,7 +1,7 @@
 -- The core number that was told puts `x` above, below or on the level; on the level the order that was told says if it is behind `w`.
 use Rattle.std.proofs.Common.{List, ◌≡◌, ◌<◌, ◌⊎◌, ◌&&◌, ◌||◌, ℕ, Bool, true, cond, get_or, eqb, ltb, sym, ◌∙◌, ap, subst, inl, inr, arith, eqb-true}
 use Rattle.std.proofs.lemmas.Bool.{or_cases, and_parts}
-use Rattle.kc_distinct.specs.Lists.{member}
+use Rattle.kc_lists.specs.Lists.{member}
 use Rattle.kc_graph.specs.Lawful.{Ranked}
 use Rattle.kc_graph.specs.declared.update.Update.{Update}
 use Rattle.kc_view.specs.Answers.{Answers, Agrees, has_list, list_of}
@@ -12,16 +12,17 @@ use Rattle.kc_insert.specs.declared.ahead.Side.{Side}
 use Rattle.kc_insert.specs.declared.ahead.Side.TheVariants.{Higher, Next, Before}
 use Rattle.kc_insert.specs.Rising.{AsksQueued}
 use Rattle.kc_insert.specs.Turns.{side_in}
-use Rattle.kc_insert.specs.Added.{search_with, is_added}
+use Rattle.kc_insert.specs.Added.{search_with}
+use Rattle.kc_graph.specs.Plans.{joins}
 use Rattle.kc_insert.proofs.Tidy.{asks-core, asks-order}
 use Rattle.kc_insert.proofs.ahead.side_of.Given.{Over}
 use Rattle.kc_insert.proofs.ahead.side_of.Goals.{In_ok-core, In_ok-stands_before}
 use Rattle.kc_insert.proofs.ahead.side_of.Goals as goal
 
 -- a neighbour once the edge is there is an end of it or was told
-neighbour-near : (update : Update) (a : Answers) (w x : ℕ) → has_list a w ≡ true → (member x (list_of a w) || is_added update w x) ≡ true
+neighbour-near : (update : Update) (a : Answers) (w x : ℕ) → has_list a w ≡ true → (member x (list_of a w) || joins update w x) ≡ true
     → (x ≡ update.u) ⊎ (x ≡ update.v) ⊎ (is_listed a x ≡ true)
-neighbour-near update a w x read m = elim (or_cases (member x (list_of a w)) (is_added update w x) m) [
+neighbour-near update a w x read m = elim (or_cases (member x (list_of a w)) (joins update w x) m) [
   | inl k ↦ inr (inr (is_listed-from a w x read k))
   | inr k ↦ elim (or_cases (eqb w update.u && eqb x update.v) (eqb w update.v && eqb x update.u) k) [
     | inl e ↦ inr (inl (eqb-true x update.v (and_parts (eqb w update.u) (eqb x update.v) e).1))

@@ -1,7 +1,7 @@
 -- By cases: the edge was there, nobody rises or is shifted, or some do; for each a lemma says that the moves are sure.
 use Rattle.std.proofs.Common.{◌≡◌, ℕ, true, false, List, [], ◌++◌, sym, ◌∙◌, subst}
-use Rattle.kc_distinct.specs.Lists.{member}
-use Rattle.kc_distinct.proofs.Shared.{no_items}
+use Rattle.kc_lists.specs.Lists.{member}
+use Rattle.kc_lists.proofs.Shared.{no_items}
 use Rattle.kc_cert.specs.Local.{firsts, seconds}
 use Rattle.kc_graph.specs.SimpleGraph.{adjacent}
 use Rattle.kc_graph.specs.Lawful.{Ranked, IsCertified}

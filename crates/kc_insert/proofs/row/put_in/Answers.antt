@@ -1,9 +1,9 @@
 -- A vertex that the row lacks goes to its place, where the row ascends still; one that it has is no neighbour more.
 use Rattle.std.proofs.Common.{◌≡◌, ◌<◌, ℕ, List, length, get_or, eqb, sym, ◌∙◌, ap, subst, eqb-true}
 use Rattle.std.specs.List.Sorted.{IsStrictlyIncreasing}
-use Rattle.kc_distinct.specs.Lists.{member}
-use Rattle.kc_distinct.proofs.Counting.{member-get_or}
-use Rattle.kc_distinct.proofs.Shared.{or-absorbs}
+use Rattle.kc_lists.specs.Lists.{member}
+use Rattle.kc_lists.proofs.Counting.{member-get_or}
+use Rattle.kc_lists.proofs.Shared.{or-absorbs}
 use Rattle.kc_graph.specs.Rows.{IsPlace}
 use Rattle.kc_graph.proofs.Inserting.{inserted_found}
 use Rattle.kc_insert.proofs.row.put_in.Goals as goal

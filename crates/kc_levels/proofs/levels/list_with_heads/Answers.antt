@@ -1,6 +1,6 @@
 -- Before each vertex the heads up to that of its level.
 use Rattle.std.proofs.Common.{◌<◌, ◌+◌, ◌-◌, ◌++◌, ℕ, List, [], ◌∷◌, get_or, refl, sym, ap, ◌∙◌, subst, arith}
-use Rattle.kc_distinct.proofs.Counting.{member-get_or}
+use Rattle.kc_lists.proofs.Counting.{member-get_or}
 use Rattle.kc_levels.specs.Heads.{parts_from, no_part}
 use Rattle.kc_levels.proofs.Opening.{Listing, listing-none, listing-next, listing-end}
 use Rattle.kc_levels.proofs.levels.list_with_heads.Goals as goal

@@ -1,7 +1,7 @@
 -- What stands before `x` once `v` is out stands before `v`, where that is what stands before `x`.
 use Rattle.std.proofs.Common.{◌≡◌, ◌≢◌, ◌<◌, ℕ, List, Option, Some, None, true, cond, eqb, sym, ◌∙◌, ap, arith, ne_eqb, eq-eqb}
 use Rattle.std.specs.Option.{MatchOption, unwrap_or}
-use Rattle.kc_distinct.specs.Lists.{member, Distinct, without, prev_of}
+use Rattle.kc_lists.specs.Lists.{member, Distinct, without, prev_of}
 use Rattle.kc_table.proofs.Listed.{Listed, list-stands}
 use Rattle.kc_order.specs.Standing.{list_after}
 use Rattle.kc_levels.proofs.Cuts.{prev_of-without}

@@ -1,6 +1,6 @@
 -- Heads are passed, and the first vertex behind is found.
 use Rattle.std.proofs.Common.{◌≡◌, true, length}
-use Rattle.kc_distinct.specs.Lists.{member}
+use Rattle.kc_lists.specs.Lists.{member}
 use Rattle.kc_order.specs.Standing.{list_after}
 use Rattle.kc_levels.specs.Heads.{behind, vertices_of}
 use Rattle.kc_levels.proofs.levels.vertex_behind.Given as goal

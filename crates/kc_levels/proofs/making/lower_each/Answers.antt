@@ -1,6 +1,6 @@
 -- One more has fallen at each turn, behind the others.
 use Rattle.std.proofs.Common.{get_or, ap, arith}
-use Rattle.kc_distinct.proofs.Counting.{member-get_or}
+use Rattle.kc_lists.proofs.Counting.{member-get_or}
 use Rattle.kc_table.specs.Log.{TableName}
 use Rattle.kc_levels.proofs.Steps.{fall-none, lower-may, lower-next}
 use Rattle.kc_levels.proofs.making.lower_each.Goals as goal

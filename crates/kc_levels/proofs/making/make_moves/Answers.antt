@@ -1,7 +1,7 @@
 -- Each kind of moves by its own function.
 use Rattle.std.proofs.Common.{◌≡◌, ◌<◌, ◌+◌, ◌-◌, ◌++◌, ℕ, List, true, Vec, Global, sym, ap, ◌∙◌, subst, arith}
-use Rattle.kc_distinct.specs.Lists.{member}
-use Rattle.kc_distinct.proofs.Members.{member-append_left}
+use Rattle.kc_lists.specs.Lists.{member}
+use Rattle.kc_lists.proofs.Members.{member-append_left}
 use Rattle.kc_graph.specs.Plans.{put_between, renumbered, shifted}
 use Rattle.kc_graph.specs.declared.plan.Moves.{Moves}
 use Rattle.kc_graph.specs.declared.plan.Moves.TheVariants.{Rise, Fall}

@@ -1,7 +1,7 @@
 -- One more has risen at each turn, before the others.
 use Rattle.std.proofs.Common.{◌≡◌, ◌<◌, ◌≤◌, ◌+◌, ◌-◌, ℕ, List, true, length, get_or, sym, ap, subst, arith}
-use Rattle.kc_distinct.specs.Lists.{member}
-use Rattle.kc_distinct.proofs.Counting.{member-get_or}
+use Rattle.kc_lists.specs.Lists.{member}
+use Rattle.kc_lists.proofs.Counting.{member-get_or}
 use Rattle.kc_graph.specs.Plans.{put_between, renumbered}
 use Rattle.kc_table.specs.Log.{TableName}
 use Rattle.kc_levels.specs.Heads.{up_to}

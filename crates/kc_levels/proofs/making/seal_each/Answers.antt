@@ -1,6 +1,6 @@
 -- One seal more at each turn.
 use Rattle.std.proofs.Common.{ℕ, get_or, take}
-use Rattle.kc_distinct.proofs.Counting.{member-get_or, take-not_here}
+use Rattle.kc_lists.proofs.Counting.{member-get_or, take-not_here}
 use Rattle.kc_levels.proofs.Steps.{seals-none, seal-may, seal-next}
 use Rattle.kc_levels.proofs.making.seal_each.Goals as goal
 

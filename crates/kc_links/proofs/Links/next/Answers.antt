@@ -1,7 +1,7 @@
 -- The link of a number that is in the ring is the number after it.
 use Rattle.std.proofs.Common.{◌≡◌, ◌<◌, ap, ◌∙◌, arith, get_or, true, length}
 use Rattle.std.proofs.lemmas.List.{get_or_read}
-use Rattle.kc_distinct.specs.Lists.{member}
+use Rattle.kc_lists.specs.Lists.{member}
 use Rattle.kc_links.specs.Ring.{walk}
 use Rattle.kc_links.proofs.Ring.{next_read}
 use Rattle.kc_links.proofs.Links.next.Goals as goal

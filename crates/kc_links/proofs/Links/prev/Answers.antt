@@ -1,7 +1,7 @@
 -- The link back of a number that is in the ring is the number before it.
 use Rattle.std.proofs.Common.{◌≡◌, ◌<◌, ap, ◌∙◌, arith, get_or, true, length}
 use Rattle.std.proofs.lemmas.List.{get_or_read}
-use Rattle.kc_distinct.specs.Lists.{member}
+use Rattle.kc_lists.specs.Lists.{member}
 use Rattle.kc_links.specs.Ring.{walk}
 use Rattle.kc_links.proofs.Ring.{prev_read}
 use Rattle.kc_links.proofs.Links.prev.Goals as goal

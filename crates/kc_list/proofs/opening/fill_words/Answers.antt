@@ -1,6 +1,6 @@
 -- The items are placed first, then the groups; neither changes what the other writes.
 use Rattle.std.proofs.Common.{◌≡◌, ◌+◌, ◌*◌, ◌/◌, ap, ◌∙◌, length, set, inl, inr, arith}
-use Rattle.kc_distinct.proofs.Members.{below_bound}
+use Rattle.kc_lists.proofs.Members.{below_bound}
 use Rattle.kc_list.specs.Opening.{opening_groups}
 use Rattle.kc_list.proofs.Openings.{opening_from, blank_facts}
 use Rattle.kc_list.proofs.opening.fill_words.Goals as goal

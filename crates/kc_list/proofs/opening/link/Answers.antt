@@ -1,7 +1,7 @@
 -- The places that were pushed are those before the next, which is not among them.
 use Rattle.std.proofs.Common.{ap, ◌∙◌, get_or, arith}
-use Rattle.kc_distinct.specs.Lists.{member}
-use Rattle.kc_distinct.proofs.Counting.{take-not_here, member-get_or}
+use Rattle.kc_lists.specs.Lists.{member}
+use Rattle.kc_lists.proofs.Counting.{take-not_here, member-get_or}
 use Rattle.kc_list.proofs.opening.link.Goals as goal
 
 pub push_back-requires-clause-x_out : goal.push_back-requires-clause-x_out

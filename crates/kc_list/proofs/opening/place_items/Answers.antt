@@ -1,7 +1,7 @@
 -- The items before the next have their places, and other words are as they were.
 use Rattle.std.proofs.Common.{◌+◌, ◌<◌, ◌∙◌, get_or, length, refl, arith}
 use Rattle.kc_list.proofs.Openings.{item_there, placed_step}
-use Rattle.kc_distinct.proofs.Counting.{member-get_or}
+use Rattle.kc_lists.proofs.Counting.{member-get_or}
 use Rattle.kc_list.proofs.opening.place_items.Goals as goal
 
 pub bounds-words-order : goal.bounds-words-order

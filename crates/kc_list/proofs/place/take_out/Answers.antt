@@ -1,6 +1,6 @@
 -- An item that is out leaves the list as it is.
 use Rattle.std.proofs.Common.{sym, ◌∙◌}
-use Rattle.kc_distinct.proofs.Members.{without-none}
+use Rattle.kc_lists.proofs.Members.{without-none}
 use Rattle.kc_list.proofs.place.take_out.Goals as goal
 
 pub returns-else-is_in-clause-list : goal.returns-else-is_in-clause-list

@@ -4,4 +4,4 @@ use Rattle.kc_table.specs.Log.{no_graph}
 use Rattle.kc_order_tests.proofs.lists.many_puts_after_the_first_item_stand_from_the_last_to_the_first.Given as goal
 
 abbrev pub ghosts-ask_a_long_list : goal.ghosts-ask_a_long_list
-ghosts-ask_a_long_list g a = record { table = a.words; opening_edges = no_graph; opening_stamps = []; start_edges = no_graph; log = []; entries = [] }
+ghosts-ask_a_long_list g a = record { opened = record { table = a.words; edges = no_graph; stamps = [] }; start_edges = no_graph; log = []; entries = [] }

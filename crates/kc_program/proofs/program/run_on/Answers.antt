@@ -13,28 +13,5 @@ returns-clause-ended g c =
     let are : AreWords c.args.args words = subst (λ (t : List (List ℕ)). AreWords c.args.args t) (sym same) c.in-Ok.ensures.words in (
       c.run-status.result,
       c.exit_with-2.ensures,
-      inl (
-        words,
-        c.run-status.ensures.line.0,
-        are,
-        record {
-          usage = c.run-status.ensures.usage;
-          wrong_words = c.run-status.ensures.wrong_words;
-          read = c.run-status.ensures.read;
-          took = c.run-status.ensures.took;
-          offered = c.run-status.ensures.offered;
-          leaves = c.run-status.ensures.ran;
-          told = c.run-status.ensures.line.1;
-          refused = c.run-status.ensures.refused;
-          refuses = c.run-status.ensures.refuses;
-          complete = c.run-status.ensures.complete;
-          accepted = c.run-status.ensures.accepted;
-        },
-        c.run-status.ensures.unread,
-        c.run-status.ensures.line.2,
-        c.run-status.ensures.line.3,
-      ),
-      c.run-status.ensures.quiet,
-      c.run-status.ensures.read_fault,
-      c.run-status.ensures.write_fault,
+      inl (words, are, c.run-status.ensures.ended, c.run-status.ensures.line),
     )

@@ -1,8 +1,8 @@
 -- By cases: the edge is not there; level 0, which no end of an edge has; nobody falls; or just those on the list lose one.
 use Rattle.std.proofs.Common.{◌<◌, sym, ◌∙◌, ap, subst, arith}
 use Rattle.std.proofs.lemmas.List.{append-nil}
-use Rattle.kc_distinct.specs.Lists.{member}
-use Rattle.kc_distinct.proofs.Shared.{no_items}
+use Rattle.kc_lists.specs.Lists.{member}
+use Rattle.kc_lists.proofs.Shared.{no_items}
 use Rattle.kc_view.proofs.Keeping.{GoesOn-trans, answers-agreed, tells-edge}
 use Rattle.kc_remove.specs.Falling.{AsksNear}
 use Rattle.kc_remove.proofs.Sureness.{kept-sure, plain-sure, fall-sure, removes-told, some-level}

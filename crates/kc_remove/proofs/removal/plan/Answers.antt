@@ -1,14 +1,15 @@
 -- What the search asked is what the plan hands out.
 use Rattle.std.proofs.Common.{sym, subst}
 use Rattle.kc_cert.specs.Local.{moved_vertices}
-use Rattle.kc_view.specs.Answers.{Answers, Agrees, answers_in}
-use Rattle.kc_view.proofs.Handing.{handed-lists}
+use Rattle.kc_view.specs.Answers.{Answers, answers_in}
+use Rattle.kc_view.proofs.Handing.{handed-lists, handed-plan}
 use Rattle.kc_remove.specs.Falling.{AsksNear}
 use Rattle.kc_remove.proofs.removal.plan.Goals as goal
 
-pub returns-clause-sure : goal.returns-clause-sure
-returns-clause-sure g c = λ s h l a.
-    c.in_ok-moves.ensures.sure s c.used-used.result h l (subst (λ (x : Answers). Agrees x s) c.used-used.ensures.all a)
+pub returns-clause-plan : goal.returns-clause-plan
+returns-clause-plan g c =
+    let found = c.in_ok-moves.ensures in
+    handed-plan c.args.update _ c.used-used.result c.in_ok-moves.moves c.used-used.ensures.all found.sure found.named found.asks.cores
 
 pub returns-clause-asked : goal.returns-clause-asked
 returns-clause-asked g c =

@@ -3,9 +3,7 @@ use Rattle.kc_shared_tests.proofs.overtaking.overtake_in_run.Given as goal
 
 abbrev pub ghosts-overtake_alone-K-Name : goal.ghosts-overtake_alone-K-Name
 ghosts-overtake_alone-K-Name g a = record {
-  table = a.parts.words;
-  opening_edges = a.parts.journal.opened;
-  opening_stamps = a.parts.journal.opening_stamps;
+  opened = record { table = a.parts.words; edges = a.parts.journal.opened; stamps = a.parts.journal.opening_stamps };
   start_edges = a.parts.journal.started;
   log = a.parts.journal.levels.log;
   entries = a.parts.journal.entries;

@@ -3,9 +3,7 @@ use Rattle.kc_shared_tests.proofs.two_workers.two_workers_enter_all_that_they_ar
 
 abbrev pub ghosts-go_over_by_two-K-Name : goal.ghosts-go_over_by_two-K-Name
 ghosts-go_over_by_two-K-Name g a = record {
-  table = a.parts.words;
-  opening_edges = a.parts.journal.opened;
-  opening_stamps = a.parts.journal.opening_stamps;
+  opened = record { table = a.parts.words; edges = a.parts.journal.opened; stamps = a.parts.journal.opening_stamps };
   start_edges = a.parts.journal.started;
   log = a.parts.journal.levels.log;
   entries = a.parts.journal.entries;

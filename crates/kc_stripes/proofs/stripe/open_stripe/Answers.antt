@@ -2,7 +2,7 @@
 use Rattle.std.proofs.Common.{◌≡◌, ◌<◌, ◌≤◌, ℕ, get_or, arith}
 use Rattle.std.proofs.lemmas.List.{get_or_read}
 use Rattle.kc_graph.specs.declared.used.UsedEdges.{UsedEdges}
-use Rattle.kc_stripes.specs.Records.{Opened, opened_with}
+use Rattle.kc_table.specs.Log.{Opened, opened_with}
 use Rattle.kc_stripes.proofs.Keeping.{filling_more}
 use Rattle.kc_stripes.proofs.stripe.open_stripe.Goals as goal
 

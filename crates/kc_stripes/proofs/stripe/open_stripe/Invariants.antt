@@ -1,6 +1,6 @@
 -- The records so far are those of the stripe's first vertices, each true and as old as its opening stamp, and `vertex` comes next.
 use Rattle.std.proofs.Common.{◌-◌, ◌≡◌}
-use Rattle.kc_stripes.specs.Records.{opened_with}
+use Rattle.kc_table.specs.Log.{opened_with}
 use Rattle.kc_stripes.proofs.Keeping.{Filling}
 use Rattle.kc_stripes.proofs.stripe.open_stripe.Given as goal
 

@@ -1,7 +1,8 @@
 -- Each stripe so far stands at its number, is of this opening, has seen what the pass has, and its records have the opening stamps.
 use Rattle.std.proofs.Common.{◌≡◌, ◌<◌, ℕ, true, vec_len, get_or}
 use Rattle.std.specs.Prelude.{All, slice_index}
-use Rattle.kc_stripes.specs.Records.{Striped, belongs, opened_with, record_of}
+use Rattle.kc_stripes.specs.Records.{Striped, belongs, record_of}
+use Rattle.kc_table.specs.Log.{opened_with}
 use Rattle.kc_stripes.proofs.stripe.open_stripes.Given as goal
 
 abbrev pub invariant-loop-number : goal.invariant-loop-number

@@ -5,9 +5,7 @@ use Rattle.kc_stripes_tests.proofs.publishing.no_list_that_is_read_is_older_than
 
 abbrev pub ghosts-publish_and_read : goal.ghosts-publish_and_read
 ghosts-publish_and_read g a = record {
-  table = a.words.now;
-  opening_edges = a.graph.now;
-  opening_stamps = a.at.now.items;
+  opened = record { table = a.words.now; edges = a.graph.now; stamps = a.at.now.items };
   start_edges = no_graph;
   log = [];
   entries = [];

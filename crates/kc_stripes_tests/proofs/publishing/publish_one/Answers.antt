@@ -11,6 +11,6 @@ publish-requires-clause-was g c =
     let e : UsedEdges = record { vertex = c.args.vertex; at = c.args.at; neighbours = c.in-Ok.list } in
     let near : AreNeighbours c.args.graph.now c.args.vertex c.in-Ok.list =
     subst (AreNeighbours c.args.graph.now c.args.vertex) (sym c.in-Ok.ensures) c.neighbours.ensures in
-    let opening : AreNeighbours g.K.Name.opening_edges c.args.vertex c.in-Ok.list =
+    let opening : AreNeighbours g.K.Name.opened.edges c.args.vertex c.in-Ok.list =
     subst (λ (x : SimpleGraph). AreNeighbours x c.args.vertex c.in-Ok.list) c.requires.graph.0 near in
-    opened_with g.K.Name.table g.K.Name.opening_edges c.args.pass.now.log e (omega (arith, c.requires.vertex, c.requires.graph.1)) c.requires.at opening
+    opened_with g.K.Name.opened.table g.K.Name.opened.edges c.args.pass.now.log e (omega (arith, c.requires.vertex, c.requires.graph.1)) c.requires.at opening

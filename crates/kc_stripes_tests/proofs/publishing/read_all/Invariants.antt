@@ -3,4 +3,4 @@ use Rattle.std.proofs.Common.{◌≡◌}
 use Rattle.kc_stripes_tests.proofs.publishing.read_all.Given as goal
 
 abbrev pub invariant-loop : goal.invariant-loop
-invariant-loop g l = l.pass.table ≡ g.K.Name.table
+invariant-loop g l = l.pass.table ≡ g.K.Name.opened.table

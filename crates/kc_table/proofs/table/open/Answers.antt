@@ -2,7 +2,7 @@
 use Rattle.std.proofs.Common.{List, [], ℕ, ap, sym, subst, rules}
 use Rattle.atomic_table.specs.Table.{opening}
 use Rattle.kc_table.specs.declared.view.Opening.{Opening}
-use Rattle.kc_table.specs.Rule.{Keeps, first_view}
+use Rattle.kc_table.specs.Rule.{KeepsTable, first_view}
 use Rattle.kc_table.proofs.LegalLogs.{legal-nil}
 use Rattle.kc_table.proofs.Steps.{opening-keeps_rule, split-keeps_rule}
 use Rattle.kc_table.proofs.table.open.Goals as goal
@@ -10,7 +10,7 @@ use Rattle.kc_table.proofs.table.open.Goals as goal
 pub of_words-requires : goal.of_words-requires
 of_words-requires c =
     let k : Opening = record { shape = c.args.shape; words = c.args.words } in
-    subst (λ (ws : List ℕ). Keeps {S = ℕ} k (opening ws [] (first_view k))) (sym c.deref.ensures.value)
+    subst (λ (ws : List ℕ). KeepsTable {S = ℕ} k (opening ws [] (first_view k))) (sym c.deref.ensures.value)
     (opening-keeps_rule k [] (legal-nil c.args.shape c.args.words.items c.requires))
 
 pub split_seat-requires : goal.split_seat-requires

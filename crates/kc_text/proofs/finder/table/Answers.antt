@@ -5,7 +5,7 @@ use Rattle.std.specs.List.Sorted.{IsStrictlyIncreasing}
 use Rattle.std.proofs.lemmas.Bool.{cases_eq}
 use Rattle.std.proofs.lemmas.List.{get_or-set_same, get_or-set_other, get_or_default}
 use Rattle.std.proofs.lemmas.Map.Keys.{sorted_from_strictly_increasing, below_from_sorted}
-use Rattle.kc_text.specs.Finding.{IsTable}
+use Rattle.kc_text.specs.Finding.{IsPlaceTable}
 use Rattle.kc_text.proofs.Members.{Contains-from_member}
 use Rattle.kc_text.proofs.Places.{place-found}
 use Rattle.kc_text.proofs.finder.table.Goals as goal
@@ -23,7 +23,7 @@ place-more ids table i up l within before k lk = elim (cases_eq k i) [
 
 -- the table of all places
 table-whole : (ids table : List ℕ) (len : ℕ) → IsStrictlyIncreasing ids → All (λ id. id < len) ids → length table ≡ len
-    → ((k : ℕ) → k < length ids → get_or table (get_or ids k 0) 0 ≡ k) → IsTable ids table
+    → ((k : ℕ) → k < length ids → get_or table (get_or ids k 0) 0 ≡ k) → IsPlaceTable ids table
 table-whole ids table len up below as_many each = record {
   within = λ id h.
       let (k, l, e) = Contains-from_member ids id h in

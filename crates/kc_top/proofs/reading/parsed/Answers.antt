@@ -1,7 +1,7 @@
 -- The bytes are what was parsed.
 use Rattle.std.proofs.Common.{refl, sym, ap, ◌∙◌}
 use Rattle.kc_text.specs.Meaning.{meaning}
-use Rattle.kc_top.proofs.Sound.{batches-counted, edges_within, few_updates}
+use Rattle.kc_top.proofs.Sound.{edges_within, few_updates}
 use Rattle.kc_top.proofs.Stopping.{IsRefusalOf-refused}
 use Rattle.kc_top.proofs.reading.parsed.Goals as goal
 
@@ -18,7 +18,6 @@ returns-in-Ok-clause-input c =
         few_ids = c.in-Ok.ensures.few;
         edges = edges_within told c.in-Ok.input is;
         few_batches = c.in-Ok.ensures.few_batches;
-        counted = batches-counted told c.in-Ok.input is;
         short_batches = c.in-Ok.ensures.short;
         few_updates = few_updates c.args.bytes.items told c.in-Ok.input (ap meaning (sym c.deref.ensures.value) ∙ means) is;
         batches = c.in-Ok.ensures.batches;

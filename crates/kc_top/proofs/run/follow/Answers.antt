@@ -3,41 +3,13 @@ use Rattle.std.proofs.Common.{◌≡◌, ◌≤◌, ◌<◌, ◌∙◌, ℕ, Lis
 use Rattle.std.specs.Prelude.{OnErr, OnOk}
 use Rattle.std.specs.Result.{is_err}
 use Rattle.std.specs.Io.KnownBytes.{Appends}
-use Rattle.std.proofs.KnownBytes.{Appends-nil}
 use Rattle.kc_io.specs.FirstPiece.{KeepsFirst}
 use Rattle.kc_output.specs.declared.setting.Setting.{Setting}
-use Rattle.kc_top.specs.Given.{given}
-use Rattle.kc_top.specs.Outcome.{IsAnswer, OfferedText}
-use Rattle.kc_top.specs.declared.Status.TheVariants.{ReadFault, WriteFault}
-use Rattle.kc_top.proofs.Stopping.{IsAnswer-of, Leaves-ended, Leaves-nothing, RoseOnlyAt-ended, RoseOnlyAt-read, RoseOnlyAt-write}
-use Rattle.kc_top.proofs.Stopping.{Took-ended, Took-nothing, some_text}
+use Rattle.kc_top.specs.Leaving.{AnswersInput}
+use Rattle.kc_top.proofs.Promised.{EndedFor-cut, EndedFor-done, EndedFor-stopped, EndedFor-without_text}
+use Rattle.kc_top.proofs.Stopping.{IsAnswer-of, some_text}
+use Rattle.kc_run.specs.declared.ran.Ran.{Ran}
 use Rattle.kc_top.proofs.run.follow.Goals as goal
-
-pub returns-in_err-text-clause-took : goal.returns-in_err-text-clause-took
-returns-in_err-text-clause-took g c =
-    Took-ended c.from_residual.result c.in_err-text.field-0.0 (Some c.args.setting) (given (Some c.args.setting) (g.S.Source.left c.args.source.now))
-    (g.O.Sink.taken c.args.out.now) (g.O.Sink.taken c.args.out.now) c.from_residual.ensures.1
-    (Took-nothing c.in_err-text.field-0.0 (Some c.args.setting) (given (Some c.args.setting) (g.S.Source.left c.args.source.now))
-    (g.O.Sink.taken c.args.out.now) (g.O.Sink.taken c.args.out.now) _ _ c.in_err-text.ensures.stopped
-    (Appends-nil (g.O.Sink.taken c.args.out.now)))
-
-pub returns-in_err-text-clause-ran : goal.returns-in_err-text-clause-ran
-returns-in_err-text-clause-ran g c =
-    Leaves-ended c.from_residual.result c.in_err-text.field-0.0 (Some c.args.setting) (given (Some c.args.setting) (g.S.Source.left c.args.source.now))
-    (g.O.Sink.taken c.args.out.now) (g.O.Sink.taken c.args.out.now) c.args.ran.now c.text_for.new.ran c.from_residual.ensures.1
-    (Leaves-nothing c.in_err-text.field-0.0 (Some c.args.setting) (given (Some c.args.setting) (g.S.Source.left c.args.source.now))
-    (g.O.Sink.taken c.args.out.now) (g.O.Sink.taken c.args.out.now) c.args.ran.now c.text_for.new.ran _ _ c.in_err-text.ensures.stopped
-    c.in_err-text.ensures.untouched)
-
-pub returns-in_err-text-clause-read_fault : goal.returns-in_err-text-clause-read_fault
-returns-in_err-text-clause-read_fault g c =
-    RoseOnlyAt-ended ReadFault c.from_residual.result c.in_err-text.field-0.0 _ _ c.from_residual.ensures.1
-    (RoseOnlyAt-read c.in_err-text.field-0.0 _ _ _ c.in_err-text.ensures.stopped)
-
-pub returns-in_err-text-clause-write_fault : goal.returns-in_err-text-clause-write_fault
-returns-in_err-text-clause-write_fault g c =
-    RoseOnlyAt-ended WriteFault c.from_residual.result c.in_err-text.field-0.0 _ _ c.from_residual.ensures.1
-    (RoseOnlyAt-write c.in_err-text.field-0.0 _ _ _ _ c.in_err-text.ensures.stopped)
 
 -- what holds at Ok holds where there is no error
 at_ok : {T E P : Type 0} (r : Result T E) → OnOk r P → is_err r ≡ false → P
@@ -49,15 +21,13 @@ at_err : {T E P : Type 0} (r : Result T E) → OnErr r P → is_err r ≡ true �
 at_err (Ok u) p is = absurd (cc is)
 at_err (Err e) p is = p
 
--- an answer is not empty, so what was written of it was offered whole
-offered-so : {asked : Option Setting} {input : Option (List ℕ)} {before after : Option ℕ} (text written : List ℕ) → IsAnswer asked input text
-    → written ≡ text → (0 < length written → KeepsFirst before after written) → OfferedText asked input before after
-offered-so {before = before} {after = after} text written answer is first = record {
-  text = text;
-  answer = answer;
-  first = subst (λ (t : List ℕ). KeepsFirst before after t) is
-      (first (subst (λ (t : List ℕ). 0 < length t) (sym is) (some_text answer.setting answer.bytes text answer.is)));
-}
+-- a text is not empty, so what was written of it was offered whole
+offered-so : (setting : Setting) (input : Option (List ℕ)) (before after : Option ℕ) (text written : List ℕ) (ran : Ran)
+    → AnswersInput (Some setting) input text ran → written ≡ text → (0 < length written → KeepsFirst before after written) → KeepsFirst before after text
+offered-so setting input before after text written ran answers is first =
+    let answer = IsAnswer-of (Some setting) input text ran answers in
+    subst (λ (t : List ℕ). KeepsFirst before after t) is
+    (first (subst (λ (t : List ℕ). 0 < length t) (sym is) (some_text answer.setting answer.bytes text answer.is)))
 
 -- all of the text was taken where the write is no error
 whole : {T E : Type 0} (r : Result T E) (before after : Option (List ℕ)) (text written : List ℕ) → OnOk r (Appends before after written)
@@ -71,50 +41,34 @@ front : {T E : Type 0} (r : Result T E) (before after : Option (List ℕ)) (text
 front r before after text written took is same =
     let taken : List ℕ → Type 0 = λ t. (n : ℕ) × (n ≤ length t) × Appends before after (take n t) in subst taken same (at_err r took is)
 
-pub returns-clause-took : goal.returns-clause-took
-returns-clause-took g c = record {
-  text = c.in_ok-text.text.items;
-  answer = IsAnswer-of _ _ _ _ c.in_ok-text.ensures.text;
-  took = whole c.write_all.result (g.O.Sink.taken c.args.out.now) (g.O.Sink.taken c.write_all.new.sink) c.in_ok-text.text.items c.deref.result.now
-      c.write_all.ensures.whole (sym c.is_err.ensures.value ∙ c.if-is_err.false) c.deref.ensures.value;
-}
+pub returns-in_err-text-clause-ended : goal.returns-in_err-text-clause-ended
+returns-in_err-text-clause-ended g c =
+    EndedFor-stopped g.S.Source g.O.Sink (Some c.args.setting) c.from_residual.result c.in_err-text.field-0.0 c.args.streams.now.source
+    c.text_for.new.source c.args.streams.now.out c.args.streams.now.out c.args.ran.now c.text_for.new.ran c.from_residual.ensures.1
+    (EndedFor-without_text g.S.Source g.O.Sink c.args.setting c.in_err-text.field-0.0 c.args.streams.now.source c.text_for.new.source
+    c.args.streams.now.out c.args.ran.now c.text_for.new.ran c.text_for.ensures.unread c.in_err-text.ensures.accepted c.in_err-text.ensures.stopped
+    c.in_err-text.ensures.untouched)
 
-pub returns-clause-ran : goal.returns-clause-ran
-returns-clause-ran g c = record {
-  text = c.in_ok-text.text.items;
-  answers = c.in_ok-text.ensures.text;
-  took = whole c.write_all.result (g.O.Sink.taken c.args.out.now) (g.O.Sink.taken c.write_all.new.sink) c.in_ok-text.text.items c.deref.result.now
-      c.write_all.ensures.whole (sym c.is_err.ensures.value ∙ c.if-is_err.false) c.deref.ensures.value;
-}
+pub returns-clause-ended : goal.returns-clause-ended
+returns-clause-ended g c =
+    let no_error = sym c.is_err.ensures.value ∙ c.if-is_err.false in
+    EndedFor-done g.S.Source g.O.Sink c.args.setting c.in_ok-text.text.items c.args.streams.now.source c.text_for.new.source
+    c.args.streams.now.out c.write_all.new.sink c.args.ran.now c.text_for.new.ran c.text_for.ensures.unread c.in_ok-text.ensures.read
+    c.in_ok-text.ensures.faultless c.in_ok-text.ensures.text
+    (whole c.write_all.result (g.O.Sink.taken c.args.streams.now.out) (g.O.Sink.taken c.write_all.new.sink) c.in_ok-text.text.items c.deref.result.now
+    c.write_all.ensures.whole no_error c.deref.ensures.value)
+    (offered-so c.args.setting _ _ _ c.in_ok-text.text.items c.deref.result.now _ c.in_ok-text.ensures.text c.deref.ensures.value
+    c.write_all.ensures.first)
+    (at_ok c.write_all.result c.write_all.ensures.cause.kept no_error)
 
-pub returns-clause-offered : goal.returns-clause-offered
-returns-clause-offered g c =
-    offered-so c.in_ok-text.text.items c.deref.result.now (IsAnswer-of _ _ _ _ c.in_ok-text.ensures.text) c.deref.ensures.value c.write_all.ensures.first
-
-pub returns-then-is_err-clause-took : goal.returns-then-is_err-clause-took
-returns-then-is_err-clause-took g c =
-    let part = front c.write_all.result (g.O.Sink.taken c.args.out.now) (g.O.Sink.taken c.write_all.new.sink) c.in_ok-text.text.items c.deref.result.now
-    c.write_all.ensures.prefix (sym c.is_err.ensures.value ∙ c.if-is_err.true) c.deref.ensures.value in
-    record {
-      text = c.in_ok-text.text.items;
-      answer = IsAnswer-of _ _ _ _ c.in_ok-text.ensures.text;
-      amount = part.0;
-      within = part.1;
-      took = part.2;
-    }
-
-pub returns-then-is_err-clause-ran : goal.returns-then-is_err-clause-ran
-returns-then-is_err-clause-ran g c =
-    let part = front c.write_all.result (g.O.Sink.taken c.args.out.now) (g.O.Sink.taken c.write_all.new.sink) c.in_ok-text.text.items c.deref.result.now
-    c.write_all.ensures.prefix (sym c.is_err.ensures.value ∙ c.if-is_err.true) c.deref.ensures.value in
-    record {
-      text = c.in_ok-text.text.items;
-      answers = c.in_ok-text.ensures.text;
-      amount = part.0;
-      within = part.1;
-      took = part.2;
-    }
-
-pub returns-then-is_err-clause-offered : goal.returns-then-is_err-clause-offered
-returns-then-is_err-clause-offered g c =
-    offered-so c.in_ok-text.text.items c.deref.result.now (IsAnswer-of _ _ _ _ c.in_ok-text.ensures.text) c.deref.ensures.value c.write_all.ensures.first
+pub returns-then-is_err-clause-ended : goal.returns-then-is_err-clause-ended
+returns-then-is_err-clause-ended g c =
+    let error = sym c.is_err.ensures.value ∙ c.if-is_err.true in
+    EndedFor-cut g.S.Source g.O.Sink c.args.setting c.in_ok-text.text.items c.args.streams.now.source c.text_for.new.source
+    c.args.streams.now.out c.write_all.new.sink c.args.ran.now c.text_for.new.ran c.text_for.ensures.unread c.in_ok-text.ensures.faultless
+    c.in_ok-text.ensures.text
+    (front c.write_all.result (g.O.Sink.taken c.args.streams.now.out) (g.O.Sink.taken c.write_all.new.sink) c.in_ok-text.text.items c.deref.result.now
+    c.write_all.ensures.prefix error c.deref.ensures.value)
+    (offered-so c.args.setting _ _ _ c.in_ok-text.text.items c.deref.result.now _ c.in_ok-text.ensures.text c.deref.ensures.value
+    c.write_all.ensures.first)
+    (at_err c.write_all.result c.write_all.ensures.cause.failed error)

@@ -1,7 +1,7 @@
 -- A vertex has a place within the list, and any other number the place behind it.
 use Rattle.std.proofs.Common.{◌<◌, sym, ◌∙◌, arith, inl, inr, true≢false, Equal, Greater, Less}
 use Rattle.std.specs.Cmp.{nat_cmp_is}
-use Rattle.kc_distinct.specs.Lists.{place_of}
+use Rattle.kc_lists.specs.Lists.{place_of}
 use Rattle.kc_order.specs.Standing.{list_after}
 use Rattle.kc_topo.proofs.Sorting.{place-high, place-low}
 use Rattle.kc_topo.proofs.Walks.{one-first}

@@ -1,6 +1,6 @@
 -- Where all is settled, what was reached is the run.
 use Rattle.std.proofs.Common.{ap, ◌∙◌}
-use Rattle.kc_distinct.specs.Lists.{member}
+use Rattle.kc_lists.specs.Lists.{member}
 use Rattle.kc_table.proofs.Prefixes.{prefix_self}
 use Rattle.kc_topo.proofs.Trails.{run-of}
 use Rattle.kc_topo.proofs.searching.find_run.Goals as goal

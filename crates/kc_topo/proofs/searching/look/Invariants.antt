@@ -1,7 +1,7 @@
 -- What was looked at so far is settled, and the trail holds.
 use Rattle.std.proofs.Common.{◌≡◌, ℕ, true, take}
 use mathlib.Core.List.{IsPrefix}
-use Rattle.kc_distinct.specs.Lists.{member}
+use Rattle.kc_lists.specs.Lists.{member}
 use Rattle.kc_order.specs.Standing.{list_after}
 use Rattle.kc_topo.specs.Arcs.{arcs_after}
 use Rattle.kc_topo.specs.Searching.{IsSettled, IsTrail}

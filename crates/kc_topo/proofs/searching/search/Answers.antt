@@ -1,7 +1,7 @@
 -- The trail begins with b, and each turn settles what arcs lead to from one vertex more.
 use Rattle.std.proofs.Common.{◌<◌, ◌+◌, ◌-◌, ℕ, List, length, get_or, ap, ◌∙◌, arith, length-append}
 use Rattle.std.proofs.lemmas.Bool.{MatchBool-at_false}
-use Rattle.kc_distinct.specs.Lists.{member}
+use Rattle.kc_lists.specs.Lists.{member}
 use Rattle.kc_order.specs.Standing.{list_after}
 use Rattle.kc_topo.specs.Arcs.{arcs_after, has_arc}
 use Rattle.kc_topo.specs.Searching.{Trail}

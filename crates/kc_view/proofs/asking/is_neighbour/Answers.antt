@@ -2,8 +2,8 @@
 use Rattle.std.proofs.Common.{sym, ◌∙◌, ap, subst}
 use Rattle.std.proofs.lemmas.List.Sorted.{searched}
 use Rattle.std.specs.List.Sorted.{IsStrictlyIncreasing}
-use Rattle.kc_distinct.specs.Lists.{member}
-use Rattle.kc_distinct.proofs.Shared.{never_falls}
+use Rattle.kc_lists.specs.Lists.{member}
+use Rattle.kc_lists.proofs.Shared.{never_falls}
 use Rattle.kc_graph.proofs.RowsLemmas.{place-found}
 use Rattle.kc_view.proofs.Keeping.{kept-list}
 use Rattle.kc_view.proofs.asking.is_neighbour.Goals as goal

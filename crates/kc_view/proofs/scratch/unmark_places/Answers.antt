@@ -1,8 +1,8 @@
 -- The vertex of the next place has a mark, which is set to 0, and every other mark stays.
-use Rattle.std.proofs.Common.{◌<◌, length, get_or, arith}
+use Rattle.std.proofs.Common.{◌<◌, ℕ, length, get_or, arith}
 use Rattle.std.proofs.lemmas.List.{get_or_default}
 use Rattle.kc_graph.specs.declared.used.UsedPlace.{UsedPlace}
-use Rattle.kc_view.proofs.Marked.{unmark-place}
+use Rattle.kc_view.proofs.Lookups.{core_answers, cleared-next}
 use Rattle.kc_view.proofs.scratch.unmark_places.Goals as goal
 
 pub loop-place-preserved : goal.loop-place-preserved
@@ -10,5 +10,5 @@ loop-place-preserved c =
     let none : UsedPlace = record { vertex = 0; stamp = 0; core = 0 } in
     let p : UsedPlace = get_or c.args.places.now c.loop-place.place-index none in
     let within : p.vertex < length c.args.marks.now = c.requires c.loop-place.place-index none c.loop-place-test.true in
-    unmark-place c.loop-place.marks c.args.marks.now c.args.places.now c.loop-place.place-index p c.loop-place-test.true
-    (get_or_default c.args.places.now c.loop-place.place-index none p c.loop-place-test.true) (omega arith) c.loop-place.invariant
+    cleared-next core_answers 0 c.loop-place.marks (λ (w : ℕ). get_or c.args.marks.now w 0) c.args.places.now c.loop-place.place-index p
+    c.loop-place-test.true (get_or_default c.args.places.now c.loop-place.place-index none p c.loop-place-test.true) (omega arith) c.loop-place.invariant

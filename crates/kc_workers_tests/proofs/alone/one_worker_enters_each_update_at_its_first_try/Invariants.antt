@@ -3,9 +3,7 @@ use Rattle.kc_workers_tests.proofs.alone.one_worker_enters_each_update_at_its_fi
 
 abbrev pub ghosts-enter_alone-K-Name : goal.ghosts-enter_alone-K-Name
 ghosts-enter_alone-K-Name g a = record {
-  table = a.parts.words;
-  opening_edges = a.parts.journal.opened;
-  opening_stamps = a.parts.journal.opening_stamps;
+  opened = record { table = a.parts.words; edges = a.parts.journal.opened; stamps = a.parts.journal.opening_stamps };
   start_edges = a.parts.journal.started;
   log = a.parts.journal.levels.log;
   entries = a.parts.journal.entries;

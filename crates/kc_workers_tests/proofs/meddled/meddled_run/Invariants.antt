@@ -3,9 +3,7 @@ use Rattle.kc_workers_tests.proofs.meddled.meddled_run.Given as goal
 
 abbrev pub ghosts-enter_meddled-K-Name : goal.ghosts-enter_meddled-K-Name
 ghosts-enter_meddled-K-Name g a = record {
-  table = a.parts.words;
-  opening_edges = a.parts.journal.opened;
-  opening_stamps = a.parts.journal.opening_stamps;
+  opened = record { table = a.parts.words; edges = a.parts.journal.opened; stamps = a.parts.journal.opening_stamps };
   start_edges = a.parts.journal.started;
   log = a.parts.journal.levels.log;
   entries = a.parts.journal.entries;

@@ -1,5 +1,5 @@
 -- The reader of the board has seen the core numbers of the journal.
-use Rattle.std.proofs.Common.{◌≡◌, ◌∷◌, [], List, Some, ap, length}
+use Rattle.std.proofs.Common.{◌≡◌, ◌∷◌, [], List, Some, ap}
 use Rattle.std.proofs.lemmas.List.Elements.{All-pop}
 use Rattle.kc_snapshot.specs.Histories.{member, width}
 use Rattle.kc_snapshot.specs.declared.member.Member.{Member}

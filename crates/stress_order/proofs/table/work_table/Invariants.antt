@@ -5,4 +5,4 @@ use Rattle.stress_order.proofs.table.work_table.Given as goal
 
 abbrev pub ghosts-race : goal.ghosts-race
 ghosts-race g a =
-    record { table = a.words; opening_edges = no_graph; opening_stamps = []; start_edges = no_graph; log = []; entries = [] }
+    record { opened = record { table = a.words; edges = no_graph; stamps = [] }; start_edges = no_graph; log = []; entries = [] }

@@ -5,7 +5,7 @@ use Rattle.kc_batch.proofs.Working.{keeps-nothing, picks-kept, works-trans}
 use Rattle.kc_batch.proofs.seat.Seat.work.Goals as goal
 
 pub loop-init : goal.loop-init
-loop-init g c = record { works = picks-kept _ _ _ _ _ _ c.requires.ready.legal; ready = c.requires.ready; queue = c.requires.queue.0 }
+loop-init g c = record { works = picks-kept _ _ _ _ _ _ c.requires.ready.legal; ready = c.requires.ready; queue = c.requires.queue }
 
 pub returns-in_default-clause-works : goal.returns-in_default-clause-works
 returns-in_default-clause-works g c =
@@ -24,7 +24,7 @@ loop-preserved g c =
       ready = record {
         told = prefix_trans g.K.Name.log c.loop.self.seen.log c.enter.new.self.seen.log c.loop.invariant.ready.told w.longer;
         legal = w.legal;
-        keeps = keeps-nothing (length c.args.errand.now.batch.now) c.enter.new.self.work.left (c.enter.ensures.goes_on c.if-not-enter.false);
+        keeps = keeps-nothing (length c.args.turns.now.batch.updates.now) c.enter.new.self.work.left (c.enter.ensures.goes_on c.if-not-enter.false);
       };
       queue = w.queue ∙ c.loop.invariant.queue;
     }

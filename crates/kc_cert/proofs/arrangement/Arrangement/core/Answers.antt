@@ -1,7 +1,7 @@
 -- A vertex that has a place among those that leave gets the next level, and any other keeps its core number.
 use Rattle.std.proofs.Common.{◌≡◌, true, false, cond, get_or, sym, ◌∙◌, ap, arith}
 use Rattle.std.specs.Prelude.{is_some}
-use Rattle.kc_distinct.specs.Lists.{member}
+use Rattle.kc_lists.specs.Lists.{member}
 use Rattle.kc_graph.specs.Lawful.{Ranked}
 use Rattle.kc_cert.specs.Stands.{leaving, next_level}
 use Rattle.kc_cert.proofs.Asking.{core-moved}

@@ -4,8 +4,8 @@ use Rattle.std.specs.Prelude.{is_some}
 use Rattle.std.specs.HashMap.{get}
 use Rattle.std.proofs.lemmas.Bool.{false≢true}
 use Rattle.std.proofs.lemmas.List.{take_more, length-take-le}
-use Rattle.kc_distinct.specs.Lists.{member, Distinct}
-use Rattle.kc_distinct.proofs.Counting.{Distinct-push}
+use Rattle.kc_lists.specs.Lists.{member, Distinct}
+use Rattle.kc_lists.proofs.Counting.{Distinct-push}
 use Rattle.kc_cert.specs.Shifting.{place_in}
 use Rattle.kc_cert.proofs.Listing.{place_in-some, place_in-again, place_in-push, Distinct-pushed}
 use Rattle.kc_cert.proofs.places.Places.in_list.Goals as goal

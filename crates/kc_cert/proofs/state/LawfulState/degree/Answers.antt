@@ -1,6 +1,6 @@
 -- The row is distinct and below the number of vertices, so its length fits; and it is the list of the neighbours.
 use Rattle.std.proofs.Common.{◌≡◌, ℕ, length, ◌∙◌, ap, arith}
-use Rattle.kc_distinct.proofs.Members.{below_bound}
+use Rattle.kc_lists.proofs.Members.{below_bound}
 use Rattle.kc_graph.specs.SimpleGraph.{SimpleGraph}
 use Rattle.kc_graph.specs.Neighbours.{neighbours_of}
 use Rattle.kc_graph.proofs.NeighbourLists.{neighbours_are}

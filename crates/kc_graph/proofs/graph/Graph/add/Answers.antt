@@ -1,6 +1,6 @@
 -- The rows with one number more each are those of the graph with the edge.
 use Rattle.std.proofs.Common.{◌≡◌, ◌<◌, ◌+◌, ℕ, List, length, false, arith, sym, ap, ◌∙◌}
-use Rattle.kc_distinct.specs.Lists.{member}
+use Rattle.kc_lists.specs.Lists.{member}
 use Rattle.kc_graph.specs.SimpleGraph.{SimpleGraph}
 use Rattle.kc_graph.specs.Edges.{with_edge}
 use Rattle.kc_graph.specs.Rows.{row, graph_of, HoldsEdges, BothInserted}

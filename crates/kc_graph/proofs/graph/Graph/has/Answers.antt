@@ -1,7 +1,7 @@
 -- A number is in the row of a vertex just where it is its neighbour.
 use Rattle.std.proofs.Common.{ap, sym, subst, ◌∙◌, arith}
 use Rattle.std.specs.List.Sorted.{IsStrictlyIncreasing}
-use Rattle.kc_distinct.specs.Lists.{member}
+use Rattle.kc_lists.specs.Lists.{member}
 use Rattle.kc_graph.proofs.RowsLemmas.{size-view, adjacent-view, place-found}
 use Rattle.kc_graph.proofs.graph.Graph.has.Goals as goal
 

@@ -2,12 +2,12 @@
 use Rattle.std.proofs.Common.{◌≡◌, ◌<◌, ℕ, List, length, get_or, ap, sym, ◌∙◌, arith, Some}
 use Rattle.std.specs.List.{slice_get}
 use Rattle.std.proofs.lemmas.Option.{slice_get-get_or}
-use Rattle.kc_distinct.specs.Lists.{place_of}
-use Rattle.kc_distinct.proofs.Counting.{Distinct-from_pairs}
+use Rattle.kc_lists.specs.Lists.{place_of}
+use Rattle.kc_lists.proofs.Counting.{Distinct-from_pairs}
 use Rattle.kc_graph.specs.Lawful.{Ranked, IsCertified, ArePlaces}
 use Rattle.kc_graph.proofs.Places.{length-enumerates, place_of-at}
 use Rattle.kc_graph.proofs.lawful.Lawful.place.Goals as goal
-use Rattle.kc_distinct.proofs.Shared.{get_or-any}
+use Rattle.kc_lists.proofs.Shared.{get_or-any}
 
 -- The places of an order are kept, which callers see as that of `s`.
 module _ (inside s : Ranked) (view : inside ≡ s) (places : List ℕ) (certified : IsCertified inside) (kept : ArePlaces inside.order places)

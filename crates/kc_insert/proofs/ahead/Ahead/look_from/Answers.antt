@@ -4,13 +4,14 @@ use Rattle.std.proofs.Common.{ap, inl, inr, arith, true≢false, eqb-true, eq-eq
 use Rattle.std.specs.Prelude.{count_by}
 use Rattle.std.proofs.lemmas.Bool.{or_cases, or_right, and_parts, false_from_ne_true}
 use Rattle.std.proofs.lemmas.List.{take_all, take_more}
-use Rattle.kc_distinct.specs.Lists.{member}
-use Rattle.kc_distinct.proofs.Counting.{member-get_or, member-push, member-push_left, take-not_here}
-use Rattle.kc_distinct.proofs.Shared.{Distinct-grown}
+use Rattle.kc_lists.specs.Lists.{member}
+use Rattle.kc_lists.proofs.Counting.{member-get_or, member-push, member-push_left, take-not_here}
+use Rattle.kc_lists.proofs.Shared.{Distinct-grown}
 use Rattle.kc_graph.proofs.RowsLemmas.{Distinct-from_increasing}
 use Rattle.kc_view.specs.Answers.{has_core}
 use Rattle.kc_view.proofs.Keeping.{GoesOn-trans, answers-agreed, still_has_core, still_has_list, same_list}
-use Rattle.kc_insert.specs.Added.{search_with, is_added}
+use Rattle.kc_insert.specs.Added.{search_with}
+use Rattle.kc_graph.specs.Plans.{joins}
 use Rattle.kc_insert.specs.Turns.{side_in, is_ahead, is_next}
 use Rattle.kc_insert.proofs.Looking.{member-more, next-more, counted-more}
 use Rattle.kc_insert.proofs.ahead.Ahead.look_from.Goals as goal
@@ -36,7 +37,7 @@ pub side_of-requires-clause-neighbour : goal.side_of-requires-clause-neighbour
 side_of-requires-clause-neighbour g c =
     let row : List ℕ = c.args.row.now in
     let x : ℕ = get_or row c.loop-x.x-index 0 in
-    ap (λ xs. member x xs || is_added c.args.search.update c.args.w x) (same_list _ _ c.args.w c.loop-x.invariant.goes_on.further c.requires.read)
+    ap (λ xs. member x xs || joins c.args.search.update c.args.w x) (same_list _ _ c.args.w c.loop-x.invariant.goes_on.further c.requires.read)
     ∙ (sym (c.requires.has x) ∙ member-get_or row c.loop-x.x-index 0 c.loop-x-test.true)
 
 pub loop-x-preserved : goal.loop-x-preserved

@@ -1,7 +1,7 @@
 -- Of the neighbours so far just `count` are higher than `w` or behind it on the level, and those behind it are listed, each once.
 use Rattle.std.proofs.Common.{◌≡◌, ◌≤◌, ◌&&◌, ℕ, List, true, take}
 use Rattle.std.specs.Prelude.{count_by}
-use Rattle.kc_distinct.specs.Lists.{member, Distinct}
+use Rattle.kc_lists.specs.Lists.{member, Distinct}
 use Rattle.kc_graph.specs.Lawful.{Ranked}
 use Rattle.kc_view.specs.Answers.{Agrees, has_core}
 use Rattle.kc_view.specs.Views.{GoesOn}

@@ -1,6 +1,6 @@
 -- The first weak candidate not evicted yet has left the queue; put behind `anchor`, with its neighbours' losses, it is one eviction.
 use Rattle.std.proofs.Common.{true, length, get_or, ◌≡◌, ℕ, List, sym, ◌∙◌, subst, inr}
-use Rattle.kc_distinct.specs.Lists.{member, Distinct}
+use Rattle.kc_lists.specs.Lists.{member, Distinct}
 use Rattle.kc_graph.proofs.RowsLemmas.{Distinct-from_increasing}
 use Rattle.kc_insert.specs.Rising.{turn_at}
 use Rattle.kc_insert.specs.Turns.{Loses}

@@ -1,6 +1,6 @@
 -- A settling is under way whose last vertex is `anchor`, which has left the queue; the turn stays, and the shifts grow.
 use Rattle.std.proofs.Common.{◌≡◌, ◌-◌, ℕ, true, length}
-use Rattle.kc_distinct.specs.Lists.{member}
+use Rattle.kc_lists.specs.Lists.{member}
 use Rattle.kc_graph.specs.Lawful.{Ranked}
 use Rattle.kc_view.specs.Answers.{Agrees}
 use Rattle.kc_view.specs.Views.{GoesOn}

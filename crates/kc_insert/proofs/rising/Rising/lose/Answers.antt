@@ -1,16 +1,16 @@
 -- A vertex that the loss makes too weak is put on the list of these.
 use Rattle.std.proofs.Common.{◌≡◌, ◌∙◌, ℕ, Bool, true, false, not, ◌&&◌, List, [], ◌∷◌, ◌++◌, refl, sym, ap}
 use Rattle.std.proofs.lemmas.Bool.{false≢true}
-use Rattle.kc_seen.specs.Maps.{VertexMap, value_of}
+use Rattle.kc_marks.specs.Maps.{VertexMap, value_of}
 use Rattle.kc_insert.specs.Turns.{taken_from, recounted, grown}
 use Rattle.kc_insert.specs.declared.rising.Mark.{Mark}
 use Rattle.kc_insert.proofs.rising.Rising.lose.Goals as goal
 
 -- the list has one more where one is found
-grown-found : (was is : Bool) (y : ℕ) (xs : List ℕ) → (not was && is) ≡ true → grown was is y xs ≡ xs ++ y ∷ []
-grown-found true is y xs e = absurd (false≢true e)
-grown-found false true y xs e = refl
-grown-found false false y xs e = absurd (false≢true e)
+grown-by_one : (was is : Bool) (y : ℕ) (xs : List ℕ) → (not was && is) ≡ true → grown was is y xs ≡ xs ++ y ∷ []
+grown-by_one true is y xs e = absurd (false≢true e)
+grown-by_one false true y xs e = refl
+grown-by_one false false y xs e = absurd (false≢true e)
 
 pub returns-in_ok-add_weak : goal.returns-in_ok-add_weak
 returns-in_ok-add_weak c =
@@ -23,7 +23,7 @@ returns-in_ok-add_weak c =
       marked = λ mark is.
           let m = w.marked mark is in
           let taken : Mark = taken_from c.args.loss mark in
-          let found = grown-found taken.is_weak (recounted c.args.level taken).is_weak c.args.y old (sym m.1 ∙ c.if-weaken.true) in
+          let found = grown-by_one taken.is_weak (recounted c.args.level taken).is_weak c.args.y old (sym m.1 ∙ c.if-weaken.true) in
           record {
             marks = record { here = same c.args.y ∙ m.0.here; others = λ z ne. same z ∙ m.0.others z ne };
             weak = a.ok ∙ (ap (λ xs. xs ++ c.args.y ∷ []) w.rest.2 ∙ sym found);

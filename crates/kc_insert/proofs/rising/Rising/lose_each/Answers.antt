@@ -1,8 +1,8 @@
 -- The row has the next neighbour once, so it loses for the first time, on top of what those before it lost.
 use Rattle.std.proofs.Common.{◌≡◌, ◌+◌, ℕ, false, List, [], ◌∷◌, ◌++◌, get_or, take, sym, subst}
 use Rattle.std.proofs.lemmas.List.{take_more, take_all}
-use Rattle.kc_distinct.specs.Lists.{member}
-use Rattle.kc_distinct.proofs.Counting.{take-not_here}
+use Rattle.kc_lists.specs.Lists.{member}
+use Rattle.kc_lists.proofs.Counting.{take-not_here}
 use Rattle.kc_insert.specs.Turns.{Loses}
 use Rattle.kc_insert.proofs.Losses.{lose-orderly, loses-none, loses-one, loses-more}
 use Rattle.kc_insert.proofs.rising.Rising.lose_each.Goals as goal

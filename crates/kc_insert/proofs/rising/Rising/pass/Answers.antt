@@ -1,9 +1,9 @@
 -- A vertex that was never queued goes to its place behind those that have left, where the queue stays in order.
 use Rattle.std.proofs.Common.{◌≡◌, false, None, sym, ◌∙◌, ap, inl, arith}
 use Rattle.std.specs.Prelude.{is_some}
-use Rattle.kc_distinct.specs.Lists.{member}
+use Rattle.kc_lists.specs.Lists.{member}
 use Rattle.kc_view.proofs.Keeping.{still_has_core}
-use Rattle.kc_seen.specs.Maps.{value_of}
+use Rattle.kc_marks.specs.Maps.{value_of}
 use Rattle.kc_insert.proofs.Passing.{enqueued-passes, passes-tidy, passes-ascends}
 use Rattle.kc_insert.proofs.rising.Rising.pass.Goals as goal
 

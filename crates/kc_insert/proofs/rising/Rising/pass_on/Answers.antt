@@ -2,8 +2,8 @@
 use Rattle.std.proofs.Common.{◌≡◌, ◌<◌, ℕ, false, List, take, get_or, sym, ◌∙◌, ap, subst, inl, inr, arith}
 use Rattle.std.proofs.lemmas.Bool.{or_cases, false≢true}
 use Rattle.std.proofs.lemmas.List.{take_more}
-use Rattle.kc_distinct.specs.Lists.{member}
-use Rattle.kc_distinct.proofs.Counting.{member-get_or, take-not_here}
+use Rattle.kc_lists.specs.Lists.{member}
+use Rattle.kc_lists.proofs.Counting.{member-get_or, take-not_here}
 use Rattle.kc_view.proofs.Fronts.{take-member}
 use Rattle.kc_view.proofs.Keeping.{GoesOn-trans, answers-agreed, still_has_core}
 use Rattle.kc_insert.specs.Turns.{PassedOn}

@@ -1,6 +1,6 @@
 -- Each of `next` so far is queued and has one candidate more before it, and the queue is in order if it was.
 use Rattle.std.proofs.Common.{◌≡◌, ℕ, true, take}
-use Rattle.kc_distinct.specs.Lists.{member}
+use Rattle.kc_lists.specs.Lists.{member}
 use Rattle.kc_graph.specs.Lawful.{Ranked}
 use Rattle.kc_graph.specs.declared.update.Update.{Update}
 use Rattle.kc_cert.specs.Ranks.{rank_in, AscendsBy}

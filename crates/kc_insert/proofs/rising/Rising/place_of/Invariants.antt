@@ -1,6 +1,6 @@
 -- All queued before `low` stand before `x`, and none from `high` on does; each turn leaves about half of what lies between.
 use Rattle.std.proofs.Common.{◌≡◌, ◌≤◌, ◌<◌, ◌-◌, ℕ, true, length}
-use Rattle.kc_distinct.specs.Lists.{member}
+use Rattle.kc_lists.specs.Lists.{member}
 use Rattle.kc_graph.specs.Lawful.{Ranked}
 use Rattle.kc_graph.specs.declared.update.Update.{Update}
 use Rattle.kc_cert.specs.Ranks.{rank_in, AscendsBy}

@@ -1,6 +1,6 @@
 -- `w` leaves with both counts in its mark and those behind it are queued: together the step in which the first of the queue is raised.
 use Rattle.std.proofs.Common.{◌≡◌, ◌<◌, ◌^◌, ℕ, true, List, length, sym, ◌∙◌, ap, subst, arith}
-use Rattle.kc_distinct.specs.Lists.{member}
+use Rattle.kc_lists.specs.Lists.{member}
 use Rattle.kc_cert.specs.Ranks.{rank_in}
 use Rattle.kc_insert.specs.Turns.{PassedOn, StandsBehindLeft}
 use Rattle.kc_insert.specs.declared.rising.Mark.{Mark}

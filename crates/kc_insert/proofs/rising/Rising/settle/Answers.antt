@@ -1,7 +1,7 @@
 -- `w` leaves the queue as no candidate and its neighbours lose by it, which begins a settling; the evictions bring it to its end.
 use Rattle.std.proofs.Common.{◌≡◌, ◌∙◌, ℕ, List, false, sym, ap, subst, true≢false}
 use Rattle.std.proofs.lemmas.Result.{on_ok_weaker}
-use Rattle.kc_distinct.specs.Lists.{Distinct}
+use Rattle.kc_lists.specs.Lists.{Distinct}
 use Rattle.kc_graph.proofs.RowsLemmas.{Distinct-from_increasing}
 use Rattle.kc_view.proofs.Keeping.{answers-agreed}
 use Rattle.kc_insert.specs.Turns.{Loses}

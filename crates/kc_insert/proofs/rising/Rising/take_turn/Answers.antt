@@ -3,17 +3,18 @@ use Rattle.std.proofs.Common.{◌≡◌, ◌≤◌, ◌<◌, ◌+◌, ◌||◌, 
 use Rattle.std.proofs.lemmas.Bool.{false≢true}
 use Rattle.std.proofs.lemmas.List.{get_or_read}
 use Rattle.std.proofs.lemmas.Result.{on_ok_weaker}
-use Rattle.kc_distinct.specs.Lists.{member}
-use Rattle.kc_distinct.proofs.Counting.{member-get_or}
+use Rattle.kc_lists.specs.Lists.{member}
+use Rattle.kc_lists.proofs.Counting.{member-get_or}
 use Rattle.kc_graph.specs.Lawful.{Ranked}
 use Rattle.kc_graph.specs.declared.update.Update.{Update}
 use Rattle.kc_view.specs.Answers.{Agrees, has_list, list_of}
 use Rattle.kc_view.specs.Lists.{IsListOf}
 use Rattle.kc_view.specs.Views.{Shown}
 use Rattle.kc_view.proofs.Keeping.{GoesOn-trans, answers-agreed, still_has_list, same_list}
-use Rattle.kc_insert.specs.Added.{search_with, is_added}
+use Rattle.kc_insert.specs.Added.{search_with}
+use Rattle.kc_graph.specs.Plans.{joins}
 use Rattle.kc_insert.specs.Rising.{AsksQueued, IsTidyRising}
-use Rattle.kc_insert.specs.Turns.{Leaves, IsAheadOf}
+use Rattle.kc_insert.specs.Turns.{LeavesQueue, IsAheadOf}
 use Rattle.kc_insert.specs.declared.ahead.Ahead.{Ahead}
 use Rattle.kc_insert.specs.declared.rising.Mark.{Mark}
 use Rattle.kc_insert.specs.declared.rising.Rising.{Rising}
@@ -41,7 +42,7 @@ record HasLooked (update : Update) (level : ℕ) (shown : Shown) (r : Rising) (w
   first : get_or r.queue.items r.turn 0 ≡ w
   tidy : IsTidyRising update shown r
   read : has_list shown.kept w ≡ true
-  has : (y : ℕ) → member y row ≡ (member y (list_of shown.kept w) || is_added update w y)
+  has : (y : ℕ) → member y row ≡ (member y (list_of shown.kept w) || joins update w y)
   ahead_is : (s : Ranked) → update.v < s.graph.size → Agrees shown.kept s → IsAheadOf (search_with update level s) w ahead
 
 -- so it is once all neighbours were looked at
@@ -67,7 +68,7 @@ has-looked g c =
           (tidy-view update (g.V.View.shown c.args.view.now) filled r c.requires.tidy one.lasts.same_size one.further asks)
           two.lasts.same_size two.further (o.asks r.queue.items asks);
       read = still_has_list _ _ w two.further e.told.told;
-      has = λ y. e.has y ∙ ap (λ xs. member y xs || is_added update w y) (sym (same_list _ _ w two.further e.told.told));
+      has = λ y. e.has y ∙ ap (λ xs. member y xs || joins update w y) (sym (same_list _ _ w two.further e.told.told));
       ahead_is = λ s l a.
           let same = c.deref.ensures.value in
           ahead-of filled.kept s update c.args.search.level filled.size w c.deref.result.now c.look_from.new.self (answers-agreed _ _ s two.further a) l
@@ -134,7 +135,7 @@ returns-clause-tidy g c =
     let k = has-looked g (goal.at.returns-clause-tidy g c).In_ok-look_from in
     leave-tidy c.args.search.update (g.V.View.shown c.look_from.new.view) c.index-w.result.now
     (record { earlier = 0; later = 0; turn = 0; is_candidate = false; is_weak = false }) c.args.self.now c.leave.new.self k.tidy
-    (subst (λ (m : Mark). Leaves c.index-w.result.now m c.args.self.now c.leave.new.self) c.past.ensures c.in_ok-leave.ensures) c.requires.turn k.first
+    (subst (λ (m : Mark). LeavesQueue c.index-w.result.now m c.args.self.now c.leave.new.self) c.past.ensures c.in_ok-leave.ensures) c.requires.turn k.first
     (λ e. absurd (false≢true e)) refl k.read
 
 pub returns-clause-turns : goal.returns-clause-turns
@@ -145,5 +146,5 @@ returns-clause-turns g c = λ s root lv a wd b.
     within-level c.earlier_of-earlier.result c.look_from.new.self.count c.args.search.level c.saturating_add.result c.saturating_add.ensures
     c.if-saturating_add-search.false (search rules) in
     pass-between (search_with c.args.search.update c.args.search.level s) root w c.args.self.now c.leave.new.self wd c.requires.tidy.orderly
-    c.requires.turn k.first (subst (λ (m : Mark). Leaves w m c.args.self.now c.leave.new.self) c.past.ensures c.in_ok-leave.ensures)
+    c.requires.turn k.first (subst (λ (m : Mark). LeavesQueue w m c.args.self.now c.leave.new.self) c.past.ensures c.in_ok-leave.ensures)
     (omega (arith, under, (k.ahead_is s lv a).count)) (omega (arith, c.if-earlier-gt0.false, c.earlier_of-earlier.ensures)) b

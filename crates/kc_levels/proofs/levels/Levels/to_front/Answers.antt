@@ -1,6 +1,6 @@
 -- A put right behind the head of the level.
 use Rattle.std.proofs.Common.{List, ◌<◌, ◌+◌, ℕ, sym, ap₂, ◌∙◌, subst, arith}
-use Rattle.kc_distinct.specs.Lists.{member}
+use Rattle.kc_lists.specs.Lists.{member}
 use Rattle.kc_levels.specs.Levels.{Levelled, size_of}
 use Rattle.kc_levels.specs.Heads.{vertices_of}
 use Rattle.kc_order.specs.Standing.{list_after}

@@ -1,6 +1,6 @@
 -- What was collected is a front of the group, and the walk goes on right behind it.
 use Rattle.std.proofs.Common.{◌≡◌, ◌≤◌, ◌-◌, length, take, true, ◌⊎◌}
-use Rattle.kc_distinct.specs.Lists.{member}
+use Rattle.kc_lists.specs.Lists.{member}
 use Rattle.kc_words.specs.Order.{labels}
 use Rattle.kc_list.proofs.Gathering.{Collected}
 use Rattle.kc_list.proofs.labelled.LabelledList.collect_from.Given as goal

@@ -1,6 +1,6 @@
 -- The groups of the items so far are collected, and `last` is the group of the item before.
 use Rattle.std.proofs.Common.{◌≤◌, ◌-◌, length, take}
-use Rattle.kc_distinct.specs.Lists.{place_of}
+use Rattle.kc_lists.specs.Lists.{place_of}
 use Rattle.kc_words.specs.Order.{labels}
 use Rattle.kc_list.proofs.Groupings.{Grouped}
 use Rattle.kc_list.proofs.labelled.LabelledList.collect_groups.Given as goal

@@ -1,6 +1,6 @@
 -- Each item on the way back is of the group, and the walk stops where the one before is not.
 use Rattle.std.proofs.Common.{◌≡◌, suc, arith, ap, sym, ◌∙◌}
-use Rattle.kc_distinct.specs.Lists.{place_of}
+use Rattle.kc_lists.specs.Lists.{place_of}
 use Rattle.kc_list.proofs.Gathering.{back_facts, first_found}
 use Rattle.kc_list.proofs.labelled.LabelledList.first_of.Goals as goal
 

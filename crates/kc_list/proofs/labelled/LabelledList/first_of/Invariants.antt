@@ -1,6 +1,6 @@
 -- Each item on the way back is of the group, and the walk stops where the one before is not.
 use Rattle.std.proofs.Common.{◌≡◌, true}
-use Rattle.kc_distinct.specs.Lists.{member, place_of, prev_of}
+use Rattle.kc_lists.specs.Lists.{member, place_of, prev_of}
 use Rattle.kc_words.specs.Order.{labels}
 use Rattle.kc_list.proofs.labelled.LabelledList.first_of.Given as goal
 

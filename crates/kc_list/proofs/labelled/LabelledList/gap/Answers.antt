@@ -1,7 +1,7 @@
 -- What follows `p` is an item, which has a word.
 use Rattle.std.proofs.Common.{arith, sym, ◌∙◌, inl, inr}
-use Rattle.kc_distinct.specs.Lists.{next_of}
-use Rattle.kc_distinct.proofs.Members.{next_of-in}
+use Rattle.kc_lists.specs.Lists.{next_of}
+use Rattle.kc_lists.proofs.Members.{next_of-in}
 use Rattle.kc_list.proofs.labelled.LabelledList.gap.Goals as goal
 
 pub item-there-requires : goal.item-there-requires

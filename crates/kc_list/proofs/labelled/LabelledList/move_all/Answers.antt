@@ -1,7 +1,7 @@
 -- The members from the place `left` on have moved, and the others wait.
 use Rattle.std.proofs.Common.{◌≡◌, ◌+◌, ◌-◌, ℕ, arith, sym, subst, get_or}
 use Rattle.kc_links.specs.Ring.{Chain}
-use Rattle.kc_distinct.proofs.Counting.{member-get_or}
+use Rattle.kc_lists.proofs.Counting.{member-get_or}
 use Rattle.kc_list.specs.Views.{HaveMoved}
 use Rattle.kc_list.proofs.Cutting.{upway-none, upway-more}
 use Rattle.kc_list.proofs.labelled.LabelledList.move_all.Goals as goal

@@ -1,7 +1,7 @@
 -- The new word of `x` is in the gap right after `p`, and no other item changes.
 use Rattle.std.proofs.Common.{◌+◌, arith, ap, sym, ◌∙◌, refl, eqb, not}
 use Rattle.kc_words.specs.declared.item.ItemWord.{ItemWord}
-use Rattle.kc_distinct.proofs.Members.{without-member, not_member-without}
+use Rattle.kc_lists.proofs.Members.{without-member, not_member-without}
 use Rattle.kc_list.proofs.Putting.{in_by_group, put_stored}
 use Rattle.kc_list.proofs.labelled.LabelledList.put.Goals as goal
 use Rattle.kc_list.proofs.labelled.LabelledList.put.Goals.{After-pack, After-store}

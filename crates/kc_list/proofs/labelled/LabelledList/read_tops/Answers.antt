@@ -2,7 +2,7 @@
 use Rattle.std.proofs.Common.{ap, get_or, arith}
 use Rattle.kc_words.specs.Order.{labels}
 use Rattle.kc_list.proofs.Spreading.{bottoms-step}
-use Rattle.kc_distinct.proofs.Counting.{member-get_or}
+use Rattle.kc_lists.proofs.Counting.{member-get_or}
 use Rattle.kc_list.proofs.labelled.LabelledList.read_tops.Goals as goal
 
 pub group-requires : goal.group-requires

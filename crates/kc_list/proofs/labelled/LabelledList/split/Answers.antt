@@ -1,6 +1,6 @@
 -- The label of the new group is stored first, then each upper member moves.
 use Rattle.std.proofs.Common.{arith, sym, subst, ◌++◌, length}
-use Rattle.kc_distinct.proofs.Members.{member-append_right}
+use Rattle.kc_lists.proofs.Members.{member-append_right}
 use Rattle.kc_links.specs.Ring.{Chain}
 use Rattle.kc_words.specs.Order.{labels}
 use Rattle.kc_list.specs.Views.{HaveMoved}

@@ -11,7 +11,7 @@ use Rattle.kc_list.proofs.Relabelling.{writes-fewer}
 use Rattle.kc_list.proofs.labelled.LabelledList.split_full.Goals as goal
 use Rattle.kc_words.specs.declared.layout.TheConstants.{BOTTOM_ROOM}
 use Rattle.kc_list.specs.declared.limits.TheConstants.{GROUP_ITEMS, HALF_ITEMS}
-use Rattle.kc_distinct.proofs.Counting.{member-get_or}
+use Rattle.kc_lists.proofs.Counting.{member-get_or}
 
 pub top_between-top-requires-clause-last_in : goal.top_between-top-requires-clause-last_in
 top_between-top-requires-clause-last_in c =

@@ -2,7 +2,7 @@
 use Rattle.std.proofs.Common.{◌≤◌, ap, arith, sym, refl, length, take, subst}
 use Rattle.std.proofs.lemmas.List.{length-take-le}
 use Rattle.kc_words.specs.Order.{labels}
-use Rattle.kc_list.specs.Places.{Sound, Segment}
+use Rattle.kc_list.specs.Places.{WordsKeepList, Segment}
 use Rattle.kc_list.proofs.Spreading.{segment_in}
 use Rattle.kc_list.proofs.Rooms.{in_segment, room_after_spread}
 use Rattle.kc_links.specs.Ring.{Chain}
@@ -23,7 +23,7 @@ returns-clause-gap c =
     (take c.gather-count.result c.gather-count.new.into)
     c.args.p c.gather-count.ensures.segment c.requires.p_in refl in
     let g-new = c.spread_group.ensures.spreads.segment.members c.args.p p-m in
-    let there = subst (λ (l : Chain). Sound l.size c.spread_group.new.self.sheet.words l.list) c.spread_group.ensures.relabels.rewrites.links
+    let there = subst (λ (l : Chain). WordsKeepList l.size c.spread_group.new.self.sheet.words l.list) c.spread_group.ensures.relabels.rewrites.links
     c.spread_group.new.self.sound in
     let few : length (take c.gather-count.result c.gather-count.new.into) ≤ GROUP_ITEMS =
     omega (arith, length-take-le c.gather-count.result c.gather-count.new.into (omega arith)) in

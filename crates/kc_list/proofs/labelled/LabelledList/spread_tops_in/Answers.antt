@@ -1,6 +1,6 @@
 -- The groups in use are no more than the items, so that the room suffices.
 use Rattle.std.proofs.Common.{◌≤◌, ◌+◌, length, subst, take, map, arith, List, ℕ}
-use Rattle.kc_distinct.proofs.Members.{below_bound}
+use Rattle.kc_lists.proofs.Members.{below_bound}
 use Rattle.kc_words.specs.Order.{labels}
 use Rattle.kc_list.specs.Places.{runs}
 use Rattle.kc_list.specs.Sheets.{ChangesOnly}

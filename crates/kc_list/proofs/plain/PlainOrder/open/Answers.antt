@@ -1,8 +1,8 @@
 -- The opening words are sound, have the sizes that are counted, and one version.
 use Rattle.std.proofs.Common.{◌+◌, [], ap, sym, ◌∙◌, length, arith}
-use Rattle.kc_distinct.proofs.Members.{below_bound}
+use Rattle.kc_lists.proofs.Members.{below_bound}
 use Rattle.kc_list.specs.Sheets.{Paper}
-use Rattle.kc_list.specs.Plain.{IsWhole}
+use Rattle.kc_list.specs.Plain.{IsBetweenCalls}
 use Rattle.kc_list.specs.declared.limits.TheConstants.{ITEM_WRITES}
 use Rattle.kc_list.proofs.Putting.{ordered_from}
 use Rattle.kc_list.proofs.Openings.{opened_sound, opened_tallied, opened_versions, opened_highest}
@@ -26,7 +26,7 @@ pub invariant_of-result-2 : goal.invariant_of-result-2
 invariant_of-result-2 c =
     let sheet : Paper = record { words = c.in_ok-words.words.items; writes = []; room = c.args.shape.items + ITEM_WRITES } in
     let copied = c.in_ok-opening.ensures.items_if_clones_equal (λ x y h. h) ∙ c.as_slice.ensures.value in
-    let whole : IsWhole c.args.shape.items c.args.shape.fixed c.args.order.now sheet c.in_ok-groups.groups c.in_ok-scratch.scratch
+    let whole : IsBetweenCalls c.args.shape.items c.args.shape.fixed c.args.order.now sheet c.in_ok-groups.groups c.in_ok-scratch.scratch
     c.in_ok-opening.opening.items = record {
       fixed_in = c.requires.fixed_in;
       tallied = opened_tallied c.args.shape.items c.args.shape.version c.args.order.now c.in_ok-words.words.items c.in_ok-groups.groups c.requires.distinct

@@ -1,6 +1,6 @@
 -- In a sound list the labels say which of two items stands first.
 use Rattle.std.proofs.Common.{ap, ◌∙◌}
-use Rattle.kc_distinct.specs.Lists.{member}
+use Rattle.kc_lists.specs.Lists.{member}
 use Rattle.kc_list.proofs.Whole.{precedes_list}
 use Rattle.kc_list.proofs.plain.PlainOrder.precedes.Goals as goal
 

@@ -2,7 +2,7 @@
 use Rattle.std.proofs.Common.{◌≡◌, ◌+◌, ℕ, List, ap, subst, ◌∙◌, get_or, length, arith}
 use Rattle.std.proofs.lemmas.List.{get_or-set_other}
 use Rattle.kc_words.specs.ItemWord.{item_of}
-use Rattle.kc_distinct.specs.Lists.{member, right_after, without}
+use Rattle.kc_lists.specs.Lists.{member, right_after, without}
 use Rattle.kc_list.specs.Plain.{Written}
 use Rattle.kc_list.proofs.Whole.{note_kept, put_keeps, spare_versions, highest_once}
 use Rattle.kc_list.proofs.Highest.{version-highest}

@@ -1,7 +1,7 @@
 -- One write takes the item out; the list is in order before it and after it.
 use Rattle.std.proofs.Common.{◌≢◌, ◌+◌, ℕ, List, ap, subst, ◌∙◌, get_or, arith}
-use Rattle.kc_distinct.specs.Lists.{member}
-use Rattle.kc_distinct.proofs.Members.{without-member}
+use Rattle.kc_lists.specs.Lists.{member}
+use Rattle.kc_lists.proofs.Members.{without-member}
 use Rattle.kc_list.specs.Plain.{Written}
 use Rattle.kc_list.proofs.Whole.{note_kept, spare_versions, highest_once}
 use Rattle.kc_words.specs.ItemWord.{item_of}

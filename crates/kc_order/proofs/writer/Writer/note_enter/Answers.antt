@@ -6,7 +6,7 @@ use Rattle.kc_table.specs.Legal as legal
 use Rattle.kc_table.specs.declared.entry.Entry.{Entry}
 use Rattle.kc_order.specs.Writers.{entries_after, vertex_word_after}
 use Rattle.kc_table.specs.Log.{Seen, event}
-use Rattle.kc_table.specs.State.{state_of}
+use Rattle.kc_table.specs.TableState.{state_of}
 use Rattle.kc_order.proofs.Sections.{enter-leaves, entered_at, leaves-now, stores-now}
 use Rattle.kc_order.proofs.writer.Writer.note_enter.Goals as goal
 

@@ -5,7 +5,7 @@ use Rattle.kc_table.specs.Legal as legal
 use Rattle.kc_words.specs.ItemWord.{item_of}
 use Rattle.kc_words.specs.Order.{labels}
 use Rattle.kc_words.proofs.Packing.{none_version}
-use Rattle.kc_table.specs.State.{listed}
+use Rattle.kc_table.specs.TableState.{listed}
 use Rattle.kc_table.proofs.LegalLogs.{legal-nil, state_of-nil}
 use Rattle.kc_order.proofs.Opened.{Opening, opening-of, tied-open}
 use Rattle.kc_order.proofs.writer.Writer.open.Goals.{In_ok-words}

@@ -9,10 +9,10 @@ use Rattle.kc_remove.proofs.Stepping.{pass-by, one-less, edge-gone}
 use Rattle.kc_remove.proofs.Tidy.{tidy-neighbour}
 use Rattle.kc_remove.proofs.falling.Falling.come_to.Goals as goal
 
-pub returns-then-is_removed-clause-falls : goal.returns-then-is_removed-clause-falls
-returns-then-is_removed-clause-falls g c = λ s row a new' falls.
+pub returns-then-joins-clause-falls : goal.returns-then-joins-clause-falls
+returns-then-joins-clause-falls g c = λ s row a new' falls.
     pass-by c.args.search.update c.args.search.level s _ c.args.turn.vertex c.args.y row c.args.self.now c.requires.turn c.requires.at
-    (λ j oy. absurd (true≢false (sym j ∙ edge-gone c.args.search.update s _ _ (sym c.is_removed.ensures ∙ c.if-is_removed.true)))) falls
+    (λ j oy. absurd (true≢false (sym j ∙ edge-gone c.args.search.update s _ _ (sym c.joins.ensures ∙ c.if-joins.true)))) falls
 
 pub returns-then-core-search-clause-tidy : goal.returns-then-core-search-clause-tidy
 returns-then-core-search-clause-tidy g c =
@@ -40,7 +40,7 @@ returns-in_default-clause-falls g c = λ s row a new' falls.
     let now =
     neighbour-comes c.args.search.update _ s c.args.turn.place c.args.turn.vertex c.args.y row c.args.self.now.seen.weak.items
     (answers-agreed _ _ s c.core_of.ensures.goes_on.further asked) c.requires.read c.requires.neighbour
-    (sym c.is_removed.ensures ∙ c.if-is_removed.false) c.requires.turn c.requires.at in
+    (sym c.joins.ensures ∙ c.if-joins.false) c.requires.turn c.requires.at in
     c.in_ok-visit.ensures.falls s _ _ _ a (sym (told-core _ _ s _ _ asked o.told o.core) ∙ c.if-core-search.false) now.gone falls now.others now.joined
 
 pub returns-else-has_looked-clause-tidy : goal.returns-else-has_looked-clause-tidy
@@ -78,7 +78,7 @@ returns-in_ok-count_on-clause-falls g c = λ s row a new' falls.
     let seen = visited-looked _ _ _ x c.args.y _ _ c.requires.tidy known c.has_looked.ensures c.if-has_looked.true in
     let now = neighbour-comes update _ s c.args.turn.place x c.args.y row f.seen.weak.items
     (answers-agreed _ _ s c.core_of.ensures.goes_on.further (answers-agreed _ _ s c.count_on.ensures.goes_on.further a)) c.requires.read
-    c.requires.neighbour (sym c.is_removed.ensures ∙ c.if-is_removed.false) c.requires.turn c.requires.at in
+    c.requires.neighbour (sym c.joins.ensures ∙ c.if-joins.false) c.requires.turn c.requires.at in
     let less =
     one-less update c.args.search.level s c.args.turn.place x c.args.y c.in-Some.found row f falls c.requires.turn c.requires.at known
     seen.0 seen.1 now.left new' in

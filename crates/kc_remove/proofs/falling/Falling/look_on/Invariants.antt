@@ -1,6 +1,6 @@
 -- What was counted so far is the support that is found on the front of the list, up to the bound.
 use Rattle.std.proofs.Common.{◌≡◌, ◌-◌, ℕ, true, length, take, get_or}
-use Rattle.kc_distinct.specs.Lists.{member}
+use Rattle.kc_lists.specs.Lists.{member}
 use Rattle.kc_graph.specs.Lawful.{Ranked}
 use Rattle.kc_view.specs.Answers.{Agrees, has_list, list_of}
 use Rattle.kc_view.specs.Views.{GoesOn, KeepsLists}

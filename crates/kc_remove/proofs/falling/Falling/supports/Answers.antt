@@ -27,7 +27,7 @@ returns-then-core-search-clause-tidy g c =
 pub returns-then-core-search-clause-told : goal.returns-then-core-search-clause-told
 returns-then-core-search-clause-told g c = λ s a of_level.
     let o = c.in_ok-core.ensures in
-    other_level-counted _ _ _ _ _ c.if-core-search.true (told-core _ _ s _ _ a o.told o.core) (sym c.is_removed.ensures ∙ c.if-is_removed.false)
+    other_level-counted _ _ _ _ _ c.if-core-search.true (told-core _ _ s _ _ a o.told o.core) (sym c.joins.ensures ∙ c.if-joins.false)
     (λ m. of_level c.args.z (take-member c.args.y.turns c.args.self.now.seen.weak.items c.args.z m))
 
 pub returns-clause-tidy : goal.returns-clause-tidy
@@ -38,5 +38,5 @@ returns-clause-tidy g c =
 pub returns-clause-told : goal.returns-clause-told
 returns-clause-told g c = λ s a of_level.
     let o = c.in_ok-core.ensures in
-    of_it _ _ _ _ _ _ c.if-core-search.false (told-core _ _ s _ _ a o.told o.core) (sym c.is_removed.ensures ∙ c.if-is_removed.false)
+    of_it _ _ _ _ _ _ c.if-core-search.false (told-core _ _ s _ _ a o.told o.core) (sym c.joins.ensures ∙ c.if-joins.false)
     (c.is_gone-gone.ensures ∙ c.requires.tidy.marked c.args.z c.args.y.turns)

@@ -1,8 +1,8 @@
 -- Who has fallen was visited, and who was visited is a vertex of the view, so its list may be asked.
 use Rattle.std.proofs.Common.{◌≡◌, ◌<◌, ℕ, true, List, length, get_or, ap, ◌∙◌}
 use Rattle.std.proofs.lemmas.List.{get_or_read}
-use Rattle.kc_distinct.specs.Lists.{member}
-use Rattle.kc_distinct.proofs.Counting.{member-get_or}
+use Rattle.kc_lists.specs.Lists.{member}
+use Rattle.kc_lists.proofs.Counting.{member-get_or}
 use Rattle.kc_remove.proofs.Tidy.{fallen-visited, fallen-read, tidy-again}
 use Rattle.kc_remove.proofs.falling.Falling.take_turn.Goals as goal
 

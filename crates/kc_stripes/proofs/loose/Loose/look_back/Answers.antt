@@ -1,7 +1,6 @@
 -- More was seen, and where the word of a place has another value, the view has missed.
 use Rattle.std.proofs.Common.{◌∙◌, ap, arith, refl, rules}
 use Rattle.kc_table.proofs.Prefixes.{prefix_trans}
-use Rattle.kc_stripes.specs.Records.{opened_with}
 use Rattle.kc_stripes.specs.Reads.{IsMissed, Loosely, loosely}
 use Rattle.kc_stripes.proofs.Giving.{missed_place}
 use Rattle.kc_stripes.proofs.Loosening.{Goes, sees_more}
@@ -11,7 +10,7 @@ use Rattle.kc_stripes.proofs.loose.Loose.look_back.Goals as goal
 
 -- what a call leaves that missed
 misses : (g : given.Over) (c : goal.After-saturating_add-self-inside-2 g)
-    → Goes (opened_with g.K.Name.table g.K.Name.opening_edges g.K.Name.opening_stamps) g.S.Start.log
+    → Goes g.K.Name.opened g.S.Moment.log
     (loosely c.self.inside.memo c.self.inside.handed c.self.inside.misses c.self.inside.pass.log)
     (loosely c.self.inside.memo c.self.inside.handed c.saturating_add-self-inside-2.result c.read_again.new.pass.log)
 misses g c = sees_more c.saturating_add-self-inside-2.result c.self.invariant.2 c.read_again.ensures.longer (search rules) refl
@@ -42,9 +41,9 @@ pub returns-clause-cause : goal.returns-clause-cause
 returns-clause-cause g c =
     let inv = c.self.invariant in
     let read = c.read_again.ensures in
-    let begins = prefix_trans g.S.Start.log c.self.inside.pass.log c.read_again.new.pass.log inv.2.begins read.longer in
-    let missed : IsMissed g.K.Name.table g.S.Start.log c.read_again.new.pass.log c.in-Err.again =
-    missed_place (opened_with g.K.Name.table g.K.Name.opening_edges g.K.Name.opening_stamps) g.S.Start.log c.self.inside.pass.log
+    let begins = prefix_trans g.S.Moment.log c.self.inside.pass.log c.read_again.new.pass.log inv.2.begins read.longer in
+    let missed : IsMissed g.K.Name.opened.table g.S.Moment.log c.read_again.new.pass.log c.in-Err.again =
+    missed_place g.K.Name.opened g.S.Moment.log c.self.inside.pass.log
     c.read_again.new.pass.log c.self.inside.memo.kept c.self.inside.back c.in-Some.place c.read_again.new.pass.table c.in-Err.again inv.2.read begins
     read.longer c.in-Some.ensures.0 c.in-Some.ensures.1 (read.table ∙ inv.1) c.in-Err.ensures.again in
     record {

@@ -2,7 +2,6 @@
 use Rattle.std.proofs.Common.{◌∙◌, arith, rules}
 use Rattle.kc_view.proofs.Marking.{TellsNewCore, tells_new_core}
 use Rattle.kc_agree.specs.Reads.{place_after}
-use Rattle.kc_stripes.specs.Records.{opened_with}
 use Rattle.kc_stripes.specs.Reads.{loosely}
 use Rattle.kc_stripes.proofs.Loosening.{Goes, keeps_place, sees_more}
 use Rattle.kc_stripes.proofs.loose.LooseView.core.Given as given
@@ -10,7 +9,7 @@ use Rattle.kc_stripes.proofs.loose.LooseView.core.Goals.{In_ok-read_core}
 use Rattle.kc_stripes.proofs.loose.LooseView.core.Goals as goal
 
 -- what a call leaves that kept the core number
-keeps : (g : given.Over) (c : goal.In_ok-read_core g) → Goes (opened_with g.K.Name.table g.K.Name.opening_edges g.K.Name.opening_stamps) g.S.Start.log
+keeps : (g : given.Over) (c : goal.In_ok-read_core g) → Goes g.K.Name.opened g.S.Moment.log
     (loosely c.self.inside.memo c.self.inside.handed c.self.inside.misses c.self.inside.pass.log)
     (loosely c.read_core.new.memo c.self.inside.handed c.self.inside.misses c.read_core.new.pass.log)
 keeps g c =

@@ -1,7 +1,6 @@
 -- A list that was not kept is read of its stripe, and kept.
 use Rattle.std.proofs.Common.{ℕ, length, refl, ◌∙◌, ap, arith, rules}
 use Rattle.kc_view.proofs.Marking.{TellsNewList, tells_new_list}
-use Rattle.kc_stripes.specs.Records.{opened_with}
 use Rattle.kc_stripes.specs.Reads.{loosely}
 use Rattle.kc_stripes.proofs.Loosening.{Goes, keeps_list, sees_more, short_list, short_told}
 use Rattle.kc_stripes.proofs.loose.LooseView.degree.Given as given
@@ -9,7 +8,7 @@ use Rattle.kc_stripes.proofs.loose.LooseView.degree.Goals.{In_ok-keep_list}
 use Rattle.kc_stripes.proofs.loose.LooseView.degree.Goals as goal
 
 -- what a call leaves that kept the list
-keeps : (g : given.Over) (c : goal.In_ok-keep_list g) → Goes (opened_with g.K.Name.table g.K.Name.opening_edges g.K.Name.opening_stamps) g.S.Start.log
+keeps : (g : given.Over) (c : goal.In_ok-keep_list g) → Goes g.K.Name.opened g.S.Moment.log
     (loosely c.self.inside.memo c.self.inside.handed c.self.inside.misses c.self.inside.pass.log)
     (loosely c.keep_list.new.self c.self.inside.handed c.self.inside.misses c.read.new.pass.log)
 keeps g c =
@@ -38,7 +37,7 @@ returns-in_err-neighbours-clause-goes_on g c =
 
 pub overflow_cast-degree : goal.overflow_cast-degree
 overflow_cast-degree g c =
-    let list = short_list g.K.Name.table c.args.w c.in_ok-neighbours.neighbours c.in_ok-neighbours.ensures.others in
+    let list = short_list g.K.Name.opened.table c.args.w c.in_ok-neighbours.neighbours c.in_ok-neighbours.ensures.others in
     omega (arith, list, ap (length {A = ℕ}) c.as_slice-2.ensures)
 
 pub invariant_of-self-in_err-keep_list : goal.invariant_of-self-in_err-keep_list

@@ -2,7 +2,6 @@
 use Rattle.std.proofs.Common.{◌∙◌, ap, arith, rules}
 use Rattle.kc_graph.specs.declared.used.UsedOrder.{UsedOrder}
 use Rattle.kc_view.specs.Answers.{has_core}
-use Rattle.kc_stripes.specs.Records.{opened_with}
 use Rattle.kc_stripes.specs.Reads.{IsMissed, Loosely, loosely}
 use Rattle.kc_stripes.proofs.Giving.{missed_of}
 use Rattle.kc_stripes.proofs.Loosening.{Goes, keeps_order, placed_below, sees_more}
@@ -11,7 +10,7 @@ use Rattle.kc_stripes.proofs.loose.LooseView.precedes.Goals.{In-Ok, After-satura
 use Rattle.kc_stripes.proofs.loose.LooseView.precedes.Goals as goal
 
 -- what a call leaves that kept the order
-keeps : (g : given.Over) (c : goal.In-Ok g) → Goes (opened_with g.K.Name.table g.K.Name.opening_edges g.K.Name.opening_stamps) g.S.Start.log
+keeps : (g : given.Over) (c : goal.In-Ok g) → Goes g.K.Name.opened g.S.Moment.log
     (loosely c.self.inside.memo c.self.inside.handed c.self.inside.misses c.self.inside.pass.log)
     (loosely c.read_order.new.memo c.self.inside.handed c.self.inside.misses c.read_order.new.pass.log)
 keeps g c =
@@ -21,7 +20,7 @@ keeps g c =
 
 -- what a call leaves that missed
 misses : (g : given.Over) (c : goal.After-saturating_add-self-inside g)
-    → Goes (opened_with g.K.Name.table g.K.Name.opening_edges g.K.Name.opening_stamps) g.S.Start.log
+    → Goes g.K.Name.opened g.S.Moment.log
     (loosely c.self.inside.memo c.self.inside.handed c.self.inside.misses c.self.inside.pass.log)
     (loosely c.read_order.new.memo c.self.inside.handed c.saturating_add-self-inside.result c.read_order.new.pass.log)
 misses g c =
@@ -61,8 +60,8 @@ returns-in-Err-Miss-clause-cause g c =
     let inv = c.self.invariant in
     let read = c.read_order.ensures in
     let cause = rw c.in-Err-Miss.field-0-is at c.in-Err-Miss.ensures.cause in
-    let missed : IsMissed g.K.Name.table g.S.Start.log c.read_order.new.pass.log c.in-Err-Miss.again =
-    missed_of g.K.Name.table g.S.Start.log _ _ c.args.x c.args.y c.in-Err-Miss.again inv.1 (read.table ∙ inv.1) inv.2.begins
+    let missed : IsMissed g.K.Name.opened.table g.S.Moment.log c.read_order.new.pass.log c.in-Err-Miss.again =
+    missed_of g.K.Name.opened.table g.S.Moment.log _ _ c.args.x c.args.y c.in-Err-Miss.again inv.1 (read.table ∙ inv.1) inv.2.begins
     cause.1 in
     record {
       rose = omega (arith, c.saturating_add-self-inside.ensures, ap (λ (x : Loosely). x.misses) c.self.view_is);

@@ -1,5 +1,4 @@
 -- The view keeps nothing then.
-use Rattle.kc_stripes.specs.Records.{opened_with}
 use Rattle.kc_stripes.proofs.Loosening.{loose_none}
 use Rattle.kc_stripes.proofs.loose.LooseView.used.Goals as goal
 
@@ -9,6 +8,6 @@ invariant_of-self g c =
     rw c.hand_out.ensures.emptied (
       inv.0,
       inv.1,
-      loose_none (opened_with g.K.Name.table g.K.Name.opening_edges g.K.Name.opening_stamps) g.S.Start.log c.self.inside.pass.log
+      loose_none g.K.Name.opened g.S.Moment.log c.self.inside.pass.log
           c.self.inside.memo.size _ _ inv.2.size inv.2.begins,
     )

@@ -4,7 +4,8 @@ use Rattle.std.proofs.lemmas.List.{get_or_read}
 use Rattle.kc_graph.specs.declared.used.UsedEdges.{UsedEdges}
 use Rattle.kc_view.specs.Lists.{IsListOf}
 use Rattle.kc_stripes.specs.declared.stripe.TheConstants.{STRIPES}
-use Rattle.kc_stripes.specs.Records.{Striped, IsStripe, IsRecord, no_record, record_of}
+use Rattle.kc_stripes.specs.Records.{Striped, IsStripe, IsRecord, record_of}
+use Rattle.kc_view.specs.Marks.{no_list}
 use Rattle.kc_stripes.proofs.Growing.{was_list}
 use Rattle.kc_stripes.proofs.Keeping.{place_in, record_is}
 use Rattle.kc_stripes.proofs.stripe.Stripe.get.Goals.{After-index-kept, After-self}
@@ -21,7 +22,7 @@ place-below c = omega (arith, place_in c.args.self.now c.args.w (stripe-is c) c.
 -- the record that was read is that of the vertex
 record-read : (c : After-index-kept) → c.args.w / STRIPES < length c.self.inside.records.items → c.index-kept.result.now ≡ record_of c.args.self.now c.args.w
 record-read c within =
-    get_or_read c.self.inside.records.items (c.args.w / STRIPES) c.index-kept.result.now within c.index-kept.ensures no_record
+    get_or_read c.self.inside.records.items (c.args.w / STRIPES) c.index-kept.result.now within c.index-kept.ensures no_list
     ∙ ap (λ (x : Striped). record_of x c.args.w) c.self.view_is
 
 pub index-kept-requires : goal.index-kept-requires

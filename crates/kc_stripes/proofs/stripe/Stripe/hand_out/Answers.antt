@@ -3,7 +3,8 @@ use Rattle.std.proofs.Common.{◌≡◌, sym, ◌∙◌, ap, subst}
 use mathlib.Core.List.{IsPrefix}
 use Rattle.kc_graph.specs.declared.used.UsedEdges.{UsedEdges}
 use Rattle.kc_table.specs.Log.{PassSeen}
-use Rattle.kc_stripes.specs.Records.{Striped, IsStripe, IsRecord, opened_with, record_of}
+use Rattle.kc_stripes.specs.Records.{Striped, IsStripe, IsRecord, record_of}
+use Rattle.kc_table.specs.Log.{opened_with}
 use Rattle.kc_stripes.proofs.Growing.{record_stays}
 use Rattle.kc_stripes.proofs.Keeping.{record_is}
 use Rattle.kc_stripes.proofs.stripe.Stripe.hand_out.Goals as goal

@@ -5,7 +5,8 @@ use Rattle.kc_graph.specs.declared.used.UsedEdges.{UsedEdges}
 use Rattle.kc_table.specs.Log.{PassSeen}
 use Rattle.kc_agree.specs.Reads.{WasList}
 use Rattle.kc_agree.proofs.Growing.{list_stays}
-use Rattle.kc_stripes.specs.Records.{Striped, IsStripe, belongs, opened_with}
+use Rattle.kc_stripes.specs.Records.{Striped, IsStripe, belongs}
+use Rattle.kc_table.specs.Log.{opened_with}
 use Rattle.kc_stripes.proofs.Keeping.{place_in, seen_more, put_newer}
 use Rattle.kc_stripes.proofs.stripe.Stripe.put.Goals as goal
 

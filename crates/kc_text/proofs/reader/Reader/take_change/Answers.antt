@@ -1,7 +1,7 @@
 -- A change that fits is one more of the last batch, and names two ids more.
 use Rattle.std.proofs.Common.{◌≡◌, ◌+◌, refl, ap, ◌∙◌}
 use Rattle.kc_text.specs.declared.reader.Reader.{Reader}
-use Rattle.kc_text.specs.declared.line.Line.TheVariants as said
+use Rattle.kc_text.specs.declared.line.TextLine.TheVariants as said
 use Rattle.kc_text.specs.Meaning.{passed_limit, with_line}
 use Rattle.kc_text.specs.Readers.{told_by}
 use Rattle.kc_text.proofs.Few.{exact-before, few-change}

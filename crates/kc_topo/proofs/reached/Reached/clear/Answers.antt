@@ -1,8 +1,8 @@
 -- The last vertex goes, and its mark.
 use Rattle.std.proofs.Common.{ℕ, List, [], ◌∷◌, false, ap, ◌∙◌, subst, arith, length-set}
-use Rattle.kc_distinct.specs.Lists.{Distinct, member}
-use Rattle.kc_distinct.proofs.Members.{member-append_left, member-append_right, member-head}
-use Rattle.kc_distinct.proofs.Shared.{Distinct-front}
+use Rattle.kc_lists.specs.Lists.{Distinct, member}
+use Rattle.kc_lists.proofs.Members.{member-append_left, member-append_right, member-head}
+use Rattle.kc_lists.proofs.Shared.{Distinct-front}
 use Rattle.kc_topo.proofs.Marks.{marks-pop}
 use Rattle.kc_topo.proofs.reached.Reached.clear.Goals as goal
 

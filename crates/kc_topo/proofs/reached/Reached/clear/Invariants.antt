@@ -1,6 +1,6 @@
 -- The marks are those of the vertices that are left.
 use Rattle.std.proofs.Common.{◌≡◌, ◌<◌, ℕ, true, false, length, get_or}
-use Rattle.kc_distinct.specs.Lists.{Distinct, member}
+use Rattle.kc_lists.specs.Lists.{Distinct, member}
 use Rattle.kc_topo.proofs.reached.Reached.clear.Given as goal
 
 abbrev pub invariant-loop-v : goal.invariant-loop-v

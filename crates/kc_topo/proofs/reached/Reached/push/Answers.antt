@@ -1,6 +1,6 @@
 -- One vertex more is marked.
 use Rattle.std.proofs.Common.{◌++◌, List, ℕ, [], ◌∷◌, length, ap, ◌∙◌, arith, length-append}
-use Rattle.kc_distinct.specs.Lists.{member}
+use Rattle.kc_lists.specs.Lists.{member}
 use Rattle.kc_topo.specs.Searching.{Trail}
 use Rattle.kc_topo.proofs.Marks.{marked-push}
 use Rattle.kc_topo.proofs.reached.Reached.push.Goals as goal

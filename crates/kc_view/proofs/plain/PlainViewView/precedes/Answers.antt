@@ -1,6 +1,6 @@
 -- The order that is kept is that of the state: both vertices are in it, since their core numbers were told.
 use Rattle.std.proofs.Common.{ltb, refl}
-use Rattle.kc_distinct.specs.Lists.{place_of}
+use Rattle.kc_lists.specs.Lists.{place_of}
 use Rattle.kc_view.specs.Answers.{Answers, with_order}
 use Rattle.kc_view.proofs.AtRest.{Rests, lists-true, next_order}
 use Rattle.kc_view.proofs.plain.PlainViewView.precedes.Goals.{In_ok-keep_order}

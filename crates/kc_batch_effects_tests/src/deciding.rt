@@ -1,0 +1,124 @@
+//! Updates that name edges again, and the updates of them that decide.
+use kc_batch_effects::{Batch, decide};
+use kc_graph::{Graph, Update};
+use kc_words::{INDICES, VERTICES};
+use std::process::Abort;
+
+/// The edge between 0 and 1 is named three times, the one between 1 and 2 twice, and the other two once.
+const UPDATES: [Update; 7] = [
+    Update {
+        add: true,
+        u: 0,
+        v: 1,
+    },
+    Update {
+        add: false,
+        u: 1,
+        v: 2,
+    },
+    Update {
+        add: false,
+        u: 0,
+        v: 1,
+    },
+    Update {
+        add: true,
+        u: 2,
+        v: 3,
+    },
+    Update {
+        add: true,
+        u: 0,
+        v: 1,
+    },
+    Update {
+        add: false,
+        u: 0,
+        v: 3,
+    },
+    Update {
+        add: true,
+        u: 1,
+        v: 2,
+    },
+];
+
+/// The last update of each edge.
+const LAST: [Update; 4] = [
+    Update {
+        add: true,
+        u: 2,
+        v: 3,
+    },
+    Update {
+        add: true,
+        u: 0,
+        v: 1,
+    },
+    Update {
+        add: false,
+        u: 0,
+        v: 3,
+    },
+    Update {
+        add: true,
+        u: 1,
+        v: 2,
+    },
+];
+
+/// The updates that decide, of some that are within the limits.
+fn decided<R: Abort + AllocGlobal>(rt: &R, updates: &[Update]) -> Batch {
+    assert!(rt; updates.len() <= INDICES as usize);
+    for update in updates {
+        assert!(rt; update.v < VERTICES);
+    }
+    decide(rt.alloc(), updates).expect(rt, "no memory")
+}
+
+/// Makes an update.
+fn make<R: Abort>(rt: &R, graph: &mut Graph, update: Update) {
+    assert!(rt; update.v < graph.vertices());
+    if update.add {
+        let _added = graph.add(update.u, update.v).expect(rt, "no memory");
+    } else {
+        let _removed = graph.remove(update.u, update.v);
+    }
+}
+
+/// The graph has the edges that all updates leave: the one between 0 and 3 is gone.
+fn assert_left<R: Abort>(rt: &R, graph: &Graph) {
+    assert!(rt; graph.vertices() == 4);
+    assert_eq!(rt; graph.edges(), 3);
+    assert!(rt; graph.has(0, 1));
+    assert!(rt; graph.has(1, 2));
+    assert!(rt; graph.has(2, 3));
+}
+
+#[test]
+fn the_last_update_of_an_edge_decides(rt: HostRuntime) {
+    let updates = UPDATES;
+    let last = LAST;
+    let batch = decided(&rt, &updates);
+    assert_eq!(&rt; batch.updates.as_slice(), last.as_slice());
+    assert_eq!(&rt; batch.overruled, 3);
+    let none = decided(&rt, &[]);
+    assert_eq!(&rt; none.updates.len(), 0);
+    assert_eq!(&rt; none.overruled, 0);
+}
+
+#[test]
+fn the_last_updates_leave_what_all_leave(rt: HostRuntime) {
+    let updates = UPDATES;
+    let mut graph = Graph::from_pairs(rt.alloc(), 4, &[(0, 3), (1, 2)]).expect(&rt, "no memory");
+    for update in updates {
+        make(&rt, &mut graph, update);
+    }
+    assert_left(&rt, &graph);
+    let mut graph = Graph::from_pairs(rt.alloc(), 4, &[(0, 3), (1, 2)]).expect(&rt, "no memory");
+    let batch = decided(&rt, &updates);
+    for update in batch.updates.iter().rev() {
+        make(&rt, &mut graph, *update);
+    }
+    assert_left(&rt, &graph);
+}

@@ -1,0 +1,4 @@
+-- What public contracts speak of.
+pub mod Maps
+pub mod SearchMarks
+pub mod Sparse

@@ -1,8 +1,0 @@
--- The vertex has no entry among those passed.
-use Rattle.std.proofs.Common.{◌≡◌, drop}
-use Rattle.kc_seen.specs.Maps.{number_in}
-use Rattle.kc_seen.proofs.Entries.{on_by}
-use Rattle.kc_seen.proofs.map.number_among.Given as goal
-
-abbrev pub invariant-loop-i : goal.invariant-loop-i
-invariant-loop-i g l = number_in l.entries l.y ≡ on_by l.i (number_in (drop l.i l.entries) l.y)

@@ -1,4 +1,0 @@
--- What public contracts speak of.
-pub mod Maps
-pub mod Seen
-pub mod Sparse
