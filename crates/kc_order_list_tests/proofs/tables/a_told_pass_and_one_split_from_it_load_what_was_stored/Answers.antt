@@ -1,6 +1,5 @@
 -- Each store makes a written-out log, which is legal.
-use Rattle.std.proofs.Common.{◌≡◌, ℕ, List, ◌++◌, [], ◌∷◌, sym, ap, ◌∙◌, subst, rules}
-use Rattle.kc_words.specs.declared.shape.Shape.{Shape}
+use Rattle.std.proofs.Common.{◌≡◌, ◌++◌, [], ◌∷◌, sym, ap, ◌∙◌, subst, rules}
 use Rattle.kc_table.specs.Log.{Seen, event}
 use Rattle.kc_table.specs.Legal.{IsTableOpening}
 use Rattle.kc_table.specs.Samples.{pair_shape, pair_opening}

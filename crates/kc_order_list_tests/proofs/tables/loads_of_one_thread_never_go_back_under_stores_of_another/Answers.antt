@@ -1,6 +1,5 @@
 -- The table of one item opens with the words that the loops speak of.
-use Rattle.std.proofs.Common.{◌≡◌, ℕ, List, sym, ◌∙◌, subst, rules}
-use Rattle.kc_words.specs.declared.shape.Shape.{Shape}
+use Rattle.std.proofs.Common.{◌≡◌, sym, ◌∙◌, subst, rules}
 use Rattle.kc_table.specs.Legal.{IsTableOpening}
 use Rattle.kc_order_list_tests.specs.Lone.{lone_words}
 use Rattle.kc_order_list_tests.proofs.SmallTables.{lone_is, lone_opens}
