@@ -1,0 +1,5 @@
+-- What public contracts speak of.
+pub mod Keys
+pub mod Layers
+pub mod Lists
+pub mod Tallies

@@ -1,0 +1,127 @@
+//! The counts of a piece of the edges, added to those of others.
+ghost use Rattle.std.specs.Prelude.{◌≡◌, ◌<◌, ◌+◌, ◌++◌, ℕ, true, List, All, IfOk, IfErr, None, Some, length, nat_le, nat_lt, ◌||◌, ◌&&◌, ◌==◌, slice_index, slice_set, if◌then◌else◌};
+ghost use Rattle.kc_graph.specs.Bulk.{is_within};
+ghost use Rattle.kc_graph.specs.declared.bulk.Edge.{Edge};
+ghost use Rattle.kc_tally.specs.Keys.{has_lesser_key};
+ghost use Rattle.kc_tally.specs.Lists.{first_fault};
+ghost use Rattle.kc_tally.specs.Tallies.{leads_to, later_count, supporter_count, capped, AreTallied};
+
+use crate::fault::{FirstFault, first_fault};
+use kc_graph::Edge;
+
+/// Whether the rank of `v` is less than that of `w`, or the same and `v` itself is less.
+fn ranks_before(rank: &[u32], v: u32, w: u32) -> bool
+    requires first { v < length rank.now }
+    requires second { w < length rank.now }
+    ensures { result ≡ (nat_lt (slice_index rank.now v) (slice_index rank.now w)
+        || (slice_index rank.now v == slice_index rank.now w && nat_lt v w)) }
+{
+    let (rank_v, rank_w) = (rank[v as usize], rank[w as usize]);
+    rank_v < rank_w || (rank_v == rank_w && v < w)
+}
+
+/// Whether the key of `v` is less than that of `w`.
+fn has_lesser_key(core: &[u32], rank: &[u32], v: u32, w: u32) -> bool
+    requires ranked { length rank.now ≡ length core.now }
+    requires first { v < length core.now }
+    requires second { w < length core.now }
+    ensures { result ≡ has_lesser_key core.now rank.now v w }
+{
+    let (core_v, core_w) = (core[v as usize], core[w as usize]);
+    core_v < core_w || (core_v == core_w && ranks_before(rank, v, w))
+}
+
+/// One more is counted at `v`.
+fn count_one(counts: &mut [u32], v: u32)
+    requires { v < length counts.old }
+    ensures { counts.new ≡ slice_set counts.old v (capped (slice_index counts.old v + 1)) }
+{
+    counts[v as usize] = counts[v as usize].saturating_add(1);
+}
+
+/// Counts what one edge gives its ends.
+fn count_edge(core: &[u32], rank: &[u32], edge: Edge, later: &mut [u32], supporters: &mut [u32])
+    requires ranked { length rank.now ≡ length core.now }
+    requires later_each { length later.old ≡ length core.now }
+    requires supporters_each { length supporters.old ≡ length core.now }
+    requires lesser_first { edge.u < edge.v }
+    requires within { edge.v < length core.now }
+    ensures later { (v : ℕ) → v < length core.now → slice_index later.new v
+        ≡ capped (slice_index later.old v + (if leads_to (has_lesser_key core.now rank.now v) v edge then 1 else 0)) }
+    ensures supporters { (v : ℕ) → v < length core.now → slice_index supporters.new v
+        ≡ capped (slice_index supporters.old v
+        + (if leads_to (λ w. nat_le (slice_index core.now v) (slice_index core.now w)) v edge then 1 else 0)) }
+{
+    let (first, second) = if has_lesser_key(core, rank, edge.u, edge.v) {
+        (edge.u, edge.v)
+    } else {
+        (edge.v, edge.u)
+    };
+    count_one(later, first);
+    count_one(supporters, first);
+    if core[first as usize] == core[second as usize] {
+        count_one(supporters, second);
+    }
+}
+
+/// Counts what edges give their ends.
+fn count_all(core: &[u32], rank: &[u32], edges: &[Edge], later: &mut [u32], supporters: &mut [u32])
+    requires ranked { length rank.now ≡ length core.now }
+    requires later_each { length later.old ≡ length core.now }
+    requires supporters_each { length supporters.old ≡ length core.now }
+    requires lesser_first { All (λ e. e.u < e.v) edges.now }
+    requires within { All (λ e. e.v < length core.now) edges.now }
+    ensures later { (v : ℕ) → v < length core.now → slice_index later.new v
+        ≡ capped (slice_index later.old v + later_count core.now rank.now edges.now v) }
+    ensures supporters { (v : ℕ) → v < length core.now → slice_index supporters.new v
+        ≡ capped (slice_index supporters.old v + supporter_count core.now edges.now v) }
+{
+    for edge in edges {
+        count_edge(core, rank, *edge, later, supporters);
+    }
+}
+
+/// Adds to the counts of each vertex what a piece of the edges gives it: a later neighbour where it has the lesser key of an edge's two
+/// ends, and a supporter where the other end has no lesser core number. `before` is the edge after which the piece goes on, such as the
+/// last one of the piece before.
+///
+/// A piece that is not strictly ascending, or has an edge whose ends are no two vertices with the lesser one first, is refused, and the
+/// counts stay as they were.
+pub fn count(
+    core: &[u32],
+    rank: &[u32],
+    before: Option<Edge>,
+    edges: &[Edge],
+    later: &mut [u32],
+    supporters: &mut [u32],
+) -> Result<(), FirstFault>
+    requires ranked { length rank.now ≡ length core.now }
+    requires later_each { length later.old ≡ length core.now }
+    requires supporters_each { length supporters.old ≡ length core.now }
+    ensures accepted { IfOk result (λ _. first_fault (length core.now) 0 before edges.now ≡ None) }
+    ensures refused { IfErr result (λ fault. first_fault (length core.now) 0 before edges.now ≡ Some fault) }
+    ensures later { IfOk result (λ _. (v : ℕ) → v < length core.now → slice_index later.new v
+        ≡ capped (slice_index later.old v + later_count core.now rank.now edges.now v)) }
+    ensures supporters { IfOk result (λ _. (v : ℕ) → v < length core.now → slice_index supporters.new v
+        ≡ capped (slice_index supporters.old v + supporter_count core.now edges.now v)) }
+    ensures later_kept { IfErr result (λ _. later.new ≡ later.old) }
+    ensures supporters_kept { IfErr result (λ _. supporters.new ≡ supporters.old) }
+    ensures tally { IfOk result (λ _. (earlier : List Edge) → AreTallied core.now rank.now earlier later.old supporters.old
+        → AreTallied core.now rank.now (earlier ++ edges.now) later.new supporters.new) }
+{
+    if let Some(fault) = first_fault(core.len(), before, edges) {
+        return Err(fault);
+    }
+    count_all(core, rank, edges, later, supporters);
+    Ok(())
+}
+
+/// Adds the counts of other pieces.
+pub fn add(counts: &mut [u32], others: &[u32])
+    requires { length others.now ≡ length counts.old }
+    ensures { (v : ℕ) → v < length counts.old → slice_index counts.new v ≡ capped (slice_index counts.old v + slice_index others.now v) }
+{
+    for (v, other) in others.iter().enumerate() {
+        counts[v] = counts[v].saturating_add(*other);
+    }
+}
