@@ -18,7 +18,7 @@ use Rattle.kc_graph.proofs.Law.{certified-core_numbers, core-unique}
 use Rattle.kc_graph.proofs.Existence.{certificate_exists}
 use Rattle.kc_graph.proofs.Places.{length-enumerates}
 use Rattle.kc_tally.specs.Keys.{has_lesser_key}
-use Rattle.kc_tally.specs.Layers.{is_left_at, left_at}
+use Rattle.kc_tally.specs.Layers.{AreLayers, is_left_at, left_at}
 use Rattle.kc_tally.specs.Lists.{ListsEachOnce}
 use Rattle.kc_tally.specs.Tallies.{later_count, supporter_count, capped, AreTallied, AreBetween}
 use Rattle.kc_tally.proofs.Keys.{has_lesser_key-trans, has_lesser_key-total, has_lesser_key-core, has_lesser_key-true, has_lesser_key-left}
@@ -30,7 +30,7 @@ order-within : (n : ℕ) (order : List ℕ) (w : ℕ) → Enumerates n order →
 order-within n order w e m = All-contains (λ x. x < n) order w e.below (Contains-from_member order w m)
 
 -- what stands at a place from `k` on is left when the first `k` are dropped
-member-drop_at : (k j : ℕ) (xs : List ℕ) → k ≤ j → j < length xs → member (get_or xs j 0) (drop k xs) ≡ true
+pub member-drop_at : (k j : ℕ) (xs : List ℕ) → k ≤ j → j < length xs → member (get_or xs j 0) (drop k xs) ≡ true
 member-drop_at zero j xs h l = member-get_or xs j 0 l
 member-drop_at (suc k) j [] h l = absurd (omega arith)
 member-drop_at (suc k) zero (x ∷ xs) h l = absurd (omega arith)
@@ -142,7 +142,8 @@ module _ (core rank : List ℕ) (edges : List Edge) (once : ListsEachOnce (lengt
         let more : count_by (is_later v) (below (length core)) ≤ count_by left (below (length core)) =
         count-mono (is_later v) left (below (length core))
         (λ w _ h. let p = and_parts (adjacent g v w) (has_lesser_key core rank v w) h in and_from _ _ p.0 (has_lesser_key-left core rank v w p.1)) in
-        let same : count_by left (below (length core)) ≡ left_at g core rank (get_or rank v 0) v = ap (λ n. count_by left (below n)) (sym (size-with (length core) edges)) in
+        let same : count_by left (below (length core)) ≡ left_at g core rank (get_or rank v 0) v =
+        ap (λ n. count_by left (below n)) (sym (size-with (length core) edges)) in
         omega (arith, t.later_counted v l, later-fits v short l, later-is v, more, same, few v l);
     enough_supporters = λ v l. omega (arith, t.supporters_counted v l, supporters-fit v short l, core_numbers-supported right v l);
   }
@@ -211,3 +212,12 @@ module _ (core rank : List ℕ) (edges : List Edge) (once : ListsEachOnce (lengt
             in-supporters order enumerated v,
           );
     }
+
+-- and right numbers agree where the ranks are layers
+pub layers-agree : (g : SimpleGraph) (core rank : List ℕ) (edges : List Edge) (later supporters : List ℕ) → length core ≤ 2 ^ 32
+    → ListsEachOnce (length core) edges → g ≡ graph_with (length core) edges → AreCoreNumbers g core → AreLayers g core rank
+    → AreTallied core rank edges later supporters → AreBetween core later supporters
+layers-agree g core rank edges later supporters short once same right layers tally =
+    let right' : AreCoreNumbers (graph_with (length core) edges) core = subst (λ (h : SimpleGraph). AreCoreNumbers h core) same right in
+    let layers' : AreLayers (graph_with (length core) edges) core rank = subst (λ (h : SimpleGraph). AreLayers h core rank) same layers in
+    rounds-agree core rank edges once right' (λ v l. layers'.taken v (omega (arith, size-with (length core) edges))) later supporters short tally

@@ -39,13 +39,19 @@ count-one a (suc n) t l = elim (cases_eq n a) [
       count-agree (λ w. eqb w a && t w) (λ w. false) (below n)
       (λ w m. let k : w < n = below-member w n m in and_left (eqb w a) (t w) (ne_eqb w a (λ same. absurd (omega arith))))
       ∙ count-none (λ w. false) n (λ w. refl) in
-      omega (arith, count-cons (λ w. eqb w a && t w) n (below n), ap {B = ℕ} (λ b. cond (b && t n) 1 0) (eq-eqb n a e), ap {B = ℕ} (λ k. cond (t k) 1 0) e, rest)
+      omega (
+        arith,
+        count-cons (λ w. eqb w a && t w) n (below n),
+        ap {B = ℕ} (λ b. cond (b && t n) 1 0) (eq-eqb n a e),
+        ap {B = ℕ} (λ k. cond (t k) 1 0) e,
+        rest,
+      )
   | inr ne ↦
       omega (arith, count-cons (λ w. eqb w a && t w) n (below n), ap {B = ℕ} (λ b. cond (b && t n) 1 0) (ne_eqb n a ne), count-one a n t (omega arith))
 ]
 
 -- what passes one of two tests, but never both, counts as much as both tests do
-count-apart : (p q r : ℕ → Bool) (xs : List ℕ) → ((x : ℕ) → ◌≡◌ {A = ℕ} (cond (r x) 1 0) (cond (p x) 1 0 + cond (q x) 1 0))
+pub count-apart : (p q r : ℕ → Bool) (xs : List ℕ) → ((x : ℕ) → ◌≡◌ {A = ℕ} (cond (r x) 1 0) (cond (p x) 1 0 + cond (q x) 1 0))
     → count_by r xs ≡ count_by p xs + count_by q xs
 count-apart p q r [] h = refl
 count-apart p q r (x ∷ xs) h = omega (arith, count-cons p x xs, count-cons q x xs, count-cons r x xs, h x, count-apart p q r xs h)

@@ -129,7 +129,8 @@ once-from_none n before es h = once-right n before es (right-from_none n 0 befor
 -- what is above one that is not below another is above that
 above_gate : (gate : Edge) (last : Option Edge) (e : Edge) → is_up_to gate last ≡ true → is_above (Some gate) e ≡ true → is_above last e ≡ true
 above_gate gate None e h k = refl
-above_gate gate (Some last) e h k = above-from last e (above-up gate last e (not-above gate last (not-true (is_above (Some gate) last) h)) (above-true gate e k))
+above_gate gate (Some last) e h k =
+    above-from last e (above-up gate last e (not-above gate last (not-true (is_above (Some gate) last) h)) (above-true gate e k))
   where
     -- not above is at most
     not-above : (e f : Edge) → is_above (Some e) f ≡ false → (f.u < e.u) ⊎ ((f.u ≡ e.u) × (f.v ≤ e.v))

@@ -31,7 +31,8 @@ tally-append core rank first second later supporters later' supporters' later'' 
   later_counted = λ v lv.
       omega (arith, l v lv, t.later_counted v lv, t'.later_counted v lv, edges-append (leads_to (has_lesser_key core rank v) v) first second);
   supporters_counted = λ v lv.
-      omega (arith, s v lv, t.supporters_counted v lv, t'.supporters_counted v lv, edges-append (leads_to (λ w. nat_le (get_or core v 0) (get_or core w 0)) v) first second);
+      let both = edges-append (leads_to (λ w. nat_le (get_or core v 0) (get_or core w 0)) v) first second in
+      omega (arith, s v lv, t.supporters_counted v lv, t'.supporters_counted v lv, both);
 }
 
 -- the tally of a list with a piece behind it
@@ -44,7 +45,9 @@ tally-more core rank first second later supporters later' supporters' t n n' l s
   later_each = n;
   supporters_each = n';
   later_counted = λ v lv. omega (arith, l v lv, t.later_counted v lv, edges-append (leads_to (has_lesser_key core rank v) v) first second);
-  supporters_counted = λ v lv. omega (arith, s v lv, t.supporters_counted v lv, edges-append (leads_to (λ w. nat_le (get_or core v 0) (get_or core w 0)) v) first second);
+  supporters_counted = λ v lv.
+      let both = edges-append (leads_to (λ w. nat_le (get_or core v 0) (get_or core w 0)) v) first second in
+      omega (arith, s v lv, t.supporters_counted v lv, both);
 }
 
 -- one edge more is counted where it passes
@@ -88,7 +91,9 @@ pub tally-pieces : (core rank : List ℕ) (pieces : List (List Edge)) (later sup
 tally-pieces core rank pieces later supporters n n' l s = record {
   later_each = n;
   supporters_each = n';
-  later_counted = λ v lv. l v lv ∙ (capped-sum (λ piece. later_count core rank piece v) pieces ∙ ap capped (sym (count-pieces (leads_to (has_lesser_key core rank v) v) pieces)));
+  later_counted = λ v lv.
+      l v lv ∙ (capped-sum (λ piece. later_count core rank piece v) pieces
+      ∙ ap capped (sym (count-pieces (leads_to (has_lesser_key core rank v) v) pieces)));
   supporters_counted = λ v lv.
       s v lv ∙ (capped-sum (λ piece. supporter_count core piece v) pieces
       ∙ ap capped (sym (count-pieces (leads_to (λ w. nat_le (get_or core v 0) (get_or core w 0)) v) pieces)));

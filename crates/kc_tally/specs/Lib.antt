@@ -3,3 +3,5 @@ pub mod Keys
 pub mod Layers
 pub mod Lists
 pub mod Tallies
+-- What the crate's own functions speak of.
+pub mod Taking

@@ -16,19 +16,22 @@
 mod agreement;
 mod counting;
 mod fault;
+mod layering;
 
 ghost use Rattle.std.specs.Prelude.{◌≡◌, ◌≤◌, ◌<◌, ◌+◌, ◌^◌, ◌++◌, ℕ, true, List, [], Option, None, Some, All, AllPairs, length, slice_index, slice_index_or};
 ghost use Rattle.std.specs.List.{sum_by};
 ghost use Rattle.kc_graph.specs.Bulk.{graph_with};
 ghost use Rattle.kc_graph.specs.Core.{AreCoreNumbers};
+ghost use Rattle.kc_graph.specs.SimpleGraph.{SimpleGraph};
 ghost use Rattle.kc_graph.specs.declared.bulk.Edge.{Edge};
 ghost use Rattle.kc_tally.specs.Lists.{ListsEachOnce, AreDisjoint, first_fault, last_edge, is_up_to, edges_of_pieces};
 ghost use Rattle.kc_tally.specs.Tallies.{AreBetween, AreTallied, capped, later_count, supporter_count};
-ghost use Rattle.kc_tally.specs.Layers.{left_at};
+ghost use Rattle.kc_tally.specs.Layers.{AreLayers, left_at};
 
 pub use agreement::verdict;
 pub use counting::{add, count};
 pub use fault::{EdgeFault, FirstFault, first_fault};
+pub use layering::layers;
 
 /// Claimed numbers are the core numbers of the graph of all pieces, where the sums of the counts of the pieces agree with them: pieces
 /// that have each of their edges once, and none in common.
@@ -85,10 +88,18 @@ pub fn core_numbers_have_enough_supporters()
 {}
 
 /// Core numbers agree with their tally also where ranks are rounds: where each vertex has at most as many neighbours as its number that
-/// have a greater number, or the same and no lesser rank. So it is where in each round all vertices are taken at once that have so few.
+/// have a greater number, or the same and no lesser rank. So it is where ranks are layers.
 pub fn rounds_as_ranks_agree()
-    ensures { (core rank : List ℕ) (edges : List Edge) (later supporters : List ℕ) → length core ≤ 2 ^ 32 → ListsEachOnce (length core) edges
+    ensures few { (core rank : List ℕ) (edges : List Edge) (later supporters : List ℕ) → length core ≤ 2 ^ 32 → ListsEachOnce (length core) edges
         → let g = graph_with (length core) edges in AreCoreNumbers g core
         → ((v : ℕ) → v < length core → left_at g core rank (slice_index rank v) v ≤ slice_index core v)
         → AreTallied core rank edges later supporters → AreBetween core later supporters }
+    ensures layers { (core rank : List ℕ) (edges : List Edge) (later supporters : List ℕ) → length core ≤ 2 ^ 32 → ListsEachOnce (length core) edges
+        → let g = graph_with (length core) edges in AreCoreNumbers g core → AreLayers g core rank
+        → AreTallied core rank edges later supporters → AreBetween core later supporters }
+{}
+
+/// Core numbers have one list of ranks that are layers, and no more.
+pub fn layers_are_unique()
+    ensures { (g : SimpleGraph) (core first second : List ℕ) → AreLayers g core first → AreLayers g core second → first ≡ second }
 {}
