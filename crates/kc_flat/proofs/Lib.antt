@@ -1,0 +1,4 @@
+pub mod Cutting
+pub mod Holding
+pub mod Packed
+pub mod Pairing

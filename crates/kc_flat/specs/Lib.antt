@@ -1,0 +1,5 @@
+-- What public contracts speak of.
+pub mod Pairs
+-- What the crate's own functions and invariants speak of.
+pub mod Parts
+pub mod Turned

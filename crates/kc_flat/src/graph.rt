@@ -1,0 +1,101 @@
+//! A graph in one array.
+ghost use Rattle.std.specs.Prelude.{◌≡◌, ◌<◌, ◌^◌, ℕ, length, map, IfOk, List};
+ghost use Rattle.std.specs.List.Sorted.{IsStrictlyIncreasing, IsNonDecreasing};
+ghost use Rattle.std.specs.FinSet as set;
+ghost use Rattle.kc_lists.specs.Lists.{member};
+ghost use Rattle.kc_graph.specs.Bulk.{are_joined, graph_with};
+ghost use Rattle.kc_graph.specs.Gathering.{edge_of};
+ghost use Rattle.kc_graph.specs.Neighbours.{AreNeighbours};
+ghost use Rattle.kc_flat.specs.Pairs.{AreWithin};
+ghost use Rattle.kc_flat.specs.Parts.{part, Fills};
+
+use crate::NoMemory;
+use crate::gathering::{Gathered, gather};
+use crate::packing::drop_repeats;
+use crate::parts::part_of;
+use crate::turning::turn;
+use std::alloc::Global;
+use std::marker::Model;
+
+/// A simple undirected graph that stays as it was made: its vertices are the numbers from 0 to below `vertices`, and its edges are a set
+/// of pairs of two different ones. It takes 8 bytes an edge and 8 a vertex.
+#[derive(Debug, Drop)]
+pub struct FlatGraph {
+    block: Vec<u32>,
+    ends: Vec<usize>,
+}
+
+impl Model for FlatGraph {
+    ghost use Rattle.kc_graph.specs.SimpleGraph.{SimpleGraph};
+    ghost use Rattle.kc_graph.specs.Rows.{graph_of, code_of_graph};
+    ghost use Rattle.kc_flat.specs.Parts.{parts_from, IsFlat};
+
+    ghost Value = { SimpleGraph };
+
+    ghost coded = { code_of_graph };
+
+    ghost view = { λ a. graph_of (parts_from 0 a.ends.items a.block.items) };
+
+    ghost invariant = { λ a. IsFlat a.ends.items a.block.items };
+}
+
+/// For each vertex the other ends of its pairs, with repeats but sorted.
+fn sorted_ends(alloc: Global, vertices: u32, pairs: &[(u32, u32)]) -> Result<Gathered, NoMemory>
+    requires { AreWithin vertices pairs.now }
+    ensures count { IfOk result (λ g. length g.ends.items ≡ vertices) }
+    ensures fills { IfOk result (λ g. Fills g.ends.items g.block.items) }
+    ensures sorted { IfOk result (λ g. (v : ℕ) → v < vertices → IsNonDecreasing (part g.ends.items g.block.items v)) }
+    ensures joined { IfOk result (λ g. (v w : ℕ) → v < vertices → member w (part g.ends.items g.block.items v) ≡ are_joined (map edge_of pairs.now) v w) }
+{
+    let gathered = gather(alloc, vertices, pairs)?;
+    let block = turn(alloc, &gathered.block, &gathered.ends)?;
+    Ok(Gathered {
+        block,
+        ends: gathered.ends,
+    })
+}
+
+impl FlatGraph {
+    /// The graph with this number of vertices and these pairs as its edges, in time linear in both. The pairs come in any order, with
+    /// either end first. A loop is dropped, and a pair that is listed again, in either direction, counts once. `NoMemory` comes where there
+    /// is none for the ends of all pairs, twice, and for two numbers a vertex.
+    pub fn from_pairs(
+        alloc: Global,
+        vertices: u32,
+        pairs: &[(u32, u32)],
+    ) -> Result<FlatGraph, NoMemory>
+        requires { AreWithin vertices pairs.now }
+        ensures { IfOk result (λ g. g ≡ graph_with vertices (map edge_of pairs.now)) }
+    {
+        let Gathered {
+            mut block,
+            mut ends,
+        } = sorted_ends(alloc, vertices, pairs)?;
+        let kept = drop_repeats(&mut block, &mut ends);
+        block.truncate(kept);
+        block.shrink_to_fit();
+        Ok(FlatGraph { block, ends })
+    }
+
+    /// How many vertices there are: they are the numbers below this.
+    pub fn vertices(&self) -> u32
+        ensures { result ≡ self.now.size }
+    {
+        self.ends.len() as u32
+    }
+
+    /// How many edges there are, each counted once.
+    pub fn edges(&self) -> u64
+        ensures { result ≡ set.len self.now.edges }
+    {
+        self.block.len() as u64 / 2
+    }
+
+    /// The neighbours of a vertex, in ascending order.
+    pub fn neighbours(&self, v: u32) -> &[u32]
+        requires { v < self.now.size }
+        ensures { AreNeighbours self.now v result.now }
+    {
+        part_of(&self.block, &self.ends, v as usize)
+    }
+}
