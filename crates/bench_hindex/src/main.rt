@@ -9,7 +9,7 @@ use kc_graph::{Graph, core_numbers};
 use kc_hindex::{lawful, peel};
 use kc_io::source::read_all;
 use kc_io::std_source::StdSource;
-use kc_text::parse;
+use kc_text::{Limits, parse};
 use std::time::{Duration, Instant};
 use std::{env, io};
 
@@ -35,8 +35,8 @@ fn report(
 /// The graph of the edges on standard input, or none where they are refused.
 fn read_graph(rt: &HostRuntime) -> Option<Graph> {
     let mut source = StdSource::new(rt.stdin());
-    let bytes = read_all(rt.alloc(), &mut source).ok()?;
-    let input = parse(rt.alloc(), &bytes).ok()?;
+    let bytes = read_all(rt.alloc(), &mut source, Limits::KCORE.bytes).ok()?;
+    let input = parse(rt.alloc(), Limits::KCORE, &bytes).ok()?;
     let vertices = input.ids.len() as u32;
     if !input.start.iter().all(|(u, v)| u < v && *v < vertices) {
         return None;

@@ -1,8 +1,6 @@
 //! The graph that is read, and the updates of it.
-ghost use Rattle.std.specs.Prelude.{◌≤◌, length};
-
 use kc_graph::{Graph, NoMemory, Update};
-use kc_text::{Input, MOST_BYTES, ParseFault, parse};
+use kc_text::{Input, Limits, ParseFault, parse};
 use rand::RngExt;
 use rand_xoshiro::Xoshiro256PlusPlus;
 use std::alloc::Global;
@@ -11,10 +9,8 @@ use std::io;
 use std::io::Read;
 
 /// What a text says, which is dropped; `None` where it is not that of a graph.
-fn parsed(alloc: Global, bytes: Vec<u8>) -> Result<Option<Input>, NoMemory>
-    requires { length bytes.items ≤ MOST_BYTES }
-{
-    match parse(alloc, &bytes) {
+fn parsed(alloc: Global, bytes: Vec<u8>) -> Result<Option<Input>, NoMemory> {
+    match parse(alloc, Limits::KCORE, &bytes) {
         Ok(input) => Ok(Some(input)),
         Err(ParseFault::Refused(_)) => Ok(None),
         Err(ParseFault::NoMemory) => Err(NoMemory),
@@ -34,9 +30,6 @@ fn graph_of(alloc: Global, vertices: u32, pairs: &[(u32, u32)]) -> Result<Option
 pub(crate) fn read_graph<R: Read>(alloc: Global, source: &mut R) -> io::Result<Option<Graph>> {
     let mut bytes = Vec::new(alloc);
     source.read_to_end(&mut bytes)?;
-    if bytes.len() > MOST_BYTES {
-        return Ok(None);
-    }
     let Some(input) = parsed(alloc, bytes)? else {
         return Ok(None);
     };

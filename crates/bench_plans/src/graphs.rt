@@ -2,7 +2,7 @@
 ghost use Rattle.std.specs.Prelude.{◌<◌, All};
 
 use kc_graph::{Graph, NoMemory, Update};
-use kc_text::{MOST_BYTES, ParseFault, parse};
+use kc_text::{Limits, ParseFault, parse};
 use rand::RngExt;
 use rand_core::SeedableRng;
 use rand_xoshiro::Xoshiro256PlusPlus;
@@ -31,10 +31,7 @@ fn edges_of(vertices: u32, pairs: Vec<(u32, u32)>) -> Option<Edges> {
 pub(crate) fn read_edges<R: Read>(alloc: Global, source: &mut R) -> io::Result<Option<Edges>> {
     let mut bytes = Vec::new(alloc);
     source.read_to_end(&mut bytes)?;
-    if bytes.len() > MOST_BYTES {
-        return Ok(None);
-    }
-    match parse(alloc, &bytes) {
+    match parse(alloc, Limits::KCORE, &bytes) {
         Ok(input) => Ok(edges_of(input.ids.len() as u32, input.start)),
         Err(ParseFault::Refused(_)) => Ok(None),
         Err(ParseFault::NoMemory) => Err(NoMemory.into()),

@@ -63,14 +63,15 @@ impl Write for Hindered {
     }
 }
 
-/// Reads all of a hindered reader, and compares.
+/// Reads all of a hindered reader, where it has at most so many bytes, and compares.
 fn check_read<R: Abort + AllocGlobal>(
     rt: &R,
     reader: Hindered,
+    most: usize,
     wanted: Result<&[u8], ReadAllFault>,
 ) -> Result<(), Fail> {
     let mut source = StdSource::new(reader);
-    match (read_all(rt.alloc(), &mut source), wanted) {
+    match (read_all(rt.alloc(), &mut source, most), wanted) {
         (Ok(bytes), Ok(all)) => assert_eq!(rt; bytes.as_slice(), all),
         (Err(fault), Err(named)) => assert_eq!(rt; fault, named),
         _ => assert!(rt; false),
@@ -91,8 +92,10 @@ fn interrupted_calls_are_made_again(rt: HostRuntime) -> Result<(), Fail> {
         left: b"12345",
         last: None,
     };
-    check_read(&rt, hindered(999), Ok(b"12345"))?;
-    check_read(&rt, hindered(1_000), Err(ReadAllFault::ReadFault))?;
+    check_read(&rt, hindered(999), 5, Ok(b"12345"))?;
+    check_read(&rt, hindered(999), usize::MAX, Ok(b"12345"))?;
+    check_read(&rt, hindered(999), 4, Err(ReadAllFault::TooLong))?;
+    check_read(&rt, hindered(1_000), 5, Err(ReadAllFault::ReadFault))?;
     check_write(&rt, hindered(999), Ok(()));
     check_write(&rt, hindered(1_000), Err(Failed));
     Ok(())
@@ -106,7 +109,7 @@ fn faults_in_mid_stream_are_told(rt: HostRuntime) -> Result<(), Fail> {
         last,
     };
     let broken = Some(ErrorKind::BrokenPipe);
-    check_read(&rt, short(broken), Err(ReadAllFault::ReadFault))?;
+    check_read(&rt, short(broken), 5, Err(ReadAllFault::ReadFault))?;
     check_write(&rt, short(broken), Err(Failed));
     check_write(&rt, short(None), Err(Failed));
     Ok(())
@@ -118,7 +121,7 @@ fn a_text_in_memory_is_read_and_put_out(rt: HostRuntime) -> Result<(), Fail> {
     let text = Vec::from_slice(alloc, b"some text")?;
     let mut source = MemSource::new(text, 4, Vec::new(alloc));
     let mut sink = MemSink::new(alloc, 9, 4, Vec::new(alloc))?;
-    match read_all(alloc, &mut source) {
+    match read_all(alloc, &mut source, 9) {
         Ok(bytes) => assert_eq!(rt; write_all(&mut sink, &bytes), Ok(())),
         Err(_) => assert!(rt; false),
     }

@@ -1,9 +1,8 @@
 //! The updates that decide, among updates that may name an edge again.
-ghost use Rattle.std.specs.Prelude.{◌≡◌, ◌≤◌, ◌<◌, ◌+◌, ℕ, All, IfOk, length, map};
+ghost use Rattle.std.specs.Prelude.{◌≡◌, ◌<◌, ◌+◌, ◌^◌, ℕ, All, IfOk, length, map};
 ghost use Rattle.kc_graph.specs.SimpleGraph.{SimpleGraph};
 ghost use Rattle.kc_text.specs.Inputs.{IsBatch, parts_of};
 ghost use Rattle.kc_text.specs.LastUpdates.{last_of_edges};
-ghost use Rattle.kc_words.specs.declared.layout.TheConstants.{INDICES, VERTICES};
 ghost use Rattle.kc_batch_effects.specs.Batches.{graph_after_batch};
 ghost use Rattle.kc_batch_effects.specs.Updates.{after_updates};
 
@@ -17,8 +16,7 @@ use std::alloc::Global;
 ///
 /// It sorts a number for each update, and takes memory for a few more. `NoMemory` comes only where there is none.
 pub fn decide(alloc: Global, updates: &[Update]) -> Result<Batch, NoMemory>
-    requires ends { All (λ update. update.v < VERTICES) updates.now }
-    requires few { length updates.now ≤ INDICES }
+    requires { length updates.now < 2 ^ 32 }
     ensures deciding { IfOk result (λ batch. batch.updates.items ≡ last_of_edges updates.now) }
     ensures overruled { IfOk result (λ batch. length batch.updates.items + batch.overruled ≡ length updates.now) }
     ensures batch { IfOk result (λ batch. (vertices : ℕ) → All (λ update. update.v < vertices) updates.now

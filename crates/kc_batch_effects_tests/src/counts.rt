@@ -62,7 +62,7 @@ fn enter_all<R: Abort>(rt: &R, graph: &mut Graph, outcomes: &mut Vec<Outcome>, p
 /// Counts what is told, whose indices are those of the batch.
 fn counted<R: Abort>(rt: &R, outcomes: &[Outcome]) -> Counts {
     let batch = BATCH;
-    assert!(rt; outcomes.len() <= MOST_UPDATES);
+    assert!(rt; outcomes.len() <= MOST_UPDATES as usize);
     for outcome in outcomes {
         assert!(rt; FIRST <= outcome.index && outcome.index < FIRST + 5);
     }

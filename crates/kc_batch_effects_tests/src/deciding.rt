@@ -1,7 +1,6 @@
 //! Updates that name edges again, and the updates of them that decide.
 use kc_batch_effects::{Batch, decide};
 use kc_graph::{Graph, Update};
-use kc_words::{INDICES, VERTICES};
 use std::process::Abort;
 
 /// The edge between 0 and 1 is named three times, the one between 1 and 2 twice, and the other two once.
@@ -67,12 +66,9 @@ const LAST: [Update; 4] = [
     },
 ];
 
-/// The updates that decide, of some that are within the limits.
+/// The updates that decide, of some that are few.
 fn decided<R: Abort + AllocGlobal>(rt: &R, updates: &[Update]) -> Batch {
-    assert!(rt; updates.len() <= INDICES as usize);
-    for update in updates {
-        assert!(rt; update.v < VERTICES);
-    }
+    assert!(rt; updates.len() <= UPDATES.len());
     decide(rt.alloc(), updates).expect(rt, "no memory")
 }
 

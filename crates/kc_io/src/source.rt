@@ -32,7 +32,7 @@ pub enum ReadAllFault {
     /// The source failed.
     #[error("read fault")]
     ReadFault,
-    /// There are more bytes than [`READ_LIMIT`].
+    /// There are more bytes than were asked for.
     #[error("too long")]
     TooLong,
     /// There was no memory for the bytes.
@@ -56,25 +56,22 @@ impl From<NoMemory> for ReadAllFault {
     }
 }
 
-/// The most bytes that [`read_all`] gives.
-pub const READ_LIMIT: usize = 67_108_864;
-
 /// How many bytes of room are made at once.
 const PIECE_BYTES: usize = 65_536;
 
 /// Makes room behind the first `done` bytes where there is none: for a piece, or for as much of it as keeps the
-/// whole at one byte above [`READ_LIMIT`]. Each byte of room is cleared once.
-fn make_room(bytes: &mut Vec<u8>, done: usize) -> Result<(), NoMemory>
-    requires { (done ≤ READ_LIMIT) × (done ≤ length bytes.old.items) × (length bytes.old.items ≤ READ_LIMIT + 1) }
+/// whole at one byte above `most`. Each byte of room is cleared once.
+fn make_room(bytes: &mut Vec<u8>, done: usize, most: usize) -> Result<(), NoMemory>
+    requires { (done ≤ most) × (done ≤ length bytes.old.items) × (length bytes.old.items ≤ most + 1) }
     ensures kept { take done bytes.new.items ≡ take done bytes.old.items }
     ensures within { done ≤ length bytes.new.items }
     ensures room { OnOk result (done < length bytes.new.items) }
-    ensures fits { length bytes.new.items ≤ READ_LIMIT + 1 }
+    ensures fits { length bytes.new.items ≤ most + 1 }
 {
     if done < bytes.len() {
         return Ok(());
     }
-    let room = PIECE_BYTES.min(READ_LIMIT + 1 - done);
+    let room = PIECE_BYTES.min(most.saturating_add(1) - done);
     bytes.resize(done + room, 0)
 }
 
@@ -90,28 +87,33 @@ fn read_behind<S: Source>(source: &mut S, bytes: &mut Vec<u8>, done: usize) -> R
     source.read(&mut bytes[done..])
 }
 
-/// All bytes of the source, up to its end. They are read straight into the vector that is given back.
+/// All bytes of the source, up to its end, where there are at most `most`. They are read straight into the vector that is
+/// given back.
 ///
 /// `ReadFault` comes only where the source's count of faults rose in this call; at each other answer no call of the
-/// source has failed. `TooLong` comes only where the source gave more bytes than [`READ_LIMIT`]. After each answer the
-/// source has lost just the bytes that it gave in this call, and they are at most one more than [`READ_LIMIT`].
-pub fn read_all<S: Source>(alloc: Global, source: &mut S) -> Result<Vec<u8>, ReadAllFault>
+/// source has failed. `TooLong` comes only where the source gave more bytes than `most`. After each answer the source
+/// has lost just the bytes that it gave in this call, and they are at most one more than `most`.
+pub fn read_all<S: Source>(
+    alloc: Global,
+    source: &mut S,
+    most: usize,
+) -> Result<Vec<u8>, ReadAllFault>
     ensures whole { IfOk result (λ bytes. IfSome (S.left source.old) (λ told. bytes.items ≡ told)) }
     ensures ended { OnOk result (IsAtEnd (S.left source.new)) }
-    ensures fits { IfOk result (λ bytes. length bytes.items ≤ READ_LIMIT) }
+    ensures fits { IfOk result (λ bytes. length bytes.items ≤ most) }
     ensures given { (given : List ℕ) × Consumes (S.left source.old) (S.left source.new) given
         × IfOk result (λ bytes. bytes.items ≡ given)
-        × (IsErrOf result ReadAllFault.TooLong → READ_LIMIT < length given)
-        × (length given ≤ READ_LIMIT + 1) }
+        × (IsErrOf result ReadAllFault.TooLong → most < length given)
+        × (length given ≤ most + 1) }
     ensures faultless { result ≢ Err ReadAllFault.ReadFault → S.faults source.new ≡ S.faults source.old }
     ensures later { S.faults source.old ≤ S.faults source.new }
     ensures read_fault { IsErrOf result ReadAllFault.ReadFault → Rose (S.faults source.old) (S.faults source.new) }
-    ensures too_long { IsErrOf result ReadAllFault.TooLong → IfSome (S.left source.old) (λ told. READ_LIMIT < length told) }
+    ensures too_long { IsErrOf result ReadAllFault.TooLong → IfSome (S.left source.old) (λ told. most < length told) }
 {
     let mut bytes = Vec::new(alloc);
     let mut done = 0;
-    while done <= READ_LIMIT {
-        make_room(&mut bytes, done)?;
+    while done <= most {
+        make_room(&mut bytes, done, most)?;
         let n = read_behind(source, &mut bytes, done)?;
         if n == 0 {
             bytes.truncate(done);

@@ -14,6 +14,7 @@ use Rattle.kc_text.specs.declared.limits.TheConstants.{MOST_BATCHES, MOST_BYTES,
 use Rattle.kc_text.specs.declared.line.TextLine.{TextLine}
 use Rattle.kc_text.specs.declared.line.TextLine.TheVariants as said
 use Rattle.kc_text.specs.Forms.{all_said}
+use Rattle.kc_text.specs.declared.limits.TheConstants.Limits.{KCORE}
 use Rattle.kc_text.specs.Meaning.{Means, Refuses, Told, batches, changes, ends_or, first_limit, meaning, names, nothing_told, or_else, passed_limit}
 use Rattle.kc_text.specs.Meaning.{reading, refusal, unfit, with_line}
 use Rattle.kc_text.proofs.Counts.{IsDistinct-unique, NamesMore, is_member-unique}
@@ -58,7 +59,7 @@ record AreFew (lines updates most : ℕ) : Type 0 where
   batches : most ≤ BATCHES
 
 -- what is told of so few passes no limit
-no_limit : (told : Told) (lines updates most : ℕ) → IsSmall told lines updates most → AreFew lines updates most → passed_limit told ≡ None
+no_limit : (told : Told) (lines updates most : ℕ) → IsSmall told lines updates most → AreFew lines updates most → passed_limit KCORE told ≡ None
 no_limit told lines updates most small few =
     ap (λ b. first_limit b (nat_lt MOST_EDGE_LINES (length told.edges)) (nat_lt MOST_UPDATES (length (changes told)))
     (nat_lt MOST_BATCHES (length (batches told))))
@@ -79,25 +80,25 @@ edges-stay last between first second one = second ∙ one
 
 -- Lines are read, whatever lines come behind them, and take what is told on.
 abbrev Reads : Told → List TextLine → Told → Type 0
-Reads from lines to = (done : ℕ) (rest : List TextLine) → (after : ℕ) × (reading done from (lines ++ rest) ≡ reading after to rest)
+Reads from lines to = (done : ℕ) (rest : List TextLine) → (after : ℕ) × (reading KCORE done from (lines ++ rest) ≡ reading KCORE after to rest)
 
 -- no lines leave what is told as it is
 reads-none : (told : Told) → Reads told [] told
 reads-none told done rest = (done, refl)
 
 -- a line that is not refused is read, and the lines behind it go on from there
-reads-line : (told to : Told) (line : TextLine) (lines : List TextLine) → refusal told line ≡ None → Reads (with_line told line) lines to
+reads-line : (told to : Told) (line : TextLine) (lines : List TextLine) → refusal KCORE told line ≡ None → Reads (with_line told line) lines to
     → Reads told (line ∷ lines) to
 reads-line told to line lines none reads done rest =
     let (after, e) = reads (done + 1) rest in
-    (after, ap (λ r. ends_or r (done + 1) (reading (done + 1) (with_line told line) (lines ++ rest))) none ∙ e)
+    (after, ap (λ r. ends_or r (done + 1) (reading KCORE (done + 1) (with_line told line) (lines ++ rest))) none ∙ e)
 
 -- lines and more lines behind them take what is told on in two steps
 reads-append : (from between to : Told) (first second : List TextLine) → Reads from first between → Reads between second to → Reads from (first ++ second) to
 reads-append from between to first second one two done rest =
     let (middle, e) = one done (second ++ rest) in
     let (after, f) = two middle rest in
-    (after, ap (reading done from) (append_assoc first second rest) ∙ e ∙ f)
+    (after, ap (reading KCORE done from) (append_assoc first second rest) ∙ e ∙ f)
 
 -- what is told after edge lines
 record AfterEdges (told : Told) (edges : List (ℕ × ℕ)) (lines updates most : ℕ) : Type 0 where
@@ -129,8 +130,8 @@ read-edges told (edge ∷ edges) lines updates most none ids small few =
     } in
     let after : AfterEdges next edges (lines + 1) updates most = read-edges next edges (lines + 1) updates most none (All-tail AreIds edge edges ids) small'
     (record { edges = omega (arith, few.edges); changes = few.changes; batches = few.batches }) in
-    let taken : refusal told (edge_said edge) ≡ None =
-    ap (λ last. cond (is_some last) (Some EdgeLineInBatch) (passed_limit next)) none
+    let taken : refusal KCORE told (edge_said edge) ≡ None =
+    ap (λ last. cond (is_some last) (Some EdgeLineInBatch) (passed_limit KCORE next)) none
     ∙ no_limit next (lines + 1) updates most small' (record { edges = omega (arith, few.edges); changes = few.changes; batches = few.batches }) in
     record {
       to = after.to;
@@ -152,11 +153,11 @@ record AfterChanges (told : Told) (batch changes : List ChangeLine) (lines updat
 
 -- a change that fits is not refused
 taken-change : (told : Told) (batch : List ChangeLine) (c : ChangeLine) → told.last ≡ Some batch → c.a ≢ c.b
-    → passed_limit (with_line told (said.Change c)) ≡ None
-    → refusal told (said.Change c) ≡ None
+    → passed_limit KCORE (with_line told (said.Change c)) ≡ None
+    → refusal KCORE told (said.Change c) ≡ None
 taken-change told batch c last apart none =
-    ap (λ l. or_else (unfit l c) (passed_limit (with_line told (said.Change c)))) last
-    ∙ ap (λ b. or_else (cond b (Some LoopInBatch) None) (passed_limit (with_line told (said.Change c)))) (ne_eqb c.a c.b apart) ∙ none
+    ap (λ l. or_else (unfit l c) (passed_limit KCORE (with_line told (said.Change c)))) last
+    ∙ ap (λ b. or_else (cond b (Some LoopInBatch) None) (passed_limit KCORE (with_line told (said.Change c)))) (ne_eqb c.a c.b apart) ∙ none
 
 -- another last batch in place of the last one leaves the number of batches
 one_batch : (earlier : List (List ChangeLine)) (last : Option (List ChangeLine)) (batch more : List ChangeLine) → last ≡ Some batch
@@ -190,7 +191,7 @@ read-changes told batch (c ∷ cs) lines updates most last fit small few =
     let after : AfterChanges next (batch ++ c ∷ []) cs lines (updates + 1) most = read-changes next (batch ++ c ∷ []) cs lines (updates + 1) most last'
     (All-tail IsFit c cs fit) small'
     (record { edges = few.edges; changes = omega (arith, few.changes); batches = few.batches }) in
-    let none : passed_limit next ≡ None = no_limit next lines (updates + 1) most small'
+    let none : passed_limit KCORE next ≡ None = no_limit next lines (updates + 1) most small'
     (record { edges = few.edges; changes = omega (arith, few.changes); batches = few.batches }) in
     record {
       to = after.to;
@@ -223,7 +224,7 @@ read-batches told (b ∷ bs) lines updates most are small few =
     } in
     let within : AreFew lines (updates + length b) (most + 1) = record
     { edges = few.edges; changes = omega (arith, few.changes, first.few); batches = omega (arith, few.batches) } in
-    let none : refusal told said.Batch ≡ None = no_limit begun lines updates (most + 1) small'
+    let none : refusal KCORE told said.Batch ≡ None = no_limit begun lines updates (most + 1) small'
     (record { edges = few.edges; changes = omega (arith, few.changes); batches = within.batches }) in
     let one : AfterChanges begun [] b lines updates (most + 1) = read-changes begun [] b lines updates (most + 1) refl first.fit small' within in
     let so_far : batches one.to ≡ batches told ++ b ∷ [] = ap (λ e. e ++ option_to_list one.to.last) one.earlier
@@ -241,7 +242,7 @@ read-batches told (b ∷ bs) lines updates most are small few =
 
 -- what a generated text tells
 pub record IsTold (number : ℕ) (told : Told) : Type 0 where
-  pub means : meaning (generated number) ≡ Means told
+  pub means : meaning KCORE (generated number) ≡ Means told
   pub edges : told.edges ≡ generated_edges number
   pub batches : batches told ≡ generated_batches number
 
@@ -259,9 +260,9 @@ told-generated number =
     let (after, reads) = reads-append nothing_told first.to all.to (map edge_said es) (flat_map batch_said bs) first.reads all.reads 0 [] in (
       all.to,
       record {
-        means = ap (λ b. cond b (Refuses 0 TooLong) (reading 0 nothing_told (all_said (generated number))))
+        means = ap (λ b. cond b (Refuses 0 TooLong) (reading KCORE 0 nothing_told (all_said (generated number))))
             (le-ltb MOST_BYTES (length (generated number)) (length-generated number))
-            ∙ ap (reading 0 nothing_told) (said-generated number ∙ sym (append-nil (map edge_said es ++ flat_map batch_said bs))) ∙ reads;
+            ∙ ap (reading KCORE 0 nothing_told) (said-generated number ∙ sym (append-nil (map edge_said es ++ flat_map batch_said bs))) ∙ reads;
         edges = edges-stay all.to.edges first.to.edges es all.edges' first.edges';
         batches = all.all ∙ ap (λ t. t ++ bs) first.batches';
       },

@@ -3,6 +3,7 @@ ghost use Rattle.std.specs.Prelude.{◌≡◌, ◌≤◌, ◌++◌, ℕ, length,
 ghost use Rattle.std.specs.Io.{StartsWith};
 ghost use Rattle.std.specs.List.{flat_map};
 ghost use Rattle.kc_text.specs.Batches.{NamesOnce};
+ghost use Rattle.kc_text.specs.declared.limits.TheConstants.Limits.{KCORE};
 ghost use Rattle.kc_text.specs.Meaning.{Means, Told, batches, meaning};
 ghost use Rattle.kc_text.specs.declared.limits.TheConstants.{MOST_BYTES};
 ghost use Rattle.kc_report.specs.declared.sizes.TheConstants.{BATCHES, EDGE_LINES, TURNS};
@@ -80,7 +81,7 @@ pub fn generate(alloc: Global, number: u32) -> Result<Vec<u8>, NoMemory>
 
 /// Every generated text is an input: no line of it is refused. It tells the edges and the batches that were drawn.
 pub fn a_generated_text_is_an_input()
-    ensures input { (number : ℕ) → (told : Told) × (meaning (generated number) ≡ Means told)
+    ensures input { (number : ℕ) → (told : Told) × (meaning KCORE (generated number) ≡ Means told)
         × (told.edges ≡ generated_edges number) × (batches told ≡ generated_batches number) }
     ensures short { (number : ℕ) → length (generated number) ≤ MOST_BYTES }
 {}

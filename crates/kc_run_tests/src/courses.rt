@@ -7,7 +7,7 @@ ghost use Rattle.kc_queue.specs.declared.consumer.TheConstants.{WORKERS};
 use kc_batch_effects::Counts;
 use kc_graph::{Graph, Update, decompose_owned};
 use kc_run::{Course, Ran};
-use kc_text::parse;
+use kc_text::{Limits, parse};
 use kc_workers::NoGate;
 use std::alloc::Global;
 use std::process::Abort;
@@ -209,7 +209,7 @@ fn work_mixed<R: Abort + AllocGlobal + Threads + Wait + Sync>(
 
 #[test]
 fn a_batch_counts_by_the_edges_before_it(rt: HostRuntime) -> Result<(), Fail> {
-    let input = parse(rt.alloc(), MIXED).map_err(|_| "refused")?;
+    let input = parse(rt.alloc(), Limits::KCORE, MIXED).map_err(|_| "refused")?;
     assert!(rt; input.ids.len() == 4);
     assert!(rt; input.batches.len() == 1);
     for workers in [1, 2] {

@@ -24,7 +24,7 @@ use Rattle.kc_text.proofs.WithinLimits.{AreFit, HasNoLoops, fit-batches, meaning
 use Rattle.kc_text.proofs.NamedPairs.{Same, no_change, parts-same}
 use Rattle.kc_text.proofs.Places.{length-AreIds, place-below, place-injective}
 use Rattle.kc_text.proofs.Telling.{change_ends, ends-told, ends-batches}
-use Rattle.kc_text.specs.declared.limits.TheConstants.{MOST_BATCHES, MOST_IDS, MOST_UPDATES}
+use Rattle.kc_text.specs.declared.limits.Limits.{Limits}
 
 -- an update of the batch, and the change that it is
 pub record IsUpdate (ids : List ℕ) (u : Update) (c : ChangeLine) : Type 0 where
@@ -163,21 +163,22 @@ short-input ids most made lists same short = λ i d l.
     omega (arith, deciding-count batch, short i [] l', ap (λ (b : EdgeBatch). b.overruled) is)
 
 -- what a reading has that ended with no refusal
-pub record Accepted (bytes : List ℕ) (reading : Reading) : Type 0 where
+pub record Accepted (limits : Limits) (bytes : List ℕ) (reading : Reading) : Type 0 where
   pub told : Told
-  pub means : meaning bytes ≡ Means told
+  pub means : meaning limits bytes ≡ Means told
   pub read : IsReading told reading
-  pub few : length reading.ids.items ≤ MOST_IDS
-  pub few_batches : length (batches told) ≤ MOST_BATCHES
-  pub short : All (λ batch. length batch ≤ MOST_UPDATES) (batches told)
+  pub few : length reading.ids.items ≤ limits.ids
+  pub few_batches : length (batches told) ≤ limits.batches
+  pub short : All (λ batch. length batch ≤ limits.updates) (batches told)
   pub apart : All HasNoLoops (batches told)
 
 -- a reading that ended with no refusal has what the text means, within the limits
-pub reading-accepted : (bytes : List ℕ) (reading : Reading) → (told : Told) × IsReading told reading × (meaning bytes ≡ outcome told reading.refusal)
-    → reading.refusal ≡ None → Accepted bytes reading
-reading-accepted bytes reading (told, read, ended) none =
-    let means : meaning bytes ≡ Means told = ended ∙ ap (outcome told) none in
-    let fit : AreFit told = meaning-fit bytes told means in
+pub reading-accepted : (limits : Limits) (bytes : List ℕ) (reading : Reading)
+    → (told : Told) × IsReading told reading × (meaning limits bytes ≡ outcome told reading.refusal)
+    → reading.refusal ≡ None → Accepted limits bytes reading
+reading-accepted limits bytes reading (told, read, ended) none =
+    let means : meaning limits bytes ≡ Means told = ended ∙ ap (outcome told) none in
+    let fit : AreFit limits told = meaning-fit limits bytes told means in
     record {
       told = told;
       means = means;
@@ -189,23 +190,26 @@ reading-accepted bytes reading (told, read, ended) none =
     }
 
 -- of a reading with no refusal, the ends of the edges are among the ids
-pub accepted-edges : (bytes : List ℕ) (reading : Reading) → Accepted bytes reading → AreAmong reading.ids.items (ends reading.edges.items)
-accepted-edges bytes reading a = subst (λ (es : List (ℕ × ℕ)). AreAmong reading.ids.items (ends es)) (sym a.read.edges)
+pub accepted-edges : (limits : Limits) (bytes : List ℕ) (reading : Reading) → Accepted limits bytes reading
+    → AreAmong reading.ids.items (ends reading.edges.items)
+accepted-edges limits bytes reading a = subst (λ (es : List (ℕ × ℕ)). AreAmong reading.ids.items (ends es)) (sym a.read.edges)
     (among-edges a.told reading.ids.items a.read.ids)
 
 -- of a reading with no refusal, the ends of each batch's changes are among the ids
-pub accepted-batches : (bytes : List ℕ) (reading : Reading) → Accepted bytes reading
+pub accepted-batches : (limits : Limits) (bytes : List ℕ) (reading : Reading) → Accepted limits bytes reading
     → All (λ batch. AreAmong reading.ids.items (ends (map ends_of batch.items))) reading.batches.items
-accepted-batches bytes reading a = All-items (λ batch. AreAmong reading.ids.items (ends (map ends_of batch))) reading.batches.items
+accepted-batches limits bytes reading a = All-items (λ batch. AreAmong reading.ids.items (ends (map ends_of batch))) reading.batches.items
     (batches a.told) a.read.batches (among-batches a.told reading.ids.items a.read.ids)
 
 -- of a reading with no refusal, no change of a batch is a loop
-pub accepted-apart : (bytes : List ℕ) (reading : Reading) → Accepted bytes reading → All (λ batch. All (λ c. c.a ≢ c.b) batch.items) reading.batches.items
-accepted-apart bytes reading a = All-items HasNoLoops reading.batches.items (batches a.told) a.read.batches a.apart
+pub accepted-apart : (limits : Limits) (bytes : List ℕ) (reading : Reading) → Accepted limits bytes reading
+    → All (λ batch. All (λ c. c.a ≢ c.b) batch.items) reading.batches.items
+accepted-apart limits bytes reading a = All-items HasNoLoops reading.batches.items (batches a.told) a.read.batches a.apart
 
 -- of a reading with no refusal, each batch has at most as many changes as all may have together
-pub accepted-short : (bytes : List ℕ) (reading : Reading) → Accepted bytes reading → All (λ batch. length batch.items ≤ MOST_UPDATES) reading.batches.items
-accepted-short bytes reading a = All-items (λ batch. length batch ≤ MOST_UPDATES) reading.batches.items (batches a.told) a.read.batches a.short
+pub accepted-short : (limits : Limits) (bytes : List ℕ) (reading : Reading) → Accepted limits bytes reading
+    → All (λ batch. length batch.items ≤ limits.updates) reading.batches.items
+accepted-short limits bytes reading a = All-items (λ batch. length batch ≤ limits.updates) reading.batches.items (batches a.told) a.read.batches a.short
 
 -- the input is made of the reading
 pub record IsMadeOf (reading : Reading) (input : Input) : Type 0 where
@@ -214,59 +218,59 @@ pub record IsMadeOf (reading : Reading) (input : Input) : Type 0 where
   pub batches : map parts_of_batch input.batches.items ≡ map (λ batch. numbered_batch reading.ids.items batch.items) reading.batches.items
 
 -- the batches of an input are those that were told
-made-parts : (bytes : List ℕ) (reading : Reading) (input : Input) → (a : Accepted bytes reading) → IsMadeOf reading input
+made-parts : (limits : Limits) (bytes : List ℕ) (reading : Reading) (input : Input) → (a : Accepted limits bytes reading) → IsMadeOf reading input
     → map parts_of_batch input.batches.items ≡ numbered_batches input.ids.items a.told
-made-parts bytes reading input a is =
+made-parts limits bytes reading input a is =
     is.batches ∙ (made-of (numbered_batch reading.ids.items) reading.batches.items (batches a.told) a.read.batches
     ∙ ap (λ (ids : List ℕ). numbered_batches ids a.told) (sym is.ids))
 
 -- an input that is made of an accepted reading is the input of what was told
-pub input-made : (bytes : List ℕ) (reading : Reading) (input : Input) → Accepted bytes reading → IsMadeOf reading input
-    → (told : Told) × (meaning bytes ≡ Means told) × IsInput told input
-input-made bytes reading input a is = (
+pub input-made : (limits : Limits) (bytes : List ℕ) (reading : Reading) (input : Input) → Accepted limits bytes reading → IsMadeOf reading input
+    → (told : Told) × (meaning limits bytes ≡ Means told) × IsInput told input
+input-made limits bytes reading input a is = (
   a.told,
   a.means,
   record {
     named = subst (AreIds (names a.told)) (sym is.ids) a.read.ids;
     start = subst (λ (ids : List ℕ). AreEdges (start_graph ids a.told.edges) input.start.items) (sym is.ids)
         (subst (λ (edges : List (ℕ × ℕ)). AreEdges (start_graph reading.ids.items edges) input.start.items) a.read.edges is.start);
-    batches = made-parts bytes reading input a is;
+    batches = made-parts limits bytes reading input a is;
   },
 )
 
 -- the ends of the changes that were told are among the ids of the input
-among-input : (bytes : List ℕ) (reading : Reading) (input : Input) → (a : Accepted bytes reading) → IsMadeOf reading input
+among-input : (limits : Limits) (bytes : List ℕ) (reading : Reading) (input : Input) → (a : Accepted limits bytes reading) → IsMadeOf reading input
     → All (λ batch. AreAmong input.ids.items (ends (map ends_of batch))) (batches a.told)
-among-input bytes reading input a is =
+among-input limits bytes reading input a is =
     subst (λ (ids : List ℕ). All (λ batch. AreAmong ids (ends (map ends_of batch))) (batches a.told)) (sym is.ids)
     (among-batches a.told reading.ids.items a.read.ids)
 
 -- each batch of the input is fit for a graph of as many vertices as there are ids
-pub made-batches : (bytes : List ℕ) (reading : Reading) (input : Input) → Accepted bytes reading → IsMadeOf reading input
+pub made-batches : (limits : Limits) (bytes : List ℕ) (reading : Reading) (input : Input) → Accepted limits bytes reading → IsMadeOf reading input
     → All (λ batch. IsBatch (length input.ids.items) batch.updates.items) input.batches.items
-made-batches bytes reading input a is = fit-input input.ids.items input.batches.items (batches a.told) (made-parts bytes reading input a is)
-    (among-input bytes reading input a is)
+made-batches limits bytes reading input a is = fit-input input.ids.items input.batches.items (batches a.told) (made-parts limits bytes reading input a is)
+    (among-input limits bytes reading input a is)
 
 -- the input has no more batches than the limit
-pub made-few_batches : (bytes : List ℕ) (reading : Reading) (input : Input) → Accepted bytes reading → IsMadeOf reading input
-    → length input.batches.items ≤ MOST_BATCHES
-made-few_batches bytes reading input a is =
+pub made-few_batches : (limits : Limits) (bytes : List ℕ) (reading : Reading) (input : Input) → Accepted limits bytes reading → IsMadeOf reading input
+    → length input.batches.items ≤ limits.batches
+made-few_batches limits bytes reading input a is =
     let count : length input.batches.items ≡ length (batches a.told) = sym (length-map input.batches.items parts_of_batch)
-    ∙ (ap (length) (made-parts bytes reading input a is) ∙ length-map (batches a.told) (numbered_batch input.ids.items)) in
+    ∙ (ap (length) (made-parts limits bytes reading input a is) ∙ length-map (batches a.told) (numbered_batch input.ids.items)) in
     omega (arith, a.few_batches)
 
 -- a batch of the input has no more updates, and overrules no more, than the limit of changes
-made-few : (bytes : List ℕ) (reading : Reading) (input : Input) → Accepted bytes reading → IsMadeOf reading input
-    → All (λ batch. length batch.updates.items + batch.overruled ≤ MOST_UPDATES) input.batches.items
-made-few bytes reading input a is = short-input input.ids.items MOST_UPDATES input.batches.items (batches a.told)
-    (made-parts bytes reading input a is) a.short
+made-few : (limits : Limits) (bytes : List ℕ) (reading : Reading) (input : Input) → Accepted limits bytes reading → IsMadeOf reading input
+    → All (λ batch. length batch.updates.items + batch.overruled ≤ limits.updates) input.batches.items
+made-few limits bytes reading input a is = short-input input.ids.items limits.updates input.batches.items (batches a.told)
+    (made-parts limits bytes reading input a is) a.short
 
 -- each batch of the input has at most as many updates as the limit of changes
-pub made-short : (bytes : List ℕ) (reading : Reading) (input : Input) → Accepted bytes reading → IsMadeOf reading input
-    → All (λ batch. length batch.updates.items ≤ MOST_UPDATES) input.batches.items
-made-short bytes reading input a is = λ i d l. let few = made-few bytes reading input a is i d l in omega (arith, few)
+pub made-short : (limits : Limits) (bytes : List ℕ) (reading : Reading) (input : Input) → Accepted limits bytes reading → IsMadeOf reading input
+    → All (λ batch. length batch.updates.items ≤ limits.updates) input.batches.items
+made-short limits bytes reading input a is = λ i d l. let few = made-few limits bytes reading input a is i d l in omega (arith, few)
 
 -- no more changes are overruled than a batch has
-pub made-counts : (bytes : List ℕ) (reading : Reading) (input : Input) → Accepted bytes reading → IsMadeOf reading input
-    → All (λ batch. batch.overruled ≤ MOST_UPDATES) input.batches.items
-made-counts bytes reading input a is = λ i d l. let few = made-few bytes reading input a is i d l in omega (arith, few)
+pub made-counts : (limits : Limits) (bytes : List ℕ) (reading : Reading) (input : Input) → Accepted limits bytes reading → IsMadeOf reading input
+    → All (λ batch. batch.overruled ≤ limits.updates) input.batches.items
+made-counts limits bytes reading input a is = λ i d l. let few = made-few limits bytes reading input a is i d l in omega (arith, few)

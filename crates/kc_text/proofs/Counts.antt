@@ -11,7 +11,6 @@ use Rattle.std.proofs.lemmas.Map.Keys.{IsDistinct-cons}
 use Rattle.std.proofs.lemmas.Map.Made.{hash_set_len-from_list, length-le_from_is_member}
 use Rattle.kc_text.specs.Meaning.{ends}
 use Rattle.kc_text.specs.Readers.{Gains, is_over}
-use Rattle.kc_text.specs.declared.limits.TheConstants.{MOST_IDS}
 
 -- a list without its repeats has the same members
 pub is_member-unique : (xs : List ℕ) (q : ℕ) → is_member nat_eq (unique_keys nat_eq xs) q ≡ is_member nat_eq xs q
@@ -72,15 +71,15 @@ has_more (Some r) None xs ys a b more gains had = absurd gains
 has_more (Some r) (Some s) xs ys a b more gains had = λ q. gains q ∙ ap (λ t. nat_eq q b || (nat_eq q a || t)) (had q) ∙ sym (more q)
 
 -- there is a set of ids, or the different names are within the limit
-abbrev pub Exact : {S : Type 0} → Option (HashSet ℕ S) → List ℕ → Type 0
-Exact ids xs = (is_some ids ≡ true) ⊎ (distinct_count nat_eq xs ≤ MOST_IDS)
+abbrev pub Exact : {S : Type 0} → ℕ → Option (HashSet ℕ S) → List ℕ → Type 0
+Exact limit ids xs = (is_some ids ≡ true) ⊎ (distinct_count nat_eq xs ≤ limit)
 
 -- the set of ids is over the limit just where the different names are, if the count is exact
-pub over_is : {S : Type 0} (ids : Option (HashSet ℕ S)) (xs : List ℕ) → Has ids xs → IfSome ids (IsUnique nat_eq) → Exact ids xs
-    → is_over ids ≡ nat_lt MOST_IDS (distinct_count nat_eq xs)
-over_is None xs has unique (inl counts) = absurd (false≢true counts)
-over_is None xs has unique (inr few) = sym (le-ltb MOST_IDS (distinct_count nat_eq xs) few)
-over_is (Some s) xs has unique exact = ap (λ (n : ℕ). nat_lt MOST_IDS n) (hash_set_len-from_list nat_eq_equiv xs s (has, unique))
+pub over_is : {S : Type 0} (limit : ℕ) (ids : Option (HashSet ℕ S)) (xs : List ℕ) → Has ids xs → IfSome ids (IsUnique nat_eq) → Exact limit ids xs
+    → is_over limit ids ≡ nat_lt limit (distinct_count nat_eq xs)
+over_is limit None xs has unique (inl counts) = absurd (false≢true counts)
+over_is limit None xs has unique (inr few) = sym (le-ltb limit (distinct_count nat_eq xs) few)
+over_is limit (Some s) xs has unique exact = ap (λ (n : ℕ). nat_lt limit n) (hash_set_len-from_list nat_eq_equiv xs s (has, unique))
 
 -- of two tests joined by or it doesn't matter which is first
 or-flipped : (a b : Bool) → (a || (b || false)) ≡ (b || (a || false))

@@ -15,9 +15,7 @@ use Rattle.kc_text.specs.Inputs.{AreAmong, AreUpdates, EdgeBatch, EdgeUpdate, nu
 use Rattle.kc_text.specs.Meaning.{ends, ends_of, name_same}
 use Rattle.kc_text.specs.Overruling.{deciding, overruled}
 use Rattle.kc_text.proofs.Batched.{IsUpdate, named-again, update-at}
-use Rattle.kc_text.proofs.NamedPairs.{no_change}
 use Rattle.kc_text.proofs.Overruled.{deciding-count}
-use Rattle.kc_text.proofs.Places.{place-below}
 
 -- the last updates of the edges are no more than all updates
 pub length-last : (updates : List Update) → length (last_of_edges updates) ≤ length updates
@@ -126,18 +124,10 @@ made-alike {X = X} ids P f g same (c ∷ cs) (u ∷ us) are h =
 abbrev Among : List ℕ → List ChangeLine → Type 0
 Among ids batch = AreAmong ids (ends (map ends_of batch))
 
--- the ends of all updates are below the number of ids
-pub all-within : (ids : List ℕ) (most : ℕ) (batches : List (Vec ChangeLine Global)) (updates : List (Vec Update Global)) → length ids ≤ most
-    → AreAllUpdates ids batches updates
-    → All (λ batch. AreAmong ids (ends (map ends_of batch.items))) batches → All (λ batch. All (λ update. update.v < most) batch.items) updates
-all-within ids most batches updates few are among = each-batch ids (Among ids) (All (λ update. update.v < most)) (λ cs us same h i d l.
-    let (l', is) = update-at ids cs us same h i d l in
-    omega (arith, is.most, place-below ids (get_or cs i no_change).a is.a-in, place-below ids (get_or cs i no_change).b is.b-in)) batches updates are among
-
 -- the batches of updates are as short as those of changes
-pub all-short : (ids : List ℕ) (most : ℕ) (batches : List (Vec ChangeLine Global)) (updates : List (Vec Update Global)) → AreAllUpdates ids batches updates
-    → All (λ batch. length batch.items ≤ most) batches → All (λ batch. length batch.items ≤ most) updates
-all-short ids most batches updates are short = each-batch ids (λ batch. length batch ≤ most) (λ batch. length batch ≤ most)
+pub all-short : (ids : List ℕ) (bound : ℕ) (batches : List (Vec ChangeLine Global)) (updates : List (Vec Update Global)) → AreAllUpdates ids batches updates
+    → All (λ batch. length batch.items < bound) batches → All (λ batch. length batch.items < bound) updates
+all-short ids bound batches updates are short = each-batch ids (λ batch. length batch < bound) (λ batch. length batch < bound)
     (λ cs us same h. omega (arith, length-updates ids cs us same)) batches updates are short
 
 -- the last updates of a batch are the changes that decide, and the others are overruled

@@ -10,7 +10,7 @@ use Rattle.kc_text.specs.Meaning.{Told, batches, changes, first_limit, names, pa
 use Rattle.kc_text.specs.Readers.{Gains, IsExact, ReaderKeeps, is_over, told_by}
 use Rattle.kc_text.proofs.Counts.{NamesMore, has_more, over_is}
 use Rattle.kc_text.proofs.Telling.{changes-more, names-change, names-edge}
-use Rattle.kc_text.specs.declared.limits.TheConstants.{MOST_IDS, MOST_EDGE_LINES, MOST_UPDATES, MOST_BATCHES}
+use Rattle.kc_text.specs.declared.limits.Limits.{Limits}
 
 -- a reader that was told an edge line more has its two ends as names more
 names-after_edge : (old new : Reader) (a b : ℕ) → told_by new ≡ with_line (told_by old) (said.Edge a b)
@@ -50,12 +50,13 @@ keeps-change old new c told more gains kept = record {
 }
 
 -- the limit that a reader finds passed by its own counts is the one that what was told passes
-pub limit-found : (reader : Reader) (many edge_lines updates batch_lines : Bool) → ReaderKeeps reader → IfSome reader.ids (IsUnique nat_eq) → IsExact reader
-    → many ≡ is_over reader.ids → edge_lines ≡ nat_lt MOST_EDGE_LINES (length (told_by reader).edges)
-    → updates ≡ nat_lt MOST_UPDATES reader.changes → batch_lines ≡ nat_lt MOST_BATCHES (length (batches (told_by reader)))
-    → first_limit many edge_lines updates batch_lines ≡ passed_limit (told_by reader)
-limit-found reader many edge_lines updates batch_lines kept unique exact m e u b =
-    ap₂ (λ (x y : Bool). first_limit x y updates batch_lines) (m ∙ over_is reader.ids (names (told_by reader)) kept.ids unique
+pub limit-found : (limits : Limits) (reader : Reader) (many edge_lines updates batch_lines : Bool) → ReaderKeeps reader
+    → IfSome reader.ids (IsUnique nat_eq) → IsExact limits reader
+    → many ≡ is_over limits.ids reader.ids → edge_lines ≡ nat_lt limits.edge_lines (length (told_by reader).edges)
+    → updates ≡ nat_lt limits.updates reader.changes → batch_lines ≡ nat_lt limits.batches (length (batches (told_by reader)))
+    → first_limit many edge_lines updates batch_lines ≡ passed_limit limits (told_by reader)
+limit-found limits reader many edge_lines updates batch_lines kept unique exact m e u b =
+    ap₂ (λ (x y : Bool). first_limit x y updates batch_lines) (m ∙ over_is limits.ids reader.ids (names (told_by reader)) kept.ids unique
     (elim exact [ inl is ↦ inl is | inr few ↦ inr few ])) e
-    ∙ ap₂ (λ (x y : Bool). first_limit (nat_lt MOST_IDS (distinct_count nat_eq (names (told_by reader))))
-    (nat_lt MOST_EDGE_LINES (length (told_by reader).edges)) x y) (u ∙ ap (nat_lt MOST_UPDATES) kept.changes) b
+    ∙ ap₂ (λ (x y : Bool). first_limit (nat_lt limits.ids (distinct_count nat_eq (names (told_by reader))))
+    (nat_lt limits.edge_lines (length (told_by reader).edges)) x y) (u ∙ ap (nat_lt limits.updates) kept.changes) b

@@ -13,8 +13,7 @@ use Rattle.std.proofs.lemmas.List.Sorted.{All-permutation, Contains-permutation,
 use Rattle.kc_graph.specs.declared.update.Update.{Update}
 use Rattle.kc_text.specs.Deciding.{AreOfOneEdge, AreOverruled, AreRanks, MarksFollowed, rank}
 use Rattle.kc_text.specs.LastUpdates.{same_edge}
-use Rattle.kc_text.specs.declared.limits.TheConstants.{MOST_IDS}
-use Rattle.kc_text.specs.declared.overruling.TheConstants.{MOST_TO_DECIDE}
+use Rattle.kc_text.specs.declared.overruling.TheConstants.{NUMBERS}
 
 -- two results of one call hold together
 pub both-ok : {X E : Type 0} {P Q R : X → Type 0} (r : Result X E) → IfOk r P → IfOk r Q → ((x : X) → P x → Q x → R x) → IfOk r R
@@ -22,29 +21,29 @@ both-ok (Ok x) p q f = f x p q
 both-ok (Err e) p q f = tt
 
 -- a rank's rest by the most updates to decide is its place
-rank-place : (x : Update) (i : ℕ) → i < MOST_TO_DECIDE → rank x i % MOST_TO_DECIDE ≡ i
+rank-place : (x : Update) (i : ℕ) → i < NUMBERS → rank x i % NUMBERS ≡ i
 rank-place x i l = omega arith
 
 -- a number that is known to be a rank has its place as its rest by the most updates
-place-at : (r : ℕ) (x : Update) (i : ℕ) → i < MOST_TO_DECIDE → r ≡ rank x i → r % MOST_TO_DECIDE ≡ i
-place-at r x i l e = ap (λ n. n % MOST_TO_DECIDE) e ∙ rank-place x i l
+place-at : (r : ℕ) (x : Update) (i : ℕ) → i < NUMBERS → r ≡ rank x i → r % NUMBERS ≡ i
+place-at r x i l e = ap (λ n. n % NUMBERS) e ∙ rank-place x i l
 
 -- a rank divided by the most updates to decide is the number of its edge
-rank-edge : (x : Update) (i : ℕ) → i < MOST_TO_DECIDE → rank x i / MOST_TO_DECIDE ≡ x.u * MOST_IDS + x.v
+rank-edge : (x : Update) (i : ℕ) → i < NUMBERS → rank x i / NUMBERS ≡ x.u * NUMBERS + x.v
 rank-edge x i l = omega arith
 
 -- ranks of one edge are of updates of one edge
-edge-same : (x y : Update) (i j : ℕ) → x.v < MOST_IDS → y.v < MOST_IDS → i < MOST_TO_DECIDE → j < MOST_TO_DECIDE
-    → rank x i / MOST_TO_DECIDE ≡ rank y j / MOST_TO_DECIDE → same_edge x y ≡ true
+edge-same : (x y : Update) (i j : ℕ) → x.v < NUMBERS → y.v < NUMBERS → i < NUMBERS → j < NUMBERS
+    → rank x i / NUMBERS ≡ rank y j / NUMBERS → same_edge x y ≡ true
 edge-same x y i j lx ly li lj e =
-    let same : x.u * MOST_IDS + x.v ≡ y.u * MOST_IDS + y.v = sym (rank-edge x i li) ∙ (e ∙ rank-edge y j lj) in
+    let same : x.u * NUMBERS + x.v ≡ y.u * NUMBERS + y.v = sym (rank-edge x i li) ∙ (e ∙ rank-edge y j lj) in
     and_from _ _ (eq-eqb x.u y.u (omega arith)) (eq-eqb x.v y.v (omega arith))
 
 -- the other way round: updates of one edge have ranks of one edge
-same-edge : (x y : Update) (i j : ℕ) → i < MOST_TO_DECIDE → j < MOST_TO_DECIDE → same_edge x y ≡ true → rank x i / MOST_TO_DECIDE ≡ rank y j / MOST_TO_DECIDE
+same-edge : (x y : Update) (i j : ℕ) → i < NUMBERS → j < NUMBERS → same_edge x y ≡ true → rank x i / NUMBERS ≡ rank y j / NUMBERS
 same-edge x y i j li lj h =
     let (u, v) = and_parts _ _ h in
-    rank-edge x i li ∙ (ap₂ (λ (a b : ℕ). a * MOST_IDS + b) (eqb-true x.u y.u u) (eqb-true x.v y.v v) ∙ sym (rank-edge y j lj))
+    rank-edge x i li ∙ (ap₂ (λ (a b : ℕ). a * NUMBERS + b) (eqb-true x.u y.u u) (eqb-true x.v y.v v) ∙ sym (rank-edge y j lj))
 
 -- where the elements that are not above one end, before a greater one
 record LastOf (xs : List ℕ) (a b : ℕ) : Type 0 where
@@ -96,8 +95,7 @@ no_update = record { add = false; u = 0; v = 1; ordered = omega arith }
 
 -- the ranks of updates, and the same in order
 record AreSorted (updates : List Update) (ranks sorted : List ℕ) : Type 0 where
-  ends : All (λ update. update.v < MOST_IDS) updates
-  short : length updates ≤ MOST_TO_DECIDE
+  short : length updates ≤ NUMBERS
   ranked : AreRanks updates ranks
   moved : IsPermutation ranks sorted
   up : IsNonDecreasingBy (λ (x : ℕ). x) sorted
@@ -124,19 +122,19 @@ sorted-has updates ranks sorted are i x l =
 -- a mark tells of a later update of the same edge
 marked-again : (updates : List Update) (ranks sorted : List ℕ) → AreSorted updates ranks sorted → (k i : ℕ) (x : Update) → i < length updates
     → k + 1 < length sorted
-    → AreOfOneEdge (get_or sorted k 0) (get_or sorted (k + 1) 0) → get_or sorted k 0 % MOST_TO_DECIDE ≡ i
+    → AreOfOneEdge (get_or sorted k 0) (get_or sorted (k + 1) 0) → get_or sorted k 0 % NUMBERS ≡ i
     → list_any (same_edge (get_or updates i x)) (drop (i + 1) updates) ≡ true
 marked-again updates ranks sorted are k i x l lk (less, edge) at =
     let first = rank-of updates ranks sorted are k (omega arith) in
     let next = rank-of updates ranks sorted are (k + 1) lk in
     let here : first.place ≡ i = sym (rank-place (get_or updates first.place no_update) first.place (omega (arith, first.within, are.short)))
-    ∙ (ap (λ r. r % MOST_TO_DECIDE) (sym first.is) ∙ at) in
-    let ranks-of_one : rank (get_or updates first.place no_update) first.place / MOST_TO_DECIDE ≡ rank
-    (get_or updates next.place no_update) next.place / MOST_TO_DECIDE =
-    ap (λ r. r / MOST_TO_DECIDE) (sym first.is) ∙ (edge ∙ ap (λ r. r / MOST_TO_DECIDE) next.is) in
+    ∙ (ap (λ r. r % NUMBERS) (sym first.is) ∙ at) in
+    let ranks-of_one : rank (get_or updates first.place no_update) first.place / NUMBERS ≡ rank
+    (get_or updates next.place no_update) next.place / NUMBERS =
+    ap (λ r. r / NUMBERS) (sym first.is) ∙ (edge ∙ ap (λ r. r / NUMBERS) next.is) in
     let same : same_edge (get_or updates first.place no_update) (get_or updates next.place no_update) ≡ true =
     edge-same (get_or updates first.place no_update) (get_or updates next.place no_update) first.place next.place
-    (are.ends first.place no_update first.within) (are.ends next.place no_update next.within) (omega (arith, first.within, are.short))
+    (are.ranked.ends first.place no_update first.within) (are.ranked.ends next.place no_update next.within) (omega (arith, first.within, are.short))
     (omega (arith, next.within, are.short)) ranks-of_one in
     let a : rank (get_or updates first.place no_update) first.place < rank (get_or updates next.place no_update) next.place =
     omega (arith, first.is, next.is) in
@@ -156,11 +154,11 @@ marked-again updates ranks sorted are k i x l lk (less, edge) at =
     (ap₂ same_edge mine there ∙ same)
 
 -- a rank before a greater one of the same edge is marked
-mark-found : (sorted : List ℕ) (marks : List Bool) (x : Update) (i b : ℕ) → MarksFollowed sorted marks → i < MOST_TO_DECIDE
-    → rank x i / MOST_TO_DECIDE ≡ b / MOST_TO_DECIDE → LastOf sorted (rank x i) b
+mark-found : (sorted : List ℕ) (marks : List Bool) (x : Update) (i b : ℕ) → MarksFollowed sorted marks → i < NUMBERS
+    → rank x i / NUMBERS ≡ b / NUMBERS → LastOf sorted (rank x i) b
     → get_or marks i false ≡ true
 mark-found sorted marks x i b followed l edge t =
-    let next : get_or sorted t.at 0 / MOST_TO_DECIDE ≡ get_or sorted (t.at + 1) 0 / MOST_TO_DECIDE = omega (arith, edge, t.is, t.above, t.reach) in
+    let next : get_or sorted t.at 0 / NUMBERS ≡ get_or sorted (t.at + 1) 0 / NUMBERS = omega (arith, edge, t.is, t.above, t.reach) in
     subst (λ n. get_or marks n false ≡ true) (place-at (get_or sorted t.at 0) x i l t.is) (followed.complete t.at t.within (omega (arith, t.is, t.above), next))
 
 -- an update with a later one of the same edge is marked
@@ -174,27 +172,27 @@ again-marked updates ranks sorted marks are followed i x l again =
     let there : get_or updates j y ≡ y = sym (get_or-drop (i + 1) updates k y) ∙ ey in
     let a : ℕ = rank (get_or updates i x) i in
     let b : ℕ = rank (get_or updates j y) j in
-    let li : i < MOST_TO_DECIDE = omega (arith, are.short) in
-    let lj' : j < MOST_TO_DECIDE = omega (arith, are.short, lj) in
-    let edge : a / MOST_TO_DECIDE ≡ b / MOST_TO_DECIDE = same-edge (get_or updates i x) (get_or updates j y) i j li lj'
+    let li : i < NUMBERS = omega (arith, are.short) in
+    let lj' : j < NUMBERS = omega (arith, are.short, lj) in
+    let edge : a / NUMBERS ≡ b / NUMBERS = same-edge (get_or updates i x) (get_or updates j y) i j li lj'
     (ap (same_edge (get_or updates i x)) there ∙ same) in
     let less : a < b = omega (arith, edge, rank-place (get_or updates i x) i li, rank-place (get_or updates j y) j lj') in
     let s = greater-behind sorted a b are.up (sorted-has updates ranks sorted are i x l) (sorted-has updates ranks sorted are j y lj) less in
     mark-found sorted marks (get_or updates i x) i b followed li edge (last-of sorted a b s.gap s.first are.up s.within s.is s.there less)
 
 -- the places of the ranks are those of updates
-pub places-within : (updates : List Update) (ranks sorted : List ℕ) → length updates ≤ MOST_TO_DECIDE → AreRanks updates ranks → IsPermutation ranks sorted
-    → All (λ r. r % MOST_TO_DECIDE < length updates) sorted
-places-within updates ranks sorted short ranked moved = All-permutation (λ r. r % MOST_TO_DECIDE < length updates) ranks sorted moved (λ i d l.
+pub places-within : (updates : List Update) (ranks sorted : List ℕ) → length updates ≤ NUMBERS → AreRanks updates ranks → IsPermutation ranks sorted
+    → All (λ r. r % NUMBERS < length updates) sorted
+places-within updates ranks sorted short ranked moved = All-permutation (λ r. r % NUMBERS < length updates) ranks sorted moved (λ i d l.
     let l' : i < length updates = omega (arith, ranked.count) in
     omega (arith, get_or_default ranks i d 0 l, ranked.each i no_update l', rank-place (get_or updates i no_update) i (omega arith)))
 
 -- what is marked among the sorted ranks is overruled
-pub overruled-are : (updates : List Update) (ranks sorted : List ℕ) (marks : List Bool) → All (λ update. update.v < MOST_IDS) updates
-    → length updates ≤ MOST_TO_DECIDE → AreRanks updates ranks → IsPermutation ranks sorted
+pub overruled-are : (updates : List Update) (ranks sorted : List ℕ) (marks : List Bool) → length updates ≤ NUMBERS → AreRanks updates ranks
+    → IsPermutation ranks sorted
     → IsNonDecreasingBy (λ (x : ℕ). x) sorted → length marks ≡ length updates → MarksFollowed sorted marks → AreOverruled updates marks
-overruled-are updates ranks sorted marks ends short ranked moved up count followed =
-    let are : AreSorted updates ranks sorted = record { ends = ends; short = short; ranked = ranked; moved = moved; up = up } in
+overruled-are updates ranks sorted marks short ranked moved up count followed =
+    let are : AreSorted updates ranks sorted = record { short = short; ranked = ranked; moved = moved; up = up } in
     record {
       count = count;
       each = λ i x l. both_ways _ _

@@ -22,7 +22,7 @@ use Rattle.kc_text.specs.Meaning.{with_line}
 use Rattle.kc_text.specs.NamedOnce.{Cause, Ends, IsRefused, NamesAgain, Tells, cause_of, cause_or, ends_at, strict_meaning, strict_reading}
 use Rattle.kc_text.specs.NamedOnce.{was_named}
 use Rattle.kc_text.specs.Overruling.{deciding, overruled}
-use Rattle.kc_text.specs.declared.limits.TheConstants.{MOST_BYTES}
+use Rattle.kc_text.specs.declared.limits.Limits.{Limits}
 use Rattle.kc_text.proofs.Overruled.{none-at, once-deciding, once-overruled}
 use Rattle.kc_text.proofs.WithinLimits.{both_none}
 
@@ -92,10 +92,10 @@ none-of (Some kind) h = absurd (cc)
 none-of None h = refl
 
 -- a change that doesn't end the reading fits, names a new pair and passes no limit
-record Goes (told : Told) (c : ChangeLine) : Type 0 where
+record Goes (limits : Limits) (told : Told) (c : ChangeLine) : Type 0 where
   fit : unfit told.last c ≡ None
   new : was_named told.last c ≡ false
-  within : passed_limit (with_line told (said.Change c)) ≡ None
+  within : passed_limit limits (with_line told (said.Change c)) ≡ None
 
 -- where no check gives a cause, the change fits, its pair is new and no limit is passed
 goes-parts : (fit : Option Kind) (again : Bool) (limit : Option Kind) → cause_or (option_map IsRefused fit)
@@ -105,64 +105,67 @@ goes-parts None true limit h = absurd (cc)
 goes-parts None false limit h = (refl, refl, none-of limit h)
 
 -- a change that gives no cause to end the reading goes on
-change-goes_on : (told : Told) (c : ChangeLine) → cause_of told (said.Change c) ≡ None → Goes told c
-change-goes_on told c h =
-    let (fit, new, within) = goes-parts (unfit told.last c) (was_named told.last c) (passed_limit (with_line told (said.Change c))) h in
+change-goes_on : (limits : Limits) (told : Told) (c : ChangeLine) → cause_of limits told (said.Change c) ≡ None → Goes limits told c
+change-goes_on limits told c h =
+    let (fit, new, within) = goes-parts (unfit told.last c) (was_named told.last c) (passed_limit limits (with_line told (said.Change c))) h in
     record { fit = fit; new = new; within = within }
 
 -- a line that doesn't end the reading is not refused, and names no pair again
-not-refused : (told : Told) (line : TextLine) → cause_of told line ≡ None → refusal told line ≡ None
-not-refused told said.Nothing h = refl
-not-refused told (said.Edge a b) h = none-of (refusal told (said.Edge a b)) h
-not-refused told said.Batch h = none-of (refusal told said.Batch) h
-not-refused told (said.Change c) h = let g = change-goes_on told c h in ap (λ r. or_else r (passed_limit (with_line told (said.Change c)))) g.fit ∙ g.within
-not-refused told (said.Wrong kind) h = absurd (cc)
+not-refused : (limits : Limits) (told : Told) (line : TextLine) → cause_of limits told line ≡ None → refusal limits told line ≡ None
+not-refused limits told said.Nothing h = refl
+not-refused limits told (said.Edge a b) h = none-of (refusal limits told (said.Edge a b)) h
+not-refused limits told said.Batch h = none-of (refusal limits told said.Batch) h
+not-refused limits told (said.Change c) h = let g = change-goes_on limits told c h in
+    ap (λ r. or_else r (passed_limit limits (with_line told (said.Change c)))) g.fit ∙ g.within
+not-refused limits told (said.Wrong kind) h = absurd (cc)
 
 -- after a line that doesn't end the reading, no batch names a pair twice if none did before
-once-after : (told : Told) (line : TextLine) → cause_of told line ≡ None → Once told → Once (with_line told line)
-once-after told said.Nothing h once = once
-once-after told (said.Edge a b) h once = once
-once-after told said.Batch h once = All-append NamesOnce (batches told) ([] ∷ []) once (All-cons NamesOnce [] [] once-nil (All-nil NamesOnce))
-once-after told (said.Change c) h once = let g = change-goes_on told c h in once-after_change told.earlier told.last c g.fit g.new once
-once-after told (said.Wrong kind) h once = once
+once-after : (limits : Limits) (told : Told) (line : TextLine) → cause_of limits told line ≡ None → Once told → Once (with_line told line)
+once-after limits told said.Nothing h once = once
+once-after limits told (said.Edge a b) h once = once
+once-after limits told said.Batch h once = All-append NamesOnce (batches told) ([] ∷ []) once (All-cons NamesOnce [] [] once-nil (All-nil NamesOnce))
+once-after limits told (said.Change c) h once = let g = change-goes_on limits told c h in once-after_change told.earlier told.last c g.fit g.new once
+once-after limits told (said.Wrong kind) h once = once
 
 -- a line that is not refused goes on if no batch names a pair twice with it
-goes-on : (told : Told) (line : TextLine) → refusal told line ≡ None → Once (with_line told line) → cause_of told line ≡ None
-goes-on told said.Nothing h once = refl
-goes-on told (said.Edge a b) h once = ap (option_map IsRefused) h
-goes-on told said.Batch h once = ap (option_map IsRefused) h
-goes-on told (said.Change c) h once =
-    let (fit, within) = both_none (unfit told.last c) (passed_limit (with_line told (said.Change c))) h in
+goes-on : (limits : Limits) (told : Told) (line : TextLine) → refusal limits told line ≡ None → Once (with_line told line) → cause_of limits told line ≡ None
+goes-on limits told said.Nothing h once = refl
+goes-on limits told (said.Edge a b) h once = ap (option_map IsRefused) h
+goes-on limits told said.Batch h once = ap (option_map IsRefused) h
+goes-on limits told (said.Change c) h once =
+    let (fit, within) = both_none (unfit told.last c) (passed_limit limits (with_line told (said.Change c))) h in
     ap (λ r. cause_or (option_map IsRefused r) (cond (was_named told.last c) (Some NamesAgain)
-    (option_map IsRefused (passed_limit (with_line told (said.Change c)))))) fit
-    ∙ (ap (λ b. cond b (Some NamesAgain) (option_map IsRefused (passed_limit (with_line told (said.Change c)))))
+    (option_map IsRefused (passed_limit limits (with_line told (said.Change c)))))) fit
+    ∙ (ap (λ b. cond b (Some NamesAgain) (option_map IsRefused (passed_limit limits (with_line told (said.Change c)))))
     (new-before_change told.earlier told.last c once) ∙ ap (option_map IsRefused) within)
-goes-on told (said.Wrong kind) h once = absurd (cc)
+goes-on limits told (said.Wrong kind) h once = absurd (cc)
 
 -- what the lines tell by the stricter rule they mean, and no batch names a pair twice
-from-strict : (done : ℕ) (told : Told) (lines : List TextLine) (all : Told) → Once told → strict_reading done told lines ≡ Tells all
-    → (reading done told lines ≡ Means all) × Once all
-from-strict done told [] all once h = let same : told ≡ all = cc in (ap Means same, subst Once same once)
-from-strict done told (line ∷ rest) all once h =
-    elim (cause_of told line) as (λ r. cause_of told line ≡ r → ends_at r (done + 1) (strict_reading (done + 1) (with_line told line) rest) ≡ Tells all
-    → (ends_or (refusal told line) (done + 1) (reading (done + 1) (with_line told line) rest) ≡ Means all) × Once all) [
+from-strict : (limits : Limits) (done : ℕ) (told : Told) (lines : List TextLine) (all : Told) → Once told → strict_reading limits done told lines ≡ Tells all
+    → (reading limits done told lines ≡ Means all) × Once all
+from-strict limits done told [] all once h = let same : told ≡ all = cc in (ap Means same, subst Once same once)
+from-strict limits done told (line ∷ rest) all once h =
+    elim (cause_of limits told line) as (λ r. cause_of limits told line ≡ r
+    → ends_at r (done + 1) (strict_reading limits (done + 1) (with_line told line) rest) ≡ Tells all
+    → (ends_or (refusal limits told line) (done + 1) (reading limits (done + 1) (with_line told line) rest) ≡ Means all) × Once all) [
       | Some cause ↦ λ _ e. absurd (cc)
       | None ↦ λ none e.
-          let (means, once') = from-strict (done + 1) (with_line told line) rest all (once-after told line none once) e in
-          (ap (λ r. ends_or r (done + 1) (reading (done + 1) (with_line told line) rest)) (not-refused told line none) ∙ means, once')
+          let (means, once') = from-strict limits (done + 1) (with_line told line) rest all (once-after limits told line none once) e in
+          (ap (λ r. ends_or r (done + 1) (reading limits (done + 1) (with_line told line) rest)) (not-refused limits told line none) ∙ means, once')
     ] refl h
 
 -- the other way round: what they mean they tell by the stricter rule, if no batch names a pair twice
-to-strict : (done : ℕ) (told : Told) (lines : List TextLine) (all : Told) → reading done told lines ≡ Means all → Once all
-    → (strict_reading done told lines ≡ Tells all) × Once told
-to-strict done told [] all h once = let same : told ≡ all = cc in (ap Tells same, subst Once (sym same) once)
-to-strict done told (line ∷ rest) all h once =
-    elim (refusal told line) as (λ r. refusal told line ≡ r → ends_or r (done + 1) (reading (done + 1) (with_line told line) rest) ≡ Means all
-    → (ends_at (cause_of told line) (done + 1) (strict_reading (done + 1) (with_line told line) rest) ≡ Tells all) × Once told) [
+to-strict : (limits : Limits) (done : ℕ) (told : Told) (lines : List TextLine) (all : Told) → reading limits done told lines ≡ Means all → Once all
+    → (strict_reading limits done told lines ≡ Tells all) × Once told
+to-strict limits done told [] all h once = let same : told ≡ all = cc in (ap Tells same, subst Once (sym same) once)
+to-strict limits done told (line ∷ rest) all h once =
+    elim (refusal limits told line) as (λ r. refusal limits told line ≡ r
+    → ends_or r (done + 1) (reading limits (done + 1) (with_line told line) rest) ≡ Means all
+    → (ends_at (cause_of limits told line) (done + 1) (strict_reading limits (done + 1) (with_line told line) rest) ≡ Tells all) × Once told) [
       | Some kind ↦ λ _ e. absurd (cc)
       | None ↦ λ none e.
-          let (tells, once') = to-strict (done + 1) (with_line told line) rest all e once in (
-            ap (λ r. ends_at r (done + 1) (strict_reading (done + 1) (with_line told line) rest)) (goes-on told line none once')
+          let (tells, once') = to-strict limits (done + 1) (with_line told line) rest all e once in (
+            ap (λ r. ends_at r (done + 1) (strict_reading limits (done + 1) (with_line told line) rest)) (goes-on limits told line none once')
                 ∙ tells,
             once-before told line once',
           )
@@ -183,56 +186,62 @@ refused-of (Some k) kind h = cc
 refused-of None kind h = absurd (cc)
 
 -- a line that is refused by the stricter rule is refused for the same
-same-refusal : (told : Told) (line : TextLine) (kind : Kind) → cause_of told line ≡ Some (IsRefused kind) → refusal told line ≡ Some kind
-same-refusal told said.Nothing kind h = absurd (cc)
-same-refusal told (said.Edge a b) kind h = refused-of (refusal told (said.Edge a b)) kind h
-same-refusal told said.Batch kind h = refused-of (refusal told said.Batch) kind h
-same-refusal told (said.Change c) kind h = refused-parts (unfit told.last c) (was_named told.last c) (passed_limit (with_line told (said.Change c))) kind h
-same-refusal told (said.Wrong k) kind h = cc
+same-refusal : (limits : Limits) (told : Told) (line : TextLine) (kind : Kind) → cause_of limits told line ≡ Some (IsRefused kind)
+    → refusal limits told line ≡ Some kind
+same-refusal limits told said.Nothing kind h = absurd (cc)
+same-refusal limits told (said.Edge a b) kind h = refused-of (refusal limits told (said.Edge a b)) kind h
+same-refusal limits told said.Batch kind h = refused-of (refusal limits told said.Batch) kind h
+same-refusal limits told (said.Change c) kind h =
+    refused-parts (unfit told.last c) (was_named told.last c) (passed_limit limits (with_line told (said.Change c))) kind h
+same-refusal limits told (said.Wrong k) kind h = cc
 
 -- lines whose reading a refusal ends by the stricter rule are refused there for the same
-refused-strict : (done : ℕ) (told : Told) (lines : List TextLine) (at : ℕ) (kind : Kind) → strict_reading done told lines ≡ Ends at (IsRefused kind)
-    → reading done told lines ≡ Refuses at kind
-refused-strict done told [] at kind h = absurd (cc)
-refused-strict done told (line ∷ rest) at kind h =
-    elim (cause_of told line) as (λ r. cause_of told line ≡ r → ends_at r (done + 1) (strict_reading (done + 1) (with_line told line) rest) ≡ Ends at
+refused-strict : (limits : Limits) (done : ℕ) (told : Told) (lines : List TextLine) (at : ℕ) (kind : Kind)
+    → strict_reading limits done told lines ≡ Ends at (IsRefused kind)
+    → reading limits done told lines ≡ Refuses at kind
+refused-strict limits done told [] at kind h = absurd (cc)
+refused-strict limits done told (line ∷ rest) at kind h =
+    elim (cause_of limits told line) as (λ r. cause_of limits told line ≡ r
+    → ends_at r (done + 1) (strict_reading limits (done + 1) (with_line told line) rest) ≡ Ends at
     (IsRefused kind)
-    → ends_or (refusal told line) (done + 1) (reading (done + 1) (with_line told line) rest) ≡ Refuses at kind) [
+    → ends_or (refusal limits told line) (done + 1) (reading limits (done + 1) (with_line told line) rest) ≡ Refuses at kind) [
       | Some cause ↦ λ some e.
           let here : done + 1 ≡ at = cc in
           let why : cause ≡ IsRefused kind = cc in
-          ap (λ r. ends_or r (done + 1) (reading (done + 1) (with_line told line) rest))
-          (same-refusal told line kind (some ∙ ap (λ (cause : Cause). Some cause) why)) ∙ ap (λ n. Refuses n kind) here
+          ap (λ r. ends_or r (done + 1) (reading limits (done + 1) (with_line told line) rest))
+          (same-refusal limits told line kind (some ∙ ap (λ (cause : Cause). Some cause) why)) ∙ ap (λ n. Refuses n kind) here
       | None ↦ λ none e.
-          ap (λ r. ends_or r (done + 1) (reading (done + 1) (with_line told line) rest)) (not-refused told line none)
-          ∙ refused-strict (done + 1) (with_line told line) rest at kind e
+          ap (λ r. ends_or r (done + 1) (reading limits (done + 1) (with_line told line) rest)) (not-refused limits told line none)
+          ∙ refused-strict limits (done + 1) (with_line told line) rest at kind e
     ] refl h
 
 -- a text tells by the stricter rule just what it means, where no batch names a pair twice
-pub same-strict : (bytes : List ℕ) (told : Told) → (strict_meaning bytes ≡ Tells told) ↔ ((meaning bytes ≡ Means told) × All NamesOnce (batches told))
-same-strict bytes told = elim (nat_lt MOST_BYTES (length bytes)) as
-    (λ b. (cond b (Ends 0 (IsRefused TooLong)) (strict_reading 0 nothing_told (all_said bytes)) ≡ Tells told)
-    ↔ ((cond b (Refuses 0 TooLong) (reading 0 nothing_told (all_said bytes)) ≡ Means told) × All NamesOnce (batches told))) [
+pub same-strict : (limits : Limits) (bytes : List ℕ) (told : Told)
+    → (strict_meaning limits bytes ≡ Tells told) ↔ ((meaning limits bytes ≡ Means told) × All NamesOnce (batches told))
+same-strict limits bytes told = elim (nat_lt limits.bytes (length bytes)) as
+    (λ b. (cond b (Ends 0 (IsRefused TooLong)) (strict_reading limits 0 nothing_told (all_said bytes)) ≡ Tells told)
+    ↔ ((cond b (Refuses 0 TooLong) (reading limits 0 nothing_told (all_said bytes)) ≡ Means told) × All NamesOnce (batches told))) [
       | true ↦ (λ e. absurd (cc), λ both. let e = both.0 in absurd (cc))
       | false ↦ (
-        λ e. from-strict 0 nothing_told (all_said bytes) told (All-nil NamesOnce) e,
+        λ e. from-strict limits 0 nothing_told (all_said bytes) told (All-nil NamesOnce) e,
         λ both.
-            (to-strict 0 nothing_told (all_said bytes) told both.0 both.1).0,
+            (to-strict limits 0 nothing_told (all_said bytes) told both.0 both.1).0,
       )
     ]
 
 -- a text that is refused by the stricter rule is refused at the same line for the same
-pub same-refused : (bytes : List ℕ) (line : ℕ) (kind : Kind) → strict_meaning bytes ≡ Ends line (IsRefused kind) → meaning bytes ≡ Refuses line kind
-same-refused bytes line kind = elim (nat_lt MOST_BYTES (length bytes)) as
-    (λ b. cond b (Ends 0 (IsRefused TooLong)) (strict_reading 0 nothing_told (all_said bytes)) ≡ Ends line (IsRefused kind)
-    → cond b (Refuses 0 TooLong) (reading 0 nothing_told (all_said bytes)) ≡ Refuses line kind) [
+pub same-refused : (limits : Limits) (bytes : List ℕ) (line : ℕ) (kind : Kind) → strict_meaning limits bytes ≡ Ends line (IsRefused kind)
+    → meaning limits bytes ≡ Refuses line kind
+same-refused limits bytes line kind = elim (nat_lt limits.bytes (length bytes)) as
+    (λ b. cond b (Ends 0 (IsRefused TooLong)) (strict_reading limits 0 nothing_told (all_said bytes)) ≡ Ends line (IsRefused kind)
+    → cond b (Refuses 0 TooLong) (reading limits 0 nothing_told (all_said bytes)) ≡ Refuses line kind) [
       | true ↦ λ e. let here : 0 ≡ line = cc in let why : TooLong ≡ kind = cc in cc
-      | false ↦ λ e. refused-strict 0 nothing_told (all_said bytes) line kind e
+      | false ↦ λ e. refused-strict limits 0 nothing_told (all_said bytes) line kind e
     ]
 
 -- where a text tells something by the stricter rule, all changes decide, and none is overruled
-pub all-decide : (bytes : List ℕ) (told : Told) → strict_meaning bytes ≡ Tells told
+pub all-decide : (limits : Limits) (bytes : List ℕ) (told : Told) → strict_meaning limits bytes ≡ Tells told
     → All (λ batch. (deciding batch ≡ batch) × (overruled batch ≡ 0)) (batches told)
-all-decide bytes told h = λ i d l.
-    let once = ((same-strict bytes told).0 h).1 i d l in
+all-decide limits bytes told h = λ i d l.
+    let once = ((same-strict limits bytes told).0 h).1 i d l in
     (once-deciding (get_or (batches told) i d) once, once-overruled (get_or (batches told) i d) once)

@@ -14,21 +14,21 @@ use Rattle.kc_text.specs.declared.line.TextLine.TheVariants as said
 use Rattle.kc_text.specs.Forms.{all_said}
 use Rattle.kc_text.specs.Meaning.{Told, Means, Refuses, batches, changes, ends_or, first_limit, meaning, names, nothing_told, or_else, passed_limit, reading}
 use Rattle.kc_text.specs.Meaning.{refusal, unfit, with_line}
-use Rattle.kc_text.specs.declared.limits.TheConstants.{MOST_IDS, MOST_EDGE_LINES, MOST_UPDATES, MOST_BATCHES, MOST_BYTES}
+use Rattle.kc_text.specs.declared.limits.Limits.{Limits}
 
 -- no change is a loop
 abbrev pub HasNoLoops : List ChangeLine → Type 0
 HasNoLoops batch = All (λ c. c.a ≢ c.b) batch
 
 -- no limit is passed
-pub record IsWithin (told : Told) : Type 0 where
-  pub ids : distinct_count nat_eq (names told) ≤ MOST_IDS
-  pub changes : length (changes told) ≤ MOST_UPDATES
-  pub batch_lines : length (batches told) ≤ MOST_BATCHES
+pub record IsWithin (limits : Limits) (told : Told) : Type 0 where
+  pub ids : distinct_count nat_eq (names told) ≤ limits.ids
+  pub changes : length (changes told) ≤ limits.updates
+  pub batch_lines : length (batches told) ≤ limits.batches
 
 -- what was told is within the limits, and no change of its batches is a loop
-pub record AreFit (told : Told) : Type 0 where
-  pub within : IsWithin told
+pub record AreFit (limits : Limits) (told : Told) : Type 0 where
+  pub within : IsWithin limits told
   pub earlier : All HasNoLoops told.earlier
   pub last : IfSome told.last HasNoLoops
 
@@ -42,10 +42,10 @@ not-first_limit false false false true h = absurd (cc)
 not-first_limit false false false false h = (refl, refl, refl)
 
 -- where no limit is passed, what was told is within the limits
-not_over : (told : Told) → passed_limit told ≡ None → IsWithin told
-not_over told h =
-    let (ids, updates, batch_lines) = not-first_limit (nat_lt MOST_IDS (distinct_count nat_eq (names told))) (nat_lt MOST_EDGE_LINES (length told.edges))
-    (nat_lt MOST_UPDATES (length (changes told))) (nat_lt MOST_BATCHES (length (batches told))) h in record {
+not_over : (limits : Limits) (told : Told) → passed_limit limits told ≡ None → IsWithin limits told
+not_over limits told h =
+    let (ids, updates, batch_lines) = not-first_limit (nat_lt limits.ids (distinct_count nat_eq (names told))) (nat_lt limits.edge_lines (length told.edges))
+    (nat_lt limits.updates (length (changes told))) (nat_lt limits.batches (length (batches told))) h in record {
       ids = omega (arith, ltb-false _ _ ids);
       changes = omega (arith, ltb-false _ _ updates);
       batch_lines = omega (arith, ltb-false _ _ batch_lines);
@@ -75,47 +75,50 @@ fit-batches earlier None h l = All-append HasNoLoops earlier [] h (All-nil HasNo
 fit-batches earlier (Some batch) h l = All-append HasNoLoops earlier (batch ∷ []) h (All-cons HasNoLoops batch [] l (All-nil HasNoLoops))
 
 -- an edge line that is taken passes no limit
-pub edge_taken : (told : Told) (a b : ℕ) → refusal told (said.Edge a b) ≡ None → passed_limit (with_line told (said.Edge a b)) ≡ None
-edge_taken told a b h = elim (is_some told.last) as (λ t. cond t (Some EdgeLineInBatch) (passed_limit (with_line told (said.Edge a b))) ≡ None
-    → passed_limit (with_line told (said.Edge a b)) ≡ None) [
+pub edge_taken : (limits : Limits) (told : Told) (a b : ℕ) → refusal limits told (said.Edge a b) ≡ None
+    → passed_limit limits (with_line told (said.Edge a b)) ≡ None
+edge_taken limits told a b h = elim (is_some told.last) as (λ t. cond t (Some EdgeLineInBatch) (passed_limit limits (with_line told (said.Edge a b))) ≡ None
+    → passed_limit limits (with_line told (said.Edge a b)) ≡ None) [
       | true ↦ λ e. absurd (cc)
       | false ↦ λ e. e
     ] h
 
 -- what was told stays fit with a line that is not refused
-after_line : (told : Told) (line : TextLine) → AreFit told → refusal told line ≡ None → AreFit (with_line told line)
-after_line told said.Nothing fit h = fit
-after_line told (said.Edge a b) fit h = record {
-  within = not_over (with_line told (said.Edge a b)) (edge_taken told a b h);
+after_line : (limits : Limits) (told : Told) (line : TextLine) → AreFit limits told → refusal limits told line ≡ None → AreFit limits (with_line told line)
+after_line limits told said.Nothing fit h = fit
+after_line limits told (said.Edge a b) fit h = record {
+  within = not_over limits (with_line told (said.Edge a b)) (edge_taken limits told a b h);
   earlier = fit.earlier;
   last =
       fit.last;
 }
-after_line told said.Batch fit h = record {
-  within = not_over (with_line told said.Batch) h;
+after_line limits told said.Batch fit h = record {
+  within = not_over limits (with_line told said.Batch) h;
   earlier =
       fit-batches told.earlier told.last fit.earlier fit.last;
   last = All-nil (λ (c : ChangeLine). c.a ≢ c.b);
 }
-after_line told (said.Change c) fit h =
-    let (unfit', limit) = both_none (unfit told.last c) (passed_limit (with_line told (said.Change c))) h in
-    record { within = not_over (with_line told (said.Change c)) limit; earlier = fit.earlier; last = fit-change told.last c fit.last unfit' }
-after_line told (said.Wrong kind) fit h = fit
+after_line limits told (said.Change c) fit h =
+    let (unfit', limit) = both_none (unfit told.last c) (passed_limit limits (with_line told (said.Change c))) h in
+    record { within = not_over limits (with_line told (said.Change c)) limit; earlier = fit.earlier; last = fit-change told.last c fit.last unfit' }
+after_line limits told (said.Wrong kind) fit h = fit
 
 -- what lines tell with no refusal, after what is fit, is fit
-reading-fit : (done : ℕ) (told : Told) (lines : List TextLine) (all : Told) → AreFit told → reading done told lines ≡ Means all → AreFit all
-reading-fit done told [] all fit h = let same : told ≡ all = cc in subst AreFit same fit
-reading-fit done told (line ∷ rest) all fit h =
-    elim (refusal told line) as (λ r. refusal told line ≡ r → ends_or r (done + 1) (reading (done + 1) (with_line told line) rest) ≡ Means all → AreFit all) [
+reading-fit : (limits : Limits) (done : ℕ) (told : Told) (lines : List TextLine) (all : Told) → AreFit limits told
+    → reading limits done told lines ≡ Means all → AreFit limits all
+reading-fit limits done told [] all fit h = let same : told ≡ all = cc in subst (AreFit limits) same fit
+reading-fit limits done told (line ∷ rest) all fit h =
+    elim (refusal limits told line) as (λ r. refusal limits told line ≡ r
+    → ends_or r (done + 1) (reading limits (done + 1) (with_line told line) rest) ≡ Means all → AreFit limits all) [
       | Some kind ↦ λ _ e. absurd (cc)
-      | None ↦ λ none e. reading-fit (done + 1) (with_line told line) rest all (after_line told line fit none) e
+      | None ↦ λ none e. reading-fit limits (done + 1) (with_line told line) rest all (after_line limits told line fit none) e
     ] refl h
 
 -- what a text means is fit
-pub meaning-fit : (bytes : List ℕ) (all : Told) → meaning bytes ≡ Means all → AreFit all
-meaning-fit bytes all h = elim (nat_lt MOST_BYTES (length bytes)) as
-    (λ b. cond b (Refuses 0 TooLong) (reading 0 nothing_told (all_said bytes)) ≡ Means all → AreFit all) [
+pub meaning-fit : (limits : Limits) (bytes : List ℕ) (all : Told) → meaning limits bytes ≡ Means all → AreFit limits all
+meaning-fit limits bytes all h = elim (nat_lt limits.bytes (length bytes)) as
+    (λ b. cond b (Refuses 0 TooLong) (reading limits 0 nothing_told (all_said bytes)) ≡ Means all → AreFit limits all) [
       | true ↦ λ e. absurd (cc)
-      | false ↦ λ e. reading-fit 0 nothing_told (all_said bytes) all (record
+      | false ↦ λ e. reading-fit limits 0 nothing_told (all_said bytes) all (record
           { within = record { ids = omega arith; changes = omega arith; batch_lines = omega arith }; earlier = All-nil HasNoLoops; last = tt }) e
     ] h

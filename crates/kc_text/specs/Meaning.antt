@@ -10,7 +10,7 @@ use Rattle.kc_text.specs.declared.kind.Kind.TheVariants.{TooManyBatches, TooLong
 use Rattle.kc_text.specs.declared.line.TextLine.{TextLine}
 use Rattle.kc_text.specs.declared.line.TextLine.TheVariants.{Nothing, Edge, Batch, Change, Wrong}
 use Rattle.kc_text.specs.Forms.{all_said}
-use Rattle.kc_text.specs.declared.limits.TheConstants.{MOST_IDS, MOST_EDGE_LINES, MOST_UPDATES, MOST_BATCHES, MOST_BYTES}
+use Rattle.kc_text.specs.declared.limits.Limits.{Limits}
 
 -- What lines have told, all in their order: the edges of the edge lines, loops and repeats among them, the batches before the last
 -- one, and the last one, once there is a batch line.
@@ -71,10 +71,10 @@ first_limit ids edge_lines updates batches =
     else None
 
 -- the limits of the different ids, the edge lines, the changes in all batches, and the batches
-abbrev pub passed_limit : Told → Option Kind
-passed_limit told =
-    first_limit (nat_lt MOST_IDS (distinct_count nat_eq (names told))) (nat_lt MOST_EDGE_LINES (length told.edges))
-    (nat_lt MOST_UPDATES (length (changes told))) (nat_lt MOST_BATCHES (length (batches told)))
+abbrev pub passed_limit : Limits → Told → Option Kind
+passed_limit limits told =
+    first_limit (nat_lt limits.ids (distinct_count nat_eq (names told))) (nat_lt limits.edge_lines (length told.edges))
+    (nat_lt limits.updates (length (changes told))) (nat_lt limits.batches (length (batches told)))
 
 -- the first cause of two checks
 abbrev pub or_else : Option Kind → Option Kind → Option Kind
@@ -83,12 +83,12 @@ or_else None next = next
 
 -- Why a line is refused, if it is, after what the lines before it have told: its form is wrong, or it doesn't stand in its place (an
 -- edge line stands before any batch line, a change after one), or it doesn't fit its batch, or a limit is passed with it.
-abbrev pub refusal : Told → TextLine → Option Kind
-refusal told Nothing = None
-refusal told (Edge a b) = if is_some told.last then Some EdgeLineInBatch else passed_limit (with_line told (Edge a b))
-refusal told Batch = passed_limit (with_line told Batch)
-refusal told (Change c) = or_else (unfit told.last c) (passed_limit (with_line told (Change c)))
-refusal told (Wrong kind) = Some kind
+abbrev pub refusal : Limits → Told → TextLine → Option Kind
+refusal limits told Nothing = None
+refusal limits told (Edge a b) = if is_some told.last then Some EdgeLineInBatch else passed_limit limits (with_line told (Edge a b))
+refusal limits told Batch = passed_limit limits (with_line told Batch)
+refusal limits told (Change c) = or_else (unfit told.last c) (passed_limit limits (with_line told (Change c)))
+refusal limits told (Wrong kind) = Some kind
 
 -- The first line that is refused, and why, or else what all lines tell.
 pub data Meaning : Type 0 where
@@ -101,10 +101,10 @@ ends_or (Some kind) line rest = Refuses line kind
 ends_or None line rest = rest
 
 -- the meaning of the rest of the lines, after so many lines that have told this
-abbrev pub reading : ℕ → Told → List TextLine → Meaning
-reading done told [] = Means told
-reading done told (line ∷ rest) = ends_or (refusal told line) (done + 1) (reading (done + 1) (with_line told line) rest)
+abbrev pub reading : Limits → ℕ → Told → List TextLine → Meaning
+reading limits done told [] = Means told
+reading limits done told (line ∷ rest) = ends_or (refusal limits told line) (done + 1) (reading limits (done + 1) (with_line told line) rest)
 
--- what the bytes of a text mean
-abbrev pub meaning : List ℕ → Meaning
-meaning bytes = if nat_lt MOST_BYTES (length bytes) then Refuses 0 TooLong else reading 0 nothing_told (all_said bytes)
+-- what the bytes of a text mean within limits
+abbrev pub meaning : Limits → List ℕ → Meaning
+meaning limits bytes = if nat_lt limits.bytes (length bytes) then Refuses 0 TooLong else reading limits 0 nothing_told (all_said bytes)

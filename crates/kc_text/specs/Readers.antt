@@ -6,7 +6,7 @@ use Rattle.std.specs.HashSet.{HashSet, contains, hash_set_len}
 use Rattle.kc_text.specs.declared.reader.Reader.{Reader}
 use Rattle.kc_text.specs.declared.refusal.Refusal.{Refusal}
 use Rattle.kc_text.specs.Meaning.{Meaning, Means, Refuses, Told, changes, names}
-use Rattle.kc_text.specs.declared.limits.TheConstants.{MOST_IDS}
+use Rattle.kc_text.specs.declared.limits.Limits.{Limits}
 
 -- what a reader keeps as told: the edges, the batches before the last one, and the last one
 abbrev pub told_by : Reader → Told
@@ -26,12 +26,12 @@ pub record ReaderKeeps (reader : Reader) : Type 0 where
   pub changes : reader.changes ≡ length (changes (told_by reader))
 
 -- the different ids are within the limit
-abbrev pub NamesFew : Told → Type 0
-NamesFew told = distinct_count nat_eq (names told) ≤ MOST_IDS
+abbrev pub NamesFew : Limits → Told → Type 0
+NamesFew limits told = distinct_count nat_eq (names told) ≤ limits.ids
 
 -- it counts the ids line by line, or there are not too many
-abbrev pub IsExact : Reader → Type 0
-IsExact reader = (is_some reader.ids ≡ true) ⊎ NamesFew (told_by reader)
+abbrev pub IsExact : Limits → Reader → Type 0
+IsExact limits reader = (is_some reader.ids ≡ true) ⊎ NamesFew limits (told_by reader)
 
 -- the set, if there is one, has two more ids
 abbrev pub Gains : {S : Type 0} → Option (HashSet ℕ S) → Option (HashSet ℕ S) → ℕ → ℕ → Type 0
@@ -40,10 +40,10 @@ Gains None (Some new) a b = ⊥
 Gains (Some old) None a b = ⊥
 Gains (Some old) (Some new) a b = (id : ℕ) → contains nat_eq new id ≡ (nat_eq id b || (nat_eq id a || contains nat_eq old id))
 
--- whether the set, if there is one, has too many ids
-abbrev pub is_over : {S : Type 0} → Option (HashSet ℕ S) → Bool
-is_over None = false
-is_over (Some ids) = nat_lt MOST_IDS (hash_set_len ids)
+-- whether the set, if there is one, has more ids than the limit
+abbrev pub is_over : {S : Type 0} → ℕ → Option (HashSet ℕ S) → Bool
+is_over limit None = false
+is_over limit (Some ids) = nat_lt limit (hash_set_len ids)
 
 -- the meaning, as the reading ends
 abbrev pub outcome : Told → Option Refusal → Meaning

@@ -21,15 +21,15 @@ pub enum Kind {
     UpdateOutsideBatch = 7,
     /// An edge line stands after a batch line.
     EdgeLineInBatch = 8,
-    /// With this line there are more different ids than [`MOST_IDS`](crate::MOST_IDS).
+    /// With this line there are more different ids than the [`Limits`](crate::Limits) have.
     TooManyVertices = 9,
-    /// With this line there are more edge lines than [`MOST_EDGE_LINES`](crate::MOST_EDGE_LINES).
+    /// With this line there are more edge lines than the limits have.
     TooManyEdgeLines = 10,
-    /// With this line there are more add and remove lines than [`MOST_UPDATES`](crate::MOST_UPDATES).
+    /// With this line there are more add and remove lines than the limits have.
     TooManyUpdates = 11,
-    /// With this line there are more batch lines than [`MOST_BATCHES`](crate::MOST_BATCHES).
+    /// With this line there are more batch lines than the limits have.
     TooManyBatches = 12,
-    /// There are more bytes than [`MOST_BYTES`](crate::MOST_BYTES). No line is meant, and `parse`, which takes no more, never gives it.
+    /// There are more bytes than the limits have. No line is meant.
     TooLong = 13,
 }
 

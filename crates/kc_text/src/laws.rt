@@ -1,7 +1,7 @@
 //! The limits and the kinds of refusals, each as it is written, and what updates that decide are, as laws. A law is a function without
 //! a body, whose contract is the law. What a text means cites the limits and kinds by their names, so another number of one of them is
 //! refused here.
-ghost use Rattle.std.specs.Prelude.{◌≡◌, ◌<◌, ℕ, All, List, codes};
+ghost use Rattle.std.specs.Prelude.{◌≡◌, ◌<◌, ◌^◌, ℕ, All, List, codes};
 ghost use Rattle.std.specs.List.{list_any};
 ghost use Rattle.kc_graph.specs.declared.update.Update.{Update};
 ghost use Rattle.kc_text.specs.Inputs.{IsBatch};
@@ -10,15 +10,24 @@ ghost use Rattle.kc_text.specs.Kinds.{text_of};
 ghost use Rattle.kc_text.specs.declared.kind.Kind.TheVariants.{EdgeLineInBatch, ExtraField, LoopInBatch, MissingField, NotANumber, NumberTooLarge};
 ghost use Rattle.kc_text.specs.declared.kind.Kind.TheVariants.{TooLong, TooManyBatches, TooManyEdgeLines, TooManyUpdates, TooManyVertices};
 ghost use Rattle.kc_text.specs.declared.kind.Kind.TheVariants.{UpdateOutsideBatch};
-ghost use Rattle.kc_text.specs.declared.limits.TheConstants.{MOST_BATCHES, MOST_BYTES, MOST_EDGE_LINES, MOST_IDS, MOST_UPDATES};
+ghost use Rattle.kc_text.specs.declared.limits.TheConstants.Limits.{GRAPH, KCORE};
 
-/// How much of each thing a text may have.
+/// How much of each thing a text of the program `kcore` may have.
 pub fn a_text_has_these_limits()
-    ensures ids { MOST_IDS ≡ 524288 }
-    ensures edge_lines { MOST_EDGE_LINES ≡ 4194304 }
-    ensures updates { MOST_UPDATES ≡ 1048576 }
-    ensures batches { MOST_BATCHES ≡ 4096 }
-    ensures bytes { MOST_BYTES ≡ 67108864 }
+    ensures ids { KCORE.ids ≡ 524288 }
+    ensures edge_lines { KCORE.edge_lines ≡ 4194304 }
+    ensures updates { KCORE.updates ≡ 1048576 }
+    ensures batches { KCORE.batches ≡ 4096 }
+    ensures bytes { KCORE.bytes ≡ 67108864 }
+{}
+
+/// How much of each thing a text of a graph without batches may have.
+pub fn a_graph_has_these_limits()
+    ensures ids { GRAPH.ids ≡ 4294967294 }
+    ensures edge_lines { GRAPH.edge_lines ≡ 2 ^ 40 }
+    ensures updates { GRAPH.updates ≡ 0 }
+    ensures batches { GRAPH.batches ≡ 0 }
+    ensures bytes { GRAPH.bytes ≡ 9223372036854775807 }
 {}
 
 /// The number and the name of each kind of refusal, as a message has them. No kind has the number 6.

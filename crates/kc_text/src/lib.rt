@@ -47,7 +47,7 @@ ghost use Rattle.kc_text.specs.Overruling.{deciding, overruled};
 ghost use Rattle.kc_text.specs.declared.change.ChangeLine as change;
 ghost use Rattle.kc_text.specs.declared.kind.Kind.{Kind};
 ghost use Rattle.kc_text.specs.declared.refusal.Refusal.{Refusal};
-ghost use Rattle.kc_text.specs.declared.limits.TheConstants.{MOST_BATCHES, MOST_BYTES, MOST_IDS, MOST_UPDATES};
+ghost use Rattle.kc_text.specs.declared.limits.Limits.{Limits};
 
 use crate::finder::Finder;
 use crate::numbering::{batches_of, start_of};
@@ -58,8 +58,8 @@ pub use change::ChangeLine;
 pub use fault::ParseFault;
 pub use input::Input;
 pub use kind::Kind;
-pub use limits::{MOST_BATCHES, MOST_BYTES, MOST_EDGE_LINES, MOST_IDS, MOST_UPDATES};
-pub use overruling::{MOST_TO_DECIDE, decide};
+pub use limits::{Limits, MOST_BATCHES, MOST_BYTES, MOST_EDGE_LINES, MOST_IDS, MOST_UPDATES};
+pub use overruling::decide;
 pub use refusal::Refusal;
 pub use std::alloc::AllocError as NoMemory;
 use std::alloc::Global;
@@ -72,11 +72,11 @@ fn input_of(
     batches: &[Vec<ChangeLine>],
 ) -> Result<Input, NoMemory>
     requires ascending { IsStrictlyIncreasing ids.items }
-    requires few { length ids.items ≤ MOST_IDS }
+    requires few { length ids.items < 2 ^ 32 }
     requires edges { AreAmong ids.items (ends edges.now) }
     requires batches { All (λ batch. AreAmong ids.items (ends (map ends_of batch.items))) batches.now }
     requires apart { All (λ batch. All (λ c. c.a ≢ c.b) batch.items) batches.now }
-    requires short { All (λ batch. length batch.items ≤ MOST_UPDATES) batches.now }
+    requires short { All (λ batch. length batch.items < 2 ^ 32) batches.now }
     ensures ids { IfOk result (λ input. input.ids.items ≡ ids.items) }
     ensures start { IfOk result (λ input. AreEdges (start_graph ids.items edges.now) input.start.items) }
     ensures batches { IfOk result (λ input. map parts_of_batch input.batches.items ≡ map (λ batch. numbered_batch ids.items batch.items) batches.now) }
@@ -92,21 +92,30 @@ fn input_of(
     })
 }
 
-/// The input that a text of at most [`MOST_BYTES`] means.
+/// The whole text is refused, and no line is meant.
+const TOO_LONG: Refusal = Refusal {
+    line: 0,
+    kind: Kind::TooLong,
+};
+
+/// The input that a text means within limits.
 ///
-/// `Refused` comes exactly where a line is refused, with the first such line and the first check that it fails; `NoMemory` where there
-/// is no memory to read the text. No two updates of a batch are of one edge, so it doesn't matter in which order they are applied.
-pub fn parse(alloc: Global, bytes: &[u8]) -> Result<Input, ParseFault>
-    requires { length bytes.now ≤ MOST_BYTES }
-    ensures input { IfOk result (λ input. (told : Told) × (meaning bytes.now ≡ Means told) × IsInput told input) }
-    ensures few { IfOk result (λ input. length input.ids.items ≤ MOST_IDS) }
-    ensures few_batches { IfOk result (λ input. length input.batches.items ≤ MOST_BATCHES) }
-    ensures short { IfOk result (λ input. All (λ batch. length batch.updates.items ≤ MOST_UPDATES) input.batches.items) }
-    ensures counts { IfOk result (λ input. All (λ batch. batch.overruled ≤ MOST_UPDATES) input.batches.items) }
+/// `Refused` comes exactly where the text is too long, or else where a line is refused, with the first such line and the first check
+/// that it fails; `NoMemory` where there is no memory to read the text. No two updates of a batch are of one edge, so it doesn't matter
+/// in which order they are applied.
+pub fn parse(alloc: Global, limits: Limits, bytes: &[u8]) -> Result<Input, ParseFault>
+    ensures input { IfOk result (λ input. (told : Told) × (meaning limits bytes.now ≡ Means told) × IsInput told input) }
+    ensures few { IfOk result (λ input. length input.ids.items ≤ limits.ids) }
+    ensures few_batches { IfOk result (λ input. length input.batches.items ≤ limits.batches) }
+    ensures short { IfOk result (λ input. All (λ batch. length batch.updates.items ≤ limits.updates) input.batches.items) }
+    ensures counts { IfOk result (λ input. All (λ batch. batch.overruled ≤ limits.updates) input.batches.items) }
     ensures batches { IfOk result (λ input. All (λ batch. IsBatch (length input.ids.items) batch.updates.items) input.batches.items) }
-    ensures refused { (r : Refusal) → IsErrOf result (ParseFault.Refused r) → meaning bytes.now ≡ Refuses r.line r.kind }
+    ensures refused { (r : Refusal) → IsErrOf result (ParseFault.Refused r) → meaning limits bytes.now ≡ Refuses r.line r.kind }
 {
-    let reading = read_text(alloc, bytes)?;
+    if bytes.len() > limits.bytes {
+        return Err(ParseFault::Refused(TOO_LONG));
+    }
+    let reading = read_text(alloc, &limits, bytes)?;
     if let Some(refusal) = reading.refusal {
         return Err(ParseFault::Refused(refusal));
     }
@@ -123,8 +132,10 @@ pub fn a_batch_decides_each_pair_once()
 /// A text means what it means by a stricter rule, by which a line that names a pair of its batch again ends the reading: just where no
 /// batch names a pair twice does that rule come to the end, and then each change decides. What is refused by that rule is refused.
 pub fn what_names_each_edge_once_means_the_same()
-    ensures same { (bytes : List ℕ) (told : Told) → (strict_meaning bytes ≡ Tells told) ↔ ((meaning bytes ≡ Means told) × All NamesOnce (batches told)) }
-    ensures all_decide { (bytes : List ℕ) (told : Told) → strict_meaning bytes ≡ Tells told
+    ensures same { (limits : Limits) (bytes : List ℕ) (told : Told)
+        → (strict_meaning limits bytes ≡ Tells told) ↔ ((meaning limits bytes ≡ Means told) × All NamesOnce (batches told)) }
+    ensures all_decide { (limits : Limits) (bytes : List ℕ) (told : Told) → strict_meaning limits bytes ≡ Tells told
         → All (λ batch. (deciding batch ≡ batch) × (overruled batch ≡ 0)) (batches told) }
-    ensures refused { (bytes : List ℕ) (line : ℕ) (kind : Kind) → strict_meaning bytes ≡ Ends line (IsRefused kind) → meaning bytes ≡ Refuses line kind }
+    ensures refused { (limits : Limits) (bytes : List ℕ) (line : ℕ) (kind : Kind)
+        → strict_meaning limits bytes ≡ Ends line (IsRefused kind) → meaning limits bytes ≡ Refuses line kind }
 {}

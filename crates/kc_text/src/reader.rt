@@ -11,7 +11,7 @@ ghost use Rattle.kc_text.specs.Readers.{told_by, Gains, HasIds, IsExact, ReaderK
 use crate::NoMemory;
 use crate::change::ChangeLine;
 use crate::kind::Kind;
-use crate::limits::{MOST_BATCHES, MOST_EDGE_LINES, MOST_IDS, MOST_UPDATES};
+use crate::limits::Limits;
 use crate::line::TextLine;
 use crate::look::Look;
 use std::alloc::Global;
@@ -53,14 +53,14 @@ fn count_ids(ids: &mut Option<HashSet<u32>>, a: u32, b: u32) -> Result<(), NoMem
     Ok(())
 }
 
-/// Whether ids are counted line by line and there are too many.
-fn are_over(ids: &Option<HashSet<u32>>) -> bool
-    ensures over { result ≡ is_over ids.now }
+/// Whether ids are counted line by line and there are more than the limit.
+fn are_over(limit: u32, ids: &Option<HashSet<u32>>) -> bool
+    ensures over { result ≡ is_over limit ids.now }
     ensures unique { IfSome ids.now (IsUnique nat_eq) }
 {
     match ids {
         None => false,
-        Some(ids) => ids.len() > MOST_IDS,
+        Some(ids) => ids.len() > limit as usize,
     }
 }
 
@@ -128,31 +128,36 @@ impl Reader {
     }
 
     /// Takes what one line says, or gives the cause if the line is refused.
-    pub(crate) fn take(&mut self, alloc: Global, line: TextLine) -> Result<Option<Kind>, NoMemory>
+    pub(crate) fn take(
+        &mut self,
+        alloc: Global,
+        limits: &Limits,
+        line: TextLine,
+    ) -> Result<Option<Kind>, NoMemory>
         requires kept { ReaderKeeps self.old }
-        requires few { self.old.changes < 2 ^ 32 }
+        requires few { self.old.changes < 2 ^ 63 }
         ensures kept { IfOk result (λ cause. cause ≡ None → ReaderKeeps self.new) }
         ensures told { IfOk result (λ cause. cause ≡ None → told_by self.new ≡ with_line (told_by self.old) line) }
-        ensures refused { IfOk result (λ cause. IsExact self.new → cause ≡ refusal (told_by self.old) line) }
-        ensures exact { OnOk result (IsExact self.new → IsExact self.old) }
+        ensures refused { IfOk result (λ cause. IsExact limits.now self.new → cause ≡ refusal limits.now (told_by self.old) line) }
+        ensures exact { OnOk result (IsExact limits.now self.new → IsExact limits.now self.old) }
         ensures looks { OnOk result (is_some self.new.ids ≡ is_some self.old.ids) }
         ensures grows { OnOk result (self.new.changes ≤ self.old.changes + 1) }
     {
         match line {
             TextLine::Nothing => Ok(None),
-            TextLine::Edge(a, b) => self.take_edge(a, b),
-            TextLine::Batch => self.take_batch(alloc),
-            TextLine::Change(change) => self.take_change(change),
+            TextLine::Edge(a, b) => self.take_edge(limits, a, b),
+            TextLine::Batch => self.take_batch(alloc, limits),
+            TextLine::Change(change) => self.take_change(limits, change),
             TextLine::Wrong(kind) => Ok(Some(kind)),
         }
     }
 
-    fn take_edge(&mut self, a: u32, b: u32) -> Result<Option<Kind>, NoMemory>
+    fn take_edge(&mut self, limits: &Limits, a: u32, b: u32) -> Result<Option<Kind>, NoMemory>
         requires { ReaderKeeps self.old }
         ensures kept { IfOk result (λ cause. cause ≡ None → ReaderKeeps self.new) }
         ensures told { IfOk result (λ cause. cause ≡ None → told_by self.new ≡ with_line (told_by self.old) (said.Edge a b)) }
-        ensures refused { IfOk result (λ cause. IsExact self.new → cause ≡ refusal (told_by self.old) (said.Edge a b)) }
-        ensures exact { OnOk result (IsExact self.new → IsExact self.old) }
+        ensures refused { IfOk result (λ cause. IsExact limits.now self.new → cause ≡ refusal limits.now (told_by self.old) (said.Edge a b)) }
+        ensures exact { OnOk result (IsExact limits.now self.new → IsExact limits.now self.old) }
         ensures looks { OnOk result (is_some self.new.ids ≡ is_some self.old.ids) }
         ensures same { OnOk result (self.new.changes ≡ self.old.changes) }
     {
@@ -161,30 +166,30 @@ impl Reader {
         }
         self.edges.push((a, b))?;
         count_ids(&mut self.ids, a, b)?;
-        Ok(self.passed_limit())
+        Ok(self.passed_limit(limits))
     }
 
-    fn take_batch(&mut self, alloc: Global) -> Result<Option<Kind>, NoMemory>
+    fn take_batch(&mut self, alloc: Global, limits: &Limits) -> Result<Option<Kind>, NoMemory>
         requires { ReaderKeeps self.old }
         ensures kept { OnOk result (ReaderKeeps self.new) }
         ensures told { OnOk result (told_by self.new ≡ with_line (told_by self.old) said.Batch) }
-        ensures refused { IfOk result (λ cause. IsExact self.new → cause ≡ refusal (told_by self.old) said.Batch) }
-        ensures exact { OnOk result (IsExact self.new → IsExact self.old) }
+        ensures refused { IfOk result (λ cause. IsExact limits.now self.new → cause ≡ refusal limits.now (told_by self.old) said.Batch) }
+        ensures exact { OnOk result (IsExact limits.now self.new → IsExact limits.now self.old) }
         ensures looks { OnOk result (is_some self.new.ids ≡ is_some self.old.ids) }
         ensures same { OnOk result (self.new.changes ≡ self.old.changes) }
     {
         let before = self.last.replace(Vec::new(alloc));
         close(&mut self.earlier, before)?;
-        Ok(self.passed_limit())
+        Ok(self.passed_limit(limits))
     }
 
-    fn take_change(&mut self, change: ChangeLine) -> Result<Option<Kind>, NoMemory>
+    fn take_change(&mut self, limits: &Limits, change: ChangeLine) -> Result<Option<Kind>, NoMemory>
         requires kept { ReaderKeeps self.old }
-        requires few { self.old.changes < 2 ^ 32 }
+        requires few { self.old.changes < 2 ^ 63 }
         ensures kept { IfOk result (λ cause. cause ≡ None → ReaderKeeps self.new) }
         ensures told { IfOk result (λ cause. cause ≡ None → told_by self.new ≡ with_line (told_by self.old) (said.Change change)) }
-        ensures refused { IfOk result (λ cause. IsExact self.new → cause ≡ refusal (told_by self.old) (said.Change change)) }
-        ensures exact { OnOk result (IsExact self.new → IsExact self.old) }
+        ensures refused { IfOk result (λ cause. IsExact limits.now self.new → cause ≡ refusal limits.now (told_by self.old) (said.Change change)) }
+        ensures exact { OnOk result (IsExact limits.now self.new → IsExact limits.now self.old) }
         ensures looks { OnOk result (is_some self.new.ids ≡ is_some self.old.ids) }
         ensures grows { OnOk result (self.new.changes ≤ self.old.changes + 1) }
     {
@@ -193,7 +198,7 @@ impl Reader {
         }
         self.changes += 1;
         count_ids(&mut self.ids, change.a, change.b)?;
-        Ok(self.passed_limit())
+        Ok(self.passed_limit(limits))
     }
 
     /// The edges of the edge lines and the changes of the batches.
@@ -213,15 +218,15 @@ impl Reader {
     }
 
     /// The first limit that is passed.
-    fn passed_limit(&self) -> Option<Kind>
+    fn passed_limit(&self, limits: &Limits) -> Option<Kind>
         requires { ReaderKeeps self.now }
-        ensures { IsExact self.now → result ≡ passed_limit (told_by self.now) }
+        ensures { IsExact limits.now self.now → result ≡ passed_limit limits.now (told_by self.now) }
     {
         first_limit(
-            are_over(&self.ids),
-            self.edges.len() > MOST_EDGE_LINES,
-            self.changes > MOST_UPDATES,
-            self.batches() > MOST_BATCHES,
+            are_over(limits.ids, &self.ids),
+            self.edges.len() > limits.edge_lines,
+            self.changes > limits.updates as usize,
+            self.batches() > limits.batches as usize,
         )
     }
 }

@@ -4,12 +4,11 @@ ghost use Rattle.kc_text.specs.Forms.{all_said};
 ghost use Rattle.kc_text.specs.Meaning.{Told, meaning, nothing_told, reading};
 ghost use Rattle.kc_text.specs.Readers.{told_by, IsExact, ReaderKeeps, outcome};
 ghost use Rattle.kc_text.specs.Readings.{IsEnd, IsReading};
-ghost use Rattle.kc_text.specs.declared.limits.TheConstants.{MOST_IDS, MOST_BYTES};
 
 use crate::NoMemory;
 use crate::change::ChangeLine;
 use crate::ids::ids_of;
-use crate::limits::MOST_IDS;
+use crate::limits::Limits;
 use crate::line::next_line;
 use crate::look::Look;
 use crate::reader::Reader;
@@ -30,18 +29,23 @@ pub(crate) struct Reading {
 }
 
 /// Reads line after line, up to the first that is refused.
-fn read_lines(alloc: Global, reader: &mut Reader, bytes: &[u8]) -> Result<Option<Refusal>, NoMemory>
+fn read_lines(
+    alloc: Global,
+    limits: &Limits,
+    reader: &mut Reader,
+    bytes: &[u8],
+) -> Result<Option<Refusal>, NoMemory>
     requires fresh { told_by reader.old ≡ nothing_told }
     requires kept { ReaderKeeps reader.old }
-    requires few { length bytes.now ≤ MOST_BYTES }
-    ensures exact { IfOk result (λ refusal. IsExact reader.new → reading 0 nothing_told (all_said bytes.now) ≡ outcome (told_by reader.new) refusal) }
+    ensures exact { IfOk result (λ refusal. IsExact limits.now reader.new
+        → reading limits.now 0 nothing_told (all_said bytes.now) ≡ outcome (told_by reader.new) refusal) }
     ensures looks { OnOk result (is_some reader.new.ids ≡ is_some reader.old.ids) }
 {
     let mut rest = bytes;
-    let mut line = 0u32;
+    let mut line = 0u64;
     while let Some((said, more)) = next_line(rest) {
         line += 1;
-        if let Some(kind) = reader.take(alloc, said)? {
+        if let Some(kind) = reader.take(alloc, limits, said)? {
             return Ok(Some(Refusal { line, kind }));
         }
         rest = more;
@@ -49,12 +53,12 @@ fn read_lines(alloc: Global, reader: &mut Reader, bytes: &[u8]) -> Result<Option
     Ok(None)
 }
 
-fn read(alloc: Global, look: Look, bytes: &[u8]) -> Result<Reading, NoMemory>
-    requires { length bytes.now ≤ MOST_BYTES }
-    ensures { IfOk result (λ reading. (told : Told) × IsReading told reading × IsEnd look bytes.now told reading) }
+fn read(alloc: Global, limits: &Limits, look: Look, bytes: &[u8]) -> Result<Reading, NoMemory>
+    requires { length bytes.now ≤ limits.now.bytes }
+    ensures { IfOk result (λ reading. (told : Told) × IsReading told reading × IsEnd limits.now look bytes.now told reading) }
 {
     let mut reader = Reader::new(alloc, look);
-    let refusal = read_lines(alloc, &mut reader, bytes)?;
+    let refusal = read_lines(alloc, limits, &mut reader, bytes)?;
     let (edges, batches) = reader.into_lists()?;
     let ids = ids_of(alloc, &edges, &batches)?;
     Ok(Reading {
@@ -67,14 +71,14 @@ fn read(alloc: Global, look: Look, bytes: &[u8]) -> Result<Reading, NoMemory>
 
 /// Reads the text. The different ids are counted when all is read. Only where there are too many, a second reading counts them at each
 /// line, to find the first line that is refused.
-pub(crate) fn read_text(alloc: Global, bytes: &[u8]) -> Result<Reading, NoMemory>
-    requires { length bytes.now ≤ MOST_BYTES }
-    ensures { IfOk result (λ reading. (told : Told) × IsReading told reading × (meaning bytes.now ≡ outcome told reading.refusal)) }
+pub(crate) fn read_text(alloc: Global, limits: &Limits, bytes: &[u8]) -> Result<Reading, NoMemory>
+    requires { length bytes.now ≤ limits.now.bytes }
+    ensures { IfOk result (λ reading. (told : Told) × IsReading told reading × (meaning limits.now bytes.now ≡ outcome told reading.refusal)) }
 {
-    let reading = read(alloc, Look::Quick, bytes)?;
-    if reading.ids.len() <= MOST_IDS {
+    let reading = read(alloc, limits, Look::Quick, bytes)?;
+    if reading.ids.len() <= limits.ids as usize {
         return Ok(reading);
     }
     drop(reading);
-    read(alloc, Look::Exact, bytes)
+    read(alloc, limits, Look::Exact, bytes)
 }

@@ -5,6 +5,6 @@ use crate::kind::Kind;
 #[derive(Clone, Copy, Debug, PartialEq, Eq)]
 pub struct Refusal {
     /// The line's number, from 1; 0 where no line is meant.
-    pub line: u32,
+    pub line: u64,
     pub kind: Kind,
 }

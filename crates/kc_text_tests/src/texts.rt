@@ -1,8 +1,8 @@
 //! What texts give: ids and edges, or the refused line.
-ghost use Rattle.std.specs.Prelude.{◌<◌, ◌≤◌, length};
+ghost use Rattle.std.specs.Prelude.{◌<◌};
 
 use kc_graph::Update;
-use kc_text::{Kind, ParseFault, Refusal, parse};
+use kc_text::{Kind, Limits, ParseFault, Refusal, parse};
 use std::process::Abort;
 use std::test::Fail;
 
@@ -12,28 +12,35 @@ fn check_input<R: Abort + AllocGlobal>(
     text: &[u8],
     ids: &[u32],
     start: &[(u32, u32)],
-) -> Result<(), Fail>
-    requires { length text.now ≤ 67108864 }
-{
-    let input = parse(rt.alloc(), text).map_err(|_| "refused")?;
+) -> Result<(), Fail> {
+    let input = parse(rt.alloc(), Limits::KCORE, text).map_err(|_| "refused")?;
     assert_eq!(rt; input.ids.as_slice(), ids);
     assert_eq!(rt; input.start.as_slice(), start);
     assert_eq!(rt; input.batches.len(), 0);
     Ok(())
 }
 
-/// Checks which line of a text is refused, and why.
+/// Checks which line of a text is refused within limits, and why.
+fn check_passed<R: Abort + AllocGlobal>(
+    rt: &R,
+    limits: Limits,
+    text: &[u8],
+    line: u64,
+    kind: Kind,
+) -> Result<(), Fail> {
+    let fault = parse(rt.alloc(), limits, text).err().ok_or("accepted")?;
+    assert_eq!(rt; fault, ParseFault::Refused(Refusal { line, kind }));
+    Ok(())
+}
+
+/// Checks which line of a text is refused within the limits of `kcore`, and why.
 fn check_refusal<R: Abort + AllocGlobal>(
     rt: &R,
     text: &[u8],
-    line: u32,
+    line: u64,
     kind: Kind,
-) -> Result<(), Fail>
-    requires { length text.now ≤ 67108864 }
-{
-    let fault = parse(rt.alloc(), text).err().ok_or("accepted")?;
-    assert_eq!(rt; fault, ParseFault::Refused(Refusal { line, kind }));
-    Ok(())
+) -> Result<(), Fail> {
+    check_passed(rt, Limits::KCORE, text, line, kind)
 }
 
 #[test]
@@ -81,7 +88,7 @@ fn update(add: bool, u: u32, v: u32) -> Update
 #[test]
 fn batches(rt: HostRuntime) -> Result<(), Fail> {
     let text = b"5 9\nbatch\n+ 7 5\n- 9 5\n\nbatch\nbatch\n+ 5 9\n";
-    let input = parse(rt.alloc(), text).map_err(|_| "refused")?;
+    let input = parse(rt.alloc(), Limits::KCORE, text).map_err(|_| "refused")?;
     assert_eq!(rt; input.ids.as_slice(), [5, 7, 9].as_slice());
     assert_eq!(rt; input.start.as_slice(), [(0, 2)].as_slice());
     assert_eq!(rt; input.batches.len(), 3);
@@ -115,7 +122,7 @@ fn wrong_batches(rt: HostRuntime) -> Result<(), Fail> {
 fn the_last_line_of_a_pair_decides(rt: HostRuntime) -> Result<(), Fail> {
     let text =
         b"1 2\n2 3\nbatch\n+ 1 3\n+ 0 4294967295\n- 3 1\n- 1 2\n+ 4294967295 0\n+ 3 1\nbatch\n- 3 1\n";
-    let input = parse(rt.alloc(), text).map_err(|_| "refused")?;
+    let input = parse(rt.alloc(), Limits::KCORE, text).map_err(|_| "refused")?;
     assert_eq!(rt; input.ids.as_slice(), [0, 1, 2, 3, 4294967295].as_slice());
     assert_eq!(rt; input.batches.len(), 2);
     let updates = [update(false, 1, 2), update(true, 0, 4), update(true, 1, 3)];
@@ -138,6 +145,48 @@ fn too_many_batches(rt: HostRuntime) -> Result<(), Fail> {
     let text = text.as_slice();
     assert_eq!(rt; text.len(), 4097 * 6);
     check_refusal(&rt, text, 4097, Kind::TooManyBatches)
+}
+
+/// Limits that a short text reaches.
+const SMALL: Limits = Limits {
+    ids: 3,
+    edge_lines: 2,
+    updates: 2,
+    batches: 1,
+    bytes: 26,
+};
+
+#[test]
+fn each_limit_may_be_reached_and_not_passed(rt: HostRuntime) -> Result<(), Fail> {
+    let reached = b"1 2\n2 3\nbatch\n+ 1 3\n- 1 2\n";
+    let input = parse(rt.alloc(), SMALL, reached).map_err(|_| "refused")?;
+    assert_eq!(rt; input.ids.len(), 3);
+    let passed = [
+        (b"1 2\n3 4\n".as_slice(), 2, Kind::TooManyVertices),
+        (b"# 9\n1 2\n\nbatch\n+ 3 4\n", 5, Kind::TooManyVertices),
+        (b"1 2\n1 3\n3 4\n", 3, Kind::TooManyVertices),
+        (b"1 2\n1 2\n2 1\n", 3, Kind::TooManyEdgeLines),
+        (b"batch\n+ 1 2\n- 1 2\n+ 1 2\n", 4, Kind::TooManyUpdates),
+        (b"batch\nbatch\n", 2, Kind::TooManyBatches),
+        (b"1 2\n2 3\nbatch\n+ 1 3\n- 1 2\n\n", 0, Kind::TooLong),
+        (b"x\n1 2\n3 4\n5 6\n7 8\n9 0\n1 2\n3", 0, Kind::TooLong),
+    ];
+    for (text, line, kind) in passed {
+        check_passed(&rt, SMALL, text, line, kind)?;
+    }
+    Ok(())
+}
+
+#[test]
+fn a_graph_has_no_batches(rt: HostRuntime) -> Result<(), Fail> {
+    check_passed(&rt, Limits::GRAPH, b"1 2\nbatch\n", 2, Kind::TooManyBatches)?;
+    check_passed(
+        &rt,
+        Limits::GRAPH,
+        b"1 2\n+ 1 3\n",
+        2,
+        Kind::UpdateOutsideBatch,
+    )
 }
 
 #[test]

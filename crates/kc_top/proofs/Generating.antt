@@ -2,6 +2,7 @@
 use Rattle.std.proofs.Common.{◌≡◌, ℕ, List, Option, None, Some, IfSome, is_some, true, refl, sym, ap, ◌∙◌}
 use Rattle.kc_report.specs.Generator.{generated}
 use Rattle.kc_report.proofs.Accepted.{told-generated}
+use Rattle.kc_text.specs.declared.limits.TheConstants.Limits.{KCORE}
 use Rattle.kc_text.specs.Meaning.{Means, Refuses, meaning}
 use Rattle.kc_top.specs.Given.{generated_or}
 use Rattle.kc_top.specs.Stops.{IsRefusalOf}
@@ -12,7 +13,7 @@ use Rattle.kc_top.specs.declared.ending.Stop.TheVariants as stop
 only_memory : (number : ℕ) (bytes : List ℕ) (s : Stop) → bytes ≡ generated number → IsRefusalOf s bytes → s ≡ stop.NoMemory
 only_memory number bytes (stop.Refused line) same (n, kind, text, means) =
     let (told, is) = told-generated number in
-    let both : Means told ≡ Refuses n kind = sym is.means ∙ ap meaning (sym same) ∙ means in
+    let both : Means told ≡ Refuses n kind = sym is.means ∙ ap (meaning KCORE) (sym same) ∙ means in
     absurd (cc)
 only_memory number bytes stop.NoMemory same h = refl
 only_memory number bytes stop.Usage same h = absurd h

@@ -9,6 +9,7 @@ use Rattle.kc_io.specs.FirstPiece.{KeepsFirst}
 use Rattle.kc_io.specs.declared.sink.Sink as sinks
 use Rattle.kc_io.specs.declared.source.Source as sources
 use Rattle.kc_text.specs.declared.kind.Kind.{Kind}
+use Rattle.kc_text.specs.declared.limits.TheConstants.Limits.{KCORE}
 use Rattle.kc_text.specs.Meaning.{Means, Refuses, Told, meaning}
 use Rattle.kc_run.specs.declared.ran.Ran.{Ran}
 use Rattle.kc_output.specs.declared.setting.Setting.{Setting}
@@ -27,22 +28,22 @@ use Rattle.kc_top.proofs.Stopping.{IsAnswer-of, RoseOnlyAt-read, RoseOnlyAt-writ
 
 -- these bytes are refused
 abbrev AreRefused : List ℕ → Type 0
-AreRefused bytes = (n : ℕ) × (kind : Kind) × (meaning bytes ≡ Refuses n kind)
+AreRefused bytes = (n : ℕ) × (kind : Kind) × (meaning KCORE bytes ≡ Refuses n kind)
 
 -- bytes are not both an input and refused
-clash : (bytes : List ℕ) (told : Told) (n : ℕ) (kind : Kind) → meaning bytes ≡ Means told → meaning bytes ≡ Refuses n kind → ⊥
+clash : (bytes : List ℕ) (told : Told) (n : ℕ) (kind : Kind) → meaning KCORE bytes ≡ Means told → meaning KCORE bytes ≡ Refuses n kind → ⊥
 clash bytes told n kind means refuses = absurd (cc)
 
 -- bytes that have an answer are an input
 answer-means : (asked : Option Setting) (input : Option (List ℕ)) (text bytes : List ℕ) → IsAnswer asked input text → input ≡ Some bytes
-    → (told : Told) × (meaning bytes ≡ Means told)
+    → (told : Told) × (meaning KCORE bytes ≡ Means told)
 answer-means asked input text bytes a known =
     let same : a.bytes ≡ bytes = subst (λ (i : Option (List ℕ)). IfSome i (λ all. a.bytes ≡ all)) known a.read in
-    (a.is.told, ap meaning (sym same) ∙ a.is.means)
+    (a.is.told, ap (meaning KCORE) (sym same) ∙ a.is.means)
 
 -- a run at right words whose input is refused ends by the refusal, or before it
 refuses-of : (end : Status) (asked : Option Setting) (input before after : Option (List ℕ)) (bytes : List ℕ) (n : ℕ) (kind : Kind)
-    → (end ≡ status.Usage → ⊥) → Took end asked input before after → input ≡ Some bytes → meaning bytes ≡ Refuses n kind
+    → (end ≡ status.Usage → ⊥) → Took end asked input before after → input ≡ Some bytes → meaning KCORE bytes ≡ Refuses n kind
     → (end ≡ status.Refused) ⊎ (end ≡ status.ReadFault) ⊎ (end ≡ status.NoMemory)
 refuses-of status.Done asked input before after bytes n kind right took known refuses =
     let (told, means) = answer-means asked input took.text bytes took.answer known in absurd (clash bytes told n kind means refuses)
@@ -55,7 +56,7 @@ refuses-of status.NoMemory asked input before after bytes n kind right took know
 
 -- a run at right words whose input is right is not refused
 complete-of : (end : Status) (input : Option (List ℕ)) (bytes : List ℕ) (told : Told) → (end ≡ status.Usage → ⊥)
-    → (end ≡ status.Refused → IfSome input AreRefused) → input ≡ Some bytes → meaning bytes ≡ Means told
+    → (end ≡ status.Refused → IfSome input AreRefused) → input ≡ Some bytes → meaning KCORE bytes ≡ Means told
     → (end ≡ status.Done) ⊎ (end ≡ status.ReadFault) ⊎ (end ≡ status.WriteFault) ⊎ (end ≡ status.NoMemory)
 complete-of status.Done input bytes told right refused known means = inl refl
 complete-of status.ReadFault input bytes told right refused known means = inr (inl refl)
@@ -91,7 +92,7 @@ offered-nothing stop.Usage asked input first f f' h = absurd h
 offered-nothing stop.WriteFault asked input first f f' h = absurd h
 
 -- bytes that are refused with this line are refused
-are-refused : (input : Option (List ℕ)) (n : ℕ) (kind : Kind) → IfSome input (λ bytes. meaning bytes ≡ Refuses n kind) → IfSome input AreRefused
+are-refused : (input : Option (List ℕ)) (n : ℕ) (kind : Kind) → IfSome input (λ bytes. meaning KCORE bytes ≡ Refuses n kind) → IfSome input AreRefused
 are-refused None n kind h = tt
 are-refused (Some bytes) n kind h = (n, kind, h)
 

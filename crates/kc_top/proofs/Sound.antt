@@ -5,6 +5,7 @@ use Rattle.std.proofs.lemmas.List.{length-map}
 use Rattle.std.proofs.lemmas.List.Sums.{sum_by-cons}
 use Rattle.kc_graph.specs.declared.update.Update.{Update}
 use Rattle.kc_text.specs.Inputs.{EdgeBatch, IsInput, numbered_batch, numbered_change, parts_of, parts_of_batch, start_graph}
+use Rattle.kc_text.specs.declared.limits.TheConstants.Limits.{KCORE}
 use Rattle.kc_text.specs.Meaning.{Means, Told, batches, meaning}
 use Rattle.kc_text.specs.Overruling.{deciding}
 use Rattle.kc_text.specs.declared.batch.Batch.{Batch}
@@ -55,7 +56,7 @@ few-decide ids (m ∷ made) (b ∷ told) e =
     )
 
 -- an input has no more updates than a text may have changes
-pub few_updates : (bytes : List ℕ) (told : Told) (input : Input) → meaning bytes ≡ Means told → IsInput told input
+pub few_updates : (bytes : List ℕ) (told : Told) (input : Input) → meaning KCORE bytes ≡ Means told → IsInput told input
     → update_count (updates_of input.batches.items) ≤ MOST_UPDATES
 few_updates bytes told input means is =
-    omega (arith, few-decide input.ids.items input.batches.items (batches told) is.batches, (meaning-fit bytes told means).within.changes)
+    omega (arith, few-decide input.ids.items input.batches.items (batches told) is.batches, (meaning-fit KCORE bytes told means).within.changes)

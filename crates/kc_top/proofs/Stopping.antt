@@ -5,6 +5,7 @@ use Rattle.std.specs.Io.KnownBytes.{Appends}
 use Rattle.kc_text.specs.declared.kind.Kind.{Kind}
 use Rattle.kc_text.specs.declared.kind.Kind.TheVariants.{TooLong}
 use Rattle.kc_text.specs.Forms.{all_said}
+use Rattle.kc_text.specs.declared.limits.TheConstants.Limits.{KCORE}
 use Rattle.kc_text.specs.Meaning.{Refuses, meaning, nothing_told, reading}
 use Rattle.kc_run.specs.declared.ran.Ran.{Ran}
 use Rattle.kc_top.specs.Faults.{RoseOnlyAt}
@@ -17,11 +18,10 @@ use Rattle.kc_output.specs.declared.setting.Setting.{Setting}
 use Rattle.kc_top.specs.declared.ending.Stop.{Stop}
 use Rattle.kc_top.specs.declared.ending.Stop.TheVariants as stop
 use Rattle.kc_output.proofs.Existence.{output_exists}
-use Rattle.kc_text.specs.declared.limits.TheConstants.{MOST_BYTES}
 
 -- a stop at a refusal says why there is no text
 pub HasNoText-refused : (s : Stop) (n : ℕ) (kind : Kind) (input : Option (List ℕ)) (f f' : ℕ) → TellsRefusal s n kind
-    → IfSome input (λ bytes. meaning bytes ≡ Refuses n kind) → f' ≡ f → HasNoText s input f f'
+    → IfSome input (λ bytes. meaning KCORE bytes ≡ Refuses n kind) → f' ≡ f → HasNoText s input f f'
 HasNoText-refused (stop.Refused line) n kind input f f' h m kept = (n, kind, h, m, kept)
 HasNoText-refused stop.NoMemory n kind input f f' h m kept = kept
 HasNoText-refused stop.Usage n kind input f f' h m kept = absurd h
@@ -34,7 +34,7 @@ told_is P None bytes h p = tt
 told_is P (Some all) bytes h p = subst P h p
 
 -- a stop at a refusal of these bytes says why they give no input
-pub IsRefusalOf-refused : (s : Stop) (n : ℕ) (kind : Kind) (bytes : List ℕ) → TellsRefusal s n kind → meaning bytes ≡ Refuses n kind → IsRefusalOf s bytes
+pub IsRefusalOf-refused : (s : Stop) (n : ℕ) (kind : Kind) (bytes : List ℕ) → TellsRefusal s n kind → meaning KCORE bytes ≡ Refuses n kind → IsRefusalOf s bytes
 IsRefusalOf-refused (stop.Refused line) n kind bytes h m = (n, kind, h, m)
 IsRefusalOf-refused stop.NoMemory n kind bytes h m = tt
 IsRefusalOf-refused stop.Usage n kind bytes h m = absurd h
@@ -45,16 +45,17 @@ IsRefusalOf-refused stop.WriteFault n kind bytes h m = absurd h
 pub HasNoText-bytes : (s : Stop) (bytes : List ℕ) (input : Option (List ℕ)) (f f' : ℕ) → IsRefusalOf s bytes → IfSome input (λ all. bytes ≡ all)
     → f' ≡ f → HasNoText s input f f'
 HasNoText-bytes (stop.Refused line) bytes input f f' (n, kind, told, means) known kept =
-    (n, kind, told, told_is (λ b. meaning b ≡ Refuses n kind) input bytes known means, kept)
+    (n, kind, told, told_is (λ b. meaning KCORE b ≡ Refuses n kind) input bytes known means, kept)
 HasNoText-bytes stop.NoMemory bytes input f f' h known kept = kept
 HasNoText-bytes stop.Usage bytes input f f' h known kept = absurd h
 HasNoText-bytes stop.ReadFault bytes input f f' h known kept = absurd h
 HasNoText-bytes stop.WriteFault bytes input f f' h known kept = absurd h
 
 -- too many bytes are refused as a whole
-pub too_long_refuses : (input : Option (List ℕ)) → IfSome input (λ all. MOST_BYTES < length all) → IfSome input (λ bytes. meaning bytes ≡ Refuses 0 TooLong)
+pub too_long_refuses : (input : Option (List ℕ)) → IfSome input (λ all. KCORE.bytes < length all)
+    → IfSome input (λ bytes. meaning KCORE bytes ≡ Refuses 0 TooLong)
 too_long_refuses None h = tt
-too_long_refuses (Some all) h = ap (λ b. cond b (Refuses 0 TooLong) (reading 0 nothing_told (all_said all))) (lt-ltb MOST_BYTES (length all) h)
+too_long_refuses (Some all) h = ap (λ b. cond b (Refuses 0 TooLong) (reading KCORE 0 nothing_told (all_said all))) (lt-ltb KCORE.bytes (length all) h)
 
 -- a text is not empty
 pub some_text : (setting : Setting) (bytes text : List ℕ) → IsTextOf setting bytes text → 0 < length text
@@ -63,7 +64,7 @@ some_text setting bytes text h = omega (arith, ap length h.written.is)
 -- whatever the words ask for, there is an output
 output_of : (asked : Option Setting) (bytes : List ℕ) → (text : List ℕ) × IsOutputOf asked bytes text
 output_of None bytes = ([], refl)
-output_of (Some setting) bytes = output_exists setting (meaning bytes)
+output_of (Some setting) bytes = output_exists setting (meaning KCORE bytes)
 
 -- nothing is a prefix of every output
 pub TookSome-nothing : (asked : Option Setting) (input before after : Option (List ℕ)) → Appends before after [] → TookSome asked input before after

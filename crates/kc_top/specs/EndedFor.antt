@@ -4,6 +4,7 @@ use Rattle.std.specs.Io.KnownBytes.{IsAtEnd}
 use Rattle.kc_io.specs.declared.sink.Sink as sinks
 use Rattle.kc_io.specs.declared.source.Source as sources
 use Rattle.kc_text.specs.declared.kind.Kind.{Kind}
+use Rattle.kc_text.specs.declared.limits.TheConstants.Limits.{KCORE}
 use Rattle.kc_text.specs.Meaning.{Means, Refuses, Told, meaning}
 use Rattle.kc_run.specs.declared.ran.Ran.{Ran}
 use Rattle.kc_output.specs.declared.setting.Setting.{Setting}
@@ -32,12 +33,12 @@ pub record EndedFor {S O : Type 0} (source : sources.Ghosts S) (out : sinks.Ghos
   -- When each status comes. A fault of the source or of the output comes at its own status alone.
   pub read_fault : RoseOnlyAt status.ReadFault end (source.faults s) (source.faults s')
   pub write_fault : RoseOnlyAt status.WriteFault end (out.faults o) (out.faults o')
-  pub refused : end ≡ status.Refused → IfSome (given asked (source.left s)) (λ bytes. (n : ℕ) × (kind : Kind) × (meaning bytes ≡ Refuses n kind))
+  pub refused : end ≡ status.Refused → IfSome (given asked (source.left s)) (λ bytes. (n : ℕ) × (kind : Kind) × (meaning KCORE bytes ≡ Refuses n kind))
   pub refuses : (setting : Setting) (bytes : List ℕ) (n : ℕ) (kind : Kind) → asked ≡ Some setting
-      → given (Some setting) (source.left s) ≡ Some bytes → meaning bytes ≡ Refuses n kind
+      → given (Some setting) (source.left s) ≡ Some bytes → meaning KCORE bytes ≡ Refuses n kind
       → (end ≡ status.Refused) ⊎ (end ≡ status.ReadFault) ⊎ (end ≡ status.NoMemory)
   pub complete : (setting : Setting) (bytes : List ℕ) (told : Told) → asked ≡ Some setting
-      → given (Some setting) (source.left s) ≡ Some bytes → meaning bytes ≡ Means told
+      → given (Some setting) (source.left s) ≡ Some bytes → meaning KCORE bytes ≡ Means told
       → (end ≡ status.Done) ⊎ (end ≡ status.ReadFault) ⊎ (end ≡ status.WriteFault) ⊎ (end ≡ status.NoMemory)
   pub accepted : (setting : Setting) → asked ≡ Some setting → is_some setting.generator ≡ true
       → (end ≡ status.Done) ⊎ (end ≡ status.WriteFault) ⊎ (end ≡ status.NoMemory)

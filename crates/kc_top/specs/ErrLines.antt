@@ -6,6 +6,7 @@ use Rattle.kc_io.specs.Causes.{Rose}
 use Rattle.kc_io.specs.FirstPiece.{KeepsFirst}
 use Rattle.kc_text.specs.declared.kind.Kind.{Kind}
 use Rattle.kc_text.specs.Kinds.{text_of}
+use Rattle.kc_text.specs.declared.limits.TheConstants.Limits.{KCORE}
 use Rattle.kc_text.specs.Meaning.{Refuses, meaning}
 use Rattle.kc_top.specs.declared.Status.{Status}
 use Rattle.kc_top.specs.declared.Status.TheVariants.{Done, Usage, Refused, ReadFault, WriteFault, NoMemory}
@@ -22,7 +23,7 @@ usage_line = codes "usage: kcore [--workers W] [--show cores|summary|each] [--le
 abbrev pub IsErrLine : Status → Option (List ℕ) → List ℕ → Type 0
 IsErrLine Done input line = line ≡ []
 IsErrLine Usage input line = line ≡ usage_line
-IsErrLine Refused input line = (n : ℕ) × (kind : Kind) × (line ≡ refused_line n kind) × IfSome input (λ bytes. meaning bytes ≡ Refuses n kind)
+IsErrLine Refused input line = (n : ℕ) × (kind : Kind) × (line ≡ refused_line n kind) × IfSome input (λ bytes. meaning KCORE bytes ≡ Refuses n kind)
 IsErrLine ReadFault input line = line ≡ codes "read fault\n"
 IsErrLine WriteFault input line = line ≡ codes "write fault\n"
 IsErrLine NoMemory input line = line ≡ codes "no memory\n"

@@ -2,6 +2,7 @@
 -- bytes of the input, where they are known.
 use Rattle.std.specs.Prelude.{◌≡◌, ◌≤◌, ℕ, List, Option, Some, IfSome, length, take, ⊤}
 use Rattle.std.specs.Io.KnownBytes.{Appends}
+use Rattle.kc_text.specs.declared.limits.TheConstants.Limits.{KCORE}
 use Rattle.kc_text.specs.Meaning.{Means, Told, meaning}
 use Rattle.kc_run.specs.declared.ran.Ran.{Ran}
 use Rattle.kc_output.specs.Leaving.{IsLeftFor}
@@ -18,7 +19,7 @@ pub record AnswersInput (asked : Option Setting) (input : Option (List ℕ)) (te
   pub bytes : List ℕ
   pub read : IfSome input (λ all. bytes ≡ all)
   pub told : Told
-  pub means : meaning bytes ≡ Means told
+  pub means : meaning KCORE bytes ≡ Means told
   pub written : IsText setting told text
   pub left : IsLeftFor told ran
 

@@ -3,6 +3,7 @@
 use Rattle.std.specs.Prelude.{◌≡◌, ◌≤◌, ℕ, List, [], length, take, IfSome, Option, None, Some}
 use Rattle.std.specs.Io.KnownBytes.{Appends}
 use Rattle.kc_io.specs.FirstPiece.{KeepsFirst}
+use Rattle.kc_text.specs.declared.limits.TheConstants.Limits.{KCORE}
 use Rattle.kc_text.specs.Meaning.{meaning}
 use Rattle.kc_output.specs.Text.{IsOutput, IsTextOf}
 use Rattle.kc_output.specs.declared.setting.Setting.{Setting}
@@ -34,7 +35,7 @@ pub record TookFront (asked : Option Setting) (input before after : Option (List
 -- what has to be written for the bytes: nothing where the words are not right
 abbrev pub IsOutputOf : Option Setting → List ℕ → List ℕ → Type 0
 IsOutputOf None bytes text = text ≡ []
-IsOutputOf (Some setting) bytes text = IsOutput setting (meaning bytes) text
+IsOutputOf (Some setting) bytes text = IsOutput setting (meaning KCORE bytes) text
 
 -- a prefix was taken of what has to be written for the input, which is nothing where the words are not right or the input is refused
 pub record TookSome (asked : Option Setting) (input before after : Option (List ℕ)) : Type 0 where

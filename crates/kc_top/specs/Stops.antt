@@ -2,6 +2,7 @@
 use Rattle.std.specs.Prelude.{◌≡◌, ℕ, List, [], codes, IfSome, string_bytes, Result, Ok, Err, ⊤, Option}
 use Rattle.kc_io.specs.Causes.{Rose}
 use Rattle.kc_text.specs.declared.kind.Kind.{Kind}
+use Rattle.kc_text.specs.declared.limits.TheConstants.Limits.{KCORE}
 use Rattle.kc_text.specs.Meaning.{Refuses, meaning}
 use Rattle.kc_top.specs.ErrLines.{refused_line, usage_line}
 use Rattle.kc_top.specs.declared.Status.{Status}
@@ -35,7 +36,7 @@ TellsRefusal stop.WriteFault n kind = ⊥
 
 -- why bytes give no input: they are refused with this line, or there was no memory
 abbrev pub IsRefusalOf : Stop → List ℕ → Type 0
-IsRefusalOf (stop.Refused line) bytes = (n : ℕ) × (kind : Kind) × (string_bytes line ≡ refused_line n kind) × (meaning bytes ≡ Refuses n kind)
+IsRefusalOf (stop.Refused line) bytes = (n : ℕ) × (kind : Kind) × (string_bytes line ≡ refused_line n kind) × (meaning KCORE bytes ≡ Refuses n kind)
 IsRefusalOf stop.NoMemory bytes = ⊤
 IsRefusalOf stop.Usage bytes = ⊥
 IsRefusalOf stop.ReadFault bytes = ⊥
@@ -44,7 +45,7 @@ IsRefusalOf stop.WriteFault bytes = ⊥
 -- Why there is no text, where `input` are the bytes of the input if they are known. The source's count of faults rose at a read fault alone.
 abbrev pub HasNoText : Stop → Option (List ℕ) → ℕ → ℕ → Type 0
 HasNoText (stop.Refused line) input faults faults' =
-    (n : ℕ) × (kind : Kind) × (string_bytes line ≡ refused_line n kind) × IfSome input (λ bytes. meaning bytes ≡ Refuses n kind) × (faults' ≡ faults)
+    (n : ℕ) × (kind : Kind) × (string_bytes line ≡ refused_line n kind) × IfSome input (λ bytes. meaning KCORE bytes ≡ Refuses n kind) × (faults' ≡ faults)
 HasNoText stop.ReadFault input faults faults' = Rose faults faults'
 HasNoText stop.NoMemory input faults faults' = faults' ≡ faults
 HasNoText stop.Usage input faults faults' = ⊥

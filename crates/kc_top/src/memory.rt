@@ -1,6 +1,7 @@
 //! The run over a source and sinks in memory.
 ghost use Rattle.std.specs.Prelude.{◌≡◌, ◌⊎◌, ℕ, Some};
 ghost use Rattle.kc_text.specs.declared.kind.Kind.{Kind};
+ghost use Rattle.kc_text.specs.declared.limits.TheConstants.Limits.{KCORE};
 ghost use Rattle.kc_text.specs.Meaning.{Means, Refuses, Told, meaning};
 ghost use Rattle.kc_run.specs.Runs.{IsEmpty};
 ghost use Rattle.kc_top.specs.EndedFor.{EndedFor, ToldEnd};
@@ -34,11 +35,11 @@ pub fn run_in_memory<R: Threads + Wait + Sync>(
         streams.old.out streams.new.out ran.old ran.new }
     ensures line { ToldEnd ⟦<MemSink as Sink>⟧ (given (asked words.now) (Some streams.old.source.left)) result streams.old.err streams.new.err }
     ensures refused { result ≡ Status.Refused
-        → (n : ℕ) × (kind : Kind) × (meaning (input_bytes (asked words.now) streams.old.source.left) ≡ Refuses n kind) }
+        → (n : ℕ) × (kind : Kind) × (meaning KCORE (input_bytes (asked words.now) streams.old.source.left) ≡ Refuses n kind) }
     ensures refuses { (s : Setting) (n : ℕ) (kind : Kind) → asked words.now ≡ Some s
-        → meaning (input_bytes (Some s) streams.old.source.left) ≡ Refuses n kind
+        → meaning KCORE (input_bytes (Some s) streams.old.source.left) ≡ Refuses n kind
         → (result ≡ Status.Refused) ⊎ (result ≡ Status.ReadFault) ⊎ (result ≡ Status.NoMemory) }
-    ensures complete { (s : Setting) (told : Told) → asked words.now ≡ Some s → meaning (input_bytes (Some s) streams.old.source.left) ≡ Means told
+    ensures complete { (s : Setting) (told : Told) → asked words.now ≡ Some s → meaning KCORE (input_bytes (Some s) streams.old.source.left) ≡ Means told
         → (result ≡ Status.Done) ⊎ (result ≡ Status.ReadFault) ⊎ (result ≡ Status.WriteFault) ⊎ (result ≡ Status.NoMemory) }
 {
     run(rt, alloc, words, streams, &NoGate, ran)

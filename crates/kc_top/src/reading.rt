@@ -1,16 +1,14 @@
 //! The input of a run.
-ghost use Rattle.std.specs.Prelude.{◌≡◌, ◌≤◌, IfErr, IfOk, IfSome, None, OnOk, Some, is_some, length, true};
+ghost use Rattle.std.specs.Prelude.{◌≡◌, IfErr, IfOk, IfSome, None, OnOk, Some, is_some, true};
 ghost use Rattle.std.specs.Io.KnownBytes.{IsAtEnd};
-ghost use Rattle.kc_report.specs.Generator.{generated};
-ghost use Rattle.kc_text.specs.declared.limits.TheConstants.{MOST_BYTES};
 ghost use Rattle.kc_top.specs.Given.{generated_or};
 ghost use Rattle.kc_top.specs.Inputs.{IsReadFrom};
 ghost use Rattle.kc_top.specs.Stops.{HasNoText, IsRefusalOf};
 
 use crate::ending::{Stop, refused};
 use kc_io::source::{ReadAllFault, Source, read_all};
-use kc_report::{NoMemory, generate};
-use kc_text::{Input, Kind, ParseFault, Refusal, parse};
+use kc_report::generate;
+use kc_text::{Input, Kind, Limits, ParseFault, Refusal, parse};
 use std::alloc::Global;
 
 /// The input as a whole has too many bytes.
@@ -22,25 +20,16 @@ const TOO_LONG: Refusal = Refusal {
 /// All bytes of the source.
 fn bytes_from<S: Source>(alloc: Global, source: &mut S) -> Result<Vec<u8>, Stop>
     ensures bytes { IfOk result (λ bytes. IfSome (S.left source.old) (λ known. bytes.items ≡ known)) }
-    ensures few { IfOk result (λ bytes. length bytes.items ≤ MOST_BYTES) }
     ensures read { OnOk result (IsAtEnd (S.left source.new)) }
     ensures stopped { IfErr result (λ stop. HasNoText stop (S.left source.old) (S.faults source.old) (S.faults source.new)) }
     ensures faultless { OnOk result (S.faults source.new ≡ S.faults source.old) }
 {
-    match read_all(alloc, source) {
+    match read_all(alloc, source, Limits::KCORE.bytes) {
         Ok(bytes) => Ok(bytes),
         Err(ReadAllFault::ReadFault) => Err(Stop::ReadFault),
         Err(ReadAllFault::TooLong) => Err(refused(alloc, TOO_LONG)),
         Err(ReadAllFault::NoMemory) => Err(Stop::NoMemory),
     }
-}
-
-/// The bytes that are generated for the number.
-fn generated_bytes(alloc: Global, number: u32) -> Result<Vec<u8>, NoMemory>
-    ensures bytes { IfOk result (λ bytes. bytes.items ≡ generated number) }
-    ensures few { IfOk result (λ bytes. length bytes.items ≤ MOST_BYTES) }
-{
-    generate(alloc, number)
 }
 
 /// The bytes of the input: those that are generated for the number, where there is one, or else all of the source.
@@ -50,7 +39,6 @@ fn bytes_of<S: Source>(
     source: &mut S,
 ) -> Result<Vec<u8>, Stop>
     ensures bytes { IfOk result (λ bytes. IfSome (generated_or generator (S.left source.old)) (λ known. bytes.items ≡ known)) }
-    ensures few { IfOk result (λ bytes. length bytes.items ≤ MOST_BYTES) }
     ensures read { OnOk result (generator ≡ None → IsAtEnd (S.left source.new)) }
     ensures unread { is_some generator ≡ true → source.new ≡ source.old }
     ensures accepted { is_some generator ≡ true → IfErr result (λ stop. stop ≡ Stop.NoMemory) }
@@ -58,18 +46,17 @@ fn bytes_of<S: Source>(
     ensures faultless { OnOk result (S.faults source.new ≡ S.faults source.old) }
 {
     match generator {
-        Some(number) => Ok(generated_bytes(alloc, number)?),
+        Some(number) => Ok(generate(alloc, number)?),
         None => bytes_from(alloc, source),
     }
 }
 
 /// The input that the bytes give, which are dropped.
 fn parsed(alloc: Global, bytes: Vec<u8>) -> Result<Input, Stop>
-    requires { length bytes.items ≤ MOST_BYTES }
     ensures input { IfOk result (IsReadFrom (Some bytes.items)) }
     ensures stopped { IfErr result (λ stop. IsRefusalOf stop bytes.items) }
 {
-    match parse(alloc, &bytes) {
+    match parse(alloc, Limits::KCORE, &bytes) {
         Ok(input) => Ok(input),
         Err(ParseFault::Refused(refusal)) => Err(refused(alloc, refusal)),
         Err(ParseFault::NoMemory) => Err(Stop::NoMemory),

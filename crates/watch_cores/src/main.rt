@@ -19,7 +19,7 @@ use crate::working::work;
 use anyhow::{Result, bail};
 use kc_graph::{Graph, core_numbers};
 use kc_snapshot::{Blank, BoardName, Publisher, Reader, open};
-use kc_text::{Batch, Input, MOST_BYTES, parse};
+use kc_text::{Batch, Input, Limits, parse};
 use std::alloc::Global;
 use std::io::Read as _;
 use std::marker::Brand;
@@ -46,10 +46,7 @@ fn read_input(rt: &HostRuntime) -> Result<Input>
 {
     let mut bytes = Vec::new(rt.alloc());
     rt.stdin().read_to_end(&mut bytes)?;
-    if bytes.len() > MOST_BYTES {
-        bail!("the text is too long");
-    }
-    match parse(rt.alloc(), &bytes) {
+    match parse(rt.alloc(), Limits::KCORE, &bytes) {
         Ok(input) => Ok(input),
         Err(_) => bail!("not the text of a graph, or no memory"),
     }

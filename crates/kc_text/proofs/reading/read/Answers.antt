@@ -3,17 +3,17 @@ use Rattle.std.proofs.Common.{◌≡◌, ◌≤◌, ℕ, List, ◌++◌, length,
 use Rattle.std.specs.List.{flat_map}
 use Rattle.kc_text.specs.declared.change.ChangeLine.{ChangeLine}
 use Rattle.kc_text.specs.declared.kind.Kind.TheVariants.{TooLong}
+use Rattle.kc_text.specs.declared.limits.Limits.{Limits}
 use Rattle.kc_text.specs.Forms.{all_said}
 use Rattle.kc_text.specs.Meaning.{Refuses, Told, batches, changes, ends, ends_of, meaning, names, nothing_told, reading}
 use Rattle.kc_text.specs.Readers.{told_by}
 use Rattle.kc_text.specs.Inputs.{AreIds}
 use Rattle.kc_text.proofs.Telling.{all-items, ends-told}
 use Rattle.kc_text.proofs.reading.read.Goals as goal
-use Rattle.kc_text.specs.declared.limits.TheConstants.{MOST_BYTES}
 
 -- what a text within the limit means is what the reading of its lines tells
-meaning-is : (bytes : List ℕ) → length bytes ≤ MOST_BYTES → meaning bytes ≡ reading 0 nothing_told (all_said bytes)
-meaning-is bytes l = ap (λ b. cond b (Refuses 0 TooLong) (reading 0 nothing_told (all_said bytes))) (le-ltb MOST_BYTES (length bytes) l)
+meaning-is : (limits : Limits) (bytes : List ℕ) → length bytes ≤ limits.bytes → meaning limits bytes ≡ reading limits 0 nothing_told (all_said bytes)
+meaning-is limits bytes l = ap (λ b. cond b (Refuses 0 TooLong) (reading limits 0 nothing_told (all_said bytes))) (le-ltb limits.bytes (length bytes) l)
 
 -- the ends that were collected are all that was named
 ends-collected : (told : Told) (edges : List (ℕ × ℕ)) (read : List (Vec ChangeLine Global)) → edges ≡ told.edges
@@ -35,7 +35,7 @@ returns c = (
         (ap (λ (t : List (Vec ChangeLine Global)). map (λ batch. batch.items) t) c.deref-2.ensures.value ∙ c.in_ok-edges.ensures.batches)) c.in_ok-ids.ensures;
   },
   λ how.
-      meaning-is c.args.bytes.now c.requires
+      meaning-is c.args.limits.now c.args.bytes.now c.requires
       ∙ c.in_ok-refusal.ensures.exact
       (elim how [ inl exact ↦ inl (c.in_ok-refusal.ensures.looks ∙ (c.new-reader.ensures.looks ∙ exact)) | inr clear ↦ inr clear ]),
 )

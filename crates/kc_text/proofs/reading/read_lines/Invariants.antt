@@ -8,7 +8,7 @@ use Rattle.kc_text.proofs.reading.read_lines.Given as goal
 
 abbrev pub invariant-loop-said : goal.invariant-loop-said
 invariant-loop-said l = record {
-  same : IsExact l.reader → reading 0 nothing_told (all_said l.fn.bytes) ≡ reading l.line (told_by l.reader) (all_said l.rest);
+  same : IsExact l.limits l.reader → reading l.limits 0 nothing_told (all_said l.fn.bytes) ≡ reading l.limits l.line (told_by l.reader) (all_said l.rest);
   kept : ReaderKeeps l.reader;
   looks : is_some l.reader.ids ≡ is_some l.fn.reader.ids;
   few : l.reader.changes ≤ l.line;

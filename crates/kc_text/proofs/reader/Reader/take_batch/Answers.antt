@@ -19,4 +19,4 @@ returns-clause-exact c =
     (option_map (λ batch. batch.items) last)) c.replace-before.ensures.value)
     (ap (option_map (λ (batch : Vec ChangeLine Global). batch.items)) c.replace-before.ensures.after
     ∙ ap (λ (batch : List ChangeLine). Some batch) c.new.ensures.items) in
-    exact-before old new said.Batch told refl (few-batch (told_by old))
+    exact-before c.args.limits.now old new said.Batch told refl (few-batch c.args.limits.now (told_by old))

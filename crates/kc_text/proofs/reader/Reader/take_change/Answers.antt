@@ -27,11 +27,13 @@ returns-clause-exact c =
           c.args.self.now.changes + 1;
       ids = c.count_ids.new.ids;
     } in
-    exact-before c.args.self.now new (said.Change c.args.change) (ap (with_last c.args.self.now) (c.in_ok-kind.ensures.changes c.in_default.is))
-    c.in_ok-count_ids.ensures.looks (few-change (told_by c.args.self.now) c.args.change)
+    exact-before c.args.limits.now c.args.self.now new (said.Change c.args.change)
+    (ap (with_last c.args.self.now) (c.in_ok-kind.ensures.changes c.in_default.is)) c.in_ok-count_ids.ensures.looks
+    (few-change c.args.limits.now (told_by c.args.self.now) c.args.change)
 
 pub returns-in-Some-clause-refused : goal.returns-in-Some-clause-refused
-returns-in-Some-clause-refused c = λ _. refused-unfit (told_by c.args.self.now) c.args.change c.in_ok-kind.field-0 c.in-Some.kind c.in_ok-kind.ensures.refused
+returns-in-Some-clause-refused c = λ _.
+    refused-unfit c.args.limits.now (told_by c.args.self.now) c.args.change c.in_ok-kind.field-0 c.in-Some.kind c.in_ok-kind.ensures.refused
     c.in-Some.is
 
 pub returns-clause-refused : goal.returns-clause-refused
@@ -39,5 +41,5 @@ returns-clause-refused c = λ exact.
     let old : Reader = c.args.self.now in
     let new : Reader = record { edges = old.edges; earlier = old.earlier; last = c.take_into.new.last; changes = old.changes + 1; ids = c.count_ids.new.ids } in
     let told : told_by new ≡ with_line (told_by old) (said.Change c.args.change) = ap (with_last old) (c.in_ok-kind.ensures.changes c.in_default.is) in
-    refused-limit (told_by old) c.args.change c.in_ok-kind.field-0 c.passed_limit.result c.in_ok-kind.ensures.refused c.in_default.is
-    (c.passed_limit.ensures exact ∙ ap passed_limit told)
+    refused-limit c.args.limits.now (told_by old) c.args.change c.in_ok-kind.field-0 c.passed_limit.result c.in_ok-kind.ensures.refused c.in_default.is
+    (c.passed_limit.ensures exact ∙ ap (passed_limit c.args.limits.now) told)

@@ -25,5 +25,5 @@ returns-clause-exact c =
           c.args.self.now.changes;
       ids = c.count_ids.new.ids;
     } in
-    exact-before c.args.self.now new (said.Edge c.args.a c.args.b) (ap (with_edges c.args.self.now) c.in_ok-push.ensures.items)
-    c.in_ok-count_ids.ensures.looks (few-edge (told_by c.args.self.now) c.args.a c.args.b)
+    exact-before c.args.limits.now c.args.self.now new (said.Edge c.args.a c.args.b) (ap (with_edges c.args.self.now) c.in_ok-push.ensures.items)
+    c.in_ok-count_ids.ensures.looks (few-edge c.args.limits.now (told_by c.args.self.now) c.args.a c.args.b)
