@@ -16,7 +16,7 @@ use Rattle.kc_insert.specs.Rising.{is_queued, is_candidate, is_weak, earlier_at,
 use Rattle.kc_insert.specs.Searching.{Widened, BetweenTurns}
 use Rattle.kc_insert.specs.Turns.{Begins, IsBetweenTurns}
 use Rattle.kc_insert.specs.declared.rising.Rising.{Rising}
-use Rattle.kc_insert.proofs.Tidy.{asks-queued}
+use Rattle.kc_insert.proofs.Tidy.{asks-queued, named-cases}
 use Rattle.kc_insert.proofs.Turning.{turns-begin}
 
 -- where only the root is queued nobody is a candidate
@@ -63,7 +63,11 @@ begin-tidy update shown root r b l placed asks = record {
   orderly = begin-orderly root r b;
   within = λ z m. let e : z ≡ root = only-root root r b z m in omega (arith, e, l);
   placed = λ z m. ap (has_core shown.kept) (only-root root r b z m) ∙ placed;
-  read = λ z m. absurd (true≢false (sym m ∙ ap (member z) (none-left root r b)));
+  read = λ z n. elim (named-cases r z n) [
+    | inl c ↦ absurd (true≢false (sym c ∙ no-candidate root r b z))
+    | inr (inl m) ↦ absurd (true≢false (sym m ∙ ap (member z) b.weak))
+    | inr (inr m) ↦ absurd (true≢false (sym m ∙ ap (λ xs. member z (seconds xs)) b.shifts))
+  ];
   asks = asks-queued update shown.kept [] r.queue.items asks (λ x m. absurd (false≢true m));
 }
 

@@ -1,7 +1,7 @@
 -- All turns were taken: the candidates rise.
 use Rattle.std.proofs.Common.{◌≡◌, ◌<◌, ◌⊎◌, ◌++◌, ℕ, min, true, false, List, [], length, get_or, sym, ◌∙◌, ap, subst, inl, inr, arith, Vec, Global}
 use Rattle.std.specs.Prelude.{All}
-use Rattle.std.proofs.lemmas.List.{drop_all, take_all}
+use Rattle.std.proofs.lemmas.List.{drop_all}
 use Rattle.std.proofs.lemmas.List.Elements.{All-weaker}
 use Rattle.kc_lists.specs.Lists.{member}
 use Rattle.kc_lists.proofs.Counting.{member-filter}
@@ -20,44 +20,43 @@ use Rattle.kc_view.specs.Sure.{IsSparing, InForward, AsksOneList, root_of}
 use Rattle.kc_view.specs.Views.{Shown}
 use Rattle.kc_view.proofs.Fronts.{take-member}
 use Rattle.kc_insert.specs.Added.{search_with}
-use Rattle.kc_insert.specs.Rising.{is_candidate, earlier_at, later_at, cands, left, waiting, IsOrderly, IsTidyRising}
+use Rattle.kc_insert.specs.Rising.{is_candidate, earlier_at, later_at, cands, waiting, IsOrderly, IsTidyRising}
 use Rattle.kc_insert.specs.Searching.{BetweenTurns}
 use Rattle.kc_insert.specs.Sure.{AskForward}
 use Rattle.kc_insert.specs.Turns.{IsBetweenTurns}
 use Rattle.kc_insert.specs.declared.rising.Rising.{Rising}
 use Rattle.kc_insert.proofs.Sureness.{plain-sure, rise-sure, reached-forward}
-use Rattle.kc_insert.proofs.Tidy.{left-queued}
+use Rattle.kc_insert.proofs.Tidy.{left-queued, named-candidate, named-weak, named-anchor}
 use Rattle.kc_insert.proofs.Widening.{state-widened}
 
 -- each candidate on the list of these was queued
 listed-queued : (r : Rising) (x : ℕ) → member x (cands r) ≡ true → member x r.queue.items ≡ true
 listed-queued r x m = (member-filter (is_candidate r) x r.queue.items m).0
 
--- whoever was shifted has left the queue
-shifted-left : (r : Rising) (x : ℕ) → IsOrderly r → member x (firsts r.shifts.items) ≡ true → member x (left r) ≡ true
-shifted-left r x o m = o.weak_left x (take-member (length r.shifts.items) r.seen.weak.items x (sym (ap (member x) o.shifted) ∙ m))
+-- whoever was shifted was found too weak
+shifted-weak : (r : Rising) (x : ℕ) → IsOrderly r → member x (firsts r.shifts.items) ≡ true → member x r.seen.weak.items ≡ true
+shifted-weak r x o m = take-member (length r.shifts.items) r.seen.weak.items x (sym (ap (member x) o.shifted) ∙ m)
 
 -- candidates and those that were shifted were queued
 pub moved-queued : (r : Rising) (x : ℕ) → IsOrderly r → member x (cands r ++ firsts r.shifts.items) ≡ true → member x r.queue.items ≡ true
 moved-queued r x o m = elim (member-append x (cands r) (firsts r.shifts.items) m) [
   | inl k ↦ listed-queued r x k
-  | inr k ↦ left-queued r x (shifted-left r x o k)
+  | inr k ↦ left-queued r x (o.weak_left x (shifted-weak r x o k))
 ]
-
--- once all turns were taken, whoever was queued has left the queue
-all-left : (r : Rising) → r.turn ≡ length r.queue.items → left r ≡ r.queue.items
-all-left r ended = take_all r.turn r.queue.items (omega (arith, ended))
 
 -- once all turns were taken nobody waits
 none-waits : (r : Rising) → r.turn ≡ length r.queue.items → waiting r ≡ []
 none-waits r ended = drop_all r.turn r.queue.items (omega (arith, ended))
 
--- once all turns were taken, the lists of all that the moves name were read
-pub named-read : (update : Update) (shown : Shown) (r : Rising) (x : ℕ) → IsTidyRising update shown r → r.turn ≡ length r.queue.items
+-- the lists of all that the moves name were read
+pub named-read : (update : Update) (shown : Shown) (r : Rising) (x : ℕ) → IsTidyRising update shown r
     → member x ((cands r ++ firsts r.shifts.items) ++ seconds r.shifts.items) ≡ true → has_list shown.kept x ≡ true
-named-read update shown r x t ended m = t.read x (elim (member-append x (cands r ++ firsts r.shifts.items) (seconds r.shifts.items) m) [
-  | inl k ↦ ap (member x) (all-left r ended) ∙ moved-queued r x t.orderly k
-  | inr k ↦ t.orderly.anchored x k
+named-read update shown r x t m = t.read x (elim (member-append x (cands r ++ firsts r.shifts.items) (seconds r.shifts.items) m) [
+  | inl k ↦ elim (member-append x (cands r) (firsts r.shifts.items) k) [
+    | inl c ↦ named-candidate r x (member-filter (is_candidate r) x r.queue.items c).1
+    | inr f ↦ named-weak r x (shifted-weak r x t.orderly f)
+  ]
+  | inr k ↦ named-anchor r x k
 ])
 
 -- What is known of a certified state that agrees, once the search is over: the edge is new there, and the search went from the end that

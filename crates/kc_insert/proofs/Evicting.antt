@@ -11,18 +11,20 @@ use Rattle.kc_lists.proofs.Counting.{member-get_or, member-push_cases, Distinct-
 use Rattle.kc_graph.specs.declared.update.Update.{Update}
 use Rattle.kc_cert.specs.Local.{firsts, seconds}
 use Rattle.kc_cert.specs.Ranks.{AscendsBy}
+use Rattle.kc_view.specs.Answers.{has_list}
 use Rattle.kc_view.specs.Search.{Search, after, OnLevel}
 use Rattle.kc_view.specs.Views.{Shown}
 use Rattle.kc_view.proofs.Fronts.{firsts-push, seconds-push}
 use Rattle.kc_insert.specs.Marks.{earlier_in, later_in, turn_in, candidate_in, weak_in}
-use Rattle.kc_insert.specs.Rising.{is_queued, earlier_at, later_at, turn_at, is_candidate, is_weak, cands, left, waiting, pending, IsOrderly, IsTidyRising}
+use Rattle.kc_insert.specs.Rising.{is_queued, earlier_at, later_at, turn_at, is_candidate, is_weak, is_named, cands, left, waiting, pending, IsOrderly, IsTidyRising}
 use Rattle.kc_insert.specs.Searching.{ahead, Widened, Drops, BetweenTurns, InSettling}
 use Rattle.kc_insert.specs.Turns.{LeavesQueue, Loses, Evicts, LinedUp, SettlingAt, IsBetweenTurns, IsSettling}
+use Rattle.kc_insert.specs.declared.losing.Loss.{Loss}
 use Rattle.kc_insert.specs.declared.losing.Loss.TheVariants as loss
 use Rattle.kc_insert.specs.declared.rising.Mark.{Mark}
 use Rattle.kc_insert.specs.declared.rising.Rising.{Rising}
 use Rattle.kc_insert.proofs.Losses.{cand-left, cands-has, shifts-fit}
-use Rattle.kc_insert.proofs.Tidy.{left-queued, left-more, first-not_left, tidy-rising}
+use Rattle.kc_insert.proofs.Tidy.{named-cases, named-candidate, named-weak, named-anchor, left-queued, left-more, first-not_left, tidy-rising}
 use Rattle.kc_insert.proofs.Turning.{turn_evict, turn_settle, turn_settled, settling_same}
 use Rattle.kc_insert.proofs.Queues.{Ascends-at}
 
@@ -144,12 +146,39 @@ evict-orderly x anchor old new o e lt first near =
           ];
     }
 
--- where queue and turn stay, the search stays tidy
+-- by the losses of neighbours, moves name nobody whom they might not have named before
+pub loses-named : (level : ℕ) (loss : Loss) (ys : List ℕ) (old new : Rising) → Loses level loss ys old new → (z : ℕ)
+    → is_named new z ≡ true → is_named old z ≡ true
+loses-named level loss ys old new l z n = elim (named-cases new z n) [
+  | inl c ↦ named-candidate old z (sym (l.candidates z) ∙ c)
+  | inr (inl m) ↦ elim (cases_Bool (member z old.seen.weak.items)) [
+    | inl was ↦ named-weak old z was
+    | inr none ↦ named-candidate old z (l.only z m none).0
+  ]
+  | inr (inr m) ↦ named-anchor old z (sym (ap (λ xs. member z (seconds xs)) l.shifts) ∙ m)
+]
+
+-- by an eviction, moves name nobody but the anchor whom they might not have named before
+pub evicts-named : (x anchor : ℕ) (old new : Rising) → Evicts x anchor old new → (z : ℕ) → is_named new z ≡ true → (is_named old z ≡ true) ⊎ (z ≡ anchor)
+evicts-named x anchor old new e z n = elim (named-cases new z n) [
+  | inl c ↦ elim (cases_eq z x) [
+    | inl is ↦ absurd (true≢false (sym c ∙ (ap (is_candidate new) is ∙ ap candidate_in e.marks.here)))
+    | inr ne ↦ inl (named-candidate old z (sym (ap candidate_in (e.marks.others z ne)) ∙ c))
+  ]
+  | inr (inl m) ↦ inl (named-weak old z (sym (ap (member z) e.weak) ∙ m))
+  | inr (inr m) ↦ elim (member-push_cases z anchor (seconds old.shifts.items)
+      (sym (ap (λ xs. member z (seconds xs)) e.shifts ∙ ap (member z) (seconds-push old.shifts.items x anchor)) ∙ m)) [
+        | inl k ↦ inl (named-anchor old z k)
+        | inr q ↦ inr q
+      ]
+]
+
+-- where queue and turn stay, and the lists of those were read whom moves may name now, the search stays tidy
 pub stays-tidy : (update : Update) (shown : Shown) (old new : Rising) → IsTidyRising update shown old → IsOrderly new
-    → new.queue.items ≡ old.queue.items → new.turn ≡ old.turn → IsTidyRising update shown new
-stays-tidy update shown old new t o queue turn =
-    tidy-rising update shown old new t o (λ z m. ap (member z) queue ∙ m) (λ z m. inl (sym (ap (member z) queue) ∙ m))
-    (λ z m. inl (sym (ap (member z) (same-left old new queue turn)) ∙ m))
+    → new.queue.items ≡ old.queue.items → ((z : ℕ) → is_named new z ≡ true → (is_named old z ≡ true) ⊎ (has_list shown.kept z ≡ true))
+    → IsTidyRising update shown new
+stays-tidy update shown old new t o queue read =
+    tidy-rising update shown old new t o (λ z m. ap (member z) queue ∙ m) (λ z m. inl (sym (ap (member z) queue) ∙ m)) read
 
 -- a candidate's later count after an eviction, in words of adjacency and order
 less_later : (n'' n' n : ℕ) (h a m t f : Bool) → n'' ≡ n' - cond (h && (m && t)) 1 0 → n' ≡ n → h ≡ a → m ≡ true → t ≡ f → n'' ≡ n - cond (a && f) 1 0

@@ -22,7 +22,7 @@ use Rattle.kc_insert.specs.Turns.{Passes, PassedOn, IsPlaceWithin}
 use Rattle.kc_insert.specs.declared.rising.Mark.{Mark}
 use Rattle.kc_insert.specs.declared.rising.Rising.{Rising}
 use Rattle.kc_insert.proofs.Queues.{Ascends-at, inserted-has, inserted-once, inserted-front, inserted-ascends}
-use Rattle.kc_insert.proofs.Tidy.{tidy-rising}
+use Rattle.kc_insert.proofs.Tidy.{named-cases, named-candidate, named-weak, named-anchor, tidy-rising}
 
 -- a number that is not less than another is at least that
 not_less : (a b : ℕ) → ltb a b ≡ false → b ≤ a
@@ -172,7 +172,11 @@ passes-tidy update shown x old new t p l placed =
       | inl k ↦ inl k
       | inr e ↦ let at : z ≡ x = eqb-true z x e in inr (omega (arith, l, at), ap (has_core shown.kept) at ∙ placed)
     ])
-    (λ z m. inl (sym (ap (member z) (passes-left x old new t.orderly p)) ∙ m))
+    (λ z n. inl (elim (named-cases new z n) [
+      | inl c ↦ named-candidate old z (sym (passes-candidates x old new p z) ∙ c)
+      | inr (inl m) ↦ named-weak old z (sym (ap (member z) p.weak) ∙ m)
+      | inr (inr m) ↦ named-anchor old z (sym (ap (λ xs. member z (seconds xs)) p.shifts) ∙ m)
+    ]))
 
 -- where nobody got a candidate more before it, nothing has changed
 pub passed-none : (r : Rising) → PassedOn [] r r

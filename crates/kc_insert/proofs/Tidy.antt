@@ -1,11 +1,11 @@
 -- What holds for every view, from step to step.
-use Rattle.std.proofs.Common.{◌≡◌, ◌≤◌, ◌<◌, ◌⊎◌, ℕ, true, false, List, [], ◌∷◌, ◌++◌, length, take, get_or, sym, ◌∙◌, ap, subst, inl, inr, arith, true≢false}
+use Rattle.std.proofs.Common.{◌≡◌, ◌≤◌, ◌<◌, ◌⊎◌, ◌||◌, ℕ, true, false, List, [], ◌∷◌, ◌++◌, length, take, get_or, sym, ◌∙◌, ap, subst, inl, inr, arith, true≢false}
 use Rattle.std.specs.Prelude.{is_some}
-use Rattle.std.proofs.lemmas.Bool.{cases_Bool, cases_eq, false_from_ne_true}
+use Rattle.std.proofs.lemmas.Bool.{cases_Bool, cases_eq, false_from_ne_true, or_cases, or_left, or_right}
 use Rattle.std.proofs.lemmas.List.{take_more}
 use Rattle.std.proofs.lemmas.List.Elements.{All-push, All-weaker}
 use Rattle.kc_lists.specs.Lists.{member, Distinct}
-use Rattle.kc_lists.proofs.Counting.{member-get_or, member-push_left, member-push_cases, take-not_here}
+use Rattle.kc_lists.proofs.Counting.{member-get_or, member-push_left, take-not_here}
 use Rattle.kc_lists.proofs.Members.{below_bound}
 use Rattle.kc_graph.specs.declared.update.Update.{Update}
 use Rattle.kc_graph.specs.declared.used.UsedOrder.{UsedOrder}
@@ -17,10 +17,34 @@ use Rattle.kc_view.proofs.Asked.{cores-more, cores-listed, cores-none}
 use Rattle.kc_view.proofs.Fronts.{take-member}
 use Rattle.kc_view.proofs.Keeping.{still_has_list, still_has_core}
 use Rattle.kc_insert.specs.Marks.{candidate_in, turn_in, weak_in}
-use Rattle.kc_insert.specs.Rising.{is_queued, is_candidate, is_weak, turn_at, left, IsOrderly, AsksQueued, IsTidyRising}
+use Rattle.kc_insert.specs.Rising.{is_queued, is_candidate, is_weak, is_named, turn_at, left, IsOrderly, AsksQueued, IsTidyRising}
 use Rattle.kc_insert.specs.Turns.{LeavesQueue}
 use Rattle.kc_insert.specs.declared.rising.Mark.{Mark}
 use Rattle.kc_insert.specs.declared.rising.Rising.{Rising}
+
+-- why moves may name a vertex
+pub named-cases : (r : Rising) (z : ℕ) → is_named r z ≡ true
+    → (is_candidate r z ≡ true) ⊎ (member z r.seen.weak.items ≡ true) ⊎ (member z (seconds r.shifts.items) ≡ true)
+named-cases r z n = elim (or_cases (is_candidate r z) (member z r.seen.weak.items || member z (seconds r.shifts.items)) n) [
+  | inl c ↦ inl c
+  | inr k ↦ inr (or_cases (member z r.seen.weak.items) (member z (seconds r.shifts.items)) k)
+]
+
+-- moves may name a candidate
+pub named-candidate : (r : Rising) (z : ℕ) → is_candidate r z ≡ true → is_named r z ≡ true
+named-candidate r z c = or_left (is_candidate r z) (member z r.seen.weak.items || member z (seconds r.shifts.items)) c
+
+-- moves may name whoever was found too weak
+pub named-weak : (r : Rising) (z : ℕ) → member z r.seen.weak.items ≡ true → is_named r z ≡ true
+named-weak r z m =
+    or_right (is_candidate r z) (member z r.seen.weak.items || member z (seconds r.shifts.items))
+    (or_left (member z r.seen.weak.items) (member z (seconds r.shifts.items)) m)
+
+-- moves name those that others are put behind
+pub named-anchor : (r : Rising) (z : ℕ) → member z (seconds r.shifts.items) ≡ true → is_named r z ≡ true
+named-anchor r z m =
+    or_right (is_candidate r z) (member z r.seen.weak.items || member z (seconds r.shifts.items))
+    (or_right (member z r.seen.weak.items) (member z (seconds r.shifts.items)) m)
 
 -- where the list of the lesser end alone was asked, nobody need be queued
 pub asks-first : (update : Update) (a : Answers) → AsksOneList a update.u → AsksQueued update a []
@@ -87,7 +111,7 @@ tidy-view update old new r t size further asks = record {
 pub tidy-rising : (update : Update) (shown : Shown) (old new : Rising) → IsTidyRising update shown old → IsOrderly new
     → ((z : ℕ) → member z old.queue.items ≡ true → member z new.queue.items ≡ true)
     → ((z : ℕ) → member z new.queue.items ≡ true → (member z old.queue.items ≡ true) ⊎ ((z < shown.size) × (has_core shown.kept z ≡ true)))
-    → ((z : ℕ) → member z (left new) ≡ true → (member z (left old) ≡ true) ⊎ (has_list shown.kept z ≡ true)) → IsTidyRising update shown new
+    → ((z : ℕ) → is_named new z ≡ true → (is_named old z ≡ true) ⊎ (has_list shown.kept z ≡ true)) → IsTidyRising update shown new
 tidy-rising update shown old new t orderly grows from read = record {
   orderly = orderly;
   within = λ z m. elim (from z m) [ inl k ↦ t.within z k | inr k ↦ k.0 ];
@@ -163,13 +187,19 @@ leave-orderly w mark old new o l lt first turn none =
       anchored = λ z m. grows z (o.anchored z (sym (ap (λ xs. member z (seconds xs)) l.shifts) ∙ m));
     }
 
--- where the first of those that wait leaves and its list was read, the search stays tidy
+-- where the first of those that wait leaves, and its list was read if it is a candidate, the search stays tidy
 pub leave-tidy : (update : Update) (shown : Shown) (w : ℕ) (mark : Mark) (old new : Rising) → IsTidyRising update shown old
     → LeavesQueue w mark old new → old.turn < length old.queue.items → get_or old.queue.items old.turn 0 ≡ w
-    → (mark.is_candidate ≡ true → mark.turn ≡ old.turn) → mark.is_weak ≡ false → has_list shown.kept w ≡ true → IsTidyRising update shown new
+    → (mark.is_candidate ≡ true → mark.turn ≡ old.turn) → mark.is_weak ≡ false
+    → (mark.is_candidate ≡ true → has_list shown.kept w ≡ true) → IsTidyRising update shown new
 leave-tidy update shown w mark old new t l lt first turn none read =
     tidy-rising update shown old new t (leave-orderly w mark old new t.orderly l lt first turn none) (λ z m. ap (member z) l.queue ∙ m)
     (λ z m. inl (sym (ap (member z) l.queue) ∙ m))
-    (λ z m.
-    elim (member-push_cases z w (left old) (sym (ap (member z) (left-more w mark old new l lt first)) ∙ m))
-    [ inl k ↦ inl k | inr e ↦ inr (ap (has_list shown.kept) e ∙ read) ])
+    (λ z n. elim (named-cases new z n) [
+      | inl c ↦ elim (cases_eq z w) [
+        | inl e ↦ inr (ap (has_list shown.kept) e ∙ read (sym (ap candidate_in l.marks.here) ∙ (ap (is_candidate new) (sym e) ∙ c)))
+        | inr ne ↦ inl (named-candidate old z (sym (ap candidate_in (l.marks.others z ne)) ∙ c))
+      ]
+      | inr (inl m) ↦ inl (named-weak old z (sym (ap (member z) l.weak) ∙ m))
+      | inr (inr m) ↦ inl (named-anchor old z (sym (ap (λ xs. member z (seconds xs)) l.shifts) ∙ m))
+    ])

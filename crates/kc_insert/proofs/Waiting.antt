@@ -1,12 +1,13 @@
 -- A vertex that has no candidate before it leaves the queue, and nothing else changes.
-use Rattle.std.proofs.Common.{◌≡◌, ◌≤◌, ◌<◌, ◌+◌, ℕ, true, false, ◌&&◌, List, ◌∷◌, length, get_or, refl, sym, ◌∙◌, ap, subst, inl, inr, arith, true≢false}
+use Rattle.std.proofs.Common.{◌≡◌, ◌≢◌, ◌≤◌, ◌<◌, ◌+◌, ℕ, true, false, ◌&&◌, List, ◌∷◌, length, get_or, refl, sym, ◌∙◌, ap, subst, inl, inr, arith, true≢false}
 use Rattle.std.proofs.lemmas.Bool.{cases_eq, false_from_ne_true}
+use Rattle.std.proofs.lemmas.List.{length-take}
 use Rattle.kc_lists.specs.Lists.{member}
-use Rattle.kc_lists.proofs.Counting.{member-push_cases, member-filter}
+use Rattle.kc_lists.proofs.Counting.{member-get_or, member-push_cases, member-filter}
 use Rattle.kc_lists.proofs.Members.{member-head}
 use Rattle.kc_cert.specs.Ranks.{AscendsBy}
 use Rattle.kc_cert.proofs.Final.{filter-has}
-use Rattle.kc_view.specs.Search.{Search}
+use Rattle.kc_view.specs.Search.{Search, OnLevel, Forward, at_root, further}
 use Rattle.kc_insert.specs.Marks.{candidate_in, earlier_in, later_in}
 use Rattle.kc_insert.specs.Rising.{is_candidate, earlier_at, later_at, cands, left, waiting, IsOrderly}
 use Rattle.kc_insert.specs.Searching.{ahead, Widened, BetweenTurns}
@@ -15,7 +16,8 @@ use Rattle.kc_insert.specs.declared.rising.Mark.{Mark}
 use Rattle.kc_insert.specs.declared.rising.Rising.{Rising}
 use Rattle.kc_insert.proofs.Losses.{cand-left}
 use Rattle.kc_insert.proofs.Raised.{waiting-next}
-use Rattle.kc_insert.proofs.Tidy.{left-more, first-not_left}
+use Rattle.kc_insert.proofs.Steps.{ahead-later}
+use Rattle.kc_insert.proofs.Tidy.{left-queued, left-more, first-not_left}
 use Rattle.kc_insert.proofs.Turning.{turn_pass, turn_same}
 
 -- the first of those that wait is no candidate
@@ -100,3 +102,27 @@ pass-between s root w old new c o lt first l few none (f, b) =
         calm = omega (arith, ap length l.shifts, ap length l.weak, b.calm);
       },
     )
+
+-- whoever the search reaches stands no earlier than the root
+reached-behind : (s : Search) (root x : ℕ) → Forward s root x → s.rank root ≤ s.rank x
+reached-behind s root x at_root = omega arith
+reached-behind s root x (further y z r o a l) = let k : s.rank root ≤ s.rank y = reached-behind s root y r in omega (arith, k, l)
+
+-- Once others have left, the first of those that wait is not the root, so few are ahead of it. Where it has no candidate before it, it leaves
+-- the queue, and the search is between two turns again.
+pub pass-later : (s : Search) (root w : ℕ) (old new : Rising) → Widened s root → IsOrderly old → old.turn < length old.queue.items
+    → get_or old.queue.items old.turn 0 ≡ w
+    → LeavesQueue w (record { earlier = 0; later = 0; turn = 0; is_candidate = false; is_weak = false }) old new → 0 < old.turn
+    → earlier_at old w ≡ 0 → IsBetweenTurns s root old → IsBetweenTurns s root new
+pass-later s root w old new c o lt first l some none (f, b) =
+    let mark : Mark = record { earlier = 0; later = 0; turn = 0; is_candidate = false; is_weak = false } in
+    let waits : member w (waiting old) ≡ true = ap (member w) (waiting-next w mark old new l lt first) ∙ member-head w (waiting new) in
+    let open' : f ≤ s.rank w = b.turns.searching.queue_open w waits in
+    let level : OnLevel s w = b.turns.searching.queue_level w waits in
+    let any : 0 < length (left old) = omega (arith, some, lt, length-take old.turn old.queue.items) in
+    let y : ℕ = get_or (left old) 0 0 in
+    let gone : member y (left old) ≡ true = member-get_or (left old) 0 0 any in
+    let from : s.rank root ≤ s.rank y = reached-behind s root y (b.lined.reached y (left-queued old y gone)) in
+    let before : s.rank y < f = b.lined.passed y gone in
+    let other : w ≢ root = λ e. let k : s.rank w ≡ s.rank root = ap s.rank e in absurd (omega (arith, k, from, before, open')) in
+    pass-between s root w old new c o lt first l (omega (arith, ahead-later s root c w level, c.few w level.here other, level.level)) none (f, b)

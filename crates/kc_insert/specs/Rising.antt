@@ -1,5 +1,5 @@
 -- The queue, the candidates and the evicted, and what holds of them for every view.
-use Rattle.std.specs.Prelude.{◌≡◌, ◌≤◌, ◌<◌, ◌⊎◌, ℕ, Bool, true, List, All, is_some, length, take, drop, slice_index}
+use Rattle.std.specs.Prelude.{◌≡◌, ◌≤◌, ◌<◌, ◌⊎◌, ◌||◌, ℕ, Bool, true, List, All, is_some, length, take, drop, slice_index}
 use Rattle.std.specs.List.{filter}
 use Rattle.kc_lists.specs.Lists.{member, Distinct}
 use Rattle.kc_graph.specs.declared.update.Update.{Update}
@@ -51,6 +51,10 @@ waiting r = drop r.turn r.queue.items
 abbrev pub pending : Rising → List ℕ
 pending r = drop (length r.shifts.items) r.seen.weak.items
 
+-- whether moves may name `y`: a candidate, one that was found too weak, or one that another is put behind
+abbrev pub is_named : Rising → ℕ → Bool
+is_named r y = is_candidate r y || (member y r.seen.weak.items || member y (seconds r.shifts.items))
+
 -- what holds whatever was answered
 pub record IsOrderly (r : Rising) : Type 0 where
   pub once : Distinct r.queue.items
@@ -75,5 +79,5 @@ pub record IsTidyRising (update : Update) (shown : Shown) (r : Rising) : Type 0 
   pub orderly : IsOrderly r
   pub within : (z : ℕ) → member z r.queue.items ≡ true → z < shown.size
   pub placed : (z : ℕ) → member z r.queue.items ≡ true → has_core shown.kept z ≡ true
-  pub read : (z : ℕ) → member z (left r) ≡ true → has_list shown.kept z ≡ true
+  pub read : (z : ℕ) → is_named r z ≡ true → has_list shown.kept z ≡ true
   pub asks : AsksQueued update shown.kept r.queue.items

@@ -28,11 +28,13 @@ impl Rising {
         requires ends { search.update.v < (V.shown view.old).size }
         requires some { length self.old.shifts.items < length self.old.seen.weak.items }
         requires anchor { member anchor (left self.old) ≡ true }
+        requires read { has_list (V.shown view.old).kept anchor ≡ true }
         requires tidy { IsTidyRising search.update (V.shown view.old) self.old }
         ensures goes_on { GoesOn (V.shown view.old) (V.shown view.new) }
         ensures cause { IfErr result (λ fault. HasPlanCause (V.shown view.old) (V.shown view.new) fault) }
         ensures tidy { OnOk result (IsTidyRising search.update (V.shown view.new) self.new) }
         ensures evicted { IfOk result (λ x. member x (left self.new) ≡ true) }
+        ensures read { IfOk result (λ x. has_list (V.shown view.new).kept x ≡ true) }
         ensures one { OnOk result (length self.new.shifts.items ≡ length self.old.shifts.items + 1) }
         ensures turn { OnOk result (self.new.turn ≡ self.old.turn) }
         ensures settling { IfOk result (λ x. (s : Ranked) (root : ℕ) → Agrees (V.shown view.new).kept s
@@ -56,6 +58,7 @@ impl Rising {
     ) -> Result<(), PlanFault>
         requires ends { search.update.v < (V.shown view.old).size }
         requires anchor { member w (left self.old) ≡ true }
+        requires read { has_list (V.shown view.old).kept w ≡ true }
         requires tidy { IsTidyRising search.update (V.shown view.old) self.old }
         ensures goes_on { GoesOn (V.shown view.old) (V.shown view.new) }
         ensures cause { IfErr result (λ fault. HasPlanCause (V.shown view.old) (V.shown view.new) fault) }

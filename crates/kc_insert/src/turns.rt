@@ -14,9 +14,9 @@ use crate::row::fill_row;
 use kc_view::{PlanFault, Search, View};
 
 impl Rising {
-    /// The turn of the vertex that waits first: it becomes a candidate, or is settled, or leaves the queue and changes nothing. What stands in
+    /// Visits the vertex that waits first: it becomes a candidate, or is settled, or leaves the queue and changes nothing. What stands in
     /// `row` and `ahead` is of turns before, and is overwritten.
-    fn take_turn<V: View>(
+    fn visit<V: View>(
         &mut self,
         view: &mut V,
         search: Search,
@@ -46,6 +46,34 @@ impl Rising {
         }
         self.leave(w, Mark::past())?;
         Ok(())
+    }
+
+    /// The turn of the vertex that waits first. The root is visited, and whoever has candidates before it. Any other has no more neighbours
+    /// ahead than before the edge came, so it leaves the queue and changes nothing, and its list is not asked.
+    fn take_turn<V: View>(
+        &mut self,
+        view: &mut V,
+        search: Search,
+        row: &mut Vec<u32>,
+        ahead: &mut Ahead,
+    ) -> Result<(), PlanFault>
+        requires ends { search.update.v < (V.shown view.old).size }
+        requires turn { self.old.turn < length self.old.queue.items }
+        requires tidy { IsTidyRising search.update (V.shown view.old) self.old }
+        ensures goes_on { GoesOn (V.shown view.old) (V.shown view.new) }
+        ensures cause { IfErr result (λ fault. HasPlanCause (V.shown view.old) (V.shown view.new) fault) }
+        ensures tidy { OnOk result (IsTidyRising search.update (V.shown view.new) self.new) }
+        ensures turn { OnOk result (self.new.turn ≡ self.old.turn + 1) }
+        ensures turns { OnOk result ((s : Ranked) (root : ℕ) → search.update.v < s.graph.size → Agrees (V.shown view.new).kept s
+            → Widened (search_with search.update search.level s) root → IsBetweenTurns (search_with search.update search.level s) root self.old
+            → IsBetweenTurns (search_with search.update search.level s) root self.new) }
+    {
+        let w = self.queue[self.turn];
+        if self.turn > 0 && self.earlier_of(w) == 0 {
+            self.leave(w, Mark::past())?;
+            return Ok(());
+        }
+        self.visit(view, search, row, ahead)
     }
 
     /// Takes the turns of all that wait, and of those that are queued meanwhile.

@@ -93,7 +93,7 @@ returns-clause-asked g c = λ s h a.
 pub returns-clause-named : goal.returns-clause-named
 returns-clause-named g c = λ x m.
     let r : Rising = c.in_ok-rising.rising in
-    named-read c.args.update (g.V.View.shown c.find_rising.new.view) r x c.in_ok-rising.ensures.tidy c.in_ok-rising.ensures.ended
+    named-read c.args.update (g.V.View.shown c.find_rising.new.view) r x c.in_ok-rising.ensures.tidy
     (subst (λ (xs : List ℕ). member x ((xs ++ firsts r.shifts.items) ++ seconds r.shifts.items) ≡ true) c.in_ok-rise.ensures m)
 
 pub returns-clause-sure : goal.returns-clause-sure

@@ -1,12 +1,14 @@
 -- The first weak candidate not evicted yet has left the queue; put behind `anchor`, with its neighbours' losses, it is one eviction.
-use Rattle.std.proofs.Common.{true, length, get_or, ◌≡◌, ℕ, List, sym, ◌∙◌, subst, inr}
+use Rattle.std.proofs.Common.{true, length, get_or, ◌≡◌, ℕ, List, sym, ◌∙◌, ap, subst, inl, inr}
 use Rattle.kc_lists.specs.Lists.{member, Distinct}
 use Rattle.kc_graph.proofs.RowsLemmas.{Distinct-from_increasing}
+use Rattle.kc_view.specs.Answers.{has_list}
+use Rattle.kc_view.proofs.Keeping.{still_has_list}
 use Rattle.kc_insert.specs.Rising.{turn_at}
 use Rattle.kc_insert.specs.Turns.{Loses}
 use Rattle.kc_insert.specs.declared.rising.Rising.{Rising}
 use Rattle.kc_insert.specs.declared.losing.Loss.TheVariants as loss
-use Rattle.kc_insert.proofs.Evicting.{next-weak, next-left, evict-orderly, stays-tidy, evicted-now}
+use Rattle.kc_insert.proofs.Evicting.{next-weak, next-left, evict-orderly, loses-named, evicts-named, stays-tidy, evicted-now}
 use Rattle.kc_insert.proofs.Rows.{row-is}
 use Rattle.kc_insert.proofs.Tidy.{left-queued, tidy-view}
 use Rattle.kc_insert.proofs.rising.Rising.evict_next.Given.{Over}
@@ -52,7 +54,11 @@ returns-clause-tidy g c =
     let asks = e.asks queue t.asks (inr (is-next g (goal.at.returns-clause-tidy g c).After-index-x).queued) in
     stays-tidy update now c.args.self.now c.lose_each.new.self
     (tidy-view update (g.V.View.shown c.args.view.now) now c.args.self.now t e.goes_on.lasts.same_size e.goes_on.further asks) l.orderly
-    (l.loses.queue ∙ ev.queue) (l.loses.turn ∙ ev.turn)
+    (l.loses.queue ∙ ev.queue) (λ z n.
+    elim (evicts-named c.index-x.result.now c.args.anchor c.args.self.now c.evict.new.self ev z (loses-named _ _ _ _ _ l.loses z n)) [
+      | inl k ↦ inl k
+      | inr is ↦ inr (ap (has_list now.kept) is ∙ still_has_list _ _ c.args.anchor e.goes_on.further c.requires.read)
+    ])
 
 pub returns-clause-settling : goal.returns-clause-settling
 returns-clause-settling g c = λ s root a w st.

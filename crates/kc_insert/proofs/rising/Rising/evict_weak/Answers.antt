@@ -23,6 +23,7 @@ loop-search-preserved g c =
       goes_on = GoesOn-trans _ _ _ i.goes_on o.goes_on;
       tidy = o.tidy;
       anchor = o.evicted;
+      read = o.read;
       turn = o.turn ∙ i.turn;
       settling = λ s root a w st. o.settling s root a w (i.settling s root (answers-agreed _ _ s o.goes_on.further a) w st);
     }

@@ -1,8 +1,8 @@
--- A settling is under way whose last vertex is `anchor`, which has left the queue; the turn stays, and the shifts grow.
+-- A settling is under way whose last vertex is `anchor`, which has left the queue and was read; the turn stays, and the shifts grow.
 use Rattle.std.proofs.Common.{◌≡◌, ◌-◌, ℕ, true, length}
 use Rattle.kc_lists.specs.Lists.{member}
 use Rattle.kc_graph.specs.Lawful.{Ranked}
-use Rattle.kc_view.specs.Answers.{Agrees}
+use Rattle.kc_view.specs.Answers.{Agrees, has_list}
 use Rattle.kc_view.specs.Views.{GoesOn}
 use Rattle.kc_insert.specs.Added.{search_with}
 use Rattle.kc_insert.specs.Rising.{left, IsTidyRising}
@@ -17,6 +17,7 @@ invariant-loop-search g l =
       goes_on : GoesOn (v.shown l.fn.view) (v.shown l.view);
       tidy : IsTidyRising l.search.update (v.shown l.view) l.self;
       anchor : member l.anchor (left l.self) ≡ true;
+      read : has_list (v.shown l.view).kept l.anchor ≡ true;
       turn : l.self.turn ≡ l.fn.self.turn;
       settling : (s : Ranked) (root : ℕ) → Agrees (v.shown l.view).kept s → Widened (search_with l.search.update l.search.level s) root
           → IsSettling (search_with l.search.update l.search.level s) root l.fn.self l.w

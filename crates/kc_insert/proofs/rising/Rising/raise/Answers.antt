@@ -14,7 +14,7 @@ pass_on-requires-clause-tidy g c =
     let mark = c.candidate.ensures in (
       t.0,
       leave-tidy t.0 _ c.args.w c.candidate.result c.args.self.now c.leave.new.self t.1 c.in_ok-leave.ensures c.requires.turn
-          c.requires.first (λ _. ap (λ (m : Mark). m.turn) mark) (ap (λ (m : Mark). m.is_weak) mark) c.requires.read,
+          c.requires.first (λ _. ap (λ (m : Mark). m.turn) mark) (ap (λ (m : Mark). m.is_weak) mark) (λ _. c.requires.read),
     )
 
 pub returns-clause-tidy : goal.returns-clause-tidy
@@ -22,7 +22,7 @@ returns-clause-tidy g c = λ update t.
     let mark = c.candidate.ensures in
     c.in_ok-pass_on.ensures.tidy update
     (leave-tidy update _ c.args.w c.candidate.result c.args.self.now c.leave.new.self t c.in_ok-leave.ensures c.requires.turn
-    c.requires.first (λ _. ap (λ (m : Mark). m.turn) mark) (ap (λ (m : Mark). m.is_weak) mark) c.requires.read)
+    c.requires.first (λ _. ap (λ (m : Mark). m.turn) mark) (ap (λ (m : Mark). m.is_weak) mark) (λ _. c.requires.read))
 
 pub returns-clause-raised : goal.returns-clause-raised
 returns-clause-raised g c = λ update level s root a wide strong ahead' between.
@@ -35,7 +35,7 @@ returns-clause-raised g c = λ update level s root a wide strong ahead' between.
     let p = c.in_ok-pass_on.ensures in
     let turn = ap (λ (m : Mark). m.turn) mark in
     let weak = ap (λ (m : Mark). m.is_weak) mark in
-    let tm = leave-tidy update' _ c.args.w c.candidate.result old mid t l c.requires.turn c.requires.first (λ _. turn) weak c.requires.read in
+    let tm = leave-tidy update' _ c.args.w c.candidate.result old mid t l c.requires.turn c.requires.first (λ _. turn) weak (λ _. c.requires.read) in
     let value = c.deref.ensures.value in
     let passed : PassedOn c.args.ahead.now.next.items mid new = subst (λ (xs : List ℕ). PassedOn xs mid new) value p.passed in
     let stand : (y : ℕ) → member y c.deref.result.now ≡ true → StandsBehindLeft (rank_in s.order) mid c.deref.result.now y =

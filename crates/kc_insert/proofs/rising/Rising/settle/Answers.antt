@@ -1,5 +1,5 @@
 -- `w` leaves the queue as no candidate and its neighbours lose by it, which begins a settling; the evictions bring it to its end.
-use Rattle.std.proofs.Common.{◌≡◌, ◌∙◌, ℕ, List, false, sym, ap, subst, true≢false}
+use Rattle.std.proofs.Common.{◌≡◌, ◌∙◌, ℕ, List, false, sym, ap, subst, inl, true≢false}
 use Rattle.std.proofs.lemmas.Result.{on_ok_weaker}
 use Rattle.kc_lists.specs.Lists.{Distinct}
 use Rattle.kc_graph.proofs.RowsLemmas.{Distinct-from_increasing}
@@ -7,7 +7,7 @@ use Rattle.kc_view.proofs.Keeping.{answers-agreed}
 use Rattle.kc_insert.specs.Turns.{Loses}
 use Rattle.kc_insert.specs.declared.losing.Loss.TheVariants as loss
 use Rattle.kc_insert.specs.declared.rising.Mark.{Mark}
-use Rattle.kc_insert.proofs.Evicting.{stays-tidy, settled-now}
+use Rattle.kc_insert.proofs.Evicting.{loses-named, stays-tidy, settled-now}
 use Rattle.kc_insert.proofs.Rows.{row-is}
 use Rattle.kc_insert.proofs.Tidy.{leave-orderly, leave-tidy}
 use Rattle.kc_insert.proofs.rising.Rising.settle.Goals as goal
@@ -30,8 +30,9 @@ evict_weak-requires-clause-tidy g c =
     let t =
     leave-tidy c.args.search.update (g.V.View.shown c.args.view.now) c.args.w c.past.result c.args.self.now c.leave.new.self r.tidy
     c.in_ok-leave.ensures r.turn r.first
-    (λ k. absurd (true≢false (sym k ∙ plain))) (ap (λ (m : Mark). m.is_weak) c.past.ensures) r.read in
-    stays-tidy c.args.search.update (g.V.View.shown c.args.view.now) c.leave.new.self c.lose_each.new.self t l.orderly l.loses.queue l.loses.turn
+    (λ k. absurd (true≢false (sym k ∙ plain))) (ap (λ (m : Mark). m.is_weak) c.past.ensures) (λ _. r.read) in
+    stays-tidy c.args.search.update (g.V.View.shown c.args.view.now) c.leave.new.self c.lose_each.new.self t l.orderly l.loses.queue
+    (λ z n. inl (loses-named _ _ _ _ _ l.loses z n))
 
 pub returns-clause-settled : goal.returns-clause-settled
 returns-clause-settled g c =
