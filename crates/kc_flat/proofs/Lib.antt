@@ -1,4 +1,7 @@
+pub mod Binning
 pub mod Cutting
 pub mod Holding
 pub mod Packed
 pub mod Pairing
+pub mod Swapping
+pub mod Taking

@@ -1,5 +1,6 @@
 -- What public contracts speak of.
 pub mod Pairs
 -- What the crate's own functions and invariants speak of.
+pub mod Bins
 pub mod Parts
 pub mod Turned

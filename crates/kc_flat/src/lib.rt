@@ -1,19 +1,24 @@
-//! A simple undirected graph in one array.
+//! A simple undirected graph in one array, and its core numbers by bins.
 //!
 //! A `FlatGraph` never changes once it is made. The neighbours of all vertices lie in one array, those of each vertex in ascending order
 //! behind those of the vertices before it, and a number for each vertex tells where its part ends. It is made of pairs of vertices in any
-//! order, by counting, with no sort.
+//! order, by counting, with no sort. `decompose` takes a vertex of least remaining degree again and again, and keeps the vertices in bins
+//! of one array (Batagelj and Zaversnik 2003): what it needs beside the graph grows with the vertices alone.
 //!
-//! In clauses the graph is the `SimpleGraph` of `kc_graph`, so its definitions say what edges and neighbours are. `specs/Parts.antt` says
-//! how the array is cut, and `specs/Turned.antt` what a counting pass makes. The crate stands on `kc_graph` and `kc_lists`.
+//! In clauses the graph is the `SimpleGraph` of `kc_graph`, so its definitions say what neighbours, core numbers and certificates are.
+//! `specs/Parts.antt` says how the array is cut, `specs/Turned.antt` what a counting pass makes, and `specs/Bins.antt` what the bins keep.
+//! The crate stands on `kc_graph` and `kc_lists`.
 #![tactic(auto)]
 
+mod bins;
 mod counting;
 mod gathering;
 mod graph;
 mod packing;
 mod parts;
+mod peeling;
 mod turning;
 
 pub use graph::FlatGraph;
 pub use kc_graph::NoMemory;
+pub use peeling::{Decomposition, core_numbers, decompose};
