@@ -20,6 +20,7 @@ END
 cat > "$build/exports.map" << 'END'
 KCORE {
     global: kcore_version; kcore_core_numbers; kcore_degeneracy_order; kcore_check; kcore_k_core;
+        kcore_tally; kcore_verdict;
     local: *;
 };
 END

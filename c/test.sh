@@ -1,6 +1,6 @@
 #!/bin/sh
-# Builds both libraries, and tries them from C and from Python: what is exported and declared, the example on small graphs and on inputs
-# that it refuses, plain and under the address and undefined behaviour sanitizers, with each allocation failing in turn, and the Python
+# Builds both libraries, and tries them from C and from Python: what is exported and declared, the examples on small graphs and on inputs
+# that they refuse, plain and under the address and undefined behaviour sanitizers, with each allocation failing in turn, and the Python
 # tests by the python3 that PYTHON names.
 set -eu
 top=$(cd "$(dirname "$0")/.." && pwd)
@@ -28,6 +28,8 @@ grep -q 'unused' "$build/told"
 
 ${CC:-cc} $flags "$top/examples/c/core_numbers.c" "$build/libkcore.a" -o "$build/core_numbers"
 ${CC:-cc} $flags $sanitized "$top/examples/c/core_numbers.c" "$build/libkcore.a" -o "$build/core_numbers_sanitized"
+${CC:-cc} $flags "$top/examples/c/tally.c" "$build/libkcore.a" -o "$build/tally"
+${CC:-cc} $flags $sanitized "$top/examples/c/tally.c" "$build/libkcore.a" -o "$build/tally_sanitized"
 ${CC:-cc} $flags $wrapped "$top/examples/c/no_memory.c" "$build/libkcore.a" -o "$build/no_memory"
 ${CC:-cc} $flags $sanitized "$top/examples/c/no_memory.c" $wrapped "$build/libkcore.a" -o "$build/no_memory_sanitized"
 
@@ -68,6 +70,12 @@ for room in 8000 20000 40000; do
 done
 (ulimit -v 20000 && echo '0 90000000' | refused 'no memory')
 echo "core_numbers: each line that it can't use is refused, and it tells where a read, a write or an allocation fails"
+for program in tally tally_sanitized; do
+    "$build/$program" < "$top/graphs/karate.txt" > "$build/found"
+    { echo "vertices 34 edges 78 verdict 0 wrong numbers refused 68 of 68"
+      echo "edge twice 12 loop 10 turned 11 past the vertices 4 before its range 12"; } | cmp - "$build/found"
+done
+echo "tally: karate in two pieces; each number that is one off is refused, and each wrong edge with its status"
 "$build/no_memory"
 "$build/no_memory_sanitized"
 cd "$top/python" && ${PYTHON:-python3} -m unittest

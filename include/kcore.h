@@ -4,7 +4,8 @@
  * the set (Seidman 1983). Each function below is a thin layer over one whose contract is proved for all inputs.
  *
  * A graph is its number of vertices, which are then the numbers below it, and a list of edges. Loops are dropped, and an edge that is
- * listed again, in either direction, counts once. The list may be in any order. At most 4,294,967,295 vertices are allowed.
+ * listed again, in either direction, counts once. The list may be in any order. At most 4,294,967,295 vertices are allowed. kcore_tally
+ * alone takes pieces of a list, in which each edge stands once and in order.
  *
  * What a caller owes, and nothing checks:
  *   - each pointer leads to as many initialized values as the length beside it says, is aligned for their type, and is not null, even
@@ -56,7 +57,14 @@ enum kcore_status {
     KCORE_WRONG_MEMBERS_LENGTH = 3, /* `members` has not one place for each vertex. */
     KCORE_NOT_A_VERTEX = 4,         /* An end of edges[number] is no vertex, and of no edge before it. */
     KCORE_NO_MEMORY = 5,            /* There is no memory for the graph or the work. */
-    KCORE_NOT_CERTIFIED = 6         /* kcore_check: the order does not certify the numbers. */
+    KCORE_NOT_CERTIFIED = 6,        /* kcore_check: the order does not certify the numbers. */
+    KCORE_WRONG_RANK_LENGTH = 7,    /* `rank` has not one place for each vertex. */
+    KCORE_WRONG_LATER_LENGTH = 8,   /* `later` has not one place for each vertex. */
+    KCORE_WRONG_SUPPORTERS_LENGTH = 9, /* `supporters` has not one place for each vertex. */
+    KCORE_LOOP = 10,                /* kcore_tally: both ends of edges[number] are the same. */
+    KCORE_GREATER_FIRST = 11,       /* kcore_tally: the greater end of edges[number] stands first. */
+    KCORE_NOT_ABOVE = 12,           /* kcore_tally: edges[number] is not above the edge before it, or `after`. */
+    KCORE_NOT_AGREED = 13           /* kcore_verdict: the counts do not agree with the numbers. */
 };
 
 struct kcore_answer {
@@ -138,6 +146,53 @@ KCORE_LOOK_AT_ANSWER struct kcore_answer kcore_check(uint32_t vertices, const st
  */
 KCORE_LOOK_AT_ANSWER struct kcore_answer kcore_k_core(uint32_t vertices, const struct kcore_edge *edges, size_t edges_len, uint32_t k,
                                                       uint32_t *members, size_t members_len);
+
+/* A certificate that is a sum over edges, for a list of edges that is read in pieces, or lies on many machines. Each vertex v has a claimed
+ * core number core[v] and any rank[v]. Its key is core[v], then rank[v], then v. Each edge gives the end with the lesser key a later
+ * neighbour, and each end whose neighbour has no lesser core number a supporter. kcore_tally adds to `later` and `supporters` what the
+ * edges of a piece give. Counts of different pieces add up, place by place. They stay at UINT32_MAX where they would pass it, which the
+ * counts of a list that has each edge once never do.
+ *
+ *   vertices    how many vertices there are
+ *   after       the first edge has to be above it: by u, and then by v. {0, 0} leaves the first edge free, {from, 0} lets it begin at the
+ *               vertex `from`, and the last edge of the piece before lets this piece go on after that one
+ *   edges       edges_len edges, each with u < v, and each above the one before it; not null
+ *   core        core_len claimed core numbers, where core_len has to be vertices
+ *   rank        rank_len numbers, where rank_len has to be vertices: where in the order of removal each vertex stands, or in which round
+ *               of its core number it is taken
+ *   later, supporters    as many places as vertices: what other pieces gave, zeros at the beginning
+ *
+ * Statuses: KCORE_DONE, KCORE_WRONG_CORE_LENGTH, KCORE_WRONG_RANK_LENGTH, KCORE_WRONG_LATER_LENGTH, KCORE_WRONG_SUPPORTERS_LENGTH, tested
+ * in this order. Then, of the first edge that is wrong, the first of KCORE_NOT_A_VERTEX, KCORE_LOOP, KCORE_GREATER_FIRST and
+ * KCORE_NOT_ABOVE that applies. Where the status is not KCORE_DONE the counts are as they were.
+ * Cost: time linear in the edges of the piece; no memory.
+ *
+ *     struct kcore_edge piece[] = {{0, 1}, {0, 2}, {1, 2}, {2, 3}}, begin = {0, 0};
+ *     uint32_t core[4] = {2, 2, 2, 1}, rank[4] = {0}, later[4] = {0}, supporters[4] = {0};
+ *     answer = kcore_tally(4, begin, piece, 4, core, 4, rank, 4, later, 4, supporters, 4);
+ *     // later is 2, 1, 0, 1, and supporters is 2, 2, 2, 1
+ */
+KCORE_LOOK_AT_ANSWER struct kcore_answer kcore_tally(uint32_t vertices, struct kcore_edge after, const struct kcore_edge *edges,
+                                                     size_t edges_len, const uint32_t *core, size_t core_len, const uint32_t *rank,
+                                                     size_t rank_len, uint32_t *later, size_t later_len, uint32_t *supporters,
+                                                     size_t supporters_len);
+
+/* Whether each vertex has at most as many later neighbours as its number, and at least as many supporters. If the counts are those of
+ * pieces that together have each edge of a graph once, all with the same `core` and `rank`, then KCORE_DONE says that `core` has the core
+ * numbers of the graph. With an order of kcore_degeneracy_order, and the places in it as ranks, the answer is always KCORE_DONE.
+ *
+ *   vertices    how many vertices there are
+ *   core        core_len claimed core numbers, where core_len has to be vertices
+ *   later, supporters    the counts of all pieces, as many as vertices
+ *
+ * Statuses: KCORE_DONE, KCORE_WRONG_CORE_LENGTH, KCORE_WRONG_LATER_LENGTH, KCORE_WRONG_SUPPORTERS_LENGTH, KCORE_NOT_AGREED.
+ * Cost: time linear in the vertices; no memory.
+ *
+ *     answer = kcore_verdict(4, core, 4, later, 4, supporters, 4);
+ *     // answer.status is KCORE_DONE
+ */
+KCORE_LOOK_AT_ANSWER struct kcore_answer kcore_verdict(uint32_t vertices, const uint32_t *core, size_t core_len, const uint32_t *later,
+                                                       size_t later_len, const uint32_t *supporters, size_t supporters_len);
 
 #ifdef __cplusplus
 }

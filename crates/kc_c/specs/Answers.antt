@@ -6,6 +6,7 @@ use Rattle.kc_graph.specs.declared.bulk.Edge.{Edge}
 use Rattle.kc_c.specs.declared.answer.CallResult.{CallResult}
 use Rattle.kc_c.specs.declared.answer.Refusal.{Refusal}
 use Rattle.kc_c.specs.declared.answer.Refusal.TheVariants.{WrongCoreLength, WrongOrderLength, WrongMembersLength, NotAVertex, NoMemory, NotCertified}
+use Rattle.kc_c.specs.declared.answer.Refusal.TheVariants.{WrongRankLength, WrongLaterLength, WrongSupportersLength, Loop, GreaterFirst, NotAbove, NotAgreed}
 
 -- where the first edge stands that has an end which is no vertex
 abbrev pub first_stranger : ℕ → List Edge → Option ℕ
@@ -25,3 +26,10 @@ answer_to (Err WrongMembersLength) = record { status = 3; number = 0 }
 answer_to (Err (NotAVertex place)) = record { status = 4; number = place }
 answer_to (Err NoMemory) = record { status = 5; number = 0 }
 answer_to (Err NotCertified) = record { status = 6; number = 0 }
+answer_to (Err WrongRankLength) = record { status = 7; number = 0 }
+answer_to (Err WrongLaterLength) = record { status = 8; number = 0 }
+answer_to (Err WrongSupportersLength) = record { status = 9; number = 0 }
+answer_to (Err (Loop place)) = record { status = 10; number = place }
+answer_to (Err (GreaterFirst place)) = record { status = 11; number = place }
+answer_to (Err (NotAbove place)) = record { status = 12; number = place }
+answer_to (Err NotAgreed) = record { status = 13; number = 0 }

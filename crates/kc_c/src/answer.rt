@@ -24,6 +24,20 @@ pub(crate) enum Refusal {
     NoMemory,
     /// The order does not certify the numbers.
     NotCertified,
+    /// `rank` has not one place for each vertex.
+    WrongRankLength,
+    /// `later` has not one place for each vertex.
+    WrongLaterLength,
+    /// `supporters` has not one place for each vertex.
+    WrongSupportersLength,
+    /// Both ends of the edge at this place are the same.
+    Loop(usize),
+    /// The greater end of the edge at this place stands first.
+    GreaterFirst(usize),
+    /// The edge at this place is not above the one before it.
+    NotAbove(usize),
+    /// The counts do not agree with the numbers.
+    NotAgreed,
 }
 
 /// The answer that tells C how a call ended.
@@ -38,6 +52,13 @@ pub(crate) fn answer_to(outcome: Result<usize, Refusal>) -> CallResult
         Err(Refusal::NotAVertex(place)) => (4, place),
         Err(Refusal::NoMemory) => (5, 0),
         Err(Refusal::NotCertified) => (6, 0),
+        Err(Refusal::WrongRankLength) => (7, 0),
+        Err(Refusal::WrongLaterLength) => (8, 0),
+        Err(Refusal::WrongSupportersLength) => (9, 0),
+        Err(Refusal::Loop(place)) => (10, place),
+        Err(Refusal::GreaterFirst(place)) => (11, place),
+        Err(Refusal::NotAbove(place)) => (12, place),
+        Err(Refusal::NotAgreed) => (13, 0),
     };
     CallResult { status, number }
 }

@@ -1,8 +1,8 @@
 //! Core numbers, their certificates and k-cores, for callers in C.
 //!
 //! A graph is given by its number of vertices, which are the numbers below it, and a list of edges: loops are dropped, and an edge that
-//! is listed again, in either direction, counts once (`kc_graph/specs/Bulk.antt`). Each function below calls one of `kc_graph` or
-//! `kc_cert` and promises what that one does. No function has a `requires`, since nothing checks a caller in C: each argument is tested,
+//! is listed again, in either direction, counts once (`kc_graph/specs/Bulk.antt`). Each function below calls one of `kc_graph`,
+//! `kc_cert` or `kc_tally` and promises what that one does. `kcore_tally` takes a piece of the edges, which has each of its edges once. No function has a `requires`, since nothing checks a caller in C: each argument is tested,
 //! and the `status` of the answer says what was wrong. Where it is not 0 nothing was written.
 //!
 //! | Status | Meaning | `number` |
@@ -14,6 +14,11 @@
 //! | 4 | an end of an edge is no vertex | where the first such edge stands |
 //! | 5 | there is no memory | 0 |
 //! | 6 | the order does not certify the numbers | 0 |
+//! | 7, 8, 9 | `rank`, `later` or `supporters` has not one place for each vertex | 0 |
+//! | 10 | both ends of an edge of a piece are the same | where the first edge of the piece stands that is wrong |
+//! | 11 | its greater end stands first | the same |
+//! | 12 | it is not above the edge before it | the same |
+//! | 13 | the counts do not agree with the numbers | 0 |
 //!
 //! `include/kcore.h` declares the functions for C, and `examples/c` calls them. `kcore_version` tells which version of them is linked.
 #![tactic(auto)]
@@ -21,19 +26,26 @@
 mod answer;
 mod calls;
 mod members;
+mod tallying;
 #[cfg(test)]
 mod tests;
 
-ghost use Rattle.std.specs.Prelude.{◌≡◌, ◌≢◌, ◌≤◌, ◌&&◌, ◌||◌, ◌==◌, not, true, length, is_some, Some, take, drop};
+ghost use Rattle.std.specs.Prelude.{◌≡◌, ◌≢◌, ◌≤◌, ◌<◌, ◌+◌, ◌++◌, ◌&&◌, ◌||◌, ◌==◌, not, true, ℕ, List, length, is_some, Some, take, drop, slice_index};
 ghost use Rattle.kc_graph.specs.Bulk.{graph_with};
 ghost use Rattle.kc_graph.specs.Certificate.{Certifies};
 ghost use Rattle.kc_graph.specs.Core.{AreCoreNumbers};
+ghost use Rattle.kc_graph.specs.Lawful.{ArePlaces};
+ghost use Rattle.kc_graph.specs.declared.bulk.Edge.{Edge};
+ghost use Rattle.kc_tally.specs.Lists.{ListsEachOnce};
+ghost use Rattle.kc_tally.specs.Tallies.{AreBetween, AreTallied, capped, later_count, supporter_count};
 ghost use Rattle.kc_c.specs.Answers.{first_stranger};
 ghost use Rattle.kc_c.specs.KCores.{AreCoreMembers};
+ghost use Rattle.kc_c.specs.Tallying.{tally_answer};
 
 pub use crate::answer::CallResult;
 use crate::answer::answer_to;
 use crate::calls::{check_numbers, write_core_numbers, write_decomposition, write_k_core};
+use crate::tallying::{judge, tally_piece};
 use kc_graph::Edge;
 use std::alloc::Global;
 
@@ -136,4 +148,58 @@ pub extern "C" fn kcore_k_core(
     ensures no_memory { result.status ≡ 5 → result.number ≡ 0 }
 {
     answer_to(write_k_core(alloc, vertices, edges, k, members))
+}
+
+/// Adds to `later` and `supporters` what a piece of the edges gives each vertex, by the claimed core numbers and any ranks: a later
+/// neighbour where it has the lesser key of an edge's two ends (core number, then rank, then the vertex itself), and a supporter where the
+/// other end has no lesser core number. Each edge has its lesser end first and is above the one before it, the first one above `after`,
+/// which (0, 0) leaves free.
+#[unsafe(no_mangle)]
+pub extern "C" fn kcore_tally(
+    vertices: u32,
+    after: Edge,
+    edges: &[Edge],
+    core: &[u32],
+    rank: &[u32],
+    later: &mut [u32],
+    supporters: &mut [u32],
+) -> CallResult
+    ensures answered { result ≡ tally_answer vertices after edges.now core.now rank.now later.old supporters.old }
+    ensures later { result.status ≡ 0 → (v : ℕ) → v < vertices
+        → slice_index later.new v ≡ capped (slice_index later.old v + later_count core.now rank.now edges.now v) }
+    ensures supporters { result.status ≡ 0 → (v : ℕ) → v < vertices
+        → slice_index supporters.new v ≡ capped (slice_index supporters.old v + supporter_count core.now edges.now v) }
+    ensures later_kept { result.status ≢ 0 → later.new ≡ later.old }
+    ensures supporters_kept { result.status ≢ 0 → supporters.new ≡ supporters.old }
+    ensures once { result.status ≡ 0 → ListsEachOnce vertices edges.now }
+    ensures tally { result.status ≡ 0 → (earlier : List Edge) → AreTallied core.now rank.now earlier later.old supporters.old
+        → AreTallied core.now rank.now (earlier ++ edges.now) later.new supporters.new }
+{
+    answer_to(tally_piece(vertices, after, edges, core, rank, later, supporters))
+}
+
+/// Whether the counts of all pieces together agree with the claimed core numbers: each vertex has at most as many later neighbours as its
+/// number, and at least as many supporters. If the pieces had each edge once, the numbers are the core numbers then.
+#[unsafe(no_mangle)]
+pub extern "C" fn kcore_verdict(
+    vertices: u32,
+    core: &[u32],
+    later: &[u32],
+    supporters: &[u32],
+) -> CallResult
+    ensures known { (result.status == 0 || result.status == 1 || result.status == 8 || result.status == 9 || result.status == 13) ≡ true }
+    ensures agreed { result.status ≡ 0 → AreBetween core.now later.now supporters.now }
+    ensures not_agreed { result.status ≡ 13 → AreBetween core.now later.now supporters.now → ⊥ }
+    ensures seidman { result.status ≡ 0 → (rank : List ℕ) (edges : List Edge) → ListsEachOnce vertices edges
+        → AreTallied core.now rank edges later.now supporters.now → AreCoreNumbers (graph_with vertices edges) core.now }
+    ensures complete { (order rank : List ℕ) (edges : List Edge) → ListsEachOnce vertices edges
+        → Certifies (graph_with vertices edges) core.now order → ArePlaces order rank
+        → AreTallied core.now rank edges later.now supporters.now → result.status ≡ 0 }
+    ensures core_length { result.status == 1 ≡ not (length core.now == vertices) }
+    ensures later_length { result.status == 8 ≡ (length core.now == vertices && not (length later.now == vertices)) }
+    ensures supporters_length { result.status == 9
+        ≡ (length core.now == vertices && length later.now == vertices && not (length supporters.now == vertices)) }
+    ensures no_place { result.number ≡ 0 }
+{
+    answer_to(judge(vertices, core, later, supporters))
 }

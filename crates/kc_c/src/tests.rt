@@ -1,7 +1,7 @@
 //! The exported functions, called with small graphs. The answers are worked out by hand.
 use crate::{
-    CallResult, kcore_check, kcore_core_numbers, kcore_degeneracy_order, kcore_k_core,
-    kcore_version,
+    CallResult, kcore_check, kcore_core_numbers, kcore_degeneracy_order, kcore_k_core, kcore_tally,
+    kcore_verdict, kcore_version,
 };
 use kc_graph::Edge;
 use std::process::Abort;
@@ -171,6 +171,57 @@ fn a_refused_call_writes_nothing(rt: HostRuntime) -> Result<(), Fail> {
     );
     assert_eq!(rt; kcore_core_numbers(rt.alloc(), 0, &[], &mut []), done(0));
     Ok(())
+}
+
+/// The edges of the triangle with a tail whose lesser end is 0, and the others.
+const FIRST: [Edge; 2] = [Edge { u: 0, v: 1 }, Edge { u: 0, v: 2 }];
+
+const SECOND: [Edge; 2] = [Edge { u: 1, v: 2 }, Edge { u: 2, v: 3 }];
+
+const FREE: Edge = Edge { u: 0, v: 0 };
+
+/// The verdict on numbers whose edges are counted in two pieces, the second from vertex 1 on.
+fn verdict_on<R: Abort>(rt: &R, core: &[u32; 5]) -> CallResult {
+    let (mut later, mut supporters) = ([0; 5], [0; 5]);
+    let gate = Edge { u: 1, v: 0 };
+    let first = kcore_tally(5, FREE, &FIRST, core, &[0; 5], &mut later, &mut supporters);
+    assert_eq!(rt; first, done(0));
+    let second = kcore_tally(5, gate, &SECOND, core, &[0; 5], &mut later, &mut supporters);
+    assert_eq!(rt; second, done(0));
+    kcore_verdict(5, core, &later, &supporters)
+}
+
+#[test]
+fn numbers_that_are_certified_in_pieces(rt: HostRuntime) {
+    assert_eq!(&rt; verdict_on(&rt, &[2, 2, 2, 1, 0]), done(0));
+    assert_eq!(&rt; verdict_on(&rt, &[2, 2, 2, 2, 0]), refused(13));
+    assert_eq!(&rt; verdict_on(&rt, &[2, 2, 2, 0, 0]), refused(13));
+}
+
+#[test]
+fn a_refused_piece_counts_nothing(rt: HostRuntime) {
+    let (mut later, mut supporters) = ([7; 5], [8; 5]);
+    let (core, rank) = ([2, 2, 2, 1, 0], [0; 5]);
+    let cases = [
+        (Edge { u: 1, v: 5 }, 4),
+        (Edge { u: 1, v: 1 }, 10),
+        (Edge { u: 2, v: 1 }, 11),
+        (Edge { u: 0, v: 1 }, 12),
+    ];
+    for (edge, status) in cases {
+        let piece = [Edge { u: 0, v: 1 }, edge];
+        let answer = kcore_tally(5, FREE, &piece, &core, &rank, &mut later, &mut supporters);
+        assert_eq!(&rt; answer, CallResult { status, number: 1 });
+    }
+    let lengths = [
+        kcore_tally(6, FREE, &[], &core, &rank, &mut later, &mut supporters),
+        kcore_tally(5, FREE, &[], &core, &rank[..4], &mut later, &mut supporters),
+        kcore_tally(5, FREE, &[], &core, &rank, &mut later[..4], &mut supporters),
+        kcore_tally(5, FREE, &[], &core, &rank, &mut later, &mut supporters[..4]),
+    ];
+    assert_eq!(&rt; lengths, [refused(1), refused(7), refused(8), refused(9)]);
+    assert_eq!(&rt; later, [7; 5]);
+    assert_eq!(&rt; supporters, [8; 5]);
 }
 
 #[test]

@@ -1,0 +1,106 @@
+//! The calls for pieces of the edges.
+ghost use Rattle.std.specs.Prelude.{◌≡◌, ◌≢◌, ◌&&◌, ◌<◌, ◌+◌, ◌++◌, ◌==◌, not, ◌||◌, true, ℕ, List, length, slice_index};
+ghost use Rattle.kc_graph.specs.Bulk.{graph_with};
+ghost use Rattle.kc_graph.specs.Certificate.{Certifies};
+ghost use Rattle.kc_graph.specs.Core.{AreCoreNumbers};
+ghost use Rattle.kc_graph.specs.Lawful.{ArePlaces};
+ghost use Rattle.kc_graph.specs.declared.bulk.Edge.{Edge};
+ghost use Rattle.kc_tally.specs.Lists.{ListsEachOnce};
+ghost use Rattle.kc_tally.specs.Tallies.{AreTallied, AreBetween, capped, later_count, supporter_count};
+ghost use Rattle.kc_c.specs.Answers.{answer_to};
+ghost use Rattle.kc_c.specs.Tallying.{piece_answer, tally_answer};
+
+use crate::answer::Refusal;
+use kc_graph::Edge;
+use kc_tally::{EdgeFault, FirstFault, count, verdict};
+
+/// How a piece is refused.
+fn refusal_of(first: FirstFault) -> Refusal
+    ensures { answer_to (Err result) ≡ piece_answer (Some first) }
+{
+    match first.fault {
+        EdgeFault::NotAVertex => Refusal::NotAVertex(first.place),
+        EdgeFault::Loop => Refusal::Loop(first.place),
+        EdgeFault::GreaterFirst => Refusal::GreaterFirst(first.place),
+        EdgeFault::NotAbove => Refusal::NotAbove(first.place),
+    }
+}
+
+/// Adds to the counts what a piece of the edges gives.
+pub(crate) fn tally_piece(
+    vertices: u32,
+    after: Edge,
+    edges: &[Edge],
+    core: &[u32],
+    rank: &[u32],
+    later: &mut [u32],
+    supporters: &mut [u32],
+) -> Result<usize, Refusal>
+    ensures answered { answer_to result ≡ tally_answer vertices after edges.now core.now rank.now later.old supporters.old }
+    ensures later { (answer_to result).status ≡ 0 → (v : ℕ) → v < vertices
+        → slice_index later.new v ≡ capped (slice_index later.old v + later_count core.now rank.now edges.now v) }
+    ensures supporters { (answer_to result).status ≡ 0 → (v : ℕ) → v < vertices
+        → slice_index supporters.new v ≡ capped (slice_index supporters.old v + supporter_count core.now edges.now v) }
+    ensures later_kept { (answer_to result).status ≢ 0 → later.new ≡ later.old }
+    ensures supporters_kept { (answer_to result).status ≢ 0 → supporters.new ≡ supporters.old }
+    ensures once { (answer_to result).status ≡ 0 → ListsEachOnce vertices edges.now }
+    ensures tally { (answer_to result).status ≡ 0 → (earlier : List Edge) → AreTallied core.now rank.now earlier later.old supporters.old
+        → AreTallied core.now rank.now (earlier ++ edges.now) later.new supporters.new }
+{
+    let places = vertices as usize;
+    if core.len() != places {
+        return Err(Refusal::WrongCoreLength);
+    }
+    if rank.len() != places {
+        return Err(Refusal::WrongRankLength);
+    }
+    if later.len() != places {
+        return Err(Refusal::WrongLaterLength);
+    }
+    if supporters.len() != places {
+        return Err(Refusal::WrongSupportersLength);
+    }
+    match count(core, rank, Some(after), edges, later, supporters) {
+        Ok(()) => Ok(0),
+        Err(first) => Err(refusal_of(first)),
+    }
+}
+
+/// Whether the counts agree with the numbers.
+pub(crate) fn judge(
+    vertices: u32,
+    core: &[u32],
+    later: &[u32],
+    supporters: &[u32],
+) -> Result<usize, Refusal>
+    ensures known { ((answer_to result).status == 0 || (answer_to result).status == 1 || (answer_to result).status == 8
+        || (answer_to result).status == 9 || (answer_to result).status == 13) ≡ true }
+    ensures agreed { (answer_to result).status ≡ 0 → AreBetween core.now later.now supporters.now }
+    ensures not_agreed { (answer_to result).status ≡ 13 → AreBetween core.now later.now supporters.now → ⊥ }
+    ensures seidman { (answer_to result).status ≡ 0 → (rank : List ℕ) (edges : List Edge) → ListsEachOnce vertices edges
+        → AreTallied core.now rank edges later.now supporters.now → AreCoreNumbers (graph_with vertices edges) core.now }
+    ensures complete { (order rank : List ℕ) (edges : List Edge) → ListsEachOnce vertices edges
+        → Certifies (graph_with vertices edges) core.now order → ArePlaces order rank
+        → AreTallied core.now rank edges later.now supporters.now → (answer_to result).status ≡ 0 }
+    ensures core_length { (answer_to result).status == 1 ≡ not (length core.now == vertices) }
+    ensures later_length { (answer_to result).status == 8 ≡ (length core.now == vertices && not (length later.now == vertices)) }
+    ensures supporters_length { (answer_to result).status == 9
+        ≡ (length core.now == vertices && length later.now == vertices && not (length supporters.now == vertices)) }
+    ensures no_place { (answer_to result).number ≡ 0 }
+{
+    let places = vertices as usize;
+    if core.len() != places {
+        return Err(Refusal::WrongCoreLength);
+    }
+    if later.len() != places {
+        return Err(Refusal::WrongLaterLength);
+    }
+    if supporters.len() != places {
+        return Err(Refusal::WrongSupportersLength);
+    }
+    if verdict(core, later, supporters) {
+        Ok(0)
+    } else {
+        Err(Refusal::NotAgreed)
+    }
+}
