@@ -14,6 +14,9 @@ A graph is given as `edges`, in one of three forms:
 In the first two forms the vertices are the numbers below `vertices`, or up to the greatest end where `vertices` is left out. Loops are
 dropped, and an edge that is listed again, in either direction, counts once.
 
+Edges that are read in pieces, or lie on many machines, are for `Certificate`: it tells whether numbers from anywhere are the core numbers
+of all of them, with memory for the vertices alone.
+
 A graph of networkx may not be directed, since networkx counts the edges in and out of a node there: give its `to_undirected()`.
 
 The library is the file that the environment variable KCORE_LIBRARY names, or else build/libkcore.so of this repository, which c/build.sh
@@ -27,5 +30,6 @@ References
 """
 
 from ._api import NotAVertexError, check, core_numbers, degeneracy_order, k_core
+from ._certificate import Certificate, WrongEdgeError
 
-__all__ = ["NotAVertexError", "check", "core_numbers", "degeneracy_order", "k_core"]
+__all__ = ["Certificate", "NotAVertexError", "WrongEdgeError", "check", "core_numbers", "degeneracy_order", "k_core"]

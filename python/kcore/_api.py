@@ -80,16 +80,17 @@ class _Graph:
         """Calls the library. Raises NotAVertexError or MemoryError, and RuntimeError at a status that is neither 0 nor one of `other`."""
         answer = function(self.vertices, _lists.address(self.ends), self.edges, *arguments)
         if answer.status == _library.NOT_A_VERTEX:
-            if self.like_array:
-                first, second = self.ends.reshape(-1, 2)[answer.number]
-            else:
-                first, second = self.ends[2 * answer.number], self.ends[2 * answer.number + 1]
-            raise NotAVertexError(answer.number, (int(first), int(second)), self.vertices)
+            raise NotAVertexError(answer.number, self.edge(answer.number), self.vertices)
         if answer.status == _library.NO_MEMORY:
             raise MemoryError("there is no memory for the graph")
         if answer.status != _library.DONE and answer.status not in other:
             raise RuntimeError(f"{function.__name__} answered the status {answer.status}, which is not one that it may have here")
         return answer
+
+    def edge(self, place: int) -> Tuple[int, int]:
+        """The ends of the edge at this place."""
+        first, second = self.ends.reshape(-1, 2)[place] if self.like_array else self.ends[2 * place : 2 * place + 2]
+        return int(first), int(second)
 
     def room(self) -> Any:
         """A place for each vertex."""

@@ -7,9 +7,16 @@ import os
 from pathlib import Path
 
 DONE, WRONG_CORE_LENGTH, WRONG_ORDER_LENGTH, WRONG_MEMBERS_LENGTH, NOT_A_VERTEX, NO_MEMORY, NOT_CERTIFIED = range(7)
+WRONG_RANK_LENGTH, WRONG_LATER_LENGTH, WRONG_SUPPORTERS_LENGTH, LOOP, GREATER_FIRST, NOT_ABOVE, NOT_AGREED = range(7, 14)
 
 #: The version of the library that this module calls, as KCORE_VERSION of include/kcore.h.
 VERSION = 0x000100
+
+
+class Edge(ctypes.Structure):
+    """Two vertices that are joined."""
+
+    _fields_ = [("u", ctypes.c_uint32), ("v", ctypes.c_uint32)]
 
 
 class Answer(ctypes.Structure):
@@ -48,12 +55,16 @@ _number, _length, _list = ctypes.c_uint32, ctypes.c_size_t, ctypes.c_void_p
 
 def _function(name: str, *arguments: type):
     function = getattr(_library, name)
-    function.argtypes = [_number, _list, _length, *arguments]
+    function.argtypes = [_number, *arguments]
     function.restype = Answer
     return function
 
 
-core_numbers = _function("kcore_core_numbers", _list, _length)
-degeneracy_order = _function("kcore_degeneracy_order", _list, _length, _list, _length)
-check = _function("kcore_check", _list, _length, _list, _length)
-k_core = _function("kcore_k_core", _number, _list, _length)
+_edges = (_list, _length)
+_numbers = (_list, _length)
+core_numbers = _function("kcore_core_numbers", *_edges, *_numbers)
+degeneracy_order = _function("kcore_degeneracy_order", *_edges, *_numbers, *_numbers)
+check = _function("kcore_check", *_edges, *_numbers, *_numbers)
+k_core = _function("kcore_k_core", *_edges, _number, *_numbers)
+tally = _function("kcore_tally", Edge, *_edges, *_numbers, *_numbers, *_numbers, *_numbers)
+verdict = _function("kcore_verdict", *_numbers, *_numbers, *_numbers)

@@ -87,6 +87,38 @@ def from_numbers(values: Any, what: str) -> Any:
     return from_array(values)
 
 
+def copy_of_numbers(values: Any, what: str) -> Any:
+    """The numbers as a list of its own that the library reads. Raises TypeError, and ValueError where one does not fit, with its place."""
+    if not is_array(values):
+        refuse_unordered(values, what)
+        values = list(values)
+    try:
+        numbers = from_numbers(values, what)
+    except OverflowError:
+        place = next(place for place, number in enumerate(values) if not 0 <= number <= GREATEST)
+        raise ValueError(f"{what} has {values[place]} at place {place}, and 0 to {GREATEST} are allowed") from None
+    return numbers.copy() if numbers is values else numbers
+
+
+def first_difference(first: Any, second: Any) -> int:
+    """The first place at which two lists of the same length differ, or their length where there is none."""
+    if is_array(first) and is_array(second):
+        places = (first != second).nonzero()[0]
+        return int(places[0]) if len(places) else len(first)
+    return next((place for place, (here, there) in enumerate(zip(first, second)) if here != there), len(first))
+
+
+def add_up(sums: Any, counts: Any) -> None:
+    """Adds counts place by place. A sum that does not fit stays at the greatest number, as the counts of the library do."""
+    if is_array(sums) and is_array(counts):
+        import numpy
+
+        sums += numpy.minimum(counts, GREATEST - sums)
+    else:
+        for place, count in enumerate(counts):
+            sums[place] = min(int(sums[place]) + int(count), GREATEST)
+
+
 def room(length: int, like_array: bool) -> Any:
     """A list of this length to be written. Its places are 0, since the library wants numbers there."""
     if like_array:
