@@ -3,14 +3,15 @@ ghost use Rattle.std.specs.Prelude.{◌≡◌, ◌≢◌, ◌⊎◌, ℕ, List, 
 ghost use Rattle.std.specs.IoError.{error_kind};
 ghost use Rattle.std.specs.Process.{exit_status};
 ghost use Rattle.kc_run.specs.Runs.{IsEmpty};
-ghost use Rattle.kc_program.specs.Words.{AreWords};
+ghost use Rattle.kc_args.specs.Words.{AreWords};
 ghost use Rattle.kc_top.specs.EndedFor.{EndedFor, ToldEnd};
 ghost use Rattle.kc_top.specs.Given.{given};
 ghost use Rattle.kc_top.specs.Settings.{setting};
 ghost use Rattle.kc_top.specs.Statuses.{exit_of};
 ghost use Rattle.kc_top.specs.declared.Status.{Status};
 
-use crate::words::{borrowed, words_of};
+use crate::words::borrowed;
+use kc_args::words_of;
 use kc_io::sink::Sink;
 use kc_io::source::Source;
 use kc_run::Ran;

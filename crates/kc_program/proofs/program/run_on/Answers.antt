@@ -1,7 +1,7 @@
 -- The run is on the words of the arguments, which were borrowed, and ends by the status of which the exit code is given.
 use Rattle.std.proofs.Common.{◌≡◌, ◌∙◌, ℕ, List, ap, inl, map, string_bytes, subst, sym}
 use Rattle.std.specs.Borrow.{Bor}
-use Rattle.kc_program.specs.Words.{AreWords}
+use Rattle.kc_args.specs.Words.{AreWords}
 use Rattle.kc_program.proofs.program.run_on.Goals as goal
 
 pub returns-clause-ended : goal.returns-clause-ended

@@ -1,0 +1,22 @@
+//! The program `cores`: reads a graph and writes what its command asks for.
+//!
+//! It only gives [`answer_on`](kc_cores::program::answer_on) the program's arguments, the standard streams and the files of the system, and
+//! ends with the exit code that it answers. `answer_on` says all over any input and sinks. Of the arguments, the files and the streams of the
+//! operating system no contract can say more than that. It stands on `kc_cores` and `kc_io`.
+#![tactic(auto)]
+
+use kc_cores::CoresStreams;
+use kc_cores::program::answer_on;
+use kc_cores::std_input::StdInput;
+use kc_io::std_sink::StdSink;
+use std::env;
+use std::process::ExitCode;
+
+fn main(rt: HostRuntime) -> ExitCode {
+    let mut streams = CoresStreams {
+        input: StdInput::new(&rt, rt.stdin()),
+        out: StdSink::new(rt.stdout()),
+        err: StdSink::new(rt.stderr()),
+    };
+    answer_on(rt.alloc(), env::args(&rt), &mut streams)
+}

@@ -1,0 +1,154 @@
+-- A run keeps what `answer` promises: where `clap` replies, where there is no graph, where its lines were written, and where a write failed.
+use Rattle.std.proofs.Common.{◌≡◌, ◌⊎◌, ◌≤◌, ◌∙◌, ℕ, List, Option, Some, IfSome, ap, inl, inr, length, refl, subst, sym, take}
+use Rattle.std.specs.Io.KnownBytes.{Appends, IsAtEnd}
+use Rattle.kc_io.specs.Causes.{Rose}
+use Rattle.kc_io.specs.declared.sink.Sink as sinks
+use Rattle.kc_io.specs.declared.source.Source as sources
+use Rattle.kc_graph.specs.Core.{AreCoreNumbers}
+use Rattle.kc_graph.specs.SimpleGraph.{SimpleGraph}
+use Rattle.kc_text.specs.declared.kind.Kind.{Kind}
+use Rattle.kc_text.specs.Meaning.{Means, Refuses, Told}
+use Rattle.kc_cores.specs.Answers.{graph_meaning, summary_line, task_lines}
+use Rattle.kc_cores.specs.CoresEnded.{CoresEnded, FaultsAt, IsAnswerTo, IsLineAt, TookAt, WriteFaultsAt, given_bytes}
+use Rattle.kc_cores.specs.Inputs.{IsGraphOf, known_bytes}
+use Rattle.kc_cores.specs.Sentences.{write_fault_line}
+use Rattle.kc_cores.specs.Wishes.{Asks, Wish}
+use Rattle.kc_cores.specs.declared.CoresStatus.{CoresStatus}
+use Rattle.kc_cores.specs.declared.CoresStatus.TheVariants as status
+use Rattle.kc_cores.specs.declared.request.Task.{Task}
+
+-- bytes do not both mean a graph and have a line that is refused
+clash : (bytes : List ℕ) (told : Told) (n : ℕ) (kind : Kind) → graph_meaning bytes ≡ Means told → graph_meaning bytes ≡ Refuses n kind → ⊥
+clash bytes told n kind means refuses = absurd (cc)
+
+-- what is told of all bytes, where they are known, is told of these
+of_known : (P : List ℕ → Type 0) (known : Option (List ℕ)) (bytes : List ℕ) → known ≡ Some bytes → IfSome known P → P bytes
+of_known P known bytes is h = subst (λ (k : Option (List ℕ)). IfSome k P) is h
+
+-- bytes that have an answer are not refused
+answer-clash : (task : Task) (file : Option (List ℕ)) (known : Option (List ℕ)) (text summary bytes : List ℕ) (n : ℕ) (kind : Kind)
+    → IsAnswerTo (Asks task file) known text summary → known ≡ Some bytes → graph_meaning bytes ≡ Refuses n kind → ⊥
+answer-clash task file known text summary bytes n kind (all, read, is) here refuses =
+    clash all is.told n kind is.means (ap graph_meaning (of_known (λ b. all ≡ b) known bytes here read) ∙ refuses)
+
+-- where the bytes of a task are refused, the run ends by the refusal, or before it
+refuses-of : (end : CoresStatus) (task : Task) (file known before after : Option (List ℕ)) (bytes : List ℕ) (n : ℕ) (kind : Kind)
+    → (end ≡ status.Usage → ⊥) → TookAt end (Asks task file) known before after → known ≡ Some bytes → graph_meaning bytes ≡ Refuses n kind
+    → (end ≡ status.Refused) ⊎ (end ≡ status.Unopened) ⊎ (end ≡ status.ReadFault) ⊎ (end ≡ status.NoMemory)
+refuses-of status.Done task file known before after bytes n kind right (text, (summary, is), took) here refuses =
+    absurd (answer-clash task file known text summary bytes n kind is here refuses)
+refuses-of status.WriteFault task file known before after bytes n kind right (text, (summary, is), took) here refuses =
+    absurd (answer-clash task file known text summary bytes n kind is here refuses)
+refuses-of status.Shown task file known before after bytes n kind right (text, reply, took) here refuses = absurd reply
+refuses-of status.Usage task file known before after bytes n kind right took here refuses = absurd (right refl)
+refuses-of status.Refused task file known before after bytes n kind right took here refuses = inl refl
+refuses-of status.Unopened task file known before after bytes n kind right took here refuses = inr (inl refl)
+refuses-of status.ReadFault task file known before after bytes n kind right took here refuses = inr (inr (inl refl))
+refuses-of status.NoMemory task file known before after bytes n kind right took here refuses = inr (inr (inr refl))
+
+-- where the bytes of a task mean a graph, the run is not refused
+complete-of : (end : CoresStatus) (task : Task) (file known before after : Option (List ℕ)) (line bytes : List ℕ) (told : Told)
+    → (end ≡ status.Usage → ⊥) → TookAt end (Asks task file) known before after → IsLineAt end (Asks task file) known line → known ≡ Some bytes
+    → graph_meaning bytes ≡ Means told
+    → (end ≡ status.Done) ⊎ (end ≡ status.Unopened) ⊎ (end ≡ status.ReadFault) ⊎ (end ≡ status.WriteFault) ⊎ (end ≡ status.NoMemory)
+complete-of status.Done task file known before after line bytes told right took says here means = inl refl
+complete-of status.Unopened task file known before after line bytes told right took says here means = inr (inl refl)
+complete-of status.ReadFault task file known before after line bytes told right took says here means = inr (inr (inl refl))
+complete-of status.WriteFault task file known before after line bytes told right took says here means = inr (inr (inr (inl refl)))
+complete-of status.NoMemory task file known before after line bytes told right took says here means = inr (inr (inr (inr refl)))
+complete-of status.Usage task file known before after line bytes told right took says here means = absurd (right refl)
+complete-of status.Shown task file known before after line bytes told right (text, reply, took) says here means = absurd reply
+complete-of status.Refused task file known before after line bytes told right took (n, kind, is, refuses) here means =
+    absurd (clash bytes told n kind means (of_known (λ b. graph_meaning b ≡ Refuses n kind) known bytes here refuses))
+
+-- the graph of the bytes that were read has these lines and this summary
+IsAnswerTo-graph : (task : Task) (file : Option (List ℕ)) (ids core summary : List ℕ) (g : SimpleGraph) (known : Option (List ℕ))
+    → IsGraphOf known ids g → AreCoreNumbers g core → summary ≡ summary_line g core
+    → IsAnswerTo (Asks task file) known (task_lines task ids g core) summary
+IsAnswerTo-graph task file ids core summary g known graph numbers sums = (
+  graph.bytes,
+  graph.read,
+  record {
+    told = graph.told;
+    means = graph.means;
+    ids = ids;
+    named = graph.named;
+    core = core;
+    numbers = subst (λ (h : SimpleGraph). AreCoreNumbers h core) graph.is numbers;
+    is = ap (λ (h : SimpleGraph). task_lines task ids h core) graph.is;
+    sums = sums ∙ ap (λ (h : SimpleGraph). summary_line h core) graph.is;
+  },
+)
+
+module _ {I O : Type 0} (source : sources.Ghosts I) (behind : I → List ℕ → Option (List ℕ)) (out : sinks.Ghosts O) where
+  -- what a run for a task has to show
+  record Shows (task : Task) (file : Option (List ℕ)) (end : CoresStatus) (line : List ℕ) (i i' : I) (o o' : O) : Type 0 where
+    right : end ≡ status.Usage → ⊥
+    asked : end ≡ status.Shown → ⊥
+    read : end ≡ status.Done → IsAtEnd (source.left i')
+    took : TookAt end (Asks task file) (known_bytes source.left behind file i) (out.taken o) (out.taken o')
+    says : IsLineAt end (Asks task file) (known_bytes source.left behind file i) line
+    faults : FaultsAt end (source.faults i) (source.faults i')
+    write_faults : WriteFaultsAt end (out.faults o) (out.faults o')
+
+  -- a run for a task that shows so much has ended as it should
+  CoresEnded-asks : (task : Task) (file : Option (List ℕ)) (end : CoresStatus) (line : List ℕ) (i i' : I) (o o' : O)
+      → Shows task file end line i i' o o' → CoresEnded source behind out (Asks task file) end line i i' o o'
+  CoresEnded-asks task file end line i i' o o' h = record {
+    usage = λ e. absurd (h.right e);
+    shown = λ e. absurd (h.asked e);
+    replies = λ kinds e. absurd (cc);
+    read = h.read;
+    took = h.took;
+    line = h.says;
+    faults = h.faults;
+    write_faults = h.write_faults;
+    refuses = λ t f bytes n kind asks here refuses.
+        refuses-of end task file (known_bytes source.left behind file i) (out.taken o) (out.taken o') bytes n kind h.right h.took
+        (ap (λ (w : Wish). given_bytes source.left behind w i) asks ∙ here) refuses;
+    complete = λ t f bytes told asks here means.
+        complete-of end task file (known_bytes source.left behind file i) (out.taken o) (out.taken o') line bytes told h.right h.took h.says
+        (ap (λ (w : Wish). given_bytes source.left behind w i) asks ∙ here) means;
+  }
+
+  -- a run whose lines were taken has ended as it should
+  pub CoresEnded-done : (task : Task) (file : Option (List ℕ)) (ids core summary : List ℕ) (g : SimpleGraph) (i i' : I) (o o' : O)
+      → IsGraphOf (known_bytes source.left behind file i) ids g → AreCoreNumbers g core → summary ≡ summary_line g core → IsAtEnd (source.left i')
+      → source.faults i' ≡ source.faults i → Appends (out.taken o) (out.taken o') (task_lines task ids g core) → out.faults o' ≡ out.faults o
+      → CoresEnded source behind out (Asks task file) status.Done summary i i' o o'
+  CoresEnded-done task file ids core summary g i i' o o' graph numbers sums ended faultless took kept =
+      let answer : IsAnswerTo (Asks task file) (known_bytes source.left behind file i) (task_lines task ids g core) summary =
+      IsAnswerTo-graph task file ids core summary g (known_bytes source.left behind file i) graph numbers sums in
+      CoresEnded-asks task file status.Done summary i i' o o' (record {
+        right = λ e. absurd (cc);
+        asked = λ e. absurd (cc);
+        read = λ _. ended;
+        took = (task_lines task ids g core, (summary, answer), took);
+        says = (task_lines task ids g core, answer);
+        faults = faultless;
+        write_faults = kept;
+      })
+
+  -- a run a prefix of whose lines was taken has ended as it should
+  pub CoresEnded-cut : (task : Task) (file : Option (List ℕ)) (ids core summary : List ℕ) (g : SimpleGraph) (line : List ℕ) (i i' : I) (o o' : O)
+      → IsGraphOf (known_bytes source.left behind file i) ids g → AreCoreNumbers g core → summary ≡ summary_line g core
+      → source.faults i' ≡ source.faults i
+      → ((n : ℕ) × (n ≤ length (task_lines task ids g core)) × Appends (out.taken o) (out.taken o') (take n (task_lines task ids g core)))
+      → Rose (out.faults o) (out.faults o') → line ≡ write_fault_line
+      → CoresEnded source behind out (Asks task file) status.WriteFault line i i' o o'
+  CoresEnded-cut task file ids core summary g line i i' o o' graph numbers sums faultless took rose is =
+      CoresEnded-asks task file status.WriteFault line i i' o o' (record {
+        right = λ e. absurd (cc);
+        asked = λ e. absurd (cc);
+        read = λ e. absurd (cc);
+        took =
+            (task_lines task ids g core, (summary, IsAnswerTo-graph task file ids core summary g (known_bytes source.left behind file i) graph numbers sums), took);
+        says = is;
+        faults = faultless;
+        write_faults = rose;
+      })
+
+  -- what holds of a status holds where the status is known to be that one
+  pub CoresEnded-at : (wish : Wish) (end end' : CoresStatus) (line : List ℕ) (i i' : I) (o o' : O) → end' ≡ end
+      → CoresEnded source behind out wish end line i i' o o' → CoresEnded source behind out wish end' line i i' o o'
+  CoresEnded-at wish end end' line i i' o o' is h = subst (λ (e : CoresStatus). CoresEnded source behind out wish e line i i' o o') (sym is) h

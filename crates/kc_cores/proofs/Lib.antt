@@ -1,0 +1,5 @@
+pub mod Ended
+pub mod Graphs
+pub mod Paging
+pub mod Replies
+pub mod Stopping

@@ -1,0 +1,64 @@
+-- Inputs, and the graphs that are read from them.
+use Rattle.std.specs.Prelude.{◌≡◌, ◌<◌, ◌^◌, ℕ, List, Option, None, Some, All, IfSome, length, option_and_then, if◌then◌else◌}
+use Rattle.std.specs.Str.{bytes_eq}
+use Rattle.kc_graph.specs.SimpleGraph.{SimpleGraph}
+use Rattle.kc_io.specs.Memory.{SourceState}
+use Rattle.kc_text.specs.Inputs.{AreIds, IsInput, start_graph}
+use Rattle.kc_text.specs.Meaning.{Means, Told, names}
+use Rattle.kc_text.specs.declared.input.Input.{Input}
+use Rattle.kc_cores.specs.Answers.{graph_meaning}
+
+-- what is known of bytes that are not told
+abbrev pub no_bytes : Option (List ℕ)
+no_bytes = None
+
+-- What contracts see of an input of the operating system: how many calls have failed.
+pub record Untold : Type 0 where
+  pub failed : ℕ
+
+-- the file of an input in memory: its name, and its bytes as a source
+pub record MemFile : Type 0 where
+  pub name : List ℕ
+  pub source : SourceState
+
+-- What contracts see of an input in memory: what is read, the file that it can be turned to if there is one, and how many calls have failed.
+pub record InputState : Type 0 where
+  pub source : SourceState
+  pub file : Option MemFile
+  pub failed : ℕ
+
+-- the bytes of the file with this name
+abbrev pub bytes_behind : InputState → List ℕ → Option (List ℕ)
+bytes_behind input name = option_and_then (λ f. if bytes_eq f.name name then Some f.source.left else None) input.file
+
+-- the bytes of an input that is turned to a file, or not, where they are known
+abbrev pub known_bytes : {I : Type 0} → (I → Option (List ℕ)) → (I → List ℕ → Option (List ℕ)) → Option (List ℕ) → I → Option (List ℕ)
+known_bytes left behind None i = left i
+known_bytes left behind (Some name) i = behind i name
+
+-- the bytes of an input in memory that is turned to a file, or not
+abbrev pub bytes_in : InputState → Option (List ℕ) → Option (List ℕ)
+bytes_in input file = known_bytes (λ i. Some i.source.left) bytes_behind file input
+
+-- what was read is what the bytes mean, which are all of what is known of them
+pub record IsReadOf (known : Option (List ℕ)) (input : Input) : Type 0 where
+  pub bytes : List ℕ
+  pub read : IfSome known (λ all. bytes ≡ all)
+  pub told : Told
+  pub means : graph_meaning bytes ≡ Means told
+  pub is : IsInput told input
+  pub few : length input.ids.items < 2 ^ 32
+
+-- so many ids that each has a number, and edges between these numbers
+pub record HasFewIds (input : Input) : Type 0 where
+  pub few : length input.ids.items < 2 ^ 32
+  pub edges : All (λ p. (p.0 < p.1) × (p.1 < length input.ids.items)) input.start.items
+
+-- the graph that the bytes mean, which are all of what is known of them, with the ids for which its vertices stand
+pub record IsGraphOf (known : Option (List ℕ)) (ids : List ℕ) (g : SimpleGraph) : Type 0 where
+  pub bytes : List ℕ
+  pub read : IfSome known (λ all. bytes ≡ all)
+  pub told : Told
+  pub means : graph_meaning bytes ≡ Means told
+  pub named : AreIds (names told) ids
+  pub is : g ≡ start_graph ids told.edges

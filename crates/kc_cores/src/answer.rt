@@ -1,0 +1,164 @@
+//! The top call.
+ghost use Rattle.std.specs.Prelude.{◌≡◌, ◌≤◌, ℕ, List, [], IfErr, IfOk, OnErr, OnOk, length, map, string_bytes, take};
+ghost use Rattle.std.specs.Io.KnownBytes.{Appends};
+ghost use Rattle.kc_io.specs.Causes.{HasCause};
+ghost use Rattle.kc_cores.specs.Answers.{task_lines};
+ghost use Rattle.kc_cores.specs.CoresEnded.{CoresEnded, ToldLine};
+ghost use Rattle.kc_cores.specs.Endings.{RepliesTo, file_of, line_of};
+ghost use Rattle.kc_cores.specs.Pages.{PassesOn, PassesPart};
+ghost use Rattle.kc_cores.specs.Wishes.{Asks, Wish, wish_of};
+
+use crate::ending::{Ending, finish};
+use crate::input::FileInput;
+use crate::message::Message;
+use crate::numbers::put_numbers;
+use crate::page::Page;
+use crate::reading::{NamedGraph, read_graph};
+use crate::request::{Request, Task};
+use crate::summary::summary_line;
+use crate::words::{Reply, request_of};
+use crate::{CoresStatus, CoresStreams};
+use kc_graph::core_numbers;
+use kc_io::Failed;
+use kc_io::sink::{Sink, write_all};
+use std::alloc::Global;
+use std::convert::AsStr;
+
+/// Puts the lines of a task.
+fn put_lines<O: Sink>(
+    page: &mut Page,
+    out: &mut O,
+    task: Task,
+    named: &NamedGraph,
+    core: &[u32],
+) -> Result<(), Failed>
+    requires { length named.now.ids.items ≡ length core.now }
+    ensures passes { OnOk result (PassesOn (O.taken out.old) (O.taken out.new) page.old page.new
+        (task_lines task named.now.ids.items named.now.graph core.now)) }
+    ensures part { OnErr result (PassesPart (O.taken out.old) (O.taken out.new) page.old (task_lines task named.now.ids.items named.now.graph core.now)) }
+    ensures cause { HasCause (O.faults out.old) (O.faults out.new) result }
+{
+    match task {
+        Task::Numbers => put_numbers(page, out, &named.ids, core),
+    }
+}
+
+/// Writes the lines of a task.
+fn write_lines<O: Sink>(
+    mut page: Page,
+    out: &mut O,
+    task: Task,
+    named: &NamedGraph,
+    core: &[u32],
+) -> Result<(), Failed>
+    requires same { length named.now.ids.items ≡ length core.now }
+    requires empty { page ≡ [] }
+    ensures whole { OnOk result (Appends (O.taken out.old) (O.taken out.new) (task_lines task named.now.ids.items named.now.graph core.now)) }
+    ensures prefix { OnErr result ((n : ℕ) × (n ≤ length (task_lines task named.now.ids.items named.now.graph core.now))
+        × Appends (O.taken out.old) (O.taken out.new) (take n (task_lines task named.now.ids.items named.now.graph core.now))) }
+    ensures cause { HasCause (O.faults out.old) (O.faults out.new) result }
+{
+    put_lines(&mut page, out, task, named, core)?;
+    page.write(out)
+}
+
+/// Writes the lines of a task for the graph of the input, and gives the ending of the run.
+fn follow<I: FileInput, O: Sink, E>(
+    alloc: Global,
+    request: Request<'_>,
+    streams: &mut CoresStreams<I, O, E>,
+) -> Result<String, Ending>
+    ensures done { IfOk result (λ summary. CoresEnded I.Source I.behind O.Sink (Asks request.entry.task (file_of request.entry)) CoresStatus.Done
+        (string_bytes summary) streams.old.input streams.new.input streams.old.out streams.new.out) }
+    ensures stopped { IfErr result (λ ending. CoresEnded I.Source I.behind O.Sink (Asks request.entry.task (file_of request.entry)) ending.status
+        (line_of ending) streams.old.input streams.new.input streams.old.out streams.new.out) }
+    ensures err { streams.new.err ≡ streams.old.err }
+{
+    let named = read_graph(alloc, request.file, &mut streams.input)?;
+    let core = core_numbers(alloc, &named.graph)?;
+    let summary = summary_line(alloc, &named.graph, &core)?;
+    let page = Page::new(alloc)?;
+    if write_lines(page, &mut streams.out, request.task, &named, &core).is_err() {
+        return Err(Ending::write_fault());
+    }
+    Ok(summary)
+}
+
+/// Writes help or the version, where it was asked for. What is wrong with the words is the line of the ending.
+fn show<I: FileInput, O: Sink, E>(reply: Reply, streams: &mut CoresStreams<I, O, E>) -> Ending
+    ensures ended { (wish : Wish) → RepliesTo reply wish → CoresEnded I.Source I.behind O.Sink wish result.status (line_of result)
+        streams.old.input streams.new.input streams.old.out streams.new.out }
+    ensures err { streams.new.err ≡ streams.old.err }
+{
+    match reply {
+        Reply::NoMemory => Ending::no_memory(),
+        Reply::Mistake(text) => Ending {
+            status: CoresStatus::Usage,
+            message: Message::Made(text),
+        },
+        Reply::Asked(text) => {
+            if write_all(&mut streams.out, text.as_bytes()).is_err() {
+                return Ending::write_fault();
+            }
+            Ending {
+                status: CoresStatus::Shown,
+                message: Message::Fixed(""),
+            }
+        }
+    }
+}
+
+/// All of a run but its line.
+fn work<W: AsStr, I: FileInput, O: Sink, E>(
+    alloc: Global,
+    words: &[W],
+    streams: &mut CoresStreams<I, O, E>,
+) -> Ending
+    ensures ended { CoresEnded I.Source I.behind O.Sink (wish_of (map W.text words.now)) result.status (line_of result)
+        streams.old.input streams.new.input streams.old.out streams.new.out }
+    ensures err { streams.new.err ≡ streams.old.err }
+{
+    let request = match request_of(alloc, words) {
+        Ok(request) => request,
+        Err(reply) => return show(reply, streams),
+    };
+    match follow(alloc, request, streams) {
+        Err(ending) => ending,
+        Ok(summary) => Ending {
+            status: CoresStatus::Done,
+            message: Message::Made(summary),
+        },
+    }
+}
+
+/// Reads the graph that `words` name, from the input of `streams`, and writes to `out` the lines that they ask for. Then it writes one
+/// line to `err`: the summary of the graph where all was written, and else what was found wrong.
+///
+/// `words` are those after the program's name. Its clause has the line and two records. The one, `CoresEnded`, has these fields:
+///
+/// - `usage`, `shown`: at `Usage` and at `Shown` the words make `clap` reply so. Its texts are its own, of which no clause speaks.
+/// - `replies`: where `clap` replies, nothing is read, and the status is `Usage`, `Shown`, `WriteFault` or `NoMemory`.
+/// - `read`: at `Done` the input was read to its end.
+/// - `took`: at `Done` the sink took just the lines for the graph that the bytes mean, after what it had taken before. At `Shown` it took a
+///   text. At `WriteFault` it took a prefix of what was to be written, and else nothing.
+/// - `line`: the line of the status. At `Done` it is the summary of that graph, at `Refused` it tells the line and the kind of the refusal,
+///   and at `Unopened` the name of the file and why it was not opened.
+/// - `faults`: the input's count of faults rose at `Unopened` and at `ReadFault`, and else it is as it was.
+/// - `write_faults`: the count of faults of `out` rose at `WriteFault`, and else it is as it was.
+/// - `refuses`: where the bytes are refused, the status is `Refused`, `Unopened`, `ReadFault` or `NoMemory`.
+/// - `complete`: where they mean a graph, the status is `Done`, `Unopened`, `ReadFault`, `WriteFault` or `NoMemory`.
+///
+/// The other, `ToldLine`, says that `err` took the line, or a prefix of it where a call failed, and that it was offered whole. A fault of
+/// `err` changes no status.
+pub fn answer<W: AsStr, I: FileInput, O: Sink, E: Sink>(
+    alloc: Global,
+    words: &[W],
+    streams: &mut CoresStreams<I, O, E>,
+) -> CoresStatus
+    ensures { (line : List ℕ) × CoresEnded I.Source I.behind O.Sink (wish_of (map W.text words.now)) result line
+        streams.old.input streams.new.input streams.old.out streams.new.out
+        × ToldLine E.Sink line streams.old.err streams.new.err }
+{
+    let ending = work(alloc, words, streams);
+    finish(&mut streams.err, ending)
+}

@@ -1,0 +1,125 @@
+//! How a run ends: its status, and the line about it.
+ghost use Rattle.std.specs.Prelude.{◌≡◌, IfOk, string_bytes};
+ghost use Rattle.kc_cores.specs.Endings.{TellsRefusal, line_of};
+ghost use Rattle.kc_cores.specs.Sentences.{refused_line, no_memory_line, read_fault_line, write_fault_line, unopened_line};
+ghost use Rattle.kc_cores.specs.CoresEnded.{IsUnopenedLine, ToldLine};
+
+use crate::CoresStatus;
+use crate::input::OpenFault;
+use crate::message::Message;
+use crate::sentences::sentence_of;
+use kc_graph::NoMemory;
+use kc_io::sink::{Sink, write_all};
+use kc_text::Refusal;
+use std::alloc::Global;
+
+/// How a run ends. The line is made here, so that ending the run takes no memory.
+#[derive(Drop)]
+pub(crate) struct Ending {
+    pub(crate) status: CoresStatus,
+    pub(crate) message: Message,
+}
+
+impl From<NoMemory> for Ending {
+    ghost use Rattle.kc_cores.specs.Endings.{line_of};
+    ghost use Rattle.kc_cores.specs.Sentences.{no_memory_line};
+    ghost use Rattle.kc_cores.specs.declared.CoresStatus.TheVariants as status;
+
+    ghost from_gives = { λ _ e. (e.status ≡ status.NoMemory) × (line_of e ≡ no_memory_line) };
+
+    fn from(_: NoMemory) -> Ending {
+        Ending::no_memory()
+    }
+}
+
+impl Ending {
+    /// There was no memory.
+    pub(crate) fn no_memory() -> Ending
+        ensures status { result.status ≡ CoresStatus.NoMemory }
+        ensures line { line_of result ≡ no_memory_line }
+    {
+        Ending {
+            status: CoresStatus::NoMemory,
+            message: Message::Fixed("cores: there is not enough memory for this graph\n"),
+        }
+    }
+
+    /// The source failed.
+    pub(crate) fn read_fault() -> Ending
+        ensures status { result.status ≡ CoresStatus.ReadFault }
+        ensures line { line_of result ≡ read_fault_line }
+    {
+        Ending {
+            status: CoresStatus::ReadFault,
+            message: Message::Fixed("cores: the input could not be read to its end\n"),
+        }
+    }
+
+    /// The sink of the lines failed.
+    pub(crate) fn write_fault() -> Ending
+        ensures status { result.status ≡ CoresStatus.WriteFault }
+        ensures line { line_of result ≡ write_fault_line }
+    {
+        Ending {
+            status: CoresStatus::WriteFault,
+            message: Message::Fixed("cores: the output could not be written to its end\n"),
+        }
+    }
+}
+
+fn refused_line(alloc: Global, refusal: Refusal) -> Result<String, NoMemory>
+    ensures { IfOk result (λ line. string_bytes line ≡ refused_line refusal.line refusal.kind) }
+{
+    let Refusal { line, kind } = refusal;
+    let sentence = sentence_of(kind);
+    if line == 0 {
+        format!(in alloc; "cores: input: {sentence}\n")
+    } else {
+        format!(in alloc; "cores: line {line}: {sentence}\n")
+    }
+}
+
+/// The input is refused.
+pub(crate) fn refused(alloc: Global, refusal: Refusal) -> Ending
+    ensures { TellsRefusal result refusal.line refusal.kind }
+{
+    match refused_line(alloc, refusal) {
+        Ok(line) => Ending {
+            status: CoresStatus::Refused,
+            message: Message::Made(line),
+        },
+        Err(_) => Ending::no_memory(),
+    }
+}
+
+fn unopened_line(alloc: Global, name: &str, fault: OpenFault) -> Result<String, NoMemory>
+    ensures { IfOk result (λ line. string_bytes line ≡ unopened_line name.now fault) }
+{
+    let sentence = fault.sentence();
+    format!(in alloc; "cores: {name}: {sentence}\n")
+}
+
+/// The file was not opened. Where there is no memory for its name, the line lacks it.
+pub(crate) fn unopened(alloc: Global, name: &str, fault: OpenFault) -> Ending
+    ensures status { result.status ≡ CoresStatus.Unopened }
+    ensures line { IsUnopenedLine name.now fault (line_of result) }
+{
+    let message = match unopened_line(alloc, name, fault) {
+        Ok(line) => Message::Made(line),
+        Err(_) => Message::Fixed("cores: the file can not be opened\n"),
+    };
+    Ending {
+        status: CoresStatus::Unopened,
+        message,
+    }
+}
+
+/// Writes the line about the run, and gives the status, which is settled before. A fault of the sink changes nothing.
+pub(crate) fn finish<E: Sink>(err: &mut E, ending: Ending) -> CoresStatus
+    ensures status { result ≡ ending.status }
+    ensures told { ToldLine E.Sink (line_of ending) err.old err.new }
+{
+    let Ending { status, message } = ending;
+    let _ = write_all(err, message.text());
+    status
+}

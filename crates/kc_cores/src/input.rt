@@ -1,0 +1,59 @@
+//! An input that is standard input, or a file that is opened by its name.
+ghost use Rattle.std.specs.Prelude.{◌≡◌, ℕ, List, Option, OnErr, OnOk};
+ghost use Rattle.kc_io.specs.Causes.{HasCause};
+ghost use Rattle.kc_cores.specs.Sentences.{fault_sentence};
+
+use kc_io::source::Source;
+use std::io;
+use std::io::ErrorKind;
+
+/// Why a file was not opened.
+#[derive(Clone, Copy, Debug, PartialEq, Eq)]
+pub enum OpenFault {
+    /// There is no file of this name.
+    Missing,
+    /// It is a folder.
+    Folder,
+    /// It may not be read.
+    Forbidden,
+    /// Any other cause.
+    Other,
+}
+
+impl OpenFault {
+    /// The cause in the words of the operating system.
+    pub fn sentence(self) -> &'static str
+        ensures { result.now ≡ fault_sentence self }
+    {
+        match self {
+            OpenFault::Missing => "No such file or directory",
+            OpenFault::Folder => "Is a directory",
+            OpenFault::Forbidden => "Permission denied",
+            OpenFault::Other => "The file can not be opened",
+        }
+    }
+}
+
+impl From<io::Error> for OpenFault {
+    fn from(error: io::Error) -> OpenFault {
+        match error.kind() {
+            ErrorKind::NotFound => OpenFault::Missing,
+            ErrorKind::IsADirectory => OpenFault::Folder,
+            ErrorKind::PermissionDenied => OpenFault::Forbidden,
+            _ => OpenFault::Other,
+        }
+    }
+}
+
+/// A source that can be turned to a file.
+pub trait FileInput: Source {
+    /// The bytes of the file with this name, where the input tells them.
+    ghost behind: { Self → List ℕ → Option (List ℕ) };
+
+    /// Turns to the file: what is left from then on are its bytes, from the first one on. Where it was not opened, what is left stays, and
+    /// the count of faults rises. At any other call the count stays.
+    fn open(&mut self, name: &str) -> Result<(), OpenFault>
+        ensures bytes { OnOk result (Self.left self.new ≡ behind self.old name.now) }
+        ensures stays { OnErr result (Self.left self.new ≡ Self.left self.old) }
+        ensures cause { HasCause (Self.faults self.old) (Self.faults self.new) result };
+}

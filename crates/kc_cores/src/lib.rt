@@ -1,0 +1,73 @@
+//! What `cores` does but for its streams: a command on a graph without batches, bytes in and lines out.
+//!
+//! [`answer`](answer::answer) reads the words, then the graph from standard input or a file, and writes the lines that the command asks for.
+//! To the sink of messages it writes one line: what the graph is like where the run is done, and else what was found wrong and how it is
+//! mended. Its promise is one record, `CoresEnded`, with a field for each clause (`specs/CoresEnded.antt`). `specs/Answers.antt` says what
+//! the lines are, `specs/Wishes.antt` what words ask for, and `specs/Sentences.antt` has the lines of messages.
+//!
+//! A command is a variant of [`Task`], with a function of its own that puts its lines. Lines are gathered and written in pieces, so no text
+//! of the whole is made. [`answer_in_memory`](memory::answer_in_memory) is the same run over an input and sinks in memory, where every clause
+//! speaks of bytes that are known. [`answer_on`](program::answer_on) takes the words of a program's arguments.
+//!
+//! The crate stands on `kc_io` for sources and sinks, on `kc_text` for what a text means, on `kc_graph` for core numbers, and on `clap`
+//! and `itoa`.
+#![tactic(auto)]
+
+pub mod answer;
+mod ending;
+pub mod input;
+pub mod mem_input;
+pub mod memory;
+mod message;
+mod numbers;
+mod page;
+pub mod program;
+mod reading;
+mod request;
+mod sentences;
+pub mod std_input;
+mod streams;
+mod summary;
+mod words;
+
+ghost use Rattle.std.specs.Prelude.{◌≡◌};
+ghost use Rattle.kc_cores.specs.Numbers.{exit_number_of};
+
+pub use request::Task;
+pub use streams::CoresStreams;
+pub use words::VERSION;
+
+/// How a run ended.
+#[derive(Clone, Copy, Debug, PartialEq, Eq)]
+pub enum CoresStatus {
+    /// All lines were written.
+    Done,
+    /// The words ask for help or the version, which was written.
+    Shown,
+    /// The words are not right. Nothing was read.
+    Usage,
+    /// The input is refused.
+    Refused,
+    /// The file that the words name was not opened.
+    Unopened,
+    /// The source failed.
+    ReadFault,
+    /// The sink of the lines failed.
+    WriteFault,
+    /// There was no memory.
+    NoMemory,
+}
+
+/// The number that the program ends with.
+pub fn exit_number(status: CoresStatus) -> u8
+    ensures { result ≡ exit_number_of status }
+{
+    match status {
+        CoresStatus::Done | CoresStatus::Shown => 0,
+        CoresStatus::Usage => 2,
+        CoresStatus::Refused => 3,
+        CoresStatus::Unopened | CoresStatus::ReadFault => 4,
+        CoresStatus::WriteFault => 5,
+        CoresStatus::NoMemory => 6,
+    }
+}

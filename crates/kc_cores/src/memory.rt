@@ -1,0 +1,39 @@
+//! The run over an input and sinks in memory.
+ghost use Rattle.std.specs.Prelude.{◌≡◌, ◌++◌, ℕ, List, Option, Some, map};
+ghost use Rattle.kc_text.specs.Meaning.{Refuses};
+ghost use Rattle.kc_text.specs.declared.kind.Kind.{Kind};
+ghost use Rattle.kc_cores.specs.Answers.{IsTextFor, graph_meaning};
+ghost use Rattle.kc_cores.specs.CoresEnded.{CoresEnded, ToldLine};
+ghost use Rattle.kc_cores.specs.Inputs.{bytes_behind, bytes_in};
+ghost use Rattle.kc_cores.specs.Wishes.{Asks, wish_of};
+ghost use Rattle.kc_cores.specs.declared.request.Task.{Task};
+
+use crate::answer::answer;
+use crate::mem_input::MemInput;
+use crate::{CoresStatus, CoresStreams};
+use kc_io::mem_sink::MemSink;
+use kc_io::sink::Sink;
+use kc_io::source::Source;
+use std::alloc::Global;
+use std::convert::AsStr;
+
+/// A run from memory to memory. It is [`answer`], and what is known of the streams are their bytes. So the clauses on the bytes that
+/// are read and taken are told once more, of the very bytes.
+pub fn answer_in_memory<W: AsStr>(
+    alloc: Global,
+    words: &[W],
+    streams: &mut CoresStreams<MemInput, MemSink, MemSink>,
+) -> CoresStatus
+    ensures ended { (line : List ℕ)
+        × CoresEnded ⟦<MemInput as Source>⟧ bytes_behind ⟦<MemSink as Sink>⟧ (wish_of (map W.text words.now)) result line
+        streams.old.input streams.new.input streams.old.out streams.new.out
+        × ToldLine ⟦<MemSink as Sink>⟧ line streams.old.err streams.new.err }
+    ensures done { (task : Task) (file : Option (List ℕ)) (bytes : List ℕ) → wish_of (map W.text words.now) ≡ Asks task file
+        → bytes_in streams.old.input file ≡ Some bytes → result ≡ CoresStatus.Done
+        → (text : List ℕ) × (summary : List ℕ) × IsTextFor task bytes text summary × (streams.new.out.taken ≡ streams.old.out.taken ++ text) }
+    ensures refused { (task : Task) (file : Option (List ℕ)) (bytes : List ℕ) → wish_of (map W.text words.now) ≡ Asks task file
+        → bytes_in streams.old.input file ≡ Some bytes → result ≡ CoresStatus.Refused
+        → (n : ℕ) × (kind : Kind) × (graph_meaning bytes ≡ Refuses n kind) × (streams.new.out.taken ≡ streams.old.out.taken) }
+{
+    answer(alloc, words, streams)
+}

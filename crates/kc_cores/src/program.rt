@@ -1,0 +1,51 @@
+//! A run on the program's arguments.
+ghost use Rattle.std.specs.Prelude.{◌≡◌, ◌≢◌, ◌⊎◌, ℕ, List, IfErr};
+ghost use Rattle.std.specs.IoError.{error_kind};
+ghost use Rattle.std.specs.Process.{exit_status};
+ghost use Rattle.kc_args.specs.Words.{AreWords};
+ghost use Rattle.kc_cores.specs.CoresEnded.{CoresEnded, ToldLine};
+ghost use Rattle.kc_cores.specs.Numbers.{exit_number_of};
+ghost use Rattle.kc_cores.specs.Wishes.{wish_of};
+ghost use Rattle.kc_cores.specs.declared.CoresStatus.{CoresStatus};
+
+use crate::answer::answer;
+use crate::input::FileInput;
+use crate::{CoresStatus, CoresStreams, exit_number};
+use kc_args::words_of;
+use kc_io::sink::Sink;
+use std::alloc::Global;
+use std::env::Args;
+use std::io;
+use std::io::ErrorKind;
+use std::process::ExitCode;
+
+/// The exit code of a status.
+fn exit_with(status: CoresStatus) -> ExitCode
+    ensures { exit_status result ≡ exit_number_of status }
+{
+    ExitCode::from(exit_number(status))
+}
+
+/// Answers the words of `args`, and gives the exit code of the status. The words are the arguments after the program's name, in their
+/// order, and an empty word in place of all where one is not UTF-8.
+///
+/// Where there is no memory for the words, the status is `NoMemory`, and nothing was read or written.
+pub fn answer_on<I: FileInput, O: Sink, E: Sink>(
+    alloc: Global,
+    args: io::Result<Args>,
+    streams: &mut CoresStreams<I, O, E>,
+) -> ExitCode
+    // The exit code is that of a status. The run ends by this status as `answer` promises it for these words; or there was no memory for
+    // the words, and all is as it was.
+    ensures ended { (status : CoresStatus) × (exit_status result ≡ exit_number_of status)
+        × (((words : List (List ℕ)) × AreWords args words × (line : List ℕ)
+        × CoresEnded I.Source I.behind O.Sink (wish_of words) status line streams.old.input streams.new.input streams.old.out streams.new.out
+        × ToldLine E.Sink line streams.old.err streams.new.err)
+        ⊎ ((status ≡ CoresStatus.NoMemory) × (streams.new ≡ streams.old))) }
+    ensures no_memory { IfErr args (λ error. error_kind error ≢ ErrorKind.InvalidData → exit_status result ≡ exit_number_of CoresStatus.NoMemory) }
+{
+    match words_of(alloc, args) {
+        Err(_) => exit_with(CoresStatus::NoMemory),
+        Ok(words) => exit_with(answer(alloc, words.as_slice(), streams)),
+    }
+}

@@ -1,0 +1,123 @@
+//! The graph of an input.
+ghost use Rattle.std.specs.FinSet as set;
+ghost use Rattle.std.specs.Prelude.{◌≡◌, ◌≤◌, ℕ, List, Option, IfErr, IfOk, IfSome, OnOk, Some, length, option_map};
+ghost use Rattle.std.specs.Io.KnownBytes.{IsAtEnd};
+ghost use Rattle.kc_text.specs.declared.limits.TheConstants.{MOST_BYTES};
+ghost use Rattle.kc_cores.specs.Endings.{HasNoFileGraph, HasNoGraph, HasNoGraphIn};
+ghost use Rattle.kc_cores.specs.Inputs.{HasFewIds, IsGraphOf, IsReadOf, known_bytes};
+
+use crate::ending::{Ending, refused, unopened};
+use crate::input::FileInput;
+use kc_graph::{Graph, NoMemory};
+use kc_io::source::{ReadAllFault, Source, read_all};
+use kc_text::{Input, Kind, ParseFault, Refusal, parse};
+use std::alloc::Global;
+
+/// The input as a whole has too many bytes.
+const TOO_MANY_BYTES: Refusal = Refusal {
+    line: 0,
+    kind: Kind::TooLong,
+};
+
+/// The input has batches.
+const HAS_BATCHES: Refusal = Refusal {
+    line: 0,
+    kind: Kind::TooManyBatches,
+};
+
+/// A graph, and the ids that its vertices stand for.
+#[derive(Drop)]
+pub(crate) struct NamedGraph {
+    /// Ascending: the vertex `i` stands for `ids[i]`.
+    pub(crate) ids: Vec<u32>,
+    pub(crate) graph: Graph,
+}
+
+/// All bytes of the source.
+fn bytes_from<S: Source>(alloc: Global, source: &mut S) -> Result<Vec<u8>, Ending>
+    ensures bytes { IfOk result (λ bytes. IfSome (S.left source.old) (λ known. bytes.items ≡ known)) }
+    ensures few { IfOk result (λ bytes. length bytes.items ≤ MOST_BYTES) }
+    ensures read { OnOk result (IsAtEnd (S.left source.new)) }
+    ensures stopped { IfErr result (λ ending. HasNoGraph ending (S.left source.old) (S.faults source.old) (S.faults source.new)) }
+    ensures faultless { OnOk result (S.faults source.new ≡ S.faults source.old) }
+{
+    match read_all(alloc, source) {
+        Ok(bytes) => Ok(bytes),
+        Err(ReadAllFault::ReadFault) => Err(Ending::read_fault()),
+        Err(ReadAllFault::TooLong) => Err(refused(alloc, TOO_MANY_BYTES)),
+        Err(ReadAllFault::NoMemory) => Err(Ending::no_memory()),
+    }
+}
+
+/// The input that the bytes give, which are dropped.
+fn parsed(alloc: Global, bytes: Vec<u8>) -> Result<Input, Ending>
+    requires { length bytes.items ≤ MOST_BYTES }
+    ensures input { IfOk result (IsReadOf (Some bytes.items)) }
+    ensures stopped { IfErr result (λ ending. HasNoGraphIn ending bytes.items) }
+{
+    match parse(alloc, &bytes) {
+        Err(ParseFault::Refused(refusal)) => Err(refused(alloc, refusal)),
+        Err(ParseFault::NoMemory) => Err(Ending::no_memory()),
+        Ok(input) => {
+            if input.batches.is_empty() {
+                Ok(input)
+            } else {
+                Err(refused(alloc, HAS_BATCHES))
+            }
+        }
+    }
+}
+
+/// The graph of what was read.
+fn graph_of(alloc: Global, input: Input) -> Result<NamedGraph, NoMemory>
+    requires { HasFewIds input }
+    ensures ids { IfOk result (λ named. named.ids.items ≡ input.ids.items) }
+    ensures graph { IfOk result (λ named. named.graph ≡ record { size = length input.ids.items; edges = set.from_list input.start.items }) }
+{
+    let Input { ids, start, .. } = input;
+    let graph = Graph::from_pairs(alloc, ids.len() as u32, &start)?;
+    Ok(NamedGraph { ids, graph })
+}
+
+/// The graph of all that the source has left.
+fn graph_from<S: Source>(alloc: Global, source: &mut S) -> Result<NamedGraph, Ending>
+    ensures graph { IfOk result (λ named. IsGraphOf (S.left source.old) named.ids.items named.graph) }
+    ensures read { OnOk result (IsAtEnd (S.left source.new)) }
+    ensures stopped { IfErr result (λ ending. HasNoGraph ending (S.left source.old) (S.faults source.old) (S.faults source.new)) }
+    ensures faultless { OnOk result (S.faults source.new ≡ S.faults source.old) }
+{
+    let bytes = bytes_from(alloc, source)?;
+    let input = parsed(alloc, bytes)?;
+    Ok(graph_of(alloc, input)?)
+}
+
+/// Turns to the file, where one is named.
+fn turn_to<I: FileInput>(alloc: Global, file: Option<&str>, input: &mut I) -> Result<(), Ending>
+    ensures turned { OnOk result (I.left input.new ≡ known_bytes I.left I.behind (option_map (λ t. t.now) file.entry) input.old) }
+    ensures stopped { (known : Option (List ℕ)) → IfErr result (λ ending. HasNoFileGraph ending (option_map (λ t. t.now) file.entry) known
+        (I.faults input.old) (I.faults input.new)) }
+    ensures faultless { OnOk result (I.faults input.new ≡ I.faults input.old) }
+{
+    let Some(name) = file else { return Ok(()) };
+    match input.open(name) {
+        Ok(()) => Ok(()),
+        Err(fault) => Err(unopened(alloc, name, fault)),
+    }
+}
+
+/// The graph of the file, or of standard input where none is named.
+pub(crate) fn read_graph<I: FileInput>(
+    alloc: Global,
+    file: Option<&str>,
+    input: &mut I,
+) -> Result<NamedGraph, Ending>
+    ensures graph { IfOk result (λ named. IsGraphOf (known_bytes I.left I.behind (option_map (λ t. t.now) file.entry) input.old)
+        named.ids.items named.graph) }
+    ensures read { OnOk result (IsAtEnd (I.left input.new)) }
+    ensures stopped { IfErr result (λ ending. HasNoFileGraph ending (option_map (λ t. t.now) file.entry)
+        (known_bytes I.left I.behind (option_map (λ t. t.now) file.entry) input.old) (I.faults input.old) (I.faults input.new)) }
+    ensures faultless { OnOk result (I.faults input.new ≡ I.faults input.old) }
+{
+    turn_to(alloc, file, input)?;
+    graph_from(alloc, input)
+}

@@ -1,0 +1,115 @@
+//! A reader of std, and the files of the runtime, as an input.
+ghost use Rattle.std.specs.Prelude.{◌≡◌, ◌<◌, OnErr, OnOk, length};
+ghost use Rattle.std.specs.Io.{ReadsAtMost};
+ghost use Rattle.std.specs.Io.KnownBytes.{ReadConsumes};
+ghost use Rattle.kc_io.specs.Causes.{HasCause, faults_after};
+ghost use Rattle.kc_cores.specs.Inputs.{no_bytes};
+
+use crate::input::{FileInput, OpenFault};
+use kc_io::Failed;
+use kc_io::source::Source;
+use kc_io::std_source::StdSource;
+use std::fs;
+use std::fs::OpenFile;
+use std::io::Read;
+use std::marker::Model;
+use std::rt::Files;
+
+/// A reader, which stands for standard input, and the files of the runtime.
+///
+/// Contracts see how many calls have failed: each fault raises the count by one, up to the last value of a `u64`, and nothing else does.
+/// They see no bytes: what the operating system gives is trusted.
+#[derive(Drop)]
+pub struct StdInput<'a, R: Files, S: Read> {
+    files: &'a R,
+    standard: StdSource<S>,
+    file: Option<StdSource<R::File>>,
+    failed: u64,
+}
+
+impl<'a, R: Files, S: Read> Model for StdInput<'a, R, S> {
+    ghost use Rattle.kc_cores.specs.Inputs.{Untold};
+
+    ghost Value = { Untold };
+
+    ghost view = { λ s. record { failed = s.failed } };
+}
+
+/// Opens a file, and no folder.
+fn open_file<R: Files>(files: &R, name: &str) -> Result<R::File, OpenFault> {
+    let file = fs::open(files, name)?;
+    if file.metadata()?.is_dir() {
+        return Err(OpenFault::Folder);
+    }
+    Ok(file)
+}
+
+impl<'a, R: Files, S: Read> StdInput<'a, R, S> {
+    /// The reader, of which no call has failed, and no file.
+    pub fn new(files: &'a R, standard: S) -> StdInput<'a, R, S>
+        ensures { result ≡ record { failed = 0 } }
+    {
+        StdInput {
+            files,
+            standard: StdSource::new(standard),
+            file: None,
+            failed: 0,
+        }
+    }
+
+    /// Reads from the file, where one is open, and else from the reader.
+    fn read_on(&mut self, into: &mut [u8]) -> Result<usize, Failed>
+        requires { 0 < length into.old }
+        ensures bound { ReadsAtMost result into.new }
+        ensures kept { self.new ≡ self.old }
+    {
+        match &mut self.file {
+            Some(file) => file.read(into),
+            None => self.standard.read(into),
+        }
+    }
+}
+
+impl<'a, R: Files, S: Read> Source for StdInput<'a, R, S> {
+    ghost left = { λ _. no_bytes };
+
+    ghost faults = { λ s. s.failed };
+
+    fn read(&mut self, into: &mut [u8]) -> Result<usize, Failed>
+        requires { 0 < length into.old }
+        ensures bound { ReadsAtMost result into.new }
+        ensures bytes { ReadConsumes no_bytes no_bytes result into.new }
+        ensures cause { HasCause self.old.failed self.new.failed result }
+        ensures counted { self.new.failed ≡ faults_after self.old.failed result }
+    {
+        match self.read_on(into) {
+            Ok(n) => Ok(n),
+            Err(Failed) => {
+                self.failed = self.failed.saturating_add(1);
+                Err(Failed)
+            }
+        }
+    }
+}
+
+impl<'a, R: Files, S: Read> FileInput for StdInput<'a, R, S> {
+    ghost behind = { λ _ _. no_bytes };
+
+    fn open(&mut self, name: &str) -> Result<(), OpenFault>
+        ensures bytes { OnOk result (no_bytes ≡ no_bytes) }
+        ensures stays { OnErr result (no_bytes ≡ no_bytes) }
+        ensures cause { HasCause self.old.failed self.new.failed result }
+        ensures counted { self.new.failed ≡ faults_after self.old.failed result }
+    {
+        match open_file(self.files, name) {
+            Ok(file) => {
+                self.file = Some(StdSource::new(file));
+                Ok(())
+            }
+            Err(fault) => {
+                self.failed = self.failed.saturating_add(1);
+                Err(fault)
+            }
+        }
+    }
+}

@@ -1,0 +1,160 @@
+//! The words of a run, and what they ask for.
+//!
+//! They are read by `clap`, as a command with a command of its own for each task. What `clap` makes of the words of such a command is a
+//! function of them, on which `specs/Wishes.antt` stands. The texts of help, of the version and about wrong words are those of `clap`.
+ghost use Rattle.std.specs.Prelude.{◌≡◌, IfErr, IfOk, false, map, option_map};
+ghost use Rattle.clap.specs.Matches.{found_of};
+ghost use Rattle.clap.specs.Simple.{app_of, subcommand_rows_of};
+ghost use Rattle.clap.specs.Values.{kind_of};
+ghost use Rattle.clap.specs.Walk.{rows_of};
+ghost use Rattle.clap.specs.declared.builder.command.Command.TheViews.{out-Command};
+ghost use Rattle.kc_cores.specs.Wishes.{cores_command, file_named, task_command, task_named, wish_for, wish_in, wish_of};
+ghost use Rattle.kc_cores.specs.Endings.{IsReplyFor, IsRequestFor, RepliesTo};
+
+use crate::request::{Request, Task};
+use clap::error::ErrorKind;
+use clap::{Arg, ArgMatches, Command, Error};
+use kc_graph::NoMemory;
+use std::alloc::Global;
+use std::convert::AsStr;
+
+/// The version that the program tells.
+pub const VERSION: &str = "0.1.0";
+
+/// What is replied to words that name no task.
+#[derive(Drop)]
+pub(crate) enum Reply {
+    /// Help or the version, as the words ask for it.
+    Asked(String),
+    /// What is wrong with the words.
+    Mistake(String),
+    /// There was no memory.
+    NoMemory,
+}
+
+impl From<NoMemory> for Reply {
+    ghost use Rattle.kc_cores.specs.declared.words.Reply.TheVariants as reply;
+
+    ghost from_gives = { λ _ r. r ≡ reply.NoMemory };
+
+    fn from(_: NoMemory) -> Reply {
+        Reply::NoMemory
+    }
+}
+
+/// The command of a task.
+fn task_command<'a>(alloc: Global, name: &'a str, about: &'a str) -> Result<Command<'a>, NoMemory>
+    ensures app { IfOk result (λ made. app_of made ≡ task_command name.entry.now) }
+    ensures local { IfOk result (λ made. (out-Command made).has_globals ≡ false) }
+{
+    let file = Arg::new(alloc, "FILE").help(
+        "The edge list, two ids a line; standard input where it is - or none is named",
+    );
+    Command::new(alloc, name).about(about).arg(file)
+}
+
+/// The command whose words are read.
+fn cores_command<'a>(alloc: Global) -> Result<Command<'a>, NoMemory>
+    ensures { IfOk result (λ made. app_of made ≡ cores_command) }
+{
+    let numbers = task_command(
+        alloc,
+        "numbers",
+        "Writes a line ID<TAB>CORE for each id, by ascending ids",
+    )?;
+    Command::new(alloc, "cores")
+        .about("Core numbers of a graph that is given as an edge list")
+        .version(VERSION)
+        .no_binary_name(true)
+        .subcommand_required(true)
+        .arg_required_else_help(true)
+        .disable_help_subcommand(true)
+        .subcommand(numbers)
+}
+
+/// The task that a command is for.
+fn task_named(name: &str) -> Option<Task>
+    ensures { result ≡ task_named name.now }
+{
+    match name {
+        "numbers" => Some(Task::Numbers),
+        _ => None,
+    }
+}
+
+/// The file that a word names: `-` is standard input.
+fn file_named<'a>(word: Option<&'a str>) -> Option<&'a str>
+    ensures { option_map (λ t. t.now) result ≡ file_named (option_map (λ t. t.now) word.entry) }
+{
+    match word {
+        Some("-") => None,
+        other => other,
+    }
+}
+
+/// What is replied where `clap` has this to say.
+fn reply_of(alloc: Global, error: &Error) -> Reply
+    ensures kind { IsReplyFor result (kind_of error.now) }
+    ensures memory { kind_of error.now ≡ ErrorKind.OutOfMemory → result ≡ Reply.NoMemory }
+{
+    if let ErrorKind::OutOfMemory = error.kind() {
+        return Reply::NoMemory;
+    }
+    match format!(in alloc; "{error}") {
+        Err(_) => Reply::NoMemory,
+        Ok(text) => {
+            if error.use_stderr() {
+                Reply::Mistake(text)
+            } else {
+                Reply::Asked(text)
+            }
+        }
+    }
+}
+
+/// What is replied where no command was met, though one is required.
+fn no_command(alloc: Global) -> Reply
+    ensures { IsReplyFor result ErrorKind.InvalidSubcommand }
+{
+    match String::from_str(alloc, "cores: there is no such command, see cores --help\n") {
+        Ok(text) => Reply::Mistake(text),
+        Err(_) => Reply::NoMemory,
+    }
+}
+
+/// What a command of this name asks for, with these matches.
+fn request_for<'a>(alloc: Global, name: &str, found: &ArgMatches<'a>) -> Result<Request<'a>, Reply>
+    ensures asks { IfOk result (λ request. IsRequestFor request (wish_for (task_named name.now) (rows_of (found_of found.now)))) }
+    ensures replies { IfErr result (λ reply. RepliesTo reply (wish_for (task_named name.now) (rows_of (found_of found.now)))) }
+{
+    match task_named(name) {
+        None => Err(no_command(alloc)),
+        Some(task) => Ok(Request {
+            task,
+            file: file_named(found.get_str("FILE")),
+        }),
+    }
+}
+
+/// What the command that was met asks for.
+fn request_in<'a>(alloc: Global, matches: &ArgMatches<'a>) -> Result<Request<'a>, Reply>
+    ensures asks { IfOk result (λ request. IsRequestFor request (wish_in (subcommand_rows_of matches.now))) }
+    ensures replies { IfErr result (λ reply. RepliesTo reply (wish_in (subcommand_rows_of matches.now))) }
+{
+    match matches.subcommand() {
+        None => Err(no_command(alloc)),
+        Some((name, found)) => request_for(alloc, name, found),
+    }
+}
+
+/// What the words ask for, or what is replied to them. The words are those after the program's name.
+pub(crate) fn request_of<'a, W: AsStr>(alloc: Global, words: &'a [W]) -> Result<Request<'a>, Reply>
+    ensures asks { IfOk result (λ request. IsRequestFor request (wish_of (map W.text words.entry.now))) }
+    ensures replies { IfErr result (λ reply. RepliesTo reply (wish_of (map W.text words.entry.now))) }
+{
+    let command = cores_command(alloc)?;
+    match command.try_get_matches_from(words) {
+        Ok(matches) => request_in(alloc, &matches),
+        Err(error) => Err(reply_of(alloc, &error)),
+    }
+}
