@@ -1,44 +1,19 @@
 -- The graph of what was read is the graph that the bytes mean.
-use Rattle.std.proofs.Common.{◌≡◌, ◌<◌, ◌∙◌, ℕ, Bool, cond, List, Option, Some, IfSome, length, nat_eq, refl, sym, ap, subst}
-use Rattle.std.proofs.Common.{ne_eqb}
+use Rattle.std.proofs.Common.{◌≡◌, ◌<◌, ◌∙◌, ℕ, List, Option, Some, IfSome, length, refl, sym, ap, subst}
 use Rattle.std.specs.FinSet as set
 use Rattle.std.specs.Prelude.{All}
-use Rattle.std.proofs.lemmas.List.{length-map}
 use Rattle.kc_graph.specs.SimpleGraph.{SimpleGraph}
-use Rattle.kc_text.specs.Inputs.{AreIds, EdgeBatch, IsInput, numbered_batch, parts_of_batch, start_graph}
-use Rattle.kc_text.specs.Meaning.{Means, Refuses, Told, batches, meaning, names}
+use Rattle.kc_text.specs.Inputs.{AreIds, IsInput, start_graph}
+use Rattle.kc_text.specs.Meaning.{Meaning, Told, meaning, names}
 use Rattle.kc_text.specs.declared.input.Input.{Input}
-use Rattle.kc_text.specs.declared.kind.Kind.{Kind}
-use Rattle.kc_text.specs.declared.kind.Kind.TheVariants.{TooManyBatches}
-use Rattle.kc_cores.specs.Answers.{graph_meaning, without_batches}
+use Rattle.kc_text.specs.declared.limits.TheConstants.Limits.{GRAPH}
+use Rattle.kc_cores.specs.Answers.{graph_meaning}
 use Rattle.kc_cores.specs.Inputs.{HasFewIds, IsGraphOf, IsReadOf}
 
--- an input has as many batches as were told
-batch_count : (told : Told) (input : Input) → IsInput told input → length input.batches.items ≡ length (batches told)
-batch_count told input is =
-    sym (length-map input.batches.items parts_of_batch) ∙ (ap (λ (bs : List EdgeBatch). length bs) is.batches
-    ∙ length-map (batches told) (numbered_batch input.ids.items))
-
--- an input without batches is what the text of a graph means
-pub graph_meaning-plain : (bytes : List ℕ) (told : Told) (input : Input) → meaning bytes ≡ Means told → IsInput told input → length input.batches.items ≡ 0
-    → graph_meaning bytes ≡ Means told
+-- what the bytes mean within the limits of a graph is what the text of a graph means
+pub graph_meaning-is : (bytes : List ℕ) (m : Meaning) → meaning GRAPH bytes ≡ m → graph_meaning bytes ≡ m
 unfolding graph_meaning
-graph_meaning-plain bytes told input means is none =
-    let zero_told : length (batches told) ≡ 0 = sym (batch_count told input is) ∙ none in
-    ap without_batches means ∙ ap (λ (n : ℕ). cond (nat_eq n 0) (Means told) (Refuses 0 TooManyBatches)) zero_told
-
--- an input with batches is refused as the text of a graph
-pub graph_meaning-batches : (bytes : List ℕ) (told : Told) (input : Input) → meaning bytes ≡ Means told → IsInput told input
-    → (length input.batches.items ≡ 0 → ⊥) → graph_meaning bytes ≡ Refuses 0 TooManyBatches
-unfolding graph_meaning
-graph_meaning-batches bytes told input means is some =
-    ap without_batches means
-    ∙ ap (λ (b : Bool). cond b (Means told) (Refuses 0 TooManyBatches)) (ne_eqb (length (batches told)) 0 (λ e. some (batch_count told input is ∙ e)))
-
--- what is refused is refused as the text of a graph
-pub graph_meaning-refused : (bytes : List ℕ) (n : ℕ) (kind : Kind) → meaning bytes ≡ Refuses n kind → graph_meaning bytes ≡ Refuses n kind
-unfolding graph_meaning
-graph_meaning-refused bytes n kind refuses = ap without_batches refuses
+graph_meaning-is bytes m is = is
 
 -- the graph of an input has a vertex for each id
 size-start_graph : (ids : List ℕ) (edges : List (ℕ × ℕ)) → (start_graph ids edges).size ≡ length ids

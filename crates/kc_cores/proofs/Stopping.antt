@@ -4,13 +4,13 @@ use Rattle.kc_text.specs.Forms.{all_said}
 use Rattle.kc_text.specs.Meaning.{Refuses, nothing_told, reading}
 use Rattle.kc_text.specs.declared.kind.Kind.{Kind}
 use Rattle.kc_text.specs.declared.kind.Kind.TheVariants.{TooLong}
-use Rattle.kc_text.specs.declared.limits.TheConstants.{MOST_BYTES}
+use Rattle.kc_text.specs.declared.limits.TheConstants.Limits.{GRAPH}
 use Rattle.kc_cores.specs.Answers.{graph_meaning}
 use Rattle.kc_cores.specs.Endings.{HasNoGraph, HasNoGraphIn, NoGraphAt, NoGraphInAt, RefusalAt, TellsRefusal, line_of}
 use Rattle.kc_cores.specs.declared.CoresStatus.{CoresStatus}
 use Rattle.kc_cores.specs.declared.CoresStatus.TheVariants as status
 use Rattle.kc_cores.specs.declared.ending.Ending.{Ending}
-use Rattle.kc_cores.proofs.Graphs.{graph_meaning-refused}
+use Rattle.kc_cores.proofs.Graphs.{graph_meaning-is}
 
 -- a refusal says why there is no graph
 refused-no_graph : (end : CoresStatus) (line : List ℕ) (n : ℕ) (kind : Kind) (known : Option (List ℕ)) (f f' : ℕ) → RefusalAt end line n kind
@@ -30,10 +30,11 @@ pub HasNoGraph-refused : (e : Ending) (n : ℕ) (kind : Kind) (known : Option (L
 HasNoGraph-refused e n kind known f f' h m kept = refused-no_graph e.status (line_of e) n kind known f f' h m kept
 
 -- too many bytes are refused as a whole
-pub too_long_refuses : (known : Option (List ℕ)) → IfSome known (λ all. MOST_BYTES < length all) → IfSome known (λ bytes. graph_meaning bytes ≡ Refuses 0 TooLong)
+pub too_long_refuses : (known : Option (List ℕ)) → IfSome known (λ all. GRAPH.bytes < length all) → IfSome known (λ bytes. graph_meaning bytes ≡ Refuses 0 TooLong)
 too_long_refuses None h = tt
 too_long_refuses (Some all) h =
-    graph_meaning-refused all 0 TooLong (ap (λ b. cond b (Refuses 0 TooLong) (reading 0 nothing_told (all_said all))) (lt-ltb MOST_BYTES (length all) h))
+    graph_meaning-is all (Refuses 0 TooLong)
+    (ap (λ b. cond b (Refuses 0 TooLong) (reading GRAPH 0 nothing_told (all_said all))) (lt-ltb GRAPH.bytes (length all) h))
 
 -- a refusal of bytes says why they give no graph
 refused-none_in : (end : CoresStatus) (line : List ℕ) (n : ℕ) (kind : Kind) (bytes : List ℕ) → RefusalAt end line n kind

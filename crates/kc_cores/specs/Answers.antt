@@ -5,19 +5,14 @@ use Rattle.std.specs.List.{flat_map, zip}
 use Rattle.kc_graph.specs.Core.{AreCoreNumbers, greatest}
 use Rattle.kc_graph.specs.SimpleGraph.{SimpleGraph}
 use Rattle.kc_text.specs.Inputs.{AreIds, start_graph}
-use Rattle.kc_text.specs.Meaning.{Means, Meaning, Refuses, Told, batches, meaning, names}
-use Rattle.kc_text.specs.declared.kind.Kind.TheVariants.{TooManyBatches}
+use Rattle.kc_text.specs.Meaning.{Means, Meaning, Told, meaning, names}
+use Rattle.kc_text.specs.declared.limits.TheConstants.Limits.{GRAPH}
 use Rattle.kc_cores.specs.declared.request.Task.{Task}
 use Rattle.kc_cores.specs.declared.request.Task.TheVariants.{Numbers}
 
--- what a text without batches means; where there is a batch the text as a whole is refused
-abbrev pub without_batches : Meaning → Meaning
-without_batches (Refuses line kind) = Refuses line kind
-without_batches (Means told) = if nat_eq (length (batches told)) 0 then Means told else Refuses 0 TooManyBatches
-
--- what the text of a graph means
+-- what the text of a graph means: there may be no batch line, and all else may be as much as numbers count
 unfoldable pub graph_meaning : List ℕ → Meaning
-graph_meaning bytes = without_batches (meaning bytes)
+graph_meaning bytes = meaning GRAPH bytes
 
 -- an id, a tab and its core number
 abbrev pub number_line : ℕ × ℕ → List ℕ

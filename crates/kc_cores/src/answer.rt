@@ -18,7 +18,7 @@ use crate::request::{Request, Task};
 use crate::summary::summary_line;
 use crate::words::{Reply, request_of};
 use crate::{CoresStatus, CoresStreams};
-use kc_graph::core_numbers;
+use kc_flat::core_numbers;
 use kc_io::Failed;
 use kc_io::sink::{Sink, write_all};
 use std::alloc::Global;

@@ -9,7 +9,7 @@
 //! of the whole is made. [`answer_in_memory`](memory::answer_in_memory) is the same run over an input and sinks in memory, where every clause
 //! speaks of bytes that are known. [`answer_on`](program::answer_on) takes the words of a program's arguments.
 //!
-//! The crate stands on `kc_io` for sources and sinks, on `kc_text` for what a text means, on `kc_graph` for core numbers, and on `clap`
+//! The crate stands on `kc_io` for sources and sinks, on `kc_text` for what a text means, on `kc_flat` and `kc_graph` for core numbers, and on `clap`
 //! and `itoa`.
 #![tactic(auto)]
 

@@ -2,15 +2,15 @@
 ghost use Rattle.std.specs.FinSet as set;
 ghost use Rattle.std.specs.Prelude.{◌≡◌, ◌≤◌, ℕ, List, Option, IfErr, IfOk, IfSome, OnOk, Some, length, option_map};
 ghost use Rattle.std.specs.Io.KnownBytes.{IsAtEnd};
-ghost use Rattle.kc_text.specs.declared.limits.TheConstants.{MOST_BYTES};
 ghost use Rattle.kc_cores.specs.Endings.{HasNoFileGraph, HasNoGraph, HasNoGraphIn};
 ghost use Rattle.kc_cores.specs.Inputs.{HasFewIds, IsGraphOf, IsReadOf, known_bytes};
 
 use crate::ending::{Ending, refused, unopened};
 use crate::input::FileInput;
-use kc_graph::{Graph, NoMemory};
+use kc_flat::FlatGraph;
+use kc_graph::NoMemory;
 use kc_io::source::{ReadAllFault, Source, read_all};
-use kc_text::{Input, Kind, ParseFault, Refusal, parse};
+use kc_text::{Input, Kind, Limits, ParseFault, Refusal, parse};
 use std::alloc::Global;
 
 /// The input as a whole has too many bytes.
@@ -19,29 +19,22 @@ const TOO_MANY_BYTES: Refusal = Refusal {
     kind: Kind::TooLong,
 };
 
-/// The input has batches.
-const HAS_BATCHES: Refusal = Refusal {
-    line: 0,
-    kind: Kind::TooManyBatches,
-};
-
 /// A graph, and the ids that its vertices stand for.
 #[derive(Drop)]
 pub(crate) struct NamedGraph {
     /// Ascending: the vertex `i` stands for `ids[i]`.
     pub(crate) ids: Vec<u32>,
-    pub(crate) graph: Graph,
+    pub(crate) graph: FlatGraph,
 }
 
 /// All bytes of the source.
 fn bytes_from<S: Source>(alloc: Global, source: &mut S) -> Result<Vec<u8>, Ending>
     ensures bytes { IfOk result (λ bytes. IfSome (S.left source.old) (λ known. bytes.items ≡ known)) }
-    ensures few { IfOk result (λ bytes. length bytes.items ≤ MOST_BYTES) }
     ensures read { OnOk result (IsAtEnd (S.left source.new)) }
     ensures stopped { IfErr result (λ ending. HasNoGraph ending (S.left source.old) (S.faults source.old) (S.faults source.new)) }
     ensures faultless { OnOk result (S.faults source.new ≡ S.faults source.old) }
 {
-    match read_all(alloc, source) {
+    match read_all(alloc, source, Limits::GRAPH.bytes) {
         Ok(bytes) => Ok(bytes),
         Err(ReadAllFault::ReadFault) => Err(Ending::read_fault()),
         Err(ReadAllFault::TooLong) => Err(refused(alloc, TOO_MANY_BYTES)),
@@ -51,20 +44,13 @@ fn bytes_from<S: Source>(alloc: Global, source: &mut S) -> Result<Vec<u8>, Endin
 
 /// The input that the bytes give, which are dropped.
 fn parsed(alloc: Global, bytes: Vec<u8>) -> Result<Input, Ending>
-    requires { length bytes.items ≤ MOST_BYTES }
     ensures input { IfOk result (IsReadOf (Some bytes.items)) }
     ensures stopped { IfErr result (λ ending. HasNoGraphIn ending bytes.items) }
 {
-    match parse(alloc, &bytes) {
+    match parse(alloc, Limits::GRAPH, &bytes) {
+        Ok(input) => Ok(input),
         Err(ParseFault::Refused(refusal)) => Err(refused(alloc, refusal)),
         Err(ParseFault::NoMemory) => Err(Ending::no_memory()),
-        Ok(input) => {
-            if input.batches.is_empty() {
-                Ok(input)
-            } else {
-                Err(refused(alloc, HAS_BATCHES))
-            }
-        }
     }
 }
 
@@ -75,7 +61,7 @@ fn graph_of(alloc: Global, input: Input) -> Result<NamedGraph, NoMemory>
     ensures graph { IfOk result (λ named. named.graph ≡ record { size = length input.ids.items; edges = set.from_list input.start.items }) }
 {
     let Input { ids, start, .. } = input;
-    let graph = Graph::from_pairs(alloc, ids.len() as u32, &start)?;
+    let graph = FlatGraph::from_pairs(alloc, ids.len() as u32, &start)?;
     Ok(NamedGraph { ids, graph })
 }
 

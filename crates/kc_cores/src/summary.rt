@@ -3,7 +3,8 @@ ghost use Rattle.std.specs.Prelude.{◌≡◌, IfOk, string_bytes};
 ghost use Rattle.kc_graph.specs.Core.{greatest};
 ghost use Rattle.kc_cores.specs.Answers.{summary_line};
 
-use kc_graph::{Graph, NoMemory};
+use kc_flat::FlatGraph;
+use kc_graph::NoMemory;
 use std::alloc::Global;
 
 /// The greatest of the numbers, or 0 where there is none.
@@ -14,7 +15,11 @@ fn greatest(numbers: &[u32]) -> u32
 }
 
 /// How many vertices and edges the graph has, and its greatest core number.
-pub(crate) fn summary_line(alloc: Global, graph: &Graph, core: &[u32]) -> Result<String, NoMemory>
+pub(crate) fn summary_line(
+    alloc: Global,
+    graph: &FlatGraph,
+    core: &[u32],
+) -> Result<String, NoMemory>
     ensures { IfOk result (λ line. string_bytes line ≡ summary_line graph.now core.now) }
 {
     let vertices = graph.vertices();

@@ -1,0 +1,9 @@
+-- The pairs have the lesser end first, so they are the edges of their graph as they are.
+use Rattle.std.proofs.Common.{length, rules}
+use Rattle.kc_graph.proofs.Bulking.{pairs-graph}
+use Rattle.kc_cores.proofs.reading.graph_of.Goals as goal
+
+pub returns-clause-graph : goal.returns-clause-graph
+returns-clause-graph c =
+    let same = pairs-graph (length c.args.input.ids.items) c.args.input.start.items c.requires.edges in
+    search (rules, same)
