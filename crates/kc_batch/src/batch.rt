@@ -78,7 +78,8 @@ fn close_desks(
 }
 
 /// Rounds of workers, with a renewal of the table between two of them where its versions are nearly spent, until all updates of the batch
-/// are entered or memory runs out. Gives a pass of each table that was ended, also where memory ran out.
+/// are entered or memory runs out. A gate may end a round earlier, and another one follows. Gives a pass of each table that was ended, also
+/// where memory ran out.
 fn work_off<G: Gate + Sync, R: Threads + Wait + Sync>(
     rt: &R,
     alloc: Global,
@@ -170,11 +171,13 @@ fn run_desks<G: Gate + Sync, R: Threads + Wait + Sync>(
 
 /// Enters all updates of a batch. Each has the index that the batch gives it.
 ///
-/// There is one worker for each of `workers`, in a thread of its own where one can be made; a single worker runs on the caller's. They take
-/// the updates from one queue: removals first, from the innermost cores on, then insertions. The insertions of a large batch, of at least
-/// one update for each 16 vertices, are peeled as a graph of their own, and those of the vertices that come last in that are taken first;
-/// those of a smaller batch stand as they were given. Where the versions of the table are nearly spent the run goes on in a fresh one, and
-/// an update that could not be entered for that is entered there. So a table is ended as often as versions were nearly spent.
+/// There is one worker for each of `workers`. In each round they run in as many threads as `gate` says, where these can be made, but in no
+/// more than there are updates left: of several in one thread the first takes what there is. A gate that says nothing has a thread for each
+/// worker. One thread is the caller's. They take the updates from one queue: removals first, from the innermost cores on, then insertions.
+/// The insertions of a large batch, of at least one update for each 16 vertices, are peeled as a graph of their own, and those of the
+/// vertices that come last in that are taken first; those of a smaller batch stand as they were given. Where the versions of the table are
+/// nearly spent the run goes on in a fresh one, and an update that could not be entered for that is entered there. So a table is ended as
+/// often as versions were nearly spent.
 ///
 /// Removals come before insertions, so a batch is to name each pair at most once if it is to mean what its lines say: of `+ a b` and then
 /// `- a b` the edge is left. `kc_batch_effects::decide` makes such a batch of any updates, by the rule that the last one of a pair wins.

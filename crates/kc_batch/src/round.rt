@@ -1,4 +1,4 @@
-//! One round of workers, each in a thread of its own.
+//! One round of workers, in as many threads as their gate says.
 ghost use Rattle.std.specs.Prelude.{◌≡◌, ◌<◌, ◌≤◌, ◌+◌, ◌++◌, ℕ, [], All, IfErr, IfOk, length, map, slice_index_or, vec_len, vec_capacity};
 ghost use Rattle.std.specs.List.{AllZip};
 ghost use mathlib.Core.List.{IsPrefix};
@@ -58,7 +58,16 @@ fn take_seats<K: Name + Ledger>(
     seats
 }
 
-/// Lets each worker work, in a thread of its own where one can be made.
+/// How many updates those who are seated have entered in this call.
+fn entered_by<K: Name + Ledger>(seats: &[Seat<K>]) -> usize {
+    let mut entered: usize = 0;
+    for seat in seats {
+        entered = entered.saturating_add(seat.desk.done.len());
+    }
+    entered
+}
+
+/// Lets each worker work, in as many threads as the gate says where they can be made, but no more than there are updates left.
 fn work_all<K: Name + Ledger + Send + Sync, G: Gate + Sync, R: Threads + Wait + Sync>(
     rt: &R,
     workplace: &Workplace<'_, K, G>,
@@ -73,11 +82,14 @@ fn work_all<K: Name + Ledger + Send + Sync, G: Gate + Sync, R: Threads + Wait + 
     ensures works { AllZip (λ a b. WorksOn K.opened K.log turns.now a b × KeepsIfSpent K.opened b.seen.log b.work.left)
         seats.old seats.new }
 {
-    let count = seats.len();
+    let gate = workplace.gate;
+    let before = entered_by(seats);
+    let left = turns.batch.updates.len().saturating_sub(before);
+    let threads = gate.begin_round(seats.len(), left).min(left).max(1);
     thread::for_each_mut(
         rt,
         seats,
-        count,
+        threads,
         &|_, seat|
             requires { (seat.old.consumer.queue ≡ turns.now.queue) × AreTurnsOf turns.now
                 × CanGoOn K.opened K.log (length turns.now.batch.updates.now) seat.old
@@ -86,6 +98,7 @@ fn work_all<K: Name + Ledger + Send + Sync, G: Gate + Sync, R: Threads + Wait + 
                 × KeepsIfSpent K.opened seat.new.seen.log seat.new.work.left }
         { seat.work(rt, workplace, turns) },
     );
+    gate.end_round(entered_by(seats).saturating_sub(before));
 }
 
 /// Takes each desk back, and joins the parts of the ledger and of the queue.
@@ -133,8 +146,8 @@ pub(crate) fn tell_all(parts: &mut Parts, desks: &mut Vec<Desk>)
     }
 }
 
-/// One round: each worker enters what it has kept, and what it takes of the queue, until none is left there or it can't go on. Where there
-/// is no memory for the round, all is given back as it was.
+/// One round: each worker enters what it has kept, and what it takes of the queue, until none is left there, the gate ends the round, or it
+/// can't go on. Where there is no memory for the round, all is given back as it was.
 pub(crate) fn run_round<K: Name + Ledger + Send + Sync, G: Gate + Sync, R: Threads + Wait + Sync>(
     rt: &R,
     alloc: Global,

@@ -46,8 +46,9 @@ impl<K: Name + Ledger> Model for Seat<K> {
 }
 
 impl<K: Name + Ledger> Seat<K> {
-    /// Enters updates until none is left, or until it can't go on: what it has kept first, then what it takes of the queue. Where the
-    /// versions of the table are spent, or the entries can't be numbered further, it keeps the update that it could not enter.
+    /// Enters updates until none is left, until the gate ends the round, or until it can't go on: what it has kept first, then what it takes
+    /// of the queue. Where the versions of the table are spent, or the entries can't be numbered further, it keeps the update that it could
+    /// not enter.
     pub(crate) fn work<G: Gate, R: Wait>(
         &mut self,
         rt: &R,
@@ -66,6 +67,9 @@ impl<K: Name + Ledger> Seat<K> {
                 return;
             };
             if !self.enter(rt, workplace, turns, place) {
+                return;
+            }
+            if workplace.gate.ends_round() {
                 return;
             }
         }

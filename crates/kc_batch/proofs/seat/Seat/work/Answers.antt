@@ -16,6 +16,11 @@ returns-then-not-enter-clause-works g c =
     works-trans _ _ _ _ _ c.args.self.now c.loop.self c.enter.new.self c.requires.ready.told c.loop.invariant.works
     (works-trans _ _ _ _ _ c.loop.self c.pick.new.self c.enter.new.self c.loop.invariant.ready.told c.pick.ensures.works c.enter.ensures.works)
 
+pub returns-then-ends_round-clause-works : goal.returns-then-ends_round-clause-works
+returns-then-ends_round-clause-works g c =
+    works-trans _ _ _ _ _ c.args.self.now c.loop.self c.enter.new.self c.requires.ready.told c.loop.invariant.works
+    (works-trans _ _ _ _ _ c.loop.self c.pick.new.self c.enter.new.self c.loop.invariant.ready.told c.pick.ensures.works c.enter.ensures.works)
+
 pub loop-preserved : goal.loop-preserved
 loop-preserved g c =
     let w = works-trans _ _ _ _ _ c.loop.self c.pick.new.self c.enter.new.self c.loop.invariant.ready.told c.pick.ensures.works c.enter.ensures.works in
