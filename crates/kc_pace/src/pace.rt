@@ -2,13 +2,16 @@
 //!
 //! A round runs in one thread, or in all that there may be. Threads that share much slow each other down: work is done twice, and lines of
 //! the cache and the allocator's lists go to and fro. On some inputs four threads take a fourth of the time of one, and on others twice as
-//! long. So a run begins with one thread, and now and then a long round is tried the other way. Only where all threads are worth it three
-//! times in a row they are kept, and they are given up when they are not worth it once.
+//! long. So a run begins with one thread, and now and then a long round is tried the other way. All threads are worth it where a piece of
+//! work takes at most 1.3 times the processor time that it takes in one thread.
 //!
-//! They are worth it where a piece of work takes at most 1.3 times the processor time that it takes in one thread. That is asked of the
-//! rounds before the trial and after it, since one long piece makes any single round slow. Trials are seldom. One begins only when the run
-//! has lasted eight times as long as the processor time that the trial may take. After a trial that changed nothing the run waits twice as
-//! long as before.
+//! A trial is compared with the round before it and with the one after it, since one long piece makes any single round slow. Where both
+//! show that all threads are worth it the score rises by one, and where both show that they are not it falls; else it stays. At three
+//! all threads are taken, and they are given up when the score has fallen to one.
+//!
+//! Trials are seldom. The first one begins when the run has lasted eight times as long as the processor time that it may take. The run
+//! waits for the next one four times as long as the last one's processor time, and twice as long again each time that a trial has shown
+//! nothing new. Where it spoke for a change the run waits half as long.
 
 ghost use Rattle.std.specs.Prelude.{◌≡◌, ◌<◌, ◌≤◌, ◌+◌, ◌⊎◌};
 
@@ -21,13 +24,21 @@ const LEAST: u64 = 4_000_000;
 /// The processor time that a piece of work may take in several threads, for each 10 parts that it takes in one.
 const WORTH: u64 = 13;
 
-/// How many trials in a row must show that all threads are worth it.
-const WINS: u32 = 3;
+/// The score at which all threads are taken, which is the highest, and the one at which they are given up.
+const TAKEN: u32 = 3;
 
-/// How many times as long as the processor time of a trial a run waits for the next one: at first, and at most.
+const GIVEN_UP: u32 = 1;
+
+/// How many times as long as its processor time a run waits for the first trial.
 const PATIENCE: u64 = 8;
 
+/// The same for later trials, by the processor time of the last one: at least, and at most.
+const LEAST_PATIENCE: u64 = 4;
+
 const MOST_PATIENCE: u64 = 128;
+
+/// The same where the last trial spoke for a change.
+const IMPATIENCE: u64 = 2;
 
 /// Where the run stands between two trials.
 #[derive(Clone, Copy, Debug, Drop, Eq, PartialEq)]
@@ -46,8 +57,10 @@ pub struct Pace {
     /// When the run began.
     opened: u64,
     phase: Phase,
-    /// How many trials in a row have shown that all threads are worth it.
-    wins: u32,
+    /// How often trials have shown that all threads are worth it, less how often that they are not.
+    score: u32,
+    /// Whether long rounds take all threads.
+    takes_all: bool,
     /// How many times as long as the last trial's processor time the run waits for the next one.
     patience: u64,
     /// No trial begins before this moment.
@@ -84,8 +97,9 @@ impl Pace {
         Pace {
             opened: now,
             phase: Phase::Steady,
-            wins: 0,
-            patience: PATIENCE,
+            score: 0,
+            takes_all: false,
+            patience: LEAST_PATIENCE,
             next_trial: now,
             was_worth: false,
             trial_cost: 0,
@@ -108,7 +122,7 @@ impl Pace {
         self.began = now;
         self.most = most;
         self.is_long = most > 1 && expected >= LEAST;
-        self.threads = if self.is_long && self.takes_all(now, expected.min(SLICE)) {
+        self.threads = if self.is_long && self.is_crowded(now, expected.min(SLICE)) {
             most
         } else {
             1
@@ -124,17 +138,16 @@ impl Pace {
     }
 
     /// Whether a long round takes all threads, which is expected to last so long. A trial may begin here.
-    fn takes_all(&mut self, now: u64, expected: u64) -> bool {
-        let best = self.wins >= WINS;
+    fn is_crowded(&mut self, now: u64, expected: u64) -> bool {
         let may_cost = expected.saturating_mul(self.most);
         let soonest = self
             .opened
             .saturating_add(may_cost.saturating_mul(PATIENCE));
         if self.phase == Phase::Steady && self.alone > 0 && now >= self.next_trial.max(soonest) {
             self.phase = Phase::Trying;
-            return !best;
+            return !self.takes_all;
         }
-        best
+        self.takes_all
     }
 
     /// The round has ended at this moment, and so many pieces of work were done in it.
@@ -165,8 +178,7 @@ impl Pace {
                 self.phase = Phase::Judging;
             }
             Phase::Judging => {
-                let worth = self.was_worth && self.is_worth();
-                self.judge(worth);
+                self.judge(self.was_worth, self.is_worth());
                 let wait = self.trial_cost.saturating_mul(self.patience);
                 self.next_trial = now.saturating_add(wait);
                 self.phase = Phase::Steady;
@@ -179,22 +191,26 @@ impl Pace {
         self.together.saturating_mul(10) <= self.alone.saturating_mul(WORTH)
     }
 
-    /// A trial has shown whether all threads are worth it.
-    fn judge(&mut self, worth: bool) {
-        let best = self.wins >= WINS;
-        self.wins = if worth {
-            self.wins.saturating_add(1).min(WINS)
-        } else {
-            0
+    /// A trial has shown whether all threads are worth it, beside the round before it and beside the one after it.
+    fn judge(&mut self, before: bool, after: bool) {
+        self.score = match (before, after) {
+            (true, true) => self.score.saturating_add(1).min(TAKEN),
+            (false, false) => self.score.saturating_sub(1),
+            (true, false) | (false, true) => self.score,
         };
-        let changes = best != (self.wins >= WINS);
-        self.patience = if changes {
-            PATIENCE
-        } else if worth == best {
-            let longer = self.patience.max(PATIENCE).saturating_mul(2);
+        let took_all = self.takes_all;
+        self.takes_all = self.score >= TAKEN || (took_all && self.score > GIVEN_UP);
+        self.patience = if took_all != self.takes_all {
+            LEAST_PATIENCE
+        } else if before != after {
+            self.patience.max(LEAST_PATIENCE)
+        } else if after != took_all {
+            IMPATIENCE
+        } else if self.score == 0 || self.score == TAKEN {
+            let longer = self.patience.max(LEAST_PATIENCE).saturating_mul(2);
             longer.min(MOST_PATIENCE)
         } else {
-            1
+            LEAST_PATIENCE
         };
     }
 }
