@@ -10,6 +10,7 @@ ghost use Rattle.kc_top.specs.Settings.{setting};
 ghost use Rattle.kc_top.specs.Statuses.{exit_of};
 ghost use Rattle.kc_top.specs.declared.Status.{Status};
 
+use crate::paced::Paced;
 use crate::words::borrowed;
 use kc_args::words_of;
 use kc_io::sink::Sink;
@@ -17,7 +18,6 @@ use kc_io::source::Source;
 use kc_run::Ran;
 use kc_top::run::run;
 use kc_top::{Status, Streams, exit_number};
-use kc_workers::NoGate;
 use std::alloc::Global;
 use std::env::Args;
 use std::io;
@@ -25,6 +25,7 @@ use std::io::ErrorKind;
 use std::process::ExitCode;
 use std::sync::Wait;
 use std::thread::Threads;
+use std::time::Clock;
 
 /// The exit code of a status.
 fn exit_with(status: Status) -> ExitCode
@@ -37,7 +38,7 @@ fn exit_with(status: Status) -> ExitCode
 /// order, and an empty word in place of all where one is not UTF-8.
 ///
 /// `ran` takes what the run leaves. Where there is no memory for the words, the status is `NoMemory`, and nothing was read or written.
-pub fn run_on<S: Source, O: Sink, E: Sink, R: Threads + Wait + Sync>(
+pub fn run_on<S: Source, O: Sink, E: Sink, R: Threads + Wait + Sync + Clock>(
     rt: &R,
     alloc: Global,
     args: io::Result<Args>,
@@ -60,6 +61,7 @@ pub fn run_on<S: Source, O: Sink, E: Sink, R: Threads + Wait + Sync>(
     let Ok(texts) = borrowed(alloc, &words) else {
         return exit_with(Status::NoMemory);
     };
-    let status = run(rt, alloc, &texts, streams, &NoGate, ran);
+    let gate = Paced::new(rt);
+    let status = run(rt, alloc, &texts, streams, &gate, ran);
     exit_with(status)
 }
