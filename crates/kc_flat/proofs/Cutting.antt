@@ -10,8 +10,6 @@ use Rattle.kc_graph.specs.Blocks.{first_of}
 use Rattle.kc_graph.specs.Rows.{row}
 use Rattle.kc_graph.proofs.Lying.{drop-later}
 use Rattle.kc_flat.specs.Parts.{part, parts_from, Fills}
-use Rattle.kc_flat.specs.Turned.{holders}
-use Rattle.kc_flat.proofs.Holding.{place_of_key}
 
 -- a part of no length has no number
 pub between-none : (a : ℕ) (xs : List ℕ) → between a a xs ≡ []
@@ -52,16 +50,19 @@ module _ (ends block : List ℕ) (h : Fills ends block) where
       let last : suc v + (length ends - suc v) ≡ length ends = omega arith in
       omega (arith, ap (first_of ends) last, first-rises (suc v) (length ends - suc v) (omega arith), h.whole)
 
+  -- a part ends no later than a later one begins
+  pub ends-before : (u v : ℕ) → u < v → v < length ends → get_or ends u 0 ≤ first_of ends v
+  ends-before u v lt l =
+      let later : suc u + (v - suc u) ≡ v = omega arith in
+      omega (arith, ap (first_of ends) later, first-rises (suc u) (v - suc u) (omega arith))
+
+  -- a block of the same length is cut into parts alike
+  pub fills-resized : (block' : List ℕ) → length block' ≡ length block → Fills ends block'
+  fills-resized block' size = record { ordered = h.ordered; whole = h.whole ∙ sym size }
+
   -- how long a part is
   pub length-part : (v : ℕ) → v < length ends → length (part ends block v) ≡ get_or ends v 0 - first_of ends v
   length-part v l = length-between block (first_of ends v) (get_or ends v 0) (ends-within v l)
-
-  -- where each part has as many numbers as there are holders of its own, the holders begin where the parts do
-  pub place-is : (held : ℕ → List ℕ) (n : ℕ) → ((v : ℕ) → v < length ends → length (holders held v n) ≡ length (part ends block v))
-      → (v : ℕ) → v ≤ length ends → place_of_key held n v ≡ first_of ends v
-  place-is held n each zero l = refl
-  place-is held n each (suc v) l =
-      omega (arith, each v (omega arith), length-part v (omega arith), h.ordered v (omega arith), place-is held n each v (omega arith))
 
 -- The parts as rows. -------------------------------------------------------------------------------
 

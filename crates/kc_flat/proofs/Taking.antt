@@ -1,13 +1,13 @@
 -- Vertices are taken in the order of their numbers, and their neighbours lose one.
-use Rattle.std.proofs.Common.{◌≡◌, ◌≢◌, ◌≤◌, ◌<◌, ◌+◌, ◌-◌, ℕ, suc, zero, max, Bool, true, false, cond, ◌&&◌, List, [], ◌∷◌}
+use Rattle.std.proofs.Common.{◌≡◌, ◌≤◌, ◌<◌, ◌+◌, ◌-◌, ℕ, suc, zero, max, true, false, cond, ◌&&◌, List, [], ◌∷◌}
 use Rattle.std.proofs.Common.{◌++◌, length, get_or, set, take, eqb}
 use Rattle.std.proofs.Common.{ltb, refl, sym, ◌∙◌, ap, subst, inl, inr, arith, length-set, eq-eqb, lt-ltb, le-ltb, true≢false}
 use Rattle.std.proofs.lemmas.List.{take_more, take_all, get_or-set_same, get_or-set_other, get_or-take, length-take-le, ext_get_or}
-use Rattle.std.proofs.lemmas.Bool.{cases_Bool, cases_eq, cases_lt, and_from, and_left, and_right, or_right, false_from_ne_true}
+use Rattle.std.proofs.lemmas.Bool.{cases_Bool, cases_eq, cases_lt, and_from, and_left, and_right, or_right}
 use Rattle.std.proofs.Math.Bool.{and-true}
 use Rattle.kc_lists.specs.Lists.{Distinct, member}
 use Rattle.kc_lists.proofs.Counting.{member-push, take-not_here, member-push_other, member-push_none, one_if, member-get_or}
-use Rattle.kc_lists.proofs.Counting.{Distinct-from_pairs, Contains-from_member}
+use Rattle.kc_lists.proofs.Counting.{Distinct-from_pairs}
 use Rattle.kc_lists.proofs.Shared.{get_or-any}
 use Rattle.kc_graph.specs.SimpleGraph.{SimpleGraph, adjacent}
 use Rattle.kc_graph.specs.Certificate.{Certifies}
@@ -15,7 +15,7 @@ use Rattle.kc_graph.specs.Neighbours.{AreNeighbours}
 use Rattle.kc_graph.specs.Peeling.{at, remaining, IsPeeledTo, LeftAreCounted}
 use Rattle.kc_graph.proofs.Law.{adjacent-sym}
 use Rattle.kc_graph.proofs.PeelingLemmas.{peeling-starts, level-raised, take_one, peeling-finishes, remaining-taken}
-use Rattle.kc_flat.specs.Bins.{AreBinned, ArePaired, LoseOne}
+use Rattle.kc_flat.specs.Bins.{AreBinned, LoseOne}
 use Rattle.kc_flat.proofs.Swapping.{binned-rises}
 
 -- Some lose one. -----------------------------------------------------------------------------------

@@ -3,4 +3,4 @@ pub mod Pairs
 -- What the crate's own functions and invariants speak of.
 pub mod Bins
 pub mod Parts
-pub mod Turned
+pub mod Holders

@@ -13,7 +13,7 @@ use crate::NoMemory;
 use crate::gathering::{Gathered, gather};
 use crate::packing::drop_repeats;
 use crate::parts::part_of;
-use crate::turning::turn;
+use crate::sorting::sort_parts;
 use std::alloc::Global;
 use std::marker::Model;
 
@@ -47,18 +47,16 @@ fn sorted_ends(alloc: Global, vertices: u32, pairs: &[(u32, u32)]) -> Result<Gat
     ensures sorted { IfOk result (λ g. (v : ℕ) → v < vertices → IsNonDecreasing (part g.ends.items g.block.items v)) }
     ensures joined { IfOk result (λ g. (v w : ℕ) → v < vertices → member w (part g.ends.items g.block.items v) ≡ are_joined (map edge_of pairs.now) v w) }
 {
-    let gathered = gather(alloc, vertices, pairs)?;
-    let block = turn(alloc, &gathered.block, &gathered.ends)?;
-    Ok(Gathered {
-        block,
-        ends: gathered.ends,
-    })
+    let mut gathered = gather(alloc, vertices, pairs)?;
+    sort_parts(&mut gathered.block, &gathered.ends);
+    Ok(gathered)
 }
 
 impl FlatGraph {
-    /// The graph with this number of vertices and these pairs as its edges, in time linear in both. The pairs come in any order, with
-    /// either end first. A loop is dropped, and a pair that is listed again, in either direction, counts once. `NoMemory` comes where there
-    /// is none for the ends of all pairs, twice, and for two numbers a vertex.
+    /// The graph with this number of vertices and these pairs as its edges, in time linear in both but for the sorting of each vertex's
+    /// neighbours. The pairs come in any order, with either end first. A loop is dropped, and a pair that is listed again, in either
+    /// direction, counts once. Beside the pairs it takes 8 bytes a pair and 8 a vertex. `NoMemory` comes where there is none for that, or
+    /// where there are more ends than can be counted.
     pub fn from_pairs(
         alloc: Global,
         vertices: u32,

@@ -2,12 +2,13 @@
 //!
 //! A `FlatGraph` never changes once it is made. The neighbours of all vertices lie in one array, those of each vertex in ascending order
 //! behind those of the vertices before it, and a number for each vertex tells where its part ends. It is made of pairs of vertices in any
-//! order, by counting, with no sort. `decompose` takes a vertex of least remaining degree again and again, and keeps the vertices in bins
-//! of one array (Batagelj and Zaversnik 2003): what it needs beside the graph grows with the vertices alone.
+//! order: their ends are counted, put to their vertices, and sorted where they lie, a vertex at a time. `decompose` takes a vertex of least
+//! remaining degree again and again, and keeps the vertices in bins of one array (Batagelj and Zaversnik 2003): what it needs beside the
+//! graph grows with the vertices alone.
 //!
 //! In clauses the graph is the `SimpleGraph` of `kc_graph`, so its definitions say what neighbours, core numbers and certificates are.
-//! `specs/Parts.antt` says how the array is cut, `specs/Turned.antt` what a counting pass makes, and `specs/Bins.antt` what the bins keep.
-//! The crate stands on `kc_graph` and `kc_lists`.
+//! `specs/Pairs.antt` says what is asked of pairs, `specs/Parts.antt` how the array is cut, `specs/Bins.antt` what the bins keep, and
+//! `specs/Holders.antt` who is in a bin. The crate stands on `kc_graph` and `kc_lists`.
 #![tactic(auto)]
 
 mod bins;
@@ -17,7 +18,9 @@ mod graph;
 mod packing;
 mod parts;
 mod peeling;
-mod turning;
+mod sorting;
+#[cfg(test)]
+mod tests;
 
 pub use graph::FlatGraph;
 pub use kc_graph::NoMemory;

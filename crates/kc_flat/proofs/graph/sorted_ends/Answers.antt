@@ -1,23 +1,24 @@
--- The gathered ends are turned round, and so they are sorted.
-use Rattle.std.proofs.Common.{◌≡◌, ◌<◌, ℕ, true, List, length, map, ap, sym, ◌∙◌, subst, arith}
+-- The parts of the gathered ends are sorted, and have the same numbers.
+use Rattle.std.proofs.Common.{◌≡◌, ◌<◌, ◌++◌, ℕ, true, List, length, take, drop, map, refl, ap, ap₂, sym, ◌∙◌, subst, arith}
 use Rattle.std.specs.Prelude.{All}
 use Rattle.std.specs.List.Sorted.{IsNonDecreasing}
 use Rattle.kc_lists.specs.Lists.{member}
-use Rattle.kc_graph.specs.Bulk.{is_within}
+use Rattle.kc_graph.specs.Bulk.{is_within, are_joined}
 use Rattle.kc_graph.specs.Gathering.{edge_of, ends_at, first_place, Filled}
 use Rattle.kc_graph.specs.declared.bulk.Edge.{Edge}
+use Rattle.kc_graph.proofs.Scattering.{list-written}
 use Rattle.kc_flat.specs.Pairs.{AreWithin}
-use Rattle.kc_flat.specs.Parts.{part}
-use Rattle.kc_flat.proofs.Pairing.{edges-within, gathered-within, gathered-balanced, turned-sorted, turned-joined}
+use Rattle.kc_flat.specs.Parts.{part, Fills}
+use Rattle.kc_flat.proofs.Cutting.{fills-resized}
+use Rattle.kc_flat.proofs.Pairing.{edges-within, gathered-fills, gathered-joined}
 use Rattle.kc_flat.proofs.graph.sorted_ends.Goals as goal
 
--- What is known of the gathered ends, where they are handed over.
+-- What is known of the gathered ends.
 record Gathers (edges : List Edge) (ends block : List ℕ) : Type 0 where
-  all : All (λ e. is_within (length ends) e ≡ true) edges
-  filled : Filled (first_place edges) (ends_at edges) ends block
-  size : length block ≡ first_place edges (length ends)
+  fills : Fills ends block
+  joined : (v w : ℕ) → v < length ends → member w (part ends block v) ≡ are_joined edges v w
 
--- So much is known.
+-- So much is known, where they are handed over too.
 gathers : (pairs : List (ℕ × ℕ)) (n : ℕ) (made filled ends block : List ℕ) → AreWithin n pairs → length made ≡ n
     → length filled ≡ first_place (map edge_of pairs) n
     → Filled (first_place (map edge_of pairs)) (ends_at (map edge_of pairs)) made filled → ends ≡ made → block ≡ filled
@@ -25,42 +26,52 @@ gathers : (pairs : List (ℕ × ℕ)) (n : ℕ) (made filled ends block : List �
 gathers pairs n made filled ends block within count size h e b =
     let edges : List Edge = map edge_of pairs in
     let counted : length ends ≡ n = ap length e ∙ count in
-    record {
-      all = subst (λ (k : ℕ). All (λ e. is_within k e ≡ true) edges) (sym counted) (edges-within n pairs within);
-      filled =
-          subst (λ (t : List ℕ). Filled (first_place edges) (ends_at edges) t block) (sym e)
-          (subst (λ (t : List ℕ). Filled (first_place edges) (ends_at edges) made t) (sym b) h);
-      size = ap length b ∙ size ∙ ap (first_place edges) (sym counted);
-    }
+    let all : All (λ e. is_within (length ends) e ≡ true) edges =
+    subst (λ (k : ℕ). All (λ e. is_within k e ≡ true) edges) (sym counted) (edges-within n pairs within) in
+    let put : Filled (first_place edges) (ends_at edges) ends block =
+    subst (λ (t : List ℕ). Filled (first_place edges) (ends_at edges) t block) (sym e)
+    (subst (λ (t : List ℕ). Filled (first_place edges) (ends_at edges) made t) (sym b) h) in
+    let long : length block ≡ first_place edges (length ends) = ap length b ∙ size ∙ ap (first_place edges) (sym counted) in
+    record { fills = gathered-fills edges ends block all put long; joined = gathered-joined edges ends block all put long }
 
-pub turn-requires-clause-within : goal.turn-requires-clause-within
-turn-requires-clause-within c =
-    let g = gathers c.args.pairs.now c.args.vertices c.in_ok-gathered.gathered.ends.items c.in_ok-gathered.gathered.block.items c.deref-2.result.now
-    c.deref.result.now c.requires c.in_ok-gathered.ensures.count c.in_ok-gathered.ensures.whole c.in_ok-gathered.ensures.filled c.deref-2.ensures.value
-    c.deref.ensures.value in
-    gathered-within (map edge_of c.args.pairs.now) c.deref-2.result.now c.deref.result.now g.all g.filled g.size
+pub sort_parts-requires : goal.sort_parts-requires
+sort_parts-requires c =
+    (gathers c.args.pairs.now c.args.vertices c.in_ok-gathered.gathered.ends.items c.in_ok-gathered.gathered.block.items c.deref.result.now
+    c.deref_mut.result.now c.requires c.in_ok-gathered.ensures.count c.in_ok-gathered.ensures.whole c.in_ok-gathered.ensures.filled
+    c.deref.ensures.value c.deref_mut.ensures.value).fills
 
-pub turn-requires-clause-balanced : goal.turn-requires-clause-balanced
-turn-requires-clause-balanced c =
-    let g = gathers c.args.pairs.now c.args.vertices c.in_ok-gathered.gathered.ends.items c.in_ok-gathered.gathered.block.items c.deref-2.result.now
-    c.deref.result.now c.requires c.in_ok-gathered.ensures.count c.in_ok-gathered.ensures.whole c.in_ok-gathered.ensures.filled c.deref-2.ensures.value
-    c.deref.ensures.value in
-    gathered-balanced (map edge_of c.args.pairs.now) c.deref-2.result.now c.deref.result.now g.all g.filled g.size
+pub returns-clause-fills : goal.returns-clause-fills
+returns-clause-fills c =
+    let ends : List ℕ = c.in_ok-gathered.gathered.ends.items in
+    let block : List ℕ = c.in_ok-gathered.gathered.block.items in
+    let g = gathers c.args.pairs.now c.args.vertices ends block ends block c.requires c.in_ok-gathered.ensures.count c.in_ok-gathered.ensures.whole
+    c.in_ok-gathered.ensures.filled refl refl in
+    let long : length c.sort_parts.new.block ≡ length block = omega (arith, c.sort_parts.ensures.len, ap length c.deref_mut.ensures.value) in
+    subst (Fills ends) (sym (list-written c.sort_parts.new.block block c.in_ok-gathered.gathered.block.len
+    (omega (arith, c.in_ok-gathered.gathered.block.ok.0, long))))
+    (fills-resized ends block g.fills c.sort_parts.new.block long)
 
 pub returns-clause-sorted : goal.returns-clause-sorted
 returns-clause-sorted c v l =
-    let g = gathers c.args.pairs.now c.args.vertices c.in_ok-gathered.gathered.ends.items c.in_ok-gathered.gathered.block.items c.deref-2.result.now
-    c.deref.result.now c.requires c.in_ok-gathered.ensures.count c.in_ok-gathered.ensures.whole c.in_ok-gathered.ensures.filled c.deref-2.ensures.value
-    c.deref.ensures.value in
-    subst (λ (t : List ℕ). IsNonDecreasing (part t c.in_ok-block.block.items v)) c.deref-2.ensures.value
-    (turned-sorted (map edge_of c.args.pairs.now) c.deref-2.result.now c.deref.result.now g.all g.filled g.size c.in_ok-block.block.items
-    c.in_ok-block.ensures.each v (omega (arith, l, ap length c.deref-2.ensures.value, c.in_ok-gathered.ensures.count)))
+    let ends : List ℕ = c.in_ok-gathered.gathered.ends.items in
+    let block : List ℕ = c.in_ok-gathered.gathered.block.items in
+    let long : length c.sort_parts.new.block ≡ length block = omega (arith, c.sort_parts.ensures.len, ap length c.deref_mut.ensures.value) in
+    let written : take c.in_ok-gathered.gathered.block.len (c.sort_parts.new.block ++ drop (length c.sort_parts.new.block) block) ≡ c.sort_parts.new.block =
+    list-written c.sort_parts.new.block block c.in_ok-gathered.gathered.block.len (omega (arith, c.in_ok-gathered.gathered.block.ok.0, long)) in
+    subst (λ (t : List ℕ). IsNonDecreasing (part ends t v)) (sym written)
+    (subst (λ (t : List ℕ). IsNonDecreasing (part t c.sort_parts.new.block v)) c.deref.ensures.value
+    (c.sort_parts.ensures.sorted v (omega (arith, l, ap length c.deref.ensures.value, c.in_ok-gathered.ensures.count))))
 
 pub returns-clause-joined : goal.returns-clause-joined
 returns-clause-joined c v w l =
-    let g = gathers c.args.pairs.now c.args.vertices c.in_ok-gathered.gathered.ends.items c.in_ok-gathered.gathered.block.items c.deref-2.result.now
-    c.deref.result.now c.requires c.in_ok-gathered.ensures.count c.in_ok-gathered.ensures.whole c.in_ok-gathered.ensures.filled c.deref-2.ensures.value
-    c.deref.ensures.value in
-    ap (λ (t : List ℕ). member w (part t c.in_ok-block.block.items v)) (sym c.deref-2.ensures.value)
-    ∙ turned-joined (map edge_of c.args.pairs.now) c.deref-2.result.now c.deref.result.now g.all g.filled g.size c.in_ok-block.block.items
-    c.in_ok-block.ensures.each v w (omega (arith, l, ap length c.deref-2.ensures.value, c.in_ok-gathered.ensures.count))
+    let ends : List ℕ = c.in_ok-gathered.gathered.ends.items in
+    let block : List ℕ = c.in_ok-gathered.gathered.block.items in
+    let long : length c.sort_parts.new.block ≡ length block = omega (arith, c.sort_parts.ensures.len, ap length c.deref_mut.ensures.value) in
+    let g = gathers c.args.pairs.now c.args.vertices ends block ends block c.requires c.in_ok-gathered.ensures.count c.in_ok-gathered.ensures.whole
+    c.in_ok-gathered.ensures.filled refl refl in
+    ap (λ (t : List ℕ). member w (part ends t v))
+    (list-written c.sort_parts.new.block block c.in_ok-gathered.gathered.block.len (omega (arith, c.in_ok-gathered.gathered.block.ok.0, long)))
+    ∙ ap (λ (t : List ℕ). member w (part t c.sort_parts.new.block v)) (sym c.deref.ensures.value)
+    ∙ c.sort_parts.ensures.same v w (omega (arith, l, ap length c.deref.ensures.value, c.in_ok-gathered.ensures.count))
+    ∙ ap₂ (λ (s t : List ℕ). member w (part s t v)) c.deref.ensures.value c.deref_mut.ensures.value
+    ∙ g.joined v w (omega (arith, l, c.in_ok-gathered.ensures.count))

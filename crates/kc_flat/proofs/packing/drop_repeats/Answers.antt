@@ -1,12 +1,11 @@
 -- The part behind the packed ones is packed behind them.
-use Rattle.std.proofs.Common.{◌≡◌, ◌≤◌, ◌<◌, ℕ, List, length, get_or, take, ap, ap₂, sym, ◌∙◌, subst, arith}
+use Rattle.std.proofs.Common.{◌≡◌, ◌≤◌, ◌<◌, ℕ, List, length, get_or, ap, ap₂, sym, ◌∙◌, subst, arith}
 use Rattle.std.specs.List.{between}
 use Rattle.std.specs.List.Sorted.{IsNonDecreasing, IsStrictlyIncreasing}
 use Rattle.kc_lists.specs.Lists.{member}
-use Rattle.kc_graph.specs.Blocks.{first_of}
 use Rattle.kc_flat.specs.Parts.{part, Fills}
 use Rattle.kc_flat.proofs.Cutting.{between-back, ends-within}
-use Rattle.kc_flat.proofs.Packed.{PackedTo, packed-to_none, packed-to_more, packed-fills, part-front}
+use Rattle.kc_flat.proofs.Packed.{PackedTo, packed-to_more, part-front}
 use Rattle.kc_flat.proofs.packing.drop_repeats.Goals as goal
 
 -- What is known at the part behind the packed ones.

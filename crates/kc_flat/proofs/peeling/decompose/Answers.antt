@@ -1,5 +1,5 @@
 -- There are fewer vertices than a number of 32 bits can count, and each has fewer neighbours than there are vertices.
-use Rattle.std.proofs.Common.{◌≡◌, ◌<◌, ℕ, List, [], length, ap, arith}
+use Rattle.std.proofs.Common.{◌<◌, ℕ, List, [], length, ap, arith}
 use Rattle.kc_graph.specs.Peeling.{at}
 use Rattle.kc_graph.proofs.PeelingLemmas.{remaining-lt}
 use Rattle.kc_flat.proofs.peeling.decompose.Goals as goal

@@ -3,8 +3,8 @@ use Rattle.std.proofs.Common.{◌≡◌, ◌≤◌, ◌<◌, ◌+◌, ◌-◌, �
 use Rattle.kc_lists.specs.Lists.{Distinct, member}
 use Rattle.kc_lists.proofs.Counting.{member-get_or}
 use Rattle.kc_graph.specs.Peeling.{at}
-use Rattle.kc_flat.specs.Bins.{AreBinned, LoseOne}
-use Rattle.kc_flat.proofs.Taking.{lose-none, lose-skip, lose-step, lose-next, lose-here, lose-all, lose-low}
+use Rattle.kc_flat.specs.Bins.{LoseOne}
+use Rattle.kc_flat.proofs.Taking.{lose-none, lose-skip, lose-step, lose-next, lose-here, lose-low}
 use Rattle.kc_flat.proofs.peeling.lower_each.Goals as goal
 use Rattle.kc_flat.proofs.peeling.lower_each.Goals.{then-core-w, else-core-w}
 

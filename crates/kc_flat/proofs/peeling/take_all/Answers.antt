@@ -1,10 +1,9 @@
 -- Whose turn it is has the least number of those that are left.
-use Rattle.std.proofs.Common.{◌≡◌, ◌<◌, ◌+◌, ◌++◌, ◌∷◌, [], ℕ, List, length, take, refl, ap, sym, ◌∙◌, subst, arith}
+use Rattle.std.proofs.Common.{◌≡◌, ◌<◌, ℕ, List, length, take, subst, arith}
 use Rattle.kc_graph.specs.SimpleGraph.{SimpleGraph}
-use Rattle.kc_graph.specs.Neighbours.{AreNeighbours}
 use Rattle.kc_graph.specs.Peeling.{at}
 use Rattle.kc_graph.proofs.PeelingLemmas.{neighbours-distinct}
-use Rattle.kc_flat.specs.Bins.{AreBinned, LoseOne}
+use Rattle.kc_flat.specs.Bins.{AreBinned}
 use Rattle.kc_flat.proofs.Taking.{ArePeeled, taking-starts, least-taken, turn-vertex, turn-left, turn-least, turn-taken, turns-over}
 use Rattle.kc_flat.proofs.peeling.take_all.Goals as goal
 

@@ -1,7 +1,6 @@
 -- The part of a vertex is its row, which has its neighbours.
-use Rattle.std.proofs.Common.{◌≡◌, ◌<◌, List, ℕ, length, ap, ap₂, sym, ◌∙◌, subst, arith}
+use Rattle.std.proofs.Common.{◌<◌, List, ℕ, length, ap, ap₂, sym, ◌∙◌, subst, arith}
 use Rattle.kc_graph.specs.Neighbours.{AreNeighbours}
-use Rattle.kc_graph.specs.Rows.{row}
 use Rattle.kc_graph.proofs.RowsLemmas.{size-view, neighbours-view}
 use Rattle.kc_flat.specs.Parts.{part, parts_from}
 use Rattle.kc_flat.proofs.Cutting.{length-parts, row-part}
