@@ -1,19 +1,30 @@
-# Which files a build of kcore reads, the sum over them, and whether the packed program beside this file is whole.
-# Read by ./kcore and by the scripts here, with the checkout's folder in $top.
+# Which files a build of the program $name reads, the sum over them, and whether the packed program beside this file is whole.
+# Read by dist/run.sh and by the scripts here, with the checkout's folder in $top and a name of $programs in $name.
 #
-# The sum is over the crates below kcore in crates.txt, and kcore itself: their lines of crates.txt, each file of their src/, specs/
-# and proofs/ with its name, and the kit's one-line identity. Documents, must-fail edits, and what a program is run with don't count.
-# A record (dist/SOURCES, and crates/kcore/out/kcore.sources beside a program) has three lines:
+# The sum is over the crates below the program in crates.txt, and the program itself: their lines of crates.txt, each file of their src/,
+# specs/ and proofs/ with its name, and the kit's one-line identity. Documents, must-fail edits, and what a program is run with don't count.
+# A record (dist/NAME.SOURCES, and crates/NAME/out/NAME.sources beside a program) has three lines:
 #     kit WHAT-RT-VERSION-SAYS
 #     sources SUM
 #     program SUM-OF-THE-PROGRAM-THAT-WAS-BUILT-FROM-THEM
 
-packed=kcore-x86_64-linux.gz
-unpacked=kcore-x86_64-linux
+programs="kcore cores"
+usage="usage: kcore [--workers W] [--show cores|summary|each] [--level K] [--gen NUMBER] [--start buckets|hindex]"
 
-# Prints the lines of crates.txt for kcore and all that it stands on, without comments.
+# Takes a program of $programs for the one that is spoken of from here on. With the word $trial it ends well on an empty input.
+# speak_of NAME
+speak_of() {
+    name=$1
+    packed=$name-x86_64-linux.gz
+    unpacked=$name-x86_64-linux
+    sources=$name.SOURCES
+    case $name in cores) trial=numbers ;; *) trial= ;; esac
+}
+speak_of "${name:-kcore}"
+
+# Prints the lines of crates.txt for the program and all that it stands on, without comments.
 rows_of_program() {
-    awk '
+    awk -v program="$name" '
         {
             sub(/#.*/, "")
             at = index($0, ":")
@@ -22,7 +33,7 @@ rows_of_program() {
             uses[words[1]] = at ? substr($0, at + 1) : ""
         }
         END {
-            found[count = 1] = "kcore"
+            found[count = 1] = program
             for (i = 1; i <= count; i++) {
                 if (!(found[i] in row) || found[i] in told) continue
                 told[found[i]] = 1
@@ -92,7 +103,7 @@ is_changed_since() (
     [ -n "$(find ../crates.txt $crates -maxdepth 0 -cnewer "$1" -print -quit; find $(folders_of $crates) -cnewer "$1" -print -quit)" ]
 )
 
-# Whether an option of the program takes this value.
+# Whether an option of kcore takes this value.
 # takes OPTION VALUE
 takes() {
     case $1=$2 in
@@ -104,10 +115,12 @@ takes() {
     [ "$1" != --workers ] || { [ "$2" -ge 1 ] && [ "$2" -le 64 ]; }
 }
 
-# Whether the program takes these words: each of its five options at most once, each with its value, and then at most the word `--`.
-# Asked only where a build is due, so that nobody waits for it to learn of a wrong word. The program itself judges its words anew.
+# Whether the program takes these words, as far as is known before it is there: kcore takes each of its five options at most once, each with
+# its value, and then at most the word `--`; of cores nothing is known. Asked only where a build is due, so that nobody waits for it to
+# learn of a wrong word. The program itself judges its words anew.
 # are_right [WORD..]
 are_right() {
+    [ "$name" = kcore ] || return 0
     given=
     while [ $# -gt 0 ]; do
         case $1 in
@@ -140,13 +153,13 @@ sum_in() {
 # Unpacks the packed program, if it and the files beside it are what their sums say; else says in $why what is not.
 # unpack TO
 unpack() {
-    for file in SOURCES SHA256SUMS "$packed"; do
+    for file in "$sources" SHA256SUMS "$packed"; do
         if [ ! -r "$top/dist/$file" ]; then
             why="there is no file dist/$file"
             return 1
         fi
     done
-    for file in SOURCES "$packed"; do
+    for file in "$sources" "$packed"; do
         if [ "$(sum_of "$top/dist/$file")" != "$(sum_in "$file")" ]; then
             why="dist/$file is damaged, as its sum is not that of dist/SHA256SUMS"
             return 1
@@ -157,8 +170,8 @@ unpack() {
         return 1
     fi
     sum=$(sum_of "$1")
-    if [ "$sum" != "$(sum_in "$unpacked")" ] || [ "$sum" != "$(value "$top/dist/SOURCES" program)" ]; then
-        why="dist/$packed holds another program than dist/SHA256SUMS and dist/SOURCES say"
+    if [ "$sum" != "$(sum_in "$unpacked")" ] || [ "$sum" != "$(value "$top/dist/$sources" program)" ]; then
+        why="dist/$packed holds another program than dist/SHA256SUMS and dist/$sources say"
         return 1
     fi
     chmod 755 "$1"

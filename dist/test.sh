@@ -1,11 +1,20 @@
 #!/bin/sh
-# Tries ./kcore and dist/check.sh in copies of this checkout, with nothing on the path but the tools of any Debian. It proves and builds
-# nothing: where a build is due, a command of the name rt notes that it was called, and leaves a program that says so.
-# usage: dist/test.sh [CASE..]   (names of the functions that the last lines list; default: all of them)
+# Tries ./kcore or ./cores, and dist/check.sh, in copies of this checkout, with nothing on the path but the tools of any Debian. It proves
+# and builds nothing: where a build is due, a command of the name rt notes that it was called, and leaves a program that says so.
+# usage: dist/test.sh [PROGRAM [CASE..]]   (kcore or cores, and names of the functions that the last lines list; default: all)
 # One line a case. Ends with 1 where one went wrong. dist/ has to fit the sources.
 set -u
 top=$(dirname "$(dirname "$(readlink -f "$0")")")
+if [ $# = 0 ]; then
+    sh "$0" kcore
+    status=$?
+    sh "$0" cores && exit $status
+    exit 1
+fi
+name=$1
+shift
 . "$top/dist/common.sh"
+case " $programs " in *" $name "*) ;; *) echo "usage: dist/test.sh [PROGRAM [CASE..]]" >&2; exit 2 ;; esac
 if ! sh "$top/dist/check.sh" > /dev/null; then exit 1; fi
 room=$(mktemp -d) || exit 1
 trap 'rm -rf "$room"' EXIT
@@ -13,7 +22,7 @@ chmod 755 "$room"
 wrong=0
 machine=
 input=$top/graphs/karate.txt
-usage=$(sed -n 's/^usage_line = codes "\(.*\)\\n"$/\1/p' "$top/crates/kc_top/specs/ErrLines.antt")
+usage_in_specs=$(sed -n 's/^usage_line = codes "\(.*\)\\n"$/\1/p' "$top/crates/kc_top/specs/ErrLines.antt")
 
 # A folder of the tools alone, and one with a command rt that stands for the kit's.
 mkdir "$room/tools" "$room/kit" "$room/temporary"
@@ -23,24 +32,29 @@ for tool in sh dirname readlink awk sed sort find xargs sha256sum cut gzip chmod
 done
 cat > "$room/kit/rt" << END
 #!/bin/sh
-if [ "\$1" = version ]; then echo "$(value "$top/dist/SOURCES" kit)"; exit; fi
+if [ "\$1" = version ]; then echo "$(value "$top/dist/$sources" kit)"; exit; fi
 echo "\$*" >> "$room/calls"
 mkdir -p out
-printf '#!/bin/sh\necho built\n' > out/kcore
-chmod 755 out/kcore
+printf '#!/bin/sh\necho built\n' > out/$name
+chmod 755 out/$name
 END
 chmod 755 "$room/kit/rt"
 
+# The crates of all programs, since check.sh looks at each.
+crates_of_programs() (
+    for name in $programs; do crates_of_program; done | LC_ALL=C sort -u
+)
+
 # A copy without what was built, and the one that the cases change. Each case begins with what may be changed as it was.
 mkdir "$room/first"
-(cd "$top" && tar -cf - --no-wildcards-match-slash --exclude='crates/*/out' kcore crates.txt dist $(crates_of_program | sed 's|^|crates/|')) |
+(cd "$top" && tar -cf - --no-wildcards-match-slash --exclude='crates/*/out' $programs crates.txt dist $(crates_of_programs | sed 's|^|crates/|')) |
     (cd "$room/first" && tar -xf -)
 clone="$room/a copy"
 cp -R "$room/first" "$clone"
 
 begin() {
     title=$1
-    for part in kcore crates.txt dist crates/kcore crates/kc_graph crates/kc_io; do
+    for part in $programs crates.txt dist crates/kcore crates/cores crates/kc_graph crates/kc_io; do
         rm -rf "${clone:?}/$part"
         cp -R "$room/first/$part" "$clone/$part"
     done
@@ -68,7 +82,11 @@ within() (
 )
 
 has_numbers() {
-    [ $status = 0 ] && [ "$(head -n 3 "$room/out")" = "$(printf 'graph vertices 34 edges 78 top 4\n0 4\n1 4')" ] && [ "$(wc -l < "$room/out")" = 35 ]
+    case $name in
+        kcore) first='graph vertices 34 edges 78 top 4\n0 4\n1 4' lines=35 ;;
+        cores) first='0\t4\n1\t4' lines=34 ;;
+    esac
+    [ $status = 0 ] && [ "$(head -n "$((lines - 32))" "$room/out")" = "$(printf "$first")" ] && [ "$(wc -l < "$room/out")" = $lines ]
 }
 
 says() {
@@ -88,7 +106,7 @@ is_unasked() {
 }
 
 is_usage() {
-    [ $status = 2 ] && [ "$(cat "$room/err")" = "$usage" ] && [ ! -s "$room/out" ]
+    [ $status = 2 ] && [ "$(cat "$room/err")" = "$usage_in_specs" ] && [ ! -s "$room/out" ]
 }
 
 end() {
@@ -103,11 +121,11 @@ end() {
 
 # Where a build is due: without rt a sentence and status 127, with it the sentence, the call and what was built; then no call again.
 builds() {
-    try "$clone/kcore"
+    try "$clone/$name" $trial
     want "status 127 without rt" [ $status = 127 ]
     want "the reason without rt" says "$1"
     path=$room/tools:$room/kit
-    try "$clone/kcore"
+    try "$clone/$name" $trial
     want "it is built" has_built
     want "the reason" says "$1"
 }
@@ -115,12 +133,12 @@ builds() {
 first_call() {
     begin 'the first call, and the second'
     before=$(date +%s%N)
-    try "$clone/kcore"
+    try "$clone/$name" $trial
     took=$((($(date +%s%N) - before) / 1000000))
     want 'the numbers' has_numbers
     want 'the sentence' says 'not here: rt ci proves them'
     want "two seconds are enough ($took ms)" [ $took -lt 2000 ]
-    try "$clone/kcore"
+    try "$clone/$name" $trial
     want 'the numbers again' has_numbers
     want 'no sentence again' is_quiet
     title="$title ($took ms)"
@@ -130,15 +148,15 @@ first_call() {
 with_the_kit() {
     begin 'the first call where the kit is there'
     path=$room/tools:$room/kit
-    try "$clone/kcore"
+    try "$clone/$name" $trial
     want 'the numbers' has_numbers
     want 'the sentence' says 'not here: rt ci proves them'
     want 'no build' is_unasked
     end
     begin 'what rt ci has built is the program of dist'
-    mkdir "$clone/crates/kcore/out"
-    unpack "$clone/crates/kcore/out/kcore"
-    try "$clone/kcore"
+    mkdir "$clone/crates/$name/out"
+    unpack "$clone/crates/$name/out/$name"
+    try "$clone/$name" $trial
     want 'the numbers' has_numbers
     want 'no sentence' is_quiet
     end
@@ -147,9 +165,9 @@ with_the_kit() {
 places() {
     begin 'from another folder and through a link'
     mkdir "$room/link"
-    ln -s "$clone/kcore" "$room/link/kcore"
-    (cd / && try "$room/link/kcore" && has_numbers) || is_wrong="; not through a link"
-    (cd "$clone" && try ./kcore && has_numbers && is_quiet) || is_wrong="$is_wrong; not from its folder"
+    ln -s "$clone/$name" "$room/link/$name"
+    (cd / && try "$room/link/$name" $trial && has_numbers) || is_wrong="; not through a link"
+    (cd "$clone" && try "./$name" $trial && has_numbers && is_quiet) || is_wrong="$is_wrong; not from its folder"
     rm -r "$room/link"
     end
 }
@@ -157,7 +175,7 @@ places() {
 words() {
     begin 'a wrong word'
     try "$clone/kcore" --help
-    want 'the usage line after the sentence' [ "$(tail -n 1 "$room/err")" = "$usage" ]
+    want 'the usage line after the sentence' [ "$(tail -n 1 "$room/err")" = "$usage_in_specs" ]
     try "$clone/kcore" --workers 0
     want 'the usage line alone' is_usage
     input=/dev/null
@@ -252,27 +270,27 @@ changes() {
         end
     done
     begin 'a source is changed after the first call, and its time is set back'
-    try "$clone/kcore"
+    try "$clone/$name" $trial
     echo >> "$clone/crates/kc_graph/src/lib.rt"
     touch -d 2001-01-01 "$clone/crates/kc_graph/src/lib.rt"
     builds 'the sources are not those'
     rm "$room/calls"
-    try "$clone/kcore"
+    try "$clone/$name" $trial
     want 'no second build' is_unasked
     want 'no sentence again' is_quiet
     cp "$room/first/crates/kc_graph/src/lib.rt" "$clone/crates/kc_graph/src/lib.rt"
-    try "$clone/kcore"
+    try "$clone/$name" $trial
     want 'the numbers where the change is taken back' has_numbers
     end
 }
 
 no_changes() {
     begin 'changes that do not count'
-    try "$clone/kcore"
+    try "$clone/$name" $trial
     path=$room/tools:$room/kit
-    (cd "$clone" && echo > README.md && echo >> crates/kcore/stdin && rm -r crates/kc_graph/must-fail && mkdir crates/kc_io/out &&
+    (cd "$clone" && echo > README.md && echo >> crates/$name/stdin && rm -r crates/kc_graph/must-fail && mkdir crates/kc_io/out &&
         touch crates/kc_graph/src/lib.rt && echo '# a comment' >> crates.txt)
-    try "$clone/kcore"
+    try "$clone/$name" $trial
     want 'the numbers' has_numbers
     want 'no sentence' is_quiet
     want 'no build' is_unasked
@@ -280,9 +298,9 @@ no_changes() {
 }
 
 damage() {
-    for harm in 'truncate -s 9000 kcore-x86_64-linux.gz' 'printf x | dd of=kcore-x86_64-linux.gz bs=1 seek=9000 conv=notrunc 2> /dev/null' \
-        'sed -i s/^./x/ SHA256SUMS' 'sed -i "s/^program .*/program 0/" SOURCES' 'rm SOURCES' 'rm SHA256SUMS' 'rm kcore-x86_64-linux.gz' \
-        'echo > kcore; gzip -nc < kcore > kcore-x86_64-linux.gz; sed -i "/linux.gz/s/^[^ ]*/$(sha256sum < kcore-x86_64-linux.gz | cut -c 1-64)/" SHA256SUMS'; do
+    for harm in 'truncate -s 9000 $packed' 'printf x | dd of=$packed bs=1 seek=9000 conv=notrunc 2> /dev/null' \
+        'sed -i s/^./x/ SHA256SUMS' 'sed -i "s/^program .*/program 0/" $sources' 'rm $sources' 'rm SHA256SUMS' 'rm $packed' \
+        'echo > x; gzip -nc < x > $packed; sed -i "/$packed/s/^[^ ]*/$(sha256sum < $packed | cut -c 1-64)/" SHA256SUMS'; do
         begin "a file of dist is damaged: $harm"
         want 'the harm itself' within dist "$harm"
         builds 'dist/'
@@ -290,9 +308,9 @@ damage() {
         end
     done
     begin 'the unpacked program is damaged'
-    try "$clone/kcore"
-    echo >> "$clone/crates/kcore/out/kcore"
-    try "$clone/kcore"
+    try "$clone/$name" $trial
+    echo >> "$clone/crates/$name/out/$name"
+    try "$clone/$name" $trial
     want 'the numbers' has_numbers
     want 'it is unpacked anew' says 'not here: rt ci proves them'
     end
@@ -307,9 +325,9 @@ machines() {
     machine=
     begin 'the program of dist does not run here'
     (cd "$clone/dist" && printf '#!/bin/sh\nexit 1\n' > program && gzip -nc < program > "$packed" &&
-        write_record "$(value SOURCES kit)" "$(value SOURCES sources)" program SOURCES && rm program &&
-        for file in "$packed" SOURCES; do sed -i "/ $file\$/s/^[^ ]*/$(sum_of "$file")/" SHA256SUMS; done &&
-        sed -i "/ $unpacked\$/s/^[^ ]*/$(value SOURCES program)/" SHA256SUMS)
+        write_record "$(value "$sources" kit)" "$(value "$sources" sources)" program "$sources" && rm program &&
+        for file in "$packed" "$sources"; do sed -i "/ $file\$/s/^[^ ]*/$(sum_of "$file")/" SHA256SUMS; done &&
+        sed -i "/ $unpacked\$/s/^[^ ]*/$(value "$sources" program)/" SHA256SUMS)
     builds 'does not run on this machine'
     end
 }
@@ -320,13 +338,13 @@ read_only() {
     user=
     if [ "$(id -u)" = 0 ]; then user='setpriv --reuid=65534 --regid=65534 --clear-groups'; fi
     cp "$(command -v setpriv)" "$room/tools/"
-    try $user "$clone/kcore"
+    try $user "$clone/$name" $trial
     want 'the numbers' has_numbers
     want 'the sentence' says 'not here: rt ci proves them'
-    try $user "$clone/kcore" --help
-    want 'the usage line' [ $status = 2 ]
+    try $user "$clone/$name" --unknown
+    want 'a wrong word' [ $status = 2 ]
     want 'nothing is left' [ -z "$(ls "$room/temporary")" ]
-    want 'nothing is unpacked there' [ ! -e "$clone/crates/kcore/out" ]
+    want 'nothing is unpacked there' [ ! -e "$clone/crates/$name/out" ]
     chmod -R u+w "$clone"
     end
 }
@@ -342,10 +360,12 @@ checked() {
 }
 
 says_fit() {
-    case $(cat "$room/out") in *'dist is whole and of these sources'*) is_quiet ;; *) return 1 ;; esac
+    case $(cat "$room/out") in *"$name in dist is whole and of these sources"*) is_quiet ;; *) return 1 ;; esac
 }
 
-for case in ${*:-first_call with_the_kit places words changes no_changes damage machines read_only checked}; do
+# The words of kcore alone are known to the script.
+if [ "$name" = kcore ]; then words=words; else words=; fi
+for case in ${*:-first_call with_the_kit places $words changes no_changes damage machines read_only checked}; do
     "$case"
 done
 exit $wrong
