@@ -29,13 +29,6 @@ between-front a b n xs ys l e = sym (between-take a b n xs l) ∙ ap (between a 
 pub between-back : (a b n : ℕ) (xs ys : List ℕ) → n ≤ a → drop n xs ≡ drop n ys → between a b xs ≡ between a b ys
 between-back a b n xs ys l e = ap (take (b - a)) (drop-later xs ys n a l e)
 
--- a part that gets longer by what is written
-pub between-written : (xs : List ℕ) (a b y : ℕ) → a ≤ b → b < length xs → between a (b + 1) (set xs b y) ≡ between a b xs ++ y ∷ []
-between-written xs a b y o l =
-    between_more (set xs b y) a b 0 o (omega (arith, length-set xs b y))
-    ∙ ap₂ (λ (t : List ℕ) (x : ℕ). t ++ x ∷ []) (between-front a b b (set xs b y) xs (omega arith) (take-set-le b xs b y (omega arith)))
-    (get_or-set_same xs b y 0 l)
-
 module _ (ends block : List ℕ) (h : Fills ends block) where
   -- a part begins no later than the later ones
   first-rises : (v k : ℕ) → v + k ≤ length ends → first_of ends v ≤ first_of ends (v + k)

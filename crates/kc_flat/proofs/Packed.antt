@@ -12,8 +12,9 @@ use Rattle.kc_lists.specs.Lists.{member}
 use Rattle.kc_lists.proofs.Counting.{member-push, member-get_or}
 use Rattle.kc_graph.specs.Blocks.{first_of}
 use Rattle.kc_graph.proofs.Lying.{drop-later}
+use Rattle.kc_graph.proofs.Scattering.{between-set_end}
 use Rattle.kc_flat.specs.Parts.{part, Fills}
-use Rattle.kc_flat.proofs.Cutting.{between-none, between-take, between-front, between-back, between-written}
+use Rattle.kc_flat.proofs.Cutting.{between-none, between-take, between-front, between-back}
 
 -- ascending numbers ascend with a greater one behind them
 increasing-push : (xs : List ℕ) (y : ℕ) → IsStrictlyIncreasing xs → (0 < length xs → get_or xs (length xs - 1) 0 < y) → IsStrictlyIncreasing (xs ++ y ∷ [])
@@ -77,7 +78,7 @@ module _ (old new : List ℕ) (from i to start end : ℕ) (n : length new ≡ le
   keep_next greater =
       let y : ℕ = get_or new i 0 in
       let room : end < length new = omega (arith, h.slow, h.begun, h.grown) in
-      let longer : between start (end + 1) (set new end y) ≡ between start end new ++ y ∷ [] = between-written new start end y h.grown room in
+      let longer : between start (end + 1) (set new end y) ≡ between start end new ++ y ∷ [] = between-set_end new start end y h.grown room in
       let size : length (between start end new) ≡ end - start = length-between new start end (omega arith) in
       record {
         begun = omega (arith, h.begun);

@@ -10,10 +10,10 @@ ghost use Rattle.kc_flat.specs.Pairs.{AreWithin};
 ghost use Rattle.kc_flat.specs.Parts.{part, Fills};
 
 use crate::NoMemory;
-use crate::gathering::{Gathered, gather};
 use crate::packing::drop_repeats;
 use crate::parts::part_of;
 use crate::sorting::sort_parts;
+use kc_graph::gathering::{Gathered, gather};
 use std::alloc::Global;
 use std::marker::Model;
 

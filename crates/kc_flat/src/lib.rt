@@ -12,8 +12,6 @@
 #![tactic(auto)]
 
 mod bins;
-mod counting;
-mod gathering;
 mod graph;
 mod packing;
 mod parts;

@@ -91,7 +91,7 @@ adjacent-with_edges vertices edges v w = elim (cases_order v w) [
 ]
 
 -- joined vertices are vertices
-joined-within : (vertices : ℕ) (edges : List Edge) (v w : ℕ) → All (λ e. is_within vertices e ≡ true) edges → are_joined edges v w ≡ true → w < vertices
+pub joined-within : (vertices : ℕ) (edges : List Edge) (v w : ℕ) → All (λ e. is_within vertices e ≡ true) edges → are_joined edges v w ≡ true → w < vertices
 joined-within vertices [] v w all h = absurd (false≢true h)
 joined-within vertices (e ∷ edges) v w all h = elim (or_cases (is_between v w e) (are_joined edges v w) h) [
   | inl k ↦

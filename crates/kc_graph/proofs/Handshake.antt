@@ -20,7 +20,7 @@ use Rattle.kc_graph.proofs.RowsLemmas.{pair_total, same_pair, Distinct-from_incr
 -- Sums over the numbers below a bound. ---------------------------------------------------------------
 
 -- the sum of two functions added is their sums added
-total-add : (f g : ℕ → ℕ) (n : ℕ) → total (λ v. f v + g v) n ≡ total f n + total g n
+pub total-add : (f g : ℕ → ℕ) (n : ℕ) → total (λ v. f v + g v) n ≡ total f n + total g n
 total-add f g zero = refl
 total-add f g (suc n) = omega (arith, total-add f g n)
 
@@ -30,7 +30,7 @@ total-first f zero = refl
 total-first f (suc n) = omega (arith, total-first f n)
 
 -- nothing each time sums up to nothing
-total-nothing : (n : ℕ) → total (λ _. 0) n ≡ 0
+pub total-nothing : (n : ℕ) → total (λ _. 0) n ≡ 0
 total-nothing zero = refl
 total-nothing (suc n) = omega (arith, total-nothing n)
 

@@ -13,7 +13,8 @@
 
 mod ascending;
 mod bulk;
-mod gathering;
+pub mod counting;
+pub mod gathering;
 mod graph;
 mod lawful;
 mod neighbours;
@@ -31,7 +32,7 @@ ghost use Rattle.kc_graph.specs.SimpleGraph.{SimpleGraph};
 ghost use Rattle.kc_graph.specs.Core.{AreCoreNumbers};
 ghost use Rattle.kc_graph.specs.Certificate.{Certifies};
 
-pub use bulk::{Edge, listed_edges_are_the_edges};
+pub use bulk::{Edge, Listed, listed_edges_are_the_edges};
 pub use graph::Graph;
 pub use lawful::Lawful;
 pub use neighbours::Neighbours;

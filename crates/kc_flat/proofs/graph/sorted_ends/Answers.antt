@@ -34,6 +34,9 @@ gathers pairs n made filled ends block within count size h e b =
     let long : length block ≡ first_place edges (length ends) = ap length b ∙ size ∙ ap (first_place edges) (sym counted) in
     record { fills = gathered-fills edges ends block all put long; joined = gathered-joined edges ends block all put long }
 
+pub gather-requires : goal.gather-requires
+gather-requires c = edges-within c.args.vertices c.args.pairs.now c.requires
+
 pub sort_parts-requires : goal.sort_parts-requires
 sort_parts-requires c =
     (gathers c.args.pairs.now c.args.vertices c.in_ok-gathered.gathered.ends.items c.in_ok-gathered.gathered.block.items c.deref.result.now
