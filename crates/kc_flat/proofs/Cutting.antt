@@ -1,11 +1,10 @@
 -- Parts of a block that lie one after the other.
-use Rattle.std.proofs.Common.{◌≡◌, ◌≤◌, ◌<◌, ◌+◌, ◌-◌, ℕ, suc, zero, List, [], ◌∷◌, ◌++◌, length, get_or, set, take, drop, refl, sym, ◌∙◌, ap, ap₂, arith}
+use Rattle.std.proofs.Common.{◌≡◌, ◌≤◌, ◌<◌, ◌+◌, ◌-◌, ℕ, suc, zero, List, [], ◌∷◌, length, get_or, take, drop, refl, sym, ◌∙◌, ap, arith}
 use Rattle.std.specs.List.{between, sum_by}
-use Rattle.std.proofs.lemmas.List.{take-take, take-set-le, get_or-set_same}
-use Rattle.std.proofs.lemmas.List.Edits.{between_more, length-between}
+use Rattle.std.proofs.lemmas.List.{take-take}
+use Rattle.std.proofs.lemmas.List.Edits.{length-between}
 use Rattle.std.proofs.lemmas.List.Sums.{sum_by-cons}
 use Rattle.std.proofs.lemmas.Slice.{between_is}
-use Rattle.std.proofs.Common.{length-set}
 use Rattle.kc_graph.specs.Blocks.{first_of}
 use Rattle.kc_graph.specs.Rows.{row}
 use Rattle.kc_graph.proofs.Lying.{drop-later}
