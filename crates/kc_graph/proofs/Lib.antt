@@ -6,6 +6,8 @@ pub mod EdgeChanges
 pub mod Ends
 pub mod Existence
 pub mod Filing
+pub mod Growing
+pub mod Grown
 pub mod Handshake
 pub mod Held
 pub mod Inserting

@@ -7,8 +7,9 @@
 //! graph with certified numbers, so that whoever is handed one needs no proof of its own.
 //!
 //! `specs/SimpleGraph.antt`, `Core.antt`, `Certificate.antt` and `Edges.antt` say what these words mean; the other files there serve
-//! the crate's own proofs. The three laws below have no code: certified numbers are the core numbers, a graph has one list of core
-//! numbers and no more, and it has one. The crate stands on `kc_lists` and the standard library.
+//! the crate's own proofs. The four laws below have no code. Certified numbers are the core numbers; a graph has one list of core numbers
+//! and no more; it has one; and vertices without edges may be added to a certified state. The crate stands on `kc_lists` and the standard
+//! library.
 #![tactic(auto)]
 
 mod ascending;
@@ -27,10 +28,12 @@ mod tidying;
 mod update;
 mod used;
 
-ghost use Rattle.std.specs.Prelude.{◌≡◌, ℕ, List};
+ghost use Rattle.std.specs.Prelude.{◌≡◌, ◌≤◌, ◌<◌, ◌+◌, ℕ, List, length, slice_index};
 ghost use Rattle.kc_graph.specs.SimpleGraph.{SimpleGraph};
 ghost use Rattle.kc_graph.specs.Core.{AreCoreNumbers};
 ghost use Rattle.kc_graph.specs.Certificate.{Certifies};
+ghost use Rattle.kc_graph.specs.Lawful.{IsCertified, Ranked};
+ghost use Rattle.kc_graph.specs.Growing.{HasItsEnds, with_more, with_vertices};
 
 pub use bulk::{Edge, Listed, listed_edges_are_the_edges};
 pub use graph::Graph;
@@ -56,4 +59,13 @@ pub fn core_numbers_are_unique()
 /// Every graph has core numbers, and an order that certifies them.
 pub fn certified_numbers_exist()
     ensures { (g : SimpleGraph) → (core : List ℕ) × (order : List ℕ) × Certifies g core order }
+{}
+
+/// A certified state with more vertices, which have no edges and come first in the order, is certified too. The vertices of before keep
+/// their numbers, and the new ones have 0.
+pub fn grown_states_are_certified()
+    ensures certified { (count : ℕ) (s : Ranked) → HasItsEnds s.graph → IsCertified s → IsCertified (with_more count s) }
+    ensures graph { (count : ℕ) (s : Ranked) → (with_more count s).graph ≡ with_vertices (s.graph.size + count) s.graph }
+    ensures old_numbers { (count : ℕ) (s : Ranked) (v : ℕ) → v < length s.core → slice_index (with_more count s).core v ≡ slice_index s.core v }
+    ensures new_numbers { (count : ℕ) (s : Ranked) (v : ℕ) → length s.core ≤ v → v < length s.core + count → slice_index (with_more count s).core v ≡ 0 }
 {}

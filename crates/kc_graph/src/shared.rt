@@ -2,7 +2,7 @@
 //!
 //! An update makes the two lists that it changes anew, before anything is changed, and then puts them in the place of the old ones, which
 //! their holders keep. `Graph` changes its lists where they lie, and so can remove an edge without memory; its lists can't be shared.
-ghost use Rattle.std.specs.Prelude.{◌≡◌, ◌<◌, true, not, IfOk, length};
+ghost use Rattle.std.specs.Prelude.{◌≡◌, ◌<◌, ◌≤◌, [], true, not, IfOk, OnErr, length, replicate};
 ghost use Rattle.std.specs.FinSet as set;
 ghost use Rattle.std.specs.List.Sorted.{IsStrictlyIncreasing};
 ghost use Rattle.kc_lists.specs.Lists.{member};
@@ -10,6 +10,7 @@ ghost use Rattle.kc_graph.specs.SimpleGraph.{SimpleGraph, adjacent};
 ghost use Rattle.kc_graph.specs.Neighbours.{AreNeighbours, neighbours_of};
 ghost use Rattle.kc_graph.specs.Plans.{is_applied, updated};
 ghost use Rattle.kc_graph.specs.Sharing.{AreListsAfter, IsChanged};
+ghost use Rattle.kc_graph.specs.Growing.{HasItsEnds, with_vertices};
 
 use crate::NoMemory;
 use crate::ascending::{delete_from, insert_into, place_in};
@@ -63,6 +64,18 @@ fn changed(alloc: Global, list: &[u32], add: bool, w: u32) -> Result<Neighbours,
     Neighbours::from_vec(after)
 }
 
+/// So many empty lists, which share one block.
+fn no_lists(alloc: Global, count: usize) -> Result<Vec<Neighbours>, NoMemory>
+    ensures { IfOk result (λ lists. lists.items ≡ replicate count []) }
+{
+    let none = Neighbours::copy_of(alloc, &[])?;
+    let mut lists = Vec::with_capacity(alloc, count)?;
+    for _ in 0..count {
+        lists.push(none.share()?)?;
+    }
+    Ok(lists)
+}
+
 impl SharedGraph {
     /// The same graph, with its lists shared. Those of 64 vertices in a row are copied into one block, which is given back once each of
     /// them was replaced: the holders of a list are counted at its block, and so threads that hold the lists of other vertices seldom count
@@ -82,6 +95,26 @@ impl SharedGraph {
     {
         let rows = Rows::of_lists(alloc, &self.rows)?;
         Ok(Graph::from_rows(rows))
+    }
+
+    /// Recalls to a proof that each end of an edge is a vertex, and does nothing when it runs.
+    pub fn recall_ends(&self)
+        ensures { HasItsEnds self.now }
+    {
+        let _rows = self.rows.len();
+    }
+
+    /// Adds vertices behind the last one, until there are so many in all; they have no neighbours. No list is copied or changed. Where there
+    /// is no memory for the new lists, the graph stays as it is.
+    pub fn grow(&mut self, alloc: Global, vertices: u32) -> Result<(), NoMemory>
+        requires { self.old.size ≤ vertices }
+        ensures grown { IfOk result (λ _. self.new ≡ with_vertices vertices self.old) }
+        ensures same { OnErr result (self.new ≡ self.old) }
+    {
+        let more = vertices as usize - self.rows.len();
+        let mut rows = no_lists(alloc, more)?;
+        self.rows.append(&mut rows)?;
+        Ok(())
     }
 
     /// How many vertices there are: they are the numbers below this.
