@@ -39,7 +39,7 @@ pub use bulk::{Edge, Listed, listed_edges_are_the_edges};
 pub use graph::Graph;
 pub use lawful::Lawful;
 pub use neighbours::Neighbours;
-pub use peeling::{core_numbers, decompose, decompose_owned};
+pub use peeling::{core_numbers, decompose, decompose_owned, greatest};
 pub use plan::{Moves, Plan};
 pub use shared::{ListsAfter, SharedGraph};
 pub use std::alloc::AllocError as NoMemory;

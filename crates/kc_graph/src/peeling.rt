@@ -5,7 +5,7 @@
 //! the end of the next lower bucket too, and stays in the old one: an entry whose vertex has a lesser number by now is passed over.
 ghost use Rattle.std.specs.Prelude.{◌≡◌, ◌<◌, ◌≤◌, ◌+◌, ◌-◌, ◌^◌, ℕ, true, [], ◌∷◌, ◌++◌, IfOk, IfSome, MatchOption, OnOk, length, slice_index, slice_set};
 ghost use Rattle.kc_lists.specs.Lists.{Distinct, member};
-ghost use Rattle.kc_graph.specs.Core.{AreCoreNumbers};
+ghost use Rattle.kc_graph.specs.Core.{AreCoreNumbers, greatest};
 ghost use Rattle.kc_graph.specs.Certificate.{Certifies};
 ghost use Rattle.kc_graph.specs.Lawful.{IsCertified};
 ghost use Rattle.kc_graph.specs.Rows.{lists, row};
@@ -196,4 +196,11 @@ pub fn core_numbers(alloc: Global, graph: &Graph) -> Result<Vec<u32>, NoMemory>
 {
     let removal = peel(alloc, graph)?;
     Ok(removal.core)
+}
+
+/// The greatest of the numbers, or 0 where there is none.
+pub fn greatest(numbers: &[u32]) -> u32
+    ensures { result ≡ greatest numbers.now }
+{
+    numbers.iter().fold(0, |top, n| top.max(*n))
 }

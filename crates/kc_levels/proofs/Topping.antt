@@ -1,5 +1,5 @@
 -- The greatest level.
-use Rattle.std.proofs.Common.{◌≡◌, ◌≢◌, ◌<◌, ◌≤◌, ◌+◌, ℕ, suc, Bool, true, false, List, [], ◌∷◌, length, get_or, set, ltb, Option, Some, None, eqb}
+use Rattle.std.proofs.Common.{◌≡◌, ◌≢◌, ◌<◌, ◌≤◌, ◌+◌, ◌⊎◌, ℕ, zero, suc, fold, Bool, true, false, List, [], ◌∷◌, length, get_or, set, ltb, Option, Some, None, eqb}
 use Rattle.std.proofs.Common.{refl, sym, ◌∙◌, ap, ap₂, subst, inl, inr, arith, eq-eqb, length-set}
 use Rattle.std.specs.Prelude.{max, MatchBool}
 use Rattle.std.specs.Option.{MatchOption, unwrap_or}
@@ -8,6 +8,7 @@ use Rattle.std.proofs.lemmas.List.{get_or-set_other}
 use Rattle.kc_lists.specs.Lists.{member, last_or, prev_of}
 use Rattle.kc_lists.proofs.Members.{member-head, member-last_or}
 use Rattle.kc_lists.proofs.Counting.{member-filter, filter-member}
+use Rattle.kc_graph.specs.Core.{greatest}
 use Rattle.kc_table.specs.Log.{Seen}
 use Rattle.kc_table.proofs.Listed.{Listed, list-stands}
 use Rattle.kc_order.specs.Standing.{list_after}
@@ -112,3 +113,30 @@ pub next_head-in : (s : Seen) (core : List ℕ) (level : ℕ) → IsHeaded s cor
 next_head-in s core level h high =
     ap₂ (λ (k : ℕ) (l : List ℕ). member k l) (omega arith) h.list
     ∙ head-in (length core) (suc level) (vertices_of (length core) (list_after s.table s.log)) core (omega (arith, high))
+
+-- the greatest of a number and those of a list
+abbrev pub over : ℕ → List ℕ → ℕ
+over d xs = fold (λ n c. max n c) d xs
+
+-- a number is no greater than the greatest of it and those of a list
+start-at_most_over : (xs : List ℕ) (d : ℕ) → d ≤ over d xs
+start-at_most_over [] d = omega arith
+start-at_most_over (x ∷ xs) d = let h : max d x ≤ over d (x ∷ xs) = start-at_most_over xs (max d x) in omega (arith, h)
+
+-- a number of a list is no greater than the greatest of them and another one
+pub item-at_most_over : (xs : List ℕ) (d i : ℕ) → i < length xs → get_or xs i 0 ≤ over d xs
+item-at_most_over [] d i l = absurd (omega (arith, l))
+item-at_most_over (x ∷ xs) d zero l = let h : max d x ≤ over d (x ∷ xs) = start-at_most_over xs (max d x) in omega (arith, h)
+item-at_most_over (x ∷ xs) d (suc i) l = item-at_most_over xs (max d x) i (omega (arith, l))
+
+-- the greatest of a number and those of a list is that number or one of them
+over-reached : (xs : List ℕ) (d : ℕ) → (over d xs ≡ d) ⊎ ((i : ℕ) × (i < length xs) × (get_or xs i 0 ≡ over d xs))
+over-reached [] d = inl refl
+over-reached (x ∷ xs) d = elim (over-reached xs (max d x)) [
+  | inl e ↦ elim (cases_eq (max d x) d) [ inl s ↦ inl (e ∙ s) | inr ne ↦ inr (0, (omega arith, omega (arith, e, ne))) ]
+  | inr h ↦ inr (suc h.0, (omega (arith, h.1), h.2))
+]
+
+-- the greatest of the levels is their top
+pub greatest-is_top : (core : List ℕ) (top : ℕ) → top ≡ greatest core → IsTop core top
+greatest-is_top core top is = subst (IsTop core) (sym is) (record { most = λ v l. item-at_most_over core 0 v l; reached = over-reached core 0 })

@@ -19,7 +19,7 @@ ghost use Rattle.kc_levels.specs.Levels.{AreLevels, IsHeaded, IsTop, MayMove, Mo
 ghost use Rattle.kc_levels.specs.Levels.{size_of, stamp_at, unsealed_in};
 
 use crate::NoMemory;
-use kc_graph::Update;
+use kc_graph::{Update, greatest};
 use kc_order::Writer;
 use kc_table::{Pass, Words};
 use kc_words::{INDICES, LAST_VERSION, Shape, VERTICES, VertexWord};
@@ -358,19 +358,6 @@ fn vertex_words(
         words.push(word.pack())?;
     }
     Ok(words)
-}
-
-/// The greatest number, 0 where there is none.
-fn greatest(core: &[u32]) -> u32
-    ensures { IsTop core.now result }
-{
-    let mut top = 0;
-    for level in core {
-        if *level > top {
-            top = *level;
-        }
-    }
-    top
 }
 
 /// Whether a vertex stands in a level.

@@ -12,14 +12,13 @@ ghost use Rattle.kc_output.specs.Text.{IsText, IsTextFrom, TellsBatches, TellsRu
 
 use crate::batch_lines::Work;
 use crate::begun::begun_from;
-use crate::greatest::greatest;
 use crate::numbers::{put_each, put_end, put_rounds};
 use crate::screen::Screen;
 use crate::setting::Setting;
 use crate::show::Show;
 use crate::start_graph::start_of;
 use crate::start_numbers::numbers_of;
-use kc_graph::{Graph, Lawful, NoMemory};
+use kc_graph::{Graph, Lawful, NoMemory, greatest};
 use kc_report::{Line, summary};
 use kc_run::{Course, Ran};
 use kc_snapshot::{Blank, BoardName};

@@ -2,6 +2,7 @@
 use Rattle.std.proofs.Common.{ℕ, List, length, get_or, refl, sym, subst, ap, ◌∙◌}
 use Rattle.kc_levels.specs.Levels.{IsTop}
 use Rattle.kc_levels.proofs.Opening.{order-below, list-items, stamp-opens, open-leaves}
+use Rattle.kc_levels.proofs.Topping.{greatest-is_top}
 use Rattle.kc_levels.proofs.levels.Levels.open.Goals as goal
 
 pub list_with_heads-requires-clause-within : goal.list_with_heads-requires-clause-within
@@ -37,7 +38,7 @@ invariant_of-levels c = (
       c.in_ok-words.ensures.legal c.in_ok-words.ensures.list c.deref.ensures.value c.in_ok-list.ensures c.in_ok-words.ensures.vertex
       (λ v l. ap (λ (zs : List ℕ). get_or zs v 0) c.deref-2.ensures.value ∙ c.in_ok-vertex.ensures.each v l)
       c.in_ok-words.ensures.writer c.in_ok-words.ensures.pass c.in_ok-levels.ensures.items c.in_ok-kept.ensures.items).0,
-  subst (λ (zs : List ℕ). IsTop zs c.greatest.result) (sym c.in_ok-levels.ensures.items) c.greatest.ensures,
+  subst (λ (zs : List ℕ). IsTop zs c.greatest.result) (sym c.in_ok-levels.ensures.items) (greatest-is_top c.args.core.now c.greatest.result c.greatest.ensures),
 )
 
 pub returns : goal.returns
