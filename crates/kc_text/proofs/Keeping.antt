@@ -5,9 +5,10 @@ use Rattle.std.specs.HashSet.{IsUnique}
 use Rattle.std.specs.Set.{distinct_count}
 use Rattle.kc_text.specs.declared.change.ChangeLine.{ChangeLine}
 use Rattle.kc_text.specs.declared.reader.Reader.{Reader}
+use Rattle.kc_text.specs.declared.line.TextLine.{TextLine}
 use Rattle.kc_text.specs.declared.line.TextLine.TheVariants as said
 use Rattle.kc_text.specs.Meaning.{Told, batches, changes, first_limit, names, passed_limit, with_line}
-use Rattle.kc_text.specs.Readers.{Gains, IsExact, ReaderKeeps, is_over, told_by}
+use Rattle.kc_text.specs.Readers.{Gains, HasBegun, IsExact, ReaderKeeps, is_over, told_by}
 use Rattle.kc_text.proofs.Counts.{NamesMore, has_more, over_is}
 use Rattle.kc_text.proofs.Telling.{changes-more, names-change, names-edge}
 use Rattle.kc_text.specs.declared.limits.Limits.{Limits}
@@ -30,12 +31,21 @@ with_edges reader edges = record { edges = edges; earlier = (told_by reader).ear
 abbrev pub with_last : Reader → Option (List ChangeLine) → Told
 with_last reader last = record { edges = (told_by reader).edges; earlier = (told_by reader).earlier; last = last }
 
+-- no batch is an earlier one after a line, if there is no last one
+pub begun-line : (told : Told) (line : TextLine) → HasBegun told → HasBegun (with_line told line)
+begun-line told said.Nothing h = h
+begun-line told (said.Edge a b) h = h
+begun-line told said.Batch h = λ e. absurd (cc)
+begun-line told (said.Change c) h = λ e. absurd (cc)
+begun-line told (said.Wrong kind) h = h
+
 -- a reader keeps what it should after an edge line, if its ids gained the two ends
 pub keeps-edge : (old new : Reader) (a b : ℕ) → told_by new ≡ with_line (told_by old) (said.Edge a b) → new.changes ≡ old.changes → Gains old.ids new.ids a b
     → ReaderKeeps old → ReaderKeeps new
 keeps-edge old new a b told same gains kept = record {
   ids = has_more old.ids new.ids (names (told_by old)) (names (told_by new)) a b (names-after_edge old new a b told) gains kept.ids;
   changes = same ∙ kept.changes ∙ sym (ap (λ (t : Told). length (changes t)) told);
+  begun = subst HasBegun (sym told) (begun-line (told_by old) (said.Edge a b) kept.begun);
 }
 
 -- a reader keeps what it should after a change, if it counted it and its ids gained the two ends
@@ -47,6 +57,7 @@ keeps-change old new c told more gains kept = record {
       let grown : length (changes (told_by new)) ≡ length (changes (told_by old) ++ c ∷ []) = ap (λ (t : Told). length (changes t)) told
       ∙ ap (length) (changes-more (told_by old) c) in
       omega (arith, kept.changes, length-append (changes (told_by old)) (c ∷ []));
+  begun = subst HasBegun (sym told) (begun-line (told_by old) (said.Change c) kept.begun);
 }
 
 -- the limit that a reader finds passed by its own counts is the one that what was told passes

@@ -1,5 +1,7 @@
+pub mod Again
 pub mod Batched
 pub mod Counts
+pub mod Fed
 pub mod Few
 pub mod Decided
 pub mod FieldCuts
@@ -9,7 +11,10 @@ pub mod LineCuts
 pub mod Marks
 pub mod Members
 pub mod NamedPairs
+pub mod Numbered
 pub mod Overruled
+pub mod SaidAppend
+pub mod Settled
 pub mod Strict
 pub mod Pairs
 pub mod Places
@@ -17,6 +22,8 @@ pub mod PlainLines
 pub mod Printed
 pub mod Ranges
 pub mod Ranked
+pub mod ReadLines
 pub mod Refused
 pub mod Telling
+pub mod ToldLines
 pub mod WithinLimits

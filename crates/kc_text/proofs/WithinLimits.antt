@@ -104,7 +104,7 @@ after_line limits told (said.Change c) fit h =
 after_line limits told (said.Wrong kind) fit h = fit
 
 -- what lines tell with no refusal, after what is fit, is fit
-reading-fit : (limits : Limits) (done : ℕ) (told : Told) (lines : List TextLine) (all : Told) → AreFit limits told
+pub reading-fit : (limits : Limits) (done : ℕ) (told : Told) (lines : List TextLine) (all : Told) → AreFit limits told
     → reading limits done told lines ≡ Means all → AreFit limits all
 reading-fit limits done told [] all fit h = let same : told ≡ all = cc in subst (AreFit limits) same fit
 reading-fit limits done told (line ∷ rest) all fit h =

@@ -1,5 +1,6 @@
 -- What public contracts speak of.
 pub mod Batches
+pub mod Feeding
 pub mod Forms
 pub mod Inputs
 pub mod Kinds
@@ -13,6 +14,8 @@ pub mod Buckets
 pub mod Deciding
 pub mod Finding
 pub mod Looks
+pub mod Numbering
 pub mod Plain
 pub mod Readers
 pub mod Readings
+pub mod TellingLines

@@ -1,5 +1,5 @@
 -- The lines of a text, and their fields.
-use Rattle.std.specs.Prelude.{◌==◌, ◌||◌, ℕ, Bool, List, [], ◌∷◌, length, map, nat_lt, if◌then◌else◌}
+use Rattle.std.specs.Prelude.{◌≡◌, ◌==◌, ◌||◌, ◌⊎◌, ℕ, Bool, List, [], ◌∷◌, ◌++◌, length, map, nat_lt, if◌then◌else◌}
 use Rattle.std.specs.List.{filter, slice_split}
 use Rattle.std.specs.Str.Lines.{strip_carriage_return}
 
@@ -20,6 +20,10 @@ abbrev pub without_last : List (List ℕ) → List (List ℕ)
 without_last [] = []
 without_last (part ∷ []) = if is_not_empty part then part ∷ [] else []
 without_last (part ∷ next ∷ more) = part ∷ without_last (next ∷ more)
+
+-- bytes in which no line is broken off: there are none, or a newline is the last
+abbrev pub EndsLine : List ℕ → Type 0
+EndsLine bytes = (bytes ≡ []) ⊎ ((front : List ℕ) × (bytes ≡ front ++ 10 ∷ []))
 
 -- A line ends at a newline or at the end. One carriage return at its end is no part of it.
 abbrev pub lines : List ℕ → List (List ℕ)

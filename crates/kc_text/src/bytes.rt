@@ -1,8 +1,8 @@
-//! Cuts the first line off a text, without the CR that may stand before its end.
-ghost use Rattle.std.specs.Prelude.{◌≡◌, ◌∷◌, ◌<◌, [], length, drop, MatchOption, IfSome};
+//! Cuts the first line off a text, without the CR that may stand before its end, and finds the last line end.
+ghost use Rattle.std.specs.Prelude.{◌≡◌, ◌∷◌, ◌<◌, ◌≤◌, [], length, drop, take, MatchOption, IfSome};
 ghost use Rattle.std.specs.List.{position_or_len};
 ghost use Rattle.std.specs.Str.Lines.{strip_carriage_return};
-ghost use Rattle.kc_text.specs.Lines.{is_newline, lines};
+ghost use Rattle.kc_text.specs.Lines.{EndsLine, is_newline, lines};
 
 fn without_return(line: &[u8]) -> &[u8]
     ensures { result.now ≡ strip_carriage_return line.now }
@@ -23,6 +23,21 @@ fn line_len(bytes: &[u8]) -> usize
         }
     }
     bytes.len()
+}
+
+/// How many bytes stand before the end of the last line that ends, and at it.
+pub(crate) fn whole_len(bytes: &[u8]) -> usize
+    ensures within { result ≤ length bytes.now }
+    ensures ended { EndsLine (take result bytes.now) }
+{
+    let mut len = bytes.len();
+    while len > 0 {
+        if bytes[len - 1] == b'\n' {
+            return len;
+        }
+        len -= 1;
+    }
+    0
 }
 
 fn without_first(bytes: &[u8]) -> &[u8]

@@ -5,13 +5,16 @@
 //! means is defined in `specs/`: `Lines` cuts it into lines and fields, `Forms` says what one line says, `Meaning` judges each line
 //! after what the lines before it have told, and `Inputs` numbers the ids. The other files there serve the crate's own proofs.
 //!
+//! [`TextReader`] gives the same of a text that comes in pieces, cut anywhere. It reads each line as soon as the line is whole, so
+//! nobody has to hold the text.
+//!
 //! A batch may name a pair again. Then the last line that names it decides, as `specs/Overruling` says, and the others are counted.
 //! [`decide`] does the same for a list of updates, as `specs/LastUpdates` says.
 //!
 //! Reading is linear but for sorts. A plain line is read in one scan (`plain`), any other is cut off and into fields. Ids that are not
-//! far apart are marked and listed, and far ones sorted (`ids`). The different ids are counted at the end, and only where there are too
-//! many is the text read again, to find the line. The crate stands on `kc_graph`, for a graph's edges as a set of pairs and for its
-//! updates.
+//! far apart are marked and listed, and far ones sorted (`ids`). The different ids are counted at the end. Only where there are too
+//! many are the edges and batches that were told taken again, line by line, to find the line (`reading`). The text itself is read
+//! once. The crate stands on `kc_graph`, for a graph's edges as a set of pairs and for its updates.
 #![tactic(auto)]
 
 mod batch;
@@ -27,6 +30,7 @@ mod kind;
 pub mod laws;
 mod limits;
 mod line;
+mod line_numbers;
 mod look;
 mod number;
 mod numbering;
@@ -35,6 +39,7 @@ mod plain;
 mod reader;
 mod reading;
 mod refusal;
+mod text_reader;
 
 ghost use Rattle.std.specs.Prelude.{◌≡◌, ◌≢◌, ◌≤◌, ◌<◌, ◌+◌, ◌^◌, ◌↔◌, ℕ, List, All, IfOk, IsErrOf, length, map};
 ghost use Rattle.std.specs.List.{list_any};
@@ -52,7 +57,6 @@ ghost use Rattle.kc_text.specs.declared.limits.Limits.{Limits};
 use crate::finder::Finder;
 use crate::numbering::{batches_of, start_of};
 use crate::overruling::decide_batches;
-use crate::reading::{Reading, read_text};
 pub use batch::Batch;
 pub use change::ChangeLine;
 pub use fault::ParseFault;
@@ -63,6 +67,7 @@ pub use overruling::decide;
 pub use refusal::Refusal;
 pub use std::alloc::AllocError as NoMemory;
 use std::alloc::Global;
+pub use text_reader::TextReader;
 
 /// The input between the numbers that stand for the ids.
 fn input_of(
@@ -92,12 +97,6 @@ fn input_of(
     })
 }
 
-/// The whole text is refused, and no line is meant.
-const TOO_LONG: Refusal = Refusal {
-    line: 0,
-    kind: Kind::TooLong,
-};
-
 /// The input that a text means within limits.
 ///
 /// `Refused` comes exactly where the text is too long, or else where a line is refused, with the first such line and the first check
@@ -112,14 +111,9 @@ pub fn parse(alloc: Global, limits: Limits, bytes: &[u8]) -> Result<Input, Parse
     ensures batches { IfOk result (λ input. All (λ batch. IsBatch (length input.ids.items) batch.updates.items) input.batches.items) }
     ensures refused { (r : Refusal) → IsErrOf result (ParseFault.Refused r) → meaning limits bytes.now ≡ Refuses r.line r.kind }
 {
-    if bytes.len() > limits.bytes {
-        return Err(ParseFault::Refused(TOO_LONG));
-    }
-    let reading = read_text(alloc, &limits, bytes)?;
-    if let Some(refusal) = reading.refusal {
-        return Err(ParseFault::Refused(refusal));
-    }
-    Ok(input_of(alloc, reading.ids, &reading.edges, &reading.batches)?)
+    let mut reader = TextReader::new(alloc, limits);
+    reader.feed(alloc, bytes)?;
+    reader.finish(alloc)
 }
 
 /// The changes of a batch that decide name each pair that the batch names, and none twice, and all its other changes are overruled.

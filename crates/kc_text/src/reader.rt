@@ -6,7 +6,7 @@ ghost use Rattle.std.specs.Option.{option_map, option_to_list};
 ghost use Rattle.kc_text.specs.declared.line.TextLine.TheVariants as said;
 ghost use Rattle.kc_text.specs.Looks.{is_exact};
 ghost use Rattle.kc_text.specs.Meaning.{batches, first_limit, nothing_told, passed_limit, refusal, unfit, with_line};
-ghost use Rattle.kc_text.specs.Readers.{told_by, Gains, HasIds, IsExact, ReaderKeeps, is_over};
+ghost use Rattle.kc_text.specs.Readers.{told_by, Gains, HasIds, IsExact, IsTold, ReaderKeeps, is_over};
 
 use crate::NoMemory;
 use crate::change::ChangeLine;
@@ -135,10 +135,11 @@ impl Reader {
         line: TextLine,
     ) -> Result<Option<Kind>, NoMemory>
         requires kept { ReaderKeeps self.old }
-        requires few { self.old.changes < 2 ^ 63 }
+        requires few { self.old.changes + 1 < 2 ^ 64 }
         ensures kept { IfOk result (λ cause. cause ≡ None → ReaderKeeps self.new) }
         ensures told { IfOk result (λ cause. cause ≡ None → told_by self.new ≡ with_line (told_by self.old) line) }
         ensures refused { IfOk result (λ cause. IsExact limits.now self.new → cause ≡ refusal limits.now (told_by self.old) line) }
+        ensures tells { IfOk result (λ cause. IsTold cause (told_by self.old) line (told_by self.new)) }
         ensures exact { OnOk result (IsExact limits.now self.new → IsExact limits.now self.old) }
         ensures looks { OnOk result (is_some self.new.ids ≡ is_some self.old.ids) }
         ensures grows { OnOk result (self.new.changes ≤ self.old.changes + 1) }
@@ -157,6 +158,7 @@ impl Reader {
         ensures kept { IfOk result (λ cause. cause ≡ None → ReaderKeeps self.new) }
         ensures told { IfOk result (λ cause. cause ≡ None → told_by self.new ≡ with_line (told_by self.old) (said.Edge a b)) }
         ensures refused { IfOk result (λ cause. IsExact limits.now self.new → cause ≡ refusal limits.now (told_by self.old) (said.Edge a b)) }
+        ensures tells { IfOk result (λ cause. IsTold cause (told_by self.old) (said.Edge a b) (told_by self.new)) }
         ensures exact { OnOk result (IsExact limits.now self.new → IsExact limits.now self.old) }
         ensures looks { OnOk result (is_some self.new.ids ≡ is_some self.old.ids) }
         ensures same { OnOk result (self.new.changes ≡ self.old.changes) }
@@ -174,6 +176,7 @@ impl Reader {
         ensures kept { OnOk result (ReaderKeeps self.new) }
         ensures told { OnOk result (told_by self.new ≡ with_line (told_by self.old) said.Batch) }
         ensures refused { IfOk result (λ cause. IsExact limits.now self.new → cause ≡ refusal limits.now (told_by self.old) said.Batch) }
+        ensures tells { IfOk result (λ cause. IsTold cause (told_by self.old) said.Batch (told_by self.new)) }
         ensures exact { OnOk result (IsExact limits.now self.new → IsExact limits.now self.old) }
         ensures looks { OnOk result (is_some self.new.ids ≡ is_some self.old.ids) }
         ensures same { OnOk result (self.new.changes ≡ self.old.changes) }
@@ -185,10 +188,11 @@ impl Reader {
 
     fn take_change(&mut self, limits: &Limits, change: ChangeLine) -> Result<Option<Kind>, NoMemory>
         requires kept { ReaderKeeps self.old }
-        requires few { self.old.changes < 2 ^ 63 }
+        requires few { self.old.changes + 1 < 2 ^ 64 }
         ensures kept { IfOk result (λ cause. cause ≡ None → ReaderKeeps self.new) }
         ensures told { IfOk result (λ cause. cause ≡ None → told_by self.new ≡ with_line (told_by self.old) (said.Change change)) }
         ensures refused { IfOk result (λ cause. IsExact limits.now self.new → cause ≡ refusal limits.now (told_by self.old) (said.Change change)) }
+        ensures tells { IfOk result (λ cause. IsTold cause (told_by self.old) (said.Change change) (told_by self.new)) }
         ensures exact { OnOk result (IsExact limits.now self.new → IsExact limits.now self.old) }
         ensures looks { OnOk result (is_some self.new.ids ≡ is_some self.old.ids) }
         ensures grows { OnOk result (self.new.changes ≤ self.old.changes + 1) }

@@ -5,7 +5,11 @@ use Rattle.kc_text.specs.declared.line.TextLine.TheVariants as said
 use Rattle.kc_text.specs.Readers.{told_by}
 use Rattle.kc_text.proofs.Few.{exact-before, few-edge}
 use Rattle.kc_text.proofs.Keeping.{keeps-edge, with_edges}
+use Rattle.kc_text.proofs.ToldLines.{told-same}
 use Rattle.kc_text.proofs.reader.Reader.take_edge.Goals as goal
+
+pub returns-then-is_some-clause-tells : goal.returns-then-is_some-clause-tells
+returns-then-is_some-clause-tells c = told-same _ _ _ _ refl
 
 pub passed_limit-requires : goal.passed_limit-requires
 passed_limit-requires c = keeps-edge c.args.self.now _ c.args.a c.args.b

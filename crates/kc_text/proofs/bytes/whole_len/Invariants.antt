@@ -1,0 +1,9 @@
+-- The length is that of some front.
+use Rattle.std.proofs.Common.{◌≤◌, length}
+use Rattle.kc_text.proofs.bytes.whole_len.Given as goal
+
+abbrev pub invariant-loop-len : goal.invariant-loop-len
+invariant-loop-len l = l.len ≤ length l.bytes
+
+abbrev pub decreases-loop-len : goal.decreases-loop-len
+decreases-loop-len l = l.len

@@ -1,0 +1,168 @@
+//! Reads a text as its bytes come: lines are read when they are whole, and only what stands behind the last line end is kept.
+ghost use Rattle.std.specs.Prelude.{◌≡◌, ◌≤◌, ◌<◌, ◌+◌, ◌^◌, ◌++◌, [], ℕ, Some, List, All, IfOk, IsErrOf, OnOk, length};
+ghost use Rattle.kc_text.specs.declared.line.TextLine.{TextLine};
+ghost use Rattle.kc_text.specs.declared.refusal.Refusal.{Refusal};
+ghost use Rattle.kc_text.specs.declared.text_reader.TheConstants.{TOO_LONG};
+ghost use Rattle.kc_text.specs.Forms.{all_said};
+ghost use Rattle.kc_text.specs.Feeding.{KeepsUp, WasFed};
+ghost use Rattle.kc_text.specs.Lines.{EndsLine};
+ghost use Rattle.kc_text.specs.Inputs.{IsBatch, IsInput};
+ghost use Rattle.kc_text.specs.Meaning.{Means, Refuses, Told, meaning, nothing_told};
+ghost use Rattle.kc_text.specs.Readers.{outcome};
+ghost use Rattle.kc_text.specs.Readings.{CanRead, IsReading, Reads};
+
+use crate::bytes::whole_len;
+use crate::fault::ParseFault;
+use crate::input::Input;
+use crate::kind::Kind;
+use crate::limits::Limits;
+use crate::look::Look;
+use crate::reading::{LineReader, Reading};
+use crate::refusal::Refusal;
+use crate::{NoMemory, input_of};
+use std::alloc::Global;
+
+/// The whole text is refused, and no line is meant.
+const TOO_LONG: Refusal = Refusal {
+    line: 0,
+    kind: Kind::TooLong,
+};
+
+/// What reads a text that is fed piece by piece. It holds what the lines tell, and the bytes behind the last line end.
+#[derive(Drop)]
+pub struct TextReader {
+    pub limits: Limits,
+    lines: LineReader,
+    /// The bytes behind the last line end.
+    carry: Vec<u8>,
+    /// How many bytes more the limits allow; none where the text is too long already.
+    left: Option<usize>,
+}
+
+/// What is known of a text that is too long.
+fn too_long(alloc: Global) -> Reading
+    ensures reads { IsReading nothing_told result }
+    ensures refused { result.refusal ≡ Some TOO_LONG }
+{
+    Reading {
+        edges: Vec::new(alloc),
+        batches: Vec::new(alloc),
+        ids: Vec::new(alloc),
+        refusal: Some(TOO_LONG),
+    }
+}
+
+impl TextReader {
+    /// A reader that was fed nothing.
+    pub fn new(alloc: Global, limits: Limits) -> TextReader
+        ensures fed { WasFed result [] }
+        ensures limits { result.limits ≡ limits }
+    {
+        TextReader {
+            limits,
+            lines: LineReader::new(alloc, Look::Quick),
+            carry: Vec::new(alloc),
+            left: Some(limits.bytes),
+        }
+    }
+
+    /// Reads the lines that end in some bytes behind those that are kept.
+    fn read_lines(&mut self, alloc: Global, bytes: &[u8]) -> Result<(), NoMemory>
+        requires can { CanRead self.old.lines }
+        requires few { self.old.lines.numbers.lines + length self.old.carry.items + length bytes.now < 2 ^ 64 }
+        ensures reads { OnOk result ((before : List TextLine) → Reads self.old.limits self.old.lines before
+            → Reads self.old.limits self.new.lines (before ++ all_said (self.old.carry.items ++ bytes.now))) }
+        ensures can { OnOk result (CanRead self.new.lines) }
+        ensures carry { OnOk result (self.new.carry.items ≡ []) }
+        ensures lines { OnOk result (self.new.lines.numbers.lines ≤ self.old.lines.numbers.lines + length self.old.carry.items + length bytes.now) }
+        ensures limits { OnOk result (self.new.limits ≡ self.old.limits) }
+        ensures left { OnOk result (self.new.left ≡ self.old.left) }
+    {
+        if self.carry.is_empty() {
+            return self.lines.read(alloc, &self.limits, bytes);
+        }
+        self.carry.extend_from_slice(bytes)?;
+        self.lines.read(alloc, &self.limits, &self.carry)?;
+        self.carry.clear();
+        Ok(())
+    }
+
+    /// Takes bytes that are none or end with a line end.
+    fn take_whole(&mut self, alloc: Global, whole: &[u8]) -> Result<(), NoMemory>
+        requires ended { EndsLine whole.now }
+        requires keeps_up { (left : ℕ) × (fed : List ℕ) × KeepsUp self.old (left + length whole.now) fed }
+        ensures keeps_up { OnOk result ((left : ℕ) (fed : List ℕ) → KeepsUp self.old (left + length whole.now) fed
+            → KeepsUp self.new left (fed ++ whole.now)) }
+        ensures limits { OnOk result (self.new.limits ≡ self.old.limits) }
+        ensures left { OnOk result (self.new.left ≡ self.old.left) }
+    {
+        if whole.is_empty() {
+            return Ok(());
+        }
+        self.read_lines(alloc, whole)?;
+        Ok(())
+    }
+
+    /// Takes the next bytes of the text. After `NoMemory` the reader is of no more use.
+    pub fn feed(&mut self, alloc: Global, piece: &[u8]) -> Result<(), NoMemory>
+        requires { (fed : List ℕ) × WasFed self.old fed }
+        ensures fed { OnOk result ((fed : List ℕ) → WasFed self.old fed → WasFed self.new (fed ++ piece.now)) }
+        ensures limits { OnOk result (self.new.limits ≡ self.old.limits) }
+    {
+        let Some(left) = self.left else {
+            return Ok(());
+        };
+        if left < piece.len() {
+            self.left = None;
+            return Ok(());
+        }
+        self.left = Some(left - piece.len());
+        let (whole, rest) = piece.split_at(whole_len(piece));
+        self.take_whole(alloc, whole)?;
+        self.carry.extend_from_slice(rest)?;
+        Ok(())
+    }
+
+    /// What the bytes that were fed tell, with the first line that is refused.
+    fn reading(self, alloc: Global) -> Result<Reading, NoMemory>
+        requires { (fed : List ℕ) × WasFed self fed }
+        ensures { IfOk result (λ found. (fed : List ℕ) → WasFed self fed
+            → (told : Told) × IsReading told found × (meaning self.limits fed ≡ outcome told found.refusal)) }
+    {
+        let Some(_left) = self.left else {
+            return Ok(too_long(alloc));
+        };
+        let TextReader {
+            limits,
+            mut lines,
+            carry,
+            left: _,
+        } = self;
+        lines.read(alloc, &limits, &carry)?;
+        lines.finish(alloc, &limits)
+    }
+
+    /// The input that the text means which was fed.
+    ///
+    /// `Refused` comes exactly where the text is too long, or else where a line is refused, with the first such line and the first
+    /// check that it fails; `NoMemory` where there is no memory to read the text. No two updates of a batch are of one edge, so it
+    /// doesn't matter in which order they are applied.
+    pub fn finish(self, alloc: Global) -> Result<Input, ParseFault>
+        requires { (fed : List ℕ) × WasFed self fed }
+        ensures input { IfOk result (λ input. (fed : List ℕ) → WasFed self fed
+            → (told : Told) × (meaning self.limits fed ≡ Means told) × IsInput told input) }
+        ensures few { IfOk result (λ input. length input.ids.items ≤ self.limits.ids) }
+        ensures few_batches { IfOk result (λ input. length input.batches.items ≤ self.limits.batches) }
+        ensures short { IfOk result (λ input. All (λ batch. length batch.updates.items ≤ self.limits.updates) input.batches.items) }
+        ensures counts { IfOk result (λ input. All (λ batch. batch.overruled ≤ self.limits.updates) input.batches.items) }
+        ensures batches { IfOk result (λ input. All (λ batch. IsBatch (length input.ids.items) batch.updates.items) input.batches.items) }
+        ensures refused { (r : Refusal) (fed : List ℕ) → IsErrOf result (ParseFault.Refused r) → WasFed self fed
+            → meaning self.limits fed ≡ Refuses r.line r.kind }
+    {
+        let reading = self.reading(alloc)?;
+        if let Some(refusal) = reading.refusal {
+            return Err(ParseFault::Refused(refusal));
+        }
+        Ok(input_of(alloc, reading.ids, &reading.edges, &reading.batches)?)
+    }
+}
