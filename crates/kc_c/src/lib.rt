@@ -1,9 +1,10 @@
 //! Core numbers, their certificates and k-cores, for callers in C.
 //!
 //! A graph is given by its number of vertices, which are the numbers below it, and a list of edges: loops are dropped, and an edge that
-//! is listed again, in either direction, counts once (`kc_graph/specs/Bulk.antt`). Each function below calls one of `kc_graph`,
-//! `kc_cert` or `kc_tally` and promises what that one does. `kcore_tally` takes a piece of the edges, which has each of its edges once. No function has a `requires`, since nothing checks a caller in C: each argument is tested,
-//! and the `status` of the answer says what was wrong. Where it is not 0 nothing was written.
+//! is listed again, in either direction, counts once (`kc_graph/specs/Bulk.antt`). `kcore_tally` alone takes a piece of the edges, in which
+//! each stands once. Each function below calls one of `kc_graph`, `kc_cert` or `kc_tally` and promises what that one does. No function has
+//! a `requires`, since nothing checks a caller in C: each argument is tested, and the `status` of the answer says what was wrong. Where it
+//! is not 0 nothing was written.
 //!
 //! | Status | Meaning | `number` |
 //! |---|---|---|

@@ -7,7 +7,7 @@ ghost use Rattle.kc_stripes.specs.Records.{belongs, with_newer};
 ghost use Rattle.kc_stripes.specs.declared.stripe.TheConstants.{STRIPES};
 
 use crate::stripe::{STRIPES, Stripe};
-use kc_graph::{Neighbours, NoMemory};
+use kc_graph::{Neighbours, NoMemory, UsedEdges};
 use kc_table::{Name, Pass, Words};
 use std::alloc::Global;
 use std::marker::{Model, PhantomData};
@@ -79,23 +79,26 @@ impl<K: Name> LockedStripe<K> {
         &mut self,
         words: &Words,
         pass: &mut Pass,
-        w: u32,
-        neighbours: Neighbours,
-        at: u32,
+        list: UsedEdges,
     ) -> Result<(), NoMemory>
         requires table { (words.now ≡ K.opened.table) × (pass.old.table ≡ K.opened.table) }
-        requires was { WasList K.opened.table K.opened.edges pass.old.log (record { vertex = w; at = at; neighbours = neighbours }) }
+        requires was { WasList K.opened.table K.opened.edges pass.old.log list }
         ensures table { pass.new.table ≡ pass.old.table }
         ensures log { pass.new.log ≡ pass.old.log }
-        ensures ok { OnOk result (belongs self.old w ≡ true) }
-        ensures put { OnOk result (self.new.records ≡ with_newer self.old.records (record { vertex = w; at = at; neighbours = neighbours })) }
-        ensures lacks { OnErr result (belongs self.old w ≡ false) }
+        ensures ok { OnOk result (belongs self.old list.vertex ≡ true) }
+        ensures put { OnOk result (self.new.records ≡ with_newer self.old.records list) }
+        ensures lacks { OnErr result (belongs self.old list.vertex ≡ false) }
         ensures same { OnErr result (self.new ≡ self.old) }
     {
-        if !self.stripe.has(w) {
+        let UsedEdges {
+            vertex,
+            at,
+            neighbours,
+        } = list;
+        if !self.stripe.has(vertex) {
             return Err(NoMemory);
         }
-        self.stripe.put(words, pass, w, neighbours, at);
+        self.stripe.put(words, pass, vertex, neighbours, at);
         Ok(())
     }
 }
@@ -184,18 +187,16 @@ impl<K: Name> Stripes<K> {
         rt: &R,
         words: &Words,
         pass: &mut Pass,
-        w: u32,
-        neighbours: Neighbours,
-        at: u32,
+        list: UsedEdges,
     ) -> Result<(), NoMemory>
         requires table { (words.now ≡ K.opened.table) × (pass.old.table ≡ K.opened.table) }
-        requires was { WasList K.opened.table K.opened.edges pass.old.log (record { vertex = w; at = at; neighbours = neighbours }) }
+        requires was { WasList K.opened.table K.opened.edges pass.old.log list }
         ensures table { pass.new.table ≡ pass.old.table }
         ensures log { pass.new.log ≡ pass.old.log }
     {
-        self.locks[place_of(w)]
+        self.locks[place_of(list.vertex)]
             .lock(rt)
-            .publish(words, pass, w, neighbours, at)
+            .publish(words, pass, list)
     }
 }
 

@@ -1,7 +1,8 @@
 //! Lists that one thread publishes while another reads, each list with the number of entries after which it was so.
 ghost use Rattle.std.specs.Prelude.{◌≡◌, ◌<◌, ◌≤◌, vec_len, All};
+ghost use Rattle.kc_graph.specs.Neighbours.{AreNeighbours};
 
-use kc_graph::{Graph, Neighbours, SharedGraph};
+use kc_graph::{Graph, Neighbours, SharedGraph, UsedEdges};
 use kc_order::Writer;
 use kc_stripes::{STRIPES, Stripe, Stripes, open_stripes};
 use kc_table::{Name, Pass, Words, split};
@@ -17,26 +18,40 @@ use std::thread::Threads;
 /// How many entries were made before the table, so that the opening lists may be told under any number up to it.
 const BASE: u32 = 20_000;
 
-/// Publishes the opening list of a vertex, as that after so many entries.
-fn publish_one<K: Name, R: Wait + Abort + AllocGlobal>(
+/// A copy of the list of a vertex.
+fn list_of<R: Abort + AllocGlobal>(rt: &R, graph: &SharedGraph, vertex: u32) -> Neighbours
+    requires { vertex < graph.now.size }
+    ensures { AreNeighbours graph.now vertex result }
+{
+    let Ok(neighbours) = Neighbours::copy_of(rt.alloc(), graph.neighbours(vertex)) else {
+        panic!(rt; "no memory")
+    };
+    neighbours
+}
+
+/// Publishes the opening list of each vertex, as that after so many entries.
+fn publish_each<K: Name, R: Wait + Abort + AllocGlobal>(
     rt: &R,
     words: &Words,
     stripes: &Stripes<K>,
     pass: &mut Pass,
     graph: &SharedGraph,
-    vertex: u32,
     at: u32,
 )
     requires table { (words.now ≡ K.opened.table) × (pass.old.table ≡ K.opened.table) }
     requires graph { (graph.now ≡ K.opened.edges) × (graph.now.size ≡ K.opened.table.shape.fixed) }
-    requires vertex { vertex < graph.now.size }
     requires at { at ≤ K.opened.table.shape.base }
     ensures { pass.new.table ≡ K.opened.table }
 {
-    let Ok(list) = Neighbours::copy_of(rt.alloc(), graph.neighbours(vertex)) else {
-        panic!(rt; "no memory")
-    };
-    assert!(rt; stripes.publish(rt, words, pass, vertex, list, at).is_ok());
+    for vertex in 0..graph.vertices() {
+        let neighbours = list_of(rt, graph, vertex);
+        let used = UsedEdges {
+            vertex,
+            at,
+            neighbours,
+        };
+        assert!(rt; stripes.publish(rt, words, pass, used).is_ok());
+    }
 }
 
 /// Publishes the list of each vertex under each number.
@@ -52,13 +67,11 @@ fn publish_all<K: Name, R: Wait + Abort + AllocGlobal>(
     requires base { BASE ≤ K.opened.table.shape.base }
 {
     for at in 1..=BASE {
-        for vertex in 0..graph.vertices() {
-            publish_one(rt, words, stripes, &mut pass, graph, vertex, at);
-        }
+        publish_each(rt, words, stripes, &mut pass, graph, at);
     }
 }
 
-/// Reads the list of a vertex: it is the vertex's, and no older than an earlier one. Gives the number of entries after which it was so.
+/// Reads the list of a vertex: it is the vertex's. Gives the number of entries after which it was so.
 fn read_one<K: Name, R: Wait + Abort>(
     rt: &R,
     words: &Words,
@@ -66,7 +79,6 @@ fn read_one<K: Name, R: Wait + Abort>(
     pass: &mut Pass,
     graph: &SharedGraph,
     vertex: u32,
-    earlier: u32,
 ) -> u32
     requires table { (words.now ≡ K.opened.table) × (pass.old.table ≡ K.opened.table) }
     requires vertex { vertex < graph.now.size }
@@ -76,14 +88,10 @@ fn read_one<K: Name, R: Wait + Abort>(
         panic!(rt; "no stripe has {vertex}")
     };
     assert_eq!(rt; list.as_slice(), graph.neighbours(vertex));
-    assert!(rt;
-        earlier <= at,
-        "{vertex} after {earlier} entries, and then {at}"
-    );
     at
 }
 
-/// Reads the list of a vertex until the last one comes.
+/// Reads the list of a vertex until the last one comes: none is older than the one before.
 fn read_all<K: Name, R: Wait + Abort>(
     rt: &R,
     words: &Words,
@@ -97,7 +105,9 @@ fn read_all<K: Name, R: Wait + Abort>(
 {
     let mut at = 0;
     for _ in rt.forever() {
-        at = read_one(rt, words, stripes, &mut pass, graph, vertex, at);
+        let next = read_one(rt, words, stripes, &mut pass, graph, vertex);
+        assert!(rt; at <= next, "{vertex} after {at} entries, and then {next}");
+        at = next;
         if at == BASE {
             break;
         }
@@ -138,7 +148,7 @@ fn publish_and_read<K: Name + Send + Sync, R: Threads + Wait + Abort + AllocGlob
     );
     for vertex in 0..4u32 {
         assert_eq!(rt;
-            read_one(rt, words, shared, &mut pass, graph, vertex, 0),
+            read_one(rt, words, shared, &mut pass, graph, vertex),
             BASE
         );
     }

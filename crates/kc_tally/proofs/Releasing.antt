@@ -7,24 +7,24 @@ use Rattle.std.proofs.lemmas.Bool.{cases_eq, and_from, and_left, and_right, or_r
 use Rattle.kc_lists.specs.Lists.{Distinct, member}
 use Rattle.kc_lists.proofs.Counting.{member-push, take-not_here, member-push_other, filter-push_yes, filter-push_no, one_if}
 use Rattle.kc_graph.specs.Peeling.{at}
-use Rattle.kc_tally.specs.Taking.{Released}
+use Rattle.kc_tally.specs.Taking.{LetGo}
 
 -- who joins the next layer: a vertex of the level that has one neighbour more left
 abbrev pub joins : List ℕ → ℕ → List ℕ → ℕ → Bool
 joins core level left w = eqb (at core w) level && eqb (at left w) (level + 1)
 
 -- before the first of the list
-pub released_none : (core : List ℕ) (level : ℕ) (left next : List ℕ) → Released core level [] left next left next
+pub released_none : (core : List ℕ) (level : ℕ) (left next : List ℕ) → LetGo core level [] left next left next
 released_none core level left next = record {
   one_each = refl;
   lowered = λ u. omega arith;
   joined = sym (append-nil next);
 }
 
-module _ (core : List ℕ) (level : ℕ) (ws : List ℕ) (w : ℕ) (left next left' next' : List ℕ) (h : Released core level ws left next left' next')
+module _ (core : List ℕ) (level : ℕ) (ws : List ℕ) (w : ℕ) (left next left' next' : List ℕ) (h : LetGo core level ws left next left' next')
     (same : at left w ≡ at left' w) where
   -- `w` is not on the level
-  pub released_skip : at core w ≢ level → Released core level (ws ++ w ∷ []) left next left' next'
+  pub released_skip : at core w ≢ level → LetGo core level (ws ++ w ∷ []) left next left' next'
   released_skip off =
       let other : eqb (at core w) level ≡ false = ne_eqb (at core w) level off in
       record {
@@ -55,7 +55,7 @@ module _ (core : List ℕ) (level : ℕ) (ws : List ℕ) (w : ℕ) (left next le
         ]
 
     -- `w` loses one, and joins the next layer
-    pub released_joins : at left' w ≡ level + 1 → Released core level (ws ++ w ∷ []) left next (set left' w (at left' w - 1)) (next' ++ w ∷ [])
+    pub released_joins : at left' w ≡ level + 1 → LetGo core level (ws ++ w ∷ []) left next (set left' w (at left' w - 1)) (next' ++ w ∷ [])
     released_joins ready = record {
       one_each = length-set left' w (at left' w - 1) ∙ h.one_each;
       lowered = less_one;
@@ -66,7 +66,7 @@ module _ (core : List ℕ) (level : ℕ) (ws : List ℕ) (w : ℕ) (left next le
     }
 
     -- `w` loses one, and joins no layer
-    pub released_stays : at left' w ≢ level + 1 → Released core level (ws ++ w ∷ []) left next (set left' w (at left' w - 1)) next'
+    pub released_stays : at left' w ≢ level + 1 → LetGo core level (ws ++ w ∷ []) left next (set left' w (at left' w - 1)) next'
     released_stays more = record {
       one_each = length-set left' w (at left' w - 1) ∙ h.one_each;
       lowered = less_one;
@@ -77,13 +77,13 @@ module _ (core : List ℕ) (level : ℕ) (ws : List ℕ) (w : ℕ) (left next le
 
 -- one more of the list
 pub released_next : (core : List ℕ) (level : ℕ) (left next left' next' ws : List ℕ) (i : ℕ) → i < length ws
-    → Released core level (take i ws ++ get_or ws i 0 ∷ []) left next left' next' → Released core level (take (i + 1) ws) left next left' next'
+    → LetGo core level (take i ws ++ get_or ws i 0 ∷ []) left next left' next' → LetGo core level (take (i + 1) ws) left next left' next'
 released_next core level left next left' next' ws i l h =
-    subst (λ (t : List ℕ). Released core level t left next left' next') (sym (take_more ws i 0 l)) h
+    subst (λ (t : List ℕ). LetGo core level t left next left' next') (sym (take_more ws i 0 l)) h
 
 -- a vertex whose turn has not come has what it had
 pub released_here : (core : List ℕ) (level : ℕ) (left next left' next' ws : List ℕ) (i : ℕ) → i < length ws → Distinct ws
-    → Released core level (take i ws) left next left' next' → at left (get_or ws i 0) ≡ at left' (get_or ws i 0)
+    → LetGo core level (take i ws) left next left' next' → at left (get_or ws i 0) ≡ at left' (get_or ws i 0)
 released_here core level left next left' next' ws i l d h =
     let w : ℕ = get_or ws i 0 in
     let z : member w (take i ws) && eqb (at core w) level ≡ false = and_left _ _ (take-not_here i ws l d) in

@@ -78,7 +78,12 @@ step-splits : (step r : ℕ) → ◌≡◌ {A = ℕ} (cond (leb step r) 1 0) (co
 step-splits step r = elim (cases_order r step) [
   | inl e ↦ omega (arith, ap one_if (le-leb step r (omega arith)), ap one_if (too_great (step + 1) r (omega arith)), ap one_if (eq-eqb r step e))
   | inr (inl l) ↦
-      omega (arith, ap one_if (too_great step r l), ap one_if (too_great (step + 1) r (omega arith)), ap one_if (ne_eqb r step (λ e. absurd (omega (arith, l, e)))))
+      omega (
+        arith,
+        ap one_if (too_great step r l),
+        ap one_if (too_great (step + 1) r (omega arith)),
+        ap one_if (ne_eqb r step (λ e. absurd (omega (arith, l, e)))),
+      )
   | inr (inr l) ↦
       omega (
         arith,

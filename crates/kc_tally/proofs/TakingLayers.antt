@@ -15,7 +15,7 @@ use Rattle.kc_graph.specs.Neighbours.{AreNeighbours}
 use Rattle.kc_graph.specs.Peeling.{at}
 use Rattle.kc_graph.proofs.Law.{adjacent-sym}
 use Rattle.kc_graph.proofs.PeelingLemmas.{neighbours-distinct}
-use Rattle.kc_tally.specs.Taking.{IsFirstLayer, Released, TakesLayer, are_beside}
+use Rattle.kc_tally.specs.Taking.{IsFirstLayer, LetGo, TakesLayer, are_beside}
 use Rattle.kc_tally.proofs.Releasing.{joins}
 
 -- one more at the end of a list counts where it passes
@@ -34,7 +34,7 @@ takes_none g core left = record {
 }
 
 module _ (g : SimpleGraph) (core taken left left' next : List ℕ) (h : TakesLayer g core taken left left' next) (v : ℕ) (ws left'' next'' : List ℕ)
-    (near : AreNeighbours g v ws) (r : Released core (at core v) ws left' next left'' next'') where
+    (near : AreNeighbours g v ws) (r : LetGo core (at core v) ws left' next left'' next'') where
   -- whether a vertex loses one
   abbrev loses : ℕ → Bool
   loses u = member u ws && eqb (at core u) (at core v)

@@ -9,7 +9,7 @@ abbrev pub are_beside : SimpleGraph → List ℕ → ℕ → ℕ → Bool
 are_beside g core v w = adjacent g v w && at core v == at core w
 
 -- Each of `ws` on the level has lost one. Those that had one more than the level stand at the end of the next layer.
-pub record Released (core : List ℕ) (level : ℕ) (ws left next left' next' : List ℕ) : Type 0 where
+pub record LetGo (core : List ℕ) (level : ℕ) (ws left next left' next' : List ℕ) : Type 0 where
   pub one_each : length left' ≡ length left
   pub lowered : (u : ℕ) → at left u ≡ at left' u + (if member u ws && at core u == level then 1 else 0)
   pub joined : next' ≡ next ++ filter (λ w. at core w == level && at left w == level + 1) ws

@@ -39,6 +39,40 @@ fn count_one(counts: &mut [u32], v: u32)
     counts[v as usize] = counts[v as usize].saturating_add(1);
 }
 
+/// Counts the later neighbour that one edge gives.
+fn count_later(core: &[u32], rank: &[u32], edge: Edge, later: &mut [u32])
+    requires ranked { length rank.now ≡ length core.now }
+    requires later_each { length later.old ≡ length core.now }
+    requires lesser_first { edge.u < edge.v }
+    requires within { edge.v < length core.now }
+    ensures { (v : ℕ) → v < length core.now → slice_index later.new v
+        ≡ capped (slice_index later.old v + (if leads_to (has_lesser_key core.now rank.now v) v edge then 1 else 0)) }
+{
+    if has_lesser_key(core, rank, edge.u, edge.v) {
+        count_one(later, edge.u);
+    } else {
+        count_one(later, edge.v);
+    }
+}
+
+/// Counts the supporters that one edge gives.
+fn count_supporters(core: &[u32], edge: Edge, supporters: &mut [u32])
+    requires supporters_each { length supporters.old ≡ length core.now }
+    requires lesser_first { edge.u < edge.v }
+    requires within { edge.v < length core.now }
+    ensures { (v : ℕ) → v < length core.now → slice_index supporters.new v
+        ≡ capped (slice_index supporters.old v
+        + (if leads_to (λ w. nat_le (slice_index core.now v) (slice_index core.now w)) v edge then 1 else 0)) }
+{
+    let (core_u, core_v) = (core[edge.u as usize], core[edge.v as usize]);
+    if core_u <= core_v {
+        count_one(supporters, edge.u);
+    }
+    if core_v <= core_u {
+        count_one(supporters, edge.v);
+    }
+}
+
 /// Counts what one edge gives its ends.
 fn count_edge(core: &[u32], rank: &[u32], edge: Edge, later: &mut [u32], supporters: &mut [u32])
     requires ranked { length rank.now ≡ length core.now }
@@ -52,16 +86,8 @@ fn count_edge(core: &[u32], rank: &[u32], edge: Edge, later: &mut [u32], support
         ≡ capped (slice_index supporters.old v
         + (if leads_to (λ w. nat_le (slice_index core.now v) (slice_index core.now w)) v edge then 1 else 0)) }
 {
-    let (first, second) = if has_lesser_key(core, rank, edge.u, edge.v) {
-        (edge.u, edge.v)
-    } else {
-        (edge.v, edge.u)
-    };
-    count_one(later, first);
-    count_one(supporters, first);
-    if core[first as usize] == core[second as usize] {
-        count_one(supporters, second);
-    }
+    count_later(core, rank, edge, later);
+    count_supporters(core, edge, supporters);
 }
 
 /// Counts what edges give their ends.

@@ -11,7 +11,7 @@ ghost use Rattle.kc_graph.specs.Peeling.{as_high, at};
 ghost use Rattle.kc_graph.specs.declared.bulk.Edge.{Edge};
 ghost use Rattle.kc_tally.specs.Layers.{AreLayers};
 ghost use Rattle.kc_tally.specs.Lists.{ListsEachOnce};
-ghost use Rattle.kc_tally.specs.Taking.{IsFirstLayer, Released, TakesLayer, are_beside};
+ghost use Rattle.kc_tally.specs.Taking.{IsFirstLayer, LetGo, TakesLayer, are_beside};
 ghost use Rattle.kc_tally.specs.Tallies.{AreBetween, AreTallied};
 
 use kc_graph::{Graph, NoMemory};
@@ -89,7 +89,7 @@ fn release_each(
     requires within { (w : ℕ) → member w neighbours.now ≡ true → w < length left.old }
     requires one_each { length left.old ≡ length core.now }
     requires some_left { (w : ℕ) → member w neighbours.now ≡ true → at core.now w ≡ level → 0 < at left.old w }
-    ensures { OnOk result (Released core.now level neighbours.now left.old next.old.items left.new next.new.items) }
+    ensures { OnOk result (LetGo core.now level neighbours.now left.old next.old.items left.new next.new.items) }
 {
     for w in neighbours {
         if core[*w as usize] == level {
