@@ -18,7 +18,8 @@ returns-in_err-receipt-clause-continues g c =
 pub returns-in_err-receipt-clause-cause : goal.returns-in_err-receipt-clause-cause
 returns-in_err-receipt-clause-cause g c =
     handed-on g.K.Name.opened c.args.worker.now.log c.attempts.worker.log
-    c.attempt.new.worker.log c.args.self.now.assignment.index c.args.self.now.assignment.update c.in_err-receipt.field-0.0 c.from_residual.result c.from_residual.ensures.1
+    c.attempt.new.worker.log c.args.self.now.assignment.index c.args.self.now.assignment.update c.in_err-receipt.field-0.0
+    c.from_residual.result c.from_residual.ensures.1
     c.attempts.invariant.longer c.in_err-receipt.ensures.cause
 
 pub returns-in-Entered-clause-continues : goal.returns-in-Entered-clause-continues
@@ -28,7 +29,8 @@ returns-in-Entered-clause-continues g c =
 pub returns-in-Entered-clause-misses : goal.returns-in-Entered-clause-misses
 returns-in-Entered-clause-misses g c =
     misses-stay g.K.Name.opened c.args.worker.now.log c.attempts.worker.log
-    c.attempt.new.worker.log c.attempts.misses.items c.attempt.ensures.continues.legal c.attempts.invariant.longer c.attempt.ensures.continues.longer c.attempts.invariant.all
+    c.attempt.new.worker.log c.attempts.misses.items c.attempt.ensures.continues.legal
+    c.attempts.invariant.longer c.attempt.ensures.continues.longer c.attempts.invariant.all
 
 pub returns-in-Entered-clause-entered : goal.returns-in-Entered-clause-entered
 returns-in-Entered-clause-entered g c =
@@ -43,8 +45,10 @@ attempts-preserved g c =
     let o : Opened = g.K.Name.opened in
     let start : List Event = c.args.worker.now.log in
     let log : List Event = c.attempt.new.worker.log in
-    let miss = subst (IsAttempt o c.attempts.worker.log log c.args.self.now.assignment.index c.args.self.now.assignment.update) c.in-Missed.is c.in_ok-receipt.ensures.attempt in
-    let all = one-more o start c.attempts.worker.log log c.attempts.misses.items c.in-Missed.missed c.attempt.ensures.continues.legal c.attempts.invariant.longer
+    let miss = subst (IsAttempt o c.attempts.worker.log log c.args.self.now.assignment.index c.args.self.now.assignment.update) c.in-Missed.is
+    c.in_ok-receipt.ensures.attempt in
+    let all = one-more o start c.attempts.worker.log log c.attempts.misses.items
+    c.in-Missed.missed c.attempt.ensures.continues.legal c.attempts.invariant.longer
     c.attempt.ensures.continues.longer c.attempts.invariant.all miss in
     let items : c.push.new.self.items ≡ c.attempts.misses.items ++ c.in-Missed.missed ∷ [] = search rules in
     record {
