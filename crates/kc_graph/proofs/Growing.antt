@@ -13,23 +13,21 @@ use Rattle.kc_lists.specs.Lists.{member}
 use Rattle.kc_graph.specs.SimpleGraph.{SimpleGraph}
 use Rattle.kc_graph.specs.Rows.{HoldsEdges, IsAdjacency, graph_of, pairs_from, row}
 use Rattle.kc_graph.specs.Growing.{HasItsEnds, with_vertices}
-use Rattle.kc_graph.proofs.RowsLemmas.{adjacent-view, row-replicate, size-view}
+use Rattle.kc_graph.proofs.RowsLemmas.{adjacent-view, pairs_from-none, row-replicate, size-view}
 
 -- no neighbours
 abbrev nobody : List ℕ
 nobody = []
 
+-- rows that are empty change no row
 row-more : (rows : List (List ℕ)) (n v : ℕ) → row (rows ++ replicate n []) v ≡ row rows v
 row-more [] n v = row-replicate n v
 row-more (r ∷ rows) n zero = refl
 row-more (r ∷ rows) n (suc v) = row-more rows n v
 
-pairs-none : (first n : ℕ) → pairs_from first (replicate n []) ≡ []
-pairs-none first zero = refl
-pairs-none first (suc n) = pairs-none (first + 1) n
-
+-- rows that are empty add no pair
 pairs-more : (first : ℕ) (rows : List (List ℕ)) (n : ℕ) → pairs_from first (rows ++ replicate n []) ≡ pairs_from first rows
-pairs-more first [] n = pairs-none first n
+pairs-more first [] n = pairs_from-none first n
 pairs-more first (r ∷ rows) n = ap (λ (ps : List (ℕ × ℕ)). map (λ w. (first, w)) (filter (nat_lt first) r) ++ ps) (pairs-more (first + 1) rows n)
 
 -- the graph of more rows that are empty
@@ -40,6 +38,7 @@ graph-more rows n = λ i. record {
   edges = from_list (pairs-more 0 rows n i);
 }
 
+-- rows that are empty add no entry
 sum-more : (rows : List (List ℕ)) (n : ℕ) → sum_by length (rows ++ replicate n nobody) ≡ sum_by length rows
 sum-more rows n = omega (arith, sum_by-append length rows (replicate n nobody), sum_by-replicate length n nobody)
 

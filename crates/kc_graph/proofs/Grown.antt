@@ -18,8 +18,8 @@ none-counted p [] h = refl
 none-counted p (x ∷ xs) h = count-no p x xs (h x) ∙ none-counted p xs h
 
 -- a listed vertex is a vertex
-listed-low : (n : ℕ) (order : List ℕ) → Enumerates n order → (v : ℕ) → member v order ≡ true → v < n
-listed-low n order e v m = let (k, low, is) = Contains-from_member order v m in omega (arith, e.below k v low, is)
+pub order-below : (n : ℕ) (order : List ℕ) → Enumerates n order → (v : ℕ) → member v order ≡ true → v < n
+order-below n order e v m = let (k, low, is) = Contains-from_member order v m in omega (arith, e.below k v low, is)
 
 -- what has no edges has no neighbours
 no-neighbours : (g : SimpleGraph) → HasItsEnds g → (w : ℕ) → adjacent g g.size w ≡ false
@@ -44,7 +44,7 @@ module _ (s : Ranked) (ends : HasItsEnds s.graph) (c : IsCertified s) where
 
   not-here : member s.graph.size s.order ≡ false
   not-here = elim (cases_Bool (member s.graph.size s.order)) [
-    | inl t ↦ absurd (omega (arith, listed-low s.graph.size s.order c.enumerates s.graph.size t))
+    | inl t ↦ absurd (omega (arith, order-below s.graph.size s.order c.enumerates s.graph.size t))
     | inr f ↦ f
   ]
 
@@ -96,7 +96,7 @@ module _ (s : Ranked) (ends : HasItsEnds s.graph) (c : IsCertified s) where
         ≡ count_by (λ w. adjacent s.graph v w && nat_le (get_or (s.core ++ 0 ∷ []) v 0) (get_or (s.core ++ 0 ∷ []) w 0)) s.order =
         count-agree (λ w. adjacent s.graph v w && nat_le (get_or s.core v 0) (get_or s.core w 0))
         (λ w. adjacent s.graph v w && nat_le (get_or (s.core ++ 0 ∷ []) v 0) (get_or (s.core ++ 0 ∷ []) w 0)) s.order
-        (λ w m i. adjacent s.graph v w && nat_le (sym (old-core v high) i) (sym (old-core w (listed-low s.graph.size s.order c.enumerates w m)) i)) in
+        (λ w m i. adjacent s.graph v w && nat_le (sym (old-core v high) i) (sym (old-core w (order-below s.graph.size s.order c.enumerates w m)) i)) in
         omega (
           arith,
           c.enough_as_high v high,

@@ -163,7 +163,7 @@ IsAdjacency-none n = record {
 }
 
 -- rows without a neighbour give no pair
-pairs_from-none : (u n : ℕ) → pairs_from u (replicate n []) ≡ []
+pub pairs_from-none : (u n : ℕ) → pairs_from u (replicate n []) ≡ []
 pairs_from-none u zero = refl
 pairs_from-none u (suc n) = pairs_from-none (u + 1) n
 

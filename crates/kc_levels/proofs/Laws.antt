@@ -24,7 +24,7 @@ use Rattle.kc_levels.specs.Heads.{with_heads, after_puts, under, up_to}
 use Rattle.kc_levels.specs.Levels.{Levelled, OpensSection, size_of}
 use Rattle.kc_levels.specs.Makes.{AreLevelsOf, IsFresh, Makes, MayMake, as_ranked, puts_of, backwards}
 use Rattle.kc_levels.proofs.Planned.{moves-made}
-use Rattle.kc_levels.proofs.Opening.{order-below}
+use Rattle.kc_graph.proofs.Grown.{order-below}
 use Rattle.kc_levels.proofs.Steps.{both-distinct, Distinct-apart, Distinct-backwards, member-backwards, has-both}
 
 -- in a certified state each core number is below the number of vertices

@@ -7,13 +7,14 @@ use Rattle.std.proofs.lemmas.List.{take_more, take_all}
 use Rattle.std.proofs.lemmas.List.Elements.{filter-append}
 use Rattle.kc_lists.specs.Lists.{member, Distinct}
 use Rattle.kc_lists.proofs.Members.{member-tail, member-cases, member-append, member-append_left, member-append_right, append-not_member}
-use Rattle.kc_lists.proofs.Counting.{filter-member, member-push_cases, Distinct-filter, member-from_Contains, below-member}
+use Rattle.kc_lists.proofs.Counting.{filter-member, member-push_cases, Distinct-filter, member-from_Contains}
 use Rattle.kc_lists.proofs.Shared.{Distinct-append}
 use Rattle.kc_words.specs.VertexWord.{vertex_of, vertex_word}
 use Rattle.kc_words.specs.declared.shape.Shape.{Shape}
 use Rattle.kc_words.specs.declared.layout.TheConstants.{STAMP_BITS, VERTICES}
 use Rattle.kc_graph.specs.Certificate.{Enumerates}
-use Rattle.kc_cert.proofs.Ordered.{order-distinct, order-has}
+use Rattle.kc_graph.proofs.Grown.{order-below}
+use Rattle.kc_cert.proofs.Ordered.{order-distinct}
 use Rattle.kc_table.specs.Log.{PassSeen, Seen, TableName}
 use Rattle.kc_table.specs.TableState.{TableState, state_of, opened, first_vertex}
 use Rattle.kc_table.specs.Legal.{Legal, FollowsNote}
@@ -180,10 +181,6 @@ parts-member n v j part k (suc count) low high m = elim (cases_eq k j) [
       (member-append_right v (part k) (parts_from n part (suc k) count)
       (parts-member n v j part (suc k) count (omega (arith, low, ne)) (omega (arith, high)) m))
 ]
-
--- an order has vertices alone
-pub order-below : (n : ℕ) (order : List ℕ) → Enumerates n order → (y : ℕ) → member y order ≡ true → y < n
-order-below n order h y m = below-member y n (sym (order-has n order h y) ∙ m)
 
 -- distinct items below 2n + 1, each vertex among them
 pub record IsItems (n : ℕ) (list : List ℕ) : Type 0 where

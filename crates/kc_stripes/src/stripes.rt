@@ -75,12 +75,7 @@ impl<K: Name> LockedStripe<K> {
     }
 
     /// Puts a list of a vertex. `NoMemory` where it doesn't belong to this stripe, which then stays as it is.
-    fn publish(
-        &mut self,
-        words: &Words,
-        pass: &mut Pass,
-        list: UsedEdges,
-    ) -> Result<(), NoMemory>
+    fn publish(&mut self, words: &Words, pass: &mut Pass, list: UsedEdges) -> Result<(), NoMemory>
         requires table { (words.now ≡ K.opened.table) × (pass.old.table ≡ K.opened.table) }
         requires was { WasList K.opened.table K.opened.edges pass.old.log list }
         ensures table { pass.new.table ≡ pass.old.table }

@@ -147,10 +147,7 @@ fn publish_and_read<K: Name + Send + Sync, R: Threads + Wait + Abort + AllocGlob
         { read_all(rt, words, shared, second, graph, 3) },
     );
     for vertex in 0..4u32 {
-        assert_eq!(rt;
-            read_one(rt, words, shared, &mut pass, graph, vertex),
-            BASE
-        );
+        assert_eq!(rt; read_one(rt, words, shared, &mut pass, graph, vertex), BASE);
     }
 }
 

@@ -1,7 +1,8 @@
 -- The list that was built is that of the levels, and each vertex word has its stamp and its level.
 use Rattle.std.proofs.Common.{ℕ, List, length, get_or, refl, sym, subst, ap, ◌∙◌}
 use Rattle.kc_levels.specs.Levels.{IsTop}
-use Rattle.kc_levels.proofs.Opening.{order-below, list-items, stamp-opens, open-leaves}
+use Rattle.kc_graph.proofs.Grown.{order-below}
+use Rattle.kc_levels.proofs.Opening.{list-items, stamp-opens, open-leaves}
 use Rattle.kc_levels.proofs.Topping.{greatest-is_top}
 use Rattle.kc_levels.proofs.levels.Levels.open.Goals as goal
 
