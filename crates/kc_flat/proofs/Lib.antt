@@ -1,6 +1,7 @@
 pub mod Binning
 pub mod Cutting
 pub mod Holding
+pub mod Listed
 pub mod Packed
 pub mod Pairing
 pub mod Sorted

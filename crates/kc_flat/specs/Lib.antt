@@ -1,4 +1,5 @@
 -- What public contracts speak of.
+pub mod Listing
 pub mod Pairs
 -- What the crate's own functions and invariants speak of.
 pub mod Bins

@@ -1,11 +1,12 @@
 //! A graph in one array.
-ghost use Rattle.std.specs.Prelude.{◌≡◌, ◌<◌, ◌^◌, ℕ, length, map, IfOk, List};
+ghost use Rattle.std.specs.Prelude.{◌≡◌, ◌<◌, ◌^◌, ◌++◌, ℕ, length, map, All, IfOk, List, OnOk};
 ghost use Rattle.std.specs.List.Sorted.{IsStrictlyIncreasing, IsNonDecreasing};
 ghost use Rattle.std.specs.FinSet as set;
 ghost use Rattle.kc_lists.specs.Lists.{member};
 ghost use Rattle.kc_graph.specs.Bulk.{are_joined, graph_with};
 ghost use Rattle.kc_graph.specs.Gathering.{edge_of};
 ghost use Rattle.kc_graph.specs.Neighbours.{AreNeighbours};
+ghost use Rattle.kc_flat.specs.Listing.{edge_list, edges_to_greater};
 ghost use Rattle.kc_flat.specs.Pairs.{AreWithin};
 ghost use Rattle.kc_flat.specs.Parts.{part, Fills};
 
@@ -52,6 +53,18 @@ fn sorted_ends(alloc: Global, vertices: u32, pairs: &[(u32, u32)]) -> Result<Gat
     Ok(gathered)
 }
 
+/// Puts the edges from a vertex to those of its neighbours that are greater behind others.
+fn push_greater(v: u32, neighbours: &[u32], edges: &mut Vec<(u32, u32)>) -> Result<(), NoMemory>
+    ensures { OnOk result (edges.new.items ≡ edges.old.items ++ edges_to_greater v neighbours.now) }
+{
+    for w in neighbours {
+        if v < *w {
+            edges.push((v, *w))?;
+        }
+    }
+    Ok(())
+}
+
 impl FlatGraph {
     /// The graph with this number of vertices and these pairs as its edges, in time linear in both but for the sorting of each vertex's
     /// neighbours. The pairs come in any order, with either end first. A loop is dropped, and a pair that is listed again, in either
@@ -95,5 +108,19 @@ impl FlatGraph {
         ensures { AreNeighbours self.now v result.now }
     {
         part_of(&self.block, &self.ends, v as usize)
+    }
+    /// The edges, each once with its lesser end first, ascending by this end and then by the other one. The list takes 8 bytes an edge,
+    /// and `NoMemory` comes where there is none for it. The clauses say also that it has pairs of two vertices, and that its set is that of the
+    /// edges.
+    pub fn edge_list(&self, alloc: Global) -> Result<Vec<(u32, u32)>, NoMemory>
+        ensures list { IfOk result (λ edges. edges.items ≡ edge_list self.now) }
+        ensures within { IfOk result (λ edges. All (λ p. (p.0 < p.1) × (p.1 < self.now.size)) edges.items) }
+        ensures whole { IfOk result (λ edges. self.now ≡ record { size = self.now.size; edges = set.from_list edges.items }) }
+    {
+        let mut edges = Vec::with_capacity(alloc, self.block.len() / 2)?;
+        for v in 0..self.vertices() {
+            push_greater(v, self.neighbours(v), &mut edges)?;
+        }
+        Ok(edges)
     }
 }

@@ -1,0 +1,7 @@
+-- What is behind the others are the edges to the greater ones so far.
+use Rattle.std.proofs.Common.{◌≡◌, ◌++◌, take}
+use Rattle.kc_flat.specs.Listing.{edges_to_greater}
+use Rattle.kc_flat.proofs.graph.push_greater.Given as goal
+
+abbrev pub invariant-loop-w : goal.invariant-loop-w
+invariant-loop-w l = l.edges.items ≡ l.initial.edges.items ++ edges_to_greater l.v (take l.w-index l.neighbours)
