@@ -8,7 +8,7 @@ use Rattle.kc_graph.specs.Core.{AreCoreNumbers}
 use Rattle.kc_graph.specs.SimpleGraph.{SimpleGraph}
 use Rattle.kc_text.specs.declared.kind.Kind.{Kind}
 use Rattle.kc_text.specs.Meaning.{Means, Refuses, Told}
-use Rattle.kc_cores.specs.Answers.{graph_meaning, summary_line, task_lines}
+use Rattle.kc_cores.specs.Answers.{AreLinesFor, graph_meaning, summary_line}
 use Rattle.kc_cores.specs.CoresEnded.{CoresEnded, FaultsAt, IsAnswerTo, IsLineAt, TookAt, WriteFaultsAt, given_bytes}
 use Rattle.kc_cores.specs.Inputs.{IsGraphOf, known_bytes}
 use Rattle.kc_cores.specs.Sentences.{write_fault_line}
@@ -62,10 +62,10 @@ complete-of status.Refused task file known before after line bytes told right to
     absurd (clash bytes told n kind means (of_known (λ b. graph_meaning b ≡ Refuses n kind) known bytes here refuses))
 
 -- the graph of the bytes that were read has these lines and this summary
-IsAnswerTo-graph : (task : Task) (file : Option (List ℕ)) (ids core summary : List ℕ) (g : SimpleGraph) (known : Option (List ℕ))
-    → IsGraphOf known ids g → AreCoreNumbers g core → summary ≡ summary_line g core
-    → IsAnswerTo (Asks task file) known (task_lines task ids g core) summary
-IsAnswerTo-graph task file ids core summary g known graph numbers sums = (
+IsAnswerTo-graph : (task : Task) (file : Option (List ℕ)) (ids core text summary : List ℕ) (g : SimpleGraph) (known : Option (List ℕ))
+    → IsGraphOf known ids g → AreCoreNumbers g core → AreLinesFor task ids g core text → summary ≡ summary_line g core
+    → IsAnswerTo (Asks task file) known text summary
+IsAnswerTo-graph task file ids core text summary g known graph numbers lines sums = (
   graph.bytes,
   graph.read,
   record {
@@ -75,7 +75,7 @@ IsAnswerTo-graph task file ids core summary g known graph numbers sums = (
     named = graph.named;
     core = core;
     numbers = subst (λ (h : SimpleGraph). AreCoreNumbers h core) graph.is numbers;
-    is = ap (λ (h : SimpleGraph). task_lines task ids h core) graph.is;
+    is = subst (λ (h : SimpleGraph). AreLinesFor task ids h core text) graph.is lines;
     sums = sums ∙ ap (λ (h : SimpleGraph). summary_line h core) graph.is;
   },
 )
@@ -112,37 +112,40 @@ module _ {I O : Type 0} (source : sources.Ghosts I) (behind : I → List ℕ →
   }
 
   -- a run whose lines were taken has ended as it should
-  pub CoresEnded-done : (task : Task) (file : Option (List ℕ)) (ids core summary : List ℕ) (g : SimpleGraph) (i i' : I) (o o' : O)
-      → IsGraphOf (known_bytes source.left behind file i) ids g → AreCoreNumbers g core → summary ≡ summary_line g core → IsAtEnd (source.left i')
-      → source.faults i' ≡ source.faults i → Appends (out.taken o) (out.taken o') (task_lines task ids g core) → out.faults o' ≡ out.faults o
+  pub CoresEnded-done : (task : Task) (file : Option (List ℕ)) (ids core text summary : List ℕ) (g : SimpleGraph) (i i' : I) (o o' : O)
+      → IsGraphOf (known_bytes source.left behind file i) ids g → AreCoreNumbers g core → AreLinesFor task ids g core text
+      → summary ≡ summary_line g core → IsAtEnd (source.left i') → source.faults i' ≡ source.faults i
+      → Appends (out.taken o) (out.taken o') text → out.faults o' ≡ out.faults o
       → CoresEnded source behind out (Asks task file) status.Done summary i i' o o'
-  CoresEnded-done task file ids core summary g i i' o o' graph numbers sums ended faultless took kept =
-      let answer : IsAnswerTo (Asks task file) (known_bytes source.left behind file i) (task_lines task ids g core) summary =
-      IsAnswerTo-graph task file ids core summary g (known_bytes source.left behind file i) graph numbers sums in
+  CoresEnded-done task file ids core text summary g i i' o o' graph numbers lines sums ended faultless took kept =
+      let answer : IsAnswerTo (Asks task file) (known_bytes source.left behind file i) text summary =
+      IsAnswerTo-graph task file ids core text summary g (known_bytes source.left behind file i) graph numbers lines sums in
       CoresEnded-asks task file status.Done summary i i' o o' (record {
         right = λ e. absurd (cc);
         asked = λ e. absurd (cc);
         read = λ _. ended;
-        took = (task_lines task ids g core, (summary, answer), took);
-        says = (task_lines task ids g core, answer);
+        took = (text, (summary, answer), took);
+        says = (text, answer);
         faults = faultless;
         write_faults = kept;
       })
 
   -- a run a prefix of whose lines was taken has ended as it should
-  pub CoresEnded-cut : (task : Task) (file : Option (List ℕ)) (ids core summary : List ℕ) (g : SimpleGraph) (line : List ℕ) (i i' : I) (o o' : O)
-      → IsGraphOf (known_bytes source.left behind file i) ids g → AreCoreNumbers g core → summary ≡ summary_line g core
-      → source.faults i' ≡ source.faults i
-      → ((n : ℕ) × (n ≤ length (task_lines task ids g core)) × Appends (out.taken o) (out.taken o') (take n (task_lines task ids g core)))
+  pub CoresEnded-cut : (task : Task) (file : Option (List ℕ)) (ids core text summary : List ℕ) (g : SimpleGraph) (line : List ℕ)
+      (i i' : I) (o o' : O)
+      → IsGraphOf (known_bytes source.left behind file i) ids g → AreCoreNumbers g core → AreLinesFor task ids g core text
+      → summary ≡ summary_line g core → source.faults i' ≡ source.faults i
+      → ((n : ℕ) × (n ≤ length text) × Appends (out.taken o) (out.taken o') (take n text))
       → Rose (out.faults o) (out.faults o') → line ≡ write_fault_line
       → CoresEnded source behind out (Asks task file) status.WriteFault line i i' o o'
-  CoresEnded-cut task file ids core summary g line i i' o o' graph numbers sums faultless took rose is =
+  CoresEnded-cut task file ids core text summary g line i i' o o' graph numbers lines sums faultless took rose is =
+      let answer : IsAnswerTo (Asks task file) (known_bytes source.left behind file i) text summary =
+      IsAnswerTo-graph task file ids core text summary g (known_bytes source.left behind file i) graph numbers lines sums in
       CoresEnded-asks task file status.WriteFault line i i' o o' (record {
         right = λ e. absurd (cc);
         asked = λ e. absurd (cc);
         read = λ e. absurd (cc);
-        took =
-            (task_lines task ids g core, (summary, IsAnswerTo-graph task file ids core summary g (known_bytes source.left behind file i) graph numbers sums), took);
+        took = (text, (summary, answer), took);
         says = is;
         faults = faultless;
         write_faults = rose;

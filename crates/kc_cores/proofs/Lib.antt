@@ -1,5 +1,7 @@
 pub mod Ended
 pub mod Graphs
+pub mod Placing
 pub mod Paging
 pub mod Replies
+pub mod Sizing
 pub mod Stopping

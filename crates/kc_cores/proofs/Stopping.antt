@@ -30,7 +30,8 @@ pub HasNoGraph-refused : (e : Ending) (n : ℕ) (kind : Kind) (known : Option (L
 HasNoGraph-refused e n kind known f f' h m kept = refused-no_graph e.status (line_of e) n kind known f f' h m kept
 
 -- too many bytes are refused as a whole
-pub too_long_refuses : (known : Option (List ℕ)) → IfSome known (λ all. GRAPH.bytes < length all) → IfSome known (λ bytes. graph_meaning bytes ≡ Refuses 0 TooLong)
+pub too_long_refuses : (known : Option (List ℕ)) → IfSome known (λ all. GRAPH.bytes < length all)
+    → IfSome known (λ bytes. graph_meaning bytes ≡ Refuses 0 TooLong)
 too_long_refuses None h = tt
 too_long_refuses (Some all) h =
     graph_meaning-is all (Refuses 0 TooLong)

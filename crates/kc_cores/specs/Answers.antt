@@ -1,30 +1,54 @@
 -- The lines that each task has for the graph of a text.
-use Rattle.std.specs.Prelude.{◌≡◌, ◌++◌, ℕ, List, [], ◌∷◌, codes, decimal, if◌then◌else◌, length, nat_eq}
+use Rattle.std.specs.Prelude.{◌≡◌, ◌+◌, ◌++◌, ◌&&◌, ◌==◌, ℕ, Bool, List, [], ◌∷◌, codes, decimal, filter, length, nat_le}
 use Rattle.std.specs.FinSet as set
-use Rattle.std.specs.List.{flat_map, zip}
+use Rattle.std.specs.List.{flat_map}
+use Rattle.kc_flat.specs.Listing.{ascending_below, edge_list}
 use Rattle.kc_graph.specs.Core.{AreCoreNumbers, greatest}
+use Rattle.kc_graph.specs.Peeling.{at}
 use Rattle.kc_graph.specs.SimpleGraph.{SimpleGraph}
 use Rattle.kc_text.specs.Inputs.{AreIds, start_graph}
 use Rattle.kc_text.specs.Meaning.{Means, Meaning, Told, meaning, names}
 use Rattle.kc_text.specs.declared.limits.TheConstants.Limits.{GRAPH}
+use Rattle.kc_cores.specs.Lines.{pair_line, quadruple_line}
 use Rattle.kc_cores.specs.declared.request.Task.{Task}
-use Rattle.kc_cores.specs.declared.request.Task.TheVariants.{Numbers}
+use Rattle.kc_cores.specs.declared.request.Task.TheVariants.{Numbers, Sizes}
 
 -- what the text of a graph means: there may be no batch line, and all else may be as much as numbers count
 unfoldable pub graph_meaning : List ℕ → Meaning
 graph_meaning bytes = meaning GRAPH bytes
 
--- an id, a tab and its core number
-abbrev pub number_line : ℕ × ℕ → List ℕ
-number_line entry = decimal entry.0 ++ (9 ∷ [] ++ (decimal entry.1 ++ 10 ∷ []))
+-- whether a vertex is in the k-core: its core number is k or more
+abbrev pub is_in_core : List ℕ → ℕ → ℕ → Bool
+is_in_core core k v = nat_le k (at core v)
 
--- a line for each vertex
-abbrev pub number_lines : List ℕ → List ℕ → List ℕ
-number_lines ids core = flat_map number_line (zip ids core)
+-- the vertices of the k-core, ascending
+abbrev pub core_vertices : SimpleGraph → List ℕ → ℕ → List ℕ
+core_vertices g core k = filter (is_in_core core k) (ascending_below g.size)
 
--- the lines of a task for a graph with these core numbers, whose vertices stand for these ids
-abbrev pub task_lines : Task → List ℕ → SimpleGraph → List ℕ → List ℕ
-task_lines Numbers ids g core = number_lines ids core
+-- the edges of the k-core: those with both ends in it
+abbrev pub core_edges : SimpleGraph → List ℕ → ℕ → List (ℕ × ℕ)
+core_edges g core k = filter (λ e. is_in_core core k e.0 && is_in_core core k e.1) (edge_list g)
+
+-- the vertices with the core number k, ascending: the k-shell
+abbrev pub shell : SimpleGraph → List ℕ → ℕ → List ℕ
+shell g core k = filter (λ v. k == at core v) (ascending_below g.size)
+
+-- for each vertex its id and its core number
+abbrev pub number_lines : List ℕ → SimpleGraph → List ℕ → List ℕ
+number_lines ids g core = flat_map (λ v. pair_line (at ids v) (at core v)) (ascending_below g.size)
+
+-- k, how many vertices have the core number k, and how many vertices and edges the k-core has
+abbrev pub size_line : SimpleGraph → List ℕ → ℕ → List ℕ
+size_line g core k = quadruple_line k (length (shell g core k)) (length (core_vertices g core k)) (length (core_edges g core k))
+
+-- that for each k up to the greatest core number
+abbrev pub size_lines : SimpleGraph → List ℕ → List ℕ
+size_lines g core = flat_map (size_line g core) (ascending_below (greatest core + 1))
+
+-- the text has the lines of a task for a graph with these core numbers, whose vertices stand for these ids
+abbrev pub AreLinesFor : Task → List ℕ → SimpleGraph → List ℕ → List ℕ → Type 0
+AreLinesFor Numbers ids g core text = text ≡ number_lines ids g core
+AreLinesFor Sizes ids g core text = text ≡ size_lines g core
 
 -- `vertices N edges M top T`
 abbrev pub summary_line : SimpleGraph → List ℕ → List ℕ
@@ -39,5 +63,5 @@ pub record IsTextFor (task : Task) (bytes text summary : List ℕ) : Type 0 wher
   pub named : AreIds (names told) ids
   pub core : List ℕ
   pub numbers : AreCoreNumbers (start_graph ids told.edges) core
-  pub is : text ≡ task_lines task ids (start_graph ids told.edges) core
+  pub is : AreLinesFor task ids (start_graph ids told.edges) core text
   pub sums : summary ≡ summary_line (start_graph ids told.edges) core

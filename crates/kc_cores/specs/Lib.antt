@@ -2,9 +2,12 @@
 pub mod Answers
 pub mod CoresEnded
 pub mod Inputs
+pub mod Lines
 pub mod Numbers
 pub mod Sentences
 pub mod Wishes
 -- What the crate's own functions and invariants speak of.
 pub mod Endings
+pub mod Listings
 pub mod Pages
+pub mod Sizes

@@ -11,7 +11,7 @@ use Rattle.kc_cores.specs.declared.input.OpenFault.TheVariants.{Missing, Folder,
 abbrev pub sentence_of : Kind → List ℕ
 sentence_of NotANumber = codes "a field is not a whole number; write two ids of decimal digits, or begin the line with # if it is a comment"
 sentence_of MissingField = codes "the second id is missing; write two ids with a blank or a tab between them"
-sentence_of ExtraField = codes "there is more than two ids; keep the two columns with the ids of the ends"
+sentence_of ExtraField = codes "there are more than two ids; keep the two columns with the ids of the ends"
 sentence_of NumberTooLarge = codes "an id is greater than 4294967295; number the vertices anew with smaller ids"
 sentence_of LoopInBatch = codes "a change names one id twice; remove the line"
 sentence_of UpdateOutsideBatch = codes "this is a change of a graph; cores takes edges alone, and kcore takes changes after a line batch"

@@ -8,24 +8,27 @@ use Rattle.clap.specs.Walk.{Row, Text, first_of, is_empty}
 use Rattle.clap.specs.declared.error.kind.ErrorKind.{ErrorKind}
 use Rattle.clap.specs.declared.error.kind.ErrorKind.TheVariants.{DisplayHelp, DisplayVersion, InvalidSubcommand}
 use Rattle.kc_cores.specs.declared.request.Task.{Task}
-use Rattle.kc_cores.specs.declared.request.Task.TheVariants.{Numbers}
+use Rattle.kc_cores.specs.declared.request.Task.TheVariants.{Numbers, Sizes}
 
 -- the command of a task, which takes the name of a file
 abbrev pub task_command : Text → App
 task_command name = with_rule (new_app name) (new_rule (codes "FILE"))
 
--- The command that reads the words, with a command of its own for each task. The words are those after the program's name.
-abbrev pub cores_command : App
-cores_command =
-    with_subcommand
-    (on_top (λ top. record top {
+-- The command that reads the words, without those of the tasks. The words are those after the program's name.
+abbrev pub bare_command : App
+bare_command =
+    on_top (λ top. record top {
       has_version = true;
       no_binary_name = true;
       subcommand_required = true;
       arg_required_else_help = true;
       disable_help_subcommand = true;
-    }) (new_app (codes "cores")))
-    (task_command (codes "numbers")).top
+    }) (new_app (codes "cores"))
+
+-- the command that reads the words, with a command of its own for each task
+abbrev pub cores_command : App
+cores_command =
+    with_subcommand (with_subcommand bare_command (task_command (codes "numbers")).top) (task_command (codes "sizes")).top
 
 -- What words ask for: a task for the graph of a file, or of standard input where no file is named. Or they ask for help or the version, or
 -- are not right: then `clap` replies with a text of one of these kinds.
@@ -35,7 +38,10 @@ pub data Wish : Type 0 where
 
 -- the task that a command is for
 abbrev pub task_named : Text → Option Task
-task_named name = if bytes_eq name (codes "numbers") then Some Numbers else None
+task_named name =
+    if bytes_eq name (codes "numbers") then Some Numbers
+    else if bytes_eq name (codes "sizes") then Some Sizes
+    else None
 
 -- the file that a word names: `-` is standard input
 abbrev pub file_named : Option Text → Option Text

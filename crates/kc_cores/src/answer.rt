@@ -2,63 +2,44 @@
 ghost use Rattle.std.specs.Prelude.{◌≡◌, ◌≤◌, ℕ, List, [], IfErr, IfOk, OnErr, OnOk, length, map, string_bytes, take};
 ghost use Rattle.std.specs.Io.KnownBytes.{Appends};
 ghost use Rattle.kc_io.specs.Causes.{HasCause};
-ghost use Rattle.kc_cores.specs.Answers.{task_lines};
 ghost use Rattle.kc_cores.specs.CoresEnded.{CoresEnded, ToldLine};
 ghost use Rattle.kc_cores.specs.Endings.{RepliesTo, file_of, line_of};
-ghost use Rattle.kc_cores.specs.Pages.{PassesOn, PassesPart};
+ghost use Rattle.kc_cores.specs.Listings.{Fits, listing_lines};
 ghost use Rattle.kc_cores.specs.Wishes.{Asks, Wish, wish_of};
 
 use crate::ending::{Ending, finish};
 use crate::input::FileInput;
+use crate::listing::{Listing, listing_of, put_lines};
 use crate::message::Message;
-use crate::numbers::put_numbers;
 use crate::page::Page;
-use crate::reading::{NamedGraph, read_graph};
-use crate::request::{Request, Task};
+use crate::reading::read_graph;
+use crate::request::Request;
 use crate::summary::summary_line;
 use crate::words::{Reply, request_of};
 use crate::{CoresStatus, CoresStreams};
-use kc_flat::core_numbers;
+use kc_flat::{Decomposition, decompose};
 use kc_io::Failed;
 use kc_io::sink::{Sink, write_all};
 use std::alloc::Global;
 use std::convert::AsStr;
 
-/// Puts the lines of a task.
-fn put_lines<O: Sink>(
-    page: &mut Page,
-    out: &mut O,
-    task: Task,
-    named: &NamedGraph,
-    core: &[u32],
-) -> Result<(), Failed>
-    requires { length named.now.ids.items ≡ length core.now }
-    ensures passes { OnOk result (PassesOn (O.taken out.old) (O.taken out.new) page.old page.new
-        (task_lines task named.now.ids.items named.now.graph core.now)) }
-    ensures part { OnErr result (PassesPart (O.taken out.old) (O.taken out.new) page.old (task_lines task named.now.ids.items named.now.graph core.now)) }
-    ensures cause { HasCause (O.faults out.old) (O.faults out.new) result }
-{
-    match task {
-        Task::Numbers => put_numbers(page, out, &named.ids, core),
-    }
-}
-
-/// Writes the lines of a task.
+/// Writes the lines of a listing.
 fn write_lines<O: Sink>(
     mut page: Page,
     out: &mut O,
-    task: Task,
-    named: &NamedGraph,
+    listing: &Listing,
+    ids: &[u32],
     core: &[u32],
 ) -> Result<(), Failed>
-    requires same { length named.now.ids.items ≡ length core.now }
+    requires same { length ids.now ≡ length core.now }
+    requires fits { Fits (length ids.now) listing.now }
     requires empty { page ≡ [] }
-    ensures whole { OnOk result (Appends (O.taken out.old) (O.taken out.new) (task_lines task named.now.ids.items named.now.graph core.now)) }
-    ensures prefix { OnErr result ((n : ℕ) × (n ≤ length (task_lines task named.now.ids.items named.now.graph core.now))
-        × Appends (O.taken out.old) (O.taken out.new) (take n (task_lines task named.now.ids.items named.now.graph core.now))) }
+    ensures whole { OnOk result (Appends (O.taken out.old) (O.taken out.new) (listing_lines listing.now ids.now core.now)) }
+    ensures prefix { OnErr result ((n : ℕ) × (n ≤ length (listing_lines listing.now ids.now core.now))
+        × Appends (O.taken out.old) (O.taken out.new) (take n (listing_lines listing.now ids.now core.now))) }
     ensures cause { HasCause (O.faults out.old) (O.faults out.new) result }
 {
-    put_lines(&mut page, out, task, named, core)?;
+    put_lines(&mut page, out, listing, ids, core)?;
     page.write(out)
 }
 
@@ -75,10 +56,11 @@ fn follow<I: FileInput, O: Sink, E>(
     ensures err { streams.new.err ≡ streams.old.err }
 {
     let named = read_graph(alloc, request.file, &mut streams.input)?;
-    let core = core_numbers(alloc, &named.graph)?;
+    let Decomposition { core, .. } = decompose(alloc, &named.graph)?;
     let summary = summary_line(alloc, &named.graph, &core)?;
+    let listing = listing_of(alloc, request.task, &named.graph, &core)?;
     let page = Page::new(alloc)?;
-    if write_lines(page, &mut streams.out, request.task, &named, &core).is_err() {
+    if write_lines(page, &mut streams.out, &listing, &named.ids, &core).is_err() {
         return Err(Ending::write_fault());
     }
     Ok(summary)

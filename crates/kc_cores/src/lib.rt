@@ -16,15 +16,17 @@
 pub mod answer;
 mod ending;
 pub mod input;
+mod lines;
+mod listing;
 pub mod mem_input;
 pub mod memory;
 mod message;
-mod numbers;
 mod page;
 pub mod program;
 mod reading;
 mod request;
 mod sentences;
+mod sizes;
 pub mod std_input;
 mod streams;
 mod summary;

@@ -5,6 +5,8 @@
 pub enum Task {
     /// The core number of each vertex.
     Numbers,
+    /// How many vertices and edges each k-core has.
+    Sizes,
 }
 
 /// A task for the graph of a file, or of standard input where no file is named.

@@ -16,7 +16,7 @@ pub(crate) fn sentence_of(kind: Kind) -> &'static str
             "the second id is missing; write two ids with a blank or a tab between them"
         }
         Kind::ExtraField => {
-            "there is more than two ids; keep the two columns with the ids of the ends"
+            "there are more than two ids; keep the two columns with the ids of the ends"
         }
         Kind::NumberTooLarge => {
             "an id is greater than 4294967295; number the vertices anew with smaller ids"

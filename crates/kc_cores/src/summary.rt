@@ -8,7 +8,7 @@ use kc_graph::NoMemory;
 use std::alloc::Global;
 
 /// The greatest of the numbers, or 0 where there is none.
-fn greatest(numbers: &[u32]) -> u32
+pub(crate) fn greatest(numbers: &[u32]) -> u32
     ensures { result ≡ greatest numbers.now }
 {
     numbers.iter().fold(0, |top, n| top.max(*n))

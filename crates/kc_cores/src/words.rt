@@ -4,11 +4,11 @@
 //! function of them, on which `specs/Wishes.antt` stands. The texts of help, of the version and about wrong words are those of `clap`.
 ghost use Rattle.std.specs.Prelude.{◌≡◌, IfErr, IfOk, false, map, option_map};
 ghost use Rattle.clap.specs.Matches.{found_of};
-ghost use Rattle.clap.specs.Simple.{app_of, subcommand_rows_of};
+ghost use Rattle.clap.specs.Simple.{app_of, subcommand_rows_of, with_subcommand};
 ghost use Rattle.clap.specs.Values.{kind_of};
 ghost use Rattle.clap.specs.Walk.{rows_of};
 ghost use Rattle.clap.specs.declared.builder.command.Command.TheViews.{out-Command};
-ghost use Rattle.kc_cores.specs.Wishes.{cores_command, file_named, task_command, task_named, wish_for, wish_in, wish_of};
+ghost use Rattle.kc_cores.specs.Wishes.{bare_command, cores_command, file_named, task_command, task_named, wish_for, wish_in, wish_of};
 ghost use Rattle.kc_cores.specs.Endings.{IsReplyFor, IsRequestFor, RepliesTo};
 
 use crate::request::{Request, Task};
@@ -42,34 +42,71 @@ impl From<NoMemory> for Reply {
     }
 }
 
-/// The command of a task.
-fn task_command<'a>(alloc: Global, name: &'a str, about: &'a str) -> Result<Command<'a>, NoMemory>
+/// The command of a task, with one line of example in its help.
+fn task_command<'a>(
+    alloc: Global,
+    name: &'a str,
+    about: &'a str,
+    example: &'a str,
+) -> Result<Command<'a>, NoMemory>
     ensures app { IfOk result (λ made. app_of made ≡ task_command name.entry.now) }
     ensures local { IfOk result (λ made. (out-Command made).has_globals ≡ false) }
 {
     let file = Arg::new(alloc, "FILE").help(
         "The edge list, two ids a line; standard input where it is - or none is named",
     );
-    Command::new(alloc, name).about(about).arg(file)
+    Command::new(alloc, name)
+        .about(about)
+        .after_help(example)
+        .arg(file)
+}
+
+/// The command whose words are read, without those of the tasks.
+fn bare_command<'a>(alloc: Global) -> Result<Command<'a>, NoMemory>
+    ensures { IfOk result (λ made. app_of made ≡ bare_command) }
+{
+    let command = Command::new(alloc, "cores")
+        .about("Core numbers of a graph that is given as an edge list")
+        .version(VERSION)
+        .no_binary_name(true)
+        .subcommand_required(true)
+        .arg_required_else_help(true)
+        .disable_help_subcommand(true);
+    command.bin_name("cores")
+}
+
+/// The command, and one of a task.
+fn with_task<'a>(
+    alloc: Global,
+    command: Command<'a>,
+    name: &'a str,
+    about: &'a str,
+    example: &'a str,
+) -> Result<Command<'a>, NoMemory>
+    ensures { IfOk result (λ made. app_of made ≡ with_subcommand (app_of command.entry) (task_command name.entry.now).top) }
+{
+    let task = task_command(alloc, name, about, example)?;
+    command.subcommand(task)
 }
 
 /// The command whose words are read.
 fn cores_command<'a>(alloc: Global) -> Result<Command<'a>, NoMemory>
     ensures { IfOk result (λ made. app_of made ≡ cores_command) }
 {
-    let numbers = task_command(
+    let numbers = with_task(
         alloc,
+        bare_command(alloc)?,
         "numbers",
         "Writes a line ID<TAB>CORE for each id, by ascending ids",
+        "Example: cores numbers graph.txt",
     )?;
-    Command::new(alloc, "cores")
-        .about("Core numbers of a graph that is given as an edge list")
-        .version(VERSION)
-        .no_binary_name(true)
-        .subcommand_required(true)
-        .arg_required_else_help(true)
-        .disable_help_subcommand(true)
-        .subcommand(numbers)
+    with_task(
+        alloc,
+        numbers,
+        "sizes",
+        "Writes a line K<TAB>VERTICES OF CORE NUMBER K<TAB>VERTICES<TAB>EDGES of the K-core for each K",
+        "Example: cores sizes graph.txt",
+    )
 }
 
 /// The task that a command is for.
@@ -78,6 +115,7 @@ fn task_named(name: &str) -> Option<Task>
 {
     match name {
         "numbers" => Some(Task::Numbers),
+        "sizes" => Some(Task::Sizes),
         _ => None,
     }
 }

@@ -3,10 +3,15 @@ use Rattle.std.proofs.Common.{◌≡◌, ◌∙◌, List, ℕ, Result, Ok, Err, 
 use Rattle.std.specs.Prelude.{OnErr, OnOk, string_bytes}
 use Rattle.std.specs.Result.{is_err}
 use Rattle.kc_graph.specs.Core.{AreCoreNumbers}
-use Rattle.kc_cores.specs.Answers.{summary_line}
+use Rattle.kc_graph.specs.SimpleGraph.{SimpleGraph}
+use Rattle.kc_graph.proofs.Law.{certified-core_numbers}
+use Rattle.kc_cores.specs.Answers.{AreLinesFor, summary_line}
 use Rattle.kc_cores.specs.Endings.{file_of, line_of}
+use Rattle.kc_cores.specs.Listings.{Fits, listing_lines}
 use Rattle.kc_cores.specs.Wishes.{Asks}
 use Rattle.kc_cores.specs.declared.CoresStatus.TheVariants as status
+use Rattle.kc_cores.specs.declared.listing.Listing.{Listing}
+use Rattle.kc_cores.specs.declared.request.Task.{Task}
 use Rattle.kc_cores.proofs.Ended.{CoresEnded-at, CoresEnded-cut, CoresEnded-done}
 use Rattle.kc_cores.proofs.Graphs.{size-graph_of}
 use Rattle.kc_cores.proofs.answer.follow.Goals as goal
@@ -21,34 +26,63 @@ at_err : {T E P : Type 0} (r : Result T E) → OnErr r P → is_err r ≡ true �
 at_err (Ok u) p is = absurd (cc is)
 at_err (Err e) p is = p
 
+-- what holds of a listing with the ids and the numbers holds where they are handed over
+lines-of : (task : Task) (listing : Listing) (g : SimpleGraph) (ids core ids' core' core'' : List ℕ)
+    → ((xs : List ℕ) → length xs ≡ g.size → AreLinesFor task xs g core' (listing_lines listing xs core')) → length ids ≡ g.size
+    → ids' ≡ ids → core' ≡ core → core'' ≡ core → AreLinesFor task ids g core (listing_lines listing ids' core'')
+lines-of task listing g ids core ids' core' core'' h size one two three =
+    subst (λ (k : List ℕ). AreLinesFor task ids g core (listing_lines listing ids' k)) (sym three)
+    (subst (λ (xs : List ℕ). AreLinesFor task ids g core (listing_lines listing xs core)) (sym one)
+    (subst (λ (k : List ℕ). AreLinesFor task ids g k (listing_lines listing ids k)) two (h ids size)))
+
 pub write_lines-requires-clause-same : goal.write_lines-requires-clause-same
 write_lines-requires-clause-same g c =
-    sym (size-graph_of _ c.in_ok-named.named.ids.items c.in_ok-named.named.graph c.in_ok-named.ensures.graph) ∙ sym c.in_ok-core.ensures.one_each
-    ∙ sym (ap length c.deref-2.ensures.value)
+    ap length c.deref-3.ensures.value ∙ sym (size-graph_of _ c.in_ok-named.named.ids.items c.in_ok-named.named.graph c.in_ok-named.ensures.graph)
+    ∙ sym c.in_ok-core.ensures.one_each ∙ sym (ap length c.deref-4.ensures.value)
+
+pub write_lines-requires-clause-fits : goal.write_lines-requires-clause-fits
+write_lines-requires-clause-fits g c =
+    subst (λ (n : ℕ). Fits n c.in_ok-listing.listing)
+    (size-graph_of _ c.in_ok-named.named.ids.items c.in_ok-named.named.graph c.in_ok-named.ensures.graph ∙ sym (ap length c.deref-3.ensures.value))
+    c.in_ok-listing.ensures.fits
 
 pub returns-then-is_err-clause-stopped : goal.returns-then-is_err-clause-stopped
 returns-then-is_err-clause-stopped g c =
     let error = sym c.is_err.ensures.value ∙ c.if-is_err.true in
-    let numbers : AreCoreNumbers c.in_ok-named.named.graph c.deref-2.result.now =
-    subst (λ (ks : List ℕ). AreCoreNumbers c.in_ok-named.named.graph ks) (sym c.deref-2.ensures.value) c.in_ok-core.ensures in
-    let sums : string_bytes c.in_ok-summary.summary ≡ summary_line c.in_ok-named.named.graph c.deref-2.result.now =
-    c.in_ok-summary.ensures ∙ ap (summary_line c.in_ok-named.named.graph) (c.deref.ensures.value ∙ sym c.deref-2.ensures.value) in
+    let graph : SimpleGraph = c.in_ok-named.named.graph in
+    let ids : List ℕ = c.in_ok-named.named.ids.items in
+    let core : List ℕ = c.in_ok-core.field-0.core.items in
+    let text : List ℕ = listing_lines c.in_ok-listing.listing c.deref-3.result.now c.deref-4.result.now in
+    let numbers : AreCoreNumbers graph core = certified-core_numbers graph core c.in_ok-core.field-0.order.items c.in_ok-core.ensures in
+    let lines : AreLinesFor c.args.request.task ids graph core text =
+    lines-of c.args.request.task c.in_ok-listing.listing graph ids core c.deref-3.result.now c.deref-2.result.now c.deref-4.result.now
+    c.in_ok-listing.ensures.lines (sym (size-graph_of _ ids graph c.in_ok-named.ensures.graph)) c.deref-3.ensures.value c.deref-2.ensures.value
+    c.deref-4.ensures.value in
+    let sums : string_bytes c.in_ok-summary.summary ≡ summary_line graph core =
+    c.in_ok-summary.ensures ∙ ap (summary_line graph) c.deref.ensures.value in
     CoresEnded-at g.I.Source g.I.FileInput.behind g.O.Sink (Asks c.args.request.task (file_of c.args.request)) status.WriteFault c.write_fault.result.status
     (line_of c.write_fault.result) c.args.streams.now.input c.read_graph.new.input c.args.streams.now.out c.write_lines.new.out c.write_fault.ensures.status
-    (CoresEnded-cut g.I.Source g.I.FileInput.behind g.O.Sink c.args.request.task (file_of c.args.request) c.in_ok-named.named.ids.items c.deref-2.result.now
-    (string_bytes c.in_ok-summary.summary) c.in_ok-named.named.graph (line_of c.write_fault.result) c.args.streams.now.input c.read_graph.new.input
-    c.args.streams.now.out c.write_lines.new.out c.in_ok-named.ensures.graph numbers sums c.in_ok-named.ensures.faultless
+    (CoresEnded-cut g.I.Source g.I.FileInput.behind g.O.Sink c.args.request.task (file_of c.args.request) ids core text
+    (string_bytes c.in_ok-summary.summary) graph (line_of c.write_fault.result) c.args.streams.now.input c.read_graph.new.input
+    c.args.streams.now.out c.write_lines.new.out c.in_ok-named.ensures.graph numbers lines sums c.in_ok-named.ensures.faultless
     (at_err c.write_lines.result c.write_lines.ensures.prefix error) (at_err c.write_lines.result c.write_lines.ensures.cause.failed error)
     c.write_fault.ensures.line)
 
 pub returns-clause-done : goal.returns-clause-done
 returns-clause-done g c =
     let no_error = sym c.is_err.ensures.value ∙ c.if-is_err.false in
-    let numbers : AreCoreNumbers c.in_ok-named.named.graph c.deref-2.result.now =
-    subst (λ (ks : List ℕ). AreCoreNumbers c.in_ok-named.named.graph ks) (sym c.deref-2.ensures.value) c.in_ok-core.ensures in
-    let sums : string_bytes c.in_ok-summary.summary ≡ summary_line c.in_ok-named.named.graph c.deref-2.result.now =
-    c.in_ok-summary.ensures ∙ ap (summary_line c.in_ok-named.named.graph) (c.deref.ensures.value ∙ sym c.deref-2.ensures.value) in
-    CoresEnded-done g.I.Source g.I.FileInput.behind g.O.Sink c.args.request.task (file_of c.args.request) c.in_ok-named.named.ids.items c.deref-2.result.now
-    (string_bytes c.in_ok-summary.summary) c.in_ok-named.named.graph c.args.streams.now.input c.read_graph.new.input c.args.streams.now.out
-    c.write_lines.new.out c.in_ok-named.ensures.graph numbers sums c.in_ok-named.ensures.read c.in_ok-named.ensures.faultless
+    let graph : SimpleGraph = c.in_ok-named.named.graph in
+    let ids : List ℕ = c.in_ok-named.named.ids.items in
+    let core : List ℕ = c.in_ok-core.field-0.core.items in
+    let text : List ℕ = listing_lines c.in_ok-listing.listing c.deref-3.result.now c.deref-4.result.now in
+    let numbers : AreCoreNumbers graph core = certified-core_numbers graph core c.in_ok-core.field-0.order.items c.in_ok-core.ensures in
+    let lines : AreLinesFor c.args.request.task ids graph core text =
+    lines-of c.args.request.task c.in_ok-listing.listing graph ids core c.deref-3.result.now c.deref-2.result.now c.deref-4.result.now
+    c.in_ok-listing.ensures.lines (sym (size-graph_of _ ids graph c.in_ok-named.ensures.graph)) c.deref-3.ensures.value c.deref-2.ensures.value
+    c.deref-4.ensures.value in
+    let sums : string_bytes c.in_ok-summary.summary ≡ summary_line graph core =
+    c.in_ok-summary.ensures ∙ ap (summary_line graph) c.deref.ensures.value in
+    CoresEnded-done g.I.Source g.I.FileInput.behind g.O.Sink c.args.request.task (file_of c.args.request) ids core text
+    (string_bytes c.in_ok-summary.summary) graph c.args.streams.now.input c.read_graph.new.input c.args.streams.now.out c.write_lines.new.out
+    c.in_ok-named.ensures.graph numbers lines sums c.in_ok-named.ensures.read c.in_ok-named.ensures.faultless
     (at_ok c.write_lines.result c.write_lines.ensures.whole no_error) (at_ok c.write_lines.result c.write_lines.ensures.cause.kept no_error)

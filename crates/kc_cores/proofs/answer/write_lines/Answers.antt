@@ -1,11 +1,11 @@
 -- What was taken before a write failed is a prefix of the lines.
 use Rattle.std.proofs.lemmas.Result.{on_err_weaker}
-use Rattle.kc_cores.specs.Answers.{task_lines}
+use Rattle.kc_cores.specs.Listings.{listing_lines}
 use Rattle.kc_cores.proofs.Paging.{part-passed}
 use Rattle.kc_cores.proofs.answer.write_lines.Goals as goal
 
 pub returns-clause-prefix : goal.returns-clause-prefix
 returns-clause-prefix g c =
     on_err_weaker c.write.result (λ part. part-passed _ _ _ c.args.page c.put_lines.new.page
-    (task_lines c.args.task c.args.named.now.ids.items c.args.named.now.graph c.args.core.now) c.in_ok-put_lines.ensures.passes part c.requires.empty)
+    (listing_lines c.args.listing.now c.args.ids.now c.args.core.now) c.in_ok-put_lines.ensures.passes part c.requires.empty)
     c.write.ensures.part

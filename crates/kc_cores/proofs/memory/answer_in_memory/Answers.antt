@@ -18,7 +18,8 @@ done-in end wish task file bytes a b known is asks here took =
     subst (λ (e : CoresStatus). TookAt e wish (known wish) (Some a) (Some b)) is took in
     let at_task : TookAt status.Done (Asks task file) (known (Asks task file)) (Some a) (Some b) =
     subst (λ (w : Wish). TookAt status.Done w (known w) (Some a) (Some b)) asks at_done in
-    let (text, (summary, (all, same, is_text)), took_all) = subst (λ (k : Option (List ℕ)). TookAt status.Done (Asks task file) k (Some a) (Some b)) here at_task in
+    let (text, (summary, (all, same, is_text)), took_all) =
+    subst (λ (k : Option (List ℕ)). TookAt status.Done (Asks task file) k (Some a) (Some b)) here at_task in
     (text, summary, subst (λ (x : List ℕ). IsTextFor task x text summary) same is_text, took_all)
 
 pub returns-clause-done : goal.returns-clause-done

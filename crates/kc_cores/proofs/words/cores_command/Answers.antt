@@ -1,34 +1,17 @@
--- Each setting and each command of a task adds to the command.
-use Rattle.std.proofs.Common.{ap, ap₂, ◌≡◌, ◌∙◌, codes, true}
+-- Each command of a task adds to the command.
+use Rattle.std.proofs.Common.{ap, ◌∙◌, codes}
 use Rattle.std.proofs.lemmas.Result.{IfOk-weaker}
-use Rattle.clap.specs.Simple.{App, app_of, app_of_fields, new_app, on_top, with_subcommand}
+use Rattle.clap.specs.Simple.{App, with_subcommand}
+use Rattle.kc_cores.specs.Wishes.{task_command}
 use Rattle.kc_cores.proofs.words.cores_command.Goals as goal
 
--- the settings, the later ones first
-abbrev told : App → App
-told a = on_top (λ top. record top { has_version = true }) a
-
-abbrev bare : App → App
-bare a = on_top (λ top. record top { no_binary_name = true }) a
-
-abbrev some : App → App
-some a = on_top (λ top. record top { subcommand_required = true }) a
-
-abbrev helped : App → App
-helped a = on_top (λ top. record top { arg_required_else_help = true }) a
-
-abbrev flagged : App → App
-flagged a = on_top (λ top. record top { disable_help_subcommand = true }) a
+-- the command with one more
+abbrev more : App → App → App
+more task a = with_subcommand a task.top
 
 pub returns : goal.returns
 returns c =
-    let plain : app_of c.disable_help_subcommand.result ≡ flagged (helped (some (bare (told (new_app (codes "cores")))))) =
-    ap app_of_fields c.disable_help_subcommand.ensures
-    ∙ ap flagged (ap app_of_fields c.arg_required_else_help.ensures
-    ∙ ap helped (ap app_of_fields c.subcommand_required.ensures
-    ∙ ap some (ap app_of_fields c.no_binary_name.ensures
-    ∙ ap bare (ap app_of_fields c.version.ensures
-    ∙ ap told (ap app_of_fields c.about.ensures ∙ c.new.ensures.app))))) in
-    IfOk-weaker c.subcommand.result _ _
-    (λ made h. h.shape c.in_ok-numbers.ensures.local ∙ ap₂ with_subcommand plain (ap (λ (a : App). a.top) c.in_ok-numbers.ensures.app))
-    c.subcommand.ensures
+    IfOk-weaker c.with_task-2.result _ _
+    (λ made h. h ∙ ap (more (task_command (codes "sizes"))) (c.in_ok-numbers.ensures
+    ∙ ap (more (task_command (codes "numbers"))) c.in_ok-bare_command.ensures))
+    c.with_task-2.ensures

@@ -1,0 +1,23 @@
+-- One text goes on after another.
+use Rattle.std.proofs.Common.{[], ◌∷◌, decimal}
+use Rattle.std.proofs.lemmas.Result.{on_err_weaker, on_ok_weaker}
+use Rattle.kc_cores.proofs.Paging.{PassesOn-trans, PassesPart-later, PassesPart-wider, on_err-anyhow}
+use Rattle.kc_cores.proofs.lines.put_tabbed.Goals as goal
+
+pub returns-in_err-put_number-clause-part : goal.returns-in_err-put_number-clause-part
+returns-in_err-put_number-clause-part g c =
+    on_err-anyhow c.from_residual.result (PassesPart-wider _ _ c.args.page.now (decimal c.args.number) (9 ∷ []) c.in_err-put_number.ensures.part)
+
+pub returns-clause-passes : goal.returns-clause-passes
+returns-clause-passes g c =
+    on_ok_weaker c.put.result (λ last.
+    PassesOn-trans _ _ _ c.args.page.now c.put_number.new.page c.put.new.self (decimal c.args.number) (9 ∷ [])
+    c.in_ok-put_number.ensures.passes last)
+    c.put.ensures.passes
+
+pub returns-clause-part : goal.returns-clause-part
+returns-clause-part g c =
+    on_err_weaker c.put.result (λ last.
+    PassesPart-later _ _ _ c.args.page.now c.put_number.new.page (decimal c.args.number) (9 ∷ [])
+    c.in_ok-put_number.ensures.passes last)
+    c.put.ensures.part
