@@ -1,10 +1,9 @@
 -- The list of the edges of a graph.
 use Rattle.std.proofs.Common.{◌≡◌, ◌<◌, ◌≤◌, ◌+◌, ◌++◌, ◌∙◌, ℕ, zero, suc, Bool, true, false, cond, List, [], ◌∷◌, length, take, map, ltb}
-use Rattle.std.proofs.Common.{ap, sym, refl, arith, reverse, get_or, append-nil, append_assoc, ltb-true}
+use Rattle.std.proofs.Common.{ap, sym, refl, arith, get_or, append-nil, append_assoc, ltb-true}
 use Rattle.std.specs.FinSet.{from_list}
 use Rattle.std.specs.List.{filter, flat_map}
 use Rattle.std.specs.Prelude.{All}
-use Rattle.std.proofs.lemmas.Bool.{cases_Bool}
 use Rattle.std.proofs.lemmas.List.{length-take-le, reverse-append}
 use Rattle.std.proofs.lemmas.List.Concat.{flat_map-append}
 use Rattle.std.proofs.lemmas.List.Elements.{All-append, All-cons, All-nil}

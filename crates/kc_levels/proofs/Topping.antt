@@ -133,8 +133,8 @@ item-at_most_over (x ∷ xs) d (suc i) l = item-at_most_over xs (max d x) i (ome
 over-reached : (xs : List ℕ) (d : ℕ) → (over d xs ≡ d) ⊎ ((i : ℕ) × (i < length xs) × (get_or xs i 0 ≡ over d xs))
 over-reached [] d = inl refl
 over-reached (x ∷ xs) d = elim (over-reached xs (max d x)) [
-  | inl e ↦ elim (cases_eq (max d x) d) [ inl s ↦ inl (e ∙ s) | inr ne ↦ inr (0, (omega arith, omega (arith, e, ne))) ]
-  | inr h ↦ inr (suc h.0, (omega (arith, h.1), h.2))
+  | inl e ↦ elim (cases_eq (max d x) d) [ inl s ↦ inl (e ∙ s) | inr ne ↦ inr (0, omega arith, omega (arith, e, ne)) ]
+  | inr h ↦ inr (suc h.0, omega (arith, h.1), h.2)
 ]
 
 -- the greatest of the levels is their top
