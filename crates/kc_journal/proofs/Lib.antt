@@ -10,6 +10,7 @@ pub mod Preparing
 pub mod Putting
 pub mod Raising
 pub mod Renewing
+pub mod Restarting
 pub mod AfterEntry
 pub mod Telling
 pub mod Walking

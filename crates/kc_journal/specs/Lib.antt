@@ -7,3 +7,4 @@ pub mod Journals
 pub mod Sections
 -- What the crate's own functions and invariants speak of.
 pub mod Changes
+pub mod Restarting

@@ -3,6 +3,7 @@ ghost use Rattle.std.specs.Prelude.{◌≡◌, ◌≢◌, ◌<◌, ◌≤◌, na
 ghost use mathlib.Core.List.{IsPrefix};
 ghost use Rattle.kc_lists.specs.Lists.{place_of};
 ghost use Rattle.kc_graph.specs.Core.{AreCoreNumbers};
+ghost use Rattle.kc_graph.specs.Growing.{grown};
 ghost use Rattle.kc_view.specs.Sure.{IsSure};
 ghost use Rattle.kc_agree.specs.Stamps.{edge_stamp, place_stamp};
 ghost use Rattle.kc_levels.specs.Levels.{IsTop, size_of};
@@ -11,7 +12,7 @@ ghost use Rattle.kc_order.specs.Writers.{IsHighest};
 use crate::ahead::ListsAhead;
 use crate::answer::{EnterFault, Entered, Receipt};
 use crate::change::{add_entry, make_section, make_update, versions_needed};
-use crate::renewal::order_of;
+use crate::renewal::{numbers_and_order, order_of};
 use kc_agree::first_stale;
 use kc_cert::State;
 use kc_graph::{Lawful, NoMemory, Plan, SharedGraph};
@@ -321,6 +322,36 @@ impl Journal {
         self.levels = levels;
         self.opened = Snapshot::of(&self.graph);
         self.opening_stamps = Snapshot::of(&self.edge_stamps);
+    }
+
+    /// Forgets the run's history, and opens a new run on the present graph, core numbers and order, in a fresh table with this version. There
+    /// are then no entries, and all stamps are 0. Until there are so many vertices in all, vertices without edges are added, of core number 0
+    /// and before all others. All memory is taken before anything changes; where there is none, the journal stays as it was. No list of
+    /// neighbours is copied.
+    pub fn restart(
+        &mut self,
+        alloc: Global,
+        vertices: u32,
+        version: u32,
+    ) -> Result<(Words, Pass), NoMemory>
+        requires more { self.old.graph.size ≤ vertices }
+        requires few { vertices ≤ VERTICES }
+        requires version { version ≤ LAST_VERSION }
+        ensures restarted { IfOk result (λ r. OpensRun (grown vertices (ranked self.old)) version r.0 self.new r.1) }
+        ensures same { OnErr result (self.new ≡ self.old) }
+    {
+        self.graph.recall_ends();
+        let (core, order) = numbers_and_order(alloc, &self.levels, vertices)?;
+        let edge_stamps = vec![in alloc; 0u32; core.len()]?;
+        let (words, levels, pass) = Levels::open(alloc, &order, &core, &edge_stamps, 0, version)?;
+        self.graph.grow(alloc, vertices)?;
+        self.levels = levels;
+        self.edge_stamps = edge_stamps;
+        self.entries = Vec::new(alloc);
+        self.started = Snapshot::of(&self.graph);
+        self.opened = Snapshot::of(&self.graph);
+        self.opening_stamps = Snapshot::of(&self.edge_stamps);
+        Ok((words, pass))
     }
 
     /// What stands against a plan, if anything does.
