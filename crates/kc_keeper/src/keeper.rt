@@ -1,0 +1,266 @@
+//! A graph with its core numbers, kept right while edges come and go.
+ghost use Rattle.std.specs.Prelude.{◌≡◌, ◌≢◌, ◌<◌, ◌≤◌, nat_lt, not, slice_index, ℕ, All, IfErr, IfOk, OnErr};
+ghost use Rattle.kc_lists.specs.Lists.{place_of};
+ghost use Rattle.kc_graph.specs.Core.{AreCoreNumbers};
+ghost use Rattle.kc_graph.specs.Growing.{grown, with_vertices};
+ghost use Rattle.kc_graph.specs.Lawful.{IsCertified};
+ghost use Rattle.kc_graph.specs.Plans.{is_applied, updated};
+ghost use Rattle.kc_keeper.specs.Keepers.{IsStopped, IsUpdated, made_in_turn, count_applied};
+
+use crate::counts::{AppliedCounts, Stopped};
+use crate::entering::enter;
+use kc_graph::{Lawful, NoMemory, SharedGraph, Update};
+use kc_journal::{EnterFault, Journal};
+use kc_table::{Pass, Words};
+use kc_view::Scratch;
+use kc_words::VERTICES;
+use std::alloc::Global;
+use std::marker::Model;
+
+/// How many entries the history may have however few edges there are.
+const SHORT_HISTORY: u64 = 65_536;
+
+/// A graph with the core number of each vertex and an order of the vertices that certifies the numbers, as a `Lawful` is one, that is
+/// changed edge by edge.
+#[derive(Drop)]
+pub struct Keeper {
+    words: Words,
+    journal: Journal,
+    pass: Pass,
+    scratch: Scratch,
+}
+
+impl Model for Keeper {
+    ghost use Rattle.kc_graph.specs.Lawful.{Ranked};
+    ghost use Rattle.kc_graph.specs.LawfulCode.{code_of_ranked};
+    ghost use Rattle.kc_journal.specs.Journals.{ranked};
+    ghost use Rattle.kc_keeper.specs.Keepers.{FitTogether};
+
+    ghost Value = { Ranked };
+
+    ghost coded = { code_of_ranked };
+
+    ghost view = { λ k. ranked k.journal };
+
+    ghost invariant = { λ k. FitTogether k.words k.journal k.pass k.scratch };
+}
+
+impl Keeper {
+    /// Keeps a graph whose core numbers are known. Where there is no memory, `lawful` is dropped and the answer is `NoMemory`.
+    pub fn open(alloc: Global, lawful: Lawful) -> Result<Keeper, NoMemory>
+        requires few { lawful.graph.size ≤ VERTICES }
+        ensures { IfOk result (λ keeper. keeper ≡ lawful) }
+    {
+        let scratch = Scratch::new(alloc, lawful.graph().vertices())?;
+        let (words, journal, pass) = Journal::open(alloc, lawful, 0)?;
+        Ok(Keeper {
+            words,
+            journal,
+            pass,
+            scratch,
+        })
+    }
+
+    /// Recalls to a proof what holds of each keeper, and does nothing when it runs.
+    pub fn recall_certified(&self)
+        ensures certified { IsCertified self.now }
+        ensures seidman { AreCoreNumbers self.now.graph self.now.core }
+    {
+        self.journal.recall_stands();
+        let _numbers = self.journal.core_numbers();
+    }
+
+    /// How many vertices there are: they are the numbers below this.
+    pub fn vertices(&self) -> u32
+        ensures size { result ≡ self.now.graph.size }
+        ensures few { result ≤ VERTICES }
+        ensures certified { IsCertified self.now }
+    {
+        self.journal.recall_stands();
+        self.journal.vertices()
+    }
+
+    /// The graph.
+    pub fn graph(&self) -> &SharedGraph
+        ensures { result.now ≡ self.now.graph }
+    {
+        self.journal.graph()
+    }
+
+    /// The core number of each vertex, indexed by the vertex.
+    pub fn core_numbers(&self) -> &[u32]
+        ensures core { result.now ≡ self.now.core }
+        ensures seidman { AreCoreNumbers self.now.graph result.now }
+    {
+        self.journal.core_numbers()
+    }
+
+    /// Whether `x` stands before `y` in the order that certifies the numbers.
+    pub fn precedes(&self, x: u32, y: u32) -> bool
+        requires vertices { (x < self.now.graph.size) × (y < self.now.graph.size) }
+        requires differ { x ≢ y }
+        ensures { result ≡ nat_lt (place_of x self.now.order) (place_of y self.now.order) }
+    {
+        let _vertices = self.journal.vertices();
+        self.journal.precedes(x, y)
+    }
+
+    /// The vertices in the order that certifies the numbers, in a list of its own.
+    pub fn order(&self, alloc: Global) -> Result<Vec<u32>, NoMemory>
+        ensures { IfOk result (λ order. order.items ≡ self.now.order) }
+    {
+        self.journal.order(alloc)
+    }
+
+    /// Adds the update's edge, or removes it, and tells whether the graph changed: an edge that is there is not added again, and one that
+    /// is not there can't be removed. Core numbers and order are then those of the new graph. At `NoMemory` nothing has changed.
+    pub fn update(&mut self, alloc: Global, update: Update) -> Result<bool, NoMemory>
+        requires vertex { update.v < self.old.graph.size }
+        ensures graph { IfOk result (λ _. self.new.graph ≡ updated update self.old.graph) }
+        ensures applied { IfOk result (λ applied. applied ≡ is_applied update self.old.graph) }
+        ensures certified { IsCertified self.new }
+        ensures seidman { AreCoreNumbers self.new.graph self.new.core }
+        ensures same { OnErr result (self.new ≡ self.old) }
+    {
+        let made = self.make(alloc, update);
+        self.recall_certified();
+        made
+    }
+
+    /// Makes updates in turn, and counts those that changed the graph. Where there is no memory for one of them, those before it are made,
+    /// and the others are not.
+    pub fn apply(&mut self, alloc: Global, updates: &[Update]) -> Result<AppliedCounts, Stopped>
+        requires vertices { All (λ u. u.v < self.old.graph.size) updates.now }
+        ensures graph { IfOk result (λ _. self.new.graph ≡ made_in_turn self.old.graph updates.now) }
+        ensures added { IfOk result (λ counts. counts.added ≡ count_applied (λ u. u.add) self.old.graph updates.now) }
+        ensures removed { IfOk result (λ counts. counts.removed ≡ count_applied (λ u. not u.add) self.old.graph updates.now) }
+        ensures stopped { IfErr result (λ stopped. IsStopped self.old.graph updates.now self.new.graph stopped.made) }
+        ensures certified { IsCertified self.new }
+        ensures seidman { AreCoreNumbers self.new.graph self.new.core }
+    {
+        self.recall_certified();
+        let mut counts = AppliedCounts {
+            added: 0,
+            removed: 0,
+        };
+        for (made, update) in updates.iter().enumerate() {
+            let Ok(applied) = self.update(alloc, *update) else {
+                return Err(Stopped { made });
+            };
+            counts = counts.with(update.add, applied);
+        }
+        Ok(counts)
+    }
+
+    /// Adds vertices behind the last one, until there are so many in all. They have no edges and core number 0, and the others keep their
+    /// core numbers and their order. At `NoMemory` nothing has changed. No list of neighbours is copied, but all else is made anew.
+    pub fn grow(&mut self, alloc: Global, vertices: u32) -> Result<(), NoMemory>
+        requires more { self.old.graph.size ≤ vertices }
+        requires few { vertices ≤ VERTICES }
+        ensures grown { IfOk result (λ _. self.new ≡ grown vertices self.old) }
+        ensures graph { IfOk result (λ _. self.new.graph ≡ with_vertices vertices self.old.graph) }
+        ensures old_numbers { IfOk result (λ _. (v : ℕ) → v < self.old.graph.size → slice_index self.new.core v ≡ slice_index self.old.core v) }
+        ensures new_numbers { IfOk result (λ _. (v : ℕ) → self.old.graph.size ≤ v → v < vertices → slice_index self.new.core v ≡ 0) }
+        ensures certified { IsCertified self.new }
+        ensures seidman { AreCoreNumbers self.new.graph self.new.core }
+        ensures same { OnErr result (self.new ≡ self.old) }
+    {
+        self.recall_certified();
+        let made = self.restart_with(alloc, vertices);
+        self.recall_certified();
+        made
+    }
+
+    /// Makes the update, in a fresh table where numbers or versions are spent.
+    fn make(&mut self, alloc: Global, update: Update) -> Result<bool, NoMemory>
+        requires vertex { update.v < self.old.graph.size }
+        ensures made { IfOk result (λ applied. IsUpdated update self.old self.new applied) }
+        ensures same { OnErr result (self.new ≡ self.old) }
+    {
+        if self.has_long_history() {
+            // Where there is no memory for that, the history goes on.
+            let _ = self.forget_history(alloc);
+        }
+        match self.enter(alloc, update) {
+            Ok(applied) => Ok(applied),
+            Err(EnterFault::NoMemory) => Err(NoMemory),
+            Err(_) => self.enter_anew(alloc, update),
+        }
+    }
+
+    /// Plans the update and enters it, where numbers and versions last.
+    fn enter(&mut self, alloc: Global, update: Update) -> Result<bool, EnterFault>
+        requires vertex { update.v < self.old.graph.size }
+        ensures made { IfOk result (λ applied. IsUpdated update self.old self.new applied) }
+        ensures same { OnErr result (self.new ≡ self.old) }
+    {
+        let _vertices = self.journal.vertices();
+        enter(
+            alloc,
+            &self.words,
+            &mut self.journal,
+            &mut self.pass,
+            &mut self.scratch,
+            update,
+        )
+    }
+
+    /// Plans the update and enters it in a fresh table, where numbers and versions last: it is refused only for want of memory.
+    fn enter_anew(&mut self, alloc: Global, update: Update) -> Result<bool, NoMemory>
+        requires vertex { update.v < self.old.graph.size }
+        ensures made { IfOk result (λ applied. IsUpdated update self.old self.new applied) }
+        ensures same { OnErr result (self.new ≡ self.old) }
+    {
+        self.journal.recall_stands();
+        let vertices = self.journal.vertices();
+        let (words, pass) = self.journal.restart(alloc, vertices, 0)?;
+        self.words = words;
+        self.pass = pass;
+        let entered = enter(
+            alloc,
+            &self.words,
+            &mut self.journal,
+            &mut self.pass,
+            &mut self.scratch,
+            update,
+        );
+        match entered {
+            Ok(applied) => Ok(applied),
+            Err(fault) if fault == EnterFault::NoMemory => Err(NoMemory),
+            Err(_) => unreachable!(),
+        }
+    }
+
+    /// Goes on in a fresh table for so many vertices.
+    fn restart_with(&mut self, alloc: Global, vertices: u32) -> Result<(), NoMemory>
+        requires more { self.old.graph.size ≤ vertices }
+        requires few { vertices ≤ VERTICES }
+        ensures grown { IfOk result (λ _. self.new ≡ grown vertices self.old) }
+        ensures same { OnErr result (self.new ≡ self.old) }
+    {
+        let scratch = Scratch::new(alloc, vertices)?;
+        let (words, pass) = self.journal.restart(alloc, vertices, 0)?;
+        self.words = words;
+        self.pass = pass;
+        self.scratch = scratch;
+        Ok(())
+    }
+
+    /// Whether more was entered than the graph has edges, and than a short history has entries.
+    fn has_long_history(&self) -> bool {
+        let entries = self.journal.entries().len() as u64;
+        entries > self.journal.graph().edges().saturating_add(SHORT_HISTORY)
+    }
+
+    /// Forgets what was entered, and goes on in a fresh table. Nothing that contracts see changes.
+    fn forget_history(&mut self, alloc: Global) -> Result<(), NoMemory>
+        ensures { self.new ≡ self.old }
+    {
+        self.journal.recall_stands();
+        let vertices = self.journal.vertices();
+        let (words, pass) = self.journal.restart(alloc, vertices, 0)?;
+        self.words = words;
+        self.pass = pass;
+        Ok(())
+    }
+}
