@@ -46,7 +46,7 @@ ghost use Rattle.kc_c.specs.Tallying.{tally_answer};
 pub use crate::answer::CallResult;
 use crate::answer::answer_to;
 use crate::calls::{check_numbers, write_core_numbers, write_decomposition, write_k_core};
-use crate::tallying::{judge, tally_piece};
+use crate::tallying::{Keys, judge, tally_piece};
 use kc_graph::Edge;
 use std::alloc::Global;
 
@@ -176,7 +176,8 @@ pub extern "C" fn kcore_tally(
     ensures tally { result.status ≡ 0 → (earlier : List Edge) → AreTallied core.now rank.now earlier later.old supporters.old
         → AreTallied core.now rank.now (earlier ++ edges.now) later.new supporters.new }
 {
-    answer_to(tally_piece(vertices, after, edges, core, rank, later, supporters))
+    let keys = Keys { core, rank };
+    answer_to(tally_piece(vertices, after, edges, keys, later, supporters))
 }
 
 /// Whether the counts of all pieces together agree with the claimed core numbers: each vertex has at most as many later neighbours as its

@@ -26,27 +26,35 @@ fn refusal_of(first: FirstFault) -> Refusal
     }
 }
 
+/// What the keys of the vertices are made of. That of a vertex is its claimed core number, then its rank, then the vertex itself.
+#[derive(Clone, Copy, Drop)]
+pub(crate) struct Keys<'a> {
+    pub(crate) core: &'a [u32],
+    pub(crate) rank: &'a [u32],
+}
+
 /// Adds to the counts what a piece of the edges gives.
 pub(crate) fn tally_piece(
     vertices: u32,
     after: Edge,
     edges: &[Edge],
-    core: &[u32],
-    rank: &[u32],
+    keys: Keys,
     later: &mut [u32],
     supporters: &mut [u32],
 ) -> Result<usize, Refusal>
-    ensures answered { answer_to result ≡ tally_answer vertices after edges.now core.now rank.now later.old supporters.old }
+    ensures answered { answer_to result ≡ tally_answer vertices after edges.now keys.entry.core.now keys.entry.rank.now later.old supporters.old }
     ensures later { (answer_to result).status ≡ 0 → (v : ℕ) → v < vertices
-        → slice_index later.new v ≡ capped (slice_index later.old v + later_count core.now rank.now edges.now v) }
+        → slice_index later.new v ≡ capped (slice_index later.old v + later_count keys.entry.core.now keys.entry.rank.now edges.now v) }
     ensures supporters { (answer_to result).status ≡ 0 → (v : ℕ) → v < vertices
-        → slice_index supporters.new v ≡ capped (slice_index supporters.old v + supporter_count core.now edges.now v) }
+        → slice_index supporters.new v ≡ capped (slice_index supporters.old v + supporter_count keys.entry.core.now edges.now v) }
     ensures later_kept { (answer_to result).status ≢ 0 → later.new ≡ later.old }
     ensures supporters_kept { (answer_to result).status ≢ 0 → supporters.new ≡ supporters.old }
     ensures once { (answer_to result).status ≡ 0 → ListsEachOnce vertices edges.now }
-    ensures tally { (answer_to result).status ≡ 0 → (earlier : List Edge) → AreTallied core.now rank.now earlier later.old supporters.old
-        → AreTallied core.now rank.now (earlier ++ edges.now) later.new supporters.new }
+    ensures tally { (answer_to result).status ≡ 0 → (earlier : List Edge)
+        → AreTallied keys.entry.core.now keys.entry.rank.now earlier later.old supporters.old
+        → AreTallied keys.entry.core.now keys.entry.rank.now (earlier ++ edges.now) later.new supporters.new }
 {
+    let Keys { core, rank } = keys;
     let places = vertices as usize;
     if core.len() != places {
         return Err(Refusal::WrongCoreLength);
