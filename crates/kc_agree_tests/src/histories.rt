@@ -89,51 +89,52 @@ fn read_list(alloc: Global, vertex: u32, at: u32) -> Result<Used, NoMemory>
     })
 }
 
-/// The entry with this number, of an edge between 0 and 1, and a put of `v` right after `p` in its section.
-fn enter_and_put<R: Abort>(
-    rt: &R,
-    words: &Words,
-    writer: &mut Writer,
+/// A section with one put: the entry with this number adds or removes the edge between 0 and 1, and `v` is put right after `p`.
+#[derive(Clone, Copy, Drop)]
+struct Section {
     number: u32,
     add: bool,
     v: u32,
     p: u32,
-)
+    ghost vertices: { (v < 3) × (p < 4) × (v ≢ p) },
+}
+
+/// The entry of a section, and its put.
+fn enter_and_put<R: Abort>(rt: &R, words: &Words, writer: &mut Writer, section: Section)
     requires table { writer.old.table ≡ words.now }
     requires shape { (words.now.shape.items ≡ 4) × (words.now.shape.fixed ≡ 3) × (words.now.shape.base ≡ 0) }
-    requires vertices { (v < 3) × (p < 4) × (v ≢ p) }
     requires closed { unsealed_after writer.old ≡ [] }
-    requires next { number ≡ number_of writer.old.table writer.old.log + 1 }
+    requires next { section.number ≡ number_of writer.old.table writer.old.log + 1 }
     ensures table { writer.new.table ≡ writer.old.table }
-    ensures number { number_of writer.new.table writer.new.log ≡ number }
-    ensures is_open { unsealed_after writer.new ≡ v ∷ [] }
-    ensures stamp { place_stamp writer.new.table writer.new.log v < number }
+    ensures number { number_of writer.new.table writer.new.log ≡ section.number }
+    ensures is_open { unsealed_after writer.new ≡ section.v ∷ [] }
+    ensures stamp { place_stamp writer.new.table writer.new.log section.v < section.number }
 {
+    let Section { add, v, p, .. } = section;
     writer.note_enter(words, 0, Update { add, u: 0, v: 1 });
     assert!(rt; writer.present(p) && writer.highest() <= LAST_VERSION - 3);
     writer.put_after(words, v, p);
 }
 
-/// The end of the section: the word of `v` with this core number. The pass is told all.
+/// The end of a section: the word of its vertex with this core number. The pass is told all.
 fn seal<R: Abort>(
     rt: &R,
     words: &Words,
     writer: &mut Writer,
     pass: &mut Pass,
-    number: u32,
-    v: u32,
+    section: Section,
     core: u32,
 )
     requires table { (writer.old.table ≡ words.now) × (pass.old.table ≡ words.now) }
     requires shape { (words.now.shape.items ≡ 4) × (words.now.shape.fixed ≡ 3) × (words.now.shape.base ≡ 0) }
-    requires vertex { v < 3 }
-    requires number { number_of writer.old.table writer.old.log ≡ number }
-    requires is_open { unsealed_after writer.old ≡ v ∷ [] }
-    requires stamp { place_stamp writer.old.table writer.old.log v < number }
+    requires number { number_of writer.old.table writer.old.log ≡ section.number }
+    requires is_open { unsealed_after writer.old ≡ section.v ∷ [] }
+    requires stamp { place_stamp writer.old.table writer.old.log section.v < section.number }
     ensures table { (writer.new.table ≡ words.now) × (pass.new.table ≡ words.now) }
-    ensures number { number_of writer.new.table writer.new.log ≡ number }
+    ensures number { number_of writer.new.table writer.new.log ≡ section.number }
     ensures closed { unsealed_after writer.new ≡ [] }
 {
+    let Section { number, v, .. } = section;
     let word = VertexWord {
         stamp: number,
         core,
@@ -150,22 +151,18 @@ fn put_in_section<R: Abort>(
     words: &Words,
     writer: &mut Writer,
     pass: &mut Pass,
-    number: u32,
-    add: bool,
-    v: u32,
-    p: u32,
+    section: Section,
 )
     requires table { (writer.old.table ≡ words.now) × (pass.old.table ≡ words.now) }
     requires shape { (words.now.shape.items ≡ 4) × (words.now.shape.fixed ≡ 3) × (words.now.shape.base ≡ 0) }
-    requires vertices { (v < 3) × (p < 4) × (v ≢ p) }
     requires closed { unsealed_after writer.old ≡ [] }
-    requires next { number ≡ number_of writer.old.table writer.old.log + 1 }
+    requires next { section.number ≡ number_of writer.old.table writer.old.log + 1 }
     ensures table { (writer.new.table ≡ words.now) × (pass.new.table ≡ words.now) }
-    ensures number { number_of writer.new.table writer.new.log ≡ number }
+    ensures number { number_of writer.new.table writer.new.log ≡ section.number }
     ensures closed { unsealed_after writer.new ≡ [] }
 {
-    enter_and_put(rt, words, writer, number, add, v, p);
-    seal(rt, words, writer, pass, number, v, 1);
+    enter_and_put(rt, words, writer, section);
+    seal(rt, words, writer, pass, section, 1);
 }
 
 /// The first stale stamp of what was read, by these edge stamps and the place stamps of the words.
@@ -184,9 +181,15 @@ fn stale_now(words: &Words, pass: &mut Pass, used: &Used, edge_stamps: [u32; 3])
 #[test]
 fn a_vertex_is_read_in_the_section_that_puts_it(rt: HostRuntime) -> Result<(), Fail> {
     let (words, mut writer, mut pass) = open(rt.alloc())?;
-    enter_and_put(&rt, &words, &mut writer, 1, true, 0, 2);
+    let section = Section {
+        number: 1,
+        add: true,
+        v: 0,
+        p: 2,
+    };
+    enter_and_put(&rt, &words, &mut writer, section);
     let (early, stood) = read_two(&rt, &words, &mut pass);
-    seal(&rt, &words, &mut writer, &mut pass, 1, 0, 1);
+    seal(&rt, &words, &mut writer, &mut pass, section, 1);
     let (late, stands) = read_two(&rt, &words, &mut pass);
     assert!(rt; stood == stands && !stands);
     let stale = stale_now(&words, &mut pass, &early, [1, 1, 0]);
@@ -201,8 +204,20 @@ fn a_vertex_is_read_in_the_section_that_puts_it(rt: HostRuntime) -> Result<(), F
 fn a_vertex_is_put_and_put_back(rt: HostRuntime) -> Result<(), Fail> {
     let (words, mut writer, mut pass) = open(rt.alloc())?;
     let (early, stood) = read_two(&rt, &words, &mut pass);
-    put_in_section(&rt, &words, &mut writer, &mut pass, 1, true, 0, 2);
-    put_in_section(&rt, &words, &mut writer, &mut pass, 2, false, 0, HEAD);
+    let put = Section {
+        number: 1,
+        add: true,
+        v: 0,
+        p: 2,
+    };
+    put_in_section(&rt, &words, &mut writer, &mut pass, put);
+    let back = Section {
+        number: 2,
+        add: false,
+        v: 0,
+        p: HEAD,
+    };
+    put_in_section(&rt, &words, &mut writer, &mut pass, back);
     let (late, stands) = read_two(&rt, &words, &mut pass);
     assert!(rt; stood == stands && stands);
     let stale = stale_now(&words, &mut pass, &early, [2, 2, 0]);
@@ -252,9 +267,27 @@ fn lists_of_three_entries<R: Abort + AllocGlobal>(rt: &R, words: &Words, pass: &
 #[test]
 fn an_edge_is_added_and_removed_again(rt: HostRuntime) -> Result<(), Fail> {
     let (words, mut writer, mut pass) = open(rt.alloc())?;
-    put_in_section(&rt, &words, &mut writer, &mut pass, 1, true, 2, 1);
-    put_in_section(&rt, &words, &mut writer, &mut pass, 2, false, 2, 1);
-    put_in_section(&rt, &words, &mut writer, &mut pass, 3, false, 2, 1);
+    let first = Section {
+        number: 1,
+        add: true,
+        v: 2,
+        p: 1,
+    };
+    put_in_section(&rt, &words, &mut writer, &mut pass, first);
+    let second = Section {
+        number: 2,
+        add: false,
+        v: 2,
+        p: 1,
+    };
+    put_in_section(&rt, &words, &mut writer, &mut pass, second);
+    let third = Section {
+        number: 3,
+        add: false,
+        v: 2,
+        p: 1,
+    };
+    put_in_section(&rt, &words, &mut writer, &mut pass, third);
     lists_of_three_entries(&rt, &words, &mut pass);
     Ok(())
 }
