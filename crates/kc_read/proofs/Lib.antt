@@ -1,0 +1,4 @@
+pub mod Outcomes
+pub mod Pieces
+pub mod StartGraphs
+pub mod Whole

@@ -1,0 +1,127 @@
+//! Reads an input from a source, in pieces, so that its text is never held.
+//!
+//! [`read_input`] asks the source for at most [`PIECE_BYTES`] bytes at a time and feeds a reader of texts with them. The source's contract
+//! says which bytes it gave, and the reader's what they mean. So the input is what all bytes of the source mean, where the source tells
+//! them. Behind a line that is refused it reads on to the end, so that a read that fails there is still told as such.
+//!
+//! The crate stands on `kc_io` and `kc_text`.
+#![tactic(auto)]
+
+mod fault;
+
+ghost use Rattle.std.specs.Prelude.{◌≡◌, ◌≢◌, ◌≤◌, ◌<◌, ◌+◌, ◌++◌, ◌⊎◌, [], ℕ, Err, List, All, IfOk, IfSome, IsErrOf, OnOk, length};
+ghost use Rattle.std.specs.Io.KnownBytes.{Consumes, IsAtEnd};
+ghost use Rattle.kc_io.specs.Causes.{Rose};
+ghost use Rattle.kc_text.specs.Feeding.{WasFed};
+ghost use Rattle.kc_text.specs.Inputs.{IsBatch};
+ghost use Rattle.kc_text.specs.Meaning.{Refuses, meaning};
+ghost use Rattle.kc_text.specs.declared.refusal.Refusal.{Refusal};
+ghost use Rattle.kc_read.specs.Reading.{IsInputWithin};
+
+pub use fault::InputFault;
+use kc_io::source::Source;
+use kc_text::{Input, Limits, TextReader};
+use std::alloc::Global;
+
+/// The most bytes that are asked for at once.
+const PIECE_BYTES: usize = 1_048_576;
+
+/// Reads the next bytes of the source into `piece`, and feeds the reader with them. Gives their number; 0 is the end of the source.
+fn feed_next<S: Source>(
+    alloc: Global,
+    source: &mut S,
+    piece: &mut [u8],
+    reader: &mut TextReader,
+) -> Result<usize, InputFault>
+    requires room { 0 < length piece.old }
+    requires fed { (fed : List ℕ) × WasFed reader.old fed }
+    ensures given { (given : List ℕ) × Consumes (S.left source.old) (S.left source.new) given × (length given ≤ length piece.old)
+        × IfOk result (λ n. (length given ≡ n) × ((fed : List ℕ) → WasFed reader.old fed → WasFed reader.new (fed ++ given))) }
+    ensures ended { IfOk result (λ n. n ≡ 0 → IsAtEnd (S.left source.new)) }
+    ensures limits { OnOk result (reader.new.limits ≡ reader.old.limits) }
+    ensures faultless { result ≢ Err InputFault.ReadFault → S.faults source.new ≡ S.faults source.old }
+    ensures later { S.faults source.old ≤ S.faults source.new }
+    ensures read_fault { IsErrOf result InputFault.ReadFault → Rose (S.faults source.old) (S.faults source.new) }
+    ensures unjudged { (r : Refusal) → result ≢ Err (InputFault.Refused r) }
+{
+    let n = source.read(piece)?;
+    reader.feed(alloc, &piece[..n])?;
+    Ok(n)
+}
+
+/// Feeds a new reader with all bytes of the source, or with more than its limits allow, in pieces that fill the room or less.
+fn feed_all<S: Source>(
+    alloc: Global,
+    source: &mut S,
+    room: &mut [u8],
+    reader: &mut TextReader,
+) -> Result<(), InputFault>
+    requires room { 0 < length room.old }
+    requires none { WasFed reader.old [] }
+    ensures given { (given : List ℕ) × Consumes (S.left source.old) (S.left source.new) given × (length given ≤ reader.old.limits.bytes + 1)
+        × OnOk result (WasFed reader.new given × (IsAtEnd (S.left source.new) ⊎ (reader.old.limits.bytes < length given))) }
+    ensures limits { OnOk result (reader.new.limits ≡ reader.old.limits) }
+    ensures faultless { result ≢ Err InputFault.ReadFault → S.faults source.new ≡ S.faults source.old }
+    ensures later { S.faults source.old ≤ S.faults source.new }
+    ensures read_fault { IsErrOf result InputFault.ReadFault → Rose (S.faults source.old) (S.faults source.new) }
+    ensures unjudged { (r : Refusal) → result ≢ Err (InputFault.Refused r) }
+{
+    let mut left = reader.limits.bytes;
+    loop {
+        let most = left.min(room.len() - 1) + 1;
+        let n = feed_next(alloc, source, &mut room[..most], reader)?;
+        if n == 0 || left < n {
+            return Ok(());
+        }
+        left -= n;
+    }
+}
+
+/// A reader that was fed with all bytes of the source, or with more than the limits allow.
+fn fed_reader<S: Source>(
+    alloc: Global,
+    source: &mut S,
+    limits: Limits,
+) -> Result<TextReader, InputFault>
+    ensures given { (given : List ℕ) × Consumes (S.left source.old) (S.left source.new) given × (length given ≤ limits.bytes + 1)
+        × IfOk result (λ reader. WasFed reader given × (IsAtEnd (S.left source.new) ⊎ (limits.bytes < length given))) }
+    ensures limits { IfOk result (λ reader. reader.limits ≡ limits) }
+    ensures faultless { result ≢ Err InputFault.ReadFault → S.faults source.new ≡ S.faults source.old }
+    ensures later { S.faults source.old ≤ S.faults source.new }
+    ensures read_fault { IsErrOf result InputFault.ReadFault → Rose (S.faults source.old) (S.faults source.new) }
+    ensures unjudged { (r : Refusal) → result ≢ Err (InputFault.Refused r) }
+{
+    let mut reader = TextReader::new(alloc, limits);
+    let mut room = vec![in alloc; 0u8; PIECE_BYTES]?;
+    feed_all(alloc, source, &mut room, &mut reader)?;
+    Ok(reader)
+}
+
+/// The input that all bytes of the source mean within limits.
+///
+/// `Refused` comes exactly where they are too many, or else where a line is refused, with the first such line and the first check that it
+/// fails. `ReadFault` comes only where the source's count of faults rose in this call; at each other answer no call of the source has
+/// failed. `NoMemory` comes where there is no memory to read. After each answer the source has lost just the bytes that it gave in this
+/// call, and they are at most one more than the limits allow.
+pub fn read_input<S: Source>(
+    alloc: Global,
+    source: &mut S,
+    limits: Limits,
+) -> Result<Input, InputFault>
+    ensures input { IfOk result (IsInputWithin limits (S.left source.old)) }
+    ensures ended { OnOk result (IsAtEnd (S.left source.new)) }
+    ensures few { IfOk result (λ input. length input.ids.items ≤ limits.ids) }
+    ensures few_batches { IfOk result (λ input. length input.batches.items ≤ limits.batches) }
+    ensures short { IfOk result (λ input. All (λ batch. length batch.updates.items ≤ limits.updates) input.batches.items) }
+    ensures counts { IfOk result (λ input. All (λ batch. batch.overruled ≤ limits.updates) input.batches.items) }
+    ensures batches { IfOk result (λ input. All (λ batch. IsBatch (length input.ids.items) batch.updates.items) input.batches.items) }
+    ensures refused { (r : Refusal) → IsErrOf result (InputFault.Refused r)
+        → IfSome (S.left source.old) (λ all. meaning limits all ≡ Refuses r.line r.kind) }
+    ensures given { (given : List ℕ) × Consumes (S.left source.old) (S.left source.new) given × (length given ≤ limits.bytes + 1) }
+    ensures faultless { result ≢ Err InputFault.ReadFault → S.faults source.new ≡ S.faults source.old }
+    ensures later { S.faults source.old ≤ S.faults source.new }
+    ensures read_fault { IsErrOf result InputFault.ReadFault → Rose (S.faults source.old) (S.faults source.new) }
+{
+    let reader = fed_reader(alloc, source, limits)?;
+    Ok(reader.finish(alloc)?)
+}
