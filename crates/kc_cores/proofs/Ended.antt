@@ -1,5 +1,6 @@
 -- A run keeps what `answer` promises: where `clap` replies, where there is no graph, where its lines were written, and where a write failed.
 use Rattle.std.proofs.Common.{◌≡◌, ◌⊎◌, ◌≤◌, ◌∙◌, ℕ, List, Option, Some, IfSome, ap, inl, inr, length, refl, subst, sym, take}
+use Rattle.std.proofs.KnownBytes.{Appends-nil}
 use Rattle.std.specs.Io.KnownBytes.{Appends, IsAtEnd}
 use Rattle.kc_io.specs.Causes.{Rose}
 use Rattle.kc_io.specs.declared.sink.Sink as sinks
@@ -10,6 +11,7 @@ use Rattle.kc_text.specs.declared.kind.Kind.{Kind}
 use Rattle.kc_text.specs.Meaning.{Means, Refuses, Told}
 use Rattle.kc_cores.specs.Answers.{AreLinesFor, graph_meaning, summary_line}
 use Rattle.kc_cores.specs.CoresEnded.{CoresEnded, FaultsAt, IsAnswerTo, IsLineAt, TookAt, WriteFaultsAt, given_bytes}
+use Rattle.kc_cores.specs.Endings.{NoFileGraphAt}
 use Rattle.kc_cores.specs.Inputs.{IsGraphOf, known_bytes}
 use Rattle.kc_cores.specs.Sentences.{write_fault_line}
 use Rattle.kc_cores.specs.Wishes.{Asks, Wish}
@@ -150,6 +152,55 @@ module _ {I O : Type 0} (source : sources.Ghosts I) (behind : I → List ℕ →
         faults = faultless;
         write_faults = rose;
       })
+
+  -- a run that has no graph has ended as it should
+  pub CoresEnded-no_graph : (task : Task) (file : Option (List ℕ)) (end : CoresStatus) (line : List ℕ) (i i' : I) (o : O)
+      → NoFileGraphAt end line file (known_bytes source.left behind file i) (source.faults i) (source.faults i')
+      → CoresEnded source behind out (Asks task file) end line i i' o o
+  CoresEnded-no_graph task file status.Unopened line i i' o (name, fault, is, told, rose) =
+      CoresEnded-asks task file status.Unopened line i i' o o (record {
+        right = λ e. absurd (cc);
+        asked = λ e. absurd (cc);
+        read = λ e. absurd (cc);
+        took = Appends-nil (out.taken o);
+        says = (task, name, fault, ap (Asks task) is, told);
+        faults = rose;
+        write_faults = refl;
+      })
+  CoresEnded-no_graph task file status.Refused line i i' o (n, kind, is, means, kept) =
+      CoresEnded-asks task file status.Refused line i i' o o (record {
+        right = λ e. absurd (cc);
+        asked = λ e. absurd (cc);
+        read = λ e. absurd (cc);
+        took = Appends-nil (out.taken o);
+        says = (n, kind, is, means);
+        faults = kept;
+        write_faults = refl;
+      })
+  CoresEnded-no_graph task file status.ReadFault line i i' o (is, rose) =
+      CoresEnded-asks task file status.ReadFault line i i' o o (record {
+        right = λ e. absurd (cc);
+        asked = λ e. absurd (cc);
+        read = λ e. absurd (cc);
+        took = Appends-nil (out.taken o);
+        says = is;
+        faults = rose;
+        write_faults = refl;
+      })
+  CoresEnded-no_graph task file status.NoMemory line i i' o (is, kept) =
+      CoresEnded-asks task file status.NoMemory line i i' o o (record {
+        right = λ e. absurd (cc);
+        asked = λ e. absurd (cc);
+        read = λ e. absurd (cc);
+        took = Appends-nil (out.taken o);
+        says = is;
+        faults = kept;
+        write_faults = refl;
+      })
+  CoresEnded-no_graph task file status.Done line i i' o h = absurd h
+  CoresEnded-no_graph task file status.Shown line i i' o h = absurd h
+  CoresEnded-no_graph task file status.Usage line i i' o h = absurd h
+  CoresEnded-no_graph task file status.WriteFault line i i' o h = absurd h
 
   -- what holds of a status holds where the status is known to be that one
   pub CoresEnded-at : (wish : Wish) (end end' : CoresStatus) (line : List ℕ) (i i' : I) (o o' : O) → end' ≡ end

@@ -1,5 +1,6 @@
 pub mod Ended
 pub mod Graphs
+pub mod Listed
 pub mod Placing
 pub mod Paging
 pub mod Replies

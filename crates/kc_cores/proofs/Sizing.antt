@@ -13,9 +13,9 @@ use Rattle.kc_flat.proofs.Listed.{ascending-suc}
 use Rattle.kc_graph.specs.Core.{greatest}
 use Rattle.kc_graph.specs.Peeling.{at}
 use Rattle.kc_graph.specs.SimpleGraph.{SimpleGraph}
-use Rattle.kc_lists.specs.Lists.{member, times}
+use Rattle.kc_lists.specs.Lists.{times}
 use Rattle.kc_lists.proofs.Counting.{count-all, count-cons}
-use Rattle.kc_cores.specs.Answers.{core_edges, core_vertices, is_in_core, shell}
+use Rattle.kc_cores.specs.Answers.{core_edges, is_in_core}
 use Rattle.kc_cores.specs.Sizes.{lesser_number}
 
 -- a number is k or more if it is k, or more than that

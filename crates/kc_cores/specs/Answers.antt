@@ -1,17 +1,19 @@
 -- The lines that each task has for the graph of a text.
-use Rattle.std.specs.Prelude.{◌≡◌, ◌+◌, ◌++◌, ◌&&◌, ◌==◌, ℕ, Bool, List, [], ◌∷◌, codes, decimal, filter, length, nat_le}
+use Rattle.std.specs.Prelude.{◌≡◌, ◌+◌, ◌++◌, ◌&&◌, ◌==◌, ℕ, Bool, List, [], ◌∷◌, Option, codes, decimal, filter, length, nat_le, unwrap_or}
 use Rattle.std.specs.FinSet as set
 use Rattle.std.specs.List.{flat_map}
 use Rattle.kc_flat.specs.Listing.{ascending_below, edge_list}
+use Rattle.kc_graph.specs.Certificate.{Certifies}
 use Rattle.kc_graph.specs.Core.{AreCoreNumbers, greatest}
 use Rattle.kc_graph.specs.Peeling.{at}
 use Rattle.kc_graph.specs.SimpleGraph.{SimpleGraph}
 use Rattle.kc_text.specs.Inputs.{AreIds, start_graph}
 use Rattle.kc_text.specs.Meaning.{Means, Meaning, Told, meaning, names}
 use Rattle.kc_text.specs.declared.limits.TheConstants.Limits.{GRAPH}
-use Rattle.kc_cores.specs.Lines.{pair_line, quadruple_line}
+use Rattle.kc_tally.specs.Layers.{AreLayers}
+use Rattle.kc_cores.specs.Lines.{ended, pair_line, quadruple_line, triple_line}
 use Rattle.kc_cores.specs.declared.request.Task.{Task}
-use Rattle.kc_cores.specs.declared.request.Task.TheVariants.{Numbers, Sizes}
+use Rattle.kc_cores.specs.declared.request.Task.TheVariants.{Numbers, Sizes, Members, Edges, Layers, Order}
 
 -- what the text of a graph means: there may be no batch line, and all else may be as much as numbers count
 unfoldable pub graph_meaning : List ℕ → Meaning
@@ -45,10 +47,34 @@ size_line g core k = quadruple_line k (length (shell g core k)) (length (core_ve
 abbrev pub size_lines : SimpleGraph → List ℕ → List ℕ
 size_lines g core = flat_map (size_line g core) (ascending_below (greatest core + 1))
 
+-- the k of a k-core: where none is asked for, that of the innermost core, the greatest core number
+abbrev pub level_of : Option ℕ → List ℕ → ℕ
+level_of level core = unwrap_or level (greatest core)
+
+-- the ids of the vertices of the k-core
+abbrev pub member_lines : List ℕ → SimpleGraph → List ℕ → ℕ → List ℕ
+member_lines ids g core k = flat_map (λ v. ended (at ids v)) (core_vertices g core k)
+
+-- the ids of both ends of the edges of the k-core
+abbrev pub edge_lines : List ℕ → SimpleGraph → List ℕ → ℕ → List ℕ
+edge_lines ids g core k = flat_map (λ e. pair_line (at ids e.0) (at ids e.1)) (core_edges g core k)
+
+-- for each vertex its id, its core number and its layer, when the first layer of each core number is 0
+abbrev pub layer_lines : List ℕ → SimpleGraph → List ℕ → List ℕ → List ℕ
+layer_lines ids g core layer = flat_map (λ v. triple_line (at ids v) (at core v) (at layer v)) (ascending_below g.size)
+
+-- for each vertex its id and its core number, as an order has the vertices
+abbrev pub order_lines : List ℕ → List ℕ → List ℕ → List ℕ
+order_lines ids core order = flat_map (λ v. pair_line (at ids v) (at core v)) order
+
 -- the text has the lines of a task for a graph with these core numbers, whose vertices stand for these ids
 abbrev pub AreLinesFor : Task → List ℕ → SimpleGraph → List ℕ → List ℕ → Type 0
 AreLinesFor Numbers ids g core text = text ≡ number_lines ids g core
 AreLinesFor Sizes ids g core text = text ≡ size_lines g core
+AreLinesFor (Members level) ids g core text = text ≡ member_lines ids g core (level_of level core)
+AreLinesFor (Edges level) ids g core text = text ≡ edge_lines ids g core (level_of level core)
+AreLinesFor Layers ids g core text = (layer : List ℕ) × AreLayers g core layer × (text ≡ layer_lines ids g core layer)
+AreLinesFor Order ids g core text = (order : List ℕ) × Certifies g core order × (text ≡ order_lines ids core order)
 
 -- `vertices N edges M top T`
 abbrev pub summary_line : SimpleGraph → List ℕ → List ℕ

@@ -1,14 +1,19 @@
 -- What the words of a run ask for.
-use Rattle.std.specs.Prelude.{◌≡◌, Bool, true, false, List, [], ◌∷◌, Option, Some, None, codes, if◌then◌else◌}
+use Rattle.std.specs.Prelude.{◌≡◌, ◌^◌, ◌&&◌, ℕ, Bool, true, false, List, [], ◌∷◌, Option, Some, None, codes, length, nat_lt, option_map, pos, if◌then◌else◌}
+use Rattle.std.specs.Char.{digit_value}
+use Rattle.std.specs.List.{list_all}
+use Rattle.std.specs.Str.Parse.{digits_value, without_leading_plus}
 use Rattle.std.specs.Str.{bytes_eq}
 use Rattle.clap.specs.Faults.{fault_of}
 use Rattle.clap.specs.Kinds.{IsAmong, Kinds}
 use Rattle.clap.specs.Simple.{App, new_app, new_rule, on_top, subcommand_of, with_rule, with_subcommand}
-use Rattle.clap.specs.Walk.{Row, Text, first_of, is_empty}
+use Rattle.clap.specs.Walk.{Row, Rule, Text, first_of, is_empty}
+use Rattle.clap.specs.declared.builder.action.ArgAction.TheVariants.{Set, SetTrue}
+use Rattle.clap.specs.declared.builder.value_parser.ValueParser.TheVariants.{Signed}
 use Rattle.clap.specs.declared.error.kind.ErrorKind.{ErrorKind}
 use Rattle.clap.specs.declared.error.kind.ErrorKind.TheVariants.{DisplayHelp, DisplayVersion, InvalidSubcommand}
 use Rattle.kc_cores.specs.declared.request.Task.{Task}
-use Rattle.kc_cores.specs.declared.request.Task.TheVariants.{Numbers, Sizes}
+use Rattle.kc_cores.specs.declared.request.Task.TheVariants.{Numbers, Sizes, Members, Edges, Layers, Order}
 
 -- the command of a task, which takes the name of a file
 abbrev pub task_command : Text → App
@@ -25,10 +30,32 @@ bare_command =
       disable_help_subcommand = true;
     }) (new_app (codes "cores"))
 
+-- `--core K`, with a number of 32 bits
+abbrev pub core_option : Rule
+core_option = record (new_rule (codes "core")) {
+  long = Some (codes "core");
+  action = Some Set;
+  value_names = 1;
+  parser = Some (Signed (pos 0) (pos 4294967295));
+}
+
+-- `--edges`
+abbrev pub edges_flag : Rule
+edges_flag = record (new_rule (codes "edges")) { long = Some (codes "edges"); action = Some SetTrue }
+
+-- the command of the members of a core
+abbrev pub members_command : App
+members_command = with_rule (with_rule (task_command (codes "members")) core_option) edges_flag
+
+-- the command with those of the vertices and the cores
+abbrev pub with_cores : App
+with_cores =
+    with_subcommand (with_subcommand (with_subcommand bare_command (task_command (codes "numbers")).top) (task_command (codes "sizes")).top)
+    members_command.top
+
 -- the command that reads the words, with a command of its own for each task
 abbrev pub cores_command : App
-cores_command =
-    with_subcommand (with_subcommand bare_command (task_command (codes "numbers")).top) (task_command (codes "sizes")).top
+cores_command = with_subcommand (with_subcommand with_cores (task_command (codes "layers")).top) (task_command (codes "order")).top
 
 -- What words ask for: a task for the graph of a file, or of standard input where no file is named. Or they ask for help or the version, or
 -- are not right: then `clap` replies with a text of one of these kinds.
@@ -36,11 +63,40 @@ pub data Wish : Type 0 where
   Asks : Task → Option Text → Wish
   Replies : Kinds → Wish
 
--- the task that a command is for
-abbrev pub task_named : Text → Option Task
-task_named name =
+-- whether a text has digits alone, at least one, and its number is one of 32 bits
+abbrev pub is_number : Text → Bool
+is_number ds = nat_lt 0 (length ds) && list_all (λ d. nat_lt (digit_value d) 10) ds && nat_lt (digits_value 10 ds) (2 ^ 32)
+
+-- the number that a text is, before which there may be a plus sign
+abbrev pub number_of : Text → Option ℕ
+number_of text = if is_number (without_leading_plus text) then Some (digits_value 10 (without_leading_plus text)) else None
+
+-- the K of a K-core, where it is given; there is none where it is no number
+abbrev pub level_in : Option Text → Option (Option ℕ)
+level_in None = Some None
+level_in (Some text) = option_map (λ k. Some k) (number_of text)
+
+-- whether a flag with this value is given
+abbrev pub is_set : Option Text → Bool
+is_set None = false
+is_set (Some text) = bytes_eq text (codes "true")
+
+-- the members of a core, or its edges
+abbrev pub members_task : Bool → Option ℕ → Task
+members_task edges level = if edges then Edges level else Members level
+
+-- the task of the command `members` with these matches
+abbrev pub members_in : List Row → Option Task
+members_in rows = option_map (members_task (is_set (first_of (codes "edges") rows))) (level_in (first_of (codes "core") rows))
+
+-- the task that a command of this name is for, with these matches
+abbrev pub task_in : Text → List Row → Option Task
+task_in name rows =
     if bytes_eq name (codes "numbers") then Some Numbers
     else if bytes_eq name (codes "sizes") then Some Sizes
+    else if bytes_eq name (codes "members") then members_in rows
+    else if bytes_eq name (codes "layers") then Some Layers
+    else if bytes_eq name (codes "order") then Some Order
     else None
 
 -- the file that a word names: `-` is standard input
@@ -56,7 +112,7 @@ wish_for (Some task) rows = Asks task (file_named (first_of (codes "FILE") rows)
 -- what the command that was met asks for
 abbrev pub wish_in : Option (Text × List Row) → Wish
 wish_in None = Replies (InvalidSubcommand ∷ [])
-wish_in (Some met) = wish_for (task_named met.0) met.1
+wish_in (Some met) = wish_for (task_in met.0 met.1) met.1
 
 -- what the words ask for
 unfoldable pub wish_of : List Text → Wish

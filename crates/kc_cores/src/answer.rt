@@ -56,9 +56,9 @@ fn follow<I: FileInput, O: Sink, E>(
     ensures err { streams.new.err ≡ streams.old.err }
 {
     let named = read_graph(alloc, request.file, &mut streams.input)?;
-    let Decomposition { core, .. } = decompose(alloc, &named.graph)?;
+    let Decomposition { core, order } = decompose(alloc, &named.graph)?;
     let summary = summary_line(alloc, &named.graph, &core)?;
-    let listing = listing_of(alloc, request.task, &named.graph, &core)?;
+    let listing = listing_of(alloc, request.task, &named.graph, &core, order)?;
     let page = Page::new(alloc)?;
     if write_lines(page, &mut streams.out, &listing, &named.ids, &core).is_err() {
         return Err(Ending::write_fault());

@@ -5,12 +5,13 @@
 //! mended. Its promise is one record, `CoresEnded`, with a field for each clause (`specs/CoresEnded.antt`). `specs/Answers.antt` says what
 //! the lines are, `specs/Wishes.antt` what words ask for, and `specs/Sentences.antt` has the lines of messages.
 //!
-//! A command is a variant of [`Task`], with a function of its own that puts its lines. Lines are gathered and written in pieces, so no text
-//! of the whole is made. [`answer_in_memory`](memory::answer_in_memory) is the same run over an input and sinks in memory, where every clause
-//! speaks of bytes that are known. [`answer_on`](program::answer_on) takes the words of a program's arguments.
+//! A command is a variant of [`Task`]. What its lines need beside the ids and the core numbers is made first, as a `Listing`: so where there
+//! is no memory, no line was written. Lines are then gathered and written in pieces, so no text of the whole is made.
+//! [`answer_in_memory`](memory::answer_in_memory) is the same run over an input and sinks in memory, where every clause speaks of bytes that
+//! are known. [`answer_on`](program::answer_on) takes the words of a program's arguments.
 //!
-//! The crate stands on `kc_io` for sources and sinks, on `kc_text` for what a text means, on `kc_flat` and `kc_graph` for core numbers, and on `clap`
-//! and `itoa`.
+//! The crate stands on `kc_io` for sources and sinks, on `kc_text` for what a text means, on `kc_flat` and `kc_graph` for core numbers, on `kc_tally`
+//! for layers, and on `clap` and `itoa`.
 #![tactic(auto)]
 
 pub mod answer;

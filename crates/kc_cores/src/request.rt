@@ -7,6 +7,14 @@ pub enum Task {
     Numbers,
     /// How many vertices and edges each k-core has.
     Sizes,
+    /// The vertices of the k-core for this k, and else of the innermost core: that of the greatest core number.
+    Members(Option<u32>),
+    /// The edges of the k-core for this k, and else of the innermost core.
+    Edges(Option<u32>),
+    /// The core number of each vertex, and its onion layer.
+    Layers,
+    /// The core number of each vertex, in an order that certifies the core numbers.
+    Order,
 }
 
 /// A task for the graph of a file, or of standard input where no file is named.

@@ -6,14 +6,15 @@ ghost use Rattle.std.specs.Prelude.{◌≡◌, IfErr, IfOk, false, map, option_m
 ghost use Rattle.clap.specs.Matches.{found_of};
 ghost use Rattle.clap.specs.Simple.{app_of, subcommand_rows_of, with_subcommand};
 ghost use Rattle.clap.specs.Values.{kind_of};
-ghost use Rattle.clap.specs.Walk.{rows_of};
+ghost use Rattle.clap.specs.Walk.{rows_of, rule_of};
 ghost use Rattle.clap.specs.declared.builder.command.Command.TheViews.{out-Command};
-ghost use Rattle.kc_cores.specs.Wishes.{bare_command, cores_command, file_named, task_command, task_named, wish_for, wish_in, wish_of};
+ghost use Rattle.kc_cores.specs.Wishes.{bare_command, core_option, cores_command, edges_flag, file_named, is_set, level_in, members_command};
+ghost use Rattle.kc_cores.specs.Wishes.{members_in, members_task, number_of, task_command, task_in, wish_for, wish_in, wish_of, with_cores};
 ghost use Rattle.kc_cores.specs.Endings.{IsReplyFor, IsRequestFor, RepliesTo};
 
 use crate::request::{Request, Task};
 use clap::error::ErrorKind;
-use clap::{Arg, ArgMatches, Command, Error};
+use clap::{Arg, ArgAction, ArgMatches, Command, Error};
 use kc_graph::NoMemory;
 use std::alloc::Global;
 use std::convert::AsStr;
@@ -75,6 +76,44 @@ fn bare_command<'a>(alloc: Global) -> Result<Command<'a>, NoMemory>
     command.bin_name("cores")
 }
 
+/// The option `--core K` of the command `members`.
+fn core_option<'a>(alloc: Global) -> Arg<'a>
+    ensures rule { rule_of result ≡ core_option }
+    ensures local { result.global ≡ false }
+{
+    Arg::new(alloc, "core")
+        .long("core")
+        .action(ArgAction::Set)
+        .value_name("K")
+        .value_parser(clap::value_parser!(u32))
+        .help("The K of the K-core; without it the innermost core")
+}
+
+/// The flag `--edges` of the command `members`.
+fn edges_flag<'a>(alloc: Global) -> Arg<'a>
+    ensures rule { rule_of result ≡ edges_flag }
+    ensures local { result.global ≡ false }
+{
+    Arg::new(alloc, "edges")
+        .long("edges")
+        .action(ArgAction::SetTrue)
+        .help("Writes the edges, a line A<TAB>B for each, in place of the ids")
+}
+
+/// The command `members`.
+fn members_command<'a>(alloc: Global) -> Result<Command<'a>, NoMemory>
+    ensures app { IfOk result (λ made. app_of made ≡ members_command) }
+    ensures local { IfOk result (λ made. (out-Command made).has_globals ≡ false) }
+{
+    let task = task_command(
+        alloc,
+        "members",
+        "Writes the ids of the K-core, one a line, ascending",
+        "Example: cores members --core 3 graph.txt",
+    )?;
+    task.arg(core_option(alloc))?.arg(edges_flag(alloc))
+}
+
 /// The command, and one of a task.
 fn with_task<'a>(
     alloc: Global,
@@ -89,9 +128,9 @@ fn with_task<'a>(
     command.subcommand(task)
 }
 
-/// The command whose words are read.
-fn cores_command<'a>(alloc: Global) -> Result<Command<'a>, NoMemory>
-    ensures { IfOk result (λ made. app_of made ≡ cores_command) }
+/// The command, and those of the vertices and the cores.
+fn with_cores<'a>(alloc: Global) -> Result<Command<'a>, NoMemory>
+    ensures { IfOk result (λ made. app_of made ≡ with_cores) }
 {
     let numbers = with_task(
         alloc,
@@ -100,22 +139,92 @@ fn cores_command<'a>(alloc: Global) -> Result<Command<'a>, NoMemory>
         "Writes a line ID<TAB>CORE for each id, by ascending ids",
         "Example: cores numbers graph.txt",
     )?;
-    with_task(
+    let sizes = with_task(
         alloc,
         numbers,
         "sizes",
         "Writes a line K<TAB>VERTICES OF CORE NUMBER K<TAB>VERTICES<TAB>EDGES of the K-core for each K",
         "Example: cores sizes graph.txt",
+    )?;
+    sizes.subcommand(members_command(alloc)?)
+}
+
+/// The command whose words are read.
+fn cores_command<'a>(alloc: Global) -> Result<Command<'a>, NoMemory>
+    ensures { IfOk result (λ made. app_of made ≡ cores_command) }
+{
+    let layers = with_task(
+        alloc,
+        with_cores(alloc)?,
+        "layers",
+        "Writes a line ID<TAB>CORE<TAB>LAYER for each id: the round of removal within its core number, from 0 on",
+        "Example: cores layers graph.txt",
+    )?;
+    with_task(
+        alloc,
+        layers,
+        "order",
+        "Writes a line ID<TAB>CORE for each id, in an order that certifies the core numbers",
+        "Example: cores order graph.txt",
     )
 }
 
-/// The task that a command is for.
-fn task_named(name: &str) -> Option<Task>
-    ensures { result ≡ task_named name.now }
+/// The number that a text is.
+fn number_of(text: &str) -> Option<u32>
+    ensures { result ≡ number_of text.now }
+{
+    text.parse::<u32>().ok()
+}
+
+/// The K of a K-core, where it is given. There is none where it is no number.
+fn level_in(text: Option<&str>) -> Option<Option<u32>>
+    ensures { result ≡ level_in (option_map (λ t. t.now) text.entry) }
+{
+    match text {
+        None => Some(None),
+        Some(text) => Some(Some(number_of(text)?)),
+    }
+}
+
+/// Whether a flag with this value is given.
+fn is_set(text: Option<&str>) -> bool
+    ensures { result ≡ is_set (option_map (λ t. t.now) text.entry) }
+{
+    match text {
+        Some(word) => word == "true",
+        None => false,
+    }
+}
+
+/// The members of a core, or its edges.
+fn members_task(edges: bool, level: Option<u32>) -> Task
+    ensures { result ≡ members_task edges level }
+{
+    if edges {
+        Task::Edges(level)
+    } else {
+        Task::Members(level)
+    }
+}
+
+/// The task of the command `members` with these matches.
+fn members_in(found: &ArgMatches<'_>) -> Option<Task>
+    ensures { result ≡ members_in (rows_of (found_of found.now)) }
+{
+    let level = level_in(found.get_str("core"))?;
+    Some(members_task(is_set(found.get_str("edges")), level))
+}
+
+/// The task that a command of this name is for, with these matches.
+fn task_in(name: &str, found: &ArgMatches<'_>) -> Option<Task>
+    ensures { result ≡ task_in name.now (rows_of (found_of found.now)) }
 {
     match name {
         "numbers" => Some(Task::Numbers),
         "sizes" => Some(Task::Sizes),
+        "members" => members_in(found),
+        "layers" => Some(Task::Layers),
+        "order" => Some(Task::Order),
         _ => None,
     }
 }
@@ -150,11 +259,14 @@ fn reply_of(alloc: Global, error: &Error) -> Reply
     }
 }
 
-/// What is replied where no command was met, though one is required.
+/// What is replied where no command was met, though one is required, or where its K is no number.
 fn no_command(alloc: Global) -> Reply
     ensures { IsReplyFor result ErrorKind.InvalidSubcommand }
 {
-    match String::from_str(alloc, "cores: there is no such command, see cores --help\n") {
+    match String::from_str(
+        alloc,
+        "cores: there is no such command, or its K is no number, see cores --help\n",
+    ) {
         Ok(text) => Reply::Mistake(text),
         Err(_) => Reply::NoMemory,
     }
@@ -162,10 +274,10 @@ fn no_command(alloc: Global) -> Reply
 
 /// What a command of this name asks for, with these matches.
 fn request_for<'a>(alloc: Global, name: &str, found: &ArgMatches<'a>) -> Result<Request<'a>, Reply>
-    ensures asks { IfOk result (λ request. IsRequestFor request (wish_for (task_named name.now) (rows_of (found_of found.now)))) }
-    ensures replies { IfErr result (λ reply. RepliesTo reply (wish_for (task_named name.now) (rows_of (found_of found.now)))) }
+    ensures asks { IfOk result (λ request. IsRequestFor request (wish_for (task_in name.now (rows_of (found_of found.now))) (rows_of (found_of found.now)))) }
+    ensures replies { IfErr result (λ reply. RepliesTo reply (wish_for (task_in name.now (rows_of (found_of found.now))) (rows_of (found_of found.now)))) }
 {
-    match task_named(name) {
+    match task_in(name, found) {
         None => Err(no_command(alloc)),
         Some(task) => Ok(Request {
             task,

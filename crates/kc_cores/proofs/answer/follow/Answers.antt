@@ -1,7 +1,7 @@
 -- What was taken of the lines is what the write tells, and the lines are those of the graph that was read.
 use Rattle.std.proofs.Common.{◌≡◌, ◌∙◌, List, ℕ, Result, Ok, Err, ap, false, length, subst, sym, true}
-use Rattle.std.specs.Prelude.{OnErr, OnOk, string_bytes}
-use Rattle.std.specs.Result.{is_err}
+use Rattle.std.specs.Prelude.{IfErr, OnErr, OnOk, string_bytes}
+use Rattle.std.specs.Result.{IsErrAnd, is_err}
 use Rattle.kc_graph.specs.Core.{AreCoreNumbers}
 use Rattle.kc_graph.specs.SimpleGraph.{SimpleGraph}
 use Rattle.kc_graph.proofs.Law.{certified-core_numbers}
@@ -12,7 +12,7 @@ use Rattle.kc_cores.specs.Wishes.{Asks}
 use Rattle.kc_cores.specs.declared.CoresStatus.TheVariants as status
 use Rattle.kc_cores.specs.declared.listing.Listing.{Listing}
 use Rattle.kc_cores.specs.declared.request.Task.{Task}
-use Rattle.kc_cores.proofs.Ended.{CoresEnded-at, CoresEnded-cut, CoresEnded-done}
+use Rattle.kc_cores.proofs.Ended.{CoresEnded-at, CoresEnded-cut, CoresEnded-done, CoresEnded-no_graph}
 use Rattle.kc_cores.proofs.Graphs.{size-graph_of}
 use Rattle.kc_cores.proofs.answer.follow.Goals as goal
 
@@ -34,6 +34,17 @@ lines-of task listing g ids core ids' core' core'' h size one two three =
     subst (λ (k : List ℕ). AreLinesFor task ids g core (listing_lines listing ids' k)) (sym three)
     (subst (λ (xs : List ℕ). AreLinesFor task ids g core (listing_lines listing xs core)) (sym one)
     (subst (λ (k : List ℕ). AreLinesFor task ids g k (listing_lines listing ids k)) two (h ids size)))
+
+-- what holds of an error holds where it was passed on
+passed : {T E : Type 0} (r : Result T E) (x : E) (P : E → Type 0) → IsErrAnd r (λ e. e ≡ x) → P x → IfErr r P
+passed (Ok v) x P is p = tt
+passed (Err e) x P is p = subst P (sym is) p
+
+pub returns-in_err-named-clause-stopped : goal.returns-in_err-named-clause-stopped
+returns-in_err-named-clause-stopped g c =
+    passed c.from_residual.result c.in_err-named.field-0.0 _ c.from_residual.ensures.1
+    (CoresEnded-no_graph g.I.Source g.I.FileInput.behind g.O.Sink c.args.request.task (file_of c.args.request) c.in_err-named.field-0.0.status
+    (line_of c.in_err-named.field-0.0) c.args.streams.now.input c.read_graph.new.input c.args.streams.now.out c.in_err-named.ensures.stopped)
 
 pub write_lines-requires-clause-same : goal.write_lines-requires-clause-same
 write_lines-requires-clause-same g c =

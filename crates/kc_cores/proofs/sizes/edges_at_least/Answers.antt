@@ -2,7 +2,6 @@
 use Rattle.std.proofs.Common.{◌≡◌, ◌<◌, ◌∙◌, ℕ, List, arith, get_or, length, map, sym, subst}
 use Rattle.std.specs.Prelude.{All}
 use Rattle.std.proofs.lemmas.List.Elements.{All-map}
-use Rattle.kc_graph.specs.Peeling.{at}
 use Rattle.kc_cores.specs.Sizes.{lesser_number}
 use Rattle.kc_cores.proofs.sizes.edges_at_least.Goals as goal
 

@@ -1,7 +1,7 @@
 -- Each setting adds to the command.
-use Rattle.std.proofs.Common.{ap, ◌≡◌, ◌∙◌, codes, true}
+use Rattle.std.proofs.Common.{ap, ◌≡◌, ◌∙◌, true}
 use Rattle.std.proofs.lemmas.Result.{IfOk-weaker}
-use Rattle.clap.specs.Simple.{App, app_of, app_of_fields, new_app, on_top}
+use Rattle.clap.specs.Simple.{App, app_of, app_of_fields, on_top}
 use Rattle.kc_cores.specs.Wishes.{bare_command}
 use Rattle.kc_cores.proofs.words.bare_command.Goals as goal
 

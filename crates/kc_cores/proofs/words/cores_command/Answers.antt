@@ -12,6 +12,6 @@ more task a = with_subcommand a task.top
 pub returns : goal.returns
 returns c =
     IfOk-weaker c.with_task-2.result _ _
-    (λ made h. h ∙ ap (more (task_command (codes "sizes"))) (c.in_ok-numbers.ensures
-    ∙ ap (more (task_command (codes "numbers"))) c.in_ok-bare_command.ensures))
+    (λ made h. h ∙ ap (more (task_command (codes "order"))) (c.in_ok-layers.ensures
+    ∙ ap (more (task_command (codes "layers"))) c.in_ok-with_cores.ensures))
     c.with_task-2.ensures
