@@ -7,8 +7,8 @@
 //! graph grows with the vertices alone.
 //!
 //! In clauses the graph is the `SimpleGraph` of `kc_graph`, so its definitions say what neighbours, core numbers and certificates are.
-//! `specs/Pairs.antt` says what is asked of pairs, `specs/Parts.antt` how the array is cut, `specs/Bins.antt` what the bins keep, and
-//! `specs/Holders.antt` who is in a bin. The crate stands on `kc_graph` and `kc_lists`.
+//! `specs/Pairs.antt` says what is asked of pairs, `specs/Listing.antt` how the edges of a graph are listed, `specs/Parts.antt` how the array is
+//! cut, `specs/Bins.antt` what the bins keep, and `specs/Holders.antt` who is in a bin. The crate stands on `kc_graph` and `kc_lists`.
 #![tactic(auto)]
 
 mod bins;
