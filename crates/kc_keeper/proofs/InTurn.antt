@@ -7,7 +7,7 @@ use Rattle.kc_graph.specs.Lawful.{IsCertified, Ranked}
 use Rattle.kc_graph.specs.Edges.{with_edge, without_edge}
 use Rattle.kc_graph.specs.Plans.{is_applied, updated}
 use Rattle.kc_graph.specs.declared.update.Update.{Update}
-use Rattle.kc_keeper.specs.Keepers.{made_in_turn, count_applied}
+use Rattle.kc_keeper.specs.Batches.{made_in_turn, count_applied}
 
 after-suc : (g : SimpleGraph) (us : List Update) (i : ℕ) (d : Update) → i < length us
     → made_in_turn g (take (suc i) us) ≡ updated (get_or us i d) (made_in_turn g (take i us))

@@ -1,6 +1,5 @@
 -- What a keeper is made of, and what an update makes of it.
-use Rattle.std.specs.Prelude.{◌≡◌, ◌<◌, ◌≤◌, ◌+◌, ◌*◌, ◌&&◌, ℕ, Bool, List, [], ◌∷◌, length, take, if◌then◌else◌}
-use Rattle.kc_graph.specs.SimpleGraph.{SimpleGraph}
+use Rattle.std.specs.Prelude.{◌≡◌, ◌<◌, ◌≤◌, ◌+◌, ◌*◌, ℕ, Bool, length}
 use Rattle.kc_graph.specs.Lawful.{Ranked, IsCertified}
 use Rattle.kc_graph.specs.Plans.{is_applied, updated}
 use Rattle.kc_graph.specs.declared.update.Update.{Update}
@@ -24,21 +23,6 @@ pub record IsUpdated (update : Update) (old new : Ranked) (applied : Bool) : Typ
   pub graph : new.graph ≡ updated update old.graph
   pub applied_is : applied ≡ is_applied update old.graph
   pub certified : IsCertified new
-
--- the graph after updates in turn
-abbrev pub made_in_turn : SimpleGraph → List Update → SimpleGraph
-made_in_turn g [] = g
-made_in_turn g (u ∷ us) = made_in_turn (updated u g) us
-
--- how many of the updates that are meant change the graph, where all are made in turn
-abbrev pub count_applied : (Update → Bool) → SimpleGraph → List Update → ℕ
-count_applied is_meant g [] = 0
-count_applied is_meant g (u ∷ us) = (if is_meant u && is_applied u g then 1 else 0) + count_applied is_meant (updated u g) us
-
--- So many of the updates are made, in turn, and the others are not.
-pub record IsStopped (old : SimpleGraph) (updates : List Update) (new : SimpleGraph) (made : ℕ) : Type 0 where
-  pub fewer : made < length updates
-  pub graph : new ≡ made_in_turn old (take made updates)
 
 -- Why an update is not entered: the numbers of entries are spent, or the versions of the table's words, or there is no memory.
 abbrev pub MayRefuse : Journalled → EnterFault → Type 0

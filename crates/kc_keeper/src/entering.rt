@@ -1,7 +1,8 @@
-//! What a keeper does with its parts.
-ghost use Rattle.std.specs.Prelude.{◌≡◌, ◌<◌, IfErr, IfOk, OnErr};
+//! How an update is looked at, planned over a journal, and entered.
+ghost use Rattle.std.specs.Prelude.{◌≡◌, ◌<◌, IfErr, IfOk, MatchOption, OnErr};
 ghost use Rattle.kc_levels.specs.Levels.{size_of};
 ghost use Rattle.kc_journal.specs.Journals.{ranked};
+ghost use Rattle.kc_keeper.specs.Causes.{EndsAreWithin, IsFirstOutside};
 ghost use Rattle.kc_keeper.specs.Keepers.{FitTogether, IsUpdated, MayRefuse};
 
 use kc_graph::Update;
@@ -10,6 +11,18 @@ use kc_table::{Pass, Words};
 use kc_view::Scratch;
 use std::alloc::Global;
 use std::mem;
+
+/// The first update of a batch whose greater end is no vertex, with its place and that end; none where each end is a vertex.
+pub(crate) fn first_outside(updates: &[Update], vertices: u32) -> Option<(usize, u32)>
+    ensures { MatchOption result (EndsAreWithin vertices updates.now) (λ first. IsFirstOutside vertices updates.now first.0 first.1) }
+{
+    for (place, update) in updates.iter().enumerate() {
+        if update.v >= vertices {
+            return Some((place, update.v));
+        }
+    }
+    None
+}
 
 /// Plans an update over a journal and enters the plan, and tells whether the edge changed.
 pub(crate) fn enter(

@@ -1,14 +1,17 @@
 //! A graph with its core numbers, kept right while edges come and go.
-ghost use Rattle.std.specs.Prelude.{◌≡◌, ◌≢◌, ◌<◌, ◌≤◌, nat_lt, not, slice_index, ℕ, All, IfErr, IfOk, OnErr};
+ghost use Rattle.std.specs.Prelude.{◌≡◌, ◌<◌, ◌≤◌, ◌⊎◌, ℕ, IfErr, IfOk, MatchOption, OnErr, nat_lt, not, slice_index};
 ghost use Rattle.kc_lists.specs.Lists.{place_of};
 ghost use Rattle.kc_graph.specs.Core.{AreCoreNumbers};
 ghost use Rattle.kc_graph.specs.Growing.{grown, with_vertices};
 ghost use Rattle.kc_graph.specs.Lawful.{IsCertified};
 ghost use Rattle.kc_graph.specs.Plans.{is_applied, updated};
-ghost use Rattle.kc_keeper.specs.Keepers.{IsStopped, IsUpdated, made_in_turn, count_applied};
+ghost use Rattle.kc_keeper.specs.Batches.{count_applied, made_in_turn};
+ghost use Rattle.kc_keeper.specs.Causes.{IsApplyCause, IsGrowCause, IsOpenCause, IsUpdateCause};
+ghost use Rattle.kc_keeper.specs.Keepers.{IsUpdated};
 
-use crate::counts::{AppliedCounts, Stopped};
-use crate::entering::enter;
+use crate::changes::Changes;
+use crate::entering::{enter, first_outside};
+use crate::fault::{ApplyFault, GrowFault, OpenFault, UpdateFault};
 use kc_graph::{Lawful, NoMemory, SharedGraph, Update};
 use kc_journal::{EnterFault, Journal};
 use kc_table::{Pass, Words};
@@ -46,12 +49,16 @@ impl Model for Keeper {
 }
 
 impl Keeper {
-    /// Keeps a graph whose core numbers are known. Where there is no memory, `lawful` is dropped and the answer is `NoMemory`.
-    pub fn open(alloc: Global, lawful: Lawful) -> Result<Keeper, NoMemory>
-        requires few { lawful.graph.size ≤ VERTICES }
-        ensures { IfOk result (λ keeper. keeper ≡ lawful) }
+    /// Keeps a graph whose core numbers are known. Where it refuses, `lawful` is dropped.
+    pub fn open(alloc: Global, lawful: Lawful) -> Result<Keeper, OpenFault>
+        ensures kept { IfOk result (λ keeper. keeper ≡ lawful) }
+        ensures cause { IfErr result (λ fault. IsOpenCause lawful.graph.size fault) }
     {
-        let scratch = Scratch::new(alloc, lawful.graph().vertices())?;
+        let vertices = lawful.graph().vertices();
+        if vertices > VERTICES {
+            return Err(OpenFault::TooManyVertices { vertices });
+        }
+        let scratch = Scratch::new(alloc, vertices)?;
         let (words, journal, pass) = Journal::open(alloc, lawful, 0)?;
         Ok(Keeper {
             words,
@@ -74,7 +81,6 @@ impl Keeper {
     pub fn vertices(&self) -> u32
         ensures size { result ≡ self.now.graph.size }
         ensures few { result ≤ VERTICES }
-        ensures certified { IsCertified self.now }
     {
         self.journal.recall_stands();
         self.journal.vertices()
@@ -87,6 +93,15 @@ impl Keeper {
         self.journal.graph()
     }
 
+    /// The core number of a vertex; none where there is no such vertex.
+    pub fn core(&self, v: u32) -> Option<u32>
+        ensures number { MatchOption result (self.now.graph.size ≤ v) (λ k. (v < self.now.graph.size) × (k ≡ slice_index self.now.core v)) }
+        ensures seidman { AreCoreNumbers self.now.graph self.now.core }
+    {
+        self.recall_certified();
+        self.core_numbers().get(v as usize).copied()
+    }
+
     /// The core number of each vertex, indexed by the vertex.
     pub fn core_numbers(&self) -> &[u32]
         ensures core { result.now ≡ self.now.core }
@@ -95,14 +110,18 @@ impl Keeper {
         self.journal.core_numbers()
     }
 
-    /// Whether `x` stands before `y` in the order that certifies the numbers.
-    pub fn precedes(&self, x: u32, y: u32) -> bool
-        requires vertices { (x < self.now.graph.size) × (y < self.now.graph.size) }
-        requires differ { x ≢ y }
-        ensures { result ≡ nat_lt (place_of x self.now.order) (place_of y self.now.order) }
+    /// Whether `x` stands before `y` in the order that certifies the numbers; none where one of them is no vertex.
+    pub fn precedes(&self, x: u32, y: u32) -> Option<bool>
+        ensures { MatchOption result
+            ((self.now.graph.size ≤ x) ⊎ (self.now.graph.size ≤ y))
+            (λ before. (x < self.now.graph.size) × (y < self.now.graph.size)
+            × (before ≡ nat_lt (place_of x self.now.order) (place_of y self.now.order))) }
     {
-        let _vertices = self.journal.vertices();
-        self.journal.precedes(x, y)
+        let vertices = self.journal.vertices();
+        if x >= vertices || y >= vertices {
+            return None;
+        }
+        Some(x != y && self.journal.precedes(x, y))
     }
 
     /// The vertices in the order that certifies the numbers, in a list of its own.
@@ -112,49 +131,86 @@ impl Keeper {
         self.journal.order(alloc)
     }
 
+    /// Graph, core numbers and order as a `Lawful` of its own, which shares no list with the keeper. `NoMemory` comes where there is none
+    /// for the copies.
+    pub fn to_lawful(&self, alloc: Global) -> Result<Lawful, NoMemory>
+        ensures { IfOk result (λ lawful. lawful ≡ self.now) }
+    {
+        self.journal.to_lawful(alloc)
+    }
+
     /// Adds the update's edge, or removes it, and tells whether the graph changed: an edge that is there is not added again, and one that
-    /// is not there can't be removed. Core numbers and order are then those of the new graph. At `NoMemory` nothing has changed.
-    pub fn update(&mut self, alloc: Global, update: Update) -> Result<bool, NoMemory>
-        requires vertex { update.v < self.old.graph.size }
+    /// is not there can't be removed. Core numbers and order are then those of the new graph. Where it refuses, nothing has changed.
+    pub fn update(&mut self, alloc: Global, update: Update) -> Result<bool, UpdateFault>
         ensures graph { IfOk result (λ _. self.new.graph ≡ updated update self.old.graph) }
         ensures applied { IfOk result (λ applied. applied ≡ is_applied update self.old.graph) }
         ensures certified { IsCertified self.new }
         ensures seidman { AreCoreNumbers self.new.graph self.new.core }
         ensures same { OnErr result (self.new ≡ self.old) }
+        ensures cause { IfErr result (λ fault. IsUpdateCause self.old.graph.size update fault) }
     {
+        self.recall_certified();
+        if update.v >= self.vertices() {
+            return Err(UpdateFault::NoVertex { vertex: update.v });
+        }
         let made = self.make(alloc, update);
         self.recall_certified();
-        made
+        Ok(made?)
     }
 
-    /// Makes updates in turn, and counts those that changed the graph. Where there is no memory for one of them, those before it are made,
-    /// and the others are not.
-    pub fn apply(&mut self, alloc: Global, updates: &[Update]) -> Result<AppliedCounts, Stopped>
-        requires vertices { All (λ u. u.v < self.old.graph.size) updates.now }
+    /// Makes updates in turn, and changes those that changed the graph. Where an end of one is no vertex, none is made. Where there is no
+    /// memory for one, those before it are made, and it and the others are not.
+    pub fn apply(&mut self, alloc: Global, updates: &[Update]) -> Result<Changes, ApplyFault>
         ensures graph { IfOk result (λ _. self.new.graph ≡ made_in_turn self.old.graph updates.now) }
-        ensures added { IfOk result (λ counts. counts.added ≡ count_applied (λ u. u.add) self.old.graph updates.now) }
-        ensures removed { IfOk result (λ counts. counts.removed ≡ count_applied (λ u. not u.add) self.old.graph updates.now) }
-        ensures stopped { IfErr result (λ stopped. IsStopped self.old.graph updates.now self.new.graph stopped.made) }
+        ensures added { IfOk result (λ changes. changes.added ≡ count_applied (λ u. u.add) self.old.graph updates.now) }
+        ensures removed { IfOk result (λ changes. changes.removed ≡ count_applied (λ u. not u.add) self.old.graph updates.now) }
+        ensures cause { IfErr result (λ fault. IsApplyCause self.old updates.now self.new fault) }
         ensures certified { IsCertified self.new }
         ensures seidman { AreCoreNumbers self.new.graph self.new.core }
     {
         self.recall_certified();
-        let mut counts = AppliedCounts {
+        if let Some((place, vertex)) = first_outside(updates, self.vertices()) {
+            return Err(ApplyFault::NoVertex { place, vertex });
+        }
+        let mut changes = Changes {
             added: 0,
             removed: 0,
         };
         for (made, update) in updates.iter().enumerate() {
             let Ok(applied) = self.update(alloc, *update) else {
-                return Err(Stopped { made });
+                return Err(ApplyFault::NoMemory { made });
             };
-            counts = counts.with(update.add, applied);
+            changes = changes.with(update.add, applied);
         }
-        Ok(counts)
+        Ok(changes)
     }
 
     /// Adds vertices behind the last one, until there are so many in all. They have no edges and core number 0, and the others keep their
-    /// core numbers and their order. At `NoMemory` nothing has changed. No list of neighbours is copied, but all else is made anew.
-    pub fn grow(&mut self, alloc: Global, vertices: u32) -> Result<(), NoMemory>
+    /// core numbers and their order. Where it refuses, nothing has changed. No list of neighbours is copied, but all else is made anew.
+    pub fn grow(&mut self, alloc: Global, vertices: u32) -> Result<(), GrowFault>
+        ensures grown { IfOk result (λ _. self.new ≡ grown vertices self.old) }
+        ensures graph { IfOk result (λ _. self.new.graph ≡ with_vertices vertices self.old.graph) }
+        ensures old_numbers { IfOk result (λ _. (v : ℕ) → v < self.old.graph.size → slice_index self.new.core v ≡ slice_index self.old.core v) }
+        ensures new_numbers { IfOk result (λ _. (v : ℕ) → self.old.graph.size ≤ v → v < vertices → slice_index self.new.core v ≡ 0) }
+        ensures certified { IsCertified self.new }
+        ensures seidman { AreCoreNumbers self.new.graph self.new.core }
+        ensures same { OnErr result (self.new ≡ self.old) }
+        ensures cause { IfErr result (λ fault. IsGrowCause self.old.graph.size vertices fault) }
+    {
+        self.recall_certified();
+        let now = self.vertices();
+        if vertices > VERTICES {
+            return Err(GrowFault::TooManyVertices { vertices });
+        }
+        if vertices < now {
+            return Err(GrowFault::FewerVertices { vertices, now });
+        }
+        self.grow_to(alloc, vertices)?;
+        Ok(())
+    }
+
+    /// Adds vertices until there are so many in all, as many as there may be or fewer. At `NoMemory` nothing has changed.
+    fn grow_to(&mut self, alloc: Global, vertices: u32) -> Result<(), NoMemory>
         requires more { self.old.graph.size ≤ vertices }
         requires few { vertices ≤ VERTICES }
         ensures grown { IfOk result (λ _. self.new ≡ grown vertices self.old) }

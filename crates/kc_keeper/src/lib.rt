@@ -2,12 +2,18 @@
 //!
 //! `Keeper` is a graph with its core numbers and an order that certifies them. An update changes one edge, and the numbers and the order
 //! with it, at the cost of the vertices that it concerns. Contracts see no log, no table and no stamps: only the graph, the numbers and
-//! the order, and that the order certifies the numbers.
+//! the order, and that the order certifies the numbers. What can't be done is refused by a value that says why, and then nothing has changed
+//! but what it tells.
+//!
+//! `specs/Batches.antt` and `Causes.antt` have the words of the contracts. The crate stands on `kc_journal`, which it restarts by itself: so
+//! its memory goes with the graph, not with the number of updates.
 #![tactic(auto)]
 
-mod counts;
+mod changes;
 mod entering;
+mod fault;
 mod keeper;
 
-pub use counts::{AppliedCounts, Stopped};
+pub use changes::Changes;
+pub use fault::{ApplyFault, GrowFault, OpenFault, UpdateFault};
 pub use keeper::Keeper;

@@ -1,40 +1,33 @@
-//! What updates in turn did.
+//! What updates that were made in turn changed.
 ghost use Rattle.std.specs.Prelude.{◌≡◌, ◌<◌, ◌+◌, ◌&&◌, not, if◌then◌else◌};
 
 /// How many updates added their edge, and how many removed it. The others changed nothing.
 #[derive(Clone, Copy, Debug, Drop, Eq, PartialEq)]
-pub struct AppliedCounts {
+pub struct Changes {
     pub added: usize,
     pub removed: usize,
 }
 
-impl AppliedCounts {
+impl Changes {
     /// With an update more, of which this says whether it is to add its edge, and whether it changed the graph.
-    pub(crate) fn with(self, add: bool, applied: bool) -> AppliedCounts
+    pub(crate) fn with(self, add: bool, applied: bool) -> Changes
         requires { self.added + self.removed < usize.MAX }
         ensures added { result.added ≡ self.added + (if add && applied then 1 else 0) }
         ensures removed { result.removed ≡ self.removed + (if not add && applied then 1 else 0) }
     {
-        let AppliedCounts { added, removed } = self;
+        let Changes { added, removed } = self;
         if !applied {
-            AppliedCounts { added, removed }
+            Changes { added, removed }
         } else if add {
-            AppliedCounts {
+            Changes {
                 added: added + 1,
                 removed,
             }
         } else {
-            AppliedCounts {
+            Changes {
                 added,
                 removed: removed + 1,
             }
         }
     }
-}
-
-/// There was no memory for an update: those before it are made, and it and those behind it are not.
-#[derive(Clone, Copy, Debug, Drop, Eq, PartialEq)]
-pub struct Stopped {
-    /// How many updates were made.
-    pub made: usize,
 }

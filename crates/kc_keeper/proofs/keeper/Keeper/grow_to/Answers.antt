@@ -1,7 +1,7 @@
 -- What the vertices of before keep, and what the new ones have.
 use Rattle.std.proofs.lemmas.Result.{IfOk-weaker}
 use Rattle.kc_keeper.proofs.Entered.{grows}
-use Rattle.kc_keeper.proofs.keeper.Keeper.grow.Goals as goal
+use Rattle.kc_keeper.proofs.keeper.Keeper.grow_to.Goals as goal
 
 pub returns-clause-graph : goal.returns-clause-graph
 returns-clause-graph c = IfOk-weaker c.restart_with-made.result _ _
