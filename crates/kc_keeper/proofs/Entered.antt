@@ -1,5 +1,5 @@
 -- What an entry, and a run that opens anew, are to who sees graph, core numbers and order alone.
-use Rattle.std.proofs.Common.{◌≡◌, ◌≤◌, ◌<◌, ◌+◌, ◌-◌, ℕ, List, [], ◌∷◌, ◌++◌, length, get_or, refl, sym, ap, ◌∙◌, subst, arith}
+use Rattle.std.proofs.Common.{◌≡◌, ◌≤◌, ◌<◌, ◌-◌, ℕ, get_or, sym, ap, ◌∙◌, subst, arith}
 use Rattle.kc_graph.specs.SimpleGraph.{SimpleGraph}
 use Rattle.kc_graph.specs.Growing.{grown, with_vertices}
 use Rattle.kc_graph.specs.Lawful.{IsCertified, Ranked}
