@@ -1,5 +1,5 @@
 -- The edges of what is read join vertices that there are, and it has no more updates than a text may have.
-use Rattle.std.proofs.Common.{◌≡◌, ◌<◌, ◌≤◌, ℕ, List, [], ◌∷◌, length, map, flat_map, refl, sym, ap, subst, ◌∙◌, arith, length-append}
+use Rattle.std.proofs.Common.{◌≡◌, ◌<◌, ◌≤◌, ℕ, List, [], ◌∷◌, length, map, flat_map, sym, ap, subst, ◌∙◌, arith, length-append}
 use Rattle.std.specs.Prelude.{All}
 use Rattle.std.proofs.lemmas.List.{length-map}
 use Rattle.std.proofs.lemmas.List.Sums.{sum_by-cons}
@@ -14,13 +14,9 @@ use Rattle.kc_text.specs.declared.input.Input.{Input}
 use Rattle.kc_text.specs.declared.limits.TheConstants.{MOST_UPDATES}
 use Rattle.kc_text.proofs.Overruled.{deciding-count}
 use Rattle.kc_text.proofs.WithinLimits.{meaning-fit}
+use Rattle.kc_read.proofs.StartGraphs.{size-start_graph}
 use Rattle.kc_run.specs.Entered.{update_count}
 use Rattle.kc_output.specs.Inputs.{updates_of}
-
--- the graph of an input has a vertex for each id
-size-start_graph : (ids : List ℕ) (edges : List (ℕ × ℕ)) → (start_graph ids edges).size ≡ length ids
-unfolding start_graph
-size-start_graph ids edges = refl
 
 -- the edges of an input join two of its ids
 pub edges_within : (told : Told) (input : Input) → IsInput told input → All (λ p. (p.0 < p.1) × (p.1 < length input.ids.items)) input.start.items

@@ -1,25 +1,16 @@
 -- Where there is no text, nothing was taken or left; else what was taken of it, and its first piece, is what the write tells.
-use Rattle.std.proofs.Common.{◌≡◌, ◌≤◌, ◌<◌, ◌∙◌, ℕ, List, Option, Result, Ok, Err, Some, false, length, subst, sym, take, true}
+use Rattle.std.proofs.Common.{◌≡◌, ◌≤◌, ◌<◌, ◌∙◌, ℕ, List, Option, Result, Some, false, length, subst, sym, take, true}
 use Rattle.std.specs.Prelude.{OnErr, OnOk}
 use Rattle.std.specs.Result.{is_err}
 use Rattle.std.specs.Io.KnownBytes.{Appends}
 use Rattle.kc_io.specs.FirstPiece.{KeepsFirst}
+use Rattle.kc_read.proofs.Outcomes.{at_err, at_ok}
 use Rattle.kc_output.specs.declared.setting.Setting.{Setting}
 use Rattle.kc_top.specs.Leaving.{AnswersInput}
 use Rattle.kc_top.proofs.Promised.{EndedFor-cut, EndedFor-done, EndedFor-stopped, EndedFor-without_text}
 use Rattle.kc_top.proofs.Stopping.{IsAnswer-of, some_text}
 use Rattle.kc_run.specs.declared.ran.Ran.{Ran}
 use Rattle.kc_top.proofs.run.follow.Goals as goal
-
--- what holds at Ok holds where there is no error
-at_ok : {T E P : Type 0} (r : Result T E) → OnOk r P → is_err r ≡ false → P
-at_ok (Ok u) p is = p
-at_ok (Err e) p is = absurd (cc is)
-
--- what holds at Err holds where there is one
-at_err : {T E P : Type 0} (r : Result T E) → OnErr r P → is_err r ≡ true → P
-at_err (Ok u) p is = absurd (cc is)
-at_err (Err e) p is = p
 
 -- a text is not empty, so what was written of it was offered whole
 offered-so : (setting : Setting) (input : Option (List ℕ)) (before after : Option ℕ) (text written : List ℕ) (ran : Ran)
