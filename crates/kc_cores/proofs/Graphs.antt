@@ -1,5 +1,5 @@
 -- The graph of what was read is the graph that the bytes mean.
-use Rattle.std.proofs.Common.{◌≡◌, ◌<◌, ◌∙◌, ℕ, List, Option, Some, IfSome, length, refl, sym, ap, subst}
+use Rattle.std.proofs.Common.{◌≡◌, ◌<◌, ◌∙◌, ℕ, List, Option, length, sym, ap, subst}
 use Rattle.std.specs.FinSet as set
 use Rattle.std.specs.Prelude.{All}
 use Rattle.kc_graph.specs.SimpleGraph.{SimpleGraph}
@@ -7,6 +7,7 @@ use Rattle.kc_text.specs.Inputs.{AreIds, IsInput, start_graph}
 use Rattle.kc_text.specs.Meaning.{Meaning, Told, meaning, names}
 use Rattle.kc_text.specs.declared.input.Input.{Input}
 use Rattle.kc_text.specs.declared.limits.TheConstants.Limits.{GRAPH}
+use Rattle.kc_read.proofs.StartGraphs.{size-start_graph}
 use Rattle.kc_cores.specs.Answers.{graph_meaning}
 use Rattle.kc_cores.specs.Inputs.{HasFewIds, IsGraphOf, IsReadOf}
 
@@ -14,11 +15,6 @@ use Rattle.kc_cores.specs.Inputs.{HasFewIds, IsGraphOf, IsReadOf}
 pub graph_meaning-is : (bytes : List ℕ) (m : Meaning) → meaning GRAPH bytes ≡ m → graph_meaning bytes ≡ m
 unfolding graph_meaning
 graph_meaning-is bytes m is = is
-
--- the graph of an input has a vertex for each id
-size-start_graph : (ids : List ℕ) (edges : List (ℕ × ℕ)) → (start_graph ids edges).size ≡ length ids
-unfolding start_graph
-size-start_graph ids edges = refl
 
 -- the graph of the pairs of an input is the graph of its ids and edges
 graph-of_pairs : (told : Told) (input : Input) (g : SimpleGraph) → IsInput told input
@@ -34,14 +30,13 @@ HasFewIds-read known input r = record {
 }
 
 -- the graph of the pairs of what was read is the graph that the bytes mean
-pub IsGraphOf-read : (known : Option (List ℕ)) (bytes ids : List ℕ) (input : Input) (g : SimpleGraph) → IsReadOf (Some bytes) input
-    → IfSome known (λ all. bytes ≡ all) → ids ≡ input.ids.items
+pub IsGraphOf-read : (known : Option (List ℕ)) (ids : List ℕ) (input : Input) (g : SimpleGraph) → IsReadOf known input → ids ≡ input.ids.items
     → g ≡ record { size = length input.ids.items; edges = set.from_list input.start.items } → IsGraphOf known ids g
-IsGraphOf-read known bytes ids input g r all same is = record {
-  bytes = bytes;
-  read = all;
+IsGraphOf-read known ids input g r same is = record {
+  bytes = r.bytes;
+  read = r.read;
   told = r.told;
-  means = ap graph_meaning (sym r.read) ∙ r.means;
+  means = r.means;
   named = subst (λ (xs : List ℕ). AreIds (names r.told) xs) (sym same) r.is.named;
   is = graph-of_pairs r.told input g r.is is ∙ sym (ap (λ (xs : List ℕ). start_graph xs r.told.edges) same);
 }

@@ -1,12 +1,10 @@
 -- Why an input gives no graph.
-use Rattle.std.proofs.Common.{◌≡◌, ◌<◌, ℕ, List, Option, None, Some, IfSome, ap, cond, length, lt-ltb}
-use Rattle.kc_text.specs.Forms.{all_said}
-use Rattle.kc_text.specs.Meaning.{Refuses, nothing_told, reading}
+use Rattle.std.proofs.Common.{◌≡◌, ℕ, List, Option, None, Some, IfSome}
+use Rattle.kc_text.specs.Meaning.{Refuses, meaning}
 use Rattle.kc_text.specs.declared.kind.Kind.{Kind}
-use Rattle.kc_text.specs.declared.kind.Kind.TheVariants.{TooLong}
 use Rattle.kc_text.specs.declared.limits.TheConstants.Limits.{GRAPH}
 use Rattle.kc_cores.specs.Answers.{graph_meaning}
-use Rattle.kc_cores.specs.Endings.{HasNoGraph, HasNoGraphIn, NoGraphAt, NoGraphInAt, RefusalAt, TellsRefusal, line_of}
+use Rattle.kc_cores.specs.Endings.{HasNoGraph, NoGraphAt, RefusalAt, TellsRefusal, line_of}
 use Rattle.kc_cores.specs.declared.CoresStatus.{CoresStatus}
 use Rattle.kc_cores.specs.declared.CoresStatus.TheVariants as status
 use Rattle.kc_cores.specs.declared.ending.Ending.{Ending}
@@ -29,27 +27,8 @@ pub HasNoGraph-refused : (e : Ending) (n : ℕ) (kind : Kind) (known : Option (L
     → IfSome known (λ bytes. graph_meaning bytes ≡ Refuses n kind) → f' ≡ f → HasNoGraph e known f f'
 HasNoGraph-refused e n kind known f f' h m kept = refused-no_graph e.status (line_of e) n kind known f f' h m kept
 
--- too many bytes are refused as a whole
-pub too_long_refuses : (known : Option (List ℕ)) → IfSome known (λ all. GRAPH.bytes < length all)
-    → IfSome known (λ bytes. graph_meaning bytes ≡ Refuses 0 TooLong)
-too_long_refuses None h = tt
-too_long_refuses (Some all) h =
-    graph_meaning-is all (Refuses 0 TooLong)
-    (ap (λ b. cond b (Refuses 0 TooLong) (reading GRAPH 0 nothing_told (all_said all))) (lt-ltb GRAPH.bytes (length all) h))
-
--- a refusal of bytes says why they give no graph
-refused-none_in : (end : CoresStatus) (line : List ℕ) (n : ℕ) (kind : Kind) (bytes : List ℕ) → RefusalAt end line n kind
-    → graph_meaning bytes ≡ Refuses n kind → NoGraphInAt end line bytes
-refused-none_in status.Refused line n kind bytes h m = (n, kind, h, m)
-refused-none_in status.NoMemory line n kind bytes h m = h
-refused-none_in status.Done line n kind bytes h m = absurd h
-refused-none_in status.Shown line n kind bytes h m = absurd h
-refused-none_in status.Usage line n kind bytes h m = absurd h
-refused-none_in status.Unopened line n kind bytes h m = absurd h
-refused-none_in status.ReadFault line n kind bytes h m = absurd h
-refused-none_in status.WriteFault line n kind bytes h m = absurd h
-
--- an ending by a refusal of bytes says why they give no graph
-pub HasNoGraphIn-refused : (e : Ending) (n : ℕ) (kind : Kind) (bytes : List ℕ) → TellsRefusal e n kind → graph_meaning bytes ≡ Refuses n kind
-    → HasNoGraphIn e bytes
-HasNoGraphIn-refused e n kind bytes h m = refused-none_in e.status (line_of e) n kind bytes h m
+-- what is refused within the limits of a graph is refused as the text of a graph
+pub graph_refused : (n : ℕ) (kind : Kind) (known : Option (List ℕ)) → IfSome known (λ all. meaning GRAPH all ≡ Refuses n kind)
+    → IfSome known (λ bytes. graph_meaning bytes ≡ Refuses n kind)
+graph_refused n kind None h = tt
+graph_refused n kind (Some all) h = graph_meaning-is all (Refuses n kind) h

@@ -37,16 +37,6 @@ RefusalAt _ line n kind = ⊥
 abbrev pub TellsRefusal : Ending → ℕ → Kind → Type 0
 TellsRefusal ending n kind = RefusalAt ending.status (line_of ending) n kind
 
--- why bytes give no graph: they are refused with this line, or there was no memory
-abbrev pub NoGraphInAt : CoresStatus → List ℕ → List ℕ → Type 0
-NoGraphInAt status.Refused line bytes = (n : ℕ) × (kind : Kind) × (line ≡ refused_line n kind) × (graph_meaning bytes ≡ Refuses n kind)
-NoGraphInAt status.NoMemory line bytes = line ≡ no_memory_line
-NoGraphInAt _ line bytes = ⊥
-
--- the run ends since the bytes give no graph
-abbrev pub HasNoGraphIn : Ending → List ℕ → Type 0
-HasNoGraphIn ending bytes = NoGraphInAt ending.status (line_of ending) bytes
-
 -- Why an input gives no graph, where `known` are its bytes if they are known. Its count of faults rose at a read fault alone.
 abbrev pub NoGraphAt : CoresStatus → List ℕ → Option (List ℕ) → ℕ → ℕ → Type 0
 NoGraphAt status.Refused line known before after =

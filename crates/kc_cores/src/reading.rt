@@ -1,23 +1,18 @@
 //! The graph of an input.
 ghost use Rattle.std.specs.FinSet as set;
-ghost use Rattle.std.specs.Prelude.{◌≡◌, ◌≤◌, ℕ, List, Option, IfErr, IfOk, IfSome, OnOk, Some, length, option_map};
+ghost use Rattle.std.specs.Prelude.{◌≡◌, ◌≤◌, ℕ, List, Option, IfErr, IfOk, IfSome, OnOk, length, option_map};
 ghost use Rattle.std.specs.Io.KnownBytes.{IsAtEnd};
-ghost use Rattle.kc_cores.specs.Endings.{HasNoFileGraph, HasNoGraph, HasNoGraphIn};
+ghost use Rattle.kc_cores.specs.Endings.{HasNoFileGraph, HasNoGraph};
 ghost use Rattle.kc_cores.specs.Inputs.{HasFewIds, IsGraphOf, IsReadOf, known_bytes};
 
 use crate::ending::{Ending, refused, unopened};
 use crate::input::FileInput;
 use kc_flat::FlatGraph;
 use kc_graph::NoMemory;
-use kc_io::source::{ReadAllFault, Source, read_all};
-use kc_text::{Input, Kind, Limits, ParseFault, Refusal, parse};
+use kc_io::source::Source;
+use kc_read::{InputFault, read_input};
+use kc_text::{Input, Limits};
 use std::alloc::Global;
-
-/// The input as a whole has too many bytes.
-const TOO_MANY_BYTES: Refusal = Refusal {
-    line: 0,
-    kind: Kind::TooLong,
-};
 
 /// A graph, and the ids that its vertices stand for.
 #[derive(Drop)]
@@ -27,30 +22,18 @@ pub(crate) struct NamedGraph {
     pub(crate) graph: FlatGraph,
 }
 
-/// All bytes of the source.
-fn bytes_from<S: Source>(alloc: Global, source: &mut S) -> Result<Vec<u8>, Ending>
-    ensures bytes { IfOk result (λ bytes. IfSome (S.left source.old) (λ known. bytes.items ≡ known)) }
+/// The input that all bytes of the source mean. The text is not held.
+fn input_from<S: Source>(alloc: Global, source: &mut S) -> Result<Input, Ending>
+    ensures input { IfOk result (IsReadOf (S.left source.old)) }
     ensures read { OnOk result (IsAtEnd (S.left source.new)) }
     ensures stopped { IfErr result (λ ending. HasNoGraph ending (S.left source.old) (S.faults source.old) (S.faults source.new)) }
     ensures faultless { OnOk result (S.faults source.new ≡ S.faults source.old) }
 {
-    match read_all(alloc, source, Limits::GRAPH.bytes) {
-        Ok(bytes) => Ok(bytes),
-        Err(ReadAllFault::ReadFault) => Err(Ending::read_fault()),
-        Err(ReadAllFault::TooLong) => Err(refused(alloc, TOO_MANY_BYTES)),
-        Err(ReadAllFault::NoMemory) => Err(Ending::no_memory()),
-    }
-}
-
-/// The input that the bytes give, which are dropped.
-fn parsed(alloc: Global, bytes: Vec<u8>) -> Result<Input, Ending>
-    ensures input { IfOk result (IsReadOf (Some bytes.items)) }
-    ensures stopped { IfErr result (λ ending. HasNoGraphIn ending bytes.items) }
-{
-    match parse(alloc, Limits::GRAPH, &bytes) {
+    match read_input(alloc, source, Limits::GRAPH) {
         Ok(input) => Ok(input),
-        Err(ParseFault::Refused(refusal)) => Err(refused(alloc, refusal)),
-        Err(ParseFault::NoMemory) => Err(Ending::no_memory()),
+        Err(InputFault::ReadFault) => Err(Ending::read_fault()),
+        Err(InputFault::Refused(refusal)) => Err(refused(alloc, refusal)),
+        Err(InputFault::NoMemory) => Err(Ending::no_memory()),
     }
 }
 
@@ -72,8 +55,7 @@ fn graph_from<S: Source>(alloc: Global, source: &mut S) -> Result<NamedGraph, En
     ensures stopped { IfErr result (λ ending. HasNoGraph ending (S.left source.old) (S.faults source.old) (S.faults source.new)) }
     ensures faultless { OnOk result (S.faults source.new ≡ S.faults source.old) }
 {
-    let bytes = bytes_from(alloc, source)?;
-    let input = parsed(alloc, bytes)?;
+    let input = input_from(alloc, source)?;
     Ok(graph_of(alloc, input)?)
 }
 

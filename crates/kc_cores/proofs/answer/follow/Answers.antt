@@ -1,10 +1,11 @@
 -- What was taken of the lines is what the write tells, and the lines are those of the graph that was read.
-use Rattle.std.proofs.Common.{◌≡◌, ◌∙◌, List, ℕ, Result, Ok, Err, ap, false, length, subst, sym, true}
-use Rattle.std.specs.Prelude.{IfErr, OnErr, OnOk, string_bytes}
-use Rattle.std.specs.Result.{IsErrAnd, is_err}
+use Rattle.std.proofs.Common.{◌≡◌, ◌∙◌, List, ℕ, Result, Ok, Err, ap, length, subst, sym}
+use Rattle.std.specs.Prelude.{IfErr, string_bytes}
+use Rattle.std.specs.Result.{IsErrAnd}
 use Rattle.kc_graph.specs.Core.{AreCoreNumbers}
 use Rattle.kc_graph.specs.SimpleGraph.{SimpleGraph}
 use Rattle.kc_graph.proofs.Law.{certified-core_numbers}
+use Rattle.kc_read.proofs.Outcomes.{at_err, at_ok}
 use Rattle.kc_cores.specs.Answers.{AreLinesFor, summary_line}
 use Rattle.kc_cores.specs.Endings.{file_of, line_of}
 use Rattle.kc_cores.specs.Listings.{Fits, listing_lines}
@@ -15,16 +16,6 @@ use Rattle.kc_cores.specs.declared.request.Task.{Task}
 use Rattle.kc_cores.proofs.Ended.{CoresEnded-at, CoresEnded-cut, CoresEnded-done, CoresEnded-no_graph}
 use Rattle.kc_cores.proofs.Graphs.{size-graph_of}
 use Rattle.kc_cores.proofs.answer.follow.Goals as goal
-
--- what holds at Ok holds where there is no error
-at_ok : {T E P : Type 0} (r : Result T E) → OnOk r P → is_err r ≡ false → P
-at_ok (Ok u) p is = p
-at_ok (Err e) p is = absurd (cc is)
-
--- what holds at Err holds where there is one
-at_err : {T E P : Type 0} (r : Result T E) → OnErr r P → is_err r ≡ true → P
-at_err (Ok u) p is = absurd (cc is)
-at_err (Err e) p is = p
 
 -- what holds of a listing with the ids and the numbers holds where they are handed over
 lines-of : (task : Task) (listing : Listing) (g : SimpleGraph) (ids core ids' core' core'' : List ℕ)

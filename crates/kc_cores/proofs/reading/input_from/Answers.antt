@@ -1,0 +1,28 @@
+-- What the reader tells of all bytes within the limits of a graph is what is told of the text of a graph.
+use Rattle.kc_text.specs.Meaning.{Means}
+use Rattle.kc_cores.proofs.Graphs.{graph_meaning-is}
+use Rattle.kc_cores.proofs.Stopping.{HasNoGraph-refused, graph_refused}
+use Rattle.std.proofs.Common.{refl, arith}
+use Rattle.kc_cores.proofs.reading.input_from.Goals as goal
+
+pub returns-in-Ok-clause-input : goal.returns-in-Ok-clause-input
+returns-in-Ok-clause-input g c =
+    let within = c.in-Ok.ensures.input in
+    record {
+      bytes = within.bytes;
+      read = within.read;
+      told = within.told;
+      means = graph_meaning-is within.bytes (Means within.told) within.means;
+      is = within.is;
+      few = omega (arith, c.in-Ok.ensures.few);
+    }
+
+pub returns-in-Err-Refused-clause-stopped : goal.returns-in-Err-Refused-clause-stopped
+returns-in-Err-Refused-clause-stopped g c =
+    let line = c.in-Err-Refused.refusal.line in
+    let kind = c.in-Err-Refused.refusal.kind in
+    let known = g.S.Source.left c.args.source.now in
+    let refused = rw c.in-Err-Refused.field-0-is at c.in-Err-Refused.ensures.refused in
+    let faultless = rw c.in-Err-Refused.field-0-is at c.in-Err-Refused.ensures.faultless in
+    HasNoGraph-refused c.refused.result line kind known _ _ c.refused.ensures (graph_refused line kind known (refused c.in-Err-Refused.refusal refl))
+    (faultless (λ e. absurd (cc)))
