@@ -7,6 +7,7 @@ use Rattle.kc_c.specs.declared.answer.CallResult.{CallResult}
 use Rattle.kc_c.specs.declared.answer.Refusal.{Refusal}
 use Rattle.kc_c.specs.declared.answer.Refusal.TheVariants.{WrongCoreLength, WrongOrderLength, WrongMembersLength, NotAVertex, NoMemory, NotCertified}
 use Rattle.kc_c.specs.declared.answer.Refusal.TheVariants.{WrongRankLength, WrongLaterLength, WrongSupportersLength, Loop, GreaterFirst, NotAbove, NotAgreed}
+use Rattle.kc_c.specs.declared.answer.Refusal.TheVariants.{NotOpen, TooManyVertices, TooFewVertices, Stopped}
 
 -- where the first edge stands that has an end which is no vertex
 abbrev pub first_stranger : ℕ → List Edge → Option ℕ
@@ -33,3 +34,7 @@ answer_to (Err (Loop place)) = record { status = 10; number = place }
 answer_to (Err (GreaterFirst place)) = record { status = 11; number = place }
 answer_to (Err (NotAbove place)) = record { status = 12; number = place }
 answer_to (Err NotAgreed) = record { status = 13; number = 0 }
+answer_to (Err NotOpen) = record { status = 14; number = 0 }
+answer_to (Err TooManyVertices) = record { status = 15; number = 0 }
+answer_to (Err TooFewVertices) = record { status = 16; number = 0 }
+answer_to (Err (Stopped made)) = record { status = 5; number = made }

@@ -38,6 +38,14 @@ pub(crate) enum Refusal {
     NotAbove(usize),
     /// The counts do not agree with the numbers.
     NotAgreed,
+    /// No keeper lies at the place.
+    NotOpen,
+    /// There are more vertices than a keeper can have.
+    TooManyVertices,
+    /// There are more vertices than these already.
+    TooFewVertices,
+    /// There was no memory for the update at this place: those before it are made, and it and those behind it are not.
+    Stopped(usize),
 }
 
 /// The answer that tells C how a call ended.
@@ -59,6 +67,10 @@ pub(crate) fn answer_to(outcome: Result<usize, Refusal>) -> CallResult
         Err(Refusal::GreaterFirst(place)) => (11, place),
         Err(Refusal::NotAbove(place)) => (12, place),
         Err(Refusal::NotAgreed) => (13, 0),
+        Err(Refusal::NotOpen) => (14, 0),
+        Err(Refusal::TooManyVertices) => (15, 0),
+        Err(Refusal::TooFewVertices) => (16, 0),
+        Err(Refusal::Stopped(made)) => (5, made),
     };
     CallResult { status, number }
 }

@@ -1,35 +1,41 @@
-//! Core numbers, their certificates and k-cores, for callers in C.
+//! Core numbers, their certificates and k-cores, and core numbers that are kept while edges change, for callers in C.
 //!
 //! A graph is given by its number of vertices, which are the numbers below it, and a list of edges: loops are dropped, and an edge that
 //! is listed again, in either direction, counts once (`kc_graph/specs/Bulk.antt`). `kcore_tally` alone takes a piece of the edges, in which
-//! each stands once. Each function below calls one of `kc_graph`, `kc_cert` or `kc_tally` and promises what that one does. No function has
-//! a `requires`, since nothing checks a caller in C: each argument is tested, and the `status` of the answer says what was wrong. Where it
-//! is not 0 nothing was written.
+//! each stands once. Each function calls one of `kc_graph`, `kc_cert`, `kc_tally` or `kc_keeper` and promises what that one does. Those
+//! below have no `requires`, since nothing checks a caller in C: each argument is tested, and the `status` of the answer says what was
+//! wrong. Where it is not 0 nothing was written. Those of `keeper.rt` have one premise, on the place that the caller owns.
 //!
 //! | Status | Meaning | `number` |
 //! |---|---|---|
-//! | 0 | done | of `kcore_k_core` the number of members, else 0 |
+//! | 0 | done | of `kcore_k_core` the number of members; of `kcore_keeper_update` 1 where the graph changed; of `kcore_keeper_apply` how many updates changed it; else 0 |
 //! | 1 | `core` has not one place for each vertex | 0 |
 //! | 2 | `order` has not one place for each vertex | 0 |
 //! | 3 | `members` has not one place for each vertex | 0 |
-//! | 4 | an end of an edge is no vertex | where the first such edge stands |
-//! | 5 | there is no memory | 0 |
+//! | 4 | an end of an edge or of an update is no vertex | where the first such stands |
+//! | 5 | there is no memory | of `kcore_keeper_apply` how many updates were made before, else 0 |
 //! | 6 | the order does not certify the numbers | 0 |
 //! | 7, 8, 9 | `rank`, `later` or `supporters` has not one place for each vertex | 0 |
 //! | 10 | both ends of an edge of a piece are the same | where the first edge of the piece stands that is wrong |
 //! | 11 | its greater end stands first | the same |
 //! | 12 | it is not above the edge before it | the same |
 //! | 13 | the counts do not agree with the numbers | 0 |
+//! | 14 | no keeper lies at the place, since it could not be opened | 0 |
+//! | 15 | there are more vertices than a keeper can have | 0 |
+//! | 16 | there are more vertices than these already | 0 |
 //!
 //! `include/kcore.h` declares the functions for C, and `examples/c` calls them. `kcore_version` tells which version of them is linked.
 #![tactic(auto)]
 
 mod answer;
 mod calls;
+mod keeper;
+mod keeping;
 mod members;
 mod tallying;
 #[cfg(test)]
 mod tests;
+mod updates;
 
 ghost use Rattle.std.specs.Prelude.{◌≡◌, ◌≢◌, ◌≤◌, ◌<◌, ◌+◌, ◌++◌, ◌&&◌, ◌||◌, ◌==◌, not, true, ℕ, List, length, is_some, Some, take, drop, slice_index};
 ghost use Rattle.kc_graph.specs.Bulk.{graph_with};
@@ -46,7 +52,13 @@ ghost use Rattle.kc_c.specs.Tallying.{tally_answer};
 pub use crate::answer::CallResult;
 use crate::answer::answer_to;
 use crate::calls::{check_numbers, write_core_numbers, write_decomposition, write_k_core};
+pub use crate::keeper::{
+    kcore_keeper_align, kcore_keeper_apply, kcore_keeper_core_numbers, kcore_keeper_end,
+    kcore_keeper_grow, kcore_keeper_open, kcore_keeper_size, kcore_keeper_update,
+};
+pub use crate::keeping::{CallEnd, Content, KeeperPlace};
 use crate::tallying::{Keys, judge, tally_piece};
+pub use crate::updates::GivenUpdate;
 use kc_graph::Edge;
 use std::alloc::Global;
 

@@ -1,0 +1,92 @@
+-- What the calls do with a keeper at a place, and what they answer.
+use Rattle.std.specs.Prelude.{◌≡◌, ◌≢◌, ◌<◌, ◌&&◌, ◌||◌, ◌==◌, not, ℕ, true, List, length, take, nat_lt, Option, Some, None, is_some, Err, if◌then◌else◌}
+use Rattle.kc_graph.specs.SimpleGraph.{SimpleGraph}
+use Rattle.kc_graph.specs.Bulk.{graph_with}
+use Rattle.kc_graph.specs.Core.{AreCoreNumbers}
+use Rattle.kc_graph.specs.Growing.{grown, with_vertices}
+use Rattle.kc_graph.specs.Lawful.{Ranked, IsCertified}
+use Rattle.kc_graph.specs.declared.bulk.Edge.{Edge}
+use Rattle.kc_words.specs.declared.layout.TheConstants.{VERTICES}
+use Rattle.kc_c.specs.Answers.{answer_to, first_stranger}
+use Rattle.kc_c.specs.Updating.{after_all_given, after_given, are_vertices, count_changing, first_outsider, is_changing}
+use Rattle.kc_c.specs.declared.answer.CallResult.{CallResult}
+use Rattle.kc_c.specs.declared.answer.Refusal.TheVariants.{NotOpen}
+use Rattle.kc_c.specs.declared.updates.GivenUpdate.{GivenUpdate}
+
+-- The graph is this one, the order certifies the numbers, and they are its core numbers.
+pub record IsKept (g : SimpleGraph) (k : Ranked) : Type 0 where
+  pub graph : k.graph ≡ g
+  pub certified : IsCertified k
+  pub seidman : AreCoreNumbers k.graph k.core
+
+-- A keeper of this graph lies there.
+abbrev pub Keeps : Option Ranked → SimpleGraph → Type 0
+Keeps (Some k) g = IsKept g k
+Keeps None g = ⊥
+
+-- A keeper of the listed edges' graph lies there at status 0, and none else.
+pub record Opens (now : Option Ranked) (vertices : ℕ) (edges : List Edge) (answer : CallResult) : Type 0 where
+  pub known : (answer.status == 0 || answer.status == 4 || answer.status == 5 || answer.status == 15) ≡ true
+  pub done : answer.status ≡ 0 → Keeps now (graph_with vertices edges)
+  pub empty : answer.status ≢ 0 → now ≡ None
+  pub too_many : answer.status == 15 ≡ nat_lt VERTICES vertices
+  pub stranger : answer.status == 4 ≡ (not (nat_lt VERTICES vertices) && is_some (first_stranger vertices edges))
+  pub place : answer.status ≡ 4 → first_stranger vertices edges ≡ Some answer.number
+  pub no_place : answer.status ≢ 4 → answer.number ≡ 0
+
+-- the answer where no keeper lies at the place
+abbrev pub not_open : CallResult
+not_open = answer_to (Err NotOpen)
+
+-- A keeper that lies there becomes another in this way. Where none lies there, none does afterwards, and the answer says so.
+abbrev pub AtPlace : (Ranked → Ranked → CallResult → Type 0) → Option Ranked → Option Ranked → CallResult → Type 0
+AtPlace Becomes (Some old) (Some new) answer = Becomes old new answer
+AtPlace Becomes (Some old) None answer = ⊥
+AtPlace Becomes None (Some new) answer = ⊥
+AtPlace Becomes None None answer = answer ≡ not_open
+
+-- The keeper is of the graph after the update at status 0, and `number` is 1 where that is another graph; else all is as it was.
+pub record IsUpdatedBy (update : GivenUpdate) (old new : Ranked) (answer : CallResult) : Type 0 where
+  pub known : (answer.status == 0 || answer.status == 4 || answer.status == 5) ≡ true
+  pub done : answer.status ≡ 0 → IsKept (after_given update old.graph) new
+  pub number : answer.status ≡ 0 → answer.number ≡ (if is_changing update old.graph then 1 else 0)
+  pub same : answer.status ≢ 0 → new ≡ old
+  pub no_number : answer.status ≢ 0 → answer.number ≡ 0
+  pub stranger : answer.status == 4 ≡ not (are_vertices old.graph.size update)
+
+-- The keeper is of the graph after all updates at status 0, and `number` counts those that changed the graph. At status 5 `number` of them
+-- are made, in turn, and at any other status none.
+pub record IsUpdatedByAll (updates : List GivenUpdate) (old new : Ranked) (answer : CallResult) : Type 0 where
+  pub known : (answer.status == 0 || answer.status == 4 || answer.status == 5) ≡ true
+  pub done : answer.status ≡ 0 → IsKept (after_all_given old.graph updates) new
+  pub number : answer.status ≡ 0 → answer.number ≡ count_changing old.graph updates
+  pub stopped : answer.status ≡ 5 → IsKept (after_all_given old.graph (take answer.number updates)) new
+  pub fewer : answer.status ≡ 5 → answer.number < length updates
+  pub same : answer.status ≡ 4 → new ≡ old
+  pub stranger : answer.status == 4 ≡ is_some (first_outsider old.graph.size updates)
+  pub place : answer.status ≡ 4 → first_outsider old.graph.size updates ≡ Some answer.number
+
+-- The keeper has so many vertices at status 0: the new ones have no edges and core number 0, and the others keep their core numbers and
+-- their order. Else all is as it was.
+pub record IsGrownTo (vertices : ℕ) (old new : Ranked) (answer : CallResult) : Type 0 where
+  pub known : (answer.status == 0 || answer.status == 5 || answer.status == 15 || answer.status == 16) ≡ true
+  pub done : answer.status ≡ 0 → new ≡ grown vertices old
+  pub kept : answer.status ≡ 0 → IsKept (with_vertices vertices old.graph) new
+  pub same : answer.status ≢ 0 → new ≡ old
+  pub no_number : answer.number ≡ 0
+  pub too_many : answer.status == 15 ≡ nat_lt VERTICES vertices
+  pub too_few : answer.status == 16 ≡ (not (nat_lt VERTICES vertices) && nat_lt vertices old.graph.size)
+
+-- The list has the core numbers of the keeper's graph at status 0, and else what it had.
+pub record AreRead (k : Ranked) (old new : List ℕ) (answer : CallResult) : Type 0 where
+  pub known : (answer.status == 0 || answer.status == 1) ≡ true
+  pub done : answer.status ≡ 0 → new ≡ k.core
+  pub seidman : answer.status ≡ 0 → AreCoreNumbers k.graph new
+  pub same : answer.status ≢ 0 → new ≡ old
+  pub no_number : answer.number ≡ 0
+  pub core_length : answer.status == 1 ≡ not (length old == k.graph.size)
+
+-- The core numbers of the keeper that lies there are read into the list. Where none lies there, the list is as it was.
+abbrev pub NumbersAt : Option Ranked → List ℕ → List ℕ → CallResult → Type 0
+NumbersAt (Some k) old new answer = AreRead k old new answer
+NumbersAt None old new answer = (new ≡ old) × (answer ≡ not_open)

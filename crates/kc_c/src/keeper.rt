@@ -1,0 +1,131 @@
+//! A graph that lives across calls, at a place that the caller owns, with core numbers that are kept right while edges come and go.
+//!
+//! A place is memory of `kcore_keeper_size()` bytes at an address that is a multiple of `kcore_keeper_align()`. `kcore_keeper_open` puts
+//! a keeper there, `kcore_keeper_end` takes it away, and between them each call moves it out, changes it, and puts it back. Where it could
+//! not be opened, an empty one lies there, which answers status 14 to each call.
+//!
+//! What lies at the place is a premise here, which a caller in C has to keep: `uninit_at` is room of that size and alignment that nobody
+//! else uses, and `points_to` is such room in which an earlier call left this content.
+ghost use Rattle.std.specs.Borrow.{sem};
+ghost use Rattle.std.specs.Ptr.{points_to, uninit_at};
+ghost use Rattle.kc_c.specs.contracts.keeping.Content.{the_row};
+ghost use Rattle.kc_c.specs.Keeping.{AtPlace, IsGrownTo, IsUpdatedBy, IsUpdatedByAll, NumbersAt, Opens};
+ghost use Rattle.kc_c.specs.Updating.{given_update};
+
+use crate::answer::CallResult;
+use crate::keeping::{
+    CallEnd, Content, KeeperPlace, apply_updates, grow_keeper, let_go, open_keeper, read_numbers,
+    update_keeper,
+};
+use crate::updates::GivenUpdate;
+use kc_graph::Edge;
+use std::alloc::Global;
+
+/// How many bytes a place for a keeper has.
+#[unsafe(no_mangle)]
+pub extern "C" fn kcore_keeper_size() -> usize {
+    std::mem::size_of::<Content>()
+}
+
+/// What the address of such a place is a multiple of.
+#[unsafe(no_mangle)]
+pub extern "C" fn kcore_keeper_align() -> usize {
+    std::mem::align_of::<Content>()
+}
+
+/// Opens a keeper of the graph with these edges, at a place where nothing lies.
+#[unsafe(no_mangle)]
+pub unsafe extern "C" fn kcore_keeper_open(
+    alloc: Global,
+    place: *mut KeeperPlace,
+    vertices: u32,
+    edges: &[Edge],
+) -> CallResult
+    requires* { sem 𝓛 (uninit_at the_row place) }
+    ensures* { ∃ₛ λ (s : Content). sem 𝓛 (points_to the_row place s) ∗ ⌜ Opens s.keeper vertices edges.now result ⌝ }
+{
+    let p = place as *mut Content;
+    let CallEnd { content, answer } = open_keeper(alloc, vertices, edges);
+    p.write(content);
+    answer
+}
+
+/// Adds the edge between two vertices, or removes it where `add` is 0. `number` is 1 where the graph changed.
+#[unsafe(no_mangle)]
+pub unsafe extern "C" fn kcore_keeper_update(
+    alloc: Global,
+    place: *mut KeeperPlace,
+    u: u32,
+    v: u32,
+    add: u32,
+) -> CallResult
+    ghost g: { Content }
+    requires* { sem 𝓛 (points_to the_row place g) }
+    ensures* { ∃ₛ λ (s : Content). sem 𝓛 (points_to the_row place s) ∗ ⌜ AtPlace (IsUpdatedBy (given_update u v add)) g.keeper s.keeper result ⌝ }
+{
+    let p = place as *mut Content;
+    let CallEnd { content, answer } = update_keeper(alloc, p.read(), u, v, add);
+    p.write(content);
+    answer
+}
+
+/// Makes updates in turn. `number` is how many changed the graph; where there was no memory, how many were made.
+#[unsafe(no_mangle)]
+pub unsafe extern "C" fn kcore_keeper_apply(
+    alloc: Global,
+    place: *mut KeeperPlace,
+    updates: &[GivenUpdate],
+) -> CallResult
+    ghost g: { Content }
+    requires* { sem 𝓛 (points_to the_row place g) }
+    ensures* { ∃ₛ λ (s : Content). sem 𝓛 (points_to the_row place s) ∗ ⌜ AtPlace (IsUpdatedByAll updates.now) g.keeper s.keeper result ⌝ }
+{
+    let p = place as *mut Content;
+    let CallEnd { content, answer } = apply_updates(alloc, p.read(), updates);
+    p.write(content);
+    answer
+}
+
+/// Adds vertices without edges, until there are so many in all.
+#[unsafe(no_mangle)]
+pub unsafe extern "C" fn kcore_keeper_grow(
+    alloc: Global,
+    place: *mut KeeperPlace,
+    vertices: u32,
+) -> CallResult
+    ghost g: { Content }
+    requires* { sem 𝓛 (points_to the_row place g) }
+    ensures* { ∃ₛ λ (s : Content). sem 𝓛 (points_to the_row place s) ∗ ⌜ AtPlace (IsGrownTo vertices) g.keeper s.keeper result ⌝ }
+{
+    let p = place as *mut Content;
+    let CallEnd { content, answer } = grow_keeper(alloc, p.read(), vertices);
+    p.write(content);
+    answer
+}
+
+/// Writes the core number of each vertex to its place in `core`.
+#[unsafe(no_mangle)]
+pub unsafe extern "C" fn kcore_keeper_core_numbers(
+    place: *mut KeeperPlace,
+    core: &mut [u32],
+) -> CallResult
+    ghost g: { Content }
+    requires* { sem 𝓛 (points_to the_row place g) }
+    ensures* { sem 𝓛 (points_to the_row place g) ∗ ⌜ NumbersAt g.keeper core.old core.new result ⌝ }
+{
+    let p = place as *mut Content;
+    let CallEnd { content, answer } = read_numbers(p.read(), core);
+    p.write(content);
+    answer
+}
+
+/// Gives back all that a keeper holds. Nothing lies at the place then.
+#[unsafe(no_mangle)]
+pub unsafe extern "C" fn kcore_keeper_end(place: *mut KeeperPlace)
+    ghost g: { Content }
+    requires* { sem 𝓛 (points_to the_row place g) }
+    ensures* { sem 𝓛 (uninit_at the_row place) }
+{
+    let p = place as *mut Content;
+    let_go(p.read());
+}
