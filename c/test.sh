@@ -30,10 +30,14 @@ ${CC:-cc} $flags "$top/examples/c/core_numbers.c" "$build/libkcore.a" -o "$build
 ${CC:-cc} $flags $sanitized "$top/examples/c/core_numbers.c" "$build/libkcore.a" -o "$build/core_numbers_sanitized"
 ${CC:-cc} $flags "$top/examples/c/tally.c" "$build/libkcore.a" -o "$build/tally"
 ${CC:-cc} $flags $sanitized "$top/examples/c/tally.c" "$build/libkcore.a" -o "$build/tally_sanitized"
-${CC:-cc} $flags $wrapped "$top/examples/c/no_memory.c" "$build/libkcore.a" -o "$build/no_memory"
-${CC:-cc} $flags $sanitized "$top/examples/c/no_memory.c" $wrapped "$build/libkcore.a" -o "$build/no_memory_sanitized"
+${CC:-cc} $flags "$top/examples/c/keep.c" "$build/libkcore.a" -o "$build/keep"
+${CC:-cc} $flags $sanitized "$top/examples/c/keep.c" "$build/libkcore.a" -o "$build/keep_sanitized"
+for program in no_memory keep_no_memory; do
+    ${CC:-cc} $flags $wrapped "$top/examples/c/$program.c" "$build/libkcore.a" -o "$build/$program"
+    ${CC:-cc} $flags $sanitized "$top/examples/c/$program.c" $wrapped "$build/libkcore.a" -o "$build/${program}_sanitized"
+done
 
-# The example's status on standard input is 1, it writes no number, and tells this.
+# The example's status on standard input is 1, it writes nothing, and tells this.
 refused() {
     told=$1
     if "$build/$program" > "$build/found" 2> "$build/told"; then
@@ -76,6 +80,24 @@ for program in tally tally_sanitized; do
       echo "edge twice 12 loop 10 turned 11 past the vertices 4 before its range 12"; } | cmp - "$build/found"
 done
 echo "tally: karate in two pieces; each number that is one off is refused, and each wrong edge with its status"
-"$build/no_memory"
-"$build/no_memory_sanitized"
+for program in keep keep_sanitized; do
+    printf '+ 0 1\n+ 1 2\n+ 2 0\n+ 2 3\n\n# the tail closes\n+\t3 0\r\n+ 0 3\n+ 1 1\n\n\n- 1 0\n+ 5 4' | "$build/$program" > "$build/found"
+    printf 'batch 1 changed 4\n0 0 2\n1 0 2\n2 0 2\n3 0 1\nbatch 2 changed 1\n3 1 2\nbatch 3 changed 2\n1 2 1\n4 0 1\n5 0 1\n' > "$build/wanted"
+    cmp "$build/wanted" "$build/found"
+    "$build/$program" < /dev/null | cmp - /dev/null
+    for line in '1 2' '+1 2' '+ 1' '+ 1 2 3' '- 1 -2' '+ 1 524288' '+ 99999999999999999999 1' '+ 1 2x' '* 1 2' '+ 1 2\0003'; do
+        printf "+ 0 1\n+ 1 2\n$line\n+ 2 0\n" | refused 'line 3: this is not'
+    done
+    # All edges of a graph as one batch, and then away one by one: in the end each core number is 0 again.
+    grep -v '^#' "$top/graphs/karate.txt" | sed 's/^/+ /' > "$build/updates"
+    { cat "$build/updates"; echo; sed 's/^+/-/; s/$/\n/' "$build/updates"; } | "$build/$program" > "$build/found"
+    sed '/^batch 2 /,$d; /^batch/d; s/ 0 / /' "$build/found" > "$build/first"
+    sed 's/^+ //' "$build/updates" | "$build/core_numbers" | grep -v ' 0$' | cmp - "$build/first"
+    awk '$1 != "batch" { core[$1] = $3 } END { for (v in core) if (core[v] != 0) exit 1 }' "$build/found"
+done
+echo "keep: karate in one batch has the numbers of core_numbers, and none when its edges are gone; each line that it can't use is refused"
+for program in no_memory keep_no_memory; do
+    "$build/$program"
+    "$build/${program}_sanitized"
+done
 cd "$top/python" && ${PYTHON:-python3} -m unittest

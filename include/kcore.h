@@ -15,10 +15,11 @@
  *   - during a call no other thread writes what it is given, or reads what it writes;
  *   - malloc, realloc and free of the program belong together and align to 16;
  *   - no call is made from a signal handler, or in the child of a fork of a process with several threads.
- * All else is tested: no values of the arguments are wrong to pass. A function keeps nothing between calls, and several threads may call
- * at the same time.
+ * All else is tested: no values of the arguments are wrong to pass. A function keeps nothing between calls, but for what lies at the place
+ * of a keeper, which has duties of its own (below). Several threads may call at the same time.
  *
- * Each function but kcore_version answers a status and a number. Where the status is not KCORE_DONE, nothing was written to the results.
+ * Each function but kcore_version and three of the keeper's answers a status and a number. Where the status is not KCORE_DONE, nothing was
+ * written to the results.
  */
 #ifndef KCORE_H
 #define KCORE_H
@@ -55,7 +56,7 @@ enum kcore_status {
     KCORE_WRONG_CORE_LENGTH = 1,    /* `core` has not one place for each vertex. */
     KCORE_WRONG_ORDER_LENGTH = 2,   /* `order` has not one place for each vertex. */
     KCORE_WRONG_MEMBERS_LENGTH = 3, /* `members` has not one place for each vertex. */
-    KCORE_NOT_A_VERTEX = 4,         /* An end of edges[number] is no vertex, and of no edge before it. */
+    KCORE_NOT_A_VERTEX = 4,         /* An end of edges[number] or updates[number] is no vertex, and of nothing before it in the list. */
     KCORE_NO_MEMORY = 5,            /* There is no memory for the graph or the work. */
     KCORE_NOT_CERTIFIED = 6,        /* kcore_check: the order does not certify the numbers. */
     KCORE_WRONG_RANK_LENGTH = 7,    /* `rank` has not one place for each vertex. */
@@ -64,7 +65,10 @@ enum kcore_status {
     KCORE_LOOP = 10,                /* kcore_tally: both ends of edges[number] are the same. */
     KCORE_GREATER_FIRST = 11,       /* kcore_tally: the greater end of edges[number] stands first. */
     KCORE_NOT_ABOVE = 12,           /* kcore_tally: edges[number] is not above the edge before it, or `after`. */
-    KCORE_NOT_AGREED = 13           /* kcore_verdict: the counts do not agree with the numbers. */
+    KCORE_NOT_AGREED = 13,          /* kcore_verdict: the counts do not agree with the numbers. */
+    KCORE_NOT_OPEN = 14,            /* kcore_keeper_..: no keeper lies at the place, since it could not be opened. */
+    KCORE_TOO_MANY_VERTICES = 15,   /* kcore_keeper_..: there are more than KCORE_KEEPER_VERTICES vertices. */
+    KCORE_TOO_FEW_VERTICES = 16     /* kcore_keeper_grow: there are more vertices than these already. */
 };
 
 struct kcore_answer {
@@ -100,7 +104,7 @@ KCORE_LOOK_AT_ANSWER struct kcore_answer kcore_core_numbers(uint32_t vertices, c
  *   order       order_len places, where order_len has to be vertices; becomes the vertices in order
  *
  * Statuses: KCORE_DONE, KCORE_WRONG_CORE_LENGTH, KCORE_WRONG_ORDER_LENGTH, KCORE_NOT_A_VERTEX, KCORE_NO_MEMORY, tested in this order.
- * Cost: that of kcore_core_numbers, and a copy of the graph.
+ * Cost: that of kcore_core_numbers.
  *
  *     uint32_t core[4] = {0}, order[4] = {0};
  *     answer = kcore_degeneracy_order(4, edges, 4, core, 4, order, 4);
@@ -193,6 +197,109 @@ KCORE_LOOK_AT_ANSWER struct kcore_answer kcore_tally(uint32_t vertices, struct k
  */
 KCORE_LOOK_AT_ANSWER struct kcore_answer kcore_verdict(uint32_t vertices, const uint32_t *core, size_t core_len, const uint32_t *later,
                                                        size_t later_len, const uint32_t *supporters, size_t supporters_len);
+
+/* A keeper: a graph that lives across calls, with core numbers that are kept right while edges come and go.
+ *
+ * It lies at a place that the caller owns. kcore_keeper_open puts it there, kcore_keeper_end takes it away, and between them each call
+ * works on what lies there. What a caller owes beside the duties above, and nothing checks:
+ *   - the place has kcore_keeper_size() bytes, and its address is a multiple of kcore_keeper_align(); what malloc gives for that size is
+ *     such a place. Both stay the same for one version of the library;
+ *   - kcore_keeper_open is called where nothing lies: at new memory, after kcore_keeper_end, or after an open that was not KCORE_DONE.
+ *     At a place where a keeper lies it would lose that keeper's memory. The other functions are called after kcore_keeper_open, whatever
+ *     it answered, and not after kcore_keeper_end;
+ *   - from the opening to the end only these functions read or write the bytes, and they stay where they are: they are not copied, moved
+ *     to another address (by realloc, say) or freed;
+ *   - one call at a time uses a place, and kcore_keeper_core_numbers is one that uses it too: two threads that read one keeper at once are
+ *     the caller's fault. Different places may be used by different threads at once, and a keeper may be handed from one thread to
+ *     another, by a lock or by joining, say. A library call starts no thread.
+ *
+ *     struct kcore_keeper *keeper = malloc(kcore_keeper_size());        // and where it is not null:
+ *     struct kcore_edge edges[] = {{0, 1}, {1, 2}, {2, 0}, {2, 3}};
+ *     uint32_t core[4] = {0};
+ *     struct kcore_answer answer = kcore_keeper_open(keeper, 4, edges, 4);
+ *     answer = kcore_keeper_update(keeper, 3, 0, 1);                    // KCORE_DONE, and number is 1: the edge is new
+ *     answer = kcore_keeper_core_numbers(keeper, core, 4);              // KCORE_DONE, and core is 2, 2, 2, 2
+ *     kcore_keeper_end(keeper);
+ *     free(keeper);
+ */
+struct kcore_keeper;
+
+/* How many vertices a keeper can have. */
+#define KCORE_KEEPER_VERTICES 524288u
+
+/* The edge between the vertices u and v, in either order, is to come, or is to go where `add` is 0. A loop is no edge: where u and v are
+ * the same, nothing changes. */
+struct kcore_update {
+    uint32_t u;
+    uint32_t v;
+    uint32_t add;
+};
+
+/* How many bytes a place has, and what its address is a multiple of. */
+KCORE_LOOK_AT_ANSWER size_t kcore_keeper_size(void);
+KCORE_LOOK_AT_ANSWER size_t kcore_keeper_align(void);
+
+/* Opens a keeper of the graph with these edges.
+ *
+ *   place       where nothing lies
+ *   vertices    how many vertices there are
+ *   edges       edges_len edges; not null
+ *
+ * Statuses: KCORE_DONE, KCORE_TOO_MANY_VERTICES, KCORE_NOT_A_VERTEX, KCORE_NO_MEMORY, tested in this order. Where it is not KCORE_DONE, an
+ * empty keeper lies at the place. It holds no memory, answers KCORE_NOT_OPEN to each call, may be ended, and may be opened again.
+ * Cost: that of kcore_degeneracy_order, and time and memory linear in the vertices.
+ */
+KCORE_LOOK_AT_ANSWER struct kcore_answer kcore_keeper_open(struct kcore_keeper *place, uint32_t vertices, const struct kcore_edge *edges,
+                                                           size_t edges_len);
+
+/* Adds the edge between u and v, or removes it where `add` is 0. `number` is 1 where the graph changed, and 0 where the edge was there
+ * already, or was not there to be removed, or u and v are the same.
+ *
+ * Statuses: KCORE_NOT_OPEN, KCORE_NOT_A_VERTEX, KCORE_NO_MEMORY, KCORE_DONE, tested in this order. Where it is not KCORE_DONE, `number` is
+ * 0 and nothing has changed.
+ * Cost: that of the vertices which the update concerns and their neighbours: mostly some microseconds, at worst all of the graph. What was
+ * entered is kept until it is more than the edges and 65,536; then one call forgets it, in time linear in the vertices.
+ */
+KCORE_LOOK_AT_ANSWER struct kcore_answer kcore_keeper_update(struct kcore_keeper *place, uint32_t u, uint32_t v, uint32_t add);
+
+/* Makes updates in turn. `number` is how many of them changed the graph.
+ *
+ *   updates     updates_len updates; not null
+ *
+ * Statuses: KCORE_NOT_OPEN, KCORE_NOT_A_VERTEX, KCORE_NO_MEMORY, KCORE_DONE, tested in this order. At KCORE_NO_MEMORY the first `number`
+ * updates are made, in turn, and the others are not; go on at updates[number] when there is memory. At the other two faults none is made.
+ * Cost: that of as many calls of kcore_keeper_update.
+ *
+ *     struct kcore_update updates[] = {{0, 3, 1}, {0, 1, 0}, {0, 3, 1}};
+ *     answer = kcore_keeper_apply(keeper, updates, 3);      // KCORE_DONE, and number is 2 where 0 and 1 were joined and 0 and 3 not
+ */
+KCORE_LOOK_AT_ANSWER struct kcore_answer kcore_keeper_apply(struct kcore_keeper *place, const struct kcore_update *updates,
+                                                            size_t updates_len);
+
+/* Adds vertices until there are so many in all: those from the present number of vertices on. They have no edges and core number 0. The
+ * others keep their core numbers, and the order in which they were removed.
+ *
+ *   vertices    how many vertices there are to be
+ *
+ * Statuses: KCORE_NOT_OPEN, KCORE_TOO_MANY_VERTICES, KCORE_TOO_FEW_VERTICES, KCORE_NO_MEMORY, KCORE_DONE, tested in this order. Where it is
+ * not KCORE_DONE, nothing has changed. `number` is 0.
+ * Cost: time and memory linear in the vertices, however few are added; no list of neighbours is copied.
+ */
+KCORE_LOOK_AT_ANSWER struct kcore_answer kcore_keeper_grow(struct kcore_keeper *place, uint32_t vertices);
+
+/* Writes the core number of each vertex of the graph as it is now.
+ *
+ *   core        core_len places, where core_len has to be the number of vertices; core[v] becomes the core number of v
+ *
+ * Statuses: KCORE_NOT_OPEN, KCORE_WRONG_CORE_LENGTH, KCORE_DONE, tested in this order. `number` is 0. The keeper stays as it is.
+ * Cost: time linear in the vertices; no memory.
+ */
+KCORE_LOOK_AT_ANSWER struct kcore_answer kcore_keeper_core_numbers(struct kcore_keeper *place, uint32_t *core, size_t core_len);
+
+/* Gives back all memory that the keeper at the place holds. Nothing lies there then: free the place, or open another keeper there.
+ * Cost: time linear in vertices and edges.
+ */
+void kcore_keeper_end(struct kcore_keeper *place);
 
 #ifdef __cplusplus
 }
