@@ -4,6 +4,3 @@ use Rattle.kc_stripes_tests.proofs.publishing.publish_all.Given as goal
 
 abbrev pub invariant-loop-at : goal.invariant-loop-at
 invariant-loop-at g l = l.pass.table ≡ g.K.Name.opened.table
-
-abbrev pub invariant-loop-vertex : goal.invariant-loop-vertex
-invariant-loop-vertex g l = l.pass.table ≡ g.K.Name.opened.table

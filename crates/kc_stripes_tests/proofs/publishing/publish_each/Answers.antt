@@ -8,7 +8,7 @@ use Rattle.kc_stripes_tests.proofs.publishing.publish_each.Goals as goal
 
 pub publish-requires-clause-was : goal.publish-requires-clause-was
 publish-requires-clause-was g c =
-    let e : UsedEdges = record { vertex = c.loop-vertex.vertex; at = c.args.at; neighbours = c.list_of.result } in
-    let opening : AreNeighbours g.K.Name.opened.edges c.loop-vertex.vertex c.list_of.result =
-    subst (λ (x : SimpleGraph). AreNeighbours x c.loop-vertex.vertex c.list_of.result) c.requires.graph.0 c.list_of.ensures in
+    let e : UsedEdges = record { vertex = c.loop-vertex.vertex; at = c.args.at; neighbours = c.list_of-neighbours.result } in
+    let opening : AreNeighbours g.K.Name.opened.edges c.loop-vertex.vertex c.list_of-neighbours.result =
+    subst (λ (x : SimpleGraph). AreNeighbours x c.loop-vertex.vertex c.list_of-neighbours.result) c.requires.graph.0 c.list_of-neighbours.ensures in
     opened_with g.K.Name.opened.table g.K.Name.opened.edges c.args.pass.now.log e (omega (arith, c.requires.graph.1)) c.requires.at opening
