@@ -29,7 +29,23 @@ References
 .. [1] S. B. Seidman, "Network structure and minimum degree", Social Networks 5 (1983), 269-287.
 """
 
-from ._api import NotAVertexError, check, core_numbers, degeneracy_order, k_core
+from ._api import check, core_numbers, degeneracy, degeneracy_order, k_core, k_corona, k_crust, k_shell, main_core
 from ._certificate import Certificate, WrongEdgeError
+from ._graph import NotAVertexError
+from ._library import __version__
 
-__all__ = ["Certificate", "NotAVertexError", "WrongEdgeError", "check", "core_numbers", "degeneracy_order", "k_core"]
+__all__ = [
+    "Certificate",
+    "NotAVertexError",
+    "WrongEdgeError",
+    "__version__",
+    "check",
+    "core_numbers",
+    "degeneracy",
+    "degeneracy_order",
+    "k_core",
+    "k_corona",
+    "k_crust",
+    "k_shell",
+    "main_core",
+]

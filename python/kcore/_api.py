@@ -3,140 +3,47 @@
 from __future__ import annotations
 
 import operator
-import sys
-from typing import TYPE_CHECKING, Any, Dict, Hashable, Iterable, List, Mapping, Optional, Sequence, Tuple, Union
+from typing import Any, Optional
 
-from . import _library, _lists
-
-if TYPE_CHECKING:
-    import networkx
-    import numpy
-
-    Edges = Union[numpy.ndarray, Iterable[Tuple[int, int]], networkx.Graph]
-    Numbers = Union[numpy.ndarray, List[int], Dict[Hashable, int]]
-    Vertices = Union[numpy.ndarray, List[int], List[Hashable]]
+from . import _forms, _lists
+from ._graph import Graph
 
 
-_DIRECTED = "networkx counts the edges in and out of a node of a directed graph, and this module does not: give it graph.to_undirected()"
-
-
-class NotAVertexError(ValueError):
-    """An end of an edge is no vertex.
-
-    Attributes
-    ----------
-    place : int
-        Where the edge stands in the list.
-    edge : tuple of int
-        Its ends.
-    vertices : int
-        How many vertices there are.
-    """
-
-    def __init__(self, place: int, edge: Tuple[int, int], vertices: int) -> None:
-        super().__init__(f"edge {place} is {edge}, but the vertices are the numbers below {vertices}")
-        self.place = place
-        self.edge = edge
-        self.vertices = vertices
-
-
-class _Graph:
-    """A graph as the library takes it, and how its results are told."""
-
-    __slots__ = ("ends", "edges", "vertices", "like_array", "nodes")
-
-    def __init__(self, edges: Edges, vertices: Optional[int]) -> None:
-        self.nodes: Optional[List[Hashable]] = None
-        self.like_array = _lists.is_array(edges)
-        try:
-            if self.like_array:
-                if edges.ndim != 2 or edges.shape[1] != 2:
-                    if edges.size:
-                        raise ValueError(f"an array of edges has two columns, and this one has the shape {edges.shape}")
-                self.ends = _lists.from_array(edges)
-            elif _is_networkx(edges):
-                if vertices is not None:
-                    raise TypeError("a graph of networkx has its own vertices")
-                if edges.is_directed():
-                    raise TypeError(_DIRECTED)
-                self.nodes = list(edges)
-                numbers = {node: number for number, node in enumerate(self.nodes)}
-                self.ends = _lists.from_pairs((numbers[u], numbers[v]) for u, v in edges.edges())
-                vertices = len(self.nodes)
-            else:
-                self.ends = _lists.from_pairs(edges)
-        except OverflowError:
-            raise ValueError(f"an end of an edge is not in 0 to {_lists.GREATEST}") from None
-        size = _lists.size(self.ends)
-        self.edges = size // 2
-        if vertices is None:
-            vertices = 0 if not size else int(self.ends.max() if self.like_array else max(self.ends)) + 1
-        vertices = operator.index(vertices)
-        if not 0 <= vertices <= _lists.GREATEST:
-            raise ValueError(f"there are {vertices} vertices, and 0 to {_lists.GREATEST} are allowed")
-        self.vertices = vertices
-
-    def call(self, function: Any, *arguments: int, other: Tuple[int, ...] = ()) -> _library.Answer:
-        """Calls the library. Raises NotAVertexError or MemoryError, and RuntimeError at a status that is neither 0 nor one of `other`."""
-        answer = function(self.vertices, _lists.address(self.ends), self.edges, *arguments)
-        if answer.status == _library.NOT_A_VERTEX:
-            raise NotAVertexError(answer.number, self.edge(answer.number), self.vertices)
-        if answer.status == _library.NO_MEMORY:
-            raise MemoryError("there is no memory for the graph")
-        if answer.status != _library.DONE and answer.status not in other:
-            raise RuntimeError(f"{function.__name__} answered the status {answer.status}, which is not one that it may have here")
-        return answer
-
-    def edge(self, place: int) -> Tuple[int, int]:
-        """The ends of the edge at this place."""
-        first, second = self.ends.reshape(-1, 2)[place] if self.like_array else self.ends[2 * place : 2 * place + 2]
-        return int(first), int(second)
-
-    def room(self) -> Any:
-        """A place for each vertex."""
-        return _lists.room(self.vertices, self.like_array)
-
-    def told_numbers(self, core: Any) -> Numbers:
-        """One number for each vertex, as the caller wants it."""
-        if self.nodes is not None:
-            return dict(zip(self.nodes, core))
-        return core if self.like_array else core.tolist()
-
-    def told_vertices(self, listed: Any) -> Vertices:
-        """Vertices, as the caller wants them."""
-        if self.nodes is not None:
-            return [self.nodes[number] for number in listed]
-        return listed if self.like_array else listed.tolist()
-
-
-def _is_networkx(edges: Any) -> bool:
-    networkx = sys.modules.get("networkx")
-    return networkx is not None and isinstance(edges, networkx.Graph)
-
-
-def core_numbers(edges: Edges, vertices: Optional[int] = None) -> Numbers:
+def core_numbers(edges: Any, vertices: Optional[int] = None, *, axis: Any = None, columns: Any = None, return_ids: bool = False) -> Any:
     """The core number of each vertex.
 
     Parameters
     ----------
-    edges : array of shape (edges, 2), iterable of pairs of int, or networkx.Graph
-        The edges, in any order. Loops are dropped, and an edge that comes again, in either direction, counts once.
+    edges : array, iterable of pairs, graph, sparse matrix or data frame
+        The edges, in any order and in one of the forms of the table below. Loops are dropped, and an edge that comes again, in either
+        direction, counts once.
     vertices : int, optional
-        How many vertices there are: they are the numbers below it. By default one more than the greatest end. Not for a graph of networkx.
+        How many vertices there are: they are the numbers below it. By default one more than the greatest end. For arrays and for pairs of
+        integers only.
+    axis : {0, 1}, optional
+        Along which axis of an array the two ends of an edge lie: 1 where an edge is a row, and 0 where it is a column, as in an edge index
+        of the shape (2, edges). By default edges are rows.
+    columns : pair of names or places, optional
+        Which columns of a data frame have the ends. By default its two columns.
+    return_ids : bool
+        Say True where the ends are ids, whole numbers that may be far apart. The vertices are the ids that occur then, and the result is
+        the pair of the numbers and the ids, both in ascending order of the ids. For arrays and for pairs of integers only.
 
     Returns
     -------
-    array of uint32 of shape (vertices,), list of int, or dict
-        The core number of each vertex at its place. A list for an iterable, and for a graph of networkx a dict with its nodes as keys.
+    array of uint32, list of int, dict, or Series
+        The core number of each vertex, as the table says. With `return_ids` a pair: numbers and ids.
 
     Raises
     ------
     NotAVertexError
         Where an end is not below `vertices`.
     ValueError
-        Where the edges are no pairs, or an end or `vertices` does not fit 32 bits.
+        Where the shape of an array or a matrix is none of edges, an edge is no pair, a matrix is not symmetric, or an end or `vertices` does
+        not fit 32 bits.
     TypeError
-        Where the ends are no integers, an edge is of bytes, an array is masked, or a graph of networkx is directed.
+        Where the edges have none of the forms, a graph is directed, igraph's has several edges between two vertices, an end is no integer
+        and no name, an array is masked, or a word does not go with the form.
     MemoryError
         Where there is no memory.
     RuntimeError
@@ -146,9 +53,23 @@ def core_numbers(edges: Edges, vertices: Optional[int] = None) -> Numbers:
     -----
     The core number is the greatest k for which some set of vertices has the vertex, and gives each member at least k neighbours inside the
     set [1]_. Vertices are taken one after the other, those with the fewest neighbours left first [2]_, in time linear in the edges but for
-    sorting the neighbours of each vertex. Each call makes the graph anew. How often an edge comes in a networkx.MultiGraph does not
-    matter. A directed graph of networkx is refused, since networkx counts the edges in and out of a node there: give its
-    `to_undirected()`. No function of this module may be called in the child of a fork of a process with several threads.
+    sorting the neighbours of each vertex. Each call makes the graph anew. No function of this module may be called in the child of a fork
+    of a process with several threads.
+
+    ================================  =====================  =============================
+    Form                              Vertices               Numbers, and some vertices
+    ================================  =====================  =============================
+    array of integers                 numbers                arrays
+    array or buffer protocol          numbers                arrays
+    sparse matrix of SciPy            its rows               arrays
+    iterable of pairs of integers     numbers                lists
+    graph of igraph                   its indices            lists
+    iterable of pairs of names        the names              dict, and list of names
+    graph of networkx                 its nodes              dict, and list of nodes
+    data frame of pandas              the values             Series, and Index
+    ================================  =====================  =============================
+
+    Pairs are pairs of names where one of the ends is no integer.
 
     References
     ----------
@@ -161,29 +82,33 @@ def core_numbers(edges: Edges, vertices: Optional[int] = None) -> Numbers:
     [2, 2, 2, 1]
     >>> core_numbers([(0, 1)], vertices=3)
     [1, 1, 0]
+    >>> core_numbers([("ann", "bob"), ("bob", "eve")])
+    {'ann': 1, 'bob': 1, 'eve': 1}
+    >>> core_numbers([(7, 10**12), (10**12, 10**15)], return_ids=True)
+    ([1, 1, 1], [7, 1000000000000, 1000000000000000])
     """
-    graph = _Graph(edges, vertices)
-    core = graph.room()
-    graph.call(_library.core_numbers, _lists.address(core), graph.vertices)
-    return graph.told_numbers(core)
+    graph = _read(edges, vertices, axis, columns, return_ids)
+    return _told(graph, graph.results.numbers(graph.core_numbers()))
 
 
-def degeneracy_order(edges: Edges, vertices: Optional[int] = None) -> Tuple[Numbers, Vertices]:
+def degeneracy_order(
+    edges: Any, vertices: Optional[int] = None, *, axis: Any = None, columns: Any = None, return_ids: bool = False
+) -> Any:
     """The core number of each vertex, and the vertices in an order that certifies these numbers.
 
     Parameters
     ----------
-    edges : array of shape (edges, 2), iterable of pairs of int, or networkx.Graph
-        The edges, in any order. Loops are dropped, and an edge that comes again, in either direction, counts once.
-    vertices : int, optional
-        How many vertices there are: they are the numbers below it. By default one more than the greatest end. Not for a graph of networkx.
+    edges, vertices, axis, columns, return_ids
+        As `core_numbers` takes them.
 
     Returns
     -------
-    core : array of uint32 of shape (vertices,), list of int, or dict
+    core : array of uint32, list of int, dict, or Series
         The core number of each vertex, as `core_numbers` returns it.
-    order : array of uint32 of shape (vertices,), list of int, or list of nodes
+    order : array, list or Index
         Each vertex once. The numbers never fall along it, and each vertex has at most as many later neighbours as its number.
+    ids : array or list
+        The ids that occur, ascending. With `return_ids` only.
 
     Raises
     ------
@@ -210,28 +135,36 @@ def degeneracy_order(edges: Edges, vertices: Optional[int] = None) -> Tuple[Numb
     >>> core, order[0]
     ([2, 2, 2, 1], 3)
     """
-    graph = _Graph(edges, vertices)
-    core, order = graph.room(), graph.room()
-    graph.call(_library.degeneracy_order, _lists.address(core), graph.vertices, _lists.address(order), graph.vertices)
-    return graph.told_numbers(core), graph.told_vertices(order)
+    graph = _read(edges, vertices, axis, columns, return_ids)
+    core, order = graph.decomposition()
+    return _told(graph, graph.results.numbers(core), graph.results.vertices(order))
 
 
-def k_core(edges: Edges, k: int, vertices: Optional[int] = None) -> Vertices:
+def k_core(
+    edges: Any,
+    k: Optional[int] = None,
+    vertices: Optional[int] = None,
+    *,
+    axis: Any = None,
+    columns: Any = None,
+    return_ids: bool = False,
+) -> Any:
     """The vertices of the k-core: the greatest set of vertices that gives each member at least `k` neighbours inside.
 
     Parameters
     ----------
-    edges : array of shape (edges, 2), iterable of pairs of int, or networkx.Graph
-        The edges, in any order. Loops are dropped, and an edge that comes again, in either direction, counts once.
-    k : int
-        How many neighbours inside each member has. No core number is above 32 bits, so a k above them has no members.
-    vertices : int, optional
-        How many vertices there are: they are the numbers below it. By default one more than the greatest end. Not for a graph of networkx.
+    edges, vertices, axis, columns
+        As `core_numbers` takes them.
+    k : int, optional
+        How many neighbours inside each member has. No core number is above 32 bits, so a k above them has no members. By default the
+        greatest core number, which gives the main core.
+    return_ids : bool
+        Say True where the ends are ids, whole numbers that may be far apart. Members are told as ids then.
 
     Returns
     -------
-    array of uint32, list of int, or list of nodes
-        The members, ascending; of a graph of networkx in the order of its nodes.
+    array, list or Index
+        The members, ascending; names in the order of the nodes of a graph, or in which they first come in the edges.
 
     Raises
     ------
@@ -244,49 +177,227 @@ def k_core(edges: Edges, k: int, vertices: Optional[int] = None) -> Vertices:
 
     Examples
     --------
-    >>> k_core([(0, 1), (1, 2), (2, 0), (2, 3)], 2)
+    >>> edges = [(0, 1), (1, 2), (2, 0), (2, 3)]
+    >>> k_core(edges, 1)
+    [0, 1, 2, 3]
+    >>> k_core(edges)
     [0, 1, 2]
     """
-    k = operator.index(k)
-    if k < 0:
-        raise ValueError(f"k is {k}, and no number of neighbours is negative")
-    graph = _Graph(edges, vertices)
-    members = graph.room()
-    # No core number is as great as the greatest number of 32 bits, so that number stands for each greater k.
-    answer = graph.call(_library.k_core, min(k, _lists.GREATEST), _lists.address(members), graph.vertices)
-    return graph.told_vertices(members[: answer.number])
+    if k is None:
+        return main_core(edges, vertices, axis=axis, columns=columns, return_ids=return_ids)
+    k = _asked(k)
+    graph = _read(edges, vertices, axis, columns, return_ids)
+    return graph.results.vertices(graph.k_core(k))
 
 
-def _by_number(nodes: List[Hashable], core: Any, order: Any) -> Optional[Tuple[List[int], List[int]]]:
-    """Numbers and an order of nodes as the library takes them, or None where the numbers or the order are of other nodes."""
-    if not hasattr(core, "keys"):
-        raise TypeError(f"for a graph of networkx core is a mapping with its nodes as keys, and not of the type {type(core).__name__}")
-    _lists.refuse_unordered(order, "order")
-    numbers = {node: number for number, node in enumerate(nodes)}
-    listed = list(order)
-    if len(core) != len(nodes) or any(node not in core for node in nodes) or any(node not in numbers for node in listed):
-        return None
-    return [core[node] for node in nodes], [numbers[node] for node in listed]
+def main_core(edges: Any, vertices: Optional[int] = None, *, axis: Any = None, columns: Any = None, return_ids: bool = False) -> Any:
+    """The vertices of the main core, the k-core of the greatest k that has members.
+
+    Parameters
+    ----------
+    edges, vertices, axis, columns, return_ids
+        As `k_core` takes them.
+
+    Returns
+    -------
+    array, list or Index
+        The members, in the order of `k_core`.
+
+    Raises
+    ------
+    NotAVertexError, ValueError, TypeError, MemoryError, RuntimeError
+        As `core_numbers` does.
+
+    Examples
+    --------
+    >>> main_core([(0, 1), (1, 2), (2, 0), (2, 3)])
+    [0, 1, 2]
+    """
+    graph = _read(edges, vertices, axis, columns, return_ids)
+    core = graph.core_numbers()
+    return graph.results.vertices(_lists.places_between(core, _top(core), _lists.GREATEST))
+
+
+def k_shell(
+    edges: Any,
+    k: Optional[int] = None,
+    vertices: Optional[int] = None,
+    *,
+    axis: Any = None,
+    columns: Any = None,
+    return_ids: bool = False,
+) -> Any:
+    """The vertices whose core number is `k`: those of the k-core that are not in the (k+1)-core [1]_.
+
+    Parameters
+    ----------
+    edges, vertices, axis, columns, return_ids
+        As `k_core` takes them.
+    k : int, optional
+        By default the greatest core number.
+
+    Returns
+    -------
+    array, list or Index
+        The vertices, in the order of `k_core`.
+
+    Raises
+    ------
+    NotAVertexError, ValueError, TypeError, MemoryError, RuntimeError
+        As `k_core` does.
+
+    References
+    ----------
+    .. [1] S. Carmi, S. Havlin, S. Kirkpatrick, Y. Shavitt and E. Shir, "A model of Internet topology using k-shell decomposition", PNAS 104
+       (2007), 11150-11154.
+
+    Examples
+    --------
+    >>> k_shell([(0, 1), (1, 2), (2, 0), (2, 3)], 1)
+    [3]
+    """
+    asked = None if k is None else _asked(k)
+    graph = _read(edges, vertices, axis, columns, return_ids)
+    core = graph.core_numbers()
+    number = _top(core) if asked is None else asked
+    return graph.results.vertices(_lists.places_between(core, number, number))
+
+
+def k_crust(
+    edges: Any,
+    k: Optional[int] = None,
+    vertices: Optional[int] = None,
+    *,
+    axis: Any = None,
+    columns: Any = None,
+    return_ids: bool = False,
+) -> Any:
+    """The vertices whose core number is at most `k`: those that are not in the (k+1)-core.
+
+    Parameters
+    ----------
+    edges, vertices, axis, columns, return_ids
+        As `k_core` takes them.
+    k : int, optional
+        By default one less than the greatest core number, so that all vertices but the main core are told.
+
+    Returns
+    -------
+    array, list or Index
+        The vertices, in the order of `k_core`.
+
+    Raises
+    ------
+    NotAVertexError, ValueError, TypeError, MemoryError, RuntimeError
+        As `k_core` does.
+
+    Notes
+    -----
+    The crust is that of networkx. Carmi and others [1]_ leave out the vertices whose core number is k.
+
+    References
+    ----------
+    .. [1] S. Carmi, S. Havlin, S. Kirkpatrick, Y. Shavitt and E. Shir, "A model of Internet topology using k-shell decomposition", PNAS 104
+       (2007), 11150-11154.
+
+    Examples
+    --------
+    >>> k_crust([(0, 1), (1, 2), (2, 0), (2, 3)])
+    [3]
+    """
+    asked = None if k is None else _asked(k)
+    graph = _read(edges, vertices, axis, columns, return_ids)
+    core = graph.core_numbers()
+    return graph.results.vertices(_lists.places_between(core, 0, _top(core) - 1 if asked is None else asked))
+
+
+def k_corona(
+    edges: Any, k: int, vertices: Optional[int] = None, *, axis: Any = None, columns: Any = None, return_ids: bool = False
+) -> Any:
+    """The vertices of the k-core that have exactly `k` neighbours in it [1]_.
+
+    Parameters
+    ----------
+    edges, vertices, axis, columns, return_ids
+        As `k_core` takes them.
+    k : int
+        How many neighbours inside the k-core each vertex has.
+
+    Returns
+    -------
+    array, list or Index
+        The vertices, in the order of `k_core`.
+
+    Raises
+    ------
+    NotAVertexError, ValueError, TypeError, MemoryError, RuntimeError
+        As `k_core` does.
+
+    References
+    ----------
+    .. [1] A. V. Goltsev, S. N. Dorogovtsev and J. F. F. Mendes, "k-core (bootstrap) percolation on complex networks: Critical phenomena and
+       nonlocal effects", Physical Review E 73 (2006), 056101.
+
+    Examples
+    --------
+    >>> k_corona([(0, 1), (1, 2), (2, 0), (2, 3)], 2)
+    [0, 1, 2]
+    >>> k_corona([(0, 1), (1, 2), (2, 0), (2, 3)], 1)
+    [3]
+    """
+    k = _asked(k)
+    graph = _read(edges, vertices, axis, columns, return_ids)
+    core = graph.core_numbers()
+    inside = _lists.counts_inside(graph.ends, core, k)
+    shell = _lists.places_between(core, k, k)
+    return graph.results.vertices(_lists.taken(shell, inside, k))
+
+
+def degeneracy(edges: Any, vertices: Optional[int] = None, *, axis: Any = None, columns: Any = None, return_ids: bool = False) -> int:
+    """The greatest core number, which is the degeneracy of the graph [1]_; 0 where there are no vertices.
+
+    Parameters
+    ----------
+    edges, vertices, axis, columns, return_ids
+        As `k_core` takes them.
+
+    Returns
+    -------
+    int
+        The greatest core number.
+
+    Raises
+    ------
+    NotAVertexError, ValueError, TypeError, MemoryError, RuntimeError
+        As `core_numbers` does.
+
+    References
+    ----------
+    .. [1] D. R. Lick and A. T. White, "k-degenerate graphs", Canadian Journal of Mathematics 22 (1970), 1082-1096.
+
+    Examples
+    --------
+    >>> degeneracy([(0, 1), (1, 2), (2, 0), (2, 3)])
+    2
+    """
+    return _top(_read(edges, vertices, axis, columns, return_ids).core_numbers())
 
 
 def check(
-    edges: Edges,
-    core: Union[numpy.ndarray, Sequence[int], Mapping[Hashable, int]],
-    order: Union[numpy.ndarray, Sequence[int], Sequence[Hashable]],
-    vertices: Optional[int] = None,
+    edges: Any, core: Any, order: Any, vertices: Optional[int] = None, *, axis: Any = None, columns: Any = None, ids: Any = None
 ) -> bool:
     """Whether an order certifies that numbers are the core numbers, wherever both come from.
 
     Parameters
     ----------
-    edges : array of shape (edges, 2), iterable of pairs of int, or networkx.Graph
-        The edges, in any order. Loops are dropped, and an edge that comes again, in either direction, counts once.
-    core : array of one dimension, sequence of int, or mapping
-        The number of each vertex at its place; for a graph of networkx a mapping with its nodes as keys.
-    order : array of one dimension or sequence
-        The vertices, or the nodes, in order.
-    vertices : int, optional
-        How many vertices there are: they are the numbers below it. By default one more than the greatest end. Not for a graph of networkx.
+    edges, vertices, axis, columns
+        As `core_numbers` takes them.
+    core : array of one dimension, sequence of int, mapping, or Series
+        The number of each vertex at its place. Where vertices have names, as those of a graph of networkx, a mapping with these as keys.
+    order : array of one dimension, sequence, or Index
+        The vertices in order.
+    ids : array of one dimension or sequence of int, optional
+        Where the ends are ids, as with `return_ids` of `core_numbers`: the id of each number in `core`. The order is one of ids then.
 
     Returns
     -------
@@ -303,7 +414,7 @@ def check(
         As `core_numbers` does, and where `core` or `order` is an array that has not one dimension.
     TypeError
         As `core_numbers` does, and where `core` or `order` has something else than integers, or is of bytes, a set, a masked array or, but
-        for a graph of networkx, a mapping. For such a graph where `core` is no mapping.
+        where vertices have names, a mapping. Where they have names, where `core` is no mapping.
 
     References
     ----------
@@ -317,12 +428,15 @@ def check(
     >>> check(edges, [2, 2, 2, 2], [3, 0, 1, 2])
     False
     """
-    graph = _Graph(edges, vertices)
-    if graph.nodes is not None:
-        by_number = _by_number(graph.nodes, core, order)
-        if by_number is None:
+    graph = _read(edges, vertices, axis, columns, ids is not None)
+    if ids is not None:
+        core = _by_id(ids, core)
+        if core is None:
             return False
-        core, order = by_number
+    claim = graph.results.claim(core, order)
+    if claim is None:
+        return False
+    core, order = claim
     try:
         core, order = _lists.from_numbers(core, "core"), _lists.from_numbers(order, "order")
         fit = True
@@ -330,7 +444,37 @@ def check(
         # A number that does not fit 32 bits is neither a core number nor a vertex. The edges are judged still.
         core = order = _lists.room(0, False)
         fit = False
-    answer = graph.call(
-        _library.check, _lists.address(core), _lists.size(core), _lists.address(order), _lists.size(order), other=(_library.NOT_CERTIFIED,)
-    )
-    return fit and answer.status == _library.DONE
+    return graph.certifies(core, order) and fit
+
+
+def _read(edges: Any, vertices: Optional[int], axis: Any, columns: Any, return_ids: bool) -> Graph:
+    return _forms.read(edges, _forms.Words(vertices, axis, columns, bool(return_ids)))
+
+
+def _told(graph: Graph, *results: Any) -> Any:
+    """The results, and the ids where the caller wants them: one alone, or a tuple."""
+    if graph.results.ids is not None:
+        results = (*results, graph.results.ids)
+    return results if len(results) > 1 else results[0]
+
+
+def _asked(k: Any) -> int:
+    """The k that a caller gives. Raises TypeError where it is no integer, and ValueError where it is negative."""
+    number = operator.index(k)
+    if number < 0:
+        raise ValueError(f"k is {number}, and no number of neighbours is negative")
+    return number
+
+
+def _top(core: Any) -> int:
+    """The greatest core number, or 0 where there are no vertices."""
+    return _lists.greatest(core) if len(core) else 0
+
+
+def _by_id(ids: Any, core: Any) -> Any:
+    """The numbers by their ids, or None where there are not as many of both, or an id comes twice."""
+    _lists.refuse_unordered(ids, "ids")
+    _lists.refuse_unordered(core, "core")
+    numbers, names = list(core), _lists.told(ids)
+    by_id = dict(zip(names, numbers))
+    return by_id if len(numbers) == len(names) == len(by_id) else None

@@ -4,8 +4,8 @@ from __future__ import annotations
 
 from typing import TYPE_CHECKING, Any, List, NoReturn, Optional, Sequence, Tuple, Union
 
-from . import _library, _lists
-from ._api import NotAVertexError, _Graph, _is_networkx
+from . import _forms, _library, _lists
+from ._graph import Graph, NotAVertexError
 
 if TYPE_CHECKING:
     import numpy
@@ -117,15 +117,13 @@ class Certificate:
         WrongEdgeError
             Where an edge is a loop, has its greater end first, or is not above the one before it.
         ValueError, TypeError
-            As `core_numbers` does, and where `edges` is a graph of networkx, whose edges do not ascend.
+            As `core_numbers` does, and where `edges` is of another form, as a graph of networkx, whose edges may not ascend.
 
         Notes
         -----
         Where an error is raised nothing was counted.
         """
-        if _is_networkx(edges):
-            raise TypeError("a piece is an array or an iterable of pairs, and not a graph of networkx, whose edges do not ascend")
-        piece = _Graph(edges, self.vertices)
+        piece = _forms.read_piece(edges, self.vertices)
         after = self.last_edge or (0, 0)
         lists = (self._core, self._ranks, self._later, self._supporters)
         told = [word for numbers in lists for word in (_lists.address(numbers), _lists.size(numbers))]
@@ -135,7 +133,7 @@ class Certificate:
         if piece.edges:
             self._ranges.append((piece.edge(0), piece.edge(piece.edges - 1)))
 
-    def _refuse(self, answer: _library.Answer, piece: _Graph) -> NoReturn:
+    def _refuse(self, answer: _library.Answer, piece: Graph) -> NoReturn:
         """Raises what the status of a piece says."""
         if answer.status == _library.NOT_A_VERTEX:
             raise NotAVertexError(answer.number, piece.edge(answer.number), piece.vertices)

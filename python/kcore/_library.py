@@ -5,12 +5,28 @@ from __future__ import annotations
 import ctypes
 import os
 from pathlib import Path
+from typing import Any
 
 DONE, WRONG_CORE_LENGTH, WRONG_ORDER_LENGTH, WRONG_MEMBERS_LENGTH, NOT_A_VERTEX, NO_MEMORY, NOT_CERTIFIED = range(7)
 WRONG_RANK_LENGTH, WRONG_LATER_LENGTH, WRONG_SUPPORTERS_LENGTH, LOOP, GREATER_FIRST, NOT_ABOVE, NOT_AGREED = range(7, 14)
 
-#: The version of the library that this module calls, as KCORE_VERSION of include/kcore.h.
-VERSION = 0x000100
+#: The version of this package and of the library that it calls.
+__version__ = "0.1.0"
+
+
+def _packed(version: str) -> int:
+    major, minor, patch = map(int, version.split("."))
+    return major << 16 | minor << 8 | patch
+
+
+#: The same version as KCORE_VERSION of include/kcore.h has it.
+VERSION = _packed(__version__)
+
+# Where the library lies in an installed package, and where c/build.sh makes it in a checkout.
+_FILE = Path(__file__).resolve()
+_PLACES = (_FILE.with_name("libkcore.so"), _FILE.parents[2] / "build" / "libkcore.so")
+
+_REMEDY = "make it by c/build.sh, or name another in KCORE_LIBRARY"
 
 
 class Edge(ctypes.Structure):
@@ -29,23 +45,30 @@ def _dotted(version: int) -> str:
     return f"{version >> 16}.{version >> 8 & 255}.{version & 255}"
 
 
-def _load() -> ctypes.CDLL:
+def _found() -> Path:
+    """The path of the library: the one that KCORE_LIBRARY names, or else the first that is there."""
     named = os.environ.get("KCORE_LIBRARY")
-    path = Path(named) if named else Path(__file__).resolve().parents[2] / "build" / "libkcore.so"
-    remedy = "make it by c/build.sh, or name another in KCORE_LIBRARY"
-    if not path.exists():
-        raise ImportError(f"there is no library {path}: {remedy}")
+    places = (Path(named),) if named else _PLACES
+    for path in places:
+        if path.exists():
+            return path
+    raise ImportError(f"there is no library {' or '.join(map(str, places))}: {_REMEDY}")
+
+
+def _load() -> ctypes.CDLL:
+    """The library, loaded. Raises ImportError where there is none, or it is of another version."""
+    path = _found()
     try:
         library = ctypes.CDLL(str(path.resolve()))
     except OSError as cause:
-        raise ImportError(f"{path} is no library that can be loaded ({cause}): {remedy}") from None
+        raise ImportError(f"{path} is no library that can be loaded ({cause}): {_REMEDY}") from None
     try:
         library.kcore_version.argtypes, library.kcore_version.restype = [], ctypes.c_uint32
     except AttributeError:
-        raise ImportError(f"{path} tells no version, and this module calls version {_dotted(VERSION)}: {remedy}") from None
+        raise ImportError(f"{path} tells no version, and this module calls version {__version__}: {_REMEDY}") from None
     version = library.kcore_version()
     if version != VERSION:
-        raise ImportError(f"{path} is version {_dotted(version)}, and this module calls version {_dotted(VERSION)}: {remedy}")
+        raise ImportError(f"{path} is version {_dotted(version)}, and this module calls version {__version__}: {_REMEDY}")
     return library
 
 
@@ -53,7 +76,7 @@ _library = _load()
 _number, _length, _list = ctypes.c_uint32, ctypes.c_size_t, ctypes.c_void_p
 
 
-def _function(name: str, *arguments: type):
+def _function(name: str, *arguments: Any) -> Any:
     function = getattr(_library, name)
     function.argtypes = [_number, *arguments]
     function.restype = Answer

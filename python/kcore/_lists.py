@@ -6,13 +6,16 @@ import ctypes
 import sys
 from array import array
 from collections.abc import Mapping, Set
-from typing import Any, Iterable, Tuple
+from typing import Any, List
 
 #: The greatest number of 32 bits, which is also the greatest number of vertices.
 GREATEST = 0xFFFFFFFF
 
-# The type code of `array` for unsigned numbers of 32 bits.
-_CODE = next(code for code in "IL" if array(code).itemsize == 4)
+#: The remedy where numbers are too great.
+FAR_APART = ": give return_ids=True where ids are far apart"
+
+#: The type code of `array` for unsigned numbers of 32 bits.
+CODE = next(code for code in "IL" if array(code).itemsize == 4)
 
 # Where an empty list lies: the library wants no null pointer.
 _nothing = ctypes.c_uint32()
@@ -42,6 +45,18 @@ def refuse_unordered(values: Any, what: str) -> None:
         raise TypeError(f"{what} is a sequence or an array, and not of the type {type(values).__name__}")
 
 
+def refuse_no_integers(values: Any) -> None:
+    """Raises TypeError where an array has something else than integers, with the remedy where there is one."""
+    if values.dtype.kind in "ui" or not values.size:
+        return
+    told = f"these are no integers, but {values.dtype}"
+    if values.dtype.kind == "f" and (values == values.round()).all():
+        told += ", though all are whole numbers: give the array's astype('int64')"
+    elif values.dtype.kind in "OUS":
+        told += ": give the array's tolist(), since a list of pairs may have names"
+    raise TypeError(told)
+
+
 def from_array(values: Any) -> Any:
     """The numbers as an array of `uint32` in rows: the same array where it is one, else a copy.
 
@@ -49,39 +64,22 @@ def from_array(values: Any) -> Any:
     """
     refuse_masked(values)
     dtype = values.dtype
-    if dtype.char == _CODE and dtype.isnative and values.flags.carray:
+    if dtype.char == CODE and dtype.isnative and values.flags.carray:
         return values
     import numpy
 
     if dtype != numpy.uint32:
-        if dtype.kind not in "ui":
-            if values.size:
-                raise TypeError(f"these are no integers, but {dtype}")
-        elif values.size and not (0 <= int(values.min()) and int(values.max()) <= GREATEST):
+        refuse_no_integers(values)
+        if dtype.kind in "ui" and values.size and not (0 <= int(values.min()) and int(values.max()) <= GREATEST):
             raise OverflowError("a number does not fit 32 bits")
     return numpy.require(values, numpy.uint32, ["C_CONTIGUOUS", "ALIGNED"])
-
-
-def from_pairs(pairs: Iterable[Tuple[int, int]]) -> array:
-    """The parts of pairs, one after the other. Raises TypeError, ValueError or OverflowError where they are no pairs of such numbers."""
-    if isinstance(pairs, (str, *_BYTES)):
-        raise TypeError(f"edges are pairs of integers, and not of the type {type(pairs).__name__}")
-    flat = array(_CODE)
-    append = flat.append
-    for pair in pairs:
-        if type(pair) is not tuple and isinstance(pair, _BYTES):
-            raise TypeError(f"an edge is a pair of integers, and not of the type {type(pair).__name__}")
-        first, second = pair
-        append(first)
-        append(second)
-    return flat
 
 
 def from_numbers(values: Any, what: str) -> Any:
     """The numbers as a list that the library reads. Raises TypeError, ValueError or OverflowError."""
     refuse_unordered(values, what)
     if not is_array(values):
-        return array(_CODE, values)
+        return array(CODE, values)
     if values.ndim != 1:
         raise ValueError(f"{what} is an array of one dimension, and this one has the shape {values.shape}: give it flat, as by ravel()")
     return from_array(values)
@@ -123,7 +121,26 @@ def room(length: int, like_array: bool) -> Any:
     """A list of this length to be written. Its places are 0, since the library wants numbers there."""
     if like_array:
         return sys.modules["numpy"].zeros(length, sys.modules["numpy"].uint32)
-    return array(_CODE, bytes(4 * length))
+    return array(CODE, bytes(4 * length))
+
+
+def greatest(values: Any) -> int:
+    """The greatest of some numbers."""
+    return int(values.max() if is_array(values) else max(values))
+
+
+def told(values: Any) -> List[Any]:
+    """The values as a list."""
+    return list(values.tolist() if is_array(values) else values)
+
+
+def places_between(values: Any, least: int, most: int) -> Any:
+    """The places, ascending, whose number is at least the one and at most the other."""
+    if is_array(values):
+        import numpy
+
+        return ((values >= least) & (values <= most)).nonzero()[0].astype(numpy.uint32)
+    return array(CODE, [place for place, number in enumerate(values) if least <= number <= most])
 
 
 def size(values: Any) -> int:
@@ -137,3 +154,35 @@ def address(values: Any) -> int:
         where, length = values.buffer_info()
         return where if length else _NOWHERE
     return values.__array_interface__["data"][0] if values.size else _NOWHERE
+
+
+def counts_inside(ends: Any, core: Any, k: int) -> Any:
+    """For each vertex how many different neighbours it has by edges both of whose ends have a core number of at least k."""
+    if is_array(core):
+        return _counts_inside_array(ends, core, k)
+    inside = [number >= k for number in core]
+    flat = iter(ends)
+    edges = {(min(u, v), max(u, v)) for u, v in zip(flat, flat) if u != v and inside[u] and inside[v]}
+    counts = [0] * len(core)
+    for edge in edges:
+        for end in edge:
+            counts[end] += 1
+    return counts
+
+
+def _counts_inside_array(ends: Any, core: Any, k: int) -> Any:
+    import numpy
+
+    pairs = ends.reshape(-1, 2)
+    inside = core >= k
+    pairs = pairs[inside[pairs[:, 0]] & inside[pairs[:, 1]] & (pairs[:, 0] != pairs[:, 1])].astype(numpy.uint64)
+    keys = numpy.unique(pairs.min(axis=1) * numpy.uint64(len(core)) + pairs.max(axis=1)) if len(pairs) else pairs[:, 0]
+    both = numpy.concatenate(numpy.divmod(keys, numpy.uint64(max(len(core), 1))))
+    return numpy.bincount(both.astype(numpy.int64), minlength=len(core))
+
+
+def taken(places: Any, numbers: Any, wanted: int) -> Any:
+    """Those of some places whose number is the wanted one."""
+    if is_array(places):
+        return places[numbers[places] == wanted]
+    return array(CODE, [place for place in places if numbers[place] == wanted])

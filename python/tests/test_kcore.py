@@ -16,7 +16,7 @@ from pathlib import Path
 from unittest import mock
 
 import kcore
-from kcore import _api, _library, _lists
+from kcore import _api, _forms, _library, _lists
 
 try:
     import numpy
@@ -135,7 +135,7 @@ class Results(unittest.TestCase):
     @needs_numpy
     def test_an_array_of_uint32_is_not_copied(self):
         edges = numpy.array(TAILED, dtype=numpy.uint32)
-        self.assertIs(_api._Graph(edges, None).ends, edges)
+        self.assertIs(_forms.read(edges).ends, edges)
 
     @needs_numpy
     def test_lists_of_other_kinds(self):
@@ -180,7 +180,7 @@ class Results(unittest.TestCase):
             self.assertFalse(kcore.check(graph, {**core, "none": 0}, order))
             for k in range(5):
                 self.assertEqual(set(kcore.k_core(graph, k)), {node for node, number in core.items() if number >= k})
-        with self.assertRaises(TypeError):
+        with self.assertRaisesRegex(TypeError, "vertices does not go with a graph of networkx"):
             kcore.core_numbers(networkx.Graph(), vertices=1)
 
     @needs_networkx
@@ -272,7 +272,6 @@ class Refusals(unittest.TestCase):
     def test_what_are_no_edges(self):
         self.refused(ValueError, [(0, 1, 2)])
         self.refused(ValueError, [(0,)])
-        self.refused(TypeError, [("a", "b")])
         self.refused(TypeError, [(0.5, 1)])
         self.refused(TypeError, 5)
         for edges in ["0 1", b"ab", bytearray(b"ab")]:
@@ -296,7 +295,7 @@ class Refusals(unittest.TestCase):
         for k in [-1, -(2**40)]:
             with self.assertRaisesRegex(ValueError, f"k is {k}"):
                 kcore.k_core(TAILED, k)
-        for k in [1.0, "1", None]:
+        for k in [1.0, "1"]:
             with self.assertRaises(TypeError):
                 kcore.k_core(TAILED, k)
 

@@ -1,0 +1,191 @@
+"""A graph as the library takes it, and how results are told to its caller."""
+
+from __future__ import annotations
+
+import operator
+from typing import Any, Hashable, List, Mapping, Optional, Sequence, Tuple
+
+from . import _library, _lists
+
+
+class NotAVertexError(ValueError):
+    """An end of an edge is no vertex.
+
+    Attributes
+    ----------
+    place : int
+        Where the edge stands in the list.
+    edge : tuple of int
+        Its ends.
+    vertices : int
+        How many vertices there are.
+    """
+
+    def __init__(self, place: int, edge: Tuple[int, int], vertices: int) -> None:
+        super().__init__(f"edge {place} is {edge}, but the vertices are the numbers below {vertices}")
+        self.place = place
+        self.edge = edge
+        self.vertices = vertices
+
+
+class AsArrays:
+    """Results are arrays of `uint32`."""
+
+    like_array = True
+    ids: Any = None
+
+    def numbers(self, core: Any) -> Any:
+        """One number for each vertex."""
+        return core
+
+    def vertices(self, listed: Any) -> Any:
+        """Some vertices."""
+        return listed
+
+    def claim(self, core: Any, order: Any) -> Optional[Tuple[Any, Any]]:
+        """Numbers and an order that a caller gives, by vertex; or None where they are of other vertices."""
+        return core, order
+
+
+class AsLists(AsArrays):
+    """Results are lists of integers."""
+
+    like_array = False
+
+    def numbers(self, core: Any) -> Any:
+        return core.tolist()
+
+    def vertices(self, listed: Any) -> Any:
+        return listed.tolist()
+
+
+class ByName(AsArrays):
+    """Vertices have names: numbers are told as a dict, and vertices as a list of names."""
+
+    like_array = False
+
+    def __init__(self, names: List[Hashable]) -> None:
+        self.names = names
+
+    def numbers(self, core: Any) -> Any:
+        return dict(zip(self.names, core))
+
+    def vertices(self, listed: Any) -> Any:
+        names = self.names
+        return [names[number] for number in listed]
+
+    def claim(self, core: Any, order: Any) -> Optional[Tuple[Any, Any]]:
+        if not hasattr(core, "keys"):
+            raise TypeError(f"core is a mapping with the names of the vertices as keys, and not of the type {type(core).__name__}")
+        return claim_of_names(self.names, core, order)
+
+
+class ById(AsArrays):
+    """Vertices have ids that ascend: numbers are told in the order of the ids, and vertices as ids. Both are arrays, or both lists."""
+
+    def __init__(self, ids: Any) -> None:
+        self.like_array = _lists.is_array(ids)
+        self.ids = ids
+
+    def numbers(self, core: Any) -> Any:
+        return core if self.like_array else core.tolist()
+
+    def vertices(self, listed: Any) -> Any:
+        return self.ids[listed] if self.like_array else [self.ids[number] for number in listed]
+
+    def claim(self, core: Any, order: Any) -> Optional[Tuple[Any, Any]]:
+        return claim_of_names(_lists.told(self.ids), core, order)
+
+
+class ByIndex(AsArrays):
+    """Vertices have the labels of an index of pandas: numbers are told as a Series, and vertices as an Index."""
+
+    def __init__(self, index: Any) -> None:
+        self.index = index
+
+    def numbers(self, core: Any) -> Any:
+        import pandas
+
+        return pandas.Series(core, index=self.index, name="core_number")
+
+    def vertices(self, listed: Any) -> Any:
+        return self.index[listed]
+
+    def claim(self, core: Any, order: Any) -> Optional[Tuple[Any, Any]]:
+        if not hasattr(core, "keys"):
+            raise TypeError(f"core is a Series or a mapping with the ids as keys, and not of the type {type(core).__name__}")
+        return claim_of_names(self.index.tolist(), core, order)
+
+
+def claim_of_names(names: Sequence[Hashable], core: Mapping[Hashable, int], order: Any) -> Optional[Tuple[List[int], List[int]]]:
+    """Numbers and an order of names as the library takes them, or None where the numbers or the order are of other names."""
+    _lists.refuse_unordered(order, "order")
+    numbers = {name: number for number, name in enumerate(names)}
+    listed = list(order)
+    if len(core) != len(names) or any(name not in core for name in names) or any(name not in numbers for name in listed):
+        return None
+    return [core[name] for name in names], [numbers[name] for name in listed]
+
+
+class Graph:
+    """The ends of edges, one edge after the other, the number of vertices, and how results are told."""
+
+    __slots__ = ("ends", "edges", "vertices", "results")
+
+    def __init__(self, ends: Any, vertices: Optional[int], results: AsArrays) -> None:
+        size = _lists.size(ends)
+        if vertices is None:
+            vertices = _lists.greatest(ends) + 1 if size else 0
+        vertices = operator.index(vertices)
+        if not 0 <= vertices <= _lists.GREATEST:
+            raise ValueError(f"there are {vertices} vertices, and 0 to {_lists.GREATEST} are allowed{_lists.FAR_APART}")
+        self.ends = ends
+        self.edges = size // 2
+        self.vertices = vertices
+        self.results = results
+
+    def call(self, function: Any, *arguments: int, other: Tuple[int, ...] = ()) -> _library.Answer:
+        """Calls the library. Raises NotAVertexError or MemoryError, and RuntimeError at a status that is neither 0 nor one of `other`."""
+        answer: _library.Answer = function(self.vertices, _lists.address(self.ends), self.edges, *arguments)
+        if answer.status == _library.NOT_A_VERTEX:
+            raise NotAVertexError(answer.number, self.edge(answer.number), self.vertices)
+        if answer.status == _library.NO_MEMORY:
+            raise MemoryError("there is no memory for the graph")
+        if answer.status != _library.DONE and answer.status not in other:
+            raise RuntimeError(f"{function.__name__} answered the status {answer.status}, which is not one that it may have here")
+        return answer
+
+    def edge(self, place: int) -> Tuple[int, int]:
+        """The ends of the edge at this place."""
+        first, second = self.ends.reshape(-1, 2)[place] if _lists.is_array(self.ends) else self.ends[2 * place : 2 * place + 2]
+        return int(first), int(second)
+
+    def room(self) -> Any:
+        """A place for each vertex."""
+        return _lists.room(self.vertices, self.results.like_array)
+
+    def core_numbers(self) -> Any:
+        """The core number of each vertex."""
+        core = self.room()
+        self.call(_library.core_numbers, _lists.address(core), self.vertices)
+        return core
+
+    def decomposition(self) -> Tuple[Any, Any]:
+        """The core number of each vertex, and an order that certifies them."""
+        core, order = self.room(), self.room()
+        self.call(_library.degeneracy_order, _lists.address(core), self.vertices, _lists.address(order), self.vertices)
+        return core, order
+
+    def k_core(self, k: int) -> Any:
+        """The vertices of the k-core, ascending."""
+        members = self.room()
+        # No core number is as great as the greatest number of 32 bits, so that number stands for each greater k.
+        answer = self.call(_library.k_core, min(k, _lists.GREATEST), _lists.address(members), self.vertices)
+        return members[: answer.number]
+
+    def certifies(self, core: Any, order: Any) -> bool:
+        """Whether the order certifies the numbers. Both are lists that the library reads."""
+        answer = self.call(
+            _library.check, _lists.address(core), _lists.size(core), _lists.address(order), _lists.size(order), other=(_library.NOT_CERTIFIED,)
+        )
+        return bool(answer.status == _library.DONE)
