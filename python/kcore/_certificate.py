@@ -194,7 +194,7 @@ class Certificate:
         """
         lists = (self._core, self._later, self._supporters)
         told = [word for numbers in lists for word in (_lists.address(numbers), _lists.size(numbers))]
-        answer = _library.verdict(self.vertices, *told)
+        answer: _library.Answer = _library.verdict(self.vertices, *told)
         if answer.status not in (_library.DONE, _library.NOT_AGREED):
             raise RuntimeError(f"kcore_verdict answered the status {answer.status}, which is not one that it may have here")
-        return answer.status == _library.DONE
+        return bool(answer.status == _library.DONE)

@@ -145,7 +145,7 @@ def places_between(values: Any, least: int, most: int) -> Any:
 
 def size(values: Any) -> int:
     """How many numbers there are."""
-    return len(values) if isinstance(values, array) else values.size
+    return len(values) if isinstance(values, array) else int(values.size)
 
 
 def address(values: Any) -> int:
@@ -153,7 +153,7 @@ def address(values: Any) -> int:
     if isinstance(values, array):
         where, length = values.buffer_info()
         return where if length else _NOWHERE
-    return values.__array_interface__["data"][0] if values.size else _NOWHERE
+    return int(values.__array_interface__["data"][0]) if values.size else _NOWHERE
 
 
 def counts_inside(ends: Any, core: Any, k: int) -> Any:
