@@ -475,6 +475,6 @@ def _by_id(ids: Any, core: Any) -> Any:
     """The numbers by their ids, or None where there are not as many of both, or an id comes twice."""
     _lists.refuse_unordered(ids, "ids")
     _lists.refuse_unordered(core, "core")
-    numbers, names = list(core), _lists.told(ids)
+    numbers, names = list(core), _lists.as_list(ids)
     by_id = dict(zip(names, numbers))
     return by_id if len(numbers) == len(names) == len(by_id) else None

@@ -94,7 +94,7 @@ class ById(AsArrays):
         return self.ids[listed] if self.like_array else [self.ids[number] for number in listed]
 
     def claim(self, core: Any, order: Any) -> Optional[Tuple[Any, Any]]:
-        return claim_of_names(_lists.told(self.ids), core, order)
+        return claim_of_names(_lists.as_list(self.ids), core, order)
 
 
 class ByIndex(AsArrays):

@@ -129,7 +129,7 @@ def greatest(values: Any) -> int:
     return int(values.max() if is_array(values) else max(values))
 
 
-def told(values: Any) -> List[Any]:
+def as_list(values: Any) -> List[Any]:
     """The values as a list."""
     return list(values.tolist() if is_array(values) else values)
 

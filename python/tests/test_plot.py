@@ -1,0 +1,78 @@
+"""Each picture is drawn, and what it shows is compared with the core numbers. Skipped where matplotlib is not installed."""
+
+import builtins
+import unittest
+from unittest import mock
+
+import kcore
+
+from .test_forms import NAMED
+from .test_kcore import TAILED, edges_of, numpy
+
+try:
+    import matplotlib
+
+    matplotlib.use("Agg")
+    from matplotlib import pyplot
+except ImportError:
+    raise unittest.SkipTest("matplotlib is not installed") from None
+
+
+class Pictures(unittest.TestCase):
+    def tearDown(self):
+        pyplot.close("all")
+
+    def test_sizes(self):
+        ax = kcore.plot.sizes(TAILED)
+        self.assertEqual([bar.get_height() for bar in ax.patches], [1, 1, 3])
+        self.assertEqual(ax.lines[0].get_ydata().tolist(), [5, 4, 3])
+        self.assertEqual(ax.get_yscale(), "log")
+
+    def test_degrees(self):
+        ax = kcore.plot.degrees(NAMED, marked=1)
+        points, marks = ax.collections
+        self.assertEqual(sorted(points.get_offsets().tolist()), [[1, 1], [2, 2], [2, 2], [3, 2]])
+        self.assertEqual(len(marks.get_offsets()), 1)
+        self.assertEqual([text.get_text() for text in ax.texts], ["eve"])
+
+    def test_rings(self):
+        edges = edges_of("karate")
+        core = kcore.core_numbers(edges)
+        ax = kcore.plot.rings(edges)
+        lines, dots = ax.collections
+        self.assertEqual(len(lines.get_segments()), len({frozenset(edge) for edge in edges}))
+        distances = numpy.hypot(*dots.get_offsets().T)
+        shells = dots.get_array()
+        self.assertEqual(sorted(shells.tolist()), sorted(core))
+        self.assertLess(distances[shells == 4].max(), distances[shells == 1].min())
+
+    def test_axes_that_are_given_and_other_forms(self):
+        for draw in [kcore.plot.sizes, kcore.plot.degrees, kcore.plot.rings]:
+            _, ax = pyplot.subplots()
+            self.assertIs(draw(numpy.array(TAILED), ax=ax, vertices=9), ax)
+            draw([(5, 10**12)], return_ids=True).figure.canvas.draw()
+            draw([], vertices=3).figure.canvas.draw()
+            draw([]).figure.canvas.draw()
+            with self.assertRaisesRegex(TypeError, "axis does not go with"):
+                draw(NAMED, axis=0)
+
+    def test_without_matplotlib(self):
+        real = builtins.__import__
+
+        def absent(name, *rest):
+            if name.startswith("matplotlib"):
+                raise ImportError("none")
+            return real(name, *rest)
+
+        for draw in [kcore.plot.sizes, kcore.plot.degrees, kcore.plot.rings]:
+            with mock.patch.object(builtins, "__import__", absent), self.assertRaisesRegex(ImportError, "pictures need matplotlib"):
+                draw(TAILED)
+
+    def test_an_attribute_that_is_not_there(self):
+        self.assertIn("plot", dir(kcore))
+        with self.assertRaisesRegex(AttributeError, "no attribute 'plots'"):
+            kcore.plots
+
+
+if __name__ == "__main__":
+    unittest.main()
