@@ -1,7 +1,8 @@
 #!/bin/sh
 # Builds both libraries, and tries them from C and from Python: what is exported and declared, the examples on small graphs and on inputs
 # that they refuse, plain and under the address and undefined behaviour sanitizers, with each allocation failing in turn, and the Python
-# tests by the python3 that PYTHON names.
+# tests by the python3 that PYTHON names. Packages that these want and Debian has are installed where that is Debian's own python3 and the
+# caller may; else the script says which are missing, and their tests are skipped.
 set -eu
 top=$(cd "$(dirname "$0")/.." && pwd)
 build=$("$top/c/build.sh")
@@ -100,4 +101,23 @@ for program in no_memory keep_no_memory; do
     "$build/$program"
     "$build/${program}_sanitized"
 done
-cd "$top/python" && ${PYTHON:-python3} -m unittest
+
+python=${PYTHON:-python3}
+# The packages of Debian, with the modules by which they are known.
+packages="python3-numpy:numpy python3-scipy:scipy python3-pandas:pandas python3-networkx:networkx python3-igraph:igraph
+    python3-matplotlib:matplotlib python3-hypothesis:hypothesis python3-mypy:mypy python3-build:build python3-pip:pip
+    python3-setuptools:setuptools python3-wheel:wheel"
+missing_packages() {
+    for known in $packages; do
+        "$python" -c "import importlib.util, sys; sys.exit(importlib.util.find_spec('${known#*:}') is None)" || printf '%s ' "${known%:*}"
+    done
+}
+missing=$(missing_packages)
+own=$("$python" -c 'import os, sys; print(os.path.realpath(sys.executable).startswith("/usr/bin/"))')
+if [ -n "$missing" ] && [ "$own" = True ] && [ "$(id -u)" = 0 ] && command -v apt-get > /dev/null; then
+    { apt-get update && DEBIAN_FRONTEND=noninteractive apt-get install -y --no-install-recommends $missing; } > "$build/installed" 2>&1 ||
+        echo "apt-get could not install $missing: $build/installed tells why" >&2
+    missing=$(missing_packages)
+fi
+[ -z "$missing" ] || echo "not installed for $python, so that their tests are skipped: $missing"
+cd "$top/python" && "$python" -m unittest
