@@ -22,7 +22,7 @@ def core_numbers(edges: Any, vertices: Optional[int] = None, *, axis: Any = None
         integers only.
     axis : {0, 1}, optional
         Along which axis of an array the two ends of an edge lie: 1 where an edge is a row, and 0 where it is a column, as in an edge index
-        of the shape (2, edges). By default edges are rows.
+        of the shape (2, edges). By default edges are rows, but for an array of the shape (2, 2) it has to be said.
     columns : pair of names or places, optional
         Which columns of a data frame have the ends. By default its two columns.
     return_ids : bool

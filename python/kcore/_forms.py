@@ -96,6 +96,8 @@ def _rows(edges: Any, axis: Optional[int]) -> Any:
     if not edges.size:
         return edges
     shape = edges.shape
+    if shape == (2, 2) and axis is None:
+        raise ValueError("an array of the shape (2, 2) may have an edge in each row or in each column: say axis=1 or axis=0")
     if edges.ndim == 2 and axis == 0 and shape[0] == 2:
         return edges.T
     if edges.ndim == 2 and axis != 0 and shape[1] == 2:

@@ -66,6 +66,18 @@ class Arrays(Case):
         self.refused(ValueError, "axis is 2: say 1 where an edge is a row", rows, axis=2)
 
     @needs_numpy
+    def test_two_edges(self):
+        edges = numpy.array([(0, 1), (2, 1)])
+        self.refused(ValueError, r"shape \(2, 2\) may have an edge in each row or in each column: say axis=1 or axis=0", edges)
+        self.assertEqual(kcore.core_numbers(edges, axis=1).tolist(), [1, 1, 1])
+        self.assertEqual(kcore.core_numbers(edges, axis=0).tolist(), [1, 0, 1])
+        self.assertEqual(kcore.core_numbers(numpy.array([(0, 1), (0, 3)]), axis=0).tolist(), [0, 1, 0, 1])
+        # A piece has an edge in each row.
+        certificate = kcore.Certificate(numpy.array([1, 1, 1]), numpy.array([0, 2, 1]))
+        certificate.add(numpy.array([(0, 1), (1, 2)]))
+        self.assertTrue(certificate.verdict())
+
+    @needs_numpy
     def test_numbers_of_other_types(self):
         self.refused(TypeError, r"float64, though all are whole numbers: give the array's astype\('int64'\)", numpy.array(TAILED, float))
         self.refused(TypeError, "float32$", numpy.array(TAILED, "float32") + 0.5)

@@ -159,9 +159,9 @@ class Results(unittest.TestCase):
         for vertices, edges in random_graphs(1000):
             with self.subTest(vertices=vertices, edges=edges):
                 array = numpy.array(edges, dtype=numpy.uint32).reshape(-1, 2)
-                core, order = kcore.degeneracy_order(array, vertices)
+                core, order = kcore.degeneracy_order(array, vertices, axis=1)
                 self.assertEqual(core.tolist(), numbers_by_igraph(vertices, edges))
-                self.certified(array, vertices, core, order.tolist())
+                self.assertTrue(kcore.check(array, core, order, vertices, axis=1))
 
     @needs_networkx
     def test_networkx_has_the_same_numbers(self):
