@@ -42,7 +42,7 @@ def core_numbers(edges: Any, vertices: Optional[int] = None, *, axis: Any = None
         Where the shape of an array or a matrix is none of edges, an edge is no pair, a matrix is not symmetric, or an end or `vertices` does
         not fit 32 bits.
     TypeError
-        Where the edges have none of the forms, a graph is directed, igraph's has several edges between two vertices, an end is no integer
+        Where the edges have none of the forms, a graph is directed or has several edges between two vertices, an end is no integer
         and no name, an array is masked, or a word does not go with the form.
     MemoryError
         Where there is no memory.

@@ -37,6 +37,7 @@ _AS_LISTS = AsLists()
 _TEXT = (str, bytes, bytearray)
 
 _DIRECTED = "networkx counts the edges in and out of a node of a directed graph, and this module does not: give it graph.to_undirected()"
+_SEVERAL = "networkx has no core numbers of a graph with several edges between two nodes: give networkx.Graph(graph), which keeps one of them"
 _DIRECTED_IGRAPH = "igraph has several core numbers for a directed graph: give graph.as_undirected(), which keeps one edge for each pair"
 _SEVERAL_IGRAPH = "igraph counts each of several edges between two vertices, and this module counts one: give graph.copy().simplify()"
 _NOT_SYMMETRIC = "this matrix is neither symmetric nor triangular, so its graph is directed: give (matrix != 0) + (matrix != 0).T"
@@ -238,6 +239,8 @@ def is_networkx(edges: Any) -> bool:
 def _read_networkx(graph: Any, words: Words) -> Graph:
     if graph.is_directed():
         raise TypeError(_DIRECTED)
+    if graph.is_multigraph():
+        raise TypeError(_SEVERAL)
     nodes = list(graph)
     numbers = {node: number for number, node in enumerate(nodes)}
     ends = array(_lists.CODE, [numbers[node] for edge in graph.edges() for node in edge])

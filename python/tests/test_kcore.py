@@ -200,11 +200,6 @@ class Results(unittest.TestCase):
             with self.assertRaisesRegex(TypeError, "order is a sequence"):
                 kcore.check(graph, core, given)
 
-    @needs_networkx
-    def test_a_graph_with_several_edges_of_two_nodes(self):
-        graph = networkx.MultiGraph([("a", "b"), ("b", "a"), ("a", "b"), ("b", "c"), ("c", "c")])
-        self.assertEqual(kcore.core_numbers(graph), {"a": 1, "b": 1, "c": 1})
-
 
 class KnownGraphs(unittest.TestCase):
     """Each graph beside both packages."""
@@ -285,7 +280,13 @@ class Refusals(unittest.TestCase):
         for graph in [networkx.DiGraph(pairs), networkx.MultiDiGraph(pairs)]:
             self.refused(TypeError, graph, text="to_undirected")
             undirected = networkx.Graph(graph.to_undirected())
-            self.assertEqual(kcore.core_numbers(graph.to_undirected()), networkx.core_number(undirected))
+            self.assertEqual(kcore.core_numbers(undirected), networkx.core_number(undirected))
+
+    @needs_networkx
+    def test_graphs_with_several_edges_of_two_nodes(self):
+        graph = networkx.MultiGraph([("a", "b"), ("b", "a"), ("a", "b"), ("b", "c"), ("c", "c")])
+        self.refused(TypeError, graph, text=r"give networkx.Graph\(graph\)")
+        self.assertEqual(kcore.core_numbers(networkx.Graph(graph)), {"a": 1, "b": 1, "c": 1})
 
     def test_numbers_of_vertices_that_are_no_integers(self):
         for vertices in [4.0, "4"]:
