@@ -1,5 +1,7 @@
 -- What the calls do with a keeper at a place, and what they answer.
-use Rattle.std.specs.Prelude.{◌≡◌, ◌≢◌, ◌<◌, ◌&&◌, ◌||◌, ◌==◌, not, ℕ, true, List, length, take, nat_lt, Option, Some, None, is_some, Err, if◌then◌else◌}
+use Rattle.std.specs.Prelude.{◌≡◌, ◌≢◌, ◌<◌, ◌&&◌, ◌||◌, ◌==◌, not, ℕ, true, List, length, take, nat_lt, slice_index, Option, Some, None, is_some, Err}
+use Rattle.std.specs.Prelude.{if◌then◌else◌}
+use Rattle.kc_lists.specs.Lists.{place_of}
 use Rattle.kc_graph.specs.SimpleGraph.{SimpleGraph}
 use Rattle.kc_graph.specs.Bulk.{graph_with}
 use Rattle.kc_graph.specs.Core.{AreCoreNumbers}
@@ -90,3 +92,28 @@ pub record AreRead (k : Ranked) (old new : List ℕ) (answer : CallResult) : Typ
 abbrev pub NumbersAt : Option Ranked → List ℕ → List ℕ → CallResult → Type 0
 NumbersAt (Some k) old new answer = AreRead k old new answer
 NumbersAt None old new answer = (new ≡ old) × (answer ≡ not_open)
+
+-- `number` is the vertex's core number at status 0, by numbers that are the core numbers.
+pub record TellsNumber (k : Ranked) (v : ℕ) (answer : CallResult) : Type 0 where
+  pub known : (answer.status == 0 || answer.status == 4) ≡ true
+  pub done : answer.status ≡ 0 → answer.number ≡ slice_index k.core v
+  pub seidman : answer.status ≡ 0 → AreCoreNumbers k.graph k.core
+  pub no_number : answer.status ≢ 0 → answer.number ≡ 0
+  pub stranger : answer.status == 4 ≡ not (nat_lt v k.graph.size)
+
+-- The core number is told of the keeper that lies there.
+abbrev pub NumberAt : Option Ranked → ℕ → CallResult → Type 0
+NumberAt (Some k) v answer = TellsNumber k v answer
+NumberAt None v answer = answer ≡ not_open
+
+-- `number` is 1 at status 0 where the first vertex stands before the second in the order, and else 0.
+pub record IsBefore (k : Ranked) (u v : ℕ) (answer : CallResult) : Type 0 where
+  pub known : (answer.status == 0 || answer.status == 4) ≡ true
+  pub done : answer.status ≡ 0 → answer.number ≡ (if nat_lt (place_of u k.order) (place_of v k.order) then 1 else 0)
+  pub no_number : answer.status ≢ 0 → answer.number ≡ 0
+  pub stranger : answer.status == 4 ≡ not (nat_lt u k.graph.size && nat_lt v k.graph.size)
+
+-- Places are compared in the order of the keeper that lies there.
+abbrev pub IsBeforeAt : Option Ranked → ℕ → ℕ → CallResult → Type 0
+IsBeforeAt (Some k) u v answer = IsBefore k u v answer
+IsBeforeAt None u v answer = answer ≡ not_open

@@ -6,16 +6,19 @@
 //!
 //! What lies at the place is a premise here, which a caller in C has to keep: `uninit_at` is room of that size and alignment that nobody
 //! else uses, and `points_to` is such room in which an earlier call left this content.
+ghost use prog.Memory.{align, capped, size};
+ghost use denote.Param.{layout};
+ghost use Rattle.std.specs.Prelude.{◌≡◌};
 ghost use Rattle.std.specs.Borrow.{sem};
 ghost use Rattle.std.specs.Ptr.{points_to, uninit_at};
 ghost use Rattle.kc_c.specs.contracts.keeping.Content.{the_row};
-ghost use Rattle.kc_c.specs.Keeping.{AtPlace, IsGrownTo, IsUpdatedBy, IsUpdatedByAll, NumbersAt, Opens};
+ghost use Rattle.kc_c.specs.Keeping.{AtPlace, IsGrownTo, IsUpdatedBy, IsUpdatedByAll, IsBeforeAt, NumberAt, NumbersAt, Opens};
 ghost use Rattle.kc_c.specs.Updating.{given_update};
 
 use crate::answer::CallResult;
 use crate::keeping::{
-    CallEnd, Content, KeeperPlace, apply_updates, grow_keeper, let_go, open_keeper, read_numbers,
-    update_keeper,
+    CallEnd, Content, KeeperPlace, apply_updates, compare_places, grow_keeper, let_go, open_keeper,
+    read_number, read_numbers, update_keeper,
 };
 use crate::updates::GivenUpdate;
 use kc_graph::Edge;
@@ -23,13 +26,17 @@ use std::alloc::Global;
 
 /// How many bytes a place for a keeper has.
 #[unsafe(no_mangle)]
-pub extern "C" fn kcore_keeper_size() -> usize {
+pub extern "C" fn kcore_keeper_size() -> usize
+    ensures { result ≡ capped (size (layout the_row)) }
+{
     std::mem::size_of::<Content>()
 }
 
 /// What the address of such a place is a multiple of.
 #[unsafe(no_mangle)]
-pub extern "C" fn kcore_keeper_align() -> usize {
+pub extern "C" fn kcore_keeper_align() -> usize
+    ensures { result ≡ capped (align (layout the_row)) }
+{
     std::mem::align_of::<Content>()
 }
 
@@ -115,6 +122,32 @@ pub unsafe extern "C" fn kcore_keeper_core_numbers(
 {
     let p = place as *mut Content;
     let CallEnd { content, answer } = read_numbers(p.read(), core);
+    p.write(content);
+    answer
+}
+
+/// The core number of one vertex, as `number`.
+#[unsafe(no_mangle)]
+pub unsafe extern "C" fn kcore_keeper_core(place: *mut KeeperPlace, v: u32) -> CallResult
+    ghost g: { Content }
+    requires* { sem 𝓛 (points_to the_row place g) }
+    ensures* { sem 𝓛 (points_to the_row place g) ∗ ⌜ NumberAt g.keeper v result ⌝ }
+{
+    let p = place as *mut Content;
+    let CallEnd { content, answer } = read_number(p.read(), v);
+    p.write(content);
+    answer
+}
+
+/// Whether `u` stands before `v` in the order that certifies the core numbers: `number` is 1 where it does.
+#[unsafe(no_mangle)]
+pub unsafe extern "C" fn kcore_keeper_before(place: *mut KeeperPlace, u: u32, v: u32) -> CallResult
+    ghost g: { Content }
+    requires* { sem 𝓛 (points_to the_row place g) }
+    ensures* { sem 𝓛 (points_to the_row place g) ∗ ⌜ IsBeforeAt g.keeper u v result ⌝ }
+{
+    let p = place as *mut Content;
+    let CallEnd { content, answer } = compare_places(p.read(), u, v);
     p.write(content);
     answer
 }

@@ -2,7 +2,7 @@
 ghost use Rattle.std.specs.Prelude.{◌≡◌, ◌≤◌, None, IfOk, IfErr};
 ghost use Rattle.kc_graph.specs.Bulk.{graph_with};
 ghost use Rattle.kc_c.specs.Answers.{answer_to, first_stranger, refusal_by};
-ghost use Rattle.kc_c.specs.Keeping.{AreRead, AtPlace, IsGrownTo, IsKept, IsUpdatedBy, IsUpdatedByAll, NumbersAt, Opens};
+ghost use Rattle.kc_c.specs.Keeping.{AreRead, AtPlace, IsBefore, IsBeforeAt, IsGrownTo, IsKept, IsUpdatedBy, IsUpdatedByAll, NumberAt, NumbersAt, Opens, TellsNumber};
 ghost use Rattle.kc_c.specs.Updating.{given_update};
 
 use crate::answer::{CallResult, Refusal, answer_to};
@@ -214,6 +214,75 @@ pub(crate) fn read_numbers(content: Content, core: &mut [u32]) -> CallEnd
             keeper: Some(keeper),
         },
         answer: answer_to(written),
+    }
+}
+
+/// The core number of a vertex.
+fn number_of(keeper: &Keeper, v: u32) -> Result<usize, Refusal>
+    ensures { TellsNumber keeper.now v (answer_to result) }
+{
+    let vertices = keeper.vertices();
+    if v >= vertices {
+        return Err(Refusal::NotAVertex(0));
+    }
+    let core = keeper.core_numbers();
+    Ok(core[v as usize] as usize)
+}
+
+/// Tells the core number of a vertex, where a keeper lies there, and leaves it there.
+pub(crate) fn read_number(content: Content, v: u32) -> CallEnd
+    ensures same { result.content ≡ content }
+    ensures number { NumberAt content.keeper v result.answer }
+{
+    let Content {
+        keeper: Some(keeper),
+    } = content
+    else {
+        return CallEnd {
+            content: Content { keeper: None },
+            answer: answer_to(Err(Refusal::NotOpen)),
+        };
+    };
+    let told = number_of(&keeper, v);
+    CallEnd {
+        content: Content {
+            keeper: Some(keeper),
+        },
+        answer: answer_to(told),
+    }
+}
+
+/// Whether one vertex stands before another in the order, as 1 or 0.
+fn is_before(keeper: &Keeper, u: u32, v: u32) -> Result<usize, Refusal>
+    ensures { IsBefore keeper.now u v (answer_to result) }
+{
+    match keeper.precedes(u, v) {
+        None => Err(Refusal::NotAVertex(0)),
+        Some(true) => Ok(1),
+        Some(false) => Ok(0),
+    }
+}
+
+/// Compares the places of two vertices in the order, where a keeper lies there, and leaves it there.
+pub(crate) fn compare_places(content: Content, u: u32, v: u32) -> CallEnd
+    ensures same { result.content ≡ content }
+    ensures before { IsBeforeAt content.keeper u v result.answer }
+{
+    let Content {
+        keeper: Some(keeper),
+    } = content
+    else {
+        return CallEnd {
+            content: Content { keeper: None },
+            answer: answer_to(Err(Refusal::NotOpen)),
+        };
+    };
+    let told = is_before(&keeper, u, v);
+    CallEnd {
+        content: Content {
+            keeper: Some(keeper),
+        },
+        answer: answer_to(told),
     }
 }
 

@@ -8,7 +8,7 @@
 //!
 //! | Status | Meaning | `number` |
 //! |---|---|---|
-//! | 0 | done | of `kcore_k_core` the number of members; of `kcore_keeper_update` 1 where the graph changed; of `kcore_keeper_apply` how many updates changed it; else 0 |
+//! | 0 | done | what the function says, else 0 |
 //! | 1 | `core` has not one place for each vertex | 0 |
 //! | 2 | `order` has not one place for each vertex | 0 |
 //! | 3 | `members` has not one place for each vertex | 0 |
@@ -53,8 +53,9 @@ pub use crate::answer::CallResult;
 use crate::answer::answer_to;
 use crate::calls::{check_numbers, write_core_numbers, write_decomposition, write_k_core};
 pub use crate::keeper::{
-    kcore_keeper_align, kcore_keeper_apply, kcore_keeper_core_numbers, kcore_keeper_end,
-    kcore_keeper_grow, kcore_keeper_open, kcore_keeper_size, kcore_keeper_update,
+    kcore_keeper_align, kcore_keeper_apply, kcore_keeper_before, kcore_keeper_core,
+    kcore_keeper_core_numbers, kcore_keeper_end, kcore_keeper_grow, kcore_keeper_open,
+    kcore_keeper_size, kcore_keeper_update,
 };
 pub use crate::keeping::{CallEnd, Content, KeeperPlace};
 use crate::tallying::{Keys, judge, tally_piece};

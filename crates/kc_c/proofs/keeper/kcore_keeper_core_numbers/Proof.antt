@@ -10,7 +10,8 @@ use Rattle.std.specs.Prelude.{length}
 use mir.Val.{Val}
 use contract.Monad.{fact, fact_i}
 use contract.Running.{tables}
-use types.Kit.{‵, raw, prop, some, later, ◌⊛◌, ◌$◌, ◌∵◌, !, qed, done, drop, use0, use1, use2, pick, split, join, fsplit, fjoin, rewrite, feq_l, move, regoal, suffices, group, await}
+use types.Kit.{‵, raw, prop, some, later, ◌⊛◌, ◌$◌, ◌∵◌, !, qed, done, drop, use0, use1, use2}
+use types.Kit.{pick, split, join, fsplit, fjoin, rewrite, feq_l, move, regoal, suffices, group, await}
 use types.Part.{whole, sub, agg}
 use types.Run.{enter, addr, from, fld, hop, of_opd, load, look, store, stop, assigns, returns, and_then, no_more}
 use types.ByLocal.{alloc_all, pass_all, free_all, look_at, look_in_at, get, get_in, through, sets, lands_as}
@@ -55,12 +56,14 @@ kcore_keeper_core_numbers_spec 𝓤 𝓛 𝓜 𝓡 wired =
     let s = a.1.0 in let fs = are.1.0.0.1.0 in let Token = ‵ (flft κs.0 qs.0) ⊛ ‵ ftrue in
     let y : Ptr → W.Ghost = λ p. ((κs, qs, bounds, (p, (s, tt)), (rawptr_vals p, (mut_slice_vals s, tt))), n) in
     let G = triple_of 𝓛 g.signature (g.spec 𝓛 𝓜.mem 𝓡.returns) in
-    qed 𝓛 ((Token ⊛ ‵ (RawPtr.own_val a.0 (rawptr_vals a.0)) ⊛ ‵ ((MutSlice (named 0) κs.0 u32).own_val s (mut_slice_vals s)) ⊛ ‵ ftrue) ∷ ‵ (lies_at the_row full_share a.0 n) ∷ []) ∵
+    qed 𝓛 ((Token ⊛ ‵ (RawPtr.own_val a.0 (rawptr_vals a.0)) ⊛ ‵ ((MutSlice (named 0) κs.0 u32).own_val s (mut_slice_vals s))
+    ⊛ ‵ ftrue) ∷ ‵ (lies_at the_row full_share a.0 n) ∷ []) ∵
     split ! $ move ! (1 ∷ []) $ split ! $ drop ! $ split ! $ move ! (1 ∷ []) $ drop ! $ move ! (2 ∷ []) $
     -- [the content; the slice; the token]
     in_a_block ! a.0 (λ p. lies_at the_row full_share p n) (id⊢ 𝓤 _) (λ b o e.
     regoal ! (λ p. prop (WpFn 𝓤 𝓛.H 𝓣.C 𝓣.Λ code.function (ptr_val p ∷ slice_val s.ref_ptr (length s.now) ∷ []) (W.post (y p)))) e refl $
-    use1 𝓛 (some (λ (v : Val). ‵ (fat full_share (layout the_row) b o v) ⊛ ‵ (the_row.own_val n (v ∷ [])))) (part_out 𝓛 the_row refl full_share n b o) $ pick ! (λ v. split ! $ move ! (1 ∷ []) $
+    use1 𝓛 (some (λ (v : Val). ‵ (fat full_share (layout the_row) b o v) ⊛ ‵ (the_row.own_val n (v ∷ [])))) (part_out 𝓛 the_row refl full_share n b o) $
+    pick ! (λ v. split ! $ move ! (1 ∷ []) $
     peeks ! the_row (Is the_row) (shows 𝓛 the_row) n (v ∷ []) (λ is.
     let t = ((the_row_laws.lawful 𝓛).typed n (v ∷ []) is).0 in
     enter ! _ _ _ _ _ $ alloc_all ! (λ l. pass_all ! refl ((tt, tt), ((tt, (tt, (record { fits = fs }, tt))), tt)) $
@@ -68,16 +71,24 @@ kcore_keeper_core_numbers_spec 𝓤 𝓛 𝓜 𝓡 wired =
     sets ! (of_opd ! (get ! refl)) refl (tt, tt) $
     sets ! (of_opd ! (load ! (through ! refl (stop !)) (look ! 1 refl))) refl t $
     sets ! (addr ! (from ! (fld ! refl (hop ! (look_in_at ! 2 (sub ! 0 refl (whole !))) (stop !))))) refl (tt, tt) $
-    sets ! (agg ! (and_then ! (get ! refl) (and_then ! (get_in ! (fld ! refl (stop !)) (sub ! 1 refl (whole !))) (no_more !)))) refl (tt, (tt, (record { fits = fs }, tt))) $
+    sets ! (agg ! (and_then ! (get ! refl) (and_then ! (get_in ! (fld ! refl (stop !)) (sub ! 1 refl (whole !))) (no_more !)))) refl (
+      tt,
+      (
+        tt,
+        (record { fits = fs }, tt),
+      ),
+    ) $
     let z : G.Ghost = ((κs, qs, bounds, (n, (s, tt)), (v ∷ [], (mut_slice_vals s, tt))), tt) in
     move ! (0 ∷ 2 ∷ 3 ∷ []) $ nothing ! $ move ! (2 ∷ 0 ∷ []) $ fjoin ! $ move ! (1 ∷ 0 ∷ []) $ fjoin ! $
     move ! (1 ∷ 0 ∷ []) $ join ! $ nothing ! $ move ! (1 ∷ 0 ∷ []) $ join ! $ use1 𝓛 (raw (G.pre z)) (id⊢ 𝓤 _) $
     calls_at ! (framed 𝓤 𝓛.H 𝓜 (tables 𝓤 𝓛.H 𝓜 𝓡 𝓡.env)) G (met 𝓤 𝓛 𝓜 𝓡 (code.calls-kc_c::keeping::read_numbers 𝓡.env wired)) z
     (and_then ! (get ! refl) (and_then ! (get ! refl) (no_more !))) (λ out.
     use1 𝓛 (later (some (λ (r : CallEnd). (Token ⊛ ‵ ((Two the_row answer_row).own_val (r.content, (r.answer, tt)) (out ∷ []))) ⊛
-    some (λ (ws : Lasts g.ended κs z.0.3). ‵ (lasts g.ended κs z.0.3 ws) ⊛ (raw (fact 𝓤 (r.content ≡ n)) ⊛ raw (fact 𝓤 (NumbersAt n.keeper s.now ws.1.0 r.answer))))))) (id⊢ 𝓤 _) $
+    some (λ (ws : Lasts g.ended κs z.0.3). ‵ (lasts g.ended κs z.0.3 ws)
+    ⊛ (raw (fact 𝓤 (r.content ≡ n)) ⊛ raw (fact 𝓤 (NumbersAt n.keeper s.now ws.1.0 r.answer))))))) (id⊢ 𝓤 _) $
     await ! tt $ pick ! (λ r. split ! $ move ! (1 ∷ []) $ pick ! (λ ws. split ! $ move ! (1 ∷ []) $ split ! $ heard ! _ (λ same. heard ! _ (λ ok.
-    fsplit ! $ drop ! $ fsplit ! $ fsplit ! $ fsplit ! $ move ! (1 ∷ []) $ feq_l ! (λ len. fjoin ! $ move ! (1 ∷ []) $ drop ! $ move ! (1 ∷ []) $ split ! $ move ! (1 ∷ []) $
+    fsplit ! $ drop ! $ fsplit ! $ fsplit ! $ fsplit ! $ move ! (1 ∷ []) $ feq_l ! (λ len. fjoin ! $ move ! (1 ∷ []) $ drop ! $ move ! (1 ∷ []) $
+    split ! $ move ! (1 ∷ []) $
     -- [content and answer; the token; what is known of the slice; the cell]
     two_out the_row answer_row r.content r.answer ! refl refl (the_row_laws.lawful 𝓛) (answer_laws.lawful 𝓛) (out ∷ []) (λ w₁ w₂ t₁ t₂ is₂.
     -- [what the content owns; what the answer owns; the token; what is known of the slice; the cell]

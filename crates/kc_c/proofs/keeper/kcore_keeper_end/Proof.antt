@@ -46,7 +46,8 @@ kcore_keeper_end_spec 𝓤 𝓛 𝓜 𝓡 wired =
     qed 𝓛 (raw (on_entry 𝓛 f.signature κs qs a (y a.0).0.4) ∷ ‵ (lies_at the_row full_share a.0 n) ∷ []) ∵ drop ! $
     in_a_block ! a.0 (λ p. lies_at the_row full_share p n) (id⊢ 𝓤 _) (λ b o e.
     regoal ! (λ p. prop (WpFn 𝓤 𝓛.H 𝓣.C 𝓣.Λ code.function (rawptr_vals p) (W.post (y p)))) e refl $
-    use1 𝓛 (some (λ (v : Val). ‵ (fat full_share (layout the_row) b o v) ⊛ ‵ (the_row.own_val n (v ∷ [])))) (part_out 𝓛 the_row refl full_share n b o) $ pick ! (λ v. split ! $ move ! (1 ∷ []) $
+    use1 𝓛 (some (λ (v : Val). ‵ (fat full_share (layout the_row) b o v) ⊛ ‵ (the_row.own_val n (v ∷ [])))) (part_out 𝓛 the_row refl full_share n b o) $
+    pick ! (λ v. split ! $ move ! (1 ∷ []) $
     peeks ! the_row (Is the_row) (shows 𝓛 the_row) n (v ∷ []) (λ is.
     let t = ((the_row_laws.lawful 𝓛).typed n (v ∷ []) is).0 in
     enter ! _ _ _ _ _ $ alloc_all ! (λ l. pass_all ! refl ((tt, tt), tt) $

@@ -67,7 +67,8 @@ kcore_keeper_grow_spec 𝓤 𝓛 𝓜 𝓡 wired =
     -- [the content; what the allocator owns]
     in_a_block ! a.1.0 (λ p. lies_at the_row full_share p n) (id⊢ 𝓤 _) (λ b o e.
     regoal ! (λ p. prop (WpFn 𝓤 𝓛.H 𝓣.C 𝓣.Λ code.function (hv ∷ ptr_val p ∷ vint w32 u ∷ []) (W.post (y p)))) e refl $
-    use1 𝓛 (some (λ (w : Val). ‵ (fat full_share (layout the_row) b o w) ⊛ ‵ (the_row.own_val n (w ∷ [])))) (part_out 𝓛 the_row refl full_share n b o) $ pick ! (λ w. split ! $ move ! (1 ∷ []) $
+    use1 𝓛 (some (λ (w : Val). ‵ (fat full_share (layout the_row) b o w) ⊛ ‵ (the_row.own_val n (w ∷ [])))) (part_out 𝓛 the_row refl full_share n b o) $
+    pick ! (λ w. split ! $ move ! (1 ∷ []) $
     peeks ! the_row (Is the_row) (shows 𝓛 the_row) n (w ∷ []) (λ is.
     let t = ((the_row_laws.lawful 𝓛).typed n (w ∷ []) is).0 in
     enter ! _ _ _ _ _ $ alloc_all ! (λ l. pass_all ! refl (th, ((tt, tt), ((tt, record { fits = fu }), tt))) $
@@ -80,7 +81,8 @@ kcore_keeper_grow_spec 𝓤 𝓛 𝓜 𝓡 wired =
     calls_at ! (framed 𝓤 𝓛.H 𝓜 (tables 𝓤 𝓛.H 𝓜 𝓡 𝓡.env)) G (met 𝓤 𝓛 𝓜 𝓡 (code.calls-kc_c::keeping::grow_keeper 𝓡.env wired)) z
     (and_then ! (get ! refl) (and_then ! (get ! refl) (and_then ! (get ! refl) (no_more !)))) (λ out.
     use1 𝓛 (later (some (λ (r : CallEnd). (‵ ftrue ⊛ ‵ ((Two the_row answer_row).own_val (r.content, (r.answer, tt)) (out ∷ []))) ⊛
-    some (λ (ws : Lasts g.ended κs z.0.3). ‵ (lasts g.ended κs z.0.3 ws) ⊛ raw (fact 𝓤 (AtPlace (IsGrownTo u) n.keeper r.content.keeper r.answer)))))) (id⊢ 𝓤 _) $
+    some (λ (ws : Lasts g.ended κs z.0.3). ‵ (lasts g.ended κs z.0.3 ws)
+    ⊛ raw (fact 𝓤 (AtPlace (IsGrownTo u) n.keeper r.content.keeper r.answer)))))) (id⊢ 𝓤 _) $
     await ! tt $ pick ! (λ r. split ! $ move ! (1 ∷ []) $ pick ! (λ ws. split ! $ drop ! $ heard ! _ (λ ok. split ! $ drop ! $
     two_out the_row answer_row r.content r.answer ! refl refl (the_row_laws.lawful 𝓛) (answer_laws.lawful 𝓛) (out ∷ []) (λ w₁ w₂ t₁ t₂ is₂.
     -- [what the content owns; what the answer owns; the cell; the locals]
@@ -94,6 +96,7 @@ kcore_keeper_grow_spec 𝓤 𝓛 𝓜 𝓡 wired =
     move ! (2 ∷ 0 ∷ []) $ use2 𝓛 (‵ (part_at the_row full_share r.content b o)) (part_in 𝓛 the_row refl full_share r.content b o w₁) $
     suffices ! _ (ends_at 𝓛 f.ended stayed c (y (block_ptr b o)) w₂ r.answer (tt, (tt, (tt, tt))) (tt, (tt, (tt, tt)))) $
     use0 𝓛 (raw (fact 𝓤 (AtPlace (IsGrownTo u) n.keeper r.content.keeper r.answer))) (fact_i 𝓤 _ (emp 𝓤) ok) $ move ! (1 ∷ 0 ∷ []) $ join ! $
-    let After : Content → SProp 𝓤 = λ s. sep 𝓤 (sem 𝓛 (lies_at the_row full_share (block_ptr b o) s)) (fact 𝓤 (AtPlace (IsGrownTo u) n.keeper s.keeper r.answer)) in
+    let After : Content → SProp 𝓤 = λ s. sep 𝓤 (sem 𝓛 (lies_at the_row full_share (block_ptr b o) s))
+    (fact 𝓤 (AtPlace (IsGrownTo u) n.keeper s.keeper r.answer)) in
     use1 𝓛 (raw (ex 𝓤 After)) (ex_i 𝓤 After r.content) $
     move ! (1 ∷ []) $ nothing ! $ nothing ! $ join ! $ nothing ! $ join ! $ nothing ! $ join ! $ nothing ! $ group ! 3 $ done !))))))))))

@@ -56,7 +56,10 @@ kcore_keeper_open_spec 𝓤 𝓛 𝓜 𝓡 wired =
       Goes-dropped 𝓛 1 (plain (λ _. global_row)) yes (λ κs x w. refl),
       (
         Goes-dropped 𝓛 1 (plain (λ _. RawPtr)) yes (λ κs x w. refl),
-        (Goes-dropped 𝓛 1 (plain (λ _. u32)) yes (λ κs x w. refl), (Goes-dropped 𝓛 1 (shr_slice_of (0 ∷ []) tt (plain (λ _. edge_row))) yes (λ κs x w. refl), tt)),
+        (
+          Goes-dropped 𝓛 1 (plain (λ _. u32)) yes (λ κs x w. refl),
+          (Goes-dropped 𝓛 1 (shr_slice_of (0 ∷ []) tt (plain (λ _. edge_row))) yes (λ κs x w. refl), tt),
+        ),
       ),
     )
     f.Key.name code.function (code.unfolded 𝓤 𝓛.H 𝓜 𝓡 wired)
@@ -98,4 +101,5 @@ kcore_keeper_open_spec 𝓤 𝓛 𝓜 𝓡 wired =
     use0 𝓛 (raw (fact 𝓤 (Opens r.content.keeper k s.now r.answer))) (fact_i 𝓤 _ (emp 𝓤) ok) $ move ! (1 ∷ 0 ∷ []) $ join ! $
     let After : Content → SProp 𝓤 = λ s'. sep 𝓤 (sem 𝓛 (lies_at the_row full_share (block_ptr b o) s')) (fact 𝓤 (Opens s'.keeper k s.now r.answer)) in
     use1 𝓛 (raw (ex 𝓤 After)) (ex_i 𝓤 After r.content) $
-    move ! (1 ∷ []) $ nothing ! $ nothing ! $ join ! $ nothing ! $ join ! $ nothing ! $ join ! $ nothing ! $ join ! $ move ! (3 ∷ 0 ∷ 1 ∷ 2 ∷ []) $ group ! 3 $ done !))))))))
+    move ! (1 ∷ []) $ nothing ! $ nothing ! $ join ! $ nothing ! $ join ! $ nothing ! $ join ! $ nothing ! $ join ! $ move ! (3 ∷ 0 ∷ 1 ∷ 2 ∷ []) $
+    group ! 3 $ done !))))))))
