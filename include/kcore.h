@@ -296,6 +296,23 @@ KCORE_LOOK_AT_ANSWER struct kcore_answer kcore_keeper_grow(struct kcore_keeper *
  */
 KCORE_LOOK_AT_ANSWER struct kcore_answer kcore_keeper_core_numbers(struct kcore_keeper *place, uint32_t *core, size_t core_len);
 
+/* Answers the core number of one vertex of the graph as it is now: `number`.
+ *
+ * Statuses: KCORE_NOT_OPEN, KCORE_NOT_A_VERTEX, KCORE_DONE, tested in this order. Where it is not KCORE_DONE, `number` is 0. The keeper
+ * stays as it is.
+ * Cost: constant time; no memory.
+ */
+KCORE_LOOK_AT_ANSWER struct kcore_answer kcore_keeper_core(struct kcore_keeper *place, uint32_t v);
+
+/* Answers whether u stands before v in an order that certifies the core numbers, as kcore_degeneracy_order writes one: `number` is 1 where
+ * it does, and else 0, as where both are the same. Updates move vertices in the order.
+ *
+ * Statuses: KCORE_NOT_OPEN, KCORE_NOT_A_VERTEX, KCORE_DONE, tested in this order. Where it is not KCORE_DONE, `number` is 0. The keeper
+ * stays as it is.
+ * Cost: constant time; no memory.
+ */
+KCORE_LOOK_AT_ANSWER struct kcore_answer kcore_keeper_before(struct kcore_keeper *place, uint32_t u, uint32_t v);
+
 /* Gives back all memory that the keeper at the place holds. Nothing lies there then: free the place, or open another keeper there.
  * Cost: time linear in vertices and edges.
  */

@@ -75,6 +75,30 @@ static bool is_changing(const struct tried *tried, struct kcore_update update) {
     return update.u != update.v && tried->joined[update.u][update.v] != (update.add != 0);
 }
 
+/* Whether u stands before v in the keeper's order. */
+static bool is_before(const struct tried *tried, uint32_t u, uint32_t v) {
+    struct kcore_answer answer = kcore_keeper_before(tried->keeper, u, v);
+    WANT(answer.status == KCORE_DONE && answer.number <= 1);
+    return answer.number == 1;
+}
+
+/* Each vertex is told its core number, the numbers never fall along the order, and each vertex has at most as many later neighbours as its
+ * number. */
+static void compare_each(const struct tried *tried, const uint32_t *core) {
+    for (uint32_t u = 0; u < tried->vertices; u++) {
+        struct kcore_answer answer = kcore_keeper_core(tried->keeper, u);
+        WANT(answer.status == KCORE_DONE && answer.number == core[u]);
+        uint32_t later = 0;
+        for (uint32_t v = 0; v < tried->vertices; v++) {
+            bool before = is_before(tried, u, v);
+            WANT(!before || core[u] <= core[v]);
+            WANT(u == v ? !before : before != is_before(tried, v, u));
+            later += before && tried->joined[u][v];
+        }
+        WANT(later <= core[u]);
+    }
+}
+
 /* The keeper has the core numbers that are found from scratch. */
 static void compare(const struct tried *tried) {
     static struct kcore_edge edges[VERTICES * VERTICES];
@@ -88,6 +112,7 @@ static void compare(const struct tried *tried) {
     struct kcore_answer answer = kcore_keeper_core_numbers(tried->keeper, kept, tried->vertices);
     WANT(answer.status == KCORE_DONE && answer.number == 0);
     WANT(memcmp(kept, found, sizeof kept) == 0);
+    compare_each(tried, kept);
 }
 
 /* Opens a keeper of random edges, with each request for memory failing in turn. */
@@ -102,6 +127,8 @@ static void open(struct tried *tried) {
     WANT(kcore_keeper_apply(tried->keeper, &(struct kcore_update){0, 1, 1}, 1).status == KCORE_NOT_OPEN);
     WANT(kcore_keeper_grow(tried->keeper, FIRST).status == KCORE_NOT_OPEN);
     WANT(kcore_keeper_core_numbers(tried->keeper, core, 1).status == KCORE_NOT_OPEN && core[0] == 9);
+    WANT(kcore_keeper_core(tried->keeper, 0).status == KCORE_NOT_OPEN);
+    WANT(kcore_keeper_before(tried->keeper, 0, 1).status == KCORE_NOT_OPEN);
     kcore_keeper_end(tried->keeper);
     tried->vertices = FIRST;
     for (int i = 0; i < 2 * VERTICES; i++) {
@@ -215,6 +242,8 @@ int main(void) {
     uint32_t core[VERTICES] = {0};
     WANT(kcore_keeper_core_numbers(one.keeper, core, one.vertices + 1).status == KCORE_WRONG_CORE_LENGTH);
     WANT(kcore_keeper_update(one.keeper, 0, one.vertices, 1).status == KCORE_NOT_A_VERTEX);
+    WANT(kcore_keeper_core(one.keeper, one.vertices).status == KCORE_NOT_A_VERTEX);
+    WANT(kcore_keeper_before(one.keeper, 0, one.vertices).status == KCORE_NOT_A_VERTEX);
     kcore_keeper_end(one.keeper);
     compare(&other);
     kcore_keeper_end(other.keeper);

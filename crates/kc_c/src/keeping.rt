@@ -2,7 +2,8 @@
 ghost use Rattle.std.specs.Prelude.{◌≡◌, ◌≤◌, None, IfOk, IfErr};
 ghost use Rattle.kc_graph.specs.Bulk.{graph_with};
 ghost use Rattle.kc_c.specs.Answers.{answer_to, first_stranger, refusal_by};
-ghost use Rattle.kc_c.specs.Keeping.{AreRead, AtPlace, IsBefore, IsBeforeAt, IsGrownTo, IsKept, IsUpdatedBy, IsUpdatedByAll, NumberAt, NumbersAt, Opens, TellsNumber};
+ghost use Rattle.kc_c.specs.Keeping.{AreRead, AtPlace, IsBefore, IsBeforeAt, IsGrownTo, IsKept, IsUpdatedBy, IsUpdatedByAll};
+ghost use Rattle.kc_c.specs.Keeping.{NumberAt, NumbersAt, Opens, TellsNumber};
 ghost use Rattle.kc_c.specs.Updating.{given_update};
 
 use crate::answer::{CallResult, Refusal, answer_to};
