@@ -66,6 +66,28 @@ def read_piece(edges: Any, vertices: int) -> Graph:
     return graph
 
 
+def read_named(edges: Any, words: Words = _NOTHING_SAID) -> Graph:
+    """The graph that a caller gives, whose vertices have names: integers are names too."""
+    form = next((form for form in FORMS if form.holds(edges)), None)
+    if form is not None and form.read is _read_pairs:
+        return _read_names(_ends_of(edges))
+    graph = read(edges, words)
+    if names_of(graph) is None:
+        ends = zip(*[iter(_lists.as_list(graph.ends))] * 2)
+        return _read_names(ends)
+    return graph
+
+
+def names_of(graph: Graph) -> Optional[List[Hashable]]:
+    """The names of the vertices, or None where they are numbers."""
+    results = graph.results
+    if isinstance(results, ByName):
+        return results.names
+    if isinstance(results, ByIndex):
+        return list(results.index.tolist())
+    return None
+
+
 def told_forms() -> str:
     """The forms in one sentence."""
     return "These forms are taken: " + "; ".join(form.name for form in FORMS) + "."
@@ -314,11 +336,11 @@ def _read_names(pairs: Iterable[Tuple[Any, Any]]) -> Graph:
                 raise TypeError(f"an end is of the type {type(name).__name__}, which is not hashable, and so no name") from None
             ends.append(number)
     for name in numbers:
-        _refuse_no_name(name)
+        refuse_no_name(name)
     return Graph(ends, len(numbers), ByName(list(numbers)))
 
 
-def _refuse_no_name(name: Hashable) -> None:
+def refuse_no_name(name: Hashable) -> None:
     if name is None:
         raise TypeError("an end is None, which is no name: leave out the edges without both ends")
     if isinstance(name, Real) and not isinstance(name, Integral):

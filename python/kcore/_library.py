@@ -9,6 +9,10 @@ from typing import Any
 
 DONE, WRONG_CORE_LENGTH, WRONG_ORDER_LENGTH, WRONG_MEMBERS_LENGTH, NOT_A_VERTEX, NO_MEMORY, NOT_CERTIFIED = range(7)
 WRONG_RANK_LENGTH, WRONG_LATER_LENGTH, WRONG_SUPPORTERS_LENGTH, LOOP, GREATER_FIRST, NOT_ABOVE, NOT_AGREED = range(7, 14)
+NOT_OPEN, TOO_MANY_VERTICES, TOO_FEW_VERTICES = range(14, 17)
+
+#: How many vertices a keeper can have, as KCORE_KEEPER_VERTICES of include/kcore.h has it.
+KEEPER_VERTICES = 524288
 
 #: The version of this package and of the library that it calls.
 __version__ = "0.1.0"
@@ -76,11 +80,18 @@ _library = _load()
 _number, _length, _list = ctypes.c_uint32, ctypes.c_size_t, ctypes.c_void_p
 
 
-def _function(name: str, *arguments: Any) -> Any:
+def _declared(name: str, result: Any, *arguments: Any) -> Any:
     function = getattr(_library, name)
-    function.argtypes = [_number, *arguments]
-    function.restype = Answer
+    function.argtypes, function.restype = list(arguments), result
     return function
+
+
+def _function(name: str, *arguments: Any) -> Any:
+    return _declared(name, Answer, _number, *arguments)
+
+
+def _keeper_function(name: str, *arguments: Any) -> Any:
+    return _declared(name, Answer, _list, *arguments)
 
 
 _edges = (_list, _length)
@@ -91,3 +102,11 @@ check = _function("kcore_check", *_edges, *_numbers, *_numbers)
 k_core = _function("kcore_k_core", *_edges, _number, *_numbers)
 tally = _function("kcore_tally", Edge, *_edges, *_numbers, *_numbers, *_numbers, *_numbers)
 verdict = _function("kcore_verdict", *_numbers, *_numbers, *_numbers)
+keeper_size = _declared("kcore_keeper_size", _length)
+keeper_align = _declared("kcore_keeper_align", _length)
+keeper_open = _keeper_function("kcore_keeper_open", _number, *_edges)
+keeper_apply = _keeper_function("kcore_keeper_apply", _list, _length)
+keeper_grow = _keeper_function("kcore_keeper_grow", _number)
+keeper_core_numbers = _keeper_function("kcore_keeper_core_numbers", *_numbers)
+keeper_before = _keeper_function("kcore_keeper_before", _number, _number)
+keeper_end = _declared("kcore_keeper_end", None, _list)

@@ -117,6 +117,38 @@ def add_up(sums: Any, counts: Any) -> None:
             sums[place] = min(int(sums[place]) + int(count), GREATEST)
 
 
+def updates_of(ends: Any, add: bool) -> Any:
+    """An update for each edge whose ends these are: its two ends, and 1 where it is to come, or else 0."""
+    if is_array(ends):
+        import numpy
+
+        rows = numpy.full((ends.size // 2, 3), int(add), numpy.uint32)
+        rows[:, :2] = ends.reshape(-1, 2)
+        return rows.reshape(-1)
+    updates = array(CODE, [int(add)]) * (len(ends) // 2 * 3)
+    updates[0::3], updates[1::3] = ends[0::2], ends[1::2]
+    return updates
+
+
+def within(ends: Any, most: int) -> Any:
+    """The ends of those edges both of whose ends are below `most`."""
+    if is_array(ends):
+        pairs = ends.reshape(-1, 2)
+        return pairs[(pairs < most).all(axis=1)].reshape(-1)
+    kept = array(CODE)
+    for first, second in zip(ends[0::2], ends[1::2]):
+        if first < most and second < most:
+            kept.extend((first, second))
+    return kept
+
+
+def differences(old: Any, new: Any) -> List[int]:
+    """The places, ascending, where two lists of the same length differ."""
+    if is_array(old) and is_array(new):
+        return [int(place) for place in (old != new).nonzero()[0]]
+    return [place for place, (here, there) in enumerate(zip(old, new)) if here != there]
+
+
 def room(length: int, like_array: bool) -> Any:
     """A list of this length to be written. Its places are 0, since the library wants numbers there."""
     if like_array:

@@ -1,0 +1,339 @@
+"""A graph whose core numbers are kept right while edges come and go."""
+
+from __future__ import annotations
+
+import ctypes
+import operator
+import threading
+from array import array
+from typing import Any, Dict, Hashable, Iterable, List, NoReturn, Optional, Sequence, Tuple, Union
+
+from . import _forms, _library, _lists
+from ._graph import Graph, NotAVertexError
+
+#: The core numbers of a vertex before and after a call; before is None where the vertex is new.
+Change = Tuple[Optional[int], int]
+
+_FAR_APART = ": say names=True where ids are far apart"
+
+
+class _Place:
+    """Memory in which a keeper of the library lies, from its opening to its end."""
+
+    def __init__(self) -> None:
+        align = _library.keeper_align()
+        self._bytes = ctypes.create_string_buffer(_library.keeper_size() + align)
+        first = ctypes.addressof(self._bytes)
+        self.address = first + -first % align
+
+
+class Cores:
+    """A graph whose core numbers are kept right while edges come and go.
+
+    An update costs what it concerns, and not the graph: mostly some microseconds. To tell which core numbers changed, each call reads all
+    of them once. Core numbers, and the order that certifies them, are the library's, whose contracts are proved [1]_.
+
+    Parameters
+    ----------
+    edges : as of `core_numbers`, optional
+        The edges at the start. Where they have names, vertices have names.
+    vertices : int, optional
+        How many vertices there are, where vertices are numbers: all numbers below it, or up to the greatest end where it is left out.
+    names : bool, optional
+        True says that vertices have names whatever the edges are, so that numbers are names too. Ids may be far apart then.
+    axis, columns : optional
+        As of `core_numbers`.
+
+    Raises
+    ------
+    ValueError
+        Where there are more than 524,288 vertices.
+    NotAVertexError, TypeError, ValueError, MemoryError
+        As `core_numbers` does.
+
+    Notes
+    -----
+    Several threads may use one `Cores`: a lock of its own lets one call in at a time. It can't be pickled or copied. `close` gives its
+    memory back at once, and so does a `with` statement at its end.
+
+    References
+    ----------
+    .. [1] Y. Zhang, J. X. Yu, Y. Zhang and L. Qin, "A fast order-based approach for core maintenance", ICDE 2017, 337-348.
+
+    Examples
+    --------
+    >>> cores = Cores([("ann", "bob"), ("bob", "cat")])
+    >>> cores.insert([("cat", "ann"), ("ann", "dan")])
+    {'ann': (1, 2), 'bob': (1, 2), 'cat': (1, 2), 'dan': (None, 1)}
+    >>> cores["ann"], cores.degeneracy
+    (2, 2)
+    >>> cores.remove([("ann", "bob")])
+    {'ann': (2, 1), 'bob': (2, 1), 'cat': (2, 1)}
+    """
+
+    __slots__ = ("_lock", "_place", "_names", "_numbers", "_vertices", "_room", "_core", "_like_array", "__weakref__")
+
+    def __init__(
+        self,
+        edges: Any = (),
+        vertices: Optional[int] = None,
+        *,
+        names: bool = False,
+        axis: Optional[int] = None,
+        columns: Optional[Sequence[Hashable]] = None,
+    ) -> None:
+        self._place: Optional[_Place] = None
+        self._lock = threading.Lock()
+        words = _forms.Words(vertices=vertices, axis=axis, columns=columns)
+        if names and vertices is not None:
+            raise TypeError("vertices does not go with names")
+        graph = _read(edges, words, names)
+        named = _forms.names_of(graph)
+        self._names: Optional[List[Hashable]] = named
+        self._numbers: Dict[Hashable, int] = {} if named is None else {name: number for number, name in enumerate(named)}
+        self._like_array = _lists.is_array(graph.ends)
+        self._vertices = self._room = graph.vertices
+        place = _Place()
+        answer = _library.keeper_open(place.address, graph.vertices, _lists.address(graph.ends), graph.edges)
+        if answer.status == _library.NOT_A_VERTEX:
+            raise NotAVertexError(answer.number, graph.edge(answer.number), graph.vertices)
+        if answer.status != _library.DONE:
+            self._refuse(answer)
+        self._place = place
+        self._core = self._read()
+
+    def __enter__(self) -> Cores:
+        return self
+
+    def __exit__(self, *_: Any) -> None:
+        self.close()
+
+    def __del__(self) -> None:
+        if getattr(self, "_place", None) is not None:
+            self.close()
+
+    def close(self) -> None:
+        """Gives the memory back. No other call may follow."""
+        with self._lock:
+            place, self._place = self._place, None
+            if place is not None:
+                _library.keeper_end(place.address)
+
+    def __len__(self) -> int:
+        """How many vertices there are."""
+        return self._vertices
+
+    def __contains__(self, vertex: Any) -> bool:
+        return self._number(vertex) is not None
+
+    def __getitem__(self, vertex: Any) -> int:
+        """The core number of a vertex. Raises KeyError where it is none."""
+        with self._lock:
+            number = self._number(vertex)
+            if number is None:
+                raise KeyError(vertex)
+            return int(self._core[number])
+
+    @property
+    def degeneracy(self) -> int:
+        """The greatest core number, and 0 where there are no vertices."""
+        with self._lock:
+            return _lists.greatest(self._core) if self._vertices else 0
+
+    def core_numbers(self) -> Any:
+        """The core number of each vertex: a dict by names, or else an array, or a list, by vertex, as `core_numbers` of the module has it."""
+        with self._lock:
+            if self._names is not None:
+                return dict(zip(self._names, _lists.as_list(self._core)))
+            return self._core.copy() if self._like_array else _lists.as_list(self._core)
+
+    def k_core(self, k: Optional[int] = None) -> List[Any]:
+        """The vertices of the k-core, in the order in which they came; without `k` those of the main core, of the greatest core number."""
+        with self._lock:
+            least = _lists.greatest(self._core) if k is None and self._vertices else operator.index(k or 0)
+            if least < 0:
+                raise ValueError(f"k is {least}, and a k-core has k of 0 and more")
+            return [self._vertex(number) for number in _lists.places_between(self._core, least, _lists.GREATEST).tolist()]
+
+    def before(self, first: Any, second: Any) -> bool:
+        """Whether one vertex stands before another in the order that certifies the core numbers. Raises KeyError where one is no vertex."""
+        with self._lock:
+            numbers = [self._number(vertex) for vertex in (first, second)]
+            for number, vertex in zip(numbers, (first, second)):
+                if number is None:
+                    raise KeyError(vertex)
+            return bool(self._call(_library.keeper_before, *numbers).number)
+
+    def add_vertices(self, more: Union[int, Iterable[Hashable]]) -> None:
+        """Adds vertices without edges: so many, where vertices are numbers, or those with these names. Names that are there stay."""
+        with self._lock:
+            if self._names is None:
+                count = operator.index(more)  # type: ignore[arg-type]
+                if count < 0:
+                    raise ValueError(f"{count} vertices can't be added")
+                self._grow(self._vertices + count)
+            else:
+                new = [name for name in dict.fromkeys(more) if name not in self._numbers]  # type: ignore[arg-type]
+                for name in new:
+                    _forms.refuse_no_name(name)
+                self._grow(self._vertices + len(new), new)
+            self._core = self._read()
+
+    def insert(self, edges: Any, *, axis: Optional[int] = None, columns: Optional[Sequence[Hashable]] = None) -> Dict[Any, Change]:
+        """Adds edges. Ends that are no vertices yet become vertices. What is told is as of `apply`."""
+        return self.apply(insert=edges, axis=axis, columns=columns)
+
+    def remove(self, edges: Any, *, axis: Optional[int] = None, columns: Optional[Sequence[Hashable]] = None) -> Dict[Any, Change]:
+        """Removes edges. An edge that is not there is passed over. What is told is as of `apply`."""
+        return self.apply(remove=edges, axis=axis, columns=columns)
+
+    def apply(
+        self, insert: Any = (), remove: Any = (), *, axis: Optional[int] = None, columns: Optional[Sequence[Hashable]] = None
+    ) -> Dict[Any, Change]:
+        """Removes edges, and then adds edges.
+
+        Parameters
+        ----------
+        insert, remove : as `edges` of `core_numbers`, optional
+            An edge that is there is not added again, and one that is not there is not removed. Ends of edges that are added become vertices
+            where they are none yet.
+        axis, columns : optional
+            As of `core_numbers`, for both.
+
+        Returns
+        -------
+        dict
+            For each vertex whose core number changed, or that is new, its number before and after; before is None where it is new.
+
+        Raises
+        ------
+        MemoryError
+            Where there is none. The message tells how many updates were made, removals first; the core numbers are those after them.
+        ValueError
+            Where there would be more than 524,288 vertices. Nothing was changed.
+        TypeError, ValueError
+            As `core_numbers` does. Nothing was changed.
+        """
+        words = _forms.Words(axis=axis, columns=columns)
+        leaving, coming = (_read(edges, words, self._names is not None) for edges in (remove, insert))
+        with self._lock:
+            gone = self._known_ends(leaving)
+            ends, vertices, new = self._all_ends(coming)
+            old, count = self._core, self._vertices
+            self._grow(vertices, new)
+            updates = _joined(_lists.updates_of(gone, False), _lists.updates_of(ends, True))
+            answer = self._answer(_library.keeper_apply, _lists.address(updates), _lists.size(updates) // 3)
+            self._core = self._read()
+            if answer.status == _library.NO_MEMORY:
+                raise MemoryError(f"there is no memory: the first {answer.number} of {_lists.size(updates) // 3} updates are made")
+            if answer.status != _library.DONE:
+                self._refuse(answer)
+            changed = {place: (int(old[place]), int(self._core[place])) for place in _lists.differences(old, self._core[:count])}
+            changes: Dict[Any, Change] = {self._vertex(place): change for place, change in changed.items()}
+            changes.update((self._vertex(place), (None, int(self._core[place]))) for place in range(count, self._vertices))
+            return changes
+
+    def _number(self, vertex: Any) -> Optional[int]:
+        """The number of a vertex, or None where it is none."""
+        if self._names is not None:
+            return self._numbers.get(vertex)
+        try:
+            number = operator.index(vertex)
+        except TypeError:
+            return None
+        return number if 0 <= number < self._vertices else None
+
+    def _vertex(self, number: int) -> Any:
+        """What stands for a number: its name, or the number."""
+        return number if self._names is None else self._names[number]
+
+    def _known_ends(self, graph: Graph) -> Any:
+        """The ends of those edges both of whose ends are vertices, as numbers of this graph."""
+        names = self._names_in(graph)
+        if names is None:
+            return _lists.within(graph.ends, self._vertices)
+        numbers = [self._numbers.get(name, _library.KEEPER_VERTICES) for name in names]
+        return _lists.within(array(_lists.CODE, [numbers[end] for end in _lists.as_list(graph.ends)]), self._vertices)
+
+    def _all_ends(self, graph: Graph) -> Tuple[Any, int, List[Hashable]]:
+        """The ends of all edges as numbers of this graph, how many vertices there are with them, and the names that are new."""
+        names = self._names_in(graph)
+        if names is None:
+            return graph.ends, max(self._vertices, graph.vertices), []
+        new = [name for name in names if name not in self._numbers]
+        later = {name: number for number, name in enumerate(new, self._vertices)}
+        numbers = [self._numbers[name] if name in self._numbers else later[name] for name in names]
+        return array(_lists.CODE, [numbers[end] for end in _lists.as_list(graph.ends)]), self._vertices + len(new), new
+
+    def _names_in(self, graph: Graph) -> Optional[List[Hashable]]:
+        """The names of the vertices of some edges, or None where they are numbers. Raises TypeError where they are not what vertices are here."""
+        names = _forms.names_of(graph)
+        if self._names is None and names is not None:
+            raise TypeError("the vertices are numbers here, and these edges have names: open it with names=True")
+        if self._names is not None and names is None:
+            return []
+        return names
+
+    def _grow(self, vertices: int, names: Sequence[Hashable] = ()) -> None:
+        """Makes room for so many vertices, twice as much as there was, so that vertices may come one by one; the new ones have these names."""
+        if vertices > _library.KEEPER_VERTICES:
+            raise ValueError(f"there would be {vertices} vertices, and there may be {_library.KEEPER_VERTICES}{_FAR_APART}")
+        if vertices > self._room:
+            room = min(max(vertices, 2 * self._room, 16), _library.KEEPER_VERTICES)
+            self._call(_library.keeper_grow, room)
+            self._room = room
+        if self._names is not None:
+            self._numbers.update((name, number) for number, name in enumerate(names, self._vertices))
+            self._names.extend(names)
+        self._vertices = vertices
+
+    def _read(self) -> Any:
+        """The core number of each vertex."""
+        core = _lists.room(self._room, self._like_array)
+        self._call(_library.keeper_core_numbers, _lists.address(core), self._room)
+        return core[: self._vertices]
+
+    def _answer(self, function: Any, *arguments: Any) -> _library.Answer:
+        if self._place is None:
+            raise ValueError("these core numbers are closed")
+        answer: _library.Answer = function(self._place.address, *arguments)
+        return answer
+
+    def _call(self, function: Any, *arguments: Any) -> _library.Answer:
+        answer = self._answer(function, *arguments)
+        if answer.status != _library.DONE:
+            self._refuse(answer)
+        return answer
+
+    def _refuse(self, answer: _library.Answer) -> NoReturn:
+        if answer.status == _library.NO_MEMORY:
+            raise MemoryError("there is no memory for the graph")
+        if answer.status == _library.TOO_MANY_VERTICES:
+            raise ValueError(f"there are {self._vertices} vertices, and there may be {_library.KEEPER_VERTICES}{_FAR_APART}")
+        raise RuntimeError(f"the library answered the status {answer.status}, which is not one that it may have here")
+
+
+def _read(edges: Any, words: _forms.Words, names: bool) -> Graph:
+    """The edges that a caller gives, where integers are names or not. No word goes with the empty tuple, which stands for no edges."""
+    if isinstance(edges, tuple) and not edges:
+        words = _forms.Words(vertices=words.vertices)
+    try:
+        return _forms.read_named(edges, words) if names else _forms.read(edges, words)
+    except ValueError as cause:
+        told = str(cause)
+        if not told.endswith(_lists.FAR_APART):
+            raise
+        raise ValueError(told[: -len(_lists.FAR_APART)] + _FAR_APART) from None
+
+
+def _joined(first: Any, second: Any) -> Any:
+    """Two lists, one behind the other, as one that the library reads."""
+    if _lists.is_array(first) and _lists.is_array(second):
+        import numpy
+
+        return numpy.concatenate((first, second))
+    if not _lists.size(first):
+        return second
+    if not _lists.size(second):
+        return first
+    return array(_lists.CODE, _lists.as_list(first) + _lists.as_list(second))

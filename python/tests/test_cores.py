@@ -1,0 +1,164 @@
+"""Core numbers that are kept while edges come and go."""
+
+import random
+import threading
+import unittest
+
+import kcore
+from kcore import _library
+
+try:
+    import networkx
+except ImportError:
+    networkx = None
+try:
+    import numpy
+except ImportError:
+    numpy = None
+
+TRIANGLE = [(0, 1), (1, 2), (2, 0)]
+
+
+def changes(old, new):
+    """The numbers that differ, before and after, with None before where a vertex is new."""
+    return {vertex: (old.get(vertex), number) for vertex, number in new.items() if old.get(vertex) != number}
+
+
+class CoresTest(unittest.TestCase):
+    def test_numbers_follow_the_edges(self):
+        with kcore.Cores(TRIANGLE) as cores:
+            self.assertEqual(cores.core_numbers(), [2, 2, 2])
+            self.assertEqual(cores.insert([(2, 3)]), {3: (None, 1)})
+            self.assertEqual(cores.remove([(0, 1)]), {0: (2, 1), 1: (2, 1), 2: (2, 1)})
+            self.assertEqual(cores.apply(insert=[(0, 1)], remove=[(2, 3)]), {0: (1, 2), 1: (1, 2), 2: (1, 2), 3: (1, 0)})
+            self.assertEqual((cores[0], cores[3], len(cores), cores.degeneracy), (2, 0, 4, 2))
+            self.assertEqual((cores.k_core(), cores.k_core(0), cores.k_core(5)), ([0, 1, 2], [0, 1, 2, 3], []))
+
+    def test_what_is_there_or_is_no_edge_changes_nothing(self):
+        cores = kcore.Cores(TRIANGLE)
+        self.assertEqual(cores.insert([(1, 0), (1, 1)]), {})
+        self.assertEqual(cores.remove([(0, 7), (7, 8), (2, 2)]), {})
+        self.assertEqual((len(cores), cores.core_numbers()), (3, [2, 2, 2]))
+        self.assertEqual(cores.apply(), {})
+
+    def test_removals_are_made_before_insertions(self):
+        cores = kcore.Cores(TRIANGLE)
+        self.assertEqual(cores.apply(insert=[(0, 1)], remove=[(0, 1)]), {})
+
+    def test_names_come_with_edges(self):
+        cores = kcore.Cores([("ann", "bob")])
+        self.assertEqual(cores.insert([("bob", "cat"), ("cat", "ann")]), {"ann": (1, 2), "bob": (1, 2), "cat": (None, 2)})
+        self.assertEqual(cores.core_numbers(), {"ann": 2, "bob": 2, "cat": 2})
+        cores.add_vertices(["dan", "ann"])
+        self.assertEqual((cores["dan"], "dan" in cores, "eve" in cores), (0, True, False))
+        self.assertEqual(cores.remove([("ann", "eve"), ("eve", "fay")]), {})
+        self.assertEqual(len(cores), 4)
+
+    def test_ids_far_apart_are_names(self):
+        cores = kcore.Cores(names=True)
+        self.assertEqual(cores.insert([(7, 10**15)]), {7: (None, 1), 10**15: (None, 1)})
+
+    def test_the_order_certifies(self):
+        edges = [*TRIANGLE, (2, 3), (4, 5)]
+        cores = kcore.Cores(edges, vertices=7)
+        numbers = cores.core_numbers()
+        neighbours = {v: {w for e in edges for w in e if v in e and w != v} for v in range(7)}
+        for vertex in range(7):
+            self.assertLessEqual(sum(cores.before(vertex, other) for other in neighbours[vertex]), numbers[vertex])
+            for other in range(7):
+                self.assertTrue(numbers[vertex] <= numbers[other] or not cores.before(vertex, other))
+                self.assertEqual(cores.before(vertex, other) + cores.before(other, vertex), int(vertex != other))
+
+    def test_refusals_leave_everything(self):
+        cores = kcore.Cores(TRIANGLE)
+        for edges, error, told in (
+            ([("a", "b")], TypeError, "names=True"),
+            ([(0, 1, 2)], ValueError, "edge 0"),
+            ([(0, -1)], ValueError, "names=True"),
+            ([(0, _library.KEEPER_VERTICES)], ValueError, "there may be 524288"),
+            ("ab", TypeError, "pairs"),
+        ):
+            with self.subTest(edges=edges), self.assertRaisesRegex(error, told):
+                cores.insert(edges)
+            self.assertEqual((len(cores), cores.core_numbers()), (3, [2, 2, 2]))
+        for vertex in (3, -1, "a", None):
+            with self.subTest(vertex=vertex), self.assertRaises(KeyError):
+                cores[vertex]
+        with self.assertRaises(KeyError):
+            cores.before(0, 3)
+        with self.assertRaisesRegex(ValueError, "k is -1"):
+            cores.k_core(-1)
+        with self.assertRaises(kcore.NotAVertexError):
+            kcore.Cores([(0, 1), (1, 5)], vertices=2)
+        with self.assertRaisesRegex(TypeError, "names"):
+            kcore.Cores(names=True, vertices=2)
+        with self.assertRaisesRegex(ValueError, "there may be 524288"):
+            kcore.Cores([], vertices=_library.KEEPER_VERTICES + 1)
+
+    def test_nothing_can_be_asked_after_the_end(self):
+        cores = kcore.Cores(TRIANGLE)
+        cores.close()
+        cores.close()
+        with self.assertRaisesRegex(ValueError, "closed"):
+            cores.insert([(0, 3)])
+
+    def test_vertices_may_come_one_by_one(self):
+        cores = kcore.Cores()
+        for vertex in range(1, 300):
+            cores.insert([(vertex - 1, vertex)])
+        self.assertEqual(cores.core_numbers(), [1] * 300)
+        cores.add_vertices(2)
+        self.assertEqual(cores.core_numbers()[-2:], [0, 0])
+
+    def test_threads_take_turns(self):
+        cores = kcore.Cores([], vertices=40)
+
+        def work(seed):
+            draw = random.Random(seed)
+            for _ in range(50):
+                cores.apply([(draw.randrange(40), draw.randrange(40))], [(draw.randrange(40), draw.randrange(40))])
+
+        threads = [threading.Thread(target=work, args=(seed,)) for seed in range(4)]
+        for thread in threads:
+            thread.start()
+        for thread in threads:
+            thread.join()
+        self.assertEqual(len(cores.core_numbers()), 40)
+
+    def follow(self, seed, given):
+        """Random batches beside networkx."""
+        draw = random.Random(seed)
+        graph = networkx.empty_graph(draw.randrange(1, 25))
+        cores = kcore.Cores(given([]), vertices=len(graph))
+        for _ in range(20):
+            top = len(graph) + draw.randrange(2)
+            coming = [(draw.randrange(top), draw.randrange(top)) for _ in range(draw.choice((0, 1, 3, 8)))]
+            leaving = [edge for edge in graph.edges if draw.random() < 0.2] + [(draw.randrange(top), draw.randrange(top))]
+            old = networkx.core_number(graph)
+            graph.remove_edges_from([edge for edge in leaving if graph.has_edge(*edge)])
+            graph.add_nodes_from(range(max((end + 1 for edge in coming for end in edge), default=0)))
+            graph.add_edges_from(edge for edge in coming if edge[0] != edge[1])
+            told = cores.apply(given(coming), given(leaving))
+            new = networkx.core_number(graph)
+            self.assertEqual(dict(enumerate(cores.core_numbers())), new)
+            self.assertEqual(told, changes(old, new))
+
+    @unittest.skipUnless(networkx, "networkx is not installed")
+    def test_random_batches_beside_networkx(self):
+        for seed in range(100):
+            with self.subTest(seed=seed):
+                self.follow(seed, list)
+
+    @unittest.skipUnless(networkx and numpy, "networkx or NumPy is not installed")
+    def test_random_batches_of_arrays_beside_networkx(self):
+        def given(edges):
+            # An array of two rows would not say whether an edge is a row.
+            return edges if len(edges) == 2 else numpy.array(edges, int).reshape(-1, 2)
+
+        for seed in range(100):
+            with self.subTest(seed=seed):
+                self.follow(seed, given)
+
+
+if __name__ == "__main__":
+    unittest.main()
