@@ -1,0 +1,138 @@
+#!/usr/bin/env python3
+"""Runs `cores` on random edge lists, beside a model in Python of what each command writes.
+
+usage: fuzz_cores.py [--cores PROGRAM] [--cases N] [--seed N]
+(default: crates/cores/out/cores beside this folder, 500 cases of seed 1)
+
+The model follows the definitions: core numbers by taking vertices away, k-cores and layers from these. Of `order` it tests that the lines
+certify the numbers. An input that differs is printed, and the status is 1 then.
+"""
+import argparse
+import pathlib
+import random
+import subprocess
+import sys
+
+TOP = pathlib.Path(__file__).resolve().parent.parent
+
+
+def text_of(draw):
+    """A random edge list: some ids, with loops, repeats, comments and blank lines."""
+    ids = draw.sample(range(draw.choice((8, 60, 4_294_967_296))), draw.randrange(0, 9) if draw.random() < 0.4 else 8)
+    lines = []
+    for _ in range(draw.randrange(0, 40) if ids else 0):
+        lines.append(f"{draw.choice(ids)}{draw.choice((' ', chr(9), '  '))}{draw.choice(ids)}")
+        if draw.random() < 0.1:
+            lines.append(draw.choice(("# a comment", "", "% 1 2")))
+    return "".join(line + draw.choice(("\n", "\r\n")) for line in lines)
+
+
+def graph_of(text):
+    """The neighbours of each id."""
+    neighbours = {}
+    for line in text.splitlines():
+        fields = line.split()
+        if fields and fields[0][0] not in "#%":
+            u, v = map(int, fields)
+            for a, b in ((u, v), (v, u)):
+                neighbours.setdefault(a, set())
+                if a != b:
+                    neighbours[a].add(b)
+    return dict(sorted(neighbours.items()))
+
+
+def core_numbers(neighbours):
+    """The core number of each id: who has at most k neighbours left is taken away, for k from 0 on."""
+    left, core, k = {v: set(ws) for v, ws in neighbours.items()}, {}, 0
+    while left:
+        low = [v for v in left if len(left[v]) <= k]
+        k += not low
+        for v in low:
+            core[v] = k
+            for w in left.pop(v):
+                left[w].discard(v) if w in left else None
+    return core
+
+
+def layers(neighbours, core):
+    """In which round each id goes, of those with its core number."""
+    layer = {}
+    for k in set(core.values()):
+        left, step = {v for v in core if core[v] >= k}, 0
+        while any(core[v] == k for v in left):
+            gone = {v for v in left if core[v] == k and len(neighbours[v] & left) <= k}
+            layer.update(dict.fromkeys(gone, step))
+            left -= gone
+            step += 1
+    return layer
+
+
+def wanted(neighbours, core, k):
+    """What each command writes, by its words."""
+    top = max(core.values(), default=0)
+    edges = [(u, v) for u in neighbours for v in sorted(neighbours[u]) if u < v]
+    inside = lambda least: [v for v in neighbours if core[v] >= least]
+    joined = lambda least: [e for e in edges if core[e[0]] >= least and core[e[1]] >= least]
+    rows = lambda found: "".join("\t".join(map(str, row)) + "\n" for row in found)
+    layer = layers(neighbours, core)
+    return {
+        ("numbers",): rows((v, core[v]) for v in neighbours),
+        ("sizes",): rows((j, sum(c == j for c in core.values()), len(inside(j)), len(joined(j))) for j in range(top + 1)),
+        ("members",): rows((v,) for v in inside(top)),
+        ("members", "--core", str(k)): rows((v,) for v in inside(k)),
+        ("members", "--edges"): rows(joined(top)),
+        ("members", "--edges", "--core", str(k)): rows(joined(k)),
+        ("layers",): rows((v, core[v], layer[v]) for v in neighbours),
+    }
+
+
+def certifies(neighbours, core, lines):
+    """Whether lines of ids and numbers are an order that certifies the core numbers."""
+    order = [tuple(map(int, line.split("\t"))) for line in lines.splitlines()]
+    place = {v: i for i, (v, _) in enumerate(order)}
+    return (
+        dict(order) == core
+        and len(order) == len(core)
+        and all(first[1] <= second[1] for first, second in zip(order, order[1:]))
+        and all(sum(place[w] > place[v] for w in neighbours[v]) <= core[v] for v in core)
+    )
+
+
+def run(program, words, text):
+    ended = subprocess.run([program, *words], input=text.encode(), capture_output=True, check=False)
+    return ended.returncode, ended.stdout.decode(), ended.stderr.decode()
+
+
+def faults(program, text, k):
+    """The words for which the program does not write what is wanted."""
+    neighbours = graph_of(text)
+    core = core_numbers(neighbours)
+    size = sum(map(len, neighbours.values())) // 2
+    told = f"vertices {len(core)} edges {size} top {max(core.values(), default=0)}\n"
+    for words, lines in wanted(neighbours, core, k).items():
+        if run(program, words, text) != (0, lines, told):
+            yield words
+    status, lines, summary = run(program, ("order",), text)
+    if (status, summary) != (0, told) or not certifies(neighbours, core, lines):
+        yield ("order",)
+
+
+def main():
+    words = argparse.ArgumentParser(description=__doc__, formatter_class=argparse.RawDescriptionHelpFormatter)
+    words.add_argument("--cores", default=str(TOP / "crates/cores/out/cores"))
+    words.add_argument("--cases", type=int, default=500)
+    words.add_argument("--seed", type=int, default=1)
+    chosen = words.parse_args()
+    wrong = 0
+    for case in range(chosen.cases):
+        draw = random.Random(f"{chosen.seed} {case}")
+        text, k = text_of(draw), draw.randrange(6)
+        for found in faults(chosen.cores, text, k):
+            wrong += 1
+            print(f"case {case}: cores {' '.join(found)} differs on {text!r}")
+    print(f"{chosen.cases} cases of seed {chosen.seed}, eight commands each: {wrong or 'none'} wrong")
+    sys.exit(1 if wrong else 0)
+
+
+if __name__ == "__main__":
+    main()
