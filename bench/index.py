@@ -1,0 +1,95 @@
+#!/usr/bin/env python3
+"""Writes docs/INDEX.md: where each name stands, as the index at the end of a book does.
+
+    python3 bench/index.py --write      writes the page
+    python3 bench/index.py              tells whether the page fits the sources, by its status
+
+A name is that of a function, type, constant or variant of a crate's src/, of a definition or one of its fields in specs/, or of a lemma of
+proofs/*.antt. Names that stand in more than MOST crates, and those of fewer than LEAST letters, are left out: they tell nothing of where
+they stand. Answer files, whose names are the prover's, are left out, too.
+"""
+import collections
+import pathlib
+import re
+import sys
+
+TOP = pathlib.Path(__file__).resolve().parent.parent
+CRATES = TOP / "crates"
+PAGE = TOP / "docs" / "INDEX.md"
+MOST = 2
+LEAST = 4
+
+ITEM = re.compile(r"^\s*(?:pub(?:\([^)]*\))?\s+)?(?:const\s+|unsafe\s+|extern \"C\"\s+)*(?:fn|struct|enum|trait|const|type)\s+(\w+)", re.M)
+VARIANT = re.compile(r"^    ([A-Z]\w+)(?:\s*[,({]|$)", re.M)
+ENUM = re.compile(r"\benum\s+\w+[^{]*\{(.*?)^\}", re.M | re.S)
+WORD = re.compile(r"^(?:abbrev |opaque |pub |record |data )+([^\s:(]+)", re.M)
+FIELD = re.compile(r"^  (?:pub )?([a-z][\w'-]*)\s*:", re.M)
+LEMMA = re.compile(r"^(?:abbrev |private |pub )*([A-Za-z][\w'◌-]*)\s*:(?=\s)", re.M)
+
+HEAD = """# Index
+
+Where each name stands: the crate, and the file in its `src/`, `specs/` or `proofs/`. `python3 bench/index.py --write` makes this page from the
+sources. Names that stand in more than {most} crates are left out, and so are those of fewer than {least} letters. `docs/DEFINITIONS.md` says in
+plain English what the definitions mean, and `docs/MAP.md` which promise rests on them.
+
+A letter behind a name tells what it is: `f` a function, type or constant of the code, `d` a definition, `m` a member of a definition that is a
+record, `l` a lemma.
+
+"""
+
+
+def names_of_code(text):
+    yield from ITEM.findall(text)
+    for body in ENUM.findall(text):
+        yield from VARIANT.findall(body)
+
+
+def listed():
+    """For each name and kind the places where it stands, as `crate file`."""
+    found = collections.defaultdict(set)
+    for crate in sorted(CRATES.iterdir()):
+        for path in sorted(crate.glob("src/**/*.rt")):
+            for name in names_of_code(path.read_text(encoding="utf-8")):
+                found[name, "f"].add((crate.name, path.stem))
+        for path in sorted(crate.glob("specs/**/*.antt")):
+            text = path.read_text(encoding="utf-8")
+            for name in WORD.findall(text):
+                found[name, "d"].add((crate.name, path.stem))
+            for name in FIELD.findall(text):
+                found[name, "m"].add((crate.name, path.stem))
+        for path in sorted(crate.glob("proofs/*.antt")):
+            for name in LEMMA.findall(path.read_text(encoding="utf-8")):
+                found[name, "l"].add((crate.name, path.stem))
+    return found
+
+
+def page():
+    found = listed()
+    crates = collections.defaultdict(set)
+    for (name, _), places in found.items():
+        crates[name] |= {crate for crate, _ in places}
+    rows, letter = [HEAD.format(most=MOST, least=LEAST)], ""
+    kept = [key for key in found if len(crates[key[0]]) <= MOST and len(key[0]) >= LEAST and not key[0].startswith(("mod", "◌"))]
+    for name, kind in sorted(kept, key=lambda key: (key[0].lower(), key)):
+        if name[0].upper() != letter:
+            letter = name[0].upper()
+            rows.append(f"\n## {letter}\n\n")
+        places = collections.defaultdict(list)
+        for crate, file in sorted(found[name, kind]):
+            places[crate].append(file)
+        told = "; ".join(f"{crate} {', '.join(files)}" for crate, files in places.items())
+        rows.append(f"- `{name}` {kind}: {told}\n")
+    return "".join(rows)
+
+
+def main():
+    made = page()
+    if sys.argv[1:] == ["--write"]:
+        PAGE.write_text(made, encoding="utf-8")
+        return 0
+    fits = PAGE.is_file() and PAGE.read_text(encoding="utf-8") == made
+    print(f"docs/INDEX.md: {made.count(chr(10) + '- ')} names, {'fits the sources' if fits else 'stale: python3 bench/index.py --write'}")
+    return 0 if fits else 1
+
+
+sys.exit(main())
