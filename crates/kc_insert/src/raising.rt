@@ -35,7 +35,7 @@ impl Rising {
         let mut high = self.queue.len();
         while low < high {
             let middle = low + (high - low) / 2;
-            if stands_before(view, self.queue[middle], x)? {
+            if stands_before(view, self.queue.get(middle), x)? {
                 low = middle + 1;
             } else {
                 high = middle;
@@ -109,6 +109,7 @@ impl Rising {
             → Widened (search_with update level s) root → level < earlier + ahead.now.count → IsAheadOf (search_with update level s) w ahead.now
             → IsBetweenTurns (search_with update level s) root self.old → IsBetweenTurns (search_with update level s) root self.new) }
     {
+        prove!(self.turn < self.queue.len());
         self.leave(w, Mark::candidate(earlier, ahead.count, self.turn))?;
         self.pass_on(view, &ahead.next)?;
         Ok(())

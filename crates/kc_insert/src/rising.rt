@@ -5,6 +5,7 @@ ghost use Rattle.kc_marks.specs.SearchMarks.{MarksOne};
 ghost use Rattle.kc_insert.specs.Rising.{is_candidate, cands, earlier_at, turn_at};
 ghost use Rattle.kc_insert.specs.Turns.{Begins, LeavesQueue, Evicts};
 
+use kc_blocks::BlockList;
 use kc_graph::NoMemory;
 use kc_marks::SearchMarks;
 use std::alloc::Global;
@@ -30,7 +31,7 @@ pub(crate) struct Rising {
     /// The mark of each vertex that was ever queued, and the candidates that were found too weak.
     pub seen: SearchMarks<Mark>,
     /// All that were ever queued, in the order of the view.
-    pub queue: Vec<u32>,
+    pub queue: BlockList,
     /// How many of them have left.
     pub turn: usize,
     /// For each of the weak that was evicted, itself and the vertex behind which it is put.
@@ -79,7 +80,8 @@ impl Rising {
     {
         let mut seen = SearchMarks::new(alloc);
         seen.mark(root, Mark::past())?;
-        let queue = vec![in alloc; root]?;
+        let mut queue = BlockList::new(alloc);
+        queue.insert(0, root)?;
         Ok(Rising {
             seen,
             queue,
@@ -103,6 +105,7 @@ impl Rising {
         requires { self.old.turn < length self.old.queue.items }
         ensures { OnOk result (LeavesQueue w mark self.old self.new) }
     {
+        prove!(self.turn < self.queue.len());
         self.seen.mark(w, mark)?;
         self.turn += 1;
         Ok(())
@@ -122,8 +125,7 @@ impl Rising {
             ..Mark::past()
         };
         self.seen.mark(x, mark)?;
-        self.queue.insert(place, x)?;
-        Ok(())
+        self.queue.insert(place, x)
     }
 
     /// Counts one candidate more before a queued vertex.
@@ -179,9 +181,10 @@ impl Rising {
         ensures { IfOk result (λ list. list.items ≡ cands self.now) }
     {
         let mut list = Vec::new(alloc);
-        for y in &self.queue {
-            if self.may_rise(*y) {
-                list.push(*y)?;
+        for i in 0..self.queue.len() {
+            let y = self.queue.get(i);
+            if self.may_rise(y) {
+                list.push(y)?;
             }
         }
         Ok(list)

@@ -34,7 +34,7 @@ impl Rising {
             → Widened (search_with search.update search.level s) root → IsBetweenTurns (search_with search.update search.level s) root self.old
             → IsBetweenTurns (search_with search.update search.level s) root self.new) }
     {
-        let w = self.queue[self.turn];
+        let w = self.queue.get(self.turn);
         fill_row(view, search.update, w, row)?;
         ahead.look_from(view, search, w, row)?;
         let earlier = self.earlier_of(w);
@@ -68,7 +68,7 @@ impl Rising {
             → Widened (search_with search.update search.level s) root → IsBetweenTurns (search_with search.update search.level s) root self.old
             → IsBetweenTurns (search_with search.update search.level s) root self.new) }
     {
-        let w = self.queue[self.turn];
+        let w = self.queue.get(self.turn);
         if self.turn > 0 && self.earlier_of(w) == 0 {
             self.leave(w, Mark::past())?;
             return Ok(());

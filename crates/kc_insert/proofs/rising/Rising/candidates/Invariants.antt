@@ -4,5 +4,5 @@ use Rattle.std.specs.List.{filter}
 use Rattle.kc_insert.specs.Rising.{is_candidate}
 use Rattle.kc_insert.proofs.rising.Rising.candidates.Given as goal
 
-abbrev pub invariant-loop-y : goal.invariant-loop-y
-invariant-loop-y l = l.list.items ≡ filter (is_candidate l.self) (take l.y-index l.self.queue.items)
+abbrev pub invariant-loop-i : goal.invariant-loop-i
+invariant-loop-i l = l.list.items ≡ filter (is_candidate l.self) (take l.i l.self.queue.items)

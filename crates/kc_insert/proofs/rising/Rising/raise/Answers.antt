@@ -43,7 +43,7 @@ returns-clause-raised g c = λ update level s root a wide strong ahead' between.
     subst (λ (xs : List ℕ). StandsBehindLeft (rank_in s.order) mid xs y) (sym value)
     (stands-behind _ root c.args.w between.0 c.candidate.result c.args.ahead.now old mid wide t.orderly l c.requires.turn
     c.requires.first ahead' between.1 y (sym (ap (member y) value) ∙ m)) in
-    let fits : length old.queue.items < 2 ^ 64 = omega (arith, old.queue.ok.0, old.queue.small) in
+    let fits : length old.queue.items < 2 ^ 64 = omega (arith, c.len.ensures) in
     raised-now _ root c.args.w c.candidate.result c.args.ahead.now old mid new wide t.orderly tm.orderly (p.tidy update' tm).orderly l
     (ap (λ (m : Mark). m.is_candidate) mark) (ap (λ (m : Mark). m.earlier) mark ∙ c.requires.earlier) (ap (λ (m : Mark). m.later) mark)
     passed c.requires.turn c.requires.first fits (omega (arith, strong, c.requires.earlier)) ahead' (λ up. p.ascends s a stand up) between

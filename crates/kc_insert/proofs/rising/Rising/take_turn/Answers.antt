@@ -1,7 +1,6 @@
 -- Behind the first turn, a vertex with no candidate before it just leaves the queue; any other is visited.
 use Rattle.std.proofs.Common.{◌≡◌, ◌<◌, false, get_or, refl, sym, subst, arith}
 use Rattle.std.proofs.lemmas.Bool.{false≢true}
-use Rattle.std.proofs.lemmas.List.{get_or_read}
 use Rattle.kc_insert.specs.Added.{search_with}
 use Rattle.kc_insert.specs.Rising.{earlier_at}
 use Rattle.kc_insert.specs.Turns.{LeavesQueue}
@@ -12,9 +11,9 @@ use Rattle.kc_insert.proofs.rising.Rising.take_turn.Goals as goal
 
 pub returns-then-earlier_of-eq0-clause-tidy : goal.returns-then-earlier_of-eq0-clause-tidy
 returns-then-earlier_of-eq0-clause-tidy g c =
-    let w = c.index-w.result.now in
+    let w = c.get-w.result in
     let r = c.args.self.now in
-    let first : w ≡ get_or r.queue.items r.turn 0 = get_or_read r.queue.items _ _ c.requires.turn c.index-w.ensures 0 in
+    let first : w ≡ get_or r.queue.items r.turn 0 = c.get-w.ensures in
     leave-tidy c.args.search.update (g.V.View.shown c.args.view.now) w
     (record { earlier = 0; later = 0; turn = 0; is_candidate = false; is_weak = false }) r c.leave.new.self c.requires.tidy
     (subst (λ (m : Mark). LeavesQueue w m r c.leave.new.self) c.past.ensures c.in_ok-leave.ensures) c.requires.turn (sym first)
@@ -22,9 +21,9 @@ returns-then-earlier_of-eq0-clause-tidy g c =
 
 pub returns-then-earlier_of-eq0-clause-turns : goal.returns-then-earlier_of-eq0-clause-turns
 returns-then-earlier_of-eq0-clause-turns g c = λ s root lv a wd b.
-    let w = c.index-w.result.now in
+    let w = c.get-w.result in
     let r = c.args.self.now in
-    let first : w ≡ get_or r.queue.items r.turn 0 = get_or_read r.queue.items _ _ c.requires.turn c.index-w.ensures 0 in
+    let first : w ≡ get_or r.queue.items r.turn 0 = c.get-w.ensures in
     let some : 0 < r.turn = omega (arith, c.if-self-gt0.true) in
     let none : earlier_at r w ≡ 0 = omega (arith, c.earlier_of.ensures, c.if-earlier_of-eq0.true) in
     pass-later (search_with c.args.search.update c.args.search.level s) root w r c.leave.new.self wd c.requires.tidy.orderly c.requires.turn (sym first)

@@ -10,7 +10,7 @@ loop-self-smaller g c =
     let fits : length c.loop-self.self.queue.items ≤ (g.V.View.shown c.loop-self.view).size =
     queue-fits c.args.search.update (g.V.View.shown c.loop-self.view) c.loop-self.self i.tidy in
     let l : c.loop-self.self.turn < length c.loop-self.self.queue.items =
-    omega (arith, c.len.ensures, c.loop-self-test.true, c.loop-self.self.queue.ok.0) in
+    omega (arith, c.len.ensures, c.loop-self-test.true) in
     omega (arith, fits, l, i.goes_on.lasts.same_size, c.in_ok-take_turn.ensures.turn)
 
 pub loop-self-preserved : goal.loop-self-preserved

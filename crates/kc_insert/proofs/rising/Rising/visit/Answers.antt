@@ -1,7 +1,6 @@
 -- More neighbours than the level raise `w`; else it is settled, or where no candidate stands before it just leaves the queue.
 use Rattle.std.proofs.Common.{◌≡◌, ◌≤◌, ◌<◌, ◌+◌, ◌||◌, ℕ, min, true, false, List, length, get_or, refl, sym, ◌∙◌, ap, subst, inr, arith, rules}
 use Rattle.std.proofs.lemmas.Bool.{false≢true}
-use Rattle.std.proofs.lemmas.List.{get_or_read}
 use Rattle.std.proofs.lemmas.Result.{on_ok_weaker}
 use Rattle.kc_lists.specs.Lists.{member}
 use Rattle.kc_lists.proofs.Counting.{member-get_or}
@@ -47,18 +46,18 @@ record HasLooked (update : Update) (level : ℕ) (shown : Shown) (r : Rising) (w
 
 -- so it is once all neighbours were looked at
 has-looked : (g : Over) (c : In_ok-look_from g)
-    → HasLooked c.args.search.update c.args.search.level (g.V.View.shown c.look_from.new.view) c.args.self.now c.index-w.result.now
+    → HasLooked c.args.search.update c.args.search.level (g.V.View.shown c.look_from.new.view) c.args.self.now c.get-w.result
     c.fill_row.new.row.items c.look_from.new.self
 has-looked g c =
     let update = c.args.search.update in
     let r = c.args.self.now in
-    let w = c.index-w.result.now in
+    let w = c.get-w.result in
     let filled = g.V.View.shown c.fill_row.new.view in
     let one = c.fill_row.ensures.goes_on in
     let two = c.look_from.ensures.goes_on in
     let e = c.in_ok-fill_row.ensures in
     let o = c.in_ok-look_from.ensures in
-    let first : w ≡ get_or r.queue.items r.turn 0 = get_or_read r.queue.items _ _ c.requires.turn c.index-w.ensures 0 in
+    let first : w ≡ get_or r.queue.items r.turn 0 = c.get-w.ensures in
     let asks : AsksQueued update filled.kept r.queue.items =
     e.asks r.queue.items c.requires.tidy.asks (inr (first-there w r c.requires.turn (sym first))) in
     record {
@@ -79,8 +78,8 @@ has-looked g c =
 pub fill_row-requires-clause-vertex : goal.fill_row-requires-clause-vertex
 fill_row-requires-clause-vertex g c =
     let r : Rising = c.args.self.now in
-    let first : c.index-w.result.now ≡ get_or r.queue.items r.turn 0 = get_or_read r.queue.items _ _ c.requires.turn c.index-w.ensures 0 in
-    c.requires.tidy.within c.index-w.result.now (first-there c.index-w.result.now r c.requires.turn (sym first))
+    let first : c.get-w.result ≡ get_or r.queue.items r.turn 0 = c.get-w.ensures in
+    c.requires.tidy.within c.get-w.result (first-there c.get-w.result r c.requires.turn (sym first))
 
 pub raise-requires-clause-read : goal.raise-requires-clause-read
 raise-requires-clause-read g c = (has-looked g (goal.at.raise-requires-clause-read g c).In_ok-look_from).read
@@ -133,14 +132,14 @@ returns-then-earlier-gt0-clause-turns g c = on_ok_weaker c.settle.result (λ set
 pub returns-clause-tidy : goal.returns-clause-tidy
 returns-clause-tidy g c =
     let k = has-looked g (goal.at.returns-clause-tidy g c).In_ok-look_from in
-    leave-tidy c.args.search.update (g.V.View.shown c.look_from.new.view) c.index-w.result.now
+    leave-tidy c.args.search.update (g.V.View.shown c.look_from.new.view) c.get-w.result
     (record { earlier = 0; later = 0; turn = 0; is_candidate = false; is_weak = false }) c.args.self.now c.leave.new.self k.tidy
-    (subst (λ (m : Mark). LeavesQueue c.index-w.result.now m c.args.self.now c.leave.new.self) c.past.ensures c.in_ok-leave.ensures) c.requires.turn k.first
+    (subst (λ (m : Mark). LeavesQueue c.get-w.result m c.args.self.now c.leave.new.self) c.past.ensures c.in_ok-leave.ensures) c.requires.turn k.first
     (λ e. absurd (false≢true e)) refl (λ _. k.read)
 
 pub returns-clause-turns : goal.returns-clause-turns
 returns-clause-turns g c = λ s root lv a wd b.
-    let w = c.index-w.result.now in
+    let w = c.get-w.result in
     let k = has-looked g (goal.at.returns-clause-turns g c).In_ok-look_from in
     let under =
     within-level c.earlier_of-earlier.result c.look_from.new.self.count c.args.search.level c.saturating_add.result c.saturating_add.ensures
