@@ -1,9 +1,10 @@
 //! A list of numbers that is kept in blocks, so that an entry goes in at any place without moving all that stand behind it.
 //!
 //! `BlockList` is a list whose entries lie in blocks of at most `BLOCK`, one after the other, as in an unrolled list (Shao, Reppy and
-//! Appel 1994), with a table that says where each block begins. An entry goes into its block: it moves the entries of that block alone,
-//! and the places from which the later blocks begin. A full block is cut in two. Contracts see the list of the entries, as they see a
-//! vector's; `specs/Placing.antt` says how the blocks hold it. The crate stands on the standard library alone.
+//! Appel 1994). A table says where each block begins, so an entry is found by halving that table. An entry that goes in moves entries of
+//! its block alone, and the later blocks begin one place later; a full block is cut in two. The first block stands by itself, so a list
+//! that is no longer than one block costs what a vector costs. Contracts see the list of the entries, as they see a vector's;
+//! `specs/Placing.antt` says how the blocks hold it. The crate stands on the standard library alone.
 #![tactic(auto)]
 
 mod blocks;

@@ -1,31 +1,37 @@
 //! A list that is kept in blocks.
 ghost use Rattle.std.specs.Prelude.{◌≡◌, ◌<◌, ◌≤◌, ◌+◌, ◌-◌, ◌^◌, [], length, slice_index, IfOk, OnErr, OnOk};
+ghost use Rattle.std.specs.Prelude.{◌++◌};
 ghost use Rattle.std.specs.List.{insert};
+ghost use Rattle.kc_blocks.specs.Placing.{IsPlaced, entries_of};
 
-use crate::blocks::Blocks;
+use crate::blocks::{BLOCK, Blocks};
 use std::alloc::{AllocError, Global};
 use std::marker::Model;
 
 /// A list whose entries lie in blocks of at most `BLOCK`, one after the other. An entry goes in at any place, and moves no more entries
-/// than one block has.
+/// than two blocks have. A short list has one block and no table, and takes memory once, as a vector does.
 ///
 /// Contracts see the list of the entries, `items`.
 #[derive(Drop)]
 pub struct BlockList {
-    blocks: Blocks,
+    /// The first block.
+    front: Vec<u32>,
+    /// The blocks behind it.
+    rest: Blocks,
+    /// How many entries there are in all.
     len: usize,
 }
 
 impl Model for BlockList {
-    ghost use Rattle.std.specs.Prelude.{◌≡◌, ℕ, length};
+    ghost use Rattle.std.specs.Prelude.{◌≡◌, ◌++◌, ℕ, length};
     ghost use Rattle.kc_blocks.specs.BlockLists.{Entries};
     ghost use Rattle.kc_blocks.specs.Placing.{IsPlaced, entries_of};
 
     ghost Value = { Entries };
 
-    ghost view = { λ l. record { items = entries_of l.blocks.blocks.items } };
+    ghost view = { λ l. record { items = l.front.items ++ entries_of l.rest.blocks.items } };
 
-    ghost invariant = { λ l. (IsPlaced l.blocks) × (l.len ≡ length (entries_of l.blocks.blocks.items)) };
+    ghost invariant = { λ l. (IsPlaced l.rest) × (l.len ≡ length (l.front.items ++ entries_of l.rest.blocks.items)) };
 }
 
 impl BlockList {
@@ -34,7 +40,8 @@ impl BlockList {
         ensures { result.items ≡ [] }
     {
         BlockList {
-            blocks: Blocks::new(alloc),
+            front: Vec::new(alloc),
+            rest: Blocks::new(alloc),
             len: 0,
         }
     }
@@ -53,7 +60,10 @@ impl BlockList {
         requires { place < length self.now.items }
         ensures { result ≡ slice_index self.now.items place }
     {
-        self.blocks.get(place)
+        if place < self.front.len() {
+            return self.front[place];
+        }
+        self.rest.get(place - self.front.len())
     }
 
     /// Puts an entry in at a place, counted from 0; what stood there and behind it stands one place further on. Where there is no memory
@@ -64,10 +74,36 @@ impl BlockList {
         ensures err { OnErr result (self.new.items ≡ self.old.items) }
     {
         let len = more_by_one(self.len)?;
-        self.blocks.insert(place, x)?;
+        put(&mut self.front, &mut self.rest, place, x)?;
         self.len = len;
         Ok(())
     }
+}
+
+/// Puts an entry in at a place of the list that the first block and those behind it hold. Where it goes into the first and that is full,
+/// the last entry there gives way to it.
+fn put(front: &mut Vec<u32>, rest: &mut Blocks, place: usize, x: u32) -> Result<(), AllocError>
+    requires placed { IsPlaced rest.old }
+    requires within { place ≤ length front.old.items + length (entries_of rest.old.blocks.items) }
+    requires few { length front.old.items + length (entries_of rest.old.blocks.items) < 2 ^ 64 - 1 }
+    ensures placed { IsPlaced rest.new }
+    ensures ok { OnOk result (front.new.items ++ entries_of rest.new.blocks.items
+        ≡ insert (front.old.items ++ entries_of rest.old.blocks.items) place x) }
+    ensures err { OnErr result (front.new.items ++ entries_of rest.new.blocks.items ≡ front.old.items ++ entries_of rest.old.blocks.items) }
+{
+    let end = front.len();
+    if place <= end && end < BLOCK {
+        front.insert(place, x)?;
+        return Ok(());
+    }
+    if place >= end {
+        return rest.insert(place - end, x);
+    }
+    let last = front[end - 1];
+    rest.insert(0, last)?;
+    front.truncate(end - 1);
+    front.insert(place, x)?;
+    Ok(())
 }
 
 /// The next number; an error where it can't be told.
