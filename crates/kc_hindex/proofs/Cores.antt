@@ -14,7 +14,7 @@ use Rattle.kc_graph.specs.Core.{IsInCore, IsCoreNumber, AreCoreNumbers, HasMinDe
 use Rattle.kc_graph.specs.Neighbours.{neighbours_of}
 use Rattle.kc_graph.proofs.NeighbourLists.{neighbours_has, neighbours_within, neighbours_once}
 use Rattle.kc_hindex.specs.Rounds.{h_round, after_rounds, IsSettled, HasRound}
-use Rattle.kc_hindex.proofs.HIndex.{h_index-reached, h_index-greatest, count-map}
+use Rattle.kc_shard.proofs.HIndex.{h_index-reached, h_index-greatest, count-map}
 
 -- two tests that hold hold together
 both_true : (a b : Bool) → a ≡ true → b ≡ true → (a && b) ≡ true

@@ -1,10 +1,9 @@
 pub mod Cores
 pub mod Dealing
-pub mod HIndex
 pub mod Releasing
 pub mod Rows
 pub mod Settling
+pub mod Sharding
 pub mod Taking
 pub mod TakingOver
-pub mod BoundedCounts
 pub mod Uncrossed

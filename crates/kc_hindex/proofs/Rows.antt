@@ -7,7 +7,8 @@ use Rattle.kc_graph.specs.SimpleGraph.{SimpleGraph, adjacent, degree_among}
 use Rattle.kc_graph.specs.Neighbours.{AreNeighbours}
 use Rattle.kc_graph.proofs.NeighbourLists.{neighbours_are}
 use Rattle.kc_graph.proofs.PeelingLemmas.{degree_is, remaining-lt, neighbours-distinct}
-use Rattle.kc_hindex.specs.Rounds.{h_index, h_round}
+use Rattle.kc_hindex.specs.Rounds.{h_round}
+use Rattle.kc_shard.specs.HIndex.{h_index}
 
 -- a vertex has fewer neighbours in its row than there are vertices
 pub row_few : (g : SimpleGraph) (v : ℕ) (ws : List ℕ) → v < g.size → AreNeighbours g v ws → length ws < g.size

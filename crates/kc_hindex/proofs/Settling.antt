@@ -11,8 +11,9 @@ use Rattle.kc_lists.proofs.Shared.{total-agree}
 use Rattle.kc_graph.specs.SimpleGraph.{SimpleGraph, adjacent, degree_among}
 use Rattle.kc_graph.specs.Neighbours.{neighbours_of}
 use Rattle.kc_graph.proofs.NeighbourLists.{neighbours_within, neighbours_once}
-use Rattle.kc_hindex.specs.Rounds.{h_index, h_round, after_rounds, IsSettled, AreRounds, HasRound, IsRoundOf}
-use Rattle.kc_hindex.proofs.HIndex.{h_index-length, h_index-mono, length-map}
+use Rattle.kc_hindex.specs.Rounds.{h_round, after_rounds, IsSettled, AreRounds, HasRound, IsRoundOf}
+use Rattle.kc_shard.specs.HIndex.{h_index}
+use Rattle.kc_shard.proofs.HIndex.{h_index-length, h_index-mono, length-map}
 
 -- two ways to number that agree on a list
 pub map-agree : (c d : ℕ → ℕ) (ws : List ℕ) → ((w : ℕ) → member w ws ≡ true → c w ≡ d w) → map c ws ≡ map d ws

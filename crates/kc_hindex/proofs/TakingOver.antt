@@ -6,7 +6,7 @@ use Rattle.std.proofs.lemmas.List.{ext_get_or, get_or-set_other, get_or-set_same
 use Rattle.kc_graph.specs.Rows.{row}
 use Rattle.kc_hindex.specs.declared.piece.Piece.{Piece}
 use Rattle.kc_hindex.specs.Crossing.{AllTaken, Crosses, KeepsMarks, Taken}
-use Rattle.kc_hindex.specs.Pieces.{AreDealt, StandFrom, StandInTurn, numbers_of}
+use Rattle.kc_hindex.specs.Pieces.{AreDealt, StandFrom, numbers_of}
 use Rattle.std.proofs.Math.Nat.{mod-lt}
 use Rattle.kc_hindex.proofs.Dealing.{steps-apart, turns-apart, vertex-has_turn}
 

@@ -10,8 +10,9 @@ use Rattle.kc_graph.specs.Neighbours.{neighbours_of}
 use Rattle.kc_graph.proofs.NeighbourLists.{neighbours_within}
 use Rattle.kc_hindex.specs.Crossing.{Crosses}
 use Rattle.kc_hindex.specs.Pieces.{AreReady, KeepsUncrossed}
-use Rattle.kc_hindex.specs.Rounds.{HasRound, after_rounds, h_index}
-use Rattle.kc_hindex.proofs.HIndex.{count-map, h_index-reached, in_reach}
+use Rattle.kc_hindex.specs.Rounds.{HasRound, after_rounds}
+use Rattle.kc_shard.specs.HIndex.{h_index}
+use Rattle.kc_shard.proofs.HIndex.{count-map, h_index-reached, in_reach}
 use Rattle.kc_hindex.proofs.Settling.{map-agree, never_rises, round-falls}
 
 -- the neighbours that reached the number of a vertex still do, where no vertex has crossed it

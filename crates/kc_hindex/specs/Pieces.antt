@@ -1,5 +1,5 @@
 -- What is kept for the vertices from round to round.
-use Rattle.std.specs.Prelude.{◌≡◌, ◌≤◌, ◌<◌, ◌+◌, ◌*◌, ℕ, Bool, true, false, List, length, map, slice_index, slice_index_or, vec_len}
+use Rattle.std.specs.Prelude.{◌≡◌, ◌≤◌, ◌<◌, ◌+◌, ◌*◌, ℕ, Bool, false, List, length, map, slice_index, slice_index_or, vec_len}
 use Rattle.kc_graph.specs.SimpleGraph.{SimpleGraph}
 use Rattle.kc_graph.specs.Rows.{row}
 use Rattle.kc_hindex.specs.declared.piece.Piece.{Piece}

@@ -1,26 +1,9 @@
 -- Rounds in which each vertex takes the h-index of its neighbours' numbers (Lü, Zhou, Zhang and Stanley 2016).
-use Rattle.std.specs.Prelude.{◌≡◌, ◌≤◌, ◌<◌, ℕ, zero, suc, List, length, map, slice_index, count_by, nat_le, if◌then◌else◌}
+use Rattle.std.specs.Prelude.{◌≡◌, ◌≤◌, ◌<◌, ℕ, zero, suc, List, length, map, slice_index}
 use Rattle.kc_lists.specs.Lists.{below}
 use Rattle.kc_graph.specs.SimpleGraph.{SimpleGraph, degree_among}
 use Rattle.kc_graph.specs.Neighbours.{neighbours_of}
-
--- how many of the numbers are at least `k`
-abbrev pub how_many_reach : ℕ → List ℕ → ℕ
-how_many_reach k numbers = count_by (nat_le k) numbers
-
--- `h` is the greatest `k` such that at least `k` of the numbers are at least `k`
-pub record IsHIndex (numbers : List ℕ) (h : ℕ) : Type 0 where
-  pub reached : h ≤ how_many_reach h numbers
-  pub greatest : (k : ℕ) → k ≤ how_many_reach k numbers → k ≤ h
-
--- the greatest such `k` up to `limit`
-abbrev pub h_index_up_to : List ℕ → ℕ → ℕ
-h_index_up_to numbers zero = 0
-h_index_up_to numbers (suc limit) = if nat_le (suc limit) (how_many_reach (suc limit) numbers) then suc limit else h_index_up_to numbers limit
-
--- the h-index of a list of numbers
-abbrev pub h_index : List ℕ → ℕ
-h_index numbers = h_index_up_to numbers (length numbers)
+use Rattle.kc_shard.specs.HIndex.{h_index}
 
 -- what a round makes of the number of `v`
 abbrev pub h_round : SimpleGraph → (ℕ → ℕ) → ℕ → ℕ

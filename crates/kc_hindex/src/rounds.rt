@@ -4,10 +4,10 @@ ghost use Rattle.kc_hindex.specs.Rounds.{IsRoundOf, h_round};
 ghost use Rattle.kc_hindex.specs.Crossing.{Crosses};
 ghost use Rattle.kc_hindex.specs.Pieces.{AreDealt, AreMade, AreReady, MadeFrom};
 
-use crate::counting::h_index_of;
 use crate::crossing::take_over;
 use crate::piece::Piece;
 use kc_graph::Graph;
+use kc_shard::h_index_of;
 use rayon::current_num_threads;
 use std::thread;
 use std::thread::Threads;

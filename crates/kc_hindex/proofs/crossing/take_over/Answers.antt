@@ -1,5 +1,5 @@
 -- One more piece has its numbers at their vertices.
-use Rattle.std.proofs.Common.{◌≡◌, ◌∙◌, ◌<◌, ℕ, List, length, ap, arith, inl, inr, subst, sym}
+use Rattle.std.proofs.Common.{◌≡◌, ◌∙◌, ℕ, List, length, ap, arith, inl, inr, subst, sym}
 use Rattle.kc_graph.specs.Rows.{row}
 use Rattle.kc_hindex.specs.Crossing.{Taken}
 use Rattle.kc_hindex.specs.Pieces.{numbers_of}

@@ -1,5 +1,5 @@
 -- While a round changes a number the sum of the numbers falls; once one changes none, the numbers have settled.
-use Rattle.std.proofs.Common.{◌≡◌, ◌<◌, ◌+◌, ◌∙◌, ℕ, suc, List, length, sym, subst, arith}
+use Rattle.std.proofs.Common.{◌≡◌, ◌<◌, ◌+◌, ◌∙◌, ℕ, suc, List, sym, subst, arith}
 use Rattle.std.proofs.lemmas.Bool.{true≢false}
 use Rattle.kc_lists.specs.Lists.{total}
 use Rattle.kc_graph.specs.SimpleGraph.{SimpleGraph}

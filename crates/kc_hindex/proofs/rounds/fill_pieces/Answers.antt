@@ -1,5 +1,5 @@
 -- What the call at a piece left there is what the round makes of its numbers, and it has as many of them, and as much room, as before.
-use Rattle.std.proofs.Common.{◌≡◌, ◌<◌, ◌+◌, ◌*◌, ◌∙◌, ℕ, List, length, get_or, ap, subst, sym, arith}
+use Rattle.std.proofs.Common.{◌≡◌, ◌<◌, ◌+◌, ◌*◌, ◌∙◌, ℕ, List, length, get_or, ap, sym, arith}
 use Rattle.kc_graph.specs.Rows.{row}
 use Rattle.kc_hindex.specs.declared.piece.Piece.{Piece}
 use Rattle.kc_hindex.specs.Pieces.{numbers_of}

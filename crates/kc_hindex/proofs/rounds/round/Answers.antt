@@ -1,6 +1,5 @@
 -- What the pieces made, taken over, is the round.
-use Rattle.std.proofs.Common.{◌∙◌, ℕ, length, subst, sym, arith}
-use Rattle.kc_hindex.specs.Pieces.{AreDealt}
+use Rattle.std.proofs.Common.{◌∙◌, length}
 use Rattle.kc_hindex.proofs.Dealing.{none-rises, round-dealt}
 use Rattle.kc_hindex.proofs.rounds.round.Goals as goal
 

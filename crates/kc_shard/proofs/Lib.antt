@@ -1,0 +1,3 @@
+pub mod BoundedCounts
+pub mod HIndex
+pub mod Shards
