@@ -170,9 +170,8 @@ fn shows<J: BoardName, R: Wait>(
 }
 
 /// Publishes so many lists, and answers how long the calls took. It is an error where a reader does not see the last one then.
-fn publish_and_look<J: BoardName, R: Wait + Clock>(
+fn publish_and_look<J: BoardName, R: Wait + AllocGlobal + Clock>(
     rt: &R,
-    alloc: Global,
     publisher: &mut Publisher<J, &R>,
     reader: &mut Reader<J>,
     list: &mut [u32],
@@ -184,6 +183,7 @@ fn publish_and_look<J: BoardName, R: Wait + Clock>(
     requires reader { length list.old ≡ width reader.old }
     requires room { publishes < MOST_PUBLISHED }
 {
+    let alloc = rt.alloc();
     let took = publish_all(rt, alloc, publisher, list, how, publishes)?;
     if !shows(rt, alloc, publisher, reader, list, publishes)? {
         bail!("a reader does not see the last list");
@@ -205,15 +205,7 @@ pub(crate) fn measure_publishes<J: BoardName, R: Wait + AllocGlobal + Clock>(
     let alloc = rt.alloc();
     let mut list = vec![in alloc; 0; vertices as usize]?;
     let (mut publisher, mut reader) = open_one::<J, &R>(rt, alloc, blank, &list)?;
-    let took = publish_and_look(
-        rt,
-        alloc,
-        &mut publisher,
-        &mut reader,
-        &mut list,
-        how,
-        publishes,
-    );
+    let took = publish_and_look(rt, &mut publisher, &mut reader, &mut list, how, publishes);
     publisher.end();
     took
 }

@@ -7,6 +7,7 @@ use Rattle.std.specs.FinSet as set
 use Rattle.kc_graph.specs.SimpleGraph.{SimpleGraph, pair_cmp}
 use Rattle.kc_text.specs.declared.batch.Batch.{Batch}
 use Rattle.kc_text.specs.declared.input.Input.{Input}
+use Rattle.kc_text.specs.declared.named_edges.NamedEdges.{NamedEdges}
 use Rattle.kc_graph.specs.declared.update.Update.{Update}
 use Rattle.kc_text.specs.declared.change.ChangeLine as change
 use Rattle.kc_text.specs.Meaning.{Told, batches, names}
@@ -87,6 +88,11 @@ pub record IsInput (told : Told) (input : Input) : Type 0 where
   pub named : AreIds (names told) input.ids.items
   pub start : AreEdges (start_graph input.ids.items told.edges) input.start.items
   pub batches : map parts_of_batch input.batches.items ≡ numbered_batches input.ids.items told
+
+-- the ids that were told, and the edges in their order between the numbers that stand for their ids, without loops
+pub record IsNamedEdges (told : Told) (listed : NamedEdges) : Type 0 where
+  pub named : AreIds (names told) listed.ids.items
+  pub edges : listed.edges.items ≡ filter_map (numbered listed.ids.items) told.edges
 
 -- the two ends of an update
 abbrev pub edge_of : Update → ℕ × ℕ

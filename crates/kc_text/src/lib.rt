@@ -6,7 +6,7 @@
 //! after what the lines before it have told, and `Inputs` numbers the ids. The other files there serve the crate's own proofs.
 //!
 //! [`TextReader`] gives the same of a text that comes in pieces, cut anywhere. It reads each line as soon as the line is whole, so
-//! nobody has to hold the text.
+//! nobody has to hold the text. Where the batches are of no concern, it gives the ids and the edges as they come, and sorts nothing.
 //!
 //! A batch may name a pair again. Then the last line that names it decides, as `specs/Overruling` says, and the others are counted.
 //! [`decide`] does the same for a list of updates, as `specs/LastUpdates` says.
@@ -32,6 +32,7 @@ mod limits;
 mod line;
 mod line_numbers;
 mod look;
+mod named_edges;
 mod number;
 mod numbering;
 mod overruling;
@@ -42,10 +43,10 @@ mod refusal;
 mod text_reader;
 
 ghost use Rattle.std.specs.Prelude.{◌≡◌, ◌≢◌, ◌≤◌, ◌<◌, ◌+◌, ◌^◌, ◌↔◌, ℕ, List, All, IfOk, IsErrOf, length, map};
-ghost use Rattle.std.specs.List.{list_any};
+ghost use Rattle.std.specs.List.{filter_map, list_any};
 ghost use Rattle.std.specs.List.Sorted.{IsStrictlyIncreasing};
 ghost use Rattle.kc_text.specs.Batches.{NamesOnce};
-ghost use Rattle.kc_text.specs.Inputs.{AreAmong, AreEdges, IsBatch, IsInput, numbered_batch, parts_of_batch, start_graph};
+ghost use Rattle.kc_text.specs.Inputs.{AreAmong, AreEdges, IsBatch, IsInput, numbered, numbered_batch, parts_of_batch, start_graph};
 ghost use Rattle.kc_text.specs.Meaning.{Means, Refuses, Told, batches, ends, ends_of, meaning, name_same};
 ghost use Rattle.kc_text.specs.NamedOnce.{Ends, IsRefused, Tells, strict_meaning};
 ghost use Rattle.kc_text.specs.Overruling.{deciding, overruled};
@@ -55,7 +56,7 @@ ghost use Rattle.kc_text.specs.declared.refusal.Refusal.{Refusal};
 ghost use Rattle.kc_text.specs.declared.limits.Limits.{Limits};
 
 use crate::finder::Finder;
-use crate::numbering::{batches_of, start_of};
+use crate::numbering::{batches_of, numbered, start_of};
 use crate::overruling::decide_batches;
 pub use batch::Batch;
 pub use change::ChangeLine;
@@ -63,6 +64,7 @@ pub use fault::ParseFault;
 pub use input::Input;
 pub use kind::Kind;
 pub use limits::{Limits, MOST_BATCHES, MOST_BYTES, MOST_EDGE_LINES, MOST_IDS, MOST_UPDATES};
+pub use named_edges::NamedEdges;
 pub use overruling::decide;
 pub use refusal::Refusal;
 pub use std::alloc::AllocError as NoMemory;
@@ -95,6 +97,20 @@ fn input_of(
         start,
         batches,
     })
+}
+
+/// The ids, and the edges between the numbers that stand for them, as they were told.
+fn edges_of(alloc: Global, ids: Vec<u32>, edges: &[(u32, u32)]) -> Result<NamedEdges, NoMemory>
+    requires ascending { IsStrictlyIncreasing ids.items }
+    requires few { length ids.items < 2 ^ 32 }
+    requires among { AreAmong ids.items (ends edges.now) }
+    ensures ids { IfOk result (λ named. named.ids.items ≡ ids.items) }
+    ensures edges { IfOk result (λ named. named.edges.items ≡ filter_map (numbered ids.items) edges.now) }
+    ensures within { IfOk result (λ named. All (λ p. (p.0 < p.1) × (p.1 < length ids.items)) named.edges.items) }
+{
+    let finder = Finder::new(alloc, &ids)?;
+    let edges = numbered(alloc, &ids, &finder, edges)?;
+    Ok(NamedEdges { ids, edges })
 }
 
 /// The input that a text means within limits.

@@ -27,7 +27,7 @@ fn between(u: u32, v: u32) -> Option<(u32, u32)>
 }
 
 /// The edges between the numbers that stand for their ends, without loops.
-fn numbered(
+pub(crate) fn numbered(
     alloc: Global,
     ids: &[u32],
     finder: &Finder,

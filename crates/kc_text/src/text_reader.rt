@@ -6,7 +6,7 @@ ghost use Rattle.kc_text.specs.declared.text_reader.TheConstants.{TOO_LONG};
 ghost use Rattle.kc_text.specs.Forms.{all_said};
 ghost use Rattle.kc_text.specs.Feeding.{KeepsUp, WasFed};
 ghost use Rattle.kc_text.specs.Lines.{EndsLine};
-ghost use Rattle.kc_text.specs.Inputs.{IsBatch, IsInput};
+ghost use Rattle.kc_text.specs.Inputs.{IsBatch, IsInput, IsNamedEdges};
 ghost use Rattle.kc_text.specs.Meaning.{Means, Refuses, Told, meaning, nothing_told};
 ghost use Rattle.kc_text.specs.Readers.{outcome};
 ghost use Rattle.kc_text.specs.Readings.{CanRead, IsReading, Reads};
@@ -17,9 +17,10 @@ use crate::input::Input;
 use crate::kind::Kind;
 use crate::limits::Limits;
 use crate::look::Look;
+use crate::named_edges::NamedEdges;
 use crate::reading::{LineReader, Reading};
 use crate::refusal::Refusal;
-use crate::{NoMemory, input_of};
+use crate::{NoMemory, edges_of, input_of};
 use std::alloc::Global;
 
 /// The whole text is refused, and no line is meant.
@@ -164,5 +165,23 @@ impl TextReader {
             return Err(ParseFault::Refused(refusal));
         }
         Ok(input_of(alloc, reading.ids, &reading.edges, &reading.batches)?)
+    }
+
+    /// The ids of the text that was fed, and the edges of its edge lines. They are not sorted, and of a batch nothing is told but its ids,
+    /// so this takes less time than `finish` where the batches are of no concern. `Refused` and `NoMemory` come as they do there.
+    pub fn finish_edges(self, alloc: Global) -> Result<NamedEdges, ParseFault>
+        requires { (fed : List ℕ) × WasFed self fed }
+        ensures named { IfOk result (λ named. (fed : List ℕ) → WasFed self fed
+            → (told : Told) × (meaning self.limits fed ≡ Means told) × IsNamedEdges told named) }
+        ensures few { IfOk result (λ named. length named.ids.items ≤ self.limits.ids) }
+        ensures within { IfOk result (λ named. All (λ p. (p.0 < p.1) × (p.1 < length named.ids.items)) named.edges.items) }
+        ensures refused { (r : Refusal) (fed : List ℕ) → IsErrOf result (ParseFault.Refused r) → WasFed self fed
+            → meaning self.limits fed ≡ Refuses r.line r.kind }
+    {
+        let reading = self.reading(alloc)?;
+        if let Some(refusal) = reading.refusal {
+            return Err(ParseFault::Refused(refusal));
+        }
+        Ok(edges_of(alloc, reading.ids, &reading.edges)?)
     }
 }

@@ -107,21 +107,20 @@ fn add_all(found: &[Found], counted: &mut Counted) -> Option<Wrong> {
     wrong
 }
 
-/// One thread changes the list while so many others compare.
+/// One thread changes the list that was opened, while so many others compare.
 fn race<K: Name + Send + Sync, R: Threads + Wait + Sync>(
     rt: &R,
     alloc: Global,
-    words: Words,
-    writer: Writer,
-    mut pass: Pass,
+    opened: (Words, Writer, Pass),
     plain: PlainOrder,
     seed: u64,
     others: u32,
 ) -> Result<(Counted, Option<Wrong>), NoMemory>
-    requires table { (words ≡ K.opened.table) × (writer.table ≡ K.opened.table) × (pass.table ≡ K.opened.table) }
+    requires table { (opened.0 ≡ K.opened.table) × (opened.1.table ≡ K.opened.table) × (opened.2.table ≡ K.opened.table) }
     requires shape { (K.opened.table.shape.items ≡ ITEMS) × (K.opened.table.shape.fixed ≡ 0) }
     requires plain { (plain.items ≡ ITEMS) × (plain.fixed ≡ 0) }
 {
+    let (words, writer, mut pass) = opened;
     let shared = &SharedOrder::<K>::new(words, writer);
     let own = split(shared.words(), &mut pass);
     let board = &open_board::<K>(pass);
@@ -180,16 +179,7 @@ pub(crate) fn work_table<R: Threads + Wait + Sync>(
     seed: u64,
     threads: u32,
 ) -> Result<(Counted, Option<Wrong>), NoMemory> {
-    let (words, writer, pass) = Writer::open(alloc, SHAPE, &[0], &[])?;
+    let opened = Writer::open(alloc, SHAPE, &[0], &[])?;
     let plain = PlainOrder::open(alloc, SHAPE, &[0])?;
-    race::<Brand, _>(
-        rt,
-        alloc,
-        words,
-        writer,
-        pass,
-        plain,
-        seed,
-        threads.saturating_sub(1),
-    )
+    race::<Brand, _>(rt, alloc, opened, plain, seed, threads.saturating_sub(1))
 }

@@ -61,9 +61,8 @@ fn graph_of(alloc: Global, vertices: u32, pairs: &[(u32, u32)]) -> Result<Graph>
 }
 
 /// Makes the batches in a graph whose core numbers were published, while the watchers read them.
-fn see_batches<J: BoardName + Send + Sync, R: Threads + Wait + Sync>(
+fn see_batches<J: BoardName + Send + Sync, R: Threads + Wait + AllocGlobal + Sync>(
     rt: &R,
-    alloc: Global,
     graph: &mut Graph,
     publisher: &mut Publisher<J, &R>,
     told: &mut Reader<J>,
@@ -74,6 +73,7 @@ fn see_batches<J: BoardName + Send + Sync, R: Threads + Wait + Sync>(
     requires few { length batches.now ≤ MOST_BATCHES }
     requires vertices { (width publisher.old ≡ graph.old.size) × (width told.old ≡ graph.old.size) }
 {
+    let alloc = rt.alloc();
     let (worked, ()) = thread::join(
         rt,
         || work(rt, alloc, graph, publisher, told, batches),
@@ -90,9 +90,8 @@ fn see_batches<J: BoardName + Send + Sync, R: Threads + Wait + Sync>(
 }
 
 /// Makes the batches in a graph whose core numbers were published to these readers. One is told of each publish, and the others are watchers.
-fn read_batches<J: BoardName + Send + Sync, R: Threads + Wait + Sync>(
+fn read_batches<J: BoardName + Send + Sync, R: Threads + Wait + AllocGlobal + Sync>(
     rt: &R,
-    alloc: Global,
     graph: &mut Graph,
     publisher: &mut Publisher<J, &R>,
     mut readers: Vec<Reader<J>>,
@@ -107,10 +106,9 @@ fn read_batches<J: BoardName + Send + Sync, R: Threads + Wait + Sync>(
     let Some(mut told) = one_of(&mut readers, first) else {
         bail!("there is no reader");
     };
-    let mut watchers = watchers_of(alloc, readers, first, graph.vertices())?;
+    let mut watchers = watchers_of(rt.alloc(), readers, first, graph.vertices())?;
     see_batches(
         rt,
-        alloc,
         graph,
         publisher,
         &mut told,
@@ -120,9 +118,8 @@ fn read_batches<J: BoardName + Send + Sync, R: Threads + Wait + Sync>(
 }
 
 /// Opens a board for a graph, and makes the batches in the graph while watchers read its core numbers.
-fn watch_batches<J: BoardName + Send + Sync, R: Threads + Wait + Sync>(
+fn watch_batches<J: BoardName + Send + Sync, R: Threads + Wait + AllocGlobal + Sync>(
     rt: &R,
-    alloc: Global,
     blank: Blank,
     graph: &mut Graph,
     batches: &[Batch],
@@ -130,20 +127,21 @@ fn watch_batches<J: BoardName + Send + Sync, R: Threads + Wait + Sync>(
     requires blank { blank ≡ J.book }
     requires few { length batches.now ≤ MOST_BATCHES }
 {
+    let alloc = rt.alloc();
     let first = core_numbers(alloc, graph)?;
     let (mut publisher, readers) = open::<J, &R>(rt, alloc, blank, &first, WATCHERS + 1)?;
-    let seen = read_batches(rt, alloc, graph, &mut publisher, readers, &first, batches);
+    let seen = read_batches(rt, graph, &mut publisher, readers, &first, batches);
     publisher.end();
     seen
 }
 
 /// Makes the batches of an input, while watchers read.
-fn watch_input<R: Threads + Wait + Sync>(rt: &R, alloc: Global, input: &Input) -> Result<ReaderSeen>
+fn watch_input<R: Threads + Wait + AllocGlobal + Sync>(rt: &R, input: &Input) -> Result<ReaderSeen>
     requires few { length input.now.ids.items ≤ MOST_IDS }
     requires few_batches { length input.now.batches.items ≤ MOST_BATCHES }
 {
-    let mut graph = graph_of(alloc, input.ids.len() as u32, &input.start)?;
-    watch_batches::<Brand, _>(rt, alloc, Blank::new(), &mut graph, &input.batches)
+    let mut graph = graph_of(rt.alloc(), input.ids.len() as u32, &input.start)?;
+    watch_batches::<Brand, _>(rt, Blank::new(), &mut graph, &input.batches)
 }
 
 /// Writes each list of core numbers.
@@ -170,6 +168,6 @@ fn write_seen(rt: &HostRuntime, seen: &ReaderSeen) -> Result<()> {
 
 fn main(rt: HostRuntime) -> Result<()> {
     let input = read_input(&rt)?;
-    let seen = watch_input(&rt, rt.alloc(), &input)?;
+    let seen = watch_input(&rt, &input)?;
     write_seen(&rt, &seen)
 }

@@ -5,4 +5,4 @@ use Rattle.stress_order.proofs.table.work_table.Given as goal
 
 abbrev pub ghosts-race : goal.ghosts-race
 ghosts-race g a =
-    record { opened = record { table = a.words; edges = no_graph; stamps = [] }; start_edges = no_graph; log = []; entries = [] }
+    record { opened = record { table = a.opened.0; edges = no_graph; stamps = [] }; start_edges = no_graph; log = []; entries = [] }
