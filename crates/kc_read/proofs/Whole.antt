@@ -2,7 +2,7 @@
 use Rattle.std.proofs.Common.{◌≡◌, ◌≢◌, ◌<◌, ◌⊎◌, ◌∙◌, ℕ, List, [], Option, None, Some, IfSome, inl, inr, length, refl, sym, ap, arith, length-append}
 use Rattle.std.specs.Io.KnownBytes.{Consumes, IsAtEnd}
 use Rattle.std.proofs.KnownBytes.{Consumes-all, Consumes-whole}
-use Rattle.kc_text.specs.Inputs.{IsInput}
+use Rattle.kc_text.specs.Inputs.{IsInput, IsNamedEdges}
 use Rattle.kc_text.specs.Meaning.{Means, Refuses, Told, meaning}
 use Rattle.kc_text.specs.declared.fault.ParseFault.{ParseFault}
 use Rattle.kc_text.specs.declared.fault.ParseFault.TheVariants as parse
@@ -10,9 +10,10 @@ use Rattle.kc_text.specs.declared.input.Input.{Input}
 use Rattle.kc_text.specs.declared.kind.Kind.{Kind}
 use Rattle.kc_text.specs.declared.kind.Kind.TheVariants.{TooLong}
 use Rattle.kc_text.specs.declared.limits.Limits.{Limits}
+use Rattle.kc_text.specs.declared.named_edges.NamedEdges.{NamedEdges}
 use Rattle.kc_text.specs.declared.refusal.Refusal.{Refusal}
 use Rattle.kc_text.proofs.Fed.{meaning-too_long}
-use Rattle.kc_read.specs.Reading.{IsInputWithin, fault_of}
+use Rattle.kc_read.specs.Reading.{AreEdgesWithin, IsInputWithin, fault_of}
 use Rattle.kc_read.specs.declared.fault.InputFault.TheVariants as fault
 
 -- the input that the given bytes mean is what all bytes mean, and none is left
@@ -22,6 +23,15 @@ pub IsInputWithin-given : (limits : Limits) (known after : Option (List ℕ)) (g
 IsInputWithin-given limits known after given told input took (inl end) means is =
     (record { bytes = given; read = Consumes-all known after given [] given took end refl; told = told; means = means; is = is }, end)
 IsInputWithin-given limits known after given told input took (inr many) means is =
+    let both : Refuses 0 TooLong ≡ Means told = sym (meaning-too_long limits given many) ∙ means in absurd (cc)
+
+-- the ids and edges that the given bytes tell are those of all bytes, and none is left
+pub AreEdgesWithin-given : (limits : Limits) (known after : Option (List ℕ)) (given : List ℕ) (told : Told) (listed : NamedEdges)
+    → Consumes known after given → IsAtEnd after ⊎ (limits.bytes < length given) → meaning limits given ≡ Means told → IsNamedEdges told listed
+    → AreEdgesWithin limits known listed × IsAtEnd after
+AreEdgesWithin-given limits known after given told listed took (inl end) means are =
+    (record { bytes = given; read = Consumes-all known after given [] given took end refl; told = told; means = means; are = are }, end)
+AreEdgesWithin-given limits known after given told listed took (inr many) means are =
     let both : Refuses 0 TooLong ≡ Means told = sym (meaning-too_long limits given many) ∙ means in absurd (cc)
 
 -- where the given bytes are refused, all bytes are, with the same line and kind

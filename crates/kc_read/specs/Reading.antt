@@ -2,12 +2,13 @@
 use Rattle.std.specs.Prelude.{◌≡◌, ◌+◌, ℕ, List, Option, IfSome, length}
 use Rattle.std.specs.Io.KnownBytes.{Consumes}
 use Rattle.kc_text.specs.Feeding.{WasFed}
-use Rattle.kc_text.specs.Inputs.{IsInput}
+use Rattle.kc_text.specs.Inputs.{IsInput, IsNamedEdges}
 use Rattle.kc_text.specs.Meaning.{Means, Told, meaning}
 use Rattle.kc_text.specs.declared.fault.ParseFault.{ParseFault}
 use Rattle.kc_text.specs.declared.fault.ParseFault.TheVariants as parse
 use Rattle.kc_text.specs.declared.input.Input.{Input}
 use Rattle.kc_text.specs.declared.limits.Limits.{Limits}
+use Rattle.kc_text.specs.declared.named_edges.NamedEdges.{NamedEdges}
 use Rattle.kc_text.specs.declared.text_reader.TextReader.{TextReader}
 use Rattle.kc_read.specs.declared.fault.InputFault.{InputFault}
 use Rattle.kc_read.specs.declared.fault.InputFault.TheVariants as fault
@@ -19,6 +20,14 @@ pub record IsInputWithin (limits : Limits) (known : Option (List ℕ)) (input : 
   pub told : Told
   pub means : meaning limits bytes ≡ Means told
   pub is : IsInput told input
+
+-- the ids and the edges are those that the bytes tell within limits, which are all of what is known of them
+pub record AreEdgesWithin (limits : Limits) (known : Option (List ℕ)) (listed : NamedEdges) : Type 0 where
+  pub bytes : List ℕ
+  pub read : IfSome known (λ all. bytes ≡ all)
+  pub told : Told
+  pub means : meaning limits bytes ≡ Means told
+  pub are : IsNamedEdges told listed
 
 -- why a source gives no input where its text gives none
 abbrev pub fault_of : ParseFault → InputFault

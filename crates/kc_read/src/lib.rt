@@ -2,7 +2,8 @@
 //!
 //! [`read_input`] asks the source for at most [`PIECE_BYTES`] bytes at a time and feeds a reader of texts with them. The source's contract
 //! says which bytes it gave, and the reader's what they mean. So the input is what all bytes of the source mean, where the source tells
-//! them. Behind a line that is refused it reads on to the end, so that a read that fails there is still told as such.
+//! them. Behind a line that is refused it reads on to the end, so that a read that fails there is still told as such. [`read_edges`] does
+//! so for whom the batches don't concern: the ids and the edges come as they were told, and nothing is sorted.
 //!
 //! The crate stands on `kc_io` and `kc_text`.
 #![tactic(auto)]
@@ -16,11 +17,11 @@ ghost use Rattle.kc_text.specs.Feeding.{WasFed};
 ghost use Rattle.kc_text.specs.Inputs.{IsBatch};
 ghost use Rattle.kc_text.specs.Meaning.{Refuses, meaning};
 ghost use Rattle.kc_text.specs.declared.refusal.Refusal.{Refusal};
-ghost use Rattle.kc_read.specs.Reading.{IsInputWithin};
+ghost use Rattle.kc_read.specs.Reading.{AreEdgesWithin, IsInputWithin};
 
 pub use fault::InputFault;
 use kc_io::source::Source;
-use kc_text::{Input, Limits, TextReader};
+use kc_text::{Input, Limits, NamedEdges, TextReader};
 use std::alloc::Global;
 
 /// The most bytes that are asked for at once.
@@ -124,4 +125,26 @@ pub fn read_input<S: Source>(
 {
     let reader = fed_reader(alloc, source, limits)?;
     Ok(reader.finish(alloc)?)
+}
+
+/// The ids and the edges that all bytes of the source tell within limits, as they were told. `Refused`, `ReadFault` and `NoMemory` come as
+/// of `read_input`, and the source has then lost as much.
+pub fn read_edges<S: Source>(
+    alloc: Global,
+    source: &mut S,
+    limits: Limits,
+) -> Result<NamedEdges, InputFault>
+    ensures edges { IfOk result (AreEdgesWithin limits (S.left source.old)) }
+    ensures ended { OnOk result (IsAtEnd (S.left source.new)) }
+    ensures few { IfOk result (λ named. length named.ids.items ≤ limits.ids) }
+    ensures within { IfOk result (λ named. All (λ p. (p.0 < p.1) × (p.1 < length named.ids.items)) named.edges.items) }
+    ensures refused { (r : Refusal) → IsErrOf result (InputFault.Refused r)
+        → IfSome (S.left source.old) (λ all. meaning limits all ≡ Refuses r.line r.kind) }
+    ensures given { (given : List ℕ) × Consumes (S.left source.old) (S.left source.new) given × (length given ≤ limits.bytes + 1) }
+    ensures faultless { result ≢ Err InputFault.ReadFault → S.faults source.new ≡ S.faults source.old }
+    ensures later { S.faults source.old ≤ S.faults source.new }
+    ensures read_fault { IsErrOf result InputFault.ReadFault → Rose (S.faults source.old) (S.faults source.new) }
+{
+    let reader = fed_reader(alloc, source, limits)?;
+    Ok(reader.finish_edges(alloc)?)
 }
