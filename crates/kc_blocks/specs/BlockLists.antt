@@ -2,5 +2,5 @@
 use Rattle.std.specs.Prelude.{ℕ, List}
 
 -- the entries, in order
-pub record Entries : Type 0 where
+pub record BlockEntries : Type 0 where
   pub items : List ℕ

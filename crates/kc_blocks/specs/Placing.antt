@@ -6,8 +6,8 @@ use Rattle.std.specs.declared.alloc.Global.{Global}
 use Rattle.kc_blocks.specs.declared.blocks.Blocks.{Blocks}
 
 -- the entries of all blocks, one block after the other
-abbrev pub entries_of : List (Vec ℕ Global) → List ℕ
-entries_of blocks = flat_map (λ block. block.items) blocks
+abbrev pub all_entries : List (Vec ℕ Global) → List ℕ
+all_entries blocks = flat_map (λ block. block.items) blocks
 
 -- where each block begins, if the first begins at `n`
 abbrev pub starts_from : ℕ → List (Vec ℕ Global) → List ℕ
@@ -22,8 +22,8 @@ later_from first places = take first places ++ map (λ place. place + 1) (drop f
 abbrev pub IsPlaced : Blocks → Type 0
 IsPlaced blocks = blocks.starts.items ≡ starts_from 0 blocks.blocks.items
 
--- A place lies in the last block that begins no later.
-pub record LiesIn (blocks : Blocks) (place block : ℕ) : Type 0 where
+-- The block in which a place lies is the last one that begins no later.
+pub record IsBlockOf (blocks : Blocks) (place block : ℕ) : Type 0 where
   pub there : block < length blocks.blocks.items
   pub begun : slice_index blocks.starts.items block ≤ place
   pub next : block + 1 < length blocks.blocks.items → place < slice_index blocks.starts.items (block + 1)

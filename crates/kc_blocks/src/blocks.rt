@@ -1,12 +1,12 @@
 //! Blocks of entries, and where each of them begins.
 ghost use Rattle.std.specs.Prelude.{◌≡◌, ◌<◌, ◌≤◌, ◌+◌, ◌-◌, ◌^◌, ℕ, [], drop, length, slice_index, IfOk, OnErr, OnOk};
 ghost use Rattle.std.specs.List.{insert};
-ghost use Rattle.kc_blocks.specs.Placing.{IsPlaced, LiesIn, entries_of, later_from};
+ghost use Rattle.kc_blocks.specs.Placing.{IsPlaced, IsBlockOf, all_entries, later_from};
 
 use std::alloc::{AllocError, Global};
 
 /// How many entries a block has at most: 2 KiB.
-pub const BLOCK: usize = 512;
+pub const BLOCK_ENTRIES: usize = 512;
 
 /// Blocks of entries. What stands in them, one block after the other, is a list.
 #[derive(Drop)]
@@ -33,8 +33,8 @@ impl Blocks {
     #[inline]
     pub fn get(&self, place: usize) -> u32
         requires placed { IsPlaced self.now }
-        requires within { place < length (entries_of self.now.blocks.items) }
-        ensures { result ≡ slice_index (entries_of self.now.blocks.items) place }
+        requires within { place < length (all_entries self.now.blocks.items) }
+        ensures { result ≡ slice_index (all_entries self.now.blocks.items) place }
     {
         let block = self.block_of(place);
         self.blocks[block][place - self.starts[block]]
@@ -43,11 +43,11 @@ impl Blocks {
     /// Puts an entry in at a place of the list. Where there is no memory for it, the list stays.
     pub fn insert(&mut self, place: usize, x: u32) -> Result<(), AllocError>
         requires placed { IsPlaced self.old }
-        requires within { place ≤ length (entries_of self.old.blocks.items) }
-        requires few { length (entries_of self.old.blocks.items) < 2 ^ 64 - 1 }
+        requires within { place ≤ length (all_entries self.old.blocks.items) }
+        requires few { length (all_entries self.old.blocks.items) < 2 ^ 64 - 1 }
         ensures placed { IsPlaced self.new }
-        ensures ok { OnOk result (entries_of self.new.blocks.items ≡ insert (entries_of self.old.blocks.items) place x) }
-        ensures err { OnErr result (entries_of self.new.blocks.items ≡ entries_of self.old.blocks.items) }
+        ensures ok { OnOk result (all_entries self.new.blocks.items ≡ insert (all_entries self.old.blocks.items) place x) }
+        ensures err { OnErr result (all_entries self.new.blocks.items ≡ all_entries self.old.blocks.items) }
     {
         let block = self.room_for(place)?;
         self.put(block, place, x)
@@ -58,7 +58,7 @@ impl Blocks {
     fn block_of(&self, place: usize) -> usize
         requires placed { IsPlaced self.now }
         requires some { 0 < length self.now.blocks.items }
-        ensures { LiesIn self.now place result }
+        ensures { IsBlockOf self.now place result }
     {
         let mut block = 0;
         let mut end = self.starts.len();
@@ -76,15 +76,15 @@ impl Blocks {
     /// Sees to it that the block in which a place lies is not full, and gives its number. The list stays.
     fn room_for(&mut self, place: usize) -> Result<usize, AllocError>
         requires placed { IsPlaced self.old }
-        requires within { place ≤ length (entries_of self.old.blocks.items) }
-        requires few { length (entries_of self.old.blocks.items) < 2 ^ 64 - 1 }
+        requires within { place ≤ length (all_entries self.old.blocks.items) }
+        requires few { length (all_entries self.old.blocks.items) < 2 ^ 64 - 1 }
         ensures placed { IsPlaced self.new }
-        ensures same { entries_of self.new.blocks.items ≡ entries_of self.old.blocks.items }
-        ensures lies { IfOk result (λ block. LiesIn self.new place block) }
+        ensures same { all_entries self.new.blocks.items ≡ all_entries self.old.blocks.items }
+        ensures lies { IfOk result (λ block. IsBlockOf self.new place block) }
     {
         self.begin()?;
         let block = self.block_of(place);
-        if self.blocks[block].len() < BLOCK {
+        if self.blocks[block].len() < BLOCK_ENTRIES {
             return Ok(block);
         }
         self.cut(block, place)?;
@@ -95,7 +95,7 @@ impl Blocks {
     fn begin(&mut self) -> Result<(), AllocError>
         requires { IsPlaced self.old }
         ensures placed { IsPlaced self.new }
-        ensures same { entries_of self.new.blocks.items ≡ entries_of self.old.blocks.items }
+        ensures same { all_entries self.new.blocks.items ≡ all_entries self.old.blocks.items }
         ensures some { OnOk result (0 < length self.new.blocks.items) }
     {
         if !self.blocks.is_empty() {
@@ -108,11 +108,11 @@ impl Blocks {
     /// Cuts the block in which a place lies in two. The list stays.
     fn cut(&mut self, block: usize, place: usize) -> Result<(), AllocError>
         requires placed { IsPlaced self.old }
-        requires lies { LiesIn self.old place block }
-        requires within { place ≤ length (entries_of self.old.blocks.items) }
-        requires few { length (entries_of self.old.blocks.items) < 2 ^ 64 - 1 }
+        requires lies { IsBlockOf self.old place block }
+        requires within { place ≤ length (all_entries self.old.blocks.items) }
+        requires few { length (all_entries self.old.blocks.items) < 2 ^ 64 - 1 }
         ensures placed { IsPlaced self.new }
-        ensures same { entries_of self.new.blocks.items ≡ entries_of self.old.blocks.items }
+        ensures same { all_entries self.new.blocks.items ≡ all_entries self.old.blocks.items }
         ensures some { 0 < length self.new.blocks.items }
     {
         let start = self.starts[block];
@@ -147,12 +147,12 @@ impl Blocks {
     /// Puts an entry into its block, at a place of the list that lies there. Where there is no memory for it, the list stays.
     fn put(&mut self, block: usize, place: usize, x: u32) -> Result<(), AllocError>
         requires placed { IsPlaced self.old }
-        requires lies { LiesIn self.old place block }
-        requires within { place ≤ length (entries_of self.old.blocks.items) }
-        requires few { length (entries_of self.old.blocks.items) < 2 ^ 64 - 1 }
+        requires lies { IsBlockOf self.old place block }
+        requires within { place ≤ length (all_entries self.old.blocks.items) }
+        requires few { length (all_entries self.old.blocks.items) < 2 ^ 64 - 1 }
         ensures placed { IsPlaced self.new }
-        ensures ok { OnOk result (entries_of self.new.blocks.items ≡ insert (entries_of self.old.blocks.items) place x) }
-        ensures err { OnErr result (entries_of self.new.blocks.items ≡ entries_of self.old.blocks.items) }
+        ensures ok { OnOk result (all_entries self.new.blocks.items ≡ insert (all_entries self.old.blocks.items) place x) }
+        ensures err { OnErr result (all_entries self.new.blocks.items ≡ all_entries self.old.blocks.items) }
     {
         let at = place - self.starts[block];
         let entries = &mut self.blocks[block];

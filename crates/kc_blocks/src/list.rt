@@ -2,14 +2,14 @@
 ghost use Rattle.std.specs.Prelude.{◌≡◌, ◌<◌, ◌≤◌, ◌+◌, ◌-◌, ◌^◌, [], length, slice_index, IfOk, OnErr, OnOk};
 ghost use Rattle.std.specs.Prelude.{◌++◌};
 ghost use Rattle.std.specs.List.{insert};
-ghost use Rattle.kc_blocks.specs.Placing.{IsPlaced, entries_of};
+ghost use Rattle.kc_blocks.specs.Placing.{IsPlaced, all_entries};
 
-use crate::blocks::{BLOCK, Blocks};
+use crate::blocks::{BLOCK_ENTRIES, Blocks};
 use std::alloc::{AllocError, Global};
 use std::marker::Model;
 
-/// A list whose entries lie in blocks of at most `BLOCK`, one after the other. An entry goes in at any place, and moves no more entries
-/// than two blocks have. A short list has one block and no table, and takes memory once, as a vector does.
+/// A list whose entries lie in blocks of at most `BLOCK_ENTRIES`, one after the other. An entry goes in at any place, and moves no more
+/// entries than two blocks have. A list that is no longer than one block has no table, and takes memory as a vector does.
 ///
 /// Contracts see the list of the entries, `items`.
 #[derive(Drop)]
@@ -24,14 +24,14 @@ pub struct BlockList {
 
 impl Model for BlockList {
     ghost use Rattle.std.specs.Prelude.{◌≡◌, ◌++◌, ℕ, length};
-    ghost use Rattle.kc_blocks.specs.BlockLists.{Entries};
-    ghost use Rattle.kc_blocks.specs.Placing.{IsPlaced, entries_of};
+    ghost use Rattle.kc_blocks.specs.BlockLists.{BlockEntries};
+    ghost use Rattle.kc_blocks.specs.Placing.{IsPlaced, all_entries};
 
-    ghost Value = { Entries };
+    ghost Value = { BlockEntries };
 
-    ghost view = { λ l. record { items = l.front.items ++ entries_of l.rest.blocks.items } };
+    ghost view = { λ l. record { items = l.front.items ++ all_entries l.rest.blocks.items } };
 
-    ghost invariant = { λ l. (IsPlaced l.rest) × (l.len ≡ length (l.front.items ++ entries_of l.rest.blocks.items)) };
+    ghost invariant = { λ l. (IsPlaced l.rest) × (l.len ≡ length (l.front.items ++ all_entries l.rest.blocks.items)) };
 }
 
 impl BlockList {
@@ -84,15 +84,15 @@ impl BlockList {
 /// the last entry there gives way to it.
 fn put(front: &mut Vec<u32>, rest: &mut Blocks, place: usize, x: u32) -> Result<(), AllocError>
     requires placed { IsPlaced rest.old }
-    requires within { place ≤ length front.old.items + length (entries_of rest.old.blocks.items) }
-    requires few { length front.old.items + length (entries_of rest.old.blocks.items) < 2 ^ 64 - 1 }
+    requires within { place ≤ length front.old.items + length (all_entries rest.old.blocks.items) }
+    requires few { length front.old.items + length (all_entries rest.old.blocks.items) < 2 ^ 64 - 1 }
     ensures placed { IsPlaced rest.new }
-    ensures ok { OnOk result (front.new.items ++ entries_of rest.new.blocks.items
-        ≡ insert (front.old.items ++ entries_of rest.old.blocks.items) place x) }
-    ensures err { OnErr result (front.new.items ++ entries_of rest.new.blocks.items ≡ front.old.items ++ entries_of rest.old.blocks.items) }
+    ensures ok { OnOk result (front.new.items ++ all_entries rest.new.blocks.items
+        ≡ insert (front.old.items ++ all_entries rest.old.blocks.items) place x) }
+    ensures err { OnErr result (front.new.items ++ all_entries rest.new.blocks.items ≡ front.old.items ++ all_entries rest.old.blocks.items) }
 {
     let end = front.len();
-    if place <= end && end < BLOCK {
+    if place <= end && end < BLOCK_ENTRIES {
         front.insert(place, x)?;
         return Ok(());
     }

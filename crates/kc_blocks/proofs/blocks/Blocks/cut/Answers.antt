@@ -3,7 +3,7 @@ use Rattle.std.proofs.Common.{◌≡◌, ◌≤◌, ◌<◌, ◌+◌, ◌++◌, 
 use Rattle.std.specs.List.{insert}
 use Rattle.std.proofs.lemmas.List.{get_or_read, length-take-le, take-append-drop}
 use Rattle.std.proofs.lemmas.List.Edits.{get_or-insert_below}
-use Rattle.kc_blocks.specs.Placing.{entries_of, starts_from}
+use Rattle.kc_blocks.specs.Placing.{all_entries, starts_from}
 use Rattle.kc_blocks.proofs.Placed.{IsFound, found, as-many, cut-entries, cut-starts}
 use Rattle.kc_blocks.proofs.blocks.Blocks.cut.Goals.{After-len, After-self-1}
 use Rattle.kc_blocks.proofs.blocks.Blocks.cut.Goals as goal
@@ -67,5 +67,5 @@ pub returns-clause-same : goal.returns-clause-same
 returns-clause-same c =
     let f = found-here (goal.at.returns-clause-same c).After-len in
     let h = halved c in
-    ap (λ (t : List (Vec ℕ Global)). entries_of (set t c.args.block c.truncate.new.self)) c.in_ok-add_block.ensures.blocks
+    ap (λ (t : List (Vec ℕ Global)). all_entries (set t c.args.block c.truncate.new.self)) c.in_ok-add_block.ensures.blocks
     ∙ cut-entries _ _ _ _ c.truncate.new.self c.in_ok-tail.tail _ f.cut h.both

@@ -3,7 +3,7 @@ use Rattle.std.proofs.Common.{◌≡◌, ◌≤◌, ◌<◌, ◌+◌, ◌-◌, �
 use Rattle.std.specs.Prelude.{OnErr, Result, Ok, Err}
 use Rattle.std.proofs.lemmas.List.{get_or_read}
 use Rattle.std.proofs.lemmas.List.Edits.{length-insert}
-use Rattle.kc_blocks.specs.Placing.{entries_of, starts_from, later_from}
+use Rattle.kc_blocks.specs.Placing.{all_entries, starts_from, later_from}
 use Rattle.kc_blocks.proofs.Placed.{IsFound, found, as-many, start-within, put-entries, put-starts, same-entries, same-starts}
 use Rattle.kc_blocks.proofs.blocks.Blocks.put.Goals.{After-index_mut-entries}
 use Rattle.kc_blocks.proofs.blocks.Blocks.put.Goals as goal
@@ -48,7 +48,7 @@ move_later-requires-clause-first c = omega (arith, c.requires.lies.there, as-man
 pub move_later-requires-clause-few : goal.move_later-requires-clause-few
 move_later-requires-clause-few c = λ k l.
     let bs : List (Vec ℕ Global) = c.args.self.now.blocks.items in
-    let within : get_or (starts_from 0 bs) k 0 ≤ 0 + length (entries_of bs) =
+    let within : get_or (starts_from 0 bs) k 0 ≤ 0 + length (all_entries bs) =
     start-within 0 bs k (omega (arith, l, as-many c.args.self.now c.requires.placed)) in
     omega (arith, within, ap (λ (t : List ℕ). get_or t k 0) c.requires.placed, c.requires.few)
 
@@ -68,7 +68,8 @@ pub returns-clause-ok : goal.returns-clause-ok
 returns-clause-ok c =
     let f = found-here (goal.at.returns-clause-ok c).After-index_mut-entries in
     let x : Vec ℕ Global = c.index_mut-entries.result.now in
+    let y : Vec ℕ Global = c.insert.new.self in
+    let at : ℕ = c.args.place - c.index.result.now in
     let l : c.args.place ≤ c.index.result.now + length x.items = f.to c.requires.within in
-    ap (λ (v : Vec (Vec ℕ Global) Global). entries_of v.items) c.move_later.ensures.blocks
-    ∙ put-entries _ _ _ x c.insert.new.self _ c.args.place (c.args.place - c.index.result.now) c.args.x f.cut (omega (arith, f.begins, f.begun)) (omega (arith, l))
-    c.in_ok-insert.ensures.items
+    ap (λ (v : Vec (Vec ℕ Global) Global). all_entries v.items) c.move_later.ensures.blocks
+    ∙ put-entries _ _ _ x y _ c.args.place at c.args.x f.cut (omega (arith, f.begins, f.begun)) (omega (arith, l)) c.in_ok-insert.ensures.items
