@@ -69,7 +69,7 @@ def has_lemma(crate, name):
 
 
 def has_edit(crate, name):
-    return (CRATES / crate / "must-fail" / f"{name}.edit").is_file()
+    return any((CRATES / crate / folder / f"{name}.edit").is_file() for folder in ("must-fail", "planted"))
 
 
 def has_test(crate, name):
@@ -92,7 +92,7 @@ def faults_of_row(crate, cells):
 
 
 def edits_without_a_row(text):
-    return [f"in no row: {path.relative_to(TOP)}" for path in sorted(CRATES.glob("*/must-fail/*.edit")) if f"`{path.stem}`" not in text]
+    return [f"in no row: {path.relative_to(TOP)}" for path in sorted([*CRATES.glob("*/must-fail/*.edit"), *CRATES.glob("*/planted/*.edit")]) if f"`{path.stem}`" not in text]
 
 
 def faults_of_map():
