@@ -3,9 +3,9 @@ use Rattle.std.specs.Prelude.{◌≡◌, ◌<◌, ◌^◌, ℕ, List, Option, No
 use Rattle.std.specs.Str.{bytes_eq}
 use Rattle.kc_graph.specs.SimpleGraph.{SimpleGraph}
 use Rattle.kc_io.specs.Memory.{SourceState}
-use Rattle.kc_text.specs.Inputs.{AreIds, IsInput, start_graph}
+use Rattle.kc_text.specs.Inputs.{AreIds, IsNamedEdges, start_graph}
 use Rattle.kc_text.specs.Meaning.{Means, Told, names}
-use Rattle.kc_text.specs.declared.input.Input.{Input}
+use Rattle.kc_text.specs.declared.named_edges.NamedEdges.{NamedEdges}
 use Rattle.kc_cores.specs.Answers.{graph_meaning}
 
 -- what is known of bytes that are not told
@@ -40,19 +40,19 @@ known_bytes left behind (Some name) i = behind i name
 abbrev pub bytes_in : InputState → Option (List ℕ) → Option (List ℕ)
 bytes_in input file = known_bytes (λ i. Some i.source.left) bytes_behind file input
 
--- what was read is what the bytes mean, which are all of what is known of them
-pub record IsReadOf (known : Option (List ℕ)) (input : Input) : Type 0 where
+-- so many ids that each has a number, and edges between these numbers
+pub record HasFewIds (listed : NamedEdges) : Type 0 where
+  pub few : length listed.ids.items < 2 ^ 32
+  pub edges : All (λ p. (p.0 < p.1) × (p.1 < length listed.ids.items)) listed.edges.items
+
+-- the ids and edges are those that the bytes tell, which are all of what is known of them
+pub record AreReadFrom (known : Option (List ℕ)) (listed : NamedEdges) : Type 0 where
   pub bytes : List ℕ
   pub read : IfSome known (λ all. bytes ≡ all)
   pub told : Told
   pub means : graph_meaning bytes ≡ Means told
-  pub is : IsInput told input
-  pub few : length input.ids.items < 2 ^ 32
-
--- so many ids that each has a number, and edges between these numbers
-pub record HasFewIds (input : Input) : Type 0 where
-  pub few : length input.ids.items < 2 ^ 32
-  pub edges : All (λ p. (p.0 < p.1) × (p.1 < length input.ids.items)) input.start.items
+  pub are : IsNamedEdges told listed
+  pub fit : HasFewIds listed
 
 -- the graph that the bytes mean, which are all of what is known of them, with the ids for which its vertices stand
 pub record IsGraphOf (known : Option (List ℕ)) (ids : List ℕ) (g : SimpleGraph) : Type 0 where

@@ -3,15 +3,15 @@ ghost use Rattle.std.specs.FinSet as set;
 ghost use Rattle.std.specs.Prelude.{◌≡◌, ◌≤◌, ℕ, List, Option, IfErr, IfOk, IfSome, OnOk, length, option_map};
 ghost use Rattle.std.specs.Io.KnownBytes.{IsAtEnd};
 ghost use Rattle.kc_cores.specs.Endings.{HasNoFileGraph, HasNoGraph};
-ghost use Rattle.kc_cores.specs.Inputs.{HasFewIds, IsGraphOf, IsReadOf, known_bytes};
+ghost use Rattle.kc_cores.specs.Inputs.{AreReadFrom, HasFewIds, IsGraphOf, known_bytes};
 
 use crate::ending::{Ending, refused, unopened};
 use crate::input::FileInput;
 use kc_flat::FlatGraph;
 use kc_graph::NoMemory;
 use kc_io::source::Source;
-use kc_read::{InputFault, read_input};
-use kc_text::{Input, Limits};
+use kc_read::{InputFault, read_edges};
+use kc_text::{Limits, NamedEdges};
 use std::alloc::Global;
 
 /// A graph, and the ids that its vertices stand for.
@@ -22,15 +22,15 @@ pub(crate) struct NamedGraph {
     pub(crate) graph: FlatGraph,
 }
 
-/// The input that all bytes of the source mean. The text is not held.
-fn input_from<S: Source>(alloc: Global, source: &mut S) -> Result<Input, Ending>
-    ensures input { IfOk result (IsReadOf (S.left source.old)) }
+/// The ids and edges that all bytes of the source tell. The text is not held.
+fn edges_from<S: Source>(alloc: Global, source: &mut S) -> Result<NamedEdges, Ending>
+    ensures edges { IfOk result (AreReadFrom (S.left source.old)) }
     ensures read { OnOk result (IsAtEnd (S.left source.new)) }
     ensures stopped { IfErr result (λ ending. HasNoGraph ending (S.left source.old) (S.faults source.old) (S.faults source.new)) }
     ensures faultless { OnOk result (S.faults source.new ≡ S.faults source.old) }
 {
-    match read_input(alloc, source, Limits::GRAPH) {
-        Ok(input) => Ok(input),
+    match read_edges(alloc, source, Limits::GRAPH) {
+        Ok(listed) => Ok(listed),
         Err(InputFault::ReadFault) => Err(Ending::read_fault()),
         Err(InputFault::Refused(refusal)) => Err(refused(alloc, refusal)),
         Err(InputFault::NoMemory) => Err(Ending::no_memory()),
@@ -38,13 +38,13 @@ fn input_from<S: Source>(alloc: Global, source: &mut S) -> Result<Input, Ending>
 }
 
 /// The graph of what was read.
-fn graph_of(alloc: Global, input: Input) -> Result<NamedGraph, NoMemory>
-    requires { HasFewIds input }
-    ensures ids { IfOk result (λ named. named.ids.items ≡ input.ids.items) }
-    ensures graph { IfOk result (λ named. named.graph ≡ record { size = length input.ids.items; edges = set.from_list input.start.items }) }
+fn graph_of(alloc: Global, listed: NamedEdges) -> Result<NamedGraph, NoMemory>
+    requires { HasFewIds listed }
+    ensures ids { IfOk result (λ named. named.ids.items ≡ listed.ids.items) }
+    ensures graph { IfOk result (λ named. named.graph ≡ record { size = length listed.ids.items; edges = set.from_list listed.edges.items }) }
 {
-    let Input { ids, start, .. } = input;
-    let graph = FlatGraph::from_pairs(alloc, ids.len() as u32, &start)?;
+    let NamedEdges { ids, edges } = listed;
+    let graph = FlatGraph::from_pairs(alloc, ids.len() as u32, &edges)?;
     Ok(NamedGraph { ids, graph })
 }
 
@@ -55,8 +55,8 @@ fn graph_from<S: Source>(alloc: Global, source: &mut S) -> Result<NamedGraph, En
     ensures stopped { IfErr result (λ ending. HasNoGraph ending (S.left source.old) (S.faults source.old) (S.faults source.new)) }
     ensures faultless { OnOk result (S.faults source.new ≡ S.faults source.old) }
 {
-    let input = input_from(alloc, source)?;
-    Ok(graph_of(alloc, input)?)
+    let listed = edges_from(alloc, source)?;
+    Ok(graph_of(alloc, listed)?)
 }
 
 /// Turns to the file, where one is named.

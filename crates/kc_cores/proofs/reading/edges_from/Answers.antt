@@ -3,18 +3,18 @@ use Rattle.kc_text.specs.Meaning.{Means}
 use Rattle.kc_cores.proofs.Graphs.{graph_meaning-is}
 use Rattle.kc_cores.proofs.Stopping.{HasNoGraph-refused, graph_refused}
 use Rattle.std.proofs.Common.{refl, arith}
-use Rattle.kc_cores.proofs.reading.input_from.Goals as goal
+use Rattle.kc_cores.proofs.reading.edges_from.Goals as goal
 
-pub returns-in-Ok-clause-input : goal.returns-in-Ok-clause-input
-returns-in-Ok-clause-input g c =
-    let within = c.in-Ok.ensures.input in
+pub returns-in-Ok-clause-edges : goal.returns-in-Ok-clause-edges
+returns-in-Ok-clause-edges g c =
+    let within = c.in-Ok.ensures.edges in
     record {
       bytes = within.bytes;
       read = within.read;
       told = within.told;
       means = graph_meaning-is within.bytes (Means within.told) within.means;
-      is = within.is;
-      few = omega (arith, c.in-Ok.ensures.few);
+      are = within.are;
+      fit = record { few = omega (arith, c.in-Ok.ensures.few); edges = c.in-Ok.ensures.within };
     }
 
 pub returns-in-Err-Refused-clause-stopped : goal.returns-in-Err-Refused-clause-stopped
