@@ -5,7 +5,7 @@ usage: fuzz_cores.py [--cores PROGRAM] [--cases N] [--seed N]
 (default: crates/cores/out/cores beside this folder, 500 cases of seed 1)
 
 The model follows the definitions: core numbers by taking vertices away, k-cores and layers from these. Of `order` it tests that the lines
-certify the numbers. An input that differs is printed, and the status is 1 then.
+certify the numbers. At last a reader goes away that has taken one line. An input that differs is printed, and the status is 1 then.
 """
 import argparse
 import pathlib
@@ -98,6 +98,18 @@ def certifies(neighbours, core, lines):
     )
 
 
+def is_quiet(program):
+    """Whether a reader that goes away after a line ends the run without a word, and with status 0."""
+    text = "".join(f"{i} {i + 1}\n" for i in range(200_000))
+    with subprocess.Popen((program, "numbers"), stdin=subprocess.PIPE, stdout=subprocess.PIPE, stderr=subprocess.PIPE) as running:
+        running.stdin.write(text.encode())
+        running.stdin.close()
+        line = running.stdout.readline()
+        running.stdout.close()
+        told = running.stderr.read()
+        return (running.wait(), line, told) == (0, b"0\t1\n", b"")
+
+
 def run(program, words, text):
     ended = subprocess.run([program, *words], input=text.encode(), capture_output=True, check=False)
     return ended.returncode, ended.stdout.decode(), ended.stderr.decode()
@@ -130,6 +142,9 @@ def main():
         for found in faults(chosen.cores, text, k):
             wrong += 1
             print(f"case {case}: cores {' '.join(found)} differs on {text!r}")
+    if not is_quiet(chosen.cores):
+        wrong += 1
+        print("cores numbers: a reader that goes away is told as a fault")
     print(f"{chosen.cases} cases of seed {chosen.seed}, eight commands each: {wrong or 'none'} wrong")
     sys.exit(1 if wrong else 0)
 

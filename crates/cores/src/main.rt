@@ -8,6 +8,7 @@
 use kc_cores::CoresStreams;
 use kc_cores::program::answer_on;
 use kc_cores::std_input::StdInput;
+use kc_cores::std_pipe::StdPipe;
 use kc_io::std_sink::StdSink;
 use std::env;
 use std::process::ExitCode;
@@ -15,7 +16,7 @@ use std::process::ExitCode;
 fn main(rt: HostRuntime) -> ExitCode {
     let mut streams = CoresStreams {
         input: StdInput::new(&rt, rt.stdin()),
-        out: StdSink::new(rt.stdout()),
+        out: StdPipe::new(rt.stdout()),
         err: StdSink::new(rt.stderr()),
     };
     answer_on(rt.alloc(), env::args(&rt), &mut streams)

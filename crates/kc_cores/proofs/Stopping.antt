@@ -21,6 +21,7 @@ refused-no_graph status.Usage line n kind known f f' h m kept = absurd h
 refused-no_graph status.Unopened line n kind known f f' h m kept = absurd h
 refused-no_graph status.ReadFault line n kind known f f' h m kept = absurd h
 refused-no_graph status.WriteFault line n kind known f f' h m kept = absurd h
+refused-no_graph status.ReaderGone line n kind known f f' h m kept = absurd h
 
 -- an ending by a refusal says why there is no graph
 pub HasNoGraph-refused : (e : Ending) (n : ℕ) (kind : Kind) (known : Option (List ℕ)) (f f' : ℕ) → TellsRefusal e n kind

@@ -1,5 +1,5 @@
 -- How a run ends, and what it has done then: the promise of `answer`, clause by clause.
-use Rattle.std.specs.Prelude.{◌≡◌, ◌⊎◌, ◌≤◌, ◌<◌, ℕ, List, [], Option, Some, None, IfSome, length, take, false, true, ⊤}
+use Rattle.std.specs.Prelude.{◌≡◌, ◌⊎◌, ◌≤◌, ◌<◌, ℕ, Bool, List, [], Option, Some, None, IfSome, length, take, false, true, ⊤}
 use Rattle.std.specs.Io.KnownBytes.{Appends, IsAtEnd}
 use Rattle.kc_io.specs.Causes.{Rose}
 use Rattle.kc_io.specs.FirstPiece.{KeepsFirst}
@@ -45,6 +45,7 @@ abbrev pub TookAt : CoresStatus → Wish → Option (List ℕ) → Option (List 
 TookAt status.Done wish known before after = TookWhole (λ text. (summary : List ℕ) × IsAnswerTo wish known text summary) before after
 TookAt status.Shown wish known before after = TookWhole (λ text. MayReply true wish) before after
 TookAt status.WriteFault wish known before after = TookPrefix (IsOutputFor wish known) before after
+TookAt status.ReaderGone wish known before after = TookPrefix (IsOutputFor wish known) before after
 TookAt status.Usage wish known before after = Appends before after []
 TookAt status.Refused wish known before after = Appends before after []
 TookAt status.Unopened wish known before after = Appends before after []
@@ -60,11 +61,13 @@ FaultsAt status.Shown before after = after ≡ before
 FaultsAt status.Usage before after = after ≡ before
 FaultsAt status.Refused before after = after ≡ before
 FaultsAt status.WriteFault before after = after ≡ before
+FaultsAt status.ReaderGone before after = after ≡ before
 FaultsAt status.NoMemory before after = after ≡ before
 
 -- what became of the count of faults of the sink of the lines: it rose where a write failed, and else it stayed
 abbrev pub WriteFaultsAt : CoresStatus → ℕ → ℕ → Type 0
 WriteFaultsAt status.WriteFault before after = Rose before after
+WriteFaultsAt status.ReaderGone before after = Rose before after
 WriteFaultsAt status.Done before after = after ≡ before
 WriteFaultsAt status.Shown before after = after ≡ before
 WriteFaultsAt status.Usage before after = after ≡ before
@@ -72,6 +75,12 @@ WriteFaultsAt status.Refused before after = after ≡ before
 WriteFaultsAt status.Unopened before after = after ≡ before
 WriteFaultsAt status.ReadFault before after = after ≡ before
 WriteFaultsAt status.NoMemory before after = after ≡ before
+
+-- whether the reader of the lines is gone, where a write failed
+abbrev pub ReaderAt : CoresStatus → Bool → Type 0
+ReaderAt status.ReaderGone gone = gone ≡ true
+ReaderAt status.WriteFault gone = gone ≡ false
+ReaderAt _ gone = ⊤
 
 -- A line about a run. It was offered whole, so the status is fixed before the sink answers; and it was taken, or a prefix of it where a call failed.
 pub record ToldLine {E : Type 0} (err : sinks.Ghosts E) (line : List ℕ) (e e' : E) : Type 0 where
@@ -96,17 +105,18 @@ IsLineAt status.Unopened wish known line =
     (task : Task) × (name : List ℕ) × (fault : OpenFault) × (wish ≡ Asks task (Some name)) × IsUnopenedLine name fault line
 IsLineAt status.ReadFault wish known line = line ≡ read_fault_line
 IsLineAt status.WriteFault wish known line = line ≡ write_fault_line
+IsLineAt status.ReaderGone wish known line = line ≡ []
 IsLineAt status.NoMemory wish known line = line ≡ no_memory_line
 
 -- A run for what the words ask for has ended with this status, and `told` is the line about it. `i` is its input and `o` the sink of its
--- lines, each before and after; `source`, `behind` and `out` say what is known of them.
+-- lines, each before and after; `source`, `behind`, `out` and `gone` say what is known of them.
 pub record CoresEnded {I O : Type 0} (source : sources.Ghosts I) (behind : I → List ℕ → Option (List ℕ)) (out : sinks.Ghosts O)
-    (wish : Wish) (end : CoresStatus) (told : List ℕ) (i i' : I) (o o' : O) : Type 0 where
+    (gone : O → Bool) (wish : Wish) (end : CoresStatus) (told : List ℕ) (i i' : I) (o o' : O) : Type 0 where
   -- A reply of `clap` ends the run, and then nothing is read.
   pub usage : end ≡ status.Usage → MayReply false wish
   pub shown : end ≡ status.Shown → MayReply true wish
   pub replies : (kinds : Kinds) → wish ≡ Replies kinds
-      → (i' ≡ i) × ((end ≡ status.Usage) ⊎ (end ≡ status.Shown) ⊎ (end ≡ status.WriteFault) ⊎ (end ≡ status.NoMemory))
+      → (i' ≡ i) × ((end ≡ status.Usage) ⊎ (end ≡ status.Shown) ⊎ (end ≡ status.ReaderGone) ⊎ (end ≡ status.WriteFault) ⊎ (end ≡ status.NoMemory))
   -- The input is read to its end, and what is written are the lines of the graph that it means.
   pub read : end ≡ status.Done → IsAtEnd (source.left i')
   pub took : TookAt end wish (given_bytes source.left behind wish i) (out.taken o) (out.taken o')
@@ -114,9 +124,11 @@ pub record CoresEnded {I O : Type 0} (source : sources.Ghosts I) (behind : I →
   -- When each status comes. A fault of the input or of the sink comes at its own status alone.
   pub faults : FaultsAt end (source.faults i) (source.faults i')
   pub write_faults : WriteFaultsAt end (out.faults o) (out.faults o')
+  pub reader : ReaderAt end (gone o')
   pub refuses : (task : Task) (file : Option (List ℕ)) (bytes : List ℕ) (n : ℕ) (kind : Kind) → wish ≡ Asks task file
       → known_bytes source.left behind file i ≡ Some bytes → graph_meaning bytes ≡ Refuses n kind
       → (end ≡ status.Refused) ⊎ (end ≡ status.Unopened) ⊎ (end ≡ status.ReadFault) ⊎ (end ≡ status.NoMemory)
   pub complete : (task : Task) (file : Option (List ℕ)) (bytes : List ℕ) (all : Told) → wish ≡ Asks task file
       → known_bytes source.left behind file i ≡ Some bytes → graph_meaning bytes ≡ Means all
-      → (end ≡ status.Done) ⊎ (end ≡ status.Unopened) ⊎ (end ≡ status.ReadFault) ⊎ (end ≡ status.WriteFault) ⊎ (end ≡ status.NoMemory)
+      → (end ≡ status.Done) ⊎ (end ≡ status.Unopened) ⊎ (end ≡ status.ReadFault) ⊎ (end ≡ status.ReaderGone)
+      ⊎ (end ≡ status.WriteFault) ⊎ (end ≡ status.NoMemory)

@@ -1,12 +1,12 @@
 -- Where a run ends, and what is replied to words.
-use Rattle.std.specs.Prelude.{◌≡◌, ℕ, List, Option, Some, IfSome, false, option_map, string_bytes, true, ⊤}
+use Rattle.std.specs.Prelude.{◌≡◌, ℕ, Bool, List, [], Option, Some, IfSome, false, option_map, string_bytes, true, ⊤}
 use Rattle.kc_io.specs.Causes.{Rose}
 use Rattle.clap.specs.declared.error.kind.ErrorKind.{ErrorKind}
 use Rattle.kc_text.specs.Meaning.{Refuses}
 use Rattle.kc_text.specs.declared.kind.Kind.{Kind}
 use Rattle.kc_cores.specs.Answers.{graph_meaning}
 use Rattle.kc_cores.specs.CoresEnded.{IsUnopenedLine}
-use Rattle.kc_cores.specs.Sentences.{no_memory_line, read_fault_line, refused_line}
+use Rattle.kc_cores.specs.Sentences.{no_memory_line, read_fault_line, refused_line, write_fault_line}
 use Rattle.kc_cores.specs.Wishes.{Asks, MayReply, Wish, is_shown}
 use Rattle.kc_cores.specs.declared.CoresStatus.{CoresStatus}
 use Rattle.kc_cores.specs.declared.CoresStatus.TheVariants as status
@@ -58,6 +58,16 @@ NoFileGraphAt end line file known before after = NoGraphAt end line known before
 -- the run ends since the file gives no graph
 abbrev pub HasNoFileGraph : Ending → Option (List ℕ) → Option (List ℕ) → ℕ → ℕ → Type 0
 HasNoFileGraph ending file known before after = NoFileGraphAt ending.status (line_of ending) file known before after
+
+-- the line of a status at which a write failed, by whether the reader is gone
+abbrev pub CutAt : CoresStatus → List ℕ → Bool → Type 0
+CutAt status.ReaderGone line gone = (line ≡ []) × (gone ≡ true)
+CutAt status.WriteFault line gone = (line ≡ write_fault_line) × (gone ≡ false)
+CutAt _ line gone = ⊥
+
+-- the run ends since a write failed
+abbrev pub IsCut : Ending → Bool → Type 0
+IsCut ending gone = CutAt ending.status (line_of ending) gone
 
 -- what is replied where `clap` has an error of this kind
 abbrev pub IsReplyFor : Reply → ErrorKind → Type 0

@@ -4,6 +4,7 @@ pub mod CoresEnded
 pub mod Inputs
 pub mod Lines
 pub mod Numbers
+pub mod Outputs
 pub mod Sentences
 pub mod Wishes
 -- What the crate's own functions and invariants speak of.

@@ -12,6 +12,7 @@ use crate::input::FileInput;
 use crate::listing::{Listing, listing_of, put_lines};
 use crate::message::Message;
 use crate::page::Page;
+use crate::pipe::PipeSink;
 use crate::reading::read_graph;
 use crate::request::Request;
 use crate::summary::summary_line;
@@ -44,14 +45,14 @@ fn write_lines<O: Sink>(
 }
 
 /// Writes the lines of a task for the graph of the input, and gives the ending of the run.
-fn follow<I: FileInput, O: Sink, E>(
+fn follow<I: FileInput, O: PipeSink, E>(
     alloc: Global,
     request: Request<'_>,
     streams: &mut CoresStreams<I, O, E>,
 ) -> Result<String, Ending>
-    ensures done { IfOk result (λ summary. CoresEnded I.Source I.behind O.Sink (Asks request.entry.task (file_of request.entry)) CoresStatus.Done
+    ensures done { IfOk result (λ summary. CoresEnded I.Source I.behind O.Sink O.gone (Asks request.entry.task (file_of request.entry)) CoresStatus.Done
         (string_bytes summary) streams.old.input streams.new.input streams.old.out streams.new.out) }
-    ensures stopped { IfErr result (λ ending. CoresEnded I.Source I.behind O.Sink (Asks request.entry.task (file_of request.entry)) ending.status
+    ensures stopped { IfErr result (λ ending. CoresEnded I.Source I.behind O.Sink O.gone (Asks request.entry.task (file_of request.entry)) ending.status
         (line_of ending) streams.old.input streams.new.input streams.old.out streams.new.out) }
     ensures err { streams.new.err ≡ streams.old.err }
 {
@@ -61,14 +62,14 @@ fn follow<I: FileInput, O: Sink, E>(
     let listing = listing_of(alloc, request.task, &named.graph, &core, order)?;
     let page = Page::new(alloc)?;
     if write_lines(page, &mut streams.out, &listing, &named.ids, &core).is_err() {
-        return Err(Ending::write_fault());
+        return Err(Ending::cut(streams.out.is_reader_gone()));
     }
     Ok(summary)
 }
 
 /// Writes help or the version, where it was asked for. What is wrong with the words is the line of the ending.
-fn show<I: FileInput, O: Sink, E>(reply: Reply, streams: &mut CoresStreams<I, O, E>) -> Ending
-    ensures ended { (wish : Wish) → RepliesTo reply wish → CoresEnded I.Source I.behind O.Sink wish result.status (line_of result)
+fn show<I: FileInput, O: PipeSink, E>(reply: Reply, streams: &mut CoresStreams<I, O, E>) -> Ending
+    ensures ended { (wish : Wish) → RepliesTo reply wish → CoresEnded I.Source I.behind O.Sink O.gone wish result.status (line_of result)
         streams.old.input streams.new.input streams.old.out streams.new.out }
     ensures err { streams.new.err ≡ streams.old.err }
 {
@@ -80,7 +81,7 @@ fn show<I: FileInput, O: Sink, E>(reply: Reply, streams: &mut CoresStreams<I, O,
         },
         Reply::Asked(text) => {
             if write_all(&mut streams.out, text.as_bytes()).is_err() {
-                return Ending::write_fault();
+                return Ending::cut(streams.out.is_reader_gone());
             }
             Ending {
                 status: CoresStatus::Shown,
@@ -91,12 +92,12 @@ fn show<I: FileInput, O: Sink, E>(reply: Reply, streams: &mut CoresStreams<I, O,
 }
 
 /// All of a run but its line.
-fn work<W: AsStr, I: FileInput, O: Sink, E>(
+fn work<W: AsStr, I: FileInput, O: PipeSink, E>(
     alloc: Global,
     words: &[W],
     streams: &mut CoresStreams<I, O, E>,
 ) -> Ending
-    ensures ended { CoresEnded I.Source I.behind O.Sink (wish_of (map W.text words.now)) result.status (line_of result)
+    ensures ended { CoresEnded I.Source I.behind O.Sink O.gone (wish_of (map W.text words.now)) result.status (line_of result)
         streams.old.input streams.new.input streams.old.out streams.new.out }
     ensures err { streams.new.err ≡ streams.old.err }
 {
@@ -119,25 +120,26 @@ fn work<W: AsStr, I: FileInput, O: Sink, E>(
 /// `words` are those after the program's name. Its clause has the line and two records. The one, `CoresEnded`, has these fields:
 ///
 /// - `usage`, `shown`: at `Usage` and at `Shown` the words make `clap` reply so. Its texts are its own, of which no clause speaks.
-/// - `replies`: where `clap` replies, nothing is read, and the status is `Usage`, `Shown`, `WriteFault` or `NoMemory`.
+/// - `replies`: where `clap` replies, nothing is read, and the status is `Usage`, `Shown`, `ReaderGone`, `WriteFault` or `NoMemory`.
 /// - `read`: at `Done` the input was read to its end.
 /// - `took`: at `Done` the sink took just the lines for the graph that the bytes mean, after what it had taken before. At `Shown` it took a
-///   text. At `WriteFault` it took a prefix of what was to be written, and else nothing.
+///   text. At `ReaderGone` and at `WriteFault` it took a prefix of what was to be written, and else nothing.
 /// - `line`: the line of the status. At `Done` it is the summary of that graph, at `Refused` it tells the line and the kind of the refusal,
-///   and at `Unopened` the name of the file and why it was not opened.
+///   and at `Unopened` the name of the file and why it was not opened. At `ReaderGone` there is none.
 /// - `faults`: the input's count of faults rose at `Unopened` and at `ReadFault`, and else it is as it was.
-/// - `write_faults`: the count of faults of `out` rose at `WriteFault`, and else it is as it was.
+/// - `write_faults`: the count of faults of `out` rose at `ReaderGone` and at `WriteFault`, and else it is as it was.
+/// - `reader`: at `ReaderGone` the sink tells that its reader went away, and at `WriteFault` that it did not.
 /// - `refuses`: where the bytes are refused, the status is `Refused`, `Unopened`, `ReadFault` or `NoMemory`.
-/// - `complete`: where they mean a graph, the status is `Done`, `Unopened`, `ReadFault`, `WriteFault` or `NoMemory`.
+/// - `complete`: where they mean a graph, the status is `Done`, `Unopened`, `ReadFault`, `ReaderGone`, `WriteFault` or `NoMemory`.
 ///
 /// The other, `ToldLine`, says that `err` took the line, or a prefix of it where a call failed, and that it was offered whole. A fault of
 /// `err` changes no status.
-pub fn answer<W: AsStr, I: FileInput, O: Sink, E: Sink>(
+pub fn answer<W: AsStr, I: FileInput, O: PipeSink, E: Sink>(
     alloc: Global,
     words: &[W],
     streams: &mut CoresStreams<I, O, E>,
 ) -> CoresStatus
-    ensures { (line : List ℕ) × CoresEnded I.Source I.behind O.Sink (wish_of (map W.text words.now)) result line
+    ensures { (line : List ℕ) × CoresEnded I.Source I.behind O.Sink O.gone (wish_of (map W.text words.now)) result line
         streams.old.input streams.new.input streams.old.out streams.new.out
         × ToldLine E.Sink line streams.old.err streams.new.err }
 {

@@ -20,15 +20,18 @@ pub mod input;
 mod lines;
 mod listing;
 pub mod mem_input;
+pub mod mem_pipe;
 pub mod memory;
 mod message;
 mod page;
+pub mod pipe;
 pub mod program;
 mod reading;
 mod request;
 mod sentences;
 mod sizes;
 pub mod std_input;
+pub mod std_pipe;
 mod streams;
 mod summary;
 mod words;
@@ -55,7 +58,9 @@ pub enum CoresStatus {
     Unopened,
     /// The source failed.
     ReadFault,
-    /// The sink of the lines failed.
+    /// The reader of the lines went away. What was written before is a prefix of them.
+    ReaderGone,
+    /// The sink of the lines failed otherwise.
     WriteFault,
     /// There was no memory.
     NoMemory,
@@ -66,7 +71,7 @@ pub fn exit_number(status: CoresStatus) -> u8
     ensures { result ≡ exit_number_of status }
 {
     match status {
-        CoresStatus::Done | CoresStatus::Shown => 0,
+        CoresStatus::Done | CoresStatus::Shown | CoresStatus::ReaderGone => 0,
         CoresStatus::Usage => 2,
         CoresStatus::Refused => 3,
         CoresStatus::Unopened | CoresStatus::ReadFault => 4,

@@ -10,6 +10,7 @@ ghost use Rattle.kc_cores.specs.declared.request.Task.{Task};
 
 use crate::answer::answer;
 use crate::mem_input::MemInput;
+use crate::mem_pipe::MemPipe;
 use crate::{CoresStatus, CoresStreams};
 use kc_io::mem_sink::MemSink;
 use kc_io::sink::Sink;
@@ -22,18 +23,18 @@ use std::convert::AsStr;
 pub fn answer_in_memory<W: AsStr>(
     alloc: Global,
     words: &[W],
-    streams: &mut CoresStreams<MemInput, MemSink, MemSink>,
+    streams: &mut CoresStreams<MemInput, MemPipe, MemSink>,
 ) -> CoresStatus
     ensures ended { (line : List ℕ)
-        × CoresEnded ⟦<MemInput as Source>⟧ bytes_behind ⟦<MemSink as Sink>⟧ (wish_of (map W.text words.now)) result line
+        × CoresEnded ⟦<MemInput as Source>⟧ bytes_behind ⟦<MemPipe as Sink>⟧ (λ pipe. pipe.gone) (wish_of (map W.text words.now)) result line
         streams.old.input streams.new.input streams.old.out streams.new.out
         × ToldLine ⟦<MemSink as Sink>⟧ line streams.old.err streams.new.err }
     ensures done { (task : Task) (file : Option (List ℕ)) (bytes : List ℕ) → wish_of (map W.text words.now) ≡ Asks task file
         → bytes_in streams.old.input file ≡ Some bytes → result ≡ CoresStatus.Done
-        → (text : List ℕ) × (summary : List ℕ) × IsTextFor task bytes text summary × (streams.new.out.taken ≡ streams.old.out.taken ++ text) }
+        → (text : List ℕ) × (summary : List ℕ) × IsTextFor task bytes text summary × (streams.new.out.sink.taken ≡ streams.old.out.sink.taken ++ text) }
     ensures refused { (task : Task) (file : Option (List ℕ)) (bytes : List ℕ) → wish_of (map W.text words.now) ≡ Asks task file
         → bytes_in streams.old.input file ≡ Some bytes → result ≡ CoresStatus.Refused
-        → (n : ℕ) × (kind : Kind) × (graph_meaning bytes ≡ Refuses n kind) × (streams.new.out.taken ≡ streams.old.out.taken) }
+        → (n : ℕ) × (kind : Kind) × (graph_meaning bytes ≡ Refuses n kind) × (streams.new.out.sink.taken ≡ streams.old.out.sink.taken) }
 {
     answer(alloc, words, streams)
 }

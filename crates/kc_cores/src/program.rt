@@ -10,6 +10,7 @@ ghost use Rattle.kc_cores.specs.declared.CoresStatus.{CoresStatus};
 
 use crate::answer::answer;
 use crate::input::FileInput;
+use crate::pipe::PipeSink;
 use crate::{CoresStatus, CoresStreams, exit_number};
 use kc_args::words_of;
 use kc_io::sink::Sink;
@@ -30,7 +31,7 @@ fn exit_with(status: CoresStatus) -> ExitCode
 /// order, and an empty word in place of all where one is not UTF-8.
 ///
 /// Where there is no memory for the words, the status is `NoMemory`, and nothing was read or written.
-pub fn answer_on<I: FileInput, O: Sink, E: Sink>(
+pub fn answer_on<I: FileInput, O: PipeSink, E: Sink>(
     alloc: Global,
     args: io::Result<Args>,
     streams: &mut CoresStreams<I, O, E>,
@@ -39,7 +40,7 @@ pub fn answer_on<I: FileInput, O: Sink, E: Sink>(
     // the words, and all is as it was.
     ensures ended { (status : CoresStatus) × (exit_status result ≡ exit_number_of status)
         × (((words : List (List ℕ)) × AreWords args words × (line : List ℕ)
-        × CoresEnded I.Source I.behind O.Sink (wish_of words) status line streams.old.input streams.new.input streams.old.out streams.new.out
+        × CoresEnded I.Source I.behind O.Sink O.gone (wish_of words) status line streams.old.input streams.new.input streams.old.out streams.new.out
         × ToldLine E.Sink line streams.old.err streams.new.err)
         ⊎ ((status ≡ CoresStatus.NoMemory) × (streams.new ≡ streams.old))) }
     ensures no_memory { IfErr args (λ error. error_kind error ≢ ErrorKind.InvalidData → exit_status result ≡ exit_number_of CoresStatus.NoMemory) }

@@ -24,5 +24,5 @@ done-in end wish task file bytes a b known is asks here took =
 
 pub returns-clause-done : goal.returns-clause-done
 returns-clause-done g c = λ task file bytes asks here end.
-    done-in c.answer.result (wish_of (map g.W.AsStr.text c.args.words.now)) task file bytes c.args.streams.now.out.taken c.answer.new.streams.out.taken
+    done-in c.answer.result (wish_of (map g.W.AsStr.text c.args.words.now)) task file bytes c.args.streams.now.out.sink.taken c.answer.new.streams.out.sink.taken
     (λ w. given_bytes (λ i. Some i.source.left) bytes_behind w c.args.streams.now.input) end asks here c.answer.ensures.1.took
