@@ -11,7 +11,8 @@ edge that is listed again, in either direction, counts once. An array of `numpy.
 Edges that are read in pieces, or lie on many machines, are for `Certificate`: it tells whether numbers from anywhere are the core numbers
 of all of them, with memory for the vertices alone.
 
-`Cores` keeps the core numbers of a graph right while edges come and go, at the cost of what each update concerns.
+`Cores` keeps the core numbers of a graph right while edges come and go, at the cost of what each update concerns. `batches` makes updates
+of edges with times, and `Cores.replay` follows them.
 
 The core numbers, the order, the k-core and the answer of `check` are the library's. `main_core`, `k_shell`, `k_crust`, `k_corona` and
 `degeneracy` are plain filters on its core numbers, and `kcore.plot` draws them.
@@ -35,13 +36,17 @@ from ._certificate import Certificate, WrongEdgeError
 from ._cores import Cores
 from ._graph import NotAVertexError
 from ._library import __version__
+from ._temporal import Batch, BatchResult, batches
 
 __all__ = [
+    "Batch",
+    "BatchResult",
     "Certificate",
     "Cores",
     "NotAVertexError",
     "WrongEdgeError",
     "__version__",
+    "batches",
     "check",
     "core_numbers",
     "degeneracy",

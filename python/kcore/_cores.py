@@ -6,9 +6,9 @@ import ctypes
 import operator
 import threading
 from array import array
-from typing import Any, Dict, Hashable, Iterable, List, NoReturn, Optional, Sequence, Tuple, Union
+from typing import Any, Dict, Hashable, Iterable, Iterator, List, NoReturn, Optional, Sequence, Tuple, Union
 
-from . import _forms, _library, _lists
+from . import _forms, _library, _lists, _temporal
 from ._graph import Graph, NotAVertexError
 
 #: The core numbers of a vertex before and after a call; before is None where the vertex is new.
@@ -232,6 +232,37 @@ class Cores:
             changes: Dict[Any, Change] = {self._vertex(place): change for place, change in changed.items()}
             changes.update((self._vertex(place), (None, int(self._core[place]))) for place in range(count, self._vertices))
             return changes
+
+    def replay(self, batches: Iterable[_temporal.Batch], *, core_numbers: bool = False) -> Iterator[_temporal.BatchResult]:
+        """Applies batches of edges with times one by one, as `kcore.batches` makes them. Vertices come as edges bring them.
+
+        Parameters
+        ----------
+        batches : iterable of Batch
+            Each has `begin`, `end`, `insert` and `remove`. It is applied when its result is asked for, and not before.
+        core_numbers : bool
+            Whether each result has the core numbers of all vertices after its batch.
+
+        Yields
+        ------
+        BatchResult
+            The interval as `begin` and `end`, the `changes` as `apply` tells them, and `core_numbers`, or None where they are not asked for.
+
+        Raises
+        ------
+        MemoryError, ValueError, TypeError
+            As `apply` does, when the result of the batch is asked for. The batches before it are applied.
+
+        Examples
+        --------
+        >>> from kcore import batches
+        >>> rows = [("ann", "bob", 0), ("bob", "cat", 4), ("cat", "ann", 11)]
+        >>> for result in Cores(names=True).replay(batches(rows, every=10)):
+        ...     print(result.begin, result.end, result.changes)
+        0 10 {'ann': (None, 1), 'bob': (None, 1), 'cat': (None, 1)}
+        10 20 {'ann': (1, 2), 'bob': (1, 2), 'cat': (1, 2)}
+        """
+        return _temporal.replay(self, batches, core_numbers)
 
     def _number(self, vertex: Any) -> Optional[int]:
         """The number of a vertex, or None where it is none."""
