@@ -15,7 +15,7 @@ of all of them, with memory for the vertices alone.
 of edges with times, and `Cores.replay` follows them.
 
 The core numbers, the order, the k-core and the answer of `check` are the library's. `main_core`, `k_shell`, `k_crust`, `k_corona` and
-`degeneracy` are plain filters on its core numbers, and `kcore.plot` draws them.
+`degeneracy` are plain filters on its core numbers, `onion_layers` are made of them in plain Python, and `kcore.plot` draws them.
 
 A graph may not be directed: give its `to_undirected()`, or `as_undirected()` of igraph.
 
@@ -31,7 +31,7 @@ References
 
 from typing import Any, List
 
-from ._api import check, core_numbers, degeneracy, degeneracy_order, k_core, k_corona, k_crust, k_shell, main_core
+from ._api import check, core_numbers, degeneracy, degeneracy_order, k_core, k_corona, k_crust, k_shell, main_core, onion_layers
 from ._certificate import Certificate, WrongEdgeError
 from ._cores import Cores
 from ._graph import NotAVertexError
@@ -56,6 +56,7 @@ __all__ = [
     "k_crust",
     "k_shell",
     "main_core",
+    "onion_layers",
 ]
 
 

@@ -5,8 +5,8 @@ from __future__ import annotations
 import operator
 from typing import Any, Optional
 
-from . import _forms, _lists
-from ._graph import Graph
+from . import _forms, _layers, _lists
+from ._graph import ByIndex, Graph
 
 
 def core_numbers(edges: Any, vertices: Optional[int] = None, *, axis: Any = None, columns: Any = None, return_ids: bool = False) -> Any:
@@ -351,6 +351,50 @@ def k_corona(
     inside = _lists.counts_inside(graph.ends, core, k)
     shell = _lists.places_between(core, k, k)
     return graph.results.vertices(_lists.taken(shell, inside, k))
+
+
+def onion_layers(edges: Any, vertices: Optional[int] = None, *, axis: Any = None, columns: Any = None, return_ids: bool = False) -> Any:
+    """The layer of each vertex in the onion decomposition [1]_, as networkx numbers it.
+
+    Parameters
+    ----------
+    edges, vertices, axis, columns, return_ids
+        As `core_numbers` takes them.
+
+    Returns
+    -------
+    array of uint32, list of int, dict, or Series
+        The layer of each vertex, from 1 on, in the form of `core_numbers`. With `return_ids` a pair: layers and ids.
+
+    Raises
+    ------
+    NotAVertexError, ValueError, TypeError, MemoryError, RuntimeError
+        As `core_numbers` does.
+
+    Notes
+    -----
+    Vertices go round by round. Let k be the least number of neighbours that a vertex has left, or the k before where that is greater. All
+    vertices with at most k neighbours left go at once: they are the next layer, and their core number is k. So the layers of a lesser core
+    number come before those of a greater one, and each core number begins a layer of its own.
+
+    The core numbers are the library's, which are proved. The rounds are made of them in plain Python, or by NumPy where arrays come. They
+    are tested beside networkx, and not proved. The layers that the program `cores` writes are proved. Those begin anew with each core
+    number, at 0.
+
+    References
+    ----------
+    .. [1] L. Hébert-Dufresne, J. A. Grochow and A. Allard, "Multi-scale structure and topological anomaly detection via a new network
+       statistic: The onion decomposition", Scientific Reports 6 (2016), 31708.
+
+    Examples
+    --------
+    >>> onion_layers([(0, 1), (1, 2), (2, 0), (2, 3), (3, 4)])
+    [3, 3, 3, 2, 1]
+    """
+    graph = _read(edges, vertices, axis, columns, return_ids)
+    layers = _layers.onion_layers(graph, graph.core_numbers())
+    told = graph.results.numbers(layers)
+    return _told(graph, told.rename("onion_layer") if isinstance(graph.results, ByIndex) else told)
 
 
 def degeneracy(edges: Any, vertices: Optional[int] = None, *, axis: Any = None, columns: Any = None, return_ids: bool = False) -> int:

@@ -148,6 +148,22 @@ def k_corona(edges: _Array, k: int, vertices: Optional[int] = ..., *, axis: _Axi
 def k_corona(edges: _Listed, k: int, vertices: Optional[int] = ..., *, return_ids: bool = ...) -> List[int]: ...
 @overload
 def k_corona(edges: _NamedPairs[_Name], k: int) -> List[_Name]: ...
+@overload
+def onion_layers(edges: _Frame, *, columns: Optional[_Columns] = ...) -> Any: ...
+@overload
+def onion_layers(edges: _NetworkX[_Name]) -> Dict[_Name, int]: ...  # type: ignore[misc]
+@overload
+def onion_layers(edges: _Sparse) -> _Numbers: ...
+@overload
+def onion_layers(edges: _Array, vertices: Optional[int] = ..., *, axis: _Axis = ..., return_ids: Literal[False] = ...) -> _Numbers: ...  # type: ignore[misc]
+@overload
+def onion_layers(edges: _Array, vertices: Optional[int] = ..., *, axis: _Axis = ..., return_ids: Literal[True]) -> Tuple[_Numbers, _Ids]: ...  # type: ignore[misc]
+@overload
+def onion_layers(edges: _Listed, vertices: Optional[int] = ..., *, return_ids: Literal[False] = ...) -> List[int]: ...  # type: ignore[misc]
+@overload
+def onion_layers(edges: _Pairs, vertices: Optional[int] = ..., *, return_ids: Literal[True]) -> Tuple[List[int], List[int]]: ...
+@overload
+def onion_layers(edges: _NamedPairs[_Name]) -> Dict[_Name, int]: ...
 def degeneracy(
     edges: Union[_Frame, _NetworkX[Any], _Sparse, _Array, _Listed, _NamedPairs[Any]],
     vertices: Optional[int] = ...,

@@ -10,9 +10,9 @@ Examples
 
 from __future__ import annotations
 
-from typing import Any, Hashable, Iterable, List, Tuple
+from typing import Any
 
-from . import _forms
+from . import _forms, _measures
 from ._graph import Graph
 
 __all__ = ["degrees", "rings", "sizes"]
@@ -48,7 +48,7 @@ def sizes(edges: Any, *, ax: Any = None, **words: Any) -> Any:
     import numpy
 
     ax = _axes(ax)
-    counts = numpy.bincount(_numbers(_read(edges, words)))
+    counts = numpy.bincount(_measures.numbers(_read(edges, words)))
     members = counts[::-1].cumsum()[::-1]
     numbers = numpy.arange(len(counts))
     ax.step(numbers, members, where="mid", color="tab:blue", label="vertices of the k-core")
@@ -88,14 +88,14 @@ def degrees(edges: Any, *, marked: int = 10, ax: Any = None, **words: Any) -> An
 
     ax = _axes(ax)
     graph = _read(edges, words)
-    core, degree = _numbers(graph), _degrees(graph)
+    core, degree = _measures.numbers(graph), _measures.degrees(graph)
     # Vertices without neighbours lie nowhere on these axes.
     joined = degree > 0
     ax.scatter(degree[joined], core[joined], s=8, alpha=0.4, linewidths=0, color="tab:blue")
-    odds = numpy.abs(numpy.log(_ranks(degree)) - numpy.log(_ranks(core)))
+    odds = numpy.abs(numpy.log(_measures.ranks(degree)) - numpy.log(_measures.ranks(core)))
     far = [v for v in numpy.argsort(-odds, kind="stable")[:marked] if degree[v] and odds[v]]
     ax.scatter(degree[far], core[far], s=30, facecolors="none", edgecolors="tab:red", label=f"the {len(far)} that are farthest off")
-    for v, name in zip(far, _names(graph, far)):
+    for v, name in zip(far, _measures.names(graph, far)):
         ax.annotate(str(name), (degree[v], core[v]), xytext=(4, 4), textcoords="offset points", fontsize=7)
     ax.set(xlabel="degree", ylabel="core number", xscale="log", yscale="log")
     ax.set(xlim=(0.8, 1.5 * degree.max(initial=1)), ylim=(0.8, 1.5 * core.max(initial=1)))
@@ -136,8 +136,8 @@ def rings(edges: Any, *, ax: Any = None, **words: Any) -> Any:
     from matplotlib.ticker import MaxNLocator
 
     graph = _read(edges, words)
-    core, degree, pairs = _numbers(graph), _degrees(graph), _simple_edges(graph)
-    radius, angle = _radii(core, pairs), _angles(core, pairs)
+    core, degree, pairs = _measures.numbers(graph), _measures.degrees(graph), _measures.simple_edges(graph)
+    radius, angle = _radii(core, pairs), _measures.angles(core, pairs)
     places = numpy.stack([radius * numpy.cos(angle), radius * numpy.sin(angle)], axis=1)
     drawn = pairs[:: len(pairs) // _MOST_EDGES + 1]
     # Of few vertices dots are larger, and of few edges lines are darker.
@@ -165,46 +165,6 @@ def _read(edges: Any, words: Any) -> Graph:
     return _forms.read(edges, _forms.Words(**words))
 
 
-def _numbers(graph: Graph) -> Any:
-    """The core numbers as an array."""
-    import numpy
-
-    return numpy.asarray(graph.core_numbers(), dtype=numpy.int64)
-
-
-def _simple_edges(graph: Graph) -> Any:
-    """Each edge once, as a row, without loops."""
-    import numpy
-
-    pairs = numpy.sort(numpy.asarray(graph.ends).reshape(-1, 2).astype(numpy.int64), axis=1)
-    keys = numpy.unique(pairs[:, 0] * graph.vertices + pairs[:, 1]) if len(pairs) else pairs[:, 0]
-    rows = numpy.stack([keys // max(graph.vertices, 1), keys % max(graph.vertices, 1)], axis=1)
-    return rows[rows[:, 0] != rows[:, 1]]
-
-
-def _degrees(graph: Graph) -> Any:
-    """How many neighbours each vertex has."""
-    import numpy
-
-    return numpy.bincount(_simple_edges(graph).ravel(), minlength=graph.vertices)
-
-
-def _ranks(numbers: Any) -> Any:
-    """The rank of each number, 1 for the greatest; equal numbers share the mean of their ranks."""
-    import numpy
-
-    _, place, counts = numpy.unique(-numbers, return_inverse=True, return_counts=True)
-    return (counts.cumsum() - (counts - 1) / 2)[place]
-
-
-def _names(graph: Graph, listed: List[int]) -> Iterable[Hashable]:
-    """What the caller calls some vertices."""
-    import numpy
-
-    names: Iterable[Hashable] = graph.results.vertices(numpy.asarray(listed, dtype=numpy.int64))
-    return names
-
-
 def _radii(core: Any, pairs: Any) -> Any:
     """How far from the middle each vertex lies: by its own number, and a little by those of its neighbours that are no less."""
     import numpy
@@ -218,40 +178,3 @@ def _radii(core: Any, pairs: Any) -> Any:
     own = (top - core).astype(float)
     inner_mean = numpy.divide(total, count, out=own.copy(), where=count > 0)
     return 0.6 + 0.7 * own + 0.3 * inner_mean
-
-
-def _angles(core: Any, pairs: Any) -> Any:
-    """The angle of each vertex: the shell is spread over the circle, part by part."""
-    import numpy
-
-    part = _parts(core, pairs)
-    order = numpy.lexsort([part, core])
-    counts = numpy.bincount(core, minlength=1)
-    place = numpy.empty(len(core))
-    place[order] = numpy.arange(len(core)) - numpy.repeat(counts.cumsum() - counts, counts)
-    # Each shell begins at an angle of its own, so that they do not all begin in one line.
-    return 2 * numpy.pi * (place / numpy.maximum(counts[core], 1) + core * 0.381966)
-
-
-def _parts(core: Any, pairs: Any) -> Any:
-    """For each vertex the least vertex of the part of its shell that hangs together with it."""
-    import numpy
-
-    parent = list(range(len(core)))
-
-    def root(v: int) -> int:
-        while parent[v] != v:
-            parent[v] = parent[parent[v]]
-            v = parent[v]
-        return v
-
-    for u, v in _inside_a_shell(core, pairs):
-        first, second = root(u), root(v)
-        parent[max(first, second)] = min(first, second)
-    return numpy.array([root(v) for v in range(len(core))], dtype=numpy.int64)
-
-
-def _inside_a_shell(core: Any, pairs: Any) -> List[Tuple[int, int]]:
-    """The edges whose ends have the same core number."""
-    same: List[Tuple[int, int]] = pairs[core[pairs[:, 0]] == core[pairs[:, 1]]].tolist()
-    return same

@@ -51,6 +51,8 @@ assert_type(kcore.degeneracy_order(NodeGraph()), Tuple[Dict[str, int], List[str]
 assert_type(kcore.k_core(pairs), List[int])
 assert_type(kcore.k_core(named, 2), List[str])
 assert_type(kcore.k_shell(NodeGraph()), List[str])
+assert_type(kcore.onion_layers(named), Dict[str, int])
+assert_type(next(kcore.batches(array, 5)), kcore.Batch)
 assert_type(kcore.degeneracy(named), int)
 assert_type(kcore.check(pairs, [1, 1], [0, 1]), bool)
 assert_type(kcore.__version__, str)
