@@ -36,6 +36,7 @@ from ._certificate import Certificate, WrongEdgeError
 from ._cores import Cores
 from ._graph import NotAVertexError
 from ._library import __version__
+from ._report import report
 from ._temporal import Batch, BatchResult, batches
 
 __all__ = [
@@ -57,6 +58,7 @@ __all__ = [
     "k_shell",
     "main_core",
     "onion_layers",
+    "report",
 ]
 
 

@@ -162,8 +162,8 @@ def greatest(values: Any) -> int:
 
 
 def as_list(values: Any) -> List[Any]:
-    """The values as a list."""
-    return list(values.tolist() if is_array(values) else values)
+    """The values as a flat list: those of an array row by row."""
+    return list(values.ravel().tolist() if is_array(values) else values)
 
 
 def places_between(values: Any, least: int, most: int) -> Any:

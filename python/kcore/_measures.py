@@ -39,6 +39,14 @@ def ranks(values: Any) -> Any:
     return (counts.cumsum() - (counts - 1) / 2)[place]
 
 
+def far_off(core: Any, degree: Any, most: int) -> List[int]:
+    """So many vertices with neighbours whose rank by degree and rank by core number differ by the greatest factor, and differ at all."""
+    import numpy
+
+    odds = numpy.abs(numpy.log(ranks(degree)) - numpy.log(ranks(core)))
+    return [int(v) for v in numpy.argsort(-odds, kind="stable")[:most] if degree[v] and odds[v]]
+
+
 def names(graph: Graph, listed: List[int]) -> Iterable[Hashable]:
     """What the caller calls some vertices."""
     import numpy

@@ -92,8 +92,7 @@ def degrees(edges: Any, *, marked: int = 10, ax: Any = None, **words: Any) -> An
     # Vertices without neighbours lie nowhere on these axes.
     joined = degree > 0
     ax.scatter(degree[joined], core[joined], s=8, alpha=0.4, linewidths=0, color="tab:blue")
-    odds = numpy.abs(numpy.log(_measures.ranks(degree)) - numpy.log(_measures.ranks(core)))
-    far = [v for v in numpy.argsort(-odds, kind="stable")[:marked] if degree[v] and odds[v]]
+    far = _measures.far_off(core, degree, marked)
     ax.scatter(degree[far], core[far], s=30, facecolors="none", edgecolors="tab:red", label=f"the {len(far)} that are farthest off")
     for v, name in zip(far, _measures.names(graph, far)):
         ax.annotate(str(name), (degree[v], core[v]), xytext=(4, 4), textcoords="offset points", fontsize=7)

@@ -218,6 +218,17 @@ class ReplayTest(unittest.TestCase):
         self.assertEqual(next(results), (5, 10, {0: (1, 2), 1: (1, 2), 2: (1, 2)}, [2, 2, 2]))
         self.assertEqual(list(results), [])
 
+    @unittest.skipUnless(numpy and pandas, "NumPy or pandas is not installed")
+    def test_edges_of_arrays_and_frames_have_names_too(self):
+        array = numpy.array([(0, 1), (1, 2), (2, 0)])
+        cores = kcore.Cores(array, names=True)
+        self.assertEqual(cores.insert(array + 1), {3: (None, 2)})
+        frame = pandas.DataFrame([("a", "b"), ("b", "c"), ("c", "a")])
+        cores = kcore.Cores(frame)
+        self.assertEqual(cores.insert(frame.replace("a", "d")), {"d": (None, 2)})
+        self.assertEqual(cores.remove(frame[:1]), {"a": (2, 1)})
+        self.assertEqual(cores.remove(frame), {"a": (1, 0), "b": (2, 1), "c": (2, 1), "d": (2, 1)})
+
     def test_refusals_come_with_the_batch(self):
         cores = kcore.Cores()
         results = cores.replay(kcore.batches([(0, 1, 0), ("a", "b", 1)], 1))
