@@ -65,6 +65,7 @@ class Installs(unittest.TestCase):
         self.assertEqual(self.told_by_the_installed(), f"{kcore.__version__} {library} [1, 1]\n")
         self.assertTrue((self.target / "kcore" / "py.typed").exists())
         self.assertTrue((self.target / "kcore" / "_api.pyi").exists())
+        self.assertEqual(len(list((self.target / "kcore" / "_page").iterdir())), 3)
 
     def test_a_library_that_is_named(self):
         checkout(self.source, with_library=False)
@@ -87,6 +88,7 @@ class Installs(unittest.TestCase):
         self.assertRegex(wheel.name, rf"^kcore-{kcore.__version__}-py3-none-linux_\w+\.whl$")
         with zipfile.ZipFile(wheel) as files:
             self.assertIn("kcore/libkcore.so", files.namelist())
+            self.assertIn("kcore/_page/page.js", files.namelist())
             points = files.read(f"kcore-{kcore.__version__}.dist-info/entry_points.txt").decode()
         self.assertIn("[networkx.backends]\nkcore = kcore._networkx", points)
 

@@ -4,6 +4,7 @@ Skipped where selenium, Chromium or its driver is not installed: on Debian pytho
 names a folder, pictures of the pages are written there, light and dark, wide and narrow.
 """
 
+import base64
 import os
 import random
 import shutil
@@ -13,7 +14,7 @@ from pathlib import Path
 
 import kcore
 
-from .test_kcore import TOP, edges_of, numpy
+from .test_kcore import edges_of, numpy
 
 try:
     from selenium import webdriver
@@ -50,7 +51,7 @@ class InChromium(unittest.TestCase):
     def setUpClass(cls):
         options = Options()
         options.binary_location = CHROMIUM
-        for word in ("--headless=new", "--no-sandbox", "--disable-gpu", "--disable-dev-shm-usage", "--window-size=1200,1000"):
+        for word in ("--headless=new", "--no-sandbox", "--disable-gpu", "--disable-dev-shm-usage", "--hide-scrollbars", "--window-size=1200,1000"):
             options.add_argument(word)
         options.set_capability("goog:loggingPrefs", {"browser": "ALL", "performance": "ALL"})
         cls.browser = webdriver.Chrome(service=Service(DRIVER), options=options)
@@ -240,25 +241,31 @@ class InChromium(unittest.TestCase):
             self.assertLessEqual(self.browser.execute_script("return document.documentElement.scrollWidth"), width)
         self.browser.execute_cdp_cmd("Emulation.clearDeviceMetricsOverride", {})
 
-    @unittest.skipUnless(SHOTS, "KCORE_SHOTS names no folder")
-    def test_shots(self):
-        import base64
-
-        enron = [tuple(map(int, line.split())) for line in Path(SHOTS, "edges.txt").read_text().splitlines() if line[:1].isdigit()] if Path(SHOTS, "edges.txt").exists() else []
-        pages = {"karate": kcore.report(edges_of("karate"), title="Zachary's karate club"), "temporal": kcore.report((), kcore.batches(temporal(), 60, 200), "Over time")}
-        if enron:
-            pages["large"] = kcore.report(enron, title="A large graph")
-        for name, page in pages.items():
-            self.open(page)
-            for scheme in ("light", "dark"):
-                self.browser.execute_cdp_cmd("Emulation.setEmulatedMedia", {"features": [{"name": "prefers-color-scheme", "value": scheme}]})
-                for width in (1200, 390):
-                    self.browser.execute_cdp_cmd("Emulation.setDeviceMetricsOverride", {"width": width, "height": 900, "deviceScaleFactor": 1, "mobile": False})
-                    self.browser.execute_script("return new Promise((done) => requestAnimationFrame(() => requestAnimationFrame(done)))")
-                    shot = self.browser.execute_cdp_cmd("Page.captureScreenshot", {"captureBeyondViewport": True, "format": "png"})
-                    Path(SHOTS, f"{name}-{scheme}-{width}.png").write_bytes(base64.b64decode(shot["data"]))
+    def shoot(self, name, width, scheme):
+        """Writes a picture of the whole page as it is now."""
+        self.browser.execute_cdp_cmd("Emulation.setEmulatedMedia", {"features": [{"name": "prefers-color-scheme", "value": scheme}]})
+        self.browser.execute_cdp_cmd("Emulation.setDeviceMetricsOverride", {"width": width, "height": 900, "deviceScaleFactor": 1, "mobile": False})
+        self.browser.execute_script("return new Promise((done) => requestAnimationFrame(() => requestAnimationFrame(done)))")
+        shot = self.browser.execute_cdp_cmd("Page.captureScreenshot", {"captureBeyondViewport": True, "format": "png"})
+        Path(SHOTS, f"{name}-{scheme}-{width}.png").write_bytes(base64.b64decode(shot["data"]))
         self.browser.execute_cdp_cmd("Emulation.clearDeviceMetricsOverride", {})
         self.browser.execute_cdp_cmd("Emulation.setEmulatedMedia", {"features": []})
+
+    @unittest.skipUnless(SHOTS, "KCORE_SHOTS names no folder")
+    def test_shots(self):
+        draw = numpy.random.default_rng(1)
+        large = (draw.random((100_000, 2)) ** 3 * 20_000).astype("uint32")
+        pages = {
+            "karate": kcore.report(edges_of("karate"), title="Zachary's karate club"),
+            "temporal": kcore.report((), kcore.batches(temporal(), 60, 200), "Temporal"),
+            "large": kcore.report(large, title="Large"),
+        }
+        for name, page in pages.items():
+            self.open(page)
+            self.click(self.one("#sizes .hit[data-core='2']"))
+            for scheme in ("light", "dark"):
+                for width in (1200, 390):
+                    self.shoot(name, width, scheme)
 
 
 if __name__ == "__main__":

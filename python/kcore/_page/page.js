@@ -439,7 +439,9 @@
     shown = every.filter((v) => fits(v) && ranges.every(([values, from, to]) => values[v] >= from && values[v] <= to));
     const values = sorted.key === "name" ? nameRanks() : keys[sorted.key];
     const sign = sorted.down ? -1 : 1;
-    shown.sort((a, b) => sign * (values[a] - values[b]) || a - b);
+    // Equal ones stand by name, or as they came where sorting many names would take long.
+    const ties = data.names && count > 20_000 ? null : nameRanks();
+    shown.sort((a, b) => sign * (values[a] - values[b]) || (ties ? ties[a] - ties[b] : a - b));
     for (const head of byId("table").tHead.querySelectorAll("th")) {
       if (head.dataset.key === sorted.key) head.setAttribute("aria-sort", sorted.down ? "descending" : "ascending");
       else head.removeAttribute("aria-sort");
@@ -524,6 +526,17 @@
   const sizeAt = (place, k) => (k < time.sizes[place].length ? time.sizes[place][k] : 0);
   const interval = (place) => `${time.begin[place]} to ${time.end[place]}`;
 
+  // A line with a step for each batch, and none where no vertex is in the k-core.
+  function stepsOf(k, x, y) {
+    let path = "";
+    for (let i = 0; i < time.sizes.length; i += 1) {
+      const size = sizeAt(i, k);
+      const joins = i > 0 && sizeAt(i - 1, k) > 0;
+      if (size) path += `${joins ? "L" : "M"}${x(i).toFixed(1)} ${y(size).toFixed(1)}H${x(i + 1).toFixed(1)}`;
+    }
+    return path;
+  }
+
   function apart(labels, least, greatest) {
     labels.sort((a, b) => a.y - b.y);
     labels.forEach((label, place) => { if (place) label.y = Math.max(label.y, labels[place - 1].y + 13); });
@@ -545,13 +558,13 @@
     const y = logScale(0.7, greatest * 1.3, low, high);
     countAxis(place, y, greatest * 1.3, left, right);
     const labels = listed.map((k) => {
-      let step = "";
-      for (let i = 0; i < batches; i += 1) step += `${i ? "L" : "M"}${(left + i * band).toFixed(1)} ${y(sizeAt(i, k)).toFixed(1)}H${(left + (i + 1) * band).toFixed(1)}`;
-      svg.append(make("path", { class: `curve s${shadeOver(k, listed)}`, d: step }));
-      return { k, y: y(sizeAt(batches - 1, k)) + 4 };
+      svg.append(make("path", { class: `curve s${shadeOver(k, listed)}`, d: stepsOf(k, (i) => left + i * band, y) }));
+      let last = batches - 1;
+      while (last > 0 && !sizeAt(last, k)) last -= 1;
+      return { k, y: y(sizeAt(last, k)) + 4, gone: last < batches - 1 };
     });
     apart(labels, high + 4, low + 2);
-    for (const label of labels) svg.append(make("text", { x: width - right + 6, y: label.y }, `${written(label.k)}-core`));
+    for (const label of labels) svg.append(make("text", { x: width - right + 6, y: label.y, class: label.gone ? "gone" : "" }, `${written(label.k)}-core`));
     svg.append(make("path", { class: "axis", d: `M${left} ${low}H${width - right}` }));
     const hits = time.sizes.map((_, i) => {
       const hit = make("rect", { class: "hit", x: left + i * band, width: band, y: high, height: low - high });
