@@ -31,6 +31,8 @@ ${CC:-cc} $flags "$top/examples/c/core_numbers.c" "$build/libkcore.a" -o "$build
 ${CC:-cc} $flags $sanitized "$top/examples/c/core_numbers.c" "$build/libkcore.a" -o "$build/core_numbers_sanitized"
 ${CC:-cc} $flags "$top/examples/c/tally.c" "$build/libkcore.a" -o "$build/tally"
 ${CC:-cc} $flags $sanitized "$top/examples/c/tally.c" "$build/libkcore.a" -o "$build/tally_sanitized"
+${CC:-cc} $flags "$top/examples/c/rounds.c" "$build/libkcore.a" -o "$build/rounds"
+${CC:-cc} $flags $sanitized "$top/examples/c/rounds.c" "$build/libkcore.a" -o "$build/rounds_sanitized"
 ${CC:-cc} $flags "$top/examples/c/keep.c" "$build/libkcore.a" -o "$build/keep"
 ${CC:-cc} $flags $sanitized "$top/examples/c/keep.c" "$build/libkcore.a" -o "$build/keep_sanitized"
 for program in no_memory keep_no_memory; do
@@ -81,6 +83,23 @@ for program in tally tally_sanitized; do
       echo "edge twice 12 loop 10 turned 11 past the vertices 4 before its range 12"; } | cmp - "$build/found"
 done
 echo "tally: karate in two pieces; each number that is one off is refused, and each wrong edge with its status"
+{ echo 'no offsets 17 0'; echo 'few offsets 17 0'; echo 'not from zero 18 0'; echo 'descending 19 2'; echo 'a long row 20 1'
+  echo 'not to the end 21 0'; echo 'past the end 21 0'; echo 'no vertex 4 2'; } > "$build/wrong_shards"
+# The numbers of a graph's lines, and how many rounds there are with the one that changes none.
+wanted_rounds() {
+    { printf "$2"; echo "rounds $3"; cat "$build/wrong_shards"; } > "$build/wanted"
+    printf "$1" | "$build/$program" | cmp "$build/wanted"
+}
+for program in rounds rounds_sanitized; do
+    wanted_rounds '' '' 1
+    wanted_rounds '0 1\n1 2\n2 3\n3 4\n' '0 1\n1 1\n2 1\n3 1\n4 1\n' 3
+    wanted_rounds '3 0\n3 1\n3 2\n3 4\n' '0 1\n1 1\n2 1\n3 1\n4 1\n' 2
+    wanted_rounds '# a triangle\n0 1\n1 2\n2 0\n2 3\n3 2\n' '0 2\n1 2\n2 2\n3 1\n' 2
+    "$build/core_numbers" < "$top/graphs/karate.txt" > "$build/wanted"
+    "$build/$program" < "$top/graphs/karate.txt" > "$build/found"
+    head -n 34 "$build/found" | cmp "$build/wanted"
+    echo "$program: $(sed -n 35p "$build/found") on karate in two shards"
+done
 for program in keep keep_sanitized; do
     printf '+ 0 1\n+ 1 2\n+ 2 0\n+ 2 3\n\n# the tail closes\n+\t3 0\r\n+ 0 3\n+ 1 1\n\n\n- 1 0\n+ 5 4' | "$build/$program" > "$build/found"
     printf 'batch 1 changed 4\n0 0 2\n1 0 2\n2 0 2\n3 0 1\nbatch 2 changed 1\n3 1 2\nbatch 3 changed 2\n1 2 1\n4 0 1\n5 0 1\n' > "$build/wanted"

@@ -5,7 +5,7 @@
  *
  * A graph is its number of vertices, which are then the numbers below it, and a list of edges. Loops are dropped, and an edge that is
  * listed again, in either direction, counts once. The list may be in any order. At most 4,294,967,295 vertices are allowed. kcore_tally
- * alone takes pieces of a list, in which each edge stands once and in order.
+ * alone takes pieces of a list, in which each edge stands once and in order, and kcore_h_index_round takes rows of neighbours.
  *
  * What a caller owes, and nothing checks:
  *   - each pointer leads to as many initialized values as the length beside it says, is aligned for their type, and is not null, even
@@ -56,7 +56,7 @@ enum kcore_status {
     KCORE_WRONG_CORE_LENGTH = 1,    /* `core` has not one place for each vertex. */
     KCORE_WRONG_ORDER_LENGTH = 2,   /* `order` has not one place for each vertex. */
     KCORE_WRONG_MEMBERS_LENGTH = 3, /* `members` has not one place for each vertex. */
-    KCORE_NOT_A_VERTEX = 4,         /* An end of edges[number] or updates[number] is no vertex, and of nothing before it in the list. */
+    KCORE_NOT_A_VERTEX = 4,         /* An end of edges[number] or updates[number], or neighbours[number], is no vertex: the first such. */
     KCORE_NO_MEMORY = 5,            /* There is no memory for the graph or the work. */
     KCORE_NOT_CERTIFIED = 6,        /* kcore_check: the order does not certify the numbers. */
     KCORE_WRONG_RANK_LENGTH = 7,    /* `rank` has not one place for each vertex. */
@@ -68,7 +68,12 @@ enum kcore_status {
     KCORE_NOT_AGREED = 13,          /* kcore_verdict: the counts do not agree with the numbers. */
     KCORE_NOT_OPEN = 14,            /* kcore_keeper_..: no keeper lies at the place, since it could not be opened. */
     KCORE_TOO_MANY_VERTICES = 15,   /* kcore_keeper_..: there are more than KCORE_KEEPER_VERTICES vertices. */
-    KCORE_TOO_FEW_VERTICES = 16     /* kcore_keeper_grow: there are more vertices than these already. */
+    KCORE_TOO_FEW_VERTICES = 16,    /* kcore_keeper_grow: there are more vertices than these already. */
+    KCORE_WRONG_OFFSETS_LENGTH = 17, /* kcore_h_index_round: `offsets` has not one place more than `next`. */
+    KCORE_NOT_FROM_ZERO = 18,       /* kcore_h_index_round: offsets[0] is not 0. */
+    KCORE_DESCENDING = 19,          /* kcore_h_index_round: offsets[number] is less than the offset before it. */
+    KCORE_LONG_ROW = 20,            /* kcore_h_index_round: the row `number` has 2^32 entries or more. */
+    KCORE_WRONG_LAST_OFFSET = 21    /* kcore_h_index_round: the last offset is not neighbours_len. */
 };
 
 struct kcore_answer {
@@ -197,6 +202,30 @@ KCORE_LOOK_AT_ANSWER struct kcore_answer kcore_tally(uint32_t vertices, struct k
  */
 KCORE_LOOK_AT_ANSWER struct kcore_answer kcore_verdict(uint32_t vertices, const uint32_t *core, size_t core_len, const uint32_t *later,
                                                        size_t later_len, const uint32_t *supporters, size_t supporters_len);
+
+/* A round of h-indices for some rows, as an engine makes it on each of its machines. A row has the neighbours of one vertex, in any order,
+ * and next[i] becomes the h-index of their numbers: the greatest k for which at least k of them are at least k. Where the rows are those
+ * of all vertices of a simple graph, the numbers begin at the degrees, and rounds are made until one changes no number, then they are the
+ * core numbers. The rows may lie in any pieces; all rounds but the first have to be made from the numbers of the round before.
+ *
+ *   offsets     offsets_len places, where offsets_len has to be next_len + 1: 0, and then for each row before which entry it ends
+ *   neighbours  the neighbours_len entries of all rows, one row after the other
+ *   numbers     the present number of each vertex; numbers_len is how many vertices there are
+ *   next        a place for each row. What it holds before matters only to the answer
+ *
+ * Statuses: KCORE_DONE, where `number` is how many places of `next` had another number before; so where the caller leaves there what the
+ * round before wrote, it is 0 where the round changed nothing. KCORE_WRONG_OFFSETS_LENGTH, KCORE_NOT_FROM_ZERO; then of the first row that
+ * is wrong KCORE_DESCENDING or KCORE_LONG_ROW; KCORE_WRONG_LAST_OFFSET, KCORE_NOT_A_VERTEX, KCORE_NO_MEMORY, tested in this order.
+ * Cost: time linear in the rows and the entries; memory of 4 bytes for each entry of the longest row.
+ *
+ *     uint64_t offsets[] = {0, 2, 4, 7, 8};
+ *     uint32_t neighbours[] = {1, 2, 0, 2, 0, 1, 3, 2}, numbers[4] = {2, 2, 3, 1}, next[4] = {2, 2, 3, 1};
+ *     answer = kcore_h_index_round(offsets, 5, neighbours, 8, numbers, 4, next, 4);
+ *     // answer.status is KCORE_DONE, answer.number is 1, and next is 2, 2, 2, 1
+ */
+KCORE_LOOK_AT_ANSWER struct kcore_answer kcore_h_index_round(const uint64_t *offsets, size_t offsets_len, const uint32_t *neighbours,
+                                                             size_t neighbours_len, const uint32_t *numbers, size_t numbers_len,
+                                                             uint32_t *next, size_t next_len);
 
 /* A keeper: a graph that lives across calls, with core numbers that are kept right while edges come and go.
  *

@@ -2,9 +2,10 @@
 //!
 //! A graph is given by its number of vertices, which are the numbers below it, and a list of edges: loops are dropped, and an edge that
 //! is listed again, in either direction, counts once (`kc_graph/specs/Bulk.antt`). `kcore_tally` alone takes a piece of the edges, in which
-//! each stands once. Each function calls one of `kc_graph`, `kc_cert`, `kc_tally` or `kc_keeper` and promises what that one does. Those
-//! below have no `requires`, since nothing checks a caller in C: each argument is tested, and the `status` of the answer says what was
-//! wrong. Where it is not 0 nothing was written. Those of `keeper.rt` have one premise, on the place that the caller owns.
+//! each stands once, and `kcore_h_index_round` takes rows of neighbours. Each function calls one of `kc_graph`, `kc_cert`, `kc_tally`,
+//! `kc_shard` or `kc_keeper` and promises what that one does. But for those of `keeper.rt` they have no `requires`, since nothing checks a
+//! caller in C: each argument is tested, and the `status` of the answer says what was wrong. Where it is not 0 nothing was written. Those
+//! of `keeper.rt` have one premise, on the place that the caller owns.
 //!
 //! | Status | Meaning | `number` |
 //! |---|---|---|
@@ -12,7 +13,7 @@
 //! | 1 | `core` has not one place for each vertex | 0 |
 //! | 2 | `order` has not one place for each vertex | 0 |
 //! | 3 | `members` has not one place for each vertex | 0 |
-//! | 4 | an end of an edge or of an update is no vertex | where the first such stands |
+//! | 4 | an end of an edge or of an update, or an entry of a row, is no vertex | where the first such stands |
 //! | 5 | there is no memory | of `kcore_keeper_apply` how many updates were made before, else 0 |
 //! | 6 | the order does not certify the numbers | 0 |
 //! | 7, 8, 9 | `rank`, `later` or `supporters` has not one place for each vertex | 0 |
@@ -23,6 +24,11 @@
 //! | 14 | no keeper lies at the place, since it could not be opened | 0 |
 //! | 15 | there are more vertices than a keeper can have | 0 |
 //! | 16 | there are more vertices than these already | 0 |
+//! | 17 | `offsets` has not one place more than `next` | 0 |
+//! | 18 | the first offset is not 0 | 0 |
+//! | 19 | an offset is less than the one before it | where the first such stands |
+//! | 20 | a row has 2^32 entries or more | which row, as the first of these |
+//! | 21 | the last offset is not the number of entries | 0 |
 //!
 //! `include/kcore.h` declares the functions for C, and `examples/c` calls them. `kcore_version` tells which version of them is linked.
 #![tactic(auto)]
@@ -32,6 +38,9 @@ mod calls;
 mod keeper;
 mod keeping;
 mod members;
+#[cfg(test)]
+mod round_tests;
+mod rounds;
 mod tallying;
 #[cfg(test)]
 mod tests;
@@ -58,6 +67,7 @@ pub use crate::keeper::{
     kcore_keeper_size, kcore_keeper_update,
 };
 pub use crate::keeping::{CallEnd, Content, KeeperPlace};
+pub use crate::rounds::kcore_h_index_round;
 use crate::tallying::{Keys, judge, tally_piece};
 pub use crate::updates::GivenUpdate;
 use kc_graph::Edge;
