@@ -11,6 +11,9 @@ edge that is listed again, in either direction, counts once. An array of `numpy.
 Edges that are read in pieces, or lie on many machines, are for `Certificate`: it tells whether numbers from anywhere are the core numbers
 of all of them, with memory for the vertices alone.
 
+`h_index_round` makes a round of h-indices for some of the vertices. Rounds on many machines, from the degrees until one changes nothing, find
+the core numbers.
+
 `Cores` keeps the core numbers of a graph right while edges come and go, at the cost of what each update concerns. `batches` makes updates
 of edges with times, and `Cores.replay` follows them.
 
@@ -37,6 +40,7 @@ from ._cores import Cores
 from ._graph import NotAVertexError
 from ._library import __version__
 from ._report import report
+from ._rounds import WrongRowsError, h_index_round
 from ._temporal import Batch, BatchResult, batches
 
 __all__ = [
@@ -46,12 +50,14 @@ __all__ = [
     "Cores",
     "NotAVertexError",
     "WrongEdgeError",
+    "WrongRowsError",
     "__version__",
     "batches",
     "check",
     "core_numbers",
     "degeneracy",
     "degeneracy_order",
+    "h_index_round",
     "k_core",
     "k_corona",
     "k_crust",

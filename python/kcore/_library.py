@@ -10,6 +10,7 @@ from typing import Any
 DONE, WRONG_CORE_LENGTH, WRONG_ORDER_LENGTH, WRONG_MEMBERS_LENGTH, NOT_A_VERTEX, NO_MEMORY, NOT_CERTIFIED = range(7)
 WRONG_RANK_LENGTH, WRONG_LATER_LENGTH, WRONG_SUPPORTERS_LENGTH, LOOP, GREATER_FIRST, NOT_ABOVE, NOT_AGREED = range(7, 14)
 NOT_OPEN, TOO_MANY_VERTICES, TOO_FEW_VERTICES = range(14, 17)
+WRONG_OFFSETS_LENGTH, NOT_FROM_ZERO, DESCENDING, LONG_ROW, WRONG_LAST_OFFSET = range(17, 22)
 
 #: How many vertices a keeper can have, as KCORE_KEEPER_VERTICES of include/kcore.h has it.
 KEEPER_VERTICES = 524288
@@ -102,6 +103,7 @@ check = _function("kcore_check", *_edges, *_numbers, *_numbers)
 k_core = _function("kcore_k_core", *_edges, _number, *_numbers)
 tally = _function("kcore_tally", Edge, *_edges, *_numbers, *_numbers, *_numbers, *_numbers)
 verdict = _function("kcore_verdict", *_numbers, *_numbers, *_numbers)
+h_index_round = _declared("kcore_h_index_round", Answer, *_numbers, *_numbers, *_numbers, *_numbers)
 keeper_size = _declared("kcore_keeper_size", _length)
 keeper_align = _declared("kcore_keeper_align", _length)
 keeper_open = _keeper_function("kcore_keeper_open", _number, *_edges)

@@ -55,6 +55,9 @@ assert_type(kcore.onion_layers(named), Dict[str, int])
 assert_type(next(kcore.batches(array, 5)), kcore.Batch)
 assert_type(kcore.degeneracy(named), int)
 assert_type(kcore.check(pairs, [1, 1], [0, 1]), bool)
+assert_type(kcore.h_index_round(array, array, array), Numbers)
+assert_type(kcore.h_index_round([0, 1], [0], [1]), List[int])
+assert_type(kcore.h_index_round(array, array, array, kcore.core_numbers(array)), int)
 assert_type(kcore.__version__, str)
 '''
 
