@@ -1,0 +1,77 @@
+//! Why a text is no certificate.
+ghost use Rattle.std.specs.Prelude.{◌≡◌};
+ghost use Rattle.kc_claims.specs.Certificates.{id_of};
+
+use crate::claim::Claim;
+use kc_graph::NoMemory;
+use kc_text::Refusal;
+
+/// Why a text gives no claims.
+#[derive(Clone, Copy, Debug, PartialEq, Eq)]
+pub enum TextFault {
+    /// A line is refused.
+    Refused(Refusal),
+    /// There is no memory for the claims.
+    NoMemory,
+}
+
+impl From<NoMemory> for TextFault {
+    ghost use Rattle.std.specs.Prelude.{◌≡◌};
+    ghost use Rattle.kc_claims.specs.declared.fault.TextFault.{TextFault};
+
+    ghost from_gives = { λ _ fault. fault ≡ TextFault.NoMemory };
+
+    fn from(_: NoMemory) -> TextFault {
+        TextFault::NoMemory
+    }
+}
+
+/// What shows that claims are no certificate, as the first that applies.
+#[derive(Clone, Copy, Debug, PartialEq, Eq)]
+pub enum ClaimFault {
+    /// The id is not one of the graph.
+    Unknown(Claim),
+    /// An earlier line has the id too.
+    Repeated(Claim),
+    /// No line has this id of the graph.
+    Missing(u32),
+    /// The id has so many neighbours behind it, more than the number that it is told.
+    ManyLater(Claim, u64),
+    /// The id has only so many neighbours that are told its number or more.
+    FewSupporters(Claim, u64),
+}
+
+impl ClaimFault {
+    /// The id that is at fault.
+    pub fn id(self) -> u32
+        ensures { result ≡ id_of self }
+    {
+        match self {
+            ClaimFault::Unknown(claim)
+            | ClaimFault::Repeated(claim)
+            | ClaimFault::ManyLater(claim, _)
+            | ClaimFault::FewSupporters(claim, _) => claim.id,
+            ClaimFault::Missing(id) => id,
+        }
+    }
+}
+
+/// Why claims are not taken for a certificate.
+#[derive(Clone, Copy, Debug, PartialEq, Eq)]
+pub enum CheckFault {
+    /// They are none.
+    Faulty(ClaimFault),
+    /// There is no memory for the check.
+    NoMemory,
+}
+
+impl From<NoMemory> for CheckFault {
+    ghost use Rattle.std.specs.Prelude.{◌≡◌};
+    ghost use Rattle.kc_claims.specs.declared.fault.CheckFault.{CheckFault};
+
+    ghost from_gives = { λ _ fault. fault ≡ CheckFault.NoMemory };
+
+    fn from(_: NoMemory) -> CheckFault {
+        CheckFault::NoMemory
+    }
+}
