@@ -97,7 +97,7 @@ def h_index_round(offsets: Union[Array, Listed], neighbours: Union[Array, Listed
 def h_index_round(offsets: Any, neighbours: Any, numbers: Any, out: Any = None) -> Any:
     """One round of h-indices for some rows of a graph.
 
-    A row has the neighbours of one vertex. It gets the h-index of their numbers: the greatest k for which at least k of them are at least k.
+    A row has the neighbours of one vertex. It gets the h-index of their numbers: the greatest k for which at least k are at least k.
     Where the rows are those of all vertices of a simple graph, in any pieces, and the numbers begin at the degrees, and rounds are made
     until one changes no number, the numbers are the core numbers [1]_ [2]_. Each row's number is the library's, whose contract is proved.
 

@@ -23,8 +23,8 @@ fn fault_answer(fault: ShardFault) -> CallResult
 }
 
 /// Writes to each place of `next` the h-index of the numbers of a row's entries: the greatest k for which at least k of them are at least
-/// k. `numbers` has a number for each vertex, `neighbours` the entries of all rows, and `offsets` one place more than there are rows: 0, and
-/// then for each row before which entry it ends. `number` is how many places of `next` had another number before.
+/// k. `numbers` has a number for each vertex, `neighbours` the entries of all rows, and `offsets` one place more than there are rows: 0,
+/// and then for each row before which entry it ends. `number` is how many places of `next` had another number before.
 #[unsafe(no_mangle)]
 pub extern "C" fn kcore_h_index_round(
     alloc: Global,
