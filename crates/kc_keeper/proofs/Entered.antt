@@ -1,20 +1,66 @@
 -- What an entry, and a run that opens anew, are to who sees graph, core numbers and order alone.
-use Rattle.std.proofs.Common.{◌≡◌, ◌≤◌, ◌<◌, ◌-◌, ℕ, get_or, sym, ap, ◌∙◌, subst, arith}
+use Rattle.std.proofs.Common.{◌≡◌, ◌≤◌, ◌<◌, ◌+◌, ◌-◌, ℕ, true, length, get_or, refl, sym, ap, ◌∙◌, subst, arith}
+use Rattle.std.specs.List.{All}
+use Rattle.kc_lists.specs.Lists.{member}
+use Rattle.kc_lists.proofs.Counting.{member-get_or}
+use Rattle.kc_lists.proofs.Members.{member-append_left}
 use Rattle.kc_graph.specs.SimpleGraph.{SimpleGraph}
 use Rattle.kc_graph.specs.Growing.{grown, with_vertices}
 use Rattle.kc_graph.specs.Lawful.{IsCertified, Ranked}
-use Rattle.kc_graph.specs.Plans.{is_applied, updated}
+use Rattle.kc_graph.specs.Plans.{is_applied, moved_by, updated}
+use Rattle.kc_graph.specs.declared.plan.Moves.{Moves}
+use Rattle.kc_graph.specs.declared.plan.Moves.TheVariants.{Kept, Plain, Rise, Fall}
 use Rattle.kc_graph.specs.declared.plan.Plan.{Plan}
 use Rattle.kc_graph.specs.declared.update.Update.{Update}
 use Rattle.kc_graph.proofs.Grown.{graph-grown, grown-same, new-with_more, old-with_more}
+use Rattle.kc_cert.specs.Local.{firsts, moved_vertices}
+use Rattle.kc_cert.specs.Stands.{leaving}
+use Rattle.kc_cert.proofs.Holding.{length-renumbered, renumbered-other}
 use Rattle.kc_table.specs.Log.{PassSeen, TableName}
 use Rattle.kc_table.specs.Edges.{after_entry, after_entries}
 use Rattle.kc_agree.proofs.Neighbouring.{after_entries-push}
 use Rattle.kc_journal.specs.Answers.{IsEntered}
-use Rattle.kc_journal.specs.Entering.{entry_of}
+use Rattle.kc_journal.specs.Entering.{IsCurrent, MayEnter, entry_of}
 use Rattle.kc_journal.specs.Journals.{Journalled, OpensRun, Stands, ranked}
 use Rattle.kc_journal.specs.declared.answer.Entered.{Entered}
+use Rattle.kc_journal.proofs.AfterEntry.{right-here}
+use Rattle.kc_keeper.specs.Earlier.{Renumbers}
 use Rattle.kc_keeper.specs.Keepers.{FitTogether, IsUpdated}
+
+-- moves change the numbers of those alone that leave their level
+renumbered-by : (moves : Moves) (s : Ranked) → Renumbers moves s.core (moved_by moves s).core
+renumbered-by Kept s = record { long = refl; others = λ v none. refl }
+renumbered-by Plain s = record { long = refl; others = λ v none. refl }
+renumbered-by (Rise level rise shifts) s = record {
+  long = length-renumbered rise.items (level + 1) s.core;
+  others = λ v none. renumbered-other rise.items (level + 1) s.core v none;
+}
+renumbered-by (Fall level fall) s = record {
+  long = length-renumbered fall.items (level - 1) s.core;
+  others = λ v none. renumbered-other fall.items (level - 1) s.core v none;
+}
+
+-- and so does a plan that was entered
+pub entered-renumbers : {old new : Journalled} {index : ℕ} {plan : Plan} {entered : Entered} → IsEntered old new index plan entered
+    → Renumbers plan.moves old.levels.core new.levels.core
+entered-renumbers {old} {new} {index} {plan} e =
+    subst (Renumbers plan.moves old.levels.core) (sym (ap (λ (s : Ranked). s.core) e.state)) (renumbered-by plan.moves (ranked old))
+
+-- what leaves its level moves
+leaving-moves : (moves : Moves) (x : ℕ) → member x (leaving moves) ≡ true → member x (moved_vertices moves) ≡ true
+leaving-moves Kept x m = m
+leaving-moves Plain x m = m
+leaving-moves (Rise level rise shifts) x m = member-append_left x rise.items (firsts shifts.items) m
+leaving-moves (Fall level fall) x m = m
+
+-- a plan that may be entered changes the numbers of vertices
+pub leaving-within : (j : Journalled) (plan : Plan) → Stands j → MayEnter j plan → IsCurrent j plan
+    → All (λ v. v < length j.levels.core) (leaving plan.moves)
+leaving-within j plan h may current = λ k d low.
+    let fit = (right-here j plan h may current).0.moves_fit in
+    let v : ℕ = get_or (leaving plan.moves) k d in
+    let m : member v (leaving plan.moves) ≡ true = member-get_or (leaving plan.moves) k d low in
+    omega (arith, (fit.of_level v (leaving-moves plan.moves v m)).vertex, h.certified.one_each)
 
 -- an update that was entered is made
 pub entered-updates : {old new : Journalled} {index : ℕ} {plan : Plan} {entered : Entered} (update : Update) → plan.update ≡ update → Stands old

@@ -1,55 +1,45 @@
 -- Updates in turn: one more at the end of those that were made.
-use Rattle.std.proofs.Common.{◌≡◌, ◌<◌, ◌≤◌, ◌+◌, ◌&&◌, not, ℕ, zero, suc, Bool, true, false, List, [], ◌∷◌, length, take, get_or, cond}
-use Rattle.std.proofs.Common.{add-one, refl, sym, ap, ◌∙◌, arith}
-use Rattle.kc_graph.specs.SimpleGraph.{SimpleGraph}
+use Rattle.std.proofs.Common.{◌≡◌, ◌<◌, ◌≤◌, ◌+◌, ◌&&◌, not, ℕ, Bool, true, false, List, [], ◌∷◌, ◌++◌, length, get_or, take, cond, refl, sym, ap, ◌∙◌}
+use Rattle.std.proofs.Common.{arith, length-append, subst}
+use Rattle.std.proofs.lemmas.List.{take_more}
 use Rattle.kc_graph.specs.Core.{AreCoreNumbers}
 use Rattle.kc_graph.specs.Lawful.{IsCertified, Ranked}
-use Rattle.kc_graph.specs.Edges.{with_edge, without_edge}
+use Rattle.kc_graph.specs.SimpleGraph.{SimpleGraph}
 use Rattle.kc_graph.specs.Plans.{is_applied, updated}
 use Rattle.kc_graph.specs.declared.update.Update.{Update}
-use Rattle.kc_keeper.specs.Batches.{made_in_turn, count_applied}
-
-after-suc : (g : SimpleGraph) (us : List Update) (i : ℕ) (d : Update) → i < length us
-    → made_in_turn g (take (suc i) us) ≡ updated (get_or us i d) (made_in_turn g (take i us))
-after-suc g [] i d low = absurd (omega arith)
-after-suc g (u ∷ us) zero d low = refl
-after-suc g (u ∷ us) (suc i) d low = after-suc (updated u g) us i d (omega arith)
+use Rattle.kc_cert.proofs.Keeping.{size-updated}
+use Rattle.kc_keeper.specs.Batches.{applied_in_turn, count_applied, made_in_turn}
+use Rattle.kc_keeper.specs.Earlier.{KeepsEarlier}
+use Rattle.kc_keeper.specs.Telling.{IsToldOf, TellsOneMore}
+use Rattle.kc_keeper.specs.declared.changes.Changes.{Changes}
+use Rattle.kc_keeper.specs.declared.earlier.EarlierNumbers.{EarlierNumbers}
 
 -- the graph after one update more
-pub after-next : (g : SimpleGraph) (us : List Update) (i : ℕ) (d : Update) → i < length us
-    → made_in_turn g (take (i + 1) us) ≡ updated (get_or us i d) (made_in_turn g (take i us))
-after-next g us i d low = rw add-one (after-suc g us i d low)
-
-count-suc : (is : Update → Bool) (g : SimpleGraph) (us : List Update) (i : ℕ) (d : Update) → i < length us
-    → count_applied is g (take (suc i) us)
-    ≡ count_applied is g (take i us) + cond (is (get_or us i d) && is_applied (get_or us i d) (made_in_turn g (take i us))) 1 0
-count-suc is g [] i d low = absurd (omega arith)
-count-suc is g (u ∷ us) zero d low = omega arith
-count-suc is g (u ∷ us) (suc i) d low = omega (arith, count-suc is (updated u g) us i d (omega arith))
+pub made-push : (g : SimpleGraph) (us : List Update) (u : Update) → made_in_turn g (us ++ u ∷ []) ≡ updated u (made_in_turn g us)
+made-push g [] u = refl
+made-push g (x ∷ us) u = made-push (updated x g) us u
 
 -- how many were applied, with one update more
-pub count-next : (is : Update → Bool) (g : SimpleGraph) (us : List Update) (i : ℕ) (d : Update) → i < length us
-    → count_applied is g (take (i + 1) us)
-    ≡ count_applied is g (take i us) + cond (is (get_or us i d) && is_applied (get_or us i d) (made_in_turn g (take i us))) 1 0
-count-next is g us i d low = rw add-one (count-suc is g us i d low)
+count-push : (is : Update → Bool) (g : SimpleGraph) (us : List Update) (u : Update)
+    → count_applied is g (us ++ u ∷ []) ≡ count_applied is g us + cond (is u && is_applied u (made_in_turn g us)) 1 0
+count-push is g [] u = omega arith
+count-push is g (x ∷ us) u = omega (arith, count-push is (updated x g) us u)
 
-size-of-either : (b : Bool) (g : SimpleGraph) (u v : ℕ) → (cond b (with_edge g u v) (without_edge g u v)).size ≡ g.size
-size-of-either true g u v = refl
-size-of-either false g u v = refl
+-- what is put behind others stays there with one more in front of all
+put-in_front : (a b : Bool) (x u : Update) (all us : List Update) → all ≡ cond b (us ++ u ∷ []) us
+    → cond a (x ∷ all) all ≡ cond b (cond a (x ∷ us) us ++ u ∷ []) (cond a (x ∷ us) us)
+put-in_front true true x u all us is = ap (λ (z : List Update). x ∷ z) is
+put-in_front true false x u all us is = ap (λ (z : List Update). x ∷ z) is
+put-in_front false true x u all us is = is
+put-in_front false false x u all us is = is
 
--- an update leaves the vertices as they are
-pub updated-size : (u : Update) (g : SimpleGraph) → (updated u g).size ≡ g.size
-updated-size u g = size-of-either u.add g u.u u.v
-
--- So many updates are made, and counted.
-pub record MadeSoFar (old : SimpleGraph) (us : List Update) (made : ℕ) (now : Ranked) (added removed : ℕ) : Type 0 where
-  pub graph : now.graph ≡ made_in_turn old (take made us)
-  pub size : now.graph.size ≡ old.size
-  pub certified : IsCertified now
-  pub seidman : AreCoreNumbers now.graph now.core
-  pub added_are : added ≡ count_applied (λ u. u.add) old (take made us)
-  pub removed_are : removed ≡ count_applied (λ u. not u.add) old (take made us)
-  pub few : added + removed ≤ made
+-- those that were applied, with one update more
+applied-push : (g : SimpleGraph) (us : List Update) (u : Update)
+    → applied_in_turn g (us ++ u ∷ []) ≡ cond (is_applied u (made_in_turn g us)) (applied_in_turn g us ++ u ∷ []) (applied_in_turn g us)
+applied-push g [] u = refl
+applied-push g (x ∷ us) u =
+    put-in_front (is_applied x g) (is_applied u (made_in_turn (updated x g) us)) x u (applied_in_turn (updated x g) (us ++ u ∷ []))
+    (applied_in_turn (updated x g) us) (applied-push (updated x g) us u)
 
 at-most-one : (x b : Bool) → cond (x && b) 1 0 + cond (not x && b) 1 0 ≤ 1
 at-most-one true true = omega arith
@@ -61,23 +51,43 @@ at-most-one false false = omega arith
 abbrev bit : Bool → ℕ
 bit b = cond b 1 0
 
--- one update more is made, and counted
-pub one-more : {old : SimpleGraph} {us : List Update} {i : ℕ} {k new : Ranked} {a r a' r' : ℕ} (d u : Update) (applied : Bool)
-    → MadeSoFar old us i k a r → i < length us → u ≡ get_or us i d → new.graph ≡ updated u k.graph → applied ≡ is_applied u k.graph → IsCertified new → AreCoreNumbers new.graph new.core
-    → a' ≡ a + cond (u.add && applied) 1 0 → r' ≡ r + cond (not u.add && applied) 1 0 → MadeSoFar old us (i + 1) new a' r'
-one-more {old} {us} {i} {k} {new} {a} {r} {a'} {r'} d u applied m low u-is graph applied-is certified seidman added removed =
-    let now : updated u k.graph ≡ updated (get_or us i d) (made_in_turn old (take i us)) = λ j. updated (u-is j) (m.graph j) in
-    let is : applied ≡ is_applied (get_or us i d) (made_in_turn old (take i us)) = applied-is ∙ λ j. is_applied (u-is j) (m.graph j) in
-    let add-is : u.add ≡ (get_or us i d).add = ap (λ (z : Update). z.add) u-is in
-    let a-is : bit (u.add && applied) ≡ bit ((get_or us i d).add && is_applied (get_or us i d) (made_in_turn old (take i us))) = λ j. bit (add-is j && is j) in
-    let r-is : bit (not u.add && applied) ≡ bit (not (get_or us i d).add && is_applied (get_or us i d) (made_in_turn old (take i us))) =
-    λ j. bit (not (add-is j) && is j) in
+-- one update more is told of, with whether it was applied
+pub told-more : {g : SimpleGraph} {old new : Changes} (u : Update) (applied : Bool) → applied ≡ is_applied u g
+    → new.added ≡ old.added + cond (u.add && applied) 1 0 → new.removed ≡ old.removed + cond (not u.add && applied) 1 0
+    → new.applied.items ≡ cond applied (old.applied.items ++ u ∷ []) old.applied.items → TellsOneMore g u old new
+told-more {g} {old} {new} u applied is added removed list = λ start made g-is told.
+    let now : applied ≡ is_applied u (made_in_turn start made) = is ∙ ap (is_applied u) g-is in
+    let a-is : bit (u.add && applied) ≡ bit (u.add && is_applied u (made_in_turn start made)) = ap (λ (b : Bool). bit (u.add && b)) now in
+    let r-is : bit (not u.add && applied) ≡ bit (not u.add && is_applied u (made_in_turn start made)) = ap (λ (b : Bool). bit (not u.add && b)) now in
     record {
-      graph = graph ∙ (now ∙ sym (after-next old us i d low));
-      size = ap (λ (g : SimpleGraph). g.size) graph ∙ (updated-size u k.graph ∙ m.size);
+      added = omega (arith, added, told.added, a-is, count-push (λ z. z.add) start made u);
+      removed = omega (arith, removed, told.removed, r-is, count-push (λ z. not z.add) start made u);
+      applied = list ∙ ((λ j. cond (now j) (told.applied j ++ u ∷ []) (told.applied j)) ∙ sym (applied-push start made u));
+      few = omega (arith, told.few, added, removed, at-most-one u.add applied, length-append made (u ∷ []));
+    }
+
+-- So many updates are made and told of, and the numbers from before them are kept.
+pub record MadeSoFar (start : Ranked) (kept : EarlierNumbers) (us : List Update) (made : ℕ) (now : Ranked) (changes : Changes) (earlier : EarlierNumbers)
+    : Type 0 where
+  pub graph : now.graph ≡ made_in_turn start.graph (take made us)
+  pub told : IsToldOf start.graph (take made us) changes
+  pub size : now.graph.size ≡ start.graph.size
+  pub certified : IsCertified now
+  pub seidman : AreCoreNumbers now.graph now.core
+  pub keeps : KeepsEarlier start.core now.core kept earlier
+
+-- one update more is made, and told of
+pub one-more : {start : Ranked} {kept : EarlierNumbers} {us : List Update} {i : ℕ} {now new : Ranked} {changes after : Changes} {earlier later : EarlierNumbers}
+    (d u : Update) → MadeSoFar start kept us i now changes earlier → i < length us → u ≡ get_or us i d → new.graph ≡ updated u now.graph
+    → TellsOneMore now.graph u changes after → KeepsEarlier now.core new.core earlier later → IsCertified new → AreCoreNumbers new.graph new.core
+    → MadeSoFar start kept us (i + 1) new after later
+one-more {start} {kept} {us} {i} {now} {new} {changes} {after} {earlier} {later} d u m low u-is graph tells keeps certified seidman =
+    let more : take (i + 1) us ≡ take i us ++ u ∷ [] = take_more us i d low ∙ ap (λ (z : Update). take i us ++ z ∷ []) (sym u-is) in
+    record {
+      graph = graph ∙ (ap (updated u) m.graph ∙ (sym (made-push start.graph (take i us) u) ∙ ap (made_in_turn start.graph) (sym more)));
+      told = subst (λ (z : List Update). IsToldOf start.graph z after) (sym more) (tells start.graph (take i us) m.graph m.told);
+      size = ap (λ (g : SimpleGraph). g.size) graph ∙ (size-updated u now.graph ∙ m.size);
       certified = certified;
       seidman = seidman;
-      added_are = omega (arith, added, m.added_are, a-is, count-next (λ z. z.add) old us i d low);
-      removed_are = omega (arith, removed, m.removed_are, r-is, count-next (λ z. not z.add) old us i d low);
-      few = omega (arith, m.few, added, removed, at-most-one u.add applied);
+      keeps = λ first h. keeps first (m.keeps first h);
     }

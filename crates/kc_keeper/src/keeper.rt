@@ -1,16 +1,21 @@
 //! A graph with its core numbers, kept right while edges come and go.
-ghost use Rattle.std.specs.Prelude.{◌≡◌, ◌<◌, ◌≤◌, ◌⊎◌, ℕ, IfErr, IfOk, MatchOption, OnErr, nat_lt, not, slice_index};
+ghost use Rattle.std.specs.Prelude.{◌≡◌, ◌<◌, ◌≤◌, ◌+◌, ◌⊎◌, ℕ, [], IfErr, IfOk, MatchOption, OnErr, OnOk, nat_lt, not};
+ghost use Rattle.std.specs.Prelude.{slice_index};
 ghost use Rattle.kc_lists.specs.Lists.{place_of};
 ghost use Rattle.kc_graph.specs.Core.{AreCoreNumbers};
 ghost use Rattle.kc_graph.specs.Growing.{grown, with_vertices};
 ghost use Rattle.kc_graph.specs.Lawful.{IsCertified};
 ghost use Rattle.kc_graph.specs.Plans.{is_applied, updated};
-ghost use Rattle.kc_keeper.specs.Batches.{count_applied, made_in_turn};
-ghost use Rattle.kc_keeper.specs.Causes.{IsApplyCause, IsGrowCause, IsOpenCause, IsUpdateCause};
+ghost use Rattle.kc_keeper.specs.Batches.{applied_in_turn, count_applied, made_in_turn, updates_made};
+ghost use Rattle.kc_keeper.specs.Causes.{EndsAreWithin, IsApplyCause, IsGrowCause, IsOpenCause, IsUpdateCause};
+ghost use Rattle.kc_keeper.specs.Cores.{AreCoreChanges};
+ghost use Rattle.kc_keeper.specs.Earlier.{KeepsEarlier};
 ghost use Rattle.kc_keeper.specs.Keepers.{IsUpdated};
+ghost use Rattle.kc_keeper.specs.Telling.{IsToldOf, TellsOneMore, TellsTheSame};
 
 use crate::changes::Changes;
-use crate::entering::{enter, first_outside};
+use crate::earlier::EarlierNumbers;
+use crate::entering::{enter_plan, first_outside, plan_update};
 use crate::fault::{ApplyFault, GrowFault, OpenFault, UpdateFault};
 use kc_graph::{Lawful, NoMemory, SharedGraph, Update};
 use kc_journal::{EnterFault, Journal};
@@ -19,6 +24,7 @@ use kc_view::Scratch;
 use kc_words::VERTICES;
 use std::alloc::Global;
 use std::marker::Model;
+use std::mem;
 
 /// How many entries the history may have however few edges there are.
 const SHORT_HISTORY: u64 = 65_536;
@@ -31,6 +37,7 @@ pub struct Keeper {
     journal: Journal,
     pass: Pass,
     scratch: Scratch,
+    earlier: EarlierNumbers,
 }
 
 impl Model for Keeper {
@@ -65,6 +72,7 @@ impl Keeper {
             journal,
             pass,
             scratch,
+            earlier: EarlierNumbers::new(alloc),
         })
     }
 
@@ -153,36 +161,109 @@ impl Keeper {
         if update.v >= self.vertices() {
             return Err(UpdateFault::NoVertex { vertex: update.v });
         }
-        let made = self.make(alloc, update);
+        let mut earlier = self.take_earlier(alloc);
+        let made = self.make(alloc, update, &mut earlier);
+        self.earlier = earlier;
         self.recall_certified();
         Ok(made?)
     }
 
-    /// Makes updates in turn, and changes those that changed the graph. Where an end of one is no vertex, none is made. Where there is no
-    /// memory for one, those before it are made, and it and the others are not.
-    pub fn apply(&mut self, alloc: Global, updates: &[Update]) -> Result<Changes, ApplyFault>
-        ensures graph { IfOk result (λ _. self.new.graph ≡ made_in_turn self.old.graph updates.now) }
-        ensures added { IfOk result (λ changes. changes.added ≡ count_applied (λ u. u.add) self.old.graph updates.now) }
-        ensures removed { IfOk result (λ changes. changes.removed ≡ count_applied (λ u. not u.add) self.old.graph updates.now) }
+    /// Makes updates in turn, and tells what they changed: how many added their edge and how many removed it, which changed the graph, and
+    /// which vertices have another core number after the call than before it. What `changes` held before is forgotten. Where an end of an
+    /// update is no vertex, none is made, and nothing has changed. Where there is no memory for one, those before it are made, it and the
+    /// others are not, and `changes` tells of those that are.
+    ///
+    /// Beside what the updates cost, it takes the time of sorting the vertices whose core numbers the updates moved. The first update of a
+    /// keeper that moves one makes room for a place of each vertex, as does the first after the keeper has grown.
+    pub fn apply(
+        &mut self,
+        alloc: Global,
+        updates: &[Update],
+        changes: &mut Changes,
+    ) -> Result<(), ApplyFault>
+        ensures graph { self.new.graph ≡ made_in_turn self.old.graph (updates_made result updates.now) }
+        ensures added { changes.new.added ≡ count_applied (λ u. u.add) self.old.graph (updates_made result updates.now) }
+        ensures removed { changes.new.removed ≡ count_applied (λ u. not u.add) self.old.graph (updates_made result updates.now) }
+        ensures applied { changes.new.applied.items ≡ applied_in_turn self.old.graph (updates_made result updates.now) }
+        ensures cores { AreCoreChanges self.old.core self.new.core changes.new.cores.items }
         ensures cause { IfErr result (λ fault. IsApplyCause self.old updates.now self.new fault) }
         ensures certified { IsCertified self.new }
         ensures seidman { AreCoreNumbers self.new.graph self.new.core }
     {
         self.recall_certified();
+        changes.clear();
         if let Some((place, vertex)) = first_outside(updates, self.vertices()) {
             return Err(ApplyFault::NoVertex { place, vertex });
         }
-        let mut changes = Changes {
-            added: 0,
-            removed: 0,
-        };
+        let mut earlier = self.take_earlier(alloc);
+        let made = self.make_all(alloc, updates, changes, &mut earlier);
+        earlier.settle(self.core_numbers());
+        mem::swap(&mut changes.cores, &mut earlier.cores);
+        self.earlier = earlier;
+        made
+    }
+
+    /// The list of earlier numbers, empty. Nothing that contracts see changes.
+    fn take_earlier(&mut self, alloc: Global) -> EarlierNumbers
+        ensures same { self.new ≡ self.old }
+        ensures earlier { result.cores.items ≡ [] }
+    {
+        let mut earlier = mem::replace(&mut self.earlier, EarlierNumbers::new(alloc));
+        earlier.cores.clear();
+        earlier
+    }
+
+    /// Makes updates in turn, tells which changed the graph, and keeps the numbers from before of the vertices that they move.
+    fn make_all(
+        &mut self,
+        alloc: Global,
+        updates: &[Update],
+        changes: &mut Changes,
+        earlier: &mut EarlierNumbers,
+    ) -> Result<(), ApplyFault>
+        requires within { EndsAreWithin self.old.graph.size updates.now }
+        requires nothing { IsToldOf self.old.graph [] changes.old }
+        ensures graph { self.new.graph ≡ made_in_turn self.old.graph (updates_made result updates.now) }
+        ensures told { IsToldOf self.old.graph (updates_made result updates.now) changes.new }
+        ensures earlier { KeepsEarlier self.old.core self.new.core earlier.old earlier.new }
+        ensures cause { IfErr result (λ fault. IsApplyCause self.old updates.now self.new fault) }
+        ensures certified { IsCertified self.new }
+        ensures seidman { AreCoreNumbers self.new.graph self.new.core }
+    {
+        self.recall_certified();
         for (made, update) in updates.iter().enumerate() {
-            let Ok(applied) = self.update(alloc, *update) else {
+            let Ok(()) = self.make_one(alloc, *update, changes, earlier) else {
                 return Err(ApplyFault::NoMemory { made });
             };
-            changes = changes.with(update.add, applied);
         }
-        Ok(changes)
+        Ok(())
+    }
+
+    /// Makes an update, and tells whether it changed the graph.
+    fn make_one(
+        &mut self,
+        alloc: Global,
+        update: Update,
+        changes: &mut Changes,
+        earlier: &mut EarlierNumbers,
+    ) -> Result<(), NoMemory>
+        requires vertex { update.v < self.old.graph.size }
+        requires fits { changes.old.added + changes.old.removed < usize.MAX }
+        ensures graph { OnOk result (self.new.graph ≡ updated update self.old.graph) }
+        ensures told { OnOk result (TellsOneMore self.old.graph update changes.old changes.new) }
+        ensures same { OnErr result (self.new ≡ self.old) }
+        ensures untold { OnErr result (TellsTheSame changes.old changes.new) }
+        ensures earlier { KeepsEarlier self.old.core self.new.core earlier.old earlier.new }
+        ensures certified { IsCertified self.new }
+        ensures seidman { AreCoreNumbers self.new.graph self.new.core }
+    {
+        self.recall_certified();
+        changes.applied.reserve(1)?;
+        let made = self.make(alloc, update, earlier);
+        self.recall_certified();
+        let applied = made?;
+        changes.tell(update, applied);
+        Ok(())
     }
 
     /// Adds vertices behind the last one, until there are so many in all. They have no edges and core number 0, and the others keep their
@@ -228,59 +309,66 @@ impl Keeper {
     }
 
     /// Makes the update, in a fresh table where numbers or versions are spent.
-    fn make(&mut self, alloc: Global, update: Update) -> Result<bool, NoMemory>
+    fn make(
+        &mut self,
+        alloc: Global,
+        update: Update,
+        earlier: &mut EarlierNumbers,
+    ) -> Result<bool, NoMemory>
         requires vertex { update.v < self.old.graph.size }
         ensures made { IfOk result (λ applied. IsUpdated update self.old self.new applied) }
         ensures same { OnErr result (self.new ≡ self.old) }
+        ensures earlier { KeepsEarlier self.old.core self.new.core earlier.old earlier.new }
     {
         if self.has_long_history() {
             // Where there is no memory for that, the history goes on.
             let _ = self.forget_history(alloc);
         }
-        match self.enter(alloc, update) {
+        match self.enter(alloc, update, earlier) {
             Ok(applied) => Ok(applied),
             Err(EnterFault::NoMemory) => Err(NoMemory),
-            Err(_) => self.enter_anew(alloc, update),
+            Err(_) => self.enter_anew(alloc, update, earlier),
         }
     }
 
     /// Plans the update and enters it, where numbers and versions last.
-    fn enter(&mut self, alloc: Global, update: Update) -> Result<bool, EnterFault>
+    fn enter(
+        &mut self,
+        alloc: Global,
+        update: Update,
+        earlier: &mut EarlierNumbers,
+    ) -> Result<bool, EnterFault>
         requires vertex { update.v < self.old.graph.size }
         ensures made { IfOk result (λ applied. IsUpdated update self.old self.new applied) }
         ensures same { OnErr result (self.new ≡ self.old) }
+        ensures earlier { KeepsEarlier self.old.core self.new.core earlier.old earlier.new }
     {
         let _vertices = self.journal.vertices();
-        enter(
-            alloc,
-            &self.words,
-            &mut self.journal,
-            &mut self.pass,
-            &mut self.scratch,
-            update,
-        )
+        let Ok(plan) = plan_update(alloc, &self.journal, &mut self.scratch, earlier, update) else {
+            return Err(EnterFault::NoMemory);
+        };
+        enter_plan(&self.words, &mut self.journal, &mut self.pass, &plan)
     }
 
     /// Plans the update and enters it in a fresh table, where numbers and versions last: it is refused only for want of memory.
-    fn enter_anew(&mut self, alloc: Global, update: Update) -> Result<bool, NoMemory>
+    fn enter_anew(
+        &mut self,
+        alloc: Global,
+        update: Update,
+        earlier: &mut EarlierNumbers,
+    ) -> Result<bool, NoMemory>
         requires vertex { update.v < self.old.graph.size }
         ensures made { IfOk result (λ applied. IsUpdated update self.old self.new applied) }
         ensures same { OnErr result (self.new ≡ self.old) }
+        ensures earlier { KeepsEarlier self.old.core self.new.core earlier.old earlier.new }
     {
         self.journal.recall_stands();
         let vertices = self.journal.vertices();
         let (words, pass) = self.journal.restart(alloc, vertices, 0)?;
         self.words = words;
         self.pass = pass;
-        let entered = enter(
-            alloc,
-            &self.words,
-            &mut self.journal,
-            &mut self.pass,
-            &mut self.scratch,
-            update,
-        );
-        match entered {
+        let plan = plan_update(alloc, &self.journal, &mut self.scratch, earlier, update)?;
+        match enter_plan(&self.words, &mut self.journal, &mut self.pass, &plan) {
             Ok(applied) => Ok(applied),
             Err(fault) if fault == EnterFault::NoMemory => Err(NoMemory),
             Err(_) => unreachable!(),

@@ -10,10 +10,11 @@
 #![tactic(auto)]
 
 mod changes;
+mod earlier;
 mod entering;
 mod fault;
 mod keeper;
 
-pub use changes::Changes;
+pub use changes::{Changes, CoreChange};
 pub use fault::{ApplyFault, GrowFault, OpenFault, UpdateFault};
 pub use keeper::Keeper;
