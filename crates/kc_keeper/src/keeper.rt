@@ -11,12 +11,14 @@ ghost use Rattle.kc_keeper.specs.Causes.{EndsAreWithin, IsApplyCause, IsGrowCaus
 ghost use Rattle.kc_keeper.specs.Cores.{AreCoreChanges};
 ghost use Rattle.kc_keeper.specs.Earlier.{KeepsEarlier};
 ghost use Rattle.kc_keeper.specs.Keepers.{IsUpdated};
+ghost use Rattle.kc_keeper.specs.Members.{AreCoreMembers, AreLevelMembers};
 ghost use Rattle.kc_keeper.specs.Telling.{IsToldOf, TellsOneMore, TellsTheSame};
 
 use crate::changes::Changes;
 use crate::earlier::EarlierNumbers;
 use crate::entering::{enter_plan, first_outside, plan_update};
 use crate::fault::{ApplyFault, GrowFault, OpenFault, UpdateFault};
+use crate::members::{list_at_least, list_equal};
 use kc_graph::{Lawful, NoMemory, SharedGraph, Update};
 use kc_journal::{EnterFault, Journal};
 use kc_table::{Pass, Words};
@@ -137,6 +139,34 @@ impl Keeper {
         ensures { IfOk result (λ order. order.items ≡ self.now.order) }
     {
         self.journal.order(alloc)
+    }
+
+    /// Makes a list of the vertices of the k-core, in ascending order, in place of what the list held: those whose core number is at least `k`.
+    /// Where there is no memory for it the list is empty. It reads all core numbers, in time linear in the vertices.
+    pub fn core_members(&self, k: u32, members: &mut Vec<u32>) -> Result<(), NoMemory>
+        ensures members { OnOk result (AreCoreMembers self.now.graph k members.new.items) }
+        ensures emptied { OnErr result (members.new.items ≡ []) }
+    {
+        let _vertices = self.vertices();
+        let listed = list_at_least(k, self.core_numbers(), members);
+        if listed.is_err() {
+            members.clear();
+        }
+        listed
+    }
+
+    /// Makes a list of the vertices of core number `k`, in ascending order, in place of what the list held. Where there is no memory for it
+    /// the list is empty. It reads all core numbers, in time linear in the vertices.
+    pub fn level_members(&self, k: u32, members: &mut Vec<u32>) -> Result<(), NoMemory>
+        ensures members { OnOk result (AreLevelMembers self.now.graph k members.new.items) }
+        ensures emptied { OnErr result (members.new.items ≡ []) }
+    {
+        let _vertices = self.vertices();
+        let listed = list_equal(k, self.core_numbers(), members);
+        if listed.is_err() {
+            members.clear();
+        }
+        listed
     }
 
     /// Graph, core numbers and order as a `Lawful` of its own, which shares no list with the keeper. `NoMemory` comes where there is none

@@ -14,6 +14,7 @@ mod earlier;
 mod entering;
 mod fault;
 mod keeper;
+mod members;
 
 pub use changes::{Changes, CoreChange};
 pub use fault::{ApplyFault, GrowFault, OpenFault, UpdateFault};

@@ -1,0 +1,10 @@
+-- The vertices whose core number is no less than k are the k-core.
+use Rattle.std.proofs.lemmas.Result.{IfOk-weaker}
+use Rattle.kc_keeper.proofs.MembersOfCores.{are_core_members}
+use Rattle.kc_keeper.proofs.keeper.Keeper.core_members.Goals as goal
+
+pub returns-else-is_err-clause-members : goal.returns-else-is_err-clause-members
+returns-else-is_err-clause-members c =
+    IfOk-weaker c.list_at_least-listed.result _ _
+    (λ _ is. are_core_members c.args.self.now.graph c.core_numbers.result.now c.args.k _ c.core_numbers.ensures.seidman is)
+    c.list_at_least-listed.ensures
