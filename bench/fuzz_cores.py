@@ -5,13 +5,15 @@ usage: fuzz_cores.py [--cores PROGRAM] [--cases N] [--seed N]
 (default: crates/cores/out/cores beside this folder, 500 cases of seed 1)
 
 The model follows the definitions: core numbers by taking vertices away, k-cores and layers from these. Of `order` it tests that the lines
-certify the numbers. At last a reader goes away that has taken one line. An input that differs is printed, and the status is 1 then.
+certify the numbers. `check` is run on what `order` and `layers` write, and on the same with lines changed, swapped, left out, repeated or
+made foreign. At last a reader goes away that has taken one line. An input that differs is printed, and the status is 1 then.
 """
 import argparse
 import pathlib
 import random
 import subprocess
 import sys
+import tempfile
 
 TOP = pathlib.Path(__file__).resolve().parent.parent
 
@@ -98,6 +100,89 @@ def certifies(neighbours, core, lines):
     )
 
 
+def changed(draw, lines):
+    """Lines of a certificate, with one thing changed or none."""
+    lines = list(lines)
+    i, j = (draw.randrange(len(lines)), draw.randrange(len(lines))) if lines else (0, 0)
+    way = draw.randrange(9) if lines else draw.choice((0, 6, 8))
+    if way in (1, 2):
+        fields = lines[i].split("\t")
+        fields[way - 1 if way == 1 else draw.randrange(1, len(fields))] = str(draw.choice((0, 1, 2, 3, 7, 4_294_967_295)))
+        lines[i] = "\t".join(fields)
+    elif way == 3:
+        lines[i], lines[j] = lines[j], lines[i]
+    elif way == 4:
+        del lines[i]
+    elif way == 5:
+        lines.insert(j, lines[i])
+    elif way == 6:
+        lines.insert(j, draw.choice(("77777 1", "# a comment", "", "5", "5 x", "5 1 2 3", "4294967296 1")))
+    elif way == 7:
+        draw.shuffle(lines)
+    return lines
+
+
+def claims_of(lines):
+    """The claims of a certificate, by line, or the first line that is none."""
+    claims = []
+    for number, line in enumerate(lines, 1):
+        fields = line.split()
+        if not fields or fields[0][0] in "#%":
+            continue
+        if len(fields) not in (2, 3) or any(not field.isdigit() or int(field) > 4_294_967_295 for field in fields):
+            return number, None
+        claims.append((number, *map(int, fields)))
+    return None, claims
+
+
+def fault_of(neighbours, claims):
+    """The first fault of claims: the id, and what is told of it."""
+    told = {}
+    for place, (line, v, number, *rank) in enumerate(claims):
+        if v not in neighbours:
+            return v, f"line {line}: id {v} is not in the graph; "
+        if v in told:
+            return v, f"line {line}: id {v} is told twice; "
+        told[v] = (number, rank[0] if rank else place, v)
+    for v in neighbours:
+        if v not in told:
+            return v, f"id {v} of the graph has no line; "
+    for line, v, number, *_ in claims:
+        behind = sum(told[w] > told[v] for w in neighbours[v])
+        if behind > number:
+            return v, f"line {line}: id {v} is told core number {number}, but {behind} neighbours stand behind it\n"
+        beside = sum(told[w][0] >= number for w in neighbours[v])
+        if beside < number:
+            return v, f"line {line}: id {v} is told core number {number}, but only {beside} neighbours are told as much or more\n"
+    return None
+
+
+def is_checked(program, neighbours, text, lines, certificate):
+    """Whether the check of these lines ends as the model says."""
+    certificate.write_text("".join(line + "\n" for line in lines))
+    refused, claims = claims_of(lines)
+    status, answer, told = run(program, ("check", str(certificate)), text)
+    start = f"cores: {certificate}: "
+    if refused:
+        return (status, answer) == (3, "") and told.startswith(f"{start}line {refused}: ")
+    fault = fault_of(neighbours, claims)
+    if fault is None:
+        return (status, answer, told) == (0, "yes\n", "")
+    return (status, answer) == (1, f"no\t{fault[0]}\n") and told.startswith(start + fault[1])
+
+
+def wrong_checks(program, draw, text, place):
+    """The certificates whose check differs: one as it is written and some that are changed, for each command that writes them."""
+    neighbours = graph_of(text)
+    for command in ("order", "layers", "numbers"):
+        lines = run(program, (command,), text)[1].splitlines()
+        tries = [changed(draw, lines) for _ in range(4)]
+        right = [] if command == "numbers" else [lines]
+        for found in right + tries:
+            if not is_checked(program, neighbours, text, found, place / "certificate"):
+                yield "check", repr(found)
+
+
 def is_quiet(program):
     """Whether a reader that goes away after a line ends the run without a word, and with status 0."""
     text = "".join(f"{i} {i + 1}\n" for i in range(200_000))
@@ -139,13 +224,15 @@ def main():
     for case in range(chosen.cases):
         draw = random.Random(f"{chosen.seed} {case}")
         text, k = text_of(draw), draw.randrange(6)
-        for found in faults(chosen.cores, text, k):
-            wrong += 1
-            print(f"case {case}: cores {' '.join(found)} differs on {text!r}")
+        with tempfile.TemporaryDirectory() as place:
+            checks = wrong_checks(chosen.cores, draw, text, pathlib.Path(place))
+            for found in (*faults(chosen.cores, text, k), *checks):
+                wrong += 1
+                print(f"case {case}: cores {' '.join(found)} differs on {text!r}")
     if not is_quiet(chosen.cores):
         wrong += 1
         print("cores numbers: a reader that goes away is told as a fault")
-    print(f"{chosen.cases} cases of seed {chosen.seed}, eight commands each: {wrong or 'none'} wrong")
+    print(f"{chosen.cases} cases of seed {chosen.seed}, eight commands and fourteen checks each: {wrong or 'none'} wrong")
     sys.exit(1 if wrong else 0)
 
 

@@ -11,11 +11,13 @@ use kc_cores::std_input::StdInput;
 use kc_cores::std_pipe::StdPipe;
 use kc_io::std_sink::StdSink;
 use std::env;
+use std::io;
 use std::process::ExitCode;
 
 fn main(rt: HostRuntime) -> ExitCode {
     let mut streams = CoresStreams {
         input: StdInput::new(&rt, rt.stdin()),
+        certificate: StdInput::new(&rt, io::empty()),
         out: StdPipe::new(rt.stdout()),
         err: StdSink::new(rt.stderr()),
     };

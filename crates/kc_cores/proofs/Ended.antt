@@ -48,6 +48,8 @@ refuses-of status.Refused task file known before after bytes n kind right took h
 refuses-of status.Unopened task file known before after bytes n kind right took here refuses = inr (inl refl)
 refuses-of status.ReadFault task file known before after bytes n kind right took here refuses = inr (inr (inl refl))
 refuses-of status.NoMemory task file known before after bytes n kind right took here refuses = inr (inr (inr refl))
+refuses-of status.Certified task file known before after bytes n kind right took here refuses = absurd took
+refuses-of status.Uncertified task file known before after bytes n kind right took here refuses = absurd took
 
 -- where the bytes of a task mean a graph, the run is not refused
 complete-of : (end : CoresStatus) (task : Task) (file known before after : Option (List ℕ)) (line bytes : List ℕ) (told : Told)
@@ -61,6 +63,8 @@ complete-of status.ReadFault task file known before after line bytes told right 
 complete-of status.ReaderGone task file known before after line bytes told right took says here means = inr (inr (inr (inl refl)))
 complete-of status.WriteFault task file known before after line bytes told right took says here means = inr (inr (inr (inr (inl refl))))
 complete-of status.NoMemory task file known before after line bytes told right took says here means = inr (inr (inr (inr (inr refl))))
+complete-of status.Certified task file known before after line bytes told right took says here means = absurd took
+complete-of status.Uncertified task file known before after line bytes told right took says here means = absurd took
 complete-of status.Usage task file known before after line bytes told right took says here means = absurd (right refl)
 complete-of status.Shown task file known before after line bytes told right (text, reply, took) says here means = absurd reply
 complete-of status.Refused task file known before after line bytes told right took (n, kind, is, refuses) here means =
@@ -173,6 +177,8 @@ module _ {I O : Type 0} (source : sources.Ghosts I) (behind : I → List ℕ →
         reader = left;
       })
   CoresEnded-cut task file ids core text summary g status.Done line i i' o o' graph numbers lines sums faultless took rose h = absurd h
+  CoresEnded-cut task file ids core text summary g status.Certified line i i' o o' graph numbers lines sums faultless took rose h = absurd h
+  CoresEnded-cut task file ids core text summary g status.Uncertified line i i' o o' graph numbers lines sums faultless took rose h = absurd h
   CoresEnded-cut task file ids core text summary g status.Shown line i i' o o' graph numbers lines sums faultless took rose h = absurd h
   CoresEnded-cut task file ids core text summary g status.Usage line i i' o o' graph numbers lines sums faultless took rose h = absurd h
   CoresEnded-cut task file ids core text summary g status.Refused line i i' o o' graph numbers lines sums faultless took rose h = absurd h
@@ -232,4 +238,6 @@ module _ {I O : Type 0} (source : sources.Ghosts I) (behind : I → List ℕ →
   CoresEnded-no_graph task file status.Shown line i i' o h = absurd h
   CoresEnded-no_graph task file status.Usage line i i' o h = absurd h
   CoresEnded-no_graph task file status.WriteFault line i i' o h = absurd h
+  CoresEnded-no_graph task file status.Certified line i i' o h = absurd h
+  CoresEnded-no_graph task file status.Uncertified line i i' o h = absurd h
   CoresEnded-no_graph task file status.ReaderGone line i i' o h = absurd h

@@ -1,3 +1,5 @@
+pub mod Checked
+pub mod Claiming
 pub mod Ended
 pub mod Graphs
 pub mod Listed

@@ -21,6 +21,8 @@ refused-no_graph status.Usage line n kind known f f' h m kept = absurd h
 refused-no_graph status.Unopened line n kind known f f' h m kept = absurd h
 refused-no_graph status.ReadFault line n kind known f f' h m kept = absurd h
 refused-no_graph status.WriteFault line n kind known f f' h m kept = absurd h
+refused-no_graph status.Certified line n kind known f f' h m kept = absurd h
+refused-no_graph status.Uncertified line n kind known f f' h m kept = absurd h
 refused-no_graph status.ReaderGone line n kind known f f' h m kept = absurd h
 
 -- an ending by a refusal says why there is no graph

@@ -11,7 +11,7 @@ use Rattle.clap.specs.Kinds.{Kinds}
 use Rattle.kc_cores.specs.Answers.{IsTextFor, graph_meaning}
 use Rattle.kc_cores.specs.Inputs.{known_bytes}
 use Rattle.kc_cores.specs.Sentences.{no_memory_line, read_fault_line, refused_line, unopened_line, unopened_short_line, write_fault_line}
-use Rattle.kc_cores.specs.Wishes.{Asks, MayReply, Replies, Wish}
+use Rattle.kc_cores.specs.Wishes.{Asks, Checks, MayReply, Replies, Wish}
 use Rattle.kc_cores.specs.declared.CoresStatus.{CoresStatus}
 use Rattle.kc_cores.specs.declared.CoresStatus.TheVariants as status
 use Rattle.kc_cores.specs.declared.input.OpenFault.{OpenFault}
@@ -20,11 +20,13 @@ use Rattle.kc_cores.specs.declared.request.Task.{Task}
 -- the bytes that a run reads, where they are known
 abbrev pub given_bytes : {I : Type 0} → (I → Option (List ℕ)) → (I → List ℕ → Option (List ℕ)) → Wish → I → Option (List ℕ)
 given_bytes left behind (Asks task file) i = known_bytes left behind file i
+given_bytes left behind (Checks name file) i = None
 given_bytes left behind (Replies kinds) i = None
 
 -- the lines and the summary of what was read, which is all of the input where it is known
 abbrev pub IsAnswerTo : Wish → Option (List ℕ) → List ℕ → List ℕ → Type 0
 IsAnswerTo (Asks task file) known text summary = (bytes : List ℕ) × IfSome known (λ all. bytes ≡ all) × IsTextFor task bytes text summary
+IsAnswerTo (Checks name file) known text summary = ⊥
 IsAnswerTo (Replies kinds) known text summary = ⊥
 
 -- all of a text was taken, with this fact about it
@@ -38,6 +40,7 @@ TookPrefix P before after = (text : List ℕ) × P text × ((n : ℕ) × (n ≤ 
 -- what a run has to write: the lines that are asked for, or help or the version
 abbrev pub IsOutputFor : Wish → Option (List ℕ) → List ℕ → Type 0
 IsOutputFor (Asks task file) known text = (summary : List ℕ) × IsAnswerTo (Asks task file) known text summary
+IsOutputFor (Checks name file) known text = ⊥
 IsOutputFor (Replies kinds) known text = MayReply true (Replies kinds)
 
 -- what the sink of the lines took at each status
@@ -51,6 +54,8 @@ TookAt status.Refused wish known before after = Appends before after []
 TookAt status.Unopened wish known before after = Appends before after []
 TookAt status.ReadFault wish known before after = Appends before after []
 TookAt status.NoMemory wish known before after = Appends before after []
+TookAt status.Certified wish known before after = ⊥
+TookAt status.Uncertified wish known before after = ⊥
 
 -- what became of the input's count of faults at each status: it rose where a file was not opened or a call failed, and else it stayed
 abbrev pub FaultsAt : CoresStatus → ℕ → ℕ → Type 0
@@ -63,6 +68,8 @@ FaultsAt status.Refused before after = after ≡ before
 FaultsAt status.WriteFault before after = after ≡ before
 FaultsAt status.ReaderGone before after = after ≡ before
 FaultsAt status.NoMemory before after = after ≡ before
+FaultsAt status.Certified before after = after ≡ before
+FaultsAt status.Uncertified before after = after ≡ before
 
 -- what became of the count of faults of the sink of the lines: it rose where a write failed, and else it stayed
 abbrev pub WriteFaultsAt : CoresStatus → ℕ → ℕ → Type 0
@@ -75,6 +82,8 @@ WriteFaultsAt status.Refused before after = after ≡ before
 WriteFaultsAt status.Unopened before after = after ≡ before
 WriteFaultsAt status.ReadFault before after = after ≡ before
 WriteFaultsAt status.NoMemory before after = after ≡ before
+WriteFaultsAt status.Certified before after = after ≡ before
+WriteFaultsAt status.Uncertified before after = after ≡ before
 
 -- whether the reader of the lines is gone, where a write failed
 abbrev pub ReaderAt : CoresStatus → Bool → Type 0
@@ -107,6 +116,8 @@ IsLineAt status.ReadFault wish known line = line ≡ read_fault_line
 IsLineAt status.WriteFault wish known line = line ≡ write_fault_line
 IsLineAt status.ReaderGone wish known line = line ≡ []
 IsLineAt status.NoMemory wish known line = line ≡ no_memory_line
+IsLineAt status.Certified wish known line = ⊥
+IsLineAt status.Uncertified wish known line = ⊥
 
 -- A run for what the words ask for has ended with this status, and `told` is the line about it. `i` is its input and `o` the sink of its
 -- lines, each before and after; `source`, `behind`, `out` and `gone` say what is known of them.

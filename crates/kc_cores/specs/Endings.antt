@@ -1,20 +1,29 @@
 -- Where a run ends, and what is replied to words.
-use Rattle.std.specs.Prelude.{◌≡◌, ℕ, Bool, List, [], Option, Some, IfSome, false, option_map, string_bytes, true, ⊤}
+use Rattle.std.specs.Prelude.{◌≡◌, ◌⊎◌, ◌≤◌, ℕ, Bool, Result, Err, List, [], length, take, Option, Some, IfSome, false, option_map, string_bytes, true, ⊤}
+use Rattle.std.specs.Io.KnownBytes.{Appends}
 use Rattle.kc_io.specs.Causes.{Rose}
 use Rattle.clap.specs.declared.error.kind.ErrorKind.{ErrorKind}
 use Rattle.kc_text.specs.Meaning.{Refuses}
 use Rattle.kc_text.specs.declared.kind.Kind.{Kind}
+use Rattle.kc_text.specs.declared.refusal.Refusal.{Refusal}
+use Rattle.kc_claims.specs.declared.claim.Claim.{Claim}
+use Rattle.kc_claims.specs.declared.fault.ClaimFault.{ClaimFault}
 use Rattle.kc_cores.specs.Answers.{graph_meaning}
+use Rattle.kc_cores.specs.CheckEnded.{certificate_meaning}
 use Rattle.kc_cores.specs.CoresEnded.{IsUnopenedLine}
 use Rattle.kc_cores.specs.Sentences.{no_memory_line, read_fault_line, refused_line, write_fault_line}
-use Rattle.kc_cores.specs.Wishes.{Asks, MayReply, Wish, is_shown}
+use Rattle.kc_cores.specs.Verdicts.{claim_refused_line, fault_line, no_line}
+use Rattle.kc_cores.specs.Wishes.{Asks, Checks, MayReply, Wish, is_shown}
 use Rattle.kc_cores.specs.declared.CoresStatus.{CoresStatus}
 use Rattle.kc_cores.specs.declared.CoresStatus.TheVariants as status
 use Rattle.kc_cores.specs.declared.ending.Ending.{Ending}
 use Rattle.kc_cores.specs.declared.input.OpenFault.{OpenFault}
 use Rattle.kc_cores.specs.declared.message.Message.{Message}
 use Rattle.kc_cores.specs.declared.message.Message.TheVariants.{Fixed, Made}
+use Rattle.kc_cores.specs.declared.request.CheckRequest.{CheckRequest}
 use Rattle.kc_cores.specs.declared.request.Request.{Request}
+use Rattle.kc_cores.specs.declared.request.Wanted.{Wanted}
+use Rattle.kc_cores.specs.declared.request.Wanted.TheVariants as wanted
 use Rattle.kc_cores.specs.declared.words.Reply.{Reply}
 use Rattle.kc_cores.specs.declared.words.Reply.TheVariants as reply
 
@@ -65,6 +74,64 @@ CutAt status.ReaderGone line gone = (line ≡ []) × (gone ≡ true)
 CutAt status.WriteFault line gone = (line ≡ write_fault_line) × (gone ≡ false)
 CutAt _ line gone = ⊥
 
+-- why there are no claims of the certificate of this name, where `known` are its bytes if they are known
+abbrev pub NoClaimsAt : CoresStatus → List ℕ → List ℕ → Option (List ℕ) → ℕ → ℕ → Type 0
+NoClaimsAt status.Unopened line name known before after = (fault : OpenFault) × IsUnopenedLine name fault line × Rose before after
+NoClaimsAt status.Refused line name known before after =
+    (refusal : Refusal) × (line ≡ claim_refused_line name refusal) × IfSome known (λ text. certificate_meaning text ≡ Err refusal) × (after ≡ before)
+NoClaimsAt status.ReadFault line name known before after = (line ≡ read_fault_line) × Rose before after
+NoClaimsAt status.NoMemory line name known before after = (line ≡ no_memory_line) × (after ≡ before)
+NoClaimsAt _ line name known before after = ⊥
+
+-- the run ends since the certificate gives no claims
+abbrev pub HasNoClaims : Ending → List ℕ → Option (List ℕ) → ℕ → ℕ → Type 0
+HasNoClaims ending name known before after = NoClaimsAt ending.status (line_of ending) name known before after
+
+-- a refusal of a line of the certificate, or want of memory for it
+abbrev pub ClaimRefusalAt : CoresStatus → List ℕ → List ℕ → Refusal → Type 0
+ClaimRefusalAt status.Refused line name refusal = line ≡ claim_refused_line name refusal
+ClaimRefusalAt status.NoMemory line name refusal = line ≡ no_memory_line
+ClaimRefusalAt _ line name refusal = ⊥
+
+-- the run ends by this refusal
+abbrev pub TellsClaimRefusal : Ending → List ℕ → Refusal → Type 0
+TellsClaimRefusal ending name refusal = ClaimRefusalAt ending.status (line_of ending) name refusal
+
+-- why there are no claims of a text with this meaning: it is refused, or there is no memory
+abbrev pub RefusesClaimsAt : CoresStatus → List ℕ → List ℕ → Result (List Claim) Refusal → Type 0
+RefusesClaimsAt status.Refused line name meaning = (refusal : Refusal) × (line ≡ claim_refused_line name refusal) × (meaning ≡ Err refusal)
+RefusesClaimsAt status.NoMemory line name meaning = line ≡ no_memory_line
+RefusesClaimsAt _ line name meaning = ⊥
+
+-- the run ends since a text with this meaning gives no claims
+abbrev pub RefusesClaims : Ending → List ℕ → Result (List Claim) Refusal → Type 0
+RefusesClaims ending name meaning = RefusesClaimsAt ending.status (line_of ending) name meaning
+
+-- a text was said whole, and the run ends as it was to; or a write failed
+abbrev pub HasSaid : Ending → Ending → List ℕ → Option (List ℕ) → Option (List ℕ) → ℕ → ℕ → Type 0
+HasSaid ending wanted text before after faults faults' =
+    ((ending ≡ wanted) × Appends before after text × (faults' ≡ faults))
+    ⊎ ((ending.status ≡ status.WriteFault) × (line_of ending ≡ write_fault_line)
+    × ((n : ℕ) × (n ≤ length text) × Appends before after (take n text)) × Rose faults faults')
+
+-- what was said of a fault of the certificate of this name at each status
+abbrev pub RefutedAt : CoresStatus → List ℕ → List ℕ → ClaimFault → Option (List ℕ) → Option (List ℕ) → ℕ → ℕ → Type 0
+RefutedAt status.Uncertified line name fault before after faults faults' =
+    Appends before after (no_line fault) × (line ≡ fault_line name fault) × (faults' ≡ faults)
+RefutedAt status.WriteFault line name fault before after faults faults' =
+    ((n : ℕ) × (n ≤ length (no_line fault)) × Appends before after (take n (no_line fault))) × (line ≡ write_fault_line) × Rose faults faults'
+RefutedAt status.NoMemory line name fault before after faults faults' = Appends before after [] × (line ≡ no_memory_line) × (faults' ≡ faults)
+RefutedAt _ line name fault before after faults faults' = ⊥
+
+-- the run ends by this fault of the certificate
+abbrev pub IsRefuted : Ending → List ℕ → ClaimFault → Option (List ℕ) → Option (List ℕ) → ℕ → ℕ → Type 0
+IsRefuted ending name fault before after faults faults' = RefutedAt ending.status (line_of ending) name fault before after faults faults'
+
+-- the run ends since there is no verdict: there are no claims, and the input is as it was, or there is no graph
+abbrev pub HasNoVerdict : Ending → List ℕ → Option (List ℕ) → Option (List ℕ) → Option (List ℕ) → ℕ → ℕ → ℕ → ℕ → Type 0
+HasNoVerdict ending name file known certificate i i' c c' =
+    (HasNoClaims ending name certificate c c' × (i' ≡ i)) ⊎ (HasNoFileGraph ending file known i i' × (c' ≡ c))
+
 -- the run ends since a write failed
 abbrev pub IsCut : Ending → Bool → Type 0
 IsCut ending gone = CutAt ending.status (line_of ending) gone
@@ -85,6 +152,11 @@ RepliesTo reply.NoMemory wish = ⊤
 abbrev pub file_of : Request → Option (List ℕ)
 file_of request = option_map (λ name. name.now) request.file
 
+-- the file of a check
+abbrev pub checked_file : CheckRequest → Option (List ℕ)
+checked_file request = option_map (λ name. name.now) request.file
+
 -- the request is what words ask for
-abbrev pub IsRequestFor : Request → Wish → Type 0
-IsRequestFor request wish = wish ≡ Asks request.task (file_of request)
+abbrev pub IsRequestFor : Wanted → Wish → Type 0
+IsRequestFor (wanted.Lines request) wish = wish ≡ Asks request.task (file_of request)
+IsRequestFor (wanted.Check request) wish = wish ≡ Checks request.certificate.now (checked_file request)

@@ -1,11 +1,13 @@
 -- What public contracts speak of.
 pub mod Answers
+pub mod CheckEnded
 pub mod CoresEnded
 pub mod Inputs
 pub mod Lines
 pub mod Numbers
 pub mod Outputs
 pub mod Sentences
+pub mod Verdicts
 pub mod Wishes
 -- What the crate's own functions and invariants speak of.
 pub mod Endings

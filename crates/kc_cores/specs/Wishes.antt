@@ -53,14 +53,31 @@ with_cores =
     with_subcommand (with_subcommand (with_subcommand bare_command (task_command (codes "numbers")).top) (task_command (codes "sizes")).top)
     members_command.top
 
--- the command that reads the words, with a command of its own for each task
-abbrev pub cores_command : App
-cores_command = with_subcommand (with_subcommand with_cores (task_command (codes "layers")).top) (task_command (codes "order")).top
+-- the name of the certificate, which there must be
+abbrev pub certificate_rule : Rule
+certificate_rule = record (new_rule (codes "CERTIFICATE")) { required = true }
 
--- What words ask for: a task for the graph of a file, or of standard input where no file is named. Or they ask for help or the version, or
--- are not right: then `clap` replies with a text of one of these kinds.
+-- the command that checks a certificate, without the name of the file
+abbrev pub certificate_command : App
+certificate_command = with_rule (new_app (codes "check")) certificate_rule
+
+-- the command that checks a certificate
+abbrev pub check_command : App
+check_command = with_rule certificate_command (new_rule (codes "FILE"))
+
+-- the command with those of all tasks
+abbrev pub with_tasks : App
+with_tasks = with_subcommand (with_subcommand with_cores (task_command (codes "layers")).top) (task_command (codes "order")).top
+
+-- the command that reads the words, with a command of its own for each task and for the check
+abbrev pub cores_command : App
+cores_command = with_subcommand with_tasks check_command.top
+
+-- What words ask for: a task for the graph of a file, or of standard input where no file is named; or the check of a certificate for such a
+-- graph. Or they ask for help or the version, or are not right: then `clap` replies with a text of one of these kinds.
 pub data Wish : Type 0 where
   Asks : Task → Option Text → Wish
+  Checks : Text → Option Text → Wish
   Replies : Kinds → Wish
 
 -- whether a text has digits alone, at least one, and its number is one of 32 bits
@@ -109,10 +126,20 @@ abbrev pub wish_for : Option Task → List Row → Wish
 wish_for None rows = Replies (InvalidSubcommand ∷ [])
 wish_for (Some task) rows = Asks task (file_named (first_of (codes "FILE") rows))
 
+-- what the command `check` asks for, by the names of the certificate and of the file
+abbrev pub check_wish : Option Text → Option Text → Wish
+check_wish None file = Replies (InvalidSubcommand ∷ [])
+check_wish (Some name) file = Checks name (file_named file)
+
+-- what a command of this name with these matches asks for
+abbrev pub wish_by : Text → List Row → Wish
+wish_by name rows =
+    if bytes_eq name (codes "check") then check_wish (first_of (codes "CERTIFICATE") rows) (first_of (codes "FILE") rows) else wish_for (task_in name rows) rows
+
 -- what the command that was met asks for
 abbrev pub wish_in : Option (Text × List Row) → Wish
 wish_in None = Replies (InvalidSubcommand ∷ [])
-wish_in (Some met) = wish_for (task_in met.0 met.1) met.1
+wish_in (Some met) = wish_by met.0 met.1
 
 -- what the words ask for
 unfoldable pub wish_of : List Text → Wish
@@ -127,4 +154,5 @@ is_shown _ = false
 -- a reply that is what was asked for, or one that is not, is among those that there may be
 abbrev pub MayReply : Bool → Wish → Type 0
 MayReply shown (Asks task file) = ⊥
+MayReply shown (Checks name file) = ⊥
 MayReply shown (Replies kinds) = (kind : ErrorKind) × IsAmong kind kinds × (is_shown kind ≡ shown)

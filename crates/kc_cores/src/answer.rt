@@ -2,11 +2,14 @@
 ghost use Rattle.std.specs.Prelude.{◌≡◌, ◌≤◌, ℕ, List, [], IfErr, IfOk, OnErr, OnOk, length, map, string_bytes, take};
 ghost use Rattle.std.specs.Io.KnownBytes.{Appends};
 ghost use Rattle.kc_io.specs.Causes.{HasCause};
+ghost use Rattle.kc_cores.specs.CheckEnded.{CheckEnded, HasEnded};
 ghost use Rattle.kc_cores.specs.CoresEnded.{CoresEnded, ToldLine};
-ghost use Rattle.kc_cores.specs.Endings.{RepliesTo, file_of, line_of};
+ghost use Rattle.kc_cores.specs.Endings.{RepliesTo, checked_file, file_of, line_of};
 ghost use Rattle.kc_cores.specs.Listings.{Fits, listing_lines};
+ghost use Rattle.kc_cores.specs.Sentences.{no_memory_line};
 ghost use Rattle.kc_cores.specs.Wishes.{Asks, Wish, wish_of};
 
+use crate::checking::{refute, say, verdict_on};
 use crate::ending::{Ending, finish};
 use crate::input::FileInput;
 use crate::listing::{Listing, listing_of, put_lines};
@@ -14,7 +17,7 @@ use crate::message::Message;
 use crate::page::Page;
 use crate::pipe::PipeSink;
 use crate::reading::read_graph;
-use crate::request::Request;
+use crate::request::{CheckRequest, Request, Wanted};
 use crate::summary::summary_line;
 use crate::words::{Reply, request_of};
 use crate::{CoresStatus, CoresStreams};
@@ -45,15 +48,16 @@ fn write_lines<O: Sink>(
 }
 
 /// Writes the lines of a task for the graph of the input, and gives the ending of the run.
-fn follow<I: FileInput, O: PipeSink, E>(
+fn follow<I: FileInput, C, O: PipeSink, E>(
     alloc: Global,
     request: Request<'_>,
-    streams: &mut CoresStreams<I, O, E>,
+    streams: &mut CoresStreams<I, C, O, E>,
 ) -> Result<String, Ending>
     ensures done { IfOk result (λ summary. CoresEnded I.Source I.behind O.Sink O.gone (Asks request.entry.task (file_of request.entry)) CoresStatus.Done
         (string_bytes summary) streams.old.input streams.new.input streams.old.out streams.new.out) }
     ensures stopped { IfErr result (λ ending. CoresEnded I.Source I.behind O.Sink O.gone (Asks request.entry.task (file_of request.entry)) ending.status
         (line_of ending) streams.old.input streams.new.input streams.old.out streams.new.out) }
+    ensures certificate { streams.new.certificate ≡ streams.old.certificate }
     ensures err { streams.new.err ≡ streams.old.err }
 {
     let named = read_graph(alloc, request.file, &mut streams.input)?;
@@ -68,9 +72,15 @@ fn follow<I: FileInput, O: PipeSink, E>(
 }
 
 /// Writes help or the version, where it was asked for. What is wrong with the words is the line of the ending.
-fn show<I: FileInput, O: PipeSink, E>(reply: Reply, streams: &mut CoresStreams<I, O, E>) -> Ending
+fn show<I: FileInput, C, O: PipeSink, E>(
+    reply: Reply,
+    streams: &mut CoresStreams<I, C, O, E>,
+) -> Ending
     ensures ended { (wish : Wish) → RepliesTo reply wish → CoresEnded I.Source I.behind O.Sink O.gone wish result.status (line_of result)
         streams.old.input streams.new.input streams.old.out streams.new.out }
+    ensures memory { reply ≡ Reply.NoMemory → (result.status ≡ CoresStatus.NoMemory) × (line_of result ≡ no_memory_line)
+        × (streams.new.input ≡ streams.old.input) × (streams.new.out ≡ streams.old.out) }
+    ensures certificate { streams.new.certificate ≡ streams.old.certificate }
     ensures err { streams.new.err ≡ streams.old.err }
 {
     match reply {
@@ -91,20 +101,17 @@ fn show<I: FileInput, O: PipeSink, E>(reply: Reply, streams: &mut CoresStreams<I
     }
 }
 
-/// All of a run but its line.
-fn work<W: AsStr, I: FileInput, O: PipeSink, E>(
+/// All of a run for a task but its line.
+fn list<I: FileInput, C, O: PipeSink, E>(
     alloc: Global,
-    words: &[W],
-    streams: &mut CoresStreams<I, O, E>,
+    request: Request<'_>,
+    streams: &mut CoresStreams<I, C, O, E>,
 ) -> Ending
-    ensures ended { CoresEnded I.Source I.behind O.Sink O.gone (wish_of (map W.text words.now)) result.status (line_of result)
+    ensures ended { CoresEnded I.Source I.behind O.Sink O.gone (Asks request.entry.task (file_of request.entry)) result.status (line_of result)
         streams.old.input streams.new.input streams.old.out streams.new.out }
+    ensures certificate { streams.new.certificate ≡ streams.old.certificate }
     ensures err { streams.new.err ≡ streams.old.err }
 {
-    let request = match request_of(alloc, words) {
-        Ok(request) => request,
-        Err(reply) => return show(reply, streams),
-    };
     match follow(alloc, request, streams) {
         Err(ending) => ending,
         Ok(summary) => Ending {
@@ -114,10 +121,59 @@ fn work<W: AsStr, I: FileInput, O: PipeSink, E>(
     }
 }
 
+/// All of a run that checks a certificate but its line.
+fn check<I: FileInput, C: FileInput, O: PipeSink, E>(
+    alloc: Global,
+    request: CheckRequest<'_>,
+    streams: &mut CoresStreams<I, C, O, E>,
+) -> Ending
+    ensures ended { CheckEnded I.Source I.behind C.Source C.behind O.Sink request.entry.certificate.now (checked_file request.entry) result.status
+        (line_of result) streams.old.input streams.new.input streams.old.certificate streams.new.certificate streams.old.out streams.new.out }
+    ensures err { streams.new.err ≡ streams.old.err }
+{
+    match verdict_on(alloc, request, &mut streams.input, &mut streams.certificate) {
+        Err(ending) => ending,
+        Ok(Some(fault)) => refute(alloc, request.certificate, fault, &mut streams.out),
+        Ok(None) => {
+            let certified = Ending {
+                status: CoresStatus::Certified,
+                message: Message::Fixed(""),
+            };
+            say(&mut streams.out, b"yes\n", certified)
+        }
+    }
+}
+
+/// All of a run but its line.
+fn work<W: AsStr, I: FileInput, C: FileInput, O: PipeSink, E>(
+    alloc: Global,
+    words: &[W],
+    streams: &mut CoresStreams<I, C, O, E>,
+) -> Ending
+    ensures ended { HasEnded I.Source I.behind C.Source C.behind O.Sink O.gone (wish_of (map W.text words.now)) result.status (line_of result)
+        streams.old.input streams.new.input streams.old.certificate streams.new.certificate streams.old.out streams.new.out }
+    ensures err { streams.new.err ≡ streams.old.err }
+{
+    match request_of(alloc, words) {
+        Err(reply) => show(reply, streams),
+        Ok(Wanted::Lines(request)) => list(alloc, request, streams),
+        Ok(Wanted::Check(request)) => check(alloc, request, streams),
+    }
+}
+
 /// Reads the graph that `words` name, from the input of `streams`, and writes to `out` the lines that they ask for. Then it writes one
-/// line to `err`: the summary of the graph where all was written, and else what was found wrong.
+/// line to `err`: the summary of the graph where all was written, and else what was found wrong. Or it checks the certificate that they
+/// name for that graph, writes `yes`, or `no` and the id that is at fault, and then what is wrong with it.
 ///
-/// `words` are those after the program's name. Its clause has the line and two records. The one, `CoresEnded`, has these fields:
+/// `words` are those after the program's name. Its clause has the line and two records. The one is `CheckEnded` for a check:
+///
+/// - `did`: at `Certified` the claims of the certificate show the core numbers of the graph, and the sink took `yes`. At `Uncertified` they
+///   do not, and the sink took `no` and the id; the line tells the first fault. At `WriteFault` it took a prefix of the answer, and else
+///   nothing. At `Refused` the line tells what is refused, and at `Unopened` which file was not opened, and why.
+/// - `faults`: a count of faults of the input or of the certificate rose at `Unopened` and at `ReadFault`, and else both are as they were.
+/// - `write_faults`: the count of faults of `out` rose at `WriteFault`, and else it is as it was.
+///
+/// For all other words it is `CoresEnded`, and the certificate is as it was. It has these fields:
 ///
 /// - `usage`, `shown`: at `Usage` and at `Shown` the words make `clap` reply so. Its texts are its own, of which no clause speaks.
 /// - `replies`: where `clap` replies, nothing is read, and the status is `Usage`, `Shown`, `ReaderGone`, `WriteFault` or `NoMemory`.
@@ -134,13 +190,13 @@ fn work<W: AsStr, I: FileInput, O: PipeSink, E>(
 ///
 /// The other, `ToldLine`, says that `err` took the line, or a prefix of it where a call failed, and that it was offered whole. A fault of
 /// `err` changes no status.
-pub fn answer<W: AsStr, I: FileInput, O: PipeSink, E: Sink>(
+pub fn answer<W: AsStr, I: FileInput, C: FileInput, O: PipeSink, E: Sink>(
     alloc: Global,
     words: &[W],
-    streams: &mut CoresStreams<I, O, E>,
+    streams: &mut CoresStreams<I, C, O, E>,
 ) -> CoresStatus
-    ensures { (line : List ℕ) × CoresEnded I.Source I.behind O.Sink O.gone (wish_of (map W.text words.now)) result line
-        streams.old.input streams.new.input streams.old.out streams.new.out
+    ensures { (line : List ℕ) × HasEnded I.Source I.behind C.Source C.behind O.Sink O.gone (wish_of (map W.text words.now)) result line
+        streams.old.input streams.new.input streams.old.certificate streams.new.certificate streams.old.out streams.new.out
         × ToldLine E.Sink line streams.old.err streams.new.err }
 {
     let ending = work(alloc, words, streams);

@@ -1,7 +1,7 @@
 //! How a run ends: its status, and the line about it.
 ghost use Rattle.std.specs.Prelude.{◌≡◌, IfOk, string_bytes};
 ghost use Rattle.kc_cores.specs.Endings.{IsCut, TellsRefusal, line_of};
-ghost use Rattle.kc_cores.specs.Sentences.{refused_line, no_memory_line, read_fault_line, unopened_line};
+ghost use Rattle.kc_cores.specs.Sentences.{refused_line, no_memory_line, read_fault_line, unopened_line, write_fault_line};
 ghost use Rattle.kc_cores.specs.CoresEnded.{IsUnopenedLine, ToldLine};
 
 use crate::CoresStatus;
@@ -55,6 +55,17 @@ impl Ending {
         }
     }
 
+    /// The sink of the lines failed.
+    pub(crate) fn unwritten() -> Ending
+        ensures status { result.status ≡ CoresStatus.WriteFault }
+        ensures line { line_of result ≡ write_fault_line }
+    {
+        Ending {
+            status: CoresStatus::WriteFault,
+            message: Message::Fixed("cores: the output could not be written to its end\n"),
+        }
+    }
+
     /// The sink of the lines failed: since its reader went away, of which nothing is said, or for another cause.
     pub(crate) fn cut(reader_gone: bool) -> Ending
         ensures { IsCut result reader_gone }
@@ -65,10 +76,7 @@ impl Ending {
                 message: Message::Fixed(""),
             };
         }
-        Ending {
-            status: CoresStatus::WriteFault,
-            message: Message::Fixed("cores: the output could not be written to its end\n"),
-        }
+        Ending::unwritten()
     }
 }
 

@@ -10,11 +10,14 @@
 //! [`answer_in_memory`](memory::answer_in_memory) is the same run over an input and sinks in memory, where every clause speaks of bytes that
 //! are known. [`answer_on`](program::answer_on) takes the words of a program's arguments.
 //!
+//! The command `check` reads a certificate beside the graph (`specs/CheckEnded.antt`), and writes whether it shows the core numbers.
+//!
 //! The crate stands on `kc_io` for sources and sinks, on `kc_text` for what a text means, on `kc_flat` and `kc_graph` for core numbers, on `kc_tally`
-//! for layers, and on `clap` and `itoa`.
+//! for layers, on `kc_claims` for certificates, and on `clap` and `itoa`.
 #![tactic(auto)]
 
 pub mod answer;
+mod checking;
 mod ending;
 pub mod input;
 mod lines;
@@ -34,6 +37,7 @@ pub mod std_input;
 pub mod std_pipe;
 mod streams;
 mod summary;
+mod verdict;
 mod words;
 
 ghost use Rattle.std.specs.Prelude.{◌≡◌};
@@ -48,6 +52,10 @@ pub use words::VERSION;
 pub enum CoresStatus {
     /// All lines were written.
     Done,
+    /// The certificate is one of the core numbers, which was written.
+    Certified,
+    /// The certificate is none, which was written.
+    Uncertified,
     /// The words ask for help or the version, which was written.
     Shown,
     /// The words are not right. Nothing was read.
@@ -71,7 +79,9 @@ pub fn exit_number(status: CoresStatus) -> u8
     ensures { result ≡ exit_number_of status }
 {
     match status {
-        CoresStatus::Done | CoresStatus::Shown | CoresStatus::ReaderGone => 0,
+        CoresStatus::Done | CoresStatus::Certified | CoresStatus::Shown | CoresStatus::ReaderGone =>
+            0,
+        CoresStatus::Uncertified => 1,
         CoresStatus::Usage => 2,
         CoresStatus::Refused => 3,
         CoresStatus::Unopened | CoresStatus::ReadFault => 4,

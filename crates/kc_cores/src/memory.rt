@@ -3,7 +3,8 @@ ghost use Rattle.std.specs.Prelude.{◌≡◌, ◌++◌, ℕ, List, Option, Some
 ghost use Rattle.kc_text.specs.Meaning.{Refuses};
 ghost use Rattle.kc_text.specs.declared.kind.Kind.{Kind};
 ghost use Rattle.kc_cores.specs.Answers.{IsTextFor, graph_meaning};
-ghost use Rattle.kc_cores.specs.CoresEnded.{CoresEnded, ToldLine};
+ghost use Rattle.kc_cores.specs.CheckEnded.{HasEnded};
+ghost use Rattle.kc_cores.specs.CoresEnded.{ToldLine};
 ghost use Rattle.kc_cores.specs.Inputs.{bytes_behind, bytes_in};
 ghost use Rattle.kc_cores.specs.Wishes.{Asks, wish_of};
 ghost use Rattle.kc_cores.specs.declared.request.Task.{Task};
@@ -23,11 +24,12 @@ use std::convert::AsStr;
 pub fn answer_in_memory<W: AsStr>(
     alloc: Global,
     words: &[W],
-    streams: &mut CoresStreams<MemInput, MemPipe, MemSink>,
+    streams: &mut CoresStreams<MemInput, MemInput, MemPipe, MemSink>,
 ) -> CoresStatus
     ensures ended { (line : List ℕ)
-        × CoresEnded ⟦<MemInput as Source>⟧ bytes_behind ⟦<MemPipe as Sink>⟧ (λ pipe. pipe.gone) (wish_of (map W.text words.now)) result line
-        streams.old.input streams.new.input streams.old.out streams.new.out
+        × HasEnded ⟦<MemInput as Source>⟧ bytes_behind ⟦<MemInput as Source>⟧ bytes_behind ⟦<MemPipe as Sink>⟧ (λ pipe. pipe.gone)
+        (wish_of (map W.text words.now)) result line
+        streams.old.input streams.new.input streams.old.certificate streams.new.certificate streams.old.out streams.new.out
         × ToldLine ⟦<MemSink as Sink>⟧ line streams.old.err streams.new.err }
     ensures done { (task : Task) (file : Option (List ℕ)) (bytes : List ℕ) → wish_of (map W.text words.now) ≡ Asks task file
         → bytes_in streams.old.input file ≡ Some bytes → result ≡ CoresStatus.Done

@@ -3,7 +3,8 @@ ghost use Rattle.std.specs.Prelude.{◌≡◌, ◌≢◌, ◌⊎◌, ℕ, List, 
 ghost use Rattle.std.specs.IoError.{error_kind};
 ghost use Rattle.std.specs.Process.{exit_status};
 ghost use Rattle.kc_args.specs.Words.{AreWords};
-ghost use Rattle.kc_cores.specs.CoresEnded.{CoresEnded, ToldLine};
+ghost use Rattle.kc_cores.specs.CheckEnded.{HasEnded};
+ghost use Rattle.kc_cores.specs.CoresEnded.{ToldLine};
 ghost use Rattle.kc_cores.specs.Numbers.{exit_number_of};
 ghost use Rattle.kc_cores.specs.Wishes.{wish_of};
 ghost use Rattle.kc_cores.specs.declared.CoresStatus.{CoresStatus};
@@ -31,16 +32,17 @@ fn exit_with(status: CoresStatus) -> ExitCode
 /// order, and an empty word in place of all where one is not UTF-8.
 ///
 /// Where there is no memory for the words, the status is `NoMemory`, and nothing was read or written.
-pub fn answer_on<I: FileInput, O: PipeSink, E: Sink>(
+pub fn answer_on<I: FileInput, C: FileInput, O: PipeSink, E: Sink>(
     alloc: Global,
     args: io::Result<Args>,
-    streams: &mut CoresStreams<I, O, E>,
+    streams: &mut CoresStreams<I, C, O, E>,
 ) -> ExitCode
     // The exit code is that of a status. The run ends by this status as `answer` promises it for these words; or there was no memory for
     // the words, and all is as it was.
     ensures ended { (status : CoresStatus) × (exit_status result ≡ exit_number_of status)
         × (((words : List (List ℕ)) × AreWords args words × (line : List ℕ)
-        × CoresEnded I.Source I.behind O.Sink O.gone (wish_of words) status line streams.old.input streams.new.input streams.old.out streams.new.out
+        × HasEnded I.Source I.behind C.Source C.behind O.Sink O.gone (wish_of words) status line
+        streams.old.input streams.new.input streams.old.certificate streams.new.certificate streams.old.out streams.new.out
         × ToldLine E.Sink line streams.old.err streams.new.err)
         ⊎ ((status ≡ CoresStatus.NoMemory) × (streams.new ≡ streams.old))) }
     ensures no_memory { IfErr args (λ error. error_kind error ≢ ErrorKind.InvalidData → exit_status result ≡ exit_number_of CoresStatus.NoMemory) }

@@ -17,6 +17,20 @@ pub enum Task {
     Order,
 }
 
+/// The check of a certificate, for the graph of a file, or of standard input where no file is named.
+#[derive(Clone, Copy, Debug)]
+pub(crate) struct CheckRequest<'a> {
+    pub(crate) certificate: &'a str,
+    pub(crate) file: Option<&'a str>,
+}
+
+/// What words ask for.
+#[derive(Clone, Copy, Debug)]
+pub(crate) enum Wanted<'a> {
+    Lines(Request<'a>),
+    Check(CheckRequest<'a>),
+}
+
 /// A task for the graph of a file, or of standard input where no file is named.
 #[derive(Clone, Copy, Debug)]
 pub(crate) struct Request<'a> {

@@ -2,17 +2,18 @@
 //!
 //! They are read by `clap`, as a command with a command of its own for each task. What `clap` makes of the words of such a command is a
 //! function of them, on which `specs/Wishes.antt` stands. The texts of help, of the version and about wrong words are those of `clap`.
-ghost use Rattle.std.specs.Prelude.{◌≡◌, IfErr, IfOk, false, map, option_map};
+ghost use Rattle.std.specs.Prelude.{◌≡◌, IfErr, IfOk, codes, false, map, option_map};
 ghost use Rattle.clap.specs.Matches.{found_of};
 ghost use Rattle.clap.specs.Simple.{app_of, subcommand_rows_of, with_subcommand};
 ghost use Rattle.clap.specs.Values.{kind_of};
-ghost use Rattle.clap.specs.Walk.{rows_of, rule_of};
+ghost use Rattle.clap.specs.Walk.{first_of, rows_of, rule_of};
 ghost use Rattle.clap.specs.declared.builder.command.Command.TheViews.{out-Command};
-ghost use Rattle.kc_cores.specs.Wishes.{bare_command, core_option, cores_command, edges_flag, file_named, is_set, level_in, members_command};
-ghost use Rattle.kc_cores.specs.Wishes.{members_in, members_task, number_of, task_command, task_in, wish_for, wish_in, wish_of, with_cores};
+ghost use Rattle.kc_cores.specs.Wishes.{bare_command, certificate_command, certificate_rule, check_command, check_wish, core_option, cores_command, edges_flag};
+ghost use Rattle.kc_cores.specs.Wishes.{file_named, is_set, level_in, members_command, members_in, members_task, number_of, task_command};
+ghost use Rattle.kc_cores.specs.Wishes.{task_in, wish_by, wish_for, wish_in, wish_of, with_cores, with_tasks};
 ghost use Rattle.kc_cores.specs.Endings.{IsReplyFor, IsRequestFor, RepliesTo};
 
-use crate::request::{Request, Task};
+use crate::request::{CheckRequest, Request, Task, Wanted};
 use clap::error::ErrorKind;
 use clap::{Arg, ArgAction, ArgMatches, Command, Error};
 use kc_graph::NoMemory;
@@ -149,9 +150,9 @@ fn with_cores<'a>(alloc: Global) -> Result<Command<'a>, NoMemory>
     sizes.subcommand(members_command(alloc)?)
 }
 
-/// The command whose words are read.
-fn cores_command<'a>(alloc: Global) -> Result<Command<'a>, NoMemory>
-    ensures { IfOk result (λ made. app_of made ≡ cores_command) }
+/// The command, and those of all tasks.
+fn with_tasks<'a>(alloc: Global) -> Result<Command<'a>, NoMemory>
+    ensures { IfOk result (λ made. app_of made ≡ with_tasks) }
 {
     let layers = with_task(
         alloc,
@@ -167,6 +168,49 @@ fn cores_command<'a>(alloc: Global) -> Result<Command<'a>, NoMemory>
         "Writes a line ID<TAB>CORE for each id, in an order that certifies the core numbers",
         "Example: cores order graph.txt",
     )
+}
+
+/// The name of the certificate.
+fn certificate_rule<'a>(alloc: Global) -> Arg<'a>
+    ensures rule { rule_of result ≡ certificate_rule }
+    ensures local { result.global ≡ false }
+{
+    Arg::new(alloc, "CERTIFICATE").required(true).help(
+        "A file of lines ID CORE, or ID CORE LAYER, as the commands order and layers write them",
+    )
+}
+
+/// The command `check`, without the name of the file.
+fn certificate_command<'a>(alloc: Global) -> Result<Command<'a>, NoMemory>
+    ensures app { IfOk result (λ made. app_of made ≡ certificate_command) }
+    ensures local { IfOk result (λ made. (out-Command made).has_globals ≡ false) }
+{
+    Command::new(alloc, "check")
+        .about(
+            "Writes yes where the certificate shows the core numbers, and else no<TAB>ID, with status 1",
+        )
+        .after_help("Example: cores order graph.txt > order.txt && cores check order.txt graph.txt")
+        .arg(certificate_rule(alloc))
+}
+
+/// The command `check`.
+fn check_command<'a>(alloc: Global) -> Result<Command<'a>, NoMemory>
+    ensures app { IfOk result (λ made. app_of made ≡ check_command) }
+    ensures local { IfOk result (λ made. (out-Command made).has_globals ≡ false) }
+{
+    let file = Arg::new(alloc, "FILE").help(
+        "The edge list, two ids a line; standard input where it is - or none is named",
+    );
+    let command = certificate_command(alloc)?;
+    command.arg(file)
+}
+
+/// The command whose words are read.
+fn cores_command<'a>(alloc: Global) -> Result<Command<'a>, NoMemory>
+    ensures { IfOk result (λ made. app_of made ≡ cores_command) }
+{
+    let command = with_tasks(alloc)?;
+    command.subcommand(check_command(alloc)?)
 }
 
 /// The number that a text is.
@@ -272,34 +316,65 @@ fn no_command(alloc: Global) -> Reply
     }
 }
 
-/// What a command of this name asks for, with these matches.
-fn request_for<'a>(alloc: Global, name: &str, found: &ArgMatches<'a>) -> Result<Request<'a>, Reply>
-    ensures asks { IfOk result (λ request. IsRequestFor request (wish_for (task_in name.now (rows_of (found_of found.now))) (rows_of (found_of found.now)))) }
+/// What the command of a task asks for, by its name and these matches.
+fn request_for<'a>(alloc: Global, name: &str, found: &ArgMatches<'a>) -> Result<Wanted<'a>, Reply>
+    ensures asks { IfOk result (λ wanted. IsRequestFor wanted (wish_for (task_in name.now (rows_of (found_of found.now))) (rows_of (found_of found.now)))) }
     ensures replies { IfErr result (λ reply. RepliesTo reply (wish_for (task_in name.now (rows_of (found_of found.now))) (rows_of (found_of found.now)))) }
 {
     match task_in(name, found) {
         None => Err(no_command(alloc)),
-        Some(task) => Ok(Request {
+        Some(task) => Ok(Wanted::Lines(Request {
             task,
             file: file_named(found.get_str("FILE")),
-        }),
+        })),
+    }
+}
+
+/// What the command `check` asks for, by the names of the certificate and the file.
+fn check_for<'a>(
+    alloc: Global,
+    certificate: Option<&'a str>,
+    file: Option<&'a str>,
+) -> Result<Wanted<'a>, Reply>
+    ensures asks { IfOk result (λ wanted. IsRequestFor wanted (check_wish (option_map (λ t. t.now) certificate.entry) (option_map (λ t. t.now) file.entry))) }
+    ensures replies { IfErr result (λ reply. RepliesTo reply
+        (check_wish (option_map (λ t. t.now) certificate.entry) (option_map (λ t. t.now) file.entry))) }
+{
+    match certificate {
+        None => Err(no_command(alloc)),
+        Some(certificate) => Ok(Wanted::Check(CheckRequest {
+            certificate,
+            file: file_named(file),
+        })),
+    }
+}
+
+/// What a command of this name asks for, with these matches.
+fn wanted_by<'a>(alloc: Global, name: &str, found: &ArgMatches<'a>) -> Result<Wanted<'a>, Reply>
+    ensures asks { IfOk result (λ wanted. IsRequestFor wanted (wish_by name.now (rows_of (found_of found.now)))) }
+    ensures replies { IfErr result (λ reply. RepliesTo reply (wish_by name.now (rows_of (found_of found.now)))) }
+{
+    if name == "check" {
+        check_for(alloc, found.get_str("CERTIFICATE"), found.get_str("FILE"))
+    } else {
+        request_for(alloc, name, found)
     }
 }
 
 /// What the command that was met asks for.
-fn request_in<'a>(alloc: Global, matches: &ArgMatches<'a>) -> Result<Request<'a>, Reply>
-    ensures asks { IfOk result (λ request. IsRequestFor request (wish_in (subcommand_rows_of matches.now))) }
+fn request_in<'a>(alloc: Global, matches: &ArgMatches<'a>) -> Result<Wanted<'a>, Reply>
+    ensures asks { IfOk result (λ wanted. IsRequestFor wanted (wish_in (subcommand_rows_of matches.now))) }
     ensures replies { IfErr result (λ reply. RepliesTo reply (wish_in (subcommand_rows_of matches.now))) }
 {
     match matches.subcommand() {
         None => Err(no_command(alloc)),
-        Some((name, found)) => request_for(alloc, name, found),
+        Some((name, found)) => wanted_by(alloc, name, found),
     }
 }
 
 /// What the words ask for, or what is replied to them. The words are those after the program's name.
-pub(crate) fn request_of<'a, W: AsStr>(alloc: Global, words: &'a [W]) -> Result<Request<'a>, Reply>
-    ensures asks { IfOk result (λ request. IsRequestFor request (wish_of (map W.text words.entry.now))) }
+pub(crate) fn request_of<'a, W: AsStr>(alloc: Global, words: &'a [W]) -> Result<Wanted<'a>, Reply>
+    ensures asks { IfOk result (λ wanted. IsRequestFor wanted (wish_of (map W.text words.entry.now))) }
     ensures replies { IfErr result (λ reply. RepliesTo reply (wish_of (map W.text words.entry.now))) }
 {
     let command = cores_command(alloc)?;

@@ -1,17 +1,11 @@
--- Each command of a task adds to the command.
-use Rattle.std.proofs.Common.{ap, ◌∙◌, codes}
+-- The command of the check is one more.
+use Rattle.std.proofs.Common.{ap, ap₂, ◌∙◌}
 use Rattle.std.proofs.lemmas.Result.{IfOk-weaker}
 use Rattle.clap.specs.Simple.{App, with_subcommand}
-use Rattle.kc_cores.specs.Wishes.{task_command}
 use Rattle.kc_cores.proofs.words.cores_command.Goals as goal
-
--- the command with one more
-abbrev more : App → App → App
-more task a = with_subcommand a task.top
 
 pub returns : goal.returns
 returns c =
-    IfOk-weaker c.with_task-2.result _ _
-    (λ made h. h ∙ ap (more (task_command (codes "order"))) (c.in_ok-layers.ensures
-    ∙ ap (more (task_command (codes "layers"))) c.in_ok-with_cores.ensures))
-    c.with_task-2.ensures
+    IfOk-weaker c.subcommand.result _ _
+    (λ made h. h.shape c.in_ok-check_command.ensures.local
+    ∙ ap₂ with_subcommand c.in_ok-command.ensures (ap (λ (a : App). a.top) c.in_ok-check_command.ensures.app)) c.subcommand.ensures

@@ -9,7 +9,7 @@ use Rattle.clap.specs.Walk.{Row, Text, rows_of}
 use Rattle.clap.specs.declared.parser.matches.ArgMatches.TheViews.{out-SubCommand}
 use Rattle.clap.specs.declared.parser.matches.SubCommand.{SubCommand}
 use Rattle.kc_cores.specs.Endings.{IsRequestFor}
-use Rattle.kc_cores.specs.Wishes.{Wish, task_in, wish_for, wish_in}
+use Rattle.kc_cores.specs.Wishes.{Wish, wish_by, wish_in}
 use Rattle.kc_cores.proofs.Replies.{RepliesTo-no_command}
 use Rattle.kc_cores.proofs.words.request_in.Goals as goal
 
@@ -31,17 +31,17 @@ name-met (Some b) = refl
 
 -- what a command that was met asks for is what its name and its rows ask for
 wish-met : (met : Option (Text × List Row)) (name : Text) (rows : List Row) → Some name ≡ option_map (λ (p : Text × List Row). p.0) met
-    → Some rows ≡ option_map (λ (p : Text × List Row). p.1) met → wish_in met ≡ wish_for (task_in name rows) rows
+    → Some rows ≡ option_map (λ (p : Text × List Row). p.1) met → wish_in met ≡ wish_by name rows
 wish-met None name rows e h = absurd (cc)
 wish-met (Some p) name rows e h =
     let one : p.0 ≡ name = cc in
     let two : p.1 ≡ rows = cc in
-    λ i. wish_for (task_in (one i) (two i)) (two i)
+    λ i. wish_by (one i) (two i)
 
 pub returns-in-Some-clause-asks : goal.returns-in-Some-clause-asks
 returns-in-Some-clause-asks c =
     let met = subcommand_rows_of c.args.matches.now in
     let rows = rows_of (found_of c.in-Some.found.now) in
-    let same : wish_in met ≡ wish_for (task_in c.in-Some.name.now rows) rows =
+    let same : wish_in met ≡ wish_by c.in-Some.name.now rows =
     wish-met met c.in-Some.name.now rows (c.in-Some.ensures.name ∙ name-met _) c.in-Some.ensures.rows in
-    IfOk-weaker c.request_for.result _ _ (λ request h. subst (λ (w : Wish). IsRequestFor request w) (sym same) h) c.request_for.ensures.asks
+    IfOk-weaker c.wanted_by.result _ _ (λ request h. subst (λ (w : Wish). IsRequestFor request w) (sym same) h) c.wanted_by.ensures.asks

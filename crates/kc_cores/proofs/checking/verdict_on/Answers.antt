@@ -1,0 +1,45 @@
+-- What was found holds of the graph and the claims that were read.
+use Rattle.std.proofs.Common.{◌≡◌, ◌∙◌, ℕ, List, ap, length, refl, subst, sym}
+use Rattle.kc_graph.specs.SimpleGraph.{SimpleGraph}
+use Rattle.kc_claims.specs.Certificates.{AreCertificate, IsFirstFault, TellCoreNumbers}
+use Rattle.kc_claims.specs.declared.claim.Claim.{Claim}
+use Rattle.kc_cores.proofs.Graphs.{size-graph_of}
+use Rattle.kc_cores.proofs.checking.verdict_on.Goals as goal
+
+-- what holds of lists that are lent holds of the lists
+lent : (P : List ℕ → SimpleGraph → List Claim → Type 0) (g : SimpleGraph) (ids ids' : List ℕ) (claims claims' : List Claim) → ids' ≡ ids → claims' ≡ claims
+    → P ids' g claims' → P ids g claims
+lent P g ids ids' claims claims' one two h =
+    subst (λ (cs : List Claim). P ids g cs) two (subst (λ (xs : List ℕ). P xs g claims') one h)
+
+pub check_claims-requires-clause-named : goal.check_claims-requires-clause-named
+check_claims-requires-clause-named g c =
+    ap length c.deref.ensures.value ∙ sym (size-graph_of _ c.in_ok-named.named.ids.items c.in_ok-named.named.graph c.in_ok-named.ensures.graph)
+
+pub returns-in-Ok-clause-right : goal.returns-in-Ok-clause-right
+returns-in-Ok-clause-right g c = λ _. record {
+  ids = c.in_ok-named.named.ids.items;
+  g = c.in_ok-named.named.graph;
+  claims = c.in_ok-claims.claims.items;
+  graph = c.in_ok-named.ensures.graph;
+  claimed = c.in_ok-claims.ensures.claims;
+  found = (
+    lent AreCertificate c.in_ok-named.named.graph c.in_ok-named.named.ids.items c.deref.result.now c.in_ok-claims.claims.items c.deref-2.result.now
+        c.deref.ensures.value c.deref-2.ensures.value c.in-Ok.ensures.certified,
+    lent TellCoreNumbers c.in_ok-named.named.graph c.in_ok-named.named.ids.items c.deref.result.now c.in_ok-claims.claims.items c.deref-2.result.now
+        c.deref.ensures.value c.deref-2.ensures.value c.in-Ok.ensures.seidman,
+  );
+}
+
+pub returns-in-Err-Faulty-clause-wrong : goal.returns-in-Err-Faulty-clause-wrong
+returns-in-Err-Faulty-clause-wrong g c =
+    let faulty = rw c.in-Err-Faulty.field-0-is at c.in-Err-Faulty.ensures.faulty in
+    record {
+      ids = c.in_ok-named.named.ids.items;
+      g = c.in_ok-named.named.graph;
+      claims = c.in_ok-claims.claims.items;
+      graph = c.in_ok-named.ensures.graph;
+      claimed = c.in_ok-claims.ensures.claims;
+      found = lent (λ xs h cs. IsFirstFault xs h cs c.in-Err-Faulty.fault) c.in_ok-named.named.graph c.in_ok-named.named.ids.items c.deref.result.now
+          c.in_ok-claims.claims.items c.deref-2.result.now c.deref.ensures.value c.deref-2.ensures.value (faulty c.in-Err-Faulty.fault refl);
+    }
