@@ -74,8 +74,8 @@ impl Changes {
         opposites(alloc, &self.applied)
     }
 
-    /// Nothing changed. The lists keep their memory.
-    pub(crate) fn clear(&mut self)
+    /// Forgets what it tells: nothing changed. The lists keep their memory.
+    pub fn clear(&mut self)
         ensures added { self.new.added ≡ 0 }
         ensures removed { self.new.removed ≡ 0 }
         ensures applied { self.new.applied.items ≡ [] }
