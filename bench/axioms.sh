@@ -22,7 +22,7 @@ trap 'exit 1' HUP INT TERM
 all_crates() {
     for name in $programs; do
         speak_of "$name"
-        crates_of_program
+        crates_of_part
     done | sort -u > "$room/names"
     sed 's/[[:blank:]:#].*//' "$top/crates.txt" | grep -Fx -f "$room/names"
 }

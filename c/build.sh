@@ -1,23 +1,31 @@
 #!/bin/sh
-# Makes build/libkcore.a and build/libkcore.so from the proved crate kc_c. Needs `rt` on the path, cc and ar.
-# Prints the folder that they lie in.
+# Makes libkcore.a and libkcore.so in build/ from the proved crate kc_c, and the record of the sources that they were made from, by which
+# dist/library.sh knows them. Needs `rt` on the path, cc and ar. Prints the folder that they lie in.
 set -eu
 top=$(cd "$(dirname "$0")/.." && pwd)
 build=$top/build
+. "$top/dist/common.sh"
+speak_of libkcore
 # The kit's allocator, which calls the program's malloc, realloc and free, lies beside `rt`.
 allocator=$(dirname "$(dirname "$(readlink -f "$(command -v rt)")")")/c/liblibc_c.a
 
-(cd "$top/crates/kc_c" && rt lib) > /dev/null
+kit=$(rt version < /dev/null)
+sum=$(sum_of_sources "$kit")
+(cd "$top/crates/kc_c" && rt lib < /dev/null) > /dev/null
 mkdir -p "$build"
-rm -f "$build/libkcore.a" "$build/libkcore.so"
-ar -M << END
-create $build/libkcore.a
-addlib $top/crates/kc_c/out/libkc_c.a
-addlib $allocator
+# The archive is made by names without a folder, and the library of it, so that no name of a folder comes into them.
+cd "$build"
+rm -f libkcore.a libkcore.so "$sources"
+cp "$top/crates/kc_c/out/libkc_c.a" "$allocator" .
+ar -M << 'END'
+create libkcore.a
+addlib libkc_c.a
+addlib liblibc_c.a
 save
 end
 END
-cat > "$build/exports.map" << 'END'
+rm libkc_c.a liblibc_c.a
+cat > exports.map << 'END'
 KCORE {
     global: kcore_version; kcore_core_numbers; kcore_degeneracy_order; kcore_check; kcore_k_core;
         kcore_tally; kcore_verdict; kcore_h_index_round;
@@ -26,6 +34,13 @@ KCORE {
     local: *;
 };
 END
-${CC:-cc} -shared -Wl,-z,text,-z,defs -Wl,--version-script="$build/exports.map" -Wl,--whole-archive "$build/libkcore.a" \
-    -Wl,--no-whole-archive -o "$build/libkcore.so"
+${CC:-cc} -shared -Wl,-soname,libkcore.so.0 -Wl,-z,text,-z,defs -Wl,--version-script=exports.map -Wl,--whole-archive libkcore.a \
+    -Wl,--no-whole-archive -o libkcore.so
+ln -sf libkcore.so libkcore.so.0
+if [ "$sum" != "$(sum_of_sources "$kit")" ]; then
+    echo "c/build.sh: a source was changed while the library was built: call it again" >&2
+    exit 1
+fi
+printf 'kit %s\nsources %s\nmade %s\nlibkcore.so %s\nlibkcore.a %s\n' "$kit" "$sum" "$(${CC:-cc} --version | head -n 1)" \
+    "$(sum_of libkcore.so)" "$(sum_of libkcore.a)" > "$sources"
 echo "$build"

@@ -2,10 +2,16 @@
 # Builds both libraries, and tries them from C and from Python: what is exported and declared, the examples on small graphs and on inputs
 # that they refuse, plain and under the address and undefined behaviour sanitizers, with each allocation failing in turn, and the Python
 # tests by the python3 that PYTHON names. Packages that these want and Debian has are installed where that is Debian's own python3 and the
-# caller may; else the script says which are missing, and their tests are skipped.
+# caller may; else the script says which are missing, and their tests are skipped. With KCORE_NO_INSTALL set nothing is installed.
+# usage: c/test.sh [--packed]
+# With --packed, or where the Rattle kit is not there, the libraries are those that dist/library.sh finds, and nothing is built.
 set -eu
 top=$(cd "$(dirname "$0")/.." && pwd)
-build=$("$top/c/build.sh")
+case ${1:-} in
+    --packed) build=$(sh "$top/dist/library.sh") ;;
+    '') if command -v rt > /dev/null; then build=$("$top/c/build.sh"); else build=$(sh "$top/dist/library.sh"); fi ;;
+    *) echo "usage: c/test.sh [--packed]" >&2; exit 2 ;;
+esac
 flags="-std=c11 -O2 -g -Wall -Wextra -Werror -I$top/include"
 sanitized="-fsanitize=address,undefined -fno-sanitize-recover=all"
 wrapped="-Wl,--wrap=malloc,--wrap=realloc,--wrap=free"
@@ -133,7 +139,7 @@ missing_packages() {
 }
 missing=$(missing_packages)
 own=$("$python" -c 'import os, sys; print(os.path.realpath(sys.executable).startswith("/usr/bin/"))')
-if [ -n "$missing" ] && [ "$own" = True ] && [ "$(id -u)" = 0 ] && command -v apt-get > /dev/null; then
+if [ -n "$missing" ] && [ -z "${KCORE_NO_INSTALL:-}" ] && [ "$own" = True ] && [ "$(id -u)" = 0 ] && command -v apt-get > /dev/null; then
     { apt-get update && DEBIAN_FRONTEND=noninteractive apt-get install -y --no-install-recommends $missing; } > "$build/installed" 2>&1 ||
         echo "apt-get could not install $missing: $build/installed tells why" >&2
     missing=$(missing_packages)

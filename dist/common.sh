@@ -1,30 +1,41 @@
-# Which files a build of the program $name reads, the sum over them, and whether the packed program beside this file is whole.
-# Read by dist/run.sh and by the scripts here, with the checkout's folder in $top and a name of $programs in $name.
+# Which files a build of the part $name reads, the sum over them, and whether what dist/ holds of it is whole.
+# Read by dist/run.sh and by the scripts here and in c/, with the checkout's folder in $top and a name of $parts in $name.
 #
-# The sum is over the crates below the program in crates.txt, and the program itself: their lines of crates.txt, each file of their src/,
-# specs/ and proofs/ with its name, and the kit's one-line identity. Documents, must-fail edits, and what a program is run with don't count.
-# A record (dist/NAME.SOURCES, and crates/NAME/out/NAME.sources beside a program) has three lines:
+# The sum is over the part's crate and all below it in crates.txt: their lines of crates.txt, each file of their src/, specs/ and proofs/
+# with its name, and the kit's one-line identity. Then come the files in $others, which the library and the wheel are made by and of.
+# Other documents, must-fail edits, and what a program is run with don't count.
+# A record (dist/NAME.SOURCES, crates/NAME/out/NAME.sources beside a program, and build/libkcore.SOURCES beside the library) has the lines
 #     kit WHAT-RT-VERSION-SAYS
 #     sources SUM
-#     program SUM-OF-THE-PROGRAM-THAT-WAS-BUILT-FROM-THEM
+# and then what was built from them: `program SUM`, or `libkcore.so SUM` and `libkcore.a SUM`, or `wheel SUM`; `made` says with which tools.
 
 programs="kcore cores"
+parts="$programs libkcore wheel"
+of_library="c/build.sh include/kcore.h"
+of_package="python/kcore pyproject.toml setup.py MANIFEST.in docs/PYTHON.md"
 usage="usage: kcore [--workers W] [--show cores|summary|each] [--level K] [--gen NUMBER] [--start buckets|hindex]"
 
-# Takes a program of $programs for the one that is spoken of from here on. With the word $trial it ends well on an empty input.
+# Takes a name of $parts for the one that is spoken of from here on. With the word $trial a program ends well on an empty input.
 # speak_of NAME
 speak_of() {
     name=$1
+    sources=$name.SOURCES
+    top_crate=$name
+    others=
+    trial=
     packed=$name-x86_64-linux.gz
     unpacked=$name-x86_64-linux
-    sources=$name.SOURCES
-    case $name in cores) trial=numbers ;; *) trial= ;; esac
+    case $name in
+        cores) trial=numbers ;;
+        libkcore) top_crate=kc_c others=$of_library packed= unpacked= ;;
+        wheel) top_crate=kc_c others="$of_library $of_package" packed= unpacked= ;;
+    esac
 }
 speak_of "${name:-kcore}"
 
-# Prints the lines of crates.txt for the program and all that it stands on, without comments.
-rows_of_program() {
-    awk -v program="$name" '
+# Prints the lines of crates.txt for the part's crate and all that it stands on, without comments.
+rows_of_part() {
+    awk -v program="$top_crate" '
         {
             sub(/#.*/, "")
             at = index($0, ":")
@@ -46,8 +57,8 @@ rows_of_program() {
 }
 
 # Prints the names of those crates.
-crates_of_program() {
-    rows_of_program | sed 's/^[[:blank:]]*//; s/[[:blank:]:].*//'
+crates_of_part() {
+    rows_of_part | sed 's/^[[:blank:]]*//; s/[[:blank:]:].*//'
 }
 
 # Prints the folders of these crates that a build reads, as paths below crates/.
@@ -71,8 +82,11 @@ sum_of() {
 sum_of_sources() {
     {
         echo "$1"
-        rows_of_program
-        (cd "$top/crates" && find $(folders_of $(crates_of_program)) -type f -print0 | LC_ALL=C sort -z | xargs -0 sha256sum)
+        rows_of_part
+        (cd "$top/crates" && find $(folders_of $(crates_of_part)) -type f -print0 | LC_ALL=C sort -z | xargs -0 sha256sum)
+        if [ -n "$others" ]; then
+            (cd "$top" && find $others -name __pycache__ -prune -o -type f -print0 | LC_ALL=C sort -z | xargs -0 sha256sum)
+        fi
     } | sha256sum | cut -c 1-64
 }
 
@@ -82,7 +96,25 @@ value() {
     sed -n "s/^$2 //p" "$1"
 }
 
-# Writes a record for these sources.
+# Copies files and folders of the checkout to the same places of another folder.
+# copy_files TO FILE..
+copy_files() {
+    to=$1
+    shift
+    for file in "$@"; do
+        mkdir -p "$to/$(dirname "$file")" && cp -R "$top/$file" "$to/$file" || return 1
+    done
+}
+
+# Copies what a build of the part reads to a new folder, as a checkout of that part alone.
+# copy_sources TO
+copy_sources() {
+    mkdir -p "$1/.git"
+    copy_files "$1" HANDLES dist/common.sh $others $(folders_of $(crates_of_part) | sed 's|^|crates/|')
+    rows_of_part > "$1/crates.txt"
+}
+
+# Writes a record of a program for these sources.
 # write_record KIT SOURCES-SUM PROGRAM TO
 write_record() {
     printf 'kit %s\nsources %s\nprogram %s\n' "$1" "$2" "$(sum_of "$3")" > "$4"
@@ -99,7 +131,7 @@ fits() {
 # is_changed_since FILE
 is_changed_since() (
     cd "$top/crates" || return 0
-    crates=$(crates_of_program)
+    crates=$(crates_of_part)
     [ -n "$(find ../crates.txt $crates -maxdepth 0 -cnewer "$1" -print -quit; find $(folders_of $crates) -cnewer "$1" -print -quit)" ]
 )
 
@@ -150,29 +182,91 @@ sum_in() {
     awk -v name="$1" '$2 == name { print $1 }' "$top/dist/SHA256SUMS"
 }
 
-# Unpacks the packed program, if it and the files beside it are what their sums say; else says in $why what is not.
-# unpack TO
-unpack() {
-    for file in "$sources" SHA256SUMS "$packed"; do
+# Whether files of dist are there and are what SHA256SUMS says; else says in $why what is not.
+# are_whole FILE..
+are_whole() {
+    for file in SHA256SUMS "$@"; do
         if [ ! -r "$top/dist/$file" ]; then
             why="there is no file dist/$file"
             return 1
         fi
     done
-    for file in "$sources" "$packed"; do
+    for file in "$@"; do
         if [ "$(sum_of "$top/dist/$file")" != "$(sum_in "$file")" ]; then
             why="dist/$file is damaged, as its sum is not that of dist/SHA256SUMS"
             return 1
         fi
     done
-    if ! gzip -dc "$top/dist/$packed" > "$1" 2> /dev/null; then
-        why="dist/$packed can't be unpacked"
+}
+
+# Unpacks a packed file, if it and the record are what their sums say; else says in $why what is not. WORD is its word in the record.
+# unpack_file PACKED UNPACKED WORD TO
+unpack_file() {
+    are_whole "$sources" "$1" || return 1
+    if ! gzip -dc "$top/dist/$1" > "$4" 2> /dev/null; then
+        why="dist/$1 can't be unpacked"
         return 1
     fi
-    sum=$(sum_of "$1")
-    if [ "$sum" != "$(sum_in "$unpacked")" ] || [ "$sum" != "$(value "$top/dist/$sources" program)" ]; then
-        why="dist/$packed holds another program than dist/SHA256SUMS and dist/$sources say"
+    sum=$(sum_of "$4")
+    if [ "$sum" != "$(sum_in "$2")" ] || [ "$sum" != "$(value "$top/dist/$sources" "$3")" ]; then
+        why="dist/$1 holds another $3 than dist/SHA256SUMS and dist/$sources say"
         return 1
     fi
-    chmod 755 "$1"
+}
+
+# Unpacks the packed program.
+# unpack TO
+unpack() {
+    unpack_file "$packed" "$unpacked" program "$1" && chmod 755 "$1"
+}
+
+# Prints the name of the packed libkcore.so or libkcore.a.
+# packed_library FILE
+packed_library() {
+    echo "libkcore-x86_64-linux.${1##*.}.gz"
+}
+
+# Unpacks libkcore.so, libkcore.a and their record into a folder. Spoken of is libkcore.
+# unpack_library FOLDER
+unpack_library() {
+    for library in libkcore.so libkcore.a; do
+        file=$(packed_library "$library")
+        unpack_file "$file" "${file%.gz}" "$library" "$1/$library" || return 1
+        chmod 644 "$1/$library"
+    done
+    cp "$top/dist/$sources" "$1/$sources"
+    ln -sf libkcore.so "$1/libkcore.so.0"
+}
+
+# Whether a folder has libkcore.so and libkcore.a of these sources, by the record beside them. Spoken of is libkcore.
+# has_library FOLDER
+has_library() {
+    for library in libkcore.so libkcore.a; do
+        [ -r "$1/$library" ] && [ "$(sum_of "$1/$library")" = "$(value "$1/$sources" "$library" 2> /dev/null)" ] || return 1
+    done
+    fits "$1/$sources"
+}
+
+# Prints the name of the wheel in dist, if the sums have one.
+name_of_wheel() {
+    awk '$2 ~ /[.]whl$/ { print $2 }' "$top/dist/SHA256SUMS"
+}
+
+# Whether the wheel in dist is what the sums say, and holds the packed library; else says in $why what is not so. Spoken of is the wheel.
+is_wheel_whole() {
+    are_whole "$sources" || return 1
+    wheel=$(name_of_wheel)
+    if [ -z "$wheel" ]; then
+        why="dist/SHA256SUMS has no wheel"
+        return 1
+    fi
+    are_whole "$wheel" || return 1
+    if [ "$(sum_of "$top/dist/$wheel")" != "$(value "$top/dist/$sources" wheel)" ]; then
+        why="dist/$wheel is another wheel than dist/$sources says"
+        return 1
+    fi
+    if [ "$(value "$top/dist/$sources" libkcore.so)" != "$(sum_in libkcore-x86_64-linux.so)" ]; then
+        why="dist/$wheel holds another library than the packed one"
+        return 1
+    fi
 }

@@ -1,35 +1,27 @@
 #!/bin/sh
-# Tries ./kcore or ./cores, and dist/check.sh, in copies of this checkout, with nothing on the path but the tools of any Debian. It proves
-# and builds nothing: where a build is due, a command of the name rt notes that it was called, and leaves a program that says so.
-# usage: dist/test.sh [PROGRAM [CASE..]]   (kcore or cores, and names of the functions that the last lines list; default: all)
+# Tries what dist/ holds in copies of this checkout: ./kcore and ./cores here, the library and the wheel by dist/test_library.sh, and
+# dist/check.sh with each. It proves and builds nothing: where a build of a program is due, a command of the name rt notes that it was
+# called, and leaves a program that says so. Programs are tried with nothing on the path but the tools of any Debian.
+# usage: dist/test.sh [PART [CASE..]]   (kcore, cores, libkcore or wheel, and names of the functions that the last lines list; default: all)
 # One line a case. Ends with 1 where one went wrong. dist/ has to fit the sources.
 set -u
 top=$(dirname "$(dirname "$(readlink -f "$0")")")
 if [ $# = 0 ]; then
-    sh "$0" kcore
-    status=$?
-    sh "$0" cores && exit $status
-    exit 1
+    status=0
+    for part in kcore cores libkcore wheel; do sh "$0" "$part" || status=1; done
+    exit $status
 fi
 name=$1
+case $name in libkcore | wheel) exec sh "$top/dist/test_library.sh" "$@" ;; esac
 shift
 . "$top/dist/common.sh"
-case " $programs " in *" $name "*) ;; *) echo "usage: dist/test.sh [PROGRAM [CASE..]]" >&2; exit 2 ;; esac
-if ! sh "$top/dist/check.sh" > /dev/null; then exit 1; fi
-room=$(mktemp -d) || exit 1
-trap 'rm -rf "$room"' EXIT
-chmod 755 "$room"
-wrong=0
-machine=
-input=$top/graphs/karate.txt
+case " $programs " in *" $name "*) ;; *) echo "usage: dist/test.sh [PART [CASE..]]" >&2; exit 2 ;; esac
+if ! sh "$top/dist/check.sh" "$name" > /dev/null; then exit 1; fi
+. "$top/dist/testing.sh"
+changed="$programs crates.txt dist crates/kcore crates/cores crates/kc_graph crates/kc_io"
 usage_in_specs=$(sed -n 's/^usage_line = codes "\(.*\)\\n"$/\1/p' "$top/crates/kc_top/specs/ErrLines.antt")
 
-# A folder of the tools alone, and one with a command rt that stands for the kit's.
-mkdir "$room/tools" "$room/kit" "$room/temporary"
-chmod 1777 "$room/temporary"
-for tool in sh dirname readlink awk sed sort find xargs sha256sum cut gzip chmod cp cmp mv rm mkdir mktemp touch uname cat tail grep; do
-    ln -s "$(command -v "$tool")" "$room/tools/$tool"
-done
+# A command rt that stands for the kit's.
 cat > "$room/kit/rt" << END
 #!/bin/sh
 if [ "\$1" = version ]; then echo "$(value "$top/dist/$sources" kit)"; exit; fi
@@ -40,49 +32,6 @@ chmod 755 out/$name
 END
 chmod 755 "$room/kit/rt"
 
-# The crates of all programs, since check.sh looks at each.
-crates_of_programs() (
-    for name in $programs; do crates_of_program; done | LC_ALL=C sort -u
-)
-
-# A copy without what was built, and the one that the cases change. Each case begins with what may be changed as it was.
-mkdir "$room/first"
-(cd "$top" && tar -cf - --no-wildcards-match-slash --exclude='crates/*/out' $programs crates.txt dist $(crates_of_programs | sed 's|^|crates/|')) |
-    (cd "$room/first" && tar -xf -)
-clone="$room/a copy"
-cp -R "$room/first" "$clone"
-
-begin() {
-    title=$1
-    for part in $programs crates.txt dist crates/kcore crates/cores crates/kc_graph crates/kc_io; do
-        rm -rf "${clone:?}/$part"
-        cp -R "$room/first/$part" "$clone/$part"
-    done
-    rm -f "$room/calls"
-    path=$room/tools
-    is_wrong=
-}
-
-# Runs a command with the environment of a case; its streams are left in the room, and its status in $status.
-try() {
-    env -i PATH="$path" TMPDIR="$room/temporary" ${machine:+"KCORE_MACHINE=$machine"} "$@" < "$input" > "$room/out" 2> "$room/err"
-    status=$?
-    # What cores itself says of a run that is done is not looked at.
-    sed -i '/^vertices [0-9]* edges [0-9]* top [0-9]*$/d' "$room/err"
-}
-
-# Notes what is not as it has to be.
-want() {
-    what=$1
-    shift
-    "$@" || is_wrong="$is_wrong; not so: $what"
-}
-
-# Runs a line of shell in a folder of the copy.
-within() (
-    cd "$clone/$1" && eval "$2"
-)
-
 has_numbers() {
     case $name in
         kcore) first='graph vertices 34 edges 78 top 4\n0 4\n1 4' lines=35 ;;
@@ -91,16 +40,8 @@ has_numbers() {
     [ $status = 0 ] && [ "$(head -n "$((lines - 32))" "$room/out")" = "$(printf "$first")" ] && [ "$(wc -l < "$room/out")" = $lines ]
 }
 
-says() {
-    case $(cat "$room/err") in *"$1"*) [ "$(wc -l < "$room/err")" = 1 ] ;; *) return 1 ;; esac
-}
-
 has_built() {
     [ "$(cat "$room/calls" 2> /dev/null)" = run ] && [ "$(cat "$room/out")" = built ]
-}
-
-is_quiet() {
-    [ ! -s "$room/err" ]
 }
 
 is_unasked() {
@@ -109,16 +50,6 @@ is_unasked() {
 
 is_usage() {
     [ $status = 2 ] && [ "$(cat "$room/err")" = "$usage_in_specs" ] && [ ! -s "$room/out" ]
-}
-
-end() {
-    if [ -n "$is_wrong" ]; then
-        wrong=1
-        echo "WRONG  $title$is_wrong"
-        sed 's/^/           /' "$room/err"
-    else
-        echo "well   $title"
-    fi
 }
 
 # Where a build is due: without rt a sentence and status 127, with it the sentence, the call and what was built; then no call again.
@@ -133,7 +64,7 @@ builds() {
 }
 
 first_call() {
-    begin 'the first call, and the second'
+    begin 'the first call, and the second' $changed
     before=$(date +%s%N)
     try "$clone/$name" $trial
     took=$((($(date +%s%N) - before) / 1000000))
@@ -148,14 +79,14 @@ first_call() {
 }
 
 with_the_kit() {
-    begin 'the first call where the kit is there'
+    begin 'the first call where the kit is there' $changed
     path=$room/tools:$room/kit
     try "$clone/$name" $trial
     want 'the numbers' has_numbers
     want 'the sentence' says 'not here: rt ci proves them'
     want 'no build' is_unasked
     end
-    begin 'what rt ci has built is the program of dist'
+    begin 'what rt ci has built is the program of dist' $changed
     mkdir "$clone/crates/$name/out"
     unpack "$clone/crates/$name/out/$name"
     try "$clone/$name" $trial
@@ -165,7 +96,7 @@ with_the_kit() {
 }
 
 places() {
-    begin 'from another folder and through a link'
+    begin 'from another folder and through a link' $changed
     mkdir "$room/link"
     ln -s "$clone/$name" "$room/link/$name"
     (cd / && try "$room/link/$name" $trial && has_numbers) || is_wrong="; not through a link"
@@ -175,7 +106,7 @@ places() {
 }
 
 words() {
-    begin 'a wrong word'
+    begin 'a wrong word' $changed
     try "$clone/kcore" --help
     want 'the usage line after the sentence' [ "$(tail -n 1 "$room/err")" = "$usage_in_specs" ]
     try "$clone/kcore" --workers 0
@@ -185,14 +116,14 @@ words() {
     want 'right words' [ $status = 0 ]
     input=$top/graphs/karate.txt
     end
-    begin 'a wrong word where a build is due'
+    begin 'a wrong word where a build is due' $changed
     path=$room/tools:$room/kit
     echo >> "$clone/crates/kc_graph/src/lib.rt"
     try "$clone/kcore" --workers 0
     want 'the usage line at once' is_usage
     want 'no build' is_unasked
     end
-    begin 'the script takes just the words that the program takes'
+    begin 'the script takes just the words that the program takes' $changed
     unpack "$room/program"
     input=/dev/null
     while read -r line; do
@@ -266,12 +197,12 @@ END
 changes() {
     for change in 'echo >> crates/kc_graph/src/lib.rt' 'rm crates/kc_graph/specs/Lib.antt' 'echo > crates/kc_io/proofs/New.antt' \
         'mv crates/kc_io/src/lib.rt crates/kc_io/src/other.rt' 'rm -r crates/kc_graph/proofs' 'sed -i s/^kc_io:/kc_io:\ itoa/ crates.txt'; do
-        begin "a source is changed: $change"
+        begin "a source is changed: $change" $changed
         want 'the change itself' within . "$change"
         builds 'the sources are not those'
         end
     done
-    begin 'a source is changed after the first call, and its time is set back'
+    begin 'a source is changed after the first call, and its time is set back' $changed
     try "$clone/$name" $trial
     echo >> "$clone/crates/kc_graph/src/lib.rt"
     touch -d 2001-01-01 "$clone/crates/kc_graph/src/lib.rt"
@@ -287,7 +218,7 @@ changes() {
 }
 
 no_changes() {
-    begin 'changes that do not count'
+    begin 'changes that do not count' $changed
     try "$clone/$name" $trial
     path=$room/tools:$room/kit
     (cd "$clone" && echo > README.md && echo >> crates/$name/stdin && rm -r crates/kc_graph/must-fail && mkdir crates/kc_io/out &&
@@ -303,13 +234,13 @@ damage() {
     for harm in 'truncate -s 9000 $packed' 'printf x | dd of=$packed bs=1 seek=9000 conv=notrunc 2> /dev/null' \
         'sed -i s/^./x/ SHA256SUMS' 'sed -i "s/^program .*/program 0/" $sources' 'rm $sources' 'rm SHA256SUMS' 'rm $packed' \
         'echo > x; gzip -nc < x > $packed; sed -i "/$packed/s/^[^ ]*/$(sha256sum < $packed | cut -c 1-64)/" SHA256SUMS'; do
-        begin "a file of dist is damaged: $harm"
+        begin "a file of dist is damaged: $harm" $changed
         want 'the harm itself' within dist "$harm"
         builds 'dist/'
-        sh "$clone/dist/check.sh" > /dev/null 2>&1 && is_wrong="$is_wrong; check.sh passes it"
+        sh "$clone/dist/check.sh" "$name" > /dev/null 2>&1 && is_wrong="$is_wrong; check.sh passes it"
         end
     done
-    begin 'the unpacked program is damaged'
+    begin 'the unpacked program is damaged' $changed
     try "$clone/$name" $trial
     echo >> "$clone/crates/$name/out/$name"
     try "$clone/$name" $trial
@@ -320,12 +251,12 @@ damage() {
 
 machines() {
     for machine in 'Darwin arm64' 'Linux aarch64' 'FreeBSD x86_64'; do
-        begin "another machine: $machine"
+        begin "another machine: $machine" $changed
         builds "no program for this machine ($machine)"
         end
     done
     machine=
-    begin 'the program of dist does not run here'
+    begin 'the program of dist does not run here' $changed
     (cd "$clone/dist" && printf '#!/bin/sh\nexit 1\n' > program && gzip -nc < program > "$packed" &&
         write_record "$(value "$sources" kit)" "$(value "$sources" sources)" program "$sources" && rm program &&
         for file in "$packed" "$sources"; do sed -i "/ $file\$/s/^[^ ]*/$(sum_of "$file")/" SHA256SUMS; done &&
@@ -335,15 +266,12 @@ machines() {
 }
 
 read_only() {
-    begin 'a checkout that cannot be written'
+    begin 'a checkout that cannot be written' $changed
     chmod -R a+rX,a-w "$clone"
-    user=
-    if [ "$(id -u)" = 0 ]; then user='setpriv --reuid=65534 --regid=65534 --clear-groups'; fi
-    cp "$(command -v setpriv)" "$room/tools/"
-    try $user "$clone/$name" $trial
+    as_nobody "$clone/$name" $trial
     want 'the numbers' has_numbers
     want 'the sentence' says 'not here: rt ci proves them'
-    try $user "$clone/$name" --unknown
+    as_nobody "$clone/$name" --unknown
     want 'a wrong word' [ $status = 2 ]
     want 'nothing is left' [ -z "$(ls "$room/temporary")" ]
     want 'nothing is unpacked there' [ ! -e "$clone/crates/$name/out" ]
@@ -352,10 +280,10 @@ read_only() {
 }
 
 checked() {
-    begin 'check.sh says whether it fits'
-    (cd / && try sh "$clone/dist/check.sh" && says_fit) || is_wrong='; not where it does'
+    begin 'check.sh says whether it fits' $changed
+    (cd / && try sh "$clone/dist/check.sh" "$name" && says_fit) || is_wrong='; not where it does'
     echo >> "$clone/crates/kc_graph/src/lib.rt"
-    try sh "$clone/dist/check.sh"
+    try sh "$clone/dist/check.sh" "$name"
     want 'status 1 where a source is changed' [ $status = 1 ]
     want 'the reason' says 'the sources are not those'
     end
@@ -365,8 +293,15 @@ says_fit() {
     case $(cat "$room/out") in *"$name in dist is whole and of these sources"*) is_quiet ;; *) return 1 ;; esac
 }
 
-# The words of kcore alone are known to the script.
-if [ "$name" = kcore ]; then words=words; else words=; fi
+version() {
+    begin 'cores tells the version of the header' $changed
+    try "$clone/cores" --version
+    want 'the version' grep -qxF "cores $(sed -n 's/.* this header is for, \([0-9.]*\):.*/\1/p' "$top/include/kcore.h")" "$room/out"
+    end
+}
+
+# The words of kcore alone are known to the script, and cores alone tells a version.
+case $name in kcore) words=words ;; cores) words=version ;; esac
 for case in ${*:-first_call with_the_kit places $words changes no_changes damage machines read_only checked}; do
     "$case"
 done

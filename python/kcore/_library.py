@@ -4,6 +4,7 @@ from __future__ import annotations
 
 import ctypes
 import os
+import platform
 from pathlib import Path
 from typing import Any
 
@@ -27,11 +28,15 @@ def _packed(version: str) -> int:
 #: The same version as KCORE_VERSION of include/kcore.h has it.
 VERSION = _packed(__version__)
 
-# Where the library lies in an installed package, and where c/build.sh makes it in a checkout.
+# Where the library lies in an installed package, and where c/build.sh makes it and dist/library.sh unpacks it in a checkout.
 _FILE = Path(__file__).resolve()
 _PLACES = (_FILE.with_name("libkcore.so"), _FILE.parents[2] / "build" / "libkcore.so")
 
-_REMEDY = "make it by c/build.sh, or name another in KCORE_LIBRARY"
+# Where Linux tells what the processor has, and what of that the library's instructions want. Some virtual machines hide it.
+_PROCESSOR = Path("/proc/cpuinfo")
+_WANTED = {"cx16", "popcnt", "ssse3", "sse4_1", "sse4_2"}
+
+_REMEDY = "in the checkout unpack it by dist/library.sh or make it by c/build.sh, or name another in KCORE_LIBRARY"
 
 
 class Edge(ctypes.Structure):
@@ -60,9 +65,23 @@ def _found() -> Path:
     raise ImportError(f"there is no library {' or '.join(map(str, places))}: {_REMEDY}")
 
 
+def _lacking() -> set[str]:
+    """What this processor lacks of the level x86-64-v2, as far as Linux tells. There the first call would end the process."""
+    if platform.machine() != "x86_64":
+        return set()
+    try:
+        with _PROCESSOR.open() as told:
+            flags = next((line for line in told if line.startswith("flags")), None)
+    except OSError:
+        return set()
+    return _WANTED.difference(flags.split()) if flags else set()
+
+
 def _load() -> ctypes.CDLL:
-    """The library, loaded. Raises ImportError where there is none, or it is of another version."""
+    """The library, loaded. Raises ImportError where there is none, it is of another version, or this processor can't run it."""
     path = _found()
+    if lacking := _lacking():
+        raise ImportError(f"{path} is for processors of the level x86-64-v2, and this one lacks {', '.join(sorted(lacking))}")
     try:
         library = ctypes.CDLL(str(path.resolve()))
     except OSError as cause:

@@ -22,7 +22,7 @@ def missing(*modules):
 
 
 def checkout(folder, with_library=True):
-    """A copy of what the package is built from."""
+    """A copy of what the package is built from, as a source archive has it. dist/test.sh tries a whole checkout."""
     for name in ["pyproject.toml", "setup.py", "MANIFEST.in", "README.md"]:
         shutil.copy(TOP / name, folder)
     (folder / "docs").mkdir()

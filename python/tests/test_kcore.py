@@ -6,6 +6,7 @@ graphs/karate.txt is part of the repository. Other graphs are looked for in benc
 import _ctypes
 import doctest
 import os
+import platform
 import random
 import re
 import shutil
@@ -367,17 +368,30 @@ class Libraries(unittest.TestCase):
         self.refused("/nowhere/libkcore.so", "there is no library")
         self.refused(__file__, "no library that can be loaded")
 
+    @unittest.skipIf(platform.machine() != "x86_64", "the library is for x86-64")
+    def test_a_processor_that_lacks_what_the_library_wants(self):
+        with tempfile.TemporaryDirectory() as folder:
+            told = Path(folder) / "cpuinfo"
+            with mock.patch.object(_library, "_PROCESSOR", told):
+                self.assertEqual(_library._lacking(), set())
+                told.write_text("processor : 0\nflags : fpu cx16 ssse3 sse4_1\n")
+                with self.assertRaisesRegex(ImportError, "level x86-64-v2, and this one lacks popcnt, sse4_2$"):
+                    _library._load()
+                told.write_text("no flags\n")
+                self.assertEqual(_library._lacking(), set())
+
     def test_a_library_without_a_version(self):
-        self.refused(_ctypes.__file__, "tells no version, and this module calls version 0.1.0")
+        self.refused(_ctypes.__file__, f"tells no version, and this module calls version {kcore.__version__}")
 
     @needs_compiler
     def test_a_library_of_another_version(self):
         with tempfile.TemporaryDirectory() as folder:
-            for version, told in [(0x000101, "0.1.1"), (0x010203, "1.2.3")]:
+            for version in [_library.VERSION + 1, 0x010203]:
+                told = _library._dotted(version)
                 path = Path(folder) / f"{told}.so"
                 text = f"unsigned kcore_version(void) {{ return {version}; }}"
                 subprocess.run(["cc", "-shared", "-fPIC", "-x", "c", "-", "-o", str(path)], input=text.encode(), check=True)
-                self.refused(path, f"is version {told}, and this module calls version 0.1.0")
+                self.refused(path, f"is version {told}, and this module calls version {kcore.__version__}")
 
 
 if __name__ == "__main__":
