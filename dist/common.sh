@@ -261,6 +261,12 @@ is_wheel_whole() {
         return 1
     fi
     are_whole "$wheel" || return 1
+    for file in "$top"/dist/*.whl; do
+        if [ "$file" != "$top/dist/$wheel" ]; then
+            why="dist has $(basename "$file") beside $wheel, so that pip would be given both: remove it"
+            return 1
+        fi
+    done
     if [ "$(sum_of "$top/dist/$wheel")" != "$(value "$top/dist/$sources" wheel)" ]; then
         why="dist/$wheel is another wheel than dist/$sources says"
         return 1

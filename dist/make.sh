@@ -89,6 +89,7 @@ make_program() {
     build
     grep -aq "rattle logic=${kit##* }" "$program" || fail "$program was not made by this kit"
     judge "$program" 2.34
+    [ "$name" != cores ] || [ "$("$program" --version < /dev/null 2> /dev/null)" = "cores $version" ] || fail "cores tells another version"
     write_record "$kit" "$sum" "$program" "$here/$sources"
     {
         pack "$program" "$packed"
@@ -167,6 +168,7 @@ make_wheel() {
     "$python" -m zipfile -l "$first" | grep -q '^kcore/libkcore.so ' || fail "the wheel has no library in it"
     rm -f "$here"/kcore-*.whl
     wheel=$(basename "$first")
+    case $wheel in kcore-"$version"-py3-none-"$platform".whl) ;; *) fail "the wheel has the name $wheel" ;; esac
     cp "$first" "$here/$wheel"
     made=$("$python" -c 'import platform, setuptools, wheel
 print("Python", platform.python_version(), "setuptools", setuptools.__version__, "wheel", wheel.__version__)')
@@ -184,7 +186,8 @@ lines_of_part() {
     ' "$here/SHA256SUMS"
 }
 
-python3 "$own/bench/check_version.py"
+version=$(python3 "$own/bench/check_version.py")
+echo "make.sh: the version is $version in all places"
 for name in ${*:-$parts}; do
     case " $parts " in *" $name "*) ;; *) fail "there is no part $name: parts are $parts" ;; esac
 done
@@ -204,6 +207,8 @@ for name in ${*:-$parts}; do
     done > "$room/all"
     cp "$room/all" "$here/SHA256SUMS"
 done
-chmod 644 "$here"/*.gz "$here"/*.whl "$here"/*.SOURCES "$here/SHA256SUMS"
+size=$(cat "$here"/* | wc -c)
+[ "$size" -le 4194304 ] || fail "dist has $size bytes, and 4 MB are the most"
+for file in "$here"/*.gz "$here"/*.whl "$here"/*.SOURCES "$here/SHA256SUMS"; do [ ! -f "$file" ] || chmod 644 "$file"; done
 cat "$here"/*.SOURCES "$here/SHA256SUMS"
 sh "$here/check.sh"

@@ -10,7 +10,7 @@ input=$top/graphs/karate.txt
 # A folder of the tools of any Debian alone, and one for temporary files.
 mkdir "$room/tools" "$room/kit" "$room/temporary"
 chmod 1777 "$room/temporary"
-for tool in sh dirname readlink awk sed sort find xargs sha256sum cut gzip chmod cp cmp mv rm ln mkdir mktemp touch uname cat tail grep \
+for tool in sh dirname basename readlink awk sed sort find xargs sha256sum cut gzip chmod cp cmp mv rm ln mkdir mktemp touch uname cat tail grep \
     install env; do
     ln -s "$(command -v "$tool")" "$room/tools/$tool"
 done
