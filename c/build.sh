@@ -36,7 +36,7 @@ KCORE {
 END
 ${CC:-cc} -shared -Wl,-soname,libkcore.so.0 -Wl,-z,text,-z,defs -Wl,--version-script=exports.map -Wl,--whole-archive libkcore.a \
     -Wl,--no-whole-archive -o libkcore.so
-ln -sf libkcore.so libkcore.so.0
+name_for_loader .
 if [ "$sum" != "$(sum_of_sources "$kit")" ]; then
     echo "c/build.sh: a source was changed while the library was built: call it again" >&2
     exit 1

@@ -235,7 +235,13 @@ unpack_library() {
         chmod 644 "$1/$library"
     done
     cp "$top/dist/$sources" "$1/$sources"
-    ln -sf libkcore.so "$1/libkcore.so.0"
+    name_for_loader "$1"
+}
+
+# Gives libkcore.so in a folder its second name, by which the loader looks for it. No symbolic link: rt ci stops at one in the checkout.
+# name_for_loader FOLDER
+name_for_loader() {
+    ln -f "$1/libkcore.so" "$1/libkcore.so.0" 2> /dev/null || cp "$1/libkcore.so" "$1/libkcore.so.0"
 }
 
 # Whether a folder has libkcore.so and libkcore.a of these sources, by the record beside them. Spoken of is libkcore.

@@ -56,6 +56,7 @@ unpacks() {
     try sh "$clone/dist/library.sh"
     want 'the same folder' has_told "$clone/build"
     want 'nothing is unpacked again' [ "$(ls -li "$clone/build")" = "$before" ]
+    want 'no link, at which rt ci would stop' [ -z "$(find "$clone/build" -type l)" ]
     want 'nothing else is left' [ "$(ls "$clone/build" | tr '\n' ' ')" = 'libkcore.SOURCES libkcore.a libkcore.so libkcore.so.0 ' ]
     echo >> "$clone/build/libkcore.so"
     try sh "$clone/dist/library.sh"
