@@ -211,4 +211,4 @@ size=$(cat "$here"/* | wc -c)
 [ "$size" -le 4194304 ] || fail "dist has $size bytes, and 4 MB are the most"
 for file in "$here"/*.gz "$here"/*.whl "$here"/*.SOURCES "$here/SHA256SUMS"; do [ ! -f "$file" ] || chmod 644 "$file"; done
 cat "$here"/*.SOURCES "$here/SHA256SUMS"
-sh "$here/check.sh"
+sh "$here/check.sh" "$@"
