@@ -13,7 +13,14 @@ ghost use Rattle.kc_graph.specs.declared.bulk.Edge.{Edge};
 ghost use Rattle.kc_tally.specs.Lists.{ListsEachOnce};
 ghost use Rattle.kc_tally.specs.Layers.{left_at};
 ghost use Rattle.kc_tally.specs.Tallies.{AreBetween, AreTallied};
-ghost use Rattle.kc_ranks.specs.LastRounds.{AreLastRounds};
+ghost use Rattle.kc_hindex.specs.Rounds.{HasRound};
+ghost use Rattle.kc_ranks.specs.LastRounds.{AreLastChanges, AreLastRounds};
+
+/// Who keeps for each vertex the last round that changed its number has these ranks.
+pub fn last_changes_are_last_rounds()
+    ensures { (g : SimpleGraph) (numbers : ℕ → List ℕ) (last : ℕ) (rank : List ℕ) → ((r : ℕ) → r ≤ last → HasRound g r (numbers r))
+        → AreLastChanges numbers last rank → AreLastRounds g (numbers last) rank }
+{}
 
 /// Core numbers agree with their tally where the rank of each vertex is the last round that changed its number. Each vertex has then at
 /// most as many neighbours as its number that have a greater number, or the same and no lesser rank.
