@@ -1,12 +1,12 @@
 -- What shows that claims are no certificate: a certificate has no first fault.
-use Rattle.std.proofs.Common.{◌≡◌, ◌<◌, ◌∙◌, ℕ, List, true≢false, ap, ap₂, arith, length, subst, sym}
+use Rattle.std.proofs.Common.{◌≡◌, ◌<◌, ◌∙◌, ℕ, List, true≢false, ap, arith, length, subst, sym}
 use Rattle.std.specs.List.Sorted.{IsStrictlyIncreasing}
 use Rattle.std.proofs.lemmas.List.{ext_get_or, get_or_default}
 use Rattle.kc_lists.specs.Lists.{member}
 use Rattle.kc_lists.proofs.Counting.{member-get_or}
 use Rattle.kc_graph.specs.Peeling.{at}
 use Rattle.kc_graph.specs.SimpleGraph.{SimpleGraph}
-use Rattle.kc_claims.specs.Certificates.{AreCertificate, IsBetween, IsFirstFault, IsMiscounted, TellEach, claim_at, later_neighbours, rank_in, supporters}
+use Rattle.kc_claims.specs.Certificates.{AreCertificate, IsBetween, IsFirstFault, IsMiscounted, TellEach}
 use Rattle.kc_claims.specs.declared.claim.Claim.{Claim}
 use Rattle.kc_claims.specs.declared.fault.ClaimFault.{ClaimFault}
 use Rattle.kc_claims.specs.declared.fault.ClaimFault.TheVariants.{Unknown, Repeated, Missing, ManyLater, FewSupporters}

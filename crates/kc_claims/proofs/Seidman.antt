@@ -1,5 +1,5 @@
 -- Numbers whose vertices are all between, in the order of their keys, are certified, so they are the core numbers.
-use Rattle.std.proofs.Common.{◌≡◌, ◌≤◌, ◌<◌, ◌+◌, ℕ, Bool, true, ◌&&◌, List, length, get_or, drop, leb, arith, le_trans, subst, sym, ◌∙◌}
+use Rattle.std.proofs.Common.{◌≡◌, ◌≤◌, ◌<◌, ◌+◌, ℕ, Bool, true, ◌&&◌, List, length, get_or, drop, leb, arith, le_trans, subst, ◌∙◌}
 use Rattle.std.specs.Prelude.{count_by}
 use Rattle.std.proofs.lemmas.Bool.{and_from}
 use Rattle.std.proofs.lemmas.List.Elements.{All-contains}
@@ -14,7 +14,7 @@ use Rattle.kc_graph.proofs.Law.{certified-core_numbers}
 use Rattle.kc_tally.specs.Keys.{has_lesser_key}
 use Rattle.kc_tally.proofs.Keys.{has_lesser_key-trans, has_lesser_key-total, has_lesser_key-core}
 use Rattle.kc_tally.proofs.Sorting.{Ascends, order_below, Ascends-pairs, Ascends-behind}
-use Rattle.kc_claims.specs.Certificates.{AreCertificate, IsBetween, TellCoreNumbers, claim_at, later_neighbours, supporters}
+use Rattle.kc_claims.specs.Certificates.{AreCertificate, IsBetween, TellCoreNumbers, later_neighbours, supporters}
 use Rattle.kc_claims.specs.declared.claim.Claim.{Claim}
 
 module _ (g : SimpleGraph) (core rank : List ℕ) where

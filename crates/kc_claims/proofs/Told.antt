@@ -1,5 +1,6 @@
 -- What claims tell that are taken one after another.
-use Rattle.std.proofs.Common.{◌≡◌, ◌≢◌, ◌<◌, ◌+◌, ◌++◌, ◌∙◌, ℕ, Bool, List, [], ◌∷◌, ◌⊎◌, true, false, true≢false, ap, arith, below_more, inl, inr, length, sym, subst}
+use Rattle.std.proofs.Common.{◌≡◌, ◌≢◌, ◌<◌, ◌+◌, ◌++◌, ◌∙◌, ℕ, Bool, List, [], ◌∷◌}
+use Rattle.std.proofs.Common.{true, false, true≢false, ap, arith, below_more, inl, inr, length, sym}
 use Rattle.std.proofs.Common.{length-append, length-set, slice_set}
 use Rattle.std.specs.List.Sorted.{IsStrictlyIncreasing}
 use Rattle.std.proofs.Math.ListN.{get_or-append}
@@ -7,8 +8,7 @@ use Rattle.std.proofs.Math.Seq.{get_or-append_seam}
 use Rattle.std.proofs.lemmas.Bool.{cases_eq, cases_order}
 use Rattle.std.proofs.lemmas.List.{get_or-set_other, get_or-set_same, get_or_default}
 use Rattle.kc_lists.specs.Lists.{member}
-use Rattle.kc_lists.proofs.Counting.{Contains-from_member, member-get_or}
-use Rattle.kc_graph.specs.Certificate.{Enumerates}
+use Rattle.kc_lists.proofs.Counting.{member-get_or}
 use Rattle.kc_graph.specs.Peeling.{at}
 use Rattle.kc_claims.specs.Certificates.{NameOnce, IsMissing, IsRepeated, IsUnknown, TellEach, TellFirst, claim_at, rank_in}
 use Rattle.kc_claims.specs.Taking.{HasTaken, IsTakenWith, IsUnmarkedFirst, is_marked}
@@ -32,7 +32,8 @@ module _ (ids : List ℕ) (claims : List Claim) (n : ℕ) (taken : Taken) (h : H
 
     -- what is told of a vertex, old or new
     at-old : (xs ys : List ℕ) (x i : ℕ) → ys ≡ slice_set xs v x → i < n → at ys (at taken'.order.items i) ≡ at xs (at taken.order.items i)
-    at-old xs ys x i is k = ap (at ys) (stays i k) ∙ ap (λ zs. at zs (at taken.order.items i)) is ∙ get_or-set_other xs v (at taken.order.items i) x 0 (other i k)
+    at-old xs ys x i is k = ap (at ys) (stays i k) ∙ ap (λ zs. at zs (at taken.order.items i)) is
+        ∙ get_or-set_other xs v (at taken.order.items i) x 0 (other i k)
 
     at-new : (xs ys : List ℕ) (x : ℕ) → ys ≡ slice_set xs v x → length xs ≡ length ids → at ys (at taken'.order.items n) ≡ x
     at-new xs ys x is size = ap (at ys) last ∙ ap (λ zs. at zs v) is ∙ get_or-set_same xs v x 0 (omega (arith, size))

@@ -1,7 +1,8 @@
 -- The number that the program ends with.
 use Rattle.std.specs.Prelude.{ℕ}
 use Rattle.kc_cores.specs.declared.CoresStatus.{CoresStatus}
-use Rattle.kc_cores.specs.declared.CoresStatus.TheVariants.{Done, Shown, Usage, Refused, Unopened, ReadFault, ReaderGone, WriteFault, NoMemory, Certified, Uncertified}
+use Rattle.kc_cores.specs.declared.CoresStatus.TheVariants.{Done, Shown, Usage, Refused, Unopened}
+use Rattle.kc_cores.specs.declared.CoresStatus.TheVariants.{ReadFault, ReaderGone, WriteFault, NoMemory, Certified, Uncertified}
 
 -- The exit code of a status: one for a file that can't be opened and one that can't be read. A reader that went away has what it wanted.
 abbrev pub exit_number_of : CoresStatus → ℕ

@@ -1,5 +1,5 @@
 -- The first line of the rest is refused, or there is none, and so no claim is left.
-use Rattle.std.proofs.Common.{◌≡◌, ◌+◌, ◌∙◌, [], List, Result, Ok, Err, ap, append-nil, sym}
+use Rattle.std.proofs.Common.{◌≡◌, ◌+◌, ◌∙◌, List, Ok, Err, ap, append-nil, sym}
 use Rattle.kc_text.specs.Lines.{lines}
 use Rattle.kc_text.specs.declared.refusal.Refusal.{Refusal}
 use Rattle.kc_claims.specs.Claims.{behind_claims, claims_after}

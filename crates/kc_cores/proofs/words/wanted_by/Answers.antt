@@ -19,12 +19,14 @@ pub returns-then-eq-clause-asks : goal.returns-then-eq-clause-asks
 returns-then-eq-clause-asks c =
     let found = found_of c.args.found.now in
     let named = wish-check c.args.name.now (rows_of found) (sym c.eq.ensures ∙ c.if-eq.true) in
-    let rows = ap₂ check_wish (c.get_str.ensures ∙ first_value-rows found (codes "CERTIFICATE")) (c.get_str-then-eq.ensures ∙ first_value-rows found (codes "FILE")) in
+    let rows = ap₂ check_wish (c.get_str.ensures ∙ first_value-rows found (codes "CERTIFICATE"))
+    (c.get_str-then-eq.ensures ∙ first_value-rows found (codes "FILE")) in
     IfOk-weaker c.check_for.result _ _ (λ wanted h. subst (λ (w : Wish). IsRequestFor wanted w) (rows ∙ sym named) h) c.check_for.ensures.asks
 
 pub returns-then-eq-clause-replies : goal.returns-then-eq-clause-replies
 returns-then-eq-clause-replies c =
     let found = found_of c.args.found.now in
     let named = wish-check c.args.name.now (rows_of found) (sym c.eq.ensures ∙ c.if-eq.true) in
-    let rows = ap₂ check_wish (c.get_str.ensures ∙ first_value-rows found (codes "CERTIFICATE")) (c.get_str-then-eq.ensures ∙ first_value-rows found (codes "FILE")) in
+    let rows = ap₂ check_wish (c.get_str.ensures ∙ first_value-rows found (codes "CERTIFICATE"))
+    (c.get_str-then-eq.ensures ∙ first_value-rows found (codes "FILE")) in
     IfErr-weaker c.check_for.result _ _ (λ r h. subst (λ (w : Wish). RepliesTo r w) (rows ∙ sym named) h) c.check_for.ensures.replies
