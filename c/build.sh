@@ -30,6 +30,7 @@ KCORE {
     global: kcore_version; kcore_core_numbers; kcore_degeneracy_order; kcore_check; kcore_k_core;
         kcore_tally; kcore_verdict; kcore_h_index_round;
         kcore_keeper_size; kcore_keeper_align; kcore_keeper_open; kcore_keeper_update; kcore_keeper_apply; kcore_keeper_grow;
+        kcore_keeper_changes; kcore_keeper_members; kcore_keeper_order;
         kcore_keeper_core_numbers; kcore_keeper_core; kcore_keeper_before; kcore_keeper_end;
     local: *;
 };

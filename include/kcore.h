@@ -291,19 +291,46 @@ KCORE_LOOK_AT_ANSWER struct kcore_answer kcore_keeper_open(struct kcore_keeper *
  */
 KCORE_LOOK_AT_ANSWER struct kcore_answer kcore_keeper_update(struct kcore_keeper *place, uint32_t u, uint32_t v, uint32_t add);
 
-/* Makes updates in turn. `number` is how many of them changed the graph.
+/* Makes updates in turn. `number` is how many of them changed the graph. kcore_keeper_changes tells which vertices have another core number
+ * after the call than before it.
  *
  *   updates     updates_len updates; not null
  *
  * Statuses: KCORE_NOT_OPEN, KCORE_NOT_A_VERTEX, KCORE_NO_MEMORY, KCORE_DONE, tested in this order. At KCORE_NO_MEMORY the first `number`
  * updates are made, in turn, and the others are not; go on at updates[number] when there is memory. At the other two faults none is made.
- * Cost: that of as many calls of kcore_keeper_update.
+ * Cost: that of as many calls of kcore_keeper_update, and the time of sorting the vertices whose core numbers they moved.
  *
  *     struct kcore_update updates[] = {{0, 3, 1}, {0, 1, 0}, {0, 3, 1}};
  *     answer = kcore_keeper_apply(keeper, updates, 3);      // KCORE_DONE, and number is 2 where 0 and 1 were joined and 0 and 3 not
  */
 KCORE_LOOK_AT_ANSWER struct kcore_answer kcore_keeper_apply(struct kcore_keeper *place, const struct kcore_update *updates,
                                                             size_t updates_len);
+
+/* A vertex whose core number is another one than before a call. */
+struct kcore_change {
+    uint32_t vertex;
+    uint32_t before;
+    uint32_t now;
+};
+
+/* Writes the vertices whose core numbers the last call of kcore_keeper_apply changed, each once and in ascending order, with the number
+ * before the call and the one after it. The first one that is written is the one at the place `from` of all of them, and as many follow as
+ * there are or as `changes` has room for; what stands behind these in `changes` stays as it was. `number` is how many there are in all, of
+ * which none need be written: where it is more than from + changes_len, call again for the rest. There are none before the first call of
+ * kcore_keeper_apply, and after one that answered KCORE_NOT_A_VERTEX. After KCORE_NO_MEMORY they are those of the updates that are made.
+ * Other calls leave them as they are.
+ *
+ *   from        how many of them are passed over
+ *   changes     changes_len places; not null
+ *
+ * Statuses: KCORE_NOT_OPEN, KCORE_DONE. The keeper stays as it is.
+ * Cost: time linear in what is written; no memory.
+ *
+ *     struct kcore_change changes[8] = {{0}};
+ *     answer = kcore_keeper_changes(keeper, 0, changes, 8);             // the first 8 of answer.number
+ */
+KCORE_LOOK_AT_ANSWER struct kcore_answer kcore_keeper_changes(struct kcore_keeper *place, size_t from, struct kcore_change *changes,
+                                                              size_t changes_len);
 
 /* Adds vertices until there are so many in all: those from the present number of vertices on. They have no edges and core number 0. The
  * others keep their core numbers, and the order in which they were removed.
@@ -341,6 +368,29 @@ KCORE_LOOK_AT_ANSWER struct kcore_answer kcore_keeper_core(struct kcore_keeper *
  * Cost: constant time; no memory.
  */
 KCORE_LOOK_AT_ANSWER struct kcore_answer kcore_keeper_before(struct kcore_keeper *place, uint32_t u, uint32_t v);
+
+/* Writes the vertices of the k-core of the graph as it is now, in ascending order to the front of `members`. `number` is how many there are,
+ * which is at most members_len. What stands behind them in `members` stays as it was.
+ *
+ *   k           how many neighbours inside each member has to have
+ *   members     members_len places, where members_len has to be the number of vertices
+ *
+ * Statuses: KCORE_NOT_OPEN, KCORE_WRONG_MEMBERS_LENGTH, KCORE_DONE, tested in this order. Where it is not KCORE_DONE, `number` is 0. The
+ * keeper stays as it is.
+ * Cost: time linear in the vertices; no memory.
+ */
+KCORE_LOOK_AT_ANSWER struct kcore_answer kcore_keeper_members(struct kcore_keeper *place, uint32_t k, uint32_t *members,
+                                                              size_t members_len);
+
+/* Writes all vertices in the order that certifies the core numbers as they are now, as kcore_degeneracy_order writes one.
+ *
+ *   order       order_len places, where order_len has to be the number of vertices
+ *
+ * Statuses: KCORE_NOT_OPEN, KCORE_WRONG_ORDER_LENGTH, KCORE_NO_MEMORY, KCORE_DONE, tested in this order. `number` is 0. The keeper stays
+ * as it is.
+ * Cost: time and memory linear in the vertices.
+ */
+KCORE_LOOK_AT_ANSWER struct kcore_answer kcore_keeper_order(struct kcore_keeper *place, uint32_t *order, size_t order_len);
 
 /* Gives back all memory that the keeper at the place holds. Nothing lies there then: free the place, or open another keeper there.
  * Cost: time linear in vertices and edges.

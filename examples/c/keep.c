@@ -11,11 +11,10 @@
 #include <string.h>
 #include <sys/types.h>
 
-/* The keeper, the core numbers after the last batch, and the updates of this one. */
+/* The keeper, and the updates of this batch. */
 struct kept {
     struct kcore_keeper *keeper;
     uint32_t vertices, wanted; /* how many there are, and how many the updates need */
-    uint32_t *core;
     struct kcore_update *updates;
     size_t len, room;
     size_t batch;
@@ -88,30 +87,28 @@ static int put(struct kept *kept, struct kcore_update update) {
 static int grow(struct kept *kept) {
     if (kept->wanted <= kept->vertices)
         return 1;
-    uint32_t *core = realloc(kept->core, kept->wanted * sizeof *core);
-    if (!core)
-        return fprintf(stderr, "there is no memory for the numbers of %" PRIu32 " vertices\n", kept->wanted), 0;
-    memset(core + kept->vertices, 0, (kept->wanted - kept->vertices) * sizeof *core);
-    kept->core = core;
     if (!told("kcore_keeper_grow", kcore_keeper_grow(kept->keeper, kept->wanted)))
         return 0;
     kept->vertices = kept->wanted;
     return 1;
 }
 
-/* Writes whose core number changed, and keeps the new numbers. */
-static int write_changes(struct kept *kept) {
-    uint32_t *core = calloc((size_t)kept->vertices + 1, sizeof *core); /* one more, so that it is not null where there is no vertex */
-    if (!core)
-        return fprintf(stderr, "there is no memory for the numbers of %" PRIu32 " vertices\n", kept->vertices), 0;
-    if (!told("kcore_keeper_core_numbers", kcore_keeper_core_numbers(kept->keeper, core, kept->vertices)))
-        return free(core), 0;
-    for (uint32_t v = 0; v < kept->vertices; v++)
-        if (core[v] != kept->core[v])
-            printf("%" PRIu32 " %" PRIu32 " %" PRIu32 "\n", v, kept->core[v], core[v]);
-    free(kept->core);
-    kept->core = core;
-    return 1;
+/* Writes whose core number changed, as many at a time as there is room for. */
+static int write_changes(const struct kept *kept) {
+    enum { ROOM = 256 };
+    struct kcore_change changes[ROOM] = {{0}};
+    size_t from = 0;
+    for (;;) {
+        struct kcore_answer answer = kcore_keeper_changes(kept->keeper, from, changes, ROOM);
+        if (!told("kcore_keeper_changes", answer))
+            return 0;
+        size_t left = answer.number - from, len = left < ROOM ? left : ROOM;
+        for (size_t i = 0; i < len; i++)
+            printf("%" PRIu32 " %" PRIu32 " %" PRIu32 "\n", changes[i].vertex, changes[i].before, changes[i].now);
+        from += len;
+        if (from == answer.number)
+            return 1;
+    }
 }
 
 /* Makes the batch, and writes what changed; 0, and a message, where a call is refused or a write fails. */
@@ -158,9 +155,9 @@ int main(void) {
     if (kcore_version() != KCORE_VERSION)
         return fprintf(stderr, "the library is of version %#" PRIx32 ", and this program is for %#x\n", kcore_version(), KCORE_VERSION), 1;
     /* malloc aligns to any kcore_keeper_align() that can be: at most 16. */
-    struct kept kept = {malloc(kcore_keeper_size()), 0, 0, calloc(1, sizeof *kept.core), malloc(sizeof *kept.updates), 0, 1, 0};
+    struct kept kept = {malloc(kcore_keeper_size()), 0, 0, malloc(sizeof *kept.updates), 0, 1, 0};
     struct kcore_edge none = {0, 0};
-    int well = kept.keeper && kept.core && kept.updates;
+    int well = kept.keeper && kept.updates;
     if (!well)
         fprintf(stderr, "there is no memory for a keeper\n");
     if (well) {
@@ -168,7 +165,6 @@ int main(void) {
         kcore_keeper_end(kept.keeper);
     }
     free(kept.updates);
-    free(kept.core);
     free(kept.keeper);
     return !well;
 }

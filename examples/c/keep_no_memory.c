@@ -99,10 +99,49 @@ static void compare_each(const struct tried *tried, const uint32_t *core) {
     }
 }
 
-/* The keeper has the core numbers that are found from scratch. */
+/* The members that are told of each k-core are its vertices, and nothing is written behind them. */
+static void compare_members(const struct tried *tried, const uint32_t *core) {
+    for (uint32_t k = 0; k < 6; k++) {
+        uint32_t members[VERTICES], len = 0;
+        for (uint32_t v = 0; v < tried->vertices; v++)
+            members[v] = 9999;
+        struct kcore_answer answer = kcore_keeper_members(tried->keeper, k, members, tried->vertices);
+        WANT(answer.status == KCORE_DONE);
+        for (uint32_t v = 0; v < tried->vertices; v++)
+            if (core[v] >= k) {
+                WANT(members[len] == v);
+                len++;
+            }
+        WANT(answer.number == len && (len == tried->vertices || members[len] == 9999));
+    }
+}
+
+/* The changes that are told are those between the numbers before and now, each once and in ascending order. */
+static void compare_changes(const struct tried *tried, const uint32_t *before) {
+    uint32_t now[VERTICES] = {0};
+    struct kcore_change told[2] = {{0}};
+    WANT(kcore_keeper_core_numbers(tried->keeper, now, tried->vertices).status == KCORE_DONE);
+    size_t from = 0;
+    for (uint32_t v = 0; v < tried->vertices; v++)
+        if (before[v] != now[v]) {
+            told[1].vertex = 9999;
+            struct kcore_answer answer = kcore_keeper_changes(tried->keeper, from, told, 1 + from % 2);
+            WANT(answer.status == KCORE_DONE && from < answer.number);
+            WANT(told[0].vertex == v && told[0].before == before[v] && told[0].now == now[v]);
+            WANT((from % 2 == 1 && from + 1 < answer.number) == (told[1].vertex != 9999));
+            from++;
+        }
+    told[0].vertex = 9999;
+    for (size_t past = from; past < from + 2; past++) {
+        struct kcore_answer answer = kcore_keeper_changes(tried->keeper, past, told, 2);
+        WANT(answer.status == KCORE_DONE && answer.number == from && told[0].vertex == 9999);
+    }
+}
+
+/* The keeper has the core numbers that are found from scratch, and an order that certifies them. */
 static void compare(const struct tried *tried) {
     static struct kcore_edge edges[VERTICES * VERTICES];
-    uint32_t kept[VERTICES] = {0}, found[VERTICES] = {0};
+    uint32_t kept[VERTICES] = {0}, found[VERTICES] = {0}, order[VERTICES] = {0};
     size_t len = 0;
     for (uint32_t u = 0; u < tried->vertices; u++)
         for (uint32_t v = u + 1; v < tried->vertices; v++)
@@ -112,6 +151,10 @@ static void compare(const struct tried *tried) {
     struct kcore_answer answer = kcore_keeper_core_numbers(tried->keeper, kept, tried->vertices);
     WANT(answer.status == KCORE_DONE && answer.number == 0);
     WANT(memcmp(kept, found, sizeof kept) == 0);
+    answer = kcore_keeper_order(tried->keeper, order, tried->vertices);
+    WANT(answer.status == KCORE_DONE && answer.number == 0);
+    WANT(kcore_check(tried->vertices, edges, len, kept, tried->vertices, order, tried->vertices).status == KCORE_DONE);
+    compare_members(tried, kept);
     compare_each(tried, kept);
 }
 
@@ -129,6 +172,9 @@ static void open(struct tried *tried) {
     WANT(kcore_keeper_core_numbers(tried->keeper, core, 1).status == KCORE_NOT_OPEN && core[0] == 9);
     WANT(kcore_keeper_core(tried->keeper, 0).status == KCORE_NOT_OPEN);
     WANT(kcore_keeper_before(tried->keeper, 0, 1).status == KCORE_NOT_OPEN);
+    WANT(kcore_keeper_members(tried->keeper, 0, core, 1).status == KCORE_NOT_OPEN && core[0] == 9);
+    WANT(kcore_keeper_order(tried->keeper, core, 1).status == KCORE_NOT_OPEN && core[0] == 9);
+    WANT(kcore_keeper_changes(tried->keeper, 0, &(struct kcore_change){0}, 1).status == KCORE_NOT_OPEN);
     kcore_keeper_end(tried->keeper);
     tried->vertices = FIRST;
     for (int i = 0; i < 2 * VERTICES; i++) {
@@ -195,10 +241,14 @@ static void apply(struct tried *tried) {
     for (size_t i = 0; i < BATCH; i++)
         updates[i] = drawn(tried);
     updates[BATCH] = (struct kcore_update){1, tried->vertices, 1};
+    uint32_t before[VERTICES] = {0};
+    WANT(kcore_keeper_core_numbers(tried->keeper, before, tried->vertices).status == KCORE_DONE);
     struct kcore_answer answer = kcore_keeper_apply(tried->keeper, updates, BATCH + 1);
     WANT(answer.status == KCORE_NOT_A_VERTEX && answer.number == BATCH);
     compare(tried);
+    compare_changes(tried, before);
     for (size_t from = 0; from < BATCH;) {
+        WANT(kcore_keeper_core_numbers(tried->keeper, before, tried->vertices).status == KCORE_DONE);
         turn = 0, failing = 1 + next_draw() % 60;
         answer = kcore_keeper_apply(tried->keeper, updates + from, BATCH - from);
         failing = NEVER;
@@ -211,6 +261,7 @@ static void apply(struct tried *tried) {
         }
         WANT(!is_done || answer.number == changed);
         compare(tried);
+        compare_changes(tried, before);
         from += made;
     }
 }
@@ -241,6 +292,12 @@ int main(void) {
     }
     uint32_t core[VERTICES] = {0};
     WANT(kcore_keeper_core_numbers(one.keeper, core, one.vertices + 1).status == KCORE_WRONG_CORE_LENGTH);
+    WANT(kcore_keeper_members(one.keeper, 0, core, one.vertices + 1).status == KCORE_WRONG_MEMBERS_LENGTH);
+    WANT(kcore_keeper_order(one.keeper, core, one.vertices + 1).status == KCORE_WRONG_ORDER_LENGTH);
+    long blocks = held;
+    turn = 0, failing = 1;
+    WANT(kcore_keeper_order(one.keeper, core, one.vertices).status == KCORE_NO_MEMORY && held == blocks);
+    failing = NEVER;
     WANT(kcore_keeper_update(one.keeper, 0, one.vertices, 1).status == KCORE_NOT_A_VERTEX);
     WANT(kcore_keeper_core(one.keeper, one.vertices).status == KCORE_NOT_A_VERTEX);
     WANT(kcore_keeper_before(one.keeper, 0, one.vertices).status == KCORE_NOT_A_VERTEX);

@@ -14,6 +14,9 @@ from ._graph import Graph, NotAVertexError
 #: The core numbers of a vertex before and after a call; before is None where the vertex is new.
 Change = Tuple[Optional[int], int]
 
+# How many changes of core numbers are asked for at first.
+_FEW = 64
+
 _FAR_APART = ": say names=True where ids are far apart"
 
 
@@ -30,8 +33,8 @@ class _Place:
 class Cores:
     """A graph whose core numbers are kept right while edges come and go.
 
-    An update costs what it concerns, and not the graph: mostly some microseconds. To tell which core numbers changed, each call reads all
-    of them once. Core numbers, and the order that certifies them, are the library's, whose contracts are proved [1]_.
+    An update costs what it concerns, and not the graph: mostly some microseconds. So does telling which core numbers changed. Where a call
+    brings new vertices, it reads all core numbers once. Core numbers, and the order that certifies them, are the library's, whose contracts are proved [1]_.
 
     Parameters
     ----------
@@ -219,17 +222,20 @@ class Cores:
         with self._lock:
             gone = self._known_ends(leaving)
             ends, vertices, new = self._all_ends(coming)
-            old, count = self._core, self._vertices
+            count = self._vertices
             self._grow(vertices, new)
+            if self._vertices > count:
+                self._core = self._read()
             updates = _joined(_lists.updates_of(gone, False), _lists.updates_of(ends, True))
             answer = self._answer(_library.keeper_apply, _lists.address(updates), _lists.size(updates) // 3)
-            self._core = self._read()
+            changed = self._changed()
+            for place, _, now in changed:
+                self._core[place] = now
             if answer.status == _library.NO_MEMORY:
                 raise MemoryError(f"there is no memory: the first {answer.number} of {_lists.size(updates) // 3} updates are made")
             if answer.status != _library.DONE:
                 self._refuse(answer)
-            changed = {place: (int(old[place]), int(self._core[place])) for place in _lists.differences(old, self._core[:count])}
-            changes: Dict[Any, Change] = {self._vertex(place): change for place, change in changed.items()}
+            changes: Dict[Any, Change] = {self._vertex(place): (before, now) for place, before, now in changed if place < count}
             changes.update((self._vertex(place), (None, int(self._core[place]))) for place in range(count, self._vertices))
             return changes
 
@@ -323,6 +329,16 @@ class Cores:
         core = _lists.room(self._room, self._like_array)
         self._call(_library.keeper_core_numbers, _lists.address(core), self._room)
         return core[: self._vertices]
+
+    def _changed(self) -> List[Tuple[int, int, int]]:
+        """Each vertex whose core number the last batch changed, in ascending order, with its number before and now."""
+        room = _FEW
+        while True:
+            told = array(_lists.CODE, bytes(12 * room))
+            number = self._call(_library.keeper_changes, 0, _lists.address(told), room).number
+            if number <= room:
+                return list(zip(told[0 : 3 * number : 3], told[1 : 3 * number : 3], told[2 : 3 * number : 3]))
+            room = number
 
     def _answer(self, function: Any, *arguments: Any) -> _library.Answer:
         if self._place is None:

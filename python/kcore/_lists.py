@@ -142,13 +142,6 @@ def within(ends: Any, most: int) -> Any:
     return kept
 
 
-def differences(old: Any, new: Any) -> List[int]:
-    """The places, ascending, where two lists of the same length differ."""
-    if is_array(old) and is_array(new):
-        return [int(place) for place in (old != new).nonzero()[0]]
-    return [place for place, (here, there) in enumerate(zip(old, new)) if here != there]
-
-
 def room(length: int, like_array: bool) -> Any:
     """A list of this length to be written. Its places are 0, since the library wants numbers there."""
     if like_array:

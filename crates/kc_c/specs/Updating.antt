@@ -1,5 +1,5 @@
 -- Updates of a kept graph, as C names them.
-use Rattle.std.specs.Prelude.{◌≡◌, ◌<◌, ◌+◌, ℕ, Bool, not, ◌&&◌, ◌==◌, nat_lt, List, [], ◌∷◌, length, take, Option, if◌then◌else◌}
+use Rattle.std.specs.Prelude.{◌+◌, ℕ, Bool, not, ◌&&◌, ◌==◌, nat_lt, List, [], ◌∷◌, Option, if◌then◌else◌}
 use Rattle.std.specs.List.{position}
 use Rattle.kc_graph.specs.SimpleGraph.{SimpleGraph, adjacent}
 use Rattle.kc_graph.specs.Edges.{with_edge, without_edge}
@@ -34,8 +34,3 @@ after_all_given g (u ∷ us) = after_all_given (after_given u g) us
 abbrev pub count_changing : SimpleGraph → List GivenUpdate → ℕ
 count_changing g [] = 0
 count_changing g (u ∷ us) = (if is_changing u g then 1 else 0) + count_changing (after_given u g) us
-
--- So many of the updates are made, in turn, and the others are not.
-pub record AreMadeBefore (made : ℕ) (old : SimpleGraph) (updates : List GivenUpdate) (new : SimpleGraph) : Type 0 where
-  pub fewer : made < length updates
-  pub graph : new ≡ after_all_given old (take made updates)

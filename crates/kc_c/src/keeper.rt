@@ -12,16 +12,17 @@ ghost use Rattle.std.specs.Prelude.{◌≡◌};
 ghost use Rattle.std.specs.Borrow.{sem};
 ghost use Rattle.std.specs.Ptr.{points_to, uninit_at};
 ghost use Rattle.kc_c.specs.contracts.keeping.Content.{the_row};
-ghost use Rattle.kc_c.specs.Keeping.{AtPlace, IsGrownTo, IsUpdatedBy, IsUpdatedByAll, IsBeforeAt, NumberAt, NumbersAt, Opens};
+ghost use Rattle.kc_c.specs.Keeping.{AppliesAt, AtPlace, ChangesAt, IsBeforeAt, IsGrownTo, IsUpdatedBy, MembersAt, NumberAt, NumbersAt, Opens, OrderAt};
 ghost use Rattle.kc_c.specs.Updating.{given_update};
 
 use crate::answer::CallResult;
 use crate::keeping::{
     CallEnd, Content, KeeperPlace, apply_updates, compare_places, grow_keeper, let_go, open_keeper,
-    read_number, read_numbers, update_keeper,
+    read_changes, read_members, read_number, read_numbers, read_order, update_keeper,
 };
 use crate::updates::GivenUpdate;
 use kc_graph::Edge;
+use kc_keeper::CoreChange;
 use std::alloc::Global;
 
 /// How many bytes a place for a keeper has.
@@ -49,7 +50,7 @@ pub unsafe extern "C" fn kcore_keeper_open(
     edges: &[Edge],
 ) -> CallResult
     requires* { sem 𝓛 (uninit_at the_row place) }
-    ensures* { ∃ₛ λ (s : Content). sem 𝓛 (points_to the_row place s) ∗ ⌜ Opens s.keeper vertices edges.now result ⌝ }
+    ensures* { ∃ₛ λ (s : Content). sem 𝓛 (points_to the_row place s) ∗ ⌜ Opens s vertices edges.now result ⌝ }
 {
     let p = place as *mut Content;
     let CallEnd { content, answer } = open_keeper(alloc, vertices, edges);
@@ -68,7 +69,7 @@ pub unsafe extern "C" fn kcore_keeper_update(
 ) -> CallResult
     ghost g: { Content }
     requires* { sem 𝓛 (points_to the_row place g) }
-    ensures* { ∃ₛ λ (s : Content). sem 𝓛 (points_to the_row place s) ∗ ⌜ AtPlace (IsUpdatedBy (given_update u v add)) g.keeper s.keeper result ⌝ }
+    ensures* { ∃ₛ λ (s : Content). sem 𝓛 (points_to the_row place s) ∗ ⌜ AtPlace (IsUpdatedBy (given_update u v add)) g s result ⌝ }
 {
     let p = place as *mut Content;
     let CallEnd { content, answer } = update_keeper(alloc, p.read(), u, v, add);
@@ -76,7 +77,8 @@ pub unsafe extern "C" fn kcore_keeper_update(
     answer
 }
 
-/// Makes updates in turn. `number` is how many changed the graph; where there was no memory, how many were made.
+/// Makes updates in turn. `number` is how many changed the graph; where there was no memory, how many were made. Which core numbers changed
+/// is kept beside the keeper, until the next call of this function.
 #[unsafe(no_mangle)]
 pub unsafe extern "C" fn kcore_keeper_apply(
     alloc: Global,
@@ -85,10 +87,27 @@ pub unsafe extern "C" fn kcore_keeper_apply(
 ) -> CallResult
     ghost g: { Content }
     requires* { sem 𝓛 (points_to the_row place g) }
-    ensures* { ∃ₛ λ (s : Content). sem 𝓛 (points_to the_row place s) ∗ ⌜ AtPlace (IsUpdatedByAll updates.now) g.keeper s.keeper result ⌝ }
+    ensures* { ∃ₛ λ (s : Content). sem 𝓛 (points_to the_row place s) ∗ ⌜ AppliesAt updates.now g s result ⌝ }
 {
     let p = place as *mut Content;
     let CallEnd { content, answer } = apply_updates(alloc, p.read(), updates);
+    p.write(content);
+    answer
+}
+
+/// Writes the changes of core numbers from a place on that the last call of `kcore_keeper_apply` made. `number` is how many there are in all.
+#[unsafe(no_mangle)]
+pub unsafe extern "C" fn kcore_keeper_changes(
+    place: *mut KeeperPlace,
+    from: usize,
+    changes: &mut [CoreChange],
+) -> CallResult
+    ghost g: { Content }
+    requires* { sem 𝓛 (points_to the_row place g) }
+    ensures* { sem 𝓛 (points_to the_row place g) ∗ ⌜ ChangesAt g from changes.old changes.new result ⌝ }
+{
+    let p = place as *mut Content;
+    let CallEnd { content, answer } = read_changes(p.read(), from, changes);
     p.write(content);
     answer
 }
@@ -102,7 +121,7 @@ pub unsafe extern "C" fn kcore_keeper_grow(
 ) -> CallResult
     ghost g: { Content }
     requires* { sem 𝓛 (points_to the_row place g) }
-    ensures* { ∃ₛ λ (s : Content). sem 𝓛 (points_to the_row place s) ∗ ⌜ AtPlace (IsGrownTo vertices) g.keeper s.keeper result ⌝ }
+    ensures* { ∃ₛ λ (s : Content). sem 𝓛 (points_to the_row place s) ∗ ⌜ AtPlace (IsGrownTo vertices) g s result ⌝ }
 {
     let p = place as *mut Content;
     let CallEnd { content, answer } = grow_keeper(alloc, p.read(), vertices);
@@ -148,6 +167,40 @@ pub unsafe extern "C" fn kcore_keeper_before(place: *mut KeeperPlace, u: u32, v:
 {
     let p = place as *mut Content;
     let CallEnd { content, answer } = compare_places(p.read(), u, v);
+    p.write(content);
+    answer
+}
+
+/// Writes the members of the k-core to the front of `members`. `number` is how many there are.
+#[unsafe(no_mangle)]
+pub unsafe extern "C" fn kcore_keeper_members(
+    place: *mut KeeperPlace,
+    k: u32,
+    members: &mut [u32],
+) -> CallResult
+    ghost g: { Content }
+    requires* { sem 𝓛 (points_to the_row place g) }
+    ensures* { sem 𝓛 (points_to the_row place g) ∗ ⌜ MembersAt g.keeper k members.old members.new result ⌝ }
+{
+    let p = place as *mut Content;
+    let CallEnd { content, answer } = read_members(p.read(), k, members);
+    p.write(content);
+    answer
+}
+
+/// Writes the vertices in the order that certifies the core numbers.
+#[unsafe(no_mangle)]
+pub unsafe extern "C" fn kcore_keeper_order(
+    alloc: Global,
+    place: *mut KeeperPlace,
+    order: &mut [u32],
+) -> CallResult
+    ghost g: { Content }
+    requires* { sem 𝓛 (points_to the_row place g) }
+    ensures* { sem 𝓛 (points_to the_row place g) ∗ ⌜ OrderAt g.keeper order.old order.new result ⌝ }
+{
+    let p = place as *mut Content;
+    let CallEnd { content, answer } = read_order(alloc, p.read(), order);
     p.write(content);
     answer
 }

@@ -55,16 +55,17 @@ ghost use Rattle.kc_graph.specs.declared.bulk.Edge.{Edge};
 ghost use Rattle.kc_tally.specs.Lists.{ListsEachOnce};
 ghost use Rattle.kc_tally.specs.Tallies.{AreBetween, AreTallied, capped, later_count, supporter_count};
 ghost use Rattle.kc_c.specs.Answers.{first_stranger};
-ghost use Rattle.kc_c.specs.KCores.{AreCoreMembers};
+ghost use Rattle.kc_keeper.specs.Members.{AreCoreMembers};
 ghost use Rattle.kc_c.specs.Tallying.{tally_answer};
 
 pub use crate::answer::CallResult;
 use crate::answer::answer_to;
 use crate::calls::{check_numbers, write_core_numbers, write_decomposition, write_k_core};
 pub use crate::keeper::{
-    kcore_keeper_align, kcore_keeper_apply, kcore_keeper_before, kcore_keeper_core,
-    kcore_keeper_core_numbers, kcore_keeper_end, kcore_keeper_grow, kcore_keeper_open,
-    kcore_keeper_size, kcore_keeper_update,
+    kcore_keeper_align, kcore_keeper_apply, kcore_keeper_before, kcore_keeper_changes,
+    kcore_keeper_core, kcore_keeper_core_numbers, kcore_keeper_end, kcore_keeper_grow,
+    kcore_keeper_members, kcore_keeper_open, kcore_keeper_order, kcore_keeper_size,
+    kcore_keeper_update,
 };
 pub use crate::keeping::{CallEnd, Content, KeeperPlace};
 pub use crate::rounds::kcore_h_index_round;

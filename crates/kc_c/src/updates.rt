@@ -1,10 +1,11 @@
 //! Updates of a kept graph, as C names them.
-ghost use Rattle.std.specs.Prelude.{◌≡◌, ◌<◌, ◌+◌, true, All, IfErr, IfOk, OnErr, if◌then◌else◌};
+ghost use Rattle.std.specs.Prelude.{◌≡◌, true, IfOk, MatchOption, OnErr};
 ghost use Rattle.kc_graph.specs.Core.{AreCoreNumbers};
 ghost use Rattle.kc_graph.specs.Lawful.{IsCertified};
-ghost use Rattle.kc_c.specs.Updating.{AreMadeBefore, after_all_given, after_given, are_vertices, count_changing, first_outsider, is_changing};
+ghost use Rattle.kc_c.specs.Listing.{AreListed, StandsFor};
+ghost use Rattle.kc_c.specs.Updating.{after_given, are_vertices, first_outsider, is_changing};
 
-use kc_graph::Update;
+use kc_graph::{NoMemory, Update};
 use kc_keeper::{Keeper, UpdateFault};
 use std::alloc::Global;
 
@@ -51,35 +52,41 @@ pub(crate) fn make(
     }
 }
 
-/// One more where the graph changed.
-fn counted_with(count: usize, changed: bool) -> usize
-    requires { count < usize.MAX }
-    ensures { result ≡ count + (if changed then 1 else 0) }
-{
-    if changed { count + 1 } else { count }
+/// The updates of a list of C that are no loops, and the place of each in that list.
+#[derive(Drop)]
+pub(crate) struct Listed {
+    pub(crate) updates: Vec<Update>,
+    pub(crate) places: Vec<usize>,
 }
 
-/// Makes updates in turn, and counts those that changed the graph. Where there is no memory for one of them, those before it are made, and
-/// the answer is how many these are.
-pub(crate) fn make_all(
-    alloc: Global,
-    keeper: &mut Keeper,
-    updates: &[GivenUpdate],
-) -> Result<usize, usize>
-    requires vertices { All (λ u. are_vertices keeper.old.graph.size u ≡ true) updates.now }
-    ensures graph { IfOk result (λ _. keeper.new.graph ≡ after_all_given keeper.old.graph updates.now) }
-    ensures count { IfOk result (λ count. count ≡ count_changing keeper.old.graph updates.now) }
-    ensures stopped { IfErr result (λ made. AreMadeBefore made keeper.old.graph updates.now keeper.new.graph) }
-    ensures certified { IsCertified keeper.new }
-    ensures seidman { AreCoreNumbers keeper.new.graph keeper.new.core }
+/// The update that C names; none where it names a loop.
+fn update_of(given: GivenUpdate) -> Option<Update>
+    ensures { MatchOption result (given.u ≡ given.v) (StandsFor given) }
 {
-    keeper.recall_certified();
-    let mut count = 0;
-    for (made, update) in updates.iter().enumerate() {
-        let Ok(changed) = make(alloc, keeper, *update) else {
-            return Err(made);
-        };
-        count = counted_with(count, changed);
+    let GivenUpdate { u, v, add } = given;
+    let add = add != 0;
+    if u < v {
+        Some(Update { add, u, v })
+    } else if v < u {
+        Some(Update { add, u: v, v: u })
+    } else {
+        None
     }
-    Ok(count)
+}
+
+/// The updates of a list of C that are no loops, and the place of each in that list.
+pub(crate) fn list_updates(alloc: Global, given: &[GivenUpdate]) -> Result<Listed, NoMemory>
+    ensures { IfOk result (λ listed. AreListed given.now listed.updates.items listed.places.items) }
+{
+    let mut listed = Listed {
+        updates: Vec::with_capacity(alloc, given.len())?,
+        places: Vec::with_capacity(alloc, given.len())?,
+    };
+    for (place, named) in given.iter().enumerate() {
+        if let Some(update) = update_of(*named) {
+            listed.updates.push(update)?;
+            listed.places.push(place)?;
+        }
+    }
+    Ok(listed)
 }

@@ -34,7 +34,7 @@ put-in_front false true x u all us is = is
 put-in_front false false x u all us is = is
 
 -- those that were applied, with one update more
-applied-push : (g : SimpleGraph) (us : List Update) (u : Update)
+pub applied-push : (g : SimpleGraph) (us : List Update) (u : Update)
     → applied_in_turn g (us ++ u ∷ []) ≡ cond (is_applied u (made_in_turn g us)) (applied_in_turn g us ++ u ∷ []) (applied_in_turn g us)
 applied-push g [] u = refl
 applied-push g (x ∷ us) u =

@@ -31,7 +31,7 @@ use borrow.Table.OneValue.{part_out, part_in}
 use prog.Wp.{WpFn}
 use Rattle.std.specs.contracts.alloc.Global.{the_row as global_row}
 use Rattle.std.proofs.alloc.Global.TheLaws.{the_row_laws as global_laws, the_told as global_told}
-use Rattle.kc_c.specs.Keeping.{AtPlace, IsUpdatedByAll}
+use Rattle.kc_c.specs.Keeping.{AppliesAt}
 use Rattle.kc_c.specs.declared.keeping.Content.{Content}
 use Rattle.kc_c.specs.declared.keeping.CallEnd.{CallEnd}
 use Rattle.kc_c.specs.contracts.keeping.Content.{the_row}
@@ -87,7 +87,7 @@ kcore_keeper_apply_spec 𝓤 𝓛 𝓜 𝓡 wired =
     (and_then ! (get ! refl) (and_then ! (get ! refl) (and_then ! (get ! refl) (no_more !)))) (λ out.
     use1 𝓛 (later (some (λ (r : CallEnd). (Token ⊛ ‵ ((Two the_row answer_row).own_val (r.content, (r.answer, tt)) (out ∷ []))) ⊛
     some (λ (ws : Lasts g.ended κs z.0.3). ‵ (lasts g.ended κs z.0.3 ws)
-    ⊛ raw (fact 𝓤 (AtPlace (IsUpdatedByAll s.now) n.keeper r.content.keeper r.answer)))))) (id⊢ 𝓤 _) $
+    ⊛ raw (fact 𝓤 (AppliesAt s.now n r.content r.answer)))))) (id⊢ 𝓤 _) $
     await ! tt $ pick ! (λ r. split ! $ move ! (1 ∷ []) $ pick ! (λ ws. split ! $ drop ! $ heard ! _ (λ ok. split ! $ move ! (1 ∷ []) $
     two_out the_row answer_row r.content r.answer ! refl refl (the_row_laws.lawful 𝓛) (answer_laws.lawful 𝓛) (out ∷ []) (λ w₁ w₂ t₁ t₂ is₂.
     -- [what the content owns; what the answer owns; the token; the cell; the locals]
@@ -100,8 +100,8 @@ kcore_keeper_apply_spec 𝓤 𝓛 𝓜 𝓡 wired =
     returns ! (look_at ! 0 refl) $ free_all ! refl $
     move ! (3 ∷ 0 ∷ []) $ use2 𝓛 (‵ (part_at the_row full_share r.content b o)) (part_in 𝓛 the_row refl full_share r.content b o w₁) $
     suffices ! _ (ends_at 𝓛 f.ended stayed c (y (block_ptr b o)) w₂ r.answer (tt, (tt, (tt, tt))) (tt, (tt, (tt, tt)))) $
-    use0 𝓛 (raw (fact 𝓤 (AtPlace (IsUpdatedByAll s.now) n.keeper r.content.keeper r.answer))) (fact_i 𝓤 _ (emp 𝓤) ok) $ move ! (1 ∷ 0 ∷ []) $ join ! $
+    use0 𝓛 (raw (fact 𝓤 (AppliesAt s.now n r.content r.answer))) (fact_i 𝓤 _ (emp 𝓤) ok) $ move ! (1 ∷ 0 ∷ []) $ join ! $
     let After : Content → SProp 𝓤 = λ s'. sep 𝓤 (sem 𝓛 (lies_at the_row full_share (block_ptr b o) s'))
-    (fact 𝓤 (AtPlace (IsUpdatedByAll s.now) n.keeper s'.keeper r.answer)) in
+    (fact 𝓤 (AppliesAt s.now n s' r.answer)) in
     use1 𝓛 (raw (ex 𝓤 After)) (ex_i 𝓤 After r.content) $
     move ! (1 ∷ []) $ nothing ! $ nothing ! $ join ! $ nothing ! $ join ! $ nothing ! $ join ! $ move ! (3 ∷ 0 ∷ 1 ∷ 2 ∷ []) $ group ! 3 $ done !))))))))))

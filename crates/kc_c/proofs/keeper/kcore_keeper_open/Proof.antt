@@ -85,7 +85,7 @@ kcore_keeper_open_spec 𝓤 𝓛 𝓜 𝓡 wired =
     calls_at ! (framed 𝓤 𝓛.H 𝓜 (tables 𝓤 𝓛.H 𝓜 𝓡 𝓡.env)) G (met 𝓤 𝓛 𝓜 𝓡 (code.calls-kc_c::keeping::open_keeper 𝓡.env wired)) z
     (and_then ! (get ! refl) (and_then ! (get ! refl) (and_then ! (get ! refl) (no_more !)))) (λ out.
     use1 𝓛 (later (some (λ (r : CallEnd). (Token ⊛ ‵ ((Two the_row answer_row).own_val (r.content, (r.answer, tt)) (out ∷ []))) ⊛
-    some (λ (ws : Lasts g.ended κs z.0.3). ‵ (lasts g.ended κs z.0.3 ws) ⊛ raw (fact 𝓤 (Opens r.content.keeper k s.now r.answer)))))) (id⊢ 𝓤 _) $
+    some (λ (ws : Lasts g.ended κs z.0.3). ‵ (lasts g.ended κs z.0.3 ws) ⊛ raw (fact 𝓤 (Opens r.content k s.now r.answer)))))) (id⊢ 𝓤 _) $
     await ! tt $ pick ! (λ r. split ! $ move ! (1 ∷ []) $ pick ! (λ ws. split ! $ drop ! $ heard ! _ (λ ok. split ! $ move ! (1 ∷ []) $
     two_out the_row answer_row r.content r.answer ! refl refl (the_row_laws.lawful 𝓛) (answer_laws.lawful 𝓛) (out ∷ []) (λ w₁ w₂ t₁ t₂ is₂.
     -- [what the content owns; what the answer owns; the token; the room; the locals]
@@ -98,8 +98,8 @@ kcore_keeper_open_spec 𝓤 𝓛 𝓜 𝓡 wired =
     returns ! (look_at ! 0 refl) $ free_all ! refl $
     move ! (3 ∷ 0 ∷ []) $ use2 𝓛 (‵ (part_at the_row full_share r.content b o)) (part_in 𝓛 the_row refl full_share r.content b o w₁) $
     suffices ! _ (ends_at 𝓛 f.ended stayed c (y (block_ptr b o)) w₂ r.answer (tt, (tt, (tt, (tt, tt)))) (tt, (tt, (tt, (tt, tt))))) $
-    use0 𝓛 (raw (fact 𝓤 (Opens r.content.keeper k s.now r.answer))) (fact_i 𝓤 _ (emp 𝓤) ok) $ move ! (1 ∷ 0 ∷ []) $ join ! $
-    let After : Content → SProp 𝓤 = λ s'. sep 𝓤 (sem 𝓛 (lies_at the_row full_share (block_ptr b o) s')) (fact 𝓤 (Opens s'.keeper k s.now r.answer)) in
+    use0 𝓛 (raw (fact 𝓤 (Opens r.content k s.now r.answer))) (fact_i 𝓤 _ (emp 𝓤) ok) $ move ! (1 ∷ 0 ∷ []) $ join ! $
+    let After : Content → SProp 𝓤 = λ s'. sep 𝓤 (sem 𝓛 (lies_at the_row full_share (block_ptr b o) s')) (fact 𝓤 (Opens s' k s.now r.answer)) in
     use1 𝓛 (raw (ex 𝓤 After)) (ex_i 𝓤 After r.content) $
     move ! (1 ∷ []) $ nothing ! $ nothing ! $ join ! $ nothing ! $ join ! $ nothing ! $ join ! $ nothing ! $ join ! $ move ! (3 ∷ 0 ∷ 1 ∷ 2 ∷ []) $
     group ! 3 $ done !))))))))

@@ -133,7 +133,7 @@ kcore_keeper_update_spec 𝓤 𝓛 𝓜 𝓡 wired =
     (and_then ! (get ! refl) (and_then ! (get ! refl) (and_then ! (get ! refl) (and_then ! (get ! refl) (and_then ! (get ! refl) (no_more !)))))) (λ out.
     use1 𝓛 (later (some (λ (r : CallEnd). (‵ ftrue ⊛ ‵ ((Two the_row answer_row).own_val (r.content, (r.answer, tt)) (out ∷ []))) ⊛
     some (λ (ws : Lasts g.ended κs z.0.3). ‵ (lasts g.ended κs z.0.3 ws)
-    ⊛ raw (fact 𝓤 (AtPlace (IsUpdatedBy (given_update u v add)) n.keeper r.content.keeper r.answer)))))) (id⊢ 𝓤 _) $
+    ⊛ raw (fact 𝓤 (AtPlace (IsUpdatedBy (given_update u v add)) n r.content r.answer)))))) (id⊢ 𝓤 _) $
     await ! tt $ pick ! (λ r. split ! $ move ! (1 ∷ []) $ pick ! (λ ws. split ! $ drop ! $ heard ! _ (λ ok. split ! $ drop ! $
     two_out the_row answer_row r.content r.answer ! refl refl (the_row_laws.lawful 𝓛) (answer_laws.lawful 𝓛) (out ∷ []) (λ w₁ w₂ t₁ t₂ is₂.
     -- [what the content owns; what the answer owns; the cell; the locals]
@@ -146,10 +146,10 @@ kcore_keeper_update_spec 𝓤 𝓛 𝓜 𝓡 wired =
     returns ! (look_at ! 0 refl) $ free_all ! refl $
     move ! (2 ∷ 0 ∷ []) $ use2 𝓛 (‵ (part_at the_row full_share r.content b o)) (part_in 𝓛 the_row refl full_share r.content b o w₁) $
     suffices ! _ (ends_at 𝓛 f.ended stayed c (y (block_ptr b o)) w₂ r.answer (tt, (tt, (tt, (tt, (tt, tt))))) (tt, (tt, (tt, (tt, (tt, tt)))))) $
-    use0 𝓛 (raw (fact 𝓤 (AtPlace (IsUpdatedBy (given_update u v add)) n.keeper r.content.keeper r.answer))) (fact_i 𝓤 _ (emp 𝓤) ok) $
+    use0 𝓛 (raw (fact 𝓤 (AtPlace (IsUpdatedBy (given_update u v add)) n r.content r.answer))) (fact_i 𝓤 _ (emp 𝓤) ok) $
     move ! (1 ∷ 0 ∷ []) $ join ! $
     let After : Content → SProp 𝓤 = λ s. sep 𝓤 (sem 𝓛 (lies_at the_row full_share (block_ptr b o) s))
-    (fact 𝓤 (AtPlace (IsUpdatedBy (given_update u v add)) n.keeper s.keeper r.answer)) in
+    (fact 𝓤 (AtPlace (IsUpdatedBy (given_update u v add)) n s r.answer)) in
     use1 𝓛 (raw (ex 𝓤 After)) (ex_i 𝓤 After r.content) $
     move ! (1 ∷ []) $ nothing ! $ nothing ! $ join ! $ nothing ! $ join ! $ nothing ! $ join ! $ nothing ! $ join ! $ nothing ! $ join ! $ nothing ! $
     group ! 3 $ done !))))))))))
