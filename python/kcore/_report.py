@@ -68,7 +68,7 @@ def report(
     Notes
     -----
     The core numbers are the library's. What is counted and drawn of them is plain Python, and tested. The page is made for up to some
-    200,000 vertices; it takes some 30 bytes for each.
+    200,000 vertices; it takes some 10 bytes for each, and its name.
 
     References
     ----------

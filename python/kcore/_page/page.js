@@ -159,7 +159,7 @@
   // ---- vertices per core number ----
 
   function drawSizes() {
-    const place = canvas("sizes", 280, "Vertices per core number");
+    const place = canvas("sizes", 300, "Vertices per core number");
     const { svg, width, height } = place;
     const [left, right, low, high] = [56, 8, height - 40, 10];
     const greatest = data.shells.length ? data.shells[0][2] : 1;
@@ -215,26 +215,41 @@
     return [place, `${vertices(group.members)}: ${who(group.first, group.members)}`];
   }
 
-  function nameFar(svg, x, y, width) {
+  // Circles the vertices that are farthest off, and writes the name of each beside it: where no other name and no circle is and the fewest
+  // dots are, or not at all.
+  function nameFar(svg, x, y, least, greatest, dots) {
+    const under = ([left, high, right, low]) => dots.filter(({ cx, cy }) => cx > left && cx < right && cy > high && cy < low).length;
+    const meet = (box, other) => other[0] < box[2] && box[0] < other[2] && other[1] < box[3] && box[1] < other[3];
     const boxes = data.far.map((v) => [x(degree[v]) - 7, y(core[v]) - 7, x(degree[v]) + 7, y(core[v]) + 7]);
     for (const v of data.far) {
       const [cx, cy] = [x(degree[v]), y(core[v])];
       svg.append(make("circle", { class: "far", cx, cy, r: 7 }));
       const name = nameOf(v);
-      const words = name.length > 20 ? `${name.slice(0, 19)}…` : name;
-      const wide = words.length * 6.2;
-      const left = cx + 10 + wide > width ? cx - 10 - wide : cx + 10;
-      const box = [left, cy - 8, left + wide, cy + 6];
-      if (boxes.some((other) => other[0] < box[2] && box[0] < other[2] && other[1] < box[3] && box[1] < other[3])) continue;
-      boxes.push(box);
-      svg.append(make("text", { class: "name shape", x: left, y: cy + 4 }, words));
+      const text = make("text", { class: "name shape" }, name.length > 24 ? `${name.slice(0, 11)}…${name.slice(-12)}` : name);
+      svg.append(text);
+      const wide = text.getComputedTextLength();
+      const over = Math.max(least, Math.min(cx - wide / 2, greatest - wide));
+      const boxOf = ([left, base]) => [left, base - 10, left + wide, base + 3];
+      const free = [[cx + 10, cy + 4], [over, cy + 20], [over, cy - 11], [cx - 10 - wide, cy + 4]]
+        .filter((one) => one[0] >= least && one[0] + wide <= greatest && !boxes.some((other) => meet(boxOf(one), other)))
+        .map((one) => ({ place: one, covers: under(boxOf(one)) }))
+        .filter(({ covers }) => covers < 4)
+        .sort((one, other) => one.covers - other.covers);
+      if (!free.length) {
+        text.remove();
+        continue;
+      }
+      const [{ place }] = free;
+      boxes.push(boxOf(place));
+      text.setAttribute("x", place[0]);
+      text.setAttribute("y", place[1]);
     }
   }
 
   function drawDegrees() {
-    const place = canvas("degrees", 280, "Core number against degree");
+    const place = canvas("degrees", 300, "Core number against degree");
     const { svg, width, height } = place;
-    const [left, right, low, high] = [56, 12, height - 40, 12];
+    const [left, right, low, high] = [56, 12, height - 40, 24];
     const widest = most(degree, 1);
     const x = logScale(0.8, widest * 1.25, left, width - right);
     const y = logScale(0.8, Math.max(top, 1) * 1.25, low, high);
@@ -255,7 +270,7 @@
       return dot;
     });
     svg.append(...dots);
-    nameFar(svg, x, y, width);
+    nameFar(svg, x, y, left, width, listed);
     title(place, "degree");
     svg.append(make("text", { x: 12, y: (low + high) / 2, "text-anchor": "middle", transform: `rotate(-90 12 ${(low + high) / 2})` }, "core number"));
     roving(dots);
