@@ -293,16 +293,32 @@ def _is_number(value: Any) -> bool:
 def _length(word: str, length: Any, time: Any) -> Any:
     """A length of time, so that it can be added to such a time. Raises TypeError or ValueError where it is none above 0."""
     numpy = sys.modules.get("numpy")
-    of_numpy = numpy is not None and isinstance(length, numpy.timedelta64)
-    lasts = of_numpy or isinstance(length, timedelta)
+    lasts = isinstance(length, timedelta) or (numpy is not None and isinstance(length, numpy.timedelta64))
     if not lasts and not _is_number(length):
         raise TypeError(f"{word} is a number or a timedelta, and not of the type {type(length).__name__}")
     if time is not None and lasts != _is_date(time):
         raise TypeError(f"{word} is {length!r}, and the times are {'numbers' if lasts else 'dates: give a timedelta'}")
     if not length > type(length)(0) or (not lasts and not math.isfinite(length)):
         raise ValueError(f"{word} is {length!r}, and has to be above 0 and finite")
-    if lasts and numpy is not None and not of_numpy and isinstance(time, numpy.datetime64):
-        return numpy.timedelta64(length)
-    if of_numpy and isinstance(time, datetime):
-        return length.astype("m8[us]").item()
+    try:
+        fitting = _fitting(length, time) if lasts else length
+        if time is not None:
+            time + fitting
+    except TypeError as cause:
+        raise TypeError(f"{word} is {length!r}, which can't be added to the time {time!r}: {cause}") from None
+    return fitting
+
+
+def _fitting(length: Any, time: Any) -> Any:
+    """A length of time in the kind that goes with such a date: of NumPy, of pandas, or of Python."""
+    if isinstance(time, datetime):
+        if isinstance(length, timedelta):
+            return length
+        # Months and years have no length of their own, and are refused here. A timestamp of pandas takes nanoseconds.
+        whole = length.astype("m8[us]", casting="same_kind").item()
+        return length if hasattr(time, "to_datetime64") else whole
+    if isinstance(length, timedelta) and time is not None:
+        import numpy
+
+        return length.to_timedelta64() if hasattr(length, "to_timedelta64") else numpy.timedelta64(length)
     return length

@@ -75,6 +75,8 @@ class Page(unittest.TestCase):
         self.assertTrue(all(distance <= 1.001 for listed in far.values() for distance in listed))
         for k in range(1, 4):
             self.assertGreater(min(far[k]), max(far[k + 1]))
+        # The main core has a disc.
+        self.assertGreater(max(far[4]), 2 * min(far[4]))
 
     def test_many_vertices_are_drawn_in_part(self):
         star = [(0, v) for v in range(1, 9000)] + [(u, v) for u in range(9000, 9010) for v in range(9000, u)]
@@ -150,7 +152,7 @@ class OverTime(unittest.TestCase):
         self.assertEqual((data["names"], data["core"], data["degree"]), (["a", "b", "c", "d"], [1, 1, 1, 1], [2, 1, 2, 1]))
 
     def test_edges_at_the_start(self):
-        batch = kcore.Batch(0, 1, [("b", "a"), ("c", "a"), ("e", "e")], [("z", "a"), ("c", "d")])
+        batch = kcore.Batch(0, 1, [("b", "a"), ("c", "a"), ("e", "e")], [("z", "a"), ("c", "d"), ("d", "a")])
         data = data_of(kcore.report([("a", "b"), ("b", "c"), ("c", "d")], [batch]))
         self.assertEqual((data["time"]["inserted"], data["time"]["removed"], data["time"]["edges"]), ([1], [1], [3]))
         self.assertEqual((data["names"], data["core"]), (["a", "b", "c", "d", "e"], [2, 2, 2, 0, 0]))
@@ -180,7 +182,7 @@ class Lines(unittest.TestCase):
         self.assertEqual(_text.temporal_edges(["1 2 3", "1 2 -4", "1 2 1.5\n"], "f"), [(1, 2, 3), (1, 2, -4), (1, 2, 1.5)])
 
     def test_other_lines(self):
-        for line in ["1", "1 2 3", "1 2x", "a b", "-1 2", "+1 2", "1,2", "1 4294967296", "1 2 # no", "1\u00a02", "\u0661 2", "1 2\0", "1 2\r\r"]:
+        for line in ["1", "1 2 3", "1 2x", "a b", "-1 2", "+1 2", "1,2", "1 4294967296", "4294967296 1", "1 2 # no", "1\u00a02", "\u0661 2", "1 2\0", "1 2\r\r"]:
             with self.subTest(line=line), self.assertRaisesRegex(_text.WrongLineError, "f: line 2: an edge line has two whole numbers of 0 to 4294967295"):
                 _text.edges(["0 1\n", line + "\n"], "f")
         for line in ["1 2", "1 2 x", "1 2 3 4", "1 2 1e5", "1 2 nan", "1 2 .5"]:

@@ -136,6 +136,13 @@ class BatchesTest(unittest.TestCase):
         self.assertEqual([batch[2:] for batch in found], [batch[2:] for batch in wanted])
         self.assertEqual(found[1][0], pandas.Timestamp("1970-01-06"))
         self.assertEqual(told(dated, numpy.timedelta64(5, "D"), numpy.timedelta64(10, "D")), found)
+        tick = pandas.Timedelta(3, "ns")
+        first = pandas.Timestamp(1, unit="ns")
+        for time in (first, first.to_datetime64()):
+            for length in (tick, tick.to_timedelta64()):
+                self.assertEqual(told([(0, 1, time)], length, length), [(time, first + tick, [(0, 1)], [])])
+        with self.assertRaisesRegex(TypeError, "can't be added to the time"):
+            kcore.batches(dated, numpy.timedelta64(1, "M"))
         with self.assertRaisesRegex(ValueError, "row 1 has no time"):
             kcore.batches(dated.assign(time=dated["time"].mask([False, True, False, False])), timedelta(1))
         with self.assertRaisesRegex(ValueError, "dropna"):
@@ -167,6 +174,9 @@ class BatchesTest(unittest.TestCase):
         ):
             with self.subTest(table=table, words=words), self.assertRaisesRegex(error, wanted):
                 kcore.batches(table, *words)
+        if numpy is not None:
+            with self.assertRaisesRegex(TypeError, "can't be added to the time"):
+                kcore.batches([(0, 1, datetime(2020, 1, 1))], numpy.timedelta64(1, "M"))
         with self.assertRaisesRegex(TypeError, "columns goes with"):
             kcore.batches([(0, 1, 2)], 5, columns=(0, 1, 2))
 
