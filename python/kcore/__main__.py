@@ -36,13 +36,13 @@ def main(words: Optional[Sequence[str]] = None) -> int:
     try:
         page = _page(_read(asked, name), asked, name)
     except OSError as fault:
-        return _told(f"{name}: {fault.strerror}", _NOT_READ)
+        return _told(f"{name}: {fault.strerror or fault}", _NOT_READ)
     except ValueError as fault:
         return _told(str(fault), _REFUSED)
     try:
         _write(asked.output, page)
     except OSError as fault:
-        return _told(f"{asked.output}: {fault.strerror}", _NOT_WRITTEN)
+        return _told(f"{asked.output}: {fault.strerror or fault}", _NOT_WRITTEN)
     return _DONE
 
 
@@ -55,9 +55,10 @@ def _parser() -> argparse.ArgumentParser:
     command.add_argument("-o", "--output", metavar="PAGE", required=True, help="the page, one HTML file; - for standard output")
     command.add_argument("--title", help="the title of the page; the file's name where it is left out")
     command.add_argument("--time", action="store_true", help="each line has a time behind the edge")
-    command.add_argument("--every", type=_length, metavar="LENGTH", help=f"with --time: the length of an interval; else the span in {_INTERVALS} parts")
-    command.add_argument("--window", type=_length, metavar="LENGTH", help="with --time: how long an edge stays after its last mention; else for good")
-    command.add_argument("--unix", action="store_true", help="with --time: times and lengths are seconds, and times are told as dates of UTC")
+    times = command.add_argument_group("with --time")
+    times.add_argument("--every", type=_length, metavar="LENGTH", help=f"the length of an interval; else the span in {_INTERVALS} parts")
+    times.add_argument("--window", type=_length, metavar="LENGTH", help="how long an edge stays after its last mention; else for good")
+    times.add_argument("--unix", action="store_true", help="times and lengths are seconds, and times are told as dates of UTC")
     return parser
 
 
@@ -96,7 +97,7 @@ def _page(rows: List[Tuple[Any, ...]], asked: argparse.Namespace, name: str) -> 
     span = max(times, default=0) - min(times, default=0)
     every = asked.every or _part(span)
     if span / every >= _MOST_INTERVALS:
-        raise ValueError(f"{name}: --every {every} makes more than {_MOST_INTERVALS} intervals of the span of {span}: give a greater length")
+        raise ValueError(f"{name}: --every {every} makes more than {_MOST_INTERVALS} intervals of the span {span}: give a greater length")
     if not asked.unix:
         return report((), batches(rows, every, asked.window), title=title)
     dated = [(u, v, _date(time, name)) for u, v, time in rows]

@@ -17,7 +17,7 @@ from ._temporal import Batch
 
 _FOLDER = Path(__file__).with_name("_page")
 
-# How many vertices and edges are drawn as rings at most, how many vertices are marked as far off, and how many are listed as rising or falling.
+# How many vertices and edges are drawn as rings at most, how many vertices are marked as far off, and how many are told to rise or to fall.
 _MOST_DOTS = 3_000
 _MOST_LINES = 4_000
 _MARKED = 8
@@ -152,7 +152,7 @@ def _rings(core: Any, pairs: Any) -> Dict[str, List[Any]]:
 
 
 def _nearness(own: Any, pairs: Any) -> Any:
-    """How far inwards each vertex moves in its ring, 0 to 1: all the way where its neighbours that lie no further out are all in the middle."""
+    """How far inwards each vertex moves in its ring, 0 to 1: 1 where its neighbours that lie no further out are all in the middle."""
     import numpy
 
     total, count = numpy.zeros(len(own)), numpy.zeros(len(own))

@@ -182,11 +182,13 @@ class Lines(unittest.TestCase):
         self.assertEqual(_text.temporal_edges(["1 2 3", "1 2 -4", "1 2 1.5\n"], "f"), [(1, 2, 3), (1, 2, -4), (1, 2, 1.5)])
 
     def test_other_lines(self):
-        for line in ["1", "1 2 3", "1 2x", "a b", "-1 2", "+1 2", "1,2", "1 4294967296", "4294967296 1", "1 2 # no", "1\u00a02", "\u0661 2", "1 2\0", "1 2\r\r"]:
-            with self.subTest(line=line), self.assertRaisesRegex(_text.WrongLineError, "f: line 2: an edge line has two whole numbers of 0 to 4294967295"):
+        wanted = "f: line 2: an edge line has two whole numbers of 0 to 4294967295"
+        great = ["1 4294967296", "4294967296 1"]
+        for line in ["1", "1 2 3", "1 2x", "a b", "-1 2", "+1 2", "1,2", *great, "1 2 # no", "1\u00a02", "\u0661 2", "1 2\0", "1 2\r\r"]:
+            with self.subTest(line=line), self.assertRaisesRegex(_text.WrongLineError, wanted):
                 _text.edges(["0 1\n", line + "\n"], "f")
         for line in ["1 2", "1 2 x", "1 2 3 4", "1 2 1e5", "1 2 nan", "1 2 .5"]:
-            with self.subTest(line=line), self.assertRaisesRegex(_text.WrongLineError, "line 1: a line has two whole numbers .* and a time"):
+            with self.subTest(line=line), self.assertRaisesRegex(_text.WrongLineError, "line 1: a line has two .* and a time"):
                 _text.temporal_edges([line], "f")
         with self.assertRaisesRegex(_text.WrongLineError, r"this line has '\\\\xff 2'"):
             _text.edges([b"\xff 2\n"], "f")
@@ -231,7 +233,7 @@ class Command(unittest.TestCase):
 
     def test_refusals(self):
         for text, words, wanted in (
-            ("0 1\n1 x\n", (), r"edges\.txt: line 2: an edge line has two whole numbers of 0 to 4294967295.*as in 12 7; this line has '1 x'"),
+            ("0 1\n1 x\n", (), r"edges\.txt: line 2: an edge line has two whole numbers of 0 to .*as in 12 7; this line has '1 x'"),
             ("0 1\n", ("--time",), r"edges\.txt: line 1: a line has .* and a time"),
             ("0 1 2\n", (), r"line 1: an edge line"),
             ("0 1 0\n0 1 100000\n", ("--time", "--every", "1"), "more than 5000 intervals"),

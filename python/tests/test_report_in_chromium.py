@@ -8,9 +8,11 @@ import base64
 import os
 import random
 import shutil
+import sys
 import tempfile
 import unittest
 from pathlib import Path
+from unittest import mock
 
 import kcore
 
@@ -94,11 +96,25 @@ class InChromium(unittest.TestCase):
     def until(self, wanted):
         WebDriverWait(self.browser, 10).until(lambda _: wanted())
 
+    def row_at(self, share):
+        """The place of the row that is seen at this share of the height of the table's part of the window, from 0 on."""
+        return int(self.browser.execute_script(
+            """const scroller = document.getElementById("scroller"); scroller.scrollIntoView({block: "center"});
+            const box = scroller.getBoundingClientRect();
+            const row = document.elementFromPoint(box.left + 60, box.top + 4 + arguments[0] * (box.height - 8)).closest("tr.row");
+            return row ? row.getAttribute("aria-rowindex") : 0""", share)) - 2
+
+    def scroll(self, place):
+        script = "const scroller = document.getElementById('scroller'); scroller.scrollTop = arguments[0] * scroller.scrollHeight"
+        self.browser.execute_script(script, place)
+        self.browser.execute_script("return new Promise((done) => requestAnimationFrame(() => requestAnimationFrame(done)))")
+
     def test_karate(self):
         self.open(kcore.report(edges_of("karate"), title="Karate"))
         self.assertEqual((self.browser.title, self.text("#count")), ("Karate", "34 vertices"))
         self.assertEqual([cell.text for cell in self.all(".figures dd")], ["34", "78", "4", "7"])
-        self.assertEqual(self.tip(self.one("#sizes .hit[data-core='3']")), "Core number 3\n12 vertices: 4, 5, 6 and 9 more\n3-core: 22 vertices, 55 edges")
+        wanted = "Core number 3\n12 vertices: 4, 5, 6 and 9 more\n3-core: 22 vertices, 55 edges"
+        self.assertEqual(self.tip(self.one("#sizes .hit[data-core='3']")), wanted)
         self.assertIn("Layer 2, core number 2\n11 vertices", self.tip(self.all("#spectrum .hit")[1]))
         self.assertRegex(self.tip(self.all("#degrees .dot")[0]), r"^Degree 1, core number 1\n1 vertex: 11$")
         self.assertIn("core number 4, degree", self.tip(self.all("#rings .dot")[-1]))
@@ -137,18 +153,18 @@ class InChromium(unittest.TestCase):
         self.assertTrue(all(element.get_attribute("aria-label") for element in self.all("[role=button]")))
 
     def test_the_table_is_sorted_and_searched(self):
-        self.open(kcore.report([(f"v{number}", f"v{number * number % 41}") for number in range(60)]))
+        self.open(kcore.report([(f"V{number}", f"V{number * number % 41}") for number in range(60)]))
         heads = {head.get_attribute("data-key"): head for head in self.all("#table th")}
         for key, place in [("name", 1), ("degree", 3), ("layer", 4), ("core", 2)]:
             self.click(heads[key].find_element("css selector", "button"))
             down = heads[key].get_attribute("aria-sort") == "descending"
             self.assertEqual(down, key != "name")
-            numbers = [int(text.lstrip("v")) for text in self.column(place)]
+            numbers = [int(text.lstrip("V")) for text in self.column(place)]
             self.assertEqual(numbers, sorted(numbers, reverse=down))
             self.click(heads[key].find_element("css selector", "button"))
             self.assertEqual(heads[key].get_attribute("aria-sort"), "ascending" if down else "descending")
-        self.one("#search").send_keys("V59")
-        self.assertEqual((self.column(1), self.text("#count")), (["v59"], f"1 of {self.text('.figures dd')} vertices"))
+        self.one("#search").send_keys("v59")
+        self.assertEqual((self.column(1), self.text("#count")), (["V59"], f"1 of {self.text('.figures dd')} vertices"))
         self.one("#search").send_keys("none")
         self.assertEqual((self.column(1), self.text("#count")), ([], f"0 of {self.text('.figures dd')} vertices"))
 
@@ -216,17 +232,38 @@ class InChromium(unittest.TestCase):
         self.assertEqual(self.text("#count"), "100,000 vertices")
         self.assertLess(len(self.all("#table .row")), 60)
         self.assertLess(len(self.all("*")), 25_000)
-        self.browser.execute_script("document.getElementById('scroller').scrollTop = 1e9")
-        self.until(lambda: self.column(2)[-1] == "0")
-        self.assertEqual(self.all("#table .row")[-1].get_attribute("aria-rowindex"), "100001")
-        self.browser.execute_script("document.getElementById('scroller').scrollTop = 28 * 50000")
-        self.until(lambda: any(row.get_attribute("aria-rowindex") == "50002" for row in self.all("#table .row")))
+        self.scroll(1)
+        self.assertEqual((self.row_at(1), self.column(2)[-1]), (99_999, "0"))
+        self.scroll(0.5)
+        self.assertTrue(49_990 < self.row_at(0.5) < 50_020)
+        self.assertLess(len(self.all("#table .row")), 60)
         spent = self.browser.execute_script(
             "const begin = performance.now(); document.querySelector('#table th button').click(); return performance.now() - begin")
         self.assertLess(spent, 5000)
         self.assertEqual(self.column(1)[:3], ["0", "1", "2"])
         self.one("#search").send_keys("99999")
         self.assertEqual(self.column(1), ["99999"])
+
+    def test_a_table_that_is_taller_than_an_element_may_be(self):
+        pages = self.folder / "pages"
+        shutil.copytree(Path(kcore.__file__).with_name("_page"), pages)
+        script = (pages / "page.js").read_text("utf-8")
+        self.assertIn("TALLEST = 12_000_000;", script)
+        (pages / "page.js").write_text(script.replace("TALLEST = 12_000_000;", "TALLEST = 30_000;"), "utf-8")
+        with mock.patch.object(sys.modules["kcore._report"], "_FOLDER", pages):
+            self.open(kcore.report([(v, v + 1) for v in range(5999)]))
+        height = self.browser.execute_script("return document.getElementById('scroller').scrollHeight")
+        places = []
+        for share in (0, 0.0005, 0.25, 0.5, 0.75, 1, 1):
+            self.scroll(share)
+            places.append(self.row_at(0.5))
+            self.assertGreaterEqual(self.row_at(0.2), 0)
+        self.assertEqual(places, sorted(places))
+        self.assertTrue(places[0] < 10 and 2_900 < places[3] < 3_100 and places[-1] > 5_985)
+        self.assertEqual(self.row_at(1), 5_999)
+        self.assertEqual(self.browser.execute_script("return document.getElementById('scroller').scrollHeight"), height)
+        self.scroll(0)
+        self.assertEqual(self.row_at(0.12), 0)
 
     def test_no_vertices_and_no_batches(self):
         for page in (kcore.report([]), kcore.report((), []), kcore.report([], vertices=2), kcore.report((), kcore.batches([(0, 0, 1)], 1))):
@@ -236,15 +273,19 @@ class InChromium(unittest.TestCase):
     def test_nothing_is_cut_off_at_a_narrow_width(self):
         self.open(kcore.report((), kcore.batches(temporal(), 100, 300)))
         for width in (360, 700, 1200):
-            self.browser.execute_cdp_cmd("Emulation.setDeviceMetricsOverride", {"width": width, "height": 800, "deviceScaleFactor": 1, "mobile": False})
+            self.resize(width)
             self.until(lambda: self.one("#sizes svg").size["width"] <= width)
             self.assertLessEqual(self.browser.execute_script("return document.documentElement.scrollWidth"), width)
         self.browser.execute_cdp_cmd("Emulation.clearDeviceMetricsOverride", {})
 
+    def resize(self, width):
+        words = {"width": width, "height": 900, "deviceScaleFactor": 1, "mobile": False}
+        self.browser.execute_cdp_cmd("Emulation.setDeviceMetricsOverride", words)
+
     def shoot(self, name, width, scheme):
         """Writes a picture of the whole page as it is now."""
         self.browser.execute_cdp_cmd("Emulation.setEmulatedMedia", {"features": [{"name": "prefers-color-scheme", "value": scheme}]})
-        self.browser.execute_cdp_cmd("Emulation.setDeviceMetricsOverride", {"width": width, "height": 900, "deviceScaleFactor": 1, "mobile": False})
+        self.resize(width)
         self.browser.execute_script("return new Promise((done) => requestAnimationFrame(() => requestAnimationFrame(done)))")
         shot = self.browser.execute_cdp_cmd("Page.captureScreenshot", {"captureBeyondViewport": True, "format": "png"})
         Path(SHOTS, f"{name}-{scheme}-{width}.png").write_bytes(base64.b64decode(shot["data"]))

@@ -23,6 +23,7 @@ try:
 except ImportError:
     pandas = None
 
+FIRST = datetime(2020, 1, 1)
 ROWS = [("ann", "bob", 0), ("bob", "cat", 4), ("cat", "ann", 11), ("bob", "ann", 12)]
 
 
@@ -170,7 +171,7 @@ class BatchesTest(unittest.TestCase):
             ([(0, 1, 1)], (timedelta(1),), TypeError, "the times are numbers"),
             ([(0, 1, datetime(2020, 1, 1))], (5,), TypeError, "the times are dates: give a timedelta"),
             ([(0, 1, datetime(2020, 1, 1))], (timedelta(0),), ValueError, "above 0"),
-            ([(0, 1, datetime(2020, 1, 1)), (0, 1, datetime(2020, 1, 1, tzinfo=timezone.utc))], (timedelta(1),), TypeError, "can't be compared"),
+            ([(0, 1, FIRST), (0, 1, FIRST.replace(tzinfo=timezone.utc))], (timedelta(1),), TypeError, "can't be compared"),
         ):
             with self.subTest(table=table, words=words), self.assertRaisesRegex(error, wanted):
                 kcore.batches(table, *words)

@@ -397,7 +397,8 @@
     const hits = bins.map((bin, i) => {
       const x = left + i * band;
       const tall = bin.members / (bin.layer[1] - bin.layer[0] + 1);
-      const bar = make("rect", { class: `shape f${shade(bin.core[1])}`, x, width: Math.max(band * (band > 4 ? 0.86 : 1), 0.8), y: y(tall), height: low - y(tall) });
+      const wide = Math.max(band * (band > 4 ? 0.86 : 1), 0.8);
+      const bar = make("rect", { class: `shape f${shade(bin.core[1])}`, x, width: wide, y: y(tall), height: low - y(tall) });
       marks.push({ figure: "spectrum", element: bar, ranges: { layer: bin.layer, core: bin.core } });
       svg.append(bar);
       const hit = make("rect", { class: "hit", x, width: band, y: high, height: low - high });
@@ -494,16 +495,16 @@
   function rows() {
     const seen = Math.ceil(scroller.clientHeight / ROW) + 1;
     const tall = Math.min(shown.length * ROW, TALLEST);
-    const reach = Math.max(tall - seen * ROW, 1);
-    const first = shown.length * ROW <= TALLEST
-      ? Math.floor(scroller.scrollTop / ROW)
-      : Math.floor((Math.min(scroller.scrollTop, reach) / reach) * (shown.length - seen + 1));
+    const exact = tall === shown.length * ROW;
+    const share = Math.min(scroller.scrollTop / Math.max(tall - seen * ROW, 1), 1);
+    const first = exact ? Math.floor(scroller.scrollTop / ROW) : Math.floor(share * (shown.length - seen + 1));
     const from = Math.max(0, Math.min(first, shown.length - seen) - 6);
     const to = Math.min(shown.length, first + seen + 6);
-    const above = shown.length * ROW <= TALLEST ? from * ROW : Math.max(0, scroller.scrollTop - 6 * ROW);
+    const height = (to - from) * ROW;
+    const above = exact ? from * ROW : Math.max(0, Math.min(scroller.scrollTop - (first - from) * ROW, tall - height));
     const listed = [];
     for (let place = from; place < to; place += 1) listed.push(rowOf(place));
-    body.replaceChildren(gap(above), ...listed, gap(Math.max(0, tall - above - (to - from) * ROW)));
+    body.replaceChildren(gap(above), ...listed, gap(Math.max(0, tall - above - height)));
   }
 
   function openTable() {
@@ -616,6 +617,15 @@
     byId(id).scrollTop = 0;
   }
 
+  function toldBatch() {
+    const sizes = time.sizes[batch];
+    const inside = sizes[sizes.length - 1] || 0;
+    return `${interval(batch)}: ${some(time.inserted[batch], "edge", "edges")} came and ${written(time.removed[batch])} went, `
+      + `which leaves ${written(time.edges[batch])} among ${vertices(sizes[0] || 0)}. `
+      + `The greatest core number is ${written(Math.max(sizes.length - 1, 0))}; ${vertices(inside)} ${inside === 1 ? "has" : "have"} it. `
+      + `${written(time.rose[batch])} rose and ${written(time.fell[batch])} fell.`;
+  }
+
   function go(place) {
     const hits = byId("timeline").querySelectorAll(".hit");
     hits[batch].classList.remove("at");
@@ -624,10 +634,7 @@
     byId("batch").value = batch + 1;
     byId("batch").setAttribute("aria-valuetext", `batch ${batch + 1}, ${interval(batch)}`);
     byId("batch-place").textContent = `${written(batch + 1)} of ${written(time.sizes.length)}`;
-    const sizes = time.sizes[batch];
-    byId("batch-told").textContent = `${interval(batch)}: ${some(time.inserted[batch], "edge", "edges")} came and ${written(time.removed[batch])} went, `
-      + `which leaves ${written(time.edges[batch])} among ${vertices(sizes[0] || 0)}. The greatest core number is ${written(Math.max(sizes.length - 1, 0))}; `
-      + `${vertices(sizes[sizes.length - 1] || 0)} ${sizes[sizes.length - 1] === 1 ? "has" : "have"} it. ${written(time.rose[batch])} rose and ${written(time.fell[batch])} fell.`;
+    byId("batch-told").textContent = toldBatch();
     changeList("rose", time.up[batch], time.rose[batch], "No vertex rose.");
     changeList("fell", time.down[batch], time.fell[batch], "No vertex fell.");
   }
