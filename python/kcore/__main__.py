@@ -22,7 +22,7 @@ _STATUSES = """Exit status: 0 where the page is written, 2 where the words are n
 read, and 5 where the page can't be written."""
 
 _FILE = """Each line of FILE has two whole numbers, the ends of an edge; with --time also a number, the time of the edge. Blank lines, and
-lines that begin with # or %%, are passed over. Loops are dropped, and an edge that comes again counts once. The name - is standard input."""
+lines that begin with # or %, are passed over. Loops are dropped, and an edge that comes again counts once. The name - is standard input."""
 
 
 def main(words: Optional[Sequence[str]] = None) -> int:
