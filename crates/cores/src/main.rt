@@ -10,9 +10,8 @@ use kc_cores::program::answer_on;
 use kc_cores::std_input::StdInput;
 use kc_cores::std_pipe::StdPipe;
 use kc_io::std_sink::StdSink;
-use std::env;
-use std::io;
 use std::process::ExitCode;
+use std::{env, io};
 
 fn main(rt: HostRuntime) -> ExitCode {
     let mut streams = CoresStreams {
