@@ -3,11 +3,12 @@ use Rattle.std.proofs.Common.{◌≡◌, ◌≤◌, ◌<◌, ◌+◌, ◌-◌, �
 use Rattle.std.proofs.Common.{refl, sym, ◌∙◌, ap, inl, inr, arith, length-append, append_assoc}
 use Rattle.std.proofs.lemmas.List.{take-append-drop, get_or_at, set_at, take_at, drop_at}
 use Rattle.std.proofs.lemmas.List.{drop_more, length-take-le, append-nil, get_or-append-add, get_or_append_left, get_or_read}
-use Rattle.std.proofs.lemmas.List.{take-append-le, drop-append-le, map-append, get_or-drop, length-set}
+use Rattle.std.proofs.lemmas.List.{take-append-le, drop-append-le, map-append, length-set}
 use Rattle.std.proofs.lemmas.List.{take_more_set, take_more, drop-set-lt, drop-drop, take_all, drop_all}
 use Rattle.std.proofs.lemmas.List.Concat.{flat_map-append}
 use Rattle.std.proofs.lemmas.List.Edits.{insert-append_left, insert-append_right}
 use Rattle.std.specs.List.{insert}
+use Rattle.kc_lists.proofs.Backs.{get_or-back}
 use Rattle.kc_blocks.specs.Placing.{all_entries, starts_from, later_from, IsPlaced, IsBlockOf}
 use Rattle.kc_blocks.specs.declared.blocks.Blocks.{Blocks}
 
@@ -254,13 +255,6 @@ later-push first y xs l =
     ∙ (ap (λ (t : List ℕ). take first xs ++ t) (map-append (λ j. j + 1) (drop first xs) (y ∷ []))
     ∙ sym (append_assoc (take first xs) (map (λ j. j + 1) (drop first xs)) ((y + 1) ∷ []))))
 
--- what stands at a place is what stood there, where none from there on was written
-same-here : (now old : List ℕ) (i : ℕ) → drop i now ≡ drop i old → get_or now i 0 ≡ get_or old i 0
-same-here now old i e =
-    let z : i + 0 ≡ i = omega arith in
-    ap (λ k. get_or now k 0) (sym z) ∙ (sym (get_or-drop i now 0 0) ∙ (ap (λ (t : List ℕ). get_or t 0 0) e
-    ∙ (get_or-drop i old 0 0 ∙ ap (λ k. get_or old k 0) z)))
-
 -- What a loop over places does that are later by one: those before the place `i` are done, and the others stand as they stood.
 pub record IsLaterTo (first i : ℕ) (now old : List ℕ) : Type 0 where
   pub long : length now ≡ length old
@@ -269,7 +263,7 @@ pub record IsLaterTo (first i : ℕ) (now old : List ℕ) : Type 0 where
 
 -- the next place is the one that stood there
 pub later-here : (first i y : ℕ) (now old : List ℕ) → IsLaterTo first i now old → i < length old → y ≡ get_or now i y → y ≡ get_or old i 0
-later-here first i y now old h l read = get_or_read now i y (omega (arith, h.long)) read 0 ∙ same-here now old i h.left
+later-here first i y now old h l read = get_or_read now i y (omega (arith, h.long)) read 0 ∙ get_or-back now old i h.left
 
 -- and is done where it is written
 pub later-more : (first i y : ℕ) (now old : List ℕ) → IsLaterTo first i now old → first ≤ i → i < length old → y ≡ get_or now i y

@@ -1,5 +1,5 @@
 -- Why a certificate gives no claims, and what its text means.
-use Rattle.std.proofs.Common.{◌≡◌, ◌≤◌, ◌<◌, ◌∙◌, ℕ, Bool, List, Option, None, Some, IfSome, Result, Err, ap, cond, length, lt-ltb, subst}
+use Rattle.std.proofs.Common.{◌≡◌, ◌≤◌, ◌<◌, ◌∙◌, ℕ, List, Option, None, Some, IfSome, Result, Err, ap, cond, length, lt-ltb, subst}
 use Rattle.std.proofs.lemmas.Bool.{le-ltb}
 use Rattle.kc_text.specs.declared.kind.Kind.TheVariants.{TooLong}
 use Rattle.kc_text.specs.declared.limits.TheConstants.Limits.{GRAPH}

@@ -1,5 +1,5 @@
 -- A run keeps what `answer` promises: where `clap` replies, where there is no graph, where its lines were written, and where a write failed.
-use Rattle.std.proofs.Common.{◌≡◌, ◌⊎◌, ◌≤◌, ◌∙◌, ℕ, Bool, List, Option, Some, IfSome, ap, inl, inr, length, refl, subst, sym, take}
+use Rattle.std.proofs.Common.{◌≡◌, ◌⊎◌, ◌≤◌, ◌∙◌, ℕ, Bool, List, Option, Some, IfSome, ap, inl, inr, length, refl, subst, take}
 use Rattle.std.proofs.KnownBytes.{Appends-nil}
 use Rattle.std.specs.Io.KnownBytes.{Appends, IsAtEnd}
 use Rattle.kc_io.specs.Causes.{Rose}

@@ -1,9 +1,8 @@
 -- Bytes that go through a page one text after another.
-use Rattle.std.proofs.Common.{◌≡◌, ◌≤◌, ◌+◌, ◌++◌, ◌∙◌, ℕ, suc, List, [], ◌∷◌, Option, length, take, sym, ap, subst, arith, Result, Ok, Err}
+use Rattle.std.proofs.Common.{◌≡◌, ◌≤◌, ◌+◌, ◌++◌, ◌∙◌, ℕ, suc, List, [], ◌∷◌, Option, length, take, sym, ap, subst, arith}
 use Rattle.std.proofs.Common.{append_assoc, append-nil, length-append, zero-add}
 use Rattle.std.proofs.KnownBytes.{Appends-trans}
 use Rattle.std.proofs.lemmas.List.{take-append-le}
-use Rattle.std.specs.Prelude.{OnErr}
 use Rattle.std.specs.Io.KnownBytes.{Appends}
 use Rattle.kc_cores.specs.Pages.{PassesOn, PassesPart}
 
@@ -75,8 +74,3 @@ part-passed t t' t'' p p' text one two begun =
     let part : PassesPart t t'' p (text ++ []) = PassesPart-later t t' t'' p p' text [] one two in
     let whole : p ++ (text ++ []) ≡ text = ap (λ b. b ++ (text ++ [])) begun ∙ append-nil text in
     (part.amount, omega (arith, part.within, ap length whole), subst (λ (b : List ℕ). Appends t t'' (take part.amount b)) whole part.took)
-
--- what holds anyhow holds where there is an error
-pub on_err-anyhow : {T E P : Type 0} (r : Result T E) → P → OnErr r P
-on_err-anyhow (Ok v) p = tt
-on_err-anyhow (Err e) p = p

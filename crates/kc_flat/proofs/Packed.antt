@@ -5,10 +5,11 @@ use Rattle.std.specs.List.{between}
 use Rattle.std.specs.List.Sorted.{IsStrictlyIncreasing, IsNonDecreasing}
 use Rattle.std.specs.Cmp.{both_ways}
 use Rattle.std.proofs.lemmas.Bool.{cases_eq, cases_lt, or_cases, or_left}
-use Rattle.std.proofs.lemmas.List.{take-set-le, drop-set-lt, get_or-drop, get_or_append_left, length-take-le}
+use Rattle.std.proofs.lemmas.List.{take-set-le, drop-set-lt, get_or_append_left, length-take-le}
 use Rattle.std.proofs.lemmas.List.Edits.{between_more, length-between, get_or-between}
 use Rattle.std.proofs.Math.Seq.{get_or-append_seam}
 use Rattle.kc_lists.specs.Lists.{member}
+use Rattle.kc_lists.proofs.Backs.{get_or-back}
 use Rattle.kc_lists.proofs.Counting.{member-push, member-get_or}
 use Rattle.kc_graph.specs.Blocks.{first_of}
 use Rattle.kc_graph.proofs.Lying.{drop-later}
@@ -29,13 +30,6 @@ increasing-push xs y h greater k l =
           let last : get_or (xs ++ y ∷ []) (k + 1) 0 ≡ y = ap (λ (j : ℕ). get_or (xs ++ y ∷ []) j 0) end ∙ get_or-append_seam xs y [] 0 in
           omega (arith, first, last, greater (omega arith), ap (λ (j : ℕ). get_or xs j 0) before)
     ]
-
--- what stands at a place of lists with the same back
-get_or-back : (xs ys : List ℕ) (i : ℕ) → drop i xs ≡ drop i ys → get_or xs i 0 ≡ get_or ys i 0
-get_or-back xs ys i e =
-    let zeroth : i + 0 ≡ i = omega arith in
-    ap (λ (k : ℕ). get_or xs k 0) (sym zeroth) ∙ sym (get_or-drop i xs 0 0) ∙ ap (λ (t : List ℕ). get_or t 0 0) e ∙ get_or-drop i ys 0 0
-    ∙ ap (λ (k : ℕ). get_or ys k 0) zeroth
 
 -- From `start` on are the different ones of the numbers from `from` to below `i`. What lies before, and from `i` on, is as it was.
 pub record Packed (old new : List ℕ) (from i start end : ℕ) : Type 0 where

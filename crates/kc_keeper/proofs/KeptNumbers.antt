@@ -93,18 +93,6 @@ kept-push {start} {core} {old} {new} c h none within low number cores places =
       others = λ v gone. h.others v ((member-push_none v c.vertex vs (ap (member v) (sym vertices) ∙ gone)).0);
     }
 
--- where the places read as before, nothing changes
-pub kept-places : {start core : List ℕ} {old new : EarlierNumbers} → AreEarlier start core old → new.cores ≡ old.cores
-    → ((v : ℕ) → get_or new.places.items v 0 ≡ get_or old.places.items v 0) → AreEarlier start core new
-kept-places {start} {core} {old} {new} h cores places =
-    let items : new.cores.items ≡ old.cores.items = ap (λ c. c.items) cores in
-    record {
-      long = h.long;
-      each = subst (All (IsEarlier start)) (sym items) h.each;
-      indexed = subst (λ (cs : List CoreChange). AreIndexed new.places.items (changed_vertices cs)) (sym items) (λ i low. places _ ∙ h.indexed i low);
-      others = λ v none. h.others v (ap (λ (cs : List CoreChange). member v (changed_vertices cs)) (sym items) ∙ none);
-    }
-
 -- a vertex that is not kept does not leave its level
 not-leaving : (moves : Moves) (earlier : EarlierNumbers) (v : ℕ) → AreKept moves earlier → member v (changed_vertices earlier.cores.items) ≡ false
     → member v (leaving moves) ≡ false

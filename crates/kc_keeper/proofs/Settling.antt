@@ -8,7 +8,7 @@ use Rattle.std.proofs.lemmas.List.Sorted.{All-permutation, IsPermutation-map, li
 use Rattle.std.proofs.lemmas.List.Elements.{All-filter, All-head, All-map, All-nil, All-tail, All-weaker, filter_passes}
 use Rattle.std.proofs.lemmas.Bool.{cases_Bool, false≢true, false_from_ne_true, ne_eqb}
 use Rattle.kc_lists.specs.Lists.{Distinct, member, times}
-use Rattle.kc_lists.proofs.Counting.{Contains-from_member, Distinct-from_pairs, distinct_times, pairs_from_Distinct, times_distinct}
+use Rattle.kc_lists.proofs.Counting.{Contains-from_member, Distinct-from_pairs, Distinct-permutation, pairs_from_Distinct}
 use Rattle.kc_lists.proofs.Members.{member-cases, member-head, member-tail}
 use Rattle.kc_lists.proofs.Shared.{get_or-any}
 use Rattle.kc_keeper.specs.Cores.{AreCoreChanges, IsCoreChange, changed_vertices}
@@ -113,12 +113,6 @@ settled-each start core cs each = λ k d low.
     let passes : differs (get_or (settled core cs) k d) ≡ true = filter_passes differs (map (with_number_now core) cs) k d low in
     record { before = both.before; now = both.now; differs = not-same _ _ passes }
 
--- a permutation repeats no number either
-Distinct-permutation : (xs ys : List ℕ) → IsPermutation xs ys → Distinct xs → Distinct ys
-Distinct-permutation xs ys p d = distinct_times ys (λ x.
-    let same : times x ys ≡ times x xs = sum_by-IsPermutation (λ (y : ℕ). cond (eqb x y) 1 0) xs ys p in
-    omega (arith, same, times_distinct x xs d))
-
 -- the vertices of changes that are sorted by them ascend, where none comes twice
 vertices-ascend : (cs : List CoreChange) → IsNonDecreasingBy (λ c. c.vertex) cs → Distinct (changed_vertices cs)
     → IsStrictlyIncreasing (changed_vertices cs)
@@ -168,16 +162,3 @@ earlier-none core earlier none = record {
   indexed = subst (λ (cs : List CoreChange). AreIndexed earlier.places.items (changed_vertices cs)) (sym none) (λ i low. absurd (omega (arith, low)));
   others = λ v _. refl;
 }
-
--- what is kept are vertices
-pub earlier-within : {start core : List ℕ} {earlier : EarlierNumbers} → AreEarlier start core earlier
-    → All (λ c. c.vertex < length core) earlier.cores.items
-earlier-within {start} {core} {earlier} h = λ k d low. omega (arith, (h.each k d low).0, h.long)
-
--- where the numbers stay none changes
-pub none-changed : (core : List ℕ) (cs : List CoreChange) → cs ≡ [] → AreCoreChanges core core cs
-none-changed core cs none = subst (AreCoreChanges core core) (sym none) (record {
-  ascending = λ k low. absurd (omega (arith, low));
-  each = All-nil (IsCoreChange core core);
-  all = λ v ne. absurd (ne refl);
-})

@@ -141,8 +141,8 @@ impl Keeper {
         self.journal.order(alloc)
     }
 
-    /// Makes a list of the vertices of the k-core, in ascending order, in place of what the list held: those whose core number is at least `k`.
-    /// Where there is no memory for it the list is empty. It reads all core numbers, in time linear in the vertices.
+    /// Makes a list of the vertices of the k-core, those whose core number is at least `k`, in ascending order, in place of what the list
+    /// held. Where there is no memory for it the list is empty. It reads all core numbers, in time linear in the vertices.
     pub fn core_members(&self, k: u32, members: &mut Vec<u32>) -> Result<(), NoMemory>
         ensures members { OnOk result (AreCoreMembers self.now.graph k members.new.items) }
         ensures emptied { OnErr result (members.new.items ≡ []) }

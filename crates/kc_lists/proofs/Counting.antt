@@ -3,9 +3,11 @@ use Rattle.std.proofs.Common.{◌≡◌, ◌≢◌, ◌≤◌, ◌<◌, ◌+◌,
 use Rattle.std.proofs.Common.{◌∙◌, ap, ◌⊎◌, inl, inr, arith, true≢false, eqb-true, eq-eqb, ne_eqb, lt_irrefl, ◌++◌, drop, take}
 use Rattle.std.specs.Prelude.{AllPairs, Contains, count_by}
 use Rattle.std.specs.List.{filter}
+use Rattle.std.specs.List.Sorted.{IsPermutation}
 use Rattle.kc_lists.specs.Lists.{member, Distinct, below, times}
 use Rattle.kc_lists.proofs.Members.{member-head, member-tail, member-cases}
 use Rattle.std.proofs.lemmas.Bool.{eqb-false, cases_Bool, cases_eq, or_cases, or_left, or_right, false≢true, or_parts, or_from, false_from_ne_true}
+use Rattle.std.proofs.lemmas.List.Sorted.{sum_by-IsPermutation}
 use Rattle.std.proofs.lemmas.List.Sums.{sum_by-cons}
 use Rattle.std.proofs.lemmas.List.Elements.{Contains-get_or, filter-append}
 use Rattle.std.proofs.lemmas.List.Folds.{list_any-append}
@@ -344,3 +346,9 @@ distinct_times (x ∷ xs) few = (
   false_from_ne_true (member x xs) (λ m. omega (arith, few x, count-yes (eqb x) x xs (eq-eqb x x refl), times_member x xs m)),
   distinct_times xs (λ y. omega (arith, few y, count-cons (eqb y) x xs)),
 )
+
+-- a permutation repeats no number either
+pub Distinct-permutation : (xs ys : List ℕ) → IsPermutation xs ys → Distinct xs → Distinct ys
+Distinct-permutation xs ys p d = distinct_times ys (λ x.
+    let same : times x ys ≡ times x xs = sum_by-IsPermutation (λ (y : ℕ). cond (eqb x y) 1 0) xs ys p in
+    omega (arith, same, times_distinct x xs d))

@@ -49,8 +49,9 @@ fn without_first(bytes: &[u8]) -> &[u8]
     }
 }
 
-/// The first line without its line end, and what follows it.
-pub(crate) fn cut_line(bytes: &[u8]) -> Option<(&[u8], &[u8])>
+/// The first line of a text without its line end, and what follows it; `None` where the text is empty. A line ends at a newline or at the
+/// end of the text, and one carriage return before its end is no part of it.
+pub fn cut_line(bytes: &[u8]) -> Option<(&[u8], &[u8])>
     ensures lines { MatchOption result (lines bytes.now ≡ []) (λ r. lines bytes.now ≡ r.0.now ∷ lines r.1.now) }
     ensures shorter { IfSome result (λ r. length r.1.now < length bytes.now) }
 {

@@ -33,8 +33,8 @@ fn field_len(line: &[u8]) -> usize
     line.len()
 }
 
-/// The first field, and what follows it.
-pub(crate) fn cut_field(line: &[u8]) -> Option<(&[u8], &[u8])>
+/// The first field of a line, and what follows it; `None` where there are only blanks. Spaces and tabs are blanks.
+pub fn cut_field(line: &[u8]) -> Option<(&[u8], &[u8])>
     ensures { MatchOption result (fields line.now ≡ []) (λ r. fields line.now ≡ r.0.now ∷ fields r.1.now) }
 {
     let (_, line) = line.split_at(blanks(line));

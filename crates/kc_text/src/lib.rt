@@ -11,6 +11,8 @@
 //! A batch may name a pair again. Then the last line that names it decides, as `specs/Overruling` says, and the others are counted.
 //! [`decide`] does the same for a list of updates, as `specs/LastUpdates` says.
 //!
+//! [`cut_line`], [`cut_field`], [`number`] and [`read_line`] are the steps of that reading, for whoever reads lines of other forms.
+//!
 //! Reading is linear but for sorts. A plain line is read in one scan (`plain`), any other is cut off and into fields. Ids that are not
 //! far apart are marked and listed, and far ones sorted (`ids`). The different ids are counted at the end. Only where there are too
 //! many are the edges and batches that were told taken again, line by line, to find the line (`reading`). The text itself is read
@@ -59,12 +61,16 @@ use crate::finder::Finder;
 use crate::numbering::{batches_of, numbered, start_of};
 use crate::overruling::decide_batches;
 pub use batch::Batch;
+pub use bytes::cut_line;
 pub use change::ChangeLine;
 pub use fault::ParseFault;
+pub use fields::cut_field;
 pub use input::Input;
 pub use kind::Kind;
 pub use limits::{Limits, MOST_BATCHES, MOST_BYTES, MOST_EDGE_LINES, MOST_IDS, MOST_UPDATES};
+pub use line::{TextLine, read_line};
 pub use named_edges::NamedEdges;
+pub use number::number;
 pub use overruling::decide;
 pub use refusal::Refusal;
 pub use std::alloc::AllocError as NoMemory;

@@ -79,8 +79,8 @@ fn change_form(add: bool, rest: &[u8]) -> TextLine
     }
 }
 
-/// What a line says. Its first field tells which form it has.
-fn read_line(line: &[u8]) -> TextLine
+/// What a line says that is given without its line end. Its first field tells which form it has.
+pub fn read_line(line: &[u8]) -> TextLine
     ensures { result ≡ said_by line.now }
 {
     let Some((first, rest)) = cut_field(line) else {

@@ -7,8 +7,9 @@ use crate::kind::Kind;
 /// One more than the greatest id.
 const TOO_LARGE: u64 = 4_294_967_296;
 
-/// The number that a field spells. Leading zeros don't count, so a field may have any length.
-pub(crate) fn number(field: &[u8]) -> Result<u32, Kind>
+/// The number below 2^32 that a field of decimal digits spells. Leading zeros don't count, so a field may have any length. `NotANumber`
+/// where the field is empty or has any other byte, and else `NumberTooLarge` where the number is 2^32 or more.
+pub fn number(field: &[u8]) -> Result<u32, Kind>
     ensures { result ≡ number field.now }
 {
     let mut value = 0u64;

@@ -1,12 +1,10 @@
 -- Vertices that are sorted by their places stand in the list's order.
 use Rattle.std.proofs.Common.{◌≡◌, ◌≢◌, ◌<◌, ◌≤◌, ℕ, suc, true, cond, List, [], ◌∷◌, eqb, length, get_or, sym, ap, ◌∙◌, arith, inl, inr}
 use Rattle.std.proofs.Common.{true≢false}
-use Rattle.std.specs.List.Sorted.{IsNonDecreasingBy, IsPermutation}
+use Rattle.std.specs.List.Sorted.{IsNonDecreasingBy}
 use Rattle.std.proofs.lemmas.Bool.{false_from_ne_true}
-use Rattle.std.proofs.lemmas.List.Sorted.{sum_by-IsPermutation}
-use Rattle.kc_lists.specs.Lists.{Distinct, member, place_of, times}
+use Rattle.kc_lists.specs.Lists.{Distinct, member, place_of}
 use Rattle.kc_lists.proofs.Members.{member-head, member-tail, place_of-none}
-use Rattle.kc_lists.proofs.Counting.{times_distinct, distinct_times}
 use Rattle.kc_table.specs.declared.view.Event.{Event}
 use Rattle.kc_table.specs.Legal.{Legal}
 use Rattle.kc_table.specs.Log.{TableName}
@@ -15,14 +13,6 @@ use Rattle.kc_order.specs.Standing.{list_after}
 use Rattle.kc_topo.specs.Dags.{IsDag}
 use Rattle.kc_topo.proofs.Looking.{listed-low}
 use Rattle.kc_topo.proofs.Walks.{at-place, one-first}
-
--- How often a number comes. ----------------------------------------------------------------------------
-
--- a permutation repeats no number either
-pub Distinct-permutation : (xs ys : List ℕ) → IsPermutation xs ys → Distinct xs → Distinct ys
-Distinct-permutation xs ys p d = distinct_times ys (λ x.
-    let same : times x ys ≡ times x xs = sum_by-IsPermutation (λ (y : ℕ). cond (eqb x y) 1 0) xs ys p in
-    omega (arith, same, times_distinct x xs d))
 
 -- Sorted by places. ---------------------------------------------------------------------------------------
 

@@ -1,7 +1,8 @@
 -- One text goes on after another.
 use Rattle.std.proofs.Common.{[], ◌∷◌, decimal}
 use Rattle.std.proofs.lemmas.Result.{on_err_weaker, on_ok_weaker}
-use Rattle.kc_cores.proofs.Paging.{PassesOn-trans, PassesPart-later, PassesPart-wider, on_err-anyhow}
+use Rattle.kc_lists.proofs.Results.{on_err-anyhow}
+use Rattle.kc_cores.proofs.Paging.{PassesOn-trans, PassesPart-later, PassesPart-wider}
 use Rattle.kc_cores.proofs.lines.put_ended.Goals as goal
 
 pub returns-in_err-put_number-clause-part : goal.returns-in_err-put_number-clause-part

@@ -5,7 +5,8 @@ use Rattle.kc_flat.specs.Listing.{ascending_below}
 use Rattle.kc_flat.proofs.Listed.{flat_map-next}
 use Rattle.kc_cores.specs.Listings.{line_at, listing_lines}
 use Rattle.kc_cores.specs.Pages.{PassesOn, PassesPart}
-use Rattle.kc_cores.proofs.Paging.{PassesOn-trans, PassesPart-later, PassesPart-wider, on_err-anyhow}
+use Rattle.kc_lists.proofs.Results.{on_err-anyhow}
+use Rattle.kc_cores.proofs.Paging.{PassesOn-trans, PassesPart-later, PassesPart-wider}
 use Rattle.kc_cores.proofs.Placing.{flat_map-front}
 use Rattle.kc_cores.proofs.listing.put_lines.Goals as goal
 

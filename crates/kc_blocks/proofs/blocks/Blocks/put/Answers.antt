@@ -1,17 +1,12 @@
 -- The entry goes into its block, and those behind it begin one place later.
 use Rattle.std.proofs.Common.{◌≡◌, ◌≤◌, ◌<◌, ◌+◌, ◌-◌, ℕ, List, Vec, Global, length, get_or, arith, ap, ◌∙◌, sym}
-use Rattle.std.specs.Prelude.{OnErr, Result, Ok, Err}
 use Rattle.std.proofs.lemmas.List.{get_or_read}
 use Rattle.std.proofs.lemmas.List.Edits.{length-insert}
+use Rattle.kc_lists.proofs.Results.{on_err-anyhow}
 use Rattle.kc_blocks.specs.Placing.{all_entries, starts_from, later_from}
 use Rattle.kc_blocks.proofs.Placed.{IsFound, found, as-many, start-within, put-entries, put-starts, same-entries, same-starts}
 use Rattle.kc_blocks.proofs.blocks.Blocks.put.Goals.{After-index_mut-entries}
 use Rattle.kc_blocks.proofs.blocks.Blocks.put.Goals as goal
-
--- what holds holds at an error
-at-err : {A E P : Type 0} (r : Result A E) → P → OnErr r P
-at-err (Ok a) p = tt
-at-err (Err e) p = p
 
 -- the block, found
 found-here : (c : After-index_mut-entries) → IsFound c.args.self.now.blocks.items c.args.block c.args.place c.index.result.now c.index_mut-entries.result.now
@@ -40,7 +35,7 @@ returns-in_err-insert-clause-placed c =
 pub returns-in_err-insert-clause-err : goal.returns-in_err-insert-clause-err
 returns-in_err-insert-clause-err c =
     let f = found-here (goal.at.returns-in_err-insert-clause-err c).After-index_mut-entries in
-    at-err c.from_residual.result (same-entries _ _ _ _ c.insert.new.self _ f.cut c.in_err-insert.ensures.items)
+    on_err-anyhow c.from_residual.result (same-entries _ _ _ _ c.insert.new.self _ f.cut c.in_err-insert.ensures.items)
 
 pub move_later-requires-clause-first : goal.move_later-requires-clause-first
 move_later-requires-clause-first c = omega (arith, c.requires.lies.there, as-many c.args.self.now c.requires.placed)

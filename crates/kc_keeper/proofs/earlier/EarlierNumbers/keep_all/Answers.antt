@@ -13,7 +13,8 @@ loop-vertex-preserved c =
     let Kept : ℕ → Type 0 = λ v. member v (changed_vertices c.keep.new.self.cores.items) ≡ true in
     record {
       room = omega (arith, old.room, c.in_ok-keep.ensures.room);
-      kept = λ start h. c.in_ok-keep.ensures.kept c.args.core.now (c.requires c.loop-vertex.vertex-index 0 c.loop-vertex-test.true) refl start (old.kept start h);
+      kept = λ start h.
+          c.in_ok-keep.ensures.kept c.args.core.now (c.requires c.loop-vertex.vertex-index 0 c.loop-vertex-test.true) refl start (old.kept start h);
       here = All-more Kept c.args.vertices.now c.loop-vertex.vertex-index 0 c.loop-vertex-test.true
           (λ k d low. c.in_ok-keep.ensures.stay _ (old.here k d low)) c.in_ok-keep.ensures.here;
     }
