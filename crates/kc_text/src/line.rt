@@ -5,9 +5,9 @@ ghost use Rattle.kc_text.specs.Forms.{all_said, batch_form, change_form, edge_fo
 
 use crate::bytes::cut_line;
 use crate::change::ChangeLine;
+use crate::digits::number;
 use crate::fields::cut_field;
 use crate::kind::Kind;
-use crate::number::number;
 use crate::plain::plain_line;
 
 /// What one line says.

@@ -3,8 +3,9 @@ use Rattle.std.proofs.Common.{rules, ℕ, List, eqb, sym, ◌∙◌, subst}
 use Rattle.std.specs.List.Sorted.{IsPermutation}
 use Rattle.std.proofs.lemmas.List.Sorted.{IsNonDecreasingBy-from_sort_by, list_any-IsPermutation}
 use Rattle.kc_lists.specs.Lists.{place_of}
+use Rattle.kc_lists.proofs.Counting.{Distinct-permutation}
 use Rattle.kc_order.specs.Standing.{list_after}
-use Rattle.kc_topo.proofs.Sorting.{Distinct-permutation, sorted-turn}
+use Rattle.kc_topo.proofs.Sorting.{sorted-turn}
 use Rattle.kc_topo.proofs.searching.in_list_order.Goals as goal
 
 pub returns-clause-turn : goal.returns-clause-turn

@@ -2,7 +2,7 @@
 use Rattle.std.proofs.Common.{◌≡◌, take, true, min}
 use Rattle.std.specs.List.{list_all}
 use Rattle.kc_text.specs.Forms.{value, is_digit}
-use Rattle.kc_text.proofs.number.number.Given as goal
+use Rattle.kc_text.proofs.digits.number.Given as goal
 
 abbrev pub invariant-loop-b : goal.invariant-loop-b
 invariant-loop-b l = record {
