@@ -29,6 +29,7 @@ def main(small, large):
     kcore.plot.rings(edges_of(small), ax=left).set_title(pathlib.Path(small).stem)
     kcore.plot.sizes(edges_of(large), ax=right).set_title(pathlib.Path(large).stem)
     figure.savefig(PLACE, metadata={"Date": None})
+    PLACE.write_text("".join(f"{line.rstrip()}\n" for line in PLACE.read_text(encoding="utf-8").splitlines()), encoding="utf-8")
 
 
 if __name__ == "__main__":
