@@ -9,7 +9,7 @@ of the crate that the heading names. Edits that stand in no row are named too.
 docs/DEFINITIONS.md: each word in backticks of a row's first cell is looked up in the files of its column `Where`. A bare `File.antt` there is
 of the crate that was named last, and `the same` is the cell above.
 
-README.md, CHANGELOG.md and the other pages of docs/: each name in backticks that has an underscore, a capital inside or `::` is a word of
+README.md, CONTRIBUTING.md, SECURITY.md, CHANGELOG.md and the other pages: each name in backticks that has an underscore, a capital inside or `::` is a word of
 the sources, but those of OUTSIDE.
 
 docs/DECISIONS.md has a table of the public names that several crates have; it is compared with the sources.
@@ -217,7 +217,7 @@ def main():
     everywhere, here = words_of_sources()
     faults += faults_of_names(here)
     named = 0
-    for page in [TOP / "README.md", TOP / "CHANGELOG.md", TOP / "bench/README.md", *sorted(DOCS.glob("*.md"))]:
+    for page in [*(TOP / it for it in ("README.md", "CONTRIBUTING.md", "SECURITY.md", "CHANGELOG.md", "bench/README.md")), *sorted(DOCS.glob("*.md"))]:
         if page.name != "MAP.md":
             count, more = faults_of_page(page, everywhere, here)
             named, faults = named + count, faults + more
