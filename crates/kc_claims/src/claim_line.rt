@@ -5,9 +5,7 @@ ghost use Rattle.kc_text.specs.Lines.{fields};
 ghost use Rattle.kc_claims.specs.Claims.{claim_form, claim_in, with_rank};
 
 use crate::claim::Claim;
-use crate::cutting::cut_field;
-use crate::number::number;
-use kc_text::Kind;
+use kc_text::{Kind, cut_field, number};
 
 fn is_comment(field: &[u8]) -> bool
     ensures { result ≡ is_comment field.now }

@@ -13,9 +13,7 @@ mod checking;
 mod claim;
 mod claim_line;
 mod counting;
-mod cutting;
 mod fault;
-mod number;
 mod reading;
 mod taking;
 

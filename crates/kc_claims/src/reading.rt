@@ -6,10 +6,9 @@ ghost use Rattle.kc_claims.specs.Claims.{claims_of};
 
 use crate::claim::Claim;
 use crate::claim_line::claim_in;
-use crate::cutting::cut_line;
 use crate::fault::TextFault;
 use kc_graph::NoMemory;
-use kc_text::Refusal;
+use kc_text::{Refusal, cut_line};
 use std::alloc::Global;
 
 /// Puts a claim behind others, if there is one.
