@@ -6,17 +6,16 @@ use Rattle.kc_io.specs.Causes.{Rose}
 use Rattle.kc_io.specs.declared.sink.Sink as sinks
 use Rattle.kc_io.specs.declared.source.Source as sources
 use Rattle.kc_claims.specs.declared.fault.ClaimFault.{ClaimFault}
-use Rattle.kc_cores.specs.CheckEnded.{CheckEnded, HasEnded, IsRight, IsWrong}
+use Rattle.kc_cores.specs.CheckEnded.{CheckEnded, EndsAsAsked, IsRight, IsWrong}
 use Rattle.kc_cores.specs.CoresEnded.{CoresEnded}
 use Rattle.kc_cores.specs.Endings.{HasNoVerdict, HasSaid, NoClaimsAt, NoFileGraphAt, RefutedAt, RepliesTo, line_of}
 use Rattle.kc_cores.specs.Inputs.{known_bytes}
 use Rattle.kc_cores.specs.Sentences.{no_memory_line, write_fault_line}
 use Rattle.kc_cores.specs.Verdicts.{no_line, yes_line}
-use Rattle.kc_cores.specs.Wishes.{Asks, Checks, Wish}
+use Rattle.kc_cores.specs.Wishes.{Asks, Checks, Query, Wish}
 use Rattle.kc_cores.specs.declared.CoresStatus.{CoresStatus}
 use Rattle.kc_cores.specs.declared.CoresStatus.TheVariants as status
 use Rattle.kc_cores.specs.declared.ending.Ending.{Ending}
-use Rattle.kc_cores.specs.declared.request.Task.{Task}
 use Rattle.kc_cores.specs.declared.words.Reply.{Reply}
 use Rattle.kc_cores.specs.declared.words.Reply.TheVariants as reply
 
@@ -146,19 +145,19 @@ module _ {I C O : Type 0} (source : sources.Ghosts I) (behind : I → List ℕ �
 
   module _ (gone : O → Bool) where
     -- a run for a task has ended as it should
-    pub HasEnded-lines : (wish : Wish) (task : Task) (file : Option (List ℕ)) (end : CoresStatus) (line : List ℕ) (i i' : I) (c c' : C) (o o' : O)
-        → wish ≡ Asks task file → CoresEnded source behind out gone (Asks task file) end line i i' o o' → c' ≡ c
-        → HasEnded source behind kept beside out gone wish end line i i' c c' o o'
-    HasEnded-lines wish task file end line i i' c c' o o' is h same = record {
+    pub EndsAsAsked-lines : (wish : Wish) (query : Query) (end : CoresStatus) (line : List ℕ) (i i' : I) (c c' : C) (o o' : O)
+        → wish ≡ Asks query → CoresEnded source behind out gone (Asks query) end line i i' o o' → c' ≡ c
+        → EndsAsAsked source behind kept beside out gone wish end line i i' c c' o o'
+    EndsAsAsked-lines wish query end line i i' c c' o o' is h same = record {
       check = λ n f e. absurd (cc);
       other = λ _. (subst (λ (w : Wish). CoresEnded source behind out gone w end line i i' o o') (sym is) h, same);
     }
 
     -- a run that checks a certificate has ended as it should
-    pub HasEnded-check : (wish : Wish) (name : List ℕ) (file : Option (List ℕ)) (end : CoresStatus) (line : List ℕ) (i i' : I) (c c' : C) (o o' : O)
+    pub EndsAsAsked-check : (wish : Wish) (name : List ℕ) (file : Option (List ℕ)) (end : CoresStatus) (line : List ℕ) (i i' : I) (c c' : C) (o o' : O)
         → wish ≡ Checks name file → CheckEnded source behind kept beside out name file end line i i' c c' o o'
-        → HasEnded source behind kept beside out gone wish end line i i' c c' o o'
-    HasEnded-check wish name file end line i i' c c' o o' is h = record {
+        → EndsAsAsked source behind kept beside out gone wish end line i i' c c' o o'
+    EndsAsAsked-check wish name file end line i i' c c' o o' is h = record {
       check = λ n f e.
           let p : name ≡ n = cc in
           let q : file ≡ f = cc in
@@ -168,11 +167,11 @@ module _ {I C O : Type 0} (source : sources.Ghosts I) (behind : I → List ℕ �
     }
 
     -- a run that is a reply to its words has ended as it should
-    pub HasEnded-reply : (wish : Wish) (r : Reply) (end : CoresStatus) (line : List ℕ) (i i' : I) (c c' : C) (o o' : O)
+    pub EndsAsAsked-reply : (wish : Wish) (r : Reply) (end : CoresStatus) (line : List ℕ) (i i' : I) (c c' : C) (o o' : O)
         → RepliesTo r wish → CoresEnded source behind out gone wish end line i i' o o' → c' ≡ c
         → (r ≡ reply.NoMemory → (end ≡ status.NoMemory) × (line ≡ no_memory_line) × (i' ≡ i) × (o' ≡ o))
-        → HasEnded source behind kept beside out gone wish end line i i' c c' o o'
-    HasEnded-reply wish r end line i i' c c' o o' replies h same memory = record {
+        → EndsAsAsked source behind kept beside out gone wish end line i i' c c' o o'
+    EndsAsAsked-reply wish r end line i i' c c' o o' replies h same memory = record {
       check = λ name file e. go r name file (subst (RepliesTo r) e replies) memory;
       other = λ _. (h, same);
     }

@@ -22,7 +22,7 @@ use Rattle.kc_cores.specs.Verdicts.{claim_refused_line, fault_line, no_line, yes
 use Rattle.kc_cores.specs.Wishes.{Checks, Wish}
 use Rattle.kc_cores.specs.declared.CoresStatus.{CoresStatus}
 use Rattle.kc_cores.specs.declared.CoresStatus.TheVariants as status
-use Rattle.kc_cores.specs.declared.input.OpenFault.{OpenFault}
+use Rattle.kc_cores.specs.declared.input.FileFault.{FileFault}
 
 -- what the text of a certificate claims, which may have as many bytes as that of a graph
 unfoldable pub certificate_meaning : List ℕ → Result (List Claim) Refusal
@@ -35,7 +35,7 @@ pub record AreClaimsOf (known : Option (List ℕ)) (claims : List Claim) : Type 
   pub means : certificate_meaning text ≡ Ok claims
 
 -- what holds of the graph and the claims that were read
-pub record IsFound (P : List ℕ → SimpleGraph → List Claim → Type 0) (known certificate : Option (List ℕ)) : Type 0 where
+pub record HoldsOfBoth (P : List ℕ → SimpleGraph → List Claim → Type 0) (known certificate : Option (List ℕ)) : Type 0 where
   pub ids : List ℕ
   pub g : SimpleGraph
   pub claims : List Claim
@@ -45,11 +45,11 @@ pub record IsFound (P : List ℕ → SimpleGraph → List Claim → Type 0) (kno
 
 -- the claims are a certificate, and so they tell each id its core number
 abbrev pub IsRight : Option (List ℕ) → Option (List ℕ) → Type 0
-IsRight = IsFound (λ ids g claims. AreCertificate ids g claims × TellCoreNumbers ids g claims)
+IsRight = HoldsOfBoth (λ ids g claims. AreCertificate ids g claims × TellCoreNumbers ids g claims)
 
 -- the claims are none, and this is the first fault
 abbrev pub IsWrong : ClaimFault → Option (List ℕ) → Option (List ℕ) → Type 0
-IsWrong fault = IsFound (λ ids g claims. IsFirstFault ids g claims fault)
+IsWrong fault = HoldsOfBoth (λ ids g claims. IsFirstFault ids g claims fault)
 
 -- the answer to what was read
 abbrev pub IsVerdictOn : Option (List ℕ) → Option (List ℕ) → List ℕ → Type 0
@@ -72,7 +72,7 @@ CheckAt status.WriteFault name file known certificate before after line =
     (text : List ℕ) × IsVerdictOn known certificate text × ((n : ℕ) × (n ≤ length text) × Appends before after (take n text)) × (line ≡ write_fault_line)
 CheckAt status.Refused name file known certificate before after line = IsRefusedLine name known certificate line × Appends before after []
 CheckAt status.Unopened name file known certificate before after line =
-    ((opened : List ℕ) × (fault : OpenFault) × ((opened ≡ name) ⊎ (file ≡ Some opened)) × IsUnopenedLine opened fault line) × Appends before after []
+    ((opened : List ℕ) × (fault : FileFault) × ((opened ≡ name) ⊎ (file ≡ Some opened)) × IsUnopenedLine opened fault line) × Appends before after []
 CheckAt status.ReadFault name file known certificate before after line = (line ≡ read_fault_line) × Appends before after []
 CheckAt status.NoMemory name file known certificate before after line = (line ≡ no_memory_line) × Appends before after []
 CheckAt _ name file known certificate before after line = ⊥
@@ -94,7 +94,7 @@ pub record CheckEnded {I C O : Type 0} (source : sources.Ghosts I) (behind : I �
 
 -- A run for what the words ask for has ended with this status, and `told` is the line about it. Where they ask for a check it ends as that, and
 -- else as `CoresEnded` says, and nothing turns to the certificate.
-pub record HasEnded {I C O : Type 0} (source : sources.Ghosts I) (behind : I → List ℕ → Option (List ℕ)) (kept : sources.Ghosts C)
+pub record EndsAsAsked {I C O : Type 0} (source : sources.Ghosts I) (behind : I → List ℕ → Option (List ℕ)) (kept : sources.Ghosts C)
     (beside : C → List ℕ → Option (List ℕ)) (out : sinks.Ghosts O) (gone : O → Bool) (wish : Wish) (end : CoresStatus) (told : List ℕ)
     (i i' : I) (c c' : C) (o o' : O) : Type 0 where
   pub check : (name : List ℕ) (file : Option (List ℕ)) → wish ≡ Checks name file → CheckEnded source behind kept beside out name file end told i i' c c' o o'

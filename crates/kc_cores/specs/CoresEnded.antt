@@ -1,5 +1,5 @@
 -- How a run ends, and what it has done then: the promise of `answer`, clause by clause.
-use Rattle.std.specs.Prelude.{◌≡◌, ◌⊎◌, ◌≤◌, ◌<◌, ℕ, Bool, List, [], Option, Some, None, IfSome, length, take, false, true, ⊤}
+use Rattle.std.specs.Prelude.{◌≡◌, ◌⊎◌, ◌≤◌, ◌<◌, ℕ, Bool, List, [], Option, Some, None, IfSome, if◌then◌else◌, length, take, false, true, ⊤}
 use Rattle.std.specs.Io.KnownBytes.{Appends, IsAtEnd}
 use Rattle.kc_io.specs.Causes.{Rose}
 use Rattle.kc_io.specs.FirstPiece.{KeepsFirst}
@@ -11,21 +11,20 @@ use Rattle.clap.specs.Kinds.{Kinds}
 use Rattle.kc_cores.specs.Answers.{IsTextFor, graph_meaning}
 use Rattle.kc_cores.specs.Inputs.{known_bytes}
 use Rattle.kc_cores.specs.Sentences.{no_memory_line, read_fault_line, refused_line, unopened_line, unopened_short_line, write_fault_line}
-use Rattle.kc_cores.specs.Wishes.{Asks, Checks, MayReply, Replies, Wish}
+use Rattle.kc_cores.specs.Wishes.{Asks, Checks, MayReply, Query, Replies, Wish}
 use Rattle.kc_cores.specs.declared.CoresStatus.{CoresStatus}
 use Rattle.kc_cores.specs.declared.CoresStatus.TheVariants as status
-use Rattle.kc_cores.specs.declared.input.OpenFault.{OpenFault}
-use Rattle.kc_cores.specs.declared.request.Task.{Task}
+use Rattle.kc_cores.specs.declared.input.FileFault.{FileFault}
 
 -- the bytes that a run reads, where they are known
 abbrev pub given_bytes : {I : Type 0} → (I → Option (List ℕ)) → (I → List ℕ → Option (List ℕ)) → Wish → I → Option (List ℕ)
-given_bytes left behind (Asks task file) i = known_bytes left behind file i
+given_bytes left behind (Asks query) i = known_bytes left behind query.file i
 given_bytes left behind (Checks name file) i = None
 given_bytes left behind (Replies kinds) i = None
 
 -- the lines and the summary of what was read, which is all of the input where it is known
 abbrev pub IsAnswerTo : Wish → Option (List ℕ) → List ℕ → List ℕ → Type 0
-IsAnswerTo (Asks task file) known text summary = (bytes : List ℕ) × IfSome known (λ all. bytes ≡ all) × IsTextFor task bytes text summary
+IsAnswerTo (Asks query) known text summary = (bytes : List ℕ) × IfSome known (λ all. bytes ≡ all) × IsTextFor query.task bytes text summary
 IsAnswerTo (Checks name file) known text summary = ⊥
 IsAnswerTo (Replies kinds) known text summary = ⊥
 
@@ -39,7 +38,7 @@ TookPrefix P before after = (text : List ℕ) × P text × ((n : ℕ) × (n ≤ 
 
 -- what a run has to write: the lines that are asked for, or help or the version
 abbrev pub IsOutputFor : Wish → Option (List ℕ) → List ℕ → Type 0
-IsOutputFor (Asks task file) known text = (summary : List ℕ) × IsAnswerTo (Asks task file) known text summary
+IsOutputFor (Asks query) known text = (summary : List ℕ) × IsAnswerTo (Asks query) known text summary
 IsOutputFor (Checks name file) known text = ⊥
 IsOutputFor (Replies kinds) known text = MayReply true (Replies kinds)
 
@@ -100,18 +99,28 @@ pub record ToldLine {E : Type 0} (err : sinks.Ghosts E) (line : List ℕ) (e e' 
   pub offered : 0 < length line → KeepsFirst (err.first e) (err.first e') line
 
 -- the line about a file that was not opened, which lacks the name where there is no memory for it
-abbrev pub IsUnopenedLine : List ℕ → OpenFault → List ℕ → Type 0
+abbrev pub IsUnopenedLine : List ℕ → FileFault → List ℕ → Type 0
 IsUnopenedLine name fault line = (line ≡ unopened_line name fault) ⊎ (line ≡ unopened_short_line)
+
+-- the line of a run that is done: its summary, or nothing where it is quiet
+abbrev pub done_line : Bool → List ℕ → List ℕ
+done_line quiet summary = if quiet then [] else summary
+
+-- whether words ask for a run that tells nothing of itself once it is done
+abbrev pub is_quiet : Wish → Bool
+is_quiet (Asks query) = query.quiet
+is_quiet _ = false
 
 -- The line of each status. `known` are the bytes of the input, where they are known. The line about wrong words is that of `clap`.
 abbrev pub IsLineAt : CoresStatus → Wish → Option (List ℕ) → List ℕ → Type 0
-IsLineAt status.Done wish known line = (text : List ℕ) × IsAnswerTo wish known text line
+IsLineAt status.Done wish known line =
+    (text : List ℕ) × (summary : List ℕ) × IsAnswerTo wish known text summary × (line ≡ done_line (is_quiet wish) summary)
 IsLineAt status.Shown wish known line = line ≡ []
 IsLineAt status.Usage wish known line = ⊤
 IsLineAt status.Refused wish known line =
     (n : ℕ) × (kind : Kind) × (line ≡ refused_line n kind) × IfSome known (λ bytes. graph_meaning bytes ≡ Refuses n kind)
 IsLineAt status.Unopened wish known line =
-    (task : Task) × (name : List ℕ) × (fault : OpenFault) × (wish ≡ Asks task (Some name)) × IsUnopenedLine name fault line
+    (query : Query) × (name : List ℕ) × (fault : FileFault) × (wish ≡ Asks query) × (query.file ≡ Some name) × IsUnopenedLine name fault line
 IsLineAt status.ReadFault wish known line = line ≡ read_fault_line
 IsLineAt status.WriteFault wish known line = line ≡ write_fault_line
 IsLineAt status.ReaderGone wish known line = line ≡ []
@@ -136,10 +145,10 @@ pub record CoresEnded {I O : Type 0} (source : sources.Ghosts I) (behind : I →
   pub faults : FaultsAt end (source.faults i) (source.faults i')
   pub write_faults : WriteFaultsAt end (out.faults o) (out.faults o')
   pub reader : ReaderAt end (gone o')
-  pub refuses : (task : Task) (file : Option (List ℕ)) (bytes : List ℕ) (n : ℕ) (kind : Kind) → wish ≡ Asks task file
-      → known_bytes source.left behind file i ≡ Some bytes → graph_meaning bytes ≡ Refuses n kind
+  pub refuses : (query : Query) (bytes : List ℕ) (n : ℕ) (kind : Kind) → wish ≡ Asks query
+      → known_bytes source.left behind query.file i ≡ Some bytes → graph_meaning bytes ≡ Refuses n kind
       → (end ≡ status.Refused) ⊎ (end ≡ status.Unopened) ⊎ (end ≡ status.ReadFault) ⊎ (end ≡ status.NoMemory)
-  pub complete : (task : Task) (file : Option (List ℕ)) (bytes : List ℕ) (all : Told) → wish ≡ Asks task file
-      → known_bytes source.left behind file i ≡ Some bytes → graph_meaning bytes ≡ Means all
+  pub complete : (query : Query) (bytes : List ℕ) (all : Told) → wish ≡ Asks query
+      → known_bytes source.left behind query.file i ≡ Some bytes → graph_meaning bytes ≡ Means all
       → (end ≡ status.Done) ⊎ (end ≡ status.Unopened) ⊎ (end ≡ status.ReadFault) ⊎ (end ≡ status.ReaderGone)
       ⊎ (end ≡ status.WriteFault) ⊎ (end ≡ status.NoMemory)

@@ -13,11 +13,11 @@ use Rattle.kc_cores.specs.CheckEnded.{certificate_meaning}
 use Rattle.kc_cores.specs.CoresEnded.{IsUnopenedLine}
 use Rattle.kc_cores.specs.Sentences.{no_memory_line, read_fault_line, refused_line, write_fault_line}
 use Rattle.kc_cores.specs.Verdicts.{claim_refused_line, fault_line, no_line}
-use Rattle.kc_cores.specs.Wishes.{Asks, Checks, MayReply, Wish, is_shown}
+use Rattle.kc_cores.specs.Wishes.{Asks, Checks, MayReply, Query, Wish, is_shown}
 use Rattle.kc_cores.specs.declared.CoresStatus.{CoresStatus}
 use Rattle.kc_cores.specs.declared.CoresStatus.TheVariants as status
 use Rattle.kc_cores.specs.declared.ending.Ending.{Ending}
-use Rattle.kc_cores.specs.declared.input.OpenFault.{OpenFault}
+use Rattle.kc_cores.specs.declared.input.FileFault.{FileFault}
 use Rattle.kc_cores.specs.declared.message.Message.{Message}
 use Rattle.kc_cores.specs.declared.message.Message.TheVariants.{Fixed, Made}
 use Rattle.kc_cores.specs.declared.request.CheckRequest.{CheckRequest}
@@ -61,7 +61,7 @@ HasNoGraph ending known before after = NoGraphAt ending.status (line_of ending) 
 -- why there is no graph of a file, or of standard input: the file was not opened, or there is none of its bytes
 abbrev pub NoFileGraphAt : CoresStatus → List ℕ → Option (List ℕ) → Option (List ℕ) → ℕ → ℕ → Type 0
 NoFileGraphAt status.Unopened line file known before after =
-    (name : List ℕ) × (fault : OpenFault) × (file ≡ Some name) × IsUnopenedLine name fault line × Rose before after
+    (name : List ℕ) × (fault : FileFault) × (file ≡ Some name) × IsUnopenedLine name fault line × Rose before after
 NoFileGraphAt end line file known before after = NoGraphAt end line known before after
 
 -- the run ends since the file gives no graph
@@ -76,7 +76,7 @@ CutAt _ line gone = ⊥
 
 -- why there are no claims of the certificate of this name, where `known` are its bytes if they are known
 abbrev pub NoClaimsAt : CoresStatus → List ℕ → List ℕ → Option (List ℕ) → ℕ → ℕ → Type 0
-NoClaimsAt status.Unopened line name known before after = (fault : OpenFault) × IsUnopenedLine name fault line × Rose before after
+NoClaimsAt status.Unopened line name known before after = (fault : FileFault) × IsUnopenedLine name fault line × Rose before after
 NoClaimsAt status.Refused line name known before after =
     (refusal : Refusal) × (line ≡ claim_refused_line name refusal) × IfSome known (λ text. certificate_meaning text ≡ Err refusal) × (after ≡ before)
 NoClaimsAt status.ReadFault line name known before after = (line ≡ read_fault_line) × Rose before after
@@ -148,9 +148,9 @@ RepliesTo (reply.Asked text) wish = MayReply true wish
 RepliesTo (reply.Mistake text) wish = MayReply false wish
 RepliesTo reply.NoMemory wish = ⊤
 
--- the file of a request
-abbrev pub file_of : Request → Option (List ℕ)
-file_of request = option_map (λ name. name.now) request.file
+-- what a request asks for
+abbrev pub query_of : Request → Query
+query_of request = record { task = request.task; file = option_map (λ name. name.now) request.file; quiet = request.quiet }
 
 -- the file of a check
 abbrev pub checked_file : CheckRequest → Option (List ℕ)
@@ -158,5 +158,5 @@ checked_file request = option_map (λ name. name.now) request.file
 
 -- the request is what words ask for
 abbrev pub IsRequestFor : Wanted → Wish → Type 0
-IsRequestFor (wanted.Lines request) wish = wish ≡ Asks request.task (file_of request)
+IsRequestFor (wanted.Lines request) wish = wish ≡ Asks (query_of request)
 IsRequestFor (wanted.Check request) wish = wish ≡ Checks request.certificate.now (checked_file request)

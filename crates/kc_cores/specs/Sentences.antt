@@ -4,8 +4,8 @@ use Rattle.std.specs.Fmt.{decimal}
 use Rattle.kc_text.specs.declared.kind.Kind.{Kind}
 use Rattle.kc_text.specs.declared.kind.Kind.TheVariants.{NotANumber, MissingField, ExtraField, NumberTooLarge, LoopInBatch, UpdateOutsideBatch}
 use Rattle.kc_text.specs.declared.kind.Kind.TheVariants.{EdgeLineInBatch, TooManyVertices, TooManyEdgeLines, TooManyUpdates, TooManyBatches, TooLong}
-use Rattle.kc_cores.specs.declared.input.OpenFault.{OpenFault}
-use Rattle.kc_cores.specs.declared.input.OpenFault.TheVariants.{Missing, Folder, Forbidden, Other}
+use Rattle.kc_cores.specs.declared.input.FileFault.{FileFault}
+use Rattle.kc_cores.specs.declared.input.FileFault.TheVariants.{Missing, Folder, Forbidden, Other}
 
 -- what was found wrong with a line, and how it is mended
 abbrev pub sentence_of : Kind → List ℕ
@@ -32,14 +32,14 @@ abbrev pub refused_line : ℕ → Kind → List ℕ
 refused_line line kind = codes "cores: " ++ (at_line line ++ (codes ": " ++ (sentence_of kind ++ 10 ∷ [])))
 
 -- why a file was not opened, in the words of the operating system
-abbrev pub fault_sentence : OpenFault → List ℕ
+abbrev pub fault_sentence : FileFault → List ℕ
 fault_sentence Missing = codes "No such file or directory"
 fault_sentence Folder = codes "Is a directory"
 fault_sentence Forbidden = codes "Permission denied"
 fault_sentence Other = codes "The file can not be opened"
 
 -- `cores: FILE: No such file or directory`
-abbrev pub unopened_line : List ℕ → OpenFault → List ℕ
+abbrev pub unopened_line : List ℕ → FileFault → List ℕ
 unopened_line name fault = codes "cores: " ++ (name ++ (codes ": " ++ (fault_sentence fault ++ 10 ∷ [])))
 
 -- where there is no memory for that line

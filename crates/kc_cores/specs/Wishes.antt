@@ -15,9 +15,17 @@ use Rattle.clap.specs.declared.error.kind.ErrorKind.TheVariants.{DisplayHelp, Di
 use Rattle.kc_cores.specs.declared.request.Task.{Task}
 use Rattle.kc_cores.specs.declared.request.Task.TheVariants.{Numbers, Sizes, Members, Edges, Layers, Order}
 
+-- `--quiet`
+abbrev pub quiet_flag : Rule
+quiet_flag = record (new_rule (codes "quiet")) { long = Some (codes "quiet"); action = Some SetTrue }
+
+-- the command of a task, which may be quiet, without the name of the file
+abbrev pub quiet_command : Text → App
+quiet_command name = with_rule (new_app name) quiet_flag
+
 -- the command of a task, which takes the name of a file
 abbrev pub task_command : Text → App
-task_command name = with_rule (new_app name) (new_rule (codes "FILE"))
+task_command name = with_rule (quiet_command name) (new_rule (codes "FILE"))
 
 -- The command that reads the words, without those of the tasks. The words are those after the program's name.
 abbrev pub bare_command : App
@@ -73,10 +81,16 @@ with_tasks = with_subcommand (with_subcommand with_cores (task_command (codes "l
 abbrev pub cores_command : App
 cores_command = with_subcommand with_tasks check_command.top
 
--- What words ask for: a task for the graph of a file, or of standard input where no file is named; or the check of a certificate for such a
--- graph. Or they ask for help or the version, or are not right: then `clap` replies with a text of one of these kinds.
+-- A task for the graph of a file, or of standard input where no file is named. Where it is quiet, the run tells nothing of itself once it is done.
+pub record Query : Type 0 where
+  pub task : Task
+  pub file : Option Text
+  pub quiet : Bool
+
+-- What words ask for: a task for a graph; or the check of a certificate for the graph of a file, or of standard input where no file is named.
+-- Or they ask for help or the version, or are not right: then `clap` replies with a text of one of these kinds.
 pub data Wish : Type 0 where
-  Asks : Task → Option Text → Wish
+  Asks : Query → Wish
   Checks : Text → Option Text → Wish
   Replies : Kinds → Wish
 
@@ -121,10 +135,18 @@ abbrev pub file_named : Option Text → Option Text
 file_named None = None
 file_named (Some name) = if bytes_eq name (codes "-") then None else Some name
 
+-- the query of a task whose command has these matches
+abbrev pub query_in : Task → List Row → Query
+query_in task rows = record {
+  task = task;
+  file = file_named (first_of (codes "FILE") rows);
+  quiet = is_set (first_of (codes "quiet") rows);
+}
+
 -- what a command with these matches asks for
 abbrev pub wish_for : Option Task → List Row → Wish
 wish_for None rows = Replies (InvalidSubcommand ∷ [])
-wish_for (Some task) rows = Asks task (file_named (first_of (codes "FILE") rows))
+wish_for (Some task) rows = Asks (query_in task rows)
 
 -- what the command `check` asks for, by the names of the certificate and of the file
 abbrev pub check_wish : Option Text → Option Text → Wish
@@ -153,6 +175,6 @@ is_shown _ = false
 
 -- a reply that is what was asked for, or one that is not, is among those that there may be
 abbrev pub MayReply : Bool → Wish → Type 0
-MayReply shown (Asks task file) = ⊥
+MayReply shown (Asks query) = ⊥
 MayReply shown (Checks name file) = ⊥
 MayReply shown (Replies kinds) = (kind : ErrorKind) × IsAmong kind kinds × (is_shown kind ≡ shown)

@@ -2,9 +2,9 @@
 ghost use Rattle.std.specs.Prelude.{◌≡◌, ◌≤◌, ℕ, List, [], IfErr, IfOk, OnErr, OnOk, length, map, string_bytes, take};
 ghost use Rattle.std.specs.Io.KnownBytes.{Appends};
 ghost use Rattle.kc_io.specs.Causes.{HasCause};
-ghost use Rattle.kc_cores.specs.CheckEnded.{CheckEnded, HasEnded};
-ghost use Rattle.kc_cores.specs.CoresEnded.{CoresEnded, ToldLine};
-ghost use Rattle.kc_cores.specs.Endings.{RepliesTo, checked_file, file_of, line_of};
+ghost use Rattle.kc_cores.specs.CheckEnded.{CheckEnded, EndsAsAsked};
+ghost use Rattle.kc_cores.specs.CoresEnded.{CoresEnded, ToldLine, done_line};
+ghost use Rattle.kc_cores.specs.Endings.{RepliesTo, checked_file, line_of, message_text, query_of};
 ghost use Rattle.kc_cores.specs.Listings.{Fits, listing_lines};
 ghost use Rattle.kc_cores.specs.Sentences.{no_memory_line};
 ghost use Rattle.kc_cores.specs.Wishes.{Asks, Wish, wish_of};
@@ -53,9 +53,9 @@ fn follow<I: FileInput, C, O: PipeSink, E>(
     request: Request<'_>,
     streams: &mut CoresStreams<I, C, O, E>,
 ) -> Result<String, Ending>
-    ensures done { IfOk result (λ summary. CoresEnded I.Source I.behind O.Sink O.gone (Asks request.entry.task (file_of request.entry)) CoresStatus.Done
-        (string_bytes summary) streams.old.input streams.new.input streams.old.out streams.new.out) }
-    ensures stopped { IfErr result (λ ending. CoresEnded I.Source I.behind O.Sink O.gone (Asks request.entry.task (file_of request.entry)) ending.status
+    ensures done { IfOk result (λ summary. CoresEnded I.Source I.behind O.Sink O.gone (Asks (query_of request.entry)) CoresStatus.Done
+        (done_line request.entry.quiet (string_bytes summary)) streams.old.input streams.new.input streams.old.out streams.new.out) }
+    ensures stopped { IfErr result (λ ending. CoresEnded I.Source I.behind O.Sink O.gone (Asks (query_of request.entry)) ending.status
         (line_of ending) streams.old.input streams.new.input streams.old.out streams.new.out) }
     ensures certificate { streams.new.certificate ≡ streams.old.certificate }
     ensures err { streams.new.err ≡ streams.old.err }
@@ -101,13 +101,24 @@ fn show<I: FileInput, C, O: PipeSink, E>(
     }
 }
 
+/// The line of a run that is done, or nothing where it is quiet.
+fn done_message(quiet: bool, summary: String) -> Message
+    ensures { message_text result ≡ done_line quiet (string_bytes summary) }
+{
+    if quiet {
+        Message::Fixed("")
+    } else {
+        Message::Made(summary)
+    }
+}
+
 /// All of a run for a task but its line.
 fn list<I: FileInput, C, O: PipeSink, E>(
     alloc: Global,
     request: Request<'_>,
     streams: &mut CoresStreams<I, C, O, E>,
 ) -> Ending
-    ensures ended { CoresEnded I.Source I.behind O.Sink O.gone (Asks request.entry.task (file_of request.entry)) result.status (line_of result)
+    ensures ended { CoresEnded I.Source I.behind O.Sink O.gone (Asks (query_of request.entry)) result.status (line_of result)
         streams.old.input streams.new.input streams.old.out streams.new.out }
     ensures certificate { streams.new.certificate ≡ streams.old.certificate }
     ensures err { streams.new.err ≡ streams.old.err }
@@ -116,7 +127,7 @@ fn list<I: FileInput, C, O: PipeSink, E>(
         Err(ending) => ending,
         Ok(summary) => Ending {
             status: CoresStatus::Done,
-            message: Message::Made(summary),
+            message: done_message(request.quiet, summary),
         },
     }
 }
@@ -150,7 +161,7 @@ fn work<W: AsStr, I: FileInput, C: FileInput, O: PipeSink, E>(
     words: &[W],
     streams: &mut CoresStreams<I, C, O, E>,
 ) -> Ending
-    ensures ended { HasEnded I.Source I.behind C.Source C.behind O.Sink O.gone (wish_of (map W.text words.now)) result.status (line_of result)
+    ensures ended { EndsAsAsked I.Source I.behind C.Source C.behind O.Sink O.gone (wish_of (map W.text words.now)) result.status (line_of result)
         streams.old.input streams.new.input streams.old.certificate streams.new.certificate streams.old.out streams.new.out }
     ensures err { streams.new.err ≡ streams.old.err }
 {
@@ -180,8 +191,9 @@ fn work<W: AsStr, I: FileInput, C: FileInput, O: PipeSink, E>(
 /// - `read`: at `Done` the input was read to its end.
 /// - `took`: at `Done` the sink took just the lines for the graph that the bytes mean, after what it had taken before. At `Shown` it took a
 ///   text. At `ReaderGone` and at `WriteFault` it took a prefix of what was to be written, and else nothing.
-/// - `line`: the line of the status. At `Done` it is the summary of that graph, at `Refused` it tells the line and the kind of the refusal,
-///   and at `Unopened` the name of the file and why it was not opened. At `ReaderGone` there is none.
+/// - `line`: the line of the status. At `Done` it is the summary of that graph, or nothing where the words ask for a quiet run. At `Refused`
+///   it tells the line and the kind of the refusal, and at `Unopened` the name of the file and why it was not opened. At `ReaderGone` there
+///   is none.
 /// - `faults`: the input's count of faults rose at `Unopened` and at `ReadFault`, and else it is as it was.
 /// - `write_faults`: the count of faults of `out` rose at `ReaderGone` and at `WriteFault`, and else it is as it was.
 /// - `reader`: at `ReaderGone` the sink tells that its reader went away, and at `WriteFault` that it did not.
@@ -195,7 +207,7 @@ pub fn answer<W: AsStr, I: FileInput, C: FileInput, O: PipeSink, E: Sink>(
     words: &[W],
     streams: &mut CoresStreams<I, C, O, E>,
 ) -> CoresStatus
-    ensures { (line : List ℕ) × HasEnded I.Source I.behind C.Source C.behind O.Sink O.gone (wish_of (map W.text words.now)) result line
+    ensures { (line : List ℕ) × EndsAsAsked I.Source I.behind C.Source C.behind O.Sink O.gone (wish_of (map W.text words.now)) result line
         streams.old.input streams.new.input streams.old.certificate streams.new.certificate streams.old.out streams.new.out
         × ToldLine E.Sink line streams.old.err streams.new.err }
 {

@@ -5,7 +5,7 @@ ghost use Rattle.kc_cores.specs.Sentences.{refused_line, no_memory_line, read_fa
 ghost use Rattle.kc_cores.specs.CoresEnded.{IsUnopenedLine, ToldLine};
 
 use crate::CoresStatus;
-use crate::input::OpenFault;
+use crate::input::FileFault;
 use crate::message::Message;
 use crate::sentences::sentence_of;
 use kc_graph::NoMemory;
@@ -105,7 +105,7 @@ pub(crate) fn refused(alloc: Global, refusal: Refusal) -> Ending
     }
 }
 
-fn unopened_line(alloc: Global, name: &str, fault: OpenFault) -> Result<String, NoMemory>
+fn unopened_line(alloc: Global, name: &str, fault: FileFault) -> Result<String, NoMemory>
     ensures { IfOk result (λ line. string_bytes line ≡ unopened_line name.now fault) }
 {
     let sentence = fault.sentence();
@@ -113,7 +113,7 @@ fn unopened_line(alloc: Global, name: &str, fault: OpenFault) -> Result<String, 
 }
 
 /// The file was not opened. Where there is no memory for its name, the line lacks it.
-pub(crate) fn unopened(alloc: Global, name: &str, fault: OpenFault) -> Ending
+pub(crate) fn unopened(alloc: Global, name: &str, fault: FileFault) -> Ending
     ensures status { result.status ≡ CoresStatus.Unopened }
     ensures line { IsUnopenedLine name.now fault (line_of result) }
 {

@@ -9,7 +9,7 @@ use std::io::ErrorKind;
 
 /// Why a file was not opened.
 #[derive(Clone, Copy, Debug, PartialEq, Eq)]
-pub enum OpenFault {
+pub enum FileFault {
     /// There is no file of this name.
     Missing,
     /// It is a folder.
@@ -20,27 +20,27 @@ pub enum OpenFault {
     Other,
 }
 
-impl OpenFault {
+impl FileFault {
     /// The cause in the words of the operating system.
     pub fn sentence(self) -> &'static str
         ensures { result.now ≡ fault_sentence self }
     {
         match self {
-            OpenFault::Missing => "No such file or directory",
-            OpenFault::Folder => "Is a directory",
-            OpenFault::Forbidden => "Permission denied",
-            OpenFault::Other => "The file can not be opened",
+            FileFault::Missing => "No such file or directory",
+            FileFault::Folder => "Is a directory",
+            FileFault::Forbidden => "Permission denied",
+            FileFault::Other => "The file can not be opened",
         }
     }
 }
 
-impl From<io::Error> for OpenFault {
-    fn from(error: io::Error) -> OpenFault {
+impl From<io::Error> for FileFault {
+    fn from(error: io::Error) -> FileFault {
         match error.kind() {
-            ErrorKind::NotFound => OpenFault::Missing,
-            ErrorKind::IsADirectory => OpenFault::Folder,
-            ErrorKind::PermissionDenied => OpenFault::Forbidden,
-            _ => OpenFault::Other,
+            ErrorKind::NotFound => FileFault::Missing,
+            ErrorKind::IsADirectory => FileFault::Folder,
+            ErrorKind::PermissionDenied => FileFault::Forbidden,
+            _ => FileFault::Other,
         }
     }
 }
@@ -52,7 +52,7 @@ pub trait FileInput: Source {
 
     /// Turns to the file: what is left from then on are its bytes, from the first one on. Where it was not opened, what is left stays, and
     /// the count of faults rises. At any other call the count stays.
-    fn open(&mut self, name: &str) -> Result<(), OpenFault>
+    fn open(&mut self, name: &str) -> Result<(), FileFault>
         ensures bytes { OnOk result (Self.left self.new ≡ behind self.old name.now) }
         ensures stays { OnErr result (Self.left self.new ≡ Self.left self.old) }
         ensures cause { HasCause (Self.faults self.old) (Self.faults self.new) result };

@@ -5,7 +5,7 @@ ghost use Rattle.std.specs.Io.KnownBytes.{ReadConsumes};
 ghost use Rattle.kc_io.specs.Causes.{HasCause, faults_after};
 ghost use Rattle.kc_cores.specs.Inputs.{bytes_behind};
 
-use crate::input::{FileInput, OpenFault};
+use crate::input::{FileFault, FileInput};
 use kc_io::Failed;
 use kc_io::mem_source::MemSource;
 use kc_io::source::Source;
@@ -72,7 +72,7 @@ impl Source for MemInput {
 impl FileInput for MemInput {
     ghost behind = { bytes_behind };
 
-    fn open(&mut self, name: &str) -> Result<(), OpenFault>
+    fn open(&mut self, name: &str) -> Result<(), FileFault>
         ensures bytes { OnOk result (Some self.new.source.left ≡ bytes_behind self.old name.now) }
         ensures stays { OnErr result (self.new.source ≡ self.old.source) }
         ensures cause { HasCause self.old.failed self.new.failed result }
@@ -86,6 +86,6 @@ impl FileInput for MemInput {
             }
         }
         self.failed = self.failed.saturating_add(1);
-        Err(OpenFault::Missing)
+        Err(FileFault::Missing)
     }
 }

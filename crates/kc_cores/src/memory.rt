@@ -3,11 +3,10 @@ ghost use Rattle.std.specs.Prelude.{◌≡◌, ◌++◌, ℕ, List, Option, Some
 ghost use Rattle.kc_text.specs.Meaning.{Refuses};
 ghost use Rattle.kc_text.specs.declared.kind.Kind.{Kind};
 ghost use Rattle.kc_cores.specs.Answers.{IsTextFor, graph_meaning};
-ghost use Rattle.kc_cores.specs.CheckEnded.{HasEnded};
+ghost use Rattle.kc_cores.specs.CheckEnded.{EndsAsAsked};
 ghost use Rattle.kc_cores.specs.CoresEnded.{ToldLine};
 ghost use Rattle.kc_cores.specs.Inputs.{bytes_behind, bytes_in};
-ghost use Rattle.kc_cores.specs.Wishes.{Asks, wish_of};
-ghost use Rattle.kc_cores.specs.declared.request.Task.{Task};
+ghost use Rattle.kc_cores.specs.Wishes.{Asks, Query, wish_of};
 
 use crate::answer::answer;
 use crate::mem_input::MemInput;
@@ -27,15 +26,15 @@ pub fn answer_in_memory<W: AsStr>(
     streams: &mut CoresStreams<MemInput, MemInput, MemPipe, MemSink>,
 ) -> CoresStatus
     ensures ended { (line : List ℕ)
-        × HasEnded ⟦<MemInput as Source>⟧ bytes_behind ⟦<MemInput as Source>⟧ bytes_behind ⟦<MemPipe as Sink>⟧ (λ pipe. pipe.gone)
+        × EndsAsAsked ⟦<MemInput as Source>⟧ bytes_behind ⟦<MemInput as Source>⟧ bytes_behind ⟦<MemPipe as Sink>⟧ (λ pipe. pipe.gone)
         (wish_of (map W.text words.now)) result line
         streams.old.input streams.new.input streams.old.certificate streams.new.certificate streams.old.out streams.new.out
         × ToldLine ⟦<MemSink as Sink>⟧ line streams.old.err streams.new.err }
-    ensures done { (task : Task) (file : Option (List ℕ)) (bytes : List ℕ) → wish_of (map W.text words.now) ≡ Asks task file
-        → bytes_in streams.old.input file ≡ Some bytes → result ≡ CoresStatus.Done
-        → (text : List ℕ) × (summary : List ℕ) × IsTextFor task bytes text summary × (streams.new.out.sink.taken ≡ streams.old.out.sink.taken ++ text) }
-    ensures refused { (task : Task) (file : Option (List ℕ)) (bytes : List ℕ) → wish_of (map W.text words.now) ≡ Asks task file
-        → bytes_in streams.old.input file ≡ Some bytes → result ≡ CoresStatus.Refused
+    ensures done { (query : Query) (bytes : List ℕ) → wish_of (map W.text words.now) ≡ Asks query
+        → bytes_in streams.old.input query.file ≡ Some bytes → result ≡ CoresStatus.Done
+        → (text : List ℕ) × (summary : List ℕ) × IsTextFor query.task bytes text summary × (streams.new.out.sink.taken ≡ streams.old.out.sink.taken ++ text) }
+    ensures refused { (query : Query) (bytes : List ℕ) → wish_of (map W.text words.now) ≡ Asks query
+        → bytes_in streams.old.input query.file ≡ Some bytes → result ≡ CoresStatus.Refused
         → (n : ℕ) × (kind : Kind) × (graph_meaning bytes ≡ Refuses n kind) × (streams.new.out.sink.taken ≡ streams.old.out.sink.taken) }
 {
     answer(alloc, words, streams)

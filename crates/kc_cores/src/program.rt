@@ -3,7 +3,7 @@ ghost use Rattle.std.specs.Prelude.{◌≡◌, ◌≢◌, ◌⊎◌, ℕ, List, 
 ghost use Rattle.std.specs.IoError.{error_kind};
 ghost use Rattle.std.specs.Process.{exit_status};
 ghost use Rattle.kc_args.specs.Words.{AreWords};
-ghost use Rattle.kc_cores.specs.CheckEnded.{HasEnded};
+ghost use Rattle.kc_cores.specs.CheckEnded.{EndsAsAsked};
 ghost use Rattle.kc_cores.specs.CoresEnded.{ToldLine};
 ghost use Rattle.kc_cores.specs.Numbers.{exit_number_of};
 ghost use Rattle.kc_cores.specs.Wishes.{wish_of};
@@ -41,7 +41,7 @@ pub fn answer_on<I: FileInput, C: FileInput, O: PipeSink, E: Sink>(
     // the words, and all is as it was.
     ensures ended { (status : CoresStatus) × (exit_status result ≡ exit_number_of status)
         × (((words : List (List ℕ)) × AreWords args words × (line : List ℕ)
-        × HasEnded I.Source I.behind C.Source C.behind O.Sink O.gone (wish_of words) status line
+        × EndsAsAsked I.Source I.behind C.Source C.behind O.Sink O.gone (wish_of words) status line
         streams.old.input streams.new.input streams.old.certificate streams.new.certificate streams.old.out streams.new.out
         × ToldLine E.Sink line streams.old.err streams.new.err)
         ⊎ ((status ≡ CoresStatus.NoMemory) × (streams.new ≡ streams.old))) }

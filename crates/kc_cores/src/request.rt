@@ -36,4 +36,6 @@ pub(crate) enum Wanted<'a> {
 pub(crate) struct Request<'a> {
     pub(crate) task: Task,
     pub(crate) file: Option<&'a str>,
+    /// Whether the run tells nothing of itself once it is done.
+    pub(crate) quiet: bool,
 }

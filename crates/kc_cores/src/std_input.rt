@@ -5,7 +5,7 @@ ghost use Rattle.std.specs.Io.KnownBytes.{ReadConsumes};
 ghost use Rattle.kc_io.specs.Causes.{HasCause, faults_after};
 ghost use Rattle.kc_cores.specs.Inputs.{no_bytes};
 
-use crate::input::{FileInput, OpenFault};
+use crate::input::{FileFault, FileInput};
 use kc_io::Failed;
 use kc_io::source::Source;
 use kc_io::std_source::StdSource;
@@ -36,10 +36,10 @@ impl<'a, R: Files, S: Read> Model for StdInput<'a, R, S> {
 }
 
 /// Opens a file, and no folder.
-fn open_file<R: Files>(files: &R, name: &str) -> Result<R::File, OpenFault> {
+fn open_file<R: Files>(files: &R, name: &str) -> Result<R::File, FileFault> {
     let file = fs::open(files, name)?;
     if file.metadata()?.is_dir() {
-        return Err(OpenFault::Folder);
+        return Err(FileFault::Folder);
     }
     Ok(file)
 }
@@ -95,7 +95,7 @@ impl<'a, R: Files, S: Read> Source for StdInput<'a, R, S> {
 impl<'a, R: Files, S: Read> FileInput for StdInput<'a, R, S> {
     ghost behind = { λ _ _. no_bytes };
 
-    fn open(&mut self, name: &str) -> Result<(), OpenFault>
+    fn open(&mut self, name: &str) -> Result<(), FileFault>
         ensures bytes { OnOk result (no_bytes ≡ no_bytes) }
         ensures stays { OnErr result (no_bytes ≡ no_bytes) }
         ensures cause { HasCause self.old.failed self.new.failed result }

@@ -44,7 +44,7 @@ pub(crate) fn fault_line(alloc: Global, name: &str, fault: ClaimFault) -> Result
         ClaimFault::ManyLater(claim, count) => {
             let (line, id, number) = (claim.line, claim.id, claim.number);
             format!(in alloc;
-                "cores: {name}: line {line}: id {id} is told core number {number}, but {count} neighbours stand behind it\n"
+                "cores: {name}: line {line}: id {id} is told core number {number}, but {count} neighbours stand behind it; cores order writes a certificate\n"
             )
         }
         ClaimFault::FewSupporters(claim, count) => {

@@ -9,8 +9,8 @@ ghost use Rattle.clap.specs.Values.{kind_of};
 ghost use Rattle.clap.specs.Walk.{first_of, rows_of, rule_of};
 ghost use Rattle.clap.specs.declared.builder.command.Command.TheViews.{out-Command};
 ghost use Rattle.kc_cores.specs.Wishes.{bare_command, certificate_command, certificate_rule, check_command, check_wish, core_option, cores_command, edges_flag};
-ghost use Rattle.kc_cores.specs.Wishes.{file_named, is_set, level_in, members_command, members_in, members_task, number_of, task_command};
-ghost use Rattle.kc_cores.specs.Wishes.{task_in, wish_by, wish_for, wish_in, wish_of, with_cores, with_tasks};
+ghost use Rattle.kc_cores.specs.Wishes.{file_named, is_set, level_in, members_command, members_in, members_task, number_of, quiet_command, quiet_flag};
+ghost use Rattle.kc_cores.specs.Wishes.{task_command, task_in, wish_by, wish_for, wish_in, wish_of, with_cores, with_tasks};
 ghost use Rattle.kc_cores.specs.Endings.{IsReplyFor, IsRequestFor, RepliesTo};
 
 use crate::request::{CheckRequest, Request, Task, Wanted};
@@ -44,6 +44,33 @@ impl From<NoMemory> for Reply {
     }
 }
 
+/// The flag `--quiet`.
+fn quiet_flag<'a>(alloc: Global) -> Arg<'a>
+    ensures rule { rule_of result ≡ quiet_flag }
+    ensures local { result.global ≡ false }
+{
+    Arg::new(alloc, "quiet")
+        .long("quiet")
+        .action(ArgAction::SetTrue)
+        .help("Writes no line about the graph to standard error")
+}
+
+/// The command of a task without the name of the file, with one line of example in its help.
+fn quiet_command<'a>(
+    alloc: Global,
+    name: &'a str,
+    about: &'a str,
+    example: &'a str,
+) -> Result<Command<'a>, NoMemory>
+    ensures app { IfOk result (λ made. app_of made ≡ quiet_command name.entry.now) }
+    ensures local { IfOk result (λ made. (out-Command made).has_globals ≡ false) }
+{
+    Command::new(alloc, name)
+        .about(about)
+        .after_help(example)
+        .arg(quiet_flag(alloc))
+}
+
 /// The command of a task, with one line of example in its help.
 fn task_command<'a>(
     alloc: Global,
@@ -57,10 +84,8 @@ fn task_command<'a>(
     let file = Arg::new(alloc, "FILE").help(
         "The edge list, two ids a line; standard input where it is - or none is named",
     );
-    Command::new(alloc, name)
-        .about(about)
-        .after_help(example)
-        .arg(file)
+    let command = quiet_command(alloc, name, about, example)?;
+    command.arg(file)
 }
 
 /// The command whose words are read, without those of the tasks.
@@ -326,6 +351,7 @@ fn request_for<'a>(alloc: Global, name: &str, found: &ArgMatches<'a>) -> Result<
         Some(task) => Ok(Wanted::Lines(Request {
             task,
             file: file_named(found.get_str("FILE")),
+            quiet: is_set(found.get_str("quiet")),
         })),
     }
 }

@@ -7,7 +7,7 @@ use Rattle.kc_graph.specs.SimpleGraph.{SimpleGraph}
 use Rattle.kc_graph.proofs.Law.{certified-core_numbers}
 use Rattle.kc_read.proofs.Outcomes.{at_err, at_ok}
 use Rattle.kc_cores.specs.Answers.{AreLinesFor, summary_line}
-use Rattle.kc_cores.specs.Endings.{CutAt, file_of, line_of}
+use Rattle.kc_cores.specs.Endings.{CutAt, line_of, query_of}
 use Rattle.kc_cores.specs.Listings.{Fits, listing_lines}
 use Rattle.kc_cores.specs.declared.listing.Listing.{Listing}
 use Rattle.kc_cores.specs.declared.request.Task.{Task}
@@ -32,7 +32,7 @@ passed (Err e) x P is p = subst P (sym is) p
 pub returns-in_err-named-clause-stopped : goal.returns-in_err-named-clause-stopped
 returns-in_err-named-clause-stopped g c =
     passed c.from_residual.result c.in_err-named.field-0.0 _ c.from_residual.ensures.1
-    (CoresEnded-no_graph g.I.Source g.I.FileInput.behind g.O.Sink g.O.PipeSink.gone c.args.request.task (file_of c.args.request) c.in_err-named.field-0.0.status
+    (CoresEnded-no_graph g.I.Source g.I.FileInput.behind g.O.Sink g.O.PipeSink.gone (query_of c.args.request) c.in_err-named.field-0.0.status
     (line_of c.in_err-named.field-0.0) c.args.streams.now.input c.read_graph.new.input c.args.streams.now.out c.in_err-named.ensures.stopped)
 
 pub write_lines-requires-clause-same : goal.write_lines-requires-clause-same
@@ -60,7 +60,7 @@ returns-then-is_err-clause-stopped g c =
     c.deref-4.ensures.value in
     let sums : string_bytes c.in_ok-summary.summary ≡ summary_line graph core =
     c.in_ok-summary.ensures ∙ ap (summary_line graph) c.deref.ensures.value in
-    let ended = CoresEnded-cut g.I.Source g.I.FileInput.behind g.O.Sink g.O.PipeSink.gone c.args.request.task (file_of c.args.request) ids core text
+    let ended = CoresEnded-cut g.I.Source g.I.FileInput.behind g.O.Sink g.O.PipeSink.gone (query_of c.args.request) ids core text
     (string_bytes c.in_ok-summary.summary) graph c.cut.result.status (line_of c.cut.result) c.args.streams.now.input c.read_graph.new.input
     c.args.streams.now.out c.write_lines.new.out c.in_ok-named.ensures.graph numbers lines sums c.in_ok-named.ensures.faultless
     (at_err c.write_lines.result c.write_lines.ensures.prefix error) (at_err c.write_lines.result c.write_lines.ensures.cause.failed error) in
@@ -80,7 +80,7 @@ returns-clause-done g c =
     c.deref-4.ensures.value in
     let sums : string_bytes c.in_ok-summary.summary ≡ summary_line graph core =
     c.in_ok-summary.ensures ∙ ap (summary_line graph) c.deref.ensures.value in
-    CoresEnded-done g.I.Source g.I.FileInput.behind g.O.Sink g.O.PipeSink.gone c.args.request.task (file_of c.args.request) ids core text
+    CoresEnded-done g.I.Source g.I.FileInput.behind g.O.Sink g.O.PipeSink.gone (query_of c.args.request) ids core text
     (string_bytes c.in_ok-summary.summary) graph c.args.streams.now.input c.read_graph.new.input c.args.streams.now.out c.write_lines.new.out
     c.in_ok-named.ensures.graph numbers lines sums c.in_ok-named.ensures.read c.in_ok-named.ensures.faultless
     (at_ok c.write_lines.result c.write_lines.ensures.whole no_error) (at_ok c.write_lines.result c.write_lines.ensures.cause.kept no_error)

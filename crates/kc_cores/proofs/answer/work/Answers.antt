@@ -1,13 +1,13 @@
 -- A reply, a listing and a check each end as the words ask for.
 use Rattle.std.proofs.Common.{map}
-use Rattle.kc_cores.specs.Endings.{checked_file, file_of, line_of}
+use Rattle.kc_cores.specs.Endings.{checked_file, line_of, query_of}
 use Rattle.kc_cores.specs.Wishes.{wish_of}
-use Rattle.kc_cores.proofs.Checked.{HasEnded-check, HasEnded-lines, HasEnded-reply}
+use Rattle.kc_cores.proofs.Checked.{EndsAsAsked-check, EndsAsAsked-lines, EndsAsAsked-reply}
 use Rattle.kc_cores.proofs.answer.work.Goals as goal
 
 pub returns-in-Err-clause-ended : goal.returns-in-Err-clause-ended
 returns-in-Err-clause-ended g c =
-    HasEnded-reply g.I.Source g.I.FileInput.behind g.C.Source g.C.FileInput.behind g.O.Sink g.O.PipeSink.gone
+    EndsAsAsked-reply g.I.Source g.I.FileInput.behind g.C.Source g.C.FileInput.behind g.O.Sink g.O.PipeSink.gone
     (wish_of (map g.W.AsStr.text c.args.words.now)) c.in-Err.reply c.show.result.status (line_of c.show.result) c.args.streams.now.input
     c.show.new.streams.input c.args.streams.now.certificate c.show.new.streams.certificate c.args.streams.now.out c.show.new.streams.out
     c.in-Err.ensures.replies (c.show.ensures.ended (wish_of (map g.W.AsStr.text c.args.words.now)) c.in-Err.ensures.replies) c.show.ensures.certificate
@@ -16,15 +16,15 @@ returns-in-Err-clause-ended g c =
 pub returns-in-Ok-Lines-clause-ended : goal.returns-in-Ok-Lines-clause-ended
 returns-in-Ok-Lines-clause-ended g c =
     let asks = rw c.in-Ok-Lines.field-0-is at c.in-Ok-Lines.ensures.asks in
-    HasEnded-lines g.I.Source g.I.FileInput.behind g.C.Source g.C.FileInput.behind g.O.Sink g.O.PipeSink.gone
-    (wish_of (map g.W.AsStr.text c.args.words.now)) c.in-Ok-Lines.request.task (file_of c.in-Ok-Lines.request) c.list.result.status
+    EndsAsAsked-lines g.I.Source g.I.FileInput.behind g.C.Source g.C.FileInput.behind g.O.Sink g.O.PipeSink.gone
+    (wish_of (map g.W.AsStr.text c.args.words.now)) (query_of c.in-Ok-Lines.request) c.list.result.status
     (line_of c.list.result) c.args.streams.now.input c.list.new.streams.input c.args.streams.now.certificate c.list.new.streams.certificate
     c.args.streams.now.out c.list.new.streams.out asks c.list.ensures.ended c.list.ensures.certificate
 
 pub returns-in-Ok-Check-clause-ended : goal.returns-in-Ok-Check-clause-ended
 returns-in-Ok-Check-clause-ended g c =
     let asks = rw c.in-Ok-Check.field-0-is at c.in-Ok-Check.ensures.asks in
-    HasEnded-check g.I.Source g.I.FileInput.behind g.C.Source g.C.FileInput.behind g.O.Sink g.O.PipeSink.gone
+    EndsAsAsked-check g.I.Source g.I.FileInput.behind g.C.Source g.C.FileInput.behind g.O.Sink g.O.PipeSink.gone
     (wish_of (map g.W.AsStr.text c.args.words.now)) c.in-Ok-Check.request.certificate.now (checked_file c.in-Ok-Check.request) c.check.result.status
     (line_of c.check.result) c.args.streams.now.input c.check.new.streams.input c.args.streams.now.certificate c.check.new.streams.certificate
     c.args.streams.now.out c.check.new.streams.out asks c.check.ensures.ended

@@ -5,44 +5,43 @@ use Rattle.kc_text.specs.declared.kind.Kind.{Kind}
 use Rattle.kc_cores.specs.Answers.{IsTextFor, graph_meaning}
 use Rattle.kc_cores.specs.CoresEnded.{IsLineAt, TookAt, given_bytes}
 use Rattle.kc_cores.specs.Inputs.{bytes_behind}
-use Rattle.kc_cores.specs.Wishes.{Asks, Wish, wish_of}
+use Rattle.kc_cores.specs.Wishes.{Asks, Query, Wish, wish_of}
 use Rattle.kc_cores.specs.declared.CoresStatus.{CoresStatus}
 use Rattle.kc_cores.specs.declared.CoresStatus.TheVariants as status
-use Rattle.kc_cores.specs.declared.request.Task.{Task}
 use Rattle.kc_cores.proofs.memory.answer_in_memory.Goals as goal
 
 -- what was taken by a run that is done, of bytes that are known, are their lines
-done-in : (end : CoresStatus) (wish : Wish) (task : Task) (file : Option (List ℕ)) (bytes a b : List ℕ) (known : Wish → Option (List ℕ)) → end ≡ status.Done
-    → wish ≡ Asks task file → known (Asks task file) ≡ Some bytes → TookAt end wish (known wish) (Some a) (Some b)
-    → (text : List ℕ) × (summary : List ℕ) × IsTextFor task bytes text summary × (b ≡ a ++ text)
-done-in end wish task file bytes a b known is asks here took =
+done-in : (end : CoresStatus) (wish : Wish) (query : Query) (bytes a b : List ℕ) (known : Wish → Option (List ℕ)) → end ≡ status.Done
+    → wish ≡ Asks query → known (Asks query) ≡ Some bytes → TookAt end wish (known wish) (Some a) (Some b)
+    → (text : List ℕ) × (summary : List ℕ) × IsTextFor query.task bytes text summary × (b ≡ a ++ text)
+done-in end wish query bytes a b known is asks here took =
     let at_done : TookAt status.Done wish (known wish) (Some a) (Some b) =
     subst (λ (e : CoresStatus). TookAt e wish (known wish) (Some a) (Some b)) is took in
-    let at_task : TookAt status.Done (Asks task file) (known (Asks task file)) (Some a) (Some b) =
+    let at_task : TookAt status.Done (Asks query) (known (Asks query)) (Some a) (Some b) =
     subst (λ (w : Wish). TookAt status.Done w (known w) (Some a) (Some b)) asks at_done in
     let (text, (summary, (all, same, is_text)), took_all) =
-    subst (λ (k : Option (List ℕ)). TookAt status.Done (Asks task file) k (Some a) (Some b)) here at_task in
-    (text, summary, subst (λ (x : List ℕ). IsTextFor task x text summary) same is_text, took_all)
+    subst (λ (k : Option (List ℕ)). TookAt status.Done (Asks query) k (Some a) (Some b)) here at_task in
+    (text, summary, subst (λ (x : List ℕ). IsTextFor query.task x text summary) same is_text, took_all)
 
 -- what is told of a run that is refused, of bytes that are known, is of these bytes, and nothing was taken
-refused-in : (end : CoresStatus) (wish : Wish) (task : Task) (file : Option (List ℕ)) (bytes a b line : List ℕ) (known : Wish → Option (List ℕ))
-    → end ≡ status.Refused → wish ≡ Asks task file → known (Asks task file) ≡ Some bytes → TookAt end wish (known wish) (Some a) (Some b)
+refused-in : (end : CoresStatus) (wish : Wish) (query : Query) (bytes a b line : List ℕ) (known : Wish → Option (List ℕ))
+    → end ≡ status.Refused → wish ≡ Asks query → known (Asks query) ≡ Some bytes → TookAt end wish (known wish) (Some a) (Some b)
     → IsLineAt end wish (known wish) line → (n : ℕ) × (kind : Kind) × (graph_meaning bytes ≡ Refuses n kind) × (b ≡ a)
-refused-in end wish task file bytes a b line known is asks here took says =
+refused-in end wish query bytes a b line known is asks here took says =
     let none : b ≡ a ++ [] = subst (λ (e : CoresStatus). TookAt e wish (known wish) (Some a) (Some b)) is took in
     let (n, kind, told, means) = subst (λ (e : CoresStatus). IsLineAt e wish (known wish) line) is says in
     let at_task = subst (λ (w : Wish). IfSome (known w) (λ x. graph_meaning x ≡ Refuses n kind)) asks means in
     (n, kind, subst (λ (k : Option (List ℕ)). IfSome k (λ x. graph_meaning x ≡ Refuses n kind)) here at_task, none ∙ append-nil a)
 
 pub returns-clause-done : goal.returns-clause-done
-returns-clause-done g c = λ task file bytes asks here end.
+returns-clause-done g c = λ query bytes asks here end.
     let ended = c.answer.ensures.1.other (λ name at e. absurd (cc)) in
-    done-in c.answer.result (wish_of (map g.W.AsStr.text c.args.words.now)) task file bytes c.args.streams.now.out.sink.taken
+    done-in c.answer.result (wish_of (map g.W.AsStr.text c.args.words.now)) query bytes c.args.streams.now.out.sink.taken
     c.answer.new.streams.out.sink.taken (λ w. given_bytes (λ i. Some i.source.left) bytes_behind w c.args.streams.now.input) end asks here ended.0.took
 
 pub returns-clause-refused : goal.returns-clause-refused
-returns-clause-refused g c = λ task file bytes asks here end.
+returns-clause-refused g c = λ query bytes asks here end.
     let ended = c.answer.ensures.1.other (λ name at e. absurd (cc)) in
-    refused-in c.answer.result (wish_of (map g.W.AsStr.text c.args.words.now)) task file bytes c.args.streams.now.out.sink.taken
+    refused-in c.answer.result (wish_of (map g.W.AsStr.text c.args.words.now)) query bytes c.args.streams.now.out.sink.taken
     c.answer.new.streams.out.sink.taken c.answer.ensures.0 (λ w. given_bytes (λ i. Some i.source.left) bytes_behind w c.args.streams.now.input) end asks here
     ended.0.took ended.0.line
