@@ -1,0 +1,9 @@
+pub mod Cells
+pub mod Fed
+pub mod LineAppend
+pub mod PlainDialect
+pub mod Read
+pub mod Runs
+pub mod Spacing
+pub mod Spelled
+pub mod Turns

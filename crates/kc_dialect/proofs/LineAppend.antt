@@ -1,0 +1,71 @@
+-- The lines of bytes that are cut behind a line end.
+use Rattle.std.proofs.Common.{◌≡◌, ◌+◌, ℕ, List, [], ◌∷◌, ◌++◌, length, map, refl, sym, ap, ◌∙◌, arith, inl, inr, cond, true, false}
+use Rattle.std.proofs.Common.{append_assoc, append-nil}
+use Rattle.std.specs.List.{slice_split, onto_first}
+use Rattle.std.specs.Str.Lines.{strip_carriage_return}
+use Rattle.std.proofs.lemmas.List.{map-append}
+use Rattle.kc_text.specs.Lines.{EndsLine, is_newline, lines, without_last}
+use Rattle.kc_text.proofs.LineCuts.{some_part}
+use Rattle.kc_dialect.specs.declared.bad_line.BadLine.{BadLine}
+use Rattle.kc_dialect.specs.declared.dialect.Dialect.{Dialect}
+use Rattle.kc_dialect.specs.Dialects.{bad_line, bad_lines_after, said_after, plain_line, plain_lines}
+
+-- the parts of bytes that are cut at a newline
+split-newline : (xs ys : List ℕ) → slice_split is_newline (xs ++ 10 ∷ ys) ≡ slice_split is_newline xs ++ slice_split is_newline ys
+split-newline [] ys = refl
+split-newline (x ∷ xs) ys =
+    let (part, parts, e) = some_part is_newline xs in
+    let more : List (List ℕ) = slice_split is_newline ys in
+    elim (is_newline x) as (λ b. cond b ([] ∷ slice_split is_newline (xs ++ 10 ∷ ys)) (onto_first x (slice_split is_newline (xs ++ 10 ∷ ys)))
+    ≡ cond b ([] ∷ slice_split is_newline xs) (onto_first x (slice_split is_newline xs)) ++ more) [
+      | true ↦ ap (λ t. [] ∷ t) (split-newline xs ys)
+      | false ↦ ap (onto_first x) (split-newline xs ys ∙ ap (λ t. t ++ more) e) ∙ sym (ap (λ t. onto_first x t ++ more) e)
+    ]
+
+-- the last part is one of those behind, where there is one
+without-append : (parts : List (List ℕ)) (part : List ℕ) (more : List (List ℕ)) → without_last (parts ++ part ∷ more) ≡ parts ++ without_last (part ∷ more)
+without-append [] part more = refl
+without-append (p ∷ []) part more = refl
+without-append (p ∷ q ∷ parts) part more = ap (λ t. p ∷ t) (without-append (q ∷ parts) part more)
+
+-- the lines of bytes that are cut behind a newline
+pub lines-newline : (xs ys : List ℕ) → lines (xs ++ 10 ∷ ys) ≡ map strip_carriage_return (slice_split is_newline xs) ++ lines ys
+lines-newline xs ys =
+    let (part, parts, e) = some_part is_newline ys in
+    ap (λ (t : List (List ℕ)). map strip_carriage_return (without_last t)) (split-newline xs ys ∙ ap (λ t. slice_split is_newline xs ++ t) e)
+    ∙ ap (map strip_carriage_return) (without-append (slice_split is_newline xs) part parts)
+    ∙ map-append strip_carriage_return (slice_split is_newline xs) (without_last (part ∷ parts))
+    ∙ ap (λ (t : List (List ℕ)). map strip_carriage_return (slice_split is_newline xs) ++ map strip_carriage_return (without_last t)) (sym e)
+
+-- the lines of two texts one after the other, where the first ends with a line
+pub lines-append : (xs ys : List ℕ) → EndsLine xs → lines (xs ++ ys) ≡ lines xs ++ lines ys
+lines-append xs ys (inl none) = ap (λ t. lines (t ++ ys)) none ∙ sym (ap (λ t. lines t ++ lines ys) none)
+lines-append xs ys (inr (front, is)) =
+    let whole : lines (front ++ 10 ∷ []) ≡ map strip_carriage_return (slice_split is_newline front) = lines-newline front []
+    ∙ append-nil (map strip_carriage_return (slice_split is_newline front)) in
+    ap (λ t. lines (t ++ ys)) is ∙ ap lines (append_assoc front (10 ∷ []) ys) ∙ lines-newline front ys
+    ∙ ap (λ (t : List (List ℕ)). t ++ lines ys) (sym whole ∙ sym (ap lines is))
+
+-- a place one line on, and so many behind it
+later : (n : ℕ) (line : List ℕ) (rest : List (List ℕ)) → (n + 1) + length rest ≡ n + length (line ∷ rest)
+later n line rest = omega arith
+
+-- the plain lines of lines one after the other
+pub plain-append : (dialect : Dialect) (n : ℕ) (xs ys : List (List ℕ))
+    → plain_lines dialect n (xs ++ ys) ≡ plain_lines dialect n xs ++ plain_lines dialect (n + length xs) ys
+plain-append dialect n [] ys = ap (λ k. plain_lines dialect k ys) (let e : n ≡ n + 0 = omega arith in e)
+plain-append dialect n (line ∷ xs) ys =
+    let first : List ℕ = plain_line (said_after dialect n line) in
+    ap (λ (t : List ℕ). first ++ t) (plain-append dialect (n + 1) xs ys)
+    ∙ sym (append_assoc first (plain_lines dialect (n + 1) xs) (plain_lines dialect ((n + 1) + length xs) ys))
+    ∙ ap (λ k. (first ++ plain_lines dialect (n + 1) xs) ++ plain_lines dialect k ys) (later n line xs)
+
+-- the bad lines among lines one after the other
+pub bad-append : (dialect : Dialect) (n : ℕ) (xs ys : List (List ℕ))
+    → bad_lines_after dialect n (xs ++ ys) ≡ bad_lines_after dialect n xs ++ bad_lines_after dialect (n + length xs) ys
+bad-append dialect n [] ys = ap (λ k. bad_lines_after dialect k ys) (let e : n ≡ n + 0 = omega arith in e)
+bad-append dialect n (line ∷ xs) ys =
+    let first : List BadLine = bad_line (n + 1) (said_after dialect n line) in
+    ap (λ (t : List BadLine). first ++ t) (bad-append dialect (n + 1) xs ys)
+    ∙ sym (append_assoc first (bad_lines_after dialect (n + 1) xs) (bad_lines_after dialect ((n + 1) + length xs) ys))
+    ∙ ap (λ k. (first ++ bad_lines_after dialect (n + 1) xs) ++ bad_lines_after dialect k ys) (later n line xs)

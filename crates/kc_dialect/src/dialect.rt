@@ -1,0 +1,44 @@
+//! A dialect: how the lines of an edge list are to be read.
+
+/// What stands between the fields of a line.
+#[derive(Clone, Copy, Debug, PartialEq, Eq)]
+pub enum Separator {
+    /// Spaces and tabs, any number of them. A double quote is a byte like another.
+    Blank,
+    /// One comma, but for those in double quotes.
+    Comma,
+    /// One semicolon, but for those in double quotes.
+    Semicolon,
+    /// One tab, but for those in double quotes.
+    Tab,
+}
+
+/// What becomes of a line that lacks a number in one of the columns.
+#[derive(Clone, Copy, Debug, PartialEq, Eq)]
+pub enum BadLines {
+    /// The first of them ends the reading.
+    Stop,
+    /// They are passed over and counted.
+    Skip,
+}
+
+/// How the lines of an edge list are to be read: which of the fields are the two ids, and which lines say nothing.
+#[derive(Clone, Copy, Debug, PartialEq, Eq)]
+pub struct Dialect {
+    /// The columns of the two ids, from 1. There is no column 0. All other columns are passed over.
+    pub columns: (u32, u32),
+    pub separator: Separator,
+    /// How many lines at the top say nothing, as a header does.
+    pub skip: u64,
+    pub bad_lines: BadLines,
+}
+
+impl Dialect {
+    /// The dialect nearest to the text that `kc_text` reads: the first two fields between blanks.
+    pub const PLAIN: Dialect = Dialect {
+        columns: (1, 2),
+        separator: Separator::Blank,
+        skip: 0,
+        bad_lines: BadLines::Stop,
+    };
+}
