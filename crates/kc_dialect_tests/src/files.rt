@@ -1,0 +1,193 @@
+//! The plain texts of files as people hold them, and their bad lines.
+ghost use Rattle.std.specs.Prelude.{◌≤◌, length};
+
+use kc_dialect::{
+    BadKind, BadLine, BadLines, Dialect, RewriteFault, Rewriter, Separator, SkippedLines,
+};
+use std::alloc::Global;
+use std::process::Abort;
+use std::test::Fail;
+
+/// The first two columns, as they are parted.
+fn parted(separator: Separator) -> Dialect {
+    Dialect {
+        separator,
+        ..Dialect::PLAIN
+    }
+}
+
+/// The plain text of a text that is fed in two pieces, and the lines that were passed over.
+fn rewritten(
+    alloc: Global,
+    dialect: Dialect,
+    first: &[u8],
+    second: &[u8],
+) -> Result<(Vec<u8>, SkippedLines), RewriteFault> {
+    let mut rewriter = Rewriter::new(alloc, dialect);
+    let mut out = Vec::new(alloc);
+    rewriter.feed(first, &mut out)?;
+    rewriter.feed(second, &mut out)?;
+    let skipped = rewriter.finish(&mut out)?;
+    Ok((out, skipped))
+}
+
+/// Checks the plain text of a text without bad lines, that comes whole and cut near its middle.
+fn check_text<R: Abort + AllocGlobal>(
+    rt: &R,
+    dialect: Dialect,
+    text: &[u8],
+    plain: &[u8],
+) -> Result<(), Fail> {
+    let (first, second) = text.split_at(text.len() / 2);
+    let (cut, _skipped) = rewritten(rt.alloc(), dialect, first, second)?;
+    assert_eq!(rt; cut.as_slice(), plain);
+    let (whole, skipped) = rewritten(rt.alloc(), dialect, text, b"")?;
+    assert_eq!(rt; whole.as_slice(), plain);
+    assert_eq!(rt; skipped.count, 0);
+    Ok(())
+}
+
+/// Checks which line of a text ends the reading, and why.
+fn check_bad<R: Abort + AllocGlobal>(
+    rt: &R,
+    dialect: Dialect,
+    text: &[u8],
+    line: u64,
+    column: u64,
+    kind: BadKind,
+) -> Result<(), Fail> {
+    let fault = rewritten(rt.alloc(), dialect, text, b"")
+        .err()
+        .ok_or("accepted")?;
+    assert_eq!(rt; fault, RewriteFault::Bad(BadLine { line, column, kind }));
+    Ok(())
+}
+
+#[test]
+fn files_between_blanks(rt: HostRuntime) -> Result<(), Fail> {
+    let plain = Dialect::PLAIN;
+    check_text(&rt, plain, b"", b"")?;
+    check_text(
+        &rt,
+        plain,
+        b"# Nodes: 3\n%\n1 2\r\n\n 2\t 3",
+        b"\n\n1 2\n\n2 3\n",
+    )?;
+    // with times, weights and data behind the ends
+    check_text(
+        &rt,
+        plain,
+        b"9 8 1217567877\n1 3 1217606247\n",
+        b"9 8\n1 3\n",
+    )?;
+    check_text(&rt, plain, b"% asym\n1\t2\t1\t1082040961\n", b"\n1 2\n")?;
+    check_text(
+        &rt,
+        plain,
+        b"1 2 {}\n1 3 {'weight': 7}\n4 5 # why\n",
+        b"1 2\n1 3\n4 5\n",
+    )?;
+    check_text(&rt, plain, b"\xef\xbb\xbf1 2\n7 7\n", b"1 2\n7 7\n")?;
+    check_text(&rt, plain, b"4294967295 007", b"4294967295 007\n")
+}
+
+#[test]
+fn files_with_headers(rt: HostRuntime) -> Result<(), Fail> {
+    let sized = Dialect {
+        skip: 1,
+        ..Dialect::PLAIN
+    };
+    check_text(&rt, sized, b"3 2\n0 1\n1 2\n", b"\n0 1\n1 2\n")?;
+    let matrix = Dialect {
+        skip: 2,
+        ..Dialect::PLAIN
+    };
+    check_text(
+        &rt,
+        matrix,
+        b"%%MatrixMarket matrix\n34 34 78\n2 1\n",
+        b"\n\n2 1\n",
+    )?;
+    let table = Dialect {
+        skip: 1,
+        ..parted(Separator::Comma)
+    };
+    check_text(&rt, table, b"source,target\n1,2\n", b"\n1 2\n")
+}
+
+#[test]
+fn files_between_separators(rt: HostRuntime) -> Result<(), Fail> {
+    let comma = parted(Separator::Comma);
+    check_text(
+        &rt,
+        comma,
+        b"6,2,4,1289241911.72836\n1, 3 \r\n# a,b\n\n",
+        b"6 2\n1 3\n\n\n",
+    )?;
+    check_text(
+        &rt,
+        comma,
+        b"\"1\",\"2\"\n \"3\" , 4,\"a, b\"\n",
+        b"1 2\n3 4\n",
+    )?;
+    check_text(&rt, parted(Separator::Semicolon), b"1;2;x y\n", b"1 2\n")?;
+    check_text(&rt, parted(Separator::Tab), b"1\t2\ta b\n", b"1 2\n")?;
+    let behind = Dialect {
+        columns: (3, 2),
+        ..comma
+    };
+    check_text(&rt, behind, b"\"Doe, John\",1,2\n", b"2 1\n")
+}
+
+#[test]
+fn bad_lines_end_the_reading(rt: HostRuntime) -> Result<(), Fail> {
+    let plain = Dialect::PLAIN;
+    check_bad(&rt, plain, b"1 2\n  3\n", 2, 4, BadKind::MissingColumn)?;
+    check_bad(&rt, plain, b"1 2\n\n3  x4 5\n", 3, 4, BadKind::NotANumber)?;
+    check_bad(&rt, plain, b"+1 2\n", 1, 1, BadKind::NotANumber)?;
+    check_bad(&rt, plain, b"// a\n", 1, 1, BadKind::NotANumber)?;
+    check_bad(&rt, plain, b"1,2", 1, 1, BadKind::NotANumber)?;
+    check_bad(&rt, plain, b"1 4294967296", 1, 3, BadKind::NumberTooLarge)?;
+    check_bad(
+        &rt,
+        parted(Separator::Comma),
+        b"1, \"a\"\n",
+        1,
+        4,
+        BadKind::NotANumber,
+    )?;
+    check_bad(
+        &rt,
+        parted(Separator::Comma),
+        b"1,,2\n",
+        1,
+        3,
+        BadKind::NotANumber,
+    )?;
+    let nowhere = Dialect {
+        columns: (0, 1),
+        ..plain
+    };
+    check_bad(&rt, nowhere, b"1 2\n", 1, 4, BadKind::MissingColumn)
+}
+
+#[test]
+fn bad_lines_are_passed_over(rt: HostRuntime) -> Result<(), Fail> {
+    let lenient = Dialect {
+        bad_lines: BadLines::Skip,
+        ..Dialect::PLAIN
+    };
+    let (out, skipped) = rewritten(rt.alloc(), lenient, b"a b\n1 2\nc\nd\ne", b"\nf\n3 4\ng")?;
+    assert_eq!(rt; out.as_slice(), b"\n1 2\n\n\n\n\n3 4\n\n".as_slice());
+    assert_eq!(rt; skipped.count, 6);
+    assert_eq!(rt; skipped.first.len(), 5);
+    assert_eq!(rt;
+        skipped.first[4],
+        BadLine {
+            line: 6,
+            column: 1,
+            kind: BadKind::NotANumber
+        }
+    );
+    Ok(())
+}
