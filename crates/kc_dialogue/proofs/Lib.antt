@@ -1,0 +1,4 @@
+pub mod Cuts
+pub mod Events
+pub mod Held
+pub mod Turning

@@ -1,0 +1,146 @@
+//! Answers a wire as its bytes come.
+ghost use Rattle.std.specs.Prelude.{◌≡◌, ◌<◌, ◌++◌, ℕ, List, None, Some, [], length};
+ghost use Rattle.kc_wire.specs.Events.{TellsMore, WireEvent, read_in, wrote};
+ghost use Rattle.kc_dialogue.specs.Endings.{HasAnswered, faults_at};
+ghost use Rattle.kc_dialogue.specs.Turns.{HasAdded, HasAddedAtEnd, IsTurn, end_by, faults_after_turn};
+
+use crate::end::DialogueEnd;
+use crate::flow::Flow;
+use crate::replier::Replier;
+use kc_wire::faults::WriteFault;
+use kc_wire::wire::Wire;
+use std::alloc::Global;
+
+/// The most bytes that are asked for at once.
+const PIECE_BYTES: usize = 65_536;
+
+/// The end that a fault of a write brings.
+fn end_at(fault: WriteFault) -> DialogueEnd
+    ensures { result ≡ end_by fault }
+{
+    match fault {
+        WriteFault::ReaderGone => DialogueEnd::ReaderGone,
+        WriteFault::Failed => DialogueEnd::WriteFault,
+    }
+}
+
+/// Feeds the replier with a piece, and writes what it put. Gives how the dialogue ends, where it does.
+fn answer_piece<W: Wire, R: Replier>(
+    alloc: Global,
+    wire: &mut W,
+    replier: &mut R,
+    piece: &[u8],
+    out: &mut Vec<u8>,
+) -> Option<DialogueEnd>
+    requires { (fed : List ℕ) × R.was_fed replier.old fed }
+    ensures added { (text : List ℕ) × TellsMore (W.history wire.old) (W.history wire.new) (wrote text) × ((fed : List ℕ) → R.was_fed replier.old fed
+        → HasAdded (R.reply replier.old) (R.reply_at_end replier.old) fed piece.now text result) }
+    ensures fed { (fed : List ℕ) → R.was_fed replier.old fed → result ≡ None → R.was_fed replier.new (fed ++ piece.now) }
+    ensures fed_at_end { (fed : List ℕ) → R.was_fed replier.old fed → result ≡ Some DialogueEnd.Ended → R.was_fed replier.new (fed ++ piece.now) }
+    ensures same { R.reply replier.new ≡ R.reply replier.old }
+    ensures same_at_end { R.reply_at_end replier.new ≡ R.reply_at_end replier.old }
+    ensures cause { W.faults wire.new ≡ faults_after_turn (W.faults wire.old) result }
+{
+    out.clear();
+    let flow = replier.feed(alloc, piece, out);
+    if let Err(fault) = wire.write_all(out) {
+        return Some(end_at(fault));
+    }
+    match flow {
+        Ok(Flow::Open) => None,
+        Ok(Flow::Ended) => Some(DialogueEnd::Ended),
+        Err(_) => Some(DialogueEnd::NoMemory),
+    }
+}
+
+/// Tells the replier that the input has ended, and writes what it put.
+fn answer_end<W: Wire, R: Replier>(
+    alloc: Global,
+    wire: &mut W,
+    replier: &mut R,
+    out: &mut Vec<u8>,
+) -> DialogueEnd
+    requires { (fed : List ℕ) × R.was_fed replier.old fed }
+    ensures added { (text : List ℕ) × TellsMore (W.history wire.old) (W.history wire.new) (wrote text) × ((fed : List ℕ) → R.was_fed replier.old fed
+        → HasAddedAtEnd (R.reply replier.old) (R.reply_at_end replier.old) fed text result) }
+    ensures cause { W.faults wire.new ≡ faults_at (W.faults wire.old) result }
+{
+    out.clear();
+    let ended = replier.end(alloc, out);
+    if let Err(fault) = wire.write_all(out) {
+        return end_at(fault);
+    }
+    match ended {
+        Ok(()) => DialogueEnd::Done,
+        Err(_) => DialogueEnd::NoMemory,
+    }
+}
+
+/// Reads once, and answers what was read. Gives how the dialogue ends, where it does.
+fn answer_next<W: Wire, R: Replier>(
+    alloc: Global,
+    wire: &mut W,
+    replier: &mut R,
+    room: &mut [u8],
+    out: &mut Vec<u8>,
+) -> Option<DialogueEnd>
+    requires room { 0 < length room.old }
+    requires fed { (fed : List ℕ) × R.was_fed replier.old fed }
+    ensures turned { IsTurn (R.reply replier.old) (R.reply_at_end replier.old) (R.was_fed replier.old) (R.was_fed replier.new)
+        (W.history wire.old) (W.history wire.new) result }
+    ensures same { result ≡ None → R.reply replier.new ≡ R.reply replier.old }
+    ensures same_at_end { result ≡ None → R.reply_at_end replier.new ≡ R.reply_at_end replier.old }
+    ensures cause { W.faults wire.new ≡ faults_after_turn (W.faults wire.old) result }
+{
+    match wire.read(room) {
+        Err(_) => Some(DialogueEnd::ReadFault),
+        Ok(0) => Some(answer_end(alloc, wire, replier, out)),
+        Ok(n) => answer_piece(alloc, wire, replier, &room[..n], out),
+    }
+}
+
+/// Answers a wire turn by turn, by reads into `room`, until the dialogue ends.
+fn answer_turns<W: Wire, R: Replier>(
+    alloc: Global,
+    wire: &mut W,
+    replier: &mut R,
+    room: &mut [u8],
+    out: &mut Vec<u8>,
+) -> DialogueEnd
+    requires room { 0 < length room.old }
+    requires fed { R.was_fed replier.old [] }
+    requires silent { R.reply replier.old [] ≡ [] }
+    ensures answered { (events : List WireEvent) × TellsMore (W.history wire.old) (W.history wire.new) events
+        × HasAnswered (R.reply replier.old) (R.reply_at_end replier.old) events result
+        × (result ≡ DialogueEnd.Ended → R.was_fed replier.new (read_in events)) }
+    ensures cause { W.faults wire.new ≡ faults_at (W.faults wire.old) result }
+{
+    'turns: for _ in 0..u64::MAX {
+        match answer_next(alloc, wire, replier, room, out) {
+            None => {}
+            Some(end) => return end,
+        }
+    }
+    DialogueEnd::Exhausted
+}
+
+/// Answers a wire as its bytes come: reads, feeds the replier, writes and flushes what it put, and reads again, until the input or the
+/// dialogue ends or a call fails.
+///
+/// At every moment at which more input is asked for, just the reply to the bytes read so far was written. What was written at the end
+/// [`DialogueEnd`] says of each. A fault ends it only where that call of the wire has failed; at each other end none has. `NoMemory` comes
+/// only where there was no memory. At `Ended` the replier was fed all that was read.
+pub fn answer_wire<W: Wire, R: Replier>(alloc: Global, wire: &mut W, replier: &mut R) -> DialogueEnd
+    requires fed { R.was_fed replier.old [] }
+    requires silent { R.reply replier.old [] ≡ [] }
+    ensures answered { (events : List WireEvent) × TellsMore (W.history wire.old) (W.history wire.new) events
+        × HasAnswered (R.reply replier.old) (R.reply_at_end replier.old) events result
+        × (result ≡ DialogueEnd.Ended → R.was_fed replier.new (read_in events)) }
+    ensures cause { W.faults wire.new ≡ faults_at (W.faults wire.old) result }
+{
+    let mut out = Vec::new(alloc);
+    let Ok(mut room) = vec![in alloc; 0u8; PIECE_BYTES] else {
+        return DialogueEnd::NoMemory;
+    };
+    answer_turns(alloc, wire, replier, &mut room, &mut out)
+}
