@@ -19,6 +19,11 @@ pub made-push : (g : SimpleGraph) (us : List Update) (u : Update) → made_in_tu
 made-push g [] u = refl
 made-push g (x ∷ us) u = made-push (updated x g) us u
 
+-- updates leave the vertices
+pub size-made : (g : SimpleGraph) (us : List Update) → (made_in_turn g us).size ≡ g.size
+size-made g [] = refl
+size-made g (u ∷ us) = size-made (updated u g) us ∙ size-updated u g
+
 -- how many were applied, with one update more
 count-push : (is : Update → Bool) (g : SimpleGraph) (us : List Update) (u : Update)
     → count_applied is g (us ++ u ∷ []) ≡ count_applied is g us + cond (is u && is_applied u (made_in_turn g us)) 1 0
@@ -66,12 +71,27 @@ told-more {g} {old} {new} u applied is added removed list = λ start made g-is t
       few = omega (arith, told.few, added, removed, at-most-one u.add applied, length-append made (u ∷ []));
     }
 
+-- So many updates are made in a graph and told of.
+pub record MadeIn (start : SimpleGraph) (us : List Update) (made : ℕ) (now : SimpleGraph) (changes : Changes) : Type 0 where
+  pub graph : now ≡ made_in_turn start (take made us)
+  pub told : IsToldOf start (take made us) changes
+  pub size : now.size ≡ start.size
+
+-- one update more is made in the graph, and told of
+pub one-more_in : {start now new : SimpleGraph} {us : List Update} {i : ℕ} {changes after : Changes} (d u : Update) → MadeIn start us i now changes
+    → i < length us → u ≡ get_or us i d → new ≡ updated u now → TellsOneMore now u changes after → MadeIn start us (i + 1) new after
+one-more_in {start} {now} {new} {us} {i} {changes} {after} d u m low u-is graph tells =
+    let more : take (i + 1) us ≡ take i us ++ u ∷ [] = take_more us i d low ∙ ap (λ (z : Update). take i us ++ z ∷ []) (sym u-is) in
+    record {
+      graph = graph ∙ (ap (updated u) m.graph ∙ (sym (made-push start (take i us) u) ∙ ap (made_in_turn start) (sym more)));
+      told = subst (λ (z : List Update). IsToldOf start z after) (sym more) (tells start (take i us) m.graph m.told);
+      size = ap (λ (g : SimpleGraph). g.size) graph ∙ (size-updated u now ∙ m.size);
+    }
+
 -- So many updates are made and told of, and the numbers from before them are kept.
 pub record MadeSoFar (start : Ranked) (kept : EarlierNumbers) (us : List Update) (made : ℕ) (now : Ranked) (changes : Changes) (earlier : EarlierNumbers)
     : Type 0 where
-  pub graph : now.graph ≡ made_in_turn start.graph (take made us)
-  pub told : IsToldOf start.graph (take made us) changes
-  pub size : now.graph.size ≡ start.graph.size
+  pub in_graph : MadeIn start.graph us made now.graph changes
   pub certified : IsCertified now
   pub seidman : AreCoreNumbers now.graph now.core
   pub keeps : KeepsEarlier start.core now.core kept earlier
@@ -81,13 +101,9 @@ pub one-more : {start : Ranked} {kept : EarlierNumbers} {us : List Update} {i : 
     (d u : Update) → MadeSoFar start kept us i now changes earlier → i < length us → u ≡ get_or us i d → new.graph ≡ updated u now.graph
     → TellsOneMore now.graph u changes after → KeepsEarlier now.core new.core earlier later → IsCertified new → AreCoreNumbers new.graph new.core
     → MadeSoFar start kept us (i + 1) new after later
-one-more {start} {kept} {us} {i} {now} {new} {changes} {after} {earlier} {later} d u m low u-is graph tells keeps certified seidman =
-    let more : take (i + 1) us ≡ take i us ++ u ∷ [] = take_more us i d low ∙ ap (λ (z : Update). take i us ++ z ∷ []) (sym u-is) in
-    record {
-      graph = graph ∙ (ap (updated u) m.graph ∙ (sym (made-push start.graph (take i us) u) ∙ ap (made_in_turn start.graph) (sym more)));
-      told = subst (λ (z : List Update). IsToldOf start.graph z after) (sym more) (tells start.graph (take i us) m.graph m.told);
-      size = ap (λ (g : SimpleGraph). g.size) graph ∙ (size-updated u now.graph ∙ m.size);
-      certified = certified;
-      seidman = seidman;
-      keeps = λ first h. keeps first (m.keeps first h);
-    }
+one-more d u m low u-is graph tells keeps certified seidman = record {
+  in_graph = one-more_in d u m.in_graph low u-is graph tells;
+  certified = certified;
+  seidman = seidman;
+  keeps = λ first h. keeps first (m.keeps first h);
+}

@@ -42,7 +42,7 @@ places-complete is core (suc n) v l h = elim (cases_eq v n) [
 ]
 
 -- a list that ascends ascends still with a number above all of it at its end
-ascends-push : (xs : List ℕ) (x : ℕ) → IsStrictlyIncreasing xs → ((y : ℕ) → member y xs ≡ true → y < x) → IsStrictlyIncreasing (xs ++ x ∷ [])
+pub ascends-push : (xs : List ℕ) (x : ℕ) → IsStrictlyIncreasing xs → ((y : ℕ) → member y xs ≡ true → y < x) → IsStrictlyIncreasing (xs ++ x ∷ [])
 ascends-push xs x up top k l = elim (cases_lt (k + 1) (length xs)) [
   | inl lt ↦ omega (arith, up k lt, get_or_append_left xs (x ∷ []) 0 k (omega arith), get_or_append_left xs (x ∷ []) 0 (k + 1) lt)
   | inr ge ↦

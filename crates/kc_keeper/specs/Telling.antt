@@ -1,8 +1,10 @@
 -- What is told of updates, while they are made in turn.
 use Rattle.std.specs.Prelude.{◌≡◌, ◌≤◌, ◌+◌, ◌++◌, not, List, [], ◌∷◌, length}
 use Rattle.kc_graph.specs.SimpleGraph.{SimpleGraph}
+use Rattle.kc_graph.specs.Lawful.{Ranked}
 use Rattle.kc_graph.specs.declared.update.Update.{Update}
 use Rattle.kc_keeper.specs.Batches.{applied_in_turn, count_applied, made_in_turn}
+use Rattle.kc_keeper.specs.Cores.{AreCoreChanges}
 use Rattle.kc_keeper.specs.declared.changes.Changes.{Changes}
 
 -- The changes tell of these updates, made in turn of this graph.
@@ -20,3 +22,10 @@ TellsTheSame old new = (start : SimpleGraph) (made : List Update) → IsToldOf s
 abbrev pub TellsOneMore : SimpleGraph → Update → Changes → Changes → Type 0
 TellsOneMore g u old new =
     (start : SimpleGraph) (made : List Update) → g ≡ made_in_turn start made → IsToldOf start made old → IsToldOf start (made ++ u ∷ []) new
+
+-- A batch of which these updates were made: the graph is the one after them in turn, and the changes tell of them, and of each vertex whose
+-- number is another one.
+pub record HasMade (old : Ranked) (made : List Update) (new : Ranked) (changes : Changes) : Type 0 where
+  pub graph : new.graph ≡ made_in_turn old.graph made
+  pub told : IsToldOf old.graph made changes
+  pub cores : AreCoreChanges old.core new.core changes.cores.items

@@ -12,14 +12,15 @@ ghost use Rattle.kc_keeper.specs.Cores.{AreCoreChanges};
 ghost use Rattle.kc_keeper.specs.Earlier.{KeepsEarlier};
 ghost use Rattle.kc_keeper.specs.Keepers.{IsUpdated};
 ghost use Rattle.kc_keeper.specs.Members.{AreCoreMembers, AreLevelMembers};
-ghost use Rattle.kc_keeper.specs.Telling.{IsToldOf, TellsOneMore, TellsTheSame};
+ghost use Rattle.kc_keeper.specs.Telling.{HasMade, IsToldOf, TellsOneMore, TellsTheSame};
 
+use crate::at_once::{is_large, make_all_in, tell_cores};
 use crate::changes::Changes;
 use crate::earlier::EarlierNumbers;
 use crate::entering::{enter_plan, first_outside, plan_update};
 use crate::fault::{ApplyFault, GrowFault, OpenFault, UpdateFault};
 use crate::members::{list_at_least, list_equal};
-use kc_graph::{Lawful, NoMemory, SharedGraph, Update};
+use kc_graph::{Lawful, NoMemory, SharedGraph, Update, decompose_owned};
 use kc_journal::{EnterFault, Journal};
 use kc_table::{Pass, Words};
 use kc_view::Scratch;
@@ -225,6 +226,78 @@ impl Keeper {
         if let Some((place, vertex)) = first_outside(updates, self.vertices()) {
             return Err(ApplyFault::NoVertex { place, vertex });
         }
+        let made = self.apply_within(alloc, updates, changes);
+        self.recall_certified();
+        made
+    }
+
+    /// Makes updates whose ends are vertices: at once where the batch is large, and there is memory for that; else one after the other.
+    fn apply_within(
+        &mut self,
+        alloc: Global,
+        updates: &[Update],
+        changes: &mut Changes,
+    ) -> Result<(), ApplyFault>
+        requires { EndsAreWithin self.old.graph.size updates.now }
+        ensures made { HasMade self.old (updates_made result updates.now) self.new changes.new }
+        ensures cause { IfErr result (λ fault. IsApplyCause self.old updates.now self.new fault) }
+    {
+        if !is_large(self.vertices(), self.graph().edges(), updates.len()) {
+            return self.apply_in_turn(alloc, updates, changes);
+        }
+        match self.apply_at_once(alloc, updates, changes) {
+            Ok(()) => Ok(()),
+            Err(_) => self.apply_in_turn(alloc, updates, changes),
+        }
+    }
+
+    /// Makes updates in a copy of the graph, whose core numbers are computed anew, and goes on with it in a fresh table. All memory is taken
+    /// before the keeper changes. Where there is none for that, the keeper is as it was, and what `changes` tells means nothing.
+    fn apply_at_once(
+        &mut self,
+        alloc: Global,
+        updates: &[Update],
+        changes: &mut Changes,
+    ) -> Result<(), NoMemory>
+        requires { EndsAreWithin self.old.graph.size updates.now }
+        ensures made { OnOk result (HasMade self.old updates.now self.new changes.new) }
+        ensures same { OnErr result (self.new ≡ self.old) }
+    {
+        let _vertices = self.vertices();
+        changes.clear();
+        let mut graph = self.graph().to_graph(alloc)?;
+        make_all_in(&mut graph, updates, changes)?;
+        let lawful = decompose_owned(alloc, graph)?;
+        tell_cores(self.core_numbers(), lawful.core(), &mut changes.cores)?;
+        self.go_on_with(alloc, lawful)
+    }
+
+    /// Goes on with another state of as many vertices, in a fresh table. At `NoMemory` nothing has changed.
+    fn go_on_with(&mut self, alloc: Global, lawful: Lawful) -> Result<(), NoMemory>
+        requires { lawful.graph.size ≡ self.old.graph.size }
+        ensures state { OnOk result (self.new ≡ lawful) }
+        ensures same { OnErr result (self.new ≡ self.old) }
+    {
+        let _vertices = self.vertices();
+        let (words, journal, pass) = Journal::open(alloc, lawful, 0)?;
+        self.words = words;
+        self.journal = journal;
+        self.pass = pass;
+        Ok(())
+    }
+
+    /// Enters updates one after the other.
+    fn apply_in_turn(
+        &mut self,
+        alloc: Global,
+        updates: &[Update],
+        changes: &mut Changes,
+    ) -> Result<(), ApplyFault>
+        requires { EndsAreWithin self.old.graph.size updates.now }
+        ensures made { HasMade self.old (updates_made result updates.now) self.new changes.new }
+        ensures cause { IfErr result (λ fault. IsApplyCause self.old updates.now self.new fault) }
+    {
+        changes.clear();
         let mut earlier = self.take_earlier(alloc);
         let made = self.make_all(alloc, updates, changes, &mut earlier);
         earlier.settle(self.core_numbers());

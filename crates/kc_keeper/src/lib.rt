@@ -9,6 +9,7 @@
 //! its memory goes with the graph, not with the number of updates.
 #![tactic(auto)]
 
+mod at_once;
 mod changes;
 mod earlier;
 mod entering;
