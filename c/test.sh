@@ -22,6 +22,10 @@ nm -D --defined-only "$build/libkcore.so" | sed -n 's/.* T \([a-z_]*\).*/\1/p' |
 cmp "$build/declared" "$build/exported"
 echo "exported: $(tr '\n' ' ' < "$build/exported")"
 
+# And with the types that the crate has.
+python=${PYTHON:-python3}
+"$python" "$top/c/check_header.py"
+
 # The header is C of 1999 and later and C++, and an answer that is dropped is warned of.
 for language in "c -std=c99" "c -std=c11" "c++ -std=c++11"; do
     ${CC:-cc} -x $language -pedantic -Wall -Wextra -Werror -fsyntax-only "$top/include/kcore.h"
@@ -33,14 +37,10 @@ if ${CC:-cc} $flags -c "$build/dropped.c" -o "$build/dropped.o" 2> "$build/told"
 fi
 grep -q 'unused' "$build/told"
 
-${CC:-cc} $flags "$top/examples/c/core_numbers.c" "$build/libkcore.a" -o "$build/core_numbers"
-${CC:-cc} $flags $sanitized "$top/examples/c/core_numbers.c" "$build/libkcore.a" -o "$build/core_numbers_sanitized"
-${CC:-cc} $flags "$top/examples/c/tally.c" "$build/libkcore.a" -o "$build/tally"
-${CC:-cc} $flags $sanitized "$top/examples/c/tally.c" "$build/libkcore.a" -o "$build/tally_sanitized"
-${CC:-cc} $flags "$top/examples/c/rounds.c" "$build/libkcore.a" -o "$build/rounds"
-${CC:-cc} $flags $sanitized "$top/examples/c/rounds.c" "$build/libkcore.a" -o "$build/rounds_sanitized"
-${CC:-cc} $flags "$top/examples/c/keep.c" "$build/libkcore.a" -o "$build/keep"
-${CC:-cc} $flags $sanitized "$top/examples/c/keep.c" "$build/libkcore.a" -o "$build/keep_sanitized"
+for program in core_numbers tally rounds keep keep_threads; do
+    ${CC:-cc} $flags -pthread "$top/examples/c/$program.c" "$build/libkcore.a" -o "$build/$program"
+    ${CC:-cc} $flags -pthread $sanitized "$top/examples/c/$program.c" "$build/libkcore.a" -o "$build/${program}_sanitized"
+done
 for program in no_memory keep_no_memory; do
     ${CC:-cc} $flags $wrapped "$top/examples/c/$program.c" "$build/libkcore.a" -o "$build/$program"
     ${CC:-cc} $flags $sanitized "$top/examples/c/$program.c" $wrapped "$build/libkcore.a" -o "$build/${program}_sanitized"
@@ -122,12 +122,13 @@ for program in keep keep_sanitized; do
     awk '$1 != "batch" { core[$1] = $3 } END { for (v in core) if (core[v] != 0) exit 1 }' "$build/found"
 done
 echo "keep: karate in one batch has the numbers of core_numbers, and none when its edges are gone; each line that it can't use is refused"
+"$build/keep_threads"
+"$build/keep_threads_sanitized"
 for program in no_memory keep_no_memory; do
     "$build/$program"
     "$build/${program}_sanitized"
 done
 
-python=${PYTHON:-python3}
 # The packages of Debian, with the modules by which they are known.
 packages="python3-numpy:numpy python3-scipy:scipy python3-pandas:pandas python3-networkx:networkx python3-igraph:igraph
     python3-matplotlib:matplotlib python3-hypothesis:hypothesis python3-mypy:mypy python3-build:build python3-pip:pip

@@ -1,8 +1,8 @@
 """From a temporal file to a page and pictures: PYTHONPATH=python python3 examples/python/temporal.py FILE FOLDER [EVERY [WINDOW]]
 
 Each line of the file is `u v time`, as SNAP has its temporal graphs. FOLDER gets report.html, and where matplotlib is installed sizes.svg,
-degrees.svg and rings.svg of the graph after the last batch. EVERY is the length of an interval of time, WINDOW how long an edge stays after
-its last mention; by default there are twelve intervals, and edges stay for good.
+degrees.svg, onion.svg and rings.svg of the graph after the last batch, and changes.svg of all batches. EVERY is the length of an interval of
+time, WINDOW how long an edge stays after its last mention; by default there are twelve intervals, and edges stay for good.
 """
 
 import sys
@@ -18,35 +18,31 @@ def rows_of(path):
     return [(int(u), int(v), float(time)) for u, v, time in fields]
 
 
-def edges_after(batches):
-    """The edges that are there after the last batch."""
-    there = set()
-    for batch in batches:
-        there = (there | set(batch.insert)) - set(batch.remove)
-    return sorted(there)
-
-
-def told(batches):
-    """Prints a line for each batch: what came and went, and who rose highest."""
-    cores = kcore.Cores(names=True)
-    for batch, result in zip(batches, cores.replay(batches)):
+def follow(cores, batches):
+    """Applies the batches, and prints a line for each: what came and went, and who rose farthest. Returns their results."""
+    results = []
+    for batch, result in zip(batches, cores.replay(batches, core_numbers=True)):
+        results.append(result)
         rises = {name: after - (before or 0) for name, (before, after) in result.changes.items()}
         first = max(rises, key=rises.get, default=None)
         rose = f"{first} to {cores[first]}" if first is not None and rises[first] > 0 else "nobody"
         print(f"{result.begin:g} to {result.end:g}: +{len(batch.insert)} -{len(batch.remove)} top {cores.degeneracy} rose farthest: {rose}")
+    return results
 
 
-def draw(edges, folder):
-    """Draws the graph where matplotlib is installed."""
+def draw(edges, results, folder):
+    """Draws the graph, and how it came to be, where matplotlib is installed."""
     try:
         import matplotlib
     except ImportError:
         print("no pictures, since matplotlib is not installed")
         return
     matplotlib.use("Agg")
-    for picture in (kcore.plot.sizes, kcore.plot.degrees, kcore.plot.rings):
-        figure = picture(edges, return_ids=True).figure
-        figure.savefig(folder / f"{picture.__name__}.svg")
+    pictures = (kcore.plot.sizes, kcore.plot.degrees, kcore.plot.onion, kcore.plot.rings)
+    figures = {picture.__name__: picture(edges, return_ids=True).figure for picture in pictures}
+    figures["changes"] = kcore.plot.changes(results)[0].figure
+    for name, figure in figures.items():
+        figure.savefig(folder / f"{name}.svg")
         matplotlib.pyplot.close(figure)
 
 
@@ -58,10 +54,12 @@ def main():
     every = float(sys.argv[3]) if len(sys.argv) > 3 else (max(times) - min(times)) / 11.99 or 1
     window = float(sys.argv[4]) if len(sys.argv) > 4 else None
     batches = list(kcore.batches(rows, every, window))
-    told(batches)
+    cores = kcore.Cores(names=True)
+    results = follow(cores, batches)
+    print(f"the numbers are certified: {cores.check()}")
     folder.mkdir(parents=True, exist_ok=True)
     (folder / "report.html").write_text(kcore.report((), batches, Path(path).name), encoding="utf-8")
-    draw(edges_after(batches), folder)
+    draw(cores.to_edges(), results, folder)
 
 
 if __name__ == "__main__":

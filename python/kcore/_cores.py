@@ -8,8 +8,8 @@ import threading
 from array import array
 from typing import Any, Dict, Hashable, Iterable, Iterator, List, NoReturn, Optional, Sequence, Tuple, Union
 
-from . import _forms, _library, _lists, _temporal
-from ._graph import Graph, NotAVertexError
+from . import _edges, _forms, _library, _lists, _temporal
+from ._graph import AsArrays, AsLists, Graph, NotAVertexError
 
 #: The core numbers of a vertex before and after a call; before is None where the vertex is new.
 Change = Tuple[Optional[int], int]
@@ -34,7 +34,8 @@ class Cores:
     """A graph whose core numbers are kept right while edges come and go.
 
     An update costs what it concerns, and not the graph: mostly some microseconds. So does telling which core numbers changed. Where a call
-    brings new vertices, it reads all core numbers once. Core numbers, and the order that certifies them, are the library's, whose contracts are proved [1]_.
+    brings new vertices, it reads all core numbers once. Core numbers, and the order that certifies them, are the library's, whose contracts
+    are proved [1]_. The edges are kept here too, for `to_edges`, `check` and pickling.
 
     Parameters
     ----------
@@ -56,8 +57,8 @@ class Cores:
 
     Notes
     -----
-    Several threads may use one `Cores`: a lock of its own lets one call in at a time. It can't be pickled or copied. `close` gives its
-    memory back at once, and so does a `with` statement at its end.
+    Several threads may use one `Cores`: a lock of its own lets one call in at a time. It is pickled and copied by its edges, and the copy
+    may have another order. `close` gives its memory back at once, and so does a `with` statement at its end.
 
     References
     ----------
@@ -72,9 +73,11 @@ class Cores:
     (2, 2)
     >>> cores.remove([("ann", "bob")])
     {'ann': (2, 1), 'bob': (2, 1), 'cat': (2, 1)}
+    >>> cores.to_edges(), cores.check()
+    ([('ann', 'cat'), ('ann', 'dan'), ('bob', 'cat')], True)
     """
 
-    __slots__ = ("_lock", "_place", "_names", "_numbers", "_vertices", "_room", "_core", "_like_array", "__weakref__")
+    __slots__ = ("_lock", "_place", "_names", "_numbers", "_vertices", "_room", "_core", "_like_array", "_edges", "__weakref__")
 
     def __init__(
         self,
@@ -91,9 +94,12 @@ class Cores:
         if names and vertices is not None:
             raise TypeError("vertices does not go with names")
         graph = _read(edges, words, names)
-        named = _forms.names_of(graph)
-        self._names: Optional[List[Hashable]] = named
-        self._numbers: Dict[Hashable, int] = {} if named is None else {name: number for number, name in enumerate(named)}
+        self._open(graph, _forms.names_of(graph))
+
+    def _open(self, graph: Graph, names: Optional[List[Hashable]]) -> None:
+        """Begins with a graph. Raises NotAVertexError, ValueError or MemoryError."""
+        self._names: Optional[List[Hashable]] = names
+        self._numbers: Dict[Hashable, int] = {} if names is None else {name: number for number, name in enumerate(names)}
         self._like_array = _lists.is_array(graph.ends)
         self._vertices = self._room = graph.vertices
         place = _Place()
@@ -104,6 +110,12 @@ class Cores:
             self._refuse(answer)
         self._place = place
         self._core = self._read()
+        self._edges = _edges.KeptEdges(graph.ends)
+
+    def __reduce__(self) -> Tuple[Any, ...]:
+        with self._lock:
+            self._refuse_closed()
+            return _opened, (self._edges.pairs(), self._vertices, self._names)
 
     def __enter__(self) -> Cores:
         return self
@@ -157,6 +169,36 @@ class Cores:
             if least < 0:
                 raise ValueError(f"k is {least}, and a k-core has k of 0 and more")
             return [self._vertex(number) for number in _lists.places_between(self._core, least, _lists.GREATEST).tolist()]
+
+    def main_core(self) -> List[Any]:
+        """The vertices of the main core, the k-core of the greatest k that has members."""
+        return self.k_core()
+
+    def order(self) -> List[Any]:
+        """The vertices in the order that certifies the core numbers: these never fall along it, and each vertex has at most as many later
+        neighbours as its number. `before` compares two places in it."""
+        with self._lock:
+            return [self._vertex(number) for number in _lists.as_list(self._order())]
+
+    def to_edges(self) -> Any:
+        """The edges, each once and in the order of the vertices: an array of the shape (edges, 2) where all edges came in arrays, or else a
+        list of pairs."""
+        with self._lock:
+            self._refuse_closed()
+            pairs = self._edges.pairs()
+            if self._names is None:
+                return pairs
+            return [(self._names[first], self._names[second]) for first, second in pairs]
+
+    def check(self) -> bool:
+        """Whether the kept order certifies the kept core numbers for the edges that `to_edges` tells, by `check` of the module, which makes
+        that graph anew. It is True unless this module, the machine or the caller's memory is faulty."""
+        with self._lock:
+            order = self._order()
+            ends, like_array = _edges.flat(self._edges.pairs())
+            core = _lists.from_numbers(self._core, "core")
+            results = AsArrays() if like_array else AsLists()
+            return Graph(ends, self._vertices, results).certifies(core, order)
 
     def before(self, first: Any, second: Any) -> bool:
         """Whether one vertex stands before another in the order that certifies the core numbers. Raises KeyError where one is no vertex."""
@@ -231,6 +273,7 @@ class Cores:
             changed = self._changed()
             for place, _, now in changed:
                 self._core[place] = now
+            self._edges.note(updates[: 3 * answer.number] if answer.status == _library.NO_MEMORY else updates)
             if answer.status == _library.NO_MEMORY:
                 raise MemoryError(f"there is no memory: the first {answer.number} of {_lists.size(updates) // 3} updates are made")
             if answer.status != _library.DONE:
@@ -330,6 +373,17 @@ class Cores:
         self._call(_library.keeper_core_numbers, _lists.address(core), self._room)
         return core[: self._vertices]
 
+    def _order(self) -> Any:
+        """The vertices in the order of the keeper, as numbers."""
+        order = _lists.room(self._room, self._like_array)
+        self._call(_library.keeper_order, _lists.address(order), self._room)
+        # Places for vertices to come have no edges, and may stand anywhere.
+        if self._room == self._vertices:
+            return order
+        if self._like_array:
+            return order[order < self._vertices]
+        return array(_lists.CODE, [number for number in order if number < self._vertices])
+
     def _changed(self) -> List[Tuple[int, int, int]]:
         """Each vertex whose core number the last batch changed, in ascending order, with its number before and now."""
         room = _FEW
@@ -340,9 +394,13 @@ class Cores:
                 return list(zip(told[0 : 3 * number : 3], told[1 : 3 * number : 3], told[2 : 3 * number : 3]))
             room = number
 
-    def _answer(self, function: Any, *arguments: Any) -> _library.Answer:
+    def _refuse_closed(self) -> None:
         if self._place is None:
             raise ValueError("these core numbers are closed")
+
+    def _answer(self, function: Any, *arguments: Any) -> _library.Answer:
+        self._refuse_closed()
+        assert self._place is not None
         answer: _library.Answer = function(self._place.address, *arguments)
         return answer
 
@@ -358,6 +416,16 @@ class Cores:
         if answer.status == _library.TOO_MANY_VERTICES:
             raise ValueError(f"there are {self._vertices} vertices, and there may be {_library.KEEPER_VERTICES}{_FAR_APART}")
         raise RuntimeError(f"the library answered the status {answer.status}, which is not one that it may have here")
+
+
+def _opened(pairs: Any, vertices: int, names: Optional[List[Hashable]]) -> Cores:
+    """A `Cores` of these edges, as it was pickled."""
+    cores = Cores.__new__(Cores)
+    cores._place = None
+    cores._lock = threading.Lock()
+    ends, like_array = _edges.flat(pairs)
+    cores._open(Graph(ends, vertices, AsArrays() if like_array else AsLists()), names)
+    return cores
 
 
 def _read(edges: Any, words: _forms.Words, names: bool) -> Graph:

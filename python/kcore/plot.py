@@ -1,6 +1,7 @@
 """Pictures of core numbers, by matplotlib.
 
-Each function takes a graph as `kcore.core_numbers` does, draws into `ax` or else into a new figure, and returns the axes.
+Each function takes a graph as `kcore.core_numbers` does, and `changes` takes what followed batches left; draws into `ax` or else into a new
+figure, and returns the axes.
 
 Examples
 --------
@@ -10,12 +11,12 @@ Examples
 
 from __future__ import annotations
 
-from typing import Any
+from typing import Any, Iterable, List, Tuple
 
-from . import _forms, _measures
+from . import _forms, _layers, _measures
 from ._graph import Graph
 
-__all__ = ["degrees", "rings", "sizes"]
+__all__ = ["changes", "degrees", "onion", "rings", "sizes"]
 
 # How many edges are drawn at most: more only make the picture darker.
 _MOST_EDGES = 20_000
@@ -151,13 +152,156 @@ def rings(edges: Any, *, ax: Any = None, **words: Any) -> Any:
     return ax
 
 
+def onion(edges: Any, *, ax: Any = None, **words: Any) -> Any:
+    """The onion spectrum [1]_: how many vertices each layer has, coloured by their core number.
+
+    Within a shell the layers are joined by a line. One that falls straight on these axes is what a random tree would have; long tails
+    come of chains.
+
+    Parameters
+    ----------
+    edges, ax, **words
+        As `sizes` takes them.
+
+    Returns
+    -------
+    matplotlib.axes.Axes
+        The axes that were drawn.
+
+    Raises
+    ------
+    ImportError, ValueError, TypeError
+        As `sizes` does.
+
+    References
+    ----------
+    .. [1] L. Hébert-Dufresne, J. A. Grochow and A. Allard, "Multi-scale structure and topological anomaly detection via a new network
+       statistic: The onion decomposition", Scientific Reports 6 (2016), 31708.
+    """
+    import numpy
+
+    ax = _axes(ax)
+    from matplotlib.ticker import MaxNLocator
+
+    graph = _read(edges, words)
+    core = _measures.numbers(graph)
+    layers = numpy.asarray(_layers.onion_layers(graph, graph.core_numbers()), dtype=numpy.int64)
+    counts = numpy.bincount(layers)[1:]
+    number = numpy.zeros(len(counts), numpy.int64)
+    number[layers - 1] = core
+    layer = numpy.arange(1, len(counts) + 1)
+    for k in numpy.unique(number):
+        ax.plot(layer[number == k], counts[number == k], color="lightgrey", linewidth=1, zorder=1)
+    dots = ax.scatter(layer, counts, c=number, s=16, cmap="turbo", linewidths=0, zorder=2)
+    ax.figure.colorbar(dots, ax=ax, label="core number", ticks=MaxNLocator(integer=True))
+    ax.set(xlabel="layer", ylabel="vertices", yscale="log", ylim=(0.7, 2 * counts.max(initial=1)))
+    ax.xaxis.get_major_locator().set_params(integer=True)
+    return ax
+
+
+def changes(results: Iterable[Any], *, axes: Any = None) -> Any:
+    """Cores over time: how large each k-core is after each batch, and how many vertices rose and fell.
+
+    Parameters
+    ----------
+    results : iterable of BatchResult
+        As `kcore.Cores.replay` yields them with `core_numbers=True`.
+    axes : pair of matplotlib.axes.Axes, optional
+        Where to draw both. By default in a new figure, one above the other.
+
+    Returns
+    -------
+    pair of matplotlib.axes.Axes
+        The sizes of the k-cores as areas, each within the one before, and a line for the greatest core number; and who rose and fell.
+
+    Raises
+    ------
+    ImportError
+        Where matplotlib is not installed.
+    ValueError
+        Where a result has no core numbers.
+    """
+    import numpy
+
+    told = list(results)
+    if any(result.core_numbers is None for result in told):
+        raise ValueError("these results have no core numbers: give cores.replay(batches, core_numbers=True)")
+    above, below = _two_axes() if axes is None else axes
+    from matplotlib import colormaps
+
+    shells, times = _shells_after(told), [result.begin for result in told] + [result.end for result in told[-1:]]
+    top = shells.shape[1] - 1
+    members = shells[:, ::-1].cumsum(axis=1)[:, ::-1]
+    colours = colormaps["turbo"](numpy.linspace(0.05, 0.95, max(top, 1)))
+    for k in range(1, top + 1):
+        named = f"{k}-core" if _is_named(k, top) else None
+        above.fill_between(times, _held(members[:, k]), step="post", color=colours[k - 1], linewidth=0, label=named)
+    beside = above.twinx()
+    beside.step(times, _held((members > 0).sum(axis=1) - 1), where="post", color="black", linewidth=1)
+    beside.set(ylabel="greatest core number (line)", ylim=(0, 1.3 * top + 1))
+    beside.yaxis.get_major_locator().set_params(integer=True)
+    above.set(ylabel="vertices of the k-core", ylim=(0, 1.3 * members.max(initial=1)))
+    if top:
+        # On the axes that are drawn last.
+        beside.legend(*above.get_legend_handles_labels(), loc="upper left", fontsize=7, ncols=4)
+    rose, fell = numpy.array([_rose_and_fell(result.changes) for result in told]).reshape(len(told), 2).T
+    below.step(times, _held(rose), where="post", color="tab:green", label="rose")
+    below.step(times, _held(-fell), where="post", color="tab:red", label="fell")
+    below.axhline(0, color="grey", linewidth=0.5)
+    below.set(xlabel="time", ylabel="vertices")
+    below.legend(loc="upper left", fontsize=7)
+    return above, below
+
+
+def _shells_after(told: List[Any]) -> Any:
+    """A row for each batch: how many vertices have each core number after it, up to the greatest of all batches."""
+    import numpy
+
+    numbers = [list(result.core_numbers.values()) if hasattr(result.core_numbers, "values") else result.core_numbers for result in told]
+    top = max((int(max(core, default=0)) for core in numbers), default=0)
+    counts = [numpy.bincount(numpy.asarray(core, dtype=numpy.int64), minlength=top + 1) for core in numbers]
+    return numpy.array(counts, dtype=numpy.int64).reshape(len(told), top + 1)
+
+
+def _held(values: Any) -> Any:
+    """The values of intervals, with the last one again for the end of the last."""
+    import numpy
+
+    return numpy.append(values, values[-1:])
+
+
+def _is_named(k: int, top: int) -> bool:
+    """Whether a k-core stands in the legend: of many some do."""
+    return k in (1, top) or k % max(top // 6, 1) == 0
+
+
+def _rose_and_fell(changed: Any) -> Tuple[int, int]:
+    """How many of the vertices have a greater number than before, and how many a lesser one. A new one is as if its number had been 0."""
+    steps = [now - (before or 0) for before, now in changed.values()]
+    return sum(step > 0 for step in steps), sum(step < 0 for step in steps)
+
+
+def _two_axes() -> Any:
+    _axes_needed()
+    from matplotlib import pyplot
+
+    return pyplot.subplots(2, 1, figsize=(8, 7), sharex=True, height_ratios=(2, 1), layout="constrained")[1]
+
+
 def _axes(ax: Any) -> Any:
     """The axes to draw in. Raises ImportError where there is no matplotlib."""
+    _axes_needed()
+    from matplotlib import pyplot
+
+    return pyplot.subplots(figsize=(7, 5), layout="constrained")[1] if ax is None else ax
+
+
+def _axes_needed() -> None:
+    """Raises ImportError where there is no matplotlib."""
     try:
-        from matplotlib import pyplot
+        from matplotlib import pyplot  # noqa: F401
     except ImportError as cause:
         raise ImportError(f"pictures need matplotlib ({cause}): install it, on Debian as python3-matplotlib") from None
-    return pyplot.subplots(figsize=(7, 5), layout="constrained")[1] if ax is None else ax
 
 
 def _read(edges: Any, words: Any) -> Graph:

@@ -1,11 +1,14 @@
 """Core numbers that are kept while edges come and go."""
 
+import copy
+import pickle
 import random
 import threading
 import unittest
+import unittest.mock
 
 import kcore
-from kcore import _library
+from kcore import _edges, _library
 
 try:
     import networkx
@@ -17,6 +20,7 @@ except ImportError:
     numpy = None
 
 TRIANGLE = [(0, 1), (1, 2), (2, 0)]
+NAMES = [("ann", "bob"), ("bob", "cat"), ("cat", "ann")]
 
 
 def changes(old, new):
@@ -69,6 +73,63 @@ class CoresTest(unittest.TestCase):
                 self.assertTrue(numbers[vertex] <= numbers[other] or not cores.before(vertex, other))
                 self.assertEqual(cores.before(vertex, other) + cores.before(other, vertex), int(vertex != other))
 
+    def test_the_order_is_told(self):
+        cores = kcore.Cores([*TRIANGLE, (2, 3), (4, 5)], vertices=7)
+        order = cores.order()
+        self.assertEqual(sorted(order), list(range(7)))
+        self.assertTrue(all(cores.before(*two) for two in zip(order, order[1:])))
+        cores.insert([(7, 8)])
+        self.assertEqual(sorted(cores.order()), list(range(9)))
+        self.assertEqual(sorted(kcore.Cores([("ann", "bob")]).order()), ["ann", "bob"])
+        self.assertEqual((cores.main_core(), kcore.Cores().main_core(), kcore.Cores().order()), ([0, 1, 2], [], []))
+
+    def test_the_edges_are_told(self):
+        cores = kcore.Cores([(1, 0), (0, 1), (2, 2), (1, 2)])
+        self.assertEqual(cores.to_edges(), [(0, 1), (1, 2)])
+        cores.apply(insert=[(2, 0), (3, 3), (9, 1)], remove=[(1, 0), (5, 6)])
+        self.assertEqual((cores.to_edges(), cores.check()), ([(0, 2), (1, 2), (1, 9)], True))
+        named = kcore.Cores([("bob", "ann")])
+        named.apply(insert=[("cat", "bob")], remove=[("ann", "bob")])
+        self.assertEqual((named.to_edges(), named.check()), ([("bob", "cat")], True))
+        self.assertEqual((kcore.Cores().to_edges(), kcore.Cores().check()), ([], True))
+
+    @unittest.skipUnless(numpy, "NumPy is not installed")
+    def test_edges_of_arrays_are_told_as_one(self):
+        given = numpy.array([(1, 0), (0, 1), (2, 2), (1, 2)])
+        cores = kcore.Cores(given)
+        given[:] = 0
+        self.assertEqual(cores.to_edges().tolist(), [[0, 1], [1, 2]])
+        cores.apply(insert=numpy.array([(2, 0), (3, 3), (9, 1)]), remove=numpy.array([(1, 0), (5, 6), (1, 1)]))
+        self.assertEqual((cores.to_edges().dtype, cores.to_edges().tolist()), (numpy.uint32, [[0, 2], [1, 2], [1, 9]]))
+        self.assertTrue(cores.check())
+        self.assertEqual(kcore.Cores(numpy.empty((0, 2), int)).to_edges().shape, (0, 2))
+        cores.insert([(4, 3)])
+        self.assertEqual(cores.to_edges(), [(0, 2), (1, 2), (1, 9), (3, 4)])
+        self.assertTrue(cores.check())
+
+    def test_edges_are_put_together_now_and_then(self):
+        cores = kcore.Cores([(0, 1)])
+        with unittest.mock.patch.object(_edges, "_FEW", 3):
+            for place in range(40):
+                cores.apply(insert=[(place % 5, place % 7)], remove=[(place % 3, place % 5)])
+                self.assertLessEqual(cores._edges._waiting, len(cores._edges._there) + 3)
+        self.assertTrue(cores.check())
+
+    def test_check_finds_a_number_that_is_one_off(self):
+        cores = kcore.Cores(TRIANGLE)
+        cores._core[1] += 1
+        self.assertFalse(cores.check())
+
+    def test_copies_go_their_own_way(self):
+        cores = kcore.Cores([*NAMES, ("ann", "dan")])
+        cores.remove([("ann", "dan")])
+        for twin in (pickle.loads(pickle.dumps(cores)), copy.copy(cores), copy.deepcopy(cores)):
+            self.assertEqual((twin.core_numbers(), twin.to_edges(), len(twin)), (cores.core_numbers(), cores.to_edges(), 4))
+            self.assertEqual(twin.insert([("dan", "eve")]), {"dan": (0, 1), "eve": (None, 1)})
+            self.assertEqual((len(cores), cores["dan"]), (4, 0))
+        twin = pickle.loads(pickle.dumps(kcore.Cores(TRIANGLE, vertices=9)))
+        self.assertEqual(twin.core_numbers(), [2, 2, 2, 0, 0, 0, 0, 0, 0])
+
     def test_refusals_leave_everything(self):
         cores = kcore.Cores(TRIANGLE)
         for edges, error, told in (
@@ -99,8 +160,9 @@ class CoresTest(unittest.TestCase):
         cores = kcore.Cores(TRIANGLE)
         cores.close()
         cores.close()
-        with self.assertRaisesRegex(ValueError, "closed"):
-            cores.insert([(0, 3)])
+        for call in (lambda: cores.insert([(0, 3)]), cores.order, cores.to_edges, cores.check, lambda: pickle.dumps(cores)):
+            with self.assertRaisesRegex(ValueError, "closed"):
+                call()
 
     def test_vertices_may_come_one_by_one(self):
         cores = kcore.Cores()

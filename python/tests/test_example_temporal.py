@@ -31,8 +31,9 @@ class Example(unittest.TestCase):
                 "60 to 90: +0 -2 top 1 rose farthest: nobody",
                 "90 to 120: +1 -1 top 1 rose farthest: 3 to 1",
             ])
+            self.assertEqual(told[4], "the numbers are certified: True")
             files = {path.name for path in (Path(folder) / "out").iterdir()}
-            drawn = {"sizes.svg", "degrees.svg", "rings.svg"} if importlib.util.find_spec("matplotlib") else set()
+            drawn = {f"{name}.svg" for name in ("sizes", "degrees", "onion", "rings", "changes")} if importlib.util.find_spec("matplotlib") else set()
             self.assertEqual(files, {"report.html"} | drawn)
             self.assertIn("<title>mails.txt</title>", (Path(folder) / "out" / "report.html").read_text("utf-8"))
 

@@ -46,8 +46,33 @@ class Pictures(unittest.TestCase):
         self.assertEqual(sorted(shells.tolist()), sorted(core))
         self.assertLess(distances[shells == 4].max(), distances[shells == 1].min())
 
+    def test_onion(self):
+        edges = edges_of("karate")
+        layers, core = kcore.onion_layers(edges), kcore.core_numbers(edges)
+        ax = kcore.plot.onion(edges)
+        (dots,) = ax.collections
+        wanted = {layer: (layers.count(layer), number) for layer, number in zip(layers, core)}
+        found = {int(x): (int(y), int(k)) for (x, y), k in zip(dots.get_offsets(), dots.get_array())}
+        self.assertEqual(found, wanted)
+
+    def test_changes(self):
+        rows = [("ann", "bob", 0), ("bob", "cat", 1), ("cat", "ann", 2), ("ann", "dan", 3)]
+        results = list(kcore.Cores(names=True).replay(kcore.batches(rows, every=1, window=3), core_numbers=True))
+        above, below = kcore.plot.changes(results)
+        rose, fell = (line.get_ydata().tolist() for line in below.lines[:2])
+        self.assertEqual((rose, fell), ([2, 1, 3, 1, 1], [0, 0, 0, -3, -3]))
+        beside = next(ax for ax in above.figure.axes if ax not in (above, below))
+        self.assertEqual([text.get_text() for text in beside.get_legend().get_texts()], ["1-core", "2-core"])
+        self.assertEqual(beside.lines[0].get_ydata().tolist(), [1, 1, 2, 1, 1])
+        self.assertEqual(beside.lines[0].get_xdata().tolist(), [0, 1, 2, 3, 4])
+        _, axes = pyplot.subplots(2)
+        self.assertEqual(kcore.plot.changes(results, axes=axes), tuple(axes))
+        kcore.plot.changes([])[0].figure.canvas.draw()
+        with self.assertRaisesRegex(ValueError, "core_numbers=True"):
+            kcore.plot.changes(kcore.Cores(names=True).replay(kcore.batches(rows, every=1)))
+
     def test_axes_that_are_given_and_other_forms(self):
-        for draw in [kcore.plot.sizes, kcore.plot.degrees, kcore.plot.rings]:
+        for draw in [kcore.plot.sizes, kcore.plot.degrees, kcore.plot.onion, kcore.plot.rings]:
             _, ax = pyplot.subplots()
             self.assertIs(draw(numpy.array(TAILED), ax=ax, vertices=9), ax)
             draw([(5, 10**12)], return_ids=True).figure.canvas.draw()
@@ -64,7 +89,7 @@ class Pictures(unittest.TestCase):
                 raise ImportError("none")
             return real(name, *rest)
 
-        for draw in [kcore.plot.sizes, kcore.plot.degrees, kcore.plot.rings]:
+        for draw in [kcore.plot.sizes, kcore.plot.degrees, kcore.plot.onion, kcore.plot.rings, lambda _: kcore.plot.changes([])]:
             with mock.patch.object(builtins, "__import__", absent), self.assertRaisesRegex(ImportError, "pictures need matplotlib"):
                 draw(TAILED)
 

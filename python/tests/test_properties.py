@@ -4,6 +4,7 @@ KCORE_EXAMPLES says how many graphs each property is tried on.
 """
 
 import os
+import pickle
 import unittest
 
 import kcore
@@ -103,6 +104,68 @@ class Numbers(unittest.TestCase):
         place = data.draw(st.integers(0, vertices - 1))
         core[place] += data.draw(st.sampled_from([-1, 1, 2]))
         self.assertFalse(kcore.check(edges, core, order, vertices))
+
+
+@st.composite
+def updates(draw, most=12):
+    """A number of vertices, edges at the start, and batches of updates: each with edges to go and edges to come, in which there may be more
+    vertices."""
+    vertices = draw(st.integers(1, most))
+
+    def edges(top, count):
+        end = st.integers(0, top)
+        return st.lists(st.tuples(end, end), max_size=count)
+
+    start = draw(edges(vertices - 1, 3 * vertices))
+    batches = draw(st.lists(st.tuples(edges(most, 8), edges(most, 8)), min_size=1, max_size=12))
+    return vertices, start, batches
+
+
+class Updates(unittest.TestCase):
+    def follow(self, graph, given):
+        """Each batch beside networkx: the numbers, what is told as changed, the edges, the order, and the k-cores."""
+        vertices, start, batches = graph
+        theirs = of_networkx(range(vertices), start)
+        with kcore.Cores(given(start), vertices=vertices) as cores:
+            for leaving, coming in batches:
+                before = networkx.core_number(theirs)
+                theirs.remove_edges_from(edge for edge in leaving if theirs.has_edge(*edge))
+                theirs.add_nodes_from(range(len(theirs), max((max(edge) + 1 for edge in coming), default=0)))
+                theirs.add_edges_from(edge for edge in coming if edge[0] != edge[1])
+                told = cores.apply(given(coming), given(leaving))
+                now = networkx.core_number(theirs)
+                self.assertEqual(list(cores.core_numbers()), [now[v] for v in range(len(theirs))])
+                self.assertEqual(told, {v: (before.get(v), now[v]) for v in now if before.get(v) != now[v]})
+                self.assertEqual(sorted(map(tuple, cores.to_edges())), sorted(tuple(sorted(edge)) for edge in theirs.edges))
+                self.assertEqual(cores.main_core(), sorted(networkx.k_core(theirs)))
+                self.assertTrue(cores.check())
+            twin = pickle.loads(pickle.dumps(cores))
+            self.assertEqual(list(twin.core_numbers()), list(cores.core_numbers()))
+
+    @given(updates())
+    def test_kept_numbers_beside_networkx(self, graph):
+        self.follow(graph, list)
+
+    @unittest.skipIf(numpy is None, "NumPy is not installed")
+    @given(updates())
+    def test_kept_numbers_of_arrays_beside_networkx(self, graph):
+        # An array of two rows would not say whether an edge is a row.
+        self.follow(graph, lambda edges: edges if len(edges) == 2 else numpy.array(edges, numpy.int64).reshape(-1, 2))
+
+    @given(updates())
+    def test_kept_numbers_of_names_beside_networkx(self, graph):
+        vertices, start, batches = graph
+        name = "v{}".format
+        theirs = of_networkx({end for edge in start for end in edge}, start)
+        cores = kcore.Cores([(name(u), name(v)) for u, v in start], names=True)
+        for leaving, coming in batches:
+            theirs.remove_edges_from(edge for edge in leaving if theirs.has_edge(*edge))
+            theirs.add_nodes_from(end for edge in coming for end in edge)
+            theirs.add_edges_from(edge for edge in coming if edge[0] != edge[1])
+            cores.apply([(name(u), name(v)) for u, v in coming], [(name(u), name(v)) for u, v in leaving])
+            wanted = networkx.core_number(theirs) if theirs else {}
+            self.assertEqual(cores.core_numbers(), {name(v): number for v, number in wanted.items()})
+        self.assertTrue(cores.check())
 
 
 class Family(unittest.TestCase):
