@@ -3,13 +3,14 @@ use Rattle.std.proofs.Common.{◌≡◌, ◌≢◌, ◌<◌, ◌≤◌, ◌+◌,
 use Rattle.std.specs.List.{All}
 use Rattle.std.specs.List.Sorted.{IsStrictlyIncreasing}
 use Rattle.std.proofs.lemmas.Bool.{cases_eq, cases_lt}
-use Rattle.std.proofs.lemmas.List.{get_or_past, map-append}
+use Rattle.std.proofs.lemmas.List.{get_or_past}
 use Rattle.std.proofs.lemmas.List.Elements.{All-nil, All-push}
 use Rattle.kc_lists.specs.Lists.{member}
 use Rattle.kc_lists.proofs.Counting.{Contains-from_member, member-push_cases}
 use Rattle.kc_lists.proofs.Members.{member-append_left, member-append_right, member-head}
 use Rattle.kc_keeper.specs.Cores.{AreCoreChanges, IsCoreChange, changed_vertices}
 use Rattle.kc_keeper.specs.declared.changes.CoreChange.{CoreChange}
+use Rattle.kc_keeper.proofs.KeptNumbers.{vertices-push}
 use Rattle.kc_keeper.proofs.MembersOfCores.{ascends-push}
 
 -- Of the vertices below `n` those are listed whose number is another one, as changes, in ascending order.
@@ -18,10 +19,6 @@ pub record AreToldBelow (n : ℕ) (old new : List ℕ) (changes : List CoreChang
   pub low : (v : ℕ) → member v (changed_vertices changes) ≡ true → v < n
   pub each : All (IsCoreChange old new) changes
   pub all : (v : ℕ) → v < n → get_or old v 0 ≢ get_or new v 0 → member v (changed_vertices changes) ≡ true
-
--- the vertex of a change more
-vertices-push : (changes : List CoreChange) (c : CoreChange) → changed_vertices (changes ++ c ∷ []) ≡ changed_vertices changes ++ c.vertex ∷ []
-vertices-push changes c = map-append (λ (x : CoreChange). x.vertex) changes (c ∷ [])
 
 -- at first none is listed
 pub told-none : (old new : List ℕ) (changes : List CoreChange) → changes ≡ [] → AreToldBelow 0 old new changes

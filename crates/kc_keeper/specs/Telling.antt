@@ -25,7 +25,7 @@ TellsOneMore g u old new =
 
 -- A batch of which these updates were made: the graph is the one after them in turn, and the changes tell of them, and of each vertex whose
 -- number is another one.
-pub record HasMade (old : Ranked) (made : List Update) (new : Ranked) (changes : Changes) : Type 0 where
+pub record HasMadeBatch (old : Ranked) (made : List Update) (new : Ranked) (changes : Changes) : Type 0 where
   pub graph : new.graph ≡ made_in_turn old.graph made
   pub told : IsToldOf old.graph made changes
   pub cores : AreCoreChanges old.core new.core changes.cores.items

@@ -12,7 +12,7 @@ ghost use Rattle.kc_keeper.specs.Cores.{AreCoreChanges};
 ghost use Rattle.kc_keeper.specs.Earlier.{KeepsEarlier};
 ghost use Rattle.kc_keeper.specs.Keepers.{IsUpdated};
 ghost use Rattle.kc_keeper.specs.Members.{AreCoreMembers, AreLevelMembers};
-ghost use Rattle.kc_keeper.specs.Telling.{HasMade, IsToldOf, TellsOneMore, TellsTheSame};
+ghost use Rattle.kc_keeper.specs.Telling.{HasMadeBatch, IsToldOf, TellsOneMore, TellsTheSame};
 
 use crate::at_once::{is_large, make_all_in, tell_cores};
 use crate::changes::Changes;
@@ -239,7 +239,7 @@ impl Keeper {
         changes: &mut Changes,
     ) -> Result<(), ApplyFault>
         requires { EndsAreWithin self.old.graph.size updates.now }
-        ensures made { HasMade self.old (updates_made result updates.now) self.new changes.new }
+        ensures made { HasMadeBatch self.old (updates_made result updates.now) self.new changes.new }
         ensures cause { IfErr result (λ fault. IsApplyCause self.old updates.now self.new fault) }
     {
         if !is_large(self.vertices(), self.graph().edges(), updates.len()) {
@@ -260,7 +260,7 @@ impl Keeper {
         changes: &mut Changes,
     ) -> Result<(), NoMemory>
         requires { EndsAreWithin self.old.graph.size updates.now }
-        ensures made { OnOk result (HasMade self.old updates.now self.new changes.new) }
+        ensures made { OnOk result (HasMadeBatch self.old updates.now self.new changes.new) }
         ensures same { OnErr result (self.new ≡ self.old) }
     {
         let _vertices = self.vertices();
@@ -294,7 +294,7 @@ impl Keeper {
         changes: &mut Changes,
     ) -> Result<(), ApplyFault>
         requires { EndsAreWithin self.old.graph.size updates.now }
-        ensures made { HasMade self.old (updates_made result updates.now) self.new changes.new }
+        ensures made { HasMadeBatch self.old (updates_made result updates.now) self.new changes.new }
         ensures cause { IfErr result (λ fault. IsApplyCause self.old updates.now self.new fault) }
     {
         changes.clear();
