@@ -1,0 +1,2 @@
+-- What the crate's own replier says.
+pub mod Echoes
