@@ -1,0 +1,4 @@
+pub mod Cuts
+pub mod Holding
+pub mod Naming
+pub mod Reading

@@ -1,0 +1,36 @@
+-- What is gathered of the lines of a stream.
+use Rattle.std.specs.Prelude.{◌≡◌, ◌<◌, ℕ, [], None, All, is_some, length, map, unwrap_or}
+use Rattle.std.specs.List.{filter_map}
+use Rattle.kc_graph.specs.declared.update.Update.{Update}
+use Rattle.kc_text.specs.Inputs.{AreAmong, AreUpdates, numbered}
+use Rattle.kc_text.specs.Meaning.{Told, ends, ends_of}
+use Rattle.kc_stream.specs.Hearing.{Heard}
+use Rattle.kc_stream.specs.Ids.{ids_of}
+use Rattle.kc_stream.specs.declared.gathered.Gathered.{Gathered}
+
+-- a pair of two numbers below a bound, the lesser one first
+abbrev pub IsPairBelow : ℕ → ℕ × ℕ → Type 0
+IsPairBelow bound p = (p.0 < p.1) × (p.1 < bound)
+
+-- an update between two numbers below a bound
+abbrev pub IsUpdateBelow : ℕ → Update → Type 0
+IsUpdateBelow bound update = update.v < bound
+
+-- The ids are those that were named. Before any batch line the edges are those that were told, between the numbers that stand for their
+-- ids and without loops; after one, the updates are the changes of the last batch.
+pub record Holds (gathered : Gathered) (told : Told) : Type 0 where
+  pub ids : gathered.ids ≡ ids_of told
+  pub in_batch : gathered.in_batch ≡ is_some told.last
+  pub begun : told.last ≡ None → told.earlier ≡ []
+  pub edges : told.last ≡ None → gathered.edges.items ≡ filter_map (numbered gathered.ids) told.edges
+  pub edge_ends : AreAmong gathered.ids (ends told.edges)
+  pub updates : AreUpdates gathered.ids (unwrap_or told.last []) gathered.updates.items
+  pub update_ends : AreAmong gathered.ids (ends (map ends_of (unwrap_or told.last [])))
+  pub edges_within : All (IsPairBelow (length gathered.ids)) gathered.edges.items
+  pub updates_within : All (IsUpdateBelow (length gathered.ids)) gathered.updates.items
+
+-- These lines were gathered, as long as none is refused; the first one that is refused is known.
+pub record Gathers (gathered : Gathered) (heard : Heard) : Type 0 where
+  pub lines : gathered.lines ≡ heard.lines
+  pub refusal : gathered.refusal ≡ heard.refusal
+  pub holds : heard.refusal ≡ None → Holds gathered heard.told

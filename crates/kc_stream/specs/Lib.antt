@@ -1,0 +1,5 @@
+-- What public contracts speak of.
+pub mod Ended
+pub mod Gathering
+pub mod Hearing
+pub mod Ids

@@ -1,0 +1,101 @@
+//! Ids that come, and the numbers that stand for them.
+ghost use Rattle.std.specs.Prelude.{◌≡◌, ◌<◌, ◌≤◌, [], ◌∷◌, true, length, IfOk, MatchOption, OnErr, nat_eq};
+ghost use Rattle.std.specs.Set.{is_member};
+ghost use Rattle.kc_text.specs.Inputs.{place};
+ghost use Rattle.kc_words.specs.declared.layout.TheConstants.{VERTICES};
+ghost use Rattle.kc_stream.specs.Ids.{with_name, with_names};
+
+use crate::NoMemory;
+use kc_words::VERTICES;
+use std::alloc::Global;
+use std::collections::HashMap;
+use std::marker::Model;
+
+/// Ids in the order of their first coming. The number that stands for an id is its place among them, from 0. There are no more than a
+/// graph may have vertices.
+#[derive(Drop)]
+pub struct Ids {
+    names: Vec<u32>,
+    numbers: HashMap<u32, u32>,
+}
+
+impl Model for Ids {
+    ghost use Rattle.std.specs.Prelude.{ℕ, List, length, ◌≤◌};
+    ghost use Rattle.kc_words.specs.declared.layout.TheConstants.{VERTICES};
+    ghost use Rattle.kc_stream.specs.Ids.{HasNumbers};
+
+    ghost Value = { List ℕ };
+
+    ghost view = { λ ids. ids.names.items };
+
+    ghost invariant = { λ ids. HasNumbers ids.names.items ids.numbers × (length ids.names.items ≤ VERTICES) };
+}
+
+impl Ids {
+    /// No ids. It takes no memory.
+    pub fn new(alloc: Global) -> Ids
+        ensures { result ≡ [] }
+    {
+        Ids {
+            names: Vec::new(alloc),
+            numbers: HashMap::new(alloc),
+        }
+    }
+
+    /// How many there are.
+    pub fn count(&self) -> u32
+        ensures count { result ≡ length self.now }
+        ensures few { result ≤ VERTICES }
+    {
+        self.names.len() as u32
+    }
+
+    /// The ids, each at its number.
+    pub fn names(&self) -> &[u32]
+        ensures { result.now ≡ self.now }
+    {
+        &self.names
+    }
+
+    /// The number that stands for an id, which is put behind the others where it is new; none where there would be too many ids. Where
+    /// there is no number or no memory, the ids stay as they were.
+    pub fn name(&mut self, id: u32) -> Result<Option<u32>, NoMemory>
+        ensures number { IfOk result (λ number. MatchOption number (VERTICES < length (with_name self.old id))
+            (λ v. (self.new ≡ with_name self.old id) × (v ≡ place self.new id) × (is_member nat_eq self.new id ≡ true))) }
+        ensures none { IfOk result (λ number. MatchOption number (self.new ≡ self.old) (λ v. v < length self.new)) }
+        ensures same { OnErr result (self.new ≡ self.old) }
+        ensures few { length self.new ≤ VERTICES }
+    {
+        if let Some(number) = self.numbers.get(&id).copied() {
+            return Ok(Some(number));
+        }
+        let number = self.names.len();
+        if number >= VERTICES as usize {
+            return Ok(None);
+        }
+        self.names.reserve(1)?;
+        self.numbers.insert(id, number as u32)?;
+        if self.names.push(id).is_err() {
+            unreachable!();
+        }
+        Ok(Some(number as u32))
+    }
+
+    /// The numbers that stand for two ids, which are put behind the others where they are new, the first one first; none where there would
+    /// be too many ids.
+    pub fn name_both(&mut self, a: u32, b: u32) -> Result<Option<(u32, u32)>, NoMemory>
+        ensures numbers { IfOk result (λ numbers. MatchOption numbers (VERTICES < length (with_names self.old (a ∷ b ∷ [])))
+            (λ v. (self.new ≡ with_names self.old (a ∷ b ∷ [])) × (v.0 ≡ place self.new a) × (v.1 ≡ place self.new b))) }
+        ensures among { IfOk result (λ numbers. MatchOption numbers (VERTICES < length (with_names self.old (a ∷ b ∷ [])))
+            (λ v. (is_member nat_eq self.new a ≡ true) × (is_member nat_eq self.new b ≡ true))) }
+        ensures few { length self.new ≤ VERTICES }
+    {
+        let Some(first) = self.name(a)? else {
+            return Ok(None);
+        };
+        let Some(second) = self.name(b)? else {
+            return Ok(None);
+        };
+        Ok(Some((first, second)))
+    }
+}
