@@ -1,0 +1,69 @@
+-- The updates that decide are of different edges, so made in turn they do what the batch does.
+use Rattle.std.proofs.Common.{◌≡◌, ◌<◌, ◌-◌, ℕ, List, length, ap, sym, subst, ◌∙◌, arith}
+use Rattle.std.specs.Prelude.{All, not}
+use Rattle.kc_graph.specs.SimpleGraph.{SimpleGraph}
+use Rattle.kc_graph.specs.declared.update.Update.{Update}
+use Rattle.kc_keeper.specs.Batches.{count_applied, made_in_turn}
+use Rattle.kc_watch.proofs.Entering.{AreApart, applied-few, effects-of, made-batch, none-outside}
+use Rattle.kc_watch.proofs.batch.make.Goals as goal
+
+pub overflow_cast-result : goal.overflow_cast-result
+overflow_cast-result c =
+    let g : SimpleGraph = c.args.keeper.now.graph in
+    let us : List Update = c.in_ok-batch.batch.updates.items in
+    let apart : AreApart us = (c.in_ok-batch.ensures.batch g.size c.requires).apart in
+    let added : c.apply.new.changes.added ≡ count_applied (λ u. u.add) g us = c.in-Ok.ensures.added ∙ ap (count_applied (λ u. u.add) g) c.deref.ensures.value in
+    omega (arith, added, applied-few g us apart, c.in_ok-batch.ensures.overruled, c.if-updates.false)
+
+pub overflow_cast-result-in-Ok : goal.overflow_cast-result-in-Ok
+overflow_cast-result-in-Ok c =
+    let g : SimpleGraph = c.args.keeper.now.graph in
+    let us : List Update = c.in_ok-batch.batch.updates.items in
+    let apart : AreApart us = (c.in_ok-batch.ensures.batch g.size c.requires).apart in
+    let removed : c.apply.new.changes.removed ≡ count_applied (λ u. not u.add) g us =
+    c.in-Ok.ensures.removed ∙ ap (count_applied (λ u. not u.add) g) c.deref.ensures.value in
+    omega (arith, removed, applied-few g us apart, c.in_ok-batch.ensures.overruled, c.if-updates.false)
+
+pub overflow_sub-result : goal.overflow_sub-result
+overflow_sub-result c =
+    let g : SimpleGraph = c.args.keeper.now.graph in
+    let us : List Update = c.in_ok-batch.batch.updates.items in
+    let apart : AreApart us = (c.in_ok-batch.ensures.batch g.size c.requires).apart in
+    let added : c.apply.new.changes.added ≡ count_applied (λ u. u.add) g us = c.in-Ok.ensures.added ∙ ap (count_applied (λ u. u.add) g) c.deref.ensures.value in
+    omega (arith, added, applied-few g us apart, c.len-count.ensures)
+
+pub overflow_sub-result-in-Ok : goal.overflow_sub-result-in-Ok
+overflow_sub-result-in-Ok c =
+    let g : SimpleGraph = c.args.keeper.now.graph in
+    let us : List Update = c.in_ok-batch.batch.updates.items in
+    let apart : AreApart us = (c.in_ok-batch.ensures.batch g.size c.requires).apart in
+    let added : c.apply.new.changes.added ≡ count_applied (λ u. u.add) g us = c.in-Ok.ensures.added ∙ ap (count_applied (λ u. u.add) g) c.deref.ensures.value in
+    let removed : c.apply.new.changes.removed ≡ count_applied (λ u. not u.add) g us =
+    c.in-Ok.ensures.removed ∙ ap (count_applied (λ u. not u.add) g) c.deref.ensures.value in
+    omega (arith, added, removed, applied-few g us apart, c.len-count.ensures)
+
+pub returns-in-Ok-clause-graph : goal.returns-in-Ok-clause-graph
+returns-in-Ok-clause-graph c =
+    let g : SimpleGraph = c.args.keeper.now.graph in
+    let us : List Update = c.in_ok-batch.batch.updates.items in
+    let apart : AreApart us = (c.in_ok-batch.ensures.batch g.size c.requires).apart in
+    made-batch g c.apply.new.self.graph c.args.updates.now us c.in_ok-batch.ensures.deciding apart
+    (c.in-Ok.ensures.graph ∙ ap (made_in_turn g) c.deref.ensures.value)
+
+pub returns-in-Ok-clause-effects : goal.returns-in-Ok-clause-effects
+returns-in-Ok-clause-effects c =
+    let g : SimpleGraph = c.args.keeper.now.graph in
+    let us : List Update = c.in_ok-batch.batch.updates.items in
+    let apart : AreApart us = (c.in_ok-batch.ensures.batch g.size c.requires).apart in
+    let count : c.len-count.result ≡ length us = omega (arith, c.len-count.ensures) in
+    effects-of g c.args.updates.now us _ c.in_ok-batch.ensures.deciding apart
+    (c.in-Ok.ensures.added ∙ ap (count_applied (λ u. u.add) g) c.deref.ensures.value)
+    (c.in-Ok.ensures.removed ∙ ap (count_applied (λ u. not u.add) g) c.deref.ensures.value)
+    (ap (λ (n : ℕ). n - c.apply.new.changes.added - c.apply.new.changes.removed) count) c.in_ok-batch.ensures.overruled
+
+pub unreachable-requires : goal.unreachable-requires
+unreachable-requires c =
+    let size : ℕ = c.args.keeper.now.graph.size in
+    let (outside, same) = rw c.in-Err-NoVertex.field-0-is at c.in-Err-NoVertex.ensures.cause in
+    none-outside size c.deref.result.now _ _
+    (subst (λ (us : List Update). All (λ u. u.v < size) us) (sym c.deref.ensures.value) (c.in_ok-batch.ensures.batch size c.requires).within) outside

@@ -1,0 +1,8 @@
+-- The lines that were read are those that have ended, or one of them is refused.
+use Rattle.std.proofs.Common.{ap, sym, ◌∙◌}
+use Rattle.kc_stream.specs.Hearing.{Heard}
+use Rattle.kc_watch.proofs.Fed.{fed-heard}
+use Rattle.kc_watch.proofs.watcher.Watcher.refusal.Goals as goal
+
+pub returns : goal.returns
+returns c = λ fed f. c.refusal.ensures ∙ (f.stands.gathers.refusal ∙ ap (λ (h : Heard). h.refusal) (sym (fed-heard c.args.self.now fed f)))

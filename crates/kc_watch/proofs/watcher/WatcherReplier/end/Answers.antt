@@ -1,0 +1,81 @@
+-- What is open is read and ends, unless a line is refused.
+use Rattle.std.proofs.Common.{◌≡◌, ◌++◌, [], ℕ, List, ap, sym, ◌∙◌, append-nil, append_assoc, arith, true, false}
+use Rattle.std.specs.Prelude.{is_some}
+use Rattle.kc_watch.specs.Text.{reply, reply_at_end}
+use Rattle.kc_watch.proofs.Fed.{end-answers, end-broken, end-refused, heard_of, stays}
+use Rattle.kc_watch.proofs.Lines.{going-heard, on-err}
+use Rattle.kc_stream.proofs.Holding.{none-from}
+use Rattle.kc_watch.proofs.watcher.WatcherReplier.end.Goals as goal
+
+pub returns-then-is_some : goal.returns-then-is_some
+returns-then-is_some c =
+    let some : is_some c.args.self.now.course.gathered.refusal ≡ true = grind (arith, c.refusal.ensures, c.is_some.ensures, c.if-is_some.true) in
+    record {
+      put = (
+        [],
+        sym (append-nil c.args.out.now.items),
+        λ fed f. (
+          ap reply_at_end (sym (append-nil fed)) ∙ (stays c.args.self.now fed f some []).1 ∙ sym (append-nil (reply fed)),
+          tt,
+        ),
+      );
+    }
+
+pub returns-in_err-read : goal.returns-in_err-read
+returns-in_err-read c =
+    let going : is_some c.args.self.now.course.gathered.refusal ≡ false = grind (arith, c.refusal.ensures, c.is_some.ensures, c.if-is_some.false) in
+    let (put, out, adds) = c.in_err-read.ensures.put in
+    record {
+      put = (
+        put,
+        out,
+        λ fed f. on-err c.from_residual.result _ _ c.from_residual.ensures.0
+            (end-broken c.args.self.now (none-from _ going) c.deref.result.now c.deref.ensures.value fed f put (adds (heard_of f.done) f.stands).1),
+      );
+    }
+
+pub returns-then-is_some-2 : goal.returns-then-is_some-2
+returns-then-is_some-2 c =
+    let going : is_some c.args.self.now.course.gathered.refusal ≡ false = grind (arith, c.refusal.ensures, c.is_some.ensures, c.if-is_some.false) in
+    let some : is_some c.read.new.self.gathered.refusal ≡ true = grind (arith, c.refusal-2.ensures, c.is_some-2.ensures, c.if-is_some-2.true) in
+    let (put, out, adds) = c.in_ok-read.ensures.put in
+    record {
+      put = (
+        put,
+        out,
+        λ fed f. (
+          end-refused c.args.self.now (none-from _ going) c.deref.result.now c.deref.ensures.value fed f c.read.new.self put
+              (c.in_ok-read.ensures.stands (heard_of f.done) f.stands) some (adds (heard_of f.done) f.stands).0,
+          tt,
+        ),
+      );
+    }
+
+pub end_part-requires : goal.end_part-requires
+end_part-requires c =
+    let (fed, f) = c.requires in
+    let s = c.in_ok-read.ensures.stands (heard_of f.done) f.stands in
+    let going : is_some c.read.new.self.gathered.refusal ≡ false = grind (arith, c.refusal-2.ensures, c.is_some-2.ensures, c.if-is_some-2.false) in
+    let none = going-heard c.read.new.self _ s going in (
+      _,
+      s.gathers.holds none,
+      s.keeps none,
+    )
+
+pub returns : goal.returns
+returns c =
+    let before : is_some c.args.self.now.course.gathered.refusal ≡ false = grind (arith, c.refusal.ensures, c.is_some.ensures, c.if-is_some.false) in
+    let going : is_some c.read.new.self.gathered.refusal ≡ false = grind (arith, c.refusal-2.ensures, c.is_some-2.ensures, c.if-is_some-2.false) in
+    let (put, out, adds) = c.in_ok-read.ensures.put in
+    let (more, out', adds') = c.end_part.ensures.put in
+    record {
+      put = (
+        put ++ more,
+        out' ∙ ap (λ (t : List ℕ). t ++ more) out ∙ append_assoc c.args.out.now.items put more,
+        λ fed f.
+            let s = c.in_ok-read.ensures.stands (heard_of f.done) f.stands in
+            let none = going-heard c.read.new.self _ s going in
+            end-answers c.args.self.now (none-from _ before) c.deref.result.now c.deref.ensures.value fed f c.end_part.result c.read.new.self put more s going
+            (adds (heard_of f.done) f.stands).0 (adds' _ (s.gathers.holds none) (s.keeps none)),
+      );
+    }

@@ -1,0 +1,5 @@
+-- What public contracts speak of.
+pub mod Text
+pub mod Watching
+-- What the crate's own functions speak of.
+pub mod Effects

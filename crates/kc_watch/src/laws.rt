@@ -1,0 +1,17 @@
+//! What holds of the text that answers a stream, as laws over the definitions alone. A law is a function without a body, whose contract is
+//! the law.
+ghost use Rattle.std.specs.Prelude.{◌≡◌, [], List, ℕ};
+ghost use Rattle.kc_graph.specs.Core.{AreCoreNumbers};
+ghost use Rattle.kc_graph.specs.SimpleGraph.{SimpleGraph};
+ghost use Rattle.kc_watch.specs.Text.{core_numbers_of, reply};
+
+/// Each graph has its core numbers, and no other list of numbers is its core numbers.
+pub fn every_graph_has_its_core_numbers()
+    ensures has { (g : SimpleGraph) → AreCoreNumbers g (core_numbers_of g) }
+    ensures alone { (g : SimpleGraph) (core : List ℕ) → AreCoreNumbers g core → core ≡ core_numbers_of g }
+{}
+
+/// To no bytes nothing is answered.
+pub fn nothing_is_answered_to_nothing()
+    ensures { reply [] ≡ [] }
+{}
