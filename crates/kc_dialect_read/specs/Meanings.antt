@@ -1,0 +1,50 @@
+-- What a text in a dialect means: what its plain text means, if no bad line ends the reading.
+use Rattle.std.specs.Prelude.{◌≡◌, ℕ, List, [], ◌∷◌, Option, Some, None, length, nat_lt, option_map, if◌then◌else◌}
+use Rattle.kc_dialect.specs.Dialects.{bad_lines, plain_text}
+use Rattle.kc_dialect.specs.declared.bad_line.BadKind.{BadKind}
+use Rattle.kc_dialect.specs.declared.bad_line.BadKind.TheVariants as wrong
+use Rattle.kc_dialect.specs.declared.bad_line.BadLine.{BadLine}
+use Rattle.kc_dialect.specs.declared.dialect.BadLines.{BadLines}
+use Rattle.kc_dialect.specs.declared.dialect.BadLines.TheVariants.{Skip, Stop}
+use Rattle.kc_dialect.specs.declared.dialect.Dialect.{Dialect}
+use Rattle.kc_text.specs.Meaning.{Meaning, Refuses, meaning}
+use Rattle.kc_text.specs.declared.kind.Kind.{Kind}
+use Rattle.kc_text.specs.declared.kind.Kind.TheVariants.{MissingField, NotANumber, NumberTooLarge, TooLong}
+use Rattle.kc_text.specs.declared.limits.TheConstants.Limits.{GRAPH}
+use Rattle.kc_dialect_read.specs.declared.fault.PlacedRefusal.{PlacedRefusal}
+
+-- for which cause a bad line is refused
+abbrev pub kind_of_bad : BadKind → Kind
+kind_of_bad wrong.MissingColumn = MissingField
+kind_of_bad wrong.NotANumber = NotANumber
+kind_of_bad wrong.NumberTooLarge = NumberTooLarge
+
+-- the first of bad lines, where these end the reading
+abbrev pub first_stopping : BadLines → List BadLine → Option BadLine
+first_stopping Stop [] = None
+first_stopping Stop (bad ∷ more) = Some bad
+first_stopping Skip bad = None
+
+-- the bad line that ends the reading of a text in a dialect, if one does
+abbrev pub stopping_line : Dialect → List ℕ → Option BadLine
+stopping_line dialect bytes = first_stopping dialect.bad_lines (bad_lines dialect bytes)
+
+-- a meaning, unless a bad line ends the reading
+abbrev pub unless_stopped : Option BadLine → Meaning → Meaning
+unless_stopped None plain = plain
+unless_stopped (Some bad) plain = Refuses bad.line (kind_of_bad bad.kind)
+
+-- What the text of a graph means in a dialect: it may be too long, or a bad line ends the reading; else it is what the plain text means.
+unfoldable pub dialect_meaning : Dialect → List ℕ → Meaning
+dialect_meaning dialect bytes =
+    if nat_lt GRAPH.bytes (length bytes) then Refuses 0 TooLong
+    else unless_stopped (stopping_line dialect bytes) (meaning GRAPH (plain_text dialect bytes))
+
+-- the column of the field that is wrong in the bad line which ends the reading, if one does
+unfoldable pub bad_column : Dialect → List ℕ → Option ℕ
+bad_column dialect bytes = if nat_lt GRAPH.bytes (length bytes) then None else option_map (λ bad. bad.column) (stopping_line dialect bytes)
+
+-- the text is refused in a dialect, with this line, column and cause
+abbrev pub IsRefusedAt : Dialect → List ℕ → PlacedRefusal → Type 0
+IsRefusedAt dialect bytes placed =
+    (dialect_meaning dialect bytes ≡ Refuses placed.refusal.line placed.refusal.kind) × (placed.column ≡ bad_column dialect bytes)
