@@ -12,7 +12,7 @@ use Rattle.kc_cores.specs.Endings.{HasNoVerdict, HasSaid, NoClaimsAt, NoFileGrap
 use Rattle.kc_cores.specs.Inputs.{known_bytes}
 use Rattle.kc_cores.specs.Sentences.{no_memory_line, write_fault_line}
 use Rattle.kc_cores.specs.Verdicts.{no_line, yes_line}
-use Rattle.kc_cores.specs.Wishes.{Asks, Checks, Query, Wish}
+use Rattle.kc_cores.specs.Wishes.{Asks, Checks, GraphText, Query, Wish}
 use Rattle.kc_cores.specs.declared.CoresStatus.{CoresStatus}
 use Rattle.kc_cores.specs.declared.CoresStatus.TheVariants as status
 use Rattle.kc_cores.specs.declared.ending.Ending.{Ending}
@@ -22,90 +22,90 @@ use Rattle.kc_cores.specs.declared.words.Reply.TheVariants as reply
 module _ {I C O : Type 0} (source : sources.Ghosts I) (behind : I → List ℕ → Option (List ℕ)) (kept : sources.Ghosts C)
     (beside : C → List ℕ → Option (List ℕ)) (out : sinks.Ghosts O) where
   -- there are no claims
-  no_claims : (name : List ℕ) (file : Option (List ℕ)) (end : CoresStatus) (line : List ℕ) (i i' : I) (c c' : C) (o : O)
+  no_claims : (name : List ℕ) (graph : GraphText) (end : CoresStatus) (line : List ℕ) (i i' : I) (c c' : C) (o : O)
       → NoClaimsAt end line name (beside c name) (kept.faults c) (kept.faults c') → source.faults i' ≡ source.faults i
-      → CheckEnded source behind kept beside out name file end line i i' c c' o o
-  no_claims name file status.Unopened line i i' c c' o (fault, told, rose) same = record {
+      → CheckEnded source behind kept beside out name graph end line i i' c c' o o
+  no_claims name graph status.Unopened line i i' c c' o (fault, told, rose) same = record {
     did = ((name, fault, inl refl, told), Appends-nil (out.taken o));
     faults = inr rose;
     write_faults = refl;
   }
-  no_claims name file status.Refused line i i' c c' o (refusal, told, means, stays) same = record {
+  no_claims name graph status.Refused line i i' c c' o (refusal, told, means, stays) same = record {
     did = (inr (refusal, told, means), Appends-nil (out.taken o));
     faults = (same, stays);
     write_faults = refl;
   }
-  no_claims name file status.ReadFault line i i' c c' o (told, rose) same = record {
+  no_claims name graph status.ReadFault line i i' c c' o (told, rose) same = record {
     did = (told, Appends-nil (out.taken o));
     faults = inr rose;
     write_faults = refl;
   }
-  no_claims name file status.NoMemory line i i' c c' o (told, stays) same = record {
+  no_claims name graph status.NoMemory line i i' c c' o (told, stays) same = record {
     did = (told, Appends-nil (out.taken o));
     faults = (same, stays);
     write_faults = refl;
   }
-  no_claims name file _ line i i' c c' o h same = absurd h
+  no_claims name graph _ line i i' c c' o h same = absurd h
 
   -- there is no graph
-  no_graph : (name : List ℕ) (file : Option (List ℕ)) (end : CoresStatus) (line : List ℕ) (i i' : I) (c c' : C) (o : O)
-      → NoFileGraphAt end line file (known_bytes source.left behind file i) (source.faults i) (source.faults i') → kept.faults c' ≡ kept.faults c
-      → CheckEnded source behind kept beside out name file end line i i' c c' o o
-  no_graph name file status.Unopened line i i' c c' o (opened, fault, is, told, rose) same = record {
+  no_graph : (name : List ℕ) (graph : GraphText) (end : CoresStatus) (line : List ℕ) (i i' : I) (c c' : C) (o : O)
+      → NoFileGraphAt end line graph (known_bytes source.left behind graph.file i) (source.faults i) (source.faults i') → kept.faults c' ≡ kept.faults c
+      → CheckEnded source behind kept beside out name graph end line i i' c c' o o
+  no_graph name graph status.Unopened line i i' c c' o (opened, fault, is, told, rose) same = record {
     did = ((opened, fault, inr is, told), Appends-nil (out.taken o));
     faults = inl rose;
     write_faults = refl;
   }
-  no_graph name file status.Refused line i i' c c' o (n, kind, told, means, stays) same = record {
-    did = (inl (n, kind, told, means), Appends-nil (out.taken o));
+  no_graph name graph status.Refused line i i' c c' o (placed, told, means, stays) same = record {
+    did = (inl (placed, told, means), Appends-nil (out.taken o));
     faults = (stays, same);
     write_faults = refl;
   }
-  no_graph name file status.ReadFault line i i' c c' o (told, rose) same = record {
+  no_graph name graph status.ReadFault line i i' c c' o (told, rose) same = record {
     did = (told, Appends-nil (out.taken o));
     faults = inl rose;
     write_faults = refl;
   }
-  no_graph name file status.NoMemory line i i' c c' o (told, stays) same = record {
+  no_graph name graph status.NoMemory line i i' c c' o (told, stays) same = record {
     did = (told, Appends-nil (out.taken o));
     faults = (stays, same);
     write_faults = refl;
   }
-  no_graph name file _ line i i' c c' o h same = absurd h
+  no_graph name graph _ line i i' c c' o h same = absurd h
 
   -- there is no verdict
-  pub CheckEnded-no_verdict : (name : List ℕ) (file : Option (List ℕ)) (ending : Ending) (i i' : I) (c c' : C) (o : O)
-      → HasNoVerdict ending name file (known_bytes source.left behind file i) (beside c name) (source.faults i) (source.faults i')
+  pub CheckEnded-no_verdict : (name : List ℕ) (graph : GraphText) (ending : Ending) (i i' : I) (c c' : C) (o : O)
+      → HasNoVerdict ending name graph (known_bytes source.left behind graph.file i) (beside c name) (source.faults i) (source.faults i')
       (kept.faults c) (kept.faults c')
-      → CheckEnded source behind kept beside out name file ending.status (line_of ending) i i' c c' o o
-  CheckEnded-no_verdict name file ending i i' c c' o h = elim h [
-    | inl (none, same) ↦ no_claims name file ending.status (line_of ending) i i' c c' o none same
-    | inr (none, same) ↦ no_graph name file ending.status (line_of ending) i i' c c' o none same
+      → CheckEnded source behind kept beside out name graph ending.status (line_of ending) i i' c c' o o
+  CheckEnded-no_verdict name graph ending i i' c c' o h = elim h [
+    | inl (none, same) ↦ no_claims name graph ending.status (line_of ending) i i' c c' o none same
+    | inr (none, same) ↦ no_graph name graph ending.status (line_of ending) i i' c c' o none same
   ]
 
-  module _ (name : List ℕ) (file : Option (List ℕ)) (i i' : I) (c c' : C) (o o' : O) (stays : source.faults i' ≡ source.faults i)
+  module _ (name : List ℕ) (graph : GraphText) (i i' : I) (c c' : C) (o o' : O) (stays : source.faults i' ≡ source.faults i)
       (same : kept.faults c' ≡ kept.faults c) where
     -- a write failed
     cut : (end : CoresStatus) (line text : List ℕ) → end ≡ status.WriteFault → line ≡ write_fault_line
-        → (IsRight (known_bytes source.left behind file i) (beside c name) × (text ≡ yes_line))
-        ⊎ ((fault : ClaimFault) × IsWrong fault (known_bytes source.left behind file i) (beside c name) × (text ≡ no_line fault))
+        → (IsRight graph.dialect (known_bytes source.left behind graph.file i) (beside c name) × (text ≡ yes_line))
+        ⊎ ((fault : ClaimFault) × IsWrong fault graph.dialect (known_bytes source.left behind graph.file i) (beside c name) × (text ≡ no_line fault))
         → ((n : ℕ) × (n ≤ length text) × Appends (out.taken o) (out.taken o') (take n text)) → Rose (out.faults o) (out.faults o')
-        → CheckEnded source behind kept beside out name file end line i i' c c' o o'
+        → CheckEnded source behind kept beside out name graph end line i i' c c' o o'
     cut end line text is told verdict took rose =
-        subst (λ (e : CoresStatus). CheckEnded source behind kept beside out name file e line i i' c c' o o') (sym is) (record {
+        subst (λ (e : CoresStatus). CheckEnded source behind kept beside out name graph e line i i' c c' o o') (sym is) (record {
           did = (text, verdict, took, told);
           faults = (stays, same);
           write_faults = rose;
         })
 
     -- yes was said
-    pub CheckEnded-right : (ending wanted : Ending) → IsRight (known_bytes source.left behind file i) (beside c name)
+    pub CheckEnded-right : (ending wanted : Ending) → IsRight graph.dialect (known_bytes source.left behind graph.file i) (beside c name)
         → wanted.status ≡ status.Certified → line_of wanted ≡ []
         → HasSaid ending wanted yes_line (out.taken o) (out.taken o') (out.faults o) (out.faults o')
-        → CheckEnded source behind kept beside out name file ending.status (line_of ending) i i' c c' o o'
+        → CheckEnded source behind kept beside out name graph ending.status (line_of ending) i i' c c' o o'
     CheckEnded-right ending wanted right certified none said = elim said [
       | inl (is, took, unfailed) ↦
-          subst (λ (e : CoresStatus). CheckEnded source behind kept beside out name file e (line_of ending) i i' c c' o o')
+          subst (λ (e : CoresStatus). CheckEnded source behind kept beside out name graph e (line_of ending) i i' c c' o o')
           (sym (ap (λ (e : Ending). e.status) is ∙ certified)) (record {
             did = (right, took, ap line_of is ∙ none);
             faults = (stays, same);
@@ -115,9 +115,10 @@ module _ {I C O : Type 0} (source : sources.Ghosts I) (behind : I → List ℕ �
     ]
 
     -- no was said
-    refuted : (end : CoresStatus) (line : List ℕ) (fault : ClaimFault) → IsWrong fault (known_bytes source.left behind file i) (beside c name)
+    refuted : (end : CoresStatus) (line : List ℕ) (fault : ClaimFault) → IsWrong fault graph.dialect (known_bytes source.left behind graph.file i)
+        (beside c name)
         → RefutedAt end line name fault (out.taken o) (out.taken o') (out.faults o) (out.faults o')
-        → CheckEnded source behind kept beside out name file end line i i' c c' o o'
+        → CheckEnded source behind kept beside out name graph end line i i' c c' o o'
     refuted status.Uncertified line fault wrong (took, told, unfailed) = record {
       did = (fault, wrong, took, told);
       faults = (stays, same);
@@ -127,17 +128,17 @@ module _ {I C O : Type 0} (source : sources.Ghosts I) (behind : I → List ℕ �
     refuted status.NoMemory line fault wrong (took, told, unfailed) = record { did = (told, took); faults = (stays, same); write_faults = unfailed }
     refuted _ line fault wrong h = absurd h
 
-    pub CheckEnded-wrong : (ending : Ending) (fault : ClaimFault) → IsWrong fault (known_bytes source.left behind file i) (beside c name)
+    pub CheckEnded-wrong : (ending : Ending) (fault : ClaimFault) → IsWrong fault graph.dialect (known_bytes source.left behind graph.file i) (beside c name)
         → RefutedAt ending.status (line_of ending) name fault (out.taken o) (out.taken o') (out.faults o) (out.faults o')
-        → CheckEnded source behind kept beside out name file ending.status (line_of ending) i i' c c' o o'
+        → CheckEnded source behind kept beside out name graph ending.status (line_of ending) i i' c c' o o'
     CheckEnded-wrong ending fault wrong h = refuted ending.status (line_of ending) fault wrong h
 
   -- there was no memory for the words
-  no_words : (name : List ℕ) (file : Option (List ℕ)) (end : CoresStatus) (line : List ℕ) (i i' : I) (c c' : C) (o o' : O)
+  no_words : (name : List ℕ) (graph : GraphText) (end : CoresStatus) (line : List ℕ) (i i' : I) (c c' : C) (o o' : O)
       → end ≡ status.NoMemory → line ≡ no_memory_line → i' ≡ i → c' ≡ c → o' ≡ o
-      → CheckEnded source behind kept beside out name file end line i i' c c' o o'
-  no_words name file end line i i' c c' o o' is told one two three =
-      subst (λ (e : CoresStatus). CheckEnded source behind kept beside out name file e line i i' c c' o o') (sym is) (record {
+      → CheckEnded source behind kept beside out name graph end line i i' c c' o o'
+  no_words name graph end line i i' c c' o o' is told one two three =
+      subst (λ (e : CoresStatus). CheckEnded source behind kept beside out name graph e line i i' c c' o o') (sym is) (record {
         did = (told, subst (λ (x : O). Appends (out.taken o) (out.taken x) []) (sym three) (Appends-nil (out.taken o)));
         faults = (ap source.faults one, ap kept.faults two);
         write_faults = ap out.faults three;
@@ -154,16 +155,16 @@ module _ {I C O : Type 0} (source : sources.Ghosts I) (behind : I → List ℕ �
     }
 
     -- a run that checks a certificate has ended as it should
-    pub EndsAsAsked-check : (wish : Wish) (name : List ℕ) (file : Option (List ℕ)) (end : CoresStatus) (line : List ℕ) (i i' : I) (c c' : C) (o o' : O)
-        → wish ≡ Checks name file → CheckEnded source behind kept beside out name file end line i i' c c' o o'
+    pub EndsAsAsked-check : (wish : Wish) (name : List ℕ) (graph : GraphText) (end : CoresStatus) (line : List ℕ) (i i' : I) (c c' : C) (o o' : O)
+        → wish ≡ Checks name graph → CheckEnded source behind kept beside out name graph end line i i' c c' o o'
         → EndsAsAsked source behind kept beside out gone wish end line i i' c c' o o'
-    EndsAsAsked-check wish name file end line i i' c c' o o' is h = record {
+    EndsAsAsked-check wish name graph end line i i' c c' o o' is h = record {
       check = λ n f e.
           let p : name ≡ n = cc in
-          let q : file ≡ f = cc in
+          let q : graph ≡ f = cc in
           subst (λ (x : List ℕ). CheckEnded source behind kept beside out x f end line i i' c c' o o') p
-          (subst (λ (x : Option (List ℕ)). CheckEnded source behind kept beside out name x end line i i' c c' o o') q h);
-      other = λ none. absurd (none name file is);
+          (subst (λ (x : GraphText). CheckEnded source behind kept beside out name x end line i i' c c' o o') q h);
+      other = λ none. absurd (none name graph is);
     }
 
     -- a run that is a reply to its words has ended as it should
@@ -172,15 +173,15 @@ module _ {I C O : Type 0} (source : sources.Ghosts I) (behind : I → List ℕ �
         → (r ≡ reply.NoMemory → (end ≡ status.NoMemory) × (line ≡ no_memory_line) × (i' ≡ i) × (o' ≡ o))
         → EndsAsAsked source behind kept beside out gone wish end line i i' c c' o o'
     EndsAsAsked-reply wish r end line i i' c c' o o' replies h same memory = record {
-      check = λ name file e. go r name file (subst (RepliesTo r) e replies) memory;
+      check = λ name graph e. go r name graph (subst (RepliesTo r) e replies) memory;
       other = λ _. (h, same);
     }
       where
-        go : (r : Reply) (name : List ℕ) (file : Option (List ℕ)) → RepliesTo r (Checks name file)
+        go : (r : Reply) (name : List ℕ) (graph : GraphText) → RepliesTo r (Checks name graph)
             → (r ≡ reply.NoMemory → (end ≡ status.NoMemory) × (line ≡ no_memory_line) × (i' ≡ i) × (o' ≡ o))
-            → CheckEnded source behind kept beside out name file end line i i' c c' o o'
-        go (reply.Asked text) name file replies memory = absurd replies
-        go (reply.Mistake text) name file replies memory = absurd replies
-        go reply.NoMemory name file replies memory =
+            → CheckEnded source behind kept beside out name graph end line i i' c c' o o'
+        go (reply.Asked text) name graph replies memory = absurd replies
+        go (reply.Mistake text) name graph replies memory = absurd replies
+        go reply.NoMemory name graph replies memory =
             let (is, told, one, three) = memory refl in
-            no_words name file end line i i' c c' o o' is told one same three
+            no_words name graph end line i i' c c' o o' is told one same three

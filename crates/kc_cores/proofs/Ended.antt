@@ -1,5 +1,5 @@
 -- A run keeps what `answer` promises: where `clap` replies, where there is no graph, where its lines were written, and where a write failed.
-use Rattle.std.proofs.Common.{◌≡◌, ◌⊎◌, ◌≤◌, ◌∙◌, ℕ, Bool, List, Option, Some, IfSome, ap, inl, inr, length, refl, subst, take}
+use Rattle.std.proofs.Common.{◌≡◌, ◌⊎◌, ◌≤◌, ◌∙◌, ◌++◌, ℕ, Bool, List, Option, Some, IfSome, ap, inl, inr, length, refl, subst, take}
 use Rattle.std.proofs.KnownBytes.{Appends-nil}
 use Rattle.std.specs.Io.KnownBytes.{Appends, IsAtEnd}
 use Rattle.kc_io.specs.Causes.{Rose}
@@ -9,17 +9,25 @@ use Rattle.kc_graph.specs.Core.{AreCoreNumbers}
 use Rattle.kc_graph.specs.SimpleGraph.{SimpleGraph}
 use Rattle.kc_text.specs.declared.kind.Kind.{Kind}
 use Rattle.kc_text.specs.Meaning.{Means, Refuses, Told}
-use Rattle.kc_cores.specs.Answers.{AreLinesFor, graph_meaning, summary_line}
+use Rattle.kc_dialect.specs.declared.dialect.Dialect.{Dialect}
+use Rattle.kc_dialect.specs.declared.skipped.SkippedLines.{SkippedLines}
+use Rattle.kc_cores.specs.Answers.{AreLinesFor, IsRefusedBy, graph_meaning, passed_over, summary_line}
 use Rattle.kc_cores.specs.CoresEnded.{CoresEnded, FaultsAt, IsAnswerTo, IsLineAt, ReaderAt, TookAt, WriteFaultsAt, done_line, given_bytes}
 use Rattle.kc_cores.specs.Endings.{CutAt, NoFileGraphAt}
 use Rattle.kc_cores.specs.Inputs.{IsGraphOf, known_bytes}
+use Rattle.kc_cores.specs.Skips.{skipped_report, told_skips}
 use Rattle.kc_cores.specs.Wishes.{Asks, Query, Wish}
 use Rattle.kc_cores.specs.declared.CoresStatus.{CoresStatus}
 use Rattle.kc_cores.specs.declared.CoresStatus.TheVariants as status
 
+-- words that ask for two queries ask for one
+pub asked-same : (q p : Query) → Asks q ≡ Asks p → q ≡ p
+asked-same q p e = cc
+
 -- bytes do not both mean a graph and have a line that is refused
-clash : (bytes : List ℕ) (told : Told) (n : ℕ) (kind : Kind) → graph_meaning bytes ≡ Means told → graph_meaning bytes ≡ Refuses n kind → ⊥
-clash bytes told n kind means refuses = absurd (cc)
+clash : (dialect : Option Dialect) (bytes : List ℕ) (told : Told) (n : ℕ) (kind : Kind) → graph_meaning dialect bytes ≡ Means told
+    → graph_meaning dialect bytes ≡ Refuses n kind → ⊥
+clash dialect bytes told n kind means refuses = absurd (cc)
 
 -- what is told of all bytes, where they are known, is told of these
 of_known : (P : List ℕ → Type 0) (known : Option (List ℕ)) (bytes : List ℕ) → known ≡ Some bytes → IfSome known P → P bytes
@@ -27,13 +35,13 @@ of_known P known bytes is h = subst (λ (k : Option (List ℕ)). IfSome k P) is 
 
 -- bytes that have an answer are not refused
 answer-clash : (query : Query) (known : Option (List ℕ)) (text summary bytes : List ℕ) (n : ℕ) (kind : Kind)
-    → IsAnswerTo (Asks query) known text summary → known ≡ Some bytes → graph_meaning bytes ≡ Refuses n kind → ⊥
+    → IsAnswerTo (Asks query) known text summary → known ≡ Some bytes → graph_meaning query.graph.dialect bytes ≡ Refuses n kind → ⊥
 answer-clash query known text summary bytes n kind (all, read, is) here refuses =
-    clash all is.told n kind is.means (ap graph_meaning (of_known (λ b. all ≡ b) known bytes here read) ∙ refuses)
+    clash query.graph.dialect all is.told n kind is.means (ap (graph_meaning query.graph.dialect) (of_known (λ b. all ≡ b) known bytes here read) ∙ refuses)
 
 -- where the bytes of a task are refused, the run ends by the refusal, or before it
 refuses-of : (end : CoresStatus) (query : Query) (known before after : Option (List ℕ)) (bytes : List ℕ) (n : ℕ) (kind : Kind)
-    → (end ≡ status.Usage → ⊥) → TookAt end (Asks query) known before after → known ≡ Some bytes → graph_meaning bytes ≡ Refuses n kind
+    → (end ≡ status.Usage → ⊥) → TookAt end (Asks query) known before after → known ≡ Some bytes → graph_meaning query.graph.dialect bytes ≡ Refuses n kind
     → (end ≡ status.Refused) ⊎ (end ≡ status.Unopened) ⊎ (end ≡ status.ReadFault) ⊎ (end ≡ status.NoMemory)
 refuses-of status.Done query known before after bytes n kind right (text, (summary, is), took) here refuses =
     absurd (answer-clash query known text summary bytes n kind is here refuses)
@@ -53,7 +61,7 @@ refuses-of status.Uncertified query known before after bytes n kind right took h
 -- where the bytes of a task mean a graph, the run is not refused
 complete-of : (end : CoresStatus) (query : Query) (known before after : Option (List ℕ)) (line bytes : List ℕ) (told : Told)
     → (end ≡ status.Usage → ⊥) → TookAt end (Asks query) known before after → IsLineAt end (Asks query) known line → known ≡ Some bytes
-    → graph_meaning bytes ≡ Means told
+    → graph_meaning query.graph.dialect bytes ≡ Means told
     → (end ≡ status.Done) ⊎ (end ≡ status.Unopened) ⊎ (end ≡ status.ReadFault) ⊎ (end ≡ status.ReaderGone)
     ⊎ (end ≡ status.WriteFault) ⊎ (end ≡ status.NoMemory)
 complete-of status.Done query known before after line bytes told right took says here means = inl refl
@@ -66,14 +74,17 @@ complete-of status.Certified query known before after line bytes told right took
 complete-of status.Uncertified query known before after line bytes told right took says here means = absurd took
 complete-of status.Usage query known before after line bytes told right took says here means = absurd (right refl)
 complete-of status.Shown query known before after line bytes told right (text, reply, took) says here means = absurd reply
-complete-of status.Refused query known before after line bytes told right took (n, kind, is, refuses) here means =
-    absurd (clash bytes told n kind means (of_known (λ b. graph_meaning b ≡ Refuses n kind) known bytes here refuses))
+complete-of status.Refused query known before after line bytes told right took (asked, placed, same, is, refuses) here means =
+    let q : query ≡ asked = asked-same query asked same in
+    let refused = of_known (λ b. IsRefusedBy asked.graph.dialect b placed) known bytes here refuses in
+    absurd (clash query.graph.dialect bytes told placed.refusal.line placed.refusal.kind means
+    (ap (λ (x : Query). graph_meaning x.graph.dialect bytes) q ∙ refused.0))
 
 -- the graph of the bytes that were read has these lines and this summary
-IsAnswerTo-graph : (query : Query) (ids core text summary : List ℕ) (g : SimpleGraph) (known : Option (List ℕ))
-    → IsGraphOf known ids g → AreCoreNumbers g core → AreLinesFor query.task ids g core text → summary ≡ summary_line g core
-    → IsAnswerTo (Asks query) known text summary
-IsAnswerTo-graph query ids core text summary g known graph numbers lines sums = (
+IsAnswerTo-graph : (query : Query) (ids core text summary : List ℕ) (g : SimpleGraph) (skipped : SkippedLines) (known : Option (List ℕ))
+    → IsGraphOf query.graph.dialect known ids g skipped → AreCoreNumbers g core → AreLinesFor query.task ids g core text
+    → summary ≡ told_skips query.graph.file skipped.count skipped.first.items ++ summary_line g core → IsAnswerTo (Asks query) known text summary
+IsAnswerTo-graph query ids core text summary g skipped known graph numbers lines sums = (
   graph.bytes,
   graph.read,
   record {
@@ -84,7 +95,8 @@ IsAnswerTo-graph query ids core text summary g known graph numbers lines sums = 
     core = core;
     numbers = subst (λ (h : SimpleGraph). AreCoreNumbers h core) graph.is numbers;
     is = subst (λ (h : SimpleGraph). AreLinesFor query.task ids h core text) graph.is lines;
-    sums = sums ∙ ap (λ (h : SimpleGraph). summary_line h core) graph.is;
+    sums = sums ∙ (λ i. told_skips query.graph.file (graph.passed.count i) (graph.passed.first i) ++ summary_line g core)
+        ∙ ap (λ (h : SimpleGraph). skipped_report query.graph.file (passed_over query.graph.dialect graph.bytes) ++ summary_line h core) graph.is;
   },
 )
 
@@ -94,8 +106,8 @@ module _ {I O : Type 0} (source : sources.Ghosts I) (behind : I → List ℕ →
     right : end ≡ status.Usage → ⊥
     asked : end ≡ status.Shown → ⊥
     read : end ≡ status.Done → IsAtEnd (source.left i')
-    took : TookAt end (Asks query) (known_bytes source.left behind query.file i) (out.taken o) (out.taken o')
-    says : IsLineAt end (Asks query) (known_bytes source.left behind query.file i) line
+    took : TookAt end (Asks query) (known_bytes source.left behind query.graph.file i) (out.taken o) (out.taken o')
+    says : IsLineAt end (Asks query) (known_bytes source.left behind query.graph.file i) line
     faults : FaultsAt end (source.faults i) (source.faults i')
     write_faults : WriteFaultsAt end (out.faults o) (out.faults o')
     reader : ReaderAt end (gone o')
@@ -114,22 +126,26 @@ module _ {I O : Type 0} (source : sources.Ghosts I) (behind : I → List ℕ →
     write_faults = h.write_faults;
     reader = h.reader;
     refuses = λ q bytes n kind asks here refuses.
-        refuses-of end query (known_bytes source.left behind query.file i) (out.taken o) (out.taken o') bytes n kind h.right h.took
-        (ap (λ (w : Wish). given_bytes source.left behind w i) asks ∙ here) refuses;
+        refuses-of end query (known_bytes source.left behind query.graph.file i) (out.taken o) (out.taken o') bytes n kind h.right h.took
+        (ap (λ (w : Wish). given_bytes source.left behind w i) asks ∙ here)
+        (ap (λ (x : Query). graph_meaning x.graph.dialect bytes) (asked-same query q asks) ∙ refuses);
     complete = λ q bytes told asks here means.
-        complete-of end query (known_bytes source.left behind query.file i) (out.taken o) (out.taken o') line bytes told h.right h.took h.says
-        (ap (λ (w : Wish). given_bytes source.left behind w i) asks ∙ here) means;
+        complete-of end query (known_bytes source.left behind query.graph.file i) (out.taken o) (out.taken o') line bytes told h.right h.took h.says
+        (ap (λ (w : Wish). given_bytes source.left behind w i) asks ∙ here)
+        (ap (λ (x : Query). graph_meaning x.graph.dialect bytes) (asked-same query q asks) ∙ means);
   }
 
   -- a run whose lines were taken has ended as it should
-  pub CoresEnded-done : (query : Query) (ids core text summary : List ℕ) (g : SimpleGraph) (i i' : I) (o o' : O)
-      → IsGraphOf (known_bytes source.left behind query.file i) ids g → AreCoreNumbers g core → AreLinesFor query.task ids g core text
-      → summary ≡ summary_line g core → IsAtEnd (source.left i') → source.faults i' ≡ source.faults i
+  pub CoresEnded-done : (query : Query) (ids core text summary : List ℕ) (g : SimpleGraph) (skipped : SkippedLines) (i i' : I) (o o' : O)
+      → IsGraphOf query.graph.dialect (known_bytes source.left behind query.graph.file i) ids g skipped → AreCoreNumbers g core
+      → AreLinesFor query.task ids g core text
+      → summary ≡ told_skips query.graph.file skipped.count skipped.first.items ++ summary_line g core → IsAtEnd (source.left i')
+      → source.faults i' ≡ source.faults i
       → Appends (out.taken o) (out.taken o') text → out.faults o' ≡ out.faults o
       → CoresEnded source behind out gone (Asks query) status.Done (done_line query.quiet summary) i i' o o'
-  CoresEnded-done query ids core text summary g i i' o o' graph numbers lines sums ended faultless took kept =
-      let answer : IsAnswerTo (Asks query) (known_bytes source.left behind query.file i) text summary =
-      IsAnswerTo-graph query ids core text summary g (known_bytes source.left behind query.file i) graph numbers lines sums in
+  CoresEnded-done query ids core text summary g skipped i i' o o' graph numbers lines sums ended faultless took kept =
+      let answer : IsAnswerTo (Asks query) (known_bytes source.left behind query.graph.file i) text summary =
+      IsAnswerTo-graph query ids core text summary g skipped (known_bytes source.left behind query.graph.file i) graph numbers lines sums in
       CoresEnded-asks query status.Done (done_line query.quiet summary) i i' o o' (record {
         right = λ e. absurd (cc);
         asked = λ e. absurd (cc);
@@ -142,16 +158,17 @@ module _ {I O : Type 0} (source : sources.Ghosts I) (behind : I → List ℕ →
       })
 
   -- a run a prefix of whose lines was taken has ended as it should
-  pub CoresEnded-cut : (query : Query) (ids core text summary : List ℕ) (g : SimpleGraph) (end : CoresStatus) (line : List ℕ)
+  pub CoresEnded-cut : (query : Query) (ids core text summary : List ℕ) (g : SimpleGraph) (skipped : SkippedLines) (end : CoresStatus) (line : List ℕ)
       (i i' : I) (o o' : O)
-      → IsGraphOf (known_bytes source.left behind query.file i) ids g → AreCoreNumbers g core → AreLinesFor query.task ids g core text
-      → summary ≡ summary_line g core → source.faults i' ≡ source.faults i
+      → IsGraphOf query.graph.dialect (known_bytes source.left behind query.graph.file i) ids g skipped → AreCoreNumbers g core
+      → AreLinesFor query.task ids g core text
+      → summary ≡ told_skips query.graph.file skipped.count skipped.first.items ++ summary_line g core → source.faults i' ≡ source.faults i
       → ((n : ℕ) × (n ≤ length text) × Appends (out.taken o) (out.taken o') (take n text))
       → Rose (out.faults o) (out.faults o') → CutAt end line (gone o')
       → CoresEnded source behind out gone (Asks query) end line i i' o o'
-  CoresEnded-cut query ids core text summary g status.WriteFault line i i' o o' graph numbers lines sums faultless took rose (is, stays) =
-      let answer : IsAnswerTo (Asks query) (known_bytes source.left behind query.file i) text summary =
-      IsAnswerTo-graph query ids core text summary g (known_bytes source.left behind query.file i) graph numbers lines sums in
+  CoresEnded-cut query ids core text summary g skipped status.WriteFault line i i' o o' graph numbers lines sums faultless took rose (is, stays) =
+      let answer : IsAnswerTo (Asks query) (known_bytes source.left behind query.graph.file i) text summary =
+      IsAnswerTo-graph query ids core text summary g skipped (known_bytes source.left behind query.graph.file i) graph numbers lines sums in
       CoresEnded-asks query status.WriteFault line i i' o o' (record {
         right = λ e. absurd (cc);
         asked = λ e. absurd (cc);
@@ -162,9 +179,9 @@ module _ {I O : Type 0} (source : sources.Ghosts I) (behind : I → List ℕ →
         write_faults = rose;
         reader = stays;
       })
-  CoresEnded-cut query ids core text summary g status.ReaderGone line i i' o o' graph numbers lines sums faultless took rose (is, left) =
-      let answer : IsAnswerTo (Asks query) (known_bytes source.left behind query.file i) text summary =
-      IsAnswerTo-graph query ids core text summary g (known_bytes source.left behind query.file i) graph numbers lines sums in
+  CoresEnded-cut query ids core text summary g skipped status.ReaderGone line i i' o o' graph numbers lines sums faultless took rose (is, left) =
+      let answer : IsAnswerTo (Asks query) (known_bytes source.left behind query.graph.file i) text summary =
+      IsAnswerTo-graph query ids core text summary g skipped (known_bytes source.left behind query.graph.file i) graph numbers lines sums in
       CoresEnded-asks query status.ReaderGone line i i' o o' (record {
         right = λ e. absurd (cc);
         asked = λ e. absurd (cc);
@@ -175,19 +192,19 @@ module _ {I O : Type 0} (source : sources.Ghosts I) (behind : I → List ℕ →
         write_faults = rose;
         reader = left;
       })
-  CoresEnded-cut query ids core text summary g status.Done line i i' o o' graph numbers lines sums faultless took rose h = absurd h
-  CoresEnded-cut query ids core text summary g status.Certified line i i' o o' graph numbers lines sums faultless took rose h = absurd h
-  CoresEnded-cut query ids core text summary g status.Uncertified line i i' o o' graph numbers lines sums faultless took rose h = absurd h
-  CoresEnded-cut query ids core text summary g status.Shown line i i' o o' graph numbers lines sums faultless took rose h = absurd h
-  CoresEnded-cut query ids core text summary g status.Usage line i i' o o' graph numbers lines sums faultless took rose h = absurd h
-  CoresEnded-cut query ids core text summary g status.Refused line i i' o o' graph numbers lines sums faultless took rose h = absurd h
-  CoresEnded-cut query ids core text summary g status.Unopened line i i' o o' graph numbers lines sums faultless took rose h = absurd h
-  CoresEnded-cut query ids core text summary g status.ReadFault line i i' o o' graph numbers lines sums faultless took rose h = absurd h
-  CoresEnded-cut query ids core text summary g status.NoMemory line i i' o o' graph numbers lines sums faultless took rose h = absurd h
+  CoresEnded-cut query ids core text summary g skipped status.Done line i i' o o' graph numbers lines sums faultless took rose h = absurd h
+  CoresEnded-cut query ids core text summary g skipped status.Certified line i i' o o' graph numbers lines sums faultless took rose h = absurd h
+  CoresEnded-cut query ids core text summary g skipped status.Uncertified line i i' o o' graph numbers lines sums faultless took rose h = absurd h
+  CoresEnded-cut query ids core text summary g skipped status.Shown line i i' o o' graph numbers lines sums faultless took rose h = absurd h
+  CoresEnded-cut query ids core text summary g skipped status.Usage line i i' o o' graph numbers lines sums faultless took rose h = absurd h
+  CoresEnded-cut query ids core text summary g skipped status.Refused line i i' o o' graph numbers lines sums faultless took rose h = absurd h
+  CoresEnded-cut query ids core text summary g skipped status.Unopened line i i' o o' graph numbers lines sums faultless took rose h = absurd h
+  CoresEnded-cut query ids core text summary g skipped status.ReadFault line i i' o o' graph numbers lines sums faultless took rose h = absurd h
+  CoresEnded-cut query ids core text summary g skipped status.NoMemory line i i' o o' graph numbers lines sums faultless took rose h = absurd h
 
   -- a run that has no graph has ended as it should
   pub CoresEnded-no_graph : (query : Query) (end : CoresStatus) (line : List ℕ) (i i' : I) (o : O)
-      → NoFileGraphAt end line query.file (known_bytes source.left behind query.file i) (source.faults i) (source.faults i')
+      → NoFileGraphAt end line query.graph (known_bytes source.left behind query.graph.file i) (source.faults i) (source.faults i')
       → CoresEnded source behind out gone (Asks query) end line i i' o o
   CoresEnded-no_graph query status.Unopened line i i' o (name, fault, is, told, rose) =
       CoresEnded-asks query status.Unopened line i i' o o (record {
@@ -200,13 +217,13 @@ module _ {I O : Type 0} (source : sources.Ghosts I) (behind : I → List ℕ →
         write_faults = refl;
         reader = tt;
       })
-  CoresEnded-no_graph query status.Refused line i i' o (n, kind, is, means, kept) =
+  CoresEnded-no_graph query status.Refused line i i' o (placed, is, means, kept) =
       CoresEnded-asks query status.Refused line i i' o o (record {
         right = λ e. absurd (cc);
         asked = λ e. absurd (cc);
         read = λ e. absurd (cc);
         took = Appends-nil (out.taken o);
-        says = (n, kind, is, means);
+        says = (query, placed, refl, is, means);
         faults = kept;
         write_faults = refl;
         reader = tt;

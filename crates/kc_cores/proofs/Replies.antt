@@ -5,7 +5,6 @@ use Rattle.clap.specs.Kinds.{IsAmong, Kinds}
 use Rattle.clap.specs.Simple.{subcommand_of}
 use Rattle.clap.specs.Walk.{Row, Text, is_empty}
 use Rattle.clap.specs.declared.error.kind.ErrorKind.{ErrorKind}
-use Rattle.clap.specs.declared.error.kind.ErrorKind.TheVariants.{InvalidSubcommand}
 use Rattle.kc_cores.specs.Endings.{IsReplyFor, RepliesTo}
 use Rattle.kc_cores.specs.Wishes.{Replies, Wish, cores_command, wish_in, wish_of}
 use Rattle.kc_cores.specs.declared.words.Reply.{Reply}
@@ -17,10 +16,6 @@ pub RepliesTo-among : (r : Reply) (kind : ErrorKind) (kinds : Kinds) (wish : Wis
 RepliesTo-among (reply.Asked text) kind kinds wish h among is = subst (λ w. RepliesTo (reply.Asked text) w) (sym is) (kind, among, h)
 RepliesTo-among (reply.Mistake text) kind kinds wish h among is = subst (λ w. RepliesTo (reply.Mistake text) w) (sym is) (kind, among, h)
 RepliesTo-among reply.NoMemory kind kinds wish h among is = tt
-
--- the reply where no command was met
-pub RepliesTo-no_command : (r : Reply) (wish : Wish) → IsReplyFor r InvalidSubcommand → wish ≡ Replies (InvalidSubcommand ∷ []) → RepliesTo r wish
-RepliesTo-no_command r wish h is = RepliesTo-among r InvalidSubcommand (InvalidSubcommand ∷ []) wish h (inl refl) is
 
 -- where no fault is promised, the words ask for what the command that was met asks for
 pub wish-right : (words : List Text) (met : Option (Text × List Row)) → fault_of cores_command words ≡ [] → met ≡ subcommand_of cores_command words

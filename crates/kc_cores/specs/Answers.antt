@@ -1,23 +1,46 @@
 -- The lines that each task has for the graph of a text.
-use Rattle.std.specs.Prelude.{◌≡◌, ◌+◌, ◌++◌, ◌&&◌, ◌==◌, ℕ, Bool, List, [], ◌∷◌, Option, codes, decimal, filter, length, nat_le, unwrap_or}
+use Rattle.std.specs.Prelude.{◌≡◌, ◌+◌, ◌++◌, ◌&&◌, ◌==◌, ℕ, Bool, List, [], ◌∷◌, Option, None, Some, codes, decimal, filter, length, nat_le, unwrap_or}
 use Rattle.std.specs.FinSet as set
 use Rattle.std.specs.List.{flat_map}
+use Rattle.kc_dialect.specs.Dialects.{bad_lines}
+use Rattle.kc_dialect.specs.declared.bad_line.BadLine.{BadLine}
+use Rattle.kc_dialect.specs.declared.dialect.Dialect.{Dialect}
+use Rattle.kc_dialect_read.specs.Meanings.{bad_column, dialect_meaning}
+use Rattle.kc_dialect_read.specs.declared.fault.PlacedRefusal.{PlacedRefusal}
 use Rattle.kc_flat.specs.Listing.{ascending_below, edge_list}
 use Rattle.kc_graph.specs.Certificate.{Certifies}
 use Rattle.kc_graph.specs.Core.{AreCoreNumbers, greatest}
 use Rattle.kc_graph.specs.Peeling.{at}
 use Rattle.kc_graph.specs.SimpleGraph.{SimpleGraph}
 use Rattle.kc_text.specs.Inputs.{AreIds, start_graph}
-use Rattle.kc_text.specs.Meaning.{Means, Meaning, Told, meaning, names}
+use Rattle.kc_text.specs.Meaning.{Means, Meaning, Refuses, Told, meaning, names}
 use Rattle.kc_text.specs.declared.limits.TheConstants.Limits.{GRAPH}
 use Rattle.kc_tally.specs.Layers.{AreLayers}
 use Rattle.kc_cores.specs.Lines.{ended, pair_line, quadruple_line, triple_line}
+use Rattle.kc_cores.specs.Skips.{skipped_report}
+use Rattle.kc_cores.specs.Wishes.{Query}
 use Rattle.kc_cores.specs.declared.request.Task.{Task}
 use Rattle.kc_cores.specs.declared.request.Task.TheVariants.{Numbers, Sizes, Members, Edges, Layers, Order}
 
--- what the text of a graph means: there may be no batch line, and all else may be as much as numbers count
-unfoldable pub graph_meaning : List ℕ → Meaning
-graph_meaning bytes = meaning GRAPH bytes
+-- What the text of a graph means, in a dialect if it is in one: there may be no batch line, and all else may be as much as numbers count.
+unfoldable pub graph_meaning : Option Dialect → List ℕ → Meaning
+graph_meaning None bytes = meaning GRAPH bytes
+graph_meaning (Some dialect) bytes = dialect_meaning dialect bytes
+
+-- in which column a text is refused, where one is meant
+abbrev pub refused_column : Option Dialect → List ℕ → Option ℕ
+refused_column None bytes = None
+refused_column (Some dialect) bytes = bad_column dialect bytes
+
+-- the text of a graph is refused, with this line, column and cause
+abbrev pub IsRefusedBy : Option Dialect → List ℕ → PlacedRefusal → Type 0
+IsRefusedBy dialect bytes placed =
+    (graph_meaning dialect bytes ≡ Refuses placed.refusal.line placed.refusal.kind) × (placed.column ≡ refused_column dialect bytes)
+
+-- the bad lines of a text in a dialect, if it is in one
+abbrev pub passed_over : Option Dialect → List ℕ → List BadLine
+passed_over None bytes = []
+passed_over (Some dialect) bytes = bad_lines dialect bytes
 
 -- whether a vertex is in the k-core: its core number is k or more
 abbrev pub is_in_core : List ℕ → ℕ → ℕ → Bool
@@ -81,13 +104,14 @@ abbrev pub summary_line : SimpleGraph → List ℕ → List ℕ
 summary_line g core =
     codes "vertices " ++ (decimal g.size ++ (codes " edges " ++ (decimal (set.len g.edges) ++ (codes " top " ++ (decimal (greatest core) ++ 10 ∷ [])))))
 
--- The bytes mean a graph without batches, whose vertices stand for the ids in ascending order; these are its lines for the task, and its summary.
-pub record IsTextFor (task : Task) (bytes text summary : List ℕ) : Type 0 where
+-- The bytes mean a graph without batches, whose vertices stand for the ids in ascending order. These are its lines for the task, and what is
+-- told of the run: the bad lines that were passed over, and the summary of the graph.
+pub record IsTextFor (query : Query) (bytes text summary : List ℕ) : Type 0 where
   pub told : Told
-  pub means : graph_meaning bytes ≡ Means told
+  pub means : graph_meaning query.graph.dialect bytes ≡ Means told
   pub ids : List ℕ
   pub named : AreIds (names told) ids
   pub core : List ℕ
   pub numbers : AreCoreNumbers (start_graph ids told.edges) core
-  pub is : AreLinesFor task ids (start_graph ids told.edges) core text
-  pub sums : summary ≡ summary_line (start_graph ids told.edges) core
+  pub is : AreLinesFor query.task ids (start_graph ids told.edges) core text
+  pub sums : summary ≡ skipped_report query.graph.file (passed_over query.graph.dialect bytes) ++ summary_line (start_graph ids told.edges) core

@@ -4,9 +4,10 @@ use Rattle.std.specs.Io.KnownBytes.{Appends}
 use Rattle.kc_io.specs.Causes.{Rose}
 use Rattle.kc_io.specs.declared.sink.Sink as sinks
 use Rattle.kc_io.specs.declared.source.Source as sources
+use Rattle.kc_dialect.specs.declared.dialect.Dialect.{Dialect}
+use Rattle.kc_dialect.specs.declared.skipped.SkippedLines.{SkippedLines}
+use Rattle.kc_dialect_read.specs.declared.fault.PlacedRefusal.{PlacedRefusal}
 use Rattle.kc_graph.specs.SimpleGraph.{SimpleGraph}
-use Rattle.kc_text.specs.Meaning.{Refuses}
-use Rattle.kc_text.specs.declared.kind.Kind.{Kind}
 use Rattle.kc_text.specs.declared.kind.Kind.TheVariants.{TooLong}
 use Rattle.kc_text.specs.declared.limits.TheConstants.Limits.{GRAPH}
 use Rattle.kc_text.specs.declared.refusal.Refusal.{Refusal}
@@ -14,12 +15,12 @@ use Rattle.kc_claims.specs.Certificates.{AreCertificate, IsFirstFault, TellCoreN
 use Rattle.kc_claims.specs.Claims.{claims_of}
 use Rattle.kc_claims.specs.declared.claim.Claim.{Claim}
 use Rattle.kc_claims.specs.declared.fault.ClaimFault.{ClaimFault}
-use Rattle.kc_cores.specs.Answers.{graph_meaning}
+use Rattle.kc_cores.specs.Answers.{IsRefusedBy}
 use Rattle.kc_cores.specs.CoresEnded.{CoresEnded, IsUnopenedLine, WriteFaultsAt}
 use Rattle.kc_cores.specs.Inputs.{IsGraphOf, known_bytes}
 use Rattle.kc_cores.specs.Sentences.{no_memory_line, read_fault_line, refused_line, write_fault_line}
 use Rattle.kc_cores.specs.Verdicts.{claim_refused_line, fault_line, no_line, yes_line}
-use Rattle.kc_cores.specs.Wishes.{Checks, Wish}
+use Rattle.kc_cores.specs.Wishes.{Checks, GraphText, Wish}
 use Rattle.kc_cores.specs.declared.CoresStatus.{CoresStatus}
 use Rattle.kc_cores.specs.declared.CoresStatus.TheVariants as status
 use Rattle.kc_cores.specs.declared.input.FileFault.{FileFault}
@@ -35,47 +36,49 @@ pub record AreClaimsOf (known : Option (List ℕ)) (claims : List Claim) : Type 
   pub means : certificate_meaning text ≡ Ok claims
 
 -- what holds of the graph and the claims that were read
-pub record HoldsOfBoth (P : List ℕ → SimpleGraph → List Claim → Type 0) (known certificate : Option (List ℕ)) : Type 0 where
+pub record HoldsOfBoth (P : List ℕ → SimpleGraph → List Claim → Type 0) (dialect : Option Dialect) (known certificate : Option (List ℕ)) : Type 0 where
   pub ids : List ℕ
   pub g : SimpleGraph
   pub claims : List Claim
-  pub graph : IsGraphOf known ids g
+  pub skipped : SkippedLines
+  pub graph : IsGraphOf dialect known ids g skipped
   pub claimed : AreClaimsOf certificate claims
   pub found : P ids g claims
 
 -- the claims are a certificate, and so they tell each id its core number
-abbrev pub IsRight : Option (List ℕ) → Option (List ℕ) → Type 0
+abbrev pub IsRight : Option Dialect → Option (List ℕ) → Option (List ℕ) → Type 0
 IsRight = HoldsOfBoth (λ ids g claims. AreCertificate ids g claims × TellCoreNumbers ids g claims)
 
 -- the claims are none, and this is the first fault
-abbrev pub IsWrong : ClaimFault → Option (List ℕ) → Option (List ℕ) → Type 0
+abbrev pub IsWrong : ClaimFault → Option Dialect → Option (List ℕ) → Option (List ℕ) → Type 0
 IsWrong fault = HoldsOfBoth (λ ids g claims. IsFirstFault ids g claims fault)
 
 -- the answer to what was read
-abbrev pub IsVerdictOn : Option (List ℕ) → Option (List ℕ) → List ℕ → Type 0
-IsVerdictOn known certificate text =
-    (IsRight known certificate × (text ≡ yes_line)) ⊎ ((fault : ClaimFault) × IsWrong fault known certificate × (text ≡ no_line fault))
+abbrev pub IsVerdictOn : Option Dialect → Option (List ℕ) → Option (List ℕ) → List ℕ → Type 0
+IsVerdictOn dialect known certificate text =
+    (IsRight dialect known certificate × (text ≡ yes_line)) ⊎ ((fault : ClaimFault) × IsWrong fault dialect known certificate × (text ≡ no_line fault))
 
 -- why a line is refused: one of the graph, or one of the certificate
-abbrev pub IsRefusedLine : List ℕ → Option (List ℕ) → Option (List ℕ) → List ℕ → Type 0
-IsRefusedLine name known certificate line =
-    ((n : ℕ) × (kind : Kind) × (line ≡ refused_line n kind) × IfSome known (λ bytes. graph_meaning bytes ≡ Refuses n kind))
+abbrev pub IsRefusedLine : List ℕ → GraphText → Option (List ℕ) → Option (List ℕ) → List ℕ → Type 0
+IsRefusedLine name graph known certificate line =
+    ((placed : PlacedRefusal) × (line ≡ refused_line graph.file placed) × IfSome known (λ bytes. IsRefusedBy graph.dialect bytes placed))
     ⊎ ((refusal : Refusal) × (line ≡ claim_refused_line name refusal) × IfSome certificate (λ text. certificate_meaning text ≡ Err refusal))
 
 -- At each status what was found, what the sink took, and what is told. `name` is that of the certificate, and `known` and `certificate` are the
 -- bytes of the graph and of the certificate, where they are known.
-abbrev pub CheckAt : CoresStatus → List ℕ → Option (List ℕ) → Option (List ℕ) → Option (List ℕ) → Option (List ℕ) → Option (List ℕ) → List ℕ → Type 0
-CheckAt status.Certified name file known certificate before after line = IsRight known certificate × Appends before after yes_line × (line ≡ [])
-CheckAt status.Uncertified name file known certificate before after line =
-    (fault : ClaimFault) × IsWrong fault known certificate × Appends before after (no_line fault) × (line ≡ fault_line name fault)
-CheckAt status.WriteFault name file known certificate before after line =
-    (text : List ℕ) × IsVerdictOn known certificate text × ((n : ℕ) × (n ≤ length text) × Appends before after (take n text)) × (line ≡ write_fault_line)
-CheckAt status.Refused name file known certificate before after line = IsRefusedLine name known certificate line × Appends before after []
-CheckAt status.Unopened name file known certificate before after line =
-    ((opened : List ℕ) × (fault : FileFault) × ((opened ≡ name) ⊎ (file ≡ Some opened)) × IsUnopenedLine opened fault line) × Appends before after []
-CheckAt status.ReadFault name file known certificate before after line = (line ≡ read_fault_line) × Appends before after []
-CheckAt status.NoMemory name file known certificate before after line = (line ≡ no_memory_line) × Appends before after []
-CheckAt _ name file known certificate before after line = ⊥
+abbrev pub CheckAt : CoresStatus → List ℕ → GraphText → Option (List ℕ) → Option (List ℕ) → Option (List ℕ) → Option (List ℕ) → List ℕ → Type 0
+CheckAt status.Certified name graph known certificate before after line = IsRight graph.dialect known certificate × Appends before after yes_line × (line ≡ [])
+CheckAt status.Uncertified name graph known certificate before after line =
+    (fault : ClaimFault) × IsWrong fault graph.dialect known certificate × Appends before after (no_line fault) × (line ≡ fault_line name fault)
+CheckAt status.WriteFault name graph known certificate before after line =
+    (text : List ℕ) × IsVerdictOn graph.dialect known certificate text × ((n : ℕ) × (n ≤ length text) × Appends before after (take n text)) × (line ≡
+    write_fault_line)
+CheckAt status.Refused name graph known certificate before after line = IsRefusedLine name graph known certificate line × Appends before after []
+CheckAt status.Unopened name graph known certificate before after line =
+    ((opened : List ℕ) × (fault : FileFault) × ((opened ≡ name) ⊎ (graph.file ≡ Some opened)) × IsUnopenedLine opened fault line) × Appends before after []
+CheckAt status.ReadFault name graph known certificate before after line = (line ≡ read_fault_line) × Appends before after []
+CheckAt status.NoMemory name graph known certificate before after line = (line ≡ no_memory_line) × Appends before after []
+CheckAt _ name graph known certificate before after line = ⊥
 
 -- what became of the counts of faults of the input and of the certificate: one rose where a file was not opened or a call failed
 abbrev pub CheckFaultsAt : CoresStatus → ℕ → ℕ → ℕ → ℕ → Type 0
@@ -86,9 +89,9 @@ CheckFaultsAt _ i i' c c' = (i' ≡ i) × (c' ≡ c)
 -- A run has ended that checks the certificate of this name for the graph of a file, or of standard input. `i` is its input, `c` what has its
 -- certificate, and `o` the sink of its answer, each before and after; the other arguments say what is known of them.
 pub record CheckEnded {I C O : Type 0} (source : sources.Ghosts I) (behind : I → List ℕ → Option (List ℕ)) (kept : sources.Ghosts C)
-    (beside : C → List ℕ → Option (List ℕ)) (out : sinks.Ghosts O) (name : List ℕ) (file : Option (List ℕ)) (end : CoresStatus) (told : List ℕ)
+    (beside : C → List ℕ → Option (List ℕ)) (out : sinks.Ghosts O) (name : List ℕ) (graph : GraphText) (end : CoresStatus) (told : List ℕ)
     (i i' : I) (c c' : C) (o o' : O) : Type 0 where
-  pub did : CheckAt end name file (known_bytes source.left behind file i) (beside c name) (out.taken o) (out.taken o') told
+  pub did : CheckAt end name graph (known_bytes source.left behind graph.file i) (beside c name) (out.taken o) (out.taken o') told
   pub faults : CheckFaultsAt end (source.faults i) (source.faults i') (kept.faults c) (kept.faults c')
   pub write_faults : WriteFaultsAt end (out.faults o) (out.faults o')
 
@@ -97,6 +100,6 @@ pub record CheckEnded {I C O : Type 0} (source : sources.Ghosts I) (behind : I �
 pub record EndsAsAsked {I C O : Type 0} (source : sources.Ghosts I) (behind : I → List ℕ → Option (List ℕ)) (kept : sources.Ghosts C)
     (beside : C → List ℕ → Option (List ℕ)) (out : sinks.Ghosts O) (gone : O → Bool) (wish : Wish) (end : CoresStatus) (told : List ℕ)
     (i i' : I) (c c' : C) (o o' : O) : Type 0 where
-  pub check : (name : List ℕ) (file : Option (List ℕ)) → wish ≡ Checks name file → CheckEnded source behind kept beside out name file end told i i' c c' o o'
-  pub other : ((name : List ℕ) (file : Option (List ℕ)) → wish ≡ Checks name file → ⊥)
+  pub check : (name : List ℕ) (graph : GraphText) → wish ≡ Checks name graph → CheckEnded source behind kept beside out name graph end told i i' c c' o o'
+  pub other : ((name : List ℕ) (graph : GraphText) → wish ≡ Checks name graph → ⊥)
       → CoresEnded source behind out gone wish end told i i' o o' × (c' ≡ c)

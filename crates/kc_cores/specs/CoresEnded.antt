@@ -8,7 +8,8 @@ use Rattle.kc_io.specs.declared.source.Source as sources
 use Rattle.kc_text.specs.declared.kind.Kind.{Kind}
 use Rattle.kc_text.specs.Meaning.{Means, Refuses, Told}
 use Rattle.clap.specs.Kinds.{Kinds}
-use Rattle.kc_cores.specs.Answers.{IsTextFor, graph_meaning}
+use Rattle.kc_dialect_read.specs.declared.fault.PlacedRefusal.{PlacedRefusal}
+use Rattle.kc_cores.specs.Answers.{IsRefusedBy, IsTextFor, graph_meaning}
 use Rattle.kc_cores.specs.Inputs.{known_bytes}
 use Rattle.kc_cores.specs.Sentences.{no_memory_line, read_fault_line, refused_line, unopened_line, unopened_short_line, write_fault_line}
 use Rattle.kc_cores.specs.Wishes.{Asks, Checks, MayReply, Query, Replies, Wish}
@@ -18,14 +19,14 @@ use Rattle.kc_cores.specs.declared.input.FileFault.{FileFault}
 
 -- the bytes that a run reads, where they are known
 abbrev pub given_bytes : {I : Type 0} → (I → Option (List ℕ)) → (I → List ℕ → Option (List ℕ)) → Wish → I → Option (List ℕ)
-given_bytes left behind (Asks query) i = known_bytes left behind query.file i
-given_bytes left behind (Checks name file) i = None
+given_bytes left behind (Asks query) i = known_bytes left behind query.graph.file i
+given_bytes left behind (Checks name graph) i = None
 given_bytes left behind (Replies kinds) i = None
 
 -- the lines and the summary of what was read, which is all of the input where it is known
 abbrev pub IsAnswerTo : Wish → Option (List ℕ) → List ℕ → List ℕ → Type 0
-IsAnswerTo (Asks query) known text summary = (bytes : List ℕ) × IfSome known (λ all. bytes ≡ all) × IsTextFor query.task bytes text summary
-IsAnswerTo (Checks name file) known text summary = ⊥
+IsAnswerTo (Asks query) known text summary = (bytes : List ℕ) × IfSome known (λ all. bytes ≡ all) × IsTextFor query bytes text summary
+IsAnswerTo (Checks name graph) known text summary = ⊥
 IsAnswerTo (Replies kinds) known text summary = ⊥
 
 -- all of a text was taken, with this fact about it
@@ -39,7 +40,7 @@ TookPrefix P before after = (text : List ℕ) × P text × ((n : ℕ) × (n ≤ 
 -- what a run has to write: the lines that are asked for, or help or the version
 abbrev pub IsOutputFor : Wish → Option (List ℕ) → List ℕ → Type 0
 IsOutputFor (Asks query) known text = (summary : List ℕ) × IsAnswerTo (Asks query) known text summary
-IsOutputFor (Checks name file) known text = ⊥
+IsOutputFor (Checks name graph) known text = ⊥
 IsOutputFor (Replies kinds) known text = MayReply true (Replies kinds)
 
 -- what the sink of the lines took at each status
@@ -118,9 +119,10 @@ IsLineAt status.Done wish known line =
 IsLineAt status.Shown wish known line = line ≡ []
 IsLineAt status.Usage wish known line = ⊤
 IsLineAt status.Refused wish known line =
-    (n : ℕ) × (kind : Kind) × (line ≡ refused_line n kind) × IfSome known (λ bytes. graph_meaning bytes ≡ Refuses n kind)
+    (query : Query) × (placed : PlacedRefusal) × (wish ≡ Asks query) × (line ≡ refused_line query.graph.file placed)
+    × IfSome known (λ bytes. IsRefusedBy query.graph.dialect bytes placed)
 IsLineAt status.Unopened wish known line =
-    (query : Query) × (name : List ℕ) × (fault : FileFault) × (wish ≡ Asks query) × (query.file ≡ Some name) × IsUnopenedLine name fault line
+    (query : Query) × (name : List ℕ) × (fault : FileFault) × (wish ≡ Asks query) × (query.graph.file ≡ Some name) × IsUnopenedLine name fault line
 IsLineAt status.ReadFault wish known line = line ≡ read_fault_line
 IsLineAt status.WriteFault wish known line = line ≡ write_fault_line
 IsLineAt status.ReaderGone wish known line = line ≡ []
@@ -146,9 +148,9 @@ pub record CoresEnded {I O : Type 0} (source : sources.Ghosts I) (behind : I →
   pub write_faults : WriteFaultsAt end (out.faults o) (out.faults o')
   pub reader : ReaderAt end (gone o')
   pub refuses : (query : Query) (bytes : List ℕ) (n : ℕ) (kind : Kind) → wish ≡ Asks query
-      → known_bytes source.left behind query.file i ≡ Some bytes → graph_meaning bytes ≡ Refuses n kind
+      → known_bytes source.left behind query.graph.file i ≡ Some bytes → graph_meaning query.graph.dialect bytes ≡ Refuses n kind
       → (end ≡ status.Refused) ⊎ (end ≡ status.Unopened) ⊎ (end ≡ status.ReadFault) ⊎ (end ≡ status.NoMemory)
   pub complete : (query : Query) (bytes : List ℕ) (all : Told) → wish ≡ Asks query
-      → known_bytes source.left behind query.file i ≡ Some bytes → graph_meaning bytes ≡ Means all
+      → known_bytes source.left behind query.graph.file i ≡ Some bytes → graph_meaning query.graph.dialect bytes ≡ Means all
       → (end ≡ status.Done) ⊎ (end ≡ status.Unopened) ⊎ (end ≡ status.ReadFault) ⊎ (end ≡ status.ReaderGone)
       ⊎ (end ≡ status.WriteFault) ⊎ (end ≡ status.NoMemory)

@@ -3,17 +3,16 @@ use Rattle.std.specs.Prelude.{◌≡◌, ◌⊎◌, ◌≤◌, ℕ, Bool, Result
 use Rattle.std.specs.Io.KnownBytes.{Appends}
 use Rattle.kc_io.specs.Causes.{Rose}
 use Rattle.clap.specs.declared.error.kind.ErrorKind.{ErrorKind}
-use Rattle.kc_text.specs.Meaning.{Refuses}
-use Rattle.kc_text.specs.declared.kind.Kind.{Kind}
 use Rattle.kc_text.specs.declared.refusal.Refusal.{Refusal}
 use Rattle.kc_claims.specs.declared.claim.Claim.{Claim}
 use Rattle.kc_claims.specs.declared.fault.ClaimFault.{ClaimFault}
-use Rattle.kc_cores.specs.Answers.{graph_meaning}
+use Rattle.kc_dialect_read.specs.declared.fault.PlacedRefusal.{PlacedRefusal}
+use Rattle.kc_cores.specs.Answers.{IsRefusedBy}
 use Rattle.kc_cores.specs.CheckEnded.{certificate_meaning}
 use Rattle.kc_cores.specs.CoresEnded.{IsUnopenedLine}
 use Rattle.kc_cores.specs.Sentences.{no_memory_line, read_fault_line, refused_line, write_fault_line}
 use Rattle.kc_cores.specs.Verdicts.{claim_refused_line, fault_line, no_line}
-use Rattle.kc_cores.specs.Wishes.{Asks, Checks, MayReply, Query, Wish, is_shown}
+use Rattle.kc_cores.specs.Wishes.{Asks, Checks, GraphText, MayReply, Query, Wish, is_shown}
 use Rattle.kc_cores.specs.declared.CoresStatus.{CoresStatus}
 use Rattle.kc_cores.specs.declared.CoresStatus.TheVariants as status
 use Rattle.kc_cores.specs.declared.ending.Ending.{Ending}
@@ -21,6 +20,7 @@ use Rattle.kc_cores.specs.declared.input.FileFault.{FileFault}
 use Rattle.kc_cores.specs.declared.message.Message.{Message}
 use Rattle.kc_cores.specs.declared.message.Message.TheVariants.{Fixed, Made}
 use Rattle.kc_cores.specs.declared.request.CheckRequest.{CheckRequest}
+use Rattle.kc_cores.specs.declared.request.NamedText.{NamedText}
 use Rattle.kc_cores.specs.declared.request.Request.{Request}
 use Rattle.kc_cores.specs.declared.request.Wanted.{Wanted}
 use Rattle.kc_cores.specs.declared.request.Wanted.TheVariants as wanted
@@ -37,36 +37,36 @@ abbrev pub line_of : Ending → List ℕ
 line_of ending = message_text ending.message
 
 -- a refusal with its line, or want of memory for it
-abbrev pub RefusalAt : CoresStatus → List ℕ → ℕ → Kind → Type 0
-RefusalAt status.Refused line n kind = line ≡ refused_line n kind
-RefusalAt status.NoMemory line n kind = line ≡ no_memory_line
-RefusalAt _ line n kind = ⊥
+abbrev pub RefusalAt : CoresStatus → List ℕ → Option (List ℕ) → PlacedRefusal → Type 0
+RefusalAt status.Refused line file placed = line ≡ refused_line file placed
+RefusalAt status.NoMemory line file placed = line ≡ no_memory_line
+RefusalAt _ line file placed = ⊥
 
--- the run ends by this refusal
-abbrev pub TellsRefusal : Ending → ℕ → Kind → Type 0
-TellsRefusal ending n kind = RefusalAt ending.status (line_of ending) n kind
+-- the run ends by this refusal of the text of a file, or of standard input
+abbrev pub TellsRefusal : Ending → Option (List ℕ) → PlacedRefusal → Type 0
+TellsRefusal ending file placed = RefusalAt ending.status (line_of ending) file placed
 
 -- Why an input gives no graph, where `known` are its bytes if they are known. Its count of faults rose at a read fault alone.
-abbrev pub NoGraphAt : CoresStatus → List ℕ → Option (List ℕ) → ℕ → ℕ → Type 0
-NoGraphAt status.Refused line known before after =
-    (n : ℕ) × (kind : Kind) × (line ≡ refused_line n kind) × IfSome known (λ bytes. graph_meaning bytes ≡ Refuses n kind) × (after ≡ before)
-NoGraphAt status.ReadFault line known before after = (line ≡ read_fault_line) × Rose before after
-NoGraphAt status.NoMemory line known before after = (line ≡ no_memory_line) × (after ≡ before)
-NoGraphAt _ line known before after = ⊥
+abbrev pub NoGraphAt : CoresStatus → List ℕ → GraphText → Option (List ℕ) → ℕ → ℕ → Type 0
+NoGraphAt status.Refused line graph known before after =
+    (placed : PlacedRefusal) × (line ≡ refused_line graph.file placed) × IfSome known (λ bytes. IsRefusedBy graph.dialect bytes placed) × (after ≡ before)
+NoGraphAt status.ReadFault line graph known before after = (line ≡ read_fault_line) × Rose before after
+NoGraphAt status.NoMemory line graph known before after = (line ≡ no_memory_line) × (after ≡ before)
+NoGraphAt _ line graph known before after = ⊥
 
 -- the run ends since the source gives no graph
-abbrev pub HasNoGraph : Ending → Option (List ℕ) → ℕ → ℕ → Type 0
-HasNoGraph ending known before after = NoGraphAt ending.status (line_of ending) known before after
+abbrev pub HasNoGraph : Ending → GraphText → Option (List ℕ) → ℕ → ℕ → Type 0
+HasNoGraph ending graph known before after = NoGraphAt ending.status (line_of ending) graph known before after
 
 -- why there is no graph of a file, or of standard input: the file was not opened, or there is none of its bytes
-abbrev pub NoFileGraphAt : CoresStatus → List ℕ → Option (List ℕ) → Option (List ℕ) → ℕ → ℕ → Type 0
-NoFileGraphAt status.Unopened line file known before after =
-    (name : List ℕ) × (fault : FileFault) × (file ≡ Some name) × IsUnopenedLine name fault line × Rose before after
-NoFileGraphAt end line file known before after = NoGraphAt end line known before after
+abbrev pub NoFileGraphAt : CoresStatus → List ℕ → GraphText → Option (List ℕ) → ℕ → ℕ → Type 0
+NoFileGraphAt status.Unopened line graph known before after =
+    (name : List ℕ) × (fault : FileFault) × (graph.file ≡ Some name) × IsUnopenedLine name fault line × Rose before after
+NoFileGraphAt end line graph known before after = NoGraphAt end line graph known before after
 
 -- the run ends since the file gives no graph
-abbrev pub HasNoFileGraph : Ending → Option (List ℕ) → Option (List ℕ) → ℕ → ℕ → Type 0
-HasNoFileGraph ending file known before after = NoFileGraphAt ending.status (line_of ending) file known before after
+abbrev pub HasNoFileGraph : Ending → GraphText → Option (List ℕ) → ℕ → ℕ → Type 0
+HasNoFileGraph ending graph known before after = NoFileGraphAt ending.status (line_of ending) graph known before after
 
 -- the line of a status at which a write failed, by whether the reader is gone
 abbrev pub CutAt : CoresStatus → List ℕ → Bool → Type 0
@@ -128,9 +128,9 @@ abbrev pub IsRefuted : Ending → List ℕ → ClaimFault → Option (List ℕ) 
 IsRefuted ending name fault before after faults faults' = RefutedAt ending.status (line_of ending) name fault before after faults faults'
 
 -- the run ends since there is no verdict: there are no claims, and the input is as it was, or there is no graph
-abbrev pub HasNoVerdict : Ending → List ℕ → Option (List ℕ) → Option (List ℕ) → Option (List ℕ) → ℕ → ℕ → ℕ → ℕ → Type 0
-HasNoVerdict ending name file known certificate i i' c c' =
-    (HasNoClaims ending name certificate c c' × (i' ≡ i)) ⊎ (HasNoFileGraph ending file known i i' × (c' ≡ c))
+abbrev pub HasNoVerdict : Ending → List ℕ → GraphText → Option (List ℕ) → Option (List ℕ) → ℕ → ℕ → ℕ → ℕ → Type 0
+HasNoVerdict ending name graph known certificate i i' c c' =
+    (HasNoClaims ending name certificate c c' × (i' ≡ i)) ⊎ (HasNoFileGraph ending graph known i i' × (c' ≡ c))
 
 -- the run ends since a write failed
 abbrev pub IsCut : Ending → Bool → Type 0
@@ -148,15 +148,15 @@ RepliesTo (reply.Asked text) wish = MayReply true wish
 RepliesTo (reply.Mistake text) wish = MayReply false wish
 RepliesTo reply.NoMemory wish = ⊤
 
+-- the text that words name
+abbrev pub text_of : NamedText → GraphText
+text_of named = record { file = option_map (λ name. name.now) named.file; dialect = named.dialect }
+
 -- what a request asks for
 abbrev pub query_of : Request → Query
-query_of request = record { task = request.task; file = option_map (λ name. name.now) request.file; quiet = request.quiet }
-
--- the file of a check
-abbrev pub checked_file : CheckRequest → Option (List ℕ)
-checked_file request = option_map (λ name. name.now) request.file
+query_of request = record { task = request.task; graph = text_of request.graph; quiet = request.quiet }
 
 -- the request is what words ask for
 abbrev pub IsRequestFor : Wanted → Wish → Type 0
 IsRequestFor (wanted.Lines request) wish = wish ≡ Asks (query_of request)
-IsRequestFor (wanted.Check request) wish = wish ≡ Checks request.certificate.now (checked_file request)
+IsRequestFor (wanted.Check request) wish = wish ≡ Checks request.certificate.now (text_of request.graph)

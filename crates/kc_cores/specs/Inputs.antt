@@ -6,7 +6,11 @@ use Rattle.kc_io.specs.Memory.{SourceState}
 use Rattle.kc_text.specs.Inputs.{AreIds, IsNamedEdges, start_graph}
 use Rattle.kc_text.specs.Meaning.{Means, Told, names}
 use Rattle.kc_text.specs.declared.named_edges.NamedEdges.{NamedEdges}
-use Rattle.kc_cores.specs.Answers.{graph_meaning}
+use Rattle.kc_dialect.specs.Skipped.{AreSkipped}
+use Rattle.kc_dialect.specs.declared.dialect.Dialect.{Dialect}
+use Rattle.kc_dialect.specs.declared.skipped.SkippedLines.{SkippedLines}
+use Rattle.kc_dialect_read.specs.declared.plain_reader.DialectEdges.{DialectEdges}
+use Rattle.kc_cores.specs.Answers.{graph_meaning, passed_over}
 
 -- what is known of bytes that are not told
 abbrev pub no_bytes : Option (List ℕ)
@@ -45,20 +49,24 @@ pub record HasFewIds (listed : NamedEdges) : Type 0 where
   pub few : length listed.ids.items < 2 ^ 32
   pub edges : All (λ p. (p.0 < p.1) × (p.1 < length listed.ids.items)) listed.edges.items
 
--- the ids and edges are those that the bytes tell, which are all of what is known of them
-pub record AreReadFrom (known : Option (List ℕ)) (listed : NamedEdges) : Type 0 where
+-- The ids and edges are those that the bytes tell in a dialect, if they are in one, and these are the bad lines among them. The bytes are all of
+-- what is known of them.
+pub record AreReadFrom (dialect : Option Dialect) (known : Option (List ℕ)) (found : DialectEdges) : Type 0 where
   pub bytes : List ℕ
   pub read : IfSome known (λ all. bytes ≡ all)
   pub told : Told
-  pub means : graph_meaning bytes ≡ Means told
-  pub are : IsNamedEdges told listed
-  pub fit : HasFewIds listed
+  pub means : graph_meaning dialect bytes ≡ Means told
+  pub are : IsNamedEdges told found.named
+  pub fit : HasFewIds found.named
+  pub skipped : AreSkipped found.skipped (passed_over dialect bytes)
 
--- the graph that the bytes mean, which are all of what is known of them, with the ids for which its vertices stand
-pub record IsGraphOf (known : Option (List ℕ)) (ids : List ℕ) (g : SimpleGraph) : Type 0 where
+-- The graph that the bytes mean, which are all of what is known of them, with the ids for which its vertices stand, and the bad lines that were
+-- passed over.
+pub record IsGraphOf (dialect : Option Dialect) (known : Option (List ℕ)) (ids : List ℕ) (g : SimpleGraph) (skipped : SkippedLines) : Type 0 where
   pub bytes : List ℕ
   pub read : IfSome known (λ all. bytes ≡ all)
   pub told : Told
-  pub means : graph_meaning bytes ≡ Means told
+  pub means : graph_meaning dialect bytes ≡ Means told
+  pub passed : AreSkipped skipped (passed_over dialect bytes)
   pub named : AreIds (names told) ids
   pub is : g ≡ start_graph ids told.edges

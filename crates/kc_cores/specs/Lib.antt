@@ -7,6 +7,7 @@ pub mod Lines
 pub mod Numbers
 pub mod Outputs
 pub mod Sentences
+pub mod Skips
 pub mod Verdicts
 pub mod Wishes
 -- What the crate's own functions and invariants speak of.

@@ -1,17 +1,18 @@
 -- The lines that a run writes about itself.
-use Rattle.std.specs.Prelude.{ℕ, zero, suc, List, [], ◌∷◌, ◌++◌, codes}
+use Rattle.std.specs.Prelude.{ℕ, zero, suc, List, [], ◌∷◌, ◌++◌, Option, None, Some, codes}
 use Rattle.std.specs.Fmt.{decimal}
 use Rattle.kc_text.specs.declared.kind.Kind.{Kind}
 use Rattle.kc_text.specs.declared.kind.Kind.TheVariants.{NotANumber, MissingField, ExtraField, NumberTooLarge, LoopInBatch, UpdateOutsideBatch}
 use Rattle.kc_text.specs.declared.kind.Kind.TheVariants.{EdgeLineInBatch, TooManyVertices, TooManyEdgeLines, TooManyUpdates, TooManyBatches, TooLong}
+use Rattle.kc_dialect_read.specs.declared.fault.PlacedRefusal.{PlacedRefusal}
 use Rattle.kc_cores.specs.declared.input.FileFault.{FileFault}
 use Rattle.kc_cores.specs.declared.input.FileFault.TheVariants.{Missing, Folder, Forbidden, Other}
 
 -- what was found wrong with a line, and how it is mended
 abbrev pub sentence_of : Kind → List ℕ
-sentence_of NotANumber = codes "a field is not a whole number; write two ids of decimal digits, or begin the line with # if it is a comment"
-sentence_of MissingField = codes "the second id is missing; write two ids with a blank or a tab between them"
-sentence_of ExtraField = codes "there are more than two ids; keep the two columns with the ids of the ends"
+sentence_of NotANumber = codes "a field is not a whole number; write two ids of decimal digits, begin a comment with #, or see --separator, --columns and --skip"
+sentence_of MissingField = codes "the second id is missing; write two ids with a blank or a tab between them, or name what parts them by --separator"
+sentence_of ExtraField = codes "there are more than two fields; name the columns of the two ids, as by --columns 1,2"
 sentence_of NumberTooLarge = codes "an id is greater than 4294967295; number the vertices anew with smaller ids"
 sentence_of LoopInBatch = codes "a change names one id twice; remove the line"
 sentence_of UpdateOutsideBatch = codes "this is a change of a graph; cores takes edges alone, and kcore takes changes after a line batch"
@@ -27,9 +28,32 @@ abbrev pub at_line : ℕ → List ℕ
 at_line zero = codes "input"
 at_line (suc n) = codes "line " ++ decimal (suc n)
 
--- `cores: line 12: SENTENCE`
-abbrev pub refused_line : ℕ → Kind → List ℕ
-refused_line line kind = codes "cores: " ++ (at_line line ++ (codes ": " ++ (sentence_of kind ++ 10 ∷ [])))
+-- what was found wrong in a column of a dialect, and how it is mended
+abbrev pub column_sentence : Kind → List ℕ
+column_sentence NotANumber = codes "the field is not a whole number; pass over a head by --skip, bad lines by --bad-lines skip, or name other columns by --columns"
+column_sentence MissingField = codes "a column is missing; name the columns of the two ids by --columns, what parts them by --separator, or see --bad-lines skip"
+column_sentence kind = sentence_of kind
+
+-- the same, where a column is meant or none
+abbrev pub placed_sentence : Option ℕ → Kind → List ℕ
+placed_sentence None kind = sentence_of kind
+placed_sentence (Some column) kind = column_sentence kind
+
+-- `, column 5`
+abbrev pub at_column : Option ℕ → List ℕ
+at_column None = []
+at_column (Some column) = codes ", column " ++ decimal column
+
+-- `FILE: `, where a file is named
+abbrev pub in_file : Option (List ℕ) → List ℕ
+in_file None = []
+in_file (Some name) = name ++ codes ": "
+
+-- `cores: FILE: line 12, column 5: SENTENCE`
+abbrev pub refused_line : Option (List ℕ) → PlacedRefusal → List ℕ
+refused_line file placed =
+    codes "cores: " ++ (in_file file ++ ((at_line placed.refusal.line ++ at_column placed.column) ++ (codes ": "
+    ++ (placed_sentence placed.column placed.refusal.kind ++ 10 ∷ []))))
 
 -- why a file was not opened, in the words of the operating system
 abbrev pub fault_sentence : FileFault → List ℕ

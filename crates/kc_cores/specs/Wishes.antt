@@ -1,7 +1,8 @@
 -- What the words of a run ask for.
-use Rattle.std.specs.Prelude.{◌≡◌, ◌^◌, ◌&&◌, ℕ, Bool, true, false, List, [], ◌∷◌, Option, Some, None, codes, length, nat_lt, option_map, pos, if◌then◌else◌}
+use Rattle.std.specs.Prelude.{◌≡◌, ◌==◌, ◌^◌, ◌&&◌, ℕ, Bool, true, false, List, [], ◌∷◌, Option, Some, None, codes, length, nat_lt, option_map, pos}
+use Rattle.std.specs.Prelude.{if◌then◌else◌}
 use Rattle.std.specs.Char.{digit_value}
-use Rattle.std.specs.List.{list_all}
+use Rattle.std.specs.List.{after_first, before_first, list_all, position_or_len}
 use Rattle.std.specs.Str.Parse.{digits_value, without_leading_plus}
 use Rattle.std.specs.Str.{bytes_eq}
 use Rattle.clap.specs.Faults.{fault_of}
@@ -11,7 +12,13 @@ use Rattle.clap.specs.Walk.{Row, Rule, Text, first_of, is_empty}
 use Rattle.clap.specs.declared.builder.action.ArgAction.TheVariants.{Set, SetTrue}
 use Rattle.clap.specs.declared.builder.value_parser.ValueParser.TheVariants.{Signed}
 use Rattle.clap.specs.declared.error.kind.ErrorKind.{ErrorKind}
-use Rattle.clap.specs.declared.error.kind.ErrorKind.TheVariants.{DisplayHelp, DisplayVersion, InvalidSubcommand}
+use Rattle.clap.specs.declared.error.kind.ErrorKind.TheVariants.{DisplayHelp, DisplayVersion, InvalidSubcommand, ValueValidation}
+use Rattle.kc_dialect.specs.Names.{separator_of_name}
+use Rattle.kc_dialect.specs.declared.dialect.BadLines.{BadLines}
+use Rattle.kc_dialect.specs.declared.dialect.BadLines.TheVariants.{Skip, Stop}
+use Rattle.kc_dialect.specs.declared.dialect.Dialect.{Dialect}
+use Rattle.kc_dialect.specs.declared.dialect.Separator.{Separator}
+use Rattle.kc_dialect.specs.declared.dialect.Separator.TheVariants.{Blank, Comma, Semicolon, Tab}
 use Rattle.kc_cores.specs.declared.request.Task.{Task}
 use Rattle.kc_cores.specs.declared.request.Task.TheVariants.{Numbers, Sizes, Members, Edges, Layers, Order}
 
@@ -23,9 +30,23 @@ quiet_flag = record (new_rule (codes "quiet")) { long = Some (codes "quiet"); ac
 abbrev pub quiet_command : Text → App
 quiet_command name = with_rule (new_app name) quiet_flag
 
+-- an option of this name that takes a value
+abbrev pub value_option : Text → Rule
+value_option name = record (new_rule name) { long = Some name; action = Some Set; value_names = 1 }
+
+-- `--skip N`, with a number of 32 bits
+abbrev pub skip_option : Rule
+skip_option = record (value_option (codes "skip")) { parser = Some (Signed (pos 0) (pos 4294967295)) }
+
+-- the command with the options of a dialect
+abbrev pub with_dialect : App → App
+with_dialect app =
+    with_rule (with_rule (with_rule (with_rule app (value_option (codes "columns"))) (value_option (codes "separator"))) skip_option)
+    (value_option (codes "bad-lines"))
+
 -- the command of a task, which takes the name of a file
 abbrev pub task_command : Text → App
-task_command name = with_rule (quiet_command name) (new_rule (codes "FILE"))
+task_command name = with_rule (with_dialect (quiet_command name)) (new_rule (codes "FILE"))
 
 -- The command that reads the words, without those of the tasks. The words are those after the program's name.
 abbrev pub bare_command : App
@@ -71,7 +92,7 @@ certificate_command = with_rule (new_app (codes "check")) certificate_rule
 
 -- the command that checks a certificate
 abbrev pub check_command : App
-check_command = with_rule certificate_command (new_rule (codes "FILE"))
+check_command = with_rule (with_dialect certificate_command) (new_rule (codes "FILE"))
 
 -- the command with those of all tasks
 abbrev pub with_tasks : App
@@ -81,17 +102,22 @@ with_tasks = with_subcommand (with_subcommand with_cores (task_command (codes "l
 abbrev pub cores_command : App
 cores_command = with_subcommand with_tasks check_command.top
 
--- A task for the graph of a file, or of standard input where no file is named. Where it is quiet, the run tells nothing of itself once it is done.
+-- The text of a graph: that of a file, or of standard input where no file is named, in a dialect where one is asked for.
+pub record GraphText : Type 0 where
+  pub file : Option Text
+  pub dialect : Option Dialect
+
+-- A task for the graph of a text. Where it is quiet, the run tells nothing of itself once it is done.
 pub record Query : Type 0 where
   pub task : Task
-  pub file : Option Text
+  pub graph : GraphText
   pub quiet : Bool
 
--- What words ask for: a task for a graph; or the check of a certificate for the graph of a file, or of standard input where no file is named.
--- Or they ask for help or the version, or are not right: then `clap` replies with a text of one of these kinds.
+-- What words ask for: a task for a graph; or the check of a certificate of this name for the graph of a text. Or they ask for help or the
+-- version, or are not right: then there is a reply of one of these kinds, as those of `clap`.
 pub data Wish : Type 0 where
   Asks : Query → Wish
-  Checks : Text → Option Text → Wish
+  Checks : Text → GraphText → Wish
   Replies : Kinds → Wish
 
 -- whether a text has digits alone, at least one, and its number is one of 32 bits
@@ -135,28 +161,115 @@ abbrev pub file_named : Option Text → Option Text
 file_named None = None
 file_named (Some name) = if bytes_eq name (codes "-") then None else Some name
 
--- the query of a task whose command has these matches
-abbrev pub query_in : Task → List Row → Query
-query_in task rows = record {
-  task = task;
-  file = file_named (first_of (codes "FILE") rows);
-  quiet = is_set (first_of (codes "quiet") rows);
-}
+-- a comma
+abbrev pub is_comma : ℕ → Bool
+is_comma b = b == 44
 
--- what a command with these matches asks for
-abbrev pub wish_for : Option Task → List Row → Wish
-wish_for None rows = Replies (InvalidSubcommand ∷ [])
-wish_for (Some task) rows = Asks (query_in task rows)
+-- two columns, which are numbers from 1 on
+abbrev pub both_columns : Option ℕ → Option ℕ → Option (ℕ × ℕ)
+both_columns None b = None
+both_columns (Some a) None = None
+both_columns (Some a) (Some b) = if nat_lt 0 a && nat_lt 0 b then Some (a, b) else None
 
--- what the command `check` asks for, by the names of the certificate and of the file
-abbrev pub check_wish : Option Text → Option Text → Wish
-check_wish None file = Replies (InvalidSubcommand ∷ [])
-check_wish (Some name) file = Checks name (file_named file)
+-- the two columns that a text names, with a comma between them
+abbrev pub columns_of : Text → Option (ℕ × ℕ)
+columns_of text =
+    if nat_lt (position_or_len is_comma text) (length text)
+    then both_columns (number_of (before_first is_comma text)) (number_of (after_first is_comma text)) else None
+
+-- the columns of the ids: the first two where none are named
+abbrev pub columns_in : Option Text → Option (ℕ × ℕ)
+columns_in None = Some (1, 2)
+columns_in (Some text) = columns_of text
+
+-- the separator of this name
+abbrev pub separator_of : Text → Option Separator
+separator_of text =
+    if bytes_eq text (codes "blank") then Some Blank
+    else if bytes_eq text (codes "comma") then Some Comma
+    else if bytes_eq text (codes "semicolon") then Some Semicolon
+    else if bytes_eq text (codes "tab") then Some Tab
+    else None
+
+-- the separator that the name of a file tells, if there is one
+abbrev pub separator_of_file : Option Text → Separator
+separator_of_file None = Blank
+separator_of_file (Some name) = separator_of_name name
+
+-- what parts the fields: where that is not said, the name of the file tells it
+abbrev pub separator_in : Option Text → Option Text → Option Separator
+separator_in None file = Some (separator_of_file file)
+separator_in (Some text) file = separator_of text
+
+-- how many lines at the top are passed over
+abbrev pub skip_in : Option Text → Option ℕ
+skip_in None = Some 0
+skip_in (Some text) = number_of text
+
+-- what becomes of bad lines, by this word
+abbrev pub bad_lines_of : Text → Option BadLines
+bad_lines_of text = if bytes_eq text (codes "stop") then Some Stop else if bytes_eq text (codes "skip") then Some Skip else None
+
+-- what becomes of bad lines: they end the reading where nothing else is said
+abbrev pub bad_lines_in : Option Text → Option BadLines
+bad_lines_in None = Some Stop
+bad_lines_in (Some text) = bad_lines_of text
+
+-- the dialect of these parts, where there is each of them
+abbrev pub dialect_of : Option (ℕ × ℕ) → Option Separator → Option ℕ → Option BadLines → Option Dialect
+dialect_of (Some columns) (Some separator) (Some skip) (Some bad) =
+    Some (record { columns = columns; separator = separator; skip = skip; bad_lines = bad })
+dialect_of _ _ _ _ = None
+
+-- whether fields are parted by blanks
+abbrev pub is_blank_between : Separator → Bool
+is_blank_between Blank = true
+is_blank_between _ = false
+
+-- whether neither an option nor the name of the file tells a dialect
+abbrev pub tells_none : Option Text → Option Text → Option Text → Option Text → Option Text → Bool
+tells_none None None None None file = is_blank_between (separator_of_file file)
+tells_none _ _ _ _ file = false
+
+-- The dialect that the values of the options `--columns`, `--separator`, `--skip` and `--bad-lines` and the name of the file tell, if they tell
+-- one. There is nothing where a value is not right.
+abbrev pub dialect_by : Option Text → Option Text → Option Text → Option Text → Option Text → Option (Option Dialect)
+dialect_by columns separator skip bad file =
+    if tells_none columns separator skip bad file then Some None
+    else option_map (λ d. Some d) (dialect_of (columns_in columns) (separator_in separator file) (skip_in skip) (bad_lines_in bad))
+
+-- the text of a file in a dialect, where the dialect is right
+abbrev pub text_with : Option Text → Option (Option Dialect) → Option GraphText
+text_with file None = None
+text_with file (Some dialect) = Some (record { file = file; dialect = dialect })
+
+-- the text of a graph of a file, by the matches of a command
+abbrev pub text_by : Option Text → List Row → Option GraphText
+text_by file rows =
+    text_with file (dialect_by (first_of (codes "columns") rows) (first_of (codes "separator") rows) (first_of (codes "skip") rows)
+    (first_of (codes "bad-lines") rows) file)
+
+-- the text of a graph, by the matches of a command
+abbrev pub text_in : List Row → Option GraphText
+text_in rows = text_by (file_named (first_of (codes "FILE") rows)) rows
+
+-- what a command for a task and a text asks for
+abbrev pub wish_for : Option Task → Option GraphText → Bool → Wish
+wish_for None graph quiet = Replies (InvalidSubcommand ∷ [])
+wish_for (Some task) None quiet = Replies (ValueValidation ∷ [])
+wish_for (Some task) (Some graph) quiet = Asks (record { task = task; graph = graph; quiet = quiet })
+
+-- what the command `check` asks for, by the name of the certificate and the text of a graph
+abbrev pub check_wish : Option Text → Option GraphText → Wish
+check_wish None graph = Replies (InvalidSubcommand ∷ [])
+check_wish (Some name) None = Replies (ValueValidation ∷ [])
+check_wish (Some name) (Some graph) = Checks name graph
 
 -- what a command of this name with these matches asks for
 abbrev pub wish_by : Text → List Row → Wish
 wish_by name rows =
-    if bytes_eq name (codes "check") then check_wish (first_of (codes "CERTIFICATE") rows) (first_of (codes "FILE") rows) else wish_for (task_in name rows) rows
+    if bytes_eq name (codes "check") then check_wish (first_of (codes "CERTIFICATE") rows) (text_in rows)
+    else wish_for (task_in name rows) (text_in rows) (is_set (first_of (codes "quiet") rows))
 
 -- what the command that was met asks for
 abbrev pub wish_in : Option (Text × List Row) → Wish
@@ -176,5 +289,5 @@ is_shown _ = false
 -- a reply that is what was asked for, or one that is not, is among those that there may be
 abbrev pub MayReply : Bool → Wish → Type 0
 MayReply shown (Asks query) = ⊥
-MayReply shown (Checks name file) = ⊥
+MayReply shown (Checks name graph) = ⊥
 MayReply shown (Replies kinds) = (kind : ErrorKind) × IsAmong kind kinds × (is_shown kind ≡ shown)

@@ -1,12 +1,14 @@
 //! The top call.
-ghost use Rattle.std.specs.Prelude.{◌≡◌, ◌≤◌, ℕ, List, [], IfErr, IfOk, OnErr, OnOk, length, map, string_bytes, take};
+ghost use Rattle.std.specs.Prelude.{◌≡◌, ◌≤◌, ◌++◌, ℕ, List, [], IfErr, IfOk, OnErr, OnOk, length, map, option_map, string_bytes, take};
 ghost use Rattle.std.specs.Io.KnownBytes.{Appends};
 ghost use Rattle.kc_io.specs.Causes.{HasCause};
 ghost use Rattle.kc_cores.specs.CheckEnded.{CheckEnded, EndsAsAsked};
 ghost use Rattle.kc_cores.specs.CoresEnded.{CoresEnded, ToldLine, done_line};
-ghost use Rattle.kc_cores.specs.Endings.{RepliesTo, checked_file, line_of, message_text, query_of};
+ghost use Rattle.kc_cores.specs.Answers.{summary_line};
+ghost use Rattle.kc_cores.specs.Endings.{RepliesTo, line_of, message_text, query_of, text_of};
 ghost use Rattle.kc_cores.specs.Listings.{Fits, listing_lines};
 ghost use Rattle.kc_cores.specs.Sentences.{no_memory_line};
+ghost use Rattle.kc_cores.specs.Skips.{told_skips};
 ghost use Rattle.kc_cores.specs.Wishes.{Asks, Wish, wish_of};
 
 use crate::checking::{refute, say, verdict_on};
@@ -16,12 +18,14 @@ use crate::listing::{Listing, listing_of, put_lines};
 use crate::message::Message;
 use crate::page::Page;
 use crate::pipe::PipeSink;
-use crate::reading::read_graph;
+use crate::reading::{NamedGraph, read_graph};
 use crate::request::{CheckRequest, Request, Wanted};
+use crate::skips::told_skips;
 use crate::summary::summary_line;
 use crate::words::{Reply, request_of};
 use crate::{CoresStatus, CoresStreams};
 use kc_flat::{Decomposition, decompose};
+use kc_graph::NoMemory;
 use kc_io::Failed;
 use kc_io::sink::{Sink, write_all};
 use std::alloc::Global;
@@ -47,28 +51,43 @@ fn write_lines<O: Sink>(
     page.write(out)
 }
 
+/// What is told of a run that is done: the bad lines that were passed over, and the summary of the graph.
+fn told_of(
+    alloc: Global,
+    file: Option<&str>,
+    named: &NamedGraph,
+    core: &[u32],
+) -> Result<String, NoMemory>
+    ensures { IfOk result (λ told. string_bytes told ≡ told_skips (option_map (λ t. t.now) file.entry) named.now.skipped.count
+        named.now.skipped.first.items ++ summary_line named.now.graph core.now) }
+{
+    let skips = told_skips(alloc, file, &named.skipped)?;
+    let summary = summary_line(alloc, &named.graph, core)?;
+    format!(in alloc; "{skips}{summary}")
+}
+
 /// Writes the lines of a task for the graph of the input, and gives the ending of the run.
 fn follow<I: FileInput, C, O: PipeSink, E>(
     alloc: Global,
     request: Request<'_>,
     streams: &mut CoresStreams<I, C, O, E>,
 ) -> Result<String, Ending>
-    ensures done { IfOk result (λ summary. CoresEnded I.Source I.behind O.Sink O.gone (Asks (query_of request.entry)) CoresStatus.Done
-        (done_line request.entry.quiet (string_bytes summary)) streams.old.input streams.new.input streams.old.out streams.new.out) }
+    ensures done { IfOk result (λ told. CoresEnded I.Source I.behind O.Sink O.gone (Asks (query_of request.entry)) CoresStatus.Done
+        (done_line request.entry.quiet (string_bytes told)) streams.old.input streams.new.input streams.old.out streams.new.out) }
     ensures stopped { IfErr result (λ ending. CoresEnded I.Source I.behind O.Sink O.gone (Asks (query_of request.entry)) ending.status
         (line_of ending) streams.old.input streams.new.input streams.old.out streams.new.out) }
     ensures certificate { streams.new.certificate ≡ streams.old.certificate }
     ensures err { streams.new.err ≡ streams.old.err }
 {
-    let named = read_graph(alloc, request.file, &mut streams.input)?;
+    let named = read_graph(alloc, request.graph, &mut streams.input)?;
     let Decomposition { core, order } = decompose(alloc, &named.graph)?;
-    let summary = summary_line(alloc, &named.graph, &core)?;
+    let told = told_of(alloc, request.graph.file, &named, &core)?;
     let listing = listing_of(alloc, request.task, &named.graph, &core, order)?;
     let page = Page::new(alloc)?;
     if write_lines(page, &mut streams.out, &listing, &named.ids, &core).is_err() {
         return Err(Ending::cut(streams.out.is_reader_gone()));
     }
-    Ok(summary)
+    Ok(told)
 }
 
 /// Writes help or the version, where it was asked for. What is wrong with the words is the line of the ending.
@@ -138,7 +157,7 @@ fn check<I: FileInput, C: FileInput, O: PipeSink, E>(
     request: CheckRequest<'_>,
     streams: &mut CoresStreams<I, C, O, E>,
 ) -> Ending
-    ensures ended { CheckEnded I.Source I.behind C.Source C.behind O.Sink request.entry.certificate.now (checked_file request.entry) result.status
+    ensures ended { CheckEnded I.Source I.behind C.Source C.behind O.Sink request.entry.certificate.now (text_of request.entry.graph) result.status
         (line_of result) streams.old.input streams.new.input streams.old.certificate streams.new.certificate streams.old.out streams.new.out }
     ensures err { streams.new.err ≡ streams.old.err }
 {
@@ -191,9 +210,9 @@ fn work<W: AsStr, I: FileInput, C: FileInput, O: PipeSink, E>(
 /// - `read`: at `Done` the input was read to its end.
 /// - `took`: at `Done` the sink took just the lines for the graph that the bytes mean, after what it had taken before. At `Shown` it took a
 ///   text. At `ReaderGone` and at `WriteFault` it took a prefix of what was to be written, and else nothing.
-/// - `line`: the line of the status. At `Done` it is the summary of that graph, or nothing where the words ask for a quiet run. At `Refused`
-///   it tells the line and the kind of the refusal, and at `Unopened` the name of the file and why it was not opened. At `ReaderGone` there
-///   is none.
+/// - `line`: the line of the status. At `Done` it is the summary of that graph, behind what is told of bad lines that were passed over, or
+///   nothing where the words ask for a quiet run. At `Refused` it tells the file, the line, the column where one is meant, and the kind of
+///   the refusal, and at `Unopened` the name of the file and why it was not opened. At `ReaderGone` there is none.
 /// - `faults`: the input's count of faults rose at `Unopened` and at `ReadFault`, and else it is as it was.
 /// - `write_faults`: the count of faults of `out` rose at `ReaderGone` and at `WriteFault`, and else it is as it was.
 /// - `reader`: at `ReaderGone` the sink tells that its reader went away, and at `WriteFault` that it did not.

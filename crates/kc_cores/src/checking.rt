@@ -2,7 +2,7 @@
 ghost use Rattle.std.specs.Prelude.{◌≡◌, ◌≤◌, IfErr, IfOk, IfSome, None, Ok, OnOk, length};
 ghost use Rattle.kc_text.specs.declared.limits.TheConstants.Limits.{GRAPH};
 ghost use Rattle.kc_cores.specs.CheckEnded.{AreClaimsOf, IsRight, IsWrong, certificate_meaning};
-ghost use Rattle.kc_cores.specs.Endings.{HasNoClaims, HasNoVerdict, HasSaid, IsRefuted, RefusesClaims, checked_file};
+ghost use Rattle.kc_cores.specs.Endings.{HasNoClaims, HasNoVerdict, HasSaid, IsRefuted, RefusesClaims, text_of};
 ghost use Rattle.kc_cores.specs.Inputs.{known_bytes};
 
 use crate::CoresStatus;
@@ -75,17 +75,17 @@ pub(crate) fn verdict_on<I: FileInput, C: FileInput>(
     input: &mut I,
     certificate: &mut C,
 ) -> Result<Option<ClaimFault>, Ending>
-    ensures right { IfOk result (λ found. found ≡ None → IsRight (known_bytes I.left I.behind (checked_file request.entry) input.old)
+    ensures right { IfOk result (λ found. found ≡ None → IsRight request.entry.graph.dialect (known_bytes I.left I.behind (text_of request.entry.graph).file input.old)
         (C.behind certificate.old request.entry.certificate.now)) }
-    ensures wrong { IfOk result (λ found. IfSome found (λ fault. IsWrong fault (known_bytes I.left I.behind (checked_file request.entry) input.old)
+    ensures wrong { IfOk result (λ found. IfSome found (λ fault. IsWrong fault request.entry.graph.dialect (known_bytes I.left I.behind (text_of request.entry.graph).file input.old)
         (C.behind certificate.old request.entry.certificate.now))) }
     ensures faultless { OnOk result ((I.faults input.new ≡ I.faults input.old) × (C.faults certificate.new ≡ C.faults certificate.old)) }
-    ensures stopped { IfErr result (λ ending. HasNoVerdict ending request.entry.certificate.now (checked_file request.entry)
-        (known_bytes I.left I.behind (checked_file request.entry) input.old) (C.behind certificate.old request.entry.certificate.now)
+    ensures stopped { IfErr result (λ ending. HasNoVerdict ending request.entry.certificate.now (text_of request.entry.graph)
+        (known_bytes I.left I.behind (text_of request.entry.graph).file input.old) (C.behind certificate.old request.entry.certificate.now)
         (I.faults input.old) (I.faults input.new) (C.faults certificate.old) (C.faults certificate.new)) }
 {
     let claims = read_claims(alloc, request.certificate, certificate)?;
-    let named = read_graph(alloc, request.file, input)?;
+    let named = read_graph(alloc, request.graph, input)?;
     match check_claims(alloc, &named.ids, &named.graph, &claims) {
         Ok(()) => Ok(None),
         Err(CheckFault::Faulty(fault)) => Ok(Some(fault)),

@@ -1,13 +1,14 @@
 //! How a run ends: its status, and the line about it.
-ghost use Rattle.std.specs.Prelude.{◌≡◌, IfOk, string_bytes};
+ghost use Rattle.std.specs.Prelude.{◌≡◌, ◌++◌, IfOk, option_map, string_bytes};
 ghost use Rattle.kc_cores.specs.Endings.{IsCut, TellsRefusal, line_of};
-ghost use Rattle.kc_cores.specs.Sentences.{refused_line, no_memory_line, read_fault_line, unopened_line, write_fault_line};
+ghost use Rattle.kc_cores.specs.Sentences.{at_column, at_line, in_file, refused_line, no_memory_line, read_fault_line, unopened_line, write_fault_line};
 ghost use Rattle.kc_cores.specs.CoresEnded.{IsUnopenedLine, ToldLine};
 
 use crate::CoresStatus;
 use crate::input::FileFault;
 use crate::message::Message;
-use crate::sentences::sentence_of;
+use crate::sentences::placed_sentence;
+use kc_dialect_read::PlacedRefusal;
 use kc_graph::NoMemory;
 use kc_io::sink::{Sink, write_all};
 use kc_text::Refusal;
@@ -80,23 +81,57 @@ impl Ending {
     }
 }
 
-fn refused_line(alloc: Global, refusal: Refusal) -> Result<String, NoMemory>
-    ensures { IfOk result (λ line. string_bytes line ≡ refused_line refusal.line refusal.kind) }
+/// `FILE: `, where a file is named.
+pub(crate) fn in_file(alloc: Global, file: Option<&str>) -> Result<String, NoMemory>
+    ensures { IfOk result (λ text. string_bytes text ≡ in_file (option_map (λ t. t.now) file.entry)) }
 {
-    let Refusal { line, kind } = refusal;
-    let sentence = sentence_of(kind);
-    if line == 0 {
-        format!(in alloc; "cores: input: {sentence}\n")
-    } else {
-        format!(in alloc; "cores: line {line}: {sentence}\n")
+    match file {
+        Some(name) => format!(in alloc; "{name}: "),
+        None => Ok(String::new(alloc)),
     }
 }
 
-/// The input is refused.
-pub(crate) fn refused(alloc: Global, refusal: Refusal) -> Ending
-    ensures { TellsRefusal result refusal.line refusal.kind }
+/// `, column 5`, where a column is meant.
+fn at_column(alloc: Global, column: Option<u64>) -> Result<String, NoMemory>
+    ensures { IfOk result (λ text. string_bytes text ≡ at_column column) }
 {
-    match refused_line(alloc, refusal) {
+    match column {
+        Some(column) => format!(in alloc; ", column {column}"),
+        None => Ok(String::new(alloc)),
+    }
+}
+
+/// Which line is refused, or the input as a whole, and the column where one is meant.
+fn at_place(alloc: Global, line: u64, column: Option<u64>) -> Result<String, NoMemory>
+    ensures { IfOk result (λ text. string_bytes text ≡ at_line line ++ at_column column) }
+{
+    let place = at_column(alloc, column)?;
+    if line == 0 {
+        format!(in alloc; "input{place}")
+    } else {
+        format!(in alloc; "line {line}{place}")
+    }
+}
+
+fn refused_line(
+    alloc: Global,
+    file: Option<&str>,
+    placed: PlacedRefusal,
+) -> Result<String, NoMemory>
+    ensures { IfOk result (λ line. string_bytes line ≡ refused_line (option_map (λ t. t.now) file.entry) placed) }
+{
+    let Refusal { line, kind } = placed.refusal;
+    let sentence = placed_sentence(placed.column, kind);
+    let front = in_file(alloc, file)?;
+    let place = at_place(alloc, line, placed.column)?;
+    format!(in alloc; "cores: {front}{place}: {sentence}\n")
+}
+
+/// The text of a file, or of standard input, is refused.
+pub(crate) fn refused(alloc: Global, file: Option<&str>, placed: PlacedRefusal) -> Ending
+    ensures { TellsRefusal result (option_map (λ t. t.now) file.entry) placed }
+{
+    match refused_line(alloc, file, placed) {
         Ok(line) => Ending {
             status: CoresStatus::Refused,
             message: Message::Made(line),

@@ -12,12 +12,17 @@
 //!
 //! The command `check` reads a certificate beside the graph (`specs/CheckEnded.antt`), and writes whether it shows the core numbers.
 //!
-//! The crate stands on `kc_io` for sources and sinks, on `kc_text` for what a text means, on `kc_flat` and `kc_graph` for core numbers, on `kc_tally`
-//! for layers, on `kc_claims` for certificates, and on `clap` and `itoa`.
+//! The options `--columns`, `--separator`, `--skip` and `--bad-lines` tell a dialect, as the end of a file's name does (`dialect_words`). A text
+//! in a dialect means what the plain text means for which it stands; without one it is read as it is.
+//!
+//! The crate stands on `kc_io` for sources and sinks, on `kc_text` for what a text means, on `kc_dialect` and `kc_dialect_read` for
+//! dialects, on `kc_flat` and `kc_graph` for core numbers, on `kc_tally` for layers, on `kc_claims` for certificates, and on `clap` and
+//! `itoa`.
 #![tactic(auto)]
 
 pub mod answer;
 mod checking;
+mod dialect_words;
 mod ending;
 pub mod input;
 mod lines;
@@ -33,6 +38,7 @@ mod reading;
 mod request;
 mod sentences;
 mod sizes;
+mod skips;
 pub mod std_input;
 pub mod std_pipe;
 mod streams;

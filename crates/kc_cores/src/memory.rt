@@ -31,11 +31,11 @@ pub fn answer_in_memory<W: AsStr>(
         streams.old.input streams.new.input streams.old.certificate streams.new.certificate streams.old.out streams.new.out
         × ToldLine ⟦<MemSink as Sink>⟧ line streams.old.err streams.new.err }
     ensures done { (query : Query) (bytes : List ℕ) → wish_of (map W.text words.now) ≡ Asks query
-        → bytes_in streams.old.input query.file ≡ Some bytes → result ≡ CoresStatus.Done
-        → (text : List ℕ) × (summary : List ℕ) × IsTextFor query.task bytes text summary × (streams.new.out.sink.taken ≡ streams.old.out.sink.taken ++ text) }
+        → bytes_in streams.old.input query.graph.file ≡ Some bytes → result ≡ CoresStatus.Done
+        → (text : List ℕ) × (summary : List ℕ) × IsTextFor query bytes text summary × (streams.new.out.sink.taken ≡ streams.old.out.sink.taken ++ text) }
     ensures refused { (query : Query) (bytes : List ℕ) → wish_of (map W.text words.now) ≡ Asks query
-        → bytes_in streams.old.input query.file ≡ Some bytes → result ≡ CoresStatus.Refused
-        → (n : ℕ) × (kind : Kind) × (graph_meaning bytes ≡ Refuses n kind) × (streams.new.out.sink.taken ≡ streams.old.out.sink.taken) }
+        → bytes_in streams.old.input query.graph.file ≡ Some bytes → result ≡ CoresStatus.Refused
+        → (n : ℕ) × (kind : Kind) × (graph_meaning query.graph.dialect bytes ≡ Refuses n kind) × (streams.new.out.sink.taken ≡ streams.old.out.sink.taken) }
 {
     answer(alloc, words, streams)
 }

@@ -1,4 +1,5 @@
 //! What words ask for.
+use kc_dialect::Dialect;
 
 /// What is asked of a graph.
 #[derive(Clone, Copy, Debug, PartialEq, Eq)]
@@ -17,11 +18,19 @@ pub enum Task {
     Order,
 }
 
-/// The check of a certificate, for the graph of a file, or of standard input where no file is named.
+/// The text of a graph that words name: that of a file, or of standard input where no file is named.
+#[derive(Clone, Copy, Debug)]
+pub(crate) struct NamedText<'a> {
+    pub(crate) file: Option<&'a str>,
+    /// The dialect of the text, where words or the name of the file tell one.
+    pub(crate) dialect: Option<Dialect>,
+}
+
+/// The check of a certificate, for the graph of a text.
 #[derive(Clone, Copy, Debug)]
 pub(crate) struct CheckRequest<'a> {
     pub(crate) certificate: &'a str,
-    pub(crate) file: Option<&'a str>,
+    pub(crate) graph: NamedText<'a>,
 }
 
 /// What words ask for.
@@ -31,11 +40,11 @@ pub(crate) enum Wanted<'a> {
     Check(CheckRequest<'a>),
 }
 
-/// A task for the graph of a file, or of standard input where no file is named.
+/// A task for the graph of a text.
 #[derive(Clone, Copy, Debug)]
 pub(crate) struct Request<'a> {
     pub(crate) task: Task,
-    pub(crate) file: Option<&'a str>,
+    pub(crate) graph: NamedText<'a>,
     /// Whether the run tells nothing of itself once it is done.
     pub(crate) quiet: bool,
 }

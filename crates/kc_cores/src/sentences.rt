@@ -1,22 +1,22 @@
 //! What is wrong with a line that is refused, and how it is mended.
 ghost use Rattle.std.specs.Prelude.{◌≡◌};
-ghost use Rattle.kc_cores.specs.Sentences.{sentence_of};
+ghost use Rattle.kc_cores.specs.Sentences.{column_sentence, placed_sentence, sentence_of};
 
 use kc_text::Kind;
 
 /// What was found wrong, and how it is mended.
-pub(crate) fn sentence_of(kind: Kind) -> &'static str
+fn sentence_of(kind: Kind) -> &'static str
     ensures { result.now ≡ sentence_of kind }
 {
     match kind {
         Kind::NotANumber => {
-            "a field is not a whole number; write two ids of decimal digits, or begin the line with # if it is a comment"
+            "a field is not a whole number; write two ids of decimal digits, begin a comment with #, or see --separator, --columns and --skip"
         }
         Kind::MissingField => {
-            "the second id is missing; write two ids with a blank or a tab between them"
+            "the second id is missing; write two ids with a blank or a tab between them, or name what parts them by --separator"
         }
         Kind::ExtraField => {
-            "there are more than two ids; keep the two columns with the ids of the ends"
+            "there are more than two fields; name the columns of the two ids, as by --columns 1,2"
         }
         Kind::NumberTooLarge => {
             "an id is greater than 4294967295; number the vertices anew with smaller ids"
@@ -42,5 +42,30 @@ pub(crate) fn sentence_of(kind: Kind) -> &'static str
         Kind::TooLong => {
             "there are more bytes than cores takes; remove comments and repeated edges or split the graph"
         }
+    }
+}
+
+/// What was found wrong in a column of a dialect, and how it is mended.
+fn column_sentence(kind: Kind) -> &'static str
+    ensures { result.now ≡ column_sentence kind }
+{
+    match kind {
+        Kind::NotANumber => {
+            "the field is not a whole number; pass over a head by --skip, bad lines by --bad-lines skip, or name other columns by --columns"
+        }
+        Kind::MissingField => {
+            "a column is missing; name the columns of the two ids by --columns, what parts them by --separator, or see --bad-lines skip"
+        }
+        kind => sentence_of(kind),
+    }
+}
+
+/// What was found wrong, where a column is meant or none, and how it is mended.
+pub(crate) fn placed_sentence(column: Option<u64>, kind: Kind) -> &'static str
+    ensures { result.now ≡ placed_sentence column kind }
+{
+    match column {
+        Some(_) => column_sentence(kind),
+        None => sentence_of(kind),
     }
 }

@@ -2,18 +2,20 @@
 //!
 //! They are read by `clap`, as a command with a command of its own for each task. What `clap` makes of the words of such a command is a
 //! function of them, on which `specs/Wishes.antt` stands. The texts of help, of the version and about wrong words are those of `clap`.
-ghost use Rattle.std.specs.Prelude.{◌≡◌, IfErr, IfOk, codes, false, map, option_map};
+ghost use Rattle.std.specs.Prelude.{◌≡◌, ◌∷◌, [], IfErr, IfOk, codes, false, map, option_map};
 ghost use Rattle.clap.specs.Matches.{found_of};
 ghost use Rattle.clap.specs.Simple.{app_of, subcommand_rows_of, with_subcommand};
 ghost use Rattle.clap.specs.Values.{kind_of};
 ghost use Rattle.clap.specs.Walk.{first_of, rows_of, rule_of};
 ghost use Rattle.clap.specs.declared.builder.command.Command.TheViews.{out-Command};
-ghost use Rattle.kc_cores.specs.Wishes.{bare_command, certificate_command, certificate_rule, check_command, check_wish, core_option, cores_command, edges_flag};
-ghost use Rattle.kc_cores.specs.Wishes.{file_named, is_set, level_in, members_command, members_in, members_task, number_of, quiet_command, quiet_flag};
+ghost use Rattle.kc_cores.specs.Wishes.{Replies, bare_command, certificate_command, certificate_rule, check_command, check_wish, core_option};
+ghost use Rattle.kc_cores.specs.Wishes.{cores_command, edges_flag};
+ghost use Rattle.kc_cores.specs.Wishes.{is_set, level_in, members_command, members_in, members_task, quiet_command, quiet_flag};
 ghost use Rattle.kc_cores.specs.Wishes.{task_command, task_in, wish_by, wish_for, wish_in, wish_of, with_cores, with_tasks};
-ghost use Rattle.kc_cores.specs.Endings.{IsReplyFor, IsRequestFor, RepliesTo};
+ghost use Rattle.kc_cores.specs.Endings.{IsReplyFor, IsRequestFor, RepliesTo, text_of};
 
-use crate::request::{CheckRequest, Request, Task, Wanted};
+use crate::dialect_words::{number_of, text_in, with_dialect};
+use crate::request::{CheckRequest, NamedText, Request, Task, Wanted};
 use clap::error::ErrorKind;
 use clap::{Arg, ArgAction, ArgMatches, Command, Error};
 use kc_graph::NoMemory;
@@ -84,7 +86,7 @@ fn task_command<'a>(
     let file = Arg::new(alloc, "FILE").help(
         "The edge list, two ids a line; standard input where it is - or none is named",
     );
-    let command = quiet_command(alloc, name, about, example)?;
+    let command = with_dialect(alloc, quiet_command(alloc, name, about, example)?)?;
     command.arg(file)
 }
 
@@ -226,7 +228,7 @@ fn check_command<'a>(alloc: Global) -> Result<Command<'a>, NoMemory>
     let file = Arg::new(alloc, "FILE").help(
         "The edge list, two ids a line; standard input where it is - or none is named",
     );
-    let command = certificate_command(alloc)?;
+    let command = with_dialect(alloc, certificate_command(alloc)?)?;
     command.arg(file)
 }
 
@@ -236,13 +238,6 @@ fn cores_command<'a>(alloc: Global) -> Result<Command<'a>, NoMemory>
 {
     let command = with_tasks(alloc)?;
     command.subcommand(check_command(alloc)?)
-}
-
-/// The number that a text is.
-fn number_of(text: &str) -> Option<u32>
-    ensures { result ≡ number_of text.now }
-{
-    text.parse::<u32>().ok()
 }
 
 /// The K of a K-core, where it is given. There is none where it is no number.
@@ -298,16 +293,6 @@ fn task_in(name: &str, found: &ArgMatches<'_>) -> Option<Task>
     }
 }
 
-/// The file that a word names: `-` is standard input.
-fn file_named<'a>(word: Option<&'a str>) -> Option<&'a str>
-    ensures { option_map (λ t. t.now) result ≡ file_named (option_map (λ t. t.now) word.entry) }
-{
-    match word {
-        Some("-") => None,
-        other => other,
-    }
-}
-
 /// What is replied where `clap` has this to say.
 fn reply_of(alloc: Global, error: &Error) -> Reply
     ensures kind { IsReplyFor result (kind_of error.now) }
@@ -330,7 +315,7 @@ fn reply_of(alloc: Global, error: &Error) -> Reply
 
 /// What is replied where no command was met, though one is required, or where its K is no number.
 fn no_command(alloc: Global) -> Reply
-    ensures { IsReplyFor result ErrorKind.InvalidSubcommand }
+    ensures { RepliesTo result (Replies (ErrorKind.InvalidSubcommand ∷ [])) }
 {
     match String::from_str(
         alloc,
@@ -341,37 +326,54 @@ fn no_command(alloc: Global) -> Reply
     }
 }
 
-/// What the command of a task asks for, by its name and these matches.
-fn request_for<'a>(alloc: Global, name: &str, found: &ArgMatches<'a>) -> Result<Wanted<'a>, Reply>
-    ensures asks { IfOk result (λ wanted. IsRequestFor wanted (wish_for (task_in name.now (rows_of (found_of found.now))) (rows_of (found_of found.now)))) }
-    ensures replies { IfErr result (λ reply. RepliesTo reply (wish_for (task_in name.now (rows_of (found_of found.now))) (rows_of (found_of found.now)))) }
+/// What is replied where a value of an option about the text is not right.
+fn wrong_value(alloc: Global) -> Reply
+    ensures { RepliesTo result (Replies (ErrorKind.ValueValidation ∷ [])) }
 {
-    match task_in(name, found) {
-        None => Err(no_command(alloc)),
-        Some(task) => Ok(Wanted::Lines(Request {
-            task,
-            file: file_named(found.get_str("FILE")),
-            quiet: is_set(found.get_str("quiet")),
-        })),
+    match String::from_str(
+        alloc,
+        "cores: --columns takes two numbers from 1 on, as 1,2; --separator takes blank, comma, semicolon or tab; --bad-lines takes stop or skip\n",
+    ) {
+        Ok(text) => Reply::Mistake(text),
+        Err(_) => Reply::NoMemory,
     }
 }
 
-/// What the command `check` asks for, by the names of the certificate and the file.
+/// What a command for a task and a text asks for.
+fn request_for<'a>(
+    alloc: Global,
+    task: Option<Task>,
+    graph: Option<NamedText<'a>>,
+    quiet: bool,
+) -> Result<Wanted<'a>, Reply>
+    ensures asks { IfOk result (λ wanted. IsRequestFor wanted (wish_for task (option_map text_of graph.entry) quiet)) }
+    ensures replies { IfErr result (λ reply. RepliesTo reply (wish_for task (option_map text_of graph.entry) quiet)) }
+{
+    let Some(task) = task else {
+        return Err(no_command(alloc));
+    };
+    match graph {
+        None => Err(wrong_value(alloc)),
+        Some(graph) => Ok(Wanted::Lines(Request { task, graph, quiet })),
+    }
+}
+
+/// What the command `check` asks for, by the name of the certificate and the text of a graph.
 fn check_for<'a>(
     alloc: Global,
     certificate: Option<&'a str>,
-    file: Option<&'a str>,
+    graph: Option<NamedText<'a>>,
 ) -> Result<Wanted<'a>, Reply>
-    ensures asks { IfOk result (λ wanted. IsRequestFor wanted (check_wish (option_map (λ t. t.now) certificate.entry) (option_map (λ t. t.now) file.entry))) }
+    ensures asks { IfOk result (λ wanted. IsRequestFor wanted (check_wish (option_map (λ t. t.now) certificate.entry) (option_map text_of graph.entry))) }
     ensures replies { IfErr result (λ reply. RepliesTo reply
-        (check_wish (option_map (λ t. t.now) certificate.entry) (option_map (λ t. t.now) file.entry))) }
+        (check_wish (option_map (λ t. t.now) certificate.entry) (option_map text_of graph.entry))) }
 {
-    match certificate {
-        None => Err(no_command(alloc)),
-        Some(certificate) => Ok(Wanted::Check(CheckRequest {
-            certificate,
-            file: file_named(file),
-        })),
+    let Some(certificate) = certificate else {
+        return Err(no_command(alloc));
+    };
+    match graph {
+        None => Err(wrong_value(alloc)),
+        Some(graph) => Ok(Wanted::Check(CheckRequest { certificate, graph })),
     }
 }
 
@@ -380,11 +382,13 @@ fn wanted_by<'a>(alloc: Global, name: &str, found: &ArgMatches<'a>) -> Result<Wa
     ensures asks { IfOk result (λ wanted. IsRequestFor wanted (wish_by name.now (rows_of (found_of found.now)))) }
     ensures replies { IfErr result (λ reply. RepliesTo reply (wish_by name.now (rows_of (found_of found.now)))) }
 {
+    let graph = text_in(found);
     if name == "check" {
-        check_for(alloc, found.get_str("CERTIFICATE"), found.get_str("FILE"))
-    } else {
-        request_for(alloc, name, found)
+        return check_for(alloc, found.get_str("CERTIFICATE"), graph);
     }
+    let task = task_in(name, found);
+    let quiet = is_set(found.get_str("quiet"));
+    request_for(alloc, task, graph, quiet)
 }
 
 /// What the command that was met asks for.

@@ -1,5 +1,5 @@
 -- What was taken of the lines is what the write tells, and the lines are those of the graph that was read.
-use Rattle.std.proofs.Common.{◌≡◌, ◌∙◌, Bool, List, ℕ, Result, Ok, Err, ap, length, subst, sym}
+use Rattle.std.proofs.Common.{◌≡◌, ◌∙◌, ◌++◌, Bool, List, ℕ, Result, Ok, Err, ap, length, subst, sym}
 use Rattle.std.specs.Prelude.{IfErr, string_bytes}
 use Rattle.std.specs.Result.{IsErrAnd}
 use Rattle.kc_graph.specs.Core.{AreCoreNumbers}
@@ -9,6 +9,7 @@ use Rattle.kc_read.proofs.Outcomes.{at_err, at_ok}
 use Rattle.kc_cores.specs.Answers.{AreLinesFor, summary_line}
 use Rattle.kc_cores.specs.Endings.{CutAt, line_of, query_of}
 use Rattle.kc_cores.specs.Listings.{Fits, listing_lines}
+use Rattle.kc_cores.specs.Skips.{told_skips}
 use Rattle.kc_cores.specs.declared.listing.Listing.{Listing}
 use Rattle.kc_cores.specs.declared.request.Task.{Task}
 use Rattle.kc_cores.proofs.Ended.{CoresEnded-cut, CoresEnded-done, CoresEnded-no_graph}
@@ -37,13 +38,15 @@ returns-in_err-named-clause-stopped g c =
 
 pub write_lines-requires-clause-same : goal.write_lines-requires-clause-same
 write_lines-requires-clause-same g c =
-    ap length c.deref-3.ensures.value ∙ sym (size-graph_of _ c.in_ok-named.named.ids.items c.in_ok-named.named.graph c.in_ok-named.ensures.graph)
+    ap length c.deref-3.ensures.value ∙ sym (size-graph_of _ _ c.in_ok-named.named.ids.items c.in_ok-named.named.graph c.in_ok-named.named.skipped
+    c.in_ok-named.ensures.graph)
     ∙ sym c.in_ok-core.ensures.one_each ∙ sym (ap length c.deref-4.ensures.value)
 
 pub write_lines-requires-clause-fits : goal.write_lines-requires-clause-fits
 write_lines-requires-clause-fits g c =
     subst (λ (n : ℕ). Fits n c.in_ok-listing.listing)
-    (size-graph_of _ c.in_ok-named.named.ids.items c.in_ok-named.named.graph c.in_ok-named.ensures.graph ∙ sym (ap length c.deref-3.ensures.value))
+    (size-graph_of _ _ c.in_ok-named.named.ids.items c.in_ok-named.named.graph c.in_ok-named.named.skipped c.in_ok-named.ensures.graph
+    ∙ sym (ap length c.deref-3.ensures.value))
     c.in_ok-listing.ensures.fits
 
 pub returns-then-is_err-clause-stopped : goal.returns-then-is_err-clause-stopped
@@ -56,12 +59,16 @@ returns-then-is_err-clause-stopped g c =
     let numbers : AreCoreNumbers graph core = certified-core_numbers graph core c.in_ok-core.field-0.order.items c.in_ok-core.ensures in
     let lines : AreLinesFor c.args.request.task ids graph core text =
     lines-of c.args.request.task c.in_ok-listing.listing graph ids core c.deref-3.result.now c.deref-2.result.now c.deref-4.result.now
-    c.in_ok-listing.ensures.lines (sym (size-graph_of _ ids graph c.in_ok-named.ensures.graph)) c.deref-3.ensures.value c.deref-2.ensures.value
+    c.in_ok-listing.ensures.lines (sym (size-graph_of _ _ ids graph c.in_ok-named.named.skipped c.in_ok-named.ensures.graph)) c.deref-3.ensures.value
+    c.deref-2.ensures.value
     c.deref-4.ensures.value in
-    let sums : string_bytes c.in_ok-summary.summary ≡ summary_line graph core =
-    c.in_ok-summary.ensures ∙ ap (summary_line graph) c.deref.ensures.value in
+    let skips : List ℕ =
+    told_skips (query_of c.args.request).graph.file c.in_ok-named.named.skipped.count c.in_ok-named.named.skipped.first.items in
+    let sums : string_bytes c.in_ok-told.told ≡ skips ++ summary_line graph core =
+    c.in_ok-told.ensures ∙ ap (λ (k : List ℕ). skips ++ summary_line graph k) c.deref.ensures.value in
     let ended = CoresEnded-cut g.I.Source g.I.FileInput.behind g.O.Sink g.O.PipeSink.gone (query_of c.args.request) ids core text
-    (string_bytes c.in_ok-summary.summary) graph c.cut.result.status (line_of c.cut.result) c.args.streams.now.input c.read_graph.new.input
+    (string_bytes c.in_ok-told.told) graph c.in_ok-named.named.skipped c.cut.result.status (line_of c.cut.result) c.args.streams.now.input
+    c.read_graph.new.input
     c.args.streams.now.out c.write_lines.new.out c.in_ok-named.ensures.graph numbers lines sums c.in_ok-named.ensures.faultless
     (at_err c.write_lines.result c.write_lines.ensures.prefix error) (at_err c.write_lines.result c.write_lines.ensures.cause.failed error) in
     ended (subst (λ (b : Bool). CutAt c.cut.result.status (line_of c.cut.result) b) c.is_reader_gone.ensures c.cut.ensures)
@@ -76,11 +83,15 @@ returns-clause-done g c =
     let numbers : AreCoreNumbers graph core = certified-core_numbers graph core c.in_ok-core.field-0.order.items c.in_ok-core.ensures in
     let lines : AreLinesFor c.args.request.task ids graph core text =
     lines-of c.args.request.task c.in_ok-listing.listing graph ids core c.deref-3.result.now c.deref-2.result.now c.deref-4.result.now
-    c.in_ok-listing.ensures.lines (sym (size-graph_of _ ids graph c.in_ok-named.ensures.graph)) c.deref-3.ensures.value c.deref-2.ensures.value
+    c.in_ok-listing.ensures.lines (sym (size-graph_of _ _ ids graph c.in_ok-named.named.skipped c.in_ok-named.ensures.graph)) c.deref-3.ensures.value
+    c.deref-2.ensures.value
     c.deref-4.ensures.value in
-    let sums : string_bytes c.in_ok-summary.summary ≡ summary_line graph core =
-    c.in_ok-summary.ensures ∙ ap (summary_line graph) c.deref.ensures.value in
+    let skips : List ℕ =
+    told_skips (query_of c.args.request).graph.file c.in_ok-named.named.skipped.count c.in_ok-named.named.skipped.first.items in
+    let sums : string_bytes c.in_ok-told.told ≡ skips ++ summary_line graph core =
+    c.in_ok-told.ensures ∙ ap (λ (k : List ℕ). skips ++ summary_line graph k) c.deref.ensures.value in
     CoresEnded-done g.I.Source g.I.FileInput.behind g.O.Sink g.O.PipeSink.gone (query_of c.args.request) ids core text
-    (string_bytes c.in_ok-summary.summary) graph c.args.streams.now.input c.read_graph.new.input c.args.streams.now.out c.write_lines.new.out
+    (string_bytes c.in_ok-told.told) graph c.in_ok-named.named.skipped c.args.streams.now.input c.read_graph.new.input c.args.streams.now.out
+    c.write_lines.new.out
     c.in_ok-named.ensures.graph numbers lines sums c.in_ok-named.ensures.read c.in_ok-named.ensures.faultless
     (at_ok c.write_lines.result c.write_lines.ensures.whole no_error) (at_ok c.write_lines.result c.write_lines.ensures.cause.kept no_error)

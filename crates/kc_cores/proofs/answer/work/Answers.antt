@@ -1,6 +1,6 @@
 -- A reply, a listing and a check each end as the words ask for.
 use Rattle.std.proofs.Common.{map}
-use Rattle.kc_cores.specs.Endings.{checked_file, line_of, query_of}
+use Rattle.kc_cores.specs.Endings.{line_of, query_of, text_of}
 use Rattle.kc_cores.specs.Wishes.{wish_of}
 use Rattle.kc_cores.proofs.Checked.{EndsAsAsked-check, EndsAsAsked-lines, EndsAsAsked-reply}
 use Rattle.kc_cores.proofs.answer.work.Goals as goal
@@ -25,6 +25,6 @@ pub returns-in-Ok-Check-clause-ended : goal.returns-in-Ok-Check-clause-ended
 returns-in-Ok-Check-clause-ended g c =
     let asks = rw c.in-Ok-Check.field-0-is at c.in-Ok-Check.ensures.asks in
     EndsAsAsked-check g.I.Source g.I.FileInput.behind g.C.Source g.C.FileInput.behind g.O.Sink g.O.PipeSink.gone
-    (wish_of (map g.W.AsStr.text c.args.words.now)) c.in-Ok-Check.request.certificate.now (checked_file c.in-Ok-Check.request) c.check.result.status
+    (wish_of (map g.W.AsStr.text c.args.words.now)) c.in-Ok-Check.request.certificate.now (text_of c.in-Ok-Check.request.graph) c.check.result.status
     (line_of c.check.result) c.args.streams.now.input c.check.new.streams.input c.args.streams.now.certificate c.check.new.streams.certificate
     c.args.streams.now.out c.check.new.streams.out asks c.check.ensures.ended

@@ -14,13 +14,15 @@ lent P g ids ids' claims claims' one two h =
 
 pub check_claims-requires-clause-named : goal.check_claims-requires-clause-named
 check_claims-requires-clause-named g c =
-    ap length c.deref.ensures.value ∙ sym (size-graph_of _ c.in_ok-named.named.ids.items c.in_ok-named.named.graph c.in_ok-named.ensures.graph)
+    ap length c.deref.ensures.value ∙ sym (size-graph_of _ _ c.in_ok-named.named.ids.items c.in_ok-named.named.graph c.in_ok-named.named.skipped
+    c.in_ok-named.ensures.graph)
 
 pub returns-in-Ok-clause-right : goal.returns-in-Ok-clause-right
 returns-in-Ok-clause-right g c = λ _. record {
   ids = c.in_ok-named.named.ids.items;
   g = c.in_ok-named.named.graph;
   claims = c.in_ok-claims.claims.items;
+  skipped = c.in_ok-named.named.skipped;
   graph = c.in_ok-named.ensures.graph;
   claimed = c.in_ok-claims.ensures.claims;
   found = (
@@ -38,6 +40,7 @@ returns-in-Err-Faulty-clause-wrong g c =
       ids = c.in_ok-named.named.ids.items;
       g = c.in_ok-named.named.graph;
       claims = c.in_ok-claims.claims.items;
+      skipped = c.in_ok-named.named.skipped;
       graph = c.in_ok-named.ensures.graph;
       claimed = c.in_ok-claims.ensures.claims;
       found = lent (λ xs h cs. IsFirstFault xs h cs c.in-Err-Faulty.fault) c.in_ok-named.named.graph c.in_ok-named.named.ids.items c.deref.result.now

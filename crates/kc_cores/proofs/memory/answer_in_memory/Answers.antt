@@ -1,19 +1,20 @@
 -- The bytes of the input are known, whether they are those of standard input or of a file.
-use Rattle.std.proofs.Common.{◌≡◌, ◌++◌, ◌∙◌, List, [], ℕ, Option, Some, IfSome, append-nil, map, subst}
+use Rattle.std.proofs.Common.{◌≡◌, ◌++◌, ◌∙◌, List, [], ℕ, Option, Some, IfSome, ap, append-nil, map, subst, sym}
 use Rattle.kc_text.specs.Meaning.{Refuses}
 use Rattle.kc_text.specs.declared.kind.Kind.{Kind}
-use Rattle.kc_cores.specs.Answers.{IsTextFor, graph_meaning}
+use Rattle.kc_cores.specs.Answers.{IsRefusedBy, IsTextFor, graph_meaning}
 use Rattle.kc_cores.specs.CoresEnded.{IsLineAt, TookAt, given_bytes}
 use Rattle.kc_cores.specs.Inputs.{bytes_behind}
 use Rattle.kc_cores.specs.Wishes.{Asks, Query, Wish, wish_of}
 use Rattle.kc_cores.specs.declared.CoresStatus.{CoresStatus}
 use Rattle.kc_cores.specs.declared.CoresStatus.TheVariants as status
+use Rattle.kc_cores.proofs.Ended.{asked-same}
 use Rattle.kc_cores.proofs.memory.answer_in_memory.Goals as goal
 
 -- what was taken by a run that is done, of bytes that are known, are their lines
 done-in : (end : CoresStatus) (wish : Wish) (query : Query) (bytes a b : List ℕ) (known : Wish → Option (List ℕ)) → end ≡ status.Done
     → wish ≡ Asks query → known (Asks query) ≡ Some bytes → TookAt end wish (known wish) (Some a) (Some b)
-    → (text : List ℕ) × (summary : List ℕ) × IsTextFor query.task bytes text summary × (b ≡ a ++ text)
+    → (text : List ℕ) × (summary : List ℕ) × IsTextFor query bytes text summary × (b ≡ a ++ text)
 done-in end wish query bytes a b known is asks here took =
     let at_done : TookAt status.Done wish (known wish) (Some a) (Some b) =
     subst (λ (e : CoresStatus). TookAt e wish (known wish) (Some a) (Some b)) is took in
@@ -21,17 +22,19 @@ done-in end wish query bytes a b known is asks here took =
     subst (λ (w : Wish). TookAt status.Done w (known w) (Some a) (Some b)) asks at_done in
     let (text, (summary, (all, same, is_text)), took_all) =
     subst (λ (k : Option (List ℕ)). TookAt status.Done (Asks query) k (Some a) (Some b)) here at_task in
-    (text, summary, subst (λ (x : List ℕ). IsTextFor query.task x text summary) same is_text, took_all)
+    (text, summary, subst (λ (x : List ℕ). IsTextFor query x text summary) same is_text, took_all)
 
 -- what is told of a run that is refused, of bytes that are known, is of these bytes, and nothing was taken
 refused-in : (end : CoresStatus) (wish : Wish) (query : Query) (bytes a b line : List ℕ) (known : Wish → Option (List ℕ))
     → end ≡ status.Refused → wish ≡ Asks query → known (Asks query) ≡ Some bytes → TookAt end wish (known wish) (Some a) (Some b)
-    → IsLineAt end wish (known wish) line → (n : ℕ) × (kind : Kind) × (graph_meaning bytes ≡ Refuses n kind) × (b ≡ a)
+    → IsLineAt end wish (known wish) line → (n : ℕ) × (kind : Kind) × (graph_meaning query.graph.dialect bytes ≡ Refuses n kind) × (b ≡ a)
 refused-in end wish query bytes a b line known is asks here took says =
     let none : b ≡ a ++ [] = subst (λ (e : CoresStatus). TookAt e wish (known wish) (Some a) (Some b)) is took in
-    let (n, kind, told, means) = subst (λ (e : CoresStatus). IsLineAt e wish (known wish) line) is says in
-    let at_task = subst (λ (w : Wish). IfSome (known w) (λ x. graph_meaning x ≡ Refuses n kind)) asks means in
-    (n, kind, subst (λ (k : Option (List ℕ)). IfSome k (λ x. graph_meaning x ≡ Refuses n kind)) here at_task, none ∙ append-nil a)
+    let (asked, placed, same, told, means) = subst (λ (e : CoresStatus). IsLineAt e wish (known wish) line) is says in
+    let q : asked ≡ query = asked-same asked query (sym same ∙ asks) in
+    let at_task = subst (λ (w : Wish). IfSome (known w) (λ x. IsRefusedBy asked.graph.dialect x placed)) asks means in
+    let refused = subst (λ (k : Option (List ℕ)). IfSome k (λ x. IsRefusedBy asked.graph.dialect x placed)) here at_task in
+    (placed.refusal.line, placed.refusal.kind, ap (λ (x : Query). graph_meaning x.graph.dialect bytes) (sym q) ∙ refused.0, none ∙ append-nil a)
 
 pub returns-clause-done : goal.returns-clause-done
 returns-clause-done g c = λ query bytes asks here end.

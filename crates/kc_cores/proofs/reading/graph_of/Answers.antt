@@ -5,5 +5,5 @@ use Rattle.kc_cores.proofs.reading.graph_of.Goals as goal
 
 pub returns-clause-graph : goal.returns-clause-graph
 returns-clause-graph c =
-    let same = pairs-graph (length c.args.listed.ids.items) c.args.listed.edges.items c.requires.edges in
+    let same = pairs-graph (length c.args.found.named.ids.items) c.args.found.named.edges.items c.requires.edges in
     search (rules, same)

@@ -8,9 +8,8 @@ use Rattle.clap.specs.Simple.{subcommand_rows, subcommand_rows_of}
 use Rattle.clap.specs.Walk.{Row, Text, rows_of}
 use Rattle.clap.specs.declared.parser.matches.ArgMatches.TheViews.{out-SubCommand}
 use Rattle.clap.specs.declared.parser.matches.SubCommand.{SubCommand}
-use Rattle.kc_cores.specs.Endings.{IsRequestFor}
+use Rattle.kc_cores.specs.Endings.{IsRequestFor, RepliesTo}
 use Rattle.kc_cores.specs.Wishes.{Wish, wish_by, wish_in}
-use Rattle.kc_cores.proofs.Replies.{RepliesTo-no_command}
 use Rattle.kc_cores.proofs.words.request_in.Goals as goal
 
 -- what has no rows is nothing
@@ -20,8 +19,8 @@ nothing (Some p) e = absurd (cc)
 
 pub returns-in-None-clause-replies : goal.returns-in-None-clause-replies
 returns-in-None-clause-replies c =
-    RepliesTo-no_command c.no_command.result _ c.no_command.ensures
-    (ap wish_in (nothing (subcommand_rows_of c.args.matches.now) c.in-None.ensures.rows))
+    subst (λ (w : Wish). RepliesTo c.no_command.result w) (sym (ap wish_in (nothing (subcommand_rows_of c.args.matches.now) c.in-None.ensures.rows)))
+    c.no_command.ensures
 
 -- the name of the command that was met is the first of what is known of it
 name-met : {Z : Type 0} (met : Option (Box SubCommand Z))

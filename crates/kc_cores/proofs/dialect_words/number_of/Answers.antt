@@ -7,7 +7,7 @@ use Rattle.std.specs.Result.{result_ok}
 use Rattle.std.specs.Str.Parse.{AllDigits, ParsesUnsigned, digits_value, without_leading_plus}
 use Rattle.clap.proofs.WalkLemmas.{both}
 use Rattle.kc_cores.specs.Wishes.{is_number, number_of}
-use Rattle.kc_cores.proofs.words.number_of.Goals as goal
+use Rattle.kc_cores.proofs.dialect_words.number_of.Goals as goal
 
 -- digits pass the test of digits
 digits_pass : (ds : List ℕ) → AllDigits 10 ds → list_all (λ d. nat_lt (digit_value d) 10) ds ≡ true

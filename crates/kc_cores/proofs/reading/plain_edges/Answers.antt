@@ -1,9 +1,10 @@
 -- What the reader tells of all bytes within the limits of a graph is what is told of the text of a graph.
+use Rattle.std.proofs.Common.{None, arith, option_map, refl}
 use Rattle.kc_text.specs.Meaning.{Means}
+use Rattle.kc_cores.specs.Wishes.{GraphText}
 use Rattle.kc_cores.proofs.Graphs.{graph_meaning-is}
 use Rattle.kc_cores.proofs.Stopping.{HasNoGraph-refused, graph_refused}
-use Rattle.std.proofs.Common.{refl, arith}
-use Rattle.kc_cores.proofs.reading.edges_from.Goals as goal
+use Rattle.kc_cores.proofs.reading.plain_edges.Goals as goal
 
 pub returns-in-Ok-clause-edges : goal.returns-in-Ok-clause-edges
 returns-in-Ok-clause-edges g c =
@@ -15,14 +16,15 @@ returns-in-Ok-clause-edges g c =
       means = graph_meaning-is within.bytes (Means within.told) within.means;
       are = within.are;
       fit = record { few = omega (arith, c.in-Ok.ensures.few); edges = c.in-Ok.ensures.within };
+      skipped = record { count = refl; first = c.new.ensures.items };
     }
 
 pub returns-in-Err-Refused-clause-stopped : goal.returns-in-Err-Refused-clause-stopped
 returns-in-Err-Refused-clause-stopped g c =
-    let line = c.in-Err-Refused.refusal.line in
-    let kind = c.in-Err-Refused.refusal.kind in
+    let refusal = c.in-Err-Refused.refusal in
     let known = g.S.Source.left c.args.source.now in
     let refused = rw c.in-Err-Refused.field-0-is at c.in-Err-Refused.ensures.refused in
     let faultless = rw c.in-Err-Refused.field-0-is at c.in-Err-Refused.ensures.faultless in
-    HasNoGraph-refused c.refused.result line kind known _ _ c.refused.ensures (graph_refused line kind known (refused c.in-Err-Refused.refusal refl))
-    (faultless (λ e. absurd (cc)))
+    let graph : GraphText = record { file = option_map (λ t. t.now) c.args.file; dialect = None } in
+    HasNoGraph-refused c.refused.result graph (record { refusal = refusal; column = None }) known _ _ c.refused.ensures
+    (graph_refused refusal known (refused refusal refl)) (faultless (λ e. absurd (cc)))
