@@ -1,5 +1,5 @@
 -- What a text means that is too long, that has a bad line which ends the reading, or that has none.
-use Rattle.std.proofs.Common.{◌≡◌, ◌≤◌, ◌<◌, ◌⊎◌, ◌∙◌, ◌++◌, ℕ, List, [], ◌∷◌, Option, None, Some, IfSome, ap, cond, inl, inr, length, lt-ltb, refl, subst, sym}
+use Rattle.std.proofs.Common.{◌≡◌, ◌≤◌, ◌<◌, ◌⊎◌, ◌∙◌, ℕ, List, [], ◌∷◌, Option, None, Some, IfSome, ap, cond, inl, inr, length, lt-ltb, refl, sym}
 use Rattle.std.proofs.Common.{arith, length-append}
 use Rattle.std.proofs.lemmas.Bool.{le-ltb}
 use Rattle.std.specs.Io.KnownBytes.{Consumes, IsAtEnd}

@@ -1,5 +1,5 @@
 -- What the reader was fed tells what all bytes of the source tell.
-use Rattle.std.proofs.Common.{◌≡◌, ◌≢◌, ◌<◌, ℕ, List, Result, Ok, Err, IfOk, OnOk, IsErrOf, length, subst}
+use Rattle.std.proofs.Common.{◌≡◌, ◌≢◌, ℕ, List, Result, Ok, Err, IfOk, OnOk, IsErrOf, subst}
 use Rattle.std.proofs.lemmas.Result.{IfOk-weaker, err_from_is_err_and}
 use Rattle.kc_dialect.specs.Dialects.{bad_lines}
 use Rattle.kc_dialect.specs.Skipped.{AreSkipped}

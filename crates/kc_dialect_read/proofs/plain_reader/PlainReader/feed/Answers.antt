@@ -1,5 +1,5 @@
 -- What the bytes were rewritten to was read.
-use Rattle.std.proofs.Common.{◌≡◌, ◌∙◌, ◌++◌, List, ℕ, [], ap, refl, subst, sym}
+use Rattle.std.proofs.Common.{◌≡◌, ◌∙◌, ◌++◌, List, ℕ, ap, refl, subst}
 use Rattle.std.proofs.lemmas.Result.{err_from_is_err_and}
 use Rattle.kc_dialect.specs.Rewritten.{HasFirstBad}
 use Rattle.kc_dialect.specs.declared.dialect.Dialect.{Dialect}

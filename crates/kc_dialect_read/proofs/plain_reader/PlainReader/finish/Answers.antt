@@ -1,8 +1,8 @@
 -- What was read is the plain text of what was fed, so it tells what that means; or the last line is bad.
-use Rattle.std.proofs.Common.{◌≡◌, ◌≤◌, ◌∙◌, ◌++◌, ℕ, List, [], Result, Ok, Err, IfOk, ap, length, refl, subst, sym}
+use Rattle.std.proofs.Common.{◌≡◌, ◌∙◌, ◌++◌, ℕ, List, [], Result, Ok, Err, IfOk, ap, refl, subst, sym}
 use Rattle.std.proofs.lemmas.Result.{IfOk-weaker}
 use Rattle.kc_dialect.specs.Dialects.{bad_lines, plain_text}
-use Rattle.kc_dialect.specs.Rewritten.{HasFirstBad, HasRewritten}
+use Rattle.kc_dialect.specs.Rewritten.{HasFirstBad}
 use Rattle.kc_dialect.specs.Skipped.{AreSkipped}
 use Rattle.kc_dialect.specs.declared.dialect.BadLines.TheVariants.{Stop}
 use Rattle.kc_dialect.specs.declared.dialect.Dialect.{Dialect}
