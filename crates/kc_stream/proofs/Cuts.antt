@@ -14,7 +14,8 @@ ended-open (b ∷ rest) o = ap (λ t. cond t (b ∷ ended rest) []) o
 -- bytes that end with a line have a newline
 ends-newline : (b : ℕ) (bytes : List ℕ) → EndsLine (b ∷ bytes) → list_any is_newline (b ∷ bytes) ≡ true
 ends-newline b bytes (inl none) = absurd (omega (arith, ap length none))
-ends-newline b bytes (inr (front, is)) = ap (list_any is_newline) is ∙ list_any-append is_newline front (10 ∷ []) ∙ or_right (list_any is_newline front) true refl
+ends-newline b bytes (inr (front, is)) =
+    ap (list_any is_newline) is ∙ list_any-append is_newline front (10 ∷ []) ∙ or_right (list_any is_newline front) true refl
 
 -- so do those behind the first, or there are none
 ends-tail : (b : ℕ) (bytes : List ℕ) → EndsLine (b ∷ bytes) → EndsLine bytes

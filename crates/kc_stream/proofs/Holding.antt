@@ -90,7 +90,8 @@ holds-edge old new told a b out ids ia ib same edges within updates h =
       edges = λ last.
           edges ∙ ap (λ (t : List (ℕ × ℕ)). t ++ cons_option (between (place new.ids a) (place new.ids b)) [])
           (h.edges last ∙ sym (edges-stay old.ids new.ids told.edges f h.edge_ends)) ∙ sym (filter_map-append (numbered new.ids) told.edges ((a, b) ∷ []));
-      edge_ends = subst (AreAmong new.ids) (sym (ends-push told.edges (a, b))) (among-two new.ids (ends told.edges) a b (among-more old.ids new.ids (ends told.edges) f h.edge_ends) ia ib);
+      edge_ends = subst (AreAmong new.ids) (sym (ends-push told.edges (a, b)))
+          (among-two new.ids (ends told.edges) a b (among-more old.ids new.ids (ends told.edges) f h.edge_ends) ia ib);
       updates = ap (map parts_of) updates ∙ updates-stay old.ids new.ids (unwrap_or told.last []) old.updates.items f h.update_ends h.updates;
       update_ends = among-more old.ids new.ids (ends (map ends_of (unwrap_or told.last []))) f h.update_ends;
       edges_within = within (length new.ids) (place-below new.ids a ia) (place-below new.ids b ib)

@@ -25,10 +25,6 @@ Extends ids more = (x : ℕ) → is_member nat_eq ids x ≡ true → (is_member 
 pub extends-trans : (a b c : List ℕ) → Extends a b → Extends b c → Extends a c
 extends-trans a b c f g = λ x m. let (n, p) = f x m in let (k, q) = g x n in (k, q ∙ p)
 
--- what is there stays with one behind
-member-push : (ids : List ℕ) (y x : ℕ) → is_member nat_eq (ids ++ y ∷ []) x ≡ (is_member nat_eq ids x || (nat_eq x y || false))
-member-push ids y x = list_any-append (nat_eq x) ids (y ∷ [])
-
 -- an id keeps its place with one behind
 place-push : (ids : List ℕ) (y x : ℕ) → is_member nat_eq ids x ≡ true → place (ids ++ y ∷ []) x ≡ place ids x
 place-push ids y x m =
@@ -46,7 +42,8 @@ place-none (y ∷ ids) x m = elim (cases_Bool (nat_eq x y)) [
   | inl t ↦ absurd (false≢true (sym m ∙ or_left (nat_eq x y) _ t))
   | inr f ↦
       let rest : is_member nat_eq ids x ≡ false = sym (ap (λ (b : Bool). b || is_member nat_eq ids x) f) ∙ m in
-      ap (λ (b : Bool). cond (not b) (1 + position_or_len (nat_eq x) ids) 0) f ∙ (let e : 1 + place ids x ≡ suc (length ids) = omega (arith, place-none ids x rest) in e)
+      ap (λ (b : Bool). cond (not b) (1 + position_or_len (nat_eq x) ids) 0) f
+      ∙ (let e : 1 + place ids x ≡ suc (length ids) = omega (arith, place-none ids x rest) in e)
 ]
 
 -- one that is put behind others has their count as its place
@@ -68,14 +65,14 @@ name-new ids n m = ap (λ b. cond b ids (ids ++ n ∷ [])) m
 pub extends-name : (ids : List ℕ) (n : ℕ) → Extends ids (with_name ids n)
 extends-name ids n = elim (is_member nat_eq ids n) as (λ b. Extends ids (cond b ids (ids ++ n ∷ []))) [
   | true ↦ λ x m. (m, refl)
-  | false ↦ λ x m. (member-push ids n x ∙ or_left _ _ m, place-push ids n x m)
+  | false ↦ λ x m. (list_any-append (nat_eq x) ids (n ∷ []) ∙ or_left _ _ m, place-push ids n x m)
 ]
 
 -- a name is an id afterwards
 pub name-member : (ids : List ℕ) (n : ℕ) → is_member nat_eq (with_name ids n) n ≡ true
 name-member ids n = elim (cases_Bool (is_member nat_eq ids n)) [
   | inl t ↦ ap (λ (l : List ℕ). is_member nat_eq l n) (name-known ids n t) ∙ t
-  | inr f ↦ ap (λ (l : List ℕ). is_member nat_eq l n) (name-new ids n f) ∙ member-push ids n n
+  | inr f ↦ ap (λ (l : List ℕ). is_member nat_eq l n) (name-new ids n f) ∙ list_any-append (nat_eq n) ids (n ∷ [])
       ∙ or_right (is_member nat_eq ids n) _ (or_left (nat_eq n n) false (eq-eqb n n refl))
 ]
 
@@ -89,7 +86,8 @@ name-grows ids n = elim (is_member nat_eq ids n) as (λ b. length ids ≤ length
 -- with more names all ids stay
 pub extends-names : (ids named : List ℕ) → Extends ids (with_names ids named)
 extends-names ids [] = λ x m. (m, refl)
-extends-names ids (n ∷ named) = extends-trans ids (with_name ids n) (with_names (with_name ids n) named) (extends-name ids n) (extends-names (with_name ids n) named)
+extends-names ids (n ∷ named) =
+    extends-trans ids (with_name ids n) (with_names (with_name ids n) named) (extends-name ids n) (extends-names (with_name ids n) named)
 
 -- each name is an id afterwards
 pub names-members : (ids named : List ℕ) → AreAmong (with_names ids named) named
@@ -110,13 +108,13 @@ pub number-push : (ids : List ℕ) (n x : ℕ) → is_member nat_eq ids n ≡ fa
 number-push ids n x new = elim (cases_Bool (nat_eq n x)) [
   | inl same ↦
       let e : n ≡ x = eqb-true n x same in
-      let there : is_member nat_eq (ids ++ n ∷ []) n ≡ true = member-push ids n n ∙ or_right (is_member nat_eq ids n) _
+      let there : is_member nat_eq (ids ++ n ∷ []) n ≡ true = list_any-append (nat_eq n) ids (n ∷ []) ∙ or_right (is_member nat_eq ids n) _
       (or_left (nat_eq n n) false (eq-eqb n n refl)) in
       ap (number_of (ids ++ n ∷ [])) (sym e) ∙ ap (λ b. cond b (Some (place (ids ++ n ∷ []) n)) None) there
       ∙ ap Some (place-last ids n new) ∙ sym (ap (λ b. cond b (Some (length ids)) (number_of ids x)) same)
   | inr other ↦
       let back : nat_eq x n ≡ false = flip n x other in
-      let here : is_member nat_eq (ids ++ n ∷ []) x ≡ is_member nat_eq ids x = member-push ids n x ∙ ap (λ b. is_member nat_eq ids x || (b || false)) back
+      let here : is_member nat_eq (ids ++ n ∷ []) x ≡ is_member nat_eq ids x = list_any-append (nat_eq x) ids (n ∷ []) ∙ ap (λ b. is_member nat_eq ids x || (b || false)) back
       ∙ or-false (is_member nat_eq ids x) in
       ap (λ b. cond b (Some (place (ids ++ n ∷ []) x)) None) here ∙ as-before here ∙ sym (ap (λ b. cond b (Some (length ids)) (number_of ids x)) other)
 ]
@@ -167,8 +165,8 @@ names-push named a b = ap (with_names []) (append_assoc named (a ∷ []) (b ∷ 
 pub ids-edge : (told : Told) (a b : ℕ) → told.last ≡ None → told.earlier ≡ []
     → ids_of (with_line told (said.Edge a b)) ≡ with_names (ids_of told) (a ∷ b ∷ [])
 ids-edge told a b last earlier =
-    let none : changes told ≡ [] = ap₂ (λ (e : List (List ChangeLine)) (l : Option (List ChangeLine)). changes (record { edges = told.edges; earlier = e; last = l }))
-    earlier last in
+    let none : changes told ≡ [] =
+    ap₂ (λ (e : List (List ChangeLine)) (l : Option (List ChangeLine)). changes (record { edges = told.edges; earlier = e; last = l })) earlier last in
     let before : names told ≡ ends told.edges = ap (λ (cs : List ChangeLine). ends (told.edges ++ map ends_of cs)) none ∙ ends-nil told.edges in
     let after : names (with_line told (said.Edge a b)) ≡ ends (told.edges ++ (a, b) ∷ []) =
     ap (λ (cs : List ChangeLine). ends ((told.edges ++ (a, b) ∷ []) ++ map ends_of cs)) none ∙ ends-nil (told.edges ++ (a, b) ∷ []) in

@@ -74,7 +74,10 @@ batch-numbered ids cs us are among =
     let same : length us.items ≡ length cs = sym (length-map us.items parts_of) ∙ (ap length are ∙ length-map cs (numbered_change ids)) in
     let changes : Vec ChangeLine Global = as-vector us cs same in
     let all = all-numbered ids (changes ∷ []) (us ∷ []) (ap (λ (t : List EdgeUpdate). t ∷ []) are)
-    (λ k d l. elim k as (λ k. k < 1 → AreAmong ids (ends (map ends_of (get_or (changes ∷ []) k d).items))) [ zero ↦ λ _. among | suc n ↦ λ m. absurd (omega arith) ] l) in
+    (λ k d l. elim k as (λ k. k < 1 → AreAmong ids (ends (map ends_of (get_or (changes ∷ []) k d).items))) [
+      | zero ↦ λ _. among
+      | suc n ↦ λ m. absurd (omega arith)
+    ] l) in
     ap (λ (t : List EdgeBatch). get_or t 0 (numbered_batch ids cs)) all
 
 -- where there is no batch line, no batch was told

@@ -45,7 +45,8 @@ module _ (gathered : Gathered) (told : Told) (h : Holds gathered told) where
 
   -- its line is the reply
   pub start-reply : (ended : ℕ) → KeepsAccount None ended told
-      → reply_of (with_line told said.Batch) ≡ reply_of told ++ (let g : SimpleGraph = graph_gathered gathered in graph_line g.size (set.len g.edges) (top_of g))
+      → reply_of (with_line told said.Batch)
+      ≡ reply_of told ++ (let g : SimpleGraph = graph_gathered gathered in graph_line g.size (set.len g.edges) (top_of g))
   start-reply ended (last, count) =
       ap (λ (a : Account). a.text) (start-account last)
       ∙ ap (λ (g : SimpleGraph). graph_line g.size (set.len g.edges) (top_of g)) (start-graph last)

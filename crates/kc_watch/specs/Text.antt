@@ -22,9 +22,9 @@ core_numbers_of g = (certificate_exists g).0
 abbrev pub top_of : SimpleGraph → ℕ
 top_of g = greatest (core_numbers_of g)
 
--- What is known of a stream behind one of its batches: how many batches have ended; the ids that were named, each at the number that stands for it; the graph between these numbers; and the text so far. The numbers are the places of
--- the ids in the order of their first coming. No two ids have one number, and the text has nothing of the numbers but how many there are, so
--- it is the text of the graph of the ids.
+-- What is known of a stream behind one of its batches: how many batches have ended; the ids that were named, each at the number that stands
+-- for it; the graph between these numbers; and the text so far. The numbers are the places of the ids in the order of their first coming. No
+-- two ids have one number, and the text has nothing of the numbers but how many there are, so it is the text of the graph of the ids.
 pub record Account : Type 0 where
   pub ended : ℕ
   pub ids : List ℕ

@@ -1,5 +1,5 @@
 -- A new id is put behind the others, and its number into the map.
-use Rattle.std.proofs.Common.{◌≡◌, ◌∷◌, ◌++◌, [], ℕ, List, length, ap, sym, ◌∙◌, arith, None, Some, false, true, nat_eq, subst}
+use Rattle.std.proofs.Common.{◌≡◌, ◌∷◌, ◌++◌, [], ℕ, List, length, ap, sym, ◌∙◌, arith, None, Some, false, true, nat_eq, subst, cond}
 use Rattle.std.proofs.Common.{length-append}
 use Rattle.std.specs.Prelude.{is_ok}
 use Rattle.std.specs.HashMap.{get}
@@ -26,7 +26,7 @@ invariant_of-self-2 c =
     let count : c.len-number.result ≡ length ids = omega (arith, c.len-number.ensures) in (
       subst (λ (l : List ℕ). (id : ℕ) → get nat_eq c.insert.new.self id ≡ number_of l id) (sym pushed)
           (numbers-put ids c.self.inside.numbers c.insert.new.self c.args.id c.self.invariant.0 none
-          (subst (λ (n : ℕ). (q : ℕ) → get nat_eq c.insert.new.self q ≡ Rattle.std.specs.Bool.if◌then◌else◌ (nat_eq c.args.id q) (Some n) (get nat_eq c.self.inside.numbers q))
+          (subst (λ (n : ℕ). (q : ℕ) → get nat_eq c.insert.new.self q ≡ cond (nat_eq c.args.id q) (Some n) (get nat_eq c.self.inside.numbers q))
           count c.in_ok-insert.ensures.updates.0)),
       omega (arith, ap length pushed, length-append ids (c.args.id ∷ []), c.if-number.false, count),
     )

@@ -39,7 +39,8 @@ returns-in_default c =
         [],
         sym (append-nil c.args.out.now.items),
         λ heard s.
-            let e : reply_of (hear heard c.args.line).told ≡ reply_of heard.told ++ [] = other-put c.args.self.now c.args.line c.in_default.not-Batch going heard s in
+            let e : reply_of (hear heard c.args.line).told ≡ reply_of heard.told ++ [] =
+            other-put c.args.self.now c.args.line c.in_default.not-Batch going heard s in
             on-both c.take.result _ _ e (prefix-same _ _ e),
       );
     }
