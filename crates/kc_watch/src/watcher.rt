@@ -36,7 +36,6 @@ impl Watcher {
 
     /// The first line that is refused, with the first check that it fails. Nothing behind it is answered.
     pub fn refusal(&self) -> Option<Refusal>
-        requires { (fed : List ℕ) × WasFed self.now fed }
         ensures { (fed : List ℕ) → WasFed self.now fed → result ≡ (heard_so_far fed).refusal }
     {
         self.course.refusal()
