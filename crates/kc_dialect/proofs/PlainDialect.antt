@@ -1,9 +1,9 @@
 -- What a text of a graph says in the plain dialect.
 use Rattle.std.proofs.Common.{◌≡◌, ◌≤◌, ◌+◌, ◌++◌, ℕ, suc, Bool, List, [], ◌∷◌, length, map, take, drop, refl, sym, ap, subst, ◌∙◌, arith, inl}
-use Rattle.std.proofs.Common.{inr, cond, true, false, ◌&&◌, ◌||◌, ◌==◌}
+use Rattle.std.proofs.Common.{inr, cond, true, false, ◌&&◌, ◌==◌}
 use Rattle.std.proofs.Common.{Option, Some, None, Result, Ok, Err, nat_lt, eqb-true, le-ltb}
 use Rattle.std.specs.Prelude.{codes, is_some, slice_index}
-use Rattle.std.specs.List.{filter, onto_first, position_or_len, prefix_len, slice_split}
+use Rattle.std.specs.List.{filter, onto_first, position_or_len, slice_split}
 use Rattle.std.specs.Str.{bytes_eq}
 use Rattle.std.proofs.lemmas.Bool.{cases_Bool, and_parts, true≢false}
 use Rattle.kc_text.specs.declared.change.ChangeLine.{ChangeLine}
@@ -14,12 +14,11 @@ use Rattle.kc_text.specs.declared.line.TextLine.{TextLine}
 use Rattle.kc_text.specs.declared.line.TextLine.TheVariants.{Nothing, Edge, Batch, Change, Wrong}
 use Rattle.kc_text.specs.Forms.{all_said, batch_form, change_form, edge_form, first_number, is_comment, last_number, line_of, number, said_by}
 use Rattle.kc_text.specs.Forms.{two_numbers, value}
-use Rattle.kc_text.specs.Lines.{fields, is_blank, is_not_empty, lines}
+use Rattle.kc_text.specs.Lines.{fields, is_blank, is_not_empty}
 use Rattle.kc_text.specs.Meaning.{Meaning, Means, Refuses, Told, ends_or, meaning, nothing_told, or_else, passed_limit, reading, refusal, unfit, with_line}
 use Rattle.kc_text.proofs.FieldCuts.{fields-first}
 use Rattle.kc_dialect.specs.declared.bad_line.BadField.{BadField}
 use Rattle.kc_dialect.specs.declared.bad_line.BadLine.{BadLine}
-use Rattle.kc_dialect.specs.declared.dialect.Dialect.{Dialect}
 use Rattle.kc_dialect.specs.declared.dialect.Separator.TheVariants.{Blank}
 use Rattle.kc_dialect.specs.declared.dialect.TheConstants.Dialect.{PLAIN}
 use Rattle.kc_dialect.specs.Columns.{checked, field_of, fields_from, fields_in, in_column, is_field, number_in_column, checked_in, parts, placed_parts}

@@ -1,10 +1,10 @@
 -- What plain lines are in a dialect of the first two columns.
-use Rattle.std.proofs.Common.{◌≡◌, ◌≤◌, ◌<◌, ◌+◌, ◌-◌, ◌*◌, ◌^◌, ◌==◌, ◌&&◌, ◌||◌, ℕ, zero, suc, Bool, true, false, not, cond, List, [], ◌∷◌, ◌++◌}
-use Rattle.std.proofs.Common.{length, map, take, drop, get_or}
-use Rattle.std.proofs.Common.{refl, sym, ap, subst, ◌∙◌, arith, inl, inr, append_assoc, append-nil, length-append, Result, Ok, Err, Option, Some, None}
-use Rattle.std.proofs.Common.{eqb-true, le-leb, leb-true, le-ltb, lt-ltb, nat_le, nat_lt, length-drop, take-append-drop}
+use Rattle.std.proofs.Common.{◌≡◌, ◌≤◌, ◌<◌, ◌+◌, ◌-◌, ◌*◌, ◌^◌, ◌==◌, ◌&&◌, ◌||◌, ℕ, suc, Bool, true, false, not, cond, List, [], ◌∷◌, ◌++◌}
+use Rattle.std.proofs.Common.{length, map, take, drop}
+use Rattle.std.proofs.Common.{refl, sym, ap, subst, ◌∙◌, arith, inl, inr, append_assoc, append-nil, length-append, Result, Ok, Option, Some, None}
+use Rattle.std.proofs.Common.{eqb-true, leb-true, le-ltb, lt-ltb, nat_le, nat_lt, length-drop, take-append-drop}
 use Rattle.std.specs.Prelude.{All, slice_index}
-use Rattle.std.specs.List.{fold, list_all, onto_first, position_or_len, prefix_len, slice_split, suffix_len}
+use Rattle.std.specs.List.{fold, list_all, onto_first, position_or_len, prefix_len, suffix_len}
 use Rattle.std.specs.Str.Lines.{strip_carriage_return}
 use Rattle.std.proofs.Math.Nat.{mul-le-mul_right, pow-le-pow_right}
 use Rattle.std.proofs.lemmas.Bool.{and_left, and_parts, and_right, cases_Bool, ne_eqb, or_cases}
@@ -12,9 +12,8 @@ use Rattle.std.proofs.lemmas.List.{drop-drop, drop-take, drop_at, map-append, ta
 use Rattle.std.proofs.lemmas.List.Elements.{All-append, All-cons, All-nil}
 use Rattle.std.proofs.lemmas.List.Splits.{slice_split_none}
 use Rattle.std.proofs.lemmas.List.Sums.{suffix_len_is}
-use Rattle.kc_text.specs.declared.kind.Kind.{Kind}
 use Rattle.kc_text.specs.Forms.{is_comment, is_digit, number, value}
-use Rattle.kc_text.specs.Lines.{fields, is_blank, is_newline, is_not_empty, lines}
+use Rattle.kc_text.specs.Lines.{fields, is_blank, is_newline, lines}
 use Rattle.kc_text.proofs.FieldCuts.{fields-first}
 use Rattle.kc_text.proofs.PlainLines.{number-is}
 use Rattle.kc_dialect.specs.declared.bad_line.BadField.{BadField}

@@ -10,12 +10,14 @@ use crate::bad_line::{BadField, BadKind};
 use crate::dialect::Separator;
 use kc_text::{Kind, number};
 
+#[inline(always)]
 fn is_blank(b: u8) -> bool
     ensures { result ≡ is_blank b }
 {
     b == b' ' || b == b'\t'
 }
 
+#[inline(always)]
 pub(crate) fn is_separator(separator: Separator, b: u8) -> bool
     ensures { result ≡ is_separator separator b }
 {

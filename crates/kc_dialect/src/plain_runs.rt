@@ -11,6 +11,7 @@ use kc_text::NoMemory;
 const MOST_DIGITS: usize = 9;
 
 /// How many digits stand at the front, and what follows them; none where there is no digit, or more than the most.
+#[inline(always)]
 fn front_digits(bytes: &[u8]) -> Option<(usize, &[u8])>
     ensures { IfSome result (λ r. BeginsWithDigits bytes.now r.0 r.1.now) }
 {
@@ -30,6 +31,7 @@ fn front_digits(bytes: &[u8]) -> Option<(usize, &[u8])>
 }
 
 /// How long the first line is with its end, where it is plain.
+#[inline(always)]
 fn plain_len(separator: Separator, bytes: &[u8]) -> Option<usize>
     ensures { IfSome result (λ n. BeginsPlainly separator bytes.now n) }
 {
@@ -59,14 +61,20 @@ pub(crate) fn plain_run(separator: Separator, bytes: &[u8]) -> (usize, usize)
     (len, lines)
 }
 
+/// A space in place of a separator, and any other byte as it is.
+#[inline(always)]
+fn spaced(separator: Separator, b: u8) -> u8
+    ensures { result ≡ spaced separator b }
+{
+    if is_separator(separator, b) { b' ' } else { b }
+}
+
 /// Puts a space in place of each separator.
 fn space_out(separator: Separator, bytes: &mut [u8])
     ensures { bytes.new ≡ map (spaced separator) bytes.old }
 {
     for b in bytes.iter_mut() {
-        if is_separator(separator, *b) {
-            *b = b' ';
-        }
+        *b = spaced(separator, *b);
     }
 }
 

@@ -1,7 +1,6 @@
 -- All lines of the text are of a graph, and so they say the same in the plain dialect.
 use Rattle.std.proofs.Common.{◌≡◌, ℕ, List, None, ap, ◌∙◌}
 use Rattle.kc_text.specs.declared.limits.Limits.{Limits}
-use Rattle.kc_text.specs.declared.line.TextLine.{TextLine}
 use Rattle.kc_text.specs.Forms.{all_said}
 use Rattle.kc_text.specs.Lines.{lines}
 use Rattle.kc_text.specs.Meaning.{Means, Told, meaning, nothing_told, reading}
