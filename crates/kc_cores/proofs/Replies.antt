@@ -1,5 +1,5 @@
 -- What is replied to words, and what a command that was met asks for.
-use Rattle.std.proofs.Common.{◌≡◌, Bool, List, [], ◌∷◌, Option, refl, sym, ap, subst, inl, cond, ne_eqb, suc, length, arith}
+use Rattle.std.proofs.Common.{◌≡◌, Bool, List, [], ◌∷◌, Option, sym, ap, subst, cond, ne_eqb, suc, length, arith}
 use Rattle.clap.specs.Faults.{fault_of}
 use Rattle.clap.specs.Kinds.{IsAmong, Kinds}
 use Rattle.clap.specs.Simple.{subcommand_of}

@@ -19,7 +19,6 @@ use Rattle.kc_cores.specs.declared.ending.Ending.{Ending}
 use Rattle.kc_cores.specs.declared.input.FileFault.{FileFault}
 use Rattle.kc_cores.specs.declared.message.Message.{Message}
 use Rattle.kc_cores.specs.declared.message.Message.TheVariants.{Fixed, Made}
-use Rattle.kc_cores.specs.declared.request.CheckRequest.{CheckRequest}
 use Rattle.kc_cores.specs.declared.request.NamedText.{NamedText}
 use Rattle.kc_cores.specs.declared.request.Request.{Request}
 use Rattle.kc_cores.specs.declared.request.Wanted.{Wanted}

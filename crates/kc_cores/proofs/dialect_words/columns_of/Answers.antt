@@ -1,5 +1,5 @@
 -- The text is cut at its first comma, if it has one.
-use Rattle.std.proofs.Common.{◌≡◌, ◌∙◌, Bool, None, Option, ap, ap₂, arith, cond, length, lt-ltb, sym, ℕ}
+use Rattle.std.proofs.Common.{◌∙◌, Bool, None, ap, ap₂, arith, cond, length, lt-ltb, sym}
 use Rattle.std.proofs.lemmas.Bool.{le-ltb}
 use Rattle.std.proofs.lemmas.Str.Pattern.{split_once_first}
 use Rattle.std.specs.List.{after_first, before_first, position_or_len}
