@@ -28,6 +28,7 @@ rm libkc_c.a liblibc_c.a
 cat > exports.map << 'END'
 KCORE {
     global: kcore_version; kcore_core_numbers; kcore_degeneracy_order; kcore_check; kcore_k_core;
+        kcore_core_numbers_csr; kcore_degeneracy_order_csr; kcore_check_csr; kcore_k_core_csr;
         kcore_tally; kcore_verdict; kcore_h_index_round;
         kcore_keeper_size; kcore_keeper_align; kcore_keeper_open; kcore_keeper_update; kcore_keeper_apply; kcore_keeper_grow;
         kcore_keeper_changes; kcore_keeper_members; kcore_keeper_order;

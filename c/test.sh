@@ -37,7 +37,7 @@ if ${CC:-cc} $flags -c "$build/dropped.c" -o "$build/dropped.o" 2> "$build/told"
 fi
 grep -q 'unused' "$build/told"
 
-for program in core_numbers tally rounds keep keep_threads; do
+for program in core_numbers tally rounds csr keep keep_threads; do
     ${CC:-cc} $flags -pthread "$top/examples/c/$program.c" "$build/libkcore.a" -o "$build/$program"
     ${CC:-cc} $flags -pthread $sanitized "$top/examples/c/$program.c" "$build/libkcore.a" -o "$build/${program}_sanitized"
 done
@@ -86,7 +86,8 @@ echo "core_numbers: each line that it can't use is refused, and it tells where a
 for program in tally tally_sanitized; do
     "$build/$program" < "$top/graphs/karate.txt" > "$build/found"
     { echo "vertices 34 edges 78 verdict 0 wrong numbers refused 68 of 68"
-      echo "edge twice 12 loop 10 turned 11 past the vertices 4 before its range 12"; } | cmp - "$build/found"
+      echo "edge twice 12 loop 10 turned 11 past the vertices 4 before its range 12"
+      echo "few counts 8 verdict 8"; } | cmp - "$build/found"
 done
 echo "tally: karate in two pieces; each number that is one off is refused, and each wrong edge with its status"
 { echo 'no offsets 17 0'; echo 'few offsets 17 0'; echo 'not from zero 18 0'; echo 'descending 19 2'; echo 'a long row 20 1'
@@ -106,6 +107,17 @@ for program in rounds rounds_sanitized; do
     head -n 34 "$build/found" | cmp "$build/wanted"
     echo "$program: $(sed -n 35p "$build/found") on karate in two shards"
 done
+{ echo 'one way 1 both ways 1 twice 1'; echo 'no offsets 17 0'; echo 'few offsets 17 0'; echo 'not from zero 18 0'; echo 'descending 19 2'
+  echo 'not to the end 21 0'; echo 'past the end 21 0'; echo 'no vertex 4 2'; echo 'few places 1 0'; } > "$build/wanted_rows"
+for program in csr csr_sanitized; do
+    cat "$build/wanted_rows" > "$build/wanted"
+    "$build/$program" < /dev/null | cmp "$build/wanted"
+    { "$build/core_numbers" < "$top/graphs/karate.txt"; cat "$build/wanted_rows"; } > "$build/wanted"
+    "$build/$program" < "$top/graphs/karate.txt" | cmp "$build/wanted"
+    { printf '0 2\n1 2\n2 2\n3 1\n4 0\n'; cat "$build/wanted_rows"; } > "$build/wanted"
+    printf '0 1\n1 2\n2 0\n2 3\n3 2\n4 4\n' | "$build/$program" | cmp "$build/wanted"
+done
+echo "csr: karate by rows has the numbers of its edges, and wrong rows are refused, each with its status"
 for program in keep keep_sanitized; do
     printf '+ 0 1\n+ 1 2\n+ 2 0\n+ 2 3\n\n# the tail closes\n+\t3 0\r\n+ 0 3\n+ 1 1\n\n\n- 1 0\n+ 5 4' | "$build/$program" > "$build/found"
     printf 'batch 1 changed 4\n0 0 2\n1 0 2\n2 0 2\n3 0 1\nbatch 2 changed 1\n3 1 2\nbatch 3 changed 2\n1 2 1\n4 0 1\n5 0 1\n' > "$build/wanted"

@@ -4,8 +4,9 @@
  * the set (Seidman 1983). Each function below is a thin layer over one whose contract is proved for all inputs.
  *
  * A graph is its number of vertices, which are then the numbers below it, and a list of edges. Loops are dropped, and an edge that is
- * listed again, in either direction, counts once. The list may be in any order. At most 4,294,967,295 vertices are allowed. kcore_tally
- * alone takes pieces of a list, in which each edge stands once and in order, and kcore_h_index_round takes rows of neighbours.
+ * listed again, in either direction, counts once. The list may be in any order. At most 4,294,967,295 vertices are allowed. The functions
+ * whose names end with _csr take a graph by rows of neighbours instead. kcore_tally alone takes pieces of a list, in which each edge stands
+ * once and in order, and kcore_h_index_round takes some of the rows.
  *
  * What a caller owes, and nothing checks:
  *   - each pointer leads to as many initialized values as the length beside it says, is aligned for their type, and is not null, even
@@ -58,10 +59,9 @@ enum kcore_status {
     KCORE_WRONG_MEMBERS_LENGTH = 3, /* `members` has not one place for each vertex. */
     KCORE_NOT_A_VERTEX = 4,         /* An end of edges[number] or updates[number], or neighbours[number], is no vertex: the first such. */
     KCORE_NO_MEMORY = 5,            /* There is no memory for the graph or the work. */
-    KCORE_NOT_CERTIFIED = 6,        /* kcore_check: the order does not certify the numbers. */
+    KCORE_NOT_CERTIFIED = 6,        /* kcore_check, kcore_check_csr: the order does not certify the numbers. */
     KCORE_WRONG_RANK_LENGTH = 7,    /* `rank` has not one place for each vertex. */
-    KCORE_WRONG_LATER_LENGTH = 8,   /* `later` has not one place for each vertex. */
-    KCORE_WRONG_SUPPORTERS_LENGTH = 9, /* `supporters` has not one place for each vertex. */
+    KCORE_WRONG_COUNTS_LENGTH = 8,  /* `counts` has not two places for each vertex. No status is 9. */
     KCORE_LOOP = 10,                /* kcore_tally: both ends of edges[number] are the same. */
     KCORE_GREATER_FIRST = 11,       /* kcore_tally: the greater end of edges[number] stands first. */
     KCORE_NOT_ABOVE = 12,           /* kcore_tally: edges[number] is not above the edge before it, or `after`. */
@@ -69,11 +69,11 @@ enum kcore_status {
     KCORE_NOT_OPEN = 14,            /* kcore_keeper_..: no keeper lies at the place, since it could not be opened. */
     KCORE_TOO_MANY_VERTICES = 15,   /* kcore_keeper_..: there are more than KCORE_KEEPER_VERTICES vertices. */
     KCORE_TOO_FEW_VERTICES = 16,    /* kcore_keeper_grow: there are more vertices than these already. */
-    KCORE_WRONG_OFFSETS_LENGTH = 17, /* kcore_h_index_round: `offsets` has not one place more than `next`. */
-    KCORE_NOT_FROM_ZERO = 18,       /* kcore_h_index_round: offsets[0] is not 0. */
-    KCORE_DESCENDING = 19,          /* kcore_h_index_round: offsets[number] is less than the offset before it. */
+    KCORE_WRONG_OFFSETS_LENGTH = 17, /* Rows: `offsets` has not one place more than there are rows. */
+    KCORE_NOT_FROM_ZERO = 18,       /* Rows: offsets[0] is not 0. */
+    KCORE_DESCENDING = 19,          /* Rows: offsets[number] is less than the offset before it. */
     KCORE_LONG_ROW = 20,            /* kcore_h_index_round: the row `number` has 2^32 entries or more. */
-    KCORE_WRONG_LAST_OFFSET = 21    /* kcore_h_index_round: the last offset is not neighbours_len. */
+    KCORE_WRONG_LAST_OFFSET = 21    /* Rows: the last offset is not neighbours_len. */
 };
 
 struct kcore_answer {
@@ -156,11 +156,44 @@ KCORE_LOOK_AT_ANSWER struct kcore_answer kcore_check(uint32_t vertices, const st
 KCORE_LOOK_AT_ANSWER struct kcore_answer kcore_k_core(uint32_t vertices, const struct kcore_edge *edges, size_t edges_len, uint32_t k,
                                                       uint32_t *members, size_t members_len);
 
+/* The same for a graph that is given by the neighbours of each vertex, in the form that is known as CSR. Each entry of a row is an edge
+ * between the row's vertex and the entry: so the rows of a symmetric matrix are taken as they are, and so are those of a triangular one. A
+ * row has its entries in any order, an edge stands in the rows of both its ends or in one of them, loops are dropped, and what comes again
+ * counts once. Whether each edge stands in both rows is not looked at.
+ *
+ *   vertices    how many vertices there are, and so how many rows
+ *   offsets     offsets_len places, where offsets_len has to be vertices + 1: 0, and then for each row before which entry it ends
+ *   neighbours  the neighbours_len entries of all rows, one row after the other; not null
+ *   core, order, k, members    as above
+ *
+ * Statuses: first those for the lengths of results, as above. Then KCORE_WRONG_OFFSETS_LENGTH, KCORE_NOT_FROM_ZERO, KCORE_DESCENDING,
+ * KCORE_WRONG_LAST_OFFSET, KCORE_NOT_A_VERTEX, and KCORE_NO_MEMORY, tested in this order; and KCORE_DONE or, of kcore_check_csr,
+ * KCORE_NOT_CERTIFIED.
+ * Cost: that of the functions above for as many edges as there are entries, and memory of 8 bytes an entry more.
+ *
+ *     uint64_t offsets[] = {0, 2, 4, 7, 8};
+ *     uint32_t neighbours[] = {1, 2, 0, 2, 0, 1, 3, 2}, core[4] = {0};
+ *     answer = kcore_core_numbers_csr(4, offsets, 5, neighbours, 8, core, 4);
+ *     // answer.status is KCORE_DONE, and core is 2, 2, 2, 1
+ */
+KCORE_LOOK_AT_ANSWER struct kcore_answer kcore_core_numbers_csr(uint32_t vertices, const uint64_t *offsets, size_t offsets_len,
+                                                                const uint32_t *neighbours, size_t neighbours_len, uint32_t *core,
+                                                                size_t core_len);
+KCORE_LOOK_AT_ANSWER struct kcore_answer kcore_degeneracy_order_csr(uint32_t vertices, const uint64_t *offsets, size_t offsets_len,
+                                                                    const uint32_t *neighbours, size_t neighbours_len, uint32_t *core,
+                                                                    size_t core_len, uint32_t *order, size_t order_len);
+KCORE_LOOK_AT_ANSWER struct kcore_answer kcore_check_csr(uint32_t vertices, const uint64_t *offsets, size_t offsets_len,
+                                                         const uint32_t *neighbours, size_t neighbours_len, const uint32_t *core,
+                                                         size_t core_len, const uint32_t *order, size_t order_len);
+KCORE_LOOK_AT_ANSWER struct kcore_answer kcore_k_core_csr(uint32_t vertices, const uint64_t *offsets, size_t offsets_len,
+                                                          const uint32_t *neighbours, size_t neighbours_len, uint32_t k,
+                                                          uint32_t *members, size_t members_len);
+
 /* A certificate that is a sum over edges, for a list of edges that is read in pieces, or lies on many machines. Each vertex v has a claimed
  * core number core[v] and any rank[v]. Its key is core[v], then rank[v], then v. Each edge gives the end with the lesser key a later
- * neighbour, and each end whose neighbour has no lesser core number a supporter. kcore_tally adds to `later` and `supporters` what the
- * edges of a piece give. Counts of different pieces add up, place by place. They stay at UINT32_MAX where they would pass it, which the
- * counts of a list that has each edge once never do.
+ * neighbour, and each end whose neighbour has no lesser core number a supporter. kcore_tally adds to `counts` what the edges of a piece
+ * give. Counts of different pieces add up, place by place. They stay at UINT32_MAX where they would pass it, which the counts of a list
+ * that has each edge once never do.
  *
  *   vertices    how many vertices there are
  *   after       the first edge has to be above it: by u, and then by v. {0, 0} leaves the first edge free, {from, 0} lets it begin at the
@@ -169,22 +202,21 @@ KCORE_LOOK_AT_ANSWER struct kcore_answer kcore_k_core(uint32_t vertices, const s
  *   core        core_len claimed core numbers, where core_len has to be vertices
  *   rank        rank_len numbers, where rank_len has to be vertices: where in the order of removal each vertex stands, or in which round
  *               of its core number it is taken
- *   later, supporters    as many places as vertices: what other pieces gave, zeros at the beginning
+ *   counts      counts_len places, where counts_len has to be 2 * vertices: how many later neighbours each vertex has, and behind these
+ *               how many supporters each has, by the pieces so far; zeros at the beginning
  *
- * Statuses: KCORE_DONE, KCORE_WRONG_CORE_LENGTH, KCORE_WRONG_RANK_LENGTH, KCORE_WRONG_LATER_LENGTH, KCORE_WRONG_SUPPORTERS_LENGTH, tested
- * in this order. Then, of the first edge that is wrong, the first of KCORE_NOT_A_VERTEX, KCORE_LOOP, KCORE_GREATER_FIRST and
- * KCORE_NOT_ABOVE that applies. Where the status is not KCORE_DONE the counts are as they were.
+ * Statuses: KCORE_DONE, KCORE_WRONG_CORE_LENGTH, KCORE_WRONG_RANK_LENGTH, KCORE_WRONG_COUNTS_LENGTH, tested in this order. Then, of the
+ * first edge that is wrong, the first of KCORE_NOT_A_VERTEX, KCORE_LOOP, KCORE_GREATER_FIRST and KCORE_NOT_ABOVE that applies. Where the status is not KCORE_DONE the counts are as they were.
  * Cost: time linear in the edges of the piece; no memory.
  *
  *     struct kcore_edge piece[] = {{0, 1}, {0, 2}, {1, 2}, {2, 3}}, begin = {0, 0};
- *     uint32_t core[4] = {2, 2, 2, 1}, rank[4] = {0}, later[4] = {0}, supporters[4] = {0};
- *     answer = kcore_tally(4, begin, piece, 4, core, 4, rank, 4, later, 4, supporters, 4);
- *     // later is 2, 1, 0, 1, and supporters is 2, 2, 2, 1
+ *     uint32_t core[4] = {2, 2, 2, 1}, rank[4] = {0}, counts[8] = {0};
+ *     answer = kcore_tally(4, begin, piece, 4, core, 4, rank, 4, counts, 8);
+ *     // counts is 2, 1, 0, 1, and then 2, 2, 2, 1
  */
 KCORE_LOOK_AT_ANSWER struct kcore_answer kcore_tally(uint32_t vertices, struct kcore_edge after, const struct kcore_edge *edges,
                                                      size_t edges_len, const uint32_t *core, size_t core_len, const uint32_t *rank,
-                                                     size_t rank_len, uint32_t *later, size_t later_len, uint32_t *supporters,
-                                                     size_t supporters_len);
+                                                     size_t rank_len, uint32_t *counts, size_t counts_len);
 
 /* Whether each vertex has at most as many later neighbours as its number, and at least as many supporters. If the counts are those of
  * pieces that together have each edge of a graph once, all with the same `core` and `rank`, then KCORE_DONE says that `core` has the core
@@ -192,16 +224,16 @@ KCORE_LOOK_AT_ANSWER struct kcore_answer kcore_tally(uint32_t vertices, struct k
  *
  *   vertices    how many vertices there are
  *   core        core_len claimed core numbers, where core_len has to be vertices
- *   later, supporters    the counts of all pieces, as many as vertices
+ *   counts      the counts of all pieces, as kcore_tally has them; counts_len has to be 2 * vertices
  *
- * Statuses: KCORE_DONE, KCORE_WRONG_CORE_LENGTH, KCORE_WRONG_LATER_LENGTH, KCORE_WRONG_SUPPORTERS_LENGTH, KCORE_NOT_AGREED.
+ * Statuses: KCORE_DONE, KCORE_WRONG_CORE_LENGTH, KCORE_WRONG_COUNTS_LENGTH, KCORE_NOT_AGREED, tested in this order.
  * Cost: time linear in the vertices; no memory.
  *
- *     answer = kcore_verdict(4, core, 4, later, 4, supporters, 4);
+ *     answer = kcore_verdict(4, core, 4, counts, 8);
  *     // answer.status is KCORE_DONE
  */
-KCORE_LOOK_AT_ANSWER struct kcore_answer kcore_verdict(uint32_t vertices, const uint32_t *core, size_t core_len, const uint32_t *later,
-                                                       size_t later_len, const uint32_t *supporters, size_t supporters_len);
+KCORE_LOOK_AT_ANSWER struct kcore_answer kcore_verdict(uint32_t vertices, const uint32_t *core, size_t core_len, const uint32_t *counts,
+                                                       size_t counts_len);
 
 /* A round of h-indices for some rows, as an engine makes it on each of its machines. A row has the neighbours of one vertex, in any order,
  * and next[i] becomes the h-index of their numbers: the greatest k for which at least k of them are at least k. Where the rows are those

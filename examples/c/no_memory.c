@@ -38,12 +38,37 @@ void __wrap_free(void *block) {
 }
 
 static struct kcore_edge edges[EDGES];
-static uint32_t core[VERTICES], order[VERTICES];
+static uint64_t offsets[VERTICES + 1];
+static uint32_t neighbours[EDGES], core[VERTICES], order[VERTICES];
 
 static struct kcore_answer core_numbers(void) { return kcore_core_numbers(VERTICES, edges, EDGES, core, VERTICES); }
 static struct kcore_answer degeneracy_order(void) { return kcore_degeneracy_order(VERTICES, edges, EDGES, core, VERTICES, order, VERTICES); }
 static struct kcore_answer check(void) { return kcore_check(VERTICES, edges, EDGES, core, VERTICES, order, VERTICES); }
 static struct kcore_answer k_core(void) { return kcore_k_core(VERTICES, edges, EDGES, 3, core, VERTICES); }
+
+static struct kcore_answer core_numbers_csr(void) {
+    return kcore_core_numbers_csr(VERTICES, offsets, VERTICES + 1, neighbours, EDGES, core, VERTICES);
+}
+static struct kcore_answer degeneracy_order_csr(void) {
+    return kcore_degeneracy_order_csr(VERTICES, offsets, VERTICES + 1, neighbours, EDGES, core, VERTICES, order, VERTICES);
+}
+static struct kcore_answer check_csr(void) {
+    return kcore_check_csr(VERTICES, offsets, VERTICES + 1, neighbours, EDGES, core, VERTICES, order, VERTICES);
+}
+static struct kcore_answer k_core_csr(void) {
+    return kcore_k_core_csr(VERTICES, offsets, VERTICES + 1, neighbours, EDGES, 3, core, VERTICES);
+}
+
+/* The edges as rows, each in that of its first end. */
+static void fill_rows(void) {
+    uint64_t place = 0;
+    for (uint32_t v = 0; v < VERTICES; v++) {
+        for (int i = 0; i < EDGES; i++)
+            if (edges[i].u == v)
+                neighbours[place++] = edges[i].v;
+        offsets[v + 1] = place;
+    }
+}
 
 static int fails_well(const char *name, struct kcore_answer (*call)(void), uint32_t last) {
     for (failing = 1;; failing++) {
@@ -68,9 +93,14 @@ static int fails_well(const char *name, struct kcore_answer (*call)(void), uint3
 int main(void) {
     for (int i = 0; i < EDGES; i++)
         edges[i] = (struct kcore_edge){(uint32_t)(rand() % VERTICES), (uint32_t)(rand() % VERTICES)};
+    fill_rows();
     int well = fails_well("kcore_core_numbers", core_numbers, KCORE_DONE);
     well &= fails_well("kcore_degeneracy_order", degeneracy_order, KCORE_DONE);
     well &= fails_well("kcore_check", check, KCORE_NOT_CERTIFIED);
     well &= fails_well("kcore_k_core", k_core, KCORE_DONE);
+    well &= fails_well("kcore_core_numbers_csr", core_numbers_csr, KCORE_DONE);
+    well &= fails_well("kcore_degeneracy_order_csr", degeneracy_order_csr, KCORE_DONE);
+    well &= fails_well("kcore_check_csr", check_csr, KCORE_NOT_CERTIFIED);
+    well &= fails_well("kcore_k_core_csr", k_core_csr, KCORE_DONE);
     return !well;
 }

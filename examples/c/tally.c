@@ -41,9 +41,9 @@ static size_t put_in_order(struct kcore_edge *edges, size_t len) {
 
 /* Counts one piece. */
 static struct kcore_answer count(const struct claim *claim, struct kcore_edge after, const struct kcore_edge *edges, size_t len,
-                                 uint32_t *later, uint32_t *supporters) {
+                                 uint32_t *counts) {
     uint32_t n = claim->vertices;
-    return kcore_tally(n, after, edges, len, claim->core, n, claim->rank, n, later, n, supporters, n);
+    return kcore_tally(n, after, edges, len, claim->core, n, claim->rank, n, counts, 2 * (size_t)n);
 }
 
 /* The verdict on the sums of the counts of two pieces: the edges whose lesser end is below a quarter of the vertices, and the others. */
@@ -52,20 +52,19 @@ static uint32_t in_two_pieces(const struct claim *claim) {
     size_t cut = 0;
     while (cut < claim->len && claim->edges[cut].u < quarter)
         cut++;
-    uint32_t *counts = calloc(4 * (size_t)n + 1, sizeof *counts);
+    size_t places = 2 * (size_t)n;
+    uint32_t *counts = calloc(2 * places + 1, sizeof *counts);
     if (!counts)
         exit(EXIT_FAILURE);
-    uint32_t *later[2] = {counts, counts + n}, *supporters[2] = {counts + 2 * (size_t)n, counts + 3 * (size_t)n};
+    uint32_t *others = counts + places;
     struct kcore_edge begin = {0, 0}, gate = {quarter, 0};
-    struct kcore_answer answer = count(claim, begin, claim->edges, cut, later[0], supporters[0]);
+    struct kcore_answer answer = count(claim, begin, claim->edges, cut, counts);
     if (answer.status == KCORE_DONE)
-        answer = count(claim, gate, claim->edges + cut, claim->len - cut, later[1], supporters[1]);
-    for (uint32_t v = 0; v < n; v++) {
-        later[0][v] += later[1][v];
-        supporters[0][v] += supporters[1][v];
-    }
+        answer = count(claim, gate, claim->edges + cut, claim->len - cut, others);
+    for (size_t i = 0; i < places; i++)
+        counts[i] += others[i];
     if (answer.status == KCORE_DONE)
-        answer = kcore_verdict(n, claim->core, n, later[0], n, supporters[0], n);
+        answer = kcore_verdict(n, claim->core, n, counts, places);
     free(counts);
     return answer.status;
 }
@@ -91,14 +90,16 @@ static void show_wrong_pieces(const struct claim *claim) {
     uint32_t *zeros = calloc(2 * (size_t)n + 1, sizeof *zeros);
     if (!zeros)
         exit(EXIT_FAILURE);
-    printf("edge twice %" PRIu32, count(claim, begin, twice, 2, zeros, zeros + n).status);
-    printf(" loop %" PRIu32, count(claim, begin, loop, 1, zeros, zeros + n).status);
-    printf(" turned %" PRIu32, count(claim, begin, turned, 1, zeros, zeros + n).status);
-    printf(" past the vertices %" PRIu32, count(claim, begin, past, 1, zeros, zeros + n).status);
-    printf(" before its range %" PRIu32 "\n", count(claim, gate, twice, 1, zeros, zeros + n).status);
+    printf("edge twice %" PRIu32, count(claim, begin, twice, 2, zeros).status);
+    printf(" loop %" PRIu32, count(claim, begin, loop, 1, zeros).status);
+    printf(" turned %" PRIu32, count(claim, begin, turned, 1, zeros).status);
+    printf(" past the vertices %" PRIu32, count(claim, begin, past, 1, zeros).status);
+    printf(" before its range %" PRIu32 "\n", count(claim, gate, twice, 1, zeros).status);
     for (size_t i = 0; i < 2 * (size_t)n; i++)
         if (zeros[i] != 0)
             printf("an edge of a refused piece was counted\n");
+    printf("few counts %" PRIu32, kcore_tally(n, begin, loop, 1, claim->core, n, claim->rank, n, zeros, n).status);
+    printf(" verdict %" PRIu32 "\n", kcore_verdict(n, claim->core, n, zeros, n).status);
     free(zeros);
 }
 

@@ -75,7 +75,7 @@ class Certificate:
     True
     """
 
-    __slots__ = ("_core", "_ranks", "_later", "_supporters", "_ranges")
+    __slots__ = ("_core", "_ranks", "_counts", "_ranges")
 
     def __init__(self, core: Numbers, ranks: Numbers) -> None:
         self._core = _lists.copy_of_numbers(core, "core")
@@ -85,9 +85,8 @@ class Certificate:
             raise ValueError(f"there are {vertices} core numbers and {ranked} ranks, and each vertex has one of both")
         if vertices > _lists.GREATEST:
             raise ValueError(f"there are {vertices} vertices, and 0 to {_lists.GREATEST} are allowed")
-        like_array = _lists.is_array(self._core)
-        self._later = _lists.room(vertices, like_array)
-        self._supporters = _lists.room(vertices, like_array)
+        # How many later neighbours each vertex has, and behind these how many supporters.
+        self._counts = _lists.room(2 * vertices, _lists.is_array(self._core))
         # The first and the last edge of each piece that was counted here, ascending.
         self._ranges: List[Tuple[Ends, Ends]] = []
 
@@ -125,7 +124,7 @@ class Certificate:
         """
         piece = _forms.read_piece(edges, self.vertices)
         after = self.last_edge or (0, 0)
-        lists = (self._core, self._ranks, self._later, self._supporters)
+        lists = (self._core, self._ranks, self._counts)
         told = [word for numbers in lists for word in (_lists.address(numbers), _lists.size(numbers))]
         answer = _library.tally(piece.vertices, _library.Edge(*after), _lists.address(piece.ends), piece.edges, *told)
         if answer.status != _library.DONE:
@@ -178,8 +177,7 @@ class Certificate:
                     f"a piece from {first} to {last} and one from {begin} on may have an edge in common: "
                     "give disjoint=True where you know that they have none"
                 )
-        _lists.add_up(self._later, other._later)
-        _lists.add_up(self._supporters, other._supporters)
+        _lists.add_up(self._counts, other._counts)
         self._ranges = ranges
 
     def verdict(self) -> bool:
@@ -192,7 +190,7 @@ class Certificate:
             twice: `add` and `merge` see to that, but where `disjoint` is True. False says that the numbers are wrong, or that the ranks do
             not show that they are right. With the places in an order that certifies the numbers as ranks, it says that they are wrong.
         """
-        lists = (self._core, self._later, self._supporters)
+        lists = (self._core, self._counts)
         told = [word for numbers in lists for word in (_lists.address(numbers), _lists.size(numbers))]
         answer: _library.Answer = _library.verdict(self.vertices, *told)
         if answer.status not in (_library.DONE, _library.NOT_AGREED):

@@ -10,7 +10,7 @@ from numbers import Integral, Real
 from typing import Any, Callable, Dict, FrozenSet, Hashable, Iterable, Iterator, List, NamedTuple, Optional, Sequence, Tuple
 
 from . import _lists
-from ._graph import AsArrays, AsLists, ById, ByIndex, ByName, Graph
+from ._graph import AsArrays, AsLists, ById, ByIndex, ByName, Graph, RowGraph
 
 
 class Words(NamedTuple):
@@ -181,29 +181,42 @@ def _is_sparse(edges: Any) -> bool:
 
 
 def _read_sparse(matrix: Any, words: Words) -> Graph:
-    import numpy
-
     if len(matrix.shape) != 2 or matrix.shape[0] != matrix.shape[1]:
         raise ValueError(f"a sparse matrix has a row and a column for each vertex, and this one has the shape {matrix.shape}")
-    entries = matrix.tocsr().tocoo()
-    if not entries.data.all():
+    rows = matrix.tocsr()
+    if not rows.data.all():
         raise ValueError(_STORED_ZEROS)
-    rows, columns = entries.row, entries.col
-    if not ((rows <= columns).all() or (rows >= columns).all()):
-        if not _is_symmetric(rows, columns, matrix.shape[0]):
-            raise ValueError(_NOT_SYMMETRIC)
-        upper = rows < columns
-        rows, columns = rows[upper], columns[upper]
-    return Graph(numpy.stack([rows, columns], axis=1).astype(numpy.uint32), matrix.shape[0], _AS_ARRAYS)
+    rows = _without_repeats(rows)
+    halves = _is_triangular(rows)
+    if not halves and not _is_symmetric(rows):
+        raise ValueError(_NOT_SYMMETRIC)
+    return RowGraph(*_lists.from_rows(rows.indptr, rows.indices), halves, _AS_ARRAYS)
 
 
-def _is_symmetric(rows: Any, columns: Any, vertices: int) -> bool:
-    """Whether places of a matrix are those of its transpose."""
+def _without_repeats(rows: Any) -> Any:
+    """The same places of a matrix in CSR, in ascending order in each row, and each once: the matrix itself where that is so."""
+    if rows.has_canonical_format:
+        return rows
     import numpy
 
-    here = numpy.unique(rows.astype(numpy.uint64) * numpy.uint64(vertices) + columns.astype(numpy.uint64))
-    there = numpy.unique(columns.astype(numpy.uint64) * numpy.uint64(vertices) + rows.astype(numpy.uint64))
-    return bool(numpy.array_equal(here, there))
+    # Truth values, so that no entries add up to nothing.
+    places = type(rows)((numpy.ones(len(rows.indices), bool), rows.indices, rows.indptr), shape=rows.shape, copy=True)
+    places.sum_duplicates()
+    return places
+
+
+def _is_triangular(rows: Any) -> bool:
+    """Whether all places of a matrix in CSR are on one side of its diagonal, by the first and the last of each row."""
+    begins, ends = rows.indptr[:-1], rows.indptr[1:]
+    row = (begins < ends).nonzero()[0]
+    return bool((rows.indices[begins[row]] >= row).all() or (rows.indices[ends[row] - 1] <= row).all())
+
+
+def _is_symmetric(rows: Any) -> bool:
+    """Whether the places of a matrix in CSR are those of its transpose."""
+    turned = rows.transpose().tocsr()
+    turned.sort_indices()
+    return bool((rows.indptr == turned.indptr).all() and (rows.indices == turned.indices).all())
 
 
 def _is_frame(edges: Any) -> bool:

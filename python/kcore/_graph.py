@@ -130,23 +130,39 @@ def claim_of_names(names: Sequence[Hashable], core: Mapping[Hashable, int], orde
 class Graph:
     """The ends of edges, one edge after the other, the number of vertices, and how results are told."""
 
-    __slots__ = ("ends", "edges", "vertices", "results")
+    __slots__ = ("_ends", "vertices", "results")
+
+    #: How the names end of those functions of the library that take a graph so.
+    suffix = ""
 
     def __init__(self, ends: Any, vertices: Optional[int], results: AsArrays) -> None:
-        size = _lists.size(ends)
         if vertices is None:
-            vertices = _lists.greatest(ends) + 1 if size else 0
+            vertices = _lists.greatest(ends) + 1 if _lists.size(ends) else 0
         vertices = operator.index(vertices)
         if not 0 <= vertices <= _lists.GREATEST:
             raise ValueError(f"there are {vertices} vertices, and 0 to {_lists.GREATEST} are allowed{_lists.FAR_APART}")
-        self.ends = ends
-        self.edges = size // 2
+        self._ends = ends
         self.vertices = vertices
         self.results = results
 
-    def call(self, function: Any, *arguments: int, other: Tuple[int, ...] = ()) -> _library.Answer:
+    @property
+    def ends(self) -> Any:
+        """The ends of the edges, one edge after the other."""
+        return self._ends
+
+    @property
+    def edges(self) -> int:
+        """How many edges are listed."""
+        return _lists.size(self.ends) // 2
+
+    def given(self) -> Tuple[int, ...]:
+        """What the library is given behind the number of vertices: where the edges lie, and how many there are."""
+        return _lists.address(self._ends), self.edges
+
+    def call(self, name: str, *arguments: int, other: Tuple[int, ...] = ()) -> _library.Answer:
         """Calls the library. Raises NotAVertexError or MemoryError, and RuntimeError at a status that is neither 0 nor one of `other`."""
-        answer: _library.Answer = function(self.vertices, _lists.address(self.ends), self.edges, *arguments)
+        function = getattr(_library, name + self.suffix)
+        answer: _library.Answer = function(self.vertices, *self.given(), *arguments)
         if answer.status == _library.NOT_A_VERTEX:
             raise NotAVertexError(answer.number, self.edge(answer.number), self.vertices)
         if answer.status == _library.NO_MEMORY:
@@ -167,25 +183,59 @@ class Graph:
     def core_numbers(self) -> Any:
         """The core number of each vertex."""
         core = self.room()
-        self.call(_library.core_numbers, _lists.address(core), self.vertices)
+        self.call("core_numbers", _lists.address(core), self.vertices)
         return core
 
     def decomposition(self) -> Tuple[Any, Any]:
         """The core number of each vertex, and an order that certifies them."""
         core, order = self.room(), self.room()
-        self.call(_library.degeneracy_order, _lists.address(core), self.vertices, _lists.address(order), self.vertices)
+        self.call("degeneracy_order", _lists.address(core), self.vertices, _lists.address(order), self.vertices)
         return core, order
 
     def k_core(self, k: int) -> Any:
         """The vertices of the k-core, ascending."""
         members = self.room()
         # No core number is as great as the greatest number of 32 bits, so that number stands for each greater k.
-        answer = self.call(_library.k_core, min(k, _lists.GREATEST), _lists.address(members), self.vertices)
+        answer = self.call("k_core", min(k, _lists.GREATEST), _lists.address(members), self.vertices)
         return members[: answer.number]
 
     def certifies(self, core: Any, order: Any) -> bool:
         """Whether the order certifies the numbers. Both are lists that the library reads."""
-        answer = self.call(
-            _library.check, _lists.address(core), _lists.size(core), _lists.address(order), _lists.size(order), other=(_library.NOT_CERTIFIED,)
-        )
-        return bool(answer.status == _library.DONE)
+        claim = (_lists.address(core), _lists.size(core), _lists.address(order), _lists.size(order))
+        return bool(self.call("check", *claim, other=(_library.NOT_CERTIFIED,)).status == _library.DONE)
+
+
+class RowGraph(Graph):
+    """The neighbours of each vertex in arrays of NumPy, in the form that is known as CSR. They are read where they lie, and no pairs are
+    made for the library; those of `ends` are made when they are asked for.
+
+    `halves` says that each edge stands in one row alone. Else it stands in the rows of both its ends.
+    """
+
+    __slots__ = ("offsets", "neighbours", "halves")
+
+    suffix = "_csr"
+
+    def __init__(self, offsets: Any, neighbours: Any, halves: bool, results: AsArrays) -> None:
+        super().__init__(None, len(offsets) - 1, results)
+        self.offsets = offsets
+        self.neighbours = neighbours
+        self.halves = halves
+
+    @property
+    def ends(self) -> Any:
+        if self._ends is None:
+            import numpy
+
+            rows = numpy.repeat(numpy.arange(self.vertices, dtype=numpy.uint32), numpy.diff(self.offsets.astype(numpy.int64)))
+            kept = slice(None) if self.halves else rows <= self.neighbours
+            self._ends = numpy.stack([rows[kept], self.neighbours[kept]], axis=1)
+        return self._ends
+
+    def given(self) -> Tuple[int, ...]:
+        offsets, neighbours = self.offsets, self.neighbours
+        return _lists.address(offsets), _lists.size(offsets), _lists.address(neighbours), _lists.size(neighbours)
+
+    def edge(self, place: int) -> Tuple[int, int]:
+        """The row in which the entry at this place stands, and the entry."""
+        return int(self.offsets.searchsorted(place, "right")) - 1, int(self.neighbours[place])

@@ -9,7 +9,8 @@ from pathlib import Path
 from typing import Any
 
 DONE, WRONG_CORE_LENGTH, WRONG_ORDER_LENGTH, WRONG_MEMBERS_LENGTH, NOT_A_VERTEX, NO_MEMORY, NOT_CERTIFIED = range(7)
-WRONG_RANK_LENGTH, WRONG_LATER_LENGTH, WRONG_SUPPORTERS_LENGTH, LOOP, GREATER_FIRST, NOT_ABOVE, NOT_AGREED = range(7, 14)
+WRONG_RANK_LENGTH, WRONG_COUNTS_LENGTH = 7, 8
+LOOP, GREATER_FIRST, NOT_ABOVE, NOT_AGREED = range(10, 14)
 NOT_OPEN, TOO_MANY_VERTICES, TOO_FEW_VERTICES = range(14, 17)
 WRONG_OFFSETS_LENGTH, NOT_FROM_ZERO, DESCENDING, LONG_ROW, WRONG_LAST_OFFSET = range(17, 22)
 
@@ -116,12 +117,17 @@ def _keeper_function(name: str, *arguments: Any) -> Any:
 
 _edges = (_list, _length)
 _numbers = (_list, _length)
+_rows = (*_numbers, *_numbers)
 core_numbers = _function("kcore_core_numbers", *_edges, *_numbers)
 degeneracy_order = _function("kcore_degeneracy_order", *_edges, *_numbers, *_numbers)
 check = _function("kcore_check", *_edges, *_numbers, *_numbers)
 k_core = _function("kcore_k_core", *_edges, _number, *_numbers)
-tally = _function("kcore_tally", Edge, *_edges, *_numbers, *_numbers, *_numbers, *_numbers)
-verdict = _function("kcore_verdict", *_numbers, *_numbers, *_numbers)
+core_numbers_csr = _function("kcore_core_numbers_csr", *_rows, *_numbers)
+degeneracy_order_csr = _function("kcore_degeneracy_order_csr", *_rows, *_numbers, *_numbers)
+check_csr = _function("kcore_check_csr", *_rows, *_numbers, *_numbers)
+k_core_csr = _function("kcore_k_core_csr", *_rows, _number, *_numbers)
+tally = _function("kcore_tally", Edge, *_edges, *_numbers, *_numbers, *_numbers)
+verdict = _function("kcore_verdict", *_numbers, *_numbers)
 h_index_round = _declared("kcore_h_index_round", Answer, *_numbers, *_numbers, *_numbers, *_numbers)
 keeper_size = _declared("kcore_keeper_size", _length)
 keeper_align = _declared("kcore_keeper_align", _length)

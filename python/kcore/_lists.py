@@ -6,7 +6,7 @@ import ctypes
 import sys
 from array import array
 from collections.abc import Mapping, Set
-from typing import Any, List
+from typing import Any, List, Tuple
 
 #: The greatest number of 32 bits, which is also the greatest number of vertices.
 GREATEST = 0xFFFFFFFF
@@ -83,6 +83,15 @@ def from_numbers(values: Any, what: str) -> Any:
     if values.ndim != 1:
         raise ValueError(f"{what} is an array of one dimension, and this one has the shape {values.shape}: give it flat, as by ravel()")
     return from_array(values)
+
+
+def from_rows(offsets: Any, neighbours: Any) -> Tuple[Any, Any]:
+    """The offsets and the entries of rows in CSR as the library reads them: those of SciPy, which has no negative ones, where they lie."""
+    import numpy
+
+    if neighbours.dtype == numpy.int32 and neighbours.flags.carray:
+        neighbours = neighbours.view(numpy.uint32)
+    return offsets.astype(numpy.uint64), numpy.require(neighbours, numpy.uint32, ["C_CONTIGUOUS", "ALIGNED"])
 
 
 def copy_of_numbers(values: Any, what: str) -> Any:

@@ -240,7 +240,7 @@ def changes(results: Iterable[Any], *, axes: Any = None) -> Any:
     beside.step(times, _held((members > 0).sum(axis=1) - 1), where="post", color="black", linewidth=1)
     beside.set(ylabel="greatest core number (line)", ylim=(0, 1.3 * top + 1))
     beside.yaxis.get_major_locator().set_params(integer=True)
-    above.set(ylabel="vertices of the k-core", ylim=(0, 1.3 * members.max(initial=1)))
+    above.set(ylabel="vertices of the k-core", ylim=(0, 1.3 * members[:, 1:].max(initial=1)))
     if top:
         # On the axes that are drawn last.
         beside.legend(*above.get_legend_handles_labels(), loc="upper left", fontsize=7, ncols=4)

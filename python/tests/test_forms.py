@@ -7,6 +7,7 @@ from unittest import mock
 
 import kcore
 from kcore import _forms
+from kcore._graph import RowGraph
 
 from .test_kcore import TAILED, TAILED_CORE, igraph, needs_igraph, needs_networkx, needs_numpy, networkx, numpy
 
@@ -200,6 +201,43 @@ class Matrices(Case):
         self.assertEqual(kcore.k_core(sparse.csr_array(both), 2).tolist(), [0, 1, 2])
         self.assertEqual(kcore.core_numbers(sparse.csr_matrix((3, 3))).tolist(), [0, 0, 0])
         self.assertEqual(kcore.core_numbers(sparse.csr_matrix((0, 0))).tolist(), [])
+
+    @needs_scipy
+    def test_rows_are_read_where_they_lie(self):
+        rows, columns = numpy.array([(u, v) for u, v in TAILED if u != v]).T
+        matrix = sparse.coo_matrix((numpy.ones(len(rows)), (rows, columns)), shape=(5, 5)).tocsr()
+        both = ((matrix + matrix.T) != 0).tocsr()
+        for given in [both, sparse.triu(both, format="csr"), sparse.tril(both, format="csr")]:
+            graph = _forms.read(given)
+            self.assertIs(type(graph), RowGraph)
+            self.assertTrue(numpy.shares_memory(graph.neighbours, given.indices))
+            self.assertEqual(sorted(sorted(edge) for edge in graph.ends.tolist()), [[0, 1], [0, 2], [1, 2], [2, 3]])
+            self.assertEqual(graph.edges, 4)
+        self.assertEqual(kcore.onion_layers(both).tolist(), kcore.onion_layers(TAILED, 5))
+        self.assertEqual(kcore.k_corona(both, 2).tolist(), kcore.k_corona(TAILED, 2))
+        self.assertEqual(kcore.Cores(both).core_numbers().tolist(), TAILED_CORE)
+
+    @needs_scipy
+    def test_rows_that_do_not_ascend_or_repeat(self):
+        shuffled = sparse.csr_matrix((numpy.ones(6), [2, 1, 2, 0, 1, 0], [0, 2, 4, 6]), shape=(3, 3))
+        self.assertEqual(self.certified(shuffled).tolist(), [2, 2, 2])
+        twice = sparse.csr_matrix(([1, -1, 1, 1, 1], [1, 1, 0, 2, 1], [0, 2, 4, 5]), shape=(3, 3))
+        self.assertEqual(self.certified(twice).tolist(), [1, 1, 1])
+        wide = sparse.csr_matrix(([True, True], numpy.array([1, 0], numpy.int64), numpy.array([0, 1, 2], numpy.int64)), shape=(2, 2))
+        self.assertEqual(self.certified(wide).tolist(), [1, 1])
+
+    @needs_scipy
+    def test_rows_that_scipy_would_not_have(self):
+        broken = sparse.csr_matrix(numpy.array([[0, 1], [1, 0]]))
+        graph = _forms.read(broken)
+        graph.neighbours[1] = 7
+        with self.assertRaises(kcore.NotAVertexError) as caught:
+            graph.core_numbers()
+        self.assertEqual((caught.exception.place, caught.exception.edge, caught.exception.vertices), (1, (1, 7), 2))
+        for offsets, status in [([1, 1, 2], 18), ([0, 3, 2], 19), ([0, 1, 1], 21)]:
+            graph.offsets = numpy.array(offsets, numpy.uint64)
+            with self.assertRaisesRegex(RuntimeError, f"kcore_core_numbers_csr answered the status {status}"):
+                graph.core_numbers()
 
     @needs_scipy
     def test_matrices_of_directed_graphs(self):

@@ -6,8 +6,9 @@ use Rattle.kc_graph.specs.declared.bulk.Edge.{Edge}
 use Rattle.kc_c.specs.declared.answer.CallResult.{CallResult}
 use Rattle.kc_c.specs.declared.answer.Refusal.{Refusal}
 use Rattle.kc_c.specs.declared.answer.Refusal.TheVariants.{WrongCoreLength, WrongOrderLength, WrongMembersLength, NotAVertex, NoMemory, NotCertified}
-use Rattle.kc_c.specs.declared.answer.Refusal.TheVariants.{WrongRankLength, WrongLaterLength, WrongSupportersLength, Loop, GreaterFirst, NotAbove, NotAgreed}
-use Rattle.kc_c.specs.declared.answer.Refusal.TheVariants.{NotOpen, TooManyVertices, TooFewVertices, Stopped}
+use Rattle.kc_c.specs.declared.answer.Refusal.TheVariants.{WrongRankLength, WrongCountsLength, Loop, GreaterFirst, NotAbove, NotAgreed}
+use Rattle.kc_c.specs.declared.answer.Refusal.TheVariants.{NotOpen, TooManyVertices, TooFewVertices, Stopped, WrongRows}
+use Rattle.kc_c.specs.Rounding.{fault_answer}
 
 -- where the first edge stands that has an end which is no vertex
 abbrev pub first_stranger : ℕ → List Edge → Option ℕ
@@ -28,8 +29,7 @@ answer_to (Err (NotAVertex place)) = record { status = 4; number = place }
 answer_to (Err NoMemory) = record { status = 5; number = 0 }
 answer_to (Err NotCertified) = record { status = 6; number = 0 }
 answer_to (Err WrongRankLength) = record { status = 7; number = 0 }
-answer_to (Err WrongLaterLength) = record { status = 8; number = 0 }
-answer_to (Err WrongSupportersLength) = record { status = 9; number = 0 }
+answer_to (Err WrongCountsLength) = record { status = 8; number = 0 }
 answer_to (Err (Loop place)) = record { status = 10; number = place }
 answer_to (Err (GreaterFirst place)) = record { status = 11; number = place }
 answer_to (Err (NotAbove place)) = record { status = 12; number = place }
@@ -38,3 +38,4 @@ answer_to (Err NotOpen) = record { status = 14; number = 0 }
 answer_to (Err TooManyVertices) = record { status = 15; number = 0 }
 answer_to (Err TooFewVertices) = record { status = 16; number = 0 }
 answer_to (Err (Stopped made)) = record { status = 5; number = made }
+answer_to (Err (WrongRows fault)) = fault_answer fault

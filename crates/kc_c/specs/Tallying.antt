@@ -1,5 +1,5 @@
 -- What the calls for pieces of the edges tell their caller in C.
-use Rattle.std.specs.Prelude.{ℕ, ◌==◌, List, length, Option, None, Some, if◌then◌else◌}
+use Rattle.std.specs.Prelude.{ℕ, ◌==◌, ◌*◌, List, length, take, drop, Option, None, Some, if◌then◌else◌}
 use Rattle.kc_graph.specs.declared.bulk.Edge.{Edge}
 use Rattle.kc_tally.specs.Lists.{first_fault}
 use Rattle.kc_tally.specs.declared.fault.EdgeFault.{EdgeFault}
@@ -23,10 +23,17 @@ piece_answer (Some first) = record { status = fault_status first.fault; number =
 abbrev pub if_length : ℕ → ℕ → ℕ → CallResult → CallResult
 if_length vertices places status answer = if places == vertices then answer else record { status = status; number = 0 }
 
+-- how many later neighbours each vertex has: the first half of the counts for so many vertices
+abbrev pub later_of : ℕ → List ℕ → List ℕ
+later_of vertices counts = take vertices counts
+
+-- how many supporters each vertex has: the other half
+abbrev pub supporters_of : ℕ → List ℕ → List ℕ
+supporters_of vertices counts = drop vertices counts
+
 -- the first length that is wrong, or else the first fault of the piece
-abbrev pub tally_answer : ℕ → Edge → List Edge → List ℕ → List ℕ → List ℕ → List ℕ → CallResult
-tally_answer vertices after edges core rank later supporters =
+abbrev pub tally_answer : ℕ → Edge → List Edge → List ℕ → List ℕ → List ℕ → CallResult
+tally_answer vertices after edges core rank counts =
     if_length vertices (length core) 1
     (if_length vertices (length rank) 7
-    (if_length vertices (length later) 8
-    (if_length vertices (length supporters) 9 (piece_answer (first_fault vertices 0 (Some after) edges)))))
+    (if_length (2 * vertices) (length counts) 8 (piece_answer (first_fault vertices 0 (Some after) edges))))

@@ -1,6 +1,9 @@
 //! How a call ended, as the crate's own functions say it and as C is told.
 ghost use Rattle.std.specs.Prelude.{◌≡◌};
 ghost use Rattle.kc_c.specs.Answers.{answer_to};
+ghost use Rattle.kc_c.specs.Rounding.{fault_answer};
+
+use kc_shard::ShardFault;
 
 /// How a call ended: a status, and a number that goes with it.
 #[repr(C)]
@@ -26,10 +29,8 @@ pub(crate) enum Refusal {
     NotCertified,
     /// `rank` has not one place for each vertex.
     WrongRankLength,
-    /// `later` has not one place for each vertex.
-    WrongLaterLength,
-    /// `supporters` has not one place for each vertex.
-    WrongSupportersLength,
+    /// `counts` has not two places for each vertex.
+    WrongCountsLength,
     /// Both ends of the edge at this place are the same.
     Loop(usize),
     /// The greater end of the edge at this place stands first.
@@ -46,6 +47,23 @@ pub(crate) enum Refusal {
     TooFewVertices,
     /// There was no memory for the update at this place: those before it are made, and it and those behind it are not.
     Stopped(usize),
+    /// This is wrong with the rows of a graph.
+    WrongRows(ShardFault),
+}
+
+/// The answer that tells C what is wrong with rows, those of a graph or those of a shard.
+pub(crate) fn fault_answer(fault: ShardFault) -> CallResult
+    ensures { result ≡ fault_answer fault }
+{
+    let (status, number) = match fault {
+        ShardFault::NotAVertex(place) => (4, place),
+        ShardFault::WrongOffsetCount => (17, 0),
+        ShardFault::FirstNotZero => (18, 0),
+        ShardFault::Descending(place) => (19, place),
+        ShardFault::LongRow(row) => (20, row),
+        ShardFault::WrongLastOffset => (21, 0),
+    };
+    CallResult { status, number }
 }
 
 /// The answer that tells C how a call ended.
@@ -61,8 +79,7 @@ pub(crate) fn answer_to(outcome: Result<usize, Refusal>) -> CallResult
         Err(Refusal::NoMemory) => (5, 0),
         Err(Refusal::NotCertified) => (6, 0),
         Err(Refusal::WrongRankLength) => (7, 0),
-        Err(Refusal::WrongLaterLength) => (8, 0),
-        Err(Refusal::WrongSupportersLength) => (9, 0),
+        Err(Refusal::WrongCountsLength) => (8, 0),
         Err(Refusal::Loop(place)) => (10, place),
         Err(Refusal::GreaterFirst(place)) => (11, place),
         Err(Refusal::NotAbove(place)) => (12, place),
@@ -71,6 +88,7 @@ pub(crate) fn answer_to(outcome: Result<usize, Refusal>) -> CallResult
         Err(Refusal::TooManyVertices) => (15, 0),
         Err(Refusal::TooFewVertices) => (16, 0),
         Err(Refusal::Stopped(made)) => (5, made),
+        Err(Refusal::WrongRows(fault)) => return fault_answer(fault),
     };
     CallResult { status, number }
 }

@@ -1,26 +1,11 @@
 //! The call for a round of h-indices on a shard.
 ghost use Rattle.std.specs.Prelude.{◌≡◌, ◌≢◌, ◌↔◌, None, length};
 ghost use Rattle.kc_shard.specs.Shards.{IsShardRound, differences, shard_fault};
-ghost use Rattle.kc_c.specs.Rounding.{fault_answer, no_round};
+ghost use Rattle.kc_c.specs.Rounding.{no_round};
 
-use crate::answer::CallResult;
-use kc_shard::{RoundError, ShardFault, h_index_round};
+use crate::answer::{CallResult, fault_answer};
+use kc_shard::{RoundError, h_index_round};
 use std::alloc::Global;
-
-/// The answer that tells C what is wrong with a shard.
-fn fault_answer(fault: ShardFault) -> CallResult
-    ensures { result ≡ fault_answer fault }
-{
-    let (status, number) = match fault {
-        ShardFault::NotAVertex(place) => (4, place),
-        ShardFault::WrongOffsetCount => (17, 0),
-        ShardFault::FirstNotZero => (18, 0),
-        ShardFault::Descending(place) => (19, place),
-        ShardFault::LongRow(row) => (20, row),
-        ShardFault::WrongLastOffset => (21, 0),
-    };
-    CallResult { status, number }
-}
 
 /// Writes to each place of `next` the h-index of the numbers of a row's entries: the greatest k for which at least k of them are at least
 /// k. `numbers` has a number for each vertex, `neighbours` the entries of all rows, and `offsets` one place more than there are rows: 0,

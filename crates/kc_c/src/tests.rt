@@ -182,13 +182,13 @@ const FREE: Edge = Edge { u: 0, v: 0 };
 
 /// The verdict on numbers whose edges are counted in two pieces, the second from vertex 1 on.
 fn verdict_on<R: Abort>(rt: &R, core: &[u32; 5]) -> CallResult {
-    let (mut later, mut supporters) = ([0; 5], [0; 5]);
+    let mut counts = [0; 10];
     let gate = Edge { u: 1, v: 0 };
-    let first = kcore_tally(5, FREE, &FIRST, core, &[0; 5], &mut later, &mut supporters);
+    let first = kcore_tally(5, FREE, &FIRST, core, &[0; 5], &mut counts);
     assert_eq!(rt; first, done(0));
-    let second = kcore_tally(5, gate, &SECOND, core, &[0; 5], &mut later, &mut supporters);
+    let second = kcore_tally(5, gate, &SECOND, core, &[0; 5], &mut counts);
     assert_eq!(rt; second, done(0));
-    kcore_verdict(5, core, &later, &supporters)
+    kcore_verdict(5, core, &counts)
 }
 
 #[test]
@@ -200,7 +200,7 @@ fn numbers_that_are_certified_in_pieces(rt: HostRuntime) {
 
 #[test]
 fn a_refused_piece_counts_nothing(rt: HostRuntime) {
-    let (mut later, mut supporters) = ([7; 5], [8; 5]);
+    let mut counts = [7; 10];
     let (core, rank) = ([2, 2, 2, 1, 0], [0; 5]);
     let cases = [
         (Edge { u: 1, v: 5 }, 4),
@@ -210,18 +210,17 @@ fn a_refused_piece_counts_nothing(rt: HostRuntime) {
     ];
     for (edge, status) in cases {
         let piece = [Edge { u: 0, v: 1 }, edge];
-        let answer = kcore_tally(5, FREE, &piece, &core, &rank, &mut later, &mut supporters);
+        let answer = kcore_tally(5, FREE, &piece, &core, &rank, &mut counts);
         assert_eq!(&rt; answer, CallResult { status, number: 1 });
     }
     let lengths = [
-        kcore_tally(6, FREE, &[], &core, &rank, &mut later, &mut supporters),
-        kcore_tally(5, FREE, &[], &core, &rank[..4], &mut later, &mut supporters),
-        kcore_tally(5, FREE, &[], &core, &rank, &mut later[..4], &mut supporters),
-        kcore_tally(5, FREE, &[], &core, &rank, &mut later, &mut supporters[..4]),
+        kcore_tally(6, FREE, &[], &core, &rank, &mut counts),
+        kcore_tally(5, FREE, &[], &core, &rank[..4], &mut counts),
+        kcore_tally(5, FREE, &[], &core, &rank, &mut counts[..9]),
+        kcore_verdict(5, &core, &counts[..9]),
     ];
-    assert_eq!(&rt; lengths, [refused(1), refused(7), refused(8), refused(9)]);
-    assert_eq!(&rt; later, [7; 5]);
-    assert_eq!(&rt; supporters, [8; 5]);
+    assert_eq!(&rt; lengths, [refused(1), refused(7), refused(8), refused(8)]);
+    assert_eq!(&rt; counts, [7; 10]);
 }
 
 #[test]

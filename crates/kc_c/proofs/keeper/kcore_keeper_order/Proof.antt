@@ -63,7 +63,8 @@ kcore_keeper_order_spec 𝓤 𝓛 𝓜 𝓡 wired =
     let y : Ptr → W.Ghost = λ p. ((κs, qs, bounds, (h, (p, (s, tt))), (hv ∷ [], (rawptr_vals p, (mut_slice_vals s, tt)))), n) in
     let G = triple_of 𝓛 g.signature (g.spec 𝓛 𝓜.mem 𝓡.returns) in
     let th = ((global_laws.lawful 𝓛).typed h (hv ∷ []) are.0).0 in
-    qed 𝓛 ((Token ⊛ ‵ (global_row.own_val h (hv ∷ [])) ⊛ ‵ (RawPtr.own_val a.1.0 (rawptr_vals a.1.0)) ⊛ ‵ ((MutSlice (named 0) κs.0 u32).own_val s (mut_slice_vals s))
+    qed 𝓛 ((Token ⊛ ‵ (global_row.own_val h (hv ∷ [])) ⊛ ‵ (RawPtr.own_val a.1.0 (rawptr_vals a.1.0))
+    ⊛ ‵ ((MutSlice (named 0) κs.0 u32).own_val s (mut_slice_vals s))
     ⊛ ‵ ftrue) ∷ ‵ (lies_at the_row full_share a.1.0 n) ∷ []) ∵
     split ! $ move ! (1 ∷ []) $ split ! $ move ! (1 ∷ []) $ split ! $ drop ! $ split ! $ move ! (1 ∷ []) $ drop ! $ move ! (3 ∷ []) $
     -- [the content; the slice; what the allocator owns; the token]
@@ -94,7 +95,8 @@ kcore_keeper_order_spec 𝓤 𝓛 𝓜 𝓡 wired =
     some (λ (ws : Lasts g.ended κs z.0.3). ‵ (lasts g.ended κs z.0.3 ws)
     ⊛ (raw (fact 𝓤 (r.content ≡ n)) ⊛ raw (fact 𝓤 (OrderAt n.keeper s.now ws.1.1.0 r.answer))))))) (id⊢ 𝓤 _) $
     await ! tt $ pick ! (λ r. split ! $ move ! (1 ∷ []) $ pick ! (λ ws. split ! $ move ! (1 ∷ []) $ split ! $ heard ! _ (λ same. heard ! _ (λ ok.
-    fsplit ! $ drop ! $ fsplit ! $ drop ! $ fsplit ! $ fsplit ! $ fsplit ! $ move ! (1 ∷ []) $ feq_l ! (λ len. fjoin ! $ move ! (1 ∷ []) $ drop ! $ move ! (1 ∷ []) $
+    fsplit ! $ drop ! $ fsplit ! $ drop ! $ fsplit ! $ fsplit ! $ fsplit ! $ move ! (1 ∷ []) $
+    feq_l ! (λ len. fjoin ! $ move ! (1 ∷ []) $ drop ! $ move ! (1 ∷ []) $
     split ! $ move ! (1 ∷ []) $
     -- [content and answer; the token; what is known of the slice; the cell]
     two_out the_row answer_row r.content r.answer ! refl refl (the_row_laws.lawful 𝓛) (answer_laws.lawful 𝓛) (out ∷ []) (λ w₁ w₂ t₁ t₂ is₂.
@@ -110,4 +112,5 @@ kcore_keeper_order_spec 𝓤 𝓛 𝓜 𝓡 wired =
     rewrite ! 0 (λ (w : Content). ‵ (part_at the_row full_share w b o)) same refl $
     suffices ! _ (ends_at 𝓛 f.ended stayed c (y (block_ptr b o)) w₂ r.answer (tt, (tt, (ws.1.1.0, tt))) (tt, (tt, (len, tt)))) $
     use0 𝓛 (raw (fact 𝓤 (OrderAt n.keeper s.now ws.1.1.0 r.answer))) (fact_i 𝓤 _ (emp 𝓤) ok) $ move ! (1 ∷ 0 ∷ []) $ join ! $
-    move ! (1 ∷ []) $ nothing ! $ move ! (4 ∷ 0 ∷ []) $ join ! $ nothing ! $ join ! $ nothing ! $ join ! $ move ! (3 ∷ 0 ∷ 1 ∷ 2 ∷ []) $ group ! 3 $ done !))))))))))))
+    move ! (1 ∷ []) $ nothing ! $ move ! (4 ∷ 0 ∷ []) $ join ! $ nothing ! $ join ! $ nothing ! $ join ! $
+    move ! (3 ∷ 0 ∷ 1 ∷ 2 ∷ []) $ group ! 3 $ done !))))))))))))
