@@ -1,6 +1,6 @@
 -- What a write that failed took of what the replier put, and how a turn ends then.
 use Rattle.std.proofs.Common.{◌≡◌, ◌<◌, ◌++◌, ◌∷◌, ℕ, List, [], Option, None, Some, Result, Ok, Err, OnErr, OnOk, length, take, drop, refl, sym, ap, ◌∙◌}
-use Rattle.std.proofs.Common.{append_assoc, append-nil, arith, take-append-drop}
+use Rattle.std.proofs.Common.{append_assoc, append-nil, arith, subst, take-append-drop}
 use Rattle.kc_wire.specs.Events.{WireEvent, Read, TellsMore, read_in, wrote}
 use Rattle.kc_wire.specs.declared.faults.WriteFault.{WriteFault}
 use Rattle.kc_wire.specs.declared.faults.WriteFault.TheVariants as write
@@ -88,49 +88,58 @@ not_ended-at_end reply reply_at_end fed text end.ReaderGone h e = cc
 not_ended-at_end reply reply_at_end fed text end.WriteFault h e = cc
 not_ended-at_end reply reply_at_end fed text end.NoMemory h e = cc
 
+-- the replier was told the end of what was read, with the read of nothing that tells it
+pub ended-more : (HasEnded : List ℕ → Type 0) (before : List WireEvent) (text : List ℕ) → HasEnded (read_in before)
+    → HasEnded (read_in (before ++ Read [] ∷ wrote text))
+ended-more HasEnded before text h = subst HasEnded (sym (read_in-more before [] text ∙ append-nil (read_in before))) h
+
 -- the bytes that the replier was fed are those that were read, with one read more
 StaysFrom-more : (reply reply_at_end : List ℕ → List ℕ) (before : List WireEvent) (piece text : List ℕ)
     → StaysFrom reply reply_at_end (read_in before ++ piece) → StaysFrom reply reply_at_end (read_in (before ++ Read piece ∷ wrote text))
 StaysFrom-more reply reply_at_end before piece text h = rw (read_in-more before piece text) h
 
 -- how a dialogue goes on or has ended with a read of a piece and the text behind it
-pub HasTurned-piece : (reply reply_at_end : List ℕ → List ℕ) (Before After : List ℕ → Type 0) (before : List WireEvent) (piece text : List ℕ)
+pub HasTurned-piece : (reply reply_at_end : List ℕ → List ℕ) (Before After HasEnded : List ℕ → Type 0) (before : List WireEvent) (piece text : List ℕ)
     (how : Option DialogueEnd) → 0 < length piece → IsGoing reply Before before → HasAdded reply reply_at_end (read_in before) piece text how
     → (how ≡ None → After (read_in before ++ piece)) → (how ≡ Some end.Ended → After (read_in before ++ piece))
-    → HasTurned reply reply_at_end After (before ++ Read piece ∷ wrote text) how
-HasTurned-piece reply reply_at_end Before After before piece text None some going h goes ended =
+    → HasTurned reply reply_at_end After HasEnded (before ++ Read piece ∷ wrote text) how
+HasTurned-piece reply reply_at_end Before After HasEnded before piece text None some going h goes ended =
     IsGoing-more reply Before After before piece text some going h (goes refl)
-HasTurned-piece reply reply_at_end Before After before piece text (Some end.Ended) some going h goes ended = (
+HasTurned-piece reply reply_at_end Before After HasEnded before piece text (Some end.Ended) some going h goes ended = (
   record {
     dialogue = IsDialogue-more reply before piece text going.dialogue going.answered;
     written = (IsAnswered-more reply before piece text some going.answered h.0, StaysFrom-more reply reply_at_end before piece text h.1);
   },
   λ _. rw (read_in-more before piece text) (ended refl),
+  λ e. absurd (cc),
 )
-HasTurned-piece reply reply_at_end Before After before piece text (Some end.ReaderGone) some going h goes ended = (
+HasTurned-piece reply reply_at_end Before After HasEnded before piece text (Some end.ReaderGone) some going h goes ended = (
   record {
     dialogue = IsDialogue-more reply before piece text going.dialogue going.answered;
     written = prefix-more reply reply_at_end before piece text some going.answered h;
   },
   λ e. absurd (cc),
+  λ e. absurd (cc),
 )
-HasTurned-piece reply reply_at_end Before After before piece text (Some end.WriteFault) some going h goes ended = (
+HasTurned-piece reply reply_at_end Before After HasEnded before piece text (Some end.WriteFault) some going h goes ended = (
   record {
     dialogue = IsDialogue-more reply before piece text going.dialogue going.answered;
     written = prefix-more reply reply_at_end before piece text some going.answered h;
   },
   λ e. absurd (cc),
+  λ e. absurd (cc),
 )
-HasTurned-piece reply reply_at_end Before After before piece text (Some end.NoMemory) some going h goes ended = (
+HasTurned-piece reply reply_at_end Before After HasEnded before piece text (Some end.NoMemory) some going h goes ended = (
   record {
     dialogue = IsDialogue-more reply before piece text going.dialogue going.answered;
     written = prefix-more reply reply_at_end before piece text some going.answered h;
   },
   λ e. absurd (cc),
+  λ e. absurd (cc),
 )
-HasTurned-piece reply reply_at_end Before After before piece text (Some end.Done) some going h goes ended = absurd h
-HasTurned-piece reply reply_at_end Before After before piece text (Some end.ReadFault) some going h goes ended = absurd h
-HasTurned-piece reply reply_at_end Before After before piece text (Some end.Exhausted) some going h goes ended = absurd h
+HasTurned-piece reply reply_at_end Before After HasEnded before piece text (Some end.Done) some going h goes ended = absurd h
+HasTurned-piece reply reply_at_end Before After HasEnded before piece text (Some end.ReadFault) some going h goes ended = absurd h
+HasTurned-piece reply reply_at_end Before After HasEnded before piece text (Some end.Exhausted) some going h goes ended = absurd h
 
 -- a turn's events are one read
 pub reads-turn : (piece text : List ℕ) → reads_in (Read piece ∷ wrote text) ≡ 1

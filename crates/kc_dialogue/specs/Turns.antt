@@ -42,16 +42,17 @@ pub record IsGoing (reply : List ℕ → List ℕ) (WasFed : List ℕ → Type 0
   pub answered : IsAnswered reply events
   pub fed : WasFed (read_in events)
 
--- a dialogue goes on after a turn, or has ended
-abbrev pub HasTurned : (List ℕ → List ℕ) → (List ℕ → List ℕ) → (List ℕ → Type 0) → List WireEvent → Option DialogueEnd → Type 0
-HasTurned reply reply_at_end WasFed events None = IsGoing reply WasFed events
-HasTurned reply reply_at_end WasFed events (Some how) = HasAnswered reply reply_at_end events how × (how ≡ end.Ended → WasFed (read_in events))
+-- a dialogue goes on after a turn, or has ended: the replier was fed all that was read where it ended that, or was told the end of it
+abbrev pub HasTurned : (List ℕ → List ℕ) → (List ℕ → List ℕ) → (List ℕ → Type 0) → (List ℕ → Type 0) → List WireEvent → Option DialogueEnd → Type 0
+HasTurned reply reply_at_end WasFed HasEnded events None = IsGoing reply WasFed events
+HasTurned reply reply_at_end WasFed HasEnded events (Some how) = HasAnswered reply reply_at_end events how
+    × (how ≡ end.Ended → WasFed (read_in events)) × (how ≡ end.Done → HasEnded (read_in events))
 
 -- One turn between two histories: whatever dialogue goes on before it, the turn goes on with it by one read, or ends it.
-abbrev pub IsTurn : (List ℕ → List ℕ) → (List ℕ → List ℕ) → (List ℕ → Type 0) → (List ℕ → Type 0)
+abbrev pub IsTurn : (List ℕ → List ℕ) → (List ℕ → List ℕ) → (List ℕ → Type 0) → (List ℕ → Type 0) → (List ℕ → Type 0)
     → Option (List WireEvent) → Option (List WireEvent) → Option DialogueEnd → Type 0
-IsTurn reply reply_at_end WasFed IsFed old new how = (before : List WireEvent) → IsGoing reply WasFed before
-    → (events : List WireEvent) × TellsMore old new events × HasTurned reply reply_at_end IsFed (before ++ events) how
+IsTurn reply reply_at_end WasFed IsFed HasEnded old new how = (before : List WireEvent) → IsGoing reply WasFed before
+    → (events : List WireEvent) × TellsMore old new events × HasTurned reply reply_at_end IsFed HasEnded (before ++ events) how
     × (how ≡ None → reads_in events ≡ 1)
 
 -- the counts of faults after a turn

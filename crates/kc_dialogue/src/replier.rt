@@ -18,6 +18,9 @@ pub trait Replier {
     /// These are the bytes that were fed so far.
     ghost was_fed: { Self → List ℕ → Type 0 };
 
+    /// These bytes were fed, and then the input has ended.
+    ghost has_ended: { Self → List ℕ → Type 0 };
+
     /// Takes the next bytes, and puts what they add to the reply behind `out`.
     ///
     /// At `Ended` no more bytes change the reply, and the end of the input does not either. At an error there was no memory; what was put
@@ -38,6 +41,7 @@ pub trait Replier {
     /// At an error there was no memory; what was put then begins what the end adds.
     fn end(&mut self, alloc: Global, out: &mut Vec<u8>) -> Result<(), NoMemory>
         requires { (fed : List ℕ) × was_fed self.old fed }
+        ensures ended { OnOk result ((fed : List ℕ) → was_fed self.old fed → has_ended self.new fed) }
         ensures put { (put : List ℕ) × (out.new.items ≡ out.old.items ++ put) × ((fed : List ℕ) → was_fed self.old fed
             → OnOk result (reply_at_end self.old fed ≡ reply self.old fed ++ put)
             × OnErr result (IsPrefixOf (reply_at_end self.old fed) (reply self.old fed ++ put))) };

@@ -1,7 +1,7 @@
 -- A turn is a read and what was written behind it.
 use Rattle.std.proofs.Common.{◌≡◌, ◌<◌, ◌∷◌, List, [], ℕ, length, take, arith, subst}
 use Rattle.kc_wire.specs.Events.{Read, TellsMore, read_in, wrote}
-use Rattle.kc_dialogue.proofs.Cuts.{HasAnswered-end, HasTurned-piece, TellsMore-trans, not_ended-at_end, reads-turn}
+use Rattle.kc_dialogue.proofs.Cuts.{HasAnswered-end, HasTurned-piece, TellsMore-trans, ended-more, not_ended-at_end, reads-turn}
 use Rattle.kc_dialogue.proofs.answer.answer_next.Goals as goal
 
 pub returns-in-Ok-eq0-clause-turned : goal.returns-in-Ok-eq0-clause-turned
@@ -19,6 +19,7 @@ returns-in-Ok-eq0-clause-turned g c = λ before going.
       (
         HasAnswered-end reply reply_at_end before text c.answer_end.result going.dialogue going.answered added,
         λ e. absurd (not_ended-at_end reply reply_at_end (read_in before) text c.answer_end.result added e),
+        λ e. ended-more (g.R.Replier.has_ended c.answer_end.new.replier) before text (c.answer_end.ensures.ended (read_in before) going.fed e),
       ),
       λ e. absurd (cc),
     )
@@ -33,8 +34,8 @@ returns-in-Ok-clause-turned g c = λ before going.
       Read piece ∷ wrote text,
       TellsMore-trans (g.W.Wire.history c.args.wire.now) (g.W.Wire.history c.read.new.self) (g.W.Wire.history c.answer_piece.new.wire) (Read piece ∷ [])
           (wrote text) c.in-Ok.ensures.history told,
-      HasTurned-piece reply reply_at_end (g.R.Replier.was_fed c.args.replier.now) (g.R.Replier.was_fed c.answer_piece.new.replier) before piece text
-          c.answer_piece.result some going (adds (read_in before) going.fed) (c.answer_piece.ensures.fed (read_in before) going.fed)
+      HasTurned-piece reply reply_at_end (g.R.Replier.was_fed c.args.replier.now) (g.R.Replier.was_fed c.answer_piece.new.replier)
+          (g.R.Replier.has_ended c.answer_piece.new.replier) before piece text c.answer_piece.result some going (adds (read_in before) going.fed) (c.answer_piece.ensures.fed (read_in before) going.fed)
           (c.answer_piece.ensures.fed_at_end (read_in before) going.fed),
       λ _. reads-turn piece text,
     )

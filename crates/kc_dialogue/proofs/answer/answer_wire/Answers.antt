@@ -13,4 +13,5 @@ returns-in_default-clause-answered g c = (
     written = (g.R.Replier.reply c.args.replier.now [], refl);
   },
   λ e. absurd (cc),
+  λ e. absurd (cc),
 )
