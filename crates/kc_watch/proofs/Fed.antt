@@ -11,10 +11,11 @@ use Rattle.kc_text.specs.Meaning.{with_line}
 use Rattle.kc_text.proofs.SaidAppend.{ends-append, ends-behind}
 use Rattle.kc_stream.specs.Ended.{IsOpen, ended}
 use Rattle.kc_stream.specs.Hearing.{Heard, hear_all, heard_at_end, heard_so_far, nothing_heard}
+use Rattle.kc_stream.specs.declared.gathered.Gathered.{Gathered}
 use Rattle.kc_stream.proofs.Cuts.{ended-append, open-append}
 use Rattle.kc_stream.proofs.Reading.{hear-none, more-ended, so-far}
 use Rattle.kc_watch.specs.Text.{last_reply_of, reply, reply_at_end, reply_of, whole_reply_of}
-use Rattle.kc_watch.specs.Watching.{StandsAt, WasFed}
+use Rattle.kc_watch.specs.Watching.{HasEnded, StandsAt, WasFed}
 use Rattle.kc_watch.specs.declared.course.Course.{Course}
 use Rattle.kc_watch.specs.declared.watcher.Watcher.{Watcher}
 use Rattle.kc_watch.proofs.Lines.{batch-grows, going-heard, lines-grow, prefix-same, prefix-trans}
@@ -82,6 +83,13 @@ module _ (watcher : Watcher) (fed : List ℕ) (f : WasFed watcher fed) where
     ap last_reply_of (end-heard more ∙ hear-none heard_by (all_said (f.rest ++ more)) (refused-heard some))
         ∙ ap (λ b. cond b (reply_of heard_by.told) (whole_reply_of heard_by.told)) (refused-heard some) ∙ sym fed-reply,
   )
+
+  -- and no other line is refused once all has come
+  pub refused-ended : is_some watcher.course.gathered.refusal ≡ true → HasEnded watcher fed
+  refused-ended some =
+      f.stands.gathers.refusal
+      ∙ ap (λ (h : Heard). h.refusal)
+      (sym (hear-none heard_by (all_said (f.rest ++ [])) (refused-heard some)) ∙ sym (end-heard []) ∙ ap heard_at_end (append-nil fed))
 
   -- a watcher of which a line is refused was fed whatever comes
   pub fed-refused : (more : List ℕ) → is_some watcher.course.gathered.refusal ≡ true → WasFed watcher (fed ++ more)
@@ -225,6 +233,10 @@ module _ (watcher : Watcher) (none : watcher.course.gathered.refusal ≡ None) (
 
   end-then : heard_at_end fed ≡ heard_then
   end-then = end-is watcher fed f none ∙ ap (λ (t : List ℕ). hear_all (heard_of f.done) (all_said t)) (sym is)
+
+  -- a course that has come to it has the line that is refused
+  pub end-refusal : (new course : Course) → StandsAt course heard_then → new.gathered ≡ course.gathered → new.gathered.refusal ≡ (heard_at_end fed).refusal
+  end-refusal new course s same = ap (λ (g : Gathered). g.refusal) same ∙ s.gathers.refusal ∙ ap (λ (h : Heard). h.refusal) (sym end-then)
 
   -- memory ended before all was read
   pub end-broken : (put : List ℕ) → IsPrefixOf (reply_of heard_then.told) (reply_of (heard_of f.done).told ++ put)

@@ -8,7 +8,7 @@ use Rattle.kc_text.specs.Lines.{EndsLine}
 use Rattle.kc_text.specs.Meaning.{Told}
 use Rattle.kc_stream.specs.Ended.{IsOpen}
 use Rattle.kc_stream.specs.Gathering.{Gathers}
-use Rattle.kc_stream.specs.Hearing.{Heard, hear_all, nothing_heard}
+use Rattle.kc_stream.specs.Hearing.{Heard, hear_all, heard_at_end, nothing_heard}
 use Rattle.kc_stream.specs.declared.gathered.Gathered.{Gathered}
 use Rattle.kc_watch.specs.Text.{account_of}
 use Rattle.kc_watch.specs.declared.course.Course.{Course}
@@ -38,3 +38,7 @@ pub record WasFed (watcher : Watcher) (fed : List ℕ) : Type 0 where
   pub ended : EndsLine done
   pub stands : StandsAt watcher.course (hear_all nothing_heard (all_said done))
   pub begun : watcher.course.gathered.refusal ≡ None → (watcher.begun.items ≡ rest) × IsOpen rest
+
+-- A watcher was fed these bytes, and then the stream has ended: it has the first line of them that is refused, if there is one.
+abbrev pub HasEnded : Watcher → List ℕ → Type 0
+HasEnded watcher fed = watcher.course.gathered.refusal ≡ (heard_at_end fed).refusal

@@ -3,9 +3,9 @@ ghost use Rattle.std.specs.Prelude.{◌≡◌, ◌++◌, [], None, true, List, �
 ghost use Rattle.kc_dialogue.specs.Replies.{IsPrefixOf};
 ghost use Rattle.kc_dialogue.specs.declared.flow.Flow.{Flow};
 ghost use Rattle.kc_text.specs.Lines.{EndsLine};
-ghost use Rattle.kc_stream.specs.Hearing.{heard_so_far};
+ghost use Rattle.kc_stream.specs.Hearing.{heard_at_end, heard_so_far};
 ghost use Rattle.kc_watch.specs.Text.{reply, reply_at_end};
-ghost use Rattle.kc_watch.specs.Watching.{WasFed};
+ghost use Rattle.kc_watch.specs.Watching.{HasEnded, WasFed};
 
 use crate::NoMemory;
 use crate::course::Course;
@@ -34,9 +34,11 @@ impl Watcher {
         }
     }
 
-    /// The first line that is refused, with the first check that it fails. Nothing behind it is answered.
+    /// The first line that is refused, with the first check that it fails. Nothing behind it is answered. Bytes behind the last newline are
+    /// a line once the stream has ended.
     pub fn refusal(&self) -> Option<Refusal>
-        ensures { (fed : List ℕ) → WasFed self.now fed → result ≡ (heard_so_far fed).refusal }
+        ensures so_far { (fed : List ℕ) → WasFed self.now fed → result ≡ (heard_so_far fed).refusal }
+        ensures at_end { (fed : List ℕ) → HasEnded self.now fed → result ≡ (heard_at_end fed).refusal }
     {
         self.course.refusal()
     }
@@ -80,6 +82,8 @@ impl Replier for Watcher {
     ghost reply_at_end = { λ _. reply_at_end };
 
     ghost was_fed = { WasFed };
+
+    ghost has_ended = { HasEnded };
 
     fn feed(&mut self, alloc: Global, piece: &[u8], out: &mut Vec<u8>) -> Result<Flow, NoMemory> {
         if self.course.refusal().is_some() {

@@ -1,9 +1,9 @@
 -- What is open is read and ends, unless a line is refused.
-use Rattle.std.proofs.Common.{◌≡◌, ◌++◌, [], ℕ, List, ap, sym, ◌∙◌, append-nil, append_assoc, arith, true, false}
+use Rattle.std.proofs.Common.{◌≡◌, ◌++◌, [], ℕ, List, ap, refl, sym, ◌∙◌, append-nil, append_assoc, arith, true, false}
 use Rattle.std.specs.Prelude.{is_some}
 use Rattle.kc_watch.specs.Text.{reply, reply_at_end}
-use Rattle.kc_watch.proofs.Fed.{end-answers, end-broken, end-refused, heard_of, stays}
-use Rattle.kc_watch.proofs.Lines.{going-heard, on-err}
+use Rattle.kc_watch.proofs.Fed.{end-answers, end-broken, end-refusal, end-refused, heard_of, refused-ended, stays}
+use Rattle.kc_watch.proofs.Lines.{going-heard, on-both, on-err}
 use Rattle.kc_stream.proofs.Holding.{none-from}
 use Rattle.kc_watch.proofs.watcher.WatcherReplier.end.Goals as goal
 
@@ -11,6 +11,7 @@ pub returns-then-is_some : goal.returns-then-is_some
 returns-then-is_some c =
     let some : is_some c.args.self.now.course.gathered.refusal ≡ true = grind (arith, c.refusal.ensures, c.is_some.ensures, c.if-is_some.true) in
     record {
+      ended = λ fed f. refused-ended c.args.self.now fed f some;
       put = (
         [],
         sym (append-nil c.args.out.now.items),
@@ -26,6 +27,7 @@ returns-in_err-read c =
     let going : is_some c.args.self.now.course.gathered.refusal ≡ false = grind (arith, c.refusal.ensures, c.is_some.ensures, c.if-is_some.false) in
     let (put, out, adds) = c.in_err-read.ensures.put in
     record {
+      ended = (on-err c.from_residual.result _ (Unit {0}) c.from_residual.ensures.0 tt).0;
       put = (
         put,
         out,
@@ -40,6 +42,8 @@ returns-then-is_some-2 c =
     let some : is_some c.read.new.self.gathered.refusal ≡ true = grind (arith, c.refusal-2.ensures, c.is_some-2.ensures, c.if-is_some-2.true) in
     let (put, out, adds) = c.in_ok-read.ensures.put in
     record {
+      ended = λ fed f. end-refusal c.args.self.now (none-from _ going) c.deref.result.now c.deref.ensures.value fed f c.read.new.self c.read.new.self
+          (c.in_ok-read.ensures.stands (heard_of f.done) f.stands) refl;
       put = (
         put,
         out,
@@ -69,6 +73,9 @@ returns c =
     let (put, out, adds) = c.in_ok-read.ensures.put in
     let (more, out', adds') = c.end_part.ensures.put in
     record {
+      ended = (on-both c.end_part.result _ (Unit {0})
+          (λ fed f. end-refusal c.args.self.now (none-from _ before) c.deref.result.now c.deref.ensures.value fed f c.end_part.new.self c.read.new.self
+          (c.in_ok-read.ensures.stands (heard_of f.done) f.stands) c.end_part.ensures.gathered) tt).0;
       put = (
         put ++ more,
         out' ∙ ap (λ (t : List ℕ). t ++ more) out ∙ append_assoc c.args.out.now.items put more,
