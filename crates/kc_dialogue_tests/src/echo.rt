@@ -46,6 +46,8 @@ impl Replier for Echo {
 
     ghost was_fed = { λ s bytes. s.stopped ≡ has_stop bytes };
 
+    ghost has_ended = { λ s bytes. s.stopped ≡ has_stop bytes };
+
     fn feed(&mut self, _alloc: Global, piece: &[u8], out: &mut Vec<u8>) -> Result<Flow, NoMemory> {
         if self.stopped {
             return Ok(Flow::Ended);
