@@ -33,5 +33,6 @@ pub held-end : (reply now-reply reply_at_end now-at_end : List ℕ → List ℕ)
     → (events : List WireEvent) × TellsMore a c events × HasAnswered reply reply_at_end events how
     × (how ≡ end.Ended → IsFed (read_in events)) × (how ≡ end.Done → HasEnded (read_in events))
 held-end reply now-reply reply_at_end now-at_end WasFed IsFed HasEnded a b c before how same same_at_end told going turn =
-    let (events, more, ends, one) = IsTurn-same reply now-reply reply_at_end now-at_end WasFed IsFed HasEnded b c (Some how) same same_at_end turn before going in
+    let (events, more, ends, one) = IsTurn-same reply now-reply reply_at_end now-at_end WasFed IsFed HasEnded b c (Some how) same same_at_end turn before going
+    in
     (before ++ events, TellsMore-trans a b c before events told more, ends.0, ends.1, ends.2)

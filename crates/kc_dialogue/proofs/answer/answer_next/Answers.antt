@@ -35,7 +35,8 @@ returns-in-Ok-clause-turned g c = λ before going.
       TellsMore-trans (g.W.Wire.history c.args.wire.now) (g.W.Wire.history c.read.new.self) (g.W.Wire.history c.answer_piece.new.wire) (Read piece ∷ [])
           (wrote text) c.in-Ok.ensures.history told,
       HasTurned-piece reply reply_at_end (g.R.Replier.was_fed c.args.replier.now) (g.R.Replier.was_fed c.answer_piece.new.replier)
-          (g.R.Replier.has_ended c.answer_piece.new.replier) before piece text c.answer_piece.result some going (adds (read_in before) going.fed) (c.answer_piece.ensures.fed (read_in before) going.fed)
+          (g.R.Replier.has_ended c.answer_piece.new.replier) before piece text c.answer_piece.result some going
+          (adds (read_in before) going.fed) (c.answer_piece.ensures.fed (read_in before) going.fed)
           (c.answer_piece.ensures.fed_at_end (read_in before) going.fed),
       λ _. reads-turn piece text,
     )
