@@ -42,7 +42,8 @@ turns-preserved g c =
       held = held-on (g.R.Replier.reply c.args.replier.now) (g.R.Replier.reply c.turns.replier) (g.R.Replier.reply_at_end c.args.replier.now)
           (g.R.Replier.reply_at_end c.turns.replier) (g.R.Replier.was_fed c.turns.replier) (g.R.Replier.was_fed c.answer_next.new.replier)
           (g.R.Replier.has_ended c.answer_next.new.replier) (g.W.Wire.history c.args.wire.now) (g.W.Wire.history c.turns.wire)
-          (g.W.Wire.history c.answer_next.new.wire) before c.turns.counter c.turns.invariant.same c.turns.invariant.same_at_end told going reads c.in-None.ensures.turned;
+          (g.W.Wire.history c.answer_next.new.wire) before c.turns.counter c.turns.invariant.same c.turns.invariant.same_at_end told going reads
+          c.in-None.ensures.turned;
       same = c.in-None.ensures.same refl ∙ c.turns.invariant.same;
       same_at_end = c.in-None.ensures.same_at_end refl ∙ c.turns.invariant.same_at_end;
       faultless = c.in-None.ensures.cause ∙ c.turns.invariant.faultless;
