@@ -6,13 +6,12 @@ usage: fuzz_cores.py [--cores PROGRAM] [--cases N] [--seed N]
 
 The model follows the definitions: core numbers by taking vertices away, k-cores and layers from these. Of `order` it tests that the lines
 certify the numbers. `check` is run on what `order` and `layers` write, and on the same with lines changed, swapped, left out, repeated or
-made foreign. `numbers` is run on tables in random dialects too: columns, separators, heads, quotes, a byte order mark and bad lines. At last
-a reader goes away that has taken one line. An input that differs is printed, and the status is 1 then.
+made foreign. At last a reader goes away that has taken one line. An input that differs is printed, and the status is 1 then. Tables with
+options that tell how they are read are those of `fuzz_tables.py`.
 """
 import argparse
 import pathlib
 import random
-import re
 import subprocess
 import sys
 import tempfile
@@ -185,93 +184,6 @@ def wrong_checks(program, draw, text, place):
                 yield "check", repr(found)
 
 
-SEPARATORS = {"blank": " ", "comma": ",", "semicolon": ";", "tab": "\t"}
-
-
-def table_of(draw):
-    """A random table of edges, and how it is read: the columns of the ids, the separator, the lines of the head, and what becomes of bad lines."""
-    name = draw.choice(sorted(SEPARATORS))
-    columns = draw.sample(range(1, 5), 2)
-    skip, bad_lines = draw.choice((0, 0, 1, 2)), draw.choice(("stop", "skip"))
-    ids = draw.sample(range(draw.choice((9, 60, 4_294_967_296))), 8)
-    wrong = draw.choice((0, 0, 0.05))
-    text = draw.choice(("", "", "\ufeff"))
-    for number in range(draw.randrange(0, 30)):
-        cells = [str(draw.choice(ids)) if column in columns else draw.choice(("x", "0.5", "-3", "7")) for column in range(1, max(columns) + 1)]
-        cells += ["y"] * draw.randrange(2)
-        if number < skip:
-            cells = ["from", "to"]
-        elif draw.random() < wrong:
-            at = draw.randrange(len(cells))
-            cells = draw.choice((cells[:at], cells[:at] + [draw.choice(("a", "4294967296", "1.5", "-1"))] + cells[at + 1:]))
-        if name != "blank":
-            cells = [draw.choice((cell, cell, f" {cell}", f"{cell} ", f'"{cell}"')) for cell in cells]
-        text += draw.choice((*[SEPARATORS[name].join(cells)] * 9, "# 1 2 3", "", "  ")) + draw.choice(("\n", "\n", "\r\n"))
-    return text.encode(), columns, name, skip, bad_lines
-
-
-def cells_of(line, name):
-    """The fields of a line, each behind the number of bytes before it."""
-    if name == "blank":
-        return [(found.start(), found.group()) for found in re.finditer(rb"[^ \t]+", line)]
-    parts, quoted, start = [], False, 0
-    for at, byte in enumerate(line):
-        quoted ^= byte == 34
-        if byte == ord(SEPARATORS[name]) and not quoted:
-            parts.append((start, line[start:at]))
-            start = at + 1
-    cells = []
-    for start, part in (*parts, (start, line[start:])):
-        cell = part.lstrip(b" \t")
-        start += len(part) - len(cell)
-        cell = cell.rstrip(b" \t")
-        cells.append((start, cell[1:-1] if len(cell) > 1 and cell[:1] == cell[-1:] == b'"' else cell))
-    return cells
-
-
-def rows_of(text, columns, name, skip):
-    """The lines of a table: for each its number, and the two ids, or the column that is wrong."""
-    lines = text.split(b"\n")
-    for number, line in enumerate(lines[:-1] if lines[-1] == b"" else lines, 1):
-        line = line[:-1] if line.endswith(b"\r") else line
-        line = line[3:] if number == 1 and line.startswith(b"\xef\xbb\xbf") else line
-        if number <= skip or re.match(rb"[ \t]*([#%]|$)", line):
-            continue
-        cells, ids = cells_of(line, name), []
-        for column in columns:
-            start, cell = cells[column - 1] if column <= len(cells) else (len(line), b"")
-            if not re.fullmatch(rb"[0-9]+", cell) or int(cell) > 4_294_967_295:
-                yield number, None, start + 1
-                break
-            ids.append(int(cell))
-        else:
-            yield number, ids, None
-
-
-def is_read(program, draw, place):
-    """Whether a random table is read as the model reads it."""
-    text, columns, name, skip, bad_lines = table_of(draw)
-    words = ["numbers", "--columns", f"{columns[0]},{columns[1]}", "--skip", str(skip), "--bad-lines", bad_lines]
-    file = place / {"comma": "table.csv", "tab": "table.tsv"}.get(name, "table")
-    if file.suffix == "" or draw.random() < 0.5:
-        words += ["--separator", name]
-    file.write_bytes(text)
-    status, lines, told = run(program, [*words, str(file)], "")
-    rows = list(rows_of(text, columns, name, skip))
-    bad = [(number, column) for number, ids, column in rows if ids is None]
-    if bad and bad_lines == "stop":
-        return (status, lines) == (3, "") and told.startswith(f"cores: {file}: line {bad[0][0]}, column {bad[0][1]}: ") or (text, words)
-    neighbours = graph_of("".join(f"{ids[0]} {ids[1]}\n" for _, ids, _ in rows if ids))
-    core = core_numbers(neighbours)
-    wanted_lines = "".join(f"{v}\t{core[v]}\n" for v in neighbours)
-    starts = [f"cores: {file}: line {number}, column {column}: " for number, column in bad[:5]]
-    starts += [f"cores: {file}: {len(bad)} lines were passed over"] if bad else []
-    starts += [f"vertices {len(core)} "]
-    found = told.splitlines()
-    told_so = len(found) == len(starts) and all(line.startswith(start) for line, start in zip(found, starts))
-    return ((status, lines) == (0, wanted_lines) and told_so) or (text, words)
-
-
 def is_quiet(program):
     """Whether a reader that goes away after a line ends the run without a word, and with status 0."""
     text = "".join(f"{i} {i + 1}\n" for i in range(200_000))
@@ -285,7 +197,9 @@ def is_quiet(program):
 
 
 def run(program, words, text):
-    ended = subprocess.run([program, *words], input=text.encode(), capture_output=True, check=False)
+    """The status, the output and what is told of a run with this text as standard input."""
+    given = text if isinstance(text, bytes) else text.encode()
+    ended = subprocess.run([program, *words], input=given, capture_output=True, check=False)
     return ended.returncode, ended.stdout.decode(), ended.stderr.decode()
 
 
@@ -319,15 +233,10 @@ def main():
             for found in (*faults(chosen.cores, draw, text, k), *checks):
                 wrong += 1
                 print(f"case {case}: cores {' '.join(found)} differs on {text!r}")
-            for _ in range(4):
-                table = is_read(chosen.cores, draw, pathlib.Path(place))
-                if table is not True:
-                    wrong += 1
-                    print(f"case {case}: cores {' '.join(table[1])} differs on {table[0]!r}")
     if not is_quiet(chosen.cores):
         wrong += 1
         print("cores numbers: a reader that goes away is told as a fault")
-    print(f"{chosen.cases} cases of seed {chosen.seed}, eight commands, fourteen checks and four tables each: {wrong or 'none'} wrong")
+    print(f"{chosen.cases} cases of seed {chosen.seed}, eight commands and fourteen checks each: {wrong or 'none'} wrong")
     sys.exit(1 if wrong else 0)
 
 
