@@ -2,7 +2,7 @@
 //!
 //! It only gives [`answer_on`](kc_cores::program::answer_on) the program's arguments, the standard streams and the files of the system, and
 //! ends with the exit code that it answers. `answer_on` says all over any input and sinks. Of the arguments, the files and the streams of the
-//! operating system no contract can say more than that. It stands on `kc_cores` and `kc_io`.
+//! operating system no contract can say more than that. It stands on `kc_cores`, `kc_io` and `kc_wire`.
 #![tactic(auto)]
 
 use kc_cores::CoresStreams;
@@ -10,6 +10,7 @@ use kc_cores::program::answer_on;
 use kc_cores::std_input::StdInput;
 use kc_cores::std_pipe::StdPipe;
 use kc_io::std_sink::StdSink;
+use kc_wire::std_wire::StdWire;
 use std::process::ExitCode;
 use std::{env, io};
 
@@ -19,6 +20,7 @@ fn main(rt: HostRuntime) -> ExitCode {
         certificate: StdInput::new(&rt, io::empty()),
         out: StdPipe::new(rt.stdout()),
         err: StdSink::new(rt.stderr()),
+        wire: StdWire::new(rt.stdin(), rt.stdout()),
     };
     answer_on(rt.alloc(), env::args(&rt), &mut streams)
 }

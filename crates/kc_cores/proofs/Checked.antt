@@ -6,18 +6,21 @@ use Rattle.kc_io.specs.Causes.{Rose}
 use Rattle.kc_io.specs.declared.sink.Sink as sinks
 use Rattle.kc_io.specs.declared.source.Source as sources
 use Rattle.kc_claims.specs.declared.fault.ClaimFault.{ClaimFault}
+use Rattle.kc_wire.specs.declared.wire.Wire as wires
 use Rattle.kc_cores.specs.CheckEnded.{CheckEnded, EndsAsAsked, IsRight, IsWrong}
 use Rattle.kc_cores.specs.CoresEnded.{CoresEnded}
 use Rattle.kc_cores.specs.Endings.{HasNoVerdict, HasSaid, NoClaimsAt, NoFileGraphAt, RefutedAt, RepliesTo, line_of}
 use Rattle.kc_cores.specs.Inputs.{known_bytes}
 use Rattle.kc_cores.specs.Sentences.{no_memory_line, write_fault_line}
 use Rattle.kc_cores.specs.Verdicts.{no_line, yes_line}
-use Rattle.kc_cores.specs.Wishes.{Asks, Checks, GraphText, Query, Wish}
+use Rattle.kc_cores.specs.WatchEnded.{WatchEnded}
+use Rattle.kc_cores.specs.Wishes.{Asks, Checks, GraphText, Query, Watches, Wish}
 use Rattle.kc_cores.specs.declared.CoresStatus.{CoresStatus}
 use Rattle.kc_cores.specs.declared.CoresStatus.TheVariants as status
 use Rattle.kc_cores.specs.declared.ending.Ending.{Ending}
 use Rattle.kc_cores.specs.declared.words.Reply.{Reply}
 use Rattle.kc_cores.specs.declared.words.Reply.TheVariants as reply
+use Rattle.kc_cores.proofs.Watched.{WatchEnded-nothing}
 
 module _ {I C O : Type 0} (source : sources.Ghosts I) (behind : I → List ℕ → Option (List ℕ)) (kept : sources.Ghosts C)
     (beside : C → List ℕ → Option (List ℕ)) (out : sinks.Ghosts O) where
@@ -144,37 +147,52 @@ module _ {I C O : Type 0} (source : sources.Ghosts I) (behind : I → List ℕ �
         write_faults = ap out.faults three;
       })
 
-  module _ (gone : O → Bool) where
+  module _ {L : Type 0} (gone : O → Bool) (wire : wires.Ghosts L) where
     -- a run for a task has ended as it should
-    pub EndsAsAsked-lines : (wish : Wish) (query : Query) (end : CoresStatus) (line : List ℕ) (i i' : I) (c c' : C) (o o' : O)
-        → wish ≡ Asks query → CoresEnded source behind out gone (Asks query) end line i i' o o' → c' ≡ c
-        → EndsAsAsked source behind kept beside out gone wish end line i i' c c' o o'
-    EndsAsAsked-lines wish query end line i i' c c' o o' is h same = record {
+    pub EndsAsAsked-lines : (wish : Wish) (query : Query) (end : CoresStatus) (line : List ℕ) (i i' : I) (c c' : C) (o o' : O) (l l' : L)
+        → wish ≡ Asks query → CoresEnded source behind out gone (Asks query) end line i i' o o' → c' ≡ c → l' ≡ l
+        → EndsAsAsked source behind kept beside out gone wire wish end line i i' c c' o o' l l'
+    EndsAsAsked-lines wish query end line i i' c c' o o' l l' is h same stays = record {
       check = λ n f e. absurd (cc);
-      other = λ _. (subst (λ (w : Wish). CoresEnded source behind out gone w end line i i' o o') (sym is) h, same);
+      watch = λ e. absurd (cc);
+      other = λ _ _. (subst (λ (w : Wish). CoresEnded source behind out gone w end line i i' o o') (sym is) h, same, stays);
     }
 
     -- a run that checks a certificate has ended as it should
     pub EndsAsAsked-check : (wish : Wish) (name : List ℕ) (graph : GraphText) (end : CoresStatus) (line : List ℕ) (i i' : I) (c c' : C) (o o' : O)
-        → wish ≡ Checks name graph → CheckEnded source behind kept beside out name graph end line i i' c c' o o'
-        → EndsAsAsked source behind kept beside out gone wish end line i i' c c' o o'
-    EndsAsAsked-check wish name graph end line i i' c c' o o' is h = record {
+        (l l' : L) → wish ≡ Checks name graph → CheckEnded source behind kept beside out name graph end line i i' c c' o o' → l' ≡ l
+        → EndsAsAsked source behind kept beside out gone wire wish end line i i' c c' o o' l l'
+    EndsAsAsked-check wish name graph end line i i' c c' o o' l l' is h stays = record {
       check = λ n f e.
           let p : name ≡ n = cc in
-          let q : graph ≡ f = cc in
-          subst (λ (x : List ℕ). CheckEnded source behind kept beside out x f end line i i' c c' o o') p
-          (subst (λ (x : GraphText). CheckEnded source behind kept beside out name x end line i i' c c' o o') q h);
-      other = λ none. absurd (none name graph is);
+          let q : graph ≡ f = cc in (
+            subst (λ (x : List ℕ). CheckEnded source behind kept beside out x f end line i i' c c' o o') p
+                (subst (λ (x : GraphText). CheckEnded source behind kept beside out name x end line i i' c c' o o') q h),
+            stays,
+          );
+      watch = λ e. absurd (cc);
+      other = λ none _. absurd (none name graph is);
+    }
+
+    -- a run that answers a stream has ended as it should
+    pub EndsAsAsked-watch : (wish : Wish) (end : CoresStatus) (line : List ℕ) (i i' : I) (c c' : C) (o o' : O) (l l' : L)
+        → wish ≡ Watches → WatchEnded wire end line l l' → i' ≡ i → c' ≡ c → o' ≡ o
+        → EndsAsAsked source behind kept beside out gone wire wish end line i i' c c' o o' l l'
+    EndsAsAsked-watch wish end line i i' c c' o o' l l' is h one two three = record {
+      check = λ n f e. absurd (cc);
+      watch = λ _. (h, one, two, three);
+      other = λ _ none. absurd (none is);
     }
 
     -- a run that is a reply to its words has ended as it should
-    pub EndsAsAsked-reply : (wish : Wish) (r : Reply) (end : CoresStatus) (line : List ℕ) (i i' : I) (c c' : C) (o o' : O)
-        → RepliesTo r wish → CoresEnded source behind out gone wish end line i i' o o' → c' ≡ c
+    pub EndsAsAsked-reply : (wish : Wish) (r : Reply) (end : CoresStatus) (line : List ℕ) (i i' : I) (c c' : C) (o o' : O) (l l' : L)
+        → RepliesTo r wish → CoresEnded source behind out gone wish end line i i' o o' → c' ≡ c → l' ≡ l
         → (r ≡ reply.NoMemory → (end ≡ status.NoMemory) × (line ≡ no_memory_line) × (i' ≡ i) × (o' ≡ o))
-        → EndsAsAsked source behind kept beside out gone wish end line i i' c c' o o'
-    EndsAsAsked-reply wish r end line i i' c c' o o' replies h same memory = record {
-      check = λ name graph e. go r name graph (subst (RepliesTo r) e replies) memory;
-      other = λ _. (h, same);
+        → EndsAsAsked source behind kept beside out gone wire wish end line i i' c c' o o' l l'
+    EndsAsAsked-reply wish r end line i i' c c' o o' l l' replies h same stays memory = record {
+      check = λ name graph e. (go r name graph (subst (RepliesTo r) e replies) memory, stays);
+      watch = λ e. stream r (subst (RepliesTo r) e replies) memory;
+      other = λ _ _. (h, same, stays);
     }
       where
         go : (r : Reply) (name : List ℕ) (graph : GraphText) → RepliesTo r (Checks name graph)
@@ -185,3 +203,12 @@ module _ {I C O : Type 0} (source : sources.Ghosts I) (behind : I → List ℕ �
         go reply.NoMemory name graph replies memory =
             let (is, told, one, three) = memory refl in
             no_words name graph end line i i' c c' o o' is told one same three
+
+        stream : (r : Reply) → RepliesTo r Watches
+            → (r ≡ reply.NoMemory → (end ≡ status.NoMemory) × (line ≡ no_memory_line) × (i' ≡ i) × (o' ≡ o))
+            → WatchEnded wire end line l l' × (i' ≡ i) × (c' ≡ c) × (o' ≡ o)
+        stream (reply.Asked text) replies memory = absurd replies
+        stream (reply.Mistake text) replies memory = absurd replies
+        stream reply.NoMemory replies memory =
+            let (is, told, one, three) = memory refl in
+            (WatchEnded-nothing wire end line l l' is told stays, one, same, three)

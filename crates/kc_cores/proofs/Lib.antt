@@ -8,3 +8,4 @@ pub mod Paging
 pub mod Replies
 pub mod Sizing
 pub mod Stopping
+pub mod Watched

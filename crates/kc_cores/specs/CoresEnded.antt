@@ -12,7 +12,7 @@ use Rattle.kc_dialect_read.specs.declared.fault.PlacedRefusal.{PlacedRefusal}
 use Rattle.kc_cores.specs.Answers.{IsRefusedBy, IsTextFor, graph_meaning}
 use Rattle.kc_cores.specs.Inputs.{known_bytes}
 use Rattle.kc_cores.specs.Sentences.{no_memory_line, read_fault_line, refused_line, unopened_line, unopened_short_line, write_fault_line}
-use Rattle.kc_cores.specs.Wishes.{Asks, Checks, MayReply, Query, Replies, Wish}
+use Rattle.kc_cores.specs.Wishes.{Asks, Checks, MayReply, Query, Replies, Watches, Wish}
 use Rattle.kc_cores.specs.declared.CoresStatus.{CoresStatus}
 use Rattle.kc_cores.specs.declared.CoresStatus.TheVariants as status
 use Rattle.kc_cores.specs.declared.input.FileFault.{FileFault}
@@ -21,12 +21,14 @@ use Rattle.kc_cores.specs.declared.input.FileFault.{FileFault}
 abbrev pub given_bytes : {I : Type 0} → (I → Option (List ℕ)) → (I → List ℕ → Option (List ℕ)) → Wish → I → Option (List ℕ)
 given_bytes left behind (Asks query) i = known_bytes left behind query.graph.file i
 given_bytes left behind (Checks name graph) i = None
+given_bytes left behind Watches i = None
 given_bytes left behind (Replies kinds) i = None
 
 -- the lines and the summary of what was read, which is all of the input where it is known
 abbrev pub IsAnswerTo : Wish → Option (List ℕ) → List ℕ → List ℕ → Type 0
 IsAnswerTo (Asks query) known text summary = (bytes : List ℕ) × IfSome known (λ all. bytes ≡ all) × IsTextFor query bytes text summary
 IsAnswerTo (Checks name graph) known text summary = ⊥
+IsAnswerTo Watches known text summary = ⊥
 IsAnswerTo (Replies kinds) known text summary = ⊥
 
 -- all of a text was taken, with this fact about it
@@ -41,6 +43,7 @@ TookPrefix P before after = (text : List ℕ) × P text × ((n : ℕ) × (n ≤ 
 abbrev pub IsOutputFor : Wish → Option (List ℕ) → List ℕ → Type 0
 IsOutputFor (Asks query) known text = (summary : List ℕ) × IsAnswerTo (Asks query) known text summary
 IsOutputFor (Checks name graph) known text = ⊥
+IsOutputFor Watches known text = ⊥
 IsOutputFor (Replies kinds) known text = MayReply true (Replies kinds)
 
 -- what the sink of the lines took at each status

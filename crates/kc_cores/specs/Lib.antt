@@ -9,6 +9,7 @@ pub mod Outputs
 pub mod Sentences
 pub mod Skips
 pub mod Verdicts
+pub mod WatchEnded
 pub mod Wishes
 -- What the crate's own functions and invariants speak of.
 pub mod Endings

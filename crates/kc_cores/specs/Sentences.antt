@@ -4,6 +4,7 @@ use Rattle.std.specs.Fmt.{decimal}
 use Rattle.kc_text.specs.declared.kind.Kind.{Kind}
 use Rattle.kc_text.specs.declared.kind.Kind.TheVariants.{NotANumber, MissingField, ExtraField, NumberTooLarge, LoopInBatch, UpdateOutsideBatch}
 use Rattle.kc_text.specs.declared.kind.Kind.TheVariants.{EdgeLineInBatch, TooManyVertices, TooManyEdgeLines, TooManyUpdates, TooManyBatches, TooLong}
+use Rattle.kc_text.specs.declared.refusal.Refusal.{Refusal}
 use Rattle.kc_dialect_read.specs.declared.fault.PlacedRefusal.{PlacedRefusal}
 use Rattle.kc_cores.specs.declared.input.FileFault.{FileFault}
 use Rattle.kc_cores.specs.declared.input.FileFault.TheVariants.{Missing, Folder, Forbidden, Other}
@@ -54,6 +55,19 @@ abbrev pub refused_line : Option (List ℕ) → PlacedRefusal → List ℕ
 refused_line file placed =
     codes "cores: " ++ (in_file file ++ ((at_line placed.refusal.line ++ at_column placed.column) ++ (codes ": "
     ++ (placed_sentence placed.column placed.refusal.kind ++ 10 ∷ []))))
+
+-- what was found wrong with a line of a stream, and how it is mended
+abbrev pub stream_sentence : Kind → List ℕ
+stream_sentence NotANumber = codes "a field is not a whole number; write two ids of decimal digits, or begin the line with # if it is a comment"
+stream_sentence MissingField = codes "the second id is missing; write two ids with a blank or a tab between them"
+stream_sentence ExtraField = codes "there are too many fields; write two ids, or batch alone"
+stream_sentence UpdateOutsideBatch = codes "a change stands before any line batch; write a line batch before it"
+stream_sentence EdgeLineInBatch = codes "an edge stands after a line batch; begin the line with + or -"
+stream_sentence kind = sentence_of kind
+
+-- `cores: line 12: SENTENCE`
+abbrev pub stream_refused_line : Refusal → List ℕ
+stream_refused_line refusal = codes "cores: " ++ (at_line refusal.line ++ (codes ": " ++ (stream_sentence refusal.kind ++ 10 ∷ [])))
 
 -- why a file was not opened, in the words of the operating system
 abbrev pub fault_sentence : FileFault → List ℕ

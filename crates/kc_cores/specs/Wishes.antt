@@ -98,9 +98,13 @@ check_command = with_rule (with_dialect certificate_command) (new_rule (codes "F
 abbrev pub with_tasks : App
 with_tasks = with_subcommand (with_subcommand with_cores (task_command (codes "layers")).top) (task_command (codes "order")).top
 
--- the command that reads the words, with a command of its own for each task and for the check
+-- the command that answers a stream
+abbrev pub watch_command : App
+watch_command = new_app (codes "watch")
+
+-- the command that reads the words, with a command of its own for each task, for the check and for a stream
 abbrev pub cores_command : App
-cores_command = with_subcommand with_tasks check_command.top
+cores_command = with_subcommand (with_subcommand with_tasks check_command.top) watch_command.top
 
 -- The text of a graph: that of a file, or of standard input where no file is named, in a dialect where one is asked for.
 pub record GraphText : Type 0 where
@@ -113,11 +117,12 @@ pub record Query : Type 0 where
   pub graph : GraphText
   pub quiet : Bool
 
--- What words ask for: a task for a graph; or the check of a certificate of this name for the graph of a text. Or they ask for help or the
--- version, or are not right: then there is a reply of one of these kinds, as those of `clap`.
+-- What words ask for: a task for a graph; or the check of a certificate of this name for the graph of a text; or the answer to a stream. Or
+-- they ask for help or the version, or are not right: then there is a reply of one of these kinds, as those of `clap`.
 pub data Wish : Type 0 where
   Asks : Query → Wish
   Checks : Text → GraphText → Wish
+  Watches : Wish
   Replies : Kinds → Wish
 
 -- whether a text has digits alone, at least one, and its number is one of 32 bits
@@ -265,11 +270,15 @@ check_wish None graph = Replies (InvalidSubcommand ∷ [])
 check_wish (Some name) None = Replies (ValueValidation ∷ [])
 check_wish (Some name) (Some graph) = Checks name graph
 
--- what a command of this name with these matches asks for
-abbrev pub wish_by : Text → List Row → Wish
-wish_by name rows =
+-- what a command of this name for a text asks for, with these matches
+abbrev pub wish_about : Text → List Row → Wish
+wish_about name rows =
     if bytes_eq name (codes "check") then check_wish (first_of (codes "CERTIFICATE") rows) (text_in rows)
     else wish_for (task_in name rows) (text_in rows) (is_set (first_of (codes "quiet") rows))
+
+-- what a command of this name with these matches asks for
+abbrev pub wish_by : Text → List Row → Wish
+wish_by name rows = if bytes_eq name (codes "watch") then Watches else wish_about name rows
 
 -- what the command that was met asks for
 abbrev pub wish_in : Option (Text × List Row) → Wish
@@ -290,4 +299,5 @@ is_shown _ = false
 abbrev pub MayReply : Bool → Wish → Type 0
 MayReply shown (Asks query) = ⊥
 MayReply shown (Checks name graph) = ⊥
+MayReply shown Watches = ⊥
 MayReply shown (Replies kinds) = (kind : ErrorKind) × IsAmong kind kinds × (is_shown kind ≡ shown)

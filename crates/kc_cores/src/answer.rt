@@ -22,12 +22,14 @@ use crate::reading::{NamedGraph, read_graph};
 use crate::request::{CheckRequest, Request, Wanted};
 use crate::skips::told_skips;
 use crate::summary::summary_line;
+use crate::watching::watch;
 use crate::words::{Reply, request_of};
 use crate::{CoresStatus, CoresStreams};
 use kc_flat::{Decomposition, decompose};
 use kc_graph::NoMemory;
 use kc_io::Failed;
 use kc_io::sink::{Sink, write_all};
+use kc_wire::wire::Wire;
 use std::alloc::Global;
 use std::convert::AsStr;
 
@@ -67,10 +69,10 @@ fn told_of(
 }
 
 /// Writes the lines of a task for the graph of the input, and gives the ending of the run.
-fn follow<I: FileInput, C, O: PipeSink, E>(
+fn follow<I: FileInput, C, O: PipeSink, E, L>(
     alloc: Global,
     request: Request<'_>,
-    streams: &mut CoresStreams<I, C, O, E>,
+    streams: &mut CoresStreams<I, C, O, E, L>,
 ) -> Result<String, Ending>
     ensures done { IfOk result (λ told. CoresEnded I.Source I.behind O.Sink O.gone (Asks (query_of request.entry)) CoresStatus.Done
         (done_line request.entry.quiet (string_bytes told)) streams.old.input streams.new.input streams.old.out streams.new.out) }
@@ -78,6 +80,7 @@ fn follow<I: FileInput, C, O: PipeSink, E>(
         (line_of ending) streams.old.input streams.new.input streams.old.out streams.new.out) }
     ensures certificate { streams.new.certificate ≡ streams.old.certificate }
     ensures err { streams.new.err ≡ streams.old.err }
+    ensures wire { streams.new.wire ≡ streams.old.wire }
 {
     let named = read_graph(alloc, request.graph, &mut streams.input)?;
     let Decomposition { core, order } = decompose(alloc, &named.graph)?;
@@ -91,9 +94,9 @@ fn follow<I: FileInput, C, O: PipeSink, E>(
 }
 
 /// Writes help or the version, where it was asked for. What is wrong with the words is the line of the ending.
-fn show<I: FileInput, C, O: PipeSink, E>(
+fn show<I: FileInput, C, O: PipeSink, E, L>(
     reply: Reply,
-    streams: &mut CoresStreams<I, C, O, E>,
+    streams: &mut CoresStreams<I, C, O, E, L>,
 ) -> Ending
     ensures ended { (wish : Wish) → RepliesTo reply wish → CoresEnded I.Source I.behind O.Sink O.gone wish result.status (line_of result)
         streams.old.input streams.new.input streams.old.out streams.new.out }
@@ -101,6 +104,7 @@ fn show<I: FileInput, C, O: PipeSink, E>(
         × (streams.new.input ≡ streams.old.input) × (streams.new.out ≡ streams.old.out) }
     ensures certificate { streams.new.certificate ≡ streams.old.certificate }
     ensures err { streams.new.err ≡ streams.old.err }
+    ensures wire { streams.new.wire ≡ streams.old.wire }
 {
     match reply {
         Reply::NoMemory => Ending::no_memory(),
@@ -132,15 +136,16 @@ fn done_message(quiet: bool, summary: String) -> Message
 }
 
 /// All of a run for a task but its line.
-fn list<I: FileInput, C, O: PipeSink, E>(
+fn list<I: FileInput, C, O: PipeSink, E, L>(
     alloc: Global,
     request: Request<'_>,
-    streams: &mut CoresStreams<I, C, O, E>,
+    streams: &mut CoresStreams<I, C, O, E, L>,
 ) -> Ending
     ensures ended { CoresEnded I.Source I.behind O.Sink O.gone (Asks (query_of request.entry)) result.status (line_of result)
         streams.old.input streams.new.input streams.old.out streams.new.out }
     ensures certificate { streams.new.certificate ≡ streams.old.certificate }
     ensures err { streams.new.err ≡ streams.old.err }
+    ensures wire { streams.new.wire ≡ streams.old.wire }
 {
     match follow(alloc, request, streams) {
         Err(ending) => ending,
@@ -152,14 +157,15 @@ fn list<I: FileInput, C, O: PipeSink, E>(
 }
 
 /// All of a run that checks a certificate but its line.
-fn check<I: FileInput, C: FileInput, O: PipeSink, E>(
+fn check<I: FileInput, C: FileInput, O: PipeSink, E, L>(
     alloc: Global,
     request: CheckRequest<'_>,
-    streams: &mut CoresStreams<I, C, O, E>,
+    streams: &mut CoresStreams<I, C, O, E, L>,
 ) -> Ending
     ensures ended { CheckEnded I.Source I.behind C.Source C.behind O.Sink request.entry.certificate.now (text_of request.entry.graph) result.status
         (line_of result) streams.old.input streams.new.input streams.old.certificate streams.new.certificate streams.old.out streams.new.out }
     ensures err { streams.new.err ≡ streams.old.err }
+    ensures wire { streams.new.wire ≡ streams.old.wire }
 {
     match verdict_on(alloc, request, &mut streams.input, &mut streams.certificate) {
         Err(ending) => ending,
@@ -175,27 +181,31 @@ fn check<I: FileInput, C: FileInput, O: PipeSink, E>(
 }
 
 /// All of a run but its line.
-fn work<W: AsStr, I: FileInput, C: FileInput, O: PipeSink, E>(
+fn work<W: AsStr, I: FileInput, C: FileInput, O: PipeSink, E, L: Wire>(
     alloc: Global,
     words: &[W],
-    streams: &mut CoresStreams<I, C, O, E>,
+    streams: &mut CoresStreams<I, C, O, E, L>,
 ) -> Ending
-    ensures ended { EndsAsAsked I.Source I.behind C.Source C.behind O.Sink O.gone (wish_of (map W.text words.now)) result.status (line_of result)
-        streams.old.input streams.new.input streams.old.certificate streams.new.certificate streams.old.out streams.new.out }
+    ensures ended { EndsAsAsked I.Source I.behind C.Source C.behind O.Sink O.gone L.Wire (wish_of (map W.text words.now)) result.status
+        (line_of result) streams.old.input streams.new.input streams.old.certificate streams.new.certificate streams.old.out streams.new.out
+        streams.old.wire streams.new.wire }
     ensures err { streams.new.err ≡ streams.old.err }
 {
     match request_of(alloc, words) {
         Err(reply) => show(reply, streams),
         Ok(Wanted::Lines(request)) => list(alloc, request, streams),
         Ok(Wanted::Check(request)) => check(alloc, request, streams),
+        Ok(Wanted::Watch) => watch(alloc, &mut streams.wire),
     }
 }
 
 /// Reads the graph that `words` name, from the input of `streams`, and writes to `out` the lines that they ask for. Then it writes one
 /// line to `err`: the summary of the graph where all was written, and else what was found wrong. Or it checks the certificate that they
-/// name for that graph, writes `yes`, or `no` and the id that is at fault, and then what is wrong with it.
+/// name for that graph, writes `yes`, or `no` and the id that is at fault, and then what is wrong with it. Or it answers the stream of
+/// the wire, and writes what is wrong with it, if a line is refused.
 ///
-/// `words` are those after the program's name. Its clause has the line and two records. The one is `CheckEnded` for a check:
+/// `words` are those after the program's name. Its clause has the line and two records. The one is `CheckEnded` for a check, and the wire is
+/// as it was:
 ///
 /// - `did`: at `Certified` the claims of the certificate show the core numbers of the graph, and the sink took `yes`. At `Uncertified` they
 ///   do not, and the sink took `no` and the id; the line tells the first fault. At `WriteFault` it took a prefix of the answer, and else
@@ -203,7 +213,17 @@ fn work<W: AsStr, I: FileInput, C: FileInput, O: PipeSink, E>(
 /// - `faults`: a count of faults of the input or of the certificate rose at `Unopened` and at `ReadFault`, and else both are as they were.
 /// - `write_faults`: the count of faults of `out` rose at `WriteFault`, and else it is as it was.
 ///
-/// For all other words it is `CoresEnded`, and the certificate is as it was. It has these fields:
+/// For a stream it is `WatchEnded`, and the input, the certificate and `out` are as they were:
+///
+/// - `happened`: the history of the wire, where it tells one, goes on with these events, reads and writes in one order.
+/// - `answered`: at every moment at which more was asked for, just the answer to the bytes read so far was written. Where the stream ended,
+///   the whole answer was, and where a write failed or memory ended, a prefix of it.
+/// - `ended`: how the dialogue on the wire ended is how the run ends. Where the stream ended or a line is refused, the status is `Done` where
+///   none is refused, and else `Refused`, and the line tells which and why; `NoMemory` where there is none for that line. The other ends
+///   are `ReadFault`, also after 2^64 - 1 reads, `ReaderGone`, `WriteFault` and `NoMemory`. At `Done` and `ReaderGone` there is no line.
+/// - `faults`: just the call of the wire has failed by which the dialogue ended, and else none.
+///
+/// For all other words it is `CoresEnded`, and the certificate and the wire are as they were. It has these fields:
 ///
 /// - `usage`, `shown`: at `Usage` and at `Shown` the words make `clap` reply so. Its texts are its own, of which no clause speaks.
 /// - `replies`: where `clap` replies, nothing is read, and the status is `Usage`, `Shown`, `ReaderGone`, `WriteFault` or `NoMemory`.
@@ -221,14 +241,14 @@ fn work<W: AsStr, I: FileInput, C: FileInput, O: PipeSink, E>(
 ///
 /// The other, `ToldLine`, says that `err` took the line, or a prefix of it where a call failed, and that it was offered whole. A fault of
 /// `err` changes no status.
-pub fn answer<W: AsStr, I: FileInput, C: FileInput, O: PipeSink, E: Sink>(
+pub fn answer<W: AsStr, I: FileInput, C: FileInput, O: PipeSink, E: Sink, L: Wire>(
     alloc: Global,
     words: &[W],
-    streams: &mut CoresStreams<I, C, O, E>,
+    streams: &mut CoresStreams<I, C, O, E, L>,
 ) -> CoresStatus
-    ensures { (line : List ℕ) × EndsAsAsked I.Source I.behind C.Source C.behind O.Sink O.gone (wish_of (map W.text words.now)) result line
+    ensures { (line : List ℕ) × EndsAsAsked I.Source I.behind C.Source C.behind O.Sink O.gone L.Wire (wish_of (map W.text words.now)) result line
         streams.old.input streams.new.input streams.old.certificate streams.new.certificate streams.old.out streams.new.out
-        × ToldLine E.Sink line streams.old.err streams.new.err }
+        streams.old.wire streams.new.wire × ToldLine E.Sink line streams.old.err streams.new.err }
 {
     let ending = work(alloc, words, streams);
     finish(&mut streams.err, ending)

@@ -1,5 +1,5 @@
 //! How a run ends: its status, and the line about it.
-ghost use Rattle.std.specs.Prelude.{◌≡◌, ◌++◌, IfOk, option_map, string_bytes};
+ghost use Rattle.std.specs.Prelude.{◌≡◌, ◌++◌, [], IfOk, option_map, string_bytes};
 ghost use Rattle.kc_cores.specs.Endings.{IsCut, TellsRefusal, line_of};
 ghost use Rattle.kc_cores.specs.Sentences.{at_column, at_line, in_file, refused_line, no_memory_line, read_fault_line, unopened_line, write_fault_line};
 ghost use Rattle.kc_cores.specs.CoresEnded.{IsUnopenedLine, ToldLine};
@@ -67,15 +67,23 @@ impl Ending {
         }
     }
 
+    /// The reader of the lines went away, of which nothing is said.
+    pub(crate) fn reader_gone() -> Ending
+        ensures status { result.status ≡ CoresStatus.ReaderGone }
+        ensures line { line_of result ≡ [] }
+    {
+        Ending {
+            status: CoresStatus::ReaderGone,
+            message: Message::Fixed(""),
+        }
+    }
+
     /// The sink of the lines failed: since its reader went away, of which nothing is said, or for another cause.
     pub(crate) fn cut(reader_gone: bool) -> Ending
         ensures { IsCut result reader_gone }
     {
         if reader_gone {
-            return Ending {
-                status: CoresStatus::ReaderGone,
-                message: Message::Fixed(""),
-            };
+            return Ending::reader_gone();
         }
         Ending::unwritten()
     }

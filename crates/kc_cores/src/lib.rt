@@ -1,4 +1,4 @@
-//! What `cores` does but for its streams: a command on a graph without batches, bytes in and lines out.
+//! What `cores` does but for its streams: a command on a graph, bytes in and lines out.
 //!
 //! [`answer`](answer::answer) reads the words, then the graph from standard input or a file, and writes the lines that the command asks for.
 //! To the sink of messages it writes one line: what the graph is like where the run is done, and else what was found wrong and how it is
@@ -12,12 +12,14 @@
 //!
 //! The command `check` reads a certificate beside the graph (`specs/CheckEnded.antt`), and writes whether it shows the core numbers.
 //!
+//! The command `watch` answers a stream on a wire (`specs/WatchEnded.antt`): edges, and then batches of changes, each as soon as it has ended.
+//!
 //! The options `--columns`, `--separator`, `--skip` and `--bad-lines` tell a dialect, as the end of a file's name does (`dialect_words`). A text
 //! in a dialect means what the plain text means for which it stands; without one it is read as it is.
 //!
 //! The crate stands on `kc_io` for sources and sinks, on `kc_text` for what a text means, on `kc_dialect` and `kc_dialect_read` for
-//! dialects, on `kc_flat` and `kc_graph` for core numbers, on `kc_tally` for layers, on `kc_claims` for certificates, and on `clap` and
-//! `itoa`.
+//! dialects, on `kc_flat` and `kc_graph` for core numbers, on `kc_tally` for layers, on `kc_claims` for certificates, on `kc_wire`,
+//! `kc_dialogue`, `kc_stream` and `kc_watch` for streams, and on `clap` and `itoa`.
 #![tactic(auto)]
 
 pub mod answer;
@@ -44,6 +46,7 @@ pub mod std_pipe;
 mod streams;
 mod summary;
 mod verdict;
+mod watching;
 mod words;
 
 ghost use Rattle.std.specs.Prelude.{◌≡◌};

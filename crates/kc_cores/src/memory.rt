@@ -15,6 +15,8 @@ use crate::{CoresStatus, CoresStreams};
 use kc_io::mem_sink::MemSink;
 use kc_io::sink::Sink;
 use kc_io::source::Source;
+use kc_wire::mem_wire::MemWire;
+use kc_wire::wire::Wire;
 use std::alloc::Global;
 use std::convert::AsStr;
 
@@ -23,13 +25,13 @@ use std::convert::AsStr;
 pub fn answer_in_memory<W: AsStr>(
     alloc: Global,
     words: &[W],
-    streams: &mut CoresStreams<MemInput, MemInput, MemPipe, MemSink>,
+    streams: &mut CoresStreams<MemInput, MemInput, MemPipe, MemSink, MemWire>,
 ) -> CoresStatus
     ensures ended { (line : List ℕ)
         × EndsAsAsked ⟦<MemInput as Source>⟧ bytes_behind ⟦<MemInput as Source>⟧ bytes_behind ⟦<MemPipe as Sink>⟧ (λ pipe. pipe.gone)
-        (wish_of (map W.text words.now)) result line
+        ⟦<MemWire as Wire>⟧ (wish_of (map W.text words.now)) result line
         streams.old.input streams.new.input streams.old.certificate streams.new.certificate streams.old.out streams.new.out
-        × ToldLine ⟦<MemSink as Sink>⟧ line streams.old.err streams.new.err }
+        streams.old.wire streams.new.wire × ToldLine ⟦<MemSink as Sink>⟧ line streams.old.err streams.new.err }
     ensures done { (query : Query) (bytes : List ℕ) → wish_of (map W.text words.now) ≡ Asks query
         → bytes_in streams.old.input query.graph.file ≡ Some bytes → result ≡ CoresStatus.Done
         → (text : List ℕ) × (summary : List ℕ) × IsTextFor query bytes text summary × (streams.new.out.sink.taken ≡ streams.old.out.sink.taken ++ text) }

@@ -15,6 +15,7 @@ use crate::pipe::PipeSink;
 use crate::{CoresStatus, CoresStreams, exit_number};
 use kc_args::words_of;
 use kc_io::sink::Sink;
+use kc_wire::wire::Wire;
 use std::alloc::Global;
 use std::env::Args;
 use std::io;
@@ -32,18 +33,18 @@ fn exit_with(status: CoresStatus) -> ExitCode
 /// order, and an empty word in place of all where one is not UTF-8.
 ///
 /// Where there is no memory for the words, the status is `NoMemory`, and nothing was read or written.
-pub fn answer_on<I: FileInput, C: FileInput, O: PipeSink, E: Sink>(
+pub fn answer_on<I: FileInput, C: FileInput, O: PipeSink, E: Sink, L: Wire>(
     alloc: Global,
     args: io::Result<Args>,
-    streams: &mut CoresStreams<I, C, O, E>,
+    streams: &mut CoresStreams<I, C, O, E, L>,
 ) -> ExitCode
     // The exit code is that of a status. The run ends by this status as `answer` promises it for these words; or there was no memory for
     // the words, and all is as it was.
     ensures ended { (status : CoresStatus) × (exit_status result ≡ exit_number_of status)
         × (((words : List (List ℕ)) × AreWords args words × (line : List ℕ)
-        × EndsAsAsked I.Source I.behind C.Source C.behind O.Sink O.gone (wish_of words) status line
+        × EndsAsAsked I.Source I.behind C.Source C.behind O.Sink O.gone L.Wire (wish_of words) status line
         streams.old.input streams.new.input streams.old.certificate streams.new.certificate streams.old.out streams.new.out
-        × ToldLine E.Sink line streams.old.err streams.new.err)
+        streams.old.wire streams.new.wire × ToldLine E.Sink line streams.old.err streams.new.err)
         ⊎ ((status ≡ CoresStatus.NoMemory) × (streams.new ≡ streams.old))) }
     ensures no_memory { IfErr args (λ error. error_kind error ≢ ErrorKind.InvalidData → exit_status result ≡ exit_number_of CoresStatus.NoMemory) }
 {

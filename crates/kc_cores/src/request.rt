@@ -38,6 +38,8 @@ pub(crate) struct CheckRequest<'a> {
 pub(crate) enum Wanted<'a> {
     Lines(Request<'a>),
     Check(CheckRequest<'a>),
+    /// The answer to a stream.
+    Watch,
 }
 
 /// A task for the graph of a text.

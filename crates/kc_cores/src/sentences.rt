@@ -1,6 +1,6 @@
 //! What is wrong with a line that is refused, and how it is mended.
 ghost use Rattle.std.specs.Prelude.{◌≡◌};
-ghost use Rattle.kc_cores.specs.Sentences.{column_sentence, placed_sentence, sentence_of};
+ghost use Rattle.kc_cores.specs.Sentences.{column_sentence, placed_sentence, sentence_of, stream_sentence};
 
 use kc_text::Kind;
 
@@ -67,5 +67,25 @@ pub(crate) fn placed_sentence(column: Option<u64>, kind: Kind) -> &'static str
     match column {
         Some(_) => column_sentence(kind),
         None => sentence_of(kind),
+    }
+}
+
+/// What was found wrong with a line of a stream, and how it is mended.
+pub(crate) fn stream_sentence(kind: Kind) -> &'static str
+    ensures { result.now ≡ stream_sentence kind }
+{
+    match kind {
+        Kind::NotANumber => {
+            "a field is not a whole number; write two ids of decimal digits, or begin the line with # if it is a comment"
+        }
+        Kind::MissingField => {
+            "the second id is missing; write two ids with a blank or a tab between them"
+        }
+        Kind::ExtraField => "there are too many fields; write two ids, or batch alone",
+        Kind::UpdateOutsideBatch => {
+            "a change stands before any line batch; write a line batch before it"
+        }
+        Kind::EdgeLineInBatch => { "an edge stands after a line batch; begin the line with + or -" }
+        kind => sentence_of(kind),
     }
 }

@@ -11,7 +11,7 @@ ghost use Rattle.clap.specs.declared.builder.command.Command.TheViews.{out-Comma
 ghost use Rattle.kc_cores.specs.Wishes.{Replies, bare_command, certificate_command, certificate_rule, check_command, check_wish, core_option};
 ghost use Rattle.kc_cores.specs.Wishes.{cores_command, edges_flag};
 ghost use Rattle.kc_cores.specs.Wishes.{is_set, level_in, members_command, members_in, members_task, quiet_command, quiet_flag};
-ghost use Rattle.kc_cores.specs.Wishes.{task_command, task_in, wish_by, wish_for, wish_in, wish_of, with_cores, with_tasks};
+ghost use Rattle.kc_cores.specs.Wishes.{task_command, task_in, watch_command, wish_about, wish_by, wish_for, wish_in, wish_of, with_cores, with_tasks};
 ghost use Rattle.kc_cores.specs.Endings.{IsReplyFor, IsRequestFor, RepliesTo, text_of};
 
 use crate::dialect_words::{number_of, text_in, with_dialect};
@@ -232,12 +232,25 @@ fn check_command<'a>(alloc: Global) -> Result<Command<'a>, NoMemory>
     command.arg(file)
 }
 
+/// The command `watch`.
+fn watch_command<'a>(alloc: Global) -> Command<'a>
+    ensures app { app_of result ≡ watch_command }
+    ensures local { (out-Command result).has_globals ≡ false }
+{
+    Command::new(alloc, "watch")
+        .about(
+            "Answers a stream: edges, then batches of + A B and - A B, each begun by a line batch",
+        )
+        .after_help("Example: tail -f changes.txt | cores watch")
+}
+
 /// The command whose words are read.
 fn cores_command<'a>(alloc: Global) -> Result<Command<'a>, NoMemory>
     ensures { IfOk result (λ made. app_of made ≡ cores_command) }
 {
-    let command = with_tasks(alloc)?;
-    command.subcommand(check_command(alloc)?)
+    let tasks = with_tasks(alloc)?;
+    let command = tasks.subcommand(check_command(alloc)?)?;
+    command.subcommand(watch_command(alloc))
 }
 
 /// The K of a K-core, where it is given. There is none where it is no number.
@@ -377,10 +390,10 @@ fn check_for<'a>(
     }
 }
 
-/// What a command of this name asks for, with these matches.
-fn wanted_by<'a>(alloc: Global, name: &str, found: &ArgMatches<'a>) -> Result<Wanted<'a>, Reply>
-    ensures asks { IfOk result (λ wanted. IsRequestFor wanted (wish_by name.now (rows_of (found_of found.now)))) }
-    ensures replies { IfErr result (λ reply. RepliesTo reply (wish_by name.now (rows_of (found_of found.now)))) }
+/// What a command of this name for a text asks for, with these matches.
+fn wanted_of<'a>(alloc: Global, name: &str, found: &ArgMatches<'a>) -> Result<Wanted<'a>, Reply>
+    ensures asks { IfOk result (λ wanted. IsRequestFor wanted (wish_about name.now (rows_of (found_of found.now)))) }
+    ensures replies { IfErr result (λ reply. RepliesTo reply (wish_about name.now (rows_of (found_of found.now)))) }
 {
     let graph = text_in(found);
     if name == "check" {
@@ -389,6 +402,17 @@ fn wanted_by<'a>(alloc: Global, name: &str, found: &ArgMatches<'a>) -> Result<Wa
     let task = task_in(name, found);
     let quiet = is_set(found.get_str("quiet"));
     request_for(alloc, task, graph, quiet)
+}
+
+/// What a command of this name asks for, with these matches.
+fn wanted_by<'a>(alloc: Global, name: &str, found: &ArgMatches<'a>) -> Result<Wanted<'a>, Reply>
+    ensures asks { IfOk result (λ wanted. IsRequestFor wanted (wish_by name.now (rows_of (found_of found.now)))) }
+    ensures replies { IfErr result (λ reply. RepliesTo reply (wish_by name.now (rows_of (found_of found.now)))) }
+{
+    if name == "watch" {
+        return Ok(Wanted::Watch);
+    }
+    wanted_of(alloc, name, found)
 }
 
 /// What the command that was met asks for.

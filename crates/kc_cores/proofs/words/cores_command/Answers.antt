@@ -1,4 +1,4 @@
--- The command of the check is one more.
+-- The commands of the check and of a stream are two more.
 use Rattle.std.proofs.Common.{ap, ap₂, ◌∙◌}
 use Rattle.std.proofs.lemmas.Result.{IfOk-weaker}
 use Rattle.clap.specs.Simple.{App, with_subcommand}
@@ -6,6 +6,8 @@ use Rattle.kc_cores.proofs.words.cores_command.Goals as goal
 
 pub returns : goal.returns
 returns c =
-    IfOk-weaker c.subcommand.result _ _
-    (λ made h. h.shape c.in_ok-check_command.ensures.local
-    ∙ ap₂ with_subcommand c.in_ok-command.ensures (ap (λ (a : App). a.top) c.in_ok-check_command.ensures.app)) c.subcommand.ensures
+    let checks = c.in_ok-command.ensures.shape c.in_ok-check_command.ensures.local
+    ∙ ap₂ with_subcommand c.in_ok-tasks.ensures (ap (λ (a : App). a.top) c.in_ok-check_command.ensures.app) in
+    IfOk-weaker c.subcommand-2.result _ _
+    (λ made h. h.shape c.watch_command.ensures.local ∙ ap₂ with_subcommand checks (ap (λ (a : App). a.top) c.watch_command.ensures.app))
+    c.subcommand-2.ensures

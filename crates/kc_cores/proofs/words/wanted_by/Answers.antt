@@ -1,58 +1,26 @@
--- The text and the names are those of the rows of the command.
-use Rattle.std.proofs.Common.{◌≡◌, ◌∙◌, Bool, List, Option, ap, ap₂, codes, cond, false, subst, sym, true}
+-- The command for a stream is met, or another one.
+use Rattle.std.proofs.Common.{◌≡◌, ◌∙◌, Bool, List, ap, codes, cond, false, subst, sym, true}
 use Rattle.std.specs.Str.{bytes_eq}
 use Rattle.std.proofs.lemmas.Result.{IfErr-weaker, IfOk-weaker}
 use Rattle.clap.specs.Matches.{found_of}
-use Rattle.clap.specs.Walk.{Row, Text, first_of, rows_of}
-use Rattle.clap.proofs.WalkLemmas.{first_value-rows}
+use Rattle.clap.specs.Walk.{Row, Text, rows_of}
 use Rattle.kc_cores.specs.Endings.{IsRequestFor, RepliesTo}
-use Rattle.kc_cores.specs.Wishes.{GraphText, Wish, check_wish, is_set, task_in, text_in, wish_by, wish_for}
-use Rattle.kc_cores.specs.declared.request.Task.{Task}
+use Rattle.kc_cores.specs.Wishes.{Watches, Wish, wish_about, wish_by}
 use Rattle.kc_cores.proofs.words.wanted_by.Goals as goal
 
--- what the command `check` asks for
-wish-check : (name : Text) (rows : List Row) → bytes_eq name (codes "check") ≡ true
-    → wish_by name rows ≡ check_wish (first_of (codes "CERTIFICATE") rows) (text_in rows)
-wish-check name rows is =
-    ap (λ (b : Bool). cond b (check_wish (first_of (codes "CERTIFICATE") rows) (text_in rows))
-    (wish_for (task_in name rows) (text_in rows) (is_set (first_of (codes "quiet") rows)))) is
-
--- what another command asks for
-wish-other : (name : Text) (rows : List Row) → bytes_eq name (codes "check") ≡ false
-    → wish_by name rows ≡ wish_for (task_in name rows) (text_in rows) (is_set (first_of (codes "quiet") rows))
-wish-other name rows is =
-    ap (λ (b : Bool). cond b (check_wish (first_of (codes "CERTIFICATE") rows) (text_in rows))
-    (wish_for (task_in name rows) (text_in rows) (is_set (first_of (codes "quiet") rows)))) is
-
--- the same of parts that are the same
-asks-same : {task task' : Option Task} {graph graph' : Option GraphText} {quiet quiet' : Bool} → task ≡ task' → graph ≡ graph' → quiet ≡ quiet'
-    → wish_for task graph quiet ≡ wish_for task' graph' quiet'
-asks-same one two three = λ i. wish_for (one i) (two i) (three i)
+-- what the command asks for, by whether it is the one for a stream
+wish-is : (name : Text) (rows : List Row) (b : Bool) → bytes_eq name (codes "watch") ≡ b → wish_by name rows ≡ cond b Watches (wish_about name rows)
+wish-is name rows b is = ap (λ (b : Bool). cond b Watches (wish_about name rows)) is
 
 pub returns-then-eq-clause-asks : goal.returns-then-eq-clause-asks
-returns-then-eq-clause-asks c =
-    let found = found_of c.args.found.now in
-    let named = wish-check c.args.name.now (rows_of found) (sym c.eq.ensures ∙ c.if-eq.true) in
-    let rows = ap₂ check_wish (c.get_str.ensures ∙ first_value-rows found (codes "CERTIFICATE")) c.text_in-graph.ensures in
-    IfOk-weaker c.check_for.result _ _ (λ wanted h. subst (λ (w : Wish). IsRequestFor wanted w) (rows ∙ sym named) h) c.check_for.ensures.asks
-
-pub returns-then-eq-clause-replies : goal.returns-then-eq-clause-replies
-returns-then-eq-clause-replies c =
-    let found = found_of c.args.found.now in
-    let named = wish-check c.args.name.now (rows_of found) (sym c.eq.ensures ∙ c.if-eq.true) in
-    let rows = ap₂ check_wish (c.get_str.ensures ∙ first_value-rows found (codes "CERTIFICATE")) c.text_in-graph.ensures in
-    IfErr-weaker c.check_for.result _ _ (λ r h. subst (λ (w : Wish). RepliesTo r w) (rows ∙ sym named) h) c.check_for.ensures.replies
+returns-then-eq-clause-asks c = wish-is c.args.name.now (rows_of (found_of c.args.found.now)) true (sym c.eq.ensures ∙ c.if-eq.true)
 
 pub returns-clause-asks : goal.returns-clause-asks
 returns-clause-asks c =
-    let found = found_of c.args.found.now in
-    let named = wish-other c.args.name.now (rows_of found) (sym c.eq.ensures ∙ c.if-eq.false) in
-    let rows = asks-same c.task_in-task.ensures c.text_in-graph.ensures (c.is_set-quiet.ensures ∙ ap is_set (c.get_str-2.ensures ∙ first_value-rows found (codes "quiet"))) in
-    IfOk-weaker c.request_for.result _ _ (λ wanted h. subst (λ (w : Wish). IsRequestFor wanted w) (rows ∙ sym named) h) c.request_for.ensures.asks
+    let other = wish-is c.args.name.now (rows_of (found_of c.args.found.now)) false (sym c.eq.ensures ∙ c.if-eq.false) in
+    IfOk-weaker c.wanted_of.result _ _ (λ wanted h. subst (λ (w : Wish). IsRequestFor wanted w) (sym other) h) c.wanted_of.ensures.asks
 
 pub returns-clause-replies : goal.returns-clause-replies
 returns-clause-replies c =
-    let found = found_of c.args.found.now in
-    let named = wish-other c.args.name.now (rows_of found) (sym c.eq.ensures ∙ c.if-eq.false) in
-    let rows = asks-same c.task_in-task.ensures c.text_in-graph.ensures (c.is_set-quiet.ensures ∙ ap is_set (c.get_str-2.ensures ∙ first_value-rows found (codes "quiet"))) in
-    IfErr-weaker c.request_for.result _ _ (λ r h. subst (λ (w : Wish). RepliesTo r w) (rows ∙ sym named) h) c.request_for.ensures.replies
+    let other = wish-is c.args.name.now (rows_of (found_of c.args.found.now)) false (sym c.eq.ensures ∙ c.if-eq.false) in
+    IfErr-weaker c.wanted_of.result _ _ (λ r h. subst (λ (w : Wish). RepliesTo r w) (sym other) h) c.wanted_of.ensures.replies

@@ -1,0 +1,43 @@
+-- How a run ends that answers a stream, and what it has done then.
+use Rattle.std.specs.Prelude.{◌≡◌, ◌⊎◌, ℕ, List, [], Option, None, Some}
+use Rattle.kc_wire.specs.Events.{TellsMore, WireEvent, read_in}
+use Rattle.kc_wire.specs.declared.wire.Wire as wires
+use Rattle.kc_dialogue.specs.Endings.{HasAnswered, faults_at}
+use Rattle.kc_dialogue.specs.declared.end.DialogueEnd.{DialogueEnd}
+use Rattle.kc_dialogue.specs.declared.end.DialogueEnd.TheVariants as dialogue
+use Rattle.kc_text.specs.declared.refusal.Refusal.{Refusal}
+use Rattle.kc_stream.specs.Hearing.{heard_at_end, heard_so_far}
+use Rattle.kc_watch.specs.Text.{reply, reply_at_end}
+use Rattle.kc_cores.specs.Sentences.{no_memory_line, read_fault_line, stream_refused_line, write_fault_line}
+use Rattle.kc_cores.specs.declared.CoresStatus.{CoresStatus}
+use Rattle.kc_cores.specs.declared.CoresStatus.TheVariants as status
+
+-- How a run ends that has answered all: well where no line is refused, and else by the first line that is, or by want of memory to tell it.
+abbrev pub HasEndedBy : Option Refusal → CoresStatus → List ℕ → Type 0
+HasEndedBy None end told = (end ≡ status.Done) × (told ≡ [])
+HasEndedBy (Some refusal) end told =
+    ((end ≡ status.Refused) × (told ≡ stream_refused_line refusal)) ⊎ ((end ≡ status.NoMemory) × (told ≡ no_memory_line))
+
+-- How a run ends whose dialogue has ended so. `so_far` is the first line of the stream that is refused among those that have ended, and
+-- `at_end` the first one where the stream has ended.
+abbrev pub HasEndedSo : DialogueEnd → Option Refusal → Option Refusal → CoresStatus → List ℕ → Type 0
+HasEndedSo dialogue.Done so_far at_end end told = HasEndedBy at_end end told
+HasEndedSo dialogue.Ended so_far at_end end told = HasEndedBy so_far end told
+HasEndedSo dialogue.ReadFault so_far at_end end told = (end ≡ status.ReadFault) × (told ≡ read_fault_line)
+HasEndedSo dialogue.Exhausted so_far at_end end told = (end ≡ status.ReadFault) × (told ≡ read_fault_line)
+HasEndedSo dialogue.ReaderGone so_far at_end end told = (end ≡ status.ReaderGone) × (told ≡ [])
+HasEndedSo dialogue.WriteFault so_far at_end end told = (end ≡ status.WriteFault) × (told ≡ write_fault_line)
+HasEndedSo dialogue.NoMemory so_far at_end end told = (end ≡ status.NoMemory) × (told ≡ no_memory_line)
+
+-- A run has ended that answers the stream of a wire: a dialogue was held on it, and ended as `how` tells. `told` is the line about the run.
+-- `l` is the wire before, and `l'` after, and `wire` says what is known of it.
+pub record WatchEnded {L : Type 0} (wire : wires.Ghosts L) (end : CoresStatus) (told : List ℕ) (l l' : L) : Type 0 where
+  pub events : List WireEvent
+  pub how : DialogueEnd
+  -- Each answer was written as soon as its bytes were read, and none before.
+  pub happened : TellsMore (wire.history l) (wire.history l') events
+  pub answered : HasAnswered reply reply_at_end events how
+  -- The status and the line are those of the end of the dialogue.
+  pub ended : HasEndedSo how (heard_so_far (read_in events)).refusal (heard_at_end (read_in events)).refusal end told
+  -- One call has failed where the dialogue ended by it, and no other.
+  pub faults : wire.faults l' ≡ faults_at (wire.faults l) how
