@@ -54,13 +54,16 @@ class File:
             self.read_declarations()
 
     def read_definitions(self):
-        here = ""
+        """The words of a file of specs/; of a lemma, which a definition may cite too, the statement alone."""
+        here, is_lemma = "", "/proofs/" in self.path
         for line in self.text.splitlines():
             if not line.strip() or line.lstrip().startswith("--") or line.startswith(("use ", "pub mod ", "mod ")):
                 continue
             if line[0] not in " })]":
                 begins = DEFINED.match(line)
-                here = begins.group(1) if begins else line.split()[0]
+                here = begins.group(1) if begins else "" if is_lemma else line.split()[0]
+            if not here:
+                continue
             self.words[here] = self.words.get(here, "") + line + "\n"
             variant = VARIANT.match(line)
             if variant and re.match(r"(?:pub )?data ", self.words[here]):
@@ -122,7 +125,7 @@ def place_of(here, module, name):
     if first not in crates():
         return None
     if rest[1] != "declared":
-        return f"{first}/specs/{rest[1]}.antt", name
+        return f"{first}/{rest[0]}/{rest[1]}.antt", name
     names = rest[2:]
     length = next((it for it in range(len(names), 0, -1) if (CRATES / first / "src" / "/".join(names[:it])).with_suffix(".rt").is_file()), 0)
     return f"{first}/src/{'/'.join(names[:length]) or 'lib'}.rt", name if names[length] == "TheConstants" else names[length]
@@ -220,7 +223,7 @@ def skipped(words):
     files = [str(path.relative_to(CRATES)) for it in libraries for path in sorted((CRATES / it / "specs").glob("*.antt")) if path.name != "Lib.antt"]
     read = {path for path, _ in words}
     total = sum(len(file_of(path).words) for path in files)
-    cited = sum(path.endswith(".antt") for path, _ in words)
+    cited = sum("/specs/" in path for path, _ in words)
     whole = [it for it in libraries if not any(path.startswith(f"{it}/") for path in read)]
     return [
         f"- In `specs/` the libraries have {total} definitions in {len(files)} files.",

@@ -1,0 +1,278 @@
+#!/usr/bin/env python3
+"""Talks to `cores watch` through real pipes, and compares each answer with a model of it in Python.
+
+usage: watch.py [--cores PROGRAM] [--seed N] [--cases N] [--seconds N]
+(default: crates/cores/out/cores beside this folder; `./cores --version` builds it)
+
+A sender writes a piece of a random stream, waits for just the answer that the model has for all that was sent, and only then writes the
+next piece. An answer that does not come within the time, that is wrong or that comes before its bytes were sent is told, with the stream;
+the status is then 1. Short streams are cut at each byte. The streams name new ids in late batches, and some have a line that is refused:
+then the program has to end by itself, with status 3 and the line that tells the refusal, though the pipe stays open. Each stream also ends
+without a last newline. At the end it tries a reader that goes away (`| head -1`), a folder as standard input, and /dev/full.
+"""
+import argparse
+import os
+import pathlib
+import random
+import select
+import subprocess
+import sys
+import time
+
+import differ
+import fuzz
+
+HERE = pathlib.Path(__file__).resolve().parent
+SENTENCES = {
+    1: "a field is not a whole number; write two ids of decimal digits, or begin the line with # if it is a comment",
+    2: "the second id is missing; write two ids with a blank or a tab between them",
+    3: "there are too many fields; write two ids, or batch alone",
+    4: "an id is greater than 4294967295; number the vertices anew with smaller ids",
+    5: "a change names one id twice; remove the line",
+    7: "a change stands before any line batch; write a line batch before it",
+    8: "an edge stands after a line batch; begin the line with + or -",
+}
+
+
+class Model:
+    """What a stream is answered, line by line."""
+
+    def __init__(self):
+        self.reader, self.edges, self.text, self.begun, self.lines, self.refusal = fuzz.Reader(), set(), b"", b"", 0, None
+
+    def feed(self, piece):
+        *whole, self.begun = (self.begun + piece).split(b"\n")
+        for line in whole:
+            self.take(line)
+
+    def end(self):
+        if self.begun:
+            self.take(self.begun)
+        if not self.refusal:
+            self.end_part(len(self.reader.batches))
+
+    def take(self, line):
+        if self.refusal:
+            return
+        self.lines += 1
+        before = len(self.reader.batches)
+        try:
+            self.reader.take(line)
+        except fuzz.Refused as refusal:
+            self.refusal = f"cores: line {self.lines}: {SENTENCES[refusal.kind]}\n".encode()
+            return
+        if len(self.reader.batches) > before:
+            self.end_part(before)
+
+    def end_part(self, number):
+        """Ends the start, or the batch of this number from 1."""
+        if number == 0:
+            self.edges = set(self.reader.edges)
+            line = f"graph vertices {len(self.reader.ids)} edges {len(self.edges)} top {self.top()}"
+        else:
+            line = self.end_batch(number, self.reader.batches[number - 1])
+        self.text += line.encode() + b"\n"
+
+    def end_batch(self, number, lines):
+        deciding = dict(lines)
+        added = {pair for pair, sign in deciding.items() if sign and pair not in self.edges}
+        gone = {pair for pair, sign in deciding.items() if not sign and pair in self.edges}
+        self.edges = (self.edges | added) - gone
+        counts = (len(added), len(gone), len(deciding) - len(added) - len(gone), len(lines) - len(deciding))
+        return fuzz.batch_line(number, counts, len(self.edges), self.top())
+
+    def top(self):
+        return max(differ.core_numbers(sorted(self.reader.ids), self.edges).values(), default=0)
+
+
+# Streams.
+
+# Lines of which each is refused at most places.
+WRONG = (b"x", b"1", b"1 2 3", b"1 4294967296", b"+ 1 1", b"- 1 2", b"1 2", b"batch 1", b"+ 1", b"-1 2")
+
+
+def random_stream(rng):
+    """Edges, and batches whose ids grow, some of them with a line that is refused."""
+    most, lines = rng.choice((2, 4, 8)), []
+    for _ in range(rng.choice((0, 0, 1, 5, 12, 30))):
+        lines.append(f"{rng.randrange(most)} {rng.randrange(most)}".encode())
+    for _ in range(rng.choice((0, 1, 2, 3, 6))):
+        lines.append(b"batch")
+        most += rng.choice((0, 0, 1, 3))
+        for _ in range(rng.choice((0, 1, 2, 5, 20))):
+            a, b = rng.sample(range(most), 2)
+            lines.append(f"{rng.choice('+++-')} {a} {b}".encode())
+    for _ in range(rng.choice((0, 0, 1, 2))):
+        lines.insert(rng.randrange(len(lines) + 1), rng.choice((b"# a comment", b"", b"  ", b"% x", b"\r")))
+    if rng.random() < 0.3:
+        lines.insert(rng.randrange(len(lines) + 1), rng.choice(WRONG))
+    data = b"".join(line + rng.choice((b"\n", b"\n", b"\n", b"\r\n")) for line in lines)
+    return data.rstrip(b"\n") if rng.random() < 0.4 else data
+
+
+def pieces_of(rng, data):
+    """The stream in pieces: each byte alone, each line alone, or cut anywhere."""
+    kind = rng.randrange(3)
+    if kind == 0 and len(data) <= 120:
+        return [data[at:at + 1] for at in range(len(data))]
+    if kind == 1:
+        return data.splitlines(keepends=True)
+    pieces = []
+    while data:
+        size = rng.choice((1, 2, 3, 7, 20, 200))
+        pieces.append(data[:size])
+        data = data[size:]
+    return pieces
+
+
+# A dialogue.
+
+class Wrong(Exception):
+    """The program did otherwise than the model."""
+
+
+class Talk:
+    """A run of the program, to which is written while its answers are read."""
+
+    def __init__(self, program, seconds):
+        self.process = subprocess.Popen([program, "watch"], stdin=subprocess.PIPE, stdout=subprocess.PIPE, stderr=subprocess.PIPE, bufsize=0)
+        self.seconds, self.got, self.open = seconds, b"", True
+
+    def send(self, piece):
+        self.process.stdin.write(piece)
+
+    def read_up_to(self, length):
+        """Reads until so many bytes have come in all, and then what has come beside them."""
+        limit = time.monotonic() + self.seconds
+        while self.open:
+            wait = max(limit - time.monotonic(), 0) if len(self.got) < length else 0
+            if not select.select([self.process.stdout], [], [], wait)[0]:
+                return
+            piece = os.read(self.process.stdout.fileno(), 65536)
+            self.got += piece
+            self.open = bool(piece)
+
+    def expect(self, text):
+        self.read_up_to(len(text))
+        if self.got != text:
+            raise Wrong(f"answered {self.got!r} in place of {text!r}")
+
+    def finish(self, status, line):
+        """Waits until the program ends by itself."""
+        try:
+            ended = self.process.wait(self.seconds)
+        except subprocess.TimeoutExpired:
+            raise Wrong("the program did not end") from None
+        told = self.process.stderr.read()
+        if (ended, told) != (status, line):
+            raise Wrong(f"status {ended} and {told!r} in place of {status} and {line!r}")
+
+    def close(self):
+        self.process.kill()
+        self.process.wait()
+        for stream in (self.process.stdin, self.process.stdout, self.process.stderr):
+            stream.close()
+
+
+def converse(program, pieces, seconds):
+    """Sends the pieces one by one, each after the answer to those before."""
+    model, talk = Model(), Talk(program, seconds)
+    try:
+        for piece in pieces:
+            talk.send(piece)
+            model.feed(piece)
+            talk.expect(model.text)
+            if model.refusal:
+                talk.finish(3, model.refusal)
+                talk.expect(model.text)
+                return
+        talk.process.stdin.close()
+        model.end()
+        talk.expect(model.text)
+        talk.finish(3 if model.refusal else 0, model.refusal or b"")
+        talk.read_up_to(len(model.text) + 1)
+        talk.expect(model.text)
+    finally:
+        talk.close()
+
+
+# Streams that fail.
+
+def run_with(program, data, stdin=None, stdout=subprocess.PIPE):
+    given = {"stdin": stdin} if stdin else {"input": data}
+    done = subprocess.run([program, "watch"], stdout=stdout, stderr=subprocess.PIPE, timeout=60, check=False, **given)
+    return done.returncode, done.stderr
+
+
+def try_faults(program, seconds):
+    folder = os.open(HERE, os.O_RDONLY)
+    check("a folder as input", run_with(program, b"", stdin=folder), (4, b"cores: the input could not be read to its end\n"))
+    os.close(folder)
+    with open("/dev/full", "wb") as full:
+        check("/dev/full as output", run_with(program, b"1 2\n", stdout=full), (5, b"cores: the output could not be written to its end\n"))
+    try_reader_gone(program, seconds)
+
+
+def try_reader_gone(program, seconds):
+    """The reader takes the first line and goes, as `head -1` does; the next answer finds nobody."""
+    talk = Talk(program, seconds)
+    try:
+        talk.send(b"1 2\nbatch\n")
+        talk.expect(b"graph vertices 2 edges 1 top 1\n")
+        talk.process.stdout.close()
+        talk.send(b"+ 2 3\nbatch\n")
+        talk.finish(0, b"")
+    finally:
+        talk.close()
+
+
+def check(what, is_so, must_be):
+    if is_so != must_be:
+        raise Wrong(f"{what}: {is_so!r} in place of {must_be!r}")
+
+
+# All cases.
+
+CASES = (
+    b"", b"\n", b"batch", b"batch\n", b"1 2", b"1 2\nbatch", b"1 2\n2 3\nbatch\n+ 1 3\nbatch\n+ 3 9\n- 1 2", b"1 x", b"1 2\nbatch\n+ 1 1\n+ 1 2\n",
+    b"1 2\nbatch\n1 3\n", b"+ 1 2\n", b"1 2\nbatch\n+ 2 3\nbatch x", b"4294967295 0\nbatch\n+ 4294967294 7\n", b"1 2\nbatch\n+ 1 2\n+ 1 2\n- 2 1\nbatch\n",
+)
+
+
+def cases_of(seed, count):
+    """Each stream above cut at each byte, and then random ones."""
+    for data in CASES:
+        yield [data[at:at + 1] for at in range(len(data))]
+        for at in range(len(data) + 1):
+            yield [piece for piece in (data[:at], data[at:]) if piece]
+    for number in range(count):
+        rng = random.Random(f"{seed} {number}")
+        yield pieces_of(rng, random_stream(rng))
+
+
+def main():
+    parser = argparse.ArgumentParser(description=__doc__, formatter_class=argparse.RawDescriptionHelpFormatter)
+    parser.add_argument("--cores", default=str(HERE.parent / "crates" / "cores" / "out" / "cores"))
+    parser.add_argument("--seed", type=int, default=1)
+    parser.add_argument("--cases", type=int, default=1000)
+    parser.add_argument("--seconds", type=float, default=10, help="how long an answer may take")
+    given = parser.parse_args()
+    number, answers = 0, 0
+    for number, pieces in enumerate(cases_of(given.seed, given.cases), 1):
+        try:
+            converse(given.cores, pieces, given.seconds)
+        except Wrong as wrong:
+            print(f"case {number}: {wrong}\npieces: {pieces!r}")
+            return 1
+        answers += len(pieces)
+    try:
+        try_faults(given.cores, given.seconds)
+    except Wrong as wrong:
+        print(wrong)
+        return 1
+    print(f"{number} streams in {answers} pieces, and the streams that fail: no difference")
+    return 0
+
+
+if __name__ == "__main__":
+    sys.exit(main())
