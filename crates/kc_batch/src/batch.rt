@@ -190,6 +190,25 @@ fn run_desks<G: Gate + Sync, R: Threads + Wait + Sync>(
 /// Whatever is answered, the journal stands, its entries go on from the old ones, no more tables were ended than the batch has updates, and
 /// there are as many workers as before, all of the table of the answered parts. A receipt tells at most `MISSES` lost plans. Where no table
 /// was ended each was truly lost; where one was, their number alone is bound.
+///
+/// # Example
+///
+/// ```rust
+/// use kc_batch::{IndexedBatch, run_batch};
+/// use kc_graph::{Graph, Update, decompose_owned};
+/// use kc_shared::Parts;
+/// use kc_workers::{NoGate, hire};
+///
+/// // The edges 0 1 and 2 3. Two workers enter a batch that makes a circle of them.
+/// let graph = Graph::from_pairs(alloc, 4, &[(0, 1), (2, 3)])?;
+/// let (parts, mut pass) = Parts::open(alloc, decompose_owned(alloc, graph)?, 0)?;
+/// let mut workers = hire(alloc, &parts.words, &mut pass, 2)?;
+/// let updates = [Update { add: true, u: 0, v: 2 }, Update { add: true, u: 1, v: 3 }];
+/// let batch = IndexedBatch { first: 0, updates: &updates };
+/// let (parts, done) = run_batch(rt, alloc, parts, &mut workers, batch, &NoGate);
+/// let is_done = done.is_ok(); // true: there was memory
+/// let core = parts.journal.core_numbers(); // 2, 2, 2, 2
+/// ```
 pub fn run_batch<G: Gate + Sync, R: Threads + Wait + Sync>(
     rt: &R,
     alloc: Global,

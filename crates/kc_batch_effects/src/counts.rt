@@ -62,6 +62,18 @@ impl Counts {
 /// and no memory.
 ///
 /// Where there is an outcome for each update, these are the numbers of the batch itself: `laws::outcomes_tell_what_a_batch_did`.
+///
+/// # Example
+///
+/// ```rust
+/// use kc_batch_effects::{Outcome, count};
+/// use kc_graph::Update;
+///
+/// let batch = [Update { add: true, u: 0, v: 1 }, Update { add: false, u: 2, v: 3 }];
+/// let removed = Outcome { index: 11, applied: true };
+/// let kept = Outcome { index: 10, applied: false };
+/// let counts = count(10, &batch, &[removed, kept]); // added 0, removed 1, kept 1
+/// ```
 pub fn count(first: u32, batch: &[Update], outcomes: &[Outcome]) -> Counts
     requires within { All (λ o. IsIndexOf first batch.now o.index) outcomes.now }
     requires few { length outcomes.now ≤ MOST_UPDATES }

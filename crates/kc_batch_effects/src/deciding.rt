@@ -15,6 +15,20 @@ use std::alloc::Global;
 /// this batch is the one that all updates leave, made one by one in their order.
 ///
 /// It sorts a number for each update, and takes memory for a few more. `NoMemory` comes only where there is none.
+///
+/// # Example
+///
+/// ```rust
+/// use kc_batch_effects::decide;
+/// use kc_graph::Update;
+///
+/// let add = Update { add: true, u: 0, v: 1 };
+/// let other = Update { add: true, u: 1, v: 2 };
+/// let remove = Update { add: false, u: 0, v: 1 };
+/// let batch = decide(alloc, &[add, other, remove])?;
+/// let updates = batch.updates.as_slice(); // other, remove
+/// let overruled = batch.overruled; // 1: `add` names the same edge as `remove`, which comes later
+/// ```
 pub fn decide(alloc: Global, updates: &[Update]) -> Result<Batch, NoMemory>
     requires { length updates.now < 2 ^ 32 }
     ensures deciding { IfOk result (λ batch. batch.updates.items ≡ last_of_edges updates.now) }

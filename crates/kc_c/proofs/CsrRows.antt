@@ -6,6 +6,7 @@ use Rattle.std.specs.List.{position}
 use Rattle.std.specs.Option.{option_map}
 use Rattle.std.proofs.lemmas.Bool.{cases_lt, and_from}
 use Rattle.std.proofs.lemmas.List.Elements.{All-append, All-drop, All-map, All-take, All-weaker}
+use Rattle.kc_lists.proofs.Backs.{behind-first}
 use Rattle.kc_graph.specs.Bulk.{is_within}
 use Rattle.kc_graph.specs.SimpleGraph.{SimpleGraph}
 use Rattle.kc_graph.specs.declared.bulk.Edge.{Edge}
@@ -45,10 +46,6 @@ rows-tests true true c (Some fault) y h = absurd (cc h)
 rows-tests true true false None y h = absurd (cc h)
 rows-tests true true true None y h = (refl, refl, refl, refl, h)
 
--- the number behind the first one
-behind : (first : ℕ) (xs : List ℕ) (k : ℕ) → get_or (first ∷ xs) (k + 1) 0 ≡ get_or xs k 0
-behind first xs k = let next : k + 1 ≡ suc k = omega arith in ap (λ (i : ℕ). get_or (first ∷ xs) i 0) next
-
 -- rows without a fault are rows
 pub faultless-rows : (vertices : ℕ) (offsets neighbours : List ℕ) → csr_fault vertices offsets neighbours ≡ None → AreRows vertices offsets neighbours
 faultless-rows vertices offsets neighbours h =
@@ -59,7 +56,7 @@ faultless-rows vertices offsets neighbours h =
     record {
       one_more = count;
       first = eqb-true (get_or offsets 0 0) 0 t.1;
-      ascending = λ v low. omega (arith, up (v + 1) (omega (arith, count, low)), behind 0 offsets v);
+      ascending = λ v low. omega (arith, up (v + 1) (omega (arith, count, low)), behind-first 0 offsets v);
       last = eqb-true (get_or offsets vertices 0) (length neighbours) t.3;
       within = All-weaker (λ w. ltb w vertices ≡ true) (λ w. w < vertices) (λ w b. ltb-true w vertices b) neighbours
           (none_fails (λ w. ltb w vertices) neighbours (unmapped NotAVertex (position (λ w. not (ltb w vertices)) neighbours) t.4));

@@ -41,6 +41,19 @@ use std::alloc::Global;
 /// many neighbours whose number is no less (Zhang, Yu, Zhang and Qin 2017). The numbers that it accepts are the core numbers.
 ///
 /// The two lists may have any length and content. `NoMemory` comes where there is none for a mark for each vertex.
+///
+/// # Example
+///
+/// ```rust
+/// use kc_cert::check;
+/// use kc_graph::Graph;
+///
+/// let graph = Graph::from_pairs(alloc, 3, &[(0, 1), (0, 2), (1, 2)])?;
+/// let right = check(alloc, &graph, &[2, 2, 2], &[0, 1, 2])?; // true
+/// let too_low = check(alloc, &graph, &[1, 1, 1], &[0, 1, 2])?; // false: 0 has two later neighbours
+/// let too_high = check(alloc, &graph, &[3, 3, 3], &[0, 1, 2])?; // false: no vertex has three neighbours
+/// let twice = check(alloc, &graph, &[2, 2, 2], &[0, 1, 1])?; // false: 2 is not in the order
+/// ```
 pub fn check(alloc: Global, graph: &Graph, core: &[u32], order: &[u32]) -> Result<bool, NoMemory>
     ensures exact { IfOk result (λ yes. IsTrue yes ↔ Certifies graph.now core.now order.now) }
     ensures seidman { IfOk result (λ yes. IsTrue yes → AreCoreNumbers graph.now core.now) }

@@ -71,6 +71,20 @@ fn first_miscount(
 /// `Faulty` comes exactly where they are none, with the first fault: a claim of an unknown id or of one that was named before, else the
 /// least id that none names, else the first claim whose vertex has too many neighbours behind it or too few others. `NoMemory` comes
 /// where there is none for 17 bytes a vertex. The time is linear but for a search for each id.
+///
+/// # Example
+///
+/// ```rust
+/// use kc_claims::{check_claims, claims_of};
+/// use kc_flat::FlatGraph;
+///
+/// let ids = [7, 8, 9];
+/// let graph = FlatGraph::from_pairs(alloc, 3, &[(0, 1), (0, 2), (1, 2)])?;
+/// let claims = claims_of(alloc, b"7 2\n8 2\n9 2\n")?;
+/// let certified = check_claims(alloc, &ids, &graph, &claims).is_ok(); // true
+/// let claims = claims_of(alloc, b"7 2\n8 3\n9 2\n")?;
+/// let fault = check_claims(alloc, &ids, &graph, &claims).err(); // FewSupporters of the claim of 8: it has 0
+/// ```
 pub fn check_claims(
     alloc: Global,
     ids: &[u32],

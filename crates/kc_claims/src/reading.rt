@@ -25,6 +25,16 @@ fn put(claims: &mut Vec<Claim>, found: Option<Claim>) -> Result<(), NoMemory>
 ///
 /// `Refused` comes exactly where a line is neither blank nor a comment and has not two numbers, or three. It tells the first such line, and
 /// the first thing that is wrong with it from the left. `NoMemory` comes where there is none for the claims, which take 24 bytes each.
+///
+/// # Example
+///
+/// ```rust
+/// use kc_claims::claims_of;
+///
+/// let claims = claims_of(alloc, b"# an id, its core number and its rank\n7 2 0\n8 2 1\n")?;
+/// let first = claims.first(); // Some(Claim { line: 2, id: 7, number: 2, rank: Some(0) })
+/// let fault = claims_of(alloc, b"7 2\n8\n").err(); // Refused, line 2, Kind::MissingField
+/// ```
 pub fn claims_of(alloc: Global, text: &[u8]) -> Result<Vec<Claim>, TextFault>
     ensures claims { IfOk result (λ claims. claims_of text.now ≡ Ok claims.items) }
     ensures refused { (refusal : Refusal) → IsErrOf result (TextFault.Refused refusal) → claims_of text.now ≡ Err refusal }

@@ -241,6 +241,19 @@ fn work<W: AsStr, I: FileInput, C: FileInput, O: PipeSink, E, L: Wire>(
 ///
 /// The other, `ToldLine`, says that `err` took the line, or a prefix of it where a call failed, and that it was offered whole. A fault of
 /// `err` changes no status.
+///
+/// # Example
+///
+/// ```rust
+/// use kc_cores::answer::answer;
+/// use kc_cores::{CoresStreams, exit_number};
+///
+/// // Streams in memory, as at `answer_in_memory`. The second line of the input has one id.
+/// let mut streams = CoresStreams { input, certificate, out, err, wire };
+/// let status = answer(alloc, &["numbers"], &mut streams); // Refused
+/// let code = exit_number(status); // 3
+/// let lines = streams.out.taken(); // none
+/// ```
 pub fn answer<W: AsStr, I: FileInput, C: FileInput, O: PipeSink, E: Sink, L: Wire>(
     alloc: Global,
     words: &[W],

@@ -22,6 +22,34 @@ use std::convert::AsStr;
 
 /// A run from memory to memory. It is [`answer`], and what is known of the streams are their bytes. So the clauses on the bytes that
 /// are read and taken are told once more, of the very bytes.
+///
+/// # Example
+///
+/// ```rust
+/// use kc_cores::CoresStreams;
+/// use kc_cores::mem_input::MemInput;
+/// use kc_cores::mem_pipe::MemPipe;
+/// use kc_cores::memory::answer_in_memory;
+/// use kc_io::mem_sink::MemSink;
+/// use kc_io::mem_source::MemSource;
+/// use kc_wire::hindrances::Hindrances;
+/// use kc_wire::mem_wire::MemWire;
+///
+/// fn input_of(alloc: Global, text: &[u8]) -> Result<MemInput, NoMemory> {
+///     let source = MemSource::new(Vec::from_slice(alloc, text)?, 4096, Vec::new(alloc));
+///     let file = MemSource::new(Vec::new(alloc), 4096, Vec::new(alloc));
+///     Ok(MemInput::new(source, String::new(alloc), file))
+/// }
+///
+/// let (input, certificate) = (input_of(alloc, b"1 2\n2 3\n3 1\n3 4\n")?, input_of(alloc, b"")?);
+/// let out = MemPipe::new(alloc, 4096, 4096, Vec::new(alloc))?;
+/// let err = MemSink::new(alloc, 4096, 4096, Vec::new(alloc))?;
+/// let none = Hindrances { cuts: Vec::new(alloc), reads: Vec::new(alloc), writes: Vec::new(alloc), room: 4096 };
+/// let wire = MemWire::new(alloc, Vec::new(alloc), none);
+/// let mut streams = CoresStreams { input, certificate, out, err, wire };
+/// let status = answer_in_memory(alloc, &["numbers"], &mut streams); // Done
+/// let lines = streams.out.taken(); // b"1\t2\n2\t2\n3\t2\n4\t1\n"
+/// ```
 pub fn answer_in_memory<W: AsStr>(
     alloc: Global,
     words: &[W],

@@ -5,37 +5,10 @@ use Rattle.std.specs.List.{slice_split, onto_first}
 use Rattle.std.specs.Str.Lines.{strip_carriage_return}
 use Rattle.std.proofs.lemmas.List.{map-append}
 use Rattle.kc_text.specs.Lines.{EndsLine, is_newline, lines, without_last}
-use Rattle.kc_text.proofs.LineCuts.{some_part}
+use Rattle.kc_text.proofs.SaidAppend.{lines-newline}
 use Rattle.kc_dialect.specs.declared.bad_line.BadLine.{BadLine}
 use Rattle.kc_dialect.specs.declared.dialect.Dialect.{Dialect}
 use Rattle.kc_dialect.specs.Dialects.{bad_line, bad_lines_after, said_after, plain_line, plain_lines}
-
--- the parts of bytes that are cut at a newline
-split-newline : (xs ys : List ℕ) → slice_split is_newline (xs ++ 10 ∷ ys) ≡ slice_split is_newline xs ++ slice_split is_newline ys
-split-newline [] ys = refl
-split-newline (x ∷ xs) ys =
-    let (part, parts, e) = some_part is_newline xs in
-    let more : List (List ℕ) = slice_split is_newline ys in
-    elim (is_newline x) as (λ b. cond b ([] ∷ slice_split is_newline (xs ++ 10 ∷ ys)) (onto_first x (slice_split is_newline (xs ++ 10 ∷ ys)))
-    ≡ cond b ([] ∷ slice_split is_newline xs) (onto_first x (slice_split is_newline xs)) ++ more) [
-      | true ↦ ap (λ t. [] ∷ t) (split-newline xs ys)
-      | false ↦ ap (onto_first x) (split-newline xs ys ∙ ap (λ t. t ++ more) e) ∙ sym (ap (λ t. onto_first x t ++ more) e)
-    ]
-
--- the last part is one of those behind, where there is one
-without-append : (parts : List (List ℕ)) (part : List ℕ) (more : List (List ℕ)) → without_last (parts ++ part ∷ more) ≡ parts ++ without_last (part ∷ more)
-without-append [] part more = refl
-without-append (p ∷ []) part more = refl
-without-append (p ∷ q ∷ parts) part more = ap (λ t. p ∷ t) (without-append (q ∷ parts) part more)
-
--- the lines of bytes that are cut behind a newline
-pub lines-newline : (xs ys : List ℕ) → lines (xs ++ 10 ∷ ys) ≡ map strip_carriage_return (slice_split is_newline xs) ++ lines ys
-lines-newline xs ys =
-    let (part, parts, e) = some_part is_newline ys in
-    ap (λ (t : List (List ℕ)). map strip_carriage_return (without_last t)) (split-newline xs ys ∙ ap (λ t. slice_split is_newline xs ++ t) e)
-    ∙ ap (map strip_carriage_return) (without-append (slice_split is_newline xs) part parts)
-    ∙ map-append strip_carriage_return (slice_split is_newline xs) (without_last (part ∷ parts))
-    ∙ ap (λ (t : List (List ℕ)). map strip_carriage_return (slice_split is_newline xs) ++ map strip_carriage_return (without_last t)) (sym e)
 
 -- the lines of two texts one after the other, where the first ends with a line
 pub lines-append : (xs ys : List ℕ) → EndsLine xs → lines (xs ++ ys) ≡ lines xs ++ lines ys

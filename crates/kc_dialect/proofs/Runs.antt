@@ -15,7 +15,8 @@ use Rattle.std.proofs.lemmas.List.Sums.{suffix_len_is}
 use Rattle.kc_text.specs.Forms.{is_comment, is_digit, number, value}
 use Rattle.kc_text.specs.Lines.{fields, is_blank, is_newline, lines}
 use Rattle.kc_text.proofs.FieldCuts.{fields-first}
-use Rattle.kc_text.proofs.PlainLines.{number-is}
+use Rattle.kc_text.proofs.PlainLines.{line-kept, number-is}
+use Rattle.kc_text.proofs.SaidAppend.{lines-newline}
 use Rattle.kc_dialect.specs.declared.bad_line.BadField.{BadField}
 use Rattle.kc_dialect.specs.declared.bad_line.BadLine.{BadLine}
 use Rattle.kc_dialect.specs.declared.dialect.Dialect.{Dialect}
@@ -26,7 +27,7 @@ use Rattle.kc_dialect.specs.Columns.{is_in_quotes, unquoted, without_back_blanks
 use Rattle.kc_dialect.specs.Dialects.{bad_line, bad_lines_after, both, pair_in, plain_line, plain_lines, said_after, says_nothing, without_mark}
 use Rattle.kc_dialect.specs.PlainRuns.{AreFewDigits, BeginsPlainly, BeginsWithRun, spaced}
 use Rattle.kc_dialect.proofs.Cells.{field-first}
-use Rattle.kc_dialect.proofs.LineAppend.{bad-append, lines-newline, plain-append}
+use Rattle.kc_dialect.proofs.LineAppend.{bad-append, plain-append}
 use Rattle.kc_dialect.proofs.PlainDialect.{first-column, second-column}
 
 -- a digit lies between the codes of 0 and 9
@@ -107,10 +108,6 @@ sep-other Tab b k space tab comma semicolon h = ne_eqb b k (λ same. tab (sym (e
 of-line : (P : ℕ → Type 0) → ((b : ℕ) → IsCode b → P b) → (first : List ℕ) (part : ℕ) (second : List ℕ) → P part → list_all is_digit first ≡ true
     → list_all is_digit second ≡ true → All P (first ++ part ∷ second)
 of-line P f first part second p a b = All-append P first (part ∷ second) (each-code P f first a) (All-cons P part second p (each-code P f second b))
-
--- a line without a carriage return keeps its end
-line-kept : (line : List ℕ) → 0 < length line → All (λ b. (b == 13) ≡ false) line → strip_carriage_return line ≡ line
-line-kept line some none = ap (λ b. cond b (take (length line - 1) line) line) (none (length line - 1) 0 (omega arith))
 
 -- a plain line is the first of bytes that begin with it
 lines-plain : (s : Separator) (first : List ℕ) (part : ℕ) (second rest : List ℕ) → is_separator s part ≡ true → list_all is_digit first ≡ true

@@ -20,6 +20,18 @@ use std::marker::Model;
 
 /// A simple undirected graph that stays as it was made: its vertices are the numbers from 0 to below `vertices`, and its edges are a set
 /// of pairs of two different ones. It takes 8 bytes an edge and 8 a vertex.
+///
+/// # Example
+///
+/// ```rust
+/// use kc_flat::{FlatGraph, core_numbers};
+///
+/// let pairs = [(2, 1), (1, 0), (0, 2), (1, 2), (3, 3), (2, 3)];
+/// let graph = FlatGraph::from_pairs(alloc, 5, &pairs)?;
+/// let edges = graph.edges(); // 4: no loop, and an edge that is listed again counts once
+/// let neighbours = graph.neighbours(2); // 0, 1, 3
+/// let core = core_numbers(alloc, &graph)?; // 2, 2, 2, 1, 0
+/// ```
 #[derive(Debug, Drop)]
 pub struct FlatGraph {
     block: Vec<u32>,

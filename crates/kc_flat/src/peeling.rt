@@ -84,6 +84,17 @@ fn take_all(
 
 /// The core numbers of the graph, with an order that certifies them, in time linear in the edges. Beside the graph it takes 12 bytes a
 /// vertex, and 8 for each number up to the greatest degree. `NoMemory` comes where there is none for that.
+///
+/// # Example
+///
+/// ```rust
+/// use kc_flat::{Decomposition, FlatGraph, decompose};
+///
+/// // A triangle, and the vertex 3 that hangs on it.
+/// let graph = FlatGraph::from_pairs(alloc, 4, &[(0, 1), (0, 2), (1, 2), (2, 3)])?;
+/// let Decomposition { core, order } = decompose(alloc, &graph)?; // the core numbers are 2, 2, 2, 1
+/// let first = order.first(); // Some(3): the numbers never fall along the order
+/// ```
 pub fn decompose(alloc: Global, graph: &FlatGraph) -> Result<Decomposition, NoMemory>
     ensures { IfOk result (λ d. Certifies graph.now d.core.items d.order.items) }
 {

@@ -15,6 +15,20 @@ use std::marker::Model;
 
 /// A simple undirected graph: its vertices are the numbers from 0 to below `vertices`, and its edges are a set of pairs of two
 /// different ones.
+///
+/// # Example
+///
+/// ```rust
+/// use kc_graph::Graph;
+///
+/// let mut graph = Graph::new(alloc, 3)?;
+/// let is_new = graph.add(0, 1)?; // true
+/// let again = graph.add(1, 0)?; // false: it is the same edge
+/// graph.add(1, 2)?;
+/// let neighbours = graph.neighbours(1); // 0, 2
+/// let was_there = graph.remove(0, 1); // true
+/// let edges = graph.edges(); // 1
+/// ```
 #[derive(Debug, Drop)]
 pub struct Graph {
     rows: Rows,

@@ -171,6 +171,18 @@ fn peel(alloc: Global, graph: &Graph) -> Result<Removal, NoMemory>
 
 /// The same graph, copied, with its core numbers and an order that certifies them, in time linear in the edges (Batagelj and Zaversnik
 /// 2003). Which of several such orders it is, is left open. `NoMemory` comes where there is none for the copy or the work.
+///
+/// # Example
+///
+/// ```rust
+/// use kc_graph::{Graph, decompose};
+///
+/// // A triangle, and the vertex 3 that hangs on it.
+/// let graph = Graph::from_pairs(alloc, 4, &[(0, 1), (0, 2), (1, 2), (2, 3)])?;
+/// let state = decompose(alloc, &graph)?;
+/// let core = state.core(); // 2, 2, 2, 1
+/// let place = state.place(3); // 0: the numbers never fall along the order
+/// ```
 pub fn decompose(alloc: Global, graph: &Graph) -> Result<Lawful, NoMemory>
     ensures same { IfOk result (λ lawful. lawful.graph ≡ graph.now) }
     ensures certified { IfOk result (λ lawful. IsCertified lawful) }
@@ -191,6 +203,17 @@ pub fn decompose_owned(alloc: Global, graph: Graph) -> Result<Lawful, NoMemory>
 
 /// The core number of each vertex, indexed by the vertex, as `decompose` finds them but with no copy of the graph. `NoMemory` comes
 /// where there is none for the work.
+///
+/// # Example
+///
+/// ```rust
+/// use kc_graph::{Graph, core_numbers, greatest};
+///
+/// // A triangle, and the vertex 3 that hangs on it.
+/// let graph = Graph::from_pairs(alloc, 4, &[(0, 1), (0, 2), (1, 2), (2, 3)])?;
+/// let core = core_numbers(alloc, &graph)?; // 2, 2, 2, 1
+/// let top = greatest(&core); // 2
+/// ```
 pub fn core_numbers(alloc: Global, graph: &Graph) -> Result<Vec<u32>, NoMemory>
     ensures { IfOk result (λ core. AreCoreNumbers graph.now core.items) }
 {

@@ -179,6 +179,19 @@ fn order_of(alloc: Global, graph: &Graph, core: &[u32]) -> Result<Vec<u32>, NoMe
 
 /// The graph with its core numbers, which are known, and an order that certifies them, in time linear in the edges. `core` has the core
 /// number of each vertex, indexed by the vertex. Where there is no memory both are dropped and the answer is `NoMemory`.
+///
+/// # Example
+///
+/// ```rust
+/// use kc_graph::{Graph, core_numbers};
+/// use kc_hindex::lawful;
+///
+/// // A triangle, and the vertex 3 that hangs on it.
+/// let graph = Graph::from_pairs(alloc, 4, &[(0, 1), (0, 2), (1, 2), (2, 3)])?;
+/// let core = core_numbers(alloc, &graph)?; // 2, 2, 2, 1
+/// let state = lawful(alloc, graph, core)?;
+/// let place = state.place(3); // 0: the numbers never fall along the order
+/// ```
 pub fn lawful(alloc: Global, graph: Graph, core: Vec<u32>) -> Result<Lawful, NoMemory>
     requires { AreCoreNumbers graph core.items }
     ensures graph { IfOk result (λ lawful. lawful.graph ≡ graph) }

@@ -49,6 +49,19 @@ fn settle(
 /// memory; no clause speaks of its time. The vertices are dealt out to a thread for each processor, at most 32. That more than one ran is
 /// said by no clause; numbers and count of rounds are the same however the vertices are dealt out. `NoMemory` comes where there is none
 /// for two numbers for each vertex, for a mark for each number, and for a count for each number and each thread.
+///
+/// # Example
+///
+/// ```rust
+/// use kc_graph::Graph;
+/// use kc_hindex::{Peeled, lawful, peel};
+///
+/// // A triangle, and the vertex 3 that hangs on it.
+/// let graph = Graph::from_pairs(alloc, 4, &[(0, 1), (0, 2), (1, 2), (2, 3)])?;
+/// let Peeled { core, rounds } = peel(rt, alloc, &graph)?; // 2, 2, 2, 1, after 2 rounds
+/// let state = lawful(alloc, graph, core)?; // with an order that certifies the numbers
+/// let place = state.place(3); // 0: the numbers never fall along the order
+/// ```
 pub fn peel(rt: &(impl Threads + Sync), alloc: Global, graph: &Graph) -> Result<Peeled, NoMemory>
     ensures core { IfOk result (λ peeled. AreCoreNumbers graph.now peeled.core.items) }
     ensures rounds { IfOk result (λ peeled. AreRounds graph.now peeled.rounds) }

@@ -27,6 +27,22 @@ use std::snapshot::Snapshot;
 ///
 /// By its type the order certifies the core numbers, no section is open, and the edges are those of the run's start after all entries;
 /// what is so of each value is `Stands` in `specs/Journals.antt`. What the run and its table began with costs no bytes.
+///
+/// # Example
+///
+/// ```rust
+/// use kc_graph::{Graph, Update, decompose_owned};
+/// use kc_journal::{Journal, plan_held};
+/// use kc_view::Scratch;
+///
+/// let graph = Graph::from_pairs(alloc, 4, &[(0, 1), (1, 2), (2, 3)])?;
+/// let (words, mut journal, mut pass) = Journal::open(alloc, decompose_owned(alloc, graph)?, 0)?;
+/// let update = Update { add: true, u: 0, v: 3 };
+/// let (planned, _) = plan_held(alloc, &journal, Scratch::new(alloc, 4)?, update);
+/// let entered = journal.enter(&words, &mut pass, 0, &planned?, None)?;
+/// let receipt = entered.receipt; // Receipt { index: 0, place: 1, applied: true }
+/// let core = journal.core_numbers(); // 2, 2, 2, 2
+/// ```
 #[derive(Drop)]
 pub struct Journal {
     graph: SharedGraph,

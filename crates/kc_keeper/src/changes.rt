@@ -66,6 +66,21 @@ impl Changes {
 
     /// The updates that take back those that changed the graph: the newest first, each turned round. Whatever the batch held, they make the
     /// graph that was there before it of the one after it, with the core numbers of before.
+    ///
+    /// # Example
+    ///
+    /// ```rust
+    /// use kc_graph::Update;
+    /// use kc_keeper::Changes;
+    ///
+    /// // The keeper has the path 0, 1, 2.
+    /// let batch = [Update { add: true, u: 0, v: 2 }, Update { add: false, u: 0, v: 1 }];
+    /// let mut changes = Changes::new(alloc);
+    /// keeper.apply(alloc, &batch, &mut changes)?;
+    /// let back = changes.inverse(alloc)?; // + 0 1, - 0 2
+    /// keeper.apply(alloc, &back, &mut changes)?;
+    /// let edges = (keeper.graph().has(0, 1), keeper.graph().has(0, 2)); // (true, false): as before the batch
+    /// ```
     pub fn inverse(&self, alloc: Global) -> Result<Vec<Update>, NoMemory>
         ensures list { IfOk result (λ back. back.items ≡ inverse_of self.now.applied.items) }
         ensures takes_back { IfOk result (λ back. (g : SimpleGraph) (us : List Update) → self.now.applied.items ≡ applied_in_turn g us

@@ -34,6 +34,20 @@ const SHORT_HISTORY: u64 = 65_536;
 
 /// A graph with the core number of each vertex and an order of the vertices that certifies the numbers, as a `Lawful` is one, that is
 /// changed edge by edge.
+///
+/// # Example
+///
+/// ```rust
+/// use kc_graph::{Graph, Update, decompose_owned};
+/// use kc_keeper::Keeper;
+///
+/// let graph = Graph::from_pairs(alloc, 3, &[(0, 1), (1, 2)])?;
+/// let mut keeper = Keeper::open(alloc, decompose_owned(alloc, graph)?)?;
+/// let applied = keeper.update(alloc, Update { add: true, u: 0, v: 2 })?; // true
+/// keeper.grow(alloc, 4)?;
+/// let core = keeper.core_numbers(); // 2, 2, 2, 0
+/// let order = keeper.order(alloc)?; // begins with 3: the numbers never fall along it
+/// ```
 #[derive(Drop)]
 pub struct Keeper {
     words: Words,
@@ -60,6 +74,19 @@ impl Model for Keeper {
 
 impl Keeper {
     /// Keeps a graph whose core numbers are known. Where it refuses, `lawful` is dropped.
+    ///
+    /// # Example
+    ///
+    /// ```rust
+    /// use kc_graph::{Graph, decompose_owned};
+    /// use kc_keeper::Keeper;
+    ///
+    /// let graph = Graph::from_pairs(alloc, 4, &[(0, 1), (0, 2), (1, 2), (2, 3)])?;
+    /// let keeper = Keeper::open(alloc, decompose_owned(alloc, graph)?)?;
+    /// let number = keeper.core(2); // Some(2)
+    /// let none = keeper.core(4); // None: there is no such vertex
+    /// let before = keeper.precedes(3, 0); // Some(true): 3 has the core number 1, and 0 has 2
+    /// ```
     pub fn open(alloc: Global, lawful: Lawful) -> Result<Keeper, OpenFault>
         ensures kept { IfOk result (λ keeper. keeper ≡ lawful) }
         ensures cause { IfErr result (λ fault. IsOpenCause lawful.graph.size fault) }
@@ -180,6 +207,19 @@ impl Keeper {
 
     /// Adds the update's edge, or removes it, and tells whether the graph changed: an edge that is there is not added again, and one that
     /// is not there can't be removed. Core numbers and order are then those of the new graph. Where it refuses, nothing has changed.
+    ///
+    /// # Example
+    ///
+    /// ```rust
+    /// use kc_graph::Update;
+    ///
+    /// // The keeper has the path 0, 1, 2.
+    /// let add = Update { add: true, u: 0, v: 2 };
+    /// let applied = keeper.update(alloc, add)?; // true
+    /// let again = keeper.update(alloc, add)?; // false: the edge is there
+    /// let core = keeper.core_numbers(); // 2, 2, 2
+    /// let refused = keeper.update(alloc, Update { add: true, u: 0, v: 9 }); // Err(NoVertex { vertex: 9 })
+    /// ```
     pub fn update(&mut self, alloc: Global, update: Update) -> Result<bool, UpdateFault>
         ensures graph { IfOk result (λ _. self.new.graph ≡ updated update self.old.graph) }
         ensures applied { IfOk result (λ applied. applied ≡ is_applied update self.old.graph) }
@@ -206,6 +246,20 @@ impl Keeper {
     ///
     /// Beside what the updates cost, it takes the time of sorting the vertices whose core numbers the updates moved. The first update of a
     /// keeper that moves one makes room for a place of each vertex, as does the first after the keeper has grown.
+    ///
+    /// # Example
+    ///
+    /// ```rust
+    /// use kc_graph::Update;
+    /// use kc_keeper::Changes;
+    ///
+    /// // The keeper has the path 0, 1, 2, and the vertex 3.
+    /// let batch = [Update { add: true, u: 0, v: 2 }, Update { add: true, u: 0, v: 1 }];
+    /// let mut changes = Changes::new(alloc);
+    /// keeper.apply(alloc, &batch, &mut changes)?;
+    /// let added = changes.added; // 1: the edge of 0 and 1 was there
+    /// let moved = changes.cores.as_slice(); // 0, 1 and 2, each with 1 before and 2 now
+    /// ```
     pub fn apply(
         &mut self,
         alloc: Global,

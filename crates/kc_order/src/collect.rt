@@ -229,6 +229,19 @@ pub fn second_collect(words: &Words, pass: &mut Pass, collect: Collect) -> Answe
 /// `Same` comes where they are one item, without a load. `Absent` comes where the word of one names no group, by the first load or the
 /// second. Else the pass makes two collects: `Before` and `After` come where no word differs between its two loads, after eight loads, and
 /// `Again` where one does, after four loads and those up to that word. All these are loads of the caller's pass.
+///
+/// # Example
+///
+/// ```rust
+/// use kc_order::{Writer, precedes};
+/// use kc_words::Shape;
+///
+/// let shape = Shape { items: 4, fixed: 0, base: 0, version: 0 };
+/// let (words, writer, mut pass) = Writer::open(alloc, shape, &[0, 2, 1], &[])?;
+/// let answer = precedes(&words, &mut pass, 0, 1); // Before
+/// let turned = precedes(&words, &mut pass, 1, 2); // After
+/// let absent = precedes(&words, &mut pass, 3, 0); // Absent { item: 3 }: it is not in the list
+/// ```
 pub fn precedes(words: &Words, pass: &mut Pass, x: u32, y: u32) -> Answer
     requires table { pass.old.table ≡ words.now }
     requires x_in { x < words.now.shape.items }

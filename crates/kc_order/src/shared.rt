@@ -98,6 +98,28 @@ impl<K: Name> LockedWriter<K> {
 }
 
 /// The words of K's table, and its writer under a lock. All items may come and go: the table has no vertices.
+///
+/// # Example
+///
+/// ```rust
+/// use kc_order::{Answer, OrderFault, SharedOrder, Writer};
+/// use kc_table::{Name, Pass, Words};
+/// use kc_words::Shape;
+///
+/// // A function of the table's name, which is called with `Brand`.
+/// fn compare<K: Name, R: Wait>(rt: &R, words: Words, writer: Writer, mut pass: Pass) -> Result<Answer, OrderFault>
+///     requires table { (words ≡ K.opened.table) × (writer.table ≡ K.opened.table) × (pass.table ≡ K.opened.table) }
+///     requires shape { (K.opened.table.shape.items ≡ 4) × (K.opened.table.shape.fixed ≡ 0) }
+/// {
+///     let shared = SharedOrder::<K>::new(words, writer);
+///     shared.put_after(rt, &mut pass, 3, 0)?;
+///     Ok(shared.precedes(&mut pass, 3, 1))
+/// }
+///
+/// let shape = Shape { items: 4, fixed: 0, base: 0, version: 0 };
+/// let (words, writer, pass) = Writer::open(alloc, shape, &[0, 1, 2], &[])?;
+/// let answer = compare::<Brand, _>(rt, words, writer, pass)?; // Before: 3 was put right after 0
+/// ```
 #[derive(Drop)]
 pub struct SharedOrder<K: Name> {
     words: Words,

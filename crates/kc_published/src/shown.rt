@@ -25,6 +25,26 @@ use std::sync::Wait;
 ///
 /// Contracts see the journal and the history of the board. By its type the last list of the history and the journal's core numbers differ
 /// only at vertices that were noted since.
+///
+/// # Example
+///
+/// ```rust
+/// use kc_graph::Update;
+/// use kc_journal::plan_held;
+/// use kc_published::Published;
+/// use kc_view::Scratch;
+///
+/// // In a function of the board's name, as at `kc_snapshot::open`, with the parts of `Journal::open` for the path 0, 1, 2, 3.
+/// let (mut shown, mut readers) = Published::<J, &R>::open(rt, alloc, blank, journal, 1)?;
+/// let update = Update { add: true, u: 0, v: 3 };
+/// let (planned, _) = plan_held(alloc, shown.journal(), Scratch::new(alloc, 4)?, update);
+/// shown.enter(&words, &mut pass, 0, &planned?)?;
+/// let number = shown.publish(rt)?; // 1
+/// if let Some(reader) = readers.last_mut() {
+///     reader.learn(rt, shown.tell());
+///     let read = reader.read(rt, 0); // Read { number: 1, core: 2 }: the path is a circle now
+/// }
+/// ```
 #[derive(Drop)]
 pub struct Published<J: BoardName, R: Wait + Drop> {
     journal: Journal,

@@ -104,6 +104,21 @@ fn fed_reader<S: Source>(
 /// fails. `ReadFault` comes only where the source's count of faults rose in this call; at each other answer no call of the source has
 /// failed. `NoMemory` comes where there is no memory to read. After each answer the source has lost just the bytes that it gave in this
 /// call, and they are at most one more than the limits allow.
+///
+/// # Example
+///
+/// ```rust
+/// use kc_io::mem_source::MemSource;
+/// use kc_read::read_input;
+/// use kc_text::Limits;
+///
+/// let text = Vec::from_slice(alloc, b"1 2\nbatch\n+ 2 3\n")?;
+/// let mut source = MemSource::new(text, 4, Vec::new(alloc)); // four bytes at a time
+/// let input = read_input(alloc, &mut source, Limits::KCORE)?;
+/// let ids = input.ids.as_slice(); // 1, 2, 3
+/// let start = input.start.as_slice(); // (0, 1)
+/// let batches = input.batches.len(); // 1
+/// ```
 pub fn read_input<S: Source>(
     alloc: Global,
     source: &mut S,
@@ -129,6 +144,20 @@ pub fn read_input<S: Source>(
 
 /// The ids and the edges that all bytes of the source tell within limits, as they were told. `Refused`, `ReadFault` and `NoMemory` come as
 /// of `read_input`, and the source has then lost as much.
+///
+/// # Example
+///
+/// ```rust
+/// use kc_io::mem_source::MemSource;
+/// use kc_read::read_edges;
+/// use kc_text::Limits;
+///
+/// let text = Vec::from_slice(alloc, b"7 5\n5 9\n9 5\n")?;
+/// let mut source = MemSource::new(text, 4, Vec::new(alloc)); // four bytes at a time
+/// let named = read_edges(alloc, &mut source, Limits::GRAPH)?;
+/// let ids = named.ids.as_slice(); // 5, 7, 9
+/// let edges = named.edges.as_slice(); // (0, 1), (0, 2), (0, 2): as they were told
+/// ```
 pub fn read_edges<S: Source>(
     alloc: Global,
     source: &mut S,

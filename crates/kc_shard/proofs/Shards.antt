@@ -9,6 +9,7 @@ use Rattle.std.proofs.lemmas.List.{ext_get_or, get_or-set_other, get_or-set_same
 use Rattle.std.proofs.lemmas.List.Edits.{length-between}
 use Rattle.std.proofs.lemmas.List.Elements.{All-drop, All-take}
 use Rattle.std.proofs.lemmas.List.Sums.{fails_before_first, position_or_len_is}
+use Rattle.kc_lists.proofs.Backs.{behind-first}
 use Rattle.kc_lists.specs.Lists.{total}
 use Rattle.kc_lists.proofs.Shared.{total-agree}
 use Rattle.kc_shard.specs.Shards.{IsShard, differences, offsets_fault, or_fault, row_fault, rows_fault, shard_fault, shard_row}
@@ -81,10 +82,6 @@ offset-tests true true c (Some fault) h = absurd (cc h)
 offset-tests true true false None h = absurd (cc h)
 offset-tests true true true None h = (refl, refl, refl, refl)
 
--- where the next row begins, behind the first offset
-next-offset : (first : ℕ) (ends : List ℕ) (row : ℕ) → get_or (first ∷ ends) (row + 1) 0 ≡ get_or ends row 0
-next-offset first ends row = let next : row + 1 ≡ suc row = omega arith in ap (λ (k : ℕ). get_or (first ∷ ends) k 0) next
-
 -- offsets without a fault
 offsets-cut : (rows : ℕ) (offsets : List ℕ) (entries : ℕ) → offsets_fault rows offsets entries ≡ None → AreCut rows offsets entries
 offsets-cut rows [] entries h =
@@ -100,7 +97,7 @@ offsets-cut rows (first ∷ ends) entries h =
       λ row l.
           let cut : IsCut (get_or (0 ∷ ends) row 0) (get_or ends row 0) = rows-cut 0 0 ends t.2 row (omega (arith, count, l)) in
           let same : get_or offsets row 0 ≡ get_or (0 ∷ ends) row 0 = ap (λ (x : ℕ). get_or (x ∷ ends) row 0) begins in
-          (omega (arith, cut.0, same, next-offset first ends row), omega (arith, cut.1, same, next-offset first ends row)),
+          (omega (arith, cut.0, same, behind-first first ends row), omega (arith, cut.1, same, behind-first first ends row)),
       eqb-true (get_or offsets rows 0) entries t.3,
     )
 
@@ -114,7 +111,7 @@ cut-offsets rows (first ∷ ends) entries h =
     cut-rows 0 0 ends (λ row l.
     let cut : IsCut (get_or offsets row 0) (get_or offsets (row + 1) 0) = h.2 row (omega (arith, h.0, l)) in
     let same : get_or offsets row 0 ≡ get_or (0 ∷ ends) row 0 = ap (λ (x : ℕ). get_or (x ∷ ends) row 0) begins in
-    (omega (arith, cut.0, same, next-offset first ends row), omega (arith, cut.1, same, next-offset first ends row))) in
+    (omega (arith, cut.0, same, behind-first first ends row), omega (arith, cut.1, same, behind-first first ends row))) in
     let a : eqb (length offsets) (rows + 1) ≡ true = eq-eqb (length offsets) (rows + 1) h.0 in
     let b : eqb first 0 ≡ true = eq-eqb first 0 begins in
     let c : eqb (get_or offsets rows 0) entries ≡ true = eq-eqb (get_or offsets rows 0) entries h.3 in

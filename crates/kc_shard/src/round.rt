@@ -82,6 +82,20 @@ fn fill(
 ///
 /// Where something is wrong with the shard, or where there is no memory for the counts, nothing is written. The time is linear in the rows
 /// and the entries; no clause speaks of it.
+///
+/// # Example
+///
+/// ```rust
+/// use kc_shard::h_index_round;
+///
+/// // A triangle, and the vertex 3 that hangs on it: the neighbours of each vertex, row after row.
+/// let (offsets, neighbours) = ([0, 2, 4, 7, 8], [1, 2, 0, 2, 0, 1, 3, 2]);
+/// let degrees = [2, 2, 3, 1];
+/// let mut next = degrees;
+/// let changed = h_index_round(alloc, &offsets, &neighbours, &degrees, &mut next)?; // 1: next is 2, 2, 2, 1
+/// let numbers = next;
+/// let changed = h_index_round(alloc, &offsets, &neighbours, &numbers, &mut next)?; // 0: the core numbers
+/// ```
 pub fn h_index_round(
     alloc: Global,
     offsets: &[u64],

@@ -19,6 +19,20 @@ use std::mem;
 ///
 /// By its type all three are of one table, with the same opening edges and opening edge stamps, and there are `STRIPES` stripes. These are
 /// private: the lock of a vertex's stripe is found by its place, so nobody else may change their order.
+///
+/// # Example
+///
+/// ```rust
+/// use kc_graph::{Graph, decompose_owned};
+/// use kc_shared::Parts;
+///
+/// let graph = Graph::from_pairs(alloc, 4, &[(0, 1), (2, 3)])?;
+/// let (mut parts, pass) = Parts::open(alloc, decompose_owned(alloc, graph)?, 0)?;
+/// let mut passes = vec![in alloc; pass]?;
+/// let last = parts.renew(alloc, &mut passes)?; // goes on in a fresh table; `last` is a pass of the old one
+/// let core = parts.journal.core_numbers(); // 1, 1, 1, 1
+/// let closed = parts.close(alloc, passes); // Ok, with the graph, its core numbers and their order
+/// ```
 #[derive(Drop)]
 pub struct Parts {
     pub words: Words,

@@ -57,6 +57,25 @@ where
 
 /// Opens a board with a list of core numbers, for so many readers. `NoMemory`: there was no memory for the two copies, for the readers,
 /// or for the changes that are to come, of which no more than two are ever kept.
+///
+/// # Example
+///
+/// ```rust
+/// use kc_snapshot::{Blank, BoardName, NoMemory, Read, open};
+///
+/// // A function of the board's name, which is called with `Brand`.
+/// fn show<J: BoardName, R: Wait>(rt: &R, alloc: Global, blank: Blank) -> Result<Option<Read>, NoMemory>
+///     requires { blank ≡ J.book }
+/// {
+///     let (mut publisher, mut readers) = open::<J, &R>(rt, alloc, blank, &[1, 1, 1, 1], 1)?;
+///     publisher.publish(rt, &[2, 2, 2, 2])?;
+///     let Some(mut reader) = readers.pop() else { return Ok(None) };
+///     reader.learn(rt, publisher.tell());
+///     Ok(Some(reader.read(rt, 0)))
+/// }
+///
+/// let read = show::<Brand, _>(rt, alloc, Blank::new())?; // Some(Read { number: 1, core: 2 })
+/// ```
 pub fn open<J: BoardName, R: Wait + Drop>(
     rt: R,
     alloc: Global,

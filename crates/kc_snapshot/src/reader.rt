@@ -20,6 +20,18 @@ pub struct Read {
 }
 
 /// One that reads, in whatever thread. Contracts see what it has seen: a beginning of the board's history, with at least one list.
+///
+/// # Example
+///
+/// ```rust
+/// // A board of four vertices, which was opened with 1 for each.
+/// let before = reader.read(rt, 0); // Read { number: 0, core: 1 }
+/// let number = publisher.publish(rt, &[2, 2, 2, 2])?; // 1
+/// reader.learn(rt, publisher.tell());
+/// let after = reader.read(rt, 0); // Read { number: 1, core: 2 }
+/// let mut core = [0; 4];
+/// let number = reader.cores(rt, &mut core); // 1, and the core numbers are 2, 2, 2, 2
+/// ```
 #[derive(Drop)]
 pub struct Reader<J: BoardName> {
     handle: ReadHandle<Board<J>>,

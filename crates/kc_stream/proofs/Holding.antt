@@ -17,17 +17,13 @@ use Rattle.kc_text.specs.declared.line.TextLine.TheVariants as said
 use Rattle.kc_text.specs.Inputs.{AreAmong, EdgeUpdate, between, numbered, numbered_change, parts_of, place}
 use Rattle.kc_text.specs.Meaning.{Told, ends, ends_of, or_else, unfit, with_line}
 use Rattle.kc_text.proofs.Counts.{ends-push}
+use Rattle.kc_lists.proofs.Results.{none-from}
 use Rattle.kc_text.proofs.Places.{place-below, place-injective}
 use Rattle.kc_stream.specs.Gathering.{Holds, IsPairBelow, IsUpdateBelow}
 use Rattle.kc_stream.specs.Hearing.{passed_limit, refused}
 use Rattle.kc_stream.specs.Ids.{ids_of, with_name, with_names}
 use Rattle.kc_stream.specs.declared.gathered.Gathered.{Gathered}
 use Rattle.kc_stream.proofs.Naming.{Extends, among-more, changes-stay, edges-stay, extends-names, ids-change, ids-edge, name-grows}
-
--- where it is not some, it is none
-pub none-from : {X : Type 0} (o : Option X) → is_some o ≡ false → o ≡ None
-none-from None h = refl
-none-from (Some x) h = absurd (true≢false h)
 
 -- where it is some, there is a value
 pub some-from : {X : Type 0} (o : Option X) → is_some o ≡ true → (x : X) × (o ≡ Some x)

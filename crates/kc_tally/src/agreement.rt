@@ -13,6 +13,16 @@ ghost use Rattle.kc_tally.specs.Tallies.{AreBetween, AreTallied};
 ///
 /// If the counts are the tally of all edges of a graph, each once, then yes says that the numbers are its core numbers. For any order
 /// that certifies them, with the places in it as ranks, the answer is yes.
+///
+/// # Example
+///
+/// ```rust
+/// use kc_tally::verdict;
+///
+/// // A triangle, and the vertex 3 that hangs on it: what `count` counts with the core numbers, and with 2 for each vertex.
+/// let right = verdict(&[2, 2, 2, 1], &[2, 1, 0, 1], &[2, 2, 2, 1]); // true
+/// let too_high = verdict(&[2, 2, 2, 2], &[2, 1, 0, 1], &[2, 2, 3, 1]); // false: 3 has one supporter
+/// ```
 pub fn verdict(core: &[u32], later: &[u32], supporters: &[u32]) -> bool
     ensures exact { IsTrue result ↔ AreBetween core.now later.now supporters.now }
     ensures seidman { (rank : List ℕ) (edges : List Edge) → IsTrue result → length core.now ≤ 2 ^ 32 → ListsEachOnce (length core.now) edges

@@ -113,6 +113,22 @@ fn count_all(core: &[u32], rank: &[u32], edges: &[Edge], later: &mut [u32], supp
 ///
 /// A piece that is not strictly ascending, or has an edge whose ends are no two vertices with the lesser one first, is refused, and the
 /// counts stay as they were.
+///
+/// # Example
+///
+/// ```rust
+/// use kc_graph::Edge;
+/// use kc_tally::{count, verdict};
+///
+/// // A triangle, and the vertex 3 that hangs on it, in two pieces. The ranks are the places in the order 3, 0, 1, 2.
+/// let (core, rank) = ([2, 2, 2, 1], [1, 2, 3, 0]);
+/// let first = [Edge { u: 0, v: 1 }, Edge { u: 0, v: 2 }];
+/// let second = [Edge { u: 1, v: 2 }, Edge { u: 2, v: 3 }];
+/// let (mut later, mut supporters) = ([0; 4], [0; 4]);
+/// count(&core, &rank, None, &first, &mut later, &mut supporters)?;
+/// count(&core, &rank, Some(first[1]), &second, &mut later, &mut supporters)?; // now 2, 1, 0, 1 and 2, 2, 2, 1
+/// let agree = verdict(&core, &later, &supporters); // true: these are the core numbers
+/// ```
 pub fn count(
     core: &[u32],
     rank: &[u32],

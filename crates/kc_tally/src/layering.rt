@@ -170,6 +170,18 @@ fn rank_by_layers(
 /// as the level which are on a higher level, or on this one and not yet taken (the onion layers of Hébert-Dufresne, Grochow and Allard
 /// 2016, counted on each level by itself). With these ranks the tally of core numbers agrees with them. The time is linear in the
 /// vertices and edges. `NoMemory` comes where there is none for three numbers a vertex.
+///
+/// # Example
+///
+/// ```rust
+/// use kc_graph::{Graph, core_numbers};
+/// use kc_tally::layers;
+///
+/// // A path, from one end to the other.
+/// let graph = Graph::from_pairs(alloc, 5, &[(0, 1), (1, 2), (2, 3), (3, 4)])?;
+/// let core = core_numbers(alloc, &graph)?; // 1, 1, 1, 1, 1
+/// let rank = layers(alloc, &graph, &core)?; // 0, 1, 2, 1, 0: the ends are taken first
+/// ```
 pub fn layers(alloc: Global, graph: &Graph, core: &[u32]) -> Result<Vec<u32>, NoMemory>
     requires { AreCoreNumbers graph.now core.now }
     ensures layers { IfOk result (λ rank. AreLayers graph.now core.now rank.items) }

@@ -146,7 +146,7 @@ sign-other true = (refl, refl, refl)
 sign-other false = (refl, refl, refl)
 
 -- a line without a carriage return at its end keeps all of it
-line-kept : (line : List ℕ) → 0 < length line → All (λ b. (b == 13) ≡ false) line → strip_carriage_return line ≡ line
+pub line-kept : (line : List ℕ) → 0 < length line → All (λ b. (b == 13) ≡ false) line → strip_carriage_return line ≡ line
 line-kept line some none = ap (λ b. cond b (take (length line - 1) line) line) (none (length line - 1) 0 (omega arith))
 
 -- what is said before and after the first newline

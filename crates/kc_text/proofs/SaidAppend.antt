@@ -32,7 +32,7 @@ without-append (p ∷ []) part more = refl
 without-append (p ∷ q ∷ parts) part more = ap (λ t. p ∷ t) (without-append (q ∷ parts) part more)
 
 -- the lines of bytes that are cut behind a newline
-lines-newline : (xs ys : List ℕ) → lines (xs ++ 10 ∷ ys) ≡ map strip_carriage_return (slice_split is_newline xs) ++ lines ys
+pub lines-newline : (xs ys : List ℕ) → lines (xs ++ 10 ∷ ys) ≡ map strip_carriage_return (slice_split is_newline xs) ++ lines ys
 lines-newline xs ys =
     let (part, parts, e) = some_part is_newline ys in
     ap (λ (t : List (List ℕ)). map strip_carriage_return (without_last t)) (split-newline xs ys ∙ ap (λ t. slice_split is_newline xs ++ t) e)

@@ -124,6 +124,18 @@ fn edges_of(alloc: Global, ids: Vec<u32>, edges: &[(u32, u32)]) -> Result<NamedE
 /// `Refused` comes exactly where the text is too long, or else where a line is refused, with the first such line and the first check
 /// that it fails; `NoMemory` where there is no memory to read the text. No two updates of a batch are of one edge, so it doesn't matter
 /// in which order they are applied.
+///
+/// # Example
+///
+/// ```rust
+/// use kc_text::{Limits, parse};
+///
+/// let input = parse(alloc, Limits::KCORE, b"5 9\nbatch\n+ 7 5\n- 9 5\n")?;
+/// let ids = input.ids.as_slice(); // 5, 7, 9
+/// let start = input.start.as_slice(); // (0, 2): 0 stands for the id 5, and 2 for 9
+/// let batches = input.batches.as_slice(); // one batch, with the updates + 0 1 and - 0 2
+/// let fault = parse(alloc, Limits::KCORE, b"1 2\n1 x\n").err(); // Refused, line 2, Kind::NotANumber
+/// ```
 pub fn parse(alloc: Global, limits: Limits, bytes: &[u8]) -> Result<Input, ParseFault>
     ensures input { IfOk result (λ input. (told : Told) × (meaning limits bytes.now ≡ Means told) × IsInput told input) }
     ensures few { IfOk result (λ input. length input.ids.items ≤ limits.ids) }

@@ -30,6 +30,19 @@ const TOO_LONG: Refusal = Refusal {
 };
 
 /// What reads a text that is fed piece by piece. It holds what the lines tell, and the bytes behind the last line end.
+///
+/// # Example
+///
+/// ```rust
+/// use kc_text::{Limits, NamedEdges, TextReader};
+///
+/// let mut reader = TextReader::new(alloc, Limits::GRAPH);
+/// reader.feed(alloc, b"1 2\n2 ")?;
+/// reader.feed(alloc, b"3\n3 1\n")?;
+/// let NamedEdges { ids, edges } = reader.finish_edges(alloc)?;
+/// let ids = ids.as_slice(); // 1, 2, 3
+/// let edges = edges.as_slice(); // (0, 1), (1, 2), (0, 2)
+/// ```
 #[derive(Drop)]
 pub struct TextReader {
     pub limits: Limits,

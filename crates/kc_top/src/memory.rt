@@ -23,6 +23,26 @@ use std::thread::Threads;
 
 /// A run from memory to memory. It is [`run`], and what is known of the streams are their bytes. So the clauses on the meaning of the
 /// input are told once more, of the very bytes.
+///
+/// # Example
+///
+/// ```rust
+/// use kc_io::mem_sink::MemSink;
+/// use kc_io::mem_source::MemSource;
+/// use kc_run::Ran;
+/// use kc_top::Streams;
+/// use kc_top::memory::run_in_memory;
+///
+/// let text = Vec::from_slice(alloc, b"1 2\n2 3\n3 4\nbatch\n+ 4 1\n")?;
+/// let source = MemSource::new(text, 4096, Vec::new(alloc));
+/// let out = MemSink::new(alloc, 4096, 4096, Vec::new(alloc))?;
+/// let err = MemSink::new(alloc, 4096, 4096, Vec::new(alloc))?;
+/// let mut streams = Streams { source, out, err };
+/// let mut ran = Ran::new(alloc);
+/// let status = run_in_memory(rt, alloc, &["--show", "summary"], &mut streams, &mut ran); // Done
+/// let lines = streams.out.taken(); // the line of the graph, and the line of the batch:
+/// // b"graph vertices 4 edges 3 top 1\nbatch 1 added 1 removed 0 kept 0 edges 4 top 2\n"
+/// ```
 pub fn run_in_memory<R: Threads + Wait + Sync>(
     rt: &R,
     alloc: Global,

@@ -126,6 +126,23 @@ fn work<S: Source, O: Sink, E, G: Gate + Sync, R: Threads + Wait + Sync>(
 /// As many workers as the words ask for enter the updates of each batch, and `gate` is called before each of their tries. Where the words
 /// ask for rounds of h-indices, `rt` runs these in threads. No clause says so, and tests show it: one counts the calls of `gate`, and one
 /// counts the shares. Nor does a clause say how many tries were in vain.
+///
+/// # Example
+///
+/// ```rust
+/// use kc_run::Ran;
+/// use kc_top::run::run;
+/// use kc_top::{Streams, exit_number};
+/// use kc_workers::NoGate;
+///
+/// // Streams in memory, as at `run_in_memory`. The text is a path of four vertices, and a batch that closes it.
+/// let mut streams = Streams { source, out, err };
+/// let mut ran = Ran::new(alloc);
+/// let words = ["--workers", "2", "--show", "summary"];
+/// let status = run(rt, alloc, &words, &mut streams, &NoGate, &mut ran); // Done
+/// let code = exit_number(status); // 0
+/// let shares = ran.shares.len(); // 2: one batch, two workers
+/// ```
 pub fn run<S: Source, O: Sink, E: Sink, G: Gate + Sync, R: Threads + Wait + Sync>(
     rt: &R,
     alloc: Global,

@@ -26,6 +26,18 @@ const VERSIONS_A_MOVE: u32 = 3;
 /// The arcs of an acyclic graph, and the right to add to them. Contracts see its table and the whole log.
 ///
 /// After each prefix of the log all vertices are in the list, no arc stands twice, and the list is topological for the arcs.
+///
+/// # Example
+///
+/// ```rust
+/// use kc_topo::Arcs;
+///
+/// let (words, mut arcs, mut pass) = Arcs::open(alloc, 3)?;
+/// let added = arcs.add(alloc, &words, &mut pass, 2, 0)?; // New: the order is 1, 2, 0 now
+/// let again = arcs.add(alloc, &words, &mut pass, 2, 0)?; // There
+/// let refused = arcs.add(alloc, &words, &mut pass, 0, 2); // Err(Cycle), with the walk 2, 0
+/// let stands = arcs.has(2, 0); // true
+/// ```
 #[derive(Drop)]
 pub struct Arcs {
     writer: Writer,

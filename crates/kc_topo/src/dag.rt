@@ -68,6 +68,27 @@ impl<K: Name> LockedArcs<K> {
 }
 
 /// The words of K's table, and its arcs under a lock.
+///
+/// # Example
+///
+/// ```rust
+/// use kc_order::Answer;
+/// use kc_table::{Name, Pass, Words};
+/// use kc_topo::{Arcs, Dag, DagFault};
+///
+/// // A function of the table's name, which is called with `Brand`.
+/// fn stand<K: Name, R: Wait + AllocGlobal>(rt: &R, words: Words, arcs: Arcs, mut pass: Pass) -> Result<Answer, DagFault>
+///     requires table { (words ≡ K.opened.table) × (arcs.table ≡ K.opened.table) × (pass.table ≡ K.opened.table) }
+///     requires vertices { K.opened.table.shape.items ≡ 3 }
+/// {
+///     let dag = Dag::<K>::new(words, arcs);
+///     dag.add(rt, rt.alloc(), &mut pass, 2, 0)?;
+///     Ok(dag.precedes(&mut pass, 2, 0))
+/// }
+///
+/// let (words, arcs, pass) = Arcs::open(alloc, 3)?;
+/// let answer = stand::<Brand, _>(rt, words, arcs, pass)?; // Before: an arc leads from 2 to 0
+/// ```
 #[derive(Drop)]
 pub struct Dag<K: Name> {
     words: Words,

@@ -7,6 +7,7 @@ use Rattle.std.proofs.Math.Bool.{or-false}
 use Rattle.std.proofs.lemmas.Bool.{cases_Bool, cases_eq, false≢true, or_right, true≢false}
 use Rattle.std.proofs.lemmas.List.{get_or-set_same, get_or-set_other, take_more}
 use Rattle.kc_lists.specs.Lists.{member}
+use Rattle.kc_lists.proofs.Results.{none-from}
 use Rattle.kc_graph.specs.declared.used.UsedEdges.{UsedEdges}
 use Rattle.kc_graph.specs.declared.used.UsedPlace.{UsedPlace}
 use Rattle.kc_view.specs.Answers.{list_in, core_in}
@@ -49,11 +50,6 @@ some-is : {A : Type 0} (b : Bool) (x : A) → is_some (cond b (Some x) None) ≡
 some-is true x = refl
 some-is false x = refl
 
--- what is not there is none
-is_none : {A : Type 0} (o : Option A) → is_some o ≡ false → o ≡ None
-is_none None h = refl
-is_none (Some x) h = absurd (true≢false h)
-
 module _ {X A : Type 0} (k : AnswerKind X A) where
   -- what was found stays with more behind
   pub found-front : (w : ℕ) (xs ys : List X) → is_some (k.found w xs) ≡ true → k.found w (xs ++ ys) ≡ k.found w xs
@@ -88,7 +84,7 @@ module _ {X A : Type 0} (k : AnswerKind X A) where
   found-other w xs x other = elim (cases_Bool (is_some (k.found w xs))) [
     | inl t ↦ found-front w xs (x ∷ []) t
     | inr f ↦
-        found-push w xs x f ∙ (ap (λ b. cond b (Some (k.tells x)) None) (ne_eqb w (k.vertex x) other) ∙ sym (is_none (k.found w xs) f))
+        found-push w xs x f ∙ (ap (λ b. cond b (Some (k.tells x)) None) (ne_eqb w (k.vertex x) other) ∙ sym (none-from (k.found w xs) f))
   ]
 
   -- whether something is found, with one more

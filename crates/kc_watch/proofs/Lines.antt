@@ -15,7 +15,7 @@ use Rattle.kc_text.specs.Inputs.{EdgeBatch, numbered_batch}
 use Rattle.kc_text.specs.Meaning.{Told, or_else, unfit, with_line}
 use Rattle.kc_stream.specs.Gathering.{Gathers}
 use Rattle.kc_stream.specs.Hearing.{Heard, hear, hear_all, judged, passed_limit, refused}
-use Rattle.kc_stream.proofs.Holding.{none-from}
+use Rattle.kc_lists.proofs.Results.{none-from}
 use Rattle.kc_stream.proofs.Reading.{hear-append, hear-judged, hear-refused}
 use Rattle.kc_watch.specs.Text.{Account, account_of, graph_with, ids_with, line_about, one_ended, reply_of}
 use Rattle.kc_watch.specs.Watching.{KeepsAccount, StandsAt}

@@ -8,6 +8,19 @@ use std::alloc::Global;
 
 /// So many workers of a table, each of which has seen what the pass has. `NoMemory` comes where there is none for them or for their marks.
 /// The pass stays of use: it has seen what it had.
+///
+/// # Example
+///
+/// ```rust
+/// use kc_graph::{Graph, decompose_owned};
+/// use kc_shared::Parts;
+/// use kc_workers::hire;
+///
+/// let graph = Graph::from_pairs(alloc, 4, &[(0, 1), (2, 3)])?;
+/// let (parts, mut pass) = Parts::open(alloc, decompose_owned(alloc, graph)?, 0)?;
+/// let workers = hire(alloc, &parts.words, &mut pass, 2)?;
+/// let count = workers.len(); // 2
+/// ```
 pub fn hire(
     alloc: Global,
     words: &Words,

@@ -4,7 +4,7 @@ use Rattle.std.specs.Prelude.{is_some}
 use Rattle.kc_watch.specs.Text.{reply, reply_at_end}
 use Rattle.kc_watch.proofs.Fed.{end-answers, end-broken, end-refusal, end-refused, heard_of, refused-ended, stays}
 use Rattle.kc_watch.proofs.Lines.{going-heard, on-both, on-err}
-use Rattle.kc_stream.proofs.Holding.{none-from}
+use Rattle.kc_lists.proofs.Results.{none-from}
 use Rattle.kc_watch.proofs.watcher.WatcherReplier.end.Goals as goal
 
 pub returns-then-is_some : goal.returns-then-is_some

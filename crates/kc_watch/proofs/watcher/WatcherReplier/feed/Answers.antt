@@ -5,7 +5,7 @@ use Rattle.std.proofs.lemmas.List.{take-append-drop}
 use Rattle.kc_dialogue.specs.Replies.{IsPrefixOf}
 use Rattle.kc_text.specs.Lines.{EndsLine}
 use Rattle.kc_stream.specs.Ended.{IsOpen}
-use Rattle.kc_stream.proofs.Holding.{none-from}
+use Rattle.kc_lists.proofs.Results.{none-from}
 use Rattle.kc_watch.specs.Text.{reply}
 use Rattle.kc_watch.specs.Watching.{WasFed}
 use Rattle.kc_watch.proofs.Fed.{fed-open, fed-refused, more-reply, open-reply, refused-open, stays}
