@@ -11,11 +11,28 @@ use std::process::Abort;
 use std::sync::Wait;
 use std::sync::ledger::{Blank, Ledger, Share};
 
-/// One worker enters an update, and gives its pass and its part again.
+/// A look shows a journal of these core numbers and so many entries.
+fn assert_look<K: Name + Ledger, R: Wait + Abort>(
+    rt: &R,
+    shared: &Shared<K>,
+    pass: &mut Pass,
+    core: &[u32],
+    entries: usize,
+)
+    requires { pass.old.table ≡ K.opened.table }
+    ensures { pass.new.table ≡ K.opened.table }
+{
+    let look = shared.look(rt, pass);
+    let journal = look.journal();
+    let seen = (journal.core_numbers(), journal.entries().len());
+    assert_eq!(rt; seen, (core, entries));
+}
+
+/// One worker enters an update of a clique of four, and gives its pass and its part again. A look shows the journal before and after it.
 fn enter_by_one<K: Name + Ledger, R: Wait + Abort + AllocGlobal>(
     rt: &R,
     shared: &Shared<K>,
-    pass: Pass,
+    mut pass: Pass,
     part: Share<K>,
     update: Update,
 ) -> (Pass, Share<K>)
@@ -24,9 +41,12 @@ fn enter_by_one<K: Name + Ledger, R: Wait + Abort + AllocGlobal>(
     ensures { result.1.parts ≡ 1 }
 {
     assert!(rt; update.v < shape(&shared.words).fixed);
+    assert_look(rt, shared, &mut pass, &[3, 3, 3, 3], 0);
     let mut entrant = Entrant::hire(rt, &shared.words, pass, part);
     entrant.enter_at_last(rt, shared, 0, update);
-    entrant.end()
+    let (mut pass, part) = entrant.end();
+    assert_look(rt, shared, &mut pass, &[2, 2, 2, 2], 1);
+    (pass, part)
 }
 
 /// The same in a run that nobody else has a part of, which gives its parts again.
