@@ -19,9 +19,14 @@ pub struct Look<'a, K: Name + Ledger> {
 }
 
 impl<'a, K: Name + Ledger> Model for Look<'a, K> {
+    ghost use Rattle.std.specs.Coded.{codes};
+    ghost use Rattle.std.specs.Sync.Mutex.{mutex_guard_value};
+    ghost use Rattle.kc_graph.specs.Rows.{code_of_graph};
     ghost use Rattle.kc_shared.specs.States.{Booked};
 
     ghost Value = { Booked };
+
+    ghost coded = { Prim.hlevel (codes, code_of_graph) };
 
     ghost view = { λ look. mutex_guard_value look.kept };
 }
@@ -29,7 +34,7 @@ impl<'a, K: Name + Ledger> Model for Look<'a, K> {
 impl<'a, K: Name + Ledger> Look<'a, K> {
     /// A look through the guard.
     pub(crate) fn new(kept: MutexGuard<'a, Kept<K>>) -> Look<'a, K>
-        ensures { result ≡ mutex_guard_value kept }
+        ensures { result ≡ mutex_guard_value kept.entry }
     {
         Look { kept }
     }
