@@ -9,8 +9,9 @@ of the crate that the heading names. Edits that stand in no row are named too.
 docs/DEFINITIONS.md: each word in backticks of a row's first cell is looked up in the files of its column `Where`. A bare `File.antt` there is
 of the crate that was named last, and `the same` is the cell above.
 
-README.md, CONTRIBUTING.md, SECURITY.md, CHANGELOG.md and the other pages: each name in backticks that has an underscore, a capital inside or `::` is a word of
-the sources, but those of OUTSIDE.
+README.md, CONTRIBUTING.md, SECURITY.md, CHANGELOG.md and the other pages: each name in backticks that has an underscore, a capital inside or
+`::` is a word of the sources, but those of OUTSIDE. Of docs/ARCHITECTURE.md and docs/TRUST.md that is each name in backticks. And each file
+that a page names is there: by its path, by the path in its crate, or by its name.
 
 docs/DECISIONS.md has a table of the public names that several crates have; it is compared with the sources.
 
@@ -23,7 +24,9 @@ import sys
 TOP = pathlib.Path(__file__).resolve().parent.parent
 CRATES = TOP / "crates"
 DOCS = TOP / "docs"
-OUTSIDE = {"CachePadded", "Backoff", "crossbeam_utils", "par_for_each_mut"}  # names of the kit that no source here has
+OUTSIDE = {"CachePadded", "Backoff", "crossbeam_utils", "par_for_each_mut", "mov", "xchg"}  # names of the kit and of processors that no source here has
+ALL_NAMES = {"ARCHITECTURE.md", "TRUST.md"}  # the pages of which every name is looked up
+FILE = re.compile(r"[\w-]+(?:/[\w.-]+)*\.(?:rt|antt|edit|md|py|sh|h|hpp|c|cpp)")
 
 
 def text_of(path):
@@ -167,15 +170,25 @@ def words_of_sources():
     return {it for it in everywhere if not it.startswith("kc_") or it in here}, here
 
 
-def faults_of_page(page, everywhere, here):
-    """Names of a page that are looked up, and those that are not found: `kc_x::name` in its crate, others anywhere."""
+def files_there():
+    """The path of each file from the top, and each end of it that begins with a name."""
+    paths = [it.relative_to(TOP).parts for it in TOP.rglob("*.*")]
+    return {"/".join(parts[begin:]) for parts in paths if not {"out", ".git"} & set(parts) for begin in range(len(parts))}
+
+
+def faults_of_page(page, everywhere, here, there):
+    """Names of a page that are looked up, and those that are not found: `kc_x::name` in its crate, others and files anywhere."""
     looked_up, faults = 0, []
     for place, line in enumerate(text_of(page).splitlines(), 1):
         for quoted in re.findall(r"`([^`]+)`", line):
+            if FILE.fullmatch(quoted) and "FILE" not in quoted:
+                looked_up += 1
+                faults += [] if quoted in there else [f"{page.relative_to(TOP)}:{place}: no file {quoted}"]
+                continue
             for path in re.findall(r"[A-Za-z_]\w*(?:::[A-Za-z_]\w*)*", quoted):
                 crate, *rest = path.split("::")
                 words = here[crate] if rest and crate in here else everywhere
-                names = [it for it in (rest if rest else [crate]) if "::" in path or re.search(r"[a-z]_[a-z]|[a-z][A-Z]", it)]
+                names = [it for it in (rest if rest else [crate]) if "::" in path or page.name in ALL_NAMES or re.search(r"[a-z]_[a-z]|[a-z][A-Z]", it)]
                 looked_up += len(names)
                 faults += [f"{page.relative_to(TOP)}:{place}: no {name} in the sources" for name in names if name not in words | OUTSIDE]
     return looked_up, faults
@@ -216,10 +229,10 @@ def main():
     faults += more
     everywhere, here = words_of_sources()
     faults += faults_of_names(here)
-    named = 0
+    named, there = 0, files_there()
     for page in [*(TOP / it for it in ("README.md", "CONTRIBUTING.md", "SECURITY.md", "CHANGELOG.md", "bench/README.md")), *sorted(DOCS.glob("*.md"))]:
         if page.name != "MAP.md":
-            count, more = faults_of_page(page, everywhere, here)
+            count, more = faults_of_page(page, everywhere, here, there)
             named, faults = named + count, faults + more
     print("\n".join(faults + [f"{rows} rows, {defined} definitions, {named} names on other pages, {len(faults)} faults"]))
     return 1 if faults or not rows or not defined else 0
