@@ -4,8 +4,8 @@
     python3 bench/plot.py
 
 `updates.csv` has what an update takes beside computing all anew, in microseconds; `bench/measure_updates.py` makes such a table.
-`workers.csv` has the least and the most that 100 batches of 1,000 updates took by some workers, in times of what one worker took, by
-`bench_journal batches`.
+`workers.csv` has what 100 batches of 1,000 updates took by some workers, in times of what one worker took, by `bench_journal batches`: the
+median, and the least and the most that the series gave.
 """
 import csv
 import math
@@ -104,24 +104,26 @@ def draw_updates():
 
 def draw_workers():
     rows = rows_of("workers.csv")
+    tenths = range(math.floor(10 * min(float(row["least"]) for row in rows)), math.ceil(10 * max(1, *(float(row["most"]) for row in rows))) + 1)
     picture = Picture(
         "A batch by two and by four workers, beside one",
-        "The least and the most of the time of 100 batches of 1,000 updates, where one worker takes 1. Less is faster.",
+        "100 batches of 1,000 updates, where one worker takes 1. Less is faster. Dot: the median. Line: from the least to the most.",
         len(rows),
-        40,
-        (0.6, 1.6, float),
+        170,
+        (tenths[0] / 10, tenths[-1] / 10, float),
     )
     picture.key(LEFT, BLUE, "two workers")
     picture.key(LEFT + 150, ORANGE, "four workers")
-    picture.axis([(tenths / 10, f"{tenths / 10:.1f}") for tenths in range(6, 17, 2)])
+    picture.text(WIDTH - 20, 60.5, "median (least, most)", size=12, anchor="end")
+    picture.axis([(tenth / 10, f"{tenth / 10:.1f}") for tenth in tenths])
     picture.line(picture.place(1), TOP - 12, picture.place(1), picture.bottom, INK, 1.5)
     for number, row in enumerate(rows):
         y = TOP + ROW * number + 10
         fill = BLUE if row["workers"] == "2" else ORANGE
-        least, most = float(row["least"]), float(row["most"])
-        picture.line(picture.place(least), y, picture.place(most), y, fill, 6)
-        picture.text(picture.place(least) - 10, y + 4.5, f"{least:.2f}", size=12, anchor="end", fill=fill)
-        picture.text(picture.place(most) + 10, y + 4.5, f"{most:.2f}", size=12, fill=fill)
+        median, least, most = (float(row[name]) for name in ("median", "least", "most"))
+        picture.line(picture.place(least), y, picture.place(most), y, fill, 3)
+        picture.dot(picture.place(median), y, fill)
+        picture.text(WIDTH - 20, y + 4.5, f"{median:.2f} ({least:.2f}, {most:.2f})", size=12, anchor="end", fill=fill)
         if number % 2 == 0:
             picture.text(LEFT - 14, y + ROW / 2 + 4.5, row["graph"], anchor="end")
     picture.save("workers.svg")
