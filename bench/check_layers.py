@@ -6,7 +6,8 @@
 crates.txt has the crates in groups, each under a line '## NAME: ..', lowest first. The table has the same groups with the same
 crates in the same order. Checked is that no crate stands before one that it stands on; that each root file begins with a `//!` head;
 that each crate which a head says to stand on is in its line of crates.txt; and that the names of the table's last column are found in
-the sources of their crate. What differs is printed, and the status is 1 then.
+the sources of their crate. The drawing of the layers has a line for each group of libraries and programs, with its crates; each arrow leads
+to a crate that one before it stands on. What differs is printed, and the status is 1 then.
 """
 import pathlib
 import re
@@ -89,9 +90,35 @@ def faults_of_table(groups, table):
                     yield f"docs/ARCHITECTURE.md: `{name}` is not found in {crate}"
 
 
+def lines_of_drawing():
+    """The lines of the drawing: the name of a group, and its chains of arrows, each a list of lists of crates."""
+    text = (TOP / "docs/ARCHITECTURE.md").read_text(encoding="utf-8")
+    drawing = re.search(r"^## The layers$.*?^```$(.*?)^```$", text, re.M | re.S).group(1)
+    for line in filter(str.strip, drawing.splitlines()):
+        name, *chains = re.split(r" {2,}", line.strip())
+        yield name, [[re.findall(r"\w+", link) for link in chain.split("->")] for chain in chains]
+
+
+def faults_of_drawing(groups):
+    below = {crate: lower for group in groups.values() for crate, lower in group.items()}
+    drawn = {}
+    for name, chains in lines_of_drawing():
+        for chain in chains:
+            for upper, lower in zip(chain, chain[1:]):
+                reached = {low for crate in upper for low in below.get(crate, [])}
+                yield from (f"the drawing: none of {', '.join(upper)} stands on {low}" for low in lower if low not in reached)
+                yield from (f"the drawing: {crate} stands on none of {', '.join(lower)}" for crate in upper if not set(lower) & set(below.get(crate, [])))
+        drawn[name] = {crate for chain in chains for link in chain for crate in link}
+        if name not in groups:
+            yield f"the drawing: there is no group {name}"
+    for name, crates in drawn.items():
+        yield from (f"the drawing: {crate} of {name} is missing" for crate in groups.get(name, {}) if crate.startswith("kc_") and crate not in crates)
+        yield from (f"the drawing: {crate} of {name} is no crate" for crate in crates if crate not in below)
+
+
 def main():
     groups, table = groups_of_crates(), groups_of_table()
-    faults = [*faults_of_order(groups), *faults_of_heads(groups), *faults_of_table(groups, table)]
+    faults = [*faults_of_order(groups), *faults_of_heads(groups), *faults_of_table(groups, table), *faults_of_drawing(groups)]
     for fault in faults:
         print(fault)
     print(f"{sum(map(len, groups.values()))} crates in {len(groups)} groups, {len(faults)} differ")
