@@ -6,7 +6,8 @@
 The pages are those of this checkout. The commands run in a new clone of it, or of COMMIT, in a temporary folder, with no `rt` on the path:
 so nothing is proved, and where dist/ does not fit the sources of the clone the status is 2. With --list nothing is run.
 
-- A block `sh`: each command ends with status 0. A block without a language right behind it has what the last command writes.
+- A block `sh`: each command ends with status 0. A block without a language right behind it has what the last command writes. Where the
+  comment behind a command ends with `writes TEXT`, that is the last line that it writes.
 - A block that begins with `$ `: each such line is a command, and the lines behind it are what it writes; `...` stands for any lines.
 - A table with the heads `Command` and `Its first two lines`: `|` stands for a tab in a line.
 - A block `python`: the statements of a page run one after another; where the comment behind an expression begins with a literal, that is
@@ -147,6 +148,12 @@ def commands_in(block):
     return found
 
 
+def last_line_of(command):
+    """What the comment behind a command says to be the last line that it writes, if it says so."""
+    told = re.search(r" # .*\bwrites (.+)$", command)
+    return told and ["...", told[1]]
+
+
 def talks_in(block):
     """The commands of a block that begins with `$ `, each with its line and the lines that it writes."""
     found = []
@@ -178,7 +185,7 @@ def tasks_of(text):
     tasks = rows_in(text)
     for block in blocks_of(text):
         if block.language == "sh":
-            tasks += [(place, command, None) for place, command in commands_in(block)]
+            tasks += [(place, command, last_line_of(command)) for place, command in commands_in(block)]
         elif not block.language and block.lines and block.lines[0].startswith("$ "):
             tasks += talks_in(block)
         elif not block.language and block.follows and tasks:
@@ -237,13 +244,11 @@ def run_task(place, task, counts):
         command = re.sub(pattern, shorter, command)
     status, written = place.run(["sh", "-c", command])
     counts.run += 1
-    if shown is None:
-        if status:
-            counts.faults.append((line, f"{command}: status {status}: {' / '.join(written[-3:])}"))
-        return
-    counts.compared += 1
-    if not is_shown(written, shown):
+    counts.compared += shown is not None
+    if shown is not None and not is_shown(written, shown):
         counts.faults.append((line, f"{command}: it writes {written[:12]}, and the page shows {shown}"))
+    elif shown is None and status:
+        counts.faults.append((line, f"{command}: status {status}: {' / '.join(written[-3:])}"))
 
 
 def run_statements(place, page, blocks, counts):
