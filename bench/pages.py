@@ -38,7 +38,7 @@ LEFT_OUT = [
     (r"^crates/(bench|stress)_\w+/out/", "runs what rt has built in the line before"),
     (r"axioms\.sh|check\.sh --build", "proves and builds anew"),
     (r"apt-get", "installs packages of the system"),
-    (r"^(~/\S+/)?pip install|-m build|-m venv", "dist/test.sh wheel does so in new environments"),
+    (r"^pip install|-m build", "installs into the Python at hand; what README and docs/PYTHON.md say of an environment is run"),
     (r"install\.sh /usr/local|pkg-config", "writes into the system; c/install.sh of another place is run, and dist/test.sh libkcore goes on from there"),
     (r"dist/test\.sh", "takes minutes, and takes the checkout apart"),
     (r"tail .*-f", "never ends; bench/watch.py follows a stream"),
