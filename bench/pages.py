@@ -12,6 +12,7 @@ so nothing is proved, and where dist/ does not fit the sources of the clone the 
 - A table with the heads `Command` and `Its first two lines`: `|` stands for a tab in a line.
 - A block `python`: the statements of a page run one after another; where the comment behind an expression begins with a literal, that is
   its value.
+- The blocks `c` of a page, each inside the one before, are compiled, linked and run.
 - A command in the running text: the script that it names is there.
 
 LEFT_OUT has what is not run, each with the reason, and SHORTER what is run with fewer cases. The status is 1 where a command fails or
@@ -265,6 +266,18 @@ def run_statements(place, page, blocks, counts):
             counts.faults.append((int(where), what))
 
 
+def run_c(place, blocks, counts):
+    lines = ["#include <stdlib.h>", '#include "kcore.h"', "int main(void)"]
+    for block in blocks:
+        lines += ["{", *block.lines]
+    lines += ["return 0;", "}" * len(blocks)]
+    command = "cc -std=c11 -O1 -Wall -Iinclude -xc - -xnone build/libkcore.a -o build/page && build/page"
+    status, written = place.run(["sh", "-c", command], "\n".join(lines) + "\n")
+    counts.run += len(blocks)
+    if status:
+        counts.faults.append((blocks[0].place, f"the C of the page: status {status}: {' / '.join(written[-3:])}"))
+
+
 def lost_scripts(text):
     """Scripts that commands in the running text name and that are not there."""
     for line, words in enumerate(text.splitlines(), 1):
@@ -286,6 +299,9 @@ def read_page(page, place, counts):
             run_task(place, task, counts)
         else:
             print(f"{page}:{task[0]}: {task[1]}")
+    blocks = [block for block in blocks_of(text) if block.language == "c"]
+    if place and blocks:
+        run_c(place, blocks, counts)
     blocks = [block for block in blocks_of(text) if block.language == "python"]
     told = [(block, reason_of("\n".join(block.lines))) for block in blocks]
     counts.left_out += [(block.place, "a block of Python", reason) for block, reason in told if reason]
