@@ -259,7 +259,7 @@ def parts_of(text, name):
 
 def faults_of_page(text):
     """Names of the page that the sources lack, and links and files of commands that lead nowhere."""
-    _, faults = check_map.faults_of_page(PAGE, *check_map.words_of_sources())
+    _, faults = check_map.faults_of_page(PAGE, *check_map.words_of_sources(), check_map.files_there())
     links = re.findall(r"\]\(([^)#]+)[^)]*\)", text)
     files = re.findall(r"(?<![\w/.])(?:bench|dist|crates|docs|graphs|c|python)/[\w./-]*\w", text)
     faults += [f"docs/TRUST.md: no {it}" for it in links if not it.startswith("http") and not (PAGE.parent / it).exists()]
