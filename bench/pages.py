@@ -230,7 +230,7 @@ class Place:
         """Whether dist/ fits the sources. Then both programs are unpacked, and the library."""
         status, told = self.run(["sh", "-c", "sh dist/check.sh && ./cores --version && ./kcore < /dev/null && sh dist/library.sh"])
         if status:
-            print("\n".join(told))
+            print("\n".join(told) + "\npages.py: the programs are not at hand; --at COMMIT takes a commit whose dist/ fits its sources")
         return status == 0
 
 
