@@ -4,3 +4,8 @@ pub mod Rising
 pub mod Told
 pub mod Refuting
 pub mod Seidman
+pub mod StreamLines
+pub mod Swept
+pub mod HandedOn
+pub mod Counted
+pub mod Streamed

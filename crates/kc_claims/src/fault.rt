@@ -4,6 +4,7 @@ ghost use Rattle.kc_claims.specs.Certificates.{id_of};
 
 use crate::claim::Claim;
 use kc_graph::NoMemory;
+use kc_io::Failed;
 use kc_text::Refusal;
 
 /// Why a text gives no claims.
@@ -73,5 +74,39 @@ impl From<NoMemory> for CheckFault {
 
     fn from(_: NoMemory) -> CheckFault {
         CheckFault::NoMemory
+    }
+}
+
+/// Why a sweep over a stream tells nothing.
+#[derive(Clone, Copy, Debug, PartialEq, Eq)]
+pub enum Unswept {
+    /// The stream is not one of edges that ascend between ids that are claimed, or not all of these are named in it. So a graph has to be
+    /// made of it to tell more.
+    Unfit,
+    /// The source failed.
+    ReadFault,
+    /// There is no memory for the counts.
+    NoMemory,
+}
+
+impl From<NoMemory> for Unswept {
+    ghost use Rattle.std.specs.Prelude.{◌≡◌};
+    ghost use Rattle.kc_claims.specs.declared.fault.Unswept.{Unswept};
+
+    ghost from_gives = { λ _ fault. fault ≡ Unswept.NoMemory };
+
+    fn from(_: NoMemory) -> Unswept {
+        Unswept::NoMemory
+    }
+}
+
+impl From<Failed> for Unswept {
+    ghost use Rattle.std.specs.Prelude.{◌≡◌};
+    ghost use Rattle.kc_claims.specs.declared.fault.Unswept.{Unswept};
+
+    ghost from_gives = { λ _ fault. fault ≡ Unswept.ReadFault };
+
+    fn from(_: Failed) -> Unswept {
+        Unswept::ReadFault
     }
 }

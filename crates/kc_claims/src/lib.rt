@@ -13,8 +13,13 @@ mod checking;
 mod claim;
 mod claim_line;
 mod counting;
+mod edge_line;
 mod fault;
+mod feeding;
+mod places;
 mod reading;
+mod stream;
+mod sweep;
 mod taking;
 
 ghost use Rattle.std.specs.Prelude.{◌≡◌, ℕ, List, length};
@@ -26,8 +31,9 @@ ghost use Rattle.kc_claims.specs.declared.fault.ClaimFault.{ClaimFault};
 
 pub use checking::check_claims;
 pub use claim::Claim;
-pub use fault::{CheckFault, ClaimFault, TextFault};
+pub use fault::{CheckFault, ClaimFault, TextFault, Unswept};
 pub use reading::claims_of;
+pub use stream::check_stream;
 
 /// A certificate has no fault. So where a check finds one, the claims are none.
 pub fn a_certificate_has_no_fault()

@@ -27,7 +27,7 @@ pub(crate) struct Taken {
 }
 
 /// The vertex that stands for an id, if it is one of these.
-fn vertex_of(ids: &[u32], id: u32) -> Option<usize>
+pub(crate) fn vertex_of(ids: &[u32], id: u32) -> Option<usize>
     requires { IsStrictlyIncreasing ids.now }
     ensures found { IfSome result (λ v. (v < length ids.now) × (at ids.now v ≡ id)) }
     ensures none { is_none result ≡ true → member id ids.now ≡ false }

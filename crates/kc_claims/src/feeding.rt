@@ -1,0 +1,127 @@
+//! Hands on the lines of a source in pieces, so that its text is never held.
+ghost use Rattle.std.specs.Prelude.{◌≡◌, ◌<◌, ◌++◌, ℕ, List, [], IfOk, OnOk, length};
+ghost use Rattle.std.specs.Io.KnownBytes.{Consumes, IsAtEnd};
+ghost use Rattle.kc_text.specs.Lines.{EndsLine};
+ghost use Rattle.kc_text.specs.declared.limits.TheConstants.Limits.{GRAPH};
+ghost use Rattle.kc_claims.specs.Feeding.{HasFed, IsFedWith};
+
+use crate::fault::Unswept;
+use kc_io::source::Source;
+use kc_stream::ended_len;
+use kc_text::Limits;
+use std::alloc::Global;
+
+/// The most bytes that are asked for at once.
+const PIECE_BYTES: usize = 65_536;
+
+/// What takes the lines of a text, one piece of the text after another.
+pub(crate) trait TakesLines {
+    /// That one who began as the first has taken these bytes, and is the second now.
+    ghost taken: { Self → Self → List ℕ → Type 0 };
+
+    /// Takes more bytes, where those before end with a line. After an error it is of no more use.
+    fn take_lines(&mut self, lines: &[u8]) -> Result<(), Unswept>
+        requires { (start : Self) × (before : List ℕ) × taken start self.old before }
+        ensures { OnOk result ((start : Self) (before : List ℕ) → EndsLine before → taken start self.old before
+            → taken start self.new (before ++ lines.now)) };
+}
+
+/// Hands on bytes that are none or end with a line, behind those that are carried.
+fn take_whole<T: TakesLines>(
+    carry: &mut Vec<u8>,
+    whole: &[u8],
+    taker: &mut T,
+) -> Result<(), Unswept>
+    requires ended { EndsLine whole.now }
+    requires fed { (start : T) × (text : List ℕ) × HasFed T.taken start taker.old carry.old.items text }
+    ensures fed { OnOk result ((start : T) (text : List ℕ) → HasFed T.taken start taker.old carry.old.items text
+        → HasFed T.taken start taker.new carry.new.items (text ++ whole.now)) }
+{
+    if whole.is_empty() {
+        return Ok(());
+    }
+    if carry.is_empty() {
+        taker.take_lines(whole)?;
+        return Ok(());
+    }
+    carry.extend_from_slice(whole)?;
+    taker.take_lines(carry)?;
+    carry.clear();
+    Ok(())
+}
+
+/// Hands on the lines that end in a piece, and carries the rest.
+fn take_piece<T: TakesLines>(
+    carry: &mut Vec<u8>,
+    piece: &[u8],
+    taker: &mut T,
+) -> Result<(), Unswept>
+    requires fed { (start : T) × (text : List ℕ) × HasFed T.taken start taker.old carry.old.items text }
+    ensures fed { OnOk result ((start : T) (text : List ℕ) → HasFed T.taken start taker.old carry.old.items text
+        → HasFed T.taken start taker.new carry.new.items (text ++ piece.now)) }
+{
+    let (whole, rest) = piece.split_at(ended_len(piece));
+    take_whole(carry, whole, taker)?;
+    carry.extend_from_slice(rest)?;
+    Ok(())
+}
+
+/// Reads the next bytes of the source into `room`, and hands them on. Gives their number; 0 is the end of the source.
+fn feed_next<S: Source, T: TakesLines>(
+    source: &mut S,
+    room: &mut [u8],
+    carry: &mut Vec<u8>,
+    taker: &mut T,
+) -> Result<usize, Unswept>
+    requires room { 0 < length room.old }
+    requires fed { (start : T) × (text : List ℕ) × HasFed T.taken start taker.old carry.old.items text }
+    ensures given { IfOk result (λ n. (given : List ℕ) × Consumes (S.left source.old) (S.left source.new) given × (length given ≡ n)
+        × ((start : T) (text : List ℕ) → HasFed T.taken start taker.old carry.old.items text
+        → HasFed T.taken start taker.new carry.new.items (text ++ given))) }
+    ensures ended { IfOk result (λ n. n ≡ 0 → IsAtEnd (S.left source.new)) }
+{
+    let n = source.read(room)?;
+    take_piece(carry, &room[..n], taker)?;
+    Ok(n)
+}
+
+/// Hands on all lines of a source, in pieces that fill the room or less.
+fn feed_pieces<S: Source, T: TakesLines>(
+    source: &mut S,
+    room: &mut [u8],
+    carry: &mut Vec<u8>,
+    taker: &mut T,
+) -> Result<(), Unswept>
+    requires room { 0 < length room.old }
+    requires none { carry.old.items ≡ [] }
+    requires fresh { T.taken taker.old taker.old [] }
+    ensures fed { OnOk result (IsFedWith T.taken taker.old taker.new (S.left source.old) GRAPH.bytes) }
+{
+    let mut left = Limits::GRAPH.bytes;
+    loop {
+        let n = feed_next(source, room, carry, taker)?;
+        if left < n {
+            return Err(Unswept::Unfit);
+        }
+        if n == 0 {
+            taker.take_lines(carry)?;
+            return Ok(());
+        }
+        left -= n;
+    }
+}
+
+/// Hands on all lines of a source. They may be as long as the text of a graph.
+pub(crate) fn feed_all<S: Source, T: TakesLines>(
+    alloc: Global,
+    source: &mut S,
+    taker: &mut T,
+) -> Result<(), Unswept>
+    requires { T.taken taker.old taker.old [] }
+    ensures { OnOk result (IsFedWith T.taken taker.old taker.new (S.left source.old) GRAPH.bytes) }
+{
+    let mut room = vec![in alloc; 0u8; PIECE_BYTES]?;
+    let mut carry = Vec::new(alloc);
+    feed_pieces(source, &mut room, &mut carry, taker)?;
+    Ok(())
+}

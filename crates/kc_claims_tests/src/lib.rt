@@ -1,0 +1,7 @@
+//! Tests of `kc_claims`: what a sweep over a stream of edges tells of claims, and which streams and claims it does not judge.
+//!
+//! The crate has no code but its tests. They stand apart from that crate, whose own functions would be proved once more beside them.
+#![tactic(auto)]
+
+#[cfg(test)]
+mod streams;
