@@ -5,8 +5,11 @@
 //! number, and at least as many whose number is no less. It tells the first fault where they are none. `specs/Claims.antt` says what
 //! lines claim, and `specs/Certificates.antt` when claims are a certificate and what the first fault is.
 //!
-//! Claims that are a certificate tell the core numbers (Seidman 1983), whatever their ranks. The laws below have no code. The crate stands
-//! on `kc_text` for lines, fields and numbers, on `kc_flat` and `kc_graph` for graphs, and on `kc_tally` for keys.
+//! Claims that are a certificate tell the core numbers (Seidman 1983), whatever their ranks. The laws below have no code. [`check_stream`]
+//! tells the same of a graph whose edges come in ascending order from a source, and makes no graph.
+//!
+//! The crate stands on `kc_text` for lines, fields and numbers, on `kc_flat` and `kc_graph` for graphs, on `kc_tally` for keys and counts, on
+//! `kc_io` for sources, and on `kc_stream` for where the last line of a piece ends.
 #![tactic(auto)]
 
 mod checking;

@@ -135,7 +135,7 @@ fn first_miscount_of(
 }
 
 /// Whether claims are a certificate of the core numbers of the graph that the bytes of a source mean. The graph is not made: each of its
-/// edges is counted as it comes. So it takes 21 bytes a vertex and a buffer beside the claims, and 45 for a while before the first edge.
+/// edges is counted as it comes. So it takes 24 bytes a vertex and a buffer beside the claims, and 45 for a while before the first edge.
 ///
 /// Each edge is to have one line, the lesser id first, and each line is to be above the one before it, by its first id and then by its second.
 /// There may be comments. Where they are no certificate it gives the first fault, as `check_claims` does for the graph.
