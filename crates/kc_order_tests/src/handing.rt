@@ -1,7 +1,7 @@
 //! One thread puts and hands over what it has seen, and another compares.
 ghost use Rattle.std.specs.Prelude.{◌≡◌, ◌<◌, ◌≤◌};
 
-use crate::lists::{plain, put_after_0};
+use crate::lists::{opened, put_after_0};
 use kc_order::{Answer, SharedOrder, Writer};
 use kc_table::{Name, Pass, Words, meet, split};
 use std::alloc::Global;
@@ -9,7 +9,6 @@ use std::collections::VecDeque;
 use std::marker::{Brand, PhantomData};
 use std::process::Abort;
 use std::sync::{Mutex, Wait};
-use std::test::Fail;
 use std::thread;
 use std::thread::Threads;
 
@@ -134,10 +133,7 @@ fn put_and_meet<K: Name + Send + Sync, R: Threads + Wait + Abort + Sync>(
 }
 
 #[test]
-fn an_item_of_which_a_thread_was_told_is_never_absent_and_never_turned(
-    rt: HostRuntime,
-) -> Result<(), Fail> {
-    let (words, writer, pass) = Writer::open(rt.alloc(), plain(PUTS + 1), &[0], &[])?;
+fn an_item_of_which_a_thread_was_told_is_never_absent_and_never_turned(rt: HostRuntime) {
+    let (words, writer, pass) = opened(&rt, PUTS + 1, &[0]);
     put_and_meet::<Brand, _>(&rt, rt.alloc(), words, writer, pass);
-    Ok(())
 }

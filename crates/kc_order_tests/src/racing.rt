@@ -1,13 +1,12 @@
 //! One thread puts and takes without a pause, through splits and new labels of all groups, and another compares meanwhile.
 ghost use Rattle.std.specs.Prelude.{◌≡◌, ◌<◌, ◌≤◌, ◌+◌, ◌*◌};
 
-use crate::lists::{ask, plain, put_after_0, take};
+use crate::lists::{ask, opened, put_after_0, take};
 use kc_order::{Answer, SharedOrder, Writer};
 use kc_table::{Name, Pass, Words, meet, split};
 use std::marker::{Brand, PhantomData};
 use std::process::Abort;
 use std::sync::{Mutex, Wait};
-use std::test::Fail;
 use std::thread;
 use std::thread::Threads;
 
@@ -183,7 +182,7 @@ fn compare_at_rest<K: Name, R: Abort>(
     requires items { 2 * ROUNDS < K.opened.table.shape.items }
     requires round { told.round ≤ ROUNDS }
 {
-    assert_eq!(rt; told.round, ROUNDS);
+    assert!(rt; told.round == ROUNDS);
     told.sure = 0;
     told.compare(rt, shared, &mut pass);
     assert_eq!(rt; told.sure, 4);
@@ -213,8 +212,7 @@ fn race<K: Name + Send + Sync, R: Threads + Wait + Abort + Sync>(
 }
 
 #[test]
-fn sure_answers_beneath_puts_and_takes_are_right(rt: HostRuntime) -> Result<(), Fail> {
-    let (words, writer, pass) = Writer::open(rt.alloc(), plain(2 * ROUNDS + 3), &[0], &[])?;
+fn sure_answers_beneath_puts_and_takes_are_right(rt: HostRuntime) {
+    let (words, writer, pass) = opened(&rt, 2 * ROUNDS + 3, &[0]);
     race::<Brand, _>(&rt, words, writer, pass);
-    Ok(())
 }
