@@ -1,7 +1,7 @@
 -- The indices so far are those of the batch.
 use Rattle.std.proofs.Common.{ℕ, ◌<◌, ◌≤◌, get_or}
 use Rattle.kc_batch_effects.specs.declared.outcome.Outcome.{Outcome}
-use Rattle.kc_batch_effects_tests.proofs.counts.counted.Given as goal
+use Rattle.kc_levels_tests.proofs.counts.counted.Given as goal
 
 abbrev pub invariant-loop-outcome : goal.invariant-loop-outcome
 invariant-loop-outcome g l =
