@@ -8,7 +8,7 @@ A sender writes a piece of a random stream, waits for just the answer that the m
 next piece. An answer that does not come within the time, that is wrong or that comes before its bytes were sent is told, with the stream;
 the status is then 1. Short streams are cut at each byte. The streams name new ids in late batches, and some have a line that is refused:
 then the program has to end by itself, with status 3 and the line that tells the refusal, though the pipe stays open. Each stream also ends
-without a last newline. At the end it tries a reader that goes away (`| head -1`), a folder as standard input, and /dev/full.
+without a last newline. Half of them are watched with `--show changes`, and a third with `--enter K`. At the end it tries a reader that goes away (`| head -1`), a folder as standard input, and /dev/full.
 """
 import argparse
 import os
@@ -34,10 +34,31 @@ SENTENCES = {
 }
 
 
+class Options:
+    """What is asked for behind the line of a batch."""
+
+    def __init__(self, changes=False, enter=None):
+        self.changes, self.enter = changes, enter
+
+    def words(self):
+        return ["--show", "changes"] * self.changes + (["--enter", str(self.enter)] if self.enter is not None else [])
+
+    def lines(self, before, after):
+        """The lines about the ids whose core numbers change; both are core numbers by id."""
+        changed = sorted(id for id in after if before.get(id) != after[id])
+        lines = [f"{id} {before.get(id, '-')} {after[id]}" for id in changed] if self.changes else []
+        return lines + ([line for id in changed for line in self.crossing(id, before.get(id, -1), after[id])] if self.enter is not None else [])
+
+    def crossing(self, id, before, after):
+        was, now = before >= self.enter, after >= self.enter
+        return [f"{'enter' if now else 'leave'} {id}"] if was != now else []
+
+
 class Model:
     """What a stream is answered, line by line."""
 
-    def __init__(self):
+    def __init__(self, options):
+        self.options, self.cores = options, {}
         self.reader, self.edges, self.text, self.begun, self.lines, self.refusal = fuzz.Reader(), set(), b"", b"", 0, None
 
     def feed(self, piece):
@@ -66,23 +87,29 @@ class Model:
 
     def end_part(self, number):
         """Ends the start, or the batch of this number from 1."""
+        before = self.cores
         if number == 0:
             self.edges = set(self.reader.edges)
-            line = f"graph vertices {len(self.reader.ids)} edges {len(self.edges)} top {self.top()}"
+            self.count_cores()
+            lines = [f"graph vertices {len(self.reader.ids)} edges {len(self.edges)} top {self.top()}"]
         else:
-            line = self.end_batch(number, self.reader.batches[number - 1])
-        self.text += line.encode() + b"\n"
+            lines = [self.end_batch(number, self.reader.batches[number - 1])] + self.options.lines(before, self.cores)
+        self.text += b"".join(line.encode() + b"\n" for line in lines)
+
+    def count_cores(self):
+        self.cores = {id: 0 for id in self.reader.ids} | differ.core_numbers(sorted(self.reader.ids), self.edges)
 
     def end_batch(self, number, lines):
         deciding = dict(lines)
         added = {pair for pair, sign in deciding.items() if sign and pair not in self.edges}
         gone = {pair for pair, sign in deciding.items() if not sign and pair in self.edges}
         self.edges = (self.edges | added) - gone
+        self.count_cores()
         counts = (len(added), len(gone), len(deciding) - len(added) - len(gone), len(lines) - len(deciding))
         return fuzz.batch_line(number, counts, len(self.edges), self.top())
 
     def top(self):
-        return max(differ.core_numbers(sorted(self.reader.ids), self.edges).values(), default=0)
+        return max(self.cores.values(), default=0)
 
 
 # Streams.
@@ -134,8 +161,8 @@ class Wrong(Exception):
 class Talk:
     """A run of the program, to which is written while its answers are read."""
 
-    def __init__(self, program, seconds):
-        self.process = subprocess.Popen([program, "watch"], stdin=subprocess.PIPE, stdout=subprocess.PIPE, stderr=subprocess.PIPE, bufsize=0)
+    def __init__(self, program, seconds, words=()):
+        self.process = subprocess.Popen([program, "watch", *words], stdin=subprocess.PIPE, stdout=subprocess.PIPE, stderr=subprocess.PIPE, bufsize=0)
         self.seconds, self.got, self.open = seconds, b"", True
 
     def send(self, piece):
@@ -174,9 +201,9 @@ class Talk:
             stream.close()
 
 
-def converse(program, pieces, seconds):
+def converse(program, options, pieces, seconds):
     """Sends the pieces one by one, each after the answer to those before."""
-    model, talk = Model(), Talk(program, seconds)
+    model, talk = Model(options), Talk(program, seconds, options.words())
     try:
         for piece in pieces:
             talk.send(piece)
@@ -241,13 +268,15 @@ CASES = (
 
 def cases_of(seed, count):
     """Each stream above cut at each byte, and then random ones."""
-    for data in CASES:
-        yield [data[at:at + 1] for at in range(len(data))]
-        for at in range(len(data) + 1):
-            yield [piece for piece in (data[:at], data[at:]) if piece]
+    for options in (Options(), Options(True), Options(True, 1)):
+        for data in CASES:
+            yield options, [data[at:at + 1] for at in range(len(data))]
+            for at in range(len(data) + 1):
+                yield options, [piece for piece in (data[:at], data[at:]) if piece]
     for number in range(count):
         rng = random.Random(f"{seed} {number}")
-        yield pieces_of(rng, random_stream(rng))
+        options = Options(rng.random() < 0.5, rng.choice((None, None, 0, 1, 2, 3)))
+        yield options, pieces_of(rng, random_stream(rng))
 
 
 def main():
@@ -258,11 +287,11 @@ def main():
     parser.add_argument("--seconds", type=float, default=10, help="how long an answer may take")
     given = parser.parse_args()
     number, answers = 0, 0
-    for number, pieces in enumerate(cases_of(given.seed, given.cases), 1):
+    for number, (options, pieces) in enumerate(cases_of(given.seed, given.cases), 1):
         try:
-            converse(given.cores, pieces, given.seconds)
+            converse(given.cores, options, pieces, given.seconds)
         except Wrong as wrong:
-            print(f"case {number}: {wrong}\npieces: {pieces!r}")
+            print(f"case {number}: {wrong}\nwords: {options.words()}\npieces: {pieces!r}")
             return 1
         answers += len(pieces)
     try:

@@ -13,6 +13,7 @@ use Rattle.kc_cores.specs.Endings.{HasNoVerdict, HasSaid, NoClaimsAt, NoFileGrap
 use Rattle.kc_cores.specs.Inputs.{known_bytes}
 use Rattle.kc_cores.specs.Sentences.{no_memory_line, write_fault_line}
 use Rattle.kc_cores.specs.Verdicts.{no_line, yes_line}
+use Rattle.kc_watch.specs.declared.options.WatchOptions.{WatchOptions}
 use Rattle.kc_cores.specs.WatchEnded.{WatchEnded}
 use Rattle.kc_cores.specs.Wishes.{Asks, Checks, GraphText, Query, Watches, Wish}
 use Rattle.kc_cores.specs.declared.CoresStatus.{CoresStatus}
@@ -170,7 +171,7 @@ module _ {I C O : Type 0} (source : sources.Ghosts I) (behind : I → List ℕ �
                 (subst (λ (x : GraphText). CheckEnded source behind kept beside out name x end line i i' c c' o o') q h),
             stays,
           );
-      watch = λ e. absurd (cc);
+      watch = λ options e. absurd (cc);
       other = λ none _. absurd (none name graph is);
     }
 
@@ -178,10 +179,12 @@ module _ {I C O : Type 0} (source : sources.Ghosts I) (behind : I → List ℕ �
     pub EndsAsAsked-watch : (wish : Wish) (end : CoresStatus) (line : List ℕ) (i i' : I) (c c' : C) (o o' : O) (l l' : L)
         → wish ≡ Watches → WatchEnded wire end line l l' → i' ≡ i → c' ≡ c → o' ≡ o
         → EndsAsAsked source behind kept beside out gone wire wish end line i i' c c' o o' l l'
-    EndsAsAsked-watch wish end line i i' c c' o o' l l' is h one two three = record {
+    EndsAsAsked-watch wish options end line i i' c c' o o' l l' is h one two three = record {
       check = λ n f e. absurd (cc);
-      watch = λ _. (h, one, two, three);
-      other = λ _ none. absurd (none is);
+      watch = λ asked e.
+          let p : options ≡ asked = cc in
+          (subst (λ (x : WatchOptions). WatchEnded wire x end line l l') p h, one, two, three);
+      other = λ _ none. absurd (none options is);
     }
 
     -- a run that is a reply to its words has ended as it should
@@ -191,7 +194,7 @@ module _ {I C O : Type 0} (source : sources.Ghosts I) (behind : I → List ℕ �
         → EndsAsAsked source behind kept beside out gone wire wish end line i i' c c' o o' l l'
     EndsAsAsked-reply wish r end line i i' c c' o o' l l' replies h same stays memory = record {
       check = λ name graph e. (go r name graph (subst (RepliesTo r) e replies) memory, stays);
-      watch = λ e. stream r (subst (RepliesTo r) e replies) memory;
+      watch = λ options e. stream r options (subst (RepliesTo r) e replies) memory;
       other = λ _ _. (h, same, stays);
     }
       where
@@ -204,11 +207,11 @@ module _ {I C O : Type 0} (source : sources.Ghosts I) (behind : I → List ℕ �
             let (is, told, one, three) = memory refl in
             no_words name graph end line i i' c c' o o' is told one same three
 
-        stream : (r : Reply) → RepliesTo r Watches
+        stream : (r : Reply) (options : WatchOptions) → RepliesTo r (Watches options)
             → (r ≡ reply.NoMemory → (end ≡ status.NoMemory) × (line ≡ no_memory_line) × (i' ≡ i) × (o' ≡ o))
-            → WatchEnded wire end line l l' × (i' ≡ i) × (c' ≡ c) × (o' ≡ o)
-        stream (reply.Asked text) replies memory = absurd replies
-        stream (reply.Mistake text) replies memory = absurd replies
-        stream reply.NoMemory replies memory =
+            → WatchEnded wire options end line l l' × (i' ≡ i) × (c' ≡ c) × (o' ≡ o)
+        stream (reply.Asked text) options replies memory = absurd replies
+        stream (reply.Mistake text) options replies memory = absurd replies
+        stream reply.NoMemory options replies memory =
             let (is, told, one, three) = memory refl in
-            (WatchEnded-nothing wire end line l l' is told stays, one, same, three)
+            (WatchEnded-nothing wire options end line l l' is told stays, one, same, three)

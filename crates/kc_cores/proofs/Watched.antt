@@ -8,6 +8,7 @@ use Rattle.kc_dialogue.specs.declared.end.DialogueEnd.TheVariants as dialogue
 use Rattle.kc_dialogue.proofs.Cuts.{TellsMore-nothing}
 use Rattle.kc_dialogue.proofs.Turning.{IsDialogue-nothing}
 use Rattle.kc_watch.specs.Text.{reply}
+use Rattle.kc_watch.specs.declared.options.WatchOptions.{WatchOptions}
 use Rattle.kc_cores.specs.Sentences.{no_memory_line}
 use Rattle.kc_cores.specs.WatchEnded.{HasEndedBy, HasEndedSo, WatchEnded}
 use Rattle.kc_cores.specs.declared.CoresStatus.{CoresStatus}
@@ -26,13 +27,13 @@ HasEndedSo-is dialogue.WriteFault found so_far at_end end line one two h = h
 HasEndedSo-is dialogue.NoMemory found so_far at_end end line one two h = h
 
 -- nothing was read, as there was no memory
-pub WatchEnded-nothing : {L : Type 0} (wire : wires.Ghosts L) (end : CoresStatus) (line : List ℕ) (l l' : L) → end ≡ status.NoMemory
-    → line ≡ no_memory_line → l' ≡ l → WatchEnded wire end line l l'
-WatchEnded-nothing {L = L} wire end line l l' is told stays = record {
+pub WatchEnded-nothing : {L : Type 0} (wire : wires.Ghosts L) (options : WatchOptions) (end : CoresStatus) (line : List ℕ) (l l' : L) → end ≡ status.NoMemory
+    → line ≡ no_memory_line → l' ≡ l → WatchEnded wire options end line l l'
+WatchEnded-nothing {L = L} wire options end line l l' is told stays = record {
   events = [];
   how = dialogue.NoMemory;
   happened = subst (λ (x : L). TellsMore (wire.history l) (wire.history x) []) (sym stays) (TellsMore-nothing (wire.history l));
-  answered = record { dialogue = IsDialogue-nothing reply; written = (reply [], refl) };
+  answered = record { dialogue = IsDialogue-nothing (reply options); written = (reply options [], refl) };
   ended = (is, told);
   faults = ap wire.faults stays;
 }

@@ -21,6 +21,7 @@ use Rattle.kc_cores.specs.CoresEnded.{CoresEnded, IsUnopenedLine, WriteFaultsAt}
 use Rattle.kc_cores.specs.Inputs.{IsGraphOf, known_bytes}
 use Rattle.kc_cores.specs.Sentences.{no_memory_line, read_fault_line, refused_line, write_fault_line}
 use Rattle.kc_cores.specs.Verdicts.{claim_refused_line, fault_line, no_line, yes_line}
+use Rattle.kc_watch.specs.declared.options.WatchOptions.{WatchOptions}
 use Rattle.kc_cores.specs.WatchEnded.{WatchEnded}
 use Rattle.kc_cores.specs.Wishes.{Checks, GraphText, Watches, Wish}
 use Rattle.kc_cores.specs.declared.CoresStatus.{CoresStatus}
@@ -105,6 +106,6 @@ pub record EndsAsAsked {I C O L : Type 0} (source : sources.Ghosts I) (behind : 
     (told : List ℕ) (i i' : I) (c c' : C) (o o' : O) (l l' : L) : Type 0 where
   pub check : (name : List ℕ) (graph : GraphText) → wish ≡ Checks name graph
       → CheckEnded source behind kept beside out name graph end told i i' c c' o o' × (l' ≡ l)
-  pub watch : wish ≡ Watches → WatchEnded wire end told l l' × (i' ≡ i) × (c' ≡ c) × (o' ≡ o)
-  pub other : ((name : List ℕ) (graph : GraphText) → wish ≡ Checks name graph → ⊥) → (wish ≡ Watches → ⊥)
+  pub watch : (options : WatchOptions) → wish ≡ Watches options → WatchEnded wire options end told l l' × (i' ≡ i) × (c' ≡ c) × (o' ≡ o)
+  pub other : ((name : List ℕ) (graph : GraphText) → wish ≡ Checks name graph → ⊥) → ((options : WatchOptions) → wish ≡ Watches options → ⊥)
       → CoresEnded source behind out gone wish end told i i' o o' × (c' ≡ c) × (l' ≡ l)

@@ -21,14 +21,14 @@ use Rattle.kc_cores.specs.declared.input.FileFault.{FileFault}
 abbrev pub given_bytes : {I : Type 0} → (I → Option (List ℕ)) → (I → List ℕ → Option (List ℕ)) → Wish → I → Option (List ℕ)
 given_bytes left behind (Asks query) i = known_bytes left behind query.graph.file i
 given_bytes left behind (Checks name graph) i = None
-given_bytes left behind Watches i = None
+given_bytes left behind (Watches options) i = None
 given_bytes left behind (Replies kinds) i = None
 
 -- the lines and the summary of what was read, which is all of the input where it is known
 abbrev pub IsAnswerTo : Wish → Option (List ℕ) → List ℕ → List ℕ → Type 0
 IsAnswerTo (Asks query) known text summary = (bytes : List ℕ) × IfSome known (λ all. bytes ≡ all) × IsTextFor query bytes text summary
 IsAnswerTo (Checks name graph) known text summary = ⊥
-IsAnswerTo Watches known text summary = ⊥
+IsAnswerTo (Watches options) known text summary = ⊥
 IsAnswerTo (Replies kinds) known text summary = ⊥
 
 -- all of a text was taken, with this fact about it
@@ -43,7 +43,7 @@ TookPrefix P before after = (text : List ℕ) × P text × ((n : ℕ) × (n ≤ 
 abbrev pub IsOutputFor : Wish → Option (List ℕ) → List ℕ → Type 0
 IsOutputFor (Asks query) known text = (summary : List ℕ) × IsAnswerTo (Asks query) known text summary
 IsOutputFor (Checks name graph) known text = ⊥
-IsOutputFor Watches known text = ⊥
+IsOutputFor (Watches options) known text = ⊥
 IsOutputFor (Replies kinds) known text = MayReply true (Replies kinds)
 
 -- what the sink of the lines took at each status

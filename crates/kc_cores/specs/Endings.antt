@@ -159,4 +159,4 @@ query_of request = record { task = request.task; graph = text_of request.graph; 
 abbrev pub IsRequestFor : Wanted → Wish → Type 0
 IsRequestFor (wanted.Lines request) wish = wish ≡ Asks (query_of request)
 IsRequestFor (wanted.Check request) wish = wish ≡ Checks request.certificate.now (text_of request.graph)
-IsRequestFor wanted.Watch wish = wish ≡ Watches
+IsRequestFor (wanted.Watch options) wish = wish ≡ Watches options

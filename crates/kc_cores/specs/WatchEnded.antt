@@ -8,6 +8,7 @@ use Rattle.kc_dialogue.specs.declared.end.DialogueEnd.TheVariants as dialogue
 use Rattle.kc_text.specs.declared.refusal.Refusal.{Refusal}
 use Rattle.kc_stream.specs.Hearing.{heard_at_end, heard_so_far}
 use Rattle.kc_watch.specs.Text.{reply, reply_at_end}
+use Rattle.kc_watch.specs.declared.options.WatchOptions.{WatchOptions}
 use Rattle.kc_cores.specs.Sentences.{no_memory_line, read_fault_line, stream_refused_line, write_fault_line}
 use Rattle.kc_cores.specs.declared.CoresStatus.{CoresStatus}
 use Rattle.kc_cores.specs.declared.CoresStatus.TheVariants as status
@@ -29,14 +30,14 @@ HasEndedSo dialogue.ReaderGone so_far at_end end told = (end ≡ status.ReaderGo
 HasEndedSo dialogue.WriteFault so_far at_end end told = (end ≡ status.WriteFault) × (told ≡ write_fault_line)
 HasEndedSo dialogue.NoMemory so_far at_end end told = (end ≡ status.NoMemory) × (told ≡ no_memory_line)
 
--- A run has ended that answers the stream of a wire: a dialogue was held on it, and ended as `how` tells. `told` is the line about the run.
--- `l` is the wire before, and `l'` after, and `wire` says what is known of it.
-pub record WatchEnded {L : Type 0} (wire : wires.Ghosts L) (end : CoresStatus) (told : List ℕ) (l l' : L) : Type 0 where
+-- A run has ended that answers the stream of a wire with what the options ask for: a dialogue was held on it, and ended as `how` tells. `told`
+-- is the line about the run. `l` is the wire before, and `l'` after, and `wire` says what is known of it.
+pub record WatchEnded {L : Type 0} (wire : wires.Ghosts L) (options : WatchOptions) (end : CoresStatus) (told : List ℕ) (l l' : L) : Type 0 where
   pub events : List WireEvent
   pub how : DialogueEnd
   -- Each answer was written as soon as its bytes were read, and none before.
   pub happened : TellsMore (wire.history l) (wire.history l') events
-  pub answered : HasAnswered reply reply_at_end events how
+  pub answered : HasAnswered (reply options) (reply_at_end options) events how
   -- The status and the line are those of the end of the dialogue.
   pub ended : HasEndedSo how (heard_so_far (read_in events)).refusal (heard_at_end (read_in events)).refusal end told
   -- One call has failed where the dialogue ended by it, and no other.

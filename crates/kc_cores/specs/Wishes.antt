@@ -19,6 +19,9 @@ use Rattle.kc_dialect.specs.declared.dialect.BadLines.TheVariants.{Skip, Stop}
 use Rattle.kc_dialect.specs.declared.dialect.Dialect.{Dialect}
 use Rattle.kc_dialect.specs.declared.dialect.Separator.{Separator}
 use Rattle.kc_dialect.specs.declared.dialect.Separator.TheVariants.{Blank, Comma, Semicolon, Tab}
+use Rattle.kc_changes.specs.declared.show.Show.{Show}
+use Rattle.kc_changes.specs.declared.show.Show.TheVariants.{Changes, Summary}
+use Rattle.kc_watch.specs.declared.options.WatchOptions.{WatchOptions}
 use Rattle.kc_cores.specs.declared.request.Task.{Task}
 use Rattle.kc_cores.specs.declared.request.Task.TheVariants.{Numbers, Sizes, Members, Edges, Layers, Order}
 
@@ -98,9 +101,17 @@ check_command = with_rule (with_dialect certificate_command) (new_rule (codes "F
 abbrev pub with_tasks : App
 with_tasks = with_subcommand (with_subcommand with_cores (task_command (codes "layers")).top) (task_command (codes "order")).top
 
+-- `--enter K`, with a number of 32 bits
+abbrev pub enter_option : Rule
+enter_option = record (value_option (codes "enter")) { parser = Some (Signed (pos 0) (pos 4294967295)) }
+
+-- the command that answers a stream, without its options
+abbrev pub stream_command : App
+stream_command = new_app (codes "watch")
+
 -- the command that answers a stream
 abbrev pub watch_command : App
-watch_command = new_app (codes "watch")
+watch_command = with_rule (with_rule stream_command (value_option (codes "show"))) enter_option
 
 -- the command that reads the words, with a command of its own for each task, for the check and for a stream
 abbrev pub cores_command : App
@@ -122,7 +133,7 @@ pub record Query : Type 0 where
 pub data Wish : Type 0 where
   Asks : Query → Wish
   Checks : Text → GraphText → Wish
-  Watches : Wish
+  Watches : WatchOptions → Wish
   Replies : Kinds → Wish
 
 -- whether a text has digits alone, at least one, and its number is one of 32 bits
@@ -276,9 +287,32 @@ wish_about name rows =
     if bytes_eq name (codes "check") then check_wish (first_of (codes "CERTIFICATE") rows) (text_in rows)
     else wish_for (task_in name rows) (text_in rows) (is_set (first_of (codes "quiet") rows))
 
+-- what is shown of core numbers, by this word
+abbrev pub show_of : Text → Option Show
+show_of text = if bytes_eq text (codes "summary") then Some Summary else if bytes_eq text (codes "changes") then Some Changes else None
+
+-- what is shown of core numbers: no more than the summary where nothing else is said
+abbrev pub show_in : Option Text → Option Show
+show_in None = Some Summary
+show_in (Some text) = show_of text
+
+-- what a stream is to be answered, where both parts are right
+abbrev pub options_of : Option Show → Option (Option ℕ) → Option WatchOptions
+options_of (Some show) (Some enter) = Some (record { show = show; enter = enter })
+options_of _ _ = None
+
+-- what a stream is to be answered, by the matches of the command
+abbrev pub options_in : List Row → Option WatchOptions
+options_in rows = options_of (show_in (first_of (codes "show") rows)) (level_in (first_of (codes "enter") rows))
+
+-- what the command `watch` asks for
+abbrev pub watch_wish : Option WatchOptions → Wish
+watch_wish None = Replies (ValueValidation ∷ [])
+watch_wish (Some options) = Watches options
+
 -- what a command of this name with these matches asks for
 abbrev pub wish_by : Text → List Row → Wish
-wish_by name rows = if bytes_eq name (codes "watch") then Watches else wish_about name rows
+wish_by name rows = if bytes_eq name (codes "watch") then watch_wish (options_in rows) else wish_about name rows
 
 -- what the command that was met asks for
 abbrev pub wish_in : Option (Text × List Row) → Wish
@@ -299,5 +333,5 @@ is_shown _ = false
 abbrev pub MayReply : Bool → Wish → Type 0
 MayReply shown (Asks query) = ⊥
 MayReply shown (Checks name graph) = ⊥
-MayReply shown Watches = ⊥
+MayReply shown (Watches options) = ⊥
 MayReply shown (Replies kinds) = (kind : ErrorKind) × IsAmong kind kinds × (is_shown kind ≡ shown)

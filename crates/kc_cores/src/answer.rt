@@ -195,7 +195,7 @@ fn work<W: AsStr, I: FileInput, C: FileInput, O: PipeSink, E, L: Wire>(
         Err(reply) => show(reply, streams),
         Ok(Wanted::Lines(request)) => list(alloc, request, streams),
         Ok(Wanted::Check(request)) => check(alloc, request, streams),
-        Ok(Wanted::Watch) => watch(alloc, &mut streams.wire),
+        Ok(Wanted::Watch(options)) => watch(alloc, options, &mut streams.wire),
     }
 }
 

@@ -16,7 +16,12 @@ use kc_graph::NoMemory;
 use std::alloc::Global;
 
 /// An option that takes a value.
-fn value_option<'a>(alloc: Global, name: &'a str, value: &'a str, help: &'a str) -> Arg<'a>
+pub(crate) fn value_option<'a>(
+    alloc: Global,
+    name: &'a str,
+    value: &'a str,
+    help: &'a str,
+) -> Arg<'a>
     ensures rule { rule_of result ≡ value_option name.entry.now }
     ensures local { result.global ≡ false }
 {

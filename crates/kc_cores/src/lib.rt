@@ -46,6 +46,7 @@ pub mod std_pipe;
 mod streams;
 mod summary;
 mod verdict;
+mod watch_words;
 mod watching;
 mod words;
 

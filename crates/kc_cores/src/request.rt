@@ -1,5 +1,6 @@
 //! What words ask for.
 use kc_dialect::Dialect;
+use kc_watch::WatchOptions;
 
 /// What is asked of a graph.
 #[derive(Clone, Copy, Debug, PartialEq, Eq)]
@@ -39,7 +40,7 @@ pub(crate) enum Wanted<'a> {
     Lines(Request<'a>),
     Check(CheckRequest<'a>),
     /// The answer to a stream.
-    Watch,
+    Watch(WatchOptions),
 }
 
 /// A task for the graph of a text.

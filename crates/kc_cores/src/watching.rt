@@ -12,7 +12,7 @@ use kc_dialogue::answer::answer_wire;
 use kc_dialogue::end::DialogueEnd;
 use kc_graph::NoMemory;
 use kc_text::Refusal;
-use kc_watch::Watcher;
+use kc_watch::{WatchOptions, Watcher};
 use kc_wire::wire::Wire;
 use std::alloc::Global;
 
@@ -62,10 +62,10 @@ fn end_so(alloc: Global, how: DialogueEnd, refusal: Option<Refusal>) -> Ending
 }
 
 /// Answers the stream of a wire, each part as soon as it has ended, until it ends, a line is refused or a call fails.
-pub(crate) fn watch<L: Wire>(alloc: Global, wire: &mut L) -> Ending
-    ensures { WatchEnded L.Wire result.status (line_of result) wire.old wire.new }
+pub(crate) fn watch<L: Wire>(alloc: Global, options: WatchOptions, wire: &mut L) -> Ending
+    ensures { WatchEnded L.Wire options result.status (line_of result) wire.old wire.new }
 {
-    let mut watcher = Watcher::new(alloc);
+    let mut watcher = Watcher::new(alloc, options);
     let how = answer_wire(alloc, wire, &mut watcher);
     end_so(alloc, how, watcher.refusal())
 }

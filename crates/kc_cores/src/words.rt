@@ -11,14 +11,17 @@ ghost use Rattle.clap.specs.declared.builder.command.Command.TheViews.{out-Comma
 ghost use Rattle.kc_cores.specs.Wishes.{Replies, bare_command, certificate_command, certificate_rule, check_command, check_wish, core_option};
 ghost use Rattle.kc_cores.specs.Wishes.{cores_command, edges_flag};
 ghost use Rattle.kc_cores.specs.Wishes.{is_set, level_in, members_command, members_in, members_task, quiet_command, quiet_flag};
-ghost use Rattle.kc_cores.specs.Wishes.{task_command, task_in, watch_command, wish_about, wish_by, wish_for, wish_in, wish_of, with_cores, with_tasks};
+ghost use Rattle.kc_cores.specs.Wishes.{options_in, task_command, task_in, watch_wish, wish_about, wish_by, wish_for, wish_in, wish_of, with_cores};
+ghost use Rattle.kc_cores.specs.Wishes.{with_tasks};
 ghost use Rattle.kc_cores.specs.Endings.{IsReplyFor, IsRequestFor, RepliesTo, text_of};
 
 use crate::dialect_words::{number_of, text_in, with_dialect};
 use crate::request::{CheckRequest, NamedText, Request, Task, Wanted};
+use crate::watch_words::{options_of, show_in, watch_command};
 use clap::error::ErrorKind;
 use clap::{Arg, ArgAction, ArgMatches, Command, Error};
 use kc_graph::NoMemory;
+use kc_watch::WatchOptions;
 use std::alloc::Global;
 use std::convert::AsStr;
 
@@ -232,25 +235,13 @@ fn check_command<'a>(alloc: Global) -> Result<Command<'a>, NoMemory>
     command.arg(file)
 }
 
-/// The command `watch`.
-fn watch_command<'a>(alloc: Global) -> Command<'a>
-    ensures app { app_of result ≡ watch_command }
-    ensures local { (out-Command result).has_globals ≡ false }
-{
-    Command::new(alloc, "watch")
-        .about(
-            "Answers a stream: edges, then batches of + A B and - A B, each begun by a line batch",
-        )
-        .after_help("Example: tail -f changes.txt | cores watch")
-}
-
 /// The command whose words are read.
 fn cores_command<'a>(alloc: Global) -> Result<Command<'a>, NoMemory>
     ensures { IfOk result (λ made. app_of made ≡ cores_command) }
 {
     let tasks = with_tasks(alloc)?;
     let command = tasks.subcommand(check_command(alloc)?)?;
-    command.subcommand(watch_command(alloc))
+    command.subcommand(watch_command(alloc)?)
 }
 
 /// The K of a K-core, where it is given. There is none where it is no number.
@@ -404,13 +395,45 @@ fn wanted_of<'a>(alloc: Global, name: &str, found: &ArgMatches<'a>) -> Result<Wa
     request_for(alloc, task, graph, quiet)
 }
 
+/// What a stream is to be answered, by the matches of the command `watch`.
+fn options_in(found: &ArgMatches<'_>) -> Option<WatchOptions>
+    ensures { result ≡ options_in (rows_of (found_of found.now)) }
+{
+    let show = show_in(found.get_str("show"));
+    options_of(show, level_in(found.get_str("enter")))
+}
+
+/// What is replied where the value of the option `--show` is not right.
+fn wrong_show(alloc: Global) -> Reply
+    ensures { RepliesTo result (Replies (ErrorKind.ValueValidation ∷ [])) }
+{
+    match String::from_str(
+        alloc,
+        "cores: --show takes summary or changes, and --enter a number\n",
+    ) {
+        Ok(text) => Reply::Mistake(text),
+        Err(_) => Reply::NoMemory,
+    }
+}
+
+/// What the command `watch` asks for, where its options are right.
+fn watch_for<'a>(alloc: Global, options: Option<WatchOptions>) -> Result<Wanted<'a>, Reply>
+    ensures asks { IfOk result (λ wanted. IsRequestFor wanted (watch_wish options)) }
+    ensures replies { IfErr result (λ reply. RepliesTo reply (watch_wish options)) }
+{
+    match options {
+        None => Err(wrong_show(alloc)),
+        Some(options) => Ok(Wanted::Watch(options)),
+    }
+}
+
 /// What a command of this name asks for, with these matches.
 fn wanted_by<'a>(alloc: Global, name: &str, found: &ArgMatches<'a>) -> Result<Wanted<'a>, Reply>
     ensures asks { IfOk result (λ wanted. IsRequestFor wanted (wish_by name.now (rows_of (found_of found.now)))) }
     ensures replies { IfErr result (λ reply. RepliesTo reply (wish_by name.now (rows_of (found_of found.now)))) }
 {
     if name == "watch" {
-        return Ok(Wanted::Watch);
+        return watch_for(alloc, options_in(found));
     }
     wanted_of(alloc, name, found)
 }

@@ -1,11 +1,15 @@
 -- Accounts of streams, with one batch more.
-use Rattle.std.proofs.Common.{◌≡◌, ◌≤◌, ◌<◌, ℕ, suc, zero, true, cond, List, [], ◌∷◌, ◌++◌, length, map, fold, refl, sym, ap, ap₂, ◌∙◌, arith}
-use Rattle.std.proofs.Common.{Option, Some, None, Vec, Global, get_or}
+use Rattle.std.proofs.Common.{◌≡◌, ◌≤◌, ◌<◌, ℕ, suc, zero, true, List, [], ◌∷◌, ◌++◌, length, map, fold, refl, sym, ap, ap₂, ◌∙◌, arith}
+use Rattle.std.proofs.Common.{subst, inl, inr, nat_eq, append_assoc, append-nil, length-append, Option, Some, None, Vec, Global, get_or}
 use Rattle.std.specs.Prelude.{is_some}
 use Rattle.std.specs.List.{flat_map}
 use Rattle.std.specs.Option.{option_to_list}
+use Rattle.std.specs.Set.{is_member}
+use Rattle.std.proofs.lemmas.Bool.{cases_Bool}
 use Rattle.std.proofs.lemmas.List.{length-map}
 use Rattle.std.proofs.lemmas.List.Sums.{fold-append}
+use Rattle.kc_lists.specs.Lists.{Distinct}
+use Rattle.kc_lists.proofs.Counting.{Distinct-push}
 use Rattle.kc_graph.specs.Core.{AreCoreNumbers, greatest}
 use Rattle.kc_graph.specs.SimpleGraph.{SimpleGraph}
 use Rattle.kc_graph.specs.declared.update.Update.{Update}
@@ -14,13 +18,13 @@ use Rattle.kc_graph.proofs.Law.{certified-core_numbers, core-unique}
 use Rattle.kc_text.specs.declared.change.ChangeLine.{ChangeLine}
 use Rattle.kc_text.specs.Deciding.{last_batch}
 use Rattle.kc_text.specs.Inputs.{AreAmong, AreUpdates, EdgeBatch, EdgeUpdate, numbered_batch, numbered_change, parts_of, start_graph}
-use Rattle.kc_text.specs.Meaning.{Told, batches, changes, ends, ends_of}
+use Rattle.kc_text.specs.Meaning.{Told, batches, changes, ends, ends_of, names}
 use Rattle.kc_text.proofs.Decided.{all-numbered}
 use Rattle.kc_text.proofs.Telling.{ends-batches, ends-told}
 use Rattle.kc_stream.specs.Ids.{ids_of, with_name, with_names}
 use Rattle.kc_stream.proofs.Holding.{some-from}
-use Rattle.kc_stream.proofs.Naming.{name-grows}
-use Rattle.kc_watch.specs.Text.{Account, account_of, account_of_start, core_numbers_of, entered, ids_with, reply_of, top_of, with_batch}
+use Rattle.kc_stream.proofs.Naming.{name-known, name-new}
+use Rattle.kc_watch.specs.Accounts.{Account, account_of, account_of_start, batch_behind, core_numbers_of, entered, ids_with, top_of, with_batch}
 
 -- the core numbers of a graph are its core numbers
 pub numbers-are : (g : SimpleGraph) → AreCoreNumbers g (core_numbers_of g)
@@ -93,22 +97,19 @@ pub account-batch : (told : Told) (cs : List ChangeLine) → told.last ≡ Some 
     → account_of told.edges (batches told) ≡ with_batch (account_of told.edges told.earlier) cs
 account-batch told cs last = ap (account_of told.edges) (one-batch told cs last) ∙ account-push told.edges told.earlier cs
 
--- a batch that ends, by the ids that were named and the updates that were gathered
-pub batch-entered : (told : Told) (cs : List ChangeLine) (ids : List ℕ) (us : Vec Update Global) → told.last ≡ Some cs → ids ≡ ids_of told
-    → AreUpdates ids cs us.items → AreAmong ids (ends (map ends_of cs))
-    → account_of told.edges (batches told) ≡ entered (account_of told.edges told.earlier) ids (last_batch us.items)
-batch-entered told cs ids us last named are among =
+-- where a batch ends, the ids are those that were named
+batch-ids : (told : Told) (cs : List ChangeLine) → told.last ≡ Some cs → ids_with (account_of told.edges told.earlier).ids cs ≡ ids_of told
+batch-ids told cs last = ap (λ (a : Account). a.ids) (sym (account-batch told cs last)) ∙ ids-are told
+
+-- what is made of a batch that ends and of the account behind it, by the ids that were named and the updates that were gathered
+pub batch-made : {X : Type 0} (make : EdgeBatch → Account → X) (told : Told) (cs : List ChangeLine) (ids : List ℕ) (us : Vec Update Global)
+    → told.last ≡ Some cs → ids ≡ ids_of told → AreUpdates ids cs us.items → AreAmong ids (ends (map ends_of cs))
+    → make (batch_behind (account_of told.edges told.earlier) cs) (with_batch (account_of told.edges told.earlier) cs)
+    ≡ make (last_batch us.items) (entered (account_of told.edges told.earlier) ids (last_batch us.items))
+batch-made make told cs ids us last named are among =
     let account : Account = account_of told.edges told.earlier in
-    let same : ids_with account.ids cs ≡ ids = ap (λ (a : Account). a.ids) (sym (account-batch told cs last)) ∙ ids-are told ∙ sym named in
-    account-batch told cs last ∙ ap (λ (l : List ℕ). entered account l (numbered_batch l cs)) same
-    ∙ ap (entered account ids) (sym (batch-numbered ids cs us are among))
-
--- the reply where there is no batch line, and where there is one
-pub reply-none : (told : Told) → told.last ≡ None → reply_of told ≡ []
-reply-none told last = ap (λ (l : Option (List ChangeLine)). cond (is_some l) (account_of told.edges told.earlier).text []) last
-
-pub reply-some : (told : Told) → is_some told.last ≡ true → reply_of told ≡ (account_of told.edges told.earlier).text
-reply-some told last = ap (λ b. cond b (account_of told.edges told.earlier).text []) last
+    ap (λ (l : List ℕ). make (numbered_batch l cs) (entered account l (numbered_batch l cs))) (batch-ids told cs last ∙ sym named)
+    ∙ ap (λ (b : EdgeBatch). make b (entered account ids b)) (sym (batch-numbered ids cs us are among))
 
 -- the graph of an account has a vertex for each id
 account-sizes : (account : Account) → account.graph.size ≡ length account.ids → (batches : List (List ChangeLine))
@@ -121,15 +122,42 @@ pub account-size : (edges : List (ℕ × ℕ)) (batches : List (List ChangeLine)
 unfolding start_graph
 account-size edges batches = account-sizes (account_of_start edges) refl batches
 
--- there are no fewer ids with more names
-names-grow : (ids named : List ℕ) → length ids ≤ length (with_names ids named)
-names-grow ids [] = omega arith
-names-grow ids (n ∷ named) = omega (arith, name-grows ids n, names-grow (with_name ids n) named)
+-- ids with more names are those ids, and others behind them
+names-behind : (ids named : List ℕ) → (more : List ℕ) × (with_names ids named ≡ ids ++ more)
+names-behind ids [] = ([], sym (append-nil ids))
+names-behind ids (n ∷ named) = elim (cases_Bool (is_member nat_eq ids n)) [
+  | inl known ↦
+      let (more, is) = names-behind ids named in
+      (more, ap (λ (l : List ℕ). with_names l named) (name-known ids n known) ∙ is)
+  | inr new ↦
+      let (more, is) = names-behind (ids ++ n ∷ []) named in
+      (n ∷ more, ap (λ (l : List ℕ). with_names l named) (name-new ids n new) ∙ is ∙ append_assoc ids (n ∷ []) more)
+]
+
+-- and none of them stands there twice
+names-once : (ids named : List ℕ) → Distinct ids → Distinct (with_names ids named)
+names-once ids [] once = once
+names-once ids (n ∷ named) once = elim (cases_Bool (is_member nat_eq ids n)) [
+  | inl known ↦ subst (λ (l : List ℕ). Distinct (with_names l named)) (sym (name-known ids n known)) (names-once ids named once)
+  | inr new ↦ subst (λ (l : List ℕ). Distinct (with_names l named)) (sym (name-new ids n new))
+      (names-once (ids ++ n ∷ []) named (Distinct-push ids n once new))
+]
+
+-- no id was named twice
+pub ids-once : (told : Told) → Distinct (ids_of told)
+ids-once told = names-once [] (names told) tt
+
+-- behind the batches that have ended, the ids that were named are those of then, and others behind them
+pub ids-grown : (told : Told) → is_some told.last ≡ true → (more : List ℕ) × (ids_of told ≡ (account_of told.edges told.earlier).ids ++ more)
+ids-grown told some =
+    let (cs, last) = some-from told.last some in
+    let account : Account = account_of told.edges told.earlier in
+    let (more, is) = names-behind account.ids (ends (map ends_of cs)) in
+    (more, sym (batch-ids told cs last) ∙ is)
 
 -- the graph behind the batches that have ended has no more vertices than there are ids
 pub vertices-few : (told : Told) → is_some told.last ≡ true → (account_of told.edges told.earlier).graph.size ≤ length (ids_of told)
 vertices-few told some =
-    let (cs, last) = some-from told.last some in
     let account : Account = account_of told.edges told.earlier in
-    let same : ids_with account.ids cs ≡ ids_of told = ap (λ (a : Account). a.ids) (sym (account-batch told cs last)) ∙ ids-are told in
-    omega (arith, account-size told.edges told.earlier, names-grow account.ids (ends (map ends_of cs)), ap length same)
+    let (more, is) = ids-grown told some in
+    omega (arith, account-size told.edges told.earlier, ap length is, length-append account.ids more)

@@ -19,7 +19,8 @@ use Rattle.kc_batch_effects.proofs.Applying.{graph_after_update-remove}
 use Rattle.kc_graph.specs.Core.{AreCoreNumbers, greatest}
 use Rattle.kc_report.specs.Lines.{batch_line}
 use Rattle.kc_text.specs.Inputs.{EdgeBatch}
-use Rattle.kc_watch.specs.Text.{line_about, top_of}
+use Rattle.kc_watch.specs.Accounts.{top_of}
+use Rattle.kc_watch.specs.Text.{line_about}
 use Rattle.kc_watch.proofs.Accounts.{top-is}
 use Rattle.kc_keeper.specs.Batches.{count_applied, made_in_turn}
 use Rattle.kc_keeper.specs.Causes.{IsFirstOutside}

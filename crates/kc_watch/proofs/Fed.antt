@@ -1,24 +1,24 @@
 -- What a watcher was fed, one piece after another.
-use Rattle.std.proofs.Common.{◌≡◌, ◌<◌, ℕ, true, false, cond, List, [], ◌∷◌, ◌++◌, length, refl, sym, ap, ◌∙◌, subst, arith}
+use Rattle.std.proofs.Common.{◌≡◌, ◌<◌, ℕ, Bool, true, false, cond, List, [], ◌∷◌, ◌++◌, length, refl, sym, ap, ap₂, ◌∙◌, subst, arith}
 use Rattle.std.proofs.Common.{append_assoc, append-nil, Option, Some, None}
-use Rattle.std.specs.Prelude.{OnErr, OnOk, Result, is_some}
+use Rattle.std.specs.Prelude.{OnErr, OnOk, Result, Ok, Err, is_some}
 use Rattle.kc_dialogue.specs.Replies.{IsPrefixOf, StaysFrom}
+use Rattle.kc_text.specs.declared.line.TextLine.{TextLine}
 use Rattle.kc_text.specs.declared.refusal.Refusal.{Refusal}
-use Rattle.kc_text.specs.declared.line.TextLine.TheVariants as said
 use Rattle.kc_text.specs.Forms.{all_said}
 use Rattle.kc_text.specs.Lines.{EndsLine}
-use Rattle.kc_text.specs.Meaning.{with_line}
-use Rattle.kc_text.proofs.SaidAppend.{ends-append, ends-behind}
+use Rattle.kc_text.proofs.SaidAppend.{ends-append, ends-behind, said-append}
 use Rattle.kc_stream.specs.Ended.{IsOpen, ended}
 use Rattle.kc_stream.specs.Hearing.{Heard, hear_all, heard_at_end, heard_so_far, nothing_heard}
 use Rattle.kc_stream.specs.declared.gathered.Gathered.{Gathered}
-use Rattle.kc_stream.proofs.Cuts.{ended-append, open-append}
+use Rattle.kc_stream.proofs.Cuts.{ended-append, ended-parts, open-append}
 use Rattle.kc_stream.proofs.Reading.{hear-none, more-ended, so-far}
-use Rattle.kc_watch.specs.Text.{last_reply_of, reply, reply_at_end, reply_of, whole_reply_of}
+use Rattle.kc_watch.specs.Text.{answers_behind, end_answer, open_text, reply, reply_at_end}
 use Rattle.kc_watch.specs.Watching.{HasEnded, StandsAt, WasFed}
 use Rattle.kc_watch.specs.declared.course.Course.{Course}
+use Rattle.kc_watch.specs.declared.options.WatchOptions.{WatchOptions}
 use Rattle.kc_watch.specs.declared.watcher.Watcher.{Watcher}
-use Rattle.kc_watch.proofs.Lines.{batch-grows, going-heard, lines-grow, prefix-same, prefix-trans}
+use Rattle.kc_watch.proofs.Lines.{answers-append, answers-none, going-heard}
 
 -- what the lines of some bytes come to
 abbrev pub heard_of : List ℕ → Heard
@@ -34,6 +34,35 @@ heard-parts done rest e is_open = by-refusal (heard_of done).refusal refl
         ap (λ (t : List ℕ). hear_all nothing_heard (all_said t)) (ended-append done rest e) ∙ more-ended done (ended rest) e
         ∙ hear-none (heard_of done) (all_said (ended rest)) (ap is_some some)
 
+-- what the lines of some bytes are answered
+abbrev pub text_of : WatchOptions → List ℕ → List ℕ
+text_of options bytes = answers_behind options nothing_heard (all_said bytes)
+
+-- what is answered to more bytes behind lines that have ended
+text-more : (options : WatchOptions) (done more : List ℕ) → EndsLine done
+    → text_of options (done ++ more) ≡ text_of options done ++ answers_behind options (heard_of done) (all_said more)
+text-more options done more e =
+    ap (λ (ls : List TextLine). answers_behind options nothing_heard ls) (said-append done more e)
+    ∙ answers-append options nothing_heard (all_said done) (all_said more)
+
+-- behind a line that is refused that is nothing more
+text-refused : (options : WatchOptions) (done more : List ℕ) → EndsLine done → is_some (heard_of done).refusal ≡ true
+    → text_of options (done ++ more) ≡ text_of options done
+text-refused options done more e some =
+    text-more options done more e
+    ∙ ap (λ (t : List ℕ). text_of options done ++ t) (answers-none options (heard_of done) (all_said more) some)
+    ∙ append-nil (text_of options done)
+
+-- The reply to bytes is what their ended lines are answered, if the others are of an open line or a line is refused.
+reply-parts : (options : WatchOptions) (done rest : List ℕ) → EndsLine done → ((heard_of done).refusal ≡ None → IsOpen rest)
+    → reply options (done ++ rest) ≡ text_of options done
+reply-parts options done rest e is_open = by-refusal (heard_of done).refusal refl
+  where
+    by-refusal : (r : Option Refusal) → (heard_of done).refusal ≡ r → reply options (done ++ rest) ≡ text_of options done
+    by-refusal None none = ap (text_of options) (ended-parts done rest e (is_open none))
+    by-refusal (Some r) some =
+        ap (text_of options) (ended-append done rest e) ∙ text-refused options done (ended rest) e (ap is_some some)
+
 module _ (watcher : Watcher) (fed : List ℕ) (f : WasFed watcher fed) where
   -- what was heard of the lines that were read
   abbrev pub heard_by : Heard
@@ -46,9 +75,9 @@ module _ (watcher : Watcher) (fed : List ℕ) (f : WasFed watcher fed) where
   pub fed-heard : heard_so_far fed ≡ heard_by
   fed-heard = ap heard_so_far f.parts ∙ heard-parts f.done f.rest f.ended (λ none. (open-rest none).1)
 
-  -- so the reply is that to it
-  pub fed-reply : reply fed ≡ reply_of heard_by.told
-  fed-reply = ap (λ (h : Heard). reply_of h.told) fed-heard
+  -- so the reply is what the lines that were read are answered
+  pub fed-reply : (options : WatchOptions) → reply options fed ≡ text_of options f.done
+  fed-reply options = ap (reply options) f.parts ∙ reply-parts options f.done f.rest f.ended (λ none. (open-rest none).1)
 
   -- more bytes behind a line that is refused, or of an open line
   pub more-heard : (more : List ℕ) → (heard_by.refusal ≡ None → IsOpen more) → heard_so_far (fed ++ more) ≡ heard_by
@@ -57,8 +86,11 @@ module _ (watcher : Watcher) (fed : List ℕ) (f : WasFed watcher fed) where
       ∙ heard-parts f.done (f.rest ++ more) f.ended (λ none. open-append f.rest more (open-rest none).1 (is_open none))
 
   -- they add nothing to the reply
-  pub more-reply : (more : List ℕ) → (heard_by.refusal ≡ None → IsOpen more) → reply (fed ++ more) ≡ reply fed
-  more-reply more is_open = ap (λ (h : Heard). reply_of h.told) (more-heard more is_open ∙ sym fed-heard)
+  pub more-reply : (options : WatchOptions) (more : List ℕ) → (heard_by.refusal ≡ None → IsOpen more) → reply options (fed ++ more) ≡ reply options fed
+  more-reply options more is_open =
+      ap (λ (t : List ℕ). reply options (t ++ more)) f.parts ∙ ap (reply options) (append_assoc f.done f.rest more)
+      ∙ reply-parts options f.done (f.rest ++ more) f.ended (λ none. open-append f.rest more (open-rest none).1 (is_open none))
+      ∙ sym (fed-reply options)
 
   -- a line is refused where the watcher says so
   pub refused-heard : is_some watcher.course.gathered.refusal ≡ true → is_some heard_by.refusal ≡ true
@@ -76,13 +108,27 @@ module _ (watcher : Watcher) (fed : List ℕ) (f : WasFed watcher fed) where
   end-heard more = ap (λ (t : List ℕ). heard_at_end (t ++ more)) f.parts ∙ ap heard_at_end (append_assoc f.done f.rest more)
       ∙ more-ended f.done (f.rest ++ more) f.ended
 
+  -- what all lines are answered once all has come
+  pub end-text : (options : WatchOptions) (more : List ℕ)
+      → text_of options (fed ++ more) ≡ text_of options f.done ++ answers_behind options heard_by (all_said (f.rest ++ more))
+  end-text options more =
+      ap (λ (t : List ℕ). text_of options (t ++ more)) f.parts ∙ ap (text_of options) (append_assoc f.done f.rest more)
+      ∙ text-more options f.done (f.rest ++ more) f.ended
+
   -- Behind a line that is refused nothing is answered.
-  pub stays : is_some watcher.course.gathered.refusal ≡ true → StaysFrom reply reply_at_end fed
-  stays some = λ more. (
-    more-reply more (refused-open some),
-    ap last_reply_of (end-heard more ∙ hear-none heard_by (all_said (f.rest ++ more)) (refused-heard some))
-        ∙ ap (λ b. cond b (reply_of heard_by.told) (whole_reply_of heard_by.told)) (refused-heard some) ∙ sym fed-reply,
-  )
+  pub stays : (options : WatchOptions) → is_some watcher.course.gathered.refusal ≡ true → StaysFrom (reply options) (reply_at_end options) fed
+  stays options some = λ more.
+      let none : heard_at_end (fed ++ more) ≡ heard_by =
+      end-heard more ∙ hear-none heard_by (all_said (f.rest ++ more)) (refused-heard some) in
+      let lines : text_of options (fed ++ more) ≡ text_of options f.done =
+      end-text options more
+      ∙ ap (λ (t : List ℕ). text_of options f.done ++ t) (answers-none options heard_by (all_said (f.rest ++ more)) (refused-heard some))
+      ∙ append-nil (text_of options f.done) in
+      let end : end_answer options (heard_at_end (fed ++ more)) ≡ [] =
+      ap (end_answer options) none ∙ ap (λ (b : Bool). cond b [] (open_text options heard_by.told)) (refused-heard some) in (
+        more-reply options more (refused-open some),
+        ap₂ (λ (a b : List ℕ). a ++ b) lines end ∙ append-nil (text_of options f.done) ∙ sym (fed-reply options),
+      )
 
   -- and no other line is refused once all has come
   pub refused-ended : is_some watcher.course.gathered.refusal ≡ true → HasEnded watcher fed
@@ -144,42 +190,45 @@ module _ (watcher : Watcher) (fed : List ℕ) (f : WasFed watcher fed) where
     }
 
     -- the reply to them
-    pub lines-reply : (whole : List ℕ) → EndsLine whole → 0 < length whole
-        → reply (fed ++ whole) ≡ reply_of (hear_all heard_by (all_said (watcher.begun.items ++ whole))).told
-    lines-reply whole e some =
+    pub lines-reply : (options : WatchOptions) (whole : List ℕ) → EndsLine whole → 0 < length whole
+        → reply options (fed ++ whole) ≡ reply options fed ++ answers_behind options heard_by (all_said (watcher.begun.items ++ whole))
+    lines-reply options whole e some =
         let done : List ℕ = f.done ++ (watcher.begun.items ++ whole) in
-        ap reply (whole-parts whole ∙ sym (append-nil done))
-        ∙ ap (λ (h : Heard). reply_of h.told) (so-far done [] (whole-ends whole e some) refl ∙ more-ended f.done (watcher.begun.items ++ whole) f.ended)
+        ap (reply options) (whole-parts whole ∙ sym (append-nil done)) ∙ reply-parts options done [] (whole-ends whole e some) (λ _. refl)
+        ∙ text-more options f.done (watcher.begun.items ++ whole) f.ended
+        ∙ ap (λ (t : List ℕ). t ++ answers_behind options heard_by (all_said (watcher.begun.items ++ whole))) (sym (fed-reply options))
 
     -- what is heard at the end
     pub end-is : heard_at_end fed ≡ hear_all heard_by (all_said watcher.begun.items)
     end-is = ap heard_at_end (sym (append-nil fed)) ∙ end-heard []
         ∙ ap (λ (t : List ℕ). hear_all heard_by (all_said t)) (append-nil f.rest ∙ sym kept-is)
 
--- The last reply goes on the reply so far.
-pub last-grows : (heard : Heard) → IsPrefixOf (last_reply_of heard) (reply_of heard.told)
-last-grows heard = elim (is_some heard.refusal) as (λ b. IsPrefixOf (cond b (reply_of heard.told) (whole_reply_of heard.told)) (reply_of heard.told)) [
-  | true ↦ prefix-same _ _ refl
-  | false ↦ batch-grows heard.told
-]
+    -- and what all lines are answered then
+    pub end-lines : (options : WatchOptions)
+        → text_of options fed ≡ reply options fed ++ answers_behind options heard_by (all_said watcher.begun.items)
+    end-lines options =
+        ap (text_of options) (sym (append-nil fed)) ∙ end-text options []
+        ∙ ap₂ (λ (a : List ℕ) (t : List ℕ). a ++ answers_behind options heard_by (all_said t)) (sym (fed-reply options)) (append-nil f.rest ∙ sym kept-is)
 
--- the last reply where a line is refused, and where none is
-pub last-refused : (heard : Heard) → is_some heard.refusal ≡ true → last_reply_of heard ≡ reply_of heard.told
-last-refused heard some = ap (λ b. cond b (reply_of heard.told) (whole_reply_of heard.told)) some
+-- a text that was put is an answer, or memory broke it off
+abbrev pub Answers : {E : Type 0} → Result (Unit {0}) E → List ℕ → List ℕ → Type 0
+Answers r answer put = OnOk r (put ≡ answer) × OnErr r (IsPrefixOf answer put)
 
-pub last-whole : (heard : Heard) → heard.refusal ≡ None → last_reply_of heard ≡ reply_of (with_line heard.told said.Batch)
-last-whole heard none = ap (λ (r : Option Refusal). cond (is_some r) (reply_of heard.told) (whole_reply_of heard.told)) none
+-- a reply goes on with it
+abbrev pub GoesOn : {E : Type 0} → Result (Unit {0}) E → List ℕ → List ℕ → List ℕ → Type 0
+GoesOn r all before put = OnOk r (all ≡ before ++ put) × OnErr r (IsPrefixOf all (before ++ put))
 
--- a text and a reply that it goes on, or that memory broke off
-abbrev pub Answers : {E : Type 0} → Result (Unit {0}) E → List ℕ → List ℕ → List ℕ → Type 0
-Answers r all before put = OnOk r (all ≡ before ++ put) × OnErr r (IsPrefixOf all (before ++ put))
+-- where an answer was put that memory broke off, the reply begins with what was written
+prefix-behind : (all before answer put : List ℕ) → all ≡ before ++ answer → IsPrefixOf answer put → IsPrefixOf all (before ++ put)
+prefix-behind all before answer put is (left, begins) =
+    (left, is ∙ ap (λ (t : List ℕ). before ++ t) begins ∙ sym (append_assoc before put left))
 
--- what lines answer is what the bytes do that end them
-pub answers-same : {E : Type 0} (r : Result (Unit {0}) E) (all all' before before' put : List ℕ) → all' ≡ all → before' ≡ before
-    → Answers r all before put → Answers r all' before' put
-answers-same r all all' before before' put e b h =
-    subst (λ (x : List ℕ). Answers r x before' put) (sym e) (subst (λ (y : List ℕ). Answers r all y put) (sym b) h)
+-- where a reply goes on with an answer, it goes on with what was put of it
+goes-on : {E : Type 0} (r : Result (Unit {0}) E) (all before answer put : List ℕ) → all ≡ before ++ answer → Answers r answer put → GoesOn r all before put
+goes-on (Ok u) all before answer put is h = (is ∙ ap (λ (t : List ℕ). before ++ t) (sym h.0), tt)
+goes-on (Err x) all before answer put is h = (tt, prefix-behind all before answer put is h.1)
 
+-- the lines of some bytes are read that end in bytes behind those that are kept
 module _ (watcher : Watcher) (none : watcher.course.gathered.refusal ≡ None) (whole bytes : List ℕ) (ends : EndsLine whole) (some : 0 < length whole)
     (is : bytes ≡ watcher.begun.items ++ whole) where
   -- lines were read that end in some bytes
@@ -189,40 +238,34 @@ module _ (watcher : Watcher) (none : watcher.course.gathered.refusal ≡ None) (
       fed-lines watcher fed f none new whole ends some
       (subst (λ (t : List ℕ). StandsAt new.course (hear_all (heard_of f.done) (all_said t))) is (stands (heard_of f.done) f.stands)) empty
 
-  -- and answered
-  pub read-answers : {E : Type 0} (r : Result (Unit {0}) E) (put : List ℕ)
-      → ((heard : Heard) → StandsAt watcher.course heard → Answers r (reply_of (hear_all heard (all_said bytes)).told) (reply_of heard.told) put)
-      → (fed : List ℕ) → WasFed watcher fed → Answers r (reply (fed ++ whole)) (reply fed) put
-  read-answers r put answers fed f =
-      answers-same r _ _ _ _ put
-      (lines-reply watcher fed f none whole ends some ∙ ap (λ (t : List ℕ). reply_of (hear_all (heard_of f.done) (all_said t)).told) (sym is))
-      (fed-reply watcher fed f) (answers (heard_of f.done) f.stands)
+  -- the reply goes on with what they are answered
+  read-reply : (options : WatchOptions) (fed : List ℕ) (f : WasFed watcher fed)
+      → reply options (fed ++ whole) ≡ reply options fed ++ answers_behind options (heard_of f.done) (all_said bytes)
+  read-reply options fed f =
+      lines-reply watcher fed f none options whole ends some
+      ∙ ap (λ (t : List ℕ). reply options fed ++ answers_behind options (heard_of f.done) (all_said t)) (sym is)
 
--- the lines of some bytes are read that end in bytes behind those that are kept
-module _ (watcher : Watcher) (none : watcher.course.gathered.refusal ≡ None) (whole bytes : List ℕ) (ends : EndsLine whole) (some : 0 < length whole)
-    (is : bytes ≡ watcher.begun.items ++ whole) (fed : List ℕ) (f : WasFed watcher fed) where
-  -- the reply to them, where all were read
-  pub read-reply : (put : List ℕ)
-      → ((heard : Heard) → StandsAt watcher.course heard → reply_of (hear_all heard (all_said bytes)).told ≡ reply_of heard.told ++ put)
-      → reply (fed ++ whole) ≡ reply fed ++ put
-  read-reply put adds =
-      lines-reply watcher fed f none whole ends some ∙ ap (λ (t : List ℕ). reply_of (hear_all (heard_of f.done) (all_said t)).told) (sym is)
-      ∙ adds (heard_of f.done) f.stands ∙ ap (λ (t : List ℕ). t ++ put) (sym (fed-reply watcher fed f))
+  -- so it goes on with what was put of that
+  pub read-answers : {E : Type 0} (options : WatchOptions) (r : Result (Unit {0}) E) (put : List ℕ)
+      → ((heard : Heard) → StandsAt watcher.course heard → Answers r (answers_behind options heard (all_said bytes)) put)
+      → (fed : List ℕ) → WasFed watcher fed → GoesOn r (reply options (fed ++ whole)) (reply options fed) put
+  read-answers options r put answers fed f =
+      goes-on r _ _ (answers_behind options (heard_of f.done) (all_said bytes)) put (read-reply options fed f) (answers (heard_of f.done) f.stands)
 
-  -- and where memory ended
-  pub read-broken : (put : List ℕ)
-      → ((heard : Heard) → StandsAt watcher.course heard → IsPrefixOf (reply_of (hear_all heard (all_said bytes)).told) (reply_of heard.told ++ put))
-      → IsPrefixOf (reply (fed ++ whole)) (reply fed ++ put)
-  read-broken put adds =
-      subst (λ (x : List ℕ). IsPrefixOf x (reply fed ++ put))
-      (sym (lines-reply watcher fed f none whole ends some ∙ ap (λ (t : List ℕ). reply_of (hear_all (heard_of f.done) (all_said t)).told) (sym is)))
-      (subst (λ (y : List ℕ). IsPrefixOf (reply_of (hear_all (heard_of f.done) (all_said bytes)).told) (y ++ put)) (sym (fed-reply watcher fed f))
-      (adds (heard_of f.done) f.stands))
+  -- where all was put
+  pub read-all : (options : WatchOptions) (put : List ℕ)
+      → ((heard : Heard) → StandsAt watcher.course heard → put ≡ answers_behind options heard (all_said bytes))
+      → (fed : List ℕ) → WasFed watcher fed → reply options (fed ++ whole) ≡ reply options fed ++ put
+  read-all options put answers fed f =
+      read-reply options fed f ∙ ap (λ (t : List ℕ). reply options fed ++ t) (sym (answers (heard_of f.done) f.stands))
 
-  -- the reply to them goes on the one before
-  pub read-grows : IsPrefixOf (reply (fed ++ whole)) (reply fed ++ [])
-  read-grows = read-broken [] (λ heard s. subst (IsPrefixOf (reply_of (hear_all heard (all_said bytes)).told)) (sym (append-nil (reply_of heard.told)))
-      (lines-grow heard (all_said bytes)))
+  -- where memory ended
+  pub read-broken : (options : WatchOptions) (put : List ℕ)
+      → ((heard : Heard) → StandsAt watcher.course heard → IsPrefixOf (answers_behind options heard (all_said bytes)) put)
+      → (fed : List ℕ) → WasFed watcher fed → IsPrefixOf (reply options (fed ++ whole)) (reply options fed ++ put)
+  read-broken options put answers fed f =
+      prefix-behind _ (reply options fed) (answers_behind options (heard_of f.done) (all_said bytes)) put (read-reply options fed f)
+      (answers (heard_of f.done) f.stands)
 
 -- The stream ends with the bytes that are kept.
 module _ (watcher : Watcher) (none : watcher.course.gathered.refusal ≡ None) (bytes : List ℕ) (is : bytes ≡ watcher.begun.items) (fed : List ℕ)
@@ -234,38 +277,53 @@ module _ (watcher : Watcher) (none : watcher.course.gathered.refusal ≡ None) (
   end-then : heard_at_end fed ≡ heard_then
   end-then = end-is watcher fed f none ∙ ap (λ (t : List ℕ). hear_all (heard_of f.done) (all_said t)) (sym is)
 
+  -- what the lines are answered then
+  abbrev pub answer_then : WatchOptions → List ℕ
+  answer_then options = answers_behind options (heard_of f.done) (all_said bytes)
+
+  -- the last reply: the reply so far, what the lines are answered, and what the end is
+  end-reply : (options : WatchOptions) → reply_at_end options fed ≡ reply options fed ++ (answer_then options ++ end_answer options heard_then)
+  end-reply options =
+      ap₂ (λ (a b : List ℕ). a ++ b)
+      (end-lines watcher fed f none options
+      ∙ ap (λ (t : List ℕ). reply options fed ++ answers_behind options (heard_of f.done) (all_said t)) (sym is))
+      (ap (end_answer options) end-then)
+      ∙ append_assoc (reply options fed) (answer_then options) (end_answer options heard_then)
+
   -- a course that has come to it has the line that is refused
   pub end-refusal : (new course : Course) → StandsAt course heard_then → new.gathered ≡ course.gathered → new.gathered.refusal ≡ (heard_at_end fed).refusal
   end-refusal new course s same = ap (λ (g : Gathered). g.refusal) same ∙ s.gathers.refusal ∙ ap (λ (h : Heard). h.refusal) (sym end-then)
 
   -- memory ended before all was read
-  pub end-broken : (put : List ℕ) → IsPrefixOf (reply_of heard_then.told) (reply_of (heard_of f.done).told ++ put)
-      → IsPrefixOf (reply_at_end fed) (reply fed ++ put)
-  end-broken put begins =
-      subst (λ (h : Heard). IsPrefixOf (last_reply_of h) (reply fed ++ put)) (sym end-then)
-      (prefix-trans _ _ _ (last-grows heard_then)
-      (subst (λ (y : List ℕ). IsPrefixOf (reply_of heard_then.told) (y ++ put)) (sym (fed-reply watcher fed f)) begins))
+  pub end-broken : (options : WatchOptions) (put : List ℕ) → IsPrefixOf (answer_then options) put
+      → IsPrefixOf (reply_at_end options fed) (reply options fed ++ put)
+  end-broken options put (left, begins) =
+      prefix-behind _ (reply options fed) (answer_then options ++ end_answer options heard_then) put (end-reply options) (
+        left ++ end_answer options heard_then,
+        ap (λ (t : List ℕ). t ++ end_answer options heard_then) begins ∙ append_assoc put left (end_answer options heard_then),
+      )
 
   -- a line is refused then
-  pub end-refused : (new : Course) (put : List ℕ) → StandsAt new heard_then → is_some new.gathered.refusal ≡ true
-      → reply_of heard_then.told ≡ reply_of (heard_of f.done).told ++ put → reply_at_end fed ≡ reply fed ++ put
-  end-refused new put s some adds =
-      ap last_reply_of end-then ∙ last-refused heard_then (ap is_some (sym s.gathers.refusal) ∙ some) ∙ adds
-      ∙ ap (λ (t : List ℕ). t ++ put) (sym (fed-reply watcher fed f))
+  pub end-refused : (options : WatchOptions) (new : Course) (put : List ℕ) → StandsAt new heard_then → is_some new.gathered.refusal ≡ true
+      → put ≡ answer_then options → reply_at_end options fed ≡ reply options fed ++ put
+  end-refused options new put s some adds =
+      let end : end_answer options heard_then ≡ [] =
+      ap (λ (b : Bool). cond b [] (open_text options heard_then.told)) (ap is_some (sym s.gathers.refusal) ∙ some) in
+      end-reply options ∙ ap (λ (t : List ℕ). reply options fed ++ t)
+      (ap (λ (t : List ℕ). answer_then options ++ t) end ∙ append-nil (answer_then options) ∙ sym adds)
 
   -- or none is, and what is open ends
-  pub end-answers : {E : Type 0} (r : Result (Unit {0}) E) (new : Course) (put more : List ℕ) → StandsAt new heard_then
-      → is_some new.gathered.refusal ≡ false → reply_of heard_then.told ≡ reply_of (heard_of f.done).told ++ put
-      → Answers r (reply_of (with_line heard_then.told said.Batch)) (reply_of heard_then.told) more
-      → Answers r (reply_at_end fed) (reply fed) (put ++ more)
-  end-answers r new put more s going adds answers =
-      let same : reply_of heard_then.told ++ more ≡ reply fed ++ (put ++ more) =
-      ap (λ (t : List ℕ). t ++ more) (adds ∙ ap (λ (t : List ℕ). t ++ put) (sym (fed-reply watcher fed f))) ∙ append_assoc (reply fed) put more in
-      let all : reply_at_end fed ≡ reply_of (with_line heard_then.told said.Batch) =
-      ap last_reply_of end-then ∙ last-whole heard_then (going-heard new heard_then s going) in
-      subst (λ (x : List ℕ). OnOk r (x ≡ reply fed ++ (put ++ more)) × OnErr r (IsPrefixOf x (reply fed ++ (put ++ more)))) (sym all)
-      (subst (λ (y : List ℕ). OnOk r (reply_of (with_line heard_then.told said.Batch) ≡ y)
-      × OnErr r (IsPrefixOf (reply_of (with_line heard_then.told said.Batch)) y)) same answers)
+  pub end-answers : {E : Type 0} (options : WatchOptions) (r : Result (Unit {0}) E) (new : Course) (put more : List ℕ) → StandsAt new heard_then
+      → is_some new.gathered.refusal ≡ false → put ≡ answer_then options → Answers r (open_text options heard_then.told) more
+      → GoesOn r (reply_at_end options fed) (reply options fed) (put ++ more)
+  end-answers options r new put more s going adds answers =
+      let end : end_answer options heard_then ≡ open_text options heard_then.told =
+      ap (λ (o : Option Refusal). cond (is_some o) [] (open_text options heard_then.told)) (going-heard new heard_then s going) in
+      let all : reply_at_end options fed ≡ (reply options fed ++ put) ++ open_text options heard_then.told =
+      end-reply options ∙ ap₂ (λ (a b : List ℕ). reply options fed ++ (a ++ b)) (sym adds) end
+      ∙ sym (append_assoc (reply options fed) put (open_text options heard_then.told)) in
+      subst (λ (t : List ℕ). OnOk r (reply_at_end options fed ≡ t) × OnErr r (IsPrefixOf (reply_at_end options fed) t))
+      (append_assoc (reply options fed) put more) (goes-on r _ _ (open_text options heard_then.told) more all answers)
 
 -- no bytes are fed
 pub fed-none : (watcher : Watcher) (fed whole : List ℕ) → length whole ≡ 0 → WasFed watcher fed → WasFed watcher (fed ++ whole)
@@ -273,22 +331,22 @@ fed-none watcher fed [] e f = subst (WasFed watcher) (sym (append-nil fed)) f
 fed-none watcher fed (b ∷ whole) e f = absurd (omega (arith, e))
 
 -- and answered by nothing
-pub none-reply : (fed whole : List ℕ) → length whole ≡ 0 → reply (fed ++ whole) ≡ reply fed ++ []
-none-reply fed [] e = ap reply (append-nil fed) ∙ sym (append-nil (reply fed))
-none-reply fed (b ∷ whole) e = absurd (omega (arith, e))
+pub none-reply : (options : WatchOptions) (fed whole : List ℕ) → length whole ≡ 0 → reply options (fed ++ whole) ≡ reply options fed ++ []
+none-reply options fed [] e = ap (reply options) (append-nil fed) ∙ sym (append-nil (reply options fed))
+none-reply options fed (b ∷ whole) e = absurd (omega (arith, e))
 
 -- bytes of an open line behind lines that end add nothing
-pub open-reply : (watcher : Watcher) (fed whole rest : List ℕ) → WasFed watcher fed → watcher.course.gathered.refusal ≡ None → EndsLine whole → IsOpen rest
-    → reply ((fed ++ whole) ++ rest) ≡ reply (fed ++ whole)
-open-reply watcher fed [] rest f none e o =
-    ap (λ (t : List ℕ). reply (t ++ rest)) (append-nil fed) ∙ more-reply watcher fed f rest (λ _. o) ∙ ap reply (sym (append-nil fed))
-open-reply watcher fed (b ∷ whole) rest f none e o =
+pub open-reply : (options : WatchOptions) (watcher : Watcher) (fed whole rest : List ℕ) → WasFed watcher fed → watcher.course.gathered.refusal ≡ None
+    → EndsLine whole → IsOpen rest → reply options ((fed ++ whole) ++ rest) ≡ reply options (fed ++ whole)
+open-reply options watcher fed [] rest f none e o =
+    ap (λ (t : List ℕ). reply options (t ++ rest)) (append-nil fed) ∙ more-reply watcher fed f options rest (λ _. o)
+    ∙ ap (reply options) (sym (append-nil fed))
+open-reply options watcher fed (b ∷ whole) rest f none e o =
     let done : List ℕ = f.done ++ (watcher.begun.items ++ (b ∷ whole)) in
     let ends : EndsLine done = whole-ends watcher fed f none (b ∷ whole) e (omega arith) in
     let is : fed ++ (b ∷ whole) ≡ done = whole-parts watcher fed f none (b ∷ whole) in
-    ap (λ (t : List ℕ). reply (t ++ rest)) is
-    ∙ ap (λ (h : Heard). reply_of h.told) (heard-parts done rest ends (λ _. o) ∙ sym (heard-parts done [] ends (λ _. refl)))
-    ∙ ap reply (append-nil done ∙ sym is)
+    ap (λ (t : List ℕ). reply options (t ++ rest)) is ∙ reply-parts options done rest ends (λ _. o)
+    ∙ sym (reply-parts options done [] ends (λ _. refl)) ∙ ap (reply options) (append-nil done ∙ sym is)
 
 -- a list without elements is empty
 pub nil-from : (xs : List ℕ) → length xs ≡ 0 → xs ≡ []

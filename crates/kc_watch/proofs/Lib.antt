@@ -1,4 +1,6 @@
 pub mod Accounts
+pub mod Changing
+pub mod Ended
 pub mod Entering
 pub mod Fed
 pub mod Lines

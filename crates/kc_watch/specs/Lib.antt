@@ -1,5 +1,7 @@
 -- What public contracts speak of.
+pub mod Accounts
 pub mod Text
 pub mod Watching
 -- What the crate's own functions speak of.
 pub mod Effects
+pub mod Endings

@@ -1,51 +1,24 @@
 -- The text that answers a stream.
-use Rattle.std.specs.Prelude.{◌+◌, ◌-◌, ◌^◌, ℕ, List, [], ◌++◌, fold, is_some, length, map, min, if◌then◌else◌}
+use Rattle.std.specs.Prelude.{ℕ, List, [], ◌∷◌, ◌++◌, Option, Some, None, is_some, if◌then◌else◌}
 use Rattle.std.specs.FinSet as set
-use Rattle.kc_graph.specs.Core.{greatest}
-use Rattle.kc_graph.specs.Growing.{with_vertices}
 use Rattle.kc_graph.specs.SimpleGraph.{SimpleGraph}
-use Rattle.kc_graph.proofs.Existence.{certificate_exists}
 use Rattle.kc_text.specs.declared.change.ChangeLine.{ChangeLine}
-use Rattle.kc_text.specs.Inputs.{EdgeBatch, numbered_batch, start_graph}
-use Rattle.kc_text.specs.Meaning.{Told, batches, ends, ends_of}
-use Rattle.kc_batch_effects.specs.Batches.{added, graph_after_batch, kept, removed}
+use Rattle.kc_text.specs.declared.line.TextLine.{TextLine}
+use Rattle.kc_text.specs.declared.line.TextLine.TheVariants.{Nothing, Edge, Batch, Change, Wrong}
+use Rattle.kc_text.specs.Forms.{all_said}
+use Rattle.kc_text.specs.Inputs.{EdgeBatch}
+use Rattle.kc_text.specs.Meaning.{Told}
+use Rattle.kc_batch_effects.specs.Batches.{added, kept, removed}
 use Rattle.kc_report.specs.Lines.{batch_line, graph_line}
-use Rattle.kc_stream.specs.Hearing.{Heard, heard_at_end, heard_so_far}
-use Rattle.kc_stream.specs.Ids.{with_names}
+use Rattle.kc_changes.specs.Changed.{lines_behind}
+use Rattle.kc_stream.specs.Ended.{ended}
+use Rattle.kc_stream.specs.Hearing.{Heard, hear, heard_at_end, nothing_heard}
+use Rattle.kc_watch.specs.Accounts.{Account, account_of, account_of_start, batch_behind, core_number_in, top_of, with_batch}
+use Rattle.kc_watch.specs.declared.options.WatchOptions.{WatchOptions}
 
--- The core numbers of a graph. Each graph has one list of them, and no other list of numbers is its core numbers (Seidman 1983): the law
--- `every_graph_has_its_core_numbers` says both of this one.
-abbrev pub core_numbers_of : SimpleGraph → List ℕ
-core_numbers_of g = (certificate_exists g).0
-
--- the greatest core number of a graph, or 0 where it has no vertices
-abbrev pub top_of : SimpleGraph → ℕ
-top_of g = greatest (core_numbers_of g)
-
--- What is known of a stream behind one of its batches: how many batches have ended; the ids that were named, each at the number that stands
--- for it; the graph between these numbers; and the text so far. The numbers are the places of the ids in the order of their first coming. No
--- two ids have one number, and the text has nothing of the numbers but how many there are, so it is the text of the graph of the ids.
-pub record Account : Type 0 where
-  pub ended : ℕ
-  pub ids : List ℕ
-  pub graph : SimpleGraph
-  pub text : List ℕ
-
--- one batch more has ended; they are counted up to the greatest number of 32 bits
-abbrev pub one_ended : ℕ → ℕ
-one_ended count = min (count + 1) (2 ^ 32 - 1)
-
--- the account of a graph at the start, with its line
-abbrev pub begun : List ℕ → SimpleGraph → Account
-begun ids g = record { ended = 0; ids = ids; graph = g; text = graph_line g.size (set.len g.edges) (top_of g) }
-
--- the account of the start: of the graph of its edges
-abbrev pub account_of_start : List (ℕ × ℕ) → Account
-account_of_start edges = begun (with_names [] (ends edges)) (start_graph (with_names [] (ends edges)) edges)
-
--- the graph after a batch, with the ids that came in it
-abbrev pub graph_with : SimpleGraph → List ℕ → EdgeBatch → SimpleGraph
-graph_with g ids batch = graph_after_batch (with_vertices (length ids) g) batch.updates
+-- the line about the graph of the start
+abbrev pub start_line : SimpleGraph → List ℕ
+start_line g = graph_line g.size (set.len g.edges) (top_of g)
 
 -- the line about a batch: what it does to the edges before it, and then the edges and the greatest core number of the graph after it
 abbrev pub line_about : ℕ → SimpleGraph → EdgeBatch → SimpleGraph → List ℕ
@@ -53,44 +26,49 @@ line_about number before batch after =
     batch_line number (added before.edges batch.updates) (removed before.edges batch.updates) (kept before.edges batch.updates) batch.overruled
     (set.len after.edges) (top_of after)
 
--- the account with one batch more, where these are the ids then
-abbrev pub entered : Account → List ℕ → EdgeBatch → Account
-entered account ids batch = record {
-  ended = one_ended account.ended;
-  ids = ids;
-  graph = graph_with account.graph ids batch;
-  text = account.text ++ line_about (one_ended account.ended) account.graph batch (graph_with account.graph ids batch);
-}
+-- The text of a batch between two accounts: its line, and what is asked for of the ids whose core numbers it changes. It has nothing of the
+-- numbers that stand for the ids but how many there are, so it is the text of the graph of the ids.
+abbrev pub batch_text : WatchOptions → Account → EdgeBatch → Account → List ℕ
+batch_text options before batch after =
+    line_about after.ended before.graph batch after.graph
+    ++ lines_behind options.show options.enter (core_number_in before) (core_number_in after) after.ids
 
--- the ids with those that changes name
-abbrev pub ids_with : List ℕ → List ChangeLine → List ℕ
-ids_with ids changes = with_names ids (ends (map ends_of changes))
+-- the text of the part that is open, as it ends: the start, or the last batch
+abbrev pub part_text : WatchOptions → List (ℕ × ℕ) → List (List ChangeLine) → Option (List ChangeLine) → List ℕ
+part_text options edges earlier None = start_line (account_of_start edges).graph
+part_text options edges earlier (Some changes) =
+    batch_text options (account_of edges earlier) (batch_behind (account_of edges earlier) changes) (with_batch (account_of edges earlier) changes)
 
--- the account with one batch more, of which the changes count that decide
-abbrev pub with_batch : Account → List ChangeLine → Account
-with_batch account changes = entered account (ids_with account.ids changes) (numbered_batch (ids_with account.ids changes) changes)
+-- the text of what is open once lines have told this
+abbrev pub open_text : WatchOptions → Told → List ℕ
+open_text options told = part_text options told.edges told.earlier told.last
 
--- the account of the start and of batches behind it, one after another
-abbrev pub account_of : List (ℕ × ℕ) → List (List ChangeLine) → Account
-account_of edges batches = fold with_batch (account_of_start edges) batches
+-- What a line is answered once others have told this: a batch line ends what stands before it, and others are answered nothing.
+abbrev pub line_answer : WatchOptions → Told → TextLine → List ℕ
+line_answer options told Nothing = []
+line_answer options told (Edge a b) = []
+line_answer options told Batch = open_text options told
+line_answer options told (Change c) = []
+line_answer options told (Wrong kind) = []
 
--- What has to be written once lines have told this, where others may follow: the text of the start and of the batches that have ended. The
--- start ends with the first batch line, and a batch with the next one.
-abbrev pub reply_of : Told → List ℕ
-reply_of told = if is_some told.last then (account_of told.edges told.earlier).text else []
+-- what a line is answered behind others: nothing where one of them was refused
+abbrev pub answer_behind : WatchOptions → Heard → TextLine → List ℕ
+answer_behind options heard line = if is_some heard.refusal then [] else line_answer options heard.told line
 
--- what has to be written once no other line follows: what is open ends too
-abbrev pub whole_reply_of : Told → List ℕ
-whole_reply_of told = (account_of told.edges (batches told)).text
+-- what lines are answered, one after another
+abbrev pub answers_behind : WatchOptions → Heard → List TextLine → List ℕ
+answers_behind options heard [] = []
+answers_behind options heard (line ∷ lines) = answer_behind options heard line ++ answers_behind options (hear heard line) lines
 
--- the reply where no other line follows; what is open at a line that is refused never ends
-abbrev pub last_reply_of : Heard → List ℕ
-last_reply_of heard = if is_some heard.refusal then reply_of heard.told else whole_reply_of heard.told
+-- what the end of the stream is answered: what is open ends too, but for what is open at a line that is refused
+abbrev pub end_answer : WatchOptions → Heard → List ℕ
+end_answer options heard = if is_some heard.refusal then [] else open_text options heard.told
 
--- What has to be written once just these bytes of a stream have come, and others may follow.
-abbrev pub reply : List ℕ → List ℕ
-reply bytes = reply_of (heard_so_far bytes).told
+-- What has to be written once just these bytes of a stream have come, and others may follow: the bytes behind the last newline may be a part
+-- of a line.
+abbrev pub reply : WatchOptions → List ℕ → List ℕ
+reply options bytes = answers_behind options nothing_heard (all_said (ended bytes))
 
 -- What has to be written once these bytes have come, and the stream has ended.
-abbrev pub reply_at_end : List ℕ → List ℕ
-reply_at_end bytes = last_reply_of (heard_at_end bytes)
+abbrev pub reply_at_end : WatchOptions → List ℕ → List ℕ
+reply_at_end options bytes = answers_behind options nothing_heard (all_said bytes) ++ end_answer options (heard_at_end bytes)

@@ -1,7 +1,6 @@
 -- What a watcher keeps of a stream.
 use Rattle.std.specs.Prelude.{◌≡◌, ℕ, true, List, ◌++◌, Option, Some, None, is_some, length}
 use Rattle.std.specs.FinSet as set
-use Rattle.kc_graph.specs.Lawful.{Ranked}
 use Rattle.kc_graph.specs.SimpleGraph.{SimpleGraph}
 use Rattle.kc_text.specs.Forms.{all_said}
 use Rattle.kc_text.specs.Lines.{EndsLine}
@@ -10,8 +9,9 @@ use Rattle.kc_stream.specs.Ended.{IsOpen}
 use Rattle.kc_stream.specs.Gathering.{Gathers}
 use Rattle.kc_stream.specs.Hearing.{Heard, hear_all, heard_at_end, nothing_heard}
 use Rattle.kc_stream.specs.declared.gathered.Gathered.{Gathered}
-use Rattle.kc_watch.specs.Text.{account_of}
+use Rattle.kc_watch.specs.Accounts.{account_of}
 use Rattle.kc_watch.specs.declared.course.Course.{Course}
+use Rattle.kc_watch.specs.declared.kept.Kept.{Kept}
 use Rattle.kc_watch.specs.declared.watcher.Watcher.{Watcher}
 
 -- the graph of the edges that were gathered
@@ -19,15 +19,15 @@ abbrev pub graph_gathered : Gathered → SimpleGraph
 graph_gathered gathered = record { size = length gathered.ids; edges = set.from_list gathered.edges.items }
 
 -- The keeper has the graph behind the batches that have ended, and they are counted. Before any batch line there is no keeper.
-abbrev pub KeepsAccount : Option Ranked → ℕ → Told → Type 0
+abbrev pub KeepsAccount : Option Kept → ℕ → Told → Type 0
 KeepsAccount None ended told = (told.last ≡ None) × (ended ≡ 0)
-KeepsAccount (Some keeper) ended told = (is_some told.last ≡ true) × (keeper.graph ≡ (account_of told.edges told.earlier).graph)
+KeepsAccount (Some kept) ended told = (is_some told.last ≡ true) × (kept.keeper.graph ≡ (account_of told.edges told.earlier).graph)
     × (ended ≡ (account_of told.edges told.earlier).ended)
 
 -- A course has come to what these lines come to.
 pub record StandsAt (course : Course) (heard : Heard) : Type 0 where
   pub gathers : Gathers course.gathered heard
-  pub keeps : heard.refusal ≡ None → KeepsAccount course.keeper course.ended heard.told
+  pub keeps : heard.refusal ≡ None → KeepsAccount course.kept course.ended heard.told
 
 -- A watcher was fed these bytes: it has read lines that have ended, and keeps the bytes behind, which are of an open line. Where a line is
 -- refused, nothing is kept of the bytes behind it.

@@ -3,7 +3,9 @@
 ghost use Rattle.std.specs.Prelude.{◌≡◌, [], List, ℕ};
 ghost use Rattle.kc_graph.specs.Core.{AreCoreNumbers};
 ghost use Rattle.kc_graph.specs.SimpleGraph.{SimpleGraph};
-ghost use Rattle.kc_watch.specs.Text.{core_numbers_of, reply};
+ghost use Rattle.kc_watch.specs.Accounts.{core_numbers_of};
+ghost use Rattle.kc_watch.specs.Text.{reply};
+ghost use Rattle.kc_watch.specs.declared.options.WatchOptions.{WatchOptions};
 
 /// Each graph has its core numbers, and no other list of numbers is its core numbers.
 pub fn every_graph_has_its_core_numbers()
@@ -13,5 +15,5 @@ pub fn every_graph_has_its_core_numbers()
 
 /// To no bytes nothing is answered.
 pub fn nothing_is_answered_to_nothing()
-    ensures { reply [] ≡ [] }
+    ensures { (options : WatchOptions) → reply options [] ≡ [] }
 {}

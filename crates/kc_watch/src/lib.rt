@@ -2,8 +2,9 @@
 //!
 //! A [`Watcher`] is fed the bytes of a stream, cut anywhere, and puts the text that answers them behind an output: a line for the graph of
 //! the start once a batch begins, and a line for each batch once it ends, as the next one begins or the stream ends. The stream has the
-//! lines of `kc_text`, and the lines of the answer are those of `kc_report`. `specs/Text` says what the answer to some bytes is: of the
-//! core numbers of the graph after each batch (Seidman 1983), and not of what the watcher keeps. So no line is held back, and none is early.
+//! lines of `kc_text`, and the lines of the answer are those of `kc_report`, with those of `kc_changes` behind a batch where they are asked
+//! for. `specs/Text` says what the answer to some bytes is: of the core numbers of the graph before and after each batch (Seidman 1983), and
+//! not of what the watcher keeps. So no line is held back, and none is early.
 //!
 //! What is kept is the graph with its core numbers (`kc_keeper`), the ids and the batch that is open (`kc_stream`): the memory is theirs, and
 //! not that of the stream.
@@ -11,9 +12,14 @@
 
 mod batch;
 mod course;
+mod kept;
 pub mod laws;
+mod listing;
+mod options;
 mod start;
 mod watcher;
 
+pub use kc_changes::Show;
+pub use options::WatchOptions;
 pub use std::alloc::AllocError as NoMemory;
 pub use watcher::Watcher;

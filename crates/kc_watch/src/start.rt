@@ -1,10 +1,8 @@
 //! The graph of the start: its keeper, and its line.
 ghost use Rattle.std.specs.Prelude.{◌≡◌, ◌≤◌, ◌++◌, All, IfOk, OnErr, OnOk, length};
-ghost use Rattle.std.specs.FinSet as set;
-ghost use Rattle.kc_report.specs.Lines.{graph_line};
 ghost use Rattle.kc_words.specs.declared.layout.TheConstants.{VERTICES};
 ghost use Rattle.kc_stream.specs.Gathering.{IsPairBelow};
-ghost use Rattle.kc_watch.specs.Text.{top_of};
+ghost use Rattle.kc_watch.specs.Text.{start_line};
 ghost use Rattle.kc_watch.specs.Watching.{graph_gathered};
 
 use crate::NoMemory;
@@ -44,8 +42,7 @@ pub(crate) fn end_start(
 ) -> Result<Keeper, NoMemory>
     requires { All (IsPairBelow (length gathered.now.ids)) gathered.now.edges.items }
     ensures kept { IfOk result (λ keeper. keeper.graph ≡ graph_gathered gathered.now) }
-    ensures put { OnOk result (let g = graph_gathered gathered.now in
-        out.new.items ≡ out.old.items ++ graph_line g.size (set.len g.edges) (top_of g)) }
+    ensures put { OnOk result (out.new.items ≡ out.old.items ++ start_line (graph_gathered gathered.now)) }
     ensures err { OnErr result (out.new.items ≡ out.old.items) }
 {
     let lawful = graph_of(alloc, gathered)?;

@@ -9,6 +9,7 @@ ghost use Rattle.kc_watch.specs.Watching.{HasEnded, WasFed};
 
 use crate::NoMemory;
 use crate::course::Course;
+use crate::options::WatchOptions;
 use kc_dialogue::flow::Flow;
 use kc_dialogue::replier::Replier;
 use kc_stream::ended_len;
@@ -18,17 +19,33 @@ use std::alloc::Global;
 /// What is fed a stream, and answers it with the lines of its graph and of its batches, each as soon as its part of the stream has ended.
 #[derive(Drop)]
 pub struct Watcher {
+    options: WatchOptions,
     course: Course,
     /// The bytes of the line that has begun and not ended.
     begun: Vec<u8>,
 }
 
 impl Watcher {
-    /// A watcher that was fed nothing. It takes no memory.
-    pub fn new(alloc: Global) -> Watcher
-        ensures { WasFed result [] }
+    /// A watcher that was fed nothing, and answers what these options ask for. It takes no memory.
+    ///
+    /// # Example
+    ///
+    /// ```rust
+    /// use kc_dialogue::replier::Replier;
+    /// use kc_watch::{Show, WatchOptions, Watcher};
+    ///
+    /// let options = WatchOptions { show: Show::Changes, enter: Some(2) };
+    /// let mut watcher = Watcher::new(alloc, options);
+    /// let mut out = Vec::new(alloc);
+    /// watcher.feed(alloc, b"1 2\n2 3\nbatch\n+ 1 3\n", &mut out)?; // "graph vertices 3 edges 2 top 1\n"
+    /// watcher.end(alloc, &mut out)?; // and "batch 1 added 1 .. top 2\n1 1 2\n2 1 2\n3 1 2\nenter 1\nenter 2\nenter 3\n"
+    /// ```
+    pub fn new(alloc: Global, options: WatchOptions) -> Watcher
+        ensures fed { WasFed result [] }
+        ensures options { result.options ≡ options }
     {
         Watcher {
+            options,
             course: Course::new(alloc),
             begun: Vec::new(alloc),
         }
@@ -60,26 +77,27 @@ impl Watcher {
         requires fed { (fed : List ℕ) × WasFed self.old fed }
         ensures fed { OnOk result ((fed : List ℕ) → WasFed self.old fed → WasFed self.new (fed ++ whole.now)) }
         ensures put { (put : List ℕ) × (out.new.items ≡ out.old.items ++ put) × ((fed : List ℕ) → WasFed self.old fed
-            → OnOk result (reply (fed ++ whole.now) ≡ reply fed ++ put)
-            × OnErr result (IsPrefixOf (reply (fed ++ whole.now)) (reply fed ++ put))) }
+            → OnOk result (reply self.old.options (fed ++ whole.now) ≡ reply self.old.options fed ++ put)
+            × OnErr result (IsPrefixOf (reply self.old.options (fed ++ whole.now)) (reply self.old.options fed ++ put))) }
+        ensures same { self.new.options ≡ self.old.options }
     {
         if whole.is_empty() {
             return Ok(());
         }
         if self.begun.is_empty() {
-            return self.course.read(alloc, whole, out);
+            return self.course.read(alloc, self.options, whole, out);
         }
         self.begun.extend_from_slice(whole)?;
-        self.course.read(alloc, &self.begun, out)?;
+        self.course.read(alloc, self.options, &self.begun, out)?;
         self.begun.clear();
         Ok(())
     }
 }
 
 impl Replier for Watcher {
-    ghost reply = { λ _. reply };
+    ghost reply = { λ watcher. reply watcher.options };
 
-    ghost reply_at_end = { λ _. reply_at_end };
+    ghost reply_at_end = { λ watcher. reply_at_end watcher.options };
 
     ghost was_fed = { WasFed };
 
@@ -99,10 +117,10 @@ impl Replier for Watcher {
         if self.course.refusal().is_some() {
             return Ok(());
         }
-        self.course.read(alloc, &self.begun, out)?;
+        self.course.read(alloc, self.options, &self.begun, out)?;
         if self.course.refusal().is_some() {
             return Ok(());
         }
-        self.course.end_part(alloc, out)
+        self.course.end_part(alloc, self.options, out)
     }
 }

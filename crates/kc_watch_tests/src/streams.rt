@@ -1,18 +1,43 @@
 //! Streams, with what they are answered.
 use kc_dialogue::replier::Replier;
 use kc_text::{Kind, Refusal};
-use kc_watch::Watcher;
+use kc_watch::{Show, WatchOptions, Watcher};
 use std::process::Abort;
 use std::test::Fail;
+
+/// Nothing but the lines of the graph and of the batches.
+const BRIEF: WatchOptions = WatchOptions {
+    show: Show::Summary,
+    enter: None,
+};
+
+/// And each core number that changes.
+const CHANGES: WatchOptions = WatchOptions {
+    show: Show::Changes,
+    enter: None,
+};
+
+/// And who comes into the 2-core or leaves it.
+const ENTER: WatchOptions = WatchOptions {
+    show: Show::Summary,
+    enter: Some(2),
+};
+
+/// And both.
+const BOTH: WatchOptions = WatchOptions {
+    show: Show::Changes,
+    enter: Some(1),
+};
 
 /// What a stream is answered that comes in pieces of a size, or of one byte where that is 0, and the line that is refused.
 fn answered<R: Abort + AllocGlobal>(
     rt: &R,
+    options: WatchOptions,
     stream: &[u8],
     size: usize,
 ) -> Result<(Vec<u8>, Option<Refusal>), Fail> {
     let alloc = rt.alloc();
-    let mut watcher = Watcher::new(alloc);
+    let mut watcher = Watcher::new(alloc, options);
     let mut out = Vec::new(alloc);
     let mut rest = stream;
     while !rest.is_empty() {
@@ -28,13 +53,23 @@ fn answered<R: Abort + AllocGlobal>(
 }
 
 /// Checks what a stream is answered, in pieces of several sizes.
-fn check<R: Abort + AllocGlobal>(rt: &R, stream: &[u8], wanted: &[u8]) -> Result<(), Fail> {
+fn check_with<R: Abort + AllocGlobal>(
+    rt: &R,
+    options: WatchOptions,
+    stream: &[u8],
+    wanted: &[u8],
+) -> Result<(), Fail> {
     for size in [1, 2, 7, 1000] {
-        let (out, refusal) = answered(rt, stream, size)?;
+        let (out, refusal) = answered(rt, options, stream, size)?;
         assert_eq!(rt; out.as_slice(), wanted);
         assert_eq!(rt; refusal, None);
     }
     Ok(())
+}
+
+/// Checks what a stream is answered where nothing more is asked for.
+fn check<R: Abort + AllocGlobal>(rt: &R, stream: &[u8], wanted: &[u8]) -> Result<(), Fail> {
+    check_with(rt, BRIEF, stream, wanted)
 }
 
 /// Checks what a stream is answered of which a line is refused, in pieces of several sizes.
@@ -46,7 +81,7 @@ fn check_refused<R: Abort + AllocGlobal>(
     kind: Kind,
 ) -> Result<(), Fail> {
     for size in [1, 2, 7, 1000] {
-        let (out, refusal) = answered(rt, stream, size)?;
+        let (out, refusal) = answered(rt, CHANGES, stream, size)?;
         assert_eq!(rt; out.as_slice(), wanted);
         assert_eq!(rt; refusal, Some(Refusal { line, kind }));
     }
@@ -91,5 +126,52 @@ fn refused_lines(rt: HostRuntime) -> Result<(), Fail> {
         start,
         3,
         Kind::LoopInBatch,
+    )
+}
+
+/// A path of ids in another order than they come in, a triangle of them with a new id on it, and then the path without its end.
+const TRIANGLE: &[u8] =
+    b"30 20\n20 10\nbatch\n+ 10 30\n+ 5 30\nbatch\n- 20 10\nbatch\n- 20 30\n+ 7 5\n- 5 7\n";
+
+#[test]
+fn changed_core_numbers(rt: HostRuntime) -> Result<(), Fail> {
+    check_with(
+        &rt,
+        CHANGES,
+        TRIANGLE,
+        b"graph vertices 3 edges 2 top 1\n\
+          batch 1 added 2 removed 0 kept 0 edges 4 top 2\n5 - 1\n10 1 2\n20 1 2\n30 1 2\n\
+          batch 2 added 0 removed 1 kept 0 edges 3 top 1\n10 2 1\n20 2 1\n30 2 1\n\
+          batch 3 added 0 removed 1 kept 1 overruled 1 edges 2 top 1\n7 - 0\n20 1 0\n",
+    )?;
+    check_with(
+        &rt,
+        CHANGES,
+        b"1 2\nbatch\nbatch\n+ 2 1\n",
+        b"graph vertices 2 edges 1 top 1\n\
+          batch 1 added 0 removed 0 kept 0 edges 1 top 1\n\
+          batch 2 added 0 removed 0 kept 1 edges 1 top 1\n",
+    )
+}
+
+#[test]
+fn who_comes_into_a_core_and_leaves_it(rt: HostRuntime) -> Result<(), Fail> {
+    check_with(
+        &rt,
+        ENTER,
+        TRIANGLE,
+        b"graph vertices 3 edges 2 top 1\n\
+          batch 1 added 2 removed 0 kept 0 edges 4 top 2\nenter 10\nenter 20\nenter 30\n\
+          batch 2 added 0 removed 1 kept 0 edges 3 top 1\nleave 10\nleave 20\nleave 30\n\
+          batch 3 added 0 removed 1 kept 1 overruled 1 edges 2 top 1\n",
+    )?;
+    check_with(
+        &rt,
+        BOTH,
+        TRIANGLE,
+        b"graph vertices 3 edges 2 top 1\n\
+          batch 1 added 2 removed 0 kept 0 edges 4 top 2\n5 - 1\n10 1 2\n20 1 2\n30 1 2\nenter 5\n\
+          batch 2 added 0 removed 1 kept 0 edges 3 top 1\n10 2 1\n20 2 1\n30 2 1\n\
+          batch 3 added 0 removed 1 kept 1 overruled 1 edges 2 top 1\n7 - 0\n20 1 0\nleave 20\n",
     )
 }

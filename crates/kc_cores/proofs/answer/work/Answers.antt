@@ -35,6 +35,6 @@ pub returns-in-Ok-Watch-clause-ended : goal.returns-in-Ok-Watch-clause-ended
 returns-in-Ok-Watch-clause-ended g c =
     let asks = rw c.in-Ok-Watch.field-0-is at c.in-Ok-Watch.ensures.asks in
     EndsAsAsked-watch g.I.Source g.I.FileInput.behind g.C.Source g.C.FileInput.behind g.O.Sink g.O.PipeSink.gone
-    g.L.Wire (wish_of (map g.W.AsStr.text c.args.words.now)) c.watch.result.status (line_of c.watch.result) c.args.streams.now.input
+    g.L.Wire (wish_of (map g.W.AsStr.text c.args.words.now)) c.in-Ok-Watch.options c.watch.result.status (line_of c.watch.result) c.args.streams.now.input
     c.args.streams.now.input c.args.streams.now.certificate c.args.streams.now.certificate c.args.streams.now.out c.args.streams.now.out
     c.args.streams.now.wire c.watch.new.wire asks c.watch.ensures refl refl refl

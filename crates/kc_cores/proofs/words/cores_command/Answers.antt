@@ -9,5 +9,5 @@ returns c =
     let checks = c.in_ok-command.ensures.shape c.in_ok-check_command.ensures.local
     ∙ ap₂ with_subcommand c.in_ok-tasks.ensures (ap (λ (a : App). a.top) c.in_ok-check_command.ensures.app) in
     IfOk-weaker c.subcommand-2.result _ _
-    (λ made h. h.shape c.watch_command.ensures.local ∙ ap₂ with_subcommand checks (ap (λ (a : App). a.top) c.watch_command.ensures.app))
+    (λ made h. h.shape c.in_ok-watch_command.ensures.local ∙ ap₂ with_subcommand checks (ap (λ (a : App). a.top) c.in_ok-watch_command.ensures.app))
     c.subcommand-2.ensures

@@ -4,6 +4,10 @@ use Rattle.std.specs.Prelude.{All, not}
 use Rattle.kc_graph.specs.SimpleGraph.{SimpleGraph}
 use Rattle.kc_graph.specs.declared.update.Update.{Update}
 use Rattle.kc_keeper.specs.Batches.{count_applied, made_in_turn}
+use Rattle.kc_keeper.specs.Cores.{AreCoreChanges}
+use Rattle.kc_keeper.specs.declared.changes.CoreChange.{CoreChange}
+use Rattle.kc_watch.specs.Accounts.{core_numbers_of}
+use Rattle.kc_watch.proofs.Accounts.{numbers-alone}
 use Rattle.kc_watch.proofs.Entering.{AreApart, applied-few, effects-of, made-batch, none-outside}
 use Rattle.kc_watch.proofs.batch.make.Goals as goal
 
@@ -67,3 +71,11 @@ unreachable-requires c =
     let (outside, same) = rw c.in-Err-NoVertex.field-0-is at c.in-Err-NoVertex.ensures.cause in
     none-outside size c.deref.result.now _ _
     (subst (λ (us : List Update). All (λ u. u.v < size) us) (sym c.deref.ensures.value) (c.in_ok-batch.ensures.batch size c.requires).within) outside
+
+pub returns-in-Ok-clause-cores : goal.returns-in-Ok-clause-cores
+returns-in-Ok-clause-cores c =
+    let changes : List CoreChange = c.apply.new.changes.cores.items in
+    let old : c.args.keeper.now.core ≡ core_numbers_of c.args.keeper.now.graph = numbers-alone _ _ c.recall_certified.ensures.seidman in
+    let new : c.apply.new.self.core ≡ core_numbers_of c.apply.new.self.graph = numbers-alone _ _ c.in-Ok.ensures.seidman in
+    subst (λ (l : List ℕ). AreCoreChanges l (core_numbers_of c.apply.new.self.graph) changes) old
+    (subst (λ (l : List ℕ). AreCoreChanges c.args.keeper.now.core l changes) new c.in-Ok.ensures.cores)

@@ -4,7 +4,7 @@ use Rattle.std.specs.FinSet as set
 use Rattle.kc_graph.specs.Core.{AreCoreNumbers}
 use Rattle.kc_graph.specs.SimpleGraph.{SimpleGraph}
 use Rattle.kc_report.specs.Lines.{graph_line}
-use Rattle.kc_watch.specs.Text.{top_of}
+use Rattle.kc_watch.specs.Accounts.{top_of}
 use Rattle.kc_watch.specs.Watching.{graph_gathered}
 use Rattle.kc_watch.proofs.Accounts.{top-is}
 use Rattle.kc_watch.proofs.start.end_start.Goals as goal

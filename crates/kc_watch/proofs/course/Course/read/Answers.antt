@@ -1,12 +1,12 @@
--- The next line is read behind the others, and what it adds is put behind what they add.
-use Rattle.std.proofs.Common.{◌≡◌, ◌++◌, ◌∷◌, [], ℕ, List, ap, sym, subst, ◌∙◌, append_assoc, append-nil, map}
+-- The next line is read behind the others, and what it is answered is put behind what they are.
+use Rattle.std.proofs.Common.{◌≡◌, ◌++◌, ◌∷◌, [], ℕ, List, ap, ap₂, sym, subst, ◌∙◌, append_assoc, append-nil, map}
 use Rattle.kc_dialogue.specs.Replies.{IsPrefixOf}
 use Rattle.kc_text.specs.declared.line.TextLine.{TextLine}
 use Rattle.kc_text.specs.Forms.{all_said, said_by}
-use Rattle.kc_stream.specs.Hearing.{Heard, hear_all}
-use Rattle.kc_watch.specs.Text.{reply_of}
+use Rattle.kc_stream.specs.Hearing.{hear_all}
+use Rattle.kc_watch.specs.Text.{answers_behind}
 use Rattle.kc_watch.specs.Watching.{StandsAt}
-use Rattle.kc_watch.proofs.Lines.{on-err, read-more, stopped-prefix}
+use Rattle.kc_watch.proofs.Lines.{answers-more, on-err, read-more, stopped-prefix}
 use Rattle.kc_watch.proofs.course.Course.read.Goals as goal
 
 pub loop-line-preserved : goal.loop-line-preserved
@@ -26,8 +26,8 @@ loop-line-preserved c =
           put ++ more,
           out' ∙ ap (λ (t : List ℕ). t ++ more) out ∙ append_assoc c.args.out.now.items put more,
           λ heard s.
-              ap (λ (h : Heard). reply_of h.told) (read-more heard done line) ∙ (adds' (hear_all heard done) (stands heard s)).0
-              ∙ ap (λ (t : List ℕ). t ++ more) (adds heard s) ∙ append_assoc (reply_of heard.told) put more,
+              ap₂ (λ (x y : List ℕ). x ++ y) (adds heard s) (adds' (hear_all heard done) (stands heard s)).0
+              ∙ sym (answers-more c.args.options heard done line),
         ),
       );
     }
@@ -42,9 +42,10 @@ returns-in_err-take-clause-put c =
       put ++ more,
       out' ∙ ap (λ (t : List ℕ). t ++ more) out ∙ append_assoc c.args.out.now.items put more,
       λ heard s. on-err c.from_residual.result _ _ c.from_residual.ensures.0
-          (subst (λ (t : List TextLine). IsPrefixOf (reply_of (hear_all heard t).told) (reply_of heard.told ++ (put ++ more)))
+          (subst (λ (t : List TextLine). IsPrefixOf (answers_behind c.args.options heard t) (put ++ more))
           (sym (is ∙ ap (λ (t : List TextLine). done ++ t) said))
-          (stopped-prefix heard done (all_said c.in-Some.more.now) line put more (adds heard s) (adds' (hear_all heard done) (stands heard s)).1)),
+          (stopped-prefix c.args.options heard done (all_said c.in-Some.more.now) line put more (adds heard s)
+          (adds' (hear_all heard done) (stands heard s)).1)),
     )
 
 pub returns-clause-put : goal.returns-clause-put
@@ -54,5 +55,5 @@ returns-clause-put c =
     let whole : all_said c.args.bytes.now ≡ done = is ∙ ap (λ (t : List TextLine). done ++ t) nothing ∙ append-nil done in (
       put,
       out,
-      λ heard s. (ap (λ (t : List TextLine). reply_of (hear_all heard t).told) whole ∙ adds heard s, tt),
+      λ heard s. (adds heard s ∙ ap (λ (t : List TextLine). answers_behind c.args.options heard t) (sym whole), tt),
     )

@@ -2,15 +2,15 @@
 use Rattle.std.proofs.Common.{◌≡◌, ◌<◌, ◌++◌, [], ℕ, List, length, ap, sym, refl, ◌∙◌, append-nil, arith}
 use Rattle.std.proofs.lemmas.Bool.{eqb-false, eqb-true}
 use Rattle.std.proofs.lemmas.Result.{on_ok_weaker}
-use Rattle.kc_watch.proofs.Fed.{nil-from, none-reply, read-answers, read-broken, read-fed, read-grows, read-reply}
-use Rattle.kc_watch.proofs.Lines.{on-err}
+use Rattle.kc_watch.proofs.Fed.{nil-from, none-reply, read-all, read-answers, read-broken, read-fed}
+use Rattle.kc_watch.proofs.Lines.{on-err, prefix-none}
 use Rattle.kc_watch.proofs.watcher.Watcher.read_ended.Goals as goal
 
 pub returns-then-is_empty-clause-put : goal.returns-then-is_empty-clause-put
 returns-then-is_empty-clause-put c = (
   [],
   sym (append-nil c.args.out.now.items),
-  λ fed f. (none-reply fed c.args.whole.now (eqb-true (length c.args.whole.now) 0 (sym c.if-is_empty.ensures)), tt),
+  λ fed f. (none-reply c.args.self.now.options fed c.args.whole.now (eqb-true (length c.args.whole.now) 0 (sym c.if-is_empty.ensures)), tt),
 )
 
 pub returns-then-is_empty-2-clause-fed : goal.returns-then-is_empty-2-clause-fed
@@ -33,7 +33,7 @@ returns-then-is_empty-2-clause-put c =
       put,
       out,
       read-answers c.args.self.now c.requires.going c.args.whole.now c.args.whole.now c.requires.ended some
-          (sym (ap (λ (t : List ℕ). t ++ c.args.whole.now) empty)) c.read.result put adds,
+          (sym (ap (λ (t : List ℕ). t ++ c.args.whole.now) empty)) c.args.self.now.options c.read.result put adds,
     )
 
 pub returns-in_err-extend_from_slice-clause-put : goal.returns-in_err-extend_from_slice-clause-put
@@ -43,7 +43,8 @@ returns-in_err-extend_from_slice-clause-put c =
       [],
       sym (append-nil c.args.out.now.items),
       λ fed f. on-err c.from_residual.result _ _ c.from_residual.ensures.0
-          (read-grows c.args.self.now c.requires.going c.args.whole.now (c.args.self.now.begun.items ++ c.args.whole.now) c.requires.ended some refl fed f),
+          (read-broken c.args.self.now c.requires.going c.args.whole.now (c.args.self.now.begun.items ++ c.args.whole.now) c.requires.ended some refl
+          c.args.self.now.options [] (λ heard s. prefix-none _) fed f),
     )
 
 pub returns-in_err-read-clause-put : goal.returns-in_err-read-clause-put
@@ -55,8 +56,8 @@ returns-in_err-read-clause-put c =
       put,
       out,
       λ fed f. on-err c.from_residual-in_err-read.result _ _ c.from_residual-in_err-read.ensures.0
-          (read-broken c.args.self.now c.requires.going c.args.whole.now c.deref.result.now c.requires.ended some is fed f put
-          (λ heard s. (adds heard s).1)),
+          (read-broken c.args.self.now c.requires.going c.args.whole.now c.deref.result.now c.requires.ended some is c.args.self.now.options put
+          (λ heard s. (adds heard s).1) fed f),
     )
 
 pub returns-clause-fed : goal.returns-clause-fed
@@ -75,7 +76,8 @@ returns-clause-put c =
       put,
       out,
       λ fed f. (
-        read-reply c.args.self.now c.requires.going c.args.whole.now c.deref.result.now c.requires.ended some is fed f put (λ heard s. (adds heard s).0),
+        read-all c.args.self.now c.requires.going c.args.whole.now c.deref.result.now c.requires.ended some is c.args.self.now.options put
+            (λ heard s. (adds heard s).0) fed f,
         tt,
       ),
     )

@@ -16,7 +16,8 @@ returns-then-is_some c =
         [],
         sym (append-nil c.args.out.now.items),
         λ fed f. (
-          ap reply_at_end (sym (append-nil fed)) ∙ (stays c.args.self.now fed f some []).1 ∙ sym (append-nil (reply fed)),
+          ap (reply_at_end c.args.self.now.options) (sym (append-nil fed)) ∙ (stays c.args.self.now fed f c.args.self.now.options some []).1
+              ∙ sym (append-nil (reply c.args.self.now.options fed)),
           tt,
         ),
       );
@@ -32,7 +33,8 @@ returns-in_err-read c =
         put,
         out,
         λ fed f. on-err c.from_residual.result _ _ c.from_residual.ensures.0
-            (end-broken c.args.self.now (none-from _ going) c.deref.result.now c.deref.ensures.value fed f put (adds (heard_of f.done) f.stands).1),
+            (end-broken c.args.self.now (none-from _ going) c.deref.result.now c.deref.ensures.value fed f c.args.self.now.options put
+            (adds (heard_of f.done) f.stands).1),
       );
     }
 
@@ -48,7 +50,7 @@ returns-then-is_some-2 c =
         put,
         out,
         λ fed f. (
-          end-refused c.args.self.now (none-from _ going) c.deref.result.now c.deref.ensures.value fed f c.read.new.self put
+          end-refused c.args.self.now (none-from _ going) c.deref.result.now c.deref.ensures.value fed f c.args.self.now.options c.read.new.self put
               (c.in_ok-read.ensures.stands (heard_of f.done) f.stands) some (adds (heard_of f.done) f.stands).0,
           tt,
         ),
@@ -82,7 +84,7 @@ returns c =
         λ fed f.
             let s = c.in_ok-read.ensures.stands (heard_of f.done) f.stands in
             let none = going-heard c.read.new.self _ s going in
-            end-answers c.args.self.now (none-from _ before) c.deref.result.now c.deref.ensures.value fed f c.end_part.result c.read.new.self put more s going
-            (adds (heard_of f.done) f.stands).0 (adds' _ (s.gathers.holds none) (s.keeps none)),
+            end-answers c.args.self.now (none-from _ before) c.deref.result.now c.deref.ensures.value fed f c.args.self.now.options c.end_part.result c.read.new.self
+            put more s going (adds (heard_of f.done) f.stands).0 (adds' _ (s.gathers.holds none) (s.keeps none)),
       );
     }

@@ -17,13 +17,17 @@ returns-then-is_some-clause-put c =
     let some : is_some c.args.self.now.course.gathered.refusal ≡ true = grind (arith, c.refusal.ensures, c.is_some.ensures, c.if-is_some.true) in (
       [],
       sym (append-nil c.args.out.now.items),
-      λ fed f. (more-reply c.args.self.now fed f c.args.piece.now (refused-open c.args.self.now fed f some) ∙ sym (append-nil (reply fed)), tt),
+      λ fed f. (
+        more-reply c.args.self.now fed f c.args.self.now.options c.args.piece.now (refused-open c.args.self.now fed f some)
+            ∙ sym (append-nil (reply c.args.self.now.options fed)),
+        tt,
+      ),
     )
 
 pub returns-then-is_some-clause-ended : goal.returns-then-is_some-clause-ended
 returns-then-is_some-clause-ended c = λ _ fed f.
     let some : is_some c.args.self.now.course.gathered.refusal ≡ true = grind (arith, c.refusal.ensures, c.is_some.ensures, c.if-is_some.true) in
-    stays c.args.self.now (fed ++ c.args.piece.now) (fed-refused c.args.self.now fed f c.args.piece.now some) some
+    stays c.args.self.now (fed ++ c.args.piece.now) (fed-refused c.args.self.now fed f c.args.piece.now some) c.args.self.now.options some
 
 pub returns-in_err-read_ended-clause-put : goal.returns-in_err-read_ended-clause-put
 returns-in_err-read_ended-clause-put c =
@@ -38,11 +42,11 @@ returns-in_err-read_ended-clause-put c =
       put,
       out,
       λ fed f.
-          let same : reply (fed ++ c.args.piece.now) ≡ reply (fed ++ whole) =
-          ap reply (ap (λ (t : List ℕ). fed ++ t) (sym parts) ∙ sym (append_assoc fed whole rest))
-          ∙ open-reply c.args.self.now fed whole rest f (none-from _ going) ends o in
+          let same : reply c.args.self.now.options (fed ++ c.args.piece.now) ≡ reply c.args.self.now.options (fed ++ whole) =
+          ap (reply c.args.self.now.options) (ap (λ (t : List ℕ). fed ++ t) (sym parts) ∙ sym (append_assoc fed whole rest))
+          ∙ open-reply c.args.self.now.options c.args.self.now fed whole rest f (none-from _ going) ends o in
           on-err c.from_residual.result _ _ c.from_residual.ensures.0
-          (subst (λ (t : List ℕ). IsPrefixOf t (reply fed ++ put)) (sym same) (adds fed f).1),
+          (subst (λ (t : List ℕ). IsPrefixOf t (reply c.args.self.now.options fed ++ put)) (sym same) (adds fed f).1),
     )
 
 pub returns-in_err-extend_from_slice-clause-put : goal.returns-in_err-extend_from_slice-clause-put
@@ -58,9 +62,9 @@ returns-in_err-extend_from_slice-clause-put c =
       put,
       out,
       λ fed f.
-          let same : reply (fed ++ c.args.piece.now) ≡ reply (fed ++ whole) =
-          ap reply (ap (λ (t : List ℕ). fed ++ t) (sym parts) ∙ sym (append_assoc fed whole rest))
-          ∙ open-reply c.args.self.now fed whole rest f (none-from _ going) ends o in
+          let same : reply c.args.self.now.options (fed ++ c.args.piece.now) ≡ reply c.args.self.now.options (fed ++ whole) =
+          ap (reply c.args.self.now.options) (ap (λ (t : List ℕ). fed ++ t) (sym parts) ∙ sym (append_assoc fed whole rest))
+          ∙ open-reply c.args.self.now.options c.args.self.now fed whole rest f (none-from _ going) ends o in
           on-err c.from_residual-in_err-extend_from_slice.result _ _ c.from_residual-in_err-extend_from_slice.ensures.0
           (prefix-same _ _ (same ∙ (adds fed f).0)),
     )
@@ -88,11 +92,11 @@ returns-clause-put c =
       put,
       out,
       λ fed f. (
-        ap reply (ap (λ (t : List ℕ). fed ++ t) (sym parts) ∙ sym (append_assoc fed whole rest))
-            ∙ open-reply c.args.self.now fed whole rest f (none-from _ going) ends o ∙ (adds fed f).0,
+        ap (reply c.args.self.now.options) (ap (λ (t : List ℕ). fed ++ t) (sym parts) ∙ sym (append_assoc fed whole rest))
+            ∙ open-reply c.args.self.now.options c.args.self.now fed whole rest f (none-from _ going) ends o ∙ (adds fed f).0,
         tt,
       ),
     )
 
 pub returns-clause-ended : goal.returns-clause-ended
-returns-clause-ended c = λ e fed f. stays _ (fed ++ c.args.piece.now) (returns-clause-fed c fed f) (c.flow.ensures e)
+returns-clause-ended c = λ e fed f. stays _ (fed ++ c.args.piece.now) (returns-clause-fed c fed f) c.args.self.now.options (c.flow.ensures e)

@@ -1,0 +1,12 @@
+-- The two options add their rules to the command.
+use Rattle.std.proofs.Common.{ap₂, ◌∙◌}
+use Rattle.std.proofs.lemmas.Result.{IfOk-weaker}
+use Rattle.clap.specs.Simple.{with_rule}
+use Rattle.kc_cores.proofs.watch_words.watch_command.Goals as goal
+
+pub returns-clause-app : goal.returns-clause-app
+returns-clause-app c =
+    IfOk-weaker c.arg-2.result _ _
+    (λ made h. h.shape c.enter_option.ensures.local
+    ∙ ap₂ with_rule (c.in_ok-shown.ensures.shape c.value_option-show.ensures.local
+    ∙ ap₂ with_rule c.stream_command.ensures.app c.value_option-show.ensures.rule) c.enter_option.ensures.rule) c.arg-2.ensures

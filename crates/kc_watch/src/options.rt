@@ -1,0 +1,27 @@
+//! What a stream is answered beside the lines of its graph and of its batches.
+ghost use Rattle.std.specs.Prelude.{◌≡◌, None, true};
+ghost use Rattle.kc_changes.specs.declared.show.Show.{Show};
+
+use kc_changes::Show;
+
+/// What a stream is answered beside the lines of its graph and of its batches.
+#[derive(Clone, Copy, Debug, PartialEq, Eq)]
+pub struct WatchOptions {
+    /// What is told of core numbers behind a batch.
+    pub show: Show,
+    /// The level of a core, where it is told who came into it in a batch or left it.
+    pub enter: Option<u32>,
+}
+
+impl WatchOptions {
+    /// Whether nothing but lines about the graph and about batches is asked for.
+    pub fn is_brief(self) -> bool
+        ensures show { result ≡ true → self.show ≡ Show.Summary }
+        ensures enter { result ≡ true → self.enter ≡ None }
+    {
+        match self.show {
+            Show::Summary => self.enter.is_none(),
+            Show::Changes => false,
+        }
+    }
+}
