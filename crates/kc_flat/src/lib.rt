@@ -17,8 +17,6 @@ mod packing;
 mod parts;
 mod peeling;
 mod sorting;
-#[cfg(test)]
-mod tests;
 
 pub use graph::FlatGraph;
 pub use kc_graph::NoMemory;

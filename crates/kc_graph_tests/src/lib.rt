@@ -1,5 +1,5 @@
-//! Tests of `kc_graph`, `kc_cert` and `kc_hindex`: graphs, core numbers and certificates of small graphs with answers worked out by hand, and
-//! rounds of h-indices beside the decomposition by buckets.
+//! Tests of `kc_graph`, `kc_flat`, `kc_cert`, `kc_shard` and `kc_hindex`: graphs, core numbers and certificates of small graphs with answers
+//! worked out by hand, rounds on shards, and rounds of h-indices beside the decomposition by buckets.
 //!
 //! The crate has no code but its tests. They stand apart from those crates, whose own functions would be proved once more beside them.
 #![tactic(auto)]
@@ -7,6 +7,10 @@
 #[cfg(test)]
 mod certificates;
 #[cfg(test)]
+mod flat;
+#[cfg(test)]
 mod graphs;
 #[cfg(test)]
 mod rounds;
+#[cfg(test)]
+mod shards;

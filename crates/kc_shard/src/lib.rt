@@ -16,8 +16,6 @@
 mod counting;
 mod fault;
 mod round;
-#[cfg(test)]
-mod tests;
 
 ghost use Rattle.std.specs.Prelude.{◌≡◌, ◌↔◌, ℕ, List, None};
 ghost use Rattle.kc_shard.specs.HIndex.{IsHIndex, h_index};

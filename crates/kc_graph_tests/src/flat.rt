@@ -1,7 +1,7 @@
-//! Small graphs of five vertices, with answers worked out by hand.
+//! Flat graphs of five vertices, with answers worked out by hand.
 ghost use Rattle.kc_flat.specs.Pairs.{AreWithin};
 
-use crate::{Decomposition, FlatGraph, core_numbers, decompose};
+use kc_flat::{Decomposition, FlatGraph, core_numbers, decompose};
 use std::process::Abort;
 
 /// The graph has these core numbers, and the vertex `first` was taken first.
