@@ -1,6 +1,7 @@
 -- What public contracts speak of.
 pub mod Columns
 pub mod Dialects
+pub mod EdgeFaults
 pub mod Names
 pub mod PlainRuns
 pub mod Rewritten

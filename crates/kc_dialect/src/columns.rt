@@ -131,7 +131,7 @@ fn field_of(separator: Separator, before: usize, part: &[u8]) -> (usize, &[u8])
 }
 
 /// The field of a column, from 1, with the number of bytes before it.
-fn field_in(separator: Separator, column: u32, line: &[u8]) -> Option<(usize, &[u8])>
+pub(crate) fn field_in(separator: Separator, column: u32, line: &[u8]) -> Option<(usize, &[u8])>
     ensures found { MatchOption result (in_column column (fields_in separator line.now) ≡ None)
         (λ field. in_column column (fields_in separator line.now) ≡ Some (field.0, field.1.now)) }
     ensures within { IfSome result (λ field. field.0 ≤ length line.now) }

@@ -7,7 +7,8 @@
 //! fields of a line.
 //!
 //! [`Rewriter`] does this with a text that comes in pieces, cut anywhere. [`signature_of`] tells by the first bytes of a file what no
-//! dialect reads: compressed files, UTF-16, and the matrices of MatrixMarket. [`separator_of_name`] tells the separator from a file's name.
+//! dialect reads: compressed files, UTF-16, and the matrices of MatrixMarket. [`separator_of_name`] tells the separator from a file's name,
+//! and [`edge_fault`] where a line is wrong in a list of two ids a line.
 //!
 //! Rewriting is linear, and allocates nothing for a line. Lines of two short numbers alone are found in one scan, and as many as follow one
 //! another are copied at once (`plain_runs`). The crate stands on `kc_text`, whose lines, blanks, comments and numbers it takes.
@@ -17,6 +18,7 @@ mod bad_line;
 mod bytes;
 mod columns;
 mod dialect;
+mod edge_faults;
 mod fault;
 pub mod laws;
 mod line_rewriter;
@@ -29,8 +31,10 @@ mod skipped;
 
 pub use bad_line::{BadField, BadKind, BadLine};
 pub use dialect::{BadLines, Dialect, Separator};
+pub use edge_faults::{EdgeFault, edge_fault, kind_of_bad};
 pub use fault::RewriteFault;
 pub use names::separator_of_name;
+pub use pairs::without_mark;
 pub use rewriter::{MOST_BYTES, Rewriter};
 pub use signatures::{Signature, signature_of};
 pub use skipped::{MOST_KEPT, SkippedLines};

@@ -24,14 +24,14 @@ fn says_nothing(line: &[u8]) -> bool
     }
 }
 
-/// A line without the byte order mark of UTF-8 that may stand at its front.
-fn without_mark(line: &[u8]) -> &[u8]
-    ensures { result.now ≡ without_mark line.now }
+/// Bytes without the byte order mark of UTF-8 that may stand at their front.
+pub fn without_mark(bytes: &[u8]) -> &[u8]
+    ensures { result.now ≡ without_mark bytes.now }
 {
-    if line.len() >= 3 && line[0] == 0xef && line[1] == 0xbb && line[2] == 0xbf {
-        &line[3..]
+    if bytes.len() >= 3 && bytes[0] == 0xef && bytes[1] == 0xbb && bytes[2] == 0xbf {
+        &bytes[3..]
     } else {
-        line
+        bytes
     }
 }
 

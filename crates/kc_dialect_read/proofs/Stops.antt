@@ -6,6 +6,7 @@ use Rattle.std.specs.Io.KnownBytes.{Consumes, IsAtEnd}
 use Rattle.std.proofs.KnownBytes.{Consumes-all, Consumes-whole}
 use Rattle.std.specs.Prelude.{option_map}
 use Rattle.kc_dialect.specs.Dialects.{bad_lines, plain_text}
+use Rattle.kc_dialect.specs.EdgeFaults.{kind_of_bad}
 use Rattle.kc_dialect.specs.Rewritten.{HasFirstBad}
 use Rattle.kc_dialect.specs.Skipped.{AreSkipped}
 use Rattle.kc_dialect.specs.declared.bad_line.BadLine.{BadLine}
@@ -17,7 +18,7 @@ use Rattle.kc_text.specs.Meaning.{Meaning, Means, Refuses, Told, meaning}
 use Rattle.kc_text.specs.declared.kind.Kind.TheVariants.{TooLong}
 use Rattle.kc_text.specs.declared.limits.TheConstants.Limits.{GRAPH}
 use Rattle.kc_text.specs.declared.refusal.Refusal.{Refusal}
-use Rattle.kc_dialect_read.specs.Meanings.{IsRefusedAt, bad_column, dialect_meaning, first_stopping, kind_of_bad, stopping_line, unless_stopped}
+use Rattle.kc_dialect_read.specs.Meanings.{IsRefusedAt, bad_column, dialect_meaning, first_stopping, stopping_line, unless_stopped}
 use Rattle.kc_dialect_read.specs.Reading.{AreEdgesIn}
 use Rattle.kc_dialect_read.specs.declared.fault.PlacedRefusal.{PlacedRefusal}
 use Rattle.kc_dialect_read.specs.declared.plain_reader.DialectEdges.{DialectEdges}

@@ -1,23 +1,15 @@
 -- What a text in a dialect means: what its plain text means, if no bad line ends the reading.
 use Rattle.std.specs.Prelude.{◌≡◌, ℕ, List, [], ◌∷◌, Option, Some, None, length, nat_lt, option_map, if◌then◌else◌}
 use Rattle.kc_dialect.specs.Dialects.{bad_lines, plain_text}
-use Rattle.kc_dialect.specs.declared.bad_line.BadKind.{BadKind}
-use Rattle.kc_dialect.specs.declared.bad_line.BadKind.TheVariants as wrong
+use Rattle.kc_dialect.specs.EdgeFaults.{kind_of_bad}
 use Rattle.kc_dialect.specs.declared.bad_line.BadLine.{BadLine}
 use Rattle.kc_dialect.specs.declared.dialect.BadLines.{BadLines}
 use Rattle.kc_dialect.specs.declared.dialect.BadLines.TheVariants.{Skip, Stop}
 use Rattle.kc_dialect.specs.declared.dialect.Dialect.{Dialect}
 use Rattle.kc_text.specs.Meaning.{Meaning, Refuses, meaning}
-use Rattle.kc_text.specs.declared.kind.Kind.{Kind}
-use Rattle.kc_text.specs.declared.kind.Kind.TheVariants.{MissingField, NotANumber, NumberTooLarge, TooLong}
+use Rattle.kc_text.specs.declared.kind.Kind.TheVariants.{TooLong}
 use Rattle.kc_text.specs.declared.limits.TheConstants.Limits.{GRAPH}
 use Rattle.kc_dialect_read.specs.declared.fault.PlacedRefusal.{PlacedRefusal}
-
--- for which cause a bad line is refused
-abbrev pub kind_of_bad : BadKind → Kind
-kind_of_bad wrong.MissingColumn = MissingField
-kind_of_bad wrong.NotANumber = NotANumber
-kind_of_bad wrong.NumberTooLarge = NumberTooLarge
 
 -- the first of bad lines, where these end the reading
 abbrev pub first_stopping : BadLines → List BadLine → Option BadLine

@@ -1,6 +1,7 @@
 //! Reads the plain text of a text in a dialect as its bytes come.
 ghost use Rattle.std.specs.Prelude.{◌≡◌, ◌≢◌, ◌≤◌, ◌<◌, ◌++◌, ℕ, [], All, Err, List, None, Some, IfOk, IsErrOf, OnOk, length};
 ghost use Rattle.kc_dialect.specs.Dialects.{bad_lines};
+ghost use Rattle.kc_dialect.specs.EdgeFaults.{kind_of_bad};
 ghost use Rattle.kc_dialect.specs.Rewritten.{HasFirstBad};
 ghost use Rattle.kc_dialect.specs.Skipped.{AreSkipped};
 ghost use Rattle.kc_dialect.specs.declared.bad_line.BadLine.{BadLine};
@@ -9,14 +10,14 @@ ghost use Rattle.kc_text.specs.Feeding.{WasFed};
 ghost use Rattle.kc_text.specs.Inputs.{IsNamedEdges};
 ghost use Rattle.kc_text.specs.Meaning.{Means, Refuses, Told, meaning};
 ghost use Rattle.kc_text.specs.declared.limits.TheConstants.Limits.{GRAPH};
-ghost use Rattle.kc_dialect_read.specs.Meanings.{IsRefusedAt, dialect_meaning, kind_of_bad};
+ghost use Rattle.kc_dialect_read.specs.Meanings.{IsRefusedAt, dialect_meaning};
 ghost use Rattle.kc_dialect_read.specs.Reading.{Rewrites};
 ghost use Rattle.kc_dialect_read.specs.declared.fault.DialectFault.TheVariants.{ReadFault, Refused};
 ghost use Rattle.kc_dialect_read.specs.declared.fault.PlacedRefusal.{PlacedRefusal};
 
 use crate::fault::{DialectFault, PlacedRefusal};
-use kc_dialect::{BadKind, BadLine, Dialect, RewriteFault, Rewriter, SkippedLines};
-use kc_text::{Kind, Limits, NamedEdges, ParseFault, Refusal, TextReader};
+use kc_dialect::{BadLine, Dialect, RewriteFault, Rewriter, SkippedLines, kind_of_bad};
+use kc_text::{Limits, NamedEdges, ParseFault, Refusal, TextReader};
 use std::alloc::Global;
 
 /// The ids and edges of a text in a dialect, and the bad lines that were passed over.
@@ -34,16 +35,6 @@ pub(crate) struct PlainReader {
     pub(crate) reader: TextReader,
     /// The plain text of a piece.
     pub(crate) plain: Vec<u8>,
-}
-
-fn kind_of_bad(kind: BadKind) -> Kind
-    ensures { result ≡ kind_of_bad kind }
-{
-    match kind {
-        BadKind::MissingColumn => Kind::MissingField,
-        BadKind::NotANumber => Kind::NotANumber,
-        BadKind::NumberTooLarge => Kind::NumberTooLarge,
-    }
 }
 
 /// The refusal of a bad line.
