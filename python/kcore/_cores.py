@@ -14,9 +14,10 @@ from ._graph import AsArrays, AsLists, Graph, NotAVertexError
 #: The core numbers of a vertex before and after a call; before is None where the vertex is new.
 Change = Tuple[Optional[int], int]
 
-# How many changes of core numbers are asked for at first.
+# For how many changes of core numbers there is room from the opening on.
 _FEW = 64
 
+_CLOSED = "these core numbers are closed"
 _FAR_APART = ": say names=True where ids are far apart"
 
 
@@ -77,7 +78,7 @@ class Cores:
     ([('ann', 'cat'), ('ann', 'dan'), ('bob', 'cat')], True)
     """
 
-    __slots__ = ("_lock", "_place", "_names", "_numbers", "_vertices", "_room", "_core", "_like_array", "_edges", "__weakref__")
+    __slots__ = ("_lock", "_place", "_names", "_numbers", "_vertices", "_room", "_core", "_like_array", "_edges", "_told", "__weakref__")
 
     def __init__(
         self,
@@ -111,6 +112,7 @@ class Cores:
         self._place = place
         self._core = self._read()
         self._edges = _edges.KeptEdges(graph.ends)
+        self._told = array(_lists.CODE, bytes(12 * _FEW))
 
     def __reduce__(self) -> Tuple[Any, ...]:
         with self._lock:
@@ -259,28 +261,39 @@ class Cores:
         TypeError, ValueError
             As `core_numbers` does. Nothing was changed.
         """
-        words = _forms.Words(axis=axis, columns=columns)
-        leaving, coming = (_read(edges, words, self._names is not None) for edges in (remove, insert))
+        words = _forms.words_of(axis, columns)
+        named = self._names is not None
+        leaving = _read(remove, words, named) if _is_given(remove) else None
+        coming = _read(insert, words, named) if _is_given(insert) else None
         with self._lock:
-            gone = self._known_ends(leaving)
-            ends, vertices, new = self._all_ends(coming)
             count = self._vertices
-            self._grow(vertices, new)
-            if self._vertices > count:
-                self._core = self._read()
-            updates = _joined(_lists.updates_of(gone, False), _lists.updates_of(ends, True))
-            answer = self._answer(_library.keeper_apply, _lists.address(updates), _lists.size(updates) // 3)
-            changed = self._changed()
-            for place, _, now in changed:
-                self._core[place] = now
-            self._edges.note(updates[: 3 * answer.number] if answer.status == _library.NO_MEMORY else updates)
-            if answer.status == _library.NO_MEMORY:
-                raise MemoryError(f"there is no memory: the first {answer.number} of {_lists.size(updates) // 3} updates are made")
-            if answer.status != _library.DONE:
-                self._refuse(answer)
+            updates = _lists.NO_UPDATES if leaving is None else _lists.updates_of(self._known_ends(leaving), False)
+            if coming is not None:
+                ends, vertices, new = self._all_ends(coming)
+                if vertices > count:
+                    self._grow(vertices, new)
+                    self._core = self._read()
+                updates = _joined(updates, _lists.updates_of(ends, True))
+            changed = self._made(updates)
             changes: Dict[Any, Change] = {self._vertex(place): (before, now) for place, before, now in changed if place < count}
-            changes.update((self._vertex(place), (None, int(self._core[place]))) for place in range(count, self._vertices))
+            if self._vertices > count:
+                changes.update((self._vertex(place), (None, int(self._core[place]))) for place in range(count, self._vertices))
             return changes
+
+    def _made(self, updates: Any) -> List[Tuple[int, int, int]]:
+        """Makes updates, and tells each vertex whose core number they changed, as `_changed` does. Raises MemoryError where some are not made."""
+        size = len(updates) // 3
+        answer = self._answer(_library.keeper_apply, _lists.address(updates), size)
+        changed = self._changed()
+        for place, _, now in changed:
+            self._core[place] = now
+        if answer.status == _library.NO_MEMORY:
+            self._edges.note(updates[: 3 * answer.number])
+            raise MemoryError(f"there is no memory: the first {answer.number} of {size} updates are made")
+        if answer.status != _library.DONE:
+            self._refuse(answer)
+        self._edges.note(updates)
+        return changed
 
     def replay(self, batches: Iterable[_temporal.Batch], *, core_numbers: bool = False) -> Iterator[_temporal.BatchResult]:
         """Applies batches of edges with times one by one, as `kcore.batches` makes them. Vertices come as edges bring them.
@@ -386,21 +399,21 @@ class Cores:
 
     def _changed(self) -> List[Tuple[int, int, int]]:
         """Each vertex whose core number the last batch changed, in ascending order, with its number before and now."""
-        room = _FEW
-        while True:
-            told = array(_lists.CODE, bytes(12 * room))
-            number = self._call(_library.keeper_changes, 0, _lists.address(told), room).number
-            if number <= room:
-                return list(zip(told[0 : 3 * number : 3], told[1 : 3 * number : 3], told[2 : 3 * number : 3]))
-            room = number
+        told = self._told
+        room = len(told) // 3
+        number = self._call(_library.keeper_changes, 0, _lists.address(told), room).number
+        if number > room:
+            told = array(_lists.CODE, bytes(12 * number))
+            self._call(_library.keeper_changes, 0, _lists.address(told), number)
+        return list(zip(told[0 : 3 * number : 3], told[1 : 3 * number : 3], told[2 : 3 * number : 3])) if number else []
 
     def _refuse_closed(self) -> None:
         if self._place is None:
-            raise ValueError("these core numbers are closed")
+            raise ValueError(_CLOSED)
 
     def _answer(self, function: Any, *arguments: Any) -> _library.Answer:
-        self._refuse_closed()
-        assert self._place is not None
+        if self._place is None:
+            raise ValueError(_CLOSED)
         answer: _library.Answer = function(self._place.address, *arguments)
         return answer
 
@@ -428,6 +441,11 @@ def _opened(pairs: Any, vertices: int, names: Optional[List[Hashable]]) -> Cores
     return cores
 
 
+def _is_given(edges: Any) -> bool:
+    """Whether there may be edges. The empty tuple, which is none, is what is taken where a caller gives nothing."""
+    return type(edges) is not tuple or bool(edges)
+
+
 def _read(edges: Any, words: _forms.Words, names: bool) -> Graph:
     """The edges that a caller gives, where integers are names or not. No word goes with the empty tuple, which stands for no edges."""
     if isinstance(edges, tuple) and not edges:
@@ -442,13 +460,13 @@ def _read(edges: Any, words: _forms.Words, names: bool) -> Graph:
 
 
 def _joined(first: Any, second: Any) -> Any:
-    """Two lists, one behind the other, as one that the library reads."""
+    """Two flat lists, one behind the other, as one that the library reads."""
+    if not len(first):
+        return second
+    if not len(second):
+        return first
     if _lists.is_array(first) and _lists.is_array(second):
         import numpy
 
         return numpy.concatenate((first, second))
-    if not _lists.size(first):
-        return second
-    if not _lists.size(second):
-        return first
     return array(_lists.CODE, _lists.as_list(first) + _lists.as_list(second))

@@ -19,25 +19,26 @@ class KeptEdges:
     """Edges that come and go: those that were there when they were last put together, and the updates since.
 
     An update is noted and no more, and the edges are put together when they are asked for, or when more updates wait than there are edges.
-    So the cost of an update stays the same, and memory in proportion to the graph.
+    So the cost of an update stays the same, and memory in proportion to the graph. The edges at the start are noted too.
     """
 
-    __slots__ = ("_there", "_updates", "_waiting")
+    __slots__ = ("_there", "_updates", "_waiting", "_size")
 
     def __init__(self, ends: Any) -> None:
         """The ends of the edges at the start, one edge after the other: in any order, with loops and repeats."""
         self._there: Any = _no_keys(_lists.is_array(ends))
-        self._updates: List[Any] = []
+        self._updates: List[Any] = [_lists.updates_of(ends, True)]
         self._waiting = 0
-        self.note(_lists.updates_of(ends, True))
-        self._put_together()
+        # How many edges there were when they were last put together, or are listed at the start.
+        self._size = _lists.size(ends) // 2
 
     def note(self, updates: Any) -> None:
         """Notes updates, each of two ends and whether the edge is to come, as the library takes them, in the order in which they are made."""
-        if _lists.size(updates):
+        size = len(updates)
+        if size:
             self._updates.append(updates)
-            self._waiting += _lists.size(updates) // 3
-            if self._waiting > len(self._there) + _FEW:
+            self._waiting += size // 3
+            if self._waiting > self._size + _FEW:
                 self._put_together()
 
     def pairs(self) -> Any:
@@ -50,13 +51,14 @@ class KeptEdges:
         return [(key >> _BITS, key & _OTHER) for key in self._there]
 
     def _put_together(self) -> None:
-        updates, self._updates, self._waiting = self._updates, [], 0
+        updates, self._updates, self._waiting = [listed for listed in self._updates if len(listed)], [], 0
         if not updates:
             return
         if all(map(_lists.is_array, updates)) and (_lists.is_array(self._there) or not len(self._there)):
             self._there = _after_arrays(self._there, updates)
         else:
             self._there = _after(self._there, updates)
+        self._size = len(self._there)
 
 
 def _no_keys(like_array: bool) -> Any:

@@ -46,16 +46,29 @@ _STORED_ZEROS = "this matrix stores zeros, which are edges to some packages and 
 
 def read(edges: Any, words: Words = _NOTHING_SAID) -> Graph:
     """The graph that a caller gives. Raises TypeError where it has none of the forms, or a word does not go with its form."""
-    for form in FORMS:
-        if form.holds(edges):
-            _refuse_other_words(form, words)
-            return form.read(edges, words)
-    raise TypeError(f"edges are pairs of integers or of names, and not of the type {type(edges).__name__}. {told_forms()}")
+    form = _form_of(edges)
+    if form is None:
+        raise TypeError(f"edges are pairs of integers or of names, and not of the type {type(edges).__name__}. {told_forms()}")
+    if words is not _NOTHING_SAID:
+        _refuse_other_words(form, words)
+    return form.read(edges, words)
+
+
+def words_of(axis: Optional[int], columns: Optional[Sequence[Hashable]]) -> Words:
+    """What a caller says who may say these two."""
+    return _NOTHING_SAID if axis is None and columns is None else Words(axis=axis, columns=columns)
+
+
+def _form_of(edges: Any) -> Optional[Form]:
+    """The first form that a value has. A list or a tuple has the last one alone, which is known without asking."""
+    if type(edges) in (list, tuple):
+        return FORMS[-1]
+    return next((form for form in FORMS if form.holds(edges)), None)
 
 
 def read_piece(edges: Any, vertices: int) -> Graph:
     """A piece of the edges: an array with an edge in each row, or an iterable of pairs of integers."""
-    form = next((form for form in FORMS if form.holds(edges)), None)
+    form = _form_of(edges)
     if form is None or form.read not in (_read_array, _read_pairs):
         given = form.name if form else f"of the type {type(edges).__name__}"
         raise TypeError(f"a piece is an array or an iterable of pairs whose edges ascend, and not {given}")
@@ -68,8 +81,9 @@ def read_piece(edges: Any, vertices: int) -> Graph:
 
 def read_named(edges: Any, words: Words = _NOTHING_SAID) -> Graph:
     """The graph that a caller gives, whose vertices have names: integers are names too."""
-    form = next((form for form in FORMS if form.holds(edges)), None)
+    form = _form_of(edges)
     if form is not None and form.read is _read_pairs:
+        _refuse_other_words(form, words)
         return _read_names(_ends_of(edges))
     graph = read(edges, words)
     if names_of(graph) is None:

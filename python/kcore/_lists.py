@@ -17,6 +17,12 @@ FAR_APART = ": give return_ids=True where ids are far apart"
 #: The type code of `array` for unsigned numbers of 32 bits.
 CODE = next(code for code in "IL" if array(code).itemsize == 4)
 
+#: No updates, as `updates_of` makes them.
+NO_UPDATES = array(CODE)
+
+# An update whose ends are to be written.
+_COMES, _GOES = array(CODE, (0, 0, 1)), array(CODE, (0, 0, 0))
+
 # Where an empty list lies: the library wants no null pointer.
 _nothing = ctypes.c_uint32()
 _NOWHERE = ctypes.addressof(_nothing)
@@ -128,15 +134,15 @@ def add_up(sums: Any, counts: Any) -> None:
 
 def updates_of(ends: Any, add: bool) -> Any:
     """An update for each edge whose ends these are: its two ends, and 1 where it is to come, or else 0."""
-    if is_array(ends):
-        import numpy
+    if isinstance(ends, array):
+        updates = (_COMES if add else _GOES) * (len(ends) // 2)
+        updates[0::3], updates[1::3] = ends[0::2], ends[1::2]
+        return updates
+    import numpy
 
-        rows = numpy.full((ends.size // 2, 3), int(add), numpy.uint32)
-        rows[:, :2] = ends.reshape(-1, 2)
-        return rows.reshape(-1)
-    updates = array(CODE, [int(add)]) * (len(ends) // 2 * 3)
-    updates[0::3], updates[1::3] = ends[0::2], ends[1::2]
-    return updates
+    rows = numpy.full((ends.size // 2, 3), int(add), numpy.uint32)
+    rows[:, :2] = ends.reshape(-1, 2)
+    return rows.reshape(-1)
 
 
 def within(ends: Any, most: int) -> Any:
@@ -160,7 +166,7 @@ def room(length: int, like_array: bool) -> Any:
 
 def greatest(values: Any) -> int:
     """The greatest of some numbers."""
-    return int(values.max() if is_array(values) else max(values))
+    return max(values) if isinstance(values, array) else int(values.max() if is_array(values) else max(values))
 
 
 def as_list(values: Any) -> List[Any]:

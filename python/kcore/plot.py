@@ -98,7 +98,7 @@ def degrees(edges: Any, *, marked: int = 10, ax: Any = None, **words: Any) -> An
     for v, name in zip(far, _measures.names(graph, far)):
         ax.annotate(str(name), (degree[v], core[v]), xytext=(4, 4), textcoords="offset points", fontsize=7)
     ax.set(xlabel="degree", ylabel="core number", xscale="log", yscale="log")
-    ax.set(xlim=(0.8, 1.5 * degree.max(initial=1)), ylim=(0.8, 1.5 * core.max(initial=1)))
+    ax.set(xlim=(0.8, 2.5 * degree.max(initial=1)), ylim=(0.8, 1.5 * core.max(initial=1)))
     ax.legend(loc="upper left")
     return ax
 

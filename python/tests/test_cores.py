@@ -1,31 +1,49 @@
 """Core numbers that are kept while edges come and go."""
 
+import concurrent.futures
 import copy
+import itertools
 import pickle
 import random
-import threading
 import unittest
 import unittest.mock
 
 import kcore
 from kcore import _edges, _library
 
-try:
-    import networkx
-except ImportError:
-    networkx = None
-try:
-    import numpy
-except ImportError:
-    numpy = None
+from .test_forms import igraph, networkx, numpy, pandas, sparse
 
 TRIANGLE = [(0, 1), (1, 2), (2, 0)]
+# A triangle with a tail, and the tail alone.
+TAILED, TAIL = [(0, 1), (0, 2), (1, 2), (2, 3)], [(2, 3)]
 NAMES = [("ann", "bob"), ("bob", "cat"), ("cat", "ann")]
 
 
 def changes(old, new):
     """The numbers that differ, before and after, with None before where a vertex is new."""
     return {vertex: (old.get(vertex), number) for vertex, number in new.items() if old.get(vertex) != number}
+
+
+def forms_of(whole, part):
+    """Two lists of edges between four vertices in each form that is at hand, with its name and the words that go with it."""
+    yield "pairs", whole, part, {}
+    yield "an iterator", iter(whole), part, {}
+    if networkx is not None:
+        yield "networkx", networkx.Graph(whole), networkx.Graph(part), {}
+    if igraph is not None:
+        yield "igraph", igraph.Graph(4, whole), igraph.Graph(4, part), {}
+    if numpy is None:
+        return
+    rows = [numpy.array(edges) for edges in (whole, part)]
+    yield ("an array", *rows, {})
+    yield ("an array of columns", *(edges.T for edges in rows), {"axis": 0})
+    yield ("a buffer", *(memoryview(edges.astype(numpy.int32)) for edges in rows), {})
+    if sparse is not None:
+        yield ("a matrix", *(sparse.csr_matrix((numpy.ones(len(edges)), edges.T), shape=(4, 4)) for edges in rows), {})
+    if pandas is not None:
+        frames = [pandas.DataFrame([(7, u, v) for u, v in edges], columns=["time", "from", "to"]) for edges in (whole, part)]
+        yield ("a frame by names", *frames, {"columns": ("from", "to")})
+        yield ("a frame by places", *frames, {"columns": (1, 2)})
 
 
 class CoresTest(unittest.TestCase):
@@ -112,7 +130,7 @@ class CoresTest(unittest.TestCase):
         with unittest.mock.patch.object(_edges, "_FEW", 3):
             for place in range(40):
                 cores.apply(insert=[(place % 5, place % 7)], remove=[(place % 3, place % 5)])
-                self.assertLessEqual(cores._edges._waiting, len(cores._edges._there) + 3)
+                self.assertLessEqual(cores._edges._waiting, max(len(cores._edges._there), 1) + 3)
         self.assertTrue(cores.check())
 
     def test_check_finds_a_number_that_is_one_off(self):
@@ -172,20 +190,60 @@ class CoresTest(unittest.TestCase):
         cores.add_vertices(2)
         self.assertEqual(cores.core_numbers()[-2:], [0, 0])
 
+    def test_a_with_statement_gives_the_memory_back(self):
+        with kcore.Cores(TRIANGLE) as cores:
+            self.assertEqual(cores.main_core(), [0, 1, 2])
+        with self.assertRaisesRegex(ValueError, "closed"):
+            cores.insert([(0, 3)])
+        with self.assertRaisesRegex(KeyError, "no such"), kcore.Cores(NAMES) as cores:
+            raise KeyError("no such")
+        with self.assertRaisesRegex(ValueError, "closed"):
+            cores.to_edges()
+
     def test_threads_take_turns(self):
         cores = kcore.Cores([], vertices=40)
+        told = [[] for _ in range(4)]
 
         def work(seed):
             draw = random.Random(seed)
-            for _ in range(50):
-                cores.apply([(draw.randrange(40), draw.randrange(40))], [(draw.randrange(40), draw.randrange(40))])
+            for _ in range(200):
+                edges = [[(draw.randrange(40), draw.randrange(40)) for _ in range(3)] for _ in range(2)]
+                told[seed].append(cores.apply(*edges))
+                # Between two calls another thread may change everything, and within one nobody.
+                self.assertEqual(len(cores.core_numbers()), 40)
+                self.assertTrue(cores.check())
 
-        threads = [threading.Thread(target=work, args=(seed,)) for seed in range(4)]
-        for thread in threads:
-            thread.start()
-        for thread in threads:
-            thread.join()
-        self.assertEqual(len(cores.core_numbers()), 40)
+        with concurrent.futures.ThreadPoolExecutor(len(told)) as pool:
+            for done in [pool.submit(work, seed) for seed in range(len(told))]:
+                done.result()
+        sums = [0] * 40
+        for changed in itertools.chain.from_iterable(told):
+            for vertex, (before, now) in changed.items():
+                sums[vertex] += now - before
+        self.assertEqual(cores.core_numbers(), sums)
+        self.assertEqual(kcore.core_numbers(cores.to_edges(), 40), sums)
+
+    def test_each_form_opens_and_updates(self):
+        for name, whole, tail, words in forms_of(TAILED, TAIL):
+            with self.subTest(form=name), kcore.Cores(whole, **words) as cores:
+                self.assertEqual([cores[vertex] for vertex in range(4)], [2, 2, 2, 1])
+                self.assertEqual(len(cores.core_numbers()), 4)
+                self.assertEqual(cores.remove(tail, **words), {3: (1, 0)})
+                self.assertEqual(cores.apply(insert=tail, **words), {3: (0, 1)})
+                self.assertEqual(sorted(map(tuple, cores.to_edges())), sorted(TAILED))
+                self.assertTrue(cores.check())
+
+    @unittest.skipUnless(networkx, "networkx is not installed")
+    def test_what_no_form_has_is_refused_with_the_remedy(self):
+        cores = kcore.Cores([(0, 1)])
+        for call in (kcore.Cores, cores.insert, cores.remove):
+            with self.assertRaisesRegex(TypeError, "to_undirected"):
+                call(networkx.DiGraph([(0, 1)]))
+            with self.assertRaisesRegex(TypeError, "These forms are taken: an array of integers"):
+                call(5)
+            with self.assertRaisesRegex(TypeError, "axis does not go with an iterable of pairs"):
+                call([(0, 1)], axis=0)
+        self.assertEqual(cores.to_edges(), [(0, 1)])
 
     def follow(self, seed, given):
         """Random batches beside networkx."""

@@ -121,7 +121,7 @@ class Results(unittest.TestCase):
 
     @needs_numpy
     def test_arrays(self):
-        for dtype in ["uint32", "int64", "int32", ">u4", "uint8"]:
+        for dtype in [*numpy.typecodes["AllInteger"], ">u2", ">i4", ">u4", ">i8", ">u8"]:
             edges = numpy.array(TAILED, dtype=dtype)
             for given in [edges, numpy.asfortranarray(edges), numpy.repeat(edges, 2, axis=0)[::2]]:
                 core = kcore.core_numbers(given)
