@@ -3,15 +3,20 @@
 # that they refuse, plain and under the address and undefined behaviour sanitizers, with each allocation failing in turn, and the Python
 # tests by the python3 that PYTHON names. Packages that these want and Debian has are installed where that is Debian's own python3 and the
 # caller may; else the script says which are missing, and their tests are skipped. With KCORE_NO_INSTALL set nothing is installed.
-# usage: c/test.sh [--packed]
+# usage: c/test.sh [--packed] [--quick]
 # With --packed, or where the Rattle kit is not there, the libraries are those that dist/library.sh finds, and nothing is built.
+# With --quick the sanitizers, the allocations that fail and the longer Python tests are left out, and nothing is installed.
 set -eu
 top=$(cd "$(dirname "$0")/.." && pwd)
-case ${1:-} in
-    --packed) build=$(sh "$top/dist/library.sh") ;;
-    '') if command -v rt > /dev/null; then build=$("$top/c/build.sh"); else build=$(sh "$top/dist/library.sh"); fi ;;
-    *) echo "usage: c/test.sh [--packed]" >&2; exit 2 ;;
-esac
+packed= quick=
+for word in "$@"; do
+    case $word in
+        --packed) packed=1 ;;
+        --quick) quick=1 ;;
+        *) echo "usage: c/test.sh [--packed] [--quick]" >&2; exit 2 ;;
+    esac
+done
+if [ -z "$packed" ] && command -v rt > /dev/null; then build=$("$top/c/build.sh"); else build=$(sh "$top/dist/library.sh"); fi
 flags="-std=c11 -O2 -g -Wall -Wextra -Werror -I$top/include"
 sanitized="-fsanitize=address,undefined -fno-sanitize-recover=all"
 wrapped="-Wl,--wrap=malloc,--wrap=realloc,--wrap=free"
@@ -37,11 +42,20 @@ if ${CC:-cc} $flags -c "$build/dropped.c" -o "$build/dropped.o" 2> "$build/told"
 fi
 grep -q 'unused' "$build/told"
 
+# Prints the programs that are made of an example: the plain one, and the one under the sanitizers.
+programs_of() {
+    if [ -n "$quick" ]; then echo "$1"; else echo "$1 $1_sanitized"; fi
+}
+
+# The programs in which allocations fail.
+without_memory=
+[ -n "$quick" ] || without_memory="no_memory keep_no_memory"
+
 for program in core_numbers tally rounds csr keep keep_threads; do
     ${CC:-cc} $flags -pthread "$top/examples/c/$program.c" "$build/libkcore.a" -o "$build/$program"
-    ${CC:-cc} $flags -pthread $sanitized "$top/examples/c/$program.c" "$build/libkcore.a" -o "$build/${program}_sanitized"
+    [ -n "$quick" ] || ${CC:-cc} $flags -pthread $sanitized "$top/examples/c/$program.c" "$build/libkcore.a" -o "$build/${program}_sanitized"
 done
-for program in no_memory keep_no_memory; do
+for program in $without_memory; do
     ${CC:-cc} $flags $wrapped "$top/examples/c/$program.c" "$build/libkcore.a" -o "$build/$program"
     ${CC:-cc} $flags $sanitized "$top/examples/c/$program.c" $wrapped "$build/libkcore.a" -o "$build/${program}_sanitized"
 done
@@ -60,7 +74,7 @@ refused() {
     fi
 }
 
-for program in core_numbers core_numbers_sanitized; do
+for program in $(programs_of core_numbers); do
     printf '# a triangle\n\n0 1\n1\t2\r\n 2 0 \n2 3\n3 2\n4 4' | "$build/$program" > "$build/found"
     printf '0 2\n1 2\n2 2\n3 1\n4 0\n' | cmp - "$build/found"
     "$build/$program" < /dev/null | cmp - /dev/null
@@ -83,7 +97,7 @@ for room in 8000 20000 40000; do
 done
 (ulimit -v 20000 && echo '0 90000000' | refused 'no memory')
 echo "core_numbers: each line that it can't use is refused, and it tells where a read, a write or an allocation fails"
-for program in tally tally_sanitized; do
+for program in $(programs_of tally); do
     "$build/$program" < "$top/graphs/karate.txt" > "$build/found"
     { echo "vertices 34 edges 78 verdict 0 wrong numbers refused 68 of 68"
       echo "edge twice 12 loop 10 turned 11 past the vertices 4 before its range 12"
@@ -97,7 +111,7 @@ wanted_rounds() {
     { printf "$2"; echo "rounds $3"; cat "$build/wrong_shards"; } > "$build/wanted"
     printf "$1" | "$build/$program" | cmp "$build/wanted"
 }
-for program in rounds rounds_sanitized; do
+for program in $(programs_of rounds); do
     wanted_rounds '' '' 1
     wanted_rounds '0 1\n1 2\n2 3\n3 4\n' '0 1\n1 1\n2 1\n3 1\n4 1\n' 3
     wanted_rounds '3 0\n3 1\n3 2\n3 4\n' '0 1\n1 1\n2 1\n3 1\n4 1\n' 2
@@ -109,7 +123,7 @@ for program in rounds rounds_sanitized; do
 done
 { echo 'one way 1 both ways 1 twice 1'; echo 'no offsets 17 0'; echo 'few offsets 17 0'; echo 'not from zero 18 0'; echo 'descending 19 2'
   echo 'not to the end 21 0'; echo 'past the end 21 0'; echo 'no vertex 4 2'; echo 'few places 1 0'; } > "$build/wanted_rows"
-for program in csr csr_sanitized; do
+for program in $(programs_of csr); do
     cat "$build/wanted_rows" > "$build/wanted"
     "$build/$program" < /dev/null | cmp "$build/wanted"
     { "$build/core_numbers" < "$top/graphs/karate.txt"; cat "$build/wanted_rows"; } > "$build/wanted"
@@ -118,7 +132,7 @@ for program in csr csr_sanitized; do
     printf '0 1\n1 2\n2 0\n2 3\n3 2\n4 4\n' | "$build/$program" | cmp "$build/wanted"
 done
 echo "csr: karate by rows has the numbers of its edges, and wrong rows are refused, each with its status"
-for program in keep keep_sanitized; do
+for program in $(programs_of keep); do
     printf '+ 0 1\n+ 1 2\n+ 2 0\n+ 2 3\n\n# the tail closes\n+\t3 0\r\n+ 0 3\n+ 1 1\n\n\n- 1 0\n+ 5 4' | "$build/$program" > "$build/found"
     printf 'batch 1 changed 4\n0 0 2\n1 0 2\n2 0 2\n3 0 1\nbatch 2 changed 1\n3 1 2\nbatch 3 changed 2\n1 2 1\n4 0 1\n5 0 1\n' > "$build/wanted"
     cmp "$build/wanted" "$build/found"
@@ -134,9 +148,10 @@ for program in keep keep_sanitized; do
     awk '$1 != "batch" { core[$1] = $3 } END { for (v in core) if (core[v] != 0) exit 1 }' "$build/found"
 done
 echo "keep: karate in one batch has the numbers of core_numbers, and none when its edges are gone; each line that it can't use is refused"
-"$build/keep_threads"
-"$build/keep_threads_sanitized"
-for program in no_memory keep_no_memory; do
+for program in $(programs_of keep_threads); do
+    "$build/$program"
+done
+for program in $without_memory; do
     "$build/$program"
     "$build/${program}_sanitized"
 done
@@ -152,10 +167,15 @@ missing_packages() {
 }
 missing=$(missing_packages)
 own=$("$python" -c 'import os, sys; print(os.path.realpath(sys.executable).startswith("/usr/bin/"))')
-if [ -n "$missing" ] && [ -z "${KCORE_NO_INSTALL:-}" ] && [ "$own" = True ] && [ "$(id -u)" = 0 ] && command -v apt-get > /dev/null; then
+if [ -n "$missing" ] && [ -z "${KCORE_NO_INSTALL:-}$quick" ] && [ "$own" = True ] && [ "$(id -u)" = 0 ] && command -v apt-get > /dev/null; then
     { apt-get update && DEBIAN_FRONTEND=noninteractive apt-get install -y --no-install-recommends $missing; } > "$build/installed" 2>&1 ||
         echo "apt-get could not install $missing: $build/installed tells why" >&2
     missing=$(missing_packages)
 fi
 [ -z "$missing" ] || echo "not installed for $python, so that their tests are skipped: $missing"
-cd "$top/python" && "$python" -m unittest
+cd "$top/python"
+if [ -n "$quick" ]; then
+    "$python" -m unittest tests.test_header tests.test_forms tests.test_cores tests.test_kcore
+else
+    "$python" -m unittest
+fi
