@@ -2,7 +2,7 @@
 
 Each line of the file is `u v time`, as SNAP has its temporal graphs. FOLDER gets report.html, and where matplotlib is installed sizes.svg,
 degrees.svg, onion.svg and rings.svg of the graph after the last batch, and changes.svg of all batches. EVERY is the length of an interval of
-time, WINDOW how long an edge stays after its last mention; by default there are twelve intervals, and edges stay for good.
+time, WINDOW how long an edge stays after its last mention; by default there are twelve intervals, and edges stay for good. It needs NumPy.
 """
 
 import sys
