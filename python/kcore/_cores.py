@@ -78,7 +78,7 @@ class Cores:
     ([('ann', 'cat'), ('ann', 'dan'), ('bob', 'cat')], True)
     """
 
-    __slots__ = ("_lock", "_place", "_names", "_numbers", "_vertices", "_room", "_core", "_like_array", "_edges", "_told", "__weakref__")
+    __slots__ = ("_lock", "_place", "_names", "_numbers", "_vertices", "_room", "_core", "_like_array", "_edges", "_told", "_told_at", "__weakref__")
 
     def __init__(
         self,
@@ -95,7 +95,7 @@ class Cores:
         if names and vertices is not None:
             raise TypeError("vertices does not go with names")
         graph = _read(edges, words, names)
-        self._open(graph, _forms.names_of(graph))
+        self._open(graph, graph.results.named())
 
     def _open(self, graph: Graph, names: Optional[List[Hashable]]) -> None:
         """Begins with a graph. Raises NotAVertexError, ValueError or MemoryError."""
@@ -113,6 +113,7 @@ class Cores:
         self._core = self._read()
         self._edges = _edges.KeptEdges(graph.ends)
         self._told = array(_lists.CODE, bytes(12 * _FEW))
+        self._told_at = _lists.address(self._told)
 
     def __reduce__(self) -> Tuple[Any, ...]:
         with self._lock:
@@ -261,7 +262,7 @@ class Cores:
         TypeError, ValueError
             As `core_numbers` does. Nothing was changed.
         """
-        words = _forms.words_of(axis, columns)
+        words = _forms.NOTHING_SAID if axis is None and columns is None else _forms.Words(axis=axis, columns=columns)
         named = self._names is not None
         leaving = _read(remove, words, named) if _is_given(remove) else None
         coming = _read(insert, words, named) if _is_given(insert) else None
@@ -273,9 +274,12 @@ class Cores:
                 if vertices > count:
                     self._grow(vertices, new)
                     self._core = self._read()
-                updates = _joined(updates, _lists.updates_of(ends, True))
-            changed = self._made(updates)
-            changes: Dict[Any, Change] = {self._vertex(place): (before, now) for place, before, now in changed if place < count}
+                added = _lists.updates_of(ends, True)
+                updates = added if leaving is None else _joined(updates, added)
+            changes: Dict[Any, Change] = {}
+            for place, before, now in self._made(updates):
+                if place < count:
+                    changes[self._vertex(place)] = (before, now)
             if self._vertices > count:
                 changes.update((self._vertex(place), (None, int(self._core[place]))) for place in range(count, self._vertices))
             return changes
@@ -360,7 +364,7 @@ class Cores:
 
     def _names_in(self, graph: Graph) -> Optional[List[Hashable]]:
         """The names of the vertices of some edges, or None where they are numbers. Raises TypeError where they are not what vertices are here."""
-        names = _forms.names_of(graph)
+        names = graph.results.named()
         if self._names is None and names is not None:
             raise TypeError("the vertices are numbers here, and these edges have names: open it with names=True")
         if self._names is not None and names is None:
@@ -400,12 +404,13 @@ class Cores:
     def _changed(self) -> List[Tuple[int, int, int]]:
         """Each vertex whose core number the last batch changed, in ascending order, with its number before and now."""
         told = self._told
-        room = len(told) // 3
-        number = self._call(_library.keeper_changes, 0, _lists.address(told), room).number
-        if number > room:
+        number = self._call(_library.keeper_changes, 0, self._told_at, _FEW).number
+        if not number:
+            return []
+        if number > _FEW:
             told = array(_lists.CODE, bytes(12 * number))
             self._call(_library.keeper_changes, 0, _lists.address(told), number)
-        return list(zip(told[0 : 3 * number : 3], told[1 : 3 * number : 3], told[2 : 3 * number : 3])) if number else []
+        return list(zip(told[0 : 3 * number : 3], told[1 : 3 * number : 3], told[2 : 3 * number : 3]))
 
     def _refuse_closed(self) -> None:
         if self._place is None:
@@ -418,7 +423,9 @@ class Cores:
         return answer
 
     def _call(self, function: Any, *arguments: Any) -> _library.Answer:
-        answer = self._answer(function, *arguments)
+        if self._place is None:
+            raise ValueError(_CLOSED)
+        answer: _library.Answer = function(self._place.address, *arguments)
         if answer.status != _library.DONE:
             self._refuse(answer)
         return answer

@@ -31,7 +31,8 @@ class Form(NamedTuple):
     read: Callable[[Any, Words], Graph]
 
 
-_NOTHING_SAID = Words()
+#: What a caller says who says nothing.
+NOTHING_SAID = Words()
 _AS_ARRAYS = AsArrays()
 _AS_LISTS = AsLists()
 _TEXT = (str, bytes, bytearray)
@@ -44,19 +45,14 @@ _NOT_SYMMETRIC = "this matrix is neither symmetric nor triangular, so its graph 
 _STORED_ZEROS = "this matrix stores zeros, which are edges to some packages and none to others: call its eliminate_zeros() first"
 
 
-def read(edges: Any, words: Words = _NOTHING_SAID) -> Graph:
+def read(edges: Any, words: Words = NOTHING_SAID) -> Graph:
     """The graph that a caller gives. Raises TypeError where it has none of the forms, or a word does not go with its form."""
     form = _form_of(edges)
     if form is None:
         raise TypeError(f"edges are pairs of integers or of names, and not of the type {type(edges).__name__}. {told_forms()}")
-    if words is not _NOTHING_SAID:
+    if words is not NOTHING_SAID:
         _refuse_other_words(form, words)
     return form.read(edges, words)
-
-
-def words_of(axis: Optional[int], columns: Optional[Sequence[Hashable]]) -> Words:
-    """What a caller says who may say these two."""
-    return _NOTHING_SAID if axis is None and columns is None else Words(axis=axis, columns=columns)
 
 
 def _form_of(edges: Any) -> Optional[Form]:
@@ -79,27 +75,17 @@ def read_piece(edges: Any, vertices: int) -> Graph:
     return graph
 
 
-def read_named(edges: Any, words: Words = _NOTHING_SAID) -> Graph:
+def read_named(edges: Any, words: Words = NOTHING_SAID) -> Graph:
     """The graph that a caller gives, whose vertices have names: integers are names too."""
     form = _form_of(edges)
     if form is not None and form.read is _read_pairs:
         _refuse_other_words(form, words)
         return _read_names(_ends_of(edges))
     graph = read(edges, words)
-    if names_of(graph) is None:
+    if graph.results.named() is None:
         ends = zip(*[iter(_lists.as_list(graph.ends))] * 2)
         return _read_names(ends)
     return graph
-
-
-def names_of(graph: Graph) -> Optional[List[Hashable]]:
-    """The names of the vertices, or None where they are numbers."""
-    results = graph.results
-    if isinstance(results, ByName):
-        return results.names
-    if isinstance(results, ByIndex):
-        return list(results.index.tolist())
-    return None
 
 
 def told_forms() -> str:
@@ -108,7 +94,7 @@ def told_forms() -> str:
 
 
 def _refuse_other_words(form: Form, words: Words) -> None:
-    for word, value, unsaid in zip(Words._fields, words, _NOTHING_SAID):
+    for word, value, unsaid in zip(Words._fields, words, NOTHING_SAID):
         if value is not unsaid and word not in form.words:
             raise TypeError(f"{word} does not go with {form.name}")
 

@@ -34,6 +34,10 @@ class AsArrays:
     like_array = True
     ids: Any = None
 
+    def named(self) -> Optional[List[Hashable]]:
+        """The names of the vertices, or None where they are numbers."""
+        return None
+
     def numbers(self, core: Any) -> Any:
         """One number for each vertex."""
         return core
@@ -66,6 +70,9 @@ class ByName(AsArrays):
 
     def __init__(self, names: List[Hashable]) -> None:
         self.names = names
+
+    def named(self) -> Optional[List[Hashable]]:
+        return self.names
 
     def numbers(self, core: Any) -> Any:
         return dict(zip(self.names, core))
@@ -103,6 +110,9 @@ class ByIndex(AsArrays):
     def __init__(self, index: Any) -> None:
         self.index = index
 
+    def named(self) -> Optional[List[Hashable]]:
+        return list(self.index.tolist())
+
     def numbers(self, core: Any) -> Any:
         import pandas
 
@@ -137,7 +147,7 @@ class Graph:
 
     def __init__(self, ends: Any, vertices: Optional[int], results: AsArrays) -> None:
         if vertices is None:
-            vertices = _lists.greatest(ends) + 1 if _lists.size(ends) else 0
+            vertices = _lists.bound(ends)
         vertices = operator.index(vertices)
         if not 0 <= vertices <= _lists.GREATEST:
             raise ValueError(f"there are {vertices} vertices, and 0 to {_lists.GREATEST} are allowed{_lists.FAR_APART}")

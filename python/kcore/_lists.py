@@ -164,9 +164,16 @@ def room(length: int, like_array: bool) -> Any:
     return array(CODE, bytes(4 * length))
 
 
+def bound(values: Any) -> int:
+    """One more than the greatest of some numbers, and 0 where there are none."""
+    if isinstance(values, array):
+        return max(values, default=-1) + 1
+    return int(values.max()) + 1 if values.size else 0
+
+
 def greatest(values: Any) -> int:
     """The greatest of some numbers."""
-    return max(values) if isinstance(values, array) else int(values.max() if is_array(values) else max(values))
+    return int(values.max() if is_array(values) else max(values))
 
 
 def as_list(values: Any) -> List[Any]:

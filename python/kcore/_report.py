@@ -252,7 +252,7 @@ def _followed(edges: Any, batches: Iterable[Batch], words: _forms.Words) -> Tupl
     if words.vertices is not None or words.return_ids:
         raise TypeError(f"{'return_ids' if words.return_ids else 'vertices'} does not go with batches, where vertices have names")
     start = _forms.read_named(edges, _forms.Words() if isinstance(edges, tuple) and not edges else words)
-    names = _forms.names_of(start) or []
+    names = start.results.named() or []
     told: Dict[str, List[Any]] = {key: [] for key in _OF_A_BATCH}
     with Cores(names=True) as cores:
         ends = iter(_lists.as_list(start.ends))

@@ -243,6 +243,8 @@ class CoresTest(unittest.TestCase):
                 call(5)
             with self.assertRaisesRegex(TypeError, "axis does not go with an iterable of pairs"):
                 call([(0, 1)], axis=0)
+        with self.assertRaisesRegex(TypeError, "columns does not go with an iterable of pairs"):
+            kcore.Cores(NAMES).insert([("ann", "dan")], columns=(0, 1))
         self.assertEqual(cores.to_edges(), [(0, 1)])
 
     def follow(self, seed, given):
