@@ -52,7 +52,12 @@ LEFT_OUT = [
 ]
 
 # What is run with fewer cases than the page says.
-SHORTER = [(r"--cases \d+", "--cases 20"), (r"differ\.py (?!.*--cases)", "differ.py --cases 20 ")]
+SHORTER = [
+    (r"--cases \d+", "--cases 20"),
+    (r"differ\.py (?!.*--cases)", "differ.py --cases 20 "),
+    (r"soak \d+", "soak 50000"),
+    (r"KCORE_EXAMPLES=\d+", "KCORE_EXAMPLES=5"),
+]
 
 # What stands for files of the reader, and for names of the reader in the Python of a page.
 FILES = {
