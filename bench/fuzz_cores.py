@@ -5,11 +5,12 @@ usage: fuzz_cores.py [--cores PROGRAM] [--cases N] [--seed N]
 (default: crates/cores/out/cores beside this folder, 500 cases of seed 1)
 
 The model follows the definitions: core numbers by taking vertices away, k-cores and layers from these. Of `order` it tests that the lines
-certify the numbers. `check` is run on what `order` and `layers` write, and on the same with lines changed, swapped, left out, repeated or
+certify the numbers. Some runs ask for JSON, and its objects are those of Python's json. `check` is run on what `order` and `layers` write, and on the same with lines changed, swapped, left out, repeated or
 made foreign. At last a reader goes away that has taken one line. An input that differs is printed, and the status is 1 then. Tables with
 options that tell how they are read are those of `fuzz_tables.py`.
 """
 import argparse
+import json
 import pathlib
 import random
 import subprocess
@@ -70,22 +71,32 @@ def layers(neighbours, core):
     return layer
 
 
+FORMATS = ((), ("--format", "tsv"), ("--format", "json"))
+
+
+def written(names, rows, words):
+    """Lines of numbers with these names, in the format that the words ask for."""
+    if "json" in words:
+        return "".join(json.dumps(dict(zip(names, row)), separators=(",", ":")) + "\n" for row in rows)
+    return "".join("\t".join(map(str, row)) + "\n" for row in rows)
+
+
 def wanted(neighbours, core, k):
-    """What each command writes, by its words."""
+    """The names and the numbers of the lines that each command writes, by its words."""
     top = max(core.values(), default=0)
     edges = [(u, v) for u in neighbours for v in sorted(neighbours[u]) if u < v]
     inside = lambda least: [v for v in neighbours if core[v] >= least]
     joined = lambda least: [e for e in edges if core[e[0]] >= least and core[e[1]] >= least]
-    rows = lambda found: "".join("\t".join(map(str, row)) + "\n" for row in found)
     layer = layers(neighbours, core)
+    sizes = ("core", "shell_vertices", "core_vertices", "core_edges")
     return {
-        ("numbers",): rows((v, core[v]) for v in neighbours),
-        ("sizes",): rows((j, sum(c == j for c in core.values()), len(inside(j)), len(joined(j))) for j in range(top + 1)),
-        ("members",): rows((v,) for v in inside(top)),
-        ("members", "--core", str(k)): rows((v,) for v in inside(k)),
-        ("members", "--edges"): rows(joined(top)),
-        ("members", "--edges", "--core", str(k)): rows(joined(k)),
-        ("layers",): rows((v, core[v], layer[v]) for v in neighbours),
+        ("numbers",): (("id", "core"), [(v, core[v]) for v in neighbours]),
+        ("sizes",): (sizes, [(j, sum(c == j for c in core.values()), len(inside(j)), len(joined(j))) for j in range(top + 1)]),
+        ("members",): (("id",), [(v,) for v in inside(top)]),
+        ("members", "--core", str(k)): (("id",), [(v,) for v in inside(k)]),
+        ("members", "--edges"): (("source", "target"), joined(top)),
+        ("members", "--edges", "--core", str(k)): (("source", "target"), joined(k)),
+        ("layers",): (("id", "core", "layer"), [(v, core[v], layer[v]) for v in neighbours]),
     }
 
 
@@ -209,13 +220,18 @@ def faults(program, draw, text, k):
     core = core_numbers(neighbours)
     size = sum(map(len, neighbours.values())) // 2
     summary = f"vertices {len(core)} edges {size} top {max(core.values(), default=0)}\n"
-    for words, lines in wanted(neighbours, core, k).items():
-        asked, told = ((*words, "--quiet"), "") if draw.random() < 0.2 else (words, summary)
-        if run(program, asked, text) != (0, lines, told):
+    for words, (names, rows) in wanted(neighbours, core, k).items():
+        quiet = ("--quiet",) if draw.random() < 0.2 else ()
+        asked, told = (*words, *quiet, *draw.choice(FORMATS)), "" if quiet else summary
+        if run(program, asked, text) != (0, written(names, rows, asked), told):
             yield asked
     status, lines, told = run(program, ("order",), text)
     if (status, told) != (0, summary) or not certifies(neighbours, core, lines):
         yield ("order",)
+    asked = ("order", "--format", "json")
+    rows = [tuple(map(int, line.split("\t"))) for line in lines.splitlines()]
+    if run(program, asked, text) != (0, written(("id", "core"), rows, asked), summary):
+        yield asked
 
 
 def main():

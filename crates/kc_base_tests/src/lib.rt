@@ -1,4 +1,5 @@
-//! Tests of `kc_io`, `kc_queue` and `kc_pace`: sources and sinks that fail, a queue that workers empty, and rounds by made up moments.
+//! Tests of `kc_io`, `kc_queue`, `kc_pace` and `kc_lines`: sources and sinks that fail, a queue that workers empty, rounds by made up moments,
+//! and lines in both formats.
 //!
 //! The crate has no code but its tests. They stand apart from those crates, whose own functions would be proved once more beside them.
 #![tactic(auto)]
@@ -9,3 +10,5 @@ mod paces;
 mod queues;
 #[cfg(test)]
 mod streams;
+#[cfg(test)]
+mod written_lines;

@@ -81,8 +81,8 @@ complete-of status.Refused query known before after line bytes told right took (
     (ap (λ (x : Query). graph_meaning x.graph.dialect bytes) q ∙ refused.0))
 
 -- the graph of the bytes that were read has these lines and this summary
-IsAnswerTo-graph : (query : Query) (ids core text summary : List ℕ) (g : SimpleGraph) (skipped : SkippedLines) (known : Option (List ℕ))
-    → IsGraphOf query.graph.dialect known ids g skipped → AreCoreNumbers g core → AreLinesFor query.task ids g core text
+pub IsAnswerTo-graph : (query : Query) (ids core text summary : List ℕ) (g : SimpleGraph) (skipped : SkippedLines) (known : Option (List ℕ))
+    → IsGraphOf query.graph.dialect known ids g skipped → AreCoreNumbers g core → AreLinesFor query.format query.task ids g core text
     → summary ≡ told_skips query.graph.file skipped.count skipped.first.items ++ summary_line g core → IsAnswerTo (Asks query) known text summary
 IsAnswerTo-graph query ids core text summary g skipped known graph numbers lines sums = (
   graph.bytes,
@@ -94,7 +94,7 @@ IsAnswerTo-graph query ids core text summary g skipped known graph numbers lines
     named = graph.named;
     core = core;
     numbers = subst (λ (h : SimpleGraph). AreCoreNumbers h core) graph.is numbers;
-    is = subst (λ (h : SimpleGraph). AreLinesFor query.task ids h core text) graph.is lines;
+    is = subst (λ (h : SimpleGraph). AreLinesFor query.format query.task ids h core text) graph.is lines;
     sums = sums ∙ (λ i. told_skips query.graph.file (graph.passed.count i) (graph.passed.first i) ++ summary_line g core)
         ∙ ap (λ (h : SimpleGraph). skipped_report query.graph.file (passed_over query.graph.dialect graph.bytes) ++ summary_line h core) graph.is;
   },
@@ -136,16 +136,11 @@ module _ {I O : Type 0} (source : sources.Ghosts I) (behind : I → List ℕ →
   }
 
   -- a run whose lines were taken has ended as it should
-  pub CoresEnded-done : (query : Query) (ids core text summary : List ℕ) (g : SimpleGraph) (skipped : SkippedLines) (i i' : I) (o o' : O)
-      → IsGraphOf query.graph.dialect (known_bytes source.left behind query.graph.file i) ids g skipped → AreCoreNumbers g core
-      → AreLinesFor query.task ids g core text
-      → summary ≡ told_skips query.graph.file skipped.count skipped.first.items ++ summary_line g core → IsAtEnd (source.left i')
-      → source.faults i' ≡ source.faults i
-      → Appends (out.taken o) (out.taken o') text → out.faults o' ≡ out.faults o
+  pub CoresEnded-done : (query : Query) (text summary : List ℕ) (i i' : I) (o o' : O)
+      → IsAnswerTo (Asks query) (known_bytes source.left behind query.graph.file i) text summary → IsAtEnd (source.left i')
+      → source.faults i' ≡ source.faults i → Appends (out.taken o) (out.taken o') text → out.faults o' ≡ out.faults o
       → CoresEnded source behind out gone (Asks query) status.Done (done_line query.quiet summary) i i' o o'
-  CoresEnded-done query ids core text summary g skipped i i' o o' graph numbers lines sums ended faultless took kept =
-      let answer : IsAnswerTo (Asks query) (known_bytes source.left behind query.graph.file i) text summary =
-      IsAnswerTo-graph query ids core text summary g skipped (known_bytes source.left behind query.graph.file i) graph numbers lines sums in
+  CoresEnded-done query text summary i i' o o' answer ended faultless took kept =
       CoresEnded-asks query status.Done (done_line query.quiet summary) i i' o o' (record {
         right = λ e. absurd (cc);
         asked = λ e. absurd (cc);
@@ -158,17 +153,12 @@ module _ {I O : Type 0} (source : sources.Ghosts I) (behind : I → List ℕ →
       })
 
   -- a run a prefix of whose lines was taken has ended as it should
-  pub CoresEnded-cut : (query : Query) (ids core text summary : List ℕ) (g : SimpleGraph) (skipped : SkippedLines) (end : CoresStatus) (line : List ℕ)
-      (i i' : I) (o o' : O)
-      → IsGraphOf query.graph.dialect (known_bytes source.left behind query.graph.file i) ids g skipped → AreCoreNumbers g core
-      → AreLinesFor query.task ids g core text
-      → summary ≡ told_skips query.graph.file skipped.count skipped.first.items ++ summary_line g core → source.faults i' ≡ source.faults i
+  pub CoresEnded-cut : (query : Query) (text summary : List ℕ) (end : CoresStatus) (line : List ℕ) (i i' : I) (o o' : O)
+      → IsAnswerTo (Asks query) (known_bytes source.left behind query.graph.file i) text summary → source.faults i' ≡ source.faults i
       → ((n : ℕ) × (n ≤ length text) × Appends (out.taken o) (out.taken o') (take n text))
       → Rose (out.faults o) (out.faults o') → CutAt end line (gone o')
       → CoresEnded source behind out gone (Asks query) end line i i' o o'
-  CoresEnded-cut query ids core text summary g skipped status.WriteFault line i i' o o' graph numbers lines sums faultless took rose (is, stays) =
-      let answer : IsAnswerTo (Asks query) (known_bytes source.left behind query.graph.file i) text summary =
-      IsAnswerTo-graph query ids core text summary g skipped (known_bytes source.left behind query.graph.file i) graph numbers lines sums in
+  CoresEnded-cut query text summary status.WriteFault line i i' o o' answer faultless took rose (is, stays) =
       CoresEnded-asks query status.WriteFault line i i' o o' (record {
         right = λ e. absurd (cc);
         asked = λ e. absurd (cc);
@@ -179,9 +169,7 @@ module _ {I O : Type 0} (source : sources.Ghosts I) (behind : I → List ℕ →
         write_faults = rose;
         reader = stays;
       })
-  CoresEnded-cut query ids core text summary g skipped status.ReaderGone line i i' o o' graph numbers lines sums faultless took rose (is, left) =
-      let answer : IsAnswerTo (Asks query) (known_bytes source.left behind query.graph.file i) text summary =
-      IsAnswerTo-graph query ids core text summary g skipped (known_bytes source.left behind query.graph.file i) graph numbers lines sums in
+  CoresEnded-cut query text summary status.ReaderGone line i i' o o' answer faultless took rose (is, left) =
       CoresEnded-asks query status.ReaderGone line i i' o o' (record {
         right = λ e. absurd (cc);
         asked = λ e. absurd (cc);
@@ -192,15 +180,15 @@ module _ {I O : Type 0} (source : sources.Ghosts I) (behind : I → List ℕ →
         write_faults = rose;
         reader = left;
       })
-  CoresEnded-cut query ids core text summary g skipped status.Done line i i' o o' graph numbers lines sums faultless took rose h = absurd h
-  CoresEnded-cut query ids core text summary g skipped status.Certified line i i' o o' graph numbers lines sums faultless took rose h = absurd h
-  CoresEnded-cut query ids core text summary g skipped status.Uncertified line i i' o o' graph numbers lines sums faultless took rose h = absurd h
-  CoresEnded-cut query ids core text summary g skipped status.Shown line i i' o o' graph numbers lines sums faultless took rose h = absurd h
-  CoresEnded-cut query ids core text summary g skipped status.Usage line i i' o o' graph numbers lines sums faultless took rose h = absurd h
-  CoresEnded-cut query ids core text summary g skipped status.Refused line i i' o o' graph numbers lines sums faultless took rose h = absurd h
-  CoresEnded-cut query ids core text summary g skipped status.Unopened line i i' o o' graph numbers lines sums faultless took rose h = absurd h
-  CoresEnded-cut query ids core text summary g skipped status.ReadFault line i i' o o' graph numbers lines sums faultless took rose h = absurd h
-  CoresEnded-cut query ids core text summary g skipped status.NoMemory line i i' o o' graph numbers lines sums faultless took rose h = absurd h
+  CoresEnded-cut query text summary status.Done line i i' o o' answer faultless took rose h = absurd h
+  CoresEnded-cut query text summary status.Certified line i i' o o' answer faultless took rose h = absurd h
+  CoresEnded-cut query text summary status.Uncertified line i i' o o' answer faultless took rose h = absurd h
+  CoresEnded-cut query text summary status.Shown line i i' o o' answer faultless took rose h = absurd h
+  CoresEnded-cut query text summary status.Usage line i i' o o' answer faultless took rose h = absurd h
+  CoresEnded-cut query text summary status.Refused line i i' o o' answer faultless took rose h = absurd h
+  CoresEnded-cut query text summary status.Unopened line i i' o o' answer faultless took rose h = absurd h
+  CoresEnded-cut query text summary status.ReadFault line i i' o o' answer faultless took rose h = absurd h
+  CoresEnded-cut query text summary status.NoMemory line i i' o o' answer faultless took rose h = absurd h
 
   -- a run that has no graph has ended as it should
   pub CoresEnded-no_graph : (query : Query) (end : CoresStatus) (line : List ℕ) (i i' : I) (o : O)

@@ -7,8 +7,9 @@ use Rattle.kc_graph.specs.Core.{greatest}
 use Rattle.kc_graph.specs.Peeling.{at}
 use Rattle.kc_graph.specs.SimpleGraph.{SimpleGraph}
 use Rattle.kc_tally.specs.Layers.{AreLayers}
+use Rattle.kc_lines.specs.declared.format.Format.{Format}
 use Rattle.kc_cores.specs.Answers.{AreLinesFor, edge_lines, is_in_core, level_of, member_lines, size_line}
-use Rattle.kc_cores.specs.Lines.{ended, pair_line, quadruple_line}
+use Rattle.kc_cores.specs.Lines.{counts_line, edge_line, member_line}
 use Rattle.kc_cores.specs.Listings.{edge_line_in, layer_line_in, listing_lines, member_line_in, size_line_in, vertex_line}
 use Rattle.kc_cores.specs.Sizes.{AreSizes}
 use Rattle.kc_cores.specs.declared.listing.Listing.TheVariants as listing
@@ -19,38 +20,38 @@ use Rattle.std.specs.declared.alloc.Global.{Global}
 use Rattle.kc_cores.proofs.Placing.{flat_map-agree, flat_map-filter, flat_map-places}
 
 -- the same four numbers make the same line
-same_line : (k a b d a' b' d' : ℕ) → a ≡ a' → b ≡ b' → d ≡ d' → quadruple_line k a b d ≡ quadruple_line k a' b' d'
-same_line k a b d a' b' d' one two three = λ i. quadruple_line k (one i) (two i) (three i)
+same_line : (format : Format) (k a b d a' b' d' : ℕ) → a ≡ a' → b ≡ b' → d ≡ d' → counts_line format k a b d ≡ counts_line format k a' b' d'
+same_line format k a b d a' b' d' one two three = λ i. counts_line format k (one i) (two i) (three i)
 
 -- the lines of the counts of a graph
-pub lines-sizes : (g : SimpleGraph) (core ids : List ℕ) (sizes : CoreSizes) → AreSizes g core sizes
-    → AreLinesFor task.Sizes ids g core (listing_lines (listing.Sizes sizes) ids core)
-lines-sizes g core ids sizes h =
-    ap (λ n. flat_map (size_line_in sizes) (ascending_below n)) h.shell_levels
-    ∙ flat_map-agree (size_line_in sizes) (size_line g core) (greatest core + 1)
-    (λ k l. same_line k _ _ _ _ _ _ (h.shells k (omega arith)) (h.vertices k (omega arith)) (h.edges k (omega arith)))
+pub lines-sizes : (format : Format) (g : SimpleGraph) (core ids : List ℕ) (sizes : CoreSizes) → AreSizes g core sizes
+    → AreLinesFor format task.Sizes ids g core (listing_lines format (listing.Sizes sizes) ids core)
+lines-sizes format g core ids sizes h =
+    ap (λ n. flat_map (size_line_in format sizes) (ascending_below n)) h.shell_levels
+    ∙ flat_map-agree (size_line_in format sizes) (size_line format g core) (greatest core + 1)
+    (λ k l. same_line format k _ _ _ _ _ _ (h.shells k (omega arith)) (h.vertices k (omega arith)) (h.edges k (omega arith)))
 
 -- the lines of the members of a core
-pub lines-members : (g : SimpleGraph) (core ids : List ℕ) (level : Option ℕ) (k : ℕ) → k ≡ level_of level core → length ids ≡ g.size
-    → AreLinesFor (task.Members level) ids g core (listing_lines (listing.Members k) ids core)
-lines-members g core ids level k is size =
-    ap (λ n. flat_map (member_line_in k ids core) (ascending_below n)) size
-    ∙ flat_map-filter (is_in_core core k) (λ v. ended (at ids v)) (ascending_below g.size) ∙ ap (member_lines ids g core) is
+pub lines-members : (format : Format) (g : SimpleGraph) (core ids : List ℕ) (level : Option ℕ) (k : ℕ) → k ≡ level_of level core → length ids ≡ g.size
+    → AreLinesFor format (task.Members level) ids g core (listing_lines format (listing.Members k) ids core)
+lines-members format g core ids level k is size =
+    ap (λ n. flat_map (member_line_in format k ids core) (ascending_below n)) size
+    ∙ flat_map-filter (is_in_core core k) (λ v. member_line format (at ids v)) (ascending_below g.size) ∙ ap (member_lines format ids g core) is
 
 -- the lines of the edges of a core
-pub lines-edges : (g : SimpleGraph) (core ids : List ℕ) (level : Option ℕ) (k : ℕ) (edges : Vec (ℕ × ℕ) Global) → k ≡ level_of level core
-    → edges.items ≡ edge_list g → AreLinesFor (task.Edges level) ids g core (listing_lines (listing.Edges k edges) ids core)
-lines-edges g core ids level k edges is all =
-    flat_map-places (edge_line_in k ids core) (0, 0) edges.items ∙ ap (flat_map (edge_line_in k ids core)) all
-    ∙ flat_map-filter (λ (e : ℕ × ℕ). is_in_core core k e.0 && is_in_core core k e.1) (λ e. pair_line (at ids e.0) (at ids e.1)) (edge_list g)
-    ∙ ap (edge_lines ids g core) is
+pub lines-edges : (format : Format) (g : SimpleGraph) (core ids : List ℕ) (level : Option ℕ) (k : ℕ) (edges : Vec (ℕ × ℕ) Global) → k ≡ level_of level core
+    → edges.items ≡ edge_list g → AreLinesFor format (task.Edges level) ids g core (listing_lines format (listing.Edges k edges) ids core)
+lines-edges format g core ids level k edges is all =
+    flat_map-places (edge_line_in format k ids core) (0, 0) edges.items ∙ ap (flat_map (edge_line_in format k ids core)) all
+    ∙ flat_map-filter (λ (e : ℕ × ℕ). is_in_core core k e.0 && is_in_core core k e.1) (λ e. edge_line format (at ids e.0) (at ids e.1)) (edge_list g)
+    ∙ ap (edge_lines format ids g core) is
 
 -- the lines of layers
-pub lines-layers : (g : SimpleGraph) (core ids : List ℕ) (layer : Vec ℕ Global) → AreLayers g core layer.items → length ids ≡ g.size
-    → AreLinesFor task.Layers ids g core (listing_lines (listing.Layers layer) ids core)
-lines-layers g core ids layer h size = (layer.items, h, ap (λ n. flat_map (layer_line_in ids core layer.items) (ascending_below n)) size)
+pub lines-layers : (format : Format) (g : SimpleGraph) (core ids : List ℕ) (layer : Vec ℕ Global) → AreLayers g core layer.items → length ids ≡ g.size
+    → AreLinesFor format task.Layers ids g core (listing_lines format (listing.Layers layer) ids core)
+lines-layers format g core ids layer h size = (layer.items, h, ap (λ n. flat_map (layer_line_in format ids core layer.items) (ascending_below n)) size)
 
 -- the lines of an order
-pub lines-order : (g : SimpleGraph) (core ids : List ℕ) (order : Vec ℕ Global) → Certifies g core order.items
-    → AreLinesFor task.Order ids g core (listing_lines (listing.Order order) ids core)
-lines-order g core ids order h = (order.items, h, flat_map-places (vertex_line ids core) 0 order.items)
+pub lines-order : (format : Format) (g : SimpleGraph) (core ids : List ℕ) (order : Vec ℕ Global) → Certifies g core order.items
+    → AreLinesFor format task.Order ids g core (listing_lines format (listing.Order order) ids core)
+lines-order format g core ids order h = (order.items, h, flat_map-places (vertex_line format ids core) 0 order.items)

@@ -16,7 +16,8 @@ use Rattle.kc_text.specs.Inputs.{AreIds, start_graph}
 use Rattle.kc_text.specs.Meaning.{Means, Meaning, Refuses, Told, meaning, names}
 use Rattle.kc_text.specs.declared.limits.TheConstants.Limits.{GRAPH}
 use Rattle.kc_tally.specs.Layers.{AreLayers}
-use Rattle.kc_cores.specs.Lines.{ended, pair_line, quadruple_line, triple_line}
+use Rattle.kc_lines.specs.declared.format.Format.{Format}
+use Rattle.kc_cores.specs.Lines.{counts_line, edge_line, layer_line, member_line, number_line}
 use Rattle.kc_cores.specs.Skips.{skipped_report}
 use Rattle.kc_cores.specs.Wishes.{Query}
 use Rattle.kc_cores.specs.declared.request.Task.{Task}
@@ -59,45 +60,45 @@ abbrev pub shell : SimpleGraph → List ℕ → ℕ → List ℕ
 shell g core k = filter (λ v. k == at core v) (ascending_below g.size)
 
 -- for each vertex its id and its core number
-abbrev pub number_lines : List ℕ → SimpleGraph → List ℕ → List ℕ
-number_lines ids g core = flat_map (λ v. pair_line (at ids v) (at core v)) (ascending_below g.size)
+abbrev pub number_lines : Format → List ℕ → SimpleGraph → List ℕ → List ℕ
+number_lines format ids g core = flat_map (λ v. number_line format (at ids v) (at core v)) (ascending_below g.size)
 
 -- k, how many vertices have the core number k, and how many vertices and edges the k-core has
-abbrev pub size_line : SimpleGraph → List ℕ → ℕ → List ℕ
-size_line g core k = quadruple_line k (length (shell g core k)) (length (core_vertices g core k)) (length (core_edges g core k))
+abbrev pub size_line : Format → SimpleGraph → List ℕ → ℕ → List ℕ
+size_line format g core k = counts_line format k (length (shell g core k)) (length (core_vertices g core k)) (length (core_edges g core k))
 
 -- that for each k up to the greatest core number
-abbrev pub size_lines : SimpleGraph → List ℕ → List ℕ
-size_lines g core = flat_map (size_line g core) (ascending_below (greatest core + 1))
+abbrev pub size_lines : Format → SimpleGraph → List ℕ → List ℕ
+size_lines format g core = flat_map (size_line format g core) (ascending_below (greatest core + 1))
 
 -- the k of a k-core: where none is asked for, that of the innermost core, the greatest core number
 abbrev pub level_of : Option ℕ → List ℕ → ℕ
 level_of level core = unwrap_or level (greatest core)
 
 -- the ids of the vertices of the k-core
-abbrev pub member_lines : List ℕ → SimpleGraph → List ℕ → ℕ → List ℕ
-member_lines ids g core k = flat_map (λ v. ended (at ids v)) (core_vertices g core k)
+abbrev pub member_lines : Format → List ℕ → SimpleGraph → List ℕ → ℕ → List ℕ
+member_lines format ids g core k = flat_map (λ v. member_line format (at ids v)) (core_vertices g core k)
 
 -- the ids of both ends of the edges of the k-core
-abbrev pub edge_lines : List ℕ → SimpleGraph → List ℕ → ℕ → List ℕ
-edge_lines ids g core k = flat_map (λ e. pair_line (at ids e.0) (at ids e.1)) (core_edges g core k)
+abbrev pub edge_lines : Format → List ℕ → SimpleGraph → List ℕ → ℕ → List ℕ
+edge_lines format ids g core k = flat_map (λ e. edge_line format (at ids e.0) (at ids e.1)) (core_edges g core k)
 
 -- for each vertex its id, its core number and its layer, when the first layer of each core number is 0
-abbrev pub layer_lines : List ℕ → SimpleGraph → List ℕ → List ℕ → List ℕ
-layer_lines ids g core layer = flat_map (λ v. triple_line (at ids v) (at core v) (at layer v)) (ascending_below g.size)
+abbrev pub layer_lines : Format → List ℕ → SimpleGraph → List ℕ → List ℕ → List ℕ
+layer_lines format ids g core layer = flat_map (λ v. layer_line format (at ids v) (at core v) (at layer v)) (ascending_below g.size)
 
 -- for each vertex its id and its core number, as an order has the vertices
-abbrev pub order_lines : List ℕ → List ℕ → List ℕ → List ℕ
-order_lines ids core order = flat_map (λ v. pair_line (at ids v) (at core v)) order
+abbrev pub order_lines : Format → List ℕ → List ℕ → List ℕ → List ℕ
+order_lines format ids core order = flat_map (λ v. number_line format (at ids v) (at core v)) order
 
--- the text has the lines of a task for a graph with these core numbers, whose vertices stand for these ids
-abbrev pub AreLinesFor : Task → List ℕ → SimpleGraph → List ℕ → List ℕ → Type 0
-AreLinesFor Numbers ids g core text = text ≡ number_lines ids g core
-AreLinesFor Sizes ids g core text = text ≡ size_lines g core
-AreLinesFor (Members level) ids g core text = text ≡ member_lines ids g core (level_of level core)
-AreLinesFor (Edges level) ids g core text = text ≡ edge_lines ids g core (level_of level core)
-AreLinesFor Layers ids g core text = (layer : List ℕ) × AreLayers g core layer × (text ≡ layer_lines ids g core layer)
-AreLinesFor Order ids g core text = (order : List ℕ) × Certifies g core order × (text ≡ order_lines ids core order)
+-- the text has the lines of a task, in a format, for a graph with these core numbers, whose vertices stand for these ids
+abbrev pub AreLinesFor : Format → Task → List ℕ → SimpleGraph → List ℕ → List ℕ → Type 0
+AreLinesFor format Numbers ids g core text = text ≡ number_lines format ids g core
+AreLinesFor format Sizes ids g core text = text ≡ size_lines format g core
+AreLinesFor format (Members level) ids g core text = text ≡ member_lines format ids g core (level_of level core)
+AreLinesFor format (Edges level) ids g core text = text ≡ edge_lines format ids g core (level_of level core)
+AreLinesFor format Layers ids g core text = (layer : List ℕ) × AreLayers g core layer × (text ≡ layer_lines format ids g core layer)
+AreLinesFor format Order ids g core text = (order : List ℕ) × Certifies g core order × (text ≡ order_lines format ids core order)
 
 -- `vertices N edges M top T`
 abbrev pub summary_line : SimpleGraph → List ℕ → List ℕ
@@ -113,5 +114,5 @@ pub record IsTextFor (query : Query) (bytes text summary : List ℕ) : Type 0 wh
   pub named : AreIds (names told) ids
   pub core : List ℕ
   pub numbers : AreCoreNumbers (start_graph ids told.edges) core
-  pub is : AreLinesFor query.task ids (start_graph ids told.edges) core text
+  pub is : AreLinesFor query.format query.task ids (start_graph ids told.edges) core text
   pub sums : summary ≡ skipped_report query.graph.file (passed_over query.graph.dialect bytes) ++ summary_line (start_graph ids told.edges) core

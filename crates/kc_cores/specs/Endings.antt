@@ -153,7 +153,7 @@ text_of named = record { file = option_map (λ name. name.now) named.file; diale
 
 -- what a request asks for
 abbrev pub query_of : Request → Query
-query_of request = record { task = request.task; graph = text_of request.graph; quiet = request.quiet }
+query_of request = record { task = request.task; graph = text_of request.graph; format = request.format; quiet = request.quiet }
 
 -- the request is what words ask for
 abbrev pub IsRequestFor : Wanted → Wish → Type 0

@@ -14,5 +14,4 @@ pub mod Wishes
 -- What the crate's own functions and invariants speak of.
 pub mod Endings
 pub mod Listings
-pub mod Pages
 pub mod Sizes

@@ -1,22 +1,27 @@
--- Lines of numbers with tabs between them.
-use Rattle.std.specs.Prelude.{◌++◌, ℕ, List, [], ◌∷◌, decimal}
+-- The lines of the commands: which numbers each has, and their names.
+use Rattle.std.specs.Prelude.{ℕ, List, [], ◌∷◌, codes}
+use Rattle.kc_lines.specs.Fields.{field}
+use Rattle.kc_lines.specs.Lines.{line_text}
+use Rattle.kc_lines.specs.declared.format.Format.{Format}
 
--- a number and a tab
-abbrev pub tabbed : ℕ → List ℕ
-tabbed n = decimal n ++ 9 ∷ []
+-- an id and its core number
+abbrev pub number_line : Format → ℕ → ℕ → List ℕ
+number_line format id core = line_text format (field (codes "id") id ∷ field (codes "core") core ∷ [])
 
--- a number and the end of a line
-abbrev pub ended : ℕ → List ℕ
-ended n = decimal n ++ 10 ∷ []
+-- k, how many vertices the k-shell has, and how many vertices and edges the k-core has
+abbrev pub counts_line : Format → ℕ → ℕ → ℕ → ℕ → List ℕ
+counts_line format k shell vertices edges =
+    line_text format (field (codes "core") k ∷ field (codes "shell_vertices") shell ∷ field (codes "core_vertices") vertices
+    ∷ field (codes "core_edges") edges ∷ [])
 
--- a line of two numbers
-abbrev pub pair_line : ℕ → ℕ → List ℕ
-pair_line a b = tabbed a ++ ended b
+-- an id
+abbrev pub member_line : Format → ℕ → List ℕ
+member_line format id = line_text format (field (codes "id") id ∷ [])
 
--- a line of three numbers
-abbrev pub triple_line : ℕ → ℕ → ℕ → List ℕ
-triple_line a b c = tabbed a ++ pair_line b c
+-- the ids of both ends of an edge
+abbrev pub edge_line : Format → ℕ → ℕ → List ℕ
+edge_line format a b = line_text format (field (codes "source") a ∷ field (codes "target") b ∷ [])
 
--- a line of four numbers
-abbrev pub quadruple_line : ℕ → ℕ → ℕ → ℕ → List ℕ
-quadruple_line a b c d = tabbed a ++ triple_line b c d
+-- an id, its core number and its layer
+abbrev pub layer_line : Format → ℕ → ℕ → ℕ → List ℕ
+layer_line format id core layer = line_text format (field (codes "id") id ∷ field (codes "core") core ∷ field (codes "layer") layer ∷ [])

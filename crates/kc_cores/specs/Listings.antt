@@ -4,9 +4,11 @@ use Rattle.std.specs.List.{flat_map}
 use Rattle.kc_flat.specs.Listing.{ascending_below}
 use Rattle.kc_graph.specs.Peeling.{at}
 use Rattle.kc_cores.specs.Answers.{is_in_core}
-use Rattle.kc_cores.specs.Lines.{ended, pair_line, quadruple_line, triple_line}
+use Rattle.kc_lines.specs.declared.format.Format.{Format}
+use Rattle.kc_cores.specs.Lines.{counts_line, edge_line, layer_line, member_line, number_line}
 use Rattle.kc_cores.specs.declared.listing.Listing.{Listing}
 use Rattle.kc_cores.specs.declared.listing.Listing.TheVariants.{Numbers, Sizes, Members, Edges, Layers, Order}
+use Rattle.kc_cores.specs.declared.made_lines.MadeLines.{MadeLines}
 use Rattle.kc_cores.specs.declared.sizes.CoreSizes.{CoreSizes}
 
 -- how many places there are for lines, in a graph with so many vertices
@@ -28,34 +30,42 @@ Fits n (Layers layer) = length layer.items ≡ n
 Fits n (Order order) = All (λ v. v < n) order.items
 
 -- the id and the core number of a vertex
-abbrev pub vertex_line : List ℕ → List ℕ → ℕ → List ℕ
-vertex_line ids core v = pair_line (at ids v) (at core v)
+abbrev pub vertex_line : Format → List ℕ → List ℕ → ℕ → List ℕ
+vertex_line format ids core v = number_line format (at ids v) (at core v)
 
 -- a level with the three counts at its place
-abbrev pub size_line_in : CoreSizes → ℕ → List ℕ
-size_line_in sizes k = quadruple_line k (at sizes.shells.items k) (at sizes.vertices.items k) (at sizes.edges.items k)
+abbrev pub size_line_in : Format → CoreSizes → ℕ → List ℕ
+size_line_in format sizes k = counts_line format k (at sizes.shells.items k) (at sizes.vertices.items k) (at sizes.edges.items k)
 
 -- the id of a vertex, where it is in the k-core
-abbrev pub member_line_in : ℕ → List ℕ → List ℕ → ℕ → List ℕ
-member_line_in k ids core v = if is_in_core core k v then ended (at ids v) else []
+abbrev pub member_line_in : Format → ℕ → List ℕ → List ℕ → ℕ → List ℕ
+member_line_in format k ids core v = if is_in_core core k v then member_line format (at ids v) else []
 
 -- the ids of the ends of an edge, where both are in the k-core
-abbrev pub edge_line_in : ℕ → List ℕ → List ℕ → ℕ × ℕ → List ℕ
-edge_line_in k ids core e = if is_in_core core k e.0 && is_in_core core k e.1 then pair_line (at ids e.0) (at ids e.1) else []
+abbrev pub edge_line_in : Format → ℕ → List ℕ → List ℕ → ℕ × ℕ → List ℕ
+edge_line_in format k ids core e = if is_in_core core k e.0 && is_in_core core k e.1 then edge_line format (at ids e.0) (at ids e.1) else []
 
 -- the id, the core number and the layer of a vertex
-abbrev pub layer_line_in : List ℕ → List ℕ → List ℕ → ℕ → List ℕ
-layer_line_in ids core layer v = triple_line (at ids v) (at core v) (at layer v)
+abbrev pub layer_line_in : Format → List ℕ → List ℕ → List ℕ → ℕ → List ℕ
+layer_line_in format ids core layer v = layer_line format (at ids v) (at core v) (at layer v)
 
 -- the line at a place, which may be empty
-abbrev pub line_at : Listing → List ℕ → List ℕ → ℕ → List ℕ
-line_at Numbers ids core i = vertex_line ids core i
-line_at (Sizes sizes) ids core i = size_line_in sizes i
-line_at (Members k) ids core i = member_line_in k ids core i
-line_at (Edges k edges) ids core i = edge_line_in k ids core (slice_index_or edges.items i (0, 0))
-line_at (Layers layer) ids core i = layer_line_in ids core layer.items i
-line_at (Order order) ids core i = vertex_line ids core (at order.items i)
+abbrev pub line_at : Format → Listing → List ℕ → List ℕ → ℕ → List ℕ
+line_at format Numbers ids core i = vertex_line format ids core i
+line_at format (Sizes sizes) ids core i = size_line_in format sizes i
+line_at format (Members k) ids core i = member_line_in format k ids core i
+line_at format (Edges k edges) ids core i = edge_line_in format k ids core (slice_index_or edges.items i (0, 0))
+line_at format (Layers layer) ids core i = layer_line_in format ids core layer.items i
+line_at format (Order order) ids core i = vertex_line format ids core (at order.items i)
 
 -- the lines at all places
-abbrev pub listing_lines : Listing → List ℕ → List ℕ → List ℕ
-listing_lines listing ids core = flat_map (line_at listing ids core) (ascending_below (places listing (length ids)))
+abbrev pub listing_lines : Format → Listing → List ℕ → List ℕ → List ℕ
+listing_lines format listing ids core = flat_map (line_at format listing ids core) (ascending_below (places listing (length ids)))
+
+-- the lines that were made can be written: each vertex has an id and a core number, and nothing is gathered yet
+abbrev pub AreReady : MadeLines → Type 0
+AreReady made = (length made.ids.items ≡ length made.core.items) × Fits (length made.ids.items) made.listing × (made.page ≡ [])
+
+-- the bytes of the lines that were made
+abbrev pub made_text : MadeLines → List ℕ
+made_text made = listing_lines made.format made.listing made.ids.items made.core.items

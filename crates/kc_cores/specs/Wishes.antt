@@ -22,6 +22,8 @@ use Rattle.kc_dialect.specs.declared.dialect.Separator.TheVariants.{Blank, Comma
 use Rattle.kc_changes.specs.declared.show.Show.{Show}
 use Rattle.kc_changes.specs.declared.show.Show.TheVariants.{Changes, Summary}
 use Rattle.kc_watch.specs.declared.options.WatchOptions.{WatchOptions}
+use Rattle.kc_lines.specs.declared.format.Format.{Format}
+use Rattle.kc_lines.specs.declared.format.Format.TheVariants.{Json, Tabs}
 use Rattle.kc_cores.specs.declared.request.Task.{Task}
 use Rattle.kc_cores.specs.declared.request.Task.TheVariants.{Numbers, Sizes, Members, Edges, Layers, Order}
 
@@ -47,9 +49,17 @@ with_dialect app =
     with_rule (with_rule (with_rule (with_rule app (value_option (codes "columns"))) (value_option (codes "separator"))) skip_option)
     (value_option (codes "bad-lines"))
 
+-- `--format FORMAT`
+abbrev pub format_option : Rule
+format_option = value_option (codes "format")
+
+-- the command of a task, with what is said of its output, without the name of the file
+abbrev pub writing_command : Text → App
+writing_command name = with_rule (quiet_command name) format_option
+
 -- the command of a task, which takes the name of a file
 abbrev pub task_command : Text → App
-task_command name = with_rule (with_dialect (quiet_command name)) (new_rule (codes "FILE"))
+task_command name = with_rule (with_dialect (writing_command name)) (new_rule (codes "FILE"))
 
 -- The command that reads the words, without those of the tasks. The words are those after the program's name.
 abbrev pub bare_command : App
@@ -122,10 +132,11 @@ pub record GraphText : Type 0 where
   pub file : Option Text
   pub dialect : Option Dialect
 
--- A task for the graph of a text. Where it is quiet, the run tells nothing of itself once it is done.
+-- A task for the graph of a text, and how its lines are written. Where it is quiet, the run tells nothing of itself once it is done.
 pub record Query : Type 0 where
   pub task : Task
   pub graph : GraphText
+  pub format : Format
   pub quiet : Bool
 
 -- What words ask for: a task for a graph; or the check of a certificate of this name for the graph of a text; or the answer to a stream. Or
@@ -269,11 +280,21 @@ text_by file rows =
 abbrev pub text_in : List Row → Option GraphText
 text_in rows = text_by (file_named (first_of (codes "FILE") rows)) rows
 
--- what a command for a task and a text asks for
-abbrev pub wish_for : Option Task → Option GraphText → Bool → Wish
-wish_for None graph quiet = Replies (InvalidSubcommand ∷ [])
-wish_for (Some task) None quiet = Replies (ValueValidation ∷ [])
-wish_for (Some task) (Some graph) quiet = Asks (record { task = task; graph = graph; quiet = quiet })
+-- the format of this name
+abbrev pub format_of : Text → Option Format
+format_of text = if bytes_eq text (codes "tsv") then Some Tabs else if bytes_eq text (codes "json") then Some Json else None
+
+-- how lines are written: with tabs where nothing else is said
+abbrev pub format_in : Option Text → Option Format
+format_in None = Some Tabs
+format_in (Some text) = format_of text
+
+-- what a command for a task and a text asks for, by the format of its lines
+abbrev pub wish_for : Option Task → Option GraphText → Option Format → Bool → Wish
+wish_for None graph format quiet = Replies (InvalidSubcommand ∷ [])
+wish_for (Some task) None format quiet = Replies (ValueValidation ∷ [])
+wish_for (Some task) (Some graph) None quiet = Replies (ValueValidation ∷ [])
+wish_for (Some task) (Some graph) (Some format) quiet = Asks (record { task = task; graph = graph; format = format; quiet = quiet })
 
 -- what the command `check` asks for, by the name of the certificate and the text of a graph
 abbrev pub check_wish : Option Text → Option GraphText → Wish
@@ -285,7 +306,7 @@ check_wish (Some name) (Some graph) = Checks name graph
 abbrev pub wish_about : Text → List Row → Wish
 wish_about name rows =
     if bytes_eq name (codes "check") then check_wish (first_of (codes "CERTIFICATE") rows) (text_in rows)
-    else wish_for (task_in name rows) (text_in rows) (is_set (first_of (codes "quiet") rows))
+    else wish_for (task_in name rows) (text_in rows) (format_in (first_of (codes "format") rows)) (is_set (first_of (codes "quiet") rows))
 
 -- what is shown of core numbers, by this word
 abbrev pub show_of : Text → Option Show

@@ -1,72 +1,25 @@
 //! The top call.
-ghost use Rattle.std.specs.Prelude.{◌≡◌, ◌≤◌, ◌++◌, ℕ, List, [], IfErr, IfOk, OnErr, OnOk, length, map, option_map, string_bytes, take};
-ghost use Rattle.std.specs.Io.KnownBytes.{Appends};
-ghost use Rattle.kc_io.specs.Causes.{HasCause};
+ghost use Rattle.std.specs.Prelude.{◌≡◌, ℕ, List, IfErr, IfOk, map, string_bytes};
 ghost use Rattle.kc_cores.specs.CheckEnded.{CheckEnded, EndsAsAsked};
 ghost use Rattle.kc_cores.specs.CoresEnded.{CoresEnded, ToldLine, done_line};
-ghost use Rattle.kc_cores.specs.Answers.{summary_line};
 ghost use Rattle.kc_cores.specs.Endings.{RepliesTo, line_of, message_text, query_of, text_of};
-ghost use Rattle.kc_cores.specs.Listings.{Fits, listing_lines};
 ghost use Rattle.kc_cores.specs.Sentences.{no_memory_line};
-ghost use Rattle.kc_cores.specs.Skips.{told_skips};
 ghost use Rattle.kc_cores.specs.Wishes.{Asks, Wish, wish_of};
 
 use crate::checking::{refute, say, verdict_on};
 use crate::ending::{Ending, finish};
 use crate::input::FileInput;
-use crate::listing::{Listing, listing_of, put_lines};
 use crate::message::Message;
-use crate::page::Page;
 use crate::pipe::PipeSink;
-use crate::reading::{NamedGraph, read_graph};
+use crate::prepared::{Prepared, prepare};
 use crate::request::{CheckRequest, Request, Wanted};
-use crate::skips::told_skips;
-use crate::summary::summary_line;
 use crate::watching::watch;
 use crate::words::{Reply, request_of};
 use crate::{CoresStatus, CoresStreams};
-use kc_flat::{Decomposition, decompose};
-use kc_graph::NoMemory;
-use kc_io::Failed;
 use kc_io::sink::{Sink, write_all};
 use kc_wire::wire::Wire;
 use std::alloc::Global;
 use std::convert::AsStr;
-
-/// Writes the lines of a listing.
-fn write_lines<O: Sink>(
-    mut page: Page,
-    out: &mut O,
-    listing: &Listing,
-    ids: &[u32],
-    core: &[u32],
-) -> Result<(), Failed>
-    requires same { length ids.now ≡ length core.now }
-    requires fits { Fits (length ids.now) listing.now }
-    requires empty { page ≡ [] }
-    ensures whole { OnOk result (Appends (O.taken out.old) (O.taken out.new) (listing_lines listing.now ids.now core.now)) }
-    ensures prefix { OnErr result ((n : ℕ) × (n ≤ length (listing_lines listing.now ids.now core.now))
-        × Appends (O.taken out.old) (O.taken out.new) (take n (listing_lines listing.now ids.now core.now))) }
-    ensures cause { HasCause (O.faults out.old) (O.faults out.new) result }
-{
-    put_lines(&mut page, out, listing, ids, core)?;
-    page.write(out)
-}
-
-/// What is told of a run that is done: the bad lines that were passed over, and the summary of the graph.
-fn told_of(
-    alloc: Global,
-    file: Option<&str>,
-    named: &NamedGraph,
-    core: &[u32],
-) -> Result<String, NoMemory>
-    ensures { IfOk result (λ told. string_bytes told ≡ told_skips (option_map (λ t. t.now) file.entry) named.now.skipped.count
-        named.now.skipped.first.items ++ summary_line named.now.graph core.now) }
-{
-    let skips = told_skips(alloc, file, &named.skipped)?;
-    let summary = summary_line(alloc, &named.graph, core)?;
-    format!(in alloc; "{skips}{summary}")
-}
 
 /// Writes the lines of a task for the graph of the input, and gives the ending of the run.
 fn follow<I: FileInput, C, O: PipeSink, E, L>(
@@ -82,12 +35,8 @@ fn follow<I: FileInput, C, O: PipeSink, E, L>(
     ensures err { streams.new.err ≡ streams.old.err }
     ensures wire { streams.new.wire ≡ streams.old.wire }
 {
-    let named = read_graph(alloc, request.graph, &mut streams.input)?;
-    let Decomposition { core, order } = decompose(alloc, &named.graph)?;
-    let told = told_of(alloc, request.graph.file, &named, &core)?;
-    let listing = listing_of(alloc, request.task, &named.graph, &core, order)?;
-    let page = Page::new(alloc)?;
-    if write_lines(page, &mut streams.out, &listing, &named.ids, &core).is_err() {
+    let Prepared { lines, told } = prepare(alloc, request, &mut streams.input)?;
+    if lines.write(&mut streams.out).is_err() {
         return Err(Ending::cut(streams.out.is_reader_gone()));
     }
     Ok(told)

@@ -5,8 +5,8 @@
 //! mended. Its promise is one record, `CoresEnded`, with a field for each clause (`specs/CoresEnded.antt`). `specs/Answers.antt` says what
 //! the lines are, `specs/Wishes.antt` what words ask for, and `specs/Sentences.antt` has the lines of messages.
 //!
-//! A command is a variant of [`Task`]. What its lines need beside the ids and the core numbers is made first, as a `Listing`: so where there
-//! is no memory, no line was written. Lines are then gathered and written in pieces, so no text of the whole is made.
+//! A command is a variant of [`Task`]. What its lines need is made first, as `MadeLines`: so where there is no memory, no line was written.
+//! Lines are then gathered and written in pieces, with tabs or as JSON, so no text of the whole is made.
 //! [`answer_in_memory`](memory::answer_in_memory) is the same run over an input and sinks in memory, where every clause speaks of bytes that
 //! are known. [`answer_on`](program::answer_on) takes the words of a program's arguments.
 //!
@@ -19,7 +19,7 @@
 //!
 //! The crate stands on `kc_io` for sources and sinks, on `kc_text` for what a text means, on `kc_dialect` and `kc_dialect_read` for
 //! dialects, on `kc_flat` and `kc_graph` for core numbers, on `kc_tally` for layers, on `kc_claims` for certificates, on `kc_wire`,
-//! `kc_dialogue`, `kc_stream` and `kc_watch` for streams, and on `clap` and `itoa`.
+//! `kc_dialogue`, `kc_stream` and `kc_watch` for streams, on `kc_lines` for lines, and on `clap`.
 #![tactic(auto)]
 
 pub mod answer;
@@ -29,12 +29,14 @@ mod ending;
 pub mod input;
 mod lines;
 mod listing;
+mod made_lines;
 pub mod mem_input;
 pub mod mem_pipe;
 pub mod memory;
 mod message;
-mod page;
+mod output_words;
 pub mod pipe;
+mod prepared;
 pub mod program;
 mod reading;
 mod request;
@@ -46,6 +48,7 @@ pub mod std_pipe;
 mod streams;
 mod summary;
 mod verdict;
+mod vertices;
 mod watch_words;
 mod watching;
 mod words;

@@ -1,87 +1,116 @@
-//! Lines of numbers with tabs between them.
-ghost use Rattle.std.specs.Prelude.{◌≡◌, ◌++◌, OnErr, OnOk, decimal};
+//! The lines of the commands.
+ghost use Rattle.std.specs.Prelude.{◌≡◌, OnErr, OnOk};
 ghost use Rattle.kc_io.specs.Causes.{HasCause};
-ghost use Rattle.kc_cores.specs.Lines.{ended, pair_line, quadruple_line, tabbed, triple_line};
-ghost use Rattle.kc_cores.specs.Pages.{PassesOn, PassesPart};
+ghost use Rattle.kc_lines.specs.Pages.{PassesOn, PassesPart};
+ghost use Rattle.kc_cores.specs.Lines.{counts_line, edge_line, layer_line, member_line, number_line};
 
-use crate::page::Page;
-use itoa::Buffer;
 use kc_io::Failed;
 use kc_io::sink::Sink;
+use kc_lines::field::Field;
+use kc_lines::format::Format;
+use kc_lines::lines::put_line;
+use kc_lines::page::Page;
 
-/// Puts the decimal digits of a number.
-fn put_number<O: Sink>(page: &mut Page, out: &mut O, number: u64) -> Result<(), Failed>
-    ensures passes { OnOk result (PassesOn (O.taken out.old) (O.taken out.new) page.old page.new (decimal number)) }
-    ensures part { OnErr result (PassesPart (O.taken out.old) (O.taken out.new) page.old (decimal number)) }
-    ensures cause { HasCause (O.faults out.old) (O.faults out.new) result }
-{
-    page.put(out, Buffer::new().format(number).as_bytes())
-}
-
-/// Puts a number and a tab.
-fn put_tabbed<O: Sink>(page: &mut Page, out: &mut O, number: u64) -> Result<(), Failed>
-    ensures passes { OnOk result (PassesOn (O.taken out.old) (O.taken out.new) page.old page.new (tabbed number)) }
-    ensures part { OnErr result (PassesPart (O.taken out.old) (O.taken out.new) page.old (tabbed number)) }
-    ensures cause { HasCause (O.faults out.old) (O.faults out.new) result }
-{
-    put_number(page, out, number)?;
-    page.put(out, b"\t")
-}
-
-/// Puts a number and the end of a line.
-pub(crate) fn put_ended<O: Sink>(page: &mut Page, out: &mut O, number: u64) -> Result<(), Failed>
-    ensures passes { OnOk result (PassesOn (O.taken out.old) (O.taken out.new) page.old page.new (ended number)) }
-    ensures part { OnErr result (PassesPart (O.taken out.old) (O.taken out.new) page.old (ended number)) }
-    ensures cause { HasCause (O.faults out.old) (O.faults out.new) result }
-{
-    put_number(page, out, number)?;
-    page.put(out, b"\n")
-}
-
-/// Puts a line of two numbers.
-pub(crate) fn put_pair<O: Sink>(
+/// Puts the line of an id and its core number.
+pub(crate) fn put_number_line<O: Sink>(
     page: &mut Page,
     out: &mut O,
-    first: u64,
-    second: u64,
+    format: Format,
+    id: u64,
+    core: u64,
 ) -> Result<(), Failed>
-    ensures passes { OnOk result (PassesOn (O.taken out.old) (O.taken out.new) page.old page.new (pair_line first second)) }
-    ensures part { OnErr result (PassesPart (O.taken out.old) (O.taken out.new) page.old (pair_line first second)) }
+    ensures passes { OnOk result (PassesOn (O.taken out.old) (O.taken out.new) page.old page.new (number_line format id core)) }
+    ensures part { OnErr result (PassesPart (O.taken out.old) (O.taken out.new) page.old (number_line format id core)) }
     ensures cause { HasCause (O.faults out.old) (O.faults out.new) result }
 {
-    put_tabbed(page, out, first)?;
-    put_ended(page, out, second)
+    put_line(
+        page,
+        out,
+        format,
+        &[Field::new("id", id), Field::new("core", core)],
+    )
 }
 
-/// Puts a line of three numbers.
-pub(crate) fn put_triple<O: Sink>(
+/// Puts the line of a k, how many vertices the k-shell has, and how many vertices and edges the k-core has.
+pub(crate) fn put_counts_line<O: Sink>(
     page: &mut Page,
     out: &mut O,
-    first: u64,
-    second: u64,
-    third: u64,
+    format: Format,
+    counts: (u64, u64, u64, u64),
 ) -> Result<(), Failed>
-    ensures passes { OnOk result (PassesOn (O.taken out.old) (O.taken out.new) page.old page.new (triple_line first second third)) }
-    ensures part { OnErr result (PassesPart (O.taken out.old) (O.taken out.new) page.old (triple_line first second third)) }
+    ensures passes { OnOk result (PassesOn (O.taken out.old) (O.taken out.new) page.old page.new (counts_line format counts.0 counts.1 counts.2 counts.3)) }
+    ensures part { OnErr result (PassesPart (O.taken out.old) (O.taken out.new) page.old (counts_line format counts.0 counts.1 counts.2 counts.3)) }
     ensures cause { HasCause (O.faults out.old) (O.faults out.new) result }
 {
-    put_tabbed(page, out, first)?;
-    put_pair(page, out, second, third)
+    let (k, shell, vertices, edges) = counts;
+    put_line(
+        page,
+        out,
+        format,
+        &[
+            Field::new("core", k),
+            Field::new("shell_vertices", shell),
+            Field::new("core_vertices", vertices),
+            Field::new("core_edges", edges),
+        ],
+    )
 }
 
-/// Puts a line of four numbers.
-pub(crate) fn put_quadruple<O: Sink>(
+/// Puts the line of an id.
+pub(crate) fn put_member_line<O: Sink>(
     page: &mut Page,
     out: &mut O,
-    numbers: (u64, u64, u64, u64),
+    format: Format,
+    id: u64,
 ) -> Result<(), Failed>
-    ensures passes { OnOk result (PassesOn (O.taken out.old) (O.taken out.new) page.old page.new
-        (quadruple_line numbers.0 numbers.1 numbers.2 numbers.3)) }
-    ensures part { OnErr result (PassesPart (O.taken out.old) (O.taken out.new) page.old
-        (quadruple_line numbers.0 numbers.1 numbers.2 numbers.3)) }
+    ensures passes { OnOk result (PassesOn (O.taken out.old) (O.taken out.new) page.old page.new (member_line format id)) }
+    ensures part { OnErr result (PassesPart (O.taken out.old) (O.taken out.new) page.old (member_line format id)) }
     ensures cause { HasCause (O.faults out.old) (O.faults out.new) result }
 {
-    let (first, second, third, fourth) = numbers;
-    put_tabbed(page, out, first)?;
-    put_triple(page, out, second, third, fourth)
+    put_line(page, out, format, &[Field::new("id", id)])
+}
+
+/// Puts the line of the ids of both ends of an edge.
+pub(crate) fn put_edge_line<O: Sink>(
+    page: &mut Page,
+    out: &mut O,
+    format: Format,
+    source: u64,
+    target: u64,
+) -> Result<(), Failed>
+    ensures passes { OnOk result (PassesOn (O.taken out.old) (O.taken out.new) page.old page.new (edge_line format source target)) }
+    ensures part { OnErr result (PassesPart (O.taken out.old) (O.taken out.new) page.old (edge_line format source target)) }
+    ensures cause { HasCause (O.faults out.old) (O.faults out.new) result }
+{
+    put_line(
+        page,
+        out,
+        format,
+        &[Field::new("source", source), Field::new("target", target)],
+    )
+}
+
+/// Puts the line of an id, its core number and its layer.
+pub(crate) fn put_layer_line<O: Sink>(
+    page: &mut Page,
+    out: &mut O,
+    format: Format,
+    id: u64,
+    core: u64,
+    layer: u64,
+) -> Result<(), Failed>
+    ensures passes { OnOk result (PassesOn (O.taken out.old) (O.taken out.new) page.old page.new (layer_line format id core layer)) }
+    ensures part { OnErr result (PassesPart (O.taken out.old) (O.taken out.new) page.old (layer_line format id core layer)) }
+    ensures cause { HasCause (O.faults out.old) (O.faults out.new) result }
+{
+    put_line(
+        page,
+        out,
+        format,
+        &[
+            Field::new("id", id),
+            Field::new("core", core),
+            Field::new("layer", layer),
+        ],
+    )
 }

@@ -1,23 +1,29 @@
 //! What is written for a task: lines that are put by their places, so that no list of them is made.
-ghost use Rattle.std.specs.Prelude.{◌≡◌, ◌<◌, ℕ, List, IfOk, OnErr, OnOk, length};
+ghost use Rattle.std.specs.Prelude.{◌≡◌, ◌<◌, ◌≤◌, ℕ, List, [], IfOk, OnErr, OnOk, length, take};
+ghost use Rattle.std.specs.Io.KnownBytes.{Appends};
 ghost use Rattle.kc_io.specs.Causes.{HasCause};
 ghost use Rattle.kc_graph.specs.Certificate.{Certifies};
 ghost use Rattle.kc_graph.specs.Core.{AreCoreNumbers};
 ghost use Rattle.kc_tally.specs.Layers.{AreLayers};
+ghost use Rattle.kc_lines.specs.declared.format.Format.{Format};
 ghost use Rattle.kc_cores.specs.Answers.{AreLinesFor, level_of};
 ghost use Rattle.kc_cores.specs.Listings.{Fits, edge_line_in, layer_line_in, line_at, listing_lines, member_line_in};
 ghost use Rattle.kc_cores.specs.Listings.{places, size_line_in, vertex_line};
-ghost use Rattle.kc_cores.specs.Pages.{PassesOn, PassesPart};
+ghost use Rattle.kc_lines.specs.Pages.{PassesOn, PassesPart};
 
-use crate::lines::{put_ended, put_pair, put_quadruple, put_triple};
-use crate::page::Page;
+use crate::lines::{
+    put_counts_line, put_edge_line, put_layer_line, put_member_line, put_number_line,
+};
 use crate::request::Task;
 use crate::sizes::{CoreSizes, sizes_of};
 use crate::summary::greatest;
+use crate::vertices::Vertices;
 use kc_flat::FlatGraph;
 use kc_graph::{Graph, NoMemory};
 use kc_io::Failed;
 use kc_io::sink::Sink;
+use kc_lines::format::Format;
+use kc_lines::page::Page;
 use kc_tally::layers;
 use std::alloc::Global;
 
@@ -83,8 +89,8 @@ pub(crate) fn listing_of(
 ) -> Result<Listing, NoMemory>
     requires { Certifies graph.now core.now order.items }
     ensures fits { IfOk result (λ listing. Fits graph.now.size listing) }
-    ensures lines { IfOk result (λ listing. (ids : List ℕ) → length ids ≡ graph.now.size
-        → AreLinesFor task ids graph.now core.now (listing_lines listing ids core.now)) }
+    ensures lines { IfOk result (λ listing. (format : Format) (ids : List ℕ) → length ids ≡ graph.now.size
+        → AreLinesFor format task ids graph.now core.now (listing_lines format listing ids core.now)) }
 {
     match task {
         Task::Numbers => Ok(Listing::Numbers),
@@ -103,58 +109,65 @@ pub(crate) fn listing_of(
 fn put_vertex<O: Sink>(
     page: &mut Page,
     out: &mut O,
-    ids: &[u32],
-    core: &[u32],
+    format: Format,
+    vertices: &Vertices<'_>,
     v: usize,
 ) -> Result<(), Failed>
-    requires same { length ids.now ≡ length core.now }
-    requires within { v < length ids.now }
-    ensures passes { OnOk result (PassesOn (O.taken out.old) (O.taken out.new) page.old page.new (vertex_line ids.now core.now v)) }
-    ensures part { OnErr result (PassesPart (O.taken out.old) (O.taken out.new) page.old (vertex_line ids.now core.now v)) }
+    requires same { length vertices.now.ids.now ≡ length vertices.now.core.now }
+    requires within { v < length vertices.now.ids.now }
+    ensures passes { OnOk result (PassesOn (O.taken out.old) (O.taken out.new) page.old page.new (vertex_line format vertices.now.ids.now vertices.now.core.now v)) }
+    ensures part { OnErr result (PassesPart (O.taken out.old) (O.taken out.new) page.old (vertex_line format vertices.now.ids.now vertices.now.core.now v)) }
     ensures cause { HasCause (O.faults out.old) (O.faults out.new) result }
 {
-    put_pair(page, out, u64::from(ids[v]), u64::from(core[v]))
+    put_number_line(
+        page,
+        out,
+        format,
+        u64::from(vertices.ids[v]),
+        u64::from(vertices.core[v]),
+    )
 }
 
 /// Puts the line of a level.
 fn put_size<O: Sink>(
     page: &mut Page,
     out: &mut O,
+    format: Format,
     sizes: &CoreSizes,
     level: usize,
 ) -> Result<(), Failed>
     requires fits { (length sizes.now.vertices.items ≡ length sizes.now.shells.items) × (length sizes.now.edges.items ≡ length sizes.now.shells.items) }
     requires within { level < length sizes.now.shells.items }
-    ensures passes { OnOk result (PassesOn (O.taken out.old) (O.taken out.new) page.old page.new (size_line_in sizes.now level)) }
-    ensures part { OnErr result (PassesPart (O.taken out.old) (O.taken out.new) page.old (size_line_in sizes.now level)) }
+    ensures passes { OnOk result (PassesOn (O.taken out.old) (O.taken out.new) page.old page.new (size_line_in format sizes.now level)) }
+    ensures part { OnErr result (PassesPart (O.taken out.old) (O.taken out.new) page.old (size_line_in format sizes.now level)) }
     ensures cause { HasCause (O.faults out.old) (O.faults out.new) result }
 {
-    let numbers = (
+    let counts = (
         level as u64,
         sizes.shells[level],
         sizes.vertices[level],
         sizes.edges[level],
     );
-    put_quadruple(page, out, numbers)
+    put_counts_line(page, out, format, counts)
 }
 
 /// Puts the id of a vertex, where it is in the k-core.
 fn put_member<O: Sink>(
     page: &mut Page,
     out: &mut O,
+    format: Format,
     least: u32,
-    ids: &[u32],
-    core: &[u32],
+    vertices: &Vertices<'_>,
     v: usize,
 ) -> Result<(), Failed>
-    requires same { length ids.now ≡ length core.now }
-    requires within { v < length ids.now }
-    ensures passes { OnOk result (PassesOn (O.taken out.old) (O.taken out.new) page.old page.new (member_line_in least ids.now core.now v)) }
-    ensures part { OnErr result (PassesPart (O.taken out.old) (O.taken out.new) page.old (member_line_in least ids.now core.now v)) }
+    requires same { length vertices.now.ids.now ≡ length vertices.now.core.now }
+    requires within { v < length vertices.now.ids.now }
+    ensures passes { OnOk result (PassesOn (O.taken out.old) (O.taken out.new) page.old page.new (member_line_in format least vertices.now.ids.now vertices.now.core.now v)) }
+    ensures part { OnErr result (PassesPart (O.taken out.old) (O.taken out.new) page.old (member_line_in format least vertices.now.ids.now vertices.now.core.now v)) }
     ensures cause { HasCause (O.faults out.old) (O.faults out.new) result }
 {
-    if least <= core[v] {
-        put_ended(page, out, u64::from(ids[v]))
+    if least <= vertices.core[v] {
+        put_member_line(page, out, format, u64::from(vertices.ids[v]))
     } else {
         Ok(())
     }
@@ -164,25 +177,26 @@ fn put_member<O: Sink>(
 fn put_edge<O: Sink>(
     page: &mut Page,
     out: &mut O,
+    format: Format,
     least: u32,
-    ids: &[u32],
-    core: &[u32],
+    vertices: &Vertices<'_>,
     edge: (u32, u32),
 ) -> Result<(), Failed>
-    requires same { length ids.now ≡ length core.now }
-    requires first { edge.0 < length ids.now }
-    requires second { edge.1 < length ids.now }
-    ensures passes { OnOk result (PassesOn (O.taken out.old) (O.taken out.new) page.old page.new (edge_line_in least ids.now core.now edge)) }
-    ensures part { OnErr result (PassesPart (O.taken out.old) (O.taken out.new) page.old (edge_line_in least ids.now core.now edge)) }
+    requires same { length vertices.now.ids.now ≡ length vertices.now.core.now }
+    requires first { edge.0 < length vertices.now.ids.now }
+    requires second { edge.1 < length vertices.now.ids.now }
+    ensures passes { OnOk result (PassesOn (O.taken out.old) (O.taken out.new) page.old page.new (edge_line_in format least vertices.now.ids.now vertices.now.core.now edge)) }
+    ensures part { OnErr result (PassesPart (O.taken out.old) (O.taken out.new) page.old (edge_line_in format least vertices.now.ids.now vertices.now.core.now edge)) }
     ensures cause { HasCause (O.faults out.old) (O.faults out.new) result }
 {
     let (u, v) = edge;
-    if least <= core[u as usize] && least <= core[v as usize] {
-        put_pair(
+    if least <= vertices.core[u as usize] && least <= vertices.core[v as usize] {
+        put_edge_line(
             page,
             out,
-            u64::from(ids[u as usize]),
-            u64::from(ids[v as usize]),
+            format,
+            u64::from(vertices.ids[u as usize]),
+            u64::from(vertices.ids[v as usize]),
         )
     } else {
         Ok(())
@@ -193,23 +207,24 @@ fn put_edge<O: Sink>(
 fn put_layer<O: Sink>(
     page: &mut Page,
     out: &mut O,
-    ids: &[u32],
-    core: &[u32],
+    format: Format,
+    vertices: &Vertices<'_>,
     layer: &[u32],
     v: usize,
 ) -> Result<(), Failed>
-    requires same { length ids.now ≡ length core.now }
-    requires one_each { length layer.now ≡ length core.now }
-    requires within { v < length ids.now }
-    ensures passes { OnOk result (PassesOn (O.taken out.old) (O.taken out.new) page.old page.new (layer_line_in ids.now core.now layer.now v)) }
-    ensures part { OnErr result (PassesPart (O.taken out.old) (O.taken out.new) page.old (layer_line_in ids.now core.now layer.now v)) }
+    requires same { length vertices.now.ids.now ≡ length vertices.now.core.now }
+    requires one_each { length layer.now ≡ length vertices.now.core.now }
+    requires within { v < length vertices.now.ids.now }
+    ensures passes { OnOk result (PassesOn (O.taken out.old) (O.taken out.new) page.old page.new (layer_line_in format vertices.now.ids.now vertices.now.core.now layer.now v)) }
+    ensures part { OnErr result (PassesPart (O.taken out.old) (O.taken out.new) page.old (layer_line_in format vertices.now.ids.now vertices.now.core.now layer.now v)) }
     ensures cause { HasCause (O.faults out.old) (O.faults out.new) result }
 {
-    put_triple(
+    put_layer_line(
         page,
         out,
-        u64::from(ids[v]),
-        u64::from(core[v]),
+        format,
+        u64::from(vertices.ids[v]),
+        u64::from(vertices.core[v]),
         u64::from(layer[v]),
     )
 }
@@ -218,44 +233,66 @@ fn put_layer<O: Sink>(
 fn put_at<O: Sink>(
     page: &mut Page,
     out: &mut O,
+    format: Format,
     listing: &Listing,
-    ids: &[u32],
-    core: &[u32],
+    vertices: &Vertices<'_>,
     place: usize,
 ) -> Result<(), Failed>
-    requires same { length ids.now ≡ length core.now }
-    requires fits { Fits (length ids.now) listing.now }
-    requires within { place < places listing.now (length ids.now) }
-    ensures passes { OnOk result (PassesOn (O.taken out.old) (O.taken out.new) page.old page.new (line_at listing.now ids.now core.now place)) }
-    ensures part { OnErr result (PassesPart (O.taken out.old) (O.taken out.new) page.old (line_at listing.now ids.now core.now place)) }
+    requires same { length vertices.now.ids.now ≡ length vertices.now.core.now }
+    requires fits { Fits (length vertices.now.ids.now) listing.now }
+    requires within { place < places listing.now (length vertices.now.ids.now) }
+    ensures passes { OnOk result (PassesOn (O.taken out.old) (O.taken out.new) page.old page.new (line_at format listing.now vertices.now.ids.now vertices.now.core.now place)) }
+    ensures part { OnErr result (PassesPart (O.taken out.old) (O.taken out.new) page.old (line_at format listing.now vertices.now.ids.now vertices.now.core.now place)) }
     ensures cause { HasCause (O.faults out.old) (O.faults out.new) result }
 {
     match listing {
-        Listing::Numbers => put_vertex(page, out, ids, core, place),
-        Listing::Sizes(sizes) => put_size(page, out, sizes, place),
-        Listing::Members(least) => put_member(page, out, *least, ids, core, place),
-        Listing::Edges(least, edges) => put_edge(page, out, *least, ids, core, edges[place]),
-        Listing::Layers(layer) => put_layer(page, out, ids, core, layer, place),
-        Listing::Order(order) => put_vertex(page, out, ids, core, order[place] as usize),
+        Listing::Numbers => put_vertex(page, out, format, vertices, place),
+        Listing::Sizes(sizes) => put_size(page, out, format, sizes, place),
+        Listing::Members(least) => put_member(page, out, format, *least, vertices, place),
+        Listing::Edges(least, edges) => {
+            put_edge(page, out, format, *least, vertices, edges[place])
+        }
+        Listing::Layers(layer) => put_layer(page, out, format, vertices, layer, place),
+        Listing::Order(order) => put_vertex(page, out, format, vertices, order[place] as usize),
     }
 }
 
 /// Puts all lines.
-pub(crate) fn put_lines<O: Sink>(
+fn put_lines<O: Sink>(
     page: &mut Page,
     out: &mut O,
+    format: Format,
     listing: &Listing,
-    ids: &[u32],
-    core: &[u32],
+    vertices: &Vertices<'_>,
 ) -> Result<(), Failed>
-    requires same { length ids.now ≡ length core.now }
-    requires fits { Fits (length ids.now) listing.now }
-    ensures passes { OnOk result (PassesOn (O.taken out.old) (O.taken out.new) page.old page.new (listing_lines listing.now ids.now core.now)) }
-    ensures part { OnErr result (PassesPart (O.taken out.old) (O.taken out.new) page.old (listing_lines listing.now ids.now core.now)) }
+    requires same { length vertices.now.ids.now ≡ length vertices.now.core.now }
+    requires fits { Fits (length vertices.now.ids.now) listing.now }
+    ensures passes { OnOk result (PassesOn (O.taken out.old) (O.taken out.new) page.old page.new (listing_lines format listing.now vertices.now.ids.now vertices.now.core.now)) }
+    ensures part { OnErr result (PassesPart (O.taken out.old) (O.taken out.new) page.old (listing_lines format listing.now vertices.now.ids.now vertices.now.core.now)) }
     ensures cause { HasCause (O.faults out.old) (O.faults out.new) result }
 {
-    for place in 0..listing.places(ids.len()) {
-        put_at(page, out, listing, ids, core, place)?;
+    for place in 0..listing.places(vertices.ids.len()) {
+        put_at(page, out, format, listing, vertices, place)?;
     }
     Ok(())
+}
+
+/// Writes all lines, behind what is gathered already: nothing.
+pub(crate) fn write_lines<O: Sink>(
+    mut page: Page,
+    out: &mut O,
+    format: Format,
+    listing: &Listing,
+    vertices: &Vertices<'_>,
+) -> Result<(), Failed>
+    requires same { length vertices.now.ids.now ≡ length vertices.now.core.now }
+    requires fits { Fits (length vertices.now.ids.now) listing.now }
+    requires empty { page ≡ [] }
+    ensures whole { OnOk result (Appends (O.taken out.old) (O.taken out.new) (listing_lines format listing.now vertices.now.ids.now vertices.now.core.now)) }
+    ensures prefix { OnErr result ((n : ℕ) × (n ≤ length (listing_lines format listing.now vertices.now.ids.now vertices.now.core.now))
+        × Appends (O.taken out.old) (O.taken out.new) (take n (listing_lines format listing.now vertices.now.ids.now vertices.now.core.now))) }
+    ensures cause { HasCause (O.faults out.old) (O.faults out.new) result }
+{
+    put_lines(&mut page, out, format, listing, vertices)?;
+    page.write(out)
 }

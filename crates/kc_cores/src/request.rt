@@ -1,5 +1,6 @@
 //! What words ask for.
 use kc_dialect::Dialect;
+use kc_lines::format::Format;
 use kc_watch::WatchOptions;
 
 /// What is asked of a graph.
@@ -48,6 +49,8 @@ pub(crate) enum Wanted<'a> {
 pub(crate) struct Request<'a> {
     pub(crate) task: Task,
     pub(crate) graph: NamedText<'a>,
+    /// How its lines are written.
+    pub(crate) format: Format,
     /// Whether the run tells nothing of itself once it is done.
     pub(crate) quiet: bool,
 }

@@ -12,15 +12,17 @@ ghost use Rattle.kc_cores.specs.Wishes.{Replies, bare_command, certificate_comma
 ghost use Rattle.kc_cores.specs.Wishes.{cores_command, edges_flag};
 ghost use Rattle.kc_cores.specs.Wishes.{is_set, level_in, members_command, members_in, members_task, quiet_command, quiet_flag};
 ghost use Rattle.kc_cores.specs.Wishes.{options_in, task_command, task_in, watch_wish, wish_about, wish_by, wish_for, wish_in, wish_of, with_cores};
-ghost use Rattle.kc_cores.specs.Wishes.{with_tasks};
+ghost use Rattle.kc_cores.specs.Wishes.{with_tasks, writing_command};
 ghost use Rattle.kc_cores.specs.Endings.{IsReplyFor, IsRequestFor, RepliesTo, text_of};
 
 use crate::dialect_words::{number_of, text_in, with_dialect};
+use crate::output_words::{format_in, format_option};
 use crate::request::{CheckRequest, NamedText, Request, Task, Wanted};
 use crate::watch_words::{options_of, show_in, watch_command};
 use clap::error::ErrorKind;
 use clap::{Arg, ArgAction, ArgMatches, Command, Error};
 use kc_graph::NoMemory;
+use kc_lines::format::Format;
 use kc_watch::WatchOptions;
 use std::alloc::Global;
 use std::convert::AsStr;
@@ -76,6 +78,20 @@ fn quiet_command<'a>(
         .arg(quiet_flag(alloc))
 }
 
+/// The command of a task with what is said of its output, without the name of the file.
+fn writing_command<'a>(
+    alloc: Global,
+    name: &'a str,
+    about: &'a str,
+    example: &'a str,
+) -> Result<Command<'a>, NoMemory>
+    ensures app { IfOk result (λ made. app_of made ≡ writing_command name.entry.now) }
+    ensures local { IfOk result (λ made. (out-Command made).has_globals ≡ false) }
+{
+    let command = quiet_command(alloc, name, about, example)?;
+    command.arg(format_option(alloc))
+}
+
 /// The command of a task, with one line of example in its help.
 fn task_command<'a>(
     alloc: Global,
@@ -89,7 +105,7 @@ fn task_command<'a>(
     let file = Arg::new(alloc, "FILE").help(
         "The edge list, two ids a line; standard input where it is - or none is named",
     );
-    let command = with_dialect(alloc, quiet_command(alloc, name, about, example)?)?;
+    let command = with_dialect(alloc, writing_command(alloc, name, about, example)?)?;
     command.arg(file)
 }
 
@@ -330,36 +346,45 @@ fn no_command(alloc: Global) -> Reply
     }
 }
 
-/// What is replied where a value of an option about the text is not right.
+/// What is replied where a value of an option about the text or the output is not right.
 fn wrong_value(alloc: Global) -> Reply
     ensures { RepliesTo result (Replies (ErrorKind.ValueValidation ∷ [])) }
 {
     match String::from_str(
         alloc,
-        "cores: --columns takes two numbers from 1 on, as 1,2; --separator takes blank, comma, semicolon or tab; --bad-lines takes stop or skip\n",
+        "cores: --columns takes two numbers from 1 on, as 1,2; --separator takes blank, comma, semicolon or tab; --bad-lines takes stop or skip; --format takes tsv or json\n",
     ) {
         Ok(text) => Reply::Mistake(text),
         Err(_) => Reply::NoMemory,
     }
 }
 
-/// What a command for a task and a text asks for.
+/// What a command for a task and a text asks for, by the format of its lines.
 fn request_for<'a>(
     alloc: Global,
     task: Option<Task>,
     graph: Option<NamedText<'a>>,
+    format: Option<Format>,
     quiet: bool,
 ) -> Result<Wanted<'a>, Reply>
-    ensures asks { IfOk result (λ wanted. IsRequestFor wanted (wish_for task (option_map text_of graph.entry) quiet)) }
-    ensures replies { IfErr result (λ reply. RepliesTo reply (wish_for task (option_map text_of graph.entry) quiet)) }
+    ensures asks { IfOk result (λ wanted. IsRequestFor wanted (wish_for task (option_map text_of graph.entry) format quiet)) }
+    ensures replies { IfErr result (λ reply. RepliesTo reply (wish_for task (option_map text_of graph.entry) format quiet)) }
 {
     let Some(task) = task else {
         return Err(no_command(alloc));
     };
-    match graph {
-        None => Err(wrong_value(alloc)),
-        Some(graph) => Ok(Wanted::Lines(Request { task, graph, quiet })),
-    }
+    let Some(graph) = graph else {
+        return Err(wrong_value(alloc));
+    };
+    let Some(format) = format else {
+        return Err(wrong_value(alloc));
+    };
+    Ok(Wanted::Lines(Request {
+        task,
+        graph,
+        format,
+        quiet,
+    }))
 }
 
 /// What the command `check` asks for, by the name of the certificate and the text of a graph.
@@ -392,7 +417,8 @@ fn wanted_of<'a>(alloc: Global, name: &str, found: &ArgMatches<'a>) -> Result<Wa
     }
     let task = task_in(name, found);
     let quiet = is_set(found.get_str("quiet"));
-    request_for(alloc, task, graph, quiet)
+    let format = format_in(found.get_str("format"));
+    request_for(alloc, task, graph, format, quiet)
 }
 
 /// What a stream is to be answered, by the matches of the command `watch`.

@@ -4,15 +4,15 @@ use Rattle.std.specs.List.{flat_map}
 use Rattle.kc_flat.specs.Listing.{ascending_below}
 use Rattle.kc_flat.proofs.Listed.{flat_map-next}
 use Rattle.kc_cores.specs.Listings.{line_at, listing_lines}
-use Rattle.kc_cores.specs.Pages.{PassesOn, PassesPart}
+use Rattle.kc_lines.specs.Pages.{PassesOn, PassesPart}
 use Rattle.kc_lists.proofs.Results.{on_err-anyhow}
-use Rattle.kc_cores.proofs.Paging.{PassesOn-trans, PassesPart-later, PassesPart-wider}
+use Rattle.kc_lines.proofs.Paging.{PassesOn-trans, PassesPart-later, PassesPart-wider}
 use Rattle.kc_cores.proofs.Placing.{flat_map-front}
 use Rattle.kc_cores.proofs.listing.put_lines.Goals as goal
 
 pub loop-place-preserved : goal.loop-place-preserved
 loop-place-preserved g c =
-    let line : ℕ → List ℕ = line_at c.args.listing.now c.args.ids.now c.args.core.now in
+    let line : ℕ → List ℕ = line_at c.args.format c.args.listing.now c.args.vertices.now.ids.now c.args.vertices.now.core.now in
     record {
       passes = subst (PassesOn (g.O.Sink.taken c.args.out.now) (g.O.Sink.taken c.put_at.new.out) c.args.page.now c.put_at.new.page)
           (sym (flat_map-next line c.loop-place.place))
@@ -23,10 +23,10 @@ loop-place-preserved g c =
 
 pub returns-in_err-put_at-clause-part : goal.returns-in_err-put_at-clause-part
 returns-in_err-put_at-clause-part g c =
-    let line : ℕ → List ℕ = line_at c.args.listing.now c.args.ids.now c.args.core.now in
+    let line : ℕ → List ℕ = line_at c.args.format c.args.listing.now c.args.vertices.now.ids.now c.args.vertices.now.core.now in
     let front : List ℕ = flat_map line (ascending_below c.loop-place.place) in
     let (rest, is) = flat_map-front line (c.loop-place.place + 1) c.places-place-end.result (omega arith) in
-    let whole : front ++ (line c.loop-place.place ++ rest) ≡ listing_lines c.args.listing.now c.args.ids.now c.args.core.now =
+    let whole : front ++ (line c.loop-place.place ++ rest) ≡ listing_lines c.args.format c.args.listing.now c.args.vertices.now.ids.now c.args.vertices.now.core.now =
     sym (append_assoc front (line c.loop-place.place) rest) ∙ ap (λ t. t ++ rest) (sym (flat_map-next line c.loop-place.place)) ∙ sym is
     ∙ ap (λ n. flat_map line (ascending_below n)) c.places-place-end.ensures in
     on_err-anyhow c.from_residual.result

@@ -6,7 +6,8 @@ use Rattle.clap.specs.Matches.{found_of}
 use Rattle.clap.specs.Walk.{Row, Text, first_of, rows_of}
 use Rattle.clap.proofs.WalkLemmas.{first_value-rows}
 use Rattle.kc_cores.specs.Endings.{IsRequestFor, RepliesTo}
-use Rattle.kc_cores.specs.Wishes.{GraphText, Wish, check_wish, is_set, task_in, text_in, wish_about, wish_for}
+use Rattle.kc_lines.specs.declared.format.Format.{Format}
+use Rattle.kc_cores.specs.Wishes.{GraphText, Wish, check_wish, format_in, is_set, task_in, text_in, wish_about, wish_for}
 use Rattle.kc_cores.specs.declared.request.Task.{Task}
 use Rattle.kc_cores.proofs.words.wanted_of.Goals as goal
 
@@ -15,19 +16,19 @@ wish-check : (name : Text) (rows : List Row) → bytes_eq name (codes "check") �
     → wish_about name rows ≡ check_wish (first_of (codes "CERTIFICATE") rows) (text_in rows)
 wish-check name rows is =
     ap (λ (b : Bool). cond b (check_wish (first_of (codes "CERTIFICATE") rows) (text_in rows))
-    (wish_for (task_in name rows) (text_in rows) (is_set (first_of (codes "quiet") rows)))) is
+    (wish_for (task_in name rows) (text_in rows) (format_in (first_of (codes "format") rows)) (is_set (first_of (codes "quiet") rows)))) is
 
 -- what another command asks for
 wish-other : (name : Text) (rows : List Row) → bytes_eq name (codes "check") ≡ false
-    → wish_about name rows ≡ wish_for (task_in name rows) (text_in rows) (is_set (first_of (codes "quiet") rows))
+    → wish_about name rows ≡ wish_for (task_in name rows) (text_in rows) (format_in (first_of (codes "format") rows)) (is_set (first_of (codes "quiet") rows))
 wish-other name rows is =
     ap (λ (b : Bool). cond b (check_wish (first_of (codes "CERTIFICATE") rows) (text_in rows))
-    (wish_for (task_in name rows) (text_in rows) (is_set (first_of (codes "quiet") rows)))) is
+    (wish_for (task_in name rows) (text_in rows) (format_in (first_of (codes "format") rows)) (is_set (first_of (codes "quiet") rows)))) is
 
 -- the same of parts that are the same
-asks-same : {task task' : Option Task} {graph graph' : Option GraphText} {quiet quiet' : Bool} → task ≡ task' → graph ≡ graph' → quiet ≡ quiet'
-    → wish_for task graph quiet ≡ wish_for task' graph' quiet'
-asks-same one two three = λ i. wish_for (one i) (two i) (three i)
+asks-same : {task task' : Option Task} {graph graph' : Option GraphText} {format format' : Option Format} {quiet quiet' : Bool} → task ≡ task'
+    → graph ≡ graph' → format ≡ format' → quiet ≡ quiet' → wish_for task graph format quiet ≡ wish_for task' graph' format' quiet'
+asks-same one two three four = λ i. wish_for (one i) (two i) (three i) (four i)
 
 pub returns-then-eq-clause-asks : goal.returns-then-eq-clause-asks
 returns-then-eq-clause-asks c =
@@ -47,12 +48,18 @@ pub returns-clause-asks : goal.returns-clause-asks
 returns-clause-asks c =
     let found = found_of c.args.found.now in
     let named = wish-other c.args.name.now (rows_of found) (sym c.eq.ensures ∙ c.if-eq.false) in
-    let rows = asks-same c.task_in-task.ensures c.text_in-graph.ensures (c.is_set-quiet.ensures ∙ ap is_set (c.get_str-2.ensures ∙ first_value-rows found (codes "quiet"))) in
+    let rows =
+    asks-same c.task_in-task.ensures c.text_in-graph.ensures
+    (c.format_in-format.ensures ∙ ap format_in (c.get_str-3.ensures ∙ first_value-rows found (codes "format")))
+    (c.is_set-quiet.ensures ∙ ap is_set (c.get_str-2.ensures ∙ first_value-rows found (codes "quiet"))) in
     IfOk-weaker c.request_for.result _ _ (λ wanted h. subst (λ (w : Wish). IsRequestFor wanted w) (rows ∙ sym named) h) c.request_for.ensures.asks
 
 pub returns-clause-replies : goal.returns-clause-replies
 returns-clause-replies c =
     let found = found_of c.args.found.now in
     let named = wish-other c.args.name.now (rows_of found) (sym c.eq.ensures ∙ c.if-eq.false) in
-    let rows = asks-same c.task_in-task.ensures c.text_in-graph.ensures (c.is_set-quiet.ensures ∙ ap is_set (c.get_str-2.ensures ∙ first_value-rows found (codes "quiet"))) in
+    let rows =
+    asks-same c.task_in-task.ensures c.text_in-graph.ensures
+    (c.format_in-format.ensures ∙ ap format_in (c.get_str-3.ensures ∙ first_value-rows found (codes "format")))
+    (c.is_set-quiet.ensures ∙ ap is_set (c.get_str-2.ensures ∙ first_value-rows found (codes "quiet"))) in
     IfErr-weaker c.request_for.result _ _ (λ r h. subst (λ (w : Wish). RepliesTo r w) (rows ∙ sym named) h) c.request_for.ensures.replies

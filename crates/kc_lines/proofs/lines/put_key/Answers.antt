@@ -1,0 +1,22 @@
+-- One text goes on after another.
+use Rattle.std.proofs.Common.{◌++◌, [], ◌∷◌, codes}
+use Rattle.std.proofs.lemmas.Result.{on_err_weaker, on_ok_weaker}
+use Rattle.kc_lists.proofs.Results.{on_err-anyhow}
+use Rattle.kc_lines.proofs.Paging.{PassesOn-trans, PassesPart-later, PassesPart-wider}
+use Rattle.kc_lines.proofs.lines.put_key.Goals as goal
+
+pub returns-in_err-put-clause-part : goal.returns-in_err-put-clause-part
+returns-in_err-put-clause-part g c =
+    on_err-anyhow c.from_residual.result (PassesPart-wider _ _ c.args.page.now (34 ∷ []) (c.args.field.now.name ++ codes "\":") c.in_err-put.ensures.part)
+
+pub returns-clause-passes : goal.returns-clause-passes
+returns-clause-passes g c =
+    on_ok_weaker c.put_name_end.result (λ last.
+    PassesOn-trans _ _ _ c.args.page.now c.put.new.self c.put_name_end.new.page (34 ∷ []) (c.args.field.now.name ++ codes "\":") c.in_ok-put.ensures.passes last)
+    c.put_name_end.ensures.passes
+
+pub returns-clause-part : goal.returns-clause-part
+returns-clause-part g c =
+    on_err_weaker c.put_name_end.result (λ last.
+    PassesPart-later _ _ _ c.args.page.now c.put.new.self (34 ∷ []) (c.args.field.now.name ++ codes "\":") c.in_ok-put.ensures.passes last)
+    c.put_name_end.ensures.part

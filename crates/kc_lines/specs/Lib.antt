@@ -1,0 +1,4 @@
+-- What public contracts speak of.
+pub mod Fields
+pub mod Lines
+pub mod Pages
