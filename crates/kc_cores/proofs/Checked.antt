@@ -155,7 +155,7 @@ module _ {I C O : Type 0} (source : sources.Ghosts I) (behind : I → List ℕ �
         → EndsAsAsked source behind kept beside out gone wire wish end line i i' c c' o o' l l'
     EndsAsAsked-lines wish query end line i i' c c' o o' l l' is h same stays = record {
       check = λ n f e. absurd (cc);
-      watch = λ e. absurd (cc);
+      watch = λ options e. absurd (cc);
       other = λ _ _. (subst (λ (w : Wish). CoresEnded source behind out gone w end line i i' o o') (sym is) h, same, stays);
     }
 
@@ -176,8 +176,8 @@ module _ {I C O : Type 0} (source : sources.Ghosts I) (behind : I → List ℕ �
     }
 
     -- a run that answers a stream has ended as it should
-    pub EndsAsAsked-watch : (wish : Wish) (end : CoresStatus) (line : List ℕ) (i i' : I) (c c' : C) (o o' : O) (l l' : L)
-        → wish ≡ Watches → WatchEnded wire end line l l' → i' ≡ i → c' ≡ c → o' ≡ o
+    pub EndsAsAsked-watch : (wish : Wish) (options : WatchOptions) (end : CoresStatus) (line : List ℕ) (i i' : I) (c c' : C) (o o' : O) (l l' : L)
+        → wish ≡ Watches options → WatchEnded wire options end line l l' → i' ≡ i → c' ≡ c → o' ≡ o
         → EndsAsAsked source behind kept beside out gone wire wish end line i i' c c' o o' l l'
     EndsAsAsked-watch wish options end line i i' c c' o o' l l' is h one two three = record {
       check = λ n f e. absurd (cc);
