@@ -1,98 +1,100 @@
-//! Keeps the core numbers of a graph while edges come and go, one update after the other, and writes how each update changed them.
+//! Keeps the core numbers of a graph while edges come and go, batch by batch, and writes which numbers each batch changed.
 //!
-//! It shows how `kc_journal` and `kc_published` are used from one thread: an update is planned over the journal, the plan is entered, and the
-//! new core numbers are published and read from the board by a reader that is told of it.
+//! It shows how `kc_keeper` is used: a keeper opens on a graph with its core numbers, each batch is applied and tells what it changed, and
+//! the last one is taken back.
 #![tactic(auto)]
 
-ghost use Rattle.std.specs.Prelude.{◌≡◌};
+ghost use Rattle.std.specs.Prelude.{◌<◌};
 
-mod keeper;
-
-use crate::keeper::Keeper;
 use anyhow::Result;
-use kc_graph::{Moves, Update};
-use kc_snapshot::{Blank, BoardName};
-use std::marker::Brand;
-use std::sync::Wait;
+use kc_graph::{Graph, Update, decompose_owned};
+use kc_keeper::{Changes, Keeper};
+use std::alloc::Global;
 
-/// The updates: whether the edge comes, and its ends.
-const UPDATES: [(bool, u32, u32); 7] = [
-    (true, 1, 3),
-    (true, 1, 4),
-    (true, 2, 4),
-    (true, 2, 4),
-    (false, 4, 5),
-    (false, 1, 2),
-    (false, 1, 3),
-];
+/// How many vertices the graph has.
+const VERTICES: u32 = 6;
 
-/// What an update does to core numbers, and to how many.
-fn effect(moves: &Moves) -> (&'static str, usize) {
-    match moves {
-        Moves::Kept => ("not applied", 0),
-        Moves::Rise { rise, .. } if !rise.is_empty() => ("rise", rise.len()),
-        Moves::Plain | Moves::Rise { .. } => ("applied", 0),
-        Moves::Fall { fall, .. } => ("fall", fall.len()),
-    }
+/// The edges in the beginning: two triangles, and an edge that joins them.
+const START: [(u32, u32); 7] = [(0, 1), (0, 2), (1, 2), (2, 3), (3, 4), (3, 5), (4, 5)];
+
+/// The update that adds the edge of these ends.
+const fn add(u: u32, v: u32) -> Update
+    requires { u < v }
+{
+    Update { add: true, u, v }
 }
 
-/// Writes core numbers in a line.
-fn write_cores<R: Print>(rt: &R, head: &str, cores: &[u32]) -> Result<()> {
+/// The update that removes the edge of these ends.
+const fn remove(u: u32, v: u32) -> Update
+    requires { u < v }
+{
+    Update { add: false, u, v }
+}
+
+/// A keeper of the graph of the start.
+fn open(alloc: Global) -> Result<Keeper> {
+    let graph = Graph::from_pairs(alloc, VERTICES, &START)?;
+    let state = decompose_owned(alloc, graph)?;
+    Ok(Keeper::open(alloc, state)?)
+}
+
+/// Writes the core number of each vertex in a line.
+fn write_cores<R: Print>(rt: &R, head: &str, keeper: &Keeper) -> Result<()> {
     print!(rt; "{head}:")?;
-    for core in cores {
+    for core in keeper.core_numbers() {
         print!(rt; " {core}")?;
     }
     println!(rt; "")?;
     Ok(())
 }
 
-/// Writes an update and what it did.
-fn write_effect<R: Print>(rt: &R, update: Update, moves: &Moves) -> Result<()> {
-    let Update { add, u, v } = update;
-    let sign = if add { '+' } else { '-' };
-    let (what, count) = effect(moves);
-    println!(rt; "{sign} {u} {v}: {what} {count}")?;
-    Ok(())
-}
-
-/// Enters an update, publishes the core numbers, and writes what came of it.
-fn step<J: BoardName, R: Wait + AllocGlobal + Print>(
-    rt: &R,
-    keeper: &mut Keeper<J, &R>,
-    index: u32,
-    update: Update,
-) -> Result<()> {
-    let plan = keeper.enter(rt.alloc(), index, update)?;
-    keeper.publish(rt)?;
-    write_effect(rt, update, &plan.moves)?;
-    write_cores(rt, "cores", &keeper.cores(rt))
-}
-
-/// Makes the updates in turn, and writes the core numbers before and after each.
-fn keep<J: BoardName, R: Wait + AllocGlobal + Print>(
-    rt: &R,
-    keeper: &mut Keeper<J, &R>,
-) -> Result<()> {
-    write_cores(rt, "start", &keeper.cores(rt))?;
-    for (index, (add, u, v)) in UPDATES.iter().enumerate() {
-        let update = Update {
-            add: *add,
-            u: *u,
-            v: *v,
-        };
-        step(rt, keeper, index as u32, update)?;
+/// Writes what a batch changed: how many edges came and went, and each vertex with another core number, with the one before and the new one.
+fn write_changes<R: Print>(rt: &R, head: &str, changes: &Changes) -> Result<()> {
+    let Changes { added, removed, .. } = changes;
+    println!(rt; "{head}: added {added} removed {removed}")?;
+    for change in changes.cores.iter() {
+        println!(rt; "  {}: {} -> {}", change.vertex, change.before, change.now)?;
     }
     Ok(())
 }
 
-/// Opens the board of a blank, and makes the updates.
-fn open_and_keep<J: BoardName, R: Wait + AllocGlobal + Print>(rt: &R, blank: Blank) -> Result<()>
-    requires { blank ≡ J.book }
-{
-    let mut keeper = Keeper::<J, &R>::open(rt, rt.alloc(), blank)?;
-    keep(rt, &mut keeper)
+/// Applies a batch, and writes what it changed.
+fn apply<R: AllocGlobal + Print>(
+    rt: &R,
+    keeper: &mut Keeper,
+    changes: &mut Changes,
+    head: &str,
+    batch: &[Update],
+) -> Result<()> {
+    keeper.apply(rt.alloc(), batch, changes)?;
+    write_changes(rt, head, changes)
+}
+
+/// Applies the batches in turn, and takes the last one back.
+fn keep<R: AllocGlobal + Print>(rt: &R, keeper: &mut Keeper, changes: &mut Changes) -> Result<()> {
+    apply(
+        rt,
+        keeper,
+        changes,
+        "batch 1",
+        &[add(1, 3), add(1, 4), add(2, 4)],
+    )?;
+    apply(rt, keeper, changes, "batch 2", &[add(2, 4), remove(4, 5)])?;
+    apply(
+        rt,
+        keeper,
+        changes,
+        "batch 3",
+        &[remove(1, 2), remove(1, 3)],
+    )?;
+    let back = changes.inverse(rt.alloc())?;
+    apply(rt, keeper, changes, "taken back", &back)
 }
 
 fn main(rt: HostRuntime) -> Result<()> {
-    open_and_keep::<Brand, _>(&rt, Blank::new())
+    let mut keeper = open(rt.alloc())?;
+    let mut changes = Changes::new(rt.alloc());
+    write_cores(&rt, "start", &keeper)?;
+    keep(&rt, &mut keeper, &mut changes)?;
+    write_cores(&rt, "end", &keeper)
 }
