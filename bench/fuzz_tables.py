@@ -156,7 +156,7 @@ def wanted_of(rows, command):
     core = fuzz_cores.core_numbers(neighbours)
     size = sum(map(len, neighbours.values())) // 2
     summary = f"vertices {len(core)} edges {size} top {max(core.values(), default=0)}"
-    return fuzz_cores.wanted(neighbours, core, 2)[command], summary
+    return fuzz_cores.written(*fuzz_cores.wanted(neighbours, core, 2)[command], command), summary
 
 
 def is_told(found, starts):
