@@ -43,7 +43,8 @@ pub(crate) fn grow_to(alloc: Global, keeper: &mut Keeper, vertices: u32) -> Resu
     }
 }
 
-/// Makes the updates of a batch that decide, and tells what they did, and which core numbers changed. A batch of 2^32 updates or more is too large for the memory.
+/// Makes the updates of a batch that decide, and tells what they did, and which core numbers changed. A batch of 2^32 updates or more is too
+/// large for the memory.
 pub(crate) fn make(
     alloc: Global,
     keeper: &mut Keeper,

@@ -10,7 +10,8 @@ returns-in-Err-clause-ended g c =
     EndsAsAsked-reply g.I.Source g.I.FileInput.behind g.C.Source g.C.FileInput.behind g.O.Sink g.O.PipeSink.gone
     g.L.Wire (wish_of (map g.W.AsStr.text c.args.words.now)) c.in-Err.reply c.show.result.status (line_of c.show.result) c.args.streams.now.input
     c.show.new.streams.input c.args.streams.now.certificate c.show.new.streams.certificate c.args.streams.now.out c.show.new.streams.out
-    c.args.streams.now.wire c.show.new.streams.wire c.in-Err.ensures.replies (c.show.ensures.ended (wish_of (map g.W.AsStr.text c.args.words.now)) c.in-Err.ensures.replies) c.show.ensures.certificate
+    c.args.streams.now.wire c.show.new.streams.wire c.in-Err.ensures.replies
+    (c.show.ensures.ended (wish_of (map g.W.AsStr.text c.args.words.now)) c.in-Err.ensures.replies) c.show.ensures.certificate
     c.show.ensures.wire c.show.ensures.memory
 
 pub returns-in-Ok-Lines-clause-ended : goal.returns-in-Ok-Lines-clause-ended

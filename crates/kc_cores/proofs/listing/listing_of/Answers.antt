@@ -19,7 +19,8 @@ returns-in_ok-sizes_of-in-Sizes-clause-lines c format ids size =
 
 pub returns-in-Members-clause-lines : goal.returns-in-Members-clause-lines
 returns-in-Members-clause-lines c format ids size =
-    subst (λ (t : Task). AreLinesFor format t ids c.args.graph.now c.args.core.now (listing_lines format (listing.Members c.level_of.result) ids c.args.core.now))
+    subst (λ (t : Task). AreLinesFor format t ids c.args.graph.now c.args.core.now
+    (listing_lines format (listing.Members c.level_of.result) ids c.args.core.now))
     (sym c.in-Members.is)
     (lines-members format c.args.graph.now c.args.core.now ids c.in-Members.level c.level_of.result c.level_of.ensures size)
 

@@ -26,7 +26,8 @@ returns-in_err-put_at-clause-part g c =
     let line : ℕ → List ℕ = line_at c.args.format c.args.listing.now c.args.vertices.now.ids.now c.args.vertices.now.core.now in
     let front : List ℕ = flat_map line (ascending_below c.loop-place.place) in
     let (rest, is) = flat_map-front line (c.loop-place.place + 1) c.places-place-end.result (omega arith) in
-    let whole : front ++ (line c.loop-place.place ++ rest) ≡ listing_lines c.args.format c.args.listing.now c.args.vertices.now.ids.now c.args.vertices.now.core.now =
+    let whole : front ++ (line c.loop-place.place ++ rest)
+    ≡ listing_lines c.args.format c.args.listing.now c.args.vertices.now.ids.now c.args.vertices.now.core.now =
     sym (append_assoc front (line c.loop-place.place) rest) ∙ ap (λ t. t ++ rest) (sym (flat_map-next line c.loop-place.place)) ∙ sym is
     ∙ ap (λ n. flat_map line (ascending_below n)) c.places-place-end.ensures in
     on_err-anyhow c.from_residual.result

@@ -10,7 +10,8 @@ use Rattle.kc_cores.specs.Wishes.{Wish, options_in, watch_wish, wish_about, wish
 use Rattle.kc_cores.proofs.words.wanted_by.Goals as goal
 
 -- what the command asks for, by whether it is the one for a stream
-wish-is : (name : Text) (rows : List Row) (b : Bool) → bytes_eq name (codes "watch") ≡ b → wish_by name rows ≡ cond b (watch_wish (options_in rows)) (wish_about name rows)
+wish-is : (name : Text) (rows : List Row) (b : Bool) → bytes_eq name (codes "watch") ≡ b
+    → wish_by name rows ≡ cond b (watch_wish (options_in rows)) (wish_about name rows)
 wish-is name rows b is = ap (λ (b : Bool). cond b (watch_wish (options_in rows)) (wish_about name rows)) is
 
 -- what the command for a stream asks for

@@ -12,7 +12,8 @@ returns-in_err-put-clause-part g c =
 pub returns-clause-passes : goal.returns-clause-passes
 returns-clause-passes g c =
     on_ok_weaker c.put_name_end.result (λ last.
-    PassesOn-trans _ _ _ c.args.page.now c.put.new.self c.put_name_end.new.page (34 ∷ []) (c.args.field.now.name ++ codes "\":") c.in_ok-put.ensures.passes last)
+    PassesOn-trans _ _ _ c.args.page.now c.put.new.self c.put_name_end.new.page (34 ∷ []) (c.args.field.now.name ++ codes "\":")
+    c.in_ok-put.ensures.passes last)
     c.put_name_end.ensures.passes
 
 pub returns-clause-part : goal.returns-clause-part

@@ -7,16 +7,19 @@ use Rattle.kc_lines.proofs.lines.put_later.Goals as goal
 
 pub returns-in_err-put_separator-clause-part : goal.returns-in_err-put_separator-clause-part
 returns-in_err-put_separator-clause-part g c =
-    on_err-anyhow c.from_residual.result (PassesPart-wider _ _ c.args.page.now (separator c.args.format) (field_text c.args.format c.args.field.now) c.in_err-put_separator.ensures.part)
+    on_err-anyhow c.from_residual.result
+    (PassesPart-wider _ _ c.args.page.now (separator c.args.format) (field_text c.args.format c.args.field.now) c.in_err-put_separator.ensures.part)
 
 pub returns-clause-passes : goal.returns-clause-passes
 returns-clause-passes g c =
     on_ok_weaker c.put_field.result (λ last.
-    PassesOn-trans _ _ _ c.args.page.now c.put_separator.new.page c.put_field.new.page (separator c.args.format) (field_text c.args.format c.args.field.now) c.in_ok-put_separator.ensures.passes last)
+    PassesOn-trans _ _ _ c.args.page.now c.put_separator.new.page c.put_field.new.page (separator c.args.format)
+    (field_text c.args.format c.args.field.now) c.in_ok-put_separator.ensures.passes last)
     c.put_field.ensures.passes
 
 pub returns-clause-part : goal.returns-clause-part
 returns-clause-part g c =
     on_err_weaker c.put_field.result (λ last.
-    PassesPart-later _ _ _ c.args.page.now c.put_separator.new.page (separator c.args.format) (field_text c.args.format c.args.field.now) c.in_ok-put_separator.ensures.passes last)
+    PassesPart-later _ _ _ c.args.page.now c.put_separator.new.page (separator c.args.format) (field_text c.args.format c.args.field.now)
+    c.in_ok-put_separator.ensures.passes last)
     c.put_field.ensures.part

@@ -84,7 +84,8 @@ returns c =
         λ fed f.
             let s = c.in_ok-read.ensures.stands (heard_of f.done) f.stands in
             let none = going-heard c.read.new.self _ s going in
-            end-answers c.args.self.now (none-from _ before) c.deref.result.now c.deref.ensures.value fed f c.args.self.now.options c.end_part.result c.read.new.self
+            end-answers c.args.self.now (none-from _ before) c.deref.result.now c.deref.ensures.value fed f c.args.self.now.options c.end_part.result
+            c.read.new.self
             put more s going (adds (heard_of f.done) f.stands).0 (adds' _ (s.gathers.holds none) (s.keeps none)),
       );
     }
