@@ -32,24 +32,19 @@
 //! | 20 | a row has 2^32 entries or more | which row, as the first of these |
 //! | 21 | the last offset is not the number of entries | 0 |
 //!
-//! `include/kcore.h` declares the functions for C, and `examples/c` calls them. `kcore_version` tells which version of them is linked.
+//! `include/kcore.h` declares the functions for C, and `examples/c` calls them. `c/calls.c` tests each that keeps nothing. `kcore_version`
+//! tells which version of them is linked.
 #![tactic(auto)]
 
 mod answer;
 mod calls;
 mod csr;
-#[cfg(test)]
-mod csr_tests;
 mod keeper;
 mod keeping;
 mod members;
-#[cfg(test)]
-mod round_tests;
 mod rounds;
 mod rows;
 mod tallying;
-#[cfg(test)]
-mod tests;
 mod updates;
 
 ghost use Rattle.std.specs.Prelude.{◌≡◌, ◌≢◌, ◌≤◌, ◌<◌, ◌+◌, ◌*◌, ◌++◌, ◌&&◌, ◌||◌, ◌==◌, not, true, ℕ, List};
