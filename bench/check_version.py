@@ -27,8 +27,8 @@ PLACES = [
     ("docs/FROM-C.md", "the number of kcore_version", r"answers the version of the crate, ([0-9.]+), as"),
     ("docs/FROM-C.md", "the same, packed", r"answers the version of the crate, [0-9.]+, as (0x[0-9a-f]+)\."),
 ]
-# pyproject.toml has no version of its own.
-DYNAMIC = ("pyproject.toml", "the version", r'^version = \{attr = "kcore\._library\.(__version__)"\}$')
+# pyproject.toml has no version of its own; python/building/kcore_build.py reads that of the package.
+DYNAMIC = ("pyproject.toml", "the version", r'^dynamic = \["(version)"\]$')
 
 
 def dotted(found):
@@ -56,7 +56,7 @@ def main():
             faults.append(f"{file}: {what} is {dotted(found)} ({found}), and {PLACES[0][0]} has {first}")
     file, what, pattern = DYNAMIC
     if found_at(file, pattern) is None:
-        faults.append(f"{file}: {what} is not that of kcore._library")
+        faults.append(f"{file}: {what} is not left to the build")
     for fault in faults:
         print(fault, file=sys.stderr)
     if not faults:

@@ -166,7 +166,7 @@ done
 # The packages of Debian, with the modules by which they are known.
 packages="python3-numpy:numpy python3-scipy:scipy python3-pandas:pandas python3-networkx:networkx python3-igraph:igraph
     python3-matplotlib:matplotlib python3-hypothesis:hypothesis python3-mypy:mypy python3-build:build python3-pip:pip
-    python3-setuptools:setuptools python3-wheel:wheel python3-distributed:distributed"
+    python3-distributed:distributed"
 missing_packages() {
     for known in $packages; do
         "$python" -c "import importlib.util, sys; sys.exit(importlib.util.find_spec('${known#*:}') is None)" || printf '%s ' "${known%:*}"

@@ -12,7 +12,7 @@
 programs="kcore cores"
 parts="$programs libkcore wheel"
 of_library="c/build.sh include/kcore.h"
-of_package="python/kcore pyproject.toml setup.py MANIFEST.in docs/PYTHON.md"
+of_package="python/kcore python/building pyproject.toml docs/PYTHON.md"
 usage="usage: kcore [--workers W] [--show cores|summary|each] [--level K] [--gen NUMBER] [--start buckets|hindex]"
 
 # Takes a name of $parts for the one that is spoken of from here on. With the word $trial a program ends well on an empty input.

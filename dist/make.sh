@@ -7,7 +7,7 @@
 # A program is packed as the kit has linked it, byte for byte, so it is the one that the gate has run.
 # The library is made by c/build.sh twice, in CHECKOUT and in a copy elsewhere, and has to come out the same; that takes seconds where
 # `rt lib` has proved the crates below kc_c, and else half an hour. The wheel is made twice too, of the packed library; it needs no kit,
-# but a python3 with setuptools and wheel (PYTHON names another).
+# but a python3 (PYTHON names another): python/building/kcore_build.py makes it.
 set -eu
 here=$(dirname "$(readlink -f "$0")")
 own=$(dirname "$here")
@@ -128,29 +128,16 @@ make_library() {
     echo "make.sh: libkcore.so came out the same in two folders; glibc $newest is enough"
 }
 
-# Prints the first python3 that has what a wheel is made by.
-python_of_wheels() {
-    for python in ${PYTHON:-python3 /usr/bin/python3}; do
-        if "$python" -c 'import setuptools.build_meta, wheel' > /dev/null 2>&1; then
-            echo "$python"
-            return
-        fi
-    done
-    fail "no python3 here has setuptools and wheel: PYTHON may name one"
-}
-
 # Makes a wheel in a new folder of the sources, and prints its path.
 # wheel_in FOLDER
 wheel_in() {
     mkdir -p "$1/made"
     copy_files "$1/sources" $of_package
     find "$1/sources" -name __pycache__ -prune -exec rm -r {} +
-    chmod -R u=rwX,go=rX "$1/sources"
-    (cd "$1/sources" && umask 022 && KCORE_LIBRARY=$room/libkcore.so SOURCE_DATE_EPOCH=315532800 "$python" -c '
-import sys
-from setuptools import build_meta
-build_meta.build_wheel(sys.argv[1], {"--build-option": ["--plat-name", sys.argv[2]]})
-' "$1/made" "$platform") > "$1/log" 2>&1 || { cat "$1/log" >&2; fail "the wheel could not be made"; }
+    KCORE_LIBRARY=$room/libkcore.so PYTHONPATH=$1/sources/python/building "$python" -c '
+import sys, kcore_build
+kcore_build.build_wheel(sys.argv[1], {"platform": sys.argv[2]})
+' "$1/made" "$platform" > "$1/log" 2>&1 || { cat "$1/log" >&2; fail "the wheel could not be made"; }
     echo "$1"/made/*.whl
 }
 
@@ -161,7 +148,7 @@ make_wheel() {
     unpack_library "$room" || fail "$why: dist/make.sh libkcore makes it anew"
     fits "$here/$sources" || fail "the packed library is not of these sources: dist/make.sh libkcore makes it anew"
     speak_of wheel
-    python=$(python_of_wheels)
+    python=${PYTHON:-python3}
     first=$(wheel_in "$room/one")
     second=$(wheel_in "$room/another one")
     cmp "$first" "$second" || fail "the wheel came out otherwise in another folder"
@@ -170,8 +157,7 @@ make_wheel() {
     wheel=$(basename "$first")
     case $wheel in kcore-"$version"-py3-none-"$platform".whl) ;; *) fail "the wheel has the name $wheel" ;; esac
     cp "$first" "$here/$wheel"
-    made=$("$python" -c 'import platform, setuptools, wheel
-print("Python", platform.python_version(), "setuptools", setuptools.__version__, "wheel", wheel.__version__)')
+    made=$("$python" -c 'import platform, zlib; print("Python", platform.python_version(), "zlib", zlib.ZLIB_RUNTIME_VERSION)')
     printf 'kit %s\nsources %s\nmade %s\nlibkcore.so %s\nwheel %s\n' "$kit" "$(sum_of_sources "$kit")" "$made" \
         "$(sum_of "$room/libkcore.so")" "$(sum_of "$first")" > "$here/$sources"
     printf '%s  %s\n' "$(sum_of "$first")" "$wheel" > "$room/sums"

@@ -2,7 +2,7 @@
 # Tries the packed library and the wheel in copies of this checkout, as one who has no kit: dist/library.sh, c/install.sh, a C program
 # against what is installed, `pip install` of the wheel and of the checkout, and the module in the checkout. Called by dist/test.sh.
 # usage: dist/test_library.sh libkcore|wheel [CASE..]   (names of the functions that the last lines list; default: all)
-# What wants a C compiler, or a python3 with venv, setuptools and wheel, is left out and told where that is not there.
+# What wants a C compiler, or a python3 with venv, is left out and told where that is not there.
 set -u
 top=$(dirname "$(dirname "$(readlink -f "$0")")")
 name=${1:-}
@@ -226,13 +226,15 @@ wheel() {
 }
 
 from_checkout() {
-    begin_anew 'pip install of a checkout in which nothing was built'
-    find_python venv ensurepip setuptools wheel || return
+    begin_anew 'pip install of a checkout in which nothing was built, in a bare environment without a network'
+    offline=
+    if unshare -n true 2> /dev/null; then offline="$(command -v unshare) -n"; fi
+    find_python venv ensurepip || return
     version=$(sed -n 's/.* this header is for, \([0-9.]*\):.*/\1/p' "$top/include/kcore.h")
     path=$path_without_kit
-    try "$python" -m venv --system-site-packages "$room/other"
-    pip="$room/other/bin/pip --disable-pip-version-check install --no-index --no-deps --no-build-isolation"
-    try $pip "$clone"
+    try "$python" -m venv "$room/other"
+    pip="$room/other/bin/pip --disable-pip-version-check install --no-index"
+    try $offline $pip "$clone"
     want 'it is installed' [ $status = 0 ]
     tell_of_module "$room/other/bin/python"
     want 'the numbers' is_module_in "$room/other"
