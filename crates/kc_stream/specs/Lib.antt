@@ -1,4 +1,5 @@
 -- What public contracts speak of.
+pub mod Asking
 pub mod Ended
 pub mod Gathering
 pub mod Hearing

@@ -5,10 +5,11 @@ ghost use Rattle.kc_text.specs.Inputs.{between};
 ghost use Rattle.kc_text.specs.Meaning.{Told, with_line};
 ghost use Rattle.kc_text.specs.declared.line.TextLine.TheVariants as said;
 ghost use Rattle.kc_stream.specs.Gathering.{Gathers, Holds, IsPairBelow};
-ghost use Rattle.kc_stream.specs.Hearing.{Heard, hear, nothing_heard, refused};
+ghost use Rattle.kc_stream.specs.Hearing.{Heard, hear, nothing_heard, refused, told_by};
 
 use crate::NoMemory;
 use crate::ids::Ids;
+use crate::stream_line::StreamLine;
 use kc_graph::Update;
 use kc_text::{ChangeLine, Kind, Refusal, TextLine};
 use std::alloc::Global;
@@ -77,14 +78,16 @@ impl Gathered {
         self.refusal
     }
 
-    /// Reads one line more. Behind one that is refused none is read. After `NoMemory` what is gathered is of no more use.
-    pub fn take(&mut self, alloc: Global, line: TextLine) -> Result<(), NoMemory>
+    /// Reads one line more. Behind one that is refused none is read. A question is counted, and changes nothing else; before any batch line
+    /// it is refused. After `NoMemory` what is gathered is of no more use.
+    pub fn take(&mut self, alloc: Global, line: StreamLine) -> Result<(), NoMemory>
         ensures { OnOk result ((heard : Heard) → Gathers self.old heard → Gathers self.new (hear heard line)) }
     {
         if self.refusal.is_some() {
             return Ok(());
         }
-        let cause = self.take_line(alloc, line)?;
+        let told = self.told_by(line);
+        let cause = self.take_line(alloc, told)?;
         self.lines = self.lines.saturating_add(1);
         if let Some(kind) = cause {
             self.refusal = Some(Refusal {
@@ -95,7 +98,23 @@ impl Gathered {
         Ok(())
     }
 
-    /// Takes what one line says, or gives the cause if it is refused.
+    /// What a line tells: a question tells nothing, or that it stands before any batch line.
+    fn told_by(&self, line: StreamLine) -> TextLine
+        ensures { (told : Told) → Holds self.now told → result ≡ told_by told line }
+    {
+        match line {
+            StreamLine::Tells(told) => told,
+            StreamLine::Asks(_) => {
+                if self.in_batch {
+                    TextLine::Nothing
+                } else {
+                    TextLine::Wrong(Kind::UpdateOutsideBatch)
+                }
+            }
+        }
+    }
+
+    /// Takes what one line tells, or gives the cause if it is refused.
     fn take_line(&mut self, alloc: Global, line: TextLine) -> Result<Option<Kind>, NoMemory>
         ensures refused { IfOk result (λ cause. (told : Told) → Holds self.old told → cause ≡ refused told line) }
         ensures holds { IfOk result (λ cause. cause ≡ None → (told : Told) → Holds self.old told → Holds self.new (with_line told line)) }

@@ -3,7 +3,7 @@ ghost use Rattle.std.specs.Prelude.{◌≡◌, ◌<◌, ◌≤◌, [], ◌∷◌
 ghost use Rattle.std.specs.Set.{is_member};
 ghost use Rattle.kc_text.specs.Inputs.{place};
 ghost use Rattle.kc_words.specs.declared.layout.TheConstants.{VERTICES};
-ghost use Rattle.kc_stream.specs.Ids.{with_name, with_names};
+ghost use Rattle.kc_stream.specs.Ids.{number_of, with_name, with_names};
 
 use crate::NoMemory;
 use kc_words::VERTICES;
@@ -55,6 +55,13 @@ impl Ids {
         ensures { result.now ≡ self.now }
     {
         &self.names
+    }
+
+    /// The number that stands for an id, where it is one. Nothing is named.
+    pub fn number(&self, id: u32) -> Option<u32>
+        ensures { result ≡ number_of self.now id }
+    {
+        self.numbers.get(&id).copied()
     }
 
     /// The number that stands for an id, which is put behind the others where it is new; none where there would be too many ids. Where
