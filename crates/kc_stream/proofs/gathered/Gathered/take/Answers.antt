@@ -5,7 +5,7 @@ use Rattle.kc_text.specs.declared.line.TextLine.{TextLine}
 use Rattle.kc_text.specs.Meaning.{with_line}
 use Rattle.kc_lists.proofs.Results.{none-from}
 use Rattle.kc_stream.specs.Gathering.{Gathers, Holds}
-use Rattle.kc_stream.specs.Hearing.{hear, judged, refused, told_by}
+use Rattle.kc_stream.specs.Hearing.{judged, refused, told_by}
 use Rattle.kc_stream.proofs.Reading.{hear-judged}
 use Rattle.kc_stream.proofs.gathered.Gathered.take.Goals as goal
 
