@@ -15,6 +15,7 @@ use Rattle.kc_lists.proofs.Shared.{Distinct-append, Distinct-back, Distinct-fron
 use Rattle.kc_graph.proofs.RowsLemmas.{Distinct-from_increasing}
 use Rattle.kc_text.specs.Inputs.{place}
 use Rattle.kc_stream.specs.Ids.{number_of}
+use Rattle.kc_answers.specs.Answers.{number_by}
 use Rattle.kc_changes.specs.Changed.{AreIdChanges, IsIdChange, ids_in, is_changed, is_same}
 use Rattle.kc_changes.specs.declared.id_change.IdChange.{IdChange}
 use Rattle.kc_keeper.specs.Cores.{AreCoreChanges, IsCoreChange, changed_vertices}
@@ -47,11 +48,7 @@ number-at ids v once low =
 number-none : (ids : List ℕ) (q : ℕ) → member q ids ≡ false → number_of ids q ≡ None
 number-none ids q none = ap (λ (b : Bool). cond b (Some (place ids q)) None) none
 
--- the core number that ids have by their numbers
-abbrev pub number_by : List ℕ → List ℕ → ℕ → Option ℕ
-number_by ids core id = option_map (λ v. slice_index core v) (number_of ids id)
-
--- it is the one at their place
+-- the core number of an id is the one at its place
 by-number : (ids core : List ℕ) (q v : ℕ) → number_of ids q ≡ Some v → number_by ids core q ≡ Some (slice_index core v)
 by-number ids core q v is = ap (option_map (λ v. slice_index core v)) is
 

@@ -3,16 +3,16 @@ use Rattle.std.proofs.Common.{◌≡◌, ◌<◌, ℕ, Bool, true, false, cond, 
 use Rattle.std.proofs.Common.{append_assoc, append-nil, Option, Some, None}
 use Rattle.std.specs.Prelude.{OnErr, OnOk, Result, Ok, Err, is_some}
 use Rattle.kc_dialogue.specs.Replies.{IsPrefixOf, StaysFrom}
-use Rattle.kc_text.specs.declared.line.TextLine.{TextLine}
 use Rattle.kc_text.specs.declared.refusal.Refusal.{Refusal}
-use Rattle.kc_text.specs.Forms.{all_said}
 use Rattle.kc_text.specs.Lines.{EndsLine}
-use Rattle.kc_text.proofs.SaidAppend.{ends-append, ends-behind, said-append}
+use Rattle.kc_text.proofs.SaidAppend.{ends-append, ends-behind}
+use Rattle.kc_stream.specs.Asking.{stream_lines}
 use Rattle.kc_stream.specs.Ended.{IsOpen, ended}
 use Rattle.kc_stream.specs.Hearing.{Heard, hear_all, heard_at_end, heard_so_far, nothing_heard}
 use Rattle.kc_stream.specs.declared.gathered.Gathered.{Gathered}
+use Rattle.kc_stream.specs.declared.stream_line.StreamLine.{StreamLine}
 use Rattle.kc_stream.proofs.Cuts.{ended-append, ended-parts, open-append}
-use Rattle.kc_stream.proofs.Reading.{hear-none, more-ended, so-far}
+use Rattle.kc_stream.proofs.Reading.{hear-none, more-ended, so-far, stream-append}
 use Rattle.kc_watch.specs.Text.{answers_behind, end_answer, open_text, reply, reply_at_end}
 use Rattle.kc_watch.specs.Watching.{HasEnded, StandsAt, WasFed}
 use Rattle.kc_watch.specs.declared.course.Course.{Course}
@@ -22,7 +22,7 @@ use Rattle.kc_watch.proofs.Lines.{answers-append, answers-none, going-heard}
 
 -- what the lines of some bytes come to
 abbrev pub heard_of : List ℕ → Heard
-heard_of bytes = hear_all nothing_heard (all_said bytes)
+heard_of bytes = hear_all nothing_heard (stream_lines bytes)
 
 -- what bytes come to is what their ended lines come to, if the others are of an open line or a line is refused
 heard-parts : (done rest : List ℕ) → EndsLine done → ((heard_of done).refusal ≡ None → IsOpen rest) → heard_so_far (done ++ rest) ≡ heard_of done
@@ -31,26 +31,26 @@ heard-parts done rest e is_open = by-refusal (heard_of done).refusal refl
     by-refusal : (r : Option Refusal) → (heard_of done).refusal ≡ r → heard_so_far (done ++ rest) ≡ heard_of done
     by-refusal None none = so-far done rest e (is_open none)
     by-refusal (Some r) some =
-        ap (λ (t : List ℕ). hear_all nothing_heard (all_said t)) (ended-append done rest e) ∙ more-ended done (ended rest) e
-        ∙ hear-none (heard_of done) (all_said (ended rest)) (ap is_some some)
+        ap (λ (t : List ℕ). hear_all nothing_heard (stream_lines t)) (ended-append done rest e) ∙ more-ended done (ended rest) e
+        ∙ hear-none (heard_of done) (stream_lines (ended rest)) (ap is_some some)
 
 -- what the lines of some bytes are answered
 abbrev pub text_of : WatchOptions → List ℕ → List ℕ
-text_of options bytes = answers_behind options nothing_heard (all_said bytes)
+text_of options bytes = answers_behind options nothing_heard (stream_lines bytes)
 
 -- what is answered to more bytes behind lines that have ended
 text-more : (options : WatchOptions) (done more : List ℕ) → EndsLine done
-    → text_of options (done ++ more) ≡ text_of options done ++ answers_behind options (heard_of done) (all_said more)
+    → text_of options (done ++ more) ≡ text_of options done ++ answers_behind options (heard_of done) (stream_lines more)
 text-more options done more e =
-    ap (λ (ls : List TextLine). answers_behind options nothing_heard ls) (said-append done more e)
-    ∙ answers-append options nothing_heard (all_said done) (all_said more)
+    ap (λ (ls : List StreamLine). answers_behind options nothing_heard ls) (stream-append done more e)
+    ∙ answers-append options nothing_heard (stream_lines done) (stream_lines more)
 
 -- behind a line that is refused that is nothing more
 text-refused : (options : WatchOptions) (done more : List ℕ) → EndsLine done → is_some (heard_of done).refusal ≡ true
     → text_of options (done ++ more) ≡ text_of options done
 text-refused options done more e some =
     text-more options done more e
-    ∙ ap (λ (t : List ℕ). text_of options done ++ t) (answers-none options (heard_of done) (all_said more) some)
+    ∙ ap (λ (t : List ℕ). text_of options done ++ t) (answers-none options (heard_of done) (stream_lines more) some)
     ∙ append-nil (text_of options done)
 
 -- The reply to bytes is what their ended lines are answered, if the others are of an open line or a line is refused.
@@ -104,13 +104,13 @@ module _ (watcher : Watcher) (fed : List ℕ) (f : WasFed watcher fed) where
       clash e = cc
 
   -- what was heard once all has come
-  pub end-heard : (more : List ℕ) → heard_at_end (fed ++ more) ≡ hear_all heard_by (all_said (f.rest ++ more))
+  pub end-heard : (more : List ℕ) → heard_at_end (fed ++ more) ≡ hear_all heard_by (stream_lines (f.rest ++ more))
   end-heard more = ap (λ (t : List ℕ). heard_at_end (t ++ more)) f.parts ∙ ap heard_at_end (append_assoc f.done f.rest more)
       ∙ more-ended f.done (f.rest ++ more) f.ended
 
   -- what all lines are answered once all has come
   pub end-text : (options : WatchOptions) (more : List ℕ)
-      → text_of options (fed ++ more) ≡ text_of options f.done ++ answers_behind options heard_by (all_said (f.rest ++ more))
+      → text_of options (fed ++ more) ≡ text_of options f.done ++ answers_behind options heard_by (stream_lines (f.rest ++ more))
   end-text options more =
       ap (λ (t : List ℕ). text_of options (t ++ more)) f.parts ∙ ap (text_of options) (append_assoc f.done f.rest more)
       ∙ text-more options f.done (f.rest ++ more) f.ended
@@ -119,10 +119,10 @@ module _ (watcher : Watcher) (fed : List ℕ) (f : WasFed watcher fed) where
   pub stays : (options : WatchOptions) → is_some watcher.course.gathered.refusal ≡ true → StaysFrom (reply options) (reply_at_end options) fed
   stays options some = λ more.
       let none : heard_at_end (fed ++ more) ≡ heard_by =
-      end-heard more ∙ hear-none heard_by (all_said (f.rest ++ more)) (refused-heard some) in
+      end-heard more ∙ hear-none heard_by (stream_lines (f.rest ++ more)) (refused-heard some) in
       let lines : text_of options (fed ++ more) ≡ text_of options f.done =
       end-text options more
-      ∙ ap (λ (t : List ℕ). text_of options f.done ++ t) (answers-none options heard_by (all_said (f.rest ++ more)) (refused-heard some))
+      ∙ ap (λ (t : List ℕ). text_of options f.done ++ t) (answers-none options heard_by (stream_lines (f.rest ++ more)) (refused-heard some))
       ∙ append-nil (text_of options f.done) in
       let end : end_answer options (heard_at_end (fed ++ more)) ≡ [] =
       ap (end_answer options) none ∙ ap (λ (b : Bool). cond b [] (open_text options heard_by.told)) (refused-heard some) in (
@@ -135,7 +135,7 @@ module _ (watcher : Watcher) (fed : List ℕ) (f : WasFed watcher fed) where
   refused-ended some =
       f.stands.gathers.refusal
       ∙ ap (λ (h : Heard). h.refusal)
-      (sym (hear-none heard_by (all_said (f.rest ++ [])) (refused-heard some)) ∙ sym (end-heard []) ∙ ap heard_at_end (append-nil fed))
+      (sym (hear-none heard_by (stream_lines (f.rest ++ [])) (refused-heard some)) ∙ sym (end-heard []) ∙ ap heard_at_end (append-nil fed))
 
   -- a watcher of which a line is refused was fed whatever comes
   pub fed-refused : (more : List ℕ) → is_some watcher.course.gathered.refusal ≡ true → WasFed watcher (fed ++ more)
@@ -179,7 +179,7 @@ module _ (watcher : Watcher) (fed : List ℕ) (f : WasFed watcher fed) where
 
     -- lines were read that end in some bytes
     pub fed-lines : (new : Watcher) (whole : List ℕ) → EndsLine whole → 0 < length whole
-        → StandsAt new.course (hear_all heard_by (all_said (watcher.begun.items ++ whole))) → new.begun.items ≡ [] → WasFed new (fed ++ whole)
+        → StandsAt new.course (hear_all heard_by (stream_lines (watcher.begun.items ++ whole))) → new.begun.items ≡ [] → WasFed new (fed ++ whole)
     fed-lines new whole e some stands empty = record {
       done = f.done ++ (watcher.begun.items ++ whole);
       rest = [];
@@ -191,24 +191,24 @@ module _ (watcher : Watcher) (fed : List ℕ) (f : WasFed watcher fed) where
 
     -- the reply to them
     pub lines-reply : (options : WatchOptions) (whole : List ℕ) → EndsLine whole → 0 < length whole
-        → reply options (fed ++ whole) ≡ reply options fed ++ answers_behind options heard_by (all_said (watcher.begun.items ++ whole))
+        → reply options (fed ++ whole) ≡ reply options fed ++ answers_behind options heard_by (stream_lines (watcher.begun.items ++ whole))
     lines-reply options whole e some =
         let done : List ℕ = f.done ++ (watcher.begun.items ++ whole) in
         ap (reply options) (whole-parts whole ∙ sym (append-nil done)) ∙ reply-parts options done [] (whole-ends whole e some) (λ _. refl)
         ∙ text-more options f.done (watcher.begun.items ++ whole) f.ended
-        ∙ ap (λ (t : List ℕ). t ++ answers_behind options heard_by (all_said (watcher.begun.items ++ whole))) (sym (fed-reply options))
+        ∙ ap (λ (t : List ℕ). t ++ answers_behind options heard_by (stream_lines (watcher.begun.items ++ whole))) (sym (fed-reply options))
 
     -- what is heard at the end
-    pub end-is : heard_at_end fed ≡ hear_all heard_by (all_said watcher.begun.items)
+    pub end-is : heard_at_end fed ≡ hear_all heard_by (stream_lines watcher.begun.items)
     end-is = ap heard_at_end (sym (append-nil fed)) ∙ end-heard []
-        ∙ ap (λ (t : List ℕ). hear_all heard_by (all_said t)) (append-nil f.rest ∙ sym kept-is)
+        ∙ ap (λ (t : List ℕ). hear_all heard_by (stream_lines t)) (append-nil f.rest ∙ sym kept-is)
 
     -- and what all lines are answered then
     pub end-lines : (options : WatchOptions)
-        → text_of options fed ≡ reply options fed ++ answers_behind options heard_by (all_said watcher.begun.items)
+        → text_of options fed ≡ reply options fed ++ answers_behind options heard_by (stream_lines watcher.begun.items)
     end-lines options =
         ap (text_of options) (sym (append-nil fed)) ∙ end-text options []
-        ∙ ap₂ (λ (a : List ℕ) (t : List ℕ). a ++ answers_behind options heard_by (all_said t)) (sym (fed-reply options)) (append-nil f.rest ∙ sym kept-is)
+        ∙ ap₂ (λ (a : List ℕ) (t : List ℕ). a ++ answers_behind options heard_by (stream_lines t)) (sym (fed-reply options)) (append-nil f.rest ∙ sym kept-is)
 
 -- a text that was put is an answer, or memory broke it off
 abbrev pub Answers : {E : Type 0} → Result (Unit {0}) E → List ℕ → List ℕ → Type 0
@@ -232,39 +232,39 @@ goes-on (Err x) all before answer put is h = (tt, prefix-behind all before answe
 module _ (watcher : Watcher) (none : watcher.course.gathered.refusal ≡ None) (whole bytes : List ℕ) (ends : EndsLine whole) (some : 0 < length whole)
     (is : bytes ≡ watcher.begun.items ++ whole) where
   -- lines were read that end in some bytes
-  pub read-fed : (new : Watcher) → ((heard : Heard) → StandsAt watcher.course heard → StandsAt new.course (hear_all heard (all_said bytes)))
+  pub read-fed : (new : Watcher) → ((heard : Heard) → StandsAt watcher.course heard → StandsAt new.course (hear_all heard (stream_lines bytes)))
       → new.begun.items ≡ [] → (fed : List ℕ) → WasFed watcher fed → WasFed new (fed ++ whole)
   read-fed new stands empty fed f =
       fed-lines watcher fed f none new whole ends some
-      (subst (λ (t : List ℕ). StandsAt new.course (hear_all (heard_of f.done) (all_said t))) is (stands (heard_of f.done) f.stands)) empty
+      (subst (λ (t : List ℕ). StandsAt new.course (hear_all (heard_of f.done) (stream_lines t))) is (stands (heard_of f.done) f.stands)) empty
 
   -- the reply goes on with what they are answered
   read-reply : (options : WatchOptions) (fed : List ℕ) (f : WasFed watcher fed)
-      → reply options (fed ++ whole) ≡ reply options fed ++ answers_behind options (heard_of f.done) (all_said bytes)
+      → reply options (fed ++ whole) ≡ reply options fed ++ answers_behind options (heard_of f.done) (stream_lines bytes)
   read-reply options fed f =
       lines-reply watcher fed f none options whole ends some
-      ∙ ap (λ (t : List ℕ). reply options fed ++ answers_behind options (heard_of f.done) (all_said t)) (sym is)
+      ∙ ap (λ (t : List ℕ). reply options fed ++ answers_behind options (heard_of f.done) (stream_lines t)) (sym is)
 
   -- so it goes on with what was put of that
   pub read-answers : {E : Type 0} (options : WatchOptions) (r : Result (Unit {0}) E) (put : List ℕ)
-      → ((heard : Heard) → StandsAt watcher.course heard → Answers r (answers_behind options heard (all_said bytes)) put)
+      → ((heard : Heard) → StandsAt watcher.course heard → Answers r (answers_behind options heard (stream_lines bytes)) put)
       → (fed : List ℕ) → WasFed watcher fed → GoesOn r (reply options (fed ++ whole)) (reply options fed) put
   read-answers options r put answers fed f =
-      goes-on r _ _ (answers_behind options (heard_of f.done) (all_said bytes)) put (read-reply options fed f) (answers (heard_of f.done) f.stands)
+      goes-on r _ _ (answers_behind options (heard_of f.done) (stream_lines bytes)) put (read-reply options fed f) (answers (heard_of f.done) f.stands)
 
   -- where all was put
   pub read-all : (options : WatchOptions) (put : List ℕ)
-      → ((heard : Heard) → StandsAt watcher.course heard → put ≡ answers_behind options heard (all_said bytes))
+      → ((heard : Heard) → StandsAt watcher.course heard → put ≡ answers_behind options heard (stream_lines bytes))
       → (fed : List ℕ) → WasFed watcher fed → reply options (fed ++ whole) ≡ reply options fed ++ put
   read-all options put answers fed f =
       read-reply options fed f ∙ ap (λ (t : List ℕ). reply options fed ++ t) (sym (answers (heard_of f.done) f.stands))
 
   -- where memory ended
   pub read-broken : (options : WatchOptions) (put : List ℕ)
-      → ((heard : Heard) → StandsAt watcher.course heard → IsPrefixOf (answers_behind options heard (all_said bytes)) put)
+      → ((heard : Heard) → StandsAt watcher.course heard → IsPrefixOf (answers_behind options heard (stream_lines bytes)) put)
       → (fed : List ℕ) → WasFed watcher fed → IsPrefixOf (reply options (fed ++ whole)) (reply options fed ++ put)
   read-broken options put answers fed f =
-      prefix-behind _ (reply options fed) (answers_behind options (heard_of f.done) (all_said bytes)) put (read-reply options fed f)
+      prefix-behind _ (reply options fed) (answers_behind options (heard_of f.done) (stream_lines bytes)) put (read-reply options fed f)
       (answers (heard_of f.done) f.stands)
 
 -- The stream ends with the bytes that are kept.
@@ -272,21 +272,21 @@ module _ (watcher : Watcher) (none : watcher.course.gathered.refusal ≡ None) (
     (f : WasFed watcher fed) where
   -- what is heard then
   abbrev pub heard_then : Heard
-  heard_then = hear_all (heard_of f.done) (all_said bytes)
+  heard_then = hear_all (heard_of f.done) (stream_lines bytes)
 
   end-then : heard_at_end fed ≡ heard_then
-  end-then = end-is watcher fed f none ∙ ap (λ (t : List ℕ). hear_all (heard_of f.done) (all_said t)) (sym is)
+  end-then = end-is watcher fed f none ∙ ap (λ (t : List ℕ). hear_all (heard_of f.done) (stream_lines t)) (sym is)
 
   -- what the lines are answered then
   abbrev pub answer_then : WatchOptions → List ℕ
-  answer_then options = answers_behind options (heard_of f.done) (all_said bytes)
+  answer_then options = answers_behind options (heard_of f.done) (stream_lines bytes)
 
   -- the last reply: the reply so far, what the lines are answered, and what the end is
   end-reply : (options : WatchOptions) → reply_at_end options fed ≡ reply options fed ++ (answer_then options ++ end_answer options heard_then)
   end-reply options =
       ap₂ (λ (a b : List ℕ). a ++ b)
       (end-lines watcher fed f none options
-      ∙ ap (λ (t : List ℕ). reply options fed ++ answers_behind options (heard_of f.done) (all_said t)) (sym is))
+      ∙ ap (λ (t : List ℕ). reply options fed ++ answers_behind options (heard_of f.done) (stream_lines t)) (sym is))
       (ap (end_answer options) end-then)
       ∙ append_assoc (reply options fed) (answer_then options) (end_answer options heard_then)
 

@@ -6,16 +6,19 @@ use Rattle.std.proofs.lemmas.Bool.{true≢false}
 use Rattle.kc_dialogue.specs.Replies.{IsPrefixOf}
 use Rattle.kc_text.specs.declared.change.ChangeLine.{ChangeLine}
 use Rattle.kc_text.specs.declared.kind.Kind.{Kind}
-use Rattle.kc_text.specs.declared.kind.Kind.TheVariants.{EdgeLineInBatch}
+use Rattle.kc_text.specs.declared.kind.Kind.TheVariants.{EdgeLineInBatch, UpdateOutsideBatch}
 use Rattle.kc_text.specs.declared.line.TextLine.{TextLine}
 use Rattle.kc_text.specs.declared.line.TextLine.TheVariants as said
 use Rattle.kc_text.specs.declared.refusal.Refusal.{Refusal}
 use Rattle.kc_text.specs.Meaning.{Told, or_else, unfit, with_line}
 use Rattle.kc_stream.specs.Gathering.{Gathers}
-use Rattle.kc_stream.specs.Hearing.{Heard, hear, hear_all, judged, passed_limit, refused}
+use Rattle.kc_stream.specs.Hearing.{Heard, hear, hear_all, hear_told, judged, passed_limit, refused, told_by}
+use Rattle.kc_stream.specs.declared.question.Question.{Question}
+use Rattle.kc_stream.specs.declared.stream_line.StreamLine.{StreamLine}
+use Rattle.kc_stream.specs.declared.stream_line.StreamLine.TheVariants.{Tells, Asks}
 use Rattle.kc_lists.proofs.Results.{none-from}
 use Rattle.kc_stream.proofs.Reading.{hear-append, hear-judged, hear-refused}
-use Rattle.kc_watch.specs.Text.{answer_behind, answers_behind, line_answer, open_text}
+use Rattle.kc_watch.specs.Text.{answer_behind, answers_behind, line_answer, open_text, question_answer, told_answer}
 use Rattle.kc_watch.specs.Watching.{KeepsAccount, StandsAt}
 use Rattle.kc_watch.specs.declared.course.Course.{Course}
 use Rattle.kc_watch.specs.declared.kept.Kept.{Kept}
@@ -71,7 +74,7 @@ judged-keeps kept ended heard line (Some kind) other is k = k
 
 -- What is kept stays right behind a line that is no batch line.
 pub other-keeps : (kept : Option Kept) (ended : ℕ) (heard : Heard) (line : TextLine) → heard.refusal ≡ None → line ≢ said.Batch
-    → KeepsAccount kept ended heard.told → KeepsAccount kept ended (hear heard line).told
+    → KeepsAccount kept ended heard.told → KeepsAccount kept ended (hear_told heard line).told
 other-keeps kept ended heard line none other k =
     subst (λ (h : Heard). KeepsAccount kept ended h.told) (sym (hear-judged heard line none))
     (judged-keeps kept ended heard line (refused heard.told line) other refl k)
@@ -89,26 +92,39 @@ on-both (Err x) P Q p q = (tt, q)
 pub going-heard : (course : Course) (heard : Heard) → StandsAt course heard → is_some course.gathered.refusal ≡ false → heard.refusal ≡ None
 going-heard course heard s going = sym s.gathers.refusal ∙ none-from course.gathered.refusal going
 
--- a line that is no batch line was gathered
-pub other-stands : (old new : Course) (line : TextLine) → line ≢ said.Batch → is_some old.gathered.refusal ≡ false
-    → ((heard : Heard) → Gathers old.gathered heard → Gathers new.gathered (hear heard line)) → new.kept ≡ old.kept → new.ended ≡ old.ended
-    → (heard : Heard) → StandsAt old heard → StandsAt new (hear heard line)
-other-stands old new line other going gathers kept ended heard s =
-    let none : heard.refusal ≡ None = going-heard old heard s going in
+-- a line was gathered that tells no batch line
+pub other-stands : (old new : Course) (line : TextLine) → line ≢ said.Batch → old.gathered.refusal ≡ None → new.kept ≡ old.kept → new.ended ≡ old.ended
+    → (heard : Heard) → StandsAt old heard → Gathers new.gathered (hear_told heard line) → StandsAt new (hear_told heard line)
+other-stands old new line other going kept ended heard s gathers =
+    let none : heard.refusal ≡ None = sym s.gathers.refusal ∙ going in
     record {
-      gathers = gathers heard s.gathers;
-      keeps = λ _. subst (λ (o : Option Kept). KeepsAccount o new.ended (hear heard line).told) (sym kept)
-          (subst (λ (n : ℕ). KeepsAccount old.kept n (hear heard line).told) (sym ended)
+      gathers = gathers;
+      keeps = λ _. subst (λ (o : Option Kept). KeepsAccount o new.ended (hear_told heard line).told) (sym kept)
+          (subst (λ (n : ℕ). KeepsAccount old.kept n (hear_told heard line).told) (sym ended)
           (other-keeps old.kept old.ended heard line none other (s.keeps none)));
     }
 
+-- a question tells no batch line
+no-batch_line : (told : Told) (question : Question) → told_by told (Asks question) ≢ said.Batch
+no-batch_line told question = elim (is_some told.last) as (λ (b : Bool). cond b said.Nothing (said.Wrong UpdateOutsideBatch) ≢ said.Batch) [
+  | true ↦ λ e. cc
+  | false ↦ λ e. cc
+]
+
+-- a question was gathered
+pub asked-stands : (old new : Course) (question : Question) → old.gathered.refusal ≡ None → new.kept ≡ old.kept → new.ended ≡ old.ended
+    → ((heard : Heard) → Gathers old.gathered heard → Gathers new.gathered (hear heard (Asks question)))
+    → (heard : Heard) → StandsAt old heard → StandsAt new (hear heard (Asks question))
+asked-stands old new question going kept ended gathers heard s =
+    other-stands old new (told_by heard.told (Asks question)) (no-batch_line heard.told question) going kept ended heard s (gathers heard s.gathers)
+
 -- one line more was read of several
-pub read-more : (heard : Heard) (done : List TextLine) (line : TextLine) → hear_all heard (done ++ line ∷ []) ≡ hear (hear_all heard done) line
+pub read-more : (heard : Heard) (done : List StreamLine) (line : StreamLine) → hear_all heard (done ++ line ∷ []) ≡ hear (hear_all heard done) line
 read-more heard done line = hear-append heard done (line ∷ [])
 
 module _ (options : WatchOptions) where
-  -- a line that is no batch line is answered nothing
-  other-answer : (told : Told) (line : TextLine) → line ≢ said.Batch → line_answer options told line ≡ []
+  -- a line that tells no batch line is answered nothing
+  other-answer : (told : Told) (line : TextLine) → line ≢ said.Batch → told_answer options told line ≡ []
   other-answer told said.Nothing other = refl
   other-answer told (said.Edge a b) other = refl
   other-answer told said.Batch other = absurd (other refl)
@@ -116,27 +132,32 @@ module _ (options : WatchOptions) where
   other-answer told (said.Wrong kind) other = refl
 
   -- so it is behind others
-  pub other-behind : (heard : Heard) (line : TextLine) → line ≢ said.Batch → answer_behind options heard line ≡ []
-  other-behind heard line other = elim (is_some heard.refusal) as (λ (b : Bool). cond b [] (line_answer options heard.told line) ≡ []) [
+  pub other-behind : (heard : Heard) (line : TextLine) → line ≢ said.Batch → answer_behind options heard (Tells line) ≡ []
+  other-behind heard line other = elim (is_some heard.refusal) as (λ (b : Bool). cond b [] (told_answer options heard.told line) ≡ []) [
     | true ↦ refl
     | false ↦ other-answer heard.told line other
   ]
 
   -- behind a line that is refused none is answered
-  refused-behind : (heard : Heard) (line : TextLine) → is_some heard.refusal ≡ true → answer_behind options heard line ≡ []
+  refused-behind : (heard : Heard) (line : StreamLine) → is_some heard.refusal ≡ true → answer_behind options heard line ≡ []
   refused-behind heard line some = ap (λ (b : Bool). cond b [] (line_answer options heard.told line)) some
 
   -- a course of which a line is refused answers none
-  pub refused-put : (course : Course) (heard : Heard) (line : TextLine) → StandsAt course heard → is_some course.gathered.refusal ≡ true
+  pub refused-put : (course : Course) (heard : Heard) (line : StreamLine) → StandsAt course heard → is_some course.gathered.refusal ≡ true
       → answer_behind options heard line ≡ []
   refused-put course heard line s some = refused-behind heard line (ap is_some (sym s.gathers.refusal) ∙ some)
 
   -- where no line was refused, a batch line is answered the text of what was open
-  pub batch-answer : (heard : Heard) → heard.refusal ≡ None → answer_behind options heard said.Batch ≡ open_text options heard.told
+  pub batch-answer : (heard : Heard) → heard.refusal ≡ None → answer_behind options heard (Tells said.Batch) ≡ open_text options heard.told
   batch-answer heard none = ap (λ (r : Option Refusal). cond (is_some r) [] (open_text options heard.told)) none
 
+  -- where no line was refused, a question is answered
+  pub question-behind : (heard : Heard) (question : Question) → heard.refusal ≡ None
+      → answer_behind options heard (Asks question) ≡ question_answer heard.told question
+  question-behind heard question none = ap (λ (r : Option Refusal). cond (is_some r) [] (question_answer heard.told question)) none
+
   -- what lines are answered, and others behind them
-  pub answers-append : (heard : Heard) (xs ys : List TextLine)
+  pub answers-append : (heard : Heard) (xs ys : List StreamLine)
       → answers_behind options heard (xs ++ ys) ≡ answers_behind options heard xs ++ answers_behind options (hear_all heard xs) ys
   answers-append heard [] ys = refl
   answers-append heard (x ∷ xs) ys =
@@ -144,21 +165,21 @@ module _ (options : WatchOptions) where
       ∙ sym (append_assoc (answer_behind options heard x) (answers_behind options (hear heard x) xs) (answers_behind options (hear_all (hear heard x) xs) ys))
 
   -- what lines are answered with one more
-  pub answers-more : (heard : Heard) (done : List TextLine) (line : TextLine)
+  pub answers-more : (heard : Heard) (done : List StreamLine) (line : StreamLine)
       → answers_behind options heard (done ++ line ∷ []) ≡ answers_behind options heard done ++ answer_behind options (hear_all heard done) line
   answers-more heard done line =
       answers-append heard done (line ∷ [])
       ∙ ap (λ (t : List ℕ). answers_behind options heard done ++ t) (append-nil (answer_behind options (hear_all heard done) line))
 
   -- behind a line that is refused nothing is answered
-  pub answers-none : (heard : Heard) (lines : List TextLine) → is_some heard.refusal ≡ true → answers_behind options heard lines ≡ []
+  pub answers-none : (heard : Heard) (lines : List StreamLine) → is_some heard.refusal ≡ true → answers_behind options heard lines ≡ []
   answers-none heard [] some = refl
   answers-none heard (line ∷ lines) some =
       ap₂ (λ (a b : List ℕ). a ++ b) (refused-behind heard line some)
       (ap (λ (h : Heard). answers_behind options h lines) (hear-refused heard line some) ∙ answers-none heard lines some)
 
   -- what was put for some lines begins what all are answered, also where memory ended at the next one
-  pub stopped-prefix : (heard : Heard) (done rest : List TextLine) (line : TextLine) (put more : List ℕ) → put ≡ answers_behind options heard done
+  pub stopped-prefix : (heard : Heard) (done rest : List StreamLine) (line : StreamLine) (put more : List ℕ) → put ≡ answers_behind options heard done
       → IsPrefixOf (answer_behind options (hear_all heard done) line) more
       → IsPrefixOf (answers_behind options heard (done ++ line ∷ rest)) (put ++ more)
   stopped-prefix heard done rest line put more is (left, begins) =

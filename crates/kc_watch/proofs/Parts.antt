@@ -1,7 +1,8 @@
 -- A part of a stream that ends: the start, or a batch.
-use Rattle.std.proofs.Common.{◌≡◌, ◌≤◌, arith, ℕ, true, List, [], length, refl, sym, ap, ap₂, ◌∙◌, subst, Option, Some, None}
+use Rattle.std.proofs.Common.{◌≡◌, ◌≤◌, arith, ℕ, Bool, true, cond, List, [], length, take, refl, sym, ap, ap₂, ◌∙◌, subst, Option, Some, None}
 use Rattle.std.specs.Prelude.{is_some, map, unwrap_or}
 use Rattle.std.specs.FinSet as set
+use Rattle.std.proofs.Math.Seq.{take-append_seam}
 use Rattle.std.specs.List.{filter_map}
 use Rattle.kc_graph.specs.SimpleGraph.{SimpleGraph}
 use Rattle.kc_lists.specs.Lists.{Distinct}
@@ -10,13 +11,15 @@ use Rattle.kc_text.specs.declared.line.TextLine.TheVariants as said
 use Rattle.kc_text.specs.Deciding.{last_batch}
 use Rattle.kc_text.specs.Inputs.{AreAmong, AreUpdates, EdgeBatch, numbered, start_graph}
 use Rattle.kc_text.specs.Meaning.{Told, batches, ends, ends_of, with_line}
+use Rattle.kc_answers.specs.Answers.{answer_to}
 use Rattle.kc_stream.specs.Gathering.{Holds}
 use Rattle.kc_stream.specs.Ids.{with_names}
 use Rattle.kc_stream.specs.declared.gathered.Gathered.{Gathered}
+use Rattle.kc_stream.specs.declared.question.Question.{Question}
 use Rattle.kc_stream.proofs.Holding.{some-from}
-use Rattle.kc_watch.specs.Accounts.{Account, account_of, batch_behind, entered, graph_with, one_ended, with_batch}
+use Rattle.kc_watch.specs.Accounts.{Account, account_of, batch_behind, core_numbers_of, entered, graph_with, one_ended, with_batch}
 use Rattle.kc_watch.specs.Endings.{IsAccountBefore}
-use Rattle.kc_watch.specs.Text.{batch_text, open_text, part_text, start_line}
+use Rattle.kc_watch.specs.Text.{answer_in, batch_text, open_text, part_text, question_answer, start_line}
 use Rattle.kc_watch.specs.Watching.{KeepsAccount, graph_gathered}
 use Rattle.kc_watch.specs.declared.kept.Kept.{Kept}
 use Rattle.kc_watch.specs.declared.options.WatchOptions.{WatchOptions}
@@ -105,3 +108,25 @@ module _ (gathered : Gathered) (told : Told) (h : Holds gathered told) where
   pub vertices-within : (kept : Kept) (ended : ℕ) → KeepsAccount (Some kept) ended told → kept.keeper.graph.size ≤ length gathered.ids
   vertices-within kept ended (some, graph, count) =
       omega (arith, vertices-few told some, ap (λ (g : SimpleGraph). g.size) graph, ap length h.ids)
+
+  -- the ids that were known behind the batches that have ended
+  known-ids : (kept : Kept) (ended : ℕ) → KeepsAccount (Some kept) ended told
+      → take kept.keeper.graph.size gathered.ids ≡ (account_of told.edges told.earlier).ids
+  known-ids kept ended (some, graph, count) =
+      let (more, is) = ids-grown told some in
+      let account : Account = account_of told.edges told.earlier in
+      let size : kept.keeper.graph.size ≡ length account.ids =
+      ap (λ (g : SimpleGraph). g.size) graph ∙ account-size told.edges told.earlier in
+      ap₂ (λ (n : ℕ) (l : List ℕ). take n l) size (h.ids ∙ is) ∙ take-append_seam account.ids more
+
+  -- a question is answered of them, and of the graph that is kept
+  pub question-kept : (kept : Kept) (ended : ℕ) (question : Question) → KeepsAccount (Some kept) ended told
+      → answer_to question (take kept.keeper.graph.size gathered.ids) (core_numbers_of kept.keeper.graph) ≡ question_answer told question
+  question-kept kept ended question k =
+      ap₂ (λ (l : List ℕ) (g : SimpleGraph). answer_to question l (core_numbers_of g)) (known-ids kept ended k) k.1
+      ∙ ap (λ (b : Bool). cond b (answer_in (account_of told.edges told.earlier) question) []) (sym k.0)
+
+  -- before any batch line it is answered nothing
+  pub question-none : (ended : ℕ) (question : Question) → KeepsAccount None ended told → question_answer told question ≡ []
+  question-none ended question k =
+      ap (λ (l : Option (List ChangeLine)). cond (is_some l) (answer_in (account_of told.edges told.earlier) question) []) k.0

@@ -1,5 +1,5 @@
 -- What is known of a stream behind its batches.
-use Rattle.std.specs.Prelude.{◌+◌, ◌-◌, ◌^◌, ℕ, List, [], Option, fold, length, map, min, option_map, slice_index}
+use Rattle.std.specs.Prelude.{◌+◌, ◌-◌, ◌^◌, ℕ, List, [], Option, fold, length, map, min}
 use Rattle.kc_graph.specs.Core.{greatest}
 use Rattle.kc_graph.specs.Growing.{with_vertices}
 use Rattle.kc_graph.specs.SimpleGraph.{SimpleGraph}
@@ -8,7 +8,8 @@ use Rattle.kc_text.specs.declared.change.ChangeLine.{ChangeLine}
 use Rattle.kc_text.specs.Inputs.{EdgeBatch, numbered_batch, start_graph}
 use Rattle.kc_text.specs.Meaning.{ends, ends_of}
 use Rattle.kc_batch_effects.specs.Batches.{graph_after_batch}
-use Rattle.kc_stream.specs.Ids.{number_of, with_names}
+use Rattle.kc_answers.specs.Answers.{number_by}
+use Rattle.kc_stream.specs.Ids.{with_names}
 
 -- The core numbers of a graph. Each graph has one list of them, and no other list of numbers is its core numbers (Seidman 1983): the law
 -- `every_graph_has_its_core_numbers` says both of this one.
@@ -28,7 +29,7 @@ pub record Account : Type 0 where
 
 -- the core number of an id, and none where it was not named
 abbrev pub core_number_in : Account → ℕ → Option ℕ
-core_number_in account id = option_map (λ v. slice_index (core_numbers_of account.graph) v) (number_of account.ids id)
+core_number_in account id = number_by account.ids (core_numbers_of account.graph) id
 
 -- one batch more has ended; they are counted up to the greatest number of 32 bits
 abbrev pub one_ended : ℕ → ℕ

@@ -5,15 +5,19 @@ use Rattle.kc_graph.specs.SimpleGraph.{SimpleGraph}
 use Rattle.kc_text.specs.declared.change.ChangeLine.{ChangeLine}
 use Rattle.kc_text.specs.declared.line.TextLine.{TextLine}
 use Rattle.kc_text.specs.declared.line.TextLine.TheVariants.{Nothing, Edge, Batch, Change, Wrong}
-use Rattle.kc_text.specs.Forms.{all_said}
 use Rattle.kc_text.specs.Inputs.{EdgeBatch}
 use Rattle.kc_text.specs.Meaning.{Told}
 use Rattle.kc_batch_effects.specs.Batches.{added, kept, removed}
 use Rattle.kc_report.specs.Lines.{batch_line, graph_line}
 use Rattle.kc_changes.specs.Changed.{lines_behind}
+use Rattle.kc_answers.specs.Answers.{answer_to}
+use Rattle.kc_stream.specs.Asking.{stream_lines}
 use Rattle.kc_stream.specs.Ended.{ended}
 use Rattle.kc_stream.specs.Hearing.{Heard, hear, heard_at_end, nothing_heard}
-use Rattle.kc_watch.specs.Accounts.{Account, account_of, account_of_start, batch_behind, core_number_in, top_of, with_batch}
+use Rattle.kc_stream.specs.declared.question.Question.{Question}
+use Rattle.kc_stream.specs.declared.stream_line.StreamLine.{StreamLine}
+use Rattle.kc_stream.specs.declared.stream_line.StreamLine.TheVariants.{Tells, Asks}
+use Rattle.kc_watch.specs.Accounts.{Account, account_of, account_of_start, batch_behind, core_number_in, core_numbers_of, top_of, with_batch}
 use Rattle.kc_watch.specs.declared.options.WatchOptions.{WatchOptions}
 
 -- the line about the graph of the start
@@ -43,20 +47,34 @@ part_text options edges earlier (Some changes) =
 abbrev pub open_text : WatchOptions → Told → List ℕ
 open_text options told = part_text options told.edges told.earlier told.last
 
--- What a line is answered once others have told this: a batch line ends what stands before it, and others are answered nothing.
-abbrev pub line_answer : WatchOptions → Told → TextLine → List ℕ
-line_answer options told Nothing = []
-line_answer options told (Edge a b) = []
-line_answer options told Batch = open_text options told
-line_answer options told (Change c) = []
-line_answer options told (Wrong kind) = []
+-- What a line that tells is answered once others have told this: a batch line ends what stands before it, and others are answered nothing.
+abbrev pub told_answer : WatchOptions → Told → TextLine → List ℕ
+told_answer options told Nothing = []
+told_answer options told (Edge a b) = []
+told_answer options told Batch = open_text options told
+told_answer options told (Change c) = []
+told_answer options told (Wrong kind) = []
+
+-- the line that answers a question behind an account, of its ids and of the core numbers of its graph
+abbrev pub answer_in : Account → Question → List ℕ
+answer_in account question = answer_to question account.ids (core_numbers_of account.graph)
+
+-- What a question is answered once others have told this. It speaks of what has ended, the start and the batches before the last one, and not
+-- of the one that is open. Before any batch line it is refused, and answered nothing.
+abbrev pub question_answer : Told → Question → List ℕ
+question_answer told question = if is_some told.last then answer_in (account_of told.edges told.earlier) question else []
+
+-- what a line is answered once others have told this
+abbrev pub line_answer : WatchOptions → Told → StreamLine → List ℕ
+line_answer options told (Tells line) = told_answer options told line
+line_answer options told (Asks question) = question_answer told question
 
 -- what a line is answered behind others: nothing where one of them was refused
-abbrev pub answer_behind : WatchOptions → Heard → TextLine → List ℕ
+abbrev pub answer_behind : WatchOptions → Heard → StreamLine → List ℕ
 answer_behind options heard line = if is_some heard.refusal then [] else line_answer options heard.told line
 
 -- what lines are answered, one after another
-abbrev pub answers_behind : WatchOptions → Heard → List TextLine → List ℕ
+abbrev pub answers_behind : WatchOptions → Heard → List StreamLine → List ℕ
 answers_behind options heard [] = []
 answers_behind options heard (line ∷ lines) = answer_behind options heard line ++ answers_behind options (hear heard line) lines
 
@@ -67,8 +85,8 @@ end_answer options heard = if is_some heard.refusal then [] else open_text optio
 -- What has to be written once just these bytes of a stream have come, and others may follow: the bytes behind the last newline may be a part
 -- of a line.
 abbrev pub reply : WatchOptions → List ℕ → List ℕ
-reply options bytes = answers_behind options nothing_heard (all_said (ended bytes))
+reply options bytes = answers_behind options nothing_heard (stream_lines (ended bytes))
 
 -- What has to be written once these bytes have come, and the stream has ended.
 abbrev pub reply_at_end : WatchOptions → List ℕ → List ℕ
-reply_at_end options bytes = answers_behind options nothing_heard (all_said bytes) ++ end_answer options (heard_at_end bytes)
+reply_at_end options bytes = answers_behind options nothing_heard (stream_lines bytes) ++ end_answer options (heard_at_end bytes)

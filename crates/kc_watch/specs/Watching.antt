@@ -2,9 +2,9 @@
 use Rattle.std.specs.Prelude.{◌≡◌, ℕ, true, List, ◌++◌, Option, Some, None, is_some, length}
 use Rattle.std.specs.FinSet as set
 use Rattle.kc_graph.specs.SimpleGraph.{SimpleGraph}
-use Rattle.kc_text.specs.Forms.{all_said}
 use Rattle.kc_text.specs.Lines.{EndsLine}
 use Rattle.kc_text.specs.Meaning.{Told}
+use Rattle.kc_stream.specs.Asking.{stream_lines}
 use Rattle.kc_stream.specs.Ended.{IsOpen}
 use Rattle.kc_stream.specs.Gathering.{Gathers}
 use Rattle.kc_stream.specs.Hearing.{Heard, hear_all, heard_at_end, nothing_heard}
@@ -36,7 +36,7 @@ pub record WasFed (watcher : Watcher) (fed : List ℕ) : Type 0 where
   pub rest : List ℕ
   pub parts : fed ≡ done ++ rest
   pub ended : EndsLine done
-  pub stands : StandsAt watcher.course (hear_all nothing_heard (all_said done))
+  pub stands : StandsAt watcher.course (hear_all nothing_heard (stream_lines done))
   pub begun : watcher.course.gathered.refusal ≡ None → (watcher.begun.items ≡ rest) × IsOpen rest
 
 -- A watcher was fed these bytes, and then the stream has ended: it has the first line of them that is refused, if there is one.

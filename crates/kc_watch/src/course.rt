@@ -1,20 +1,22 @@
 //! What is kept of a stream from line to line: what was gathered, and the keeper of the graph behind the batches that have ended.
-ghost use Rattle.std.specs.Prelude.{◌≡◌, ◌++◌, None, List, ℕ, OnErr, OnOk};
+ghost use Rattle.std.specs.Prelude.{◌≡◌, ◌++◌, [], None, List, ℕ, OnErr, OnOk};
 ghost use Rattle.kc_dialogue.specs.Replies.{IsPrefixOf};
-ghost use Rattle.kc_text.specs.Forms.{all_said};
 ghost use Rattle.kc_text.specs.Meaning.{Told, with_line};
 ghost use Rattle.kc_text.specs.declared.line.TextLine.TheVariants as said;
+ghost use Rattle.kc_stream.specs.Asking.{stream_lines};
 ghost use Rattle.kc_stream.specs.Gathering.{Holds};
 ghost use Rattle.kc_stream.specs.Hearing.{Heard, hear, hear_all, nothing_heard};
-ghost use Rattle.kc_watch.specs.Text.{answer_behind, answers_behind, open_text};
+ghost use Rattle.kc_stream.specs.declared.stream_line.StreamLine.TheVariants as says;
+ghost use Rattle.kc_watch.specs.Text.{answer_behind, answers_behind, open_text, question_answer};
 ghost use Rattle.kc_watch.specs.Watching.{KeepsAccount, StandsAt};
+ghost use Rattle.kc_watch.specs.declared.options.WatchOptions.{WatchOptions};
 
 use crate::NoMemory;
 use crate::kept::Kept;
 use crate::options::WatchOptions;
 use crate::start::end_start;
-use kc_stream::Gathered;
-use kc_text::{Refusal, TextLine, cut_line, read_line};
+use kc_stream::{Gathered, Question, StreamLine, read_stream_line};
+use kc_text::{Refusal, TextLine, cut_line};
 use std::alloc::Global;
 
 /// What is kept of a stream from line to line.
@@ -80,13 +82,67 @@ impl Course {
     ) -> Result<(), NoMemory>
         requires going { self.old.gathered.refusal ≡ None }
         requires stands { (heard : Heard) × StandsAt self.old heard }
-        ensures stands { OnOk result ((heard : Heard) → StandsAt self.old heard → StandsAt self.new (hear heard said.Batch)) }
+        ensures stands { OnOk result ((heard : Heard) → StandsAt self.old heard → StandsAt self.new (hear heard (says.Tells said.Batch))) }
         ensures put { (put : List ℕ) × (out.new.items ≡ out.old.items ++ put) × ((heard : Heard) → StandsAt self.old heard
-            → OnOk result (put ≡ answer_behind options heard said.Batch)
-            × OnErr result (IsPrefixOf (answer_behind options heard said.Batch) put)) }
+            → OnOk result (put ≡ answer_behind options heard (says.Tells said.Batch))
+            × OnErr result (IsPrefixOf (answer_behind options heard (says.Tells said.Batch)) put)) }
     {
         self.end_part(alloc, options, out)?;
-        self.gathered.take(alloc, TextLine::Batch)
+        self.gathered
+            .take(alloc, StreamLine::Tells(TextLine::Batch))
+    }
+
+    /// Reads a line that tells, and puts what it is answered.
+    fn take_told(
+        &mut self,
+        alloc: Global,
+        options: WatchOptions,
+        told: TextLine,
+        out: &mut Vec<u8>,
+    ) -> Result<(), NoMemory>
+        requires going { self.old.gathered.refusal ≡ None }
+        requires stands { (heard : Heard) × StandsAt self.old heard }
+        ensures stands { OnOk result ((heard : Heard) → StandsAt self.old heard → StandsAt self.new (hear heard (says.Tells told))) }
+        ensures put { (put : List ℕ) × (out.new.items ≡ out.old.items ++ put) × ((heard : Heard) → StandsAt self.old heard
+            → OnOk result (put ≡ answer_behind options heard (says.Tells told))
+            × OnErr result (IsPrefixOf (answer_behind options heard (says.Tells told)) put)) }
+    {
+        match told {
+            TextLine::Batch => self.take_batch(alloc, options, out),
+            _ => self.gathered.take(alloc, StreamLine::Tells(told)),
+        }
+    }
+
+    /// Puts the line that answers a question about what has ended, where there was a batch line, and else nothing. Where there is no memory,
+    /// nothing is put.
+    fn answer(&self, alloc: Global, question: Question, out: &mut Vec<u8>) -> Result<(), NoMemory>
+        requires { (told : Told) × Holds self.now.gathered told × KeepsAccount self.now.kept self.now.ended told }
+        ensures { (put : List ℕ) × (out.new.items ≡ out.old.items ++ put)
+            × ((told : Told) → Holds self.now.gathered told → KeepsAccount self.now.kept self.now.ended told
+            → OnOk result (put ≡ question_answer told question) × OnErr result (put ≡ [])) }
+    {
+        if let Some(kept) = &self.kept {
+            kept.answer(alloc, self.gathered.ids(), question, out)?;
+        }
+        Ok(())
+    }
+
+    /// Reads a question, and puts the line that answers it.
+    fn take_question(
+        &mut self,
+        alloc: Global,
+        question: Question,
+        out: &mut Vec<u8>,
+    ) -> Result<(), NoMemory>
+        requires going { self.old.gathered.refusal ≡ None }
+        requires stands { (heard : Heard) × StandsAt self.old heard }
+        ensures stands { OnOk result ((heard : Heard) → StandsAt self.old heard → StandsAt self.new (hear heard (says.Asks question))) }
+        ensures put { (put : List ℕ) × (out.new.items ≡ out.old.items ++ put) × ((options : WatchOptions) (heard : Heard) → StandsAt self.old heard
+            → OnOk result (put ≡ answer_behind options heard (says.Asks question))
+            × OnErr result (IsPrefixOf (answer_behind options heard (says.Asks question)) put)) }
+    {
+        self.answer(alloc, question, out)?;
+        self.gathered.take(alloc, StreamLine::Asks(question))
     }
 
     /// Reads one line more, and puts what it is answered. Behind a line that is refused none is read.
@@ -94,7 +150,7 @@ impl Course {
         &mut self,
         alloc: Global,
         options: WatchOptions,
-        line: TextLine,
+        line: StreamLine,
         out: &mut Vec<u8>,
     ) -> Result<(), NoMemory>
         requires stands { (heard : Heard) × StandsAt self.old heard }
@@ -106,8 +162,8 @@ impl Course {
             return Ok(());
         }
         match line {
-            TextLine::Batch => self.take_batch(alloc, options, out),
-            _ => self.gathered.take(alloc, line),
+            StreamLine::Tells(told) => self.take_told(alloc, options, told, out),
+            StreamLine::Asks(question) => self.take_question(alloc, question, out),
         }
     }
 
@@ -120,14 +176,14 @@ impl Course {
         out: &mut Vec<u8>,
     ) -> Result<(), NoMemory>
         requires stands { (heard : Heard) × StandsAt self.old heard }
-        ensures stands { OnOk result ((heard : Heard) → StandsAt self.old heard → StandsAt self.new (hear_all heard (all_said bytes.now))) }
+        ensures stands { OnOk result ((heard : Heard) → StandsAt self.old heard → StandsAt self.new (hear_all heard (stream_lines bytes.now))) }
         ensures put { (put : List ℕ) × (out.new.items ≡ out.old.items ++ put) × ((heard : Heard) → StandsAt self.old heard
-            → OnOk result (put ≡ answers_behind options heard (all_said bytes.now))
-            × OnErr result (IsPrefixOf (answers_behind options heard (all_said bytes.now)) put)) }
+            → OnOk result (put ≡ answers_behind options heard (stream_lines bytes.now))
+            × OnErr result (IsPrefixOf (answers_behind options heard (stream_lines bytes.now)) put)) }
     {
         let mut rest = bytes;
         while let Some((line, more)) = cut_line(rest) {
-            self.take(alloc, options, read_line(line), out)?;
+            self.take(alloc, options, read_stream_line(line), out)?;
             rest = more;
         }
         Ok(())

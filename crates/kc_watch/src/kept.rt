@@ -1,10 +1,11 @@
 //! The graph behind the batches that have ended, and what ends one more.
-ghost use Rattle.std.specs.Prelude.{◌≡◌, ◌≤◌, ◌++◌, All, IfOk, OnErr, OnOk, length};
+ghost use Rattle.std.specs.Prelude.{◌≡◌, ◌≤◌, ◌++◌, All, IfOk, OnErr, OnOk, length, take};
 ghost use Rattle.std.specs.Io.{StartsWith};
 ghost use Rattle.kc_graph.specs.SimpleGraph.{SimpleGraph};
 ghost use Rattle.kc_text.specs.Deciding.{last_batch};
 ghost use Rattle.kc_text.specs.Inputs.{EdgeBatch};
 ghost use Rattle.kc_report.specs.Lines.{line_text};
+ghost use Rattle.kc_answers.specs.Answers.{answer_to};
 ghost use Rattle.kc_changes.specs.Changed.{lines_behind};
 ghost use Rattle.kc_stream.specs.Gathering.{IsUpdateBelow};
 ghost use Rattle.kc_watch.specs.Accounts.{Account, core_number_in, core_numbers_of, entered, graph_with};
@@ -16,11 +17,12 @@ use crate::NoMemory;
 use crate::batch::{Effects, grow_to, make};
 use crate::listing::changes_of;
 use crate::options::WatchOptions;
+use kc_answers::put_answer;
 use kc_changes::put_changes;
 use kc_graph::greatest;
 use kc_keeper::{Changes, Keeper};
 use kc_report::{Line, summary};
-use kc_stream::Gathered;
+use kc_stream::{Gathered, Ids, Question};
 use std::alloc::Global;
 
 /// The graph behind the batches that have ended, and what the last one changed.
@@ -178,5 +180,21 @@ impl Kept {
         let line = self.line(number, effects);
         let end = BatchEnd { line, known };
         self.put_end_or_nothing(alloc, options, &end, gathered.ids().names(), out)
+    }
+    /// Puts the line that answers a question about the graph, whose vertices stand for the first of these ids. Where there is no memory,
+    /// nothing is put.
+    pub(crate) fn answer(
+        &self,
+        alloc: Global,
+        ids: &Ids,
+        question: Question,
+        out: &mut Vec<u8>,
+    ) -> Result<(), NoMemory>
+        requires { self.now.keeper.graph.size ≤ length ids.now }
+        ensures ok { OnOk result (out.new.items ≡ out.old.items
+            ++ answer_to question (take self.now.keeper.graph.size ids.now) (core_numbers_of self.now.keeper.graph)) }
+        ensures err { OnErr result (out.new.items ≡ out.old.items) }
+    {
+        put_answer(alloc, ids, self.keeper.core_numbers(), question, out)
     }
 }

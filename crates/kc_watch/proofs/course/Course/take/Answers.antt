@@ -1,13 +1,12 @@
--- Only a batch line is answered something.
-use Rattle.std.proofs.Common.{◌≡◌, ◌++◌, [], ℕ, List, sym, subst, refl, append-nil, arith, true, false}
+-- A line that tells is answered as that, and one that asks as a question.
+use Rattle.std.proofs.Common.{◌≡◌, ◌++◌, [], ℕ, List, sym, subst, append-nil, arith, true}
 use Rattle.std.specs.Prelude.{OnErr, OnOk, is_some}
-use Rattle.std.proofs.lemmas.Result.{on_ok_weaker}
 use Rattle.kc_dialogue.specs.Replies.{IsPrefixOf}
-use Rattle.kc_text.specs.declared.line.TextLine.{TextLine}
 use Rattle.kc_stream.specs.Hearing.{Heard, hear}
+use Rattle.kc_stream.specs.declared.stream_line.StreamLine.{StreamLine}
 use Rattle.kc_watch.specs.Text.{answer_behind}
 use Rattle.kc_watch.specs.Watching.{StandsAt}
-use Rattle.kc_watch.proofs.Lines.{on-both, other-behind, other-stands, prefix-none, refused-put}
+use Rattle.kc_watch.proofs.Lines.{refused-put}
 use Rattle.kc_watch.proofs.course.Course.take.Goals as goal
 
 pub returns-then-is_some-clause-put : goal.returns-then-is_some-clause-put
@@ -18,27 +17,28 @@ returns-then-is_some-clause-put c =
       λ heard s. (sym (refused-put c.args.options c.args.self.now heard c.args.line s some), tt),
     )
 
-pub returns-in-Batch-clause-stands : goal.returns-in-Batch-clause-stands
-returns-in-Batch-clause-stands c =
-    subst (λ (l : TextLine). OnOk c.take_batch.result ((heard : Heard) → StandsAt c.args.self.now heard → StandsAt c.take_batch.new.self (hear heard l)))
-    (sym c.in-Batch.is) c.take_batch.ensures.stands
+pub returns-in-Tells-clause-stands : goal.returns-in-Tells-clause-stands
+returns-in-Tells-clause-stands c =
+    subst (λ (l : StreamLine). OnOk c.take_told.result ((heard : Heard) → StandsAt c.args.self.now heard → StandsAt c.take_told.new.self (hear heard l)))
+    (sym c.in-Tells.is) c.take_told.ensures.stands
 
-pub returns-in-Batch-clause-put : goal.returns-in-Batch-clause-put
-returns-in-Batch-clause-put c =
-    subst (λ (l : TextLine). (put : List ℕ) × (c.take_batch.new.out.items ≡ c.args.out.now.items ++ put) × ((heard : Heard) → StandsAt c.args.self.now heard
-    → OnOk c.take_batch.result (put ≡ answer_behind c.args.options heard l)
-    × OnErr c.take_batch.result (IsPrefixOf (answer_behind c.args.options heard l) put)))
-    (sym c.in-Batch.is) c.take_batch.ensures.put
+pub returns-in-Tells-clause-put : goal.returns-in-Tells-clause-put
+returns-in-Tells-clause-put c =
+    subst (λ (l : StreamLine). (put : List ℕ) × (c.take_told.new.out.items ≡ c.args.out.now.items ++ put) × ((heard : Heard) → StandsAt c.args.self.now heard
+    → OnOk c.take_told.result (put ≡ answer_behind c.args.options heard l)
+    × OnErr c.take_told.result (IsPrefixOf (answer_behind c.args.options heard l) put)))
+    (sym c.in-Tells.is) c.take_told.ensures.put
 
-pub returns-in_default : goal.returns-in_default
-returns-in_default c =
-    let going : is_some c.args.self.now.gathered.refusal ≡ false = grind (arith, c.refusal.ensures, c.is_some.ensures, c.if-is_some.false) in
-    record {
-      stands = on_ok_weaker c.take.result (λ g. other-stands c.args.self.now _ c.args.line c.in_default.not-Batch going g refl refl) c.take.ensures;
-      put = (
-        [],
-        sym (append-nil c.args.out.now.items),
-        λ heard s. on-both c.take.result _ _ (sym (other-behind c.args.options heard c.args.line c.in_default.not-Batch))
-            (prefix-none (answer_behind c.args.options heard c.args.line)),
-      );
-    }
+pub returns-in-Asks-clause-stands : goal.returns-in-Asks-clause-stands
+returns-in-Asks-clause-stands c =
+    subst (λ (l : StreamLine). OnOk c.take_question.result ((heard : Heard) → StandsAt c.args.self.now heard
+    → StandsAt c.take_question.new.self (hear heard l))) (sym c.in-Asks.is) c.take_question.ensures.stands
+
+pub returns-in-Asks-clause-put : goal.returns-in-Asks-clause-put
+returns-in-Asks-clause-put c =
+    let (put, out, adds) = c.take_question.ensures.put in
+    subst (λ (l : StreamLine). (put : List ℕ) × (c.take_question.new.out.items ≡ c.args.out.now.items ++ put)
+    × ((heard : Heard) → StandsAt c.args.self.now heard
+    → OnOk c.take_question.result (put ≡ answer_behind c.args.options heard l)
+    × OnErr c.take_question.result (IsPrefixOf (answer_behind c.args.options heard l) put)))
+    (sym c.in-Asks.is) (put, out, adds c.args.options)

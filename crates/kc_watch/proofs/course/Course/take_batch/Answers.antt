@@ -2,6 +2,7 @@
 use Rattle.std.proofs.Common.{◌≡◌, ℕ, List, sym, subst, ◌∙◌, None}
 use Rattle.kc_dialogue.specs.Replies.{IsPrefixOf}
 use Rattle.kc_text.specs.declared.line.TextLine.TheVariants as said
+use Rattle.kc_stream.specs.declared.stream_line.StreamLine.TheVariants as says
 use Rattle.kc_watch.specs.Text.{answer_behind}
 use Rattle.kc_watch.proofs.Lines.{batch-answer, on-both, on-err, prefix-same}
 use Rattle.kc_watch.proofs.course.Course.take_batch.Goals as goal
@@ -25,7 +26,7 @@ returns-clause-put c =
       out,
       λ heard s.
           let none : heard.refusal ≡ None = sym s.gathers.refusal ∙ c.requires.going in
-          let is : put ≡ answer_behind c.args.options heard said.Batch =
+          let is : put ≡ answer_behind c.args.options heard (says.Tells said.Batch) =
           (adds heard.told (s.gathers.holds none) (s.keeps none)).0 ∙ sym (batch-answer c.args.options heard none) in
           on-both c.take.result _ _ is (prefix-same _ _ (sym is)),
     )
