@@ -8,9 +8,10 @@ A sender writes a piece of a random stream, waits for just the answer that the m
 next piece. An answer that does not come within the time, that is wrong or that comes before its bytes were sent is told, with the stream;
 the status is then 1. Short streams are cut at each byte. The streams name new ids in late batches, and some have a line that is refused:
 then the program has to end by itself, with status 3 and the line that tells the refusal, though the pipe stays open. Each stream also ends
-without a last newline. Half of them are watched with `--show changes`, and a third with `--enter K`. At the end it tries a reader that goes away (`| head -1`), a folder as standard input, and /dev/full.
+without a last newline. Among the changes stand questions, of known ids and others. Half of them are watched with `--show changes`, and a third with `--enter K`. At the end it tries a reader that goes away (`| head -1`), a folder as standard input, and /dev/full.
 """
 import argparse
+import collections
 import os
 import pathlib
 import random
@@ -24,14 +25,24 @@ import fuzz
 
 HERE = pathlib.Path(__file__).resolve().parent
 SENTENCES = {
-    1: "a field is not a whole number; write two ids of decimal digits, or begin the line with # if it is a comment",
-    2: "the second id is missing; write two ids with a blank or a tab between them",
-    3: "there are too many fields; write two ids, or batch alone",
+    1: "a field is not a whole number; write ids of decimal digits, or begin the line with # if it is a comment",
+    2: "a number is missing; write two ids with a blank or a tab between them, or in a question ? ID or ? core K",
+    3: "there are too many fields; write two ids, batch alone, or in a question ? ID, ? core K or ? sizes",
     4: "an id is greater than 4294967295; number the vertices anew with smaller ids",
     5: "a change names one id twice; remove the line",
-    7: "a change stands before any line batch; write a line batch before it",
+    7: "a change or a question stands before any line batch; write a line batch before it",
     8: "an edge stands after a line batch; begin the line with + or -",
 }
+
+
+def number_of(fields):
+    """The number that is all of the fields."""
+    if not fields:
+        raise fuzz.Refused(2)
+    number = fuzz.number_of(fields[0])
+    if len(fields) > 1:
+        raise fuzz.Refused(3)
+    return number
 
 
 class Options:
@@ -77,13 +88,33 @@ class Model:
             return
         self.lines += 1
         before = len(self.reader.batches)
+        fields = fuzz.fields_of(line.removesuffix(b"\r"))
         try:
-            self.reader.take(line)
+            if fields[:1] == [b"?"]:
+                self.answer(fields[1:])
+            else:
+                self.reader.take(line)
         except fuzz.Refused as refusal:
             self.refusal = f"cores: line {self.lines}: {SENTENCES[refusal.kind]}\n".encode()
             return
         if len(self.reader.batches) > before:
             self.end_part(before)
+
+    def answer(self, fields):
+        """Answers a question of the core numbers behind the last batch that has ended."""
+        word = fields[0] if fields[:1] in ([b"core"], [b"sizes"]) else b""
+        number = None if word == b"sizes" else number_of(fields[1:] if word else fields)
+        if word == b"sizes" and len(fields) > 1:
+            raise fuzz.Refused(3)
+        if not self.reader.batches:
+            raise fuzz.Refused(7)
+        if word == b"core":
+            words = ["members", number, *sorted(id for id, core in self.cores.items() if core >= number)]
+        elif word == b"sizes":
+            words = ["sizes", *(n for pair in sorted(collections.Counter(self.cores.values()).items()) for n in pair)]
+        else:
+            words = ["core", number, self.cores.get(number, "-")]
+        self.text += " ".join(map(str, words)).encode() + b"\n"
 
     def end_part(self, number):
         """Ends the start, or the batch of this number from 1."""
@@ -116,19 +147,31 @@ class Model:
 
 # Lines of which each is refused at most places.
 WRONG = (b"x", b"1", b"1 2 3", b"1 4294967296", b"+ 1 1", b"- 1 2", b"1 2", b"batch 1", b"+ 1", b"-1 2")
+WRONG_QUESTIONS = (b"?", b"? x y z", b"? 1 2", b"? core", b"? core x", b"? core 1 2", b"? sizes 1", b"? 4294967296", b"?1", b"? batch")
+
+
+def random_question(rng, most):
+    """A question of an id, which may not be known, or of a level, or for the sizes; at times a wrong one."""
+    if rng.random() < 0.02:
+        return rng.choice(WRONG_QUESTIONS)
+    return rng.choice((b"? sizes", f"? core {rng.randrange(4)}".encode(), f"?\t{rng.randrange(most + 2)}".encode(), f"? {rng.randrange(most + 2)}".encode()))
 
 
 def random_stream(rng):
     """Edges, and batches whose ids grow, some of them with a line that is refused."""
-    most, lines = rng.choice((2, 4, 8)), []
+    most, asking, lines = rng.choice((2, 4, 8)), rng.choice((0, 0.2, 0.6)), []
     for _ in range(rng.choice((0, 0, 1, 5, 12, 30))):
         lines.append(f"{rng.randrange(most)} {rng.randrange(most)}".encode())
     for _ in range(rng.choice((0, 1, 2, 3, 6))):
         lines.append(b"batch")
+        if rng.random() < asking:
+            lines.append(random_question(rng, most))
         most += rng.choice((0, 0, 1, 3))
         for _ in range(rng.choice((0, 1, 2, 5, 20))):
             a, b = rng.sample(range(most), 2)
             lines.append(f"{rng.choice('+++-')} {a} {b}".encode())
+            if rng.random() < asking:
+                lines.append(random_question(rng, most))
     for _ in range(rng.choice((0, 0, 1, 2))):
         lines.insert(rng.randrange(len(lines) + 1), rng.choice((b"# a comment", b"", b"  ", b"% x", b"\r")))
     if rng.random() < 0.3:
@@ -262,6 +305,7 @@ def check(what, is_so, must_be):
 
 CASES = (
     b"", b"\n", b"batch", b"batch\n", b"1 2", b"1 2\nbatch", b"1 2\n2 3\nbatch\n+ 1 3\nbatch\n+ 3 9\n- 1 2", b"1 x", b"1 2\nbatch\n+ 1 1\n+ 1 2\n",
+    b"1 2\nbatch\n? 2\n+ 2 3\n? 3\nbatch\n? 3\n? core 1\n? sizes", b"? 1\n", b"batch\n? core 0\n? sizes\n", b"1 2\nbatch\n? x y z\n",
     b"1 2\nbatch\n1 3\n", b"+ 1 2\n", b"1 2\nbatch\n+ 2 3\nbatch x", b"4294967295 0\nbatch\n+ 4294967294 7\n", b"1 2\nbatch\n+ 1 2\n+ 1 2\n- 2 1\nbatch\n",
 )
 

@@ -175,3 +175,58 @@ fn who_comes_into_a_core_and_leaves_it(rt: HostRuntime) -> Result<(), Fail> {
           batch 3 added 0 removed 1 kept 1 overruled 1 edges 2 top 1\n7 - 0\n20 1 0\nleave 20\n",
     )
 }
+
+#[test]
+fn questions(rt: HostRuntime) -> Result<(), Fail> {
+    let start = b"graph vertices 4 edges 4 top 2\n";
+    check(
+        &rt,
+        b"30 20\n20 10\n10 30\n7 10\nbatch\n? 10\n? 7\n? 99\n? core 2\n?  core\t1\n? core 3\n? sizes\n",
+        b"graph vertices 4 edges 4 top 2\n\
+          core 10 2\ncore 7 1\ncore 99 -\nmembers 2 10 20 30\nmembers 1 7 10 20 30\nmembers 3\nsizes 1 1 2 3\n\
+          batch 1 added 0 removed 0 kept 0 edges 4 top 2\n",
+    )?;
+    // A question speaks of the last batch that has ended, and ends none.
+    check(
+        &rt,
+        b"1 2\nbatch\n+ 2 3\n? 3\n? sizes\n+ 1 3\n? core 0\nbatch\n? 3\n? sizes\n- 3 1\n- 3 2\nbatch\n? 3\n? sizes\n? core 0",
+        b"graph vertices 2 edges 1 top 1\n\
+          core 3 -\nsizes 1 2\nmembers 0 1 2\n\
+          batch 1 added 2 removed 0 kept 0 edges 3 top 2\n\
+          core 3 2\nsizes 2 3\n\
+          batch 2 added 0 removed 2 kept 0 edges 1 top 1\n\
+          core 3 0\nsizes 0 1 1 2\nmembers 0 1 2 3\n\
+          batch 3 added 0 removed 0 kept 0 edges 1 top 1\n",
+    )?;
+    // Who is asked for is not named: the graph has no vertex more.
+    check(
+        &rt,
+        b"batch\n? 5\n? sizes\n? core 0\n? core 4294967295\nbatch\n? 5\n",
+        b"graph vertices 0 edges 0 top 0\n\
+          core 5 -\nsizes\nmembers 0\nmembers 4294967295\n\
+          batch 1 added 0 removed 0 kept 0 edges 0 top 0\n\
+          core 5 -\n\
+          batch 2 added 0 removed 0 kept 0 edges 0 top 0\n",
+    )?;
+    check_refused(&rt, b"1 2\n? 1\nbatch\n", b"", 2, Kind::UpdateOutsideBatch)?;
+    check_refused(
+        &rt,
+        b"30 20\n20 10\n10 30\n7 10\nbatch\n?\n",
+        start,
+        6,
+        Kind::MissingField,
+    )
+}
+
+#[test]
+fn wrong_questions(rt: HostRuntime) -> Result<(), Fail> {
+    let start = b"graph vertices 0 edges 0 top 0\n";
+    check_refused(&rt, b"batch\n? x y z\n? 1\n", start, 2, Kind::NotANumber)?;
+    check_refused(&rt, b"batch\n? 1 2", start, 2, Kind::ExtraField)?;
+    check_refused(&rt, b"batch\n? core", start, 2, Kind::MissingField)?;
+    check_refused(&rt, b"batch\n? core 1 2", start, 2, Kind::ExtraField)?;
+    check_refused(&rt, b"batch\n? sizes 1", start, 2, Kind::ExtraField)?;
+    check_refused(&rt, b"batch\n? 4294967296", start, 2, Kind::NumberTooLarge)?;
+    check_refused(&rt, b"? x\n", b"", 1, Kind::NotANumber)?;
+    check_refused(&rt, b"batch\n?1\n", start, 2, Kind::NotANumber)
+}
