@@ -76,14 +76,14 @@ pub(crate) fn stream_sentence(kind: Kind) -> &'static str
 {
     match kind {
         Kind::NotANumber => {
-            "a field is not a whole number; write two ids of decimal digits, or begin the line with # if it is a comment"
+            "a field is not a whole number; write ids of decimal digits, or begin the line with # if it is a comment"
         }
         Kind::MissingField => {
-            "the second id is missing; write two ids with a blank or a tab between them"
+            "a number is missing; write two ids with a blank or a tab between them, or in a question ? ID or ? core K"
         }
-        Kind::ExtraField => "there are too many fields; write two ids, or batch alone",
+        Kind::ExtraField => "there are too many fields; write two ids, batch alone, or in a question ? ID, ? core K or ? sizes",
         Kind::UpdateOutsideBatch => {
-            "a change stands before any line batch; write a line batch before it"
+            "a change or a question stands before any line batch; write a line batch before it"
         }
         Kind::EdgeLineInBatch => { "an edge stands after a line batch; begin the line with + or -" }
         kind => sentence_of(kind),
