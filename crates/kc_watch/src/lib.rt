@@ -3,8 +3,9 @@
 //! A [`Watcher`] is fed the bytes of a stream, cut anywhere, and puts the text that answers them behind an output: a line for the graph of
 //! the start once a batch begins, and a line for each batch once it ends, as the next one begins or the stream ends. The stream has the
 //! lines of `kc_text`, and the lines of the answer are those of `kc_report`, with those of `kc_changes` behind a batch where they are asked
-//! for. `specs/Text` says what the answer to some bytes is: of the core numbers of the graph before and after each batch (Seidman 1983), and
-//! not of what the watcher keeps. So no line is held back, and none is early.
+//! for. Among the changes stand the questions of `kc_stream`, and a line of `kc_answers` answers each at once. `specs/Text` says what the
+//! answer to some bytes is: of the core numbers of the graph before and after each batch (Seidman 1983), and not of what the watcher keeps.
+//! So no line is held back, and none is early.
 //!
 //! What is kept is the graph with its core numbers (`kc_keeper`), the ids and the batch that is open (`kc_stream`): the memory is theirs, and
 //! not that of the stream.
